@@ -1,0 +1,66 @@
+-- Document 01, reading one frame: "in a frame PREFIX, tool decided, TOOL, ROOM, then body checks as the bits come, ALIGN last".
+use Prim.Native.Nat.{ℕ, _+_}
+use mathlib.Core.List.{List, []}
+use mathlib.Core.Bool.{cond, not, _||_}
+use lib.ListN.{length}
+use lib.Dec.{eqb, leb, ltb}
+use Rattle.rules.specs.declared.Refusal.the-variants.{Prefix, Tool, Room, Set, Law}
+use Rattle.rules.specs.Tools.{holds, isSet, isLaw}
+use Rattle.rules.specs.Bits.{bitsOf, octetsFor, fillFor}
+use Rattle.rules.specs.Reading.{Read, refuse, Reader, _>>=_, give, fail, here, from, bit, number, filled}
+use Rattle.rules.specs.First.{First, unassigned, pad, tool, sixOrEight, firstOctet, markAt, sixNotEight}
+use Rattle.rules.specs.Samples.{maskOf, plusZero, minusZero}
+use Rattle.rules.specs.Zeros.{uncompressed, constantly, constant, binary, plusMinus}
+use Rattle.rules.specs.Located.{located}
+
+-- an accepted frame: its tool, its samples (their number is its length), and its bits, prefix and body and nothing else
+pub record Found : Type 0 where
+  pub tool : ℕ
+  pub samples : List ℕ
+  pub bits : ℕ
+
+abbrev pub octetsUsed : Found → ℕ
+octetsUsed f = octetsFor (f .bits)
+
+-- the body of tool t; the mark is tool 6's
+unfoldable pub body : ℕ → ℕ → ℕ → ℕ → Reader (List ℕ)
+body mask t n mark =
+    cond (eqb t 1) (uncompressed n)
+    (cond (eqb t 2) (constantly n (plusZero mask))
+    (cond (eqb t 3) (constantly n (minusZero mask))
+    (cond (eqb t 4) (constant n)
+    (cond (eqb t 5) (binary mask n)
+    (cond (eqb t 6) (plusMinus mask n mark)
+    (located mask n))))))
+
+-- the tool is decided: TOOL ("8 to 13, or 1 to 7 and not in the set"), ROOM, the body, ALIGN
+unfoldable pub withTool : ℕ → ℕ → ℕ → ℕ → ℕ → ℕ → Reader Found
+withTool mask set room t n mark =
+    cond (not (holds set t)) (fail (Tool t) 0)
+    (cond (ltb room n) (fail Room 0) (do
+      samples ← body mask t n mark
+      bits ← here
+      filled (record { tool = t; samples = samples; bits = bits }) (fillFor bits)))
+
+-- what the first octet begins; "Pads need no tool", and "A pad reports 8 bits"
+unfoldable pub afterFirst : ℕ → ℕ → ℕ → First → Reader Found
+afterFirst mask set room unassigned = fail Prefix 0
+afterFirst mask set room pad = give (record { tool = 0; samples = []; bits = 8 })
+afterFirst mask set room (tool t n) = withTool mask set room t n 0
+afterFirst mask set room (sixOrEight n) =
+    from (markAt n) (do
+      mark ← bit
+      t ← sixNotEight
+      from (markAt n + 1) (withTool mask set room t n mark))
+
+unfoldable pub frame : ℕ → ℕ → ℕ → Reader Found
+frame mask set room = do
+  o ← number 8
+  afterFirst mask set room (firstOctet o)
+
+-- one frame at the start of some octets, `room` being the output's: "Order: LAW, SET", then the frame
+unfoldable pub readOne : List ℕ → ℕ → ℕ → ℕ → Read Found
+readOne octets law set room =
+    cond (not (isLaw law)) (refuse Law 0)
+    (cond (not (isSet set)) (refuse Set 0)
+    (frame (maskOf law) set room (bitsOf octets) 0))

@@ -1,0 +1,29 @@
+-- Document 01, "The part of G.711.0 we carry": tool sets, laws, lengths.
+use Prim.Native.Nat.{ℕ, _-_, _^_, _/_, _%_}
+use mathlib.Core.Path.{_≡_}
+use mathlib.Core.Bool.{Bool, true, not, _&&_, _||_}
+use lib.Dec.{eqb, leb, ltb}
+
+-- "Tool t (1 to 7) adds 2^(t-1)": whether a set holds tool t
+unfoldable pub holds : ℕ → ℕ → Bool
+holds set t = leb 1 t && leb t 7 && eqb (set / 2 ^ (t - 1) % 2) 1
+
+-- one's tools within the other's
+pub record Within (a b : ℕ) : Type 0 where
+  pub also : (t : ℕ) → holds a t ≡ true → holds b t ≡ true
+
+-- "A tool set is a number from 0 to 127."
+abbrev pub isSet : ℕ → Bool
+isSet set = leb set 127
+
+-- "A writer's set must hold tool 1, so it is odd."
+abbrev pub isWriterSet : ℕ → Bool
+isWriterSet set = isSet set && eqb (set % 2) 1
+
+-- "The law is 0 for A, 1 for mu."
+abbrev pub isLaw : ℕ → Bool
+isLaw law = leb law 1
+
+-- the lengths that a frame of samples may have; a frame of none is a pad
+abbrev pub isLength : ℕ → Bool
+isLength n = eqb n 40 || eqb n 80 || eqb n 160 || eqb n 240 || eqb n 320
