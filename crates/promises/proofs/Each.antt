@@ -1,0 +1,44 @@
+-- Tests that every one of a list passes.
+use Prim.Native.Nat.{ℕ, zero, suc, _+_, _≤_}
+use native.Mathlib.Omega.{arith}
+use mathlib.Core.Path.{_≡_, refl, sym, ap, _∙_}
+use mathlib.Core.List.{List, [], _∷_}
+use mathlib.Core.Bool.{Bool, true, false, cond, _&&_}
+use lib.ListN.{length}
+use lib.Dec.{eqb}
+use borrow.Author.Tests.{eqb-true, eq-eqb}
+use Rattle.rules.specs.Chooses.{countOf, every}
+
+pub both : (a b : Bool) → a && b ≡ true → (a ≡ true) × (b ≡ true)
+both true b e = (refl, e)
+both false b e = let z : _≡_ {A = ℕ} 0 1 = cc in absurd (omega arith)
+
+pub data Each (p : ℕ → Bool) : List ℕ → Type 0 where
+  nothing : Each p []
+  next : {x : ℕ} {s : List ℕ} → p x ≡ true → Each p s → Each p (x ∷ s)
+
+pub count-le : (p : ℕ → Bool) (s : List ℕ) → countOf p s ≤ length s
+unfolding countOf
+count-le p [] = omega arith
+count-le p (x ∷ s) = step (p x) (count-le p s)
+  where
+    step : (b : Bool) → countOf p s ≤ length s → cond b 1 0 + countOf p s ≤ suc (length s)
+    step true h = omega arith
+    step false h = omega arith
+
+-- "every" by its count is each one
+each-from : (p : ℕ → Bool) (s : List ℕ) → countOf p s ≡ length s → Each p s
+unfolding countOf
+each-from p [] e = nothing
+each-from p (x ∷ s) e = next (first (p x) e) (each-from p s (rest (p x) e))
+  where
+    first : (b : Bool) → cond b 1 0 + countOf p s ≡ suc (length s) → b ≡ true
+    first true f = refl
+    first false f = absurd (omega (arith, count-le p s))
+
+    rest : (b : Bool) → cond b 1 0 + countOf p s ≡ suc (length s) → countOf p s ≡ length s
+    rest true f = omega arith
+    rest false f = absurd (omega (arith, count-le p s))
+
+pub each-of : (p : ℕ → Bool) (s : List ℕ) → every p s ≡ true → Each p s
+each-of p s e = each-from p s (eqb-true (countOf p s) (length s) e)

@@ -1,0 +1,4 @@
+pub mod Back
+pub mod Each
+pub mod Runs
+pub mod Zeros
