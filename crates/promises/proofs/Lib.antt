@@ -2,3 +2,4 @@ pub mod Back
 pub mod Each
 pub mod Runs
 pub mod Zeros
+pub mod Methods

@@ -55,7 +55,7 @@ runs-step n s fuel left v done h hn t =
     (back-here _ (λ start. back-bind _ _ (back-rice n s v hn)
     (rw (le-ltb left v (omega arith), ne-eqb v left (omega arith)) t)))
 
-replicate-snoc : (c : ℕ) (x : ℕ) (l : List ℕ) → replicate (c + 1) x ++ l ≡ replicate c x ++ (x ∷ l)
+pub replicate-snoc : (c : ℕ) (x : ℕ) (l : List ℕ) → replicate (c + 1) x ++ l ≡ replicate c x ++ (x ∷ l)
 replicate-snoc c x l = rw (← (replicate-append-replicate c 1 x)) (append-assoc (replicate c x) (x ∷ []) l)
 
 -- the runs of flags, c common places being open
