@@ -1,2 +1,5 @@
 pub mod Marked
 pub mod Octets
+pub mod Tests
+pub mod Signed
+pub mod Firsts
