@@ -3,3 +3,5 @@ pub mod Octets
 pub mod Tests
 pub mod Signed
 pub mod Firsts
+pub mod Codes
+pub mod Gives
