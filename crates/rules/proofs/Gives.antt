@@ -1,0 +1,126 @@
+-- What an inner reader gives: its next place is not before the last one and not past the end, and its value has its range.
+-- `Gives p Q` is built as readers are, step by step.
+use Prim.Native.Nat.{ℕ, zero, suc, _+_, _*_, _-_, _^_, _≤_, _<_}
+use mathlib.Core.Path.{_≡_, refl, sym, ap, subst, _∙_}
+use mathlib.Core.List.{List, [], _∷_, _++_, map}
+use mathlib.Core.Bool.{Bool, true, false, cond, _&&_}
+use native.Mathlib.Omega.{arith}
+use native.Mathlib.Nat.{le-refl, lt-of-lt-of-le, mul-le-mul-right, pow-suc, mul-comm, mul-assoc, one-mul, add-zero, add-mul}
+use lib.Dec.{eqb, leb, ltb, lit<}
+use lib.Arith.{digits-lt}
+use lib.Pow.{pow-pos}
+use lib.ListN.{length, getD, replicate, length-append, length-replicate}
+use borrow.Author.Tests.{ltb-true, ltb-false, leb-true, eqb-true, eqb-false}
+use Rattle.rules.specs.declared.Refusal.{Refusal}
+use Rattle.rules.specs.declared.Refusal.the-variants.{Short, Run, Align, Method, Place, Case}
+use Rattle.rules.specs.Reading.{Read, whole, refuse, Reader, andThen, _>>=_, give, fail, here, bit, numberFrom, number, bitsFrom, octetsAfter, filled}
+use Rattle.rules.specs.Runs.{zerosFrom, rice, runsFrom}
+use Rattle.rules.specs.Zeros.{Tree, leaf, fork, treeOf, readTree}
+use Rattle.rules.proofs.Octets.{moved-up, Below, none, more, below-at, below-append, below-replicate}
+use Rattle.rules.proofs.Tests.{and-left, and-right}
+
+pub record Gives {A : Type 0} (p : Reader A) (Q : A → Type 0) : Type 0 where
+  pub on : {b : List ℕ} {i : ℕ} {a : A} {j : ℕ} → Below 2 b → i ≤ length b → p b i ≡ whole a j → (i ≤ j) × (j ≤ length b) × Q a
+
+no-refusal : {A : Type 0} {X : Type 0} {w : Refusal} {at : ℕ} {a : A} {j : ℕ} → _≡_ {A = Read A} (refuse w at) (whole a j) → X
+no-refusal e = let z : _≡_ {A = ℕ} 0 1 = cc in absurd (omega arith)
+
+same-value : {A : Type 0} {a c : A} {i j : ℕ} → _≡_ {A = Read A} (whole a i) (whole c j) → a ≡ c
+same-value e = cc
+
+same-place : {A : Type 0} {a c : A} {i j : ℕ} → _≡_ {A = Read A} (whole a i) (whole c j) → i ≡ j
+same-place e = cc
+
+pub gives-give : {A : Type 0} {Q : A → Type 0} (a : A) → Q a → Gives (give a) Q
+gives-give {Q = Q} a q =
+    record { on = λ z h e. let s = same-place e in (omega arith, omega arith, subst Q (same-value e) q) }
+
+pub gives-fail : {A : Type 0} {Q : A → Type 0} (w : Refusal) (at : ℕ) → Gives {A = A} (fail w at) Q
+gives-fail w at = record { on = λ z h e. no-refusal e }
+
+pub gives-here : Gives here (λ i. Unit {0})
+gives-here = record { on = λ z h e. let s = same-place e in (omega arith, omega arith, tt) }
+
+pub gives-bit : Gives bit (λ a. a < 2)
+unfolding bit
+gives-bit = record { on = λ {b} {i} {a} {j} z h e. go b i a j z h (ltb i (length b)) refl e }
+  where
+    go : (b : List ℕ) (i a j : ℕ) → Below 2 b → i ≤ length b → (t : Bool) → ltb i (length b) ≡ t
+        → cond t (whole (getD b i 0) (i + 1)) (refuse Short i) ≡ whole a j → (i ≤ j) × (j ≤ length b) × (a < 2)
+    go b i a j z h true t e =
+        let s = same-place e in
+        let v = same-value e in
+        let l = ltb-true i (length b) t in
+        (omega arith, omega arith, subst (λ (x : ℕ). x < 2) v (below-at z (lit< tt) i))
+    go b i a j z h false t e = no-refusal e
+
+pub gives-bind : {A B : Type 0} {p : Reader A} {Q : A → Type 0} {f : A → Reader B} {R : B → Type 0}
+    → Gives p Q → ((a : A) → Q a → Gives (f a) R) → Gives (p >>= f) R
+gives-bind {A} {B} {p} {Q} {f} {R} g k = record { on = λ {b} {i} {a} {j} z h e. go b i a j z h (p b i) refl e }
+  where
+    go : (b : List ℕ) (i : ℕ) (c : B) (j : ℕ) → Below 2 b → i ≤ length b → (m : Read A) → p b i ≡ m
+        → andThen m (λ a l. f a b l) ≡ whole c j → (i ≤ j) × (j ≤ length b) × R c
+    go b i c j z h (whole a l) q e =
+        let s = g .on z h q in
+        let t = k a (s .2) .on z (s .1) e in
+        (omega arith, t .1, t .2)
+    go b i c j z h (refuse w at) q e = no-refusal e
+
+pub gives-cond : {A : Type 0} {p q : Reader A} {Q : A → Type 0} (t : Bool) → (t ≡ true → Gives p Q) → (t ≡ false → Gives q Q) → Gives (cond t p q) Q
+gives-cond true g h = g refl
+gives-cond false g h = h refl
+
+pub gives-as : {A : Type 0} {p : Reader A} {Q R : A → Type 0} → ((a : A) → Q a → R a) → Gives p Q → Gives p R
+gives-as f g = record { on = λ z h e. let s = g .on z h e in (s .0, s .1, f _ (s .2)) }
+
+-- numbers
+room-for : (v a n : ℕ) → a < 2 → (2 * v + a + 1) * 2 ^ n ≤ (v + 1) * 2 ^ suc n
+room-for v a n h =
+    let e : (v + 1) * (2 ^ n * 2) ≡ (2 * v + 2) * 2 ^ n = omega (arith, add-mul v 1 (2 ^ n * 2), moved-up v 2 (2 ^ n)) in
+    rw (pow-suc, e) (mul-le-mul-right (2 ^ n) (omega arith))
+
+pub gives-numberFrom : (v n : ℕ) → Gives (numberFrom v n) (λ x. x < (v + 1) * 2 ^ n)
+unfolding numberFrom
+gives-numberFrom v zero = gives-give v (omega arith)
+gives-numberFrom v (suc n) =
+    gives-bind gives-bit (λ a h. gives-as (λ x l. lt-of-lt-of-le l (room-for v a n h)) (gives-numberFrom (2 * v + a) n))
+
+pub gives-number : (n : ℕ) → Gives (number n) (λ x. x < 2 ^ n)
+gives-number n = gives-as (λ x l. rw (one-mul (2 ^ n)) at l) (gives-numberFrom 0 n)
+
+-- a list of so many, all below m
+pub record Sized (m n : ℕ) (l : List ℕ) : Type 0 where
+  pub size : length l ≡ n
+  pub below : Below m l
+
+pub gives-bitsFrom : (done : List ℕ) (n : ℕ) → Below 2 done → Gives (bitsFrom done n) (Sized 2 (length done + n))
+unfolding bitsFrom
+gives-bitsFrom done zero d = gives-give done (record { size = sym (add-zero (length done)); below = d })
+gives-bitsFrom done (suc n) d =
+    gives-bind gives-bit (λ a h. gives-as
+    (λ l s. record { size = s .size ∙ simp length-append (omega arith); below = s .below })
+    (gives-bitsFrom (done ++ (a ∷ [])) n (below-append d (more h none))))
+
+pub gives-octetsAfter : (done : List ℕ) (n : ℕ) → Below 256 done → Gives (octetsAfter done n) (Sized 256 (length done + n))
+unfolding octetsAfter
+gives-octetsAfter done zero d = gives-give done (record { size = sym (add-zero (length done)); below = d })
+gives-octetsAfter done (suc n) d =
+    gives-bind (gives-number 8) (λ a h. gives-as
+    (λ l s. record { size = s .size ∙ simp length-append (omega arith); below = s .below })
+    (gives-octetsAfter (done ++ (a ∷ [])) n (below-append d (more h none))))
+
+-- zeros, Rice codes, runs
+pub gives-zerosFrom : (start k left : ℕ) → Gives (zerosFrom start k left) (λ r. r < k + left)
+unfolding zerosFrom
+gives-zerosFrom start k zero = gives-fail Run start
+gives-zerosFrom start k (suc left) =
+    gives-bind gives-bit (λ a h. gives-cond (eqb a 1) (λ t. gives-give k (omega arith))
+    (λ t. gives-as (λ r l. omega arith) (gives-zerosFrom start (k + 1) left)))
+
+pub gives-rice : (n s : ℕ) → Gives (rice n s) (λ v. v < (n + 1) * 2 ^ s)
+unfolding rice
+gives-rice n s =
+    gives-bind gives-here (λ start u.
+    gives-bind (gives-zerosFrom start 0 (n + 1)) (λ k h.
+    gives-bind (gives-number s) (λ low l.
+    gives-give (k * 2 ^ s + low) (digits-lt (omega arith) l))))
