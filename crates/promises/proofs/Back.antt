@@ -6,12 +6,9 @@ use native.Mathlib.Nat.{pow-suc, mod-eq-of-lt}
 use lib.Pow.{mod-pow-add}
 use mathlib.Core.Path.{_≡_, refl, sym, ap, _∙_}
 use mathlib.Core.List.{List, [], _∷_, _++_, append-assoc, append-nil}
-use mathlib.Core.Bool.{Bool, true, false, cond}
-use lib.ListN.{length, getD, replicate, length-append}
-use lib.Seq.{getD-append-seam}
-use lib.Dec.{eqb, leb, ltb}
-use borrow.Author.Tests.{lt-ltb, le-ltb, eq-eqb, ne-eqb}
+use lib.ListN.{length, replicate, length-append}
 use Rattle.rules.specs.Bits.{lowBits, bitsOf}
+use Rattle.rules.proofs.Codes.{bit-seam}
 use Rattle.rules.proofs.Octets.{Below, none, more}
 use Rattle.rules.specs.Reading.{Read, whole, refuse, Reader, andThen, _>>=_, give, fail, here, bit, numberFrom, number, bitsFrom, octetsAfter, filled}
 
@@ -33,17 +30,11 @@ back-bind p f {a} {b} {v} {w} pa fb = record {
 pub back-then : {A B : Type 0} (p : Reader A) (f : A → Reader B) {b : List ℕ} {v : A} {w : B} → Back p [] v → Back (f v) b w → Back (p >>= f) b w
 back-then p f pa fb = back-bind p f pa fb
 
-bit-at : (a : ℕ) (pre post : List ℕ) → bit (pre ++ (a ∷ post)) (length pre) ≡ whole a (length pre + 1)
-unfolding bit
-bit-at a pre post =
-    let e : length (pre ++ (a ∷ post)) ≡ length pre + suc (length post) = length-append pre (a ∷ post) in
-    rw (lt-ltb (length pre) (length (pre ++ (a ∷ post))) (omega arith), getD-append-seam pre a post 0)
-
 pub back-bit : {B : Type 0} (f : ℕ → Reader B) (a : ℕ) {b : List ℕ} {w : B} → Back (f a) b w → Back (bit >>= f) (a ∷ b) w
 back-bit f a {b} {w} fb = back-bind bit f {a = a ∷ []} one fb
   where
     one : Back bit (a ∷ []) a
-    one = record { reads = λ pre post. bit-at a pre post }
+    one = record { reads = λ pre post. bit-seam pre a post }
 
 -- the place where the reading stands
 pub back-here : {B : Type 0} (f : ℕ → Reader B) {b : List ℕ} {w : B} → ((i : ℕ) → Back (f i) b w) → Back (here >>= f) b w

@@ -14,9 +14,9 @@ use Rattle.rules.specs.Reading.{Reader, _>>=_, give, here, number, bitsFrom}
 use Rattle.rules.specs.Runs.{runs, runsForm}
 use Rattle.rules.specs.Located.{widthFrom, widthOf, listedFrom, listed, byMethod}
 use Rattle.rules.specs.Chooses.{countOf, leastFrom, leastS, placesOf, numbersForm, runS, fewestRunBits, methodOf, methodForm}
+use Rattle.rules.proofs.Tests.{and-left}
 use Rattle.rules.proofs.Octets.{Below, none, more}
 use Rattle.promises.proofs.Back.{Back, back-give, back-bind, back-here, back-as, back-number, back-flags}
-use Rattle.promises.proofs.Each.{both}
 use Rattle.promises.proofs.Runs.{replicate-snoc, back-runs}
 
 -- ceil(log2 D) bits hold every place below D
@@ -140,4 +140,4 @@ fits-chosen flags =
     first true h k = absent (h refl)
     first false h k =
         second (ltb (length flags) (fewestRunBits flags)) (leb (ones flags) 4 && ltb (ones flags * widthOf (length flags) + 2) (fewestRunBits flags))
-        (λ e. leb-true (ones flags) 4 (both (leb (ones flags) 4) (ltb (ones flags * widthOf (length flags) + 2) (fewestRunBits flags)) e .0)) (let g = k refl in omega arith)
+        (λ e. leb-true (ones flags) 4 (and-left (leb (ones flags) 4) (ltb (ones flags * widthOf (length flags) + 2) (fewestRunBits flags)) e)) (let g = k refl in omega arith)

@@ -1,65 +1,27 @@
 -- Tools 1 to 6: each body's form is read back, for every frame that the tool applies to.
 use Prim.Native.Nat.{ℕ, zero, suc, _+_, _*_, _-_, _^_, _/_, _%_, _≤_, _<_}
 use native.Mathlib.Omega.{arith}
-use native.Mathlib.Nat.{not-suc-le-zero}
 use mathlib.Core.Path.{_≡_, refl, sym, ap, ap₂, _∙_}
 use mathlib.Core.List.{List, [], _∷_, _++_, map, append-assoc, append-nil}
 use mathlib.Core.Bool.{Bool, true, false, cond, _&&_, _||_}
 use lib.ListN.{length, getD, replicate, length-map}
-use native.Mathlib.Decide.{ℕ-discrete}
 use lib.Dec.{eqb, leb, ltb}
 use borrow.Author.Tests.{lt-ltb, le-ltb, eq-eqb, ne-eqb, eqb-true}
 use Rattle.rules.specs.Bits.{lowBits, bitsOf}
 use Rattle.rules.specs.Reading.{Reader, _>>=_, give, here, bit, number}
 use Rattle.rules.specs.Runs.{runs, runsForm}
 use Rattle.rules.specs.Samples.{plusZero, minusZero}
-use Rattle.rules.specs.Zeros.{uncompressed, constantly, constant, zeroOf, flagOf, binary, codesOf, codeOf, mostS, Tree, leaf, fork, treeOf, readTree, plusMinus}
+use Rattle.rules.specs.Zeros.{uncompressed, constantly, constant, zeroOf, flagOf, binary, codeOf, mostS, treeOf, readTree, plusMinus}
+use Rattle.rules.specs.Tools.{isLength}
+use Rattle.rules.proofs.Codes.{code-read}
 use Rattle.rules.proofs.Octets.{Below, none, more}
 use Rattle.promises.proofs.Back.{Back, back-give, back-bind, back-bit, back-here, back-as, back-number, back-flags, back-octetsAfter}
-use Rattle.promises.proofs.Each.{both, Each, nothing, next, each-of}
+use Rattle.promises.proofs.Each.{Each, nothing, next}
 use Rattle.promises.proofs.Runs.{back-runs}
 
--- the leaf of a tree that bits lead to; 0 where they end before one, or go past it
-follow : Tree → List ℕ → ℕ
-follow (leaf s) [] = s
-follow (leaf s) (a ∷ b) = 0
-follow (fork z o) [] = 0
-follow (fork z o) (zero ∷ b) = follow z b
-follow (fork z o) (suc zero ∷ b) = follow o b
-follow (fork z o) (suc (suc a) ∷ b) = 0
-
-back-tree : (t : Tree) (b : List ℕ) (s : ℕ) → follow t b ≡ suc s → Back (readTree t) b (suc s)
-unfolding readTree follow
-back-tree (leaf x) [] s e = rw (← e) (back-give x)
-back-tree (leaf x) (a ∷ b) s e = absurd (omega arith)
-back-tree (fork z o) [] s e = absurd (omega arith)
-back-tree (fork z o) (zero ∷ b) s e = back-bit _ 0 (back-tree z b s e)
-back-tree (fork z o) (suc zero ∷ b) s e = back-bit _ 1 (back-tree o b s e)
-back-tree (fork z o) (suc (suc a) ∷ b) s e = absurd (omega arith)
-
--- codes that lead to k, k + 1 and so on
-leads : Tree → ℕ → List (List ℕ) → Bool
-leads t k [] = true
-leads t k (c ∷ cs) = eqb (follow t c) k && leads t (suc k) cs
-
-led : (t : Tree) (k : ℕ) (cs : List (List ℕ)) → leads t k cs ≡ true → (i : ℕ) → i < length cs → follow t (getD cs i []) ≡ k + i
-unfolding leads
-led t k [] e i h = absurd (not-suc-le-zero h)
-led t k (c ∷ cs) e zero h = eqb-true (follow t c) k (both (eqb (follow t c) k) (leads t (suc k) cs) e .0) ∙ omega arith
-led t k (c ∷ cs) e (suc i) h = led t (suc k) cs (both (eqb (follow t c) k) (leads t (suc k) cs) e .1) i (omega arith) ∙ omega arith
-
-leads-codes : (n : ℕ) → Dec (n ≡ 40) → Dec (n ≡ 80) → leads (treeOf n) 1 (codesOf n) ≡ true
-unfolding leads follow treeOf codesOf
-leads-codes n (yes p) d = rw p refl
-leads-codes n (no p) (yes q) = rw q refl
-leads-codes n (no p) (no q) = rw (ne-eqb n 40 p, ne-eqb n 80 q) refl
-
 -- the code of S, for every length
-pub back-code : (n s : ℕ) → 1 ≤ s → s ≤ mostS n → Back (readTree (treeOf n)) (codeOf n s) s
-back-code n s h k =
-    back-as (back-tree (treeOf n) (codeOf n s) (s - 1)
-    (led (treeOf n) 1 (codesOf n) (leads-codes n (ℕ-discrete n 40) (ℕ-discrete n 80)) (s - 1) (omega arith) ∙ omega arith))
-    refl refl (omega arith)
+pub back-code : (n s : ℕ) → isLength n ≡ true → 1 ≤ s → s ≤ mostS n → Back (readTree (treeOf n)) (codeOf n s) s
+back-code n s l h k = record { reads = λ pre post. code-read n s l h k pre post }
 
 -- "Uncompressed: N octets."
 pub back-uncompressed : (s : List ℕ) → Below 256 s → Back (uncompressed (length s)) (bitsOf s) s
@@ -82,7 +44,7 @@ back-constant x s h b = back-as (back-bind _ _ (back-number 8 x b) (back-constan
 abbrev pub isZero : ℕ → ℕ → Bool
 isZero mask x = eqb x (plusZero mask) || eqb x (minusZero mask)
 
--- one of two tests
+-- one of two tests, or the second alone
 split : (p q : Bool) {C : Type 0} → p || q ≡ true → (p ≡ true → C) → (p ≡ false → q ≡ true → C) → C
 split true q e f g = f refl
 split false q e f g = g refl e
@@ -122,11 +84,11 @@ back-binary mask s h =
     back-as (back-bind _ _ (rw e at (back-flags flags)) (back-give (map (zeroOf mask 0) flags))) refl (append-nil flags) (zeros-back mask 0 (omega arith) h)
 
 -- "Tool 6: code of S, then runs over N."
-pub back-plusMinus : (mask mark r : ℕ) (s : List ℕ) → mark < 2 → Each (isZero mask) s → 1 ≤ r → r ≤ mostS (length s)
+pub back-plusMinus : (mask mark r : ℕ) (s : List ℕ) → isLength (length s) ≡ true → mark < 2 → Each (isZero mask) s → 1 ≤ r → r ≤ mostS (length s)
     → Back (plusMinus mask (length s) mark) (codeOf (length s) r ++ runsForm r (map (flagOf mask mark) s)) s
-back-plusMinus mask mark r s m h a b =
+back-plusMinus mask mark r s l m h a b =
     let flags = map (flagOf mask mark) s in
     let e : length flags ≡ length s = length-map s (flagOf mask mark) in
-    back-bind _ _ (back-code (length s) r a b)
+    back-bind _ _ (back-code (length s) r l a b)
     (back-as (back-bind _ _ (rw e at (back-runs (length s) r flags (flags-below mask mark s) (omega arith))) (back-give (map (zeroOf mask mark) flags)))
     refl (append-nil (runsForm r flags)) (zeros-back mask mark m h))
