@@ -3,7 +3,7 @@ use Prim.Native.Nat.{ℕ, zero, suc, _+_, _≤_}
 use native.Mathlib.Omega.{arith}
 use mathlib.Core.Path.{_≡_, refl, sym, ap, _∙_}
 use mathlib.Core.List.{List, [], _∷_}
-use mathlib.Core.Bool.{Bool, true, false, cond}
+use mathlib.Core.Bool.{Bool, true, false, cond, _||_}
 use lib.ListN.{length}
 use lib.Dec.{eqb}
 use borrow.Author.Tests.{eqb-true, eq-eqb}
@@ -12,6 +12,14 @@ use Rattle.rules.specs.Chooses.{countOf, every}
 pub data Each (p : ℕ → Bool) : List ℕ → Type 0 where
   nothing : Each p []
   next : {x : ℕ} {s : List ℕ} → p x ≡ true → Each p s → Each p (x ∷ s)
+
+pub each-map : {p q : ℕ → Bool} {s : List ℕ} → ((x : ℕ) → p x ≡ true → q x ≡ true) → Each p s → Each q s
+each-map f nothing = nothing
+each-map f (next {x = x} h t) = next (f x h) (each-map f t)
+
+pub or-false : (b : Bool) → b || false ≡ true → b ≡ true
+or-false true e = refl
+or-false false e = e
 
 pub count-le : (p : ℕ → Bool) (s : List ℕ) → countOf p s ≤ length s
 unfolding countOf

@@ -3,3 +3,4 @@ pub mod Each
 pub mod Runs
 pub mod Zeros
 pub mod Methods
+pub mod Located
