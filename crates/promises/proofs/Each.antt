@@ -3,19 +3,29 @@ use Prim.Native.Nat.{ℕ, zero, suc, _+_, _≤_}
 use native.Mathlib.Omega.{arith}
 use mathlib.Core.Path.{_≡_, refl, sym, ap, _∙_}
 use mathlib.Core.List.{List, [], _∷_}
-use mathlib.Core.Bool.{Bool, true, false, cond, _||_}
+use mathlib.Core.Bool.{Bool, true, false, cond, _&&_, _||_}
 use lib.ListN.{length}
 use lib.Dec.{eqb}
 use borrow.Author.Tests.{eqb-true, eq-eqb}
+use Rattle.rules.proofs.Tests.{and-left, and-right}
 use Rattle.rules.specs.Chooses.{countOf, every}
 
-pub data Each (p : ℕ → Bool) : List ℕ → Type 0 where
+pub data Each {A : Type 0} (p : A → Bool) : List A → Type 0 where
   nothing : Each p []
-  next : {x : ℕ} {s : List ℕ} → p x ≡ true → Each p s → Each p (x ∷ s)
+  next : {x : A} {s : List A} → p x ≡ true → Each p s → Each p (x ∷ s)
 
-pub each-map : {p q : ℕ → Bool} {s : List ℕ} → ((x : ℕ) → p x ≡ true → q x ≡ true) → Each p s → Each q s
+pub each-map : {A : Type 0} {p q : A → Bool} {s : List A} → ((x : A) → p x ≡ true → q x ≡ true) → Each p s → Each q s
 each-map f nothing = nothing
 each-map f (next {x = x} h t) = next (f x h) (each-map f t)
+
+-- the same as one test, to be computed
+abbrev pub all : {A : Type 0} → (A → Bool) → List A → Bool
+all p [] = true
+all p (x ∷ s) = p x && all p s
+
+pub each-all : {A : Type 0} (p : A → Bool) (s : List A) → all p s ≡ true → Each p s
+each-all p [] e = nothing
+each-all p (x ∷ s) e = next (and-left (p x) (all p s) e) (each-all p s (and-right (p x) (all p s) e))
 
 pub or-false : (b : Bool) → b || false ≡ true → b ≡ true
 or-false true e = refl

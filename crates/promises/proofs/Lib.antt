@@ -4,3 +4,4 @@ pub mod Runs
 pub mod Zeros
 pub mod Methods
 pub mod Located
+pub mod Rows

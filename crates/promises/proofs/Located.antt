@@ -25,7 +25,7 @@ pub data Fills (z : ℕ) : List ℕ → List ℕ → List ℕ → Type 0 where
   empty : {a : ℕ} {left cells s : List ℕ} → Fills z left cells s → Fills z (a ∷ left) (z ∷ cells) (a ∷ s)
   full : {y : ℕ} {left cells s : List ℕ} → eqb y z ≡ false → Fills z left cells s → Fills z left (y ∷ cells) (y ∷ s)
 
-fills-start : (z : ℕ) (s : List ℕ) → Fills z s (replicate (length s) z) s
+pub fills-start : (z : ℕ) (s : List ℕ) → Fills z s (replicate (length s) z) s
 fills-start z [] = filled
 fills-start z (a ∷ s) = empty (fills-start z s)
 
@@ -67,7 +67,7 @@ fills-lay {z} x h (empty {a = a} {left = left} {cells = cells} t) =
 fills-lay x h (full g t) = rw g (full g (fills-lay x h t))
 
 -- one of several
-pub among : List ℕ → ℕ → Bool
+unfoldable pub among : List ℕ → ℕ → Bool
 among [] y = false
 among (x ∷ xs) y = eqb y x || among xs y
 
