@@ -7,7 +7,7 @@ use lib.Pow.{mod-pow-add}
 use mathlib.Core.Path.{_≡_, refl, sym, ap, _∙_}
 use mathlib.Core.List.{List, [], _∷_, _++_, append-assoc, append-nil}
 use lib.ListN.{length, replicate, length-append}
-use Rattle.rules.specs.Bits.{lowBits, bitsOf}
+use Rattle.rules.specs.Bits.{lowBits, bitsOf, valueFrom}
 use Rattle.rules.proofs.Codes.{bit-seam}
 use Rattle.rules.proofs.Octets.{Below, none, more}
 use Rattle.rules.specs.Reading.{Read, whole, refuse, Reader, andThen, _>>=_, give, fail, here, bit, numberFrom, number, bitsFrom, octetsAfter, filled}
@@ -44,6 +44,10 @@ back-here f fb = record { reads = λ pre post. fb (length pre) .reads pre post }
 pub back-as : {A : Type 0} {p q : Reader A} {a b : List ℕ} {v w : A} → Back p a v → p ≡ q → a ≡ b → v ≡ w → Back q b w
 back-as t e f g = rw (← e, ← f, ← g) t
 
+-- from the first bit on
+pub back-first : {A : Type 0} {p : Reader A} {a : List ℕ} {v : A} → Back p a v → (post : List ℕ) → p (a ++ post) 0 ≡ whole v (length a)
+back-first {v = v} t post = t .reads [] post ∙ ap (whole v) (omega arith)
+
 -- one more bit above
 mod-suc : (n v : ℕ) → v % 2 ^ suc n ≡ v / 2 ^ n % 2 * 2 ^ n + v % 2 ^ n
 mod-suc n v = let e : suc n ≡ 1 + n = omega arith in rw e (mod-pow-add v 1 n)
@@ -58,6 +62,12 @@ back-numberFrom u (suc n) v =
 
 pub back-number : (n v : ℕ) → v < 2 ^ n → Back (number n) (lowBits n v) v
 back-number n v h = back-as (back-numberFrom 0 n v) refl refl (omega (arith, mod-eq-of-lt h))
+
+-- whatever the bits are
+pub back-value : (u : ℕ) (bits : List ℕ) → Back (numberFrom u (length bits)) bits (valueFrom u bits)
+unfolding numberFrom valueFrom
+back-value u [] = back-give u
+back-value u (a ∷ bits) = back-bit _ a (back-value (2 * u + a) bits)
 
 -- flags
 pub back-bitsFrom : (done flags : List ℕ) → Back (bitsFrom done (length flags)) flags (done ++ flags)

@@ -5,3 +5,4 @@ pub mod Zeros
 pub mod Methods
 pub mod Located
 pub mod Rows
+pub mod Frame
