@@ -6,3 +6,4 @@ pub mod Methods
 pub mod Located
 pub mod Rows
 pub mod Frame
+pub mod Forms

@@ -100,9 +100,9 @@ has-without {z} x e (later {a = a} {l = l} h) = step (eqb a x) (has-without x e 
     step true u = u
     step false u = later u
 
-flags-below : (x : ℕ) (left : List ℕ) → Below 2 (flagsFor x left)
-flags-below x [] = none
-flags-below x (y ∷ left) = more (small (eqb y x)) (flags-below x left)
+pub value-flags-below : (x : ℕ) (left : List ℕ) → Below 2 (flagsFor x left)
+value-flags-below x [] = none
+value-flags-below x (y ∷ left) = more (small (eqb y x)) (value-flags-below x left)
   where
     small : (b : Bool) → cond b 1 0 < 2
     small true = omega arith
@@ -143,6 +143,6 @@ back-values n z (x ∷ xs) {left} {cells} (next d ds) f e h l =
     let out = fills-lay x apart f in
     let some = has-without x (ne-eqb z x (λ g. eqb-false x z apart (sym g))) h in
     let i : length (flagsFor x left) ≡ length left = length-map left (λ y. cond (eqb y x) 1 0) in
-    value-step n z x xs (flagsFor x left) cells (flags-below x left) (i ∙ sym (fills-empty f)) (omega arith)
+    value-step n z x xs (flagsFor x left) cells (value-flags-below x left) (i ∙ sym (fills-empty f)) (omega arith)
     (omega (arith, fills-empty out, has-some some))
     (back-values n z xs ds out (each-without z x xs e) some (omega (arith, without-le x left)))
