@@ -2,7 +2,7 @@
 use Prim.Native.Nat.{ℕ, zero, suc, _+_, _≤_}
 use native.Mathlib.Omega.{arith}
 use mathlib.Core.Path.{_≡_, refl, sym, ap, _∙_}
-use mathlib.Core.List.{List, [], _∷_}
+use mathlib.Core.List.{List, [], _∷_, _++_}
 use mathlib.Core.Bool.{Bool, true, false, cond, _&&_, _||_}
 use lib.ListN.{length}
 use lib.Dec.{eqb}
@@ -17,6 +17,14 @@ pub data Each {A : Type 0} (p : A → Bool) : List A → Type 0 where
 pub each-map : {A : Type 0} {p q : A → Bool} {s : List A} → ((x : A) → p x ≡ true → q x ≡ true) → Each p s → Each q s
 each-map f nothing = nothing
 each-map f (next {x = x} h t) = next (f x h) (each-map f t)
+
+pub each-append : {A : Type 0} {p : A → Bool} {s t : List A} → Each p s → Each p t → Each p (s ++ t)
+each-append nothing u = u
+each-append (next h t) u = next h (each-append t u)
+
+pub each-at : {A : Type 0} {p : A → Bool} (s : List A) (x : A) (t : List A) → Each p (s ++ (x ∷ t)) → p x ≡ true
+each-at [] x t (next h u) = h
+each-at (y ∷ s) x t (next h u) = each-at s x t u
 
 -- the same as one test, to be computed
 abbrev pub all : {A : Type 0} → (A → Bool) → List A → Bool

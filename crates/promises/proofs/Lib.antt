@@ -7,3 +7,4 @@ pub mod Located
 pub mod Rows
 pub mod Frame
 pub mod Forms
+pub mod Chosen
