@@ -83,7 +83,7 @@ choose-least mask set s (t ∷ ts) h =
 abbrev pub order : List ℕ
 order = tieOrder ++ (1 ∷ [])
 
-writer-holds : (set : ℕ) → isWriterSet set ≡ true → holds set 1 ≡ true
+pub writer-holds : (set : ℕ) → isWriterSet set ≡ true → holds set 1 ≡ true
 unfolding holds
 writer-holds set e =
     let odd = eqb-true (set % 2) 1 (and-right (isSet set) (eqb (set % 2) 1) e) in

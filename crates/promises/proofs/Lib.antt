@@ -8,3 +8,4 @@ pub mod Rows
 pub mod Frame
 pub mod Forms
 pub mod Chosen
+pub mod Written
