@@ -5,3 +5,4 @@ pub mod Signed
 pub mod Firsts
 pub mod Codes
 pub mod Gives
+pub mod Accepted
