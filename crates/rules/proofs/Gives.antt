@@ -1,11 +1,11 @@
 -- What an inner reader gives: its next place is not before the last one and not past the end, and its value has its range.
 -- `Gives p Q` is built as readers are, step by step.
-use Prim.Native.Nat.{ℕ, zero, suc, _+_, _*_, _-_, _^_, _≤_, _<_}
+use Prim.Native.Nat.{ℕ, zero, suc, _+_, _*_, _-_, _^_, _≤_, _<_, zero-le}
 use mathlib.Core.Path.{_≡_, refl, sym, ap, subst, _∙_}
 use mathlib.Core.List.{List, [], _∷_, _++_, map}
 use mathlib.Core.Bool.{Bool, true, false, cond, _&&_}
 use native.Mathlib.Omega.{arith}
-use native.Mathlib.Nat.{le-refl, lt-of-lt-of-le, mul-le-mul-right, pow-suc, mul-comm, mul-assoc, one-mul, add-zero, add-mul}
+use native.Mathlib.Nat.{le-refl, lt-of-lt-of-le, mul-le-mul-right, pow-suc, mul-comm, mul-assoc, one-mul, add-zero, zero-add, add-mul}
 use lib.Dec.{eqb, leb, ltb, lit<}
 use lib.Arith.{digits-lt}
 use lib.Pow.{pow-pos}
@@ -16,6 +16,7 @@ use Rattle.rules.specs.declared.Refusal.the-variants.{Short, Run, Align,
 use Rattle.rules.specs.Reading.{Read, whole, refuse, Reader, andThen, _>>=_, give, fail, here, bit, numberFrom, number, bitsFrom, octetsAfter, filled}
 use Rattle.rules.specs.Runs.{zerosFrom, rice, runsFrom}
 use Rattle.rules.specs.Zeros.{Tree, leaf, fork, treeOf, readTree}
+use Rattle.rules.specs.Located.{widthOf, listedFrom, listed, byMethod, emptyIn, lay, valuesInto}
 use Rattle.rules.proofs.Octets.{moved-up, Below, none, more, below-at, below-append, below-replicate}
 use Rattle.rules.proofs.Tests.{and-left, and-right}
 
@@ -124,3 +125,89 @@ gives-rice n s =
     gives-bind (gives-zerosFrom start 0 (n + 1)) (λ k h.
     gives-bind (gives-number s) (λ low l.
     gives-give (k * 2 ^ s + low) (digits-lt (omega arith) l))))
+
+pub gives-runsFrom : (n s most left : ℕ) (done : List ℕ) → left ≤ most → Below 2 done
+    → Gives (runsFrom n s most left done) (Sized 2 (length done + left))
+unfolding runsFrom
+gives-runsFrom n s zero left done h d = gives-give done (record { size = omega arith; below = d })
+gives-runsFrom n s (suc most) left done h d =
+    gives-cond (eqb left 0)
+    (λ t. let z = eqb-true left 0 t in gives-give done (record { size = omega arith; below = d }))
+    (λ t. gives-bind gives-here (λ start u. gives-bind (gives-rice n s) (λ v r.
+    gives-cond (ltb left v) (λ c. gives-fail Run start) (λ c.
+    gives-cond (eqb v left)
+    (λ e. gives-give (done ++ replicate v 0) (record {
+      size = let w = eqb-true v left e in simp (length-append, length-replicate) (omega arith);
+      below = below-append d (below-replicate v {x = 0} (lit< tt));
+    }))
+    (λ e. let o = ltb-false left v c in let ne = eqb-false v left e in
+    gives-as (λ l k. record { size = k .size ∙ simp (length-append, length-replicate) (omega arith); below = k .below })
+    (gives-runsFrom n s most (left - (v + 1)) (done ++ (replicate v 0 ++ (1 ∷ []))) (omega arith)
+    (below-append d (below-append (below-replicate v {x = 0} (lit< tt)) (more {x = 1} (lit< tt) none)))))))))
+
+-- what holds of every leaf holds of what a tree gives
+abbrev pub Leaves : (ℕ → Type 0) → Tree → Type 0
+Leaves P (leaf s) = P s
+Leaves P (fork z o) = Leaves P z × Leaves P o
+
+pub gives-readTree : (P : ℕ → Type 0) (t : Tree) → Leaves P t → Gives (readTree t) P
+unfolding readTree
+gives-readTree P (leaf s) h = gives-give s h
+gives-readTree P (fork z o) h =
+    gives-bind gives-bit (λ a l. gives-cond (eqb a 1) (λ t. gives-readTree P o (h .1)) (λ t. gives-readTree P z (h .0)))
+
+-- places that are listed
+pub gives-listedFrom : (w d : ℕ) (done : List ℕ) (count : ℕ) → length done ≤ d → Below 2 done → Gives (listedFrom w d done count) (Sized 2 d)
+unfolding listedFrom
+gives-listedFrom w d done zero h l =
+    gives-give (done ++ replicate (d - length done) 0) (record {
+      size = simp (length-append, length-replicate) (omega arith);
+      below = below-append l (below-replicate (d - length done) {x = 0} (lit< tt));
+    })
+gives-listedFrom w d done (suc count) h l =
+    gives-bind gives-here (λ start u. gives-bind (gives-number w) (λ p r.
+    gives-cond (leb (length done) p && ltb p d)
+    (λ t. let a = leb-true (length done) p (and-left (leb (length done) p) (ltb p d) t) in
+    let c = ltb-true p d (and-right (leb (length done) p) (ltb p d) t) in
+    gives-listedFrom w d (done ++ (replicate (p - length done) 0 ++ (1 ∷ []))) count
+    (simp (length-append, length-replicate) (omega arith))
+    (below-append l (below-append (below-replicate (p - length done) {x = 0} (lit< tt)) (more {x = 1} (lit< tt) none))))
+    (λ t. gives-fail Place start)))
+
+pub gives-byMethod : (n d start m : ℕ) → Gives (byMethod n d start m) (Sized 2 d)
+unfolding byMethod listed
+gives-byMethod n d start m =
+    gives-cond (eqb m 0) (λ t. gives-as (λ l s. record { size = s .size ∙ zero-add d; below = s .below }) (gives-bitsFrom [] d none)) (λ t.
+    gives-cond (leb m 4) (λ t. gives-as (λ l s. record { size = s .size ∙ zero-add d; below = s .below }) (gives-runsFrom n m d d [] (le-refl d) none)) (λ t.
+    gives-cond (eqb m 5) (λ t. gives-give (replicate d 0) (record { size = length-replicate d 0; below = below-replicate d {x = 0} (lit< tt) })) (λ t.
+    gives-cond (eqb m 6) (λ t. gives-fail Method start) (λ t.
+    gives-bind (gives-number 2) (λ less h. gives-listedFrom (widthOf d) d [] (less + 1) zero-le none)))))
+
+-- cells that are laid
+pub lay-sized : (z x : ℕ) (flags : List ℕ) (p : ℕ) {cells : List ℕ} → z < 256 → x < 256 → Below 256 cells
+    → Sized 256 (length cells) (lay z x flags p cells)
+unfolding lay
+lay-sized z x flags p g h none = record { size = refl; below = none }
+lay-sized z x flags p g h (more {x = y} {l = cells} k t) =
+    record {
+      size = ap suc (lay-sized z x flags _ g h t .size);
+      below = more (cell (eqb y z) (eqb (getD flags p 0) 1)) (lay-sized z x flags _ g h t .below);
+    }
+  where
+    cell : (b c : Bool) → cond b (cond c x z) y < 256
+    cell true true = h
+    cell true false = g
+    cell false c = k
+
+pub gives-valuesInto : (n z : ℕ) {xs : List ℕ} (cells : List ℕ) → z < 256 → Below 256 xs → Below 256 cells
+    → Gives (valuesInto n z xs cells) (Sized 256 (length cells))
+unfolding valuesInto
+gives-valuesInto n z cells g none c = gives-give cells (record { size = refl; below = c })
+gives-valuesInto n z cells g (more {x = x} {l = xs} h t) c =
+    gives-bind gives-here (λ start u. gives-bind (gives-number 3) (λ m r.
+    gives-bind (gives-byMethod n (emptyIn z cells) start m) (λ flags f.
+    gives-bind gives-here (λ end v.
+    gives-cond (eqb (emptyIn z (lay z x flags 0 cells)) 0) (λ q. gives-fail Place end) (λ q.
+    let s = lay-sized z x flags 0 g h c in
+    gives-as (λ l k. record { size = k .size ∙ s .size; below = k .below })
+    (gives-valuesInto n z (lay z x flags 0 cells) g t (s .below)))))))
