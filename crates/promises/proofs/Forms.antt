@@ -17,7 +17,7 @@ use Rattle.rules.specs.Located.{valuesOf, widthOf}
 use Rattle.rules.specs.Frame.{body, frame}
 use Rattle.rules.specs.Chooses.{countOf, every, leastS, markOf, bestS, riceBits, riceChoice, flagsFor, without, placesOf, numbersForm, methodOf, methodForm, valueForm, valuesForm, rowOf, locatedFlag, locatedForm, applies, formOf}
 use Rattle.rules.proofs.Octets.{Below, none, more, below-append, below-replicate, below-at, lowBits-below, bitsOf-below}
-use Rattle.rules.proofs.Signed.{Law}
+use Rattle.rules.proofs.Signed.{LawMask}
 use Rattle.rules.proofs.Firsts.{hasOwn}
 use Rattle.rules.proofs.Tests.{by-length}
 use Rattle.promises.proofs.Back.{Back, back-as}
@@ -143,7 +143,7 @@ rice-restores mask mark r s l m p q e =
           (back-plusMinus mask mark r s l m e p q);
     }
 
-pub located-restores : {mask : ℕ} → Law mask → (s : List ℕ) → isLength (length s) ≡ true → Below 256 s → Locates mask s → Restores mask 7 s (locatedForm mask s)
+pub located-restores : {mask : ℕ} → LawMask mask → (s : List ℕ) → isLength (length s) ≡ true → Below 256 s → Locates mask s → Restores mask 7 s (locatedForm mask s)
 unfolding body locatedForm
 located-restores {mask} law s l b a =
     record {
@@ -154,7 +154,7 @@ located-restores {mask} law s l b a =
     }
 
 -- every tool's form of every frame that it applies to
-pub form-restores : {mask : ℕ} → Law mask → (t : ℕ) (s : List ℕ) → isLength (length s) ≡ true → Below 256 s → 1 ≤ t → t ≤ 7 → applies mask t s ≡ true
+pub form-restores : {mask : ℕ} → LawMask mask → (t : ℕ) (s : List ℕ) → isLength (length s) ≡ true → Below 256 s → 1 ≤ t → t ≤ 7 → applies mask t s ≡ true
     → Restores mask t s (formOf mask t s)
 unfolding formOf applies riceChoice
 form-restores law zero s l b h k a = absurd (omega arith)

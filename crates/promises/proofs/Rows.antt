@@ -16,7 +16,7 @@ use Rattle.rules.specs.Samples.{signed, sampleOf, plusZero, minusZero, onLine}
 use Rattle.rules.specs.Located.{RangeCase, valuesInto, located, caseOf, valuesOf}
 use Rattle.rules.specs.Chooses.{countOf, valuesForm, leastOf, greatestOf, above, below, locatedFlag, rowOf, isRow, zeroLeads, applies}
 use Rattle.rules.proofs.Octets.{Below, none, more}
-use Rattle.rules.proofs.Signed.{InRange, Law, signed-range, told-by-line, sampleOf-one-to-one}
+use Rattle.rules.proofs.Signed.{InRange, LawMask, signed-range, told-by-line, sampleOf-one-to-one}
 use Rattle.rules.proofs.Tests.{and-left, and-right, allBelow, allBelow-at}
 use Rattle.promises.proofs.Back.{Back, back-give, back-bind, back-here, back-as, back-number}
 use Rattle.promises.proofs.Each.{Each, nothing, next, each-map, all, each-all}
@@ -47,14 +47,14 @@ value-not-zero : (v : ℤ) → isValue v ≡ true → v ≡ pos 0 → ⊥
 value-not-zero (pos y) e g = let z : y ≡ 0 = cc in omega (arith, leb-true 1 y (and-left (leb 1 y) (ltb y 128) e))
 value-not-zero (negsuc y) e g = let z : _≡_ {A = ℕ} 0 1 = cc in omega arith
 
-not-zeros : {mask : ℕ} → Law mask → {vs : List ℤ} → Each isValue vs → Each (λ x. not (eqb x (plusZero mask))) (map (sampleOf mask) vs)
+not-zeros : {mask : ℕ} → LawMask mask → {vs : List ℤ} → Each isValue vs → Each (λ x. not (eqb x (plusZero mask))) (map (sampleOf mask) vs)
 not-zeros l nothing = nothing
 not-zeros {mask} l (next {x = v} h t) =
     next (ap not (ne-eqb (sampleOf mask v) (plusZero mask) (λ e. value-not-zero v h (sampleOf-one-to-one l v (pos 0) (value-in-range v h) (omega arith) e))))
     (not-zeros l t)
 
 -- a sample whose place on the line is a value's is that value's
-told : {mask : ℕ} → Law mask → (x : ℕ) → x < 256 → (v : ℤ) → InRange v → line mask x ≡ onLine v → x ≡ sampleOf mask v
+told : {mask : ℕ} → LawMask mask → (x : ℕ) → x < 256 → (v : ℤ) → InRange v → line mask x ≡ onLine v → x ≡ sampleOf mask v
 told {mask} l x h v r e = sym (l .back x h) ∙ ap (sampleOf mask) (told-by-line (signed mask x) v (signed-range mask x) r e)
 
 or-right : (a : Bool) → a || true ≡ true
@@ -70,7 +70,7 @@ implied : (a b : Bool) → not a || b ≡ true → a ≡ true → b ≡ true
 implied true b e h = e
 implied false b e h = cc
 
-among-values : {mask : ℕ} → Law mask → (x : ℕ) → x < 256 → {vs : List ℤ} → Each isValue vs → among (map onLine vs) (line mask x) ≡ true
+among-values : {mask : ℕ} → LawMask mask → (x : ℕ) → x < 256 → {vs : List ℤ} → Each isValue vs → among (map onLine vs) (line mask x) ≡ true
     → among (map (sampleOf mask) vs) x ≡ true
 unfolding among
 among-values l x h nothing e = e
@@ -205,7 +205,7 @@ flag-fits mask s c r =
     rw (le-leb (below mask s) (above mask s) (omega arith)) refl))
 
 -- every sample is 0 or one of the values
-all-covered : {mask : ℕ} → Law mask → (s : List ℕ) (c : ℕ) → Below 256 s → IsRow mask s c
+all-covered : {mask : ℕ} → LawMask mask → (s : List ℕ) (c : ℕ) → Below 256 s → IsRow mask s c
     → Each (λ x. eqb x (plusZero mask) || among (map (sampleOf mask) (values c (locatedFlag mask s))) x) s
 all-covered {mask} law s c b r =
     let flag = locatedFlag mask s in
@@ -238,7 +238,7 @@ has-led mask x s v e h =
     let o : 1 ≤ countOf (λ y. eqb y (sampleOf mask v)) (x ∷ s) = rw (eq-eqb x (sampleOf mask v) e) (omega arith) in
     count-has (plusZero mask) (x ∷ s) (omega (arith, leb-true (countOf (λ y. eqb y (sampleOf mask v)) (x ∷ s)) (countOf (λ y. eqb y (plusZero mask)) (x ∷ s)) h))
 
-has-zero : {mask : ℕ} → Law mask → (x : ℕ) (s : List ℕ) → x < 256 → 126 ≤ line mask x → line mask x ≤ 129
+has-zero : {mask : ℕ} → LawMask mask → (x : ℕ) (s : List ℕ) → x < 256 → 126 ≤ line mask x → line mask x ≤ 129
     → zeroLeads mask (x ∷ s) (pos 1) ≡ true → zeroLeads mask (x ∷ s) (negsuc 0) ≡ true → zeroLeads mask (x ∷ s) (negsuc 1) ≡ true
     → Dec (line mask x ≡ 126) → Dec (line mask x ≡ 127) → Dec (line mask x ≡ 128) → Has (plusZero mask) (x ∷ s)
 has-zero {mask} l x s h a b p q r (yes e) d f = has-led mask x s (negsuc 1) (told l x h (negsuc 1) (omega arith) e) r
@@ -273,7 +273,7 @@ locates mask s e =
       minusTwo = and-right (a && b && c && d) f e;
     }
 
-has-some-zero : {mask : ℕ} → Law mask → {s : List ℕ} → Below 256 s → Locates mask s → (c : ℕ) → IsRow mask s c → Has (plusZero mask) s
+has-some-zero : {mask : ℕ} → LawMask mask → {s : List ℕ} → Below 256 s → Locates mask s → (c : ℕ) → IsRow mask s c → Has (plusZero mask) s
 unfolding leastOf greatestOf
 has-some-zero law none a c r = absurd (omega (arith, a .long))
 has-some-zero {mask} law (more {x = x} {l = s} h t) a c r =
@@ -290,7 +290,7 @@ unfolding valuesOf
 row-values mask s c flag r = rw (r .fits) refl
 
 -- Tool 7: "range case (2 bits), flag (1 bit), then the values below in turn"
-pub back-located : {mask : ℕ} → Law mask → (s : List ℕ) → Below 256 s → Locates mask s
+pub back-located : {mask : ℕ} → LawMask mask → (s : List ℕ) → Below 256 s → Locates mask s
     → Back (located mask (length s))
     (lowBits 2 (rowOf mask s) ++ (lowBits 1 (locatedFlag mask s)
     ++ valuesForm (map (sampleOf mask) (valuesOf (length s) (rowOf mask s) (locatedFlag mask s))) s)) s
