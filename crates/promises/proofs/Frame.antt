@@ -71,7 +71,7 @@ unfolding valueFrom
 value-append u [] b = refl
 value-append u (x ∷ a) b = value-append (2 * u + x) a b
 
-first-eight : (bits post : List ℕ) → 8 ≤ length bits → number 8 (bits ++ post) 0 ≡ whole (valueFrom 0 (take 8 bits)) 8
+pub first-eight : (bits post : List ℕ) → 8 ≤ length bits → number 8 (bits ++ post) 0 ≡ whole (valueFrom 0 (take 8 bits)) 8
 first-eight bits post h =
     let l : length (take 8 bits) ≡ 8 = length-take-le 8 bits h in
     let e : bits ++ post ≡ take 8 bits ++ (drop 8 bits ++ post) = rw (← (append-assoc (take 8 bits) (drop 8 bits) post), take-append-drop 8 bits) refl in

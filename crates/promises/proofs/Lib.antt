@@ -9,3 +9,5 @@ pub mod Frame
 pub mod Forms
 pub mod Chosen
 pub mod Written
+pub mod Reach
+pub mod Further
