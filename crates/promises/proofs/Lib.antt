@@ -11,3 +11,5 @@ pub mod Chosen
 pub mod Written
 pub mod Reach
 pub mod Further
+pub mod Walks
+pub mod Refused
