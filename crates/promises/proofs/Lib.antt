@@ -13,3 +13,4 @@ pub mod Reach
 pub mod Further
 pub mod Walks
 pub mod Refused
+pub mod Nesting

@@ -22,7 +22,7 @@ use Rattle.rules.specs.Bits.{octetsFrom, pack}
 use Rattle.rules.specs.Chooses.{declined, writeOne}
 use Rattle.rules.specs.Calls.{Reads, ReadFrame, Writes, WriteFrame, Walk}
 use Rattle.promises.proofs.Further.{cut}
-use Rattle.promises.proofs.Walks.{WalkOf, ended, refused, frame, uses, Walkable, walk-all-of, walk-all-only}
+use Rattle.promises.proofs.Walks.{WalkOf, ended, refused, delivers, uses, Walkable, walk-all-of, walk-all-only}
 
 -- what a walk that ended with refusal r is, from place `at` on
 record Broken (octets : List ℕ) (law set at room : ℕ) (r : Refusal) (w : Walked) : Type 0 where
@@ -54,7 +54,7 @@ broken {octets} {law} {set} {at} {room} r (refused {w = w} {bit = bit} h d) e =
       rest = rw (none, ← same) d;
       octets-kept = omega arith;
     }
-broken {octets} {law} {set} {at} {room} r (frame {f = f} {rest = w} h d t) e =
+broken {octets} {law} {set} {at} {room} r (delivers {f = f} {rest = w} h d t) e =
     let i = broken r t e in
     let u = uses octets law set at room h d in
     let p = w .place in
@@ -63,7 +63,7 @@ broken {octets} {law} {set} {at} {room} r (frame {f = f} {rest = w} h d t) e =
     record {
       from = omega (arith, i .from);
       inside = i .inside;
-      kept = frame {at = at} (omega (arith, length-take-le p octets (omega (arith, i .inside)), i .from)) (cut-at octets law set at p room (i .from) (omega (arith, i .inside)) d) (i .kept);
+      kept = delivers {at = at} (omega (arith, length-take-le p octets (omega (arith, i .inside)), i .from)) (cut-at octets law set at p room (i .from) (omega (arith, i .inside)) d) (i .kept);
       rest = rw m (i .rest);
       octets-kept = omega (arith, i .octets-kept);
     }

@@ -22,7 +22,7 @@ pub data WalkOf (octets : List ℕ) (law set : ℕ) : ℕ → ℕ → Walked →
   ended : {at room : ℕ} → length octets ≤ at → WalkOf octets law set at room (stopped Done at 0)
   refused : {at room : ℕ} {w : Refusal} {bit : ℕ} → at < length octets → readOne (drop at octets) law set room ≡ refuse w bit
       → WalkOf octets law set at room (stopped (Refused w) at bit)
-  frame : {at room : ℕ} {f : Found} {j : ℕ} {rest : Walked} → at < length octets → readOne (drop at octets) law set room ≡ whole f j
+  delivers : {at room : ℕ} {f : Found} {j : ℕ} {rest : Walked} → at < length octets → readOne (drop at octets) law set room ≡ whole f j
       → WalkOf octets law set (at + octetsUsed f) (room - length (f .samples)) rest
       → WalkOf octets law set at room (before (record { place = at; found = f }) rest)
 
@@ -50,7 +50,7 @@ walk-of (suc fuel) octets law set at room h =
     Later = (f : Found) → at < at + octetsUsed f → WalkOf octets law set (at + octetsUsed f) (room - length (f .samples)) (walkFrom fuel octets law set (at + octetsUsed f) (room - length (f .samples)))
 
     one : (m : Read Found) → readOne (drop at octets) law set room ≡ m → at < length octets → Later → WalkOf octets law set at room (onward m next stop)
-    one (whole f j) e l later = frame l e (later f (uses octets law set at room l e .0))
+    one (whole f j) e l later = delivers l e (later f (uses octets law set at room l e .0))
     one (refuse w bit) e l later = refused l e
 
     start : (b : Bool) → leb (length octets) at ≡ b → Later → WalkOf octets law set at room (cond b (stopped Done at 0) (onward (readOne (drop at octets) law set room) next stop))
@@ -72,8 +72,8 @@ walk-only (ended h) zero l = refl
 walk-only {octets = octets} {at = at} (ended h) (suc fuel) l = rw (le-leb (length octets) at h) refl
 walk-only (refused h e) zero l = absurd (omega arith)
 walk-only {octets = octets} {at = at} (refused h e) (suc fuel) l = rw (lt-leb (length octets) at h, e) refl
-walk-only (frame h e t) zero l = absurd (omega arith)
-walk-only {octets} {law} {set} {at} {room} (frame h e t) (suc fuel) l =
+walk-only (delivers h e t) zero l = absurd (omega arith)
+walk-only {octets} {law} {set} {at} {room} (delivers h e t) (suc fuel) l =
     let u = uses octets law set at room h e in
     rw (lt-leb (length octets) at h, e, walk-only t fuel (omega arith)) refl
 
