@@ -14,3 +14,4 @@ pub mod Further
 pub mod Walks
 pub mod Refused
 pub mod Nesting
+pub mod Lists

@@ -139,7 +139,7 @@ back n samples law set room w h b e reader room′ more i held r =
     rw c at (chosen-back law set (d .lawful) (d .odd) f reader room′ more i (rw (← c) at held) (omega (arith, length-take-le n samples h)))
 
 -- so also by any reader whose set holds the writer's
-tool-held : (mask set : ℕ) {s : List ℕ} → isWriterSet set ≡ true → Frames s → 1 ≤ chosen mask set s .tool → holds set (chosen mask set s .tool) ≡ true
+pub tool-held : (mask set : ℕ) {s : List ℕ} → isWriterSet set ≡ true → Frames s → 1 ≤ chosen mask set s .tool → holds set (chosen mask set s .tool) ≡ true
 tool-held mask set o pad h = absurd (omega (arith, (rw (chosen-pad mask set) at h)))
 tool-held mask set {s} o (full l b) h = rw (chosen-full mask set s l) (chosen-usable mask set s o .held)
 
