@@ -15,3 +15,4 @@ pub mod Walks
 pub mod Refused
 pub mod Nesting
 pub mod Lists
+pub mod Bounded

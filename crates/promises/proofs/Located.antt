@@ -42,7 +42,7 @@ fills-end {z} (empty {a = a} t) (next e h) = ap₂ _∷_ (sym (eqb-true a z e)) 
 fills-end (full {y = y} g t) h = ap (λ l. y ∷ l) (fills-end t h)
 
 -- a flag in front moves the places on by one
-lay-on : (z x f : ℕ) (flags : List ℕ) (p : ℕ) (cells : List ℕ) → lay z x (f ∷ flags) (suc p) cells ≡ lay z x flags p cells
+pub lay-on : (z x f : ℕ) (flags : List ℕ) (p : ℕ) (cells : List ℕ) → lay z x (f ∷ flags) (suc p) cells ≡ lay z x flags p cells
 unfolding lay
 lay-on z x f flags p [] = refl
 lay-on z x f flags p (y ∷ cells) = step (eqb y z) (lay-on z x f flags (p + 1) cells) (lay-on z x f flags p cells)

@@ -308,3 +308,24 @@ back-located {mask} law s b a =
     (valuesForm (map (sampleOf mask) (valuesOf n c flag)) s) s
     = λ start. rw (e, some) (back-values n z (map (sampleOf mask) (values c flag)) apart (fills-start z s) (all-covered law s c b r) (has-some-zero law b a c r) (omega arith)) in
     back-here _ (λ start. back-bind _ _ (back-number 2 c (r .small)) (back-bind _ _ (back-number 1 flag (flag-small mask s)) (on start)))
+
+-- whatever the row and the flag: three values at most, and none is 0
+pub record FewValues (n c flag : ℕ) : Type 0 where
+  pub few : length (valuesOf n c flag) ≤ 3
+  pub apart : {mask : ℕ} → LawMask mask → Each (λ x. not (eqb x (plusZero mask))) (map (sampleOf mask) (valuesOf n c flag))
+
+rows-few : allBelow (λ c. allBelow (λ flag. leb (length (values c flag)) 3) 2) 4 ≡ true
+unfolding caseOf
+rows-few = refl
+
+pub few-values : (n c flag : ℕ) → c < 4 → flag < 2 → FewValues n c flag
+unfolding valuesOf
+few-values n c flag h k = record { few = few (leb (caseOf c .from) n); apart = λ l. not-zeros l (good (leb (caseOf c .from) n)) }
+  where
+    few : (b : Bool) → length (cond b (values c flag) []) ≤ 3
+    few true = leb-true (length (values c flag)) 3 (two-at (λ c flag. leb (length (values c flag)) 3) rows-few c flag h k)
+    few false = omega arith
+
+    good : (b : Bool) → Each isValue (cond b (values c flag) [])
+    good true = each-all isValue (values c flag) (two-at (λ c flag. all isValue (values c flag)) rows-values c flag h k)
+    good false = nothing
