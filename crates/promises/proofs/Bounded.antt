@@ -1,31 +1,41 @@
 -- "An accepted one has at most 402 (320 empty runs with S = 9: 3,213 bits)."
-use Prim.Native.Nat.{ℕ, zero, suc, _+_, _*_, _-_, _^_, _/_, _%_, _≤_, _<_}
+use Prim.Native.Nat.{ℕ, zero, suc, _+_, _*_, _-_, _^_, _/_, _%_, _≤_, _<_, max}
 use native.Mathlib.Omega.{arith}
 use native.Mathlib.Nat.{mul-le-mul, mul-le-mul-left, mul-suc, div-add-mod'}
 use lib.Pow.{pow-mono, shr-le, high}
 use mathlib.Core.Path.{_≡_, refl, sym, ap, _∙_, subst}
-use mathlib.Core.List.{List, [], _∷_, _++_, map}
+use mathlib.Core.List.{List, [], _∷_, _++_, map, append-nil}
 use mathlib.Core.Bool.{Bool, true, false, cond, not, _&&_, _||_}
 use lib.ListN.{length, getD, replicate, length-append, length-replicate, length-map}
+use lib.IntN.{ℤ, pos, negsuc}
 use lib.Dec.{eqb, leb, ltb}
-use borrow.Author.Tests.{le-leb, eq-eqb, eqb-true, eqb-false, leb-true, leb-false, ltb-true, ltb-false, not-true}
+use borrow.Author.Tests.{le-leb, eq-eqb, ne-eqb, eqb-true, eqb-false, leb-true, leb-false, ltb-true, ltb-false, not-true}
 use Rattle.rules.specs.declared.Refusal.{Refusal}
-use Rattle.rules.specs.declared.Refusal.the-variants.{Align, Run, Place, Method, Case, Tool, Room}
-use Rattle.rules.specs.Bits.{lowBits}
-use Rattle.rules.specs.Reading.{Read, whole, refuse, Reader, andThen, _>>=_, give, fail, here, bit, numberFrom, number, bitsFrom, octetsAfter}
-use Rattle.rules.specs.Samples.{sampleOf, plusZero, minusZero}
-use Rattle.rules.specs.Runs.{zerosFrom, rice, runsFrom, runs}
-use Rattle.rules.specs.Zeros.{Tree, leaf, fork, treeOf, readTree, zeroOf}
+use Rattle.rules.specs.declared.Refusal.the-variants.{Align, Run, Place, Method, Case, Tool, Room, Set, Law}
+use Rattle.rules.specs.Tools.{holds, isSet, isLaw, isLength}
+use Rattle.rules.specs.Bits.{lowBits, bitsOf, octetsFor, fillFor, pack}
+use Rattle.rules.specs.Reading.{Read, whole, refuse, Reader, andThen, _>>=_, give, fail, here, from, bit, numberFrom, number, bitsFrom, octetsAfter, filled}
+use Rattle.rules.specs.Samples.{maskOf, sampleOf, plusZero, minusZero}
+use Rattle.rules.specs.Runs.{zerosFrom, rice, riceForm, runsFrom, runs, runsOf, riceForms, runsForm}
+use Rattle.rules.specs.Zeros.{Tree, leaf, fork, treeOf, readTree, zeroOf, flagOf, codesOf, codeOf, mostS, plusMinus, plusMinusForm}
+use Rattle.rules.specs.First.{baseOf, riceCode, First, unassigned, pad, tool, sixOrEight, rows, lookUp, firstOctet, markAt, sixNotEight}
+use Rattle.rules.specs.Frame.{Found, octetsUsed, body, withTool, afterFirst, frame, readOne}
 use Rattle.rules.specs.Located.{widthFrom, widthOf, listedFrom, listed, byMethod, emptyIn, lay, valuesInto, valuesOf, located}
 use Rattle.rules.specs.Chooses.{countOf}
-use Rattle.rules.proofs.Octets.{Below, none, more}
+use Rattle.rules.proofs.Octets.{Below, none, more, bitsOf-below, length-lowBits}
 use Rattle.rules.proofs.Signed.{LawMask, sampleOf-one-to-one, law-mask}
-use Rattle.rules.proofs.Gives.{Gives, gives-give, gives-here, gives-bit, gives-number, gives-zerosFrom, gives-rice, gives-byMethod, gives-readTree, Leaves, Sized}
-use Rattle.rules.proofs.Accepted.{Steps, through, steps}
+use Rattle.rules.proofs.Gives.{Gives, gives-give, gives-here, gives-bit, gives-number, gives-zerosFrom, gives-rice, gives-runsFrom, gives-byMethod, gives-readTree, Leaves, Sized}
+use Rattle.rules.proofs.Accepted.{Steps, through, steps, not-refused, filled-is, number-next}
+use Rattle.rules.proofs.Tests.{and-left, and-right, allBelow, allBelow-at, by-length}
 use Rattle.promises.proofs.Each.{Each, nothing, next}
+use Rattle.promises.proofs.Further.{SixOrEight, six, eight, six-or-eight, eight-out}
 use Rattle.promises.proofs.Located.{lay-on}
 use Rattle.promises.proofs.Rows.{few-values}
 use Rattle.promises.proofs.Methods.{ones}
+use Rattle.promises.proofs.Zeros.{isZero}
+use Rattle.promises.proofs.Forms.{rice-restores, plusMinusForm-below}
+use Rattle.promises.proofs.Written.{read-bits}
+use Rattle.promises.proofs.Frame.{foundAt}
 use Rattle.promises.proofs.Reach.{never, place-of, value-of, Near, near-fail, near-give, near-here, near-bit, near-then, near-cond, near-more}
 
 -- A reading's cost by what it gives: from place i to j, with c saved up and k of the value left, j + c is at most i + k
@@ -257,3 +267,208 @@ costs-located {mask} l n h =
     (costs-values n (plusZero mask) (replicate n (plusZero mask)) (v .apart l) (omega arith))))
     (λ flag s q. omega arith))
     (λ c s p. omega arith))
+
+-- the code of S
+depth : Tree → ℕ
+depth (leaf s) = 0
+depth (fork z o) = 1 + max (depth z) (depth o)
+
+near-tree : (t : Tree) → Near (depth t) (readTree t)
+unfolding readTree depth
+near-tree (leaf s) = near-give s
+near-tree (fork z o) =
+    near-then 1 (max (depth z) (depth o)) near-bit (λ a. near-cond (max (depth z) (depth o)) (eqb a 1)
+    (near-more (depth o) (max (depth z) (depth o)) (omega arith) (near-tree o)) (near-more (depth z) (max (depth z) (depth o)) (omega arith) (near-tree z)))
+
+tree-depth : (n : ℕ) → isLength n ≡ true → leb (depth (treeOf n)) 6 ≡ true
+unfolding treeOf depth
+tree-depth n l = by-length (λ n. leb (depth (treeOf n)) 6 ≡ true) refl refl refl refl refl n l
+
+tree-leaves : (n : ℕ) → isLength n ≡ true → Leaves (λ s. s ≤ 9) (treeOf n)
+unfolding treeOf
+tree-leaves n l = by-length (λ n. Leaves (λ s. s ≤ 9) (treeOf n)) (omega arith) (omega arith) (omega arith) (omega arith) (omega arith) n l
+
+at-most-320 : (n : ℕ) → isLength n ≡ true → n ≤ 320
+at-most-320 n l = by-length (λ n. n ≤ 320) (omega arith) (omega arith) (omega arith) (omega arith) (omega arith) n l
+
+costs-plusMinus : (mask n mark : ℕ) → isLength n ≡ true → Costs 0 (λ s. 6 + 10 * n) (plusMinus mask n mark)
+costs-plusMinus mask n mark l =
+    costs-then 0 (λ r. 6) (λ r. 0) (λ r s. 10 * n) 0 (λ s. 6 + 10 * n) (gives-readTree (λ s. s ≤ 9) (treeOf n) (tree-leaves n l))
+    (costs-near 6 (near-more (depth (treeOf n)) 6 (leb-true (depth (treeOf n)) 6 (tree-depth n l)) (near-tree (treeOf n))))
+    (λ r h. costs-then 0 (λ flags. 10 * n) (λ flags. 0) (λ flags s. 0) 0 (λ s. 10 * n) (gives-runsFrom n r n n [] (omega arith) none) (costs-runs n r n n [] h)
+    (λ flags q. costs-give 0 (λ s. 0) (map (zeroOf mask mark) flags) (omega arith))
+    (λ flags s q. omega arith))
+    (λ r s h. omega arith)
+
+-- the bodies of the other tools
+cheap : {A : Type 0} (k : ℕ) {p : Reader A} → k ≤ 2686 → Near k p → Costs 0 (λ s. 2686) p
+cheap k h g = costs-near 2686 (near-more k 2686 h g)
+
+costs-other : {mask : ℕ} → LawMask mask → (t n mark : ℕ) → n ≤ 320 → (t ≡ 6 → ⊥) → Costs 0 (λ s. 2686) (body mask t n mark)
+unfolding body
+costs-other {mask} l t n mark h ne =
+    costs-cond (eqb t 1) (λ e. cheap (8 * n) (omega arith) (near-octetsAfter [] n))
+    (λ e. costs-cond (eqb t 2) (λ e. cheap 0 (omega arith) (near-give (replicate n (plusZero mask))))
+    (λ e. costs-cond (eqb t 3) (λ e. cheap 0 (omega arith) (near-give (replicate n (minusZero mask))))
+    (λ e. costs-cond (eqb t 4) (λ e. cheap (8 + 0) (omega arith) (near-then 8 0 (near-numberFrom 0 8) (λ x. near-give (replicate n x))))
+    (λ e. costs-cond (eqb t 5) (λ e. cheap (n + 0) (omega arith) (near-then n 0 (near-bitsFrom [] n) (λ flags. near-give (map (zeroOf mask 0) flags))))
+    (λ e. costs-cond (eqb t 6) (λ e. absurd (ne (eqb-true t 6 e)))
+    (λ e. costs-located l n h))))))
+
+mark-low : (t : Bool) → cond t 6 4 ≤ 6
+mark-low true = omega arith
+mark-low false = omega arith
+
+-- a frame whose body begins at place i
+withTool-bits : (mask set room t n mark k : ℕ) {b : List ℕ} → Below 2 b → (i : ℕ) → i ≤ length b → Costs 0 (λ s. k) (body mask t n mark)
+    → {f : Found} {j : ℕ} → withTool mask set room t n mark b i ≡ whole f j → f .bits ≤ i + k
+unfolding withTool
+withTool-bits mask set room t n mark k {b} z i h g {f} {j} e =
+    let p = not-refused (not (holds set t)) (Tool t) 0 _ b i e in
+    let q = not-refused (ltb room n) Room 0 _ b i (p .1) in
+    go (steps (body mask t n mark b i) _ (q .1))
+  where
+    go : Steps (body mask t n mark b i) (λ s m. filled (record { tool = t; samples = s; bits = m }) (fillFor m) b m) f j → f .bits ≤ i + k
+    go (through s m d c) =
+        let w = filled-is (record { tool = t; samples = s; bits = m }) (fillFor m) b m c in
+        rw (← (w .0)) (omega (arith, g .goes b z i h s m d))
+
+costs-six : (mask n mark : ℕ) → isLength n ≡ true → Costs 0 (λ s. 6 + 10 * n) (body mask 6 n mark)
+unfolding body
+costs-six mask n mark l = costs-plusMinus mask n mark l
+
+-- no first octet is tool 6 without its second bit, and each has one of the five lengths
+abbrev plain : First → Bool
+plain unassigned = true
+plain pad = true
+plain (tool t n) = not (eqb t 6) && isLength n
+plain (sixOrEight n) = isLength n
+
+first-plain : (o : ℕ) → o < 256 → plain (firstOctet o) ≡ true
+unfolding firstOctet lookUp rows
+first-plain o h = allBelow-at (λ o. plain (firstOctet o)) 256 refl o h
+
+after-bits : {mask : ℕ} → LawMask mask → (set room : ℕ) (first : First) → plain first ≡ true → {b : List ℕ} → Below 2 b → 8 ≤ length b
+    → {f : Found} {j : ℕ} → afterFirst mask set room first b 8 ≡ whole f j → f .bits ≤ 3213
+unfolding afterFirst
+after-bits l set room unassigned p z h e = never e
+after-bits l set room pad p z h {f} {j} e = let v : record { tool = 0; samples = []; bits = 8 } ≡ f = value-of e in rw (← v) (omega arith)
+after-bits {mask} l set room (tool t n) p z h e =
+    let len = and-right (not (eqb t 6)) (isLength n) p in
+    let ne = eqb-false t 6 (not-true (eqb t 6) (and-left (not (eqb t 6)) (isLength n) p)) in
+    omega (arith, withTool-bits mask set room t n 0 2686 z 8 h (costs-other l t n 0 (at-most-320 n len) ne) e)
+after-bits {mask} l set room (sixOrEight n) p {b} z h {f} {j} e = go (steps (bit b (markAt n)) _ e)
+  where
+    early : markAt n ≤ 6
+    early = mark-low (leb 240 n)
+
+    decide : (mark t k : ℕ) → SixOrEight t → withTool mask set room t n mark b (markAt n + 1) ≡ whole f j → f .bits ≤ 3213
+    decide mark t k six d =
+        omega (arith, early, at-most-320 n p, withTool-bits mask set room 6 n mark (6 + 10 * n) z (markAt n + 1) (omega (arith, early)) (costs-six mask n mark p) d)
+    decide mark t k eight d = eight-out mask set room n mark b (markAt n + 1) d
+
+    decided : (mark m : ℕ) → Steps (sixNotEight b m) (λ t k. withTool mask set room t n mark b (markAt n + 1)) f j → f .bits ≤ 3213
+    decided mark m (through t k q d) = decide mark t k (six-or-eight b m t k q) d
+
+    go : Steps (bit b (markAt n)) (λ mark m. (sixNotEight >>= (λ t. from (markAt n + 1) (withTool mask set room t n mark))) b m) f j → f .bits ≤ 3213
+    go (through mark m q d) = decided mark m (steps (sixNotEight b m) _ d)
+
+frame-bits : {mask : ℕ} → LawMask mask → (set room : ℕ) {b : List ℕ} → Below 2 b → {f : Found} {j : ℕ} → frame mask set room b 0 ≡ whole f j → f .bits ≤ 3213
+unfolding frame
+frame-bits {mask} l set room {b} z {f} {j} e = go (steps (number 8 b 0) _ e)
+  where
+    go : Steps (number 8 b 0) (λ o k. afterFirst mask set room (firstOctet o) b k) f j → f .bits ≤ 3213
+    go (through o k q d) =
+        let g = gives-number 8 .on z (omega arith) q in
+        let p : 8 ≡ k = number-next 0 8 b 0 q in
+        after-bits l set room (firstOctet o) (first-plain o (g .2)) z (omega (arith, g .1)) (rw (← p) at d)
+
+-- Bounded: "An accepted one has at most 402", 3,213 bits
+pub bounded : (octets : List ℕ) (law set room : ℕ) {f : Found} {j : ℕ} → readOne octets law set room ≡ whole f j → (f .bits ≤ 3213) × (octetsUsed f ≤ 402)
+unfolding readOne
+bounded octets law set room e =
+    let p = not-refused (not (isLaw law)) Law 0 _ (bitsOf octets) 0 e in
+    let q = not-refused (not (isSet set)) Set 0 _ (bitsOf octets) 0 (p .1) in
+    let b = frame-bits (law-mask law) set room (bitsOf-below octets) (q .1) in
+    (b, omega arith)
+
+-- It is reached: 320 of the rare zero, each an empty run, with S = 9
+runs-of-rare : (n : ℕ) → runsOf 0 (replicate n 1) ≡ replicate n 0
+unfolding runsOf
+runs-of-rare zero = refl
+runs-of-rare (suc n) = ap (λ l. 0 ∷ l) (runs-of-rare n)
+
+empty-runs : (n : ℕ) → length (riceForms 9 (replicate n 0)) ≡ 10 * n
+unfolding riceForms riceForm
+empty-runs zero = refl
+empty-runs (suc n) = let e = empty-runs n in simp (length-append, length-lowBits) (omega arith)
+
+map-replicate : (f : ℕ → ℕ) (n x : ℕ) → map f (replicate n x) ≡ replicate n (f x)
+map-replicate f zero x = refl
+map-replicate f (suc n) x = ap (λ l. f x ∷ l) (map-replicate f n x)
+
+each-replicate : (p : ℕ → Bool) (n x : ℕ) → p x ≡ true → Each p (replicate n x)
+each-replicate p zero x h = nothing
+each-replicate p (suc n) x h = next h (each-replicate p n x h)
+
+zeros-differ : {mask : ℕ} → LawMask mask → eqb (minusZero mask) (plusZero mask) ≡ false
+zeros-differ {mask} l =
+    ne-eqb (minusZero mask) (plusZero mask)
+    (λ e. let d : negsuc 0 ≡ pos 0 = sampleOf-one-to-one l (negsuc 0) (pos 0) (omega arith) (omega arith) e in let z : _≡_ {A = ℕ} 0 1 = cc in omega arith)
+
+-- n of the rare zero, written with the mark for the other
+unfoldable pub rareFrame : ℕ → ℕ → List ℕ
+rareFrame mask n = replicate n (minusZero mask)
+
+pub rare-length : (mask n : ℕ) → length (rareFrame mask n) ≡ n
+unfolding rareFrame
+rare-length mask n = length-replicate n (minusZero mask)
+
+rare-flags : {mask : ℕ} → LawMask mask → (n : ℕ) → map (flagOf mask 0) (rareFrame mask n) ≡ replicate n 1
+unfolding rareFrame
+rare-flags {mask} l n =
+    let flag : flagOf mask 0 (minusZero mask) ≡ 1 = rw (zeros-differ l) refl in
+    map-replicate (flagOf mask 0) n (minusZero mask) ∙ ap (replicate n) flag
+
+rare-zeros : (mask n : ℕ) → Each (isZero mask) (rareFrame mask n)
+unfolding rareFrame
+rare-zeros mask n = each-replicate (isZero mask) n (minusZero mask) (rw (eq-eqb (minusZero mask) (minusZero mask) refl) (or-true (eqb (minusZero mask) (plusZero mask))))
+  where
+    or-true : (a : Bool) → a || true ≡ true
+    or-true true = refl
+    or-true false = refl
+
+rare-bits : {mask : ℕ} → LawMask mask → (n : ℕ) → length (plusMinusForm mask 0 9 (rareFrame mask n)) ≡ length (riceCode n 0) + (length (codeOf n 9) + 10 * n)
+rare-bits {mask} l n =
+    rw (rare-length mask n, rare-flags l n, runs-of-rare n)
+    (length-append (riceCode n 0) (codeOf n 9 ++ riceForms 9 (replicate n 0)) ∙ ap (λ k. length (riceCode n 0) + k)
+    (length-append (codeOf n 9) (riceForms 9 (replicate n 0)) ∙ ap (λ k. length (codeOf n 9) + k) (empty-runs n)))
+
+pub longest-bits : (law : ℕ) → length (plusMinusForm (maskOf law) 0 9 (rareFrame (maskOf law) 320)) ≡ 3213
+unfolding baseOf lowBits codesOf
+longest-bits law = rare-bits (law-mask law) 320
+
+length-320 : (mask : ℕ) → isLength (length (rareFrame mask 320)) ≡ true
+length-320 mask = rw (rare-length mask 320) refl
+
+nine : (mask : ℕ) → 9 ≤ mostS (length (rareFrame mask 320))
+unfolding codesOf
+nine mask = rw (rare-length mask 320) (omega arith)
+
+six-held : holds 127 6 ≡ true
+unfolding holds
+six-held = refl
+
+-- the octets that a reader of either law accepts as that frame: 402 of them
+pub longest-read : (law : ℕ) → isLaw law ≡ true
+    → readOne (pack (plusMinusForm (maskOf law) 0 9 (rareFrame (maskOf law) 320))) law 127 320 ≡ foundAt 6 (rareFrame (maskOf law) 320) 3213
+longest-read law i =
+    let mask = maskOf law in
+    let s = rareFrame mask 320 in
+    let form = plusMinusForm mask 0 9 s in
+    let l = length-320 mask in
+    let most = nine mask in
+    let e : readOne (pack form ++ []) law 127 320 ≡ foundAt 6 s (length form)
+    = read-bits law 127 320 [] i refl (plusMinusForm-below mask 0 9 s l (omega arith) (omega arith) most)
+    ∙ rice-restores mask 0 9 s l (omega arith) (omega arith) most (rare-zeros mask 320) .reads 127 320 (bitsOf []) six-held (omega (arith, rare-length mask 320)) in
+    rw (append-nil (pack form), longest-bits law) at e

@@ -57,7 +57,7 @@ unfolding valuesForm
 valuesForm-below [] left = none
 valuesForm-below (x ∷ xs) left = below-append (valueForm-below (flagsFor x left) (value-flags-below x left)) (valuesForm-below xs (without x left))
 
-plusMinusForm-below : (mask mark r : ℕ) (s : List ℕ) → isLength (length s) ≡ true → mark < 2 → 1 ≤ r → r ≤ mostS (length s) → Below 2 (plusMinusForm mask mark r s)
+pub plusMinusForm-below : (mask mark r : ℕ) (s : List ℕ) → isLength (length s) ≡ true → mark < 2 → 1 ≤ r → r ≤ mostS (length s) → Below 2 (plusMinusForm mask mark r s)
 plusMinusForm-below mask mark r s l m h k =
     below-append (code-below (length s) mark l m) (below-append (codeOf-below (length s) r l h k) (riceForms-below r (runsOf 0 (map (flagOf mask mark) s))))
 

@@ -200,7 +200,7 @@ far-six mask set room n mark =
     (λ s. far-firm (firm-bind firm-here (λ bits. firm-filled (record { tool = 6; samples = s; bits = bits }) (fillFor bits))))))
 
 -- tool 8 is in no set
-eight-out : (mask set room n mark : ℕ) (b : List ℕ) (i : ℕ) {f : Found} {j : ℕ} {X : Type 0} → withTool mask set room 8 n mark b i ≡ whole f j → X
+pub eight-out : (mask set room n mark : ℕ) (b : List ℕ) (i : ℕ) {f : Found} {j : ℕ} {X : Type 0} → withTool mask set room 8 n mark b i ≡ whole f j → X
 unfolding withTool holds
 eight-out mask set room n mark b i e = never e
 
@@ -209,11 +209,11 @@ unfolding sixNotEight
 firm-six = firm-bind firm-bit (λ a. firm-cond (eqb a 1) (firm-give 6) (firm-bind firm-bit (λ b. firm-cond (eqb b 1) (firm-give 6) (firm-give 8))))
 
 -- the tool is 6 or 8, decided by two bits at most
-data SixOrEight : ℕ → Type 0 where
+pub data SixOrEight : ℕ → Type 0 where
   six : SixOrEight 6
   eight : SixOrEight 8
 
-six-or-eight : (b : List ℕ) (i t k : ℕ) → sixNotEight b i ≡ whole t k → SixOrEight t
+pub six-or-eight : (b : List ℕ) (i t k : ℕ) → sixNotEight b i ≡ whole t k → SixOrEight t
 unfolding sixNotEight
 six-or-eight b i t k e = go (steps (bit b i) (λ a l. cond (eqb a 1) (give 6) (bit >>= (λ c. cond (eqb c 1) (give 6) (give 8))) b l) e)
   where
@@ -246,7 +246,7 @@ bit-there : (b c : List ℕ) (i : ℕ) → i < length b → (bit b i ≡ whole (
 unfolding bit
 bit-there b c i h = (rw (lt-ltb i (length b) h) refl, rw (lt-ltb i (length (b ++ c)) (omega (arith, length-append b c)), List·getD-append b c 0 i h) refl)
 
-mark-first : (n : ℕ) → markAt n < 8
+pub mark-first : (n : ℕ) → markAt n < 8
 mark-first n = go (leb 240 n)
   where
     go : (t : Bool) → cond t 6 4 < 8

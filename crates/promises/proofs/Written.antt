@@ -87,7 +87,7 @@ unfolding chosen
 chosen-full mask set s l = rw (ne-eqb (length s) 0 (length-not-zero (length s) l)) refl
 
 -- From bits to octets: what a frame is read from
-read-bits : (law set room : ℕ) {b : List ℕ} (more : List ℕ) → isLaw law ≡ true → isSet set ≡ true → Below 2 b
+pub read-bits : (law set room : ℕ) {b : List ℕ} (more : List ℕ) → isLaw law ≡ true → isSet set ≡ true → Below 2 b
     → readOne (pack b ++ more) law set room ≡ frame (maskOf law) set room (filledBits b ++ bitsOf more) 0
 unfolding readOne
 read-bits law set room {b} more l s low = rw (l, s, bitsOf-append (pack b) more, bitsOf-pack low) refl
