@@ -1,0 +1,17 @@
+pub mod Back
+pub mod Each
+pub mod Runs
+pub mod Zeros
+pub mod Methods
+pub mod Located
+pub mod Rows
+pub mod Frame
+pub mod Forms
+pub mod Chosen
+pub mod Written
+pub mod Reach
+pub mod Further
+pub mod Walks
+pub mod Refused
+pub mod Nesting
+pub mod Lists
