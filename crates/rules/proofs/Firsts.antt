@@ -1,0 +1,106 @@
+-- The first octets (specs/First): which are not assigned, and which begin each carried tool and length.
+-- Each rule is one test over all 256.
+use Prim.Native.Nat.{ℕ, _+_, _-_, _/_, _%_, _^_, _≤_, _<_}
+use mathlib.Core.Path.{_≡_, refl, sym, ap, ap₂, _∙_}
+use mathlib.Core.List.{List, [], _∷_, _++_}
+use mathlib.Core.Bool.{Bool, true, false, Bool·beq, not, cond, _&&_, _||_, false≢true}
+use lib.Dec.{eqb, leb}
+use lib.ListN.{length}
+use borrow.Author.Tests.{eqb-true}
+use Rattle.rules.specs.Tools.{isLength}
+use Rattle.rules.specs.Bits.{lowBits, valueFrom}
+use Rattle.rules.specs.First.{First, unassigned, pad, tool, sixOrEight, rows, lookUp, firstOctet, baseOf, isLong, octetFor, riceCode}
+use Rattle.rules.proofs.Tests.{and-left, and-right, allBelow, allBelow-at, by-length}
+
+abbrev oneOf : List ℕ → ℕ → Bool
+oneOf [] o = false
+oneOf (x ∷ xs) o = eqb o x || oneOf xs o
+
+-- PREFIX is exactly 01, 46, 47, 85, 87 to 8F, C5, C7
+abbrev pub isPrefix : ℕ → Bool
+isPrefix o = oneOf (0x01 ∷ 0x46 ∷ 0x47 ∷ 0x85 ∷ 0xC5 ∷ 0xC7 ∷ []) o || (leb 0x87 o && leb o 0x8F)
+
+abbrev pub isUnassigned : First → Bool
+isUnassigned unassigned = true
+isUnassigned pad = false
+isUnassigned (tool t n) = false
+isUnassigned (sixOrEight n) = false
+
+beq-eq : (a b : Bool) → Bool·beq a b ≡ true → a ≡ b
+beq-eq true true e = refl
+beq-eq true false e = sym e
+beq-eq false true e = e
+beq-eq false false e = refl
+
+pub prefix-exactly : (o : ℕ) → o < 256 → isUnassigned (firstOctet o) ≡ isPrefix o
+unfolding firstOctet lookUp rows
+prefix-exactly o h =
+    beq-eq (isUnassigned (firstOctet o)) (isPrefix o) (allBelow-at (λ o. Bool·beq (isUnassigned (firstOctet o)) (isPrefix o)) 256 refl o h)
+
+-- A carried tool's first octet, and tool 6's length and three bits, are those that a writer gives it; and the length is one of the five.
+abbrev pub asWritten : ℕ → First → Bool
+asWritten o unassigned = true
+asWritten o pad = eqb o 0
+asWritten o (tool t n) = isLength n && (leb 8 t || eqb o (octetFor t n))
+asWritten o (sixOrEight n) =
+    isLength n && eqb (o / 2 ^ (8 - length (riceCode n 0)) / 2) (valueFrom 0 (riceCode n 0) / 2)
+
+pub first-as-written : (o : ℕ) → o < 256 → asWritten o (firstOctet o) ≡ true
+unfolding firstOctet lookUp rows baseOf lowBits valueFrom
+first-as-written o h = allBelow-at (λ o. asWritten o (firstOctet o)) 256 refl o h
+
+-- And what a writer gives is read as that tool and length: tools 1 to 5, and 7 from 80 samples on.
+abbrev pub hasOwn : ℕ → ℕ → Bool
+hasOwn n t = (leb 1 t && leb t 5) || (eqb t 7 && leb 80 n)
+
+abbrev isTool : ℕ → ℕ → First → Bool
+isTool t n unassigned = false
+isTool t n pad = false
+isTool t n (tool u m) = eqb u t && eqb m n
+isTool t n (sixOrEight m) = false
+
+is-tool : (t n : ℕ) (f : First) → isTool t n f ≡ true → f ≡ tool t n
+is-tool t n unassigned h = absurd (false≢true h)
+is-tool t n pad h = absurd (false≢true h)
+is-tool t n (tool u m) h = ap₂ tool (eqb-true u t (and-left (eqb u t) (eqb m n) h)) (eqb-true m n (and-right (eqb u t) (eqb m n) h))
+is-tool t n (sixOrEight m) h = absurd (false≢true h)
+
+abbrev own : ℕ → ℕ → Bool
+own n t = not (hasOwn n t) || isTool t n (firstOctet (octetFor t n))
+
+implied : (a b : Bool) → (not a || b) ≡ true → a ≡ true → b ≡ true
+implied true b h e = h
+implied false b h e = absurd (false≢true e)
+
+pub first-of : (n t : ℕ) → isLength n ≡ true → t < 8 → hasOwn n t ≡ true → firstOctet (octetFor t n) ≡ tool t n
+unfolding firstOctet lookUp rows baseOf
+first-of n t l h e =
+    is-tool t n (firstOctet (octetFor t n))
+    (implied (hasOwn n t) (isTool t n (firstOctet (octetFor t n)))
+    (allBelow-at (own n) 8 (by-length (λ n. allBelow (own n) 8 ≡ true) refl refl refl refl refl n l) t h) e)
+
+-- An octet that begins with tool 6's code of a length is tool 6 or 8 of that length.
+abbrev pub beginsRice : ℕ → ℕ → ℕ → Bool
+beginsRice n mark o = eqb (o / 2 ^ (8 - length (riceCode n mark))) (valueFrom 0 (riceCode n mark))
+
+abbrev isSix : ℕ → First → Bool
+isSix n unassigned = false
+isSix n pad = false
+isSix n (tool t m) = false
+isSix n (sixOrEight m) = eqb m n
+
+is-six : (n : ℕ) (f : First) → isSix n f ≡ true → f ≡ sixOrEight n
+is-six n unassigned h = absurd (false≢true h)
+is-six n pad h = absurd (false≢true h)
+is-six n (tool t m) h = absurd (false≢true h)
+is-six n (sixOrEight m) h = ap sixOrEight (eqb-true m n h)
+
+abbrev six : ℕ → ℕ → ℕ → Bool
+six n mark o = not (beginsRice n mark o) || isSix n (firstOctet o)
+
+pub first-of-six : (n mark o : ℕ) → isLength n ≡ true → mark < 2 → o < 256 → beginsRice n mark o ≡ true → firstOctet o ≡ sixOrEight n
+unfolding firstOctet lookUp rows baseOf lowBits valueFrom
+first-of-six n mark o l h g e =
+    is-six n (firstOctet o) (implied (beginsRice n mark o) (isSix n (firstOctet o))
+    (allBelow-at (six n mark) 256 (allBelow-at (λ mark. allBelow (six n mark) 256) 2
+    (by-length (λ n. allBelow (λ mark. allBelow (six n mark) 256) 2 ≡ true) refl refl refl refl refl n l) mark h) o g) e)

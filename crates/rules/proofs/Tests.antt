@@ -1,0 +1,51 @@
+-- A rule of all numbers below n, by one test that is computed; and what a test that joins two says of each.
+use Prim.Native.Nat.{ℕ, zero, suc, _≤_, _<_}
+use mathlib.Core.Path.{_≡_, refl, sym, subst}
+use mathlib.Core.Bool.{Bool, true, false, _&&_, _||_}
+use native.Mathlib.Nat.{not-suc-le-zero}
+use native.Mathlib.Omega.{arith}
+use native.Mathlib.Decide.{ℕ-discrete}
+use lib.Dec.{eqb}
+use borrow.Author.Tests.{eqb-true}
+use Rattle.rules.specs.Tools.{isLength}
+
+pub and-left : (a b : Bool) → (a && b) ≡ true → a ≡ true
+and-left true b e = refl
+and-left false b e = e
+
+pub and-right : (a b : Bool) → (a && b) ≡ true → b ≡ true
+and-right true b e = e
+and-right false b e = absurd (subst (λ (t : Bool). isFalse t) e tt)
+  where
+    isFalse : Bool → Type 0
+    isFalse true = ⊥
+    isFalse false = Unit {0}
+
+abbrev pub allBelow : (ℕ → Bool) → ℕ → Bool
+allBelow f zero = true
+allBelow f (suc n) = f n && allBelow f n
+
+all-at : (f : ℕ → Bool) (n k : ℕ) → (allBelow f n ≡ true → k < n → f k ≡ true) → f n ≡ true → allBelow f n ≡ true → k < suc n → Dec (k ≡ n) → f k ≡ true
+all-at f n k ih here below h (yes e) = subst (λ (m : ℕ). f m ≡ true) (sym e) here
+all-at f n k ih here below h (no e) = ih below (omega arith)
+
+pub allBelow-at : (f : ℕ → Bool) (n : ℕ) → allBelow f n ≡ true → (k : ℕ) → k < n → f k ≡ true
+allBelow-at f zero t k h = absurd (not-suc-le-zero h)
+allBelow-at f (suc n) t k h =
+    all-at f n k (λ u g. allBelow-at f n u k g) (and-left (f n) (allBelow f n) t) (and-right (f n) (allBelow f n) t) h (ℕ-discrete k n)
+
+-- a test that one of two passes
+pub or-cases {ℓ} : (P : Type ℓ) (a b : Bool) → (a || b) ≡ true → (a ≡ true → P) → (b ≡ true → P) → P
+or-cases P true b e f g = f refl
+or-cases P false b e f g = g e
+
+-- what holds of the five lengths holds of every length
+pub by-length : (P : ℕ → Type 0) → P 40 → P 80 → P 160 → P 240 → P 320 → (n : ℕ) → isLength n ≡ true → P n
+by-length P a b c d e n h =
+    or-cases (P n) (eqb n 40 || eqb n 80 || eqb n 160 || eqb n 240) (eqb n 320) h (λ h.
+    or-cases (P n) (eqb n 40 || eqb n 80 || eqb n 160) (eqb n 240) h (λ h.
+    or-cases (P n) (eqb n 40 || eqb n 80) (eqb n 160) h (λ h.
+    or-cases (P n) (eqb n 40) (eqb n 80) h (is 40 a) (is 80 b)) (is 160 c)) (is 240 d)) (is 320 e)
+  where
+    is : (m : ℕ) → P m → eqb n m ≡ true → P n
+    is m p h = subst P (sym (eqb-true n m h)) p
