@@ -3,12 +3,12 @@ use mathlib.Core.Path.{_≡_, refl, ap}
 use mathlib.Core.Bool.{Bool, true, false, _&&_}
 use mathlib.Core.List.{List, [], _∷_}
 use Prim.Native.Nat.{ℕ, zero, suc, _+_, _*_, _<_}
-use lib.ListN.{length, getD}
+use lib.ListN.{getD}
 use lib.Dec.{eqb}
 use borrow.Author.Tests.{eqb-true}
 use Rattle.rules.specs.First.{First, unassigned, pad, tool, sixOrEight, rows, lookUp, firstOctet}
 use Rattle.prefix.specs.Answers.{entryTells}
-use Rattle.prefix.proofs.Table.{every, both-left, both-right, at}
+use Rattle.rules.proofs.Tests.{and-left, and-right, allBelow, allBelow-at}
 
 -- two answers of the map are the same
 abbrev same : First → First → Bool
@@ -29,18 +29,18 @@ told pad (sixOrEight m) t = cc
 told (tool v n) unassigned t = cc
 told (tool v n) pad t = cc
 told (tool v n) (tool u m) t =
-    rw (eqb-true v u (both-left (eqb v u) (eqb n m) t), eqb-true n m (both-right (eqb v u) (eqb n m) t))
+    rw (eqb-true v u (and-left (eqb v u) (eqb n m) t), eqb-true n m (and-right (eqb v u) (eqb n m) t))
 told (tool v n) (sixOrEight m) t = cc
 told (sixOrEight n) unassigned t = cc
 told (sixOrEight n) pad t = cc
 told (sixOrEight n) (tool u m) t = cc
 told (sixOrEight n) (sixOrEight m) t = ap sixOrEight (eqb-true n m t)
 
-abbrev right : ℕ → ℕ → Bool
-right o e = same (entryTells e) (firstOctet o)
+abbrev right : List ℕ → ℕ → Bool
+right xs o = same (entryTells (getD xs o 0)) (firstOctet o)
 
-pub rule : (xs : List ℕ) → every right 0 xs ≡ true → (o : ℕ) → o < length xs → entryTells (getD xs o 0) ≡ firstOctet o
-rule xs t o h = told _ _ (at right xs t o h)
+pub rule : (xs : List ℕ) → allBelow (right xs) 256 ≡ true → (o : ℕ) → o < 256 → entryTells (getD xs o 0) ≡ firstOctet o
+rule xs t o h = told _ _ (allBelow-at (right xs) 256 t o h)
 
 -- the entries from octet o on, so many of them, as the rows have them
 abbrev entryFor : First → ℕ
