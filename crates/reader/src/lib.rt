@@ -1,11 +1,11 @@
 // Reading one frame: "in a frame PREFIX, tool decided, TOOL, ROOM, then body checks as the bits come, ALIGN last".
 ghost use mathlib.Core.Path.{_≡_};
-ghost use Prim.Native.Nat.{ℕ, _+_, _*_, _/_, _≤_, _<_};
+ghost use Prim.Native.Nat.{ℕ, _+_, _*_, _/_, _^_, _≤_, _<_};
 ghost use mathlib.Core.Bool.{true};
 ghost use lib.ListN.{length};
 ghost use Rattle.rules.specs.Tools.{isLength};
 ghost use Rattle.rules.specs.Bits.{bitsOf, fillFor};
-ghost use Rattle.rules.specs.Reading.{filled};
+ghost use Rattle.rules.specs.Reading.{filled, refuse};
 ghost use Rattle.rules.specs.First.{markAt, sixNotEight};
 ghost use Rattle.rules.specs.Refusals.{refusalTool};
 ghost use Rattle.bits.specs.Outcomes.{asRead, Reads};
@@ -93,5 +93,58 @@ pub fn opening_of(octets: &[u8]) -> Opening
             at: 8,
         }),
         Begins::SixOrEight(n) => six_or_eight(octets, n),
+    }
+}
+
+// "ALIGN last": the bits that fill a frame's last octet, from the frame's end on.
+fn filling(octets: &[u8], end: usize) -> Outcome
+    requires { ⌜ (end ≤ 8 * length (now octets)) × (end ≤ 2 ^ 41) ⌝ }
+    ensures { λ r. ⌜ asRead r ≡ filled 0 (fillFor end) (bitsOf (now (octets .entry))) end ⌝ }
+{
+    let mut at = end;
+    while at % 8 != 0 {
+        if bits::bit_at(octets, at) == 1 {
+            return Outcome::Refused(Refusal::Align, at);
+        }
+        at += 1;
+    }
+    Outcome::Got(0, at)
+}
+
+// "tool 0, save that TOOL gives the tool"
+fn tool_named(why: Refusal) -> u32
+    ensures { λ r. ⌜ r ≡ refusalTool why ⌝ }
+{
+    match why {
+        Refusal::Tool(t) => t,
+        Refusal::Short => 0,
+        Refusal::Prefix => 0,
+        Refusal::Room => 0,
+        Refusal::Case => 0,
+        Refusal::Method => 0,
+        Refusal::Run => 0,
+        Refusal::Place => 0,
+        Refusal::Align => 0,
+        Refusal::Length => 0,
+        Refusal::Set => 0,
+        Refusal::Law => 0,
+        Refusal::Long => 0,
+    }
+}
+
+// "A refused single call .. reports 0 samples (its frame all 00), 0 octets used, 0 bits and tool 0, save that TOOL gives the tool."
+fn refused(why: Refusal) -> ReadAnswer
+    ensures { λ r. ⌜ ((at : ℕ) → Tells (refuse why at) r) ⌝ }
+{
+    let tool = tool_named(why);
+    ReadAnswer {
+        end: Ending::Refused(why),
+        frame: Frame {
+            samples: [0; 320],
+            len: 0,
+        },
+        octets: 0,
+        bits: 0,
+        tool,
     }
 }
