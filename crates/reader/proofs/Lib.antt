@@ -1,3 +1,4 @@
 pub mod Six
 pub mod Opened
 pub mod Filled
+pub mod Copied

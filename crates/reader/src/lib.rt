@@ -2,7 +2,8 @@
 ghost use mathlib.Core.Path.{_≡_};
 ghost use Prim.Native.Nat.{ℕ, _+_, _*_, _/_, _^_, _≤_, _<_};
 ghost use mathlib.Core.Bool.{true};
-ghost use lib.ListN.{length};
+ghost use mathlib.Core.List.{_++_};
+ghost use lib.ListN.{length, take, drop};
 ghost use Rattle.rules.specs.Tools.{isLength};
 ghost use Rattle.rules.specs.Bits.{bitsOf, fillFor};
 ghost use Rattle.rules.specs.Reading.{filled, refuse};
@@ -146,5 +147,17 @@ fn refused(why: Refusal) -> ReadAnswer
         octets: 0,
         bits: 0,
         tool,
+    }
+}
+
+// The first n samples to the start of the output; the rest of it stays as lent.
+fn put_out(samples: &[u8; 320], n: usize, out: &mut [u8])
+    requires { ⌜ (n ≤ 320) × (n ≤ length (now samples)) × (n ≤ length (now out)) ⌝ }
+    ensures { λ r. ⌜ now (out .exit) ≡ take n (now (samples .entry)) ++ drop n (now (out .entry)) ⌝ }
+{
+    let mut i = 0;
+    while i < n {
+        out[i] = samples[i];
+        i += 1;
     }
 }
