@@ -51,3 +51,8 @@ module _ {A B : Type 0} (a : A) (c : B) where
   unfolding filled
   filled-as zero b i = refl
   filled-as (suc n) b i = by-bit n b i (bit b i) (λ j. filled-as n b j)
+
+-- what the filling bits of 0 were read as, m, tells what those of any value are read as
+pub filled-by : {A : Type 0} (a : A) (n : ℕ) (b : List ℕ) (i : ℕ) (m : Read ℕ) → m ≡ filled 0 n b i
+    → andThen m (λ x j. whole a j) ≡ filled a n b i
+filled-by {A} a n b i m e = ap (λ (m : Read ℕ). andThen m (λ x j. whole a j)) e ∙ sym (filled-as a 0 n b i)

@@ -24,6 +24,7 @@ pub record HeadFits (h : Head) : Type 0 where
   pub len : isLength (h .len) ≡ true
   pub mark : h .mark < 2
   pub at : h .at ≤ 8
+  pub whole-octet : h .tool ≤ 5 → h .at ≡ 8
 
 abbrev pub Ranges : Opening → Type 0
 Ranges (Refused w at) = Unit {0}

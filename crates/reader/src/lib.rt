@@ -2,16 +2,17 @@
 ghost use mathlib.Core.Path.{_≡_};
 ghost use Prim.Native.Nat.{ℕ, _+_, _*_, _/_, _^_, _≤_, _<_};
 ghost use mathlib.Core.Bool.{true};
-ghost use mathlib.Core.List.{_++_};
+ghost use mathlib.Core.List.{List, _++_};
 ghost use lib.ListN.{length, take, drop};
 ghost use Rattle.rules.specs.Tools.{isLength};
 ghost use Rattle.rules.specs.Bits.{bitsOf, fillFor};
 ghost use Rattle.rules.specs.Reading.{filled, refuse};
 ghost use Rattle.rules.specs.First.{markAt, sixNotEight};
 ghost use Rattle.rules.specs.Refusals.{refusalTool};
+ghost use Rattle.rules.specs.Calls.{IsFrame};
 ghost use Rattle.bits.specs.Outcomes.{asRead, Reads};
 ghost use Rattle.reader.specs.Opening.{Opens, SixOrEight};
-ghost use Rattle.reader.specs.Answers.{Tells};
+ghost use Rattle.reader.specs.Answers.{Tells, finish};
 use bits::Outcome;
 use prefix::Begins;
 use rules::Ending;
@@ -159,5 +160,22 @@ fn put_out(samples: &[u8; 320], n: usize, out: &mut [u8])
     while i < n {
         out[i] = samples[i];
         i += 1;
+    }
+}
+
+// "ALIGN last"; then the samples, and the bits of prefix and body and nothing else.
+fn finished(octets: &[u8], tool: u32, frame: Frame, bits: usize) -> ReadAnswer
+    requires { ⌜ (bits ≤ 8 * length (now octets)) × (bits ≤ 2 ^ 41) ⌝ }
+    ensures { λ r. ⌜ ((s : List ℕ) → IsFrame s frame → Tells (finish tool s bits (bitsOf (now (octets .entry)))) r) ⌝ }
+{
+    match filling(octets, bits) {
+        Outcome::Refused(why, _) => refused(why),
+        Outcome::Got(_, _) => ReadAnswer {
+            end: Ending::Done,
+            frame,
+            octets: (bits + 7) / 8,
+            bits,
+            tool,
+        },
     }
 }

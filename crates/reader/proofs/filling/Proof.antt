@@ -38,11 +38,13 @@ loop-less : tie.Need-loop-less Inv-loop μ-loop
 loop-less c = search needs
 
 loop-again : tie.Need-loop-again Inv-loop μ-loop
-loop-again c =
-    (omega arith, omega arith,
-    c .before .before .before .loop .inv .2
-    ∙ filled-turn (c .before .before .before .before .before .args .octets .now) (8 * octetsFor (c .before .before .before .before .before .args .end)) (c .before .before .before .loop .at) (omega arith) (omega arith)
-    (omega (arith, c .before .bit-at .ensures .0)))
+loop-again c = (
+  omega arith,
+  omega arith,
+  c .before .before .before .loop .inv .2
+      ∙ filled-turn (c .before .before .before .before .before .args .octets .now) (8 * octetsFor (c .before .before .before .before .before .args .end)) (c .before .before .before .loop .at) (omega arith) (omega arith)
+      (omega (arith, c .before .bit-at .ensures .0)),
+)
 
 returns-2 : tie.Need-returns-2 Inv-loop μ-loop
 returns-2 c =

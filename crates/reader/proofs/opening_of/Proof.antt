@@ -72,7 +72,7 @@ unfolding afterFirst
 returns-4 c =
     record {
       says = says (c .before .before .before) (Tool (c .before .t .given .0 .0) (c .before .t .given .0 .1 .0)) (c .before .t .given .1);
-      ranges = record { len = known (c .before .before .before) (Tool (c .before .t .given .0 .0) (c .before .t .given .0 .1 .0)) (c .before .t .given .1); mark = omega arith; at = omega arith };
+      ranges = record { len = known (c .before .before .before) (Tool (c .before .t .given .0 .0) (c .before .t .given .0 .1 .0)) (c .before .t .given .1); mark = omega arith; at = omega arith; whole-octet = λ h. refl };
     }
 
 returns-5 : tie.Need-returns-5

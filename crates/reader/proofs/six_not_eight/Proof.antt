@@ -30,15 +30,23 @@ add-t9 : tie.Need-add-t9
 add-t9 c = search needs
 
 returns-3 : tie.Need-returns-3
-returns-3 c = record { says = sym (six-by-second (c .before .before .before .before .before .before .args .octets .now) (c .before .before .before .before .before .before .args .at) (omega arith) (λ e. c .before .before .before .if1 .left (c .before .before .before .before .bit-at .ensures .0 ∙ e)) (omega arith)
-    (sym (c .before .bit-at2 .ensures .0) ∙ c .if3 .taken)); value = omega arith; next = omega arith }
+returns-3 c = record {
+  says = sym (six-by-second (c .before .before .before .before .before .before .args .octets .now) (c .before .before .before .before .before .before .args .at) (omega arith) (λ e. c .before .before .before .if1 .left (c .before .before .before .before .bit-at .ensures .0 ∙ e)) (omega arith)
+      (sym (c .before .bit-at2 .ensures .0) ∙ c .if3 .taken));
+  value = omega arith;
+  next = omega arith;
+}
 
 add-t7 : tie.Need-add-t7
 add-t7 c = search needs
 
 returns-4 : tie.Need-returns-4
-returns-4 c = record { says = sym (eight (c .before .before .before .before .before .before .args .octets .now) (c .before .before .before .before .before .before .args .at) (omega arith) (λ e. c .before .before .before .if1 .left (c .before .before .before .before .bit-at .ensures .0 ∙ e)) (omega arith)
-    (λ e. c .if3 .left (c .before .bit-at2 .ensures .0 ∙ e))); value = omega arith; next = omega arith }
+returns-4 c = record {
+  says = sym (eight (c .before .before .before .before .before .before .args .octets .now) (c .before .before .before .before .before .before .args .at) (omega arith) (λ e. c .before .before .before .if1 .left (c .before .before .before .before .bit-at .ensures .0 ∙ e)) (omega arith)
+      (λ e. c .if3 .left (c .before .bit-at2 .ensures .0 ∙ e)));
+  value = omega arith;
+  next = omega arith;
+}
 
 pub six-not-eight-spec : {M : Type 1} → statement M
 six-not-eight-spec =

@@ -1,7 +1,7 @@
 use borrow.Author.Needs.{needs}
 use native.Mathlib.Omega.{arith}
 use Rattle.bits.proofs.Told.{told, refused}
-use Rattle.reader.proofs.Six.{six-refused, six-decided}
+use Rattle.reader.proofs.Six.{six-refused, six-decided, at-least-six}
 use Rattle.reader.proofs.six_or_eight.Statement.{statement}
 use Rattle.reader.proofs.six_or_eight.Tie as tie
 use Rattle.reader.proofs.six_or_eight.Reads as reads
@@ -48,7 +48,12 @@ returns-2 c =
       says = six-decided (c .before .before .before .before .before .before .before .args .octets .now) (c .before .before .before .before .before .before .before .args .n) _ (c .before .before .before .before .before .mark-at .ensures .0) (omega arith)
           _ (c .before .before .before .before .bit-at .ensures .0)
           (told (c .before .before .before .six-not-eight .ensures) (c .before .t .given .1) .says);
-      ranges = record { len = c .before .before .before .before .before .before .before .pre .0; mark = c .before .before .before .before .bit-at .ensures .1; at = omega arith };
+      ranges = record {
+        len = c .before .before .before .before .before .before .before .pre .0;
+        mark = c .before .before .before .before .bit-at .ensures .1;
+        at = omega arith;
+        whole-octet = λ h. absurd (omega (arith, at-least-six (c .before .before .before .before .before .before .before .args .octets .now) _ (omega arith) (told (c .before .before .before .six-not-eight .ensures) (c .before .t .given .1) .says)));
+      };
     }
 
 pub six-or-eight-spec : {M : Type 1} → statement M
