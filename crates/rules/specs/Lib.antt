@@ -12,3 +12,4 @@ pub mod Frame
 pub mod Chooses
 pub mod Walk
 pub mod Calls
+pub mod Listing
