@@ -109,7 +109,7 @@ bitsOf-below [] = none
 bitsOf-below (o ∷ s) = below-append (lowBits-below 8 o) (bitsOf-below s)
 
 -- a bit more: what stands before moves up
-moved-up : (v a p : ℕ) → (2 * v + a) * p ≡ v * (p * 2) + a * p
+pub moved-up : (v a p : ℕ) → (2 * v + a) * p ≡ v * (p * 2) + a * p
 moved-up v a p = simp (add-mul, mul-comm 2 v, mul-assoc, mul-comm 2 p)
 
 low-suc : (n x : ℕ) → x % 2 ^ suc n ≡ (x / 2 ^ n % 2) * 2 ^ n + x % 2 ^ n

@@ -21,18 +21,26 @@ pub record RangeCase : Type 0 where
   pub flag1 : List ℤ
   pub flag0 : List ℤ
 
+abbrev pub case0 : RangeCase
+case0 = record { least = negsuc 1; greatest = pos 1; from = 240; flag1 = pos 1 ∷ negsuc 0 ∷ negsuc 1 ∷ []; flag0 = negsuc 0 ∷ pos 1 ∷ negsuc 1 ∷ [] }
+
+abbrev pub case1 : RangeCase
+case1 = record { least = negsuc 0; greatest = pos 1; from = 80; flag1 = pos 1 ∷ negsuc 0 ∷ []; flag0 = negsuc 0 ∷ pos 1 ∷ [] }
+
+abbrev pub case2 : RangeCase
+case2 = record { least = negsuc 1; greatest = pos 0; from = 80; flag1 = []; flag0 = negsuc 0 ∷ negsuc 1 ∷ [] }
+
+abbrev pub case3 : RangeCase
+case3 = record { least = pos 0; greatest = pos 1; from = 80; flag1 = pos 1 ∷ []; flag0 = [] }
+
 unfoldable pub caseOf : ℕ → RangeCase
-caseOf c =
-    cond (eqb c 0)
-    (record { least = negsuc 1; greatest = pos 1; from = 240; flag1 = pos 1 ∷ negsuc 0 ∷ negsuc 1 ∷ []; flag0 = negsuc 0 ∷ pos 1 ∷ negsuc 1 ∷ [] })
-    (cond (eqb c 1)
-    (record { least = negsuc 0; greatest = pos 1; from = 80; flag1 = pos 1 ∷ negsuc 0 ∷ []; flag0 = negsuc 0 ∷ pos 1 ∷ [] })
-    (cond (eqb c 2)
-    (record { least = negsuc 1; greatest = pos 0; from = 80; flag1 = []; flag0 = negsuc 0 ∷ negsuc 1 ∷ [] })
-    (record { least = pos 0; greatest = pos 1; from = 80; flag1 = pos 1 ∷ []; flag0 = [] })))
+caseOf c = cond (eqb c 0) case0 (cond (eqb c 1) case1 (cond (eqb c 2) case2 case3))
+
+abbrev pub rowValues : RangeCase → ℕ → ℕ → List ℤ
+rowValues row n flag = cond (leb (row .from) n) (cond (eqb flag 1) (row .flag1) (row .flag0)) []
 
 unfoldable pub valuesOf : ℕ → ℕ → ℕ → List ℤ
-valuesOf n c flag = cond (leb (caseOf c .from) n) (cond (eqb flag 1) (caseOf c .flag1) (caseOf c .flag0)) []
+valuesOf n c flag = rowValues (caseOf c) n flag
 
 -- ceil(log2 D): the least w, of those from w on, with D at most 2^w
 unfoldable pub widthFrom : ℕ → ℕ → ℕ → ℕ
