@@ -1,13 +1,18 @@
 // What a frame is, looked at once, and what its runs need with each S.
 
+use law::line_of;
+use law::minus_zero;
+use law::plus_zero;
+use law::sample_of;
 ghost use mathlib.Core.Path.{_≡_};
 ghost use mathlib.Core.Bool.{cond};
-ghost use Prim.Native.Nat.{_+_, _*_, _≤_, _<_};
-ghost use lib.ListN.{length, take};
+ghost use Prim.Native.Nat.{_+_, _≤_, _<_, min, max};
+ghost use lib.ListN.{length, getD, take};
 ghost use lib.Dec.{eqb, ltb};
 ghost use Rattle.rules.specs.Runs.{riceForms};
 ghost use Rattle.rules.specs.Located.{widthOf};
-ghost use Rattle.measure.specs.Measures.{Flagged, marksOf, RunsAre, CodeBits, bitsWith, LeastIs};
+ghost use Rattle.rules.specs.Chooses.{without};
+ghost use Rattle.measure.specs.Measures.{Flagged, marksOf, RunsAre, CodeBits, bitsWith, LeastIs, Looked, LeftIs};
 
 // The runs of flags, found once: the first `count` of them.
 pub struct Runs {
@@ -19,6 +24,26 @@ pub struct Runs {
 pub struct Least {
     pub s: usize,
     pub bits: usize,
+}
+
+// Samples in their order: the first `len`.
+pub struct Left {
+    pub samples: [u8; 320],
+    pub len: usize,
+}
+
+// What the samples of a frame are: how many are plus zero, minus zero (which is -1), 1, -2, above 0, below 0, and equal to the
+// first; the least and the greatest as places on the line of signed numbers.
+pub struct Look {
+    pub plus: u16,
+    pub minus: u16,
+    pub one: u16,
+    pub twos: u16,
+    pub above: u16,
+    pub below: u16,
+    pub same: u16,
+    pub least: u8,
+    pub greatest: u8,
 }
 
 fn pick(y: u8, x: u8, hit: u8, miss: u8) -> u8
@@ -155,4 +180,97 @@ pub fn width_of(d: usize) -> usize
         w += 1;
     }
     w
+}
+
+fn same(x: u8, y: u8) -> u16
+    ensures { λ r. ⌜ (r ≡ cond (eqb x y) 1 0) × (r ≤ 1) ⌝ }
+{
+    if x == y { 1 } else { 0 }
+}
+
+fn less(x: u8, y: u8) -> u16
+    ensures { λ r. ⌜ (r ≡ cond (ltb x y) 1 0) × (r ≤ 1) ⌝ }
+{
+    if x < y { 1 } else { 0 }
+}
+
+fn lower(x: u8, y: u8) -> u8
+    ensures { λ r. ⌜ r ≡ min x y ⌝ }
+{
+    if x < y { x } else { y }
+}
+
+fn higher(x: u8, y: u8) -> u8
+    ensures { λ r. ⌜ r ≡ max x y ⌝ }
+{
+    if x < y { y } else { x }
+}
+
+// One look at a frame's n samples.
+pub fn look_at(samples: &[u8; 320], n: usize, mask: u8) -> Look
+    requires { ⌜ (n ≤ 320) × (n ≤ length (now samples)) ⌝ }
+    requires { ⌜ mask < 128 ⌝ }
+    ensures { λ r. ⌜ Looked mask (getD (now (samples .entry)) 0 0) (take n (now (samples .entry))) r ⌝ }
+{
+    let first = samples[0];
+    let plus = plus_zero(mask);
+    let minus = minus_zero(mask);
+    let one = sample_of(mask, 1);
+    let twos = sample_of(mask, -2);
+    let mut l = Look {
+        plus: 0,
+        minus: 0,
+        one: 0,
+        twos: 0,
+        above: 0,
+        below: 0,
+        same: 0,
+        least: 255,
+        greatest: 0,
+    };
+    let mut i = 0;
+    while i < n {
+        let x = samples[i];
+        let place = line_of(mask, x);
+        l = Look {
+            plus: l.plus + same(x, plus),
+            minus: l.minus + same(x, minus),
+            one: l.one + same(x, one),
+            twos: l.twos + same(x, twos),
+            above: l.above + less(128, place),
+            below: l.below + less(place, 128),
+            same: l.same + same(x, first),
+            least: lower(l.least, place),
+            greatest: higher(l.greatest, place),
+        };
+        i += 1;
+    }
+    l
+}
+
+fn kept_after(y: u8, x: u8, kept: usize) -> usize
+    requires { ⌜ kept < 65535 ⌝ }
+    ensures { λ r. ⌜ r ≡ cond (eqb y x) kept (kept + 1) ⌝ }
+{
+    if y == x { kept } else { kept + 1 }
+}
+
+// What is left of d samples once x is taken out. Each is stored before it is known to stay, so that no turn branches.
+pub fn without_value(samples: &[u8; 320], d: usize, x: u8) -> Left
+    requires { ⌜ (d ≤ 320) × (d ≤ length (now samples)) ⌝ }
+    ensures { λ r. ⌜ LeftIs (without x (take d (now (samples .entry)))) d r ⌝ }
+{
+    let mut left = [0u8; 320];
+    let mut kept = 0;
+    let mut i = 0;
+    while i < d {
+        let y = samples[i];
+        left[kept] = y;
+        kept = kept_after(y, x, kept);
+        i += 1;
+    }
+    Left {
+        samples: left,
+        len: kept,
+    }
 }
