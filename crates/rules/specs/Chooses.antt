@@ -168,8 +168,8 @@ tieOrder = 2 ∷ 3 ∷ 4 ∷ 5 ∷ 6 ∷ 7 ∷ []
 unfoldable pub choose : ℕ → ℕ → List ℕ → List ℕ → ℕ
 choose mask set s [] = 1
 choose mask set s (t ∷ ts) =
-    cond (holds set t && applies mask t s && leb (octetsOfForm mask s t) (octetsOfForm mask s (choose mask set s ts)))
-    t (choose mask set s ts)
+    let best = choose mask set s ts in
+    cond (holds set t && applies mask t s && leb (octetsOfForm mask s t) (octetsOfForm mask s best)) t best
 
 abbrev pub chosenTool : ℕ → ℕ → List ℕ → ℕ
 chosenTool mask set s = choose mask set s tieOrder
