@@ -1,7 +1,8 @@
 // "What the writer chooses": for each tool whether it applies and its bits, and which one wins.
 
-use measure::{least_s, runs_of, width_of};
-
+use measure::least_s;
+use measure::runs_of;
+use measure::width_of;
 ghost use mathlib.Core.Path.{_≡_};
 ghost use Prim.Native.Nat.{_≤_, _<_};
 ghost use lib.ListN.{take};

@@ -16,3 +16,5 @@ pub mod Refused
 pub mod Nesting
 pub mod Lists
 pub mod Bounded
+pub mod Fits
+pub mod RoundTrip
