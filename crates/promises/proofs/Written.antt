@@ -7,7 +7,7 @@ use mathlib.Core.Bool.{Bool, true, false, cond, not, _&&_, _||_}
 use lib.ListN.{length, getD, take, replicate, length-append}
 use lib.Seq.{length-take-le}
 use lib.Dec.{eqb, leb, ltb}
-use borrow.Author.Tests.{lt-ltb, le-leb, eq-eqb, ne-eqb, eqb-true, leb-true, leb-false, ltb-true, ltb-false, not-false}
+use borrow.Author.Tests.{lt-ltb, le-ltb, le-leb, eq-eqb, ne-eqb, eqb-true, leb-true, leb-false, ltb-true, ltb-false, not-false}
 use Rattle.rules.specs.declared.Refusal.{Refusal}
 use Rattle.rules.specs.declared.Refusal.the-variants.{Law, Set, Length, Room}
 use Rattle.rules.specs.Tools.{holds, Within, isSet, isWriterSet, isLaw, isLength}
@@ -234,3 +234,12 @@ written-chosen n samples law set room w h k e =
     let l : isLength n ≡ true = or-cases (isLength n ≡ true) (eqb n 0) (isLength n) (d .allowed) (λ z. absurd (omega (arith, eqb-true n 0 z))) (λ l. l) in
     rw (← (d .is), chosen-full (maskOf law) set s (rw (length-take-le n samples h) l))
     (record { form = refl; choice = chosen-first-least (maskOf law) set s (d .odd) })
+
+-- and every frame of an allowed length is written, by either law and any odd set up to 127, given N + 1 octets of room
+pub writes : (n : ℕ) (samples : List ℕ) (law set room : ℕ) → n ≤ length samples → Below 256 samples → isLaw law ≡ true → isWriterSet set ≡ true
+    → eqb n 0 || isLength n ≡ true → n + 1 ≤ room → writeOne n samples law set room ≡ wrote (chosen (maskOf law) set (take n samples))
+unfolding writeOne
+writes n samples law set room h b i o a r =
+    let s = chosen-short (maskOf law) set o (frames-of n samples h b a) in
+    let bits = chosen (maskOf law) set (take n samples) .bits in
+    rw (i, o, a, le-ltb room (octetsFor (length bits)) (omega (arith, s .most, s .octets, length-take-le n samples h))) refl
