@@ -1,22 +1,22 @@
 -- "An accepted one has at most 402 (320 empty runs with S = 9: 3,213 bits)."
-use Prim.Native.Nat.{ℕ, zero, suc, _+_, _*_, _-_, _^_, _/_, _%_, _≤_, _<_, max}
+use Prim.Native.Nat.{ℕ, zero, suc, _+_, _*_, _-_, _^_, _/_, _≤_, _<_, max}
 use native.Mathlib.Omega.{arith}
 use native.Mathlib.Nat.{mul-le-mul, mul-le-mul-left, mul-suc, div-add-mod'}
 use lib.Pow.{pow-mono, shr-le, high}
-use mathlib.Core.Path.{_≡_, refl, sym, ap, _∙_, subst}
+use mathlib.Core.Path.{_≡_, refl, ap, _∙_}
 use mathlib.Core.List.{List, [], _∷_, _++_, map, append-nil}
-use mathlib.Core.Bool.{Bool, true, false, cond, not, _&&_, _||_}
+use mathlib.Core.Bool.{Bool, true, false, cond, not, _&&_}
 use lib.ListN.{length, getD, replicate, length-append, length-replicate, length-map}
-use lib.IntN.{ℤ, pos, negsuc}
+use lib.IntN.{pos, negsuc}
 use lib.Dec.{eqb, leb, ltb}
-use borrow.Author.Tests.{le-leb, eq-eqb, ne-eqb, eqb-true, eqb-false, leb-true, leb-false, ltb-true, ltb-false, not-true}
+use borrow.Author.Tests.{le-leb, eq-eqb, ne-eqb, eqb-true, eqb-false, leb-true, ltb-false, not-true}
 use Rattle.rules.specs.declared.Refusal.{Refusal}
-use Rattle.rules.specs.declared.Refusal.the-variants.{Align, Run, Place, Method, Case, Tool, Room, Set, Law}
+use Rattle.rules.specs.declared.Refusal.the-variants.{Run, Place, Method, Case, Tool, Room, Set, Law}
 use Rattle.rules.specs.Tools.{holds, isSet, isLaw, isLength}
-use Rattle.rules.specs.Bits.{lowBits, bitsOf, octetsFor, fillFor, pack}
-use Rattle.rules.specs.Reading.{Read, whole, refuse, Reader, andThen, _>>=_, give, fail, here, from, bit, numberFrom, number, bitsFrom, octetsAfter, filled}
+use Rattle.rules.specs.Bits.{lowBits, bitsOf, fillFor, pack}
+use Rattle.rules.specs.Reading.{whole, Reader, _>>=_, give, fail, here, from, bit, numberFrom, number, bitsFrom, octetsAfter, filled}
 use Rattle.rules.specs.Samples.{maskOf, sampleOf, plusZero, minusZero}
-use Rattle.rules.specs.Runs.{zerosFrom, rice, riceForm, runsFrom, runs, runsOf, riceForms, runsForm}
+use Rattle.rules.specs.Runs.{zerosFrom, rice, riceForm, runsFrom, runsOf, riceForms}
 use Rattle.rules.specs.Zeros.{Tree, leaf, fork, treeOf, readTree, zeroOf, flagOf, codesOf, codeOf, mostS, plusMinus, plusMinusForm}
 use Rattle.rules.specs.First.{baseOf, riceCode, First, unassigned, pad, tool, sixOrEight, rows, lookUp, firstOctet, markAt, sixNotEight}
 use Rattle.rules.specs.Frame.{Found, octetsUsed, body, withTool, afterFirst, frame, readOne}
@@ -24,11 +24,11 @@ use Rattle.rules.specs.Located.{widthFrom, widthOf, listedFrom, listed, byMetho
 use Rattle.rules.specs.Chooses.{countOf}
 use Rattle.rules.proofs.Octets.{Below, none, more, bitsOf-below, length-lowBits}
 use Rattle.rules.proofs.Signed.{LawMask, sampleOf-one-to-one, law-mask}
-use Rattle.rules.proofs.Gives.{Gives, gives-give, gives-here, gives-bit, gives-number, gives-zerosFrom, gives-rice, gives-runsFrom, gives-byMethod, gives-readTree, Leaves, Sized}
+use Rattle.rules.proofs.Gives.{Gives, gives-bit, gives-number, gives-zerosFrom, gives-rice, gives-runsFrom, gives-byMethod, gives-readTree, Leaves}
 use Rattle.rules.proofs.Accepted.{Steps, through, steps, not-refused, filled-is, number-next}
-use Rattle.rules.proofs.Tests.{and-left, and-right, allBelow, allBelow-at, by-length}
-use Rattle.promises.proofs.Each.{Each, nothing, next}
-use Rattle.promises.proofs.Further.{SixOrEight, six, eight, six-or-eight, eight-out}
+use Rattle.rules.proofs.Tests.{and-left, and-right, allBelow-at, by-length}
+use Rattle.promises.proofs.Each.{or-right, Each, nothing, next}
+use Rattle.promises.proofs.Further.{SixOrEight, six, eight, six-or-eight, eight-out, mark-first}
 use Rattle.promises.proofs.Located.{lay-on}
 use Rattle.promises.proofs.Rows.{few-values}
 use Rattle.promises.proofs.Methods.{ones}
@@ -315,10 +315,6 @@ costs-other {mask} l t n mark h ne =
     (λ e. costs-cond (eqb t 6) (λ e. absurd (ne (eqb-true t 6 e)))
     (λ e. costs-located l n h))))))
 
-mark-low : (t : Bool) → cond t 6 4 ≤ 6
-mark-low true = omega arith
-mark-low false = omega arith
-
 -- a frame whose body begins at place i
 withTool-bits : (mask set room t n mark k : ℕ) {b : List ℕ} → Below 2 b → (i : ℕ) → i ≤ length b → Costs 0 (λ s. k) (body mask t n mark)
     → {f : Found} {j : ℕ} → withTool mask set room t n mark b i ≡ whole f j → f .bits ≤ i + k
@@ -359,12 +355,9 @@ after-bits {mask} l set room (tool t n) p z h e =
     omega (arith, withTool-bits mask set room t n 0 2686 z 8 h (costs-other l t n 0 (at-most-320 n len) ne) e)
 after-bits {mask} l set room (sixOrEight n) p {b} z h {f} {j} e = go (steps (bit b (markAt n)) _ e)
   where
-    early : markAt n ≤ 6
-    early = mark-low (leb 240 n)
-
     decide : (mark t k : ℕ) → SixOrEight t → withTool mask set room t n mark b (markAt n + 1) ≡ whole f j → f .bits ≤ 3213
     decide mark t k six d =
-        omega (arith, early, at-most-320 n p, withTool-bits mask set room 6 n mark (6 + 10 * n) z (markAt n + 1) (omega (arith, early)) (costs-six mask n mark p) d)
+        omega (arith, mark-first n, at-most-320 n p, withTool-bits mask set room 6 n mark (6 + 10 * n) z (markAt n + 1) (omega (arith, mark-first n)) (costs-six mask n mark p) d)
     decide mark t k eight d = eight-out mask set room n mark b (markAt n + 1) d
 
     decided : (mark m : ℕ) → Steps (sixNotEight b m) (λ t k. withTool mask set room t n mark b (markAt n + 1)) f j → f .bits ≤ 3213
@@ -432,11 +425,7 @@ rare-flags {mask} l n =
 
 rare-zeros : (mask n : ℕ) → Each (isZero mask) (rareFrame mask n)
 unfolding rareFrame
-rare-zeros mask n = each-replicate (isZero mask) n (minusZero mask) (rw (eq-eqb (minusZero mask) (minusZero mask) refl) (or-true (eqb (minusZero mask) (plusZero mask))))
-  where
-    or-true : (a : Bool) → a || true ≡ true
-    or-true true = refl
-    or-true false = refl
+rare-zeros mask n = each-replicate (isZero mask) n (minusZero mask) (rw (eq-eqb (minusZero mask) (minusZero mask) refl) (or-right (eqb (minusZero mask) (plusZero mask)) true refl))
 
 rare-bits : {mask : ℕ} → LawMask mask → (n : ℕ) → length (plusMinusForm mask 0 9 (rareFrame mask n)) ≡ length (riceCode n 0) + (length (codeOf n 9) + 10 * n)
 rare-bits {mask} l n =

@@ -1,10 +1,9 @@
 -- Demand 1. A refused walk is the accepted walk of the octets before the refused frame, and then that frame's refusal.
 -- A refused single call changes nothing, and reports nothing but its refusal.
-use Prim.Native.Nat.{ℕ, zero, suc, _+_, _*_, _-_, _≤_, _<_}
+use Prim.Native.Nat.{ℕ, suc, _+_, _-_, _≤_, _<_}
 use native.Mathlib.Omega.{arith}
-use native.Mathlib.Nat.{le-trans}
 use mathlib.Core.Path.{_≡_, refl, sym, ap, _∙_}
-use mathlib.Core.List.{List, [], _∷_, _++_}
+use mathlib.Core.List.{List, _++_}
 use mathlib.Core.Bool.{Bool, true, false, cond, not}
 use lib.Dec.{leb}
 use borrow.Author.Tests.{leb-true, leb-false}
@@ -12,7 +11,6 @@ use lib.ListN.{length, take, drop, replicate, length-drop, length-append, take-a
 use lib.Seq.{length-take-le, drop-append-le}
 use Rattle.rules.specs.declared.Refusal.{Refusal}
 use Rattle.rules.specs.declared.Refusal.the-variants.{Law, Set, Long}
-use Rattle.rules.specs.declared.Ending.{Ending}
 use Rattle.rules.specs.Tools.{isLaw, isSet}
 use Rattle.rules.specs.declared.Ending.the-variants.{Done, Refused}
 use Rattle.rules.specs.declared.Frame.{Frame}
@@ -20,9 +18,9 @@ use Rattle.rules.specs.declared.ReadAnswer.{ReadAnswer}
 use Rattle.rules.specs.declared.WalkAnswer.{WalkAnswer}
 use Rattle.rules.specs.declared.WriteAnswer.{WriteAnswer}
 use Rattle.rules.specs.Refusals.{refusalTool}
-use Rattle.rules.specs.Reading.{Read, whole, refuse}
+use Rattle.rules.specs.Reading.{whole, refuse}
 use Rattle.rules.specs.Frame.{Found, octetsUsed, readOne}
-use Rattle.rules.specs.Walk.{Delivered, Walked, stopped, before, longest, walkFrom, walkAll, octetsKept, samplesKept}
+use Rattle.rules.specs.Walk.{Walked, stopped, longest, walkFrom, walkAll, octetsKept, samplesKept}
 use Rattle.rules.specs.Bits.{octetsFrom, pack}
 use Rattle.rules.specs.Chooses.{declined, writeOne}
 use Rattle.rules.specs.Calls.{Reads, ReadFrame, Writes, WriteFrame, Walk}

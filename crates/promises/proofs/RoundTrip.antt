@@ -1,8 +1,8 @@
 -- Demand 2 by the contracts alone: what the writing call leaves in a lent output, the reading call gives back as the frame.
 use Prim.Native.Nat.{ℕ, _≤_}
 use native.Mathlib.Omega.{arith}
-use mathlib.Core.Path.{_≡_, refl, sym, ap, _∙_}
-use mathlib.Core.List.{List, [], _++_}
+use mathlib.Core.Path.{_≡_, refl, sym, _∙_}
+use mathlib.Core.List.{List, _++_}
 use mathlib.Core.Bool.{true}
 use lib.ListN.{length, take, drop}
 use lib.Seq.{take-at}
@@ -12,8 +12,6 @@ use Rattle.rules.specs.declared.ReadAnswer.{ReadAnswer}
 use Rattle.rules.specs.declared.WriteAnswer.{WriteAnswer}
 use Rattle.rules.specs.Tools.{holds, isSet}
 use Rattle.rules.specs.Bits.{octetsFor, pack}
-use Rattle.rules.specs.Reading.{Read, whole}
-use Rattle.rules.specs.Frame.{Found}
 use Rattle.rules.specs.Chooses.{Written, Write, wrote, declined, writeOne}
 use Rattle.rules.specs.Calls.{IsFrame, Reads, ReadFrame, writeEnd, Writes, WriteFrame, atStart}
 use Rattle.rules.proofs.Octets.{Below, length-pack}

@@ -1,33 +1,32 @@
 -- What is written: short enough, filled with 0 bits, and read back whole, whatever follows.
-use Prim.Native.Nat.{ℕ, zero, suc, _+_, _*_, _-_, _^_, _/_, _%_, _≤_, _<_}
+use Prim.Native.Nat.{ℕ, _+_, _≤_}
 use native.Mathlib.Omega.{arith}
-use mathlib.Core.Path.{_≡_, refl, sym, ap, ap₂, _∙_, subst}
-use mathlib.Core.List.{List, [], _∷_, _++_, map, append-assoc, append-nil}
-use mathlib.Core.Bool.{Bool, true, false, cond, not, _&&_, _||_}
-use lib.ListN.{length, getD, take, replicate, length-append}
+use mathlib.Core.Path.{_≡_, refl, _∙_}
+use mathlib.Core.List.{List, [], _++_, map, append-nil}
+use mathlib.Core.Bool.{Bool, true, false, cond, not, _||_}
+use lib.ListN.{length, getD, take, length-append}
 use lib.Seq.{length-take-le}
-use lib.Dec.{eqb, leb, ltb}
-use borrow.Author.Tests.{lt-ltb, le-ltb, le-leb, eq-eqb, ne-eqb, eqb-true, leb-true, leb-false, ltb-true, ltb-false, not-false}
+use lib.Dec.{eqb, ltb}
+use borrow.Author.Tests.{le-ltb, ne-eqb, eqb-true, leb-true, ltb-false, not-false}
 use Rattle.rules.specs.declared.Refusal.{Refusal}
 use Rattle.rules.specs.declared.Refusal.the-variants.{Law, Set, Length, Room}
 use Rattle.rules.specs.Tools.{holds, Within, isSet, isWriterSet, isLaw, isLength}
-use Rattle.rules.specs.Bits.{lowBits, bitsOf, octetsFor, fillFor, pack}
-use Rattle.rules.specs.Reading.{Read, whole}
+use Rattle.rules.specs.Bits.{lowBits, bitsOf, octetsFor, pack}
 use Rattle.rules.specs.First.{octetFor, riceCode, firstOctet, lookUp, rows}
 use Rattle.rules.specs.Samples.{maskOf, sampleOf}
-use Rattle.rules.specs.Frame.{Found, frame, afterFirst, readOne}
+use Rattle.rules.specs.Frame.{frame, afterFirst, readOne}
 use Rattle.rules.specs.Runs.{runsForm}
 use Rattle.rules.specs.Zeros.{prefix, flagOf, codeOf}
 use Rattle.rules.specs.Located.{valuesOf}
 use Rattle.rules.specs.Chooses.{markOf, bestS, riceChoice, rowOf, locatedFlag, valuesForm, locatedForm, applies, formOf, octetsOfForm, tieOrder, chosenTool, Written, chosen, Write, wrote, declined, writeOne}
 use Rattle.rules.proofs.Octets.{Below, below-take, length-lowBits, length-bitsOf, lowBits-below, bitsOf-append, bitsOf-pack, length-pack}
 use Rattle.rules.proofs.Signed.{law-mask}
-use Rattle.rules.proofs.Tests.{and-left, and-right, or-cases, by-length}
+use Rattle.rules.proofs.Tests.{or-cases, by-length}
 use Rattle.promises.proofs.Back.{back-number, back-first}
 use Rattle.promises.proofs.Each.{each-at}
 use Rattle.promises.proofs.Frame.{foundAt, filledBits, rice-code}
 use Rattle.promises.proofs.Forms.{form-below, form-restores}
-use Rattle.promises.proofs.Chosen.{writer-holds, FirstLeast, order, chosen-first-least, usable, Usable, chosen-usable, chosen-least}
+use Rattle.promises.proofs.Chosen.{writer-holds, FirstLeast, order, chosen-first-least, usable, chosen-usable, chosen-least}
 
 -- the tests that a written frame has passed, and what was written
 pub record Wrote (n : ℕ) (samples : List ℕ) (law set room : ℕ) (w : Written) : Type 0 where
