@@ -5,3 +5,5 @@ pub mod Signed
 pub mod Firsts
 pub mod Codes
 pub mod Gives
+pub mod Accepted
+pub mod Named

@@ -1,19 +1,17 @@
--- Document 01, "Tool 7" (value-location), as it is read and as it is written.
+-- Document 01, "Tool 7" (value-location): its table, and how it is read. Its form hangs on what the writer chooses, and stands in Chooses.
 -- The cells of a frame are its samples: all begin as plus zero, and a cell that still is plus zero is empty.
-use Prim.Native.Nat.{ℕ, zero, suc, _+_, _*_, _-_, _^_}
+use Prim.Native.Nat.{ℕ, zero, suc, _+_, _-_, _^_}
 use mathlib.Core.List.{List, [], _∷_, _++_, map}
-use mathlib.Core.Bool.{Bool, cond, _&&_}
+use mathlib.Core.Bool.{cond, _&&_}
 use lib.ListN.{length, getD, replicate}
 use lib.Dec.{eqb, leb, ltb}
 use lib.IntN.{ℤ, pos, negsuc}
 use Rattle.rules.specs.declared.Refusal.the-variants.{Case, Method, Place}
-use Rattle.rules.specs.Bits.{lowBits}
 use Rattle.rules.specs.Reading.{Reader, _>>=_, give, fail, here, number, bitsFrom}
 use Rattle.rules.specs.Samples.{sampleOf, plusZero}
 use Rattle.rules.specs.Runs.{runs}
 
--- The table of range cases: least, greatest, whether the length fits the row, and the values for flag 1 and flag 0.
--- No value stands for CASE.
+-- A row of the table of range cases: least, greatest, the least N, and the values for flag 1 and flag 0. No values are CASE.
 pub record RangeCase : Type 0 where
   pub least : ℤ
   pub greatest : ℤ
@@ -21,18 +19,26 @@ pub record RangeCase : Type 0 where
   pub flag1 : List ℤ
   pub flag0 : List ℤ
 
+abbrev pub case0 : RangeCase
+case0 = record { least = negsuc 1; greatest = pos 1; from = 240; flag1 = pos 1 ∷ negsuc 0 ∷ negsuc 1 ∷ []; flag0 = negsuc 0 ∷ pos 1 ∷ negsuc 1 ∷ [] }
+
+abbrev pub case1 : RangeCase
+case1 = record { least = negsuc 0; greatest = pos 1; from = 80; flag1 = pos 1 ∷ negsuc 0 ∷ []; flag0 = negsuc 0 ∷ pos 1 ∷ [] }
+
+abbrev pub case2 : RangeCase
+case2 = record { least = negsuc 1; greatest = pos 0; from = 80; flag1 = []; flag0 = negsuc 0 ∷ negsuc 1 ∷ [] }
+
+abbrev pub case3 : RangeCase
+case3 = record { least = pos 0; greatest = pos 1; from = 80; flag1 = pos 1 ∷ []; flag0 = [] }
+
 unfoldable pub caseOf : ℕ → RangeCase
-caseOf c =
-    cond (eqb c 0)
-    (record { least = negsuc 1; greatest = pos 1; from = 240; flag1 = pos 1 ∷ negsuc 0 ∷ negsuc 1 ∷ []; flag0 = negsuc 0 ∷ pos 1 ∷ negsuc 1 ∷ [] })
-    (cond (eqb c 1)
-    (record { least = negsuc 0; greatest = pos 1; from = 80; flag1 = pos 1 ∷ negsuc 0 ∷ []; flag0 = negsuc 0 ∷ pos 1 ∷ [] })
-    (cond (eqb c 2)
-    (record { least = negsuc 1; greatest = pos 0; from = 80; flag1 = []; flag0 = negsuc 0 ∷ negsuc 1 ∷ [] })
-    (record { least = pos 0; greatest = pos 1; from = 80; flag1 = pos 1 ∷ []; flag0 = [] })))
+caseOf c = cond (eqb c 0) case0 (cond (eqb c 1) case1 (cond (eqb c 2) case2 case3))
+
+abbrev pub rowValues : RangeCase → ℕ → ℕ → List ℤ
+rowValues row n flag = cond (leb (row .from) n) (cond (eqb flag 1) (row .flag1) (row .flag0)) []
 
 unfoldable pub valuesOf : ℕ → ℕ → ℕ → List ℤ
-valuesOf n c flag = cond (leb (caseOf c .from) n) (cond (eqb flag 1) (caseOf c .flag1) (caseOf c .flag0)) []
+valuesOf n c flag = rowValues (caseOf c) n flag
 
 -- ceil(log2 D): the least w, of those from w on, with D at most 2^w
 unfoldable pub widthFrom : ℕ → ℕ → ℕ → ℕ

@@ -1,0 +1,2 @@
+-- What the writer finds out before it chooses, and its choice.
+pub mod Ways
