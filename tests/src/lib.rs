@@ -5,11 +5,19 @@
 
 mod codec;
 mod compare;
+pub mod faults;
+pub mod forms;
+pub mod fuzz;
 mod notation;
+mod pair;
+mod program;
+mod table;
 mod vectors;
 
-pub use codec::{Codec, Read, Second, Walk, Write};
+pub use codec::{Codec, Proved, Read, Second, Walk, Write};
 pub use compare::{check, check_firsts, Compared};
+pub use pair::Pair;
+pub use table::{say, Table};
 pub use notation::{bits, octets};
 pub use vectors::{firsts, vectors, Ask, Call, First, Settled, Vector};
 
