@@ -8,9 +8,11 @@ mod compare;
 pub mod faults;
 pub mod forms;
 pub mod fuzz;
+pub mod measure;
 mod notation;
 mod pair;
 mod program;
+pub mod streams;
 mod table;
 mod vectors;
 
