@@ -44,11 +44,21 @@ pub struct Pair<'a> {
     pub calls: usize,
     pub differences: usize,
     shown: Vec<String>,
+    last: String,
 }
 
 impl<'a> Pair<'a> {
     pub fn new(one: &'a dyn Codec, other: &'a dyn Codec) -> Pair<'a> {
-        Pair { one, other, lent: Default::default(), written: 0, calls: 0, differences: 0, shown: Vec::new() }
+        Pair {
+            one,
+            other,
+            lent: Default::default(),
+            written: 0,
+            calls: 0,
+            differences: 0,
+            shown: Vec::new(),
+            last: String::new(),
+        }
     }
 
     pub fn read(&mut self, ask: &Ask) -> Read {
@@ -105,14 +115,20 @@ impl<'a> Pair<'a> {
     /// Notes a difference that the caller saw, or one of a call.
     pub fn differ(&mut self, what: &str, ask: &Ask, fault: &str) {
         self.differences += 1;
+        self.last = format!("{what} {}: {fault}", asked(ask));
         if self.shown.len() < SHOWN {
-            self.shown.push(format!("{what} {}: {fault}", asked(ask)));
+            self.shown.push(self.last.clone());
         }
     }
 
     /// The differences that are shown.
     pub fn shown(&self) -> &[String] {
         &self.shown
+    }
+
+    /// The last difference.
+    pub fn last(&self) -> &str {
+        &self.last
     }
 
     /// Fails if anything differed.
