@@ -1,6 +1,6 @@
 -- What it is to read back: p reads `bits` as v, whatever stands before and after, and goes exactly as far.
 -- The few lemmas of which every round trip is made, and the round trips of the leaves.
-use Prim.Native.Nat.{ℕ, zero, suc, _+_, _*_, _-_, _^_, _/_, _%_, _≤_, _<_}
+use Prim.Native.Nat.{ℕ, zero, suc, _+_, _*_, _^_, _/_, _%_, _<_}
 use native.Mathlib.Omega.{arith}
 use native.Mathlib.Nat.{pow-suc, mod-eq-of-lt}
 use lib.Pow.{mod-pow-add}
@@ -10,7 +10,7 @@ use lib.ListN.{length, replicate, length-append}
 use Rattle.rules.specs.Bits.{lowBits, bitsOf, valueFrom}
 use Rattle.rules.proofs.Codes.{bit-seam}
 use Rattle.rules.proofs.Octets.{Below, none, more}
-use Rattle.rules.specs.Reading.{Read, whole, refuse, Reader, andThen, _>>=_, give, fail, here, bit, numberFrom, number, bitsFrom, octetsAfter, filled}
+use Rattle.rules.specs.Reading.{whole, Reader, _>>=_, give, here, bit, numberFrom, number, bitsFrom, octetsAfter, filled}
 
 pub record Back {A : Type 0} (p : Reader A) (bits : List ℕ) (v : A) : Type 0 where
   pub reads : (pre post : List ℕ) → p (pre ++ (bits ++ post)) (length pre) ≡ whole v (length pre + length bits)
@@ -25,10 +25,6 @@ back-bind p f {a} {b} {v} {w} pa fb = record {
       let n : length pre + length (a ++ b) ≡ length pre + length a + length b = simp length-append (omega arith) in
       rw (e, pa .reads pre (b ++ post), n) (rw (append-assoc, length-append) at (fb .reads (pre ++ a) post));
 }
-
--- a step that reads nothing, then p
-pub back-then : {A B : Type 0} (p : Reader A) (f : A → Reader B) {b : List ℕ} {v : A} {w : B} → Back p [] v → Back (f v) b w → Back (p >>= f) b w
-back-then p f pa fb = back-bind p f pa fb
 
 pub back-bit : {B : Type 0} (f : ℕ → Reader B) (a : ℕ) {b : List ℕ} {w : B} → Back (f a) b w → Back (bit >>= f) (a ∷ b) w
 back-bit f a {b} {w} fb = back-bind bit f {a = a ∷ []} one fb

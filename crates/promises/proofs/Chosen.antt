@@ -1,16 +1,15 @@
 -- What the writer chooses: one of the set's forms that apply, none of them shorter, and of the equally short the first in the tie order.
-use Prim.Native.Nat.{ℕ, zero, suc, _+_, _*_, _-_, _^_, _/_, _%_, _≤_, _<_}
+use Prim.Native.Nat.{ℕ, _/_, _%_, _≤_}
 use native.Mathlib.Omega.{arith}
-use mathlib.Core.Path.{_≡_, refl, sym, ap, ap₂, _∙_}
-use mathlib.Core.List.{List, [], _∷_, _++_, append-assoc}
+use mathlib.Core.Path.{_≡_, refl, ap}
+use mathlib.Core.List.{List, [], _∷_, _++_}
 use mathlib.Core.Bool.{Bool, true, false, cond, not, _&&_, _||_}
-use lib.ListN.{length}
 use lib.Dec.{eqb, leb, ltb}
 use borrow.Author.Tests.{lt-ltb, le-leb, eq-eqb, eqb-true, leb-true, leb-false, ltb-true}
 use Rattle.rules.specs.Tools.{holds, isSet, isWriterSet}
 use Rattle.rules.specs.Chooses.{applies, octetsOfForm, tieOrder, choose, chosenTool}
 use Rattle.rules.proofs.Tests.{and-left, and-right}
-use Rattle.promises.proofs.Each.{Each, nothing, next, each-map, each-append, each-at, all, each-all}
+use Rattle.promises.proofs.Each.{or-right, Each, nothing, next, each-map, each-append, each-at, each-all}
 
 -- Of those in an order that can be used, t is least in size, and the first such
 pub record FirstLeast (usable : ℕ → Bool) (size : ℕ → ℕ) (order : List ℕ) (t : ℕ) : Type 0 where
@@ -35,11 +34,7 @@ none-less : {usable : ℕ → Bool} {size : ℕ → ℕ} {order : List ℕ} {t :
 none-less {usable} {size} {order} {t} m h f =
     rw (f .stands)
     (each-append (each-map (λ u e. or-leb (not (usable u)) m (size t) (size u) h e) (f .earlier))
-    (next (or-right (not (usable t)) (le-leb m (size t) h)) (each-map (λ u e. or-leb′ (not (usable u)) m (size t) (size u) h e) (f .later))))
-  where
-    or-right : (a : Bool) {b : Bool} → b ≡ true → a || b ≡ true
-    or-right true e = refl
-    or-right false e = e
+    (next (or-right (not (usable t)) (leb m (size t)) (le-leb m (size t) h)) (each-map (λ u e. or-leb′ (not (usable u)) m (size t) (size u) h e) (f .later))))
 
 -- "fewest octets"
 pub least : {usable : ℕ → Bool} {size : ℕ → ℕ} {order : List ℕ} {t : ℕ} → FirstLeast usable size order t → Each (λ u. not (usable u) || leb (size t) (size u)) order

@@ -1,12 +1,12 @@
--- Tests that every one of a list passes.
-use Prim.Native.Nat.{ℕ, zero, suc, _+_, _≤_}
+-- Tests that every one of a list passes, and small laws of tests.
+use Prim.Native.Nat.{ℕ, suc, _+_, _≤_, _<_}
 use native.Mathlib.Omega.{arith}
-use mathlib.Core.Path.{_≡_, refl, sym, ap, _∙_}
-use mathlib.Core.List.{List, [], _∷_, _++_}
+use mathlib.Core.Path.{_≡_, refl}
+use mathlib.Core.List.{List, [], _∷_, _++_, map}
 use mathlib.Core.Bool.{Bool, true, false, cond, _&&_, _||_}
 use lib.ListN.{length}
-use lib.Dec.{eqb}
-use borrow.Author.Tests.{eqb-true, eq-eqb}
+use borrow.Author.Tests.{eqb-true}
+use Rattle.rules.proofs.Octets.{Below, none, more}
 use Rattle.rules.proofs.Tests.{and-left, and-right}
 use Rattle.rules.specs.Chooses.{countOf, every}
 
@@ -34,6 +34,19 @@ all p (x ∷ s) = p x && all p s
 pub each-all : {A : Type 0} (p : A → Bool) (s : List A) → all p s ≡ true → Each p s
 each-all p [] e = nothing
 each-all p (x ∷ s) e = next (and-left (p x) (all p s) e) (each-all p s (and-right (p x) (all p s) e))
+
+-- what a test picks
+pub pick-below : {m : ℕ} (b : Bool) (x y : ℕ) → x < m → y < m → cond b x y < m
+pick-below true x y h k = h
+pick-below false x y h k = k
+
+pub below-map : {m : ℕ} (f : ℕ → ℕ) → ((x : ℕ) → f x < m) → (s : List ℕ) → Below m (map f s)
+below-map f h [] = none
+below-map f h (x ∷ s) = more (h x) (below-map f h s)
+
+pub or-right : (a b : Bool) → b ≡ true → a || b ≡ true
+or-right true b e = refl
+or-right false b e = e
 
 pub or-false : (b : Bool) → b || false ≡ true → b ≡ true
 or-false true e = refl

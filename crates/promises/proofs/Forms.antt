@@ -1,27 +1,27 @@
 -- The round trip of each tool's form, a law of its own, for every frame that the tool applies to; and that every form is bits.
-use Prim.Native.Nat.{ℕ, zero, suc, _+_, _*_, _-_, _^_, _/_, _%_, _≤_, _<_}
+use Prim.Native.Nat.{ℕ, zero, suc, _-_, _^_, _/_, _≤_, _<_}
 use native.Mathlib.Omega.{arith}
-use mathlib.Core.Path.{_≡_, refl, sym, ap, ap₂, _∙_}
-use mathlib.Core.List.{List, [], _∷_, _++_, map, append-assoc, append-nil}
-use mathlib.Core.Bool.{Bool, true, false, cond, not, _&&_, _||_}
-use lib.ListN.{length, getD, replicate, length-append, length-map}
+use mathlib.Core.Path.{_≡_, refl}
+use mathlib.Core.List.{List, [], _∷_, _++_, map, append-nil}
+use mathlib.Core.Bool.{Bool, true, false, cond}
+use lib.ListN.{length, getD}
 use lib.Dec.{eqb, leb, ltb}
 use borrow.Author.Tests.{le-leb}
 use Rattle.rules.specs.Tools.{holds, isLength}
 use Rattle.rules.specs.Bits.{lowBits, bitsOf}
-use Rattle.rules.specs.First.{octetFor, riceCode}
+use Rattle.rules.specs.First.{octetFor}
 use Rattle.rules.specs.Samples.{plusZero, minusZero, sampleOf}
 use Rattle.rules.specs.Runs.{riceForm, riceForms, runsOf, runsForm}
-use Rattle.rules.specs.Zeros.{prefix, uncompressedForm, plusForm, minusForm, constantForm, binaryForm, plusMinusForm, flagOf, codesOf, codeOf, mostS}
+use Rattle.rules.specs.Zeros.{prefix, uncompressedForm, plusForm, minusForm, constantForm, binaryForm, plusMinusForm, flagOf, codesOf, mostS}
 use Rattle.rules.specs.Located.{valuesOf, widthOf}
 use Rattle.rules.specs.Frame.{body, frame}
-use Rattle.rules.specs.Chooses.{countOf, every, leastS, markOf, bestS, riceBits, riceChoice, flagsFor, without, placesOf, numbersForm, methodOf, methodForm, valueForm, valuesForm, rowOf, locatedFlag, locatedForm, applies, formOf}
+use Rattle.rules.specs.Chooses.{countOf, markOf, bestS, riceBits, riceChoice, flagsFor, without, placesOf, numbersForm, methodOf, methodForm, valueForm, valuesForm, rowOf, locatedFlag, locatedForm, applies, formOf}
 use Rattle.rules.proofs.Octets.{Below, none, more, below-append, below-replicate, below-at, lowBits-below, bitsOf-below}
 use Rattle.rules.proofs.Signed.{LawMask}
 use Rattle.rules.proofs.Firsts.{hasOwn}
 use Rattle.rules.proofs.Tests.{by-length}
-use Rattle.promises.proofs.Back.{Back, back-as}
-use Rattle.promises.proofs.Each.{Each, each-of}
+use Rattle.promises.proofs.Back.{Back}
+use Rattle.promises.proofs.Each.{pick-below, Each, each-of}
 use Rattle.promises.proofs.Zeros.{isZero, flags-below, back-uncompressed, back-constantly, back-constant, back-binary, back-plusMinus}
 use Rattle.promises.proofs.Methods.{leastS-range}
 use Rattle.promises.proofs.Located.{value-flags-below}
@@ -57,17 +57,14 @@ unfolding valuesForm
 valuesForm-below [] left = none
 valuesForm-below (x ∷ xs) left = below-append (valueForm-below (flagsFor x left) (value-flags-below x left)) (valuesForm-below xs (without x left))
 
-plusMinusForm-below : (mask mark r : ℕ) (s : List ℕ) → isLength (length s) ≡ true → mark < 2 → 1 ≤ r → r ≤ mostS (length s) → Below 2 (plusMinusForm mask mark r s)
+pub plusMinusForm-below : (mask mark r : ℕ) (s : List ℕ) → isLength (length s) ≡ true → mark < 2 → 1 ≤ r → r ≤ mostS (length s) → Below 2 (plusMinusForm mask mark r s)
 plusMinusForm-below mask mark r s l m h k =
     below-append (code-below (length s) mark l m) (below-append (codeOf-below (length s) r l h k) (riceForms-below r (runsOf 0 (map (flagOf mask mark) s))))
 
 -- the mark and the S that a writer chooses
 mark-small : (mask : ℕ) (s : List ℕ) → markOf mask s < 2
-mark-small mask s = step (ltb (countOf (λ x. eqb x (plusZero mask)) s) (countOf (λ x. eqb x (minusZero mask)) s))
-  where
-    step : (b : Bool) → cond b 1 0 < 2
-    step true = omega arith
-    step false = omega arith
+mark-small mask s =
+    pick-below (ltb (countOf (λ x. eqb x (plusZero mask)) s) (countOf (λ x. eqb x (minusZero mask)) s)) 1 0 (omega arith) (omega arith)
 
 mostS-some : (n : ℕ) → isLength n ≡ true → 1 ≤ mostS n
 unfolding codesOf

@@ -1,26 +1,26 @@
 -- From the body to the frame: the prefix of each tool and length, and the filling bits.
-use Prim.Native.Nat.{ℕ, zero, suc, _+_, _*_, _-_, _^_, _/_, _%_, _≤_, _<_}
+use Prim.Native.Nat.{ℕ, zero, suc, _+_, _*_, _-_, _^_, _/_, _≤_, _<_}
 use native.Mathlib.Omega.{arith}
-use mathlib.Core.Path.{_≡_, refl, sym, ap, ap₂, _∙_}
-use mathlib.Core.List.{List, [], _∷_, _++_, map, append-assoc, append-nil}
-use mathlib.Core.Bool.{Bool, true, false, cond, not, _&&_, _||_, false≢true}
-use lib.ListN.{length, getD, take, drop, replicate, length-append, length-replicate, take-append-drop}
+use mathlib.Core.Path.{_≡_, refl, sym, ap, _∙_}
+use mathlib.Core.List.{List, [], _∷_, _++_, append-assoc}
+use mathlib.Core.Bool.{Bool, true, false, cond, false≢true}
+use lib.ListN.{length, take, drop, replicate, length-append, length-replicate, take-append-drop}
 use lib.Seq.{take-append-add, length-take-le}
 use lib.Pow.{high}
-use lib.Dec.{eqb, leb, ltb}
-use borrow.Author.Tests.{lt-ltb, le-ltb, le-leb, lt-leb, eq-eqb, ne-eqb, eqb-true, ltb-true}
+use lib.Dec.{ltb}
+use borrow.Author.Tests.{le-ltb, eq-eqb, ltb-true}
 use Rattle.rules.specs.Tools.{holds, isLength}
-use Rattle.rules.specs.Bits.{lowBits, bitsOf, valueFrom, octetsFor, fillFor, pack}
-use Rattle.rules.specs.Reading.{Read, whole, refuse, Reader, andThen, _>>=_, give, fail, here, from, bit, number, numberFrom, filled}
-use Rattle.rules.specs.First.{First, tool, sixOrEight, firstOctet, baseOf, octetFor, riceCode, lengthCode, isLong, markAt, sixNotEight}
+use Rattle.rules.specs.Bits.{lowBits, valueFrom, octetsFor, fillFor}
+use Rattle.rules.specs.Reading.{Read, whole, bit, number}
+use Rattle.rules.specs.First.{tool, sixOrEight, firstOctet, baseOf, octetFor, riceCode, lengthCode, isLong, markAt, sixNotEight}
 use Rattle.rules.specs.Zeros.{codesOf, codeOf, mostS}
-use Rattle.rules.specs.Frame.{Found, body, withTool, afterFirst, frame, readOne}
-use Rattle.rules.proofs.Octets.{Below, none, more, length-lowBits, value-from, value-below, below-append, below-take, below-replicate}
-use Rattle.rules.proofs.Firsts.{hasOwn, first-of, first-of-six, beginsRice}
+use Rattle.rules.specs.Frame.{Found, body, withTool, afterFirst, frame}
+use Rattle.rules.proofs.Octets.{Below, none, more, value-from, value-below, below-append, below-take, below-replicate}
+use Rattle.rules.proofs.Firsts.{hasOwn, first-of, first-of-six}
 use Rattle.rules.proofs.Codes.{bit-seam}
 use Rattle.rules.proofs.Tests.{allBelow, allBelow-at, by-length}
 use Rattle.promises.proofs.Each.{Each, nothing, next, all, each-all}
-use Rattle.promises.proofs.Back.{Back, back-give, back-bit, back-bind, back-here, back-as, back-number, back-first, back-value, back-filled}
+use Rattle.promises.proofs.Back.{Back, back-give, back-bit, back-number, back-first, back-value, back-filled}
 
 -- a frame read whole: its tool, its samples and its bits, and all its octets
 abbrev pub foundAt : ℕ → List ℕ → ℕ → Read Found
@@ -29,9 +29,6 @@ foundAt t s bits = whole (record { tool = t; samples = s; bits = bits }) (8 * oc
 -- bits and the 0 bits that fill their last octet
 abbrev pub filledBits : List ℕ → List ℕ
 filledBits b = b ++ replicate (fillFor (length b)) 0
-
-fill-end : (n : ℕ) → n + fillFor n ≡ 8 * octetsFor n
-fill-end n = omega arith
 
 -- the tool is decided, `pre` is read, and the body's bits follow
 with-tool : (mask set room t n mark : ℕ) (pre b post s : List ℕ) → holds set t ≡ true → n ≤ room → Back (body mask t n mark) b s

@@ -1,21 +1,21 @@
 -- A reading looks no further than it goes: more bits after those that it had change nothing, unless it was SHORT.
 -- And SHORT is only said of a reading that would go past the end.
-use Prim.Native.Nat.{ℕ, zero, suc, _+_, _*_, _-_, _^_, _/_, _%_, _≤_, _<_}
+use Prim.Native.Nat.{ℕ, zero, suc, _+_, _*_, _-_, _^_, _≤_, _<_}
 use native.Mathlib.Omega.{arith}
 use native.Mathlib.Nat.{le-trans}
-use mathlib.Core.Path.{_≡_, refl, sym, ap, ap₂, _∙_, subst}
-use mathlib.Core.List.{List, [], _∷_, _++_, map, append-assoc, append-nil}
-use mathlib.Core.Bool.{Bool, true, false, cond, not, _&&_, _||_}
+use mathlib.Core.Path.{_≡_, refl, sym, _∙_}
+use mathlib.Core.List.{List, [], _∷_, _++_, map, append-nil}
+use mathlib.Core.Bool.{Bool, true, false, cond, not, _&&_}
 use lib.ListN.{length, getD, take, replicate, length-append, List·getD-append}
 use lib.Dec.{eqb, leb, ltb}
-use borrow.Author.Tests.{lt-ltb, le-ltb, ltb-true, ltb-false}
+use borrow.Author.Tests.{lt-ltb, ltb-true, ltb-false}
 use Rattle.rules.specs.declared.Refusal.{Refusal}
 use Rattle.rules.specs.declared.Refusal.the-variants.{Short, Align, Run, Place, Method, Case, Tool, Room, Set, Law}
 use Rattle.rules.specs.Tools.{holds, isSet, isLaw}
-use Rattle.rules.specs.Bits.{bitsOf, valueFrom, fillFor, octetsFor}
+use Rattle.rules.specs.Bits.{bitsOf, valueFrom, fillFor}
 use Rattle.rules.specs.Reading.{Read, whole, refuse, Reader, andThen, _>>=_, give, fail, here, bit, numberFrom, number, bitsFrom, octetsAfter, filled}
 use Rattle.rules.specs.Samples.{maskOf, sampleOf, plusZero, minusZero}
-use Rattle.rules.specs.Runs.{zerosFrom, rice, runsFrom, runs}
+use Rattle.rules.specs.Runs.{zerosFrom, rice, runsFrom}
 use Rattle.rules.specs.Zeros.{Tree, leaf, fork, treeOf, readTree, zeroOf}
 use Rattle.rules.specs.Located.{widthOf, listedFrom, listed, byMethod, emptyIn, lay, valuesInto, valuesOf, located}
 use Rattle.rules.specs.First.{First, unassigned, pad, tool, sixOrEight, firstOctet, markAt, sixNotEight}
@@ -24,6 +24,7 @@ use Rattle.rules.proofs.Accepted.{Steps, through, steps, frame-accepts, read-ac
 use Rattle.rules.proofs.Octets.{length-bitsOf, bitsOf-append, bitsOf-below}
 use Rattle.rules.proofs.Signed.{law-mask}
 use Rattle.promises.proofs.Frame.{first-eight}
+use Rattle.promises.proofs.Each.{pick-below}
 use Rattle.promises.proofs.Reach.{never, place-of, value-of, Far, far-bit, far-then, far-cond, far-fail, Near, near-give, near-bit, near-then, near-cond, near-more}
 
 -- a reading m of bits of which there are n, and m′, the same with more bits after them
@@ -200,7 +201,7 @@ far-six mask set room n mark =
     (λ s. far-firm (firm-bind firm-here (λ bits. firm-filled (record { tool = 6; samples = s; bits = bits }) (fillFor bits))))))
 
 -- tool 8 is in no set
-eight-out : (mask set room n mark : ℕ) (b : List ℕ) (i : ℕ) {f : Found} {j : ℕ} {X : Type 0} → withTool mask set room 8 n mark b i ≡ whole f j → X
+pub eight-out : (mask set room n mark : ℕ) (b : List ℕ) (i : ℕ) {f : Found} {j : ℕ} {X : Type 0} → withTool mask set room 8 n mark b i ≡ whole f j → X
 unfolding withTool holds
 eight-out mask set room n mark b i e = never e
 
@@ -209,11 +210,11 @@ unfolding sixNotEight
 firm-six = firm-bind firm-bit (λ a. firm-cond (eqb a 1) (firm-give 6) (firm-bind firm-bit (λ b. firm-cond (eqb b 1) (firm-give 6) (firm-give 8))))
 
 -- the tool is 6 or 8, decided by two bits at most
-data SixOrEight : ℕ → Type 0 where
+pub data SixOrEight : ℕ → Type 0 where
   six : SixOrEight 6
   eight : SixOrEight 8
 
-six-or-eight : (b : List ℕ) (i t k : ℕ) → sixNotEight b i ≡ whole t k → SixOrEight t
+pub six-or-eight : (b : List ℕ) (i t k : ℕ) → sixNotEight b i ≡ whole t k → SixOrEight t
 unfolding sixNotEight
 six-or-eight b i t k e = go (steps (bit b i) (λ a l. cond (eqb a 1) (give 6) (bit >>= (λ c. cond (eqb c 1) (give 6) (give 8))) b l) e)
   where
@@ -246,12 +247,8 @@ bit-there : (b c : List ℕ) (i : ℕ) → i < length b → (bit b i ≡ whole (
 unfolding bit
 bit-there b c i h = (rw (lt-ltb i (length b) h) refl, rw (lt-ltb i (length (b ++ c)) (omega (arith, length-append b c)), List·getD-append b c 0 i h) refl)
 
-mark-first : (n : ℕ) → markAt n < 8
-mark-first n = go (leb 240 n)
-  where
-    go : (t : Bool) → cond t 6 4 < 8
-    go true = omega arith
-    go false = omega arith
+pub mark-first : (n : ℕ) → markAt n < 7
+mark-first n = pick-below (leb 240 n) 6 4 (omega arith) (omega arith)
 
 -- once the mark is read
 six-goes : (mask set room n mark : ℕ) (b c : List ℕ) (i : ℕ)

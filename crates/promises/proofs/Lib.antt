@@ -15,3 +15,6 @@ pub mod Walks
 pub mod Refused
 pub mod Nesting
 pub mod Lists
+pub mod Bounded
+pub mod Fits
+pub mod RoundTrip

@@ -1,24 +1,23 @@
 -- Demand 3, second part: frames of one law, each written with its own set, and any number of pads before, between and after them,
 -- are walked whole by every reader whose set holds all those sets.
-use Prim.Native.Nat.{ℕ, zero, suc, _+_, _*_, _-_, _≤_, _<_}
+use Prim.Native.Nat.{ℕ, _+_, _*_, _-_, _≤_}
 use native.Mathlib.Omega.{arith}
-use mathlib.Core.Path.{_≡_, refl, sym, ap, _∙_}
-use mathlib.Core.List.{List, [], _∷_, _++_, append-assoc, append-nil}
-use mathlib.Core.Bool.{Bool, true, false}
+use mathlib.Core.Path.{_≡_, refl, sym, ap}
+use mathlib.Core.List.{List, [], _∷_, _++_, append-assoc}
+use mathlib.Core.Bool.{true}
 use lib.ListN.{length, drop, length-append}
 use lib.Seq.{drop-append-seam}
 use Rattle.rules.specs.declared.Ending.the-variants.{Done}
-use Rattle.rules.specs.Tools.{holds, Within, isSet, isWriterSet, isLaw, isLength}
+use Rattle.rules.specs.Tools.{Within, isSet, isWriterSet, isLaw}
 use Rattle.rules.specs.Bits.{lowBits, octetsFor, octetsFrom, valueFrom, pack}
 use Rattle.rules.specs.Samples.{maskOf}
-use Rattle.rules.specs.Reading.{Read, whole}
+use Rattle.rules.specs.Reading.{whole}
 use Rattle.rules.specs.Frame.{Found, octetsUsed, readOne}
 use Rattle.rules.specs.Chooses.{Written, chosen}
-use Rattle.rules.specs.Walk.{Delivered, Walked, stopped, before, longest, walkAll, octetsKept, samplesKept}
+use Rattle.rules.specs.Walk.{Delivered, longest, walkAll, octetsKept, samplesKept}
 use Rattle.rules.proofs.Octets.{length-lowBits, length-pack}
-use Rattle.promises.proofs.Frame.{foundAt}
-use Rattle.promises.proofs.Written.{Frames, pad, full, pad-back, chosen-back, chosen-short, tool-held}
-use Rattle.promises.proofs.Walks.{WalkOf, ended, delivers, Walkable, walk-all-only}
+use Rattle.promises.proofs.Written.{Frames, pad-back, chosen-back, chosen-short, tool-held}
+use Rattle.promises.proofs.Walks.{WalkOf, ended, delivers, walk-all-only}
 
 -- a part of a stream: a pad, or a frame and the set that it is written with
 pub data Part : Type 0 where

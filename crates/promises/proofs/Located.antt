@@ -1,23 +1,21 @@
 -- Tool 7, value-location: its form is read back, for every frame that it applies to.
-use Prim.Native.Nat.{ℕ, zero, suc, _+_, _*_, _-_, _^_, _/_, _%_, _≤_, _<_}
+use Prim.Native.Nat.{ℕ, suc, _+_, _≤_}
 use native.Mathlib.Omega.{arith}
 use mathlib.Core.Path.{_≡_, refl, sym, ap, ap₂, _∙_}
-use mathlib.Core.List.{List, [], _∷_, _++_, map, append-assoc, append-nil}
-use mathlib.Core.Bool.{Bool, true, false, cond, not, _&&_, _||_}
+use mathlib.Core.List.{List, [], _∷_, _++_, append-assoc}
+use mathlib.Core.Bool.{Bool, true, false, cond, not, _||_}
 use lib.ListN.{length, getD, replicate, length-map}
-use lib.Dec.{eqb, leb, ltb}
-use lib.IntN.{ℤ, pos, negsuc}
-use borrow.Author.Tests.{lt-ltb, le-ltb, le-leb, lt-leb, eq-eqb, ne-eqb, eqb-true, eqb-false, leb-true, not-true}
+use lib.Dec.{eqb}
+use borrow.Author.Tests.{eq-eqb, ne-eqb, eqb-true, eqb-false, not-true}
 use Rattle.rules.specs.Bits.{lowBits}
-use Rattle.rules.specs.Reading.{Reader, _>>=_, give, fail, here, number}
+use Rattle.rules.specs.Reading.{fail}
 use Rattle.rules.specs.declared.Refusal.the-variants.{Place}
-use Rattle.rules.specs.Samples.{signed, sampleOf, plusZero, minusZero, onLine}
-use Rattle.rules.specs.Located.{emptyIn, lay, valuesInto, located, caseOf, valuesOf, byMethod}
-use Rattle.rules.specs.Chooses.{countOf, flagsFor, without, methodOf, methodForm, valueForm, valuesForm, leastOf, greatestOf, above, below, locatedFlag, rowOf, isRow, zeroLeads}
-use Rattle.rules.proofs.Octets.{Below, none, more}
+use Rattle.rules.specs.Located.{emptyIn, lay, valuesInto}
+use Rattle.rules.specs.Chooses.{flagsFor, without, methodOf, methodForm, valueForm, valuesForm}
+use Rattle.rules.proofs.Octets.{Below}
 use Rattle.promises.proofs.Back.{Back, back-give, back-bind, back-here, back-as, back-number}
-use Rattle.promises.proofs.Each.{Each, nothing, next, each-map, or-false}
-use Rattle.promises.proofs.Methods.{Fits, fits-small, back-method, fits-chosen}
+use Rattle.promises.proofs.Each.{Each, nothing, next, each-map, or-false, pick-below, below-map}
+use Rattle.promises.proofs.Methods.{fits-small, back-method, fits-chosen}
 
 -- what is left, put into the empty cells in turn, is the frame
 pub data Fills (z : ℕ) : List ℕ → List ℕ → List ℕ → Type 0 where
@@ -42,7 +40,7 @@ fills-end {z} (empty {a = a} t) (next e h) = ap₂ _∷_ (sym (eqb-true a z e)) 
 fills-end (full {y = y} g t) h = ap (λ l. y ∷ l) (fills-end t h)
 
 -- a flag in front moves the places on by one
-lay-on : (z x f : ℕ) (flags : List ℕ) (p : ℕ) (cells : List ℕ) → lay z x (f ∷ flags) (suc p) cells ≡ lay z x flags p cells
+pub lay-on : (z x f : ℕ) (flags : List ℕ) (p : ℕ) (cells : List ℕ) → lay z x (f ∷ flags) (suc p) cells ≡ lay z x flags p cells
 unfolding lay
 lay-on z x f flags p [] = refl
 lay-on z x f flags p (y ∷ cells) = step (eqb y z) (lay-on z x f flags (p + 1) cells) (lay-on z x f flags p cells)
@@ -101,12 +99,7 @@ has-without {z} x e (later {a = a} {l = l} h) = step (eqb a x) (has-without x e 
     step false u = later u
 
 pub value-flags-below : (x : ℕ) (left : List ℕ) → Below 2 (flagsFor x left)
-value-flags-below x [] = none
-value-flags-below x (y ∷ left) = more (small (eqb y x)) (value-flags-below x left)
-  where
-    small : (b : Bool) → cond b 1 0 < 2
-    small true = omega arith
-    small false = omega arith
+value-flags-below x left = below-map (λ y. cond (eqb y x) 1 0) (λ y. pick-below (eqb y x) 1 0 (omega arith) (omega arith)) left
 
 without-le : (x : ℕ) (left : List ℕ) → length (without x left) ≤ length left
 unfolding without

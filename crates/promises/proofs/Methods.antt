@@ -1,17 +1,16 @@
 -- Value-location: the flags of a value are read back, by every method that fits them and so by the method that a writer chooses.
-use Prim.Native.Nat.{ℕ, zero, suc, _+_, _*_, _-_, _^_, _/_, _%_, _≤_, _<_}
+use Prim.Native.Nat.{ℕ, zero, suc, _+_, _*_, _-_, _^_, _≤_, _<_}
 use native.Mathlib.Omega.{arith}
 use native.Mathlib.Nat.{pow-suc}
 use lib.Pow.{pow-pos}
-use mathlib.Core.Path.{_≡_, refl, sym, ap, ap₂, _∙_}
-use mathlib.Core.List.{List, [], _∷_, _++_, map, append-assoc, append-nil}
-use mathlib.Core.Bool.{Bool, true, false, cond, _&&_, _||_}
-use lib.ListN.{length, getD, replicate, length-append, length-replicate}
+use mathlib.Core.Path.{_≡_, refl, ap}
+use mathlib.Core.List.{List, [], _∷_, _++_, append-assoc, append-nil}
+use mathlib.Core.Bool.{Bool, true, false, cond, _&&_}
+use lib.ListN.{length, replicate, length-append, length-replicate}
 use lib.Dec.{eqb, leb, ltb}
-use borrow.Author.Tests.{lt-ltb, le-ltb, le-leb, lt-leb, eq-eqb, ne-eqb, eqb-true, eqb-false, leb-true}
+use borrow.Author.Tests.{lt-ltb, le-leb, ne-eqb, eqb-true, eqb-false, leb-true}
 use Rattle.rules.specs.Bits.{lowBits}
-use Rattle.rules.specs.Reading.{Reader, _>>=_, give, here, number, bitsFrom}
-use Rattle.rules.specs.Runs.{runs, runsForm}
+use Rattle.rules.specs.Runs.{runsForm}
 use Rattle.rules.specs.Located.{widthFrom, widthOf, listedFrom, listed, byMethod}
 use Rattle.rules.specs.Chooses.{countOf, leastFrom, leastS, placesOf, numbersForm, runS, fewestRunBits, methodOf, methodForm}
 use Rattle.rules.proofs.Tests.{and-left}

@@ -1,16 +1,15 @@
 -- Demand 3, first part: a reader whose set is within another's reads the same, or ends with TOOL of a tool that it does not hold.
-use Prim.Native.Nat.{ℕ, zero, suc, _+_, _*_, _-_, _≤_, _<_}
+use Prim.Native.Nat.{ℕ, zero, suc, _+_, _≤_, _<_}
 use native.Mathlib.Omega.{arith}
 use mathlib.Core.Path.{_≡_, refl, sym, ap, _∙_}
-use mathlib.Core.List.{List, [], _∷_, _++_}
+use mathlib.Core.List.{List, _∷_, _++_}
 use mathlib.Core.Bool.{Bool, true, false, cond, not}
 use lib.ListN.{length, drop}
 use lib.Dec.{leb, ltb}
-use borrow.Author.Tests.{le-leb, lt-ltb, leb-true}
+use borrow.Author.Tests.{le-leb, lt-ltb}
 use Rattle.rules.specs.declared.Refusal.{Refusal}
-use Rattle.rules.specs.declared.Refusal.the-variants.{Tool, Room, Set, Law, Long}
-use Rattle.rules.specs.declared.Ending.{Ending}
-use Rattle.rules.specs.declared.Ending.the-variants.{Done, Refused}
+use Rattle.rules.specs.declared.Refusal.the-variants.{Tool, Room, Law, Long}
+use Rattle.rules.specs.declared.Ending.the-variants.{Refused}
 use Rattle.rules.specs.Tools.{holds, Within, isSet, isLaw}
 use Rattle.rules.specs.Bits.{bitsOf, fillFor}
 use Rattle.rules.specs.Samples.{maskOf}
@@ -18,9 +17,9 @@ use Rattle.rules.specs.Reading.{Read, whole, refuse, Reader, andThen, _>>=_, he
 use Rattle.rules.specs.First.{First, unassigned, pad, tool, sixOrEight, firstOctet, markAt, sixNotEight}
 use Rattle.rules.specs.Frame.{Found, octetsUsed, body, withTool, afterFirst, frame, readOne}
 use Rattle.rules.specs.Walk.{Delivered, Walked, stopped, before, walkFrom, longest, walkAll}
-use Rattle.promises.proofs.Each.{Each, nothing, next, each-map}
+use Rattle.promises.proofs.Each.{Each, nothing, next}
 use Rattle.promises.proofs.Reach.{never}
-use Rattle.promises.proofs.Walks.{WalkOf, ended, refused, delivers, uses, walk-of, walk-next, walk-only, Walkable, walk-all, walk-all-of, walk-all-only}
+use Rattle.promises.proofs.Walks.{WalkOf, ended, refused, delivers, uses, walk-of, walk-next, walk-only}
 
 -- the reading by the smaller set, beside that by the larger
 pub data Nests (small : ℕ) (m m′ : Read Found) : Type 0 where

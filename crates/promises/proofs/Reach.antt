@@ -1,14 +1,14 @@
 -- How far a reading goes, if it is whole: at least (`Far`) and at most (`Near`) so many places on.
-use Prim.Native.Nat.{ℕ, zero, suc, _+_, _*_, _-_, _≤_, _<_}
+use Prim.Native.Nat.{ℕ, _+_, _≤_}
 use native.Mathlib.Omega.{arith}
-use mathlib.Core.Path.{_≡_, refl, sym, ap, _∙_}
-use mathlib.Core.List.{List, [], _∷_}
+use mathlib.Core.Path.{_≡_}
+use mathlib.Core.List.{List}
 use mathlib.Core.Bool.{Bool, true, false, cond}
 use lib.ListN.{length, getD}
 use lib.Dec.{ltb}
 use Rattle.rules.specs.declared.Refusal.{Refusal}
 use Rattle.rules.specs.declared.Refusal.the-variants.{Short}
-use Rattle.rules.specs.Reading.{Read, whole, refuse, Reader, andThen, _>>=_, give, fail, here, bit}
+use Rattle.rules.specs.Reading.{Read, whole, refuse, Reader, _>>=_, give, fail, here, bit}
 use Rattle.rules.proofs.Accepted.{Steps, through, steps}
 
 pub never : {A X : Type 0} {w : Refusal} {at : ℕ} {a : A} {j : ℕ} → _≡_ {A = Read A} (refuse w at) (whole a j) → X

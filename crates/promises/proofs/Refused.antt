@@ -1,23 +1,26 @@
 -- Demand 1. A refused walk is the accepted walk of the octets before the refused frame, and then that frame's refusal.
 -- A refused single call changes nothing, and reports nothing but its refusal.
-use Prim.Native.Nat.{ℕ, zero, suc, _+_, _*_, _-_, _≤_, _<_}
+use Prim.Native.Nat.{ℕ, suc, _+_, _-_, _≤_, _<_}
 use native.Mathlib.Omega.{arith}
-use native.Mathlib.Nat.{le-trans}
 use mathlib.Core.Path.{_≡_, refl, sym, ap, _∙_}
-use mathlib.Core.List.{List, [], _∷_, _++_}
+use mathlib.Core.List.{List, _++_}
+use mathlib.Core.Bool.{Bool, true, false, cond, not}
+use lib.Dec.{leb}
+use borrow.Author.Tests.{leb-true, leb-false}
 use lib.ListN.{length, take, drop, replicate, length-drop, length-append, take-append-drop}
 use lib.Seq.{length-take-le, drop-append-le}
 use Rattle.rules.specs.declared.Refusal.{Refusal}
-use Rattle.rules.specs.declared.Ending.{Ending}
+use Rattle.rules.specs.declared.Refusal.the-variants.{Law, Set, Long}
+use Rattle.rules.specs.Tools.{isLaw, isSet}
 use Rattle.rules.specs.declared.Ending.the-variants.{Done, Refused}
 use Rattle.rules.specs.declared.Frame.{Frame}
 use Rattle.rules.specs.declared.ReadAnswer.{ReadAnswer}
 use Rattle.rules.specs.declared.WalkAnswer.{WalkAnswer}
 use Rattle.rules.specs.declared.WriteAnswer.{WriteAnswer}
 use Rattle.rules.specs.Refusals.{refusalTool}
-use Rattle.rules.specs.Reading.{Read, whole, refuse}
+use Rattle.rules.specs.Reading.{whole, refuse}
 use Rattle.rules.specs.Frame.{Found, octetsUsed, readOne}
-use Rattle.rules.specs.Walk.{Delivered, Walked, stopped, before, walkAll, octetsKept, samplesKept}
+use Rattle.rules.specs.Walk.{Walked, stopped, longest, walkFrom, walkAll, octetsKept, samplesKept}
 use Rattle.rules.specs.Bits.{octetsFrom, pack}
 use Rattle.rules.specs.Chooses.{declined, writeOne}
 use Rattle.rules.specs.Calls.{Reads, ReadFrame, Writes, WriteFrame, Walk}
@@ -87,6 +90,25 @@ refused-walk octets law set room r t e =
       rest = b .rest;
       used = omega (arith, b .octets-kept);
     }
+
+-- "LAW, SET and LONG refuse a walk before any frame, with place 0."; every other walk begins
+pub data Begins (octets : List ℕ) (law set : ℕ) (w : Walked) : Type 0 where
+  walkable : Walkable octets law set → Begins octets law set w
+  unlawful : isLaw law ≡ false → w ≡ stopped (Refused Law) 0 0 → Begins octets law set w
+  no-set : isSet set ≡ false → w ≡ stopped (Refused Set) 0 0 → Begins octets law set w
+  too-long : longest < length octets → w ≡ stopped (Refused Long) 0 0 → Begins octets law set w
+
+pub walk-begins : (octets : List ℕ) (law set room : ℕ) → Begins octets law set (walkAll octets law set room)
+unfolding walkAll
+walk-begins octets law set room = go (isLaw law) (isSet set) (leb (length octets) longest) refl refl refl
+  where
+    go : (a b c : Bool) → isLaw law ≡ a → isSet set ≡ b → leb (length octets) longest ≡ c
+        → Begins octets law set (cond (not a) (stopped (Refused Law) 0 0) (cond (not b) (stopped (Refused Set) 0 0)
+        (cond (not c) (stopped (Refused Long) 0 0) (walkFrom (suc (length octets)) octets law set 0 room))))
+    go false b c d e f = unlawful d refl
+    go true false c d e f = no-set e refl
+    go true true false d e f = too-long (leb-false (length octets) longest f) refl
+    go true true true d e f = walkable (record { lawful = d; small = e; short = leb-true (length octets) longest f })
 
 -- Demand 1, of a single call: "writes nothing and reports 0 samples, 0 octets used, 0 bits and tool 0, save that TOOL gives the tool"
 pub record Nothing (w : Refusal) (r : ReadAnswer) (out out′ : List ℕ) : Type 0 where

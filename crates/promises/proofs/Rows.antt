@@ -1,25 +1,25 @@
 -- Tool 7: what the table of range cases says of a frame whose row it is, and so the round trip of its body.
-use Prim.Native.Nat.{ℕ, zero, suc, _+_, _*_, _-_, _^_, _≤_, _<_, min, max}
+use Prim.Native.Nat.{ℕ, _+_, _≤_, _<_}
 use native.Mathlib.Omega.{arith}
 use native.Mathlib.Decide.{ℕ-discrete}
-use mathlib.Core.Path.{_≡_, refl, sym, ap, ap₂, _∙_}
-use mathlib.Core.List.{List, [], _∷_, _++_, map, append-assoc, append-nil}
+use mathlib.Core.Path.{_≡_, refl, sym, ap, _∙_}
+use mathlib.Core.List.{List, [], _∷_, _++_, map}
 use mathlib.Core.Bool.{Bool, true, false, cond, not, _&&_, _||_}
-use lib.ListN.{length, getD, replicate, length-map}
+use lib.ListN.{length, replicate}
 use lib.Dec.{eqb, leb, ltb}
 use lib.IntN.{ℤ, pos, negsuc}
-use borrow.Author.Tests.{lt-ltb, le-ltb, le-leb, lt-leb, eq-eqb, ne-eqb, eqb-true, eqb-false, leb-true, ltb-true, ltb-false, not-true}
+use borrow.Author.Tests.{le-ltb, le-leb, lt-leb, eq-eqb, ne-eqb, eqb-true, leb-true, ltb-true, ltb-false, not-true}
 use Rattle.rules.specs.Bits.{lowBits}
-use Rattle.rules.specs.Reading.{Reader, _>>=_, give, fail, here, number}
+use Rattle.rules.specs.Reading.{fail}
 use Rattle.rules.specs.declared.Refusal.the-variants.{Case}
-use Rattle.rules.specs.Samples.{signed, sampleOf, plusZero, minusZero, onLine}
-use Rattle.rules.specs.Located.{RangeCase, valuesInto, located, caseOf, valuesOf}
+use Rattle.rules.specs.Samples.{signed, sampleOf, plusZero, onLine}
+use Rattle.rules.specs.Located.{valuesInto, located, caseOf, valuesOf}
 use Rattle.rules.specs.Chooses.{countOf, valuesForm, leastOf, greatestOf, above, below, locatedFlag, rowOf, isRow, zeroLeads, applies}
 use Rattle.rules.proofs.Octets.{Below, none, more}
 use Rattle.rules.proofs.Signed.{InRange, LawMask, signed-range, told-by-line, sampleOf-one-to-one}
 use Rattle.rules.proofs.Tests.{and-left, and-right, allBelow, allBelow-at}
-use Rattle.promises.proofs.Back.{Back, back-give, back-bind, back-here, back-as, back-number}
-use Rattle.promises.proofs.Each.{Each, nothing, next, each-map, all, each-all}
+use Rattle.promises.proofs.Back.{Back, back-bind, back-here, back-number}
+use Rattle.promises.proofs.Each.{pick-below, or-right, Each, nothing, next, all, each-all}
 use Rattle.promises.proofs.Located.{Has, first, later, among, fills-start, back-values}
 
 -- a sample's place on the line
@@ -57,13 +57,9 @@ not-zeros {mask} l (next {x = v} h t) =
 told : {mask : ℕ} → LawMask mask → (x : ℕ) → x < 256 → (v : ℤ) → InRange v → line mask x ≡ onLine v → x ≡ sampleOf mask v
 told {mask} l x h v r e = sym (l .back x h) ∙ ap (sampleOf mask) (told-by-line (signed mask x) v (signed-range mask x) r e)
 
-or-right : (a : Bool) → a || true ≡ true
-or-right true = refl
-or-right false = refl
-
 or-map : (a b c d : Bool) → (a ≡ true → c ≡ true) → (b ≡ true → d ≡ true) → a || b ≡ true → c || d ≡ true
 or-map true b c d f g e = rw (f refl) refl
-or-map false b c d f g e = rw (g e) (or-right c)
+or-map false b c d f g e = or-right c d (g e)
 
 -- the second of two, where the first is that some test failed
 implied : (a b : Bool) → not a || b ≡ true → a ≡ true → b ≡ true
@@ -175,11 +171,7 @@ below-some mask (x ∷ s) h = step (ltb (line mask x) 128) (ltb-false (line mask
     step false f g = let m = g (f refl) in omega arith
 
 flag-small : (mask : ℕ) (s : List ℕ) → locatedFlag mask s < 2
-flag-small mask s = step (leb (below mask s) (above mask s))
-  where
-    step : (b : Bool) → cond b 1 0 < 2
-    step true = omega arith
-    step false = omega arith
+flag-small mask s = pick-below (leb (below mask s) (above mask s)) 1 0 (omega arith) (omega arith)
 
 -- the flag that a writer gives is one that the row has values for
 tests-hold : (g l a b : Bool) → (g ≡ true → l ≡ true → a ≡ true) → (l ≡ false → b ≡ true) → (not (g && l) || a) && (l || b) ≡ true
@@ -308,3 +300,24 @@ back-located {mask} law s b a =
     (valuesForm (map (sampleOf mask) (valuesOf n c flag)) s) s
     = λ start. rw (e, some) (back-values n z (map (sampleOf mask) (values c flag)) apart (fills-start z s) (all-covered law s c b r) (has-some-zero law b a c r) (omega arith)) in
     back-here _ (λ start. back-bind _ _ (back-number 2 c (r .small)) (back-bind _ _ (back-number 1 flag (flag-small mask s)) (on start)))
+
+-- whatever the row and the flag: three values at most, and none is 0
+pub record FewValues (n c flag : ℕ) : Type 0 where
+  pub few : length (valuesOf n c flag) ≤ 3
+  pub apart : {mask : ℕ} → LawMask mask → Each (λ x. not (eqb x (plusZero mask))) (map (sampleOf mask) (valuesOf n c flag))
+
+rows-few : allBelow (λ c. allBelow (λ flag. leb (length (values c flag)) 3) 2) 4 ≡ true
+unfolding caseOf
+rows-few = refl
+
+pub few-values : (n c flag : ℕ) → c < 4 → flag < 2 → FewValues n c flag
+unfolding valuesOf
+few-values n c flag h k = record { few = few (leb (caseOf c .from) n); apart = λ l. not-zeros l (good (leb (caseOf c .from) n)) }
+  where
+    few : (b : Bool) → length (cond b (values c flag) []) ≤ 3
+    few true = leb-true (length (values c flag)) 3 (two-at (λ c flag. leb (length (values c flag)) 3) rows-few c flag h k)
+    few false = omega arith
+
+    good : (b : Bool) → Each isValue (cond b (values c flag) [])
+    good true = each-all isValue (values c flag) (two-at (λ c flag. all isValue (values c flag)) rows-values c flag h k)
+    good false = nothing

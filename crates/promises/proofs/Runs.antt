@@ -3,16 +3,13 @@ use Prim.Native.Nat.{ℕ, zero, suc, _+_, _*_, _-_, _^_, _/_, _%_, _≤_, _<_}
 use native.Mathlib.Omega.{arith}
 use native.Mathlib.Nat.{not-suc-le-zero, div-add-mod'}
 use lib.Pow.{shr-le}
-use mathlib.Core.Path.{_≡_, refl, sym, ap, _∙_}
+use mathlib.Core.Path.{_≡_, refl, sym}
 use mathlib.Core.List.{List, [], _∷_, _++_, append-assoc, append-nil}
-use mathlib.Core.Bool.{Bool, true, false, cond}
-use lib.ListN.{length, replicate, length-append, replicate-append-replicate}
-use lib.Dec.{eqb, leb, ltb}
-use borrow.Author.Tests.{lt-ltb, le-ltb, eq-eqb, ne-eqb}
+use lib.ListN.{length, replicate, replicate-append-replicate}
+use borrow.Author.Tests.{le-ltb, eq-eqb, ne-eqb}
 use Rattle.rules.specs.Bits.{lowBits}
-use Rattle.rules.specs.Reading.{Reader, _>>=_, give, here, bit, number}
 use Rattle.rules.specs.Runs.{zerosFrom, rice, riceForm, runsFrom, runs, runsOf, riceForms, runsForm}
-use Rattle.rules.proofs.Octets.{Below, none, more}
+use Rattle.rules.proofs.Octets.{Below, more}
 use Rattle.promises.proofs.Back.{Back, back-give, back-bind, back-bit, back-here, back-as, back-numberFrom}
 
 back-zeros : (start k left j : ℕ) → j < left → Back (zerosFrom start k left) (replicate j 0 ++ (1 ∷ [])) (k + j)

@@ -1,20 +1,18 @@
 -- A walk by its frames: each next one starts where the last one ended, until the octets end or a frame is refused.
-use Prim.Native.Nat.{ℕ, zero, suc, _+_, _*_, _-_, _≤_, _<_}
+use Prim.Native.Nat.{ℕ, zero, suc, _+_, _-_, _≤_, _<_}
 use native.Mathlib.Omega.{arith}
-use native.Mathlib.Nat.{le-trans}
-use mathlib.Core.Path.{_≡_, refl, sym, ap, _∙_}
-use mathlib.Core.List.{List, [], _∷_, _++_}
-use mathlib.Core.Bool.{Bool, true, false, cond, not}
+use mathlib.Core.Path.{_≡_, refl, _∙_}
+use mathlib.Core.List.{List}
+use mathlib.Core.Bool.{Bool, true, false, cond}
 use lib.ListN.{length, drop, length-drop}
-use lib.Dec.{leb, ltb}
+use lib.Dec.{leb}
 use borrow.Author.Tests.{le-leb, lt-leb, leb-true, leb-false}
 use Rattle.rules.specs.declared.Refusal.{Refusal}
-use Rattle.rules.specs.declared.Ending.{Ending}
 use Rattle.rules.specs.declared.Ending.the-variants.{Done, Refused}
 use Rattle.rules.specs.Tools.{isSet, isLaw}
 use Rattle.rules.specs.Reading.{Read, whole, refuse}
 use Rattle.rules.specs.Frame.{Found, octetsUsed, readOne}
-use Rattle.rules.specs.Walk.{Delivered, Walked, stopped, before, onward, walkFrom, longest, walkAll, octetsKept, samplesKept}
+use Rattle.rules.specs.Walk.{Walked, stopped, before, onward, walkFrom, longest, walkAll}
 use Rattle.rules.proofs.Accepted.{read-uses}
 
 -- the walk from place `at` on, with so much room

@@ -1,33 +1,32 @@
 -- What is written: short enough, filled with 0 bits, and read back whole, whatever follows.
-use Prim.Native.Nat.{ℕ, zero, suc, _+_, _*_, _-_, _^_, _/_, _%_, _≤_, _<_}
+use Prim.Native.Nat.{ℕ, _+_, _≤_}
 use native.Mathlib.Omega.{arith}
-use mathlib.Core.Path.{_≡_, refl, sym, ap, ap₂, _∙_, subst}
-use mathlib.Core.List.{List, [], _∷_, _++_, map, append-assoc, append-nil}
-use mathlib.Core.Bool.{Bool, true, false, cond, not, _&&_, _||_}
-use lib.ListN.{length, getD, take, replicate, length-append}
+use mathlib.Core.Path.{_≡_, refl, _∙_}
+use mathlib.Core.List.{List, [], _++_, map, append-nil}
+use mathlib.Core.Bool.{Bool, true, false, cond, not, _||_}
+use lib.ListN.{length, getD, take, length-append}
 use lib.Seq.{length-take-le}
-use lib.Dec.{eqb, leb, ltb}
-use borrow.Author.Tests.{lt-ltb, le-leb, eq-eqb, ne-eqb, eqb-true, leb-true, leb-false, ltb-true, ltb-false, not-false}
+use lib.Dec.{eqb, ltb}
+use borrow.Author.Tests.{le-ltb, ne-eqb, eqb-true, leb-true, ltb-false, not-false}
 use Rattle.rules.specs.declared.Refusal.{Refusal}
 use Rattle.rules.specs.declared.Refusal.the-variants.{Law, Set, Length, Room}
 use Rattle.rules.specs.Tools.{holds, Within, isSet, isWriterSet, isLaw, isLength}
-use Rattle.rules.specs.Bits.{lowBits, bitsOf, octetsFor, fillFor, pack}
-use Rattle.rules.specs.Reading.{Read, whole}
+use Rattle.rules.specs.Bits.{lowBits, bitsOf, octetsFor, pack}
 use Rattle.rules.specs.First.{octetFor, riceCode, firstOctet, lookUp, rows}
 use Rattle.rules.specs.Samples.{maskOf, sampleOf}
-use Rattle.rules.specs.Frame.{Found, frame, afterFirst, readOne}
+use Rattle.rules.specs.Frame.{frame, afterFirst, readOne}
 use Rattle.rules.specs.Runs.{runsForm}
 use Rattle.rules.specs.Zeros.{prefix, flagOf, codeOf}
 use Rattle.rules.specs.Located.{valuesOf}
 use Rattle.rules.specs.Chooses.{markOf, bestS, riceChoice, rowOf, locatedFlag, valuesForm, locatedForm, applies, formOf, octetsOfForm, tieOrder, chosenTool, Written, chosen, Write, wrote, declined, writeOne}
 use Rattle.rules.proofs.Octets.{Below, below-take, length-lowBits, length-bitsOf, lowBits-below, bitsOf-append, bitsOf-pack, length-pack}
 use Rattle.rules.proofs.Signed.{law-mask}
-use Rattle.rules.proofs.Tests.{and-left, and-right, or-cases, by-length}
+use Rattle.rules.proofs.Tests.{or-cases, by-length}
 use Rattle.promises.proofs.Back.{back-number, back-first}
 use Rattle.promises.proofs.Each.{each-at}
 use Rattle.promises.proofs.Frame.{foundAt, filledBits, rice-code}
 use Rattle.promises.proofs.Forms.{form-below, form-restores}
-use Rattle.promises.proofs.Chosen.{writer-holds, FirstLeast, order, chosen-first-least, usable, Usable, chosen-usable, chosen-least}
+use Rattle.promises.proofs.Chosen.{writer-holds, FirstLeast, order, chosen-first-least, usable, chosen-usable, chosen-least}
 
 -- the tests that a written frame has passed, and what was written
 pub record Wrote (n : ℕ) (samples : List ℕ) (law set room : ℕ) (w : Written) : Type 0 where
@@ -87,7 +86,7 @@ unfolding chosen
 chosen-full mask set s l = rw (ne-eqb (length s) 0 (length-not-zero (length s) l)) refl
 
 -- From bits to octets: what a frame is read from
-read-bits : (law set room : ℕ) {b : List ℕ} (more : List ℕ) → isLaw law ≡ true → isSet set ≡ true → Below 2 b
+pub read-bits : (law set room : ℕ) {b : List ℕ} (more : List ℕ) → isLaw law ≡ true → isSet set ≡ true → Below 2 b
     → readOne (pack b ++ more) law set room ≡ frame (maskOf law) set room (filledBits b ++ bitsOf more) 0
 unfolding readOne
 read-bits law set room {b} more l s low = rw (l, s, bitsOf-append (pack b) more, bitsOf-pack low) refl
@@ -234,3 +233,12 @@ written-chosen n samples law set room w h k e =
     let l : isLength n ≡ true = or-cases (isLength n ≡ true) (eqb n 0) (isLength n) (d .allowed) (λ z. absurd (omega (arith, eqb-true n 0 z))) (λ l. l) in
     rw (← (d .is), chosen-full (maskOf law) set s (rw (length-take-le n samples h) l))
     (record { form = refl; choice = chosen-first-least (maskOf law) set s (d .odd) })
+
+-- and every frame of an allowed length is written, by either law and any odd set up to 127, given N + 1 octets of room
+pub writes : (n : ℕ) (samples : List ℕ) (law set room : ℕ) → n ≤ length samples → Below 256 samples → isLaw law ≡ true → isWriterSet set ≡ true
+    → eqb n 0 || isLength n ≡ true → n + 1 ≤ room → writeOne n samples law set room ≡ wrote (chosen (maskOf law) set (take n samples))
+unfolding writeOne
+writes n samples law set room h b i o a r =
+    let s = chosen-short (maskOf law) set o (frames-of n samples h b a) in
+    let bits = chosen (maskOf law) set (take n samples) .bits in
+    rw (i, o, a, le-ltb room (octetsFor (length bits)) (omega (arith, s .most, s .octets, length-take-le n samples h))) refl

@@ -1,22 +1,21 @@
 -- Tools 1 to 6: each body's form is read back, for every frame that the tool applies to.
-use Prim.Native.Nat.{ℕ, zero, suc, _+_, _*_, _-_, _^_, _/_, _%_, _≤_, _<_}
+use Prim.Native.Nat.{ℕ, zero, suc, _≤_, _<_}
 use native.Mathlib.Omega.{arith}
-use mathlib.Core.Path.{_≡_, refl, sym, ap, ap₂, _∙_}
-use mathlib.Core.List.{List, [], _∷_, _++_, map, append-assoc, append-nil}
-use mathlib.Core.Bool.{Bool, true, false, cond, _&&_, _||_}
-use lib.ListN.{length, getD, replicate, length-map}
-use lib.Dec.{eqb, leb, ltb}
-use borrow.Author.Tests.{lt-ltb, le-ltb, eq-eqb, ne-eqb, eqb-true}
+use mathlib.Core.Path.{_≡_, refl, sym, ap₂}
+use mathlib.Core.List.{List, [], _∷_, _++_, map, append-nil}
+use mathlib.Core.Bool.{Bool, true, false, _||_}
+use lib.ListN.{length, replicate, length-map}
+use lib.Dec.{eqb}
+use borrow.Author.Tests.{eqb-true}
 use Rattle.rules.specs.Bits.{lowBits, bitsOf}
-use Rattle.rules.specs.Reading.{Reader, _>>=_, give, here, bit, number}
-use Rattle.rules.specs.Runs.{runs, runsForm}
+use Rattle.rules.specs.Runs.{runsForm}
 use Rattle.rules.specs.Samples.{plusZero, minusZero}
 use Rattle.rules.specs.Zeros.{uncompressed, constantly, constant, zeroOf, flagOf, binary, codeOf, mostS, treeOf, readTree, plusMinus}
 use Rattle.rules.specs.Tools.{isLength}
 use Rattle.rules.proofs.Codes.{code-read}
-use Rattle.rules.proofs.Octets.{Below, none, more}
-use Rattle.promises.proofs.Back.{Back, back-give, back-bind, back-bit, back-here, back-as, back-number, back-flags, back-octetsAfter}
-use Rattle.promises.proofs.Each.{Each, nothing, next}
+use Rattle.rules.proofs.Octets.{Below}
+use Rattle.promises.proofs.Back.{Back, back-give, back-bind, back-as, back-number, back-flags, back-octetsAfter}
+use Rattle.promises.proofs.Each.{Each, nothing, next, pick-below, below-map}
 use Rattle.promises.proofs.Runs.{back-runs}
 
 -- the code of S, for every length
@@ -69,12 +68,7 @@ zeros-back mask mark h nothing = refl
 zeros-back mask mark h (next {x = x} p t) = ap₂ _∷_ (zero-back mask mark x h p) (zeros-back mask mark h t)
 
 pub flags-below : (mask mark : ℕ) (s : List ℕ) → Below 2 (map (flagOf mask mark) s)
-flags-below mask mark [] = none
-flags-below mask mark (x ∷ s) = more (flag-below (eqb x (zeroOf mask mark 0))) (flags-below mask mark s)
-  where
-    flag-below : (b : Bool) → cond b 0 1 < 2
-    flag-below true = omega arith
-    flag-below false = omega arith
+flags-below mask mark s = below-map (flagOf mask mark) (λ x. pick-below (eqb x (zeroOf mask mark 0)) 0 1 (omega arith) (omega arith)) s
 
 -- "Binary: N bits, 1 is minus zero."
 pub back-binary : (mask : ℕ) (s : List ℕ) → Each (isZero mask) s → Back (binary mask (length s)) (map (flagOf mask 0) s) s

@@ -3,8 +3,9 @@ use Prim.Native.Nat.{ℕ, zero, suc, _+_, _-_, _≤_, _<_}
 use mathlib.Core.Path.{_≡_, refl, sym, ap, _∙_}
 use mathlib.Core.List.{List, [], _∷_, _++_, append-assoc, append-nil}
 use native.Mathlib.Omega.{arith}
-use lib.ListN.{length, take, set, replicate, length-append, length-replicate, replicate-append-replicate}
-use lib.Seq.{take-at, set-at}
+use native.Mathlib.Numerals.{add-one}
+use lib.ListN.{length, getD, take, set, replicate, length-append, length-replicate, replicate-append-replicate}
+use lib.Seq.{take-at, take-suc, set-at, length-take-le}
 
 pub record Padded (flags done : List ℕ) : Type 0 where
   pub array : flags ≡ done ++ replicate (320 - length done) 0
@@ -47,4 +48,18 @@ module _ {flags done : List ℕ} (p : Padded flags done) where
             rw (p .array, f, l, ← append-assoc done (replicate v 0) (replicate (suc m) 0), set-at (done ++ replicate v 0) 0 (replicate m 0) 1 (length done + v) k)
             (simp append-assoc);
         fits = omega arith;
+      }
+
+  -- one more, of those of a list in turn
+  pub padded-next : (l : List ℕ) (i : ℕ) (x z : ℕ) → done ≡ take i l → i < length l → length l ≤ 320 → x ≡ getD l i z
+      → Padded (set flags i x) (take (i + 1) l)
+  padded-next l i x z e h k v =
+      let s : length done ≡ i = rw e (length-take-le i l (omega arith)) in
+      let m = 320 - (i + 1) in
+      let f : 320 - length done ≡ suc m = omega arith in
+      let g : take (i + 1) l ≡ done ++ (x ∷ []) = rw (add-one i, take-suc l i z h, e, v) in
+      let n : length (done ++ (x ∷ [])) ≡ i + 1 = simp length-append (omega arith) in
+      record {
+        array = rw (p .array, f, set-at done 0 (replicate m 0) x i s, g, n) (simp append-assoc);
+        fits = rw (g, n) (omega arith);
       }
