@@ -102,14 +102,7 @@ impl Codec for Proved {
     fn walk(&self, octets: &[u8], law: u32, set: u32, out: &mut [u8]) -> Walk {
         let (ending, [frames, octets, samples, tool]) = g7110::raw::walk(octets, law, set, out);
         let octets = octets as usize;
-        Walk {
-            ending,
-            tool: tool as u32,
-            frames: frames as usize,
-            octets,
-            samples: samples as usize,
-            place: octets,
-        }
+        Walk { ending, tool: tool as u32, frames: frames as usize, octets, samples: samples as usize, place: octets }
     }
 
     fn listing(&self, input: &[u8]) -> Option<Vec<u8>> {

@@ -125,7 +125,11 @@ impl<'a> Fuzz<'a> {
             }
             _ => {
                 let old = self.rng.pick(&self.pool).clone();
-                if old.is_empty() { old } else { damage_somehow(&old, &mut self.rng) }
+                if old.is_empty() {
+                    old
+                } else {
+                    damage_somehow(&old, &mut self.rng)
+                }
             }
         };
         if self.pool.len() < POOL {
@@ -145,7 +149,11 @@ impl<'a> Fuzz<'a> {
     }
 
     fn law(&mut self) -> u32 {
-        if self.rng.chance(1, 100) { self.rng.next_u64() as u32 } else { self.rng.below(2) as u32 }
+        if self.rng.chance(1, 100) {
+            self.rng.next_u64() as u32
+        } else {
+            self.rng.below(2) as u32
+        }
     }
 
     fn set(&mut self) -> u32 {
@@ -157,7 +165,11 @@ impl<'a> Fuzz<'a> {
     }
 
     fn room(&mut self, most: usize) -> usize {
-        if self.rng.chance(1, 6) { self.rng.below(most) } else { most }
+        if self.rng.chance(1, 6) {
+            self.rng.below(most)
+        } else {
+            most
+        }
     }
 
     /// Makes calls, and saves what differed.

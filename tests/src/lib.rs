@@ -18,9 +18,9 @@ mod vectors;
 
 pub use codec::{Codec, Proved, Read, Second, Walk, Write};
 pub use compare::{check, check_firsts, Compared};
+pub use notation::{bits, octets};
 pub use pair::Pair;
 pub use table::{say, Table};
-pub use notation::{bits, octets};
 pub use vectors::{firsts, vectors, Ask, Call, First, Settled, Vector};
 
 /// The endings of document 01 by name, in the order of their numbers; 0 is an accepted call.

@@ -148,7 +148,10 @@ fn refused_in_the_body() {
         }
     }
     table.close();
-    say(&format!("compared: read, refused in the body, whole, cut behind the fault and before it: {} calls\n", pair.calls));
+    say(&format!(
+        "compared: read, refused in the body, whole, cut behind the fault and before it: {} calls\n",
+        pair.calls
+    ));
     pair.close();
 }
 
@@ -202,8 +205,7 @@ fn refused_before_the_body() {
     let mut pair = pair();
     let mut rng = Prng::new(4);
     let mut rows: Vec<String> = ["LAW", "SET", "SHORT no octets", "SHORT second octet"].map(String::from).to_vec();
-    let unassigned: Vec<u8> =
-        [0x01, 0x46, 0x47, 0x85, 0x87, 0xC5, 0xC7].into_iter().chain(0x88..=0x8F).collect();
+    let unassigned: Vec<u8> = [0x01, 0x46, 0x47, 0x85, 0x87, 0xC5, 0xC7].into_iter().chain(0x88..=0x8F).collect();
     rows.extend(unassigned.iter().map(|octet| format!("PREFIX {octet:02X}")));
     rows.extend((1..=13).map(|tool| format!("TOOL {tool}")));
     rows.extend((1..=7).map(|tool| format!("ROOM tool {tool}")));

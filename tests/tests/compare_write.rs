@@ -41,8 +41,7 @@ fn write_and_read_back(pair: &mut Pair, frame: &[u8], law: u32, set: u32) -> (Wr
     write_as(pair, &Ask { room: wrote.octets.saturating_sub(1), ..ask.clone() }, refused("ROOM"));
     let back = Ask { given: form.clone(), law, set, room: frame.len() };
     let read = pair.read(&back);
-    let wanted =
-        Read { ending: 0, tool: wrote.tool, samples: frame.len(), octets: wrote.octets, bits: wrote.bits };
+    let wanted = Read { ending: 0, tool: wrote.tool, samples: frame.len(), octets: wrote.octets, bits: wrote.bits };
     if read != wanted || pair.output() != frame {
         pair.differ("read back", &back, &format!("{read:?}, wanted {wanted:?}"));
     }
@@ -67,7 +66,8 @@ fn every_kind_of_frame() {
     let kinds = all_kinds();
     let mut names: Vec<String> = kinds.iter().copied().map(kind_name).collect();
     names.dedup();
-    let columns: Vec<String> = LENGTHS.iter().flat_map(|length| [format!("{length} A"), format!("{length} mu")]).collect();
+    let columns: Vec<String> =
+        LENGTHS.iter().flat_map(|length| [format!("{length} A"), format!("{length} mu")]).collect();
     let mut table = Table::new("frames written, by kind, length and law", &names, &columns, 2);
     for (turn, kind) in kinds.iter().enumerate() {
         for length in LENGTHS {

@@ -20,7 +20,12 @@ fn nothing_differs() {
     (0..ROUNDS).for_each(|_| fuzz.round());
     let Fuzz { reads, writes, walks, .. } = fuzz;
     say(&format!("compared: fuzz, seed {SEED}: {reads} frames read, {writes} written, {walks} streams walked\n"));
-    assert!(fuzz.differences() == 0, "{} differences, saved in target/fuzz\n{}", fuzz.differences(), fuzz.shown().join("\n"));
+    assert!(
+        fuzz.differences() == 0,
+        "{} differences, saved in target/fuzz\n{}",
+        fuzz.differences(),
+        fuzz.shown().join("\n")
+    );
 }
 
 /// The second program, wrong where a filling bit is not 0.

@@ -56,8 +56,7 @@ fn a_program_in_cpp() {
 fn the_stack_that_a_call_uses() {
     let said = run("cc", "-std=c99", "stack.c", &["-pthread"]);
     say(&said.replace("stack:", "compared: stack:"));
-    let octets: Vec<u64> =
-        said.lines().map(|line| line.split_whitespace().nth(2).unwrap().parse().unwrap()).collect();
+    let octets: Vec<u64> = said.lines().map(|line| line.split_whitespace().nth(2).unwrap().parse().unwrap()).collect();
     assert_eq!(octets.len(), 3, "{said}");
     assert!(octets.iter().all(|octets| *octets > 0 && *octets <= MOST_STACK), "{said}");
 }
