@@ -10,6 +10,8 @@ const MARGIN: usize = 64;
 const FILLS: [u8; 2] = [0xA7, 0x58];
 /// Differences shown at most; they are all counted.
 const SHOWN: usize = 20;
+/// Differences put in words at most.
+const WORDED: usize = 200;
 
 /// What a call did with the octets lent to it.
 trait Report: PartialEq + Debug + Copy {
@@ -115,6 +117,9 @@ impl<'a> Pair<'a> {
     /// Notes a difference that the caller saw, or one of a call.
     pub fn differ(&mut self, what: &str, ask: &Ask, fault: &str) {
         self.differences += 1;
+        if self.differences > WORDED {
+            return;
+        }
         self.last = format!("{what} {}: {fault}", asked(ask));
         if self.shown.len() < SHOWN {
             self.shown.push(self.last.clone());
