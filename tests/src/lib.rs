@@ -1,5 +1,8 @@
 //! What is run and compared. Vectors are lines of text in `vectors/`; a back end is an implementation of
 //! [`Codec`]; [`check`] runs one vector, and its neighbours, on one back end. docs/TESTING.md has the line format.
+//!
+//! A [`Pair`] asks two back ends the same. [`forms`], [`faults`], [`frames`] and [`streams`] make what they are asked,
+//! and a [`Table`] counts what was met.
 
 #![deny(unsafe_code)]
 
@@ -7,8 +10,10 @@ mod codec;
 mod compare;
 pub mod faults;
 pub mod forms;
+pub mod frames;
 pub mod fuzz;
 pub mod measure;
+pub mod met;
 mod notation;
 mod pair;
 mod program;
