@@ -183,7 +183,7 @@ impl<'a> Fuzz<'a> {
 
     fn save(&self, ask: &Ask) {
         let name = format!("seed-{}-{}.txt", self.seed, self.pair.differences);
-        let text = format!("{}\n\nseed={} {}\n", self.pair.last(), self.seed, asked(ask));
+        let text = format!("{}\n\nseed={} {}\n", self.pair.last(), self.seed, asked(ask, usize::MAX));
         fs::create_dir_all(&self.folder).expect("the folder can be made");
         fs::write(self.folder.join(name), text).expect("the folder can be written to");
     }

@@ -10,6 +10,8 @@ const MARGIN: usize = 64;
 const FILLS: [u8; 2] = [0xA7, 0x58];
 /// Differences shown at most; they are all counted.
 const SHOWN: usize = 20;
+/// Octets of an input shown at most.
+const MOST_OCTETS: usize = 450;
 /// Differences put in words at most.
 const WORDED: usize = 200;
 
@@ -120,7 +122,7 @@ impl<'a> Pair<'a> {
         if self.differences > WORDED {
             return;
         }
-        self.last = format!("{what} {}: {fault}", asked(ask));
+        self.last = format!("{what} {}: {fault}", asked(ask, MOST_OCTETS));
         if self.shown.len() < SHOWN {
             self.shown.push(self.last.clone());
         }
@@ -142,8 +144,9 @@ impl<'a> Pair<'a> {
     }
 }
 
-/// A call in the words of a vector file.
-pub fn asked(ask: &Ask) -> String {
-    let octets: String = ask.given.iter().map(|octet| format!("{octet:02X}")).collect();
-    format!("octets={octets} law={} set={} room={}", ask.law, ask.set, ask.room)
+/// A call in the words of a vector file, with so many of its octets at most.
+pub fn asked(ask: &Ask, most: usize) -> String {
+    let octets: String = ask.given.iter().take(most).map(|octet| format!("{octet:02X}")).collect();
+    let more = if ask.given.len() > most { format!(".. ({} octets)", ask.given.len()) } else { String::new() };
+    format!("octets={octets}{more} law={} set={} room={}", ask.law, ask.set, ask.room)
 }
