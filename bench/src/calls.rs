@@ -4,7 +4,8 @@ use std::hint::black_box;
 
 #[inline(never)]
 pub fn proved_read(octets: &[u8], law: u32, set: u32, out: &mut [u8]) -> u32 {
-    let (ending, report) = g7110::raw::read(octets, law, set, out);
+    let mut report = [0; 4];
+    let ending = g7110::raw::read(octets, law, set, out, &mut report);
     black_box(&report);
     ending
 }
@@ -18,7 +19,8 @@ pub fn second_read(octets: &[u8], law: u32, set: u32, out: &mut [u8]) -> u32 {
 
 #[inline(never)]
 pub fn proved_write(samples: &[u8], law: u32, set: u32, out: &mut [u8]) -> u32 {
-    let (ending, report) = g7110::raw::write(samples, law, set, out);
+    let mut report = [0; 3];
+    let ending = g7110::raw::write(samples, law, set, out, &mut report);
     black_box(&report);
     ending
 }
@@ -32,7 +34,8 @@ pub fn second_write(samples: &[u8], law: u32, set: u32, out: &mut [u8]) -> u32 {
 
 #[inline(never)]
 pub fn proved_walk(octets: &[u8], law: u32, set: u32, out: &mut [u8]) -> u32 {
-    let (ending, report) = g7110::raw::walk(octets, law, set, out);
+    let mut report = [0; 4];
+    let ending = g7110::raw::walk(octets, law, set, out, &mut report);
     black_box(&report);
     ending
 }

@@ -147,7 +147,9 @@ pub struct Walk {
 
 /// Reads one frame at the start of the octets. What is refused leaves the output as it was.
 pub fn read(octets: &[u8], law: Law, set: u32, out: &mut [u8]) -> Result<Read, Refusal> {
-    let (ending, [samples, octets, bits, tool]) = raw::read(octets, law.number(), set, out);
+    let mut report = [0; 4];
+    let ending = raw::read(octets, law.number(), set, out, &mut report);
+    let [samples, octets, bits, tool] = report;
     match ending {
         0 => Ok(Read { samples: samples as usize, octets: octets as usize, bits: bits as usize, tool: tool as u32 }),
         _ => Err(Refusal::of(ending, tool)),
@@ -156,7 +158,9 @@ pub fn read(octets: &[u8], law: Law, set: u32, out: &mut [u8]) -> Result<Read, R
 
 /// Writes one frame in the chosen form: of the set's tools that apply, the fewest octets.
 pub fn write(samples: &[u8], law: Law, set: u32, out: &mut [u8]) -> Result<Written, Refusal> {
-    let (ending, [octets, bits, tool]) = raw::write(samples, law.number(), set, out);
+    let mut report = [0; 3];
+    let ending = raw::write(samples, law.number(), set, out, &mut report);
+    let [octets, bits, tool] = report;
     match ending {
         0 => Ok(Written { octets: octets as usize, bits: bits as usize, tool: tool as u32 }),
         _ => Err(Refusal::of(ending, tool)),
@@ -165,7 +169,9 @@ pub fn write(samples: &[u8], law: Law, set: u32, out: &mut [u8]) -> Result<Writt
 
 /// Walks a stream, frame after frame, to its end or to a frame that is refused.
 pub fn walk(octets: &[u8], law: Law, set: u32, out: &mut [u8]) -> Walk {
-    let (ending, [frames, octets, samples, tool]) = raw::walk(octets, law.number(), set, out);
+    let mut report = [0; 4];
+    let ending = raw::walk(octets, law.number(), set, out, &mut report);
+    let [frames, octets, samples, tool] = report;
     let refused = (ending != 0).then(|| Refusal::of(ending, tool));
     Walk { frames: frames as usize, octets: octets as usize, samples: samples as usize, refused }
 }

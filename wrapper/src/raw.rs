@@ -34,32 +34,20 @@ extern "C" {
     ) -> u32;
 }
 
-/// What a report holds before the call; no call may leave any of it.
-const UNWRITTEN: u64 = u64::MAX;
-
-/// The ending, and samples, octets, bits and tool.
-pub fn read(octets: &[u8], law: u32, set: u32, out: &mut [u8]) -> (u32, [u64; 4]) {
-    let mut report = [UNWRITTEN; 4];
+/// The ending; the report is samples, octets, bits and tool.
+pub fn read(octets: &[u8], law: u32, set: u32, out: &mut [u8], report: &mut [u64; 4]) -> u32 {
     // SAFETY: both slices and the report are live for the call, and the borrows keep them apart.
-    let ending =
-        unsafe { g7110_read(octets.as_ptr(), octets.len(), law, set, out.as_mut_ptr(), out.len(), &mut report) };
-    (ending, report)
+    unsafe { g7110_read(octets.as_ptr(), octets.len(), law, set, out.as_mut_ptr(), out.len(), report) }
 }
 
-/// The ending, and octets, bits and tool.
-pub fn write(samples: &[u8], law: u32, set: u32, out: &mut [u8]) -> (u32, [u64; 3]) {
-    let mut report = [UNWRITTEN; 3];
+/// The ending; the report is octets, bits and tool.
+pub fn write(samples: &[u8], law: u32, set: u32, out: &mut [u8], report: &mut [u64; 3]) -> u32 {
     // SAFETY: as in `read`.
-    let ending =
-        unsafe { g7110_write(samples.as_ptr(), samples.len(), law, set, out.as_mut_ptr(), out.len(), &mut report) };
-    (ending, report)
+    unsafe { g7110_write(samples.as_ptr(), samples.len(), law, set, out.as_mut_ptr(), out.len(), report) }
 }
 
-/// The ending, and frames, octets, samples and tool.
-pub fn walk(octets: &[u8], law: u32, set: u32, out: &mut [u8]) -> (u32, [u64; 4]) {
-    let mut report = [UNWRITTEN; 4];
+/// The ending; the report is frames, octets, samples and tool.
+pub fn walk(octets: &[u8], law: u32, set: u32, out: &mut [u8], report: &mut [u64; 4]) -> u32 {
     // SAFETY: as in `read`.
-    let ending =
-        unsafe { g7110_walk(octets.as_ptr(), octets.len(), law, set, out.as_mut_ptr(), out.len(), &mut report) };
-    (ending, report)
+    unsafe { g7110_walk(octets.as_ptr(), octets.len(), law, set, out.as_mut_ptr(), out.len(), report) }
 }

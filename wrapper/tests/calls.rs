@@ -77,7 +77,9 @@ fn every_refusal_has_its_number() {
     assert_eq!(write(&[PLUS; 41], Law::Mu, 127, &mut out), Err(Refusal::Length));
     assert_eq!(write(&[PLUS; 40], Law::Mu, 126, &mut out), Err(Refusal::Set));
     assert_eq!(walk(&vec![0; 65_536], Law::Mu, 127, &mut out).refused, Some(Refusal::Long));
-    assert_eq!(g7110::raw::read(&[0x41], 2, 127, &mut out), (Refusal::Law.number(), [0; 4]));
+    let mut report = [9; 4];
+    assert_eq!(g7110::raw::read(&[0x41], 2, 127, &mut out, &mut report), Refusal::Law.number());
+    assert_eq!(report, [0; 4], "a report is written in every case");
     assert_eq!(out, [0xA7; 320], "a refused call leaves the output as lent");
 }
 
