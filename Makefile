@@ -3,11 +3,14 @@
 CARGO ?= cargo
 export CARGO_TARGET_DIR := $(CURDIR)/target/cargo
 
-.PHONY: help run test fmt clean
+.PHONY: help run test fuzz bench archive fmt clean
 
 help:
 	@echo 'make run     lists the example stream and holds it against the expected text'
 	@echo 'make test    the gate: every proof and every test; the last line counts them'
+	@echo 'make fuzz    proved code and second program on drawn inputs, for FUZZ_SECONDS=60, from FUZZ_SEED'
+	@echo 'make bench   the times of both, in one run, as tables for docs/BENCHMARKS.md'
+	@echo 'make archive target/staticlib/libg7110.a, for C and Rust to link'
 	@echo 'make fmt     lays out every file of Rattle'
 	@echo 'make clean   removes target/'
 
@@ -21,6 +24,16 @@ run:
 
 test:
 	@bash .ci/run
+
+# rt builds nothing that is built already.
+archive:
+	@rt staticlib g7110
+
+fuzz: archive
+	@$(CARGO) run --release --offline --locked --quiet --package tests --bin fuzz
+
+bench: archive
+	@$(CARGO) run --profile bench --offline --locked --quiet --package bench
 
 fmt:
 	rt fmt

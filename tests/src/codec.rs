@@ -1,5 +1,7 @@
 //! The three calls, whoever answers them. Another back end is one more implementation of [`Codec`].
 
+use crate::program;
+
 /// What one call of the reader reports.
 #[derive(Clone, Copy, Debug, PartialEq, Eq)]
 pub struct Read {
@@ -75,5 +77,44 @@ impl Codec for Second {
 
     fn listing(&self, input: &[u8]) -> Option<Vec<u8>> {
         Some(second::listing(input))
+    }
+}
+
+/// What a report holds before a call. All of it is written in every case.
+const UNWRITTEN: u64 = u64::MAX;
+
+/// The proved code, through the static library; its listing is the program's.
+pub struct Proved;
+
+impl Codec for Proved {
+    fn name(&self) -> &str {
+        "proved"
+    }
+
+    fn read(&self, octets: &[u8], law: u32, set: u32, out: &mut [u8]) -> Read {
+        let mut report = [UNWRITTEN; 4];
+        let ending = g7110::raw::read(octets, law, set, out, &mut report);
+        let [samples, octets, bits, tool] = report;
+        Read { ending, tool: tool as u32, samples: samples as usize, octets: octets as usize, bits: bits as usize }
+    }
+
+    fn write(&self, samples: &[u8], law: u32, set: u32, out: &mut [u8]) -> Write {
+        let mut report = [UNWRITTEN; 3];
+        let ending = g7110::raw::write(samples, law, set, out, &mut report);
+        let [octets, bits, tool] = report;
+        Write { ending, tool: tool as u32, octets: octets as usize, bits: bits as usize }
+    }
+
+    /// The C call reports the place once: it is the octets kept.
+    fn walk(&self, octets: &[u8], law: u32, set: u32, out: &mut [u8]) -> Walk {
+        let mut report = [UNWRITTEN; 4];
+        let ending = g7110::raw::walk(octets, law, set, out, &mut report);
+        let [frames, octets, samples, tool] = report;
+        let octets = octets as usize;
+        Walk { ending, tool: tool as u32, frames: frames as usize, octets, samples: samples as usize, place: octets }
+    }
+
+    fn listing(&self, input: &[u8]) -> Option<Vec<u8>> {
+        Some(program::listing(input))
     }
 }

@@ -1,10 +1,14 @@
-//! The listing, on streams whose text is too long for a line of a vector file.
+//! The listing, by the second program and by the program that rt built, on streams whose text is too long for a line of
+//! a vector file.
 
 use std::fmt::Write;
-use tests::{Codec, Second};
+use tests::{Codec, Proved, Second};
 
+/// The text, which is the same by both.
 fn listed(input: &[u8]) -> String {
-    String::from_utf8(Second.listing(input).expect("the second program lists")).expect("the text is ASCII")
+    let text = Second.listing(input).expect("the second program lists");
+    assert!(Proved.listing(input).as_ref() == Some(&text), "the two programs print other texts");
+    String::from_utf8(text).expect("the text is ASCII")
 }
 
 /// The example of document 01; `make run` holds the program itself against the same file.

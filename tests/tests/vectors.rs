@@ -1,10 +1,10 @@
 //! Every vector of `vectors/`, on every back end. Another back end is one more line in `backs`.
 
 use std::io::Write as _;
-use tests::{check, check_firsts, firsts, vectors, Codec, Compared, Second};
+use tests::{check, check_firsts, firsts, vectors, Codec, Compared, Proved, Second};
 
 fn backs() -> Vec<Box<dyn Codec>> {
-    vec![Box::new(Second)]
+    vec![Box::new(Second), Box::new(Proved)]
 }
 
 /// The files that a test below runs.
