@@ -1,5 +1,8 @@
-pub mod Rows
-pub mod LayTurn
-pub mod Emptied
+pub mod Width
+pub mod Listing
+pub mod Methods
+pub mod Counted
+pub mod Laying
+pub mod OneValue
 pub mod InTurn
-pub mod FirstBits
+pub mod Rows

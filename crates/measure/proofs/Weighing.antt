@@ -34,6 +34,7 @@ pub record Leasting (f : ℕ → ℕ) (most : ℕ) (best : Least) (k : ℕ) : Ty
   pub from : 1 ≤ best .s
   pub to : best .s < k
   pub within : k ≤ most + 1
+  pub small : best .bits ≤ 200000000
 
 cond-of : (f : ℕ → ℕ) (t : Bool) (x y : ℕ) → cond t (f x) (f y) ≡ f (cond t x y)
 cond-of f true x y = refl
@@ -47,11 +48,15 @@ cond-to : (t : Bool) (x y n : ℕ) → x < n → y < n → cond t x y < n
 cond-to true x y n h k = h
 cond-to false x y n h k = k
 
-pub least-turn : {f : ℕ → ℕ} {most : ℕ} {best best′ : Least} (k b : ℕ) → Leasting f most best k → k ≤ most → b ≡ f k
+cond-small : (t : Bool) (x y : ℕ) → x ≤ 200000000 → y ≤ 200000000 → cond t x y ≤ 200000000
+cond-small true x y h k = h
+cond-small false x y h k = k
+
+pub least-turn : {f : ℕ → ℕ} {most : ℕ} {best best′ : Least} (k b : ℕ) → Leasting f most best k → k ≤ most → b ≡ f k → b ≤ 200000000
     → best′ .s ≡ cond (ltb b (best .bits)) k (best .s) → best′ .bits ≡ cond (ltb b (best .bits)) b (best .bits)
     → Leasting f most best′ (k + 1)
 unfolding leastFrom
-least-turn {f} {most} {best} {best′} k b t h e es eb =
+least-turn {f} {most} {best} {best′} k b t h e few es eb =
     let q = ltb (f k) (f (best .s)) in
     let tested : ltb b (best .bits) ≡ q = rw (e, t .bits) in
     let now : best′ .s ≡ cond q k (best .s) = es ∙ ap (λ (z : Bool). cond z k (best .s)) tested in
@@ -62,18 +67,19 @@ least-turn {f} {most} {best} {best′} k b t h e es eb =
       from = rw now (cond-from q k (best .s) (omega (arith, t .from, t .to)) (t .from));
       to = rw now (cond-to q k (best .s) (k + 1) (omega arith) (omega (arith, t .to)));
       within = omega arith;
+      small = rw eb (cond-small (ltb b (best .bits)) b (best .bits) few (t .small));
     }
 
-pub least-start : (f : ℕ → ℕ) (most b : ℕ) → 1 ≤ most → b ≡ f 1 → Leasting f most (record { s = 1; bits = b }) 2
-least-start f most b h e =
+pub least-start : (f : ℕ → ℕ) (most b : ℕ) → 1 ≤ most → b ≡ f 1 → b ≤ 200000000 → Leasting f most (record { s = 1; bits = b }) 2
+least-start f most b h e few =
     let k : most + 1 - 2 ≡ most - 1 = omega arith in
-    record { says = rw k; bits = e; from = omega arith; to = omega arith; within = omega arith }
+    record { says = rw k; bits = e; from = omega arith; to = omega arith; within = omega arith; small = few }
 
 pub least-done : {f : ℕ → ℕ} {most : ℕ} {best : Least} (k : ℕ) → Leasting f most best k → most < k → LeastIs f most best
 unfolding leastFrom
 least-done {f} {most} {best} k t h =
     let none : most + 1 - k ≡ 0 = omega arith in
-    record { s = rw none at (t .says); bits = t .bits; from = t .from; to = omega (arith, t .to, t .within) }
+    record { s = rw none at (t .says); bits = t .bits; from = t .from; to = omega (arith, t .to, t .within); small = t .small }
 
 -- ceil(log2 D)
 below-pow : (w : ℕ) → w < 2 ^ w

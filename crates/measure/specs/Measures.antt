@@ -43,6 +43,7 @@ pub record LeastIs (f : ℕ → ℕ) (most : ℕ) (r : Least) : Type 0 where
   pub bits : r .bits ≡ f (r .s)
   pub from : 1 ≤ r .s
   pub to : r .s ≤ most
+  pub small : r .bits ≤ 200000000
 
 -- how many are this one
 abbrev pub countIs : ℕ → List ℕ → ℕ

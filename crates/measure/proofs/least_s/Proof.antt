@@ -37,7 +37,7 @@ add-t13 c = search needs
 
 -- src/lib.rt:134:5
 loop-holds : tie.Need-loop-holds Inv-loop μ-loop
-loop-holds c = least-start _ _ _ (omega arith) (ap₂ _+_ (c .before .octet .ensures .0) (c .run-bits .ensures .0))
+loop-holds c = least-start _ _ _ (omega arith) (ap₂ _+_ (c .before .octet .ensures .0) (c .run-bits .ensures .0)) (omega (arith, c .before .octet .ensures .1, c .run-bits .ensures .1))
 
 -- src/lib.rt:135:26
 element-copy-out-octet-2 : tie.Need-element-copy-out-octet-2 Inv-loop μ-loop
@@ -69,7 +69,7 @@ loop-less c = search needs
 
 -- src/lib.rt:134:5
 loop-again : tie.Need-loop-again Inv-loop μ-loop
-loop-again c = least-turn (c .before .before .before .before .before .loop .k) _ (c .before .before .before .before .before .loop .inv) (c .before .before .before .before .loop-test .taken) (ap₂ _+_ (c .before .before .octet2 .ensures .0) (c .before .run-bits2 .ensures .0)) (c .lesser .ensures .0) (c .lesser .ensures .1)
+loop-again c = least-turn (c .before .before .before .before .before .loop .k) _ (c .before .before .before .before .before .loop .inv) (c .before .before .before .before .loop-test .taken) (ap₂ _+_ (c .before .before .octet2 .ensures .0) (c .before .run-bits2 .ensures .0)) (omega (arith, c .before .before .octet2 .ensures .1, c .before .run-bits2 .ensures .1)) (c .lesser .ensures .0) (c .lesser .ensures .1)
 
 -- src/lib.rt:124:1
 returns : tie.Need-returns Inv-loop μ-loop

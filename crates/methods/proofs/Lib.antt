@@ -1,4 +1,0 @@
-pub mod Widths
-pub mod ListedPlaces
-pub mod NoneMarked
-pub mod Picked
