@@ -1,9 +1,9 @@
 -- Document 01, reading one frame: "in a frame PREFIX, tool decided, TOOL, ROOM, then body checks as the bits come, ALIGN last".
 use Prim.Native.Nat.{ℕ, _+_}
 use mathlib.Core.List.{List, []}
-use mathlib.Core.Bool.{cond, not, _||_}
+use mathlib.Core.Bool.{cond, not}
 use lib.ListN.{length}
-use lib.Dec.{eqb, leb, ltb}
+use lib.Dec.{eqb, ltb}
 use Rattle.rules.specs.declared.Refusal.the-variants.{Prefix, Tool, Room, Set, Law}
 use Rattle.rules.specs.Tools.{holds, isSet, isLaw}
 use Rattle.rules.specs.Bits.{bitsOf, octetsFor, fillFor}

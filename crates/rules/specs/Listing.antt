@@ -4,9 +4,10 @@ use mathlib.Core.List.{List, [], _∷_, _++_}
 use mathlib.Core.Bool.{cond, not}
 use lib.ListN.{length}
 use lib.Dec.{eqb, leb, ltb}
-use Rattle.rules.specs.Refusals.{numberOf, toolNamed}
+use Rattle.rules.specs.Refusals.{refusalNumber, numberOf, toolNamed}
 use Rattle.rules.specs.Frame.{octetsUsed}
-use Rattle.rules.specs.Walk.{Delivered, Walked, walkAll, samplesKept, longest}
+use Rattle.rules.specs.Walk.{Delivered, Walked, walkAll, samplesKept}
+use Rattle.rules.specs.declared.Refusal.the-variants.{Law, Long}
 
 -- a number in decimal, without leading zeros, before the digits that stand; so many digits are enough for 64 bits
 unfoldable pub digitsFrom : ℕ → ℕ → List ℕ → List ℕ
@@ -75,15 +76,19 @@ walkLines w =
     frameLines 0 (w .frames)
     ++ (stopLine (numberOf (w .end)) (w .place) (toolNamed (w .end)) ++ samplesLine (length (samplesKept (w .frames))))
 
+-- "a stream of at most 65,535 octets": the program's own bound
+abbrev pub mostListed : ℕ
+mostListed = 65535
+
 -- "A or M, then a stream of at most 65,535 octets; set 127. Room is never short": 320 samples for each octet are enough.
 -- "a longer stream prints that line with 13"
 unfoldable pub listStream : ℕ → List ℕ → List ℕ
 listStream law stream =
-    cond (not (leb (length stream) longest)) (stopLine 13 0 0)
+    cond (not (leb (length stream) mostListed)) (stopLine (refusalNumber Long) 0 0)
     (lawLine law ++ walkLines (walkAll stream law 127 (320 * length stream)))
 
 -- "Input with no or another first octet prints `stop=12 at=0 tool=0` only"
 unfoldable pub listing : List ℕ → List ℕ
-listing [] = stopLine 12 0 0
+listing [] = stopLine (refusalNumber Law) 0 0
 listing (letter ∷ stream) =
-    cond (eqb letter 0x41) (listStream 0 stream) (cond (eqb letter 0x4D) (listStream 1 stream) (stopLine 12 0 0))
+    cond (eqb letter 0x41) (listStream 0 stream) (cond (eqb letter 0x4D) (listStream 1 stream) (stopLine (refusalNumber Law) 0 0))

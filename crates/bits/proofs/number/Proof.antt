@@ -1,0 +1,93 @@
+-- A number that is cut is SHORT (Cut); else it stands in the window of two octets (Window).
+use borrow.Author.Needs.{needs}
+use native.Mathlib.Omega.{arith}
+use mathlib.Core.Path.{sym}
+use lib.Pow.{pow-pos}
+use Rattle.rules.specs.Reading.{numberFrom}
+use Rattle.bits.proofs.Cut.{number-cut}
+use Rattle.bits.proofs.Window.{number-window}
+use Rattle.bits.proofs.Shift.{power-whole, low-small}
+use Rattle.bits.proofs.number.Statement.{statement}
+use Rattle.bits.proofs.number.Tie as tie
+
+returns : tie.Need-returns
+unfolding numberFrom
+returns c = record { says = rw (c .if1 .taken); value = omega arith; next = omega arith }
+
+add-end : tie.Need-add-end
+add-end c = search needs
+
+add-if2 : tie.Need-add-if2
+add-if2 c = search needs
+
+missing-requires : tie.Need-missing-requires
+missing-requires c κs = search needs
+
+returns-2 : tie.Need-returns-2
+returns-2 c =
+    record { says = rw (c .missing .ensures) (sym (number-cut _ 0 _ _ (omega arith) (omega arith))); value = omega arith; next = omega arith }
+
+octet-at-requires : tie.Need-octet-at-requires
+octet-at-requires c κs = search needs
+
+mul-window : tie.Need-mul-window
+mul-window c = search needs
+
+add-octet-at : tie.Need-add-octet-at
+add-octet-at c = search needs
+
+octet-at-requires-2 : tie.Need-octet-at-requires-2
+octet-at-requires-2 c κs = search needs
+
+add-window : tie.Need-add-window
+add-window c = search needs
+
+add-past : tie.Need-add-past
+add-past c = search needs
+
+sub-past : tie.Need-sub-past
+sub-past c = search needs
+
+shr-t11 : tie.Need-shr-t11
+shr-t11 c = search needs
+
+shl-t14 : tie.Need-shl-t14
+shl-t14 c = search needs
+
+rem-t10 : tie.Need-rem-t10
+rem-t10 c =
+    let n = c .before .before .before .before .before .args .n in
+    rw (power-whole n (omega arith)) (pow-pos n)
+
+returns-3 : tie.Need-returns-3
+returns-3 c =
+    let first = c .before .octet-at in
+    let n = c .before .before .before .before .before .args .n in
+    let second = c .octet-at2 in
+    let w = power-whole n (omega arith) in
+    record {
+      says = rw w (sym (number-window _ _ n _ _ (first .ensures .0) (second .ensures .0) (second .ensures .1) (omega arith) (omega arith) (omega arith)));
+      value = rw w (low-small _ n);
+      next = omega arith;
+    }
+
+pub number-spec : {M : Type 1} → statement M
+number-spec =
+    tie.close
+    (tie.spec
+    returns
+    add-end
+    add-if2
+    missing-requires
+    returns-2
+    octet-at-requires
+    mul-window
+    add-octet-at
+    octet-at-requires-2
+    add-window
+    add-past
+    sub-past
+    shr-t11
+    shl-t14
+    rem-t10
+    returns-3)

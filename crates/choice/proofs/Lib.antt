@@ -1,0 +1,5 @@
+pub mod Methods
+pub mod Turns
+pub mod Rows
+pub mod Zeros
+pub mod Choosing

@@ -1,0 +1,24 @@
+use borrow.Author.Tests.{le-leb, lt-leb}
+use Rattle.rules.specs.Samples.{signed}
+use borrow.Author.Needs.{needs}
+use Rattle.law.proofs.line_of.Statement.{statement}
+use Rattle.law.proofs.line_of.Tie as tie
+use Rattle.law.proofs.line_of.Reads as reads
+use Rattle.law.proofs.line_of.Lts as lts
+
+add-result : tie.Need-add-result
+add-result c = search needs
+
+sub-result : tie.Need-sub-result
+sub-result c = search needs
+
+returns : tie.Need-returns
+unfolding signed
+returns c = rw (le-leb _ _ (c .if1 .taken))
+
+returns-2 : tie.Need-returns-2
+unfolding signed
+returns-2 c = rw (lt-leb _ _ (c .if1 .left))
+
+pub line-of-spec : {M : Type 1} → statement M
+line-of-spec = tie.close (tie.spec add-result sub-result returns returns-2)

@@ -1,0 +1,5 @@
+pub mod Marking
+pub mod Finding
+pub mod Weighing
+pub mod Looking
+pub mod Leaving

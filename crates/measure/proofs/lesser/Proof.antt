@@ -1,0 +1,18 @@
+use borrow.Author.Needs.{needs}
+use mathlib.Core.Path.{refl}
+use borrow.Author.Tests.{lt-ltb, le-ltb}
+use Rattle.measure.proofs.lesser.Statement.{statement}
+use Rattle.measure.proofs.lesser.Tie as tie
+use Rattle.measure.proofs.lesser.Reads as reads
+use Rattle.measure.proofs.lesser.Lts as lts
+
+-- src/lib.rt:118:9
+returns : tie.Need-returns
+returns c = simp (lt-ltb _ _ (c .if1 .taken)) (refl, refl)
+
+-- src/lib.rt:114:1
+returns-2 : tie.Need-returns-2
+returns-2 c = simp (le-ltb _ _ (c .if1 .left)) (refl, refl)
+
+pub lesser-spec : {M : Type 1} → statement M
+lesser-spec = tie.close (tie.spec returns returns-2)

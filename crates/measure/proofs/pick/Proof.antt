@@ -1,0 +1,17 @@
+use borrow.Author.Needs.{needs}
+use borrow.Author.Tests.{eq-eqb, ne-eqb}
+use Rattle.measure.proofs.pick.Statement.{statement}
+use Rattle.measure.proofs.pick.Tie as tie
+use Rattle.measure.proofs.pick.Reads as reads
+use Rattle.measure.proofs.pick.Lts as lts
+
+-- src/lib.rt:24:1
+returns : tie.Need-returns
+returns c = rw (eq-eqb _ _ (c .if1 .taken))
+
+-- src/lib.rt:24:1
+returns-2 : tie.Need-returns-2
+returns-2 c = rw (ne-eqb _ _ (c .if1 .left))
+
+pub pick-spec : {M : Type 1} → statement M
+pick-spec = tie.close (tie.spec returns returns-2)

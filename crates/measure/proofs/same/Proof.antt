@@ -1,0 +1,19 @@
+use borrow.Author.Needs.{needs}
+use mathlib.Core.Path.{refl}
+use native.Mathlib.Omega.{arith}
+use borrow.Author.Tests.{eq-eqb, ne-eqb}
+use Rattle.measure.proofs.same.Statement.{statement}
+use Rattle.measure.proofs.same.Tie as tie
+use Rattle.measure.proofs.same.Reads as reads
+use Rattle.measure.proofs.same.Lts as lts
+
+-- src/lib.rt:176:1
+returns : tie.Need-returns
+returns c = simp (eq-eqb _ _ (c .if1 .taken)) (refl, omega arith)
+
+-- src/lib.rt:176:1
+returns-2 : tie.Need-returns-2
+returns-2 c = simp (ne-eqb _ _ (c .if1 .left)) (refl, omega arith)
+
+pub same-spec : {M : Type 1} → statement M
+same-spec = tie.close (tie.spec returns returns-2)

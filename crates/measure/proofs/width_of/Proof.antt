@@ -1,0 +1,50 @@
+use borrow.Author.Needs.{needs}
+use native.Mathlib.Nat.{sub-zero}
+use Prim.Native.Nat.{_≤_, _<_, _-_, _^_}
+use mathlib.Core.Path.{_≡_, refl}
+use native.Mathlib.Omega.{arith}
+use Rattle.rules.specs.Located.{widthFrom, widthOf}
+use Rattle.pen.proofs.Rice.{one-shifted}
+use Rattle.measure.proofs.Weighing.{width-small, width-turn, width-done}
+use Rattle.measure.proofs.width_of.Statement.{statement}
+use Rattle.measure.proofs.width_of.Tie as tie
+use Rattle.measure.proofs.width_of.Reads as reads
+use Rattle.measure.proofs.width_of.Lts as lts
+
+abbrev Inv-loop : tie.InvT-loop
+Inv-loop d w₀ w = (widthFrom w (d - w) d ≡ widthOf d) × (w ≤ 9)
+
+abbrev μ-loop : tie.MeasureT-loop
+μ-loop d w₀ w = 9 - w
+
+-- the test, with the power that is meant
+tested : (c : tie.In-loop Inv-loop μ-loop) → 2 ^ (c .before .loop .w) < c .before .before .args .d
+tested c = rw (one-shifted (c .before .loop .w) (omega arith)) at (c .loop-test .taken)
+
+-- src/lib.rt:154:5
+loop-holds : tie.Need-loop-holds Inv-loop μ-loop
+loop-holds c = (rw sub-zero, omega arith)
+
+-- src/lib.rt:154:12
+shl-loop : tie.Need-shl-loop Inv-loop μ-loop
+shl-loop c = omega arith
+
+-- src/lib.rt:155:9
+add-w : tie.Need-add-w Inv-loop μ-loop
+add-w c = omega arith
+
+-- src/lib.rt:154:5
+loop-less : tie.Need-loop-less Inv-loop μ-loop
+loop-less c = let h = width-small _ _ (tested c) (c .before .before .pre) in omega arith
+
+-- src/lib.rt:154:5
+loop-again : tie.Need-loop-again Inv-loop μ-loop
+loop-again c = let h = width-small _ _ (tested c) (c .before .before .pre) in (width-turn _ _ (tested c) (c .before .loop .inv .0), omega arith)
+
+-- src/lib.rt:149:1
+returns : tie.Need-returns Inv-loop μ-loop
+returns c = (width-done _ _ (rw (one-shifted (c .before .loop .w) (omega arith)) at (c .loop-test .left)) (c .before .loop .inv .0), omega arith)
+
+pub width-of-spec : {M : Type 1} → statement M
+width-of-spec =
+    tie.close (tie.spec Inv-loop μ-loop loop-holds shl-loop add-w loop-less loop-again returns)

@@ -1,0 +1,2 @@
+-- What is found out about flags and about a frame.
+pub mod Measures

@@ -1,0 +1,67 @@
+-- Flags as an array, their runs as an array, what each S would need, and the least.
+use Prim.Native.Nat.{ℕ, _+_, _≤_, _<_}
+use mathlib.Core.Path.{_≡_}
+use mathlib.Core.List.{List, map}
+use mathlib.Core.Bool.{cond}
+use lib.ListN.{length, getD, take}
+use lib.Dec.{eqb}
+use lib.IntN.{pos, negsuc}
+use Rattle.rules.specs.Runs.{runsOf, riceForm, riceForms}
+use Rattle.rules.specs.Samples.{sampleOf, plusZero, minusZero}
+use Rattle.rules.specs.Chooses.{countOf, leastS, leastOf, greatestOf, above, below}
+use Rattle.measure.specs.declared.Runs.{Runs}
+use Rattle.measure.specs.declared.Least.{Least}
+use Rattle.measure.specs.declared.Left.{Left}
+use Rattle.measure.specs.declared.Look.{Look}
+
+-- an array of flags whose first n are these; the rest are flags too
+pub record Flagged (flags : List ℕ) (n : ℕ) (r : List ℕ) : Type 0 where
+  pub says : take n r ≡ flags
+  pub size : length r ≡ 320
+  pub bits : (i : ℕ) → getD r i 0 < 2
+
+-- each element that is x as one number, each other as another
+abbrev pub marksOf : ℕ → ℕ → ℕ → List ℕ → List ℕ
+marksOf x hit miss s = map (λ y. cond (eqb y x) hit miss) s
+
+pub record RunsAre (flags : List ℕ) (r : Runs) : Type 0 where
+  pub says : take (r .count) (r .runs) ≡ runsOf 0 flags
+  pub size : length (r .runs) ≡ 321
+  pub few : r .count ≤ 321
+
+-- the bits of a Rice code
+pub record CodeBits (s v r : ℕ) : Type 0 where
+  pub says : r ≡ length (riceForm s v)
+  pub small : r < 65552
+
+-- the bits of runs with parameter S, and some more that go with S
+abbrev pub bitsWith : List ℕ → List ℕ → ℕ → ℕ
+bitsWith extra runs s = getD extra s 0 + length (riceForms s runs)
+
+pub record LeastIs (f : ℕ → ℕ) (most : ℕ) (r : Least) : Type 0 where
+  pub s : r .s ≡ leastS f most
+  pub bits : r .bits ≡ f (r .s)
+  pub from : 1 ≤ r .s
+  pub to : r .s ≤ most
+  pub small : r .bits ≤ 200000000
+
+-- how many are this one
+abbrev pub countIs : ℕ → List ℕ → ℕ
+countIs y s = countOf (λ x. eqb x y) s
+
+pub record Looked (mask first : ℕ) (s : List ℕ) (r : Look) : Type 0 where
+  pub plus : r .plus ≡ countIs (plusZero mask) s
+  pub minus : r .minus ≡ countIs (minusZero mask) s
+  pub one : r .one ≡ countIs (sampleOf mask (pos 1)) s
+  pub twos : r .twos ≡ countIs (sampleOf mask (negsuc 1)) s
+  pub above : r .above ≡ above mask s
+  pub below : r .below ≡ below mask s
+  pub same : r .same ≡ countIs first s
+  pub least : r .least ≡ leastOf mask s
+  pub greatest : r .greatest ≡ greatestOf mask s
+
+-- these samples, at most d of them
+pub record LeftIs (s : List ℕ) (d : ℕ) (r : Left) : Type 0 where
+  pub says : take (r .len) (r .samples) ≡ s
+  pub size : length (r .samples) ≡ 320
+  pub few : r .len ≤ d

@@ -1,0 +1,276 @@
+// What a frame is, looked at once, and what its runs need with each S.
+
+use law::line_of;
+use law::minus_zero;
+use law::plus_zero;
+use law::sample_of;
+ghost use mathlib.Core.Path.{_≡_};
+ghost use mathlib.Core.Bool.{cond};
+ghost use Prim.Native.Nat.{_+_, _≤_, _<_, min, max};
+ghost use lib.ListN.{length, getD, take};
+ghost use lib.Dec.{eqb, ltb};
+ghost use Rattle.rules.specs.Runs.{riceForms};
+ghost use Rattle.rules.specs.Located.{widthOf};
+ghost use Rattle.rules.specs.Chooses.{without};
+ghost use Rattle.measure.specs.Measures.{Flagged, marksOf, RunsAre, CodeBits, bitsWith, LeastIs, Looked, LeftIs};
+
+// The runs of flags, found once: the first `count` of them.
+pub struct Runs {
+    pub runs: [u16; 321],
+    pub count: usize,
+}
+
+// An S, and the bits that it needs.
+pub struct Least {
+    pub s: usize,
+    pub bits: usize,
+}
+
+// Samples in their order: the first `len`.
+pub struct Left {
+    pub samples: [u8; 320],
+    pub len: usize,
+}
+
+// What the samples of a frame are: how many are plus zero, minus zero (which is -1), 1, -2, above 0, below 0, and equal to the
+// first; the least and the greatest as places on the line of signed numbers.
+pub struct Look {
+    pub plus: u16,
+    pub minus: u16,
+    pub one: u16,
+    pub twos: u16,
+    pub above: u16,
+    pub below: u16,
+    pub same: u16,
+    pub least: u8,
+    pub greatest: u8,
+}
+
+fn pick(y: u8, x: u8, hit: u8, miss: u8) -> u8
+    ensures { λ r. ⌜ r ≡ cond (eqb y x) hit miss ⌝ }
+{
+    if y == x { hit } else { miss }
+}
+
+// A flag for each of n samples: one flag where it is x, the other where not.
+pub fn marks(samples: &[u8; 320], n: usize, x: u8, hit: u8, miss: u8) -> [u8; 320]
+    requires { ⌜ (n ≤ 320) × (n ≤ length (now samples)) ⌝ }
+    requires { ⌜ (hit < 2) × (miss < 2) ⌝ }
+    ensures { λ r. ⌜ Flagged (marksOf x hit miss (take n (now (samples .entry)))) n r ⌝ }
+{
+    let mut flags = [0u8; 320];
+    let mut i = 0;
+    while i < n {
+        flags[i] = pick(samples[i], x, hit, miss);
+        i += 1;
+    }
+    flags
+}
+
+fn wide(x: u8) -> u16
+    ensures { λ r. ⌜ r ≡ x ⌝ }
+{
+    x as u16
+}
+
+// The open run after a place: one of the other kind ends it.
+fn run_after(f: u8, v: u16) -> u16
+    requires { ⌜ v < 65535 ⌝ }
+    ensures { λ r. ⌜ r ≡ cond (eqb f 0) (v + 1) 0 ⌝ }
+{
+    if f == 0 { v + 1 } else { 0 }
+}
+
+// A run more where x is not 0: a flag of the other kind, or, "No run follows a run whose closing sample is the last place",
+// what is open at the end.
+fn count_after(x: u16, count: usize) -> usize
+    requires { ⌜ count < 65535 ⌝ }
+    ensures { λ r. ⌜ r ≡ cond (eqb x 0) count (count + 1) ⌝ }
+{
+    if x == 0 { count } else { count + 1 }
+}
+
+// The runs of n flags. Each run is stored before it is known to have ended, so that no turn branches.
+pub fn runs_of(flags: &[u8; 320], n: usize) -> Runs
+    requires { ⌜ (n ≤ 320) × (n ≤ length (now flags)) ⌝ }
+    ensures { λ r. ⌜ RunsAre (take n (now (flags .entry))) r ⌝ }
+{
+    let mut runs = [0u16; 321];
+    let mut count = 0;
+    let mut v = 0;
+    let mut i = 0;
+    while i < n {
+        runs[count] = v;
+        let f = flags[i];
+        count = count_after(wide(f), count);
+        v = run_after(f, v);
+        i += 1;
+    }
+    runs[count] = v;
+    Runs {
+        runs: runs,
+        count: count_after(v, count),
+    }
+}
+
+// The bits of Rice(S, v): its zeros, its one, and its S low bits.
+fn code_bits(v: u16, s: usize) -> usize
+    requires { ⌜ s ≤ 15 ⌝ }
+    ensures { λ r. ⌜ CodeBits s v r ⌝ }
+{
+    (v >> s) as usize + 1 + s
+}
+
+// The bits of runs with parameter S.
+pub fn run_bits(runs: &[u16; 321], count: usize, s: usize) -> usize
+    requires { ⌜ (s ≤ 15) × ((count ≤ 321) × (count ≤ length (now runs))) ⌝ }
+    ensures { λ r. ⌜ (r ≡ length (riceForms s (take count (now (runs .entry))))) × (r ≤ 100000000) ⌝ }
+{
+    let mut bits = 0;
+    let mut j = 0;
+    while j < count {
+        bits += code_bits(runs[j], s);
+        j += 1;
+    }
+    bits
+}
+
+// The better of two: the other S only where it needs fewer bits, so "the smaller S on a tie".
+fn lesser(best: Least, s: usize, bits: usize) -> Least
+    ensures { λ r. ⌜ (r .s ≡ cond (ltb bits (best .bits)) s (best .s)) × (r .bits ≡ cond (ltb bits (best .bits)) bits (best .bits)) ⌝ }
+{
+    if bits < best.bits {
+        return Least { s: s, bits: bits };
+    }
+    best
+}
+
+// Of S = 1 to most, the first with fewest bits of the runs and of what goes with S.
+pub fn least_s(runs: &[u16; 321], count: usize, extra: &[u8; 10], most: usize) -> Least
+    requires { ⌜ (count ≤ 321) × (count ≤ length (now runs)) ⌝ }
+    requires { ⌜ (1 ≤ most) × (most ≤ 9) ⌝ }
+    ensures { λ r. ⌜ LeastIs (bitsWith (now (extra .entry)) (take count (now (runs .entry)))) most r ⌝ }
+{
+    let mut best = Least {
+        s: 1,
+        bits: octet(extra[1]) + run_bits(runs, count, 1),
+    };
+    let mut k = 2;
+    while k <= most {
+        let bits = octet(extra[k]) + run_bits(runs, count, k);
+        best = lesser(best, k, bits);
+        k += 1;
+    }
+    best
+}
+
+fn octet(x: u8) -> usize
+    ensures { λ r. ⌜ (r ≡ x) × (r < 256) ⌝ }
+{
+    x as usize
+}
+
+// ceil(log2 D)
+pub fn width_of(d: usize) -> usize
+    requires { ⌜ d ≤ 320 ⌝ }
+    ensures { λ r. ⌜ (r ≡ widthOf d) × (r ≤ 9) ⌝ }
+{
+    let mut w = 0;
+    while (1 << w) < d {
+        w += 1;
+    }
+    w
+}
+
+fn same(x: u8, y: u8) -> u16
+    ensures { λ r. ⌜ (r ≡ cond (eqb x y) 1 0) × (r ≤ 1) ⌝ }
+{
+    if x == y { 1 } else { 0 }
+}
+
+fn less(x: u8, y: u8) -> u16
+    ensures { λ r. ⌜ (r ≡ cond (ltb x y) 1 0) × (r ≤ 1) ⌝ }
+{
+    if x < y { 1 } else { 0 }
+}
+
+fn lower(x: u8, y: u8) -> u8
+    ensures { λ r. ⌜ r ≡ min x y ⌝ }
+{
+    if x < y { x } else { y }
+}
+
+fn higher(x: u8, y: u8) -> u8
+    ensures { λ r. ⌜ r ≡ max x y ⌝ }
+{
+    if x < y { y } else { x }
+}
+
+// One look at a frame's n samples.
+pub fn look_at(samples: &[u8; 320], n: usize, mask: u8) -> Look
+    requires { ⌜ (n ≤ 320) × (n ≤ length (now samples)) ⌝ }
+    requires { ⌜ mask < 128 ⌝ }
+    ensures { λ r. ⌜ Looked mask (getD (now (samples .entry)) 0 0) (take n (now (samples .entry))) r ⌝ }
+{
+    let first = samples[0];
+    let plus = plus_zero(mask);
+    let minus = minus_zero(mask);
+    let one = sample_of(mask, 1);
+    let twos = sample_of(mask, -2);
+    let mut l = Look {
+        plus: 0,
+        minus: 0,
+        one: 0,
+        twos: 0,
+        above: 0,
+        below: 0,
+        same: 0,
+        least: 255,
+        greatest: 0,
+    };
+    let mut i = 0;
+    while i < n {
+        let x = samples[i];
+        let place = line_of(mask, x);
+        l = Look {
+            plus: l.plus + same(x, plus),
+            minus: l.minus + same(x, minus),
+            one: l.one + same(x, one),
+            twos: l.twos + same(x, twos),
+            above: l.above + less(128, place),
+            below: l.below + less(place, 128),
+            same: l.same + same(x, first),
+            least: lower(l.least, place),
+            greatest: higher(l.greatest, place),
+        };
+        i += 1;
+    }
+    l
+}
+
+fn kept_after(y: u8, x: u8, kept: usize) -> usize
+    requires { ⌜ kept < 65535 ⌝ }
+    ensures { λ r. ⌜ r ≡ cond (eqb y x) kept (kept + 1) ⌝ }
+{
+    if y == x { kept } else { kept + 1 }
+}
+
+// What is left of d samples once x is taken out. Each is stored before it is known to stay, so that no turn branches.
+pub fn without_value(samples: &[u8; 320], d: usize, x: u8) -> Left
+    requires { ⌜ (d ≤ 320) × (d ≤ length (now samples)) ⌝ }
+    ensures { λ r. ⌜ LeftIs (without x (take d (now (samples .entry)))) d r ⌝ }
+{
+    let mut left = [0u8; 320];
+    let mut kept = 0;
+    let mut i = 0;
+    while i < d {
+        let y = samples[i];
+        left[kept] = y;
+        kept = kept_after(y, x, kept);
+        i += 1;
+    }
+    Left {
+        samples: left,
+        len: kept,
+    }
+}

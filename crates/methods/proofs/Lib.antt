@@ -1,0 +1,4 @@
+pub mod Widths
+pub mod ListedPlaces
+pub mod NoneMarked
+pub mod Picked

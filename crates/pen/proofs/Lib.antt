@@ -1,0 +1,5 @@
+pub mod Words
+pub mod Putting
+pub mod Rice
+pub mod Gathering
+pub mod Finishing

@@ -1,0 +1,131 @@
+-- Laws of putting Rice codes.
+use Prim.Native.Nat.{ℕ, zero, suc, _+_, _*_, _-_, _^_, _/_, _%_, _≤_, _<_}
+use mathlib.Core.Path.{_≡_, refl, sym, ap, _∙_}
+use mathlib.Core.List.{List, [], _∷_, _++_, append-nil, append-assoc}
+use native.Mathlib.Omega.{arith}
+use native.Mathlib.Numerals.{add-one}
+use native.Mathlib.Nat.{zero-add, zero-div, mod-lt, pow-suc, lt-of-lt-of-le}
+use lib.Dec.{lit<}
+use lib.ListN.{length, getD, take, drop, replicate, length-append, length-replicate, replicate-append-replicate}
+use lib.Seq.{take-suc, take-add}
+use lib.Pow.{pow-pos, pow-mono, shl-exact}
+use Rattle.rules.specs.Bits.{lowBits}
+use Rattle.rules.specs.Runs.{riceForm, riceForms}
+use Rattle.rules.proofs.Octets.{length-lowBits}
+use Rattle.pen.specs.declared.Pen.{Pen}
+use Rattle.pen.specs.Puts.{Able, Puts}
+use Rattle.pen.proofs.Words.{lowBits-mod, lowBits-join}
+use Rattle.pen.proofs.Putting.{puts-none, puts-then, puts-as}
+
+pub length-riceForm : (s v : ℕ) → length (riceForm s v) ≡ v / 2 ^ s + 1 + s
+unfolding riceForm
+length-riceForm s v = simp (length-append, length-replicate, length-lowBits) (omega arith)
+
+pub zero-bits : (n : ℕ) → lowBits n 0 ≡ replicate n 0
+unfolding lowBits
+zero-bits zero = refl
+zero-bits (suc n) = rw (zero-div, zero-bits n)
+
+-- a turn of the loop: so many zeros are still to come
+pub record RiceTurn (o : List ℕ) (s v : ℕ) (p : Pen) (o′ : List ℕ) (p′ : Pen) (zeros : ℕ) : Type 0 where
+  pub puts : Puts o p (replicate (v / 2 ^ s - zeros) 0) o′ p′
+  pub left : zeros ≤ v / 2 ^ s
+  pub size : length o′ ≡ length o
+
+pub rice-start : {o : List ℕ} {s v : ℕ} {p : Pen} → Able o p (length (riceForm s v)) → RiceTurn o s v p o p (v / 2 ^ s)
+rice-start {s = s} {v = v} able =
+    let e : v / 2 ^ s - v / 2 ^ s ≡ 0 = omega arith in
+    record { puts = rw e (puts-none (able .held) (able .word)); left = omega arith; size = refl }
+
+module _ {o o′ : List ℕ} {s v : ℕ} {p p′ : Pen} {zeros : ℕ} (turn : RiceTurn o s v p o′ p′ zeros) where
+  -- room for what is still to come
+  pub rice-able : Able o p (length (riceForm s v)) → (n : ℕ) → n ≤ zeros + 1 + s → Able o′ p′ n
+  rice-able able n few =
+      record {
+        held = turn .puts .held;
+        word = turn .puts .word;
+        room = omega (arith, turn .puts .place, turn .left, turn .size, able .room, length-riceForm s v, length-replicate {A = ℕ} (v / 2 ^ s - zeros) 0);
+      }
+
+  pub rice-turn : 16 < zeros → {o″ : List ℕ} {p″ : Pen} → Puts o′ p′ (lowBits 16 0) o″ p″ → length o″ ≡ length o′ → RiceTurn o s v p o″ p″ (zeros - 16)
+  rice-turn more put size =
+      let e : v / 2 ^ s - zeros + 16 ≡ v / 2 ^ s - (zeros - 16) = omega (arith, turn .left) in
+      let f : replicate (v / 2 ^ s - zeros) 0 ++ lowBits 16 0 ≡ replicate (v / 2 ^ s - (zeros - 16)) 0 =
+      rw (zero-bits 16) (replicate-append-replicate (v / 2 ^ s - zeros) 16 0 ∙ ap (λ (k : ℕ). replicate k 0) e) in
+      record { puts = puts-as (puts-then (turn .puts) put) f; left = omega (arith, turn .left); size = size ∙ turn .size }
+
+-- what the code has for 2 ^ s
+pub one-shifted : (s : ℕ) → s ≤ 15 → (1 * 2 ^ s) % 2 ^ 64 ≡ 2 ^ s
+one-shifted s h = shl-exact {a = 1} 1 s 64 (lit< tt) (omega arith) ∙ omega arith
+
+pub rice-fits : (k s v : ℕ) {one : ℕ} → one ≡ 2 ^ s → one + v % one < 2 ^ (k + 1 + s)
+rice-fits k s v e =
+    let m = mod-lt v (pow-pos s) in
+    let b : 2 ^ suc s ≤ 2 ^ (k + 1 + s) = pow-mono {j = k + 1 + s} (omega arith) in
+    let f : 2 ^ suc s ≡ 2 ^ s * 2 = pow-suc 2 s in
+    rw e (omega arith)
+
+pub rice-word : (s v : ℕ) {one : ℕ} → one ≡ 2 ^ s → s ≤ 15 → one + v % one < 2 ^ 64
+rice-word s v e h = lt-of-lt-of-le (rice-fits 0 s v e) (pow-mono {j = 64} (omega arith))
+
+-- the last of a Rice code: k zeros, the one, and the low bits
+pub rice-end : (k s v : ℕ) {one : ℕ} → one ≡ 2 ^ s → lowBits (k + 1 + s) (one + v % one) ≡ replicate k 0 ++ (1 ∷ lowBits s v)
+unfolding lowBits
+rice-end k s v e =
+    let a : 2 ^ s + v % 2 ^ s ≡ 1 * 2 ^ s + v % 2 ^ s = omega arith in
+    let b : lowBits (k + 1) 1 ≡ replicate k 0 ++ (1 ∷ []) = lowBits-join k 1 0 1 (lit< tt) ∙ ap (λ (l : List ℕ). l ++ (1 ∷ [])) (zero-bits k) in
+    let d : lowBits s (v % 2 ^ s) ≡ lowBits s v = rw zero-add at (lowBits-mod s 0 v) in
+    rw (e, a, lowBits-join (k + 1) s 1 (v % 2 ^ s) (mod-lt v (pow-pos s)), b, d, append-assoc)
+
+pub rice-whole : {o o′ o″ : List ℕ} {s v : ℕ} {p p′ p″ : Pen} {zeros one : ℕ} → RiceTurn o s v p o′ p′ zeros → one ≡ 2 ^ s
+    → Puts o′ p′ (lowBits (zeros + 1 + s) (one + v % one)) o″ p″ → Puts o p (riceForm s v) o″ p″
+unfolding riceForm
+rice-whole {s = s} {v = v} {zeros = k} turn e put =
+    let q : v / 2 ^ s - k + k ≡ v / 2 ^ s = omega (arith, turn .left) in
+    puts-as (puts-then (turn .puts) put)
+    (rw (rice-end k s v e, ← (append-assoc (replicate (v / 2 ^ s - k) 0) (replicate k 0) (1 ∷ lowBits s v)), replicate-append-replicate, q))
+
+-- runs: those done, and one more
+pub forms-append : (s : ℕ) (a b : List ℕ) → riceForms s (a ++ b) ≡ riceForms s a ++ riceForms s b
+unfolding riceForms
+forms-append s [] b = refl
+forms-append s (v ∷ a) b = rw (forms-append s a b, append-assoc)
+
+pub forms-suc : (s : ℕ) (l : List ℕ) (j : ℕ) → j < length l → riceForms s (take (j + 1) l) ≡ riceForms s (take j l) ++ riceForm s (getD l j 0)
+unfolding riceForms
+forms-suc s l j h = rw (add-one, take-suc l j 0, forms-append, append-nil)
+
+pub forms-le : (s : ℕ) (l : List ℕ) (i n : ℕ) → i ≤ n → length (riceForms s (take i l)) ≤ length (riceForms s (take n l))
+forms-le s l i n h =
+    let e : n ≡ i + (n - i) = omega arith in
+    rw (e, take-add i (n - i) l, forms-append, length-append) (omega arith)
+
+pub record RunsTurn (o : List ℕ) (p : Pen) (s : ℕ) (runs o′ : List ℕ) (p′ : Pen) (count j : ℕ) : Type 0 where
+  pub puts : Puts o p (riceForms s (take j runs)) o′ p′
+  pub within : j ≤ count
+  pub size : length o′ ≡ length o
+
+module _ {o o′ runs : List ℕ} {p p′ : Pen} {s count j : ℕ} (turn : RunsTurn o p s runs o′ p′ count j) (h : j < count) (long : count ≤ length runs) where
+  pub runs-able : Able o p (length (riceForms s (take count runs))) → {v : ℕ} → v ≡ getD runs j 0 → Able o′ p′ (length (riceForm s v))
+  runs-able able e =
+      let a = forms-le s runs (j + 1) count (omega arith) in
+      let b = ap length (forms-suc s runs j (omega arith)) ∙ length-append (riceForms s (take j runs)) (riceForm s (getD runs j 0)) in
+      rw e
+      (record {
+        held = turn .puts .held;
+        word = turn .puts .word;
+        room = omega (arith, turn .puts .place, turn .size, able .room);
+      })
+
+  pub runs-then : {v : ℕ} → v ≡ getD runs j 0 → {o″ : List ℕ} {p″ : Pen} → Puts o′ p′ (riceForm s v) o″ p″ → length o″ ≡ length o′
+      → RunsTurn o p s runs o″ p″ count (j + 1)
+  runs-then e put size =
+      record {
+        puts = rw (forms-suc s runs j (omega arith)) (puts-then (turn .puts) (rw e at put));
+        within = omega arith;
+        size = size ∙ turn .size;
+      }
+
+pub runs-none : {o : List ℕ} {p : Pen} {n : ℕ} (s : ℕ) (runs : List ℕ) → Able o p n → Puts o p (riceForms s (take 0 runs)) o p
+unfolding riceForms
+runs-none s runs able = puts-none (able .held) (able .word)

@@ -1,0 +1,71 @@
+use borrow.Author.Needs.{needs}
+use Rattle.pen.proofs.Finishing.{flush-done}
+use native.Mathlib.Omega.{arith}
+use Rattle.pen.proofs.Finishing.{FlushTurn, flush-turn}
+use Rattle.pen.proofs.flush.Statement.{statement}
+use Rattle.pen.proofs.flush.Tie as tie
+use Rattle.pen.proofs.flush.Reads as reads
+use Rattle.pen.proofs.flush.Lts as lts
+
+abbrev Inv-loop : tie.InvT-loop
+Inv-loop out₀ word held₀ at₀ out held at = FlushTurn out₀ word held₀ at₀ out held at
+
+abbrev μ-loop : tie.MeasureT-loop
+μ-loop out₀ word held₀ at₀ out held at = held
+
+-- src/lib.rt:163:5
+loop-holds : tie.Need-loop-holds Inv-loop μ-loop
+loop-holds c = search needs
+
+-- src/lib.rt:164:16
+sub-held : tie.Need-sub-held Inv-loop μ-loop
+sub-held c = search needs
+
+-- src/lib.rt:165:21
+shr-out : tie.Need-shr-out Inv-loop μ-loop
+shr-out c = search needs
+
+-- src/lib.rt:165:19
+cast-out : tie.Need-cast-out Inv-loop μ-loop
+cast-out c = search needs
+
+-- src/lib.rt:165:9
+slice-write-out : tie.Need-slice-write-out Inv-loop μ-loop
+slice-write-out c = search needs
+
+-- src/lib.rt:166:9
+add-at : tie.Need-add-at Inv-loop μ-loop
+add-at c = search needs
+
+-- src/lib.rt:163:5
+loop-less : tie.Need-loop-less Inv-loop μ-loop
+loop-less c = search needs
+
+-- src/lib.rt:163:5
+loop-again : tie.Need-loop-again Inv-loop μ-loop
+loop-again c = flush-turn _ _ (c .before .loop .inv) (c .loop-test .taken) (omega arith)
+
+-- src/lib.rt:155:1
+same-length : tie.Need-same-length Inv-loop μ-loop
+same-length c = search needs
+
+-- src/lib.rt:155:1
+returns : tie.Need-returns Inv-loop μ-loop
+returns c = flush-done (omega arith) (c .before .loop .inv)
+
+pub flush-spec : {M : Type 1} → statement M
+flush-spec =
+    tie.close
+    (tie.spec
+    Inv-loop
+    μ-loop
+    loop-holds
+    sub-held
+    shr-out
+    cast-out
+    slice-write-out
+    add-at
+    loop-less
+    loop-again
+    same-length
+    returns)

@@ -1,0 +1,2 @@
+-- What it is to put bits into lent octets.
+pub mod Puts

@@ -1,0 +1,164 @@
+// Bits put into lent octets. "Bits go highest first; the last octet is filled with 0 bits."
+// Up to 31 bits are held in a word; where 32 are there, they are stored as four octets at once.
+
+ghost use mathlib.Core.Path.{_≡_};
+ghost use mathlib.Core.List.{[]};
+ghost use Prim.Native.Nat.{_+_, _*_, _-_, _^_, _%_, _≤_, _<_};
+ghost use lib.ListN.{length, take, drop, replicate};
+ghost use Rattle.rules.specs.Bits.{lowBits, bitsOf};
+ghost use Rattle.rules.specs.Runs.{riceForm, riceForms};
+ghost use Rattle.pen.specs.Puts.{penBits, Able, Flags, Puts, Stores, Gathers, Flushes, Packed};
+
+pub struct Pen {
+    pub word: u64,
+    pub held: usize,
+    pub at: usize,
+}
+
+// A pen that has put nothing yet.
+pub fn fresh() -> Pen
+    ensures { λ r. ⌜ (r .word ≡ 0) × ((r .held ≡ 0) × (r .at ≡ 0)) ⌝ }
+{
+    Pen {
+        word: 0,
+        held: 0,
+        at: 0,
+    }
+}
+
+// The low 32 bits of a word, as four octets.
+fn store(out: &mut [u8], at: usize, word: u64)
+    requires { ⌜ at + 4 ≤ length (now out) ⌝ }
+    ensures { λ r. ⌜ Stores (now (out .entry)) at word (now (out .exit)) ⌝ }
+{
+    out[at] = ((word >> 24) % 256) as u8;
+    out[at + 1] = ((word >> 16) % 256) as u8;
+    out[at + 2] = ((word >> 8) % 256) as u8;
+    out[at + 3] = (word % 256) as u8;
+}
+
+// n bits, at most 32: the number v.
+pub fn put(out: &mut [u8], p: Pen, n: usize, v: u64) -> Pen
+    requires { ⌜ Able (now out) p n ⌝ }
+    requires { ⌜ (n ≤ 32) × (v < 2 ^ n) ⌝ }
+    ensures { λ r. ⌜ Puts (now (out .entry)) p (lowBits n v) (now (out .exit)) r ⌝ }
+{
+    let at = p.at;
+    let held = p.held + n;
+    let word = (p.word << n) + v;
+    if held < 32 {
+        return Pen {
+            word: word % 4294967296,
+            held: held,
+            at: at,
+        };
+    }
+    let left = held - 32;
+    store(out, at, word >> left);
+    Pen {
+        word: word % 4294967296,
+        held: left,
+        at: at + 4,
+    }
+}
+
+// "k zeros and a 1, then the low S bits of v": the long zeros first, the rest at once.
+pub fn put_rice(out: &mut [u8], p: Pen, s: usize, v: u64) -> Pen
+    requires { ⌜ s ≤ 15 ⌝ }
+    requires { ⌜ Able (now out) p (length (riceForm s v)) ⌝ }
+    ensures { λ r. ⌜ Puts (now (out .entry)) p (riceForm s v) (now (out .exit)) r ⌝ }
+{
+    let mut q = p;
+    let mut zeros = v >> s;
+    while 16 < zeros {
+        q = put(out, q, 16, 0);
+        zeros = zeros - 16;
+    }
+    put(out, q, zeros as usize + 1 + s, (1 << s) + v % (1 << s))
+}
+
+fn wide(x: u16) -> u64
+    ensures { λ r. ⌜ r ≡ x ⌝ }
+{
+    x as u64
+}
+
+// Runs, each as a Rice code.
+pub fn put_runs(out: &mut [u8], p: Pen, s: usize, runs: &[u16; 321], count: usize) -> Pen
+    requires { ⌜ (s ≤ 15) × ((count ≤ 321) × (count ≤ length (now runs))) ⌝ }
+    requires { ⌜ Able (now out) p (length (riceForms s (take count (now runs)))) ⌝ }
+    ensures { λ r. ⌜ Puts (now (out .entry)) p (riceForms s (take count (now (runs .entry)))) (now (out .exit)) r ⌝ }
+{
+    let mut q = p;
+    let mut j = 0;
+    while j < count {
+        q = put_rice(out, q, s, wide(runs[j]));
+        j += 1;
+    }
+    q
+}
+
+fn octet(x: u8) -> u64
+    ensures { λ r. ⌜ r ≡ x ⌝ }
+{
+    x as u64
+}
+
+// n flags from place i on as a number, the first one highest.
+fn gather(flags: &[u8; 320], i: usize, n: usize) -> u64
+    requires { ⌜ n ≤ 32 ⌝ }
+    requires { ⌜ Flags (now flags) (i + n) ⌝ }
+    ensures { λ r. ⌜ Gathers (take n (drop i (now (flags .entry)))) n r ⌝ }
+{
+    let mut v: u64 = 0;
+    let mut j = 0;
+    while j < n {
+        v = 2 * v + octet(flags[i + j]);
+        j += 1;
+    }
+    v
+}
+
+// The first n flags, a bit each.
+pub fn put_flags(out: &mut [u8], p: Pen, flags: &[u8; 320], n: usize) -> Pen
+    requires { ⌜ Flags (now flags) n ⌝ }
+    requires { ⌜ Able (now out) p n ⌝ }
+    ensures { λ r. ⌜ Puts (now (out .entry)) p (take n (now (flags .entry))) (now (out .exit)) r ⌝ }
+{
+    let mut q = p;
+    let mut i = 0;
+    while i + 32 <= n {
+        let w = gather(flags, i, 32);
+        q = put(out, q, 32, w);
+        i += 32;
+    }
+    let w = gather(flags, i, n - i);
+    put(out, q, n - i, w)
+}
+
+// What is held, stored by octets.
+fn flush(out: &mut [u8], p: Pen) -> usize
+    requires { ⌜ Able (now out) p 0 ⌝ }
+    requires { ⌜ p .held % 8 ≡ 0 ⌝ }
+    ensures { λ r. ⌜ Flushes (now (out .entry)) p (now (out .exit)) r ⌝ }
+{
+    let word = p.word;
+    let mut held = p.held;
+    let mut at = p.at;
+    while 0 < held {
+        held = held - 8;
+        out[at] = ((word >> held) % 256) as u8;
+        at += 1;
+    }
+    at
+}
+
+// "The last octet is filled with 0 bits." The number of octets comes back.
+pub fn finish(out: &mut [u8], p: Pen) -> usize
+    requires { ⌜ Able (now out) p 0 ⌝ }
+    ensures { λ r. ⌜ Packed (penBits (now (out .entry)) p) (now (out .entry)) (now (out .exit)) r ⌝ }
+{
+    let fill = (8 - p.held % 8) % 8;
+    let q = put(out, p, fill, 0);
+    flush(out, q)
+}

@@ -1,0 +1,23 @@
+use mathlib.Core.Path.{refl}
+use Prim.Native.Nat.{_<_}
+use borrow.Author.Needs.{needs}
+use Rattle.rules.specs.First.{rows, lookUp, firstOctet}
+use Rattle.prefix.specs.Answers.{entryTells}
+use Rattle.prefix.proofs.Rule.{rule, entries}
+use Rattle.prefix.proofs.entry.Statement.{statement}
+use Rattle.prefix.proofs.entry.Tie as tie
+use Rattle.prefix.proofs.entry.Reads as reads
+use Rattle.prefix.proofs.entry.Lts as lts
+
+mul-result : tie.Need-mul-result
+mul-result c = search needs
+
+array-read-result : tie.Need-array-read-result
+array-read-result c = search needs
+
+returns : tie.Need-returns
+unfolding rows lookUp firstOctet entryTells
+returns c = let h : c .args .o < 256 = search needs in rule (entries 256 0) refl (c .args .o) h
+
+pub entry-spec : {M : Type 1} → statement M
+entry-spec = tie.close (tie.spec mul-result array-read-result returns)

@@ -1,0 +1,41 @@
+use borrow.Author.Needs.{needs}
+use borrow.Author.Tests.{eq-eqb, ne-eqb}
+use Rattle.prefix.specs.Answers.{entryTells}
+use Rattle.prefix.proofs.first_octet.Statement.{statement}
+use Rattle.prefix.proofs.first_octet.Tie as tie
+use Rattle.prefix.proofs.first_octet.Reads as reads
+use Rattle.prefix.proofs.first_octet.Lts as lts
+use Rattle.prefix.proofs.entry.Reads as entry-reads
+
+entry-requires : tie.Need-entry-requires
+entry-requires c κs = search needs
+
+returns : tie.Need-returns
+unfolding entryTells
+returns c = rw (eq-eqb _ _ (c .if1 .taken)) at (c .before .entry .ensures)
+
+returns-2 : tie.Need-returns-2
+unfolding entryTells
+returns-2 c = rw (ne-eqb _ _ (c .before .if1 .left), eq-eqb _ _ (c .if2 .taken)) at (c .before .before .entry .ensures)
+
+cast-t : tie.Need-cast-t
+cast-t c = search needs
+
+cast-n : tie.Need-cast-n
+cast-n c = search needs
+
+returns-3 : tie.Need-returns-3
+unfolding entryTells
+returns-3 c =
+    rw (ne-eqb _ _ (c .before .before .if1 .left), ne-eqb _ _ (c .before .if2 .left), eq-eqb _ _ (c .if3 .taken))
+    at (c .before .before .before .entry .ensures)
+
+returns-4 : tie.Need-returns-4
+unfolding entryTells
+returns-4 c =
+    rw (ne-eqb _ _ (c .before .before .if1 .left), ne-eqb _ _ (c .before .if2 .left), ne-eqb _ _ (c .if3 .left))
+    at (c .before .before .before .entry .ensures)
+
+pub first-octet-spec : {M : Type 1} → statement M
+first-octet-spec =
+    tie.close (tie.spec entry-requires returns returns-2 cast-t cast-n returns-3 returns-4)

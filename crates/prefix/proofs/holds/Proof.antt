@@ -1,0 +1,26 @@
+use borrow.Author.Needs.{needs}
+use borrow.Author.Tests.{le-leb, lt-leb}
+use native.Mathlib.Omega.{arith}
+use Rattle.rules.specs.Tools.{holds}
+use Rattle.prefix.proofs.holds.Statement.{statement}
+use Rattle.prefix.proofs.holds.Tie as tie
+use Rattle.prefix.proofs.holds.Reads as reads
+use Rattle.prefix.proofs.holds.Lts as lts
+
+returns : tie.Need-returns
+unfolding holds
+returns c = rw (lt-leb _ _ (c .if1 .taken))
+
+returns-2 : tie.Need-returns-2
+unfolding holds
+returns-2 c = rw (le-leb _ _ (c .before .if1 .left), lt-leb _ _ (c .if2 .taken))
+
+shr-result : tie.Need-shr-result
+shr-result c = search needs
+
+returns-3 : tie.Need-returns-3
+unfolding holds
+returns-3 c = rw (le-leb _ _ (c .before .if1 .left), le-leb _ _ (c .if2 .left))
+
+pub holds-spec : {M : Type 1} → statement M
+holds-spec = tie.close (tie.spec returns returns-2 shr-result returns-3)

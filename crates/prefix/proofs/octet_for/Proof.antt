@@ -1,0 +1,50 @@
+use borrow.Author.Needs.{needs}
+use borrow.Author.Tests.{eq-eqb, ne-eqb, le-leb, lt-leb}
+use native.Mathlib.Omega.{arith}
+use Rattle.prefix.proofs.Base.{base-small}
+use Rattle.prefix.proofs.octet_for.Statement.{statement}
+use Rattle.prefix.proofs.octet_for.Tie as tie
+use Rattle.prefix.proofs.octet_for.Reads as reads
+use Rattle.prefix.proofs.octet_for.Lts as lts
+use Rattle.prefix.proofs.base_of.Reads as base-of-reads
+
+base-of-requires : tie.Need-base-of-requires
+base-of-requires c κs = search needs
+
+sub-result : tie.Need-sub-result
+sub-result c = search needs
+
+cast-result : tie.Need-cast-result
+cast-result c = search needs
+
+add-result : tie.Need-add-result
+add-result c = omega (arith, base-small (c .before .before .args .n))
+
+returns : tie.Need-returns
+returns c = rw (ne-eqb _ _ (c .if1 .taken)) (omega arith)
+
+add-result-2 : tie.Need-add-result-2
+add-result-2 c = omega (arith, base-small (c .before .before .before .args .n))
+
+returns-2 : tie.Need-returns-2
+returns-2 c = rw (eq-eqb _ _ (c .before .if1 .left), lt-leb _ _ (c .if2 .taken)) (omega arith)
+
+add-result-3 : tie.Need-add-result-3
+add-result-3 c = omega (arith, base-small (c .before .before .before .args .n))
+
+returns-3 : tie.Need-returns-3
+returns-3 c = rw (eq-eqb _ _ (c .before .if1 .left), le-leb _ _ (c .if2 .left)) (omega arith)
+
+pub octet-for-spec : {M : Type 1} → statement M
+octet-for-spec =
+    tie.close
+    (tie.spec
+    base-of-requires
+    sub-result
+    cast-result
+    add-result
+    returns
+    add-result-2
+    returns-2
+    add-result-3
+    returns-3)

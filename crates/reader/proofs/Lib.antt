@@ -1,0 +1,5 @@
+pub mod Six
+pub mod Opened
+pub mod Filled
+pub mod Copied
+pub mod Told

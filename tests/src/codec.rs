@@ -1,0 +1,79 @@
+//! The three calls, whoever answers them. Another back end is one more implementation of [`Codec`].
+
+/// What one call of the reader reports.
+#[derive(Clone, Copy, Debug, PartialEq, Eq)]
+pub struct Read {
+    pub ending: u32,
+    pub tool: u32,
+    pub samples: usize,
+    pub octets: usize,
+    pub bits: usize,
+}
+
+/// What one call of the writer reports.
+#[derive(Clone, Copy, Debug, PartialEq, Eq)]
+pub struct Write {
+    pub ending: u32,
+    pub tool: u32,
+    pub octets: usize,
+    pub bits: usize,
+}
+
+/// What one walk reports.
+#[derive(Clone, Copy, Debug, PartialEq, Eq)]
+pub struct Walk {
+    pub ending: u32,
+    pub tool: u32,
+    pub frames: usize,
+    pub octets: usize,
+    pub samples: usize,
+    pub place: usize,
+}
+
+/// A back end. The length of `out` is the room that is lent.
+pub trait Codec {
+    fn name(&self) -> &str;
+    fn read(&self, octets: &[u8], law: u32, set: u32, out: &mut [u8]) -> Read;
+    fn write(&self, samples: &[u8], law: u32, set: u32, out: &mut [u8]) -> Write;
+    fn walk(&self, octets: &[u8], law: u32, set: u32, out: &mut [u8]) -> Walk;
+
+    /// The text of the listing program, where the back end has one.
+    fn listing(&self, _input: &[u8]) -> Option<Vec<u8>> {
+        None
+    }
+}
+
+/// The independent second program.
+pub struct Second;
+
+impl Codec for Second {
+    fn name(&self) -> &str {
+        "second"
+    }
+
+    fn read(&self, octets: &[u8], law: u32, set: u32, out: &mut [u8]) -> Read {
+        let got = second::read_frame(octets, law, set, out);
+        Read { ending: got.ending, tool: got.tool, samples: got.samples, octets: got.octets, bits: got.bits }
+    }
+
+    fn write(&self, samples: &[u8], law: u32, set: u32, out: &mut [u8]) -> Write {
+        let got = second::write_frame(samples, law, set, out);
+        Write { ending: got.ending, tool: got.tool, octets: got.octets, bits: got.bits }
+    }
+
+    fn walk(&self, octets: &[u8], law: u32, set: u32, out: &mut [u8]) -> Walk {
+        let got = second::walk(octets, law, set, out);
+        Walk {
+            ending: got.ending,
+            tool: got.tool,
+            frames: got.frames,
+            octets: got.octets,
+            samples: got.samples,
+            place: got.place,
+        }
+    }
+
+    fn listing(&self, input: &[u8]) -> Option<Vec<u8>> {
+        Some(second::listing(input))
+    }
+}
