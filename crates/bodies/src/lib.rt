@@ -21,7 +21,8 @@ pub struct Body {
     pub samples: [u8; 320],
 }
 
-fn nothing(why: Refusal, bit: usize) -> Body
+// A refusal leaves nothing.
+pub fn nothing(why: Refusal, bit: usize) -> Body
     ensures { λ r. ⌜ ReadsBody (refuse why bit) 0 r ⌝ }
 {
     Body {

@@ -3,3 +3,6 @@ pub mod Opened
 pub mod Filled
 pub mod Copied
 pub mod Told
+pub mod Decided
+pub mod Ordered
+pub mod Lent

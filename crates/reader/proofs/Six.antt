@@ -14,7 +14,7 @@ use Rattle.rules.specs.First.{sixOrEight, markAt, sixNotEight}
 use Rattle.rules.specs.Frame.{withTool, afterFirst}
 use Rattle.rules.proofs.Octets.{length-bitsOf, bitsOf-below}
 use Rattle.rules.proofs.Gives.{Gives, gives-give, gives-bit, gives-bind, gives-cond}
-use Rattle.bits.proofs.Bit.{bit-there, bit-missing}
+use Rattle.bits.proofs.OneBit.{bit-there, bit-missing}
 
 module _ (s : List ℕ) (at : ℕ) (h : at / 8 < length s) where
   pub six-at-once : getD (bitsOf s) at 0 ≡ 1 → sixNotEight (bitsOf s) at ≡ whole 6 (at + 1)

@@ -26,16 +26,16 @@ pub record HeadFits (h : Head) : Type 0 where
   pub at : h .at ≤ 8
   pub whole-octet : h .tool ≤ 5 → h .at ≡ 8
 
-abbrev pub Ranges : Opening → Type 0
-Ranges (Refused w at) = Unit {0}
-Ranges Pad = Unit {0}
-Ranges (Body h) = HeadFits h
+abbrev pub Ranges : List ℕ → Opening → Type 0
+Ranges octets (Refused w at) = Unit {0}
+Ranges octets Pad = Unit {0}
+Ranges octets (Body h) = (HeadFits h) × (1 ≤ length octets)
 
 -- the opening of a frame of 6 or 8, its length known
 pub record SixOrEight (octets : List ℕ) (n : ℕ) (r : Opening) : Type 0 where
   pub says : (mask set room i : ℕ) → afterOpening mask set room r (bitsOf octets) ≡ afterFirst mask set room (sixOrEight n) (bitsOf octets) i
-  pub ranges : Ranges r
+  pub ranges : Ranges octets r
 
 pub record Opens (octets : List ℕ) (r : Opening) : Type 0 where
   pub says : (mask set room : ℕ) → afterOpening mask set room r (bitsOf octets) ≡ frame mask set room (bitsOf octets) 0
-  pub ranges : Ranges r
+  pub ranges : Ranges octets r

@@ -1,19 +1,23 @@
 // Reading one frame: "in a frame PREFIX, tool decided, TOOL, ROOM, then body checks as the bits come, ALIGN last".
 ghost use mathlib.Core.Path.{_≡_};
-ghost use Prim.Native.Nat.{ℕ, _+_, _*_, _/_, _^_, _≤_, _<_};
+ghost use Prim.Native.Nat.{ℕ, _+_, _*_, _/_, _%_, _^_, _≤_, _<_};
 ghost use mathlib.Core.Bool.{true};
-ghost use mathlib.Core.List.{List, _++_};
-ghost use lib.ListN.{length, take, drop};
+ghost use mathlib.Core.List.{List, [], _++_};
+ghost use lib.ListN.{length, take, drop, replicate};
 ghost use Rattle.rules.specs.Tools.{isLength};
 ghost use Rattle.rules.specs.Bits.{bitsOf, fillFor};
-ghost use Rattle.rules.specs.Reading.{filled, refuse};
+ghost use Rattle.rules.specs.Reading.{whole, refuse, filled};
 ghost use Rattle.rules.specs.First.{markAt, sixNotEight};
 ghost use Rattle.rules.specs.Refusals.{refusalTool};
-ghost use Rattle.rules.specs.Calls.{IsFrame};
+ghost use Rattle.rules.specs.Samples.{maskOf};
+ghost use Rattle.rules.specs.Frame.{body, withTool, readOne};
+ghost use Rattle.rules.specs.Calls.{IsFrame, ReadFrame};
+ghost use Rattle.bodies.specs.Bodied.{ReadsBody};
 ghost use Rattle.bits.specs.Outcomes.{asRead, Reads};
-ghost use Rattle.reader.specs.Opening.{Opens, SixOrEight};
+ghost use Rattle.reader.specs.Opening.{HeadFits, Opens, SixOrEight};
 ghost use Rattle.reader.specs.Answers.{Tells, finish};
 use bits::Outcome;
+use bodies::Body;
 use prefix::Begins;
 use rules::Ending;
 use rules::Frame;
@@ -79,7 +83,7 @@ fn six_or_eight(octets: &[u8], n: usize) -> Opening
 }
 
 // What the first octet begins, and where it is tool 6 or 8, which of them.
-pub fn opening_of(octets: &[u8]) -> Opening
+fn opening_of(octets: &[u8]) -> Opening
     ensures { λ r. ⌜ Opens (now (octets .entry)) r ⌝ }
 {
     if octets.len() == 0 {
@@ -95,6 +99,25 @@ pub fn opening_of(octets: &[u8]) -> Opening
             at: 8,
         }),
         Begins::SixOrEight(n) => six_or_eight(octets, n),
+    }
+}
+
+// The body of a tool that the set holds.
+fn body_of(octets: &[u8], mask: u8, h: Head) -> Body
+    requires { ⌜ (HeadFits h) × (1 ≤ h .tool) × (h .tool ≤ 7) × (mask < 128) × (mask % 2 ≡ 1) ⌝ }
+    ensures { λ r. ⌜ ReadsBody (body mask (h .tool) (h .len) (h .mark) (bitsOf (now (octets .entry))) (h .at)) (2 ^ 41) r ⌝ }
+{
+    let tool = h.tool;
+    let n = h.len;
+    let at = h.at;
+    match tool {
+        1 => bodies::uncompressed(octets, at, n),
+        2 => bodies::filled(at, n, law::plus_zero(mask)),
+        3 => bodies::filled(at, n, law::minus_zero(mask)),
+        4 => bodies::constant(octets, at, n),
+        5 => bodies::binary(octets, at, n, mask),
+        6 => bodies::plus_minus(octets, at, n, h.mark as u8, mask),
+        _ => located::located(octets, at, n, mask),
     }
 }
 
@@ -114,7 +137,7 @@ fn filling(octets: &[u8], end: usize) -> Outcome
 }
 
 // "tool 0, save that TOOL gives the tool"
-fn tool_named(why: Refusal) -> u32
+pub fn tool_named(why: Refusal) -> u32
     ensures { λ r. ⌜ r ≡ refusalTool why ⌝ }
 {
     match why {
@@ -151,15 +174,19 @@ fn refused(why: Refusal) -> ReadAnswer
     }
 }
 
-// The first n samples to the start of the output; the rest of it stays as lent.
-fn put_out(samples: &[u8; 320], n: usize, out: &mut [u8])
-    requires { ⌜ (n ≤ 320) × (n ≤ length (now samples)) × (n ≤ length (now out)) ⌝ }
-    ensures { λ r. ⌜ now (out .exit) ≡ take n (now (samples .entry)) ++ drop n (now (out .entry)) ⌝ }
+// "A pad reports 8 bits."
+fn pad() -> ReadAnswer
+    ensures { λ r. ⌜ Tells (whole (record { tool = 0; samples = []; bits = 8 }) 8) r ⌝ }
 {
-    let mut i = 0;
-    while i < n {
-        out[i] = samples[i];
-        i += 1;
+    ReadAnswer {
+        end: Ending::Done,
+        frame: Frame {
+            samples: [0; 320],
+            len: 0,
+        },
+        octets: 1,
+        bits: 8,
+        tool: 0,
     }
 }
 
@@ -178,4 +205,64 @@ fn finished(octets: &[u8], tool: u32, frame: Frame, bits: usize) -> ReadAnswer
             tool,
         },
     }
+}
+
+// The tool is decided: TOOL, ROOM, the body, ALIGN.
+fn with_tool(octets: &[u8], law: u32, set: u32, room: usize, h: Head) -> ReadAnswer
+    requires { ⌜ (HeadFits h) × (1 ≤ length (now octets)) ⌝ }
+    ensures { λ r. ⌜ Tells (withTool (maskOf law) set room (h .tool) (h .len) (h .mark) (bitsOf (now (octets .entry))) (h .at)) r ⌝ }
+{
+    let tool = h.tool;
+    if !prefix::holds(set, tool) {
+        return refused(Refusal::Tool(tool));
+    }
+    if room < h.len {
+        return refused(Refusal::Room);
+    }
+    let b = body_of(octets, law::mask_of(law), h);
+    let end = b.end;
+    let samples = b.samples;
+    match end {
+        Outcome::Refused(why, _) => refused(why),
+        Outcome::Got(len, bits) => finished(octets, tool, Frame { samples, len }, bits),
+    }
+}
+
+// One frame at the start of some octets, `room` being the output's: "Order: LAW, SET", then the frame.
+fn read_one(octets: &[u8], law: u32, set: u32, room: usize) -> ReadAnswer
+    ensures { λ r. ⌜ Tells (readOne (now (octets .entry)) law set room) r ⌝ }
+{
+    if 1 < law {
+        return refused(Refusal::Law);
+    }
+    if 127 < set {
+        return refused(Refusal::Set);
+    }
+    match opening_of(octets) {
+        Opening::Refused(why, _) => refused(why),
+        Opening::Pad => pad(),
+        Opening::Body(h) => with_tool(octets, law, set, room, h),
+    }
+}
+
+// The first n samples to the start of the output; the rest of it stays as lent.
+fn put_out(samples: &[u8; 320], n: usize, out: &mut [u8])
+    requires { ⌜ (n ≤ 320) × (n ≤ length (now samples)) × (n ≤ length (now out)) ⌝ }
+    ensures { λ r. ⌜ now (out .exit) ≡ take n (now (samples .entry)) ++ drop n (now (out .entry)) ⌝ }
+{
+    let mut i = 0;
+    while i < n {
+        out[i] = samples[i];
+        i += 1;
+    }
+}
+
+// Reading one frame: the answer, and an accepted frame's samples at the start of the output.
+pub fn read_frame(octets: &[u8], law: u32, set: u32, out: &mut [u8]) -> ReadAnswer
+    ensures { λ r. ⌜ ReadFrame (now (octets .entry)) law set (now (out .entry)) (now (out .exit)) r ⌝ }
+{
+    let r = read_one(octets, law, set, out.len());
+    let frame = r.frame;
+    put_out(&frame.samples, frame.len, out);
+    r
 }

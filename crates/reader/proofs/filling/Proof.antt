@@ -7,9 +7,6 @@ use Rattle.rules.specs.Reading.{filled}
 use Rattle.reader.proofs.Filled.{filled-turn, filled-wrong, filled-done}
 use Rattle.reader.proofs.filling.Statement.{statement}
 use Rattle.reader.proofs.filling.Tie as tie
-use Rattle.reader.proofs.filling.Reads as reads
-use Rattle.reader.proofs.filling.Lts as lts
-use Rattle.bits.proofs.bit_at.Reads as bit-at-reads
 
 abbrev Inv-loop : tie.InvT-loop
 Inv-loop octets end at₀ at =

@@ -11,10 +11,6 @@ use Rattle.reader.proofs.Told.{tells-as}
 use Rattle.reader.proofs.Filled.{filled-by}
 use Rattle.reader.proofs.finished.Statement.{statement}
 use Rattle.reader.proofs.finished.Tie as tie
-use Rattle.reader.proofs.finished.Reads as reads
-use Rattle.reader.proofs.finished.Lts as lts
-use Rattle.reader.proofs.filling.Reads as filling-reads
-use Rattle.reader.proofs.refused.Reads as refused-reads
 
 filling-requires : tie.Need-filling-requires
 filling-requires c κs = search needs

@@ -1,10 +1,7 @@
 use native.Mathlib.Omega.{arith}
 use borrow.Author.Tests.{le-leb, lt-leb}
-use borrow.Author.Needs.{needs}
 use Rattle.reader.proofs.mark_at.Statement.{statement}
 use Rattle.reader.proofs.mark_at.Tie as tie
-use Rattle.reader.proofs.mark_at.Reads as reads
-use Rattle.reader.proofs.mark_at.Lts as lts
 
 returns : tie.Need-returns
 returns c = (rw (le-leb _ _ (c .if1 .taken)), omega arith)

@@ -13,10 +13,6 @@ use Rattle.prefix.specs.Answers.{asFirst}
 use Rattle.reader.proofs.Opened.{opened, no-octets, LengthKnown, length-known}
 use Rattle.reader.proofs.opening_of.Statement.{statement}
 use Rattle.reader.proofs.opening_of.Tie as tie
-use Rattle.reader.proofs.opening_of.Reads as reads
-use Rattle.reader.proofs.opening_of.Lts as lts
-use Rattle.prefix.proofs.first_octet.Reads as first-octet-reads
-use Rattle.reader.proofs.six_or_eight.Reads as six-or-eight-reads
 
 returns : tie.Need-returns
 returns c = record { says = no-octets (c .before .before .args .octets .now) (c .if1 .taken); ranges = tt }
@@ -72,7 +68,7 @@ unfolding afterFirst
 returns-4 c =
     record {
       says = says (c .before .before .before) (Tool (c .before .t .given .0 .0) (c .before .t .given .0 .1 .0)) (c .before .t .given .1);
-      ranges = record { len = known (c .before .before .before) (Tool (c .before .t .given .0 .0) (c .before .t .given .0 .1 .0)) (c .before .t .given .1); mark = omega arith; at = omega arith; whole-octet = λ h. refl };
+      ranges = (record { len = known (c .before .before .before) (Tool (c .before .t .given .0 .0) (c .before .t .given .0 .1 .0)) (c .before .t .given .1); mark = omega arith; at = omega arith; whole-octet = λ h. refl }, omega arith);
     }
 
 returns-5 : tie.Need-returns-5

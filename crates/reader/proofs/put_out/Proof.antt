@@ -7,8 +7,6 @@ use Rattle.reader.proofs.Copied.{copied-turn}
 use borrow.Author.Needs.{needs}
 use Rattle.reader.proofs.put_out.Statement.{statement}
 use Rattle.reader.proofs.put_out.Tie as tie
-use Rattle.reader.proofs.put_out.Reads as reads
-use Rattle.reader.proofs.put_out.Lts as lts
 
 abbrev Inv-loop : tie.InvT-loop
 Inv-loop samples n out₀ i₀ out i =

@@ -4,9 +4,6 @@ use Rattle.reader.proofs.Six.{six-at-once, second-missing, six-by-secon
 use borrow.Author.Needs.{needs}
 use Rattle.reader.proofs.six_not_eight.Statement.{statement}
 use Rattle.reader.proofs.six_not_eight.Tie as tie
-use Rattle.reader.proofs.six_not_eight.Reads as reads
-use Rattle.reader.proofs.six_not_eight.Lts as lts
-use Rattle.bits.proofs.bit_at.Reads as bit-at-reads
 
 bit-at-requires : tie.Need-bit-at-requires
 bit-at-requires c κs = search needs

@@ -4,11 +4,6 @@ use Rattle.bits.proofs.Told.{told, refused}
 use Rattle.reader.proofs.Six.{six-refused, six-decided, at-least-six}
 use Rattle.reader.proofs.six_or_eight.Statement.{statement}
 use Rattle.reader.proofs.six_or_eight.Tie as tie
-use Rattle.reader.proofs.six_or_eight.Reads as reads
-use Rattle.reader.proofs.six_or_eight.Lts as lts
-use Rattle.bits.proofs.bit_at.Reads as bit-at-reads
-use Rattle.reader.proofs.mark_at.Reads as mark-at-reads
-use Rattle.reader.proofs.six_not_eight.Reads as six-not-eight-reads
 
 mark-at-requires : tie.Need-mark-at-requires
 mark-at-requires c κs = search needs
@@ -48,12 +43,15 @@ returns-2 c =
       says = six-decided (c .before .before .before .before .before .before .before .args .octets .now) (c .before .before .before .before .before .before .before .args .n) _ (c .before .before .before .before .before .mark-at .ensures .0) (omega arith)
           _ (c .before .before .before .before .bit-at .ensures .0)
           (told (c .before .before .before .six-not-eight .ensures) (c .before .t .given .1) .says);
-      ranges = record {
-        len = c .before .before .before .before .before .before .before .pre .0;
-        mark = c .before .before .before .before .bit-at .ensures .1;
-        at = omega arith;
-        whole-octet = λ h. absurd (omega (arith, at-least-six (c .before .before .before .before .before .before .before .args .octets .now) _ (omega arith) (told (c .before .before .before .six-not-eight .ensures) (c .before .t .given .1) .says)));
-      };
+      ranges = (
+        record {
+          len = c .before .before .before .before .before .before .before .pre .0;
+          mark = c .before .before .before .before .bit-at .ensures .1;
+          at = omega arith;
+          whole-octet = λ h. absurd (omega (arith, at-least-six (c .before .before .before .before .before .before .before .args .octets .now) _ (omega arith) (told (c .before .before .before .six-not-eight .ensures) (c .before .t .given .1) .says)));
+        },
+        omega arith,
+      );
     }
 
 pub six-or-eight-spec : {M : Type 1} → statement M

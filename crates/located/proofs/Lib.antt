@@ -1,0 +1,5 @@
+pub mod Rows
+pub mod LayTurn
+pub mod Emptied
+pub mod InTurn
+pub mod FirstBits
