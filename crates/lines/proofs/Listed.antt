@@ -1,8 +1,8 @@
 -- What the listing prints (rules, specs/Listing) is the lines frame by frame (specs/Onward).
 use Prim.Native.Nat.{ℕ, zero, suc, _+_, _*_, _-_, _≤_, _<_}
-use mathlib.Core.Path.{_≡_, refl, sym, ap, _∙_}
-use mathlib.Core.List.{List, [], _∷_, _++_, append-assoc}
-use mathlib.Core.Bool.{Bool, true, false, cond, not}
+use mathlib.Core.Path.{_≡_, refl, ap, _∙_}
+use mathlib.Core.List.{List, _++_, append-assoc}
+use mathlib.Core.Bool.{Bool, true, false, cond}
 use native.Mathlib.Omega.{arith}
 use native.Mathlib.Nat.{zero-add, add-zero, add-assoc}
 use lib.Dec.{leb}
@@ -12,8 +12,8 @@ use Rattle.rules.specs.declared.Ending.{Ending}
 use Rattle.rules.specs.declared.Ending.the-variants.{Done, Refused}
 use Rattle.rules.specs.Reading.{Read, whole, refuse}
 use Rattle.rules.specs.Frame.{Found, octetsUsed, readOne}
-use Rattle.rules.specs.Walk.{Delivered, Walked, stopped, before, onward, walkFrom, walkAll, samplesKept, longest}
-use Rattle.rules.specs.Listing.{frameLine, frameLines, lawLine, stopLine, samplesLine, listStream}
+use Rattle.rules.specs.Walk.{Walked, stopped, before, onward, walkFrom, walkAll, samplesKept, longest}
+use Rattle.rules.specs.Listing.{frameLines, lawLine, listStream}
 use Rattle.rules.proofs.Accepted.{read-accepts, read-uses}
 use Rattle.lines.specs.Onward.{allTools, endLines, foundLine, afterRead, linesFrom}
 use Rattle.lines.proofs.Room.{read-room}

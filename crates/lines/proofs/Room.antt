@@ -1,18 +1,16 @@
 -- "Room is never short": a frame has at most 320 samples, so more room changes nothing.
-use Prim.Native.Nat.{ℕ, zero, suc, _+_, _≤_, _<_, zero-le}
-use mathlib.Core.Path.{_≡_, refl, sym, ap, _∙_}
+use Prim.Native.Nat.{ℕ, _+_, _≤_, zero-le}
+use mathlib.Core.Path.{_≡_, refl}
 use mathlib.Core.List.{List}
-use mathlib.Core.Bool.{Bool, true, false, cond, not, _||_}
+use mathlib.Core.Bool.{Bool, true, false, cond, not}
 use native.Mathlib.Omega.{arith}
-use native.Mathlib.Nat.{le-refl}
-use lib.Dec.{eqb, leb, lit≤}
-use lib.ListN.{length}
+use lib.Dec.{lit≤}
 use borrow.Author.Tests.{le-ltb}
 use Rattle.rules.specs.declared.Refusal.the-variants.{Law, Set}
 use Rattle.rules.specs.Tools.{isLength, isLaw, isSet}
 use Rattle.rules.specs.Bits.{bitsOf}
 use Rattle.rules.specs.Reading.{Read, whole, refuse, Reader, andThen, fail, bit, number}
-use Rattle.rules.specs.First.{First, unassigned, pad, tool, sixOrEight, firstOctet, markAt, sixNotEight, octetFor}
+use Rattle.rules.specs.First.{First, unassigned, pad, tool, sixOrEight, firstOctet, markAt, sixNotEight}
 use Rattle.rules.specs.Samples.{maskOf}
 use Rattle.rules.specs.Frame.{Found, withTool, afterFirst, frame, readOne}
 use Rattle.rules.proofs.Octets.{Below, bitsOf-below}

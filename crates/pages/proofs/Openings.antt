@@ -1,22 +1,21 @@
 -- How the listing opens: by a refusal, or by the law's line.
-use Prim.Native.Nat.{ℕ, suc, _+_, _-_, _≤_, _<_, zero-le}
-use mathlib.Core.Path.{_≡_, refl, sym, ap, _∙_}
-use mathlib.Core.List.{List, [], _∷_, _++_, append-nil}
-use mathlib.Core.Bool.{Bool, true, false, cond, not, false≢true}
+use Prim.Native.Nat.{ℕ, _+_, _-_, _≤_, _<_}
+use mathlib.Core.Path.{_≡_, refl, sym, _∙_}
+use mathlib.Core.List.{List, [], _∷_, append-nil}
+use mathlib.Core.Bool.{true, false, cond, false≢true}
 use native.Mathlib.Omega.{arith}
 use native.Mathlib.Nat.{sub-zero}
 use lib.ListN.{length, getD, take, drop, length-drop}
 use lib.Seq.{take-all}
-use lib.Dec.{eqb, leb, ltb}
-use borrow.Author.Tests.{eq-eqb, ne-eqb, lt-leb}
+use lib.Dec.{eqb}
+use borrow.Author.Tests.{ne-eqb, lt-leb}
 use Rattle.rules.specs.Walk.{longest}
 use Rattle.rules.specs.Listing.{stopLine, lawLine, listStream, listing}
 use Rattle.lines.specs.Puts.{Puts}
-use Rattle.lines.specs.Onward.{linesFrom}
 use Rattle.lines.proofs.Listed.{stream-listed}
 use Rattle.pages.specs.declared.Stand.{Stand}
 use Rattle.pages.specs.declared.Opened.{Opened}
-use Rattle.pages.specs.Pages.{Stands, linesLeft, Opens, Stops, OpensInput}
+use Rattle.pages.specs.Pages.{linesLeft, Opens, Stops, OpensInput}
 
 -- a refusal is all of the listing
 pub opens-stopped : (stream : List ℕ) {whole : List ℕ} {number : ℕ} {out out′ : List ℕ} {r : Opened} → Stops number out r out′ → whole ≡ stopLine number 0 0

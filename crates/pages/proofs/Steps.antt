@@ -1,18 +1,16 @@
 -- A step of the listing: the last two lines, or a frame's line.
-use Prim.Native.Nat.{ℕ, zero, suc, _+_, _*_, _-_, _≤_, _<_}
-use mathlib.Core.Path.{_≡_, refl, sym, ap, _∙_}
-use mathlib.Core.List.{List, [], _∷_, _++_, append-nil, append-assoc}
-use mathlib.Core.Bool.{Bool, true, false, cond}
+use Prim.Native.Nat.{ℕ, zero, suc, _+_, _-_, _≤_, _<_}
+use mathlib.Core.Path.{_≡_, refl, _∙_}
+use mathlib.Core.List.{List, _++_, append-nil}
+use mathlib.Core.Bool.{false}
 use native.Mathlib.Omega.{arith}
 use lib.ListN.{length, take, drop, length-drop}
 use lib.Seq.{take-all}
-use lib.Dec.{leb}
 use borrow.Author.Tests.{le-leb, lt-leb}
-use Rattle.rules.specs.declared.Ending.{Ending}
 use Rattle.rules.specs.declared.Ending.the-variants.{Done, Refused}
 use Rattle.rules.specs.declared.Refusal.{Refusal}
 use Rattle.rules.specs.declared.ReadAnswer.{ReadAnswer}
-use Rattle.rules.specs.Refusals.{refusalNumber, refusalTool}
+use Rattle.rules.specs.Refusals.{refusalNumber}
 use Rattle.rules.specs.Reading.{Read, whole, refuse}
 use Rattle.rules.specs.Frame.{Found, octetsUsed, readOne}
 use Rattle.rules.specs.Calls.{Reads, ReadFrame}
@@ -20,7 +18,6 @@ use Rattle.rules.specs.Listing.{frameLine, stopLine, samplesLine}
 use Rattle.rules.proofs.Accepted.{read-accepts, read-uses}
 use Rattle.lines.specs.Puts.{Puts}
 use Rattle.lines.specs.Onward.{allTools, endLines, afterRead, linesFrom}
-use Rattle.lines.proofs.Putting.{puts-then}
 use Rattle.pages.specs.declared.Stand.{Stand}
 use Rattle.pages.specs.declared.Page.{Page}
 use Rattle.pages.specs.Pages.{Stands, linesLeft, stepsLeft, Ends, Lists}

@@ -1,9 +1,9 @@
 -- The first line, and one page after another until the end, are the whole listing and nothing else.
 use Prim.Native.Nat.{ℕ}
-use mathlib.Core.Path.{_≡_, refl, sym, ap, _∙_}
+use mathlib.Core.Path.{_≡_, sym, ap, _∙_}
 use mathlib.Core.List.{List, [], _++_}
 use mathlib.Core.Bool.{true}
-use lib.ListN.{length, take, drop}
+use lib.ListN.{take, drop}
 use Rattle.rules.specs.Listing.{listing}
 use Rattle.pages.specs.declared.Stand.{Stand}
 use Rattle.pages.specs.declared.Opened.{Opened}
