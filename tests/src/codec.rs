@@ -35,6 +35,12 @@ pub struct Walk {
 /// A back end. The length of `out` is the room that is lent.
 pub trait Codec {
     fn name(&self) -> &str;
+
+    /// Whether the back end writes.
+    fn writes(&self) -> bool {
+        true
+    }
+
     fn read(&self, octets: &[u8], law: u32, set: u32, out: &mut [u8]) -> Read;
     fn write(&self, samples: &[u8], law: u32, set: u32, out: &mut [u8]) -> Write;
     fn walk(&self, octets: &[u8], law: u32, set: u32, out: &mut [u8]) -> Walk;
@@ -91,6 +97,10 @@ impl Codec for Proved {
         "proved"
     }
 
+    fn writes(&self) -> bool {
+        cfg!(feature = "writer")
+    }
+
     fn read(&self, octets: &[u8], law: u32, set: u32, out: &mut [u8]) -> Read {
         let mut report = [UNWRITTEN; 4];
         let ending = g7110::raw::read(octets, law, set, out, &mut report);
@@ -98,6 +108,12 @@ impl Codec for Proved {
         Read { ending, tool: tool as u32, samples: samples as usize, octets: octets as usize, bits: bits as usize }
     }
 
+    #[cfg(not(feature = "writer"))]
+    fn write(&self, _samples: &[u8], _law: u32, _set: u32, _out: &mut [u8]) -> Write {
+        panic!("the proved writer is not there yet")
+    }
+
+    #[cfg(feature = "writer")]
     fn write(&self, samples: &[u8], law: u32, set: u32, out: &mut [u8]) -> Write {
         let mut report = [UNWRITTEN; 3];
         let ending = g7110::raw::write(samples, law, set, out, &mut report);

@@ -59,6 +59,7 @@ pub fn check(codec: &dyn Codec, vector: &Vector, compared: &mut Compared) {
             bench.read("read", ask, *wanted, samples);
             bench.beside_read(ask, *wanted, samples);
         }
+        Call::Write(..) if !codec.writes() => bench.compared.left_out += 1,
         Call::Write(ask, wanted, octets) => {
             bench.compared.writes += 1;
             bench.write("write", ask, *wanted, octets);

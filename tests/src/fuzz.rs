@@ -57,7 +57,8 @@ impl<'a> Fuzz<'a> {
     pub fn round(&mut self) {
         match self.rng.below(8) {
             0..=3 => self.read(),
-            4..=6 => self.write(),
+            4..=6 if cfg!(feature = "writer") => self.write(),
+            4..=6 => self.read(),
             _ => self.walk(),
         }
     }

@@ -1,6 +1,8 @@
 //! Writing one frame: the proved code, through the static library, against the second program. Every written frame is
 //! read back by both, with the same set, and must be the samples again.
 
+#![cfg(feature = "writer")]
+
 use second::gen::{all_kinds, make_frame, Kind, Miss, Often, Pattern, Prng};
 use tests::forms::LENGTHS;
 use tests::frames::{even_frame, few_frame, located_frame, scattered, SINGLE};

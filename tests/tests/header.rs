@@ -1,5 +1,7 @@
 //! include/g7110.h and the archive, as programs in C and C++ use them: compiled without a warning, linked, run.
 
+#![cfg(feature = "writer")]
+
 use std::path::{Path, PathBuf};
 use std::process::Command;
 use tests::say;

@@ -157,6 +157,7 @@ pub fn read(octets: &[u8], law: Law, set: u32, out: &mut [u8]) -> Result<Read, R
 }
 
 /// Writes one frame in the chosen form: of the set's tools that apply, the fewest octets.
+#[cfg(feature = "writer")]
 pub fn write(samples: &[u8], law: Law, set: u32, out: &mut [u8]) -> Result<Written, Refusal> {
     let mut report = [0; 3];
     let ending = raw::write(samples, law.number(), set, out, &mut report);

@@ -14,6 +14,7 @@ extern "C" {
         out_len: usize,
         report: *mut [u64; 4],
     ) -> u32;
+    #[cfg(feature = "writer")]
     fn g7110_write(
         samples: *const u8,
         samples_len: usize,
@@ -41,6 +42,7 @@ pub fn read(octets: &[u8], law: u32, set: u32, out: &mut [u8], report: &mut [u64
 }
 
 /// The ending; the report is octets, bits and tool.
+#[cfg(feature = "writer")]
 pub fn write(samples: &[u8], law: u32, set: u32, out: &mut [u8], report: &mut [u64; 3]) -> u32 {
     // SAFETY: as in `read`.
     unsafe { g7110_write(samples.as_ptr(), samples.len(), law, set, out.as_mut_ptr(), out.len(), report) }

@@ -1,5 +1,7 @@
 //! The calls, as a program in Rust makes them. What they answer on all else is in tests/.
 
+#![cfg(feature = "writer")]
+
 use g7110::{read, walk, write, Law, Read, Refusal, Walk, Written, ALL_TOOLS, MAX_SAMPLES, MAX_WRITTEN};
 
 const PLUS: u8 = 0xFF;

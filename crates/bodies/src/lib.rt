@@ -21,8 +21,7 @@ pub struct Body {
     pub samples: [u8; 320],
 }
 
-// A refusal leaves nothing.
-pub fn nothing(why: Refusal, bit: usize) -> Body
+fn nothing(why: Refusal, bit: usize) -> Body
     ensures { λ r. ⌜ ReadsBody (refuse why bit) 0 r ⌝ }
 {
     Body {

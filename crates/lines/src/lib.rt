@@ -64,8 +64,8 @@ pub fn law_line(law: usize, out: &mut [u8], at: usize) -> usize
     ensures { λ r. ⌜ Puts (now (out .entry)) at (lawLine law) (now (out .exit)) r ⌝ }
     ensures most { λ r. ⌜ r ≤ at + 160 ⌝ }
 {
-    let a = put_field(b"law=", law, out, at);
-    put_word(b"\n", out, a)
+    let end = put_field(b"law=", law, out, at);
+    put_word(b"\n", out, end)
 }
 
 pub fn samples_line(samples: usize, out: &mut [u8], at: usize) -> usize
@@ -73,8 +73,8 @@ pub fn samples_line(samples: usize, out: &mut [u8], at: usize) -> usize
     ensures { λ r. ⌜ Puts (now (out .entry)) at (samplesLine samples) (now (out .exit)) r ⌝ }
     ensures most { λ r. ⌜ r ≤ at + 160 ⌝ }
 {
-    let a = put_field(b"samples=", samples, out, at);
-    put_word(b"\n", out, a)
+    let end = put_field(b"samples=", samples, out, at);
+    put_word(b"\n", out, end)
 }
 
 pub fn stop_line(number: usize, place: usize, tool: usize, out: &mut [u8], at: usize) -> usize
@@ -82,10 +82,10 @@ pub fn stop_line(number: usize, place: usize, tool: usize, out: &mut [u8], at: u
     ensures { λ r. ⌜ Puts (now (out .entry)) at (stopLine number place tool) (now (out .exit)) r ⌝ }
     ensures most { λ r. ⌜ r ≤ at + 160 ⌝ }
 {
-    let a = put_field(b"stop=", number, out, at);
-    let b = put_field(b" at=", place, out, a);
-    let c = put_field(b" tool=", tool, out, b);
-    put_word(b"\n", out, c)
+    let n = put_field(b"stop=", number, out, at);
+    let p = put_field(b" at=", place, out, n);
+    let end = put_field(b" tool=", tool, out, p);
+    put_word(b"\n", out, end)
 }
 
 // The second half of a frame's line: its tool, its octets and its bits.
@@ -94,10 +94,10 @@ fn put_reading(tool: usize, octets: usize, bits: usize, out: &mut [u8], at: usiz
     ensures { λ r. ⌜ Puts (now (out .entry)) at (field toolWord tool ++ (field octetsWord octets ++ (field bitsWord bits ++ lineEnd))) (now (out .exit)) r ⌝ }
     ensures most { λ r. ⌜ r ≤ at + 81 ⌝ }
 {
-    let a = put_field(b" tool=", tool, out, at);
-    let b = put_field(b" octets=", octets, out, a);
-    let c = put_field(b" bits=", bits, out, b);
-    put_word(b"\n", out, c)
+    let t = put_field(b" tool=", tool, out, at);
+    let o = put_field(b" octets=", octets, out, t);
+    let end = put_field(b" bits=", bits, out, o);
+    put_word(b"\n", out, end)
 }
 
 pub fn frame_line(
@@ -114,8 +114,8 @@ pub fn frame_line(
     ensures { λ r. ⌜ Puts (now (out .entry)) at (frameLine frame place samples tool octets bits) (now (out .exit)) r ⌝ }
     ensures most { λ r. ⌜ r ≤ at + 160 ⌝ }
 {
-    let a = put_field(b"frame=", frame, out, at);
-    let b = put_field(b" at=", place, out, a);
-    let c = put_field(b" samples=", samples, out, b);
-    put_reading(tool, octets, bits, out, c)
+    let f = put_field(b"frame=", frame, out, at);
+    let p = put_field(b" at=", place, out, f);
+    let s = put_field(b" samples=", samples, out, p);
+    put_reading(tool, octets, bits, out, s)
 }

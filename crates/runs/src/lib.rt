@@ -25,29 +25,23 @@ pub fn runs(octets: &[u8], at: usize, n: usize, s: usize, d: usize) -> Flags
     let mut filled = 0;
     let mut count = 0;
     let mut place = at;
-    while filled < d {
+    let end = loop {
+        if d <= filled {
+            break Outcome::Got(count, place);
+        }
         let left = d - filled;
         let too_long = left + 1;
         match bits::rice(octets, place, n, s) {
             Outcome::Refused(why, bit) => {
-                return Flags {
-                    end: Outcome::Refused(why, bit),
-                    flags: flags,
-                };
+                break Outcome::Refused(why, bit);
             }
             Outcome::Got(v, next) => {
                 if too_long <= v {
-                    return Flags {
-                        end: Outcome::Refused(Refusal::Run, place),
-                        flags: flags,
-                    };
+                    break Outcome::Refused(Refusal::Run, place);
                 }
                 // "the closing sample is imagined"
                 if v == left {
-                    return Flags {
-                        end: Outcome::Got(count, next),
-                        flags: flags,
-                    };
+                    break Outcome::Got(count, next);
                 }
                 flags[filled + v] = 1;
                 filled += v + 1;
@@ -55,9 +49,9 @@ pub fn runs(octets: &[u8], at: usize, n: usize, s: usize, d: usize) -> Flags
                 place = next;
             }
         }
-    }
+    };
     Flags {
-        end: Outcome::Got(count, place),
+        end: end,
         flags: flags,
     }
 }

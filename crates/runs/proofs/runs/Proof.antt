@@ -32,24 +32,8 @@ rice-requires c κs = search needs
 enum-known-why : tie.Need-enum-known-why Inv-loop μ-loop
 enum-known-why c = search needs
 
-returns : tie.Need-returns Inv-loop μ-loop
-returns c =
-    let f = c .before .before .before .before .before .loop .inv in
-    flags-refused (room f) (runs-refused f (omega arith) (refused (c .before .before .before .rice .ensures) (c .before .why .given .1)))
-
 enum-known-v : tie.Need-enum-known-v Inv-loop μ-loop
 enum-known-v c = search needs
-
-returns-2 : tie.Need-returns-2 Inv-loop μ-loop
-returns-2 c =
-    let f = c .before .before .before .before .before .before .loop .inv in
-    let v = told (c .before .before .before .before .rice .ensures) (c .before .before .v .given .1) in
-    flags-refused (room f) (runs-long f (omega arith) (v .says) (omega arith))
-
-returns-3 : tie.Need-returns-3 Inv-loop μ-loop
-returns-3 c =
-    let v = told (c .before .before .before .before .before .rice .ensures) (c .before .before .before .v .given .1) in
-    runs-closed (c .before .before .before .before .before .before .before .loop .inv) (omega arith) (v .says) (c .if2 .taken) (omega arith) (v .next)
 
 add-flags : tie.Need-add-flags Inv-loop μ-loop
 add-flags c = search needs
@@ -72,10 +56,26 @@ loop-less c = search needs
 loop-again : tie.Need-loop-again Inv-loop μ-loop
 loop-again c =
     let v = told (c .before .before .before .before .before .rice .ensures) (c .before .before .before .v .given .1) in
-    runs-turn (c .before .before .before .before .before .before .before .loop .inv) (omega arith) (v .says) (omega arith) (omega arith) (c .if2 .left) (v .next)
+    runs-turn (c .before .before .before .before .before .before .before .loop .inv) (omega arith) (v .says) (omega arith) (omega arith) (c .if3 .left) (v .next)
+
+returns : tie.Need-returns Inv-loop μ-loop
+returns c = runs-filled (c .before .loop .inv) (omega arith) (omega arith)
+
+returns-2 : tie.Need-returns-2 Inv-loop μ-loop
+returns-2 c =
+    let f = c .before .before .before .before .before .loop .inv in
+    flags-refused (room f) (runs-refused f (omega arith) (refused (c .before .before .before .rice .ensures) (c .before .why .given .1)))
+
+returns-3 : tie.Need-returns-3 Inv-loop μ-loop
+returns-3 c =
+    let f = c .before .before .before .before .before .before .loop .inv in
+    let v = told (c .before .before .before .before .rice .ensures) (c .before .before .v .given .1) in
+    flags-refused (room f) (runs-long f (omega arith) (v .says) (omega arith))
 
 returns-4 : tie.Need-returns-4 Inv-loop μ-loop
-returns-4 c = runs-filled (c .before .loop .inv) (omega arith) (omega arith)
+returns-4 c =
+    let v = told (c .before .before .before .before .before .rice .ensures) (c .before .before .before .v .given .1) in
+    runs-closed (c .before .before .before .before .before .before .before .loop .inv) (omega arith) (v .says) (c .if3 .taken) (omega arith) (v .next)
 
 pub runs-spec : {M : Type 1} → statement M
 runs-spec =
@@ -88,10 +88,7 @@ runs-spec =
     add-too-long
     rice-requires
     enum-known-why
-    returns
     enum-known-v
-    returns-2
-    returns-3
     add-flags
     array-write-flags
     add-filled
@@ -99,4 +96,7 @@ runs-spec =
     add-count
     loop-less
     loop-again
+    returns
+    returns-2
+    returns-3
     returns-4)

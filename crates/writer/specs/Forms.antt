@@ -1,0 +1,54 @@
+-- A frame with the plan of its form, and the room for it.
+use Prim.Native.Nat.{ℕ, _+_, _*_, _^_, _≤_, _<_}
+use mathlib.Core.Path.{_≡_}
+use mathlib.Core.List.{List, [], _++_}
+use mathlib.Core.Bool.{cond}
+use lib.ListN.{length, take}
+use lib.Dec.{eqb}
+use Rattle.rules.specs.Bits.{lowBits}
+use Rattle.rules.specs.Zeros.{codeOf, mostS}
+use Rattle.rules.specs.First.{riceCode}
+use Rattle.rules.specs.Runs.{riceForms}
+use Rattle.rules.specs.Chooses.{formOf, placesOf, numbersForm}
+use Rattle.measure.specs.declared.Left.{Left}
+use Rattle.choice.specs.declared.Plan.{Plan}
+use Rattle.choice.specs.declared.Rice.{Rice}
+use Rattle.choice.specs.Offers.{cellsOf, RiceIs, PlacedIs}
+use Rattle.choice.specs.Plans.{IsFrame}
+use Rattle.writer.specs.declared.Code.{Code}
+
+-- a plan that fits the frame
+pub record Planned (mask : ℕ) (frame : Left) (plan : Plan) : Type 0 where
+  pub sized : IsFrame frame
+  pub seven : mask < 128
+  pub from : 1 ≤ plan .tool
+  pub to : plan .tool ≤ 7
+  pub bits : plan .bits ≡ length (formOf mask (plan .tool) (cellsOf frame))
+  pub rice : plan .tool ≡ 6 → RiceIs mask (cellsOf frame) (plan .rice)
+  pub placed : plan .tool ≡ 7 → PlacedIs mask (cellsOf frame) (plan .placed)
+
+-- the code of S as a number of so many bits
+pub record CodeIs (n s : ℕ) (r : Code) : Type 0 where
+  pub says : lowBits (r .bits) (r .value) ≡ codeOf n s
+  pub few : r .bits ≤ 8
+  pub fits : r .value < 2 ^ r .bits
+
+-- Rice as planned, for n samples
+abbrev pub riceFormOf : ℕ → Rice → List ℕ
+riceFormOf n r = riceCode n (r .mark) ++ (codeOf n (r .s) ++ riceForms (r .s) (take (r .runs .count) (r .runs .runs)))
+
+pub record RiceReady (n : ℕ) (r : Rice) : Type 0 where
+  pub mark : r .mark < 2
+  pub from : 1 ≤ r .s
+  pub to : r .s ≤ mostS n
+  pub most : r .s ≤ 9
+  pub few : r .runs .count ≤ 321
+  pub size : length (r .runs .runs) ≡ 321
+
+-- a place's bits where its flag is set
+abbrev pub placeForm : ℕ → ℕ → ℕ → List ℕ
+placeForm f i w = cond (eqb f 0) [] (lowBits w i)
+
+-- the places of flags
+abbrev pub placesForm : ℕ → List ℕ → List ℕ
+placesForm w flags = numbersForm w (placesOf 0 flags)

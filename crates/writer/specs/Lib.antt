@@ -1,0 +1,2 @@
+-- What the writer puts out.
+pub mod Forms

@@ -1,0 +1,178 @@
+// Writing one frame: the chosen form alone is put out.
+
+use choice::Rice;
+use pen::Pen;
+use pen::put;
+use pen::put_runs;
+use prefix::base_of;
+use prefix::octet_for;
+ghost use mathlib.Core.Path.{_≡_};
+ghost use mathlib.Core.List.{_++_};
+ghost use Prim.Native.Nat.{_+_, _*_, _^_, _≤_, _<_};
+ghost use lib.ListN.{length, take};
+ghost use Rattle.rules.specs.Bits.{lowBits, bitsOf};
+ghost use Rattle.rules.specs.First.{riceCode};
+ghost use Rattle.rules.specs.Runs.{riceForms};
+ghost use Rattle.rules.specs.Zeros as zeros;
+ghost use Rattle.pen.specs.Puts.{Able, Puts};
+ghost use Rattle.writer.specs.Forms.{CodeIs, RiceReady, riceFormOf, placeForm, placesForm};
+
+// A code: so many bits, and their number.
+pub struct Code {
+    pub bits: usize,
+    pub value: u64,
+}
+
+fn wide(x: u8) -> u64
+    ensures { λ r. ⌜ (r ≡ x) × (r < 256) ⌝ }
+{
+    x as u64
+}
+
+// The first octet of every tool but 6.
+fn put_prefix(out: &mut [u8], p: Pen, tool: u32, n: usize) -> Pen
+    requires { ⌜ (1 ≤ tool) × (tool ≤ 7) ⌝ }
+    requires { ⌜ Able (now out) p 8 ⌝ }
+    ensures { λ r. ⌜ Puts (now (out .entry)) p (zeros.prefix tool n) (now (out .exit)) r ⌝ }
+{
+    put(out, p, 8, wide(octet_for(tool, n)))
+}
+
+// "Uncompressed: N octets."
+fn put_samples(out: &mut [u8], p: Pen, samples: &[u8; 320], n: usize) -> Pen
+    requires { ⌜ (n ≤ 320) × (n ≤ length (now samples)) ⌝ }
+    requires { ⌜ Able (now out) p (8 * n) ⌝ }
+    ensures { λ r. ⌜ Puts (now (out .entry)) p (bitsOf (take n (now (samples .entry)))) (now (out .exit)) r ⌝ }
+{
+    let mut q = p;
+    let mut i = 0;
+    while i < n {
+        q = put(out, q, 8, wide(samples[i]));
+        i += 1;
+    }
+    q
+}
+
+// "After the length code come 010 or 011 (100 or 101 for 240 and 320)": all of that at once.
+fn put_start(out: &mut [u8], p: Pen, n: usize, mark: usize) -> Pen
+    requires { ⌜ mark < 2 ⌝ }
+    requires { ⌜ Able (now out) p (length (riceCode n mark)) ⌝ }
+    ensures { λ r. ⌜ Puts (now (out .entry)) p (riceCode n mark) (now (out .exit)) r ⌝ }
+{
+    let base = wide(base_of(n));
+    if 240 <= n {
+        return put(out, p, 7, (base / 16) * 8 + 4 + mark as u64);
+    }
+    put(out, p, 5, (base / 64) * 8 + 2 + mark as u64)
+}
+
+fn bits_of(bits: usize, value: u64) -> Code
+    ensures { λ r. ⌜ (r .bits ≡ bits) × (r .value ≡ value) ⌝ }
+{
+    Code {
+        bits: bits,
+        value: value,
+    }
+}
+
+// The code of S for 40 samples.
+fn code_of_40(s: usize) -> Code
+    requires { ⌜ (1 ≤ s) × (s ≤ 5) ⌝ }
+    ensures { λ r. ⌜ CodeIs 40 s r ⌝ }
+{
+    match s {
+        1 => bits_of(2, 1),
+        2 => bits_of(2, 2),
+        3 => bits_of(3, 6),
+        4 => bits_of(4, 14),
+        _ => bits_of(4, 15),
+    }
+}
+
+// The code of S for 80 samples.
+fn code_of_80(s: usize) -> Code
+    requires { ⌜ (1 ≤ s) × (s ≤ 6) ⌝ }
+    ensures { λ r. ⌜ CodeIs 80 s r ⌝ }
+{
+    match s {
+        1 => bits_of(2, 1),
+        2 => bits_of(2, 2),
+        3 => bits_of(4, 12),
+        4 => bits_of(4, 13),
+        5 => bits_of(4, 14),
+        _ => bits_of(4, 15),
+    }
+}
+
+// The code of S for 160, 240 and 320 samples.
+fn code_of_more(s: usize) -> Code
+    requires { ⌜ (1 ≤ s) × (s ≤ 9) ⌝ }
+    ensures { λ r. ⌜ CodeIs 160 s r ⌝ }
+{
+    match s {
+        1 => bits_of(2, 1),
+        2 => bits_of(2, 2),
+        3 => bits_of(4, 12),
+        4 => bits_of(4, 13),
+        5 => bits_of(5, 28),
+        6 => bits_of(5, 29),
+        7 => bits_of(5, 30),
+        8 => bits_of(6, 62),
+        _ => bits_of(6, 63),
+    }
+}
+
+// The code of S.
+fn code_of(n: usize, s: usize) -> Code
+    requires { ⌜ (1 ≤ s) × (s ≤ zeros.mostS n) ⌝ }
+    ensures { λ r. ⌜ CodeIs n s r ⌝ }
+{
+    if n == 40 {
+        return code_of_40(s);
+    }
+    if n == 80 {
+        return code_of_80(s);
+    }
+    code_of_more(s)
+}
+
+// Rice: the start, the code of S, and the runs.
+fn put_plus_minus(out: &mut [u8], p: Pen, r: Rice, n: usize) -> Pen
+    requires { ⌜ RiceReady n r ⌝ }
+    requires { ⌜ Able (now out) p (length (riceFormOf n r)) ⌝ }
+    ensures { λ q. ⌜ Puts (now (out .entry)) p (riceFormOf n r) (now (out .exit)) q ⌝ }
+{
+    let q = put_start(out, p, n, r.mark);
+    let k = code_of(n, r.s);
+    let v = put(out, q, k.bits, k.value);
+    let found = r.runs;
+    let runs = found.runs;
+    put_runs(out, v, r.s, &runs, found.count)
+}
+
+// A place of w bits, where its flag is set.
+fn put_place(out: &mut [u8], p: Pen, f: u8, i: u64, w: usize) -> Pen
+    requires { ⌜ (w ≤ 9) × (i < 2 ^ w) ⌝ }
+    requires { ⌜ Able (now out) p (length (placeForm f i w)) ⌝ }
+    ensures { λ r. ⌜ Puts (now (out .entry)) p (placeForm f i w) (now (out .exit)) r ⌝ }
+{
+    if f == 0 {
+        return p;
+    }
+    put(out, p, w, i)
+}
+
+// "that many places of ceil(log2 D) bits, rising"
+fn put_places(out: &mut [u8], p: Pen, flags: &[u8; 320], d: usize, w: usize) -> Pen
+    requires { ⌜ (d ≤ 320) × ((d ≤ length (now flags)) × ((w ≤ 9) × (d ≤ 2 ^ w))) ⌝ }
+    requires { ⌜ Able (now out) p (length (placesForm w (take d (now flags)))) ⌝ }
+    ensures { λ r. ⌜ Puts (now (out .entry)) p (placesForm w (take d (now (flags .entry)))) (now (out .exit)) r ⌝ }
+{
+    let mut q = p;
+    let mut i = 0;
+    while i < d {
+        q = put_place(out, q, flags[i], i as u64, w);
+        i += 1;
+    }
+    q
+}
