@@ -1,11 +1,10 @@
 -- A step of the listing: the last two lines, or a frame's line.
 use Prim.Native.Nat.{ℕ, zero, suc, _+_, _-_, _≤_, _<_}
-use mathlib.Core.Path.{_≡_, refl, _∙_}
+use mathlib.Core.Path.{_≡_, refl, sym, subst, _∙_}
 use mathlib.Core.List.{List, _++_, append-nil}
 use mathlib.Core.Bool.{false}
 use native.Mathlib.Omega.{arith}
-use lib.ListN.{length, take, drop, length-drop}
-use lib.Seq.{take-all}
+use lib.ListN.{length, drop, length-drop}
 use borrow.Author.Tests.{le-leb, lt-leb}
 use Rattle.rules.specs.declared.Ending.the-variants.{Done, Refused}
 use Rattle.rules.specs.declared.Refusal.{Refusal}
@@ -13,9 +12,10 @@ use Rattle.rules.specs.declared.ReadAnswer.{ReadAnswer}
 use Rattle.rules.specs.Refusals.{refusalNumber}
 use Rattle.rules.specs.Reading.{Read, whole, refuse}
 use Rattle.rules.specs.Frame.{Found, octetsUsed, readOne}
-use Rattle.rules.specs.Calls.{Reads, ReadFrame}
+use Rattle.rules.specs.Calls.{Reads}
 use Rattle.rules.specs.Listing.{frameLine, stopLine, samplesLine}
 use Rattle.rules.proofs.Accepted.{read-accepts, read-uses}
+use Rattle.walk.specs.Stepping.{Steps}
 use Rattle.lines.specs.Puts.{Puts}
 use Rattle.lines.specs.Onward.{allTools, endLines, afterRead, linesFrom}
 use Rattle.pages.specs.declared.Stand.{Stand}
@@ -45,12 +45,12 @@ module _ (stream : List ℕ) (law : ℕ) where
       let k : suc (length stream) - s .frames ≡ suc (length stream - s .frames) = omega arith in
       rw (e, k, lt-leb (length stream) (s .at) h)
 
--- the frame is read from the part of the stream from its place on
-pub part-read : (stream : List ℕ) (at law n : ℕ) {room room′ : List ℕ} {r : ReadAnswer} → length room ≡ 320 → length stream ≤ n + at
-    → ReadFrame (take n (drop at stream)) law allTools room room′ r → Reads (readOne (drop at stream) law allTools 320) r room room′
-part-read stream at law n e h t =
-    let l : length (drop at stream) ≤ n = rw length-drop (omega arith) in
-    rw (e, take-all n (drop at stream) l) at t
+-- a step of the walk into a room of 320, from its start on, reads the frame at its place
+pub step-read : (stream : List ℕ) (at law : ℕ) {room room′ : List ℕ} {r : ReadAnswer} → length room ≡ 320
+    → Steps stream law allTools at 0 room room′ r → Reads (readOne (drop at stream) law allTools 320) r room room′
+step-read stream at law {room} {room′} {r} e t =
+    let l : length room - 0 ≡ 320 = omega arith in
+    subst (λ (out : List ℕ). Reads (readOne (drop at stream) law allTools 320) r room out) (sym (t .lent)) (rw l at (t .reads))
 
 -- what an answer tells
 module _ {found : Read Found} {r : ReadAnswer} {out out′ : List ℕ} where

@@ -78,7 +78,7 @@ fn read_at(stream: &[u8], at: usize, law: u32, room: &mut [u8; 320]) -> ReadAnsw
     requires { ⌜ at ≤ length (now stream) ⌝ }
     ensures { λ r. ⌜ Reads (readOne (drop at (now (stream .entry))) law 127 320) r (now (room .entry)) (now (room .exit)) ⌝ }
 {
-    reader::read_frame(&stream[at..], law, 127, room)
+    walk::step(stream, law, 127, at, room, 0)
 }
 
 // The line of the frame at the place, or, at the stream's end and where the frame is refused, the last two lines.

@@ -10,7 +10,7 @@ use rules::Refusal;
 use rules::WalkAnswer;
 
 // One frame, at a place of the stream; its samples go to the output from `to` on.
-fn step(octets: &[u8], law: u32, set: u32, at: usize, out: &mut [u8], to: usize) -> ReadAnswer
+pub fn step(octets: &[u8], law: u32, set: u32, at: usize, out: &mut [u8], to: usize) -> ReadAnswer
     requires { ⌜ (at ≤ length (now octets)) × (to ≤ length (now out)) ⌝ }
     ensures { λ r. ⌜ Steps (now (octets .entry)) law set at to (now (out .entry)) (now (out .exit)) r ⌝ }
 {
