@@ -35,7 +35,7 @@ fuzz: archive
 	@$(CARGO) run --release --offline --locked --quiet --package tests --bin fuzz
 
 bench: archive
-	@$(CARGO) run --profile bench --offline --locked --quiet --package bench --features writer
+	@$(CARGO) run --profile bench --offline --locked --quiet --package bench
 
 fmt:
 	rt fmt

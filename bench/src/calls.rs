@@ -17,6 +17,7 @@ pub fn second_read(octets: &[u8], law: u32, set: u32, out: &mut [u8]) -> u32 {
     got.ending
 }
 
+#[cfg(feature = "writer")]
 #[inline(never)]
 pub fn proved_write(samples: &[u8], law: u32, set: u32, out: &mut [u8]) -> u32 {
     let mut report = [0; 3];

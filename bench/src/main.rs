@@ -70,6 +70,7 @@ fn reading(batch: &Batch) {
     row(&batch.name, times, forms.len() as f64);
 }
 
+#[cfg(feature = "writer")]
 fn writing(batch: &Batch) {
     let mut outs = [[0; 321]; 3];
     let [one, other, third] = outs.each_mut();
@@ -79,6 +80,20 @@ fn writing(batch: &Batch) {
         &mut || copy(&batch.frames, third),
     ]);
     row(&batch.name, times, batch.frames.len() as f64);
+}
+
+/// The proved writer is not there yet: the second program alone, beside memcpy.
+#[cfg(not(feature = "writer"))]
+fn writing(batch: &Batch) {
+    let mut outs = [[0; 321]; 2];
+    let [one, third] = outs.each_mut();
+    let [second, _, copied] = best([
+        &mut || each(&batch.frames, |frame| calls::second_write(frame, batch.law, SET, one)),
+        &mut || {},
+        &mut || copy(&batch.frames, third),
+    ]);
+    let count = batch.frames.len() as f64;
+    println!("| {} | - | {:.1} | - | {:.2} | - |", batch.name, second / count, copied / count);
 }
 
 fn each(inputs: &[Vec<u8>], mut call: impl FnMut(&[u8]) -> u32) {

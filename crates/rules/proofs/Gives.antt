@@ -6,7 +6,7 @@ use mathlib.Core.List.{List, [], _∷_, _++_, map}
 use mathlib.Core.Bool.{Bool, true, false, cond, _&&_}
 use native.Mathlib.Omega.{arith}
 use native.Mathlib.Nat.{le-refl, lt-of-lt-of-le, mul-le-mul-right, pow-suc, mul-comm, mul-assoc, one-mul, add-zero, zero-add, add-mul}
-use lib.Dec.{eqb, leb, ltb, lit<}
+use lib.Dec.{eqb, leb, ltb, lit<, lit≤}
 use lib.Arith.{digits-lt}
 use lib.Pow.{pow-pos}
 use lib.ListN.{length, getD, replicate, length-append, length-replicate}
@@ -14,6 +14,7 @@ use borrow.Author.Tests.{ltb-true, ltb-false, leb-true, eqb-true, eqb-false}
 use Rattle.rules.specs.declared.Refusal.{Refusal}
 use Rattle.rules.specs.declared.Refusal.the-variants.{Short, Run, Align, Method, Place, Case}
 use Rattle.rules.specs.Reading.{Read, whole, refuse, Reader, andThen, _>>=_, give, fail, here, bit, numberFrom, number, bitsFrom, octetsAfter, filled}
+use Rattle.rules.specs.First.{sixNotEight}
 use Rattle.rules.specs.Runs.{zerosFrom, rice, runsFrom}
 use Rattle.rules.specs.Zeros.{Tree, leaf, fork, treeOf, readTree}
 use Rattle.rules.specs.Located.{widthOf, listedFrom, listed, byMethod, emptyIn, lay, valuesInto}
@@ -155,6 +156,13 @@ unfolding readTree
 gives-readTree P (leaf s) h = gives-give s h
 gives-readTree P (fork z o) h =
     gives-bind gives-bit (λ a l. gives-cond (eqb a 1) (λ t. gives-readTree P o (h .1)) (λ t. gives-readTree P z (h .0)))
+
+-- tool 6 or 8
+pub gives-sixNotEight : Gives sixNotEight (λ t. (6 ≤ t) × (t ≤ 8))
+unfolding sixNotEight
+gives-sixNotEight =
+    gives-bind gives-bit (λ a h. gives-cond (eqb a 1) (λ t. gives-give 6 (lit≤ tt, lit≤ tt)) (λ t.
+    gives-bind gives-bit (λ b g. gives-cond (eqb b 1) (λ u. gives-give 6 (lit≤ tt, lit≤ tt)) (λ u. gives-give 8 (lit≤ tt, lit≤ tt)))))
 
 -- places that are listed
 pub gives-listedFrom : (w d : ℕ) (done : List ℕ) (count : ℕ) → length done ≤ d → Below 2 done → Gives (listedFrom w d done count) (Sized 2 d)
