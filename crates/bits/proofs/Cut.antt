@@ -8,7 +8,7 @@ use lib.ListN.{length, getD}
 use Rattle.rules.specs.declared.Refusal.the-variants.{Short}
 use Rattle.rules.specs.Bits.{bitsOf}
 use Rattle.rules.specs.Reading.{Read, whole, refuse, bit, numberFrom}
-use Rattle.bits.proofs.Bit.{bit-there, bit-missing}
+use Rattle.bits.proofs.OneBit.{bit-there, bit-missing}
 
 cut-step : (s : List ℕ) (v n at : ℕ) → length s < (at + suc n + 7) / 8 → Dec (length s ≤ at / 8)
     → ((v at : ℕ) → 0 < n → length s < (at + n + 7) / 8 → numberFrom v n (bitsOf s) at ≡ refuse Short (max at (8 * length s)))

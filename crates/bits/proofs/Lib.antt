@@ -1,4 +1,4 @@
-pub mod Bit
+pub mod OneBit
 pub mod ZeroRun
 pub mod Window
 pub mod Cut

@@ -12,7 +12,7 @@ use lib.Pow.{shr-shr, high}
 use Rattle.rules.specs.Bits.{lowBits, bitsOf, valueFrom}
 use Rattle.rules.specs.Reading.{Read, whole, refuse, bit, numberFrom}
 use Rattle.rules.proofs.Octets.{length-lowBits, length-bitsOf, bitsOf-drop, value-lowBits, lowBits-value, lowBits-below}
-use Rattle.bits.proofs.Bit.{bit-there}
+use Rattle.bits.proofs.OneBit.{bit-there}
 
 -- two numbers side by side
 above : (n a b : ℕ) → b < 2 ^ n → lowBits n (a * 2 ^ n + b) ≡ lowBits n b

@@ -9,7 +9,7 @@ use Rattle.rules.specs.declared.Refusal.the-variants.{Short, Run}
 use Rattle.rules.specs.Bits.{bitsOf}
 use Rattle.rules.specs.Reading.{Read, whole, refuse, bit}
 use Rattle.rules.specs.Runs.{zerosFrom}
-use Rattle.bits.proofs.Bit.{bit-there, bit-missing}
+use Rattle.bits.proofs.OneBit.{bit-there, bit-missing}
 
 module _ (s : List ℕ) (at n k : ℕ) where
   pub zeros-run : n < k → zerosFrom at k (n + 1 - k) (bitsOf s) (at + k) ≡ refuse Run at

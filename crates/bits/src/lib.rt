@@ -4,7 +4,7 @@ ghost use mathlib.Core.Path.{_≡_};
 ghost use Prim.Native.Nat.{_+_, _*_, _-_, _^_, _/_, _≤_, _<_, max};
 ghost use lib.ListN.{length, getD};
 ghost use Rattle.rules.specs.Bits.{bitsOf};
-ghost use Rattle.rules.specs.Reading.{numberFrom};
+ghost use Rattle.rules.specs.Reading.{bit as oneBit, numberFrom};
 ghost use Rattle.rules.specs.Runs.{zerosFrom, rice as riceCode};
 ghost use Rattle.bits.specs.Outcomes.{Reads};
 use rules::Refusal;
@@ -27,6 +27,17 @@ pub fn bit_at(octets: &[u8], at: usize) -> usize
     ensures { λ r. ⌜ (r ≡ getD (bitsOf (now (octets .entry))) at 0) × (r < 2) ⌝ }
 {
     (wide(octets[at / 8]) >> (7 - at % 8)) % 2
+}
+
+// One bit; one that the octets do not have is SHORT.
+pub fn bit(octets: &[u8], at: usize) -> Outcome
+    requires { ⌜ at ≤ 2 ^ 40 ⌝ }
+    ensures { λ r. ⌜ Reads (oneBit (bitsOf (now (octets .entry))) at) 1 (at + 1) r ⌝ }
+{
+    if octets.len() <= at / 8 {
+        return Outcome::Refused(Refusal::Short, at);
+    }
+    Outcome::Got(bit_at(octets, at), at + 1)
 }
 
 // "Reading zeros ends at the first one bit, or at zero N + 1, which is RUN; octets that end sooner are SHORT."
@@ -61,7 +72,7 @@ fn octet_at(octets: &[u8], i: usize) -> usize
 }
 
 // The first bit that is missing, of some from `at` on.
-fn missing(octets: &[u8], at: usize) -> usize
+pub fn missing(octets: &[u8], at: usize) -> usize
     requires { ⌜ (at ≤ 2 ^ 40) × (length (now octets) ≤ 2 ^ 40) ⌝ }
     ensures { λ r. ⌜ r ≡ max at (8 * length (now (octets .entry))) ⌝ }
 {

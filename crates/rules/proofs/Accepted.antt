@@ -1,6 +1,6 @@
 -- An accepted frame (specs/Frame): its samples are as many as its length says and are octets, it fits the room, its tool is in the set,
 -- and it uses whole octets, at least one and no more than there are.
-use Prim.Native.Nat.{ℕ, zero, suc, _+_, _*_, _-_, _≤_, _<_}
+use Prim.Native.Nat.{ℕ, zero, suc, _+_, _*_, _-_, _≤_, _<_, zero-le}
 use mathlib.Core.Path.{_≡_, refl, sym, ap, subst, _∙_}
 use mathlib.Core.Logic.{_⊎_, inl, inr}
 use mathlib.Core.List.{List, [], _∷_, _++_, map}
@@ -10,12 +10,12 @@ use native.Mathlib.Nat.{le-refl, zero-add}
 use lib.Dec.{eqb, leb, ltb, lit<, lit≤}
 use lib.IntN.{ℤ, pos, negsuc}
 use lib.ListN.{length, getD, replicate, length-replicate, length-map}
-use borrow.Author.Tests.{ltb-false, not-true, not-false}
+use borrow.Author.Tests.{ltb-true, ltb-false, not-true, not-false}
 use Rattle.rules.specs.declared.Refusal.{Refusal}
-use Rattle.rules.specs.declared.Refusal.the-variants.{Align, Tool, Room, Case}
+use Rattle.rules.specs.declared.Refusal.the-variants.{Short, Align, Tool, Room, Case, Law, Set}
 use Rattle.rules.specs.Tools.{holds, isLength, isLaw, isSet}
 use Rattle.rules.specs.Bits.{bitsOf, octetsFor, fillFor}
-use Rattle.rules.specs.Reading.{Read, whole, refuse, Reader, andThen, _>>=_, give, fail, here, bit, number, filled}
+use Rattle.rules.specs.Reading.{Read, whole, refuse, Reader, andThen, _>>=_, give, fail, here, from, bit, numberFrom, number, filled}
 use Rattle.rules.specs.First.{First, unassigned, pad, tool, sixOrEight, firstOctet, markAt, isLong, sixNotEight, octetFor, riceCode}
 use Rattle.rules.specs.Samples.{maskOf, sampleOf, plusZero, minusZero}
 use Rattle.rules.specs.Zeros.{zeroOf, Tree, leaf, fork, treeOf}
@@ -23,7 +23,7 @@ use Rattle.rules.specs.Located.{RangeCase, case0, case1, case2, case3, c
 use Rattle.rules.specs.Frame.{Found, octetsUsed, body, withTool, afterFirst, frame, readOne}
 use Rattle.rules.proofs.Octets.{Below, none, more, below-replicate, bitsOf-below, length-bitsOf}
 use Rattle.rules.proofs.Tests.{and-left, and-right, or-cases}
-use Rattle.rules.proofs.Signed.{InRange, Law, law-mask}
+use Rattle.rules.proofs.Signed.{InRange, LawMask, law-mask}
 use Rattle.rules.proofs.Firsts.{asWritten, first-as-written}
 use Rattle.rules.proofs.Gives.{Gives, gives-give, gives-fail, gives-here, gives-bit, gives-bind, gives-cond, gives-as, gives-number, Sized, gives-bitsFrom, gives-octetsAfter, gives-runsFrom, Leaves, gives-readTree, gives-valuesInto}
 
@@ -61,18 +61,18 @@ values-in-range n c flag =
     (row-in-range case3 (lit< tt, tt) tt n flag)
     c
 
-pub octets-below : {mask : ℕ} → Law mask → (vs : List ℤ) → AllInRange vs → Below 256 (map (sampleOf mask) vs)
+pub octets-below : {mask : ℕ} → LawMask mask → (vs : List ℤ) → AllInRange vs → Below 256 (map (sampleOf mask) vs)
 octets-below l [] h = none
 octets-below l (v ∷ vs) h = more (l .octet v (h .0)) (octets-below l vs (h .1))
 
 -- the bodies
-plus-below : {mask : ℕ} → Law mask → plusZero mask < 256
+plus-below : {mask : ℕ} → LawMask mask → plusZero mask < 256
 plus-below l = l .octet (pos 0) (lit< tt)
 
-minus-below : {mask : ℕ} → Law mask → minusZero mask < 256
+minus-below : {mask : ℕ} → LawMask mask → minusZero mask < 256
 minus-below l = l .octet (negsuc 0) (lit< tt)
 
-zeros-sized : {mask : ℕ} → Law mask → (mark n : ℕ) (flags : List ℕ) → length flags ≡ n → Sized 256 n (map (zeroOf mask mark) flags)
+zeros-sized : {mask : ℕ} → LawMask mask → (mark n : ℕ) (flags : List ℕ) → length flags ≡ n → Sized 256 n (map (zeroOf mask mark) flags)
 zeros-sized {mask} l mark n flags h = record { size = length-map flags (zeroOf mask mark) ∙ h; below = all flags }
   where
     one : (b : Bool) → cond b (plusZero mask) (minusZero mask) < 256
@@ -86,7 +86,7 @@ zeros-sized {mask} l mark n flags h = record { size = length-map flags (zeroOf m
 gives-constantly : (n x : ℕ) → x < 256 → Gives (give (replicate n x)) (Sized 256 n)
 gives-constantly n x h = gives-give (replicate n x) (record { size = length-replicate n x; below = below-replicate n h })
 
-gives-located : {mask : ℕ} → Law mask → (n : ℕ) → Gives (located mask n) (Sized 256 n)
+gives-located : {mask : ℕ} → LawMask mask → (n : ℕ) → Gives (located mask n) (Sized 256 n)
 unfolding located
 gives-located {mask} l n =
     gives-bind gives-here (λ start u. gives-bind (gives-number 2) (λ c h. gives-bind (gives-number 1) (λ flag g.
@@ -95,7 +95,7 @@ gives-located {mask} l n =
     (gives-valuesInto n (plusZero mask) (replicate n (plusZero mask)) (plus-below l)
     (octets-below l (valuesOf n c flag) (values-in-range n c flag)) (below-replicate n (plus-below l)))))))
 
-pub gives-body : {mask : ℕ} → Law mask → (t n mark : ℕ) → Gives (body mask t n mark) (Sized 256 n)
+pub gives-body : {mask : ℕ} → LawMask mask → (t n mark : ℕ) → Gives (body mask t n mark) (Sized 256 n)
 unfolding body
 gives-body {mask} l t n mark =
     gives-cond (eqb t 1) (λ e. gives-as (λ s k. record { size = k .size ∙ zero-add n; below = k .below }) (gives-octetsAfter [] n none)) (λ e.
@@ -119,3 +119,150 @@ unfolding filled
 gives-filled a zero q = gives-give a q
 gives-filled a (suc n) q =
     gives-bind gives-here (λ at u. gives-bind gives-bit (λ f h. gives-cond (eqb f 0) (λ t. gives-filled a n q) (λ t. gives-fail Align at)))
+
+-- inversion: the steps of a reading that is whole
+pub data Steps {A B : Type 0} (m : Read A) (f : A → ℕ → Read B) (c : B) (j : ℕ) : Type 0 where
+  through : (a : A) (i : ℕ) → m ≡ whole a i → f a i ≡ whole c j → Steps m f c j
+
+pub steps : {A B : Type 0} (m : Read A) (f : A → ℕ → Read B) {c : B} {j : ℕ} → andThen m f ≡ whole c j → Steps m f c j
+steps (whole a i) f e = through a i refl e
+steps (refuse w at) f e = let z : _≡_ {A = ℕ} 0 1 = cc in absurd (omega arith)
+
+-- a test that refuses was not met
+pub not-refused : {A : Type 0} (t : Bool) (w : Refusal) (at : ℕ) (r : Reader A) (b : List ℕ) (i : ℕ) {c : A} {j : ℕ}
+    → cond t (fail w at) r b i ≡ whole c j → (t ≡ false) × (r b i ≡ whole c j)
+not-refused true w at r b i e = let z : _≡_ {A = ℕ} 0 1 = cc in absurd (omega arith)
+not-refused false w at r b i e = (refl, e)
+
+bit-next : (b : List ℕ) (i : ℕ) {a j : ℕ} → bit b i ≡ whole a j → i + 1 ≡ j
+unfolding bit
+bit-next b i {a} {j} e = go (ltb i (length b)) e
+  where
+    go : (t : Bool) → cond t (whole (getD b i 0) (i + 1)) (refuse Short i) ≡ whole a j → i + 1 ≡ j
+    go true e = cc
+    go false e = let z : _≡_ {A = ℕ} 0 1 = cc in absurd (omega arith)
+
+bit-inside : (b : List ℕ) (i : ℕ) {a j : ℕ} → bit b i ≡ whole a j → i < length b
+unfolding bit
+bit-inside b i {a} {j} e = go (ltb i (length b)) refl e
+  where
+    go : (t : Bool) → ltb i (length b) ≡ t → cond t (whole (getD b i 0) (i + 1)) (refuse Short i) ≡ whole a j → i < length b
+    go true t e = ltb-true i (length b) t
+    go false t e = let z : _≡_ {A = ℕ} 0 1 = cc in absurd (omega arith)
+
+-- the value stays, and so many places are passed
+pub filled-is : {A : Type 0} (a : A) (n : ℕ) (b : List ℕ) (i : ℕ) {c : A} {j : ℕ} → filled a n b i ≡ whole c j → (a ≡ c) × (i + n ≡ j)
+unfolding filled
+filled-is a zero b i {c} {j} e = let p : i ≡ j = cc in (cc, omega arith)
+filled-is {A} a (suc n) b i {c} {j} e = go (λ k. filled-is a n b k) (steps (bit b i) _ e)
+  where
+    after : (f k : ℕ) (t : Bool) → bit b i ≡ whole f k → cond t (filled a n) (fail Align i) b k ≡ whole c j
+        → (filled a n b k ≡ whole c j → (a ≡ c) × (k + n ≡ j)) → (a ≡ c) × (i + suc n ≡ j)
+    after f k true q e later = let r = later e in let p = bit-next b i q in (r .0, omega arith)
+    after f k false q e later = let z : _≡_ {A = ℕ} 0 1 = cc in absurd (omega arith)
+
+    go : ((k : ℕ) → filled a n b k ≡ whole c j → (a ≡ c) × (k + n ≡ j))
+        → Steps (bit b i) (λ f k. cond (eqb f 0) (filled a n) (fail Align i) b k) c j → (a ≡ c) × (i + suc n ≡ j)
+    go later (through f k q e) = after f k (eqb f 0) q e (later k)
+
+-- what an accepted frame is
+pub record Accepts (set room : ℕ) (b : List ℕ) (f : Found) (j : ℕ) : Type 0 where
+  pub octets : j ≡ 8 * octetsUsed f
+  pub inside : j ≤ length b
+  pub some : 1 ≤ f .bits
+  pub fits : length (f .samples) ≤ room
+  pub size : (eqb (length (f .samples)) 0 || isLength (length (f .samples))) ≡ true
+  pub below : Below 256 (f .samples)
+  pub held : (f .tool ≡ 0) ⊎ (holds set (f .tool) ≡ true)
+
+or-right : (a b : Bool) → b ≡ true → (a || b) ≡ true
+or-right true b e = refl
+or-right false b e = e
+
+pub withTool-accepts : {mask : ℕ} → LawMask mask → (set room t n mark : ℕ) → isLength n ≡ true → {b : List ℕ} → Below 2 b
+    → (i : ℕ) → 1 ≤ i → i ≤ length b → {f : Found} {j : ℕ} → withTool mask set room t n mark b i ≡ whole f j → Accepts set room b f j
+unfolding withTool
+withTool-accepts {mask} l set room t n mark len {b} z i one h {f} {j} e =
+    let p = not-refused (not (holds set t)) (Tool t) 0 _ b i e in
+    let q = not-refused (ltb room n) Room 0 _ b i (p .1) in
+    go (not-false (holds set t) (p .0)) (ltb-false room n (q .0)) (steps (body mask t n mark b i) _ (q .1))
+  where
+    done : List ℕ → ℕ → Found
+    done s k = record { tool = t; samples = s; bits = k }
+
+    go : holds set t ≡ true → n ≤ room
+        → Steps (body mask t n mark b i) (λ s k. filled (done s k) (fillFor k) b k) f j → Accepts set room b f j
+    go held fits (through s k q e) =
+        let g = gives-body l t n mark .on z h q in
+        let w = filled-is (done s k) (fillFor k) b k e in
+        let v = gives-filled {Q = λ x. Unit {0}} (done s k) (fillFor k) tt .on z (g .1) e in
+        subst (λ (x : Found). Accepts set room b x j) (w .0) (record {
+          octets = omega (arith, w .1);
+          inside = v .1;
+          some = omega arith;
+          fits = omega (arith, g .2 .size);
+          size = or-right (eqb (length s) 0) (isLength (length s)) (rw (g .2 .size) len);
+          below = g .2 .below;
+          held = inr held;
+        })
+
+pub number-next : (v n : ℕ) (b : List ℕ) (i : ℕ) {x j : ℕ} → numberFrom v n b i ≡ whole x j → i + n ≡ j
+unfolding numberFrom
+number-next v zero b i {x} {j} e = let p : i ≡ j = cc in omega arith
+number-next v (suc n) b i {x} {j} e = go (λ a k. number-next (2 * v + a) n b k) (steps (bit b i) _ e)
+  where
+    go : ((a k : ℕ) → numberFrom (2 * v + a) n b k ≡ whole x j → k + n ≡ j) → Steps (bit b i) (λ a k. numberFrom (2 * v + a) n b k) x j → i + suc n ≡ j
+    go later (through a k q e) = let r = later a k e in let p = bit-next b i q in omega arith
+
+afterFirst-accepts : {mask : ℕ} → LawMask mask → (set room o : ℕ) (first : First) → asWritten o first ≡ true → {b : List ℕ} → Below 2 b
+    → 8 ≤ length b → {f : Found} {j : ℕ} → afterFirst mask set room first b 8 ≡ whole f j → Accepts set room b f j
+unfolding afterFirst
+afterFirst-accepts l set room o unassigned w z h e = let z : _≡_ {A = ℕ} 0 1 = cc in absurd (omega arith)
+afterFirst-accepts l set room o pad w {b} z h {f} {j} e =
+    let p : 8 ≡ j = cc in
+    let q : record { tool = 0; samples = []; bits = 8 } ≡ f = cc in
+    subst (λ (x : Found). Accepts set room b x j) q (record {
+      octets = sym p;
+      inside = omega arith;
+      some = lit≤ tt;
+      fits = zero-le;
+      size = refl;
+      below = none;
+      held = inl refl;
+    })
+afterFirst-accepts l set room o (tool t n) w z h e = withTool-accepts l set room t n 0 (and-left _ _ w) z 8 (lit≤ tt) h e
+afterFirst-accepts {mask} l set room o (sixOrEight n) w {b} z h {f} {j} e = go (steps (bit b (markAt n)) _ e)
+  where
+    six : (mark k : ℕ) → bit b (markAt n) ≡ whole mark k
+        → Steps (sixNotEight b k) (λ t i. withTool mask set room t n mark b (markAt n + 1)) f j → Accepts set room b f j
+    six mark k q (through t i r e) =
+        withTool-accepts l set room t n mark (and-left _ _ w) z (markAt n + 1) (omega arith)
+        (omega (arith, bit-next b (markAt n) q, bit-inside b (markAt n) q)) e
+
+    go : Steps (bit b (markAt n)) (λ mark k. (sixNotEight >>= (λ t. from (markAt n + 1) (withTool mask set room t n mark))) b k) f j → Accepts set room b f j
+    go (through mark k q e) = six mark k q (steps (sixNotEight b k) _ e)
+
+pub frame-accepts : {mask : ℕ} → LawMask mask → (set room : ℕ) {b : List ℕ} → Below 2 b → {f : Found} {j : ℕ} → frame mask set room b 0 ≡ whole f j → Accepts set room b f j
+unfolding frame
+frame-accepts {mask} l set room {b} z {f} {j} e = go (steps (number 8 b 0) _ e)
+  where
+    go : Steps (number 8 b 0) (λ o k. afterFirst mask set room (firstOctet o) b k) f j → Accepts set room b f j
+    go (through o k q e) =
+        let g = gives-number 8 .on z zero-le q in
+        let p : 8 ≡ k = number-next 0 8 b 0 q in
+        afterFirst-accepts l set room o (firstOctet o) (first-as-written o (g .2)) z (omega arith) (rw (← p) at e)
+
+-- an accepted frame, of octets
+pub read-accepts : (octets : List ℕ) (law set room : ℕ) {f : Found} {j : ℕ} → readOne octets law set room ≡ whole f j → Accepts set room (bitsOf octets) f j
+unfolding readOne
+read-accepts octets law set room {f} {j} e =
+    let p = not-refused (not (isLaw law)) Law 0 _ (bitsOf octets) 0 e in
+    let q = not-refused (not (isSet set)) Set 0 _ (bitsOf octets) 0 (p .1) in
+    frame-accepts (law-mask law) set room (bitsOf-below octets) (q .1)
+
+-- it uses one octet or more, and no more than there are
+pub read-uses : (octets : List ℕ) (law set room : ℕ) {f : Found} {j : ℕ} → readOne octets law set room ≡ whole f j
+    → (1 ≤ octetsUsed f) × (octetsUsed f ≤ length octets)
+read-uses octets law set room e =
+    let a = read-accepts octets law set room e in
+    (omega (arith, a .some), omega (arith, a .octets, a .inside, length-bitsOf octets))

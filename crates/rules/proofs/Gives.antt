@@ -189,8 +189,10 @@ pub lay-sized : (z x : ℕ) (flags : List ℕ) (p : ℕ) {cells : List ℕ} → 
 unfolding lay
 lay-sized z x flags p g h none = record { size = refl; below = none }
 lay-sized z x flags p g h (more {x = y} {l = cells} k t) =
-    let r = lay-sized z x flags (cond (eqb y z) (p + 1) p) g h t in
-    record { size = ap suc (r .size); below = more (cell (eqb y z) (eqb (getD flags p 0) 1)) (r .below) }
+    record {
+      size = ap suc (lay-sized z x flags _ g h t .size);
+      below = more (cell (eqb y z) (eqb (getD flags p 0) 1)) (lay-sized z x flags _ g h t .below);
+    }
   where
     cell : (b c : Bool) → cond b (cond c x z) y < 256
     cell true true = h

@@ -6,3 +6,4 @@ pub mod Firsts
 pub mod Codes
 pub mod Gives
 pub mod Accepted
+pub mod Named

@@ -1,12 +1,5 @@
--- Document 01, "Marked cases": P1 to P16 as one list, with one claim.
--- Mu-law; set 127 unless said; the room is 320.
-use Prim.Native.Nat.{ℕ, zero, suc}
-use mathlib.Core.Path.{_≡_, refl}
-use mathlib.Core.List.{List, [], _∷_, _++_}
-use lib.ListN.{length, replicate}
-use Rattle.rules.specs.declared.Refusal.{Refusal}
-use Rattle.rules.specs.declared.Ending.{Ending}
-use Rattle.rules.specs.Refusals.{numberOf}
+-- P1 to P16 of document 01 (specs/Marked) hold of the definitions: one list, one claim, computed by the prover.
+use mathlib.Core.Path.{refl}
 use Rattle.rules.specs.Bits.{lowBits, bitsOf, valueFrom, octetsFrom, pack}
 use Rattle.rules.specs.Reading.{bit, numberFrom, bitsFrom, octetsAfter, filled}
 use Rattle.rules.specs.First.{rows, lookUp, firstOctet, baseOf, sixNotEight}
@@ -17,76 +10,7 @@ use Rattle.rules.specs.Zeros.{codesOf, treeOf, readTree}
 use Rattle.rules.specs.Located.{caseOf, valuesOf, widthFrom, listedFrom, listed, byMethod, emptyIn, lay, valuesInto, located}
 use Rattle.rules.specs.Frame.{body, withTool, afterFirst, frame, readOne}
 use Rattle.rules.specs.Chooses.{countOf, leastFrom, riceChoice, without, placesOf, numbersForm, methodOf, methodForm, valueForm, valuesForm, leastOf, greatestOf, rowOf, locatedForm, applies, formOf, choose, chosen, writeOne}
-use Rattle.rules.specs.Calls.{readEnd, readSamples, readOctets, readBits, readTool, writeEnd, writtenBits, writeTool}
-
--- what a reading reports: number, samples, octets, bits, tool
-pub record Report : Type 0 where
-  pub number : ℕ
-  pub samples : List ℕ
-  pub octets : ℕ
-  pub bits : ℕ
-  pub tool : ℕ
-
-abbrev reported : List ℕ → Report
-reported octets =
-    let r = readOne octets 1 127 320 in
-    record { number = numberOf (readEnd r); samples = readSamples r; octets = readOctets r; bits = readBits r; tool = readTool r }
-
--- a refusal reports its number, and the tool that it names
-abbrev refusal : ℕ → ℕ → Report
-refusal n t = record { number = n; samples = []; octets = 0; bits = 0; tool = t }
-
-abbrev found : ℕ → List ℕ → ℕ → ℕ → Report
-found t s o b = record { number = 0; samples = s; octets = o; bits = b; tool = t }
-
-pub data Case : Type 0 where
-  -- octets, and what reading them reports
-  reads : List ℕ → Report → Case
-  -- a frame and a writer's set; the octets written, the bits, the tool. The octets are read back too
-  writes : List ℕ → ℕ → List ℕ → ℕ → ℕ → Case
-
--- n plus zeros, n minus zeros, and plus and minus zeros in turn, n of each
-abbrev plus : ℕ → List ℕ
-plus n = replicate n 0xFF
-
-abbrev minus : ℕ → List ℕ
-minus n = replicate n 0x7F
-
-abbrev inTurn : ℕ → List ℕ
-inTurn zero = []
-inTurn (suc n) = 0xFF ∷ 0x7F ∷ inTurn n
-
--- what a case says
-abbrev Says : Case → Type 0
-Says (reads octets r) = reported octets ≡ r
-Says (writes s set octets b t) =
-    let w = writeOne (length s) s 1 set 321 in
-    (numberOf (writeEnd w) ≡ 0) × (pack (writtenBits w) ≡ octets) × (length (writtenBits w) ≡ b) × (writeTool w ≡ t)
-    × (reported octets ≡ found t s (length octets) b)
-
-abbrev All : List Case → Type 0
-All [] = Unit {0}
-All (c ∷ cs) = Says c × All cs
-
-abbrev marked : List Case
-marked =
-    reads (0x41 ∷ []) (found 2 (plus 40) 1 8)
-    ∷ reads (0x22 ∷ []) (found 3 (minus 240) 1 8)
-    ∷ reads (0x00 ∷ []) (found 0 [] 1 8)
-    ∷ reads [] (refusal 1 0)
-    ∷ reads (0x46 ∷ []) (refusal 2 0)
-    ∷ writes (inTurn 20) 127 (0x44 ∷ 0x55 ∷ 0x55 ∷ 0x55 ∷ 0x55 ∷ 0x55 ∷ []) 48 5
-    ∷ writes (plus 39 ++ minus 1) 127 (0x56 ∷ 0x0F ∷ []) 16 6
-    ∷ writes (plus 40) 33 (0x57 ∷ 0x18 ∷ []) 16 6
-    ∷ reads (0x57 ∷ 0x19 ∷ []) (refusal 7 0)
-    ∷ writes (0xFE ∷ plus 79) 127 (0x86 ∷ 0xFC ∷ 0x00 ∷ []) 23 7
-    ∷ reads (0x86 ∷ 0xFC ∷ 0x01 ∷ []) (refusal 9 0)
-    ∷ reads (0x86 ∷ 0xDC ∷ []) (refusal 5 0)
-    ∷ reads (0x86 ∷ 0xF8 ∷ []) (refusal 6 0)
-    ∷ reads (0x86 ∷ 0xFC ∷ 0xFE ∷ []) (refusal 8 0)
-    ∷ reads (0x28 ∷ 0x00 ∷ []) (refusal 3 8)
-    ∷ reads (0x28 ∷ []) (refusal 1 0)
-    ∷ []
+use Rattle.rules.specs.Marked.{All, marked}
 
 pub marked-cases : All marked
 unfolding lowBits bitsOf valueFrom octetsFrom pack bit numberFrom bitsFrom octetsAfter filled rows lookUp firstOctet baseOf sixNotEight signed sampleOf holds zerosFrom rice riceForm runsFrom runsOf riceForms codesOf treeOf readTree caseOf valuesOf widthFrom listedFrom listed byMethod emptyIn lay valuesInto located body withTool afterFirst frame readOne countOf leastFrom riceChoice without placesOf numbersForm methodOf methodForm valueForm valuesForm leastOf greatestOf rowOf locatedForm applies formOf choose chosen writeOne
@@ -103,12 +27,24 @@ marked-cases = (
           (
             (refl, refl, refl, refl, refl),
             (
-              (refl, refl, refl, refl, refl),
+              refl,
               (
                 (refl, refl, refl, refl, refl),
                 (
                   refl,
-                  ((refl, refl, refl, refl, refl), (refl, (refl, (refl, (refl, (refl, (refl, tt))))))),
+                  (
+                    refl,
+                    (
+                      refl,
+                      (
+                        (refl, refl, refl, refl, refl),
+                        (
+                          refl,
+                          ((refl, refl, refl, refl, refl), (refl, (refl, (refl, (refl, (refl, (refl, tt))))))),
+                        ),
+                      ),
+                    ),
+                  ),
                 ),
               ),
             ),

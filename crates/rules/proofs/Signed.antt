@@ -16,7 +16,7 @@ InRange (pos y) = y < 128
 InRange (negsuc y) = y < 128
 
 -- what holds of a law's mask
-pub record Law (mask : ℕ) : Type 0 where
+pub record LawMask (mask : ℕ) : Type 0 where
   pub back : (x : ℕ) → x < 256 → sampleOf mask (signed mask x) ≡ x
   pub forth : (v : ℤ) → InRange v → signed mask (sampleOf mask v) ≡ v
   pub octet : (v : ℤ) → InRange v → sampleOf mask v < 256
@@ -52,7 +52,7 @@ there : {mask : ℕ} → Passes mask → (v : ℤ) → InRange v → isThere mas
 there {mask} t (pos y) h = allBelow-at (λ y. isThere mask (pos y)) 128 (t .above) y h
 there {mask} t (negsuc y) h = allBelow-at (λ y. isThere mask (negsuc y)) 128 (t .below) y h
 
-law-of : {mask : ℕ} → Passes mask → Law mask
+law-of : {mask : ℕ} → Passes mask → LawMask mask
 law-of {mask} t =
     record {
       back = λ x h. eqb-true _ _ (allBelow-at (comesBack mask) 256 (t .octets) x h);
@@ -61,17 +61,17 @@ law-of {mask} t =
     }
 
 -- both laws' masks
-pub law-mask : (law : ℕ) → Law (maskOf law)
+pub law-mask : (law : ℕ) → LawMask (maskOf law)
 unfolding signed sampleOf
 law-mask law = go (eqb law 0)
   where
-    go : (b : Bool) → Law (cond b 0x55 0x7F)
+    go : (b : Bool) → LawMask (cond b 0x55 0x7F)
     go true = law-of (record { octets = refl; above = refl; below = refl })
     go false = law-of (record { octets = refl; above = refl; below = refl })
 
 -- "The map is one to one."
-pub signed-one-to-one : {mask : ℕ} → Law mask → (x y : ℕ) → x < 256 → y < 256 → signed mask x ≡ signed mask y → x ≡ y
+pub signed-one-to-one : {mask : ℕ} → LawMask mask → (x y : ℕ) → x < 256 → y < 256 → signed mask x ≡ signed mask y → x ≡ y
 signed-one-to-one {mask} l x y g h e = sym (l .back x g) ∙ ap (sampleOf mask) e ∙ l .back y h
 
-pub sampleOf-one-to-one : {mask : ℕ} → Law mask → (v w : ℤ) → InRange v → InRange w → sampleOf mask v ≡ sampleOf mask w → v ≡ w
+pub sampleOf-one-to-one : {mask : ℕ} → LawMask mask → (v w : ℤ) → InRange v → InRange w → sampleOf mask v ≡ sampleOf mask w → v ≡ w
 sampleOf-one-to-one {mask} l v w g h e = sym (l .forth v g) ∙ ap (signed mask) e ∙ l .forth w h

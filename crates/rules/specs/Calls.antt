@@ -83,6 +83,10 @@ pub record Writes (written : Write) (r : WriteAnswer) (out out′ : List ℕ) : 
 abbrev pub WriteFrame : Frame → ℕ → ℕ → List ℕ → List ℕ → WriteAnswer → Type 0
 WriteFrame f law set out out′ r = Writes (writeOne (f .len) (f .samples) law set (length out)) r out out′
 
+-- writing the samples of a slice, whose length is the frame's
+abbrev pub WriteSamples : List ℕ → ℕ → ℕ → List ℕ → List ℕ → WriteAnswer → Type 0
+WriteSamples s law set out out′ r = Writes (writeOne (length s) s law set (length out)) r out out′
+
 pub record Walks (walked : Walked) (r : WalkAnswer) (out out′ : List ℕ) : Type 0 where
   pub end : r .end ≡ walked .end
   pub frames : r .frames ≡ length (walked .frames)

@@ -1,5 +1,5 @@
 -- Document 01, "What the writer chooses". A frame is the list of its samples; N is their number.
-use Prim.Native.Nat.{ℕ, zero, suc, _+_, _*_, _-_, _≤_, min, max}
+use Prim.Native.Nat.{ℕ, zero, suc, _+_, _*_, _-_, min, max}
 use mathlib.Core.List.{List, [], _∷_, _++_, map}
 use mathlib.Core.Bool.{Bool, true, false, cond, not, _&&_, _||_}
 use lib.ListN.{length, getD, take}
@@ -8,11 +8,11 @@ use lib.IntN.{ℤ, pos, negsuc}
 use Rattle.rules.specs.declared.Refusal.{Refusal}
 use Rattle.rules.specs.declared.Refusal.the-variants.{Length, Set, Law, Room}
 use Rattle.rules.specs.Tools.{holds, isWriterSet, isLaw, isLength}
-use Rattle.rules.specs.Bits.{lowBits, octetsFor, pack}
+use Rattle.rules.specs.Bits.{lowBits, octetsFor}
 use Rattle.rules.specs.Samples.{maskOf, signed, sampleOf, plusZero, minusZero, onLine}
-use Rattle.rules.specs.Runs.{runsOf, riceForms, runsForm}
+use Rattle.rules.specs.Runs.{runsForm}
 use Rattle.rules.specs.Zeros.{prefix, uncompressedForm, plusForm, minusForm, constantForm, binaryForm, codeOf, mostS, flagOf, plusMinusForm}
-use Rattle.rules.specs.Located.{RangeCase, caseOf, valuesOf, widthOf}
+use Rattle.rules.specs.Located.{caseOf, valuesOf, widthOf}
 
 -- how many samples pass a test, and whether all do
 unfoldable pub countOf : (ℕ → Bool) → List ℕ → ℕ
@@ -160,7 +160,7 @@ formOf mask t s =
 abbrev pub octetsOfForm : ℕ → List ℕ → ℕ → ℕ
 octetsOfForm mask s t = octetsFor (length (formOf mask t s))
 
--- "on equal octets the order plus, minus, constant, binary, Rice, value-location, uncompressed"
+-- "on equal octets the order plus, minus, constant, binary, Rice, value-location, uncompressed"; uncompressed is what `choose` ends on
 abbrev pub tieOrder : List ℕ
 tieOrder = 2 ∷ 3 ∷ 4 ∷ 5 ∷ 6 ∷ 7 ∷ []
 
@@ -168,8 +168,8 @@ tieOrder = 2 ∷ 3 ∷ 4 ∷ 5 ∷ 6 ∷ 7 ∷ []
 unfoldable pub choose : ℕ → ℕ → List ℕ → List ℕ → ℕ
 choose mask set s [] = 1
 choose mask set s (t ∷ ts) =
-    cond (holds set t && applies mask t s && leb (octetsOfForm mask s t) (octetsOfForm mask s (choose mask set s ts)))
-    t (choose mask set s ts)
+    let best = choose mask set s ts in
+    cond (holds set t && applies mask t s && leb (octetsOfForm mask s t) (octetsOfForm mask s best)) t best
 
 abbrev pub chosenTool : ℕ → ℕ → List ℕ → ℕ
 chosenTool mask set s = choose mask set s tieOrder

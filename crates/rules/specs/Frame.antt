@@ -1,13 +1,13 @@
 -- Document 01, reading one frame: "in a frame PREFIX, tool decided, TOOL, ROOM, then body checks as the bits come, ALIGN last".
 use Prim.Native.Nat.{ℕ, _+_}
 use mathlib.Core.List.{List, []}
-use mathlib.Core.Bool.{cond, not, _||_}
+use mathlib.Core.Bool.{cond, not}
 use lib.ListN.{length}
-use lib.Dec.{eqb, leb, ltb}
+use lib.Dec.{eqb, ltb}
 use Rattle.rules.specs.declared.Refusal.the-variants.{Prefix, Tool, Room, Set, Law}
 use Rattle.rules.specs.Tools.{holds, isSet, isLaw}
 use Rattle.rules.specs.Bits.{bitsOf, octetsFor, fillFor}
-use Rattle.rules.specs.Reading.{Read, refuse, Reader, _>>=_, give, fail, here, from, bit, number, filled}
+use Rattle.rules.specs.Reading.{Read, Reader, _>>=_, give, fail, here, from, bit, number, filled}
 use Rattle.rules.specs.First.{First, unassigned, pad, tool, sixOrEight, firstOctet, markAt, sixNotEight}
 use Rattle.rules.specs.Samples.{maskOf, plusZero, minusZero}
 use Rattle.rules.specs.Zeros.{uncompressed, constantly, constant, binary, plusMinus}
@@ -58,9 +58,13 @@ frame mask set room = do
   o ← number 8
   afterFirst mask set room (firstOctet o)
 
--- one frame at the start of some octets, `room` being the output's: "Order: LAW, SET", then the frame
+-- one frame, `room` being the output's: "Order: LAW, SET", then the frame
+abbrev pub single : ℕ → ℕ → ℕ → Reader Found
+single law set room =
+    cond (not (isLaw law)) (fail Law 0)
+    (cond (not (isSet set)) (fail Set 0)
+    (frame (maskOf law) set room))
+
+-- "one frame at the start of some octets"
 unfoldable pub readOne : List ℕ → ℕ → ℕ → ℕ → Read Found
-readOne octets law set room =
-    cond (not (isLaw law)) (refuse Law 0)
-    (cond (not (isSet set)) (refuse Set 0)
-    (frame (maskOf law) set room (bitsOf octets) 0))
+readOne octets law set room = single law set room (bitsOf octets) 0

@@ -1,4 +1,10 @@
--- Document 01 as definitions: a file for each of its sections, in its order and its words.
+-- Document 01 as definitions, in its words. Its sections:
+--   "The part of G.711.0 we carry": Tools.        "Numbered refusals": Refusals.
+--   "First octet": First.                         "Samples as signed numbers": Samples.
+--   "Bodies": Bits and Reading (what bits and reading are), Runs, Zeros (tools 1 to 6), Located (tool 7).
+--   The order of refusals in a frame: Frame.      "What the writer chooses": Chooses.
+--   "Walk and listing": Walk, Listing.            "Marked cases": Marked.
+--   "How far each contract reaches": Calls, the contract of each public call.
 pub mod Refusals
 pub mod Tools
 pub mod Bits
@@ -12,3 +18,5 @@ pub mod Frame
 pub mod Chooses
 pub mod Walk
 pub mod Calls
+pub mod Listing
+pub mod Marked

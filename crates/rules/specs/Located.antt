@@ -1,19 +1,17 @@
--- Document 01, "Tool 7" (value-location), as it is read and as it is written.
+-- Document 01, "Tool 7" (value-location): its table, and how it is read. Its form hangs on what the writer chooses, and stands in Chooses.
 -- The cells of a frame are its samples: all begin as plus zero, and a cell that still is plus zero is empty.
-use Prim.Native.Nat.{ℕ, zero, suc, _+_, _*_, _-_, _^_}
+use Prim.Native.Nat.{ℕ, zero, suc, _+_, _-_, _^_}
 use mathlib.Core.List.{List, [], _∷_, _++_, map}
-use mathlib.Core.Bool.{Bool, cond, _&&_}
+use mathlib.Core.Bool.{cond, _&&_}
 use lib.ListN.{length, getD, replicate}
 use lib.Dec.{eqb, leb, ltb}
 use lib.IntN.{ℤ, pos, negsuc}
 use Rattle.rules.specs.declared.Refusal.the-variants.{Case, Method, Place}
-use Rattle.rules.specs.Bits.{lowBits}
 use Rattle.rules.specs.Reading.{Reader, _>>=_, give, fail, here, number, bitsFrom}
 use Rattle.rules.specs.Samples.{sampleOf, plusZero}
 use Rattle.rules.specs.Runs.{runs}
 
--- The table of range cases: least, greatest, whether the length fits the row, and the values for flag 1 and flag 0.
--- No value stands for CASE.
+-- A row of the table of range cases: least, greatest, the least N, and the values for flag 1 and flag 0. No values are CASE.
 pub record RangeCase : Type 0 where
   pub least : ℤ
   pub greatest : ℤ

@@ -3,8 +3,8 @@
 use Prim.Native.Nat.{ℕ, zero, suc, _+_, _*_, _-_, _^_, _/_}
 use mathlib.Core.List.{List, [], _∷_, _++_}
 use mathlib.Core.Bool.{cond}
-use lib.ListN.{length, replicate}
-use lib.Dec.{eqb, leb, ltb}
+use lib.ListN.{replicate}
+use lib.Dec.{eqb, ltb}
 use Rattle.rules.specs.declared.Refusal.the-variants.{Run}
 use Rattle.rules.specs.Bits.{lowBits}
 use Rattle.rules.specs.Reading.{Reader, _>>=_, give, fail, here, bit, number}

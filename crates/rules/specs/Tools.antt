@@ -1,8 +1,8 @@
 -- Document 01, "The part of G.711.0 we carry": tool sets, laws, lengths.
 use Prim.Native.Nat.{ℕ, _-_, _^_, _/_, _%_}
 use mathlib.Core.Path.{_≡_}
-use mathlib.Core.Bool.{Bool, true, not, _&&_, _||_}
-use lib.Dec.{eqb, leb, ltb}
+use mathlib.Core.Bool.{Bool, true, _&&_, _||_}
+use lib.Dec.{eqb, leb}
 
 -- "Tool t (1 to 7) adds 2^(t-1)": whether a set holds tool t
 unfoldable pub holds : ℕ → ℕ → Bool

@@ -6,7 +6,7 @@ use lib.ListN.{length, getD, replicate}
 use lib.Dec.{eqb}
 use Rattle.rules.specs.Bits.{lowBits, bitsOf}
 use Rattle.rules.specs.Reading.{Reader, _>>=_, give, bit, number, bitsFrom, octetsAfter}
-use Rattle.rules.specs.First.{isLong, octetFor, riceCode}
+use Rattle.rules.specs.First.{octetFor, riceCode}
 use Rattle.rules.specs.Samples.{plusZero, minusZero}
 use Rattle.rules.specs.Runs.{runs, runsForm}
 
@@ -40,7 +40,8 @@ constant n = do
 abbrev pub constantForm : List ℕ → List ℕ
 constantForm s = prefix 4 (length s) ++ lowBits 8 (getD s 0 0)
 
--- the zeros of flags, the common kind being minus where the mark is 1; and the flags of zeros
+-- The zero of a flag: flag 0 is the common kind, which is plus where the mark is 0 and minus where it is 1. So flag and mark are equal at plus.
+-- And the flag of a zero.
 abbrev pub zeroOf : ℕ → ℕ → ℕ → ℕ
 zeroOf mask mark f = cond (eqb f mark) (plusZero mask) (minusZero mask)
 
@@ -56,7 +57,7 @@ binary mask n = do
 abbrev pub binaryForm : ℕ → List ℕ → List ℕ
 binaryForm mask s = prefix 5 (length s) ++ map (flagOf mask 0) s
 
--- The code of S, a row for each S: for 40, for 80, and for 160, 240, 320. An S without a code has none.
+-- The codes of S = 1, 2, .. in turn: for 40, for 80, and for 160, 240, 320. An S past the last has none.
 unfoldable pub codesOf : ℕ → List (List ℕ)
 codesOf n =
     cond (eqb n 40)

@@ -1,7 +1,7 @@
 // The vocabulary of document 01: a frame, the thirteen refusals, and the answers of the three calls.
 // What each case and each answer means stands in specs/.
 
-// "One frame with its samples and its length travel together": 320 samples, those past the length 00.
+// "One frame with its samples and its length travel together". A reader leaves 00 past the length; a writer does not look there.
 pub struct Frame {
     pub samples: [u8; 320],
     pub len: usize,

@@ -3,8 +3,6 @@ use Rattle.rules.specs.Samples.{signed}
 use borrow.Author.Needs.{needs}
 use Rattle.law.proofs.line_of.Statement.{statement}
 use Rattle.law.proofs.line_of.Tie as tie
-use Rattle.law.proofs.line_of.Reads as reads
-use Rattle.law.proofs.line_of.Lts as lts
 
 add-result : tie.Need-add-result
 add-result c = search needs

@@ -1,9 +1,6 @@
 use borrow.Author.Tests.{eq-eqb, ne-eqb}
-use borrow.Author.Needs.{needs}
 use Rattle.law.proofs.mask_of.Statement.{statement}
 use Rattle.law.proofs.mask_of.Tie as tie
-use Rattle.law.proofs.mask_of.Reads as reads
-use Rattle.law.proofs.mask_of.Lts as lts
 
 returns : tie.Need-returns
 returns c = rw (eq-eqb _ _ (c .if1 .taken))

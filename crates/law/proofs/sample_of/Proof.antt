@@ -3,11 +3,8 @@ use native.Mathlib.Omega.{arith}
 use lib.Bits.{xor-lt}
 use Rattle.rules.specs.Samples.{sampleOf}
 use Rattle.law.proofs.Turned.{Below, below, Above, above}
-use borrow.Author.Needs.{needs}
 use Rattle.law.proofs.sample_of.Statement.{statement}
 use Rattle.law.proofs.sample_of.Tie as tie
-use Rattle.law.proofs.sample_of.Reads as reads
-use Rattle.law.proofs.sample_of.Lts as lts
 
 under : (c : tie.Then1) → Below (c .before .args .v)
 under c = below (c .before .args .v) (c .before .fits .v) (c .if1 .taken)

@@ -9,11 +9,8 @@ use mir.Facts.{toZ-pos, toZ-ofZ}
 use lib.IntN.{negsuc, pos, _-ℤ_}
 use Rattle.rules.specs.Samples.{signed}
 use Rattle.law.proofs.Turned.{turned-pos}
-use borrow.Author.Needs.{needs}
 use Rattle.law.proofs.signed_of.Statement.{statement}
 use Rattle.law.proofs.signed_of.Tie as tie
-use Rattle.law.proofs.signed_of.Reads as reads
-use Rattle.law.proofs.signed_of.Lts as lts
 
 cast-y : tie.Need-cast-y
 cast-y c = record { sfits = omega arith }

@@ -3,8 +3,6 @@ use native.Mathlib.Omega.{arith}
 use Rattle.rules.specs.First.{baseOf}
 use Rattle.prefix.proofs.base_of.Statement.{statement}
 use Rattle.prefix.proofs.base_of.Tie as tie
-use Rattle.prefix.proofs.base_of.Reads as reads
-use Rattle.prefix.proofs.base_of.Lts as lts
 
 returns : tie.Need-returns
 unfolding baseOf

@@ -6,8 +6,6 @@ use Rattle.prefix.specs.Answers.{entryTells}
 use Rattle.prefix.proofs.Rule.{rule, entries}
 use Rattle.prefix.proofs.entry.Statement.{statement}
 use Rattle.prefix.proofs.entry.Tie as tie
-use Rattle.prefix.proofs.entry.Reads as reads
-use Rattle.prefix.proofs.entry.Lts as lts
 
 mul-result : tie.Need-mul-result
 mul-result c = search needs

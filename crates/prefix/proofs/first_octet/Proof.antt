@@ -3,9 +3,6 @@ use borrow.Author.Tests.{eq-eqb, ne-eqb}
 use Rattle.prefix.specs.Answers.{entryTells}
 use Rattle.prefix.proofs.first_octet.Statement.{statement}
 use Rattle.prefix.proofs.first_octet.Tie as tie
-use Rattle.prefix.proofs.first_octet.Reads as reads
-use Rattle.prefix.proofs.first_octet.Lts as lts
-use Rattle.prefix.proofs.entry.Reads as entry-reads
 
 entry-requires : tie.Need-entry-requires
 entry-requires c κs = search needs

@@ -4,8 +4,6 @@ use native.Mathlib.Omega.{arith}
 use Rattle.rules.specs.Tools.{holds}
 use Rattle.prefix.proofs.holds.Statement.{statement}
 use Rattle.prefix.proofs.holds.Tie as tie
-use Rattle.prefix.proofs.holds.Reads as reads
-use Rattle.prefix.proofs.holds.Lts as lts
 
 returns : tie.Need-returns
 unfolding holds

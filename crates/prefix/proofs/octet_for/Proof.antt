@@ -4,9 +4,6 @@ use native.Mathlib.Omega.{arith}
 use Rattle.prefix.proofs.Base.{base-small}
 use Rattle.prefix.proofs.octet_for.Statement.{statement}
 use Rattle.prefix.proofs.octet_for.Tie as tie
-use Rattle.prefix.proofs.octet_for.Reads as reads
-use Rattle.prefix.proofs.octet_for.Lts as lts
-use Rattle.prefix.proofs.base_of.Reads as base-of-reads
 
 base-of-requires : tie.Need-base-of-requires
 base-of-requires c κs = search needs

@@ -1,0 +1,153 @@
+//! The proved code, through the archive, beside the second program: the same inputs in one run, both built for
+//! release, no buffer cleared between calls. Prints tables for docs/BENCHMARKS.md.
+
+mod calls;
+mod frames;
+mod time;
+
+use frames::{by_kind, mixed, recordings, Batch};
+use std::hint::black_box;
+use time::best;
+
+const SET: u32 = 127;
+const LENGTHS: [usize; 5] = [40, 80, 160, 240, 320];
+/// Octets of the longest stream.
+const STREAM: usize = 65_535;
+
+/// A frame of the greatest size: 320 samples, S = 9, 320 empty runs.
+fn longest() -> Vec<u8> {
+    // 0011 100 111111, then 320 times 1 000000000: 3,213 bits.
+    let mut bits = vec![0, 0, 1, 1, 1, 0, 0, 1, 1, 1, 1, 1, 1];
+    (0..320).for_each(|_| bits.extend([1, 0, 0, 0, 0, 0, 0, 0, 0, 0]));
+    bits.resize(402 * 8, 0);
+    bits.chunks(8).map(|octet| octet.iter().fold(0, |sum, bit| sum << 1 | bit)).collect()
+}
+
+/// A row: nanoseconds of each, the speed beside the second program's, and the time beside memcpy's, if it has any.
+fn row(name: &str, [proved, second, copy]: [f64; 3], count: f64) {
+    let (proved, second, copy) = (proved / count, second / count, copy / count);
+    print!("| {name} | {proved:.1} | {second:.1} | {:.2} |", second / proved);
+    match copy < 0.02 {
+        true => println!(" - | - |"),
+        false => println!(" {copy:.2} | {:.1} |", proved / copy),
+    }
+}
+
+fn head(title: &str, first: &str, unit: &str) {
+    println!("\n### {title}\n");
+    println!("| {first} | proved, {unit} | second, {unit} | speed to second | memcpy, {unit} | time to memcpy |");
+    let columns = first.matches('|').count() + 6;
+    println!("|{}", "---|".repeat(columns));
+}
+
+fn written(batch: &Batch) -> Vec<Vec<u8>> {
+    let mut form = [0; 321];
+    let write = |frame: &Vec<u8>| {
+        let wrote = second::write_frame(frame, batch.law, SET, &mut form);
+        assert_eq!(wrote.ending, 0);
+        form[..wrote.octets].to_vec()
+    };
+    batch.frames.iter().map(write).collect()
+}
+
+/// memcpy of the samples of each frame.
+fn copy(frames: &[Vec<u8>], out: &mut [u8]) {
+    for frame in frames {
+        out[..frame.len()].copy_from_slice(black_box(frame));
+        black_box(&mut *out);
+    }
+}
+
+fn reading(batch: &Batch) {
+    let forms = written(batch);
+    let mut outs = [[0; 320]; 3];
+    let [one, other, third] = outs.each_mut();
+    let times = best([
+        &mut || each(&forms, |form| calls::proved_read(form, batch.law, SET, one)),
+        &mut || each(&forms, |form| calls::second_read(form, batch.law, SET, other)),
+        &mut || copy(&batch.frames, third),
+    ]);
+    row(&batch.name, times, forms.len() as f64);
+}
+
+fn writing(batch: &Batch) {
+    let mut outs = [[0; 321]; 3];
+    let [one, other, third] = outs.each_mut();
+    let times = best([
+        &mut || each(&batch.frames, |frame| calls::proved_write(frame, batch.law, SET, one)),
+        &mut || each(&batch.frames, |frame| calls::second_write(frame, batch.law, SET, other)),
+        &mut || copy(&batch.frames, third),
+    ]);
+    row(&batch.name, times, batch.frames.len() as f64);
+}
+
+fn each(inputs: &[Vec<u8>], mut call: impl FnMut(&[u8]) -> u32) {
+    for input in inputs {
+        black_box(call(black_box(input)));
+    }
+}
+
+/// Nanoseconds of one walk by each, and of a copy of its samples.
+fn walk_times(stream: &[u8], law: u32) -> ([f64; 3], usize) {
+    let mut one = vec![0; 320 * stream.len()];
+    let kept = second::walk(stream, law, SET, &mut one);
+    assert_eq!(kept.ending, 0);
+    one.truncate(kept.samples + 320);
+    let (mut other, mut third) = (one.clone(), one.clone());
+    let source = one[..kept.samples].to_vec();
+    let times = best([
+        &mut || {
+            black_box(calls::proved_walk(black_box(stream), law, SET, &mut one));
+        },
+        &mut || {
+            black_box(calls::second_walk(black_box(stream), law, SET, &mut other));
+        },
+        &mut || {
+            third[..source.len()].copy_from_slice(black_box(&source));
+            black_box(&mut third);
+        },
+    ]);
+    (times, kept.frames)
+}
+
+/// As many of the frames as make a stream.
+fn stream(batch: &Batch) -> Vec<u8> {
+    let mut octets = Vec::new();
+    for form in written(batch) {
+        if octets.len() + form.len() <= STREAM {
+            octets.extend(form);
+        }
+    }
+    octets
+}
+
+fn walking(batch: &Batch) {
+    let (times, frames) = walk_times(&stream(batch), batch.law);
+    row(&batch.name, times, frames as f64);
+}
+
+/// How a walk's cost grows: nanoseconds an octet of streams of one frame over and over.
+fn growth(name: &str, frame: &[u8]) {
+    for octets in [1_000, 4_000, 16_000, STREAM] {
+        let stream = frame.repeat(octets / frame.len());
+        let (times, _) = walk_times(&stream, 1);
+        row(&format!("{name} | {}", stream.len()), times, stream.len() as f64);
+    }
+}
+
+fn main() {
+    println!("Best of several turns; ns a frame. Speed to second: the second program's time over the proved code's.");
+    let mut batches = by_kind(&LENGTHS);
+    batches.push(mixed());
+    batches.extend(recordings());
+    head("Reading one frame", "kind | samples", "ns");
+    batches.iter().for_each(reading);
+    head("Writing one frame", "kind | samples", "ns");
+    batches.iter().for_each(writing);
+    head("Walking, a frame", "kind | samples", "ns");
+    batches.iter().for_each(walking);
+    head("How a walk grows, an octet", "stream of | octets", "ns");
+    growth("pads", &[0x00]);
+    growth("plus zeros, 40", &[0x41]);
+    growth("the longest frames", &longest());
+}

@@ -1,0 +1,4 @@
+pub mod Filling
+pub mod WholeOctets
+pub mod TwoZeros
+pub mod Forks

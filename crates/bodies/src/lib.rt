@@ -1,0 +1,254 @@
+// The bodies of tools 1 to 6. A frame buffer is [0; 320], then filled by the tool; what a refused body leaves is all 00.
+ghost use mathlib.Core.Path.{_≡_};
+ghost use mathlib.Core.List.{[], map};
+ghost use mathlib.Core.Bool.{cond};
+ghost use Prim.Native.Nat.{_+_, _*_, _-_, _^_, _/_, _%_, _≤_, _<_};
+ghost use lib.ListN.{length, take, replicate};
+ghost use lib.Dec.{eqb};
+ghost use Rattle.rules.specs.Bits.{bitsOf};
+ghost use Rattle.rules.specs.Reading.{whole, refuse};
+ghost use Rattle.rules.specs.Zeros.{uncompressed as octetsOf, constant as constantly, binary as bitsAsZeros, plusMinus, zeroOf, leaf, fork, treeOf, readTree};
+ghost use Rattle.bits.specs.Outcomes.{Reads};
+ghost use Rattle.bodies.specs.Bodied.{ReadsBody};
+ghost use Rattle.bodies.specs.Trees.{two, pastTwo};
+use bits::Outcome;
+use rules::Refusal;
+use runs::Flags;
+
+// The samples, and how the reading ended: their number and the next place, or the refusal and its bit.
+pub struct Body {
+    pub end: Outcome,
+    pub samples: [u8; 320],
+}
+
+fn nothing(why: Refusal, bit: usize) -> Body
+    ensures { λ r. ⌜ ReadsBody (refuse why bit) 0 r ⌝ }
+{
+    Body {
+        end: Outcome::Refused(why, bit),
+        samples: [0; 320],
+    }
+}
+
+// "Uncompressed: N octets", whole; the place is an octet's first bit.
+pub fn uncompressed(octets: &[u8], at: usize, n: usize) -> Body
+    requires { ⌜ (at ≤ 2 ^ 37) × (at % 8 ≡ 0) × (0 < n) × (n ≤ 320) ⌝ }
+    ensures { λ r. ⌜ ReadsBody (octetsOf n (bitsOf (now (octets .entry))) at) (at + 8 * n) r ⌝ }
+{
+    let from = at / 8;
+    if octets.len() < from + n {
+        return nothing(Refusal::Short, bits::missing(octets, at));
+    }
+    let mut samples = [0; 320];
+    for i in 0..n {
+        samples[i] = octets[from + i];
+    }
+    Body {
+        end: Outcome::Got(n, at + 8 * n),
+        samples: samples,
+    }
+}
+
+// "Plus, minus: nothing."
+pub fn filled(at: usize, n: usize, sample: u8) -> Body
+    requires { ⌜ n ≤ 320 ⌝ }
+    ensures { λ r. ⌜ ReadsBody (whole (replicate n sample) at) at r ⌝ }
+{
+    let mut samples = [0; 320];
+    for i in 0..n {
+        samples[i] = sample;
+    }
+    Body {
+        end: Outcome::Got(n, at),
+        samples: samples,
+    }
+}
+
+// "Constant: one octet, any."
+pub fn constant(octets: &[u8], at: usize, n: usize) -> Body
+    requires { ⌜ (at ≤ 2 ^ 37) × (n ≤ 320) ⌝ }
+    ensures { λ r. ⌜ ReadsBody (constantly n (bitsOf (now (octets .entry))) at) (at + 8) r ⌝ }
+{
+    match bits::number(octets, at, 8) {
+        Outcome::Refused(why, bit) => nothing(why, bit),
+        Outcome::Got(sample, next) => filled(next, n, sample as u8),
+    }
+}
+
+// A zero by its flag: the mark is 1 where minus is the common kind.
+fn zero_of(flag: u8, mark: u8, plus: u8, minus: u8) -> u8
+    ensures { λ r. ⌜ r ≡ cond (eqb flag mark) plus minus ⌝ }
+{
+    if flag == mark {
+        return plus;
+    }
+    minus
+}
+
+// The zeros of n flags; plus zero is 128 and the law's mask, minus zero the mask.
+fn zeros_of(flags: &[u8; 320], n: usize, next: usize, mark: u8, mask: u8) -> Body
+    requires { ⌜ (n ≤ 320) × (mask < 128) × (length (now flags) ≡ 320) ⌝ }
+    ensures { λ r. ⌜ ReadsBody (whole (map (zeroOf mask mark) (take n (now (flags .entry)))) next) next r ⌝ }
+{
+    let plus = 128 + mask;
+    let mut samples = [0; 320];
+    for i in 0..n {
+        samples[i] = zero_of(flags[i], mark, plus, mask);
+    }
+    Body {
+        end: Outcome::Got(n, next),
+        samples: samples,
+    }
+}
+
+// "Binary: N bits, 1 is minus zero."
+pub fn binary(octets: &[u8], at: usize, n: usize, mask: u8) -> Body
+    requires { ⌜ (at ≤ 2 ^ 37) × (n ≤ 320) × (mask < 128) ⌝ }
+    ensures { λ r. ⌜ ReadsBody (bitsAsZeros mask n (bitsOf (now (octets .entry))) at) (at + n) r ⌝ }
+{
+    let read = runs::straight(octets, at, n);
+    let end = read.end;
+    match end {
+        Outcome::Refused(why, bit) => nothing(why, bit),
+        Outcome::Got(_, next) => zeros_of(&read.flags, n, next, 0, mask),
+    }
+}
+
+// The next bit picks one of two codes in turn.
+fn one_of_two(octets: &[u8], at: usize, s: usize) -> Outcome
+    requires { ⌜ (at ≤ 2 ^ 38) × (s ≤ 8) ⌝ }
+    ensures { λ r. ⌜ Reads (readTree (two s) (bitsOf (now (octets .entry))) at) 9 (at + 1) r ⌝ }
+{
+    match bits::bit(octets, at) {
+        Outcome::Refused(why, bit) => Outcome::Refused(why, bit),
+        Outcome::Got(b, next) => Outcome::Got(s + b, next),
+    }
+}
+
+// A 0 is the code of S; a 1 and one bit more pick one of the next two.
+fn one_of_three(octets: &[u8], at: usize, s: usize) -> Outcome
+    requires { ⌜ (at + 1 ≤ 2 ^ 38) × (s ≤ 7) ⌝ }
+    ensures { λ r. ⌜ Reads (readTree (fork (leaf s) (two (s + 1))) (bitsOf (now (octets .entry))) at) 9 (at + 2) r ⌝ }
+{
+    match bits::bit(octets, at) {
+        Outcome::Refused(why, bit) => Outcome::Refused(why, bit),
+        Outcome::Got(b, next) => {
+            if b == 1 {
+                return one_of_two(octets, next, s + 1);
+            }
+            Outcome::Got(s, next)
+        }
+    }
+}
+
+// The next two bits pick one of four codes in turn.
+fn one_of_four(octets: &[u8], at: usize, s: usize) -> Outcome
+    requires { ⌜ (at + 1 ≤ 2 ^ 38) × (s ≤ 6) ⌝ }
+    ensures { λ r. ⌜ Reads (readTree (fork (two s) (two (s + 2))) (bitsOf (now (octets .entry))) at) 9 (at + 2) r ⌝ }
+{
+    match bits::bit(octets, at) {
+        Outcome::Refused(why, bit) => Outcome::Refused(why, bit),
+        Outcome::Got(b, next) => {
+            if b == 1 {
+                return one_of_two(octets, next, s + 2);
+            }
+            one_of_two(octets, next, s)
+        }
+    }
+}
+
+// 5 to 9 of the long frames, after 111: 00, 01, 10, 110, 111.
+fn one_of_five(octets: &[u8], at: usize) -> Outcome
+    requires { ⌜ at + 2 ≤ 2 ^ 38 ⌝ }
+    ensures { λ r. ⌜ Reads (readTree (fork (two 5) (fork (leaf 7) (two 8))) (bitsOf (now (octets .entry))) at) 9 (at + 3) r ⌝ }
+{
+    match bits::bit(octets, at) {
+        Outcome::Refused(why, bit) => Outcome::Refused(why, bit),
+        Outcome::Got(b, next) => {
+            if b == 1 {
+                return one_of_three(octets, next, 7);
+            }
+            one_of_two(octets, next, 5)
+        }
+    }
+}
+
+// 3 to 9 of the long frames, after 11.
+fn one_of_seven(octets: &[u8], at: usize) -> Outcome
+    requires { ⌜ at + 3 ≤ 2 ^ 38 ⌝ }
+    ensures { λ r. ⌜ Reads (readTree (fork (two 3) (fork (two 5) (fork (leaf 7) (two 8)))) (bitsOf (now (octets .entry))) at) 9 (at + 4) r ⌝ }
+{
+    match bits::bit(octets, at) {
+        Outcome::Refused(why, bit) => Outcome::Refused(why, bit),
+        Outcome::Got(b, next) => {
+            if b == 1 {
+                return one_of_five(octets, next);
+            }
+            one_of_two(octets, next, 3)
+        }
+    }
+}
+
+// What follows 11, by the frame's length.
+fn past_two(octets: &[u8], at: usize, n: usize) -> Outcome
+    requires { ⌜ at + 3 ≤ 2 ^ 38 ⌝ }
+    ensures { λ r. ⌜ Reads (readTree (pastTwo n) (bitsOf (now (octets .entry))) at) 9 (at + 4) r ⌝ }
+{
+    if n == 40 {
+        return one_of_three(octets, at, 3);
+    }
+    if n == 80 {
+        return one_of_four(octets, at, 3);
+    }
+    one_of_seven(octets, at)
+}
+
+// What follows a 1: 10 is 2.
+fn past_one(octets: &[u8], at: usize, n: usize) -> Outcome
+    requires { ⌜ at + 4 ≤ 2 ^ 38 ⌝ }
+    ensures { λ r. ⌜ Reads (readTree (fork (leaf 2) (pastTwo n)) (bitsOf (now (octets .entry))) at) 9 (at + 5) r ⌝ }
+{
+    match bits::bit(octets, at) {
+        Outcome::Refused(why, bit) => Outcome::Refused(why, bit),
+        Outcome::Got(b, next) => {
+            if b == 1 {
+                return past_two(octets, next, n);
+            }
+            Outcome::Got(2, next)
+        }
+    }
+}
+
+// The code of S.
+fn code_of_s(octets: &[u8], at: usize, n: usize) -> Outcome
+    requires { ⌜ at + 5 ≤ 2 ^ 38 ⌝ }
+    ensures { λ r. ⌜ Reads (readTree (treeOf n) (bitsOf (now (octets .entry))) at) 9 (at + 6) r ⌝ }
+{
+    match bits::bit(octets, at) {
+        Outcome::Refused(why, bit) => Outcome::Refused(why, bit),
+        Outcome::Got(b, next) => {
+            if b == 1 {
+                return past_one(octets, next, n);
+            }
+            one_of_two(octets, next, 0)
+        }
+    }
+}
+
+// "Tool 6: code of S, then runs over N."
+pub fn plus_minus(octets: &[u8], at: usize, n: usize, mark: u8, mask: u8) -> Body
+    requires { ⌜ (at ≤ 2 ^ 37) × (n ≤ 320) × (mask < 128) ⌝ }
+    ensures { λ r. ⌜ ReadsBody (plusMinus mask n mark (bitsOf (now (octets .entry))) at) (at + 106000) r ⌝ }
+{
+    match code_of_s(octets, at, n) {
+        Outcome::Refused(why, bit) => nothing(why, bit),
+        Outcome::Got(s, first) => {
+            let read = runs::runs(octets, first, n, s, n);
+            let end = read.end;
+            match end {
+                Outcome::Refused(why, bit) => nothing(why, bit),
+                Outcome::Got(_, next) => zeros_of(&read.flags, n, next, mark, mask),
+            }
+        }
+    }
+}

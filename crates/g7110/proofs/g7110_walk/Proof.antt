@@ -1,0 +1,34 @@
+use borrow.Author.Needs.{needs}
+use mathlib.Core.Path.{ap, _∙_}
+use Rattle.rules.specs.Refusals.{numberOf, toolNamed}
+use Rattle.g7110.proofs.g7110_walk.Statement.{statement}
+use Rattle.g7110.proofs.g7110_walk.Tie as tie
+
+walk-requires : tie.Need-walk-requires
+walk-requires c κs = search needs
+
+tool-of-requires : tie.Need-tool-of-requires
+tool-of-requires c κs = search needs
+
+cast-t14 : tie.Need-cast-t14
+cast-t14 c = search needs
+
+number-of-requires : tie.Need-number-of-requires
+number-of-requires c κs = search needs
+
+same-length : tie.Need-same-length
+same-length c = search needs
+
+returns : tie.Need-returns
+returns c =
+    let t = c .before .before .before .before .before .walk .ensures in
+    record {
+      number = c .number-of .ensures ∙ ap numberOf (t .end);
+      report = rw (t .frames, t .octets, t .samples, c .before .before .tool-of .ensures ∙ ap toolNamed (t .end));
+      lent = t .lent;
+    }
+
+pub g7110-walk-spec : {M : Type 1} → statement M
+g7110-walk-spec =
+    tie.close
+    (tie.spec walk-requires tool-of-requires cast-t14 number-of-requires same-length returns)

@@ -1,0 +1,22 @@
+-- What the exported calls report, as numbers: "the definition gives this paper's number and values for each case".
+use Prim.Native.Nat.{ℕ}
+use mathlib.Core.Path.{_≡_}
+use mathlib.Core.List.{List, [], _∷_}
+use lib.ListN.{length}
+use Rattle.rules.specs.Refusals.{numberOf, toolNamed}
+use Rattle.rules.specs.Reading.{Read}
+use Rattle.rules.specs.Frame.{Found}
+use Rattle.rules.specs.Walk.{Walked, octetsKept, samplesKept}
+use Rattle.rules.specs.Calls.{readEnd, readSamples, readOctets, readBits, readTool, atStart}
+
+-- the number; samples, octets used, bits and tool; the samples at the start of the output, the rest as lent
+pub record ReadReported (found : Read Found) (out out′ four : List ℕ) (r : ℕ) : Type 0 where
+  pub number : r ≡ numberOf (readEnd found)
+  pub report : four ≡ length (readSamples found) ∷ readOctets found ∷ readBits found ∷ readTool found ∷ []
+  pub lent : out′ ≡ atStart (readSamples found) out
+
+-- the number; frames, octets and samples kept, and the tool that is named; the samples at the start of the output, the rest as lent
+pub record WalkReported (walked : Walked) (out out′ four : List ℕ) (r : ℕ) : Type 0 where
+  pub number : r ≡ numberOf (walked .end)
+  pub report : four ≡ length (walked .frames) ∷ octetsKept (walked .frames) ∷ length (samplesKept (walked .frames)) ∷ toolNamed (walked .end) ∷ []
+  pub lent : out′ ≡ atStart (samplesKept (walked .frames)) out

@@ -1,0 +1,95 @@
+// The C boundary: numbers and slices only. include/g7110.h says what a C program passes.
+ghost use mathlib.Core.Path.{_≡_};
+ghost use lib.ListN.{length};
+ghost use Rattle.rules.specs.Refusals.{refusalNumber, numberOf, toolNamed};
+ghost use Rattle.rules.specs.Frame.{readOne};
+ghost use Rattle.rules.specs.Walk.{walkAll};
+ghost use Rattle.g7110.specs.Boundary.{ReadReported, WalkReported};
+use rules::Ending;
+use rules::Refusal;
+
+// "Numbered refusals": the paper's number of a refusal.
+fn refusal_number(why: Refusal) -> u32
+    ensures { λ r. ⌜ r ≡ refusalNumber why ⌝ }
+{
+    match why {
+        Refusal::Short => 1,
+        Refusal::Prefix => 2,
+        Refusal::Tool(_) => 3,
+        Refusal::Room => 4,
+        Refusal::Case => 5,
+        Refusal::Method => 6,
+        Refusal::Run => 7,
+        Refusal::Place => 8,
+        Refusal::Align => 9,
+        Refusal::Length => 10,
+        Refusal::Set => 11,
+        Refusal::Law => 12,
+        Refusal::Long => 13,
+    }
+}
+
+// An accepted call has the number 0.
+fn number_of(end: Ending) -> u32
+    ensures { λ r. ⌜ r ≡ numberOf end ⌝ }
+{
+    match end {
+        Ending::Done => 0,
+        Ending::Refused(why) => refusal_number(why),
+    }
+}
+
+// "its tool is given for TOOL and is 0 otherwise"
+fn tool_of(end: Ending) -> u32
+    ensures { λ r. ⌜ r ≡ toolNamed end ⌝ }
+{
+    match end {
+        Ending::Done => 0,
+        Ending::Refused(why) => reader::tool_named(why),
+    }
+}
+
+// Reading one frame: the number, and in the report samples, octets used, bits and tool.
+#[no_mangle]
+pub extern "C" fn g7110_read(
+    octets: &[u8],
+    law: u32,
+    set: u32,
+    out: &mut [u8],
+    report: &mut [u64; 4],
+) -> u32
+    ensures { λ r. ⌜ ReadReported (readOne (now (octets .entry)) law set (length (now (out .entry)))) (now (out .entry)) (now (out .exit)) (now (report .exit)) r ⌝ }
+{
+    let a = reader::read_frame(octets, law, set, out);
+    *report = [
+        a.frame.len as u64,
+        a.octets as u64,
+        a.bits as u64,
+        a.tool as u64,
+    ];
+    let end = a.end;
+    number_of(end)
+}
+
+// Walking a stream: the number, and in the report frames, octets and samples kept, and the tool that TOOL gives.
+#[no_mangle]
+pub extern "C" fn g7110_walk(
+    octets: &[u8],
+    law: u32,
+    set: u32,
+    out: &mut [u8],
+    report: &mut [u64; 4],
+) -> u32
+    ensures { λ r. ⌜ WalkReported (walkAll (now (octets .entry)) law set (length (now (out .entry)))) (now (out .entry)) (now (out .exit)) (now (report .exit)) r ⌝ }
+{
+    let a = walk::walk(octets, law, set, out);
+    let end = a.end;
+    let tool = tool_of(end);
+    *report = [
+        a.frames as u64,
+        a.octets as u64,
+        a.samples as u64,
+        tool as u64,
+    ];
+    number_of(end)
+}

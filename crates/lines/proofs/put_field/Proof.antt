@@ -1,0 +1,25 @@
+-- A word, then a number.
+use borrow.Author.Needs.{needs}
+use native.Mathlib.Omega.{arith}
+use Rattle.lines.proofs.Putting.{puts-then}
+use Rattle.lines.proofs.Spelling.{decimal-most}
+use Rattle.lines.proofs.put_field.Statement.{statement}
+use Rattle.lines.proofs.put_field.Tie as tie
+
+put-word-requires : tie.Need-put-word-requires
+put-word-requires c κs = search needs
+
+put-number-requires : tie.Need-put-number-requires
+put-number-requires c κs = search needs
+
+same-length : tie.Need-same-length
+same-length c = search needs
+
+returns : tie.Need-returns
+returns c =
+    let w = c .before .before .before .before .before .before .put-word .ensures in
+    let d = c .before .before .put-number .ensures in
+    (puts-then w d, omega (arith, w .place, d .place, decimal-most (c .before .before .before .before .before .before .before .before .before .before .args .n)))
+
+pub put-field-spec : {M : Type 1} → statement M
+put-field-spec = tie.close (tie.spec put-word-requires put-number-requires same-length returns)

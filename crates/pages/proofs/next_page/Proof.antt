@@ -1,0 +1,61 @@
+-- Each turn lists one step more (Turns); the measure is how far it is to the end.
+use borrow.Author.Needs.{needs}
+use native.Mathlib.Omega.{arith}
+use native.Mathlib.Nat.{le-refl, le-of-lt}
+use Rattle.pages.specs.Pages.{stepsLeft}
+use Rattle.pages.proofs.Turns.{lists-none, Turn, turn-then}
+use Rattle.pages.proofs.next_page.Statement.{statement}
+use Rattle.pages.proofs.next_page.Tie as tie
+
+abbrev Inv-loop : tie.InvT-loop
+Inv-loop stream law out₀ room₀ s₀ to₀ out room s to = Turn stream law s₀ out₀ s out to
+
+abbrev μ-loop : tie.MeasureT-loop
+μ-loop stream law out₀ room₀ s₀ to₀ out room s to = stepsLeft stream s
+
+loop-holds : tie.Need-loop-holds Inv-loop μ-loop
+loop-holds c =
+    let p = c .before .before .pre in
+    record { lists = lists-none _ _ _ _ (p .0); goes = p .1; room = omega arith; nearer = le-refl _ }
+
+step-requires : tie.Need-step-requires Inv-loop μ-loop
+step-requires c κs = let t = c .before .before .loop .inv in (t .lists .stands, t .goes, t .room)
+
+same-length : tie.Need-same-length Inv-loop μ-loop
+same-length c = turn-then (c .before .before .before .before .before .before .before .loop .inv) (c .before .before .before .before .step .ensures) .0 .puts .size
+
+returns : tie.Need-returns Inv-loop μ-loop
+returns c = turn-then (c .before .before .before .before .before .before .before .loop .inv) (c .before .before .before .before .step .ensures)
+
+sub-if2 : tie.Need-sub-if2 Inv-loop μ-loop
+sub-if2 c = search needs
+
+same-length-2 : tie.Need-same-length-2 Inv-loop μ-loop
+same-length-2 c = turn-then (c .before .before .before .before .before .before .before .before .before .loop .inv) (c .before .before .before .before .before .before .step .ensures) .0 .puts .size
+
+returns-2 : tie.Need-returns-2 Inv-loop μ-loop
+returns-2 c = turn-then (c .before .before .before .before .before .before .before .before .before .loop .inv) (c .before .before .before .before .before .before .step .ensures)
+
+loop-less : tie.Need-loop-less Inv-loop μ-loop
+loop-less c = c .before .before .before .before .before .before .step .ensures .1
+
+loop-again : tie.Need-loop-again Inv-loop μ-loop
+loop-again c =
+    let t = turn-then (c .before .before .before .before .before .before .before .before .before .loop .inv) (c .before .before .before .before .before .before .step .ensures) in
+    record { lists = t .0; goes = c .before .before .if1 .left; room = omega (arith, t .0 .size, t .0 .puts .size); nearer = le-of-lt (t .1) }
+
+pub next-page-spec : {M : Type 1} → statement M
+next-page-spec =
+    tie.close
+    (tie.spec
+    Inv-loop
+    μ-loop
+    loop-holds
+    step-requires
+    same-length
+    returns
+    sub-if2
+    same-length-2
+    returns-2
+    loop-less
+    loop-again)

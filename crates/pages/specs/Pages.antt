@@ -1,0 +1,65 @@
+-- The listing page by page: where it stands, what is still to be listed from there, and what a page holds.
+use Prim.Native.Nat.{ℕ, suc, _+_, _*_, _-_, _≤_}
+use mathlib.Core.Path.{_≡_}
+use mathlib.Core.List.{List, [], _++_}
+use mathlib.Core.Bool.{true, false, cond}
+use lib.ListN.{length, drop}
+use Rattle.rules.specs.Walk.{longest}
+use Rattle.rules.specs.Listing.{stopLine, samplesLine, listing}
+use Rattle.lines.specs.Puts.{Puts}
+use Rattle.lines.specs.Onward.{linesFrom}
+use Rattle.pages.specs.declared.Stand.{Stand}
+use Rattle.pages.specs.declared.Page.{Page}
+use Rattle.pages.specs.declared.Opened.{Opened}
+
+-- a place that the listing of a stream can reach
+pub record Stands (stream : List ℕ) (s : Stand) : Type 0 where
+  pub short : length stream ≤ longest
+  pub inside : s .at ≤ length stream
+  pub frames : s .frames ≤ s .at
+  pub samples : s .samples ≤ 320 * s .frames
+
+-- the lines from there on
+unfoldable pub linesLeft : List ℕ → ℕ → Stand → List ℕ
+linesLeft stream law s =
+    cond (s .ended) [] (linesFrom (suc (length stream) - s .frames) stream law (s .frames) (s .at) (s .samples))
+
+-- how far it is to the end
+unfoldable pub stepsLeft : List ℕ → Stand → ℕ
+stepsLeft stream s = cond (s .ended) 0 (suc (length stream - s .at))
+
+-- text put at a place, which takes the listing from s to s′
+pub record Lists (stream : List ℕ) (law : ℕ) (s : Stand) (out : List ℕ) (to : ℕ) (s′ : Stand) (out′ : List ℕ) (to′ : ℕ) : Type 0 where
+  pub text : List ℕ
+  pub puts : Puts out to text out′ to′
+  pub says : linesLeft stream law s ≡ text ++ linesLeft stream law s′
+  pub stands : Stands stream s′
+  pub size : to′ ≤ length out
+
+-- the last two lines
+pub record Ends (number tool : ℕ) (s : Stand) (out : List ℕ) (to : ℕ) (r : Page) (out′ : List ℕ) : Type 0 where
+  pub puts : Puts out to (stopLine number (s .at) tool ++ samplesLine (s .samples)) out′ (r .to)
+  pub ended : r .stand .ended ≡ true
+  pub at : r .stand .at ≡ s .at
+  pub frames : r .stand .frames ≡ s .frames
+  pub samples : r .stand .samples ≡ s .samples
+  pub most : r .to ≤ to + 320
+
+-- how the listing of a stream opens, `whole` being all of it; a refusal is all of it
+pub record Opens (whole stream out : List ℕ) (r : Opened) (out′ : List ℕ) : Type 0 where
+  pub text : List ℕ
+  pub puts : Puts out 0 text out′ (r .to)
+  pub says : whole ≡ text ++ linesLeft stream (r .law) (r .stand)
+  pub stands : r .stand .ended ≡ false → Stands stream (r .stand)
+  pub most : r .to ≤ 160
+
+-- a refusal before any frame
+pub record Stops (number : ℕ) (out : List ℕ) (r : Opened) (out′ : List ℕ) : Type 0 where
+  pub puts : Puts out 0 (stopLine number 0 0) out′ (r .to)
+  pub ended : r .stand .ended ≡ true
+  pub most : r .to ≤ 160
+
+-- an input's first octet is its law's letter
+pub record OpensInput (input out : List ℕ) (r : Opened) (out′ : List ℕ) : Type 0 where
+  pub opens : Opens (listing input) (drop 1 input) out r out′
+  pub some : r .stand .ended ≡ false → 1 ≤ length input

@@ -1,0 +1,201 @@
+// The listing page by page (document 01, "Walk and listing"): what is put into a lent page is the next part of the
+// listing's text, and the rest follows from where the page ends.
+ghost use mathlib.Core.Path.{_≡_};
+ghost use Prim.Native.Nat.{_+_, _≤_, _<_};
+ghost use mathlib.Core.Bool.{false};
+ghost use lib.ListN.{length, drop};
+ghost use Rattle.rules.specs.Refusals.{refusalNumber};
+ghost use Rattle.rules.specs.Listing.{listStream};
+ghost use Rattle.rules.specs.Frame.{readOne};
+ghost use Rattle.rules.specs.Calls.{Reads};
+ghost use Rattle.pages.specs.Pages.{Stands, Lists, Ends, Opens, Stops, OpensInput, stepsLeft};
+use rules::Ending;
+use rules::ReadAnswer;
+use rules::Refusal;
+
+// Where the listing stands: the frames that are listed, the place of the next one, and the samples that they hold.
+pub struct Stand {
+    pub frames: usize,
+    pub at: usize,
+    pub samples: usize,
+    pub ended: bool,
+}
+
+// A page: where the listing stands after it, and the end of its text.
+pub struct Page {
+    pub stand: Stand,
+    pub to: usize,
+}
+
+// How a listing opens: its law, where it stands after the first line, and the end of that line.
+pub struct Opened {
+    pub law: u32,
+    pub stand: Stand,
+    pub to: usize,
+}
+
+// "Numbered refusals"
+fn number_of(why: Refusal) -> usize
+    ensures { λ r. ⌜ r ≡ refusalNumber why ⌝ }
+{
+    match why {
+        Refusal::Short => 1,
+        Refusal::Prefix => 2,
+        Refusal::Tool(_) => 3,
+        Refusal::Room => 4,
+        Refusal::Case => 5,
+        Refusal::Method => 6,
+        Refusal::Run => 7,
+        Refusal::Place => 8,
+        Refusal::Align => 9,
+        Refusal::Length => 10,
+        Refusal::Set => 11,
+        Refusal::Law => 12,
+        Refusal::Long => 13,
+    }
+}
+
+// The last two lines.
+fn last(number: usize, tool: usize, s: Stand, out: &mut [u8], to: usize) -> Page
+    requires { ⌜ to + 320 ≤ length (now out) ⌝ }
+    ensures { λ r. ⌜ Ends number tool s (now (out .entry)) to r (now (out .exit)) ⌝ }
+{
+    let stop = lines::stop_line(number, s.at, tool, out, to);
+    let end = lines::samples_line(s.samples, out, stop);
+    Page {
+        stand: Stand {
+            frames: s.frames,
+            at: s.at,
+            samples: s.samples,
+            ended: true,
+        },
+        to: end,
+    }
+}
+
+// The frame at a place; 320 samples of room are enough for any.
+fn read_at(stream: &[u8], at: usize, law: u32, room: &mut [u8; 320]) -> ReadAnswer
+    requires { ⌜ at ≤ length (now stream) ⌝ }
+    ensures { λ r. ⌜ Reads (readOne (drop at (now (stream .entry))) law 127 320) r (now (room .entry)) (now (room .exit)) ⌝ }
+{
+    reader::read_frame(&stream[at..], law, 127, room)
+}
+
+// The line of the frame at the place, or, at the stream's end and where the frame is refused, the last two lines.
+fn step(stream: &[u8], law: u32, s: Stand, room: &mut [u8; 320], out: &mut [u8], to: usize) -> Page
+    requires { ⌜ (Stands (now stream) s) × (s .ended ≡ false) × (to + 320 ≤ length (now out)) ⌝ }
+    ensures { λ r. ⌜ Lists (now (stream .entry)) law s (now (out .entry)) to (r .stand) (now (out .exit)) (r .to) ⌝ }
+    ensures less { λ r. ⌜ stepsLeft (now (stream .entry)) (r .stand) < stepsLeft (now (stream .entry)) s ⌝ }
+{
+    let at = s.at;
+    if stream.len() <= at {
+        return last(0, 0, s, out, to);
+    }
+    let r = read_at(stream, at, law, room);
+    let end = r.end;
+    match end {
+        Ending::Refused(why) => last(number_of(why), r.tool as usize, s, out, to),
+        Ending::Done => {
+            let next = at + r.octets;
+            let end = lines::frame_line(
+                s.frames,
+                at,
+                r.frame.len,
+                r.tool as usize,
+                r.octets,
+                r.bits,
+                out,
+                to,
+            );
+            Page {
+                stand: Stand {
+                    frames: s.frames + 1,
+                    at: next,
+                    samples: s.samples + r.frame.len,
+                    ended: false,
+                },
+                to: end,
+            }
+        }
+    }
+}
+
+// As many lines as the page has room for; its room for samples is used for one frame after another.
+pub fn next_page(stream: &[u8], law: u32, from: Stand, out: &mut [u8]) -> Page
+    requires { ⌜ (Stands (now stream) from) × (from .ended ≡ false) × (320 ≤ length (now out)) ⌝ }
+    ensures { λ r. ⌜ Lists (now (stream .entry)) law from (now (out .entry)) 0 (r .stand) (now (out .exit)) (r .to) ⌝ }
+    ensures less { λ r. ⌜ stepsLeft (now (stream .entry)) (r .stand) < stepsLeft (now (stream .entry)) from ⌝ }
+{
+    let mut room = [0u8; 320];
+    let mut s = from;
+    let mut to = 0;
+    loop {
+        let p = step(stream, law, s, &mut room, out, to);
+        let next = p.stand;
+        if next.ended {
+            return p;
+        }
+        if out.len() - p.to < 320 {
+            return p;
+        }
+        s = next;
+        to = p.to;
+    }
+}
+
+// "Input with no or another first octet prints `stop=12 at=0 tool=0` only; a longer stream prints that line with 13."
+fn refused(number: usize, out: &mut [u8]) -> Opened
+    requires { ⌜ 160 ≤ length (now out) ⌝ }
+    ensures { λ r. ⌜ Stops number (now (out .entry)) r (now (out .exit)) ⌝ }
+{
+    let to = lines::stop_line(number, 0, 0, out, 0);
+    Opened {
+        law: 0,
+        stand: Stand {
+            frames: 0,
+            at: 0,
+            samples: 0,
+            ended: true,
+        },
+        to,
+    }
+}
+
+// The law's line, and the stream's first place.
+fn open_stream(stream: &[u8], law: u32, out: &mut [u8]) -> Opened
+    requires { ⌜ (law ≤ 1) × (160 ≤ length (now out)) ⌝ }
+    ensures { λ r. ⌜ Opens (listStream law (now (stream .entry))) (now (stream .entry)) (now (out .entry)) r (now (out .exit)) ⌝ }
+{
+    if 65535 < stream.len() {
+        return refused(13, out);
+    }
+    let to = lines::law_line(law as usize, out, 0);
+    Opened {
+        law,
+        stand: Stand {
+            frames: 0,
+            at: 0,
+            samples: 0,
+            ended: false,
+        },
+        to,
+    }
+}
+
+// "A or M, then a stream of at most 65,535 octets"
+pub fn open_listing(input: &[u8], out: &mut [u8]) -> Opened
+    requires { ⌜ 160 ≤ length (now out) ⌝ }
+    ensures { λ r. ⌜ OpensInput (now (input .entry)) (now (out .entry)) r (now (out .exit)) ⌝ }
+{
+    if input.len() == 0 {
+        return refused(12, out);
+    }
+    let letter = input[0];
+    if letter == b'A' {
+        return open_stream(&input[1..], 0, out);
+    }
+    if letter == b'M' {
+        return open_stream(&input[1..], 1, out);
+    }
+    refused(12, out)
+}

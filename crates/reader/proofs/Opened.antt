@@ -1,0 +1,49 @@
+-- The first octet of a frame: it is read whole, and what it begins has one of the five lengths.
+use Prim.Native.Nat.{ℕ, _+_, _*_, _≤_, _<_}
+use mathlib.Core.Path.{_≡_, refl, sym, ap, subst, _∙_}
+use mathlib.Core.List.{List, [], _∷_}
+use mathlib.Core.Bool.{true}
+use native.Mathlib.Omega.{arith}
+use lib.ListN.{length, getD}
+use Rattle.rules.specs.declared.Refusal.the-variants.{Short}
+use Rattle.rules.specs.Tools.{isLength}
+use Rattle.rules.specs.Bits.{lowBits, bitsOf}
+use Rattle.rules.specs.Reading.{Read, whole, refuse, bit, numberFrom}
+use Rattle.rules.specs.First.{First, unassigned, pad, tool, sixOrEight, firstOctet}
+use Rattle.rules.specs.Frame.{Found, afterFirst, frame}
+use Rattle.rules.proofs.Octets.{value-lowBits}
+use Rattle.rules.proofs.Tests.{and-left}
+use Rattle.rules.proofs.Firsts.{asWritten, first-as-written}
+use Rattle.bits.proofs.Window.{number-there}
+
+first-read : (s : List ℕ) → 1 ≤ length s → getD s 0 0 < 256 → numberFrom 0 8 (bitsOf s) 0 ≡ whole (getD s 0 0) 8
+unfolding bitsOf lowBits
+first-read [] h o = absurd (omega arith)
+first-read (x ∷ s) h o =
+    number-there (x ∷ s) 0 8 0 (omega arith) ∙ ap (λ (v : ℕ). whole v 8) (value-lowBits 0 8 x ∙ omega arith)
+
+pub opened : (s : List ℕ) → 1 ≤ length s → getD s 0 0 < 256 → (f : First) → f ≡ firstOctet (getD s 0 0)
+    → (mask set room : ℕ) → afterFirst mask set room f (bitsOf s) 8 ≡ frame mask set room (bitsOf s) 0
+unfolding frame
+opened s h o f e mask set room = rw (first-read s h o, e)
+
+pub no-octets : (s : List ℕ) → length s ≡ 0 → (mask set room : ℕ) → refuse Short 0 ≡ frame mask set room (bitsOf s) 0
+unfolding frame bitsOf numberFrom bit
+no-octets [] h mask set room = refl
+no-octets (x ∷ s) h mask set room = absurd (omega arith)
+
+-- where an octet begins a frame, the length is one of the five
+abbrev pub LengthKnown : First → Type 0
+LengthKnown unassigned = Unit {0}
+LengthKnown pad = Unit {0}
+LengthKnown (tool t n) = isLength n ≡ true
+LengthKnown (sixOrEight n) = isLength n ≡ true
+
+pub length-known : (o : ℕ) → o < 256 → (f : First) → f ≡ firstOctet o → LengthKnown f
+length-known o h f e = go f (ap (asWritten o) e ∙ first-as-written o h)
+  where
+    go : (f : First) → asWritten o f ≡ true → LengthKnown f
+    go unassigned t = tt
+    go pad t = tt
+    go (tool t n) q = and-left (isLength n) _ q
+    go (sixOrEight n) q = and-left (isLength n) _ q

@@ -1,0 +1,79 @@
+// Walking a stream: "each next frame starts where the last one ended, in the middle of the same octets".
+ghost use Prim.Native.Nat.{suc, _≤_};
+ghost use lib.ListN.{length};
+ghost use Rattle.rules.specs.Calls.{Walk, Walks};
+ghost use Rattle.rules.specs.Walk.{walkFrom};
+ghost use Rattle.walk.specs.Stepping.{Steps, StopsAtOnce};
+use rules::Ending;
+use rules::ReadAnswer;
+use rules::Refusal;
+use rules::WalkAnswer;
+
+// One frame, at a place of the stream; its samples go to the output from `to` on.
+fn step(octets: &[u8], law: u32, set: u32, at: usize, out: &mut [u8], to: usize) -> ReadAnswer
+    requires { ⌜ (at ≤ length (now octets)) × (to ≤ length (now out)) ⌝ }
+    ensures { λ r. ⌜ Steps (now (octets .entry)) law set at to (now (out .entry)) (now (out .exit)) r ⌝ }
+{
+    reader::read_frame(&octets[at..], law, set, &mut out[to..])
+}
+
+// Frame after frame, up to the end of the stream or to the frame that is refused.
+fn frames(octets: &[u8], law: u32, set: u32, out: &mut [u8]) -> WalkAnswer
+    requires { ⌜ length (now octets) ≤ 65535 ⌝ }
+    ensures { λ r. ⌜ Walks (walkFrom (suc (length (now (octets .entry)))) (now (octets .entry)) law set 0 (length (now (out .entry)))) r (now (out .entry)) (now (out .exit)) ⌝ }
+{
+    let mut at = 0;
+    let mut to = 0;
+    let mut count = 0;
+    let end = 'frames: loop {
+        if octets.len() <= at {
+            break 'frames Ending::Done;
+        }
+        let r = step(octets, law, set, at, out, to);
+        let e = r.end;
+        match e {
+            Ending::Refused(why) => break 'frames Ending::Refused(why),
+            Ending::Done => {
+                at += r.octets;
+                to += r.frame.len;
+                count += 1;
+            }
+        }
+    };
+    WalkAnswer {
+        end,
+        frames: count,
+        octets: at,
+        samples: to,
+        place: at,
+    }
+}
+
+// "LAW, SET and LONG refuse a walk before any frame, with place 0."
+fn stopped(why: Refusal) -> WalkAnswer
+    ensures { λ r. ⌜ StopsAtOnce why r ⌝ }
+{
+    WalkAnswer {
+        end: Ending::Refused(why),
+        frames: 0,
+        octets: 0,
+        samples: 0,
+        place: 0,
+    }
+}
+
+// Walking a stream.
+pub fn walk(octets: &[u8], law: u32, set: u32, out: &mut [u8]) -> WalkAnswer
+    ensures { λ r. ⌜ Walk (now (octets .entry)) law set (now (out .entry)) (now (out .exit)) r ⌝ }
+{
+    if 1 < law {
+        return stopped(Refusal::Law);
+    }
+    if 127 < set {
+        return stopped(Refusal::Set);
+    }
+    if 65535 < octets.len() {
+        return stopped(Refusal::Long);
+    }
+    frames(octets, law, set, out)
+}

@@ -1,0 +1,93 @@
+/* g7110.h: G.711.0 frames of the seven carried tools, read, written and walked. This header is also the manual.
+ *
+ * Every answer below is proved equal to the project's definitions of document 01, for all inputs.
+ *
+ * The archive libg7110.a is for x86-64 Linux alone.
+ *
+ * LAW         0 is A-law, 1 is mu-law. The law is not in the octets; the caller must know it. Above 1: G7110_LAW.
+ * SET         A number from 0 to 127: tool t (1 to 7) adds 2^(t-1). A reader takes only frames whose tool is in its set;
+ *             pads need no tool. A writer's set must hold tool 1, so it is odd. G7110_ALL_TOOLS is 127.
+ * TOOLS       0 pad, 1 uncompressed, 2 constant plus zero, 3 constant minus zero, 4 constant, 5 binary,
+ *             6 plus-minus zero Rice, 7 value-location. 8 to 13 are known by their first octet and refused with G7110_TOOL.
+ * LENGTHS     A frame has 0, 40, 80, 160, 240 or 320 samples. A frame of 0 samples is a pad: one octet, 00.
+ *
+ * WHAT A CALL RETURNS
+ *   0 (G7110_OK), or the number of a refusal. The report is written in both cases.
+ *   A refused g7110_read or g7110_write leaves the output as lent; its report is all 0, save that G7110_TOOL gives the tool.
+ *   A refused g7110_walk keeps the frames before the refused one: their samples stand in the output and are counted in
+ *   the report. Past them the output is as lent.
+ *   An accepted call too leaves the output past what it reports as lent.
+ *
+ * BUFFERS
+ *   A pointer comes with its length in octets. A length of 0 may come with any pointer, NULL too.
+ *   Lent buffers must not overlap: not input and output, not output and report.
+ *   The calls use no heap, no global state and no lock: they may be called from several threads at once, each with its own buffers.
+ *
+ * ROOM
+ *   The output's length is the room. Reading needs the frame's samples (G7110_MAX_SAMPLES are always enough), writing the
+ *   form's octets (G7110_MAX_WRITTEN are always enough), walking the samples of all frames together.
+ *
+ * EXAMPLE
+ *   Keep a greeting's frame, and get it back:
+ *
+ *     uint8_t kept[G7110_MAX_WRITTEN], sound[G7110_MAX_SAMPLES];
+ *     uint64_t wrote[3], got[4];
+ *     if (g7110_write(samples, 160, 1, G7110_ALL_TOOLS, kept, sizeof kept, wrote) != G7110_OK) return 1;
+ *     if (g7110_read(kept, wrote[0], 1, G7110_ALL_TOOLS, sound, sizeof sound, got) != G7110_OK) return 1;
+ *     // got[0] is 160, and sound holds the samples again
+ */
+#ifndef G7110_H
+#define G7110_H
+
+#include <stddef.h>
+#include <stdint.h>
+
+#ifdef __cplusplus
+extern "C" {
+#endif
+
+#define G7110_VERSION 1
+
+#define G7110_MAX_SAMPLES 320 /* samples of a frame */
+#define G7110_MAX_WRITTEN 321 /* octets of a written frame */
+#define G7110_MAX_FRAME 402   /* octets of an accepted frame */
+#define G7110_MAX_STREAM 65535 /* octets of a walk */
+#define G7110_ALL_TOOLS 127
+
+/* The refusals, by number. */
+enum {
+    G7110_OK = 0,
+    G7110_SHORT = 1,   /* octets end before the frame does; also one frame asked of no octets */
+    G7110_PREFIX = 2,  /* first octet not assigned */
+    G7110_TOOL = 3,    /* the tool is 8 to 13, or 1 to 7 and not in the set; the number is given */
+    G7110_ROOM = 4,    /* output has fewer octets left than the frame needs */
+    G7110_CASE = 5,    /* range case or flag not allowed */
+    G7110_METHOD = 6,  /* method 110 */
+    G7110_RUN = 7,     /* run longer than the places left */
+    G7110_PLACE = 8,   /* listed place not below D or not rising, or no place left for zero */
+    G7110_ALIGN = 9,   /* a filling bit isn't 0 */
+    G7110_LENGTH = 10, /* writer given other than 0, 40, 80, 160, 240, 320 samples */
+    G7110_SET = 11,    /* set above 127, or even for a writer */
+    G7110_LAW = 12,    /* law above 1 */
+    G7110_LONG = 13    /* walk given more than 65,535 octets */
+};
+
+/* Reads one frame at the start of the octets. report: samples, octets used, bits, tool. */
+uint32_t g7110_read(const uint8_t *octets, size_t octets_len, uint32_t law, uint32_t set,
+                    uint8_t *out, size_t out_len, uint64_t report[4]);
+
+/* Writes one frame of samples_len samples in the chosen form: of the set's tools that apply, the fewest octets.
+ * At most samples_len + 1 octets. report: octets, bits, tool. */
+uint32_t g7110_write(const uint8_t *samples, size_t samples_len, uint32_t law, uint32_t set,
+                     uint8_t *out, size_t out_len, uint64_t report[3]);
+
+/* Walks a stream, frame after frame. report: frames, octets (also the place of a refused frame), samples, tool.
+ * G7110_LAW, G7110_SET and G7110_LONG refuse before any frame. A walk over no octets is accepted. */
+uint32_t g7110_walk(const uint8_t *octets, size_t octets_len, uint32_t law, uint32_t set,
+                    uint8_t *out, size_t out_len, uint64_t report[4]);
+
+#ifdef __cplusplus
+}
+#endif
+
+#endif

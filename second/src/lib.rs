@@ -1,0 +1,34 @@
+//! G.711.0 frames, tools 0 to 7, for A-law and mu-law.
+//!
+//! * [`read_frame`] reads one frame at the start of some octets.
+//! * [`write_frame`] writes the chosen form of one frame.
+//! * [`walk`] reads the frames of a stream one after the other.
+//! * [`listing`] makes the text the listing program prints.
+//!
+//! None of the first three touches the heap: a frame is at most 320 samples,
+//! so whatever has to be held back until a frame is known to be good fits on
+//! the stack.
+
+#![forbid(unsafe_code)]
+
+mod bits;
+mod first_octet;
+pub mod gen;
+mod law;
+mod listing;
+mod planes;
+mod read;
+mod refusal;
+mod runs;
+mod s_codes;
+mod value_rows;
+mod walk;
+mod write;
+
+pub use listing::listing;
+pub use read::{read_frame, ReadReport};
+pub use walk::{walk, WalkReport};
+pub use write::{write_frame, WriteReport};
+
+/// The longest frame.
+pub(crate) const MOST_SAMPLES: usize = 320;

@@ -1,0 +1,108 @@
+//! The octets of READINGS.md and what this program answers to them.
+
+mod slow;
+use second::gen::BitString;
+use second::{listing, read_frame, walk, write_frame};
+use slow::*;
+
+fn octets_of(parts: &[&str]) -> Vec<u8> {
+    let mut bits = BitString::default();
+    parts.iter().for_each(|part| bits.text(part));
+    assert_eq!(bits.len() % 8, 0);
+    bits.octets()
+}
+
+fn hex(text: &str) -> Vec<u8> {
+    text.split_whitespace().map(|octet| u8::from_str_radix(octet, 16).unwrap()).collect()
+}
+
+fn ending(octets: &[u8]) -> u32 {
+    read_frame(octets, 1, 127, &mut [0; 320]).ending
+}
+
+#[test]
+fn r1_zeros_are_counted_to_the_frame_length() {
+    let octets = octets_of(&["10000110", "011", "000", &"1".repeat(79), "0", "001", "0000000"]);
+    assert_eq!(octets, hex("86 63 FF FF FF FF FF FF FF FF FF F8 80"));
+    assert_eq!(ending(&octets), SHORT);
+}
+
+#[test]
+fn r2_listed_places_are_judged_one_by_one() {
+    let octets = octets_of(&["10000110", "111", "111", "11", "1010000", "0"]);
+    assert_eq!(octets, hex("86 FF A0"));
+    assert_eq!(ending(&octets), PLACE);
+}
+
+#[test]
+fn r3_no_place_left_is_judged_before_the_next_value() {
+    let octets = octets_of(&["10000110", "011", "000", &"1".repeat(80), "00"]);
+    assert_eq!(octets, hex("86 63 FF FF FF FF FF FF FF FF FF FC"));
+    assert_eq!(ending(&octets), PLACE);
+}
+
+#[test]
+fn r4_no_place_left_is_judged_when_the_value_is_whole() {
+    let octets =
+        octets_of(&["10000110", "011", "010", "111", &"100".repeat(76), "111", "11", "000110"]);
+    let middle = "24 92 49 ".repeat(9);
+    assert_eq!(octets, hex(&format!("86 6B C9 {middle} 27 C6")));
+    assert_eq!(ending(&octets), SHORT);
+    // With the fourth place there, whatever it is: PLACE.
+    for more in [0x00, 0x40, 0x80, 0xC0] {
+        let mut whole = octets.clone();
+        whole.push(more);
+        assert_eq!(ending(&whole), PLACE);
+    }
+}
+
+#[test]
+fn r5_a_reader_does_not_hold_a_form_to_the_writers_rules() {
+    let mut out = [0; 80];
+    let report = read_frame(&hex("86 F4"), 1, 127, &mut out);
+    assert_eq!((report.ending, report.bits, out), (0, 14, [0xFF; 80]));
+    // Marked minus, and all 40 samples the other zero.
+    let octets = octets_of(&["01", "011", "01", &"10".repeat(40), "0"]);
+    assert_eq!(octets, hex("5B 55 55 55 55 55 55 55 55 55 54"));
+    let mut out = [0; 40];
+    let report = read_frame(&octets, 1, 127, &mut out);
+    assert_eq!((report.ending, report.bits, out), (0, 87, [0xFF; 40]));
+}
+
+#[test]
+fn r6_a_clean_walk_has_its_place_at_the_end() {
+    let report = walk(&[0x00, 0x00], 1, 127, &mut []);
+    assert_eq!((report.ending, report.octets, report.place), (0, 2, 2));
+}
+
+#[test]
+fn r7_law_and_set_refuse_a_walk_over_no_octets() {
+    assert_eq!(walk(&[], 2, 127, &mut []).ending, LAW);
+    assert_eq!(walk(&[], 1, 128, &mut []).ending, SET);
+    assert_eq!(walk(&[], 1, 127, &mut []).ending, 0);
+}
+
+#[test]
+fn r8_a_long_stream_prints_one_line() {
+    let mut input = vec![0x00; 65_537];
+    input[0] = b'A';
+    assert_eq!(listing(&input), b"stop=13 at=0 tool=0\n");
+}
+
+#[test]
+fn r9_every_line_ends_with_a_line_feed() {
+    assert_eq!(listing(b"A"), b"law=0\nstop=0 at=0 tool=0\nsamples=0\n");
+}
+
+#[test]
+fn r10_two_is_added_once_to_the_listed_places() {
+    // 1 at places 0 and 16 of 80: runs 0, 15 and 63 need 18 bits (S = 4). Two
+    // places of 7 bits are 16 bits with two added once, 18 with two for each.
+    let mut samples = [0xFF; 80];
+    samples[0] = 0xFE;
+    samples[16] = 0xFE;
+    let mut out = [0; 81];
+    let report = write_frame(&samples, 1, 127, &mut out);
+    assert_eq!((report.octets, report.bits), (4, 30));
+    assert_eq!(out[..4], [0x86, 0xFD, 0x00, 0x40]);
+}

@@ -1,0 +1,42 @@
+// The example of include/g7110.h, as a program in C++ has it. Prints 'ok' if it holds.
+#include "g7110.h"
+
+#include <array>
+#include <cstddef>
+#include <cstdint>
+#include <cstdio>
+#include <vector>
+
+namespace {
+
+std::vector<std::uint8_t> keep(const std::vector<std::uint8_t> &samples)
+{
+    std::array<std::uint8_t, G7110_MAX_WRITTEN> kept;
+    std::uint64_t wrote[3];
+    if (g7110_write(samples.data(), samples.size(), 1, G7110_ALL_TOOLS, kept.data(), kept.size(), wrote) != G7110_OK) return {};
+    return std::vector<std::uint8_t>(kept.begin(), kept.begin() + static_cast<std::ptrdiff_t>(wrote[0]));
+}
+
+std::vector<std::uint8_t> get_back(const std::vector<std::uint8_t> &kept)
+{
+    std::vector<std::uint8_t> sound(G7110_MAX_SAMPLES);
+    std::uint64_t got[4];
+    if (g7110_read(kept.data(), kept.size(), 1, G7110_ALL_TOOLS, sound.data(), sound.size(), got) != G7110_OK) return {};
+    sound.resize(static_cast<std::size_t>(got[0]));
+    return sound;
+}
+
+} // namespace
+
+int main()
+{
+    static_assert(G7110_LONG == 13, "the refusals are numbered as in the manual");
+    std::vector<std::uint8_t> samples(160, 0xFF);
+    samples[7] = 0x7F;
+    const std::vector<std::uint8_t> kept = keep(samples);
+    if (kept.empty() || kept.size() > 4 || get_back(kept) != samples) return 1;
+    std::uint64_t walked[4];
+    if (g7110_walk(nullptr, 0, 0, 0, nullptr, 0, walked) != G7110_OK) return 1;
+    std::puts("ok");
+    return 0;
+}

@@ -1,0 +1,103 @@
+/* The greatest stack that each call uses: made on a thread whose stack is painted before, and looked at after. What a
+ * thread uses that makes no call is taken off. Prints a line for each call. */
+#define _XOPEN_SOURCE 600
+#include "g7110.h"
+
+#include <pthread.h>
+#include <stdio.h>
+#include <stdlib.h>
+#include <string.h>
+
+enum { STACK = 1 << 20, PAINT = 0xC5, STREAM = 4000 };
+
+struct call {
+    int which; /* 0 none, 1 read, 2 write, 3 walk */
+    const uint8_t *given;
+    size_t length;
+};
+
+static uint8_t out[1 << 16];
+
+static void *make(void *argument)
+{
+    const struct call *call = argument;
+    uint64_t report[4];
+    if (call->which == 1) g7110_read(call->given, call->length, 1, G7110_ALL_TOOLS, out, sizeof out, report);
+    if (call->which == 2) g7110_write(call->given, call->length, 1, G7110_ALL_TOOLS, out, sizeof out, report);
+    if (call->which == 3) g7110_walk(call->given, call->length, 1, G7110_ALL_TOOLS, out, sizeof out, report);
+    return NULL;
+}
+
+/* Octets of the stack that no longer are as painted, from the lowest one up. */
+static size_t used(struct call call)
+{
+    pthread_attr_t attributes;
+    pthread_t thread;
+    void *memory;
+    uint8_t *stack;
+    size_t low = 0;
+    if (posix_memalign(&memory, 4096, STACK) != 0) exit(2);
+    stack = memory;
+    memset(stack, PAINT, STACK);
+    if (pthread_attr_init(&attributes) || pthread_attr_setstack(&attributes, stack, STACK)) exit(2);
+    if (pthread_create(&thread, &attributes, make, &call) || pthread_join(thread, NULL)) exit(2);
+    while (low < STACK && stack[low] == PAINT) low++;
+    pthread_attr_destroy(&attributes);
+    free(memory);
+    return STACK - low;
+}
+
+static size_t greatest[4];
+
+static void measure(int which, const uint8_t *given, size_t length)
+{
+    struct call call;
+    size_t octets;
+    call.which = which;
+    call.given = given;
+    call.length = length;
+    octets = used(call);
+    if (octets > greatest[which]) greatest[which] = octets;
+}
+
+/* A frame of 320 samples of some kind: equal, two zeros few and many, near zero few and many, anything. */
+static void frame(uint8_t *samples, int kind)
+{
+    static const uint8_t near_zero[4] = {0xFE, 0x7F, 0x7E, 0xFF};
+    size_t at;
+    for (at = 0; at < 320; at++) {
+        unsigned drawn = (unsigned)(at * 2654435761u >> 7);
+        samples[at] = 0xFF;
+        if (kind == 1 && at % 37 == 5) samples[at] = 0x7F;
+        if (kind == 2 && drawn % 2 == 0) samples[at] = 0x7F;
+        if (kind == 3 && at % 41 < 3) samples[at] = near_zero[at % 41];
+        if (kind == 4 && drawn % 5 < 3) samples[at] = near_zero[drawn % 5];
+        if (kind == 5) samples[at] = (uint8_t)drawn;
+        if (kind == 6) samples[at] = 0x7F;
+        if (kind == 7) samples[at] = 0x12;
+    }
+}
+
+int main(void)
+{
+    uint8_t samples[320], form[G7110_MAX_WRITTEN], stream[STREAM];
+    uint64_t wrote[3];
+    size_t length = 0;
+    int kind, cut;
+    memset(stream, 0, sizeof stream);
+    measure(0, NULL, 0);
+    for (kind = 0; kind < 8; kind++) {
+        frame(samples, kind);
+        measure(2, samples, 320);
+        if (g7110_write(samples, 320, 1, G7110_ALL_TOOLS, form, sizeof form, wrote) != G7110_OK) return 1;
+        for (cut = 0; cut < 2; cut++) measure(1, form, (size_t)wrote[0] - (size_t)cut);
+        memcpy(stream + length, form, (size_t)wrote[0]);
+        length += (size_t)wrote[0];
+    }
+    measure(3, stream, sizeof stream);
+    measure(3, stream, length - 1);
+    printf("stack: g7110_read %lu octets\n", (unsigned long)(greatest[1] - greatest[0]));
+    printf("stack: g7110_write %lu octets\n", (unsigned long)(greatest[2] - greatest[0]));
+    printf("stack: g7110_walk %lu octets\n", (unsigned long)(greatest[3] - greatest[0]));
+    return 0;
+}

@@ -1,0 +1,39 @@
+//! What is run and compared. Vectors are lines of text in `vectors/`; a back end is an implementation of
+//! [`Codec`]; [`check`] runs one vector, and its neighbours, on one back end. docs/TESTING.md has the line format.
+//!
+//! A [`Pair`] asks two back ends the same. [`forms`], [`faults`], [`frames`] and [`streams`] make what they are asked,
+//! and a [`Table`] counts what was met.
+
+#![deny(unsafe_code)]
+
+mod codec;
+mod compare;
+pub mod faults;
+pub mod forms;
+pub mod frames;
+pub mod fuzz;
+pub mod measure;
+pub mod met;
+mod notation;
+mod pair;
+mod program;
+pub mod streams;
+mod table;
+mod vectors;
+
+pub use codec::{Codec, Proved, Read, Second, Walk, Write};
+pub use compare::{check, check_firsts, Compared};
+pub use notation::{bits, octets};
+pub use pair::Pair;
+pub use table::{say, Table};
+pub use vectors::{firsts, vectors, Ask, Call, First, Settled, Vector};
+
+/// The endings of document 01 by name, in the order of their numbers; 0 is an accepted call.
+pub const ENDINGS: [&str; 14] = [
+    "ok", "SHORT", "PREFIX", "TOOL", "ROOM", "CASE", "METHOD", "RUN", "PLACE", "ALIGN", "LENGTH", "SET", "LAW", "LONG",
+];
+
+/// The number of an ending that is known here by name.
+pub fn ending(name: &str) -> Option<u32> {
+    ENDINGS.iter().position(|known| *known == name).map(|at| at as u32)
+}

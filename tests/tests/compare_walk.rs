@@ -1,0 +1,257 @@
+//! Walking a stream: the proved code, through the static library, against the second program.
+
+use second::gen::{damage_somehow, Prng};
+use tests::faults;
+use tests::forms::{pad, some_form, LENGTHS};
+use tests::streams::{Stream, FIELDS};
+use tests::{ending, say, Ask, Pair, Proved, Second, Table, Walk, ENDINGS};
+
+/// The octets of the longest stream that a walk takes.
+const MOST: usize = 65_535;
+/// Streams wanted in a cell.
+const WALKED: usize = 1_000;
+/// Turns after which a cell that is still not full is taken to be one that can't be filled.
+const MOST_TURNS: usize = 1_000;
+
+fn ask(given: Vec<u8>, law: u32, room: usize) -> Ask {
+    Ask { given, law, set: 127, room }
+}
+
+/// Walks on both, and holds the answer against the one the stream was made for.
+fn walk_as(pair: &mut Pair, ask: &Ask, wanted: Walk) {
+    let got = pair.walk(ask);
+    if got != wanted {
+        pair.differ("made", ask, &format!("{got:?}, made for {wanted:?}"));
+    }
+}
+
+/// One stream cut, or filled up with pads, to every length from 0 to 65,537.
+#[test]
+fn every_length() {
+    let mut pair = Pair::new(&Proved, &Second);
+    let stream = Stream::plain(MOST, 1, &mut Prng::new(21));
+    let mut whole = ask(stream.octets.clone(), 1, stream.samples() + 100);
+    whole.given.resize(MOST + 2, 0x00);
+    let mut ends = 0;
+    for length in (0..=MOST + 2).rev() {
+        whole.given.truncate(length);
+        let got = pair.walk(&whole);
+        ends += usize::from(got.ending == 0);
+        let long = length > MOST;
+        if long != (got.ending == ending("LONG").unwrap()) || got.place > length {
+            pair.differ("made", &whole, &format!("{got:?}"));
+        }
+    }
+    let frames = stream.forms.len();
+    assert_eq!(pair.calls, 65_538);
+    say(&format!(
+        "compared: walk, every length of 0 to 65,537 octets, {frames} frames at most: {} calls, {ends} clean\n",
+        pair.calls
+    ));
+    pair.close();
+}
+
+/// Streams of every sort of frame, of pads, and of both, from short to the longest: all kept.
+#[test]
+fn accepted_streams() {
+    let mut pair = Pair::new(&Proved, &Second);
+    let mut rng = Prng::new(22);
+    let columns = ["up to 100", "up to 2000", "up to 65535"];
+    let mut table = Table::new("streams kept whole, by octets", &["mixed", "padded", "pads"], &columns, WALKED);
+    columns.iter().for_each(|column| table.needs("pads", column, 20));
+    for row in ["mixed", "padded", "pads"] {
+        table.needs(row, columns[2], 20);
+        for (column, most, times) in [(columns[0], 100, WALKED), (columns[1], 2_000, WALKED), (columns[2], MOST, 20)] {
+            for turn in 0..times {
+                let law = turn as u32 % 2;
+                let stream = Stream::of(most / 2 + rng.below(most / 2 + 1), || match row {
+                    "mixed" => some_form(law, &mut rng),
+                    "padded" if rng.flip() => some_form(law, &mut rng),
+                    _ => pad(),
+                });
+                let (octets, frames) = (stream.octets.len(), stream.forms.len());
+                let samples = stream.samples();
+                let wanted = Walk { ending: 0, tool: 0, frames, octets, samples, place: octets };
+                walk_as(&mut pair, &ask(stream.octets, law, samples + rng.below(3)), wanted);
+                if pair.output() != stream.forms.iter().flat_map(|form| form.samples.clone()).collect::<Vec<_>>() {
+                    let said = ask(vec![], law, samples);
+                    pair.differ("made", &said, "the samples are not those it was made of");
+                }
+                table.add(row, column);
+            }
+        }
+    }
+    table.close();
+    pair.close();
+}
+
+/// A bit turned in every kind of place, of some frame of a stream; and what becomes of the rest.
+#[test]
+fn damaged_streams() {
+    let mut pair = Pair::new(&Proved, &Second);
+    let mut rng = Prng::new(23);
+    let columns = ["kept whole", "refused"];
+    let mut table = Table::new("streams with one bit turned, by place", &FIELDS, &columns, WALKED);
+    // No bit of these can be refused: any value of theirs is a sample.
+    ["samples", "constant", "binary"].iter().for_each(|field| table.never(field, "refused"));
+    // A filling bit that is not 0 is always refused.
+    table.never("filling", "kept whole");
+    // After these most frames don't end where the next one starts.
+    ["code of S", "zeros", "method", "count"].iter().for_each(|field| table.needs(field, "kept whole", 10));
+    for _ in 0..MOST_TURNS {
+        if table.faults().is_empty() {
+            break;
+        }
+        for turn in 0..20 {
+            let law = turn % 2;
+            let most = 60 + rng.below(800);
+            let stream = Stream::mixed(most, law, &mut rng);
+            for field in FIELDS {
+                for _ in 0..4 {
+                    let Some(octets) = stream.turned(field, &mut rng) else { continue };
+                    let got = pair.walk(&ask(octets, law, stream.samples() + 640));
+                    table.add(field, columns[usize::from(got.ending != 0)]);
+                }
+            }
+        }
+    }
+    table.close();
+    pair.close();
+}
+
+/// Every refusal at a first frame and at a later one; the frames before it are kept.
+#[test]
+fn refused_streams() {
+    let mut pair = Pair::new(&Proved, &Second);
+    let mut rng = Prng::new(24);
+    let columns = ["first frame", "later frame"];
+    let mut table = Table::new("walks refused, by frame", &REFUSALS, &columns, WALKED);
+    for turn in 0..20 * MOST_TURNS * REFUSALS.len() {
+        if turn % 1_800 == 0 && table.faults().is_empty() {
+            break;
+        }
+        let (law, name) = (turn as u32 % 2, REFUSALS[turn / 2 % REFUSALS.len()]);
+        let most = if rng.flip() { 0 } else { 1 + rng.below(1_500) };
+        let good = Stream::mixed(most, law, &mut rng);
+        let Some(bad) = refused_octets(name, law, &mut rng) else { continue };
+        let mut room = good.samples() + 700;
+        if name == "ROOM" {
+            room = good.samples() + rng.below(40);
+        }
+        let got = pair.walk(&ask([&good.octets[..], &bad].concat(), law, room));
+        let kept = (got.frames, got.octets, got.place, got.samples);
+        let made = (good.forms.len(), good.octets.len(), good.octets.len(), good.samples());
+        if got.ending != ending(name).unwrap() || kept != made {
+            pair.differ("made", &ask(bad, law, room), &format!("{got:?}, made for {name} after {made:?}"));
+        }
+        table.add(name, columns[usize::from(got.frames > 0)]);
+    }
+    table.close();
+    pair.close();
+}
+
+/// What refuses a frame of a walk.
+const REFUSALS: [&str; 9] = ["SHORT", "PREFIX", "TOOL", "ROOM", "CASE", "METHOD", "RUN", "PLACE", "ALIGN"];
+
+/// A frame with this refusal, to stand at a stream's end, if the numbers drawn allow one.
+fn refused_octets(name: &str, law: u32, rng: &mut Prng) -> Option<Vec<u8>> {
+    match name {
+        "PREFIX" => Some(vec![*rng.pick(&[0x01, 0x46, 0x85, 0xC7, 0x8A]), rng.octet()]),
+        "TOOL" => Some(vec![*rng.pick(&[0x02, 0x1F, 0x45, 0x48, 0x60, 0xC8, 0xFF, 0x50, 0x91]), rng.octet()]),
+        "SHORT" => {
+            let mut octets = some_form(law, rng).octets();
+            octets.pop();
+            (!octets.is_empty()).then_some(octets)
+        }
+        "ROOM" => Some(vec![*rng.pick(&[0x41, 0x40, 0x86, 0x31, 0x56]), 0x0F]),
+        _ => {
+            let faults: Vec<_> = faults::all().into_iter().filter(|fault| fault.refusal() == name).collect();
+            let (fault, length) = (*rng.pick(&faults), *rng.pick(&LENGTHS));
+            let made = fault.possible(length).then(|| fault.make(length, rng)).flatten()?;
+            Some(made.octets)
+        }
+    }
+}
+
+/// Rooms that end at every octet of a stream's samples: the frames that fit are kept.
+#[test]
+fn every_room() {
+    let mut pair = Pair::new(&Proved, &Second);
+    let mut rng = Prng::new(25);
+    let mut room_ends = 0;
+    for turn in 0..12 {
+        let law = turn % 2;
+        let stream = Stream::mixed(900, law, &mut rng);
+        for room in 0..stream.samples() + 3 {
+            let got = pair.walk(&ask(stream.octets.clone(), law, room));
+            room_ends += usize::from(got.ending == ending("ROOM").unwrap());
+            let fits = got.samples <= room && (got.ending == 0) == (room >= stream.samples());
+            if !fits {
+                pair.differ("made", &ask(stream.octets.clone(), law, room), &format!("{got:?}"));
+            }
+        }
+    }
+    assert!(room_ends >= WALKED, "{room_ends} walks ended for room");
+    say(&format!("compared: walk, every room: {} calls, {room_ends} ended for room\n", pair.calls));
+    pair.close();
+}
+
+/// LAW, SET and LONG refuse before any frame, in that order; every set from 0 to 127 is taken.
+#[test]
+fn refused_before_any_frame() {
+    let mut pair = Pair::new(&Proved, &Second);
+    let mut rng = Prng::new(26);
+    let mut table = Table::new("walks refused before any frame", &["LAW", "SET", "LONG"], &["calls"], WALKED);
+    let long = Stream::mixed(MOST, 1, &mut rng).octets;
+    for turn in 0..WALKED {
+        let most = rng.below(600);
+        let good = ask(Stream::mixed(most, 1, &mut rng).octets, 1, 3_000);
+        let mut too_long = long.clone();
+        too_long.resize(MOST + 1 + rng.below(3), 0x41);
+        let refused =
+            |name: &str| Walk { ending: ending(name).unwrap(), tool: 0, frames: 0, octets: 0, samples: 0, place: 0 };
+        let given = if turn % 8 == 0 { too_long.clone() } else { good.given.clone() };
+        let set = *rng.pick(&[127, 128, u32::MAX]);
+        let law = *rng.pick(&[2, 3, 0x8000_0000, u32::MAX]);
+        walk_as(&mut pair, &Ask { given: given.clone(), law, set, room: 3_000 }, refused("LAW"));
+        table.add("LAW", "calls");
+        let set = *rng.pick(&[128, 255, 0x8000_0000, u32::MAX]);
+        walk_as(&mut pair, &Ask { given, law: 1, set, room: 3_000 }, refused("SET"));
+        table.add("SET", "calls");
+        walk_as(&mut pair, &Ask { given: too_long, law: 0, set: turn as u32 % 128, room: 40 }, refused("LONG"));
+        table.add("LONG", "calls");
+        for law in [0, 1] {
+            pair.walk(&Ask { set: turn as u32 % 128, law, ..good.clone() });
+        }
+    }
+    table.close();
+    pair.close();
+}
+
+/// Streams of no known answer: damaged in every way, and octets drawn at random.
+#[test]
+fn damaged_somehow_and_random() {
+    let mut pair = Pair::new(&Proved, &Second);
+    let mut rng = Prng::new(27);
+    let mut endings = [0; 14];
+    for turn in 0..40_000 {
+        let law = turn % 2;
+        let most = 1 + rng.below(if turn % 100 == 0 { 60_000 } else { 900 });
+        let mut given = match turn % 5 {
+            0 => rng.octets(most),
+            _ => Stream::mixed(most, law, &mut rng).octets,
+        };
+        for _ in 0..1 + rng.below(3) {
+            if !given.is_empty() {
+                given = damage_somehow(&given, &mut rng);
+            }
+        }
+        given.truncate(MOST);
+        let room = *rng.pick(&[0, 300, 5_000, 5_000, 5_000]);
+        let got = pair.walk(&ask(given, law, room));
+        endings[got.ending as usize] += 1;
+    }
+    let counts: Vec<String> = (0..10).map(|n| format!("{} {}", ENDINGS[n], endings[n])).collect();
+    say(&format!("compared: walk, damaged and random streams: {} calls ({})\n", pair.calls, counts.join(", ")));
+    pair.close();
+}

@@ -1,0 +1,178 @@
+//! G.711.0 frames of the seven carried tools, read, written and walked by the proved code of libg7110.a.
+//!
+//! include/g7110.h is the manual; the names here are its names. No call uses the heap.
+
+#![deny(unsafe_code)]
+
+pub mod raw;
+
+use std::fmt;
+
+/// The law of the samples. It is not in the octets.
+#[derive(Clone, Copy, Debug, PartialEq, Eq)]
+pub enum Law {
+    A,
+    Mu,
+}
+
+impl Law {
+    fn number(self) -> u32 {
+        match self {
+            Law::A => 0,
+            Law::Mu => 1,
+        }
+    }
+}
+
+/// Every carried tool. Tool t, 1 to 7, adds 2^(t-1) to a set; a writer's set is odd.
+pub const ALL_TOOLS: u32 = 127;
+/// Samples of the longest frame.
+pub const MAX_SAMPLES: usize = 320;
+/// Octets of the longest written frame.
+pub const MAX_WRITTEN: usize = 321;
+/// Octets of the longest accepted frame.
+pub const MAX_FRAME: usize = 402;
+/// Octets of the longest stream that a walk takes.
+pub const MAX_STREAM: usize = 65_535;
+
+/// Why a call was refused.
+#[derive(Clone, Copy, Debug, PartialEq, Eq)]
+pub enum Refusal {
+    Short,
+    Prefix,
+    /// The tool that is not carried, or not in the set.
+    Tool(u32),
+    Room,
+    Case,
+    Method,
+    Run,
+    Place,
+    Align,
+    Length,
+    Set,
+    Law,
+    Long,
+}
+
+impl Refusal {
+    /// The refusal of an ending that is not 0.
+    fn of(ending: u32, tool: u64) -> Refusal {
+        match ending {
+            1 => Refusal::Short,
+            2 => Refusal::Prefix,
+            3 => Refusal::Tool(tool as u32),
+            4 => Refusal::Room,
+            5 => Refusal::Case,
+            6 => Refusal::Method,
+            7 => Refusal::Run,
+            8 => Refusal::Place,
+            9 => Refusal::Align,
+            10 => Refusal::Length,
+            11 => Refusal::Set,
+            12 => Refusal::Law,
+            13 => Refusal::Long,
+            _ => unreachable!("the header has no ending {ending}"),
+        }
+    }
+
+    /// The number in the header.
+    pub fn number(self) -> u32 {
+        match self {
+            Refusal::Short => 1,
+            Refusal::Prefix => 2,
+            Refusal::Tool(_) => 3,
+            Refusal::Room => 4,
+            Refusal::Case => 5,
+            Refusal::Method => 6,
+            Refusal::Run => 7,
+            Refusal::Place => 8,
+            Refusal::Align => 9,
+            Refusal::Length => 10,
+            Refusal::Set => 11,
+            Refusal::Law => 12,
+            Refusal::Long => 13,
+        }
+    }
+}
+
+impl fmt::Display for Refusal {
+    fn fmt(&self, f: &mut fmt::Formatter) -> fmt::Result {
+        f.write_str(match self {
+            Refusal::Tool(tool) => return write!(f, "tool {tool} is not carried, or not in the set"),
+            Refusal::Short => "the octets end before the frame does",
+            Refusal::Prefix => "the first octet is not assigned",
+            Refusal::Room => "the output has too little room",
+            Refusal::Case => "the range case or its flag is not allowed",
+            Refusal::Method => "there is no method 110",
+            Refusal::Run => "a run is longer than the places left",
+            Refusal::Place => "a listed place is too great or does not rise, or no place is left for zero",
+            Refusal::Align => "a filling bit is not 0",
+            Refusal::Length => "a frame has 0, 40, 80, 160, 240 or 320 samples",
+            Refusal::Set => "the tool set is above 127, or even for a writer",
+            Refusal::Law => "the law is above 1",
+            Refusal::Long => "the stream has more than 65,535 octets",
+        })
+    }
+}
+
+impl std::error::Error for Refusal {}
+
+/// A frame that was read; its samples stand at the start of the output.
+#[derive(Clone, Copy, Debug, PartialEq, Eq)]
+pub struct Read {
+    pub samples: usize,
+    pub octets: usize,
+    pub bits: usize,
+    pub tool: u32,
+}
+
+/// A frame that was written; its octets stand at the start of the output.
+#[derive(Clone, Copy, Debug, PartialEq, Eq)]
+pub struct Written {
+    pub octets: usize,
+    pub bits: usize,
+    pub tool: u32,
+}
+
+/// The frames that a walk kept; their samples stand at the start of the output.
+#[derive(Clone, Copy, Debug, PartialEq, Eq)]
+pub struct Walk {
+    pub frames: usize,
+    /// Octets of the frames kept, and so the place of the frame that was refused.
+    pub octets: usize,
+    pub samples: usize,
+    /// What ended the walk before the stream's end.
+    pub refused: Option<Refusal>,
+}
+
+/// Reads one frame at the start of the octets. What is refused leaves the output as it was.
+pub fn read(octets: &[u8], law: Law, set: u32, out: &mut [u8]) -> Result<Read, Refusal> {
+    let mut report = [0; 4];
+    let ending = raw::read(octets, law.number(), set, out, &mut report);
+    let [samples, octets, bits, tool] = report;
+    match ending {
+        0 => Ok(Read { samples: samples as usize, octets: octets as usize, bits: bits as usize, tool: tool as u32 }),
+        _ => Err(Refusal::of(ending, tool)),
+    }
+}
+
+/// Writes one frame in the chosen form: of the set's tools that apply, the fewest octets.
+#[cfg(feature = "writer")]
+pub fn write(samples: &[u8], law: Law, set: u32, out: &mut [u8]) -> Result<Written, Refusal> {
+    let mut report = [0; 3];
+    let ending = raw::write(samples, law.number(), set, out, &mut report);
+    let [octets, bits, tool] = report;
+    match ending {
+        0 => Ok(Written { octets: octets as usize, bits: bits as usize, tool: tool as u32 }),
+        _ => Err(Refusal::of(ending, tool)),
+    }
+}
+
+/// Walks a stream, frame after frame, to its end or to a frame that is refused.
+pub fn walk(octets: &[u8], law: Law, set: u32, out: &mut [u8]) -> Walk {
+    let mut report = [0; 4];
+    let ending = raw::walk(octets, law.number(), set, out, &mut report);
+    let [frames, octets, samples, tool] = report;
+    let refused = (ending != 0).then(|| Refusal::of(ending, tool));
+    Walk { frames: frames as usize, octets: octets as usize, samples: samples as usize, refused }
+}

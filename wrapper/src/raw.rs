@@ -1,0 +1,55 @@
+//! The three functions of include/g7110.h as they are: a number comes back, and a report that is written in every case.
+//! This is the only file with unsafe code. A slice brings a pointer that is good for its length, and two slices, one
+//! of them mutable, don't overlap: that is all that the header asks.
+
+#![allow(unsafe_code)]
+
+extern "C" {
+    fn g7110_read(
+        octets: *const u8,
+        octets_len: usize,
+        law: u32,
+        set: u32,
+        out: *mut u8,
+        out_len: usize,
+        report: *mut [u64; 4],
+    ) -> u32;
+    #[cfg(feature = "writer")]
+    fn g7110_write(
+        samples: *const u8,
+        samples_len: usize,
+        law: u32,
+        set: u32,
+        out: *mut u8,
+        out_len: usize,
+        report: *mut [u64; 3],
+    ) -> u32;
+    fn g7110_walk(
+        octets: *const u8,
+        octets_len: usize,
+        law: u32,
+        set: u32,
+        out: *mut u8,
+        out_len: usize,
+        report: *mut [u64; 4],
+    ) -> u32;
+}
+
+/// The ending; the report is samples, octets, bits and tool.
+pub fn read(octets: &[u8], law: u32, set: u32, out: &mut [u8], report: &mut [u64; 4]) -> u32 {
+    // SAFETY: both slices and the report are live for the call, and the borrows keep them apart.
+    unsafe { g7110_read(octets.as_ptr(), octets.len(), law, set, out.as_mut_ptr(), out.len(), report) }
+}
+
+/// The ending; the report is octets, bits and tool.
+#[cfg(feature = "writer")]
+pub fn write(samples: &[u8], law: u32, set: u32, out: &mut [u8], report: &mut [u64; 3]) -> u32 {
+    // SAFETY: as in `read`.
+    unsafe { g7110_write(samples.as_ptr(), samples.len(), law, set, out.as_mut_ptr(), out.len(), report) }
+}
+
+/// The ending; the report is frames, octets, samples and tool.
+pub fn walk(octets: &[u8], law: u32, set: u32, out: &mut [u8], report: &mut [u64; 4]) -> u32 {
+    // SAFETY: as in `read`.
+    unsafe { g7110_walk(octets.as_ptr(), octets.len(), law, set, out.as_mut_ptr(), out.len(), report) }
+}

@@ -1,0 +1,105 @@
+//! The calls, as a program in Rust makes them. What they answer on all else is in tests/.
+
+#![cfg(feature = "writer")]
+
+use g7110::{read, walk, write, Law, Read, Refusal, Walk, Written, ALL_TOOLS, MAX_SAMPLES, MAX_WRITTEN};
+
+const PLUS: u8 = 0xFF;
+const MINUS: u8 = 0x7F;
+
+/// The header's example.
+#[test]
+fn kept_and_got_back() {
+    let samples: Vec<u8> = (0..160).map(|at| [PLUS, MINUS, 0xFE][at % 29 % 3]).collect();
+    let mut kept = [0; MAX_WRITTEN];
+    let mut sound = [0; MAX_SAMPLES];
+    let wrote = write(&samples, Law::Mu, ALL_TOOLS, &mut kept).unwrap();
+    let got = read(&kept[..wrote.octets], Law::Mu, ALL_TOOLS, &mut sound).unwrap();
+    assert_eq!(got, Read { samples: 160, octets: wrote.octets, bits: wrote.bits, tool: wrote.tool });
+    assert_eq!(sound[..160], samples);
+    assert_eq!(sound[160..], [0; 160]);
+}
+
+#[test]
+fn one_minus_zero_at_the_end() {
+    let mut samples = [PLUS; 40];
+    samples[39] = MINUS;
+    let mut out = [0xA7; 4];
+    assert_eq!(write(&samples, Law::Mu, ALL_TOOLS, &mut out), Ok(Written { octets: 2, bits: 16, tool: 6 }));
+    assert_eq!(out, [0x56, 0x0F, 0xA7, 0xA7]);
+}
+
+#[test]
+fn the_law_decides_the_samples() {
+    let mut out = [0; 40];
+    read(&[0x41], Law::A, ALL_TOOLS, &mut out).unwrap();
+    assert_eq!(out, [0xD5; 40]);
+    read(&[0x41], Law::Mu, ALL_TOOLS, &mut out).unwrap();
+    assert_eq!(out, [PLUS; 40]);
+}
+
+#[test]
+fn a_walk_keeps_what_stands_before_a_refusal() {
+    let stream = [0x41, 0x00, 0x56, 0x0F, 0x86];
+    let mut out = [0xA7; 160];
+    let kept = Walk { frames: 3, octets: 4, samples: 80, refused: Some(Refusal::Short) };
+    assert_eq!(walk(&stream, Law::Mu, ALL_TOOLS, &mut out), kept);
+    assert_eq!(out[..79], [PLUS; 79]);
+    assert_eq!(out[79], MINUS);
+    assert_eq!(out[80..], [0xA7; 80]);
+}
+
+#[test]
+fn nothing_is_lent() {
+    assert_eq!(read(&[], Law::A, ALL_TOOLS, &mut []), Err(Refusal::Short));
+    assert_eq!(read(&[0x00], Law::A, ALL_TOOLS, &mut []), Ok(Read { samples: 0, octets: 1, bits: 8, tool: 0 }));
+    assert_eq!(write(&[], Law::A, ALL_TOOLS, &mut []), Err(Refusal::Room));
+    assert_eq!(walk(&[], Law::A, 0, &mut []), Walk { frames: 0, octets: 0, samples: 0, refused: None });
+}
+
+#[test]
+fn every_refusal_has_its_number() {
+    let mut out = [0xA7; 320];
+    let reads: [(&[u8], u32, Refusal); 10] = [
+        (&[0x28], 127, Refusal::Short),
+        (&[0x46], 127, Refusal::Prefix),
+        (&[0x28, 0x00], 127, Refusal::Tool(8)),
+        (&[0x41], 0, Refusal::Tool(2)),
+        (&[0x86, 0xDC], 127, Refusal::Case),
+        (&[0x86, 0xF8], 127, Refusal::Method),
+        (&[0x57, 0x19], 127, Refusal::Run),
+        (&[0x86, 0xFC, 0xFE], 127, Refusal::Place),
+        (&[0x86, 0xFC, 0x01], 127, Refusal::Align),
+        (&[0x41], 128, Refusal::Set),
+    ];
+    for (octets, set, refusal) in reads {
+        assert_eq!(read(octets, Law::Mu, set, &mut out), Err(refusal));
+    }
+    assert_eq!(read(&[0x31], Law::Mu, 127, &mut out[..319]), Err(Refusal::Room));
+    assert_eq!(write(&[PLUS; 41], Law::Mu, 127, &mut out), Err(Refusal::Length));
+    assert_eq!(write(&[PLUS; 40], Law::Mu, 126, &mut out), Err(Refusal::Set));
+    assert_eq!(walk(&vec![0; 65_536], Law::Mu, 127, &mut out).refused, Some(Refusal::Long));
+    let mut report = [9; 4];
+    assert_eq!(g7110::raw::read(&[0x41], 2, 127, &mut out, &mut report), Refusal::Law.number());
+    assert_eq!(report, [0; 4], "a report is written in every case");
+    assert_eq!(out, [0xA7; 320], "a refused call leaves the output as lent");
+}
+
+/// No state is shared: calls from several threads at once answer as one alone does.
+#[test]
+fn from_several_threads() {
+    let threads: Vec<_> = (0..4)
+        .map(|turn| {
+            std::thread::spawn(move || {
+                let samples = [if turn % 2 == 0 { PLUS } else { MINUS }; 320];
+                for _ in 0..2_000 {
+                    let (mut kept, mut sound) = ([0; MAX_WRITTEN], [0; MAX_SAMPLES]);
+                    let wrote = write(&samples, Law::Mu, ALL_TOOLS, &mut kept).unwrap();
+                    read(&kept[..wrote.octets], Law::Mu, ALL_TOOLS, &mut sound).unwrap();
+                    assert_eq!(sound, samples);
+                }
+            })
+        })
+        .collect();
+    threads.into_iter().for_each(|thread| thread.join().unwrap());
+}
