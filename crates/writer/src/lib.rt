@@ -1,8 +1,15 @@
 // Writing one frame: the chosen form alone is put out.
 
+use choice::Placed;
 use choice::Rice;
+use measure::Left;
+use measure::marks;
+use measure::runs_of;
+use measure::width_of;
+use measure::without_value;
 use pen::Pen;
 use pen::put;
+use pen::put_flags;
 use pen::put_runs;
 use prefix::base_of;
 use prefix::octet_for;
@@ -15,7 +22,9 @@ ghost use Rattle.rules.specs.First.{riceCode};
 ghost use Rattle.rules.specs.Runs.{riceForms};
 ghost use Rattle.rules.specs.Zeros as zeros;
 ghost use Rattle.pen.specs.Puts.{Able, Puts};
-ghost use Rattle.writer.specs.Forms.{CodeIs, RiceReady, riceFormOf, placeForm, placesForm};
+ghost use Rattle.writer.specs.Forms.{CodeIs, RiceReady, riceFormOf, placeForm, placesForm, ValuesReady, valuesFormOf};
+ghost use Rattle.rules.specs.Chooses.{methodOf, valueForm};
+ghost use Rattle.choice.specs.Ways.{Counted};
 
 // A code: so many bits, and their number.
 pub struct Code {
@@ -173,6 +182,61 @@ fn put_places(out: &mut [u8], p: Pen, flags: &[u8; 320], d: usize, w: usize) -> 
     while i < d {
         q = put_place(out, q, flags[i], i as u64, w);
         i += 1;
+    }
+    q
+}
+
+fn sized(x: u8) -> usize
+    ensures { λ r. ⌜ r ≡ x ⌝ }
+{
+    x as usize
+}
+
+// A value's places by its method.
+fn put_value(out: &mut [u8], p: Pen, flags: &[u8; 320], d: usize, count: usize, method: u8) -> Pen
+    requires { ⌜ method ≡ methodOf (take d (now flags)) ⌝ }
+    requires { ⌜ Counted (now flags) d count ⌝ }
+    requires { ⌜ Able (now out) p (length (valueForm (take d (now flags)))) ⌝ }
+    ensures { λ r. ⌜ Puts (now (out .entry)) p (valueForm (take d (now (flags .entry)))) (now (out .exit)) r ⌝ }
+{
+    if method == 5 {
+        return put(out, p, 3, 5);
+    }
+    if method == 0 {
+        let q = put(out, p, 3, 0);
+        return put_flags(out, q, flags, d);
+    }
+    if method <= 4 {
+        let q = put(out, p, 3, wide(method));
+        let found = runs_of(flags, d);
+        let runs = found.runs;
+        return put_runs(out, q, sized(method), &runs, found.count);
+    }
+    let q = put(out, p, 5, 28 + count as u64 - 1);
+    put_places(out, q, flags, d, width_of(d))
+}
+
+// "D is N for the first value, then the places still empty": the values one after the other.
+fn put_values(out: &mut [u8], p: Pen, frame: Left, placed: Placed) -> Pen
+    requires { ⌜ ValuesReady frame placed ⌝ }
+    requires { ⌜ Able (now out) p (length (valuesFormOf frame placed)) ⌝ }
+    ensures { λ r. ⌜ Puts (now (out .entry)) p (valuesFormOf frame placed) (now (out .exit)) r ⌝ }
+{
+    let v = placed.values;
+    let values = v.values;
+    let count = v.count;
+    let methods = placed.methods;
+    let mut left = frame;
+    let mut q = p;
+    let mut j = 0;
+    while j < count {
+        let x = values[j];
+        let d = left.len;
+        let cells = left.samples;
+        let flags = marks(&cells, d, x, 1, 0);
+        left = without_value(&cells, d, x);
+        q = put_value(out, q, &flags, d, d - left.len, methods[j]);
+        j += 1;
     }
     q
 }
