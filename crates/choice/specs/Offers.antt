@@ -53,6 +53,7 @@ valuesIn mask s = map (sampleOf mask) (valuesOf (length s) (rowOf mask s) (locat
 
 pub record PlacedIs (mask : ℕ) (s : List ℕ) (r : Placed) : Type 0 where
   pub row : r .row ≡ rowOf mask s
+  pub low : r .row < 4
   pub flag : r .flag ≡ locatedFlag mask s
   pub values : take (r .values .count) (r .values .values) ≡ valuesIn mask s
   pub three : length (r .values .values) ≡ 3

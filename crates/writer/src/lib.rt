@@ -1,30 +1,35 @@
 // Writing one frame: the chosen form alone is put out.
 
 use choice::Placed;
+use choice::Plan;
 use choice::Rice;
+use law::plus_zero;
 use measure::Left;
 use measure::marks;
 use measure::runs_of;
 use measure::width_of;
 use measure::without_value;
 use pen::Pen;
+use pen::finish;
+use pen::fresh;
 use pen::put;
 use pen::put_flags;
 use pen::put_runs;
 use prefix::base_of;
 use prefix::octet_for;
 ghost use mathlib.Core.Path.{_≡_};
-ghost use mathlib.Core.List.{_++_};
+ghost use mathlib.Core.List.{_++_, map};
 ghost use Prim.Native.Nat.{_+_, _*_, _^_, _≤_, _<_};
 ghost use lib.ListN.{length, take};
 ghost use Rattle.rules.specs.Bits.{lowBits, bitsOf};
 ghost use Rattle.rules.specs.First.{riceCode};
 ghost use Rattle.rules.specs.Runs.{riceForms};
 ghost use Rattle.rules.specs.Zeros as zeros;
-ghost use Rattle.pen.specs.Puts.{Able, Puts};
-ghost use Rattle.writer.specs.Forms.{CodeIs, RiceReady, riceFormOf, placeForm, placesForm, ValuesReady, valuesFormOf};
-ghost use Rattle.rules.specs.Chooses.{methodOf, valueForm};
+ghost use Rattle.pen.specs.Puts.{Able, Puts, Packed};
+ghost use Rattle.writer.specs.Forms.{CodeIs, RiceReady, riceFormOf, placeForm, placesForm, ValuesReady, valuesFormOf, placedFormOf, bodyForm, Planned};
+ghost use Rattle.rules.specs.Chooses.{methodOf, valueForm, formOf};
 ghost use Rattle.choice.specs.Ways.{Counted};
+ghost use Rattle.choice.specs.Offers.{cellsOf};
 
 // A code: so many bits, and their number.
 pub struct Code {
@@ -239,4 +244,69 @@ fn put_values(out: &mut [u8], p: Pen, frame: Left, placed: Placed) -> Pen
         j += 1;
     }
     q
+}
+
+// "Row, flag, and the values": the body of value-location.
+fn put_located(out: &mut [u8], p: Pen, frame: Left, placed: Placed) -> Pen
+    requires { ⌜ (placed .row < 4) × (placed .flag < 2) ⌝ }
+    requires { ⌜ ValuesReady frame placed ⌝ }
+    requires { ⌜ Able (now out) p (length (placedFormOf frame placed)) ⌝ }
+    ensures { λ r. ⌜ Puts (now (out .entry)) p (placedFormOf frame placed) (now (out .exit)) r ⌝ }
+{
+    let q = put(out, p, 3, placed.row as u64 * 2 + placed.flag as u64);
+    put_values(out, q, frame, placed)
+}
+
+// "Binary: N bits, 1 is minus zero."
+fn put_binary(out: &mut [u8], p: Pen, samples: &[u8; 320], n: usize, mask: u8) -> Pen
+    requires { ⌜ (n ≤ 320) × ((n ≤ length (now samples)) × (mask < 128)) ⌝ }
+    requires { ⌜ Able (now out) p n ⌝ }
+    ensures { λ r. ⌜ Puts (now (out .entry)) p (map (zeros.flagOf mask 0) (take n (now (samples .entry)))) (now (out .exit)) r ⌝ }
+{
+    let flags = marks(samples, n, plus_zero(mask), 0, 1);
+    put_flags(out, p, &flags, n)
+}
+
+// What follows the first octet; tool 6 has none.
+fn put_body(out: &mut [u8], p: Pen, frame: Left, mask: u8, plan: Plan) -> Pen
+    requires { ⌜ (Planned mask frame plan) × (plan .tool ≡ 6 → ⊥) ⌝ }
+    requires { ⌜ Able (now out) p (length (bodyForm frame mask plan)) ⌝ }
+    ensures { λ r. ⌜ Puts (now (out .entry)) p (bodyForm frame mask plan) (now (out .exit)) r ⌝ }
+{
+    let tool = plan.tool;
+    let n = frame.len;
+    let samples = frame.samples;
+    if tool == 1 {
+        return put_samples(out, p, &samples, n);
+    }
+    if tool <= 3 {
+        return p;
+    }
+    if tool == 4 {
+        return put(out, p, 8, wide(samples[0]));
+    }
+    if tool == 5 {
+        return put_binary(out, p, &samples, n, mask);
+    }
+    let placed = plan.placed;
+    put_located(out, p, frame, placed)
+}
+
+// The planned form of a frame, as octets. Their number comes back.
+fn put_form(out: &mut [u8], frame: Left, mask: u8, plan: Plan) -> usize
+    requires { ⌜ Planned mask frame plan ⌝ }
+    requires { ⌜ length (formOf mask (plan .tool) (cellsOf frame)) ≤ 8 * length (now out) ⌝ }
+    ensures { λ r. ⌜ Packed (formOf mask (plan .tool) (cellsOf frame)) (now (out .entry)) (now (out .exit)) r ⌝ }
+{
+    let p = fresh();
+    let tool = plan.tool;
+    let n = frame.len;
+    if tool == 6 {
+        let rice = plan.rice;
+        let q = put_plus_minus(out, p, rice, n);
+        return finish(out, q);
+    }
+    let q = put_prefix(out, p, tool, n);
+    let r = put_body(out, q, frame, mask, plan);
+    finish(out, r)
 }
