@@ -3,6 +3,8 @@
 use choice::Placed;
 use choice::Plan;
 use choice::Rice;
+use choice::plan_of;
+use law::mask_of;
 use law::plus_zero;
 use measure::Left;
 use measure::marks;
@@ -17,6 +19,10 @@ use pen::put_flags;
 use pen::put_runs;
 use prefix::base_of;
 use prefix::octet_for;
+use rules::Ending;
+use rules::Frame;
+use rules::Refusal;
+use rules::WriteAnswer;
 ghost use mathlib.Core.Path.{_≡_};
 ghost use mathlib.Core.List.{_++_, map};
 ghost use Prim.Native.Nat.{_+_, _*_, _^_, _≤_, _<_};
@@ -27,7 +33,11 @@ ghost use Rattle.rules.specs.Runs.{riceForms};
 ghost use Rattle.rules.specs.Zeros as zeros;
 ghost use Rattle.pen.specs.Puts.{Able, Puts, Packed};
 ghost use Rattle.writer.specs.Forms.{CodeIs, RiceReady, riceFormOf, placeForm, placesForm, ValuesReady, valuesFormOf, placedFormOf, bodyForm, Planned};
-ghost use Rattle.rules.specs.Chooses.{methodOf, valueForm, formOf};
+ghost use Rattle.rules.specs.Chooses.{methodOf, valueForm, formOf, declined};
+ghost use Rattle.rules.specs.Tools.{isLength};
+ghost use Rattle.rules.specs.Calls.{Writes, WriteFrame};
+ghost use Rattle.choice.specs.Plans.{IsFrame};
+ghost use Rattle.writer.specs.Answers.{Tells, fitting, pad, full};
 ghost use Rattle.choice.specs.Ways.{Counted};
 ghost use Rattle.choice.specs.Offers.{cellsOf};
 
@@ -309,4 +319,88 @@ fn put_form(out: &mut [u8], frame: Left, mask: u8, plan: Plan) -> usize
     let q = put_prefix(out, p, tool, n);
     let r = put_body(out, q, frame, mask, plan);
     finish(out, r)
+}
+
+// A refusal: no octets, no bits, no tool.
+fn refused(why: Refusal) -> WriteAnswer
+    ensures { λ r. ⌜ Tells (declined why) r ⌝ }
+{
+    WriteAnswer {
+        end: Ending::Refused(why),
+        octets: 0,
+        bits: 0,
+        tool: 0,
+    }
+}
+
+// "Zero samples give one octet 00."
+fn write_pad(out: &mut [u8]) -> WriteAnswer
+    ensures { λ r. ⌜ Writes (fitting (length (now (out .entry))) pad) r (now (out .entry)) (now (out .exit)) ⌝ }
+{
+    if out.len() == 0 {
+        return refused(Refusal::Room);
+    }
+    out[0] = 0;
+    WriteAnswer {
+        end: Ending::Done,
+        octets: 1,
+        bits: 8,
+        tool: 0,
+    }
+}
+
+// "ROOM means the chosen form's octets for a writer"; then the chosen form alone is written.
+fn write_chosen(out: &mut [u8], frame: Left, mask: u8, set: u32) -> WriteAnswer
+    requires { ⌜ (IsFrame frame) × (mask < 128) ⌝ }
+    ensures { λ r. ⌜ Writes (fitting (length (now (out .entry))) (full mask set (cellsOf frame))) r (now (out .entry)) (now (out .exit)) ⌝ }
+{
+    let plan = plan_of(frame, mask, set);
+    if out.len() < (plan.bits + 7) / 8 {
+        return refused(Refusal::Room);
+    }
+    let octets = put_form(out, frame, mask, plan);
+    WriteAnswer {
+        end: Ending::Done,
+        octets: octets,
+        bits: plan.bits,
+        tool: plan.tool,
+    }
+}
+
+// The lengths of frames that have samples.
+fn is_length(n: usize) -> bool
+    ensures { λ r. ⌜ r ≡ isLength n ⌝ }
+{
+    match n {
+        40 => true,
+        80 => true,
+        160 => true,
+        240 => true,
+        320 => true,
+        _ => false,
+    }
+}
+
+// Writing one frame: "Order: LAW, SET, then LENGTH", and ROOM last. Samples past the length change nothing.
+pub fn write_frame(frame: Frame, law: u32, set: u32, out: &mut [u8]) -> WriteAnswer
+    ensures { λ r. ⌜ WriteFrame frame law set (now (out .entry)) (now (out .exit)) r ⌝ }
+{
+    if 1 < law {
+        return refused(Refusal::Law);
+    }
+    if 127 < set {
+        return refused(Refusal::Set);
+    }
+    if set % 2 == 0 {
+        return refused(Refusal::Set);
+    }
+    let len = frame.len;
+    if len == 0 {
+        return write_pad(out);
+    }
+    if !is_length(len) {
+        return refused(Refusal::Length);
+    }
+    let samples = frame.samples;
+    write_chosen(out, Left { samples, len }, mask_of(law), set)
 }
