@@ -4,6 +4,7 @@ use mathlib.Core.Path.{_≡_, refl, sym, ap, _∙_}
 use mathlib.Core.List.{List, [], _∷_, _++_, map}
 use mathlib.Core.Bool.{Bool, true, false, cond, _&&_}
 use native.Mathlib.Omega.{arith}
+use borrow.Author.Tests.{ltb-true}
 use lib.ListN.{length, getD, take, length-append}
 use lib.Dec.{eqb, leb, ltb}
 use Rattle.rules.specs.Bits.{lowBits}
@@ -83,6 +84,7 @@ module _ {mask first n : ℕ} {s : List ℕ} {l : Look} (looked : Looked mask fi
           placed = λ h.
               record {
                 row = row-of-frame;
+                low = ltb-true row 4 (row-low t);
                 flag = f;
                 values = vs;
                 three = v .size;

@@ -99,6 +99,7 @@ module _ {mask first n : ℕ} {s : List ℕ} {l : Look} (looked : Looked mask fi
               mark = m;
               best = b;
               to = omega (arith, best .to);
+              most = rw (size, ← top) (best .to);
               from = best .from;
               runs = r;
               bits =

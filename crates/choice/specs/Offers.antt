@@ -8,7 +8,7 @@ use lib.Dec.{eqb, leb}
 use lib.IntN.{ℤ}
 use Rattle.rules.specs.Samples.{sampleOf}
 use Rattle.rules.specs.First.{riceCode}
-use Rattle.rules.specs.Zeros.{codeOf, flagOf}
+use Rattle.rules.specs.Zeros.{codeOf, mostS, flagOf}
 use Rattle.rules.specs.Located.{caseOf, valuesOf}
 use Rattle.rules.specs.Chooses.{rowOf, locatedFlag, locatedForm, applies, markOf, bestS, riceChoice}
 use Rattle.measure.specs.declared.Left.{Left}
@@ -53,6 +53,7 @@ valuesIn mask s = map (sampleOf mask) (valuesOf (length s) (rowOf mask s) (locat
 
 pub record PlacedIs (mask : ℕ) (s : List ℕ) (r : Placed) : Type 0 where
   pub row : r .row ≡ rowOf mask s
+  pub low : r .row < 4
   pub flag : r .flag ≡ locatedFlag mask s
   pub values : take (r .values .count) (r .values .values) ≡ valuesIn mask s
   pub three : length (r .values .values) ≡ 3
@@ -79,6 +80,7 @@ pub record RiceIs (mask : ℕ) (s : List ℕ) (r : Rice) : Type 0 where
   pub mark : r .mark ≡ markOf mask s
   pub best : r .s ≡ bestS mask (markOf mask s) s
   pub to : r .s ≤ 9
+  pub most : r .s ≤ mostS (length s)
   pub from : 1 ≤ r .s
   pub runs : RunsAre (map (flagOf mask (markOf mask s)) s) (r .runs)
   pub bits : r .bits ≡ length (riceChoice mask s)

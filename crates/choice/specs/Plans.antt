@@ -37,5 +37,6 @@ pub record IsFrame (frame : Left) : Type 0 where
 pub record PlanFor (mask set : ℕ) (s : List ℕ) (r : Plan) : Type 0 where
   pub tool : r .tool ≡ chosenTool mask set s
   pub bits : r .bits ≡ length (formOf mask (chosenTool mask set s) s)
+  pub small : r .bits ≤ 1000000000
   pub rice : chosenTool mask set s ≡ 6 → RiceIs mask s (r .rice)
   pub placed : chosenTool mask set s ≡ 7 → PlacedIs mask s (r .placed)

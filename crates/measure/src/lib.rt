@@ -6,7 +6,7 @@ use law::plus_zero;
 use law::sample_of;
 ghost use mathlib.Core.Path.{_≡_};
 ghost use mathlib.Core.Bool.{cond};
-ghost use Prim.Native.Nat.{_+_, _≤_, _<_, min, max};
+ghost use Prim.Native.Nat.{_+_, _^_, _≤_, _<_, min, max};
 ghost use lib.ListN.{length, getD, take};
 ghost use lib.Dec.{eqb, ltb};
 ghost use Rattle.rules.specs.Runs.{riceForms};
@@ -173,7 +173,7 @@ fn octet(x: u8) -> usize
 // ceil(log2 D)
 pub fn width_of(d: usize) -> usize
     requires { ⌜ d ≤ 320 ⌝ }
-    ensures { λ r. ⌜ (r ≡ widthOf d) × (r ≤ 9) ⌝ }
+    ensures { λ r. ⌜ (r ≡ widthOf d) × ((r ≤ 9) × (d ≤ 2 ^ r)) ⌝ }
 {
     let mut w = 0;
     while (1 << w) < d {

@@ -1,2 +1,3 @@
 -- What the writer puts out.
 pub mod Forms
+pub mod Answers

@@ -1,21 +1,45 @@
 // Writing one frame: the chosen form alone is put out.
 
+use choice::Placed;
+use choice::Plan;
 use choice::Rice;
+use choice::plan_of;
+use law::mask_of;
+use law::plus_zero;
+use measure::Left;
+use measure::marks;
+use measure::runs_of;
+use measure::width_of;
+use measure::without_value;
 use pen::Pen;
+use pen::finish;
+use pen::fresh;
 use pen::put;
+use pen::put_flags;
 use pen::put_runs;
 use prefix::base_of;
 use prefix::octet_for;
+use rules::Ending;
+use rules::Frame;
+use rules::Refusal;
+use rules::WriteAnswer;
 ghost use mathlib.Core.Path.{_≡_};
-ghost use mathlib.Core.List.{_++_};
+ghost use mathlib.Core.List.{_++_, map};
 ghost use Prim.Native.Nat.{_+_, _*_, _^_, _≤_, _<_};
 ghost use lib.ListN.{length, take};
 ghost use Rattle.rules.specs.Bits.{lowBits, bitsOf};
 ghost use Rattle.rules.specs.First.{riceCode};
 ghost use Rattle.rules.specs.Runs.{riceForms};
 ghost use Rattle.rules.specs.Zeros as zeros;
-ghost use Rattle.pen.specs.Puts.{Able, Puts};
-ghost use Rattle.writer.specs.Forms.{CodeIs, RiceReady, riceFormOf, placeForm, placesForm};
+ghost use Rattle.pen.specs.Puts.{Able, Puts, Packed};
+ghost use Rattle.writer.specs.Forms.{CodeIs, RiceReady, riceFormOf, placeForm, placesForm, ValuesReady, valuesFormOf, placedFormOf, bodyForm, Planned};
+ghost use Rattle.rules.specs.Chooses.{methodOf, valueForm, formOf, declined};
+ghost use Rattle.rules.specs.Tools.{isLength};
+ghost use Rattle.rules.specs.Calls.{Writes, WriteFrame};
+ghost use Rattle.choice.specs.Plans.{IsFrame};
+ghost use Rattle.writer.specs.Answers.{Tells, fitting, pad, full};
+ghost use Rattle.choice.specs.Ways.{Counted};
+ghost use Rattle.choice.specs.Offers.{cellsOf};
 
 // A code: so many bits, and their number.
 pub struct Code {
@@ -175,4 +199,208 @@ fn put_places(out: &mut [u8], p: Pen, flags: &[u8; 320], d: usize, w: usize) -> 
         i += 1;
     }
     q
+}
+
+fn sized(x: u8) -> usize
+    ensures { λ r. ⌜ r ≡ x ⌝ }
+{
+    x as usize
+}
+
+// A value's places by its method.
+fn put_value(out: &mut [u8], p: Pen, flags: &[u8; 320], d: usize, count: usize, method: u8) -> Pen
+    requires { ⌜ method ≡ methodOf (take d (now flags)) ⌝ }
+    requires { ⌜ Counted (now flags) d count ⌝ }
+    requires { ⌜ Able (now out) p (length (valueForm (take d (now flags)))) ⌝ }
+    ensures { λ r. ⌜ Puts (now (out .entry)) p (valueForm (take d (now (flags .entry)))) (now (out .exit)) r ⌝ }
+{
+    if method == 5 {
+        return put(out, p, 3, 5);
+    }
+    if method == 0 {
+        let q = put(out, p, 3, 0);
+        return put_flags(out, q, flags, d);
+    }
+    if method <= 4 {
+        let q = put(out, p, 3, wide(method));
+        let found = runs_of(flags, d);
+        let runs = found.runs;
+        return put_runs(out, q, sized(method), &runs, found.count);
+    }
+    let q = put(out, p, 5, 28 + count as u64 - 1);
+    put_places(out, q, flags, d, width_of(d))
+}
+
+// "D is N for the first value, then the places still empty": the values one after the other.
+fn put_values(out: &mut [u8], p: Pen, frame: Left, placed: Placed) -> Pen
+    requires { ⌜ ValuesReady frame placed ⌝ }
+    requires { ⌜ Able (now out) p (length (valuesFormOf frame placed)) ⌝ }
+    ensures { λ r. ⌜ Puts (now (out .entry)) p (valuesFormOf frame placed) (now (out .exit)) r ⌝ }
+{
+    let v = placed.values;
+    let values = v.values;
+    let count = v.count;
+    let methods = placed.methods;
+    let mut left = frame;
+    let mut q = p;
+    let mut j = 0;
+    while j < count {
+        let x = values[j];
+        let d = left.len;
+        let cells = left.samples;
+        let flags = marks(&cells, d, x, 1, 0);
+        left = without_value(&cells, d, x);
+        q = put_value(out, q, &flags, d, d - left.len, methods[j]);
+        j += 1;
+    }
+    q
+}
+
+// "Row, flag, and the values": the body of value-location.
+fn put_located(out: &mut [u8], p: Pen, frame: Left, placed: Placed) -> Pen
+    requires { ⌜ (placed .row < 4) × (placed .flag < 2) ⌝ }
+    requires { ⌜ ValuesReady frame placed ⌝ }
+    requires { ⌜ Able (now out) p (length (placedFormOf frame placed)) ⌝ }
+    ensures { λ r. ⌜ Puts (now (out .entry)) p (placedFormOf frame placed) (now (out .exit)) r ⌝ }
+{
+    let q = put(out, p, 3, placed.row as u64 * 2 + placed.flag as u64);
+    put_values(out, q, frame, placed)
+}
+
+// "Binary: N bits, 1 is minus zero."
+fn put_binary(out: &mut [u8], p: Pen, samples: &[u8; 320], n: usize, mask: u8) -> Pen
+    requires { ⌜ (n ≤ 320) × ((n ≤ length (now samples)) × (mask < 128)) ⌝ }
+    requires { ⌜ Able (now out) p n ⌝ }
+    ensures { λ r. ⌜ Puts (now (out .entry)) p (map (zeros.flagOf mask 0) (take n (now (samples .entry)))) (now (out .exit)) r ⌝ }
+{
+    let flags = marks(samples, n, plus_zero(mask), 0, 1);
+    put_flags(out, p, &flags, n)
+}
+
+// What follows the first octet; tool 6 has none.
+fn put_body(out: &mut [u8], p: Pen, frame: Left, mask: u8, plan: Plan) -> Pen
+    requires { ⌜ (Planned mask frame plan) × (plan .tool ≡ 6 → ⊥) ⌝ }
+    requires { ⌜ Able (now out) p (length (bodyForm frame mask plan)) ⌝ }
+    ensures { λ r. ⌜ Puts (now (out .entry)) p (bodyForm frame mask plan) (now (out .exit)) r ⌝ }
+{
+    let tool = plan.tool;
+    let n = frame.len;
+    let samples = frame.samples;
+    if tool == 1 {
+        return put_samples(out, p, &samples, n);
+    }
+    if tool <= 3 {
+        return p;
+    }
+    if tool == 4 {
+        return put(out, p, 8, wide(samples[0]));
+    }
+    if tool == 5 {
+        return put_binary(out, p, &samples, n, mask);
+    }
+    let placed = plan.placed;
+    put_located(out, p, frame, placed)
+}
+
+// The planned form of a frame, as octets. Their number comes back.
+fn put_form(out: &mut [u8], frame: Left, mask: u8, plan: Plan) -> usize
+    requires { ⌜ Planned mask frame plan ⌝ }
+    requires { ⌜ length (formOf mask (plan .tool) (cellsOf frame)) ≤ 8 * length (now out) ⌝ }
+    ensures { λ r. ⌜ Packed (formOf mask (plan .tool) (cellsOf frame)) (now (out .entry)) (now (out .exit)) r ⌝ }
+{
+    let p = fresh();
+    let tool = plan.tool;
+    let n = frame.len;
+    if tool == 6 {
+        let rice = plan.rice;
+        let q = put_plus_minus(out, p, rice, n);
+        return finish(out, q);
+    }
+    let q = put_prefix(out, p, tool, n);
+    let r = put_body(out, q, frame, mask, plan);
+    finish(out, r)
+}
+
+// A refusal: no octets, no bits, no tool.
+fn refused(why: Refusal) -> WriteAnswer
+    ensures { λ r. ⌜ Tells (declined why) r ⌝ }
+{
+    WriteAnswer {
+        end: Ending::Refused(why),
+        octets: 0,
+        bits: 0,
+        tool: 0,
+    }
+}
+
+// "Zero samples give one octet 00."
+fn write_pad(out: &mut [u8]) -> WriteAnswer
+    ensures { λ r. ⌜ Writes (fitting (length (now (out .entry))) pad) r (now (out .entry)) (now (out .exit)) ⌝ }
+{
+    if out.len() == 0 {
+        return refused(Refusal::Room);
+    }
+    out[0] = 0;
+    WriteAnswer {
+        end: Ending::Done,
+        octets: 1,
+        bits: 8,
+        tool: 0,
+    }
+}
+
+// "ROOM means the chosen form's octets for a writer"; then the chosen form alone is written.
+fn write_chosen(out: &mut [u8], frame: Left, mask: u8, set: u32) -> WriteAnswer
+    requires { ⌜ (IsFrame frame) × (mask < 128) ⌝ }
+    ensures { λ r. ⌜ Writes (fitting (length (now (out .entry))) (full mask set (cellsOf frame))) r (now (out .entry)) (now (out .exit)) ⌝ }
+{
+    let plan = plan_of(frame, mask, set);
+    if out.len() < (plan.bits + 7) / 8 {
+        return refused(Refusal::Room);
+    }
+    let octets = put_form(out, frame, mask, plan);
+    WriteAnswer {
+        end: Ending::Done,
+        octets: octets,
+        bits: plan.bits,
+        tool: plan.tool,
+    }
+}
+
+// The lengths of frames that have samples.
+fn is_length(n: usize) -> bool
+    ensures { λ r. ⌜ r ≡ isLength n ⌝ }
+{
+    match n {
+        40 => true,
+        80 => true,
+        160 => true,
+        240 => true,
+        320 => true,
+        _ => false,
+    }
+}
+
+// Writing one frame: "Order: LAW, SET, then LENGTH", and ROOM last. Samples past the length change nothing.
+pub fn write_frame(frame: Frame, law: u32, set: u32, out: &mut [u8]) -> WriteAnswer
+    ensures { λ r. ⌜ WriteFrame frame law set (now (out .entry)) (now (out .exit)) r ⌝ }
+{
+    if 1 < law {
+        return refused(Refusal::Law);
+    }
+    if 127 < set {
+        return refused(Refusal::Set);
+    }
+    if set % 2 == 0 {
+        return refused(Refusal::Set);
+    }
+    let len = frame.len;
+    if len == 0 {
+        return write_pad(out);
+    }
+    if !is_length(len) {
+        return refused(Refusal::Length);
+    }
+    let samples = frame.samples;
+    write_chosen(out, Left { samples, len }, mask_of(law), set)
 }

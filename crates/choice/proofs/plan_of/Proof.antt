@@ -78,7 +78,7 @@ better-requires-6 c κs = search needs
 
 -- src/lib.rt:379:1
 returns : tie.Need-returns
-returns c = let st = c .before .before .before .before .before .before .before .before .before .before .before .before .before .before in let fr = st .args .frame in let mask = st .args .mask in let set = st .args .set in let s = take (fr .len) (fr .samples) in let n = length-take-le (fr .len) (fr .samples) (omega (arith, st .pre .0 .size, st .pre .0 .few)) in let look = c .before .before .before .before .before .before .before .before .before .before .before .look-at .ensures in let placed = c .before .before .before .before .before .before .before .before .before .before .placed-of .ensures in let rice = c .before .before .before .before .before .before .before .before .before .rice-of .ensures in let first = sym (getD-take (fr .len) (fr .samples) 0 0 (st .pre .0 .some)) in let c₁ = uncompressed-chosen mask s n set (st .pre .0 .few) in let c₇ = choose-step c₁ 7 _ _ (placed .applied) (located-bits placed) (c .before .before .before .before .before .before .before .before .better .ensures) in let c₆ = choose-step c₇ 6 _ _ (rice .applied) (rice-bits rice) (c .before .before .before .before .before .before .before .better2 .ensures) in let c₅ = choose-step c₆ 5 _ _ (rice .applied ∙ sym (rice-applies mask s)) (λ h. binary-bits mask s n) (c .before .before .before .before .before .before .better3 .ensures) in let c₄ = choose-step c₅ 4 _ _ (constant-applies mask s n look first (c .before .before .before .before .before .sized .ensures .0)) (λ h. constant-bits mask s n) (c .before .before .before .before .better4 .ensures) in let c₃ = choose-step c₄ 3 _ _ (minus-applies mask s n look (c .before .before .before .sized2 .ensures .0)) (λ h. minus-bits mask s n) (c .before .before .better5 .ensures) in let c₂ = choose-step c₃ 2 _ _ (plus-applies mask s n look (c .before .sized3 .ensures .0)) (λ h. plus-bits mask s n) (c .better6 .ensures) in record { tool = c₂ .tool; bits = c₂ .bits; rice = λ e. rice .rice (rice .applied ∙ chosen-applies mask set s tieOrder 6 e (λ z. omega arith)); placed = λ e. placed .placed (placed .applied ∙ chosen-applies mask set s tieOrder 7 e (λ z. omega arith)) }
+returns c = let st = c .before .before .before .before .before .before .before .before .before .before .before .before .before .before in let fr = st .args .frame in let mask = st .args .mask in let set = st .args .set in let s = take (fr .len) (fr .samples) in let n = length-take-le (fr .len) (fr .samples) (omega (arith, st .pre .0 .size, st .pre .0 .few)) in let look = c .before .before .before .before .before .before .before .before .before .before .before .look-at .ensures in let placed = c .before .before .before .before .before .before .before .before .before .before .placed-of .ensures in let rice = c .before .before .before .before .before .before .before .before .before .rice-of .ensures in let first = sym (getD-take (fr .len) (fr .samples) 0 0 (st .pre .0 .some)) in let c₁ = uncompressed-chosen mask s n set (st .pre .0 .few) in let c₇ = choose-step c₁ 7 _ _ (placed .applied) (located-bits placed) (c .before .before .before .before .before .before .before .before .better .ensures) in let c₆ = choose-step c₇ 6 _ _ (rice .applied) (rice-bits rice) (c .before .before .before .before .before .before .before .better2 .ensures) in let c₅ = choose-step c₆ 5 _ _ (rice .applied ∙ sym (rice-applies mask s)) (λ h. binary-bits mask s n) (c .before .before .before .before .before .before .better3 .ensures) in let c₄ = choose-step c₅ 4 _ _ (constant-applies mask s n look first (c .before .before .before .before .before .sized .ensures .0)) (λ h. constant-bits mask s n) (c .before .before .before .before .better4 .ensures) in let c₃ = choose-step c₄ 3 _ _ (minus-applies mask s n look (c .before .before .before .sized2 .ensures .0)) (λ h. minus-bits mask s n) (c .before .before .better5 .ensures) in let c₂ = choose-step c₃ 2 _ _ (plus-applies mask s n look (c .before .sized3 .ensures .0)) (λ h. plus-bits mask s n) (c .better6 .ensures) in record { tool = c₂ .tool; bits = c₂ .bits; small = c₂ .small; rice = λ e. rice .rice (rice .applied ∙ chosen-applies mask set s tieOrder 6 e (λ z. omega arith)); placed = λ e. placed .placed (placed .applied ∙ chosen-applies mask set s tieOrder 7 e (λ z. omega arith)) }
 
 pub plan-of-spec : {M : Type 1} → statement M
 plan-of-spec =

@@ -51,11 +51,11 @@ width-of-requires c κs = search needs
 
 -- src/lib.rt:49:18
 mul-listed : tie.Need-mul-listed
-mul-listed c = omega (arith, listed-small {n = c .before .before .before .before .before .before .before .before .before .before .before .before .args .count} (c .before .if3 .left) (c .width-of .ensures .1))
+mul-listed c = omega (arith, listed-small {n = c .before .before .before .before .before .before .before .before .before .before .before .before .args .count} (c .before .if3 .left) (c .width-of .ensures .1 .0))
 
 -- src/lib.rt:49:18
 add-listed-2 : tie.Need-add-listed-2
-add-listed-2 c = omega (arith, listed-small {n = c .before .before .before .before .before .before .before .before .before .before .before .before .args .count} (c .before .if3 .left) (c .width-of .ensures .1))
+add-listed-2 c = omega (arith, listed-small {n = c .before .before .before .before .before .before .before .before .before .before .before .before .args .count} (c .before .if3 .left) (c .width-of .ensures .1 .0))
 
 -- src/lib.rt:51:9
 returns-4 : tie.Need-returns-4

@@ -43,7 +43,7 @@ loop-again c = let h = width-small _ _ (tested c) (c .before .before .pre) in (w
 
 -- src/lib.rt:149:1
 returns : tie.Need-returns Inv-loop μ-loop
-returns c = (width-done _ _ (rw (one-shifted (c .before .loop .w) (omega arith)) at (c .loop-test .left)) (c .before .loop .inv .0), omega arith)
+returns c = let e = rw (one-shifted (c .before .loop .w) (omega arith)) at (c .loop-test .left) in (width-done _ _ e (c .before .loop .inv .0), (omega arith, e))
 
 pub width-of-spec : {M : Type 1} → statement M
 width-of-spec =
