@@ -1,0 +1,67 @@
+use borrow.Author.Needs.{needs}
+use mathlib.Core.Path.{_≡_, sym}
+use Prim.Native.Nat.{ℕ}
+use lib.ListN.{length, getD}
+use lib.Seq.{length-take-le}
+use mir.Syntax.{w8}
+use mir.Val.{Fits}
+use Rattle.rules.proofs.Octets.{below-all}
+use Rattle.promises.proofs.RoundTrip.{returned}
+use Rattle.round_trip.proofs.Kept.{within, restores-by}
+use Rattle.round_trip.proofs.round_trip.Statement.{statement}
+use Rattle.round_trip.proofs.round_trip.Tie as tie
+use Rattle.round_trip.proofs.round_trip.Reads as reads
+use Rattle.round_trip.proofs.round_trip.Lts as lts
+use Rattle.reader.proofs.read_frame.Reads as read-frame-reads
+use Rattle.writer.proofs.write_frame.Reads as write-frame-reads
+
+-- src/lib.rt:17:9
+write-frame-requires : tie.Need-write-frame-requires
+write-frame-requires c κs = search needs
+
+-- src/lib.rt:19:35
+slice-reshare-prefix-read-frame : tie.Need-slice-reshare-prefix-read-frame
+slice-reshare-prefix-read-frame c = within (c .before .before .write-frame .ensures)
+
+-- src/lib.rt:19:35
+slice-aggregate-read-frame : tie.Need-slice-aggregate-read-frame
+slice-aggregate-read-frame c = let w = c .before .before .before .write-frame in sym (length-take-le (w .result .octets) (w .last .1 .1 .1 .0) (within (w .ensures)))
+
+-- src/lib.rt:19:9
+read-frame-requires : tie.Need-read-frame-requires
+read-frame-requires c κs = search needs
+
+-- src/lib.rt:14:1
+same-length : tie.Need-same-length
+same-length c = search needs
+
+-- src/lib.rt:14:1
+same-length-2 : tie.Need-same-length-2
+same-length-2 c = search needs
+
+-- src/lib.rt:14:1
+returns : tie.Need-returns
+returns c =
+    let s = c .before .before .before .before .before .before .before .before .before .before .before in
+    let w = c .before .before .before .before .before .before .before .write-frame in
+    let r = c .before .before .read-frame in
+    let l : length (s .args .frame .samples) ≡ 320 = search needs in
+    record {
+      writes = w .ensures;
+      reads = r .ensures;
+      restores = λ e h. restores-by (returned (s .args .frame) (s .args .law) (s .args .set) (s .args .kept .now) _ (w .result) l
+          (below-all (s .args .frame .samples) (λ i. let f : Fits w8 (getD (s .args .frame .samples) i 0) = search needs in f .fits))
+          (w .ensures) e (s .args .sound .now) _ (r .result) h (r .ensures));
+    }
+
+pub round-trip-spec : {M : Type 1} → statement M
+round-trip-spec =
+    tie.close
+    (tie.spec
+    write-frame-requires
+    slice-reshare-prefix-read-frame
+    slice-aggregate-read-frame
+    read-frame-requires
+    same-length
+    same-length-2
+    returns)
