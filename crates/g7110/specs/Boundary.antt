@@ -6,8 +6,10 @@ use lib.ListN.{length}
 use Rattle.rules.specs.Refusals.{numberOf, toolNamed}
 use Rattle.rules.specs.Reading.{Read}
 use Rattle.rules.specs.Frame.{Found}
+use Rattle.rules.specs.Bits.{octetsFor, pack}
+use Rattle.rules.specs.Chooses.{Write}
 use Rattle.rules.specs.Walk.{Walked, octetsKept, samplesKept}
-use Rattle.rules.specs.Calls.{readEnd, readSamples, readOctets, readBits, readTool, atStart}
+use Rattle.rules.specs.Calls.{readEnd, readSamples, readOctets, readBits, readTool, writeEnd, writtenBits, writeTool, atStart}
 
 -- the number; samples, octets used, bits and tool; the samples at the start of the output, the rest as lent
 pub record ReadReported (found : Read Found) (out out′ four : List ℕ) (r : ℕ) : Type 0 where
@@ -20,3 +22,9 @@ pub record WalkReported (walked : Walked) (out out′ four : List ℕ) (r : ℕ)
   pub number : r ≡ numberOf (walked .end)
   pub report : four ≡ length (walked .frames) ∷ octetsKept (walked .frames) ∷ length (samplesKept (walked .frames)) ∷ toolNamed (walked .end) ∷ []
   pub lent : out′ ≡ atStart (samplesKept (walked .frames)) out
+
+-- the number; octets, bits and tool; the octets at the start of the output, the rest as lent
+pub record WriteReported (written : Write) (out out′ three : List ℕ) (r : ℕ) : Type 0 where
+  pub number : r ≡ numberOf (writeEnd written)
+  pub report : three ≡ octetsFor (length (writtenBits written)) ∷ length (writtenBits written) ∷ writeTool written ∷ []
+  pub lent : out′ ≡ atStart (pack (writtenBits written)) out

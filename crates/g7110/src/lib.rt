@@ -4,7 +4,8 @@ ghost use lib.ListN.{length};
 ghost use Rattle.rules.specs.Refusals.{refusalNumber, numberOf, toolNamed};
 ghost use Rattle.rules.specs.Frame.{readOne};
 ghost use Rattle.rules.specs.Walk.{walkAll};
-ghost use Rattle.g7110.specs.Boundary.{ReadReported, WalkReported};
+ghost use Rattle.rules.specs.Chooses.{writeOne};
+ghost use Rattle.g7110.specs.Boundary.{ReadReported, WalkReported, WriteReported};
 use rules::Ending;
 use rules::Refusal;
 
@@ -91,5 +92,22 @@ pub extern "C" fn g7110_walk(
         a.samples as u64,
         tool as u64,
     ];
+    number_of(end)
+}
+
+// Writing one frame: the number, and in the report octets, bits and tool.
+#[no_mangle]
+pub extern "C" fn g7110_write(
+    samples: &[u8],
+    law: u32,
+    set: u32,
+    out: &mut [u8],
+    report: &mut [u64; 3],
+) -> u32
+    ensures { λ r. ⌜ WriteReported (writeOne (length (now (samples .entry))) (now (samples .entry)) law set (length (now (out .entry)))) (now (out .entry)) (now (out .exit)) (now (report .exit)) r ⌝ }
+{
+    let a = writer::write_samples(samples, law, set, out);
+    *report = [a.octets as u64, a.bits as u64, a.tool as u64];
+    let end = a.end;
     number_of(end)
 }

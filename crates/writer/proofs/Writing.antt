@@ -4,13 +4,16 @@ use mathlib.Core.Path.{_≡_, refl, sym, ap, _∙_}
 use mathlib.Core.List.{List, [], _∷_, _++_}
 use mathlib.Core.Bool.{Bool, true, false, cond, _&&_, _||_}
 use native.Mathlib.Omega.{arith}
+use native.Mathlib.Numerals.{add-one}
+use native.Mathlib.Decide.{decLe}
 use borrow.Author.Tests.{eq-eqb, ne-eqb, le-leb, lt-leb, lt-ltb, le-ltb}
-use lib.ListN.{length, take, drop, set}
+use lib.ListN.{length, getD, take, drop, set, length-set}
 use lib.Dec.{eqb, leb}
-use lib.Seq.{length-take-le}
+use lib.Seq.{length-take-le, take-length, take-suc, take-suc-set}
 use Rattle.rules.specs.declared.Refusal.{Refusal}
 use Rattle.rules.specs.declared.Refusal.the-variants.{Length, Set, Law, Room}
 use Rattle.rules.specs.declared.Ending.the-variants.{Done}
+use Rattle.rules.specs.declared.Frame.{Frame}
 use Rattle.rules.specs.declared.WriteAnswer.{WriteAnswer}
 use Rattle.rules.specs.Bits.{lowBits, valueFrom, octetsFor, octetsFrom, pack}
 use Rattle.rules.specs.Samples.{maskOf}
@@ -25,7 +28,7 @@ use Rattle.choice.specs.Offers.{cellsOf}
 use Rattle.choice.specs.Plans.{IsFrame, PlanFor}
 use Rattle.pen.specs.Puts.{Packed}
 use Rattle.writer.specs.Forms.{Planned}
-use Rattle.writer.specs.Answers.{Tells, fitting, pad, full}
+use Rattle.writer.specs.Answers.{Tells, fitting, pad, full, FrameOf}
 
 -- a refusal leaves the output as lent
 pub refused-writes : {why : Refusal} {r : WriteAnswer} {out : List ℕ} → Tells (declined why) r → Writes (declined why) r out out
@@ -137,3 +140,37 @@ module _ (n : ℕ) (samples : List ℕ) (law set room : ℕ) where
         write-full z h k =
             let some : eqb (length (take n samples)) 0 ≡ false = ne-eqb _ 0 (λ e. z (sym (length-take-le n samples k) ∙ e)) in
             rw (le-leb law 1 lawful, le-leb set 127 small, is-odd, ne-eqb n 0 z, h, some)
+
+-- samples copied one by one
+pub record Copying (s : List ℕ) (out : List ℕ) (most i : ℕ) : Type 0 where
+  pub same : take i out ≡ take i s
+  pub size : length out ≡ 320
+  pub within : i ≤ most
+
+pub copy-turn : {s out : List ℕ} {most i : ℕ} → Copying s out most i → i < most → most ≤ 320 → most ≤ length s → Copying s (set out i (getD s i 0)) most (i + 1)
+copy-turn {s} {out} {most} {i} t h few long =
+    record {
+      same = rw (add-one i, take-suc-set out i (getD s i 0) (omega (arith, t .size)), t .same, take-suc s i 0 (omega arith));
+      size = length-set out i (getD s i 0) ∙ t .size;
+      within = omega arith;
+    }
+
+pub copied : {s out : List ℕ} {most i : ℕ} → Copying s out most i → i ≡ length s → take (length s) out ≡ s
+copied {s} {out} {i = i} t e = ap (λ (k : ℕ). take k out) (sym e) ∙ t .same ∙ ap (λ (k : ℕ). take k s) e ∙ take-length s
+
+write-by : (n : ℕ) (a b : List ℕ) (law set room : ℕ) → take n a ≡ take n b → writeOne n a law set room ≡ writeOne n b law set room
+unfolding writeOne
+write-by n a b law set room e = rw e
+
+write-none : (n : ℕ) (a b : List ℕ) (law set room : ℕ) → 320 < n → writeOne n a law set room ≡ writeOne n b law set room
+unfolding writeOne
+write-none n a b law set room h =
+    rw (ne-eqb n 0 (omega arith), ne-eqb n 40 (omega arith), ne-eqb n 80 (omega arith), ne-eqb n 160 (omega arith), ne-eqb n 240 (omega arith), ne-eqb n 320 (omega arith))
+
+-- what stands past the length changes nothing, and a slice that is no frame is refused before its samples matter
+pub write-same : (s : List ℕ) (f : Frame) (law set room : ℕ) → FrameOf s f → writeOne (f .len) (f .samples) law set room ≡ writeOne (length s) s law set room
+write-same s f law set room o = go (decLe (length s) 320)
+  where
+    go : Dec (length s ≤ 320) → writeOne (f .len) (f .samples) law set room ≡ writeOne (length s) s law set room
+    go (yes h) = rw (o .len) (write-by (length s) (f .samples) s law set room (o .samples h ∙ sym (take-length s)))
+    go (no h) = rw (o .len) (write-none (length s) (f .samples) s law set room (omega arith))

@@ -1,11 +1,12 @@
 -- What a writing reports, apart from the output.
-use Prim.Native.Nat.{ℕ}
+use Prim.Native.Nat.{ℕ, _≤_}
 use mathlib.Core.Path.{_≡_}
 use mathlib.Core.List.{List}
 use mathlib.Core.Bool.{cond}
-use lib.ListN.{length}
+use lib.ListN.{length, take}
 use lib.Dec.{ltb}
 use Rattle.rules.specs.declared.Refusal.the-variants.{Room}
+use Rattle.rules.specs.declared.Frame.{Frame}
 use Rattle.rules.specs.declared.WriteAnswer.{WriteAnswer}
 use Rattle.rules.specs.Bits.{lowBits, octetsFor}
 use Rattle.rules.specs.Chooses.{Written, Write, wrote, declined, chosenTool, formOf}
@@ -28,3 +29,13 @@ pad = record { tool = 0; bits = lowBits 8 0 }
 -- the chosen form of some samples
 abbrev pub full : ℕ → ℕ → List ℕ → Written
 full mask set s = record { tool = chosenTool mask set s; bits = formOf mask (chosenTool mask set s) s }
+
+-- the samples of a slice as a frame of their length; past 320 a frame has none of them
+pub record FrameOf (s : List ℕ) (r : Frame) : Type 0 where
+  pub len : r .len ≡ length s
+  pub samples : length s ≤ 320 → take (length s) (r .samples) ≡ s
+
+pub record Lower (n r : ℕ) : Type 0 where
+  pub most : r ≤ 320
+  pub within : r ≤ n
+  pub all : n ≤ 320 → r ≡ n

@@ -35,9 +35,9 @@ ghost use Rattle.pen.specs.Puts.{Able, Puts, Packed};
 ghost use Rattle.writer.specs.Forms.{CodeIs, RiceReady, riceFormOf, placeForm, placesForm, ValuesReady, valuesFormOf, placedFormOf, bodyForm, Planned};
 ghost use Rattle.rules.specs.Chooses.{methodOf, valueForm, formOf, declined};
 ghost use Rattle.rules.specs.Tools.{isLength};
-ghost use Rattle.rules.specs.Calls.{Writes, WriteFrame};
+ghost use Rattle.rules.specs.Calls.{Writes, WriteFrame, WriteSamples};
 ghost use Rattle.choice.specs.Plans.{IsFrame};
-ghost use Rattle.writer.specs.Answers.{Tells, fitting, pad, full};
+ghost use Rattle.writer.specs.Answers.{Tells, fitting, pad, full, FrameOf, Lower};
 ghost use Rattle.choice.specs.Ways.{Counted};
 ghost use Rattle.choice.specs.Offers.{cellsOf};
 
@@ -403,4 +403,35 @@ pub fn write_frame(frame: Frame, law: u32, set: u32, out: &mut [u8]) -> WriteAns
     }
     let samples = frame.samples;
     write_chosen(out, Left { samples, len }, mask_of(law), set)
+}
+
+fn at_most_320(n: usize) -> usize
+    ensures { λ r. ⌜ Lower n r ⌝ }
+{
+    if n < 320 { n } else { 320 }
+}
+
+// A slice as a frame of its length; of a slice that is too long for a frame only the length matters.
+fn frame_of(s: &[u8]) -> Frame
+    ensures { λ r. ⌜ FrameOf (now (s .entry)) r ⌝ }
+{
+    let mut samples = [0u8; 320];
+    let most = at_most_320(s.len());
+    let mut i = 0;
+    while i < most {
+        samples[i] = s[i];
+        i += 1;
+    }
+    Frame {
+        samples,
+        len: s.len(),
+    }
+}
+
+// Writing the samples of a slice, whose length is the frame's.
+pub fn write_samples(samples: &[u8], law: u32, set: u32, out: &mut [u8]) -> WriteAnswer
+    ensures { λ r. ⌜ WriteSamples (now (samples .entry)) law set (now (out .entry)) (now (out .exit)) r ⌝ }
+{
+    let frame = frame_of(samples);
+    write_frame(frame, law, set, out)
 }
