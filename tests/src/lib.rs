@@ -17,6 +17,7 @@ pub mod met;
 mod notation;
 mod pair;
 mod program;
+pub mod recordings;
 pub mod streams;
 mod table;
 mod vectors;
