@@ -21,6 +21,7 @@ pub mod published;
 pub mod recordings;
 pub mod streams;
 mod table;
+pub mod tools;
 mod vectors;
 
 pub use codec::{Codec, Proved, Read, Second, Walk, Write};
