@@ -12,15 +12,13 @@ pub fn repository() -> PathBuf {
 
 /// A program that rt built, in target/bin or the folder that BIN names.
 pub fn built(name: &str) -> PathBuf {
-    match std::env::var_os("BIN") {
-        Some(named) => PathBuf::from(named).join(name),
-        None => repository().join("target/bin").join(name),
-    }
+    let folder = std::env::var_os("BIN").unwrap_or("target/bin".into());
+    repository().join(folder).join(name)
 }
 
 /// The words that start a program, after RUN_WITH where it is set.
 pub fn words(path: &Path) -> Vec<PathBuf> {
-    let with = std::env::var_os("RUN_WITH").map(PathBuf::from);
+    let with = std::env::var_os("RUN_WITH").filter(|with| !with.is_empty()).map(PathBuf::from);
     with.into_iter().chain([path.to_path_buf()]).collect()
 }
 
