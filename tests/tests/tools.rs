@@ -74,19 +74,16 @@ fn lists(law: u32, stream: &[u8], frames: usize, samples: usize) {
 fn every_end() {
     let (mut room, mut rng, all) = (room("ends"), Prng::new(51), recordings());
     for samples in (0..=1_000).step_by(40) {
-        for length in LENGTHS {
-            for law in [0, 1] {
-                let sound = some_sound(&all, law, samples, &mut rng);
-                let wanted = pack_wanted(&sound, law, 127, length, false);
-                let (option, _, _) = law_words(law);
-                let ran = room.run("pack", &format!("{option} -n{length}"), &sound);
-                let octets = &wanted.stream.octets;
-                ran.ends(wanted.stop).sums(wanted.stream.frames, samples, octets.len()).writes(octets);
-                let ran = room.run("unpack", option, octets);
-                ran.ends(Stop::new(0, octets.len(), 0))
-                    .sums(wanted.stream.frames, samples, octets.len())
-                    .writes(&sound);
-            }
+        for (turn, length) in LENGTHS.into_iter().enumerate() {
+            let law = (samples / 40 + turn) as u32 % 2;
+            let sound = some_sound(&all, law, samples, &mut rng);
+            let wanted = pack_wanted(&sound, law, 127, length, false);
+            let (frames, octets) = (wanted.stream.frames, &wanted.stream.octets);
+            let (option, _, _) = law_words(law);
+            let ran = room.run("pack", &format!("{option} -n{length}"), &sound);
+            ran.ends(wanted.stop).sums(frames, samples, octets.len()).writes(octets);
+            let ran = room.run("unpack", option, octets);
+            ran.ends(Stop::new(0, octets.len(), 0)).sums(frames, samples, octets.len()).writes(&sound);
         }
     }
     assert!(room.names().is_empty(), "{:?}", room.names());
@@ -105,6 +102,9 @@ fn every_sound_filled() {
         let ran = room.run("pack", &format!("-f -n{length} {option}"), &sound);
         ran.ends(wanted.stop).writes(&wanted.stream.octets);
         assert_eq!(ran.said("filled"), Some(wanted.filled), "{}\n{}", ran.line, ran.err);
+        if samples % 3 != 0 {
+            continue;
+        }
         let ran = room.run("unpack", option, &wanted.stream.octets);
         let mut whole = sound;
         whole.resize(samples.next_multiple_of(40), plus_zero(law));
@@ -117,11 +117,11 @@ fn every_sound_filled() {
 #[test]
 fn every_sound_that_no_length_fits() {
     let (mut room, mut rng, all) = (room("unfit"), Prng::new(53), recordings());
-    for samples in (0..=400).filter(|samples| samples % 40 != 0) {
+    for samples in (1..=400).filter(|samples| samples % 40 != 0 && (samples % 3 == 0 || samples % 40 == 39)) {
         let (law, length) = (samples as u32 % 2, LENGTHS[samples % 5]);
         let sound = some_sound(&all, law, samples, &mut rng);
-        let ran = match samples % 3 {
-            0 => {
+        let ran = match samples % 4 {
+            0 | 1 => {
                 room.put("sound", &sound);
                 room.run("pack", &format!("{} -n{length} sound stream", law_words(law).0), &[])
             }
@@ -281,8 +281,10 @@ fn verified(room: &mut Room, stream: &[u8], law: u32, master: &[u8]) -> Stop {
     let (option, _, lc) = law_words(law);
     room.put(&format!("greeting.{lc}"), stream);
     room.put("master", master);
-    room.run("unpack", &format!("-c master greeting.{lc}"), &[]).ends(wanted).writes(&[]);
-    room.run("unpack", &format!("{option} -c master"), stream).ends(wanted).writes(&[]);
+    match room.runs % 2 {
+        0 => room.run("unpack", &format!("-c master greeting.{lc}"), &[]).ends(wanted).writes(&[]),
+        _ => room.run("unpack", &format!("{option} -c master"), stream).ends(wanted).writes(&[]),
+    };
     assert_eq!(room.names().len(), 2, "{:?}: a file was made", room.names());
     wanted
 }
