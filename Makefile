@@ -1,9 +1,10 @@
 # What there is to run. All that is made stands in target/.
 
-CARGO ?= cargo
+# The programs and the archive are for x86-64. On another machine an emulator runs them.
+CARGO ?= tools/cross cargo
 RT ?= rt
-# The programs are for x86-64. On another machine RUN_WITH may name what runs them.
-RUN_WITH ?=
+MACHINE := $(shell uname -m)
+RUN_WITH ?= $(if $(filter x86_64,$(MACHINE)),,tools/x86-64)
 BIN ?= target/bin
 export CARGO_TARGET_DIR := $(CURDIR)/target/cargo
 
@@ -45,6 +46,7 @@ vectors: archive
 	@$(CARGO) run --release --offline --locked --quiet --package tests --bin vectors_of -- "$(FOLDER)"
 
 bench: archive
+	@[ $(MACHINE) = x86_64 ] || echo 'This machine is $(MACHINE), and the proved code runs under an emulator: these times say nothing.'
 	@$(CARGO) run --profile bench --offline --locked --quiet --package bench
 
 fmt:
