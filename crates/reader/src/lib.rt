@@ -97,7 +97,12 @@ fn opening_of(octets: &[u8]) -> Opening
     if octets.len() == 0 {
         return Opening::Refused(Refusal::Short, 0);
     }
-    match prefix::first_octet(octets[0]) {
+    let first = octets[0];
+    // A pad is told at once: a stream may be all pads, and the table is made anew wherever it is looked up.
+    if first == 0 {
+        return Opening::Pad;
+    }
+    match prefix::first_octet(first) {
         Begins::Unassigned => Opening::Refused(Refusal::Prefix, 0),
         Begins::Pad => Opening::Pad,
         Begins::Tool(t, n) => Opening::Body(Head {
