@@ -2,7 +2,7 @@
 use Prim.Native.Nat.{ℕ, _-_, _≤_}
 use mathlib.Core.Path.{_≡_}
 use mathlib.Core.List.{List, [], _++_}
-use lib.ListN.{length, replicate}
+use lib.ListN.{length, drop, replicate}
 use Rattle.rules.specs.Reading.{Read, whole, refuse}
 use Rattle.bits.specs.declared.Outcome.{Outcome}
 use Rattle.bits.specs.declared.Outcome.the-variants.{Got, Refused}
@@ -23,3 +23,13 @@ pub record ReadsBody (found : Read (List ℕ)) (far : ℕ) (r : Body) : Type 0 w
   pub end : r .end ≡ endOf found
   pub samples : r .samples ≡ samplesOf found ++ replicate (320 - length (samplesOf found)) 0
   pub next : nextOf (r .end) ≤ far
+
+-- the lent samples before and after: the definition's, then what was lent; a refused body leaves any 320
+abbrev pub Leaves : Read (List ℕ) → List ℕ → List ℕ → Type 0
+Leaves (whole s next) old new = (new ≡ s ++ drop (length s) old) × (length s ≤ 320)
+Leaves (refuse w at) old new = length new ≡ 320
+
+pub record FillsBody (found : Read (List ℕ)) (far : ℕ) (old new : List ℕ) (r : Outcome) : Type 0 where
+  pub end : r ≡ endOf found
+  pub next : nextOf r ≤ far
+  pub samples : Leaves found old new

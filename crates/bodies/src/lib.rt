@@ -9,7 +9,7 @@ ghost use Rattle.rules.specs.Bits.{bitsOf};
 ghost use Rattle.rules.specs.Reading.{whole, refuse};
 ghost use Rattle.rules.specs.Zeros.{uncompressed as octetsOf, constant as constantly, binary as bitsAsZeros, plusMinus, zeroOf, leaf, fork, treeOf, readTree};
 ghost use Rattle.bits.specs.Outcomes.{Reads};
-ghost use Rattle.bodies.specs.Bodied.{ReadsBody};
+ghost use Rattle.bodies.specs.Bodied.{ReadsBody, FillsBody};
 ghost use Rattle.bodies.specs.Trees.{two, pastTwo};
 use bits::Outcome;
 use rules::Refusal;
@@ -31,22 +31,29 @@ fn nothing(why: Refusal, bit: usize) -> Body
 }
 
 // "Uncompressed: N octets", whole; the place is an octet's first bit.
-pub fn uncompressed(octets: &[u8], at: usize, n: usize) -> Body
-    requires { ⌜ (at ≤ 2 ^ 37) × (at % 8 ≡ 0) × (0 < n) × (n ≤ 320) ⌝ }
-    ensures { λ r. ⌜ ReadsBody (octetsOf n (bitsOf (now (octets .entry))) at) (at + 8 * n) r ⌝ }
+pub fn uncompressed(octets: &[u8], at: usize, n: usize, samples: &mut [u8; 320]) -> Outcome
+    requires { ⌜ (at ≤ 2 ^ 37) × (at % 8 ≡ 0) × (0 < n) × (n ≤ 320) × (length (now samples) ≡ 320) ⌝ }
+    ensures { λ r. ⌜ FillsBody (octetsOf n (bitsOf (now (octets .entry))) at) (at + 8 * n) (now (samples .entry)) (now (samples .exit)) r ⌝ }
 {
     let from = at / 8;
     if octets.len() < from + n {
-        return nothing(Refusal::Short, bits::missing(octets, at));
+        return Outcome::Refused(Refusal::Short, bits::missing(octets, at));
     }
-    let mut samples = [0; 320];
     for i in 0..n {
         samples[i] = octets[from + i];
     }
-    Body {
-        end: Outcome::Got(n, at + 8 * n),
-        samples: samples,
+    Outcome::Got(n, at + 8 * n)
+}
+
+// "Plus, minus: nothing."
+pub fn filled_lent(at: usize, n: usize, sample: u8, samples: &mut [u8; 320]) -> Outcome
+    requires { ⌜ (n ≤ 320) × (length (now samples) ≡ 320) ⌝ }
+    ensures { λ r. ⌜ FillsBody (whole (replicate n sample) at) at (now (samples .entry)) (now (samples .exit)) r ⌝ }
+{
+    for i in 0..n {
+        samples[i] = sample;
     }
+    Outcome::Got(n, at)
 }
 
 // "Plus, minus: nothing."
@@ -65,13 +72,13 @@ pub fn filled(at: usize, n: usize, sample: u8) -> Body
 }
 
 // "Constant: one octet, any."
-pub fn constant(octets: &[u8], at: usize, n: usize) -> Body
-    requires { ⌜ (at ≤ 2 ^ 37) × (n ≤ 320) ⌝ }
-    ensures { λ r. ⌜ ReadsBody (constantly n (bitsOf (now (octets .entry))) at) (at + 8) r ⌝ }
+pub fn constant(octets: &[u8], at: usize, n: usize, samples: &mut [u8; 320]) -> Outcome
+    requires { ⌜ (at ≤ 2 ^ 37) × (n ≤ 320) × (length (now samples) ≡ 320) ⌝ }
+    ensures { λ r. ⌜ FillsBody (constantly n (bitsOf (now (octets .entry))) at) (at + 8) (now (samples .entry)) (now (samples .exit)) r ⌝ }
 {
     match bits::number(octets, at, 8) {
-        Outcome::Refused(why, bit) => nothing(why, bit),
-        Outcome::Got(sample, next) => filled(next, n, sample as u8),
+        Outcome::Refused(why, bit) => Outcome::Refused(why, bit),
+        Outcome::Got(sample, next) => filled_lent(next, n, sample as u8, samples),
     }
 }
 

@@ -1,8 +1,8 @@
 pub mod Six
 pub mod Opened
 pub mod Filled
-pub mod Copied
 pub mod Told
 pub mod Decided
 pub mod Ordered
 pub mod Lent
+pub mod Poured

@@ -7,3 +7,4 @@ pub mod Codes
 pub mod Gives
 pub mod Accepted
 pub mod Named
+pub mod Kept
