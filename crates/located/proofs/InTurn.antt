@@ -17,7 +17,7 @@ use Rattle.bits.specs.declared.Outcome.the-variants.{Got, Refused}
 use Rattle.runs.specs.Flagged.{kinds}
 use Rattle.runs.proofs.Answer.{Marks-as}
 use Rattle.runs.proofs.Puts.{length-kinds}
-use Rattle.located.specs.Bodied.{endOf, Leaves, FillsBody}
+use Rattle.bodies.specs.Bodied.{endOf, Leaves, FillsBody}
 use Rattle.located.specs.Valued.{flagsOf, fillIn, Lays, LaysCells, Apart}
 use Rattle.located.proofs.Counted.{empty-most, empty-all, length-lay, lay-count, lay-first, fill-lay}
 use Rattle.located.proofs.OneValue.{values-step}

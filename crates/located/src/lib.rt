@@ -9,7 +9,7 @@ ghost use Rattle.rules.specs.Bits.{bitsOf};
 ghost use Rattle.rules.specs.Samples.{sampleOf};
 ghost use Rattle.rules.specs.Located.{widthOf, listedFrom, listed as listing, byMethod, emptyIn, valuesOf, valuesInto, located as locates};
 ghost use Rattle.runs.specs.Flagged.{MarksCells};
-ghost use Rattle.located.specs.Bodied.{FillsBody};
+ghost use Rattle.bodies.specs.Bodied.{FillsBody};
 ghost use Rattle.located.specs.Valued.{flagsOf, fillIn, LaysCells, Apart, RowOf};
 use bits::Outcome;
 use rules::Refusal;
