@@ -72,13 +72,18 @@ fn octet_at(octets: &[u8], i: usize) -> u8
     0
 }
 
-// Five octets as one number.
+fn word(octet: u8) -> u32
+    ensures { λ r. ⌜ r ≡ octet ⌝ }
+{
+    octet as u32
+}
+
+// Five octets as one number; the compiler reads the first four at once.
 fn five(a: u8, b: u8, c: u8, d: u8, e: u8) -> usize
     ensures { λ r. ⌜ r ≡ 256 * (256 * (256 * (256 * a + b) + c) + d) + e ⌝ }
 {
-    let two = 256 * wide(a) + wide(b);
-    let four = 256 * (256 * two + wide(c)) + wide(d);
-    256 * four + wide(e)
+    let four = 16777216 * word(a) + 65536 * word(b) + 256 * word(c) + word(d);
+    256 * (four as usize) + wide(e)
 }
 
 // The bits of the five octets from octet i on; an octet that is missing counts 0.
