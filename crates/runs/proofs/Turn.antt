@@ -7,7 +7,7 @@ use native.Mathlib.Omega.{arith}
 use native.Mathlib.Nat.{sub-zero}
 use lib.ListN.{length, set, replicate, length-append, length-replicate}
 use lib.Dec.{eqb, ltb}
-use borrow.Author.Tests.{eq-eqb, ne-eqb}
+use borrow.Author.Tests.{lt-ltb, le-ltb, eq-eqb, ne-eqb}
 use Rattle.rules.specs.declared.Refusal.{Refusal}
 use Rattle.rules.specs.declared.Refusal.the-variants.{Run}
 use Rattle.rules.specs.Reading.{Read, whole, refuse, andThen, give, fail}
@@ -18,6 +18,16 @@ use Rattle.runs.specs.Flagged.{oneRun, marked, Put, MarksCells}
 use Rattle.runs.proofs.Answer.{marks-refused}
 use Rattle.runs.proofs.Ones.{marked-run}
 use Rattle.runs.proofs.Marking.{Marking, marking-none, marking-room, marking-mark, marking-all}
+
+-- a run is judged by the places left
+module _ (bits : List ℕ) (n s left at : ℕ) {v next : ℕ} (e : rice n s bits at ≡ whole v next) where
+  pub run-long : left < v → oneRun n s left bits at ≡ refuse Run at
+  unfolding oneRun
+  run-long h = rw (e, lt-ltb left v h)
+
+  pub run-fits : v ≤ left → oneRun n s left bits at ≡ whole v next
+  unfolding oneRun
+  run-fits h = rw (e, le-ltb left v h)
 
 -- a run, and what follows it
 runs-step : (bits : List ℕ) (n s more left : ℕ) (done : List ℕ) (at : ℕ) → 0 < left

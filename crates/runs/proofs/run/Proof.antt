@@ -1,10 +1,10 @@
 -- The Rice code, and whether so many places are left.
 use borrow.Author.Needs.{needs}
-use borrow.Author.Tests.{lt-ltb, le-ltb}
 use mathlib.Core.Path.{sym}
 use native.Mathlib.Omega.{arith}
 use Rattle.bits.proofs.Told.{told, refused}
 use Rattle.runs.specs.Flagged.{oneRun}
+use Rattle.runs.proofs.Turn.{run-long, run-fits}
 use Rattle.runs.proofs.run.Statement.{statement}
 use Rattle.runs.proofs.run.Tie as tie
 
@@ -18,10 +18,9 @@ enum-known-v : tie.Need-enum-known-v
 enum-known-v c = search needs
 
 returns : tie.Need-returns
-unfolding oneRun
 returns c =
     let v = told (c .before .before .before .before .rice .ensures) (c .before .before .v .given .1) in
-    record { says = sym (rw (v .says, lt-ltb _ _ (c .if1 .taken))); value = omega arith; next = omega arith }
+    record { says = sym (run-long _ _ _ _ _ (v .says) (omega arith)); value = omega arith; next = omega arith }
 
 returns-2 : tie.Need-returns-2
 unfolding oneRun
@@ -29,10 +28,9 @@ returns-2 c =
     record { says = sym (rw (refused (c .before .before .before .rice .ensures) (c .before .why .given .1))); value = omega arith; next = omega arith }
 
 returns-3 : tie.Need-returns-3
-unfolding oneRun
 returns-3 c =
     let v = told (c .before .before .before .before .rice .ensures) (c .before .before .v .given .1) in
-    record { says = sym (rw (v .says, le-ltb _ _ (c .if1 .left))); value = omega arith; next = v .next }
+    record { says = sym (run-fits _ _ _ _ _ (v .says) (omega arith)); value = omega arith; next = v .next }
 
 pub run-spec : {M : Type 1} → statement M
 run-spec =
