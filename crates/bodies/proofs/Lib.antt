@@ -1,4 +1,3 @@
-pub mod Filling
 pub mod Poured
 pub mod Told
 pub mod WholeOctets

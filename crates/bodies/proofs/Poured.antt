@@ -11,6 +11,7 @@ use Rattle.rules.specs.declared.Refusal.{Refusal}
 use Rattle.rules.specs.Reading.{Read, whole, refuse}
 use Rattle.bits.specs.declared.Outcome.{Outcome}
 use Rattle.bits.specs.declared.Outcome.the-variants.{Got, Refused}
+use Rattle.runs.specs.Flagged.{Put}
 use Rattle.bodies.specs.Bodied.{Leaves, FillsBody}
 
 pub poured-turn : (s d : List ℕ) (i : ℕ) → i < length s → i < length d
@@ -43,6 +44,12 @@ module _ {l old : List ℕ} {i : ℕ} {new : List ℕ} (p : Poured l old i new) 
       let q : i ≡ length l = omega arith in
       let t : take i l ≡ l = take-all i l h in
       rw (e, s) (record { end = refl; next = k; samples = (p .so-far ∙ rw (t, q), p .fits) })
+
+-- a list put in at the start
+pub fills-put : {l old new : List ℕ} → Put old 0 l new → {found : Read (List ℕ)} {far n next : ℕ} → found ≡ whole l next → length l ≡ n → n ≤ 320 → next ≤ far
+    → FillsBody found far old new (Got n next)
+fills-put {l} {old} p {next = next} e s h k =
+    rw e (record { end = ap (λ (x : ℕ). Got x next) (sym s); next = k; samples = (p .made ∙ rw zero-add, rw s h) })
 
 -- a refusal passed on, and an answer
 pub fills-refused : {found : Read (List ℕ)} {far : ℕ} {old new : List ℕ} {w : Refusal} {at : ℕ} → found ≡ refuse w at → length new ≡ 320

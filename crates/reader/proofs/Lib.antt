@@ -5,4 +5,3 @@ pub mod Told
 pub mod Decided
 pub mod Ordered
 pub mod Lent
-pub mod Poured

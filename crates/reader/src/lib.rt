@@ -6,17 +6,16 @@ ghost use mathlib.Core.List.{List, [], _++_};
 ghost use lib.ListN.{length, take, drop};
 ghost use Rattle.rules.specs.Tools.{isLength};
 ghost use Rattle.rules.specs.Bits.{bitsOf, fillFor};
-ghost use Rattle.rules.specs.Reading.{Read, whole, refuse, filled};
+ghost use Rattle.rules.specs.Reading.{whole, refuse, filled};
 ghost use Rattle.rules.specs.First.{markAt, sixNotEight};
 ghost use Rattle.rules.specs.Samples.{maskOf};
 ghost use Rattle.rules.specs.Frame.{body, withTool, readOne};
 ghost use Rattle.rules.specs.Calls.{ReadFrame};
-ghost use Rattle.bodies.specs.Bodied.{ReadsBody, FillsBody};
-ghost use Rattle.bits.specs.Outcomes.{asRead, valueOf, Reads};
+ghost use Rattle.bodies.specs.Bodied.{FillsBody};
+ghost use Rattle.bits.specs.Outcomes.{asRead, Reads};
 ghost use Rattle.reader.specs.Opening.{HeadFits, Opens, SixOrEight, Starts};
 ghost use Rattle.reader.specs.Answers.{Tells, Fills, ReadsInto, finish};
 use bits::Outcome;
-use bodies::Body;
 use prefix::Begins;
 use rules::Ending;
 use rules::Frame;
@@ -128,21 +127,6 @@ fn opens(octets: &[u8], law: u32, set: u32) -> Opening
     opening_of(octets)
 }
 
-fn pour(b: Body, samples: &mut [u8; 320]) -> Outcome
-    requires { ⌜ (valueOf (b .end) ≤ 320) × (length (now samples) ≡ 320) ⌝ }
-    ensures { λ r. ⌜ ((found : Read (List ℕ)) (far : ℕ) → ReadsBody found far b → FillsBody found far (now (samples .entry)) (now (samples .exit)) r) ⌝ }
-{
-    let end = b.end;
-    let made = b.samples;
-    match end {
-        Outcome::Refused(why, bit) => Outcome::Refused(why, bit),
-        Outcome::Got(n, next) => {
-            put_out(&made, n, samples);
-            Outcome::Got(n, next)
-        }
-    }
-}
-
 // The body of a tool that the set holds, into the lent samples.
 fn body_of(octets: &[u8], mask: u8, h: Head, samples: &mut [u8; 320]) -> Outcome
     requires { ⌜ (HeadFits h) × (1 ≤ h .tool) × (h .tool ≤ 7) × (mask < 128) × (mask % 2 ≡ 1) × (length (now samples) ≡ 320) ⌝ }
@@ -153,15 +137,12 @@ fn body_of(octets: &[u8], mask: u8, h: Head, samples: &mut [u8; 320]) -> Outcome
     let at = h.at;
     match tool {
         1 => bodies::uncompressed(octets, at, n, samples),
-        2 => bodies::filled_lent(at, n, law::plus_zero(mask), samples),
-        3 => bodies::filled_lent(at, n, law::minus_zero(mask), samples),
+        2 => bodies::filled(at, n, law::plus_zero(mask), samples),
+        3 => bodies::filled(at, n, law::minus_zero(mask), samples),
         4 => bodies::constant(octets, at, n, samples),
-        5 => pour(bodies::binary(octets, at, n, mask), samples),
-        6 => pour(
-            bodies::plus_minus(octets, at, n, h.mark as u8, mask),
-            samples,
-        ),
-        _ => pour(located::located(octets, at, n, mask), samples),
+        5 => bodies::binary(octets, at, n, mask, samples),
+        6 => bodies::plus_minus(octets, at, n, h.mark as u8, mask, samples),
+        _ => located::located(octets, at, n, mask, samples),
     }
 }
 

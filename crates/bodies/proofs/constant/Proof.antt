@@ -15,13 +15,13 @@ enum-known-why c = search needs
 enum-known-sample : tie.Need-enum-known-sample
 enum-known-sample c = search needs
 
-cast-filled-lent : tie.Need-cast-filled-lent
-cast-filled-lent c =
+cast-filled : tie.Need-cast-filled
+cast-filled c =
     let v = told (c .before .before .before .number .ensures) (c .before .sample .given .1) in
     omega arith
 
-filled-lent-requires : tie.Need-filled-lent-requires
-filled-lent-requires c κs = search needs
+filled-requires : tie.Need-filled-requires
+filled-requires c κs = search needs
 
 returns : tie.Need-returns
 returns c = fills-refused (rw (refused (c .before .before .before .number .ensures) (c .before .why .given .1))) (c .before .before .before .before .before .pre .2)
@@ -29,7 +29,7 @@ returns c = fills-refused (rw (refused (c .before .before .before .number .ensur
 returns-2 : tie.Need-returns-2
 returns-2 c =
     let v = told (c .before .before .before .before .before .number .ensures) (c .before .before .before .sample .given .1) in
-    fills-as (c .filled-lent .ensures) (rw (v .says)) (v .next)
+    fills-as (c .filled .ensures) (rw (v .says)) (v .next)
 
 pub constant-spec : {M : Type 1} → statement M
 constant-spec =
@@ -38,7 +38,7 @@ constant-spec =
     number-requires
     enum-known-why
     enum-known-sample
-    cast-filled-lent
-    filled-lent-requires
+    cast-filled
+    filled-requires
     returns
     returns-2)

@@ -9,7 +9,6 @@ use Rattle.rules.specs.Reading.{whole}
 use Rattle.rules.specs.Frame.{body}
 use Rattle.bodies.proofs.Poured.{fills-as}
 use Rattle.reader.proofs.Decided.{length-range}
-use Rattle.reader.proofs.Poured.{body-size}
 use Rattle.reader.proofs.body_of.Statement.{statement}
 use Rattle.reader.proofs.body_of.Tie as tie
 
@@ -35,38 +34,29 @@ uncompressed-requires c κs =
 plus-zero-requires : tie.Need-plus-zero-requires
 plus-zero-requires c κs = search needs
 
-filled-lent-requires : tie.Need-filled-lent-requires
-filled-lent-requires c κs = (ranged (c .before .before .before .before) .1, lent (c .before .before .before .before))
+filled-requires : tie.Need-filled-requires
+filled-requires c κs = (ranged (c .before .before .before .before) .1, lent (c .before .before .before .before))
 
 minus-zero-requires : tie.Need-minus-zero-requires
 minus-zero-requires c κs = search needs
 
-filled-lent-requires-2 : tie.Need-filled-lent-requires-2
-filled-lent-requires-2 c κs = (ranged (c .before .before .before .before) .1, lent (c .before .before .before .before))
+filled-requires-2 : tie.Need-filled-requires-2
+filled-requires-2 c κs = (ranged (c .before .before .before .before) .1, lent (c .before .before .before .before))
 
 constant-requires : tie.Need-constant-requires
 constant-requires c κs = let s = c .before .before .before in (omega (arith, s .pre .0 .at), ranged s .1, lent s)
 
 binary-requires : tie.Need-binary-requires
-binary-requires c κs = let s = c .before .before in (omega (arith, s .pre .0 .at), ranged s .1, s .pre .3)
-
-pour-requires : tie.Need-pour-requires
-pour-requires c κs = (body-size (c .before .binary .ensures) (search needs), lent (c .before .before .before .before))
+binary-requires c κs = let s = c .before .before .before in (omega (arith, s .pre .0 .at), ranged s .1, s .pre .3, lent s)
 
 cast-plus-minus : tie.Need-cast-plus-minus
 cast-plus-minus c = search needs
 
 plus-minus-requires : tie.Need-plus-minus-requires
-plus-minus-requires c κs = let s = c .before .before .before in (omega (arith, s .pre .0 .at), ranged s .1, s .pre .3)
-
-pour-requires-2 : tie.Need-pour-requires-2
-pour-requires-2 c κs = (body-size (c .before .plus-minus .ensures) (search needs), lent (c .before .before .before .before .before))
+plus-minus-requires c κs = let s = c .before .before .before .before in (omega (arith, s .pre .0 .at), ranged s .1, s .pre .3, lent s)
 
 located-requires : tie.Need-located-requires
-located-requires c κs = let s = c .before .before in (omega (arith, s .pre .0 .at), ranged s .1, s .pre .3, s .pre .4)
-
-pour-requires-3 : tie.Need-pour-requires-3
-pour-requires-3 c κs = (body-size (c .before .located .ensures) (search needs), lent (c .before .before .before .before))
+located-requires c κs = let s = c .before .before .before in (omega (arith, s .pre .0 .at), ranged s .1, s .pre .3, s .pre .4, lent s)
 
 returns : tie.Need-returns
 unfolding body
@@ -78,13 +68,13 @@ returns-2 : tie.Need-returns-2
 unfolding body
 returns-2 c =
     let s = c .before .before .before .before .before in
-    fills-as (c .filled-lent .ensures) (of-tool s 2 (c .before .before .before .match .keys2) ∙ ap (λ (x : ℕ). whole (replicate (s .args .h .len) x) (s .args .h .at)) (sym (c .before .before .plus-zero .ensures))) (omega (arith, s .pre .0 .at))
+    fills-as (c .filled .ensures) (of-tool s 2 (c .before .before .before .match .keys2) ∙ ap (λ (x : ℕ). whole (replicate (s .args .h .len) x) (s .args .h .at)) (sym (c .before .before .plus-zero .ensures))) (omega (arith, s .pre .0 .at))
 
 returns-3 : tie.Need-returns-3
 unfolding body
 returns-3 c =
     let s = c .before .before .before .before .before in
-    fills-as (c .filled-lent2 .ensures) (of-tool s 3 (c .before .before .before .match .keys3) ∙ ap (λ (x : ℕ). whole (replicate (s .args .h .len) x) (s .args .h .at)) (sym (c .before .before .minus-zero .ensures))) (omega (arith, s .pre .0 .at))
+    fills-as (c .filled2 .ensures) (of-tool s 3 (c .before .before .before .match .keys3) ∙ ap (λ (x : ℕ). whole (replicate (s .args .h .len) x) (s .args .h .at)) (sym (c .before .before .minus-zero .ensures))) (omega (arith, s .pre .0 .at))
 
 returns-4 : tie.Need-returns-4
 unfolding body
@@ -95,20 +85,20 @@ returns-4 c =
 returns-5 : tie.Need-returns-5
 unfolding body
 returns-5 c =
-    let s = c .before .before .before .before .before in
-    fills-as (c .pour .ensures _ _ (c .before .before .binary .ensures)) (of-tool s 5 (c .before .before .before .match .keys5)) (omega (arith, s .pre .0 .at, ranged s))
+    let s = c .before .before .before .before in
+    fills-as (c .binary .ensures) (of-tool s 5 (c .before .before .match .keys5)) (omega (arith, s .pre .0 .at, ranged s))
 
 returns-6 : tie.Need-returns-6
 unfolding body
 returns-6 c =
-    let s = c .before .before .before .before .before .before in
-    fills-as (c .pour2 .ensures _ _ (c .before .before .plus-minus .ensures)) (of-tool s 6 (c .before .before .before .before .match .keys6)) (omega (arith, s .pre .0 .at))
+    let s = c .before .before .before .before .before in
+    fills-as (c .plus-minus .ensures) (of-tool s 6 (c .before .before .before .match .keys6)) (omega (arith, s .pre .0 .at))
 
 returns-7 : tie.Need-returns-7
 unfolding body
 returns-7 c =
-    let s = c .before .before .before .before .before in
-    fills-as (c .pour3 .ensures _ _ (c .before .before .located .ensures)) (of-tool s 7 (omega arith)) (omega (arith, s .pre .0 .at))
+    let s = c .before .before .before .before in
+    fills-as (c .located .ensures) (of-tool s 7 (omega arith)) (omega (arith, s .pre .0 .at))
 
 pub body-of-spec : {M : Type 1} → statement M
 body-of-spec =
@@ -116,17 +106,14 @@ body-of-spec =
     (tie.spec
     uncompressed-requires
     plus-zero-requires
-    filled-lent-requires
+    filled-requires
     minus-zero-requires
-    filled-lent-requires-2
+    filled-requires-2
     constant-requires
     binary-requires
-    pour-requires
     cast-plus-minus
     plus-minus-requires
-    pour-requires-2
     located-requires
-    pour-requires-3
     returns
     returns-2
     returns-3
