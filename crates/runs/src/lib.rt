@@ -26,10 +26,11 @@ fn run(octets: &[u8], at: usize, n: usize, s: usize, left: usize) -> Outcome
     requires { ⌜ (at ≤ 2 ^ 39) × (n ≤ 320) × (s ≤ 9) × (left ≤ 320) ⌝ }
     ensures { λ r. ⌜ Reads (oneRun n s left (bitsOf (now (octets .entry))) at) left (at + 330) r ⌝ }
 {
+    let too_long = left + 1;
     match bits::rice(octets, at, n, s) {
         Outcome::Refused(why, bit) => Outcome::Refused(why, bit),
         Outcome::Got(v, next) => {
-            if left < v {
+            if too_long <= v {
                 return Outcome::Refused(Refusal::Run, at);
             }
             Outcome::Got(v, next)

@@ -8,6 +8,9 @@ use Rattle.runs.proofs.Turn.{run-long, run-fits}
 use Rattle.runs.proofs.run.Statement.{statement}
 use Rattle.runs.proofs.run.Tie as tie
 
+add-too-long : tie.Need-add-too-long
+add-too-long c = search needs
+
 rice-requires : tie.Need-rice-requires
 rice-requires c κs = search needs
 
@@ -34,4 +37,4 @@ returns-3 c =
 
 pub run-spec : {M : Type 1} → statement M
 run-spec =
-    tie.close (tie.spec rice-requires enum-known-why enum-known-v returns returns-2 returns-3)
+    tie.close (tie.spec add-too-long rice-requires enum-known-why enum-known-v returns returns-2 returns-3)
