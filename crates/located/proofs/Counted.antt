@@ -1,4 +1,4 @@
--- Empty cells: how many there are, and that each flag that is 1 fills one.
+-- Empty cells: how many there are, and what is laid into them.
 use Prim.Native.Nat.{ℕ, zero, suc, _+_, _≤_, _<_}
 use mathlib.Core.Path.{_≡_, refl, sym, ap, _∙_}
 use mathlib.Core.List.{List, [], _∷_, _++_}
@@ -10,8 +10,7 @@ use lib.ListN.{length, getD, drop, replicate, drop-of-length-le}
 use lib.Seq.{drop-cons}
 use borrow.Author.Tests.{eq-eqb}
 use Rattle.rules.specs.Located.{emptyIn, lay}
-use Rattle.rules.specs.Chooses.{countOf}
-use Rattle.runs.specs.Flagged.{marked, kindOf, kinds}
+use Rattle.runs.specs.Flagged.{kindOf, kinds}
 use Rattle.located.specs.Valued.{fillIn}
 
 pub empty-most : (z : ℕ) (cells : List ℕ) → emptyIn z cells ≤ length cells
@@ -32,29 +31,6 @@ pub length-lay : (z x : ℕ) (flags : List ℕ) (p : ℕ) (cells : List ℕ) →
 unfolding lay
 length-lay z x flags p [] = refl
 length-lay z x flags p (y ∷ cells) = ap suc (length-lay z x flags (cond (eqb y z) (p + 1) p) cells)
-
-one-cell : (z x : ℕ) (b : Bool) → eqb x z ≡ false → cond (eqb (cond b x z) z) 1 0 + cond b 1 0 ≡ 1
-one-cell z x true h = rw h
-one-cell z x false h = rw (eq-eqb z z refl)
-
--- what is left empty is what was, less the flags that are 1
-pub lay-count : (z x : ℕ) (flags : List ℕ) (p : ℕ) (cells : List ℕ) → eqb x z ≡ false → length flags ≡ p + emptyIn z cells
-    → emptyIn z (lay z x flags p cells) + marked (drop p flags) ≡ emptyIn z cells
-unfolding lay emptyIn countOf
-lay-count z x flags p [] h e = rw (drop-of-length-le flags {i = p} (omega arith))
-lay-count z x flags p (y ∷ cells) h e = go (eqb y z) refl e (lay-count z x flags (p + 1) cells h) (lay-count z x flags p cells h)
-  where
-    go : (b : Bool) → eqb y z ≡ b → length flags ≡ p + (cond b 1 0 + emptyIn z cells)
-        → (length flags ≡ p + 1 + emptyIn z cells → emptyIn z (lay z x flags (p + 1) cells) + marked (drop (p + 1) flags) ≡ emptyIn z cells)
-        → (length flags ≡ p + emptyIn z cells → emptyIn z (lay z x flags p cells) + marked (drop p flags) ≡ emptyIn z cells)
-        → emptyIn z (cond b (cond (eqb (getD flags p 0) 1) x z) y ∷ lay z x flags (cond b (p + 1) p) cells) + marked (drop p flags) ≡ cond b 1 0 + emptyIn z cells
-    go true q k i j =
-        let s = i (omega arith) in
-        let o = one-cell z x (eqb (getD flags p 0) 1) h in
-        let l : p < length flags = omega arith in
-        let t : marked (drop p flags) ≡ cond (eqb (getD flags p 0) 1) 1 0 + marked (drop (p + 1) flags) = rw (drop-cons flags p 0 l, add-one p) in
-        omega arith
-    go false q k i j = let s = j (omega arith) in rw q (omega arith)
 
 -- where all cells are empty, the flags' kinds are the cells
 lay-kinds : (z x : ℕ) (flags : List ℕ) (p k : ℕ) → p + k ≡ length flags → lay z x flags p (replicate k z) ≡ kinds z x (drop p flags)

@@ -12,6 +12,7 @@ use Rattle.rules.specs.declared.Refusal.{Refusal}
 use Rattle.rules.specs.Bits.{bitsOf}
 use Rattle.rules.specs.Reading.{Read, whole, refuse, andThen}
 use Rattle.rules.specs.Located.{emptyIn, lay, valuesInto}
+use Rattle.rules.proofs.Laid.{lay-count}
 use Rattle.bits.specs.declared.Outcome.{Outcome}
 use Rattle.bits.specs.declared.Outcome.the-variants.{Got, Refused}
 use Rattle.runs.specs.Flagged.{kinds}
@@ -19,7 +20,7 @@ use Rattle.runs.proofs.Answer.{Marks-as}
 use Rattle.runs.proofs.Puts.{length-kinds}
 use Rattle.bodies.specs.Bodied.{endOf, Leaves, FillsBody}
 use Rattle.located.specs.Valued.{flagsOf, fillIn, Lays, LaysCells, Apart}
-use Rattle.located.proofs.Counted.{empty-most, empty-all, length-lay, lay-count, lay-first, fill-lay}
+use Rattle.located.proofs.Counted.{empty-most, empty-all, length-lay, lay-first, fill-lay}
 use Rattle.located.proofs.OneValue.{values-step}
 
 pub apart-at : (z : ℕ) (xs : List ℕ) → Apart z xs → (i : ℕ) → i < length xs → eqb (getD xs i 0) z ≡ false
@@ -104,7 +105,7 @@ module _ (s : List ℕ) (at n z : ℕ) (xs : List ℕ) (count : ℕ) (some : 0 <
       in
       let e = empty-all z n in
       let o = m .ones in
-      let c = lay-count z x flags 0 (replicate n z) apart (m .size ∙ omega arith) in
+      let c = lay-count z x flags (replicate n z) apart (m .size ∙ sym e) in
       record {
         says = rw t (first-step (m .says));
         left = rw t (omega arith);
@@ -165,7 +166,7 @@ module _ {s : List ℕ} {at n z : ℕ} {xs : List ℕ} {count : ℕ} {old cells 
       counted =
           let e = g .empty in
           let o = m .ones in
-          let c = lay-count z (getD xs done 0) (m .flags) 0 (take n cells) apart (m .size ∙ omega arith) in
+          let c = lay-count z (getD xs done 0) (m .flags) (take n cells) apart (m .size ∙ e) in
           omega arith
 
       pub in-turn-ones : ones ≤ left

@@ -13,12 +13,12 @@ use Rattle.rules.specs.Bits.{bitsOf}
 use Rattle.rules.specs.Reading.{Read, whole, refuse, andThen, give, fail, numberFrom}
 use Rattle.rules.specs.Located.{byMethod, emptyIn, lay, valuesInto}
 use Rattle.rules.proofs.Octets.{length-bitsOf, bitsOf-below}
+use Rattle.rules.proofs.Laid.{lay-count}
 use Rattle.rules.proofs.Gives.{Sized, gives-byMethod}
 use Rattle.rules.proofs.Accepted.{number-next}
 use Rattle.bits.proofs.Cut.{number-cut}
 use Rattle.runs.specs.Flagged.{marked}
 use Rattle.located.specs.Valued.{flagsOf}
-use Rattle.located.proofs.Counted.{lay-count}
 
 -- bits that were read are there
 inside : (s : List ℕ) (at : ℕ) {m first : ℕ} → numberFrom 0 3 (bitsOf s) at ≡ whole m first → first ≤ length (bitsOf s)
@@ -41,7 +41,7 @@ module _ (s : List ℕ) (n z x : ℕ) (xs cells : List ℕ) (at : ℕ) (apart : 
       → eqb (emptyIn z (lay z x flags 0 cells)) 0 ≡ leb (emptyIn z cells) (marked flags)
   left-after {m} {first} {flags} {k} p q =
       let g = gives-byMethod n (emptyIn z cells) at m .on (bitsOf-below s) (inside s at p) q in
-      same-test (emptyIn z (lay z x flags 0 cells)) (marked flags) (emptyIn z cells) (lay-count z x flags 0 cells apart (g .2 .size ∙ omega arith))
+      same-test (emptyIn z (lay z x flags 0 cells)) (marked flags) (emptyIn z cells) (lay-count z x flags cells apart (g .2 .size))
 
   pub values-step : valuesInto n z (x ∷ xs) cells (bitsOf s) at
       ≡ andThen (flagsOf n (emptyIn z cells) (bitsOf s) at) (λ flags j. valuesInto n z xs (lay z x flags 0 cells) (bitsOf s) j)

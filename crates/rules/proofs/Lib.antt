@@ -8,3 +8,4 @@ pub mod Gives
 pub mod Accepted
 pub mod Named
 pub mod Kept
+pub mod Laid
