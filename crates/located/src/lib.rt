@@ -256,6 +256,13 @@ fn some(count: usize, first: u8, second: u8, third: u8) -> Row
     }
 }
 
+// No values.
+fn no_row() -> Row
+    ensures { λ r. ⌜ RowOf [] r ⌝ }
+{
+    some(0, 0, 0, 0)
+}
+
 // The table of range cases: flag 1 begins with 1, flag 0 with -1. A mask is odd, so the octets of 1, -1 and -2 are 127 + mask, the mask, and the mask less 1.
 fn row_of(n: usize, case: usize, flag: usize, mask: u8) -> Row
     requires { ⌜ (mask < 128) × (mask % 2 ≡ 1) ⌝ }
@@ -264,11 +271,11 @@ fn row_of(n: usize, case: usize, flag: usize, mask: u8) -> Row
     let one = 127 + mask;
     let less = mask - 1;
     if n < 80 {
-        return some(0, 0, 0, 0);
+        return no_row();
     }
     if case == 0 {
         if n < 240 {
-            return some(0, 0, 0, 0);
+            return no_row();
         }
         if flag == 1 {
             return some(3, one, mask, less);
@@ -283,14 +290,14 @@ fn row_of(n: usize, case: usize, flag: usize, mask: u8) -> Row
     }
     if case == 2 {
         if flag == 1 {
-            return some(0, 0, 0, 0);
+            return no_row();
         }
         return some(2, mask, less, 0);
     }
     if flag == 1 {
         return some(1, one, 0, 0);
     }
-    some(0, 0, 0, 0)
+    no_row()
 }
 
 // "Range case (2 bits), flag (1 bit), then the values in turn"; CASE is judged of all three bits and N together.
