@@ -1,7 +1,7 @@
 // Reading at a place of octets, bits highest first: a bit, a number, the zeros before a one, a Rice code.
 // A place is a bit of the octets. What is read, or refused and at which bit, is what the definitions of `rules` say.
 ghost use mathlib.Core.Path.{_≡_};
-ghost use Prim.Native.Nat.{_+_, _*_, _-_, _^_, _/_, _≤_, _<_, max};
+ghost use Prim.Native.Nat.{_+_, _*_, _-_, _^_, _/_, _%_, _≤_, _<_, max};
 ghost use mathlib.Core.List.{_++_};
 ghost use lib.ListN.{length, getD, take, drop, replicate};
 ghost use Rattle.rules.specs.Bits.{lowBits, bitsOf};
@@ -72,13 +72,18 @@ fn octet_at(octets: &[u8], i: usize) -> u8
     0
 }
 
-// Five octets as one number.
+fn word(octet: u8) -> u32
+    ensures { λ r. ⌜ r ≡ octet ⌝ }
+{
+    octet as u32
+}
+
+// Five octets as one number; the compiler reads the first four at once.
 fn five(a: u8, b: u8, c: u8, d: u8, e: u8) -> usize
     ensures { λ r. ⌜ r ≡ 256 * (256 * (256 * (256 * a + b) + c) + d) + e ⌝ }
 {
-    let two = 256 * wide(a) + wide(b);
-    let four = 256 * (256 * two + wide(c)) + wide(d);
-    256 * four + wide(e)
+    let four = 16777216 * word(a) + 65536 * word(b) + 256 * word(c) + word(d);
+    256 * (four as usize) + wide(e)
 }
 
 // The bits of the five octets from octet i on; an octet that is missing counts 0.
@@ -86,22 +91,22 @@ fn window_at(octets: &[u8], i: usize) -> usize
     requires { ⌜ i ≤ 2 ^ 40 ⌝ }
     ensures { λ r. ⌜ lowBits 40 r ≡ take 40 (bitsOf (drop i (now (octets .entry)) ++ replicate 5 0)) ⌝ }
 {
-    if octets.len() < i + 5 {
-        return five(
-            octet_at(octets, i),
-            octet_at(octets, i + 1),
-            octet_at(octets, i + 2),
-            octet_at(octets, i + 3),
-            octet_at(octets, i + 4),
-        );
-    }
     five(
-        octets[i],
-        octets[i + 1],
-        octets[i + 2],
-        octets[i + 3],
-        octets[i + 4],
+        octet_at(octets, i),
+        octet_at(octets, i + 1),
+        octet_at(octets, i + 2),
+        octet_at(octets, i + 3),
+        octet_at(octets, i + 4),
     )
+}
+
+// The n bits from place `at` on, out of the window that begins with their octet.
+fn from_window(window: usize, at: usize, n: usize) -> usize
+    requires { ⌜ n ≤ 32 ⌝ }
+    ensures { λ r. ⌜ (r ≡ window / 2 ^ (40 - (at % 8 + n)) % 2 ^ n) × (r ≤ 2 ^ n - 1) ⌝ }
+{
+    let past = 40 - (at % 8 + n);
+    (window >> past) % (1 << n)
 }
 
 // The first bit that is missing, of some from `at` on.
@@ -115,6 +120,18 @@ pub fn missing(octets: &[u8], at: usize) -> usize
     8 * octets.len()
 }
 
+// The number of the next n bits where fewer than five octets are left: they may be missing.
+fn number_near_end(octets: &[u8], at: usize, n: usize) -> Outcome
+    requires { ⌜ (at ≤ 2 ^ 40) × (0 < n) × (n ≤ 32) ⌝ }
+    ensures { λ r. ⌜ Reads (numberFrom 0 n (bitsOf (now (octets .entry))) at) (2 ^ n - 1) (at + n) r ⌝ }
+{
+    let end = at + n;
+    if octets.len() < (end + 7) / 8 {
+        return Outcome::Refused(Refusal::Short, missing(octets, at));
+    }
+    Outcome::Got(from_window(window_at(octets, at / 8), at, n), end)
+}
+
 // The number of the next n bits, from a window of five octets.
 pub fn number(octets: &[u8], at: usize, n: usize) -> Outcome
     requires { ⌜ (at ≤ 2 ^ 40) × (n ≤ 32) ⌝ }
@@ -123,13 +140,18 @@ pub fn number(octets: &[u8], at: usize, n: usize) -> Outcome
     if n == 0 {
         return Outcome::Got(0, at);
     }
-    let end = at + n;
-    if octets.len() < (end + 7) / 8 {
-        return Outcome::Refused(Refusal::Short, missing(octets, at));
+    let i = at / 8;
+    if octets.len() < i + 5 {
+        return number_near_end(octets, at, n);
     }
-    let window = window_at(octets, at / 8);
-    let past = 40 - (at % 8 + n);
-    Outcome::Got((window >> past) % (1 << n), end)
+    let window = five(
+        octets[i],
+        octets[i + 1],
+        octets[i + 2],
+        octets[i + 3],
+        octets[i + 4],
+    );
+    Outcome::Got(from_window(window, at, n), at + n)
 }
 
 // "k zeros and a 1, then the low S bits of v"; N is the frame's length.

@@ -44,9 +44,9 @@ module _ {common other : ℕ} {old new : List ℕ} {from n v j : ℕ} (g : Sprea
   size : length (kinds common other (lowBits j (v / 2 ^ (n - j)))) ≡ j
   size = length-kinds common other (lowBits j (v / 2 ^ (n - j))) ∙ length-lowBits j (v / 2 ^ (n - j))
 
-  pub spreading-turn : (k : ℕ) {xs after : List ℕ} → j + k ≤ n → xs ≡ kinds common other (lowBits k (v / 2 ^ (n - (j + k)))) → Put new (from + j) xs after
+  pub spreading-turn : (k : ℕ) {i : ℕ} {xs after : List ℕ} → j + k ≤ n → xs ≡ kinds common other (lowBits k (v / 2 ^ (n - (j + k)))) → from + j ≡ i → Put new i xs after
       → Spreading common other old from n v (j + k) after
-  spreading-turn k {xs} {after} h e p =
+  spreading-turn k {i} {xs} {after} h e a p =
       let s = size in
       let f = g .fits in
       let b = g .before in
@@ -70,12 +70,12 @@ module _ {common other : ℕ} {old new : List ℕ} {from n v j : ℕ} (g : Sprea
       let f = g .fits in
       let r = g .room in
       let w = v / 2 ^ (n - (j + 1)) in
-      spreading-turn 1 (omega arith) (rw (div-one w, e)) (put-one new (from + j) x (omega arith))
+      spreading-turn 1 (omega arith) (rw (div-one w, e)) refl (put-one new (from + j) x (omega arith))
 
-  pub spreading-eight : {x : ℕ} {after : List ℕ} → j + 8 ≤ n → x ≡ v / 2 ^ (n - (j + 8)) % 256 → Put new (from + j) (kinds common other (lowBits 8 x)) after
+  pub spreading-eight : {x i : ℕ} {after : List ℕ} → j + 8 ≤ n → x ≡ v / 2 ^ (n - (j + 8)) % 256 → from + j ≡ i → Put new i (kinds common other (lowBits 8 x)) after
       → Spreading common other old from n v (j + 8) after
-  spreading-eight {x} h e p =
-      spreading-turn 8 h (ap (kinds common other) (ap (λ (y : ℕ). lowBits 8 y) e ∙ low-bits 8 8 (v / 2 ^ (n - (j + 8))) (omega arith))) p
+  spreading-eight {x} h e a p =
+      spreading-turn 8 h (ap (kinds common other) (ap (λ (y : ℕ). lowBits 8 y) e ∙ low-bits 8 8 (v / 2 ^ (n - (j + 8))) (omega arith))) a p
 
   pub spreading-all : n ≤ j → Put old from (kinds common other (lowBits n v)) new
   spreading-all h =
@@ -93,4 +93,17 @@ spreading-rest {common} {other} {old} {new} {after} {from} {n} {v} {j} {x} g h e
     let k = n - j in
     let z : n - (j + k) ≡ 0 = omega arith in
     let f : lowBits k x ≡ lowBits k (v / 2 ^ (n - (j + k))) = ap (λ (y : ℕ). lowBits k y) e ∙ low-bits k 8 v h ∙ rw (z, div-one v) in
-    spreading-all (spreading-turn g k (omega arith) (ap (kinds common other) f) p) (omega arith)
+    spreading-all (spreading-turn g k (omega arith) (ap (kinds common other) f) refl p) (omega arith)
+
+-- a whole window, in four
+pub spreading-whole : (common other : ℕ) {old a b c d : List ℕ} (from v : ℕ) → Put old from (kinds common other (lowBits 8 (v / 2 ^ 24 % 256))) a
+    → Put a (from + 8) (kinds common other (lowBits 8 (v / 2 ^ 16 % 256))) b → Put b (from + 16) (kinds common other (lowBits 8 (v / 2 ^ 8 % 256))) c
+    → Put c (from + 24) (kinds common other (lowBits 8 (v % 256))) d → from + 32 ≤ 320 → length old ≡ 320 → Put old from (kinds common other (lowBits 32 v)) d
+spreading-whole common other {old} from v p q r s f b =
+    let none = spreading-none common other old from 32 v f b in
+    let one = spreading-eight none (omega arith) refl (omega arith) p in
+    let two = spreading-eight one (omega arith) refl (omega arith) q in
+    let three = spreading-eight two (omega arith) refl (omega arith) r in
+    let e : v % 256 ≡ v / 2 ^ (32 - (24 + 8)) % 256 = omega arith in
+    let four = spreading-eight three (omega arith) e (omega arith) s in
+    spreading-all four (omega arith)

@@ -4,8 +4,10 @@ use mathlib.Core.Path.{_≡_}
 use mathlib.Core.List.{List, _++_, map}
 use mathlib.Core.Bool.{cond}
 use lib.ListN.{length, getD, take, drop}
-use lib.Dec.{eqb}
-use Rattle.rules.specs.Reading.{Read, whole, refuse}
+use lib.Dec.{eqb, ltb}
+use Rattle.rules.specs.declared.Refusal.the-variants.{Run}
+use Rattle.rules.specs.Reading.{Read, whole, refuse, Reader, _>>=_, give, fail, here}
+use Rattle.rules.specs.Runs.{rice}
 use Rattle.rules.specs.Chooses.{countOf}
 use Rattle.bits.specs.declared.Outcome.{Outcome}
 use Rattle.bits.specs.declared.Outcome.the-variants.{Got, Refused}
@@ -21,6 +23,13 @@ kindOf common other f = cond (eqb f 1) other common
 
 abbrev pub kinds : ℕ → ℕ → List ℕ → List ℕ
 kinds common other flags = map (kindOf common other) flags
+
+-- a run over the places left: "a larger v is RUN, judged when v is whole"
+unfoldable pub oneRun : ℕ → ℕ → ℕ → Reader ℕ
+oneRun n s left = do
+  start ← here
+  v ← rice n s
+  cond (ltb left v) (fail Run start) (give v)
 
 -- xs put into cells from a place on
 pub record Put (old : List ℕ) (from : ℕ) (xs new : List ℕ) : Type 0 where

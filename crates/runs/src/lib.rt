@@ -6,7 +6,8 @@ ghost use lib.ListN.{length, replicate};
 ghost use Rattle.rules.specs.Bits.{lowBits, bitsOf};
 ghost use Rattle.rules.specs.Reading.{bitsFrom};
 ghost use Rattle.rules.specs.Runs.{runsFrom};
-ghost use Rattle.runs.specs.Flagged.{kindOf, kinds, Put, MarksCells};
+ghost use Rattle.bits.specs.Outcomes.{Reads};
+ghost use Rattle.runs.specs.Flagged.{oneRun, kindOf, kinds, Put, MarksCells};
 use bits::Outcome;
 use rules::Refusal;
 
@@ -17,6 +18,23 @@ pub fn fill(cells: &mut [u8; 320], d: usize, x: u8)
 {
     for i in 0..d {
         cells[i] = x;
+    }
+}
+
+// A run of v places, of those left.
+fn run(octets: &[u8], at: usize, n: usize, s: usize, left: usize) -> Outcome
+    requires { ⌜ (at ≤ 2 ^ 39) × (n ≤ 320) × (s ≤ 9) × (left ≤ 320) ⌝ }
+    ensures { λ r. ⌜ Reads (oneRun n s left (bitsOf (now (octets .entry))) at) left (at + 330) r ⌝ }
+{
+    let too_long = left + 1;
+    match bits::rice(octets, at, n, s) {
+        Outcome::Refused(why, bit) => Outcome::Refused(why, bit),
+        Outcome::Got(v, next) => {
+            if too_long <= v {
+                return Outcome::Refused(Refusal::Run, at);
+            }
+            Outcome::Got(v, next)
+        }
     }
 }
 
@@ -44,15 +62,11 @@ pub fn runs(
             break Outcome::Got(count, place);
         }
         let left = d - filled;
-        let too_long = left + 1;
-        match bits::rice(octets, place, n, s) {
+        match run(octets, place, n, s, left) {
             Outcome::Refused(why, bit) => {
                 break Outcome::Refused(why, bit);
             }
             Outcome::Got(v, next) => {
-                if too_long <= v {
-                    break Outcome::Refused(Refusal::Run, place);
-                }
                 // "the closing sample is imagined"
                 if v == left {
                     break Outcome::Got(count, next);
@@ -79,11 +93,22 @@ fn kind(flag: u16, common: u8, other: u8) -> u8
 // The n low bits of v, highest first, as cells from a place on: at most eight, so that the compiler lays them at once.
 fn few(cells: &mut [u8; 320], from: usize, v: u16, n: usize, common: u8, other: u8)
     requires { ⌜ (from + n ≤ 320) × (n ≤ 8) × (length (now cells) ≡ 320) ⌝ }
-    ensures { λ _. ⌜ Put (now (cells .entry)) from (kinds common other (lowBits n v)) (now (cells .exit)) ⌝ }
+    ensures { λ _. ⌜ Put (now (cells .entry)) from (kinds common other (lowBits n v)) (now (cells .exit)) × (length (now (cells .exit)) ≡ 320) ⌝ }
 {
     for j in 0..n {
         cells[from + j] = kind((v >> (n - (j + 1))) % 2, common, other);
     }
+}
+
+// The same of a whole window of 32 bits.
+fn spread_all(cells: &mut [u8; 320], from: usize, v: usize, common: u8, other: u8)
+    requires { ⌜ (from + 32 ≤ 320) × (length (now cells) ≡ 320) ⌝ }
+    ensures { λ _. ⌜ Put (now (cells .entry)) from (kinds common other (lowBits 32 v)) (now (cells .exit)) ⌝ }
+{
+    few(cells, from, ((v >> 24) % 256) as u16, 8, common, other);
+    few(cells, from + 8, ((v >> 16) % 256) as u16, 8, common, other);
+    few(cells, from + 16, ((v >> 8) % 256) as u16, 8, common, other);
+    few(cells, from + 24, (v % 256) as u16, 8, common, other);
 }
 
 // The same of a window, eight bits at a time.
@@ -91,6 +116,9 @@ fn spread(cells: &mut [u8; 320], from: usize, v: usize, n: usize, common: u8, ot
     requires { ⌜ (from + n ≤ 320) × (n ≤ 32) × (length (now cells) ≡ 320) ⌝ }
     ensures { λ _. ⌜ Put (now (cells .entry)) from (kinds common other (lowBits n v)) (now (cells .exit)) ⌝ }
 {
+    if n == 32 {
+        return spread_all(cells, from, v, common, other);
+    }
     let mut j = 0;
     while j + 8 <= n {
         let eight = (v >> (n - (j + 8))) % 256;

@@ -1,12 +1,10 @@
--- A number that is cut is SHORT (Cut); else it stands in the window of five octets (Window).
+-- Where five octets are left, all the bits are there, in their window (Window).
 use borrow.Author.Needs.{needs}
+use Prim.Native.Nat.{_/_}
 use native.Mathlib.Omega.{arith}
-use mathlib.Core.Path.{sym}
-use lib.Pow.{pow-pos}
+use mathlib.Core.Path.{refl, sym}
 use Rattle.rules.specs.Reading.{numberFrom}
-use Rattle.bits.proofs.Cut.{number-cut}
-use Rattle.bits.proofs.Window.{number-window}
-use Rattle.bits.proofs.Shift.{power-whole, low-small}
+use Rattle.bits.proofs.Window.{window-bits, number-window}
 use Rattle.bits.proofs.number.Statement.{statement}
 use Rattle.bits.proofs.number.Tie as tie
 
@@ -14,46 +12,60 @@ returns : tie.Need-returns
 unfolding numberFrom
 returns c = record { says = rw (c .if1 .taken); value = omega arith; next = omega arith }
 
-add-end : tie.Need-add-end
-add-end c = search needs
-
 add-if2 : tie.Need-add-if2
 add-if2 c = search needs
 
-missing-requires : tie.Need-missing-requires
-missing-requires c κs = search needs
+number-near-end-requires : tie.Need-number-near-end-requires
+number-near-end-requires c κs = search needs
 
 returns-2 : tie.Need-returns-2
-returns-2 c =
-    record { says = rw (c .missing .ensures) (sym (number-cut _ 0 _ _ (omega arith) (omega arith))); value = omega arith; next = omega arith }
+returns-2 c = c .number-near-end .ensures
 
-window-at-requires : tie.Need-window-at-requires
-window-at-requires c κs = search needs
+shared-slice-read-five : tie.Need-shared-slice-read-five
+shared-slice-read-five c = search needs
 
-add-past : tie.Need-add-past
-add-past c = search needs
+add-five : tie.Need-add-five
+add-five c = search needs
 
-sub-past : tie.Need-sub-past
-sub-past c = search needs
+shared-slice-read-five-2 : tie.Need-shared-slice-read-five-2
+shared-slice-read-five-2 c = search needs
 
-shr-t10 : tie.Need-shr-t10
-shr-t10 c = search needs
+add-five-2 : tie.Need-add-five-2
+add-five-2 c = search needs
 
-shl-t8 : tie.Need-shl-t8
-shl-t8 c = search needs
+shared-slice-read-five-3 : tie.Need-shared-slice-read-five-3
+shared-slice-read-five-3 c = search needs
 
-rem-t9 : tie.Need-rem-t9
-rem-t9 c =
-    let n = c .before .before .before .before .args .n in
-    rw (power-whole n (omega arith)) (pow-pos n)
+add-five-3 : tie.Need-add-five-3
+add-five-3 c = search needs
+
+shared-slice-read-five-4 : tie.Need-shared-slice-read-five-4
+shared-slice-read-five-4 c = search needs
+
+add-five-4 : tie.Need-add-five-4
+add-five-4 c = search needs
+
+shared-slice-read-five-5 : tie.Need-shared-slice-read-five-5
+shared-slice-read-five-5 c = search needs
+
+five-requires : tie.Need-five-requires
+five-requires c κs = search needs
+
+from-window-requires : tie.Need-from-window-requires
+from-window-requires c κs = search needs
+
+add-t8 : tie.Need-add-t8
+add-t8 c = search needs
 
 returns-3 : tie.Need-returns-3
 returns-3 c =
-    let n = c .before .before .before .before .args .n in
-    let w = power-whole n (omega arith) in
+    let k = c .before .before .before .before .before .before .before .before .before in
+    let g = k .before .args in
+    let w = c .from-window .ensures in
+    let b = window-bits (g .octets .now) (g .at / 8) refl refl refl refl refl (λ j. omega (arith, k .shared-slice-known .given j)) in
     record {
-      says = rw w (sym (number-window _ _ n _ (c .window-at .ensures) (omega arith) (omega arith)));
-      value = rw w (low-small _ n);
+      says = rw (w .0, c .before .five .ensures) (sym (number-window _ _ _ _ b (omega arith) (omega arith)));
+      value = w .1;
       next = omega arith;
     }
 
@@ -62,14 +74,19 @@ number-spec =
     tie.close
     (tie.spec
     returns
-    add-end
     add-if2
-    missing-requires
+    number-near-end-requires
     returns-2
-    window-at-requires
-    add-past
-    sub-past
-    shr-t10
-    shl-t8
-    rem-t9
+    shared-slice-read-five
+    add-five
+    shared-slice-read-five-2
+    add-five-2
+    shared-slice-read-five-3
+    add-five-3
+    shared-slice-read-five-4
+    add-five-4
+    shared-slice-read-five-5
+    five-requires
+    from-window-requires
+    add-t8
     returns-3)

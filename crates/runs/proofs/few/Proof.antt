@@ -46,7 +46,7 @@ loop-again : tie.Need-loop-again Inv-loop μ-loop
 loop-again c = spreading-one (c .before .before .loop .inv) (omega arith) (c .kind .ensures)
 
 returns : tie.Need-returns Inv-loop μ-loop
-returns c = spreading-all (c .before .loop .inv) (omega arith)
+returns c = (spreading-all (c .before .loop .inv) (omega arith), c .before .loop .inv .room)
 
 pub few-spec : {M : Type 1} → statement M
 few-spec =

@@ -1,4 +1,4 @@
--- Each turn puts eight bits in (Parts).
+-- A whole window, or eight bits a turn (Parts).
 use borrow.Author.Needs.{needs}
 use Prim.Native.Nat.{_-_}
 use mathlib.Core.Path.{refl}
@@ -12,6 +12,12 @@ Inv-loop cells₀ from v n common other j₀ cells j = Spreading common other ce
 
 abbrev μ-loop : tie.MeasureT-loop
 μ-loop cells₀ from v n common other j₀ cells j = n - j
+
+spread-all-requires : tie.Need-spread-all-requires Inv-loop μ-loop
+spread-all-requires c κs = search needs
+
+returns : tie.Need-returns Inv-loop μ-loop
+returns c = rw (c .before .before .if1 .taken) (c .spread-all .ensures)
 
 loop-holds : tie.Need-loop-holds Inv-loop μ-loop
 loop-holds c = spreading-none _ _ _ _ _ _ (omega arith) (omega arith)
@@ -44,7 +50,7 @@ loop-less : tie.Need-loop-less Inv-loop μ-loop
 loop-less c = search needs
 
 loop-again : tie.Need-loop-again Inv-loop μ-loop
-loop-again c = spreading-eight (c .before .before .before .loop .inv) (omega arith) refl (c .few .ensures)
+loop-again c = spreading-eight (c .before .before .before .loop .inv) (omega arith) refl refl (c .few .ensures .0)
 
 add-few-2 : tie.Need-add-few-2 Inv-loop μ-loop
 add-few-2 c = search needs
@@ -58,8 +64,8 @@ sub-few c = search needs
 few-requires-2 : tie.Need-few-requires-2 Inv-loop μ-loop
 few-requires-2 c κs = search needs
 
-returns : tie.Need-returns Inv-loop μ-loop
-returns c = spreading-rest (c .before .before .before .loop .inv) (omega arith) refl (c .few2 .ensures)
+returns-2 : tie.Need-returns-2 Inv-loop μ-loop
+returns-2 c = spreading-rest (c .before .before .before .loop .inv) (omega arith) refl (c .few2 .ensures .0)
 
 pub spread-spec : {M : Type 1} → statement M
 spread-spec =
@@ -67,6 +73,8 @@ spread-spec =
     (tie.spec
     Inv-loop
     μ-loop
+    spread-all-requires
+    returns
     loop-holds
     add-loop
     add-eight
@@ -82,4 +90,4 @@ spread-spec =
     cast-few-2
     sub-few
     few-requires-2
-    returns)
+    returns-2)
