@@ -3,16 +3,16 @@ use Prim.Native.Nat.{ℕ, suc, _+_, _-_, _≤_, _<_, zero-le}
 use mathlib.Core.Path.{_≡_, refl, sym, ap, subst, _∙_}
 use mathlib.Core.List.{List, _++_}
 use native.Mathlib.Omega.{arith}
-use native.Mathlib.Nat.{zero-add, le-refl}
+use native.Mathlib.Nat.{zero-add}
 use native.Mathlib.Numerals.{add-one}
-use lib.ListN.{length, getD, set, take, drop, replicate, length-take, length-drop, length-replicate, getD-replicate}
-use lib.Seq.{paste, paste-suc, take-all, getD-take, getD-drop}
+use lib.ListN.{length, getD, set, take, drop, length-take, length-drop}
+use lib.Seq.{paste-suc, take-all}
 use Rattle.rules.specs.declared.Refusal.{Refusal}
 use Rattle.rules.specs.Reading.{Read, whole, refuse}
 use Rattle.bits.specs.declared.Outcome.{Outcome}
 use Rattle.bits.specs.declared.Outcome.the-variants.{Got, Refused}
 use Rattle.runs.specs.Flagged.{Put}
-use Rattle.bodies.specs.Bodied.{Leaves, FillsBody}
+use Rattle.bodies.specs.Bodied.{FillsBody}
 
 pub poured-turn : (s d : List ℕ) (i : ℕ) → i < length s → i < length d
     → set (take i s ++ drop i d) i (getD s i 0) ≡ take (i + 1) s ++ drop (i + 1) d

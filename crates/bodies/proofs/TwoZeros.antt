@@ -1,14 +1,12 @@
 -- The zeros of flags, as the cells that two kinds mark.
 use Prim.Native.Nat.{ℕ, zero, suc, _+_, _≤_, _<_}
 use mathlib.Core.Path.{_≡_, refl, sym, ap, _∙_}
-use mathlib.Core.List.{List, [], _∷_, _++_, map}
+use mathlib.Core.List.{List, map}
 use native.Mathlib.Omega.{arith}
 use lib.Bits.{xor-zero-l}
-use lib.ListN.{length, drop, length-map}
-use borrow.Author.Tests.{eq-eqb, ne-eqb}
+use lib.ListN.{length, length-map}
 use Rattle.rules.specs.Reading.{Read, whole}
 use Rattle.rules.specs.Samples.{sampleOf, plusZero, minusZero}
-use Rattle.rules.specs.Zeros.{zeroOf}
 use Rattle.rules.proofs.Octets.{Below, none, more}
 use Rattle.bits.specs.declared.Outcome.the-variants.{Got}
 use Rattle.runs.specs.Flagged.{kindOf, kinds}

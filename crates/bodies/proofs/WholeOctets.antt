@@ -1,16 +1,15 @@
 -- Octets that are read from an octet's first bit on are the octets that are there.
-use Prim.Native.Nat.{ℕ, zero, suc, _+_, _*_, _-_, _^_, _/_, _%_, _≤_, _<_, max}
-use mathlib.Core.Path.{_≡_, refl, sym, ap, _∙_}
+use Prim.Native.Nat.{ℕ, zero, suc, _+_, _*_, _-_, _/_, _%_, _≤_, _<_, max}
+use mathlib.Core.Path.{_≡_}
 use mathlib.Core.List.{List, [], _∷_, _++_, append-assoc, append-nil}
 use native.Mathlib.Omega.{arith}
 use native.Mathlib.Nat.{add-zero}
-use native.Mathlib.Numerals.{add-one}
 use native.Mathlib.Decide.{decLe}
 use lib.ListN.{length, getD, take, drop}
 use lib.Seq.{drop-cons}
 use Rattle.rules.specs.declared.Refusal.the-variants.{Short}
 use Rattle.rules.specs.Bits.{bitsOf}
-use Rattle.rules.specs.Reading.{Read, whole, refuse, numberFrom, octetsAfter}
+use Rattle.rules.specs.Reading.{whole, refuse, octetsAfter}
 use Rattle.bits.proofs.Window.{number-octet}
 use Rattle.bits.proofs.Cut.{number-cut}
 

@@ -10,9 +10,9 @@ use Rattle.rules.specs.declared.Refusal.{Refusal}
 use Rattle.rules.specs.declared.Refusal.the-variants.{Tool, Room}
 use Rattle.rules.specs.Tools.{holds, isLength}
 use Rattle.rules.specs.Bits.{bitsOf}
-use Rattle.rules.specs.Reading.{Read, whole, refuse}
+use Rattle.rules.specs.Reading.{whole, refuse}
 use Rattle.rules.specs.Samples.{maskOf}
-use Rattle.rules.specs.Frame.{Found, body, withTool}
+use Rattle.rules.specs.Frame.{body, withTool}
 use Rattle.rules.proofs.Octets.{length-bitsOf, bitsOf-below}
 use Rattle.rules.proofs.Tests.{and-left, and-right, by-length}
 use Rattle.rules.proofs.Signed.{law-mask}

@@ -8,7 +8,7 @@ use Rattle.rules.specs.declared.Refusal.{Refusal}
 use Rattle.rules.specs.Bits.{fillFor}
 use Rattle.rules.specs.Reading.{Read, whole, refuse, andThen, filled}
 use Rattle.rules.specs.Frame.{Found}
-use Rattle.rules.specs.Calls.{readSamples, atStart}
+use Rattle.rules.specs.Calls.{readSamples}
 use Rattle.reader.specs.declared.Report.{Report}
 use Rattle.reader.specs.Answers.{Tells, Fills, ReadsInto, finish}
 use Rattle.reader.proofs.Filled.{filled-as}

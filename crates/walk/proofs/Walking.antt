@@ -1,5 +1,5 @@
 -- A walk on its way: the frames delivered, put before the walk of the rest, are the whole walk.
-use Prim.Native.Nat.{ℕ, zero, suc, _+_, _-_, _≤_, _<_}
+use Prim.Native.Nat.{ℕ, suc, _+_, _-_, _≤_, _<_}
 use mathlib.Core.Path.{_≡_, refl, sym, ap, subst, _∙_}
 use mathlib.Core.List.{List, [], _∷_, _++_, append-assoc, append-nil}
 use native.Mathlib.Omega.{arith}
@@ -9,11 +9,10 @@ use borrow.Author.Tests.{le-leb, lt-leb}
 use Rattle.rules.specs.declared.Refusal.{Refusal}
 use Rattle.rules.specs.declared.Ending.{Ending}
 use Rattle.rules.specs.declared.Ending.the-variants.{Done, Refused}
-use Rattle.rules.specs.declared.WalkAnswer.{WalkAnswer}
 use Rattle.rules.specs.Reading.{Read, whole, refuse}
 use Rattle.rules.specs.Frame.{Found, octetsUsed, readOne}
 use Rattle.rules.specs.Walk.{Delivered, Walked, stopped, before, walkFrom, octetsKept, samplesKept}
-use Rattle.rules.specs.Calls.{readEnd, readSamples, atStart, Walks}
+use Rattle.rules.specs.Calls.{atStart, Walks}
 use Rattle.rules.proofs.Accepted.{read-accepts, read-uses}
 use Rattle.reader.specs.declared.Report.{Report}
 use Rattle.reader.specs.Answers.{ReadsInto}

@@ -2,8 +2,7 @@
 use borrow.Author.Needs.{needs}
 use mathlib.Core.Path.{refl}
 use native.Mathlib.Nat.{le-refl}
-use native.Mathlib.Omega.{arith}
-use lib.ListN.{replicate, length-replicate}
+use lib.ListN.{length-replicate}
 use Rattle.bodies.proofs.Poured.{fills-put}
 use Rattle.bodies.proofs.filled.Statement.{statement}
 use Rattle.bodies.proofs.filled.Tie as tie

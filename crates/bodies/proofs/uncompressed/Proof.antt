@@ -1,10 +1,10 @@
 -- Octets that are there are copied one by one (Poured); else SHORT (WholeOctets).
 use borrow.Author.Needs.{needs}
 use Prim.Native.Nat.{ℕ, _-_, _/_, _<_}
-use mathlib.Core.Path.{refl, sym, ap, _∙_}
+use mathlib.Core.Path.{sym, _∙_}
 use mathlib.Core.List.{[]}
 use native.Mathlib.Omega.{arith}
-use lib.ListN.{length, getD, take, drop}
+use lib.ListN.{getD, take, drop}
 use lib.Seq.{getD-take, getD-drop}
 use Rattle.bodies.proofs.Poured.{Poured, poured-none, poured-next, poured-all, fills-refused, part-length}
 use Rattle.bodies.proofs.WholeOctets.{octets-there, octets-cut}

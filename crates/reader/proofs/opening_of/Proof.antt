@@ -2,9 +2,9 @@ use borrow.Author.Needs.{needs}
 use native.Mathlib.Omega.{arith}
 use mathlib.Core.Path.{_≡_, refl, sym, ap, _∙_}
 use mathlib.Core.List.{List}
-use Prim.Native.Nat.{ℕ, _≤_, _<_}
-use lib.ListN.{length, getD}
-use Rattle.rules.specs.First.{First, pad, firstOctet}
+use Prim.Native.Nat.{ℕ, _<_}
+use lib.ListN.{getD}
+use Rattle.rules.specs.First.{pad, firstOctet}
 use Rattle.rules.specs.Bits.{bitsOf}
 use Rattle.rules.specs.Frame.{afterFirst, frame}
 use Rattle.prefix.specs.declared.Begins.{Begins}
