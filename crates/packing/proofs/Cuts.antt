@@ -4,7 +4,7 @@ use native.Mathlib.Omega.{arith}
 use mathlib.Core.Path.{_≡_, refl, sym, ap, _∙_}
 use mathlib.Core.List.{List, [], _∷_, _++_, append-assoc}
 use mathlib.Core.Bool.{Bool, true, false, cond}
-use lib.ListN.{length, take, drop, length-append, length-drop, length-take}
+use lib.ListN.{length, take, drop, length-append, length-drop, length-take, take-append-drop}
 use lib.Seq.{take-add, take-all, take-length, length-take-le, take-append-le, drop-append-le}
 use lib.Dec.{eqb}
 use borrow.Author.Tests.{eq-eqb, ne-eqb, eqb-true, eqb-false}
@@ -105,3 +105,16 @@ cuts-few n s = few-from (length s) n s (omega arith)
 
 pub cuts-inside : (n : ℕ) (s : List ℕ) → length (soundIn (cuts n s)) ≤ length s
 cuts-inside n s = omega (arith, ap length (cuts-start n s) ∙ length-take (length (soundIn (cuts n s))) s)
+
+-- of such a sound nothing is left
+pub cuts-multiple : (n k : ℕ) (a : List ℕ) → isLength n ≡ true → length a ≡ k * n → soundIn (cuts n a) ≡ a
+unfolding soundIn
+cuts-multiple n zero [] i e = ap soundIn (cuts-none n [] (next-none n 0 (omega arith)))
+cuts-multiple n zero (x ∷ a) i e = absurd (omega arith)
+cuts-multiple n (suc k) a i e =
+    let m : 1 ≤ n = by-length (λ n. 1 ≤ n) (omega arith) (omega arith) (omega arith) (omega arith) (omega arith) n i in
+    let whole : n ≤ length a = omega (arith, e) in
+    let rest : length (drop n a) ≡ k * n = length-drop n a ∙ omega (arith, e) in
+    ap soundIn (cuts-next n n a (next-whole n (length a) i whole) m)
+    ∙ ap (λ (x : List ℕ). take n a ++ x) (cuts-multiple n k (drop n a) i rest)
+    ∙ take-append-drop n a

@@ -6,3 +6,5 @@ pub mod Way
 pub mod Ordered
 pub mod Whole
 pub mod Identity
+pub mod Parts
+pub mod Filling

@@ -13,7 +13,7 @@ use Rattle.rules.specs.declared.Ending.{Ending}
 use Rattle.rules.specs.declared.Ending.the-variants.{Done, Refused}
 use Rattle.rules.specs.Tools.{isLaw, isWriterSet, isLength}
 use Rattle.packing.specs.declared.PackAnswer.{PackAnswer}
-use Rattle.packing.specs.Packing.{cuts, formOctets, soundIn, streamOf, Packed, halted, before, putAll, lastEnd, endOf, packAll, Pack}
+use Rattle.packing.specs.Packing.{cuts, formOctets, soundIn, streamOf, Packed, halted, before, putAll, lastEnd, endOf, packAll, Packs}
 use Rattle.packing.proofs.Cuts.{cuts-whole, cuts-few, cuts-inside}
 
 -- so many frames, so much sound and so many octets at most
@@ -66,7 +66,7 @@ pack-bounds sound law set n room =
     })))
 
 -- A packing that ended well
-not-done : {A : Type 0} (why : Refusal) → Refused why ≡ Done → A
+pub not-done : {A : Type 0} (why : Refusal) → Refused why ≡ Done → A
 not-done why e = let z : _≡_ {A = ℕ} 0 1 = cc in absurd (omega arith)
 
 put-done : (law set room : ℕ) (frames : List (List ℕ)) (end : Ending) → putAll law set room frames end .end ≡ Done
@@ -122,3 +122,15 @@ well-packed sound law set n room e =
       frames = f;
       sound-whole = ap soundIn f ∙ cuts-whole n sound (last-done (length sound - length (soundIn (cuts n sound))) (d .1));
     }
+
+-- so an answer keeps within the sound and the room
+pub record Inside (sound room : ℕ) (r : PackAnswer) : Type 0 where
+  pub frames : r .frames ≤ sound
+  pub samples : r .samples ≤ sound
+  pub octets : r .octets ≤ room
+
+pub pack-inside : (sound : List ℕ) (law set n room : ℕ) (out out′ : List ℕ) {r : PackAnswer} → Packs law set (packAll sound law set n room) r out out′
+    → Inside (length sound) room r
+pack-inside sound law set n room out out′ p =
+    let b = pack-bounds sound law set n room in
+    record { frames = omega (arith, p .frames, b .frames-most); samples = omega (arith, p .samples, b .samples-most); octets = omega (arith, p .octets, b .octets-most) }

@@ -1,11 +1,11 @@
 // A sound packed into a stream of frames: each next frame is as long as the frame length and the sound left allow.
-ghost use Prim.Native.Nat.{_-_, _≤_};
+ghost use Prim.Native.Nat.{_+_, _-_, _^_, _≤_, _<_};
 ghost use mathlib.Core.Path.{_≡_};
 ghost use mathlib.Core.Bool.{true};
 ghost use lib.ListN.{length};
 ghost use Rattle.rules.specs.Tools.{isLaw, isWriterSet, isLength};
 ghost use Rattle.packing.specs.Packing.{largestUpTo, nextLength, cuts, lastEnd, endOf, putAll, Packs, Pack};
-ghost use Rattle.packing.specs.Parts.{PutsFrame, StopsAtOnce};
+ghost use Rattle.packing.specs.Parts.{PutsFrame, StopsAtOnce, PackOn, toFill, FillsUp};
 use rules::Ending;
 use rules::Refusal;
 use rules::WriteAnswer;
@@ -142,4 +142,37 @@ pub fn pack(sound: &[u8], law: u32, set: u32, n: usize, out: &mut [u8]) -> PackA
         return stopped(Refusal::Length);
     }
     frames(sound, law, set, n, out)
+}
+
+// The next part of a sound. Where the parts before it are whole frames, this is packing all of the sound at once (proofs/Parts).
+pub fn pack_on(done: PackAnswer, part: &[u8], law: u32, set: u32, n: usize, out: &mut [u8]) -> PackAnswer
+    requires { ⌜ (done .octets ≤ length (now out)) × (done .frames + length (now part) < 2 ^ 64) × (done .samples + length (now part) < 2 ^ 64) ⌝ }
+    ensures { λ r. ⌜ PackOn done (now (part .entry)) law set n (now (out .entry)) (now (out .exit)) r ⌝ }
+{
+    let e = done.end;
+    let Ending::Done = e else { return done; };
+    let at = done.octets;
+    let p = pack(part, law, set, n, &mut out[at..]);
+    let end = p.end;
+    PackAnswer {
+        end,
+        frames: done.frames + p.frames,
+        samples: done.samples + p.samples,
+        octets: at + p.octets,
+    }
+}
+
+// Plus zeros after the first `len` octets, up to the next multiple of 40, which every end of a sound can be cut into. Answers how many.
+pub fn fill_up(sound: &mut [u8], len: usize, law: u32) -> usize
+    requires { ⌜ len + toFill len ≤ length (now sound) ⌝ }
+    ensures { λ r. ⌜ FillsUp len law (now (sound .entry)) (now (sound .exit)) r ⌝ }
+{
+    let plus = law::plus_zero(law::mask_of(law));
+    let more = (40 - len % 40) % 40;
+    let mut i = 0;
+    while i < more {
+        sound[len + i] = plus;
+        i += 1;
+    }
+    more
 }
