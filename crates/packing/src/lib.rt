@@ -61,7 +61,15 @@ fn is_length(n: usize) -> bool
 }
 
 // One frame of the sound; its form goes to the output from `at` on.
-fn put_frame(sound: &[u8], from: usize, to: usize, law: u32, set: u32, out: &mut [u8], at: usize) -> WriteAnswer
+fn put_frame(
+    sound: &[u8],
+    from: usize,
+    to: usize,
+    law: u32,
+    set: u32,
+    out: &mut [u8],
+    at: usize,
+) -> WriteAnswer
     requires { ⌜ (from ≤ to) × (to ≤ length (now sound)) × (at ≤ length (now out)) ⌝ }
     ensures { λ r. ⌜ PutsFrame (now (sound .entry)) from (to - from) law set at (now (out .entry)) (now (out .exit)) r ⌝ }
 {
@@ -145,12 +153,21 @@ pub fn pack(sound: &[u8], law: u32, set: u32, n: usize, out: &mut [u8]) -> PackA
 }
 
 // The next part of a sound. Where the parts before it are whole frames, this is packing all of the sound at once (proofs/Parts).
-pub fn pack_on(done: PackAnswer, part: &[u8], law: u32, set: u32, n: usize, out: &mut [u8]) -> PackAnswer
+pub fn pack_on(
+    done: PackAnswer,
+    part: &[u8],
+    law: u32,
+    set: u32,
+    n: usize,
+    out: &mut [u8],
+) -> PackAnswer
     requires { ⌜ (done .octets ≤ length (now out)) × (done .frames + length (now part) < 2 ^ 64) × (done .samples + length (now part) < 2 ^ 64) ⌝ }
     ensures { λ r. ⌜ PackOn done (now (part .entry)) law set n (now (out .entry)) (now (out .exit)) r ⌝ }
 {
     let e = done.end;
-    let Ending::Done = e else { return done; };
+    let Ending::Done = e else {
+        return done;
+    };
     let at = done.octets;
     let p = pack(part, law, set, n, &mut out[at..]);
     let end = p.end;
