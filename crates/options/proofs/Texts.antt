@@ -8,7 +8,7 @@ use native.Mathlib.Numerals.{add-one}
 use lib.ListN.{length, getD, take, drop, length-append, length-drop, drop-of-length-le, List·getD-eq-default}
 use lib.Seq.{drop-cons, drop-length, take-length, take-all, take-at, drop-at, drop-drop}
 use lib.Dec.{eqb, leb}
-use borrow.Author.Tests.{eq-eqb, ne-eqb, eqb-true, le-leb, lt-leb}
+use borrow.Author.Tests.{eq-eqb, ne-eqb, eqb-true, le-leb, lt-leb, leb-true}
 use Rattle.options.specs.Words.{same, refusalNames, refusalName, Named}
 use Rattle.options.specs.Names.{placeAfter, placeFrom, endingAt, lawTold, newEnding, newName, Laid}
 
@@ -130,3 +130,11 @@ no-name (suc n) m = List·getD-eq-default refusalNames [] (beyond 13 (suc n) m (
 
 pub name-laid : {word octets out out′ : List ℕ} {len r : ℕ} → Named word octets len → Laid (take len octets ++ []) out out′ r → Laid word out out′ r
 name-laid {octets = octets} {len = len} n t = laid-as (append-nil (take len octets) ∙ n .says) t
+
+-- what is laid fits
+pub laid-fits : {text out out′ : List ℕ} {r : ℕ} → Laid text out out′ r → length out′ ≡ length out → r ≤ length out′
+laid-fits {text} {out} {out′} {r} t n = go (leb (length text) (length out)) refl (t .count)
+  where
+    go : (b : Bool) → leb (length text) (length out) ≡ b → r ≡ cond b (length text) 0 → r ≤ length out′
+    go true h e = omega (arith, leb-true (length text) (length out) h)
+    go false h e = omega arith

@@ -28,11 +28,12 @@ letterOf packs x =
 unfoldable pub numberedOf : Bool → ℕ → List ℕ → Argument
 numberedOf packs x rest = cond (leb 2 (wantedBy packs x)) (Counts (wantedBy packs x) (numberIn rest)) Unknown
 
--- what an argument is; "-" alone is a file, and so is what has no '-' in front
+-- what an argument is; "-" alone is a file, and so is what has no '-' in front; an empty one is nothing that is known
 unfoldable pub argumentOf : Bool → List ℕ → Argument
 argumentOf packs text =
-    cond (leb (length text) 1 || not (eqb (getD text 0 0) 0x2D)) File
-    (cond (eqb (length text) 2) (letterOf packs (getD text 1 0)) (numberedOf packs (getD text 1 0) (drop 2 text)))
+    cond (eqb (length text) 0) Unknown
+    (cond (eqb (length text) 1 || not (eqb (getD text 0 0) 0x2D)) File
+    (cond (eqb (length text) 2) (letterOf packs (getD text 1 0)) (numberedOf packs (getD text 1 0) (drop 2 text))))
 
 -- before any argument: the frame length is 160 and the set 127 unless said; files are given by their arguments' numbers, 0 is none
 abbrev pub atFirst : Bool → Settings

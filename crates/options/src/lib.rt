@@ -242,11 +242,14 @@ fn numbered_option(packs: bool, letter: u8, rest: &[u8]) -> Argument
     Argument::Counts(wanted, n)
 }
 
-// What an argument is; "-" alone is a file, and so is what has no '-' in front.
+// What an argument is; "-" alone is a file, and so is what has no '-' in front; an empty one is nothing that is known.
 pub fn argument_in(packs: bool, text: &[u8]) -> Argument
     ensures { λ r. ⌜ r ≡ argumentOf packs (now (text .entry)) ⌝ }
 {
-    if text.len() <= 1 {
+    if text.len() == 0 {
+        return Argument::Unknown;
+    }
+    if text.len() == 1 {
         return Argument::File;
     }
     if text[0] != b'-' {
