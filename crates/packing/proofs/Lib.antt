@@ -8,3 +8,4 @@ pub mod Whole
 pub mod Identity
 pub mod Parts
 pub mod Filling
+pub mod Onward

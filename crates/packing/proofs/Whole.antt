@@ -22,7 +22,7 @@ pub record Bounds (frames samples octets : ℕ) (p : Packed) (law set : ℕ) : T
   pub samples-most : length (soundIn (p .frames)) ≤ samples
   pub octets-most : length (streamOf law set (p .frames)) ≤ octets
 
-none-kept : (law set room frames samples : ℕ) (end : Ending) → Bounds frames samples room (halted end) law set
+pub none-kept : (law set room frames samples : ℕ) (end : Ending) → Bounds frames samples room (halted end) law set
 unfolding soundIn streamOf
 none-kept law set room frames samples end = record { frames-most = omega arith; samples-most = omega arith; octets-most = omega arith }
 
