@@ -5,7 +5,8 @@ ghost use mathlib.Core.Path.{_≡_};
 ghost use mathlib.Core.Bool.{true};
 ghost use lib.ListN.{length};
 ghost use Rattle.io.specs.Counts.{Counts};
-ghost use Rattle.pack.specs.Runs.{partSize, goesOn, Stands, stepsLeft};
+ghost use Rattle.pack.specs.Runs.{partSize, goesOn, WholeSound, Stands, stepsLeft};
+ghost use Rattle.rules.specs.declared.Ending.the-variants.{Done};
 use options::Settings;
 use packing::PackAnswer;
 use rules::Ending;
@@ -41,8 +42,8 @@ fn filled_up(fill: bool, part: &mut [u8], count: usize, law: u32) -> usize
 
 // One part read and packed.
 fn next_part(fd: i32, run: Run, s: Settings, part: &mut [u8], out: &mut [u8]) -> Run
-    requires { ⌜ (Stands (length (now out)) run) × (run .more ≡ true) × (length (now out) ≤ 65535) × (length (now part) ≡ partSize) ⌝ }
-    ensures stands { λ r. ⌜ Stands (length (now (out .entry))) r ⌝ }
+    requires { ⌜ (Stands s (now out) run) × (run .more ≡ true) × (length (now out) ≤ 65535) × (length (now part) ≡ partSize) ⌝ }
+    ensures stands { λ r. ⌜ Stands s (now (out .exit)) r ⌝ }
     ensures less { λ r. ⌜ stepsLeft (length (now (out .entry))) r < stepsLeft (length (now (out .entry))) run ⌝ }
 {
     let packed = run.packed;
@@ -71,8 +72,8 @@ fn next_part(fd: i32, run: Run, s: Settings, part: &mut [u8], out: &mut [u8]) ->
 
 // Part after part, until the sound ends, is refused or can't be read.
 fn all_parts(fd: i32, start: Run, s: Settings, part: &mut [u8], out: &mut [u8]) -> Run
-    requires { ⌜ (Stands (length (now out)) start) × (length (now out) ≤ 65535) × (length (now part) ≡ partSize) ⌝ }
-    ensures { λ r. ⌜ r .packed .octets ≤ length (now (out .entry)) ⌝ }
+    requires { ⌜ (Stands s (now out) start) × (length (now out) ≤ 65535) × (length (now part) ≡ partSize) ⌝ }
+    ensures { λ r. ⌜ Stands s (now (out .exit)) r ⌝ }
 {
     let mut run = start;
     while run.more {
@@ -83,7 +84,9 @@ fn all_parts(fd: i32, start: Run, s: Settings, part: &mut [u8], out: &mut [u8]) 
 }
 
 // The room is the longest stream, so ROOM is LONG here.
-fn number_for(end: Ending) -> u32 {
+fn number_for(end: Ending) -> u32
+    ensures { λ r. ⌜ (r ≡ 0 → end ≡ Done) ⌝ }
+{
     let number = options::number_of(end);
     if number == 4 {
         return 13;
@@ -113,9 +116,9 @@ fn explain_sound(number: u32) {
     }
 }
 
-// The stream is written, and then what was done is said.
-fn write_stream(run: Run, fill: bool, name: &[u8], out: &[u8])
-    requires { ⌜ run .packed .octets ≤ length (now out) ⌝ }
+// The stream of a whole sound is written, and then what was done is said.
+fn write_stream(run: Run, s: Settings, name: &[u8], out: &[u8])
+    requires { ⌜ (WholeSound s (now out) run) × (run .packed .octets ≤ length (now out)) ⌝ }
 {
     let fd = console::open_out(name);
     if fd < 0 {
@@ -133,7 +136,7 @@ fn write_stream(run: Run, fill: bool, name: &[u8], out: &[u8])
         return;
     }
     console::summary(p.frames, p.samples, to);
-    if fill {
+    if s.fill {
         console::say_number(b"filled=", run.filled);
         console::say(b"\n");
     }
@@ -142,7 +145,7 @@ fn write_stream(run: Run, fill: bool, name: &[u8], out: &[u8])
 
 // Nothing is written, and no file made, unless all of the sound was read and packed.
 fn finish(run: Run, s: Settings, in_name: &[u8], out_name: &[u8], out: &[u8])
-    requires { ⌜ run .packed .octets ≤ length (now out) ⌝ }
+    requires { ⌜ Stands s (now out) run ⌝ }
 {
     if run.failed {
         console::failed(true, in_name, b"standard input");
@@ -156,7 +159,7 @@ fn finish(run: Run, s: Settings, in_name: &[u8], out_name: &[u8], out: &[u8])
         console::refused(true, number, p.samples, 0);
         return;
     }
-    write_stream(run, s.fill, out_name, out);
+    write_stream(run, s, out_name, out);
 }
 
 // The settings are judged by packing no sound, before any file is opened.

@@ -10,7 +10,7 @@ use Rattle.pack.proofs.all_parts.Lts as lts
 use Rattle.pack.proofs.next_part.Reads as next-part-reads
 
 abbrev Inv-loop : tie.InvT-loop
-Inv-loop fd s part₀ out₀ run₀ part out run = Stands (length out₀) run × (length out ≡ length out₀) × (length part ≡ partSize)
+Inv-loop fd s part₀ out₀ run₀ part out run = Stands s out run × (length out ≡ length out₀) × (length part ≡ partSize)
 
 abbrev μ-loop : tie.MeasureT-loop
 μ-loop fd s part₀ out₀ run₀ part out run = stepsLeft (length out₀) run
@@ -29,7 +29,7 @@ loop-less c = let i = c .before .before .before .before .before .before .before 
 
 -- src/main.rt:78:5
 loop-again : tie.Need-loop-again Inv-loop μ-loop
-loop-again c = let i = c .before .before .before .before .before .before .before .before .loop .inv in (rw (i .1) at (c .before .before .before .before .next-part .ensures .0), c .before .before .before .before .next-part .kept .1 .1 .1 .1 .0 ∙ i .1, c .before .before .before .before .next-part .kept .1 .1 .1 .0 ∙ i .2)
+loop-again c = let i = c .before .before .before .before .before .before .before .before .loop .inv in (c .before .before .before .before .next-part .ensures .0, c .before .before .before .before .next-part .kept .1 .1 .1 .1 .0 ∙ i .1, c .before .before .before .before .next-part .kept .1 .1 .1 .0 ∙ i .2)
 
 -- src/main.rt:73:1
 same-length : tie.Need-same-length Inv-loop μ-loop

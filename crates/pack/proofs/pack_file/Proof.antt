@@ -1,12 +1,13 @@
 use borrow.Author.Needs.{needs}
 use Prim.Native.Nat.{_≤_}
-use mathlib.Core.Path.{_≡_, refl}
+use mathlib.Core.Path.{_≡_, sym, _∙_}
 use mathlib.Core.List.{[]}
 use mathlib.Core.Bool.{true, false}
 use native.Mathlib.Omega.{arith}
 use lib.ListN.{length}
 use Rattle.pack.specs.declared.Run.{Run}
 use Rattle.pack.proofs.Running.{stands-first}
+use Rattle.pack.proofs.Numbers.{number-done}
 use Rattle.pack.proofs.pack_file.Statement.{statement}
 use Rattle.pack.proofs.pack_file.Tie as tie
 use Rattle.pack.proofs.pack_file.Reads as reads
@@ -79,7 +80,7 @@ all-parts-requires c κs =
     let p = c .before .before .before .before .before .before .before .before .pack in
     let k = p .kept .1 .1 .1 .1 .0 in
     let start : Run = record { packed = p .result; filled = 0; more = true; failed = false } in
-    (rw k (stands-first (s .args .s .law) (s .args .s .set) (s .args .s .length) [] (s .args .out .now) (p .last .1 .1 .1 .1 .0) start refl (p .ensures)), omega (arith, k, s .pre .0), s .pre .1)
+    (stands-first (s .args .s) (s .args .out .now) (p .last .1 .1 .1 .1 .0) start k (p .ensures) (number-done (p .result .end) (sym (c .before .before .before .before .before .number-of .ensures) ∙ omega arith)), omega (arith, k, s .pre .0), s .pre .1)
 
 -- src/main.rt:184:5
 finish-requires : tie.Need-finish-requires

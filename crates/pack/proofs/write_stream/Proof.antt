@@ -32,7 +32,7 @@ returns c = search needs
 
 -- src/main.rt:125:27
 slice-aggregate-write-all : tie.Need-slice-aggregate-write-all
-slice-aggregate-write-all c = sym (length-take-le _ _ (c .before .before .before .before .before .before .pre))
+slice-aggregate-write-all c = sym (length-take-le _ _ (c .before .before .before .before .before .before .pre .1))
 
 -- src/main.rt:125:9
 write-all-requires : tie.Need-write-all-requires
