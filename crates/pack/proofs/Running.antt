@@ -5,7 +5,6 @@ use mathlib.Core.Path.{_≡_, refl, sym, _∙_}
 use mathlib.Core.List.{List, [], _++_}
 use mathlib.Core.Bool.{Bool, true, false, cond}
 use lib.ListN.{length, length-append}
-use lib.Dec.{eqb}
 use borrow.Author.Tests.{eqb-true}
 use Rattle.rules.specs.declared.Ending.{Ending}
 use Rattle.rules.specs.declared.Ending.the-variants.{Done, Refused}
@@ -13,10 +12,9 @@ use Rattle.rules.specs.Tools.{isLength}
 use Rattle.rules.proofs.Octets.{Below}
 use Rattle.rules.proofs.Tests.{by-length}
 use Rattle.options.specs.declared.Settings.{Settings}
-use Rattle.packing.specs.declared.PackAnswer.{PackAnswer}
 use Rattle.packing.specs.Packing.{Pack}
 use Rattle.packing.specs.Parts.{PackOn}
-use Rattle.packing.proofs.Whole.{Inside, pack-inside, WellPacked, well-packed}
+use Rattle.packing.proofs.Whole.{pack-inside, well-packed}
 use Rattle.packing.proofs.Parts.{carried-on}
 use Rattle.packing.proofs.Onward.{Adds, on-adds, on-takes-room}
 use Rattle.pack.specs.declared.Run.{Run}

@@ -5,8 +5,7 @@ ghost use mathlib.Core.Path.{_≡_};
 ghost use mathlib.Core.Bool.{true};
 ghost use lib.ListN.{length};
 ghost use Rattle.io.specs.Counts.{Counts};
-ghost use Rattle.pack.specs.Runs.{partSize, goesOn, WholeSound, Stands, stepsLeft};
-ghost use Rattle.rules.specs.declared.Ending.the-variants.{Done};
+ghost use Rattle.pack.specs.Runs.{partSize, goesOn, FilledIf, numberFor, WholeSound, Stands, stepsLeft};
 use options::Settings;
 use packing::PackAnswer;
 use rules::Ending;
@@ -32,7 +31,8 @@ fn may_go_on(end: Ending, count: usize) -> bool
 // Where it is asked, what the last part lacks is filled up.
 fn filled_up(fill: bool, part: &mut [u8], count: usize, law: u32) -> usize
     requires { ⌜ (length (now part) ≡ partSize) × (count ≤ partSize) ⌝ }
-    ensures { λ r. ⌜ count + r ≤ partSize ⌝ }
+    ensures filled { λ r. ⌜ FilledIf fill count law (now (part .entry)) (now (part .exit)) r ⌝ }
+    ensures most { λ r. ⌜ count + r ≤ partSize ⌝ }
 {
     if fill {
         return packing::fill_up(part, count, law);
@@ -85,7 +85,7 @@ fn all_parts(fd: i32, start: Run, s: Settings, part: &mut [u8], out: &mut [u8]) 
 
 // The room is the longest stream, so ROOM is LONG here.
 fn number_for(end: Ending) -> u32
-    ensures { λ r. ⌜ (r ≡ 0 → end ≡ Done) ⌝ }
+    ensures { λ r. ⌜ r ≡ numberFor end ⌝ }
 {
     let number = options::number_of(end);
     if number == 4 {

@@ -1,16 +1,16 @@
 -- The cuts of a sound: the next one and then those of the rest; together they are the start of the sound.
-use Prim.Native.Nat.{ℕ, zero, suc, _+_, _*_, _-_, _≤_, _<_}
+use Prim.Native.Nat.{ℕ, zero, suc, _+_, _*_, _-_, _≤_}
 use native.Mathlib.Omega.{arith}
 use mathlib.Core.Path.{_≡_, refl, sym, ap, _∙_}
-use mathlib.Core.List.{List, [], _∷_, _++_, append-assoc}
+use mathlib.Core.List.{List, [], _∷_, _++_}
 use mathlib.Core.Bool.{Bool, true, false, cond}
 use lib.ListN.{length, take, drop, length-append, length-drop, length-take, take-append-drop}
-use lib.Seq.{take-add, take-all, take-length, length-take-le, take-append-le, drop-append-le}
+use lib.Seq.{take-add, take-all, length-take-le, take-append-le, drop-append-le}
 use lib.Dec.{eqb}
-use borrow.Author.Tests.{eq-eqb, ne-eqb, eqb-true, eqb-false}
+use borrow.Author.Tests.{ne-eqb, eqb-false}
 use Rattle.rules.specs.Tools.{isLength}
 use Rattle.rules.proofs.Tests.{by-length}
-use Rattle.packing.specs.Packing.{nextLength, cutsFrom, cuts, soundIn, streamOf, formOctets}
+use Rattle.packing.specs.Packing.{nextLength, cutsFrom, cuts, soundIn}
 use Rattle.packing.proofs.Lengths.{next-none, next-fits, next-whole}
 
 -- more than enough cuts no more

@@ -1,26 +1,26 @@
 -- Packed and then walked, a sound is the same sound: by the same law, with any set that holds the writer's, given room.
-use Prim.Native.Nat.{ℕ, zero, suc, _-_, _≤_}
+use Prim.Native.Nat.{ℕ, zero, suc, _≤_}
 use native.Mathlib.Omega.{arith}
 use mathlib.Core.Path.{_≡_, refl, sym, ap, _∙_}
 use mathlib.Core.List.{List, [], _∷_, _++_}
 use mathlib.Core.Bool.{Bool, true, false, cond}
-use lib.ListN.{length, take, drop, length-drop}
+use lib.ListN.{length, take, drop}
 use lib.Seq.{take-at, length-take-le}
 use lib.Dec.{eqb}
 use borrow.Author.Tests.{eqb-false}
 use Rattle.rules.specs.declared.Ending.the-variants.{Done}
 use Rattle.rules.specs.declared.WalkAnswer.{WalkAnswer}
-use Rattle.rules.specs.Tools.{Within, isSet, isWriterSet, isLength}
+use Rattle.rules.specs.Tools.{Within, isSet, isWriterSet}
 use Rattle.rules.specs.Samples.{maskOf}
 use Rattle.rules.specs.Walk.{Walked, longest, walkAll, octetsKept, samplesKept}
 use Rattle.rules.specs.Calls.{atStart, Walks, Walk}
 use Rattle.rules.proofs.Octets.{Below, below-take, below-drop}
-use Rattle.promises.proofs.Written.{Frames, full}
-use Rattle.promises.proofs.Lists.{Part, frameOf, May, frames, All, last, then, stream, samplesAll, deliveries, lists-walked, deliveries-samples, deliveries-octets}
+use Rattle.promises.proofs.Written.{full}
+use Rattle.promises.proofs.Lists.{Part, frameOf, frames, All, last, then, stream, samplesAll, deliveries, lists-walked, deliveries-samples, deliveries-octets}
 use Rattle.packing.specs.declared.PackAnswer.{PackAnswer}
 use Rattle.packing.specs.Packing.{nextLength, cutsFrom, cuts, formOctets, soundIn, streamOf, Packed, packAll, Pack}
 use Rattle.packing.proofs.Lengths.{next-fits}
-use Rattle.packing.proofs.Whole.{WellPacked, well-packed, pack-bounds}
+use Rattle.packing.proofs.Whole.{well-packed, pack-bounds}
 
 -- frames as parts of a stream, each written with the same set
 unfoldable partsOf : ℕ → List (List ℕ) → List Part

@@ -1,10 +1,10 @@
 -- The next frame's length: what it is by ranges, that it is a length or 0, and that a whole frame length is taken where it fits.
 use Prim.Native.Nat.{ℕ, min, _≤_, _<_}
 use native.Mathlib.Omega.{arith}
-use mathlib.Core.Path.{_≡_, refl, sym, ap, subst, _∙_}
+use mathlib.Core.Path.{_≡_, refl, sym, ap, _∙_}
 use mathlib.Core.Bool.{Bool, true, false, cond}
 use lib.Dec.{eqb, leb}
-use borrow.Author.Tests.{le-leb, lt-leb, ne-eqb, eq-eqb, leb-true, leb-false, eqb-true}
+use borrow.Author.Tests.{le-leb, lt-leb, ne-eqb, eq-eqb, leb-true, leb-false}
 use Rattle.rules.specs.declared.Refusal.the-variants.{Length}
 use Rattle.rules.specs.declared.Ending.the-variants.{Done, Refused}
 use Rattle.rules.specs.Tools.{isLength}

@@ -2,7 +2,7 @@
 use Prim.Native.Nat.{ℕ, _+_, _-_, _≤_, _<_}
 use native.Mathlib.Omega.{arith}
 use mathlib.Core.Path.{_≡_, refl, sym, ap, _∙_}
-use mathlib.Core.List.{List, [], _∷_, _++_}
+use mathlib.Core.List.{List}
 use mathlib.Core.Bool.{Bool, true, false}
 use lib.ListN.{length, take, drop, length-append}
 use lib.Seq.{length-take-le}
@@ -15,11 +15,11 @@ use Rattle.rules.specs.Samples.{maskOf}
 use Rattle.rules.proofs.Octets.{Below, below-take}
 use Rattle.promises.proofs.Written.{Frames, full, chosen-short}
 use Rattle.packing.specs.declared.PackAnswer.{PackAnswer}
-use Rattle.packing.specs.Packing.{nextLength, cuts, formOctets, soundIn, streamOf, packAll}
+use Rattle.packing.specs.Packing.{nextLength, cuts, formOctets, soundIn, streamOf}
 use Rattle.packing.specs.Parts.{packedOn, PacksAfter, PackOn}
 use Rattle.packing.proofs.Lengths.{next-fits}
 use Rattle.packing.proofs.Cuts.{cuts-none, cuts-next}
-use Rattle.packing.proofs.Whole.{Bounds, pack-bounds, none-kept, not-done, WellPacked, well-packed}
+use Rattle.packing.proofs.Whole.{Bounds, pack-bounds, none-kept, not-done, well-packed}
 
 -- a frame has an octet
 form-some : (law set : ℕ) {s : List ℕ} → isWriterSet set ≡ true → Frames s → 1 ≤ length (formOctets law set s)

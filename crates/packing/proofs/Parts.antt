@@ -1,14 +1,14 @@
 -- A sound may be packed in parts: where a part's length is a multiple of the frame length, packing it and then the rest is packing the whole.
-use Prim.Native.Nat.{ℕ, zero, suc, _+_, _*_, _-_, _≤_}
+use Prim.Native.Nat.{ℕ, _*_, _-_, _≤_}
 use native.Mathlib.Omega.{arith}
-use mathlib.Core.Path.{_≡_, refl, sym, ap, subst, _∙_}
+use mathlib.Core.Path.{_≡_, refl, sym, ap, _∙_}
 use mathlib.Core.List.{List, [], _∷_, _++_, append-assoc}
 use mathlib.Core.Bool.{Bool, true, false, cond, not}
 use lib.ListN.{length, take, drop, length-append, length-drop, take-append-drop}
 use lib.Seq.{drop-drop, take-at, drop-at}
 use lib.Dec.{ltb}
 use Rattle.rules.specs.declared.Refusal.{Refusal}
-use Rattle.rules.specs.declared.Refusal.the-variants.{Room, Length, Set, Law}
+use Rattle.rules.specs.declared.Refusal.the-variants.{Room}
 use Rattle.rules.specs.declared.Ending.{Ending}
 use Rattle.rules.specs.declared.Ending.the-variants.{Done, Refused}
 use Rattle.rules.specs.Tools.{isLaw, isWriterSet, isLength}
@@ -17,7 +17,7 @@ use Rattle.packing.specs.Packing.{cuts, formOctets, soundIn, streamOf, P
 use Rattle.packing.specs.Parts.{packedOn, PacksAfter, PackOn}
 use Rattle.packing.proofs.Cuts.{cuts-parts, cuts-multiple}
 use Rattle.packing.proofs.Kept.{soundIn-append, streamOf-append, after}
-use Rattle.packing.proofs.Whole.{not-done, WellPacked, well-packed, Inside, pack-inside}
+use Rattle.packing.proofs.Whole.{not-done, well-packed, pack-inside}
 use Rattle.packing.proofs.Ordered.{packs-as, the-frames}
 
 -- frames put, and then others in the room that is left

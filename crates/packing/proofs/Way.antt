@@ -1,5 +1,5 @@
 -- Packing on its way: the frames packed, put before the packing of the rest, are the whole packing.
-use Prim.Native.Nat.{ℕ, zero, suc, _+_, _-_, _≤_, _<_}
+use Prim.Native.Nat.{ℕ, _+_, _-_, _≤_, _<_}
 use mathlib.Core.Path.{_≡_, refl, sym, ap, subst, _∙_}
 use mathlib.Core.List.{List, [], _∷_, _++_, append-assoc, append-nil}
 use mathlib.Core.Bool.{Bool, true, false, cond, _||_}
@@ -7,19 +7,18 @@ use native.Mathlib.Omega.{arith}
 use lib.ListN.{length, take, drop, length-append, length-drop, take-append-drop}
 use lib.Seq.{take-at, drop-at, drop-drop, take-all, length-take-le}
 use lib.Dec.{eqb, ltb}
-use borrow.Author.Tests.{le-ltb, lt-ltb, ltb-true, ltb-false, eq-eqb, ne-eqb}
+use borrow.Author.Tests.{le-ltb, lt-ltb, ltb-true, ltb-false}
 use Rattle.rules.specs.declared.Refusal.{Refusal}
-use Rattle.rules.specs.declared.Refusal.the-variants.{Room, Length}
+use Rattle.rules.specs.declared.Refusal.the-variants.{Room}
 use Rattle.rules.specs.declared.Ending.{Ending}
 use Rattle.rules.specs.declared.Ending.the-variants.{Done, Refused}
 use Rattle.rules.specs.declared.WriteAnswer.{WriteAnswer}
 use Rattle.rules.specs.Tools.{isLaw, isWriterSet, isLength}
 use Rattle.rules.specs.Bits.{octetsFor, octetsFrom, pack}
 use Rattle.rules.specs.Samples.{maskOf}
-use Rattle.rules.specs.Chooses.{Written, Write, wrote, declined, chosen, writeOne}
+use Rattle.rules.specs.Chooses.{wrote, declined, chosen, writeOne}
 use Rattle.rules.specs.Calls.{atStart, Writes}
 use Rattle.rules.proofs.Octets.{length-pack}
-use Rattle.packing.specs.declared.PackAnswer.{PackAnswer}
 use Rattle.packing.specs.Packing.{nextLength, cuts, formOctets, soundIn, streamOf, Packed, halted, before, putAll, lastEnd, endOf, Packs}
 use Rattle.packing.specs.Parts.{PutsFrame}
 use Rattle.packing.proofs.Lengths.{Fits, next-fits}
