@@ -9,7 +9,7 @@ use native.Mathlib.Nat.{add-zero}
 use lib.ListN.{length, getD, take, drop, drop-of-length-le}
 use lib.Seq.{drop-cons}
 use lib.Dec.{eqb}
-use borrow.Author.Tests.{eq-eqb, ne-eqb, eqb-true}
+use borrow.Author.Tests.{eq-eqb, ne-eqb, eqb-true, eqb-false}
 use Rattle.unpacking.specs.Agreeing.{agreeing}
 
 agreeing-none : (a : List ℕ) → agreeing a [] ≡ 0
@@ -46,3 +46,15 @@ agree-same (x ∷ a) (y ∷ b) = go (eqb x y) refl (agree-same a b)
         → take (cond t (suc (agreeing a b)) 0) (x ∷ a) ≡ take (cond t (suc (agreeing a b)) 0) (y ∷ b)
     go true e rest = rw (eqb-true x y e, rest)
     go false e rest = refl
+
+pub agree-next : (a b : List ℕ) → agreeing a b < length a → agreeing a b < length b → getD a (agreeing a b) 0 ≡ getD b (agreeing a b) 0 → ⊥
+unfolding agreeing
+agree-next [] b h k e = omega arith
+agree-next (x ∷ a) [] h k e = omega arith
+agree-next (x ∷ a) (y ∷ b) h k e = go (eqb x y) refl (agree-next a b) h k e
+  where
+    go : (t : Bool) → eqb x y ≡ t → (agreeing a b < length a → agreeing a b < length b → getD a (agreeing a b) 0 ≡ getD b (agreeing a b) 0 → ⊥)
+        → cond t (suc (agreeing a b)) 0 < suc (length a) → cond t (suc (agreeing a b)) 0 < suc (length b)
+        → getD (x ∷ a) (cond t (suc (agreeing a b)) 0) 0 ≡ getD (y ∷ b) (cond t (suc (agreeing a b)) 0) 0 → ⊥
+    go true p rest h k e = rest (omega arith) (omega arith) e
+    go false p rest h k e = eqb-false x y p e
