@@ -22,6 +22,9 @@ stops {why} {r} octets at out s e = (
       (record { end = s .end; at = s .at; frames = s .frames; samples = s .samples; more = s .more; lent = refl }),
   record {
     fits = omega (arith, s .samples);
+    held = omega (arith, s .samples);
+    few = omega (arith, s .frames);
+    passed = λ m. absurd (false≢true (sym (s .more) ∙ m));
     nearer = λ h m. absurd (false≢true (sym (s .more) ∙ m));
     inside = λ m. absurd (false≢true (sym (s .more) ∙ m));
   },

@@ -63,6 +63,7 @@ module _ (octets : List ℕ) (law set from : ℕ) (out₀ : List ℕ) where
     pub room : to ≤ length out₀
     pub few : from + count ≤ at
     pub held : to ≤ 320 * count
+    pub inside : count ≤ length octets
 
   pub part-start : Parting out₀ from 0 0
   unfolding samplesKept
@@ -78,6 +79,7 @@ module _ (octets : List ℕ) (law set from : ℕ) (out₀ : List ℕ) where
         room = omega arith;
         few = omega arith;
         held = omega arith;
+        inside = omega arith;
       }
 
   -- where it stops, with no frame left
@@ -117,7 +119,7 @@ module _ (octets : List ℕ) (law set from : ℕ) (out₀ : List ℕ) where
 
     -- what ends a part ends its frames
     pub goes-ended : (e : Ending) → Goes octets from out₀ (record { end = e; at = at; frames = count; samples = to; more = false })
-    goes-ended e = record { fits = w .room; nearer = λ h m. absurd (false≢true m); inside = λ m. absurd (false≢true m) }
+    goes-ended e = record { fits = w .room; held = w .held; few = w .inside; passed = λ m. absurd (false≢true m); nearer = λ h m. absurd (false≢true m); inside = λ m. absurd (false≢true m) }
 
     module _ (h : at < length octets) where
       more-is : w .more ≡ suc (w .more - 1)
@@ -129,7 +131,7 @@ module _ (octets : List ℕ) (law set from : ℕ) (out₀ : List ℕ) where
       part-full l = part-stop w Done true (rw (more-is, lt-leb (length octets) at h, lt-ltb (length out₀ - to) 320 l))
 
       pub goes-on : length out₀ - to < 320 → Goes octets from out₀ (record { end = Done; at = at; frames = count; samples = to; more = true })
-      goes-on l = record { fits = w .room; nearer = λ k m. omega (arith, w .few, w .held); inside = λ m. omega arith }
+      goes-on l = record { fits = w .room; held = w .held; few = w .inside; passed = λ m. w .few; nearer = λ k m. omega (arith, w .few, w .held); inside = λ m. omega arith }
 
       module _ (l : 320 ≤ length out₀ - to) where
         -- a frame that is refused
@@ -173,6 +175,7 @@ module _ (octets : List ℕ) (law set from : ℕ) (out₀ : List ℕ) where
                 room = omega (arith, w .room, fits);
                 few = omega (arith, w .few, uses .0);
                 held = omega (arith, w .held, fits);
+                inside = omega (arith, w .few, uses .0, uses .1);
               },
               omega (arith, uses .0),
               omega (arith, uses .1),

@@ -1,5 +1,5 @@
 -- A stream unpacked in parts (document 01, "Walk and listing"): the frames from a place on, as long as the room left holds any frame.
-use Prim.Native.Nat.{ℕ, zero, suc, _+_, _-_, _≤_, _<_}
+use Prim.Native.Nat.{ℕ, zero, suc, _+_, _*_, _-_, _≤_, _<_}
 use mathlib.Core.Path.{_≡_}
 use mathlib.Core.List.{List, [], _∷_, _++_}
 use mathlib.Core.Bool.{Bool, true, false, cond, not}
@@ -66,9 +66,13 @@ pub record Parts (parted : Parted) (r : Part) (out out′ : List ℕ) : Type 0 w
 abbrev pub NextPart : List ℕ → ℕ → ℕ → ℕ → List ℕ → List ℕ → Part → Type 0
 NextPart octets law set at out out′ r = Parts (partOf octets law set at (length out)) r out out′
 
--- what a caller goes by: the samples are in the output, and a part with more to come has come nearer to the stream's end
+-- what a caller goes by: the samples are in the output, each frame has an octet and at most 320 samples, and a part with more to
+-- come has come nearer to the stream's end
 pub record Goes (octets : List ℕ) (at : ℕ) (out : List ℕ) (r : Part) : Type 0 where
   pub fits : r .samples ≤ length out
+  pub held : r .samples ≤ 320 * r .frames
+  pub few : r .frames ≤ length octets
+  pub passed : r .more ≡ true → at + r .frames ≤ r .at
   pub nearer : 320 ≤ length out → r .more ≡ true → at < r .at
   pub inside : r .more ≡ true → r .at ≤ length octets
 
