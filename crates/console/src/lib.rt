@@ -1,0 +1,206 @@
+// What the bench tools read and say: their arguments, files, and the lines on standard error. No contract can say what is
+// read or written: what a line holds comes from crates `options` and `lines`.
+ghost use Prim.Native.Nat.{_≤_};
+ghost use lib.ListN.{length};
+ghost use Rattle.io.specs.Counts.{Counts};
+use libc::STDERR_FILENO;
+use options::Settings;
+
+// Says a text for people.
+pub fn say(text: &[u8]) {
+    io::write_all(STDERR_FILENO, text);
+}
+
+// Says a word and a number.
+pub fn say_number(word: &[u8], n: usize) {
+    say(word);
+    io::print_decimal(STDERR_FILENO, n as u64);
+}
+
+// The tool's name stands before its messages.
+pub fn say_tool(packs: bool) {
+    if packs {
+        say(b"pack: ");
+    } else {
+        say(b"unpack: ");
+    }
+}
+
+// The last line of every run: `stop=N at=P tool=T`.
+pub fn stop(number: u32, place: usize, tool: u32) {
+    let mut text = [0u8; 160];
+    let n = lines::stop_line(number as usize, place, tool as usize, &mut text, 0);
+    io::write_all(STDERR_FILENO, &text[..n]);
+}
+
+// A refusal of document 01, and the last line.
+pub fn refused(packs: bool, number: u32, place: usize, tool: u32) {
+    let mut name = [0u8; 8];
+    let n = options::refusal_name(number, &mut name);
+    say_tool(packs);
+    say(b"refused: ");
+    io::write_all(STDERR_FILENO, &name[..n]);
+    say_number(b" at octet ", place);
+    if number == 3 {
+        say_number(b", tool ", tool as usize);
+    }
+    say(b"\n");
+    stop(number, place, tool);
+}
+
+// What was done.
+pub fn summary(frames: usize, samples: usize, octets: usize) {
+    say_number(b"frames=", frames);
+    say_number(b" samples=", samples);
+    say_number(b" octets=", octets);
+    say(b"\n");
+}
+
+// How a tool is called.
+fn say_usage(packs: bool) {
+    if packs {
+        say(b"usage: pack [-u|-a] [-n#] [-s#] [-f] [INFILE [OUTFILE]]\n");
+    } else {
+        say(b"usage: unpack [-u|-a] [-s#] [-c MASTER] [INFILE [OUTFILE]]\n");
+    }
+}
+
+// A call that is wrong, why, and the last line.
+pub fn usage(packs: bool, why: &[u8]) {
+    say_tool(packs);
+    say(why);
+    say(b"\n");
+    say_usage(packs);
+    stop(64, 0, 0);
+}
+
+// Says an argument, or its number where it is too long.
+fn say_argument(i: usize) {
+    let mut text = [0u8; 4095];
+    let n = os::arg(i, &mut text);
+    if os::errno() != 0 {
+        say_number(b"argument ", i);
+        return;
+    }
+    io::write_all(STDERR_FILENO, &text[..n]);
+}
+
+// What `wrong` of the settings means.
+fn say_wrong(wrong: u32) {
+    match wrong {
+        1 => say(b"not a known option: "),
+        2 => say(b"not a number of 1 to 9 digits: "),
+        3 => say(b"one file too many: "),
+        4 => say(b"nothing follows the option "),
+        _ => say(b"too long: "),
+    }
+}
+
+// Settings that are wrong, and the last line.
+pub fn wrong_settings(s: Settings) {
+    say_tool(s.packs);
+    say_wrong(s.wrong);
+    say_argument(s.place);
+    say(b"\n");
+    say_usage(s.packs);
+    stop(64, 0, 0);
+}
+
+// One argument more.
+fn settings_after(s: Settings, i: usize, text: &mut [u8]) -> Settings {
+    let n = os::arg(i, text);
+    if os::errno() != 0 {
+        return options::with_wrong(s, 5, i);
+    }
+    options::step(s, &text[..n], i)
+}
+
+// The settings that all arguments make, up to the first that is wrong.
+pub fn settings(packs: bool) -> Settings {
+    let mut text = [0u8; 4095];
+    let view: &mut [u8] = &mut text;
+    let count = os::arg_count();
+    let mut s = options::at_first(packs);
+    let mut i = 1;
+    while i < count && s.wrong == 0 {
+        let next = settings_after(s, i, view);
+        s = next;
+        i += 1;
+    }
+    options::at_end(s, i - 1)
+}
+
+// The name of the file that an argument gives. It is empty where there is no argument or it is "-": that is standard input or output.
+pub fn file_name(index: usize, name: &mut [u8]) -> usize
+    ensures { λ r. ⌜ Counts r (now (name .exit)) ⌝ }
+{
+    if index == 0 {
+        return 0;
+    }
+    let n = os::arg(index, name);
+    if options::is_same(&name[..n], b"-") {
+        return 0;
+    }
+    n
+}
+
+// A file to read, or standard input; -1 where it can't be opened.
+pub fn open_in(name: &[u8]) -> i32 {
+    if name.len() == 0 {
+        return libc::STDIN_FILENO;
+    }
+    os::open_read(name)
+}
+
+// A file to write, emptied or made, or standard output; -1 where it can't be opened.
+pub fn open_out(name: &[u8]) -> i32 {
+    if name.len() == 0 {
+        return libc::STDOUT_FILENO;
+    }
+    os::open_overwrite(name)
+}
+
+// A file that could not be opened, read or written: why, and the last line.
+pub fn failed(packs: bool, name: &[u8], standard: &[u8]) {
+    say_tool(packs);
+    if name.len() == 0 {
+        os::fail(standard);
+    } else {
+        os::fail(name);
+    }
+    stop(74, 0, 0);
+}
+
+// How many octets were read, and whether a read failed.
+pub struct Got {
+    pub count: usize,
+    pub failed: bool,
+}
+
+// Reads until the octets lent are full, the file ends or a read fails.
+pub fn read_part(fd: i32, buf: &mut [u8]) -> Got
+    ensures { λ r. ⌜ r .count ≤ length (now (buf .exit)) ⌝ }
+{
+    let mut done = 0;
+    while done < buf.len() {
+        let got = libc::read(fd, &mut buf[done..]);
+        if got < 0 {
+            return Got {
+                count: done,
+                failed: true,
+            };
+        }
+        let n = io::count(got, &buf[done..]);
+        if n == 0 {
+            return Got {
+                count: done,
+                failed: false,
+            };
+        }
+        done += n;
+    }
+    Got {
+        count: done,
+        failed: false,
+    }
+}

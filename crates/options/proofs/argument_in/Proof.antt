@@ -1,0 +1,71 @@
+use borrow.Author.Needs.{needs}
+use Rattle.options.proofs.Texts.{part-left}
+use lib.ListN.{getD}
+use Rattle.options.specs.Arguments.{argumentOf, numberedOf}
+use mathlib.Core.Path.{_≡_, refl, sym, ap, _∙_}
+use borrow.Author.Tests.{eq-eqb, ne-eqb}
+use Rattle.options.proofs.argument_in.Statement.{statement}
+use Rattle.options.proofs.argument_in.Tie as tie
+
+returns : tie.Need-returns
+unfolding argumentOf
+returns c = rw (eq-eqb _ _ (c .if1 .taken))
+
+returns-2 : tie.Need-returns-2
+unfolding argumentOf
+returns-2 c = rw (ne-eqb _ _ (c .before .if1 .left), eq-eqb _ _ (c .if2 .taken))
+
+shared-slice-read-if3 : tie.Need-shared-slice-read-if3
+shared-slice-read-if3 c = search needs
+
+returns-3 : tie.Need-returns-3
+unfolding argumentOf
+returns-3 c = rw (ne-eqb _ _ (c .before .before .before .if1 .left), ne-eqb _ _ (c .before .before .if2 .left), ne-eqb _ _ (c .if3 .taken))
+
+shared-slice-read-letter-option : tie.Need-shared-slice-read-letter-option
+shared-slice-read-letter-option c = search needs
+
+letter-option-requires : tie.Need-letter-option-requires
+letter-option-requires c κs = search needs
+
+returns-4 : tie.Need-returns-4
+unfolding argumentOf
+returns-4 c = rw (ne-eqb _ _ (c .before .before .before .before .before .before .if1 .left), ne-eqb _ _ (c .before .before .before .before .before .if2 .left), eq-eqb _ _ (c .before .before .before .if3 .left), eq-eqb _ _ (c .before .before .if4 .taken)) (c .letter-option .ensures)
+
+shared-slice-read-numbered-option : tie.Need-shared-slice-read-numbered-option
+shared-slice-read-numbered-option c = search needs
+
+sub-numbered-option : tie.Need-sub-numbered-option
+sub-numbered-option c = search needs
+
+part-numbered-option-start : tie.Need-part-numbered-option-start
+part-numbered-option-start c = search needs
+
+part-numbered-option-end : tie.Need-part-numbered-option-end
+part-numbered-option-end c = search needs
+
+numbered-option-requires : tie.Need-numbered-option-requires
+numbered-option-requires c κs = search needs
+
+returns-5 : tie.Need-returns-5
+unfolding argumentOf
+returns-5 c = rw (ne-eqb _ _ (c .before .before .before .before .before .before .before .if1 .left), ne-eqb _ _ (c .before .before .before .before .before .before .if2 .left), eq-eqb _ _ (c .before .before .before .before .if3 .left), ne-eqb _ _ (c .before .before .before .if4 .left))
+    (c .numbered-option .ensures ∙ ap (numberedOf (c .before .before .before .before .before .before .before .before .before .args .packs) (getD (c .before .before .before .before .before .before .before .before .before .args .text .now) 1 0)) (part-left (c .before .before .before .before .before .before .before .before .before .args .text .now) 2))
+
+pub argument-in-spec : {M : Type 1} → statement M
+argument-in-spec =
+    tie.close
+    (tie.spec
+    returns
+    returns-2
+    shared-slice-read-if3
+    returns-3
+    shared-slice-read-letter-option
+    letter-option-requires
+    returns-4
+    shared-slice-read-numbered-option
+    sub-numbered-option
+    part-numbered-option-start
+    part-numbered-option-end
+    numbered-option-requires
+    returns-5)

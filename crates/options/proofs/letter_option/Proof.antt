@@ -1,0 +1,37 @@
+use borrow.Author.Needs.{needs}
+use Rattle.options.specs.Arguments.{letterOf}
+use borrow.Author.Tests.{eq-eqb, ne-eqb}
+use Rattle.options.proofs.letter_option.Statement.{statement}
+use Rattle.options.proofs.letter_option.Tie as tie
+
+returns : tie.Need-returns
+unfolding letterOf
+returns c = rw (eq-eqb _ _ (c .if1 .taken))
+
+returns-2 : tie.Need-returns-2
+unfolding letterOf
+returns-2 c = rw (ne-eqb _ _ (c .before .if1 .left), eq-eqb _ _ (c .if2 .taken))
+
+returns-3 : tie.Need-returns-3
+unfolding letterOf
+returns-3 c = rw (ne-eqb _ _ (c .before .before .before .if1 .left), ne-eqb _ _ (c .before .before .if2 .left), eq-eqb _ _ (c .before .if3 .taken), c .if4 .taken)
+
+returns-4 : tie.Need-returns-4
+unfolding letterOf
+returns-4 c = rw (ne-eqb _ _ (c .before .before .before .if1 .left), ne-eqb _ _ (c .before .before .if2 .left), eq-eqb _ _ (c .before .if3 .taken), c .if4 .left)
+
+wanted-by-requires : tie.Need-wanted-by-requires
+wanted-by-requires c κs = search needs
+
+returns-5 : tie.Need-returns-5
+unfolding letterOf
+returns-5 c = rw (ne-eqb _ _ (c .before .before .before .before .if1 .left), ne-eqb _ _ (c .before .before .before .if2 .left), ne-eqb _ _ (c .before .before .if3 .left), ← (c .before .wanted-by .ensures), eq-eqb _ _ (c .if5 .taken))
+
+returns-6 : tie.Need-returns-6
+unfolding letterOf
+returns-6 c = rw (ne-eqb _ _ (c .before .before .before .before .if1 .left), ne-eqb _ _ (c .before .before .before .if2 .left), ne-eqb _ _ (c .before .before .if3 .left), ← (c .before .wanted-by .ensures), ne-eqb _ _ (c .if5 .left))
+
+pub letter-option-spec : {M : Type 1} → statement M
+letter-option-spec =
+    tie.close
+    (tie.spec returns returns-2 returns-3 returns-4 wanted-by-requires returns-5 returns-6)

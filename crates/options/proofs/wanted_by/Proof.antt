@@ -1,0 +1,28 @@
+use borrow.Author.Needs.{needs}
+use Rattle.options.specs.Arguments.{wantedBy}
+use borrow.Author.Tests.{eq-eqb, ne-eqb}
+use Rattle.options.proofs.wanted_by.Statement.{statement}
+use Rattle.options.proofs.wanted_by.Tie as tie
+
+returns : tie.Need-returns
+unfolding wantedBy
+returns c = rw (eq-eqb _ _ (c .if1 .taken))
+
+returns-2 : tie.Need-returns-2
+unfolding wantedBy
+returns-2 c = rw (ne-eqb _ _ (c .before .before .if1 .left), c .before .if2 .taken, eq-eqb _ _ (c .if3 .taken))
+
+returns-3 : tie.Need-returns-3
+unfolding wantedBy
+returns-3 c = rw (ne-eqb _ _ (c .before .before .if1 .left), c .before .if2 .taken, ne-eqb _ _ (c .if3 .left))
+
+returns-4 : tie.Need-returns-4
+unfolding wantedBy
+returns-4 c = rw (ne-eqb _ _ (c .before .before .if1 .left), c .before .if2 .left, eq-eqb _ _ (c .if4 .taken))
+
+returns-5 : tie.Need-returns-5
+unfolding wantedBy
+returns-5 c = rw (ne-eqb _ _ (c .before .before .if1 .left), c .before .if2 .left, ne-eqb _ _ (c .if4 .left))
+
+pub wanted-by-spec : {M : Type 1} → statement M
+wanted-by-spec = tie.close (tie.spec returns returns-2 returns-3 returns-4 returns-5)

@@ -1,0 +1,29 @@
+use borrow.Author.Needs.{needs}
+use Rattle.options.specs.Arguments.{withNumber}
+use Rattle.options.specs.declared.Number.{Number}
+use mathlib.Core.Path.{sym, ap, _∙_}
+use borrow.Author.Tests.{eq-eqb, ne-eqb}
+use Rattle.options.proofs.with_number.Statement.{statement}
+use Rattle.options.proofs.with_number.Tie as tie
+
+enum-known-n : tie.Need-enum-known-n
+enum-known-n c = search needs
+
+enum-told : tie.Need-enum-told
+enum-told c = search needs
+
+with-wrong-requires : tie.Need-with-wrong-requires
+with-wrong-requires c κs = search needs
+
+returns : tie.Need-returns
+returns c = c .with-wrong .ensures ∙ sym (ap (λ (n : Number). withNumber (c .before .before .before .args .s) (c .before .before .before .args .which) n (c .before .before .before .args .index)) (c .before .enum-told .given .1))
+
+returns-2 : tie.Need-returns-2
+returns-2 c = rw (c .before .before .n .given .1, eq-eqb _ _ (c .if1 .taken))
+
+returns-3 : tie.Need-returns-3
+returns-3 c = rw (c .before .before .n .given .1, ne-eqb _ _ (c .if1 .left))
+
+pub with-number-spec : {M : Type 1} → statement M
+with-number-spec =
+    tie.close (tie.spec enum-known-n enum-told with-wrong-requires returns returns-2 returns-3)

@@ -1,0 +1,113 @@
+-- The arguments of the bench tools: what one is, and the settings that they make, one after another.
+use Prim.Native.Nat.{ℕ}
+use mathlib.Core.List.{List}
+use mathlib.Core.Bool.{Bool, true, false, cond, not, _&&_, _||_}
+use lib.ListN.{length, getD, drop}
+use lib.Dec.{eqb, leb}
+use Rattle.options.specs.declared.Number.{Number}
+use Rattle.options.specs.declared.Number.the-variants.{Is, Not}
+use Rattle.options.specs.declared.Argument.{Argument}
+use Rattle.options.specs.declared.Argument.the-variants.{File, Law, Fill, Waits, Counts, Unknown}
+use Rattle.options.specs.declared.Settings.{Settings}
+use Rattle.options.specs.Names.{unknown}
+use Rattle.options.specs.Numbers.{numberIn}
+
+-- what follows an option: nothing (0), MASTER (1), the frame length (2), the tool set (3)
+-- "-s#", for `pack` "-n#", for `unpack` "-c MASTER"
+unfoldable pub wantedBy : Bool → ℕ → ℕ
+wantedBy packs x =
+    cond (eqb x 0x73) 3 (cond (packs && eqb x 0x6E) 2 (cond (not packs && eqb x 0x63) 1 0))
+
+-- an option of one letter: "-u", "-a", for `pack` "-f"; or one whose word is the next argument
+unfoldable pub letterOf : Bool → ℕ → Argument
+letterOf packs x =
+    cond (eqb x 0x75) (Law 1) (cond (eqb x 0x61) (Law 0) (cond (eqb x 0x66) (cond packs Fill Unknown)
+    (cond (eqb (wantedBy packs x) 0) Unknown (Waits (wantedBy packs x)))))
+
+-- an option with its number
+unfoldable pub numberedOf : Bool → ℕ → List ℕ → Argument
+numberedOf packs x rest = cond (leb 2 (wantedBy packs x)) (Counts (wantedBy packs x) (numberIn rest)) Unknown
+
+-- what an argument is; "-" alone is a file, and so is what has no '-' in front; an empty one is nothing that is known
+unfoldable pub argumentOf : Bool → List ℕ → Argument
+argumentOf packs text =
+    cond (eqb (length text) 0) Unknown
+    (cond (eqb (length text) 1 || not (eqb (getD text 0 0) 0x2D)) File
+    (cond (eqb (length text) 2) (letterOf packs (getD text 1 0)) (numberedOf packs (getD text 1 0) (drop 2 text))))
+
+-- before any argument: the frame length is 160 and the set 127 unless said; files are given by their arguments' numbers, 0 is none
+abbrev pub atFirst : Bool → Settings
+atFirst packs =
+    record { packs = packs; law = unknown; length = 160; set = 127; fill = false; infile = 0; outfile = 0; master = 0; wants = 0; wrong = 0; place = 0 }
+
+-- what is wrong with argument i: an option that is not known (1), no number (2), a file too many (3), a word that is missing (4), too long (5)
+abbrev pub withWrong : Settings → ℕ → ℕ → Settings
+withWrong s why i =
+    record { packs = s .packs; law = s .law; length = s .length; set = s .set; fill = s .fill; infile = s .infile; outfile = s .outfile; master = s .master; wants = s .wants; wrong = why; place = i }
+
+-- -u, -a
+abbrev pub withLaw : Settings → ℕ → Settings
+withLaw s l =
+    record { packs = s .packs; law = l; length = s .length; set = s .set; fill = s .fill; infile = s .infile; outfile = s .outfile; master = s .master; wants = s .wants; wrong = s .wrong; place = s .place }
+
+-- -f
+abbrev pub withFill : Settings → Settings
+withFill s =
+    record { packs = s .packs; law = s .law; length = s .length; set = s .set; fill = true; infile = s .infile; outfile = s .outfile; master = s .master; wants = s .wants; wrong = s .wrong; place = s .place }
+
+-- the next argument is this option's word
+abbrev pub withWants : Settings → ℕ → Settings
+withWants s w =
+    record { packs = s .packs; law = s .law; length = s .length; set = s .set; fill = s .fill; infile = s .infile; outfile = s .outfile; master = s .master; wants = w; wrong = s .wrong; place = s .place }
+
+-- -c MASTER
+abbrev pub withMaster : Settings → ℕ → Settings
+withMaster s i =
+    record { packs = s .packs; law = s .law; length = s .length; set = s .set; fill = s .fill; infile = s .infile; outfile = s .outfile; master = i; wants = 0; wrong = s .wrong; place = s .place }
+
+-- -n#
+abbrev pub withLength : Settings → ℕ → Settings
+withLength s n =
+    record { packs = s .packs; law = s .law; length = n; set = s .set; fill = s .fill; infile = s .infile; outfile = s .outfile; master = s .master; wants = 0; wrong = s .wrong; place = s .place }
+
+-- -s#
+abbrev pub withSet : Settings → ℕ → Settings
+withSet s n =
+    record { packs = s .packs; law = s .law; length = s .length; set = n; fill = s .fill; infile = s .infile; outfile = s .outfile; master = s .master; wants = 0; wrong = s .wrong; place = s .place }
+
+-- INFILE
+abbrev pub withInfile : Settings → ℕ → Settings
+withInfile s i =
+    record { packs = s .packs; law = s .law; length = s .length; set = s .set; fill = s .fill; infile = i; outfile = s .outfile; master = s .master; wants = s .wants; wrong = s .wrong; place = s .place }
+
+-- OUTFILE
+abbrev pub withOutfile : Settings → ℕ → Settings
+withOutfile s i =
+    record { packs = s .packs; law = s .law; length = s .length; set = s .set; fill = s .fill; infile = s .infile; outfile = i; master = s .master; wants = s .wants; wrong = s .wrong; place = s .place }
+
+-- the first file is INFILE, the second OUTFILE, and there is no third
+unfoldable pub withFile : Settings → ℕ → Settings
+withFile s i = cond (eqb (s .infile) 0) (withInfile s i) (cond (eqb (s .outfile) 0) (withOutfile s i) (withWrong s 3 i))
+
+abbrev pub withNumber : Settings → ℕ → Number → ℕ → Settings
+withNumber s w (Is n) i = cond (eqb w 2) (withLength s n) (withSet s n)
+withNumber s w Not i = withWrong s 2 i
+
+abbrev pub withArgument : Settings → Argument → ℕ → Settings
+withArgument s File i = withFile s i
+withArgument s (Law l) i = withLaw s l
+withArgument s Fill i = withFill s
+withArgument s (Waits w) i = withWants s w
+withArgument s (Counts w m) i = withNumber s w m i
+withArgument s Unknown i = withWrong s 1 i
+
+-- argument i; what is wrong once stays so
+unfoldable pub stepOf : Settings → List ℕ → ℕ → Settings
+stepOf s text i =
+    cond (not (eqb (s .wrong) 0)) s
+    (cond (eqb (s .wants) 0) (withArgument s (argumentOf (s .packs) text) i)
+    (cond (eqb (s .wants) 1) (withMaster s i) (withNumber s (s .wants) (numberIn text) i)))
+
+-- after the last of n arguments
+unfoldable pub endOf : Settings → ℕ → Settings
+endOf s n = cond (not (eqb (s .wrong) 0) || eqb (s .wants) 0) s (withWrong s 4 n)

@@ -1,0 +1,23 @@
+use borrow.Author.Needs.{needs}
+use native.Mathlib.Omega.{arith}
+use Rattle.packing.proofs.Lengths.{zero-no-length, length-told}
+use Rattle.packing.proofs.is_length.Statement.{statement}
+use Rattle.packing.proofs.is_length.Tie as tie
+use Rattle.packing.proofs.is_length.Reads as reads
+use Rattle.packing.proofs.is_length.Lts as lts
+use Rattle.packing.proofs.largest_up_to.Reads as largest-up-to-reads
+
+-- src/lib.rt:58:9
+returns : tie.Need-returns
+returns c = zero-no-length (c .before .args .n) (omega arith)
+
+-- src/lib.rt:60:5
+largest-up-to-requires : tie.Need-largest-up-to-requires
+largest-up-to-requires c κs = search needs
+
+-- src/lib.rt:54:1
+returns-2 : tie.Need-returns-2
+returns-2 c = length-told (c .before .before .args .n) (c .largest-up-to .result) (omega arith) (c .largest-up-to .ensures)
+
+pub is-length-spec : {M : Type 1} → statement M
+is-length-spec = tie.close (tie.spec returns largest-up-to-requires returns-2)

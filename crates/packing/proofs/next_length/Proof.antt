@@ -1,0 +1,29 @@
+use borrow.Author.Needs.{needs}
+use mathlib.Core.Path.{_∙_}
+use native.Mathlib.Omega.{arith}
+use Rattle.packing.proofs.Lengths.{next-if-short, next-if-long}
+use Rattle.packing.proofs.next_length.Statement.{statement}
+use Rattle.packing.proofs.next_length.Tie as tie
+use Rattle.packing.proofs.next_length.Reads as reads
+use Rattle.packing.proofs.next_length.Lts as lts
+use Rattle.packing.proofs.largest_up_to.Reads as largest-up-to-reads
+
+-- src/lib.rt:48:9
+largest-up-to-requires : tie.Need-largest-up-to-requires
+largest-up-to-requires c κs = search needs
+
+-- src/lib.rt:48:9
+returns : tie.Need-returns
+returns c = c .largest-up-to .ensures ∙ next-if-short (c .before .before .args .n) (c .before .before .args .left) (omega arith)
+
+-- src/lib.rt:50:5
+largest-up-to-requires-2 : tie.Need-largest-up-to-requires-2
+largest-up-to-requires-2 c κs = search needs
+
+-- src/lib.rt:44:1
+returns-2 : tie.Need-returns-2
+returns-2 c = c .largest-up-to2 .ensures ∙ next-if-long (c .before .before .args .n) (c .before .before .args .left) (omega arith)
+
+pub next-length-spec : {M : Type 1} → statement M
+next-length-spec =
+    tie.close (tie.spec largest-up-to-requires returns largest-up-to-requires-2 returns-2)
