@@ -144,6 +144,27 @@ pub fn file_name(index: usize, name: &mut [u8]) -> usize
     n
 }
 
+// The name of the file that is written, and whether it fits.
+pub struct Target {
+    pub len: usize,
+    pub fits: bool,
+}
+
+// OUTFILE; without it, standard output where INFILE is standard input, else INFILE's name with a new ending.
+pub fn target_name(s: Settings, law: u32, source: &[u8], name: &mut [u8]) -> Target
+    ensures { λ r. ⌜ Counts (r .len) (now (name .exit)) ⌝ }
+{
+    if s.outfile != 0 {
+        let len = file_name(s.outfile, name);
+        return Target { len, fits: true };
+    }
+    if source.len() == 0 {
+        return Target { len: 0, fits: true };
+    }
+    let len = options::new_name(s.packs, law, source, name);
+    Target { len, fits: len != 0 }
+}
+
 // A file to read, or standard input; -1 where it can't be opened.
 pub fn open_in(name: &[u8]) -> i32 {
     if name.len() == 0 {
@@ -158,6 +179,14 @@ pub fn open_out(name: &[u8]) -> i32 {
         return libc::STDOUT_FILENO;
     }
     os::open_overwrite(name)
+}
+
+// Closes a file; standard input and output stay open.
+pub fn close(fd: i32) -> bool {
+    if fd <= libc::STDERR_FILENO {
+        return true;
+    }
+    libc::close(fd) == 0
 }
 
 // A file that could not be opened, read or written: why, and the last line.

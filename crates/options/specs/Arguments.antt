@@ -9,7 +9,7 @@ use Rattle.options.specs.declared.Number.the-variants.{Is, Not}
 use Rattle.options.specs.declared.Argument.{Argument}
 use Rattle.options.specs.declared.Argument.the-variants.{File, Law, Fill, Waits, Counts, Unknown}
 use Rattle.options.specs.declared.Settings.{Settings}
-use Rattle.options.specs.Names.{unknown}
+use Rattle.options.specs.Names.{unknown, lawTold}
 use Rattle.options.specs.Numbers.{numberIn}
 
 -- what follows an option: nothing (0), MASTER (1), the frame length (2), the tool set (3)
@@ -111,3 +111,7 @@ stepOf s text i =
 -- after the last of n arguments
 unfoldable pub endOf : Settings → ℕ → Settings
 endOf s n = cond (not (eqb (s .wrong) 0) || eqb (s .wants) 0) s (withWrong s 4 n)
+
+-- the law: as an option says, otherwise as INFILE's name tells
+unfoldable pub lawOf : Settings → List ℕ → ℕ
+lawOf s name = cond (eqb (s .law) unknown) (lawTold (s .packs) name) (s .law)

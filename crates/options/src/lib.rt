@@ -6,7 +6,7 @@ ghost use lib.ListN.{length, drop};
 ghost use Rattle.options.specs.Words.{same, refusalName, Named};
 ghost use Rattle.options.specs.Names.{placeAfter, endingAt, lawOfSound, lawOfStream, lawTold, newEnding, newName, Laid};
 ghost use Rattle.options.specs.Numbers.{numberIn};
-ghost use Rattle.options.specs.Arguments.{wantedBy, letterOf, numberedOf, argumentOf, atFirst, withWrong, withFile, withNumber, withArgument, stepOf, endOf};
+ghost use Rattle.options.specs.Arguments.{wantedBy, letterOf, numberedOf, argumentOf, atFirst, withWrong, withFile, withNumber, withArgument, stepOf, endOf, lawOf};
 ghost use Rattle.rules.specs.Refusals.{numberOf};
 use rules::Ending;
 use rules::Refusal;
@@ -345,6 +345,16 @@ pub fn at_end(s: Settings, last: usize) -> Settings
         return s;
     }
     with_wrong(s, 4, last)
+}
+
+// The law: as an option says, otherwise as INFILE's name tells; 2 where neither does.
+pub fn law_of(s: Settings, name: &[u8]) -> u32
+    ensures { λ r. ⌜ r ≡ lawOf s (now (name .entry)) ⌝ }
+{
+    if s.law == 2 {
+        return law_told(s.packs, name);
+    }
+    s.law
 }
 
 // A text at the start of a lent output, of two parts; where it does not fit, nothing, and 0.

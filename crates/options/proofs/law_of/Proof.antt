@@ -1,0 +1,19 @@
+use borrow.Author.Needs.{needs}
+use Rattle.options.specs.Arguments.{lawOf}
+use borrow.Author.Tests.{eq-eqb, ne-eqb}
+use Rattle.options.proofs.law_of.Statement.{statement}
+use Rattle.options.proofs.law_of.Tie as tie
+
+law-told-requires : tie.Need-law-told-requires
+law-told-requires c κs = search needs
+
+returns : tie.Need-returns
+unfolding lawOf
+returns c = rw (eq-eqb _ _ (c .before .if1 .taken)) (c .law-told .ensures)
+
+returns-2 : tie.Need-returns-2
+unfolding lawOf
+returns-2 c = rw (ne-eqb _ _ (c .if1 .left))
+
+pub law-of-spec : {M : Type 1} → statement M
+law-of-spec = tie.close (tie.spec law-told-requires returns returns-2)

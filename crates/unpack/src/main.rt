@@ -1,0 +1,326 @@
+// The bench tool `unpack`: a stream back to sound, or, with a master, the sound compared with it. What a part holds stands in
+// crate `unpacking`, what the arguments mean in `options`, what is said in `console`.
+ghost use Prim.Native.Nat.{_≤_};
+ghost use mathlib.Core.Path.{_≡_};
+ghost use lib.ListN.{length};
+ghost use Rattle.rules.specs.Refusals.{toolNamed};
+use console::Got;
+use options::Settings;
+use rules::Ending;
+
+// What is wrong with the file that is written or compared.
+const NOTHING: u32 = 0;
+const FAILED: u32 = 1;
+const DIFFERS: u32 = 2;
+const SHORTER: u32 = 3;
+const LONGER: u32 = 4;
+
+// What came of a part's sound: what is wrong, and how many octets are well.
+struct Used {
+    wrong: u32,
+    good: usize,
+}
+
+// What came of a stream: how it ended and where, the frames, the samples that are well, and what is wrong.
+struct Total {
+    end: Ending,
+    at: usize,
+    frames: usize,
+    samples: usize,
+    wrong: u32,
+}
+
+// "its tool is given for TOOL and is 0 otherwise"
+fn tool_of(end: Ending) -> u32
+    ensures { λ r. ⌜ r ≡ toolNamed end ⌝ }
+{
+    match end {
+        Ending::Done => 0,
+        Ending::Refused(why) => reader::tool_named(why),
+    }
+}
+
+// The sound of a part, written.
+fn written(fd: i32, sound: &[u8]) -> Used
+    ensures { λ r. ⌜ r .good ≤ length (now (sound .entry)) ⌝ }
+{
+    if io::write_all(fd, sound) {
+        return Used {
+            wrong: NOTHING,
+            good: sound.len(),
+        };
+    }
+    Used {
+        wrong: FAILED,
+        good: 0,
+    }
+}
+
+// The sound of a part, compared with as much of the master.
+fn compared(fd: i32, sound: &[u8], master: &mut [u8]) -> Used
+    requires { ⌜ length (now sound) ≤ length (now master) ⌝ }
+    ensures { λ r. ⌜ r .good ≤ length (now (sound .entry)) ⌝ }
+{
+    let n = sound.len();
+    let got = console::read_part(fd, &mut master[..n]);
+    if got.failed {
+        return Used {
+            wrong: FAILED,
+            good: 0,
+        };
+    }
+    let m = got.count;
+    let good = unpacking::agree(sound, &master[..m]);
+    if good == n {
+        return Used {
+            wrong: NOTHING,
+            good,
+        };
+    }
+    if good == m {
+        return Used {
+            wrong: SHORTER,
+            good,
+        };
+    }
+    Used {
+        wrong: DIFFERS,
+        good,
+    }
+}
+
+fn use_part(compares: bool, fd: i32, sound: &[u8], master: &mut [u8]) -> Used
+    requires { ⌜ length (now sound) ≤ length (now master) ⌝ }
+    ensures { λ r. ⌜ r .good ≤ length (now (sound .entry)) ⌝ }
+{
+    if compares {
+        return compared(fd, sound, master);
+    }
+    written(fd, sound)
+}
+
+// Part after part, page by page.
+fn parts(stream: &[u8], law: u32, set: u32, compares: bool, fd: i32, page: &mut [u8], master: &mut [u8]) -> Total
+    requires { ⌜ (length (now stream) ≤ 65535) × (320 ≤ length (now page)) × (length (now page) ≤ length (now master)) ⌝ }
+{
+    let mut at = 0;
+    let mut frames = 0;
+    let mut samples = 0;
+    loop {
+        let p = unpacking::next_part(stream, law, set, at, page);
+        let n = p.samples;
+        let u = use_part(compares, fd, &page[..n], master);
+        let end = p.end;
+        frames += p.frames;
+        samples += u.good;
+        if u.wrong != NOTHING {
+            return Total {
+                end,
+                at: p.at,
+                frames,
+                samples,
+                wrong: u.wrong,
+            };
+        }
+        if !p.more {
+            return Total {
+                end,
+                at: p.at,
+                frames,
+                samples,
+                wrong: NOTHING,
+            };
+        }
+        at = p.at;
+    }
+}
+
+// The second page is for the master.
+fn all_parts(stream: &[u8], law: u32, set: u32, compares: bool, fd: i32) -> Total
+    requires { ⌜ length (now stream) ≤ 65535 ⌝ }
+{
+    let mut page = [0u8; 61440];
+    let mut master = [0u8; 61440];
+    parts(stream, law, set, compares, fd, &mut page, &mut master)
+}
+
+// The last lines of a run in which nothing is wrong with the files: what was done, and the refusal if there is one.
+fn finish(t: Total) {
+    console::summary(t.frames, t.samples, t.at);
+    let end = t.end;
+    let number = options::number_of(end);
+    if number == 0 {
+        console::stop(0, t.at, 0);
+        return;
+    }
+    console::refused(false, number, t.at, tool_of(end));
+}
+
+// Reads the stream, and one octet more where it is too long; says what failed.
+fn read_stream(name: &[u8], stream: &mut [u8]) -> Got
+    ensures { λ r. ⌜ r .count ≤ length (now (stream .exit)) ⌝ }
+{
+    let fd = console::open_in(name);
+    if fd < 0 {
+        console::failed(false, name, b"standard input");
+        return Got {
+            count: 0,
+            failed: true,
+        };
+    }
+    let got = console::read_part(fd, stream);
+    if got.failed {
+        console::failed(false, name, b"standard input");
+    }
+    console::close(fd);
+    got
+}
+
+// Writes the sound of a stream to a file.
+fn write_to(stream: &[u8], law: u32, set: u32, name: &[u8])
+    requires { ⌜ length (now stream) ≤ 65535 ⌝ }
+{
+    let fd = console::open_out(name);
+    if fd < 0 {
+        console::failed(false, name, b"standard output");
+        return;
+    }
+    let t = all_parts(stream, law, set, false, fd);
+    if t.wrong != NOTHING {
+        console::failed(false, name, b"standard output");
+        return;
+    }
+    if !console::close(fd) {
+        console::failed(false, name, b"standard output");
+        return;
+    }
+    finish(t);
+}
+
+// Where the master differs, and the last line.
+fn differs(wrong: u32, place: usize) {
+    console::say_tool(false);
+    if wrong == SHORTER {
+        console::say_number(b"the master is shorter: it ends at octet ", place);
+    } else if wrong == LONGER {
+        console::say_number(b"the master is longer: the sound ends at octet ", place);
+    } else {
+        console::say_number(b"the sound differs from the master at octet ", place);
+    }
+    console::say(b"\n");
+    console::stop(65, place, 0);
+}
+
+// What is wrong with a master after its octets for all the sound: nothing, or it is longer.
+fn left_over(fd: i32) -> u32 {
+    let mut one = [0u8; 1];
+    let got = console::read_part(fd, &mut one);
+    if got.failed {
+        return FAILED;
+    }
+    if got.count == 0 {
+        return NOTHING;
+    }
+    LONGER
+}
+
+// What a comparison came to. A frame that is refused comes before what a master has left over.
+fn conclude(t: Total, fd: i32, name: &[u8]) {
+    if t.wrong == FAILED {
+        console::failed(false, name, b"standard input");
+        return;
+    }
+    if t.wrong != NOTHING {
+        differs(t.wrong, t.samples);
+        return;
+    }
+    let end = t.end;
+    if options::number_of(end) != 0 {
+        finish(t);
+        return;
+    }
+    let wrong = left_over(fd);
+    if wrong == FAILED {
+        console::failed(false, name, b"standard input");
+        return;
+    }
+    if wrong != NOTHING {
+        differs(wrong, t.samples);
+        return;
+    }
+    finish(t);
+}
+
+// Compares the sound of a stream with a master.
+fn compare_with(stream: &[u8], law: u32, set: u32, name: &[u8])
+    requires { ⌜ length (now stream) ≤ 65535 ⌝ }
+{
+    let fd = console::open_in(name);
+    if fd < 0 {
+        console::failed(false, name, b"standard input");
+        return;
+    }
+    let t = all_parts(stream, law, set, true, fd);
+    conclude(t, fd, name);
+}
+
+// Reads the stream, and writes or compares its sound. `name` is INFILE, `other` OUTFILE or the master.
+fn run(s: Settings, law: u32, name: &[u8], other: &[u8]) {
+    let mut stream = [0u8; 65536];
+    let got = read_stream(name, &mut stream);
+    if got.failed {
+        return;
+    }
+    let n = got.count;
+    if 65535 < n {
+        console::refused(false, 13, 0, 0);
+        return;
+    }
+    if s.master == 0 {
+        write_to(&stream[..n], law, s.set, other);
+    } else {
+        compare_with(&stream[..n], law, s.set, other);
+    }
+}
+
+// Finds the name of the other file.
+fn with_names(s: Settings, law: u32, name: &[u8]) {
+    let mut space = [0u8; 4095];
+    if s.master != 0 {
+        let n = console::file_name(s.master, &mut space);
+        if name.len() == 0 && n == 0 {
+            console::usage(false, b"INFILE and MASTER can't both be standard input");
+            return;
+        }
+        run(s, law, name, &space[..n]);
+        return;
+    }
+    let target = console::target_name(s, law, name, &mut space);
+    let n = target.len;
+    if !target.fits {
+        console::usage(false, b"OUTFILE's name would be too long");
+        return;
+    }
+    run(s, law, name, &space[..n]);
+}
+
+// "usage, then LAW, SET, .., then files, then the sound's own"
+fn main() {
+    let s = console::settings(false);
+    if s.wrong != 0 {
+        console::wrong_settings(s);
+        return;
+    }
+    let mut space = [0u8; 4095];
+    let n = console::file_name(s.infile, &mut space);
+    let law = options::law_of(s, &space[..n]);
+    if law == 2 {
+        console::usage(false, b"the law is not known: say -u or -a");
+        return;
+    }
+    if 127 < s.set {
+        console::refused(false, 11, 0, 0);
+        return;
+    }
+    with_names(s, law, &space[..n]);
+}

@@ -1,0 +1,4 @@
+pub mod Agrees
+pub mod Parting
+pub mod Guarded
+pub mod Whole

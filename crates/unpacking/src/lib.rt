@@ -1,0 +1,124 @@
+// A stream back to sound, part by part, and the comparison of two sounds.
+ghost use mathlib.Core.Path.{_≡_};
+ghost use Prim.Native.Nat.{suc, _+_, _≤_};
+ghost use lib.ListN.{length, drop};
+ghost use Rattle.rules.specs.Frame.{readOne};
+ghost use Rattle.unpacking.specs.Parts.{ReadsAt, Parts, partFrom, NextPart, Goes, StopsAtOnce};
+ghost use Rattle.unpacking.specs.Agreeing.{agreeing};
+use rules::Ending;
+use rules::ReadAnswer;
+use rules::Refusal;
+
+// A part of a walk: how it ended, the place where it ended, its frames and their samples, and whether there is more.
+pub struct Part {
+    pub end: Ending,
+    pub at: usize,
+    pub frames: usize,
+    pub samples: usize,
+    pub more: bool,
+}
+
+// One frame, at a place of the stream; its samples go to the output from `to` on. 320 of room are enough for any.
+fn read_at(stream: &[u8], law: u32, set: u32, at: usize, out: &mut [u8], to: usize) -> ReadAnswer
+    requires { ⌜ (at ≤ length (now stream)) × (to + 320 ≤ length (now out)) ⌝ }
+    ensures { λ r. ⌜ ReadsAt (readOne (drop at (now (stream .entry))) law set 320) r to (now (out .entry)) (now (out .exit)) ⌝ }
+{
+    reader::read_frame(&stream[at..], law, set, &mut out[to..])
+}
+
+// Frame after frame from a place on, as long as the room left holds any frame.
+fn frames_from(stream: &[u8], law: u32, set: u32, from: usize, out: &mut [u8]) -> Part
+    requires { ⌜ length (now stream) ≤ 65535 ⌝ }
+    ensures { λ r. ⌜ Parts (partFrom (suc (length (now (stream .entry)))) (now (stream .entry)) law set from (length (now (out .entry)))) r (now (out .entry)) (now (out .exit)) ⌝ }
+    ensures { λ r. ⌜ Goes (now (stream .entry)) from (now (out .entry)) r ⌝ }
+{
+    let mut at = from;
+    let mut to = 0;
+    let mut frames = 0;
+    loop {
+        if stream.len() <= at {
+            return Part {
+                end: Ending::Done,
+                at,
+                frames,
+                samples: to,
+                more: false,
+            };
+        }
+        if out.len() - to < 320 {
+            return Part {
+                end: Ending::Done,
+                at,
+                frames,
+                samples: to,
+                more: true,
+            };
+        }
+        let r = read_at(stream, law, set, at, out, to);
+        let e = r.end;
+        match e {
+            Ending::Refused(why) => {
+                return Part {
+                    end: Ending::Refused(why),
+                    at,
+                    frames,
+                    samples: to,
+                    more: false,
+                };
+            }
+            Ending::Done => {
+                at += r.octets;
+                to += r.frame.len;
+                frames += 1;
+            }
+        }
+    }
+}
+
+// "LAW, SET and LONG refuse a walk before any frame, with place 0."
+fn stopped(why: Refusal) -> Part
+    ensures { λ r. ⌜ StopsAtOnce why r ⌝ }
+{
+    Part {
+        end: Ending::Refused(why),
+        at: 0,
+        frames: 0,
+        samples: 0,
+        more: false,
+    }
+}
+
+// The frames of a stream from a place on, as many as the output has room for.
+pub fn next_part(stream: &[u8], law: u32, set: u32, at: usize, out: &mut [u8]) -> Part
+    ensures { λ r. ⌜ NextPart (now (stream .entry)) law set at (now (out .entry)) (now (out .exit)) r ⌝ }
+    ensures goes { λ r. ⌜ Goes (now (stream .entry)) at (now (out .entry)) r ⌝ }
+{
+    if 1 < law {
+        return stopped(Refusal::Law);
+    }
+    if 127 < set {
+        return stopped(Refusal::Set);
+    }
+    if 65535 < stream.len() {
+        return stopped(Refusal::Long);
+    }
+    frames_from(stream, law, set, at, out)
+}
+
+// The number of octets at the start in which two sounds agree.
+pub fn agree(a: &[u8], b: &[u8]) -> usize
+    ensures { λ r. ⌜ r ≡ agreeing (now (a .entry)) (now (b .entry)) ⌝ }
+    ensures most { λ r. ⌜ (r ≤ length (now (a .entry))) × (r ≤ length (now (b .entry))) ⌝ }
+{
+    let mut i = 0;
+    while i < a.len() {
+        if b.len() <= i {
+            return i;
+        }
+        if a[i] != b[i] {
+            return i;
+        }
+        i += 1;
+    }
+    i
+}
