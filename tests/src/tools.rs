@@ -66,7 +66,7 @@ impl Ran {
         assert_eq!(self.stop(), wanted, "{}\n{}", self.line, self.err);
         assert_eq!(self.status, wanted.number as i32, "{}: the status\n{}", self.line, self.err);
         let name = ENDINGS.get(wanted.number as usize).filter(|_| wanted.number > 0);
-        let told = name.is_none_or(|name| self.err.lines().rev().skip(1).any(|line| line.contains(name)));
+        let told = name.map_or(true, |name| self.err.lines().rev().skip(1).any(|line| line.contains(name)));
         assert!(told, "{}: the name is not told\n{}", self.line, self.err);
         let message = wanted.number == 0 || self.err.lines().count() > 1;
         assert!(message, "{}: no message\n{}", self.line, self.err);
