@@ -66,7 +66,7 @@ impl Ran {
         assert_eq!(self.stop(), wanted, "{}\n{}", self.line, self.err);
         assert_eq!(self.status, wanted.number as i32, "{}: the status\n{}", self.line, self.err);
         let name = ENDINGS.get(wanted.number as usize).filter(|_| wanted.number > 0);
-        let told = name.is_none_or(|name| self.err.lines().rev().skip(1).any(|line| line.contains(name)));
+        let told = name.map_or(true, |name| self.err.lines().rev().skip(1).any(|line| line.contains(name)));
         assert!(told, "{}: the name is not told\n{}", self.line, self.err);
         let message = wanted.number == 0 || self.err.lines().count() > 1;
         assert!(message, "{}: no message\n{}", self.line, self.err);
@@ -175,31 +175,21 @@ pub struct PackWanted {
     pub filled: usize,
 }
 
-/// Without `fill`, octets that no length fits are LENGTH where they begin. A stream that would be too long is LONG, with
-/// the sound that fits.
+/// With `fill`, plus zeros are added up to the next multiple of 40, and the sound is then cut with them. Without it, octets
+/// that no length fits are LENGTH where they begin. A stream that would be too long is LONG, with the sound that fits.
 pub fn pack_wanted(sound: &[u8], law: u32, set: u32, length: usize, fill: bool) -> PackWanted {
-    let left = cuts(sound.len(), length).1;
-    let whole = sound.len() - left;
-    let filled = if fill && left > 0 { 40 - left } else { 0 };
-    let mut stream = packed(&Second, sound, law, set, length, MOST);
-    if stream.samples < whole {
-        return PackWanted { stop: Stop::new(13, stream.samples, 0), stream, filled: 0 };
+    let mut whole = sound.to_vec();
+    if fill {
+        whole.resize(sound.len().next_multiple_of(40), plus_zero(law));
     }
-    if left > 0 && !fill {
-        return PackWanted { stop: Stop::new(10, whole, 0), stream, filled: 0 };
-    }
-    if left > 0 {
-        let mut last = sound[whole..].to_vec();
-        last.resize(40, plus_zero(law));
-        let last = packed(&Second, &last, law, set, 40, MOST - stream.octets.len());
-        if last.frames == 0 {
-            return PackWanted { stop: Stop::new(13, whole, 0), stream, filled: 0 };
-        }
-        stream.octets.extend(last.octets);
-        stream.frames += 1;
-        stream.samples += 40;
-    }
-    PackWanted { stop: Stop::new(0, sound.len(), 0), stream, filled }
+    let fits = whole.len() - cuts(whole.len(), length).1;
+    let stream = packed(&Second, &whole, law, set, length, MOST);
+    let stop = match stream.samples {
+        samples if samples < fits => Stop::new(13, samples, 0),
+        _ if fits < whole.len() => Stop::new(10, fits, 0),
+        _ => Stop::new(0, whole.len(), 0),
+    };
+    PackWanted { stop, stream, filled: whole.len() - sound.len() }
 }
 
 /// What `unpack` should do with a stream: its last line, the frames, and the sound.

@@ -42,7 +42,7 @@ fn typed(command: &str) -> String {
 fn the_tour() {
     let readme = std::fs::read_to_string(repository().join("README.md")).unwrap();
     let steps = steps(&readme);
-    assert!(steps.len() >= 6, "{} commands", steps.len());
+    assert!(steps.len() >= 5, "{} commands", steps.len());
     for Step { command, wanted } in &steps {
         let mut shell = Command::new("sh");
         shell.args(["-c", &format!("exec 2>&1; {}", typed(command))]).current_dir(repository());
