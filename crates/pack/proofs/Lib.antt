@@ -1,4 +1,3 @@
 pub mod Numbers
 pub mod Running
 pub mod Written
-pub mod Named

@@ -4,7 +4,6 @@ ghost use Prim.Native.Nat.{_+_, _≤_, _<_};
 ghost use mathlib.Core.Path.{_≡_};
 ghost use mathlib.Core.Bool.{true};
 ghost use lib.ListN.{length};
-ghost use Rattle.io.specs.Counts.{Counts};
 ghost use Rattle.pack.specs.Runs.{partSize, goesOn, FilledIf, numberFor, WholeSound, Stands, stepsLeft};
 use options::Settings;
 use packing::PackAnswer;
@@ -131,7 +130,7 @@ fn write_stream(run: Run, s: Settings, name: &[u8], out: &[u8])
         console::failed(true, name, b"standard output");
         return;
     }
-    if libc::close(fd) < 0 {
+    if !console::close(fd) {
         console::failed(true, name, b"standard output");
         return;
     }
@@ -189,63 +188,30 @@ fn pack_file(s: Settings, in_name: &[u8], out_name: &[u8], part: &mut [u8], out:
     finish(run, s, in_name, out_name, out);
 }
 
-// A law that no option tells is told by the ending of what is read.
-fn with_law(mut s: Settings, in_name: &[u8]) -> Settings {
-    if s.law != 2 {
-        return s;
-    }
-    let law = options::law_told(true, in_name);
-    s.law = law;
-    s
-}
-
-// The name of what is written: OUTFILE, or INFILE with another ending; empty for standard output.
-fn out_name_of(s: Settings, in_name: &[u8], name: &mut [u8]) -> usize
-    ensures { λ r. ⌜ Counts r (now (name .exit)) ⌝ }
-{
-    if s.outfile != 0 {
-        return console::file_name(s.outfile, name);
-    }
-    if in_name.len() == 0 {
-        return 0;
-    }
-    options::new_name(true, s.law, in_name, name)
-}
-
-// A name with its new ending can be too long.
-fn is_too_long(s: Settings, in_name: &[u8], out_name: &[u8]) -> bool {
-    if s.outfile != 0 {
-        return false;
-    }
-    if in_name.len() == 0 {
-        return false;
-    }
-    out_name.len() == 0
-}
-
-// The settings are whole: the names, and then the sound.
+// The settings are whole: the name of what is written, and then the sound.
 fn pack_named(s: Settings, in_name: &[u8], name: &mut [u8]) {
-    let n = out_name_of(s, in_name, name);
-    let out_name: &[u8] = &name[..n];
-    if is_too_long(s, in_name, out_name) {
+    let t = console::target_name(s, s.law, in_name, name);
+    if !t.fits {
         console::usage(true, b"the name of INFILE is too long for another ending");
         return;
     }
+    let n = t.len;
     let mut part = [0u8; 61440];
     let mut out = [0u8; 65535];
-    pack_file(s, in_name, out_name, &mut part, &mut out);
+    pack_file(s, in_name, &name[..n], &mut part, &mut out);
 }
 
-// Arguments that are wrong, and a law that is not known, are usage errors.
-fn pack_with(s: Settings, space: &mut [u8], name: &mut [u8]) {
+// A law that no option tells is told by the ending of what is read.
+fn pack_with(mut s: Settings, space: &mut [u8], name: &mut [u8]) {
     let n = console::file_name(s.infile, space);
     let in_name: &[u8] = &space[..n];
-    let t = with_law(s, in_name);
-    if t.law == 2 {
+    let law = options::law_of(s, in_name);
+    if law == 2 {
         console::usage(true, b"the law is not known: say -u or -a");
         return;
     }
-    pack_named(t, in_name, name);
+    s.law = law;
+    pack_named(s, in_name, name);
 }
 
 fn main() {
