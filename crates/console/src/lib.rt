@@ -162,7 +162,10 @@ pub fn target_name(s: Settings, law: u32, source: &[u8], name: &mut [u8]) -> Tar
         return Target { len: 0, fits: true };
     }
     let len = options::new_name(s.packs, law, source, name);
-    Target { len, fits: len != 0 }
+    Target {
+        len,
+        fits: len != 0,
+    }
 }
 
 // A file to read, or standard input; -1 where it can't be opened.

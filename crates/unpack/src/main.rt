@@ -10,9 +10,13 @@ use rules::Ending;
 
 // What is wrong with the file that is written or compared.
 const NOTHING: u32 = 0;
+
 const FAILED: u32 = 1;
+
 const DIFFERS: u32 = 2;
+
 const SHORTER: u32 = 3;
+
 const LONGER: u32 = 4;
 
 // What came of a part's sound: what is wrong, and how many octets are well.
@@ -100,7 +104,15 @@ fn use_part(compares: bool, fd: i32, sound: &[u8], master: &mut [u8]) -> Used
 }
 
 // Part after part, page by page.
-fn parts(stream: &[u8], law: u32, set: u32, compares: bool, fd: i32, page: &mut [u8], master: &mut [u8]) -> Total
+fn parts(
+    stream: &[u8],
+    law: u32,
+    set: u32,
+    compares: bool,
+    fd: i32,
+    page: &mut [u8],
+    master: &mut [u8],
+) -> Total
     requires { ⌜ (length (now stream) ≤ 65535) × (320 ≤ length (now page)) × (length (now page) ≤ length (now master)) ⌝ }
 {
     let mut at = 0;
@@ -264,8 +276,12 @@ fn compare_with(stream: &[u8], law: u32, set: u32, name: &[u8])
     conclude(t, fd, name);
 }
 
-// Reads the stream, and writes or compares its sound. `name` is INFILE, `other` OUTFILE or the master.
+// Reads the stream, and writes or compares its sound. `name` is INFILE, `other` OUTFILE or the master. SET comes before any file.
 fn run(s: Settings, law: u32, name: &[u8], other: &[u8]) {
+    if 127 < s.set {
+        console::refused(false, 11, 0, 0);
+        return;
+    }
     let mut stream = [0u8; 65536];
     let got = read_stream(name, &mut stream);
     if got.failed {
@@ -287,6 +303,9 @@ fn run(s: Settings, law: u32, name: &[u8], other: &[u8]) {
 fn with_names(s: Settings, law: u32, name: &[u8]) {
     let mut space = [0u8; 4095];
     if s.master != 0 {
+        if s.outfile != 0 {
+            console::say(b"unpack: with -c nothing is written to OUTFILE\n");
+        }
         let n = console::file_name(s.master, &mut space);
         if name.len() == 0 && n == 0 {
             console::usage(false, b"INFILE and MASTER can't both be standard input");
@@ -316,10 +335,6 @@ fn main() {
     let law = options::law_of(s, &space[..n]);
     if law == 2 {
         console::usage(false, b"the law is not known: say -u or -a");
-        return;
-    }
-    if 127 < s.set {
-        console::refused(false, 11, 0, 0);
         return;
     }
     with_names(s, law, &space[..n]);

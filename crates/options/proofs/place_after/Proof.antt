@@ -4,7 +4,7 @@ use Rattle.options.proofs.place_after.Statement.{statement}
 use Rattle.options.proofs.place_after.Tie as tie
 
 returns : tie.Need-returns
-returns c = (rw (eq-eqb _ _ (c .if1 .taken)), search needs)
+returns c = (rw (eq-eqb (c .before .args .octet) 0x2F (c .if1 .taken)), search needs)
 
 add-result : tie.Need-add-result
 add-result c = search needs

@@ -24,7 +24,7 @@ returns-2 c = rw (eq-eqb _ _ (c .before .before .before .before .if1 .left), eq-
 
 returns-3 : tie.Need-returns-3
 unfolding stepOf
-returns-3 c = rw (eq-eqb _ _ (c .before .before .before .before .if1 .left), ne-eqb _ _ (c .before .before .if2 .left), eq-eqb _ _ (c .if3 .taken))
+returns-3 c = rw (eq-eqb _ _ (c .before .before .before .before .if1 .left), ne-eqb _ _ (c .before .before .if2 .left), eq-eqb (c .before .before .before .before .before .before .before .args .s .wants) 1 (c .if3 .taken))
 
 number-in-requires : tie.Need-number-in-requires
 number-in-requires c κs = search needs

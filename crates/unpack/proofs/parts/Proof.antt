@@ -54,12 +54,12 @@ returns-2 : tie.Need-returns-2 Inv-loop μ-loop
 returns-2 c = search needs
 
 loop-less : tie.Need-loop-less Inv-loop μ-loop
-loop-less c =     let goes = c .before .before .before .before .before .before .before .before .before .before .before .before .before .next-part .ensures .1 in
+loop-less c = let goes = c .before .before .before .before .before .before .before .before .before .before .before .before .before .next-part .ensures .1 in
     let more = not-false _ (c .if2 .left) in
     omega (arith, goes .nearer (omega (arith, c .before .before .before .before .before .before .before .before .before .before .before .before .before .before .before .loop .inv .3, c .before .before .before .before .before .before .before .before .before .before .before .before .before .before .before .before .before .before .before .pre .1)) more, goes .inside more)
 
 loop-again : tie.Need-loop-again Inv-loop μ-loop
-loop-again c =     let goes = c .before .before .before .before .before .before .before .before .before .before .before .before .before .next-part .ensures .1 in
+loop-again c = let goes = c .before .before .before .before .before .before .before .before .before .before .before .before .before .next-part .ensures .1 in
     let more = not-false _ (c .if2 .left) in (
       goes .inside more,
       omega (arith, goes .passed more, c .before .before .before .before .before .before .before .before .before .before .before .before .before .before .before .loop .inv .1),
