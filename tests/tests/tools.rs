@@ -395,7 +395,7 @@ fn options_in_any_order() {
         ran.ends(wanted.stop).writes(&wanted.stream.octets);
         assert_eq!(ran.said("filled"), Some(wanted.filled), "{}\n{}", ran.line, ran.err);
     }
-    room.put("master", &vec![0xD5; 40]);
+    room.put("master", &[0xD5; 40]);
     for words in ["-a -s127 -c master", "-c master -a -s127", "-s2 -c master -a", "-s2 -a -c master -"] {
         room.run("unpack", words, &[0x41]).ends(Stop::new(0, 1, 0)).writes(&[]);
     }
