@@ -1,32 +1,9 @@
 // The C boundary: numbers and slices only. include/g7110.h says what a C program passes.
-ghost use mathlib.Core.Path.{_≡_};
 ghost use lib.ListN.{length};
-ghost use Rattle.rules.specs.Refusals.{numberOf, toolNamed};
 ghost use Rattle.rules.specs.Frame.{readOne};
 ghost use Rattle.rules.specs.Walk.{walkAll};
 ghost use Rattle.rules.specs.Chooses.{writeOne};
 ghost use Rattle.g7110.specs.Boundary.{ReadReported, WalkReported, WriteReported};
-use rules::Ending;
-
-// An accepted call has the number 0.
-fn number_of(end: Ending) -> u32
-    ensures { λ r. ⌜ r ≡ numberOf end ⌝ }
-{
-    match end {
-        Ending::Done => 0,
-        Ending::Refused(why) => rules::refusal_number(why),
-    }
-}
-
-// "its tool is given for TOOL and is 0 otherwise"
-fn tool_of(end: Ending) -> u32
-    ensures { λ r. ⌜ r ≡ toolNamed end ⌝ }
-{
-    match end {
-        Ending::Done => 0,
-        Ending::Refused(why) => rules::refusal_tool(why),
-    }
-}
 
 // Reading one frame: the number, and in the report samples, octets used, bits and tool.
 #[no_mangle]
@@ -47,7 +24,7 @@ pub extern "C" fn g7110_read(
         a.tool as u64,
     ];
     let end = a.end;
-    number_of(end)
+    rules::number_of(end)
 }
 
 // Walking a stream: the number, and in the report frames, octets and samples kept, and the tool that TOOL gives.
@@ -63,14 +40,14 @@ pub extern "C" fn g7110_walk(
 {
     let a = walk::walk(octets, law, set, out);
     let end = a.end;
-    let tool = tool_of(end);
+    let tool = rules::tool_of(end);
     *report = [
         a.frames as u64,
         a.octets as u64,
         a.samples as u64,
         tool as u64,
     ];
-    number_of(end)
+    rules::number_of(end)
 }
 
 // Writing one frame: the number, and in the report octets, bits and tool.
@@ -87,5 +64,5 @@ pub extern "C" fn g7110_write(
     let a = writer::write_samples(samples, law, set, out);
     *report = [a.octets as u64, a.bits as u64, a.tool as u64];
     let end = a.end;
-    number_of(end)
+    rules::number_of(end)
 }

@@ -7,9 +7,6 @@ ghost use Rattle.options.specs.Words.{same, refusalName, Named};
 ghost use Rattle.options.specs.Names.{placeAfter, endingAt, lawOfSound, lawOfStream, lawTold, newEnding, newName, Laid};
 ghost use Rattle.options.specs.Numbers.{numberIn};
 ghost use Rattle.options.specs.Arguments.{wantedBy, letterOf, numberedOf, argumentOf, atFirst, withWrong, withFile, withNumber, withArgument, stepOf, endOf, lawOf};
-ghost use Rattle.rules.specs.Refusals.{numberOf};
-use rules::Ending;
-use rules::Refusal;
 
 // Where an octet at place i leaves the ending's place.
 fn place_after(none: usize, place: usize, i: usize, octet: u8) -> usize
@@ -402,30 +399,6 @@ pub fn new_name(packs: bool, law: u32, name: &[u8], out: &mut [u8]) -> usize
     }
     let at = ending_at(name);
     lay(&name[..at], &ending[1..], out)
-}
-
-// "Numbered refusals": the number of an ending.
-pub fn number_of(end: Ending) -> u32
-    ensures { λ r. ⌜ r ≡ numberOf end ⌝ }
-{
-    let Ending::Refused(why) = end else {
-        return 0;
-    };
-    match why {
-        Refusal::Short => 1,
-        Refusal::Prefix => 2,
-        Refusal::Tool(_) => 3,
-        Refusal::Room => 4,
-        Refusal::Case => 5,
-        Refusal::Method => 6,
-        Refusal::Run => 7,
-        Refusal::Place => 8,
-        Refusal::Align => 9,
-        Refusal::Length => 10,
-        Refusal::Set => 11,
-        Refusal::Law => 12,
-        Refusal::Long => 13,
-    }
 }
 
 // A word of at most six octets; spaces stand after it.

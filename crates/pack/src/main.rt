@@ -86,7 +86,7 @@ fn all_parts(fd: i32, start: Run, s: Settings, part: &mut [u8], out: &mut [u8]) 
 fn number_for(end: Ending) -> u32
     ensures { λ r. ⌜ r ≡ numberFor end ⌝ }
 {
-    let number = options::number_of(end);
+    let number = rules::number_of(end);
     if number == 4 {
         return 13;
     }
@@ -167,7 +167,7 @@ fn pack_file(s: Settings, in_name: &[u8], out_name: &[u8], part: &mut [u8], out:
 {
     let packed = packing::pack(b"", s.law, s.set, s.length as usize, out);
     let e = packed.end;
-    let number = options::number_of(e);
+    let number = rules::number_of(e);
     if number != 0 {
         explain_settings(number);
         console::refused(true, number, 0, 0);

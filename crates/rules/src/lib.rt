@@ -1,7 +1,7 @@
 // The vocabulary of document 01: a frame, the thirteen refusals, and the answers of the three calls.
 // What each case and each answer means stands in specs/.
 ghost use mathlib.Core.Path.{_≡_};
-ghost use Rattle.rules.specs.Refusals.{refusalNumber, refusalTool};
+ghost use Rattle.rules.specs.Refusals.{refusalNumber, refusalTool, numberOf, toolNamed};
 
 // "One frame with its samples and its length travel together". A reader leaves 00 past the length; a writer does not look there.
 pub struct Frame {
@@ -72,6 +72,26 @@ pub fn refusal_tool(why: Refusal) -> u32
 pub enum Ending {
     Done,
     Refused(Refusal),
+}
+
+// An accepted call has the number 0.
+pub fn number_of(end: Ending) -> u32
+    ensures { λ r. ⌜ r ≡ numberOf end ⌝ }
+{
+    match end {
+        Ending::Done => 0,
+        Ending::Refused(why) => refusal_number(why),
+    }
+}
+
+// "its tool is given for TOOL and is 0 otherwise"
+pub fn tool_of(end: Ending) -> u32
+    ensures { λ r. ⌜ r ≡ toolNamed end ⌝ }
+{
+    match end {
+        Ending::Done => 0,
+        Ending::Refused(why) => refusal_tool(why),
+    }
 }
 
 // Reading one frame.

@@ -1,9 +1,7 @@
 // The bench tool `unpack`: a stream back to sound, or, with a master, the sound compared with it. What a part holds stands in
 // crate `unpacking`, what the arguments mean in `options`, what is said in `console`.
 ghost use Prim.Native.Nat.{_≤_};
-ghost use mathlib.Core.Path.{_≡_};
 ghost use lib.ListN.{length};
-ghost use Rattle.rules.specs.Refusals.{toolNamed};
 use console::Got;
 use options::Settings;
 use rules::Ending;
@@ -32,16 +30,6 @@ struct Total {
     frames: usize,
     samples: usize,
     wrong: u32,
-}
-
-// "its tool is given for TOOL and is 0 otherwise"
-fn tool_of(end: Ending) -> u32
-    ensures { λ r. ⌜ r ≡ toolNamed end ⌝ }
-{
-    match end {
-        Ending::Done => 0,
-        Ending::Refused(why) => reader::tool_named(why),
-    }
 }
 
 // The sound of a part, written.
@@ -160,12 +148,12 @@ fn all_parts(stream: &[u8], law: u32, set: u32, compares: bool, fd: i32) -> Tota
 fn finish(t: Total) {
     console::summary(t.frames, t.samples, t.at);
     let end = t.end;
-    let number = options::number_of(end);
+    let number = rules::number_of(end);
     if number == 0 {
         console::stop(0, t.at, 0);
         return;
     }
-    console::refused(false, number, t.at, tool_of(end));
+    console::refused(false, number, t.at, rules::tool_of(end));
 }
 
 // Reads the stream, and one octet more where it is too long; says what failed.
@@ -247,7 +235,7 @@ fn conclude(t: Total, fd: i32, name: &[u8]) {
         return;
     }
     let end = t.end;
-    if options::number_of(end) != 0 {
+    if rules::number_of(end) != 0 {
         finish(t);
         return;
     }
