@@ -1,25 +1,33 @@
 # What there is to run. All that is made stands in target/.
 
-CARGO ?= cargo
+# The programs and the archive are for x86-64. On another machine an emulator runs them.
+CARGO ?= tools/cross cargo
+RT ?= rt
+MACHINE := $(shell uname -m)
+RUN_WITH ?= $(if $(filter x86_64,$(MACHINE)),,tools/x86-64)
+BIN ?= target/bin
 export CARGO_TARGET_DIR := $(CURDIR)/target/cargo
 
-.PHONY: help run test fuzz bench archive fmt clean
+.PHONY: help run test fuzz bench vectors archive fmt clean
 
 help:
-	@echo 'make run     proves and builds the listing program, lists the example stream, holds it against the expected text'
+	@echo 'make run     proves and builds the tools, packs, lists and unpacks a recording, and lists the example stream'
 	@echo 'make test    the gate: every proof and every test; the last line counts them'
 	@echo 'make fuzz    proved code and second program on drawn inputs, for FUZZ_SECONDS=60, from FUZZ_SEED'
 	@echo 'make bench   the times of both, in one run, as tables for docs/BENCHMARKS.md'
+	@echo 'make vectors compares the published test signals in FOLDER= with both, file by file'
 	@echo 'make archive target/staticlib/libg7110.a, for C and Rust to link'
 	@echo 'make fmt     lays out every file of Rattle'
 	@echo 'make clean   removes target/'
 
-# M, then 41 00 56 0F 86: the example of document 01, listed by the proved program.
+# A recording packed, listed, unpacked and compared. Then M 41 00 56 0F 86, the example of document 01, is listed.
 run:
 	@mkdir -p target
-	@echo 'Proving and building the listing program; the first time takes some minutes.'
-	@rt check listing >target/listing-build.log 2>&1 || { tail -n 20 target/listing-build.log; exit 1; }
-	@printf 'M\101\000\126\017\206' | target/bin/listing >target/listing-example.txt
+	@echo 'Proving and building pack, listing and unpack; the first time takes some minutes.'
+	@$(RT) check listing pack unpack >target/run-build.log 2>&1 || { tail -n 20 target/run-build.log; exit 1; }
+	@BIN='$(BIN)' RUN_WITH='$(RUN_WITH)' tools/show
+	@printf '%s\n' "$$ printf 'M\101\000\126\017\206' | $(BIN)/listing"
+	@printf 'M\101\000\126\017\206' | $(RUN_WITH) $(BIN)/listing >target/listing-example.txt
 	@cat target/listing-example.txt
 	@cmp target/listing-example.txt tests/data/listing-example.txt
 	@echo 'The listing is the expected one, octet for octet.'
@@ -29,16 +37,20 @@ test:
 
 # rt builds nothing that is built already.
 archive:
-	@rt staticlib g7110
+	@$(RT) staticlib g7110
 
 fuzz: archive
 	@$(CARGO) run --release --offline --locked --quiet --package tests --bin fuzz
 
+vectors: archive
+	@$(CARGO) run --release --offline --locked --quiet --package tests --bin vectors_of -- "$(FOLDER)"
+
 bench: archive
+	@[ $(MACHINE) = x86_64 ] || echo 'This machine is $(MACHINE), and the proved code runs under an emulator: these times say nothing.'
 	@$(CARGO) run --profile bench --offline --locked --quiet --package bench
 
 fmt:
-	rt fmt
+	$(RT) fmt
 
 clean:
 	rm -rf target

@@ -23,6 +23,10 @@
  *   Lent buffers must not overlap: not input and output, not output and report.
  *   The calls use no heap, no global state and no lock: they may be called from several threads at once, each with its own buffers.
  *
+ * STACK
+ *   A call uses at most G7110_STACK octets of stack, what it calls included. That is measured, not proved: tests/c/stack.c
+ *   makes each call on frames of every kind, and the tests hold what it finds against this figure.
+ *
  * ROOM
  *   The output's length is the room. Reading needs the frame's samples (G7110_MAX_SAMPLES are always enough), writing the
  *   form's octets (G7110_MAX_WRITTEN are always enough), walking the samples of all frames together.
@@ -53,6 +57,7 @@ extern "C" {
 #define G7110_MAX_FRAME 402   /* octets of an accepted frame */
 #define G7110_MAX_STREAM 65535 /* octets of a walk */
 #define G7110_ALL_TOOLS 127
+#define G7110_STACK 8192       /* octets of stack, measured */
 
 /* The refusals, by number. */
 enum {

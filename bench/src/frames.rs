@@ -67,11 +67,11 @@ fn law_of(path: &Path) -> Option<u32> {
     }
 }
 
-/// The recordings of tests/data, in frames of 160 samples.
+/// The recordings of tests/data/recordings, in frames of 160 samples.
 pub fn recordings() -> Vec<Batch> {
-    let folder = Path::new(env!("CARGO_MANIFEST_DIR")).join("../tests/data");
+    let folder = Path::new(env!("CARGO_MANIFEST_DIR")).join("../tests/data/recordings");
     let mut paths: Vec<PathBuf> =
-        std::fs::read_dir(folder).into_iter().flatten().flatten().map(|file| file.path()).collect();
+        std::fs::read_dir(folder).expect("the recordings are shipped").flatten().map(|file| file.path()).collect();
     paths.sort();
     let batch = |path: &PathBuf| {
         let octets = std::fs::read(path).ok()?;

@@ -16,9 +16,12 @@ pub mod measure;
 pub mod met;
 mod notation;
 mod pair;
-mod program;
+pub mod program;
+pub mod published;
+pub mod recordings;
 pub mod streams;
 mod table;
+pub mod tools;
 mod vectors;
 
 pub use codec::{Codec, Proved, Read, Second, Walk, Write};

@@ -1,31 +1,62 @@
-//! The listing program that rt built, run on some input.
+//! Programs that were built, found and run. They are for x86-64: on another machine RUN_WITH may name what runs them.
 
+use std::ffi::OsStr;
 use std::io::Write;
 use std::path::{Path, PathBuf};
-use std::process::{Command, Stdio};
+use std::process::{Command, Output, Stdio};
 
-/// The program that LISTING_PROGRAM names, or target/bin/listing of the repository.
-fn path() -> PathBuf {
-    match std::env::var_os("LISTING_PROGRAM") {
-        Some(named) => PathBuf::from(named),
-        None => Path::new(env!("CARGO_MANIFEST_DIR")).join("../target/bin/listing"),
-    }
+/// The repository.
+pub fn repository() -> PathBuf {
+    Path::new(env!("CARGO_MANIFEST_DIR")).join("..").canonicalize().expect("the repository is there")
 }
 
-/// All that the program prints. A program that is missing, or that does not end well, is a fault.
-pub fn listing(input: &[u8]) -> Vec<u8> {
-    let path = path();
-    let mut child = Command::new(&path)
+/// A program that rt built, in target/bin or the folder that BIN names.
+pub fn built(name: &str) -> PathBuf {
+    let folder = std::env::var_os("BIN").unwrap_or("target/bin".into());
+    repository().join(folder).join(name)
+}
+
+/// The words that start a program, after RUN_WITH where it is set.
+pub fn words(path: &Path) -> Vec<PathBuf> {
+    let with = std::env::var_os("RUN_WITH").filter(|with| !with.is_empty()).map(PathBuf::from);
+    with.into_iter().chain([path.to_path_buf()]).collect()
+}
+
+/// A command that starts a program.
+pub fn command(path: &Path) -> Command {
+    let words = words(path);
+    let mut command = Command::new(&words[0]);
+    command.args(&words[1..]);
+    command
+}
+
+/// Runs a command on some standard input, to its end. A program may stop reading before the end: what is left over then
+/// has nowhere to go, and that is no fault.
+pub fn run(mut command: Command, input: &[u8]) -> Output {
+    let mut child = command
         .stdin(Stdio::piped())
         .stdout(Stdio::piped())
+        .stderr(Stdio::piped())
         .spawn()
-        .unwrap_or_else(|fault| panic!("{}: {fault}; 'rt check listing' makes it", path.display()));
+        .unwrap_or_else(|fault| panic!("{:?}: {fault}; 'rt check' makes the programs", command.get_program()));
     let mut stdin = child.stdin.take().expect("it was asked for");
     let given = input.to_vec();
-    // A program may stop reading before the end: then what is left over has nowhere to go, and that is no fault.
     let feeder = std::thread::spawn(move || drop(stdin.write_all(&given)));
     let ended = child.wait_with_output().expect("its output can be read");
     feeder.join().expect("the feeder does not panic");
+    ended
+}
+
+/// The words of a command line, for messages.
+pub fn line<W: AsRef<OsStr>>(words: &[W]) -> String {
+    words.iter().map(|word| word.as_ref().to_string_lossy()).collect::<Vec<_>>().join(" ")
+}
+
+/// All that the listing program prints: the one that LISTING_PROGRAM names, or target/bin/listing. A program that is
+/// missing, or that does not end well, is a fault.
+pub fn listing(input: &[u8]) -> Vec<u8> {
+    let path = std::env::var_os("LISTING_PROGRAM").map_or_else(|| built("listing"), PathBuf::from);
+    let ended = run(command(&path), input);
     assert!(ended.status.success(), "{} ended with {}", path.display(), ended.status);
     ended.stdout
 }

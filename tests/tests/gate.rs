@@ -34,7 +34,7 @@ impl Copy {
         let _ = fs::remove_dir_all(&root);
         let copy = Copy { root, _alone: alone };
         let here = Path::new(env!("CARGO_MANIFEST_DIR")).join("..");
-        for file in [".ci/run", "KIT"] {
+        for file in [".ci/run", "tools/cross", "KIT"] {
             copy.put(file, &fs::read_to_string(here.join(file)).unwrap());
         }
         copy.put("crates.txt", "listed:\n");

@@ -4,15 +4,10 @@
 
 use std::path::{Path, PathBuf};
 use std::process::Command;
+use tests::program::{command, repository};
 use tests::say;
 
 const STRICT: [&str; 5] = ["-Wall", "-Wextra", "-Wpedantic", "-Werror", "-O1"];
-/// The greatest stack that a call may use.
-const MOST_STACK: u64 = 16_384;
-
-fn repository() -> PathBuf {
-    Path::new(env!("CARGO_MANIFEST_DIR")).join("..")
-}
 
 fn archive() -> PathBuf {
     match std::env::var_os("G7110_ARCHIVE") {
@@ -21,10 +16,11 @@ fn archive() -> PathBuf {
     }
 }
 
-/// Compiles a program of tests/c with the archive, and gives what it prints.
+/// Compiles a program of tests/c with the archive, and gives what it prints. CC and CXX may name the compilers.
 fn run(compiler: &str, standard: &str, file: &str, more: &[&str]) -> String {
     let program = Path::new(env!("CARGO_TARGET_TMPDIR")).join(file.replace('.', "-"));
-    let built = Command::new(compiler)
+    let named = std::env::var_os(if compiler == "cc" { "CC" } else { "CXX" });
+    let built = Command::new(named.unwrap_or(compiler.into()))
         .arg(standard)
         .args(STRICT)
         .arg("-I")
@@ -37,7 +33,7 @@ fn run(compiler: &str, standard: &str, file: &str, more: &[&str]) -> String {
         .output()
         .unwrap_or_else(|fault| panic!("{compiler}: {fault}"));
     assert!(built.status.success(), "{file}:\n{}", String::from_utf8_lossy(&built.stderr));
-    let ran = Command::new(&program).output().expect("it was built");
+    let ran = command(&program).output().expect("it was built");
     let said = String::from_utf8_lossy(&ran.stdout).into_owned();
     assert!(ran.status.success(), "{file}: {}\n{said}", ran.status);
     said
@@ -53,12 +49,22 @@ fn a_program_in_cpp() {
     assert_eq!(run("c++", "-std=c++11", "example.cpp", &[]), "ok\n");
 }
 
-/// What each call uses at most, on frames of every kind; the header says so in round figures.
+/// The number that the header gives for a name.
+fn defined(name: &str) -> u64 {
+    let header = std::fs::read_to_string(repository().join("include/g7110.h")).unwrap();
+    let start = format!("#define {name} ");
+    let line = header.lines().find_map(|line| line.strip_prefix(&start)).expect("the header has the name");
+    line.split_whitespace().next().unwrap().parse().expect("it is a number")
+}
+
+/// What each call uses at most, on frames of every kind: the header's figure is enough, and not far too much.
 #[test]
 fn the_stack_that_a_call_uses() {
     let said = run("cc", "-std=c99", "stack.c", &["-pthread"]);
     say(&said.replace("stack:", "compared: stack:"));
     let octets: Vec<u64> = said.lines().map(|line| line.split_whitespace().nth(2).unwrap().parse().unwrap()).collect();
     assert_eq!(octets.len(), 3, "{said}");
-    assert!(octets.iter().all(|octets| *octets > 0 && *octets <= MOST_STACK), "{said}");
+    let most = defined("G7110_STACK");
+    assert!(octets.iter().all(|octets| *octets > 0 && *octets <= most), "the header says {most}\n{said}");
+    assert!(octets.iter().any(|octets| 2 * octets > most), "the header says {most}\n{said}");
 }

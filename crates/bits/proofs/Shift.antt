@@ -1,4 +1,4 @@
--- Shifts by at most 9 places lose nothing.
+-- Shifts by at most 32 places of a one, and by at most 9 of a quotient, lose nothing.
 use Prim.Native.Nat.{ℕ, _+_, _*_, _-_, _^_, _%_, _≤_, _<_}
 use mathlib.Core.Path.{_≡_}
 use native.Mathlib.Omega.{arith}
@@ -8,8 +8,8 @@ use lib.Pow.{pow-mono, pow-pos}
 pub power-small : (s : ℕ) → s ≤ 9 → 2 ^ s ≤ 512
 power-small s m = pow-mono {j = 9} m
 
-pub power-whole : (s : ℕ) → s ≤ 9 → 1 * 2 ^ s % 2 ^ 64 ≡ 2 ^ s
-power-whole s m = let b = power-small s m in let e : 1 * 2 ^ s ≡ 2 ^ s = omega arith in rw e (mod-eq-of-lt (omega arith))
+pub power-whole : (n : ℕ) → n ≤ 32 → 1 * 2 ^ n % 2 ^ 64 ≡ 2 ^ n
+power-whole n m = let b : 2 ^ n ≤ 2 ^ 32 = pow-mono {j = 32} m in let e : 1 * 2 ^ n ≡ 2 ^ n = omega arith in rw e (mod-eq-of-lt (omega arith))
 
 pub low-small : (v n : ℕ) → v % 2 ^ n ≤ 2 ^ n - 1
 low-small v n = omega (arith, mod-lt v (pow-pos n))

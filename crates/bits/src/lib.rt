@@ -2,8 +2,9 @@
 // A place is a bit of the octets. What is read, or refused and at which bit, is what the definitions of `rules` say.
 ghost use mathlib.Core.Path.{_≡_};
 ghost use Prim.Native.Nat.{_+_, _*_, _-_, _^_, _/_, _≤_, _<_, max};
-ghost use lib.ListN.{length, getD};
-ghost use Rattle.rules.specs.Bits.{bitsOf};
+ghost use mathlib.Core.List.{_++_};
+ghost use lib.ListN.{length, getD, take, drop, replicate};
+ghost use Rattle.rules.specs.Bits.{lowBits, bitsOf};
 ghost use Rattle.rules.specs.Reading.{bit as oneBit, numberFrom};
 ghost use Rattle.rules.specs.Runs.{zerosFrom, rice as riceCode};
 ghost use Rattle.bits.specs.Outcomes.{Reads};
@@ -62,13 +63,50 @@ pub fn zeros(octets: &[u8], at: usize, n: usize) -> Outcome
 }
 
 // An octet, or 0 past the last one.
-fn octet_at(octets: &[u8], i: usize) -> usize
-    ensures { λ r. ⌜ (r ≡ getD (now (octets .entry)) i 0) × (r < 256) ⌝ }
+fn octet_at(octets: &[u8], i: usize) -> u8
+    ensures { λ r. ⌜ r ≡ getD (now (octets .entry)) i 0 ⌝ }
 {
     if i < octets.len() {
-        return wide(octets[i]);
+        return octets[i];
     }
     0
+}
+
+fn word(octet: u8) -> u32
+    ensures { λ r. ⌜ r ≡ octet ⌝ }
+{
+    octet as u32
+}
+
+// Five octets as one number; the compiler reads the first four at once.
+fn five(a: u8, b: u8, c: u8, d: u8, e: u8) -> usize
+    ensures { λ r. ⌜ r ≡ 256 * (256 * (256 * (256 * a + b) + c) + d) + e ⌝ }
+{
+    let four = 16777216 * word(a) + 65536 * word(b) + 256 * word(c) + word(d);
+    256 * (four as usize) + wide(e)
+}
+
+// The bits of the five octets from octet i on; an octet that is missing counts 0.
+fn window_at(octets: &[u8], i: usize) -> usize
+    requires { ⌜ i ≤ 2 ^ 40 ⌝ }
+    ensures { λ r. ⌜ lowBits 40 r ≡ take 40 (bitsOf (drop i (now (octets .entry)) ++ replicate 5 0)) ⌝ }
+{
+    if octets.len() < i + 5 {
+        return five(
+            octet_at(octets, i),
+            octet_at(octets, i + 1),
+            octet_at(octets, i + 2),
+            octet_at(octets, i + 3),
+            octet_at(octets, i + 4),
+        );
+    }
+    five(
+        octets[i],
+        octets[i + 1],
+        octets[i + 2],
+        octets[i + 3],
+        octets[i + 4],
+    )
 }
 
 // The first bit that is missing, of some from `at` on.
@@ -82,9 +120,9 @@ pub fn missing(octets: &[u8], at: usize) -> usize
     8 * octets.len()
 }
 
-// The number of the next n bits, from a window of two octets.
+// The number of the next n bits, from a window of five octets.
 pub fn number(octets: &[u8], at: usize, n: usize) -> Outcome
-    requires { ⌜ (at ≤ 2 ^ 40) × (n ≤ 9) ⌝ }
+    requires { ⌜ (at ≤ 2 ^ 40) × (n ≤ 32) ⌝ }
     ensures { λ r. ⌜ Reads (numberFrom 0 n (bitsOf (now (octets .entry))) at) (2 ^ n - 1) (at + n) r ⌝ }
 {
     if n == 0 {
@@ -94,9 +132,8 @@ pub fn number(octets: &[u8], at: usize, n: usize) -> Outcome
     if octets.len() < (end + 7) / 8 {
         return Outcome::Refused(Refusal::Short, missing(octets, at));
     }
-    let first = octet_at(octets, at / 8);
-    let window = 256 * first + octet_at(octets, at / 8 + 1);
-    let past = 16 - (at % 8 + n);
+    let window = window_at(octets, at / 8);
+    let past = 40 - (at % 8 + n);
     Outcome::Got((window >> past) % (1 << n), end)
 }
 

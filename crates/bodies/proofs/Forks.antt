@@ -1,11 +1,11 @@
 -- A fork of the tree of the code of S: one bit, then one of the two branches.
 use Prim.Native.Nat.{ℕ, zero, suc, _+_, _≤_}
-use mathlib.Core.Path.{_≡_, refl, sym, ap, _∙_}
+use mathlib.Core.Path.{_≡_, refl}
 use mathlib.Core.List.{List}
 use native.Mathlib.Omega.{arith}
 use borrow.Author.Tests.{eq-eqb, ne-eqb}
 use Rattle.rules.specs.declared.Refusal.{Refusal}
-use Rattle.rules.specs.Reading.{Read, whole, refuse, bit}
+use Rattle.rules.specs.Reading.{refuse, bit}
 use Rattle.rules.specs.Zeros.{Tree, leaf, fork, readTree}
 use Rattle.bits.specs.declared.Outcome.{Outcome}
 use Rattle.bits.specs.declared.Outcome.the-variants.{Got, Refused}

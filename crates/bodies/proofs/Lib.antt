@@ -1,4 +1,5 @@
-pub mod Filling
+pub mod Poured
+pub mod Told
 pub mod WholeOctets
 pub mod TwoZeros
 pub mod Forks

@@ -1,20 +1,17 @@
--- A frame buffer that is being filled with the zeros of flags.
-use Prim.Native.Nat.{ℕ, _+_, _-_, _≤_, _<_}
+-- The zeros of flags, as the cells that two kinds mark.
+use Prim.Native.Nat.{ℕ, zero, suc, _+_, _≤_, _<_}
 use mathlib.Core.Path.{_≡_, refl, sym, ap, _∙_}
 use mathlib.Core.List.{List, map}
-use mathlib.Core.Bool.{cond}
 use native.Mathlib.Omega.{arith}
-use native.Mathlib.Nat.{le-refl}
 use lib.Bits.{xor-zero-l}
-use lib.Dec.{eqb}
-use lib.ListN.{length, getD, take, set, replicate, length-map, List·getD-map}
-use lib.Seq.{length-take-le, getD-take}
+use lib.ListN.{length, length-map}
 use Rattle.rules.specs.Reading.{Read, whole}
 use Rattle.rules.specs.Samples.{sampleOf, plusZero, minusZero}
-use Rattle.rules.specs.Zeros.{zeroOf}
+use Rattle.rules.proofs.Octets.{Below, none, more}
 use Rattle.bits.specs.declared.Outcome.the-variants.{Got}
-use Rattle.bodies.specs.Bodied.{ReadsBody}
-use Rattle.bodies.proofs.Filling.{Filling, filling-none, filling-turn, filling-all}
+use Rattle.runs.specs.Flagged.{kindOf, kinds}
+use Rattle.runs.proofs.Answer.{Marks-as}
+use Rattle.bodies.specs.Bodied.{FillsBody}
 
 -- "plus zero is 0, minus zero is -1"
 pub plus-zero : (mask : ℕ) → plusZero mask ≡ 128 + mask
@@ -25,32 +22,27 @@ pub minus-zero : (mask : ℕ) → minusZero mask ≡ mask
 unfolding sampleOf
 minus-zero mask = xor-zero-l mask
 
-pub record Zeros (flags : List ℕ) (mask mark n i : ℕ) (samples : List ℕ) : Type 0 where
-  pub filling : Filling (map (zeroOf mask mark) (take n flags)) i samples
-  pub room : n ≤ length flags
+-- two kinds are all that flags of 0 and 1 tell
+kind-flag : (g : ℕ → ℕ) (f : ℕ) → f < 2 → kindOf (g 0) (g 1) f ≡ g f
+kind-flag g zero h = refl
+kind-flag g (suc zero) h = refl
+kind-flag g (suc (suc f)) h = absurd (omega arith)
 
-zeros-length : (flags : List ℕ) (mask mark n : ℕ) → n ≤ length flags → length (map (zeroOf mask mark) (take n flags)) ≡ n
-zeros-length flags mask mark n h = length-map (take n flags) (zeroOf mask mark) ∙ length-take-le n flags h
+kinds-map : (g : ℕ → ℕ) {flags : List ℕ} → Below 2 flags → kinds (g 0) (g 1) flags ≡ map g flags
+kinds-map g none = refl
+kinds-map g (more h b) = rw (kind-flag g _ h, kinds-map g b)
 
-pub zeros-none : {flags : List ℕ} {mask mark n : ℕ} → n ≤ length flags → n ≤ 320 → Zeros flags mask mark n 0 (replicate 320 0)
-zeros-none {flags} {mask} {mark} {n} h k =
-    record { filling = filling-none (map (zeroOf mask mark) (take n flags)) (rw (zeros-length flags mask mark n h) k); room = h }
-
-module _ {flags : List ℕ} {mask mark n i : ℕ} {samples : List ℕ} (z : Zeros flags mask mark n i samples) where
-  pub zeros-turn : {x : ℕ} → i < n → x ≡ cond (eqb (getD flags i 0) mark) (128 + mask) mask → Zeros flags mask mark n (i + 1) (set samples i x)
-  zeros-turn {x} h e =
-      let zero = zeroOf mask mark in
-      let g : zero (getD (take n flags) i 0) ≡ cond (eqb (getD flags i 0) mark) (128 + mask) mask =
-      rw (getD-take n flags i 0 h, plus-zero, minus-zero)
-      in
-      let l = zeros-length flags mask mark n (z .room) in
-      record {
-        filling = filling-turn (z .filling) (zero 0) (rw l h) (e ∙ sym g ∙ sym (List·getD-map zero (take n flags) i 0));
-        room = z .room;
-      }
-
-  pub zeros-all : {next : ℕ} → n ≤ i
-      → ReadsBody (whole (map (zeroOf mask mark) (take n flags)) next) next (record { end = Got n next; samples = samples })
-  zeros-all {next} h =
-      let l = zeros-length flags mask mark n (z .room) in
-      filling-all (z .filling) (rw l h) refl (sym l) (le-refl next)
+-- n flags as the zeros that g gives them
+pub zeros-filled : {flags-found found : Read (List ℕ)} {n near far common other : ℕ} {old new : List ℕ} {count next : ℕ} (g : ℕ → ℕ)
+    → Marks-as flags-found n near common other old new count next → common ≡ g 0 → other ≡ g 1
+    → ((flags : List ℕ) → flags-found ≡ whole flags next → found ≡ whole (map g flags) next) → n ≤ 320 → near ≤ far
+    → FillsBody found far old new (Got n next)
+zeros-filled {n = n} {far = far} {old = old} {new = new} {next = next} g m c o e h k =
+    let l : length (map g (m .flags)) ≡ n = length-map (m .flags) g ∙ m .size in
+    let s : kinds (g 0) (g 1) (m .flags) ≡ map g (m .flags) = kinds-map g (m .below) in
+    rw (e (m .flags) (m .says))
+    (record {
+      end = ap (λ (x : ℕ). Got x next) (sym l);
+      next = let q = m .next in omega arith;
+      samples = (m .made ∙ rw (c, o, s, l), rw l h);
+    })

@@ -1,29 +1,19 @@
 -- Octets that are read from an octet's first bit on are the octets that are there.
-use Prim.Native.Nat.{ℕ, zero, suc, _+_, _*_, _-_, _^_, _/_, _%_, _≤_, _<_, max}
-use mathlib.Core.Path.{_≡_, refl, sym, ap, _∙_}
+use Prim.Native.Nat.{ℕ, zero, suc, _+_, _*_, _-_, _/_, _%_, _≤_, _<_, max}
+use mathlib.Core.Path.{_≡_}
 use mathlib.Core.List.{List, [], _∷_, _++_, append-assoc, append-nil}
 use native.Mathlib.Omega.{arith}
 use native.Mathlib.Nat.{add-zero}
-use native.Mathlib.Numerals.{add-one}
 use native.Mathlib.Decide.{decLe}
 use lib.ListN.{length, getD, take, drop}
 use lib.Seq.{drop-cons}
 use Rattle.rules.specs.declared.Refusal.the-variants.{Short}
 use Rattle.rules.specs.Bits.{bitsOf}
-use Rattle.rules.specs.Reading.{Read, whole, refuse, numberFrom, octetsAfter}
-use Rattle.bits.proofs.Window.{number-window}
+use Rattle.rules.specs.Reading.{whole, refuse, octetsAfter}
+use Rattle.bits.proofs.Window.{number-octet}
 use Rattle.bits.proofs.Cut.{number-cut}
 
 module _ (s : List ℕ) (b : (i : ℕ) → getD s i 0 < 256) where
-  number-octet : (at : ℕ) → at % 8 ≡ 0 → at / 8 < length s → numberFrom 0 8 (bitsOf s) at ≡ whole (getD s (at / 8) 0) (at + 8)
-  number-octet at z h =
-      let x = b (at / 8) in
-      let y = b (at / 8 + 1) in
-      let e : (256 * getD s (at / 8) 0 + getD s (at / 8 + 1) 0) / 2 ^ (16 - (at % 8 + 8)) % 2 ^ 8 ≡ getD s (at / 8) 0 =
-      rw z (omega arith)
-      in
-      number-window s at 8 _ _ refl refl y (omega arith) (omega arith) (omega arith) ∙ ap (λ (v : ℕ). whole v (at + 8)) e
-
   pub octets-there : (n : ℕ) (done : List ℕ) (at : ℕ) → at % 8 ≡ 0 → at / 8 + n ≤ length s
       → octetsAfter done n (bitsOf s) at ≡ whole (done ++ take n (drop (at / 8) s)) (at + 8 * n)
   unfolding octetsAfter
@@ -32,7 +22,7 @@ module _ (s : List ℕ) (b : (i : ℕ) → getD s i 0 < 256) where
       let e : (at + 8) / 8 ≡ suc (at / 8) = omega arith in
       let f : at + 8 + 8 * n ≡ at + 8 * suc n = omega arith in
       let m = octets-there n (done ++ (getD s (at / 8) 0 ∷ [])) (at + 8) (omega arith) (omega arith) in
-      rw (number-octet at z (omega arith), drop-cons s (at / 8) 0 (omega arith)) (rw (e, f, append-assoc) at m)
+      rw (number-octet s at z (omega arith) (b (at / 8)), drop-cons s (at / 8) 0 (omega arith)) (rw (e, f, append-assoc) at m)
 
   cut-step : (n : ℕ) (done : List ℕ) (at : ℕ) → at % 8 ≡ 0 → length s < at / 8 + suc n → Dec (length s ≤ at / 8)
       → ((done : List ℕ) (at : ℕ) → 0 < n → at % 8 ≡ 0 → length s < at / 8 + n → octetsAfter done n (bitsOf s) at ≡ refuse Short (max at (8 * length s)))
@@ -41,7 +31,7 @@ module _ (s : List ℕ) (b : (i : ℕ) → getD s i 0 < 256) where
   cut-step n done at z h (yes p) more = rw (number-cut s 0 8 at (omega arith) (omega arith))
   cut-step n done at z h (no p) more =
       let e : max at (8 * length s) ≡ max (at + 8) (8 * length s) = omega arith in
-      rw (number-octet at z (omega arith), e) (more _ (at + 8) (omega arith) (omega arith) (omega arith))
+      rw (number-octet s at z (omega arith) (b (at / 8)), e) (more _ (at + 8) (omega arith) (omega arith) (omega arith))
 
   pub octets-cut : (n : ℕ) (done : List ℕ) (at : ℕ) → 0 < n → at % 8 ≡ 0 → length s < at / 8 + n
       → octetsAfter done n (bitsOf s) at ≡ refuse Short (max at (8 * length s))

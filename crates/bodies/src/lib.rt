@@ -1,116 +1,72 @@
-// The bodies of tools 1 to 6. A frame buffer is [0; 320], then filled by the tool; what a refused body leaves is all 00.
+// The bodies of tools 1 to 6, each into a lent frame buffer; what a refused body leaves there is not looked at.
 ghost use mathlib.Core.Path.{_≡_};
-ghost use mathlib.Core.List.{[], map};
-ghost use mathlib.Core.Bool.{cond};
-ghost use Prim.Native.Nat.{_+_, _*_, _-_, _^_, _/_, _%_, _≤_, _<_};
-ghost use lib.ListN.{length, take, replicate};
-ghost use lib.Dec.{eqb};
+ghost use Prim.Native.Nat.{_+_, _*_, _^_, _/_, _%_, _≤_, _<_};
+ghost use lib.ListN.{length, replicate};
 ghost use Rattle.rules.specs.Bits.{bitsOf};
-ghost use Rattle.rules.specs.Reading.{whole, refuse};
+ghost use Rattle.rules.specs.Reading.{whole};
 ghost use Rattle.rules.specs.Zeros.{uncompressed as octetsOf, constant as constantly, binary as bitsAsZeros, plusMinus, zeroOf, leaf, fork, treeOf, readTree};
 ghost use Rattle.bits.specs.Outcomes.{Reads};
-ghost use Rattle.bodies.specs.Bodied.{ReadsBody};
+ghost use Rattle.bodies.specs.Bodied.{FillsBody};
 ghost use Rattle.bodies.specs.Trees.{two, pastTwo};
 use bits::Outcome;
 use rules::Refusal;
-use runs::Flags;
-
-// The samples, and how the reading ended: their number and the next place, or the refusal and its bit.
-pub struct Body {
-    pub end: Outcome,
-    pub samples: [u8; 320],
-}
-
-fn nothing(why: Refusal, bit: usize) -> Body
-    ensures { λ r. ⌜ ReadsBody (refuse why bit) 0 r ⌝ }
-{
-    Body {
-        end: Outcome::Refused(why, bit),
-        samples: [0; 320],
-    }
-}
 
 // "Uncompressed: N octets", whole; the place is an octet's first bit.
-pub fn uncompressed(octets: &[u8], at: usize, n: usize) -> Body
-    requires { ⌜ (at ≤ 2 ^ 37) × (at % 8 ≡ 0) × (0 < n) × (n ≤ 320) ⌝ }
-    ensures { λ r. ⌜ ReadsBody (octetsOf n (bitsOf (now (octets .entry))) at) (at + 8 * n) r ⌝ }
+pub fn uncompressed(octets: &[u8], at: usize, n: usize, samples: &mut [u8; 320]) -> Outcome
+    requires { ⌜ (at ≤ 2 ^ 37) × (at % 8 ≡ 0) × (0 < n) × (n ≤ 320) × (length (now samples) ≡ 320) ⌝ }
+    ensures { λ r. ⌜ FillsBody (octetsOf n (bitsOf (now (octets .entry))) at) (at + 8 * n) (now (samples .entry)) (now (samples .exit)) r ⌝ }
 {
     let from = at / 8;
     if octets.len() < from + n {
-        return nothing(Refusal::Short, bits::missing(octets, at));
+        return Outcome::Refused(Refusal::Short, bits::missing(octets, at));
     }
-    let mut samples = [0; 320];
     for i in 0..n {
         samples[i] = octets[from + i];
     }
-    Body {
-        end: Outcome::Got(n, at + 8 * n),
-        samples: samples,
-    }
+    Outcome::Got(n, at + 8 * n)
 }
 
 // "Plus, minus: nothing."
-pub fn filled(at: usize, n: usize, sample: u8) -> Body
-    requires { ⌜ n ≤ 320 ⌝ }
-    ensures { λ r. ⌜ ReadsBody (whole (replicate n sample) at) at r ⌝ }
+pub fn filled(at: usize, n: usize, sample: u8, samples: &mut [u8; 320]) -> Outcome
+    requires { ⌜ (n ≤ 320) × (length (now samples) ≡ 320) ⌝ }
+    ensures { λ r. ⌜ FillsBody (whole (replicate n sample) at) at (now (samples .entry)) (now (samples .exit)) r ⌝ }
 {
-    let mut samples = [0; 320];
-    for i in 0..n {
-        samples[i] = sample;
-    }
-    Body {
-        end: Outcome::Got(n, at),
-        samples: samples,
-    }
+    runs::fill(samples, n, sample);
+    Outcome::Got(n, at)
 }
 
 // "Constant: one octet, any."
-pub fn constant(octets: &[u8], at: usize, n: usize) -> Body
-    requires { ⌜ (at ≤ 2 ^ 37) × (n ≤ 320) ⌝ }
-    ensures { λ r. ⌜ ReadsBody (constantly n (bitsOf (now (octets .entry))) at) (at + 8) r ⌝ }
+pub fn constant(octets: &[u8], at: usize, n: usize, samples: &mut [u8; 320]) -> Outcome
+    requires { ⌜ (at ≤ 2 ^ 37) × (n ≤ 320) × (length (now samples) ≡ 320) ⌝ }
+    ensures { λ r. ⌜ FillsBody (constantly n (bitsOf (now (octets .entry))) at) (at + 8) (now (samples .entry)) (now (samples .exit)) r ⌝ }
 {
     match bits::number(octets, at, 8) {
-        Outcome::Refused(why, bit) => nothing(why, bit),
-        Outcome::Got(sample, next) => filled(next, n, sample as u8),
+        Outcome::Refused(why, bit) => Outcome::Refused(why, bit),
+        Outcome::Got(sample, next) => filled(next, n, sample as u8, samples),
     }
 }
 
-// A zero by its flag: the mark is 1 where minus is the common kind.
-fn zero_of(flag: u8, mark: u8, plus: u8, minus: u8) -> u8
-    ensures { λ r. ⌜ r ≡ cond (eqb flag mark) plus minus ⌝ }
+// A zero by its flag: the mark is 1 where minus is the common kind. Plus zero is 128 and the law's mask, minus zero the mask.
+fn zero_of(flag: u8, mark: u8, mask: u8) -> u8
+    requires { ⌜ mask < 128 ⌝ }
+    ensures { λ r. ⌜ r ≡ zeroOf mask mark flag ⌝ }
 {
     if flag == mark {
-        return plus;
+        return 128 + mask;
     }
-    minus
-}
-
-// The zeros of n flags; plus zero is 128 and the law's mask, minus zero the mask.
-fn zeros_of(flags: &[u8; 320], n: usize, next: usize, mark: u8, mask: u8) -> Body
-    requires { ⌜ (n ≤ 320) × (mask < 128) × (length (now flags) ≡ 320) ⌝ }
-    ensures { λ r. ⌜ ReadsBody (whole (map (zeroOf mask mark) (take n (now (flags .entry)))) next) next r ⌝ }
-{
-    let plus = 128 + mask;
-    let mut samples = [0; 320];
-    for i in 0..n {
-        samples[i] = zero_of(flags[i], mark, plus, mask);
-    }
-    Body {
-        end: Outcome::Got(n, next),
-        samples: samples,
-    }
+    mask
 }
 
 // "Binary: N bits, 1 is minus zero."
-pub fn binary(octets: &[u8], at: usize, n: usize, mask: u8) -> Body
-    requires { ⌜ (at ≤ 2 ^ 37) × (n ≤ 320) × (mask < 128) ⌝ }
-    ensures { λ r. ⌜ ReadsBody (bitsAsZeros mask n (bitsOf (now (octets .entry))) at) (at + n) r ⌝ }
+pub fn binary(octets: &[u8], at: usize, n: usize, mask: u8, samples: &mut [u8; 320]) -> Outcome
+    requires { ⌜ (at ≤ 2 ^ 37) × (n ≤ 320) × (mask < 128) × (length (now samples) ≡ 320) ⌝ }
+    ensures { λ r. ⌜ FillsBody (bitsAsZeros mask n (bitsOf (now (octets .entry))) at) (at + n) (now (samples .entry)) (now (samples .exit)) r ⌝ }
 {
-    let read = runs::straight(octets, at, n);
-    let end = read.end;
-    match end {
-        Outcome::Refused(why, bit) => nothing(why, bit),
-        Outcome::Got(_, next) => zeros_of(&read.flags, n, next, 0, mask),
+    let common = zero_of(0, 0, mask);
+    let other = zero_of(1, 0, mask);
+    match runs::straight(octets, at, n, samples, common, other) {
+        Outcome::Refused(why, bit) => Outcome::Refused(why, bit),
+        Outcome::Got(_, next) => Outcome::Got(n, next),
     }
 }
 
@@ -236,18 +192,25 @@ fn code_of_s(octets: &[u8], at: usize, n: usize) -> Outcome
 }
 
 // "Tool 6: code of S, then runs over N."
-pub fn plus_minus(octets: &[u8], at: usize, n: usize, mark: u8, mask: u8) -> Body
-    requires { ⌜ (at ≤ 2 ^ 37) × (n ≤ 320) × (mask < 128) ⌝ }
-    ensures { λ r. ⌜ ReadsBody (plusMinus mask n mark (bitsOf (now (octets .entry))) at) (at + 106000) r ⌝ }
+pub fn plus_minus(
+    octets: &[u8],
+    at: usize,
+    n: usize,
+    mark: u8,
+    mask: u8,
+    samples: &mut [u8; 320],
+) -> Outcome
+    requires { ⌜ (at ≤ 2 ^ 37) × (n ≤ 320) × (mask < 128) × (length (now samples) ≡ 320) ⌝ }
+    ensures { λ r. ⌜ FillsBody (plusMinus mask n mark (bitsOf (now (octets .entry))) at) (at + 106000) (now (samples .entry)) (now (samples .exit)) r ⌝ }
 {
+    let common = zero_of(0, mark, mask);
+    let other = zero_of(1, mark, mask);
     match code_of_s(octets, at, n) {
-        Outcome::Refused(why, bit) => nothing(why, bit),
+        Outcome::Refused(why, bit) => Outcome::Refused(why, bit),
         Outcome::Got(s, first) => {
-            let read = runs::runs(octets, first, n, s, n);
-            let end = read.end;
-            match end {
-                Outcome::Refused(why, bit) => nothing(why, bit),
-                Outcome::Got(_, next) => zeros_of(&read.flags, n, next, mark, mask),
+            match runs::runs(octets, first, n, s, n, samples, common, other) {
+                Outcome::Refused(why, bit) => Outcome::Refused(why, bit),
+                Outcome::Got(_, next) => Outcome::Got(n, next),
             }
         }
     }

@@ -1,34 +1,12 @@
 // The C boundary: numbers and slices only. include/g7110.h says what a C program passes.
 ghost use mathlib.Core.Path.{_≡_};
 ghost use lib.ListN.{length};
-ghost use Rattle.rules.specs.Refusals.{refusalNumber, numberOf, toolNamed};
+ghost use Rattle.rules.specs.Refusals.{numberOf, toolNamed};
 ghost use Rattle.rules.specs.Frame.{readOne};
 ghost use Rattle.rules.specs.Walk.{walkAll};
 ghost use Rattle.rules.specs.Chooses.{writeOne};
 ghost use Rattle.g7110.specs.Boundary.{ReadReported, WalkReported, WriteReported};
 use rules::Ending;
-use rules::Refusal;
-
-// "Numbered refusals": the paper's number of a refusal.
-fn refusal_number(why: Refusal) -> u32
-    ensures { λ r. ⌜ r ≡ refusalNumber why ⌝ }
-{
-    match why {
-        Refusal::Short => 1,
-        Refusal::Prefix => 2,
-        Refusal::Tool(_) => 3,
-        Refusal::Room => 4,
-        Refusal::Case => 5,
-        Refusal::Method => 6,
-        Refusal::Run => 7,
-        Refusal::Place => 8,
-        Refusal::Align => 9,
-        Refusal::Length => 10,
-        Refusal::Set => 11,
-        Refusal::Law => 12,
-        Refusal::Long => 13,
-    }
-}
 
 // An accepted call has the number 0.
 fn number_of(end: Ending) -> u32
@@ -36,7 +14,7 @@ fn number_of(end: Ending) -> u32
 {
     match end {
         Ending::Done => 0,
-        Ending::Refused(why) => refusal_number(why),
+        Ending::Refused(why) => rules::refusal_number(why),
     }
 }
 
@@ -46,7 +24,7 @@ fn tool_of(end: Ending) -> u32
 {
     match end {
         Ending::Done => 0,
-        Ending::Refused(why) => reader::tool_named(why),
+        Ending::Refused(why) => rules::refusal_tool(why),
     }
 }
 

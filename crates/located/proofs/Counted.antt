@@ -1,18 +1,17 @@
--- Empty cells: how many there are, and that each flag that is 1 fills one.
+-- Empty cells: how many there are, and what is laid into them.
 use Prim.Native.Nat.{ℕ, zero, suc, _+_, _≤_, _<_}
-use mathlib.Core.Path.{_≡_, refl, ap}
-use mathlib.Core.List.{List, [], _∷_}
+use mathlib.Core.Path.{_≡_, refl, sym, ap, _∙_}
+use mathlib.Core.List.{List, [], _∷_, _++_}
 use mathlib.Core.Bool.{Bool, true, false, cond}
 use native.Mathlib.Omega.{arith}
 use native.Mathlib.Numerals.{add-one}
-use native.Mathlib.Nat.{add-zero}
 use lib.Dec.{eqb}
-use lib.ListN.{length, getD, take, drop, replicate, drop-of-length-le}
-use lib.Seq.{drop-cons, getD-take}
+use lib.ListN.{length, getD, drop, replicate, drop-of-length-le}
+use lib.Seq.{drop-cons}
 use borrow.Author.Tests.{eq-eqb}
 use Rattle.rules.specs.Located.{emptyIn, lay}
-use Rattle.rules.specs.Chooses.{countOf}
-use Rattle.runs.specs.Flagged.{marked}
+use Rattle.runs.specs.Flagged.{kindOf, kinds}
+use Rattle.located.specs.Valued.{fillIn}
 
 pub empty-most : (z : ℕ) (cells : List ℕ) → emptyIn z cells ≤ length cells
 unfolding emptyIn
@@ -33,50 +32,34 @@ unfolding lay
 length-lay z x flags p [] = refl
 length-lay z x flags p (y ∷ cells) = ap suc (length-lay z x flags (cond (eqb y z) (p + 1) p) cells)
 
--- a cell, and the flag that it uses up
-pub lay-cons : (z x : ℕ) (flags : List ℕ) (p y : ℕ) (cells : List ℕ)
-    → lay z x flags p (y ∷ cells) ≡ cond (eqb y z) (cond (eqb (getD flags p 0) 1) x z) y ∷ lay z x flags (p + cond (eqb y z) 1 0) cells
+-- where all cells are empty, the flags' kinds are the cells
+lay-kinds : (z x : ℕ) (flags : List ℕ) (p k : ℕ) → p + k ≡ length flags → lay z x flags p (replicate k z) ≡ kinds z x (drop p flags)
 unfolding lay
-lay-cons z x flags p y cells = go (eqb y z)
-  where
-    go : (b : Bool) → _≡_ {A = List ℕ} (cond b (cond (eqb (getD flags p 0) 1) x z) y ∷ lay z x flags (cond b (p + 1) p) cells)
-        (cond b (cond (eqb (getD flags p 0) 1) x z) y ∷ lay z x flags (p + cond b 1 0) cells)
-    go true = refl
-    go false = rw (add-zero p)
+lay-kinds z x flags p zero h = rw (drop-of-length-le flags {i = p} (omega arith))
+lay-kinds z x flags p (suc k) h =
+    let e : drop p flags ≡ getD flags p 0 ∷ drop (p + 1) flags = rw (add-one p) (drop-cons flags p 0 (omega arith)) in
+    rw (eq-eqb z z refl) (ap (λ (l : List ℕ). kindOf z x (getD flags p 0) ∷ l) (lay-kinds z x flags (p + 1) k (omega arith)) ∙ sym (ap (kinds z x) e))
 
--- the flags of the empty cells are enough
-pub lay-take : (z x : ℕ) (flags : List ℕ) (d p : ℕ) (cells : List ℕ) → p + emptyIn z cells ≤ d → lay z x (take d flags) p cells ≡ lay z x flags p cells
-unfolding lay emptyIn
-lay-take z x flags d p [] h = refl
-lay-take z x flags d p (y ∷ cells) h = go (eqb y z) h (lay-take z x flags d (p + 1) cells) (lay-take z x flags d p cells)
+pub lay-first : (z x n : ℕ) (flags : List ℕ) → length flags ≡ n → lay z x flags 0 (replicate n z) ≡ kinds z x flags
+lay-first z x n flags h = lay-kinds z x flags 0 n (omega arith)
+
+-- the mark of a flag
+mark-at : (z x : ℕ) (flags rest : List ℕ) (p : ℕ) → p < length flags → getD (kinds z x flags ++ rest) p 0 ≡ kindOf z x (getD flags p 0)
+mark-at z x [] rest p h = absurd (omega arith)
+mark-at z x (f ∷ flags) rest zero h = refl
+mark-at z x (f ∷ flags) rest (suc p) h = mark-at z x flags rest p (omega arith)
+
+-- marks put into the empty cells are x laid by their flags
+pub fill-lay : (z x : ℕ) (flags rest : List ℕ) (p : ℕ) (cells : List ℕ) → p + emptyIn z cells ≤ length flags
+    → fillIn z (kinds z x flags ++ rest) p cells ≡ lay z x flags p cells
+unfolding lay emptyIn fillIn
+fill-lay z x flags rest p [] h = refl
+fill-lay z x flags rest p (y ∷ cells) h = go (eqb y z) h (fill-lay z x flags rest (p + 1) cells) (fill-lay z x flags rest p cells)
   where
-    go : (b : Bool) → p + (cond b 1 0 + emptyIn z cells) ≤ d
-        → (p + 1 + emptyIn z cells ≤ d → lay z x (take d flags) (p + 1) cells ≡ lay z x flags (p + 1) cells)
-        → (p + emptyIn z cells ≤ d → lay z x (take d flags) p cells ≡ lay z x flags p cells)
-        → _≡_ {A = List ℕ} (cond b (cond (eqb (getD (take d flags) p 0) 1) x z) y ∷ lay z x (take d flags) (cond b (p + 1) p) cells)
+    go : (b : Bool) → p + (cond b 1 0 + emptyIn z cells) ≤ length flags
+        → (p + 1 + emptyIn z cells ≤ length flags → fillIn z (kinds z x flags ++ rest) (p + 1) cells ≡ lay z x flags (p + 1) cells)
+        → (p + emptyIn z cells ≤ length flags → fillIn z (kinds z x flags ++ rest) p cells ≡ lay z x flags p cells)
+        → _≡_ {A = List ℕ} (cond b (getD (kinds z x flags ++ rest) p 0) y ∷ fillIn z (kinds z x flags ++ rest) (cond b (p + 1) p) cells)
         (cond b (cond (eqb (getD flags p 0) 1) x z) y ∷ lay z x flags (cond b (p + 1) p) cells)
-    go true k i j = rw (getD-take d flags p 0 (omega arith), i (omega arith))
+    go true k i j = rw (mark-at z x flags rest p (omega arith), i (omega arith))
     go false k i j = rw (j (omega arith))
-
-one-cell : (z x : ℕ) (b : Bool) → eqb x z ≡ false → cond (eqb (cond b x z) z) 1 0 + cond b 1 0 ≡ 1
-one-cell z x true h = rw h
-one-cell z x false h = rw (eq-eqb z z refl)
-
--- what is left empty is what was, less the flags that are 1
-pub lay-count : (z x : ℕ) (flags : List ℕ) (p : ℕ) (cells : List ℕ) → eqb x z ≡ false → length flags ≡ p + emptyIn z cells
-    → emptyIn z (lay z x flags p cells) + marked (drop p flags) ≡ emptyIn z cells
-unfolding lay emptyIn countOf
-lay-count z x flags p [] h e = rw (drop-of-length-le flags {i = p} (omega arith))
-lay-count z x flags p (y ∷ cells) h e = go (eqb y z) refl e (lay-count z x flags (p + 1) cells h) (lay-count z x flags p cells h)
-  where
-    go : (b : Bool) → eqb y z ≡ b → length flags ≡ p + (cond b 1 0 + emptyIn z cells)
-        → (length flags ≡ p + 1 + emptyIn z cells → emptyIn z (lay z x flags (p + 1) cells) + marked (drop (p + 1) flags) ≡ emptyIn z cells)
-        → (length flags ≡ p + emptyIn z cells → emptyIn z (lay z x flags p cells) + marked (drop p flags) ≡ emptyIn z cells)
-        → emptyIn z (cond b (cond (eqb (getD flags p 0) 1) x z) y ∷ lay z x flags (cond b (p + 1) p) cells) + marked (drop p flags) ≡ cond b 1 0 + emptyIn z cells
-    go true q k i j =
-        let s = i (omega arith) in
-        let o = one-cell z x (eqb (getD flags p 0) 1) h in
-        let l : p < length flags = omega arith in
-        let t : marked (drop p flags) ≡ cond (eqb (getD flags p 0) 1) 1 0 + marked (drop (p + 1) flags) = rw (drop-cons flags p 0 l, add-one p) in
-        omega arith
-    go false q k i j = let s = j (omega arith) in rw q (omega arith)

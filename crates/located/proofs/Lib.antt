@@ -1,8 +1,8 @@
 pub mod Width
-pub mod Listing
-pub mod Methods
 pub mod Counted
 pub mod Laying
+pub mod Listing
+pub mod Methods
 pub mod OneValue
-pub mod InTurn
 pub mod Rows
+pub mod InTurn

@@ -1,25 +1,27 @@
--- What each method reads.
+-- What each method reads, and one value: its method and its flags.
 use Prim.Native.Nat.{ℕ, _+_, _≤_, _<_}
-use mathlib.Core.Path.{_≡_, sym, _∙_}
+use mathlib.Core.Path.{_≡_, refl, sym, _∙_}
 use mathlib.Core.List.{List, []}
 use native.Mathlib.Omega.{arith}
-use native.Mathlib.Nat.{sub-zero}
-use lib.ListN.{replicate}
+use lib.ListN.{length, replicate}
 use borrow.Author.Tests.{eq-eqb, ne-eqb, le-leb, lt-leb}
-use Rattle.rules.specs.declared.Refusal.the-variants.{Method}
-use Rattle.rules.specs.Reading.{Read, bitsFrom}
+use Rattle.rules.specs.declared.Refusal.{Refusal}
+use Rattle.rules.specs.declared.Refusal.the-variants.{Method, Place}
+use Rattle.rules.specs.Reading.{Read, whole, refuse, numberFrom, bitsFrom}
 use Rattle.rules.specs.Runs.{runsFrom}
 use Rattle.rules.specs.Located.{listed, byMethod}
+use Rattle.rules.specs.Chooses.{countOf}
+use Rattle.bits.specs.declared.Outcome.{Outcome}
 use Rattle.bits.specs.declared.Outcome.the-variants.{Got, Refused}
-use Rattle.runs.specs.declared.Flags.{Flags}
-use Rattle.runs.specs.Flagged.{ReadsFlags}
-use Rattle.runs.proofs.Answer.{flags-got, flags-refused}
-use Rattle.runs.proofs.Ones.{marked-none}
-use Rattle.runs.proofs.Padded.{padded-none, padded-length, padded-take}
+use Rattle.runs.specs.Flagged.{marked, Put, MarksCells}
+use Rattle.runs.proofs.Answer.{Marks-as, marks-got, marks-refused}
+use Rattle.runs.proofs.Marking.{marking-none, marking-all, marks-filled}
+use Rattle.located.specs.Valued.{flagsOf}
 
 -- the same answer, told of an equal definition, and with more room
-pub flags-as : {found other : Read (List ℕ)} {d near far : ℕ} {r : Flags} → ReadsFlags other d near r → found ≡ other → near ≤ far → ReadsFlags found d far r
-flags-as t e k = record { says = t .says ∙ sym e; count = t .count; next = let n = t .next in omega arith; room = t .room }
+pub marks-as : {found equal : Read (List ℕ)} {d near far common other : ℕ} {old new : List ℕ} {r : Outcome} → MarksCells equal d near common other old new r → found ≡ equal → near ≤ far
+    → MarksCells found d far common other old new r
+marks-as t e k = rw e (record { end = t .end; next = let n = t .next in omega arith; cells = t .cells; room = t .room })
 
 module _ (n d start m : ℕ) (bits : List ℕ) (at : ℕ) where
   pub method-straight : m ≡ 0 → byMethod n d start m bits at ≡ bitsFrom [] d bits at
@@ -30,17 +32,34 @@ module _ (n d start m : ℕ) (bits : List ℕ) (at : ℕ) where
   unfolding byMethod
   method-runs h l = rw (ne-eqb m 0 (λ e. omega arith), le-leb m 4 l)
 
-  pub method-none : m ≡ 5 → d ≤ 320 → ReadsFlags (byMethod n d start m bits at) d (at + 105600) (record { end = Got 0 at; flags = replicate 320 0 })
-  unfolding byMethod
-  method-none h k =
-      let t = rw (sub-zero d) at (padded-take padded-none d (omega arith) k) in
-      flags-got (padded-length padded-none) (rw (ne-eqb m 0 (λ e. omega arith), lt-leb m 4 (omega arith), eq-eqb m 5 h)) t (marked-none d) (omega arith)
+  pub method-none : m ≡ 5 → d ≤ 320 → {common : ℕ} (other : ℕ) {old new : List ℕ} → length old ≡ 320 → Put old 0 (replicate d common) new
+      → MarksCells (byMethod n d start m bits at) d (at + 105600) common other old new (Got 0 at)
+  unfolding byMethod countOf
+  method-none h k other b p =
+      marks-filled (marking-all (marking-none other p k b) d (omega arith) (rw (ne-eqb m 0 (λ e. omega arith), lt-leb m 4 (omega arith), eq-eqb m 5 h)) refl (omega arith)) p
 
-  pub method-unknown : m ≡ 6 → ReadsFlags (byMethod n d start m bits at) d (at + 105600) (record { end = Refused Method start; flags = replicate 320 0 })
+  pub method-unknown : m ≡ 6 → byMethod n d start m bits at ≡ refuse Method start
   unfolding byMethod
-  method-unknown h =
-      flags-refused (padded-length padded-none) (rw (ne-eqb m 0 (λ e. omega arith), lt-leb m 4 (omega arith), ne-eqb m 5 (λ e. omega arith), eq-eqb m 6 h))
+  method-unknown h = rw (ne-eqb m 0 (λ e. omega arith), lt-leb m 4 (omega arith), ne-eqb m 5 (λ e. omega arith), eq-eqb m 6 h)
 
   pub method-listed : 6 < m → byMethod n d start m bits at ≡ listed d bits at
   unfolding byMethod
   method-listed h = rw (ne-eqb m 0 (λ e. omega arith), lt-leb m 4 (omega arith), ne-eqb m 5 (λ e. omega arith), ne-eqb m 6 (λ e. omega arith))
+
+-- a value's method is read
+module _ (bits : List ℕ) (at n d : ℕ) {m first : ℕ} (e : numberFrom 0 3 bits at ≡ whole m first) where
+  pub method-refused : {w : Refusal} {b : ℕ} → byMethod n d at m bits first ≡ refuse w b → flagsOf n d bits at ≡ refuse w b
+  unfolding flagsOf
+  method-refused f = rw (e, f)
+
+  module _ {far common other count next : ℕ} {old new : List ℕ} (t : Marks-as (byMethod n d at m bits first) d far common other old new count next) where
+    -- "after each value at least one place must be left"
+    pub none-left : d ≤ count → flagsOf n d bits at ≡ refuse Place next
+    unfolding flagsOf
+    none-left h = let o = t .ones in rw (e, t .says, le-leb d (marked (t .flags)) (omega arith))
+
+    pub some-left : {most : ℕ} → count < d → d ≤ 320 → length old ≡ 320 → far ≤ most → MarksCells (flagsOf n d bits at) d most common other old new (Got count next)
+    unfolding flagsOf
+    some-left h k b f =
+        let o = t .ones in
+        marks-got (rw (e, t .says, lt-leb d (marked (t .flags)) (omega arith))) (t .ones) (t .size) (t .below) (t .made) k b (let x = t .next in omega arith)

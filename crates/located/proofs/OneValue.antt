@@ -1,116 +1,69 @@
--- One value: what `oneValue` gives, of the flags that were read.
-use Prim.Native.Nat.{ℕ, _+_, _-_, _≤_, _<_, zero-le}
+-- The values of a row are read one by one, each by its flags.
+use Prim.Native.Nat.{ℕ, zero, suc, _+_, _*_, _/_, _≤_, _<_}
 use mathlib.Core.Path.{_≡_, refl, sym, _∙_}
-use mathlib.Core.List.{List, _∷_, _++_}
+use mathlib.Core.List.{List, _∷_}
 use mathlib.Core.Bool.{Bool, true, false, cond}
 use native.Mathlib.Omega.{arith}
-use lib.Dec.{eqb}
-use lib.ListN.{length, take, drop}
-use lib.Seq.{take-at, drop-at, length-take-le, length-front}
-use borrow.Author.Tests.{eq-eqb, ne-eqb}
-use Rattle.rules.specs.declared.Refusal.{Refusal}
+use native.Mathlib.Decide.{decLt}
+use lib.Dec.{eqb, leb}
+use lib.ListN.{length}
+use borrow.Author.Tests.{ne-eqb, le-leb, lt-leb}
 use Rattle.rules.specs.declared.Refusal.the-variants.{Place}
+use Rattle.rules.specs.Bits.{bitsOf}
 use Rattle.rules.specs.Reading.{Read, whole, refuse, andThen, give, fail, numberFrom}
 use Rattle.rules.specs.Located.{byMethod, emptyIn, lay, valuesInto}
-use Rattle.bits.specs.declared.Outcome.{Outcome}
-use Rattle.bits.specs.declared.Outcome.the-variants.{Got, Refused}
-use Rattle.runs.proofs.Answer.{Flags-as}
-use Rattle.located.specs.Valued.{oneValue, LaysValue}
-use Rattle.located.proofs.Counted.{length-lay, lay-take, lay-count}
+use Rattle.rules.proofs.Octets.{length-bitsOf, bitsOf-below}
+use Rattle.rules.proofs.Laid.{lay-count}
+use Rattle.rules.proofs.Gives.{Sized, gives-byMethod}
+use Rattle.rules.proofs.Accepted.{number-next}
+use Rattle.bits.proofs.Cut.{number-cut}
+use Rattle.runs.specs.Flagged.{marked}
+use Rattle.located.specs.Valued.{flagsOf}
 
--- the values are read one by one
-pub values-step : (n z x : ℕ) (xs cells bits : List ℕ) (at : ℕ)
-    → valuesInto n z (x ∷ xs) cells bits at ≡ andThen (oneValue n z x cells bits at) (λ new j. valuesInto n z xs new bits j)
-unfolding valuesInto oneValue
-values-step n z x xs cells bits at = go (numberFrom 0 3 bits at)
+-- bits that were read are there
+inside : (s : List ℕ) (at : ℕ) {m first : ℕ} → numberFrom 0 3 (bitsOf s) at ≡ whole m first → first ≤ length (bitsOf s)
+inside s at {m} {first} e = go (decLt (length s) ((at + 3 + 7) / 8))
   where
-    go3 : (flags : List ℕ) (k : ℕ) (b : Bool)
-        → cond b (fail Place k) (valuesInto n z xs (lay z x flags 0 cells)) bits k
-        ≡ andThen (cond b (fail Place k) (give (lay z x flags 0 cells)) bits k) (λ new j. valuesInto n z xs new bits j)
-    go3 flags k true = refl
-    go3 flags k false = refl
+    go : Dec (length s < (at + 3 + 7) / 8) → first ≤ length (bitsOf s)
+    go (yes h) =
+        let x = sym (number-cut s 0 3 at (omega arith) h) ∙ e in
+        let z : _≡_ {A = ℕ} 0 1 = cc in
+        absurd (omega arith)
+    go (no h) = let n = number-next 0 3 (bitsOf s) at e in rw length-bitsOf (omega arith)
 
-    go2 : (r : Read (List ℕ))
-        → andThen r (λ flags k. cond (eqb (emptyIn z (lay z x flags 0 cells)) 0) (fail Place k) (valuesInto n z xs (lay z x flags 0 cells)) bits k)
-        ≡ andThen (andThen r (λ flags k. cond (eqb (emptyIn z (lay z x flags 0 cells)) 0) (fail Place k) (give (lay z x flags 0 cells)) bits k)) (λ new j. valuesInto n z xs new bits j)
-    go2 (whole flags k) = go3 flags k (eqb (emptyIn z (lay z x flags 0 cells)) 0)
-    go2 (refuse w b) = refl
+same-test : (a b d : ℕ) → a + b ≡ d → eqb a 0 ≡ leb d b
+same-test zero b d h = sym (le-leb d b (omega arith))
+same-test (suc a) b d h = ne-eqb (suc a) 0 (λ e. omega arith) ∙ sym (lt-leb d b (omega arith))
 
-    go : (r : Read ℕ)
-        → andThen r (λ m i. andThen (byMethod n (emptyIn z cells) at m bits i) (λ flags k. cond (eqb (emptyIn z (lay z x flags 0 cells)) 0) (fail Place k) (valuesInto n z xs (lay z x flags 0 cells)) bits k))
-        ≡ andThen (andThen r (λ m i. andThen (byMethod n (emptyIn z cells) at m bits i) (λ flags k. cond (eqb (emptyIn z (lay z x flags 0 cells)) 0) (fail Place k) (give (lay z x flags 0 cells)) bits k))) (λ new j. valuesInto n z xs new bits j)
-    go (whole m i) = go2 (byMethod n (emptyIn z cells) at m bits i)
-    go (refuse w b) = refl
+module _ (s : List ℕ) (n z x : ℕ) (xs cells : List ℕ) (at : ℕ) (apart : eqb x z ≡ false) where
+  -- what is left empty is D less the flags that are 1
+  left-after : {m first : ℕ} {flags : List ℕ} {k : ℕ} → numberFrom 0 3 (bitsOf s) at ≡ whole m first → byMethod n (emptyIn z cells) at m (bitsOf s) first ≡ whole flags k
+      → eqb (emptyIn z (lay z x flags 0 cells)) 0 ≡ leb (emptyIn z cells) (marked flags)
+  left-after {m} {first} {flags} {k} p q =
+      let g = gives-byMethod n (emptyIn z cells) at m .on (bitsOf-below s) (inside s at p) q in
+      same-test (emptyIn z (lay z x flags 0 cells)) (marked flags) (emptyIn z cells) (lay-count z x flags cells apart (g .2 .size))
 
--- a refusal changes no cell
-pub value-refused : {found : Read (List ℕ)} {n z far : ℕ} {old : List ℕ} {w : Refusal} {b : ℕ} → found ≡ refuse w b → length old ≡ 320
-    → LaysValue found n z far old old (Refused w b)
-value-refused e l = record { says = sym e; left = tt; next = zero-le; rest = refl; room = l }
+  pub values-step : valuesInto n z (x ∷ xs) cells (bitsOf s) at
+      ≡ andThen (flagsOf n (emptyIn z cells) (bitsOf s) at) (λ flags j. valuesInto n z xs (lay z x flags 0 cells) (bitsOf s) j)
+  unfolding valuesInto flagsOf
+  values-step = go (numberFrom 0 3 (bitsOf s) at) refl
+    where
+      go3 : (flags : List ℕ) (k : ℕ) (b c : Bool) → b ≡ c
+          → cond b (fail Place k) (valuesInto n z xs (lay z x flags 0 cells)) (bitsOf s) k
+          ≡ andThen (cond c (fail Place k) (give flags) (bitsOf s) k) (λ flags j. valuesInto n z xs (lay z x flags 0 cells) (bitsOf s) j)
+      go3 flags k true true e = refl
+      go3 flags k false false e = refl
+      go3 flags k true false e = let o : _≡_ {A = ℕ} 0 1 = cc in absurd (omega arith)
+      go3 flags k false true e = let o : _≡_ {A = ℕ} 0 1 = cc in absurd (omega arith)
 
--- a value's method is read; `left` cells are empty
-pub record Chosen (bits old : List ℕ) (at n left z x m first : ℕ) : Type 0 where
-  pub empty : left ≡ emptyIn z (take n old)
-  pub method : numberFrom 0 3 bits at ≡ whole m first
-  pub apart : eqb x z ≡ false
-  pub few : left ≤ n
-  pub fits : n ≤ 320
-  pub room : length old ≡ 320
+      go2 : (m i : ℕ) → numberFrom 0 3 (bitsOf s) at ≡ whole m i → (r : Read (List ℕ)) → byMethod n (emptyIn z cells) at m (bitsOf s) i ≡ r
+          → andThen r (λ flags k. cond (eqb (emptyIn z (lay z x flags 0 cells)) 0) (fail Place k) (valuesInto n z xs (lay z x flags 0 cells)) (bitsOf s) k)
+          ≡ andThen (andThen r (λ flags k. cond (leb (emptyIn z cells) (marked flags)) (fail Place k) (give flags) (bitsOf s) k)) (λ flags j. valuesInto n z xs (lay z x flags 0 cells) (bitsOf s) j)
+      go2 m i p (whole flags k) q = go3 flags k (eqb (emptyIn z (lay z x flags 0 cells)) 0) (leb (emptyIn z cells) (marked flags)) (left-after p q)
+      go2 m i p (refuse w b) q = refl
 
-module _ {bits old : List ℕ} {at n left z x m first : ℕ} (v : Chosen bits old at n left z x m first) where
-  pub method-refused : {w : Refusal} {b : ℕ} → byMethod n left at m bits first ≡ refuse w b → oneValue n z x (take n old) bits at ≡ refuse w b
-  unfolding oneValue
-  method-refused f = rw (v .method, ← (v .empty), f)
-
-  module _ {flags : List ℕ} {far count next : ℕ} (f : Flags-as (byMethod n left at m bits first) left far flags count next) where
-    counted : emptyIn z (lay z x (take left flags) 0 (take n old)) + count ≡ left
-    counted =
-        let r = f .room in
-        let o = f .ones in
-        let k = v .few in
-        let i = v .fits in
-        let e = v .empty in
-        let s = length-take-le left flags (omega arith) in
-        let c = lay-count z x (take left flags) 0 (take n old) (v .apart) (omega arith) in
-        omega arith
-
-    -- "after each value at least one place must be left"
-    pub none-left : left ≤ count → oneValue n z x (take n old) bits at ≡ refuse Place next
-    unfolding oneValue
-    none-left h =
-        let c = counted in
-        rw (v .method, ← (v .empty), f .says, eq-eqb (emptyIn z (lay z x (take left flags) 0 (take n old))) 0 (omega arith))
-
-    pub some-left : {most : ℕ} → count < left → far ≤ most → {new : List ℕ} → new ≡ lay z x flags 0 (take n old) ++ drop n old
-        → LaysValue (oneValue n z x (take n old) bits at) n z most old new (Got (left - count) next)
-    unfolding oneValue
-    some-left h b {new} g =
-        let c = counted in
-        let e = v .empty in
-        let i = v .fits in
-        let k = v .room in
-        let t : lay z x (take left flags) 0 (take n old) ≡ lay z x flags 0 (take n old) = lay-take z x flags left 0 (take n old) (omega arith) in
-        let y : length (lay z x flags 0 (take n old)) ≡ n = length-lay z x flags 0 (take n old) ∙ length-take-le n old (omega arith) in
-        let s : take n new ≡ lay z x flags 0 (take n old) = rw g (take-at (lay z x flags 0 (take n old)) (drop n old) n y) in
-        let q = length-front old (lay z x flags 0 (take n old)) n (length-lay z x flags 0 (take n old)) in
-        record {
-          says = rw (v .method, ← e, f .says, ne-eqb (emptyIn z (lay z x (take left flags) 0 (take n old))) 0 (λ o. omega arith), s, t);
-          left = rw (s, ← t) (omega arith);
-          next = let o = f .next in omega arith;
-          rest = rw g (drop-at (lay z x flags 0 (take n old)) (drop n old) n y);
-          room = rw g (q ∙ k);
-        }
-
-pub record Value-as (found : Read (List ℕ)) (n z far : ℕ) (old new : List ℕ) (left j : ℕ) : Type 0 where
-  pub says : found ≡ whole (take n new) j
-  pub empty : left ≡ emptyIn z (take n new)
-  pub next : j ≤ far
-  pub rest : drop n new ≡ drop n old
-  pub room : length new ≡ 320
-
--- what the answer tells a caller
-module _ {found : Read (List ℕ)} {n z far : ℕ} {old new : List ℕ} {r : Outcome} (t : LaysValue found n z far old new r) where
-  pub value-told : {left j : ℕ} → r ≡ Got left j → Value-as found n z far old new left j
-  value-told e = let s = rw e at t in record { says = sym (s .says); empty = s .left; next = s .next; rest = t .rest; room = t .room }
-
-  pub value-told-refused : {w : Refusal} {b : ℕ} → r ≡ Refused w b → found ≡ refuse w b
-  value-told-refused e = let s = rw e at t in sym (s .says)
+      go : (r : Read ℕ) → numberFrom 0 3 (bitsOf s) at ≡ r
+          → andThen r (λ m i. andThen (byMethod n (emptyIn z cells) at m (bitsOf s) i) (λ flags k. cond (eqb (emptyIn z (lay z x flags 0 cells)) 0) (fail Place k) (valuesInto n z xs (lay z x flags 0 cells)) (bitsOf s) k))
+          ≡ andThen (andThen r (λ m i. andThen (byMethod n (emptyIn z cells) at m (bitsOf s) i) (λ flags k. cond (leb (emptyIn z cells) (marked flags)) (fail Place k) (give flags) (bitsOf s) k))) (λ flags j. valuesInto n z xs (lay z x flags 0 cells) (bitsOf s) j)
+      go (whole m i) p = go2 m i p (byMethod n (emptyIn z cells) at m (bitsOf s) i) refl
+      go (refuse w b) p = refl

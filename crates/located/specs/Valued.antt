@@ -1,42 +1,47 @@
--- What is answered on the way: one value laid into the cells, and a row of values as octets.
-use Prim.Native.Nat.{ℕ, _≤_}
+-- What is answered on the way: the flags of one value, values laid over one another, and a row of values as octets.
+use Prim.Native.Nat.{ℕ, _+_, _≤_}
 use mathlib.Core.Path.{_≡_}
-use mathlib.Core.List.{List, [], _∷_}
+use mathlib.Core.List.{List, [], _∷_, _++_}
 use mathlib.Core.Bool.{cond, false}
-use lib.ListN.{length, take, drop}
-use lib.Dec.{eqb}
+use lib.ListN.{length, getD, take, drop}
+use lib.Dec.{eqb, leb}
 use Rattle.rules.specs.declared.Refusal.the-variants.{Place}
 use Rattle.rules.specs.Reading.{Read, whole, refuse, Reader, _>>=_, give, fail, here, number}
-use Rattle.rules.specs.Located.{byMethod, emptyIn, lay}
+use Rattle.rules.specs.Located.{byMethod}
 use Rattle.bits.specs.declared.Outcome.{Outcome}
 use Rattle.bits.specs.declared.Outcome.the-variants.{Got, Refused}
 use Rattle.bits.specs.Outcomes.{nextOf}
+use Rattle.runs.specs.Flagged.{marked}
 use Rattle.located.specs.declared.Row.{Row}
 
--- one value of `valuesInto`
-unfoldable pub oneValue : ℕ → ℕ → ℕ → List ℕ → Reader (List ℕ)
-oneValue n z x cells = do
+-- the D flags of a value: "after each value at least one place must be left"
+unfoldable pub flagsOf : ℕ → ℕ → Reader (List ℕ)
+flagsOf n d = do
   start ← here
   m ← number 3
-  flags ← byMethod n (emptyIn z cells) start m
+  flags ← byMethod n d start m
   end ← here
-  cond (eqb (emptyIn z (lay z x flags 0 cells)) 0) (fail Place end) (give (lay z x flags 0 cells))
+  cond (leb d (marked flags)) (fail Place end) (give flags)
 
-abbrev pub asCells : ℕ → Outcome → List ℕ → Read (List ℕ)
-asCells n (Got left next) cells = whole (take n cells) next
-asCells n (Refused w at) cells = refuse w at
+-- marks from place p on, put into the empty cells in turn
+unfoldable pub fillIn : ℕ → List ℕ → ℕ → List ℕ → List ℕ
+fillIn z marks p [] = []
+fillIn z marks p (y ∷ cells) = cond (eqb y z) (getD marks p 0) y ∷ fillIn z marks (cond (eqb y z) (p + 1) p) cells
 
--- the places left, of an answer that was not refused
-abbrev pub isLeft : ℕ → ℕ → Outcome → List ℕ → Type 0
-isLeft n z (Got left next) cells = left ≡ emptyIn z (take n cells)
-isLeft n z (Refused w at) cells = Unit {0}
+-- the answer is the n cells and the next place, or the refusal and its bit
+abbrev pub cellsEnd : ℕ → Read (List ℕ) → Outcome
+cellsEnd n (whole cells next) = Got n next
+cellsEnd n (refuse w at) = Refused w at
 
--- the answer is the definition's, with the places left; nothing past the n cells is changed
-pub record LaysValue (found : Read (List ℕ)) (n z far : ℕ) (old new : List ℕ) (r : Outcome) : Type 0 where
-  pub says : asCells n r new ≡ found
-  pub left : isLeft n z r new
+-- the first n cells are the definition's, the others as lent; a refusal may leave any cells
+abbrev pub Lays : ℕ → Read (List ℕ) → List ℕ → List ℕ → Type 0
+Lays n (whole cells next) old new = (length cells ≡ n) × (new ≡ cells ++ drop n old)
+Lays n (refuse w at) old new = Unit {0}
+
+pub record LaysCells (found : Read (List ℕ)) (n far : ℕ) (old new : List ℕ) (r : Outcome) : Type 0 where
+  pub end : r ≡ cellsEnd n found
   pub next : nextOf r ≤ far
-  pub rest : drop n new ≡ drop n old
+  pub cells : Lays n found old new
   pub room : length new ≡ 320
 
 -- no value is plus zero

@@ -8,11 +8,11 @@ use lib.ListN.{length, drop, length-drop}
 use borrow.Author.Tests.{le-leb, lt-leb}
 use Rattle.rules.specs.declared.Ending.the-variants.{Done, Refused}
 use Rattle.rules.specs.declared.Refusal.{Refusal}
-use Rattle.rules.specs.declared.ReadAnswer.{ReadAnswer}
 use Rattle.rules.specs.Refusals.{refusalNumber}
 use Rattle.rules.specs.Reading.{Read, whole, refuse}
 use Rattle.rules.specs.Frame.{Found, octetsUsed, readOne}
-use Rattle.rules.specs.Calls.{Reads}
+use Rattle.reader.specs.declared.Report.{Report}
+use Rattle.reader.specs.Answers.{ReadsInto}
 use Rattle.rules.specs.Listing.{frameLine, stopLine, samplesLine}
 use Rattle.rules.proofs.Accepted.{read-accepts, read-uses}
 use Rattle.walk.specs.Stepping.{Steps}
@@ -46,48 +46,48 @@ module _ (stream : List ℕ) (law : ℕ) where
       rw (e, k, lt-leb (length stream) (s .at) h)
 
 -- a step of the walk into a room of 320, from its start on, reads the frame at its place
-pub step-read : (stream : List ℕ) (at law : ℕ) {room room′ : List ℕ} {r : ReadAnswer} → length room ≡ 320
-    → Steps stream law allTools at 0 room room′ r → Reads (readOne (drop at stream) law allTools 320) r room room′
+pub step-read : (stream : List ℕ) (at law : ℕ) {room room′ : List ℕ} {r : Report} → length room ≡ 320
+    → Steps stream law allTools at 0 room room′ r → ReadsInto (readOne (drop at stream) law allTools 320) r room room′
 step-read stream at law {room} {room′} {r} e t =
     let l : length room - 0 ≡ 320 = omega arith in
-    subst (λ (out : List ℕ). Reads (readOne (drop at stream) law allTools 320) r room out) (sym (t .lent)) (rw l at (t .reads))
+    subst (λ (out : List ℕ). ReadsInto (readOne (drop at stream) law allTools 320) r room out) (sym (t .lent)) (rw l at (t .reads))
 
 -- what an answer tells
-module _ {found : Read Found} {r : ReadAnswer} {out out′ : List ℕ} where
-  pub read-done : (k at kept : ℕ) (next : ℕ → ℕ → List ℕ) → Reads found r out out′ → r .end ≡ Done
+module _ {found : Read Found} {r : Report} {out out′ : List ℕ} where
+  pub read-done : (k at kept : ℕ) (next : ℕ → ℕ → List ℕ) → ReadsInto found r out out′ → r .end ≡ Done
       → afterRead found k at kept (λ f. next (octetsUsed f) (length (f .samples)))
-      ≡ frameLine k at (r .frame .len) (r .tool) (r .octets) (r .bits) ++ next (r .octets) (r .frame .len)
+      ≡ frameLine k at (r .len) (r .tool) (r .octets) (r .bits) ++ next (r .octets) (r .len)
   read-done k at kept next t e = go found t e
     where
-      go : (found : Read Found) → Reads found r out out′ → r .end ≡ Done
+      go : (found : Read Found) → ReadsInto found r out out′ → r .end ≡ Done
           → afterRead found k at kept (λ f. next (octetsUsed f) (length (f .samples)))
-          ≡ frameLine k at (r .frame .len) (r .tool) (r .octets) (r .bits) ++ next (r .octets) (r .frame .len)
-      go (whole f i) t e = rw (t .frame .len, t .tool, t .octets, t .bits)
+          ≡ frameLine k at (r .len) (r .tool) (r .octets) (r .bits) ++ next (r .octets) (r .len)
+      go (whole f i) t e = rw (t .tells .len, t .tells .tool, t .tells .octets, t .tells .bits)
       go (refuse w bit) t e = let z : _≡_ {A = ℕ} 0 1 = cc in absurd (omega arith)
 
-  pub read-refused : (k at kept : ℕ) (next : Found → List ℕ) {w : Refusal} → Reads found r out out′ → r .end ≡ Refused w
+  pub read-refused : (k at kept : ℕ) (next : Found → List ℕ) {w : Refusal} → ReadsInto found r out out′ → r .end ≡ Refused w
       → afterRead found k at kept next ≡ stopLine (refusalNumber w) at (r .tool) ++ samplesLine kept
   read-refused k at kept next {w} t e = go found t e
     where
-      go : (found : Read Found) → Reads found r out out′ → r .end ≡ Refused w
+      go : (found : Read Found) → ReadsInto found r out out′ → r .end ≡ Refused w
           → afterRead found k at kept next ≡ stopLine (refusalNumber w) at (r .tool) ++ samplesLine kept
       go (whole f i) t e = let z : _≡_ {A = ℕ} 0 1 = cc in absurd (omega arith)
-      go (refuse v bit) t e = let p : v ≡ w = cc in rw (t .tool, p)
+      go (refuse v bit) t e = let p : v ≡ w = cc in rw (t .tells .tool, p)
 
 -- an accepted frame has one octet or more, no more than there are, and fits the room
-pub record Bounds (octets : List ℕ) (room : ℕ) (r : ReadAnswer) : Type 0 where
+pub record Bounds (octets : List ℕ) (room : ℕ) (r : Report) : Type 0 where
   pub some : 1 ≤ r .octets
   pub inside : r .octets ≤ length octets
-  pub fits : r .frame .len ≤ room
+  pub fits : r .len ≤ room
 
-pub read-bounds : (octets : List ℕ) (law set room : ℕ) {r : ReadAnswer} {out out′ : List ℕ} → Reads (readOne octets law set room) r out out′ → r .end ≡ Done → Bounds octets room r
+pub read-bounds : (octets : List ℕ) (law set room : ℕ) {r : Report} {out out′ : List ℕ} → ReadsInto (readOne octets law set room) r out out′ → r .end ≡ Done → Bounds octets room r
 read-bounds octets law set room {r} {out} {out′} t e = go (readOne octets law set room) refl t e
   where
-    go : (found : Read Found) → readOne octets law set room ≡ found → Reads found r out out′ → r .end ≡ Done → Bounds octets room r
+    go : (found : Read Found) → readOne octets law set room ≡ found → ReadsInto found r out out′ → r .end ≡ Done → Bounds octets room r
     go (whole f i) q t e =
         let u = read-uses octets law set room q in
         let a = read-accepts octets law set room q in
-        record { some = rw (t .octets) (u .0); inside = rw (t .octets) (u .1); fits = rw (t .frame .len) (a .fits) }
+        record { some = rw (t .tells .octets) (u .0); inside = rw (t .tells .octets) (u .1); fits = rw (t .tells .len) (a .fits) }
     go (refuse w bit) q t e = let z : _≡_ {A = ℕ} 0 1 = cc in absurd (omega arith)
 
 -- what a step does: it lists a part, and comes nearer to the end
@@ -117,18 +117,18 @@ step-last stream law {number} {tool} {s} t a n h e = (
 )
 
 -- a frame's line
-abbrev lineOf : Stand → ReadAnswer → List ℕ
-lineOf s r = frameLine (s .frames) (s .at) (r .frame .len) (r .tool) (r .octets) (r .bits)
+abbrev lineOf : Stand → Report → List ℕ
+lineOf s r = frameLine (s .frames) (s .at) (r .len) (r .tool) (r .octets) (r .bits)
 
-pub record Moves (s : Stand) (r : ReadAnswer) (s′ : Stand) : Type 0 where
+pub record Moves (s : Stand) (r : Report) (s′ : Stand) : Type 0 where
   pub frames : s′ .frames ≡ s .frames + 1
   pub at : s′ .at ≡ s .at + r .octets
-  pub samples : s′ .samples ≡ s .samples + r .frame .len
+  pub samples : s′ .samples ≡ s .samples + r .len
   pub goes : s′ .ended ≡ false
 
-pub step-frame : (stream : List ℕ) (law : ℕ) {s s′ : Stand} {r : ReadAnswer} {l l′ out out′ : List ℕ} {to to′ : ℕ}
+pub step-frame : (stream : List ℕ) (law : ℕ) {s s′ : Stand} {r : Report} {l l′ out out′ : List ℕ} {to to′ : ℕ}
     → Stands stream s → s .ended ≡ false → s .at < length stream
-    → Reads (readOne (drop (s .at) stream) law allTools 320) r l l′ → r .end ≡ Done → Moves s r s′
+    → ReadsInto (readOne (drop (s .at) stream) law allTools 320) r l l′ → r .end ≡ Done → Moves s r s′
     → Puts out to (lineOf s r) out′ to′ → to′ ≤ length out → Nearer stream law s out to s′ out′ to′
 unfolding linesLeft stepsLeft
 step-frame stream law {s} {s′} {r} a e h t d v w m =

@@ -4,14 +4,12 @@ ghost use mathlib.Core.Path.{_≡_};
 ghost use Prim.Native.Nat.{_+_, _≤_, _<_};
 ghost use mathlib.Core.Bool.{false};
 ghost use lib.ListN.{length, drop};
-ghost use Rattle.rules.specs.Refusals.{refusalNumber};
 ghost use Rattle.rules.specs.Listing.{listStream};
 ghost use Rattle.rules.specs.Frame.{readOne};
-ghost use Rattle.rules.specs.Calls.{Reads};
+ghost use Rattle.reader.specs.Answers.{ReadsInto};
 ghost use Rattle.pages.specs.Pages.{Stands, Lists, Ends, Opens, Stops, OpensInput, stepsLeft};
+use reader::Report;
 use rules::Ending;
-use rules::ReadAnswer;
-use rules::Refusal;
 
 // Where the listing stands: the frames that are listed, the place of the next one, and the samples that they hold.
 pub struct Stand {
@@ -34,27 +32,6 @@ pub struct Opened {
     pub to: usize,
 }
 
-// "Numbered refusals"
-fn number_of(why: Refusal) -> usize
-    ensures { λ r. ⌜ r ≡ refusalNumber why ⌝ }
-{
-    match why {
-        Refusal::Short => 1,
-        Refusal::Prefix => 2,
-        Refusal::Tool(_) => 3,
-        Refusal::Room => 4,
-        Refusal::Case => 5,
-        Refusal::Method => 6,
-        Refusal::Run => 7,
-        Refusal::Place => 8,
-        Refusal::Align => 9,
-        Refusal::Length => 10,
-        Refusal::Set => 11,
-        Refusal::Law => 12,
-        Refusal::Long => 13,
-    }
-}
-
 // The last two lines.
 fn last(number: usize, tool: usize, s: Stand, out: &mut [u8], to: usize) -> Page
     requires { ⌜ to + 320 ≤ length (now out) ⌝ }
@@ -74,9 +51,9 @@ fn last(number: usize, tool: usize, s: Stand, out: &mut [u8], to: usize) -> Page
 }
 
 // The frame at a place; 320 samples of room are enough for any.
-fn read_at(stream: &[u8], at: usize, law: u32, room: &mut [u8; 320]) -> ReadAnswer
+fn read_at(stream: &[u8], at: usize, law: u32, room: &mut [u8; 320]) -> Report
     requires { ⌜ at ≤ length (now stream) ⌝ }
-    ensures { λ r. ⌜ Reads (readOne (drop at (now (stream .entry))) law 127 320) r (now (room .entry)) (now (room .exit)) ⌝ }
+    ensures { λ r. ⌜ ReadsInto (readOne (drop at (now (stream .entry))) law 127 320) r (now (room .entry)) (now (room .exit)) ⌝ }
 {
     walk::step(stream, law, 127, at, room, 0)
 }
@@ -94,13 +71,19 @@ fn step(stream: &[u8], law: u32, s: Stand, room: &mut [u8; 320], out: &mut [u8],
     let r = read_at(stream, at, law, room);
     let end = r.end;
     match end {
-        Ending::Refused(why) => last(number_of(why), r.tool as usize, s, out, to),
+        Ending::Refused(why) => last(
+            rules::refusal_number(why) as usize,
+            r.tool as usize,
+            s,
+            out,
+            to,
+        ),
         Ending::Done => {
             let next = at + r.octets;
             let end = lines::frame_line(
                 s.frames,
                 at,
-                r.frame.len,
+                r.len,
                 r.tool as usize,
                 r.octets,
                 r.bits,
@@ -111,7 +94,7 @@ fn step(stream: &[u8], law: u32, s: Stand, room: &mut [u8; 320], out: &mut [u8],
                 stand: Stand {
                     frames: s.frames + 1,
                     at: next,
-                    samples: s.samples + r.frame.len,
+                    samples: s.samples + r.len,
                     ended: false,
                 },
                 to: end,

@@ -23,13 +23,13 @@ use Rattle.rules.specs.Frame.{Found, octetsUsed, body, withTool, afterFirst, fr
 use Rattle.rules.specs.Located.{widthFrom, widthOf, listedFrom, listed, byMethod, emptyIn, lay, valuesInto, valuesOf, located}
 use Rattle.rules.specs.Chooses.{countOf}
 use Rattle.rules.proofs.Octets.{Below, none, more, bitsOf-below, length-lowBits}
+use Rattle.rules.proofs.Laid.{lay-count}
 use Rattle.rules.proofs.Signed.{LawMask, sampleOf-one-to-one, law-mask}
 use Rattle.rules.proofs.Gives.{Gives, gives-bit, gives-number, gives-zerosFrom, gives-rice, gives-runsFrom, gives-byMethod, gives-readTree, Leaves}
 use Rattle.rules.proofs.Accepted.{Steps, through, steps, not-refused, filled-is, number-next}
 use Rattle.rules.proofs.Tests.{and-left, and-right, allBelow-at, by-length}
 use Rattle.promises.proofs.Each.{or-right, Each, nothing, next}
 use Rattle.promises.proofs.Further.{SixOrEight, six, eight, six-or-eight, eight-out, mark-first}
-use Rattle.promises.proofs.Located.{lay-on}
 use Rattle.promises.proofs.Rows.{few-values}
 use Rattle.promises.proofs.Methods.{ones}
 use Rattle.promises.proofs.Zeros.{isZero}
@@ -210,24 +210,6 @@ costs-method n d start m h =
     (λ less q. let w = width-most 0 d d 9 (omega arith) in
     costs-near 36 (near-more (widthOf d * (less + 1)) 36 (mul-le-mul {n₂ = 9} {m₂ = 4} w (omega arith)) (near-listedFrom (widthOf d) d [] (less + 1))))
     (λ less flags q. omega arith)))))
-
--- each flag that is 1 fills a cell
-cell-count : (z x m o : ℕ) (b : Bool) {n : ℕ} → eqb x z ≡ false → m + o ≡ n → cond (eqb (cond b x z) z) 1 0 + m + (cond b 1 0 + o) ≡ 1 + n
-cell-count z x m o true h i = rw h (omega arith)
-cell-count z x m o false h i = rw (eq-eqb z z refl) (omega arith)
-
-lay-count : (z x : ℕ) (flags cells : List ℕ) → eqb x z ≡ false → length flags ≡ emptyIn z cells → emptyIn z (lay z x flags 0 cells) + ones flags ≡ emptyIn z cells
-unfolding lay emptyIn countOf
-lay-count z x [] [] h e = refl
-lay-count z x (f ∷ flags) [] h e = absurd (omega arith)
-lay-count z x flags (y ∷ cells) h e = cell flags (eqb y z) refl e (λ fs. lay-count z x fs cells h)
-  where
-    cell : (fs : List ℕ) (b : Bool) → eqb y z ≡ b → length fs ≡ cond b 1 0 + emptyIn z cells
-        → ((fs : List ℕ) → length fs ≡ emptyIn z cells → emptyIn z (lay z x fs 0 cells) + ones fs ≡ emptyIn z cells)
-        → emptyIn z (cond b (cond (eqb (getD fs 0 0) 1) x z) y ∷ lay z x fs (cond b 1 0) cells) + ones fs ≡ cond b 1 0 + emptyIn z cells
-    cell [] true q g i = absurd (omega arith)
-    cell (f ∷ fs) true q g i = rw (lay-on z x f fs 0 cells) (cell-count z x (emptyIn z (lay z x fs 0 cells)) (ones fs) (eqb f 1) h (i fs (omega arith)))
-    cell fs false q g i = rw q (omega (arith, i fs (omega arith)))
 
 -- the values of a frame of 320 or less: what is marked for one is no longer empty for the next
 costs-values : (n z : ℕ) {xs : List ℕ} (cells : List ℕ) → Each (λ x. not (eqb x z)) xs → emptyIn z cells ≤ 320

@@ -5,16 +5,17 @@ use mathlib.Core.List.{List, _++_}
 use mathlib.Core.Bool.{true, _||_}
 use native.Mathlib.Omega.{arith}
 use lib.Dec.{eqb, lit≤}
-use lib.ListN.{length, take, drop, replicate, length-append}
-use lib.Seq.{take-append-seam}
+use lib.ListN.{length, take, drop, replicate, length-append, length-replicate, replicate-append-replicate}
+use lib.Seq.{take-append-seam, drop-at}
 use borrow.Author.Tests.{eqb-true}
-use Rattle.rules.specs.declared.Frame.{Frame}
 use Rattle.rules.specs.Tools.{isLength}
 use Rattle.rules.specs.Reading.{Read, whole, refuse}
 use Rattle.rules.specs.Frame.{Found, readOne}
-use Rattle.rules.specs.Calls.{readSamples, atStart, IsFrame}
+use Rattle.rules.specs.Calls.{readSamples, IsFrame}
 use Rattle.rules.proofs.Tests.{or-cases, by-length}
 use Rattle.rules.proofs.Accepted.{read-accepts}
+use Rattle.reader.specs.declared.Report.{Report}
+use Rattle.reader.specs.Answers.{ReadsInto}
 
 at-most-320 : (n : ℕ) → (eqb n 0 || isLength n) ≡ true → n ≤ 320
 at-most-320 n h =
@@ -32,9 +33,20 @@ samples-fit octets law set room = go (readOne octets law set room) refl
         (at-most-320 (length (f .samples)) (a .size), a .fits)
     go (refuse w at) e = (zero-le, zero-le)
 
-module _ {s : List ℕ} {f : Frame} (h : IsFrame s f) where
-  pub frame-has : f .len ≤ length (f .samples)
-  frame-has = omega (arith, h .len, ap length (h .samples) ∙ length-append s (replicate (320 - length s) 0))
+-- the frame of what was put out
+module _ {found : Read Found} {r : Report} {out out′ : List ℕ} (t : ReadsInto found r out out′) where
+  pub out-has : length (readSamples found) ≤ length out′
+  out-has = let e = ap length (t .lent) ∙ length-append (readSamples found) (drop (length (readSamples found)) out) in omega arith
 
-  pub lent-as : (out : List ℕ) → take (f .len) (f .samples) ++ drop (f .len) out ≡ atStart s out
-  lent-as out = rw (h .len, h .samples, take-append-seam)
+  pub frame-of : {samples : List ℕ} → length (readSamples found) ≤ 320 → samples ≡ take (r .len) out′ ++ drop (r .len) (replicate 320 0)
+      → IsFrame (readSamples found) (record { samples = samples; len = r .len })
+  frame-of {samples} h e =
+      let s = readSamples found in
+      let k : length s + (320 - length s) ≡ 320 = omega arith in
+      let z : replicate {A = ℕ} 320 0 ≡ replicate (length s) 0 ++ replicate (320 - length s) 0 =
+      sym (replicate-append-replicate (length s) (320 - length s) 0 ∙ ap (λ (n : ℕ). replicate n 0) k)
+      in
+      let d : drop (length s) (replicate {A = ℕ} 320 0) ≡ replicate (320 - length s) 0 =
+      ap (drop (length s)) z ∙ drop-at (replicate (length s) 0) (replicate (320 - length s) 0) (length s) (length-replicate (length s) 0)
+      in
+      record { len = t .tells .len; samples = e ∙ rw (t .tells .len, t .lent, take-append-seam, d) }

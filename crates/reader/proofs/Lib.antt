@@ -1,7 +1,6 @@
 pub mod Six
 pub mod Opened
 pub mod Filled
-pub mod Copied
 pub mod Told
 pub mod Decided
 pub mod Ordered

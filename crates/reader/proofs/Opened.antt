@@ -1,6 +1,6 @@
 -- The first octet of a frame: it is read whole, and what it begins has one of the five lengths.
-use Prim.Native.Nat.{ℕ, _+_, _*_, _≤_, _<_}
-use mathlib.Core.Path.{_≡_, refl, sym, ap, subst, _∙_}
+use Prim.Native.Nat.{ℕ, _≤_, _<_}
+use mathlib.Core.Path.{_≡_, refl, ap, _∙_}
 use mathlib.Core.List.{List, [], _∷_}
 use mathlib.Core.Bool.{true}
 use native.Mathlib.Omega.{arith}
@@ -8,9 +8,9 @@ use lib.ListN.{length, getD}
 use Rattle.rules.specs.declared.Refusal.the-variants.{Short}
 use Rattle.rules.specs.Tools.{isLength}
 use Rattle.rules.specs.Bits.{lowBits, bitsOf}
-use Rattle.rules.specs.Reading.{Read, whole, refuse, bit, numberFrom}
-use Rattle.rules.specs.First.{First, unassigned, pad, tool, sixOrEight, firstOctet}
-use Rattle.rules.specs.Frame.{Found, afterFirst, frame}
+use Rattle.rules.specs.Reading.{whole, refuse, bit, numberFrom}
+use Rattle.rules.specs.First.{First, unassigned, pad, tool, sixOrEight, rows, lookUp, firstOctet}
+use Rattle.rules.specs.Frame.{afterFirst, frame}
 use Rattle.rules.proofs.Octets.{value-lowBits}
 use Rattle.rules.proofs.Tests.{and-left}
 use Rattle.rules.proofs.Firsts.{asWritten, first-as-written}
@@ -26,6 +26,10 @@ pub opened : (s : List ℕ) → 1 ≤ length s → getD s 0 0 < 256 → (f : Fir
     → (mask set room : ℕ) → afterFirst mask set room f (bitsOf s) 8 ≡ frame mask set room (bitsOf s) 0
 unfolding frame
 opened s h o f e mask set room = rw (first-read s h o, e)
+
+pub zero-pad : (o : ℕ) → o ≡ 0 → pad ≡ firstOctet o
+unfolding firstOctet lookUp rows
+zero-pad o e = rw e
 
 pub no-octets : (s : List ℕ) → length s ≡ 0 → (mask set room : ℕ) → refuse Short 0 ≡ frame mask set room (bitsOf s) 0
 unfolding frame bitsOf numberFrom bit

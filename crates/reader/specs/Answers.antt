@@ -1,20 +1,32 @@
--- What an answer tells of a reading, the output aside.
+-- What a report tells of a reading, and where the samples are.
 use Prim.Native.Nat.{ℕ}
 use mathlib.Core.Path.{_≡_}
 use mathlib.Core.List.{List}
+use lib.ListN.{length, take}
 use Rattle.rules.specs.Bits.{fillFor}
-use Rattle.rules.specs.declared.ReadAnswer.{ReadAnswer}
 use Rattle.rules.specs.Reading.{Read, filled}
 use Rattle.rules.specs.Frame.{Found}
-use Rattle.rules.specs.Calls.{readEnd, readSamples, readOctets, readBits, readTool, IsFrame}
+use Rattle.rules.specs.Calls.{readEnd, readSamples, readOctets, readBits, readTool, atStart}
+use Rattle.reader.specs.declared.Report.{Report}
 
 -- a frame of tool t whose body is read: its filling bits, and the frame
 abbrev pub finish : ℕ → List ℕ → ℕ → List ℕ → Read Found
 finish t s n b = filled (record { tool = t; samples = s; bits = n }) (fillFor n) b n
 
-pub record Tells (found : Read Found) (r : ReadAnswer) : Type 0 where
+pub record Tells (found : Read Found) (r : Report) : Type 0 where
   pub end : r .end ≡ readEnd found
-  pub frame : IsFrame (readSamples found) (r .frame)
+  pub len : r .len ≡ length (readSamples found)
   pub octets : r .octets ≡ readOctets found
   pub bits : r .bits ≡ readBits found
   pub tool : r .tool ≡ readTool found
+
+-- the samples are the first of the frame buffer's 320
+pub record Fills (found : Read Found) (r : Report) (buffer : List ℕ) : Type 0 where
+  pub tells : Tells found r
+  pub samples : take (length (readSamples found)) buffer ≡ readSamples found
+  pub size : length buffer ≡ 320
+
+-- the samples stand at the start of the output, and the rest of it is as lent
+pub record ReadsInto (found : Read Found) (r : Report) (out out′ : List ℕ) : Type 0 where
+  pub tells : Tells found r
+  pub lent : out′ ≡ atStart (readSamples found) out

@@ -8,7 +8,8 @@ use Rattle.rules.specs.Tools.{isLength}
 use Rattle.rules.specs.Bits.{bitsOf}
 use Rattle.rules.specs.Reading.{Read, whole, refuse}
 use Rattle.rules.specs.First.{sixOrEight}
-use Rattle.rules.specs.Frame.{Found, withTool, afterFirst, frame}
+use Rattle.rules.specs.Samples.{maskOf}
+use Rattle.rules.specs.Frame.{Found, withTool, afterFirst, frame, readOne}
 use Rattle.reader.specs.declared.Head.{Head}
 use Rattle.reader.specs.declared.Opening.{Opening}
 use Rattle.reader.specs.declared.Opening.the-variants.{Refused, Pad, Body}
@@ -38,4 +39,9 @@ pub record SixOrEight (octets : List ℕ) (n : ℕ) (r : Opening) : Type 0 where
 
 pub record Opens (octets : List ℕ) (r : Opening) : Type 0 where
   pub says : (mask set room : ℕ) → afterOpening mask set room r (bitsOf octets) ≡ frame mask set room (bitsOf octets) 0
+  pub ranges : Ranges octets r
+
+-- the same of one frame at the start of some octets, its law and set not looked at yet
+pub record Starts (octets : List ℕ) (law set : ℕ) (r : Opening) : Type 0 where
+  pub says : (room : ℕ) → afterOpening (maskOf law) set room r (bitsOf octets) ≡ readOne octets law set room
   pub ranges : Ranges octets r

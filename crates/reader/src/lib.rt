@@ -3,26 +3,33 @@ ghost use mathlib.Core.Path.{_≡_};
 ghost use Prim.Native.Nat.{ℕ, _+_, _*_, _/_, _%_, _^_, _≤_, _<_};
 ghost use mathlib.Core.Bool.{true};
 ghost use mathlib.Core.List.{List, [], _++_};
-ghost use lib.ListN.{length, take, drop, replicate};
+ghost use lib.ListN.{length, take, drop};
 ghost use Rattle.rules.specs.Tools.{isLength};
 ghost use Rattle.rules.specs.Bits.{bitsOf, fillFor};
 ghost use Rattle.rules.specs.Reading.{whole, refuse, filled};
 ghost use Rattle.rules.specs.First.{markAt, sixNotEight};
-ghost use Rattle.rules.specs.Refusals.{refusalTool};
 ghost use Rattle.rules.specs.Samples.{maskOf};
 ghost use Rattle.rules.specs.Frame.{body, withTool, readOne};
-ghost use Rattle.rules.specs.Calls.{IsFrame, ReadFrame};
-ghost use Rattle.bodies.specs.Bodied.{ReadsBody};
+ghost use Rattle.rules.specs.Calls.{ReadFrame};
+ghost use Rattle.bodies.specs.Bodied.{FillsBody};
 ghost use Rattle.bits.specs.Outcomes.{asRead, Reads};
-ghost use Rattle.reader.specs.Opening.{HeadFits, Opens, SixOrEight};
-ghost use Rattle.reader.specs.Answers.{Tells, finish};
+ghost use Rattle.reader.specs.Opening.{HeadFits, Opens, SixOrEight, Starts};
+ghost use Rattle.reader.specs.Answers.{Tells, Fills, ReadsInto, finish};
 use bits::Outcome;
-use bodies::Body;
 use prefix::Begins;
 use rules::Ending;
 use rules::Frame;
 use rules::ReadAnswer;
 use rules::Refusal;
+
+// What a reading reports; its samples stand where they were put.
+pub struct Report {
+    pub end: Ending,
+    pub len: usize,
+    pub octets: usize,
+    pub bits: usize,
+    pub tool: u32,
+}
 
 // What a frame's first bits say: its tool and length, tool 6's mark, and the place where its body begins.
 pub struct Head {
@@ -89,7 +96,12 @@ fn opening_of(octets: &[u8]) -> Opening
     if octets.len() == 0 {
         return Opening::Refused(Refusal::Short, 0);
     }
-    match prefix::first_octet(octets[0]) {
+    let first = octets[0];
+    // A pad is told at once: a stream may be all pads, and the table is made anew wherever it is looked up.
+    if first == 0 {
+        return Opening::Pad;
+    }
+    match prefix::first_octet(first) {
         Begins::Unassigned => Opening::Refused(Refusal::Prefix, 0),
         Begins::Pad => Opening::Pad,
         Begins::Tool(t, n) => Opening::Body(Head {
@@ -102,22 +114,35 @@ fn opening_of(octets: &[u8]) -> Opening
     }
 }
 
-// The body of a tool that the set holds.
-fn body_of(octets: &[u8], mask: u8, h: Head) -> Body
-    requires { ⌜ (HeadFits h) × (1 ≤ h .tool) × (h .tool ≤ 7) × (mask < 128) × (mask % 2 ≡ 1) ⌝ }
-    ensures { λ r. ⌜ ReadsBody (body mask (h .tool) (h .len) (h .mark) (bitsOf (now (octets .entry))) (h .at)) (2 ^ 41) r ⌝ }
+// How one frame at the start of some octets opens: "Order: LAW, SET", then the frame.
+fn opens(octets: &[u8], law: u32, set: u32) -> Opening
+    ensures { λ r. ⌜ Starts (now (octets .entry)) law set r ⌝ }
+{
+    if 1 < law {
+        return Opening::Refused(Refusal::Law, 0);
+    }
+    if 127 < set {
+        return Opening::Refused(Refusal::Set, 0);
+    }
+    opening_of(octets)
+}
+
+// The body of a tool that the set holds, into the lent samples.
+fn body_of(octets: &[u8], mask: u8, h: Head, samples: &mut [u8; 320]) -> Outcome
+    requires { ⌜ (HeadFits h) × (1 ≤ h .tool) × (h .tool ≤ 7) × (mask < 128) × (mask % 2 ≡ 1) × (length (now samples) ≡ 320) ⌝ }
+    ensures { λ r. ⌜ FillsBody (body mask (h .tool) (h .len) (h .mark) (bitsOf (now (octets .entry))) (h .at)) (2 ^ 41) (now (samples .entry)) (now (samples .exit)) r ⌝ }
 {
     let tool = h.tool;
     let n = h.len;
     let at = h.at;
     match tool {
-        1 => bodies::uncompressed(octets, at, n),
-        2 => bodies::filled(at, n, law::plus_zero(mask)),
-        3 => bodies::filled(at, n, law::minus_zero(mask)),
-        4 => bodies::constant(octets, at, n),
-        5 => bodies::binary(octets, at, n, mask),
-        6 => bodies::plus_minus(octets, at, n, h.mark as u8, mask),
-        _ => located::located(octets, at, n, mask),
+        1 => bodies::uncompressed(octets, at, n, samples),
+        2 => bodies::filled(at, n, law::plus_zero(mask), samples),
+        3 => bodies::filled(at, n, law::minus_zero(mask), samples),
+        4 => bodies::constant(octets, at, n, samples),
+        5 => bodies::binary(octets, at, n, mask, samples),
+        6 => bodies::plus_minus(octets, at, n, h.mark as u8, mask, samples),
+        _ => located::located(octets, at, n, mask, samples),
     }
 }
 
@@ -136,38 +161,14 @@ fn filling(octets: &[u8], end: usize) -> Outcome
     Outcome::Got(0, at)
 }
 
-// "tool 0, save that TOOL gives the tool"
-pub fn tool_named(why: Refusal) -> u32
-    ensures { λ r. ⌜ r ≡ refusalTool why ⌝ }
-{
-    match why {
-        Refusal::Tool(t) => t,
-        Refusal::Short => 0,
-        Refusal::Prefix => 0,
-        Refusal::Room => 0,
-        Refusal::Case => 0,
-        Refusal::Method => 0,
-        Refusal::Run => 0,
-        Refusal::Place => 0,
-        Refusal::Align => 0,
-        Refusal::Length => 0,
-        Refusal::Set => 0,
-        Refusal::Law => 0,
-        Refusal::Long => 0,
-    }
-}
-
-// "A refused single call .. reports 0 samples (its frame all 00), 0 octets used, 0 bits and tool 0, save that TOOL gives the tool."
-fn refused(why: Refusal) -> ReadAnswer
+// "A refused single call .. reports 0 samples, 0 octets used, 0 bits and tool 0, save that TOOL gives the tool."
+fn refused(why: Refusal) -> Report
     ensures { λ r. ⌜ ((at : ℕ) → Tells (refuse why at) r) ⌝ }
 {
-    let tool = tool_named(why);
-    ReadAnswer {
+    let tool = rules::refusal_tool(why);
+    Report {
         end: Ending::Refused(why),
-        frame: Frame {
-            samples: [0; 320],
-            len: 0,
-        },
+        len: 0,
         octets: 0,
         bits: 0,
         tool,
@@ -175,31 +176,28 @@ fn refused(why: Refusal) -> ReadAnswer
 }
 
 // "A pad reports 8 bits."
-fn pad() -> ReadAnswer
+fn pad() -> Report
     ensures { λ r. ⌜ Tells (whole (record { tool = 0; samples = []; bits = 8 }) 8) r ⌝ }
 {
-    ReadAnswer {
+    Report {
         end: Ending::Done,
-        frame: Frame {
-            samples: [0; 320],
-            len: 0,
-        },
+        len: 0,
         octets: 1,
         bits: 8,
         tool: 0,
     }
 }
 
-// "ALIGN last"; then the samples, and the bits of prefix and body and nothing else.
-fn finished(octets: &[u8], tool: u32, frame: Frame, bits: usize) -> ReadAnswer
+// "ALIGN last"; then the number of samples, and the bits of prefix and body and nothing else.
+fn finished(octets: &[u8], tool: u32, len: usize, bits: usize) -> Report
     requires { ⌜ (bits ≤ 8 * length (now octets)) × (bits ≤ 2 ^ 41) ⌝ }
-    ensures { λ r. ⌜ ((s : List ℕ) → IsFrame s frame → Tells (finish tool s bits (bitsOf (now (octets .entry)))) r) ⌝ }
+    ensures { λ r. ⌜ ((s : List ℕ) → len ≡ length s → Tells (finish tool s bits (bitsOf (now (octets .entry)))) r) ⌝ }
 {
     match filling(octets, bits) {
         Outcome::Refused(why, _) => refused(why),
-        Outcome::Got(_, _) => ReadAnswer {
+        Outcome::Got(_, _) => Report {
             end: Ending::Done,
-            frame,
+            len,
             octets: (bits + 7) / 8,
             bits,
             tool,
@@ -207,10 +205,17 @@ fn finished(octets: &[u8], tool: u32, frame: Frame, bits: usize) -> ReadAnswer
     }
 }
 
-// The tool is decided: TOOL, ROOM, the body, ALIGN.
-fn with_tool(octets: &[u8], law: u32, set: u32, room: usize, h: Head) -> ReadAnswer
-    requires { ⌜ (HeadFits h) × (1 ≤ length (now octets)) ⌝ }
-    ensures { λ r. ⌜ Tells (withTool (maskOf law) set room (h .tool) (h .len) (h .mark) (bitsOf (now (octets .entry))) (h .at)) r ⌝ }
+// The tool is decided: TOOL, ROOM, the body, ALIGN. An accepted frame's samples are the first of those lent.
+fn with_tool(
+    octets: &[u8],
+    law: u32,
+    set: u32,
+    room: usize,
+    h: Head,
+    samples: &mut [u8; 320],
+) -> Report
+    requires { ⌜ (HeadFits h) × (1 ≤ length (now octets)) × (length (now samples) ≡ 320) ⌝ }
+    ensures { λ r. ⌜ Fills (withTool (maskOf law) set room (h .tool) (h .len) (h .mark) (bitsOf (now (octets .entry))) (h .at)) r (now (samples .exit)) ⌝ }
 {
     let tool = h.tool;
     if !prefix::holds(set, tool) {
@@ -219,35 +224,15 @@ fn with_tool(octets: &[u8], law: u32, set: u32, room: usize, h: Head) -> ReadAns
     if room < h.len {
         return refused(Refusal::Room);
     }
-    let b = body_of(octets, law::mask_of(law), h);
-    let end = b.end;
-    let samples = b.samples;
-    match end {
+    match body_of(octets, law::mask_of(law), h, samples) {
         Outcome::Refused(why, _) => refused(why),
-        Outcome::Got(len, bits) => finished(octets, tool, Frame { samples, len }, bits),
+        Outcome::Got(len, bits) => finished(octets, tool, len, bits),
     }
 }
 
-// One frame at the start of some octets, `room` being the output's: "Order: LAW, SET", then the frame.
-fn read_one(octets: &[u8], law: u32, set: u32, room: usize) -> ReadAnswer
-    ensures { λ r. ⌜ Tells (readOne (now (octets .entry)) law set room) r ⌝ }
-{
-    if 1 < law {
-        return refused(Refusal::Law);
-    }
-    if 127 < set {
-        return refused(Refusal::Set);
-    }
-    match opening_of(octets) {
-        Opening::Refused(why, _) => refused(why),
-        Opening::Pad => pad(),
-        Opening::Body(h) => with_tool(octets, law, set, room, h),
-    }
-}
-
-// The first n samples to the start of the output; the rest of it stays as lent.
-fn put_out(samples: &[u8; 320], n: usize, out: &mut [u8])
-    requires { ⌜ (n ≤ 320) × (n ≤ length (now samples)) × (n ≤ length (now out)) ⌝ }
+// The first n of some samples to the start of others; the rest of them stays as lent.
+fn put_out(samples: &[u8], n: usize, out: &mut [u8])
+    requires { ⌜ (n ≤ length (now samples)) × (n ≤ length (now out)) ⌝ }
     ensures { λ r. ⌜ now (out .exit) ≡ take n (now (samples .entry)) ++ drop n (now (out .entry)) ⌝ }
 {
     let mut i = 0;
@@ -257,12 +242,36 @@ fn put_out(samples: &[u8; 320], n: usize, out: &mut [u8])
     }
 }
 
-// Reading one frame: the answer, and an accepted frame's samples at the start of the output.
+// One frame read into the output: what is reported, and an accepted frame's samples at the output's start.
+pub fn read_into(octets: &[u8], law: u32, set: u32, out: &mut [u8]) -> Report
+    ensures { λ r. ⌜ ReadsInto (readOne (now (octets .entry)) law set (length (now (out .entry)))) r (now (out .entry)) (now (out .exit)) ⌝ }
+{
+    match opens(octets, law, set) {
+        Opening::Refused(why, _) => refused(why),
+        Opening::Pad => pad(),
+        Opening::Body(h) => {
+            let mut samples = [0; 320];
+            let r = with_tool(octets, law, set, out.len(), h, &mut samples);
+            put_out(&samples, r.len, out);
+            r
+        }
+    }
+}
+
+// Reading one frame: the same samples as a frame that travels with its length, 00 past them.
 pub fn read_frame(octets: &[u8], law: u32, set: u32, out: &mut [u8]) -> ReadAnswer
     ensures { λ r. ⌜ ReadFrame (now (octets .entry)) law set (now (out .entry)) (now (out .exit)) r ⌝ }
 {
-    let r = read_one(octets, law, set, out.len());
-    let frame = r.frame;
-    put_out(&frame.samples, frame.len, out);
-    r
+    let r = read_into(octets, law, set, out);
+    let len = r.len;
+    let mut samples = [0; 320];
+    put_out(out, len, &mut samples);
+    let end = r.end;
+    ReadAnswer {
+        end,
+        frame: Frame { samples, len },
+        octets: r.octets,
+        bits: r.bits,
+        tool: r.tool,
+    }
 }

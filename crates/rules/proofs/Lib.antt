@@ -7,3 +7,5 @@ pub mod Codes
 pub mod Gives
 pub mod Accepted
 pub mod Named
+pub mod Kept
+pub mod Laid

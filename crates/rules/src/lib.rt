@@ -1,5 +1,7 @@
 // The vocabulary of document 01: a frame, the thirteen refusals, and the answers of the three calls.
 // What each case and each answer means stands in specs/.
+ghost use mathlib.Core.Path.{_≡_};
+ghost use Rattle.rules.specs.Refusals.{refusalNumber, refusalTool};
 
 // "One frame with its samples and its length travel together". A reader leaves 00 past the length; a writer does not look there.
 pub struct Frame {
@@ -22,6 +24,48 @@ pub enum Refusal {
     Set,
     Law,
     Long,
+}
+
+// "Numbered refusals": the paper's number of a refusal.
+pub fn refusal_number(why: Refusal) -> u32
+    ensures { λ r. ⌜ r ≡ refusalNumber why ⌝ }
+{
+    match why {
+        Refusal::Short => 1,
+        Refusal::Prefix => 2,
+        Refusal::Tool(_) => 3,
+        Refusal::Room => 4,
+        Refusal::Case => 5,
+        Refusal::Method => 6,
+        Refusal::Run => 7,
+        Refusal::Place => 8,
+        Refusal::Align => 9,
+        Refusal::Length => 10,
+        Refusal::Set => 11,
+        Refusal::Law => 12,
+        Refusal::Long => 13,
+    }
+}
+
+// "tool 0, save that TOOL gives the tool"
+pub fn refusal_tool(why: Refusal) -> u32
+    ensures { λ r. ⌜ r ≡ refusalTool why ⌝ }
+{
+    match why {
+        Refusal::Tool(t) => t,
+        Refusal::Short => 0,
+        Refusal::Prefix => 0,
+        Refusal::Room => 0,
+        Refusal::Case => 0,
+        Refusal::Method => 0,
+        Refusal::Run => 0,
+        Refusal::Place => 0,
+        Refusal::Align => 0,
+        Refusal::Length => 0,
+        Refusal::Set => 0,
+        Refusal::Law => 0,
+        Refusal::Long => 0,
+    }
 }
 
 // How a call ended.

@@ -1,7 +1,8 @@
+pub mod Puts
+pub mod Parts
 pub mod Ones
-pub mod Padded
 pub mod Answer
+pub mod Marking
 pub mod Turn
 pub mod Windows
-pub mod Laid
 pub mod Gathered

@@ -1,40 +1,72 @@
 -- A turn of the loop over runs.
 use Prim.Native.Nat.{ℕ, zero, suc, _+_, _*_, _-_, _≤_, _<_}
 use mathlib.Core.Path.{_≡_, refl, sym, ap, _∙_}
-use mathlib.Core.List.{List, [], _∷_, _++_}
+use mathlib.Core.List.{List, [], _∷_, _++_, append-nil}
+use mathlib.Core.Bool.{Bool, true, false, cond}
 use native.Mathlib.Omega.{arith}
 use native.Mathlib.Nat.{sub-zero}
-use lib.ListN.{length, take, set, replicate, length-append, length-replicate}
+use lib.ListN.{length, set, replicate, length-append, length-replicate}
+use lib.Dec.{eqb, ltb}
 use borrow.Author.Tests.{lt-ltb, le-ltb, eq-eqb, ne-eqb}
 use Rattle.rules.specs.declared.Refusal.{Refusal}
 use Rattle.rules.specs.declared.Refusal.the-variants.{Run}
-use Rattle.rules.specs.Reading.{Read, whole, refuse}
+use Rattle.rules.specs.Reading.{Read, whole, refuse, andThen, give, fail}
 use Rattle.rules.specs.Runs.{rice, runsFrom}
 use Rattle.rules.specs.Chooses.{countOf}
-use Rattle.runs.specs.Flagged.{marked, ReadsFlags}
 use Rattle.bits.specs.declared.Outcome.the-variants.{Got, Refused}
-use Rattle.runs.proofs.Answer.{flags-got}
-use Rattle.runs.proofs.Ones.{marked-none, marked-run, count-append}
-use Rattle.runs.proofs.Padded.{Padded, padded-none, padded-length, padded-take, padded-all, padded-mark}
+use Rattle.runs.specs.Flagged.{oneRun, marked, Put, MarksCells}
+use Rattle.runs.proofs.Answer.{marks-refused}
+use Rattle.runs.proofs.Ones.{marked-run}
+use Rattle.runs.proofs.Marking.{Marking, marking-none, marking-room, marking-mark, marking-all}
+
+-- a run is judged by the places left
+module _ (bits : List ℕ) (n s left at : ℕ) {v next : ℕ} (e : rice n s bits at ≡ whole v next) where
+  pub run-long : left < v → oneRun n s left bits at ≡ refuse Run at
+  unfolding oneRun
+  run-long h = rw (e, lt-ltb left v h)
+
+  pub run-fits : v ≤ left → oneRun n s left bits at ≡ whole v next
+  unfolding oneRun
+  run-fits h = rw (e, le-ltb left v h)
+
+-- a run, and what follows it
+runs-step : (bits : List ℕ) (n s more left : ℕ) (done : List ℕ) (at : ℕ) → 0 < left
+    → runsFrom n s (suc more) left done bits at
+    ≡ andThen (oneRun n s left bits at) (λ v j. cond (eqb v left) (give (done ++ replicate v 0)) (runsFrom n s more (left - (v + 1)) (done ++ (replicate v 0 ++ (1 ∷ [])))) bits j)
+unfolding runsFrom oneRun
+runs-step bits n s more left done at h = rw (ne-eqb left 0 (λ z. omega arith)) (go (rice n s bits at))
+  where
+    go2 : (v j : ℕ) (b : Bool)
+        → cond b (fail Run at) (cond (eqb v left) (give (done ++ replicate v 0)) (runsFrom n s more (left - (v + 1)) (done ++ (replicate v 0 ++ (1 ∷ []))))) bits j
+        ≡ andThen (cond b (fail Run at) (give v) bits j) (λ v j. cond (eqb v left) (give (done ++ replicate v 0)) (runsFrom n s more (left - (v + 1)) (done ++ (replicate v 0 ++ (1 ∷ [])))) bits j)
+    go2 v j true = refl
+    go2 v j false = refl
+
+    go : (r : Read ℕ)
+        → andThen r (λ v j. cond (ltb left v) (fail Run at) (cond (eqb v left) (give (done ++ replicate v 0)) (runsFrom n s more (left - (v + 1)) (done ++ (replicate v 0 ++ (1 ∷ []))))) bits j)
+        ≡ andThen (andThen r (λ v j. cond (ltb left v) (fail Run at) (give v) bits j)) (λ v j. cond (eqb v left) (give (done ++ replicate v 0)) (runsFrom n s more (left - (v + 1)) (done ++ (replicate v 0 ++ (1 ∷ [])))) bits j)
+    go (whole v j) = go2 v j (ltb left v)
+    go (refuse w b) = refl
 
 -- `count` runs are read, and fill the first `filled` of d places
-pub record Filled (bits : List ℕ) (at n s d : ℕ) (flags : List ℕ) (filled count place : ℕ) : Type 0 where
+pub record Filled (bits : List ℕ) (at n s d common other : ℕ) (old cells : List ℕ) (filled count place : ℕ) : Type 0 where
   pub done : List ℕ
   pub so-far : runsFrom n s d d [] bits at ≡ runsFrom n s (d - count) (d - filled) done bits place
-  pub padded : Padded flags done
+  pub marking : Marking d common other old cells done
   pub size : length done ≡ filled
   pub ones : marked done ≡ count
   pub fuel : count ≤ filled
   pub within : filled ≤ d
   pub near : place ≤ at + 330 * count
 
-pub filled-none : (bits : List ℕ) (at n s d : ℕ) → Filled bits at n s d (replicate 320 0) 0 0 at
+pub filled-none : (bits : List ℕ) (at n s : ℕ) {d common : ℕ} (other : ℕ) {old cells : List ℕ} → Put old 0 (replicate d common) cells → d ≤ 320 → length old ≡ 320
+    → Filled bits at n s d common other cells cells 0 0 at
 unfolding countOf
-filled-none bits at n s d =
+filled-none bits at n s other p f b =
     record {
       done = [];
       so-far = rw sub-zero;
-      padded = padded-none;
+      marking = marking-none other p f b;
       size = refl;
       ones = refl;
       fuel = omega arith;
@@ -42,20 +74,18 @@ filled-none bits at n s d =
       near = omega arith;
     }
 
-module _ {bits : List ℕ} {at n s d : ℕ} {flags : List ℕ} {filled count place : ℕ} (f : Filled bits at n s d flags filled count place) where
-  pub room : length flags ≡ 320
-  room = padded-length (f .padded)
-
+module _ {bits : List ℕ} {at n s d common other : ℕ} {old cells : List ℕ} {filled count place : ℕ}
+    (f : Filled bits at n s d common other old cells filled count place) where
   -- all places are filled
-  pub runs-filled : d ≤ filled → d ≤ 320 → ReadsFlags (runsFrom n s d d [] bits at) d (at + 330 * d) (record { end = Got count place; flags = flags })
+  pub runs-filled : d ≤ filled → MarksCells (runsFrom n s d d [] bits at) d (at + 330 * d) common other old cells (Got count place)
   unfolding runsFrom
-  runs-filled h k =
+  runs-filled h =
       let w = f .within in
       let y = f .fuel in
       let x = f .near in
       let z = f .size in
       let e : d - filled ≡ 0 = omega arith in
-      flags-got room (f .so-far ∙ rw e (ended (d - count))) (padded-all (f .padded) d (omega arith) k) (f .ones) (omega arith)
+      marking-all (f .marking) 0 (omega arith) (f .so-far ∙ rw e (ended (d - count)) ∙ ap (λ (l : List ℕ). whole l place) (sym (append-nil (f .done)))) (f .ones) (omega arith)
     where
       ended : (more : ℕ) → runsFrom n s more 0 (f .done) bits place ≡ whole (f .done) place
       ended zero = refl
@@ -65,48 +95,34 @@ module _ {bits : List ℕ} {at n s d : ℕ} {flags : List ℕ} {filled count pla
     fuel-left : d - count ≡ suc (d - (count + 1))
     fuel-left = let w = f .fuel in omega arith
 
-    pub runs-refused : {w : Refusal} {b : ℕ} → rice n s bits place ≡ refuse w b → runsFrom n s d d [] bits at ≡ refuse w b
-    unfolding runsFrom
-    runs-refused e = f .so-far ∙ rw (fuel-left, ne-eqb (d - filled) 0 (λ z. omega arith), e)
+    stepped : {r : Read ℕ} → oneRun n s (d - filled) bits place ≡ r
+        → runsFrom n s d d [] bits at
+        ≡ andThen r (λ v j. cond (eqb v (d - filled)) (give (f .done ++ replicate v 0)) (runsFrom n s (d - (count + 1)) (d - filled - (v + 1)) (f .done ++ (replicate v 0 ++ (1 ∷ [])))) bits j)
+    stepped e = f .so-far ∙ rw (fuel-left, ← e) (runs-step bits n s (d - (count + 1)) (d - filled) (f .done) place (omega arith))
 
-    module _ {v next : ℕ} (e : rice n s bits place ≡ whole v next) where
-      pub runs-long : d - filled < v → runsFrom n s d d [] bits at ≡ refuse Run place
-      unfolding runsFrom
-      runs-long l = f .so-far ∙ rw (fuel-left, ne-eqb (d - filled) 0 (λ z. omega arith), e, lt-ltb (d - filled) v l)
+    pub runs-refused : {w : Refusal} {b : ℕ} → oneRun n s (d - filled) bits place ≡ refuse w b
+        → MarksCells (runsFrom n s d d [] bits at) d (at + 330 * d) common other old cells (Refused w b)
+    runs-refused e = marks-refused (marking-room (f .marking)) (stepped e)
 
-      pub runs-closed : v ≡ d - filled → d ≤ 320 → next ≤ place + 330
-          → ReadsFlags (runsFrom n s d d [] bits at) d (at + 330 * d) (record { end = Got count next; flags = flags })
-      unfolding runsFrom
-      runs-closed l k b =
+    module _ {v next : ℕ} (e : oneRun n s (d - filled) bits place ≡ whole v next) where
+      pub runs-closed : v ≡ d - filled → next ≤ place + 330 → MarksCells (runsFrom n s d d [] bits at) d (at + 330 * d) common other old cells (Got count next)
+      runs-closed l b =
           let w = f .within in
           let y = f .fuel in
           let x = f .near in
           let z = f .size in
-          let g : d - length (f .done) ≡ v = omega arith in
-          let t = rw g at (padded-take (f .padded) d (omega arith) k) in
-          let m : marked (f .done ++ replicate v 0) ≡ count = let o = f .ones in let p = marked-none v in simp count-append (omega arith) in
-          flags-got room (f .so-far ∙ rw (fuel-left, ne-eqb (d - filled) 0 (λ z. omega arith), e, le-ltb (d - filled) v (omega arith), eq-eqb v (d - filled) l)) t m (omega arith)
+          marking-all (f .marking) v (omega arith) (stepped e ∙ rw (eq-eqb v (d - filled) l)) (f .ones) (omega arith)
 
-      pub runs-turn : d ≤ 320 → v ≤ d - filled → (v ≡ d - filled → ⊥) → next ≤ place + 330
-          → Filled bits at n s d (set flags (filled + v) 1) (filled + (v + 1)) (count + 1) next
-      unfolding runsFrom
-      runs-turn k l m b =
+      pub runs-turn : v ≤ d - filled → (v ≡ d - filled → ⊥) → next ≤ place + 330
+          → Filled bits at n s d common other old (set cells (filled + v) other) (filled + (v + 1)) (count + 1) next
+      runs-turn l m b =
           let w = f .within in
           let z = f .size in
           let r : d - filled - (v + 1) ≡ d - (filled + (v + 1)) = omega arith in
           record {
             done = f .done ++ (replicate v 0 ++ (1 ∷ []));
-            so-far =
-                f .so-far
-                ∙ rw (
-                  fuel-left,
-                  ne-eqb (d - filled) 0 (λ z. omega arith),
-                  e,
-                  le-ltb (d - filled) v l,
-                  ne-eqb v (d - filled) m,
-                  r,
-                );
-            padded = rw z at (padded-mark (f .padded) v (omega arith));
+            so-far = stepped e ∙ rw (ne-eqb v (d - filled) m, r);
+            marking = rw z at (marking-mark (f .marking) v (omega arith));
             size = simp (length-append, length-replicate) (omega arith);
             ones = marked-run (f .done) v ∙ ap (λ (x : ℕ). x + 1) (f .ones);
             fuel = let y = f .fuel in omega arith;

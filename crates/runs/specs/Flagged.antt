@@ -1,38 +1,53 @@
--- What the readers of flags answer, as the definitions' result: the first D of the array are the flags.
-use Prim.Native.Nat.{ℕ, _+_, _≤_}
+-- What the readers of flags leave in the lent cells, and answer: a cell for each of D flags, and the number of ones.
+use Prim.Native.Nat.{ℕ, _+_, _≤_, _<_}
 use mathlib.Core.Path.{_≡_}
-use mathlib.Core.List.{List, _++_}
-use lib.ListN.{length, take}
-use lib.Dec.{eqb}
-use Rattle.rules.specs.Reading.{Read, whole, refuse}
-use Rattle.rules.specs.Bits.{lowBits}
+use mathlib.Core.List.{List, _++_, map}
+use mathlib.Core.Bool.{cond}
+use lib.ListN.{length, getD, take, drop}
+use lib.Dec.{eqb, ltb}
+use Rattle.rules.specs.declared.Refusal.the-variants.{Run}
+use Rattle.rules.specs.Reading.{Read, whole, refuse, Reader, _>>=_, give, fail, here}
+use Rattle.rules.specs.Runs.{rice}
 use Rattle.rules.specs.Chooses.{countOf}
 use Rattle.bits.specs.declared.Outcome.{Outcome}
 use Rattle.bits.specs.declared.Outcome.the-variants.{Got, Refused}
-use Rattle.bits.specs.Outcomes.{valueOf, nextOf}
-use Rattle.runs.specs.declared.Flags.{Flags}
+use Rattle.bits.specs.Outcomes.{nextOf}
 
 -- how many flags are 1
 abbrev pub marked : List ℕ → ℕ
 marked flags = countOf (λ f. eqb f 1) flags
 
-abbrev pub asFlags : ℕ → Outcome → List ℕ → Read (List ℕ)
-asFlags d (Got count next) flags = whole (take d flags) next
-asFlags d (Refused w at) flags = refuse w at
+-- the cell of a flag: a 1 is the other kind
+abbrev pub kindOf : ℕ → ℕ → ℕ → ℕ
+kindOf common other f = cond (eqb f 1) other common
 
--- how many are 1, of an answer that was not refused
-abbrev pub isCount : ℕ → Outcome → List ℕ → Type 0
-isCount d (Got count next) flags = count ≡ marked (take d flags)
-isCount d (Refused w at) flags = Unit {0}
+abbrev pub kinds : ℕ → ℕ → List ℕ → List ℕ
+kinds common other flags = map (kindOf common other) flags
 
--- the answer is the definition's, with the number of ones, and the next place is at most `far`
-pub record ReadsFlags (found : Read (List ℕ)) (d far : ℕ) (r : Flags) : Type 0 where
-  pub says : asFlags d (r .end) (r .flags) ≡ found
-  pub count : isCount d (r .end) (r .flags)
-  pub next : nextOf (r .end) ≤ far
-  pub room : length (r .flags) ≡ 320
+-- a run over the places left: "a larger v is RUN, judged when v is whole"
+unfoldable pub oneRun : ℕ → ℕ → ℕ → Reader ℕ
+oneRun n s left = do
+  start ← here
+  v ← rice n s
+  cond (ltb left v) (fail Run start) (give v)
 
--- n flags laid from place `from` on: the n low bits of v, highest first
-pub record Spread (old : List ℕ) (from n v : ℕ) (new : List ℕ) : Type 0 where
-  pub laid : take (from + n) new ≡ take from old ++ lowBits n v
+-- xs put into cells from a place on
+pub record Put (old : List ℕ) (from : ℕ) (xs new : List ℕ) : Type 0 where
+  pub made : new ≡ take from old ++ (xs ++ drop (from + length xs) old)
+
+-- the number of ones and the next place, or the refusal and its bit
+abbrev pub flagsEnd : Read (List ℕ) → Outcome
+flagsEnd (whole flags next) = Got (marked flags) next
+flagsEnd (refuse w at) = Refused w at
+
+-- the first d cells are those of d flags of 0 and 1, the others as lent; a refused reading may leave any cells
+abbrev pub Marks : ℕ → ℕ → ℕ → Read (List ℕ) → List ℕ → List ℕ → Type 0
+Marks d common other (whole flags next) old new = (length flags ≡ d) × ((i : ℕ) → getD flags i 0 < 2) × (new ≡ kinds common other flags ++ drop d old)
+Marks d common other (refuse w at) old new = Unit {0}
+
+-- the answer is the definition's, and the next place at most `far`; the cells are marked
+pub record MarksCells (found : Read (List ℕ)) (d far common other : ℕ) (old new : List ℕ) (r : Outcome) : Type 0 where
+  pub end : r ≡ flagsEnd found
+  pub next : nextOf r ≤ far
+  pub cells : Marks d common other found old new
   pub room : length new ≡ 320

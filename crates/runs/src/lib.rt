@@ -1,87 +1,156 @@
-// D flags of a value or a frame, 0 the common kind and 1 the other: as runs, or bit by bit.
+// D flags of a value or a frame, 0 the common kind and 1 the other, as runs or bit by bit: each marks a lent cell by its kind.
 ghost use mathlib.Core.Path.{_≡_};
 ghost use mathlib.Core.List.{[]};
 ghost use Prim.Native.Nat.{_+_, _*_, _-_, _^_, _/_, _≤_, _<_, min};
-ghost use lib.ListN.{length};
-ghost use Rattle.rules.specs.Bits.{bitsOf};
+ghost use lib.ListN.{length, replicate};
+ghost use Rattle.rules.specs.Bits.{lowBits, bitsOf};
 ghost use Rattle.rules.specs.Reading.{bitsFrom};
 ghost use Rattle.rules.specs.Runs.{runsFrom};
-ghost use Rattle.runs.specs.Flagged.{ReadsFlags, Spread};
+ghost use Rattle.bits.specs.Outcomes.{Reads};
+ghost use Rattle.runs.specs.Flagged.{oneRun, kindOf, kinds, Put, MarksCells};
 use bits::Outcome;
 use rules::Refusal;
 
-// The flags, and how the reading ended: the number of ones and the next place, or the refusal and its bit.
-pub struct Flags {
-    pub end: Outcome,
-    pub flags: [u8; 320],
+// The first d cells are x.
+pub fn fill(cells: &mut [u8; 320], d: usize, x: u8)
+    requires { ⌜ (d ≤ 320) × (length (now cells) ≡ 320) ⌝ }
+    ensures { λ _. ⌜ Put (now (cells .entry)) 0 (replicate d x) (now (cells .exit)) ⌝ }
+{
+    for i in 0..d {
+        cells[i] = x;
+    }
+}
+
+// A run of v places, of those left.
+fn run(octets: &[u8], at: usize, n: usize, s: usize, left: usize) -> Outcome
+    requires { ⌜ (at ≤ 2 ^ 39) × (n ≤ 320) × (s ≤ 9) × (left ≤ 320) ⌝ }
+    ensures { λ r. ⌜ Reads (oneRun n s left (bitsOf (now (octets .entry))) at) left (at + 330) r ⌝ }
+{
+    let too_long = left + 1;
+    match bits::rice(octets, at, n, s) {
+        Outcome::Refused(why, bit) => Outcome::Refused(why, bit),
+        Outcome::Got(v, next) => {
+            if too_long <= v {
+                return Outcome::Refused(Refusal::Run, at);
+            }
+            Outcome::Got(v, next)
+        }
+    }
 }
 
 // "Runs over D places": v places of the common kind, then one of the other, till all D are filled.
-pub fn runs(octets: &[u8], at: usize, n: usize, s: usize, d: usize) -> Flags
-    requires { ⌜ (at ≤ 2 ^ 38) × (n ≤ 320) × (s ≤ 9) × (d ≤ 320) ⌝ }
-    ensures { λ r. ⌜ ReadsFlags (runsFrom n s d d [] (bitsOf (now (octets .entry))) at) d (at + 330 * d) r ⌝ }
+// The answer is the number of the other kind and the next place, or the refusal and its bit.
+pub fn runs(
+    octets: &[u8],
+    at: usize,
+    n: usize,
+    s: usize,
+    d: usize,
+    cells: &mut [u8; 320],
+    common: u8,
+    other: u8,
+) -> Outcome
+    requires { ⌜ (at ≤ 2 ^ 38) × (n ≤ 320) × (s ≤ 9) × (d ≤ 320) × (length (now cells) ≡ 320) ⌝ }
+    ensures { λ r. ⌜ MarksCells (runsFrom n s d d [] (bitsOf (now (octets .entry))) at) d (at + 330 * d) common other (now (cells .entry)) (now (cells .exit)) r ⌝ }
 {
-    let mut flags = [0; 320];
+    fill(cells, d, common);
     let mut filled = 0;
     let mut count = 0;
     let mut place = at;
-    let end = loop {
+    loop {
         if d <= filled {
             break Outcome::Got(count, place);
         }
         let left = d - filled;
-        let too_long = left + 1;
-        match bits::rice(octets, place, n, s) {
+        match run(octets, place, n, s, left) {
             Outcome::Refused(why, bit) => {
                 break Outcome::Refused(why, bit);
             }
             Outcome::Got(v, next) => {
-                if too_long <= v {
-                    break Outcome::Refused(Refusal::Run, place);
-                }
                 // "the closing sample is imagined"
                 if v == left {
                     break Outcome::Got(count, next);
                 }
-                flags[filled + v] = 1;
+                cells[filled + v] = other;
                 filled += v + 1;
                 count += 1;
                 place = next;
             }
         }
-    };
-    Flags {
-        end: end,
-        flags: flags,
     }
 }
 
-// The n low bits of v, highest first, as flags from a place on.
-fn spread(flags: &mut [u8; 320], from: usize, v: usize, n: usize)
-    requires { ⌜ (from + n ≤ 320) × (n ≤ 8) × (length (now flags) ≡ 320) ⌝ }
-    ensures { λ _. ⌜ Spread (now (flags .entry)) from n v (now (flags .exit)) ⌝ }
+// A cell by its flag.
+fn kind(flag: u16, common: u8, other: u8) -> u8
+    ensures { λ r. ⌜ r ≡ kindOf common other flag ⌝ }
+{
+    if flag == 1 {
+        return other;
+    }
+    common
+}
+
+// The n low bits of v, highest first, as cells from a place on: at most eight, so that the compiler lays them at once.
+fn few(cells: &mut [u8; 320], from: usize, v: u16, n: usize, common: u8, other: u8)
+    requires { ⌜ (from + n ≤ 320) × (n ≤ 8) × (length (now cells) ≡ 320) ⌝ }
+    ensures { λ _. ⌜ Put (now (cells .entry)) from (kinds common other (lowBits n v)) (now (cells .exit)) × (length (now (cells .exit)) ≡ 320) ⌝ }
 {
     for j in 0..n {
-        flags[from + j] = ((v >> (n - (j + 1))) % 2) as u8;
+        cells[from + j] = kind((v >> (n - (j + 1))) % 2, common, other);
     }
 }
 
-// At most eight of the places left.
-fn window(left: usize) -> usize
-    ensures { λ r. ⌜ (r ≡ min left 8) ⌝ }
+// The same of a whole window of 32 bits.
+fn spread_all(cells: &mut [u8; 320], from: usize, v: usize, common: u8, other: u8)
+    requires { ⌜ (from + 32 ≤ 320) × (length (now cells) ≡ 320) ⌝ }
+    ensures { λ _. ⌜ Put (now (cells .entry)) from (kinds common other (lowBits 32 v)) (now (cells .exit)) ⌝ }
 {
-    if left < 8 {
+    few(cells, from, ((v >> 24) % 256) as u16, 8, common, other);
+    few(cells, from + 8, ((v >> 16) % 256) as u16, 8, common, other);
+    few(cells, from + 16, ((v >> 8) % 256) as u16, 8, common, other);
+    few(cells, from + 24, (v % 256) as u16, 8, common, other);
+}
+
+// The same of a window, eight bits at a time.
+fn spread(cells: &mut [u8; 320], from: usize, v: usize, n: usize, common: u8, other: u8)
+    requires { ⌜ (from + n ≤ 320) × (n ≤ 32) × (length (now cells) ≡ 320) ⌝ }
+    ensures { λ _. ⌜ Put (now (cells .entry)) from (kinds common other (lowBits n v)) (now (cells .exit)) ⌝ }
+{
+    if n == 32 {
+        return spread_all(cells, from, v, common, other);
+    }
+    let mut j = 0;
+    while j + 8 <= n {
+        let eight = (v >> (n - (j + 8))) % 256;
+        few(cells, from + j, eight as u16, 8, common, other);
+        j += 8;
+    }
+    let rest = v % 256;
+    few(cells, from + j, rest as u16, n - j, common, other);
+}
+
+// At most 32 of the places left.
+fn window(left: usize) -> usize
+    ensures { λ r. ⌜ (r ≡ min left 32) ⌝ }
+{
+    if left < 32 {
         return left;
     }
-    8
+    32
 }
 
 // "D bits, where a 1 is an occurrence and the number of occurrences is the number of one bits", a window at a time.
-pub fn straight(octets: &[u8], at: usize, d: usize) -> Flags
-    requires { ⌜ (at ≤ 2 ^ 38) × (d ≤ 320) ⌝ }
-    ensures { λ r. ⌜ ReadsFlags (bitsFrom [] d (bitsOf (now (octets .entry))) at) d (at + d) r ⌝ }
+pub fn straight(
+    octets: &[u8],
+    at: usize,
+    d: usize,
+    cells: &mut [u8; 320],
+    common: u8,
+    other: u8,
+) -> Outcome
+    requires { ⌜ (at ≤ 2 ^ 38) × (d ≤ 320) × (length (now cells) ≡ 320) ⌝ }
+    ensures { λ r. ⌜ MarksCells (bitsFrom [] d (bitsOf (now (octets .entry))) at) d (at + d) common other (now (cells .entry)) (now (cells .exit)) r ⌝ }
 {
-    let mut flags = [0; 320];
     let mut filled = 0;
     let mut count = 0;
     let mut place = at;
@@ -89,21 +158,15 @@ pub fn straight(octets: &[u8], at: usize, d: usize) -> Flags
         let n = window(d - filled);
         match bits::number(octets, place, n) {
             Outcome::Refused(why, bit) => {
-                return Flags {
-                    end: Outcome::Refused(why, bit),
-                    flags: flags,
-                };
+                return Outcome::Refused(why, bit);
             }
             Outcome::Got(v, next) => {
-                spread(&mut flags, filled, v, n);
+                spread(cells, filled, v, n, common, other);
                 count += u32::count_ones(v as u32) as usize;
                 filled += n;
                 place = next;
             }
         }
     }
-    Flags {
-        end: Outcome::Got(count, place),
-        flags: flags,
-    }
+    Outcome::Got(count, place)
 }

@@ -40,7 +40,7 @@ fn tool_of(end: Ending) -> u32
 {
     match end {
         Ending::Done => 0,
-        Ending::Refused(why) => reader::tool_named(why),
+        Ending::Refused(why) => rules::refusal_tool(why),
     }
 }
 

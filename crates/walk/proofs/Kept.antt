@@ -1,21 +1,11 @@
 -- What is kept of frames, and of frames after others.
 use Prim.Native.Nat.{ℕ, _+_}
-use mathlib.Core.Path.{_≡_, refl, sym, ap, _∙_}
+use mathlib.Core.Path.{_≡_, sym, ap, _∙_}
 use mathlib.Core.List.{List, [], _∷_, _++_, append-assoc, append-nil}
 use native.Mathlib.Omega.{arith}
-use lib.ListN.{length, length-append}
 use Rattle.rules.specs.Frame.{octetsUsed}
 use Rattle.rules.specs.Walk.{Delivered, Walked, before, octetsKept, samplesKept}
-
-pub octetsKept-append : (a b : List Delivered) → octetsKept (a ++ b) ≡ octetsKept a + octetsKept b
-unfolding octetsKept
-octetsKept-append [] b = omega arith
-octetsKept-append (f ∷ a) b = omega (arith, octetsKept-append a b)
-
-pub samplesKept-append : (a b : List Delivered) → samplesKept (a ++ b) ≡ samplesKept a ++ samplesKept b
-unfolding samplesKept
-samplesKept-append [] b = refl
-samplesKept-append (f ∷ a) b = rw (samplesKept-append a b, append-assoc)
+use Rattle.rules.proofs.Kept.{octetsKept-append, samplesKept-append}
 
 -- one frame more
 pub octetsKept-more : (a : List Delivered) (f : Delivered) → octetsKept (a ++ (f ∷ [])) ≡ octetsKept a + octetsUsed (f .found)

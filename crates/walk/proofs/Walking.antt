@@ -1,5 +1,5 @@
 -- A walk on its way: the frames delivered, put before the walk of the rest, are the whole walk.
-use Prim.Native.Nat.{ℕ, zero, suc, _+_, _-_, _≤_, _<_}
+use Prim.Native.Nat.{ℕ, suc, _+_, _-_, _≤_, _<_}
 use mathlib.Core.Path.{_≡_, refl, sym, ap, subst, _∙_}
 use mathlib.Core.List.{List, [], _∷_, _++_, append-assoc, append-nil}
 use native.Mathlib.Omega.{arith}
@@ -9,13 +9,13 @@ use borrow.Author.Tests.{le-leb, lt-leb}
 use Rattle.rules.specs.declared.Refusal.{Refusal}
 use Rattle.rules.specs.declared.Ending.{Ending}
 use Rattle.rules.specs.declared.Ending.the-variants.{Done, Refused}
-use Rattle.rules.specs.declared.ReadAnswer.{ReadAnswer}
-use Rattle.rules.specs.declared.WalkAnswer.{WalkAnswer}
 use Rattle.rules.specs.Reading.{Read, whole, refuse}
 use Rattle.rules.specs.Frame.{Found, octetsUsed, readOne}
 use Rattle.rules.specs.Walk.{Delivered, Walked, stopped, before, walkFrom, octetsKept, samplesKept}
-use Rattle.rules.specs.Calls.{readEnd, readSamples, atStart, Reads, Walks}
+use Rattle.rules.specs.Calls.{atStart, Walks}
 use Rattle.rules.proofs.Accepted.{read-accepts, read-uses}
+use Rattle.reader.specs.declared.Report.{Report}
+use Rattle.reader.specs.Answers.{ReadsInto}
 use Rattle.walk.specs.Stepping.{Steps}
 use Rattle.walk.proofs.Kept.{octetsKept-more, samplesKept-more, after, after-before}
 
@@ -140,33 +140,33 @@ module _ (octets : List ℕ) (law set : ℕ) (out₀ : List ℕ) where
           }
 
       -- as a step's answer says
-      module _ {out′ : List ℕ} {r : ReadAnswer} (s : Steps octets law set at to out out′ r) where
-        read-here : Reads (readOne (drop at octets) law set (length out₀ - to)) r (drop to out) (s .rest)
+      module _ {out′ : List ℕ} {r : Report} (s : Steps octets law set at to out out′ r) where
+        read-here : ReadsInto (readOne (drop at octets) law set (length out₀ - to)) r (drop to out) (s .rest)
         read-here = rw kept-length at (s .reads)
 
-        pub walk-turn : r .end ≡ Done → Walking out′ (at + r .octets) (to + r .frame .len) (count + 1)
+        pub walk-turn : r .end ≡ Done → Walking out′ (at + r .octets) (to + r .len) (count + 1)
         walk-turn e = go (readOne (drop at octets) law set (length out₀ - to)) refl read-here
           where
-            go : (m : Read Found) → readOne (drop at octets) law set (length out₀ - to) ≡ m → Reads m r (drop to out) (s .rest)
-                → Walking out′ (at + r .octets) (to + r .frame .len) (count + 1)
-            go (whole f j) q t = taken f j (r .octets) (r .frame .len) q (t .octets) (t .frame .len) (t .lent) (s .lent)
-            go (refuse v k) q t = let d = t .end in let z : _≡_ {A = ℕ} 0 1 = cc in absurd (omega arith)
+            go : (m : Read Found) → readOne (drop at octets) law set (length out₀ - to) ≡ m → ReadsInto m r (drop to out) (s .rest)
+                → Walking out′ (at + r .octets) (to + r .len) (count + 1)
+            go (whole f j) q t = taken f j (r .octets) (r .len) q (t .tells .octets) (t .tells .len) (t .lent) (s .lent)
+            go (refuse v k) q t = let d = t .tells .end in let z : _≡_ {A = ℕ} 0 1 = cc in absurd (omega arith)
 
         pub walk-forward : r .end ≡ Done → 1 ≤ r .octets
         walk-forward e = go (readOne (drop at octets) law set (length out₀ - to)) refl read-here
           where
-            go : (m : Read Found) → readOne (drop at octets) law set (length out₀ - to) ≡ m → Reads m r (drop to out) (s .rest) → 1 ≤ r .octets
-            go (whole f j) q t = omega (arith, t .octets, read-uses (drop at octets) law set (length out₀ - to) q .0)
-            go (refuse v k) q t = let d = t .end in let z : _≡_ {A = ℕ} 0 1 = cc in absurd (omega arith)
+            go : (m : Read Found) → readOne (drop at octets) law set (length out₀ - to) ≡ m → ReadsInto m r (drop to out) (s .rest) → 1 ≤ r .octets
+            go (whole f j) q t = omega (arith, t .tells .octets, read-uses (drop at octets) law set (length out₀ - to) q .0)
+            go (refuse v k) q t = let d = t .tells .end in let z : _≡_ {A = ℕ} 0 1 = cc in absurd (omega arith)
 
         pub walk-refused : (why : Refusal) → r .end ≡ Refused why
             → Walks walked (record { end = Refused why; frames = count; octets = at; samples = to; place = at }) out₀ out′
         walk-refused why e = go (readOne (drop at octets) law set (length out₀ - to)) refl read-here
           where
-            go : (m : Read Found) → readOne (drop at octets) law set (length out₀ - to) ≡ m → Reads m r (drop to out) (s .rest)
+            go : (m : Read Found) → readOne (drop at octets) law set (length out₀ - to) ≡ m → ReadsInto m r (drop to out) (s .rest)
                 → Walks walked (record { end = Refused why; frames = count; octets = at; samples = to; place = at }) out₀ out′
-            go (whole f j) q t = let d = t .end in let z : _≡_ {A = ℕ} 0 1 = cc in absurd (omega arith)
+            go (whole f j) q t = let d = t .tells .end in let z : _≡_ {A = ℕ} 0 1 = cc in absurd (omega arith)
             go (refuse v k) q t =
-                let d = t .end in
+                let d = t .tells .end in
                 let same : v ≡ why = cc in
                 refused-by why k (q ∙ ap (λ (x : Refusal). refuse x k) same) (t .lent) (s .lent)

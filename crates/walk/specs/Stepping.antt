@@ -5,15 +5,15 @@ use mathlib.Core.List.{List, _++_}
 use lib.ListN.{length, take, drop}
 use Rattle.rules.specs.declared.Refusal.{Refusal}
 use Rattle.rules.specs.declared.Ending.the-variants.{Refused}
-use Rattle.rules.specs.declared.ReadAnswer.{ReadAnswer}
 use Rattle.rules.specs.declared.WalkAnswer.{WalkAnswer}
 use Rattle.rules.specs.Frame.{readOne}
-use Rattle.rules.specs.Calls.{Reads}
+use Rattle.reader.specs.declared.Report.{Report}
+use Rattle.reader.specs.Answers.{ReadsInto}
 
 -- the frame from `at` on is read, into the output from `to` on; what stands before that stays
-pub record Steps (octets : List ℕ) (law set at to : ℕ) (out out′ : List ℕ) (r : ReadAnswer) : Type 0 where
+pub record Steps (octets : List ℕ) (law set at to : ℕ) (out out′ : List ℕ) (r : Report) : Type 0 where
   pub rest : List ℕ
-  pub reads : Reads (readOne (drop at octets) law set (length out - to)) r (drop to out) rest
+  pub reads : ReadsInto (readOne (drop at octets) law set (length out - to)) r (drop to out) rest
   pub lent : out′ ≡ take to out ++ rest
 
 pub record StopsAtOnce (why : Refusal) (r : WalkAnswer) : Type 0 where

@@ -4,17 +4,17 @@ ghost use lib.ListN.{length};
 ghost use Rattle.rules.specs.Calls.{Walk, Walks};
 ghost use Rattle.rules.specs.Walk.{walkFrom};
 ghost use Rattle.walk.specs.Stepping.{Steps, StopsAtOnce};
+use reader::Report;
 use rules::Ending;
-use rules::ReadAnswer;
 use rules::Refusal;
 use rules::WalkAnswer;
 
 // One frame, at a place of the stream; its samples go to the output from `to` on.
-pub fn step(octets: &[u8], law: u32, set: u32, at: usize, out: &mut [u8], to: usize) -> ReadAnswer
+pub fn step(octets: &[u8], law: u32, set: u32, at: usize, out: &mut [u8], to: usize) -> Report
     requires { ⌜ (at ≤ length (now octets)) × (to ≤ length (now out)) ⌝ }
     ensures { λ r. ⌜ Steps (now (octets .entry)) law set at to (now (out .entry)) (now (out .exit)) r ⌝ }
 {
-    reader::read_frame(&octets[at..], law, set, &mut out[to..])
+    reader::read_into(&octets[at..], law, set, &mut out[to..])
 }
 
 // Frame after frame, up to the end of the stream or to the frame that is refused.
@@ -35,7 +35,7 @@ fn frames(octets: &[u8], law: u32, set: u32, out: &mut [u8]) -> WalkAnswer
             Ending::Refused(why) => break 'frames Ending::Refused(why),
             Ending::Done => {
                 at += r.octets;
-                to += r.frame.len;
+                to += r.len;
                 count += 1;
             }
         }

@@ -1,4 +1,4 @@
--- A number that is cut is SHORT (Cut); else it stands in the window of two octets (Window).
+-- A number that is cut is SHORT (Cut); else it stands in the window of five octets (Window).
 use borrow.Author.Needs.{needs}
 use native.Mathlib.Omega.{arith}
 use mathlib.Core.Path.{sym}
@@ -27,20 +27,8 @@ returns-2 : tie.Need-returns-2
 returns-2 c =
     record { says = rw (c .missing .ensures) (sym (number-cut _ 0 _ _ (omega arith) (omega arith))); value = omega arith; next = omega arith }
 
-octet-at-requires : tie.Need-octet-at-requires
-octet-at-requires c κs = search needs
-
-mul-window : tie.Need-mul-window
-mul-window c = search needs
-
-add-octet-at : tie.Need-add-octet-at
-add-octet-at c = search needs
-
-octet-at-requires-2 : tie.Need-octet-at-requires-2
-octet-at-requires-2 c κs = search needs
-
-add-window : tie.Need-add-window
-add-window c = search needs
+window-at-requires : tie.Need-window-at-requires
+window-at-requires c κs = search needs
 
 add-past : tie.Need-add-past
 add-past c = search needs
@@ -48,25 +36,23 @@ add-past c = search needs
 sub-past : tie.Need-sub-past
 sub-past c = search needs
 
-shr-t11 : tie.Need-shr-t11
-shr-t11 c = search needs
+shr-t10 : tie.Need-shr-t10
+shr-t10 c = search needs
 
-shl-t14 : tie.Need-shl-t14
-shl-t14 c = search needs
+shl-t8 : tie.Need-shl-t8
+shl-t8 c = search needs
 
-rem-t10 : tie.Need-rem-t10
-rem-t10 c =
-    let n = c .before .before .before .before .before .args .n in
+rem-t9 : tie.Need-rem-t9
+rem-t9 c =
+    let n = c .before .before .before .before .args .n in
     rw (power-whole n (omega arith)) (pow-pos n)
 
 returns-3 : tie.Need-returns-3
 returns-3 c =
-    let first = c .before .octet-at in
-    let n = c .before .before .before .before .before .args .n in
-    let second = c .octet-at2 in
+    let n = c .before .before .before .before .args .n in
     let w = power-whole n (omega arith) in
     record {
-      says = rw w (sym (number-window _ _ n _ _ (first .ensures .0) (second .ensures .0) (second .ensures .1) (omega arith) (omega arith) (omega arith)));
+      says = rw w (sym (number-window _ _ n _ (c .window-at .ensures) (omega arith) (omega arith)));
       value = rw w (low-small _ n);
       next = omega arith;
     }
@@ -80,14 +66,10 @@ number-spec =
     add-if2
     missing-requires
     returns-2
-    octet-at-requires
-    mul-window
-    add-octet-at
-    octet-at-requires-2
-    add-window
+    window-at-requires
     add-past
     sub-past
-    shr-t11
-    shl-t14
-    rem-t10
+    shr-t10
+    shl-t8
+    rem-t9
     returns-3)

@@ -1,43 +1,45 @@
--- N flags, then their zeros.
+-- N flags, each marked by its zero (TwoZeros).
 use borrow.Author.Needs.{needs}
-use mathlib.Core.Path.{refl}
-use Rattle.runs.proofs.Answer.{flags-told, flags-told-refused}
-use Rattle.bodies.proofs.Filling.{body-refused, body-got}
+use native.Mathlib.Omega.{arith}
+use Rattle.rules.specs.Zeros.{zeroOf}
+use Rattle.runs.proofs.Answer.{marks-told, marks-told-refused}
+use Rattle.bodies.proofs.Poured.{fills-refused}
+use Rattle.bodies.proofs.TwoZeros.{zeros-filled}
 use Rattle.bodies.proofs.binary.Statement.{statement}
 use Rattle.bodies.proofs.binary.Tie as tie
+
+zero-of-requires : tie.Need-zero-of-requires
+zero-of-requires c κs = search needs
+
+zero-of-requires-2 : tie.Need-zero-of-requires-2
+zero-of-requires-2 c κs = search needs
 
 straight-requires : tie.Need-straight-requires
 straight-requires c κs = search needs
 
-enum-known-end : tie.Need-enum-known-end
-enum-known-end c = search needs
+enum-known-why : tie.Need-enum-known-why
+enum-known-why c = search needs
 
-nothing-requires : tie.Need-nothing-requires
-nothing-requires c κs = search needs
-
-enum-known-end-2 : tie.Need-enum-known-end-2
-enum-known-end-2 c = search needs
-
-zeros-of-requires : tie.Need-zeros-of-requires
-zeros-of-requires c κs = search needs
+enum-known-next : tie.Need-enum-known-next
+enum-known-next c = search needs
 
 returns : tie.Need-returns
-returns c =
-    body-refused (c .nothing .ensures) (rw (flags-told-refused (c .before .before .before .before .straight .ensures) refl (c .before .before .end .given .1)))
+returns c = fills-refused (rw (marks-told-refused (c .before .before .before .straight .ensures) (c .before .why .given .1))) (c .before .before .before .straight .ensures .room)
 
 returns-2 : tie.Need-returns-2
 returns-2 c =
-    let f = flags-told (c .before .before .before .before .before .before .straight .ensures) refl (c .before .before .before .before .end2 .given .1) in
-    body-got (c .zeros-of .ensures) (rw (f .says)) (f .next)
+    let s = c .before .before .before .before .before .before .before .before in
+    let m = marks-told (c .before .before .before .straight .ensures) (c .before .next .given .1) in
+    zeros-filled (zeroOf (s .args .mask) 0) m (c .before .before .before .before .before .before .zero-of .ensures) (c .before .before .before .before .before .zero-of2 .ensures) (λ flags e. rw e) (omega arith) (omega arith)
 
 pub binary-spec : {M : Type 1} → statement M
 binary-spec =
     tie.close
     (tie.spec
+    zero-of-requires
+    zero-of-requires-2
     straight-requires
-    enum-known-end
-    nothing-requires
-    enum-known-end-2
-    zeros-of-requires
+    enum-known-why
+    enum-known-next
     returns
     returns-2)

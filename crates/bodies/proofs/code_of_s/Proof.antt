@@ -4,7 +4,7 @@ use native.Mathlib.Omega.{arith}
 use Rattle.rules.specs.Zeros.{treeOf}
 use Rattle.bodies.specs.Trees.{pastTwo}
 use Rattle.bits.proofs.Told.{told, refused}
-use Rattle.bodies.proofs.Forks.{leaf-read, fork-refused, fork-one, fork-zero}
+use Rattle.bodies.proofs.Forks.{fork-refused, fork-one, fork-zero}
 use Rattle.bodies.proofs.code_of_s.Statement.{statement}
 use Rattle.bodies.proofs.code_of_s.Tie as tie
 

@@ -2,7 +2,7 @@
 use borrow.Author.Needs.{needs}
 use native.Mathlib.Omega.{arith}
 use Rattle.bits.proofs.Told.{told, refused}
-use Rattle.bodies.proofs.Filling.{body-refused, body-got}
+use Rattle.bodies.proofs.Poured.{fills-refused, fills-as}
 use Rattle.bodies.proofs.constant.Statement.{statement}
 use Rattle.bodies.proofs.constant.Tie as tie
 
@@ -11,9 +11,6 @@ number-requires c κs = search needs
 
 enum-known-why : tie.Need-enum-known-why
 enum-known-why c = search needs
-
-nothing-requires : tie.Need-nothing-requires
-nothing-requires c κs = search needs
 
 enum-known-sample : tie.Need-enum-known-sample
 enum-known-sample c = search needs
@@ -27,12 +24,12 @@ filled-requires : tie.Need-filled-requires
 filled-requires c κs = search needs
 
 returns : tie.Need-returns
-returns c = body-refused (c .nothing .ensures) (rw (refused (c .before .before .before .before .number .ensures) (c .before .before .why .given .1)))
+returns c = fills-refused (rw (refused (c .before .before .before .number .ensures) (c .before .why .given .1))) (c .before .before .before .before .before .pre .2)
 
 returns-2 : tie.Need-returns-2
 returns-2 c =
-    let v = told (c .before .before .before .before .number .ensures) (c .before .before .sample .given .1) in
-    body-got (c .filled .ensures) (rw (v .says)) (v .next)
+    let v = told (c .before .before .before .before .before .number .ensures) (c .before .before .before .sample .given .1) in
+    fills-as (c .filled .ensures) (rw (v .says)) (v .next)
 
 pub constant-spec : {M : Type 1} → statement M
 constant-spec =
@@ -40,7 +37,6 @@ constant-spec =
     (tie.spec
     number-requires
     enum-known-why
-    nothing-requires
     enum-known-sample
     cast-filled
     filled-requires

@@ -1,36 +1,19 @@
--- One sample N times (Filling).
+-- One sample N times.
 use borrow.Author.Needs.{needs}
-use Prim.Native.Nat.{_-_}
-use native.Mathlib.Omega.{arith}
-use Rattle.bodies.proofs.Filling.{Same, same-none, same-turn, same-all}
+use mathlib.Core.Path.{refl}
+use native.Mathlib.Nat.{le-refl}
+use lib.ListN.{length-replicate}
+use Rattle.bodies.proofs.Poured.{fills-put}
 use Rattle.bodies.proofs.filled.Statement.{statement}
 use Rattle.bodies.proofs.filled.Tie as tie
 
-abbrev Inv-loop : tie.InvT-loop
-Inv-loop at n sample samples₀ i₀ samples i = Same n sample i samples
+fill-requires : tie.Need-fill-requires
+fill-requires c κs = search needs
 
-abbrev μ-loop : tie.MeasureT-loop
-μ-loop at n sample samples₀ i₀ samples i = n - i
-
-loop-holds : tie.Need-loop-holds Inv-loop μ-loop
-loop-holds c = same-none (omega arith)
-
-array-write-samples : tie.Need-array-write-samples Inv-loop μ-loop
-array-write-samples c = search needs
-
-add-i : tie.Need-add-i Inv-loop μ-loop
-add-i c = search needs
-
-loop-less : tie.Need-loop-less Inv-loop μ-loop
-loop-less c = search needs
-
-loop-again : tie.Need-loop-again Inv-loop μ-loop
-loop-again c = same-turn (c .before .loop .inv) (omega arith)
-
-returns : tie.Need-returns Inv-loop μ-loop
-returns c = same-all (c .before .loop .inv) (omega arith)
+returns : tie.Need-returns
+returns c =
+    let a = c .before .before .args in
+    fills-put (c .fill .ensures) refl (length-replicate (a .n) (a .sample)) (c .before .before .pre .0) (le-refl (a .at))
 
 pub filled-spec : {M : Type 1} → statement M
-filled-spec =
-    tie.close
-    (tie.spec Inv-loop μ-loop loop-holds array-write-samples add-i loop-less loop-again returns)
+filled-spec = tie.close (tie.spec fill-requires returns)

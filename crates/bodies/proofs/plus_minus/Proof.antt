@@ -1,12 +1,19 @@
--- The code of S, N flags as runs, then their zeros.
+-- The code of S, then N flags as runs, each marked by its zero (TwoZeros).
 use borrow.Author.Needs.{needs}
-use mathlib.Core.Path.{refl}
 use native.Mathlib.Omega.{arith}
+use Rattle.rules.specs.Zeros.{zeroOf}
 use Rattle.bits.proofs.Told.{told, refused}
-use Rattle.runs.proofs.Answer.{flags-told, flags-told-refused}
-use Rattle.bodies.proofs.Filling.{body-refused, body-got}
+use Rattle.runs.proofs.Answer.{marks-told, marks-told-refused}
+use Rattle.bodies.proofs.Poured.{fills-refused}
+use Rattle.bodies.proofs.TwoZeros.{zeros-filled}
 use Rattle.bodies.proofs.plus_minus.Statement.{statement}
 use Rattle.bodies.proofs.plus_minus.Tie as tie
+
+zero-of-requires : tie.Need-zero-of-requires
+zero-of-requires c κs = search needs
+
+zero-of-requires-2 : tie.Need-zero-of-requires-2
+zero-of-requires-2 c κs = search needs
 
 code-of-s-requires : tie.Need-code-of-s-requires
 code-of-s-requires c κs = search needs
@@ -14,56 +21,47 @@ code-of-s-requires c κs = search needs
 enum-known-why : tie.Need-enum-known-why
 enum-known-why c = search needs
 
-nothing-requires : tie.Need-nothing-requires
-nothing-requires c κs = search needs
-
 enum-known-s : tie.Need-enum-known-s
 enum-known-s c = search needs
 
 runs-requires : tie.Need-runs-requires
 runs-requires c κs =
-    let s = told (c .before .before .before .code-of-s .ensures) (c .before .s .given .1) in
+    let s = told (c .before .before .before .before .code-of-s .ensures) (c .before .before .s .given .1) in
     omega arith
 
-enum-known-end : tie.Need-enum-known-end
-enum-known-end c = search needs
+enum-known-why-2 : tie.Need-enum-known-why-2
+enum-known-why-2 c = search needs
 
-nothing-requires-2 : tie.Need-nothing-requires-2
-nothing-requires-2 c κs = search needs
-
-enum-known-end-2 : tie.Need-enum-known-end-2
-enum-known-end-2 c = search needs
-
-zeros-of-requires : tie.Need-zeros-of-requires
-zeros-of-requires c κs = search needs
+enum-known-next : tie.Need-enum-known-next
+enum-known-next c = search needs
 
 returns : tie.Need-returns
-returns c = body-refused (c .nothing .ensures) (rw (refused (c .before .before .before .before .code-of-s .ensures) (c .before .before .why .given .1)))
+returns c = fills-refused (rw (refused (c .before .before .before .code-of-s .ensures) (c .before .why .given .1))) (c .before .before .before .before .before .before .before .pre .3)
 
 returns-2 : tie.Need-returns-2
 returns-2 c =
     let s = told (c .before .before .before .before .before .before .before .before .code-of-s .ensures) (c .before .before .before .before .before .before .s .given .1) in
-    body-refused (c .nothing2 .ensures) (rw (s .says, flags-told-refused (c .before .before .before .before .runs .ensures) refl (c .before .before .end .given .1)))
+    fills-refused (rw (s .says, marks-told-refused (c .before .before .before .runs .ensures) (c .before .why2 .given .1))) (c .before .before .before .runs .ensures .room)
 
 returns-3 : tie.Need-returns-3
 returns-3 c =
-    let s = told (c .before .before .before .before .before .before .before .before .before .before .code-of-s .ensures) (c .before .before .before .before .before .before .before .before .s .given .1) in
-    let f = flags-told (c .before .before .before .before .before .before .runs .ensures) refl (c .before .before .before .before .end2 .given .1) in
-    body-got (c .zeros-of .ensures) (rw (s .says, f .says)) (omega arith)
+    let a = c .before .before .before .before .before .before .before .before .before .before .before .before .args in
+    let s = told (c .before .before .before .before .before .before .before .before .code-of-s .ensures) (c .before .before .before .before .before .before .s .given .1) in
+    let m = marks-told (c .before .before .before .runs .ensures) (c .before .next .given .1) in
+    zeros-filled (zeroOf (a .mask) (a .mark)) m (c .before .before .before .before .before .before .before .before .before .before .zero-of .ensures) (c .before .before .before .before .before .before .before .before .before .zero-of2 .ensures) (λ flags e. rw (s .says, e)) (omega arith) (omega arith)
 
 pub plus-minus-spec : {M : Type 1} → statement M
 plus-minus-spec =
     tie.close
     (tie.spec
+    zero-of-requires
+    zero-of-requires-2
     code-of-s-requires
     enum-known-why
-    nothing-requires
     enum-known-s
     runs-requires
-    enum-known-end
-    nothing-requires-2
-    enum-known-end-2
-    zeros-of-requires
+    enum-known-why-2
+    enum-known-next
     returns
     returns-2
     returns-3)

@@ -1,20 +1,21 @@
--- Octets that are there are copied one by one (Filling); else SHORT (WholeOctets).
+-- Octets that are there are copied one by one (Poured); else SHORT (WholeOctets).
 use borrow.Author.Needs.{needs}
-use Prim.Native.Nat.{ℕ, _-_, _<_}
-use mathlib.Core.Path.{_∙_, ap}
-use native.Mathlib.Omega.{arith}
+use Prim.Native.Nat.{ℕ, _-_, _/_, _<_}
+use mathlib.Core.Path.{sym, _∙_}
 use mathlib.Core.List.{[]}
+use native.Mathlib.Omega.{arith}
 use lib.ListN.{getD, take, drop}
-use Rattle.bodies.proofs.Filling.{Part, part-none, part-turn, part-all, body-refused}
+use lib.Seq.{getD-take, getD-drop}
+use Rattle.bodies.proofs.Poured.{Poured, poured-none, poured-next, poured-all, fills-refused, part-length}
 use Rattle.bodies.proofs.WholeOctets.{octets-there, octets-cut}
 use Rattle.bodies.proofs.uncompressed.Statement.{statement}
 use Rattle.bodies.proofs.uncompressed.Tie as tie
 
 abbrev Inv-loop : tie.InvT-loop
-Inv-loop octets at n from samples₀ i₀ samples i = Part octets from n i samples
+Inv-loop octets at n samples₀ from i₀ samples i = Poured (take n (drop from octets)) samples₀ i samples
 
 abbrev μ-loop : tie.MeasureT-loop
-μ-loop octets at n from samples₀ i₀ samples i = n - i
+μ-loop octets at n samples₀ from i₀ samples i = n - i
 
 -- octets are octets
 sizes : (s : tie.After-shared-slice-known Inv-loop μ-loop) → (i : ℕ) → getD (s .before .args .octets .now) i 0 < 256
@@ -26,18 +27,17 @@ add-if1 c = search needs
 missing-requires : tie.Need-missing-requires Inv-loop μ-loop
 missing-requires c κs = search needs
 
-nothing-requires : tie.Need-nothing-requires Inv-loop μ-loop
-nothing-requires c κs = search needs
-
 returns : tie.Need-returns Inv-loop μ-loop
 returns c =
-    let k = c .before .before .before in
-    let a = k .before in
-    let m = c .before .missing .ensures in
-    body-refused (c .nothing .ensures) (rw m (octets-cut (a .args .octets .now) (sizes k) (a .args .n) [] (a .args .at) (omega arith) (omega arith) (omega arith)))
+    let a = c .before .before .before in
+    let m = c .missing .ensures in
+    fills-refused (rw m (octets-cut (a .args .octets .now) (sizes (c .before .before)) (a .args .n) [] (a .args .at) (omega arith) (omega arith) (omega arith))) (a .pre .4)
 
 loop-holds : tie.Need-loop-holds Inv-loop μ-loop
-loop-holds c = part-none (omega arith) (omega arith)
+loop-holds c =
+    let a = c .before .before in
+    let l = part-length (a .args .octets .now) (a .args .at / 8) (a .args .n) (omega arith) in
+    poured-none _ (a .args .samples .now) (rw l (omega arith)) (a .pre .4)
 
 add-samples : tie.Need-add-samples Inv-loop μ-loop
 add-samples c = search needs
@@ -45,8 +45,8 @@ add-samples c = search needs
 shared-slice-read-samples : tie.Need-shared-slice-read-samples Inv-loop μ-loop
 shared-slice-read-samples c = search needs
 
-array-write-samples : tie.Need-array-write-samples Inv-loop μ-loop
-array-write-samples c = search needs
+element-write-samples : tie.Need-element-write-samples Inv-loop μ-loop
+element-write-samples c = search needs
 
 add-i : tie.Need-add-i Inv-loop μ-loop
 add-i c = search needs
@@ -55,7 +55,11 @@ loop-less : tie.Need-loop-less Inv-loop μ-loop
 loop-less c = search needs
 
 loop-again : tie.Need-loop-again Inv-loop μ-loop
-loop-again c = part-turn (c .before .before .loop .inv) (omega arith)
+loop-again c =
+    let a = c .before .before .before .before .before in
+    let i = c .before .before .loop .i in
+    let l = part-length (a .args .octets .now) (a .args .at / 8) (a .args .n) (omega arith) in
+    poured-next (c .before .before .loop .inv) (rw l (omega arith)) (sym (getD-take (a .args .n) (drop (a .args .at / 8) (a .args .octets .now)) i 0 (omega arith) ∙ getD-drop (a .args .at / 8) (a .args .octets .now) i 0))
 
 mul-t7 : tie.Need-mul-t7 Inv-loop μ-loop
 mul-t7 c = search needs
@@ -67,7 +71,8 @@ returns-2 : tie.Need-returns-2 Inv-loop μ-loop
 returns-2 c =
     let k = c .before .before .before in
     let a = k .before in
-    part-all (c .before .loop .inv) (omega arith) (octets-there (a .args .octets .now) (sizes k) (a .args .n) [] (a .args .at) (omega arith) (omega arith)) (omega arith)
+    let l = part-length (a .args .octets .now) (a .args .at / 8) (a .args .n) (omega arith) in
+    poured-all (c .before .loop .inv) (rw l (omega arith)) (octets-there (a .args .octets .now) (sizes k) (a .args .n) [] (a .args .at) (omega arith) (omega arith)) (sym l) (omega arith)
 
 pub uncompressed-spec : {M : Type 1} → statement M
 uncompressed-spec =
@@ -77,12 +82,11 @@ uncompressed-spec =
     μ-loop
     add-if1
     missing-requires
-    nothing-requires
     returns
     loop-holds
     add-samples
     shared-slice-read-samples
-    array-write-samples
+    element-write-samples
     add-i
     loop-less
     loop-again

@@ -1,6 +1,7 @@
 use borrow.Author.Needs.{needs}
-use mathlib.Core.Path.{ap, _∙_}
+use mathlib.Core.Path.{refl, ap, _∙_}
 use Rattle.rules.specs.Refusals.{numberOf}
+use Rattle.g7110.proofs.Report.{then}
 use Rattle.g7110.proofs.g7110_read.Statement.{statement}
 use Rattle.g7110.proofs.g7110_read.Tie as tie
 
@@ -21,7 +22,7 @@ returns c =
     let t = c .before .before .before .before .before .read-frame .ensures in
     record {
       number = c .number-of .ensures ∙ ap numberOf (t .end);
-      report = rw (t .frame .len, t .octets, t .bits, t .tool);
+      report = then (t .frame .len) (then (t .octets) (then (t .bits) (then (t .tool) refl)));
       lent = t .lent;
     }
 

@@ -1,6 +1,7 @@
 use borrow.Author.Needs.{needs}
-use mathlib.Core.Path.{ap, _∙_}
+use mathlib.Core.Path.{refl, ap, _∙_}
 use Rattle.rules.specs.Refusals.{numberOf, toolNamed}
+use Rattle.g7110.proofs.Report.{then}
 use Rattle.g7110.proofs.g7110_walk.Statement.{statement}
 use Rattle.g7110.proofs.g7110_walk.Tie as tie
 
@@ -24,7 +25,7 @@ returns c =
     let t = c .before .before .before .before .before .walk .ensures in
     record {
       number = c .number-of .ensures ∙ ap numberOf (t .end);
-      report = rw (t .frames, t .octets, t .samples, c .before .before .tool-of .ensures ∙ ap toolNamed (t .end));
+      report = then (t .frames) (then (t .octets) (then (t .samples) (then (c .before .before .tool-of .ensures ∙ ap toolNamed (t .end)) refl)));
       lent = t .lent;
     }
 

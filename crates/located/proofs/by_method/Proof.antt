@@ -1,7 +1,8 @@
 -- Method by method (Methods).
 use borrow.Author.Needs.{needs}
-use Rattle.located.proofs.Methods.{flags-as, method-straight, method-runs, method-none, method-unknown, method-listed}
 use native.Mathlib.Omega.{arith}
+use Rattle.runs.proofs.Answer.{marks-refused}
+use Rattle.located.proofs.Methods.{marks-as, method-straight, method-runs, method-none, method-unknown, method-listed}
 use Rattle.located.proofs.by_method.Statement.{statement}
 use Rattle.located.proofs.by_method.Tie as tie
 
@@ -9,25 +10,28 @@ straight-requires : tie.Need-straight-requires
 straight-requires c κs = search needs
 
 returns : tie.Need-returns
-returns c = flags-as (c .straight .ensures) (method-straight _ _ _ _ _ _ (omega arith)) (omega arith)
+returns c = marks-as (c .straight .ensures) (method-straight _ _ _ _ _ _ (omega arith)) (omega arith)
 
 runs-requires : tie.Need-runs-requires
 runs-requires c κs = search needs
 
 returns-2 : tie.Need-returns-2
-returns-2 c = flags-as (c .runs .ensures) (method-runs _ _ _ _ _ _ (omega arith) (omega arith)) (omega arith)
+returns-2 c = marks-as (c .runs .ensures) (method-runs _ _ _ _ _ _ (omega arith) (omega arith)) (omega arith)
+
+fill-requires : tie.Need-fill-requires
+fill-requires c κs = search needs
 
 returns-3 : tie.Need-returns-3
-returns-3 c = method-none _ _ _ _ _ _ (omega arith) (omega arith)
+returns-3 c = method-none _ _ _ _ _ _ (omega arith) (omega arith) _ (omega arith) (c .fill .ensures)
 
 returns-4 : tie.Need-returns-4
-returns-4 c = method-unknown _ _ _ _ _ _ (omega arith)
+returns-4 c = marks-refused (omega arith) (method-unknown _ _ _ _ _ _ (omega arith))
 
 listed-requires : tie.Need-listed-requires
 listed-requires c κs = search needs
 
 returns-5 : tie.Need-returns-5
-returns-5 c = flags-as (c .listed .ensures) (method-listed _ _ _ _ _ _ (omega arith)) (omega arith)
+returns-5 c = marks-as (c .listed .ensures) (method-listed _ _ _ _ _ _ (omega arith)) (omega arith)
 
 pub by-method-spec : {M : Type 1} → statement M
 by-method-spec =
@@ -37,6 +41,7 @@ by-method-spec =
     returns
     runs-requires
     returns-2
+    fill-requires
     returns-3
     returns-4
     listed-requires

@@ -1,16 +1,13 @@
--- The two tests of the definition.
+-- The test of the definition.
 use borrow.Author.Tests.{eq-eqb, ne-eqb}
 use Rattle.located.proofs.cell.Statement.{statement}
 use Rattle.located.proofs.cell.Tie as tie
 
 returns : tie.Need-returns
-returns c = rw (eq-eqb _ _ (c .before .if1 .taken), eq-eqb _ _ (c .if2 .taken))
+returns c = rw (eq-eqb _ _ (c .if1 .taken))
 
 returns-2 : tie.Need-returns-2
-returns-2 c = rw (eq-eqb _ _ (c .before .if1 .taken), ne-eqb _ _ (c .if2 .left))
-
-returns-3 : tie.Need-returns-3
-returns-3 c = rw (ne-eqb _ _ (c .if1 .left))
+returns-2 c = rw (ne-eqb _ _ (c .if1 .left))
 
 pub cell-spec : {M : Type 1} → statement M
-cell-spec = tie.close (tie.spec returns returns-2 returns-3)
+cell-spec = tie.close (tie.spec returns returns-2)

@@ -1,19 +1,19 @@
--- Each turn lays one cell (Laying).
+-- Each turn puts one cell (Laying).
 use borrow.Author.Needs.{needs}
-use Rattle.located.proofs.Laying.{Laying, laying-none, laying-turn, laying-all}
-use native.Mathlib.Omega.{arith}
 use Prim.Native.Nat.{_-_}
+use native.Mathlib.Omega.{arith}
+use Rattle.located.proofs.Laying.{Laying, laying-none, laying-turn, laying-all}
 use Rattle.located.proofs.lay.Statement.{statement}
 use Rattle.located.proofs.lay.Tie as tie
 
 abbrev Inv-loop : tie.InvT-loop
-Inv-loop cells₀ n flags plus x p₀ i₀ cells p i = Laying plus x flags cells₀ n i p cells
+Inv-loop cells₀ n marks plus p₀ i₀ cells p i = Laying plus marks cells₀ n i p cells
 
 abbrev μ-loop : tie.MeasureT-loop
-μ-loop cells₀ n flags plus x p₀ i₀ cells p i = n - i
+μ-loop cells₀ n marks plus p₀ i₀ cells p i = n - i
 
 loop-holds : tie.Need-loop-holds Inv-loop μ-loop
-loop-holds c = laying-none _ _ _ _ _ (omega arith) (omega arith)
+loop-holds c = laying-none _ _ _ _ (omega arith) (omega arith)
 
 element-copy-out-old : tie.Need-element-copy-out-old Inv-loop μ-loop
 element-copy-out-old c = search needs

@@ -1,11 +1,10 @@
 -- The count, then its places.
 use borrow.Author.Needs.{needs}
-use Rattle.located.proofs.Methods.{flags-as}
-use Rattle.runs.proofs.Padded.{padded-none, padded-length}
-use Rattle.runs.proofs.Answer.{flags-refused}
+use native.Mathlib.Omega.{arith}
 use Rattle.rules.specs.Located.{listed}
 use Rattle.bits.proofs.Told.{told, refused}
-use native.Mathlib.Omega.{arith}
+use Rattle.runs.proofs.Answer.{marks-refused}
+use Rattle.located.proofs.Methods.{marks-as}
 use Rattle.located.proofs.listed.Statement.{statement}
 use Rattle.located.proofs.listed.Tie as tie
 
@@ -28,18 +27,18 @@ add-places c =
 
 places-requires : tie.Need-places-requires
 places-requires c κs =
-    let l = told (c .before .before .before .before .number .ensures) (c .before .before .less .given .1) in
+    let l = told (c .before .before .before .before .before .number .ensures) (c .before .before .before .less .given .1) in
     omega arith
 
 returns : tie.Need-returns
 unfolding listed
-returns c = flags-refused (padded-length padded-none) (rw (refused (c .before .before .before .number .ensures) (c .before .why .given .1)))
+returns c = marks-refused (omega arith) (rw (refused (c .before .before .before .number .ensures) (c .before .why .given .1)))
 
 returns-2 : tie.Need-returns-2
 unfolding listed
 returns-2 c =
-    let l = told (c .before .before .before .before .before .number .ensures) (c .before .before .before .less .given .1) in
-    flags-as (c .places .ensures) (rw (l .says, c .before .width-of .ensures .0)) (omega arith)
+    let l = told (c .before .before .before .before .before .before .number .ensures) (c .before .before .before .before .less .given .1) in
+    marks-as (c .places .ensures) (rw (l .says, c .before .before .width-of .ensures .0)) (omega arith)
 
 pub listed-spec : {M : Type 1} → statement M
 listed-spec =

@@ -1,21 +1,28 @@
 -- Each turn reads one place (Listing); the measure is the places left.
 use borrow.Author.Needs.{needs}
-use Rattle.located.proofs.Listing.{Listing, listing-none, listing-all, listing-refused, listing-falls, listing-past, listing-turn}
-use Rattle.bits.proofs.Told.{told, refused}
-use Rattle.rules.specs.Bits.{bitsOf}
-use native.Mathlib.Omega.{arith}
+use borrow.Author.Tests.{not-true, not-false}
 use Prim.Native.Nat.{_-_}
+use mathlib.Core.Path.{sym, _∙_}
+use native.Mathlib.Omega.{arith}
+use Rattle.rules.specs.Bits.{bitsOf}
+use Rattle.bits.proofs.Told.{told, refused}
+use Rattle.runs.proofs.Marking.{marks-filled}
+use Rattle.located.proofs.Listing.{Listing, listing-none, listing-refused, listing-falls, listing-below, listing-turn, listing-all}
 use Rattle.located.proofs.places.Statement.{statement}
 use Rattle.located.proofs.places.Tie as tie
 
 abbrev Inv-loop : tie.InvT-loop
-Inv-loop octets at d width count flags₀ least₀ place₀ read₀ flags least place read = Listing (bitsOf octets) at d width count flags least place read
+Inv-loop octets at d width count cells₀ common other least₀ place₀ read₀ cells least place read =
+    Listing (bitsOf octets) at d width count common other cells₀ cells least place read
 
 abbrev μ-loop : tie.MeasureT-loop
-μ-loop octets at d width count flags₀ least₀ place₀ read₀ flags least place read = count - read
+μ-loop octets at d width count cells₀ common other least₀ place₀ read₀ cells least place read = count - read
+
+fill-requires : tie.Need-fill-requires Inv-loop μ-loop
+fill-requires c κs = search needs
 
 loop-holds : tie.Need-loop-holds Inv-loop μ-loop
-loop-holds c = listing-none _ _ _ _ _
+loop-holds c = listing-none _ _ _ _ _ (c .fill .ensures) (omega arith) (omega arith)
 
 number-requires : tie.Need-number-requires Inv-loop μ-loop
 number-requires c κs = search needs
@@ -24,26 +31,27 @@ enum-known-why : tie.Need-enum-known-why Inv-loop μ-loop
 enum-known-why c = search needs
 
 returns : tie.Need-returns Inv-loop μ-loop
-returns c = listing-refused (c .before .before .before .before .before .loop .inv) (omega arith) (refused (c .before .before .before .number .ensures) (c .before .why .given .1))
+returns c =
+    marks-filled
+    (listing-refused (c .before .before .before .before .before .loop .inv) (omega arith) (refused (c .before .before .before .number .ensures) (c .before .why .given .1)))
+    (c .before .before .before .before .before .before .fill .ensures)
 
 enum-known-p : tie.Need-enum-known-p Inv-loop μ-loop
 enum-known-p c = search needs
 
+rises-requires : tie.Need-rises-requires Inv-loop μ-loop
+rises-requires c κs = search needs
+
 returns-2 : tie.Need-returns-2 Inv-loop μ-loop
 returns-2 c =
-    let p = told (c .before .before .before .before .number .ensures) (c .before .before .p .given .1) in
-    listing-falls (c .before .before .before .before .before .before .loop .inv) (omega arith) (p .says) (omega arith)
-
-returns-3 : tie.Need-returns-3 Inv-loop μ-loop
-returns-3 c =
     let p = told (c .before .before .before .before .before .number .ensures) (c .before .before .before .p .given .1) in
-    listing-past (c .before .before .before .before .before .before .before .loop .inv) (omega arith) (p .says) (omega arith) (omega arith)
+    marks-filled (listing-falls (c .before .before .before .before .before .before .before .loop .inv) (omega arith) (p .says) (sym (c .before .rises .ensures) ∙ not-true _ (c .if1 .taken))) (c .before .before .before .before .before .before .before .before .fill .ensures)
 
-array-write-flags : tie.Need-array-write-flags Inv-loop μ-loop
-array-write-flags c = search needs
+element-write-cells : tie.Need-element-write-cells Inv-loop μ-loop
+element-write-cells c = let b = listing-below (c .before .before .before .before .before .before .before .loop .inv) (sym (c .before .rises .ensures) ∙ not-false _ (c .if1 .left)) in omega (arith, b .0, b .1)
 
 add-least : tie.Need-add-least Inv-loop μ-loop
-add-least c = search needs
+add-least c = let b = listing-below (c .before .before .before .before .before .before .before .loop .inv) (sym (c .before .rises .ensures) ∙ not-false _ (c .if1 .left)) in omega (arith, b .0, b .1)
 
 add-read : tie.Need-add-read Inv-loop μ-loop
 add-read c = search needs
@@ -54,10 +62,10 @@ loop-less c = search needs
 loop-again : tie.Need-loop-again Inv-loop μ-loop
 loop-again c =
     let p = told (c .before .before .before .before .before .number .ensures) (c .before .before .before .p .given .1) in
-    listing-turn (c .before .before .before .before .before .before .before .loop .inv) (omega arith) (p .says) (omega arith) (omega arith) (omega arith) (p .next) (omega arith)
+    listing-turn (c .before .before .before .before .before .before .before .loop .inv) (omega arith) (p .says) (sym (c .before .rises .ensures) ∙ not-false _ (c .if1 .left)) (p .next) (omega arith)
 
-returns-4 : tie.Need-returns-4 Inv-loop μ-loop
-returns-4 c = listing-all (c .before .loop .inv) (omega arith) (omega arith) (omega arith)
+returns-3 : tie.Need-returns-3 Inv-loop μ-loop
+returns-3 c = marks-filled (listing-all (c .before .loop .inv) (omega arith) (omega arith)) (c .before .before .fill .ensures)
 
 pub places-spec : {M : Type 1} → statement M
 places-spec =
@@ -65,16 +73,17 @@ places-spec =
     (tie.spec
     Inv-loop
     μ-loop
+    fill-requires
     loop-holds
     number-requires
     enum-known-why
     returns
     enum-known-p
+    rises-requires
     returns-2
-    returns-3
-    array-write-flags
+    element-write-cells
     add-least
     add-read
     loop-less
     loop-again
-    returns-4)
+    returns-3)

@@ -1,11 +1,10 @@
--- The method, its flags, and what is left (OneValue).
+-- The method, its flags, and whether a place is left (Methods).
 use borrow.Author.Needs.{needs}
-use Rattle.located.proofs.OneValue.{Chosen, value-refused, method-refused, none-left, some-left}
-use Rattle.located.specs.Valued.{oneValue}
-use Rattle.runs.proofs.Answer.{flags-told, flags-told-refused}
-use mathlib.Core.Path.{refl}
-use Rattle.bits.proofs.Told.{told, refused}
 use native.Mathlib.Omega.{arith}
+use Rattle.bits.proofs.Told.{told, refused}
+use Rattle.runs.proofs.Answer.{marks-refused, marks-told, marks-told-refused}
+use Rattle.located.specs.Valued.{flagsOf}
+use Rattle.located.proofs.Methods.{method-refused, none-left, some-left}
 use Rattle.located.proofs.value.Statement.{statement}
 use Rattle.located.proofs.value.Tie as tie
 
@@ -20,47 +19,36 @@ enum-known-m c = search needs
 
 by-method-requires : tie.Need-by-method-requires
 by-method-requires c κs =
-    let m = told (c .before .before .before .number .ensures) (c .before .m .given .1) in
+    let m = told (c .before .before .before .before .number .ensures) (c .before .before .m .given .1) in
     omega arith
 
-enum-known-end : tie.Need-enum-known-end
-enum-known-end c = search needs
+enum-known-why-2 : tie.Need-enum-known-why-2
+enum-known-why-2 c = search needs
 
-enum-known-end-2 : tie.Need-enum-known-end-2
-enum-known-end-2 c = search needs
+enum-known-count : tie.Need-enum-known-count
+enum-known-count c = search needs
 
 returns : tie.Need-returns
 returns c =
-    let m = told (c .before .before .before .before .before .before .before .before .number .ensures) (c .before .before .before .before .before .before .m .given .1) in
-    let s = c .before .before .before .before .before .before .before .before .before .before .pre in
-    let v : Chosen _ _ _ _ _ _ _ _ _ = record { empty = s .3; method = m .says; apart = s .5; few = s .4; fits = s .1; room = s .2 } in
-    let f = flags-told (c .before .before .before .before .by-method .ensures) refl (c .before .before .end2 .given .1) in
-    value-refused (none-left v f (omega arith)) (s .2)
-
-lay-requires : tie.Need-lay-requires
-lay-requires c κs = search needs
-
-sub-t27 : tie.Need-sub-t27
-sub-t27 c = search needs
+    let m = told (c .before .before .before .before .before .before .before .before .before .number .ensures) (c .before .before .before .before .before .before .before .m .given .1) in
+    let f = marks-told (c .before .before .before .before .by-method .ensures) (c .before .before .count .given .1) in
+    marks-refused (f .room) (none-left _ _ _ _ (m .says) f (omega arith))
 
 returns-2 : tie.Need-returns-2
-unfolding oneValue
-returns-2 c = value-refused (rw (refused (c .before .before .before .number .ensures) (c .before .why .given .1))) (c .before .before .before .before .before .pre .2)
+unfolding flagsOf
+returns-2 c = marks-refused (omega arith) (rw (refused (c .before .before .before .number .ensures) (c .before .why .given .1)))
 
 returns-3 : tie.Need-returns-3
 returns-3 c =
-    let m = told (c .before .before .before .before .before .before .before .number .ensures) (c .before .before .before .before .before .m .given .1) in
-    let s = c .before .before .before .before .before .before .before .before .before .pre in
-    let v : Chosen _ _ _ _ _ _ _ _ _ = record { empty = s .3; method = m .says; apart = s .5; few = s .4; fits = s .1; room = s .2 } in
-    value-refused (method-refused v (flags-told-refused (c .before .before .before .by-method .ensures) refl (c .before .end .given .1))) (s .2)
+    let m = told (c .before .before .before .before .before .before .before .before .number .ensures) (c .before .before .before .before .before .before .m .given .1) in
+    let b = c .before .before .before .by-method .ensures in
+    marks-refused (b .room) (method-refused _ _ _ _ (m .says) (marks-told-refused b (c .before .why2 .given .1)))
 
 returns-4 : tie.Need-returns-4
 returns-4 c =
-    let m = told (c .before .before .before .before .before .before .before .before .before .before .before .before .number .ensures) (c .before .before .before .before .before .before .before .before .before .before .m .given .1) in
-    let s = c .before .before .before .before .before .before .before .before .before .before .before .before .before .before .pre in
-    let v : Chosen _ _ _ _ _ _ _ _ _ = record { empty = s .3; method = m .says; apart = s .5; few = s .4; fits = s .1; room = s .2 } in
-    let f = flags-told (c .before .before .before .before .before .before .before .before .by-method .ensures) refl (c .before .before .before .before .before .before .end2 .given .1) in
-    some-left v f (omega arith) (omega arith) (c .lay .ensures)
+    let m = told (c .before .before .before .before .before .before .before .before .before .number .ensures) (c .before .before .before .before .before .before .before .m .given .1) in
+    let f = marks-told (c .before .before .before .before .by-method .ensures) (c .before .before .count .given .1) in
+    some-left _ _ _ _ (m .says) f (omega arith) (omega arith) (omega arith) (omega arith)
 
 pub value-spec : {M : Type 1} → statement M
 value-spec =
@@ -70,11 +58,9 @@ value-spec =
     enum-known-why
     enum-known-m
     by-method-requires
-    enum-known-end
-    enum-known-end-2
+    enum-known-why-2
+    enum-known-count
     returns
-    lay-requires
-    sub-t27
     returns-2
     returns-3
     returns-4)

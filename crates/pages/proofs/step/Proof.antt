@@ -31,11 +31,14 @@ read-at-requires c κs = search needs
 enum-known-end : tie.Need-enum-known-end
 enum-known-end c = search needs
 
-number-of-requires : tie.Need-number-of-requires
-number-of-requires c κs = search needs
+refusal-number-requires : tie.Need-refusal-number-requires
+refusal-number-requires c κs = search needs
 
 cast-last : tie.Need-cast-last
 cast-last c = search needs
+
+cast-last-2 : tie.Need-cast-last-2
+cast-last-2 c = search needs
 
 last-requires-2 : tie.Need-last-requires-2
 last-requires-2 c κs = search needs
@@ -52,11 +55,11 @@ cast-frame-line c = search needs
 frame-line-requires : tie.Need-frame-line-requires
 frame-line-requires c κs = search needs
 
-add-t23 : tie.Need-add-t23
-add-t23 c = search needs
+add-t24 : tie.Need-add-t24
+add-t24 c = search needs
 
-add-t26 : tie.Need-add-t26
-add-t26 c = let b = bounds (c .before .before .before .before .before .before .before .before .before) in let a = c .before .before .before .before .before .before .before .before .before .before .before .before .before .before .before .before .pre .0 in omega (arith, b .fits, a .samples, a .frames, a .inside, a .short)
+add-t27 : tie.Need-add-t27
+add-t27 c = let b = bounds (c .before .before .before .before .before .before .before .before .before) in let a = c .before .before .before .before .before .before .before .before .before .before .before .before .before .before .before .before .pre .0 in omega (arith, b .fits, a .samples, a .frames, a .inside, a .short)
 
 same-length-2 : tie.Need-same-length-2
 same-length-2 c = search needs
@@ -66,7 +69,7 @@ returns-2 c =
     let a = c .before .before .before .before .before .before .before .before .before .before .before .before .before .before in
     let r = c .before .before .before .before .before .before .before .before .before .read-at .ensures in
     step-last _ _ (c .before .before .last2 .ensures) (a .pre .0) (a .pre .1) (a .pre .2)
-    (rw (c .before .before .before .before .before .number-of .ensures) (left-read _ _ _ (a .pre .0) (a .pre .1) (omega arith) ∙ read-refused _ _ _ _ r (c .before .before .before .before .before .before .before .end .given .1)))
+    (rw (c .before .before .before .before .before .refusal-number .ensures) (left-read _ _ _ (a .pre .0) (a .pre .1) (omega arith) ∙ read-refused _ _ _ _ r (c .before .before .before .before .before .before .before .end .given .1)))
 
 same-length-3 : tie.Need-same-length-3
 same-length-3 c = search needs
@@ -88,15 +91,16 @@ step-spec =
     returns
     read-at-requires
     enum-known-end
-    number-of-requires
+    refusal-number-requires
     cast-last
+    cast-last-2
     last-requires-2
     enum-told
     add-next
     cast-frame-line
     frame-line-requires
-    add-t23
-    add-t26
+    add-t24
+    add-t27
     same-length-2
     returns-2
     same-length-3

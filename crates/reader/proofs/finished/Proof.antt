@@ -42,7 +42,7 @@ returns-2 : tie.Need-returns-2
 returns-2 c =
     λ s h. tells-as
     (ended (c .before .before) _ (c .enum-told .given .1) s)
-    (record { end = refl; frame = h; octets = refl; bits = refl; tool = refl })
+    (record { end = refl; len = h; octets = refl; bits = refl; tool = refl })
 
 pub finished-spec : {M : Type 1} → statement M
 finished-spec =

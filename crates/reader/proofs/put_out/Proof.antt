@@ -1,9 +1,9 @@
-use Prim.Native.Nat.{ℕ, _-_, _≤_}
-use mathlib.Core.Path.{_≡_, refl, sym, ap, _∙_}
+use Prim.Native.Nat.{_-_, _≤_}
+use mathlib.Core.Path.{_≡_}
 use mathlib.Core.List.{_++_}
 use native.Mathlib.Omega.{arith}
 use lib.ListN.{length, take, drop, length-set}
-use Rattle.reader.proofs.Copied.{copied-turn}
+use Rattle.bodies.proofs.Poured.{poured-turn}
 use borrow.Author.Needs.{needs}
 use Rattle.reader.proofs.put_out.Statement.{statement}
 use Rattle.reader.proofs.put_out.Tie as tie
@@ -18,8 +18,8 @@ abbrev μ-loop : tie.MeasureT-loop
 loop-holds : tie.Need-loop-holds Inv-loop μ-loop
 loop-holds c = search needs
 
-element-copy-out-out : tie.Need-element-copy-out-out Inv-loop μ-loop
-element-copy-out-out c = search needs
+shared-slice-read-out : tie.Need-shared-slice-read-out Inv-loop μ-loop
+shared-slice-read-out c = search needs
 
 slice-write-out : tie.Need-slice-write-out Inv-loop μ-loop
 slice-write-out c = search needs
@@ -35,7 +35,7 @@ loop-again c = (
   omega arith,
   simp length-set (omega arith),
   rw (c .before .before .loop .inv .2)
-      (copied-turn (c .before .before .before .args .samples .now) (c .before .before .before .args .out .now) (c .before .before .loop .i) (omega arith) (omega arith)),
+      (poured-turn (c .before .before .before .args .samples .now) (c .before .before .before .args .out .now) (c .before .before .loop .i) (omega arith) (omega arith)),
 )
 
 same-length : tie.Need-same-length Inv-loop μ-loop
@@ -53,7 +53,7 @@ put-out-spec =
     Inv-loop
     μ-loop
     loop-holds
-    element-copy-out-out
+    shared-slice-read-out
     slice-write-out
     add-i
     loop-less

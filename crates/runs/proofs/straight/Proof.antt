@@ -1,4 +1,4 @@
--- Each turn reads a window of at most eight flags (Gathered).
+-- Each turn reads a window of at most 32 flags (Gathered).
 use borrow.Author.Needs.{needs}
 use Prim.Native.Nat.{_-_}
 use native.Mathlib.Omega.{arith}
@@ -10,13 +10,14 @@ use Rattle.runs.proofs.straight.Statement.{statement}
 use Rattle.runs.proofs.straight.Tie as tie
 
 abbrev Inv-loop : tie.InvT-loop
-Inv-loop octets at d flags₀ filled₀ count₀ place₀ flags filled count place = Gathered (bitsOf octets) at d flags filled count place
+Inv-loop octets at d cells₀ common other filled₀ count₀ place₀ cells filled count place =
+    Gathered (bitsOf octets) at d common other cells₀ cells filled count place
 
 abbrev μ-loop : tie.MeasureT-loop
-μ-loop octets at d flags₀ filled₀ count₀ place₀ flags filled count place = d - filled
+μ-loop octets at d cells₀ common other filled₀ count₀ place₀ cells filled count place = d - filled
 
 loop-holds : tie.Need-loop-holds Inv-loop μ-loop
-loop-holds c = gathered-none _ _ _
+loop-holds c = gathered-none _ _ _ _ _ _ (omega arith) (omega arith)
 
 sub-window : tie.Need-sub-window Inv-loop μ-loop
 sub-window c = search needs
@@ -31,7 +32,9 @@ enum-known-why : tie.Need-enum-known-why Inv-loop μ-loop
 enum-known-why c = search needs
 
 returns : tie.Need-returns Inv-loop μ-loop
-returns c = gathered-refused (c .before .before .before .before .before .before .loop .inv) (c .before .before .before .before .window .ensures) (refused (c .before .before .before .number .ensures) (c .before .why .given .1))
+returns c =
+    gathered-refused (c .before .before .before .before .before .before .loop .inv) (c .before .before .before .before .window .ensures)
+    (refused (c .before .before .before .number .ensures) (c .before .why .given .1))
 
 enum-known-v : tie.Need-enum-known-v Inv-loop μ-loop
 enum-known-v c = search needs
@@ -66,7 +69,8 @@ loop-less c = search needs
 loop-again : tie.Need-loop-again Inv-loop μ-loop
 loop-again c =
     let v = told (c .before .before .before .before .before .number .ensures) (c .before .before .before .v .given .1) in
-    gathered-turn (c .before .before .before .before .before .before .before .before .loop .inv) (c .before .before .before .before .before .before .window .ensures) (bitsOf-below _) (v .says) (v .value) (v .next) (c .spread .ensures)
+    gathered-turn (c .before .before .before .before .before .before .before .before .loop .inv) (c .before .before .before .before .before .before .window .ensures)
+    (bitsOf-below _) (v .says) (v .value) (v .next) (c .spread .ensures)
 
 returns-2 : tie.Need-returns-2 Inv-loop μ-loop
 returns-2 c = gathered-all (c .before .loop .inv) (omega arith)

@@ -17,7 +17,7 @@ abbrev μ-frames : tie.MeasureT-frames
 -- a step that was taken
 module _ (c : tie.After-step Inv-frames μ-frames) (e : c .step .result .end ≡ Done) where
   turned : Walking (c .before .before .before .before .before .before .args .octets .now) (c .before .before .before .before .before .before .args .law) (c .before .before .before .before .before .before .args .set) (c .before .before .before .before .before .before .args .out .now) (c .step .last .1 .1 .1 .1 .0)
-      (c .before .before .before .frames .at + c .step .result .octets) (c .before .before .before .frames .to + c .step .result .frame .len) (c .before .before .before .frames .count + 1)
+      (c .before .before .before .frames .at + c .step .result .octets) (c .before .before .before .frames .to + c .step .result .len) (c .before .before .before .frames .count + 1)
   turned = walk-turn (c .before .before .before .before .before .before .args .octets .now) (c .before .before .before .before .before .before .args .law) (c .before .before .before .before .before .before .args .set) (c .before .before .before .before .before .before .args .out .now) (c .before .before .before .frames .inv) (c .before .before .if1 .left) (c .step .ensures) e
 
   forward : 1 ≤ c .step .result .octets

@@ -1,0 +1,4 @@
+pub mod Numbers
+pub mod Running
+pub mod Written
+pub mod Named

@@ -1,0 +1,47 @@
+use borrow.Author.Needs.{needs}
+use mathlib.Core.Path.{_≡_, _∙_}
+use lib.ListN.{length}
+use Rattle.pack.specs.Runs.{partSize, Stands, stepsLeft}
+use Rattle.pack.proofs.all_parts.Statement.{statement}
+use Rattle.pack.proofs.all_parts.Tie as tie
+
+abbrev Inv-loop : tie.InvT-loop
+Inv-loop fd s part₀ out₀ run₀ part out run = Stands s out run × (length out ≡ length out₀) × (length part ≡ partSize)
+
+abbrev μ-loop : tie.MeasureT-loop
+μ-loop fd s part₀ out₀ run₀ part out run = stepsLeft (length out₀) run
+
+loop-holds : tie.Need-loop-holds Inv-loop μ-loop
+loop-holds c = search needs
+
+next-part-requires : tie.Need-next-part-requires Inv-loop μ-loop
+next-part-requires c κs = search needs
+
+loop-less : tie.Need-loop-less Inv-loop μ-loop
+loop-less c = let i = c .before .before .before .before .before .before .before .before .loop .inv in rw (i .1) at (c .before .before .before .before .next-part .ensures .1)
+
+loop-again : tie.Need-loop-again Inv-loop μ-loop
+loop-again c = let i = c .before .before .before .before .before .before .before .before .loop .inv in (c .before .before .before .before .next-part .ensures .0, c .before .before .before .before .next-part .kept .1 .1 .1 .1 .0 ∙ i .1, c .before .before .before .before .next-part .kept .1 .1 .1 .0 ∙ i .2)
+
+same-length : tie.Need-same-length Inv-loop μ-loop
+same-length c = search needs
+
+same-length-2 : tie.Need-same-length-2 Inv-loop μ-loop
+same-length-2 c = search needs
+
+returns : tie.Need-returns Inv-loop μ-loop
+returns c = search needs
+
+pub all-parts-spec : {M : Type 1} → statement M
+all-parts-spec =
+    tie.close
+    (tie.spec
+    Inv-loop
+    μ-loop
+    loop-holds
+    next-part-requires
+    loop-less
+    loop-again
+    same-length
+    same-length-2
+    returns)

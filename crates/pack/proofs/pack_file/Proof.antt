@@ -1,0 +1,91 @@
+use borrow.Author.Needs.{needs}
+use mathlib.Core.Path.{sym, _∙_}
+use mathlib.Core.Bool.{true, false}
+use native.Mathlib.Omega.{arith}
+use Rattle.pack.specs.declared.Run.{Run}
+use Rattle.pack.proofs.Running.{stands-first}
+use Rattle.pack.proofs.Numbers.{number-done}
+use Rattle.pack.proofs.pack_file.Statement.{statement}
+use Rattle.pack.proofs.pack_file.Tie as tie
+
+slice-aggregate-pack : tie.Need-slice-aggregate-pack
+slice-aggregate-pack c = search needs
+
+cast-pack : tie.Need-cast-pack
+cast-pack c = search needs
+
+pack-requires : tie.Need-pack-requires
+pack-requires c κs = search needs
+
+number-of-requires : tie.Need-number-of-requires
+number-of-requires c κs = search needs
+
+explain-settings-requires : tie.Need-explain-settings-requires
+explain-settings-requires c κs = search needs
+
+refused-requires : tie.Need-refused-requires
+refused-requires c κs = search needs
+
+same-length : tie.Need-same-length
+same-length c = search needs
+
+returns : tie.Need-returns
+returns c = search needs
+
+open-in-requires : tie.Need-open-in-requires
+open-in-requires c κs = search needs
+
+slice-aggregate-failed : tie.Need-slice-aggregate-failed
+slice-aggregate-failed c = search needs
+
+failed-requires : tie.Need-failed-requires
+failed-requires c κs = search needs
+
+same-length-2 : tie.Need-same-length-2
+same-length-2 c = search needs
+
+returns-2 : tie.Need-returns-2
+returns-2 c = search needs
+
+all-parts-requires : tie.Need-all-parts-requires
+all-parts-requires c κs =
+    let s = c .before .before .before .before .before .before .before .before .before .before .before .before .before .before .before .before in
+    let p = c .before .before .before .before .before .before .before .before .pack in
+    let k = p .kept .1 .1 .1 .1 .0 in
+    let start : Run = record { packed = p .result; filled = 0; more = true; failed = false } in
+    (stands-first (s .args .s) (s .args .out .now) (p .last .1 .1 .1 .1 .0) start k (p .ensures) (number-done (p .result .end) (sym (c .before .before .before .before .before .number-of .ensures) ∙ omega arith)), omega (arith, k, s .pre .0), s .pre .1)
+
+finish-requires : tie.Need-finish-requires
+finish-requires c κs = search needs
+
+same-length-3 : tie.Need-same-length-3
+same-length-3 c = search needs
+
+same-length-4 : tie.Need-same-length-4
+same-length-4 c = search needs
+
+returns-3 : tie.Need-returns-3
+returns-3 c = search needs
+
+pub pack-file-spec : {M : Type 1} → statement M
+pack-file-spec =
+    tie.close
+    (tie.spec
+    slice-aggregate-pack
+    cast-pack
+    pack-requires
+    number-of-requires
+    explain-settings-requires
+    refused-requires
+    same-length
+    returns
+    open-in-requires
+    slice-aggregate-failed
+    failed-requires
+    same-length-2
+    returns-2
+    all-parts-requires
+    finish-requires
+    same-length-3
+    same-length-4
+    returns-3)

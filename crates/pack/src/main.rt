@@ -1,0 +1,260 @@
+// The bench tool `pack`: raw G.711 octets in, a stream of frames out. What matters is in crate `packing`: here the sound is read in parts
+// of whole frames, the stream is kept, and it is written when all is well.
+ghost use Prim.Native.Nat.{_+_, _≤_, _<_};
+ghost use mathlib.Core.Path.{_≡_};
+ghost use mathlib.Core.Bool.{true};
+ghost use lib.ListN.{length};
+ghost use Rattle.io.specs.Counts.{Counts};
+ghost use Rattle.pack.specs.Runs.{partSize, goesOn, FilledIf, numberFor, WholeSound, Stands, stepsLeft};
+use options::Settings;
+use packing::PackAnswer;
+use rules::Ending;
+
+// What was packed so far, how many octets were added to the last part, whether more sound may come, and whether a read failed.
+struct Run {
+    packed: PackAnswer,
+    filled: usize,
+    more: bool,
+    failed: bool,
+}
+
+// A part that is full may have more after it; after a refusal nothing matters.
+fn may_go_on(end: Ending, count: usize) -> bool
+    ensures { λ r. ⌜ r ≡ goesOn end count ⌝ }
+{
+    let Ending::Done = end else {
+        return false;
+    };
+    count == 61440
+}
+
+// Where it is asked, what the last part lacks is filled up.
+fn filled_up(fill: bool, part: &mut [u8], count: usize, law: u32) -> usize
+    requires { ⌜ (length (now part) ≡ partSize) × (count ≤ partSize) ⌝ }
+    ensures filled { λ r. ⌜ FilledIf fill count law (now (part .entry)) (now (part .exit)) r ⌝ }
+    ensures most { λ r. ⌜ count + r ≤ partSize ⌝ }
+{
+    if fill {
+        return packing::fill_up(part, count, law);
+    }
+    0
+}
+
+// One part read and packed.
+fn next_part(fd: i32, run: Run, s: Settings, part: &mut [u8], out: &mut [u8]) -> Run
+    requires { ⌜ (Stands s (now out) run) × (run .more ≡ true) × (length (now out) ≤ 65535) × (length (now part) ≡ partSize) ⌝ }
+    ensures stands { λ r. ⌜ Stands s (now (out .exit)) r ⌝ }
+    ensures less { λ r. ⌜ stepsLeft (length (now (out .entry))) r < stepsLeft (length (now (out .entry))) run ⌝ }
+{
+    let packed = run.packed;
+    let got = console::read_part(fd, part);
+    if got.failed {
+        return Run {
+            packed,
+            filled: 0,
+            more: false,
+            failed: true,
+        };
+    }
+    let count = got.count;
+    let filled = filled_up(s.fill, part, count, s.law);
+    let end = count + filled;
+    let p = packing::pack_on(packed, &part[..end], s.law, s.set, s.length as usize, out);
+    let e = p.end;
+    let more = may_go_on(e, count);
+    Run {
+        packed: p,
+        filled,
+        more,
+        failed: false,
+    }
+}
+
+// Part after part, until the sound ends, is refused or can't be read.
+fn all_parts(fd: i32, start: Run, s: Settings, part: &mut [u8], out: &mut [u8]) -> Run
+    requires { ⌜ (Stands s (now out) start) × (length (now out) ≤ 65535) × (length (now part) ≡ partSize) ⌝ }
+    ensures { λ r. ⌜ Stands s (now (out .exit)) r ⌝ }
+{
+    let mut run = start;
+    while run.more {
+        let next = next_part(fd, run, s, part, out);
+        run = next;
+    }
+    run
+}
+
+// The room is the longest stream, so ROOM is LONG here.
+fn number_for(end: Ending) -> u32
+    ensures { λ r. ⌜ r ≡ numberFor end ⌝ }
+{
+    let number = options::number_of(end);
+    if number == 4 {
+        return 13;
+    }
+    number
+}
+
+// Why the settings are refused.
+fn explain_settings(number: u32) {
+    if number == 11 {
+        console::say(b"pack: the tool set is an odd number of at most 127\n");
+    }
+    if number == 10 {
+        console::say(b"pack: the frame length is 40, 80, 160, 240 or 320\n");
+    }
+}
+
+// Why the sound is refused.
+fn explain_sound(number: u32) {
+    if number == 10 {
+        console::say(b"pack: no length fits the octets at the end; -f fills them up\n");
+    }
+    if number == 13 {
+        console::say(
+            b"pack: the stream would be longer than 65535 octets; the sound up to the place below fits\n",
+        );
+    }
+}
+
+// The stream of a whole sound is written, and then what was done is said.
+fn write_stream(run: Run, s: Settings, name: &[u8], out: &[u8])
+    requires { ⌜ (WholeSound s (now out) run) × (run .packed .octets ≤ length (now out)) ⌝ }
+{
+    let fd = console::open_out(name);
+    if fd < 0 {
+        console::failed(true, name, b"standard output");
+        return;
+    }
+    let p = run.packed;
+    let to = p.octets;
+    if !io::write_all(fd, &out[..to]) {
+        console::failed(true, name, b"standard output");
+        return;
+    }
+    if libc::close(fd) < 0 {
+        console::failed(true, name, b"standard output");
+        return;
+    }
+    console::summary(p.frames, p.samples, to);
+    if s.fill {
+        console::say_number(b"filled=", run.filled);
+        console::say(b"\n");
+    }
+    console::stop(0, p.samples, 0);
+}
+
+// Nothing is written, and no file made, unless all of the sound was read and packed.
+fn finish(run: Run, s: Settings, in_name: &[u8], out_name: &[u8], out: &[u8])
+    requires { ⌜ Stands s (now out) run ⌝ }
+{
+    if run.failed {
+        console::failed(true, in_name, b"standard input");
+        return;
+    }
+    let p = run.packed;
+    let e = p.end;
+    let number = number_for(e);
+    if number != 0 {
+        explain_sound(number);
+        console::refused(true, number, p.samples, 0);
+        return;
+    }
+    write_stream(run, s, out_name, out);
+}
+
+// The settings are judged by packing no sound, before any file is opened.
+fn pack_file(s: Settings, in_name: &[u8], out_name: &[u8], part: &mut [u8], out: &mut [u8])
+    requires { ⌜ (length (now out) ≤ 65535) × (length (now part) ≡ partSize) ⌝ }
+{
+    let packed = packing::pack(b"", s.law, s.set, s.length as usize, out);
+    let e = packed.end;
+    let number = options::number_of(e);
+    if number != 0 {
+        explain_settings(number);
+        console::refused(true, number, 0, 0);
+        return;
+    }
+    let fd = console::open_in(in_name);
+    if fd < 0 {
+        console::failed(true, in_name, b"standard input");
+        return;
+    }
+    let start = Run {
+        packed,
+        filled: 0,
+        more: true,
+        failed: false,
+    };
+    let run = all_parts(fd, start, s, part, out);
+    finish(run, s, in_name, out_name, out);
+}
+
+// A law that no option tells is told by the ending of what is read.
+fn with_law(mut s: Settings, in_name: &[u8]) -> Settings {
+    if s.law != 2 {
+        return s;
+    }
+    let law = options::law_told(true, in_name);
+    s.law = law;
+    s
+}
+
+// The name of what is written: OUTFILE, or INFILE with another ending; empty for standard output.
+fn out_name_of(s: Settings, in_name: &[u8], name: &mut [u8]) -> usize
+    ensures { λ r. ⌜ Counts r (now (name .exit)) ⌝ }
+{
+    if s.outfile != 0 {
+        return console::file_name(s.outfile, name);
+    }
+    if in_name.len() == 0 {
+        return 0;
+    }
+    options::new_name(true, s.law, in_name, name)
+}
+
+// A name with its new ending can be too long.
+fn is_too_long(s: Settings, in_name: &[u8], out_name: &[u8]) -> bool {
+    if s.outfile != 0 {
+        return false;
+    }
+    if in_name.len() == 0 {
+        return false;
+    }
+    out_name.len() == 0
+}
+
+// The settings are whole: the names, and then the sound.
+fn pack_named(s: Settings, in_name: &[u8], name: &mut [u8]) {
+    let n = out_name_of(s, in_name, name);
+    let out_name: &[u8] = &name[..n];
+    if is_too_long(s, in_name, out_name) {
+        console::usage(true, b"the name of INFILE is too long for another ending");
+        return;
+    }
+    let mut part = [0u8; 61440];
+    let mut out = [0u8; 65535];
+    pack_file(s, in_name, out_name, &mut part, &mut out);
+}
+
+// Arguments that are wrong, and a law that is not known, are usage errors.
+fn pack_with(s: Settings, space: &mut [u8], name: &mut [u8]) {
+    let n = console::file_name(s.infile, space);
+    let in_name: &[u8] = &space[..n];
+    let t = with_law(s, in_name);
+    if t.law == 2 {
+        console::usage(true, b"the law is not known: say -u or -a");
+        return;
+    }
+    pack_named(t, in_name, name);
+}
+
+fn main() {
+    let s = console::settings(true);
+    if s.wrong != 0 {
+        console::wrong_settings(s);
+        return;
+    }
+    let mut in_name = [0u8; 4095];
+    let mut out_name = [0u8; 4095];
+    pack_with(s, &mut in_name, &mut out_name);
+}

@@ -1,0 +1,51 @@
+-- A frame written on its way, packing that stops before any frame, packing in parts, and a sound filled up.
+use Prim.Native.Nat.{ℕ, _+_, _-_, _%_}
+use mathlib.Core.Path.{_≡_}
+use mathlib.Core.List.{List, _++_}
+use lib.ListN.{length, take, drop, replicate}
+use Rattle.rules.specs.declared.Refusal.{Refusal}
+use Rattle.rules.specs.declared.Ending.{Ending}
+use Rattle.rules.specs.declared.Ending.the-variants.{Done, Refused}
+use Rattle.rules.specs.declared.WriteAnswer.{WriteAnswer}
+use Rattle.rules.specs.Chooses.{writeOne}
+use Rattle.rules.specs.Samples.{maskOf, plusZero}
+use Rattle.rules.specs.Calls.{atStart, Writes}
+use Rattle.packing.specs.declared.PackAnswer.{PackAnswer}
+use Rattle.packing.specs.Packing.{soundIn, streamOf, Packed, halted, packAll}
+
+-- the frame of `len` octets from `from` on is written, into the output from `at` on; what stands before that stays
+pub record PutsFrame (sound : List ℕ) (from len law set at : ℕ) (out out′ : List ℕ) (r : WriteAnswer) : Type 0 where
+  pub rest : List ℕ
+  pub writes : Writes (writeOne len (take len (drop from sound)) law set (length out - at)) r (drop at out) rest
+  pub lent : out′ ≡ take at out ++ rest
+
+pub record StopsAtOnce (why : Refusal) (r : PackAnswer) : Type 0 where
+  pub end : r .end ≡ Refused why
+  pub frames : r .frames ≡ 0
+  pub samples : r .samples ≡ 0
+  pub octets : r .octets ≡ 0
+
+-- what comes after what was packed so far: nothing where that was refused, else the part
+abbrev pub packedOn : Ending → List ℕ → ℕ → ℕ → ℕ → ℕ → Packed
+packedOn (Refused why) part law set n room = halted (Refused why)
+packedOn Done part law set n room = packAll part law set n room
+
+-- the next part of a sound, packed after what was packed so far, into the output from its octets on (p is `packedOn`)
+pub record PacksAfter (soFar : PackAnswer) (law set : ℕ) (p : Packed) (out out′ : List ℕ) (r : PackAnswer) : Type 0 where
+  pub end : r .end ≡ p .end
+  pub frames : r .frames ≡ soFar .frames + length (p .frames)
+  pub samples : r .samples ≡ soFar .samples + length (soundIn (p .frames))
+  pub octets : r .octets ≡ soFar .octets + length (streamOf law set (p .frames))
+  pub lent : out′ ≡ take (soFar .octets) out ++ atStart (streamOf law set (p .frames)) (drop (soFar .octets) out)
+
+abbrev pub PackOn : PackAnswer → List ℕ → ℕ → ℕ → ℕ → List ℕ → List ℕ → PackAnswer → Type 0
+PackOn soFar part law set n out out′ r = PacksAfter soFar law set (packedOn (soFar .end) part law set n (length out - soFar .octets)) out out′ r
+
+-- how many octets there are to the next multiple of 40
+abbrev pub toFill : ℕ → ℕ
+toFill len = (40 - len % 40) % 40
+
+-- plus zeros after the first `len` octets, up to the next multiple of 40; the rest is as lent
+pub record FillsUp (len law : ℕ) (sound sound′ : List ℕ) (r : ℕ) : Type 0 where
+  pub added : r ≡ toFill len
+  pub lent : sound′ ≡ take len sound ++ (replicate (toFill len) (plusZero (maskOf law)) ++ drop (len + toFill len) sound)

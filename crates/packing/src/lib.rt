@@ -1,0 +1,195 @@
+// A sound packed into a stream of frames: each next frame is as long as the frame length and the sound left allow.
+ghost use Prim.Native.Nat.{_+_, _-_, _^_, _≤_, _<_};
+ghost use mathlib.Core.Path.{_≡_};
+ghost use mathlib.Core.Bool.{true};
+ghost use lib.ListN.{length};
+ghost use Rattle.rules.specs.Tools.{isLaw, isWriterSet, isLength};
+ghost use Rattle.packing.specs.Packing.{largestUpTo, nextLength, cuts, lastEnd, endOf, putAll, Packs, Pack};
+ghost use Rattle.packing.specs.Parts.{PutsFrame, StopsAtOnce, PackOn, toFill, FillsUp};
+use rules::Ending;
+use rules::Refusal;
+use rules::WriteAnswer;
+
+// How packing ended, and what was packed: the frames, the sound in them and their octets.
+pub struct PackAnswer {
+    pub end: Ending,
+    pub frames: usize,
+    pub samples: usize,
+    pub octets: usize,
+}
+
+// Of the five lengths the largest that is at most `most`; 0 where none is.
+fn largest_up_to(most: usize) -> usize
+    ensures { λ r. ⌜ r ≡ largestUpTo most ⌝ }
+{
+    if 320 <= most {
+        return 320;
+    }
+    if 240 <= most {
+        return 240;
+    }
+    if 160 <= most {
+        return 160;
+    }
+    if 80 <= most {
+        return 80;
+    }
+    if 40 <= most {
+        return 40;
+    }
+    0
+}
+
+// The next frame's length: at most the frame length and at most the sound left.
+fn next_length(n: usize, left: usize) -> usize
+    ensures { λ r. ⌜ r ≡ nextLength n left ⌝ }
+{
+    if n <= left {
+        return largest_up_to(n);
+    }
+    largest_up_to(left)
+}
+
+// A length is the largest up to itself.
+fn is_length(n: usize) -> bool
+    ensures { λ r. ⌜ r ≡ isLength n ⌝ }
+{
+    if n == 0 {
+        return false;
+    }
+    largest_up_to(n) == n
+}
+
+// One frame of the sound; its form goes to the output from `at` on.
+fn put_frame(
+    sound: &[u8],
+    from: usize,
+    to: usize,
+    law: u32,
+    set: u32,
+    out: &mut [u8],
+    at: usize,
+) -> WriteAnswer
+    requires { ⌜ (from ≤ to) × (to ≤ length (now sound)) × (at ≤ length (now out)) ⌝ }
+    ensures { λ r. ⌜ PutsFrame (now (sound .entry)) from (to - from) law set at (now (out .entry)) (now (out .exit)) r ⌝ }
+{
+    writer::write_samples(&sound[from..to], law, set, &mut out[at..])
+}
+
+// How a sound ends with so many octets left that no length fits.
+fn last_end(left: usize) -> Ending
+    ensures { λ r. ⌜ r ≡ lastEnd left ⌝ }
+{
+    if left == 0 {
+        return Ending::Done;
+    }
+    Ending::Refused(Refusal::Length)
+}
+
+// Frame after frame, until no length fits or a form does not fit in what is left of the output.
+fn frames(sound: &[u8], law: u32, set: u32, n: usize, out: &mut [u8]) -> PackAnswer
+    requires { ⌜ (isLaw law ≡ true) × (isWriterSet set ≡ true) ⌝ }
+    ensures { λ r. ⌜ Packs law set (putAll law set (length (now (out .entry))) (cuts n (now (sound .entry))) (endOf n (now (sound .entry)))) r (now (out .entry)) (now (out .exit)) ⌝ }
+{
+    let mut from = 0;
+    let mut at = 0;
+    let mut count = 0;
+    let end = 'frames: loop {
+        let left = sound.len() - from;
+        let len = next_length(n, left);
+        if len == 0 {
+            let e = last_end(left);
+            break 'frames e;
+        }
+        let to = from + len;
+        let r = put_frame(sound, from, to, law, set, out, at);
+        let e = r.end;
+        match e {
+            Ending::Refused(why) => break 'frames Ending::Refused(why),
+            Ending::Done => {
+                from = to;
+                at += r.octets;
+                count += 1;
+            }
+        }
+    };
+    PackAnswer {
+        end,
+        frames: count,
+        samples: from,
+        octets: at,
+    }
+}
+
+// LAW, SET and a frame length that is none of the five refuse before any frame.
+fn stopped(why: Refusal) -> PackAnswer
+    ensures { λ r. ⌜ StopsAtOnce why r ⌝ }
+{
+    PackAnswer {
+        end: Ending::Refused(why),
+        frames: 0,
+        samples: 0,
+        octets: 0,
+    }
+}
+
+// Packing a sound by a frame length. The frames' octets stand at the start of the output; the rest of it stays as lent.
+pub fn pack(sound: &[u8], law: u32, set: u32, n: usize, out: &mut [u8]) -> PackAnswer
+    ensures { λ r. ⌜ Pack (now (sound .entry)) law set n (now (out .entry)) (now (out .exit)) r ⌝ }
+{
+    if 1 < law {
+        return stopped(Refusal::Law);
+    }
+    if 127 < set {
+        return stopped(Refusal::Set);
+    }
+    if set % 2 == 0 {
+        return stopped(Refusal::Set);
+    }
+    if !is_length(n) {
+        return stopped(Refusal::Length);
+    }
+    frames(sound, law, set, n, out)
+}
+
+// The next part of a sound. Where the parts before it are whole frames, this is packing all of the sound at once (proofs/Parts).
+pub fn pack_on(
+    done: PackAnswer,
+    part: &[u8],
+    law: u32,
+    set: u32,
+    n: usize,
+    out: &mut [u8],
+) -> PackAnswer
+    requires { ⌜ (done .octets ≤ length (now out)) × (done .frames + length (now part) < 2 ^ 64) × (done .samples + length (now part) < 2 ^ 64) ⌝ }
+    ensures { λ r. ⌜ PackOn done (now (part .entry)) law set n (now (out .entry)) (now (out .exit)) r ⌝ }
+{
+    let e = done.end;
+    let Ending::Done = e else {
+        return done;
+    };
+    let at = done.octets;
+    let p = pack(part, law, set, n, &mut out[at..]);
+    let end = p.end;
+    PackAnswer {
+        end,
+        frames: done.frames + p.frames,
+        samples: done.samples + p.samples,
+        octets: at + p.octets,
+    }
+}
+
+// Plus zeros after the first `len` octets, up to the next multiple of 40, which every end of a sound can be cut into. Answers how many.
+pub fn fill_up(sound: &mut [u8], len: usize, law: u32) -> usize
+    requires { ⌜ len + toFill len ≤ length (now sound) ⌝ }
+    ensures { λ r. ⌜ FillsUp len law (now (sound .entry)) (now (sound .exit)) r ⌝ }
+{
+    let plus = law::plus_zero(law::mask_of(law));
+    let more = (40 - len % 40) % 40;
+    let mut i = 0;
+    while i < more {
+        sound[len + i] = plus;
+        i += 1;
+    }
+    more
+}
