@@ -12,9 +12,8 @@ use Rattle.rules.specs.Tools.{holds}
 use Rattle.rules.specs.Zeros.{prefix, flagOf}
 use Rattle.rules.specs.Chooses.{applies, formOf, octetsOfForm, choose, locatedForm, riceChoice}
 use Rattle.rules.proofs.Octets.{length-lowBits, length-bitsOf}
-use Rattle.rules.proofs.Tests.{and-left, and-right}
-use Rattle.measure.specs.declared.Look.{Look}
-use Rattle.measure.specs.Measures.{countIs, Looked}
+use Rattle.rules.proofs.Tests.{and-left}
+use Rattle.measure.proofs.Weighing.{cond-of}
 use Rattle.choice.specs.declared.Choice.{Choice}
 use Rattle.choice.specs.declared.Placed.{Placed}
 use Rattle.choice.specs.declared.Rice.{Rice}
@@ -24,60 +23,46 @@ use Rattle.choice.proofs.Rows.{never}
 use Rattle.choice.proofs.Zeros.{rice-applies}
 
 -- what `better` gives, by its test
-pub better-not : {best : Choice} {set t : ℕ} {a : Bool} {b : ℕ} → best .bits ≤ 1000000000 → taken best set t a b ≡ false → BetterIs best set t a b best
+pub better-not : {best : Choice} {t : ℕ} {a : Bool} {b : ℕ} → best .bits ≤ 1000000000 → taken best a b ≡ false → BetterIs best t a b best
 better-not h e = record { tool = rw e; size = rw e; small = h }
 
-pub better-yes : {best : Choice} {set t : ℕ} {a : Bool} {b : ℕ} → b ≤ 1000000000 → taken best set t a b ≡ true
-    → BetterIs best set t a b (record { tool = t; bits = b })
+pub better-yes : {best : Choice} {t : ℕ} {a : Bool} {b : ℕ} → b ≤ 1000000000 → taken best a b ≡ true → BetterIs best t a b (record { tool = t; bits = b })
 better-yes h e = record { tool = rw e; size = rw e; small = h }
-
-pub and-false : (h x : Bool) → (h && false && x) ≡ false
-and-false true x = refl
-and-false false x = refl
-
-cond-length : (f : ℕ → ℕ) (q : Bool) (x y : ℕ) → cond q (f x) (f y) ≡ f (cond q x y)
-cond-length f true x y = refl
-cond-length f false x y = refl
 
 -- one tool more
 module _ {mask set : ℕ} {s ts : List ℕ} {best r : Choice} (done : ChosenIs mask set s ts best) where
-  pub choose-step : (t : ℕ) (a : Bool) (b : ℕ) → a ≡ applies mask t s → (a ≡ true → b ≡ length (formOf mask t s)) → BetterIs best set t a b r
+  pub choose-step : (t : ℕ) (a : Bool) (b : ℕ) → a ≡ (holds set t && applies mask t s) → (a ≡ true → b ≡ length (formOf mask t s)) → BetterIs best t a b r
       → ChosenIs mask set s (t ∷ ts) r
   unfolding choose
   choose-step t true b e f better =
       let q = leb (octetsOfForm mask s t) (octetsOfForm mask s (choose mask set s ts)) in
-      let test : taken best set t true b ≡ (holds set t && applies mask t s && q) = rw (f refl, done .bits, ← e) in
+      let test : taken best true b ≡ (holds set t && applies mask t s && q) = rw (f refl, done .bits, ← e) in
       record {
         tool = better .tool ∙ rw (test, done .tool);
         bits =
             better .size
-            ∙ rw (test, f refl, done .bits) (cond-length (λ u. length (formOf mask u s)) (holds set t && applies mask t s && q) t (choose mask set s ts));
+            ∙ rw (test, f refl, done .bits) (cond-of (λ u. length (formOf mask u s)) (holds set t && applies mask t s && q) t (choose mask set s ts));
         small = better .small;
       }
   choose-step t false b e f better =
       let q = leb (octetsOfForm mask s t) (octetsOfForm mask s (choose mask set s ts)) in
-      let none : (holds set t && applies mask t s && q) ≡ false = rw (← e) (and-false (holds set t) q) in
-      let test : taken best set t false b ≡ false = and-false (holds set t) _ in
-      record {
-        tool = better .tool ∙ rw (test, none, done .tool);
-        bits = better .size ∙ rw (test, none, done .bits);
-        small = better .small;
-      }
+      let none : (holds set t && applies mask t s && q) ≡ false = rw (← e) in
+      record { tool = better .tool ∙ rw (none, done .tool); bits = better .size ∙ rw (none, done .bits); small = better .small }
 
--- a tool that was chosen applies
-pub chosen-applies : (mask set : ℕ) (s ts : List ℕ) (t : ℕ) → choose mask set s ts ≡ t → (1 ≡ t → ⊥) → applies mask t s ≡ true
+-- a tool that was chosen is held and applies
+pub chosen-offered : (mask set : ℕ) (s ts : List ℕ) (t : ℕ) → choose mask set s ts ≡ t → (1 ≡ t → ⊥) → (holds set t && applies mask t s) ≡ true
 unfolding choose
-chosen-applies mask set s [] t e ne = absurd (ne e)
-chosen-applies mask set s (u ∷ ts) t e ne =
+chosen-offered mask set s [] t e ne = absurd (ne e)
+chosen-offered mask set s (u ∷ ts) t e ne =
     step (holds set u && applies mask u s && leb (octetsOfForm mask s u) (octetsOfForm mask s (choose mask set s ts))) refl e
-    (λ g. chosen-applies mask set s ts t g ne)
+    (λ g. chosen-offered mask set s ts t g ne)
   where
     q : Bool
     q = leb (octetsOfForm mask s u) (octetsOfForm mask s (choose mask set s ts))
 
     step : (b : Bool) → (holds set u && applies mask u s && q) ≡ b → cond b u (choose mask set s ts) ≡ t
-        → (choose mask set s ts ≡ t → applies mask t s ≡ true) → applies mask t s ≡ true
-    step true f g later = rw g at (and-right (holds set u) (applies mask u s) (and-left (holds set u && applies mask u s) q f))
+        → (choose mask set s ts ≡ t → (holds set t && applies mask t s) ≡ true) → (holds set t && applies mask t s) ≡ true
+    step true f g later = rw g at (and-left (holds set u && applies mask u s) q f)
     step false f g later = later g
 
 -- the bits of the plain forms, and where they apply
@@ -103,24 +88,11 @@ module _ (mask : ℕ) (s : List ℕ) {n : ℕ} (size : length s ≡ n) where
   unfolding formOf
   plus-bits = rw length-lowBits
 
-  module _ {first : ℕ} {l : Look} (looked : Looked mask first s l) where
-    pub constant-applies : first ≡ getD s 0 0 → {k : ℕ} → k ≡ l .same → eqb k n ≡ applies mask 4 s
-    unfolding applies
-    constant-applies f e = rw (e, looked .same, f, ← size)
-
-    pub minus-applies : {k : ℕ} → k ≡ l .minus → eqb k n ≡ applies mask 3 s
-    unfolding applies
-    minus-applies e = rw (e, looked .minus, ← size)
-
-    pub plus-applies : {k : ℕ} → k ≡ l .plus → eqb k n ≡ applies mask 2 s
-    unfolding applies
-    plus-applies e = rw (e, looked .plus, ← size)
-
 -- what the plan keeps is right where it is asked for
-pub located-bits : {mask : ℕ} {s : List ℕ} {r : Placed} → PlacedFor mask s r → r .applies ≡ true → r .bits ≡ length (formOf mask 7 s)
+pub located-bits : {mask set : ℕ} {s : List ℕ} {r : Placed} → PlacedFor mask set s r → r .offered ≡ true → r .bits ≡ length (formOf mask 7 s)
 unfolding formOf
 located-bits p h = p .placed h .bits
 
-pub rice-bits : {mask : ℕ} {s : List ℕ} {r : Rice} → RiceFor mask s r → r .applies ≡ true → r .bits ≡ length (formOf mask 6 s)
+pub rice-bits : {mask set : ℕ} {s runs : List ℕ} {r : Rice} → RiceFor mask set s r runs → r .offered ≡ true → r .bits ≡ length (formOf mask 6 s)
 unfolding formOf
 rice-bits p h = p .rice h .bits

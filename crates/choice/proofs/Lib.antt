@@ -3,3 +3,4 @@ pub mod Turns
 pub mod Rows
 pub mod Zeros
 pub mod Choosing
+pub mod Settling

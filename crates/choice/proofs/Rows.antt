@@ -8,13 +8,15 @@ use borrow.Author.Tests.{ltb-true}
 use lib.ListN.{length, getD, take, length-append}
 use lib.Dec.{eqb, leb, ltb}
 use Rattle.rules.specs.Bits.{lowBits}
+use Rattle.rules.specs.Tools.{holds}
 use Rattle.rules.specs.Samples.{sampleOf, onLine}
 use Rattle.rules.specs.Located.{caseOf, valuesOf}
 use Rattle.rules.specs.Chooses.{isRow, rowOf, locatedFlag, locatedForm, applies, valuesForm, leastOf, greatestOf}
 use Rattle.rules.proofs.Octets.{length-lowBits}
 use Rattle.rules.proofs.Tests.{and-left, and-right}
 use Rattle.measure.specs.declared.Look.{Look}
-use Rattle.measure.specs.Measures.{Looked}
+use Rattle.measure.specs.declared.Counts.{Counts}
+use Rattle.measure.specs.Measures.{Looked, Counted}
 use Rattle.choice.specs.declared.Values.{Values}
 use Rattle.choice.specs.declared.Ways.{Ways}
 use Rattle.choice.specs.declared.Placed.{Placed}
@@ -46,41 +48,40 @@ rows-fit mask s h = go (isRow mask s 0) (isRow mask s 1) (isRow mask s 2) (isRow
     go false false false true f g i j h = j refl
     go false false false false f g i j h = absurd (never h)
 
+pub not-placed : {mask set : ℕ} {s : List ℕ} {r : Placed} → (holds set 7 && applies mask 7 s) ≡ false → r .offered ≡ false → r .bits ≡ 0 → PlacedFor mask set s r
+not-placed e f z = record { offered = f ∙ sym e; placed = λ h. absurd (never (sym f ∙ h)); small = omega arith }
+
 module _ {mask first n : ℕ} {s : List ℕ} {l : Look} (looked : Looked mask first s l) (size : length s ≡ n) where
-  row-is : rowBy (l .least) (l .greatest) n ≡ rowOf mask s
+  pub row-is : rowBy (l .least) (l .greatest) n ≡ rowOf mask s
   unfolding rowBy rowOf caseOf
   row-is = rw (looked .least, looked .greatest, ← size)
 
-  module _ {row : ℕ} (found : row ≡ rowBy (l .least) (l .greatest) n) {a : Bool}
-      (tested : a ≡ (leb 80 n && ltb row 4 && leb (l .one) (l .plus) && leb (l .minus) (l .plus) && leb (l .twos) (l .plus))) where
+  module _ {c : Counts} (counted : Counted mask s c) {row : ℕ} (found : row ≡ rowBy (l .least) (l .greatest) n) {a : Bool}
+      (tested : a ≡ (leb 80 n && ltb row 4 && leb (c .one) (c .plus) && leb (c .minus) (c .plus) && leb (c .twos) (c .plus))) where
     row-of-frame : row ≡ rowOf mask s
     row-of-frame = found ∙ row-is
 
-    applied-is : a ≡ applies mask 7 s
+    pub applied-is : a ≡ applies mask 7 s
     unfolding applies
-    applied-is = tested ∙ rw (row-of-frame, looked .one, looked .plus, looked .minus, looked .twos, ← size)
-
-    pub not-placed : {r : Placed} → a ≡ false → r .applies ≡ false → r .bits ≡ 0 → PlacedFor mask s r
-    not-placed {r} e f z =
-        record { applied = f ∙ sym e ∙ applied-is; placed = λ h. absurd (never (sym f ∙ h)); small = omega arith }
+    applied-is = tested ∙ rw (row-of-frame, counted .one, counted .plus, counted .minus, counted .twos, ← size)
 
     pub row-low : a ≡ true → ltb row 4 ≡ true
     row-low t =
         and-right (leb 80 n) (ltb row 4)
-        (and-left _ (leb (l .one) (l .plus)) (and-left _ (leb (l .minus) (l .plus)) (and-left _ (leb (l .twos) (l .plus)) (sym tested ∙ t))))
+        (and-left _ (leb (c .one) (c .plus)) (and-left _ (leb (c .minus) (c .plus)) (and-left _ (leb (c .twos) (c .plus)) (sym tested ∙ t))))
 
-    pub placed-for : {flag : ℕ} {values : Values} {ways : Ways} → a ≡ true → flag ≡ cond (leb (l .below) (l .above)) 1 0 → ValuesAre mask row flag values
-        → WaysAre (take (values .count) (values .values)) s ways
-        → PlacedFor mask s (record { applies = true; row = row; flag = flag; values = values; methods = ways .methods; bits = 11 + ways .bits })
+    pub placed-for : {set flag : ℕ} {values : Values} {ways : Ways} → holds set 7 ≡ true → a ≡ true → flag ≡ cond (leb (c .below) (c .above)) 1 0
+        → ValuesAre mask row flag values → WaysAre (take (values .count) (values .values)) s ways
+        → PlacedFor mask set s (record { offered = true; row = row; flag = flag; values = values; methods = ways .methods; bits = 11 + ways .bits })
     unfolding locatedForm valuesOf
-    placed-for {flag} {values} {ways} t marked v w =
-        let f : flag ≡ locatedFlag mask s = marked ∙ rw (looked .below, looked .above) in
+    placed-for {flag = flag} {values = values} {ways = ways} held t marked v w =
+        let f : flag ≡ locatedFlag mask s = marked ∙ rw (counted .below, counted .above) in
         let fit : leb (caseOf (rowOf mask s) .from) (length s) ≡ true = rows-fit mask s (rw row-of-frame at (row-low t)) in
         let vs : take (values .count) (values .values) ≡ valuesIn mask s = v .says ∙ rw (row-of-frame, f, fit) in
         let b : 11 + ways .bits ≡ length (locatedForm mask s) =
         rw (length-append, length-lowBits, length-append, length-lowBits, length-append, length-lowBits, w .bits, vs) (omega arith) in
         record {
-          applied = sym t ∙ applied-is;
+          offered = rw (held, ← applied-is, t);
           placed = λ h.
               record {
                 row = row-of-frame;

@@ -6,17 +6,15 @@ use mathlib.Core.Bool.{Bool, true, false, cond}
 use native.Mathlib.Omega.{arith}
 use native.Mathlib.Numerals.{add-one}
 use native.Mathlib.Nat.{zero-add}
-use lib.ListN.{length, getD, take, drop, set, length-set, length-append, drop-of-length-le}
+use lib.ListN.{length, getD, take, drop, set, length-set, length-append, length-map, drop-of-length-le}
 use lib.Seq.{drop-cons, take-suc-set, getD-take, length-take-le}
 use lib.Dec.{eqb}
 use Rattle.rules.specs.Chooses.{countOf, flagsFor, without, methodOf, valueForm, valuesForm}
-use Rattle.measure.specs.declared.Left.{Left}
-use Rattle.measure.specs.Measures.{Flagged, marksOf, countIs, LeftIs}
+use Rattle.measure.specs.Measures.{countIs, RunsAre, CopyIs, LeftIs}
 use Rattle.measure.proofs.Leaving.{without-count}
 use Rattle.choice.specs.declared.Way.{Way}
 use Rattle.choice.specs.declared.Ways.{Ways}
-use Rattle.choice.specs.Offers.{cellsOf}
-use Rattle.choice.specs.Ways.{Counted, WayIs, methodsOf, WaysAre}
+use Rattle.choice.specs.Ways.{FlagsAre, WayIs, WayFor, methodsOf, WaysAre}
 
 flags-count : (x : ℕ) (l : List ℕ) → countOf (λ f. eqb f 1) (flagsFor x l) ≡ countIs x l
 unfolding countOf
@@ -28,71 +26,83 @@ flags-count x (y ∷ l) = step (eqb y x) (flags-count x l)
     step true e = rw e
     step false e = rw e
 
-pub length-cells : {s : List ℕ} {d : ℕ} {l : Left} → LeftIs s d l → d ≤ 320 → length s ≡ l .len
-length-cells {l = l} i h = ap length (sym (i .says)) ∙ length-take-le (l .len) (l .samples) (omega (arith, i .few, i .size))
+pub length-cells : {s r : List ℕ} {d kept : ℕ} → LeftIs s d kept r → d ≤ 320 → length s ≡ kept
+length-cells {r = r} {kept = kept} i h = ap length (sym (i .says)) ∙ length-take-le kept r (omega (arith, i .few, i .size))
+
+flags-small : (x : ℕ) (l : List ℕ) (i : ℕ) → getD (flagsFor x l) i 0 < 2
+flags-small x [] i = omega arith
+flags-small x (y ∷ l) zero = step (eqb y x)
+  where
+    step : (b : Bool) → cond b 1 0 < 2
+    step true = omega arith
+    step false = omega arith
+flags-small x (y ∷ l) (suc i) = flags-small x l i
 
 -- how often a value occurs is what it takes away
-pub counted : {d : ℕ} {flags : List ℕ} {l : Left} (x : ℕ) (s : List ℕ) → length s ≡ d → d ≤ 320 → Flagged (marksOf x 1 0 s) d flags → LeftIs (without x s) d l
-    → Counted flags d (d - l .len)
-counted {d} {flags} {l} x s size most f i =
-    let ones : countOf (λ y. eqb y 1) (take d flags) ≡ countIs x s = rw (f .says) (flags-count x s) in
+pub flagged : {d kept : ℕ} {r : List ℕ} (x : ℕ) (s : List ℕ) → length s ≡ d → d ≤ 320 → LeftIs (without x s) d kept r → FlagsAre (flagsFor x s) d (d - kept)
+flagged {d} {kept} x s size most i =
     record {
-      size = f .size;
+      size = length-map s (λ y. cond (eqb y x) 1 0) ∙ size;
       most = most;
-      bits = f .bits;
-      ones = omega (arith, ones, without-count x s, length-cells i most);
+      bits = flags-small x s;
+      ones = omega (arith, flags-count x s, without-count x s, length-cells i most);
     }
 
 -- a turn of the loop
-pub record WaysTurn (xs s : List ℕ) (left : Left) (methods : List ℕ) (bits j : ℕ) : Type 0 where
-  pub says : take j methods ++ methodsOf (drop j xs) (cellsOf left) ≡ methodsOf xs s
-  pub sums : bits + length (valuesForm (drop j xs) (cellsOf left)) ≡ length (valuesForm xs s)
+pub record WaysTurn (xs s cells : List ℕ) (d : ℕ) (methods : List ℕ) (bits j : ℕ) : Type 0 where
+  pub says : take j methods ++ methodsOf (drop j xs) (take d cells) ≡ methodsOf xs s
+  pub sums : bits + length (valuesForm (drop j xs) (take d cells)) ≡ length (valuesForm xs s)
   pub size : length methods ≡ 3
-  pub cells : length (left .samples) ≡ 320
-  pub few : left .len ≤ 320
+  pub left : length cells ≡ 320
+  pub few : d ≤ 320
   pub within : j ≤ length xs
   pub most : length xs ≤ 3
   pub small : bits ≤ 200000000 * j
 
-pub ways-turn : {xs s methods flags : List ℕ} {left left′ : Left} {way : Way} {bits j x : ℕ} → WaysTurn xs s left methods bits j → j < length xs → x ≡ getD xs j 0
-    → Flagged (marksOf x 1 0 (cellsOf left)) (left .len) flags → LeftIs (without x (cellsOf left)) (left .len) left′ → WayIs (take (left .len) flags) way
-    → WaysTurn xs s left′ (set methods j (way .method)) (bits + way .bits) (j + 1)
+-- the way of the value's own flags
+pub way-is : {xs s methods cells cells′ runs : List ℕ} {way : Way} {d kept found bits j : ℕ} (x : ℕ) → WaysTurn xs s cells d methods bits j
+    → RunsAre (flagsFor x (take d cells)) found runs → LeftIs (without x (take d cells)) d kept cells′ → WayFor (take found runs) d (d - kept) way
+    → WayIs (flagsFor x (take d cells)) way
+way-is {cells = cells} {d = d} x t r l w =
+    w .way (flagsFor x (take d cells)) (sym (r .says)) (flagged x (take d cells) (length-take-le d cells (omega (arith, t .left, t .few))) (t .few) l)
+
+pub ways-turn : {xs s methods cells cells′ runs : List ℕ} {way : Way} {d kept found bits j x : ℕ} → WaysTurn xs s cells d methods bits j → j < length xs → x ≡ getD xs j 0
+    → RunsAre (flagsFor x (take d cells)) found runs → LeftIs (without x (take d cells)) d kept cells′ → WayFor (take found runs) d (d - kept) way
+    → WaysTurn xs s cells′ kept (set methods j (way .method)) (bits + way .bits) (j + 1)
 unfolding methodsOf valuesForm
-ways-turn {xs} {s} {methods} {flags} {left} {left′} {way} {bits} {j} {x} t h e f l w =
-    let fs = flagsFor x (cellsOf left) in
+ways-turn {xs} {s} {methods} {cells} {cells′} {runs} {way} {d} {kept} {found} {bits} {j} {x} t h e r l w =
+    let i = way-is x t r l w in
     let next : drop j xs ≡ x ∷ drop (j + 1) xs = rw (drop-cons xs j 0 h, ← e, add-one j) in
-    let m : way .method ≡ methodOf fs = w .method ∙ ap methodOf (f .says) in
-    let v : way .bits ≡ length (valueForm fs) = w .bits ∙ ap (λ (g : List ℕ). length (valueForm g)) (f .says) in
     let before = rw (next, length-append) at (t .sums) in
     record {
       says =
-          rw (add-one j, take-suc-set methods j (way .method) (omega (arith, t .size, t .most)), append-assoc, m, l .says, ← (add-one j)) (rw next at (t .says));
-      sums = rw (l .says) (omega (arith, v, before));
+          rw (add-one j, take-suc-set methods j (way .method) (omega (arith, t .size, t .most)), append-assoc, i .method, l .says, ← (add-one j)) (rw next at (t .says));
+      sums = rw (l .says) (omega (arith, i .bits, before));
       size = length-set methods j (way .method) ∙ t .size;
-      cells = l .size;
+      left = l .size;
       few = omega (arith, l .few, t .few);
       within = omega arith;
       most = t .most;
-      small = omega (arith, t .small, w .small);
+      small = omega (arith, t .small, i .small);
     }
 
-pub ways-start : (values : List ℕ) (count : ℕ) (frame : Left) → length (frame .samples) ≡ 320 → frame .len ≤ 320 → length values ≡ 3 → count ≤ 3
-    → WaysTurn (take count values) (cellsOf frame) frame (0 ∷ 0 ∷ 0 ∷ []) 0 0
-ways-start values count frame size few three most =
+pub ways-start : (values samples cells : List ℕ) (count n : ℕ) → CopyIs (take n samples) n cells → n ≤ 320 → length values ≡ 3 → count ≤ 3
+    → WaysTurn (take count values) (take n samples) cells n (0 ∷ 0 ∷ 0 ∷ []) 0 0
+ways-start values samples cells count n copy few three most =
     record {
-      says = refl;
-      sums = zero-add _;
+      says = rw (copy .says);
+      sums = rw (copy .says) (zero-add _);
       size = refl;
-      cells = size;
+      left = copy .size;
       few = few;
       within = omega arith;
       most = omega (arith, length-take-le count values (omega arith));
       small = omega arith;
     }
 
-pub ways-done : {xs s methods : List ℕ} {left : Left} {bits j : ℕ} → WaysTurn xs s left methods bits j → length xs ≤ j → WaysAre xs s (record { methods = methods; bits = bits })
+pub ways-done : {xs s methods cells : List ℕ} {d bits j : ℕ} → WaysTurn xs s cells d methods bits j → length xs ≤ j → WaysAre xs s (record { methods = methods; bits = bits })
 unfolding methodsOf valuesForm
-ways-done {xs} {s} {methods} {left} {bits} {j} t h =
+ways-done {xs} {s} {methods} {cells} {d} {bits} {j} t h =
     let e : drop j xs ≡ [] = drop-of-length-le xs h in
     let k : j ≡ length xs = omega (arith, t .within) in
     record {

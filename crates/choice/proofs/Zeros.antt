@@ -2,20 +2,20 @@
 use Prim.Native.Nat.{ℕ, zero, suc, _+_, _-_, _≤_, _<_}
 use mathlib.Core.Path.{_≡_, refl, sym, ap, ap₂, _∙_}
 use mathlib.Core.List.{List, [], _∷_, _++_, map}
-use mathlib.Core.Bool.{Bool, true, false, cond, _||_}
+use mathlib.Core.Bool.{Bool, true, false, cond, _&&_, _||_}
 use native.Mathlib.Omega.{arith}
-use borrow.Author.Tests.{eq-eqb, ne-eqb, eqb-true}
+use borrow.Author.Tests.{eqb-true}
 use lib.ListN.{length, getD, take, replicate, length-append, length-map}
 use lib.Dec.{eqb, ltb}
+use Rattle.rules.specs.Tools.{holds}
 use Rattle.rules.specs.Samples.{sampleOf, plusZero, minusZero}
 use Rattle.rules.specs.First.{riceCode}
 use Rattle.rules.specs.Runs.{runsOf, riceForms, runsForm}
 use Rattle.rules.specs.Zeros.{codesOf, codeOf, mostS, zeroOf, flagOf}
 use Rattle.rules.specs.Chooses.{countOf, applies, markOf, leastFrom, leastS, bestS, riceBits, riceChoice}
-use Rattle.measure.specs.declared.Look.{Look}
-use Rattle.measure.specs.declared.Runs.{Runs}
+use Rattle.measure.specs.declared.Counts.{Counts}
 use Rattle.measure.specs.declared.Least.{Least}
-use Rattle.measure.specs.Measures.{countIs, Looked, Flagged, marksOf, RunsAre, bitsWith, LeastIs}
+use Rattle.measure.specs.Measures.{countIs, Counted, marksOf, RunsAre, bitsWith, LeastIs}
 use Rattle.choice.specs.declared.Rice.{Rice}
 use Rattle.choice.specs.Offers.{CodesAre, StartIs, RiceIs, RiceFor}
 use Rattle.choice.proofs.Methods.{zero-at}
@@ -52,37 +52,33 @@ unfolding sampleOf
 two-zeros mask e = omega arith
 
 -- where binary applies Rice does
-pub zeros-apply : {mask first : ℕ} {s : List ℕ} {l : Look} → Looked mask first s l → eqb (l .plus + l .minus) (length s) ≡ applies mask 5 s
+pub zeros-apply : {mask : ℕ} {s : List ℕ} {c : Counts} → Counted mask s c → eqb (c .plus + c .minus) (length s) ≡ applies mask 5 s
 unfolding applies
-zeros-apply {mask} {s = s} looked = rw (either (plusZero mask) (minusZero mask) (two-zeros mask) s, looked .plus, looked .minus)
+zeros-apply {mask} {s = s} counted = rw (either (plusZero mask) (minusZero mask) (two-zeros mask) s, counted .plus, counted .minus)
 
 pub rice-applies : (mask : ℕ) (s : List ℕ) → applies mask 5 s ≡ applies mask 6 s
 unfolding applies
 rice-applies mask s = refl
 
-module _ {mask first n : ℕ} {s : List ℕ} {l : Look} (looked : Looked mask first s l) (size : length s ≡ n) where
-  applied-is : eqb (l .plus + l .minus) n ≡ applies mask 6 s
-  applied-is = rw (← size) (zeros-apply looked ∙ rice-applies mask s)
+pub not-rice : {mask set : ℕ} {s runs : List ℕ} {r : Rice} → (holds set 6 && applies mask 6 s) ≡ false → r .offered ≡ false → r .bits ≡ 0 → RiceFor mask set s r runs
+not-rice e f z = record { offered = f ∙ sym e; rice = λ h. absurd (never (sym f ∙ h)); small = omega arith }
 
-  pub not-rice : {r : Rice} → (l .plus + l .minus ≡ n → ⊥) → r .applies ≡ false → r .bits ≡ 0 → RiceFor mask s r
-  not-rice {r} ne f z =
-      record {
-        applied = f ∙ sym (ne-eqb (l .plus + l .minus) n ne) ∙ applied-is;
-        rice = λ h. absurd (never (sym f ∙ h));
-        small = omega arith;
-      }
+module _ {mask n : ℕ} {s : List ℕ} {c : Counts} (counted : Counted mask s c) (size : length s ≡ n) where
+  pub zeros-are : (t : ℕ) → applies mask 5 s ≡ applies mask t s → {z : Bool} → z ≡ eqb (c .plus + c .minus) n → z ≡ applies mask t s
+  zeros-are t e f = f ∙ rw (← size) (zeros-apply counted ∙ e)
 
-  pub rice-for : {mark zero′ most start : ℕ} {flags extra : List ℕ} {found : Runs} {least : Least} → l .plus + l .minus ≡ n → mark ≡ cond (ltb (l .plus) (l .minus)) 1 0
-      → zero′ ≡ zeroOf mask mark 0 → Flagged (marksOf zero′ 0 1 s) n flags → RunsAre (take n flags) found → CodesAre n extra → most ≡ mostS n → most ≤ 9
-      → LeastIs (bitsWith extra (take (found .count) (found .runs))) most least → StartIs n start
-      → RiceFor mask s (record { applies = true; mark = mark; s = least .s; bits = start + least .bits; runs = found })
+  pub rice-for : {set mark zero′ most start count : ℕ} {runs extra : List ℕ} {least : Least} → (holds set 6 && applies mask 6 s) ≡ true
+      → mark ≡ cond (ltb (c .plus) (c .minus)) 1 0 → zero′ ≡ zeroOf mask (cond (ltb (c .plus) (c .minus)) 1 0) 0 → RunsAre (marksOf zero′ 0 1 s) count runs
+      → CodesAre n extra → most ≡ mostS n → most ≤ 9 → LeastIs (bitsWith extra (take count runs)) most least → StartIs n start
+      → RiceFor mask set s (record { offered = true; mark = mark; s = least .s; bits = start + least .bits; count = count }) runs
   unfolding riceChoice
-  rice-for {mark} {zero′} {most} {start} {flags} {extra} {found} {least} all marked zeroed flagged runs codes top few best begun =
-      let m : mark ≡ markOf mask s = marked ∙ rw (looked .plus, looked .minus) in
+  rice-for {mark = mark} {zero′ = zero′} {most = most} {start = start} {count = count} {runs = runs} {extra = extra} {least = least} held marked zeroed found codes top few best begun =
+      let told : cond (ltb (c .plus) (c .minus)) 1 0 ≡ markOf mask s = rw (counted .plus, counted .minus) in
+      let m : mark ≡ markOf mask s = marked ∙ told in
       let fs = map (flagOf mask (markOf mask s)) s in
-      let f : take n flags ≡ fs = flagged .says ∙ rw (zeroed, m) in
-      let r : RunsAre fs found = rw f at runs in
-      let g : bitsWith extra (take (found .count) (found .runs)) ≡ riceBits mask (markOf mask s) s =
+      let f : marksOf zero′ 0 1 s ≡ fs = ap (λ (z : ℕ). marksOf z 0 1 s) (zeroed ∙ ap (λ (k : ℕ). zeroOf mask k 0) told) in
+      let r : RunsAre fs count runs = rw f at found in
+      let g : bitsWith extra (take count runs) ≡ riceBits mask (markOf mask s) s =
       λ i S.
       ap₂ _+_ (codes .says S ∙ ap (λ (k : ℕ). length (codeOf k S)) (sym size)) (ap (λ (rs : List ℕ). length (riceForms S rs)) (r .says)) i in
       let weigh = riceBits mask (markOf mask s) s in
@@ -93,7 +89,7 @@ module _ {mask first n : ℕ} {s : List ℕ} {l : Look} (looked : Looked mask fi
       let sum : length (riceChoice mask s) ≡ length first′ + weigh S =
       length-append first′ (codeOf (length s) S ++ runsForm S fs) ∙ ap (λ (k : ℕ). length first′ + k) (length-append (codeOf (length s) S) (runsForm S fs)) in
       record {
-        applied = sym (eq-eqb (l .plus + l .minus) n all) ∙ applied-is;
+        offered = sym held;
         rice = λ h.
             record {
               mark = m;
@@ -101,7 +97,7 @@ module _ {mask first n : ℕ} {s : List ℕ} {l : Look} (looked : Looked mask fi
               to = omega (arith, best .to);
               most = rw (size, ← top) (best .to);
               from = best .from;
-              runs = r;
+              found = r;
               bits =
                   ap₂ _+_ (begun .says (markOf mask s) ∙ ap (λ (k : ℕ). length (riceCode k (markOf mask s))) (sym size))
                   (best .bits ∙ ap (λ (h : ℕ → ℕ). h (least .s)) g ∙ ap weigh b)

@@ -6,28 +6,32 @@ use mathlib.Core.Bool.{true, cond, _&&_}
 use lib.ListN.{length, getD, take}
 use lib.Dec.{eqb, leb}
 use lib.IntN.{ℤ}
+use Rattle.rules.specs.Tools.{holds}
 use Rattle.rules.specs.Samples.{sampleOf}
 use Rattle.rules.specs.First.{riceCode}
 use Rattle.rules.specs.Zeros.{codeOf, mostS, flagOf}
 use Rattle.rules.specs.Located.{caseOf, valuesOf}
 use Rattle.rules.specs.Chooses.{rowOf, locatedFlag, locatedForm, applies, markOf, bestS, riceChoice}
-use Rattle.measure.specs.declared.Left.{Left}
 use Rattle.measure.specs.declared.Look.{Look}
-use Rattle.measure.specs.Measures.{Looked, RunsAre}
+use Rattle.measure.specs.declared.Counts.{Counts}
+use Rattle.measure.specs.Measures.{Looked, Counted, RunsAre}
 use Rattle.choice.specs.declared.Values.{Values}
 use Rattle.choice.specs.declared.Placed.{Placed}
 use Rattle.choice.specs.declared.Rice.{Rice}
 use Rattle.choice.specs.Ways.{methodsOf}
 
--- the samples that are left
-abbrev pub cellsOf : Left → List ℕ
-cellsOf l = take (l .len) (l .samples)
+-- n samples that were looked at, and counted
+pub record ZerosSeen (mask : ℕ) (samples : List ℕ) (n : ℕ) (c : Counts) : Type 0 where
+  pub counted : Counted mask (take n samples) c
+  pub long : n ≤ length samples
+  pub few : n ≤ 320
+  pub seven : mask < 128
 
--- a frame that was looked at
-pub record Seen (mask : ℕ) (frame : Left) (l : Look) : Type 0 where
-  pub looked : Looked mask (getD (frame .samples) 0 0) (cellsOf frame) l
-  pub size : length (frame .samples) ≡ 320
-  pub few : frame .len ≤ 320
+pub record Seen (mask : ℕ) (samples : List ℕ) (n : ℕ) (l : Look) (c : Counts) : Type 0 where
+  pub looked : Looked mask (getD samples 0 0) (take n samples) l
+  pub counted : Counted mask (take n samples) c
+  pub long : n ≤ length samples
+  pub few : n ≤ 320
   pub seven : mask < 128
 
 -- a row's values for a flag
@@ -62,9 +66,9 @@ pub record PlacedIs (mask : ℕ) (s : List ℕ) (r : Placed) : Type 0 where
   pub size : length (r .methods) ≡ 3
   pub bits : r .bits ≡ length (locatedForm mask s)
 
-pub record PlacedFor (mask : ℕ) (s : List ℕ) (r : Placed) : Type 0 where
-  pub applied : r .applies ≡ applies mask 7 s
-  pub placed : r .applies ≡ true → PlacedIs mask s r
+pub record PlacedFor (mask set : ℕ) (s : List ℕ) (r : Placed) : Type 0 where
+  pub offered : r .offered ≡ (holds set 7 && applies mask 7 s)
+  pub placed : r .offered ≡ true → PlacedIs mask s r
   pub small : r .bits ≤ 1000000000
 
 -- the bits of the codes of S
@@ -76,16 +80,16 @@ pub record StartIs (n r : ℕ) : Type 0 where
   pub says : (mark : ℕ) → r ≡ length (riceCode n mark)
   pub small : r ≤ 7
 
-pub record RiceIs (mask : ℕ) (s : List ℕ) (r : Rice) : Type 0 where
+pub record RiceIs (mask : ℕ) (s : List ℕ) (r : Rice) (runs : List ℕ) : Type 0 where
   pub mark : r .mark ≡ markOf mask s
   pub best : r .s ≡ bestS mask (markOf mask s) s
   pub to : r .s ≤ 9
   pub most : r .s ≤ mostS (length s)
   pub from : 1 ≤ r .s
-  pub runs : RunsAre (map (flagOf mask (markOf mask s)) s) (r .runs)
+  pub found : RunsAre (map (flagOf mask (markOf mask s)) s) (r .count) runs
   pub bits : r .bits ≡ length (riceChoice mask s)
 
-pub record RiceFor (mask : ℕ) (s : List ℕ) (r : Rice) : Type 0 where
-  pub applied : r .applies ≡ applies mask 6 s
-  pub rice : r .applies ≡ true → RiceIs mask s r
+pub record RiceFor (mask set : ℕ) (s : List ℕ) (r : Rice) (runs : List ℕ) : Type 0 where
+  pub offered : r .offered ≡ (holds set 6 && applies mask 6 s)
+  pub rice : r .offered ≡ true → RiceIs mask s r runs
   pub small : r .bits ≤ 1000000000

@@ -1,25 +1,23 @@
 -- The choice.
 use Prim.Native.Nat.{ℕ, _≤_}
 use mathlib.Core.Path.{_≡_}
-use mathlib.Core.List.{List}
-use mathlib.Core.Bool.{Bool, cond, _&&_}
+use mathlib.Core.List.{List, [], _∷_}
+use mathlib.Core.Bool.{Bool, cond, _&&_, _||_}
 use lib.ListN.{length}
-use lib.Dec.{leb}
+use lib.Dec.{eqb, leb}
 use Rattle.rules.specs.Bits.{octetsFor}
-use Rattle.rules.specs.Tools.{holds}
 use Rattle.rules.specs.Chooses.{choose, chosenTool, formOf}
-use Rattle.measure.specs.declared.Left.{Left}
 use Rattle.choice.specs.declared.Choice.{Choice}
 use Rattle.choice.specs.declared.Plan.{Plan}
 use Rattle.choice.specs.Offers.{RiceIs, PlacedIs}
 
 -- whether a tool is taken
-abbrev pub taken : Choice → ℕ → ℕ → Bool → ℕ → Bool
-taken best set t applies bits = holds set t && applies && leb (octetsFor bits) (octetsFor (best .bits))
+abbrev pub taken : Choice → Bool → ℕ → Bool
+taken best offered bits = offered && leb (octetsFor bits) (octetsFor (best .bits))
 
-pub record BetterIs (best : Choice) (set t : ℕ) (applies : Bool) (bits : ℕ) (r : Choice) : Type 0 where
-  pub tool : r .tool ≡ cond (taken best set t applies bits) t (best .tool)
-  pub size : r .bits ≡ cond (taken best set t applies bits) bits (best .bits)
+pub record BetterIs (best : Choice) (t : ℕ) (offered : Bool) (bits : ℕ) (r : Choice) : Type 0 where
+  pub tool : r .tool ≡ cond (taken best offered bits) t (best .tool)
+  pub size : r .bits ≡ cond (taken best offered bits) bits (best .bits)
   pub small : r .bits ≤ 1000000000
 
 -- the best of some tools and of uncompressed
@@ -28,15 +26,27 @@ pub record ChosenIs (mask set : ℕ) (s ts : List ℕ) (r : Choice) : Type 0 whe
   pub bits : r .bits ≡ length (formOf mask (choose mask set s ts) s)
   pub small : r .bits ≤ 1000000000
 
--- a frame of samples
-pub record IsFrame (frame : Left) : Type 0 where
-  pub size : length (frame .samples) ≡ 320
-  pub some : 1 ≤ frame .len
-  pub few : frame .len ≤ 320
+-- one of the two masks
+abbrev pub isMask : ℕ → Bool
+isMask mask = eqb mask 0x55 || eqb mask 0x7F
 
-pub record PlanFor (mask set : ℕ) (s : List ℕ) (r : Plan) : Type 0 where
-  pub tool : r .tool ≡ chosenTool mask set s
-  pub bits : r .bits ≡ length (formOf mask (chosenTool mask set s) s)
+-- all samples from -2 to 1, by their least and greatest on the line
+abbrev pub near : ℕ → ℕ → Bool
+near least greatest = leb 126 least && leb greatest 129
+
+-- the tools that are measured
+abbrev pub measured : List ℕ
+measured = 5 ∷ 6 ∷ 7 ∷ []
+
+-- a choice that is settled, or 0 where it lies among the tools that are measured
+pub record Plain (mask set : ℕ) (s : List ℕ) (r : ℕ) : Type 0 where
+  pub settled : (r ≡ 0 → ⊥) → r ≡ chosenTool mask set s
+  pub later : r ≡ 0 → chosenTool mask set s ≡ choose mask set s measured
+  pub most : r ≤ 4
+
+pub record PlanFor (mask set : ℕ) (s : List ℕ) (r : Plan) (runs : List ℕ) : Type 0 where
+  pub tool : r .tool ≡ choose mask set s measured
+  pub bits : r .bits ≡ length (formOf mask (choose mask set s measured) s)
   pub small : r .bits ≤ 1000000000
-  pub rice : chosenTool mask set s ≡ 6 → RiceIs mask s (r .rice)
-  pub placed : chosenTool mask set s ≡ 7 → PlacedIs mask s (r .placed)
+  pub rice : choose mask set s measured ≡ 6 → RiceIs mask s (r .rice) runs
+  pub placed : choose mask set s measured ≡ 7 → PlacedIs mask s (r .placed)

@@ -3,26 +3,27 @@
 use law::minus_zero;
 use law::plus_zero;
 use law::sample_of;
-use measure::Left;
+use measure::Counts;
 use measure::Look;
-use measure::Runs;
+use measure::copy_of;
+use measure::counts_of;
 use measure::least_s;
-use measure::look_at;
-use measure::marks;
 use measure::runs_of;
 use measure::width_of;
 use measure::without_value;
 use prefix::holds;
 ghost use mathlib.Core.Path.{_≡_};
 ghost use mathlib.Core.List.{[], _∷_};
-ghost use mathlib.Core.Bool.{cond, _&&_};
-ghost use Prim.Native.Nat.{_≤_, _<_};
-ghost use lib.ListN.{length, take};
+ghost use mathlib.Core.Bool.{true, false, cond, _&&_};
+ghost use Prim.Native.Nat.{_+_, _≤_, _<_};
+ghost use lib.ListN.{length, getD, take};
 ghost use lib.Dec.{eqb, leb, ltb};
+ghost use Rattle.rules.specs.Tools as tools;
 ghost use Rattle.rules.specs.Zeros.{zeroOf, mostS};
-ghost use Rattle.choice.specs.Ways.{Counted, WayIs, WaysAre};
-ghost use Rattle.choice.specs.Offers.{cellsOf, ValuesAre, rowBy, Seen, PlacedFor, CodesAre, StartIs, RiceFor};
-ghost use Rattle.choice.specs.Plans.{BetterIs, IsFrame, PlanFor};
+ghost use Rattle.measure.specs.Measures.{Looked};
+ghost use Rattle.choice.specs.Ways.{WayFor, WaysAre};
+ghost use Rattle.choice.specs.Offers.{ValuesAre, rowBy, Seen, ZerosSeen, PlacedFor, CodesAre, StartIs, RiceFor};
+ghost use Rattle.choice.specs.Plans.{BetterIs, isMask, near, Plain, PlanFor};
 
 // How a value is written: its method, and all its bits with the method's three.
 pub struct Way {
@@ -50,18 +51,16 @@ fn narrow(x: usize) -> u8
 }
 
 // "101 if it doesn't occur; 000 if L exceeds D; else 111 if it occurs at most 4 times and L exceeds count times
-// ceil(log2 D) plus 2; else runs"
-pub fn way_of(flags: &[u8; 320], d: usize, count: usize) -> Way
-    requires { ⌜ Counted (now flags) d count ⌝ }
-    ensures { λ r. ⌜ WayIs (take d (now (flags .entry))) r ⌝ }
+// ceil(log2 D) plus 2; else runs". The runs are those of the value's D flags.
+pub fn way_of(runs: &[u16; 321], found: usize, d: usize, count: usize) -> Way
+    requires { ⌜ (found ≤ 321) × ((found ≤ length (now runs)) × (d ≤ 320)) ⌝ }
+    ensures { λ r. ⌜ WayFor (take found (now (runs .entry))) d count r ⌝ }
 {
     if count == 0 {
         return Way { method: 5, bits: 3 };
     }
-    let found = runs_of(flags, d);
-    let runs = found.runs;
     let none = [0u8; 10];
-    let least = least_s(&runs, found.count, &none, 4);
+    let least = least_s(runs, found, &none, 4);
     if d < least.bits {
         return Way {
             method: 0,
@@ -86,26 +85,26 @@ pub fn way_of(flags: &[u8; 320], d: usize, count: usize) -> Way
 }
 
 // The ways of values, one after the other, "D is N for the first value, then the places still empty".
-pub fn ways_of(frame: Left, v: Values) -> Ways
-    requires { ⌜ (length (frame .samples) ≡ 320) × (frame .len ≤ 320) ⌝ }
+pub fn ways_of(samples: &[u8], n: usize, v: Values, runs: &mut [u16; 321]) -> Ways
+    requires { ⌜ (n ≤ 320) × ((n ≤ length (now samples)) × (length (now runs) ≡ 321)) ⌝ }
     requires { ⌜ (length (v .values) ≡ 3) × (v .count ≤ 3) ⌝ }
-    ensures { λ r. ⌜ WaysAre (take (v .count) (v .values)) (take (frame .len) (frame .samples)) r ⌝ }
+    ensures { λ r. ⌜ (WaysAre (take (v .count) (v .values)) (take n (now (samples .entry))) r) × (length (now (runs .exit)) ≡ 321) ⌝ }
 {
     let values = v.values;
-    let count = v.count;
-    let mut left = frame;
+    let most = v.count;
+    let mut cells = copy_of(samples, n);
+    let mut d = n;
     let mut methods = [0u8; 3];
     let mut bits = 0;
     let mut j = 0;
-    while j < count {
+    while j < most {
         let x = values[j];
-        let d = left.len;
-        let cells = left.samples;
-        let flags = marks(&cells, d, x, 1, 0);
-        left = without_value(&cells, d, x);
-        let way = way_of(&flags, d, d - left.len);
+        let found = runs_of(&cells, d, x, 1, 0, runs);
+        let kept = without_value(&mut cells, d, x);
+        let way = way_of(runs, found, d, d - kept);
         methods[j] = way.method;
         bits += way.bits;
+        d = kept;
         j += 1;
     }
     Ways {
@@ -188,8 +187,8 @@ pub fn row_of(l: Look, n: usize) -> usize
 }
 
 // "N is 80 or more, least and greatest are a row's, N fits it, and no value is more frequent than 0"
-fn located_applies(l: Look, n: usize, row: usize) -> bool
-    ensures { λ r. ⌜ r ≡ leb 80 n && ltb row 4 && leb (l .one) (l .plus) && leb (l .minus) (l .plus) && leb (l .twos) (l .plus) ⌝ }
+fn located_applies(c: Counts, n: usize, row: usize) -> bool
+    ensures { λ r. ⌜ r ≡ leb 80 n && ltb row 4 && leb (c .one) (c .plus) && leb (c .minus) (c .plus) && leb (c .twos) (c .plus) ⌝ }
 {
     if n < 80 {
         return false;
@@ -197,25 +196,25 @@ fn located_applies(l: Look, n: usize, row: usize) -> bool
     if 4 <= row {
         return false;
     }
-    if l.plus < l.one {
+    if c.plus < c.one {
         return false;
     }
-    if l.plus < l.minus {
+    if c.plus < c.minus {
         return false;
     }
-    l.twos <= l.plus
+    c.twos <= c.plus
 }
 
 // "flag 1 if as many samples are above 0 as below or more"
-fn flag_of(l: Look) -> usize
-    ensures { λ r. ⌜ r ≡ cond (leb (l .below) (l .above)) 1 0 ⌝ }
+fn flag_of(c: Counts) -> usize
+    ensures { λ r. ⌜ r ≡ cond (leb (c .below) (c .above)) 1 0 ⌝ }
 {
-    if l.below <= l.above { 1 } else { 0 }
+    if c.below <= c.above { 1 } else { 0 }
 }
 
-// What value-location would write.
+// What value-location would write, where the set holds it and it applies.
 pub struct Placed {
-    pub applies: bool,
+    pub offered: bool,
     pub row: usize,
     pub flag: usize,
     pub values: Values,
@@ -223,28 +222,37 @@ pub struct Placed {
     pub bits: usize,
 }
 
-pub fn placed_of(frame: Left, mask: u8, l: Look) -> Placed
-    requires { ⌜ Seen mask frame l ⌝ }
-    ensures { λ r. ⌜ PlacedFor mask (cellsOf frame) r ⌝ }
+fn nothing_placed() -> Placed
+    ensures { λ r. ⌜ (r .offered ≡ false) × (r .bits ≡ 0) ⌝ }
 {
-    let n = frame.len;
-    let row = row_of(l, n);
-    if !located_applies(l, n, row) {
-        return Placed {
-            applies: false,
-            row: 0,
-            flag: 0,
-            values: three(0, 0, 0, 0),
-            methods: [0u8; 3],
-            bits: 0,
-        };
+    Placed {
+        offered: false,
+        row: 0,
+        flag: 0,
+        values: three(0, 0, 0, 0),
+        methods: [0u8; 3],
+        bits: 0,
     }
-    let flag = flag_of(l);
+}
+
+pub fn placed_of(samples: &[u8], n: usize, mask: u8, set: u32, l: Look, c: Counts, runs: &mut [u16; 321]) -> Placed
+    requires { ⌜ Seen mask (now samples) n l c ⌝ }
+    requires { ⌜ length (now runs) ≡ 321 ⌝ }
+    ensures { λ r. ⌜ (PlacedFor mask set (take n (now (samples .entry))) r) × (length (now (runs .exit)) ≡ 321) ⌝ }
+{
+    if !holds(set, 7) {
+        return nothing_placed();
+    }
+    let row = row_of(l, n);
+    if !located_applies(c, n, row) {
+        return nothing_placed();
+    }
+    let flag = flag_of(c);
     let values = values_of(mask, row, flag);
-    let ways = ways_of(frame, values);
+    let ways = ways_of(samples, n, values, runs);
     let methods = ways.methods;
     Placed {
-        applies: true,
+        offered: true,
         row: row,
         flag: flag,
         values: values,
@@ -259,18 +267,19 @@ fn sized(x: u16) -> usize
     x as usize
 }
 
-// "the commoner zero, plus on a tie": 1 where it is minus.
-fn mark_of(l: Look) -> usize
-    ensures { λ r. ⌜ (r ≡ cond (ltb (l .plus) (l .minus)) 1 0) × (r < 2) ⌝ }
+// "the commoner zero, plus on a tie": the mark that is written is 1 where it is minus.
+fn mark_of(c: Counts) -> usize
+    ensures { λ r. ⌜ (r ≡ cond (ltb (c .plus) (c .minus)) 1 0) × (r < 2) ⌝ }
 {
-    if l.plus < l.minus { 1 } else { 0 }
+    if c.plus < c.minus { 1 } else { 0 }
 }
 
-fn common_zero(mask: u8, mark: usize) -> u8
+// "the commoner zero, plus on a tie": the zero whose places are counted as the common kind.
+fn common_zero(mask: u8, c: Counts) -> u8
     requires { ⌜ mask < 128 ⌝ }
-    ensures { λ r. ⌜ r ≡ zeroOf mask mark 0 ⌝ }
+    ensures { λ r. ⌜ r ≡ zeroOf mask (cond (ltb (c .plus) (c .minus)) 1 0) 0 ⌝ }
 {
-    if mark == 0 {
+    if c.minus <= c.plus {
         return plus_zero(mask);
     }
     minus_zero(mask)
@@ -308,46 +317,56 @@ fn start_bits(n: usize) -> usize
     if 240 <= n { 7 } else { 5 }
 }
 
-// What Rice would write.
+// What Rice would write, where the set holds it and it applies; the runs are left in the lent array.
 pub struct Rice {
-    pub applies: bool,
+    pub offered: bool,
     pub mark: usize,
     pub s: usize,
     pub bits: usize,
-    pub runs: Runs,
+    pub count: usize,
 }
 
-pub fn rice_of(frame: Left, mask: u8, l: Look) -> Rice
-    requires { ⌜ Seen mask frame l ⌝ }
-    ensures { λ r. ⌜ RiceFor mask (cellsOf frame) r ⌝ }
+fn no_rice() -> Rice
+    ensures { λ r. ⌜ (r .offered ≡ false) × (r .bits ≡ 0) ⌝ }
 {
-    let n = frame.len;
-    if sized(l.plus) + sized(l.minus) != n {
-        return Rice {
-            applies: false,
-            mark: 0,
-            s: 1,
-            bits: 0,
-            runs: Runs {
-                runs: [0u16; 321],
-                count: 0,
-            },
-        };
-    }
-    let mark = mark_of(l);
-    let zero = common_zero(mask, mark);
-    let samples = frame.samples;
-    let flags = marks(&samples, n, zero, 0, 1);
-    let found = runs_of(&flags, n);
-    let runs = found.runs;
-    let extra = code_lengths(n);
-    let least = least_s(&runs, found.count, &extra, most_s(n));
     Rice {
-        applies: true,
+        offered: false,
+        mark: 0,
+        s: 1,
+        bits: 0,
+        count: 0,
+    }
+}
+
+// "frames of the two zeros only"
+fn two_zeros(c: Counts, n: usize) -> bool
+    ensures { λ r. ⌜ r ≡ eqb (c .plus + c .minus) n ⌝ }
+{
+    sized(c.plus) + sized(c.minus) == n
+}
+
+pub fn rice_of(samples: &[u8], n: usize, mask: u8, set: u32, c: Counts, runs: &mut [u16; 321]) -> Rice
+    requires { ⌜ ZerosSeen mask (now samples) n c ⌝ }
+    requires { ⌜ length (now runs) ≡ 321 ⌝ }
+    ensures { λ r. ⌜ RiceFor mask set (take n (now (samples .entry))) r (now (runs .exit)) ⌝ }
+{
+    if !holds(set, 6) {
+        return no_rice();
+    }
+    if !two_zeros(c, n) {
+        return no_rice();
+    }
+    let mark = mark_of(c);
+    let zero = common_zero(mask, c);
+    let count = runs_of(samples, n, zero, 0, 1, runs);
+    let extra = code_lengths(n);
+    let least = least_s(runs, count, &extra, most_s(n));
+    Rice {
+        offered: true,
         mark: mark,
         s: least.s,
         bits: start_bits(n) + least.bits,
-        runs: found,
+        count: count,
     }
 }
 
@@ -357,15 +376,12 @@ pub struct Choice {
     pub bits: usize,
 }
 
-// The tool, if the set holds it, it applies, and its octets are not more; else what was best before it.
-fn better(best: Choice, set: u32, tool: u32, applies: bool, bits: usize) -> Choice
+// The tool, if it is offered and its octets are not more; else what was best before it.
+fn better(best: Choice, tool: u32, offered: bool, bits: usize) -> Choice
     requires { ⌜ (best .bits ≤ 1000000000) × (bits ≤ 1000000000) ⌝ }
-    ensures { λ r. ⌜ BetterIs best set tool applies bits r ⌝ }
+    ensures { λ r. ⌜ BetterIs best tool offered bits r ⌝ }
 {
-    if !holds(set, tool) {
-        return best;
-    }
-    if !applies {
+    if !offered {
         return best;
     }
     if (best.bits + 7) / 8 < (bits + 7) / 8 {
@@ -377,6 +393,62 @@ fn better(best: Choice, set: u32, tool: u32, applies: bool, bits: usize) -> Choi
     }
 }
 
+// Binary: where the set holds it, "frames of the two zeros only".
+fn binary_offered(c: Counts, n: usize, set: u32) -> bool
+    ensures { λ r. ⌜ r ≡ tools.holds set 5 && eqb (c .plus + c .minus) n ⌝ }
+{
+    if !holds(set, 5) {
+        return false;
+    }
+    two_zeros(c, n)
+}
+
+// Uncompressed where a sample is below -2 or above 1, else 0. On the line of signed numbers 0 is at 128.
+fn spread_tool(least: u8, greatest: u8) -> u32
+    ensures { λ r. ⌜ r ≡ cond (near least greatest) 0 1 ⌝ }
+{
+    if least < 126 {
+        return 1;
+    }
+    if 129 < greatest {
+        return 1;
+    }
+    0
+}
+
+// Whether a tool is for this sample, and held.
+fn is_for(x: u8, y: u8, set: u32, tool: u32) -> bool
+    ensures { λ r. ⌜ r ≡ tools.holds set tool && eqb x y ⌝ }
+{
+    if !holds(set, tool) {
+        return false;
+    }
+    x == y
+}
+
+// The tool of a frame that the first look settles, else 0. A frame of one value takes one or two octets, and no other form is as short;
+// a frame with a sample below -2 or above 1 that is not of one value stays uncompressed.
+pub fn plain_tool(samples: &[u8], n: usize, l: Look, mask: u8, set: u32) -> u32
+    requires { ⌜ (1 ≤ n) × ((n ≤ length (now samples)) × (isMask mask ≡ true)) ⌝ }
+    requires { ⌜ Looked mask (getD (now samples) 0 0) (take n (now samples)) l ⌝ }
+    ensures { λ r. ⌜ Plain mask set (take n (now (samples .entry))) r ⌝ }
+{
+    if l.mixed != 0 {
+        return spread_tool(l.least, l.greatest);
+    }
+    let first = samples[0];
+    if is_for(first, plus_zero(mask), set, 2) {
+        return 2;
+    }
+    if is_for(first, minus_zero(mask), set, 3) {
+        return 3;
+    }
+    if holds(set, 4) {
+        return 4;
+    }
+    0
+}
+
 // The chosen tool with its bits, and what Rice and value-location would write.
 pub struct Plan {
     pub tool: u32,
@@ -385,30 +457,27 @@ pub struct Plan {
     pub placed: Placed,
 }
 
-// "The tool with the fewest octets"; from uncompressed on, each tool of the tie order takes its place where it is not more.
-pub fn plan_of(frame: Left, mask: u8, set: u32) -> Plan
-    requires { ⌜ IsFrame frame ⌝ }
-    requires { ⌜ mask < 128 ⌝ }
-    ensures { λ r. ⌜ PlanFor mask set (cellsOf frame) r ⌝ }
+// "Fewest octets", where the first look does not settle it: from uncompressed on, each tool of the tie order takes its place where it is
+// not more. What the set does not hold is not measured.
+pub fn plan_of(samples: &[u8], n: usize, mask: u8, set: u32, l: Look, runs: &mut [u16; 321]) -> Plan
+    requires { ⌜ (n ≤ 320) × ((n ≤ length (now samples)) × (mask < 128)) ⌝ }
+    requires { ⌜ Looked mask (getD (now samples) 0 0) (take n (now samples)) l ⌝ }
+    requires { ⌜ length (now runs) ≡ 321 ⌝ }
+    ensures { λ r. ⌜ PlanFor mask set (take n (now (samples .entry))) r (now (runs .exit)) ⌝ }
 {
-    let n = frame.len;
-    let samples = frame.samples;
-    let l = look_at(&samples, n, mask);
-    let placed = placed_of(frame, mask, l);
-    let rice = rice_of(frame, mask, l);
+    let c = counts_of(samples, n, mask);
+    let placed = placed_of(samples, n, mask, set, l, c, runs);
+    let rice = rice_of(samples, n, mask, set, c, runs);
     let uncompressed = Choice {
         tool: 1,
         bits: 8 + 8 * n,
     };
-    let seven = better(uncompressed, set, 7, placed.applies, placed.bits);
-    let six = better(seven, set, 6, rice.applies, rice.bits);
-    let five = better(six, set, 5, rice.applies, 8 + n);
-    let four = better(five, set, 4, sized(l.same) == n, 16);
-    let three = better(four, set, 3, sized(l.minus) == n, 8);
-    let two = better(three, set, 2, sized(l.plus) == n, 8);
+    let seven = better(uncompressed, 7, placed.offered, placed.bits);
+    let six = better(seven, 6, rice.offered, rice.bits);
+    let five = better(six, 5, binary_offered(c, n, set), 8 + n);
     Plan {
-        tool: two.tool,
-        bits: two.bits,
+        tool: five.tool,
+        bits: five.bits,
         rice: rice,
         placed: placed,
     }

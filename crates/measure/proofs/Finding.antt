@@ -1,24 +1,23 @@
 -- Laws of finding runs.
 use Prim.Native.Nat.{ℕ, zero, suc, _+_, _≤_, _<_}
 use mathlib.Core.Path.{_≡_, refl, sym, ap, _∙_}
-use mathlib.Core.List.{List, [], _∷_, _++_, append-nil, append-assoc}
+use mathlib.Core.List.{List, [], _∷_, _++_, map, append-nil, append-assoc}
 use mathlib.Core.Bool.{cond}
 use native.Mathlib.Omega.{arith}
 use native.Mathlib.Numerals.{add-one}
-use lib.ListN.{length, getD, take, drop, set, length-set, drop-of-length-le}
+use lib.ListN.{length, getD, take, drop, set, length-set, length-map, drop-of-length-le}
 use lib.Seq.{take-suc-set, take-set-le, drop-cons, getD-take, length-take-le}
 use lib.Dec.{eqb, eqb·suc-zero}
 use Rattle.rules.specs.Runs.{runsOf}
-use Rattle.measure.specs.declared.Runs.{Runs}
-use Rattle.measure.specs.Measures.{RunsAre}
+use Rattle.measure.specs.Measures.{marksOf, RunsAre}
 
 -- a place of the common kind, and one of the other, whatever is open
-runs-common : (c : ℕ) (l : List ℕ) → runsOf c (0 ∷ l) ≡ runsOf (c + 1) l
+pub runs-common : (c : ℕ) (l : List ℕ) → runsOf c (0 ∷ l) ≡ runsOf (c + 1) l
 unfolding runsOf
 runs-common zero l = refl
 runs-common (suc c) l = refl
 
-runs-other : (c f : ℕ) (l : List ℕ) → runsOf c (suc f ∷ l) ≡ c ∷ runsOf 0 l
+pub runs-other : (c f : ℕ) (l : List ℕ) → runsOf c (suc f ∷ l) ≡ c ∷ runsOf 0 l
 unfolding runsOf
 runs-other zero f l = refl
 runs-other (suc c) f l = refl
@@ -64,7 +63,7 @@ find-turn flags runs count v i (suc f) t h e =
     })
 
 pub find-end : (flags runs : List ℕ) (count v i : ℕ) → Finding flags runs count v i → length flags ≤ i
-    → RunsAre flags (record { runs = set runs count v; count = cond (eqb v 0) count (count + 1) })
+    → RunsAre flags (cond (eqb v 0) count (count + 1)) (set runs count v)
 unfolding runsOf
 find-end flags runs count zero i t h =
     let d : drop i flags ≡ [] = drop-of-length-le flags h in
@@ -87,13 +86,28 @@ find-end flags runs count (suc v) i t h =
 pub find-start : (flags runs : List ℕ) → length runs ≡ 321 → length flags ≤ 320 → Finding flags runs 0 0 0
 find-start flags runs h k = record { says = refl; size = h; few = omega arith; short = omega arith; within = omega arith; most = k }
 
--- the same as the code has them: of n flags of an array
-module _ (all runs : List ℕ) (n count v i : ℕ) (long : n ≤ length all) (t : Finding (take n all) runs count v i) where
-  pub find-again : (x count′ v′ : ℕ) → i < n → x ≡ getD all i 0 → count′ ≡ cond (eqb x 0) count (count + 1) → v′ ≡ cond (eqb (getD all i 0) 0) (v + 1) 0
-      → Finding (take n all) (set runs count v) count′ v′ (i + 1)
-  find-again x count′ v′ h e ec ev =
-      let k = length-take-le n all long in
-      rw (ec, ev, e) (find-turn (take n all) runs count v i (getD all i 0) t (omega arith) (sym (getD-take n all i 0 h)))
+-- the same as the code has them: of the marks of n samples
+map-at : (f : ℕ → ℕ) (l : List ℕ) (i : ℕ) → i < length l → getD (map f l) i 0 ≡ f (getD l i 0)
+map-at f [] i h = absurd (omega arith)
+map-at f (x ∷ l) zero h = refl
+map-at f (x ∷ l) (suc i) h = map-at f l i (omega arith)
 
-  pub find-done : (count′ : ℕ) → n ≤ i → count′ ≡ cond (eqb v 0) count (count + 1) → RunsAre (take n all) (record { runs = set runs count v; count = count′ })
-  find-done count′ h e = rw e (find-end (take n all) runs count v i t (omega (arith, length-take-le n all long)))
+marks-length : (x hit miss : ℕ) (all : List ℕ) (n : ℕ) → n ≤ length all → length (marksOf x hit miss (take n all)) ≡ n
+marks-length x hit miss all n h = length-map (take n all) (λ y. cond (eqb y x) hit miss) ∙ length-take-le n all h
+
+pub find-first : (x hit miss : ℕ) (all runs : List ℕ) (n : ℕ) → n ≤ length all → n ≤ 320 → length runs ≡ 321
+    → Finding (marksOf x hit miss (take n all)) runs 0 0 0
+find-first x hit miss all runs n long few size =
+    find-start (marksOf x hit miss (take n all)) runs size (omega (arith, marks-length x hit miss all n long))
+
+module _ (x hit miss : ℕ) (all runs : List ℕ) (n count v i : ℕ) (long : n ≤ length all) (t : Finding (marksOf x hit miss (take n all)) runs count v i) where
+  pub find-again : (f w count′ v′ : ℕ) → i < n → f ≡ cond (eqb (getD all i 0) x) hit miss → w ≡ f → count′ ≡ cond (eqb w 0) count (count + 1)
+      → v′ ≡ cond (eqb f 0) (v + 1) 0 → Finding (marksOf x hit miss (take n all)) (set runs count v) count′ v′ (i + 1)
+  find-again f w count′ v′ h e ew ec ev =
+      let g : ℕ → ℕ = λ y. cond (eqb y x) hit miss in
+      let at : f ≡ getD (marksOf x hit miss (take n all)) i 0 =
+      e ∙ ap g (sym (getD-take n all i 0 h)) ∙ sym (map-at g (take n all) i (omega (arith, length-take-le n all long))) in
+      rw (ec, ev, ew) (find-turn (marksOf x hit miss (take n all)) runs count v i f t (omega (arith, marks-length x hit miss all n long)) at)
+
+  pub find-done : (count′ : ℕ) → n ≤ i → count′ ≡ cond (eqb v 0) count (count + 1) → RunsAre (marksOf x hit miss (take n all)) count′ (set runs count v)
+  find-done count′ h e = rw e (find-end (marksOf x hit miss (take n all)) runs count v i t (omega (arith, marks-length x hit miss all n long)))

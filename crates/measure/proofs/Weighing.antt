@@ -1,31 +1,35 @@
 -- Laws of what runs need: the least S, and ceil(log2 D).
-use Prim.Native.Nat.{ℕ, zero, suc, _+_, _*_, _-_, _^_, _%_, _≤_, _<_}
+use Prim.Native.Nat.{ℕ, zero, suc, _+_, _*_, _-_, _^_, _/_, _%_, _≤_, _<_}
 use mathlib.Core.Path.{_≡_, refl, sym, ap, _∙_}
 use mathlib.Core.List.{List}
 use mathlib.Core.Bool.{Bool, true, false, cond}
 use native.Mathlib.Omega.{arith}
-use native.Mathlib.Nat.{pow-suc}
+use native.Mathlib.Nat.{pow-suc, zero-mul, suc-mul}
+use native.Mathlib.Numerals.{add-one}
 use native.Mathlib.Decide.{decLt}
 use borrow.Author.Tests.{lt-leb, le-leb}
-use lib.ListN.{length, getD, take, length-append}
+use lib.ListN.{length, getD, take, length-append, length-replicate}
 use lib.Dec.{ltb}
 use lib.Pow.{pow-mono}
 use Rattle.rules.specs.Runs.{riceForm, riceForms}
 use Rattle.rules.specs.Located.{widthFrom, widthOf}
 use Rattle.rules.specs.Chooses.{leastFrom, leastS}
+use Rattle.rules.proofs.Octets.{length-lowBits}
 use Rattle.pen.proofs.Rice.{forms-suc}
 use Rattle.measure.specs.declared.Least.{Least}
-use Rattle.measure.specs.Measures.{CodeBits, LeastIs}
+use Rattle.measure.specs.Measures.{LeastIs}
 
--- the bits of one run more
-pub bits-turn : (s : ℕ) (runs : List ℕ) (j bits r : ℕ) → j < length runs → bits ≡ length (riceForms s (take j runs)) → CodeBits s (getD runs j 0) r
-    → bits + r ≡ length (riceForms s (take (j + 1) runs))
-bits-turn s runs j bits r h e b =
-    rw (forms-suc s runs j h, length-append, ← e, ← (b .says))
+-- the zeros of one run more; with each run go its one and its S low bits
+pub bits-turn : (s : ℕ) (runs : List ℕ) (j zeros r : ℕ) → j < length runs → zeros + j * (1 + s) ≡ length (riceForms s (take j runs)) → r ≡ getD runs j 0 / 2 ^ s
+    → zeros + r + (j + 1) * (1 + s) ≡ length (riceForms s (take (j + 1) runs))
+unfolding riceForm
+bits-turn s runs j zeros r h e b =
+    let k : (j + 1) * (1 + s) ≡ j * (1 + s) + (1 + s) = rw (add-one j, suc-mul) (omega arith) in
+    rw (forms-suc s runs j h, length-append, ← e, length-append, length-replicate, length-lowBits, ← b, k) (omega arith)
 
-pub bits-none : (s : ℕ) (runs : List ℕ) → 0 ≡ length (riceForms s (take 0 runs))
+pub bits-none : (s : ℕ) (runs : List ℕ) → 0 + 0 * (1 + s) ≡ length (riceForms s (take 0 runs))
 unfolding riceForms
-bits-none s runs = refl
+bits-none s runs = rw (zero-mul (1 + s))
 
 -- a turn of the search for the least
 pub record Leasting (f : ℕ → ℕ) (most : ℕ) (best : Least) (k : ℕ) : Type 0 where
@@ -36,7 +40,7 @@ pub record Leasting (f : ℕ → ℕ) (most : ℕ) (best : Least) (k : ℕ) : Ty
   pub within : k ≤ most + 1
   pub small : best .bits ≤ 200000000
 
-cond-of : (f : ℕ → ℕ) (t : Bool) (x y : ℕ) → cond t (f x) (f y) ≡ f (cond t x y)
+pub cond-of : (f : ℕ → ℕ) (t : Bool) (x y : ℕ) → cond t (f x) (f y) ≡ f (cond t x y)
 cond-of f true x y = refl
 cond-of f false x y = refl
 

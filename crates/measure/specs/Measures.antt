@@ -6,13 +6,12 @@ use mathlib.Core.Bool.{cond}
 use lib.ListN.{length, getD, take}
 use lib.Dec.{eqb}
 use lib.IntN.{pos, negsuc}
-use Rattle.rules.specs.Runs.{runsOf, riceForm, riceForms}
+use Rattle.rules.specs.Runs.{runsOf, riceForms}
 use Rattle.rules.specs.Samples.{sampleOf, plusZero, minusZero}
-use Rattle.rules.specs.Chooses.{countOf, leastS, leastOf, greatestOf, above, below}
-use Rattle.measure.specs.declared.Runs.{Runs}
+use Rattle.rules.specs.Chooses.{countOf, every, leastS, leastOf, greatestOf, above, below}
 use Rattle.measure.specs.declared.Least.{Least}
-use Rattle.measure.specs.declared.Left.{Left}
 use Rattle.measure.specs.declared.Look.{Look}
+use Rattle.measure.specs.declared.Counts.{Counts}
 
 -- an array of flags whose first n are these; the rest are flags too
 pub record Flagged (flags : List ℕ) (n : ℕ) (r : List ℕ) : Type 0 where
@@ -24,15 +23,11 @@ pub record Flagged (flags : List ℕ) (n : ℕ) (r : List ℕ) : Type 0 where
 abbrev pub marksOf : ℕ → ℕ → ℕ → List ℕ → List ℕ
 marksOf x hit miss s = map (λ y. cond (eqb y x) hit miss) s
 
-pub record RunsAre (flags : List ℕ) (r : Runs) : Type 0 where
-  pub says : take (r .count) (r .runs) ≡ runsOf 0 flags
-  pub size : length (r .runs) ≡ 321
-  pub few : r .count ≤ 321
-
--- the bits of a Rice code
-pub record CodeBits (s v r : ℕ) : Type 0 where
-  pub says : r ≡ length (riceForm s v)
-  pub small : r < 65552
+-- an array whose first `count` are the runs of these flags
+pub record RunsAre (flags : List ℕ) (count : ℕ) (runs : List ℕ) : Type 0 where
+  pub says : take count runs ≡ runsOf 0 flags
+  pub size : length runs ≡ 321
+  pub few : count ≤ 321
 
 -- the bits of runs with parameter S, and some more that go with S
 abbrev pub bitsWith : List ℕ → List ℕ → ℕ → ℕ
@@ -50,18 +45,25 @@ abbrev pub countIs : ℕ → List ℕ → ℕ
 countIs y s = countOf (λ x. eqb x y) s
 
 pub record Looked (mask first : ℕ) (s : List ℕ) (r : Look) : Type 0 where
+  pub least : r .least ≡ leastOf mask s
+  pub greatest : r .greatest ≡ greatestOf mask s
+  pub mixed : eqb (r .mixed) 0 ≡ every (λ x. eqb x first) s
+
+pub record Counted (mask : ℕ) (s : List ℕ) (r : Counts) : Type 0 where
   pub plus : r .plus ≡ countIs (plusZero mask) s
   pub minus : r .minus ≡ countIs (minusZero mask) s
   pub one : r .one ≡ countIs (sampleOf mask (pos 1)) s
   pub twos : r .twos ≡ countIs (sampleOf mask (negsuc 1)) s
   pub above : r .above ≡ above mask s
   pub below : r .below ≡ below mask s
-  pub same : r .same ≡ countIs first s
-  pub least : r .least ≡ leastOf mask s
-  pub greatest : r .greatest ≡ greatestOf mask s
 
--- these samples, at most d of them
-pub record LeftIs (s : List ℕ) (d : ℕ) (r : Left) : Type 0 where
-  pub says : take (r .len) (r .samples) ≡ s
-  pub size : length (r .samples) ≡ 320
-  pub few : r .len ≤ d
+-- n samples at the start of an array
+pub record CopyIs (s : List ℕ) (n : ℕ) (r : List ℕ) : Type 0 where
+  pub says : take n r ≡ s
+  pub size : length r ≡ 320
+
+-- these samples at the start of an array, at most d of them
+pub record LeftIs (s : List ℕ) (d kept : ℕ) (r : List ℕ) : Type 0 where
+  pub says : take kept r ≡ s
+  pub size : length r ≡ 320
+  pub few : kept ≤ d

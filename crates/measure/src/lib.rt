@@ -6,19 +6,13 @@ use law::plus_zero;
 use law::sample_of;
 ghost use mathlib.Core.Path.{_≡_};
 ghost use mathlib.Core.Bool.{cond};
-ghost use Prim.Native.Nat.{_+_, _^_, _≤_, _<_, min, max};
+ghost use Prim.Native.Nat.{_+_, _^_, _/_, _≤_, _<_, min, max};
 ghost use lib.ListN.{length, getD, take};
 ghost use lib.Dec.{eqb, ltb};
 ghost use Rattle.rules.specs.Runs.{riceForms};
 ghost use Rattle.rules.specs.Located.{widthOf};
 ghost use Rattle.rules.specs.Chooses.{without};
-ghost use Rattle.measure.specs.Measures.{Flagged, marksOf, RunsAre, CodeBits, bitsWith, LeastIs, Looked, LeftIs};
-
-// The runs of flags, found once: the first `count` of them.
-pub struct Runs {
-    pub runs: [u16; 321],
-    pub count: usize,
-}
+ghost use Rattle.measure.specs.Measures.{Flagged, marksOf, RunsAre, bitsWith, LeastIs, Looked, Counted, CopyIs, LeftIs};
 
 // An S, and the bits that it needs.
 pub struct Least {
@@ -26,24 +20,21 @@ pub struct Least {
     pub bits: usize,
 }
 
-// Samples in their order: the first `len`.
-pub struct Left {
-    pub samples: [u8; 320],
-    pub len: usize,
+// The first look at a frame: the least and the greatest as places on the line of signed numbers; and 0 where all samples are equal.
+pub struct Look {
+    pub least: u8,
+    pub greatest: u8,
+    pub mixed: u8,
 }
 
-// What the samples of a frame are: how many are plus zero, minus zero (which is -1), 1, -2, above 0, below 0, and equal to the
-// first; the least and the greatest as places on the line of signed numbers.
-pub struct Look {
+// How many samples are plus zero, minus zero (which is -1), 1, -2, above 0, and below 0.
+pub struct Counts {
     pub plus: u16,
     pub minus: u16,
     pub one: u16,
     pub twos: u16,
     pub above: u16,
     pub below: u16,
-    pub same: u16,
-    pub least: u8,
-    pub greatest: u8,
 }
 
 fn pick(y: u8, x: u8, hit: u8, miss: u8) -> u8
@@ -53,7 +44,7 @@ fn pick(y: u8, x: u8, hit: u8, miss: u8) -> u8
 }
 
 // A flag for each of n samples: one flag where it is x, the other where not.
-pub fn marks(samples: &[u8; 320], n: usize, x: u8, hit: u8, miss: u8) -> [u8; 320]
+pub fn marks(samples: &[u8], n: usize, x: u8, hit: u8, miss: u8) -> [u8; 320]
     requires { ⌜ (n ≤ 320) × (n ≤ length (now samples)) ⌝ }
     requires { ⌜ (hit < 2) × (miss < 2) ⌝ }
     ensures { λ r. ⌜ Flagged (marksOf x hit miss (take n (now (samples .entry)))) n r ⌝ }
@@ -90,49 +81,46 @@ fn count_after(x: u16, count: usize) -> usize
     if x == 0 { count } else { count + 1 }
 }
 
-// The runs of n flags. Each run is stored before it is known to have ended, so that no turn branches.
-pub fn runs_of(flags: &[u8; 320], n: usize) -> Runs
-    requires { ⌜ (n ≤ 320) × (n ≤ length (now flags)) ⌝ }
-    ensures { λ r. ⌜ RunsAre (take n (now (flags .entry))) r ⌝ }
+// The runs of n samples, found once and left in the lent array: one flag where a sample is x, the other where not.
+// Their number comes back. Each run is stored before it is known to have ended, so that no turn branches.
+pub fn runs_of(samples: &[u8], n: usize, x: u8, hit: u8, miss: u8, runs: &mut [u16; 321]) -> usize
+    requires { ⌜ (n ≤ 320) × ((n ≤ length (now samples)) × (length (now runs) ≡ 321)) ⌝ }
+    ensures { λ r. ⌜ RunsAre (marksOf x hit miss (take n (now (samples .entry)))) r (now (runs .exit)) ⌝ }
 {
-    let mut runs = [0u16; 321];
     let mut count = 0;
     let mut v = 0;
     let mut i = 0;
     while i < n {
         runs[count] = v;
-        let f = flags[i];
+        let f = pick(samples[i], x, hit, miss);
         count = count_after(wide(f), count);
         v = run_after(f, v);
         i += 1;
     }
     runs[count] = v;
-    Runs {
-        runs: runs,
-        count: count_after(v, count),
-    }
+    count_after(v, count)
 }
 
-// The bits of Rice(S, v): its zeros, its one, and its S low bits.
-fn code_bits(v: u16, s: usize) -> usize
+// The zeros of Rice(S, v).
+fn zeros_of(v: u16, s: usize) -> u32
     requires { ⌜ s ≤ 15 ⌝ }
-    ensures { λ r. ⌜ CodeBits s v r ⌝ }
+    ensures { λ r. ⌜ (r ≡ v / 2 ^ s) × (r < 65536) ⌝ }
 {
-    (v >> s) as usize + 1 + s
+    (v >> s) as u32
 }
 
-// The bits of runs with parameter S.
+// The bits of runs with parameter S: their zeros, and for each its one and its S low bits.
 pub fn run_bits(runs: &[u16; 321], count: usize, s: usize) -> usize
     requires { ⌜ (s ≤ 15) × ((count ≤ 321) × (count ≤ length (now runs))) ⌝ }
     ensures { λ r. ⌜ (r ≡ length (riceForms s (take count (now (runs .entry))))) × (r ≤ 100000000) ⌝ }
 {
-    let mut bits = 0;
+    let mut zeros: u32 = 0;
     let mut j = 0;
     while j < count {
-        bits += code_bits(runs[j], s);
+        zeros += zeros_of(runs[j], s);
         j += 1;
     }
-    bits
+    zeros as usize + count * (1 + s)
 }
 
 // The better of two: the other S only where it needs fewer bits, so "the smaller S on a tie".
@@ -206,46 +194,86 @@ fn higher(x: u8, y: u8) -> u8
     if x < y { y } else { x }
 }
 
-// One look at a frame's n samples.
-pub fn look_at(samples: &[u8; 320], n: usize, mask: u8) -> Look
-    requires { ⌜ (n ≤ 320) × (n ≤ length (now samples)) ⌝ }
-    requires { ⌜ mask < 128 ⌝ }
+// 0 where two samples are equal.
+fn differ(x: u8, y: u8) -> u8
+    ensures { λ r. ⌜ r ≡ cond (eqb x y) 0 1 ⌝ }
+{
+    if x == y { 0 } else { 1 }
+}
+
+// The look at a frame's n samples. Least, greatest and "are all equal" are octets, sixteen to a register, and they settle a frame of one
+// value and a frame of speech. What is counted takes wider numbers: a pass of its own, which only frames from -2 to 1 need.
+pub fn look_at(samples: &[u8], n: usize, mask: u8) -> Look
+    requires { ⌜ (1 ≤ n) × (n ≤ length (now samples)) ⌝ }
     ensures { λ r. ⌜ Looked mask (getD (now (samples .entry)) 0 0) (take n (now (samples .entry))) r ⌝ }
 {
     let first = samples[0];
-    let plus = plus_zero(mask);
-    let minus = minus_zero(mask);
-    let one = sample_of(mask, 1);
-    let twos = sample_of(mask, -2);
     let mut l = Look {
-        plus: 0,
-        minus: 0,
-        one: 0,
-        twos: 0,
-        above: 0,
-        below: 0,
-        same: 0,
         least: 255,
         greatest: 0,
+        mixed: 0,
     };
     let mut i = 0;
     while i < n {
         let x = samples[i];
         let place = line_of(mask, x);
         l = Look {
+            least: lower(l.least, place),
+            greatest: higher(l.greatest, place),
+            mixed: higher(l.mixed, differ(x, first)),
+        };
+        i += 1;
+    }
+    l
+}
+
+// What value-location and the two zeros are judged by.
+pub fn counts_of(samples: &[u8], n: usize, mask: u8) -> Counts
+    requires { ⌜ (n ≤ 320) × (n ≤ length (now samples)) ⌝ }
+    requires { ⌜ mask < 128 ⌝ }
+    ensures { λ r. ⌜ Counted mask (take n (now (samples .entry))) r ⌝ }
+{
+    let plus = plus_zero(mask);
+    let minus = minus_zero(mask);
+    let one = sample_of(mask, 1);
+    let twos = sample_of(mask, -2);
+    let mut l = Counts {
+        plus: 0,
+        minus: 0,
+        one: 0,
+        twos: 0,
+        above: 0,
+        below: 0,
+    };
+    let mut i = 0;
+    while i < n {
+        let x = samples[i];
+        let place = line_of(mask, x);
+        l = Counts {
             plus: l.plus + same(x, plus),
             minus: l.minus + same(x, minus),
             one: l.one + same(x, one),
             twos: l.twos + same(x, twos),
             above: l.above + less(128, place),
             below: l.below + less(place, 128),
-            same: l.same + same(x, first),
-            least: lower(l.least, place),
-            greatest: higher(l.greatest, place),
         };
         i += 1;
     }
     l
+}
+
+// The first n samples, to be worked on.
+pub fn copy_of(samples: &[u8], n: usize) -> [u8; 320]
+    requires { ⌜ (n ≤ 320) × (n ≤ length (now samples)) ⌝ }
+    ensures { λ r. ⌜ CopyIs (take n (now (samples .entry))) n r ⌝ }
+{
+    let mut cells = [0u8; 320];
+    let mut i = 0;
+    while i < n {
+        cells[i] = samples[i];
+        i += 1;
+    }
+    cells
 }
 
 fn kept_after(y: u8, x: u8, kept: usize) -> usize
@@ -255,22 +283,18 @@ fn kept_after(y: u8, x: u8, kept: usize) -> usize
     if y == x { kept } else { kept + 1 }
 }
 
-// What is left of d samples once x is taken out. Each is stored before it is known to stay, so that no turn branches.
-pub fn without_value(samples: &[u8; 320], d: usize, x: u8) -> Left
-    requires { ⌜ (d ≤ 320) × (d ≤ length (now samples)) ⌝ }
-    ensures { λ r. ⌜ LeftIs (without x (take d (now (samples .entry)))) d r ⌝ }
+// What is left of d samples once x is taken out, in their place. Each is stored before it is known to stay, so that no turn branches.
+pub fn without_value(cells: &mut [u8; 320], d: usize, x: u8) -> usize
+    requires { ⌜ (d ≤ 320) × (length (now cells) ≡ 320) ⌝ }
+    ensures { λ r. ⌜ LeftIs (without x (take d (now (cells .entry)))) d r (now (cells .exit)) ⌝ }
 {
-    let mut left = [0u8; 320];
     let mut kept = 0;
     let mut i = 0;
     while i < d {
-        let y = samples[i];
-        left[kept] = y;
+        let y = cells[i];
+        cells[kept] = y;
         kept = kept_after(y, x, kept);
         i += 1;
     }
-    Left {
-        samples: left,
-        len: kept,
-    }
+    kept
 }

@@ -29,31 +29,6 @@ pub able-then : {o o′ bits : List ℕ} {p p′ : Pen} {m : ℕ} (k : ℕ) → 
 able-then k a put size h =
     record { held = put .held; word = put .word; room = omega (arith, a .room, put .place) }
 
--- samples as octets
-pub record SamplesTurn (o : List ℕ) (p : Pen) (s o′ : List ℕ) (p′ : Pen) (n i : ℕ) : Type 0 where
-  pub puts : Puts o p (bitsOf (take i s)) o′ p′
-  pub within : i ≤ n
-  pub size : length o′ ≡ length o
-
-pub samples-none : {o : List ℕ} {p : Pen} {m n : ℕ} (s : List ℕ) → Able o p m → SamplesTurn o p s o p n 0
-unfolding bitsOf
-samples-none s a = record { puts = puts-none (a .held) (a .word); within = omega arith; size = refl }
-
-module _ {o s o′ : List ℕ} {p p′ : Pen} {n i : ℕ} (t : SamplesTurn o p s o′ p′ n i) (h : i < n) (long : n ≤ length s) where
-  pub samples-able : Able o p (8 * n) → Able o′ p′ 8
-  samples-able a =
-      let e = length-bitsOf (take i s) in
-      let f = length-take-le i s (omega arith) in
-      able-then 8 a (t .puts) (t .size) (omega arith)
-
-  pub samples-then : {x : ℕ} → x ≡ getD s i 0 → {o″ : List ℕ} {p″ : Pen} → Puts o′ p′ (lowBits 8 x) o″ p″ → length o″ ≡ length o′
-      → SamplesTurn o p s o″ p″ n (i + 1)
-  unfolding bitsOf
-  samples-then {x} e put size =
-      let one : bitsOf (take (i + 1) s) ≡ bitsOf (take i s) ++ lowBits 8 x =
-      rw (add-one i, take-suc s i 0 (omega arith), bitsOf-append, append-nil, ← e) in
-      record { puts = puts-as (puts-then (t .puts) put) (sym one); within = omega arith; size = size ∙ t .size }
-
 -- the mark's three bits
 marked : (k mark : ℕ) → mark < 2 → (a b : ℕ) → lowBits 3 (k + 0) ≡ a ∷ b ∷ 0 ∷ [] → lowBits 3 (k + 1) ≡ a ∷ b ∷ 1 ∷ [] → lowBits 3 (k + mark) ≡ a ∷ b ∷ mark ∷ []
 marked k zero h a b e f = e

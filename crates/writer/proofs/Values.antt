@@ -11,9 +11,17 @@ use Rattle.rules.specs.Bits.{lowBits}
 use Rattle.rules.specs.Runs.{runsOf, riceForms, runsForm}
 use Rattle.rules.specs.Located.{widthOf}
 use Rattle.rules.specs.Chooses.{countOf, leastFrom, runS, fewestRunBits, methodOf, methodForm, valueForm}
-use Rattle.rules.proofs.Octets.{length-lowBits}
+use Rattle.rules.proofs.Octets.{length-lowBits, Below, none, more}
+use Rattle.measure.specs.Measures.{marksOf}
 use Rattle.pen.proofs.Words.{lowBits-join}
 use Rattle.writer.specs.Forms.{placesForm}
+
+-- flags are their own marks
+pub marks-same : {l : List ℕ} → Below 2 l → marksOf 1 1 0 l ≡ l
+marks-same none = refl
+marks-same (more {x = zero} h t) = ap (λ (k : List ℕ). 0 ∷ k) (marks-same t)
+marks-same (more {x = suc zero} h t) = ap (λ (k : List ℕ). 1 ∷ k) (marks-same t)
+marks-same (more {x = suc (suc x)} h t) = absurd (omega arith)
 
 -- a number's bits, and what follows them
 pub number-then : (n v : ℕ) (b : List ℕ) {l : List ℕ} → lowBits n v ++ b ≡ l → n + length b ≡ length l

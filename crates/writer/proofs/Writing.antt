@@ -2,33 +2,31 @@
 use Prim.Native.Nat.{ℕ, zero, suc, _+_, _*_, _/_, _%_, _≤_, _<_}
 use mathlib.Core.Path.{_≡_, refl, sym, ap, _∙_}
 use mathlib.Core.List.{List, [], _∷_, _++_}
-use mathlib.Core.Bool.{Bool, true, false, cond, _&&_, _||_}
+use mathlib.Core.Bool.{Bool, true, false, cond, _||_}
+use mathlib.Core.Logic.{_⊎_, inl, inr}
 use native.Mathlib.Omega.{arith}
-use native.Mathlib.Numerals.{add-one}
-use native.Mathlib.Decide.{decLe}
 use borrow.Author.Tests.{eq-eqb, ne-eqb, le-leb, lt-leb, lt-ltb, le-ltb}
-use lib.ListN.{length, getD, take, drop, set, length-set}
-use lib.Dec.{eqb, leb}
-use lib.Seq.{length-take-le, take-length, take-suc, take-suc-set}
+use lib.ListN.{length, take, drop, set}
+use lib.Dec.{eqb}
+use lib.Seq.{length-take-le}
 use Rattle.rules.specs.declared.Refusal.{Refusal}
 use Rattle.rules.specs.declared.Refusal.the-variants.{Length, Set, Law, Room}
 use Rattle.rules.specs.declared.Ending.the-variants.{Done}
-use Rattle.rules.specs.declared.Frame.{Frame}
 use Rattle.rules.specs.declared.WriteAnswer.{WriteAnswer}
 use Rattle.rules.specs.Bits.{lowBits, valueFrom, octetsFor, octetsFrom, pack}
 use Rattle.rules.specs.Samples.{maskOf}
-use Rattle.rules.specs.Tools.{isLength, holds}
-use Rattle.rules.specs.Chooses.{applies, octetsOfForm, choose, chosenTool, formOf, Written, Write, wrote, declined, chosen, writeOne}
+use Rattle.rules.specs.Tools.{isLength}
+use Rattle.rules.specs.Chooses.{choose, chosenTool, formOf, Written, Write, wrote, declined, chosen, writeOne}
 use Rattle.rules.specs.Calls.{Writes}
 use Rattle.rules.proofs.Octets.{length-pack, length-lowBits}
 use Rattle.rules.proofs.Tests.{by-length}
-use Rattle.measure.specs.declared.Left.{Left}
 use Rattle.choice.specs.declared.Plan.{Plan}
-use Rattle.choice.specs.Offers.{cellsOf}
-use Rattle.choice.specs.Plans.{IsFrame, PlanFor}
+use Rattle.choice.specs.Plans.{measured, isMask, Plain, PlanFor}
+use Rattle.choice.proofs.Settling.{among, alone}
 use Rattle.pen.specs.Puts.{Packed}
-use Rattle.writer.specs.Forms.{Planned}
-use Rattle.writer.specs.Answers.{Tells, fitting, pad, full, FrameOf}
+use Rattle.writer.specs.Forms.{IsFrame, Planned}
+use Rattle.writer.specs.Answers.{Tells, fitting, pad, full, plain, found}
+use Rattle.writer.proofs.Whole.{whole-form}
 
 -- a refusal leaves the output as lent
 pub refused-writes : {why : Refusal} {r : WriteAnswer} {out : List ℕ} → Tells (declined why) r → Writes (declined why) r out out
@@ -66,41 +64,45 @@ set-first (x ∷ l) n = refl
 pub not-length : (n : ℕ) → (n ≡ 40 → ⊥) → (n ≡ 80 → ⊥) → (n ≡ 160 → ⊥) → (n ≡ 240 → ⊥) → (n ≡ 320 → ⊥) → false ≡ isLength n
 not-length n a b c d e = rw (ne-eqb n 40 a, ne-eqb n 80 b, ne-eqb n 160 c, ne-eqb n 240 d, ne-eqb n 320 e)
 
--- a tool of the seven
-data Tools : List ℕ → Type 0 where
-  none : Tools []
-  more : {t : ℕ} {ts : List ℕ} → 1 ≤ t → t ≤ 7 → Tools ts → Tools (t ∷ ts)
-
-choose-in : (mask set : ℕ) (s : List ℕ) {ts : List ℕ} → Tools ts → (1 ≤ choose mask set s ts) × (choose mask set s ts ≤ 7)
-unfolding choose
-choose-in mask set s none = (omega arith, omega arith)
-choose-in mask set s (more {t = t} {ts = ts} h k m) =
-    step (holds set t && applies mask t s && leb (octetsOfForm mask s t) (octetsOfForm mask s (choose mask set s ts))) (choose-in mask set s m)
+-- the tools that are measured, and uncompressed
+pub measured-kind : (mask set : ℕ) (s : List ℕ) {t : ℕ} → t ≡ choose mask set s measured → (t ≡ 1 → ⊥) → (t ≡ 6 → ⊥) → (t ≡ 5 → ⊥) → t ≡ 7
+measured-kind mask set s {t} e one six five =
+    go (among mask s set P 5 _ (inl refl) (among mask s set P 6 _ (inr (inl refl)) (among mask s set P 7 _ (inr (inr (inl refl))) (alone mask s set P (inr (inr (inr refl))))))) 
   where
-    step : (b : Bool) {n : ℕ} → (1 ≤ n) × (n ≤ 7) → (1 ≤ cond b t n) × (cond b t n ≤ 7)
-    step true i = (h, k)
-    step false i = i
+    P : ℕ → Type 0
+    P k = (k ≡ 5) ⊎ ((k ≡ 6) ⊎ ((k ≡ 7) ⊎ (k ≡ 1)))
 
-pub planned : {mask set : ℕ} {frame : Left} {plan : Plan} → IsFrame frame → mask < 128 → PlanFor mask set (cellsOf frame) plan → Planned mask frame plan
-planned {mask} {set} {frame} {plan} f seven p =
-    let i = choose-in mask set (cellsOf frame)
-    (more {t = 2} (omega arith) (omega arith) (more {t = 3} (omega arith) (omega arith) (more {t = 4} (omega arith) (omega arith)
-    (more {t = 5} (omega arith) (omega arith) (more {t = 6} (omega arith) (omega arith) (more {t = 7} (omega arith) (omega arith) none)))))) in
+    go : P (choose mask set s measured) → t ≡ 7
+    go (inl h) = absurd (five (e ∙ h))
+    go (inr (inl h)) = absurd (six (e ∙ h))
+    go (inr (inr (inl h))) = e ∙ h
+    go (inr (inr (inr h))) = absurd (one (e ∙ h))
+
+pub planned : {mask set n : ℕ} {samples runs : List ℕ} {plan : Plan} → IsFrame samples n → mask < 128 → PlanFor mask set (take n samples) plan runs → Planned mask samples n plan runs
+planned {mask} {set} {n} {samples} f seven p =
     record {
       sized = f;
       seven = seven;
-      from = rw (p .tool) (i .0);
-      to = rw (p .tool) (i .1);
+      kind = measured-kind mask set (take n samples) (p .tool);
       rice = λ e. p .rice (sym (p .tool) ∙ e);
       placed = λ e. p .placed (sym (p .tool) ∙ e);
     }
 
-pub mask-low : (law : ℕ) → maskOf law < 128
-mask-low law = go (eqb law 0)
+-- a form that is settled, and one that is measured, are the chosen form
+pub plain-full : {mask set t : ℕ} {s : List ℕ} → Plain mask set s t → (t ≡ 0 → ⊥) → plain t s ≡ full mask set s
+plain-full {mask} {set} {t} {s} p n =
+    let e = p .settled n in
+    ap (λ (b : List ℕ). record { tool = t; bits = b }) (whole-form mask t s (omega arith) (p .most)) ∙ ap (λ (k : ℕ). record { tool = k; bits = formOf mask k s }) e
+
+pub found-full : {mask set t : ℕ} {s : List ℕ} → Plain mask set s t → t ≡ 0 → found mask set s ≡ full mask set s
+found-full {mask} {set} {t} {s} p z = ap (λ (k : ℕ). record { tool = k; bits = formOf mask k s }) (sym (p .later z))
+
+pub is-mask : (law : ℕ) → isMask (maskOf law) ≡ true
+is-mask law = go (eqb law 0)
   where
-    go : (b : Bool) → cond b 0x55 0x7F < 128
-    go true = omega arith
-    go false = omega arith
+    go : (b : Bool) → isMask (cond b 0x55 0x7F) ≡ true
+    go true = refl
+    go false = refl
 
 pub length-in : (n : ℕ) → isLength n ≡ true → (1 ≤ n) × (n ≤ 320)
 length-in n h =
@@ -140,37 +142,3 @@ module _ (n : ℕ) (samples : List ℕ) (law set room : ℕ) where
         write-full z h k =
             let some : eqb (length (take n samples)) 0 ≡ false = ne-eqb _ 0 (λ e. z (sym (length-take-le n samples k) ∙ e)) in
             rw (le-leb law 1 lawful, le-leb set 127 small, is-odd, ne-eqb n 0 z, h, some)
-
--- samples copied one by one
-pub record Copying (s : List ℕ) (out : List ℕ) (most i : ℕ) : Type 0 where
-  pub same : take i out ≡ take i s
-  pub size : length out ≡ 320
-  pub within : i ≤ most
-
-pub copy-turn : {s out : List ℕ} {most i : ℕ} → Copying s out most i → i < most → most ≤ 320 → most ≤ length s → Copying s (set out i (getD s i 0)) most (i + 1)
-copy-turn {s} {out} {most} {i} t h few long =
-    record {
-      same = rw (add-one i, take-suc-set out i (getD s i 0) (omega (arith, t .size)), t .same, take-suc s i 0 (omega arith));
-      size = length-set out i (getD s i 0) ∙ t .size;
-      within = omega arith;
-    }
-
-pub copied : {s out : List ℕ} {most i : ℕ} → Copying s out most i → i ≡ length s → take (length s) out ≡ s
-copied {s} {out} {i = i} t e = ap (λ (k : ℕ). take k out) (sym e) ∙ t .same ∙ ap (λ (k : ℕ). take k s) e ∙ take-length s
-
-write-by : (n : ℕ) (a b : List ℕ) (law set room : ℕ) → take n a ≡ take n b → writeOne n a law set room ≡ writeOne n b law set room
-unfolding writeOne
-write-by n a b law set room e = rw e
-
-write-none : (n : ℕ) (a b : List ℕ) (law set room : ℕ) → 320 < n → writeOne n a law set room ≡ writeOne n b law set room
-unfolding writeOne
-write-none n a b law set room h =
-    rw (ne-eqb n 0 (omega arith), ne-eqb n 40 (omega arith), ne-eqb n 80 (omega arith), ne-eqb n 160 (omega arith), ne-eqb n 240 (omega arith), ne-eqb n 320 (omega arith))
-
--- what stands past the length changes nothing, and a slice that is no frame is refused before its samples matter
-pub write-same : (s : List ℕ) (f : Frame) (law set room : ℕ) → FrameOf s f → writeOne (f .len) (f .samples) law set room ≡ writeOne (length s) s law set room
-write-same s f law set room o = go (decLe (length s) 320)
-  where
-    go : Dec (length s ≤ 320) → writeOne (f .len) (f .samples) law set room ≡ writeOne (length s) s law set room
-    go (yes h) = rw (o .len) (write-by (length s) (f .samples) s law set room (o .samples h ∙ sym (take-length s)))
-    go (no h) = rw (o .len) (write-none (length s) (f .samples) s law set room (omega arith))

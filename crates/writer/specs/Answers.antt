@@ -1,16 +1,17 @@
 -- What a writing reports, apart from the output.
-use Prim.Native.Nat.{ℕ, _≤_}
+use Prim.Native.Nat.{ℕ}
 use mathlib.Core.Path.{_≡_}
 use mathlib.Core.List.{List}
 use mathlib.Core.Bool.{cond}
-use lib.ListN.{length, take}
+use lib.ListN.{length}
 use lib.Dec.{ltb}
 use Rattle.rules.specs.declared.Refusal.the-variants.{Room}
-use Rattle.rules.specs.declared.Frame.{Frame}
 use Rattle.rules.specs.declared.WriteAnswer.{WriteAnswer}
-use Rattle.rules.specs.Bits.{lowBits, octetsFor}
-use Rattle.rules.specs.Chooses.{Written, Write, wrote, declined, chosenTool, formOf}
+use Rattle.rules.specs.Bits.{lowBits, bitsOf, octetsFor}
+use Rattle.rules.specs.Chooses.{Written, Write, wrote, declined, choose, chosenTool, formOf}
 use Rattle.rules.specs.Calls.{writeEnd, writtenBits, writeTool}
+use Rattle.choice.specs.Plans.{measured}
+use Rattle.writer.specs.Forms.{wholeOctets}
 
 pub record Tells (written : Write) (r : WriteAnswer) : Type 0 where
   pub end : r .end ≡ writeEnd written
@@ -30,12 +31,10 @@ pad = record { tool = 0; bits = lowBits 8 0 }
 abbrev pub full : ℕ → ℕ → List ℕ → Written
 full mask set s = record { tool = chosenTool mask set s; bits = formOf mask (chosenTool mask set s) s }
 
--- the samples of a slice as a frame of their length; past 320 a frame has none of them
-pub record FrameOf (s : List ℕ) (r : Frame) : Type 0 where
-  pub len : r .len ≡ length s
-  pub samples : length s ≤ 320 → take (length s) (r .samples) ≡ s
+-- a form that the first look settles
+abbrev pub plain : ℕ → List ℕ → Written
+plain t s = record { tool = t; bits = bitsOf (wholeOctets t s) }
 
-pub record Lower (n r : ℕ) : Type 0 where
-  pub most : r ≤ 320
-  pub within : r ≤ n
-  pub all : n ≤ 320 → r ≡ n
+-- the best of the tools that are measured
+abbrev pub found : ℕ → ℕ → List ℕ → Written
+found mask set s = record { tool = choose mask set s measured; bits = formOf mask (choose mask set s measured) s }

@@ -3,10 +3,13 @@
 use choice::Placed;
 use choice::Plan;
 use choice::Rice;
+use choice::plain_tool;
 use choice::plan_of;
 use law::mask_of;
 use law::plus_zero;
-use measure::Left;
+use measure::Look;
+use measure::copy_of;
+use measure::look_at;
 use measure::marks;
 use measure::runs_of;
 use measure::width_of;
@@ -24,22 +27,24 @@ use rules::Frame;
 use rules::Refusal;
 use rules::WriteAnswer;
 ghost use mathlib.Core.Path.{_≡_};
-ghost use mathlib.Core.List.{_++_, map};
+ghost use mathlib.Core.Bool.{true, cond};
+ghost use mathlib.Core.List.{map};
 ghost use Prim.Native.Nat.{_+_, _*_, _^_, _≤_, _<_};
-ghost use lib.ListN.{length, take};
-ghost use Rattle.rules.specs.Bits.{lowBits, bitsOf};
+ghost use lib.ListN.{length, getD, take};
+ghost use lib.Dec.{eqb};
+ghost use Rattle.rules.specs.Bits.{bitsOf};
 ghost use Rattle.rules.specs.First.{riceCode};
 ghost use Rattle.rules.specs.Runs.{riceForms};
 ghost use Rattle.rules.specs.Zeros as zeros;
 ghost use Rattle.pen.specs.Puts.{Able, Puts, Packed};
-ghost use Rattle.writer.specs.Forms.{CodeIs, RiceReady, riceFormOf, placeForm, placesForm, ValuesReady, valuesFormOf, placedFormOf, bodyForm, Planned};
-ghost use Rattle.rules.specs.Chooses.{methodOf, valueForm, formOf, declined};
+ghost use Rattle.writer.specs.Forms.{CodeIs, wholeOctets, Copied, RiceReady, riceFormOf, placeForm, placesForm, Marked, ValuesReady, valuesFormOf, placedFormOf, bodyForm, IsFrame, Planned};
+ghost use Rattle.rules.specs.Chooses.{methodOf, valueForm, formOf, declined, writeOne};
 ghost use Rattle.rules.specs.Tools.{isLength};
 ghost use Rattle.rules.specs.Calls.{Writes, WriteFrame, WriteSamples};
-ghost use Rattle.choice.specs.Plans.{IsFrame};
-ghost use Rattle.writer.specs.Answers.{Tells, fitting, pad, full, FrameOf, Lower};
-ghost use Rattle.choice.specs.Ways.{Counted};
-ghost use Rattle.choice.specs.Offers.{cellsOf};
+ghost use Rattle.measure.specs.Measures.{Looked};
+ghost use Rattle.choice.specs.Plans.{isMask};
+ghost use Rattle.choice.specs.Offers.{PlacedIs};
+ghost use Rattle.writer.specs.Answers.{Tells, fitting, pad, full, plain, found};
 
 // A code: so many bits, and their number.
 pub struct Code {
@@ -62,19 +67,49 @@ fn put_prefix(out: &mut [u8], p: Pen, tool: u32, n: usize) -> Pen
     put(out, p, 8, wide(octet_for(tool, n)))
 }
 
-// "Uncompressed: N octets."
-fn put_samples(out: &mut [u8], p: Pen, samples: &[u8; 320], n: usize) -> Pen
-    requires { ⌜ (n ≤ 320) × (n ≤ length (now samples)) ⌝ }
-    requires { ⌜ Able (now out) p (8 * n) ⌝ }
-    ensures { λ r. ⌜ Puts (now (out .entry)) p (bitsOf (take n (now (samples .entry)))) (now (out .exit)) r ⌝ }
+// "Uncompressed: N octets", copied whole behind the first octet.
+fn put_samples(out: &mut [u8], samples: &[u8], n: usize)
+    requires { ⌜ (n ≤ length (now samples)) × (n < length (now out)) ⌝ }
+    ensures { λ r. ⌜ Copied (take n (now (samples .entry))) n (now (out .entry)) (now (out .exit)) ⌝ }
 {
-    let mut q = p;
     let mut i = 0;
     while i < n {
-        q = put(out, q, 8, wide(samples[i]));
+        out[1 + i] = samples[i];
         i += 1;
     }
-    q
+}
+
+// The octets of tools 1 to 4: the first one, and with it the samples, or the one that all are.
+fn whole_octets(tool: u32, n: usize) -> usize
+    requires { ⌜ n ≤ 320 ⌝ }
+    ensures { λ r. ⌜ r ≡ cond (eqb tool 1) (1 + n) (cond (eqb tool 4) 2 1) ⌝ }
+{
+    if tool == 1 {
+        return 1 + n;
+    }
+    if tool == 4 {
+        return 2;
+    }
+    1
+}
+
+// The form of tools 1 to 4: whole octets, stored with no pen. Their number comes back.
+fn put_whole(out: &mut [u8], samples: &[u8], n: usize, tool: u32) -> usize
+    requires { ⌜ (1 ≤ tool) × (tool ≤ 4) ⌝ }
+    requires { ⌜ IsFrame (now samples) n ⌝ }
+    requires { ⌜ cond (eqb tool 1) (1 + n) (cond (eqb tool 4) 2 1) ≤ length (now out) ⌝ }
+    ensures { λ r. ⌜ Packed (bitsOf (wholeOctets tool (take n (now (samples .entry))))) (now (out .entry)) (now (out .exit)) r ⌝ }
+{
+    out[0] = octet_for(tool, n);
+    if tool == 1 {
+        put_samples(out, samples, n);
+        return 1 + n;
+    }
+    if tool == 4 {
+        out[1] = samples[0];
+        return 2;
+    }
+    1
 }
 
 // "After the length code come 010 or 011 (100 or 101 for 240 and 320)": all of that at once.
@@ -161,17 +196,15 @@ fn code_of(n: usize, s: usize) -> Code
 }
 
 // Rice: the start, the code of S, and the runs.
-fn put_plus_minus(out: &mut [u8], p: Pen, r: Rice, n: usize) -> Pen
-    requires { ⌜ RiceReady n r ⌝ }
-    requires { ⌜ Able (now out) p (length (riceFormOf n r)) ⌝ }
-    ensures { λ q. ⌜ Puts (now (out .entry)) p (riceFormOf n r) (now (out .exit)) q ⌝ }
+fn put_plus_minus(out: &mut [u8], p: Pen, r: Rice, n: usize, runs: &[u16; 321]) -> Pen
+    requires { ⌜ RiceReady n r (now runs) ⌝ }
+    requires { ⌜ Able (now out) p (length (riceFormOf n r (now runs))) ⌝ }
+    ensures { λ q. ⌜ Puts (now (out .entry)) p (riceFormOf n r (now (runs .entry))) (now (out .exit)) q ⌝ }
 {
     let q = put_start(out, p, n, r.mark);
     let k = code_of(n, r.s);
     let v = put(out, q, k.bits, k.value);
-    let found = r.runs;
-    let runs = found.runs;
-    put_runs(out, v, r.s, &runs, found.count)
+    put_runs(out, v, r.s, runs, r.count)
 }
 
 // A place of w bits, where its flag is set.
@@ -210,7 +243,7 @@ fn sized(x: u8) -> usize
 // A value's places by its method.
 fn put_value(out: &mut [u8], p: Pen, flags: &[u8; 320], d: usize, count: usize, method: u8) -> Pen
     requires { ⌜ method ≡ methodOf (take d (now flags)) ⌝ }
-    requires { ⌜ Counted (now flags) d count ⌝ }
+    requires { ⌜ Marked (now flags) d count ⌝ }
     requires { ⌜ Able (now out) p (length (valueForm (take d (now flags)))) ⌝ }
     ensures { λ r. ⌜ Puts (now (out .entry)) p (valueForm (take d (now (flags .entry)))) (now (out .exit)) r ⌝ }
 {
@@ -223,52 +256,52 @@ fn put_value(out: &mut [u8], p: Pen, flags: &[u8; 320], d: usize, count: usize, 
     }
     if method <= 4 {
         let q = put(out, p, 3, wide(method));
-        let found = runs_of(flags, d);
-        let runs = found.runs;
-        return put_runs(out, q, sized(method), &runs, found.count);
+        let mut runs = [0u16; 321];
+        let found = runs_of(flags, d, 1, 1, 0, &mut runs);
+        return put_runs(out, q, sized(method), &runs, found);
     }
     let q = put(out, p, 5, 28 + count as u64 - 1);
     put_places(out, q, flags, d, width_of(d))
 }
 
 // "D is N for the first value, then the places still empty": the values one after the other.
-fn put_values(out: &mut [u8], p: Pen, frame: Left, placed: Placed) -> Pen
-    requires { ⌜ ValuesReady frame placed ⌝ }
-    requires { ⌜ Able (now out) p (length (valuesFormOf frame placed)) ⌝ }
-    ensures { λ r. ⌜ Puts (now (out .entry)) p (valuesFormOf frame placed) (now (out .exit)) r ⌝ }
+fn put_values(out: &mut [u8], p: Pen, samples: &[u8], n: usize, placed: Placed) -> Pen
+    requires { ⌜ (IsFrame (now samples) n) × (ValuesReady (take n (now samples)) placed) ⌝ }
+    requires { ⌜ Able (now out) p (length (valuesFormOf (take n (now samples)) placed)) ⌝ }
+    ensures { λ r. ⌜ Puts (now (out .entry)) p (valuesFormOf (take n (now (samples .entry))) placed) (now (out .exit)) r ⌝ }
 {
     let v = placed.values;
     let values = v.values;
     let count = v.count;
     let methods = placed.methods;
-    let mut left = frame;
+    let mut cells = copy_of(samples, n);
+    let mut d = n;
     let mut q = p;
     let mut j = 0;
     while j < count {
         let x = values[j];
-        let d = left.len;
-        let cells = left.samples;
         let flags = marks(&cells, d, x, 1, 0);
-        left = without_value(&cells, d, x);
-        q = put_value(out, q, &flags, d, d - left.len, methods[j]);
+        let kept = without_value(&mut cells, d, x);
+        q = put_value(out, q, &flags, d, d - kept, methods[j]);
+        d = kept;
         j += 1;
     }
     q
 }
 
 // "Row, flag, and the values": the body of value-location.
-fn put_located(out: &mut [u8], p: Pen, frame: Left, placed: Placed) -> Pen
+fn put_located(out: &mut [u8], p: Pen, samples: &[u8], n: usize, placed: Placed) -> Pen
     requires { ⌜ (placed .row < 4) × (placed .flag < 2) ⌝ }
-    requires { ⌜ ValuesReady frame placed ⌝ }
-    requires { ⌜ Able (now out) p (length (placedFormOf frame placed)) ⌝ }
-    ensures { λ r. ⌜ Puts (now (out .entry)) p (placedFormOf frame placed) (now (out .exit)) r ⌝ }
+    requires { ⌜ (IsFrame (now samples) n) × (ValuesReady (take n (now samples)) placed) ⌝ }
+    requires { ⌜ Able (now out) p (length (placedFormOf (take n (now samples)) placed)) ⌝ }
+    ensures { λ r. ⌜ Puts (now (out .entry)) p (placedFormOf (take n (now (samples .entry))) placed) (now (out .exit)) r ⌝ }
 {
     let q = put(out, p, 3, placed.row as u64 * 2 + placed.flag as u64);
-    put_values(out, q, frame, placed)
+    put_values(out, q, samples, n, placed)
 }
 
 // "Binary: N bits, 1 is minus zero."
-fn put_binary(out: &mut [u8], p: Pen, samples: &[u8; 320], n: usize, mask: u8) -> Pen
+fn put_binary(out: &mut [u8], p: Pen, samples: &[u8], n: usize, mask: u8) -> Pen
     requires { ⌜ (n ≤ 320) × ((n ≤ length (now samples)) × (mask < 128)) ⌝ }
     requires { ⌜ Able (now out) p n ⌝ }
     ensures { λ r. ⌜ Puts (now (out .entry)) p (map (zeros.flagOf mask 0) (take n (now (samples .entry)))) (now (out .exit)) r ⌝ }
@@ -277,47 +310,39 @@ fn put_binary(out: &mut [u8], p: Pen, samples: &[u8; 320], n: usize, mask: u8) -
     put_flags(out, p, &flags, n)
 }
 
-// What follows the first octet; tool 6 has none.
-fn put_body(out: &mut [u8], p: Pen, frame: Left, mask: u8, plan: Plan) -> Pen
-    requires { ⌜ (Planned mask frame plan) × (plan .tool ≡ 6 → ⊥) ⌝ }
-    requires { ⌜ Able (now out) p (length (bodyForm frame mask plan)) ⌝ }
-    ensures { λ r. ⌜ Puts (now (out .entry)) p (bodyForm frame mask plan) (now (out .exit)) r ⌝ }
+// What follows the first octet of tools 5 and 7.
+fn put_body(out: &mut [u8], p: Pen, samples: &[u8], n: usize, mask: u8, plan: Plan) -> Pen
+    requires { ⌜ (IsFrame (now samples) n) × (mask < 128) ⌝ }
+    requires { ⌜ (plan .tool ≡ 7 → PlacedIs mask (take n (now samples)) (plan .placed)) ⌝ }
+    requires { ⌜ ((plan .tool ≡ 5 → ⊥) → plan .tool ≡ 7) ⌝ }
+    requires { ⌜ Able (now out) p (length (bodyForm (take n (now samples)) mask plan)) ⌝ }
+    ensures { λ r. ⌜ Puts (now (out .entry)) p (bodyForm (take n (now (samples .entry))) mask plan) (now (out .exit)) r ⌝ }
 {
-    let tool = plan.tool;
-    let n = frame.len;
-    let samples = frame.samples;
-    if tool == 1 {
-        return put_samples(out, p, &samples, n);
-    }
-    if tool <= 3 {
-        return p;
-    }
-    if tool == 4 {
-        return put(out, p, 8, wide(samples[0]));
-    }
-    if tool == 5 {
-        return put_binary(out, p, &samples, n, mask);
+    if plan.tool == 5 {
+        return put_binary(out, p, samples, n, mask);
     }
     let placed = plan.placed;
-    put_located(out, p, frame, placed)
+    put_located(out, p, samples, n, placed)
 }
 
 // The planned form of a frame, as octets. Their number comes back.
-fn put_form(out: &mut [u8], frame: Left, mask: u8, plan: Plan) -> usize
-    requires { ⌜ Planned mask frame plan ⌝ }
-    requires { ⌜ length (formOf mask (plan .tool) (cellsOf frame)) ≤ 8 * length (now out) ⌝ }
-    ensures { λ r. ⌜ Packed (formOf mask (plan .tool) (cellsOf frame)) (now (out .entry)) (now (out .exit)) r ⌝ }
+fn put_form(out: &mut [u8], samples: &[u8], n: usize, mask: u8, plan: Plan, runs: &[u16; 321]) -> usize
+    requires { ⌜ Planned mask (now samples) n plan (now runs) ⌝ }
+    requires { ⌜ length (formOf mask (plan .tool) (take n (now samples))) ≤ 8 * length (now out) ⌝ }
+    ensures { λ r. ⌜ Packed (formOf mask (plan .tool) (take n (now (samples .entry)))) (now (out .entry)) (now (out .exit)) r ⌝ }
 {
-    let p = fresh();
     let tool = plan.tool;
-    let n = frame.len;
+    if tool == 1 {
+        return put_whole(out, samples, n, 1);
+    }
+    let p = fresh();
     if tool == 6 {
         let rice = plan.rice;
-        let q = put_plus_minus(out, p, rice, n);
+        let q = put_plus_minus(out, p, rice, n, runs);
         return finish(out, q);
     }
     let q = put_prefix(out, p, tool, n);
-    let r = put_body(out, q, frame, mask, plan);
+    let r = put_body(out, q, samples, n, mask, plan);
     finish(out, r)
 }
 
@@ -349,22 +374,56 @@ fn write_pad(out: &mut [u8]) -> WriteAnswer
     }
 }
 
-// "ROOM means the chosen form's octets for a writer"; then the chosen form alone is written.
-fn write_chosen(out: &mut [u8], frame: Left, mask: u8, set: u32) -> WriteAnswer
-    requires { ⌜ (IsFrame frame) × (mask < 128) ⌝ }
-    ensures { λ r. ⌜ Writes (fitting (length (now (out .entry))) (full mask set (cellsOf frame))) r (now (out .entry)) (now (out .exit)) ⌝ }
+// "ROOM means the chosen form's octets for a writer". Tools 1 to 4, which the first look settles.
+fn write_plain(out: &mut [u8], samples: &[u8], n: usize, tool: u32) -> WriteAnswer
+    requires { ⌜ (1 ≤ tool) × (tool ≤ 4) ⌝ }
+    requires { ⌜ IsFrame (now samples) n ⌝ }
+    ensures { λ r. ⌜ Writes (fitting (length (now (out .entry))) (plain tool (take n (now (samples .entry))))) r (now (out .entry)) (now (out .exit)) ⌝ }
 {
-    let plan = plan_of(frame, mask, set);
+    let need = whole_octets(tool, n);
+    if out.len() < need {
+        return refused(Refusal::Room);
+    }
+    let octets = put_whole(out, samples, n, tool);
+    WriteAnswer {
+        end: Ending::Done,
+        octets: octets,
+        bits: 8 * need,
+        tool: tool,
+    }
+}
+
+// "ROOM means the chosen form's octets for a writer". The tools that are measured; then the chosen form alone is written.
+fn write_measured(out: &mut [u8], samples: &[u8], n: usize, mask: u8, set: u32, l: Look) -> WriteAnswer
+    requires { ⌜ (IsFrame (now samples) n) × (mask < 128) ⌝ }
+    requires { ⌜ Looked mask (getD (now samples) 0 0) (take n (now samples)) l ⌝ }
+    ensures { λ r. ⌜ Writes (fitting (length (now (out .entry))) (found mask set (take n (now (samples .entry))))) r (now (out .entry)) (now (out .exit)) ⌝ }
+{
+    let mut runs = [0u16; 321];
+    let plan = plan_of(samples, n, mask, set, l, &mut runs);
     if out.len() < (plan.bits + 7) / 8 {
         return refused(Refusal::Room);
     }
-    let octets = put_form(out, frame, mask, plan);
+    let octets = put_form(out, samples, n, mask, plan, &runs);
     WriteAnswer {
         end: Ending::Done,
         octets: octets,
         bits: plan.bits,
         tool: plan.tool,
     }
+}
+
+// One look; what it does not settle is measured.
+fn write_chosen(out: &mut [u8], samples: &[u8], n: usize, mask: u8, set: u32) -> WriteAnswer
+    requires { ⌜ (IsFrame (now samples) n) × (isMask mask ≡ true) ⌝ }
+    ensures { λ r. ⌜ Writes (fitting (length (now (out .entry))) (full mask set (take n (now (samples .entry))))) r (now (out .entry)) (now (out .exit)) ⌝ }
+{
+    let l = look_at(samples, n, mask);
+    let tool = plain_tool(samples, n, l, mask, set);
+    if tool == 0 {
+        return write_measured(out, samples, n, mask, set, l);
+    }
+    write_plain(out, samples, n, tool)
 }
 
 // The lengths of frames that have samples.
@@ -381,9 +440,10 @@ fn is_length(n: usize) -> bool
     }
 }
 
-// Writing one frame: "Order: LAW, SET, then LENGTH", and ROOM last. Samples past the length change nothing.
-pub fn write_frame(frame: Frame, law: u32, set: u32, out: &mut [u8]) -> WriteAnswer
-    ensures { λ r. ⌜ WriteFrame frame law set (now (out .entry)) (now (out .exit)) r ⌝ }
+// The first n samples as a frame: "Order: LAW, SET, then LENGTH", and ROOM last.
+fn write_some(samples: &[u8], n: usize, law: u32, set: u32, out: &mut [u8]) -> WriteAnswer
+    requires { ⌜ (n ≤ 320 → n ≤ length (now samples)) ⌝ }
+    ensures { λ r. ⌜ Writes (writeOne n (now (samples .entry)) law set (length (now (out .entry)))) r (now (out .entry)) (now (out .exit)) ⌝ }
 {
     if 1 < law {
         return refused(Refusal::Law);
@@ -394,44 +454,26 @@ pub fn write_frame(frame: Frame, law: u32, set: u32, out: &mut [u8]) -> WriteAns
     if set % 2 == 0 {
         return refused(Refusal::Set);
     }
-    let len = frame.len;
-    if len == 0 {
+    if n == 0 {
         return write_pad(out);
     }
-    if !is_length(len) {
+    if !is_length(n) {
         return refused(Refusal::Length);
     }
+    write_chosen(out, samples, n, mask_of(law), set)
+}
+
+// Writing one frame. Samples past the length change nothing.
+pub fn write_frame(frame: Frame, law: u32, set: u32, out: &mut [u8]) -> WriteAnswer
+    ensures { λ r. ⌜ WriteFrame frame law set (now (out .entry)) (now (out .exit)) r ⌝ }
+{
     let samples = frame.samples;
-    write_chosen(out, Left { samples, len }, mask_of(law), set)
-}
-
-fn at_most_320(n: usize) -> usize
-    ensures { λ r. ⌜ Lower n r ⌝ }
-{
-    if n < 320 { n } else { 320 }
-}
-
-// A slice as a frame of its length; of a slice that is too long for a frame only the length matters.
-fn frame_of(s: &[u8]) -> Frame
-    ensures { λ r. ⌜ FrameOf (now (s .entry)) r ⌝ }
-{
-    let mut samples = [0u8; 320];
-    let most = at_most_320(s.len());
-    let mut i = 0;
-    while i < most {
-        samples[i] = s[i];
-        i += 1;
-    }
-    Frame {
-        samples,
-        len: s.len(),
-    }
+    write_some(&samples, frame.len, law, set, out)
 }
 
 // Writing the samples of a slice, whose length is the frame's.
 pub fn write_samples(samples: &[u8], law: u32, set: u32, out: &mut [u8]) -> WriteAnswer
     ensures { λ r. ⌜ WriteSamples (now (samples .entry)) law set (now (out .entry)) (now (out .exit)) r ⌝ }
 {
-    let frame = frame_of(samples);
-    write_frame(frame, law, set, out)
+    write_some(samples, samples.len(), law, set, out)
 }

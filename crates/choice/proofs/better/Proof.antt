@@ -1,5 +1,5 @@
 use borrow.Author.Needs.{needs}
-use mathlib.Core.Path.{sym, _∙_}
+use Rattle.rules.specs.Bits.{octetsFor}
 use native.Mathlib.Omega.{arith}
 use borrow.Author.Tests.{not-true, not-false, le-leb, lt-leb}
 use Rattle.choice.proofs.Choosing.{better-not, better-yes}
@@ -7,36 +7,26 @@ use Rattle.choice.proofs.better.Statement.{statement}
 use Rattle.choice.proofs.better.Tie as tie
 use Rattle.choice.proofs.better.Reads as reads
 use Rattle.choice.proofs.better.Lts as lts
-use Rattle.prefix.proofs.holds.Reads as holds-reads
 
--- src/lib.rt:355:9
-holds-requires : tie.Need-holds-requires
-holds-requires c κs = search needs
-
--- src/lib.rt:356:9
+-- src/lib.rt:385:9
 returns : tie.Need-returns
-returns c = let s = c .before .before in better-not (s .pre .0) (rw (sym (c .before .holds .ensures) ∙ not-true _ (c .if1 .taken)))
+returns c = better-not (c .before .pre .0) (rw (not-true (c .before .args .offered) (c .if1 .taken)))
 
--- src/lib.rt:359:9
+-- src/lib.rt:387:9
+add-if2 : tie.Need-add-if2
+add-if2 c = search needs
+
+-- src/lib.rt:387:31
+add-if2-2 : tie.Need-add-if2-2
+add-if2-2 c = search needs
+
+-- src/lib.rt:388:9
 returns-2 : tie.Need-returns-2
-returns-2 c = better-not (c .before .before .before .pre .0) (rw (sym (c .before .before .holds .ensures) ∙ not-false _ (c .before .if1 .left), not-true (c .before .before .before .args .applies) (c .if2 .taken)))
+returns-2 c = let s = c .before .before .before in better-not (s .pre .0) (rw (not-false (s .args .offered) (c .before .before .if1 .left), lt-leb (octetsFor (s .args .bits)) (octetsFor (s .args .best .bits)) (omega (arith, c .if2 .taken))))
 
--- src/lib.rt:361:9
-add-if3 : tie.Need-add-if3
-add-if3 c = search needs
-
--- src/lib.rt:361:31
-add-if3-2 : tie.Need-add-if3-2
-add-if3-2 c = search needs
-
--- src/lib.rt:362:9
+-- src/lib.rt:380:1
 returns-3 : tie.Need-returns-3
-returns-3 c = better-not (c .before .before .before .before .before .pre .0) (rw (sym (c .before .before .before .before .holds .ensures) ∙ not-false _ (c .before .before .before .if1 .left), not-false (c .before .before .before .before .before .args .applies) (c .before .before .if2 .left), lt-leb _ _ (c .if3 .taken)))
-
--- src/lib.rt:351:1
-returns-4 : tie.Need-returns-4
-returns-4 c = better-yes (c .before .before .before .before .before .pre .1) (rw (sym (c .before .before .before .before .holds .ensures) ∙ not-false _ (c .before .before .before .if1 .left), not-false (c .before .before .before .before .before .args .applies) (c .before .before .if2 .left), le-leb _ _ (c .if3 .left)))
+returns-3 c = let s = c .before .before .before in better-yes (s .pre .1) (rw (not-false (s .args .offered) (c .before .before .if1 .left), le-leb (octetsFor (s .args .bits)) (octetsFor (s .args .best .bits)) (omega (arith, c .if2 .left))))
 
 pub better-spec : {M : Type 1} → statement M
-better-spec =
-    tie.close (tie.spec holds-requires returns returns-2 add-if3 add-if3-2 returns-3 returns-4)
+better-spec = tie.close (tie.spec returns add-if2 add-if2-2 returns-2 returns-3)

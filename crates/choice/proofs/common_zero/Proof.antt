@@ -1,6 +1,6 @@
 use borrow.Author.Needs.{needs}
-use mathlib.Core.Path.{sym}
-use borrow.Author.Tests.{eq-eqb, ne-eqb}
+use native.Mathlib.Omega.{arith}
+use borrow.Author.Tests.{lt-ltb, le-ltb}
 use Rattle.choice.proofs.common_zero.Statement.{statement}
 use Rattle.choice.proofs.common_zero.Tie as tie
 use Rattle.choice.proofs.common_zero.Reads as reads
@@ -8,21 +8,21 @@ use Rattle.choice.proofs.common_zero.Lts as lts
 use Rattle.law.proofs.minus_zero.Reads as minus-zero-reads
 use Rattle.law.proofs.plus_zero.Reads as plus-zero-reads
 
--- src/lib.rt:262:9
+-- src/lib.rt:283:9
 plus-zero-requires : tie.Need-plus-zero-requires
 plus-zero-requires c κs = search needs
 
--- src/lib.rt:262:9
+-- src/lib.rt:283:9
 returns : tie.Need-returns
-returns c = rw (eq-eqb 0 _ (sym (c .before .if1 .taken))) (c .plus-zero .ensures)
+returns c = let n = c .before .before .before .args .c in rw (le-ltb (n .plus) (n .minus) (omega (arith, c .before .if1 .taken))) (c .plus-zero .ensures)
 
--- src/lib.rt:264:5
+-- src/lib.rt:285:5
 minus-zero-requires : tie.Need-minus-zero-requires
 minus-zero-requires c κs = search needs
 
--- src/lib.rt:257:1
+-- src/lib.rt:278:1
 returns-2 : tie.Need-returns-2
-returns-2 c = rw (ne-eqb 0 _ (λ e. c .before .if1 .left (sym e))) (c .minus-zero .ensures)
+returns-2 c = let n = c .before .before .before .args .c in rw (lt-ltb (n .plus) (n .minus) (omega (arith, c .before .if1 .left))) (c .minus-zero .ensures)
 
 pub common-zero-spec : {M : Type 1} → statement M
 common-zero-spec = tie.close (tie.spec plus-zero-requires returns minus-zero-requires returns-2)

@@ -1,4 +1,7 @@
 use borrow.Author.Needs.{needs}
+use mathlib.Core.Path.{sym, ap}
+use mathlib.Core.Bool.{Bool, cond}
+use native.Mathlib.Omega.{arith}
 use borrow.Author.Tests.{le-leb, lt-leb}
 use Rattle.choice.proofs.flag_of.Statement.{statement}
 use Rattle.choice.proofs.flag_of.Tie as tie
@@ -7,11 +10,11 @@ use Rattle.choice.proofs.flag_of.Lts as lts
 
 -- src/lib.rt:197:1
 returns : tie.Need-returns
-returns c = rw (le-leb _ _ (c .if1 .taken))
+returns c = let n = c .before .before .args .c in ap (λ (t : Bool). cond t 1 0) (sym (le-leb (n .below) (n .above) (omega (arith, c .if1 .taken))))
 
 -- src/lib.rt:197:1
 returns-2 : tie.Need-returns-2
-returns-2 c = rw (lt-leb _ _ (c .if1 .left))
+returns-2 c = let n = c .before .before .args .c in ap (λ (t : Bool). cond t 1 0) (sym (lt-leb (n .below) (n .above) (omega (arith, c .if1 .left))))
 
 pub flag-of-spec : {M : Type 1} → statement M
 flag-of-spec = tie.close (tie.spec returns returns-2)

@@ -1,4 +1,6 @@
 use borrow.Author.Needs.{needs}
+use mathlib.Core.Path.{sym, ap}
+use mathlib.Core.Bool.{Bool, cond}
 use mathlib.Core.Path.{refl}
 use native.Mathlib.Omega.{arith}
 use borrow.Author.Tests.{lt-ltb, le-ltb}
@@ -9,11 +11,11 @@ use Rattle.choice.proofs.mark_of.Lts as lts
 
 -- src/lib.rt:251:1
 returns : tie.Need-returns
-returns c = simp (lt-ltb _ _ (c .if1 .taken)) (refl, omega arith)
+returns c = let n = c .before .before .args .c in (ap (λ (t : Bool). cond t 1 0) (sym (lt-ltb (n .plus) (n .minus) (omega (arith, c .if1 .taken)))), omega arith)
 
 -- src/lib.rt:251:1
 returns-2 : tie.Need-returns-2
-returns-2 c = simp (le-ltb _ _ (c .if1 .left)) (refl, omega arith)
+returns-2 c = let n = c .before .before .args .c in (ap (λ (t : Bool). cond t 1 0) (sym (le-ltb (n .plus) (n .minus) (omega (arith, c .if1 .left)))), omega arith)
 
 pub mark-of-spec : {M : Type 1} → statement M
 mark-of-spec = tie.close (tie.spec returns returns-2)

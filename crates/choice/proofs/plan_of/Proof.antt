@@ -1,102 +1,83 @@
 use borrow.Author.Needs.{needs}
-use mathlib.Core.Path.{sym, _∙_}
+use mathlib.Core.Path.{_≡_, sym, ap, _∙_}
+use mathlib.Core.Bool.{Bool, _&&_}
 use native.Mathlib.Omega.{arith}
-use lib.ListN.{take}
-use lib.Seq.{length-take-le, getD-take}
-use Rattle.rules.specs.Chooses.{tieOrder}
-use Rattle.choice.proofs.Zeros.{rice-applies}
-use Rattle.choice.proofs.Choosing.{choose-step, chosen-applies, uncompressed-chosen, binary-bits, constant-bits, minus-bits, plus-bits, constant-applies, minus-applies, plus-applies, located-bits, rice-bits}
+use lib.ListN.{length, take}
+use lib.Seq.{length-take-le}
+use Rattle.rules.specs.Tools.{holds}
+use Rattle.choice.specs.Plans.{measured}
+use Rattle.choice.proofs.Zeros.{zeros-are}
+use mathlib.Core.Path.{refl}
+use Rattle.choice.proofs.Choosing.{choose-step, chosen-offered, uncompressed-chosen, binary-bits, located-bits, rice-bits}
 use Rattle.choice.proofs.plan_of.Statement.{statement}
 use Rattle.choice.proofs.plan_of.Tie as tie
 use Rattle.choice.proofs.plan_of.Reads as reads
 use Rattle.choice.proofs.plan_of.Lts as lts
 use Rattle.choice.proofs.better.Reads as better-reads
+use Rattle.choice.proofs.binary_offered.Reads as binary-offered-reads
 use Rattle.choice.proofs.placed_of.Reads as placed-of-reads
 use Rattle.choice.proofs.rice_of.Reads as rice-of-reads
-use Rattle.choice.proofs.sized.Reads as sized-reads
-use Rattle.measure.proofs.look_at.Reads as look-at-reads
+use Rattle.measure.proofs.counts_of.Reads as counts-of-reads
 
--- src/lib.rt:386:9
-look-at-requires : tie.Need-look-at-requires
-look-at-requires c κs = search needs
+size : (s : tie.Start) → length (take (s .args .n) (s .args .samples .now)) ≡ s .args .n
+size s = length-take-le (s .args .n) (s .args .samples .now) (s .pre .0 .1 .0)
 
--- src/lib.rt:387:9
+-- src/lib.rt:468:9
+counts-of-requires : tie.Need-counts-of-requires
+counts-of-requires c κs = search needs
+
+-- src/lib.rt:469:9
 placed-of-requires : tie.Need-placed-of-requires
 placed-of-requires c κs = search needs
 
--- src/lib.rt:388:9
+-- src/lib.rt:470:9
 rice-of-requires : tie.Need-rice-of-requires
-rice-of-requires c κs = search needs
+rice-of-requires c κs = let s = c .before .before .before .before .before in (record { counted = c .before .before .before .counts-of .ensures; long = s .pre .0 .1 .0; few = s .pre .0 .0; seven = s .pre .0 .1 .1 }, c .before .placed-of .ensures .1)
 
--- src/lib.rt:391:19
-mul-better : tie.Need-mul-better
-mul-better c = search needs
+-- src/lib.rt:473:19
+mul-t16 : tie.Need-mul-t16
+mul-t16 c = search needs
 
--- src/lib.rt:391:15
-add-better : tie.Need-add-better
-add-better c = search needs
+-- src/lib.rt:473:15
+add-t17 : tie.Need-add-t17
+add-t17 c = search needs
 
--- src/lib.rt:393:9
+-- src/lib.rt:475:9
 better-requires : tie.Need-better-requires
 better-requires c κs = search needs
 
--- src/lib.rt:394:9
+-- src/lib.rt:476:9
 better-requires-2 : tie.Need-better-requires-2
 better-requires-2 c κs = search needs
 
--- src/lib.rt:395:50
-add-better-2 : tie.Need-add-better-2
-add-better-2 c = search needs
+-- src/lib.rt:477:31
+binary-offered-requires : tie.Need-binary-offered-requires
+binary-offered-requires c κs = search needs
 
--- src/lib.rt:395:9
+-- src/lib.rt:477:58
+add-better : tie.Need-add-better
+add-better c = omega (arith, c .before .before .before .before .before .before .before .before .before .pre .0 .0)
+
+-- src/lib.rt:477:9
 better-requires-3 : tie.Need-better-requires-3
-better-requires-3 c κs = search needs
+better-requires-3 c κs = (c .before .better2 .ensures .small, omega (arith, c .before .before .before .before .before .before .before .before .before .pre .0 .0))
 
--- src/lib.rt:396:37
-sized-requires : tie.Need-sized-requires
-sized-requires c κs = search needs
-
--- src/lib.rt:396:9
-better-requires-4 : tie.Need-better-requires-4
-better-requires-4 c κs = search needs
-
--- src/lib.rt:397:38
-sized-requires-2 : tie.Need-sized-requires-2
-sized-requires-2 c κs = search needs
-
--- src/lib.rt:397:9
-better-requires-5 : tie.Need-better-requires-5
-better-requires-5 c κs = search needs
-
--- src/lib.rt:398:37
-sized-requires-3 : tie.Need-sized-requires-3
-sized-requires-3 c κs = search needs
-
--- src/lib.rt:398:9
-better-requires-6 : tie.Need-better-requires-6
-better-requires-6 c κs = search needs
-
--- src/lib.rt:379:1
+-- src/lib.rt:462:1
 returns : tie.Need-returns
-returns c = let st = c .before .before .before .before .before .before .before .before .before .before .before .before .before .before in let fr = st .args .frame in let mask = st .args .mask in let set = st .args .set in let s = take (fr .len) (fr .samples) in let n = length-take-le (fr .len) (fr .samples) (omega (arith, st .pre .0 .size, st .pre .0 .few)) in let look = c .before .before .before .before .before .before .before .before .before .before .before .look-at .ensures in let placed = c .before .before .before .before .before .before .before .before .before .before .placed-of .ensures in let rice = c .before .before .before .before .before .before .before .before .before .rice-of .ensures in let first = sym (getD-take (fr .len) (fr .samples) 0 0 (st .pre .0 .some)) in let c₁ = uncompressed-chosen mask s n set (st .pre .0 .few) in let c₇ = choose-step c₁ 7 _ _ (placed .applied) (located-bits placed) (c .before .before .before .before .before .before .before .before .better .ensures) in let c₆ = choose-step c₇ 6 _ _ (rice .applied) (rice-bits rice) (c .before .before .before .before .before .before .before .better2 .ensures) in let c₅ = choose-step c₆ 5 _ _ (rice .applied ∙ sym (rice-applies mask s)) (λ h. binary-bits mask s n) (c .before .before .before .before .before .before .better3 .ensures) in let c₄ = choose-step c₅ 4 _ _ (constant-applies mask s n look first (c .before .before .before .before .before .sized .ensures .0)) (λ h. constant-bits mask s n) (c .before .before .before .before .better4 .ensures) in let c₃ = choose-step c₄ 3 _ _ (minus-applies mask s n look (c .before .before .before .sized2 .ensures .0)) (λ h. minus-bits mask s n) (c .before .before .better5 .ensures) in let c₂ = choose-step c₃ 2 _ _ (plus-applies mask s n look (c .before .sized3 .ensures .0)) (λ h. plus-bits mask s n) (c .better6 .ensures) in record { tool = c₂ .tool; bits = c₂ .bits; small = c₂ .small; rice = λ e. rice .rice (rice .applied ∙ chosen-applies mask set s tieOrder 6 e (λ z. omega arith)); placed = λ e. placed .placed (placed .applied ∙ chosen-applies mask set s tieOrder 7 e (λ z. omega arith)) }
+returns c = let st = c .before .before .before .before .before .before .before .before .before .before in let mask = st .args .mask in let set = st .args .set in let s = take (st .args .n) (st .args .samples .now) in let n = size st in let placed = c .before .before .before .before .before .before .placed-of .ensures .0 in let rice = c .before .before .before .before .rice-of .ensures in let counted = c .before .before .before .before .before .before .before .before .counts-of .ensures in let c₁ = uncompressed-chosen mask s n set (st .pre .0 .0) in let c₇ = choose-step c₁ 7 _ _ (placed .offered) (located-bits placed) (c .before .before .before .better .ensures) in let c₆ = choose-step c₇ 6 _ _ (rice .offered) (rice-bits rice) (c .before .before .better2 .ensures) in let c₅ = choose-step c₆ 5 _ _ (c .before .binary-offered .ensures ∙ ap (λ (z : Bool). holds set 5 && z) (zeros-are counted n 5 refl refl)) (λ h. binary-bits mask s n) (c .better3 .ensures) in record { tool = c₅ .tool; bits = c₅ .bits; small = c₅ .small; rice = λ e. rice .rice (rice .offered ∙ chosen-offered mask set s measured 6 e (λ z. omega arith)); placed = λ e. placed .placed (placed .offered ∙ chosen-offered mask set s measured 7 e (λ z. omega arith)) }
 
 pub plan-of-spec : {M : Type 1} → statement M
 plan-of-spec =
     tie.close
     (tie.spec
-    look-at-requires
+    counts-of-requires
     placed-of-requires
     rice-of-requires
-    mul-better
-    add-better
+    mul-t16
+    add-t17
     better-requires
     better-requires-2
-    add-better-2
+    binary-offered-requires
+    add-better
     better-requires-3
-    sized-requires
-    better-requires-4
-    sized-requires-2
-    better-requires-5
-    sized-requires-3
-    better-requires-6
     returns)

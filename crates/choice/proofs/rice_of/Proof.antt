@@ -1,9 +1,14 @@
 use borrow.Author.Needs.{needs}
-use Prim.Native.Nat.{_+_}
-use mathlib.Core.Path.{refl, sym, ap₂, _∙_}
+use mathlib.Core.Path.{_≡_, sym, ap, ap₂, _∙_}
+use mathlib.Core.Bool.{Bool, true, false, _&&_}
 use native.Mathlib.Omega.{arith}
+use borrow.Author.Tests.{not-true, not-false}
+use lib.ListN.{length, take}
 use lib.Seq.{length-take-le}
-use Rattle.choice.proofs.Zeros.{not-rice, rice-for}
+use Rattle.rules.specs.Tools.{holds}
+use Rattle.rules.specs.Chooses.{applies}
+use Rattle.choice.proofs.Settling.{and-zero}
+use Rattle.choice.proofs.Zeros.{rice-applies, zeros-are, not-rice, rice-for}
 use Rattle.choice.proofs.rice_of.Statement.{statement}
 use Rattle.choice.proofs.rice_of.Tie as tie
 use Rattle.choice.proofs.rice_of.Reads as reads
@@ -12,83 +17,97 @@ use Rattle.choice.proofs.code_lengths.Reads as code-lengths-reads
 use Rattle.choice.proofs.common_zero.Reads as common-zero-reads
 use Rattle.choice.proofs.mark_of.Reads as mark-of-reads
 use Rattle.choice.proofs.most_s.Reads as most-s-reads
-use Rattle.choice.proofs.sized.Reads as sized-reads
+use Rattle.choice.proofs.no_rice.Reads as no-rice-reads
 use Rattle.choice.proofs.start_bits.Reads as start-bits-reads
+use Rattle.choice.proofs.two_zeros.Reads as two-zeros-reads
 use Rattle.measure.proofs.least_s.Reads as least-s-reads
-use Rattle.measure.proofs.marks.Reads as marks-reads
 use Rattle.measure.proofs.runs_of.Reads as runs-of-reads
+use Rattle.prefix.proofs.holds.Reads as holds-reads
 
--- src/lib.rt:313:8
-sized-requires : tie.Need-sized-requires
-sized-requires c κs = search needs
+size : (s : tie.Start) → length (take (s .args .n) (s .args .samples .now)) ≡ s .args .n
+size s = length-take-le (s .args .n) (s .args .samples .now) (s .pre .0 .long)
 
--- src/lib.rt:313:24
-sized-requires-2 : tie.Need-sized-requires-2
-sized-requires-2 c κs = search needs
+-- whether Rice is offered, by the two tests
+offer : (s : tie.Start) {h z : Bool} → holds (s .args .set) 6 ≡ h → applies (s .args .mask) 6 (take (s .args .n) (s .args .samples .now)) ≡ z
+    → (holds (s .args .set) 6 && applies (s .args .mask) 6 (take (s .args .n) (s .args .samples .now))) ≡ (h && z)
+offer s e f = ap₂ _&&_ e f
 
--- src/lib.rt:313:8
-add-if1 : tie.Need-add-if1
-add-if1 c = search needs
+-- src/lib.rt:353:9
+holds-requires : tie.Need-holds-requires
+holds-requires c κs = search needs
 
--- src/lib.rt:314:9
+-- src/lib.rt:354:9
+no-rice-requires : tie.Need-no-rice-requires
+no-rice-requires c κs = search needs
+
+-- src/lib.rt:354:9
 returns : tie.Need-returns
-returns c = let s = c .before .before .before in let n = length-take-le (s .args .frame .len) (s .args .frame .samples) (omega (arith, s .pre .size, s .pre .few)) in not-rice (s .pre .looked) n (λ e. c .if1 .taken (ap₂ _+_ (c .before .before .sized .ensures .0) (c .before .sized2 .ensures .0) ∙ e)) refl refl
+returns c = let s = c .before .before .before .before in not-rice (ap (λ (h : Bool). h && applies (s .args .mask) 6 (take (s .args .n) (s .args .samples .now))) (sym (c .before .before .holds .ensures) ∙ not-true _ (c .before .if1 .taken))) (c .no-rice .ensures .0) (c .no-rice .ensures .1)
 
--- src/lib.rt:325:9
+-- src/lib.rt:356:9
+two-zeros-requires : tie.Need-two-zeros-requires
+two-zeros-requires c κs = search needs
+
+-- src/lib.rt:357:9
+no-rice-requires-2 : tie.Need-no-rice-requires-2
+no-rice-requires-2 c κs = search needs
+
+-- src/lib.rt:357:9
+returns-2 : tie.Need-returns-2
+returns-2 c = let s = c .before .before .before .before .before .before in not-rice (ap (λ (z : Bool). holds (s .args .set) 6 && z) (sym (zeros-are (s .pre .0 .counted) (size s) 6 (rice-applies _ _) (c .before .before .two-zeros .ensures)) ∙ not-true _ (c .before .if2 .taken)) ∙ and-zero (holds (s .args .set) 6)) (c .no-rice2 .ensures .0) (c .no-rice2 .ensures .1)
+
+-- src/lib.rt:359:9
 mark-of-requires : tie.Need-mark-of-requires
 mark-of-requires c κs = search needs
 
--- src/lib.rt:326:9
+-- src/lib.rt:360:9
 common-zero-requires : tie.Need-common-zero-requires
 common-zero-requires c κs = search needs
 
--- src/lib.rt:328:17
-marks-requires : tie.Need-marks-requires
-marks-requires c κs = search needs
-
--- src/lib.rt:329:9
+-- src/lib.rt:361:9
 runs-of-requires : tie.Need-runs-of-requires
-runs-of-requires c κs = search needs
+runs-of-requires c κs = let s = c .before .before .before .before .before .before .before .before in (s .pre .0 .few, (s .pre .0 .long, s .pre .1))
 
--- src/lib.rt:331:17
+-- src/lib.rt:362:17
 code-lengths-requires : tie.Need-code-lengths-requires
 code-lengths-requires c κs = search needs
 
--- src/lib.rt:332:53
+-- src/lib.rt:363:46
 most-s-requires : tie.Need-most-s-requires
 most-s-requires c κs = search needs
 
--- src/lib.rt:332:9
+-- src/lib.rt:363:9
 least-s-requires : tie.Need-least-s-requires
 least-s-requires c κs = search needs
 
--- src/lib.rt:337:15
+-- src/lib.rt:368:15
 start-bits-requires : tie.Need-start-bits-requires
 start-bits-requires c κs = search needs
 
--- src/lib.rt:337:15
-add-t13 : tie.Need-add-t13
-add-t13 c = search needs
+-- src/lib.rt:368:15
+add-t19 : tie.Need-add-t19
+add-t19 c = search needs
 
--- src/lib.rt:308:1
-returns-2 : tie.Need-returns-2
-returns-2 c = let s = c .before .before .before .before .before .before .before .before .before .before .before .before .before .before .before .before .before .before in let n = length-take-le (s .args .frame .len) (s .args .frame .samples) (omega (arith, s .pre .size, s .pre .few)) in rice-for (s .pre .looked) n (sym (ap₂ _+_ (c .before .before .before .before .before .before .before .before .before .before .before .before .before .before .before .before .before .sized .ensures .0) (c .before .before .before .before .before .before .before .before .before .before .before .before .before .before .before .before .sized2 .ensures .0)) ∙ c .before .before .before .before .before .before .before .before .before .before .before .before .before .before .before .if1 .left) (c .before .before .before .before .before .before .before .before .before .before .before .before .before .before .mark-of .ensures .0) (c .before .before .before .before .before .before .before .before .before .before .before .before .before .common-zero .ensures) (c .before .before .before .before .before .before .before .before .before .before .marks .ensures) (c .before .before .before .before .before .before .before .before .runs-of .ensures) (c .before .before .before .before .before .before .code-lengths .ensures) (c .before .before .before .most-s .ensures .0) (c .before .before .before .most-s .ensures .1 .1) (c .before .before .least-s .ensures) (c .before .start-bits .ensures)
+-- src/lib.rt:348:1
+returns-3 : tie.Need-returns-3
+returns-3 c = let s = c .before .before .before .before .before .before .before .before .before .before .before .before .before .before .before .before in rice-for (s .pre .0 .counted) (size s) (offer s (sym (c .before .before .before .before .before .before .before .before .before .before .before .before .before .before .holds .ensures) ∙ not-false _ (c .before .before .before .before .before .before .before .before .before .before .before .before .before .if1 .left)) (sym (zeros-are (s .pre .0 .counted) (size s) 6 (rice-applies _ _) (c .before .before .before .before .before .before .before .before .before .before .before .before .two-zeros .ensures)) ∙ not-false _ (c .before .before .before .before .before .before .before .before .before .before .before .if2 .left))) (c .before .before .before .before .before .before .before .before .before .before .mark-of .ensures .0) (c .before .before .before .before .before .before .before .before .before .common-zero .ensures) (c .before .before .before .before .before .before .before .runs-of .ensures) (c .before .before .before .before .before .before .code-lengths .ensures) (c .before .before .before .most-s .ensures .0) (c .before .before .before .most-s .ensures .1 .1) (c .before .before .least-s .ensures) (c .before .start-bits .ensures)
 
 pub rice-of-spec : {M : Type 1} → statement M
 rice-of-spec =
     tie.close
     (tie.spec
-    sized-requires
-    sized-requires-2
-    add-if1
+    holds-requires
+    no-rice-requires
     returns
+    two-zeros-requires
+    no-rice-requires-2
+    returns-2
     mark-of-requires
     common-zero-requires
-    marks-requires
     runs-of-requires
     code-lengths-requires
     most-s-requires
     least-s-requires
     start-bits-requires
-    add-t13
-    returns-2)
+    add-t19
+    returns-3)

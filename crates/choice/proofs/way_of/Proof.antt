@@ -1,82 +1,75 @@
 use borrow.Author.Needs.{needs}
-use lib.Seq.{length-take-le}
-use Rattle.rules.proofs.Octets.{below-all, below-take}
-use Rattle.choice.proofs.Methods.{listed-small}
+use mathlib.Core.Path.{sym}
 use native.Mathlib.Omega.{arith}
-use Rattle.choice.proofs.Methods.{fewest, way-absent, way-binary, way-often, way-runs, way-listed}
+use Rattle.rules.proofs.Octets.{below-all}
+use Rattle.choice.proofs.Methods.{fewest, way-absent, way-binary, way-often, way-runs, way-listed, listed-small}
 use Rattle.choice.proofs.way_of.Statement.{statement}
 use Rattle.choice.proofs.way_of.Tie as tie
 use Rattle.choice.proofs.way_of.Reads as reads
 use Rattle.choice.proofs.way_of.Lts as lts
 use Rattle.choice.proofs.narrow.Reads as narrow-reads
 use Rattle.measure.proofs.least_s.Reads as least-s-reads
-use Rattle.measure.proofs.runs_of.Reads as runs-of-reads
 use Rattle.measure.proofs.width_of.Reads as width-of-reads
 
--- src/lib.rt:30:9
+-- src/lib.rt:60:9
 returns : tie.Need-returns
-returns c = way-absent (c .before .pre .ones) (c .if1 .taken)
+returns c = record { way = λ flags e f. way-absent (f .ones) (c .if1 .taken) }
 
--- src/lib.rt:32:9
-runs-of-requires : tie.Need-runs-of-requires
-runs-of-requires c κs = search needs
-
--- src/lib.rt:35:9
+-- src/lib.rt:63:9
 least-s-requires : tie.Need-least-s-requires
 least-s-requires c κs = search needs
 
--- src/lib.rt:39:19
-add-t13 : tie.Need-add-t13
-add-t13 c = search needs
+-- src/lib.rt:67:19
+add-t11 : tie.Need-add-t11
+add-t11 c = search needs
 
--- src/lib.rt:37:9
+-- src/lib.rt:65:9
 returns-2 : tie.Need-returns-2
-returns-2 c = let s = c .before .before .before .before .before .before .before .before in let f = fewest (c .before .before .before .before .before .before .runs-of .ensures .says) (c .before .before .least-s .ensures) in let n = length-take-le (s .args .d) (s .args .flags .now) (omega (arith, s .pre .size, s .pre .most)) in way-binary (s .pre .ones) (c .before .before .before .before .before .before .before .if1 .left) f n (s .pre .most) (c .if2 .taken)
+returns-2 c = record { way = λ flags e f. way-binary (f .ones) (c .before .before .before .before .if1 .left) (fewest (sym e) (c .before .before .least-s .ensures)) (f .size) (f .most) (c .if2 .taken) }
 
--- src/lib.rt:43:17
+-- src/lib.rt:71:17
 narrow-requires : tie.Need-narrow-requires
 narrow-requires c κs = search needs
 
--- src/lib.rt:44:15
+-- src/lib.rt:72:15
 add-listed : tie.Need-add-listed
 add-listed c = search needs
 
--- src/lib.rt:47:9
+-- src/lib.rt:75:9
 returns-3 : tie.Need-returns-3
-returns-3 c = let s = c .before .before .before .before .before .before .before .before .before .before .before in let f = fewest (c .before .before .before .before .before .before .before .before .before .runs-of .ensures .says) (c .before .before .before .before .before .least-s .ensures) in let n = length-take-le (s .args .d) (s .args .flags .now) (omega (arith, s .pre .size, s .pre .most)) in way-often (s .pre .ones) (c .before .before .before .before .before .before .before .before .before .before .if1 .left) f n (s .pre .most) (c .before .before .before .if2 .left) (c .before .before .narrow .ensures) (c .if3 .taken)
+returns-3 c = record { way = λ flags e f. way-often (f .ones) (c .before .before .before .before .before .before .before .if1 .left) (fewest (sym e) (c .before .before .before .before .before .least-s .ensures)) (f .size) (f .most) (c .before .before .before .if2 .left) (c .before .before .narrow .ensures) (c .if3 .taken) }
 
--- src/lib.rt:49:26
+-- src/lib.rt:77:26
 width-of-requires : tie.Need-width-of-requires
 width-of-requires c κs = search needs
 
--- src/lib.rt:49:18
+-- src/lib.rt:77:18
 mul-listed : tie.Need-mul-listed
-mul-listed c = omega (arith, listed-small {n = c .before .before .before .before .before .before .before .before .before .before .before .before .args .count} (c .before .if3 .left) (c .width-of .ensures .1 .0))
+mul-listed c = omega (arith, listed-small {n = c .before .before .before .before .before .before .before .before .before .args .count} (c .before .if3 .left) (c .width-of .ensures .1 .0))
 
--- src/lib.rt:49:18
+-- src/lib.rt:77:18
 add-listed-2 : tie.Need-add-listed-2
-add-listed-2 c = omega (arith, listed-small {n = c .before .before .before .before .before .before .before .before .before .before .before .before .args .count} (c .before .if3 .left) (c .width-of .ensures .1 .0))
+add-listed-2 c = omega (arith, listed-small {n = c .before .before .before .before .before .before .before .before .before .args .count} (c .before .if3 .left) (c .width-of .ensures .1 .0))
 
--- src/lib.rt:51:9
+-- src/lib.rt:79:9
 returns-4 : tie.Need-returns-4
-returns-4 c = let s = c .before .before .before .before .before .before .before .before .before .before .before .before .before .before in let f = fewest (c .before .before .before .before .before .before .before .before .before .before .before .before .runs-of .ensures .says) (c .before .before .before .before .before .before .before .before .least-s .ensures) in let n = length-take-le (s .args .d) (s .args .flags .now) (omega (arith, s .pre .size, s .pre .most)) in way-runs (s .pre .ones) (c .before .before .before .before .before .before .before .before .before .before .before .before .before .if1 .left) f n (s .pre .most) (c .before .before .before .before .before .before .if2 .left) (c .before .before .before .before .before .narrow .ensures) (c .before .before .before .if3 .left) (c .before .before .width-of .ensures .0) (c .if4 .taken)
+returns-4 c = record { way = λ flags e f. way-runs (f .ones) (c .before .before .before .before .before .before .before .before .before .before .if1 .left) (fewest (sym e) (c .before .before .before .before .before .before .before .before .least-s .ensures)) (f .size) (f .most) (c .before .before .before .before .before .before .if2 .left) (c .before .before .before .before .before .narrow .ensures) (c .before .before .before .if3 .left) (c .before .before .width-of .ensures .0) (c .if4 .taken) }
 
--- src/lib.rt:55:15
-add-t16 : tie.Need-add-t16
-add-t16 c = search needs
+-- src/lib.rt:83:15
+add-t14 : tie.Need-add-t14
+add-t14 c = search needs
 
--- src/lib.rt:25:1
+-- src/lib.rt:55:1
 returns-5 : tie.Need-returns-5
-returns-5 c = let s = c .before .before .before .before .before .before .before .before .before .before .before .before .before .before in let f = fewest (c .before .before .before .before .before .before .before .before .before .before .before .before .runs-of .ensures .says) (c .before .before .before .before .before .before .before .before .least-s .ensures) in let n = length-take-le (s .args .d) (s .args .flags .now) (omega (arith, s .pre .size, s .pre .most)) in way-listed (s .pre .ones) (c .before .before .before .before .before .before .before .before .before .before .before .before .before .if1 .left) f n (s .pre .most) (below-take (s .args .d) (below-all (s .args .flags .now) (s .pre .bits))) (c .before .before .before .before .before .before .if2 .left) _ (c .before .before .before .if3 .left) (c .before .before .width-of .ensures .0) (c .if4 .left)
+returns-5 c = record { way = λ flags e f. way-listed (f .ones) (c .before .before .before .before .before .before .before .before .before .before .if1 .left) (fewest (sym e) (c .before .before .before .before .before .before .before .before .least-s .ensures)) (f .size) (f .most) (below-all flags (f .bits)) (c .before .before .before .before .before .before .if2 .left) _ (c .before .before .before .if3 .left) (c .before .before .width-of .ensures .0) (c .if4 .left) }
 
 pub way-of-spec : {M : Type 1} → statement M
 way-of-spec =
     tie.close
     (tie.spec
     returns
-    runs-of-requires
     least-s-requires
-    add-t13
+    add-t11
     returns-2
     narrow-requires
     add-listed
@@ -85,5 +78,5 @@ way-of-spec =
     mul-listed
     add-listed-2
     returns-4
-    add-t16
+    add-t14
     returns-5)

@@ -1,73 +1,80 @@
 use borrow.Author.Needs.{needs}
-use mathlib.Core.Path.{sym}
-use lib.Seq.{length-take-le, getD-take}
-use Rattle.choice.specs.Offers.{cellsOf}
-use Rattle.choice.proofs.Turns.{ways-start, ways-done}
 use Prim.Native.Nat.{_-_}
+use mathlib.Core.Path.{_≡_, sym}
 use native.Mathlib.Omega.{arith}
-use lib.ListN.{take}
-use Rattle.choice.proofs.Turns.{counted, WaysTurn, ways-turn}
+use lib.ListN.{length, take}
+use lib.Seq.{length-take-le, getD-take}
+use Rattle.choice.proofs.Turns.{WaysTurn, ways-start, ways-turn, ways-done, way-is}
 use Rattle.choice.proofs.ways_of.Statement.{statement}
 use Rattle.choice.proofs.ways_of.Tie as tie
 use Rattle.choice.proofs.ways_of.Reads as reads
 use Rattle.choice.proofs.ways_of.Lts as lts
 use Rattle.choice.proofs.way_of.Reads as way-of-reads
-use Rattle.measure.proofs.marks.Reads as marks-reads
+use Rattle.measure.proofs.copy_of.Reads as copy-of-reads
+use Rattle.measure.proofs.runs_of.Reads as runs-of-reads
 use Rattle.measure.proofs.without_value.Reads as without-value-reads
 
 abbrev Inv-loop : tie.InvT-loop
-Inv-loop values count left₀ methods₀ bits₀ j₀ left methods bits j = WaysTurn (take count values) (cellsOf left₀) left methods bits j
+Inv-loop samples n runs₀ values most cells₀ d₀ methods₀ bits₀ j₀ runs cells d methods bits j = (length runs ≡ 321) × WaysTurn (take most values) (take n samples) cells d methods bits j
 
 abbrev μ-loop : tie.MeasureT-loop
-μ-loop values count left₀ methods₀ bits₀ j₀ left methods bits j = count - j
+μ-loop samples n runs₀ values most cells₀ d₀ methods₀ bits₀ j₀ runs cells d methods bits j = most - j
 
--- src/lib.rt:83:5
+-- src/lib.rt:95:21
+copy-of-requires : tie.Need-copy-of-requires Inv-loop μ-loop
+copy-of-requires c κs = search needs
+
+-- src/lib.rt:100:5
 loop-holds : tie.Need-loop-holds Inv-loop μ-loop
-loop-holds c = let p = c .before .pre in ways-start _ _ _ (p .0 .0) (p .0 .1) (p .1 .0) (p .1 .1)
+loop-holds c = let p = c .before .before .before .pre in (p .0 .1 .1, ways-start _ _ _ _ _ (c .copy-of .ensures) (p .0 .0) (p .1 .0) (p .1 .1))
 
--- src/lib.rt:84:17
+-- src/lib.rt:101:17
 array-read-x : tie.Need-array-read-x Inv-loop μ-loop
 array-read-x c = search needs
 
--- src/lib.rt:87:21
-marks-requires : tie.Need-marks-requires Inv-loop μ-loop
-marks-requires c κs = let i = c .before .before .before .loop .inv in ((i .few, omega (arith, i .cells, i .few)), omega arith)
+-- src/lib.rt:102:29
+slice-aggregate-runs-of : tie.Need-slice-aggregate-runs-of Inv-loop μ-loop
+slice-aggregate-runs-of c = search needs
 
--- src/lib.rt:88:9
+-- src/lib.rt:102:13
+runs-of-requires : tie.Need-runs-of-requires Inv-loop μ-loop
+runs-of-requires c κs = let i = c .before .before .before .loop .inv in (i .1 .few, (omega (arith, i .1 .left, i .1 .few), i .0))
+
+-- src/lib.rt:103:13
 without-value-requires : tie.Need-without-value-requires Inv-loop μ-loop
-without-value-requires c κs = let i = c .before .before .before .before .before .loop .inv in (i .few, omega (arith, i .cells, i .few))
+without-value-requires c κs = let i = c .before .before .before .before .before .loop .inv in (i .1 .few, i .1 .left)
 
--- src/lib.rt:89:37
+-- src/lib.rt:104:42
 sub-way-of : tie.Need-sub-way-of Inv-loop μ-loop
 sub-way-of c = search needs
 
--- src/lib.rt:89:13
+-- src/lib.rt:104:13
 way-of-requires : tie.Need-way-of-requires Inv-loop μ-loop
-way-of-requires c κs = let l = c .before .before .before .before .before .before .before .before .loop in counted _ (cellsOf (l .left)) (length-take-le (l .left .len) (l .left .samples) (omega (arith, l .inv .cells, l .inv .few))) (l .inv .few) (c .before .before .before .before .marks .ensures) (c .before .before .without-value .ensures)
+way-of-requires c κs = let i = c .before .before .before .before .before .before .before .loop .inv in let r = c .before .before .before .runs-of .ensures in (r .few, (omega (arith, r .few, r .size), i .1 .few))
 
--- src/lib.rt:90:9
+-- src/lib.rt:105:9
 array-write-methods : tie.Need-array-write-methods Inv-loop μ-loop
 array-write-methods c = search needs
 
--- src/lib.rt:91:9
+-- src/lib.rt:106:9
 add-bits : tie.Need-add-bits Inv-loop μ-loop
-add-bits c = let k = length-take-le (c .before .before .before .before .before .before .before .before .before .before .before .before .args .v .count) (c .before .before .before .before .before .before .before .before .before .before .before .before .args .v .values) (omega (arith, c .before .before .before .before .before .before .before .before .before .before .before .before .pre .1 .0, c .before .before .before .before .before .before .before .before .before .before .before .before .pre .1 .1)) in let i = c .before .before .before .before .before .before .before .before .before .before .loop .inv in omega (arith, i .small, i .within, i .most, c .before .way-of .ensures .small)
+add-bits c = let i = c .before .before .before .before .before .before .before .before .before .loop .inv in let w = way-is _ (i .1) (c .before .before .before .before .before .runs-of .ensures) (c .before .before .before .without-value .ensures) (c .before .way-of .ensures) in omega (arith, i .1 .small, i .1 .within, i .1 .most, w .small)
 
--- src/lib.rt:92:9
+-- src/lib.rt:108:9
 add-j : tie.Need-add-j Inv-loop μ-loop
 add-j c = search needs
 
--- src/lib.rt:83:5
+-- src/lib.rt:100:5
 loop-less : tie.Need-loop-less Inv-loop μ-loop
-loop-less c = omega (arith, c .before .before .before .before .before .before .before .before .before .loop-test .taken)
+loop-less c = omega (arith, c .before .before .before .before .before .before .before .before .loop-test .taken)
 
--- src/lib.rt:83:5
+-- src/lib.rt:100:5
 loop-again : tie.Need-loop-again Inv-loop μ-loop
-loop-again c = let k = length-take-le (c .before .before .before .before .before .before .before .before .before .before .before .before .args .v .count) (c .before .before .before .before .before .before .before .before .before .before .before .before .args .v .values) (omega (arith, c .before .before .before .before .before .before .before .before .before .before .before .before .pre .1 .0, c .before .before .before .before .before .before .before .before .before .before .before .before .pre .1 .1)) in let a = c .before .before .before .before .before .before .before .before .before .before .before .before .args in let l = c .before .before .before .before .before .before .before .before .before .before .loop in ways-turn (l .inv) (omega (arith, c .before .before .before .before .before .before .before .before .before .loop-test .taken)) (sym (getD-take (a .v .count) (a .v .values) (l .j) 0 (c .before .before .before .before .before .before .before .before .before .loop-test .taken))) (c .before .before .before .before .before .before .marks .ensures) (c .before .before .before .before .without-value .ensures) (c .before .way-of .ensures)
+loop-again c = let s = c .before .before .before .before .before .before .before .before .before .before .before .before .before in let i = c .before .before .before .before .before .before .before .before .before .loop .inv in let k = length-take-le (s .args .v .count) (s .args .v .values) (omega (arith, s .pre .1 .0, s .pre .1 .1)) in (c .before .before .before .before .before .runs-of .ensures .size, ways-turn (i .1) (omega (arith, c .before .before .before .before .before .before .before .before .loop-test .taken)) (sym (getD-take (s .args .v .count) (s .args .v .values) (c .before .before .before .before .before .before .before .before .before .loop .j) 0 (c .before .before .before .before .before .before .before .before .loop-test .taken))) (c .before .before .before .before .before .runs-of .ensures) (c .before .before .before .without-value .ensures) (c .before .way-of .ensures))
 
--- src/lib.rt:72:1
+-- src/lib.rt:88:1
 returns : tie.Need-returns Inv-loop μ-loop
-returns c = let k = length-take-le (c .before .before .before .args .v .count) (c .before .before .before .args .v .values) (omega (arith, c .before .before .before .pre .1 .0, c .before .before .before .pre .1 .1)) in ways-done (c .before .loop .inv) (omega (arith, c .loop-test .left))
+returns c = let s = c .before .before .before .before .before in let k = length-take-le (s .args .v .count) (s .args .v .values) (omega (arith, s .pre .1 .0, s .pre .1 .1)) in (ways-done (c .before .loop .inv .1) (omega (arith, c .loop-test .left)), c .before .loop .inv .0)
 
 pub ways-of-spec : {M : Type 1} → statement M
 ways-of-spec =
@@ -75,9 +82,11 @@ ways-of-spec =
     (tie.spec
     Inv-loop
     μ-loop
+    copy-of-requires
     loop-holds
     array-read-x
-    marks-requires
+    slice-aggregate-runs-of
+    runs-of-requires
     without-value-requires
     sub-way-of
     way-of-requires

@@ -28,13 +28,13 @@ sub-result c = rw (turned (bitXor (c .before .args .sample) (c .before .args .ma
 returns : tie.Need-returns
 unfolding signed
 returns c =
-    rw (le-leb _ _ (c .if1 .taken)) (same (bitXor (c .before .args .sample) (c .before .args .mask) % 128) (omega arith))
+    rw (le-leb 128 (c .before .args .sample) (omega (arith, c .if1 .taken))) (same (bitXor (c .before .args .sample) (c .before .args .mask) % 128) (omega arith))
 
 returns-2 : tie.Need-returns-2
 unfolding signed
 returns-2 c =
     let e = turned (bitXor (c .before .args .sample) (c .before .args .mask) % 128) (omega arith) in
-    rw (lt-leb _ _ (c .if1 .left), e) (toZ-ofZ {w = w8} (record { sfits = omega arith }))
+    rw (lt-leb 128 (c .before .args .sample) (omega (arith, c .if1 .left)), e) (toZ-ofZ {w = w8} (record { sfits = omega arith }))
 
 pub signed-of-spec : {M : Type 1} → statement M
 signed-of-spec = tie.close (tie.spec cast-y sub-result returns returns-2)

@@ -23,8 +23,8 @@ loop-holds : tie.Need-loop-holds Inv-loop μ-loop
 loop-holds c = (omega arith, marks-none refl (zeros-small 320))
 
 -- src/lib.rt:39:25
-element-copy-out-pick : tie.Need-element-copy-out-pick Inv-loop μ-loop
-element-copy-out-pick c = search needs
+shared-slice-read-pick : tie.Need-shared-slice-read-pick Inv-loop μ-loop
+shared-slice-read-pick c = search needs
 
 -- src/lib.rt:39:20
 pick-requires : tie.Need-pick-requires Inv-loop μ-loop
@@ -44,11 +44,11 @@ loop-less c = search needs
 
 -- src/lib.rt:38:5
 loop-again : tie.Need-loop-again Inv-loop μ-loop
-loop-again c = let s = c .before .before .before .before in let l = c .before .before .before .loop in (omega arith, marks-again (s .args .x) (s .args .hit) (s .args .miss) (s .args .samples .now) (l .flags) (s .args .n) (l .i) _ (s .pre .1 .0) (s .pre .1 .1) (s .pre .0 .0) (s .pre .0 .1) (l .inv .1) (c .before .before .loop-test .taken) (c .pick .ensures))
+loop-again c = let s = c .before .before .before .before .before in let l = c .before .before .before .loop in (omega arith, marks-again (s .args .x) (s .args .hit) (s .args .miss) (s .args .samples .now) (l .flags) (s .args .n) (l .i) _ (s .pre .1 .0) (s .pre .1 .1) (s .pre .0 .0) (s .pre .0 .1) (l .inv .1) (c .before .before .loop-test .taken) (c .pick .ensures))
 
 -- src/lib.rt:31:1
 returns : tie.Need-returns Inv-loop μ-loop
-returns c = let e : c .before .loop .i ≡ c .before .before .args .n = omega arith in rw e at (c .before .loop .inv .1)
+returns c = let e : c .before .loop .i ≡ c .before .before .before .args .n = omega arith in rw e at (c .before .loop .inv .1)
 
 pub marks-spec : {M : Type 1} → statement M
 marks-spec =
@@ -57,7 +57,7 @@ marks-spec =
     Inv-loop
     μ-loop
     loop-holds
-    element-copy-out-pick
+    shared-slice-read-pick
     pick-requires
     array-write-flags
     add-i

@@ -1,58 +1,74 @@
 use borrow.Author.Needs.{needs}
-use Rattle.measure.proofs.Weighing.{bits-none}
-use Prim.Native.Nat.{_≤_, _*_, _-_}
-use mathlib.Core.Path.{_≡_}
+use Prim.Native.Nat.{_+_, _*_, _-_, _≤_}
+use mathlib.Core.Path.{_≡_, _∙_}
 use native.Mathlib.Omega.{arith}
+use native.Mathlib.Nat.{mul-le-mul}
 use lib.ListN.{length, take}
 use Rattle.rules.specs.Runs.{riceForms}
-use Rattle.measure.proofs.Weighing.{bits-turn}
+use Rattle.measure.proofs.Weighing.{bits-none, bits-turn}
 use Rattle.measure.proofs.run_bits.Statement.{statement}
 use Rattle.measure.proofs.run_bits.Tie as tie
 use Rattle.measure.proofs.run_bits.Reads as reads
 use Rattle.measure.proofs.run_bits.Lts as lts
-use Rattle.measure.proofs.code_bits.Reads as code-bits-reads
+use Rattle.measure.proofs.zeros_of.Reads as zeros-of-reads
 
 abbrev Inv-loop : tie.InvT-loop
-Inv-loop runs count s bits₀ j₀ bits j = (j ≤ count) × ((bits ≡ length (riceForms s (take j runs))) × (bits ≤ 65552 * j))
+Inv-loop runs count s zeros₀ j₀ zeros j = (j ≤ count) × ((zeros + j * (1 + s) ≡ length (riceForms s (take j runs))) × (zeros ≤ 65536 * j))
 
 abbrev μ-loop : tie.MeasureT-loop
-μ-loop runs count s bits₀ j₀ bits j = count - j
+μ-loop runs count s zeros₀ j₀ zeros j = count - j
 
--- src/lib.rt:106:5
+-- src/lib.rt:119:5
 loop-holds : tie.Need-loop-holds Inv-loop μ-loop
 loop-holds c = (omega arith, (bits-none (c .args .s) (c .args .runs .now), omega arith))
 
--- src/lib.rt:107:27
-mul-code-bits : tie.Need-mul-code-bits Inv-loop μ-loop
-mul-code-bits c = search needs
+-- src/lib.rt:120:27
+mul-zeros-of : tie.Need-mul-zeros-of Inv-loop μ-loop
+mul-zeros-of c = search needs
 
--- src/lib.rt:107:27
-element-copy-out-code-bits : tie.Need-element-copy-out-code-bits Inv-loop μ-loop
-element-copy-out-code-bits c = search needs
+-- src/lib.rt:120:27
+element-copy-out-zeros-of : tie.Need-element-copy-out-zeros-of Inv-loop μ-loop
+element-copy-out-zeros-of c = search needs
 
--- src/lib.rt:107:17
-code-bits-requires : tie.Need-code-bits-requires Inv-loop μ-loop
-code-bits-requires c κs = search needs
+-- src/lib.rt:120:18
+zeros-of-requires : tie.Need-zeros-of-requires Inv-loop μ-loop
+zeros-of-requires c κs = search needs
 
--- src/lib.rt:107:9
-add-bits : tie.Need-add-bits Inv-loop μ-loop
-add-bits c = search needs
+-- src/lib.rt:120:9
+add-zeros : tie.Need-add-zeros Inv-loop μ-loop
+add-zeros c = search needs
 
--- src/lib.rt:108:9
+-- src/lib.rt:121:9
 add-j : tie.Need-add-j Inv-loop μ-loop
 add-j c = search needs
 
--- src/lib.rt:106:5
+-- src/lib.rt:119:5
 loop-less : tie.Need-loop-less Inv-loop μ-loop
 loop-less c = search needs
 
--- src/lib.rt:106:5
+-- src/lib.rt:119:5
 loop-again : tie.Need-loop-again Inv-loop μ-loop
-loop-again c = let s = c .before .before .before .before in let l = c .before .before .before .loop in (omega arith, (bits-turn (s .args .s) (s .args .runs .now) (l .j) (l .bits) _ (omega arith) (l .inv .1 .0) (c .code-bits .ensures), omega (arith, c .code-bits .ensures .small)))
+loop-again c = let s = c .before .before .before .before in let l = c .before .before .before .loop in (omega arith, (bits-turn (s .args .s) (s .args .runs .now) (l .j) (l .zeros) _ (omega arith) (l .inv .1 .0) (c .zeros-of .ensures .0), omega (arith, c .zeros-of .ensures .1)))
 
--- src/lib.rt:100:1
+-- src/lib.rt:123:5
+cast-result : tie.Need-cast-result Inv-loop μ-loop
+cast-result c = search needs
+
+-- src/lib.rt:123:31
+add-result : tie.Need-add-result Inv-loop μ-loop
+add-result c = search needs
+
+-- src/lib.rt:123:22
+mul-result : tie.Need-mul-result Inv-loop μ-loop
+mul-result c = let few = mul-le-mul {m₁ = 1 + c .before .before .args .s} {n₂ = 321} {m₂ = 16} (c .before .before .pre .1 .0) (omega (arith, c .before .before .pre .0)) in omega arith
+
+-- src/lib.rt:123:5
+add-result-2 : tie.Need-add-result-2 Inv-loop μ-loop
+add-result-2 c = let few = mul-le-mul {m₁ = 1 + c .before .before .args .s} {n₂ = 321} {m₂ = 16} (c .before .before .pre .1 .0) (omega (arith, c .before .before .pre .0)) in omega arith
+
+-- src/lib.rt:113:1
 returns : tie.Need-returns Inv-loop μ-loop
-returns c = let e : c .before .loop .j ≡ c .before .before .args .count = omega arith in (rw e at (c .before .loop .inv .1 .0), omega arith)
+returns c = let few = mul-le-mul {m₁ = 1 + c .before .before .args .s} {n₂ = 321} {m₂ = 16} (c .before .before .pre .1 .0) (omega (arith, c .before .before .pre .0)) in let e : c .before .loop .j ≡ c .before .before .args .count = omega arith in (rw e at (c .before .loop .inv .1 .0), omega arith)
 
 pub run-bits-spec : {M : Type 1} → statement M
 run-bits-spec =
@@ -61,11 +77,15 @@ run-bits-spec =
     Inv-loop
     μ-loop
     loop-holds
-    mul-code-bits
-    element-copy-out-code-bits
-    code-bits-requires
-    add-bits
+    mul-zeros-of
+    element-copy-out-zeros-of
+    zeros-of-requires
+    add-zeros
     add-j
     loop-less
     loop-again
+    cast-result
+    add-result
+    mul-result
+    add-result-2
     returns)

@@ -1,56 +1,56 @@
 use borrow.Author.Needs.{needs}
-use Prim.Native.Nat.{_-_}
+use Prim.Native.Nat.{_+_, _-_, _≤_}
 use mathlib.Core.Path.{_≡_}
 use native.Mathlib.Omega.{arith}
-use Rattle.writer.proofs.Pieces.{SamplesTurn, samples-none, samples-able, samples-then}
+use lib.ListN.{take}
+use Rattle.writer.specs.Forms.{Copied}
+use Rattle.writer.proofs.Whole.{copy-none, copy-turn}
 use Rattle.writer.proofs.put_samples.Statement.{statement}
 use Rattle.writer.proofs.put_samples.Tie as tie
 use Rattle.writer.proofs.put_samples.Reads as reads
 use Rattle.writer.proofs.put_samples.Lts as lts
-use Rattle.pen.proofs.put.Reads as put-reads
-use Rattle.writer.proofs.wide.Reads as wide-reads
 
 abbrev Inv-loop : tie.InvT-loop
-Inv-loop out₀ samples n q₀ i₀ out q i = SamplesTurn out₀ q₀ samples out q n i
+Inv-loop out₀ samples n i₀ out i = (i ≤ n) × Copied (take i samples) i out₀ out
 
 abbrev μ-loop : tie.MeasureT-loop
-μ-loop out₀ samples n q₀ i₀ out q i = n - i
+μ-loop out₀ samples n i₀ out i = n - i
 
--- src/lib.rt:47:5
+-- src/lib.rt:76:5
 loop-holds : tie.Need-loop-holds Inv-loop μ-loop
-loop-holds c = samples-none (c .before .args .samples .now) (c .before .pre .1)
+loop-holds c = (omega arith, copy-none (c .args .samples .now) (c .args .out .now))
 
--- src/lib.rt:48:33
-element-copy-out-wide : tie.Need-element-copy-out-wide Inv-loop μ-loop
-element-copy-out-wide c = search needs
+-- src/lib.rt:77:22
+shared-slice-read-out : tie.Need-shared-slice-read-out Inv-loop μ-loop
+shared-slice-read-out c = search needs
 
--- src/lib.rt:48:28
-wide-requires : tie.Need-wide-requires Inv-loop μ-loop
-wide-requires c κs = search needs
+-- src/lib.rt:77:13
+add-out : tie.Need-add-out Inv-loop μ-loop
+add-out c = search needs
 
--- src/lib.rt:48:9
-put-requires : tie.Need-put-requires Inv-loop μ-loop
-put-requires c κs = (samples-able (c .before .before .before .before .loop .inv) (c .before .before .before .loop-test .taken) (c .before .before .before .before .before .before .pre .0 .1) (c .before .before .before .before .before .before .pre .1), (omega arith, c .wide .ensures .1))
+-- src/lib.rt:77:9
+slice-write-out : tie.Need-slice-write-out Inv-loop μ-loop
+slice-write-out c = omega (arith, c .before .before .loop .inv .1 .size, c .before .loop-test .taken, c .before .before .before .pre .1)
 
--- src/lib.rt:49:9
+-- src/lib.rt:78:9
 add-i : tie.Need-add-i Inv-loop μ-loop
 add-i c = search needs
 
--- src/lib.rt:47:5
+-- src/lib.rt:76:5
 loop-less : tie.Need-loop-less Inv-loop μ-loop
-loop-less c = search needs
+loop-less c = omega (arith, c .before .loop-test .taken)
 
--- src/lib.rt:47:5
+-- src/lib.rt:76:5
 loop-again : tie.Need-loop-again Inv-loop μ-loop
-loop-again c = samples-then (c .before .before .before .before .before .before .before .loop .inv) (c .before .before .before .before .before .before .loop-test .taken) (c .before .before .before .before .before .before .before .before .before .pre .0 .1) (c .before .before .before .wide .ensures .0) (c .before .before .put .ensures) (c .before .before .put .kept .0)
+loop-again c = let s = c .before .before .before in let l = c .before .before .loop in (omega (arith, c .before .loop-test .taken), copy-turn (s .args .samples .now) (s .args .out .now) (l .out) (l .i) (l .inv .1) (omega (arith, c .before .loop-test .taken, s .pre .0)) (omega (arith, c .before .loop-test .taken, s .pre .1)))
 
--- src/lib.rt:40:1
+-- src/lib.rt:71:1
 same-length : tie.Need-same-length Inv-loop μ-loop
-same-length c = c .before .loop .inv .size
+same-length c = c .before .loop .inv .1 .size
 
--- src/lib.rt:40:1
+-- src/lib.rt:71:1
 returns : tie.Need-returns Inv-loop μ-loop
-returns c = let e : c .before .loop .i ≡ c .before .before .before .args .n = omega arith in rw e at (c .before .loop .inv .puts)
+returns c = let e : c .before .loop .i ≡ c .before .before .args .n = omega arith in rw e at (c .before .loop .inv .1)
 
 pub put-samples-spec : {M : Type 1} → statement M
 put-samples-spec =
@@ -59,9 +59,9 @@ put-samples-spec =
     Inv-loop
     μ-loop
     loop-holds
-    element-copy-out-wide
-    wide-requires
-    put-requires
+    shared-slice-read-out
+    add-out
+    slice-write-out
     add-i
     loop-less
     loop-again

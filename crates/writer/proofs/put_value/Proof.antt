@@ -1,4 +1,8 @@
 use borrow.Author.Needs.{needs}
+use mathlib.Core.Path.{ap}
+use Rattle.rules.specs.Runs.{runsOf}
+use Rattle.rules.proofs.Octets.{below-all, below-take}
+use Rattle.writer.proofs.Values.{marks-same}
 use Prim.Native.Nat.{_+_, _-_}
 use mathlib.Core.Path.{refl, sym, ap, _∙_}
 use native.Mathlib.Omega.{arith}
@@ -68,7 +72,7 @@ sized-requires c κs = search needs
 
 -- src/lib.rt:205:9
 put-runs-requires : tie.Need-put-runs-requires
-put-runs-requires c κs = let s = c .before .before .before .before .before .before .before .before .before .before .before .before .before .before in let r = c .before .before .before .before .runs-of .ensures in ((omega (arith, c .before .sized .ensures, c .before .before .before .before .before .before .before .before .before .before .if3 .taken), (r .few, omega (arith, r .few, r .size))), able-then _ (s .pre .1 .1) (c .before .before .before .before .before .before .before .put3 .ensures) (c .before .before .before .before .before .before .before .put3 .kept .0) (omega (arith, length-lowBits 3 (c .before .before .before .before .before .before .before .before .wide .result), number-then 3 _ _ (value-runs (take (s .args .d) (s .args .flags .now)) (s .pre .0) (c .before .before .before .before .before .before .before .before .before .before .before .if2 .left) (c .before .before .before .before .before .before .before .before .before .before .if3 .taken) (c .before .before .before .before .before .before .before .before .wide .ensures .0) (c .before .sized .ensures) (r .says)))))
+put-runs-requires c κs = let s = c .before .before .before .before .before .before .before .before .before .before .before .before .before .before .before in let r = c .before .before .before .runs-of .ensures in ((omega (arith, c .before .sized .ensures, c .before .before .before .before .before .before .before .before .before .before .before .if3 .taken), (r .few, omega (arith, r .few, r .size))), able-then _ (s .pre .1 .1) (c .before .before .before .before .before .before .before .before .put3 .ensures) (c .before .before .before .before .before .before .before .before .put3 .kept .0) (omega (arith, length-lowBits 3 (c .before .before .before .before .before .before .before .before .before .wide .result), number-then 3 _ _ (value-runs (take (s .args .d) (s .args .flags .now)) (s .pre .0) (c .before .before .before .before .before .before .before .before .before .before .before .before .if2 .left) (c .before .before .before .before .before .before .before .before .before .before .before .if3 .taken) (c .before .before .before .before .before .before .before .before .before .wide .ensures .0) (c .before .sized .ensures) (c .before .before .before .runs-of .ensures .says ∙ ap (runsOf 0) (marks-same (below-take (s .args .d) (below-all (s .args .flags .now) (s .pre .1 .0 .bits)))))))))
 
 -- src/lib.rt:205:9
 same-length-3 : tie.Need-same-length-3
@@ -76,7 +80,7 @@ same-length-3 c = search needs
 
 -- src/lib.rt:205:9
 returns-3 : tie.Need-returns-3
-returns-3 c = let s = c .before .before .before .before .before .before .before .before .before .before .before .before .before .before .before .before .before in puts-as (puts-then (c .before .before .before .before .before .before .before .before .before .before .put3 .ensures) (c .before .before .put-runs .ensures)) (value-runs (take (s .args .d) (s .args .flags .now)) (s .pre .0) (c .before .before .before .before .before .before .before .before .before .before .before .before .before .before .if2 .left) (c .before .before .before .before .before .before .before .before .before .before .before .before .before .if3 .taken) (c .before .before .before .before .before .before .before .before .before .before .before .wide .ensures .0) (c .before .before .before .before .sized .ensures) (c .before .before .before .before .before .before .before .runs-of .ensures .says))
+returns-3 c = let s = c .before .before .before .before .before .before .before .before .before .before .before .before .before .before .before .before .before .before in puts-as (puts-then (c .before .before .before .before .before .before .before .before .before .before .before .put3 .ensures) (c .before .before .put-runs .ensures)) (value-runs (take (s .args .d) (s .args .flags .now)) (s .pre .0) (c .before .before .before .before .before .before .before .before .before .before .before .before .before .before .before .if2 .left) (c .before .before .before .before .before .before .before .before .before .before .before .before .before .before .if3 .taken) (c .before .before .before .before .before .before .before .before .before .before .before .before .wide .ensures .0) (c .before .before .before .before .sized .ensures) (c .before .before .before .before .before .before .runs-of .ensures .says ∙ ap (runsOf 0) (marks-same (below-take (s .args .d) (below-all (s .args .flags .now) (s .pre .1 .0 .bits))))))
 
 -- src/lib.rt:207:28
 add-put : tie.Need-add-put

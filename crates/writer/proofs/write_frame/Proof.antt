@@ -1,102 +1,29 @@
 use borrow.Author.Needs.{needs}
-use Prim.Native.Nat.{ℕ}
-use mathlib.Core.Path.{_≡_, sym, ap, _∙_}
 use native.Mathlib.Omega.{arith}
-use borrow.Author.Tests.{not-true, not-false}
-use lib.ListN.{length, take}
-use Rattle.writer.specs.Answers.{fitting, full}
-use Rattle.writer.proofs.Writing.{refused-writes, writes-as, write-law, write-large, write-even, write-pad, write-length, write-full, length-in, mask-low}
+use mathlib.Core.Path.{_≡_}
+use lib.ListN.{length}
 use Rattle.writer.proofs.write_frame.Statement.{statement}
 use Rattle.writer.proofs.write_frame.Tie as tie
 use Rattle.writer.proofs.write_frame.Reads as reads
 use Rattle.writer.proofs.write_frame.Lts as lts
-use Rattle.law.proofs.mask_of.Reads as mask-of-reads
-use Rattle.writer.proofs.is_length.Reads as is-length-reads
-use Rattle.writer.proofs.refused.Reads as refused-reads
-use Rattle.writer.proofs.write_chosen.Reads as write-chosen-reads
-use Rattle.writer.proofs.write_pad.Reads as write-pad-reads
+use Rattle.writer.proofs.write_some.Reads as write-some-reads
 
--- src/lib.rt:389:9
-refused-requires : tie.Need-refused-requires
-refused-requires c κs = search needs
+-- src/lib.rt:471:16
+slice-aggregate-write-some : tie.Need-slice-aggregate-write-some
+slice-aggregate-write-some c = search needs
 
--- src/lib.rt:389:9
-returns : tie.Need-returns
-returns c = let s = c .before .before .before in writes-as (refused-writes (c .refused .ensures)) (write-law (s .args .frame .len) (s .args .frame .samples) (s .args .law) (s .args .set) (length (s .args .out .now)) (c .before .if1 .taken))
+-- src/lib.rt:471:5
+write-some-requires : tie.Need-write-some-requires
+write-some-requires c κs = let s = c .before .before .before .before in let k : length (s .args .frame .samples) ≡ 320 = search needs in λ h. omega (arith, h, k)
 
--- src/lib.rt:392:9
-refused-requires-2 : tie.Need-refused-requires-2
-refused-requires-2 c κs = search needs
-
--- src/lib.rt:392:9
-returns-2 : tie.Need-returns-2
-returns-2 c = let s = c .before .before .before .before in writes-as (refused-writes (c .refused2 .ensures)) (write-large (s .args .frame .len) (s .args .frame .samples) (s .args .law) (s .args .set) (length (s .args .out .now)) (c .before .before .if1 .left) (c .before .if2 .taken))
-
--- src/lib.rt:395:9
-refused-requires-3 : tie.Need-refused-requires-3
-refused-requires-3 c κs = search needs
-
--- src/lib.rt:395:9
-returns-3 : tie.Need-returns-3
-returns-3 c = let s = c .before .before .before .before .before in writes-as (refused-writes (c .refused3 .ensures)) (write-even (s .args .frame .len) (s .args .frame .samples) (s .args .law) (s .args .set) (length (s .args .out .now)) (c .before .before .before .if1 .left) (c .before .before .if2 .left) (c .before .if3 .taken))
-
--- src/lib.rt:399:9
-write-pad-requires : tie.Need-write-pad-requires
-write-pad-requires c κs = search needs
-
--- src/lib.rt:399:9
+-- src/lib.rt:467:1
 same-length : tie.Need-same-length
 same-length c = search needs
 
--- src/lib.rt:399:9
-returns-4 : tie.Need-returns-4
-returns-4 c = let s = c .before .before .before .before .before .before .before .before .before in writes-as (c .before .before .write-pad .ensures) (write-pad (s .args .frame .len) (s .args .frame .samples) (s .args .law) (s .args .set) (length (s .args .out .now)) (c .before .before .before .before .before .before .before .if1 .left) (c .before .before .before .before .before .before .if2 .left) (c .before .before .before .before .before .if3 .left) (c .before .before .before .before .if4 .taken))
-
--- src/lib.rt:401:9
-is-length-requires : tie.Need-is-length-requires
-is-length-requires c κs = search needs
-
--- src/lib.rt:402:9
-refused-requires-4 : tie.Need-refused-requires-4
-refused-requires-4 c κs = search needs
-
--- src/lib.rt:402:9
-returns-5 : tie.Need-returns-5
-returns-5 c = let s = c .before .before .before .before .before .before .before .before in writes-as (refused-writes (c .refused4 .ensures)) (write-length (s .args .frame .len) (s .args .frame .samples) (s .args .law) (s .args .set) (length (s .args .out .now)) (c .before .before .before .before .before .before .if1 .left) (c .before .before .before .before .before .if2 .left) (c .before .before .before .before .if3 .left) (c .before .before .before .if4 .left) (sym (c .before .before .is-length .ensures) ∙ not-true (c .before .before .is-length .result) (c .before .if5 .taken)))
-
--- src/lib.rt:405:46
-mask-of-requires : tie.Need-mask-of-requires
-mask-of-requires c κs = search needs
-
--- src/lib.rt:405:5
-write-chosen-requires : tie.Need-write-chosen-requires
-write-chosen-requires c κs = let s = c .before .before .before .before .before .before .before .before .before .before in let l = length-in (s .args .frame .len) (sym (c .before .before .before .before .is-length .ensures) ∙ not-false (c .before .before .before .before .is-length .result) (c .before .before .before .if5 .left)) in (record { size = search needs; some = l .0; few = l .1 }, rw (c .mask-of .ensures) (mask-low (s .args .law)))
-
--- src/lib.rt:385:1
-same-length-2 : tie.Need-same-length-2
-same-length-2 c = search needs
-
--- src/lib.rt:385:1
-returns-6 : tie.Need-returns-6
-returns-6 c = let s = c .before .before .before .before .before .before .before .before .before .before .before .before .before in let k : length (s .args .frame .samples) ≡ 320 = search needs in let h = sym (c .before .before .before .before .before .before .before .is-length .ensures) ∙ not-false (c .before .before .before .before .before .before .before .is-length .result) (c .before .before .before .before .before .before .if5 .left) in let l = length-in (s .args .frame .len) h in writes-as (c .before .before .write-chosen .ensures) (ap (λ (m : ℕ). fitting (length (s .args .out .now)) (full m (s .args .set) (take (s .args .frame .len) (s .args .frame .samples)))) (c .before .before .before .mask-of .ensures) ∙ write-full (s .args .frame .len) (s .args .frame .samples) (s .args .law) (s .args .set) (length (s .args .out .now)) (c .before .before .before .before .before .before .before .before .before .before .before .if1 .left) (c .before .before .before .before .before .before .before .before .before .before .if2 .left) (c .before .before .before .before .before .before .before .before .before .if3 .left) (c .before .before .before .before .before .before .before .before .if4 .left) h (omega (arith, l .1, k)))
+-- src/lib.rt:467:1
+returns : tie.Need-returns
+returns c = search needs
 
 pub write-frame-spec : {M : Type 1} → statement M
 write-frame-spec =
-    tie.close
-    (tie.spec
-    refused-requires
-    returns
-    refused-requires-2
-    returns-2
-    refused-requires-3
-    returns-3
-    write-pad-requires
-    same-length
-    returns-4
-    is-length-requires
-    refused-requires-4
-    returns-5
-    mask-of-requires
-    write-chosen-requires
-    same-length-2
-    returns-6)
+    tie.close (tie.spec slice-aggregate-write-some write-some-requires same-length returns)

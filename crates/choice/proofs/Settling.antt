@@ -1,0 +1,319 @@
+-- Laws of what the first look settles: a frame of one value, and a frame that only uncompressed applies to.
+use Prim.Native.Nat.{ℕ, zero, suc, _+_, _*_, _-_, _^_, _/_, _≤_, _<_, min, max}
+use mathlib.Core.Path.{_≡_, refl, sym, ap, _∙_}
+use mathlib.Core.List.{List, [], _∷_, _++_, map}
+use mathlib.Core.Bool.{Bool, true, false, cond, _&&_, _||_}
+use native.Mathlib.Omega.{arith}
+use borrow.Author.Tests.{ne-eqb, eqb-true, le-leb, leb-false}
+use lib.ListN.{length, getD, length-append, length-map}
+use lib.Dec.{eqb, leb, ltb}
+use Rattle.rules.specs.Bits.{lowBits, octetsFor}
+use Rattle.rules.specs.Tools.{holds}
+use Rattle.rules.specs.Samples.{signed, sampleOf, plusZero, minusZero, onLine}
+use Rattle.rules.specs.First.{isLong, baseOf, riceCode}
+use Rattle.rules.specs.Runs.{runsOf, riceForms, runsForm}
+use Rattle.rules.specs.Zeros.{codesOf, codeOf, flagOf}
+use Rattle.rules.specs.Located.{caseOf}
+use Rattle.rules.specs.Chooses.{countOf, every, leastFrom, bestS, markOf, riceChoice, locatedForm, leastOf, greatestOf, rowOf, applies, formOf, octetsOfForm, choose, chosenTool}
+use Rattle.rules.proofs.Octets.{length-lowBits, length-bitsOf}
+use Rattle.rules.proofs.Tests.{or-cases}
+use Rattle.pen.proofs.Rice.{length-riceForm}
+use Rattle.measure.specs.declared.Look.{Look}
+use Rattle.measure.specs.Measures.{Looked}
+use Rattle.measure.proofs.Looking.{count-le}
+use Rattle.measure.proofs.Finding.{runs-common, runs-other}
+use Rattle.choice.specs.Plans.{isMask, near, measured, Plain}
+use Rattle.choice.proofs.Rows.{never}
+use Rattle.choice.proofs.Zeros.{rice-applies}
+use Rattle.choice.proofs.Choosing.{constant-bits, minus-bits, plus-bits}
+
+-- a Rice code has a one and S low bits, so that runs of anything at all have more bits than S
+one-run : (s v : ℕ) (vs : List ℕ) → s < length (riceForms s (v ∷ vs))
+unfolding riceForms
+one-run s v vs = rw (length-append, length-riceForm) (omega arith)
+
+runs-some : (s c : ℕ) (flags : List ℕ) → 1 ≤ c + length flags → s < length (riceForms s (runsOf c flags))
+unfolding runsOf
+runs-some s zero [] h = absurd (omega arith)
+runs-some s (suc c) [] h = one-run s (suc c) []
+runs-some s c (zero ∷ flags) h = rw (runs-common c flags) (runs-some s (c + 1) flags (omega arith))
+runs-some s c (suc f ∷ flags) h = rw (runs-other c f flags) (one-run s c (runsOf 0 flags))
+
+least-some : (f : ℕ → ℕ) (best k more : ℕ) → 1 ≤ best → 1 ≤ k → 1 ≤ leastFrom f best k more
+unfolding leastFrom
+least-some f best k zero h g = h
+least-some f best k (suc more) h g = least-some f (cond (ltb (f k) (f best)) k best) (k + 1) more (either (ltb (f k) (f best))) (omega arith)
+  where
+    either : (b : Bool) → 1 ≤ cond b k best
+    either true = g
+    either false = h
+
+-- the code of S and S itself: at least three bits
+code-some : (n s : ℕ) → 1 ≤ s → 3 ≤ length (codeOf n s) + s
+unfolding codesOf
+code-some n zero h = absurd (omega arith)
+code-some n (suc zero) h = go (eqb n 40) refl (eqb n 80) refl
+  where
+    go : (a : Bool) → eqb n 40 ≡ a → (b : Bool) → eqb n 80 ≡ b → 3 ≤ length (codeOf n 1) + 1
+    go true e b f = rw e (omega arith)
+    go false e true f = rw (e, f) (omega arith)
+    go false e false f = rw (e, f) (omega arith)
+code-some n (suc (suc zero)) h = go (eqb n 40) refl (eqb n 80) refl
+  where
+    go : (a : Bool) → eqb n 40 ≡ a → (b : Bool) → eqb n 80 ≡ b → 3 ≤ length (codeOf n 2) + 2
+    go true e b f = rw e (omega arith)
+    go false e true f = rw (e, f) (omega arith)
+    go false e false f = rw (e, f) (omega arith)
+code-some n (suc (suc (suc s))) h = omega arith
+
+start-some : (n mark : ℕ) → 5 ≤ length (riceCode n mark)
+start-some n mark = rw length-append (go (isLong n) (lowBits 4 (baseOf n / 16)) (lowBits 2 (baseOf n / 64)) (length-lowBits 4 (baseOf n / 16)) (length-lowBits 2 (baseOf n / 64)))
+  where
+    go : (b : Bool) (u v : List ℕ) → length u ≡ 4 → length v ≡ 2 → 5 ≤ length (cond b u v) + length (cond b (1 ∷ 0 ∷ mark ∷ []) (0 ∷ 1 ∷ mark ∷ []))
+    go true u v e f = omega arith
+    go false u v e f = omega arith
+
+pub and-zero : (b : Bool) → (b && false) ≡ false
+and-zero true = refl
+and-zero false = refl
+
+of-two : {A : Type 0} (P : A → Type 0) (a : Bool) {x y : A} → P x → P y → P (cond a x y)
+of-two P true p q = p
+of-two P false p q = q
+
+module _ (mask : ℕ) (s : List ℕ) where
+  rice-long : 1 ≤ length s → 9 ≤ length (riceChoice mask s)
+  unfolding riceChoice
+  rice-long some =
+      let S = bestS mask (markOf mask s) s in
+      let h : 1 ≤ S = least-some _ 1 2 _ (omega arith) (omega arith) in
+      let fs = map (flagOf mask (markOf mask s)) s in
+      let r = runs-some S 0 fs (omega (arith, length-map s (flagOf mask (markOf mask s)))) in
+      let start = riceCode (length s) (markOf mask s) in
+      let sum : length (riceChoice mask s) ≡ length start + (length (codeOf (length s) S) + length (runsForm S fs)) =
+      length-append start (codeOf (length s) S ++ runsForm S fs) ∙ ap (λ (k : ℕ). length start + k) (length-append (codeOf (length s) S) (runsForm S fs)) in
+      rw sum (omega (arith, start-some (length s) (markOf mask s), code-some (length s) S h, r))
+
+  -- every form has a bit; those that are measured, and uncompressed, have more than an octet
+  form-some : (t : ℕ) → 1 ≤ length (formOf mask t s)
+  unfolding formOf locatedForm riceChoice
+  form-some t =
+      let P : List ℕ → Type 0 = λ l. 1 ≤ length l in
+      let six : 1 ≤ length (riceChoice mask s) =
+      rw (length-append (riceCode (length s) (markOf mask s)) _) (omega (arith, start-some (length s) (markOf mask s))) in
+      of-two P (eqb t 1) (rw (length-append, length-lowBits) (omega arith)) (of-two P (eqb t 2) (rw length-lowBits (omega arith))
+      (of-two P (eqb t 3) (rw length-lowBits (omega arith)) (of-two P (eqb t 4) (rw (length-append, length-lowBits) (omega arith))
+      (of-two P (eqb t 5) (rw (length-append, length-lowBits) (omega arith)) (of-two P (eqb t 6) six (rw (length-append, length-lowBits) (omega arith)))))))
+
+  pub among : (set : ℕ) (P : ℕ → Type 0) (t : ℕ) (ts : List ℕ) → P t → P (choose mask set s ts) → P (choose mask set s (t ∷ ts))
+  unfolding choose
+  among set P t ts p q = of-two P (holds set t && applies mask t s && leb (octetsOfForm mask s t) (octetsOfForm mask s (choose mask set s ts))) p q
+
+  pub alone : (set : ℕ) (P : ℕ → Type 0) → P 1 → P (choose mask set s [])
+  unfolding choose
+  alone set P p = p
+
+  measured-long : (set : ℕ) → 1 ≤ length s → 9 ≤ length (formOf mask (choose mask set s measured) s)
+  unfolding formOf locatedForm
+  measured-long set some =
+      let P : ℕ → Type 0 = λ t. 9 ≤ length (formOf mask t s) in
+      among set P 5 _ (rw (length-append, length-lowBits, length-map) (omega arith))
+      (among set P 6 _ (rice-long some)
+      (among set P 7 _ (rw (length-append, length-lowBits, length-append, length-lowBits) (omega arith))
+      (alone set P (rw (length-append, length-lowBits, length-bitsOf) (omega arith)))))
+
+  module _ (set : ℕ) where
+    -- a tool that is not taken, and one that is
+    passed : (t : ℕ) (ts : List ℕ) → (holds set t && applies mask t s) ≡ false → choose mask set s (t ∷ ts) ≡ choose mask set s ts
+    unfolding choose
+    passed t ts e = rw e
+
+    last : choose mask set s [] ≡ 1
+    unfolding choose
+    last = refl
+
+    won : (t : ℕ) (ts : List ℕ) → (holds set t && applies mask t s) ≡ true → octetsOfForm mask s t ≤ octetsOfForm mask s (choose mask set s ts)
+        → choose mask set s (t ∷ ts) ≡ t
+    unfolding choose
+    won t ts e h = rw (e, le-leb (octetsOfForm mask s t) (octetsOfForm mask s (choose mask set s ts)) h)
+
+    pub plus-settled : (holds set 2 && applies mask 2 s) ≡ true → Plain mask set s 2
+    plus-settled e =
+        record {
+          settled = λ n. sym (won 2 _ e (omega (arith, plus-bits mask s refl, form-some (choose mask set s (3 ∷ 4 ∷ measured)))));
+          later = λ z. absurd (omega arith);
+          most = omega arith;
+        }
+
+    module _ (two : (holds set 2 && applies mask 2 s) ≡ false) where
+      pub minus-settled : (holds set 3 && applies mask 3 s) ≡ true → Plain mask set s 3
+      minus-settled e =
+          record {
+            settled = λ n. sym (passed 2 _ two ∙ won 3 _ e (omega (arith, minus-bits mask s refl, form-some (choose mask set s (4 ∷ measured)))));
+            later = λ z. absurd (omega arith);
+            most = omega arith;
+          }
+
+      module _ (three : (holds set 3 && applies mask 3 s) ≡ false) where
+        pub constant-settled : 1 ≤ length s → (holds set 4 && applies mask 4 s) ≡ true → Plain mask set s 4
+        constant-settled some e =
+            record {
+              settled = λ n. sym (passed 2 _ two ∙ passed 3 _ three ∙ won 4 _ e (omega (arith, constant-bits mask s refl, measured-long set some)));
+              later = λ z. absurd (omega arith);
+              most = omega arith;
+            }
+
+        pub unsettled : (holds set 4 && applies mask 4 s) ≡ false → Plain mask set s 0
+        unsettled four =
+            record { settled = λ n. absurd (n refl); later = λ z. passed 2 _ two ∙ passed 3 _ three ∙ passed 4 _ four; most = omega arith }
+
+        pub spread-settled : (holds set 4 && applies mask 4 s) ≡ false → applies mask 6 s ≡ false → applies mask 7 s ≡ false → Plain mask set s 1
+        spread-settled four six seven =
+            let five : applies mask 5 s ≡ false = rice-applies mask s ∙ six in
+            let none : (t : ℕ) → applies mask t s ≡ false → (holds set t && applies mask t s) ≡ false = λ t e. rw e (and-zero (holds set t)) in
+            record {
+              settled = λ n. sym (passed 2 _ two ∙ passed 3 _ three ∙ passed 4 _ four ∙ passed 5 _ (none 5 five) ∙ passed 6 _ (none 6 six) ∙ passed 7 _ (none 7 seven) ∙ last);
+              later = λ z. absurd (omega arith);
+              most = omega arith;
+            }
+
+-- a frame of one value
+head-passes : (p : ℕ → Bool) (x : ℕ) (s : List ℕ) → every p (x ∷ s) ≡ true → p x ≡ true
+unfolding countOf
+head-passes p x s h = step (p x) refl (eqb-true _ _ h)
+  where
+    step : (b : Bool) → p x ≡ b → cond (p x) 1 0 + countOf p s ≡ suc (length s) → p x ≡ true
+    step true e f = e
+    step false e f = absurd (omega (arith, rw e at f, count-le p s))
+
+pub one-value : (y first : ℕ) (s : List ℕ) → 1 ≤ length s → first ≡ getD s 0 0 → every (λ x. eqb x first) s ≡ true → every (λ x. eqb x y) s ≡ eqb first y
+one-value y first [] h e a = absurd (omega arith)
+one-value y first (x ∷ s) h e a = go (eqb x y) refl (every (λ z. eqb z y) (x ∷ s)) refl
+  where
+    go : (b : Bool) → eqb x y ≡ b → (t : Bool) → every (λ z. eqb z y) (x ∷ s) ≡ t → every (λ z. eqb z y) (x ∷ s) ≡ eqb first y
+    go b f true g = g ∙ sym (ap (λ (k : ℕ). eqb k y) e ∙ head-passes (λ z. eqb z y) x s g)
+    go true f false g = absurd (never (sym g ∙ ap (λ (k : ℕ). every (λ z. eqb z k) (x ∷ s)) (sym (e ∙ eqb-true x y f)) ∙ a))
+    go false f false g = g ∙ sym (ap (λ (k : ℕ). eqb k y) e ∙ f)
+
+-- and one of several
+pub none-value : (y first : ℕ) (s : List ℕ) → 1 ≤ length s → first ≡ getD s 0 0 → every (λ x. eqb x first) s ≡ false → every (λ x. eqb x y) s ≡ false
+none-value y first [] h e a = absurd (omega arith)
+none-value y first (x ∷ s) h e a = go (every (λ z. eqb z y) (x ∷ s)) refl
+  where
+    go : (t : Bool) → every (λ z. eqb z y) (x ∷ s) ≡ t → every (λ z. eqb z y) (x ∷ s) ≡ false
+    go true g =
+        absurd (never (sym a ∙ ap (λ (k : ℕ). every (λ z. eqb z k) (x ∷ s)) (e ∙ eqb-true x y (head-passes (λ z. eqb z y) x s g)) ∙ g))
+    go false g = g
+
+pub mask-seven : (mask : ℕ) → isMask mask ≡ true → mask < 128
+mask-seven mask h = or-cases (mask < 128) (eqb mask 0x55) (eqb mask 0x7F) h (λ e. omega (arith, eqb-true mask 0x55 e)) (λ e. omega (arith, eqb-true mask 0x7F e))
+
+-- the two zeros are near
+zero-places : (mask : ℕ) → isMask mask ≡ true → (onLine (signed mask (plusZero mask)) ≡ 128) × (onLine (signed mask (minusZero mask)) ≡ 127)
+unfolding signed sampleOf
+zero-places mask h =
+    or-cases ((onLine (signed mask (plusZero mask)) ≡ 128) × (onLine (signed mask (minusZero mask)) ≡ 127)) (eqb mask 0x55) (eqb mask 0x7F) h
+    (λ e. rw (eqb-true mask 0x55 e) (refl, refl)) (λ e. rw (eqb-true mask 0x7F e) (refl, refl))
+
+zeros-near : (mask : ℕ) → isMask mask ≡ true → (s : List ℕ) → countOf (λ x. eqb x (plusZero mask) || eqb x (minusZero mask)) s ≡ length s
+    → (127 ≤ leastOf mask s) × (greatestOf mask s ≤ 128)
+unfolding countOf leastOf greatestOf
+zeros-near mask m [] h = (omega arith, omega arith)
+zeros-near mask m (x ∷ s) h =
+    step (eqb x (plusZero mask)) (eqb x (minusZero mask)) refl refl h (count-le (λ x. eqb x (plusZero mask) || eqb x (minusZero mask)) s) (zeros-near mask m s) (zero-places mask m)
+  where
+    step : (a b : Bool) → eqb x (plusZero mask) ≡ a → eqb x (minusZero mask) ≡ b
+        → cond (eqb x (plusZero mask) || eqb x (minusZero mask)) 1 0 + countOf (λ x. eqb x (plusZero mask) || eqb x (minusZero mask)) s ≡ suc (length s)
+        → countOf (λ x. eqb x (plusZero mask) || eqb x (minusZero mask)) s ≤ length s
+        → (countOf (λ x. eqb x (plusZero mask) || eqb x (minusZero mask)) s ≡ length s → (127 ≤ leastOf mask s) × (greatestOf mask s ≤ 128))
+        → (onLine (signed mask (plusZero mask)) ≡ 128) × (onLine (signed mask (minusZero mask)) ≡ 127)
+        → (127 ≤ min (onLine (signed mask x)) (leastOf mask s)) × (max (onLine (signed mask x)) (greatestOf mask s) ≤ 128)
+    step true b e f c le ih p =
+        let i = ih (omega (arith, rw e at c)) in
+        let z : onLine (signed mask x) ≡ 128 = ap (λ (y : ℕ). onLine (signed mask y)) (eqb-true x (plusZero mask) e) ∙ p .0 in
+        (omega (arith, i .0), omega (arith, i .1))
+    step false true e f c le ih p =
+        let i = ih (omega (arith, rw (e, f) at c)) in
+        let z : onLine (signed mask x) ≡ 127 = ap (λ (y : ℕ). onLine (signed mask y)) (eqb-true x (minusZero mask) f) ∙ p .1 in
+        (omega (arith, i .0), omega (arith, i .1))
+    step false false e f c le ih p = absurd (omega (arith, rw (e, f) at c))
+
+zeros-apply-near : (mask : ℕ) → isMask mask ≡ true → (s : List ℕ) → near (leastOf mask s) (greatestOf mask s) ≡ false → applies mask 6 s ≡ false
+unfolding applies
+zeros-apply-near mask m s far = go (every (λ x. eqb x (plusZero mask) || eqb x (minusZero mask)) s) refl
+  where
+    go : (b : Bool) → every (λ x. eqb x (plusZero mask) || eqb x (minusZero mask)) s ≡ b → every (λ x. eqb x (plusZero mask) || eqb x (minusZero mask)) s ≡ false
+    go true e =
+        let i = zeros-near mask m s (eqb-true _ _ e) in
+        let n : near (leastOf mask s) (greatestOf mask s) ≡ true =
+        rw (le-leb 126 (leastOf mask s) (omega (arith, i .0)), le-leb (greatestOf mask s) 129 (omega (arith, i .1))) in
+        absurd (never (sym far ∙ n))
+    go false e = e
+
+-- a row is near
+row-near : (mask : ℕ) (s : List ℕ) → near (leastOf mask s) (greatestOf mask s) ≡ false → rowOf mask s ≡ 4
+unfolding rowOf caseOf
+row-near mask s far = go (leb 126 (leastOf mask s)) refl (leb (greatestOf mask s) 129) refl
+  where
+    least : ℕ
+    least = leastOf mask s
+
+    greatest : ℕ
+    greatest = greatestOf mask s
+
+    go : (a : Bool) → leb 126 (leastOf mask s) ≡ a → (b : Bool) → leb (greatestOf mask s) 129 ≡ b → rowOf mask s ≡ 4
+    go false e b f =
+        let h = leb-false 126 (leastOf mask s) e in
+        rw (ne-eqb (leastOf mask s) 126 (λ z. omega arith), ne-eqb (leastOf mask s) 127 (λ z. omega arith), ne-eqb (leastOf mask s) 128 (λ z. omega arith))
+    go true e false f =
+        let h = leb-false (greatestOf mask s) 129 f in
+        rw (ne-eqb (greatestOf mask s) 129 (λ z. omega arith), ne-eqb (greatestOf mask s) 128 (λ z. omega arith), and-zero (eqb (leastOf mask s) 126), and-zero (eqb (leastOf mask s) 127), and-zero (eqb (leastOf mask s) 128))
+    go true e true f = absurd (never (sym (rw (e, f) at far)))
+
+located-near : (mask : ℕ) (s : List ℕ) → near (leastOf mask s) (greatestOf mask s) ≡ false → applies mask 7 s ≡ false
+unfolding applies
+located-near mask s far = rw (row-near mask s far, and-zero (leb 80 (length s)))
+
+-- what is said of a frame of one value
+pub record OneValue (mask set first : ℕ) (s : List ℕ) : Type 0 where
+  pub some : 1 ≤ length s
+  pub two : (holds set 2 && applies mask 2 s) ≡ (holds set 2 && eqb first (plusZero mask))
+  pub three : (holds set 3 && applies mask 3 s) ≡ (holds set 3 && eqb first (minusZero mask))
+  pub four : (holds set 4 && applies mask 4 s) ≡ holds set 4
+
+and-true : (b : Bool) → (b && true) ≡ b
+and-true true = refl
+and-true false = refl
+
+pub one-of : {mask first : ℕ} {s : List ℕ} {l : Look} (set : ℕ) → 1 ≤ length s → first ≡ getD s 0 0 → Looked mask first s l → l .mixed ≡ 0 → OneValue mask set first s
+unfolding applies
+one-of {mask} {first} {s} {l} set some e looked zero′ =
+    let all : every (λ x. eqb x first) s ≡ true = sym (looked .mixed) ∙ rw zero′ in
+    record {
+      some = some;
+      two = ap (λ (b : Bool). holds set 2 && b) (one-value (plusZero mask) first s some e all);
+      three = ap (λ (b : Bool). holds set 3 && b) (one-value (minusZero mask) first s some e all);
+      four = ap (λ (b : Bool). holds set 4 && b) (ap (λ (k : ℕ). every (λ x. eqb x k) s) (sym e) ∙ all) ∙ and-true (holds set 4);
+    }
+
+-- a test against a zero, said of the zero that is meant
+pub for-zero : (set t first : ℕ) {y z : ℕ} {r : Bool} → r ≡ (holds set t && eqb first y) → y ≡ z → (holds set t && eqb first z) ≡ r
+for-zero set t first e f = sym (e ∙ ap (λ (k : ℕ). holds set t && eqb first k) f)
+
+-- what is said of a frame whose samples are not all equal
+pub spread : {mask set first r : ℕ} {s : List ℕ} {l : Look} → isMask mask ≡ true → 1 ≤ length s → first ≡ getD s 0 0 → Looked mask first s l → (l .mixed ≡ 0 → ⊥)
+    → r ≡ cond (near (l .least) (l .greatest)) 0 1 → Plain mask set s r
+unfolding applies
+spread {mask} {set} {first} {r} {s} {l} m some e looked mixed told =
+    rw (told, looked .least, looked .greatest) (go (near (leastOf mask s) (greatestOf mask s)) refl)
+  where
+    several : every (λ x. eqb x first) s ≡ false
+    several = sym (looked .mixed) ∙ ne-eqb (l .mixed) 0 mixed
+
+    none : (t y : ℕ) → (holds set t && every (λ x. eqb x y) s) ≡ false
+    none t y = rw (none-value y first s some e several) (and-zero (holds set t))
+
+    go : (b : Bool) → near (leastOf mask s) (greatestOf mask s) ≡ b → Plain mask set s (cond b 0 1)
+    go true h = unsettled mask s set (none 2 (plusZero mask)) (none 3 (minusZero mask)) (none 4 (getD s 0 0))
+    go false h =
+        spread-settled mask s set (none 2 (plusZero mask)) (none 3 (minusZero mask)) (none 4 (getD s 0 0)) (zeros-apply-near mask m s h) (located-near mask s h)
