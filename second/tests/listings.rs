@@ -60,7 +60,11 @@ fn the_example() {
 
 #[test]
 fn the_program_prints_the_example() {
-    let mut program = Command::new(env!("CARGO_BIN_EXE_second-listing"))
+    // Where the tests are for another processor than the machine's, RUN_WITH names what runs them.
+    let with = std::env::var_os("RUN_WITH").filter(|with| !with.is_empty());
+    let words: Vec<OsString> = with.into_iter().chain([env!("CARGO_BIN_EXE_second-listing").into()]).collect();
+    let mut program = Command::new(&words[0])
+        .args(&words[1..])
         .stdin(Stdio::piped())
         .stdout(Stdio::piped())
         .spawn()

@@ -10,11 +10,12 @@ use borrow.Author.Tests.{le-leb, lt-leb, lt-ltb, le-ltb}
 use Rattle.rules.specs.declared.Refusal.{Refusal}
 use Rattle.rules.specs.declared.Ending.{Ending}
 use Rattle.rules.specs.declared.Ending.the-variants.{Done, Refused}
-use Rattle.rules.specs.declared.ReadAnswer.{ReadAnswer}
+use Rattle.reader.specs.declared.Report.{Report}
 use Rattle.rules.specs.Reading.{Read, whole, refuse}
 use Rattle.rules.specs.Frame.{Found, octetsUsed, readOne}
 use Rattle.rules.specs.Walk.{Delivered, samplesKept}
-use Rattle.rules.specs.Calls.{atStart, Reads}
+use Rattle.rules.specs.Calls.{atStart}
+use Rattle.reader.specs.Answers.{ReadsInto}
 use Rattle.rules.proofs.Accepted.{read-accepts, read-uses}
 use Rattle.lines.proofs.Room.{read-room}
 use Rattle.walk.proofs.Kept.{samplesKept-more}
@@ -25,17 +26,17 @@ use Rattle.unpacking.specs.Parts.{Parted, halted, withFrame, partFrom, P
 from-on : (l : List ℕ) (at : ℕ) → take (length l - at) (drop at l) ≡ drop at l
 from-on l at = take-all (length l - at) (drop at l) (omega (arith, length-drop at l))
 
-pub read-made : (octets : List ℕ) (law set at to : ℕ) (out last : List ℕ) {r : ReadAnswer} → to + 320 ≤ length out
-    → Reads (readOne (take (length octets - at) (drop at octets)) law set (length (take (length out - to) (drop to out)))) r
+pub read-made : (octets : List ℕ) (law set at to : ℕ) (out last : List ℕ) {r : Report} → to + 320 ≤ length out
+    → ReadsInto (readOne (take (length octets - at) (drop at octets)) law set (length (take (length out - to) (drop to out)))) r
     (take (length out - to) (drop to out)) last
     → ReadsAt (readOne (drop at octets) law set 320) r to out (take to out ++ (last ++ drop (length out - to) (drop to out)))
 read-made octets law set at to out last {r} h t =
     let t′ = rw (from-on octets at, from-on out to, length-drop to out, read-room (drop at octets) law set (length out - to) (omega arith)) at t in
     record {
       rest = last;
-      end = t′ .end;
-      octets = t′ .octets;
-      len = t′ .frame .len;
+      end = t′ .tells .end;
+      octets = t′ .tells .octets;
+      len = t′ .tells .len;
       after = t′ .lent;
       lent = rw (drop-of-length-le (drop to out) {i = length out - to} (omega (arith, length-drop to out)), append-nil last);
     }
@@ -182,14 +183,14 @@ module _ (octets : List ℕ) (law set from : ℕ) (out₀ : List ℕ) where
             )
 
         -- as the answer of the reading says
-        module _ {out′ : List ℕ} {r : ReadAnswer} (s : ReadsAt (readOne (drop at octets) law set 320) r to out out′) where
+        module _ {out′ : List ℕ} {r : Report} (s : ReadsAt (readOne (drop at octets) law set 320) r to out out′) where
           pub part-turn : r .end ≡ Done
-              → Parting out′ (at + r .octets) (to + r .frame .len) (count + 1) × (1 ≤ r .octets) × (at + r .octets ≤ length octets)
+              → Parting out′ (at + r .octets) (to + r .len) (count + 1) × (1 ≤ r .octets) × (at + r .octets ≤ length octets)
           part-turn e = go (readOne (drop at octets) law set 320) refl s
             where
               go : (m : Read Found) → readOne (drop at octets) law set 320 ≡ m → ReadsAt m r to out out′
-                  → Parting out′ (at + r .octets) (to + r .frame .len) (count + 1) × (1 ≤ r .octets) × (at + r .octets ≤ length octets)
-              go (whole f j) q t = taken f j (r .octets) (r .frame .len) q (t .octets) (t .len) (t .after) (t .lent)
+                  → Parting out′ (at + r .octets) (to + r .len) (count + 1) × (1 ≤ r .octets) × (at + r .octets ≤ length octets)
+              go (whole f j) q t = taken f j (r .octets) (r .len) q (t .octets) (t .len) (t .after) (t .lent)
               go (refuse v k) q t = let d = t .end in let z : _≡_ {A = ℕ} 0 1 = cc in absurd (omega arith)
 
           pub part-refused : (why : Refusal) → r .end ≡ Refused why

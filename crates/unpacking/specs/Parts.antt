@@ -9,7 +9,7 @@ use Rattle.rules.specs.declared.Refusal.{Refusal}
 use Rattle.rules.specs.declared.Refusal.the-variants.{Set, Law, Long}
 use Rattle.rules.specs.declared.Ending.{Ending}
 use Rattle.rules.specs.declared.Ending.the-variants.{Done, Refused}
-use Rattle.rules.specs.declared.ReadAnswer.{ReadAnswer}
+use Rattle.reader.specs.declared.Report.{Report}
 use Rattle.rules.specs.Tools.{isSet, isLaw}
 use Rattle.rules.specs.Reading.{Read, whole, refuse}
 use Rattle.rules.specs.Frame.{Found, octetsUsed, readOne}
@@ -77,11 +77,11 @@ pub record Goes (octets : List ℕ) (at : ℕ) (out : List ℕ) (r : Part) : Typ
   pub inside : r .more ≡ true → r .at ≤ length octets
 
 -- one frame read into the output from `to` on
-pub record ReadsAt (found : Read Found) (r : ReadAnswer) (to : ℕ) (out out′ : List ℕ) : Type 0 where
+pub record ReadsAt (found : Read Found) (r : Report) (to : ℕ) (out out′ : List ℕ) : Type 0 where
   pub rest : List ℕ
   pub end : r .end ≡ readEnd found
   pub octets : r .octets ≡ readOctets found
-  pub len : r .frame .len ≡ length (readSamples found)
+  pub len : r .len ≡ length (readSamples found)
   pub after : rest ≡ atStart (readSamples found) (drop to out)
   pub lent : out′ ≡ take to out ++ rest
 

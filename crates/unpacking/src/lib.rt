@@ -5,8 +5,8 @@ ghost use lib.ListN.{length, drop};
 ghost use Rattle.rules.specs.Frame.{readOne};
 ghost use Rattle.unpacking.specs.Parts.{ReadsAt, Parts, partFrom, NextPart, Goes, StopsAtOnce};
 ghost use Rattle.unpacking.specs.Agreeing.{agreeing};
+use reader::Report;
 use rules::Ending;
-use rules::ReadAnswer;
 use rules::Refusal;
 
 // A part of a walk: how it ended, the place where it ended, its frames and their samples, and whether there is more.
@@ -19,11 +19,11 @@ pub struct Part {
 }
 
 // One frame, at a place of the stream; its samples go to the output from `to` on. 320 of room are enough for any.
-fn read_at(stream: &[u8], law: u32, set: u32, at: usize, out: &mut [u8], to: usize) -> ReadAnswer
+fn read_at(stream: &[u8], law: u32, set: u32, at: usize, out: &mut [u8], to: usize) -> Report
     requires { ⌜ (at ≤ length (now stream)) × (to + 320 ≤ length (now out)) ⌝ }
     ensures { λ r. ⌜ ReadsAt (readOne (drop at (now (stream .entry))) law set 320) r to (now (out .entry)) (now (out .exit)) ⌝ }
 {
-    reader::read_frame(&stream[at..], law, set, &mut out[to..])
+    reader::read_into(&stream[at..], law, set, &mut out[to..])
 }
 
 // Frame after frame from a place on, as long as the room left holds any frame.
@@ -68,7 +68,7 @@ fn frames_from(stream: &[u8], law: u32, set: u32, from: usize, out: &mut [u8]) -
             }
             Ending::Done => {
                 at += r.octets;
-                to += r.frame.len;
+                to += r.len;
                 frames += 1;
             }
         }

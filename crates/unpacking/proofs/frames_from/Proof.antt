@@ -24,7 +24,7 @@ short c = omega (arith, kept-length (c .before .before .before .before .before .
 -- a frame that was taken
 turned : (c : tie.After-read-at Inv-loop μ-loop) → c .read-at .result .end ≡ Done
     → Parting (c .before .before .before .before .before .before .before .args .stream .now) (c .before .before .before .before .before .before .before .args .law) (c .before .before .before .before .before .before .before .args .set) (c .before .before .before .before .before .before .before .args .from) (c .before .before .before .before .before .before .before .args .out .now) (c .read-at .last .1 .1 .1 .1 .0)
-    (c .before .before .before .before .loop .at + c .read-at .result .octets) (c .before .before .before .before .loop .to + c .read-at .result .frame .len) (c .before .before .before .before .loop .frames + 1)
+    (c .before .before .before .before .loop .at + c .read-at .result .octets) (c .before .before .before .before .loop .to + c .read-at .result .len) (c .before .before .before .before .loop .frames + 1)
     × (1 ≤ c .read-at .result .octets)
     × (c .before .before .before .before .loop .at + c .read-at .result .octets ≤ length (c .before .before .before .before .before .before .before .args .stream .now))
 turned c e = part-turn (c .before .before .before .before .before .before .before .args .stream .now) (c .before .before .before .before .before .before .before .args .law) (c .before .before .before .before .before .before .before .args .set) (c .before .before .before .before .before .before .before .args .from) (c .before .before .before .before .before .before .before .args .out .now) (c .before .before .before .before .loop .inv) (c .before .before .before .if1 .left) (room c) (c .read-at .ensures) e
