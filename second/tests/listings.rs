@@ -3,6 +3,7 @@
 mod slow;
 use second::gen::{self, Prng};
 use second::listing;
+use std::ffi::OsString;
 use std::fmt::Write as _;
 use std::io::Write as _;
 use std::process::{Command, Stdio};
