@@ -468,13 +468,15 @@ pub fn plan_of(samples: &[u8], n: usize, mask: u8, set: u32, l: Look, runs: &mut
     let c = counts_of(samples, n, mask);
     let placed = placed_of(samples, n, mask, set, l, c, runs);
     let rice = rice_of(samples, n, mask, set, c, runs);
+    let binary = binary_offered(c, n, set);
+    let binary_bits = 8 + n;
     let uncompressed = Choice {
         tool: 1,
         bits: 8 + 8 * n,
     };
     let seven = better(uncompressed, 7, placed.offered, placed.bits);
     let six = better(seven, 6, rice.offered, rice.bits);
-    let five = better(six, 5, binary_offered(c, n, set), 8 + n);
+    let five = better(six, 5, binary, binary_bits);
     Plan {
         tool: five.tool,
         bits: five.bits,
