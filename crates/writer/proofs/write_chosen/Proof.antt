@@ -17,7 +17,7 @@ look-at-requires : tie.Need-look-at-requires
 look-at-requires c κs = search needs
 
 plain-tool-requires : tie.Need-plain-tool-requires
-plain-tool-requires c κs = search needs
+plain-tool-requires c κs = (search needs, c .look-at .ensures)
 
 write-measured-requires : tie.Need-write-measured-requires
 write-measured-requires c κs = let s = c .before .before .before .before .before .before in ((s .pre .0, mask-seven _ (s .pre .1)), c .before .before .before .look-at .ensures)
