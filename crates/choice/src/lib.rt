@@ -235,7 +235,15 @@ fn nothing_placed() -> Placed
     }
 }
 
-pub fn placed_of(samples: &[u8], n: usize, mask: u8, set: u32, l: Look, c: Counts, runs: &mut [u16; 321]) -> Placed
+pub fn placed_of(
+    samples: &[u8],
+    n: usize,
+    mask: u8,
+    set: u32,
+    l: Look,
+    c: Counts,
+    runs: &mut [u16; 321],
+) -> Placed
     requires { ⌜ Seen mask (now samples) n l c ⌝ }
     requires { ⌜ length (now runs) ≡ 321 ⌝ }
     ensures { λ r. ⌜ (PlacedFor mask set (take n (now (samples .entry))) r) × (length (now (runs .exit)) ≡ 321) ⌝ }
@@ -345,7 +353,14 @@ fn two_zeros(c: Counts, n: usize) -> bool
     sized(c.plus) + sized(c.minus) == n
 }
 
-pub fn rice_of(samples: &[u8], n: usize, mask: u8, set: u32, c: Counts, runs: &mut [u16; 321]) -> Rice
+pub fn rice_of(
+    samples: &[u8],
+    n: usize,
+    mask: u8,
+    set: u32,
+    c: Counts,
+    runs: &mut [u16; 321],
+) -> Rice
     requires { ⌜ ZerosSeen mask (now samples) n c ⌝ }
     requires { ⌜ length (now runs) ≡ 321 ⌝ }
     ensures { λ r. ⌜ RiceFor mask set (take n (now (samples .entry))) r (now (runs .exit)) ⌝ }
@@ -468,13 +483,15 @@ pub fn plan_of(samples: &[u8], n: usize, mask: u8, set: u32, l: Look, runs: &mut
     let c = counts_of(samples, n, mask);
     let placed = placed_of(samples, n, mask, set, l, c, runs);
     let rice = rice_of(samples, n, mask, set, c, runs);
+    let binary = binary_offered(c, n, set);
+    let binary_bits = 8 + n;
     let uncompressed = Choice {
         tool: 1,
         bits: 8 + 8 * n,
     };
     let seven = better(uncompressed, 7, placed.offered, placed.bits);
     let six = better(seven, 6, rice.offered, rice.bits);
-    let five = better(six, 5, binary_offered(c, n, set), 8 + n);
+    let five = better(six, 5, binary, binary_bits);
     Plan {
         tool: five.tool,
         bits: five.bits,

@@ -67,7 +67,7 @@ not-length n a b c d e = rw (ne-eqb n 40 a, ne-eqb n 80 b, ne-eqb n 160 c, ne-eq
 -- the tools that are measured, and uncompressed
 pub measured-kind : (mask set : ℕ) (s : List ℕ) {t : ℕ} → t ≡ choose mask set s measured → (t ≡ 1 → ⊥) → (t ≡ 6 → ⊥) → (t ≡ 5 → ⊥) → t ≡ 7
 measured-kind mask set s {t} e one six five =
-    go (among mask s set P 5 _ (inl refl) (among mask s set P 6 _ (inr (inl refl)) (among mask s set P 7 _ (inr (inr (inl refl))) (alone mask s set P (inr (inr (inr refl))))))) 
+    go (among mask s set P 5 _ (inl refl) (among mask s set P 6 _ (inr (inl refl)) (among mask s set P 7 _ (inr (inr (inl refl))) (alone mask s set P (inr (inr (inr refl)))))))
   where
     P : ℕ → Type 0
     P k = (k ≡ 5) ⊎ ((k ≡ 6) ⊎ ((k ≡ 7) ⊎ (k ≡ 1)))

@@ -326,7 +326,14 @@ fn put_body(out: &mut [u8], p: Pen, samples: &[u8], n: usize, mask: u8, plan: Pl
 }
 
 // The planned form of a frame, as octets. Their number comes back.
-fn put_form(out: &mut [u8], samples: &[u8], n: usize, mask: u8, plan: Plan, runs: &[u16; 321]) -> usize
+fn put_form(
+    out: &mut [u8],
+    samples: &[u8],
+    n: usize,
+    mask: u8,
+    plan: Plan,
+    runs: &[u16; 321],
+) -> usize
     requires { ⌜ Planned mask (now samples) n plan (now runs) ⌝ }
     requires { ⌜ length (formOf mask (plan .tool) (take n (now samples))) ≤ 8 * length (now out) ⌝ }
     ensures { λ r. ⌜ Packed (formOf mask (plan .tool) (take n (now (samples .entry)))) (now (out .entry)) (now (out .exit)) r ⌝ }
@@ -394,7 +401,14 @@ fn write_plain(out: &mut [u8], samples: &[u8], n: usize, tool: u32) -> WriteAnsw
 }
 
 // "ROOM means the chosen form's octets for a writer". The tools that are measured; then the chosen form alone is written.
-fn write_measured(out: &mut [u8], samples: &[u8], n: usize, mask: u8, set: u32, l: Look) -> WriteAnswer
+fn write_measured(
+    out: &mut [u8],
+    samples: &[u8],
+    n: usize,
+    mask: u8,
+    set: u32,
+    l: Look,
+) -> WriteAnswer
     requires { ⌜ (IsFrame (now samples) n) × (mask < 128) ⌝ }
     requires { ⌜ Looked mask (getD (now samples) 0 0) (take n (now samples)) l ⌝ }
     ensures { λ r. ⌜ Writes (fitting (length (now (out .entry))) (found mask set (take n (now (samples .entry))))) r (now (out .entry)) (now (out .exit)) ⌝ }

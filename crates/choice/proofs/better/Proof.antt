@@ -8,23 +8,18 @@ use Rattle.choice.proofs.better.Tie as tie
 use Rattle.choice.proofs.better.Reads as reads
 use Rattle.choice.proofs.better.Lts as lts
 
--- src/lib.rt:385:9
 returns : tie.Need-returns
 returns c = better-not (c .before .pre .0) (rw (not-true (c .before .args .offered) (c .if1 .taken)))
 
--- src/lib.rt:387:9
 add-if2 : tie.Need-add-if2
 add-if2 c = search needs
 
--- src/lib.rt:387:31
 add-if2-2 : tie.Need-add-if2-2
 add-if2-2 c = search needs
 
--- src/lib.rt:388:9
 returns-2 : tie.Need-returns-2
 returns-2 c = let s = c .before .before .before in better-not (s .pre .0) (rw (not-false (s .args .offered) (c .before .before .if1 .left), lt-leb (octetsFor (s .args .bits)) (octetsFor (s .args .best .bits)) (omega (arith, c .if2 .taken))))
 
--- src/lib.rt:380:1
 returns-3 : tie.Need-returns-3
 returns-3 c = let s = c .before .before .before in better-yes (s .pre .1) (rw (not-false (s .args .offered) (c .before .before .if1 .left), le-leb (octetsFor (s .args .bits)) (octetsFor (s .args .best .bits)) (omega (arith, c .if2 .left))))
 

@@ -11,19 +11,15 @@ use Rattle.choice.proofs.binary_offered.Lts as lts
 use Rattle.choice.proofs.two_zeros.Reads as two-zeros-reads
 use Rattle.prefix.proofs.holds.Reads as holds-reads
 
--- src/lib.rt:400:9
 holds-requires : tie.Need-holds-requires
 holds-requires c κs = search needs
 
--- src/lib.rt:401:9
 returns : tie.Need-returns
 returns c = let s = c .before .before in ap (λ (h : Bool). h && eqb (s .args .c .plus + s .args .c .minus) (s .args .n)) (sym (sym (c .before .holds .ensures) ∙ not-true _ (c .if1 .taken)))
 
--- src/lib.rt:403:5
 two-zeros-requires : tie.Need-two-zeros-requires
 two-zeros-requires c κs = search needs
 
--- src/lib.rt:397:1
 returns-2 : tie.Need-returns-2
 returns-2 c = let s = c .before .before .before in c .two-zeros .ensures ∙ ap (λ (h : Bool). h && eqb (s .args .c .plus + s .args .c .minus) (s .args .n)) (sym (sym (c .before .before .holds .ensures) ∙ not-false _ (c .before .if1 .left)))
 

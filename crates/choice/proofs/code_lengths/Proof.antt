@@ -8,17 +8,14 @@ use Rattle.choice.proofs.code_lengths.Tie as tie
 use Rattle.choice.proofs.code_lengths.Reads as reads
 use Rattle.choice.proofs.code_lengths.Lts as lts
 
--- src/lib.rt:272:9
 returns : tie.Need-returns
 unfolding codesOf
 returns c = codes-told (codesOf 40) 4 (ap codesOf (c .if1 .taken)) refl
 
--- src/lib.rt:275:9
 returns-2 : tie.Need-returns-2
 unfolding codesOf
 returns-2 c = codes-told (codesOf 80) 3 (ap codesOf (c .if2 .taken)) refl
 
--- src/lib.rt:268:1
 returns-3 : tie.Need-returns-3
 unfolding codesOf
 returns-3 c = codes-told (codesOf 160) 0 (rw (ne-eqb _ 40 (c .before .if1 .left), ne-eqb _ 80 (c .if2 .left))) refl

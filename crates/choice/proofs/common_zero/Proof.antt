@@ -8,19 +8,15 @@ use Rattle.choice.proofs.common_zero.Lts as lts
 use Rattle.law.proofs.minus_zero.Reads as minus-zero-reads
 use Rattle.law.proofs.plus_zero.Reads as plus-zero-reads
 
--- src/lib.rt:283:9
 plus-zero-requires : tie.Need-plus-zero-requires
 plus-zero-requires c κs = search needs
 
--- src/lib.rt:283:9
 returns : tie.Need-returns
 returns c = let n = c .before .before .before .args .c in rw (le-ltb (n .plus) (n .minus) (omega (arith, c .before .if1 .taken))) (c .plus-zero .ensures)
 
--- src/lib.rt:285:5
 minus-zero-requires : tie.Need-minus-zero-requires
 minus-zero-requires c κs = search needs
 
--- src/lib.rt:278:1
 returns-2 : tie.Need-returns-2
 returns-2 c = let n = c .before .before .before .args .c in rw (lt-ltb (n .plus) (n .minus) (omega (arith, c .before .if1 .left))) (c .minus-zero .ensures)
 

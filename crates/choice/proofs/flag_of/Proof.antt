@@ -8,11 +8,9 @@ use Rattle.choice.proofs.flag_of.Tie as tie
 use Rattle.choice.proofs.flag_of.Reads as reads
 use Rattle.choice.proofs.flag_of.Lts as lts
 
--- src/lib.rt:197:1
 returns : tie.Need-returns
 returns c = let n = c .before .before .args .c in ap (λ (t : Bool). cond t 1 0) (sym (le-leb (n .below) (n .above) (omega (arith, c .if1 .taken))))
 
--- src/lib.rt:197:1
 returns-2 : tie.Need-returns-2
 returns-2 c = let n = c .before .before .args .c in ap (λ (t : Bool). cond t 1 0) (sym (lt-leb (n .below) (n .above) (omega (arith, c .if1 .left))))
 

@@ -9,15 +9,12 @@ use Rattle.choice.proofs.is_for.Reads as reads
 use Rattle.choice.proofs.is_for.Lts as lts
 use Rattle.prefix.proofs.holds.Reads as holds-reads
 
--- src/lib.rt:423:9
 holds-requires : tie.Need-holds-requires
 holds-requires c κs = search needs
 
--- src/lib.rt:424:9
 returns : tie.Need-returns
 returns c = let s = c .before .before in ap (λ (h : Bool). h && eqb (s .args .x) (s .args .y)) (sym (sym (c .before .holds .ensures) ∙ not-true _ (c .if1 .taken)))
 
--- src/lib.rt:420:1
 returns-2 : tie.Need-returns-2
 returns-2 c = let s = c .before .before in ap (λ (h : Bool). h && eqb (s .args .x) (s .args .y)) (sym (sym (c .before .holds .ensures) ∙ not-false _ (c .if1 .left)))
 

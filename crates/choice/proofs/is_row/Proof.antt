@@ -5,15 +5,12 @@ use Rattle.choice.proofs.is_row.Tie as tie
 use Rattle.choice.proofs.is_row.Reads as reads
 use Rattle.choice.proofs.is_row.Lts as lts
 
--- src/lib.rt:150:9
 returns : tie.Need-returns
 returns c = rw (ne-eqb _ _ (c .if1 .taken))
 
--- src/lib.rt:153:9
 returns-2 : tie.Need-returns-2
 returns-2 c = rw (eq-eqb _ _ (c .before .before .if1 .left), ne-eqb _ _ (c .if2 .taken))
 
--- src/lib.rt:146:1
 returns-3 : tie.Need-returns-3
 returns-3 c = rw (eq-eqb _ _ (c .before .before .if1 .left), eq-eqb _ _ (c .if2 .left))
 

@@ -9,11 +9,9 @@ use Rattle.choice.proofs.mark_of.Tie as tie
 use Rattle.choice.proofs.mark_of.Reads as reads
 use Rattle.choice.proofs.mark_of.Lts as lts
 
--- src/lib.rt:251:1
 returns : tie.Need-returns
 returns c = let n = c .before .before .args .c in (ap (λ (t : Bool). cond t 1 0) (sym (lt-ltb (n .plus) (n .minus) (omega (arith, c .if1 .taken)))), omega arith)
 
--- src/lib.rt:251:1
 returns-2 : tie.Need-returns-2
 returns-2 c = let n = c .before .before .args .c in (ap (λ (t : Bool). cond t 1 0) (sym (le-ltb (n .plus) (n .minus) (omega (arith, c .if1 .left)))), omega arith)
 

@@ -7,17 +7,14 @@ use Rattle.choice.proofs.most_s.Tie as tie
 use Rattle.choice.proofs.most_s.Reads as reads
 use Rattle.choice.proofs.most_s.Lts as lts
 
--- src/lib.rt:284:9
 returns : tie.Need-returns
 unfolding codesOf
 returns c = (rw (c .if1 .taken), omega arith)
 
--- src/lib.rt:287:9
 returns-2 : tie.Need-returns-2
 unfolding codesOf
 returns-2 c = (rw (c .if2 .taken), omega arith)
 
--- src/lib.rt:280:1
 returns-3 : tie.Need-returns-3
 unfolding codesOf
 returns-3 c = (rw (ne-eqb _ 40 (c .before .if1 .left), ne-eqb _ 80 (c .if2 .left)), omega arith)

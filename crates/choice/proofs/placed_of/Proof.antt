@@ -23,51 +23,39 @@ use Rattle.prefix.proofs.holds.Reads as holds-reads
 size : (s : tie.Start) → length (take (s .args .n) (s .args .samples .now)) ≡ s .args .n
 size s = length-take-le (s .args .n) (s .args .samples .now) (s .pre .0 .long)
 
--- src/lib.rt:243:9
 holds-requires : tie.Need-holds-requires
 holds-requires c κs = search needs
 
--- src/lib.rt:244:9
 nothing-placed-requires : tie.Need-nothing-placed-requires
 nothing-placed-requires c κs = search needs
 
--- src/lib.rt:244:9
 returns : tie.Need-returns
 returns c = let s = c .before .before .before .before in (not-placed (ap (λ (h : Bool). h && applies (s .args .mask) 7 (take (s .args .n) (s .args .samples .now))) (sym (c .before .before .holds .ensures) ∙ not-true _ (c .before .if1 .taken))) (c .nothing-placed .ensures .0) (c .nothing-placed .ensures .1), s .pre .1)
 
--- src/lib.rt:246:9
 row-of-requires : tie.Need-row-of-requires
 row-of-requires c κs = search needs
 
--- src/lib.rt:247:9
 located-applies-requires : tie.Need-located-applies-requires
 located-applies-requires c κs = search needs
 
--- src/lib.rt:248:9
 nothing-placed-requires-2 : tie.Need-nothing-placed-requires-2
 nothing-placed-requires-2 c κs = search needs
 
--- src/lib.rt:248:9
 returns-2 : tie.Need-returns-2
 returns-2 c = let s = c .before .before .before .before .before .before .before in (not-placed (ap (λ (z : Bool). holds (s .args .set) 7 && z) (sym (applied-is (s .pre .0 .looked) (size s) (s .pre .0 .counted) (c .before .before .before .row-of .ensures .0) (c .before .before .located-applies .ensures)) ∙ not-true _ (c .before .if2 .taken)) ∙ and-zero (holds (s .args .set) 7)) (c .nothing-placed2 .ensures .0) (c .nothing-placed2 .ensures .1), s .pre .1)
 
--- src/lib.rt:250:9
 flag-of-requires : tie.Need-flag-of-requires
 flag-of-requires c κs = search needs
 
--- src/lib.rt:251:9
 values-of-requires : tie.Need-values-of-requires
 values-of-requires c κs = let s = c .before .before .before .before .before .before .before in (s .pre .0 .seven, ltb-true _ _ (row-low (s .pre .0 .looked) (size s) (s .pre .0 .counted) (c .before .before .before .row-of .ensures .0) (c .before .before .located-applies .ensures) (not-false _ (c .before .if2 .left))))
 
--- src/lib.rt:252:9
 ways-of-requires : tie.Need-ways-of-requires
 ways-of-requires c κs = search needs
 
--- src/lib.rt:260:15
 add-t16 : tie.Need-add-t16
 add-t16 c = search needs
 
--- src/lib.rt:238:1
 returns-3 : tie.Need-returns-3
 returns-3 c = let s = c .before .before .before .before .before .before .before .before .before .before .before .before in (placed-for (s .pre .0 .looked) (size s) (s .pre .0 .counted) (c .before .before .before .before .before .before .before .before .row-of .ensures .0) (c .before .before .before .before .before .before .before .located-applies .ensures) (sym (c .before .before .before .before .before .before .before .before .before .before .holds .ensures) ∙ not-false _ (c .before .before .before .before .before .before .before .before .before .if1 .left)) (not-false _ (c .before .before .before .before .before .before .if2 .left)) (c .before .before .before .before .before .flag-of .ensures) (c .before .before .before .before .values-of .ensures) (c .before .before .ways-of .ensures .0), c .before .before .ways-of .ensures .1)
 

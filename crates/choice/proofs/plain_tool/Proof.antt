@@ -27,51 +27,39 @@ first s = sym (getD-take (s .args .n) (s .args .samples .now) 0 0 (s .pre .0 .0)
 one : (s : tie.Start) → s .args .l .mixed ≡ 0 → OneValue (s .args .mask) (s .args .set) (getD (s .args .samples .now) 0 0) (take (s .args .n) (s .args .samples .now))
 one s = one-of (s .args .set) (some s) (first s) (s .pre .1)
 
--- src/lib.rt:437:9
 spread-tool-requires : tie.Need-spread-tool-requires
 spread-tool-requires c κs = search needs
 
--- src/lib.rt:437:9
 returns : tie.Need-returns
 returns c = let s = c .before .before .before .before in spread (s .pre .0 .1 .1) (some s) (first s) (s .pre .1) (c .before .if1 .taken) (c .spread-tool .ensures)
 
--- src/lib.rt:439:17
 shared-slice-read-first : tie.Need-shared-slice-read-first
 shared-slice-read-first c = search needs
 
--- src/lib.rt:440:22
 plus-zero-requires : tie.Need-plus-zero-requires
 plus-zero-requires c κs = mask-seven _ (c .before .before .before .before .pre .0 .1 .1)
 
--- src/lib.rt:440:8
 is-for-requires : tie.Need-is-for-requires
 is-for-requires c κs = search needs
 
--- src/lib.rt:441:9
 returns-2 : tie.Need-returns-2
 returns-2 c = let s = c .before .before .before .before .before .before .before in let o = one s (c .before .before .before .before .if1 .left) in plus-settled _ _ _ (o .two ∙ for-zero _ 2 _ (c .before .is-for .ensures) (c .before .before .plus-zero .ensures) ∙ c .if2 .taken)
 
--- src/lib.rt:443:22
 minus-zero-requires : tie.Need-minus-zero-requires
 minus-zero-requires c κs = mask-seven _ (c .before .before .before .before .before .before .before .pre .0 .1 .1)
 
--- src/lib.rt:443:8
 is-for-requires-2 : tie.Need-is-for-requires-2
 is-for-requires-2 c κs = search needs
 
--- src/lib.rt:444:9
 returns-3 : tie.Need-returns-3
 returns-3 c = let s = c .before .before .before .before .before .before .before .before .before .before in let o = one s (c .before .before .before .before .before .before .before .if1 .left) in minus-settled _ _ _ (o .two ∙ for-zero _ 2 _ (c .before .before .before .before .is-for .ensures) (c .before .before .before .before .before .plus-zero .ensures) ∙ c .before .before .before .if2 .left) (o .three ∙ for-zero _ 3 _ (c .before .is-for2 .ensures) (c .before .before .minus-zero .ensures) ∙ c .if3 .taken)
 
--- src/lib.rt:446:8
 holds-requires : tie.Need-holds-requires
 holds-requires c κs = search needs
 
--- src/lib.rt:447:9
 returns-4 : tie.Need-returns-4
 returns-4 c = let s = c .before .before .before .before .before .before .before .before .before .before .before .before in let o = one s (c .before .before .before .before .before .before .before .before .before .if1 .left) in constant-settled _ _ _ (o .two ∙ for-zero _ 2 _ (c .before .before .before .before .before .before .is-for .ensures) (c .before .before .before .before .before .before .before .plus-zero .ensures) ∙ c .before .before .before .before .before .if2 .left) (o .three ∙ for-zero _ 3 _ (c .before .before .before .is-for2 .ensures) (c .before .before .before .before .minus-zero .ensures) ∙ c .before .before .if3 .left) (o .some) (o .four ∙ sym (c .before .holds .ensures) ∙ c .if4 .taken)
 
--- src/lib.rt:431:1
 returns-5 : tie.Need-returns-5
 returns-5 c = let s = c .before .before .before .before .before .before .before .before .before .before .before .before in let o = one s (c .before .before .before .before .before .before .before .before .before .if1 .left) in unsettled _ _ _ (o .two ∙ for-zero _ 2 _ (c .before .before .before .before .before .before .is-for .ensures) (c .before .before .before .before .before .before .before .plus-zero .ensures) ∙ c .before .before .before .before .before .if2 .left) (o .three ∙ for-zero _ 3 _ (c .before .before .before .is-for2 .ensures) (c .before .before .before .before .minus-zero .ensures) ∙ c .before .before .if3 .left) (o .four ∙ sym (c .before .holds .ensures) ∙ c .if4 .left)
 

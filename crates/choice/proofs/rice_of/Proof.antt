@@ -32,63 +32,48 @@ offer : (s : tie.Start) {h z : Bool} → holds (s .args .set) 6 ≡ h → applie
     → (holds (s .args .set) 6 && applies (s .args .mask) 6 (take (s .args .n) (s .args .samples .now))) ≡ (h && z)
 offer s e f = ap₂ _&&_ e f
 
--- src/lib.rt:353:9
 holds-requires : tie.Need-holds-requires
 holds-requires c κs = search needs
 
--- src/lib.rt:354:9
 no-rice-requires : tie.Need-no-rice-requires
 no-rice-requires c κs = search needs
 
--- src/lib.rt:354:9
 returns : tie.Need-returns
 returns c = let s = c .before .before .before .before in not-rice (ap (λ (h : Bool). h && applies (s .args .mask) 6 (take (s .args .n) (s .args .samples .now))) (sym (c .before .before .holds .ensures) ∙ not-true _ (c .before .if1 .taken))) (c .no-rice .ensures .0) (c .no-rice .ensures .1)
 
--- src/lib.rt:356:9
 two-zeros-requires : tie.Need-two-zeros-requires
 two-zeros-requires c κs = search needs
 
--- src/lib.rt:357:9
 no-rice-requires-2 : tie.Need-no-rice-requires-2
 no-rice-requires-2 c κs = search needs
 
--- src/lib.rt:357:9
 returns-2 : tie.Need-returns-2
 returns-2 c = let s = c .before .before .before .before .before .before in not-rice (ap (λ (z : Bool). holds (s .args .set) 6 && z) (sym (zeros-are (s .pre .0 .counted) (size s) 6 (rice-applies _ _) (c .before .before .two-zeros .ensures)) ∙ not-true _ (c .before .if2 .taken)) ∙ and-zero (holds (s .args .set) 6)) (c .no-rice2 .ensures .0) (c .no-rice2 .ensures .1)
 
--- src/lib.rt:359:9
 mark-of-requires : tie.Need-mark-of-requires
 mark-of-requires c κs = search needs
 
--- src/lib.rt:360:9
 common-zero-requires : tie.Need-common-zero-requires
 common-zero-requires c κs = search needs
 
--- src/lib.rt:361:9
 runs-of-requires : tie.Need-runs-of-requires
 runs-of-requires c κs = let s = c .before .before .before .before .before .before .before .before in (s .pre .0 .few, (s .pre .0 .long, s .pre .1))
 
--- src/lib.rt:362:17
 code-lengths-requires : tie.Need-code-lengths-requires
 code-lengths-requires c κs = search needs
 
--- src/lib.rt:363:46
 most-s-requires : tie.Need-most-s-requires
 most-s-requires c κs = search needs
 
--- src/lib.rt:363:9
 least-s-requires : tie.Need-least-s-requires
 least-s-requires c κs = search needs
 
--- src/lib.rt:368:15
 start-bits-requires : tie.Need-start-bits-requires
 start-bits-requires c κs = search needs
 
--- src/lib.rt:368:15
 add-t19 : tie.Need-add-t19
 add-t19 c = search needs
 
--- src/lib.rt:348:1
 returns-3 : tie.Need-returns-3
 returns-3 c = let s = c .before .before .before .before .before .before .before .before .before .before .before .before .before .before .before .before in rice-for (s .pre .0 .counted) (size s) (offer s (sym (c .before .before .before .before .before .before .before .before .before .before .before .before .before .before .holds .ensures) ∙ not-false _ (c .before .before .before .before .before .before .before .before .before .before .before .before .before .if1 .left)) (sym (zeros-are (s .pre .0 .counted) (size s) 6 (rice-applies _ _) (c .before .before .before .before .before .before .before .before .before .before .before .before .two-zeros .ensures)) ∙ not-false _ (c .before .before .before .before .before .before .before .before .before .before .before .if2 .left))) (c .before .before .before .before .before .before .before .before .before .before .mark-of .ensures .0) (c .before .before .before .before .before .before .before .before .before .common-zero .ensures) (c .before .before .before .before .before .before .before .runs-of .ensures) (c .before .before .before .before .before .before .code-lengths .ensures) (c .before .before .before .most-s .ensures .0) (c .before .before .before .most-s .ensures .1 .1) (c .before .before .least-s .ensures) (c .before .start-bits .ensures)
 

@@ -8,43 +8,34 @@ use Rattle.choice.proofs.row_of.Reads as reads
 use Rattle.choice.proofs.row_of.Lts as lts
 use Rattle.choice.proofs.is_row.Reads as is-row-reads
 
--- src/lib.rt:162:8
 is-row-requires : tie.Need-is-row-requires
 is-row-requires c κs = search needs
 
--- src/lib.rt:163:9
 returns : tie.Need-returns
 unfolding rowBy
 returns c = (rw (sym (c .before .is-row .ensures) ∙ c .if1 .taken), omega arith)
 
--- src/lib.rt:165:8
 is-row-requires-2 : tie.Need-is-row-requires-2
 is-row-requires-2 c κs = search needs
 
--- src/lib.rt:166:9
 returns-2 : tie.Need-returns-2
 unfolding rowBy
 returns-2 c = (rw (sym (c .before .before .before .is-row .ensures) ∙ c .before .before .if1 .left, sym (c .before .is-row2 .ensures) ∙ c .if2 .taken), omega arith)
 
--- src/lib.rt:168:8
 is-row-requires-3 : tie.Need-is-row-requires-3
 is-row-requires-3 c κs = search needs
 
--- src/lib.rt:169:9
 returns-3 : tie.Need-returns-3
 unfolding rowBy
 returns-3 c = (rw (sym (c .before .before .before .before .before .is-row .ensures) ∙ c .before .before .before .before .if1 .left, sym (c .before .before .before .is-row2 .ensures) ∙ c .before .before .if2 .left, sym (c .before .is-row3 .ensures) ∙ c .if3 .taken), omega arith)
 
--- src/lib.rt:171:8
 is-row-requires-4 : tie.Need-is-row-requires-4
 is-row-requires-4 c κs = search needs
 
--- src/lib.rt:172:9
 returns-4 : tie.Need-returns-4
 unfolding rowBy
 returns-4 c = (rw (sym (c .before .before .before .before .before .before .before .is-row .ensures) ∙ c .before .before .before .before .before .before .if1 .left, sym (c .before .before .before .before .before .is-row2 .ensures) ∙ c .before .before .before .before .if2 .left, sym (c .before .before .before .is-row3 .ensures) ∙ c .before .before .if3 .left, sym (c .before .is-row4 .ensures) ∙ c .if4 .taken), omega arith)
 
--- src/lib.rt:159:1
 returns-5 : tie.Need-returns-5
 unfolding rowBy
 returns-5 c = (rw (sym (c .before .before .before .before .before .before .before .is-row .ensures) ∙ c .before .before .before .before .before .before .if1 .left, sym (c .before .before .before .before .before .is-row2 .ensures) ∙ c .before .before .before .before .if2 .left, sym (c .before .before .before .is-row3 .ensures) ∙ c .before .before .if3 .left, sym (c .before .is-row4 .ensures) ∙ c .if4 .left), omega arith)

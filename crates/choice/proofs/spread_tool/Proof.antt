@@ -8,15 +8,12 @@ use Rattle.choice.proofs.spread_tool.Tie as tie
 use Rattle.choice.proofs.spread_tool.Reads as reads
 use Rattle.choice.proofs.spread_tool.Lts as lts
 
--- src/lib.rt:411:9
 returns : tie.Need-returns
 returns c = rw (lt-leb 126 (c .before .args .least) (omega (arith, c .if1 .taken)))
 
--- src/lib.rt:414:9
 returns-2 : tie.Need-returns-2
 returns-2 c = rw (lt-leb (c .before .before .args .greatest) 129 (omega (arith, c .if2 .taken)), and-zero _)
 
--- src/lib.rt:407:1
 returns-3 : tie.Need-returns-3
 returns-3 c = rw (le-leb 126 (c .before .before .args .least) (omega (arith, c .before .if1 .left)), le-leb (c .before .before .args .greatest) 129 (omega (arith, c .if2 .left)))
 

@@ -8,11 +8,9 @@ use Rattle.choice.proofs.start_bits.Tie as tie
 use Rattle.choice.proofs.start_bits.Reads as reads
 use Rattle.choice.proofs.start_bits.Lts as lts
 
--- src/lib.rt:293:1
 returns : tie.Need-returns
 returns c = record { says = λ mark. rw (le-leb 240 _ (c .if1 .taken), length-append, length-lowBits); small = omega arith }
 
--- src/lib.rt:293:1
 returns-2 : tie.Need-returns-2
 returns-2 c = record { says = λ mark. rw (lt-leb 240 _ (c .if1 .left), length-append, length-lowBits); small = omega arith }
 

@@ -8,19 +8,15 @@ use Rattle.choice.proofs.two_zeros.Reads as reads
 use Rattle.choice.proofs.two_zeros.Lts as lts
 use Rattle.choice.proofs.sized.Reads as sized-reads
 
--- src/lib.rt:345:5
 sized-requires : tie.Need-sized-requires
 sized-requires c κs = search needs
 
--- src/lib.rt:345:21
 sized-requires-2 : tie.Need-sized-requires-2
 sized-requires-2 c κs = search needs
 
--- src/lib.rt:345:5
 add-result : tie.Need-add-result
 add-result c = search needs
 
--- src/lib.rt:342:1
 returns : tie.Need-returns
 returns c = ap (λ (k : ℕ). eqb k (c .before .before .args .n)) (ap₂ _+_ (c .before .sized .ensures .0) (c .sized2 .ensures .0))
 

@@ -11,55 +11,42 @@ use Rattle.choice.proofs.narrow.Reads as narrow-reads
 use Rattle.measure.proofs.least_s.Reads as least-s-reads
 use Rattle.measure.proofs.width_of.Reads as width-of-reads
 
--- src/lib.rt:60:9
 returns : tie.Need-returns
 returns c = record { way = λ flags e f. way-absent (f .ones) (c .if1 .taken) }
 
--- src/lib.rt:63:9
 least-s-requires : tie.Need-least-s-requires
 least-s-requires c κs = search needs
 
--- src/lib.rt:67:19
 add-t11 : tie.Need-add-t11
 add-t11 c = search needs
 
--- src/lib.rt:65:9
 returns-2 : tie.Need-returns-2
 returns-2 c = record { way = λ flags e f. way-binary (f .ones) (c .before .before .before .before .if1 .left) (fewest (sym e) (c .before .before .least-s .ensures)) (f .size) (f .most) (c .if2 .taken) }
 
--- src/lib.rt:71:17
 narrow-requires : tie.Need-narrow-requires
 narrow-requires c κs = search needs
 
--- src/lib.rt:72:15
 add-listed : tie.Need-add-listed
 add-listed c = search needs
 
--- src/lib.rt:75:9
 returns-3 : tie.Need-returns-3
 returns-3 c = record { way = λ flags e f. way-often (f .ones) (c .before .before .before .before .before .before .before .if1 .left) (fewest (sym e) (c .before .before .before .before .before .least-s .ensures)) (f .size) (f .most) (c .before .before .before .if2 .left) (c .before .before .narrow .ensures) (c .if3 .taken) }
 
--- src/lib.rt:77:26
 width-of-requires : tie.Need-width-of-requires
 width-of-requires c κs = search needs
 
--- src/lib.rt:77:18
 mul-listed : tie.Need-mul-listed
 mul-listed c = omega (arith, listed-small {n = c .before .before .before .before .before .before .before .before .before .args .count} (c .before .if3 .left) (c .width-of .ensures .1 .0))
 
--- src/lib.rt:77:18
 add-listed-2 : tie.Need-add-listed-2
 add-listed-2 c = omega (arith, listed-small {n = c .before .before .before .before .before .before .before .before .before .args .count} (c .before .if3 .left) (c .width-of .ensures .1 .0))
 
--- src/lib.rt:79:9
 returns-4 : tie.Need-returns-4
 returns-4 c = record { way = λ flags e f. way-runs (f .ones) (c .before .before .before .before .before .before .before .before .before .before .if1 .left) (fewest (sym e) (c .before .before .before .before .before .before .before .before .least-s .ensures)) (f .size) (f .most) (c .before .before .before .before .before .before .if2 .left) (c .before .before .before .before .before .narrow .ensures) (c .before .before .before .if3 .left) (c .before .before .width-of .ensures .0) (c .if4 .taken) }
 
--- src/lib.rt:83:15
 add-t14 : tie.Need-add-t14
 add-t14 c = search needs
 
--- src/lib.rt:55:1
 returns-5 : tie.Need-returns-5
 returns-5 c = record { way = λ flags e f. way-listed (f .ones) (c .before .before .before .before .before .before .before .before .before .before .if1 .left) (fewest (sym e) (c .before .before .before .before .before .before .before .before .least-s .ensures)) (f .size) (f .most) (below-all flags (f .bits)) (c .before .before .before .before .before .before .if2 .left) _ (c .before .before .before .if3 .left) (c .before .before .width-of .ensures .0) (c .if4 .left) }
 

@@ -20,59 +20,45 @@ Inv-loop samples n runs₀ values most cells₀ d₀ methods₀ bits₀ j₀ run
 abbrev μ-loop : tie.MeasureT-loop
 μ-loop samples n runs₀ values most cells₀ d₀ methods₀ bits₀ j₀ runs cells d methods bits j = most - j
 
--- src/lib.rt:95:21
 copy-of-requires : tie.Need-copy-of-requires Inv-loop μ-loop
 copy-of-requires c κs = search needs
 
--- src/lib.rt:100:5
 loop-holds : tie.Need-loop-holds Inv-loop μ-loop
 loop-holds c = let p = c .before .before .before .pre in (p .0 .1 .1, ways-start _ _ _ _ _ (c .copy-of .ensures) (p .0 .0) (p .1 .0) (p .1 .1))
 
--- src/lib.rt:101:17
 array-read-x : tie.Need-array-read-x Inv-loop μ-loop
 array-read-x c = search needs
 
--- src/lib.rt:102:29
 slice-aggregate-runs-of : tie.Need-slice-aggregate-runs-of Inv-loop μ-loop
 slice-aggregate-runs-of c = search needs
 
--- src/lib.rt:102:13
 runs-of-requires : tie.Need-runs-of-requires Inv-loop μ-loop
 runs-of-requires c κs = let i = c .before .before .before .loop .inv in (i .1 .few, (omega (arith, i .1 .left, i .1 .few), i .0))
 
--- src/lib.rt:103:13
 without-value-requires : tie.Need-without-value-requires Inv-loop μ-loop
 without-value-requires c κs = let i = c .before .before .before .before .before .loop .inv in (i .1 .few, i .1 .left)
 
--- src/lib.rt:104:42
 sub-way-of : tie.Need-sub-way-of Inv-loop μ-loop
 sub-way-of c = search needs
 
--- src/lib.rt:104:13
 way-of-requires : tie.Need-way-of-requires Inv-loop μ-loop
 way-of-requires c κs = let i = c .before .before .before .before .before .before .before .loop .inv in let r = c .before .before .before .runs-of .ensures in (r .few, (omega (arith, r .few, r .size), i .1 .few))
 
--- src/lib.rt:105:9
 array-write-methods : tie.Need-array-write-methods Inv-loop μ-loop
 array-write-methods c = search needs
 
--- src/lib.rt:106:9
 add-bits : tie.Need-add-bits Inv-loop μ-loop
 add-bits c = let i = c .before .before .before .before .before .before .before .before .before .loop .inv in let w = way-is _ (i .1) (c .before .before .before .before .before .runs-of .ensures) (c .before .before .before .without-value .ensures) (c .before .way-of .ensures) in omega (arith, i .1 .small, i .1 .within, i .1 .most, w .small)
 
--- src/lib.rt:108:9
 add-j : tie.Need-add-j Inv-loop μ-loop
 add-j c = search needs
 
--- src/lib.rt:100:5
 loop-less : tie.Need-loop-less Inv-loop μ-loop
 loop-less c = omega (arith, c .before .before .before .before .before .before .before .before .loop-test .taken)
 
--- src/lib.rt:100:5
 loop-again : tie.Need-loop-again Inv-loop μ-loop
 loop-again c = let s = c .before .before .before .before .before .before .before .before .before .before .before .before .before in let i = c .before .before .before .before .before .before .before .before .before .loop .inv in let k = length-take-le (s .args .v .count) (s .args .v .values) (omega (arith, s .pre .1 .0, s .pre .1 .1)) in (c .before .before .before .before .before .runs-of .ensures .size, ways-turn (i .1) (omega (arith, c .before .before .before .before .before .before .before .before .loop-test .taken)) (sym (getD-take (s .args .v .count) (s .args .v .values) (c .before .before .before .before .before .before .before .before .before .loop .j) 0 (c .before .before .before .before .before .before .before .before .loop-test .taken))) (c .before .before .before .before .before .runs-of .ensures) (c .before .before .before .without-value .ensures) (c .before .way-of .ensures))
 
--- src/lib.rt:88:1
 returns : tie.Need-returns Inv-loop μ-loop
 returns c = let s = c .before .before .before .before .before in let k = length-take-le (s .args .v .count) (s .args .v .values) (omega (arith, s .pre .1 .0, s .pre .1 .1)) in (ways-done (c .before .loop .inv .1) (omega (arith, c .loop-test .left)), c .before .loop .inv .0)
 

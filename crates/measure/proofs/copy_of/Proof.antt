@@ -16,31 +16,24 @@ Inv-loop samples n cells₀ i₀ cells i = (i ≤ n) × CopyIs (take i samples) 
 abbrev μ-loop : tie.MeasureT-loop
 μ-loop samples n cells₀ i₀ cells i = n - i
 
--- src/lib.rt:272:5
 loop-holds : tie.Need-loop-holds Inv-loop μ-loop
 loop-holds c = (omega arith, record { says = refl; size = refl })
 
--- src/lib.rt:273:20
 shared-slice-read-cells : tie.Need-shared-slice-read-cells Inv-loop μ-loop
 shared-slice-read-cells c = search needs
 
--- src/lib.rt:273:9
 array-write-cells : tie.Need-array-write-cells Inv-loop μ-loop
 array-write-cells c = search needs
 
--- src/lib.rt:274:9
 add-i : tie.Need-add-i Inv-loop μ-loop
 add-i c = search needs
 
--- src/lib.rt:272:5
 loop-less : tie.Need-loop-less Inv-loop μ-loop
 loop-less c = search needs
 
--- src/lib.rt:272:5
 loop-again : tie.Need-loop-again Inv-loop μ-loop
 loop-again c = let s = c .before .before .before in let l = c .before .before .loop in (omega arith, copy-turn (s .args .samples .now) (l .cells) (l .i) (l .inv .1) (omega arith) (omega arith))
 
--- src/lib.rt:266:1
 returns : tie.Need-returns Inv-loop μ-loop
 returns c = let e : c .before .loop .i ≡ c .before .before .args .n = omega arith in rw e at (c .before .loop .inv .1)
 

@@ -6,11 +6,9 @@ use Rattle.measure.proofs.differ.Tie as tie
 use Rattle.measure.proofs.differ.Reads as reads
 use Rattle.measure.proofs.differ.Lts as lts
 
--- src/lib.rt:198:1
 returns : tie.Need-returns
 returns c = simp (eq-eqb _ _ (c .if1 .taken)) refl
 
--- src/lib.rt:198:1
 returns-2 : tie.Need-returns-2
 returns-2 c = simp (ne-eqb _ _ (c .if1 .left)) refl
 

@@ -19,59 +19,45 @@ Inv-loop runs count extra most best₀ k₀ best k = Leasting (bitsWith extra (t
 abbrev μ-loop : tie.MeasureT-loop
 μ-loop runs count extra most best₀ k₀ best k = most + 1 - k
 
--- src/lib.rt:131:21
 element-copy-out-octet : tie.Need-element-copy-out-octet Inv-loop μ-loop
 element-copy-out-octet c = search needs
 
--- src/lib.rt:131:15
 octet-requires : tie.Need-octet-requires Inv-loop μ-loop
 octet-requires c κs = search needs
 
--- src/lib.rt:131:33
 run-bits-requires : tie.Need-run-bits-requires Inv-loop μ-loop
 run-bits-requires c κs = search needs
 
--- src/lib.rt:131:15
 add-t13 : tie.Need-add-t13 Inv-loop μ-loop
 add-t13 c = search needs
 
--- src/lib.rt:134:5
 loop-holds : tie.Need-loop-holds Inv-loop μ-loop
 loop-holds c = least-start _ _ _ (omega arith) (ap₂ _+_ (c .before .octet .ensures .0) (c .run-bits .ensures .0)) (omega (arith, c .before .octet .ensures .1, c .run-bits .ensures .1))
 
--- src/lib.rt:135:26
 element-copy-out-octet-2 : tie.Need-element-copy-out-octet-2 Inv-loop μ-loop
 element-copy-out-octet-2 c = search needs
 
--- src/lib.rt:135:20
 octet-requires-2 : tie.Need-octet-requires-2 Inv-loop μ-loop
 octet-requires-2 c κs = search needs
 
--- src/lib.rt:135:38
 run-bits-requires-2 : tie.Need-run-bits-requires-2 Inv-loop μ-loop
 run-bits-requires-2 c κs = search needs
 
--- src/lib.rt:135:20
 add-bits : tie.Need-add-bits Inv-loop μ-loop
 add-bits c = search needs
 
--- src/lib.rt:136:9
 lesser-requires : tie.Need-lesser-requires Inv-loop μ-loop
 lesser-requires c κs = search needs
 
--- src/lib.rt:137:9
 add-k : tie.Need-add-k Inv-loop μ-loop
 add-k c = search needs
 
--- src/lib.rt:134:5
 loop-less : tie.Need-loop-less Inv-loop μ-loop
 loop-less c = search needs
 
--- src/lib.rt:134:5
 loop-again : tie.Need-loop-again Inv-loop μ-loop
 loop-again c = least-turn (c .before .before .before .before .before .loop .k) _ (c .before .before .before .before .before .loop .inv) (c .before .before .before .before .loop-test .taken) (ap₂ _+_ (c .before .before .octet2 .ensures .0) (c .before .run-bits2 .ensures .0)) (omega (arith, c .before .before .octet2 .ensures .1, c .before .run-bits2 .ensures .1)) (c .lesser .ensures .0) (c .lesser .ensures .1)
 
--- src/lib.rt:124:1
 returns : tie.Need-returns Inv-loop μ-loop
 returns c = least-done _ (c .before .loop .inv) (c .loop-test .left)
 

@@ -7,11 +7,9 @@ use Rattle.measure.proofs.less.Tie as tie
 use Rattle.measure.proofs.less.Reads as reads
 use Rattle.measure.proofs.less.Lts as lts
 
--- src/lib.rt:182:1
 returns : tie.Need-returns
 returns c = simp (lt-ltb _ _ (c .if1 .taken)) (refl, omega arith)
 
--- src/lib.rt:182:1
 returns-2 : tie.Need-returns-2
 returns-2 c = simp (le-ltb _ _ (c .if1 .left)) (refl, omega arith)
 

@@ -6,11 +6,9 @@ use Rattle.measure.proofs.lesser.Tie as tie
 use Rattle.measure.proofs.lesser.Reads as reads
 use Rattle.measure.proofs.lesser.Lts as lts
 
--- src/lib.rt:118:9
 returns : tie.Need-returns
 returns c = simp (lt-ltb _ _ (c .if1 .taken)) (refl, refl)
 
--- src/lib.rt:114:1
 returns-2 : tie.Need-returns-2
 returns-2 c = simp (le-ltb _ _ (c .if1 .left)) (refl, refl)
 

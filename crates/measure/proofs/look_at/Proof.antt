@@ -19,51 +19,39 @@ Inv-loop samples n mask first l₀ i₀ l i = LookTurn samples n mask first l i
 abbrev μ-loop : tie.MeasureT-loop
 μ-loop samples n mask first l₀ i₀ l i = n - i
 
--- src/lib.rt:210:17
 shared-slice-read-first : tie.Need-shared-slice-read-first Inv-loop μ-loop
 shared-slice-read-first c = search needs
 
--- src/lib.rt:217:5
 loop-holds : tie.Need-loop-holds Inv-loop μ-loop
 loop-holds c = record { looked = looked-none _ _ (c .before .before .args .samples .now); within = omega arith }
 
--- src/lib.rt:218:17
 shared-slice-read-x : tie.Need-shared-slice-read-x Inv-loop μ-loop
 shared-slice-read-x c = search needs
 
--- src/lib.rt:219:13
 line-of-requires : tie.Need-line-of-requires Inv-loop μ-loop
 line-of-requires c κs = search needs
 
--- src/lib.rt:221:20
 lower-requires : tie.Need-lower-requires Inv-loop μ-loop
 lower-requires c κs = search needs
 
--- src/lib.rt:222:23
 higher-requires : tie.Need-higher-requires Inv-loop μ-loop
 higher-requires c κs = search needs
 
--- src/lib.rt:223:36
 differ-requires : tie.Need-differ-requires Inv-loop μ-loop
 differ-requires c κs = search needs
 
--- src/lib.rt:223:20
 higher-requires-2 : tie.Need-higher-requires-2 Inv-loop μ-loop
 higher-requires-2 c κs = search needs
 
--- src/lib.rt:225:9
 add-i : tie.Need-add-i Inv-loop μ-loop
 add-i c = search needs
 
--- src/lib.rt:217:5
 loop-less : tie.Need-loop-less Inv-loop μ-loop
 loop-less c = search needs
 
--- src/lib.rt:217:5
 loop-again : tie.Need-loop-again Inv-loop μ-loop
 loop-again c = let s = c .before .before .before .before .before .before .before .before .before .before .args .samples .now in let l = c .before .before .before .before .before .before .before .loop in let o = l .inv .looked in let h : l .i < length s = omega (arith, c .before .before .before .before .before .before .loop-test .taken, c .before .before .before .before .before .before .before .before .before .before .pre .1) in let p = c .before .before .before .before .line-of .ensures in record { looked = record { least = c .before .before .before .lower .ensures ∙ least-more s (l .i) h _ (o .least) p; greatest = c .before .before .higher .ensures ∙ greatest-more s (l .i) h _ (o .greatest) p; mixed = same-more s (l .i) h _ (l .l .mixed) (o .mixed) (c .before .differ .ensures) (c .higher2 .ensures) }; within = omega (arith, c .before .before .before .before .before .before .loop-test .taken) }
 
--- src/lib.rt:206:1
 returns : tie.Need-returns Inv-loop μ-loop
 returns c = let e : c .before .loop .i ≡ c .before .before .before .before .args .n = omega arith in rw e at (c .before .loop .inv .looked)
 

@@ -18,35 +18,27 @@ Inv-loop samples n x hit miss flags₀ i₀ flags i = (i ≤ n) × Flagged (mark
 abbrev μ-loop : tie.MeasureT-loop
 μ-loop samples n x hit miss flags₀ i₀ flags i = n - i
 
--- src/lib.rt:38:5
 loop-holds : tie.Need-loop-holds Inv-loop μ-loop
 loop-holds c = (omega arith, marks-none refl (zeros-small 320))
 
--- src/lib.rt:39:25
 shared-slice-read-pick : tie.Need-shared-slice-read-pick Inv-loop μ-loop
 shared-slice-read-pick c = search needs
 
--- src/lib.rt:39:20
 pick-requires : tie.Need-pick-requires Inv-loop μ-loop
 pick-requires c κs = search needs
 
--- src/lib.rt:39:9
 array-write-flags : tie.Need-array-write-flags Inv-loop μ-loop
 array-write-flags c = search needs
 
--- src/lib.rt:40:9
 add-i : tie.Need-add-i Inv-loop μ-loop
 add-i c = search needs
 
--- src/lib.rt:38:5
 loop-less : tie.Need-loop-less Inv-loop μ-loop
 loop-less c = search needs
 
--- src/lib.rt:38:5
 loop-again : tie.Need-loop-again Inv-loop μ-loop
 loop-again c = let s = c .before .before .before .before .before in let l = c .before .before .before .loop in (omega arith, marks-again (s .args .x) (s .args .hit) (s .args .miss) (s .args .samples .now) (l .flags) (s .args .n) (l .i) _ (s .pre .1 .0) (s .pre .1 .1) (s .pre .0 .0) (s .pre .0 .1) (l .inv .1) (c .before .before .loop-test .taken) (c .pick .ensures))
 
--- src/lib.rt:31:1
 returns : tie.Need-returns Inv-loop μ-loop
 returns c = let e : c .before .loop .i ≡ c .before .before .before .args .n = omega arith in rw e at (c .before .loop .inv .1)
 

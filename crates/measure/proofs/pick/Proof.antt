@@ -5,11 +5,9 @@ use Rattle.measure.proofs.pick.Tie as tie
 use Rattle.measure.proofs.pick.Reads as reads
 use Rattle.measure.proofs.pick.Lts as lts
 
--- src/lib.rt:24:1
 returns : tie.Need-returns
 returns c = rw (eq-eqb _ _ (c .if1 .taken))
 
--- src/lib.rt:24:1
 returns-2 : tie.Need-returns-2
 returns-2 c = rw (ne-eqb _ _ (c .if1 .left))
 

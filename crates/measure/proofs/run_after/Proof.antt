@@ -5,15 +5,12 @@ use Rattle.measure.proofs.run_after.Tie as tie
 use Rattle.measure.proofs.run_after.Reads as reads
 use Rattle.measure.proofs.run_after.Lts as lts
 
--- src/lib.rt:50:17
 add-result : tie.Need-add-result
 add-result c = search needs
 
--- src/lib.rt:46:1
 returns : tie.Need-returns
 returns c = rw (eq-eqb _ _ (c .if1 .taken))
 
--- src/lib.rt:46:1
 returns-2 : tie.Need-returns-2
 returns-2 c = rw (ne-eqb _ _ (c .if1 .left))
 

@@ -18,55 +18,42 @@ Inv-loop runs count s zeros₀ j₀ zeros j = (j ≤ count) × ((zeros + j * (1 
 abbrev μ-loop : tie.MeasureT-loop
 μ-loop runs count s zeros₀ j₀ zeros j = count - j
 
--- src/lib.rt:119:5
 loop-holds : tie.Need-loop-holds Inv-loop μ-loop
 loop-holds c = (omega arith, (bits-none (c .args .s) (c .args .runs .now), omega arith))
 
--- src/lib.rt:120:27
 mul-zeros-of : tie.Need-mul-zeros-of Inv-loop μ-loop
 mul-zeros-of c = search needs
 
--- src/lib.rt:120:27
 element-copy-out-zeros-of : tie.Need-element-copy-out-zeros-of Inv-loop μ-loop
 element-copy-out-zeros-of c = search needs
 
--- src/lib.rt:120:18
 zeros-of-requires : tie.Need-zeros-of-requires Inv-loop μ-loop
 zeros-of-requires c κs = search needs
 
--- src/lib.rt:120:9
 add-zeros : tie.Need-add-zeros Inv-loop μ-loop
 add-zeros c = search needs
 
--- src/lib.rt:121:9
 add-j : tie.Need-add-j Inv-loop μ-loop
 add-j c = search needs
 
--- src/lib.rt:119:5
 loop-less : tie.Need-loop-less Inv-loop μ-loop
 loop-less c = search needs
 
--- src/lib.rt:119:5
 loop-again : tie.Need-loop-again Inv-loop μ-loop
 loop-again c = let s = c .before .before .before .before in let l = c .before .before .before .loop in (omega arith, (bits-turn (s .args .s) (s .args .runs .now) (l .j) (l .zeros) _ (omega arith) (l .inv .1 .0) (c .zeros-of .ensures .0), omega (arith, c .zeros-of .ensures .1)))
 
--- src/lib.rt:123:5
 cast-result : tie.Need-cast-result Inv-loop μ-loop
 cast-result c = search needs
 
--- src/lib.rt:123:31
 add-result : tie.Need-add-result Inv-loop μ-loop
 add-result c = search needs
 
--- src/lib.rt:123:22
 mul-result : tie.Need-mul-result Inv-loop μ-loop
 mul-result c = let few = mul-le-mul {m₁ = 1 + c .before .before .args .s} {n₂ = 321} {m₂ = 16} (c .before .before .pre .1 .0) (omega (arith, c .before .before .pre .0)) in omega arith
 
--- src/lib.rt:123:5
 add-result-2 : tie.Need-add-result-2 Inv-loop μ-loop
 add-result-2 c = let few = mul-le-mul {m₁ = 1 + c .before .before .args .s} {n₂ = 321} {m₂ = 16} (c .before .before .pre .1 .0) (omega (arith, c .before .before .pre .0)) in omega arith
 
--- src/lib.rt:113:1
 returns : tie.Need-returns Inv-loop μ-loop
 returns c = let few = mul-le-mul {m₁ = 1 + c .before .before .args .s} {n₂ = 321} {m₂ = 16} (c .before .before .pre .1 .0) (omega (arith, c .before .before .pre .0)) in let e : c .before .loop .j ≡ c .before .before .args .count = omega arith in (rw e at (c .before .loop .inv .1 .0), omega arith)
 

@@ -19,63 +19,48 @@ Inv-loop samples n x hit miss runs₀ count₀ v₀ i₀ runs count v i = Findin
 abbrev μ-loop : tie.MeasureT-loop
 μ-loop samples n x hit miss runs₀ count₀ v₀ i₀ runs count v i = n - i
 
--- src/lib.rt:93:5
 loop-holds : tie.Need-loop-holds Inv-loop μ-loop
 loop-holds c = let s = c .before in find-first (s .args .x) (s .args .hit) (s .args .miss) (s .args .samples .now) (s .args .runs .now) (s .args .n) (s .pre .1 .0) (s .pre .0) (s .pre .1 .1)
 
--- src/lib.rt:94:9
 mul-runs : tie.Need-mul-runs Inv-loop μ-loop
 mul-runs c = search needs
 
--- src/lib.rt:94:9
 element-write-runs : tie.Need-element-write-runs Inv-loop μ-loop
 element-write-runs c = search needs
 
--- src/lib.rt:95:22
 shared-slice-read-pick : tie.Need-shared-slice-read-pick Inv-loop μ-loop
 shared-slice-read-pick c = search needs
 
--- src/lib.rt:95:13
 pick-requires : tie.Need-pick-requires Inv-loop μ-loop
 pick-requires c κs = search needs
 
--- src/lib.rt:96:29
 wide-requires : tie.Need-wide-requires Inv-loop μ-loop
 wide-requires c κs = search needs
 
--- src/lib.rt:96:9
 count-after-requires : tie.Need-count-after-requires Inv-loop μ-loop
 count-after-requires c κs = search needs
 
--- src/lib.rt:97:9
 run-after-requires : tie.Need-run-after-requires Inv-loop μ-loop
 run-after-requires c κs = search needs
 
--- src/lib.rt:98:9
 add-i : tie.Need-add-i Inv-loop μ-loop
 add-i c = search needs
 
--- src/lib.rt:93:5
 loop-less : tie.Need-loop-less Inv-loop μ-loop
 loop-less c = search needs
 
--- src/lib.rt:93:5
 loop-again : tie.Need-loop-again Inv-loop μ-loop
 loop-again c = let s = c .before .before .before .before .before .before .before .before in let l = c .before .before .before .before .before .before .loop in find-again (s .args .x) (s .args .hit) (s .args .miss) (s .args .samples .now) (l .runs) (s .args .n) (l .count) (l .v) (l .i) (s .pre .1 .0) (l .inv) _ _ _ _ (c .before .before .before .before .before .loop-test .taken) (c .before .before .before .pick .ensures) (c .before .before .wide .ensures) (c .before .count-after .ensures) (c .run-after .ensures)
 
--- src/lib.rt:100:5
 mul-runs-2 : tie.Need-mul-runs-2 Inv-loop μ-loop
 mul-runs-2 c = search needs
 
--- src/lib.rt:100:5
 element-write-runs-2 : tie.Need-element-write-runs-2 Inv-loop μ-loop
 element-write-runs-2 c = search needs
 
--- src/lib.rt:101:5
 count-after-requires-2 : tie.Need-count-after-requires-2 Inv-loop μ-loop
 count-after-requires-2 c κs = search needs
 
--- src/lib.rt:86:1
 returns : tie.Need-returns Inv-loop μ-loop
 returns c = let s = c .before .before .before .before in let l = c .before .before .loop in find-done (s .args .x) (s .args .hit) (s .args .miss) (s .args .samples .now) (l .runs) (s .args .n) (l .count) (l .v) (l .i) (s .pre .1 .0) (l .inv) _ (omega (arith, c .before .loop-test .left)) (c .count-after2 .ensures)
 

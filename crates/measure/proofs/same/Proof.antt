@@ -7,11 +7,9 @@ use Rattle.measure.proofs.same.Tie as tie
 use Rattle.measure.proofs.same.Reads as reads
 use Rattle.measure.proofs.same.Lts as lts
 
--- src/lib.rt:176:1
 returns : tie.Need-returns
 returns c = simp (eq-eqb _ _ (c .if1 .taken)) (refl, omega arith)
 
--- src/lib.rt:176:1
 returns-2 : tie.Need-returns-2
 returns-2 c = simp (ne-eqb _ _ (c .if1 .left)) (refl, omega arith)
 

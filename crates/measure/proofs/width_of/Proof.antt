@@ -21,27 +21,21 @@ abbrev μ-loop : tie.MeasureT-loop
 tested : (c : tie.In-loop Inv-loop μ-loop) → 2 ^ (c .before .loop .w) < c .before .before .args .d
 tested c = rw (one-shifted (c .before .loop .w) (omega arith)) at (c .loop-test .taken)
 
--- src/lib.rt:154:5
 loop-holds : tie.Need-loop-holds Inv-loop μ-loop
 loop-holds c = (rw sub-zero, omega arith)
 
--- src/lib.rt:154:12
 shl-loop : tie.Need-shl-loop Inv-loop μ-loop
 shl-loop c = omega arith
 
--- src/lib.rt:155:9
 add-w : tie.Need-add-w Inv-loop μ-loop
 add-w c = omega arith
 
--- src/lib.rt:154:5
 loop-less : tie.Need-loop-less Inv-loop μ-loop
 loop-less c = let h = width-small _ _ (tested c) (c .before .before .pre) in omega arith
 
--- src/lib.rt:154:5
 loop-again : tie.Need-loop-again Inv-loop μ-loop
 loop-again c = let h = width-small _ _ (tested c) (c .before .before .pre) in (width-turn _ _ (tested c) (c .before .loop .inv .0), omega arith)
 
--- src/lib.rt:149:1
 returns : tie.Need-returns Inv-loop μ-loop
 returns c = let e = rw (one-shifted (c .before .loop .w) (omega arith)) at (c .loop-test .left) in (width-done _ _ e (c .before .loop .inv .0), (omega arith, e))
 

@@ -16,35 +16,27 @@ Inv-loop cells₀ d x kept₀ i₀ cells kept i = Leaving x cells₀ (take d cel
 abbrev μ-loop : tie.MeasureT-loop
 μ-loop cells₀ d x kept₀ i₀ cells kept i = d - i
 
--- src/lib.rt:293:5
 loop-holds : tie.Need-loop-holds Inv-loop μ-loop
 loop-holds c = leave-start (c .args .x) (c .args .d) (c .args .cells .now) (c .pre .1) (c .pre .0)
 
--- src/lib.rt:294:17
 element-copy-out-y : tie.Need-element-copy-out-y Inv-loop μ-loop
 element-copy-out-y c = search needs
 
--- src/lib.rt:295:9
 element-write-cells : tie.Need-element-write-cells Inv-loop μ-loop
 element-write-cells c = search needs
 
--- src/lib.rt:296:9
 kept-after-requires : tie.Need-kept-after-requires Inv-loop μ-loop
 kept-after-requires c κs = search needs
 
--- src/lib.rt:297:9
 add-i : tie.Need-add-i Inv-loop μ-loop
 add-i c = search needs
 
--- src/lib.rt:293:5
 loop-less : tie.Need-loop-less Inv-loop μ-loop
 loop-less c = search needs
 
--- src/lib.rt:293:5
 loop-again : tie.Need-loop-again Inv-loop μ-loop
 loop-again c = let s = c .before .before .before .before in let l = c .before .before .before .loop in leave-again (s .args .cells .now) (l .cells) (s .args .d) (s .args .x) (l .kept) (l .i) (omega (arith, s .pre .0, s .pre .1)) (l .inv) _ _ (c .before .before .loop-test .taken) refl (c .kept-after .ensures)
 
--- src/lib.rt:287:1
 returns : tie.Need-returns Inv-loop μ-loop
 returns c = let s = c .before .before in let l = c .before .loop in leave-done (s .args .cells .now) (l .cells) (s .args .d) (s .args .x) (l .kept) (l .i) (omega (arith, s .pre .0, s .pre .1)) (l .inv) (omega arith)
 

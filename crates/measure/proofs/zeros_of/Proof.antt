@@ -7,19 +7,15 @@ use Rattle.measure.proofs.zeros_of.Tie as tie
 use Rattle.measure.proofs.zeros_of.Reads as reads
 use Rattle.measure.proofs.zeros_of.Lts as lts
 
--- src/lib.rt:109:11
 cast-result : tie.Need-cast-result
 cast-result c = search needs
 
--- src/lib.rt:109:6
 shr-result : tie.Need-shr-result
 shr-result c = search needs
 
--- src/lib.rt:109:5
 cast-result-2 : tie.Need-cast-result-2
 cast-result-2 c = omega (arith, shr-le (c .args .v) (c .args .s))
 
--- src/lib.rt:105:1
 returns : tie.Need-returns
 returns c = (refl, omega (arith, shr-le (c .args .v) (c .args .s)))
 

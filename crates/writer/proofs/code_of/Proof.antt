@@ -11,30 +11,24 @@ use Rattle.writer.proofs.code_of_40.Reads as code-of-40-reads
 use Rattle.writer.proofs.code_of_80.Reads as code-of-80-reads
 use Rattle.writer.proofs.code_of_more.Reads as code-of-more-reads
 
--- src/lib.rt:129:9
 code-of-40-requires : tie.Need-code-of-40-requires
 unfolding codesOf
 code-of-40-requires c κs = (omega arith, rw (ap codesOf (c .if1 .taken)) at (c .before .pre .1))
 
--- src/lib.rt:129:9
 returns : tie.Need-returns
 returns c = code-as (ap codesOf (c .before .if1 .taken)) (c .code-of-40 .ensures)
 
--- src/lib.rt:132:9
 code-of-80-requires : tie.Need-code-of-80-requires
 unfolding codesOf
 code-of-80-requires c κs = (omega arith, rw (ap codesOf (c .if2 .taken)) at (c .before .before .pre .1))
 
--- src/lib.rt:132:9
 returns-2 : tie.Need-returns-2
 returns-2 c = code-as (ap codesOf (c .before .if2 .taken)) (c .code-of-80 .ensures)
 
--- src/lib.rt:134:5
 code-of-more-requires : tie.Need-code-of-more-requires
 unfolding codesOf
 code-of-more-requires c κs = (omega arith, rw (codes-more _ (c .before .if1 .left) (c .if2 .left)) at (c .before .before .pre .1))
 
--- src/lib.rt:124:1
 returns-3 : tie.Need-returns-3
 returns-3 c = code-as (codes-more _ (c .before .before .if1 .left) (c .before .if2 .left)) (c .code-of-more .ensures)
 

@@ -6,27 +6,21 @@ use Rattle.writer.proofs.is_length.Tie as tie
 use Rattle.writer.proofs.is_length.Reads as reads
 use Rattle.writer.proofs.is_length.Lts as lts
 
--- src/lib.rt:371:1
 returns : tie.Need-returns
 returns c = rw (c .match .keys1)
 
--- src/lib.rt:371:1
 returns-2 : tie.Need-returns-2
 returns-2 c = rw (c .match .keys2)
 
--- src/lib.rt:371:1
 returns-3 : tie.Need-returns-3
 returns-3 c = rw (c .match .keys3)
 
--- src/lib.rt:371:1
 returns-4 : tie.Need-returns-4
 returns-4 c = rw (c .match .keys4)
 
--- src/lib.rt:371:1
 returns-5 : tie.Need-returns-5
 returns-5 c = rw (c .match .keys5)
 
--- src/lib.rt:371:1
 returns-6 : tie.Need-returns-6
 returns-6 c = not-length (c .before .args .n) (omega arith) (omega arith) (omega arith) (omega arith) (omega arith)
 

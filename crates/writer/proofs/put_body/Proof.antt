@@ -13,27 +13,21 @@ use Rattle.writer.proofs.put_body.Lts as lts
 use Rattle.writer.proofs.put_binary.Reads as put-binary-reads
 use Rattle.writer.proofs.put_located.Reads as put-located-reads
 
--- src/lib.rt:322:9
 put-binary-requires : tie.Need-put-binary-requires
 put-binary-requires c κs = let s = c .before .before .before .before .before in let f = s .pre .0 .0 in ((f .few, (f .long, s .pre .0 .1)), able-as (s .pre .1 .1 .1) (omega (arith, cells-length f, length-map (take (s .args .n) (s .args .samples .now)) (flagOf (s .args .mask) 0), ap length (body-flags (take (s .args .n) (s .args .samples .now)) (s .args .mask) (s .args .plan) (c .before .if1 .taken)))))
 
--- src/lib.rt:322:9
 same-length : tie.Need-same-length
 same-length c = search needs
 
--- src/lib.rt:322:9
 returns : tie.Need-returns
 returns c = let s = c .before .before .before .before .before .before .before .before in puts-as (c .before .before .put-binary .ensures) (body-flags (take (s .args .n) (s .args .samples .now)) (s .args .mask) (s .args .plan) (c .before .before .before .before .if1 .taken))
 
--- src/lib.rt:325:5
 put-located-requires : tie.Need-put-located-requires
 put-located-requires c κs = let s = c .before .before .before .before .before .before in let e = s .pre .1 .1 .0 (c .before .before .if1 .left) in let i = s .pre .1 .0 e in ((i .low, flag-low i), ((s .pre .0 .0, values-ready i), able-as (s .pre .1 .1 .1) (omega (arith, ap length (body-placed (take (s .args .n) (s .args .samples .now)) (s .args .mask) (s .args .plan) e)))))
 
--- src/lib.rt:314:1
 same-length-2 : tie.Need-same-length-2
 same-length-2 c = search needs
 
--- src/lib.rt:314:1
 returns-2 : tie.Need-returns-2
 returns-2 c = let s = c .before .before .before .before .before .before .before .before .before in let e = s .pre .1 .1 .0 (c .before .before .before .before .before .if1 .left) in puts-as (c .before .before .put-located .ensures) (body-placed (take (s .args .n) (s .args .samples .now)) (s .args .mask) (s .args .plan) e)
 

@@ -23,55 +23,42 @@ use Rattle.writer.proofs.put_plus_minus.Reads as put-plus-minus-reads
 use Rattle.writer.proofs.put_prefix.Reads as put-prefix-reads
 use Rattle.writer.proofs.put_whole.Reads as put-whole-reads
 
--- src/lib.rt:336:9
 put-whole-requires : tie.Need-put-whole-requires
 put-whole-requires c κs = let s = c .before .before .before .before in ((omega arith, omega arith), ((s .pre .0) .sized, omega (arith, s .pre .1, ap (λ (t : ℕ). length (formOf (s .args .mask) t (take (s .args .n) (s .args .samples .now)))) (c .before .if1 .taken), ap length (whole-form (s .args .mask) 1 (take (s .args .n) (s .args .samples .now)) (omega arith) (omega arith)), length-bitsOf (wholeOctets 1 (take (s .args .n) (s .args .samples .now))), whole-length 1 (take (s .args .n) (s .args .samples .now)) (cells-length ((s .pre .0) .sized)))))
 
--- src/lib.rt:336:9
 same-length : tie.Need-same-length
 same-length c = search needs
 
--- src/lib.rt:336:9
 returns : tie.Need-returns
 returns c = let s = c .before .before .before .before .before .before .before in let w = whole-form (s .args .mask) 1 (take (s .args .n) (s .args .samples .now)) (omega arith) (omega arith) ∙ ap (λ (t : ℕ). formOf (s .args .mask) t (take (s .args .n) (s .args .samples .now))) (sym (c .before .before .before .before .if1 .taken)) in rw w at (c .before .before .put-whole .ensures)
 
--- src/lib.rt:338:9
 fresh-requires : tie.Need-fresh-requires
 fresh-requires c κs = search needs
 
--- src/lib.rt:341:13
 put-plus-minus-requires : tie.Need-put-plus-minus-requires
 put-plus-minus-requires c κs = let s = c .before .before .before .before .before .before .before in let f = fresh-is (c .before .before .before .fresh .ensures) in let w = rice-form (s .pre .0) (c .before .before .if2 .taken) in (rice-ready ((s .pre .0) .sized) ((s .pre .0) .rice (c .before .before .if2 .taken)), fresh-able f (omega (arith, ap length w, s .pre .1)))
 
--- src/lib.rt:342:9
 finish-requires : tie.Need-finish-requires
 finish-requires c κs = let s = c .before .before .before .before .before .before .before .before .before .before .before in let f = fresh-is (c .before .before .before .before .before .before .before .fresh .ensures) in let w = rice-form (s .pre .0) (c .before .before .before .before .before .before .if2 .taken) in able-then 0 (fresh-able f (s .pre .1)) (c .before .before .before .put-plus-minus .ensures) (c .before .before .before .put-plus-minus .kept .0) (omega (arith, ap length w))
 
--- src/lib.rt:342:9
 same-length-2 : tie.Need-same-length-2
 same-length-2 c = search needs
 
--- src/lib.rt:342:9
 returns-2 : tie.Need-returns-2
 returns-2 c = let s = c .before .before .before .before .before .before .before .before .before .before .before .before .before .before in let f = fresh-is (c .before .before .before .before .before .before .before .before .before .before .fresh .ensures) in let w = rice-form (s .pre .0) (c .before .before .before .before .before .before .before .before .before .if2 .taken) in packed f (puts-as (c .before .before .before .before .before .before .put-plus-minus .ensures) w) (c .before .before .finish .ensures)
 
--- src/lib.rt:344:9
 put-prefix-requires : tie.Need-put-prefix-requires
 put-prefix-requires c κs = let s = c .before .before .before .before .before .before in let f = fresh-is (c .before .before .fresh .ensures) in let w = form-is (s .pre .0) (c .before .before .before .if1 .left) (c .before .if2 .left) in (tool-range (s .pre .0) (c .before .before .before .if1 .left) (c .before .if2 .left), fresh-able f (omega (arith, s .pre .1, number-then 8 (octetFor (s .args .plan .tool) (s .args .n)) (bodyForm (take (s .args .n) (s .args .samples .now)) (s .args .mask) (s .args .plan)) w)))
 
--- src/lib.rt:345:9
 put-body-requires : tie.Need-put-body-requires
 put-body-requires c κs = let s = c .before .before .before .before .before .before .before .before .before .before in let f = fresh-is (c .before .before .before .before .before .before .fresh .ensures) in let w = form-is (s .pre .0) (c .before .before .before .before .before .before .before .if1 .left) (c .before .before .before .before .before .if2 .left) in ((((s .pre .0) .sized, (s .pre .0) .seven)), ((s .pre .0) .placed, ((λ five. (s .pre .0) .kind (c .before .before .before .before .before .before .before .if1 .left) (c .before .before .before .before .before .if2 .left) five), able-then _ (fresh-able f (s .pre .1)) (c .before .before .before .put-prefix .ensures) (c .before .before .before .put-prefix .kept .0) (omega (arith, length-lowBits 8 (octetFor (s .args .plan .tool) (s .args .n)), number-then 8 (octetFor (s .args .plan .tool) (s .args .n)) (bodyForm (take (s .args .n) (s .args .samples .now)) (s .args .mask) (s .args .plan)) w)))))
 
--- src/lib.rt:346:5
 finish-requires-2 : tie.Need-finish-requires-2
 finish-requires-2 c κs = let s = c .before .before .before .before .before .before .before .before .before .before .before .before .before .before in let f = fresh-is (c .before .before .before .before .before .before .before .before .before .before .fresh .ensures) in let w = form-is (s .pre .0) (c .before .before .before .before .before .before .before .before .before .before .before .if1 .left) (c .before .before .before .before .before .before .before .before .before .if2 .left) in able-then 0 (fresh-able f (s .pre .1)) (puts-then (c .before .before .before .before .before .before .before .put-prefix .ensures) (c .before .before .before .put-body .ensures)) (c .before .before .before .put-body .kept .0 ∙ c .before .before .before .before .before .before .before .put-prefix .kept .0) (omega (arith, ap length w))
 
--- src/lib.rt:329:1
 same-length-3 : tie.Need-same-length-3
 same-length-3 c = search needs
 
--- src/lib.rt:329:1
 returns-3 : tie.Need-returns-3
 returns-3 c = let s = c .before .before .before .before .before .before .before .before .before .before .before .before .before .before .before .before .before in let f = fresh-is (c .before .before .before .before .before .before .before .before .before .before .before .before .before .fresh .ensures) in let w = form-is (s .pre .0) (c .before .before .before .before .before .before .before .before .before .before .before .before .before .before .if1 .left) (c .before .before .before .before .before .before .before .before .before .before .before .before .if2 .left) in packed f (puts-as (puts-then (c .before .before .before .before .before .before .before .before .before .before .put-prefix .ensures) (c .before .before .before .before .before .before .put-body .ensures)) w) (c .before .before .finish2 .ensures)
 

@@ -15,27 +15,21 @@ use Rattle.writer.proofs.put_located.Lts as lts
 use Rattle.pen.proofs.put.Reads as put-reads
 use Rattle.writer.proofs.put_values.Reads as put-values-reads
 
--- src/lib.rt:299:28
 mul-put : tie.Need-mul-put
 mul-put c = search needs
 
--- src/lib.rt:299:28
 add-put : tie.Need-add-put
 add-put c = search needs
 
--- src/lib.rt:299:9
 put-requires : tie.Need-put-requires
 put-requires c κs = let s = c .before .before .before in (able-as (s .pre .1 .1) (omega (arith, number-then 3 (s .args .placed .row * 2 + s .args .placed .flag) (valuesFormOf (take (s .args .n) (s .args .samples .now)) (s .args .placed)) (row-flag (s .args .placed .row) (s .args .placed .flag) (valuesFormOf (take (s .args .n) (s .args .samples .now)) (s .args .placed)) (s .pre .0 .1)))), (omega arith, omega (arith, s .pre .0 .0, s .pre .0 .1)))
 
--- src/lib.rt:300:5
 put-values-requires : tie.Need-put-values-requires
 put-values-requires c κs = let s = c .before .before .before .before .before .before .before in (s .pre .1 .0, able-then _ (s .pre .1 .1) (c .before .before .before .put .ensures) (c .before .before .before .put .kept .0) (omega (arith, length-lowBits 3 (s .args .placed .row * 2 + s .args .placed .flag), number-then 3 (s .args .placed .row * 2 + s .args .placed .flag) (valuesFormOf (take (s .args .n) (s .args .samples .now)) (s .args .placed)) (row-flag (s .args .placed .row) (s .args .placed .flag) (valuesFormOf (take (s .args .n) (s .args .samples .now)) (s .args .placed)) (s .pre .0 .1)))))
 
--- src/lib.rt:293:1
 same-length : tie.Need-same-length
 same-length c = search needs
 
--- src/lib.rt:293:1
 returns : tie.Need-returns
 returns c = let s = c .before .before .before .before .before .before .before .before .before .before in puts-as (puts-then (c .before .before .before .before .before .before .put .ensures) (c .before .before .put-values .ensures)) (row-flag (s .args .placed .row) (s .args .placed .flag) (valuesFormOf (take (s .args .n) (s .args .samples .now)) (s .args .placed)) (s .pre .0 .1))
 

@@ -10,19 +10,15 @@ use Rattle.writer.proofs.put_place.Reads as reads
 use Rattle.writer.proofs.put_place.Lts as lts
 use Rattle.pen.proofs.put.Reads as put-reads
 
--- src/lib.rt:161:9
 returns : tie.Need-returns
 returns c = rw (eq-eqb _ 0 (c .if1 .taken)) (puts-none (c .before .before .pre .1 .held) (c .before .before .pre .1 .word))
 
--- src/lib.rt:163:5
 put-requires : tie.Need-put-requires
 put-requires c κs = let s = c .before .before .before in (able-as (s .pre .1) (rw (ne-eqb _ 0 (c .before .if1 .left), length-lowBits) (omega arith)), (omega (arith, s .pre .0 .0), s .pre .0 .1))
 
--- src/lib.rt:155:1
 same-length : tie.Need-same-length
 same-length c = search needs
 
--- src/lib.rt:155:1
 returns-2 : tie.Need-returns-2
 returns-2 c = rw (ne-eqb _ 0 (c .before .before .before .before .if1 .left)) (c .before .before .put .ensures)
 

@@ -15,35 +15,27 @@ Inv-loop out₀ flags d w q₀ i₀ out q i = PlacesTurn out₀ q₀ w flags out
 abbrev μ-loop : tie.MeasureT-loop
 μ-loop out₀ flags d w q₀ i₀ out q i = d - i
 
--- src/lib.rt:174:5
 loop-holds : tie.Need-loop-holds Inv-loop μ-loop
 loop-holds c = places-none (c .before .args .w) (c .before .args .flags .now) (c .before .pre .1)
 
--- src/lib.rt:175:31
 element-copy-out-put-place : tie.Need-element-copy-out-put-place Inv-loop μ-loop
 element-copy-out-put-place c = search needs
 
--- src/lib.rt:175:9
 put-place-requires : tie.Need-put-place-requires Inv-loop μ-loop
 put-place-requires c κs = let s = c .before .before .before .before .before in ((s .pre .0 .1 .1 .0, omega (arith, s .pre .0 .1 .1 .1)), places-able (c .before .before .before .loop .inv) (c .before .before .loop-test .taken) (s .pre .0 .1 .0) (s .pre .1))
 
--- src/lib.rt:176:9
 add-i : tie.Need-add-i Inv-loop μ-loop
 add-i c = search needs
 
--- src/lib.rt:174:5
 loop-less : tie.Need-loop-less Inv-loop μ-loop
 loop-less c = omega arith
 
--- src/lib.rt:174:5
 loop-again : tie.Need-loop-again Inv-loop μ-loop
 loop-again c = places-then (c .before .before .before .before .before .before .loop .inv) (c .before .before .before .before .before .loop-test .taken) (c .before .before .before .before .before .before .before .before .pre .0 .1 .0) (c .before .before .put-place .ensures) (c .before .before .put-place .kept .0)
 
--- src/lib.rt:167:1
 same-length : tie.Need-same-length Inv-loop μ-loop
 same-length c = c .before .loop .inv .size
 
--- src/lib.rt:167:1
 returns : tie.Need-returns Inv-loop μ-loop
 returns c = let e : c .before .loop .i ≡ c .before .before .before .args .d = omega arith in rw e at (c .before .loop .inv .puts)
 

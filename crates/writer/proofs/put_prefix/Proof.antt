@@ -10,23 +10,18 @@ use Rattle.pen.proofs.put.Reads as put-reads
 use Rattle.prefix.proofs.octet_for.Reads as octet-for-reads
 use Rattle.writer.proofs.wide.Reads as wide-reads
 
--- src/lib.rt:36:25
 octet-for-requires : tie.Need-octet-for-requires
 octet-for-requires c κs = search needs
 
--- src/lib.rt:36:20
 wide-requires : tie.Need-wide-requires
 wide-requires c κs = search needs
 
--- src/lib.rt:36:5
 put-requires : tie.Need-put-requires
 put-requires c κs = search needs
 
--- src/lib.rt:31:1
 same-length : tie.Need-same-length
 same-length c = search needs
 
--- src/lib.rt:31:1
 returns : tie.Need-returns
 returns c = puts-as (c .before .before .put .ensures) (ap (lowBits 8) (c .before .before .before .wide .ensures .0 ∙ c .before .before .before .before .octet-for .ensures))
 

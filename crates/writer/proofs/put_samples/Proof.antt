@@ -16,39 +16,30 @@ Inv-loop out₀ samples n i₀ out i = (i ≤ n) × Copied (take i samples) i ou
 abbrev μ-loop : tie.MeasureT-loop
 μ-loop out₀ samples n i₀ out i = n - i
 
--- src/lib.rt:76:5
 loop-holds : tie.Need-loop-holds Inv-loop μ-loop
 loop-holds c = (omega arith, copy-none (c .args .samples .now) (c .args .out .now))
 
--- src/lib.rt:77:22
 shared-slice-read-out : tie.Need-shared-slice-read-out Inv-loop μ-loop
 shared-slice-read-out c = search needs
 
--- src/lib.rt:77:13
 add-out : tie.Need-add-out Inv-loop μ-loop
 add-out c = search needs
 
--- src/lib.rt:77:9
 slice-write-out : tie.Need-slice-write-out Inv-loop μ-loop
 slice-write-out c = omega (arith, c .before .before .loop .inv .1 .size, c .before .loop-test .taken, c .before .before .before .pre .1)
 
--- src/lib.rt:78:9
 add-i : tie.Need-add-i Inv-loop μ-loop
 add-i c = search needs
 
--- src/lib.rt:76:5
 loop-less : tie.Need-loop-less Inv-loop μ-loop
 loop-less c = omega (arith, c .before .loop-test .taken)
 
--- src/lib.rt:76:5
 loop-again : tie.Need-loop-again Inv-loop μ-loop
 loop-again c = let s = c .before .before .before in let l = c .before .before .loop in (omega (arith, c .before .loop-test .taken), copy-turn (s .args .samples .now) (s .args .out .now) (l .out) (l .i) (l .inv .1) (omega (arith, c .before .loop-test .taken, s .pre .0)) (omega (arith, c .before .loop-test .taken, s .pre .1)))
 
--- src/lib.rt:71:1
 same-length : tie.Need-same-length Inv-loop μ-loop
 same-length c = c .before .loop .inv .1 .size
 
--- src/lib.rt:71:1
 returns : tie.Need-returns Inv-loop μ-loop
 returns c = let e : c .before .loop .i ≡ c .before .before .args .n = omega arith in rw e at (c .before .loop .inv .1)
 

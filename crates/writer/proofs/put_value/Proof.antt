@@ -26,87 +26,66 @@ use Rattle.writer.proofs.put_places.Reads as put-places-reads
 use Rattle.writer.proofs.sized.Reads as sized-reads
 use Rattle.writer.proofs.wide.Reads as wide-reads
 
--- src/lib.rt:195:9
 put-requires : tie.Need-put-requires
 put-requires c κs = let s = c .before .before .before in (able-as (s .pre .1 .1) (omega (arith, bits-length 3 5 (value-absent (take (s .args .d) (s .args .flags .now)) (s .pre .0) (c .before .if1 .taken)))), (omega arith, omega arith))
 
--- src/lib.rt:195:9
 same-length : tie.Need-same-length
 same-length c = search needs
 
--- src/lib.rt:195:9
 returns : tie.Need-returns
 returns c = let s = c .before .before .before .before .before .before in puts-as (c .before .before .put .ensures) (value-absent (take (s .args .d) (s .args .flags .now)) (s .pre .0) (c .before .before .before .before .if1 .taken))
 
--- src/lib.rt:198:13
 put-requires-2 : tie.Need-put-requires-2
 put-requires-2 c κs = let s = c .before .before .before .before in (able-as (s .pre .1 .1) (omega (arith, number-then 3 0 (take (s .args .d) (s .args .flags .now)) (value-plain (take (s .args .d) (s .args .flags .now)) (s .pre .0) (c .before .if2 .taken)))), (omega arith, omega arith))
 
--- src/lib.rt:199:9
 put-flags-requires : tie.Need-put-flags-requires
 put-flags-requires c κs = let s = c .before .before .before .before .before .before .before .before in (record { size = omega (arith, s .pre .1 .0 .size, s .pre .1 .0 .most); most = s .pre .1 .0 .most; bits = s .pre .1 .0 .bits }, able-then _ (s .pre .1 .1) (c .before .before .before .put2 .ensures) (c .before .before .before .put2 .kept .0) (omega (arith, length-lowBits 3 0, (length-take-le (s .args .d) (s .args .flags .now) (omega (arith, s .pre .1 .0 .size, s .pre .1 .0 .most))), number-then 3 0 (take (s .args .d) (s .args .flags .now)) (value-plain (take (s .args .d) (s .args .flags .now)) (s .pre .0) (c .before .before .before .before .before .if2 .taken)))))
 
--- src/lib.rt:199:9
 same-length-2 : tie.Need-same-length-2
 same-length-2 c = search needs
 
--- src/lib.rt:199:9
 returns-2 : tie.Need-returns-2
 returns-2 c = let s = c .before .before .before .before .before .before .before .before .before .before .before in puts-as (puts-then (c .before .before .before .before .before .before .put2 .ensures) (c .before .before .put-flags .ensures)) (value-plain (take (s .args .d) (s .args .flags .now)) (s .pre .0) (c .before .before .before .before .before .before .before .before .if2 .taken))
 
--- src/lib.rt:202:32
 wide-requires : tie.Need-wide-requires
 wide-requires c κs = search needs
 
--- src/lib.rt:202:13
 put-requires-3 : tie.Need-put-requires-3
 put-requires-3 c κs = let s = c .before .before .before .before .before .before in (able-as (s .pre .1 .1) (omega (arith, number-then 3 _ _ (value-runs (take (s .args .d) (s .args .flags .now)) (s .pre .0) (c .before .before .before .if2 .left) (c .before .before .if3 .taken) refl refl refl))), (omega arith, omega (arith, c .wide .ensures .0, c .before .before .if3 .taken)))
 
--- src/lib.rt:203:13
 runs-of-requires : tie.Need-runs-of-requires
 runs-of-requires c κs = search needs
 
--- src/lib.rt:205:33
 sized-requires : tie.Need-sized-requires
 sized-requires c κs = search needs
 
--- src/lib.rt:205:9
 put-runs-requires : tie.Need-put-runs-requires
 put-runs-requires c κs = let s = c .before .before .before .before .before .before .before .before .before .before .before .before .before .before .before in let r = c .before .before .before .runs-of .ensures in ((omega (arith, c .before .sized .ensures, c .before .before .before .before .before .before .before .before .before .before .before .if3 .taken), (r .few, omega (arith, r .few, r .size))), able-then _ (s .pre .1 .1) (c .before .before .before .before .before .before .before .before .put3 .ensures) (c .before .before .before .before .before .before .before .before .put3 .kept .0) (omega (arith, length-lowBits 3 (c .before .before .before .before .before .before .before .before .before .wide .result), number-then 3 _ _ (value-runs (take (s .args .d) (s .args .flags .now)) (s .pre .0) (c .before .before .before .before .before .before .before .before .before .before .before .before .if2 .left) (c .before .before .before .before .before .before .before .before .before .before .before .if3 .taken) (c .before .before .before .before .before .before .before .before .before .wide .ensures .0) (c .before .sized .ensures) (c .before .before .before .runs-of .ensures .says ∙ ap (runsOf 0) (marks-same (below-take (s .args .d) (below-all (s .args .flags .now) (s .pre .1 .0 .bits)))))))))
 
--- src/lib.rt:205:9
 same-length-3 : tie.Need-same-length-3
 same-length-3 c = search needs
 
--- src/lib.rt:205:9
 returns-3 : tie.Need-returns-3
 returns-3 c = let s = c .before .before .before .before .before .before .before .before .before .before .before .before .before .before .before .before .before .before in puts-as (puts-then (c .before .before .before .before .before .before .before .before .before .before .before .put3 .ensures) (c .before .before .put-runs .ensures)) (value-runs (take (s .args .d) (s .args .flags .now)) (s .pre .0) (c .before .before .before .before .before .before .before .before .before .before .before .before .before .before .before .if2 .left) (c .before .before .before .before .before .before .before .before .before .before .before .before .before .before .if3 .taken) (c .before .before .before .before .before .before .before .before .before .before .before .before .wide .ensures .0) (c .before .before .before .before .sized .ensures) (c .before .before .before .before .before .before .runs-of .ensures .says ∙ ap (runsOf 0) (marks-same (below-take (s .args .d) (below-all (s .args .flags .now) (s .pre .1 .0 .bits))))))
 
--- src/lib.rt:207:28
 add-put : tie.Need-add-put
 add-put c = let s = c .before .before .before .before .before in let l = listed (take (s .args .d) (s .args .flags .now)) (s .pre .0) (s .pre .1 .0 .ones) (c .before .before .before .if1 .left) (c .before .if3 .left) in omega (arith, l .few)
 
--- src/lib.rt:207:28
 sub-put : tie.Need-sub-put
 sub-put c = search needs
 
--- src/lib.rt:207:9
 put-requires-4 : tie.Need-put-requires-4
 put-requires-4 c κs = let s = c .before .before .before .before .before in let l = listed (take (s .args .d) (s .args .flags .now)) (s .pre .0) (s .pre .1 .0 .ones) (c .before .before .before .if1 .left) (c .before .if3 .left) in (able-as (s .pre .1 .1) (omega (arith, number-then 5 _ _ (value-listed (take (s .args .d) (s .args .flags .now)) (s .pre .0) (s .pre .1 .0 .ones) (c .before .before .before .if1 .left) (c .before .if3 .left) refl))), (omega arith, omega (arith, l .few, l .some)))
 
--- src/lib.rt:208:34
 width-of-requires : tie.Need-width-of-requires
 width-of-requires c κs = search needs
 
--- src/lib.rt:208:5
 put-places-requires : tie.Need-put-places-requires
 put-places-requires c κs = let s = c .before .before .before .before .before .before .before .before .before .before in let w = c .width-of .ensures in ((s .pre .1 .0 .most, (omega (arith, s .pre .1 .0 .size, s .pre .1 .0 .most), (w .1 .0, w .1 .1))), able-then _ (s .pre .1 .1) (c .before .before .before .before .put4 .ensures) (c .before .before .before .before .put4 .kept .0) (omega (arith, length-lowBits 5 (28 + s .args .count - 1), number-then 5 _ _ (value-listed (take (s .args .d) (s .args .flags .now)) (s .pre .0) (s .pre .1 .0 .ones) (c .before .before .before .before .before .before .before .before .if1 .left) (c .before .before .before .before .before .before .if3 .left) (w .0 ∙ ap widthOf (sym (length-take-le (s .args .d) (s .args .flags .now) (omega (arith, s .pre .1 .0 .size, s .pre .1 .0 .most)))))))))
 
--- src/lib.rt:188:1
 same-length-4 : tie.Need-same-length-4
 same-length-4 c = search needs
 
--- src/lib.rt:188:1
 returns-4 : tie.Need-returns-4
 returns-4 c = let s = c .before .before .before .before .before .before .before .before .before .before .before .before .before in puts-as (puts-then (c .before .before .before .before .before .before .before .put4 .ensures) (c .before .before .put-places .ensures)) (value-listed (take (s .args .d) (s .args .flags .now)) (s .pre .0) (s .pre .1 .0 .ones) (c .before .before .before .before .before .before .before .before .before .before .before .if1 .left) (c .before .before .before .before .before .before .before .before .before .if3 .left) (c .before .before .before .width-of .ensures .0 ∙ ap widthOf (sym (length-take-le (s .args .d) (s .args .flags .now) (omega (arith, s .pre .1 .0 .size, s .pre .1 .0 .most))))))
 

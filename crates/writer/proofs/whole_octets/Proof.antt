@@ -5,19 +5,15 @@ use Rattle.writer.proofs.whole_octets.Tie as tie
 use Rattle.writer.proofs.whole_octets.Reads as reads
 use Rattle.writer.proofs.whole_octets.Lts as lts
 
--- src/lib.rt:88:16
 add-result : tie.Need-add-result
 add-result c = search needs
 
--- src/lib.rt:88:9
 returns : tie.Need-returns
 returns c = rw (eq-eqb _ _ (c .if1 .taken))
 
--- src/lib.rt:91:9
 returns-2 : tie.Need-returns-2
 returns-2 c = rw (ne-eqb _ _ (c .before .if1 .left), eq-eqb _ _ (c .if2 .taken))
 
--- src/lib.rt:83:1
 returns-3 : tie.Need-returns-3
 returns-3 c = rw (ne-eqb _ _ (c .before .if1 .left), ne-eqb _ _ (c .if2 .left))
 

@@ -13,35 +13,27 @@ use Rattle.measure.proofs.look_at.Reads as look-at-reads
 use Rattle.writer.proofs.write_measured.Reads as write-measured-reads
 use Rattle.writer.proofs.write_plain.Reads as write-plain-reads
 
--- src/lib.rt:421:9
 look-at-requires : tie.Need-look-at-requires
 look-at-requires c κs = search needs
 
--- src/lib.rt:422:9
 plain-tool-requires : tie.Need-plain-tool-requires
-plain-tool-requires c κs = search needs
+plain-tool-requires c κs = (search needs, c .look-at .ensures)
 
--- src/lib.rt:424:9
 write-measured-requires : tie.Need-write-measured-requires
 write-measured-requires c κs = let s = c .before .before .before .before .before .before in ((s .pre .0, mask-seven _ (s .pre .1)), c .before .before .before .look-at .ensures)
 
--- src/lib.rt:424:9
 same-length : tie.Need-same-length
 same-length c = search needs
 
--- src/lib.rt:424:9
 returns : tie.Need-returns
 returns c = let s = c .before .before .before .before .before .before .before .before .before in writes-as (c .before .before .write-measured .ensures) (ap (fitting (length (s .args .out .now))) (found-full (c .before .before .before .before .before .plain-tool .ensures) (c .before .before .before .before .if1 .taken)))
 
--- src/lib.rt:426:5
 write-plain-requires : tie.Need-write-plain-requires
 write-plain-requires c κs = search needs
 
--- src/lib.rt:417:1
 same-length-2 : tie.Need-same-length-2
 same-length-2 c = search needs
 
--- src/lib.rt:417:1
 returns-2 : tie.Need-returns-2
 returns-2 c = let s = c .before .before .before .before .before .before .before .before .before in writes-as (c .before .before .write-plain .ensures) (ap (fitting (length (s .args .out .now))) (plain-full (c .before .before .before .before .before .plain-tool .ensures) (c .before .before .before .before .if1 .left)))
 

@@ -8,19 +8,15 @@ use Rattle.writer.proofs.write_frame.Reads as reads
 use Rattle.writer.proofs.write_frame.Lts as lts
 use Rattle.writer.proofs.write_some.Reads as write-some-reads
 
--- src/lib.rt:471:16
 slice-aggregate-write-some : tie.Need-slice-aggregate-write-some
 slice-aggregate-write-some c = search needs
 
--- src/lib.rt:471:5
 write-some-requires : tie.Need-write-some-requires
 write-some-requires c κs = let s = c .before .before .before .before in let k : length (s .args .frame .samples) ≡ 320 = search needs in λ h. omega (arith, h, k)
 
--- src/lib.rt:467:1
 same-length : tie.Need-same-length
 same-length c = search needs
 
--- src/lib.rt:467:1
 returns : tie.Need-returns
 returns c = search needs
 

@@ -14,31 +14,24 @@ use Rattle.choice.proofs.plan_of.Reads as plan-of-reads
 use Rattle.writer.proofs.put_form.Reads as put-form-reads
 use Rattle.writer.proofs.refused.Reads as refused-reads
 
--- src/lib.rt:403:9
 plan-of-requires : tie.Need-plan-of-requires
 plan-of-requires c κs = search needs
 
--- src/lib.rt:404:21
 add-if1 : tie.Need-add-if1
 add-if1 c = search needs
 
--- src/lib.rt:405:9
 refused-requires : tie.Need-refused-requires
 refused-requires c κs = search needs
 
--- src/lib.rt:405:9
 returns : tie.Need-returns
 returns c = let s = c .before .before .before .before .before .before .before in no-room (found (s .args .mask) (s .args .set) (take (s .args .n) (s .args .samples .now))) (omega (arith, c .before .before .before .plan-of .ensures .bits, c .before .if1 .taken)) (c .refused .ensures)
 
--- src/lib.rt:407:9
 put-form-requires : tie.Need-put-form-requires
 put-form-requires c κs = let s = c .before .before .before .before .before .before .before .before in let p = c .before .before .before .before .plan-of .ensures in (planned (s .pre .0 .0) (s .pre .0 .1) p, omega (arith, ap (λ (t : ℕ). length (formOf (s .args .mask) t (take (s .args .n) (s .args .samples .now)))) (p .tool), p .bits, c .before .before .if1 .left))
 
--- src/lib.rt:397:1
 same-length : tie.Need-same-length
 same-length c = search needs
 
--- src/lib.rt:397:1
 returns-2 : tie.Need-returns-2
 returns-2 c = let s = c .before .before .before .before .before .before .before .before .before .before .before in let p = c .before .before .before .before .before .before .before .plan-of .ensures in all-written (found (s .args .mask) (s .args .set) (take (s .args .n) (s .args .samples .now))) (omega (arith, p .bits, c .before .before .before .before .before .if1 .left)) (rw (p .tool) at (c .before .before .put-form .ensures)) refl refl (p .bits) (p .tool)
 

@@ -10,23 +10,18 @@ use Rattle.writer.proofs.write_pad.Reads as reads
 use Rattle.writer.proofs.write_pad.Lts as lts
 use Rattle.writer.proofs.refused.Reads as refused-reads
 
--- src/lib.rt:341:9
 refused-requires : tie.Need-refused-requires
 refused-requires c κs = search needs
 
--- src/lib.rt:341:9
 returns : tie.Need-returns
 returns c = no-room pad (omega (arith, pad-size, c .before .if1 .taken)) (c .refused .ensures)
 
--- src/lib.rt:343:5
 slice-write-out : tie.Need-slice-write-out
 slice-write-out c = search needs
 
--- src/lib.rt:337:1
 same-length : tie.Need-same-length
 same-length c = search needs
 
--- src/lib.rt:337:1
 returns-2 : tie.Need-returns-2
 returns-2 c = all-written pad (omega (arith, pad-size, c .if1 .left)) (pad-packed (set-first (c .before .before .args .out .now) (c .if1 .left))) refl refl (sym (length-lowBits 8 0)) refl
 

@@ -28,31 +28,24 @@ size : (s : tie.Start)
     → length (wholeOctets (s .args .tool) (take (s .args .n) (s .args .samples .now))) ≡ cond (eqb (s .args .tool) 1) (1 + s .args .n) (cond (eqb (s .args .tool) 4) 2 1)
 size s = whole-length (s .args .tool) (take (s .args .n) (s .args .samples .now)) (length-take-le (s .args .n) (s .args .samples .now) (s .pre .1 .long))
 
--- src/lib.rt:383:9
 whole-octets-requires : tie.Need-whole-octets-requires
 whole-octets-requires c κs = search needs
 
--- src/lib.rt:385:9
 refused-requires : tie.Need-refused-requires
 refused-requires c κs = search needs
 
--- src/lib.rt:385:9
 returns : tie.Need-returns
 returns c = let s = c .before .before .before .before .before in no-room (plain (s .args .tool) (take (s .args .n) (s .args .samples .now))) (omega (arith, need s, size s, c .before .before .whole-octets .ensures, c .before .if1 .taken)) (c .refused .ensures)
 
--- src/lib.rt:387:9
 put-whole-requires : tie.Need-put-whole-requires
 put-whole-requires c κs = let s = c .before .before .before .before .before in (s .pre .0, (s .pre .1, omega (arith, c .before .before .whole-octets .ensures, c .before .if1 .left)))
 
--- src/lib.rt:391:15
 mul-t7 : tie.Need-mul-t7
 mul-t7 c = let s = c .before .before .before .before .before .before .before .before in omega (arith, c .before .before .before .before .before .whole-octets .ensures, octets-few (s .args .tool) (s .args .n) (s .pre .1 .few))
 
--- src/lib.rt:378:1
 same-length : tie.Need-same-length
 same-length c = search needs
 
--- src/lib.rt:378:1
 returns-2 : tie.Need-returns-2
 returns-2 c = let s = c .before .before .before .before .before .before .before .before in all-written (plain (s .args .tool) (take (s .args .n) (s .args .samples .now))) (omega (arith, need s, size s, c .before .before .before .before .before .whole-octets .ensures, c .before .before .before .before .if1 .left)) (c .before .before .put-whole .ensures) refl refl (omega (arith, need s, size s, c .before .before .before .before .before .whole-octets .ensures)) refl
 
