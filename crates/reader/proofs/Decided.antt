@@ -1,6 +1,6 @@
 -- The tool is decided: TOOL, ROOM, the body as it was read, and the filling.
 use Prim.Native.Nat.{ℕ, _*_, _≤_, _<_}
-use mathlib.Core.Path.{_≡_}
+use mathlib.Core.Path.{_≡_, sym}
 use mathlib.Core.List.{List}
 use mathlib.Core.Bool.{true, false, _&&_}
 use lib.Dec.{leb, lit≤}
@@ -43,6 +43,12 @@ pub body-within : (law t n mark : ℕ) (s : List ℕ) (i : ℕ) {x : List ℕ} {
     → body (maskOf law) t n mark (bitsOf s) i ≡ whole x j → j ≤ 8 * length s
 body-within law t n mark s i h e =
     rw length-bitsOf at (gives-body (law-mask law) t n mark .on (bitsOf-below s) (rw length-bitsOf h) e .1)
+
+-- and has the frame's length
+pub body-size : (law t n mark : ℕ) (s : List ℕ) (i : ℕ) {x : List ℕ} {j : ℕ} → i ≤ 8 * length s
+    → body (maskOf law) t n mark (bitsOf s) i ≡ whole x j → n ≡ length x
+body-size law t n mark s i h e =
+    sym (gives-body (law-mask law) t n mark .on (bitsOf-below s) (rw length-bitsOf h) e .2 .size)
 
 -- a set holds tools 1 to 7 only
 pub held-range : (set t : ℕ) → holds set t ≡ true → (1 ≤ t) × (t ≤ 7)

@@ -226,7 +226,8 @@ fn with_tool(
     }
     match body_of(octets, law::mask_of(law), h, samples) {
         Outcome::Refused(why, _) => refused(why),
-        Outcome::Got(len, bits) => finished(octets, tool, len, bits),
+        // A body read whole has the frame's length.
+        Outcome::Got(_, bits) => finished(octets, tool, h.len, bits),
     }
 }
 

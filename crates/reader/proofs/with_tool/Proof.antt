@@ -18,7 +18,7 @@ use Rattle.law.proofs.Mask.{mask-small, mask-odd}
 use Rattle.bodies.specs.Bodied.{FillsBody}
 use Rattle.bodies.proofs.Told.{body-whole, body-length, body-refused}
 use Rattle.reader.proofs.Told.{fills-none, fills-finish}
-use Rattle.reader.proofs.Decided.{no-tool, no-room, no-body, with-body, body-within, held-range}
+use Rattle.reader.proofs.Decided.{no-tool, no-room, no-body, with-body, body-within, body-size, held-range}
 use Rattle.reader.proofs.with_tool.Statement.{statement}
 use Rattle.reader.proofs.with_tool.Tie as tie
 
@@ -68,25 +68,30 @@ module _ (c : tie.After-body-of) where
     omega (arith, rw (ap nextOf e) at (fills .next)),
   )
 
+  -- and it has the frame's length
+  sized : {len bits : ℕ} (e : c .body-of .result ≡ Got len bits) → s .args .h .len ≡ length (body-whole fills e .s)
+  sized e = body-size (s .args .law) (s .args .h .tool) (s .args .h .len) (s .args .h .mark) (s .args .octets .now) (s .args .h .at) (omega (arith, s .pre .0 .at, s .pre .1))
+      (body-whole fills e .says)
+
 enum-known-why : tie.Need-enum-known-why
 enum-known-why c = search needs
 
 refused-requires-3 : tie.Need-refused-requires-3
 refused-requires-3 c κs = search needs
 
-enum-known-len : tie.Need-enum-known-len
-enum-known-len c = search needs
+enum-known-bits : tie.Need-enum-known-bits
+enum-known-bits c = search needs
 
 finished-requires : tie.Need-finished-requires
-finished-requires c κs = within (c .before .before .before) (c .before .len .given .1)
+finished-requires c κs = within (c .before .before .before) (c .before .bits .given .1)
 
 returns-3 : tie.Need-returns-3
 returns-3 c = fills-none (no-body _ _ _ _ _ _ _ _ (held (c .before .before .before .before .before .before .before .before .before)) (omega arith) (body-refused (fills (c .before .before .before .before)) (c .before .before .why .given .1))) (body-length (fills (c .before .before .before .before)) (c .before .before .before .before .before .before .before .before .before .before .before .before .pre .2)) (c .refused3 .ensures _)
 
 returns-4 : tie.Need-returns-4
 returns-4 c =
-    let w = body-whole (fills (c .before .before .before .before)) (c .before .before .len .given .1) in
-    fills-finish _ _ _ _ (with-body _ _ _ _ _ _ _ _ (held (c .before .before .before .before .before .before .before .before .before)) (omega arith) (w .says)) (c .finished .ensures (w .s) (w .size)) (w .samples) (body-length (fills (c .before .before .before .before)) (c .before .before .before .before .before .before .before .before .before .before .before .before .pre .2))
+    let w = body-whole (fills (c .before .before .before .before)) (c .before .before .bits .given .1) in
+    fills-finish _ _ _ _ (with-body _ _ _ _ _ _ _ _ (held (c .before .before .before .before .before .before .before .before .before)) (omega arith) (w .says)) (c .finished .ensures (w .s) (sized (c .before .before .before .before) (c .before .before .bits .given .1))) (w .samples) (body-length (fills (c .before .before .before .before)) (c .before .before .before .before .before .before .before .before .before .before .before .before .pre .2))
 
 pub with-tool-spec : {M : Type 1} → statement M
 with-tool-spec =
@@ -101,7 +106,7 @@ with-tool-spec =
     body-of-requires
     enum-known-why
     refused-requires-3
-    enum-known-len
+    enum-known-bits
     finished-requires
     returns-3
     returns-4)
