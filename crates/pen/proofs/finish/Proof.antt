@@ -12,23 +12,18 @@ use Rattle.pen.proofs.finish.Lts as lts
 use Rattle.pen.proofs.flush.Reads as flush-reads
 use Rattle.pen.proofs.put.Reads as put-reads
 
--- src/lib.rt:162:17
 sub-fill : tie.Need-sub-fill
 sub-fill c = search needs
 
--- src/lib.rt:163:9
 put-requires : tie.Need-put-requires
 put-requires c κs = let a = c .before .before .before .pre in (record { held = a .held; word = a .word; room = omega (arith, a .room) }, (omega arith, pow-pos _))
 
--- src/lib.rt:164:5
 flush-requires : tie.Need-flush-requires
 flush-requires c κs = let e = c .before .before .before .put .ensures in let a = c .before .before .before .before .before .before .before .pre in let n = length-lowBits ((8 - c .before .before .before .before .before .before .before .args .p .held % 8) % 8) 0 in (record { held = e .held; word = e .word; room = omega (arith, e .place, n, a .room, c .before .before .before .put .kept .0) }, omega (arith, e .place, n))
 
--- src/lib.rt:158:1
 same-length : tie.Need-same-length
 same-length c = search needs
 
--- src/lib.rt:158:1
 returns : tie.Need-returns
 returns c = finished _ (c .before .before .before .before .before .before .before .before .before .before .pre) refl (c .before .before .before .before .before .before .put .ensures) (c .before .before .flush .ensures) (λ i. c .slice-known3 .given i .fits)
 

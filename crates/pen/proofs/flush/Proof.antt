@@ -13,43 +13,33 @@ Inv-loop out₀ word held₀ at₀ out held at = FlushTurn out₀ word held₀ a
 abbrev μ-loop : tie.MeasureT-loop
 μ-loop out₀ word held₀ at₀ out held at = held
 
--- src/lib.rt:163:5
 loop-holds : tie.Need-loop-holds Inv-loop μ-loop
 loop-holds c = search needs
 
--- src/lib.rt:164:16
 sub-held : tie.Need-sub-held Inv-loop μ-loop
 sub-held c = search needs
 
--- src/lib.rt:165:21
 shr-out : tie.Need-shr-out Inv-loop μ-loop
 shr-out c = search needs
 
--- src/lib.rt:165:19
 cast-out : tie.Need-cast-out Inv-loop μ-loop
 cast-out c = search needs
 
--- src/lib.rt:165:9
 slice-write-out : tie.Need-slice-write-out Inv-loop μ-loop
 slice-write-out c = search needs
 
--- src/lib.rt:166:9
 add-at : tie.Need-add-at Inv-loop μ-loop
 add-at c = search needs
 
--- src/lib.rt:163:5
 loop-less : tie.Need-loop-less Inv-loop μ-loop
 loop-less c = search needs
 
--- src/lib.rt:163:5
 loop-again : tie.Need-loop-again Inv-loop μ-loop
 loop-again c = flush-turn _ _ (c .before .loop .inv) (c .loop-test .taken) (omega arith)
 
--- src/lib.rt:155:1
 same-length : tie.Need-same-length Inv-loop μ-loop
 same-length c = search needs
 
--- src/lib.rt:155:1
 returns : tie.Need-returns Inv-loop μ-loop
 returns c = flush-done (omega arith) (c .before .loop .inv)
 

@@ -20,43 +20,33 @@ Inv-loop flags i n v₀ j₀ v j = (j ≤ n) × Gathers (take j (drop i flags)) 
 abbrev μ-loop : tie.MeasureT-loop
 μ-loop flags i n v₀ j₀ v j = n - j
 
--- src/lib.rt:129:5
 loop-holds : tie.Need-loop-holds Inv-loop μ-loop
 loop-holds c = (omega arith, gather-none (drop (c .args .i) (c .args .flags .now)))
 
--- src/lib.rt:130:13
 mul-v : tie.Need-mul-v Inv-loop μ-loop
 mul-v c = omega (arith, gather-fits _ _ (omega arith) (c .before .loop .inv .1))
 
--- src/lib.rt:130:33
 add-octet : tie.Need-add-octet Inv-loop μ-loop
 add-octet c = search needs
 
--- src/lib.rt:130:27
 element-copy-out-octet : tie.Need-element-copy-out-octet Inv-loop μ-loop
 element-copy-out-octet c = search needs
 
--- src/lib.rt:130:21
 octet-requires : tie.Need-octet-requires Inv-loop μ-loop
 octet-requires c κs = search needs
 
--- src/lib.rt:130:13
 add-v : tie.Need-add-v Inv-loop μ-loop
 add-v c = omega (arith, gather-fits _ _ (omega arith) (c .before .before .before .loop .inv .1), c .octet .ensures, c .before .before .before .before .pre .1 .bits (c .before .before .before .before .args .i + c .before .before .before .loop .j))
 
--- src/lib.rt:131:9
 add-j : tie.Need-add-j Inv-loop μ-loop
 add-j c = search needs
 
--- src/lib.rt:129:5
 loop-less : tie.Need-loop-less Inv-loop μ-loop
 loop-less c = search needs
 
--- src/lib.rt:129:5
 loop-again : tie.Need-loop-again Inv-loop μ-loop
 loop-again c = let s = c .before .before .before .before in let l = c .before .before .before .loop in (omega arith, gather-one (s .args .flags .now) (s .args .i) (s .args .n) (l .j) (l .v) _ (s .pre .1) (l .inv .1) (c .before .before .loop-test .taken) (c .octet .ensures))
 
--- src/lib.rt:122:1
 returns : tie.Need-returns Inv-loop μ-loop
 returns c = let e : c .before .loop .j ≡ c .before .before .args .n = omega arith in rw e at (c .before .loop .inv .1)
 

@@ -18,55 +18,42 @@ Inv-loop out₀ flags n q₀ i₀ out q i = FlagsTurn out₀ q₀ flags out q n 
 abbrev μ-loop : tie.MeasureT-loop
 μ-loop out₀ flags n q₀ i₀ out q i = n - i
 
--- src/lib.rt:131:5
 loop-holds : tie.Need-loop-holds Inv-loop μ-loop
 loop-holds c = record { puts = puts-none (c .before .pre .1 .held) (c .before .pre .1 .word); within = omega arith; size = refl }
 
--- src/lib.rt:131:11
 add-loop : tie.Need-add-loop Inv-loop μ-loop
 add-loop c = search needs
 
--- src/lib.rt:132:13
 gather-requires : tie.Need-gather-requires Inv-loop μ-loop
 gather-requires c κs = (omega arith, flags-part (c .before .before .before .pre .0) (c .before .loop .inv) 32 (omega arith))
 
--- src/lib.rt:133:9
 put-requires : tie.Need-put-requires Inv-loop μ-loop
 put-requires c κs = (flags-able (c .before .before .before .before .before .pre .0) (c .before .before .before .loop .inv) (c .before .before .before .before .before .pre .1) 32 (omega arith), (omega arith, c .before .gather .ensures .fits))
 
--- src/lib.rt:134:9
 add-i : tie.Need-add-i Inv-loop μ-loop
 add-i c = search needs
 
--- src/lib.rt:131:5
 loop-less : tie.Need-loop-less Inv-loop μ-loop
 loop-less c = omega arith
 
--- src/lib.rt:131:5
 loop-again : tie.Need-loop-again Inv-loop μ-loop
 loop-again c = flags-then (c .before .before .before .before .before .before .before .before .pre .0) (c .before .before .before .before .before .before .loop .inv) 32 _ (omega arith) (c .before .before .before .before .gather .ensures) (c .before .before .put .ensures) (c .before .before .put .kept .0)
 
--- src/lib.rt:136:30
 sub-gather : tie.Need-sub-gather Inv-loop μ-loop
 sub-gather c = omega arith
 
--- src/lib.rt:136:9
 gather-requires-2 : tie.Need-gather-requires-2 Inv-loop μ-loop
 gather-requires-2 c κs = (omega arith, flags-part (c .before .before .before .pre .0) (c .before .loop .inv) _ (omega arith))
 
--- src/lib.rt:137:17
 sub-put : tie.Need-sub-put Inv-loop μ-loop
 sub-put c = omega arith
 
--- src/lib.rt:137:5
 put-requires-2 : tie.Need-put-requires-2 Inv-loop μ-loop
 put-requires-2 c κs = (flags-able (c .before .before .before .before .before .pre .0) (c .before .before .before .loop .inv) (c .before .before .before .before .before .pre .1) _ (omega arith), (omega arith, c .before .gather2 .ensures .fits))
 
--- src/lib.rt:123:1
 same-length : tie.Need-same-length Inv-loop μ-loop
 same-length c = c .before .before .put2 .kept .0 ∙ c .before .before .before .before .before .before .loop .inv .size
 
--- src/lib.rt:123:1
 returns : tie.Need-returns Inv-loop μ-loop
 returns c = flags-done (c .before .before .before .before .before .before .before .before .pre .0) (c .before .before .before .before .before .before .loop .inv) _ (c .before .before .before .before .gather2 .ensures) (c .before .before .put2 .ensures) (c .before .before .put2 .kept .0)
 

@@ -16,63 +16,48 @@ Inv-loop out₀ s v q₀ zeros₀ out q zeros = RiceTurn out₀ s v q₀ out q z
 abbrev μ-loop : tie.MeasureT-loop
 μ-loop out₀ s v q₀ zeros₀ out q zeros = zeros
 
--- src/lib.rt:86:21
 shr-zeros : tie.Need-shr-zeros Inv-loop μ-loop
 shr-zeros c = search needs
 
--- src/lib.rt:87:5
 loop-holds : tie.Need-loop-holds Inv-loop μ-loop
 loop-holds c = rice-start (c .before .pre .1)
 
--- src/lib.rt:88:9
 put-requires : tie.Need-put-requires Inv-loop μ-loop
 put-requires c κs = (rice-able (c .before .before .loop .inv) (c .before .before .before .before .pre .1) 16 (omega arith), omega arith)
 
--- src/lib.rt:89:17
 sub-zeros : tie.Need-sub-zeros Inv-loop μ-loop
 sub-zeros c = search needs
 
--- src/lib.rt:87:5
 loop-less : tie.Need-loop-less Inv-loop μ-loop
 loop-less c = search needs
 
--- src/lib.rt:87:5
 loop-again : tie.Need-loop-again Inv-loop μ-loop
 loop-again c = rice-turn (c .before .before .before .before .before .loop .inv) (c .before .before .before .before .loop-test .taken) (c .before .before .put .ensures) (c .before .before .put .kept .0)
 
--- src/lib.rt:91:17
 add-put : tie.Need-add-put Inv-loop μ-loop
 add-put c = search needs
 
--- src/lib.rt:91:17
 add-put-2 : tie.Need-add-put-2 Inv-loop μ-loop
 add-put-2 c = search needs
 
--- src/lib.rt:91:42
 shl-put : tie.Need-shl-put Inv-loop μ-loop
 shl-put c = search needs
 
--- src/lib.rt:91:57
 shl-put-2 : tie.Need-shl-put-2 Inv-loop μ-loop
 shl-put-2 c = search needs
 
--- src/lib.rt:91:52
 rem-put : tie.Need-rem-put Inv-loop μ-loop
 rem-put c = rw (one-shifted _ (c .before .before .before .before .pre .0)) (pow-pos _)
 
--- src/lib.rt:91:41
 add-put-3 : tie.Need-add-put-3 Inv-loop μ-loop
 add-put-3 c = record { fits = rice-word _ _ (one-shifted _ (c .before .before .before .before .pre .0)) (c .before .before .before .before .pre .0) }
 
--- src/lib.rt:91:5
 put-requires-2 : tie.Need-put-requires-2 Inv-loop μ-loop
 put-requires-2 c κs = let s = c .before .before .before .before in (rice-able (c .before .before .loop .inv) (s .pre .1) _ (omega arith), (omega arith, rice-fits _ _ _ (one-shifted _ (s .pre .0))))
 
--- src/lib.rt:80:1
 same-length : tie.Need-same-length Inv-loop μ-loop
 same-length c = search needs
 
--- src/lib.rt:80:1
 returns : tie.Need-returns Inv-loop μ-loop
 returns c = let s = c .before .before .before .before .before .before .before in rice-whole (c .before .before .before .before .before .loop .inv) (one-shifted _ (s .pre .0)) (c .before .before .put2 .ensures)
 

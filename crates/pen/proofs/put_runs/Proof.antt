@@ -17,43 +17,33 @@ Inv-loop out₀ s runs count q₀ j₀ out q j = RunsTurn out₀ q₀ s runs out
 abbrev μ-loop : tie.MeasureT-loop
 μ-loop out₀ s runs count q₀ j₀ out q j = count - j
 
--- src/lib.rt:94:5
 loop-holds : tie.Need-loop-holds Inv-loop μ-loop
 loop-holds c = record { puts = runs-none (c .before .args .s) (c .before .args .runs .now) (c .before .pre .1); within = omega arith; size = refl }
 
--- src/lib.rt:95:38
 mul-wide : tie.Need-mul-wide Inv-loop μ-loop
 mul-wide c = search needs
 
--- src/lib.rt:95:38
 element-copy-out-wide : tie.Need-element-copy-out-wide Inv-loop μ-loop
 element-copy-out-wide c = search needs
 
--- src/lib.rt:95:33
 wide-requires : tie.Need-wide-requires Inv-loop μ-loop
 wide-requires c κs = search needs
 
--- src/lib.rt:95:9
 put-rice-requires : tie.Need-put-rice-requires Inv-loop μ-loop
 put-rice-requires c κs = (c .before .before .before .before .before .before .pre .0 .0, runs-able (c .before .before .before .before .loop .inv) (c .before .before .before .loop-test .taken) (c .before .before .before .before .before .before .pre .0 .1 .1) (c .before .before .before .before .before .before .pre .1) (c .wide .ensures))
 
--- src/lib.rt:96:9
 add-j : tie.Need-add-j Inv-loop μ-loop
 add-j c = search needs
 
--- src/lib.rt:94:5
 loop-less : tie.Need-loop-less Inv-loop μ-loop
 loop-less c = search needs
 
--- src/lib.rt:94:5
 loop-again : tie.Need-loop-again Inv-loop μ-loop
 loop-again c = runs-then (c .before .before .before .before .before .before .before .loop .inv) (c .before .before .before .before .before .before .loop-test .taken) (c .before .before .before .before .before .before .before .before .before .pre .0 .1 .1) (c .before .before .before .wide .ensures) (c .before .before .put-rice .ensures) (c .before .before .put-rice .kept .0)
 
--- src/lib.rt:87:1
 same-length : tie.Need-same-length Inv-loop μ-loop
 same-length c = c .before .loop .inv .size
 
--- src/lib.rt:87:1
 returns : tie.Need-returns Inv-loop μ-loop
 returns c = let e : c .before .loop .j ≡ c .before .before .before .args .count = omega arith in rw e at (c .before .loop .inv .puts)
 

@@ -15,31 +15,24 @@ use Rattle.round_trip.proofs.round_trip.Lts as lts
 use Rattle.reader.proofs.read_frame.Reads as read-frame-reads
 use Rattle.writer.proofs.write_frame.Reads as write-frame-reads
 
--- src/lib.rt:17:9
 write-frame-requires : tie.Need-write-frame-requires
 write-frame-requires c κs = search needs
 
--- src/lib.rt:19:35
 slice-reshare-prefix-read-frame : tie.Need-slice-reshare-prefix-read-frame
 slice-reshare-prefix-read-frame c = within (c .before .before .write-frame .ensures)
 
--- src/lib.rt:19:35
 slice-aggregate-read-frame : tie.Need-slice-aggregate-read-frame
 slice-aggregate-read-frame c = let w = c .before .before .before .write-frame in sym (length-take-le (w .result .octets) (w .last .1 .1 .1 .0) (within (w .ensures)))
 
--- src/lib.rt:19:9
 read-frame-requires : tie.Need-read-frame-requires
 read-frame-requires c κs = search needs
 
--- src/lib.rt:14:1
 same-length : tie.Need-same-length
 same-length c = search needs
 
--- src/lib.rt:14:1
 same-length-2 : tie.Need-same-length-2
 same-length-2 c = search needs
 
--- src/lib.rt:14:1
 returns : tie.Need-returns
 returns c =
     let s = c .before .before .before .before .before .before .before .before .before .before .before in
