@@ -1,17 +1,19 @@
 -- Flags as an array, their runs as an array, what each S would need, and the least.
-use Prim.Native.Nat.{ℕ, _+_, _≤_, _<_}
+use Prim.Native.Nat.{ℕ, _+_, _%_, _≤_, _<_}
 use mathlib.Core.Path.{_≡_}
 use mathlib.Core.List.{List, map}
-use mathlib.Core.Bool.{cond}
+use mathlib.Core.Bool.{Bool, cond, _&&_, _||_}
 use lib.ListN.{length, getD, take}
-use lib.Dec.{eqb}
+use lib.Dec.{eqb, leb, ltb}
 use lib.IntN.{pos, negsuc}
 use Rattle.rules.specs.Runs.{runsOf, riceForms}
 use Rattle.rules.specs.Samples.{sampleOf, plusZero, minusZero}
-use Rattle.rules.specs.Chooses.{countOf, every, leastS, leastOf, greatestOf, above, below}
+use Rattle.rules.specs.Chooses.{countOf, every, leastS, leastOf, greatestOf, above, below, flagsFor, without}
 use Rattle.measure.specs.declared.Least.{Least}
 use Rattle.measure.specs.declared.Look.{Look}
 use Rattle.measure.specs.declared.Counts.{Counts}
+use Rattle.measure.specs.declared.Spread.{Spread}
+use Rattle.measure.specs.declared.Found.{Found}
 
 -- an array of flags whose first n are these; the rest are flags too
 pub record Flagged (flags : List ℕ) (n : ℕ) (r : List ℕ) : Type 0 where
@@ -67,3 +69,23 @@ pub record LeftIs (s : List ℕ) (d kept : ℕ) (r : List ℕ) : Type 0 where
   pub says : take kept r ≡ s
   pub size : length r ≡ 320
   pub few : kept ≤ d
+
+-- all samples from -2 to 1, by their least and greatest on the line
+abbrev pub near : ℕ → ℕ → Bool
+near least greatest = leb 126 least && leb greatest 129
+
+-- frames of the two zeros only
+abbrev pub twoZeros : ℕ → List ℕ → Bool
+twoZeros mask s = every (λ x. eqb x (plusZero mask) || eqb x (minusZero mask)) s
+
+-- what the bits that any sets, and those that all set, tell of a frame
+pub record SpreadIs (mask first : ℕ) (s : List ℕ) (r : Spread) : Type 0 where
+  pub same : eqb (r .any) (r .all) ≡ every (λ x. eqb x first) s
+  pub zeros : eqb (r .any % 128) 0 ≡ twoZeros mask s
+  pub close : ltb (r .any % 128) 2 ≡ near (leastOf mask s) (greatestOf mask s)
+
+-- the runs of three values, each among the places that those before it left
+pub record FoundIs (x y z : ℕ) (s : List ℕ) (r : Found) (a b c : List ℕ) : Type 0 where
+  pub first : RunsAre (flagsFor x s) (r .first) a
+  pub second : RunsAre (flagsFor y (without x s)) (r .second) b
+  pub third : RunsAre (flagsFor z (without y (without x s))) (r .third) c

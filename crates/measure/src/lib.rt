@@ -37,6 +37,19 @@ pub struct Counts {
     pub below: u16,
 }
 
+// What the samples of a frame have in common, each with the law's mask taken off: the bits that any sets, and those that all set.
+pub struct Spread {
+    pub any: u8,
+    pub all: u8,
+}
+
+// The number of runs of each of three values.
+pub struct Found {
+    pub first: usize,
+    pub second: usize,
+    pub third: usize,
+}
+
 fn pick(y: u8, x: u8, hit: u8, miss: u8) -> u8
     ensures { λ r. ⌜ r ≡ cond (eqb y x) hit miss ⌝ }
 {

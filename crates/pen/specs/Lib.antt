@@ -1,2 +1,3 @@
 -- What it is to put bits into lent octets.
+pub mod Rows
 pub mod Puts
