@@ -1,5 +1,6 @@
 pub mod Words
 pub mod Putting
 pub mod Rice
+pub mod Rows
 pub mod Gathering
 pub mod Finishing

@@ -107,3 +107,11 @@ puts-none {o} {p} h w =
 -- what is put, said otherwise
 pub puts-as : {o o′ : List ℕ} {p p′ : Pen} {a b : List ℕ} → Puts o p a o′ p′ → a ≡ b → Puts o p b o′ p′
 puts-as {o} {o′} {p} {p′} f e = rw e at f
+
+-- room for less, and room for what follows
+pub able-as : {o : List ℕ} {p : Pen} {m k : ℕ} → Able o p m → k ≤ m → Able o p k
+able-as a h = record { held = a .held; word = a .word; room = omega (arith, a .room) }
+
+pub able-then : {o o′ bits : List ℕ} {p p′ : Pen} {m : ℕ} (k : ℕ) → Able o p m → Puts o p bits o′ p′ → length o′ ≡ length o → length bits + k ≤ m → Able o′ p′ k
+able-then k a put size h =
+    record { held = put .held; word = put .word; room = omega (arith, a .room, put .place) }

@@ -15,7 +15,7 @@ use Rattle.rules.proofs.Octets.{length-lowBits}
 use Rattle.pen.specs.declared.Pen.{Pen}
 use Rattle.pen.specs.Puts.{Able, Puts}
 use Rattle.pen.proofs.Words.{lowBits-mod, lowBits-join}
-use Rattle.pen.proofs.Putting.{puts-none, puts-then, puts-as}
+use Rattle.pen.proofs.Putting.{puts-none, puts-then, puts-as, able-then}
 
 pub length-riceForm : (s v : ℕ) → length (riceForm s v) ≡ v / 2 ^ s + 1 + s
 unfolding riceForm
@@ -27,32 +27,33 @@ zero-bits zero = refl
 zero-bits (suc n) = rw (zero-div, zero-bits n)
 
 -- a turn of the loop: so many zeros are still to come
-pub record RiceTurn (o : List ℕ) (s v : ℕ) (p : Pen) (o′ : List ℕ) (p′ : Pen) (zeros : ℕ) : Type 0 where
-  pub puts : Puts o p (replicate (v / 2 ^ s - zeros) 0) o′ p′
-  pub left : zeros ≤ v / 2 ^ s
+pub record ZerosTurn (o : List ℕ) (v : ℕ) (p : Pen) (o′ : List ℕ) (p′ : Pen) (zeros : ℕ) : Type 0 where
+  pub puts : Puts o p (replicate (v - zeros) 0) o′ p′
+  pub left : zeros ≤ v
   pub size : length o′ ≡ length o
 
-pub rice-start : {o : List ℕ} {s v : ℕ} {p : Pen} → Able o p (length (riceForm s v)) → RiceTurn o s v p o p (v / 2 ^ s)
-rice-start {s = s} {v = v} able =
-    let e : v / 2 ^ s - v / 2 ^ s ≡ 0 = omega arith in
+pub zeros-start : {o : List ℕ} {v : ℕ} {p : Pen} → Able o p v → ZerosTurn o v p o p v
+zeros-start {v = v} able =
+    let e : v - v ≡ 0 = omega arith in
     record { puts = rw e (puts-none (able .held) (able .word)); left = omega arith; size = refl }
 
-module _ {o o′ : List ℕ} {s v : ℕ} {p p′ : Pen} {zeros : ℕ} (turn : RiceTurn o s v p o′ p′ zeros) where
+module _ {o o′ : List ℕ} {v : ℕ} {p p′ : Pen} {zeros : ℕ} (turn : ZerosTurn o v p o′ p′ zeros) where
   -- room for what is still to come
-  pub rice-able : Able o p (length (riceForm s v)) → (n : ℕ) → n ≤ zeros + 1 + s → Able o′ p′ n
-  rice-able able n few =
-      record {
-        held = turn .puts .held;
-        word = turn .puts .word;
-        room = omega (arith, turn .puts .place, turn .left, turn .size, able .room, length-riceForm s v, length-replicate {A = ℕ} (v / 2 ^ s - zeros) 0);
-      }
+  pub zeros-able : Able o p v → (n : ℕ) → n ≤ zeros → Able o′ p′ n
+  zeros-able able n few =
+      able-then n able (turn .puts) (turn .size) (omega (arith, turn .left, length-replicate {A = ℕ} (v - zeros) 0))
 
-  pub rice-turn : 16 < zeros → {o″ : List ℕ} {p″ : Pen} → Puts o′ p′ (lowBits 16 0) o″ p″ → length o″ ≡ length o′ → RiceTurn o s v p o″ p″ (zeros - 16)
-  rice-turn more put size =
-      let e : v / 2 ^ s - zeros + 16 ≡ v / 2 ^ s - (zeros - 16) = omega (arith, turn .left) in
-      let f : replicate (v / 2 ^ s - zeros) 0 ++ lowBits 16 0 ≡ replicate (v / 2 ^ s - (zeros - 16)) 0 =
-      rw (zero-bits 16) (replicate-append-replicate (v / 2 ^ s - zeros) 16 0 ∙ ap (λ (k : ℕ). replicate k 0) e) in
+  pub zeros-then : (n : ℕ) → n ≤ zeros → {o″ : List ℕ} {p″ : Pen} → Puts o′ p′ (lowBits n 0) o″ p″ → length o″ ≡ length o′ → ZerosTurn o v p o″ p″ (zeros - n)
+  zeros-then n few put size =
+      let e : v - zeros + n ≡ v - (zeros - n) = omega (arith, turn .left) in
+      let f : replicate (v - zeros) 0 ++ lowBits n 0 ≡ replicate (v - (zeros - n)) 0 =
+      rw (zero-bits n) (replicate-append-replicate (v - zeros) n 0 ∙ ap (λ (k : ℕ). replicate k 0) e) in
       record { puts = puts-as (puts-then (turn .puts) put) f; left = omega (arith, turn .left); size = size ∙ turn .size }
+
+  pub zeros-done : {o″ : List ℕ} {p″ : Pen} → Puts o′ p′ (lowBits zeros 0) o″ p″ → length o″ ≡ length o′ → Puts o p (replicate v 0) o″ p″
+  zeros-done put size =
+      let e : v - (zeros - zeros) ≡ v = omega arith in
+      rw e at (zeros-then zeros (omega arith) put size .puts)
 
 -- what the code has for 2 ^ s
 pub one-shifted : (s : ℕ) → s ≤ 15 → (1 * 2 ^ s) % 2 ^ 64 ≡ 2 ^ s
@@ -77,13 +78,16 @@ rice-end k s v e =
     let d : lowBits s (v % 2 ^ s) ≡ lowBits s v = rw zero-add at (lowBits-mod s 0 v) in
     rw (e, a, lowBits-join (k + 1) s 1 (v % 2 ^ s) (mod-lt v (pow-pos s)), b, d, append-assoc)
 
-pub rice-whole : {o o′ o″ : List ℕ} {s v : ℕ} {p p′ p″ : Pen} {zeros one : ℕ} → RiceTurn o s v p o′ p′ zeros → one ≡ 2 ^ s
-    → Puts o′ p′ (lowBits (zeros + 1 + s) (one + v % one)) o″ p″ → Puts o p (riceForm s v) o″ p″
+pub rice-short : (s v : ℕ) {o o′ : List ℕ} {p p′ : Pen} {one : ℕ} → one ≡ 2 ^ s → Puts o p (lowBits (v / 2 ^ s + 1 + s) (one + v % one)) o′ p′
+    → Puts o p (riceForm s v) o′ p′
 unfolding riceForm
-rice-whole {s = s} {v = v} {zeros = k} turn e put =
-    let q : v / 2 ^ s - k + k ≡ v / 2 ^ s = omega (arith, turn .left) in
-    puts-as (puts-then (turn .puts) put)
-    (rw (rice-end k s v e, ← (append-assoc (replicate (v / 2 ^ s - k) 0) (replicate k 0) (1 ∷ lowBits s v)), replicate-append-replicate, q))
+rice-short s v e put = puts-as put (rice-end (v / 2 ^ s) s v e)
+
+pub rice-long : (s v : ℕ) {o o′ o″ : List ℕ} {p p′ p″ : Pen} {one : ℕ} → one ≡ 2 ^ s → Puts o p (replicate (v / 2 ^ s) 0) o′ p′
+    → Puts o′ p′ (lowBits (1 + s) (one + v % one)) o″ p″ → Puts o p (riceForm s v) o″ p″
+unfolding riceForm
+rice-long s v e zeros put =
+    puts-then zeros (puts-as put (rice-end 0 s v e))
 
 -- runs: those done, and one more
 pub forms-append : (s : ℕ) (a b : List ℕ) → riceForms s (a ++ b) ≡ riceForms s a ++ riceForms s b
@@ -110,12 +114,7 @@ module _ {o o′ runs : List ℕ} {p p′ : Pen} {s count j : ℕ} (turn : RunsT
   runs-able able e =
       let a = forms-le s runs (j + 1) count (omega arith) in
       let b = ap length (forms-suc s runs j (omega arith)) ∙ length-append (riceForms s (take j runs)) (riceForm s (getD runs j 0)) in
-      rw e
-      (record {
-        held = turn .puts .held;
-        word = turn .puts .word;
-        room = omega (arith, turn .puts .place, turn .size, able .room);
-      })
+      rw e (able-then _ able (turn .puts) (turn .size) (omega arith))
 
   pub runs-then : {v : ℕ} → v ≡ getD runs j 0 → {o″ : List ℕ} {p″ : Pen} → Puts o′ p′ (riceForm s v) o″ p″ → length o″ ≡ length o′
       → RunsTurn o p s runs o″ p″ count (j + 1)

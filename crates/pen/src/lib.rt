@@ -3,10 +3,11 @@
 
 ghost use mathlib.Core.Path.{_≡_};
 ghost use mathlib.Core.List.{[]};
-ghost use Prim.Native.Nat.{_+_, _*_, _-_, _^_, _%_, _≤_, _<_};
-ghost use lib.ListN.{length, take, drop, replicate};
+ghost use Prim.Native.Nat.{ℕ, _+_, _*_, _-_, _^_, _%_, _≤_, _<_};
+ghost use lib.ListN.{length, getD, take, drop, replicate};
 ghost use Rattle.rules.specs.Bits.{lowBits, bitsOf};
 ghost use Rattle.rules.specs.Runs.{riceForm, riceForms};
+ghost use Rattle.pen.specs.Rows.{rowBits};
 ghost use Rattle.pen.specs.Puts.{penBits, Able, Flags, Puts, Stores, Gathers, Flushes, Packed};
 
 pub struct Pen {
@@ -62,19 +63,33 @@ pub fn put(out: &mut [u8], p: Pen, n: usize, v: u64) -> Pen
     }
 }
 
-// "k zeros and a 1, then the low S bits of v": the long zeros first, the rest at once.
+// So many zero bits.
+pub fn put_zeros(out: &mut [u8], p: Pen, v: u64) -> Pen
+    requires { ⌜ Able (now out) p v ⌝ }
+    ensures { λ r. ⌜ Puts (now (out .entry)) p (replicate v 0) (now (out .exit)) r ⌝ }
+{
+    let mut q = p;
+    let mut zeros = v;
+    while 32 < zeros {
+        q = put(out, q, 32, 0);
+        zeros = zeros - 32;
+    }
+    put(out, q, zeros as usize, 0)
+}
+
+// "k zeros and a 1, then the low S bits of v": at once where they are few.
 pub fn put_rice(out: &mut [u8], p: Pen, s: usize, v: u64) -> Pen
     requires { ⌜ s ≤ 15 ⌝ }
     requires { ⌜ Able (now out) p (length (riceForm s v)) ⌝ }
     ensures { λ r. ⌜ Puts (now (out .entry)) p (riceForm s v) (now (out .exit)) r ⌝ }
 {
-    let mut q = p;
-    let mut zeros = v >> s;
-    while 16 < zeros {
-        q = put(out, q, 16, 0);
-        zeros = zeros - 16;
+    let zeros = v >> s;
+    let last = (1 << s) + v % (1 << s);
+    if zeros <= 16 {
+        return put(out, p, zeros as usize + 1 + s, last);
     }
-    put(out, q, zeros as usize + 1 + s, (1 << s) + v % (1 << s))
+    let q = put_zeros(out, p, zeros);
+    put(out, q, 1 + s, last)
 }
 
 fn wide(x: u16) -> u64
@@ -134,6 +149,24 @@ pub fn put_flags(out: &mut [u8], p: Pen, flags: &[u8; 320], n: usize) -> Pen
     }
     let w = gather(flags, i, n - i);
     put(out, q, n - i, w)
+}
+
+// A row of flags, 40 to a word: the first k words.
+pub fn put_row(out: &mut [u8], p: Pen, row: &[u64; 8], k: usize) -> Pen
+    requires { ⌜ (k ≤ 8) × (length (now row) ≡ 8) ⌝ }
+    requires { ⌜ ((i : ℕ) → getD (now row) i 0 < 2 ^ 40) ⌝ }
+    requires { ⌜ Able (now out) p (40 * k) ⌝ }
+    ensures { λ r. ⌜ Puts (now (out .entry)) p (rowBits (take k (now (row .entry)))) (now (out .exit)) r ⌝ }
+{
+    let mut q = p;
+    let mut i = 0;
+    while i < k {
+        let w = row[i];
+        let high = put(out, q, 8, w >> 32);
+        q = put(out, high, 32, w % 4294967296);
+        i += 1;
+    }
+    q
 }
 
 // What is held, stored by octets.

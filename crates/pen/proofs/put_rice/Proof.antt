@@ -1,84 +1,90 @@
 use borrow.Author.Needs.{needs}
-use lib.Pow.{pow-pos}
-use Rattle.pen.proofs.Rice.{rice-word}
+use Prim.Native.Nat.{ℕ, _^_, _/_}
 use native.Mathlib.Omega.{arith}
-use Rattle.pen.proofs.Rice.{rice-start, rice-able, rice-turn, rice-fits, one-shifted, rice-whole}
-use Rattle.pen.proofs.Rice.{RiceTurn}
+use lib.ListN.{length-replicate}
+use lib.Pow.{pow-pos}
+use Rattle.pen.proofs.Putting.{able-as, able-then}
+use Rattle.pen.proofs.Rice.{length-riceForm, one-shifted, rice-fits, rice-word, rice-short, rice-long}
 use Rattle.pen.proofs.put_rice.Statement.{statement}
 use Rattle.pen.proofs.put_rice.Tie as tie
 use Rattle.pen.proofs.put_rice.Reads as reads
 use Rattle.pen.proofs.put_rice.Lts as lts
 use Rattle.pen.proofs.put.Reads as put-reads
+use Rattle.pen.proofs.put_zeros.Reads as put-zeros-reads
 
-abbrev Inv-loop : tie.InvT-loop
-Inv-loop out₀ s v q₀ zeros₀ out q zeros = RiceTurn out₀ s v q₀ out q zeros
-
-abbrev μ-loop : tie.MeasureT-loop
-μ-loop out₀ s v q₀ zeros₀ out q zeros = zeros
-
-shr-zeros : tie.Need-shr-zeros Inv-loop μ-loop
+shr-zeros : tie.Need-shr-zeros
 shr-zeros c = search needs
 
-loop-holds : tie.Need-loop-holds Inv-loop μ-loop
-loop-holds c = rice-start (c .before .pre .1)
+shl-last : tie.Need-shl-last
+shl-last c = search needs
 
-put-requires : tie.Need-put-requires Inv-loop μ-loop
-put-requires c κs = (rice-able (c .before .before .loop .inv) (c .before .before .before .before .pre .1) 16 (omega arith), omega arith)
+shl-last-2 : tie.Need-shl-last-2
+shl-last-2 c = search needs
 
-sub-zeros : tie.Need-sub-zeros Inv-loop μ-loop
-sub-zeros c = search needs
+rem-last : tie.Need-rem-last
+rem-last c = rw (one-shifted _ (c .before .pre .0)) (pow-pos _)
 
-loop-less : tie.Need-loop-less Inv-loop μ-loop
-loop-less c = search needs
+add-last : tie.Need-add-last
+add-last c = record { fits = rice-word _ _ (one-shifted _ (c .before .pre .0)) (c .before .pre .0) }
 
-loop-again : tie.Need-loop-again Inv-loop μ-loop
-loop-again c = rice-turn (c .before .before .before .before .before .loop .inv) (c .before .before .before .before .loop-test .taken) (c .before .before .put .ensures) (c .before .before .put .kept .0)
-
-add-put : tie.Need-add-put Inv-loop μ-loop
+add-put : tie.Need-add-put
 add-put c = search needs
 
-add-put-2 : tie.Need-add-put-2 Inv-loop μ-loop
+add-put-2 : tie.Need-add-put-2
 add-put-2 c = search needs
 
-shl-put : tie.Need-shl-put Inv-loop μ-loop
-shl-put c = search needs
+put-requires : tie.Need-put-requires
+put-requires c κs =
+    let s = c .before .before .before in
+    (able-as (s .pre .1) (omega (arith, length-riceForm (s .args .s) (s .args .v))), (omega arith, rice-fits _ _ _ (one-shifted _ (s .pre .0))))
 
-shl-put-2 : tie.Need-shl-put-2 Inv-loop μ-loop
-shl-put-2 c = search needs
-
-rem-put : tie.Need-rem-put Inv-loop μ-loop
-rem-put c = rw (one-shifted _ (c .before .before .before .before .pre .0)) (pow-pos _)
-
-add-put-3 : tie.Need-add-put-3 Inv-loop μ-loop
-add-put-3 c = record { fits = rice-word _ _ (one-shifted _ (c .before .before .before .before .pre .0)) (c .before .before .before .before .pre .0) }
-
-put-requires-2 : tie.Need-put-requires-2 Inv-loop μ-loop
-put-requires-2 c κs = let s = c .before .before .before .before in (rice-able (c .before .before .loop .inv) (s .pre .1) _ (omega arith), (omega arith, rice-fits _ _ _ (one-shifted _ (s .pre .0))))
-
-same-length : tie.Need-same-length Inv-loop μ-loop
+same-length : tie.Need-same-length
 same-length c = search needs
 
-returns : tie.Need-returns Inv-loop μ-loop
-returns c = let s = c .before .before .before .before .before .before .before in rice-whole (c .before .before .before .before .before .loop .inv) (one-shifted _ (s .pre .0)) (c .before .before .put2 .ensures)
+returns : tie.Need-returns
+returns c =
+    let s = c .before .before .before .before .before .before in
+    rice-short (s .args .s) (s .args .v) (one-shifted _ (s .pre .0)) (c .before .before .put .ensures)
+
+put-zeros-requires : tie.Need-put-zeros-requires
+put-zeros-requires c κs =
+    let s = c .before .before .before in
+    able-as (s .pre .1) (omega (arith, length-riceForm (s .args .s) (s .args .v)))
+
+add-put-3 : tie.Need-add-put-3
+add-put-3 c = search needs
+
+put-requires-2 : tie.Need-put-requires-2
+put-requires-2 c κs =
+    let s = c .before .before .before .before .before .before .before in
+    let z = c .before .before .before .put-zeros in
+    let k = length-replicate {A = ℕ} (s .args .v / 2 ^ s .args .s) 0 in
+    (able-then _ (s .pre .1) (z .ensures) (z .kept .0) (omega (arith, length-riceForm (s .args .s) (s .args .v))), (omega arith, rice-fits 0 _ _ (one-shifted _ (s .pre .0))))
+
+same-length-2 : tie.Need-same-length-2
+same-length-2 c = search needs
+
+returns-2 : tie.Need-returns-2
+returns-2 c =
+    let s = c .before .before .before .before .before .before .before .before .before .before in
+    rice-long (s .args .s) (s .args .v) (one-shifted _ (s .pre .0)) (c .before .before .before .before .before .before .put-zeros .ensures) (c .before .before .put2 .ensures)
 
 pub put-rice-spec : {M : Type 1} → statement M
 put-rice-spec =
     tie.close
     (tie.spec
-    Inv-loop
-    μ-loop
     shr-zeros
-    loop-holds
-    put-requires
-    sub-zeros
-    loop-less
-    loop-again
+    shl-last
+    shl-last-2
+    rem-last
+    add-last
     add-put
     add-put-2
-    shl-put
-    shl-put-2
-    rem-put
+    put-requires
+    same-length
+    returns
+    put-zeros-requires
     add-put-3
     put-requires-2
-    same-length
-    returns)
+    same-length-2
+    returns-2)
