@@ -4,17 +4,22 @@ use mathlib.Core.Path.{_≡_, refl, sym, ap, _∙_}
 use mathlib.Core.List.{List, [], _∷_, _++_, append-nil, append-assoc}
 use mathlib.Core.Bool.{Bool, true, false, cond}
 use native.Mathlib.Omega.{arith}
+use native.Mathlib.Numerals.{add-one}
 use native.Mathlib.Nat.{zero-add}
-use borrow.Author.Tests.{eqb-true, eqb-false, leb-true, leb-false}
-use lib.ListN.{length, getD, take, drop, replicate, replicate-append-replicate}
+use borrow.Author.Tests.{ne-eqb, le-leb, lt-leb, eqb-true, eqb-false, leb-true, leb-false}
+use lib.ListN.{length, getD, take, drop, replicate, length-append, length-replicate, replicate-append-replicate, List·getD-eq-default, drop-of-length-le}
+use lib.Seq.{drop-cons, length-take-le, getD-take, take-take}
 use lib.Dec.{eqb, leb}
 use Rattle.rules.specs.Bits.{lowBits}
 use Rattle.rules.specs.Runs.{runsOf, riceForm, riceForms}
 use Rattle.rules.specs.Located.{widthOf}
 use Rattle.rules.specs.Chooses.{countOf, placesOf, numbersForm, methodOf, valueForm}
-use Rattle.rules.proofs.Octets.{Below, none, more, below-all, below-at}
+use Rattle.rules.proofs.Octets.{length-lowBits, Below, none, more, below-all, below-at}
 use Rattle.measure.proofs.Finding.{runs-common, runs-other}
 use Rattle.choice.specs.Ways.{FlagsAre}
+use Rattle.pen.specs.declared.Pen.{Pen}
+use Rattle.pen.specs.Puts.{Able, Puts}
+use Rattle.pen.proofs.Putting.{puts-none, puts-then, puts-as, able-then}
 use Rattle.writer.specs.Ways.{placesBy, listedForm, marksForm, wayForm, ListedReady, WayReady}
 use Rattle.writer.proofs.Values.{value-absent, value-plain, value-runs, listed, value-listed}
 
@@ -117,3 +122,94 @@ module _ {flags runs : List ℕ} {d count m : ℕ} (e : runsOf 0 flags ≡ runs)
             let b : Below (length flags) (placesOf 0 flags) = rw zero-add at (places-below 0 flags) in
             record { some = l .some; few = l .few; places = λ i. rw (places, ← (f .size)) (below-at b k i) });
       }
+
+-- the form by each method
+module _ (m d count : ℕ) (runs : List ℕ) where
+  pub way-absent : m ≡ 5 → lowBits 3 5 ≡ wayForm m d count runs
+  unfolding wayForm
+  way-absent h = rw h
+
+  pub way-marks : m ≡ 0 → lowBits 3 0 ++ marksForm count runs ≡ wayForm m d count runs
+  unfolding wayForm
+  way-marks h = rw h
+
+  pub way-runs : (m ≡ 0 → ⊥) → m ≤ 4 → {v s : ℕ} → v ≡ m → s ≡ m → lowBits 3 v ++ riceForms s runs ≡ wayForm m d count runs
+  unfolding wayForm
+  way-runs n h e f =
+      let five : m ≡ 5 → ⊥ = λ k. absurd (omega arith) in
+      rw (ne-eqb m 5 five, ne-eqb m 0 n, le-leb m 4 h, e, f)
+
+  pub way-listed : (m ≡ 5 → ⊥) → 4 < m → {w : ℕ} {l : List ℕ} → w ≡ widthOf d → l ≡ take count runs
+      → lowBits 5 (28 + count - 1) ++ numbersForm w (placesBy 0 l) ≡ wayForm m d count runs
+  unfolding wayForm
+  way-listed n h e f =
+      let none : m ≡ 0 → ⊥ = λ k. absurd (omega arith) in
+      rw (ne-eqb m 5 n, ne-eqb m 0 none, lt-leb m 4 h, e, f)
+
+-- so many runs are found
+pub way-within : {m d count found : ℕ} (runs : List ℕ) → found ≤ 321 → length runs ≡ 321 → WayReady m d count (take found runs) → count ≤ found
+way-within {found = found} runs h long r = omega (arith, r .within, length-take-le found runs (omega arith))
+
+-- the runs that end, and what is open
+module _ (count found : ℕ) (runs : List ℕ) (within : count ≤ found) where
+  pub marks-closed : found ≤ count → found ≤ length runs → riceForms 0 (take count runs) ≡ marksForm count (take found runs)
+  marks-closed h long =
+      let z : getD (take found runs) count 0 ≡ 0 = List·getD-eq-default (take found runs) 0 (omega (arith, length-take-le found runs long)) in
+      rw (take-take count found runs within, z, append-nil)
+
+  pub marks-open : {v : ℕ} → count < found → v ≡ getD runs count 0 → riceForms 0 (take count runs) ++ replicate v 0 ≡ marksForm count (take found runs)
+  marks-open h e = rw (take-take count found runs within, getD-take found runs count 0 h, e)
+
+  pub marks-length : length (riceForms 0 (take count runs)) + getD (take found runs) count 0 ≡ length (marksForm count (take found runs))
+  marks-length = rw (take-take count found runs within, length-append, length-replicate)
+
+-- places listed one after the other: what is put, and what is left to put
+pub record ListedTurn (o : List ℕ) (p : Pen) (w : ℕ) (l o′ : List ℕ) (p′ : Pen) (at j : ℕ) : Type 0 where
+  pub done : List ℕ
+  pub puts : Puts o p done o′ p′
+  pub rest : done ++ numbersForm w (placesBy at (drop j l)) ≡ numbersForm w (placesBy 0 l)
+  pub fits : (i : ℕ) → getD (placesBy at (drop j l)) i 0 < 2 ^ w
+  pub small : at ≤ 2 ^ w
+  pub size : length o′ ≡ length o
+
+pub listed-start : {o : List ℕ} {p : Pen} {m : ℕ} (w : ℕ) (l : List ℕ) → Able o p m → ((i : ℕ) → getD (placesBy 0 l) i 0 < 2 ^ w) → ListedTurn o p w l o p 0 0
+listed-start w l a f = record { done = []; puts = puts-none (a .held) (a .word); rest = refl; fits = f; small = omega arith; size = refl }
+
+module _ {o o′ : List ℕ} {p p′ : Pen} {at j v : ℕ} (w count : ℕ) (runs : List ℕ) (t : ListedTurn o p w (take count runs) o′ p′ at j) (h : j < count)
+    (long : count ≤ length runs) (e : v ≡ getD runs j 0) where
+  next : drop j (take count runs) ≡ v ∷ drop (j + 1) (take count runs)
+  next = rw (drop-cons (take count runs) j 0 (omega (arith, length-take-le count runs long)), getD-take count runs j 0 h, ← e, add-one j)
+
+  later : placesBy at (drop j (take count runs)) ≡ (at + v) ∷ placesBy (at + v + 1) (drop (j + 1) (take count runs))
+  unfolding placesBy
+  later = rw next
+
+  pub listed-fits : at + v < 2 ^ w
+  listed-fits = rw later at (t .fits 0)
+
+  parts : t .done ++ (lowBits w (at + v) ++ numbersForm w (placesBy (at + v + 1) (drop (j + 1) (take count runs)))) ≡ numbersForm w (placesBy 0 (take count runs))
+  unfolding numbersForm
+  parts = rw later at (t .rest)
+
+  pub listed-able : Able o p (length (numbersForm w (placesBy 0 (take count runs)))) → Able o′ p′ w
+  listed-able a =
+      let k = sym (ap length parts) ∙ length-append (t .done) _ in
+      let n = length-append (lowBits w (at + v)) (numbersForm w (placesBy (at + v + 1) (drop (j + 1) (take count runs)))) in
+      able-then w a (t .puts) (t .size) (omega (arith, k, n, length-lowBits w (at + v)))
+
+  pub listed-then : {o″ : List ℕ} {p″ : Pen} → Puts o′ p′ (lowBits w (at + v)) o″ p″ → length o″ ≡ length o′ → ListedTurn o p w (take count runs) o″ p″ (at + v + 1) (j + 1)
+  listed-then put size =
+      record {
+        done = t .done ++ lowBits w (at + v);
+        puts = puts-then (t .puts) put;
+        rest = append-assoc (t .done) (lowBits w (at + v)) (numbersForm w (placesBy (at + v + 1) (drop (j + 1) (take count runs)))) ∙ parts;
+        fits = λ i. rw later at (t .fits (suc i));
+        small = omega (arith, listed-fits);
+        size = size ∙ t .size;
+      }
+
+pub listed-done : {o o′ : List ℕ} {p p′ : Pen} {at j : ℕ} (w : ℕ) (l : List ℕ) → ListedTurn o p w l o′ p′ at j → length l ≤ j → Puts o p (numbersForm w (placesBy 0 l)) o′ p′
+unfolding placesBy numbersForm
+listed-done {j = j} w l t h =
+    let e : drop j l ≡ [] = drop-of-length-le l h in
+    puts-as (t .puts) (sym (append-nil (t .done)) ∙ rw e at (t .rest))

@@ -20,6 +20,7 @@ use pen::fresh;
 use pen::put;
 use pen::put_flags;
 use pen::put_runs;
+use pen::put_zeros;
 use prefix::base_of;
 use prefix::octet_for;
 use rules::Ending;
@@ -29,7 +30,7 @@ use rules::WriteAnswer;
 ghost use mathlib.Core.Path.{_≡_};
 ghost use mathlib.Core.Bool.{true, cond};
 ghost use mathlib.Core.List.{map};
-ghost use Prim.Native.Nat.{_+_, _*_, _^_, _≤_, _<_};
+ghost use Prim.Native.Nat.{ℕ, _+_, _*_, _^_, _≤_, _<_};
 ghost use lib.ListN.{length, getD, take};
 ghost use lib.Dec.{eqb};
 ghost use Rattle.rules.specs.Bits.{bitsOf};
@@ -37,6 +38,7 @@ ghost use Rattle.rules.specs.First.{riceCode};
 ghost use Rattle.rules.specs.Runs.{riceForms};
 ghost use Rattle.rules.specs.Zeros as zeros;
 ghost use Rattle.pen.specs.Puts.{Able, Puts, Packed};
+ghost use Rattle.writer.specs.Ways.{placesBy, listedForm, marksForm, wayForm, WayReady};
 ghost use Rattle.writer.specs.Forms.{CodeIs, wholeOctets, Copied, RiceReady, riceFormOf, placeForm, placesForm, Marked, ValuesReady, valuesFormOf, placedFormOf, bodyForm, IsFrame, Planned};
 ghost use Rattle.rules.specs.Chooses.{methodOf, valueForm, formOf, declined, writeOne};
 ghost use Rattle.rules.specs.Tools.{isLength};
@@ -262,6 +264,74 @@ fn put_value(out: &mut [u8], p: Pen, flags: &[u8; 320], d: usize, count: usize, 
     }
     let q = put(out, p, 5, 28 + count as u64 - 1);
     put_places(out, q, flags, d, width_of(d))
+}
+
+fn long(x: u16) -> u64
+    ensures { λ r. ⌜ (r ≡ x) × (r < 65536) ⌝ }
+{
+    x as u64
+}
+
+// "that many places of ceil(log2 D) bits, rising": the places at which runs end.
+fn put_listed(out: &mut [u8], p: Pen, runs: &[u16; 321], count: usize, w: usize) -> Pen
+    requires { ⌜ (w ≤ 9) × ((count ≤ 321) × (length (now runs) ≡ 321)) ⌝ }
+    requires { ⌜ ((i : ℕ) → getD (placesBy 0 (take count (now runs))) i 0 < 2 ^ w) ⌝ }
+    requires { ⌜ Able (now out) p (length (listedForm w count (now runs))) ⌝ }
+    ensures { λ r. ⌜ Puts (now (out .entry)) p (listedForm w count (now (runs .entry))) (now (out .exit)) r ⌝ }
+{
+    let mut q = p;
+    let mut at = 0;
+    let mut j = 0;
+    while j < count {
+        let place = at + long(runs[j]);
+        q = put(out, q, w, place);
+        at = place + 1;
+        j += 1;
+    }
+    q
+}
+
+// "D bits, where a 1 is an occurrence": each run is its zeros and a 1, and what is open at the end is zeros alone.
+fn put_marks(out: &mut [u8], p: Pen, runs: &[u16; 321], found: usize, count: usize) -> Pen
+    requires { ⌜ (count ≤ found) × ((found ≤ 321) × (length (now runs) ≡ 321)) ⌝ }
+    requires { ⌜ Able (now out) p (length (marksForm count (take found (now runs)))) ⌝ }
+    ensures { λ r. ⌜ Puts (now (out .entry)) p (marksForm count (take found (now (runs .entry)))) (now (out .exit)) r ⌝ }
+{
+    let q = put_runs(out, p, 0, runs, count);
+    if count < found {
+        return put_zeros(out, q, long(runs[count]));
+    }
+    q
+}
+
+// A value's places by its method, from its runs alone.
+fn put_way(
+    out: &mut [u8],
+    p: Pen,
+    runs: &[u16; 321],
+    found: usize,
+    d: usize,
+    count: usize,
+    method: u8,
+) -> Pen
+    requires { ⌜ (found ≤ 321) × (length (now runs) ≡ 321) ⌝ }
+    requires { ⌜ WayReady method d count (take found (now runs)) ⌝ }
+    requires { ⌜ Able (now out) p (length (wayForm method d count (take found (now runs)))) ⌝ }
+    ensures { λ r. ⌜ Puts (now (out .entry)) p (wayForm method d count (take found (now (runs .entry)))) (now (out .exit)) r ⌝ }
+{
+    if method == 5 {
+        return put(out, p, 3, 5);
+    }
+    if method == 0 {
+        let q = put(out, p, 3, 0);
+        return put_marks(out, q, runs, found, count);
+    }
+    if method <= 4 {
+        let q = put(out, p, 3, wide(method));
+        return put_runs(out, q, sized(method), runs, found);
+    }
+    let q = put(out, p, 5, 28 + count as u64 - 1);
+    put_listed(out, q, runs, count, width_of(d))
 }
 
 // "D is N for the first value, then the places still empty": the values one after the other.
