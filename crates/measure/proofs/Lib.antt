@@ -3,3 +3,4 @@ pub mod Finding
 pub mod Weighing
 pub mod Looking
 pub mod Leaving
+pub mod Rows
