@@ -4,3 +4,4 @@ pub mod Weighing
 pub mod Looking
 pub mod Leaving
 pub mod Rows
+pub mod Values
