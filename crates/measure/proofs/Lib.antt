@@ -3,3 +3,5 @@ pub mod Finding
 pub mod Weighing
 pub mod Looking
 pub mod Leaving
+pub mod Rows
+pub mod Values
