@@ -2,4 +2,5 @@ pub mod Marking
 pub mod Finding
 pub mod Weighing
 pub mod Looking
+pub mod Spreading
 pub mod Leaving
