@@ -4,3 +4,4 @@ pub mod Weighing
 pub mod Looking
 pub mod Spreading
 pub mod Leaving
+pub mod Rows

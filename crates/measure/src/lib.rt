@@ -6,12 +6,14 @@ use law::plus_zero;
 use law::sample_of;
 ghost use mathlib.Core.Path.{_≡_};
 ghost use mathlib.Core.Bool.{cond};
-ghost use Prim.Native.Nat.{_+_, _^_, _/_, _≤_, _<_, min, max};
-ghost use lib.ListN.{length, getD, take};
+ghost use Prim.Native.Nat.{_+_, _*_, _^_, _/_, _≤_, _<_, min, max};
+ghost use lib.ListN.{length, getD, take, drop};
 ghost use lib.Dec.{eqb, ltb};
 ghost use Rattle.rules.specs.Runs.{riceForms};
 ghost use Rattle.rules.specs.Located.{widthOf};
 ghost use Rattle.rules.specs.Chooses.{without};
+ghost use Rattle.pen.specs.Puts.{Gathers};
+ghost use Rattle.pen.specs.Rows.{RowIs};
 ghost use Rattle.measure.specs.Measures.{Flagged, marksOf, RunsAre, bitsWith, LeastIs, Looked, Counted, CopyIs, LeftIs, SpreadIs, countIs};
 
 // An S, and the bits that it needs.
@@ -344,4 +346,39 @@ pub fn without_value(cells: &mut [u8; 320], d: usize, x: u8) -> usize
         i += 1;
     }
     kept
+}
+
+// 1 where two samples differ.
+fn unlike(x: u8, y: u8) -> u64
+    ensures { λ r. ⌜ (r ≡ cond (eqb x y) 0 1) × (r < 2) ⌝ }
+{
+    if x == y { 0 } else { 1 }
+}
+
+// The flags of 40 samples as a word, the first one highest: 1 where a sample is not x.
+fn word_at(samples: &[u8], from: usize, x: u8) -> u64
+    requires { ⌜ from + 40 ≤ length (now samples) ⌝ }
+    ensures { λ r. ⌜ Gathers (marksOf x 0 1 (take 40 (drop from (now (samples .entry))))) 40 r ⌝ }
+{
+    let mut v: u64 = 0;
+    let mut j = 0;
+    while j < 40 {
+        v = 2 * v + unlike(samples[from + j], x);
+        j += 1;
+    }
+    v
+}
+
+// A row of flags, 40 to a word: 1 where a sample is not x.
+pub fn others(samples: &[u8], k: usize, x: u8) -> [u64; 8]
+    requires { ⌜ (k ≤ 8) × (40 * k ≤ length (now samples)) ⌝ }
+    ensures { λ r. ⌜ RowIs (marksOf x 0 1 (take (40 * k) (now (samples .entry)))) k r ⌝ }
+{
+    let mut row = [0u64; 8];
+    let mut i = 0;
+    while i < k {
+        row[i] = word_at(samples, 40 * i, x);
+        i += 1;
+    }
+    row
 }
