@@ -1,2 +1,3 @@
 -- What is found out about flags and about a frame.
 pub mod Measures
+pub mod Tracks

@@ -6,15 +6,16 @@ use law::plus_zero;
 use law::sample_of;
 ghost use mathlib.Core.Path.{_≡_};
 ghost use mathlib.Core.Bool.{cond};
-ghost use Prim.Native.Nat.{_+_, _*_, _^_, _/_, _≤_, _<_, min, max};
+ghost use Prim.Native.Nat.{ℕ, _+_, _*_, _^_, _/_, _≤_, _<_, min, max};
 ghost use lib.ListN.{length, getD, take, drop};
 ghost use lib.Dec.{eqb, ltb};
 ghost use Rattle.rules.specs.Runs.{riceForms};
 ghost use Rattle.rules.specs.Located.{widthOf};
 ghost use Rattle.rules.specs.Chooses.{without};
 ghost use Rattle.pen.specs.Puts.{Gathers};
-ghost use Rattle.pen.specs.Rows.{RowIs};
+ghost use Rattle.pen.specs.Rows.{rowBits, RowIs};
 ghost use Rattle.measure.specs.Measures.{Flagged, marksOf, RunsAre, bitsWith, LeastIs, Looked, Counted, CopyIs, LeftIs, SpreadIs, countIs};
+ghost use Rattle.measure.specs.Tracks.{TrackIs, Closes, Ends};
 
 // An S, and the bits that it needs.
 pub struct Least {
@@ -381,4 +382,73 @@ pub fn others(samples: &[u8], k: usize, x: u8) -> [u64; 8]
         i += 1;
     }
     row
+}
+
+// The runs of a value found so far, and the place after the last of them: what is open begins there, and a stretch of zeros costs nothing.
+struct Track {
+    count: usize,
+    start: usize,
+}
+
+// A 1 at a place ends the run that is open.
+fn close(runs: &mut [u16; 321], t: Track, place: usize) -> Track
+    requires { ⌜ (length (now runs) ≡ 321) × ((t .count ≤ t .start) × ((t .start ≤ place) × (place < 320))) ⌝ }
+    ensures { λ r. ⌜ Closes t place (now (runs .entry)) r (now (runs .exit)) ⌝ }
+{
+    let count = t.count;
+    runs[count] = (place - t.start) as u16;
+    Track {
+        count: count + 1,
+        start: place + 1,
+    }
+}
+
+// What is open at the end is a run only if it is not empty: "No run follows a run whose closing sample is the last place."
+fn close_last(runs: &mut [u16; 321], t: Track, places: usize) -> usize
+    requires { ⌜ (length (now runs) ≡ 321) × ((t .count ≤ t .start) × ((t .start ≤ places) × (places ≤ 320))) ⌝ }
+    ensures { λ r. ⌜ Ends t places (now (runs .entry)) r (now (runs .exit)) ⌝ }
+{
+    let count = t.count;
+    let open = (places - t.start) as u16;
+    runs[count] = open;
+    count_after(open, count)
+}
+
+// The place of a word's highest 1, counted from its lowest bit.
+fn top_of(w: u64) -> usize
+    requires { ⌜ 0 < w ⌝ }
+    ensures { λ r. ⌜ (2 ^ r ≤ w) × ((w < 2 ^ (r + 1)) × (r < 64)) ⌝ }
+{
+    63 - u64::leading_zeros(w) as usize
+}
+
+// The runs that the ones of a row's word end. The highest 1 is the first, and it is taken off.
+fn word_runs(row: &[u64; 8], i: usize, t: Track, runs: &mut [u16; 321]) -> Track
+    requires { ⌜ (i < 8) × ((length (now row) ≡ 8) × (getD (now row) i 0 < 2 ^ 40)) ⌝ }
+    requires { ⌜ TrackIs (rowBits (take i (now row))) (now runs) t (40 * i) ⌝ }
+    ensures { λ r. ⌜ TrackIs (rowBits (take (i + 1) (now (row .entry)))) (now (runs .exit)) r (40 * (i + 1)) ⌝ }
+{
+    let mut found = t;
+    let mut w = row[i];
+    while 0 < w {
+        let top = top_of(w);
+        found = close(runs, found, 40 * i + 39 - top);
+        w = w - (1 << top);
+    }
+    found
+}
+
+// The runs of a row of k words, left in the lent array; their number comes back.
+pub fn runs_in(row: &[u64; 8], k: usize, runs: &mut [u16; 321]) -> usize
+    requires { ⌜ (k ≤ 8) × ((length (now row) ≡ 8) × (length (now runs) ≡ 321)) ⌝ }
+    requires { ⌜ ((i : ℕ) → getD (now row) i 0 < 2 ^ 40) ⌝ }
+    ensures { λ r. ⌜ RunsAre (rowBits (take k (now (row .entry)))) r (now (runs .exit)) ⌝ }
+{
+    let mut t = Track { count: 0, start: 0 };
+    let mut i = 0;
+    while i < k {
+        t = word_runs(row, i, t, runs);
+        i += 1;
+    }
+    close_last(runs, t, 40 * k)
 }

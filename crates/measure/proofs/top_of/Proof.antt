@@ -1,0 +1,19 @@
+use borrow.Author.Needs.{needs}
+use native.Mathlib.Omega.{arith}
+use Rattle.measure.proofs.Rows.{top-leads}
+use Rattle.measure.proofs.top_of.Statement.{statement}
+use Rattle.measure.proofs.top_of.Tie as tie
+use Rattle.measure.proofs.top_of.Reads as reads
+use Rattle.measure.proofs.top_of.Lts as lts
+
+cast-result : tie.Need-cast-result
+cast-result c = let h = top-leads (c .args .w) (c .pre) (c .fits .w .fits) in omega (arith, h .0)
+
+sub-result : tie.Need-sub-result
+sub-result c = top-leads (c .args .w) (c .pre) (c .fits .w .fits) .0
+
+returns : tie.Need-returns
+returns c = let h = top-leads (c .args .w) (c .pre) (c .fits .w .fits) in (h .1, (h .2, omega arith))
+
+pub top-of-spec : {M : Type 1} → statement M
+top-of-spec = tie.close (tie.spec cast-result sub-result returns)
