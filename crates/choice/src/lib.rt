@@ -5,6 +5,7 @@ use law::plus_zero;
 use law::sample_of;
 use measure::Counts;
 use measure::Look;
+use measure::Spread;
 use measure::copy_of;
 use measure::counts_of;
 use measure::least_s;
@@ -15,15 +16,15 @@ use prefix::holds;
 ghost use mathlib.Core.Path.{_≡_};
 ghost use mathlib.Core.List.{[], _∷_};
 ghost use mathlib.Core.Bool.{true, false, cond, _&&_};
-ghost use Prim.Native.Nat.{_+_, _≤_, _<_};
+ghost use Prim.Native.Nat.{_+_, _%_, _≤_, _<_};
 ghost use lib.ListN.{length, getD, take};
 ghost use lib.Dec.{eqb, leb, ltb};
 ghost use Rattle.rules.specs.Tools as tools;
 ghost use Rattle.rules.specs.Zeros.{zeroOf, mostS};
-ghost use Rattle.measure.specs.Measures.{Looked};
+ghost use Rattle.measure.specs.Measures.{Looked, SpreadIs};
 ghost use Rattle.choice.specs.Ways.{WayFor, WaysAre};
 ghost use Rattle.choice.specs.Offers.{ValuesAre, rowBy, Seen, ZerosSeen, PlacedFor, CodesAre, StartIs, RiceFor};
-ghost use Rattle.choice.specs.Plans.{BetterIs, isMask, near, Plain, PlanFor};
+ghost use Rattle.choice.specs.Plans.{BetterIs, isMask, valueTool, Plain, PlanFor};
 
 // How a value is written: its method, and all its bits with the method's three.
 pub struct Way {
@@ -418,19 +419,6 @@ fn binary_offered(c: Counts, n: usize, set: u32) -> bool
     two_zeros(c, n)
 }
 
-// Uncompressed where a sample is below -2 or above 1, else 0. On the line of signed numbers 0 is at 128.
-fn spread_tool(least: u8, greatest: u8) -> u32
-    ensures { λ r. ⌜ r ≡ cond (near least greatest) 0 1 ⌝ }
-{
-    if least < 126 {
-        return 1;
-    }
-    if 129 < greatest {
-        return 1;
-    }
-    0
-}
-
 // Whether a tool is for this sample, and held.
 fn is_for(x: u8, y: u8, set: u32, tool: u32) -> bool
     ensures { λ r. ⌜ r ≡ tools.holds set tool && eqb x y ⌝ }
@@ -441,27 +429,45 @@ fn is_for(x: u8, y: u8, set: u32, tool: u32) -> bool
     x == y
 }
 
-// The tool of a frame that the first look settles, else 0. A frame of one value takes one or two octets, and no other form is as short;
-// a frame with a sample below -2 or above 1 that is not of one value stays uncompressed.
-pub fn plain_tool(samples: &[u8], n: usize, l: Look, mask: u8, set: u32) -> u32
-    requires { ⌜ (1 ≤ n) × ((n ≤ length (now samples)) × (isMask mask ≡ true)) ⌝ }
-    requires { ⌜ Looked mask (getD (now samples) 0 0) (take n (now samples)) l ⌝ }
-    ensures { λ r. ⌜ Plain mask set (take n (now (samples .entry))) r ⌝ }
+// The tool of a frame of one value, or 0 where the set lacks it.
+fn one_value_tool(x: u8, mask: u8, set: u32) -> u32
+    requires { ⌜ mask < 128 ⌝ }
+    ensures { λ r. ⌜ r ≡ valueTool mask set x ⌝ }
 {
-    if l.mixed != 0 {
-        return spread_tool(l.least, l.greatest);
-    }
-    let first = samples[0];
-    if is_for(first, plus_zero(mask), set, 2) {
+    if is_for(x, plus_zero(mask), set, 2) {
         return 2;
     }
-    if is_for(first, minus_zero(mask), set, 3) {
+    if is_for(x, minus_zero(mask), set, 3) {
         return 3;
     }
     if holds(set, 4) {
         return 4;
     }
     0
+}
+
+// Uncompressed where a sample is below -2 or above 1, else 0: with the mask taken off, the low bits of 0 and -1 are 0, those of 1 and -2 are 1.
+fn spread_tool(any: u8) -> u32
+    ensures { λ r. ⌜ r ≡ cond (ltb (any % 128) 2) 0 1 ⌝ }
+{
+    if 2 <= any % 128 { 1 } else { 0 }
+}
+
+// The tool of a frame that the first look settles, else 0. A frame of one value takes one or two octets, and no other form is as short;
+// where no tool of one value is held, a frame with a sample below -2 or above 1 stays uncompressed, as it does where its samples differ.
+pub fn plain_tool(samples: &[u8], n: usize, l: Spread, mask: u8, set: u32) -> u32
+    requires { ⌜ (1 ≤ n) × ((n ≤ length (now samples)) × (isMask mask ≡ true)) ⌝ }
+    requires { ⌜ SpreadIs mask (getD (now samples) 0 0) (take n (now samples)) l ⌝ }
+    ensures { λ r. ⌜ Plain mask set (take n (now (samples .entry))) r ⌝ }
+{
+    if l.any != l.all {
+        return spread_tool(l.any);
+    }
+    let tool = one_value_tool(samples[0], mask, set);
+    if tool != 0 {
+        return tool;
+    }
+    spread_tool(l.any)
 }
 
 // The chosen tool with its bits, and what Rice and value-location would write.

@@ -4,7 +4,6 @@ use mathlib.Core.Path.{_≡_, refl, sym, ap, ap₂, _∙_}
 use mathlib.Core.List.{List}
 use mathlib.Core.Bool.{Bool, true, false, cond, _&&_, _||_}
 use native.Mathlib.Omega.{arith}
-use native.Mathlib.Numerals.{add-one}
 use lib.Arith.{bin-ind}
 use lib.Bits.{bitOr, bitAnd, bitXor, differ, xor-step, xor-mod, xor-lt, xor-self, xor-zero-r, or-add-and, or-lt, or-mod, or-self, and-le-l, and-le-r, and-comm, and-mask, and-self}
 use lib.Dec.{eqb, leb, ltb}

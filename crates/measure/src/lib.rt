@@ -219,7 +219,7 @@ fn differ(x: u8, y: u8) -> u8
 
 // What a frame's samples have in common, looked at once. Of a sample with the mask taken off, the low seven bits are how far it is from its
 // zero, so those that any sets tell a frame of the two zeros and a frame from -2 to 1; and where no bit differs all samples are equal.
-// Octets, sixteen to a register, and two steps for each.
+// Octets, sixteen to a register, and three steps for each register.
 pub fn spread_of(samples: &[u8], n: usize, mask: u8) -> Spread
     requires { ⌜ (1 ≤ n) × (n ≤ length (now samples)) ⌝ }
     requires { ⌜ mask < 128 ⌝ }

@@ -2,7 +2,7 @@ use borrow.Author.Needs.{needs}
 use Prim.Native.Nat.{_-_, _≤_}
 use mathlib.Core.Path.{_≡_, refl}
 use native.Mathlib.Omega.{arith}
-use lib.ListN.{length, take}
+use lib.ListN.{take}
 use Rattle.rules.specs.Chooses.{countOf}
 use Rattle.measure.specs.Measures.{countIs}
 use Rattle.measure.proofs.Looking.{count-more}

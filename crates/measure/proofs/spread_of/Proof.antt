@@ -1,6 +1,5 @@
 use borrow.Author.Needs.{needs}
 use Prim.Native.Nat.{_-_}
-use mathlib.Core.Path.{_≡_}
 use native.Mathlib.Omega.{arith}
 use Rattle.measure.proofs.Spreading.{SpreadTurn, spread-none, spread-turn, spread-done}
 use Rattle.measure.proofs.spread_of.Statement.{statement}
