@@ -12,7 +12,7 @@ use Rattle.rules.specs.Chooses.{countOf, without}
 use Rattle.pen.proofs.Putting.{drop-further}
 use Rattle.measure.specs.Measures.{countIs, CopyIs, LeftIs}
 
-without-cons : (x y : ℕ) (l : List ℕ) (b : Bool) → eqb y x ≡ b → without x (y ∷ l) ≡ cond b (without x l) (y ∷ without x l)
+pub without-cons : (x y : ℕ) (l : List ℕ) (b : Bool) → eqb y x ≡ b → without x (y ∷ l) ≡ cond b (without x l) (y ∷ without x l)
 unfolding without
 without-cons x y l b e = both (eqb y x) ∙ ap (λ (t : Bool). cond t (without x l) (y ∷ without x l)) e
   where

@@ -5,3 +5,4 @@ pub mod Looking
 pub mod Spreading
 pub mod Leaving
 pub mod Rows
+pub mod Values

@@ -96,7 +96,7 @@ row-again x s row k i w few h t g =
 pub top-below : (m j w : ℕ) → 2 ^ j ≤ w → w < 2 ^ m → j < m
 top-below m j w lo hi = lt-of-not-le (λ (h : m ≤ j). let p : 2 ^ m ≤ 2 ^ j = pow-mono h in absurd (omega arith))
 
-lowBits-none : (n : ℕ) → lowBits n 0 ≡ replicate n 0
+pub lowBits-none : (n : ℕ) → lowBits n 0 ≡ replicate n 0
 unfolding lowBits
 lowBits-none zero = refl
 lowBits-none (suc n) = let z : 0 / 2 ^ n ≡ 0 = div-eq-of-lt (pow-pos n) in rw (z, lowBits-none n)

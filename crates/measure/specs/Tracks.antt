@@ -6,7 +6,9 @@ use mathlib.Core.Bool.{cond}
 use lib.ListN.{length, take, set}
 use lib.Dec.{eqb}
 use Rattle.rules.specs.Runs.{runsOf}
+use Rattle.rules.specs.Chooses.{flagsFor, without}
 use Rattle.measure.specs.declared.Track.{Track}
+use Rattle.measure.specs.declared.Tracks.{Tracks}
 
 -- the runs of the flags before a place: those that have ended, and the one that is open
 pub record TrackIs (done runs : List ℕ) (t : Track) (p : ℕ) : Type 0 where
@@ -25,3 +27,15 @@ pub record Closes (t : Track) (p : ℕ) (runs : List ℕ) (r : Track) (runs′ :
 pub record Ends (t : Track) (p : ℕ) (runs : List ℕ) (r : ℕ) (runs′ : List ℕ) : Type 0 where
   pub count : r ≡ cond (eqb (p - t .start) 0) (t .count) (t .count + 1)
   pub stored : runs′ ≡ set runs (t .count) (p - t .start)
+
+-- the tracks of three values over the samples before a place, each among the places that those before it left
+pub record TracksAre (x y z : ℕ) (s : List ℕ) (p : ℕ) (t : Tracks) (a b c : List ℕ) : Type 0 where
+  pub first : TrackIs (flagsFor x s) a (t .first) p
+  pub second : TrackIs (flagsFor y (without x s)) b (t .second) p
+  pub third : TrackIs (flagsFor z (without y (without x s))) c (t .third) p
+
+-- three values, none of them the common one
+pub record Apart (plus x y z : ℕ) : Type 0 where
+  pub first : x ≡ plus → ⊥
+  pub second : y ≡ plus → ⊥
+  pub third : z ≡ plus → ⊥

@@ -14,8 +14,8 @@ ghost use Rattle.rules.specs.Located.{widthOf};
 ghost use Rattle.rules.specs.Chooses.{without};
 ghost use Rattle.pen.specs.Puts.{Gathers};
 ghost use Rattle.pen.specs.Rows.{rowBits, RowIs};
-ghost use Rattle.measure.specs.Measures.{Flagged, marksOf, RunsAre, bitsWith, LeastIs, Looked, Counted, CopyIs, LeftIs, SpreadIs, countIs};
-ghost use Rattle.measure.specs.Tracks.{TrackIs, Closes, Ends};
+ghost use Rattle.measure.specs.Measures.{Flagged, marksOf, RunsAre, bitsWith, LeastIs, Looked, Counted, CopyIs, LeftIs, SpreadIs, FoundIs, countIs};
+ghost use Rattle.measure.specs.Tracks.{TrackIs, Closes, Ends, TracksAre, Apart};
 
 // An S, and the bits that it needs.
 pub struct Least {
@@ -451,4 +451,137 @@ pub fn runs_in(row: &[u64; 8], k: usize, runs: &mut [u16; 321]) -> usize
         i += 1;
     }
     close_last(runs, t, 40 * k)
+}
+
+// The tracks of three values.
+struct Tracks {
+    first: Track,
+    second: Track,
+    third: Track,
+}
+
+// A place that another value took is none of this one's.
+fn skip(t: Track) -> Track
+    requires { ⌜ t .start < 320 ⌝ }
+    ensures { λ r. ⌜ (r .count ≡ t .count) × (r .start ≡ t .start + 1) ⌝ }
+{
+    Track {
+        count: t.count,
+        start: t.start + 1,
+    }
+}
+
+// One place more. "D is N for the first value, then the places still empty": a value's place is none of the later ones'.
+fn mark(
+    samples: &[u8],
+    i: usize,
+    x: u8,
+    y: u8,
+    z: u8,
+    t: Tracks,
+    a: &mut [u16; 321],
+    b: &mut [u16; 321],
+    c: &mut [u16; 321],
+) -> Tracks
+    requires { ⌜ (i < 320) × (i < length (now samples)) ⌝ }
+    requires { ⌜ TracksAre x y z (take i (now samples)) i t (now a) (now b) (now c) ⌝ }
+    ensures { λ r. ⌜ TracksAre x y z (take (i + 1) (now (samples .entry))) (i + 1) r (now (a .exit)) (now (b .exit)) (now (c .exit)) ⌝ }
+{
+    let s = samples[i];
+    let first = t.first;
+    let second = t.second;
+    let third = t.third;
+    if s == x {
+        return Tracks {
+            first: close(a, first, i),
+            second: skip(second),
+            third: skip(third),
+        };
+    }
+    if s == y {
+        return Tracks {
+            first: first,
+            second: close(b, second, i),
+            third: skip(third),
+        };
+    }
+    if s == z {
+        return Tracks {
+            first: first,
+            second: second,
+            third: close(c, third, i),
+        };
+    }
+    t
+}
+
+// The places of a word's 40 samples, of which only those that are not the common value are looked at.
+fn word_found(
+    samples: &[u8],
+    i: usize,
+    plus: u8,
+    x: u8,
+    y: u8,
+    z: u8,
+    t: Tracks,
+    a: &mut [u16; 321],
+    b: &mut [u16; 321],
+    c: &mut [u16; 321],
+) -> Tracks
+    requires { ⌜ (i < 8) × ((40 * (i + 1) ≤ length (now samples)) × Apart plus x y z) ⌝ }
+    requires { ⌜ TracksAre x y z (take (40 * i) (now samples)) (40 * i) t (now a) (now b) (now c) ⌝ }
+    ensures { λ r. ⌜ TracksAre x y z (take (40 * (i + 1)) (now (samples .entry))) (40 * (i + 1)) r (now (a .exit)) (now (b .exit)) (now (c .exit)) ⌝ }
+{
+    let mut found = t;
+    let mut w = word_at(samples, 40 * i, plus);
+    while 0 < w {
+        let top = top_of(w);
+        found = mark(samples, 40 * i + 39 - top, x, y, z, found, a, b, c);
+        w = w - (1 << top);
+    }
+    found
+}
+
+fn no_runs() -> Track
+    ensures { λ r. ⌜ (r .count ≡ 0) × (r .start ≡ 0) ⌝ }
+{
+    Track { count: 0, start: 0 }
+}
+
+// The runs of three values in one pass, each value among the places that those before it left. A value that is given again has none of its
+// own left, so fewer values are given with the first repeated.
+pub fn found_in(
+    samples: &[u8],
+    k: usize,
+    plus: u8,
+    x: u8,
+    y: u8,
+    z: u8,
+    a: &mut [u16; 321],
+    b: &mut [u16; 321],
+    c: &mut [u16; 321],
+) -> Found
+    requires { ⌜ (k ≤ 8) × (40 * k ≤ length (now samples)) ⌝ }
+    requires { ⌜ (x ≡ plus → ⊥) × ((y ≡ plus → ⊥) × (z ≡ plus → ⊥)) ⌝ }
+    requires { ⌜ (length (now a) ≡ 321) × ((length (now b) ≡ 321) × (length (now c) ≡ 321)) ⌝ }
+    ensures { λ r. ⌜ FoundIs x y z (take (40 * k) (now (samples .entry))) r (now (a .exit)) (now (b .exit)) (now (c .exit)) ⌝ }
+{
+    let mut t = Tracks {
+        first: no_runs(),
+        second: no_runs(),
+        third: no_runs(),
+    };
+    let mut i = 0;
+    while i < k {
+        t = word_found(samples, i, plus, x, y, z, t, a, b, c);
+        i += 1;
+    }
+    let first = t.first;
+    let second = t.second;
+    let third = t.third;
+    Found {
+        first: close_last(a, first, 40 * k),
+        second: close_last(b, second, 40 * k),
+        third: close_last(c, third, 40 * k),
+    }
 }
