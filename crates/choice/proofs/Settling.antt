@@ -23,8 +23,8 @@ use Rattle.measure.specs.Measures.{near, SpreadIs}
 use Rattle.measure.proofs.Looking.{count-le}
 use Rattle.measure.proofs.Finding.{runs-common, runs-other}
 use Rattle.choice.specs.Plans.{isMask, measured, valueTool, Plain}
-use Rattle.choice.proofs.Rows.{never}
-use Rattle.choice.proofs.Zeros.{rice-applies}
+use Rattle.choice.proofs.Near.{never, and-zero}
+use Rattle.choice.proofs.TwoZeros.{rice-applies}
 use Rattle.choice.proofs.Choosing.{constant-bits, minus-bits, plus-bits}
 
 -- a Rice code has a one and S low bits, so that runs of anything at all have more bits than S
@@ -72,10 +72,6 @@ start-some n mark = rw length-append (go (isLong n) (lowBits 4 (baseOf n / 16)) 
     go : (b : Bool) (u v : List ℕ) → length u ≡ 4 → length v ≡ 2 → 5 ≤ length (cond b u v) + length (cond b (1 ∷ 0 ∷ mark ∷ []) (0 ∷ 1 ∷ mark ∷ []))
     go true u v e f = omega arith
     go false u v e f = omega arith
-
-pub and-zero : (b : Bool) → (b && false) ≡ false
-and-zero true = refl
-and-zero false = refl
 
 of-two : {A : Type 0} (P : A → Type 0) (a : Bool) {x y : A} → P x → P y → P (cond a x y)
 of-two P true p q = p

@@ -11,7 +11,8 @@ use Rattle.rules.specs.Samples.{plusZero, minusZero}
 use Rattle.rules.specs.Chooses.{choose, chosenTool, formOf, leastOf, greatestOf}
 use Rattle.measure.specs.Measures.{near}
 use Rattle.choice.specs.declared.Choice.{Choice}
-use Rattle.choice.specs.declared.Plan.{Plan}
+use Rattle.choice.specs.declared.Zeros.{Zeros}
+use Rattle.choice.specs.declared.Placed.{Placed}
 use Rattle.choice.specs.Offers.{RiceIs, PlacedIs}
 
 -- whether a tool is taken
@@ -48,9 +49,18 @@ pub record Plain (mask set : ℕ) (s : List ℕ) (r : ℕ) : Type 0 where
   pub close : r ≡ 0 → near (leastOf mask s) (greatestOf mask s) ≡ true
   pub most : r ≤ 4
 
-pub record PlanFor (mask set : ℕ) (s : List ℕ) (r : Plan) (runs : List ℕ) : Type 0 where
+-- what is written of a frame of the two zeros
+pub record ZerosFor (mask set : ℕ) (s : List ℕ) (r : Zeros) (runs : List ℕ) : Type 0 where
   pub tool : r .tool ≡ choose mask set s measured
   pub bits : r .bits ≡ length (formOf mask (choose mask set s measured) s)
   pub small : r .bits ≤ 1000000000
-  pub rice : choose mask set s measured ≡ 6 → RiceIs mask s (r .rice) runs
-  pub placed : choose mask set s measured ≡ 7 → PlacedIs mask s (r .placed)
+  pub rice : choose mask set s measured ≡ 6 → RiceIs mask s r runs
+  pub kind : (r .tool ≡ 1 → ⊥) → (r .tool ≡ 6 → ⊥) → r .tool ≡ 5
+
+-- what is written of a frame that has a 1 or a -2
+pub record PlacedFor (mask set : ℕ) (s : List ℕ) (r : Placed) (a b c : List ℕ) : Type 0 where
+  pub tool : r .tool ≡ choose mask set s measured
+  pub bits : r .bits ≡ length (formOf mask (choose mask set s measured) s)
+  pub small : r .bits ≤ 1000000000
+  pub placed : choose mask set s measured ≡ 7 → PlacedIs mask s r a b c
+  pub kind : (r .tool ≡ 1 → ⊥) → r .tool ≡ 7
