@@ -1,26 +1,19 @@
 -- Laws of the choice, tool by tool.
-use Prim.Native.Nat.{ℕ, zero, suc, _+_, _*_, _≤_, _<_}
-use mathlib.Core.Path.{_≡_, refl, sym, ap, _∙_}
-use mathlib.Core.List.{List, [], _∷_, _++_, map}
+use Prim.Native.Nat.{ℕ, _+_, _*_, _≤_, _<_}
+use mathlib.Core.Path.{_≡_, refl, sym, _∙_}
+use mathlib.Core.List.{List, [], _∷_, _++_}
 use mathlib.Core.Bool.{Bool, true, false, cond, _&&_}
 use native.Mathlib.Omega.{arith}
-use lib.ListN.{length, getD, length-append, length-map}
-use lib.Dec.{eqb, leb}
-use Rattle.rules.specs.Bits.{octetsFor}
-use Rattle.rules.specs.Samples.{plusZero, minusZero}
+use lib.ListN.{length, length-append, length-map}
+use lib.Dec.{leb}
 use Rattle.rules.specs.Tools.{holds}
-use Rattle.rules.specs.Zeros.{prefix, flagOf}
-use Rattle.rules.specs.Chooses.{applies, formOf, octetsOfForm, choose, locatedForm, riceChoice}
+use Rattle.rules.specs.Chooses.{applies, formOf, octetsOfForm, choose}
 use Rattle.rules.proofs.Octets.{length-lowBits, length-bitsOf}
 use Rattle.rules.proofs.Tests.{and-left}
 use Rattle.measure.proofs.Weighing.{cond-of}
 use Rattle.choice.specs.declared.Choice.{Choice}
-use Rattle.choice.specs.declared.Placed.{Placed}
-use Rattle.choice.specs.declared.Rice.{Rice}
-use Rattle.choice.specs.Offers.{PlacedFor, RiceFor}
 use Rattle.choice.specs.Plans.{taken, BetterIs, ChosenIs}
-use Rattle.choice.proofs.Rows.{never}
-use Rattle.choice.proofs.Zeros.{rice-applies}
+use Rattle.choice.proofs.Near.{never}
 
 -- what `better` gives, by its test
 pub better-not : {best : Choice} {t : ℕ} {a : Bool} {b : ℕ} → best .bits ≤ 1000000000 → taken best a b ≡ false → BetterIs best t a b best
@@ -48,6 +41,10 @@ module _ {mask set : ℕ} {s ts : List ℕ} {best r : Choice} (done : ChosenIs m
       let q = leb (octetsOfForm mask s t) (octetsOfForm mask s (choose mask set s ts)) in
       let none : (holds set t && applies mask t s && q) ≡ false = rw (← e) in
       record { tool = better .tool ∙ rw (none, done .tool); bits = better .size ∙ rw (none, done .bits); small = better .small }
+
+-- a tool that the set lacks or that does not apply
+pub choose-past : {mask set : ℕ} {s ts : List ℕ} {r : Choice} (t : ℕ) → (holds set t && applies mask t s) ≡ false → ChosenIs mask set s ts r → ChosenIs mask set s (t ∷ ts) r
+choose-past t e done = choose-step done t false 0 (sym e) (λ h. absurd (never h)) (better-not (done .small) refl)
 
 -- a tool that was chosen is held and applies
 pub chosen-offered : (mask set : ℕ) (s ts : List ℕ) (t : ℕ) → choose mask set s ts ≡ t → (1 ≡ t → ⊥) → (holds set t && applies mask t s) ≡ true
@@ -87,12 +84,3 @@ module _ (mask : ℕ) (s : List ℕ) {n : ℕ} (size : length s ≡ n) where
   pub plus-bits : 8 ≡ length (formOf mask 2 s)
   unfolding formOf
   plus-bits = rw length-lowBits
-
--- what the plan keeps is right where it is asked for
-pub located-bits : {mask set : ℕ} {s : List ℕ} {r : Placed} → PlacedFor mask set s r → r .offered ≡ true → r .bits ≡ length (formOf mask 7 s)
-unfolding formOf
-located-bits p h = p .placed h .bits
-
-pub rice-bits : {mask set : ℕ} {s runs : List ℕ} {r : Rice} → RiceFor mask set s r runs → r .offered ≡ true → r .bits ≡ length (formOf mask 6 s)
-unfolding formOf
-rice-bits p h = p .rice h .bits

@@ -1,6 +1,8 @@
 pub mod Methods
 pub mod Turns
+pub mod Near
 pub mod Rows
-pub mod Zeros
+pub mod TwoZeros
 pub mod Choosing
 pub mod Settling
+pub mod Planning

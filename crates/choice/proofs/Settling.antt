@@ -1,15 +1,15 @@
 -- Laws of what the first look settles: a frame of one value, and a frame that only uncompressed applies to.
-use Prim.Native.Nat.{ℕ, zero, suc, _+_, _*_, _-_, _^_, _/_, _≤_, _<_, min, max}
+use Prim.Native.Nat.{ℕ, zero, suc, _+_, _*_, _-_, _^_, _/_, _%_, _≤_, _<_}
 use mathlib.Core.Path.{_≡_, refl, sym, ap, _∙_}
 use mathlib.Core.List.{List, [], _∷_, _++_, map}
-use mathlib.Core.Bool.{Bool, true, false, cond, _&&_, _||_}
+use mathlib.Core.Bool.{Bool, true, false, cond, _&&_}
 use native.Mathlib.Omega.{arith}
-use borrow.Author.Tests.{ne-eqb, eqb-true, le-leb, leb-false}
+use borrow.Author.Tests.{eq-eqb, ne-eqb, eqb-true, le-leb, leb-false, ltb-false}
 use lib.ListN.{length, getD, length-append, length-map}
 use lib.Dec.{eqb, leb, ltb}
 use Rattle.rules.specs.Bits.{lowBits, octetsFor}
 use Rattle.rules.specs.Tools.{holds}
-use Rattle.rules.specs.Samples.{signed, sampleOf, plusZero, minusZero, onLine}
+use Rattle.rules.specs.Samples.{plusZero, minusZero}
 use Rattle.rules.specs.First.{isLong, baseOf, riceCode}
 use Rattle.rules.specs.Runs.{runsOf, riceForms, runsForm}
 use Rattle.rules.specs.Zeros.{codesOf, codeOf, flagOf}
@@ -18,13 +18,13 @@ use Rattle.rules.specs.Chooses.{countOf, every, leastFrom, bestS, markOf, riceC
 use Rattle.rules.proofs.Octets.{length-lowBits, length-bitsOf}
 use Rattle.rules.proofs.Tests.{or-cases}
 use Rattle.pen.proofs.Rice.{length-riceForm}
-use Rattle.measure.specs.declared.Look.{Look}
-use Rattle.measure.specs.Measures.{Looked}
+use Rattle.measure.specs.declared.Spread.{Spread}
+use Rattle.measure.specs.Measures.{near, SpreadIs}
 use Rattle.measure.proofs.Looking.{count-le}
 use Rattle.measure.proofs.Finding.{runs-common, runs-other}
-use Rattle.choice.specs.Plans.{isMask, near, measured, Plain}
-use Rattle.choice.proofs.Rows.{never}
-use Rattle.choice.proofs.Zeros.{rice-applies}
+use Rattle.choice.specs.Plans.{isMask, measured, valueTool, Plain}
+use Rattle.choice.proofs.Near.{never, and-zero}
+use Rattle.choice.proofs.TwoZeros.{rice-applies}
 use Rattle.choice.proofs.Choosing.{constant-bits, minus-bits, plus-bits}
 
 -- a Rice code has a one and S low bits, so that runs of anything at all have more bits than S
@@ -72,10 +72,6 @@ start-some n mark = rw length-append (go (isLong n) (lowBits 4 (baseOf n / 16)) 
     go : (b : Bool) (u v : List ℕ) → length u ≡ 4 → length v ≡ 2 → 5 ≤ length (cond b u v) + length (cond b (1 ∷ 0 ∷ mark ∷ []) (0 ∷ 1 ∷ mark ∷ []))
     go true u v e f = omega arith
     go false u v e f = omega arith
-
-pub and-zero : (b : Bool) → (b && false) ≡ false
-and-zero true = refl
-and-zero false = refl
 
 of-two : {A : Type 0} (P : A → Type 0) (a : Bool) {x y : A} → P x → P y → P (cond a x y)
 of-two P true p q = p
@@ -142,6 +138,7 @@ module _ (mask : ℕ) (s : List ℕ) where
         record {
           settled = λ n. sym (won 2 _ e (omega (arith, plus-bits mask s refl, form-some (choose mask set s (3 ∷ 4 ∷ measured)))));
           later = λ z. absurd (omega arith);
+          close = λ z. absurd (omega arith);
           most = omega arith;
         }
 
@@ -151,6 +148,7 @@ module _ (mask : ℕ) (s : List ℕ) where
           record {
             settled = λ n. sym (passed 2 _ two ∙ won 3 _ e (omega (arith, minus-bits mask s refl, form-some (choose mask set s (4 ∷ measured)))));
             later = λ z. absurd (omega arith);
+            close = λ z. absurd (omega arith);
             most = omega arith;
           }
 
@@ -160,12 +158,13 @@ module _ (mask : ℕ) (s : List ℕ) where
             record {
               settled = λ n. sym (passed 2 _ two ∙ passed 3 _ three ∙ won 4 _ e (omega (arith, constant-bits mask s refl, measured-long set some)));
               later = λ z. absurd (omega arith);
+              close = λ z. absurd (omega arith);
               most = omega arith;
             }
 
-        pub unsettled : (holds set 4 && applies mask 4 s) ≡ false → Plain mask set s 0
-        unsettled four =
-            record { settled = λ n. absurd (n refl); later = λ z. passed 2 _ two ∙ passed 3 _ three ∙ passed 4 _ four; most = omega arith }
+        pub unsettled : (holds set 4 && applies mask 4 s) ≡ false → near (leastOf mask s) (greatestOf mask s) ≡ true → Plain mask set s 0
+        unsettled four n =
+            record { settled = λ n. absurd (n refl); later = λ z. passed 2 _ two ∙ passed 3 _ three ∙ passed 4 _ four; close = λ z. n; most = omega arith }
 
         pub spread-settled : (holds set 4 && applies mask 4 s) ≡ false → applies mask 6 s ≡ false → applies mask 7 s ≡ false → Plain mask set s 1
         spread-settled four six seven =
@@ -174,6 +173,7 @@ module _ (mask : ℕ) (s : List ℕ) where
             record {
               settled = λ n. sym (passed 2 _ two ∙ passed 3 _ three ∙ passed 4 _ four ∙ passed 5 _ (none 5 five) ∙ passed 6 _ (none 6 six) ∙ passed 7 _ (none 7 seven) ∙ last);
               later = λ z. absurd (omega arith);
+              close = λ z. absurd (omega arith);
               most = omega arith;
             }
 
@@ -208,48 +208,6 @@ none-value y first (x ∷ s) h e a = go (every (λ z. eqb z y) (x ∷ s)) refl
 pub mask-seven : (mask : ℕ) → isMask mask ≡ true → mask < 128
 mask-seven mask h = or-cases (mask < 128) (eqb mask 0x55) (eqb mask 0x7F) h (λ e. omega (arith, eqb-true mask 0x55 e)) (λ e. omega (arith, eqb-true mask 0x7F e))
 
--- the two zeros are near
-zero-places : (mask : ℕ) → isMask mask ≡ true → (onLine (signed mask (plusZero mask)) ≡ 128) × (onLine (signed mask (minusZero mask)) ≡ 127)
-unfolding signed sampleOf
-zero-places mask h =
-    or-cases ((onLine (signed mask (plusZero mask)) ≡ 128) × (onLine (signed mask (minusZero mask)) ≡ 127)) (eqb mask 0x55) (eqb mask 0x7F) h
-    (λ e. rw (eqb-true mask 0x55 e) (refl, refl)) (λ e. rw (eqb-true mask 0x7F e) (refl, refl))
-
-zeros-near : (mask : ℕ) → isMask mask ≡ true → (s : List ℕ) → countOf (λ x. eqb x (plusZero mask) || eqb x (minusZero mask)) s ≡ length s
-    → (127 ≤ leastOf mask s) × (greatestOf mask s ≤ 128)
-unfolding countOf leastOf greatestOf
-zeros-near mask m [] h = (omega arith, omega arith)
-zeros-near mask m (x ∷ s) h =
-    step (eqb x (plusZero mask)) (eqb x (minusZero mask)) refl refl h (count-le (λ x. eqb x (plusZero mask) || eqb x (minusZero mask)) s) (zeros-near mask m s) (zero-places mask m)
-  where
-    step : (a b : Bool) → eqb x (plusZero mask) ≡ a → eqb x (minusZero mask) ≡ b
-        → cond (eqb x (plusZero mask) || eqb x (minusZero mask)) 1 0 + countOf (λ x. eqb x (plusZero mask) || eqb x (minusZero mask)) s ≡ suc (length s)
-        → countOf (λ x. eqb x (plusZero mask) || eqb x (minusZero mask)) s ≤ length s
-        → (countOf (λ x. eqb x (plusZero mask) || eqb x (minusZero mask)) s ≡ length s → (127 ≤ leastOf mask s) × (greatestOf mask s ≤ 128))
-        → (onLine (signed mask (plusZero mask)) ≡ 128) × (onLine (signed mask (minusZero mask)) ≡ 127)
-        → (127 ≤ min (onLine (signed mask x)) (leastOf mask s)) × (max (onLine (signed mask x)) (greatestOf mask s) ≤ 128)
-    step true b e f c le ih p =
-        let i = ih (omega (arith, rw e at c)) in
-        let z : onLine (signed mask x) ≡ 128 = ap (λ (y : ℕ). onLine (signed mask y)) (eqb-true x (plusZero mask) e) ∙ p .0 in
-        (omega (arith, i .0), omega (arith, i .1))
-    step false true e f c le ih p =
-        let i = ih (omega (arith, rw (e, f) at c)) in
-        let z : onLine (signed mask x) ≡ 127 = ap (λ (y : ℕ). onLine (signed mask y)) (eqb-true x (minusZero mask) f) ∙ p .1 in
-        (omega (arith, i .0), omega (arith, i .1))
-    step false false e f c le ih p = absurd (omega (arith, rw (e, f) at c))
-
-zeros-apply-near : (mask : ℕ) → isMask mask ≡ true → (s : List ℕ) → near (leastOf mask s) (greatestOf mask s) ≡ false → applies mask 6 s ≡ false
-unfolding applies
-zeros-apply-near mask m s far = go (every (λ x. eqb x (plusZero mask) || eqb x (minusZero mask)) s) refl
-  where
-    go : (b : Bool) → every (λ x. eqb x (plusZero mask) || eqb x (minusZero mask)) s ≡ b → every (λ x. eqb x (plusZero mask) || eqb x (minusZero mask)) s ≡ false
-    go true e =
-        let i = zeros-near mask m s (eqb-true _ _ e) in
-        let n : near (leastOf mask s) (greatestOf mask s) ≡ true =
-        rw (le-leb 126 (leastOf mask s) (omega (arith, i .0)), le-leb (greatestOf mask s) 129 (omega (arith, i .1))) in
-        absurd (never (sym far ∙ n))
-    go false e = e
-
 -- a row is near
 row-near : (mask : ℕ) (s : List ℕ) → near (leastOf mask s) (greatestOf mask s) ≡ false → rowOf mask s ≡ 4
 unfolding rowOf caseOf
@@ -274,6 +232,34 @@ located-near : (mask : ℕ) (s : List ℕ) → near (leastOf mask s) (greatestOf
 unfolding applies
 located-near mask s far = rw (row-near mask s far, and-zero (leb 80 (length s)))
 
+-- the zeros are nearer still
+zeros-near : {mask first : ℕ} {s : List ℕ} {l : Spread} → SpreadIs mask first s l → ltb (l .any % 128) 2 ≡ false → applies mask 6 s ≡ false
+unfolding applies
+zeros-near {l = l} t far = sym (t .zeros) ∙ ne-eqb (l .any % 128) 0 (λ z. omega (arith, z, ltb-false (l .any % 128) 2 far))
+
+-- a frame that no tool of one value takes
+pub record NoValue (mask set : ℕ) (s : List ℕ) : Type 0 where
+  pub two : (holds set 2 && applies mask 2 s) ≡ false
+  pub three : (holds set 3 && applies mask 3 s) ≡ false
+  pub four : (holds set 4 && applies mask 4 s) ≡ false
+
+-- one whose samples are not all equal
+pub several : {mask first : ℕ} {s : List ℕ} {l : Spread} (set : ℕ) → 1 ≤ length s → first ≡ getD s 0 0 → SpreadIs mask first s l → (l .any ≡ l .all → ⊥) → NoValue mask set s
+unfolding applies
+several {mask} {first} {s} {l} set some e t differ =
+    record { two = none 2 (plusZero mask); three = none 3 (minusZero mask); four = none 4 (getD s 0 0) }
+  where
+    none : (t y : ℕ) → (holds set t && every (λ x. eqb x y) s) ≡ false
+    none n y = rw (none-value y first s some e (sym (t .same) ∙ ne-eqb (l .any) (l .all) differ)) (and-zero (holds set n))
+
+-- what is said of it: its samples are near, or only uncompressed applies
+pub spread : {mask set first r : ℕ} {s : List ℕ} {l : Spread} → NoValue mask set s → SpreadIs mask first s l → r ≡ cond (ltb (l .any % 128) 2) 0 1 → Plain mask set s r
+spread {mask} {set} {first} {r} {s} {l} v t told = rw told (go (ltb (l .any % 128) 2) refl)
+  where
+    go : (b : Bool) → ltb (l .any % 128) 2 ≡ b → Plain mask set s (cond b 0 1)
+    go true h = unsettled mask s set (v .two) (v .three) (v .four) (sym (t .close) ∙ h)
+    go false h = spread-settled mask s set (v .two) (v .three) (v .four) (zeros-near t h) (located-near mask s (sym (t .close) ∙ h))
+
 -- what is said of a frame of one value
 pub record OneValue (mask set first : ℕ) (s : List ℕ) : Type 0 where
   pub some : 1 ≤ length s
@@ -285,10 +271,10 @@ and-true : (b : Bool) → (b && true) ≡ b
 and-true true = refl
 and-true false = refl
 
-pub one-of : {mask first : ℕ} {s : List ℕ} {l : Look} (set : ℕ) → 1 ≤ length s → first ≡ getD s 0 0 → Looked mask first s l → l .mixed ≡ 0 → OneValue mask set first s
+pub one-of : {mask first : ℕ} {s : List ℕ} {l : Spread} (set : ℕ) → 1 ≤ length s → first ≡ getD s 0 0 → SpreadIs mask first s l → l .any ≡ l .all → OneValue mask set first s
 unfolding applies
-one-of {mask} {first} {s} {l} set some e looked zero′ =
-    let all : every (λ x. eqb x first) s ≡ true = sym (looked .mixed) ∙ rw zero′ in
+one-of {mask} {first} {s} {l} set some e t equal =
+    let all : every (λ x. eqb x first) s ≡ true = sym (t .same) ∙ eq-eqb (l .any) (l .all) equal in
     record {
       some = some;
       two = ap (λ (b : Bool). holds set 2 && b) (one-value (plusZero mask) first s some e all);
@@ -296,24 +282,29 @@ one-of {mask} {first} {s} {l} set some e looked zero′ =
       four = ap (λ (b : Bool). holds set 4 && b) (ap (λ (k : ℕ). every (λ x. eqb x k) s) (sym e) ∙ all) ∙ and-true (holds set 4);
     }
 
+module _ {mask set first r : ℕ} {s : List ℕ} (o : OneValue mask set first s) (told : r ≡ valueTool mask set first) where
+  pub value-settled : (r ≡ 0 → ⊥) → Plain mask set s r
+  value-settled held =
+      rw told (go (holds set 2 && eqb first (plusZero mask)) (holds set 3 && eqb first (minusZero mask)) (holds set 4) (o .two) (o .three) (o .four) (λ z. held (told ∙ z)))
+    where
+      go : (a b c : Bool) → (holds set 2 && applies mask 2 s) ≡ a → (holds set 3 && applies mask 3 s) ≡ b → (holds set 4 && applies mask 4 s) ≡ c
+          → (_≡_ {A = ℕ} (cond a 2 (cond b 3 (cond c 4 0))) 0 → ⊥) → Plain mask set s (cond a 2 (cond b 3 (cond c 4 0)))
+      go true b c e f g n = plus-settled mask s set e
+      go false true c e f g n = minus-settled mask s set e f
+      go false false true e f g n = constant-settled mask s set e f (o .some) g
+      go false false false e f g n = absurd (n refl)
+
+  pub value-lacks : r ≡ 0 → NoValue mask set s
+  value-lacks zero′ =
+      go (holds set 2 && eqb first (plusZero mask)) (holds set 3 && eqb first (minusZero mask)) (holds set 4) (o .two) (o .three) (o .four) (sym told ∙ zero′)
+    where
+      go : (a b c : Bool) → (holds set 2 && applies mask 2 s) ≡ a → (holds set 3 && applies mask 3 s) ≡ b → (holds set 4 && applies mask 4 s) ≡ c
+          → _≡_ {A = ℕ} (cond a 2 (cond b 3 (cond c 4 0))) 0 → NoValue mask set s
+      go true b c e f g z = absurd (omega (arith, z))
+      go false true c e f g z = absurd (omega (arith, z))
+      go false false true e f g z = absurd (omega (arith, z))
+      go false false false e f g z = record { two = e; three = f; four = g }
+
 -- a test against a zero, said of the zero that is meant
 pub for-zero : (set t first : ℕ) {y z : ℕ} {r : Bool} → r ≡ (holds set t && eqb first y) → y ≡ z → (holds set t && eqb first z) ≡ r
 for-zero set t first e f = sym (e ∙ ap (λ (k : ℕ). holds set t && eqb first k) f)
-
--- what is said of a frame whose samples are not all equal
-pub spread : {mask set first r : ℕ} {s : List ℕ} {l : Look} → isMask mask ≡ true → 1 ≤ length s → first ≡ getD s 0 0 → Looked mask first s l → (l .mixed ≡ 0 → ⊥)
-    → r ≡ cond (near (l .least) (l .greatest)) 0 1 → Plain mask set s r
-unfolding applies
-spread {mask} {set} {first} {r} {s} {l} m some e looked mixed told =
-    rw (told, looked .least, looked .greatest) (go (near (leastOf mask s) (greatestOf mask s)) refl)
-  where
-    several : every (λ x. eqb x first) s ≡ false
-    several = sym (looked .mixed) ∙ ne-eqb (l .mixed) 0 mixed
-
-    none : (t y : ℕ) → (holds set t && every (λ x. eqb x y) s) ≡ false
-    none t y = rw (none-value y first s some e several) (and-zero (holds set t))
-
-    go : (b : Bool) → near (leastOf mask s) (greatestOf mask s) ≡ b → Plain mask set s (cond b 0 1)
-    go true h = unsettled mask s set (none 2 (plusZero mask)) (none 3 (minusZero mask)) (none 4 (getD s 0 0))
-    go false h =
-        spread-settled mask s set (none 2 (plusZero mask)) (none 3 (minusZero mask)) (none 4 (getD s 0 0)) (zeros-apply-near mask m s h) (located-near mask s h)

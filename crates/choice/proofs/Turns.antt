@@ -1,20 +1,20 @@
--- Laws of values in turn.
+-- Laws of values in turn, each among the places that those before it left.
 use Prim.Native.Nat.{ℕ, zero, suc, _+_, _*_, _-_, _≤_, _<_}
 use mathlib.Core.Path.{_≡_, refl, sym, ap, _∙_}
-use mathlib.Core.List.{List, [], _∷_, _++_, append-nil, append-assoc}
+use mathlib.Core.List.{List, [], _∷_}
 use mathlib.Core.Bool.{Bool, true, false, cond}
 use native.Mathlib.Omega.{arith}
-use native.Mathlib.Numerals.{add-one}
-use native.Mathlib.Nat.{zero-add}
-use lib.ListN.{length, getD, take, drop, set, length-set, length-append, length-map, drop-of-length-le}
-use lib.Seq.{drop-cons, take-suc-set, getD-take, length-take-le}
-use lib.Dec.{eqb}
-use Rattle.rules.specs.Chooses.{countOf, flagsFor, without, methodOf, valueForm, valuesForm}
-use Rattle.measure.specs.Measures.{countIs, RunsAre, CopyIs, LeftIs}
+use borrow.Author.Tests.{eqb-true, ne-eqb, le-leb, lt-leb}
+use lib.ListN.{length, getD, take, length-map}
+use lib.Dec.{eqb, leb}
+use Rattle.rules.specs.Chooses.{countOf, flagsFor, without}
+use Rattle.measure.specs.declared.Found.{Found}
+use Rattle.measure.specs.Measures.{countIs, RunsAre, FoundIs}
 use Rattle.measure.proofs.Leaving.{without-count}
 use Rattle.choice.specs.declared.Way.{Way}
+use Rattle.choice.specs.declared.Values.{Values}
 use Rattle.choice.specs.declared.Ways.{Ways}
-use Rattle.choice.specs.Ways.{FlagsAre, WayIs, WayFor, methodsOf, WaysAre}
+use Rattle.choice.specs.Ways.{FlagsAre, WayFor, WayIn, WayOf, InTurn, WaysAre}
 
 flags-count : (x : ℕ) (l : List ℕ) → countOf (λ f. eqb f 1) (flagsFor x l) ≡ countIs x l
 unfolding countOf
@@ -26,9 +26,6 @@ flags-count x (y ∷ l) = step (eqb y x) (flags-count x l)
     step true e = rw e
     step false e = rw e
 
-pub length-cells : {s r : List ℕ} {d kept : ℕ} → LeftIs s d kept r → d ≤ 320 → length s ≡ kept
-length-cells {r = r} {kept = kept} i h = ap length (sym (i .says)) ∙ length-take-le kept r (omega (arith, i .few, i .size))
-
 flags-small : (x : ℕ) (l : List ℕ) (i : ℕ) → getD (flagsFor x l) i 0 < 2
 flags-small x [] i = omega arith
 flags-small x (y ∷ l) zero = step (eqb y x)
@@ -38,76 +35,68 @@ flags-small x (y ∷ l) zero = step (eqb y x)
     step false = omega arith
 flags-small x (y ∷ l) (suc i) = flags-small x l i
 
--- how often a value occurs is what it takes away
-pub flagged : {d kept : ℕ} {r : List ℕ} (x : ℕ) (s : List ℕ) → length s ≡ d → d ≤ 320 → LeftIs (without x s) d kept r → FlagsAre (flagsFor x s) d (d - kept)
-flagged {d} {kept} x s size most i =
+-- what is taken out leaves as many of another value
+count-kept : (x y : ℕ) → (y ≡ x → ⊥) → (l : List ℕ) → countIs y (without x l) ≡ countIs y l
+unfolding countOf without
+count-kept x y ne [] = refl
+count-kept x y ne (w ∷ l) = step (eqb w x) refl (count-kept x y ne l)
+  where
+    step : (b : Bool) → eqb w x ≡ b → countIs y (without x l) ≡ countIs y l
+        → countIs y (elim b [ true ↦ without x l | false ↦ w ∷ without x l ]) ≡ cond (eqb w y) 1 0 + countIs y l
+    step true e h =
+        let other : eqb w y ≡ false = ne-eqb w y (λ z. ne (sym z ∙ eqb-true w x e)) in
+        rw (other, h) (omega arith)
+    step false e h = rw h
+
+-- a value's flags
+flagged : {d count : ℕ} (x : ℕ) (s : List ℕ) → length s ≡ d → d ≤ 320 → count ≡ countIs x s → FlagsAre (flagsFor x s) d count
+flagged x s size most e =
+    record { size = length-map s (λ y. cond (eqb y x) 1 0) ∙ size; most = most; bits = flags-small x s; ones = e ∙ sym (flags-count x s) }
+
+way-with : {flags runs : List ℕ} {d count found : ℕ} {w : Way} → RunsAre flags found runs → FlagsAre flags d count → WayFor runs found d count w → WayOf flags w runs
+way-with {flags} {runs} r f w =
     record {
-      size = length-map s (λ y. cond (eqb y x) 1 0) ∙ size;
-      most = most;
-      bits = flags-small x s;
-      ones = omega (arith, flags-count x s, without-count x s, length-cells i most);
+      way = w .way flags (sym (r .says)) f;
+      flagged = rw (w .places, w .times) f;
+      found = rw (w .found-runs) r;
     }
 
--- a turn of the loop
-pub record WaysTurn (xs s cells : List ℕ) (d : ℕ) (methods : List ℕ) (bits j : ℕ) : Type 0 where
-  pub says : take j methods ++ methodsOf (drop j xs) (take d cells) ≡ methodsOf xs s
-  pub sums : bits + length (valuesForm (drop j xs) (take d cells)) ≡ length (valuesForm xs s)
-  pub size : length methods ≡ 3
-  pub left : length cells ≡ 320
-  pub few : d ≤ 320
-  pub within : j ≤ length xs
-  pub most : length xs ≤ 3
-  pub small : bits ≤ 200000000 * j
+-- what is found in whole words is found in the samples
+pub found-whole : {x y z n : ℕ} {a b c : List ℕ} {r : Found} (samples : List ℕ) (k : ℕ) → 40 * k ≡ n → FoundIs x y z (take (40 * k) samples) r a b c → FoundIs x y z (take n samples) r a b c
+found-whole samples k e f = rw (ap (λ (m : ℕ). take m samples) e) at f
 
--- the way of the value's own flags
-pub way-is : {xs s methods cells cells′ runs : List ℕ} {way : Way} {d kept found bits j : ℕ} (x : ℕ) → WaysTurn xs s cells d methods bits j
-    → RunsAre (flagsFor x (take d cells)) found runs → LeftIs (without x (take d cells)) d kept cells′ → WayFor (take found runs) d (d - kept) way
-    → WayIs (flagsFor x (take d cells)) way
-way-is {cells = cells} {d = d} x t r l w =
-    w .way (flagsFor x (take d cells)) (sym (r .says)) (flagged x (take d cells) (length-take-le d cells (omega (arith, t .left, t .few))) (t .few) l)
+module _ {plus n : ℕ} {s a b c : List ℕ} {v : Values} {found : Found} (size : length s ≡ n) (few : n ≤ 320) (t : InTurn plus s v)
+    (f : FoundIs (v .first .sample) (v .second .sample) (v .third .sample) s found a b c) where
+  abbrev left : List ℕ
+  left = without (v .first .sample) s
 
-pub ways-turn : {xs s methods cells cells′ runs : List ℕ} {way : Way} {d kept found bits j x : ℕ} → WaysTurn xs s cells d methods bits j → j < length xs → x ≡ getD xs j 0
-    → RunsAre (flagsFor x (take d cells)) found runs → LeftIs (without x (take d cells)) d kept cells′ → WayFor (take found runs) d (d - kept) way
-    → WaysTurn xs s cells′ kept (set methods j (way .method)) (bits + way .bits) (j + 1)
-unfolding methodsOf valuesForm
-ways-turn {xs} {s} {methods} {cells} {cells′} {runs} {way} {d} {kept} {found} {bits} {j} {x} t h e r l w =
-    let i = way-is x t r l w in
-    let next : drop j xs ≡ x ∷ drop (j + 1) xs = rw (drop-cons xs j 0 h, ← e, add-one j) in
-    let before = rw (next, length-append) at (t .sums) in
-    record {
-      says =
-          rw (add-one j, take-suc-set methods j (way .method) (omega (arith, t .size, t .most)), append-assoc, i .method, l .says, ← (add-one j)) (rw next at (t .says));
-      sums = rw (l .says) (omega (arith, i .bits, before));
-      size = length-set methods j (way .method) ∙ t .size;
-      left = l .size;
-      few = omega (arith, l .few, t .few);
-      within = omega arith;
-      most = t .most;
-      small = omega (arith, t .small, i .small);
-    }
+  left-size : length left ≡ n - v .first .times
+  left-size = omega (arith, without-count (v .first .sample) s, t .first .times)
 
-pub ways-start : (values samples cells : List ℕ) (count n : ℕ) → CopyIs (take n samples) n cells → n ≤ 320 → length values ≡ 3 → count ≤ 3
-    → WaysTurn (take count values) (take n samples) cells n (0 ∷ 0 ∷ 0 ∷ []) 0 0
-ways-start values samples cells count n copy few three most =
-    record {
-      says = rw (copy .says);
-      sums = rw (copy .says) (zero-add _);
-      size = refl;
-      left = copy .size;
-      few = few;
-      within = omega arith;
-      most = omega (arith, length-take-le count values (omega arith));
-      small = omega arith;
-    }
+  abbrev last : List ℕ
+  last = without (v .second .sample) left
 
-pub ways-done : {xs s methods cells : List ℕ} {d bits j : ℕ} → WaysTurn xs s cells d methods bits j → length xs ≤ j → WaysAre xs s (record { methods = methods; bits = bits })
-unfolding methodsOf valuesForm
-ways-done {xs} {s} {methods} {cells} {d} {bits} {j} t h =
-    let e : drop j xs ≡ [] = drop-of-length-le xs h in
-    let k : j ≡ length xs = omega (arith, t .within) in
-    record {
-      methods = rw (← k) (sym (append-nil _) ∙ rw e at (t .says));
-      size = t .size;
-      bits = omega (arith, rw e at (t .sums));
-      small = omega (arith, t .small, t .most);
-    }
+  second-count : 2 ≤ v .count → v .second .times ≡ countIs (v .second .sample) left
+  second-count h = t .second h .times ∙ sym (count-kept (v .first .sample) (v .second .sample) (t .second-new h) s)
+
+  last-size : 2 ≤ v .count → length last ≡ n - v .first .times - v .second .times
+  last-size h = omega (arith, without-count (v .second .sample) left, left-size, second-count h)
+
+  pub ways-are : {r : Ways} → WayFor a (found .first) n (v .first .times) (r .first)
+      → WayIn (leb 2 (v .count)) b (found .second) (n - v .first .times) (v .second .times) (r .second)
+      → WayIn (leb 3 (v .count)) c (found .third) (n - v .first .times - v .second .times) (v .third .times) (r .third)
+      → WaysAre s v r a b c
+  ways-are w₁ w₂ w₃ =
+      record {
+        first = way-with (f .first) (flagged (v .first .sample) s size few (t .first .times)) w₁;
+        second = λ h. way-with (f .second) (flagged (v .second .sample) left left-size (omega arith) (second-count h)) (w₂ .yes (le-leb 2 (v .count) h));
+        third = λ h.
+            let g : 2 ≤ v .count = omega arith in
+            let k : v .third .times ≡ countIs (v .third .sample) last =
+            t .third h .times
+            ∙ sym (count-kept (v .first .sample) (v .third .sample) (t .third-new h) s)
+            ∙ sym (count-kept (v .second .sample) (v .third .sample) (t .third-last h) left) in
+            way-with (f .third) (flagged (v .third .sample) last (last-size g) (omega arith) k) (w₃ .yes (le-leb 3 (v .count) h));
+        no-second = λ h. w₂ .no (lt-leb 2 (v .count) h);
+        no-third = λ h. w₃ .no (lt-leb 3 (v .count) h);
+      }

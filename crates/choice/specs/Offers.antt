@@ -1,47 +1,43 @@
 -- What value-location and Rice would write, where they apply.
 use Prim.Native.Nat.{ℕ, _+_, _≤_, _<_}
 use mathlib.Core.Path.{_≡_}
-use mathlib.Core.List.{List, map}
+use mathlib.Core.List.{List, [], _∷_, map}
 use mathlib.Core.Bool.{true, cond, _&&_}
 use lib.ListN.{length, getD, take}
 use lib.Dec.{eqb, leb}
-use lib.IntN.{ℤ}
+use lib.IntN.{pos, negsuc}
 use Rattle.rules.specs.Tools.{holds}
-use Rattle.rules.specs.Samples.{sampleOf}
+use Rattle.rules.specs.Samples.{sampleOf, plusZero, minusZero}
 use Rattle.rules.specs.First.{riceCode}
 use Rattle.rules.specs.Zeros.{codeOf, mostS, flagOf}
-use Rattle.rules.specs.Located.{caseOf, valuesOf}
-use Rattle.rules.specs.Chooses.{rowOf, locatedFlag, locatedForm, applies, markOf, bestS, riceChoice}
-use Rattle.measure.specs.declared.Look.{Look}
-use Rattle.measure.specs.declared.Counts.{Counts}
-use Rattle.measure.specs.Measures.{Looked, Counted, RunsAre}
+use Rattle.rules.specs.Located.{valuesOf}
+use Rattle.rules.specs.Chooses.{flagsFor, without, leastOf, greatestOf, above, below, rowOf, locatedFlag, markOf, bestS, riceChoice}
+use Rattle.measure.specs.Measures.{countIs, RunsAre}
+use Rattle.choice.specs.declared.Tally.{Tally}
+use Rattle.choice.specs.declared.Value.{Value}
 use Rattle.choice.specs.declared.Values.{Values}
 use Rattle.choice.specs.declared.Placed.{Placed}
-use Rattle.choice.specs.declared.Rice.{Rice}
-use Rattle.choice.specs.Ways.{methodsOf}
+use Rattle.choice.specs.declared.Zeros.{Zeros}
+use Rattle.choice.specs.Ways.{WayOf}
 
--- n samples that were looked at, and counted
-pub record ZerosSeen (mask : ℕ) (samples : List ℕ) (n : ℕ) (c : Counts) : Type 0 where
-  pub counted : Counted mask (take n samples) c
-  pub long : n ≤ length samples
-  pub few : n ≤ 320
-  pub seven : mask < 128
+-- the least and the greatest of samples from -2 to 1, on the line, by how many there are of each
+unfoldable pub leastBy : ℕ → ℕ → ℕ → ℕ
+leastBy twos minus plus = cond (eqb twos 0) (cond (eqb minus 0) (cond (eqb plus 0) 129 128) 127) 126
 
-pub record Seen (mask : ℕ) (samples : List ℕ) (n : ℕ) (l : Look) (c : Counts) : Type 0 where
-  pub looked : Looked mask (getD samples 0 0) (take n samples) l
-  pub counted : Counted mask (take n samples) c
-  pub long : n ≤ length samples
-  pub few : n ≤ 320
-  pub seven : mask < 128
+unfoldable pub greatestBy : ℕ → ℕ → ℕ → ℕ
+greatestBy one plus minus = cond (eqb one 0) (cond (eqb plus 0) (cond (eqb minus 0) 126 127) 128) 129
 
--- a row's values for a flag
-abbrev pub rowValues : ℕ → ℕ → List ℤ
-rowValues row flag = cond (eqb flag 1) (caseOf row .flag1) (caseOf row .flag0)
-
-pub record ValuesAre (mask row flag : ℕ) (r : Values) : Type 0 where
-  pub says : take (r .count) (r .values) ≡ map (sampleOf mask) (rowValues row flag)
-  pub size : length (r .values) ≡ 3
-  pub few : r .count ≤ 3
+-- samples from -2 to 1, counted
+pub record Tallied (mask : ℕ) (s : List ℕ) (t : Tally) : Type 0 where
+  pub plus : t .plus ≡ countIs (plusZero mask) s
+  pub one : t .one ≡ countIs (sampleOf mask (pos 1)) s
+  pub minus : t .minus ≡ countIs (minusZero mask) s
+  pub twos : t .twos ≡ countIs (sampleOf mask (negsuc 1)) s
+  pub all : t .plus + t .one + t .minus + t .twos ≡ length s
+  pub least : leastBy (t .twos) (t .minus) (t .plus) ≡ leastOf mask s
+  pub greatest : greatestBy (t .one) (t .plus) (t .minus) ≡ greatestOf mask s
+  pub above : t .one ≡ above mask s
+  pub below : t .minus + t .twos ≡ below mask s
 
 -- the row by least and greatest on the line
 unfoldable pub rowBy : ℕ → ℕ → ℕ → ℕ
@@ -51,25 +47,62 @@ rowBy least greatest n =
     (cond (eqb least 126 && eqb greatest 128 && leb 80 n) 2
     (cond (eqb least 128 && eqb greatest 129 && leb 80 n) 3 4)))
 
+-- the values of a row in the order of the flag; rows 2 and 3 have theirs for one flag only
+abbrev pub again : Value → Value
+again v = record { sample = v .sample; times = 0 }
+
+abbrev pub three : Value → Value → Value → Values
+three x y z = record { first = x; second = y; third = z; count = 3 }
+
+abbrev pub two : Value → Value → Values
+two x y = record { first = x; second = y; third = again x; count = 2 }
+
+abbrev pub only : Value → Values
+only x = record { first = x; second = again x; third = again x; count = 1 }
+
+unfoldable pub valuesBy : ℕ → ℕ → Value → Value → Value → Values
+valuesBy row flag one minus twos =
+    cond (eqb row 3) (only one)
+    (cond (eqb row 2) (two minus twos)
+    (cond (eqb row 1) (cond (eqb flag 1) (two one minus) (two minus one))
+    (cond (eqb flag 1) (three one minus twos) (three minus one twos))))
+
+-- 1, -1 and -2 as they were counted
+abbrev pub oneIn : ℕ → Tally → Value
+oneIn mask t = record { sample = sampleOf mask (pos 1); times = t .one }
+
+abbrev pub minusIn : ℕ → Tally → Value
+minusIn mask t = record { sample = minusZero mask; times = t .minus }
+
+abbrev pub twosIn : ℕ → Tally → Value
+twosIn mask t = record { sample = sampleOf mask (negsuc 1); times = t .twos }
+
+abbrev pub valuesFor : ℕ → Tally → ℕ → ℕ → Values
+valuesFor mask t row flag = valuesBy row flag (oneIn mask t) (minusIn mask t) (twosIn mask t)
+
+-- the samples of values
+abbrev pub samplesOf : Values → List ℕ
+samplesOf v = take (v .count) (v .first .sample ∷ v .second .sample ∷ v .third .sample ∷ [])
+
 -- the samples of the values of a frame
 abbrev pub valuesIn : ℕ → List ℕ → List ℕ
 valuesIn mask s = map (sampleOf mask) (valuesOf (length s) (rowOf mask s) (locatedFlag mask s))
 
-pub record PlacedIs (mask : ℕ) (s : List ℕ) (r : Placed) : Type 0 where
+-- what value-location writes: its values are x, y and z, as many of them as the row has for the flag
+pub record PlacedIs (mask : ℕ) (s : List ℕ) (r : Placed) (a b c : List ℕ) : Type 0 where
+  pub x : ℕ
+  pub y : ℕ
+  pub z : ℕ
   pub row : r .row ≡ rowOf mask s
   pub low : r .row < 4
   pub flag : r .flag ≡ locatedFlag mask s
-  pub values : take (r .values .count) (r .values .values) ≡ valuesIn mask s
-  pub three : length (r .values .values) ≡ 3
-  pub few : r .values .count ≤ 3
-  pub methods : take (length (valuesIn mask s)) (r .methods) ≡ methodsOf (valuesIn mask s) s
-  pub size : length (r .methods) ≡ 3
-  pub bits : r .bits ≡ length (locatedForm mask s)
-
-pub record PlacedFor (mask set : ℕ) (s : List ℕ) (r : Placed) : Type 0 where
-  pub offered : r .offered ≡ (holds set 7 && applies mask 7 s)
-  pub placed : r .offered ≡ true → PlacedIs mask s r
-  pub small : r .bits ≤ 1000000000
+  pub mark : r .flag < 2
+  pub some : 1 ≤ r .count
+  pub few : r .count ≤ 3
+  pub values : valuesIn mask s ≡ take (r .count) (x ∷ y ∷ z ∷ [])
+  pub first : WayOf (flagsFor x s) (r .first) a
+  pub second : 2 ≤ r .count → WayOf (flagsFor y (without x s)) (r .second) b
+  pub third : 3 ≤ r .count → WayOf (flagsFor z (without y (without x s))) (r .third) c
 
 -- the bits of the codes of S
 pub record CodesAre (n : ℕ) (r : List ℕ) : Type 0 where
@@ -80,7 +113,8 @@ pub record StartIs (n r : ℕ) : Type 0 where
   pub says : (mark : ℕ) → r ≡ length (riceCode n mark)
   pub small : r ≤ 7
 
-pub record RiceIs (mask : ℕ) (s : List ℕ) (r : Rice) (runs : List ℕ) : Type 0 where
+-- what Rice writes
+pub record RiceIs (mask : ℕ) (s : List ℕ) (r : Zeros) (runs : List ℕ) : Type 0 where
   pub mark : r .mark ≡ markOf mask s
   pub best : r .s ≡ bestS mask (markOf mask s) s
   pub to : r .s ≤ 9
@@ -89,7 +123,6 @@ pub record RiceIs (mask : ℕ) (s : List ℕ) (r : Rice) (runs : List ℕ) : Typ
   pub found : RunsAre (map (flagOf mask (markOf mask s)) s) (r .count) runs
   pub bits : r .bits ≡ length (riceChoice mask s)
 
-pub record RiceFor (mask set : ℕ) (s : List ℕ) (r : Rice) (runs : List ℕ) : Type 0 where
-  pub offered : r .offered ≡ (holds set 6 && applies mask 6 s)
-  pub rice : r .offered ≡ true → RiceIs mask s r runs
+pub record RiceFor (mask set : ℕ) (s : List ℕ) (r : Zeros) (runs : List ℕ) : Type 0 where
+  pub rice : holds set 6 ≡ true → RiceIs mask s r runs
   pub small : r .bits ≤ 1000000000

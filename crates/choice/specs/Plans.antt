@@ -2,13 +2,17 @@
 use Prim.Native.Nat.{ℕ, _≤_}
 use mathlib.Core.Path.{_≡_}
 use mathlib.Core.List.{List, [], _∷_}
-use mathlib.Core.Bool.{Bool, cond, _&&_, _||_}
+use mathlib.Core.Bool.{Bool, true, cond, _&&_, _||_}
 use lib.ListN.{length}
 use lib.Dec.{eqb, leb}
 use Rattle.rules.specs.Bits.{octetsFor}
-use Rattle.rules.specs.Chooses.{choose, chosenTool, formOf}
+use Rattle.rules.specs.Tools.{holds}
+use Rattle.rules.specs.Samples.{plusZero, minusZero}
+use Rattle.rules.specs.Chooses.{choose, chosenTool, formOf, leastOf, greatestOf}
+use Rattle.measure.specs.Measures.{near}
 use Rattle.choice.specs.declared.Choice.{Choice}
-use Rattle.choice.specs.declared.Plan.{Plan}
+use Rattle.choice.specs.declared.Zeros.{Zeros}
+use Rattle.choice.specs.declared.Placed.{Placed}
 use Rattle.choice.specs.Offers.{RiceIs, PlacedIs}
 
 -- whether a tool is taken
@@ -30,23 +34,33 @@ pub record ChosenIs (mask set : ℕ) (s ts : List ℕ) (r : Choice) : Type 0 whe
 abbrev pub isMask : ℕ → Bool
 isMask mask = eqb mask 0x55 || eqb mask 0x7F
 
--- all samples from -2 to 1, by their least and greatest on the line
-abbrev pub near : ℕ → ℕ → Bool
-near least greatest = leb 126 least && leb greatest 129
-
 -- the tools that are measured
 abbrev pub measured : List ℕ
 measured = 5 ∷ 6 ∷ 7 ∷ []
 
--- a choice that is settled, or 0 where it lies among the tools that are measured
+-- the tool of a frame of one value, or 0 where the set lacks it
+abbrev pub valueTool : ℕ → ℕ → ℕ → ℕ
+valueTool mask set x = cond (holds set 2 && eqb x (plusZero mask)) 2 (cond (holds set 3 && eqb x (minusZero mask)) 3 (cond (holds set 4) 4 0))
+
+-- a choice that is settled, or 0 where it lies among the tools that are measured; all samples are then from -2 to 1
 pub record Plain (mask set : ℕ) (s : List ℕ) (r : ℕ) : Type 0 where
   pub settled : (r ≡ 0 → ⊥) → r ≡ chosenTool mask set s
   pub later : r ≡ 0 → chosenTool mask set s ≡ choose mask set s measured
+  pub close : r ≡ 0 → near (leastOf mask s) (greatestOf mask s) ≡ true
   pub most : r ≤ 4
 
-pub record PlanFor (mask set : ℕ) (s : List ℕ) (r : Plan) (runs : List ℕ) : Type 0 where
+-- what is written of a frame of the two zeros
+pub record ZerosFor (mask set : ℕ) (s : List ℕ) (r : Zeros) (runs : List ℕ) : Type 0 where
   pub tool : r .tool ≡ choose mask set s measured
   pub bits : r .bits ≡ length (formOf mask (choose mask set s measured) s)
   pub small : r .bits ≤ 1000000000
-  pub rice : choose mask set s measured ≡ 6 → RiceIs mask s (r .rice) runs
-  pub placed : choose mask set s measured ≡ 7 → PlacedIs mask s (r .placed)
+  pub rice : choose mask set s measured ≡ 6 → RiceIs mask s r runs
+  pub kind : (r .tool ≡ 1 → ⊥) → (r .tool ≡ 6 → ⊥) → r .tool ≡ 5
+
+-- what is written of a frame that has a 1 or a -2
+pub record PlacedFor (mask set : ℕ) (s : List ℕ) (r : Placed) (a b c : List ℕ) : Type 0 where
+  pub tool : r .tool ≡ choose mask set s measured
+  pub bits : r .bits ≡ length (formOf mask (choose mask set s measured) s)
+  pub small : r .bits ≤ 1000000000
+  pub placed : choose mask set s measured ≡ 7 → PlacedIs mask s r a b c
+  pub kind : (r .tool ≡ 1 → ⊥) → r .tool ≡ 7

@@ -3,44 +3,46 @@
 use law::minus_zero;
 use law::plus_zero;
 use law::sample_of;
-use measure::Counts;
-use measure::Look;
-use measure::copy_of;
-use measure::counts_of;
+use measure::Spread;
+use measure::count_of;
+use measure::found_in;
 use measure::least_s;
-use measure::runs_of;
+use measure::others;
+use measure::runs_in;
 use measure::width_of;
-use measure::without_value;
 use prefix::holds;
 ghost use mathlib.Core.Path.{_≡_};
-ghost use mathlib.Core.List.{[], _∷_};
 ghost use mathlib.Core.Bool.{true, false, cond, _&&_};
-ghost use Prim.Native.Nat.{_+_, _≤_, _<_};
+ghost use Prim.Native.Nat.{_+_, _*_, _%_, _≤_, _<_};
 ghost use lib.ListN.{length, getD, take};
 ghost use lib.Dec.{eqb, leb, ltb};
 ghost use Rattle.rules.specs.Tools as tools;
 ghost use Rattle.rules.specs.Zeros.{zeroOf, mostS};
-ghost use Rattle.measure.specs.Measures.{Looked};
-ghost use Rattle.choice.specs.Ways.{WayFor, WaysAre};
-ghost use Rattle.choice.specs.Offers.{ValuesAre, rowBy, Seen, ZerosSeen, PlacedFor, CodesAre, StartIs, RiceFor};
-ghost use Rattle.choice.specs.Plans.{BetterIs, isMask, near, Plain, PlanFor};
+ghost use Rattle.rules.specs.Chooses.{leastOf, greatestOf};
+ghost use Rattle.measure.specs.Measures.{near, twoZeros, SpreadIs};
+ghost use Rattle.choice.specs.Ways.{WayFor, WayIn, InTurn, WaysAre};
+ghost use Rattle.choice.specs.Offers.{leastBy, greatestBy, rowBy, Tallied, valuesBy, valuesFor, CodesAre, StartIs, RiceFor};
+ghost use Rattle.choice.specs.Plans.{BetterIs, isMask, valueTool, Plain, ZerosFor, PlacedFor};
 
-// How a value is written: its method, and all its bits with the method's three.
+// How a value is written: its method, all its bits with the method's three, its D places, how often it occurs, and how many runs it has.
 pub struct Way {
     pub method: u8,
     pub bits: usize,
-}
-
-// Values in their order, as samples: the first `count`.
-pub struct Values {
-    pub values: [u8; 3],
+    pub d: usize,
     pub count: usize,
+    pub runs: usize,
 }
 
-// A way for each value: the first so many methods, and the bits of all.
-pub struct Ways {
-    pub methods: [u8; 3],
-    pub bits: usize,
+fn way_by(method: u8, bits: usize, d: usize, count: usize, runs: usize) -> Way
+    ensures { λ r. ⌜ r ≡ record { method = method; bits = bits; d = d; count = count; runs = runs } ⌝ }
+{
+    Way {
+        method: method,
+        bits: bits,
+        d: d,
+        count: count,
+        runs: runs,
+    }
 }
 
 fn narrow(x: usize) -> u8
@@ -54,23 +56,17 @@ fn narrow(x: usize) -> u8
 // ceil(log2 D) plus 2; else runs". The runs are those of the value's D flags.
 pub fn way_of(runs: &[u16; 321], found: usize, d: usize, count: usize) -> Way
     requires { ⌜ (found ≤ 321) × ((found ≤ length (now runs)) × (d ≤ 320)) ⌝ }
-    ensures { λ r. ⌜ WayFor (take found (now (runs .entry))) d count r ⌝ }
+    ensures { λ r. ⌜ WayFor (now (runs .entry)) found d count r ⌝ }
 {
     if count == 0 {
-        return Way { method: 5, bits: 3 };
+        return way_by(5, 3, d, count, found);
     }
     let none = [0u8; 10];
     let least = least_s(runs, found, &none, 4);
     if d < least.bits {
-        return Way {
-            method: 0,
-            bits: 3 + d,
-        };
+        return way_by(0, 3 + d, d, count, found);
     }
-    let by_runs = Way {
-        method: narrow(least.s),
-        bits: 3 + least.bits,
-    };
+    let by_runs = way_by(narrow(least.s), 3 + least.bits, d, count, found);
     if 4 < count {
         return by_runs;
     }
@@ -78,117 +74,113 @@ pub fn way_of(runs: &[u16; 321], found: usize, d: usize, count: usize) -> Way
     if least.bits <= listed {
         return by_runs;
     }
-    Way {
-        method: 7,
-        bits: 3 + listed,
+    way_by(7, 3 + listed, d, count, found)
+}
+
+// The same of a value that the row may lack: one that it lacks has no bits.
+fn way_if(has: bool, runs: &[u16; 321], found: usize, d: usize, count: usize) -> Way
+    requires { ⌜ (found ≤ 321) × ((found ≤ length (now runs)) × (d ≤ 320)) ⌝ }
+    ensures { λ r. ⌜ WayIn has (now (runs .entry)) found d count r ⌝ }
+{
+    if !has {
+        return way_by(5, 0, d, count, found);
+    }
+    way_of(runs, found, d, count)
+}
+
+// How many samples are 0, 1, -1 and -2.
+pub struct Tally {
+    pub plus: usize,
+    pub one: usize,
+    pub minus: usize,
+    pub twos: usize,
+}
+
+// All samples are from -2 to 1, so what is none of the three is 0.
+fn tally_of(samples: &[u8], n: usize, mask: u8) -> Tally
+    requires { ⌜ (1 ≤ n) × ((n ≤ 320) × ((n ≤ length (now samples)) × (isMask mask ≡ true))) ⌝ }
+    requires { ⌜ near (leastOf mask (take n (now samples))) (greatestOf mask (take n (now samples))) ≡ true ⌝ }
+    ensures { λ r. ⌜ Tallied mask (take n (now (samples .entry))) r ⌝ }
+{
+    let one = count_of(samples, n, sample_of(mask, 1));
+    let minus = count_of(samples, n, minus_zero(mask));
+    let twos = count_of(samples, n, sample_of(mask, -2));
+    Tally {
+        plus: n - (one + minus + twos),
+        one: one,
+        minus: minus,
+        twos: twos,
     }
 }
 
-// The ways of values, one after the other, "D is N for the first value, then the places still empty".
-pub fn ways_of(samples: &[u8], n: usize, v: Values, runs: &mut [u16; 321]) -> Ways
-    requires { ⌜ (n ≤ 320) × ((n ≤ length (now samples)) × (length (now runs) ≡ 321)) ⌝ }
-    requires { ⌜ (length (v .values) ≡ 3) × (v .count ≤ 3) ⌝ }
-    ensures { λ r. ⌜ (WaysAre (take (v .count) (v .values)) (take n (now (samples .entry))) r) × (length (now (runs .exit)) ≡ 321) ⌝ }
+// The least of the samples, as a place on the line of signed numbers, where 0 is at 128.
+fn least_in(t: Tally) -> u8
+    ensures { λ r. ⌜ r ≡ leastBy (t .twos) (t .minus) (t .plus) ⌝ }
 {
-    let values = v.values;
-    let most = v.count;
-    let mut cells = copy_of(samples, n);
-    let mut d = n;
-    let mut methods = [0u8; 3];
-    let mut bits = 0;
-    let mut j = 0;
-    while j < most {
-        let x = values[j];
-        let found = runs_of(&cells, d, x, 1, 0, runs);
-        let kept = without_value(&mut cells, d, x);
-        let way = way_of(runs, found, d, d - kept);
-        methods[j] = way.method;
-        bits += way.bits;
-        d = kept;
-        j += 1;
+    if t.twos != 0 {
+        return 126;
     }
-    Ways {
-        methods: methods,
-        bits: bits,
+    if t.minus != 0 {
+        return 127;
     }
+    if t.plus != 0 {
+        return 128;
+    }
+    129
 }
 
-fn three(x: u8, y: u8, z: u8, count: usize) -> Values
-    ensures { λ r. ⌜ (r .values ≡ x ∷ y ∷ z ∷ []) × (r .count ≡ count) ⌝ }
+fn greatest_in(t: Tally) -> u8
+    ensures { λ r. ⌜ r ≡ greatestBy (t .one) (t .plus) (t .minus) ⌝ }
 {
-    Values {
-        values: [x, y, z],
-        count: count,
+    if t.one != 0 {
+        return 129;
     }
-}
-
-// A row's values in the flag's order, as samples.
-pub fn values_of(mask: u8, row: usize, flag: usize) -> Values
-    requires { ⌜ (mask < 128) × (row < 4) ⌝ }
-    ensures { λ r. ⌜ ValuesAre mask row flag r ⌝ }
-{
-    let one = sample_of(mask, 1);
-    let minus = minus_zero(mask);
-    let two = sample_of(mask, -2);
-    if row == 0 {
-        if flag == 1 {
-            return three(one, minus, two, 3);
-        }
-        return three(minus, one, two, 3);
+    if t.plus != 0 {
+        return 128;
     }
-    if row == 1 {
-        if flag == 1 {
-            return three(one, minus, 0, 2);
-        }
-        return three(minus, one, 0, 2);
+    if t.minus != 0 {
+        return 127;
     }
-    if row == 2 {
-        if flag == 1 {
-            return three(0, 0, 0, 0);
-        }
-        return three(minus, two, 0, 2);
-    }
-    if flag == 1 {
-        return three(one, 0, 0, 1);
-    }
-    three(0, 0, 0, 0)
+    126
 }
 
 // "least and greatest are a row's, N fits it"
-fn is_row(l: Look, n: usize, least: u8, greatest: u8, from: usize) -> bool
-    ensures { λ r. ⌜ r ≡ eqb (l .least) least && eqb (l .greatest) greatest && leb from n ⌝ }
+fn is_row(l: u8, g: u8, n: usize, least: u8, greatest: u8, from: usize) -> bool
+    ensures { λ r. ⌜ r ≡ eqb l least && eqb g greatest && leb from n ⌝ }
 {
-    if l.least != least {
+    if l != least {
         return false;
     }
-    if l.greatest != greatest {
+    if g != greatest {
         return false;
     }
     from <= n
 }
 
-// The row, or 4 where none is. On the line of signed numbers 0 is at 128.
-pub fn row_of(l: Look, n: usize) -> usize
-    ensures { λ r. ⌜ (r ≡ rowBy (l .least) (l .greatest) n) × (r ≤ 4) ⌝ }
+// The row, or 4 where none is.
+fn row_of(t: Tally, n: usize) -> usize
+    ensures { λ r. ⌜ (r ≡ rowBy (leastBy (t .twos) (t .minus) (t .plus)) (greatestBy (t .one) (t .plus) (t .minus)) n) × (r ≤ 4) ⌝ }
 {
-    if is_row(l, n, 126, 129, 240) {
+    let least = least_in(t);
+    let greatest = greatest_in(t);
+    if is_row(least, greatest, n, 126, 129, 240) {
         return 0;
     }
-    if is_row(l, n, 127, 129, 80) {
+    if is_row(least, greatest, n, 127, 129, 80) {
         return 1;
     }
-    if is_row(l, n, 126, 128, 80) {
+    if is_row(least, greatest, n, 126, 128, 80) {
         return 2;
     }
-    if is_row(l, n, 128, 129, 80) {
+    if is_row(least, greatest, n, 128, 129, 80) {
         return 3;
     }
     4
 }
 
 // "N is 80 or more, least and greatest are a row's, N fits it, and no value is more frequent than 0"
-fn located_applies(c: Counts, n: usize, row: usize) -> bool
-    ensures { λ r. ⌜ r ≡ leb 80 n && ltb row 4 && leb (c .one) (c .plus) && leb (c .minus) (c .plus) && leb (c .twos) (c .plus) ⌝ }
+fn located_applies(t: Tally, n: usize, row: usize) -> bool
+    ensures { λ r. ⌜ r ≡ leb 80 n && ltb row 4 && leb (t .one) (t .plus) && leb (t .minus) (t .plus) && leb (t .twos) (t .plus) ⌝ }
 {
     if n < 80 {
         return false;
@@ -196,98 +188,172 @@ fn located_applies(c: Counts, n: usize, row: usize) -> bool
     if 4 <= row {
         return false;
     }
-    if c.plus < c.one {
+    if t.plus < t.one {
         return false;
     }
-    if c.plus < c.minus {
+    if t.plus < t.minus {
         return false;
     }
-    c.twos <= c.plus
+    t.twos <= t.plus
 }
 
 // "flag 1 if as many samples are above 0 as below or more"
-fn flag_of(c: Counts) -> usize
-    ensures { λ r. ⌜ r ≡ cond (leb (c .below) (c .above)) 1 0 ⌝ }
+fn flag_of(above: usize, below: usize) -> usize
+    ensures { λ r. ⌜ (r ≡ cond (leb below above) 1 0) × (r < 2) ⌝ }
 {
-    if c.below <= c.above { 1 } else { 0 }
+    if below <= above { 1 } else { 0 }
 }
 
-// What value-location would write, where the set holds it and it applies.
-pub struct Placed {
-    pub offered: bool,
-    pub row: usize,
-    pub flag: usize,
-    pub values: Values,
-    pub methods: [u8; 3],
-    pub bits: usize,
+// A value as a sample, and how often it occurs.
+pub struct Value {
+    pub sample: u8,
+    pub times: usize,
 }
 
-fn nothing_placed() -> Placed
-    ensures { λ r. ⌜ (r .offered ≡ false) × (r .bits ≡ 0) ⌝ }
+// Values in their order: the first `count`. One that the row lacks is the first once more, and occurs no more.
+pub struct Values {
+    pub first: Value,
+    pub second: Value,
+    pub third: Value,
+    pub count: usize,
+}
+
+fn three(x: Value, y: Value, z: Value) -> Values
+    ensures { λ r. ⌜ r ≡ record { first = x; second = y; third = z; count = 3 } ⌝ }
 {
-    Placed {
-        offered: false,
-        row: 0,
-        flag: 0,
-        values: three(0, 0, 0, 0),
-        methods: [0u8; 3],
-        bits: 0,
+    Values {
+        first: x,
+        second: y,
+        third: z,
+        count: 3,
     }
 }
 
-pub fn placed_of(
+fn again(x: Value) -> Value
+    ensures { λ r. ⌜ r ≡ record { sample = x .sample; times = 0 } ⌝ }
+{
+    Value {
+        sample: x.sample,
+        times: 0,
+    }
+}
+
+fn two(x: Value, y: Value) -> Values
+    ensures { λ r. ⌜ r ≡ record { first = x; second = y; third = record { sample = x .sample; times = 0 }; count = 2 } ⌝ }
+{
+    let z = again(x);
+    Values {
+        first: x,
+        second: y,
+        third: z,
+        count: 2,
+    }
+}
+
+fn only(x: Value) -> Values
+    ensures { λ r. ⌜ r ≡ record { first = x; second = record { sample = x .sample; times = 0 }; third = record { sample = x .sample; times = 0 }; count = 1 } ⌝ }
+{
+    let z = again(x);
+    Values {
+        first: x,
+        second: z,
+        third: z,
+        count: 1,
+    }
+}
+
+// A row's values in the flag's order. Where the greatest is 0 the flag is 0, and where the least is 0 it is 1.
+fn ordered(row: usize, flag: usize, one: Value, minus: Value, twos: Value) -> Values
+    ensures { λ r. ⌜ r ≡ valuesBy row flag one minus twos ⌝ }
+{
+    if row == 3 {
+        return only(one);
+    }
+    if row == 2 {
+        return two(minus, twos);
+    }
+    if row == 1 {
+        if flag == 1 {
+            return two(one, minus);
+        }
+        return two(minus, one);
+    }
+    if flag == 1 {
+        return three(one, minus, twos);
+    }
+    three(minus, one, twos)
+}
+
+fn values_of(mask: u8, t: Tally, row: usize, flag: usize) -> Values
+    requires { ⌜ mask < 128 ⌝ }
+    ensures { λ r. ⌜ r ≡ valuesFor mask t row flag ⌝ }
+{
+    let one = Value {
+        sample: sample_of(mask, 1),
+        times: t.one,
+    };
+    let minus = Value {
+        sample: minus_zero(mask),
+        times: t.minus,
+    };
+    let twos = Value {
+        sample: sample_of(mask, -2),
+        times: t.twos,
+    };
+    ordered(row, flag, one, minus, twos)
+}
+
+// A way for each value.
+pub struct Ways {
+    pub first: Way,
+    pub second: Way,
+    pub third: Way,
+}
+
+// The ways of values, one after the other, "D is N for the first value, then the places still empty". Their runs are left in the lent arrays.
+fn ways_of(
     samples: &[u8],
     n: usize,
-    mask: u8,
-    set: u32,
-    l: Look,
-    c: Counts,
-    runs: &mut [u16; 321],
-) -> Placed
-    requires { ⌜ Seen mask (now samples) n l c ⌝ }
-    requires { ⌜ length (now runs) ≡ 321 ⌝ }
-    ensures { λ r. ⌜ (PlacedFor mask set (take n (now (samples .entry))) r) × (length (now (runs .exit)) ≡ 321) ⌝ }
+    plus: u8,
+    v: Values,
+    a: &mut [u16; 321],
+    b: &mut [u16; 321],
+    c: &mut [u16; 321],
+) -> Ways
+    requires { ⌜ (n ≤ 320) × ((n ≤ length (now samples)) × (n % 40 ≡ 0)) ⌝ }
+    requires { ⌜ InTurn plus (take n (now samples)) v ⌝ }
+    requires { ⌜ (length (now a) ≡ 321) × ((length (now b) ≡ 321) × (length (now c) ≡ 321)) ⌝ }
+    ensures { λ r. ⌜ WaysAre (take n (now (samples .entry))) v r (now (a .exit)) (now (b .exit)) (now (c .exit)) ⌝ }
 {
-    if !holds(set, 7) {
-        return nothing_placed();
+    let x = v.first;
+    let y = v.second;
+    let z = v.third;
+    let found = found_in(samples, n / 40, plus, x.sample, y.sample, z.sample, a, b, c);
+    let d = n - x.times;
+    let e = d - y.times;
+    let first = way_of(a, found.first, n, x.times);
+    let second = way_if(2 <= v.count, b, found.second, d, y.times);
+    let third = way_if(3 <= v.count, c, found.third, e, z.times);
+    Ways {
+        first: first,
+        second: second,
+        third: third,
     }
-    let row = row_of(l, n);
-    if !located_applies(c, n, row) {
-        return nothing_placed();
-    }
-    let flag = flag_of(c);
-    let values = values_of(mask, row, flag);
-    let ways = ways_of(samples, n, values, runs);
-    let methods = ways.methods;
-    Placed {
-        offered: true,
-        row: row,
-        flag: flag,
-        values: values,
-        methods: methods,
-        bits: 11 + ways.bits,
-    }
-}
-
-fn sized(x: u16) -> usize
-    ensures { λ r. ⌜ (r ≡ x) × (r < 65536) ⌝ }
-{
-    x as usize
 }
 
 // "the commoner zero, plus on a tie": the mark that is written is 1 where it is minus.
-fn mark_of(c: Counts) -> usize
-    ensures { λ r. ⌜ (r ≡ cond (ltb (c .plus) (c .minus)) 1 0) × (r < 2) ⌝ }
+fn mark_of(plus: usize, minus: usize) -> usize
+    ensures { λ r. ⌜ (r ≡ cond (ltb plus minus) 1 0) × (r < 2) ⌝ }
 {
-    if c.plus < c.minus { 1 } else { 0 }
+    if plus < minus { 1 } else { 0 }
 }
 
 // "the commoner zero, plus on a tie": the zero whose places are counted as the common kind.
-fn common_zero(mask: u8, c: Counts) -> u8
+fn common_zero(mask: u8, plus: usize, minus: usize) -> u8
     requires { ⌜ mask < 128 ⌝ }
-    ensures { λ r. ⌜ r ≡ zeroOf mask (cond (ltb (c .plus) (c .minus)) 1 0) 0 ⌝ }
+    ensures { λ r. ⌜ r ≡ zeroOf mask (cond (ltb plus minus) 1 0) 0 ⌝ }
 {
-    if c.minus <= c.plus {
+    if minus <= plus {
         return plus_zero(mask);
     }
     minus_zero(mask)
@@ -325,62 +391,44 @@ fn start_bits(n: usize) -> usize
     if 240 <= n { 7 } else { 5 }
 }
 
-// What Rice would write, where the set holds it and it applies; the runs are left in the lent array.
-pub struct Rice {
-    pub offered: bool,
+// What is written of a frame of the two zeros: the tool and its bits, and for Rice the mark, S and how many runs.
+pub struct Zeros {
+    pub tool: u32,
+    pub bits: usize,
     pub mark: usize,
     pub s: usize,
-    pub bits: usize,
     pub count: usize,
 }
 
-fn no_rice() -> Rice
-    ensures { λ r. ⌜ (r .offered ≡ false) × (r .bits ≡ 0) ⌝ }
-{
-    Rice {
-        offered: false,
-        mark: 0,
-        s: 1,
-        bits: 0,
-        count: 0,
-    }
-}
-
-// "frames of the two zeros only"
-fn two_zeros(c: Counts, n: usize) -> bool
-    ensures { λ r. ⌜ r ≡ eqb (c .plus + c .minus) n ⌝ }
-{
-    sized(c.plus) + sized(c.minus) == n
-}
-
-pub fn rice_of(
-    samples: &[u8],
-    n: usize,
-    mask: u8,
-    set: u32,
-    c: Counts,
-    runs: &mut [u16; 321],
-) -> Rice
-    requires { ⌜ ZerosSeen mask (now samples) n c ⌝ }
+// Rice, where the set holds it: the runs are left in the lent array. All samples that are not minus zero are plus zero.
+fn rice_of(samples: &[u8], n: usize, mask: u8, set: u32, runs: &mut [u16; 321]) -> Zeros
+    requires { ⌜ (n ≤ 320) × ((n ≤ length (now samples)) × ((mask < 128) × (n % 40 ≡ 0))) ⌝ }
+    requires { ⌜ twoZeros mask (take n (now samples)) ≡ true ⌝ }
     requires { ⌜ length (now runs) ≡ 321 ⌝ }
     ensures { λ r. ⌜ RiceFor mask set (take n (now (samples .entry))) r (now (runs .exit)) ⌝ }
 {
     if !holds(set, 6) {
-        return no_rice();
+        return Zeros {
+            tool: 1,
+            bits: 0,
+            mark: 0,
+            s: 1,
+            count: 0,
+        };
     }
-    if !two_zeros(c, n) {
-        return no_rice();
-    }
-    let mark = mark_of(c);
-    let zero = common_zero(mask, c);
-    let count = runs_of(samples, n, zero, 0, 1, runs);
+    let minus = count_of(samples, n, minus_zero(mask));
+    let plus = n - minus;
+    let mark = mark_of(plus, minus);
+    let zero = common_zero(mask, plus, minus);
+    let row = others(samples, n / 40, zero);
+    let count = runs_in(&row, n / 40, runs);
     let extra = code_lengths(n);
     let least = least_s(runs, count, &extra, most_s(n));
-    Rice {
-        offered: true,
+    Zeros {
+        tool: 6,
+        bits: start_bits(n) + least.bits,
         mark: mark,
         s: least.s,
-        bits: start_bits(n) + least.bits,
         count: count,
     }
 }
@@ -389,6 +437,16 @@ pub fn rice_of(
 pub struct Choice {
     pub tool: u32,
     pub bits: usize,
+}
+
+fn uncompressed_of(n: usize) -> Choice
+    requires { ⌜ n ≤ 320 ⌝ }
+    ensures { λ r. ⌜ r ≡ record { tool = 1; bits = 8 + 8 * n } ⌝ }
+{
+    Choice {
+        tool: 1,
+        bits: 8 + 8 * n,
+    }
 }
 
 // The tool, if it is offered and its octets are not more; else what was best before it.
@@ -408,29 +466,6 @@ fn better(best: Choice, tool: u32, offered: bool, bits: usize) -> Choice
     }
 }
 
-// Binary: where the set holds it, "frames of the two zeros only".
-fn binary_offered(c: Counts, n: usize, set: u32) -> bool
-    ensures { λ r. ⌜ r ≡ tools.holds set 5 && eqb (c .plus + c .minus) n ⌝ }
-{
-    if !holds(set, 5) {
-        return false;
-    }
-    two_zeros(c, n)
-}
-
-// Uncompressed where a sample is below -2 or above 1, else 0. On the line of signed numbers 0 is at 128.
-fn spread_tool(least: u8, greatest: u8) -> u32
-    ensures { λ r. ⌜ r ≡ cond (near least greatest) 0 1 ⌝ }
-{
-    if least < 126 {
-        return 1;
-    }
-    if 129 < greatest {
-        return 1;
-    }
-    0
-}
-
 // Whether a tool is for this sample, and held.
 fn is_for(x: u8, y: u8, set: u32, tool: u32) -> bool
     ensures { λ r. ⌜ r ≡ tools.holds set tool && eqb x y ⌝ }
@@ -441,21 +476,15 @@ fn is_for(x: u8, y: u8, set: u32, tool: u32) -> bool
     x == y
 }
 
-// The tool of a frame that the first look settles, else 0. A frame of one value takes one or two octets, and no other form is as short;
-// a frame with a sample below -2 or above 1 that is not of one value stays uncompressed.
-pub fn plain_tool(samples: &[u8], n: usize, l: Look, mask: u8, set: u32) -> u32
-    requires { ⌜ (1 ≤ n) × ((n ≤ length (now samples)) × (isMask mask ≡ true)) ⌝ }
-    requires { ⌜ Looked mask (getD (now samples) 0 0) (take n (now samples)) l ⌝ }
-    ensures { λ r. ⌜ Plain mask set (take n (now (samples .entry))) r ⌝ }
+// The tool of a frame of one value, or 0 where the set lacks it.
+fn one_value_tool(x: u8, mask: u8, set: u32) -> u32
+    requires { ⌜ mask < 128 ⌝ }
+    ensures { λ r. ⌜ r ≡ valueTool mask set x ⌝ }
 {
-    if l.mixed != 0 {
-        return spread_tool(l.least, l.greatest);
-    }
-    let first = samples[0];
-    if is_for(first, plus_zero(mask), set, 2) {
+    if is_for(x, plus_zero(mask), set, 2) {
         return 2;
     }
-    if is_for(first, minus_zero(mask), set, 3) {
+    if is_for(x, minus_zero(mask), set, 3) {
         return 3;
     }
     if holds(set, 4) {
@@ -464,38 +493,127 @@ pub fn plain_tool(samples: &[u8], n: usize, l: Look, mask: u8, set: u32) -> u32
     0
 }
 
-// The chosen tool with its bits, and what Rice and value-location would write.
-pub struct Plan {
-    pub tool: u32,
-    pub bits: usize,
-    pub rice: Rice,
-    pub placed: Placed,
+// Uncompressed where a sample is below -2 or above 1, else 0: with the mask taken off, the low bits of 0 and -1 are 0, those of 1 and -2 are 1.
+fn spread_tool(any: u8) -> u32
+    ensures { λ r. ⌜ r ≡ cond (ltb (any % 128) 2) 0 1 ⌝ }
+{
+    if 2 <= any % 128 { 1 } else { 0 }
 }
 
-// "Fewest octets", where the first look does not settle it: from uncompressed on, each tool of the tie order takes its place where it is
-// not more. What the set does not hold is not measured.
-pub fn plan_of(samples: &[u8], n: usize, mask: u8, set: u32, l: Look, runs: &mut [u16; 321]) -> Plan
-    requires { ⌜ (n ≤ 320) × ((n ≤ length (now samples)) × (mask < 128)) ⌝ }
-    requires { ⌜ Looked mask (getD (now samples) 0 0) (take n (now samples)) l ⌝ }
-    requires { ⌜ length (now runs) ≡ 321 ⌝ }
-    ensures { λ r. ⌜ PlanFor mask set (take n (now (samples .entry))) r (now (runs .exit)) ⌝ }
+// The tool of a frame that the first look settles, else 0. A frame of one value takes one or two octets, and no other form is as short;
+// where no tool of one value is held, a frame with a sample below -2 or above 1 stays uncompressed, as it does where its samples differ.
+pub fn plain_tool(samples: &[u8], n: usize, l: Spread, mask: u8, set: u32) -> u32
+    requires { ⌜ (1 ≤ n) × ((n ≤ length (now samples)) × (isMask mask ≡ true)) ⌝ }
+    requires { ⌜ SpreadIs mask (getD (now samples) 0 0) (take n (now samples)) l ⌝ }
+    ensures { λ r. ⌜ Plain mask set (take n (now (samples .entry))) r ⌝ }
 {
-    let c = counts_of(samples, n, mask);
-    let placed = placed_of(samples, n, mask, set, l, c, runs);
-    let rice = rice_of(samples, n, mask, set, c, runs);
-    let binary = binary_offered(c, n, set);
-    let binary_bits = 8 + n;
-    let uncompressed = Choice {
-        tool: 1,
-        bits: 8 + 8 * n,
-    };
-    let seven = better(uncompressed, 7, placed.offered, placed.bits);
-    let six = better(seven, 6, rice.offered, rice.bits);
-    let five = better(six, 5, binary, binary_bits);
-    Plan {
+    if l.any != l.all {
+        return spread_tool(l.any);
+    }
+    let tool = one_value_tool(samples[0], mask, set);
+    if tool != 0 {
+        return tool;
+    }
+    spread_tool(l.any)
+}
+
+// "Fewest octets" for a frame of the two zeros that the first look does not settle: from uncompressed on, each tool of the tie order takes
+// its place where it is not more. Value-location does not apply: no row has the least -1 or 0 and the greatest -1 or 0.
+pub fn zeros_plan(samples: &[u8], n: usize, mask: u8, set: u32, runs: &mut [u16; 321]) -> Zeros
+    requires { ⌜ (n ≤ 320) × ((n ≤ length (now samples)) × ((mask < 128) × (n % 40 ≡ 0))) ⌝ }
+    requires { ⌜ twoZeros mask (take n (now samples)) ≡ true ⌝ }
+    requires { ⌜ length (now runs) ≡ 321 ⌝ }
+    ensures { λ r. ⌜ ZerosFor mask set (take n (now (samples .entry))) r (now (runs .exit)) ⌝ }
+{
+    let rice = rice_of(samples, n, mask, set, runs);
+    let uncompressed = uncompressed_of(n);
+    let six = better(uncompressed, 6, holds(set, 6), rice.bits);
+    let five = better(six, 5, holds(set, 5), 8 + n);
+    Zeros {
         tool: five.tool,
         bits: five.bits,
-        rice: rice,
-        placed: placed,
+        mark: rice.mark,
+        s: rice.s,
+        count: rice.count,
+    }
+}
+
+// What is written of a frame that has a 1 or a -2: the tool and its bits, and for value-location the row, the flag, how many values the row
+// has for the flag, and a way for each.
+pub struct Placed {
+    pub tool: u32,
+    pub bits: usize,
+    pub row: usize,
+    pub flag: usize,
+    pub count: usize,
+    pub first: Way,
+    pub second: Way,
+    pub third: Way,
+}
+
+fn not_placed(n: usize) -> Placed
+    requires { ⌜ n ≤ 320 ⌝ }
+    ensures { λ r. ⌜ (r .tool ≡ 1) × (r .bits ≡ 8 + 8 * n) ⌝ }
+{
+    let none = way_by(5, 0, 0, 0, 0);
+    Placed {
+        tool: 1,
+        bits: 8 + 8 * n,
+        row: 0,
+        flag: 0,
+        count: 0,
+        first: none,
+        second: none,
+        third: none,
+    }
+}
+
+// "Fewest octets" for a frame from -2 to 1 that has a 1 or a -2: binary and Rice do not apply. Nothing is measured where the set lacks
+// value-location or it does not apply.
+pub fn values_plan(
+    samples: &[u8],
+    n: usize,
+    mask: u8,
+    set: u32,
+    a: &mut [u16; 321],
+    b: &mut [u16; 321],
+    c: &mut [u16; 321],
+) -> Placed
+    requires { ⌜ (1 ≤ n) × ((n ≤ 320) × ((n ≤ length (now samples)) × ((isMask mask ≡ true) × (n % 40 ≡ 0)))) ⌝ }
+    requires { ⌜ twoZeros mask (take n (now samples)) ≡ false ⌝ }
+    requires { ⌜ near (leastOf mask (take n (now samples))) (greatestOf mask (take n (now samples))) ≡ true ⌝ }
+    requires { ⌜ (length (now a) ≡ 321) × ((length (now b) ≡ 321) × (length (now c) ≡ 321)) ⌝ }
+    ensures { λ r. ⌜ PlacedFor mask set (take n (now (samples .entry))) r (now (a .exit)) (now (b .exit)) (now (c .exit)) ⌝ }
+{
+    if !holds(set, 7) {
+        return not_placed(n);
+    }
+    let t = tally_of(samples, n, mask);
+    let row = row_of(t, n);
+    if !located_applies(t, n, row) {
+        return not_placed(n);
+    }
+    let flag = flag_of(t.one, t.minus + t.twos);
+    let v = values_of(mask, t, row, flag);
+    let w = ways_of(samples, n, plus_zero(mask), v, a, b, c);
+    let first = w.first;
+    let second = w.second;
+    let third = w.third;
+    let uncompressed = uncompressed_of(n);
+    let seven = better(
+        uncompressed,
+        7,
+        true,
+        11 + first.bits + second.bits + third.bits,
+    );
+    Placed {
+        tool: seven.tool,
+        bits: seven.bits,
+        row: row,
+        flag: flag,
+        count: v.count,
+        first: first,
+        second: second,
+        third: third,
     }
 }

@@ -14,7 +14,7 @@ ghost use Rattle.rules.specs.Located.{widthOf};
 ghost use Rattle.rules.specs.Chooses.{without};
 ghost use Rattle.pen.specs.Puts.{Gathers};
 ghost use Rattle.pen.specs.Rows.{rowBits, RowIs};
-ghost use Rattle.measure.specs.Measures.{Flagged, marksOf, RunsAre, bitsWith, LeastIs, Looked, Counted, CopyIs, LeftIs, FoundIs};
+ghost use Rattle.measure.specs.Measures.{Flagged, marksOf, RunsAre, bitsWith, LeastIs, Looked, Counted, CopyIs, LeftIs, SpreadIs, FoundIs, countIs};
 ghost use Rattle.measure.specs.Tracks.{TrackIs, Closes, Ends, TracksAre, Apart};
 
 // An S, and the bits that it needs.
@@ -215,6 +215,40 @@ fn differ(x: u8, y: u8) -> u8
     ensures { λ r. ⌜ r ≡ cond (eqb x y) 0 1 ⌝ }
 {
     if x == y { 0 } else { 1 }
+}
+
+// What a frame's samples have in common, looked at once. Of a sample with the mask taken off, the low seven bits are how far it is from its
+// zero, so those that any sets tell a frame of the two zeros and a frame from -2 to 1; and where no bit differs all samples are equal.
+// Octets, sixteen to a register, and three steps for each register.
+pub fn spread_of(samples: &[u8], n: usize, mask: u8) -> Spread
+    requires { ⌜ (1 ≤ n) × (n ≤ length (now samples)) ⌝ }
+    requires { ⌜ mask < 128 ⌝ }
+    ensures { λ r. ⌜ SpreadIs mask (getD (now (samples .entry)) 0 0) (take n (now (samples .entry))) r ⌝ }
+{
+    let mut any: u8 = 0;
+    let mut all: u8 = 255;
+    let mut i = 0;
+    while i < n {
+        let y = samples[i] ^ mask;
+        any = any | y;
+        all = all & y;
+        i += 1;
+    }
+    Spread { any: any, all: all }
+}
+
+// How many of n samples are x. Counted in 16 bits, so that eight go to a register.
+pub fn count_of(samples: &[u8], n: usize, x: u8) -> usize
+    requires { ⌜ (n ≤ 320) × (n ≤ length (now samples)) ⌝ }
+    ensures { λ r. ⌜ (r ≡ countIs x (take n (now (samples .entry)))) × (r ≤ 320) ⌝ }
+{
+    let mut count: u16 = 0;
+    let mut i = 0;
+    while i < n {
+        count += same(samples[i], x);
+        i += 1;
+    }
+    count as usize
 }
 
 // The look at a frame's n samples. Least, greatest and "are all equal" are octets, sixteen to a register, and they settle a frame of one

@@ -10,18 +10,9 @@ use lib.Dec.{eqb, leb, ltb}
 use Rattle.rules.specs.Bits.{lowBits}
 use Rattle.rules.specs.Runs.{runsOf, riceForms, runsForm}
 use Rattle.rules.specs.Located.{widthOf}
-use Rattle.rules.specs.Chooses.{countOf, leastFrom, runS, fewestRunBits, methodOf, methodForm, valueForm}
-use Rattle.rules.proofs.Octets.{length-lowBits, Below, none, more}
-use Rattle.measure.specs.Measures.{marksOf}
+use Rattle.rules.specs.Chooses.{countOf, leastFrom, runS, fewestRunBits, placesOf, numbersForm, methodOf, methodForm, valueForm}
+use Rattle.rules.proofs.Octets.{length-lowBits}
 use Rattle.pen.proofs.Words.{lowBits-join}
-use Rattle.writer.specs.Forms.{placesForm}
-
--- flags are their own marks
-pub marks-same : {l : List ℕ} → Below 2 l → marksOf 1 1 0 l ≡ l
-marks-same none = refl
-marks-same (more {x = zero} h t) = ap (λ (k : List ℕ). 0 ∷ k) (marks-same t)
-marks-same (more {x = suc zero} h t) = ap (λ (k : List ℕ). 1 ∷ k) (marks-same t)
-marks-same (more {x = suc (suc x)} h t) = absurd (omega arith)
 
 -- a number's bits, and what follows them
 pub number-then : (n v : ℕ) (b : List ℕ) {l : List ℕ} → lowBits n v ++ b ≡ l → n + length b ≡ length l
@@ -80,11 +71,11 @@ module _ (flags : List ℕ) {m : ℕ} (method : m ≡ methodOf flags) where
         go false false true false f g low e = absurd (omega arith)
         go false false false d f g low e = absurd (omega arith)
 
-    pub value-listed : {w : ℕ} → w ≡ widthOf (length flags) → lowBits 5 (28 + count - 1) ++ placesForm w flags ≡ valueForm flags
+    pub value-listed : {w : ℕ} → w ≡ widthOf (length flags) → lowBits 5 (28 + count - 1) ++ numbersForm w (placesOf 0 flags) ≡ valueForm flags
     unfolding methodForm
     value-listed {w} we =
         let l = listed in
-        let e : methodForm m flags ≡ lowBits 2 (count - 1) ++ placesForm w flags = rw (l .seven, ones, we) in
+        let e : methodForm m flags ≡ lowBits 2 (count - 1) ++ numbersForm w (placesOf 0 flags) = rw (l .seven, ones, we) in
         let s : 28 + count - 1 ≡ 7 * 2 ^ 2 + (count - 1) = omega (arith, l .some) in
         let h : count - 1 < 2 ^ 2 = omega (arith, l .some, l .few) in
         sym (value-by e ∙ rw (l .seven, s, lowBits-join 3 2 7 (count - 1) h, append-assoc))

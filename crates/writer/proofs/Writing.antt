@@ -3,7 +3,6 @@ use Prim.Native.Nat.{ℕ, zero, suc, _+_, _*_, _/_, _%_, _≤_, _<_}
 use mathlib.Core.Path.{_≡_, refl, sym, ap, _∙_}
 use mathlib.Core.List.{List, [], _∷_, _++_}
 use mathlib.Core.Bool.{Bool, true, false, cond, _||_}
-use mathlib.Core.Logic.{_⊎_, inl, inr}
 use native.Mathlib.Omega.{arith}
 use borrow.Author.Tests.{eq-eqb, ne-eqb, le-leb, lt-leb, lt-ltb, le-ltb}
 use lib.ListN.{length, take, drop, set}
@@ -20,11 +19,8 @@ use Rattle.rules.specs.Chooses.{choose, chosenTool, formOf, Written, Write, wro
 use Rattle.rules.specs.Calls.{Writes}
 use Rattle.rules.proofs.Octets.{length-pack, length-lowBits}
 use Rattle.rules.proofs.Tests.{by-length}
-use Rattle.choice.specs.declared.Plan.{Plan}
-use Rattle.choice.specs.Plans.{measured, isMask, Plain, PlanFor}
-use Rattle.choice.proofs.Settling.{among, alone}
+use Rattle.choice.specs.Plans.{isMask, Plain}
 use Rattle.pen.specs.Puts.{Packed}
-use Rattle.writer.specs.Forms.{IsFrame, Planned}
 use Rattle.writer.specs.Answers.{Tells, fitting, pad, full, plain, found}
 use Rattle.writer.proofs.Whole.{whole-form}
 
@@ -64,30 +60,6 @@ set-first (x ∷ l) n = refl
 pub not-length : (n : ℕ) → (n ≡ 40 → ⊥) → (n ≡ 80 → ⊥) → (n ≡ 160 → ⊥) → (n ≡ 240 → ⊥) → (n ≡ 320 → ⊥) → false ≡ isLength n
 not-length n a b c d e = rw (ne-eqb n 40 a, ne-eqb n 80 b, ne-eqb n 160 c, ne-eqb n 240 d, ne-eqb n 320 e)
 
--- the tools that are measured, and uncompressed
-pub measured-kind : (mask set : ℕ) (s : List ℕ) {t : ℕ} → t ≡ choose mask set s measured → (t ≡ 1 → ⊥) → (t ≡ 6 → ⊥) → (t ≡ 5 → ⊥) → t ≡ 7
-measured-kind mask set s {t} e one six five =
-    go (among mask s set P 5 _ (inl refl) (among mask s set P 6 _ (inr (inl refl)) (among mask s set P 7 _ (inr (inr (inl refl))) (alone mask s set P (inr (inr (inr refl)))))))
-  where
-    P : ℕ → Type 0
-    P k = (k ≡ 5) ⊎ ((k ≡ 6) ⊎ ((k ≡ 7) ⊎ (k ≡ 1)))
-
-    go : P (choose mask set s measured) → t ≡ 7
-    go (inl h) = absurd (five (e ∙ h))
-    go (inr (inl h)) = absurd (six (e ∙ h))
-    go (inr (inr (inl h))) = e ∙ h
-    go (inr (inr (inr h))) = absurd (one (e ∙ h))
-
-pub planned : {mask set n : ℕ} {samples runs : List ℕ} {plan : Plan} → IsFrame samples n → mask < 128 → PlanFor mask set (take n samples) plan runs → Planned mask samples n plan runs
-planned {mask} {set} {n} {samples} f seven p =
-    record {
-      sized = f;
-      seven = seven;
-      kind = measured-kind mask set (take n samples) (p .tool);
-      rice = λ e. p .rice (sym (p .tool) ∙ e);
-      placed = λ e. p .placed (sym (p .tool) ∙ e);
-    }
-
 -- a form that is settled, and one that is measured, are the chosen form
 pub plain-full : {mask set t : ℕ} {s : List ℕ} → Plain mask set s t → (t ≡ 0 → ⊥) → plain t s ≡ full mask set s
 plain-full {mask} {set} {t} {s} p n =
@@ -104,10 +76,10 @@ is-mask law = go (eqb law 0)
     go true = refl
     go false = refl
 
-pub length-in : (n : ℕ) → isLength n ≡ true → (1 ≤ n) × (n ≤ 320)
+pub length-in : (n : ℕ) → isLength n ≡ true → (1 ≤ n) × ((n ≤ 320) × (n % 40 ≡ 0))
 length-in n h =
-    by-length (λ n. (1 ≤ n) × (n ≤ 320)) (omega arith, omega arith) (omega arith, omega arith) (omega arith, omega arith) (omega arith, omega arith)
-    (omega arith, omega arith) n h
+    let in-order : (k : ℕ) → Type 0 = λ k. (1 ≤ k) × ((k ≤ 320) × (k % 40 ≡ 0)) in
+    by-length in-order (omega arith) (omega arith) (omega arith) (omega arith) (omega arith) n h
 
 -- "Order: LAW, SET, then LENGTH"
 module _ (n : ℕ) (samples : List ℕ) (law set room : ℕ) where

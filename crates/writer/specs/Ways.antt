@@ -9,6 +9,7 @@ use Rattle.rules.specs.Bits.{lowBits}
 use Rattle.rules.specs.Runs.{riceForms}
 use Rattle.rules.specs.Located.{widthOf}
 use Rattle.rules.specs.Chooses.{numbersForm}
+use Rattle.choice.specs.declared.Way.{Way}
 
 -- the places at which runs end, counted from p
 unfoldable pub placesBy : ℕ → List ℕ → List ℕ
@@ -39,3 +40,12 @@ pub record WayReady (method d count : ℕ) (runs : List ℕ) : Type 0 where
   pub most : d ≤ 320
   pub within : count ≤ length runs
   pub listed : (method ≡ 5 → ⊥) → 4 < method → ListedReady d count runs
+
+-- a value as planned
+abbrev pub wayOf : Way → List ℕ → List ℕ
+wayOf w runs = wayForm (w .method) (w .d) (w .count) (take (w .runs) runs)
+
+pub record WayPlanned (w : Way) (runs : List ℕ) : Type 0 where
+  pub few : w .runs ≤ 321
+  pub size : length runs ≡ 321
+  pub ready : WayReady (w .method) (w .d) (w .count) (take (w .runs) runs)

@@ -1,24 +1,21 @@
 // Writing one frame: the chosen form alone is put out.
 
 use choice::Placed;
-use choice::Plan;
-use choice::Rice;
+use choice::Way;
+use choice::Zeros;
 use choice::plain_tool;
-use choice::plan_of;
+use choice::values_plan;
+use choice::zeros_plan;
 use law::mask_of;
 use law::plus_zero;
-use measure::Look;
-use measure::copy_of;
-use measure::look_at;
-use measure::marks;
-use measure::runs_of;
+use measure::others;
+use measure::spread_of;
 use measure::width_of;
-use measure::without_value;
 use pen::Pen;
 use pen::finish;
 use pen::fresh;
 use pen::put;
-use pen::put_flags;
+use pen::put_row;
 use pen::put_runs;
 use pen::put_zeros;
 use prefix::base_of;
@@ -28,24 +25,22 @@ use rules::Frame;
 use rules::Refusal;
 use rules::WriteAnswer;
 ghost use mathlib.Core.Path.{_≡_};
-ghost use mathlib.Core.Bool.{true, cond};
+ghost use mathlib.Core.Bool.{true, false, cond};
 ghost use mathlib.Core.List.{map};
 ghost use Prim.Native.Nat.{ℕ, _+_, _*_, _^_, _≤_, _<_};
 ghost use lib.ListN.{length, getD, take};
 ghost use lib.Dec.{eqb};
-ghost use Rattle.rules.specs.Bits.{bitsOf};
+ghost use Rattle.rules.specs.Bits.{bitsOf, octetsFor};
 ghost use Rattle.rules.specs.First.{riceCode};
-ghost use Rattle.rules.specs.Runs.{riceForms};
 ghost use Rattle.rules.specs.Zeros as zeros;
-ghost use Rattle.pen.specs.Puts.{Able, Puts, Packed};
-ghost use Rattle.writer.specs.Ways.{placesBy, listedForm, marksForm, wayForm, WayReady};
-ghost use Rattle.writer.specs.Forms.{CodeIs, wholeOctets, Copied, RiceReady, riceFormOf, placeForm, placesForm, Marked, ValuesReady, valuesFormOf, placedFormOf, bodyForm, IsFrame, Planned};
-ghost use Rattle.rules.specs.Chooses.{methodOf, valueForm, formOf, declined, writeOne};
+ghost use Rattle.rules.specs.Chooses.{leastOf, greatestOf, formOf, declined, writeOne};
 ghost use Rattle.rules.specs.Tools.{isLength};
 ghost use Rattle.rules.specs.Calls.{Writes, WriteFrame, WriteSamples};
-ghost use Rattle.measure.specs.Measures.{Looked};
+ghost use Rattle.measure.specs.Measures.{near, twoZeros};
+ghost use Rattle.pen.specs.Puts.{Able, Puts, Packed};
 ghost use Rattle.choice.specs.Plans.{isMask};
-ghost use Rattle.choice.specs.Offers.{PlacedIs};
+ghost use Rattle.writer.specs.Ways.{placesBy, listedForm, marksForm, wayOf, WayPlanned};
+ghost use Rattle.writer.specs.Forms.{CodeIs, wholeOctets, Copied, RiceReady, riceFormOf, ValuesReady, valuesFormOf, PlacedReady, placedFormOf, planForm, IsFrame, ZerosReady};
 ghost use Rattle.writer.specs.Answers.{Tells, fitting, pad, full, plain, found};
 
 // A code: so many bits, and their number.
@@ -198,7 +193,7 @@ fn code_of(n: usize, s: usize) -> Code
 }
 
 // Rice: the start, the code of S, and the runs.
-fn put_plus_minus(out: &mut [u8], p: Pen, r: Rice, n: usize, runs: &[u16; 321]) -> Pen
+fn put_plus_minus(out: &mut [u8], p: Pen, r: Zeros, n: usize, runs: &[u16; 321]) -> Pen
     requires { ⌜ RiceReady n r (now runs) ⌝ }
     requires { ⌜ Able (now out) p (length (riceFormOf n r (now runs))) ⌝ }
     ensures { λ q. ⌜ Puts (now (out .entry)) p (riceFormOf n r (now (runs .entry))) (now (out .exit)) q ⌝ }
@@ -209,61 +204,10 @@ fn put_plus_minus(out: &mut [u8], p: Pen, r: Rice, n: usize, runs: &[u16; 321]) 
     put_runs(out, v, r.s, runs, r.count)
 }
 
-// A place of w bits, where its flag is set.
-fn put_place(out: &mut [u8], p: Pen, f: u8, i: u64, w: usize) -> Pen
-    requires { ⌜ (w ≤ 9) × (i < 2 ^ w) ⌝ }
-    requires { ⌜ Able (now out) p (length (placeForm f i w)) ⌝ }
-    ensures { λ r. ⌜ Puts (now (out .entry)) p (placeForm f i w) (now (out .exit)) r ⌝ }
-{
-    if f == 0 {
-        return p;
-    }
-    put(out, p, w, i)
-}
-
-// "that many places of ceil(log2 D) bits, rising"
-fn put_places(out: &mut [u8], p: Pen, flags: &[u8; 320], d: usize, w: usize) -> Pen
-    requires { ⌜ (d ≤ 320) × ((d ≤ length (now flags)) × ((w ≤ 9) × (d ≤ 2 ^ w))) ⌝ }
-    requires { ⌜ Able (now out) p (length (placesForm w (take d (now flags)))) ⌝ }
-    ensures { λ r. ⌜ Puts (now (out .entry)) p (placesForm w (take d (now (flags .entry)))) (now (out .exit)) r ⌝ }
-{
-    let mut q = p;
-    let mut i = 0;
-    while i < d {
-        q = put_place(out, q, flags[i], i as u64, w);
-        i += 1;
-    }
-    q
-}
-
 fn sized(x: u8) -> usize
     ensures { λ r. ⌜ r ≡ x ⌝ }
 {
     x as usize
-}
-
-// A value's places by its method.
-fn put_value(out: &mut [u8], p: Pen, flags: &[u8; 320], d: usize, count: usize, method: u8) -> Pen
-    requires { ⌜ method ≡ methodOf (take d (now flags)) ⌝ }
-    requires { ⌜ Marked (now flags) d count ⌝ }
-    requires { ⌜ Able (now out) p (length (valueForm (take d (now flags)))) ⌝ }
-    ensures { λ r. ⌜ Puts (now (out .entry)) p (valueForm (take d (now (flags .entry)))) (now (out .exit)) r ⌝ }
-{
-    if method == 5 {
-        return put(out, p, 3, 5);
-    }
-    if method == 0 {
-        let q = put(out, p, 3, 0);
-        return put_flags(out, q, flags, d);
-    }
-    if method <= 4 {
-        let q = put(out, p, 3, wide(method));
-        let mut runs = [0u16; 321];
-        let found = runs_of(flags, d, 1, 1, 0, &mut runs);
-        return put_runs(out, q, sized(method), &runs, found);
-    }
-    let q = put(out, p, 5, 28 + count as u64 - 1);
-    put_places(out, q, flags, d, width_of(d))
 }
 
 fn long(x: u16) -> u64
@@ -305,106 +249,115 @@ fn put_marks(out: &mut [u8], p: Pen, runs: &[u16; 321], found: usize, count: usi
 }
 
 // A value's places by its method, from its runs alone.
-fn put_way(
-    out: &mut [u8],
-    p: Pen,
-    runs: &[u16; 321],
-    found: usize,
-    d: usize,
-    count: usize,
-    method: u8,
-) -> Pen
-    requires { ⌜ (found ≤ 321) × (length (now runs) ≡ 321) ⌝ }
-    requires { ⌜ WayReady method d count (take found (now runs)) ⌝ }
-    requires { ⌜ Able (now out) p (length (wayForm method d count (take found (now runs)))) ⌝ }
-    ensures { λ r. ⌜ Puts (now (out .entry)) p (wayForm method d count (take found (now (runs .entry)))) (now (out .exit)) r ⌝ }
+fn put_value(out: &mut [u8], p: Pen, w: Way, runs: &[u16; 321]) -> Pen
+    requires { ⌜ WayPlanned w (now runs) ⌝ }
+    requires { ⌜ Able (now out) p (length (wayOf w (now runs))) ⌝ }
+    ensures { λ r. ⌜ Puts (now (out .entry)) p (wayOf w (now (runs .entry))) (now (out .exit)) r ⌝ }
 {
+    let method = w.method;
     if method == 5 {
         return put(out, p, 3, 5);
     }
     if method == 0 {
         let q = put(out, p, 3, 0);
-        return put_marks(out, q, runs, found, count);
+        return put_marks(out, q, runs, w.runs, w.count);
     }
     if method <= 4 {
         let q = put(out, p, 3, wide(method));
-        return put_runs(out, q, sized(method), runs, found);
+        return put_runs(out, q, sized(method), runs, w.runs);
     }
-    let q = put(out, p, 5, 28 + count as u64 - 1);
-    put_listed(out, q, runs, count, width_of(d))
+    let q = put(out, p, 5, 28 + w.count as u64 - 1);
+    put_listed(out, q, runs, w.count, width_of(w.d))
 }
 
-// "D is N for the first value, then the places still empty": the values one after the other.
-fn put_values(out: &mut [u8], p: Pen, samples: &[u8], n: usize, placed: Placed) -> Pen
-    requires { ⌜ (IsFrame (now samples) n) × (ValuesReady (take n (now samples)) placed) ⌝ }
-    requires { ⌜ Able (now out) p (length (valuesFormOf (take n (now samples)) placed)) ⌝ }
-    ensures { λ r. ⌜ Puts (now (out .entry)) p (valuesFormOf (take n (now (samples .entry))) placed) (now (out .exit)) r ⌝ }
+// "The values below in turn": as many as the row has for the flag.
+fn put_values(
+    out: &mut [u8],
+    p: Pen,
+    plan: Placed,
+    a: &[u16; 321],
+    b: &[u16; 321],
+    c: &[u16; 321],
+) -> Pen
+    requires { ⌜ ValuesReady plan (now a) (now b) (now c) ⌝ }
+    requires { ⌜ Able (now out) p (length (valuesFormOf plan (now a) (now b) (now c))) ⌝ }
+    ensures { λ r. ⌜ Puts (now (out .entry)) p (valuesFormOf plan (now (a .entry)) (now (b .entry)) (now (c .entry))) (now (out .exit)) r ⌝ }
 {
-    let v = placed.values;
-    let values = v.values;
-    let count = v.count;
-    let methods = placed.methods;
-    let mut cells = copy_of(samples, n);
-    let mut d = n;
-    let mut q = p;
-    let mut j = 0;
-    while j < count {
-        let x = values[j];
-        let flags = marks(&cells, d, x, 1, 0);
-        let kept = without_value(&mut cells, d, x);
-        q = put_value(out, q, &flags, d, d - kept, methods[j]);
-        d = kept;
-        j += 1;
+    let first = plan.first;
+    let q = put_value(out, p, first, a);
+    if plan.count == 1 {
+        return q;
     }
-    q
+    let second = plan.second;
+    let r = put_value(out, q, second, b);
+    if plan.count == 2 {
+        return r;
+    }
+    let third = plan.third;
+    put_value(out, r, third, c)
 }
 
-// "Row, flag, and the values": the body of value-location.
-fn put_located(out: &mut [u8], p: Pen, samples: &[u8], n: usize, placed: Placed) -> Pen
-    requires { ⌜ (placed .row < 4) × (placed .flag < 2) ⌝ }
-    requires { ⌜ (IsFrame (now samples) n) × (ValuesReady (take n (now samples)) placed) ⌝ }
-    requires { ⌜ Able (now out) p (length (placedFormOf (take n (now samples)) placed)) ⌝ }
-    ensures { λ r. ⌜ Puts (now (out .entry)) p (placedFormOf (take n (now (samples .entry))) placed) (now (out .exit)) r ⌝ }
+// "Range case (2 bits), flag (1 bit), then the values": the body of value-location.
+fn put_located(
+    out: &mut [u8],
+    p: Pen,
+    plan: Placed,
+    a: &[u16; 321],
+    b: &[u16; 321],
+    c: &[u16; 321],
+) -> Pen
+    requires { ⌜ PlacedReady plan (now a) (now b) (now c) ⌝ }
+    requires { ⌜ Able (now out) p (length (placedFormOf plan (now a) (now b) (now c))) ⌝ }
+    ensures { λ r. ⌜ Puts (now (out .entry)) p (placedFormOf plan (now (a .entry)) (now (b .entry)) (now (c .entry))) (now (out .exit)) r ⌝ }
 {
-    let q = put(out, p, 3, placed.row as u64 * 2 + placed.flag as u64);
-    put_values(out, q, samples, n, placed)
+    let q = put(out, p, 3, plan.row as u64 * 2 + plan.flag as u64);
+    put_values(out, q, plan, a, b, c)
+}
+
+// The planned form of a frame that has a 1 or a -2, as octets. Their number comes back.
+fn put_placed(
+    out: &mut [u8],
+    samples: &[u8],
+    n: usize,
+    plan: Placed,
+    a: &[u16; 321],
+    b: &[u16; 321],
+    c: &[u16; 321],
+) -> usize
+    requires { ⌜ (IsFrame (now samples) n) × ((plan .tool ≡ 1 → ⊥) → PlacedReady plan (now a) (now b) (now c)) ⌝ }
+    requires { ⌜ length (planForm n (take n (now samples)) plan (now a) (now b) (now c)) ≤ 8 * length (now out) ⌝ }
+    ensures { λ r. ⌜ Packed (planForm n (take n (now (samples .entry))) plan (now (a .entry)) (now (b .entry)) (now (c .entry))) (now (out .entry)) (now (out .exit)) r ⌝ }
+{
+    if plan.tool == 1 {
+        return put_whole(out, samples, n, 1);
+    }
+    let p = fresh();
+    let q = put_prefix(out, p, 7, n);
+    let r = put_located(out, q, plan, a, b, c);
+    finish(out, r)
 }
 
 // "Binary: N bits, 1 is minus zero."
 fn put_binary(out: &mut [u8], p: Pen, samples: &[u8], n: usize, mask: u8) -> Pen
-    requires { ⌜ (n ≤ 320) × ((n ≤ length (now samples)) × (mask < 128)) ⌝ }
+    requires { ⌜ (IsFrame (now samples) n) × (mask < 128) ⌝ }
     requires { ⌜ Able (now out) p n ⌝ }
     ensures { λ r. ⌜ Puts (now (out .entry)) p (map (zeros.flagOf mask 0) (take n (now (samples .entry)))) (now (out .exit)) r ⌝ }
 {
-    let flags = marks(samples, n, plus_zero(mask), 0, 1);
-    put_flags(out, p, &flags, n)
+    let words = n / 40;
+    let row = others(samples, words, plus_zero(mask));
+    put_row(out, p, &row, words)
 }
 
-// What follows the first octet of tools 5 and 7.
-fn put_body(out: &mut [u8], p: Pen, samples: &[u8], n: usize, mask: u8, plan: Plan) -> Pen
-    requires { ⌜ (IsFrame (now samples) n) × (mask < 128) ⌝ }
-    requires { ⌜ (plan .tool ≡ 7 → PlacedIs mask (take n (now samples)) (plan .placed)) ⌝ }
-    requires { ⌜ ((plan .tool ≡ 5 → ⊥) → plan .tool ≡ 7) ⌝ }
-    requires { ⌜ Able (now out) p (length (bodyForm (take n (now samples)) mask plan)) ⌝ }
-    ensures { λ r. ⌜ Puts (now (out .entry)) p (bodyForm (take n (now (samples .entry))) mask plan) (now (out .exit)) r ⌝ }
-{
-    if plan.tool == 5 {
-        return put_binary(out, p, samples, n, mask);
-    }
-    let placed = plan.placed;
-    put_located(out, p, samples, n, placed)
-}
-
-// The planned form of a frame, as octets. Their number comes back.
-fn put_form(
+// The planned form of a frame of the two zeros, as octets. Their number comes back.
+fn put_two_zeros(
     out: &mut [u8],
     samples: &[u8],
     n: usize,
     mask: u8,
-    plan: Plan,
+    plan: Zeros,
     runs: &[u16; 321],
 ) -> usize
-    requires { ⌜ Planned mask (now samples) n plan (now runs) ⌝ }
+    requires { ⌜ ZerosReady mask (now samples) n plan (now runs) ⌝ }
     requires { ⌜ length (formOf mask (plan .tool) (take n (now samples))) ≤ 8 * length (now out) ⌝ }
     ensures { λ r. ⌜ Packed (formOf mask (plan .tool) (take n (now (samples .entry)))) (now (out .entry)) (now (out .exit)) r ⌝ }
 {
@@ -414,12 +367,11 @@ fn put_form(
     }
     let p = fresh();
     if tool == 6 {
-        let rice = plan.rice;
-        let q = put_plus_minus(out, p, rice, n, runs);
+        let q = put_plus_minus(out, p, plan, n, runs);
         return finish(out, q);
     }
-    let q = put_prefix(out, p, tool, n);
-    let r = put_body(out, q, samples, n, mask, plan);
+    let q = put_prefix(out, p, 5, n);
+    let r = put_binary(out, q, samples, n, mask);
     finish(out, r)
 }
 
@@ -470,25 +422,26 @@ fn write_plain(out: &mut [u8], samples: &[u8], n: usize, tool: u32) -> WriteAnsw
     }
 }
 
-// "ROOM means the chosen form's octets for a writer". The tools that are measured; then the chosen form alone is written.
-fn write_measured(
-    out: &mut [u8],
-    samples: &[u8],
-    n: usize,
-    mask: u8,
-    set: u32,
-    l: Look,
-) -> WriteAnswer
+// "octets used are bits divided by 8, rounded up"
+fn octets_for(bits: usize) -> usize
+    requires { ⌜ bits ≤ 1000000000 ⌝ }
+    ensures { λ r. ⌜ r ≡ octetsFor bits ⌝ }
+{
+    (bits + 7) / 8
+}
+
+// A frame of the two zeros: planned, and then the planned form alone is written.
+fn write_zeros(out: &mut [u8], samples: &[u8], n: usize, mask: u8, set: u32) -> WriteAnswer
     requires { ⌜ (IsFrame (now samples) n) × (mask < 128) ⌝ }
-    requires { ⌜ Looked mask (getD (now samples) 0 0) (take n (now samples)) l ⌝ }
+    requires { ⌜ twoZeros mask (take n (now samples)) ≡ true ⌝ }
     ensures { λ r. ⌜ Writes (fitting (length (now (out .entry))) (found mask set (take n (now (samples .entry))))) r (now (out .entry)) (now (out .exit)) ⌝ }
 {
     let mut runs = [0u16; 321];
-    let plan = plan_of(samples, n, mask, set, l, &mut runs);
-    if out.len() < (plan.bits + 7) / 8 {
+    let plan = zeros_plan(samples, n, mask, set, &mut runs);
+    if out.len() < octets_for(plan.bits) {
         return refused(Refusal::Room);
     }
-    let octets = put_form(out, samples, n, mask, plan, &runs);
+    let octets = put_two_zeros(out, samples, n, mask, plan, &runs);
     WriteAnswer {
         end: Ending::Done,
         octets: octets,
@@ -497,17 +450,43 @@ fn write_measured(
     }
 }
 
-// One look; what it does not settle is measured.
+// A frame from -2 to 1 that has a 1 or a -2, likewise.
+fn write_values(out: &mut [u8], samples: &[u8], n: usize, mask: u8, set: u32) -> WriteAnswer
+    requires { ⌜ (IsFrame (now samples) n) × (isMask mask ≡ true) ⌝ }
+    requires { ⌜ twoZeros mask (take n (now samples)) ≡ false ⌝ }
+    requires { ⌜ near (leastOf mask (take n (now samples))) (greatestOf mask (take n (now samples))) ≡ true ⌝ }
+    ensures { λ r. ⌜ Writes (fitting (length (now (out .entry))) (found mask set (take n (now (samples .entry))))) r (now (out .entry)) (now (out .exit)) ⌝ }
+{
+    let mut a = [0u16; 321];
+    let mut b = [0u16; 321];
+    let mut c = [0u16; 321];
+    let plan = values_plan(samples, n, mask, set, &mut a, &mut b, &mut c);
+    if out.len() < octets_for(plan.bits) {
+        return refused(Refusal::Room);
+    }
+    let octets = put_placed(out, samples, n, plan, &a, &b, &c);
+    WriteAnswer {
+        end: Ending::Done,
+        octets: octets,
+        bits: plan.bits,
+        tool: plan.tool,
+    }
+}
+
+// One look; what it does not settle is planned.
 fn write_chosen(out: &mut [u8], samples: &[u8], n: usize, mask: u8, set: u32) -> WriteAnswer
     requires { ⌜ (IsFrame (now samples) n) × (isMask mask ≡ true) ⌝ }
     ensures { λ r. ⌜ Writes (fitting (length (now (out .entry))) (full mask set (take n (now (samples .entry))))) r (now (out .entry)) (now (out .exit)) ⌝ }
 {
-    let l = look_at(samples, n, mask);
+    let l = spread_of(samples, n, mask);
     let tool = plain_tool(samples, n, l, mask, set);
-    if tool == 0 {
-        return write_measured(out, samples, n, mask, set, l);
+    if tool != 0 {
+        return write_plain(out, samples, n, tool);
     }
-    write_plain(out, samples, n, tool)
+    if l.any % 128 == 0 {
+        return write_zeros(out, samples, n, mask, set);
+    }
+    write_values(out, samples, n, mask, set)
 }
 
 // The lengths of frames that have samples.

@@ -2,7 +2,7 @@ use borrow.Author.Needs.{needs}
 use mathlib.Core.Path.{refl, ap}
 use borrow.Author.Tests.{ne-eqb}
 use Rattle.rules.specs.Zeros.{codesOf}
-use Rattle.choice.proofs.Zeros.{codes-told}
+use Rattle.choice.proofs.TwoZeros.{codes-told}
 use Rattle.choice.proofs.code_lengths.Statement.{statement}
 use Rattle.choice.proofs.code_lengths.Tie as tie
 use Rattle.choice.proofs.code_lengths.Reads as reads

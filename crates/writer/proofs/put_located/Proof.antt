@@ -1,11 +1,9 @@
 use borrow.Author.Needs.{needs}
 use Prim.Native.Nat.{_+_, _*_}
 use native.Mathlib.Omega.{arith}
-use lib.ListN.{take}
 use Rattle.rules.proofs.Octets.{length-lowBits}
-use Rattle.pen.proofs.Putting.{puts-then, puts-as}
+use Rattle.pen.proofs.Putting.{puts-then, puts-as, able-as, able-then}
 use Rattle.writer.specs.Forms.{valuesFormOf}
-use Rattle.writer.proofs.Pieces.{able-as, able-then}
 use Rattle.writer.proofs.Values.{number-then}
 use Rattle.writer.proofs.Form.{row-flag}
 use Rattle.writer.proofs.put_located.Statement.{statement}
@@ -22,16 +20,25 @@ add-put : tie.Need-add-put
 add-put c = search needs
 
 put-requires : tie.Need-put-requires
-put-requires c κs = let s = c .before .before .before in (able-as (s .pre .1 .1) (omega (arith, number-then 3 (s .args .placed .row * 2 + s .args .placed .flag) (valuesFormOf (take (s .args .n) (s .args .samples .now)) (s .args .placed)) (row-flag (s .args .placed .row) (s .args .placed .flag) (valuesFormOf (take (s .args .n) (s .args .samples .now)) (s .args .placed)) (s .pre .0 .1)))), (omega arith, omega (arith, s .pre .0 .0, s .pre .0 .1)))
+put-requires c κs =
+    let s = c .before .before in
+    let k = number-then 3 (s .args .plan .row * 2 + s .args .plan .flag) (valuesFormOf (s .args .plan) (s .args .a .now) (s .args .b .now) (s .args .c .now)) (row-flag (s .args .plan .row) (s .args .plan .flag) (valuesFormOf (s .args .plan) (s .args .a .now) (s .args .b .now) (s .args .c .now)) (s .pre .0 .flag)) in
+    (able-as (s .pre .1) (omega (arith, k)), (omega arith, omega (arith, s .pre .0 .row, s .pre .0 .flag)))
 
 put-values-requires : tie.Need-put-values-requires
-put-values-requires c κs = let s = c .before .before .before .before .before .before .before in (s .pre .1 .0, able-then _ (s .pre .1 .1) (c .before .before .before .put .ensures) (c .before .before .before .put .kept .0) (omega (arith, length-lowBits 3 (s .args .placed .row * 2 + s .args .placed .flag), number-then 3 (s .args .placed .row * 2 + s .args .placed .flag) (valuesFormOf (take (s .args .n) (s .args .samples .now)) (s .args .placed)) (row-flag (s .args .placed .row) (s .args .placed .flag) (valuesFormOf (take (s .args .n) (s .args .samples .now)) (s .args .placed)) (s .pre .0 .1)))))
+put-values-requires c κs =
+    let s = c .before .before .before .before .before .before in
+    let k = number-then 3 (s .args .plan .row * 2 + s .args .plan .flag) (valuesFormOf (s .args .plan) (s .args .a .now) (s .args .b .now) (s .args .c .now)) (row-flag (s .args .plan .row) (s .args .plan .flag) (valuesFormOf (s .args .plan) (s .args .a .now) (s .args .b .now) (s .args .c .now)) (s .pre .0 .flag)) in
+    let put = c .before .before .before .put in
+    (s .pre .0 .values, able-then _ (s .pre .1) (put .ensures) (put .kept .0) (omega (arith, k, length-lowBits 3 (s .args .plan .row * 2 + s .args .plan .flag))))
 
 same-length : tie.Need-same-length
 same-length c = search needs
 
 returns : tie.Need-returns
-returns c = let s = c .before .before .before .before .before .before .before .before .before .before in puts-as (puts-then (c .before .before .before .before .before .before .put .ensures) (c .before .before .put-values .ensures)) (row-flag (s .args .placed .row) (s .args .placed .flag) (valuesFormOf (take (s .args .n) (s .args .samples .now)) (s .args .placed)) (s .pre .0 .1))
+returns c =
+    let s = c .before .before .before .before .before .before .before .before .before in
+    puts-as (puts-then (c .before .before .before .before .before .before .put .ensures) (c .before .before .put-values .ensures)) (row-flag (s .args .plan .row) (s .args .plan .flag) (valuesFormOf (s .args .plan) (s .args .a .now) (s .args .b .now) (s .args .c .now)) (s .pre .0 .flag))
 
 pub put-located-spec : {M : Type 1} → statement M
 put-located-spec =

@@ -6,7 +6,8 @@ use Rattle.rules.specs.First.{riceCode}
 use Rattle.rules.specs.Runs.{riceForms}
 use Rattle.rules.specs.Zeros.{codeOf}
 use Rattle.pen.proofs.Putting.{puts-then, puts-as}
-use Rattle.writer.proofs.Pieces.{able-as, able-then, bits-length, length-three}
+use Rattle.pen.proofs.Putting.{able-as, able-then}
+use Rattle.writer.proofs.Pieces.{bits-length, length-three}
 use Rattle.writer.proofs.put_plus_minus.Statement.{statement}
 use Rattle.writer.proofs.put_plus_minus.Tie as tie
 use Rattle.writer.proofs.put_plus_minus.Reads as reads

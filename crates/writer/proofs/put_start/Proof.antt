@@ -2,7 +2,8 @@ use borrow.Author.Needs.{needs}
 use mathlib.Core.Path.{_∙_}
 use native.Mathlib.Omega.{arith}
 use Rattle.pen.proofs.Putting.{puts-as}
-use Rattle.writer.proofs.Pieces.{able-as, start-long, start-short, bits-length}
+use Rattle.pen.proofs.Putting.{able-as}
+use Rattle.writer.proofs.Pieces.{start-long, start-short, bits-length}
 use Rattle.writer.proofs.put_start.Statement.{statement}
 use Rattle.writer.proofs.put_start.Tie as tie
 use Rattle.writer.proofs.put_start.Reads as reads

@@ -56,13 +56,13 @@ mask-of-requires : tie.Need-mask-of-requires
 mask-of-requires c κs = search needs
 
 write-chosen-requires : tie.Need-write-chosen-requires
-write-chosen-requires c κs = let s = c .before .before .before .before .before .before .before .before .before .before in let l = length-in (s .args .n) (sym (c .before .before .before .is-length .ensures) ∙ not-false (c .before .before .before .is-length .result) (c .before .before .if5 .left)) in (record { some = l .0; few = l .1; long = s .pre (l .1) }, rw (c .mask-of .ensures) (is-mask (s .args .law)))
+write-chosen-requires c κs = let s = c .before .before .before .before .before .before .before .before .before .before in let l = length-in (s .args .n) (sym (c .before .before .before .is-length .ensures) ∙ not-false (c .before .before .before .is-length .result) (c .before .before .if5 .left)) in (record { some = l .0; few = l .1 .0; long = s .pre (l .1 .0); whole = l .1 .1 }, rw (c .mask-of .ensures) (is-mask (s .args .law)))
 
 same-length-2 : tie.Need-same-length-2
 same-length-2 c = search needs
 
 returns-6 : tie.Need-returns-6
-returns-6 c = let s = c .before .before .before .before .before .before .before .before .before .before .before .before .before in let h = sym (c .before .before .before .before .before .before .is-length .ensures) ∙ not-false (c .before .before .before .before .before .before .is-length .result) (c .before .before .before .before .before .if5 .left) in let l = length-in (s .args .n) h in writes-as {v = fitting (length (s .args .out .now)) (full (c .before .before .before .mask-of .result) (s .args .set) (take (s .args .n) (s .args .samples .now)))} (c .before .before .write-chosen .ensures) (ap (λ (m : ℕ). fitting (length (s .args .out .now)) (full m (s .args .set) (take (s .args .n) (s .args .samples .now)))) (c .before .before .before .mask-of .ensures) ∙ write-full (s .args .n) (s .args .samples .now) (s .args .law) (s .args .set) (length (s .args .out .now)) (c .before .before .before .before .before .before .before .before .before .before .if1 .left) (c .before .before .before .before .before .before .before .before .before .if2 .left) (c .before .before .before .before .before .before .before .before .if3 .left) (c .before .before .before .before .before .before .before .if4 .left) h (s .pre (l .1)))
+returns-6 c = let s = c .before .before .before .before .before .before .before .before .before .before .before .before .before in let h = sym (c .before .before .before .before .before .before .is-length .ensures) ∙ not-false (c .before .before .before .before .before .before .is-length .result) (c .before .before .before .before .before .if5 .left) in let l = length-in (s .args .n) h in writes-as {v = fitting (length (s .args .out .now)) (full (c .before .before .before .mask-of .result) (s .args .set) (take (s .args .n) (s .args .samples .now)))} (c .before .before .write-chosen .ensures) (ap (λ (m : ℕ). fitting (length (s .args .out .now)) (full m (s .args .set) (take (s .args .n) (s .args .samples .now)))) (c .before .before .before .mask-of .ensures) ∙ write-full (s .args .n) (s .args .samples .now) (s .args .law) (s .args .set) (length (s .args .out .now)) (c .before .before .before .before .before .before .before .before .before .before .if1 .left) (c .before .before .before .before .before .before .before .before .before .if2 .left) (c .before .before .before .before .before .before .before .before .if3 .left) (c .before .before .before .before .before .before .before .if4 .left) h (s .pre (l .1 .0)))
 
 pub write-some-spec : {M : Type 1} → statement M
 write-some-spec =

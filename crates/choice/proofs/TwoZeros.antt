@@ -1,25 +1,25 @@
 -- Laws of frames of zeros: where binary and Rice apply, and what Rice would write.
-use Prim.Native.Nat.{ℕ, zero, suc, _+_, _-_, _≤_, _<_}
+use Prim.Native.Nat.{ℕ, zero, suc, _+_, _*_, _-_, _≤_, _<_}
 use mathlib.Core.Path.{_≡_, refl, sym, ap, ap₂, _∙_}
 use mathlib.Core.List.{List, [], _∷_, _++_, map}
 use mathlib.Core.Bool.{Bool, true, false, cond, _&&_, _||_}
 use native.Mathlib.Omega.{arith}
 use borrow.Author.Tests.{eqb-true}
-use lib.ListN.{length, getD, take, replicate, length-append, length-map}
+use lib.ListN.{length, getD, take, replicate, length-append}
 use lib.Dec.{eqb, ltb}
 use Rattle.rules.specs.Tools.{holds}
 use Rattle.rules.specs.Samples.{sampleOf, plusZero, minusZero}
 use Rattle.rules.specs.First.{riceCode}
-use Rattle.rules.specs.Runs.{runsOf, riceForms, runsForm}
+use Rattle.rules.specs.Runs.{riceForms, runsForm}
 use Rattle.rules.specs.Zeros.{codesOf, codeOf, mostS, zeroOf, flagOf}
-use Rattle.rules.specs.Chooses.{countOf, applies, markOf, leastFrom, leastS, bestS, riceBits, riceChoice}
-use Rattle.measure.specs.declared.Counts.{Counts}
+use Rattle.rules.specs.Chooses.{countOf, applies, markOf, leastFrom, bestS, riceBits, riceChoice}
 use Rattle.measure.specs.declared.Least.{Least}
-use Rattle.measure.specs.Measures.{countIs, Counted, marksOf, RunsAre, bitsWith, LeastIs}
-use Rattle.choice.specs.declared.Rice.{Rice}
-use Rattle.choice.specs.Offers.{CodesAre, StartIs, RiceIs, RiceFor}
+use Rattle.measure.specs.Measures.{countIs, marksOf, RunsAre, bitsWith, LeastIs, twoZeros}
+use Rattle.pen.specs.Rows.{rowBits, RowIs}
+use Rattle.choice.specs.declared.Zeros.{Zeros}
+use Rattle.choice.specs.Offers.{CodesAre, StartIs, RiceFor}
 use Rattle.choice.proofs.Methods.{zero-at}
-use Rattle.choice.proofs.Rows.{never}
+use Rattle.choice.proofs.Near.{never}
 
 -- a table of the lengths of codes
 lengths-at : (codes : List (List ℕ)) (k s : ℕ) → getD (map length codes ++ replicate k 0) s 0 ≡ length (getD codes s [])
@@ -51,29 +51,30 @@ two-zeros : (mask : ℕ) → plusZero mask ≡ minusZero mask → ⊥
 unfolding sampleOf
 two-zeros mask e = omega arith
 
--- where binary applies Rice does
-pub zeros-apply : {mask : ℕ} {s : List ℕ} {c : Counts} → Counted mask s c → eqb (c .plus + c .minus) (length s) ≡ applies mask 5 s
-unfolding applies
-zeros-apply {mask} {s = s} counted = rw (either (plusZero mask) (minusZero mask) (two-zeros mask) s, counted .plus, counted .minus)
-
+-- where binary applies Rice does: to frames of the two zeros
 pub rice-applies : (mask : ℕ) (s : List ℕ) → applies mask 5 s ≡ applies mask 6 s
 unfolding applies
 rice-applies mask s = refl
 
-pub not-rice : {mask set : ℕ} {s runs : List ℕ} {r : Rice} → (holds set 6 && applies mask 6 s) ≡ false → r .offered ≡ false → r .bits ≡ 0 → RiceFor mask set s r runs
-not-rice e f z = record { offered = f ∙ sym e; rice = λ h. absurd (never (sym f ∙ h)); small = omega arith }
+pub zeros-apply : (mask : ℕ) (s : List ℕ) → applies mask 6 s ≡ twoZeros mask s
+unfolding applies
+zeros-apply mask s = refl
 
-module _ {mask n : ℕ} {s : List ℕ} {c : Counts} (counted : Counted mask s c) (size : length s ≡ n) where
-  pub zeros-are : (t : ℕ) → applies mask 5 s ≡ applies mask t s → {z : Bool} → z ≡ eqb (c .plus + c .minus) n → z ≡ applies mask t s
-  zeros-are t e f = f ∙ rw (← size) (zeros-apply counted ∙ e)
+pub no-rice : {mask set : ℕ} {s runs : List ℕ} {r : Zeros} → holds set 6 ≡ false → r .bits ≡ 0 → RiceFor mask set s r runs
+no-rice e z = record { rice = λ h. absurd (never (sym e ∙ h)); small = omega arith }
 
-  pub rice-for : {set mark zero′ most start count : ℕ} {runs extra : List ℕ} {least : Least} → (holds set 6 && applies mask 6 s) ≡ true
-      → mark ≡ cond (ltb (c .plus) (c .minus)) 1 0 → zero′ ≡ zeroOf mask (cond (ltb (c .plus) (c .minus)) 1 0) 0 → RunsAre (marksOf zero′ 0 1 s) count runs
-      → CodesAre n extra → most ≡ mostS n → most ≤ 9 → LeastIs (bitsWith extra (take count runs)) most least → StartIs n start
-      → RiceFor mask set s (record { offered = true; mark = mark; s = least .s; bits = start + least .bits; count = count }) runs
+module _ (mask : ℕ) (s : List ℕ) {n minus : ℕ} (zeros : twoZeros mask s ≡ true) (size : length s ≡ n) (is-minus : minus ≡ countIs (minusZero mask) s) where
+  -- all that is not minus zero is plus zero
+  plus-left : n - minus ≡ countIs (plusZero mask) s
+  plus-left = omega (arith, eqb-true (countOf (λ x. eqb x (plusZero mask) || eqb x (minusZero mask)) s) (length s) zeros, is-minus, either (plusZero mask) (minusZero mask) (two-zeros mask) s)
+
+  pub rice-for : {set mark zero′ most start count : ℕ} {runs extra : List ℕ} {least : Least} → mark ≡ cond (ltb (n - minus) minus) 1 0
+      → zero′ ≡ zeroOf mask (cond (ltb (n - minus) minus) 1 0) 0 → RunsAre (marksOf zero′ 0 1 s) count runs → CodesAre n extra → most ≡ mostS n → most ≤ 9
+      → LeastIs (bitsWith extra (take count runs)) most least → StartIs n start
+      → RiceFor mask set s (record { tool = 6; bits = start + least .bits; mark = mark; s = least .s; count = count }) runs
   unfolding riceChoice
-  rice-for {mark = mark} {zero′ = zero′} {most = most} {start = start} {count = count} {runs = runs} {extra = extra} {least = least} held marked zeroed found codes top few best begun =
-      let told : cond (ltb (c .plus) (c .minus)) 1 0 ≡ markOf mask s = rw (counted .plus, counted .minus) in
+  rice-for {mark = mark} {zero′ = zero′} {most = most} {start = start} {count = count} {runs = runs} {extra = extra} {least = least} marked zeroed found codes top few best begun =
+      let told : cond (ltb (n - minus) minus) 1 0 ≡ markOf mask s = rw (plus-left, is-minus) in
       let m : mark ≡ markOf mask s = marked ∙ told in
       let fs = map (flagOf mask (markOf mask s)) s in
       let f : marksOf zero′ 0 1 s ≡ fs = ap (λ (z : ℕ). marksOf z 0 1 s) (zeroed ∙ ap (λ (k : ℕ). zeroOf mask k 0) told) in
@@ -89,7 +90,6 @@ module _ {mask n : ℕ} {s : List ℕ} {c : Counts} (counted : Counted mask s c)
       let sum : length (riceChoice mask s) ≡ length first′ + weigh S =
       length-append first′ (codeOf (length s) S ++ runsForm S fs) ∙ ap (λ (k : ℕ). length first′ + k) (length-append (codeOf (length s) S) (runsForm S fs)) in
       record {
-        offered = sym held;
         rice = λ h.
             record {
               mark = m;
@@ -105,3 +105,9 @@ module _ {mask n : ℕ} {s : List ℕ} {c : Counts} (counted : Counted mask s c)
             };
         small = omega (arith, best .small, begun .small);
       }
+
+-- the runs of a row of flags are those of the samples
+pub row-runs : {n count : ℕ} {row runs : List ℕ} (x : ℕ) (samples : List ℕ) (k : ℕ) → 40 * k ≡ n → RowIs (marksOf x 0 1 (take (40 * k) samples)) k row → RunsAre (rowBits (take k row)) count runs
+    → RunsAre (marksOf x 0 1 (take n samples)) count runs
+row-runs x samples k e row found =
+    rw (ap (λ (m : ℕ). marksOf x 0 1 (take m samples)) e) at (rw (row .says) at found)

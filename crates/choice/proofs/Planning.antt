@@ -1,0 +1,138 @@
+-- Laws of the two plans: what is written of a frame of the two zeros, and of one that has a 1 or a -2.
+use Prim.Native.Nat.{ℕ, _+_, _*_, _≤_, _<_}
+use mathlib.Core.Path.{_≡_, refl, sym, ap, _∙_}
+use mathlib.Core.List.{List, [], _∷_}
+use mathlib.Core.Bool.{Bool, true, false, _&&_}
+use native.Mathlib.Omega.{arith}
+use lib.ListN.{length, length-append}
+use Rattle.rules.specs.Tools.{holds}
+use Rattle.rules.specs.Chooses.{applies, formOf, choose, rowOf, locatedFlag, locatedForm, riceChoice}
+use Rattle.rules.proofs.Octets.{length-lowBits}
+use Rattle.rules.proofs.Tests.{and-left}
+use Rattle.measure.specs.Measures.{twoZeros}
+use Rattle.choice.specs.declared.Choice.{Choice}
+use Rattle.choice.specs.declared.Zeros.{Zeros}
+use Rattle.choice.specs.declared.Placed.{Placed}
+use Rattle.choice.specs.declared.Values.{Values}
+use Rattle.choice.specs.declared.Ways.{Ways}
+use Rattle.choice.specs.Ways.{InTurn, WaysAre}
+use Rattle.choice.specs.Offers.{samplesOf, valuesIn, RiceFor}
+use Rattle.choice.specs.Plans.{measured, BetterIs, ChosenIs, ZerosFor, PlacedFor}
+use Rattle.choice.proofs.Near.{never, and-zero, zeros-unplaced}
+use Rattle.choice.proofs.TwoZeros.{rice-applies, zeros-apply}
+use Rattle.choice.proofs.Choosing.{choose-step, choose-past, chosen-offered, uncompressed-chosen, binary-bits}
+use Rattle.choice.proofs.Settling.{among, alone}
+use Rattle.choice.proofs.Rows.{ways-sum}
+
+pub past : (set t : ℕ) {a : Bool} → a ≡ false → (holds set t && a) ≡ false
+past set t e = rw e (and-zero (holds set t))
+
+offers : (set t : ℕ) {a : Bool} → a ≡ true → holds set t ≡ (holds set t && a)
+offers set t e = rw e (sym (both (holds set t)))
+  where
+    both : (b : Bool) → (b && true) ≡ b
+    both true = refl
+    both false = refl
+
+rice-form : (mask : ℕ) (s : List ℕ) → length (riceChoice mask s) ≡ length (formOf mask 6 s)
+unfolding formOf
+rice-form mask s = refl
+
+located-bits : (mask : ℕ) (s : List ℕ) {a b c : List ℕ} {v : Values} {w : Ways} → 1 ≤ v .count → v .count ≤ 3
+    → samplesOf v ≡ valuesIn mask s → WaysAre s v w a b c
+    → 11 + w .first .bits + w .second .bits + w .third .bits ≡ length (formOf mask 7 s)
+unfolding formOf locatedForm
+located-bits mask s {w = w} some few says ways =
+    let e = ways-sum some few ways in
+    rw (length-append, length-lowBits, length-append, length-lowBits, length-append, length-lowBits, ← says) (omega (arith, e))
+
+-- uncompressed, from which each choice goes on
+uncompressed-is : (mask set : ℕ) (s : List ℕ) {n : ℕ} {first : Choice} → length s ≡ n → n ≤ 320 → first ≡ record { tool = 1; bits = 8 + 8 * n } → ChosenIs mask set s [] first
+uncompressed-is mask set s size few e = rw e (uncompressed-chosen mask s size set few)
+
+-- a frame of the two zeros: uncompressed, then Rice, then binary
+pub zeros-planned : {mask set n : ℕ} {s runs : List ℕ} {rice : Zeros} {one six five : Choice} {h₆ h₅ : Bool} → mask < 128 → twoZeros mask s ≡ true → length s ≡ n → n ≤ 320
+    → RiceFor mask set s rice runs → one ≡ record { tool = 1; bits = 8 + 8 * n } → h₆ ≡ holds set 6 → BetterIs one 6 h₆ (rice .bits) six
+    → h₅ ≡ holds set 5 → BetterIs six 5 h₅ (8 + n) five
+    → ZerosFor mask set s (record { tool = five .tool; bits = five .bits; mark = rice .mark; s = rice .s; count = rice .count }) runs
+zeros-planned {mask} {set} {n} {s} {runs} {rice} {h₆ = h₆} {h₅ = h₅} seven zeros size few riced e₁ e₆ b₆ e₅ b₅ =
+    let on : applies mask 6 s ≡ true = zeros-apply mask s ∙ zeros in
+    let c₇ = choose-past 7 (past set 7 (zeros-unplaced mask seven s zeros)) (uncompressed-is mask set s size few e₁) in
+    let c₆ = choose-step c₇ 6 h₆ (rice .bits) (e₆ ∙ offers set 6 on) (λ h. riced .rice (sym e₆ ∙ h) .bits ∙ rice-form mask s) b₆ in
+    let c₅ = choose-step c₆ 5 h₅ (8 + n) (e₅ ∙ offers set 5 (rice-applies mask s ∙ on)) (λ h. binary-bits mask s size) b₅ in
+    let P : ℕ → Type 0 = λ t. (t ≡ 1 → ⊥) → (t ≡ 6 → ⊥) → t ≡ 5 in
+    let last : P (choose mask set s (7 ∷ [])) = rw (← (c₇ .tool), e₁) (λ x y. absurd (x refl)) in
+    let k : P (choose mask set s measured) = among mask s set P 5 _ (λ x y. refl) (among mask s set P 6 _ (λ x y. absurd (y refl)) last) in
+    record {
+      tool = c₅ .tool;
+      bits = c₅ .bits;
+      small = c₅ .small;
+      rice = λ e.
+          let i = riced .rice (and-left (holds set 6) (applies mask 6 s) (chosen-offered mask set s measured 6 e (λ z. omega arith))) in
+          record {
+            mark = i .mark;
+            best = i .best;
+            to = i .to;
+            most = i .most;
+            from = i .from;
+            found = i .found;
+            bits = c₅ .bits ∙ ap (λ (t : ℕ). length (formOf mask t s)) e ∙ sym (rice-form mask s);
+          };
+      kind = rw (c₅ .tool) k;
+    }
+
+-- a frame that has a 1 or a -2: uncompressed, then value-location
+module _ {mask set : ℕ} {s : List ℕ} (zeros : twoZeros mask s ≡ false) where
+  no-zeros : {r : Choice} → ChosenIs mask set s (7 ∷ []) r → ChosenIs mask set s measured r
+  no-zeros done =
+      let off : applies mask 6 s ≡ false = zeros-apply mask s ∙ zeros in
+      choose-past 5 (past set 5 (rice-applies mask s ∙ off)) (choose-past 6 (past set 6 off) done)
+
+  one-or-seven : {r : Choice} → ChosenIs mask set s (7 ∷ []) r → (r .tool ≡ 1 → ⊥) → r .tool ≡ 7
+  one-or-seven done =
+      let P : ℕ → Type 0 = λ t. (t ≡ 1 → ⊥) → t ≡ 7 in
+      rw (done .tool) (among mask s set P 7 [] (λ x. refl) (alone mask s set P (λ x. absurd (x refl))))
+
+  pub not-placed : {n : ℕ} {a b c : List ℕ} {r : Placed} → length s ≡ n → n ≤ 320 → (holds set 7 && applies mask 7 s) ≡ false → r .tool ≡ 1 → r .bits ≡ 8 + 8 * n
+      → PlacedFor mask set s r a b c
+  not-placed {n} {r = r} size few off t b =
+      let done = no-zeros (choose-past 7 off (uncompressed-chosen mask s size set few)) in
+      record {
+        tool = t ∙ done .tool;
+        bits = b ∙ done .bits;
+        small = omega arith;
+        placed = λ e. absurd (never (sym off ∙ chosen-offered mask set s measured 7 e (λ z. omega arith)));
+        kind = λ x. absurd (x t);
+      }
+
+  pub placed-for : {n row flag : ℕ} {a b c : List ℕ} {v : Values} {w : Ways} {one best : Choice} → length s ≡ n → n ≤ 320 → holds set 7 ≡ true → applies mask 7 s ≡ true
+      → row ≡ rowOf mask s → row < 4 → flag ≡ locatedFlag mask s → flag < 2 → (plus : ℕ) → InTurn plus s v → samplesOf v ≡ valuesIn mask s → WaysAre s v w a b c
+      → one ≡ record { tool = 1; bits = 8 + 8 * n } → BetterIs one 7 true (11 + w .first .bits + w .second .bits + w .third .bits) best
+      → PlacedFor mask set s (record { tool = best .tool; bits = best .bits; row = row; flag = flag; count = v .count; first = w .first; second = w .second; third = w .third }) a b c
+  placed-for {v = v} {w = w} size few held on r low f mark plus turn says ways e better =
+      let offered : true ≡ (holds set 7 && applies mask 7 s) = rw (held, on) in
+      let first′ = choose-step (uncompressed-is mask set s size few e) 7 true (11 + w .first .bits + w .second .bits + w .third .bits) offered
+      (λ h. located-bits mask s (turn .some) (turn .few) says ways) better in
+      let done = no-zeros first′ in
+      record {
+        tool = done .tool;
+        bits = done .bits;
+        small = done .small;
+        placed = λ e.
+            record {
+              x = v .first .sample;
+              y = v .second .sample;
+              z = v .third .sample;
+              row = r;
+              low = low;
+              flag = f;
+              mark = mark;
+              some = turn .some;
+              few = turn .few;
+              values = sym says;
+              first = ways .first;
+              second = ways .second;
+              third = ways .third;
+            };
+        kind = one-or-seven first′;
+      }
