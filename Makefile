@@ -45,9 +45,16 @@ fuzz: archive
 vectors: archive
 	@$(CARGO) run --release --offline --locked --quiet --package tests --bin vectors_of -- "$(FOLDER)"
 
+# Times under an emulator say nothing, so on another machine the archive's module is compiled for that machine.
 bench: archive
-	@[ $(MACHINE) = x86_64 ] || echo 'This machine is $(MACHINE), and the proved code runs under an emulator: these times say nothing.'
-	@$(CARGO) run --profile bench --offline --locked --quiet --package bench
+ifeq ($(MACHINE),x86_64)
+	@cargo run --profile bench --offline --locked --quiet --package bench
+else
+	@echo 'This machine is $(MACHINE): the proved code is the module of the archive, compiled for it.'
+	@tools/native
+	@CARGO_TARGET_DIR=$(CURDIR)/target/native/cargo G7110_ARCHIVE=$(CURDIR)/target/native/libg7110.a \
+		cargo run --profile bench --offline --locked --quiet --package bench
+endif
 
 fmt:
 	$(RT) fmt

@@ -407,67 +407,34 @@ struct Word {
     len: usize,
 }
 
+fn named(octets: [u8; 6], len: usize) -> Word
+    ensures { λ r. ⌜ (r .octets ≡ octets) × (r .len ≡ len) ⌝ }
+{
+    Word {
+        octets: octets,
+        len: len,
+    }
+}
+
 // The name of a refusal by its number; any other number has none.
 fn name_of(number: u32) -> Word
     ensures { λ r. ⌜ Named (refusalName number) (r .octets) (r .len) ⌝ }
 {
     match number {
-        1 => Word {
-            octets: *b"SHORT ",
-            len: 5,
-        },
-        2 => Word {
-            octets: *b"PREFIX",
-            len: 6,
-        },
-        3 => Word {
-            octets: *b"TOOL  ",
-            len: 4,
-        },
-        4 => Word {
-            octets: *b"ROOM  ",
-            len: 4,
-        },
-        5 => Word {
-            octets: *b"CASE  ",
-            len: 4,
-        },
-        6 => Word {
-            octets: *b"METHOD",
-            len: 6,
-        },
-        7 => Word {
-            octets: *b"RUN   ",
-            len: 3,
-        },
-        8 => Word {
-            octets: *b"PLACE ",
-            len: 5,
-        },
-        9 => Word {
-            octets: *b"ALIGN ",
-            len: 5,
-        },
-        10 => Word {
-            octets: *b"LENGTH",
-            len: 6,
-        },
-        11 => Word {
-            octets: *b"SET   ",
-            len: 3,
-        },
-        12 => Word {
-            octets: *b"LAW   ",
-            len: 3,
-        },
-        13 => Word {
-            octets: *b"LONG  ",
-            len: 4,
-        },
-        _ => Word {
-            octets: *b"      ",
-            len: 0,
-        },
+        1 => named(*b"SHORT ", 5),
+        2 => named(*b"PREFIX", 6),
+        3 => named(*b"TOOL  ", 4),
+        4 => named(*b"ROOM  ", 4),
+        5 => named(*b"CASE  ", 4),
+        6 => named(*b"METHOD", 6),
+        7 => named(*b"RUN   ", 3),
+        8 => named(*b"PLACE ", 5),
+        9 => named(*b"ALIGN ", 5),
+        10 => named(*b"LENGTH", 6),
+        11 => named(*b"SET   ", 3),
+        12 => named(*b"LAW   ", 3),
+        13 => named(*b"LONG  ", 4),
+        _ => named(*b"      ", 0),
     }
 }
 

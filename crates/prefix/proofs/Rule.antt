@@ -2,7 +2,7 @@
 use mathlib.Core.Path.{_≡_, refl, ap}
 use mathlib.Core.Bool.{Bool, true, false, _&&_}
 use mathlib.Core.List.{List, [], _∷_}
-use Prim.Native.Nat.{ℕ, zero, suc, _+_, _*_, _<_}
+use Prim.Native.Nat.{ℕ, zero, suc, _+_, _*_, _/_, _<_}
 use lib.ListN.{getD}
 use lib.Dec.{eqb}
 use borrow.Author.Tests.{eqb-true}
@@ -46,8 +46,8 @@ rule xs t o h = told _ _ (allBelow-at (right xs) 256 t o h)
 abbrev entryFor : First → ℕ
 entryFor unassigned = 1
 entryFor pad = 0
-entryFor (tool t n) = 1000 * t + n
-entryFor (sixOrEight n) = 6000 + n
+entryFor (tool t n) = 16 * t + n / 40
+entryFor (sixOrEight n) = 96 + n / 40
 
 abbrev pub entries : ℕ → ℕ → List ℕ
 entries zero o = []

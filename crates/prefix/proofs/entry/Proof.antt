@@ -7,9 +7,6 @@ use Rattle.prefix.proofs.Rule.{rule, entries}
 use Rattle.prefix.proofs.entry.Statement.{statement}
 use Rattle.prefix.proofs.entry.Tie as tie
 
-mul-result : tie.Need-mul-result
-mul-result c = search needs
-
 array-read-result : tie.Need-array-read-result
 array-read-result c = search needs
 
@@ -18,4 +15,4 @@ unfolding rows lookUp firstOctet entryTells
 returns c = let h : c .args .o < 256 = search needs in rule (entries 256 0) refl (c .args .o) h
 
 pub entry-spec : {M : Type 1} → statement M
-entry-spec = tie.close (tie.spec mul-result array-read-result returns)
+entry-spec = tie.close (tie.spec array-read-result returns)

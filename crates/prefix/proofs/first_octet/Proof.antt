@@ -1,3 +1,4 @@
+use native.Mathlib.Omega.{arith}
 use borrow.Author.Needs.{needs}
 use borrow.Author.Tests.{eq-eqb, ne-eqb}
 use Rattle.prefix.specs.Answers.{entryTells}
@@ -21,6 +22,9 @@ cast-t c = search needs
 cast-n : tie.Need-cast-n
 cast-n c = search needs
 
+mul-n : tie.Need-mul-n
+mul-n c = omega arith
+
 returns-3 : tie.Need-returns-3
 unfolding entryTells
 returns-3 c =
@@ -35,4 +39,4 @@ returns-4 c =
 
 pub first-octet-spec : {M : Type 1} → statement M
 first-octet-spec =
-    tie.close (tie.spec entry-requires returns returns-2 cast-t cast-n returns-3 returns-4)
+    tie.close (tie.spec entry-requires returns returns-2 cast-t cast-n mul-n returns-3 returns-4)
