@@ -19,10 +19,10 @@ abbrev μ-frames : tie.MeasureT-frames
 module _ (c : tie.After-step Inv-frames μ-frames) (e : c .step .result .end ≡ Done) where
   turned : Walking (c .before .before .before .before .before .before .args .octets .now) (c .before .before .before .before .before .before .args .law) (c .before .before .before .before .before .before .args .set) (c .before .before .before .before .before .before .args .out .now) (c .step .last .1 .1 .1 .1 .0)
       (c .before .before .before .frames .at + c .step .result .octets) (c .before .before .before .frames .to + c .step .result .len) (c .before .before .before .frames .count + 1)
-  turned = walk-turn (c .before .before .before .before .before .before .args .octets .now) (c .before .before .before .before .before .before .args .law) (c .before .before .before .before .before .before .args .set) (c .before .before .before .before .before .before .args .out .now) (c .before .before .before .frames .inv) (c .before .before .if1 .left) (c .step .ensures) e
+  turned = walk-turn _ _ _ _ (c .before .before .before .frames .inv) (c .before .before .if1 .left) (c .step .ensures) e
 
   forward : 1 ≤ c .step .result .octets
-  forward = walk-forward (c .before .before .before .before .before .before .args .octets .now) (c .before .before .before .before .before .before .args .law) (c .before .before .before .before .before .before .args .set) (c .before .before .before .before .before .before .args .out .now) (c .before .before .before .frames .inv) (c .before .before .if1 .left) (c .step .ensures) e
+  forward = walk-forward _ _ _ _ (c .before .before .before .frames .inv) (c .before .before .if1 .left) (c .step .ensures) e
 
 frames-holds : tie.Need-frames-holds Inv-frames μ-frames
 frames-holds c = walk-start (c .before .before .args .octets .now) (c .before .before .args .law) (c .before .before .args .set) (c .before .before .args .out .now)
@@ -55,14 +55,14 @@ same-length : tie.Need-same-length Inv-frames μ-frames
 same-length c = lent-length (c .before .frames .inv .kept)
 
 returns : tie.Need-returns Inv-frames μ-frames
-returns c = walk-done (c .before .before .before .before .args .octets .now) (c .before .before .before .before .args .law) (c .before .before .before .before .args .set) (c .before .before .before .before .args .out .now) (c .before .frames .inv) (c .if1 .taken)
+returns c = walk-done _ _ _ _ (c .before .frames .inv) (c .if1 .taken)
 
 same-length-2 : tie.Need-same-length-2 Inv-frames μ-frames
 same-length-2 c = c .before .before .before .before .before .step .kept .1 .1 .1 .1 .0 ∙ lent-length (c .before .before .before .before .before .before .before .before .frames .inv .kept)
 
 returns-2 : tie.Need-returns-2 Inv-frames μ-frames
 returns-2 c =
-    walk-refused (c .before .before .before .before .before .before .before .before .before .before .before .args .octets .now) (c .before .before .before .before .before .before .before .before .before .before .before .args .law) (c .before .before .before .before .before .before .before .before .before .before .before .args .set) (c .before .before .before .before .before .before .before .before .before .before .before .args .out .now) (c .before .before .before .before .before .before .before .before .frames .inv) (c .before .before .before .before .before .before .before .if1 .left) (c .before .before .before .before .before .step .ensures)
+    walk-refused _ _ _ _ (c .before .before .before .before .before .before .before .before .frames .inv) (c .before .before .before .before .before .before .before .if1 .left) (c .before .before .before .before .before .step .ensures)
     (c .before .e .given .0 .0) (c .before .e .given .1)
 
 pub frames-spec : {M : Type 1} → statement M
