@@ -1,4 +1,3 @@
 pub mod Putting
 pub mod Spelling
-pub mod Room
 pub mod Listed

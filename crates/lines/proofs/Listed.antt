@@ -16,7 +16,7 @@ use Rattle.rules.specs.Walk.{Walked, stopped, before, onward, walkFrom, walkAll
 use Rattle.rules.specs.Listing.{frameLines, lawLine, listStream}
 use Rattle.rules.proofs.Accepted.{read-accepts, read-uses}
 use Rattle.lines.specs.Onward.{allTools, endLines, foundLine, afterRead, linesFrom}
-use Rattle.lines.proofs.Room.{read-room}
+use Rattle.rules.proofs.Room.{read-room}
 
 -- the lines of a walk, after k frames that hold `kept` samples
 abbrev linesOf : ℕ → ℕ → Walked → List ℕ

@@ -1,22 +1,20 @@
 -- What is lent to the calls within: a frame from `from` to `to`, and the output from `at` on, whole.
 use Prim.Native.Nat.{ℕ, _+_, _-_, _≤_}
 use mathlib.Core.Path.{_≡_, sym, ap, subst, _∙_}
-use mathlib.Core.List.{List, _++_, append-nil}
+use mathlib.Core.List.{List, _++_}
 use native.Mathlib.Omega.{arith}
-use lib.ListN.{length, take, drop, length-drop, drop-of-length-le, take-append-drop}
-use lib.Seq.{take-all, length-take-le}
+use lib.ListN.{length, take, drop, length-drop, take-append-drop}
+use lib.Seq.{length-take-le}
 use Rattle.rules.specs.declared.Refusal.{Refusal}
 use Rattle.rules.specs.declared.Ending.{Ending}
 use Rattle.rules.specs.declared.Ending.the-variants.{Done, Refused}
 use Rattle.rules.specs.declared.WriteAnswer.{WriteAnswer}
 use Rattle.rules.specs.Chooses.{writeOne}
 use Rattle.rules.specs.Calls.{Writes}
+use Rattle.rules.proofs.Lent.{from-on, back-on}
 use Rattle.packing.specs.declared.PackAnswer.{PackAnswer}
 use Rattle.packing.specs.Packing.{soundIn, streamOf, packAll, Packs}
 use Rattle.packing.specs.Parts.{PutsFrame, packedOn, PacksAfter, PackOn}
-
-from-on : (l : List ℕ) (at : ℕ) → take (length l - at) (drop at l) ≡ drop at l
-from-on l at = take-all (length l - at) (drop at l) (omega (arith, length-drop at l))
 
 pub length-part : (l : List ℕ) (at : ℕ) → length (take (length l - at) (drop at l)) ≡ length l - at
 length-part l at = ap length (from-on l at) ∙ length-drop at l
@@ -29,8 +27,7 @@ frame-put sound from to law set at out last f t h =
     record {
       rest = last;
       writes = rw (from-on out at, length-drop at out, length-take-le (to - from) (drop from sound) (omega (arith, length-drop from sound))) at h;
-      lent =
-          rw (drop-of-length-le (drop at out) {i = length out - at} (omega (arith, length-drop at out)), append-nil last);
+      lent = ap (λ (x : List ℕ). take at out ++ x) (back-on out at last);
     }
 
 -- what was refused stays refused, and the output as lent
@@ -59,7 +56,5 @@ part-packed done part law set n out rest {p} q h =
       frames = ap (λ (x : ℕ). done .frames + x) (w .frames);
       samples = ap (λ (x : ℕ). done .samples + x) (w .samples);
       octets = ap (λ (x : ℕ). done .octets + x) (w .octets);
-      lent =
-          rw (drop-of-length-le (drop at out) {i = length out - at} (omega (arith, length-drop at out)), append-nil rest)
-          (ap (λ (x : List ℕ). take at out ++ x) (w .lent));
+      lent = ap (λ (x : List ℕ). take at out ++ x) (back-on out at rest ∙ w .lent);
     })

@@ -4,8 +4,8 @@ use mathlib.Core.Path.{_≡_, refl, sym, ap, subst, _∙_}
 use mathlib.Core.List.{List, [], _∷_, _++_, append-assoc, append-nil}
 use mathlib.Core.Bool.{Bool, true, false, cond, _||_}
 use native.Mathlib.Omega.{arith}
-use lib.ListN.{length, take, drop, length-append, length-drop, take-append-drop}
-use lib.Seq.{take-at, drop-at, drop-drop, take-all, length-take-le}
+use lib.ListN.{length, take, drop, length-append, length-drop}
+use lib.Seq.{drop-drop, take-all, length-take-le}
 use lib.Dec.{eqb, ltb}
 use borrow.Author.Tests.{le-ltb, lt-ltb, ltb-true, ltb-false}
 use Rattle.rules.specs.declared.Refusal.{Refusal}
@@ -19,6 +19,7 @@ use Rattle.rules.specs.Samples.{maskOf}
 use Rattle.rules.specs.Chooses.{wrote, declined, chosen, writeOne}
 use Rattle.rules.specs.Calls.{atStart, Writes}
 use Rattle.rules.proofs.Octets.{length-pack}
+use Rattle.rules.proofs.Lent.{Lent, lent-start, lent-length, lent-at-start, lent-same, lent-more}
 use Rattle.packing.specs.Packing.{nextLength, cuts, formOctets, soundIn, streamOf, Packed, halted, before, putAll, lastEnd, endOf, Packs}
 use Rattle.packing.specs.Parts.{PutsFrame}
 use Rattle.packing.proofs.Lengths.{Fits, next-fits}
@@ -70,10 +71,8 @@ module _ (sound : List ℕ) (law set n : ℕ) (out₀ : List ℕ) where
     pub all-cuts : cuts n sound ≡ done ++ cuts n (drop from sound)
     pub frames : count ≡ length done
     pub samples : from ≡ length (soundIn done)
-    pub octets : at ≡ length (streamOf law set done)
-    pub lent : out ≡ streamOf law set done ++ drop at out₀
+    pub kept : Lent out₀ (streamOf law set done) out at
     pub inside : from ≤ length sound
-    pub room : at ≤ length out₀
     pub few : count ≤ from
 
   pub pack-start : Packing out₀ 0 0 0
@@ -85,10 +84,8 @@ module _ (sound : List ℕ) (law set n : ℕ) (out₀ : List ℕ) where
         all-cuts = refl;
         frames = refl;
         samples = refl;
-        octets = refl;
-        lent = refl;
+        kept = lent-start out₀;
         inside = omega arith;
-        room = omega arith;
         few = omega arith;
       }
 
@@ -101,22 +98,11 @@ module _ (sound : List ℕ) (law set n : ℕ) (out₀ : List ℕ) where
         end = refl;
         frames = rw append-nil (w .frames);
         samples = rw append-nil (w .samples);
-        octets = rw append-nil (w .octets);
-        lent = rw (append-nil, ← (w .octets)) (w .lent);
+        octets = rw append-nil (w .kept .size);
+        lent = rw append-nil (lent-at-start (w .kept));
       })
 
   module _ {out : List ℕ} {from at count : ℕ} (w : Packing out from at count) where
-    pub kept-length : length out ≡ length out₀
-    kept-length =
-        ap length (w .lent) ∙ length-append (streamOf law set (w .done)) (drop at out₀)
-        ∙ omega (arith, w .octets, length-drop at out₀, w .room)
-
-    kept-take : take at out ≡ streamOf law set (w .done)
-    kept-take = ap (take at) (w .lent) ∙ take-at (streamOf law set (w .done)) (drop at out₀) at (sym (w .octets))
-
-    kept-drop : drop at out ≡ drop at out₀
-    kept-drop = ap (drop at) (w .lent) ∙ drop-at (streamOf law set (w .done)) (drop at out₀) at (sym (w .octets))
-
     -- the end of the sound, or octets that no length fits
     pub pack-done : nextLength n (length sound - from) ≡ 0 → {e : Ending} → e ≡ lastEnd (length sound - from)
         → Packs law set packed (record { end = e; frames = count; samples = from; octets = at }) out₀ out
@@ -148,8 +134,7 @@ module _ (sound : List ℕ) (law set n : ℕ) (out₀ : List ℕ) where
           → rest ≡ drop at out → out′ ≡ take at out ++ rest
           → Packs law set packed (record { end = Refused Room; frames = count; samples = from; octets = at }) out₀ out′
       no-room {out′} {rest} k f g =
-          let same : out′ ≡ out = g ∙ ap (λ (x : List ℕ). take at out ++ x) f ∙ take-append-drop at out in
-          subst (λ (x : List ℕ). Packs law set packed (record { end = Refused Room; frames = count; samples = from; octets = at }) out₀ x) (sym same)
+          subst (λ (x : List ℕ). Packs law set packed (record { end = Refused Room; frames = count; samples = from; octets = at }) out₀ x) (sym (lent-same (w .kept) g f))
           (pack-stop w (Refused Room)
           (ap (λ (x : List (List ℕ)). putAll law set (length out₀ - at) x (endOf n sound)) next-cut
           ∙ put-no-room law set (length out₀ - at) s (cuts n (drop to sound)) (endOf n sound) k))
@@ -169,12 +154,8 @@ module _ (sound : List ℕ) (law set n : ℕ) (out₀ : List ℕ) where
             all-cuts = w .all-cuts ∙ ap (λ (x : List (List ℕ)). w .done ++ x) next-cut ∙ sym (append-assoc (w .done) (s ∷ []) (cuts n (drop to sound)));
             frames = omega (arith, w .frames, length-append (w .done) (s ∷ []));
             samples = omega (arith, e, w .samples, s-length, ap length (soundIn-more (w .done) s) ∙ length-append (soundIn (w .done)) s);
-            octets = omega (arith, w .octets, ap length (streamOf-more law set (w .done) s) ∙ length-append (streamOf law set (w .done)) (formOctets law set s));
-            lent =
-                g ∙ ap (λ (x : List ℕ). take at out ++ x) er
-                ∙ rw (kept-take, kept-drop, drop-drop, streamOf-more, append-assoc, u);
+            kept = rw streamOf-more (lent-more (w .kept) g (formOctets law set s) u (omega (arith, k, u)) er);
             inside = omega (arith, e, fits .within, w .inside);
-            room = omega (arith, w .room);
             few = omega (arith, e, w .few, some);
           }
 
@@ -183,7 +164,7 @@ module _ (sound : List ℕ) (law set n : ℕ) (out₀ : List ℕ) where
         written-here : Writes (cond (ltb (length out₀ - at) (length (formOctets law set s))) (declined Room) (wrote (chosen (maskOf law) set s))) r (drop at out) (p .rest)
         written-here =
             let d : to - from ≡ l = omega (arith, e) in
-            rw (d, kept-length, write-is law set l (length out₀ - at) s i o (fits .allowed) s-length) at (p .writes)
+            rw (d, lent-length (w .kept), write-is law set l (length out₀ - at) s i o (fits .allowed) s-length) at (p .writes)
 
         pub pack-turn : r .end ≡ Done → Packing out′ to (at + r .octets) (count + 1)
         pack-turn q = go (ltb (length out₀ - at) (length (formOctets law set s))) refl written-here

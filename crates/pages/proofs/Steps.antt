@@ -1,6 +1,6 @@
 -- A step of the listing: the last two lines, or a frame's line.
 use Prim.Native.Nat.{ℕ, zero, suc, _+_, _-_, _≤_, _<_}
-use mathlib.Core.Path.{_≡_, refl, sym, subst, _∙_}
+use mathlib.Core.Path.{_≡_, refl, sym, ap, subst, _∙_}
 use mathlib.Core.List.{List, _++_, append-nil}
 use mathlib.Core.Bool.{false}
 use native.Mathlib.Omega.{arith}
@@ -9,18 +9,17 @@ use borrow.Author.Tests.{le-leb, lt-leb}
 use Rattle.rules.specs.declared.Ending.the-variants.{Done, Refused}
 use Rattle.rules.specs.declared.Refusal.{Refusal}
 use Rattle.rules.specs.Refusals.{refusalNumber}
-use Rattle.rules.specs.Reading.{Read, whole, refuse}
+use Rattle.rules.specs.Reading.{Read, whole}
 use Rattle.rules.specs.Frame.{Found, octetsUsed, readOne}
 use Rattle.reader.specs.declared.Report.{Report}
-use Rattle.reader.specs.Answers.{ReadsInto}
+use Rattle.reader.specs.Answers.{Tells, ReadsInto}
 use Rattle.rules.specs.Listing.{frameLine, stopLine, samplesLine}
-use Rattle.rules.proofs.Accepted.{read-accepts, read-uses}
 use Rattle.walk.specs.Stepping.{Steps}
-use Rattle.lines.specs.Puts.{Puts}
+use Rattle.walk.proofs.Told.{accepted, refused, read-bounds}
 use Rattle.lines.specs.Onward.{allTools, endLines, afterRead, linesFrom}
 use Rattle.pages.specs.declared.Stand.{Stand}
 use Rattle.pages.specs.declared.Page.{Page}
-use Rattle.pages.specs.Pages.{Stands, linesLeft, stepsLeft, Ends, Lists}
+use Rattle.pages.specs.Pages.{Stands, linesLeft, stepsLeft, Ends, ListsFrame, Lists}
 
 -- the lines left: at the stream's end, and before it
 module _ (stream : List ℕ) (law : ℕ) where
@@ -53,42 +52,24 @@ step-read stream at law {room} {room′} {r} e t =
     subst (λ (out : List ℕ). ReadsInto (readOne (drop at stream) law allTools 320) r room out) (sym (t .lent)) (rw l at (t .reads))
 
 -- what an answer tells
-module _ {found : Read Found} {r : Report} {out out′ : List ℕ} where
-  pub read-done : (k at kept : ℕ) (next : ℕ → ℕ → List ℕ) → ReadsInto found r out out′ → r .end ≡ Done
+frame-told : {f : Found} {i : ℕ} {r : Report} (k at kept : ℕ) (next : ℕ → ℕ → List ℕ) → Tells (whole f i) r
+    → afterRead (whole f i) k at kept (λ f. next (octetsUsed f) (length (f .samples)))
+    ≡ frameLine k at (r .len) (r .tool) (r .octets) (r .bits) ++ next (r .octets) (r .len)
+frame-told k at kept next t = rw (t .len, t .tool, t .octets, t .bits)
+
+module _ {found : Read Found} {r : Report} {out out′ : List ℕ} (t : ReadsInto found r out out′) where
+  read-done : (k at kept : ℕ) (next : ℕ → ℕ → List ℕ) → r .end ≡ Done
       → afterRead found k at kept (λ f. next (octetsUsed f) (length (f .samples)))
       ≡ frameLine k at (r .len) (r .tool) (r .octets) (r .bits) ++ next (r .octets) (r .len)
-  read-done k at kept next t e = go found t e
-    where
-      go : (found : Read Found) → ReadsInto found r out out′ → r .end ≡ Done
-          → afterRead found k at kept (λ f. next (octetsUsed f) (length (f .samples)))
-          ≡ frameLine k at (r .len) (r .tool) (r .octets) (r .bits) ++ next (r .octets) (r .len)
-      go (whole f i) t e = rw (t .tells .len, t .tells .tool, t .tells .octets, t .tells .bits)
-      go (refuse w bit) t e = let z : _≡_ {A = ℕ} 0 1 = cc in absurd (omega arith)
+  read-done k at kept next e =
+      let a = accepted t e in
+      ap (λ (x : Read Found). afterRead x k at kept (λ f. next (octetsUsed f) (length (f .samples)))) (a .is) ∙ frame-told k at kept next (a .tells .tells)
 
-  pub read-refused : (k at kept : ℕ) (next : Found → List ℕ) {w : Refusal} → ReadsInto found r out out′ → r .end ≡ Refused w
+  pub read-refused : (k at kept : ℕ) (next : Found → List ℕ) {w : Refusal} → r .end ≡ Refused w
       → afterRead found k at kept next ≡ stopLine (refusalNumber w) at (r .tool) ++ samplesLine kept
-  read-refused k at kept next {w} t e = go found t e
-    where
-      go : (found : Read Found) → ReadsInto found r out out′ → r .end ≡ Refused w
-          → afterRead found k at kept next ≡ stopLine (refusalNumber w) at (r .tool) ++ samplesLine kept
-      go (whole f i) t e = let z : _≡_ {A = ℕ} 0 1 = cc in absurd (omega arith)
-      go (refuse v bit) t e = let p : v ≡ w = cc in rw (t .tells .tool, p)
-
--- an accepted frame has one octet or more, no more than there are, and fits the room
-pub record Bounds (octets : List ℕ) (room : ℕ) (r : Report) : Type 0 where
-  pub some : 1 ≤ r .octets
-  pub inside : r .octets ≤ length octets
-  pub fits : r .len ≤ room
-
-pub read-bounds : (octets : List ℕ) (law set room : ℕ) {r : Report} {out out′ : List ℕ} → ReadsInto (readOne octets law set room) r out out′ → r .end ≡ Done → Bounds octets room r
-read-bounds octets law set room {r} {out} {out′} t e = go (readOne octets law set room) refl t e
-  where
-    go : (found : Read Found) → readOne octets law set room ≡ found → ReadsInto found r out out′ → r .end ≡ Done → Bounds octets room r
-    go (whole f i) q t e =
-        let u = read-uses octets law set room q in
-        let a = read-accepts octets law set room q in
-        record { some = rw (t .tells .octets) (u .0); inside = rw (t .tells .octets) (u .1); fits = rw (t .tells .len) (a .fits) }
-    go (refuse w bit) q t e = let z : _≡_ {A = ℕ} 0 1 = cc in absurd (omega arith)
+  read-refused k at kept next e =
+      let a = refused t e in
+      ap (λ (x : Read Found). afterRead x k at kept next) (a .is) ∙ rw (a .tells .tells .tool)
 
 -- what a step does: it lists a part, and comes nearer to the end
 abbrev Nearer : List ℕ → ℕ → Stand → List ℕ → ℕ → Stand → List ℕ → ℕ → Type 0
@@ -117,30 +98,20 @@ step-last stream law {number} {tool} {s} t a n h e = (
 )
 
 -- a frame's line
-abbrev lineOf : Stand → Report → List ℕ
-lineOf s r = frameLine (s .frames) (s .at) (r .len) (r .tool) (r .octets) (r .bits)
-
-pub record Moves (s : Stand) (r : Report) (s′ : Stand) : Type 0 where
-  pub frames : s′ .frames ≡ s .frames + 1
-  pub at : s′ .at ≡ s .at + r .octets
-  pub samples : s′ .samples ≡ s .samples + r .len
-  pub goes : s′ .ended ≡ false
-
-pub step-frame : (stream : List ℕ) (law : ℕ) {s s′ : Stand} {r : Report} {l l′ out out′ : List ℕ} {to to′ : ℕ}
-    → Stands stream s → s .ended ≡ false → s .at < length stream
-    → ReadsInto (readOne (drop (s .at) stream) law allTools 320) r l l′ → r .end ≡ Done → Moves s r s′
-    → Puts out to (lineOf s r) out′ to′ → to′ ≤ length out → Nearer stream law s out to s′ out′ to′
+pub step-frame : (stream : List ℕ) (law : ℕ) {s : Stand} {r : Report} {l l′ out out′ : List ℕ} {to : ℕ} {p : Page}
+    → ListsFrame s r out to p out′ → Stands stream s → s .ended ≡ false → to + 320 ≤ length out → s .at < length stream
+    → ReadsInto (readOne (drop (s .at) stream) law allTools 320) r l l′ → r .end ≡ Done → Nearer stream law s out to (p .stand) out′ (p .to)
 unfolding linesLeft stepsLeft
-step-frame stream law {s} {s′} {r} a e h t d v w m =
+step-frame stream law {s} {r} v a e m h t d =
     let b = read-bounds (drop (s .at) stream) law allTools 320 t d in
     let n = length-drop (s .at) stream in
     let j : length stream - s .frames ≡ suc (length stream) - (s .frames + 1) = omega arith in (
       record {
-        text = lineOf s r;
-        puts = w;
+        text = frameLine (s .frames) (s .at) (r .len) (r .tool) (r .octets) (r .bits);
+        puts = v .puts;
         says =
             left-read stream law s a e h
-            ∙ read-done (s .frames) (s .at) (s .samples) (after stream law s) t d
+            ∙ read-done t (s .frames) (s .at) (s .samples) (after stream law s) d
             ∙ rw (v .goes, v .frames, v .at, v .samples, j);
         stands =
             record {
@@ -149,7 +120,7 @@ step-frame stream law {s} {s′} {r} a e h t d v w m =
               frames = omega (arith, b .some, v .at, v .frames);
               samples = omega (arith, b .fits, v .samples, v .frames);
             };
-        size = m;
+        size = omega (arith, v .most);
       },
       rw (v .goes, e, v .at) (omega (arith, b .some)),
     )

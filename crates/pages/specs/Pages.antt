@@ -5,7 +5,8 @@ use mathlib.Core.List.{List, [], _++_}
 use mathlib.Core.Bool.{true, false, cond}
 use lib.ListN.{length, drop}
 use Rattle.rules.specs.Walk.{longest}
-use Rattle.rules.specs.Listing.{stopLine, samplesLine, listing}
+use Rattle.rules.specs.Listing.{frameLine, stopLine, samplesLine, listing}
+use Rattle.reader.specs.declared.Report.{Report}
 use Rattle.lines.specs.Puts.{Puts}
 use Rattle.lines.specs.Onward.{linesFrom}
 use Rattle.pages.specs.declared.Stand.{Stand}
@@ -44,6 +45,15 @@ pub record Ends (number tool : ℕ) (s : Stand) (out : List ℕ) (to : ℕ) (r :
   pub frames : r .stand .frames ≡ s .frames
   pub samples : r .stand .samples ≡ s .samples
   pub most : r .to ≤ to + 320
+
+-- a frame's line, and where the listing stands after it
+pub record ListsFrame (s : Stand) (r : Report) (out : List ℕ) (to : ℕ) (p : Page) (out′ : List ℕ) : Type 0 where
+  pub puts : Puts out to (frameLine (s .frames) (s .at) (r .len) (r .tool) (r .octets) (r .bits)) out′ (p .to)
+  pub frames : p .stand .frames ≡ s .frames + 1
+  pub at : p .stand .at ≡ s .at + r .octets
+  pub samples : p .stand .samples ≡ s .samples + r .len
+  pub goes : p .stand .ended ≡ false
+  pub most : p .to ≤ to + 320
 
 -- how the listing of a stream opens, `whole` being all of it; a refusal is all of it
 pub record Opens (whole stream out : List ℕ) (r : Opened) (out′ : List ℕ) : Type 0 where

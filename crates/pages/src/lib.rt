@@ -1,13 +1,13 @@
 // The listing page by page (document 01, "Walk and listing"): what is put into a lent page is the next part of the
 // listing's text, and the rest follows from where the page ends.
 ghost use mathlib.Core.Path.{_≡_};
-ghost use Prim.Native.Nat.{_+_, _≤_, _<_};
+ghost use Prim.Native.Nat.{_+_, _^_, _≤_, _<_};
 ghost use mathlib.Core.Bool.{false};
 ghost use lib.ListN.{length, drop};
 ghost use Rattle.rules.specs.Listing.{listStream};
 ghost use Rattle.rules.specs.Frame.{readOne};
 ghost use Rattle.reader.specs.Answers.{ReadsInto};
-ghost use Rattle.pages.specs.Pages.{Stands, Lists, Ends, Opens, Stops, OpensInput, stepsLeft};
+ghost use Rattle.pages.specs.Pages.{Stands, Lists, Ends, ListsFrame, Opens, Stops, OpensInput, stepsLeft};
 use reader::Report;
 use rules::Ending;
 
@@ -58,6 +58,34 @@ fn read_at(stream: &[u8], at: usize, law: u32, room: &mut [u8; 320]) -> Report
     walk::step(stream, law, 127, at, room, 0)
 }
 
+// A frame that was read: its line, and where the listing stands after it.
+fn list_frame(r: Report, s: Stand, out: &mut [u8], to: usize) -> Page
+    requires { ⌜ (s .frames < 65536) × (s .at + r .octets < 65536) × (s .samples + r .len < 2 ^ 32) × (to + 320 ≤ length (now out)) ⌝ }
+    ensures { λ p. ⌜ ListsFrame s r (now (out .entry)) to p (now (out .exit)) ⌝ }
+{
+    let at = s.at;
+    let next = at + r.octets;
+    let end = lines::frame_line(
+        s.frames,
+        at,
+        r.len,
+        r.tool as usize,
+        r.octets,
+        r.bits,
+        out,
+        to,
+    );
+    Page {
+        stand: Stand {
+            frames: s.frames + 1,
+            at: next,
+            samples: s.samples + r.len,
+            ended: false,
+        },
+        to: end,
+    }
+}
+
 // The line of the frame at the place, or, at the stream's end and where the frame is refused, the last two lines.
 fn step(stream: &[u8], law: u32, s: Stand, room: &mut [u8; 320], out: &mut [u8], to: usize) -> Page
     requires { ⌜ (Stands (now stream) s) × (s .ended ≡ false) × (to + 320 ≤ length (now out)) ⌝ }
@@ -78,28 +106,7 @@ fn step(stream: &[u8], law: u32, s: Stand, room: &mut [u8; 320], out: &mut [u8],
             out,
             to,
         ),
-        Ending::Done => {
-            let next = at + r.octets;
-            let end = lines::frame_line(
-                s.frames,
-                at,
-                r.len,
-                r.tool as usize,
-                r.octets,
-                r.bits,
-                out,
-                to,
-            );
-            Page {
-                stand: Stand {
-                    frames: s.frames + 1,
-                    at: next,
-                    samples: s.samples + r.len,
-                    ended: false,
-                },
-                to: end,
-            }
-        }
+        Ending::Done => list_frame(r, s, out, to),
     }
 }
 

@@ -9,3 +9,5 @@ pub mod Accepted
 pub mod Named
 pub mod Kept
 pub mod Laid
+pub mod Room
+pub mod Lent

@@ -113,23 +113,18 @@ fn parts(
         let end = p.end;
         frames += p.frames;
         samples += u.good;
+        let total = Total {
+            end,
+            at: p.at,
+            frames,
+            samples,
+            wrong: u.wrong,
+        };
         if u.wrong != NOTHING {
-            return Total {
-                end,
-                at: p.at,
-                frames,
-                samples,
-                wrong: u.wrong,
-            };
+            return total;
         }
         if !p.more {
-            return Total {
-                end,
-                at: p.at,
-                frames,
-                samples,
-                wrong: NOTHING,
-            };
+            return total;
         }
         at = p.at;
     }

@@ -4,42 +4,22 @@ use mathlib.Core.Path.{_≡_, refl, sym, ap, subst, _∙_}
 use mathlib.Core.List.{List, [], _∷_, _++_, append-assoc, append-nil}
 use mathlib.Core.Bool.{Bool, true, false, false≢true}
 use native.Mathlib.Omega.{arith}
-use lib.ListN.{length, take, drop, length-append, length-drop, take-append-drop, drop-of-length-le}
-use lib.Seq.{take-at, drop-at, drop-drop, take-all}
+use lib.ListN.{length, drop, length-append, length-drop}
 use borrow.Author.Tests.{le-leb, lt-leb, lt-ltb, le-ltb}
 use Rattle.rules.specs.declared.Refusal.{Refusal}
 use Rattle.rules.specs.declared.Ending.{Ending}
 use Rattle.rules.specs.declared.Ending.the-variants.{Done, Refused}
-use Rattle.reader.specs.declared.Report.{Report}
-use Rattle.rules.specs.Reading.{Read, whole, refuse}
+use Rattle.rules.specs.Reading.{whole, refuse}
 use Rattle.rules.specs.Frame.{Found, octetsUsed, readOne}
 use Rattle.rules.specs.Walk.{Delivered, samplesKept}
-use Rattle.rules.specs.Calls.{atStart}
+use Rattle.rules.proofs.Room.{read-room}
+use Rattle.rules.proofs.Lent.{Lent, lent-start, lent-length, lent-at-start, lent-same, lent-more}
+use Rattle.reader.specs.declared.Report.{Report}
 use Rattle.reader.specs.Answers.{ReadsInto}
-use Rattle.rules.proofs.Accepted.{read-accepts, read-uses}
-use Rattle.lines.proofs.Room.{read-room}
+use Rattle.walk.specs.Stepping.{Steps}
 use Rattle.walk.proofs.Kept.{samplesKept-more}
-use Rattle.unpacking.specs.declared.Part.{Part}
-use Rattle.unpacking.specs.Parts.{Parted, halted, withFrame, partFrom, Parts, Goes, ReadsAt}
-
--- a frame read into the output from `to` on, whole
-from-on : (l : List ℕ) (at : ℕ) → take (length l - at) (drop at l) ≡ drop at l
-from-on l at = take-all (length l - at) (drop at l) (omega (arith, length-drop at l))
-
-pub read-made : (octets : List ℕ) (law set at to : ℕ) (out last : List ℕ) {r : Report} → to + 320 ≤ length out
-    → ReadsInto (readOne (take (length octets - at) (drop at octets)) law set (length (take (length out - to) (drop to out)))) r
-    (take (length out - to) (drop to out)) last
-    → ReadsAt (readOne (drop at octets) law set 320) r to out (take to out ++ (last ++ drop (length out - to) (drop to out)))
-read-made octets law set at to out last {r} h t =
-    let t′ = rw (from-on octets at, from-on out to, length-drop to out, read-room (drop at octets) law set (length out - to) (omega arith)) at t in
-    record {
-      rest = last;
-      end = t′ .tells .end;
-      octets = t′ .tells .octets;
-      len = t′ .tells .len;
-      after = t′ .lent;
-      lent = rw (drop-of-length-le (drop to out) {i = length out - to} (omega (arith, length-drop to out)), append-nil last);
-    }
+use Rattle.walk.proofs.Told.{accepted, refused, read-bounds}
+use Rattle.unpacking.specs.Parts.{Parted, halted, withFrame, partFrom, Parts, Goes}
 
 -- frames, and then the rest of a part
 abbrev pub after : List Delivered → Parted → Parted
@@ -48,6 +28,19 @@ after done p = record { frames = done ++ p .frames; end = p .end; place = p .pla
 after-with : (done : List Delivered) (f : Delivered) (p : Parted) → after done (withFrame f p) ≡ after (done ++ (f ∷ [])) p
 after-with done f p =
     ap (λ (l : List Delivered). record { frames = l; end = p .end; place = p .place; more = p .more }) (sym (append-assoc done (f ∷ []) (p .frames)))
+
+-- a frame, and then the rest; or a frame that is refused, and no rest
+module _ (octets : List ℕ) (law set more n at room : ℕ) (e : more ≡ suc n) (h : at < length octets) (l : 320 ≤ room) where
+  part-next : (next left : ℕ) (f : Found) {j : ℕ} → readOne (drop at octets) law set 320 ≡ whole f j
+      → next ≡ at + octetsUsed f → left ≡ room - length (f .samples)
+      → partFrom more octets law set at room ≡ withFrame (record { place = at; found = f }) (partFrom n octets law set next left)
+  unfolding partFrom
+  part-next next left f q u r = rw (e, lt-leb (length octets) at h, le-ltb room 320 l, q, u, r)
+
+  part-off : (bit : ℕ) (why : Refusal) → readOne (drop at octets) law set 320 ≡ refuse why bit
+      → partFrom more octets law set at room ≡ halted (Refused why) at false
+  unfolding partFrom
+  part-off bit why q = rw (e, lt-leb (length octets) at h, le-ltb room 320 l, q)
 
 module _ (octets : List ℕ) (law set from : ℕ) (out₀ : List ℕ) where
   abbrev pub parted : Parted
@@ -59,9 +52,7 @@ module _ (octets : List ℕ) (law set from : ℕ) (out₀ : List ℕ) where
     pub is-whole : parted ≡ after done (partFrom more octets law set at (length out₀ - to))
     pub enough : length octets < at + more
     pub frames : count ≡ length done
-    pub samples-kept : to ≡ length (samplesKept done)
-    pub lent : out ≡ samplesKept done ++ drop to out₀
-    pub room : to ≤ length out₀
+    pub kept : Lent out₀ (samplesKept done) out to
     pub few : from + count ≤ at
     pub held : to ≤ 320 * count
     pub inside : count ≤ length octets
@@ -75,9 +66,7 @@ module _ (octets : List ℕ) (law set from : ℕ) (out₀ : List ℕ) where
         is-whole = let e : length out₀ - 0 ≡ length out₀ = omega arith in rw e;
         enough = omega arith;
         frames = refl;
-        samples-kept = refl;
-        lent = refl;
-        room = omega arith;
+        kept = lent-start out₀;
         few = omega arith;
         held = omega arith;
         inside = omega arith;
@@ -92,23 +81,12 @@ module _ (octets : List ℕ) (law set from : ℕ) (out₀ : List ℕ) where
         end = refl;
         at = refl;
         frames = rw append-nil (w .frames);
-        samples = rw append-nil (w .samples-kept);
+        samples = rw append-nil (w .kept .size);
         more = refl;
-        lent = rw (append-nil, ← (w .samples-kept)) (w .lent);
+        lent = rw append-nil (lent-at-start (w .kept));
       })
 
   module _ {out : List ℕ} {at to count : ℕ} (w : Parting out at to count) where
-    pub kept-length : length out ≡ length out₀
-    kept-length =
-        ap length (w .lent) ∙ length-append (samplesKept (w .done)) (drop to out₀)
-        ∙ omega (arith, w .samples-kept, length-drop to out₀, w .room)
-
-    kept-take : take to out ≡ samplesKept (w .done)
-    kept-take = ap (take to) (w .lent) ∙ take-at (samplesKept (w .done)) (drop to out₀) to (sym (w .samples-kept))
-
-    kept-drop : drop to out ≡ drop to out₀
-    kept-drop = ap (drop to) (w .lent) ∙ drop-at (samplesKept (w .done)) (drop to out₀) to (sym (w .samples-kept))
-
     -- the end of the stream
     pub part-done : length octets ≤ at → Parts parted (record { end = Done; at = at; frames = count; samples = to; more = false }) out₀ out
     unfolding partFrom
@@ -120,7 +98,7 @@ module _ (octets : List ℕ) (law set from : ℕ) (out₀ : List ℕ) where
 
     -- what ends a part ends its frames
     pub goes-ended : (e : Ending) → Goes octets from out₀ (record { end = e; at = at; frames = count; samples = to; more = false })
-    goes-ended e = record { fits = w .room; held = w .held; few = w .inside; passed = λ m. absurd (false≢true m); nearer = λ h m. absurd (false≢true m); inside = λ m. absurd (false≢true m) }
+    goes-ended e = record { fits = w .kept .room; held = w .held; few = w .inside; passed = λ m. absurd (false≢true m); nearer = λ h m. absurd (false≢true m); inside = λ m. absurd (false≢true m) }
 
     module _ (h : at < length octets) where
       more-is : w .more ≡ suc (w .more - 1)
@@ -132,75 +110,44 @@ module _ (octets : List ℕ) (law set from : ℕ) (out₀ : List ℕ) where
       part-full l = part-stop w Done true (rw (more-is, lt-leb (length octets) at h, lt-ltb (length out₀ - to) 320 l))
 
       pub goes-on : length out₀ - to < 320 → Goes octets from out₀ (record { end = Done; at = at; frames = count; samples = to; more = true })
-      goes-on l = record { fits = w .room; held = w .held; few = w .inside; passed = λ m. w .few; nearer = λ k m. omega (arith, w .few, w .held); inside = λ m. omega arith }
+      goes-on l = record { fits = w .kept .room; held = w .held; few = w .inside; passed = λ m. w .few; nearer = λ k m. omega (arith, w .few, w .held); inside = λ m. omega arith }
 
-      module _ (l : 320 ≤ length out₀ - to) where
+      -- a step, as its answer says
+      module _ (l : 320 ≤ length out₀ - to) {out′ : List ℕ} {r : Report} (s : Steps octets law set at to out out′ r) where
+        read-here : ReadsInto (readOne (drop at octets) law set 320) r (drop to out) (s .rest)
+        read-here = rw (lent-length (w .kept), read-room (drop at octets) law set (length out₀ - to) l) at (s .reads)
+
         -- a frame that is refused
-        refused-by : {out′ rest : List ℕ} (why : Refusal) (bit : ℕ) → readOne (drop at octets) law set 320 ≡ refuse why bit
-            → rest ≡ drop to out → out′ ≡ take to out ++ rest
+        pub part-refused : (why : Refusal) → r .end ≡ Refused why
             → Parts parted (record { end = Refused why; at = at; frames = count; samples = to; more = false }) out₀ out′
-        unfolding partFrom
-        refused-by {out′} {rest} why bit q f z =
-            let same : out′ ≡ out = z ∙ ap (λ (x : List ℕ). take to out ++ x) f ∙ take-append-drop to out in
-            subst (λ (x : List ℕ). Parts parted (record { end = Refused why; at = at; frames = count; samples = to; more = false }) out₀ x) (sym same)
-            (part-stop w (Refused why) false (rw (more-is, lt-leb (length octets) at h, le-ltb (length out₀ - to) 320 l, q)))
+        part-refused why e =
+            let a = refused read-here e in
+            subst (λ (x : List ℕ). Parts parted (record { end = Refused why; at = at; frames = count; samples = to; more = false }) out₀ x)
+            (sym (lent-same (w .kept) (s .lent) (a .tells .lent)))
+            (part-stop w (Refused why) false (part-off octets law set (w .more) (w .more - 1) at (length out₀ - to) more-is h l (a .bit) why (a .is)))
 
         -- a frame that is accepted
-        part-next : (n next left : ℕ) (f : Found) {j : ℕ} → w .more ≡ suc n → readOne (drop at octets) law set 320 ≡ whole f j
-            → next ≡ at + octetsUsed f → left ≡ length out₀ - to - length (f .samples)
-            → partFrom (w .more) octets law set at (length out₀ - to) ≡ withFrame (record { place = at; found = f }) (partFrom n octets law set next left)
-        unfolding partFrom
-        part-next n next left f e q u r = rw (e, lt-leb (length octets) at h, le-ltb (length out₀ - to) 320 l, q, u, r)
-
-        taken : {out′ rest : List ℕ} (f : Found) (j used len : ℕ) → readOne (drop at octets) law set 320 ≡ whole f j
-            → used ≡ octetsUsed f → len ≡ length (f .samples)
-            → rest ≡ atStart (f .samples) (drop to out) → out′ ≡ take to out ++ rest
-            → Parting out′ (at + used) (to + len) (count + 1) × (1 ≤ used) × (at + used ≤ length octets)
-        taken {out′} {rest} f j used len q eu el er z =
+        pub part-turn : r .end ≡ Done
+            → Parting out′ (at + r .octets) (to + r .len) (count + 1) × (1 ≤ r .octets) × (at + r .octets ≤ length octets)
+        part-turn e =
+            let a = accepted read-here e in
+            let t = a .tells .tells in
+            let b = read-bounds (drop at octets) law set 320 read-here e in
+            let d : Delivered = record { place = at; found = a .frame } in
             let n = w .more - 1 in
-            let d : Delivered = record { place = at; found = f } in
-            let uses = read-uses (drop at octets) law set 320 q in
             let left = length-drop at octets in
-            let fits = read-accepts (drop at octets) law set 320 q .fits in
-            let next = part-next n (at + used) (length out₀ - (to + len)) f more-is q (omega arith) (omega arith) in (
+            let next = part-next octets law set (w .more) n at (length out₀ - to) more-is h l (at + r .octets) (length out₀ - (to + r .len)) (a .frame) (a .is) (omega (arith, t .octets)) (omega (arith, t .len)) in (
               record {
                 done = w .done ++ (d ∷ []);
                 more = n;
                 is-whole = w .is-whole ∙ ap (after (w .done)) next ∙ after-with (w .done) d _;
-                enough = omega (arith, w .enough, more-is, uses .0);
+                enough = omega (arith, w .enough, more-is, b .some);
                 frames = omega (arith, w .frames, length-append (w .done) (d ∷ []));
-                samples-kept = omega (arith, w .samples-kept, ap length (samplesKept-more (w .done) d) ∙ length-append (samplesKept (w .done)) (f .samples));
-                lent =
-                    z ∙ ap (λ (x : List ℕ). take to out ++ x) er
-                    ∙ rw (kept-take, kept-drop, drop-drop, samplesKept-more, append-assoc, el);
-                room = omega (arith, w .room, fits);
-                few = omega (arith, w .few, uses .0);
-                held = omega (arith, w .held, fits);
-                inside = omega (arith, w .few, uses .0, uses .1);
+                kept = rw samplesKept-more (lent-more (w .kept) (s .lent) (a .frame .samples) (t .len) (omega (arith, b .fits, l)) (a .tells .lent));
+                few = omega (arith, w .few, b .some);
+                held = omega (arith, w .held, b .fits);
+                inside = omega (arith, w .few, b .some, b .inside);
               },
-              omega (arith, uses .0),
-              omega (arith, uses .1),
+              b .some,
+              omega (arith, b .inside),
             )
-
-        -- as the answer of the reading says
-        module _ {out′ : List ℕ} {r : Report} (s : ReadsAt (readOne (drop at octets) law set 320) r to out out′) where
-          pub part-turn : r .end ≡ Done
-              → Parting out′ (at + r .octets) (to + r .len) (count + 1) × (1 ≤ r .octets) × (at + r .octets ≤ length octets)
-          part-turn e = go (readOne (drop at octets) law set 320) refl s
-            where
-              go : (m : Read Found) → readOne (drop at octets) law set 320 ≡ m → ReadsAt m r to out out′
-                  → Parting out′ (at + r .octets) (to + r .len) (count + 1) × (1 ≤ r .octets) × (at + r .octets ≤ length octets)
-              go (whole f j) q t = taken f j (r .octets) (r .len) q (t .octets) (t .len) (t .after) (t .lent)
-              go (refuse v k) q t = let d = t .end in let z : _≡_ {A = ℕ} 0 1 = cc in absurd (omega arith)
-
-          pub part-refused : (why : Refusal) → r .end ≡ Refused why
-              → Parts parted (record { end = Refused why; at = at; frames = count; samples = to; more = false }) out₀ out′
-          part-refused why e = go (readOne (drop at octets) law set 320) refl s
-            where
-              go : (m : Read Found) → readOne (drop at octets) law set 320 ≡ m → ReadsAt m r to out out′
-                  → Parts parted (record { end = Refused why; at = at; frames = count; samples = to; more = false }) out₀ out′
-              go (whole f j) q t = let d = t .end in let z : _≡_ {A = ℕ} 0 1 = cc in absurd (omega arith)
-              go (refuse v k) q t =
-                  let d = t .end in
-                  let same : v ≡ why = cc in
-                  refused-by why k (q ∙ ap (λ (x : Refusal). refuse x k) same) (t .after) (t .lent)

@@ -1,7 +1,7 @@
 -- The parts, one after another until there is no more, are the whole walk and nothing else.
 use Prim.Native.Nat.{ℕ, zero, suc, _+_, _*_, _-_, _≤_, _<_}
 use mathlib.Core.Path.{_≡_, refl, sym, ap, subst, _∙_}
-use mathlib.Core.List.{List, [], _∷_, _++_}
+use mathlib.Core.List.{List, _∷_, _++_}
 use mathlib.Core.Bool.{Bool, true, false, cond, false≢true}
 use native.Mathlib.Omega.{arith}
 use lib.Dec.{leb, ltb}
@@ -15,7 +15,7 @@ use Rattle.rules.specs.Reading.{Read, whole, refuse}
 use Rattle.rules.specs.Frame.{Found, octetsUsed, readOne}
 use Rattle.rules.specs.Walk.{Delivered, Walked, stopped, before, onward, walkFrom, walkAll, samplesKept, longest}
 use Rattle.rules.proofs.Accepted.{read-accepts, read-uses}
-use Rattle.lines.proofs.Room.{read-room}
+use Rattle.rules.proofs.Room.{read-room}
 use Rattle.walk.proofs.Kept.{after}
 use Rattle.rules.proofs.Kept.{samplesKept-append}
 use Rattle.unpacking.specs.declared.Part.{Part}

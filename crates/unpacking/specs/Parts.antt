@@ -1,20 +1,19 @@
 -- A stream unpacked in parts (document 01, "Walk and listing"): the frames from a place on, as long as the room left holds any frame.
 use Prim.Native.Nat.{ℕ, zero, suc, _+_, _*_, _-_, _≤_, _<_}
 use mathlib.Core.Path.{_≡_}
-use mathlib.Core.List.{List, [], _∷_, _++_}
+use mathlib.Core.List.{List, [], _∷_}
 use mathlib.Core.Bool.{Bool, true, false, cond, not}
-use lib.ListN.{length, take, drop}
+use lib.ListN.{length, drop}
 use lib.Dec.{leb, ltb}
 use Rattle.rules.specs.declared.Refusal.{Refusal}
 use Rattle.rules.specs.declared.Refusal.the-variants.{Set, Law, Long}
 use Rattle.rules.specs.declared.Ending.{Ending}
 use Rattle.rules.specs.declared.Ending.the-variants.{Done, Refused}
-use Rattle.reader.specs.declared.Report.{Report}
 use Rattle.rules.specs.Tools.{isSet, isLaw}
 use Rattle.rules.specs.Reading.{Read, whole, refuse}
 use Rattle.rules.specs.Frame.{Found, octetsUsed, readOne}
 use Rattle.rules.specs.Walk.{Delivered, longest, samplesKept}
-use Rattle.rules.specs.Calls.{readEnd, readSamples, readOctets, atStart}
+use Rattle.rules.specs.Calls.{atStart}
 use Rattle.unpacking.specs.declared.Part.{Part}
 
 -- a part: its frames, how it ended, the place where it ended, and whether there is more
@@ -75,15 +74,6 @@ pub record Goes (octets : List ℕ) (at : ℕ) (out : List ℕ) (r : Part) : Typ
   pub passed : r .more ≡ true → at + r .frames ≤ r .at
   pub nearer : 320 ≤ length out → r .more ≡ true → at < r .at
   pub inside : r .more ≡ true → r .at ≤ length octets
-
--- one frame read into the output from `to` on
-pub record ReadsAt (found : Read Found) (r : Report) (to : ℕ) (out out′ : List ℕ) : Type 0 where
-  pub rest : List ℕ
-  pub end : r .end ≡ readEnd found
-  pub octets : r .octets ≡ readOctets found
-  pub len : r .len ≡ length (readSamples found)
-  pub after : rest ≡ atStart (readSamples found) (drop to out)
-  pub lent : out′ ≡ take to out ++ rest
 
 pub record StopsAtOnce (why : Refusal) (r : Part) : Type 0 where
   pub end : r .end ≡ Refused why

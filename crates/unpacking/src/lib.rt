@@ -1,11 +1,9 @@
 // A stream back to sound, part by part, and the comparison of two sounds.
 ghost use mathlib.Core.Path.{_≡_};
-ghost use Prim.Native.Nat.{suc, _+_, _≤_};
-ghost use lib.ListN.{length, drop};
-ghost use Rattle.rules.specs.Frame.{readOne};
-ghost use Rattle.unpacking.specs.Parts.{ReadsAt, Parts, partFrom, NextPart, Goes, StopsAtOnce};
+ghost use Prim.Native.Nat.{suc, _≤_};
+ghost use lib.ListN.{length};
+ghost use Rattle.unpacking.specs.Parts.{Parts, partFrom, NextPart, Goes, StopsAtOnce};
 ghost use Rattle.unpacking.specs.Agreeing.{agreeing};
-use reader::Report;
 use rules::Ending;
 use rules::Refusal;
 
@@ -18,15 +16,20 @@ pub struct Part {
     pub more: bool,
 }
 
-// One frame, at a place of the stream; its samples go to the output from `to` on. 320 of room are enough for any.
-fn read_at(stream: &[u8], law: u32, set: u32, at: usize, out: &mut [u8], to: usize) -> Report
-    requires { ⌜ (at ≤ length (now stream)) × (to + 320 ≤ length (now out)) ⌝ }
-    ensures { λ r. ⌜ ReadsAt (readOne (drop at (now (stream .entry))) law set 320) r to (now (out .entry)) (now (out .exit)) ⌝ }
+// What is unpacked so far, as a part.
+fn so_far(end: Ending, at: usize, frames: usize, samples: usize, more: bool) -> Part
+    ensures { λ r. ⌜ r ≡ record { end = end; at = at; frames = frames; samples = samples; more = more } ⌝ }
 {
-    reader::read_into(&stream[at..], law, set, &mut out[to..])
+    Part {
+        end,
+        at,
+        frames,
+        samples,
+        more,
+    }
 }
 
-// Frame after frame from a place on, as long as the room left holds any frame.
+// Frame after frame from a place on, as long as the room left holds any frame: 320 are enough for any.
 fn frames_from(stream: &[u8], law: u32, set: u32, from: usize, out: &mut [u8]) -> Part
     requires { ⌜ length (now stream) ≤ 65535 ⌝ }
     ensures { λ r. ⌜ Parts (partFrom (suc (length (now (stream .entry)))) (now (stream .entry)) law set from (length (now (out .entry)))) r (now (out .entry)) (now (out .exit)) ⌝ }
@@ -37,34 +40,16 @@ fn frames_from(stream: &[u8], law: u32, set: u32, from: usize, out: &mut [u8]) -
     let mut frames = 0;
     loop {
         if stream.len() <= at {
-            return Part {
-                end: Ending::Done,
-                at,
-                frames,
-                samples: to,
-                more: false,
-            };
+            return so_far(Ending::Done, at, frames, to, false);
         }
         if out.len() - to < 320 {
-            return Part {
-                end: Ending::Done,
-                at,
-                frames,
-                samples: to,
-                more: true,
-            };
+            return so_far(Ending::Done, at, frames, to, true);
         }
-        let r = read_at(stream, law, set, at, out, to);
+        let r = walk::step(stream, law, set, at, out, to);
         let e = r.end;
         match e {
             Ending::Refused(why) => {
-                return Part {
-                    end: Ending::Refused(why),
-                    at,
-                    frames,
-                    samples: to,
-                    more: false,
-                };
+                return so_far(Ending::Refused(why), at, frames, to, false);
             }
             Ending::Done => {
                 at += r.octets;

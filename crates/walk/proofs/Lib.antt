@@ -1,4 +1,5 @@
 pub mod Part
 pub mod Kept
+pub mod Told
 pub mod Walking
 pub mod Ordered

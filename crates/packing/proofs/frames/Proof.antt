@@ -5,9 +5,10 @@ use native.Mathlib.Omega.{arith}
 use lib.ListN.{length}
 use Rattle.rules.specs.declared.Refusal.{Refusal}
 use Rattle.rules.specs.declared.Ending.the-variants.{Done, Refused}
+use Rattle.rules.proofs.Lent.{lent-length}
 use Rattle.packing.specs.Packing.{Packs}
 use Rattle.packing.proofs.Lengths.{Fits, next-fits}
-use Rattle.packing.proofs.Way.{packed, Packing, pack-start, kept-length, pack-done, pack-turn, pack-refused}
+use Rattle.packing.proofs.Way.{packed, Packing, pack-start, pack-done, pack-turn, pack-refused}
 use Rattle.packing.proofs.frames.Statement.{statement}
 use Rattle.packing.proofs.frames.Tie as tie
 
@@ -29,11 +30,11 @@ module _ (c : tie.Else1 Inv-frames μ-frames) where
 module _ (c : tie.After-put-frame Inv-frames μ-frames) where
   turned : c .put-frame .result .end ≡ Done
       → Packing (c .before .before .before .before .before .before .before .args .sound .now) (c .before .before .before .before .before .before .before .args .law) (c .before .before .before .before .before .before .before .args .set) (c .before .before .before .before .before .before .before .args .n) (c .before .before .before .before .before .before .before .args .out .now) (c .put-frame .last .1 .1 .1 .1 .1 .0) (c .before .before .before .before .frames .from + c .before .before .before .next-length .result) (c .before .before .before .before .frames .at + c .put-frame .result .octets) (c .before .before .before .before .frames .count + 1)
-  turned e = pack-turn (c .before .before .before .before .before .before .before .args .sound .now) (c .before .before .before .before .before .before .before .args .law) (c .before .before .before .before .before .before .before .args .set) (c .before .before .before .before .before .before .before .args .n) (c .before .before .before .before .before .before .before .args .out .now) (c .before .before .before .before .frames .inv) (c .before .before .before .before .before .before .before .pre .0) (c .before .before .before .before .before .before .before .pre .1) (c .before .before .before .next-length .ensures) (some (c .before .before)) refl (c .put-frame .ensures) e
+  turned e = pack-turn _ _ _ _ _ (c .before .before .before .before .frames .inv) (c .before .before .before .before .before .before .before .pre .0) (c .before .before .before .before .before .before .before .pre .1) (c .before .before .before .next-length .ensures) (some (c .before .before)) refl (c .put-frame .ensures) e
 
   refused : (why : Refusal) → c .put-frame .result .end ≡ Refused why
       → Packs (c .before .before .before .before .before .before .before .args .law) (c .before .before .before .before .before .before .before .args .set) (packed (c .before .before .before .before .before .before .before .args .sound .now) (c .before .before .before .before .before .before .before .args .law) (c .before .before .before .before .before .before .before .args .set) (c .before .before .before .before .before .before .before .args .n) (c .before .before .before .before .before .before .before .args .out .now)) (record { end = Refused why; frames = c .before .before .before .before .frames .count; samples = c .before .before .before .before .frames .from; octets = c .before .before .before .before .frames .at }) (c .before .before .before .before .before .before .before .args .out .now) (c .put-frame .last .1 .1 .1 .1 .1 .0)
-  refused why e = pack-refused (c .before .before .before .before .before .before .before .args .sound .now) (c .before .before .before .before .before .before .before .args .law) (c .before .before .before .before .before .before .before .args .set) (c .before .before .before .before .before .before .before .args .n) (c .before .before .before .before .before .before .before .args .out .now) (c .before .before .before .before .frames .inv) (c .before .before .before .before .before .before .before .pre .0) (c .before .before .before .before .before .before .before .pre .1) (c .before .before .before .next-length .ensures) (some (c .before .before)) refl (c .put-frame .ensures) why e
+  refused why e = pack-refused _ _ _ _ _ (c .before .before .before .before .frames .inv) (c .before .before .before .before .before .before .before .pre .0) (c .before .before .before .before .before .before .before .pre .1) (c .before .before .before .next-length .ensures) (some (c .before .before)) refl (c .put-frame .ensures) why e
 
 frames-holds : tie.Need-frames-holds Inv-frames μ-frames
 frames-holds c = pack-start (c .before .before .args .sound .now) (c .before .before .args .law) (c .before .before .args .set) (c .before .before .args .n) (c .before .before .args .out .now)
@@ -54,7 +55,7 @@ put-frame-requires : tie.Need-put-frame-requires Inv-frames μ-frames
 put-frame-requires c κs =
     let f = fits (c .before) in
     let w = c .before .before .before .frames .inv in
-    (omega arith, omega (arith, f .within, w .inside), omega (arith, w .room, kept-length (c .before .before .before .before .before .before .args .sound .now) (c .before .before .before .before .before .before .args .law) (c .before .before .before .before .before .before .args .set) (c .before .before .before .before .before .before .args .n) (c .before .before .before .before .before .before .args .out .now) w))
+    (omega arith, omega (arith, f .within, w .inside), omega (arith, w .kept .room, lent-length (w .kept)))
 
 enum-known-e : tie.Need-enum-known-e Inv-frames μ-frames
 enum-known-e c = search needs
@@ -75,13 +76,13 @@ frames-again : tie.Need-frames-again Inv-frames μ-frames
 frames-again c = turned (c .before .before .before .before .before) (c .before .enum-told .given .1)
 
 same-length : tie.Need-same-length Inv-frames μ-frames
-same-length c = kept-length (c .before .before .before .before .before .before .args .sound .now) (c .before .before .before .before .before .before .args .law) (c .before .before .before .before .before .before .args .set) (c .before .before .before .before .before .before .args .n) (c .before .before .before .before .before .before .args .out .now) (c .before .before .before .frames .inv)
+same-length c = lent-length (c .before .before .before .frames .inv .kept)
 
 returns : tie.Need-returns Inv-frames μ-frames
-returns c = pack-done (c .before .before .before .before .before .before .args .sound .now) (c .before .before .before .before .before .before .args .law) (c .before .before .before .before .before .before .args .set) (c .before .before .before .before .before .before .args .n) (c .before .before .before .before .before .before .args .out .now) (c .before .before .before .frames .inv) (sym (c .before .before .next-length .ensures) ∙ c .before .if1 .taken) (c .last-end .ensures)
+returns c = pack-done _ _ _ _ _ (c .before .before .before .frames .inv) (sym (c .before .before .next-length .ensures) ∙ c .before .if1 .taken) (c .last-end .ensures)
 
 same-length-2 : tie.Need-same-length-2 Inv-frames μ-frames
-same-length-2 c = c .before .before .before .before .before .put-frame .kept .1 .1 .1 .1 .1 .0 ∙ kept-length (c .before .before .before .before .before .before .before .before .before .before .before .before .args .sound .now) (c .before .before .before .before .before .before .before .before .before .before .before .before .args .law) (c .before .before .before .before .before .before .before .before .before .before .before .before .args .set) (c .before .before .before .before .before .before .before .before .before .before .before .before .args .n) (c .before .before .before .before .before .before .before .before .before .before .before .before .args .out .now) (c .before .before .before .before .before .before .before .before .before .frames .inv)
+same-length-2 c = c .before .before .before .before .before .put-frame .kept .1 .1 .1 .1 .1 .0 ∙ lent-length (c .before .before .before .before .before .before .before .before .before .frames .inv .kept)
 
 returns-2 : tie.Need-returns-2 Inv-frames μ-frames
 returns-2 c = refused (c .before .before .before .before .before) (c .before .e .given .0 .0) (c .before .e .given .1)

@@ -1,16 +1,26 @@
 use borrow.Author.Needs.{needs}
-use Prim.Native.Nat.{_-_}
+use Prim.Native.Nat.{ℕ, _-_}
 use native.Mathlib.Omega.{arith}
-use lib.ListN.{length}
+use mathlib.Core.List.{List}
+use lib.ListN.{length, take, drop}
+use Rattle.packing.specs.declared.PackAnswer.{PackAnswer}
+use Rattle.packing.specs.Packing.{Pack}
 use Rattle.packing.proofs.Part.{length-part, stays-refused, part-packed}
 use Rattle.packing.proofs.Whole.{Inside, pack-inside}
 use Rattle.packing.proofs.pack_on.Statement.{statement}
 use Rattle.packing.proofs.pack_on.Tie as tie
 
 -- the part's packing keeps within the part and the room
+part-inside : (part : List ℕ) (law set n : ℕ) (out : List ℕ) (at : ℕ) {rest : List ℕ} {r : PackAnswer}
+    → Pack part law set n (take (length out - at) (drop at out)) rest r → Inside (length part) (length out - at) r
+part-inside part law set n out at t = rw (length-part out at) at (pack-inside part law set n _ _ _ t)
+
 module _ (c : tie.After-pack) where
-  inside : Inside (length (c .before .before .before .before .before .before .args .part .now)) (length (c .before .before .before .before .before .before .args .out .now) - c .before .before .before .before .before .before .args .done .octets) (c .pack .result)
-  inside = rw (length-part (c .before .before .before .before .before .before .args .out .now) (c .before .before .before .before .before .before .args .done .octets)) at (pack-inside (c .before .before .before .before .before .before .args .part .now) (c .before .before .before .before .before .before .args .law) (c .before .before .before .before .before .before .args .set) (c .before .before .before .before .before .before .args .n) _ _ _ (c .pack .ensures))
+  abbrev start : tie.Start
+  start = c .before .before .before .before .before .before
+
+  inside : Inside (length (start .args .part .now)) (length (start .args .out .now) - start .args .done .octets) (c .pack .result)
+  inside = part-inside (start .args .part .now) (start .args .law) (start .args .set) (start .args .n) (start .args .out .now) (start .args .done .octets) (c .pack .ensures)
 
 enum-told : tie.Need-enum-told
 enum-told c = search needs

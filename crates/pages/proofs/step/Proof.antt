@@ -1,18 +1,12 @@
 -- The stream's end, a refused frame, or a frame's line (Steps).
 use borrow.Author.Needs.{needs}
 use native.Mathlib.Omega.{arith}
-use mathlib.Core.Path.{refl, _∙_}
-use lib.ListN.{drop, length-drop}
-use Rattle.pages.proofs.Steps.{left-end, left-read, read-refused, Bounds, read-bounds, step-last, step-frame}
+use mathlib.Core.Path.{_∙_}
+use lib.ListN.{length-drop}
+use Rattle.walk.proofs.Told.{read-bounds}
+use Rattle.pages.proofs.Steps.{left-end, left-read, read-refused, step-last, step-frame}
 use Rattle.pages.proofs.step.Statement.{statement}
 use Rattle.pages.proofs.step.Tie as tie
-
-abbrev start : tie.After-enum-told → tie.Start
-start d = d .before .before .before .before .before .before .before
-
--- an accepted frame
-bounds : (d : tie.After-enum-told) → Bounds (drop (start d .args .s .at) (start d .args .stream .now)) 320 (d .before .before .read-at .result)
-bounds d = read-bounds _ _ _ _ (d .before .before .read-at .ensures) (d .enum-told .given .1)
 
 last-requires : tie.Need-last-requires
 last-requires c κs = search needs
@@ -46,20 +40,13 @@ last-requires-2 c κs = search needs
 enum-told : tie.Need-enum-told
 enum-told c = search needs
 
-add-next : tie.Need-add-next
-add-next c = let b = bounds (c .before) in omega (arith, length-drop (c .before .before .before .before .before .before .before .before .args .s .at) (c .before .before .before .before .before .before .before .before .args .stream .now))
-
-cast-frame-line : tie.Need-cast-frame-line
-cast-frame-line c = search needs
-
-frame-line-requires : tie.Need-frame-line-requires
-frame-line-requires c κs = search needs
-
-add-t24 : tie.Need-add-t24
-add-t24 c = search needs
-
-add-t27 : tie.Need-add-t27
-add-t27 c = let b = bounds (c .before .before .before .before .before .before .before .before .before) in let a = c .before .before .before .before .before .before .before .before .before .before .before .before .before .before .before .before .pre .0 in omega (arith, b .fits, a .samples, a .frames, a .inside, a .short)
+list-frame-requires : tie.Need-list-frame-requires
+list-frame-requires c κs =
+    let a = c .before .before .before .before .before .before .before .before in
+    let b = read-bounds _ _ _ _ (c .before .before .before .read-at .ensures) (c .before .enum-told .given .1) in
+    let p = a .pre .0 in
+    let n = length-drop (a .args .s .at) (a .args .stream .now) in
+    (omega (arith, p .frames, p .inside, p .short), omega (arith, b .inside, p .short), omega (arith, b .fits, p .samples, p .frames, p .inside, p .short), a .pre .2)
 
 same-length-2 : tie.Need-same-length-2
 same-length-2 c = search needs
@@ -69,18 +56,15 @@ returns-2 c =
     let a = c .before .before .before .before .before .before .before .before .before .before .before .before .before .before in
     let r = c .before .before .before .before .before .before .before .before .before .read-at .ensures in
     step-last _ _ (c .before .before .last2 .ensures) (a .pre .0) (a .pre .1) (a .pre .2)
-    (rw (c .before .before .before .before .before .refusal-number .ensures) (left-read _ _ _ (a .pre .0) (a .pre .1) (omega arith) ∙ read-refused _ _ _ _ r (c .before .before .before .before .before .before .before .end .given .1)))
+    (rw (c .before .before .before .before .before .refusal-number .ensures) (left-read _ _ _ (a .pre .0) (a .pre .1) (omega arith) ∙ read-refused r _ _ _ _ (c .before .before .before .before .before .before .before .end .given .1)))
 
 same-length-3 : tie.Need-same-length-3
 same-length-3 c = search needs
 
 returns-3 : tie.Need-returns-3
 returns-3 c =
-    let a = c .before .before .before .before .before .before .before .before .before .before .before .before .before .before .before .before in
-    let r = c .before .before .before .before .before .before .before .before .before .before .before .read-at .ensures in
-    let line = c .before .before .before .before .before .frame-line .ensures in
-    step-frame _ _ (a .pre .0) (a .pre .1) (c .before .before .before .before .before .before .before .before .before .before .before .before .before .if1 .left) r (c .before .before .before .before .before .before .before .before .before .enum-told .given .1)
-    (record { frames = refl; at = refl; samples = refl; goes = refl }) (line .0) (omega arith)
+    let a = c .before .before .before .before .before .before .before .before .before .before .before in
+    step-frame _ _ (c .before .before .list-frame .ensures) (a .pre .0) (a .pre .1) (a .pre .2) (c .before .before .before .before .before .before .before .before .if1 .left) (c .before .before .before .before .before .before .read-at .ensures) (c .before .before .before .before .enum-told .given .1)
 
 pub step-spec : {M : Type 1} → statement M
 step-spec =
@@ -96,11 +80,7 @@ step-spec =
     cast-last-2
     last-requires-2
     enum-told
-    add-next
-    cast-frame-line
-    frame-line-requires
-    add-t24
-    add-t27
+    list-frame-requires
     same-length-2
     returns-2
     same-length-3

@@ -5,7 +5,7 @@ use Rattle.unpacking.specs.Agreeing.{agreeing}
 use lib.ListN.{length, drop}
 use Prim.Native.Nat.{_+_, _≤_, _-_}
 use native.Mathlib.Omega.{arith}
-use mathlib.Core.Path.{_≡_, refl, sym, ap, _∙_}
+use mathlib.Core.Path.{_≡_, sym, _∙_}
 use Rattle.unpacking.proofs.agree.Statement.{statement}
 use Rattle.unpacking.proofs.agree.Tie as tie
 

@@ -2,7 +2,6 @@ use borrow.Author.Needs.{needs}
 use Rattle.unpacking.proofs.Guarded.{stops, no-law, no-set, too-long, the-frames, parts-as}
 use lib.ListN.{length}
 use native.Mathlib.Omega.{arith}
-use mathlib.Core.Path.{_≡_, refl, sym, ap, _∙_}
 use Rattle.unpacking.proofs.next_part.Statement.{statement}
 use Rattle.unpacking.proofs.next_part.Tie as tie
 
