@@ -464,28 +464,22 @@ fn mark(
     let first = t.first;
     let second = t.second;
     let third = t.third;
+    let mut r = t;
     if s == x {
-        return Tracks {
-            first: close(a, first, i),
-            second: skip(second),
-            third: skip(third),
-        };
+        r.first = close(a, first, i);
+        r.second = skip(second);
+        r.third = skip(third);
+        return r;
     }
     if s == y {
-        return Tracks {
-            first: first,
-            second: close(b, second, i),
-            third: skip(third),
-        };
+        r.second = close(b, second, i);
+        r.third = skip(third);
+        return r;
     }
     if s == z {
-        return Tracks {
-            first: first,
-            second: second,
-            third: close(c, third, i),
-        };
+        r.third = close(c, third, i);
     }
-    t
+    r
 }
 
 // The places of a word's 40 samples, of which only those that are not the common value are looked at.
