@@ -390,6 +390,12 @@ struct Track {
     start: usize,
 }
 
+fn no_runs() -> Track
+    ensures { λ r. ⌜ (r .count ≡ 0) × (r .start ≡ 0) ⌝ }
+{
+    Track { count: 0, start: 0 }
+}
+
 // A 1 at a place ends the run that is open.
 fn close(runs: &mut [u16; 321], t: Track, place: usize) -> Track
     requires { ⌜ (length (now runs) ≡ 321) × ((t .count ≤ t .start) × ((t .start ≤ place) × (place < 320))) ⌝ }
@@ -444,7 +450,7 @@ pub fn runs_in(row: &[u64; 8], k: usize, runs: &mut [u16; 321]) -> usize
     requires { ⌜ ((i : ℕ) → getD (now row) i 0 < 2 ^ 40) ⌝ }
     ensures { λ r. ⌜ RunsAre (rowBits (take k (now (row .entry)))) r (now (runs .exit)) ⌝ }
 {
-    let mut t = Track { count: 0, start: 0 };
+    let mut t = no_runs();
     let mut i = 0;
     while i < k {
         t = word_runs(row, i, t, runs);
@@ -465,9 +471,10 @@ fn skip(t: Track) -> Track
     requires { ⌜ t .start < 320 ⌝ }
     ensures { λ r. ⌜ (r .count ≡ t .count) × (r .start ≡ t .start + 1) ⌝ }
 {
+    let start = t.start + 1;
     Track {
         count: t.count,
-        start: t.start + 1,
+        start: start,
     }
 }
 
@@ -491,28 +498,22 @@ fn mark(
     let first = t.first;
     let second = t.second;
     let third = t.third;
+    let mut r = t;
     if s == x {
-        return Tracks {
-            first: close(a, first, i),
-            second: skip(second),
-            third: skip(third),
-        };
+        r.first = close(a, first, i);
+        r.second = skip(second);
+        r.third = skip(third);
+        return r;
     }
     if s == y {
-        return Tracks {
-            first: first,
-            second: close(b, second, i),
-            third: skip(third),
-        };
+        r.second = close(b, second, i);
+        r.third = skip(third);
+        return r;
     }
     if s == z {
-        return Tracks {
-            first: first,
-            second: second,
-            third: close(c, third, i),
-        };
+        r.third = close(c, third, i);
     }
-    t
+    r
 }
 
 // The places of a word's 40 samples, of which only those that are not the common value are looked at.
@@ -540,12 +541,6 @@ fn word_found(
         w = w - (1 << top);
     }
     found
-}
-
-fn no_runs() -> Track
-    ensures { λ r. ⌜ (r .count ≡ 0) × (r .start ≡ 0) ⌝ }
-{
-    Track { count: 0, start: 0 }
 }
 
 // The runs of three values in one pass, each value among the places that those before it left. A value that is given again has none of its
