@@ -17,7 +17,7 @@ use Rattle.choice.specs.declared.Values.{Values}
 use Rattle.choice.specs.declared.Ways.{Ways}
 use Rattle.choice.specs.Ways.{InTurn, WaysAre}
 use Rattle.choice.specs.Offers.{samplesOf, valuesIn, RiceFor}
-use Rattle.choice.specs.Plans.{measured, BetterIs, ChosenIs, ZerosFor, PlacedFor}
+use Rattle.choice.specs.Plans.{measured, BetterIs, ChosenIs, ZerosFor, placedBy, PlacedFor}
 use Rattle.choice.proofs.Near.{never, and-zero, zeros-unplaced}
 use Rattle.choice.proofs.TwoZeros.{rice-applies, zeros-apply}
 use Rattle.choice.proofs.Choosing.{choose-step, choose-past, chosen-offered, uncompressed-chosen, binary-bits}
@@ -40,7 +40,7 @@ rice-form mask s = refl
 
 located-bits : (mask : ℕ) (s : List ℕ) {a b c : List ℕ} {v : Values} {w : Ways} → 1 ≤ v .count → v .count ≤ 3
     → samplesOf v ≡ valuesIn mask s → WaysAre s v w a b c
-    → 11 + w .first .bits + w .second .bits + w .third .bits ≡ length (formOf mask 7 s)
+    → 11 + (w .first .bits + w .second .bits + w .third .bits) ≡ length (formOf mask 7 s)
 unfolding formOf locatedForm
 located-bits mask s {w = w} some few says ways =
     let e = ways-sum some few ways in
@@ -105,16 +105,16 @@ module _ {mask set : ℕ} {s : List ℕ} (zeros : twoZeros mask s ≡ false) whe
         kind = λ x. absurd (x t);
       }
 
-  pub placed-for : {n row flag : ℕ} {a b c : List ℕ} {v : Values} {w : Ways} {one best : Choice} → length s ≡ n → n ≤ 320 → holds set 7 ≡ true → applies mask 7 s ≡ true
-      → row ≡ rowOf mask s → row < 4 → flag ≡ locatedFlag mask s → flag < 2 → (plus : ℕ) → InTurn plus s v → samplesOf v ≡ valuesIn mask s → WaysAre s v w a b c
-      → one ≡ record { tool = 1; bits = 8 + 8 * n } → BetterIs one 7 true (11 + w .first .bits + w .second .bits + w .third .bits) best
-      → PlacedFor mask set s (record { tool = best .tool; bits = best .bits; row = row; flag = flag; count = v .count; first = w .first; second = w .second; third = w .third }) a b c
-  placed-for {v = v} {w = w} size few held on r low f mark plus turn says ways e better =
+  pub placed-for : {n row flag : ℕ} {a b c : List ℕ} {v : Values} {w : Ways} {one best : Choice} {r : Placed} {k : ℕ} → length s ≡ n → n ≤ 320 → holds set 7 ≡ true
+      → applies mask 7 s ≡ true → row ≡ rowOf mask s → row < 4 → flag ≡ locatedFlag mask s → flag < 2 → (plus : ℕ) → InTurn plus s v → samplesOf v ≡ valuesIn mask s
+      → WaysAre s v w a b c → one ≡ record { tool = 1; bits = 8 + 8 * n } → k ≡ 11 + (w .first .bits + w .second .bits + w .third .bits) → BetterIs one 7 true k best
+      → r ≡ placedBy best row flag (v .count) w → PlacedFor mask set s r a b c
+  placed-for {v = v} {w = w} {k = k} size few held on q low f mark plus turn says ways e sum better told =
       let offered : true ≡ (holds set 7 && applies mask 7 s) = rw (held, on) in
-      let first′ = choose-step (uncompressed-is mask set s size few e) 7 true (11 + w .first .bits + w .second .bits + w .third .bits) offered
-      (λ h. located-bits mask s (turn .some) (turn .few) says ways) better in
+      let first′ = choose-step (uncompressed-is mask set s size few e) 7 true k offered (λ h. sum ∙ located-bits mask s (turn .some) (turn .few) says ways) better in
       let done = no-zeros first′ in
-      record {
+      rw told
+      (record {
         tool = done .tool;
         bits = done .bits;
         small = done .small;
@@ -123,7 +123,7 @@ module _ {mask set : ℕ} {s : List ℕ} (zeros : twoZeros mask s ≡ false) whe
               x = v .first .sample;
               y = v .second .sample;
               z = v .third .sample;
-              row = r;
+              row = q;
               low = low;
               flag = f;
               mark = mark;
@@ -135,4 +135,4 @@ module _ {mask set : ℕ} {s : List ℕ} (zeros : twoZeros mask s ≡ false) whe
               third = ways .third;
             };
         kind = one-or-seven first′;
-      }
+      })

@@ -13,6 +13,7 @@ use Rattle.measure.specs.Measures.{near}
 use Rattle.choice.specs.declared.Choice.{Choice}
 use Rattle.choice.specs.declared.Zeros.{Zeros}
 use Rattle.choice.specs.declared.Placed.{Placed}
+use Rattle.choice.specs.declared.Ways.{Ways}
 use Rattle.choice.specs.Offers.{RiceIs, PlacedIs}
 
 -- whether a tool is taken
@@ -56,6 +57,11 @@ pub record ZerosFor (mask set : ℕ) (s : List ℕ) (r : Zeros) (runs : List ℕ
   pub small : r .bits ≤ 1000000000
   pub rice : choose mask set s measured ≡ 6 → RiceIs mask s r runs
   pub kind : (r .tool ≡ 1 → ⊥) → (r .tool ≡ 6 → ⊥) → r .tool ≡ 5
+
+-- a choice, with what value-location writes
+abbrev pub placedBy : Choice → ℕ → ℕ → ℕ → Ways → Placed
+placedBy best row flag count w =
+    record { tool = best .tool; bits = best .bits; row = row; flag = flag; count = count; first = w .first; second = w .second; third = w .third }
 
 -- what is written of a frame that has a 1 or a -2
 pub record PlacedFor (mask set : ℕ) (s : List ℕ) (r : Placed) (a b c : List ℕ) : Type 0 where

@@ -22,7 +22,7 @@ ghost use Rattle.rules.specs.Chooses.{leastOf, greatestOf};
 ghost use Rattle.measure.specs.Measures.{near, twoZeros, SpreadIs};
 ghost use Rattle.choice.specs.Ways.{WayFor, WayIn, InTurn, WaysAre};
 ghost use Rattle.choice.specs.Offers.{leastBy, greatestBy, rowBy, Tallied, valuesBy, valuesFor, CodesAre, StartIs, RiceFor};
-ghost use Rattle.choice.specs.Plans.{BetterIs, isMask, valueTool, Plain, ZerosFor, PlacedFor};
+ghost use Rattle.choice.specs.Plans.{BetterIs, isMask, valueTool, Plain, ZerosFor, placedBy, PlacedFor};
 
 // How a value is written: its method, all its bits with the method's three, its D places, how often it occurs, and how many runs it has.
 pub struct Way {
@@ -33,6 +33,7 @@ pub struct Way {
     pub runs: usize,
 }
 
+// A way, by its parts.
 fn way_by(method: u8, bits: usize, d: usize, count: usize, runs: usize) -> Way
     ensures { λ r. ⌜ r ≡ record { method = method; bits = bits; d = d; count = count; runs = runs } ⌝ }
 {
@@ -54,7 +55,7 @@ fn narrow(x: usize) -> u8
 
 // "101 if it doesn't occur; 000 if L exceeds D; else 111 if it occurs at most 4 times and L exceeds count times
 // ceil(log2 D) plus 2; else runs". The runs are those of the value's D flags.
-pub fn way_of(runs: &[u16; 321], found: usize, d: usize, count: usize) -> Way
+fn way_of(runs: &[u16; 321], found: usize, d: usize, count: usize) -> Way
     requires { ⌜ (found ≤ 321) × ((found ≤ length (now runs)) × (d ≤ 320)) ⌝ }
     ensures { λ r. ⌜ WayFor (now (runs .entry)) found d count r ⌝ }
 {
@@ -210,7 +211,7 @@ pub struct Value {
     pub times: usize,
 }
 
-// Values in their order: the first `count`. One that the row lacks is the first once more, and occurs no more.
+// Values in their order: the first `count`. One that the row lacks is the first once more, and does not occur.
 pub struct Values {
     pub first: Value,
     pub second: Value,
@@ -218,6 +219,7 @@ pub struct Values {
     pub count: usize,
 }
 
+// Three values, two, or only one.
 fn three(x: Value, y: Value, z: Value) -> Values
     ensures { λ r. ⌜ r ≡ record { first = x; second = y; third = z; count = 3 } ⌝ }
 {
@@ -229,6 +231,7 @@ fn three(x: Value, y: Value, z: Value) -> Values
     }
 }
 
+// A value where the row lacks one: it is there, and does not occur.
 fn again(x: Value) -> Value
     ensures { λ r. ⌜ r ≡ record { sample = x .sample; times = 0 } ⌝ }
 {
@@ -284,6 +287,7 @@ fn ordered(row: usize, flag: usize, one: Value, minus: Value, twos: Value) -> Va
     three(minus, one, twos)
 }
 
+// The same of the values that were counted.
 fn values_of(mask: u8, t: Tally, row: usize, flag: usize) -> Values
     requires { ⌜ mask < 128 ⌝ }
     ensures { λ r. ⌜ r ≡ valuesFor mask t row flag ⌝ }
@@ -439,6 +443,7 @@ pub struct Choice {
     pub bits: usize,
 }
 
+// Uncompressed: "N octets", and the first one.
 fn uncompressed_of(n: usize) -> Choice
     requires { ⌜ n ≤ 320 ⌝ }
     ensures { λ r. ⌜ r ≡ record { tool = 1; bits = 8 + 8 * n } ⌝ }
@@ -526,9 +531,10 @@ pub fn zeros_plan(samples: &[u8], n: usize, mask: u8, set: u32, runs: &mut [u16;
     ensures { λ r. ⌜ ZerosFor mask set (take n (now (samples .entry))) r (now (runs .exit)) ⌝ }
 {
     let rice = rice_of(samples, n, mask, set, runs);
+    let binary_bits = 8 + n;
     let uncompressed = uncompressed_of(n);
     let six = better(uncompressed, 6, holds(set, 6), rice.bits);
-    let five = better(six, 5, holds(set, 5), 8 + n);
+    let five = better(six, 5, holds(set, 5), binary_bits);
     Zeros {
         tool: five.tool,
         bits: five.bits,
@@ -551,6 +557,7 @@ pub struct Placed {
     pub third: Way,
 }
 
+// Uncompressed, with nothing measured.
 fn not_placed(n: usize) -> Placed
     requires { ⌜ n ≤ 320 ⌝ }
     ensures { λ r. ⌜ (r .tool ≡ 1) × (r .bits ≡ 8 + 8 * n) ⌝ }
@@ -565,6 +572,36 @@ fn not_placed(n: usize) -> Placed
         first: none,
         second: none,
         third: none,
+    }
+}
+
+// The bits of value-location: the first octet, "range case (2 bits), flag (1 bit), then the values".
+fn located_bits(w: Ways) -> usize
+    requires { ⌜ w .first .bits + w .second .bits + w .third .bits ≤ 600000000 ⌝ }
+    ensures { λ r. ⌜ r ≡ 11 + (w .first .bits + w .second .bits + w .third .bits) ⌝ }
+{
+    let first = w.first;
+    let second = w.second;
+    let third = w.third;
+    11 + (first.bits + second.bits + third.bits)
+}
+
+// The choice, with what value-location writes.
+fn placed_by(best: Choice, row: usize, flag: usize, count: usize, w: Ways) -> Placed
+    ensures { λ r. ⌜ r ≡ placedBy best row flag count w ⌝ }
+{
+    let first = w.first;
+    let second = w.second;
+    let third = w.third;
+    Placed {
+        tool: best.tool,
+        bits: best.bits,
+        row: row,
+        flag: flag,
+        count: count,
+        first: first,
+        second: second,
+        third: third,
     }
 }
 
@@ -596,24 +633,7 @@ pub fn values_plan(
     let flag = flag_of(t.one, t.minus + t.twos);
     let v = values_of(mask, t, row, flag);
     let w = ways_of(samples, n, plus_zero(mask), v, a, b, c);
-    let first = w.first;
-    let second = w.second;
-    let third = w.third;
     let uncompressed = uncompressed_of(n);
-    let seven = better(
-        uncompressed,
-        7,
-        true,
-        11 + first.bits + second.bits + third.bits,
-    );
-    Placed {
-        tool: seven.tool,
-        bits: seven.bits,
-        row: row,
-        flag: flag,
-        count: v.count,
-        first: first,
-        second: second,
-        third: third,
-    }
+    let seven = better(uncompressed, 7, true, located_bits(w));
+    placed_by(seven, row, flag, v.count, w)
 }

@@ -1,4 +1,3 @@
-pub mod Marking
 pub mod Finding
 pub mod Weighing
 pub mod Looking

@@ -16,6 +16,8 @@ use Rattle.rules.specs.Bits.{lowBits}
 use Rattle.pen.specs.Puts.{Gathers}
 use Rattle.pen.specs.Rows.{rowBits, RowIs}
 use Rattle.pen.proofs.Words.{lowBits-split, lowBits-join}
+use Rattle.pen.proofs.Rice.{zero-bits}
+use Rattle.pen.proofs.Rows.{row-append}
 use Rattle.rules.specs.Runs.{runsOf}
 use Rattle.measure.specs.declared.Track.{Track}
 use Rattle.measure.specs.Measures.{marksOf, RunsAre}
@@ -52,12 +54,7 @@ word-again x s from j v b h g e small =
 pub word-fits : {l : List ℕ} (j v : ℕ) → j ≤ 40 → Gathers l j v → v < 2 ^ 40
 word-fits j v h g = lt-of-lt-of-le (g .fits) (pow-mono {j = 40} h)
 
--- rows put together, and a row with one word more
-pub rowBits-append : (a b : List ℕ) → rowBits (a ++ b) ≡ rowBits a ++ rowBits b
-unfolding rowBits
-rowBits-append [] b = refl
-rowBits-append (w ∷ a) b = rw (rowBits-append a b) (sym (append-assoc (lowBits 40 w) (rowBits a) (rowBits b)))
-
+-- a row with one word more
 small-set : (row : List ℕ) (i w : ℕ) → i < length row → w < 2 ^ 40 → ((j : ℕ) → getD row j 0 < 2 ^ 40) → (j : ℕ) → Dec (j ≡ i)
     → getD (set row i w) j 0 < 2 ^ 40
 small-set row i w h small all j (yes e) = rw (e, getD-set-same row i w 0 h) small
@@ -68,7 +65,7 @@ unfolding rowBits
 row-one flags more row i w t h g =
     let inr : i < length row = omega (arith, t .size) in
     record {
-      says = rw (add-one, take-suc-set row i w inr, rowBits-append, t .says, append-nil, g .says);
+      says = rw (add-one, take-suc-set row i w inr, row-append, t .says, append-nil, g .says);
       small = λ j. small-set row i w inr (g .fits) (t .small) j (ℕ-discrete j i);
       size = length-set row i w ∙ t .size;
     }
@@ -96,11 +93,6 @@ row-again x s row k i w few h t g =
 pub top-below : (m j w : ℕ) → 2 ^ j ≤ w → w < 2 ^ m → j < m
 top-below m j w lo hi = lt-of-not-le (λ (h : m ≤ j). let p : 2 ^ m ≤ 2 ^ j = pow-mono h in absurd (omega arith))
 
-pub lowBits-none : (n : ℕ) → lowBits n 0 ≡ replicate n 0
-unfolding lowBits
-lowBits-none zero = refl
-lowBits-none (suc n) = let z : 0 / 2 ^ n ≡ 0 = div-eq-of-lt (pow-pos n) in rw (z, lowBits-none n)
-
 pub top-flags : (m j w : ℕ) → 2 ^ j ≤ w → w < 2 ^ (j + 1) → w < 2 ^ m → lowBits m w ≡ replicate (m - (j + 1)) 0 ++ (1 ∷ lowBits j (w - 2 ^ j))
 unfolding lowBits
 top-flags m j w lo hi fits =
@@ -112,7 +104,7 @@ top-flags m j w lo hi fits =
     let d : w ≡ 1 * 2 ^ j + (w - 2 ^ j) = omega arith in
     let f : 1 + j ≡ j + 1 = omega arith in
     let one : lowBits (j + 1) w ≡ 1 ∷ lowBits j (w - 2 ^ j) = ap (lowBits (j + 1)) d ∙ (rw f at (lowBits-join 1 j 1 (w - 2 ^ j) less)) in
-    ap (λ (n : ℕ). lowBits n w) e ∙ lowBits-split (m - (j + 1)) (j + 1) w ∙ rw (up, lowBits-none, one)
+    ap (λ (n : ℕ). lowBits n w) e ∙ lowBits-split (m - (j + 1)) (j + 1) w ∙ rw (up, zero-bits, one)
 
 pub top-left : (j w : ℕ) → 2 ^ j ≤ w → w < 2 ^ (j + 1) → w - 2 ^ j < 2 ^ j
 top-left j w lo hi = let two : 2 ^ (j + 1) ≡ 2 ^ j * 2 = rw add-one (pow-suc 2 j) in omega arith
@@ -229,7 +221,7 @@ in-first row runs t i h small k =
     record {
       done = rowBits (take i row);
       left = 40;
-      says = rw (add-one, take-suc row i 0 h, rowBits-append, append-nil);
+      says = rw (add-one, take-suc row i 0 h, row-append, append-nil);
       track = rw e k;
       fits = small;
       within = omega arith;
@@ -256,7 +248,7 @@ module _ {flags runs : List ℕ} {t : Track} {w end : ℕ} (n : InWord flags run
   pub in-last : 40 ≤ end → w ≡ 0 → TrackIs flags runs t end
   in-last low e =
       let to : end - n .left + n .left ≡ end = omega (arith, n .within) in
-      let all : n .done ++ replicate (n .left) 0 ≡ flags = rw (← (lowBits-none (n .left)), ← e) (n .says) in
+      let all : n .done ++ replicate (n .left) 0 ≡ flags = rw (← (zero-bits (n .left)), ← e) (n .says) in
       rw (to, all) at (track-zeros (n .track) (n .left))
 
   -- where the highest 1 is

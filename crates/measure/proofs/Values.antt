@@ -12,13 +12,14 @@ use borrow.Author.Tests.{eq-eqb, ne-eqb}
 use Rattle.rules.specs.Bits.{lowBits}
 use Rattle.rules.specs.Chooses.{flagsFor, without}
 use Rattle.pen.specs.Puts.{Gathers}
+use Rattle.pen.proofs.Rice.{zero-bits}
 use Rattle.measure.specs.declared.Track.{Track}
 use Rattle.measure.specs.declared.Tracks.{Tracks}
 use Rattle.measure.specs.declared.Found.{Found}
 use Rattle.measure.specs.Measures.{marksOf, RunsAre, FoundIs}
 use Rattle.measure.specs.Tracks.{TrackIs, Closes, Ends, TracksAre, Apart}
 use Rattle.measure.proofs.Leaving.{without-cons}
-use Rattle.measure.proofs.Rows.{lowBits-none, top-below, top-flags, top-left, track-none, track-zeros, track-one, track-skip, track-end}
+use Rattle.measure.proofs.Rows.{top-below, top-flags, top-left, track-none, track-zeros, track-one, track-skip, track-end}
 
 -- samples put together
 without-append : (x : ℕ) (l m : List ℕ) → without x (l ++ m) ≡ without x l ++ without x m
@@ -188,7 +189,7 @@ module _ {plus x y z w end : ℕ} {s a b c : List ℕ} {t : Tracks} (apart : Apa
       let to : end - n .left + n .left ≡ end = omega (arith, n .within) in
       let l = take (n .left) (drop (end - n .left) s) in
       let none : marksOf plus 0 1 l ≡ replicate (n .left) 0 ++ [] =
-      sym (n .says) ∙ ap (lowBits (n .left)) e ∙ lowBits-none (n .left) ∙ sym (append-nil _) in
+      sym (n .says) ∙ ap (lowBits (n .left)) e ∙ zero-bits (n .left) ∙ sym (append-nil _) in
       let all = marks-zeros plus (n .left) l [] none .0 in
       rw to at (stretched (n .left) (sym (take-take (n .left) (n .left) _ (omega arith)) ∙ all))
 

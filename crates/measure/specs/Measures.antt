@@ -1,25 +1,16 @@
--- Flags as an array, their runs as an array, what each S would need, and the least.
-use Prim.Native.Nat.{ℕ, _+_, _%_, _≤_, _<_}
+-- Runs as an array, what each S would need, and the least; and what a frame's samples are.
+use Prim.Native.Nat.{ℕ, _+_, _%_, _≤_}
 use mathlib.Core.Path.{_≡_}
 use mathlib.Core.List.{List, map}
 use mathlib.Core.Bool.{Bool, cond, _&&_, _||_}
 use lib.ListN.{length, getD, take}
 use lib.Dec.{eqb, leb, ltb}
-use lib.IntN.{pos, negsuc}
 use Rattle.rules.specs.Runs.{runsOf, riceForms}
-use Rattle.rules.specs.Samples.{sampleOf, plusZero, minusZero}
-use Rattle.rules.specs.Chooses.{countOf, every, leastS, leastOf, greatestOf, above, below, flagsFor, without}
+use Rattle.rules.specs.Samples.{plusZero, minusZero}
+use Rattle.rules.specs.Chooses.{countOf, every, leastS, leastOf, greatestOf, flagsFor, without}
 use Rattle.measure.specs.declared.Least.{Least}
-use Rattle.measure.specs.declared.Look.{Look}
-use Rattle.measure.specs.declared.Counts.{Counts}
 use Rattle.measure.specs.declared.Spread.{Spread}
 use Rattle.measure.specs.declared.Found.{Found}
-
--- an array of flags whose first n are these; the rest are flags too
-pub record Flagged (flags : List ℕ) (n : ℕ) (r : List ℕ) : Type 0 where
-  pub says : take n r ≡ flags
-  pub size : length r ≡ 320
-  pub bits : (i : ℕ) → getD r i 0 < 2
 
 -- each element that is x as one number, each other as another
 abbrev pub marksOf : ℕ → ℕ → ℕ → List ℕ → List ℕ
@@ -45,30 +36,6 @@ pub record LeastIs (f : ℕ → ℕ) (most : ℕ) (r : Least) : Type 0 where
 -- how many are this one
 abbrev pub countIs : ℕ → List ℕ → ℕ
 countIs y s = countOf (λ x. eqb x y) s
-
-pub record Looked (mask first : ℕ) (s : List ℕ) (r : Look) : Type 0 where
-  pub least : r .least ≡ leastOf mask s
-  pub greatest : r .greatest ≡ greatestOf mask s
-  pub mixed : eqb (r .mixed) 0 ≡ every (λ x. eqb x first) s
-
-pub record Counted (mask : ℕ) (s : List ℕ) (r : Counts) : Type 0 where
-  pub plus : r .plus ≡ countIs (plusZero mask) s
-  pub minus : r .minus ≡ countIs (minusZero mask) s
-  pub one : r .one ≡ countIs (sampleOf mask (pos 1)) s
-  pub twos : r .twos ≡ countIs (sampleOf mask (negsuc 1)) s
-  pub above : r .above ≡ above mask s
-  pub below : r .below ≡ below mask s
-
--- n samples at the start of an array
-pub record CopyIs (s : List ℕ) (n : ℕ) (r : List ℕ) : Type 0 where
-  pub says : take n r ≡ s
-  pub size : length r ≡ 320
-
--- these samples at the start of an array, at most d of them
-pub record LeftIs (s : List ℕ) (d kept : ℕ) (r : List ℕ) : Type 0 where
-  pub says : take kept r ≡ s
-  pub size : length r ≡ 320
-  pub few : kept ≤ d
 
 -- all samples from -2 to 1, by their least and greatest on the line
 abbrev pub near : ℕ → ℕ → Bool

@@ -1,43 +1,21 @@
 // What a frame is, looked at once, and what its runs need with each S.
 
-use law::line_of;
-use law::minus_zero;
-use law::plus_zero;
-use law::sample_of;
 ghost use mathlib.Core.Path.{_≡_};
 ghost use mathlib.Core.Bool.{cond};
-ghost use Prim.Native.Nat.{ℕ, _+_, _*_, _^_, _/_, _≤_, _<_, min, max};
+ghost use Prim.Native.Nat.{ℕ, _+_, _*_, _^_, _/_, _≤_, _<_};
 ghost use lib.ListN.{length, getD, take, drop};
 ghost use lib.Dec.{eqb, ltb};
 ghost use Rattle.rules.specs.Runs.{riceForms};
 ghost use Rattle.rules.specs.Located.{widthOf};
-ghost use Rattle.rules.specs.Chooses.{without};
 ghost use Rattle.pen.specs.Puts.{Gathers};
 ghost use Rattle.pen.specs.Rows.{rowBits, RowIs};
-ghost use Rattle.measure.specs.Measures.{Flagged, marksOf, RunsAre, bitsWith, LeastIs, Looked, Counted, CopyIs, LeftIs, SpreadIs, FoundIs, countIs};
+ghost use Rattle.measure.specs.Measures.{marksOf, RunsAre, bitsWith, LeastIs, SpreadIs, FoundIs, countIs};
 ghost use Rattle.measure.specs.Tracks.{TrackIs, Closes, Ends, TracksAre, Apart};
 
 // An S, and the bits that it needs.
 pub struct Least {
     pub s: usize,
     pub bits: usize,
-}
-
-// The first look at a frame: the least and the greatest as places on the line of signed numbers; and 0 where all samples are equal.
-pub struct Look {
-    pub least: u8,
-    pub greatest: u8,
-    pub mixed: u8,
-}
-
-// How many samples are plus zero, minus zero (which is -1), 1, -2, above 0, and below 0.
-pub struct Counts {
-    pub plus: u16,
-    pub minus: u16,
-    pub one: u16,
-    pub twos: u16,
-    pub above: u16,
-    pub below: u16,
 }
 
 // What the samples of a frame have in common, each with the law's mask taken off: the bits that any sets, and those that all set.
@@ -53,68 +31,12 @@ pub struct Found {
     pub third: usize,
 }
 
-fn pick(y: u8, x: u8, hit: u8, miss: u8) -> u8
-    ensures { λ r. ⌜ r ≡ cond (eqb y x) hit miss ⌝ }
-{
-    if y == x { hit } else { miss }
-}
-
-// A flag for each of n samples: one flag where it is x, the other where not.
-pub fn marks(samples: &[u8], n: usize, x: u8, hit: u8, miss: u8) -> [u8; 320]
-    requires { ⌜ (n ≤ 320) × (n ≤ length (now samples)) ⌝ }
-    requires { ⌜ (hit < 2) × (miss < 2) ⌝ }
-    ensures { λ r. ⌜ Flagged (marksOf x hit miss (take n (now (samples .entry)))) n r ⌝ }
-{
-    let mut flags = [0u8; 320];
-    let mut i = 0;
-    while i < n {
-        flags[i] = pick(samples[i], x, hit, miss);
-        i += 1;
-    }
-    flags
-}
-
-fn wide(x: u8) -> u16
-    ensures { λ r. ⌜ r ≡ x ⌝ }
-{
-    x as u16
-}
-
-// The open run after a place: one of the other kind ends it.
-fn run_after(f: u8, v: u16) -> u16
-    requires { ⌜ v < 65535 ⌝ }
-    ensures { λ r. ⌜ r ≡ cond (eqb f 0) (v + 1) 0 ⌝ }
-{
-    if f == 0 { v + 1 } else { 0 }
-}
-
-// A run more where x is not 0: a flag of the other kind, or, "No run follows a run whose closing sample is the last place",
-// what is open at the end.
+// A run more where what is open at the end is not empty: "No run follows a run whose closing sample is the last place."
 fn count_after(x: u16, count: usize) -> usize
     requires { ⌜ count < 65535 ⌝ }
     ensures { λ r. ⌜ r ≡ cond (eqb x 0) count (count + 1) ⌝ }
 {
     if x == 0 { count } else { count + 1 }
-}
-
-// The runs of n samples, found once and left in the lent array: one flag where a sample is x, the other where not.
-// Their number comes back. Each run is stored before it is known to have ended, so that no turn branches.
-pub fn runs_of(samples: &[u8], n: usize, x: u8, hit: u8, miss: u8, runs: &mut [u16; 321]) -> usize
-    requires { ⌜ (n ≤ 320) × ((n ≤ length (now samples)) × (length (now runs) ≡ 321)) ⌝ }
-    ensures { λ r. ⌜ RunsAre (marksOf x hit miss (take n (now (samples .entry)))) r (now (runs .exit)) ⌝ }
-{
-    let mut count = 0;
-    let mut v = 0;
-    let mut i = 0;
-    while i < n {
-        runs[count] = v;
-        let f = pick(samples[i], x, hit, miss);
-        count = count_after(wide(f), count);
-        v = run_after(f, v);
-        i += 1;
-    }
-    runs[count] = v;
-    count_after(v, count)
 }
 
 // The zeros of Rice(S, v).
@@ -192,31 +114,6 @@ fn same(x: u8, y: u8) -> u16
     if x == y { 1 } else { 0 }
 }
 
-fn less(x: u8, y: u8) -> u16
-    ensures { λ r. ⌜ (r ≡ cond (ltb x y) 1 0) × (r ≤ 1) ⌝ }
-{
-    if x < y { 1 } else { 0 }
-}
-
-fn lower(x: u8, y: u8) -> u8
-    ensures { λ r. ⌜ r ≡ min x y ⌝ }
-{
-    if x < y { x } else { y }
-}
-
-fn higher(x: u8, y: u8) -> u8
-    ensures { λ r. ⌜ r ≡ max x y ⌝ }
-{
-    if x < y { y } else { x }
-}
-
-// 0 where two samples are equal.
-fn differ(x: u8, y: u8) -> u8
-    ensures { λ r. ⌜ r ≡ cond (eqb x y) 0 1 ⌝ }
-{
-    if x == y { 0 } else { 1 }
-}
-
 // What a frame's samples have in common, looked at once. Of a sample with the mask taken off, the low seven bits are how far it is from its
 // zero, so those that any sets tell a frame of the two zeros and a frame from -2 to 1; and where no bit differs all samples are equal.
 // Octets, sixteen to a register, and three steps for each register.
@@ -249,104 +146,6 @@ pub fn count_of(samples: &[u8], n: usize, x: u8) -> usize
         i += 1;
     }
     count as usize
-}
-
-// The look at a frame's n samples. Least, greatest and "are all equal" are octets, sixteen to a register, and they settle a frame of one
-// value and a frame of speech. What is counted takes wider numbers: a pass of its own, which only frames from -2 to 1 need.
-pub fn look_at(samples: &[u8], n: usize, mask: u8) -> Look
-    requires { ⌜ (1 ≤ n) × (n ≤ length (now samples)) ⌝ }
-    ensures { λ r. ⌜ Looked mask (getD (now (samples .entry)) 0 0) (take n (now (samples .entry))) r ⌝ }
-{
-    let first = samples[0];
-    let mut l = Look {
-        least: 255,
-        greatest: 0,
-        mixed: 0,
-    };
-    let mut i = 0;
-    while i < n {
-        let x = samples[i];
-        let place = line_of(mask, x);
-        l = Look {
-            least: lower(l.least, place),
-            greatest: higher(l.greatest, place),
-            mixed: higher(l.mixed, differ(x, first)),
-        };
-        i += 1;
-    }
-    l
-}
-
-// What value-location and the two zeros are judged by.
-pub fn counts_of(samples: &[u8], n: usize, mask: u8) -> Counts
-    requires { ⌜ (n ≤ 320) × (n ≤ length (now samples)) ⌝ }
-    requires { ⌜ mask < 128 ⌝ }
-    ensures { λ r. ⌜ Counted mask (take n (now (samples .entry))) r ⌝ }
-{
-    let plus = plus_zero(mask);
-    let minus = minus_zero(mask);
-    let one = sample_of(mask, 1);
-    let twos = sample_of(mask, -2);
-    let mut l = Counts {
-        plus: 0,
-        minus: 0,
-        one: 0,
-        twos: 0,
-        above: 0,
-        below: 0,
-    };
-    let mut i = 0;
-    while i < n {
-        let x = samples[i];
-        let place = line_of(mask, x);
-        l = Counts {
-            plus: l.plus + same(x, plus),
-            minus: l.minus + same(x, minus),
-            one: l.one + same(x, one),
-            twos: l.twos + same(x, twos),
-            above: l.above + less(128, place),
-            below: l.below + less(place, 128),
-        };
-        i += 1;
-    }
-    l
-}
-
-// The first n samples, to be worked on.
-pub fn copy_of(samples: &[u8], n: usize) -> [u8; 320]
-    requires { ⌜ (n ≤ 320) × (n ≤ length (now samples)) ⌝ }
-    ensures { λ r. ⌜ CopyIs (take n (now (samples .entry))) n r ⌝ }
-{
-    let mut cells = [0u8; 320];
-    let mut i = 0;
-    while i < n {
-        cells[i] = samples[i];
-        i += 1;
-    }
-    cells
-}
-
-fn kept_after(y: u8, x: u8, kept: usize) -> usize
-    requires { ⌜ kept < 65535 ⌝ }
-    ensures { λ r. ⌜ r ≡ cond (eqb y x) kept (kept + 1) ⌝ }
-{
-    if y == x { kept } else { kept + 1 }
-}
-
-// What is left of d samples once x is taken out, in their place. Each is stored before it is known to stay, so that no turn branches.
-pub fn without_value(cells: &mut [u8; 320], d: usize, x: u8) -> usize
-    requires { ⌜ (d ≤ 320) × (length (now cells) ≡ 320) ⌝ }
-    ensures { λ r. ⌜ LeftIs (without x (take d (now (cells .entry)))) d r (now (cells .exit)) ⌝ }
-{
-    let mut kept = 0;
-    let mut i = 0;
-    while i < d {
-        let y = cells[i];
-        cells[kept] = y;
-        kept = kept_after(y, x, kept);
-        i += 1;
-    }
-    kept
 }
 
 // 1 where two samples differ.
@@ -388,6 +187,12 @@ pub fn others(samples: &[u8], k: usize, x: u8) -> [u64; 8]
 struct Track {
     count: usize,
     start: usize,
+}
+
+fn no_runs() -> Track
+    ensures { λ r. ⌜ (r .count ≡ 0) × (r .start ≡ 0) ⌝ }
+{
+    Track { count: 0, start: 0 }
 }
 
 // A 1 at a place ends the run that is open.
@@ -444,7 +249,7 @@ pub fn runs_in(row: &[u64; 8], k: usize, runs: &mut [u16; 321]) -> usize
     requires { ⌜ ((i : ℕ) → getD (now row) i 0 < 2 ^ 40) ⌝ }
     ensures { λ r. ⌜ RunsAre (rowBits (take k (now (row .entry)))) r (now (runs .exit)) ⌝ }
 {
-    let mut t = Track { count: 0, start: 0 };
+    let mut t = no_runs();
     let mut i = 0;
     while i < k {
         t = word_runs(row, i, t, runs);
@@ -465,9 +270,10 @@ fn skip(t: Track) -> Track
     requires { ⌜ t .start < 320 ⌝ }
     ensures { λ r. ⌜ (r .count ≡ t .count) × (r .start ≡ t .start + 1) ⌝ }
 {
+    let start = t.start + 1;
     Track {
         count: t.count,
-        start: t.start + 1,
+        start: start,
     }
 }
 
@@ -491,28 +297,22 @@ fn mark(
     let first = t.first;
     let second = t.second;
     let third = t.third;
+    let mut r = t;
     if s == x {
-        return Tracks {
-            first: close(a, first, i),
-            second: skip(second),
-            third: skip(third),
-        };
+        r.first = close(a, first, i);
+        r.second = skip(second);
+        r.third = skip(third);
+        return r;
     }
     if s == y {
-        return Tracks {
-            first: first,
-            second: close(b, second, i),
-            third: skip(third),
-        };
+        r.second = close(b, second, i);
+        r.third = skip(third);
+        return r;
     }
     if s == z {
-        return Tracks {
-            first: first,
-            second: second,
-            third: close(c, third, i),
-        };
+        r.third = close(c, third, i);
     }
-    t
+    r
 }
 
 // The places of a word's 40 samples, of which only those that are not the common value are looked at.
@@ -540,12 +340,6 @@ fn word_found(
         w = w - (1 << top);
     }
     found
-}
-
-fn no_runs() -> Track
-    ensures { λ r. ⌜ (r .count ≡ 0) × (r .start ≡ 0) ⌝ }
-{
-    Track { count: 0, start: 0 }
 }
 
 // The runs of three values in one pass, each value among the places that those before it left. A value that is given again has none of its

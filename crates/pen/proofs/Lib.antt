@@ -2,5 +2,4 @@ pub mod Words
 pub mod Putting
 pub mod Rice
 pub mod Rows
-pub mod Gathering
 pub mod Finishing

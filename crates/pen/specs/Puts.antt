@@ -29,12 +29,6 @@ pub record Stores (o : List ℕ) (at w : ℕ) (o′ : List ℕ) : Type 0 where
   pub says : bitsOf (take (at + 4) o′) ≡ bitsOf (take at o) ++ lowBits 32 w
   pub rest : drop (at + 4) o′ ≡ drop (at + 4) o
 
--- n flags, which are bits
-pub record Flags (flags : List ℕ) (n : ℕ) : Type 0 where
-  pub size : n ≤ length flags
-  pub most : n ≤ 320
-  pub bits : (i : ℕ) → getD flags i 0 < 2
-
 -- n flags as the bits of a number
 pub record Gathers (flags : List ℕ) (n v : ℕ) : Type 0 where
   pub says : lowBits n v ≡ flags

@@ -4,11 +4,11 @@
 ghost use mathlib.Core.Path.{_≡_};
 ghost use mathlib.Core.List.{[]};
 ghost use Prim.Native.Nat.{ℕ, _+_, _*_, _-_, _^_, _%_, _≤_, _<_};
-ghost use lib.ListN.{length, getD, take, drop, replicate};
+ghost use lib.ListN.{length, getD, take, replicate};
 ghost use Rattle.rules.specs.Bits.{lowBits, bitsOf};
 ghost use Rattle.rules.specs.Runs.{riceForm, riceForms};
 ghost use Rattle.pen.specs.Rows.{rowBits};
-ghost use Rattle.pen.specs.Puts.{penBits, Able, Flags, Puts, Stores, Gathers, Flushes, Packed};
+ghost use Rattle.pen.specs.Puts.{penBits, Able, Puts, Stores, Flushes, Packed};
 
 pub struct Pen {
     pub word: u64,
@@ -111,44 +111,6 @@ pub fn put_runs(out: &mut [u8], p: Pen, s: usize, runs: &[u16; 321], count: usiz
         j += 1;
     }
     q
-}
-
-fn octet(x: u8) -> u64
-    ensures { λ r. ⌜ r ≡ x ⌝ }
-{
-    x as u64
-}
-
-// n flags from place i on as a number, the first one highest.
-fn gather(flags: &[u8; 320], i: usize, n: usize) -> u64
-    requires { ⌜ n ≤ 32 ⌝ }
-    requires { ⌜ Flags (now flags) (i + n) ⌝ }
-    ensures { λ r. ⌜ Gathers (take n (drop i (now (flags .entry)))) n r ⌝ }
-{
-    let mut v: u64 = 0;
-    let mut j = 0;
-    while j < n {
-        v = 2 * v + octet(flags[i + j]);
-        j += 1;
-    }
-    v
-}
-
-// The first n flags, a bit each.
-pub fn put_flags(out: &mut [u8], p: Pen, flags: &[u8; 320], n: usize) -> Pen
-    requires { ⌜ Flags (now flags) n ⌝ }
-    requires { ⌜ Able (now out) p n ⌝ }
-    ensures { λ r. ⌜ Puts (now (out .entry)) p (take n (now (flags .entry))) (now (out .exit)) r ⌝ }
-{
-    let mut q = p;
-    let mut i = 0;
-    while i + 32 <= n {
-        let w = gather(flags, i, 32);
-        q = put(out, q, 32, w);
-        i += 32;
-    }
-    let w = gather(flags, i, n - i);
-    put(out, q, n - i, w)
 }
 
 // A row of flags, 40 to a word: the first k words.

@@ -19,7 +19,9 @@ use Rattle.choice.proofs.values_plan.Lts as lts
 use Rattle.choice.proofs.better.Reads as better-reads
 use Rattle.choice.proofs.flag_of.Reads as flag-of-reads
 use Rattle.choice.proofs.located_applies.Reads as located-applies-reads
+use Rattle.choice.proofs.located_bits.Reads as located-bits-reads
 use Rattle.choice.proofs.not_placed.Reads as not-placed-reads
+use Rattle.choice.proofs.placed_by.Reads as placed-by-reads
 use Rattle.choice.proofs.row_of.Reads as row-of-reads
 use Rattle.choice.proofs.tally_of.Reads as tally-of-reads
 use Rattle.choice.proofs.uncompressed_of.Reads as uncompressed-of-reads
@@ -68,22 +70,19 @@ ways-of-requires : tie.Need-ways-of-requires
 ways-of-requires c κs = let s = c .before .before .before .before .before .before .before .before .before .before .before .before .before .before in let f = take (s .args .n) (s .args .samples .now) in let size = length-take-le (s .args .n) (s .args .samples .now) (s .pre .0 .1 .1 .0) in let i = c .before .before .before .before .before .before .before .before .before .before .tally-of .ensures in ((s .pre .0 .1 .0, (s .pre .0 .1 .1 .0, s .pre .0 .1 .1 .1 .1)), (turn-of i (law-for (s .args .mask) (s .pre .0 .1 .1 .1 .0)) (c .before .before .before .before .before .before .before .before .before .row-of .result) (c .before .before .before .before .before .flag-of .result) (c .before .before .before .plus-zero .ensures) (c .before .before .before .before .values-of .ensures), s .pre .1 .1 .1))
 
 uncompressed-of-requires : tie.Need-uncompressed-of-requires
-uncompressed-of-requires c κs = c .before .before .before .before .before .before .before .before .before .before .before .before .before .before .before .before .before .before .pre .0 .1 .0
+uncompressed-of-requires c κs = c .before .before .before .before .before .before .before .before .before .before .before .before .before .before .before .pre .0 .1 .0
 
-add-better : tie.Need-add-better
-add-better c = let w = ways-small (c .before .before .before .before .before .ways-of .ensures) in omega (arith, w .0, w .1 .0, w .1 .1)
-
-add-better-2 : tie.Need-add-better-2
-add-better-2 c = let w = ways-small (c .before .before .before .before .before .before .ways-of .ensures) in omega (arith, w .0, w .1 .0, w .1 .1)
-
-add-better-3 : tie.Need-add-better-3
-add-better-3 c = let w = ways-small (c .before .before .before .before .before .before .before .ways-of .ensures) in omega (arith, w .0, w .1 .0, w .1 .1)
+located-bits-requires : tie.Need-located-bits-requires
+located-bits-requires c κs = let w = ways-small (c .before .ways-of .ensures) in omega (arith, w .0, w .1 .0, w .1 .1)
 
 better-requires : tie.Need-better-requires
-better-requires c κs = let w = ways-small (c .before .before .before .before .before .before .before .ways-of .ensures) in (omega (arith, ap (λ (k : Choice). k .bits) (c .before .before .before .uncompressed-of .ensures), c .before .before .before .before .before .before .before .before .before .before .before .before .before .before .before .before .before .before .before .before .before .before .pre .0 .1 .0), omega (arith, w .0, w .1 .0, w .1 .1))
+better-requires c κs = let w = ways-small (c .before .before .ways-of .ensures) in (omega (arith, ap (λ (k : Choice). k .bits) (c .before .uncompressed-of .ensures), c .before .before .before .before .before .before .before .before .before .before .before .before .before .before .before .before .before .pre .0 .1 .0), omega (arith, c .located-bits .ensures, w .0, w .1 .0, w .1 .1))
+
+placed-by-requires : tie.Need-placed-by-requires
+placed-by-requires c κs = search needs
 
 returns-3 : tie.Need-returns-3
-returns-3 c = let s = c .before .before .before .before .before .before .before .before .before .before .before .before .before .before .before .before .before .before .before .before .before .before .before in let f = take (s .args .n) (s .args .samples .now) in let size = length-take-le (s .args .n) (s .args .samples .now) (s .pre .0 .1 .1 .0) in let i = c .before .before .before .before .before .before .before .before .before .before .before .before .before .before .before .before .before .before .before .tally-of .ensures in let on = not-false _ (c .before .before .before .before .before .before .before .before .before .before .before .before .before .before .before .before .if2 .left) in let r = c .before .before .before .before .before .before .before .before .before .before .before .before .before .before .before .before .before .before .row-of .ensures .0 in let t = c .before .before .before .before .before .before .before .before .before .before .before .before .before .before .before .before .before .located-applies .ensures in placed-for (s .pre .1 .0) size (s .pre .0 .1 .0) (sym (c .before .before .before .before .before .before .before .before .before .before .before .before .before .before .before .before .before .before .before .before .before .holds .ensures) ∙ not-false _ (c .before .before .before .before .before .before .before .before .before .before .before .before .before .before .before .before .before .before .before .before .if1 .left)) (sym (applied-is i size r t) ∙ on) (row-is i size r) (row-low i size r t on) (c .before .before .before .before .before .before .before .before .before .before .before .before .before .before .flag-of .ensures .0 ∙ flag-is i) (c .before .before .before .before .before .before .before .before .before .before .before .before .before .before .flag-of .ensures .1) (c .before .before .before .before .before .before .before .before .before .before .before .before .plus-zero .result) (turn-of i (law-for (s .args .mask) (s .pre .0 .1 .1 .1 .0)) (c .before .before .before .before .before .before .before .before .before .before .before .before .before .before .before .before .before .before .row-of .result) (c .before .before .before .before .before .before .before .before .before .before .before .before .before .before .flag-of .result) (c .before .before .before .before .before .before .before .before .before .before .before .before .plus-zero .ensures) (c .before .before .before .before .before .before .before .before .before .before .before .before .before .values-of .ensures)) (ap samplesOf (c .before .before .before .before .before .before .before .before .before .before .before .before .before .values-of .ensures) ∙ values-say i size r t on (c .before .before .before .before .before .before .before .before .before .before .before .before .before .before .flag-of .ensures .0)) (c .before .before .before .before .before .before .before .before .ways-of .ensures) (c .before .before .before .before .uncompressed-of .ensures) (c .better .ensures)
+returns-3 c = let s = c .before .before .before .before .before .before .before .before .before .before .before .before .before .before .before .before .before .before .before in let f = take (s .args .n) (s .args .samples .now) in let size = length-take-le (s .args .n) (s .args .samples .now) (s .pre .0 .1 .1 .0) in let i = c .before .before .before .before .before .before .before .before .before .before .before .before .before .before .before .tally-of .ensures in let on = not-false _ (c .before .before .before .before .before .before .before .before .before .before .before .before .if2 .left) in let r = c .before .before .before .before .before .before .before .before .before .before .before .before .before .before .row-of .ensures .0 in let t = c .before .before .before .before .before .before .before .before .before .before .before .before .before .located-applies .ensures in placed-for (s .pre .1 .0) size (s .pre .0 .1 .0) (sym (c .before .before .before .before .before .before .before .before .before .before .before .before .before .before .before .before .before .holds .ensures) ∙ not-false _ (c .before .before .before .before .before .before .before .before .before .before .before .before .before .before .before .before .if1 .left)) (sym (applied-is i size r t) ∙ on) (row-is i size r) (row-low i size r t on) (c .before .before .before .before .before .before .before .before .before .before .flag-of .ensures .0 ∙ flag-is i) (c .before .before .before .before .before .before .before .before .before .before .flag-of .ensures .1) (c .before .before .before .before .before .before .before .before .plus-zero .result) (turn-of i (law-for (s .args .mask) (s .pre .0 .1 .1 .1 .0)) (c .before .before .before .before .before .before .before .before .before .before .before .before .before .before .row-of .result) (c .before .before .before .before .before .before .before .before .before .before .flag-of .result) (c .before .before .before .before .before .before .before .before .plus-zero .ensures) (c .before .before .before .before .before .before .before .before .before .values-of .ensures)) (ap samplesOf (c .before .before .before .before .before .before .before .before .before .values-of .ensures) ∙ values-say i size r t on (c .before .before .before .before .before .before .before .before .before .before .flag-of .ensures .0)) (c .before .before .before .before .ways-of .ensures) (c .before .before .before .uncompressed-of .ensures) (c .before .before .located-bits .ensures) (c .before .better .ensures) (c .placed-by .ensures)
 
 pub values-plan-spec : {M : Type 1} → statement M
 values-plan-spec =
@@ -103,8 +102,7 @@ values-plan-spec =
     plus-zero-requires
     ways-of-requires
     uncompressed-of-requires
-    add-better
-    add-better-2
-    add-better-3
+    located-bits-requires
     better-requires
+    placed-by-requires
     returns-3)

@@ -16,9 +16,7 @@ use Rattle.writer.proofs.write_values.Reads as write-values-reads
 use Rattle.writer.proofs.write_zeros.Reads as write-zeros-reads
 
 spread-of-requires : tie.Need-spread-of-requires
-spread-of-requires c κs =
-    let s = c .before .before in
-    ((s .pre .0 .some, s .pre .0 .long), mask-seven _ (s .pre .1))
+spread-of-requires c κs = (search needs, mask-seven _ (search needs))
 
 plain-tool-requires : tie.Need-plain-tool-requires
 plain-tool-requires c κs =
