@@ -1,10 +1,13 @@
 // The bench tool `unpack`: a stream back to sound, or, with a master, the sound compared with it. What a part holds stands in
 // crate `unpacking`, what the arguments mean in `options`, what is said in `console`.
+ghost use mathlib.Core.Path.{_≡_};
 ghost use Prim.Native.Nat.{_≤_};
 ghost use lib.ListN.{length};
+ghost use Rattle.unpack.specs.Runs.{NextSound, UsesUpTo, TellsWalk};
 use console::Got;
 use options::Settings;
 use rules::Ending;
+use unpacking::Part;
 
 // What is wrong with the file that is written or compared.
 const NOTHING: u32 = 0;
@@ -32,14 +35,16 @@ struct Total {
     wrong: u32,
 }
 
-// The sound of a part, written.
-fn written(fd: i32, sound: &[u8]) -> Used
-    ensures { λ r. ⌜ r .good ≤ length (now (sound .entry)) ⌝ }
+// The sound of a part, written. It is the part of `stream` at `at`, by a law and a set, which stand here for the contract alone.
+fn written(stream: &[u8], law: u32, set: u32, at: usize, p: Part, fd: i32, page: &[u8]) -> Used
+    requires { ⌜ (NextSound (now stream) law set at (now page) p) × (p .samples ≤ length (now page)) ⌝ }
+    ensures { λ r. ⌜ UsesUpTo (p .samples) r ⌝ }
 {
-    if io::write_all(fd, sound) {
+    let n = p.samples;
+    if io::write_all(fd, &page[..n]) {
         return Used {
             wrong: NOTHING,
-            good: sound.len(),
+            good: n,
         };
     }
     Used {
@@ -51,7 +56,7 @@ fn written(fd: i32, sound: &[u8]) -> Used
 // The sound of a part, compared with as much of the master.
 fn compared(fd: i32, sound: &[u8], master: &mut [u8]) -> Used
     requires { ⌜ length (now sound) ≤ length (now master) ⌝ }
-    ensures { λ r. ⌜ r .good ≤ length (now (sound .entry)) ⌝ }
+    ensures { λ r. ⌜ UsesUpTo (length (now (sound .entry))) r ⌝ }
 {
     let n = sound.len();
     let got = console::read_part(fd, &mut master[..n]);
@@ -81,14 +86,26 @@ fn compared(fd: i32, sound: &[u8], master: &mut [u8]) -> Used
     }
 }
 
-fn use_part(compares: bool, fd: i32, sound: &[u8], master: &mut [u8]) -> Used
-    requires { ⌜ length (now sound) ≤ length (now master) ⌝ }
-    ensures { λ r. ⌜ r .good ≤ length (now (sound .entry)) ⌝ }
+// A part's sound, written or compared.
+fn use_part(
+    stream: &[u8],
+    law: u32,
+    set: u32,
+    at: usize,
+    p: Part,
+    compares: bool,
+    fd: i32,
+    page: &[u8],
+    master: &mut [u8],
+) -> Used
+    requires { ⌜ (NextSound (now stream) law set at (now page) p) × (p .samples ≤ length (now page)) × (length (now page) ≤ length (now master)) ⌝ }
+    ensures { λ r. ⌜ UsesUpTo (p .samples) r ⌝ }
 {
     if compares {
-        return compared(fd, sound, master);
+        let n = p.samples;
+        return compared(fd, &page[..n], master);
     }
-    written(fd, sound)
+    written(stream, law, set, at, p, fd, page)
 }
 
 // Part after part, page by page.
@@ -102,14 +119,14 @@ fn parts(
     master: &mut [u8],
 ) -> Total
     requires { ⌜ (length (now stream) ≤ 65535) × (320 ≤ length (now page)) × (length (now page) ≤ length (now master)) ⌝ }
+    ensures { λ r. ⌜ (r .wrong ≡ 0 → TellsWalk (now (stream .entry)) law set r) ⌝ }
 {
     let mut at = 0;
     let mut frames = 0;
     let mut samples = 0;
     loop {
         let p = unpacking::next_part(stream, law, set, at, page);
-        let n = p.samples;
-        let u = use_part(compares, fd, &page[..n], master);
+        let u = use_part(stream, law, set, at, p, compares, fd, page, master);
         let end = p.end;
         frames += p.frames;
         samples += u.good;
@@ -133,6 +150,7 @@ fn parts(
 // The second page is for the master.
 fn all_parts(stream: &[u8], law: u32, set: u32, compares: bool, fd: i32) -> Total
     requires { ⌜ length (now stream) ≤ 65535 ⌝ }
+    ensures { λ r. ⌜ (r .wrong ≡ 0 → TellsWalk (now (stream .entry)) law set r) ⌝ }
 {
     let mut page = [0u8; 61440];
     let mut master = [0u8; 61440];

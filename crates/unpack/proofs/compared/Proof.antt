@@ -2,7 +2,7 @@ use borrow.Author.Needs.{needs}
 use lib.Seq.{length-take-le}
 use lib.ListN.{length, drop, length-append}
 use native.Mathlib.Omega.{arith}
-use mathlib.Core.Path.{_≡_, refl, sym, ap, _∙_}
+use mathlib.Core.Path.{sym}
 use Rattle.unpack.proofs.compared.Statement.{statement}
 use Rattle.unpack.proofs.compared.Tie as tie
 

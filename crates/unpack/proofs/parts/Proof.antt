@@ -1,71 +1,89 @@
+-- Each turn uses one part more (Running); the measure is how far it is to the stream's end.
 use borrow.Author.Needs.{needs}
-use borrow.Author.Tests.{not-false}
-use lib.Seq.{length-take-le}
-use lib.ListN.{length}
-use Prim.Native.Nat.{_*_, _-_, _≤_}
+use borrow.Author.Tests.{not-true, not-false}
 use native.Mathlib.Omega.{arith}
-use mathlib.Core.Path.{_≡_, refl, sym, ap, _∙_}
+use Prim.Native.Nat.{_-_}
+use mathlib.Core.Path.{_≡_, refl, _∙_}
+use lib.ListN.{length}
+use Rattle.unpack.proofs.Running.{Going, going-first, next-sound, going-on, goes-whole}
 use Rattle.unpack.proofs.parts.Statement.{statement}
 use Rattle.unpack.proofs.parts.Tie as tie
 
 abbrev Inv-loop : tie.InvT-loop
-Inv-loop stream law set compares fd page₀ master₀ at₀ frames₀ samples₀ page master at frames samples = (at ≤ length stream) × (frames ≤ at) × (samples ≤ 320 * frames) × (length page ≡ length page₀) × (length master ≡ length master₀)
+Inv-loop stream law set compares fd page₀ master₀ at₀ frames₀ samples₀ page master at frames samples = Going stream law set (length page₀) page at frames samples × (length master ≡ length master₀)
 
 abbrev μ-loop : tie.MeasureT-loop
 μ-loop stream law set compares fd page₀ master₀ at₀ frames₀ samples₀ page master at frames samples = length stream - at
 
+-- the places before a part was used: the call, the loop's head, and the part
+module _ (d : tie.After-use-part Inv-loop μ-loop) where
+  abbrev start : tie.Start Inv-loop μ-loop
+  start = d .before .before .before .before .before .before .before .before .before .before .before
+
+  same-page : length (d .before .before .before .before .before .next-part .last .1 .1 .1 .1 .0) ≡ length (start .args .page .now)
+  same-page = d .before .before .before .before .before .next-part .kept .1 .1 .1 .1 .0 ∙ d .before .before .before .before .before .before .before .loop .inv .0 .page-size
+
+  same-master : length (d .use-part .last .1 .1 .1 .1 .1 .1 .1 .1 .0) ≡ length (start .args .master .now)
+  same-master = d .use-part .kept .1 .1 .1 .1 .1 .1 .1 .1 .0 ∙ d .before .before .before .before .before .before .before .loop .inv .1
+
 loop-holds : tie.Need-loop-holds Inv-loop μ-loop
-loop-holds c = (omega arith, omega arith, omega arith, refl, refl)
+loop-holds c = (going-first _ _ _ _, refl)
 
 next-part-requires : tie.Need-next-part-requires Inv-loop μ-loop
 next-part-requires c κs = search needs
 
-slice-reshare-prefix-use-part : tie.Need-slice-reshare-prefix-use-part Inv-loop μ-loop
-slice-reshare-prefix-use-part c = omega (arith, c .before .before .next-part .ensures .1 .fits, c .before .before .next-part .kept .1 .1 .1 .1 .0)
-
-slice-aggregate-use-part : tie.Need-slice-aggregate-use-part Inv-loop μ-loop
-slice-aggregate-use-part c = sym (length-take-le (c .before .before .before .next-part .result .samples) (c .before .before .before .next-part .last .1 .1 .1 .1 .0) (omega (arith, c .before .before .before .next-part .ensures .1 .fits, c .before .before .before .next-part .kept .1 .1 .1 .1 .0)))
-
 use-part-requires : tie.Need-use-part-requires Inv-loop μ-loop
-use-part-requires c κs = omega (arith, length-take-le (c .before .before .before .before .next-part .result .samples) (c .before .before .before .before .next-part .last .1 .1 .1 .1 .0) (omega (arith, c .before .before .before .before .next-part .ensures .1 .fits, c .before .before .before .before .next-part .kept .1 .1 .1 .1 .0)), c .before .before .before .before .next-part .ensures .1 .fits, c .before .before .before .before .before .before .loop .inv .3, c .before .before .before .before .before .before .loop .inv .4, c .before .before .before .before .before .before .before .before .before .before .pre .2)
+use-part-requires c κs =
+    let w = c .before .before .before .before .before .before .loop .inv in
+    let p = c .before .before .before .before .next-part in
+    let l = p .kept .1 .1 .1 .1 .0 in
+    (next-sound _ _ _ (w .0) (p .ensures .0), omega (arith, p .ensures .1 .fits, l), omega (arith, l, w .0 .page-size, w .1, c .before .before .before .before .before .before .before .before .before .before .pre .2))
 
 add-frames : tie.Need-add-frames Inv-loop μ-loop
-add-frames c = omega (arith, c .before .before .before .before .before .before .before .before .next-part .ensures .1 .few, c .before .before .before .before .before .before .before .before .before .before .loop .inv .0, c .before .before .before .before .before .before .before .before .before .before .loop .inv .1, c .before .before .before .before .before .before .before .before .before .before .before .before .before .before .pre .0)
+add-frames c =
+    let w = c .before .before .before .before .before .before .before .before .before .before .loop .inv .0 in
+    omega (arith, c .before .before .before .before .before .before .before .before .next-part .ensures .1 .few, w .inside, w .few, c .before .before .before .before .before .before .before .before .before .before .before .before .before .before .pre .0)
 
 add-samples : tie.Need-add-samples Inv-loop μ-loop
-add-samples c = omega (arith, c .before .before .before .before .use-part .ensures, length-take-le (c .before .before .before .before .before .before .before .before .before .next-part .result .samples) (c .before .before .before .before .before .before .before .before .before .next-part .last .1 .1 .1 .1 .0) (omega (arith, c .before .before .before .before .before .before .before .before .before .next-part .ensures .1 .fits, c .before .before .before .before .before .before .before .before .before .next-part .kept .1 .1 .1 .1 .0)), c .before .before .before .before .before .before .before .before .before .next-part .ensures .1 .held, c .before .before .before .before .before .before .before .before .before .next-part .ensures .1 .few, c .before .before .before .before .before .before .before .before .before .before .before .loop .inv .0, c .before .before .before .before .before .before .before .before .before .before .before .loop .inv .1, c .before .before .before .before .before .before .before .before .before .before .before .loop .inv .2, c .before .before .before .before .before .before .before .before .before .before .before .before .before .before .before .pre .0)
+add-samples c =
+    let w = c .before .before .before .before .before .before .before .before .before .before .before .loop .inv .0 in
+    let g = c .before .before .before .before .before .before .before .before .before .next-part .ensures .1 in
+    omega (arith, c .before .before .before .before .use-part .ensures .most, g .held, g .few, w .inside, w .few, w .held, c .before .before .before .before .before .before .before .before .before .before .before .before .before .before .before .pre .0)
 
 same-length : tie.Need-same-length Inv-loop μ-loop
-same-length c = c .before .before .before .before .before .before .before .before .before .before .before .next-part .kept .1 .1 .1 .1 .0 ∙ c .before .before .before .before .before .before .before .before .before .before .before .before .before .loop .inv .3
+same-length c = same-page (c .before .before .before .before .before .before)
 
 same-length-2 : tie.Need-same-length-2 Inv-loop μ-loop
-same-length-2 c = c .before .before .before .before .before .before .use-part .kept .1 .1 .1 .0 ∙ c .before .before .before .before .before .before .before .before .before .before .before .before .before .loop .inv .4
+same-length-2 c = same-master (c .before .before .before .before .before .before)
 
 returns : tie.Need-returns Inv-loop μ-loop
-returns c = search needs
+returns c e = absurd (c .if1 .taken e)
 
 same-length-3 : tie.Need-same-length-3 Inv-loop μ-loop
-same-length-3 c = c .before .before .before .before .before .before .before .before .before .before .before .before .before .next-part .kept .1 .1 .1 .1 .0 ∙ c .before .before .before .before .before .before .before .before .before .before .before .before .before .before .before .loop .inv .3
+same-length-3 c = same-page (c .before .before .before .before .before .before .before .before)
 
 same-length-4 : tie.Need-same-length-4 Inv-loop μ-loop
-same-length-4 c = c .before .before .before .before .before .before .before .before .use-part .kept .1 .1 .1 .0 ∙ c .before .before .before .before .before .before .before .before .before .before .before .before .before .before .before .loop .inv .4
+same-length-4 c = same-master (c .before .before .before .before .before .before .before .before)
 
 returns-2 : tie.Need-returns-2 Inv-loop μ-loop
-returns-2 c = search needs
+returns-2 c e =
+    let d = c .before .before .before .before .before .before .before .before in
+    let p = d .before .before .before .before .before .next-part in
+    goes-whole _ _ _ (d .before .before .before .before .before .before .before .loop .inv .0) (p .ensures .0) (p .ensures .1) (p .kept .1 .1 .1 .1 .0) (d .use-part .ensures .all e) (not-true _ (c .if2 .taken))
 
 loop-less : tie.Need-loop-less Inv-loop μ-loop
-loop-less c = let goes = c .before .before .before .before .before .before .before .before .before .before .before .before .before .next-part .ensures .1 in
+loop-less c =
+    let d = c .before .before .before .before .before .before .before .before in
+    let g = d .before .before .before .before .before .next-part .ensures .1 in
     let more = not-false _ (c .if2 .left) in
-    omega (arith, goes .nearer (omega (arith, c .before .before .before .before .before .before .before .before .before .before .before .before .before .before .before .loop .inv .3, c .before .before .before .before .before .before .before .before .before .before .before .before .before .before .before .before .before .before .before .pre .1)) more, goes .inside more)
+    omega (arith, g .nearer (omega (arith, d .before .before .before .before .before .before .before .loop .inv .0 .page-size, d .before .before .before .before .before .before .before .before .before .before .before .pre .1)) more, g .inside more)
 
 loop-again : tie.Need-loop-again Inv-loop μ-loop
-loop-again c = let goes = c .before .before .before .before .before .before .before .before .before .before .before .before .before .next-part .ensures .1 in
-    let more = not-false _ (c .if2 .left) in (
-      goes .inside more,
-      omega (arith, goes .passed more, c .before .before .before .before .before .before .before .before .before .before .before .before .before .before .before .loop .inv .1),
-      omega (arith, c .before .before .before .before .before .before .before .before .use-part .ensures, length-take-le (c .before .before .before .before .before .before .before .before .before .before .before .before .before .next-part .result .samples) (c .before .before .before .before .before .before .before .before .before .before .before .before .before .next-part .last .1 .1 .1 .1 .0) (omega (arith, c .before .before .before .before .before .before .before .before .before .before .before .before .before .next-part .ensures .1 .fits, c .before .before .before .before .before .before .before .before .before .before .before .before .before .next-part .kept .1 .1 .1 .1 .0)), goes .held, c .before .before .before .before .before .before .before .before .before .before .before .before .before .before .before .loop .inv .2),
-      c .before .before .before .before .before .before .before .before .before .before .before .before .before .next-part .kept .1 .1 .1 .1 .0 ∙ c .before .before .before .before .before .before .before .before .before .before .before .before .before .before .before .loop .inv .3,
-      c .before .before .before .before .before .before .before .before .use-part .kept .1 .1 .1 .0 ∙ c .before .before .before .before .before .before .before .before .before .before .before .before .before .before .before .loop .inv .4,
+loop-again c =
+    let d = c .before .before .before .before .before .before .before .before in
+    let p = d .before .before .before .before .before .next-part in (
+      going-on _ _ _ (d .before .before .before .before .before .before .before .loop .inv .0) (p .ensures .0) (p .ensures .1) (p .kept .1 .1 .1 .1 .0) (d .use-part .ensures .all (c .before .before .if1 .left)) (not-false _ (c .if2 .left)),
+      same-master d,
     )
 
 pub parts-spec : {M : Type 1} → statement M
@@ -76,8 +94,6 @@ parts-spec =
     μ-loop
     loop-holds
     next-part-requires
-    slice-reshare-prefix-use-part
-    slice-aggregate-use-part
     use-part-requires
     add-frames
     add-samples

@@ -1,7 +1,7 @@
 use borrow.Author.Needs.{needs}
 use lib.Seq.{length-take-le}
 use native.Mathlib.Omega.{arith}
-use mathlib.Core.Path.{_≡_, refl, sym, ap, _∙_}
+use mathlib.Core.Path.{sym}
 use Rattle.unpack.proofs.run.Statement.{statement}
 use Rattle.unpack.proofs.run.Tie as tie
 

@@ -1,0 +1,37 @@
+-- Part after part: what may be written next, and what the totals of a whole stream are.
+use Prim.Native.Nat.{ℕ, _+_, _*_, _≤_}
+use mathlib.Core.Path.{_≡_}
+use mathlib.Core.Bool.{true}
+use mathlib.Core.List.{List, [], _++_}
+use lib.ListN.{length, take}
+use Rattle.rules.specs.Walk.{walkAll, samplesKept}
+use Rattle.unpacking.specs.declared.Part.{Part}
+use Rattle.unpacking.specs.Parts.{NextPart}
+use Rattle.unpack.specs.declared.Used.{Used}
+use Rattle.unpack.specs.declared.Total.{Total}
+
+-- the parts of a stream from its start on, each with more to come: their sound, their frames, and the place where the last one ended
+pub data Before (stream : List ℕ) (law set : ℕ) : List ℕ → ℕ → ℕ → Type 0 where
+  none : Before stream law set [] 0 0
+  one-more : {sound : List ℕ} {frames at : ℕ} {out out′ : List ℕ} {r : Part} → Before stream law set sound frames at → NextPart stream law set at out out′ r → r .more ≡ true
+      → Before stream law set (sound ++ take (r .samples) out′) (frames + r .frames) (r .at)
+
+-- what may be written: the page's sound is the stream's next part, after the parts before it
+pub record NextSound (stream : List ℕ) (law set at : ℕ) (page : List ℕ) (p : Part) : Type 0 where
+  pub sound : List ℕ
+  pub frames : ℕ
+  pub before : Before stream law set sound frames at
+  pub lent : List ℕ
+  pub is : NextPart stream law set at lent page p
+
+-- what came of a sound of so many octets: all of it is well where nothing is wrong
+pub record UsesUpTo (size : ℕ) (r : Used) : Type 0 where
+  pub most : r .good ≤ size
+  pub all : r .wrong ≡ 0 → r .good ≡ size
+
+-- a stream's totals are those of its walk, with room that is never short
+pub record TellsWalk (stream : List ℕ) (law set : ℕ) (t : Total) : Type 0 where
+  pub end : t .end ≡ walkAll stream law set (320 * length stream) .end
+  pub at : t .at ≡ walkAll stream law set (320 * length stream) .place
+  pub frames : t .frames ≡ length (walkAll stream law set (320 * length stream) .frames)
+  pub samples : t .samples ≡ length (samplesKept (walkAll stream law set (320 * length stream) .frames))
