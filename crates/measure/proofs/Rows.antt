@@ -10,7 +10,7 @@ use native.Mathlib.Decide.{ℕ-discrete}
 use lib.ListN.{length, getD, take, drop, set, replicate, length-set, length-drop}
 use lib.Seq.{take-suc, take-add, take-suc-set, take-set-le, getD-drop, getD-set-same, getD-set-other}
 use lib.Count.{leadingZeros, leading-top}
-use lib.Pow.{pow-mono, pow-pos, shl-exact}
+use lib.Pow.{pow-mono, shl-exact}
 use lib.Dec.{eqb, eqb·suc-zero, lit<}
 use Rattle.rules.specs.Bits.{lowBits}
 use Rattle.pen.specs.Puts.{Gathers}
