@@ -1,7 +1,7 @@
 -- Laws of finding the runs of three values in one pass.
 use Prim.Native.Nat.{ℕ, zero, suc, _+_, _*_, _-_, _^_, _≤_, _<_}
 use mathlib.Core.Path.{_≡_, refl, sym, ap, _∙_}
-use mathlib.Core.List.{List, [], _∷_, _++_, map, append-nil, append-assoc, map-append}
+use mathlib.Core.List.{List, [], _∷_, _++_, map, append-nil, map-append}
 use mathlib.Core.Bool.{Bool, true, false, cond}
 use native.Mathlib.Omega.{arith}
 use native.Mathlib.Numerals.{add-one}
@@ -16,7 +16,7 @@ use Rattle.pen.proofs.Rice.{zero-bits}
 use Rattle.measure.specs.declared.Track.{Track}
 use Rattle.measure.specs.declared.Tracks.{Tracks}
 use Rattle.measure.specs.declared.Found.{Found}
-use Rattle.measure.specs.Measures.{marksOf, RunsAre, FoundIs}
+use Rattle.measure.specs.Measures.{marksOf, FoundIs}
 use Rattle.measure.specs.Tracks.{TrackIs, Closes, Ends, TracksAre, Apart}
 use Rattle.measure.proofs.Leaving.{without-cons}
 use Rattle.measure.proofs.Rows.{top-below, top-flags, top-left, track-none, track-zeros, track-one, track-skip, track-end}

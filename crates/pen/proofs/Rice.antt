@@ -1,12 +1,12 @@
 -- Laws of putting Rice codes.
 use Prim.Native.Nat.{ℕ, zero, suc, _+_, _*_, _-_, _^_, _/_, _%_, _≤_, _<_}
-use mathlib.Core.Path.{_≡_, refl, sym, ap, _∙_}
+use mathlib.Core.Path.{_≡_, refl, ap, _∙_}
 use mathlib.Core.List.{List, [], _∷_, _++_, append-nil, append-assoc}
 use native.Mathlib.Omega.{arith}
 use native.Mathlib.Numerals.{add-one}
 use native.Mathlib.Nat.{zero-add, zero-div, mod-lt, pow-suc, lt-of-lt-of-le}
 use lib.Dec.{lit<}
-use lib.ListN.{length, getD, take, drop, replicate, length-append, length-replicate, replicate-append-replicate}
+use lib.ListN.{length, getD, take, replicate, length-append, length-replicate, replicate-append-replicate}
 use lib.Seq.{take-suc, take-add}
 use lib.Pow.{pow-pos, pow-mono, shl-exact}
 use Rattle.rules.specs.Bits.{lowBits}
@@ -70,7 +70,7 @@ pub rice-word : (s v : ℕ) {one : ℕ} → one ≡ 2 ^ s → s ≤ 15 → one +
 rice-word s v e h = lt-of-lt-of-le (rice-fits 0 s v e) (pow-mono {j = 64} (omega arith))
 
 -- the last of a Rice code: k zeros, the one, and the low bits
-pub rice-end : (k s v : ℕ) {one : ℕ} → one ≡ 2 ^ s → lowBits (k + 1 + s) (one + v % one) ≡ replicate k 0 ++ (1 ∷ lowBits s v)
+rice-end : (k s v : ℕ) {one : ℕ} → one ≡ 2 ^ s → lowBits (k + 1 + s) (one + v % one) ≡ replicate k 0 ++ (1 ∷ lowBits s v)
 unfolding lowBits
 rice-end k s v e =
     let a : 2 ^ s + v % 2 ^ s ≡ 1 * 2 ^ s + v % 2 ^ s = omega arith in
@@ -90,7 +90,7 @@ rice-long s v e zeros put =
     puts-then zeros (puts-as put (rice-end 0 s v e))
 
 -- runs: those done, and one more
-pub forms-append : (s : ℕ) (a b : List ℕ) → riceForms s (a ++ b) ≡ riceForms s a ++ riceForms s b
+forms-append : (s : ℕ) (a b : List ℕ) → riceForms s (a ++ b) ≡ riceForms s a ++ riceForms s b
 unfolding riceForms
 forms-append s [] b = refl
 forms-append s (v ∷ a) b = rw (forms-append s a b, append-assoc)
@@ -99,7 +99,7 @@ pub forms-suc : (s : ℕ) (l : List ℕ) (j : ℕ) → j < length l → riceForm
 unfolding riceForms
 forms-suc s l j h = rw (add-one, take-suc l j 0, forms-append, append-nil)
 
-pub forms-le : (s : ℕ) (l : List ℕ) (i n : ℕ) → i ≤ n → length (riceForms s (take i l)) ≤ length (riceForms s (take n l))
+forms-le : (s : ℕ) (l : List ℕ) (i n : ℕ) → i ≤ n → length (riceForms s (take i l)) ≤ length (riceForms s (take n l))
 forms-le s l i n h =
     let e : n ≡ i + (n - i) = omega arith in
     rw (e, take-add i (n - i) l, forms-append, length-append) (omega arith)

@@ -1,5 +1,5 @@
 -- Laws of putting a row of words.
-use Prim.Native.Nat.{ℕ, zero, suc, _+_, _*_, _-_, _^_, _/_, _%_, _≤_, _<_}
+use Prim.Native.Nat.{ℕ, suc, _+_, _*_, _-_, _^_, _/_, _%_, _≤_, _<_}
 use mathlib.Core.Path.{_≡_, refl, sym, ap, _∙_}
 use mathlib.Core.List.{List, [], _∷_, _++_, append-nil, append-assoc}
 use native.Mathlib.Omega.{arith}
@@ -19,7 +19,7 @@ unfolding rowBits
 row-append [] b = refl
 row-append (w ∷ a) b = rw (row-append a b, append-assoc)
 
-pub length-rowBits : (ws : List ℕ) → length (rowBits ws) ≡ 40 * length ws
+length-rowBits : (ws : List ℕ) → length (rowBits ws) ≡ 40 * length ws
 unfolding rowBits
 length-rowBits [] = refl
 length-rowBits (w ∷ ws) = rw (length-append (lowBits 40 w) (rowBits ws), length-lowBits 40 w, length-rowBits ws) (omega arith)

@@ -1,12 +1,12 @@
 -- Laws of a whole form.
-use Prim.Native.Nat.{ℕ, zero, suc, _+_, _*_, _^_, _≤_, _<_}
+use Prim.Native.Nat.{ℕ, _+_, _*_, _≤_, _<_}
 use mathlib.Core.Path.{_≡_, refl, sym, ap, _∙_}
-use mathlib.Core.List.{List, [], _∷_, _++_, map, append-nil, append-assoc}
+use mathlib.Core.List.{List, [], _++_, map, append-assoc}
 use mathlib.Core.Bool.{Bool, true, false, cond}
 use native.Mathlib.Omega.{arith}
 use native.Mathlib.Decide.{ℕ-discrete}
 use borrow.Author.Tests.{ne-eqb}
-use lib.ListN.{length, getD, take, drop}
+use lib.ListN.{length, take, drop}
 use lib.Dec.{ltb}
 use lib.Seq.{length-take-le}
 use Rattle.rules.specs.Bits.{lowBits, bitsOf, pack}
@@ -18,7 +18,7 @@ use Rattle.rules.specs.Samples.{plusZero, minusZero}
 use Rattle.measure.specs.Measures.{countIs}
 use Rattle.choice.specs.declared.Placed.{Placed}
 use Rattle.choice.specs.declared.Zeros.{Zeros}
-use Rattle.choice.specs.Offers.{valuesIn, RiceIs, PlacedIs}
+use Rattle.choice.specs.Offers.{RiceIs, PlacedIs}
 use Rattle.choice.specs.Plans.{PlacedFor}
 use Rattle.pen.specs.declared.Pen.{Pen}
 use Rattle.pen.specs.Puts.{penBits, Able, Puts, Packed}

@@ -1,19 +1,19 @@
 -- Laws of the values of a row in turn.
-use Prim.Native.Nat.{ℕ, zero, suc, _+_, _≤_, _<_}
+use Prim.Native.Nat.{ℕ, zero, suc, _+_, _≤_}
 use mathlib.Core.Path.{_≡_, refl, sym, ap, _∙_}
 use mathlib.Core.List.{List, [], _∷_, _++_, append-nil}
-use mathlib.Core.Bool.{true, false, cond}
+use mathlib.Core.Bool.{cond}
 use native.Mathlib.Omega.{arith}
 use borrow.Author.Tests.{ne-eqb}
 use lib.ListN.{length, take, length-append}
 use lib.Dec.{eqb}
-use Rattle.rules.specs.Chooses.{flagsFor, without, valueForm, valuesForm}
+use Rattle.rules.specs.Chooses.{valueForm, valuesForm}
 use Rattle.choice.specs.declared.Way.{Way}
 use Rattle.choice.specs.declared.Placed.{Placed}
 use Rattle.choice.specs.Ways.{WayOf}
 use Rattle.choice.specs.Offers.{valuesIn, PlacedIs}
 use Rattle.writer.specs.Ways.{wayOf, WayPlanned}
-use Rattle.writer.specs.Forms.{valuesFormOf, ValuesReady, PlacedReady}
+use Rattle.writer.specs.Forms.{valuesFormOf, PlacedReady}
 use Rattle.writer.proofs.Ways.{way-form, way-ready}
 
 module _ (r : Placed) (a b c : List ℕ) where

@@ -1,5 +1,5 @@
 -- Laws of a value's places from its runs.
-use Prim.Native.Nat.{ℕ, zero, suc, _+_, _*_, _-_, _^_, _/_, _≤_, _<_}
+use Prim.Native.Nat.{ℕ, zero, suc, _+_, _-_, _^_, _/_, _≤_, _<_}
 use mathlib.Core.Path.{_≡_, refl, sym, ap, _∙_}
 use mathlib.Core.List.{List, [], _∷_, _++_, append-nil, append-assoc}
 use mathlib.Core.Bool.{Bool, true, false, cond}
@@ -20,7 +20,7 @@ use Rattle.choice.specs.Ways.{FlagsAre}
 use Rattle.pen.specs.declared.Pen.{Pen}
 use Rattle.pen.specs.Puts.{Able, Puts}
 use Rattle.pen.proofs.Putting.{puts-none, puts-then, puts-as, able-then}
-use Rattle.writer.specs.Ways.{placesBy, listedForm, marksForm, wayForm, ListedReady, WayReady}
+use Rattle.writer.specs.Ways.{placesBy, listedForm, marksForm, wayForm, WayReady}
 use Rattle.writer.proofs.Values.{value-absent, value-plain, value-runs, listed, value-listed}
 
 -- how many flags are 1

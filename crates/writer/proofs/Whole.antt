@@ -1,14 +1,13 @@
 -- Laws of forms that are whole octets.
-use Prim.Native.Nat.{ℕ, zero, suc, _+_, _*_, _-_, _≤_, _<_}
+use Prim.Native.Nat.{ℕ, zero, suc, _+_, _-_, _≤_, _<_}
 use mathlib.Core.Path.{_≡_, refl, sym, ap, _∙_}
 use mathlib.Core.List.{List, [], _∷_, _++_, append-nil, append-assoc}
 use mathlib.Core.Bool.{Bool, true, false, cond}
 use native.Mathlib.Omega.{arith}
 use native.Mathlib.Numerals.{add-one}
-use native.Mathlib.Nat.{zero-add}
 use borrow.Author.Tests.{ne-eqb}
 use lib.ListN.{length, getD, take, drop, set, replicate, length-set, take-append-drop}
-use lib.Seq.{take-suc, take-suc-set, drop-set-lt, length-take-le}
+use lib.Seq.{take-suc, take-suc-set, drop-set-lt}
 use lib.Dec.{eqb}
 use Rattle.rules.specs.Bits.{lowBits, bitsOf, octetsFor, octetsFrom, fillFor, pack}
 use Rattle.rules.specs.First.{octetFor}

@@ -1,10 +1,10 @@
 -- Laws of a writing: what it tells, and the order of its refusals.
-use Prim.Native.Nat.{ℕ, zero, suc, _+_, _*_, _/_, _%_, _≤_, _<_}
+use Prim.Native.Nat.{ℕ, _+_, _%_, _≤_, _<_}
 use mathlib.Core.Path.{_≡_, refl, sym, ap, _∙_}
 use mathlib.Core.List.{List, [], _∷_, _++_}
-use mathlib.Core.Bool.{Bool, true, false, cond, _||_}
+use mathlib.Core.Bool.{Bool, true, false, cond}
 use native.Mathlib.Omega.{arith}
-use borrow.Author.Tests.{eq-eqb, ne-eqb, le-leb, lt-leb, lt-ltb, le-ltb}
+use borrow.Author.Tests.{ne-eqb, le-leb, lt-leb, lt-ltb, le-ltb}
 use lib.ListN.{length, take, drop, set}
 use lib.Dec.{eqb}
 use lib.Seq.{length-take-le}
@@ -15,9 +15,9 @@ use Rattle.rules.specs.declared.WriteAnswer.{WriteAnswer}
 use Rattle.rules.specs.Bits.{lowBits, valueFrom, octetsFor, octetsFrom, pack}
 use Rattle.rules.specs.Samples.{maskOf}
 use Rattle.rules.specs.Tools.{isLength}
-use Rattle.rules.specs.Chooses.{choose, chosenTool, formOf, Written, Write, wrote, declined, chosen, writeOne}
+use Rattle.rules.specs.Chooses.{formOf, Written, Write, declined, chosen, writeOne}
 use Rattle.rules.specs.Calls.{Writes}
-use Rattle.rules.proofs.Octets.{length-pack, length-lowBits}
+use Rattle.rules.proofs.Octets.{length-pack}
 use Rattle.rules.proofs.Tests.{by-length}
 use Rattle.choice.specs.Plans.{isMask, Plain}
 use Rattle.pen.specs.Puts.{Packed}

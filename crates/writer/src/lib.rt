@@ -422,7 +422,7 @@ fn write_plain(out: &mut [u8], samples: &[u8], n: usize, tool: u32) -> WriteAnsw
     }
 }
 
-// "octets used are bits divided by 8, rounded up"
+// "ROOM means the chosen form's octets for a writer": "bits divided by 8, rounded up".
 fn octets_for(bits: usize) -> usize
     requires { ⌜ bits ≤ 1000000000 ⌝ }
     ensures { λ r. ⌜ r ≡ octetsFor bits ⌝ }

@@ -1,5 +1,4 @@
 use borrow.Author.Needs.{needs}
-use mathlib.Core.Path.{_≡_, refl}
 use native.Mathlib.Omega.{arith}
 use lib.Pow.{pow-pos}
 use Rattle.pen.proofs.Rice.{ZerosTurn, zeros-start, zeros-able, zeros-then, zeros-done}
