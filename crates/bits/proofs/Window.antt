@@ -3,29 +3,16 @@ use Prim.Native.Nat.{ℕ, zero, suc, _+_, _*_, _-_, _^_, _/_, _%_, _≤_, _<_}
 use mathlib.Core.Path.{_≡_, refl, sym, _∙_, ap}
 use mathlib.Core.List.{List, [], _∷_, _++_, append-assoc, append-nil}
 use native.Mathlib.Omega.{arith}
-use native.Mathlib.Nat.{add-zero, zero-add, suc-add, add-comm, mod-eq-of-lt}
+use native.Mathlib.Nat.{add-zero, zero-add, suc-add, add-comm}
 use native.Mathlib.Numerals.{add-one}
 use lib.ListN.{length, getD, take, drop, replicate, length-append, length-drop, length-replicate, take-append-drop}
 use lib.Seq.{drop-cons, drop-drop, take-at, take-append-le, drop-append-le, getD-drop}
-use lib.Pow.{shr-shr, high}
+use lib.Pow.{shr-shr}
 use Rattle.rules.specs.Bits.{lowBits, bitsOf, valueFrom}
 use Rattle.rules.specs.Reading.{Read, whole, refuse, bit, numberFrom}
-use Rattle.rules.proofs.Octets.{Below, none, more, length-lowBits, length-bitsOf, bitsOf-append, bitsOf-drop, value-lowBits, lowBits-value, lowBits-below}
+use Rattle.rules.proofs.Words.{lowBits-join}
+use Rattle.rules.proofs.Octets.{Below, none, more, length-lowBits, length-bitsOf, bitsOf-append, bitsOf-drop, value-lowBits}
 use Rattle.bits.proofs.OneBit.{bit-there}
-
--- two numbers side by side
-pub lowBits-above : (n a b : ℕ) → b < 2 ^ n → lowBits n (a * 2 ^ n + b) ≡ lowBits n b
-lowBits-above n a b h =
-    let e : valueFrom a (lowBits n b) ≡ a * 2 ^ n + b = value-lowBits a n b ∙ ap (λ (x : ℕ). a * 2 ^ n + x) (mod-eq-of-lt h) in
-    let l = lowBits-value a (lowBits-below n b) in
-    rw (length-lowBits, e) at l
-
-pub lowBits-append : (m n a b : ℕ) → b < 2 ^ n → lowBits (m + n) (a * 2 ^ n + b) ≡ lowBits m a ++ lowBits n b
-unfolding lowBits
-lowBits-append zero n a b h = rw zero-add (lowBits-above n a b h)
-lowBits-append (suc m) n a b h =
-    let e : (a * 2 ^ n + b) / 2 ^ (m + n) ≡ a / 2 ^ m = rw (add-comm m n, ← shr-shr (a * 2 ^ n + b) n m, high a n h) in
-    rw (suc-add, e, lowBits-append m n a b h)
 
 -- the first n of n + m bits, and those after the first r
 pub lowBits-take : (n m w : ℕ) → take n (lowBits (n + m) w) ≡ lowBits n (w / 2 ^ m)
@@ -66,7 +53,7 @@ side-bits j v none = rw (add-zero j) (sym (append-nil (lowBits j v)))
 side-bits j v (more {x = x} {l = l} h t) =
     let e : j + 8 * suc (length l) ≡ j + 8 + 8 * length l = omega arith in
     let f : 256 * v + x ≡ v * 2 ^ 8 + x = omega arith in
-    rw (e, f) (side-bits (j + 8) (v * 2 ^ 8 + x) t ∙ rw (lowBits-append j 8 v x h) (append-assoc (lowBits j v) (lowBits 8 x) (bitsOf l)))
+    rw (e, f) (side-bits (j + 8) (v * 2 ^ 8 + x) t ∙ rw (lowBits-join j 8 v x h) (append-assoc (lowBits j v) (lowBits 8 x) (bitsOf l)))
 
 -- missing octets are 0
 zeros-at : (k i : ℕ) → getD (replicate {A = ℕ} k 0) i 0 ≡ 0

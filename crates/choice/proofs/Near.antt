@@ -17,7 +17,7 @@ use Rattle.rules.proofs.Octets.{Below, none, more}
 use Rattle.rules.proofs.Signed.{InRange, LawMask, law-mask, signed-range, told-by-line, sampleOf-one-to-one}
 use Rattle.rules.proofs.Tests.{and-left, and-right, allBelow-at, or-cases}
 use Rattle.measure.specs.Measures.{countIs, near, twoZeros}
-use Rattle.measure.proofs.Looking.{count-le}
+use Rattle.rules.proofs.Counts.{count-le}
 use Rattle.measure.proofs.Spreading.{alike, near-is, is-near}
 use Rattle.choice.specs.declared.Tally.{Tally}
 use Rattle.choice.specs.Plans.{isMask}

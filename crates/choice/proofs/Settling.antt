@@ -20,7 +20,7 @@ use Rattle.rules.proofs.Tests.{or-cases}
 use Rattle.pen.proofs.Rice.{length-riceForm}
 use Rattle.measure.specs.declared.Spread.{Spread}
 use Rattle.measure.specs.Measures.{near, SpreadIs}
-use Rattle.measure.proofs.Looking.{count-le}
+use Rattle.rules.proofs.Counts.{count-le}
 use Rattle.measure.proofs.Finding.{runs-common, runs-other}
 use Rattle.choice.specs.Plans.{isMask, measured, valueTool, Plain}
 use Rattle.choice.proofs.Near.{never, and-zero}

@@ -1,7 +1,7 @@
 // Document 01, "Samples as signed numbers", with the law's mask 55 (A) or 7F (mu).
 ghost use mathlib.Core.Path.{_≡_};
 ghost use Prim.Native.Nat.{_<_};
-ghost use Rattle.rules.specs.Samples.{maskOf, signed, sampleOf, plusZero, minusZero, onLine};
+ghost use Rattle.rules.specs.Samples.{maskOf, signed, sampleOf, plusZero, minusZero};
 
 // The mask of a law: 0 is A, all else mu. A call refuses a law above 1 before it comes here.
 pub fn mask_of(law: u32) -> u8
@@ -43,12 +43,4 @@ pub fn minus_zero(mask: u8) -> u8
     ensures { λ r. ⌜ r ≡ minusZero mask ⌝ }
 {
     sample_of(mask, -1)
-}
-
-// A sample's place among the signed numbers in their order, -128 to 127 as 0 to 255.
-pub fn line_of(mask: u8, sample: u8) -> u8
-    ensures { λ r. ⌜ r ≡ onLine (signed mask sample) ⌝ }
-{
-    let y = (sample ^ mask) % 128;
-    if 128 <= sample { 128 + y } else { 127 - y }
 }

@@ -15,15 +15,6 @@ unfolding countOf
 count-snoc p [] x = omega arith
 count-snoc p (y ∷ l) x = let e = count-snoc p l x in omega arith
 
-pub count-le : (p : ℕ → Bool) (s : List ℕ) → countOf p s ≤ length s
-unfolding countOf
-count-le p [] = omega arith
-count-le p (x ∷ s) = step (p x) (count-le p s)
-  where
-    step : (b : Bool) → countOf p s ≤ length s → cond b 1 0 + countOf p s ≤ suc (length s)
-    step true h = omega arith
-    step false h = omega arith
-
 least-snoc : (mask : ℕ) (l : List ℕ) (x : ℕ) → leastOf mask (l ++ (x ∷ [])) ≡ min (leastOf mask l) (onLine (signed mask x))
 unfolding leastOf
 least-snoc mask [] x = omega arith

@@ -15,7 +15,7 @@ use lib.Dec.{eqb, eqb·suc-zero, lit<}
 use Rattle.rules.specs.Bits.{lowBits}
 use Rattle.pen.specs.Puts.{Gathers}
 use Rattle.pen.specs.Rows.{rowBits, RowIs}
-use Rattle.pen.proofs.Words.{lowBits-split, lowBits-join}
+use Rattle.rules.proofs.Words.{lowBits-split, lowBits-join}
 use Rattle.pen.proofs.Rice.{zero-bits}
 use Rattle.pen.proofs.Rows.{row-append}
 use Rattle.rules.specs.Runs.{runsOf}

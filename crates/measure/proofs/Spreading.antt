@@ -16,7 +16,8 @@ use Rattle.rules.specs.Chooses.{countOf, every, leastOf, greatestOf}
 use Rattle.rules.proofs.Tests.{and-left, and-right, or-cases}
 use Rattle.measure.specs.declared.Spread.{Spread}
 use Rattle.measure.specs.Measures.{near, twoZeros, SpreadIs}
-use Rattle.measure.proofs.Looking.{count-le, count-more, least-more, greatest-more}
+use Rattle.rules.proofs.Counts.{count-le}
+use Rattle.measure.proofs.Looking.{count-more, least-more, greatest-more}
 
 -- two tests that pass together are equal
 pub alike : (a b : Bool) → (a ≡ true → b ≡ true) → (b ≡ true → a ≡ true) → a ≡ b

@@ -10,7 +10,7 @@ use Rattle.rules.specs.Bits.{lowBits, bitsOf, octetsFor, fillFor, pack}
 use Rattle.rules.proofs.Octets.{length-lowBits, length-bitsOf, bitsOf-append, Below, below-append, below-all, below-take, bitsOf-below, lowBits-below, pack-below, bitsOf-pack, told-by-bits}
 use Rattle.pen.specs.declared.Pen.{Pen}
 use Rattle.pen.specs.Puts.{penBits, Able, Puts, Flushes, Packed}
-use Rattle.pen.proofs.Words.{lowBits-split, lowBits-mod}
+use Rattle.rules.proofs.Words.{lowBits-split, lowBits-mod}
 use Rattle.pen.proofs.Putting.{drop-further}
 use Rattle.pen.proofs.Rice.{zero-bits}
 

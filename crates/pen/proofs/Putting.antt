@@ -11,7 +11,8 @@ use Rattle.rules.specs.Bits.{lowBits, bitsOf}
 use Rattle.rules.proofs.Octets.{length-lowBits, bitsOf-append}
 use Rattle.pen.specs.declared.Pen.{Pen}
 use Rattle.pen.specs.Puts.{penBits, Able, Puts, Stores}
-use Rattle.pen.proofs.Words.{lowBits-split, lowBits-mod, lowBits-join, octetsOf, bitsOf-word}
+use Rattle.rules.proofs.Words.{lowBits-split, lowBits-mod, lowBits-join}
+use Rattle.pen.proofs.Words.{octetsOf, bitsOf-word}
 
 pub stored : (o : List ℕ) (at w : ℕ) → at + 4 ≤ length o
     → Stores o at w (set (set (set (set o at (w / 2 ^ 24 % 256)) (at + 1) (w / 2 ^ 16 % 256)) (at + 2) (w / 2 ^ 8 % 256)) (at + 3) (w % 256))

@@ -14,7 +14,7 @@ use Rattle.rules.specs.Runs.{riceForm, riceForms}
 use Rattle.rules.proofs.Octets.{length-lowBits}
 use Rattle.pen.specs.declared.Pen.{Pen}
 use Rattle.pen.specs.Puts.{Able, Puts}
-use Rattle.pen.proofs.Words.{lowBits-mod, lowBits-join}
+use Rattle.rules.proofs.Words.{lowBits-mod, lowBits-join}
 use Rattle.pen.proofs.Putting.{puts-none, puts-then, puts-as, able-then}
 
 pub length-riceForm : (s v : ℕ) → length (riceForm s v) ≡ v / 2 ^ s + 1 + s

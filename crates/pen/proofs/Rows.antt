@@ -11,7 +11,7 @@ use Rattle.rules.proofs.Octets.{length-lowBits}
 use Rattle.pen.specs.declared.Pen.{Pen}
 use Rattle.pen.specs.Puts.{Able, Puts}
 use Rattle.pen.specs.Rows.{rowBits}
-use Rattle.pen.proofs.Words.{lowBits-split, lowBits-mod}
+use Rattle.rules.proofs.Words.{lowBits-split, lowBits-mod}
 use Rattle.pen.proofs.Putting.{puts-none, puts-then, puts-as, able-then}
 
 pub row-append : (a b : List ℕ) → rowBits (a ++ b) ≡ rowBits a ++ rowBits b

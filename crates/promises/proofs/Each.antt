@@ -8,6 +8,7 @@ use lib.ListN.{length}
 use borrow.Author.Tests.{eqb-true}
 use Rattle.rules.proofs.Octets.{Below, none, more}
 use Rattle.rules.proofs.Tests.{and-left, and-right}
+use Rattle.rules.proofs.Counts.{count-le}
 use Rattle.rules.specs.Chooses.{countOf, every}
 
 pub data Each {A : Type 0} (p : A → Bool) : List A → Type 0 where
@@ -51,15 +52,6 @@ or-right false b e = e
 pub or-false : (b : Bool) → b || false ≡ true → b ≡ true
 or-false true e = refl
 or-false false e = e
-
-pub count-le : (p : ℕ → Bool) (s : List ℕ) → countOf p s ≤ length s
-unfolding countOf
-count-le p [] = omega arith
-count-le p (x ∷ s) = step (p x) (count-le p s)
-  where
-    step : (b : Bool) → countOf p s ≤ length s → cond b 1 0 + countOf p s ≤ suc (length s)
-    step true h = omega arith
-    step false h = omega arith
 
 -- "every" by its count is each one
 each-from : (p : ℕ → Bool) (s : List ℕ) → countOf p s ≡ length s → Each p s

@@ -1,5 +1,7 @@
 pub mod Marked
 pub mod Octets
+pub mod Words
+pub mod Counts
 pub mod Tests
 pub mod Signed
 pub mod Firsts

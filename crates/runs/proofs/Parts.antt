@@ -3,14 +3,14 @@ use Prim.Native.Nat.{ℕ, zero, suc, _+_, _*_, _-_, _^_, _/_, _%_, _≤_, _<_}
 use mathlib.Core.Path.{_≡_, refl, sym, ap, _∙_}
 use mathlib.Core.List.{List, [], _∷_, _++_}
 use native.Mathlib.Omega.{arith}
-use native.Mathlib.Nat.{mod-lt, div-add-mod', div-one}
-use lib.ListN.{length, take, drop, set, take-append-drop}
-use lib.Pow.{shr-shr, pow-pos}
+use native.Mathlib.Nat.{div-one}
+use lib.ListN.{length, set}
+use lib.Pow.{shr-shr}
 use Rattle.rules.specs.Bits.{lowBits}
 use Rattle.rules.proofs.Octets.{length-lowBits}
 use Rattle.runs.specs.Flagged.{kindOf, kinds, Put}
 use Rattle.runs.proofs.Puts.{put-none, put-one, put-then, put-length, length-kinds, kinds-append}
-use Rattle.bits.proofs.Window.{lowBits-above, lowBits-take, lowBits-drop}
+use Rattle.rules.proofs.Words.{lowBits-split, lowBits-mod}
 
 -- the first j of n bits, and the next k
 pub next-bits : (n v j k : ℕ) → j + k ≤ n → lowBits j (v / 2 ^ (n - j)) ++ lowBits k (v / 2 ^ (n - (j + k))) ≡ lowBits (j + k) (v / 2 ^ (n - (j + k)))
@@ -18,15 +18,11 @@ next-bits n v j k h =
     let w = v / 2 ^ (n - (j + k)) in
     let e : n - (j + k) + k ≡ n - j = omega arith in
     let f : w / 2 ^ k ≡ v / 2 ^ (n - j) = shr-shr v (n - (j + k)) k ∙ ap (λ (i : ℕ). v / 2 ^ i) e in
-    rw (← f, ← lowBits-take j k w) (ap (λ (l : List ℕ). take j (lowBits (j + k) w) ++ l) (sym (lowBits-drop j k w)) ∙ take-append-drop j (lowBits (j + k) w))
+    rw (← f) (sym (lowBits-split j k w))
 
 -- only the low m bits count
 pub low-bits : (k m v : ℕ) → k ≤ m → lowBits k (v % 2 ^ m) ≡ lowBits k v
-low-bits k m v h =
-    let e : m ≡ (m - k) + k = omega arith in
-    let f : lowBits m (v % 2 ^ m) ≡ lowBits m v = sym (lowBits-above m (v / 2 ^ m) (v % 2 ^ m) (mod-lt v (pow-pos m))) ∙ ap (λ (x : ℕ). lowBits m x) (div-add-mod' v (2 ^ m)) in
-    sym (lowBits-drop (m - k) k (v % 2 ^ m)) ∙ ap (λ (i : ℕ). drop (m - k) (lowBits i (v % 2 ^ m))) (sym e)
-    ∙ ap (λ (l : List ℕ). drop (m - k) l) f ∙ ap (λ (i : ℕ). drop (m - k) (lowBits i v)) e ∙ lowBits-drop (m - k) k v
+low-bits k m v h = let e : m - k + k ≡ m = omega arith in rw e at (lowBits-mod k (m - k) v)
 
 -- the first j are put in
 pub record Spreading (common other : ℕ) (old : List ℕ) (from n v j : ℕ) (new : List ℕ) : Type 0 where

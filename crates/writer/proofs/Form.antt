@@ -22,7 +22,7 @@ use Rattle.choice.specs.Offers.{RiceIs, PlacedIs}
 use Rattle.choice.specs.Plans.{PlacedFor}
 use Rattle.pen.specs.declared.Pen.{Pen}
 use Rattle.pen.specs.Puts.{penBits, Able, Puts, Packed}
-use Rattle.pen.proofs.Words.{lowBits-join}
+use Rattle.rules.proofs.Words.{lowBits-join}
 use Rattle.pen.proofs.Putting.{drop-further}
 use Rattle.writer.specs.Forms.{IsFrame, wholeOctets, RiceReady, riceFormOf, valuesFormOf, placedFormOf, planForm, ZerosReady}
 use Rattle.writer.proofs.Whole.{whole-form}

@@ -9,7 +9,7 @@ use Rattle.rules.specs.Bits.{lowBits}
 use Rattle.rules.specs.First.{baseOf, riceCode}
 use Rattle.rules.specs.Zeros.{codesOf, codeOf}
 use Rattle.rules.proofs.Octets.{length-lowBits}
-use Rattle.pen.proofs.Words.{lowBits-join}
+use Rattle.rules.proofs.Words.{lowBits-join}
 use Rattle.writer.specs.declared.Code.{Code}
 use Rattle.writer.specs.Forms.{CodeIs}
 

@@ -12,7 +12,7 @@ use Rattle.rules.specs.Runs.{runsOf, riceForms, runsForm}
 use Rattle.rules.specs.Located.{widthOf}
 use Rattle.rules.specs.Chooses.{countOf, leastFrom, runS, fewestRunBits, placesOf, numbersForm, methodOf, methodForm, valueForm}
 use Rattle.rules.proofs.Octets.{length-lowBits}
-use Rattle.pen.proofs.Words.{lowBits-join}
+use Rattle.rules.proofs.Words.{lowBits-join}
 
 -- a number's bits, and what follows them
 pub number-then : (n v : ℕ) (b : List ℕ) {l : List ℕ} → lowBits n v ++ b ≡ l → n + length b ≡ length l
