@@ -10,7 +10,7 @@ use native.Mathlib.Decide.{ℕ-discrete}
 use lib.ListN.{length, getD, take, drop, set, replicate, length-set, length-drop}
 use lib.Seq.{take-suc, take-add, take-suc-set, take-set-le, getD-drop, getD-set-same, getD-set-other}
 use lib.Count.{leadingZeros, leading-top}
-use lib.Pow.{pow-mono, pow-pos, shl-exact}
+use lib.Pow.{pow-mono, shl-exact}
 use lib.Dec.{eqb, eqb·suc-zero, lit<}
 use Rattle.rules.specs.Bits.{lowBits}
 use Rattle.pen.specs.Puts.{Gathers}
@@ -108,32 +108,6 @@ top-flags m j w lo hi fits =
 
 pub top-left : (j w : ℕ) → 2 ^ j ≤ w → w < 2 ^ (j + 1) → w - 2 ^ j < 2 ^ j
 top-left j w lo hi = let two : 2 ^ (j + 1) ≡ 2 ^ j * 2 = rw add-one (pow-suc 2 j) in omega arith
-
--- the same by the leading zeros of a word whose low k bits are meant: z zeros, a 1, and the rest
-pub record Leads (k w z : ℕ) : Type 0 where
-  pub inside : z < k
-  pub says : lowBits k w ≡ replicate z 0 ++ (1 ∷ lowBits (k - (z + 1)) (w - 2 ^ (k - (z + 1))))
-  pub high : 2 ^ (k - (z + 1)) ≤ w
-  pub left : w - 2 ^ (k - (z + 1)) < 2 ^ (k - (z + 1))
-
-pub leading-flags : (k w : ℕ) → k ≤ 64 → 0 < w → w < 2 ^ k → (64 - k ≤ leadingZeros 64 w) × Leads k w (leadingZeros 64 w - (64 - k))
-leading-flags k w few some fits =
-    let t = leading-top 64 w some (lt-of-lt-of-le fits (pow-mono {j = 64} few)) in
-    let j = t .0 in
-    let below = top-below k j w (t .2) fits in
-    let s : 2 ^ suc j ≡ 2 ^ (j + 1) = ap (λ (n : ℕ). 2 ^ n) (omega arith) in
-    let hi : w < 2 ^ (j + 1) = rw s at (t .3) in
-    let z : leadingZeros 64 w - (64 - k) ≡ k - (j + 1) = omega (arith, t .1) in
-    let e : k - (k - (j + 1) + 1) ≡ j = omega arith in (
-      omega (arith, t .1),
-      rw z
-          (record {
-            inside = omega arith;
-            says = rw e (top-flags k j w (t .2) hi fits);
-            high = rw e (t .2);
-            left = rw e (top-left j w (t .2) hi);
-          }),
-    )
 
 -- a stretch of common places at once
 runs-zeros : (z v : ℕ) (l : List ℕ) → runsOf v (replicate z 0 ++ l) ≡ runsOf (v + z) l
