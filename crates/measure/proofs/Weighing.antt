@@ -1,23 +1,24 @@
 -- Laws of what runs need: the least S, and ceil(log2 D).
 use Prim.Native.Nat.{ℕ, zero, suc, _+_, _*_, _-_, _^_, _/_, _%_, _≤_, _<_}
 use mathlib.Core.Path.{_≡_, refl, sym, ap, _∙_}
-use mathlib.Core.List.{List}
+use mathlib.Core.List.{List, [], _∷_}
 use mathlib.Core.Bool.{Bool, true, false, cond}
 use native.Mathlib.Omega.{arith}
-use native.Mathlib.Nat.{pow-suc, zero-mul, suc-mul}
+use native.Mathlib.Nat.{pow-suc, zero-mul, suc-mul, mul-le-mul}
 use native.Mathlib.Numerals.{add-one}
 use native.Mathlib.Decide.{decLt}
-use borrow.Author.Tests.{lt-leb, le-leb}
+use borrow.Author.Tests.{lt-leb, le-leb, le-ltb}
 use lib.ListN.{length, getD, take, length-append, length-replicate}
 use lib.Dec.{ltb}
+use lib.Seq.{length-take-le}
 use lib.Pow.{pow-mono}
 use Rattle.rules.specs.Runs.{riceForm, riceForms}
 use Rattle.rules.specs.Located.{widthFrom, widthOf}
 use Rattle.rules.specs.Chooses.{leastFrom, leastS}
 use Rattle.rules.proofs.Octets.{length-lowBits}
-use Rattle.pen.proofs.Rice.{forms-suc}
+use Rattle.pen.proofs.Rice.{length-riceForm, forms-suc}
 use Rattle.measure.specs.declared.Least.{Least}
-use Rattle.measure.specs.Measures.{LeastIs}
+use Rattle.measure.specs.Measures.{bitsWith, LeastIs}
 
 -- the zeros of one run more; with each run go its one and its S low bits
 pub bits-turn : (s : ℕ) (runs : List ℕ) (j zeros r : ℕ) → j < length runs → zeros + j * (1 + s) ≡ length (riceForms s (take j runs)) → r ≡ getD runs j 0 / 2 ^ s
@@ -84,6 +85,30 @@ unfolding leastFrom
 least-done {f} {most} {best} k t h =
     let none : most + 1 - k ≡ 0 = omega arith in
     record { s = rw none at (t .says); bits = t .bits; from = t .from; to = omega (arith, t .to, t .within); small = t .small }
+
+-- the ones and the low bits alone: each run has a one and S low bits
+pub forms-least : (s : ℕ) (runs : List ℕ) → length runs * (1 + s) ≤ length (riceForms s runs)
+unfolding riceForms
+forms-least s [] = rw (zero-mul (1 + s)) (omega arith)
+forms-least s (v ∷ runs) = rw (suc-mul (length runs) (1 + s), length-append, length-riceForm) (omega (arith, forms-least s runs))
+
+-- so where they reach a number of bits, no larger S needs fewer
+pub no-fewer : (extra runs : List ℕ) (count k : ℕ) {b : ℕ} → count ≤ length runs → b ≤ count * (1 + k) → (j : ℕ) → k ≤ j → b ≤ bitsWith extra (take count runs) j
+no-fewer extra runs count k long h j g =
+    let more : count * (1 + k) ≤ count * (1 + j) = mul-le-mul {n₂ = count} {m₂ = 1 + j} (omega arith) (omega arith) in
+    let all : count * (1 + j) ≤ length (riceForms j (take count runs)) = rw (length-take-le count runs long) at (forms-least j (take count runs)) in
+    omega arith
+
+-- and the search ends with what it has
+least-kept : (f : ℕ → ℕ) (best k more : ℕ) → ((j : ℕ) → k ≤ j → f best ≤ f j) → leastFrom f best k more ≡ best
+unfolding leastFrom
+least-kept f best k zero h = refl
+least-kept f best k (suc more) h = rw (le-ltb (f k) (f best) (h k (omega arith))) (least-kept f best (k + 1) more (λ j g. h j (omega arith)))
+
+pub least-stop : {f : ℕ → ℕ} {most : ℕ} {best : Least} (k : ℕ) → Leasting f most best k → ((j : ℕ) → k ≤ j → best .bits ≤ f j) → LeastIs f most best
+least-stop {f} {most} {best} k t h =
+    let kept = least-kept f (best .s) k (most + 1 - k) (λ j g. rw (t .bits) at (h j g)) in
+    record { s = sym kept ∙ t .says; bits = t .bits; from = t .from; to = omega (arith, t .to, t .within); small = t .small }
 
 -- ceil(log2 D)
 below-pow : (w : ℕ) → w < 2 ^ w

@@ -71,7 +71,8 @@ fn lesser(best: Least, s: usize, bits: usize) -> Least
     best
 }
 
-// Of S = 1 to most, the first with fewest bits of the runs and of what goes with S.
+// Of S = 1 to most, the first with fewest bits of the runs and of what goes with S. Each run has a one and S low bits. Where these alone are
+// as many as the fewest so far, no S from there on needs fewer, since they grow with S; the search stops.
 pub fn least_s(runs: &[u16; 321], count: usize, extra: &[u8; 10], most: usize) -> Least
     requires { ⌜ (count ≤ 321) × (count ≤ length (now runs)) ⌝ }
     requires { ⌜ (1 ≤ most) × (most ≤ 9) ⌝ }
@@ -83,6 +84,9 @@ pub fn least_s(runs: &[u16; 321], count: usize, extra: &[u8; 10], most: usize) -
     };
     let mut k = 2;
     while k <= most {
+        if best.bits <= count * (1 + k) {
+            return best;
+        }
         let bits = octet(extra[k]) + run_bits(runs, count, k);
         best = lesser(best, k, bits);
         k += 1;

@@ -1,10 +1,11 @@
 use borrow.Author.Needs.{needs}
 use mathlib.Core.Path.{ap₂}
-use Prim.Native.Nat.{_+_, _-_}
+use Prim.Native.Nat.{_+_, _*_, _-_}
 use native.Mathlib.Omega.{arith}
+use native.Mathlib.Nat.{mul-le-mul}
 use lib.ListN.{take}
 use Rattle.measure.specs.Measures.{bitsWith}
-use Rattle.measure.proofs.Weighing.{Leasting, least-start, least-turn, least-done}
+use Rattle.measure.proofs.Weighing.{Leasting, least-start, least-turn, least-done, least-stop, no-fewer}
 use Rattle.measure.proofs.least_s.Statement.{statement}
 use Rattle.measure.proofs.least_s.Tie as tie
 use Rattle.measure.proofs.least_s.Reads as reads
@@ -34,6 +35,15 @@ add-t13 c = search needs
 loop-holds : tie.Need-loop-holds Inv-loop μ-loop
 loop-holds c = least-start _ _ _ (omega arith) (ap₂ _+_ (c .before .octet .ensures .0) (c .run-bits .ensures .0)) (omega (arith, c .before .octet .ensures .1, c .run-bits .ensures .1))
 
+add-if1 : tie.Need-add-if1 Inv-loop μ-loop
+add-if1 c = search needs
+
+mul-if1 : tie.Need-mul-if1 Inv-loop μ-loop
+mul-if1 c = let s = c .before .before .before .before .before in let few = mul-le-mul {m₁ = 1 + c .before .loop .k} {n₂ = 321} {m₂ = 10} (s .pre .0 .0) (omega (arith, c .loop-test .taken, s .pre .1 .1)) in omega arith
+
+returns : tie.Need-returns Inv-loop μ-loop
+returns c = let s = c .before .before .before .before .before .before .before in let l = c .before .before .before .loop in least-stop (l .k) (l .inv) (no-fewer (s .args .extra .now) (s .args .runs .now) (s .args .count) (l .k) (s .pre .0 .1) (c .if1 .taken))
+
 element-copy-out-octet-2 : tie.Need-element-copy-out-octet-2 Inv-loop μ-loop
 element-copy-out-octet-2 c = search needs
 
@@ -56,10 +66,10 @@ loop-less : tie.Need-loop-less Inv-loop μ-loop
 loop-less c = search needs
 
 loop-again : tie.Need-loop-again Inv-loop μ-loop
-loop-again c = least-turn (c .before .before .before .before .before .loop .k) _ (c .before .before .before .before .before .loop .inv) (c .before .before .before .before .loop-test .taken) (ap₂ _+_ (c .before .before .octet2 .ensures .0) (c .before .run-bits2 .ensures .0)) (omega (arith, c .before .before .octet2 .ensures .1, c .before .run-bits2 .ensures .1)) (c .lesser .ensures .0) (c .lesser .ensures .1)
+loop-again c = least-turn (c .before .before .before .before .before .before .before .loop .k) _ (c .before .before .before .before .before .before .before .loop .inv) (c .before .before .before .before .before .before .loop-test .taken) (ap₂ _+_ (c .before .before .octet2 .ensures .0) (c .before .run-bits2 .ensures .0)) (omega (arith, c .before .before .octet2 .ensures .1, c .before .run-bits2 .ensures .1)) (c .lesser .ensures .0) (c .lesser .ensures .1)
 
-returns : tie.Need-returns Inv-loop μ-loop
-returns c = least-done _ (c .before .loop .inv) (c .loop-test .left)
+returns-2 : tie.Need-returns-2 Inv-loop μ-loop
+returns-2 c = least-done _ (c .before .loop .inv) (c .loop-test .left)
 
 pub least-s-spec : {M : Type 1} → statement M
 least-s-spec =
@@ -72,6 +82,9 @@ least-s-spec =
     run-bits-requires
     add-t13
     loop-holds
+    add-if1
+    mul-if1
+    returns
     element-copy-out-octet-2
     octet-requires-2
     run-bits-requires-2
@@ -80,4 +93,4 @@ least-s-spec =
     add-k
     loop-less
     loop-again
-    returns)
+    returns-2)
