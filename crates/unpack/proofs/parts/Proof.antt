@@ -4,6 +4,7 @@ use borrow.Author.Tests.{not-true, not-false}
 use native.Mathlib.Omega.{arith}
 use Prim.Native.Nat.{_-_}
 use mathlib.Core.Path.{_≡_, refl, _∙_}
+use mathlib.Core.Bool.{true}
 use lib.ListN.{length}
 use Rattle.unpack.proofs.Running.{Going, going-first, next-sound, going-on, goes-whole}
 use Rattle.unpack.proofs.parts.Statement.{statement}
@@ -15,7 +16,7 @@ Inv-loop stream law set compares fd page₀ master₀ at₀ frames₀ samples₀
 abbrev μ-loop : tie.MeasureT-loop
 μ-loop stream law set compares fd page₀ master₀ at₀ frames₀ samples₀ page master at frames samples = length stream - at
 
--- the places before a part was used: the call, the loop's head, and the part
+-- the two pages keep their lengths
 module _ (d : tie.After-use-part Inv-loop μ-loop) where
   abbrev start : tie.Start Inv-loop μ-loop
   start = d .before .before .before .before .before .before .before .before .before .before .before
@@ -74,8 +75,9 @@ returns-2 c e =
 loop-less : tie.Need-loop-less Inv-loop μ-loop
 loop-less c =
     let d = c .before .before .before .before .before .before .before .before in
-    let g = d .before .before .before .before .before .next-part .ensures .1 in
-    let more = not-false _ (c .if2 .left) in
+    let p = d .before .before .before .before .before .next-part in
+    let g = p .ensures .1 in
+    let more : p .result .more ≡ true = not-false _ (c .if2 .left) in
     omega (arith, g .nearer (omega (arith, d .before .before .before .before .before .before .before .loop .inv .0 .page-size, d .before .before .before .before .before .before .before .before .before .before .before .pre .1)) more, g .inside more)
 
 loop-again : tie.Need-loop-again Inv-loop μ-loop
