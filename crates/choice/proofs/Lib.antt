@@ -6,3 +6,4 @@ pub mod TwoZeros
 pub mod Choosing
 pub mod Settling
 pub mod Planning
+pub mod Even

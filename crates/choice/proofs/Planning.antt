@@ -34,7 +34,7 @@ offers set t e = rw e (sym (both (holds set t)))
     both true = refl
     both false = refl
 
-rice-form : (mask : ℕ) (s : List ℕ) → length (riceChoice mask s) ≡ length (formOf mask 6 s)
+pub rice-form : (mask : ℕ) (s : List ℕ) → length (riceChoice mask s) ≡ length (formOf mask 6 s)
 unfolding formOf
 rice-form mask s = refl
 

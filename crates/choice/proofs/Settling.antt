@@ -1,20 +1,20 @@
 -- Laws of what the first look settles: a frame of one value, and a frame that only uncompressed applies to.
-use Prim.Native.Nat.{ℕ, zero, suc, _+_, _*_, _-_, _^_, _/_, _%_, _≤_, _<_}
+use Prim.Native.Nat.{ℕ, zero, suc, _+_, _/_, _%_, _≤_, _<_}
 use mathlib.Core.Path.{_≡_, refl, sym, ap, _∙_}
-use mathlib.Core.List.{List, [], _∷_, _++_, map}
+use mathlib.Core.List.{List, [], _∷_, map}
 use mathlib.Core.Bool.{Bool, true, false, cond, _&&_}
 use native.Mathlib.Omega.{arith}
 use borrow.Author.Tests.{eq-eqb, ne-eqb, eqb-true, le-leb, leb-false, ltb-false}
 use lib.ListN.{length, getD, length-append, length-map}
 use lib.Dec.{eqb, leb, ltb}
-use Rattle.rules.specs.Bits.{lowBits, octetsFor}
+use Rattle.rules.specs.Bits.{lowBits}
 use Rattle.rules.specs.Tools.{holds}
 use Rattle.rules.specs.Samples.{plusZero, minusZero}
 use Rattle.rules.specs.First.{isLong, baseOf, riceCode}
-use Rattle.rules.specs.Runs.{runsOf, riceForms, runsForm}
+use Rattle.rules.specs.Runs.{runsOf, riceForms}
 use Rattle.rules.specs.Zeros.{codesOf, codeOf, flagOf}
 use Rattle.rules.specs.Located.{caseOf}
-use Rattle.rules.specs.Chooses.{countOf, every, leastFrom, bestS, markOf, riceChoice, locatedForm, leastOf, greatestOf, rowOf, applies, formOf, octetsOfForm, choose, chosenTool}
+use Rattle.rules.specs.Chooses.{countOf, every, leastFrom, bestS, markOf, riceChoice, locatedForm, leastOf, greatestOf, rowOf, applies, formOf, octetsOfForm, choose}
 use Rattle.rules.proofs.Octets.{length-lowBits, length-bitsOf}
 use Rattle.rules.proofs.Tests.{or-cases}
 use Rattle.pen.proofs.Rice.{length-riceForm}
@@ -24,7 +24,7 @@ use Rattle.rules.proofs.Counts.{count-le}
 use Rattle.measure.proofs.Finding.{runs-common, runs-other}
 use Rattle.choice.specs.Plans.{isMask, measured, valueTool, Plain}
 use Rattle.choice.proofs.Near.{never, and-zero}
-use Rattle.choice.proofs.TwoZeros.{rice-applies}
+use Rattle.choice.proofs.TwoZeros.{rice-applies, rice-sum}
 use Rattle.choice.proofs.Choosing.{constant-bits, minus-bits, plus-bits}
 
 -- a Rice code has a one and S low bits, so that runs of anything at all have more bits than S
@@ -39,7 +39,7 @@ runs-some s (suc c) [] h = one-run s (suc c) []
 runs-some s c (zero ∷ flags) h = rw (runs-common c flags) (runs-some s (c + 1) flags (omega arith))
 runs-some s c (suc f ∷ flags) h = rw (runs-other c f flags) (one-run s c (runsOf 0 flags))
 
-least-some : (f : ℕ → ℕ) (best k more : ℕ) → 1 ≤ best → 1 ≤ k → 1 ≤ leastFrom f best k more
+pub least-some : (f : ℕ → ℕ) (best k more : ℕ) → 1 ≤ best → 1 ≤ k → 1 ≤ leastFrom f best k more
 unfolding leastFrom
 least-some f best k zero h g = h
 least-some f best k (suc more) h g = least-some f (cond (ltb (f k) (f best)) k best) (k + 1) more (either (ltb (f k) (f best))) (omega arith)
@@ -49,7 +49,7 @@ least-some f best k (suc more) h g = least-some f (cond (ltb (f k) (f best)) k b
     either false = h
 
 -- the code of S and S itself: at least three bits
-code-some : (n s : ℕ) → 1 ≤ s → 3 ≤ length (codeOf n s) + s
+pub code-some : (n s : ℕ) → 1 ≤ s → 3 ≤ length (codeOf n s) + s
 unfolding codesOf
 code-some n zero h = absurd (omega arith)
 code-some n (suc zero) h = go (eqb n 40) refl (eqb n 80) refl
@@ -66,29 +66,25 @@ code-some n (suc (suc zero)) h = go (eqb n 40) refl (eqb n 80) refl
     go false e false f = rw (e, f) (omega arith)
 code-some n (suc (suc (suc s))) h = omega arith
 
-start-some : (n mark : ℕ) → 5 ≤ length (riceCode n mark)
+pub start-some : (n mark : ℕ) → 5 ≤ length (riceCode n mark)
 start-some n mark = rw length-append (go (isLong n) (lowBits 4 (baseOf n / 16)) (lowBits 2 (baseOf n / 64)) (length-lowBits 4 (baseOf n / 16)) (length-lowBits 2 (baseOf n / 64)))
   where
     go : (b : Bool) (u v : List ℕ) → length u ≡ 4 → length v ≡ 2 → 5 ≤ length (cond b u v) + length (cond b (1 ∷ 0 ∷ mark ∷ []) (0 ∷ 1 ∷ mark ∷ []))
     go true u v e f = omega arith
     go false u v e f = omega arith
 
-of-two : {A : Type 0} (P : A → Type 0) (a : Bool) {x y : A} → P x → P y → P (cond a x y)
+pub of-two : {A : Type 0} (P : A → Type 0) (a : Bool) {x y : A} → P x → P y → P (cond a x y)
 of-two P true p q = p
 of-two P false p q = q
 
 module _ (mask : ℕ) (s : List ℕ) where
   rice-long : 1 ≤ length s → 9 ≤ length (riceChoice mask s)
-  unfolding riceChoice
   rice-long some =
       let S = bestS mask (markOf mask s) s in
       let h : 1 ≤ S = least-some _ 1 2 _ (omega arith) (omega arith) in
       let fs = map (flagOf mask (markOf mask s)) s in
       let r = runs-some S 0 fs (omega (arith, length-map s (flagOf mask (markOf mask s)))) in
-      let start = riceCode (length s) (markOf mask s) in
-      let sum : length (riceChoice mask s) ≡ length start + (length (codeOf (length s) S) + length (runsForm S fs)) =
-      length-append start (codeOf (length s) S ++ runsForm S fs) ∙ ap (λ (k : ℕ). length start + k) (length-append (codeOf (length s) S) (runsForm S fs)) in
-      rw sum (omega (arith, start-some (length s) (markOf mask s), code-some (length s) S h, r))
+      rw (rice-sum mask s) (omega (arith, start-some (length s) (markOf mask s), code-some (length s) S h, r))
 
   -- every form has a bit; those that are measured, and uncompressed, have more than an octet
   form-some : (t : ℕ) → 1 ≤ length (formOf mask t s)
@@ -120,7 +116,7 @@ module _ (mask : ℕ) (s : List ℕ) where
 
   module _ (set : ℕ) where
     -- a tool that is not taken, and one that is
-    passed : (t : ℕ) (ts : List ℕ) → (holds set t && applies mask t s) ≡ false → choose mask set s (t ∷ ts) ≡ choose mask set s ts
+    pub passed : (t : ℕ) (ts : List ℕ) → (holds set t && applies mask t s) ≡ false → choose mask set s (t ∷ ts) ≡ choose mask set s ts
     unfolding choose
     passed t ts e = rw e
 
@@ -128,7 +124,7 @@ module _ (mask : ℕ) (s : List ℕ) where
     unfolding choose
     last = refl
 
-    won : (t : ℕ) (ts : List ℕ) → (holds set t && applies mask t s) ≡ true → octetsOfForm mask s t ≤ octetsOfForm mask s (choose mask set s ts)
+    pub won : (t : ℕ) (ts : List ℕ) → (holds set t && applies mask t s) ≡ true → octetsOfForm mask s t ≤ octetsOfForm mask s (choose mask set s ts)
         → choose mask set s (t ∷ ts) ≡ t
     unfolding choose
     won t ts e h = rw (e, le-leb (octetsOfForm mask s t) (octetsOfForm mask s (choose mask set s ts)) h)

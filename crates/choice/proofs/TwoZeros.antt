@@ -1,8 +1,8 @@
 -- Laws of frames of zeros: where binary and Rice apply, and what Rice would write.
-use Prim.Native.Nat.{ℕ, zero, suc, _+_, _*_, _-_, _≤_, _<_}
+use Prim.Native.Nat.{ℕ, zero, suc, _+_, _*_, _-_, _≤_}
 use mathlib.Core.Path.{_≡_, refl, sym, ap, ap₂, _∙_}
 use mathlib.Core.List.{List, [], _∷_, _++_, map}
-use mathlib.Core.Bool.{Bool, true, false, cond, _&&_, _||_}
+use mathlib.Core.Bool.{Bool, true, false, cond, _||_}
 use native.Mathlib.Omega.{arith}
 use borrow.Author.Tests.{eqb-true}
 use lib.ListN.{length, getD, take, replicate, length-append}
@@ -63,48 +63,56 @@ zeros-apply mask s = refl
 pub no-rice : {mask set : ℕ} {s runs : List ℕ} {r : Zeros} → holds set 6 ≡ false → r .bits ≡ 0 → RiceFor mask set s r runs
 no-rice e z = record { rice = λ h. absurd (never (sym e ∙ h)); small = omega arith }
 
-module _ (mask : ℕ) (s : List ℕ) {n minus : ℕ} (zeros : twoZeros mask s ≡ true) (size : length s ≡ n) (is-minus : minus ≡ countIs (minusZero mask) s) where
-  -- all that is not minus zero is plus zero
-  plus-left : n - minus ≡ countIs (plusZero mask) s
-  plus-left = omega (arith, eqb-true (countOf (λ x. eqb x (plusZero mask) || eqb x (minusZero mask)) s) (length s) zeros, is-minus, either (plusZero mask) (minusZero mask) (two-zeros mask) s)
+-- all that is not minus zero is plus zero
+pub plus-left : (mask : ℕ) (s : List ℕ) {n minus : ℕ} → twoZeros mask s ≡ true → length s ≡ n → minus ≡ countIs (minusZero mask) s → n - minus ≡ countIs (plusZero mask) s
+plus-left mask s zeros size is-minus =
+    omega (arith, eqb-true (countOf (λ x. eqb x (plusZero mask) || eqb x (minusZero mask)) s) (length s) zeros, is-minus, either (plusZero mask) (minusZero mask) (two-zeros mask) s)
 
-  pub rice-for : {set mark zero′ most start count : ℕ} {runs extra : List ℕ} {least : Least} → mark ≡ cond (ltb (n - minus) minus) 1 0
-      → zero′ ≡ zeroOf mask (cond (ltb (n - minus) minus) 1 0) 0 → RunsAre (marksOf zero′ 0 1 s) count runs → CodesAre n extra → most ≡ mostS n → most ≤ 9
-      → LeastIs (bitsWith extra (take count runs)) most least → StartIs n start
-      → RiceFor mask set s (record { tool = 6; bits = start + least .bits; mark = mark; s = least .s; count = count }) runs
+module _ (mask : ℕ) (s : List ℕ) where
+  -- the bits of Rice: those before the code of S, the code, and the runs
+  pub rice-sum : length (riceChoice mask s)
+      ≡ length (riceCode (length s) (markOf mask s)) + riceBits mask (markOf mask s) s (bestS mask (markOf mask s) s)
   unfolding riceChoice
-  rice-for {mark = mark} {zero′ = zero′} {most = most} {start = start} {count = count} {runs = runs} {extra = extra} {least = least} marked zeroed found codes top few best begun =
-      let told : cond (ltb (n - minus) minus) 1 0 ≡ markOf mask s = rw (plus-left, is-minus) in
-      let m : mark ≡ markOf mask s = marked ∙ told in
-      let fs = map (flagOf mask (markOf mask s)) s in
-      let f : marksOf zero′ 0 1 s ≡ fs = ap (λ (z : ℕ). marksOf z 0 1 s) (zeroed ∙ ap (λ (k : ℕ). zeroOf mask k 0) told) in
-      let r : RunsAre fs count runs = rw f at found in
-      let g : bitsWith extra (take count runs) ≡ riceBits mask (markOf mask s) s =
-      λ i S.
-      ap₂ _+_ (codes .says S ∙ ap (λ (k : ℕ). length (codeOf k S)) (sym size)) (ap (λ (rs : List ℕ). length (riceForms S rs)) (r .says)) i in
-      let weigh = riceBits mask (markOf mask s) s in
-      let b : least .s ≡ bestS mask (markOf mask s) s =
-      best .s ∙ ap (λ (h : ℕ → ℕ). leastFrom h 1 2 (most - 1)) g ∙ ap (λ (k : ℕ). leastFrom weigh 1 2 (k - 1)) (top ∙ ap mostS (sym size)) in
+  rice-sum =
       let S = bestS mask (markOf mask s) s in
       let first′ = riceCode (length s) (markOf mask s) in
-      let sum : length (riceChoice mask s) ≡ length first′ + weigh S =
-      length-append first′ (codeOf (length s) S ++ runsForm S fs) ∙ ap (λ (k : ℕ). length first′ + k) (length-append (codeOf (length s) S) (runsForm S fs)) in
-      record {
-        rice = λ h.
-            record {
-              mark = m;
-              best = b;
-              to = omega (arith, best .to);
-              most = rw (size, ← top) (best .to);
-              from = best .from;
-              found = r;
-              bits =
-                  ap₂ _+_ (begun .says (markOf mask s) ∙ ap (λ (k : ℕ). length (riceCode k (markOf mask s))) (sym size))
-                  (best .bits ∙ ap (λ (h : ℕ → ℕ). h (least .s)) g ∙ ap weigh b)
-                  ∙ sym sum;
-            };
-        small = omega (arith, best .small, begun .small);
-      }
+      let code = codeOf (length s) S in
+      let runs = runsForm S (map (flagOf mask (markOf mask s)) s) in
+      length-append first′ (code ++ runs) ∙ ap (λ (k : ℕ). length first′ + k) (length-append code runs)
+
+  module _ {n plus minus : ℕ} (size : length s ≡ n) (is-plus : plus ≡ countIs (plusZero mask) s) (is-minus : minus ≡ countIs (minusZero mask) s) where
+    pub rice-for : {set mark zero′ most start count : ℕ} {runs extra : List ℕ} {least : Least} → mark ≡ cond (ltb plus minus) 1 0
+        → zero′ ≡ zeroOf mask (cond (ltb plus minus) 1 0) 0 → RunsAre (marksOf zero′ 0 1 s) count runs → CodesAre n extra → most ≡ mostS n → most ≤ 9
+        → LeastIs (bitsWith extra (take count runs)) most least → StartIs n start
+        → RiceFor mask set s (record { tool = 6; bits = start + least .bits; mark = mark; s = least .s; count = count }) runs
+    rice-for {mark = mark} {zero′ = zero′} {most = most} {start = start} {count = count} {runs = runs} {extra = extra} {least = least} marked zeroed found codes top few best begun =
+        let told : cond (ltb plus minus) 1 0 ≡ markOf mask s = rw (is-plus, is-minus) in
+        let m : mark ≡ markOf mask s = marked ∙ told in
+        let fs = map (flagOf mask (markOf mask s)) s in
+        let f : marksOf zero′ 0 1 s ≡ fs = ap (λ (z : ℕ). marksOf z 0 1 s) (zeroed ∙ ap (λ (k : ℕ). zeroOf mask k 0) told) in
+        let r : RunsAre fs count runs = rw f at found in
+        let g : bitsWith extra (take count runs) ≡ riceBits mask (markOf mask s) s =
+        λ i S.
+        ap₂ _+_ (codes .says S ∙ ap (λ (k : ℕ). length (codeOf k S)) (sym size)) (ap (λ (rs : List ℕ). length (riceForms S rs)) (r .says)) i in
+        let weigh = riceBits mask (markOf mask s) s in
+        let b : least .s ≡ bestS mask (markOf mask s) s =
+        best .s ∙ ap (λ (h : ℕ → ℕ). leastFrom h 1 2 (most - 1)) g ∙ ap (λ (k : ℕ). leastFrom weigh 1 2 (k - 1)) (top ∙ ap mostS (sym size)) in
+        record {
+          rice = λ h.
+              record {
+                mark = m;
+                best = b;
+                to = omega (arith, best .to);
+                most = rw (size, ← top) (best .to);
+                from = best .from;
+                found = r;
+                bits =
+                    ap₂ _+_ (begun .says (markOf mask s) ∙ ap (λ (k : ℕ). length (riceCode k (markOf mask s))) (sym size))
+                    (best .bits ∙ ap (λ (h : ℕ → ℕ). h (least .s)) g ∙ ap weigh b)
+                    ∙ sym rice-sum;
+              };
+          small = omega (arith, best .small, begun .small);
+        }
 
 -- the runs of a row of flags are those of the samples
 pub row-runs : {n count : ℕ} {row runs : List ℕ} (x : ℕ) (samples : List ℕ) (k : ℕ) → 40 * k ≡ n → RowIs (marksOf x 0 1 (take (40 * k) samples)) k row → RunsAre (rowBits (take k row)) count runs

@@ -17,9 +17,10 @@ ghost use Prim.Native.Nat.{_+_, _*_, _%_, _≤_, _<_};
 ghost use lib.ListN.{length, getD, take};
 ghost use lib.Dec.{eqb, leb, ltb};
 ghost use Rattle.rules.specs.Tools as tools;
+ghost use Rattle.rules.specs.Samples.{plusZero, minusZero};
 ghost use Rattle.rules.specs.Zeros.{zeroOf, mostS};
 ghost use Rattle.rules.specs.Chooses.{leastOf, greatestOf};
-ghost use Rattle.measure.specs.Measures.{near, twoZeros, SpreadIs};
+ghost use Rattle.measure.specs.Measures.{countIs, near, twoZeros, SpreadIs};
 ghost use Rattle.choice.specs.Ways.{WayFor, WayIn, InTurn, WaysAre};
 ghost use Rattle.choice.specs.Offers.{leastBy, greatestBy, rowBy, Tallied, valuesBy, valuesFor, CodesAre, StartIs, RiceFor};
 ghost use Rattle.choice.specs.Plans.{BetterIs, isMask, valueTool, Plain, ZerosFor, placedBy, PlacedFor};
@@ -404,10 +405,18 @@ pub struct Zeros {
     pub count: usize,
 }
 
-// Rice, where the set holds it: the runs are left in the lent array. All samples that are not minus zero are plus zero.
-fn rice_of(samples: &[u8], n: usize, mask: u8, set: u32, runs: &mut [u16; 321]) -> Zeros
+// Rice, where the set holds it: the runs are left in the lent array.
+fn rice_of(
+    samples: &[u8],
+    n: usize,
+    mask: u8,
+    set: u32,
+    plus: usize,
+    minus: usize,
+    runs: &mut [u16; 321],
+) -> Zeros
     requires { ⌜ (n ≤ 320) × ((n ≤ length (now samples)) × ((mask < 128) × (n % 40 ≡ 0))) ⌝ }
-    requires { ⌜ twoZeros mask (take n (now samples)) ≡ true ⌝ }
+    requires { ⌜ (plus ≡ countIs (plusZero mask) (take n (now samples))) × (minus ≡ countIs (minusZero mask) (take n (now samples))) ⌝ }
     requires { ⌜ length (now runs) ≡ 321 ⌝ }
     ensures { λ r. ⌜ RiceFor mask set (take n (now (samples .entry))) r (now (runs .exit)) ⌝ }
 {
@@ -420,8 +429,6 @@ fn rice_of(samples: &[u8], n: usize, mask: u8, set: u32, runs: &mut [u16; 321]) 
             count: 0,
         };
     }
-    let minus = count_of(samples, n, minus_zero(mask));
-    let plus = n - minus;
     let mark = mark_of(plus, minus);
     let zero = common_zero(mask, plus, minus);
     let row = others(samples, n / 40, zero);
@@ -435,6 +442,23 @@ fn rice_of(samples: &[u8], n: usize, mask: u8, set: u32, runs: &mut [u16; 321]) 
         s: least.s,
         count: count,
     }
+}
+
+// Whether binary is held and the two zeros are so nearly as many that Rice can't need fewer octets. Let c samples be of the rarer zero: there
+// are c runs or more, and N - c places in them. With S = 1 a run v has 2 + v / 2 bits, twice that is v + 3 or more, and so twice the bits of
+// all runs are N + 2c or more. A larger S has 3 or more for each run. Before the runs stand 7 bits or more with S = 1, and 5 with any S. So where
+// N is below 2c + 14, Rice has more than N bits, which is N / 8 + 1 octets or more, as binary has.
+fn binary_at_once(set: u32, plus: usize, minus: usize) -> bool
+    requires { ⌜ (plus ≤ 320) × (minus ≤ 320) ⌝ }
+    ensures { λ r. ⌜ r ≡ tools.holds set 5 && ltb minus (plus + 14) && ltb plus (minus + 14) ⌝ }
+{
+    if !holds(set, 5) {
+        return false;
+    }
+    if plus + 14 <= minus {
+        return false;
+    }
+    plus < minus + 14
 }
 
 // A tool, and the bits of its form.
@@ -523,15 +547,27 @@ pub fn plain_tool(samples: &[u8], n: usize, l: Spread, mask: u8, set: u32) -> u3
 }
 
 // "Fewest octets" for a frame of the two zeros that the first look does not settle: from uncompressed on, each tool of the tie order takes
-// its place where it is not more. Value-location does not apply: no row has the least -1 or 0 and the greatest -1 or 0.
+// its place where it is not more. Value-location does not apply: no row has the least -1 or 0 and the greatest -1 or 0. All samples that are
+// not minus zero are plus zero.
 pub fn zeros_plan(samples: &[u8], n: usize, mask: u8, set: u32, runs: &mut [u16; 321]) -> Zeros
     requires { ⌜ (n ≤ 320) × ((n ≤ length (now samples)) × ((mask < 128) × (n % 40 ≡ 0))) ⌝ }
     requires { ⌜ twoZeros mask (take n (now samples)) ≡ true ⌝ }
     requires { ⌜ length (now runs) ≡ 321 ⌝ }
     ensures { λ r. ⌜ ZerosFor mask set (take n (now (samples .entry))) r (now (runs .exit)) ⌝ }
 {
-    let rice = rice_of(samples, n, mask, set, runs);
+    let minus = count_of(samples, n, minus_zero(mask));
+    let plus = n - minus;
     let binary_bits = 8 + n;
+    if binary_at_once(set, plus, minus) {
+        return Zeros {
+            tool: 5,
+            bits: binary_bits,
+            mark: 0,
+            s: 1,
+            count: 0,
+        };
+    }
+    let rice = rice_of(samples, n, mask, set, plus, minus, runs);
     let uncompressed = uncompressed_of(n);
     let six = better(uncompressed, 6, holds(set, 6), rice.bits);
     let five = better(six, 5, holds(set, 5), binary_bits);

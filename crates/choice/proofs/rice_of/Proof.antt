@@ -1,7 +1,6 @@
 use borrow.Author.Needs.{needs}
 use Prim.Native.Nat.{_/_}
 use Rattle.choice.proofs.TwoZeros.{no-rice, rice-for, row-runs}
-use Rattle.choice.proofs.Near.{counted, count-fits}
 use lib.Seq.{length-take-le}
 use lib.ListN.{take}
 use borrow.Author.Tests.{not-true}
@@ -16,8 +15,6 @@ use Rattle.choice.proofs.common_zero.Reads as common-zero-reads
 use Rattle.choice.proofs.mark_of.Reads as mark-of-reads
 use Rattle.choice.proofs.most_s.Reads as most-s-reads
 use Rattle.choice.proofs.start_bits.Reads as start-bits-reads
-use Rattle.law.proofs.minus_zero.Reads as minus-zero-reads
-use Rattle.measure.proofs.count_of.Reads as count-of-reads
 use Rattle.measure.proofs.least_s.Reads as least-s-reads
 use Rattle.measure.proofs.others.Reads as others-reads
 use Rattle.measure.proofs.runs_in.Reads as runs-in-reads
@@ -28,15 +25,6 @@ holds-requires c κs = search needs
 
 returns : tie.Need-returns
 returns c = no-rice (sym (c .before .holds .ensures) ∙ not-true _ (c .if1 .taken)) refl
-
-minus-zero-requires : tie.Need-minus-zero-requires
-minus-zero-requires c κs = search needs
-
-count-of-requires : tie.Need-count-of-requires
-count-of-requires c κs = search needs
-
-sub-plus : tie.Need-sub-plus
-sub-plus c = let s = c .before .before .before .before .before in count-fits (c .before .minus-zero .result) (s .args .samples .now) (s .pre .0 .1 .0) (c .count-of .ensures .0)
 
 mark-of-requires : tie.Need-mark-of-requires
 mark-of-requires c κs = search needs
@@ -62,11 +50,11 @@ least-s-requires c κs = search needs
 start-bits-requires : tie.Need-start-bits-requires
 start-bits-requires c κs = search needs
 
-add-t24 : tie.Need-add-t24
-add-t24 c = search needs
+add-t23 : tie.Need-add-t23
+add-t23 c = search needs
 
 returns-2 : tie.Need-returns-2
-returns-2 c = let s = c .before .before .before .before .before .before .before .before .before .before .before .before .before .before .before .before .before .before in let size = length-take-le (s .args .n) (s .args .samples .now) (s .pre .0 .1 .0) in rice-for (s .args .mask) (take (s .args .n) (s .args .samples .now)) (s .pre .1 .0) size (counted (take (s .args .n) (s .args .samples .now)) (c .before .before .before .before .before .before .before .before .before .before .before .before .before .count-of .ensures .0) (c .before .before .before .before .before .before .before .before .before .before .before .before .before .before .minus-zero .ensures)) (c .before .before .before .before .before .before .before .before .before .before .before .before .mark-of .ensures .0) (c .before .before .before .before .before .before .before .before .before .before .before .common-zero .ensures) (row-runs {n = s .args .n} _ (s .args .samples .now) (s .args .n / 40) (omega (arith, s .pre .0 .1 .1 .1)) (c .before .before .before .before .before .before .before .before .before .before .others .ensures) (c .before .before .before .before .before .before .before .runs-in .ensures)) (c .before .before .before .before .before .before .code-lengths .ensures) (c .before .before .before .most-s .ensures .0) (c .before .before .before .most-s .ensures .1 .1) (c .before .before .least-s .ensures) (c .before .start-bits .ensures)
+returns-2 c = let s = c .before .before .before .before .before .before .before .before .before .before .before .before .before .before .before .before in let size = length-take-le (s .args .n) (s .args .samples .now) (s .pre .0 .1 .0) in rice-for (s .args .mask) (take (s .args .n) (s .args .samples .now)) size (s .pre .1 .0 .0) (s .pre .1 .0 .1) (c .before .before .before .before .before .before .before .before .before .before .before .before .mark-of .ensures .0) (c .before .before .before .before .before .before .before .before .before .before .before .common-zero .ensures) (row-runs {n = s .args .n} _ (s .args .samples .now) (s .args .n / 40) (omega (arith, s .pre .0 .1 .1 .1)) (c .before .before .before .before .before .before .before .before .before .before .others .ensures) (c .before .before .before .before .before .before .before .runs-in .ensures)) (c .before .before .before .before .before .before .code-lengths .ensures) (c .before .before .before .most-s .ensures .0) (c .before .before .before .most-s .ensures .1 .1) (c .before .before .least-s .ensures) (c .before .start-bits .ensures)
 
 pub rice-of-spec : {M : Type 1} → statement M
 rice-of-spec =
@@ -74,9 +62,6 @@ rice-of-spec =
     (tie.spec
     holds-requires
     returns
-    minus-zero-requires
-    count-of-requires
-    sub-plus
     mark-of-requires
     common-zero-requires
     others-requires
@@ -85,5 +70,5 @@ rice-of-spec =
     most-s-requires
     least-s-requires
     start-bits-requires
-    add-t24
+    add-t23
     returns-2)
