@@ -91,11 +91,11 @@ fn way_if(has: bool, runs: &[u16; 321], found: usize, d: usize, count: usize) ->
 }
 
 // How many samples are 0, 1, -1 and -2.
-pub struct Tally {
-    pub plus: usize,
-    pub one: usize,
-    pub minus: usize,
-    pub twos: usize,
+struct Tally {
+    plus: usize,
+    one: usize,
+    minus: usize,
+    twos: usize,
 }
 
 // All samples are from -2 to 1, so what is none of the three is 0.
@@ -207,17 +207,17 @@ fn flag_of(above: usize, below: usize) -> usize
 }
 
 // A value as a sample, and how often it occurs.
-pub struct Value {
-    pub sample: u8,
-    pub times: usize,
+struct Value {
+    sample: u8,
+    times: usize,
 }
 
 // Values in their order: the first `count`. One that the row lacks is the first once more, and does not occur.
-pub struct Values {
-    pub first: Value,
-    pub second: Value,
-    pub third: Value,
-    pub count: usize,
+struct Values {
+    first: Value,
+    second: Value,
+    third: Value,
+    count: usize,
 }
 
 // Three values, two, or only one.
@@ -309,10 +309,10 @@ fn values_of(mask: u8, t: Tally, row: usize, flag: usize) -> Values
 }
 
 // A way for each value.
-pub struct Ways {
-    pub first: Way,
-    pub second: Way,
-    pub third: Way,
+struct Ways {
+    first: Way,
+    second: Way,
+    third: Way,
 }
 
 // The ways of values, one after the other, "D is N for the first value, then the places still empty". Their runs are left in the lent arrays.
@@ -462,9 +462,9 @@ fn binary_at_once(set: u32, plus: usize, minus: usize) -> bool
 }
 
 // A tool, and the bits of its form.
-pub struct Choice {
-    pub tool: u32,
-    pub bits: usize,
+struct Choice {
+    tool: u32,
+    bits: usize,
 }
 
 // Uncompressed: "N octets", and the first one.
