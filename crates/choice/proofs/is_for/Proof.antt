@@ -13,10 +13,14 @@ holds-requires : tie.Need-holds-requires
 holds-requires c κs = search needs
 
 returns : tie.Need-returns
-returns c = let s = c .before .before in ap (λ (h : Bool). h && eqb (s .args .x) (s .args .y)) (sym (sym (c .before .holds .ensures) ∙ not-true _ (c .if1 .taken)))
+returns c =
+    let s = c .before .before in
+    ap (λ (h : Bool). h && eqb (s .args .x) (s .args .y)) (sym (sym (c .before .holds .ensures) ∙ not-true _ (c .if1 .taken)))
 
 returns-2 : tie.Need-returns-2
-returns-2 c = let s = c .before .before in ap (λ (h : Bool). h && eqb (s .args .x) (s .args .y)) (sym (sym (c .before .holds .ensures) ∙ not-false _ (c .if1 .left)))
+returns-2 c =
+    let s = c .before .before in
+    ap (λ (h : Bool). h && eqb (s .args .x) (s .args .y)) (sym (sym (c .before .holds .ensures) ∙ not-false _ (c .if1 .left)))
 
 pub is-for-spec : {M : Type 1} → statement M
 is-for-spec = tie.close (tie.spec holds-requires returns returns-2)

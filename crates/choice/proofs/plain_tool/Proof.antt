@@ -26,7 +26,9 @@ spread-tool-requires : tie.Need-spread-tool-requires
 spread-tool-requires c κs = search needs
 
 returns : tie.Need-returns
-returns c = let s = c .before .before .before .before in spread (several _ (some s) (first s) (s .pre .1) (c .before .if1 .taken)) (s .pre .1) (c .spread-tool .ensures)
+returns c =
+    let s = c .before .before .before .before in
+    spread (several _ (some s) (first s) (s .pre .1) (c .before .if1 .taken)) (s .pre .1) (c .spread-tool .ensures)
 
 shared-slice-read-one-value-tool : tie.Need-shared-slice-read-one-value-tool
 shared-slice-read-one-value-tool c = search needs
@@ -35,13 +37,17 @@ one-value-tool-requires : tie.Need-one-value-tool-requires
 one-value-tool-requires c κs = mask-seven _ (c .before .before .before .before .pre .0 .1 .1)
 
 returns-2 : tie.Need-returns-2
-returns-2 c = let s = c .before .before .before .before .before .before in value-settled (one s (c .before .before .before .if1 .left)) (c .before .one-value-tool .ensures) (c .if2 .taken)
+returns-2 c =
+    let s = c .before .before .before .before .before .before in
+    value-settled (one s (c .before .before .before .if1 .left)) (c .before .one-value-tool .ensures) (c .if2 .taken)
 
 spread-tool-requires-2 : tie.Need-spread-tool-requires-2
 spread-tool-requires-2 c κs = search needs
 
 returns-3 : tie.Need-returns-3
-returns-3 c = let s = c .before .before .before .before .before .before .before in spread (value-lacks (one s (c .before .before .before .before .if1 .left)) (c .before .before .one-value-tool .ensures) (c .before .if2 .left)) (s .pre .1) (c .spread-tool2 .ensures)
+returns-3 c =
+    let s = c .before .before .before .before .before .before .before in
+    spread (value-lacks (one s (c .before .before .before .before .if1 .left)) (c .before .before .one-value-tool .ensures) (c .before .if2 .left)) (s .pre .1) (c .spread-tool2 .ensures)
 
 pub plain-tool-spec : {M : Type 1} → statement M
 plain-tool-spec =

@@ -54,7 +54,10 @@ add-t23 : tie.Need-add-t23
 add-t23 c = search needs
 
 returns-2 : tie.Need-returns-2
-returns-2 c = let s = c .before .before .before .before .before .before .before .before .before .before .before .before .before .before .before .before in let size = length-take-le (s .args .n) (s .args .samples .now) (s .pre .0 .1 .0) in rice-for (s .args .mask) (take (s .args .n) (s .args .samples .now)) size (s .pre .1 .0 .0) (s .pre .1 .0 .1) (c .before .before .before .before .before .before .before .before .before .before .before .before .mark-of .ensures .0) (c .before .before .before .before .before .before .before .before .before .before .before .common-zero .ensures) (row-runs {n = s .args .n} _ (s .args .samples .now) (s .args .n / 40) (omega (arith, s .pre .0 .1 .1 .1)) (c .before .before .before .before .before .before .before .before .before .before .others .ensures) (c .before .before .before .before .before .before .before .runs-in .ensures)) (c .before .before .before .before .before .before .code-lengths .ensures) (c .before .before .before .most-s .ensures .0) (c .before .before .before .most-s .ensures .1 .1) (c .before .before .least-s .ensures) (c .before .start-bits .ensures)
+returns-2 c =
+    let s = c .before .before .before .before .before .before .before .before .before .before .before .before .before .before .before .before in
+    let size = length-take-le (s .args .n) (s .args .samples .now) (s .pre .0 .1 .0) in
+    rice-for (s .args .mask) (take (s .args .n) (s .args .samples .now)) size (s .pre .1 .0 .0) (s .pre .1 .0 .1) (c .before .before .before .before .before .before .before .before .before .before .before .before .mark-of .ensures .0) (c .before .before .before .before .before .before .before .before .before .before .before .common-zero .ensures) (row-runs {n = s .args .n} _ (s .args .samples .now) (s .args .n / 40) (omega (arith, s .pre .0 .1 .1 .1)) (c .before .before .before .before .before .before .before .before .before .before .others .ensures) (c .before .before .before .before .before .before .before .runs-in .ensures)) (c .before .before .before .before .before .before .code-lengths .ensures) (c .before .before .before .most-s .ensures .0) (c .before .before .before .most-s .ensures .1 .1) (c .before .before .least-s .ensures) (c .before .start-bits .ensures)
 
 pub rice-of-spec : {M : Type 1} → statement M
 rice-of-spec =

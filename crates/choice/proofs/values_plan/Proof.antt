@@ -37,7 +37,11 @@ not-placed-requires : tie.Need-not-placed-requires
 not-placed-requires c κs = search needs
 
 returns : tie.Need-returns
-returns c = let s = c .before .before .before .before in let f = take (s .args .n) (s .args .samples .now) in let size = length-take-le (s .args .n) (s .args .samples .now) (s .pre .0 .1 .1 .0) in not-placed (s .pre .1 .0) size (s .pre .0 .1 .0) (ap (λ (h : Bool). h && applies (s .args .mask) 7 f) (sym (c .before .before .holds .ensures) ∙ not-true _ (c .before .if1 .taken))) (c .not-placed .ensures .0) (c .not-placed .ensures .1)
+returns c =
+    let s = c .before .before .before .before in
+    let f = take (s .args .n) (s .args .samples .now) in
+    let size = length-take-le (s .args .n) (s .args .samples .now) (s .pre .0 .1 .1 .0) in
+    not-placed (s .pre .1 .0) size (s .pre .0 .1 .0) (ap (λ (h : Bool). h && applies (s .args .mask) 7 f) (sym (c .before .before .holds .ensures) ∙ not-true _ (c .before .if1 .taken))) (c .not-placed .ensures .0) (c .not-placed .ensures .1)
 
 tally-of-requires : tie.Need-tally-of-requires
 tally-of-requires c κs = search needs
@@ -52,10 +56,20 @@ not-placed-requires-2 : tie.Need-not-placed-requires-2
 not-placed-requires-2 c κs = search needs
 
 returns-2 : tie.Need-returns-2
-returns-2 c = let s = c .before .before .before .before .before .before .before .before in let f = take (s .args .n) (s .args .samples .now) in let size = length-take-le (s .args .n) (s .args .samples .now) (s .pre .0 .1 .1 .0) in let i = c .before .before .before .before .tally-of .ensures in not-placed (s .pre .1 .0) size (s .pre .0 .1 .0) (past (s .args .set) 7 (sym (applied-is i size (c .before .before .before .row-of .ensures .0) (c .before .before .located-applies .ensures)) ∙ not-true _ (c .before .if2 .taken))) (c .not-placed2 .ensures .0) (c .not-placed2 .ensures .1)
+returns-2 c =
+    let s = c .before .before .before .before .before .before .before .before in
+    let f = take (s .args .n) (s .args .samples .now) in
+    let size = length-take-le (s .args .n) (s .args .samples .now) (s .pre .0 .1 .1 .0) in
+    let i = c .before .before .before .before .tally-of .ensures in
+    not-placed (s .pre .1 .0) size (s .pre .0 .1 .0) (past (s .args .set) 7 (sym (applied-is i size (c .before .before .before .row-of .ensures .0) (c .before .before .located-applies .ensures)) ∙ not-true _ (c .before .if2 .taken))) (c .not-placed2 .ensures .0) (c .not-placed2 .ensures .1)
 
 add-flag-of : tie.Need-add-flag-of
-add-flag-of c = let s = c .before .before .before .before .before .before .before .before in let f = take (s .args .n) (s .args .samples .now) in let size = length-take-le (s .args .n) (s .args .samples .now) (s .pre .0 .1 .1 .0) in let i = c .before .before .before .before .tally-of .ensures in omega (arith, i .all, size, s .pre .0 .1 .0)
+add-flag-of c =
+    let s = c .before .before .before .before .before .before .before .before in
+    let f = take (s .args .n) (s .args .samples .now) in
+    let size = length-take-le (s .args .n) (s .args .samples .now) (s .pre .0 .1 .1 .0) in
+    let i = c .before .before .before .before .tally-of .ensures in
+    omega (arith, i .all, size, s .pre .0 .1 .0)
 
 flag-of-requires : tie.Need-flag-of-requires
 flag-of-requires c κs = search needs
@@ -67,7 +81,12 @@ plus-zero-requires : tie.Need-plus-zero-requires
 plus-zero-requires c κs = mask-seven _ (c .before .before .before .before .before .before .before .before .before .before .pre .0 .1 .1 .1 .0)
 
 ways-of-requires : tie.Need-ways-of-requires
-ways-of-requires c κs = let s = c .before .before .before .before .before .before .before .before .before .before .before .before .before .before in let f = take (s .args .n) (s .args .samples .now) in let size = length-take-le (s .args .n) (s .args .samples .now) (s .pre .0 .1 .1 .0) in let i = c .before .before .before .before .before .before .before .before .before .before .tally-of .ensures in ((s .pre .0 .1 .0, (s .pre .0 .1 .1 .0, s .pre .0 .1 .1 .1 .1)), (turn-of i (law-for (s .args .mask) (s .pre .0 .1 .1 .1 .0)) (c .before .before .before .before .before .before .before .before .before .row-of .result) (c .before .before .before .before .before .flag-of .result) (c .before .before .before .plus-zero .ensures) (c .before .before .before .before .values-of .ensures), s .pre .1 .1 .1))
+ways-of-requires c κs =
+    let s = c .before .before .before .before .before .before .before .before .before .before .before .before .before .before in
+    let f = take (s .args .n) (s .args .samples .now) in
+    let size = length-take-le (s .args .n) (s .args .samples .now) (s .pre .0 .1 .1 .0) in
+    let i = c .before .before .before .before .before .before .before .before .before .before .tally-of .ensures in
+    ((s .pre .0 .1 .0, (s .pre .0 .1 .1 .0, s .pre .0 .1 .1 .1 .1)), (turn-of i (law-for (s .args .mask) (s .pre .0 .1 .1 .1 .0)) (c .before .before .before .before .before .before .before .before .before .row-of .result) (c .before .before .before .before .before .flag-of .result) (c .before .before .before .plus-zero .ensures) (c .before .before .before .before .values-of .ensures), s .pre .1 .1 .1))
 
 uncompressed-of-requires : tie.Need-uncompressed-of-requires
 uncompressed-of-requires c κs = c .before .before .before .before .before .before .before .before .before .before .before .before .before .before .before .pre .0 .1 .0
@@ -76,13 +95,23 @@ located-bits-requires : tie.Need-located-bits-requires
 located-bits-requires c κs = let w = ways-small (c .before .ways-of .ensures) in omega (arith, w .0, w .1 .0, w .1 .1)
 
 better-requires : tie.Need-better-requires
-better-requires c κs = let w = ways-small (c .before .before .ways-of .ensures) in (omega (arith, ap (λ (k : Choice). k .bits) (c .before .uncompressed-of .ensures), c .before .before .before .before .before .before .before .before .before .before .before .before .before .before .before .before .before .pre .0 .1 .0), omega (arith, c .located-bits .ensures, w .0, w .1 .0, w .1 .1))
+better-requires c κs =
+    let w = ways-small (c .before .before .ways-of .ensures) in
+    (omega (arith, ap (λ (k : Choice). k .bits) (c .before .uncompressed-of .ensures), c .before .before .before .before .before .before .before .before .before .before .before .before .before .before .before .before .before .pre .0 .1 .0), omega (arith, c .located-bits .ensures, w .0, w .1 .0, w .1 .1))
 
 placed-by-requires : tie.Need-placed-by-requires
 placed-by-requires c κs = search needs
 
 returns-3 : tie.Need-returns-3
-returns-3 c = let s = c .before .before .before .before .before .before .before .before .before .before .before .before .before .before .before .before .before .before .before in let f = take (s .args .n) (s .args .samples .now) in let size = length-take-le (s .args .n) (s .args .samples .now) (s .pre .0 .1 .1 .0) in let i = c .before .before .before .before .before .before .before .before .before .before .before .before .before .before .before .tally-of .ensures in let on = not-false _ (c .before .before .before .before .before .before .before .before .before .before .before .before .if2 .left) in let r = c .before .before .before .before .before .before .before .before .before .before .before .before .before .before .row-of .ensures .0 in let t = c .before .before .before .before .before .before .before .before .before .before .before .before .before .located-applies .ensures in placed-for (s .pre .1 .0) size (s .pre .0 .1 .0) (sym (c .before .before .before .before .before .before .before .before .before .before .before .before .before .before .before .before .before .holds .ensures) ∙ not-false _ (c .before .before .before .before .before .before .before .before .before .before .before .before .before .before .before .before .if1 .left)) (sym (applied-is i size r t) ∙ on) (row-is i size r) (row-low i size r t on) (c .before .before .before .before .before .before .before .before .before .before .flag-of .ensures .0 ∙ flag-is i) (c .before .before .before .before .before .before .before .before .before .before .flag-of .ensures .1) (c .before .before .before .before .before .before .before .before .plus-zero .result) (turn-of i (law-for (s .args .mask) (s .pre .0 .1 .1 .1 .0)) (c .before .before .before .before .before .before .before .before .before .before .before .before .before .before .row-of .result) (c .before .before .before .before .before .before .before .before .before .before .flag-of .result) (c .before .before .before .before .before .before .before .before .plus-zero .ensures) (c .before .before .before .before .before .before .before .before .before .values-of .ensures)) (ap samplesOf (c .before .before .before .before .before .before .before .before .before .values-of .ensures) ∙ values-say i size r t on (c .before .before .before .before .before .before .before .before .before .before .flag-of .ensures .0)) (c .before .before .before .before .ways-of .ensures) (c .before .before .before .uncompressed-of .ensures) (c .before .before .located-bits .ensures) (c .before .better .ensures) (c .placed-by .ensures)
+returns-3 c =
+    let s = c .before .before .before .before .before .before .before .before .before .before .before .before .before .before .before .before .before .before .before in
+    let f = take (s .args .n) (s .args .samples .now) in
+    let size = length-take-le (s .args .n) (s .args .samples .now) (s .pre .0 .1 .1 .0) in
+    let i = c .before .before .before .before .before .before .before .before .before .before .before .before .before .before .before .tally-of .ensures in
+    let on = not-false _ (c .before .before .before .before .before .before .before .before .before .before .before .before .if2 .left) in
+    let r = c .before .before .before .before .before .before .before .before .before .before .before .before .before .before .row-of .ensures .0 in
+    let t = c .before .before .before .before .before .before .before .before .before .before .before .before .before .located-applies .ensures in
+    placed-for (s .pre .1 .0) size (s .pre .0 .1 .0) (sym (c .before .before .before .before .before .before .before .before .before .before .before .before .before .before .before .before .before .holds .ensures) ∙ not-false _ (c .before .before .before .before .before .before .before .before .before .before .before .before .before .before .before .before .if1 .left)) (sym (applied-is i size r t) ∙ on) (row-is i size r) (row-low i size r t on) (c .before .before .before .before .before .before .before .before .before .before .flag-of .ensures .0 ∙ flag-is i) (c .before .before .before .before .before .before .before .before .before .before .flag-of .ensures .1) (c .before .before .before .before .before .before .before .before .plus-zero .result) (turn-of i (law-for (s .args .mask) (s .pre .0 .1 .1 .1 .0)) (c .before .before .before .before .before .before .before .before .before .before .before .before .before .before .row-of .result) (c .before .before .before .before .before .before .before .before .before .before .flag-of .result) (c .before .before .before .before .before .before .before .before .plus-zero .ensures) (c .before .before .before .before .before .before .before .before .before .values-of .ensures)) (ap samplesOf (c .before .before .before .before .before .before .before .before .before .values-of .ensures) ∙ values-say i size r t on (c .before .before .before .before .before .before .before .before .before .before .flag-of .ensures .0)) (c .before .before .before .before .ways-of .ensures) (c .before .before .before .uncompressed-of .ensures) (c .before .before .located-bits .ensures) (c .before .better .ensures) (c .placed-by .ensures)
 
 pub values-plan-spec : {M : Type 1} → statement M
 values-plan-spec =

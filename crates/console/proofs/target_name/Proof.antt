@@ -24,7 +24,9 @@ same-length-2 : tie.Need-same-length-2
 same-length-2 c = search needs
 
 returns-3 : tie.Need-returns-3
-returns-3 c = let fits = laid-fits (c .before .before .new-name .ensures) (c .before .before .new-name .kept .1 .1 .1 .0) in (fits, sym (length-take-le _ _ fits))
+returns-3 c =
+    let fits = laid-fits (c .before .before .new-name .ensures) (c .before .before .new-name .kept .1 .1 .1 .0) in
+    (fits, sym (length-take-le _ _ fits))
 
 pub target-name-spec : {M : Type 1} → statement M
 target-name-spec =

@@ -15,7 +15,9 @@ slice-reshare-prefix-write-all : tie.Need-slice-reshare-prefix-write-all
 slice-reshare-prefix-write-all c = search needs
 
 slice-aggregate-write-all : tie.Need-slice-aggregate-write-all
-slice-aggregate-write-all c = let o = c .before .before .before .open-listing .ensures .opens in sym (length-take-le _ _ (omega (arith, o .most, o .puts .size)))
+slice-aggregate-write-all c =
+    let o = c .before .before .before .open-listing .ensures .opens in
+    sym (length-take-le _ _ (omega (arith, o .most, o .puts .size)))
 
 write-all-requires : tie.Need-write-all-requires
 write-all-requires c κs = search needs

@@ -34,7 +34,9 @@ loop-less : tie.Need-loop-less Inv-loop μ-loop
 loop-less c = c .before .before .before .before .before .next-page .ensures .1
 
 loop-again : tie.Need-loop-again Inv-loop μ-loop
-loop-again c = let l = c .before .before .before .before .before .next-page .ensures .0 in (l .stands, l .puts .size ∙ c .before .before .before .before .before .before .before .before .before .loop .inv .1)
+loop-again c =
+    let l = c .before .before .before .before .before .next-page .ensures .0 in
+    (l .stands, l .puts .size ∙ c .before .before .before .before .before .before .before .before .before .loop .inv .1)
 
 same-length : tie.Need-same-length Inv-loop μ-loop
 same-length c = c .before .before .loop .inv .1

@@ -48,10 +48,14 @@ returns-2 c =
     marks-filled (listing-falls (c .before .before .before .before .before .before .before .loop .inv) (omega arith) (p .says) (sym (c .before .rises .ensures) ∙ not-true _ (c .if1 .taken))) (c .before .before .before .before .before .before .before .before .fill .ensures)
 
 element-write-cells : tie.Need-element-write-cells Inv-loop μ-loop
-element-write-cells c = let b = listing-below (c .before .before .before .before .before .before .before .loop .inv) (sym (c .before .rises .ensures) ∙ not-false _ (c .if1 .left)) in omega (arith, b .0, b .1)
+element-write-cells c =
+    let b = listing-below (c .before .before .before .before .before .before .before .loop .inv) (sym (c .before .rises .ensures) ∙ not-false _ (c .if1 .left)) in
+    omega (arith, b .0, b .1)
 
 add-least : tie.Need-add-least Inv-loop μ-loop
-add-least c = let b = listing-below (c .before .before .before .before .before .before .before .loop .inv) (sym (c .before .rises .ensures) ∙ not-false _ (c .if1 .left)) in omega (arith, b .0, b .1)
+add-least c =
+    let b = listing-below (c .before .before .before .before .before .before .before .loop .inv) (sym (c .before .rises .ensures) ∙ not-false _ (c .if1 .left)) in
+    omega (arith, b .0, b .1)
 
 add-read : tie.Need-add-read Inv-loop μ-loop
 add-read c = search needs

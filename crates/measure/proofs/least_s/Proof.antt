@@ -39,10 +39,16 @@ add-if1 : tie.Need-add-if1 Inv-loop μ-loop
 add-if1 c = search needs
 
 mul-if1 : tie.Need-mul-if1 Inv-loop μ-loop
-mul-if1 c = let s = c .before .before .before .before .before in let few = mul-le-mul {m₁ = 1 + c .before .loop .k} {n₂ = 321} {m₂ = 10} (s .pre .0 .0) (omega (arith, c .loop-test .taken, s .pre .1 .1)) in omega arith
+mul-if1 c =
+    let s = c .before .before .before .before .before in
+    let few = mul-le-mul {m₁ = 1 + c .before .loop .k} {n₂ = 321} {m₂ = 10} (s .pre .0 .0) (omega (arith, c .loop-test .taken, s .pre .1 .1)) in
+    omega arith
 
 returns : tie.Need-returns Inv-loop μ-loop
-returns c = let s = c .before .before .before .before .before .before .before in let l = c .before .before .before .loop in least-stop (l .k) (l .inv) (no-fewer (s .args .extra .now) (s .args .runs .now) (s .args .count) (l .k) (s .pre .0 .1) (c .if1 .taken))
+returns c =
+    let s = c .before .before .before .before .before .before .before in
+    let l = c .before .before .before .loop in
+    least-stop (l .k) (l .inv) (no-fewer (s .args .extra .now) (s .args .runs .now) (s .args .count) (l .k) (s .pre .0 .1) (c .if1 .taken))
 
 element-copy-out-octet-2 : tie.Need-element-copy-out-octet-2 Inv-loop μ-loop
 element-copy-out-octet-2 c = search needs

@@ -24,10 +24,15 @@ no-runs-requires : tie.Need-no-runs-requires Inv-loop μ-loop
 no-runs-requires c κs = search needs
 
 loop-holds : tie.Need-loop-holds Inv-loop μ-loop
-loop-holds c = let s = c .before in (omega arith, row-track-none (s .args .row .now) (s .args .runs .now) _ (c .no-runs .ensures .0) (c .no-runs .ensures .1) (s .pre .0 .1 .1))
+loop-holds c =
+    let s = c .before in
+    (omega arith, row-track-none (s .args .row .now) (s .args .runs .now) _ (c .no-runs .ensures .0) (c .no-runs .ensures .1) (s .pre .0 .1 .1))
 
 word-runs-requires : tie.Need-word-runs-requires Inv-loop μ-loop
-word-runs-requires c κs = let s = c .before .before .before .before in let l = c .before .before .loop in ((omega arith, (s .pre .0 .1 .0, s .pre .1 (l .i))), l .inv .1)
+word-runs-requires c κs =
+    let s = c .before .before .before .before in
+    let l = c .before .before .loop in
+    ((omega arith, (s .pre .0 .1 .0, s .pre .1 (l .i))), l .inv .1)
 
 add-i : tie.Need-add-i Inv-loop μ-loop
 add-i c = search needs
@@ -45,7 +50,11 @@ close-last-requires : tie.Need-close-last-requires Inv-loop μ-loop
 close-last-requires c κs = let k = c .before .before .loop .inv .1 in (k .size, (k .few, (omega (arith, k .behind), omega arith)))
 
 returns : tie.Need-returns Inv-loop μ-loop
-returns c = let l = c .before .before .before .loop in let s = c .before .before .before .before .before in let e : l .i ≡ s .args .k = omega arith in track-end (rw e at (l .inv .1)) (c .close-last .ensures) (omega arith)
+returns c =
+    let l = c .before .before .before .loop in
+    let s = c .before .before .before .before .before in
+    let e : l .i ≡ s .args .k = omega arith in
+    track-end (rw e at (l .inv .1)) (c .close-last .ensures) (omega arith)
 
 pub runs-in-spec : {M : Type 1} → statement M
 runs-in-spec =

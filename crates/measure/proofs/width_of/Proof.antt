@@ -37,7 +37,9 @@ loop-again : tie.Need-loop-again Inv-loop μ-loop
 loop-again c = let h = width-small _ _ (tested c) (c .before .before .pre) in (width-turn _ _ (tested c) (c .before .loop .inv .0), omega arith)
 
 returns : tie.Need-returns Inv-loop μ-loop
-returns c = let e = rw (one-shifted (c .before .loop .w) (omega arith)) at (c .loop-test .left) in (width-done _ _ e (c .before .loop .inv .0), (omega arith, e))
+returns c =
+    let e = rw (one-shifted (c .before .loop .w) (omega arith)) at (c .loop-test .left) in
+    (width-done _ _ e (c .before .loop .inv .0), (omega arith, e))
 
 pub width-of-spec : {M : Type 1} → statement M
 width-of-spec =

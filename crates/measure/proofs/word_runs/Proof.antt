@@ -41,7 +41,10 @@ sub-close : tie.Need-sub-close Inv-loop μ-loop
 sub-close c = let h = in-place (c .before .before .before .loop .inv) _ (omega arith) (c .before .top-of .ensures .0) in omega (arith, h .0)
 
 close-requires : tie.Need-close-requires Inv-loop μ-loop
-close-requires c κs = let n = c .before .before .before .loop .inv in let h = in-place n _ (omega arith) (c .before .top-of .ensures .0) in (n .track .size, (n .track .few, (omega (arith, h .0, h .1), omega arith)))
+close-requires c κs =
+    let n = c .before .before .before .loop .inv in
+    let h = in-place n _ (omega arith) (c .before .top-of .ensures .0) in
+    (n .track .size, (n .track .few, (omega (arith, h .0, h .1), omega arith)))
 
 shl-w : tie.Need-shl-w Inv-loop μ-loop
 shl-w c = search needs
@@ -53,7 +56,11 @@ loop-less : tie.Need-loop-less Inv-loop μ-loop
 loop-less c = let h = c .before .before .top-of .ensures in rw (one-at _ (h .1 .1)) (omega (arith, h .0, pow-pos (c .before .before .top-of .result)))
 
 loop-again : tie.Need-loop-again Inv-loop μ-loop
-loop-again c = let n = c .before .before .before .before .loop .inv in let h = c .before .before .top-of .ensures in let p = in-place n _ (omega arith) (h .0) in rw (one-at _ (h .1 .1)) (in-one n (c .before .before .top-of .result) _ (omega arith) (omega arith) (h .0) (h .1 .0) (omega (arith, p .0)) (c .close .ensures))
+loop-again c =
+    let n = c .before .before .before .before .loop .inv in
+    let h = c .before .before .top-of .ensures in
+    let p = in-place n _ (omega arith) (h .0) in
+    rw (one-at _ (h .1 .1)) (in-one n (c .before .before .top-of .result) _ (omega arith) (omega arith) (h .0) (h .1 .0) (omega (arith, p .0)) (c .close .ensures))
 
 returns : tie.Need-returns Inv-loop μ-loop
 returns c = in-last (c .before .loop .inv) (omega arith) (omega arith)

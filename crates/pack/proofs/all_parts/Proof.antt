@@ -18,10 +18,14 @@ next-part-requires : tie.Need-next-part-requires Inv-loop μ-loop
 next-part-requires c κs = search needs
 
 loop-less : tie.Need-loop-less Inv-loop μ-loop
-loop-less c = let i = c .before .before .before .before .before .before .before .before .loop .inv in rw (i .1) at (c .before .before .before .before .next-part .ensures .1)
+loop-less c =
+    let i = c .before .before .before .before .before .before .before .before .loop .inv in
+    rw (i .1) at (c .before .before .before .before .next-part .ensures .1)
 
 loop-again : tie.Need-loop-again Inv-loop μ-loop
-loop-again c = let i = c .before .before .before .before .before .before .before .before .loop .inv in (c .before .before .before .before .next-part .ensures .0, c .before .before .before .before .next-part .kept .1 .1 .1 .1 .0 ∙ i .1, c .before .before .before .before .next-part .kept .1 .1 .1 .0 ∙ i .2)
+loop-again c =
+    let i = c .before .before .before .before .before .before .before .before .loop .inv in
+    (c .before .before .before .before .next-part .ensures .0, c .before .before .before .before .next-part .kept .1 .1 .1 .1 .0 ∙ i .1, c .before .before .before .before .next-part .kept .1 .1 .1 .0 ∙ i .2)
 
 same-length : tie.Need-same-length Inv-loop μ-loop
 same-length c = search needs

@@ -27,7 +27,9 @@ returns-2 : tie.Need-returns-2
 returns-2 c = search needs
 
 write-stream-requires : tie.Need-write-stream-requires
-write-stream-requires c κs = let s = c .before .before .before .before .before .before .before in (record { one = s .pre .one; well = for-done (s .args .run .packed .end) (sym (c .before .number-for .ensures) ∙ omega arith) }, s .pre .octets)
+write-stream-requires c κs =
+    let s = c .before .before .before .before .before .before .before in
+    (record { one = s .pre .one; well = for-done (s .args .run .packed .end) (sym (c .before .number-for .ensures) ∙ omega arith) }, s .pre .octets)
 
 returns-3 : tie.Need-returns-3
 returns-3 c = search needs

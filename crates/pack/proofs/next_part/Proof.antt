@@ -27,7 +27,10 @@ same-length : tie.Need-same-length
 same-length c = search needs
 
 returns : tie.Need-returns
-returns c = let s = c .before .before .before .before .before .before .before .before in let t = read-failed (s .args .s) (s .args .out .now) (s .args .run) (record { packed = s .args .run .packed; filled = 0; more = false; failed = true }) (s .pre .0) (s .pre .1) refl refl in (t .stands, t .less)
+returns c =
+    let s = c .before .before .before .before .before .before .before .before in
+    let t = read-failed (s .args .s) (s .args .out .now) (s .args .run) (record { packed = s .args .run .packed; filled = 0; more = false; failed = true }) (s .pre .0) (s .pre .1) refl refl in
+    (t .stands, t .less)
 
 filled-up-requires : tie.Need-filled-up-requires
 filled-up-requires c κs = search needs

@@ -30,7 +30,9 @@ add-sound : tie.Need-add-sound Inv-loop μ-loop
 add-sound c = search needs
 
 slice-write-sound : tie.Need-slice-write-sound Inv-loop μ-loop
-slice-write-sound c = let s = c .before .before .before .before .before in omega (arith, fill-length (s .args .sound .now) (s .args .len) (toFill (s .args .len)) (c .before .before .plus-zero .result) (s .pre) (c .before .loop .inv))
+slice-write-sound c =
+    let s = c .before .before .before .before .before in
+    omega (arith, fill-length (s .args .sound .now) (s .args .len) (toFill (s .args .len)) (c .before .before .plus-zero .result) (s .pre) (c .before .loop .inv))
 
 add-i : tie.Need-add-i Inv-loop μ-loop
 add-i c = search needs
@@ -39,13 +41,19 @@ loop-less : tie.Need-loop-less Inv-loop μ-loop
 loop-less c = search needs
 
 loop-again : tie.Need-loop-again Inv-loop μ-loop
-loop-again c = let s = c .before .before .before .before .before in fill-turn (s .args .sound .now) (s .args .len) (toFill (s .args .len)) (c .before .before .plus-zero .result) (s .pre) (c .before .loop .inv) (omega arith)
+loop-again c =
+    let s = c .before .before .before .before .before in
+    fill-turn (s .args .sound .now) (s .args .len) (toFill (s .args .len)) (c .before .before .plus-zero .result) (s .pre) (c .before .loop .inv) (omega arith)
 
 same-length : tie.Need-same-length Inv-loop μ-loop
-same-length c = let s = c .before .before .before .before .before in fill-length (s .args .sound .now) (s .args .len) (toFill (s .args .len)) (c .before .before .plus-zero .result) (s .pre) (c .before .loop .inv)
+same-length c =
+    let s = c .before .before .before .before .before in
+    fill-length (s .args .sound .now) (s .args .len) (toFill (s .args .len)) (c .before .before .plus-zero .result) (s .pre) (c .before .loop .inv)
 
 returns : tie.Need-returns Inv-loop μ-loop
-returns c = let s = c .before .before .before .before .before in fill-done (s .args .sound .now) (s .args .len) (toFill (s .args .len)) (c .before .before .plus-zero .result) (s .pre) (c .before .loop .inv) (omega arith) refl (c .before .before .plus-zero .ensures ∙ ap plusZero (c .before .before .before .mask-of .ensures))
+returns c =
+    let s = c .before .before .before .before .before in
+    fill-done (s .args .sound .now) (s .args .len) (toFill (s .args .len)) (c .before .before .plus-zero .result) (s .pre) (c .before .loop .inv) (omega arith) refl (c .before .before .plus-zero .ensures ∙ ap plusZero (c .before .before .before .mask-of .ensures))
 
 pub fill-up-spec : {M : Type 1} → statement M
 fill-up-spec =

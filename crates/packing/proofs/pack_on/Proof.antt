@@ -29,7 +29,9 @@ enum-told-2 : tie.Need-enum-told-2
 enum-told-2 c = search needs
 
 returns : tie.Need-returns
-returns c = let s = c .before .before .before .before in stays-refused (s .args .done) (s .args .part .now) (s .args .law) (s .args .set) (s .args .n) (s .args .out .now) (c .enum-told2 .given .0 .0) (c .enum-told2 .given .1)
+returns c =
+    let s = c .before .before .before .before in
+    stays-refused (s .args .done) (s .args .part .now) (s .args .law) (s .args .set) (s .args .n) (s .args .out .now) (c .enum-told2 .given .0 .0) (c .enum-told2 .given .1)
 
 sub-pack : tie.Need-sub-pack
 sub-pack c = search needs
@@ -56,7 +58,9 @@ same-length : tie.Need-same-length
 same-length c = search needs
 
 returns-2 : tie.Need-returns-2
-returns-2 c = let s = c .before .before .before .before .before .before .before .before .before .before .before .before .before in part-packed (s .args .done) (s .args .part .now) (s .args .law) (s .args .set) (s .args .n) (s .args .out .now) (c .before .before .before .before .before .before .before .pack .last .1 .1 .1 .1 .0) (c .before .before .before .before .before .before .before .before .before .enum-told .given .1) (c .before .before .before .before .before .before .before .pack .ensures)
+returns-2 c =
+    let s = c .before .before .before .before .before .before .before .before .before .before .before .before .before in
+    part-packed (s .args .done) (s .args .part .now) (s .args .law) (s .args .set) (s .args .n) (s .args .out .now) (c .before .before .before .before .before .before .before .pack .last .1 .1 .1 .1 .0) (c .before .before .before .before .before .before .before .before .before .enum-told .given .1) (c .before .before .before .before .before .before .before .pack .ensures)
 
 pub pack-on-spec : {M : Type 1} → statement M
 pack-on-spec =

@@ -16,10 +16,16 @@ sub-fill : tie.Need-sub-fill
 sub-fill c = search needs
 
 put-requires : tie.Need-put-requires
-put-requires c κs = let a = c .before .before .before .pre in (record { held = a .held; word = a .word; room = omega (arith, a .room) }, (omega arith, pow-pos _))
+put-requires c κs =
+    let a = c .before .before .before .pre in
+    (record { held = a .held; word = a .word; room = omega (arith, a .room) }, (omega arith, pow-pos _))
 
 flush-requires : tie.Need-flush-requires
-flush-requires c κs = let e = c .before .before .before .put .ensures in let a = c .before .before .before .before .before .before .before .pre in let n = length-lowBits ((8 - c .before .before .before .before .before .before .before .args .p .held % 8) % 8) 0 in (record { held = e .held; word = e .word; room = omega (arith, e .place, n, a .room, c .before .before .before .put .kept .0) }, omega (arith, e .place, n))
+flush-requires c κs =
+    let e = c .before .before .before .put .ensures in
+    let a = c .before .before .before .before .before .before .before .pre in
+    let n = length-lowBits ((8 - c .before .before .before .before .before .before .before .args .p .held % 8) % 8) 0 in
+    (record { held = e .held; word = e .word; room = omega (arith, e .place, n, a .room, c .before .before .before .put .kept .0) }, omega (arith, e .place, n))
 
 same-length : tie.Need-same-length
 same-length c = search needs

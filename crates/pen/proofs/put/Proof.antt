@@ -32,7 +32,9 @@ same-length : tie.Need-same-length
 same-length c = search needs
 
 returns-2 : tie.Need-returns-2
-returns-2 c = let s = c .before .before .before .before .before .before .before .before in put-stored _ _ _ _ (s .pre .0) (s .pre .1 .0) (s .pre .1 .1) _ (omega arith) (c .before .before .store .ensures)
+returns-2 c =
+    let s = c .before .before .before .before .before .before .before .before in
+    put-stored _ _ _ _ (s .pre .0) (s .pre .1 .0) (s .pre .1 .1) _ (omega arith) (c .before .before .store .ensures)
 
 pub put-spec : {M : Type 1} → statement M
 put-spec =

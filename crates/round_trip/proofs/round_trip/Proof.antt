@@ -22,7 +22,9 @@ slice-reshare-prefix-read-frame : tie.Need-slice-reshare-prefix-read-frame
 slice-reshare-prefix-read-frame c = within (c .before .before .write-frame .ensures)
 
 slice-aggregate-read-frame : tie.Need-slice-aggregate-read-frame
-slice-aggregate-read-frame c = let w = c .before .before .before .write-frame in sym (length-take-le (w .result .octets) (w .last .1 .1 .1 .0) (within (w .ensures)))
+slice-aggregate-read-frame c =
+    let w = c .before .before .before .write-frame in
+    sym (length-take-le (w .result .octets) (w .last .1 .1 .1 .0) (within (w .ensures)))
 
 read-frame-requires : tie.Need-read-frame-requires
 read-frame-requires c κs = search needs

@@ -9,13 +9,17 @@ slice-aggregate-compared : tie.Need-slice-aggregate-compared
 slice-aggregate-compared c = sym (length-take-le _ _ (c .before .before .before .before .before .pre .1))
 
 compared-requires : tie.Need-compared-requires
-compared-requires c κs = let a = c .before .before .before .before .before .before in omega (arith, length-take-le (a .args .p .samples) (a .args .page .now) (a .pre .1), a .pre .1, a .pre .2)
+compared-requires c κs =
+    let a = c .before .before .before .before .before .before in
+    omega (arith, length-take-le (a .args .p .samples) (a .args .page .now) (a .pre .1), a .pre .1, a .pre .2)
 
 same-length : tie.Need-same-length
 same-length c = search needs
 
 returns : tie.Need-returns
-returns c = let a = c .before .before .before .before .before .before .before .before .before in rw (length-take-le (a .args .p .samples) (a .args .page .now) (a .pre .1)) at (c .before .before .compared .ensures)
+returns c =
+    let a = c .before .before .before .before .before .before .before .before .before in
+    rw (length-take-le (a .args .p .samples) (a .args .page .now) (a .pre .1)) at (c .before .before .compared .ensures)
 
 written-requires : tie.Need-written-requires
 written-requires c κs = search needs

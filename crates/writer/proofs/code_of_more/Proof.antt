@@ -72,7 +72,10 @@ returns-8 c = code-told {k = 8} (c .before .match .keys8) (c .bits-of8 .ensures 
 
 returns-9 : tie.Need-returns-9
 unfolding codesOf lowBits
-returns-9 c = let r = c .before .match .rest in let n = (up (up (up (up (up (up (up (up (c .before .before .pre .0) (r .0 .0 .0 .0 .0 .0 .0 .1)) (r .0 .0 .0 .0 .0 .0 .1)) (r .0 .0 .0 .0 .0 .1)) (r .0 .0 .0 .0 .1)) (r .0 .0 .0 .1)) (r .0 .0 .1)) (r .0 .1)) (r .1)) in code-told {k = 9} (omega (arith, n, c .before .before .pre .1)) (c .bits-of9 .ensures .0) (c .bits-of9 .ensures .1) refl (omega arith) (lit< tt)
+returns-9 c =
+    let r = c .before .match .rest in
+    let n = (up (up (up (up (up (up (up (up (c .before .before .pre .0) (r .0 .0 .0 .0 .0 .0 .0 .1)) (r .0 .0 .0 .0 .0 .0 .1)) (r .0 .0 .0 .0 .0 .1)) (r .0 .0 .0 .0 .1)) (r .0 .0 .0 .1)) (r .0 .0 .1)) (r .0 .1)) (r .1)) in
+    code-told {k = 9} (omega (arith, n, c .before .before .pre .1)) (c .bits-of9 .ensures .0) (c .bits-of9 .ensures .1) refl (omega arith) (lit< tt)
 
 pub code-of-more-spec : {M : Type 1} → statement M
 code-of-more-spec =

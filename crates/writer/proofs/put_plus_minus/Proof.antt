@@ -18,16 +18,34 @@ use Rattle.writer.proofs.code_of.Reads as code-of-reads
 use Rattle.writer.proofs.put_start.Reads as put-start-reads
 
 put-start-requires : tie.Need-put-start-requires
-put-start-requires c κs = let s = c .before .before in let r = s .args .r in let n = s .args .n in let l = length-three (riceCode n (r .mark)) (codeOf n (r .s)) (riceForms (r .s) (take (r .count) (s .args .runs .now))) in (s .pre .0 .mark, able-as (s .pre .1) (omega arith))
+put-start-requires c κs =
+    let s = c .before .before in
+    let r = s .args .r in
+    let n = s .args .n in
+    let l = length-three (riceCode n (r .mark)) (codeOf n (r .s)) (riceForms (r .s) (take (r .count) (s .args .runs .now))) in
+    (s .pre .0 .mark, able-as (s .pre .1) (omega arith))
 
 code-of-requires : tie.Need-code-of-requires
 code-of-requires c κs = search needs
 
 put-requires : tie.Need-put-requires
-put-requires c κs = let s = c .before .before .before .before .before .before .before in let r = s .args .r in let n = s .args .n in let l = length-three (riceCode n (r .mark)) (codeOf n (r .s)) (riceForms (r .s) (take (r .count) (s .args .runs .now))) in let k = c .before .code-of .ensures in (able-then _ (s .pre .1) (c .before .before .before .before .put-start .ensures) (c .before .before .before .before .put-start .kept .0) (omega (arith, bits-length _ _ (k .says))), (omega (arith, k .few), k .fits))
+put-requires c κs =
+    let s = c .before .before .before .before .before .before .before in
+    let r = s .args .r in
+    let n = s .args .n in
+    let l = length-three (riceCode n (r .mark)) (codeOf n (r .s)) (riceForms (r .s) (take (r .count) (s .args .runs .now))) in
+    let k = c .before .code-of .ensures in
+    (able-then _ (s .pre .1) (c .before .before .before .before .put-start .ensures) (c .before .before .before .before .put-start .kept .0) (omega (arith, bits-length _ _ (k .says))), (omega (arith, k .few), k .fits))
 
 put-runs-requires : tie.Need-put-runs-requires
-put-runs-requires c κs = let s = c .before .before .before .before .before .before .before .before .before .before .before in let r = s .args .r in let n = s .args .n in let l = length-three (riceCode n (r .mark)) (codeOf n (r .s)) (riceForms (r .s) (take (r .count) (s .args .runs .now))) in let k = c .before .before .before .before .before .code-of .ensures in let q = s .pre .0 in ((omega (arith, q .most), (q .few, omega (arith, q .few, q .size))), able-then _ (s .pre .1) (puts-then (c .before .before .before .before .before .before .before .before .put-start .ensures) (c .before .before .before .put .ensures)) (c .before .before .before .put .kept .0 ∙ c .before .before .before .before .before .before .before .before .put-start .kept .0) (rw length-append (omega (arith, ap length (k .says)))))
+put-runs-requires c κs =
+    let s = c .before .before .before .before .before .before .before .before .before .before .before in
+    let r = s .args .r in
+    let n = s .args .n in
+    let l = length-three (riceCode n (r .mark)) (codeOf n (r .s)) (riceForms (r .s) (take (r .count) (s .args .runs .now))) in
+    let k = c .before .before .before .before .before .code-of .ensures in
+    let q = s .pre .0 in
+    ((omega (arith, q .most), (q .few, omega (arith, q .few, q .size))), able-then _ (s .pre .1) (puts-then (c .before .before .before .before .before .before .before .before .put-start .ensures) (c .before .before .before .put .ensures)) (c .before .before .before .put .kept .0 ∙ c .before .before .before .before .before .before .before .before .put-start .kept .0) (rw length-append (omega (arith, ap length (k .says)))))
 
 same-length : tie.Need-same-length
 same-length c = search needs

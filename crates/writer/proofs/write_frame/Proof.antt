@@ -12,7 +12,10 @@ slice-aggregate-write-some : tie.Need-slice-aggregate-write-some
 slice-aggregate-write-some c = search needs
 
 write-some-requires : tie.Need-write-some-requires
-write-some-requires c κs = let s = c .before .before .before .before in let k : length (s .args .frame .samples) ≡ 320 = search needs in λ h. omega (arith, h, k)
+write-some-requires c κs =
+    let s = c .before .before .before .before in
+    let k : length (s .args .frame .samples) ≡ 320 = search needs in
+    λ h. omega (arith, h, k)
 
 same-length : tie.Need-same-length
 same-length c = search needs

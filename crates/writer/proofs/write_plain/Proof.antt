@@ -35,19 +35,27 @@ refused-requires : tie.Need-refused-requires
 refused-requires c κs = search needs
 
 returns : tie.Need-returns
-returns c = let s = c .before .before .before .before .before in no-room (plain (s .args .tool) (take (s .args .n) (s .args .samples .now))) (omega (arith, need s, size s, c .before .before .whole-octets .ensures, c .before .if1 .taken)) (c .refused .ensures)
+returns c =
+    let s = c .before .before .before .before .before in
+    no-room (plain (s .args .tool) (take (s .args .n) (s .args .samples .now))) (omega (arith, need s, size s, c .before .before .whole-octets .ensures, c .before .if1 .taken)) (c .refused .ensures)
 
 put-whole-requires : tie.Need-put-whole-requires
-put-whole-requires c κs = let s = c .before .before .before .before .before in (s .pre .0, (s .pre .1, omega (arith, c .before .before .whole-octets .ensures, c .before .if1 .left)))
+put-whole-requires c κs =
+    let s = c .before .before .before .before .before in
+    (s .pre .0, (s .pre .1, omega (arith, c .before .before .whole-octets .ensures, c .before .if1 .left)))
 
 mul-t7 : tie.Need-mul-t7
-mul-t7 c = let s = c .before .before .before .before .before .before .before .before in omega (arith, c .before .before .before .before .before .whole-octets .ensures, octets-few (s .args .tool) (s .args .n) (s .pre .1 .few))
+mul-t7 c =
+    let s = c .before .before .before .before .before .before .before .before in
+    omega (arith, c .before .before .before .before .before .whole-octets .ensures, octets-few (s .args .tool) (s .args .n) (s .pre .1 .few))
 
 same-length : tie.Need-same-length
 same-length c = search needs
 
 returns-2 : tie.Need-returns-2
-returns-2 c = let s = c .before .before .before .before .before .before .before .before in all-written (plain (s .args .tool) (take (s .args .n) (s .args .samples .now))) (omega (arith, need s, size s, c .before .before .before .before .before .whole-octets .ensures, c .before .before .before .before .if1 .left)) (c .before .before .put-whole .ensures) refl refl (omega (arith, need s, size s, c .before .before .before .before .before .whole-octets .ensures)) refl
+returns-2 c =
+    let s = c .before .before .before .before .before .before .before .before in
+    all-written (plain (s .args .tool) (take (s .args .n) (s .args .samples .now))) (omega (arith, need s, size s, c .before .before .before .before .before .whole-octets .ensures, c .before .before .before .before .if1 .left)) (c .before .before .put-whole .ensures) refl refl (omega (arith, need s, size s, c .before .before .before .before .before .whole-octets .ensures)) refl
 
 pub write-plain-spec : {M : Type 1} → statement M
 write-plain-spec =
