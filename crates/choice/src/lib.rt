@@ -470,10 +470,11 @@ fn rice_of(
     }
 }
 
-// Whether binary is held and the two zeros are so nearly as many that Rice can't need fewer octets. Let c samples be of the rarer zero: there
-// are c runs or more, and N - c places in them. With S = 1 a run v has 2 + v / 2 bits, twice that is v + 3 or more, and so twice the bits of
-// all runs are N + 2c or more. A larger S has 3 or more for each run. Before the runs stand 7 bits or more with S = 1, and 5 with any S. So where
-// N is below 2c + 14, Rice has more than N bits, which is N / 8 + 1 octets or more, as binary has.
+// Whether binary is held and the two zeros are so nearly as many that Rice can't need fewer octets. Let c of the N samples be of the rarer
+// zero: there are c runs or more, with N - c places in them. With S = 1 a run v has 2 + v / 2 bits, and twice that is v + 3 or more, so twice
+// the bits of all runs are N + 2c or more; before them stand 7 or more. A larger S has 3 or more for each run, and before them 5 or more. N is
+// 40 or more. So where the two differ by less than 14, which is where N is below 2c + 14, Rice has more than N bits: N / 8 + 1 octets or more,
+// and binary has just these.
 fn binary_at_once(set: u32, plus: usize, minus: usize) -> bool
     requires { ⌜ (plus ≤ 320) × (minus ≤ 320) ⌝ }
     ensures { λ r. ⌜ r ≡ tools.holds set 5 && ltb minus (plus + 14) && ltb plus (minus + 14) ⌝ }
