@@ -7,3 +7,4 @@ pub mod Choosing
 pub mod Settling
 pub mod Planning
 pub mod Even
+pub mod Turning

@@ -1,5 +1,5 @@
 -- Laws of frames of zeros: where binary and Rice apply, and what Rice would write.
-use Prim.Native.Nat.{ℕ, zero, suc, _+_, _*_, _-_, _≤_}
+use Prim.Native.Nat.{ℕ, zero, suc, _+_, _-_, _≤_}
 use mathlib.Core.Path.{_≡_, refl, sym, ap, ap₂, _∙_}
 use mathlib.Core.List.{List, [], _∷_, _++_, map}
 use mathlib.Core.Bool.{Bool, true, false, cond, _||_}
@@ -15,7 +15,6 @@ use Rattle.rules.specs.Zeros.{codesOf, codeOf, mostS, zeroOf, flagOf}
 use Rattle.rules.specs.Chooses.{countOf, applies, markOf, leastFrom, bestS, riceBits, riceChoice}
 use Rattle.measure.specs.declared.Least.{Least}
 use Rattle.measure.specs.Measures.{countIs, marksOf, RunsAre, bitsWith, LeastIs, twoZeros}
-use Rattle.pen.specs.Rows.{rowBits, RowIs}
 use Rattle.choice.specs.declared.Zeros.{Zeros}
 use Rattle.choice.specs.Offers.{CodesAre, StartIs, RiceFor}
 use Rattle.choice.proofs.Methods.{zero-at}
@@ -47,7 +46,7 @@ either p q ne (x ∷ s) = step (eqb x p) (eqb x q) refl refl (either p q ne s)
     step false true e f h = omega arith
     step false false e f h = omega arith
 
-two-zeros : (mask : ℕ) → plusZero mask ≡ minusZero mask → ⊥
+pub two-zeros : (mask : ℕ) → plusZero mask ≡ minusZero mask → ⊥
 unfolding sampleOf
 two-zeros mask e = omega arith
 
@@ -113,9 +112,3 @@ module _ (mask : ℕ) (s : List ℕ) where
               };
           small = omega (arith, best .small, begun .small);
         }
-
--- the runs of a row of flags are those of the samples
-pub row-runs : {n count : ℕ} {row runs : List ℕ} (x : ℕ) (samples : List ℕ) (k : ℕ) → 40 * k ≡ n → RowIs (marksOf x 0 1 (take (40 * k) samples)) k row → RunsAre (rowBits (take k row)) count runs
-    → RunsAre (marksOf x 0 1 (take n samples)) count runs
-row-runs x samples k e row found =
-    rw (ap (λ (m : ℕ). marksOf x 0 1 (take m samples)) e) at (rw (row .says) at found)

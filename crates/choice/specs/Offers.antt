@@ -1,8 +1,8 @@
 -- What value-location and Rice would write, where they apply.
-use Prim.Native.Nat.{ℕ, _+_, _≤_, _<_}
+use Prim.Native.Nat.{ℕ, _+_, _-_, _/_, _≤_, _<_}
 use mathlib.Core.Path.{_≡_}
 use mathlib.Core.List.{List, [], _∷_, map}
-use mathlib.Core.Bool.{true, cond, _&&_}
+use mathlib.Core.Bool.{Bool, true, cond, _&&_}
 use lib.ListN.{length, getD, take}
 use lib.Dec.{eqb, leb}
 use lib.IntN.{pos, negsuc}
@@ -12,7 +12,8 @@ use Rattle.rules.specs.First.{riceCode}
 use Rattle.rules.specs.Zeros.{codeOf, mostS, flagOf}
 use Rattle.rules.specs.Located.{valuesOf}
 use Rattle.rules.specs.Chooses.{flagsFor, without, leastOf, greatestOf, above, below, rowOf, locatedFlag, markOf, bestS, riceChoice}
-use Rattle.measure.specs.Measures.{countIs, RunsAre}
+use Rattle.measure.specs.Measures.{countIs, RunsAre, twoZeros}
+use Rattle.pen.specs.Rows.{RowIs}
 use Rattle.choice.specs.declared.Tally.{Tally}
 use Rattle.choice.specs.declared.Value.{Value}
 use Rattle.choice.specs.declared.Values.{Values}
@@ -103,6 +104,18 @@ pub record PlacedIs (mask : ℕ) (s : List ℕ) (r : Placed) (a b c : List ℕ) 
   pub first : WayOf (flagsFor x s) (r .first) a
   pub second : 2 ≤ r .count → WayOf (flagsFor y (without x s)) (r .second) b
   pub third : 3 ≤ r .count → WayOf (flagsFor z (without y (without x s))) (r .third) c
+
+-- flags, every one turned or none
+abbrev pub turnsOf : Bool → List ℕ → List ℕ
+turnsOf turn flags = map (λ f. cond turn (1 - f) f) flags
+
+-- a frame of the two zeros: how many there are of each, and the row of flags that are 1 at minus zero
+pub record ZerosAre (mask n p m : ℕ) (words s : List ℕ) : Type 0 where
+  pub size : length s ≡ n
+  pub zeros : twoZeros mask s ≡ true
+  pub plus : p ≡ countIs (plusZero mask) s
+  pub minus : m ≡ countIs (minusZero mask) s
+  pub row : RowIs (map (flagOf mask 0) s) (n / 40) words
 
 -- the bits of the codes of S
 pub record CodesAre (n : ℕ) (r : List ℕ) : Type 0 where

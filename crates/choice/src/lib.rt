@@ -7,22 +7,24 @@ use measure::Spread;
 use measure::count_of;
 use measure::found_in;
 use measure::least_s;
-use measure::others;
 use measure::runs_in;
 use measure::width_of;
 use prefix::holds;
 ghost use mathlib.Core.Path.{_≡_};
 ghost use mathlib.Core.Bool.{true, false, cond, _&&_};
-ghost use Prim.Native.Nat.{_+_, _*_, _%_, _≤_, _<_};
+ghost use mathlib.Core.List.{List, map};
+ghost use Prim.Native.Nat.{ℕ, _+_, _*_, _^_, _/_, _%_, _≤_, _<_};
 ghost use lib.ListN.{length, getD, take};
 ghost use lib.Dec.{eqb, leb, ltb};
 ghost use Rattle.rules.specs.Tools as tools;
-ghost use Rattle.rules.specs.Samples.{plusZero, minusZero};
-ghost use Rattle.rules.specs.Zeros.{zeroOf, mostS};
+ghost use Rattle.rules.specs.Bits.{lowBits};
+ghost use Rattle.rules.specs.Zeros.{zeroOf, mostS, flagOf};
 ghost use Rattle.rules.specs.Chooses.{leastOf, greatestOf};
-ghost use Rattle.measure.specs.Measures.{countIs, near, twoZeros, SpreadIs};
+ghost use Rattle.measure.specs.Measures.{near, twoZeros, SpreadIs};
+ghost use Rattle.pen.specs.Puts.{Gathers};
+ghost use Rattle.pen.specs.Rows.{rowBits, RowIs};
 ghost use Rattle.choice.specs.Ways.{WayFor, WayIn, InTurn, WaysAre};
-ghost use Rattle.choice.specs.Offers.{leastBy, greatestBy, rowBy, Tallied, valuesBy, valuesFor, CodesAre, StartIs, RiceFor};
+ghost use Rattle.choice.specs.Offers.{leastBy, greatestBy, rowBy, Tallied, valuesBy, valuesFor, turnsOf, ZerosAre, CodesAre, StartIs, RiceFor};
 ghost use Rattle.choice.specs.Plans.{BetterIs, isMask, valueTool, Plain, ZerosFor, placedBy, PlacedFor};
 
 // How a value is written: its method, all its bits with the method's three, its D places, how often it occurs, and how many runs it has.
@@ -405,20 +407,44 @@ pub struct Zeros {
     pub count: usize,
 }
 
-// Rice, where the set holds it: the runs are left in the lent array.
+// A word of 40 flags, every one turned or none.
+fn turned(w: u64, turn: bool) -> u64
+    requires { ⌜ w < 2 ^ 40 ⌝ }
+    ensures { λ r. ⌜ Gathers (turnsOf turn (lowBits 40 w)) 40 r ⌝ }
+{
+    if turn { 0xFFFFFFFFFF - w } else { w }
+}
+
+// A row of flags, every one turned or none.
+fn turned_row(row: &[u64; 8], k: usize, turn: bool) -> [u64; 8]
+    requires { ⌜ (k ≤ 8) × (length (now row) ≡ 8) ⌝ }
+    requires { ⌜ ((i : ℕ) → getD (now row) i 0 < 2 ^ 40) ⌝ }
+    ensures { λ r. ⌜ RowIs (turnsOf turn (rowBits (take k (now (row .entry))))) k r ⌝ }
+{
+    let mut flags = [0u64; 8];
+    let mut i = 0;
+    while i < k {
+        flags[i] = turned(row[i], turn);
+        i += 1;
+    }
+    flags
+}
+
+// Rice, where the set holds it: the runs are left in the lent array. The row's flags are 1 at minus zero; where that is the commoner, they are
+// turned.
 fn rice_of(
-    samples: &[u8],
     n: usize,
     mask: u8,
     set: u32,
     plus: usize,
     minus: usize,
+    row: &[u64; 8],
     runs: &mut [u16; 321],
 ) -> Zeros
-    requires { ⌜ (n ≤ 320) × ((n ≤ length (now samples)) × ((mask < 128) × (n % 40 ≡ 0))) ⌝ }
-    requires { ⌜ (plus ≡ countIs (plusZero mask) (take n (now samples))) × (minus ≡ countIs (minusZero mask) (take n (now samples))) ⌝ }
+    requires { ⌜ (n ≤ 320) × ((mask < 128) × (length (now row) ≡ 8)) ⌝ }
+    requires { ⌜ ((i : ℕ) → getD (now row) i 0 < 2 ^ 40) ⌝ }
     requires { ⌜ length (now runs) ≡ 321 ⌝ }
-    ensures { λ r. ⌜ RiceFor mask set (take n (now (samples .entry))) r (now (runs .exit)) ⌝ }
+    ensures { λ r. ⌜ ((s : List ℕ) → ZerosAre mask n plus minus (now (row .entry)) s → RiceFor mask set s r (now (runs .exit))) ⌝ }
 {
     if !holds(set, 6) {
         return Zeros {
@@ -431,8 +457,8 @@ fn rice_of(
     }
     let mark = mark_of(plus, minus);
     let zero = common_zero(mask, plus, minus);
-    let row = others(samples, n / 40, zero);
-    let count = runs_in(&row, n / 40, runs);
+    let flags = turned_row(row, n / 40, zero == minus_zero(mask));
+    let count = runs_in(&flags, n / 40, runs);
     let extra = code_lengths(n);
     let least = least_s(runs, count, &extra, most_s(n));
     Zeros {
@@ -444,10 +470,11 @@ fn rice_of(
     }
 }
 
-// Whether binary is held and the two zeros are so nearly as many that Rice can't need fewer octets. Let c samples be of the rarer zero: there
-// are c runs or more, and N - c places in them. With S = 1 a run v has 2 + v / 2 bits, twice that is v + 3 or more, and so twice the bits of
-// all runs are N + 2c or more. A larger S has 3 or more for each run. Before the runs stand 7 bits or more with S = 1, and 5 with any S. So where
-// N is below 2c + 14, Rice has more than N bits, which is N / 8 + 1 octets or more, as binary has.
+// Whether binary is held and the two zeros are so nearly as many that Rice can't need fewer octets. Let c of the N samples be of the rarer
+// zero: there are c runs or more, with N - c places in them. With S = 1 a run v has 2 + v / 2 bits, and twice that is v + 3 or more, so twice
+// the bits of all runs are N + 2c or more; before them stand 7 or more. A larger S has 3 or more for each run, and before them 5 or more. N is
+// 40 or more. So where the two differ by less than 14, which is where N is below 2c + 14, Rice has more than N bits: N / 8 + 1 octets or more,
+// and binary has just these.
 fn binary_at_once(set: u32, plus: usize, minus: usize) -> bool
     requires { ⌜ (plus ≤ 320) × (minus ≤ 320) ⌝ }
     ensures { λ r. ⌜ r ≡ tools.holds set 5 && ltb minus (plus + 14) && ltb plus (minus + 14) ⌝ }
@@ -549,9 +576,17 @@ pub fn plain_tool(samples: &[u8], n: usize, l: Spread, mask: u8, set: u32) -> u3
 // "Fewest octets" for a frame of the two zeros that the first look does not settle: from uncompressed on, each tool of the tie order takes
 // its place where it is not more. Value-location does not apply: no row has the least -1 or 0 and the greatest -1 or 0. All samples that are
 // not minus zero are plus zero.
-pub fn zeros_plan(samples: &[u8], n: usize, mask: u8, set: u32, runs: &mut [u16; 321]) -> Zeros
+pub fn zeros_plan(
+    samples: &[u8],
+    n: usize,
+    mask: u8,
+    set: u32,
+    row: &[u64; 8],
+    runs: &mut [u16; 321],
+) -> Zeros
     requires { ⌜ (n ≤ 320) × ((n ≤ length (now samples)) × ((mask < 128) × (n % 40 ≡ 0))) ⌝ }
     requires { ⌜ twoZeros mask (take n (now samples)) ≡ true ⌝ }
+    requires { ⌜ RowIs (map (flagOf mask 0) (take n (now samples))) (n / 40) (now row) ⌝ }
     requires { ⌜ length (now runs) ≡ 321 ⌝ }
     ensures { λ r. ⌜ ZerosFor mask set (take n (now (samples .entry))) r (now (runs .exit)) ⌝ }
 {
@@ -567,7 +602,7 @@ pub fn zeros_plan(samples: &[u8], n: usize, mask: u8, set: u32, runs: &mut [u16;
             count: 0,
         };
     }
-    let rice = rice_of(samples, n, mask, set, plus, minus, runs);
+    let rice = rice_of(n, mask, set, plus, minus, row, runs);
     let uncompressed = uncompressed_of(n);
     let six = better(uncompressed, 6, holds(set, 6), rice.bits);
     let five = better(six, 5, holds(set, 5), binary_bits);

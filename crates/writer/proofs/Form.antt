@@ -1,5 +1,5 @@
 -- Laws of a whole form.
-use Prim.Native.Nat.{ℕ, _+_, _*_, _≤_, _<_}
+use Prim.Native.Nat.{ℕ, zero, _+_, _*_, _/_, _≤_, _<_}
 use mathlib.Core.Path.{_≡_, refl, sym, ap, _∙_}
 use mathlib.Core.List.{List, [], _++_, map, append-assoc}
 use mathlib.Core.Bool.{Bool, true, false, cond}
@@ -9,22 +9,23 @@ use borrow.Author.Tests.{ne-eqb}
 use lib.ListN.{length, take, drop}
 use lib.Dec.{ltb}
 use lib.Seq.{length-take-le}
-use Rattle.rules.specs.Bits.{lowBits, bitsOf, pack}
+use Rattle.rules.specs.Bits.{lowBits, bitsOf}
 use Rattle.rules.specs.First.{riceCode}
 use Rattle.rules.specs.Runs.{riceForms}
 use Rattle.rules.specs.Zeros.{prefix, codeOf, flagOf}
-use Rattle.rules.specs.Chooses.{markOf, bestS, riceChoice, rowOf, locatedFlag, locatedForm, valuesForm, formOf}
+use Rattle.rules.specs.Chooses.{markOf, bestS, riceChoice, rowOf, locatedFlag, locatedForm, formOf}
 use Rattle.rules.specs.Samples.{plusZero, minusZero}
-use Rattle.measure.specs.Measures.{countIs}
+use Rattle.measure.specs.Measures.{countIs, marksOf}
 use Rattle.choice.specs.declared.Placed.{Placed}
 use Rattle.choice.specs.declared.Zeros.{Zeros}
 use Rattle.choice.specs.Offers.{RiceIs, PlacedIs}
-use Rattle.choice.specs.Plans.{PlacedFor}
+use Rattle.choice.specs.Plans.{ZerosFor, PlacedFor}
 use Rattle.pen.specs.declared.Pen.{Pen}
 use Rattle.pen.specs.Puts.{penBits, Able, Puts, Packed}
+use Rattle.pen.specs.Rows.{rowBits, RowIs}
 use Rattle.rules.proofs.Words.{lowBits-join}
 use Rattle.pen.proofs.Putting.{drop-further}
-use Rattle.writer.specs.Forms.{IsFrame, wholeOctets, RiceReady, riceFormOf, valuesFormOf, placedFormOf, planForm, ZerosReady}
+use Rattle.writer.specs.Forms.{IsFrame, wholeOctets, RiceReady, riceFormOf, valuesFormOf, placedFormOf, planForm, zerosForm}
 use Rattle.writer.proofs.Whole.{whole-form}
 use Rattle.writer.proofs.Turns.{placed-values}
 
@@ -50,27 +51,49 @@ rice-ready {mask} {n} {samples} f i =
       size = i .found .size;
     }
 
-pub rice-form : {mask n : ℕ} {samples runs : List ℕ} {plan : Zeros} → ZerosReady mask samples n plan runs → plan .tool ≡ 6
-    → riceFormOf n plan runs ≡ formOf mask (plan .tool) (take n samples)
-unfolding formOf riceChoice
-rice-form {mask} {n} {samples} {runs} {plan} p e =
-    let i = p .rice e in
-    let s = take n samples in
-    let form : ℕ → ℕ → ℕ → List ℕ → List ℕ = λ n mark S runs. riceCode n mark ++ (codeOf n S ++ riceForms S runs) in
-    let r = plan in
-    let rs = take (r .count) runs in
-    ap (λ (k : ℕ). form k (r .mark) (r .s) rs) (sym (cells-length (p .sized)))
-    ∙ ap (λ (m : ℕ). form (length s) m (r .s) rs) (i .mark)
-    ∙ ap (λ (S : ℕ). form (length s) (markOf mask s) S rs) (i .best)
-    ∙ ap (form (length s) (markOf mask s) (bestS mask (markOf mask s) s)) (i .found .says)
-    ∙ ap (λ (k : ℕ). formOf mask k s) (sym e)
+-- the row of the flags of plus zero is that of binary
+pub row-flags : (mask : ℕ) {n x : ℕ} {samples row : List ℕ} → IsFrame samples n → x ≡ plusZero mask → RowIs (marksOf x 0 1 (take (40 * (n / 40)) samples)) (n / 40) row
+    → RowIs (map (flagOf mask 0) (take n samples)) (n / 40) row
+row-flags mask {n} {x} {samples} f e words =
+    let whole : 40 * (n / 40) ≡ n = omega (arith, f .whole) in
+    rw (ap (λ (k : ℕ). marksOf x 0 1 (take k samples)) whole ∙ ap (λ (z : ℕ). marksOf z 0 1 (take n samples)) e) at words
 
-pub binary-form : {mask n : ℕ} {samples runs : List ℕ} {plan : Zeros} → ZerosReady mask samples n plan runs → (plan .tool ≡ 1 → ⊥) → (plan .tool ≡ 6 → ⊥)
-    → prefix 5 n ++ map (flagOf mask 0) (take n samples) ≡ formOf mask (plan .tool) (take n samples)
-unfolding formOf
-binary-form {mask} {n} {samples} p one six =
-    let e = p .kind one six in
-    ap (λ (k : ℕ). prefix 5 k ++ map (flagOf mask 0) (take n samples)) (sym (cells-length (p .sized))) ∙ ap (λ (k : ℕ). formOf mask k (take n samples)) (sym e)
+-- what is planned for a frame of the two zeros
+module _ (n : ℕ) (s : List ℕ) (r : Zeros) (row runs : List ℕ) where
+  pub zeros-whole : r .tool ≡ 1 → bitsOf (wholeOctets 1 s) ≡ zerosForm n s r row runs
+  unfolding zerosForm
+  zeros-whole e = rw e
+
+  pub zeros-rice : r .tool ≡ 6 → riceFormOf n r runs ≡ zerosForm n s r row runs
+  unfolding zerosForm
+  zeros-rice e = rw e
+
+  pub zeros-binary : (r .tool ≡ 1 → ⊥) → (r .tool ≡ 6 → ⊥) → prefix 5 n ++ rowBits (take (n / 40) row) ≡ zerosForm n s r row runs
+  unfolding zerosForm
+  zeros-binary one six = rw (ne-eqb (r .tool) 1 one, ne-eqb (r .tool) 6 six)
+
+  rice-form : {mask : ℕ} → length s ≡ n → RiceIs mask s r runs → riceFormOf n r runs ≡ formOf mask 6 s
+  unfolding formOf riceChoice
+  rice-form {mask} size i =
+      let form : ℕ → ℕ → ℕ → List ℕ → List ℕ = λ n mark S runs. riceCode n mark ++ (codeOf n S ++ riceForms S runs) in
+      let rs = take (r .count) runs in
+      ap (λ (k : ℕ). form k (r .mark) (r .s) rs) (sym size)
+      ∙ ap (λ (m : ℕ). form (length s) m (r .s) rs) (i .mark)
+      ∙ ap (λ (S : ℕ). form (length s) (markOf mask s) S rs) (i .best)
+      ∙ ap (form (length s) (markOf mask s) (bestS mask (markOf mask s) s)) (i .found .says)
+
+  binary-form : (mask : ℕ) → length s ≡ n → RowIs (map (flagOf mask 0) s) (n / 40) row → prefix 5 n ++ rowBits (take (n / 40) row) ≡ formOf mask 5 s
+  unfolding formOf
+  binary-form mask size words =
+      ap (λ (l : List ℕ). prefix 5 n ++ l) (words .says) ∙ ap (λ (k : ℕ). prefix 5 k ++ map (flagOf mask 0) s) (sym size)
+
+  pub zeros-form : {mask set : ℕ} → length s ≡ n → RowIs (map (flagOf mask 0) s) (n / 40) row → ZerosFor mask set s r runs → zerosForm n s r row runs ≡ formOf mask (r .tool) s
+  zeros-form {mask} {set} size words p = go (ℕ-discrete (r .tool) 1) (ℕ-discrete (r .tool) 6)
+    where
+      go : Dec (r .tool ≡ 1) → Dec (r .tool ≡ 6) → zerosForm n s r row runs ≡ formOf mask (r .tool) s
+      go (yes e) d = sym (zeros-whole e) ∙ whole-form mask 1 s (omega arith) (omega arith) ∙ ap (λ (k : ℕ). formOf mask k s) (sym e)
+      go (no e) (yes f) = sym (zeros-rice f) ∙ rice-form size (p .rice (sym (p .tool) ∙ f)) ∙ ap (λ (k : ℕ). formOf mask k s) (sym f)
+      go (no e) (no f) = sym (zeros-binary e f) ∙ binary-form mask size words ∙ ap (λ (k : ℕ). formOf mask k s) (sym (p .kind e f))
 
 -- what is planned for a frame that has a 1 or a -2
 located-seven : (mask : ℕ) (s : List ℕ) → locatedForm mask s ≡ formOf mask 7 s

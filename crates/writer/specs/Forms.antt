@@ -1,5 +1,5 @@
 -- The pieces of a form.
-use Prim.Native.Nat.{ℕ, _+_, _^_, _%_, _≤_, _<_}
+use Prim.Native.Nat.{ℕ, _+_, _^_, _/_, _%_, _≤_, _<_}
 use mathlib.Core.Path.{_≡_}
 use mathlib.Core.List.{List, [], _∷_, _++_}
 use mathlib.Core.Bool.{cond}
@@ -9,9 +9,9 @@ use Rattle.rules.specs.Bits.{lowBits, bitsOf}
 use Rattle.rules.specs.Zeros.{prefix, codeOf, mostS}
 use Rattle.rules.specs.First.{octetFor, riceCode}
 use Rattle.rules.specs.Runs.{riceForms}
+use Rattle.pen.specs.Rows.{rowBits}
 use Rattle.choice.specs.declared.Placed.{Placed}
 use Rattle.choice.specs.declared.Zeros.{Zeros}
-use Rattle.choice.specs.Offers.{RiceIs}
 use Rattle.writer.specs.Ways.{wayOf, WayPlanned}
 use Rattle.writer.specs.declared.Code.{Code}
 
@@ -74,9 +74,13 @@ pub record PlacedReady (r : Placed) (a b c : List ℕ) : Type 0 where
 unfoldable pub planForm : ℕ → List ℕ → Placed → List ℕ → List ℕ → List ℕ → List ℕ
 planForm n s r a b c = cond (eqb (r .tool) 1) (bitsOf (wholeOctets 1 s)) (prefix 7 n ++ placedFormOf r a b c)
 
--- a plan that fits a frame of the two zeros
-pub record ZerosReady (mask : ℕ) (samples : List ℕ) (n : ℕ) (plan : Zeros) (runs : List ℕ) : Type 0 where
+-- the planned form of n samples that are the two zeros; the row's flags are 1 at minus zero
+unfoldable pub zerosForm : ℕ → List ℕ → Zeros → List ℕ → List ℕ → List ℕ
+zerosForm n s r row runs =
+    cond (eqb (r .tool) 1) (bitsOf (wholeOctets 1 s)) (cond (eqb (r .tool) 6) (riceFormOf n r runs) (prefix 5 n ++ rowBits (take (n / 40) row)))
+
+pub record ZerosReady (samples : List ℕ) (n : ℕ) (plan : Zeros) (row runs : List ℕ) : Type 0 where
   pub sized : IsFrame samples n
-  pub seven : mask < 128
-  pub kind : (plan .tool ≡ 1 → ⊥) → (plan .tool ≡ 6 → ⊥) → plan .tool ≡ 5
-  pub rice : plan .tool ≡ 6 → RiceIs mask (take n samples) plan runs
+  pub rice : plan .tool ≡ 6 → RiceReady n plan runs
+  pub size : length row ≡ 8
+  pub small : (i : ℕ) → getD row i 0 < 2 ^ 40

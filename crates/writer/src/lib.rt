@@ -26,21 +26,20 @@ use rules::Refusal;
 use rules::WriteAnswer;
 ghost use mathlib.Core.Path.{_≡_};
 ghost use mathlib.Core.Bool.{true, false, cond};
-ghost use mathlib.Core.List.{map};
 ghost use Prim.Native.Nat.{ℕ, _+_, _*_, _^_, _≤_, _<_};
 ghost use lib.ListN.{length, getD, take};
 ghost use lib.Dec.{eqb};
 ghost use Rattle.rules.specs.Bits.{bitsOf, octetsFor};
 ghost use Rattle.rules.specs.First.{riceCode};
 ghost use Rattle.rules.specs.Zeros as zeros;
-ghost use Rattle.rules.specs.Chooses.{leastOf, greatestOf, formOf, declined, writeOne};
+ghost use Rattle.rules.specs.Chooses.{leastOf, greatestOf, declined, writeOne};
 ghost use Rattle.rules.specs.Tools.{isLength};
 ghost use Rattle.rules.specs.Calls.{Writes, WriteFrame, WriteSamples};
 ghost use Rattle.measure.specs.Measures.{near, twoZeros};
 ghost use Rattle.pen.specs.Puts.{Able, Puts, Packed};
 ghost use Rattle.choice.specs.Plans.{isMask};
 ghost use Rattle.writer.specs.Ways.{placesBy, listedForm, marksForm, wayOf, WayPlanned};
-ghost use Rattle.writer.specs.Forms.{CodeIs, wholeOctets, Copied, RiceReady, riceFormOf, ValuesReady, valuesFormOf, PlacedReady, placedFormOf, planForm, IsFrame, ZerosReady};
+ghost use Rattle.writer.specs.Forms.{CodeIs, wholeOctets, Copied, RiceReady, riceFormOf, ValuesReady, valuesFormOf, PlacedReady, placedFormOf, planForm, IsFrame, zerosForm, ZerosReady};
 ghost use Rattle.writer.specs.Answers.{Tells, fitting, pad, full, plain, found};
 
 // A code: so many bits, and their number.
@@ -337,29 +336,18 @@ fn put_placed(
     finish(out, r)
 }
 
-// "Binary: N bits, 1 is minus zero."
-fn put_binary(out: &mut [u8], p: Pen, samples: &[u8], n: usize, mask: u8) -> Pen
-    requires { ⌜ (IsFrame (now samples) n) × (mask < 128) ⌝ }
-    requires { ⌜ Able (now out) p n ⌝ }
-    ensures { λ r. ⌜ Puts (now (out .entry)) p (map (zeros.flagOf mask 0) (take n (now (samples .entry)))) (now (out .exit)) r ⌝ }
-{
-    let words = n / 40;
-    let row = others(samples, words, plus_zero(mask));
-    put_row(out, p, &row, words)
-}
-
-// The planned form of a frame of the two zeros, as octets. Their number comes back.
+// The planned form of a frame of the two zeros, as octets. Their number comes back. "Binary: N bits, 1 is minus zero": the flags of the row.
 fn put_two_zeros(
     out: &mut [u8],
     samples: &[u8],
     n: usize,
-    mask: u8,
     plan: Zeros,
+    row: &[u64; 8],
     runs: &[u16; 321],
 ) -> usize
-    requires { ⌜ ZerosReady mask (now samples) n plan (now runs) ⌝ }
-    requires { ⌜ length (formOf mask (plan .tool) (take n (now samples))) ≤ 8 * length (now out) ⌝ }
-    ensures { λ r. ⌜ Packed (formOf mask (plan .tool) (take n (now (samples .entry)))) (now (out .entry)) (now (out .exit)) r ⌝ }
+    requires { ⌜ ZerosReady (now samples) n plan (now row) (now runs) ⌝ }
+    requires { ⌜ length (zerosForm n (take n (now samples)) plan (now row) (now runs)) ≤ 8 * length (now out) ⌝ }
+    ensures { λ r. ⌜ Packed (zerosForm n (take n (now (samples .entry))) plan (now (row .entry)) (now (runs .entry))) (now (out .entry)) (now (out .exit)) r ⌝ }
 {
     let tool = plan.tool;
     if tool == 1 {
@@ -371,7 +359,7 @@ fn put_two_zeros(
         return finish(out, q);
     }
     let q = put_prefix(out, p, 5, n);
-    let r = put_binary(out, q, samples, n, mask);
+    let r = put_row(out, q, row, n / 40);
     finish(out, r)
 }
 
@@ -430,18 +418,19 @@ fn octets_for(bits: usize) -> usize
     (bits + 7) / 8
 }
 
-// A frame of the two zeros: planned, and then the planned form alone is written.
+// A frame of the two zeros: planned, and then the planned form alone is written. Its flags are gathered once, for the plan and for binary.
 fn write_zeros(out: &mut [u8], samples: &[u8], n: usize, mask: u8, set: u32) -> WriteAnswer
     requires { ⌜ (IsFrame (now samples) n) × (mask < 128) ⌝ }
     requires { ⌜ twoZeros mask (take n (now samples)) ≡ true ⌝ }
     ensures { λ r. ⌜ Writes (fitting (length (now (out .entry))) (found mask set (take n (now (samples .entry))))) r (now (out .entry)) (now (out .exit)) ⌝ }
 {
+    let row = others(samples, n / 40, plus_zero(mask));
     let mut runs = [0u16; 321];
-    let plan = zeros_plan(samples, n, mask, set, &mut runs);
+    let plan = zeros_plan(samples, n, mask, set, &row, &mut runs);
     if out.len() < octets_for(plan.bits) {
         return refused(Refusal::Room);
     }
-    let octets = put_two_zeros(out, samples, n, mask, plan, &runs);
+    let octets = put_two_zeros(out, samples, n, plan, &row, &runs);
     WriteAnswer {
         end: Ending::Done,
         octets: octets,

@@ -1,11 +1,10 @@
 use borrow.Author.Needs.{needs}
-use Prim.Native.Nat.{_/_}
-use Rattle.choice.proofs.TwoZeros.{no-rice, rice-for, row-runs}
-use lib.Seq.{length-take-le}
-use lib.ListN.{take}
+use Rattle.choice.proofs.TwoZeros.{no-rice, rice-for}
+use Rattle.choice.proofs.Turning.{turned-runs}
 use borrow.Author.Tests.{not-true}
+use mathlib.Core.Bool.{cond}
+use lib.Dec.{ltb}
 use mathlib.Core.Path.{refl, sym, _∙_}
-use native.Mathlib.Omega.{arith}
 use Rattle.choice.proofs.rice_of.Statement.{statement}
 use Rattle.choice.proofs.rice_of.Tie as tie
 use Rattle.choice.proofs.rice_of.Reads as reads
@@ -15,8 +14,9 @@ use Rattle.choice.proofs.common_zero.Reads as common-zero-reads
 use Rattle.choice.proofs.mark_of.Reads as mark-of-reads
 use Rattle.choice.proofs.most_s.Reads as most-s-reads
 use Rattle.choice.proofs.start_bits.Reads as start-bits-reads
+use Rattle.choice.proofs.turned_row.Reads as turned-row-reads
+use Rattle.law.proofs.minus_zero.Reads as minus-zero-reads
 use Rattle.measure.proofs.least_s.Reads as least-s-reads
-use Rattle.measure.proofs.others.Reads as others-reads
 use Rattle.measure.proofs.runs_in.Reads as runs-in-reads
 use Rattle.prefix.proofs.holds.Reads as holds-reads
 
@@ -24,7 +24,7 @@ holds-requires : tie.Need-holds-requires
 holds-requires c κs = search needs
 
 returns : tie.Need-returns
-returns c = no-rice (sym (c .before .holds .ensures) ∙ not-true _ (c .if1 .taken)) refl
+returns c = λ s z. no-rice (sym (c .before .holds .ensures) ∙ not-true _ (c .if1 .taken)) refl
 
 mark-of-requires : tie.Need-mark-of-requires
 mark-of-requires c κs = search needs
@@ -32,8 +32,11 @@ mark-of-requires c κs = search needs
 common-zero-requires : tie.Need-common-zero-requires
 common-zero-requires c κs = search needs
 
-others-requires : tie.Need-others-requires
-others-requires c κs = search needs
+minus-zero-requires : tie.Need-minus-zero-requires
+minus-zero-requires c κs = search needs
+
+turned-row-requires : tie.Need-turned-row-requires
+turned-row-requires c κs = search needs
 
 runs-in-requires : tie.Need-runs-in-requires
 runs-in-requires c κs = search needs
@@ -50,14 +53,11 @@ least-s-requires c κs = search needs
 start-bits-requires : tie.Need-start-bits-requires
 start-bits-requires c κs = search needs
 
-add-t23 : tie.Need-add-t23
-add-t23 c = search needs
+add-t24 : tie.Need-add-t24
+add-t24 c = search needs
 
 returns-2 : tie.Need-returns-2
-returns-2 c =
-    let s = c .before .before .before .before .before .before .before .before .before .before .before .before .before .before .before .before in
-    let size = length-take-le (s .args .n) (s .args .samples .now) (s .pre .0 .1 .0) in
-    rice-for (s .args .mask) (take (s .args .n) (s .args .samples .now)) size (s .pre .1 .0 .0) (s .pre .1 .0 .1) (c .before .before .before .before .before .before .before .before .before .before .before .before .mark-of .ensures .0) (c .before .before .before .before .before .before .before .before .before .before .before .common-zero .ensures) (row-runs {n = s .args .n} _ (s .args .samples .now) (s .args .n / 40) (omega (arith, s .pre .0 .1 .1 .1)) (c .before .before .before .before .before .before .before .before .before .before .others .ensures) (c .before .before .before .before .before .before .before .runs-in .ensures)) (c .before .before .before .before .before .before .code-lengths .ensures) (c .before .before .before .most-s .ensures .0) (c .before .before .before .most-s .ensures .1 .1) (c .before .before .least-s .ensures) (c .before .start-bits .ensures)
+returns-2 c = λ s z. rice-for (c .before .before .before .before .before .before .before .before .before .before .before .before .before .before .before .before .args .mask) s (z .size) (z .plus) (z .minus) (c .before .before .before .before .before .before .before .before .before .before .before .before .before .mark-of .ensures .0) (c .before .before .before .before .before .before .before .before .before .before .before .before .common-zero .ensures) (turned-runs (c .before .before .before .before .before .before .before .before .before .before .before .before .before .before .before .before .args .mask) (cond (ltb (c .before .before .before .before .before .before .before .before .before .before .before .before .before .before .before .before .args .plus) (c .before .before .before .before .before .before .before .before .before .before .before .before .before .before .before .before .args .minus)) 1 0) s (z .zeros) (c .before .before .before .before .before .before .before .before .before .before .before .before .common-zero .ensures) (c .before .before .before .before .before .before .before .before .before .before .before .minus-zero .ensures) (z .row) (c .before .before .before .before .before .before .before .before .before .before .turned-row .ensures) (c .before .before .before .before .before .before .before .runs-in .ensures)) (c .before .before .before .before .before .before .code-lengths .ensures) (c .before .before .before .most-s .ensures .0) (c .before .before .before .most-s .ensures .1 .1) (c .before .before .least-s .ensures) (c .before .start-bits .ensures)
 
 pub rice-of-spec : {M : Type 1} → statement M
 rice-of-spec =
@@ -67,11 +67,12 @@ rice-of-spec =
     returns
     mark-of-requires
     common-zero-requires
-    others-requires
+    minus-zero-requires
+    turned-row-requires
     runs-in-requires
     code-lengths-requires
     most-s-requires
     least-s-requires
     start-bits-requires
-    add-t23
+    add-t24
     returns-2)

@@ -45,12 +45,7 @@ returns c =
     binary-settled (s .args .mask) l size (s .pre .0 .1 .1 .1) (plus-left (s .args .mask) l (s .pre .1 .0) size m) m (omega (arith, fits)) (s .pre .0 .1 .1 .0) (s .pre .1 .0) (s .pre .0 .0) (c .before .binary-at-once .ensures) (c .if1 .taken) refl refl
 
 rice-of-requires : tie.Need-rice-of-requires
-rice-of-requires c κs =
-    let s = c .before .before .before .before .before .before in
-    let l = take (s .args .n) (s .args .samples .now) in
-    let size = length-take-le (s .args .n) (s .args .samples .now) (s .pre .0 .1 .0) in
-    let m = counted l (c .before .before .before .count-of .ensures .0) (c .before .before .before .before .minus-zero .ensures) in
-    (s .pre .0, ((plus-left (s .args .mask) l (s .pre .1 .0) size m, m), s .pre .1 .1))
+rice-of-requires c κs = search needs
 
 uncompressed-of-requires : tie.Need-uncompressed-of-requires
 uncompressed-of-requires c κs = search needs
@@ -59,19 +54,31 @@ holds-requires : tie.Need-holds-requires
 holds-requires c κs = search needs
 
 better-requires : tie.Need-better-requires
-better-requires c κs = (omega (arith, ap (λ (k : Choice). k .bits) (c .before .uncompressed-of .ensures), c .before .before .before .before .before .before .before .before .before .pre .0 .0), omega (arith, c .before .before .rice-of .ensures .small, c .before .before .before .before .before .before .before .before .before .pre .0 .0))
+better-requires c κs =
+    let s = c .before .before .before .before .before .before .before .before .before in
+    let l = take (s .args .n) (s .args .samples .now) in
+    let size = length-take-le (s .args .n) (s .args .samples .now) (s .pre .0 .1 .0) in
+    let m = counted l (c .before .before .before .before .before .before .count-of .ensures .0) (c .before .before .before .before .before .before .before .minus-zero .ensures) in
+    (omega (arith, ap (λ (k : Choice). k .bits) (c .before .uncompressed-of .ensures), s .pre .0 .0), omega (arith, c .before .before .rice-of .ensures l (record { size = size; zeros = s .pre .1 .0; plus = plus-left (s .args .mask) l (s .pre .1 .0) size m; minus = m; row = s .pre .1 .1 .0 }) .small, s .pre .0 .0))
 
 holds-requires-2 : tie.Need-holds-requires-2
 holds-requires-2 c κs = search needs
 
 better-requires-2 : tie.Need-better-requires-2
-better-requires-2 c κs = (c .before .better .ensures .small, omega (arith, c .before .before .before .before .rice-of .ensures .small, c .before .before .before .before .before .before .before .before .before .before .before .pre .0 .0))
+better-requires-2 c κs =
+    let s = c .before .before .before .before .before .before .before .before .before .before .before in
+    let l = take (s .args .n) (s .args .samples .now) in
+    let size = length-take-le (s .args .n) (s .args .samples .now) (s .pre .0 .1 .0) in
+    let m = counted l (c .before .before .before .before .before .before .before .before .count-of .ensures .0) (c .before .before .before .before .before .before .before .before .before .minus-zero .ensures) in
+    (c .before .better .ensures .small, omega (arith, c .before .before .before .before .rice-of .ensures l (record { size = size; zeros = s .pre .1 .0; plus = plus-left (s .args .mask) l (s .pre .1 .0) size m; minus = m; row = s .pre .1 .1 .0 }) .small, s .pre .0 .0))
 
 returns-2 : tie.Need-returns-2
 returns-2 c =
     let s = c .before .before .before .before .before .before .before .before .before .before .before .before in
+    let l = take (s .args .n) (s .args .samples .now) in
     let size = length-take-le (s .args .n) (s .args .samples .now) (s .pre .0 .1 .0) in
-    zeros-planned (s .pre .0 .1 .1 .0) (s .pre .1 .0) size (s .pre .0 .0) (c .before .before .before .before .before .rice-of .ensures) (c .before .before .before .before .uncompressed-of .ensures) (c .before .before .before .holds .ensures) (c .before .before .better .ensures) (c .before .holds2 .ensures) (c .better2 .ensures)
+    let m = counted l (c .before .before .before .before .before .before .before .before .before .count-of .ensures .0) (c .before .before .before .before .before .before .before .before .before .before .minus-zero .ensures) in
+    zeros-planned (s .pre .0 .1 .1 .0) (s .pre .1 .0) size (s .pre .0 .0) (c .before .before .before .before .before .rice-of .ensures l (record { size = size; zeros = s .pre .1 .0; plus = plus-left (s .args .mask) l (s .pre .1 .0) size m; minus = m; row = s .pre .1 .1 .0 })) (c .before .before .before .before .uncompressed-of .ensures) (c .before .before .before .holds .ensures) (c .before .before .better .ensures) (c .before .holds2 .ensures) (c .better2 .ensures)
 
 pub zeros-plan-spec : {M : Type 1} → statement M
 zeros-plan-spec =
