@@ -19,7 +19,7 @@ unfolding rowBits
 row-append [] b = refl
 row-append (w ∷ a) b = rw (row-append a b, append-assoc)
 
-length-rowBits : (ws : List ℕ) → length (rowBits ws) ≡ 40 * length ws
+pub length-rowBits : (ws : List ℕ) → length (rowBits ws) ≡ 40 * length ws
 unfolding rowBits
 length-rowBits [] = refl
 length-rowBits (w ∷ ws) = rw (length-append (lowBits 40 w) (rowBits ws), length-lowBits 40 w, length-rowBits ws) (omega arith)
