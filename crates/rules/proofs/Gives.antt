@@ -214,8 +214,6 @@ gives-valuesInto n z cells g none c = gives-give cells (record { size = refl; be
 gives-valuesInto n z cells g (more {x = x} {l = xs} h t) c =
     gives-bind gives-here (λ start u. gives-bind (gives-number 3) (λ m r.
     gives-bind (gives-byMethod n (emptyIn z cells) start m) (λ flags f.
-    gives-bind gives-here (λ end v.
-    gives-cond (eqb (emptyIn z (lay z x flags 0 cells)) 0) (λ q. gives-fail Place end) (λ q.
     let s = lay-sized z x flags 0 g h c in
     gives-as (λ l k. record { size = k .size ∙ s .size; below = k .below })
-    (gives-valuesInto n z (lay z x flags 0 cells) g t (s .below)))))))
+    (gives-valuesInto n z (lay z x flags 0 cells) g t (s .below)))))
