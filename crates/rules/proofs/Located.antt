@@ -3,19 +3,21 @@
 --   value-goes-on      nothing is asked of what a value leaves
 --   full-reads-none, full-means-none, full-listed, full-cut, method-unknown     D = 0, method by method
 --   last-listed, last-listed-twice     D = 1, where a listed place has no bits
-use Prim.Native.Nat.{ℕ, zero, suc, _+_, _≤_}
+--   lay-sized          cells that are laid are as many as before, and octets
+use Prim.Native.Nat.{ℕ, zero, suc, _+_, _≤_, _<_}
 use mathlib.Core.Path.{_≡_, refl, ap}
 use mathlib.Core.List.{List, [], _∷_}
 use mathlib.Core.Bool.{Bool, true, false, cond}
 use native.Mathlib.Omega.{arith}
 use native.Mathlib.Numerals.{add-one}
 use lib.Dec.{eqb}
-use lib.ListN.{getD}
+use lib.ListN.{length, getD}
 use Rattle.rules.specs.declared.Refusal.{Refusal}
 use Rattle.rules.specs.declared.Refusal.the-variants.{Method, Place}
 use Rattle.rules.specs.Reading.{Read, whole, refuse, numberFrom, number, bitsFrom}
 use Rattle.rules.specs.Runs.{runsFrom}
 use Rattle.rules.specs.Located.{widthFrom, listedFrom, listed, byMethod, emptyIn, lay, valuesInto}
+use Rattle.rules.proofs.Octets.{Below, none, more, Sized}
 
 -- a value, and then the next one, whatever it leaves
 pub value-goes-on : (n z x : ℕ) (xs cells b : List ℕ) (i : ℕ) {m j : ℕ} {flags : List ℕ} {k : ℕ} → number 3 b i ≡ whole m j
@@ -68,3 +70,19 @@ last-listed n start b i e = rw e
 pub last-listed-twice : (n start : ℕ) (b : List ℕ) (i : ℕ) {less j : ℕ} → number 2 b i ≡ whole (suc less) j → byMethod n 1 start 7 b i ≡ refuse Place j
 unfolding byMethod listed listedFrom widthFrom numberFrom
 last-listed-twice n start b i {less} e = rw (e, add-one (suc less))
+
+-- cells that are laid
+pub lay-sized : (z x : ℕ) (flags : List ℕ) (p : ℕ) {cells : List ℕ} → z < 256 → x < 256 → Below 256 cells
+    → Sized 256 (length cells) (lay z x flags p cells)
+unfolding lay
+lay-sized z x flags p g h none = record { size = refl; below = none }
+lay-sized z x flags p g h (more {x = y} {l = cells} k t) =
+    record {
+      size = ap suc (lay-sized z x flags _ g h t .size);
+      below = more (cell (eqb y z) (eqb (getD flags p 0) 1)) (lay-sized z x flags _ g h t .below);
+    }
+  where
+    cell : (b c : Bool) → cond b (cond c x z) y < 256
+    cell true true = h
+    cell true false = g
+    cell false c = k
