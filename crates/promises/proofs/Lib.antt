@@ -11,6 +11,8 @@ pub mod Chosen
 pub mod Written
 pub mod Reach
 pub mod Further
+pub mod OldReader
+pub mod Stays
 pub mod Walks
 pub mod Refused
 pub mod Nesting
