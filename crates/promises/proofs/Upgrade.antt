@@ -1,15 +1,16 @@
 -- R-5, a bench upgrade never costs room: a writer with more tools never needs more octets, for a frame or for any list of them.
--- Main statements: `upgrade` (a frame), `upgrade-stream` (a list, each frame with two sets of its own), `upgrade-sum` (a list, two sets for all).
+-- Main statements: `upgrade` (a frame), `upgrade-stream` (a list, each frame with two sets of its own), `upgrade-sum` (a list, two sets
+-- for all); `room-enough`, `joined`, `one-more`.
 use Prim.Native.Nat.{ℕ, suc, _+_, _-_, _^_, _/_, _%_, _≤_, _<_, min}
 use native.Mathlib.Omega.{arith}
-use mathlib.Core.Path.{_≡_, refl, sym, _∙_}
-use mathlib.Core.List.{List, [], _∷_, _++_, map}
+use mathlib.Core.Path.{_≡_, refl}
+use mathlib.Core.List.{List, [], _∷_, map}
 use mathlib.Core.Bool.{Bool, true, false, cond, not, _&&_, _||_}
 use lib.ListN.{length, take, length-append}
 use lib.Dec.{eqb, leb}
 use borrow.Author.Tests.{le-ltb, ne-eqb, leb-true}
 use Rattle.rules.specs.Tools.{holds, Within, isSet, isWriterSet}
-use Rattle.rules.specs.Bits.{lowBits, octetsFor, pack}
+use Rattle.rules.specs.Bits.{octetsFor}
 use Rattle.rules.specs.Samples.{maskOf}
 use Rattle.rules.specs.Chooses.{applies, formOf, octetsOfForm, tieOrder, chosenTool, Written, chosen, wrote, writeOne}
 use Rattle.rules.proofs.Octets.{length-pack}
@@ -39,20 +40,27 @@ module _ (mask a b : ℕ) (s : List ℕ) (odd : isWriterSet a ≡ true) (w : Wit
   larger : FirstLeast (usable mask b s) (octetsOfForm mask s) order (chosenTool mask b s)
   larger = choose-least mask b s tieOrder (w .also 1 (writer-holds a odd))
 
-  -- R-5: "the larger set's form of a frame never has more octets"
-  pub upgrade : octetsWith mask b s ≤ octetsWith mask a s
-  unfolding chosen
-  upgrade = either (eqb (length s) 0) _ _ _ (wider-least also-usable smaller larger)
+-- R-5: "If one writer's set lies within another's, the larger set's form of a frame never has more octets"
+pub upgrade : (mask a b : ℕ) (s : List ℕ) → isWriterSet a ≡ true → Within a b → octetsWith mask b s ≤ octetsWith mask a s
+unfolding chosen
+upgrade mask a b s odd w =
+    either (eqb (length s) 0) _ _ _ (wider-least (also-usable mask a b s odd w) (smaller mask a b s odd w) (larger mask a b s odd w))
 
-  -- and it is the same form where the tool that wins was in the smaller set already
-  pub same-form : holds a (chosenTool mask b s) ≡ true → chosen mask b s ≡ chosen mask a s
-  unfolding chosen
-  same-form held =
-      let t = chosenTool mask b s in
-      let fits = and-right (holds b t) (applies mask t s) (larger .ok) in
-      rw (one-first-least (usable mask a s) (octetsOfForm mask s) (first-of-fewer also-usable (rw (held, fits) refl) larger) smaller) refl
+-- and it is the same form where the tool that wins was in the smaller set already
+same-tool : (mask a b : ℕ) (s : List ℕ) → isWriterSet a ≡ true → Within a b → holds a (chosenTool mask b s) ≡ true → chosenTool mask b s ≡ chosenTool mask a s
+same-tool mask a b s odd w held =
+    let t = chosenTool mask b s in
+    let f = larger mask a b s odd w in
+    let fits = and-right (holds b t) (applies mask t s) (f .ok) in
+    let same = first-of-fewer (also-usable mask a b s odd w) (rw (held, fits) refl) f in
+    one-first-least (usable mask a s) (octetsOfForm mask s) same (smaller mask a b s odd w)
 
--- A list of frames, each written with a set of its own, and what an upgrade of each writer makes of it: the same frames, each by a set that holds the old one. Pads stay.
+pub same-form : (mask a b : ℕ) (s : List ℕ) → isWriterSet a ≡ true → Within a b → holds a (chosenTool mask b s) ≡ true → chosen mask b s ≡ chosen mask a s
+unfolding chosen
+same-form mask a b s odd w held = rw (same-tool mask a b s odd w held) refl
+
+-- A list of frames, each written with a set of its own, and what an upgrade of each writer makes of it: the same frames, each by a set that
+-- holds the old one. Pads stay.
 pub data Upgraded : Part → Part → Type 0 where
   pads : Upgraded padding padding
   frames : {a b : ℕ} {s : List ℕ} → isWriterSet a ≡ true → Within a b → Upgraded (frameOf a s) (frameOf b s)
@@ -121,11 +129,25 @@ pub record OneMore (a t b : ℕ) : Type 0 where
   pub within : Within a b
   pub only : (u : ℕ) → holds b u ≡ true → (u ≡ t → ⊥) → holds a u ≡ true
 
-pub one-more : (mask a t b : ℕ) (s : List ℕ) → isWriterSet a ≡ true → OneMore a t b → (chosenTool mask b s ≡ t → ⊥) → chosen mask b s ≡ chosen mask a s
-one-more mask a t b s odd m lost =
-    let u = chosenTool mask b s in
-    let held = and-left (holds b u) (applies mask u s) (larger mask a b s odd (m .within) .ok) in
-    same-form mask a b s odd (m .within) (m .only u held lost)
+unless : (none : Bool) (pad x y : Written) (t : ℕ) → ((x .tool ≡ t → ⊥) → x ≡ y) → (cond none pad x .tool ≡ t → ⊥) → cond none pad x ≡ cond none pad y
+unless true pad x y t h lost = refl
+unless false pad x y t h lost = h lost
+
+pub one-more : (mask a t b : ℕ) (s : List ℕ) → isWriterSet a ≡ true → OneMore a t b → (chosen mask b s .tool ≡ t → ⊥) → chosen mask b s ≡ chosen mask a s
+unfolding chosen
+one-more mask a t b s odd m lost = unless (eqb (length s) 0) _ _ _ t others lost
+  where
+    u : ℕ
+    u = chosenTool mask b s
+
+    held : holds b u ≡ true
+    held = and-left (holds b u) (applies mask u s) (larger mask a b s odd (m .within) .ok)
+
+    form : ℕ → Written
+    form v = record { tool = v; bits = formOf mask v s }
+
+    others : (u ≡ t → ⊥) → form u ≡ form (chosenTool mask a s)
+    others not-t = rw (same-tool mask a b s odd (m .within) (m .only u held not-t)) refl
 
 -- "Tool t adds 2^(t-1)", where t was not in the set; here t is k + 1. One test of all sets and tools, computed.
 asSum : ℕ → ℕ → ℕ → Bool
@@ -155,6 +177,7 @@ one-added a k small h out = record {
         let tool = allBelow-at (λ k. holds a (suc k) || allBelow (asSum a k) 8) 7 set k h in
         allBelow-at (asSum a k) 8 (rw out at tool) u l
 
-    kept : (u : ℕ) (x : Bool) → holds a u ≡ x → cond (x || false) (holds (a + 2 ^ k) u) (not (holds (a + 2 ^ k) u)) ≡ true → holds (a + 2 ^ k) u ≡ true → holds a u ≡ true
+    kept : (u : ℕ) (x : Bool) → holds a u ≡ x → cond (x || false) (holds (a + 2 ^ k) u) (not (holds (a + 2 ^ k) u)) ≡ true
+        → holds (a + 2 ^ k) u ≡ true → holds a u ≡ true
     kept u true e f g = e
     kept u false e f g = absurd (let z = rw g at f in let n : _≡_ {A = ℕ} 0 1 = cc in omega arith)

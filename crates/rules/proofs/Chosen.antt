@@ -1,4 +1,5 @@
 -- What the writer chooses: one of the set's forms that apply, none of them shorter, and of the equally short the first in the tie order.
+-- Main statements: `choose-least`, `chosen-first-least`; of what is first and least, `wider-least`, `first-of-fewer`, `one-first-least`.
 use Prim.Native.Nat.{ℕ, _/_, _%_, _≤_}
 use native.Mathlib.Omega.{arith}
 use mathlib.Core.Path.{_≡_, refl, sym, ap, _∙_}
@@ -37,7 +38,8 @@ none-less {usable} {size} {order} {t} m h f =
     (next (or-right (not (usable t)) (leb m (size t)) (le-leb m (size t) h)) (each-map (λ u e. or-leb′ (not (usable u)) m (size t) (size u) h e) (f .later))))
 
 -- "fewest octets"
-pub least : {usable : ℕ → Bool} {size : ℕ → ℕ} {order : List ℕ} {t : ℕ} → FirstLeast usable size order t → Each (λ u. not (usable u) || leb (size t) (size u)) order
+pub least : {usable : ℕ → Bool} {size : ℕ → ℕ} {order : List ℕ} {t : ℕ} → FirstLeast usable size order t
+    → Each (λ u. not (usable u) || leb (size t) (size u)) order
 least {size = size} {t = t} f = none-less (size t) (omega arith) f
 
 weaken : (a b x : Bool) → (a ≡ true → b ≡ true) → not b || x ≡ true → not a || x ≡ true
@@ -124,12 +126,14 @@ step can size t c order false b e g f =
       later = f .later;
     }
 
-pub choose-least : (mask set : ℕ) (s ts : List ℕ) → holds set 1 ≡ true → FirstLeast (usable mask set s) (octetsOfForm mask s) (ts ++ (1 ∷ [])) (choose mask set s ts)
+pub choose-least : (mask set : ℕ) (s ts : List ℕ) → holds set 1 ≡ true
+    → FirstLeast (usable mask set s) (octetsOfForm mask s) (ts ++ (1 ∷ [])) (choose mask set s ts)
 unfolding choose applies
 choose-least mask set s [] h = record { before = []; after = []; stands = refl; ok = rw h refl; earlier = nothing; later = nothing }
 choose-least mask set s (t ∷ ts) h =
-    step (usable mask set s) (octetsOfForm mask s) t (choose mask set s ts) (ts ++ (1 ∷ [])) (usable mask set s t) (leb (octetsOfForm mask s t) (octetsOfForm mask s (choose mask set s ts))) refl refl
-    (choose-least mask set s ts h)
+    let best = choose mask set s ts in
+    let test = leb (octetsOfForm mask s t) (octetsOfForm mask s best) in
+    step (usable mask set s) (octetsOfForm mask s) t best (ts ++ (1 ∷ [])) (usable mask set s t) test refl refl (choose-least mask set s ts h)
 
 -- the order plus, minus, constant, binary, Rice, value-location, uncompressed
 abbrev pub order : List ℕ
@@ -142,7 +146,8 @@ writer-holds set e =
     eq-eqb (set / 1 % 2) 1 (omega arith)
 
 -- The writer's choice
-pub chosen-first-least : (mask set : ℕ) (s : List ℕ) → isWriterSet set ≡ true → FirstLeast (usable mask set s) (octetsOfForm mask s) order (chosenTool mask set s)
+pub chosen-first-least : (mask set : ℕ) (s : List ℕ) → isWriterSet set ≡ true
+    → FirstLeast (usable mask set s) (octetsOfForm mask s) order (chosenTool mask set s)
 chosen-first-least mask set s h = choose-least mask set s tieOrder (writer-holds set h)
 
 -- it is one of the tools, the set holds it and it applies
