@@ -76,9 +76,9 @@ module _ (mask : ℕ) (s : List ℕ) {n plus minus : ℕ} (size : length s ≡ n
       go (suc (suc S)) h = omega (arith, start, threes (suc (suc S)) (zeroOf mask (markOf mask s) 0) (omega arith) s 0, few, size, forties)
 
   -- so binary is taken
-  pub binary-settled : {set : ℕ} {runs : List ℕ} {r : Zeros} {t : Bool} → mask < 128 → twoZeros mask s ≡ true → n ≤ 320
-      → t ≡ (holds set 5 && ltb minus (plus + 14) && ltb plus (minus + 14)) → t ≡ true → r .tool ≡ 5 → r .bits ≡ 8 + n → ZerosFor mask set s r runs
-  binary-settled {set} {runs} {r} seven zeros few told taken tool bits =
+  pub binary-settled : (set : ℕ) {runs : List ℕ} {r : Zeros} {t : Bool} → mask < 128 → twoZeros mask s ≡ true → n ≤ 320
+      → t ≡ (holds set 5 && ltb minus (plus + 14) && ltb plus (minus + 14)) → t ≡ true → r .tool ≡ 5 → r .bits ≡ 8 + n → ZerosFor mask (choose mask set s measured) s r runs
+  binary-settled set {runs} {r} seven zeros few told taken tool bits =
       let h = holds set 5 in
       let p = ltb minus (plus + 14) in
       let q = ltb plus (minus + 14) in

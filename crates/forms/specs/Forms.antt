@@ -13,13 +13,6 @@ use Rattle.look.specs.Rows.{rowBits}
 use Rattle.locating.specs.declared.Placed.{Placed}
 use Rattle.zeros.specs.declared.Zeros.{Zeros}
 use Rattle.forms.specs.Ways.{wayOf, WayPlanned}
-use Rattle.forms.specs.declared.Code.{Code}
-
--- the code of S as a number of so many bits
-pub record CodeIs (n s : ℕ) (r : Code) : Type 0 where
-  pub says : lowBits (r .bits) (r .value) ≡ codeOf n s
-  pub few : r .bits ≤ 8
-  pub fits : r .value < 2 ^ r .bits
 
 -- n samples of a frame, 40 to a word
 pub record IsFrame (samples : List ℕ) (n : ℕ) : Type 0 where

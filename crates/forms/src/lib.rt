@@ -1,5 +1,6 @@
 // The forms of the tools, put out as planned: nothing is decided here.
 
+use codes::code_of;
 use locating::Placed;
 use locating::Way;
 use measure::width_of;
@@ -23,13 +24,7 @@ ghost use Rattle.rules.specs.First.{riceCode};
 ghost use Rattle.rules.specs.Zeros as zeros;
 ghost use Rattle.pen.specs.Puts.{Able, Puts, Packed};
 ghost use Rattle.forms.specs.Ways.{placesBy, listedForm, marksForm, wayOf, WayPlanned};
-ghost use Rattle.forms.specs.Forms.{CodeIs, wholeOctets, Copied, RiceReady, riceFormOf, ValuesReady, valuesFormOf, PlacedReady, placedFormOf, planForm, IsFrame, zerosForm, ZerosReady};
-
-// A code: so many bits, and their number.
-pub struct Code {
-    pub bits: usize,
-    pub value: u64,
-}
+ghost use Rattle.forms.specs.Forms.{wholeOctets, Copied, RiceReady, riceFormOf, ValuesReady, valuesFormOf, PlacedReady, placedFormOf, planForm, IsFrame, zerosForm, ZerosReady};
 
 fn wide(x: u8) -> u64
     ensures { λ r. ⌜ (r ≡ x) × (r < 256) ⌝ }
@@ -102,76 +97,6 @@ fn put_start(out: &mut [u8], p: Pen, n: usize, mark: usize) -> Pen
         return put(out, p, 7, (base / 16) * 8 + 4 + mark as u64);
     }
     put(out, p, 5, (base / 64) * 8 + 2 + mark as u64)
-}
-
-fn bits_of(bits: usize, value: u64) -> Code
-    ensures { λ r. ⌜ (r .bits ≡ bits) × (r .value ≡ value) ⌝ }
-{
-    Code {
-        bits: bits,
-        value: value,
-    }
-}
-
-// The code of S for 40 samples.
-fn code_of_40(s: usize) -> Code
-    requires { ⌜ (1 ≤ s) × (s ≤ 5) ⌝ }
-    ensures { λ r. ⌜ CodeIs 40 s r ⌝ }
-{
-    match s {
-        1 => bits_of(2, 1),
-        2 => bits_of(2, 2),
-        3 => bits_of(3, 6),
-        4 => bits_of(4, 14),
-        _ => bits_of(4, 15),
-    }
-}
-
-// The code of S for 80 samples.
-fn code_of_80(s: usize) -> Code
-    requires { ⌜ (1 ≤ s) × (s ≤ 6) ⌝ }
-    ensures { λ r. ⌜ CodeIs 80 s r ⌝ }
-{
-    match s {
-        1 => bits_of(2, 1),
-        2 => bits_of(2, 2),
-        3 => bits_of(4, 12),
-        4 => bits_of(4, 13),
-        5 => bits_of(4, 14),
-        _ => bits_of(4, 15),
-    }
-}
-
-// The code of S for 160, 240 and 320 samples.
-fn code_of_more(s: usize) -> Code
-    requires { ⌜ (1 ≤ s) × (s ≤ 9) ⌝ }
-    ensures { λ r. ⌜ CodeIs 160 s r ⌝ }
-{
-    match s {
-        1 => bits_of(2, 1),
-        2 => bits_of(2, 2),
-        3 => bits_of(4, 12),
-        4 => bits_of(4, 13),
-        5 => bits_of(5, 28),
-        6 => bits_of(5, 29),
-        7 => bits_of(5, 30),
-        8 => bits_of(6, 62),
-        _ => bits_of(6, 63),
-    }
-}
-
-// The code of S.
-fn code_of(n: usize, s: usize) -> Code
-    requires { ⌜ (1 ≤ s) × (s ≤ zeros.mostS n) ⌝ }
-    ensures { λ r. ⌜ CodeIs n s r ⌝ }
-{
-    if n == 40 {
-        return code_of_40(s);
-    }
-    if n == 80 {
-        return code_of_80(s);
-    }
-    code_of_more(s)
 }
 
 // Rice: the start, the code of S, and the runs.

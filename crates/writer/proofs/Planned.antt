@@ -17,8 +17,8 @@ use Rattle.forms.proofs.Form.{zeros-whole, zeros-rice, zeros-binary, rice-form,
 
 -- a frame of the two zeros
 module _ (n : ℕ) (s : List ℕ) (r : Zeros) (row runs : List ℕ) where
-  pub zeros-form : {mask set : ℕ} → length s ≡ n → RowIs (map (flagOf mask 0) s) (n / 40) row → ZerosFor mask set s r runs → zerosForm n s r row runs ≡ formOf mask (r .tool) s
-  zeros-form {mask} {set} size words p = go (ℕ-discrete (r .tool) 1) (ℕ-discrete (r .tool) 6)
+  pub zeros-form : {mask t : ℕ} → length s ≡ n → RowIs (map (flagOf mask 0) s) (n / 40) row → ZerosFor mask t s r runs → zerosForm n s r row runs ≡ formOf mask t s
+  zeros-form {mask} {t} size words p = go (ℕ-discrete (r .tool) 1) (ℕ-discrete (r .tool) 6) ∙ ap (λ (k : ℕ). formOf mask k s) (p .tool)
     where
       go : Dec (r .tool ≡ 1) → Dec (r .tool ≡ 6) → zerosForm n s r row runs ≡ formOf mask (r .tool) s
       go (yes e) d = sym (zeros-whole n s r row runs e) ∙ whole-form mask 1 s (omega arith) (omega arith) ∙ ap (λ (k : ℕ). formOf mask k s) (sym e)
@@ -27,8 +27,8 @@ module _ (n : ℕ) (s : List ℕ) (r : Zeros) (row runs : List ℕ) where
 
 -- a frame that has a 1 or a -2
 module _ (n : ℕ) (s : List ℕ) (r : Placed) (a b c : List ℕ) where
-  pub plan-form : {mask set : ℕ} → length s ≡ n → PlacedFor mask set s r a b c → planForm n s r a b c ≡ formOf mask (r .tool) s
-  plan-form {mask} {set} size p = go (ℕ-discrete (r .tool) 1)
+  pub plan-form : {mask t : ℕ} → length s ≡ n → PlacedFor mask t s r a b c → planForm n s r a b c ≡ formOf mask t s
+  plan-form {mask} {t} size p = go (ℕ-discrete (r .tool) 1) ∙ ap (λ (k : ℕ). formOf mask k s) (p .tool)
     where
       go : Dec (r .tool ≡ 1) → planForm n s r a b c ≡ formOf mask (r .tool) s
       go (yes e) = sym (plan-whole n s r a b c e) ∙ whole-form mask 1 s (omega arith) (omega arith) ∙ ap (λ (k : ℕ). formOf mask k s) (sym e)

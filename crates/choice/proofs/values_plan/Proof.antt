@@ -1,7 +1,7 @@
 use borrow.Author.Needs.{needs}
 use mathlib.Core.Path.{sym, ap, _∙_}
 use Rattle.choice.specs.declared.Choice.{Choice}
-use Rattle.choice.proofs.Planning.{past, not-placed, placed-for}
+use Rattle.choice.proofs.Planning.{past, placed-as, not-placed, placed-for}
 use Rattle.locating.proofs.Rows.{flag-is, turn-of, row-is, applied-is, row-low, values-say, ways-small}
 use Rattle.look.proofs.Tests.{mask-seven}
 use Rattle.locating.proofs.Near.{law-for}
@@ -41,7 +41,7 @@ returns c =
     let s = c .before .before .before .before in
     let f = take (s .args .n) (s .args .samples .now) in
     let size = length-take-le (s .args .n) (s .args .samples .now) (s .pre .0 .1 .1 .0) in
-    not-placed (s .pre .1 .0) size (s .pre .0 .1 .0) (ap (λ (h : Bool). h && applies (s .args .mask) 7 f) (sym (c .before .before .holds .ensures) ∙ not-true _ (c .before .if1 .taken))) (c .not-placed .ensures .0) (c .not-placed .ensures .1)
+    placed-as (s .pre .1 .1 .1 .1) (not-placed (s .args .set) (s .pre .1 .0) size (s .pre .0 .1 .0) (ap (λ (h : Bool). h && applies (s .args .mask) 7 f) (sym (c .before .before .holds .ensures) ∙ not-true _ (c .before .if1 .taken))) (c .not-placed .ensures .0) (c .not-placed .ensures .1))
 
 tally-of-requires : tie.Need-tally-of-requires
 tally-of-requires c κs = search needs
@@ -61,7 +61,7 @@ returns-2 c =
     let f = take (s .args .n) (s .args .samples .now) in
     let size = length-take-le (s .args .n) (s .args .samples .now) (s .pre .0 .1 .1 .0) in
     let i = c .before .before .before .before .tally-of .ensures in
-    not-placed (s .pre .1 .0) size (s .pre .0 .1 .0) (past (s .args .set) 7 (sym (applied-is i size (c .before .before .before .row-of .ensures .0) (c .before .before .located-applies .ensures)) ∙ not-true _ (c .before .if2 .taken))) (c .not-placed2 .ensures .0) (c .not-placed2 .ensures .1)
+    placed-as (s .pre .1 .1 .1 .1) (not-placed (s .args .set) (s .pre .1 .0) size (s .pre .0 .1 .0) (past (s .args .set) 7 (sym (applied-is i size (c .before .before .before .row-of .ensures .0) (c .before .before .located-applies .ensures)) ∙ not-true _ (c .before .if2 .taken))) (c .not-placed2 .ensures .0) (c .not-placed2 .ensures .1))
 
 add-flag-of : tie.Need-add-flag-of
 add-flag-of c =
@@ -86,7 +86,7 @@ ways-of-requires c κs =
     let f = take (s .args .n) (s .args .samples .now) in
     let size = length-take-le (s .args .n) (s .args .samples .now) (s .pre .0 .1 .1 .0) in
     let i = c .before .before .before .before .before .before .before .before .before .before .tally-of .ensures in
-    ((s .pre .0 .1 .0, (s .pre .0 .1 .1 .0, s .pre .0 .1 .1 .1 .1)), (turn-of i (law-for (s .args .mask) (s .pre .0 .1 .1 .1 .0)) (c .before .before .before .before .before .before .before .before .before .row-of .result) (c .before .before .before .before .before .flag-of .result) (c .before .before .before .plus-zero .ensures) (c .before .before .before .before .values-of .ensures), s .pre .1 .1 .1))
+    ((s .pre .0 .1 .0, (s .pre .0 .1 .1 .0, s .pre .0 .1 .1 .1 .1)), (turn-of i (law-for (s .args .mask) (s .pre .0 .1 .1 .1 .0)) (c .before .before .before .before .before .before .before .before .before .row-of .result) (c .before .before .before .before .before .flag-of .result) (c .before .before .before .plus-zero .ensures) (c .before .before .before .before .values-of .ensures), s .pre .1 .1 .1 .0))
 
 uncompressed-of-requires : tie.Need-uncompressed-of-requires
 uncompressed-of-requires c κs = c .before .before .before .before .before .before .before .before .before .before .before .before .before .before .before .pre .0 .1 .0
@@ -111,7 +111,7 @@ returns-3 c =
     let on = not-false _ (c .before .before .before .before .before .before .before .before .before .before .before .before .if2 .left) in
     let r = c .before .before .before .before .before .before .before .before .before .before .before .before .before .before .row-of .ensures .0 in
     let t = c .before .before .before .before .before .before .before .before .before .before .before .before .before .located-applies .ensures in
-    placed-for (s .pre .1 .0) size (s .pre .0 .1 .0) (sym (c .before .before .before .before .before .before .before .before .before .before .before .before .before .before .before .before .before .holds .ensures) ∙ not-false _ (c .before .before .before .before .before .before .before .before .before .before .before .before .before .before .before .before .if1 .left)) (sym (applied-is i size r t) ∙ on) (row-is i size r) (row-low i size r t on) (c .before .before .before .before .before .before .before .before .before .before .flag-of .ensures .0 ∙ flag-is i) (c .before .before .before .before .before .before .before .before .before .before .flag-of .ensures .1) (c .before .before .before .before .before .before .before .before .plus-zero .result) (turn-of i (law-for (s .args .mask) (s .pre .0 .1 .1 .1 .0)) (c .before .before .before .before .before .before .before .before .before .before .before .before .before .before .row-of .result) (c .before .before .before .before .before .before .before .before .before .before .flag-of .result) (c .before .before .before .before .before .before .before .before .plus-zero .ensures) (c .before .before .before .before .before .before .before .before .before .values-of .ensures)) (ap samplesOf (c .before .before .before .before .before .before .before .before .before .values-of .ensures) ∙ values-say i size r t on (c .before .before .before .before .before .before .before .before .before .before .flag-of .ensures .0)) (c .before .before .before .before .ways-of .ensures) (c .before .before .before .uncompressed-of .ensures) (c .before .before .located-bits .ensures) (c .before .better .ensures) (c .placed-by .ensures)
+    placed-as (s .pre .1 .1 .1 .1) (placed-for (s .args .set) (s .pre .1 .0) size (s .pre .0 .1 .0) (sym (c .before .before .before .before .before .before .before .before .before .before .before .before .before .before .before .before .before .holds .ensures) ∙ not-false _ (c .before .before .before .before .before .before .before .before .before .before .before .before .before .before .before .before .if1 .left)) (sym (applied-is i size r t) ∙ on) (row-is i size r) (row-low i size r t on) (c .before .before .before .before .before .before .before .before .before .before .flag-of .ensures .0 ∙ flag-is i) (c .before .before .before .before .before .before .before .before .before .before .flag-of .ensures .1) (c .before .before .before .before .before .before .before .before .plus-zero .result) (turn-of i (law-for (s .args .mask) (s .pre .0 .1 .1 .1 .0)) (c .before .before .before .before .before .before .before .before .before .before .before .before .before .before .row-of .result) (c .before .before .before .before .before .before .before .before .before .before .flag-of .result) (c .before .before .before .before .before .before .before .before .plus-zero .ensures) (c .before .before .before .before .before .before .before .before .before .values-of .ensures)) (ap samplesOf (c .before .before .before .before .before .before .before .before .before .values-of .ensures) ∙ values-say i size r t on (c .before .before .before .before .before .before .before .before .before .before .flag-of .ensures .0)) (c .before .before .before .before .ways-of .ensures) (c .before .before .before .uncompressed-of .ensures) (c .before .before .located-bits .ensures) (c .before .better .ensures) (c .placed-by .ensures))
 
 pub values-plan-spec : {M : Type 1} → statement M
 values-plan-spec =

@@ -1,14 +1,14 @@
 use borrow.Author.Needs.{needs}
 use Prim.Native.Nat.{ℕ}
-use mathlib.Core.Path.{refl, sym, ap, _∙_}
-use native.Mathlib.Omega.{arith}
-use lib.ListN.{length, take}
-use Rattle.rules.specs.Chooses.{formOf}
-use Rattle.writer.specs.Answers.{found}
+use mathlib.Core.Path.{refl, sym, _∙_}
+use mathlib.Core.List.{List}
+use lib.ListN.{take}
+use Rattle.rules.specs.Chooses.{Written}
+use Rattle.writer.specs.Answers.{full}
 use Rattle.forms.proofs.Turns.{placed-ready}
 use Rattle.forms.proofs.Form.{cells-length}
 use Rattle.writer.proofs.Planned.{plan-form}
-use Rattle.writer.proofs.Writing.{no-room, all-written}
+use Rattle.writer.proofs.Writing.{form-refused, form-fits, form-written}
 use Rattle.writer.proofs.write_values.Statement.{statement}
 use Rattle.writer.proofs.write_values.Tie as tie
 use Rattle.writer.proofs.write_values.Reads as reads
@@ -18,11 +18,18 @@ use Rattle.measure.proofs.octets_for.Reads as octets-for-reads
 use Rattle.forms.proofs.put_placed.Reads as put-placed-reads
 use Rattle.writer.proofs.refused.Reads as refused-reads
 
+-- the frame, and its chosen form
+abbrev frame : tie.Start → List ℕ
+frame s = take (s .args .n) (s .args .samples .now)
+
+abbrev chosen : tie.Start → Written
+chosen s = full (s .args .mask) (s .args .set) (frame s)
+
 values-plan-requires : tie.Need-values-plan-requires
 values-plan-requires c κs =
     let s = c .before .before .before .before .before in
     let f = s .pre .0 .0 in
-    ((f .some, (f .few, (f .long, (s .pre .0 .1, f .whole)))), (s .pre .1 .0, (s .pre .1 .1, (refl, (refl, refl)))))
+    ((f .some, (f .few, (f .long, (s .pre .0 .1, f .whole)))), (s .pre .1 .0, (s .pre .1 .1 .0, ((refl, (refl, refl)), s .pre .1 .1 .1))))
 
 octets-for-requires : tie.Need-octets-for-requires
 octets-for-requires c κs = search needs
@@ -33,14 +40,15 @@ refused-requires c κs = search needs
 returns : tie.Need-returns
 returns c =
     let s = c .before .before .before .before .before .before .before .before .before in
-    no-room (found (s .args .mask) (s .args .set) (take (s .args .n) (s .args .samples .now))) (omega (arith, c .before .before .before .values-plan .ensures .bits, c .before .before .octets-for .ensures, c .before .if1 .taken)) (c .refused .ensures)
+    form-refused (chosen s) (c .before .before .before .values-plan .ensures .bits) (c .before .before .octets-for .ensures) (c .before .if1 .taken) (c .refused .ensures)
 
 put-placed-requires : tie.Need-put-placed-requires
 put-placed-requires c κs =
     let s = c .before .before .before .before .before .before .before .before .before .before .before .before in
-    let p = c .before .before .before .before .before .before .values-plan .ensures in
-    let w = plan-form _ (take (s .args .n) (s .args .samples .now)) _ _ _ _ (cells-length (s .pre .0 .0)) p ∙ ap (λ (t : ℕ). formOf (s .args .mask) t (take (s .args .n) (s .args .samples .now))) (p .tool) in
-    ((s .pre .0 .0, λ n. placed-ready (p .placed (sym (p .tool) ∙ p .kind n))), omega (arith, ap length w, p .bits, c .before .before .before .before .before .octets-for .ensures, c .before .before .before .before .if1 .left))
+    let plan = c .before .before .before .before .before .before .values-plan in
+    let p = plan .ensures in
+    let e = plan-form (s .args .n) (frame s) (plan .result) _ _ _ (cells-length (s .pre .0 .0)) p in
+    ((s .pre .0 .0, λ n. placed-ready (p .placed (sym (p .tool) ∙ p .kind n))), form-fits (chosen s) (p .bits) (c .before .before .before .before .before .octets-for .ensures) e (c .before .before .before .before .if1 .left))
 
 same-length : tie.Need-same-length
 same-length c = search needs
@@ -48,9 +56,10 @@ same-length c = search needs
 returns-2 : tie.Need-returns-2
 returns-2 c =
     let s = c .before .before .before .before .before .before .before .before .before .before .before .before .before .before .before in
-    let p = c .before .before .before .before .before .before .before .before .before .values-plan .ensures in
-    let w = plan-form _ (take (s .args .n) (s .args .samples .now)) _ _ _ _ (cells-length (s .pre .0 .0)) p ∙ ap (λ (t : ℕ). formOf (s .args .mask) t (take (s .args .n) (s .args .samples .now))) (p .tool) in
-    all-written (found (s .args .mask) (s .args .set) (take (s .args .n) (s .args .samples .now))) (omega (arith, p .bits, c .before .before .before .before .before .before .before .before .octets-for .ensures, c .before .before .before .before .before .before .before .if1 .left)) (rw w at (c .before .before .put-placed .ensures)) refl refl (p .bits) (p .tool)
+    let plan = c .before .before .before .before .before .before .before .before .before .values-plan in
+    let p = plan .ensures in
+    let e = plan-form (s .args .n) (frame s) (plan .result) _ _ _ (cells-length (s .pre .0 .0)) p in
+    form-written (chosen s) (p .bits) (c .before .before .before .before .before .before .before .before .octets-for .ensures) e (c .before .before .before .before .before .before .before .if1 .left) (c .before .before .put-placed .ensures) refl refl refl (p .tool)
 
 pub write-values-spec : {M : Type 1} → statement M
 write-values-spec =
