@@ -13,10 +13,10 @@ use Rattle.look.specs.Looks.{near, twoZeros}
 use Rattle.choice.specs.declared.Choice.{Choice}
 use Rattle.choice.specs.declared.Settled.{Settled}
 use Rattle.zeros.specs.declared.Zeros.{Zeros}
-use Rattle.locating.specs.declared.Placed.{Placed}
+use Rattle.locating.specs.declared.Located.{Located}
 use Rattle.locating.specs.declared.Ways.{Ways}
 use Rattle.zeros.specs.Rice.{RiceIs}
-use Rattle.locating.specs.Rows.{PlacedIs}
+use Rattle.locating.specs.Rows.{LocatedIs}
 
 -- whether a tool is taken
 abbrev pub taken : Choice → Bool → ℕ → Bool
@@ -62,14 +62,14 @@ pub record ZerosFor (mask t : ℕ) (s : List ℕ) (r : Zeros) (runs : List ℕ) 
   pub kind : (r .tool ≡ 1 → ⊥) → (r .tool ≡ 6 → ⊥) → r .tool ≡ 5
 
 -- a choice, with what value-location writes
-abbrev pub placedBy : Choice → ℕ → ℕ → ℕ → Ways → Placed
-placedBy best row flag count w =
+abbrev pub locatedBy : Choice → ℕ → ℕ → ℕ → Ways → Located
+locatedBy best row flag count w =
     record { tool = best .tool; bits = best .bits; row = row; flag = flag; count = count; first = w .first; second = w .second; third = w .third }
 
 -- tool t as it is written of a frame that has a 1 or a -2
-pub record PlacedFor (mask t : ℕ) (s : List ℕ) (r : Placed) (a b c : List ℕ) : Type 0 where
+pub record LocatedFor (mask t : ℕ) (s : List ℕ) (r : Located) (a b c : List ℕ) : Type 0 where
   pub tool : r .tool ≡ t
   pub bits : r .bits ≡ length (formOf mask t s)
   pub small : r .bits ≤ 1000000000
-  pub placed : t ≡ 7 → PlacedIs mask s r a b c
+  pub located : t ≡ 7 → LocatedIs mask s r a b c
   pub kind : (r .tool ≡ 1 → ⊥) → r .tool ≡ 7

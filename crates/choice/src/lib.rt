@@ -2,7 +2,7 @@
 
 use law::minus_zero;
 use law::plus_zero;
-use locating::Placed;
+use locating::Located;
 use locating::Ways;
 use locating::flag_of;
 use locating::located_applies;
@@ -29,7 +29,7 @@ ghost use Rattle.rules.specs.Zeros.{flagOf};
 ghost use Rattle.rules.specs.Chooses.{leastOf, greatestOf, choose, chosenTool};
 ghost use Rattle.look.specs.Looks.{near, twoZeros, SpreadIs, isMask};
 ghost use Rattle.look.specs.Rows.{RowIs};
-ghost use Rattle.choice.specs.Plans.{BetterIs, measured, valueTool, Plain, Settles, ZerosFor, placedBy, PlacedFor};
+ghost use Rattle.choice.specs.Plans.{BetterIs, measured, valueTool, Plain, Settles, ZerosFor, locatedBy, LocatedFor};
 
 // A tool, and the bits of its form.
 struct Choice {
@@ -197,12 +197,12 @@ pub fn zeros_plan(
 }
 
 // Uncompressed, with nothing measured.
-fn not_placed(n: usize) -> Placed
+fn not_located(n: usize) -> Located
     requires { ⌜ n ≤ 320 ⌝ }
     ensures { λ r. ⌜ (r .tool ≡ 1) × (r .bits ≡ 8 + 8 * n) ⌝ }
 {
     let none = way_by(5, 0, 0, 0, 0);
-    Placed {
+    Located {
         tool: 1,
         bits: 8 + 8 * n,
         row: 0,
@@ -215,13 +215,13 @@ fn not_placed(n: usize) -> Placed
 }
 
 // The choice, with what value-location writes.
-fn placed_by(best: Choice, row: usize, flag: usize, count: usize, w: Ways) -> Placed
-    ensures { λ r. ⌜ r ≡ placedBy best row flag count w ⌝ }
+fn located_by(best: Choice, row: usize, flag: usize, count: usize, w: Ways) -> Located
+    ensures { λ r. ⌜ r ≡ locatedBy best row flag count w ⌝ }
 {
     let first = w.first;
     let second = w.second;
     let third = w.third;
-    Placed {
+    Located {
         tool: best.tool,
         bits: best.bits,
         row: row,
@@ -235,7 +235,7 @@ fn placed_by(best: Choice, row: usize, flag: usize, count: usize, w: Ways) -> Pl
 
 // "Fewest octets" for a frame from -2 to 1 that has a 1 or a -2: binary and Rice do not apply. Nothing is measured where the set lacks
 // value-location or it does not apply.
-pub fn values_plan(
+pub fn located_plan(
     samples: &[u8],
     n: usize,
     mask: u8,
@@ -243,26 +243,26 @@ pub fn values_plan(
     a: &mut [u16; 321],
     b: &mut [u16; 321],
     c: &mut [u16; 321],
-) -> Placed
+) -> Located
     requires { ⌜ (1 ≤ n) × ((n ≤ 320) × ((n ≤ length (now samples)) × ((isMask mask ≡ true) × (n % 40 ≡ 0)))) ⌝ }
     requires { ⌜ twoZeros mask (take n (now samples)) ≡ false ⌝ }
     requires { ⌜ near (leastOf mask (take n (now samples))) (greatestOf mask (take n (now samples))) ≡ true ⌝ }
     requires { ⌜ (length (now a) ≡ 321) × ((length (now b) ≡ 321) × (length (now c) ≡ 321)) ⌝ }
     requires { ⌜ chosenTool mask set (take n (now samples)) ≡ choose mask set (take n (now samples)) measured ⌝ }
-    ensures { λ r. ⌜ PlacedFor mask (chosenTool mask set (take n (now (samples .entry)))) (take n (now (samples .entry))) r (now (a .exit)) (now (b .exit)) (now (c .exit)) ⌝ }
+    ensures { λ r. ⌜ LocatedFor mask (chosenTool mask set (take n (now (samples .entry)))) (take n (now (samples .entry))) r (now (a .exit)) (now (b .exit)) (now (c .exit)) ⌝ }
 {
     if !holds(set, 7) {
-        return not_placed(n);
+        return not_located(n);
     }
     let t = tally_of(samples, n, mask);
     let row = row_of(t, n);
     if !located_applies(t, n, row) {
-        return not_placed(n);
+        return not_located(n);
     }
     let flag = flag_of(t.one, t.minus + t.twos);
     let v = values_of(mask, t, row, flag);
     let w = ways_of(samples, n, plus_zero(mask), v, a, b, c);
     let uncompressed = uncompressed_of(n);
     let seven = better(uncompressed, 7, true, located_bits(w));
-    placed_by(seven, row, flag, v.count, w)
+    located_by(seven, row, flag, v.count, w)
 }

@@ -1,7 +1,7 @@
 // The forms of the tools, put out as planned: nothing is decided here.
 
 use codes::code_of;
-use locating::Placed;
+use locating::Located;
 use locating::Way;
 use measure::width_of;
 use pen::Pen;
@@ -24,7 +24,7 @@ ghost use Rattle.rules.specs.First.{riceCode};
 ghost use Rattle.rules.specs.Zeros as zeros;
 ghost use Rattle.pen.specs.Puts.{Able, Puts, Packed};
 ghost use Rattle.forms.specs.Ways.{placesBy, listedForm, marksForm, wayOf, WayPlanned};
-ghost use Rattle.forms.specs.Forms.{wholeOctets, Copied, RiceReady, riceFormOf, ValuesReady, valuesFormOf, PlacedReady, placedFormOf, planForm, IsFrame, zerosForm, ZerosReady};
+ghost use Rattle.forms.specs.Forms.{wholeOctets, Copied, RiceReady, riceFormOf, ValuesReady, valuesFormOf, LocatedReady, locatedFormOf, planForm, IsFrame, zerosForm, ZerosReady};
 
 fn wide(x: u8) -> u64
     ensures { λ r. ⌜ (r ≡ x) × (r < 256) ⌝ }
@@ -181,7 +181,7 @@ fn put_value(out: &mut [u8], p: Pen, w: Way, runs: &[u16; 321]) -> Pen
 fn put_values(
     out: &mut [u8],
     p: Pen,
-    plan: Placed,
+    plan: Located,
     a: &[u16; 321],
     b: &[u16; 321],
     c: &[u16; 321],
@@ -205,33 +205,33 @@ fn put_values(
 }
 
 // "Range case (2 bits), flag (1 bit), then the values": the body of value-location.
-fn put_located(
+fn put_located_body(
     out: &mut [u8],
     p: Pen,
-    plan: Placed,
+    plan: Located,
     a: &[u16; 321],
     b: &[u16; 321],
     c: &[u16; 321],
 ) -> Pen
-    requires { ⌜ PlacedReady plan (now a) (now b) (now c) ⌝ }
-    requires { ⌜ Able (now out) p (length (placedFormOf plan (now a) (now b) (now c))) ⌝ }
-    ensures { λ r. ⌜ Puts (now (out .entry)) p (placedFormOf plan (now (a .entry)) (now (b .entry)) (now (c .entry))) (now (out .exit)) r ⌝ }
+    requires { ⌜ LocatedReady plan (now a) (now b) (now c) ⌝ }
+    requires { ⌜ Able (now out) p (length (locatedFormOf plan (now a) (now b) (now c))) ⌝ }
+    ensures { λ r. ⌜ Puts (now (out .entry)) p (locatedFormOf plan (now (a .entry)) (now (b .entry)) (now (c .entry))) (now (out .exit)) r ⌝ }
 {
     let q = put(out, p, 3, plan.row as u64 * 2 + plan.flag as u64);
     put_values(out, q, plan, a, b, c)
 }
 
 // The planned form of a frame that has a 1 or a -2, as octets. Their number comes back.
-pub fn put_placed(
+pub fn put_located(
     out: &mut [u8],
     samples: &[u8],
     n: usize,
-    plan: Placed,
+    plan: Located,
     a: &[u16; 321],
     b: &[u16; 321],
     c: &[u16; 321],
 ) -> usize
-    requires { ⌜ (IsFrame (now samples) n) × ((plan .tool ≡ 1 → ⊥) → PlacedReady plan (now a) (now b) (now c)) ⌝ }
+    requires { ⌜ (IsFrame (now samples) n) × ((plan .tool ≡ 1 → ⊥) → LocatedReady plan (now a) (now b) (now c)) ⌝ }
     requires { ⌜ length (planForm n (take n (now samples)) plan (now a) (now b) (now c)) ≤ 8 * length (now out) ⌝ }
     ensures { λ r. ⌜ Packed (planForm n (take n (now (samples .entry))) plan (now (a .entry)) (now (b .entry)) (now (c .entry))) (now (out .entry)) (now (out .exit)) r ⌝ }
 {
@@ -240,7 +240,7 @@ pub fn put_placed(
     }
     let p = fresh();
     let q = put_prefix(out, p, 7, n);
-    let r = put_located(out, q, plan, a, b, c);
+    let r = put_located_body(out, q, plan, a, b, c);
     finish(out, r)
 }
 

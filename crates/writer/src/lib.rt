@@ -1,9 +1,9 @@
 // Writing one frame: the chosen form alone is put out.
 
 use choice::first_look;
-use choice::values_plan;
+use choice::located_plan;
 use choice::zeros_plan;
-use forms::put_placed;
+use forms::put_located;
 use forms::put_two_zeros;
 use forms::put_whole;
 use forms::whole_octets;
@@ -98,7 +98,7 @@ fn write_zeros(out: &mut [u8], samples: &[u8], n: usize, mask: u8, set: u32) -> 
 }
 
 // A frame from -2 to 1 that has a 1 or a -2, likewise.
-fn write_values(out: &mut [u8], samples: &[u8], n: usize, mask: u8, set: u32) -> WriteAnswer
+fn write_located(out: &mut [u8], samples: &[u8], n: usize, mask: u8, set: u32) -> WriteAnswer
     requires { ⌜ (IsFrame (now samples) n) × (isMask mask ≡ true) ⌝ }
     requires { ⌜ twoZeros mask (take n (now samples)) ≡ false ⌝ }
     requires { ⌜ near (leastOf mask (take n (now samples))) (greatestOf mask (take n (now samples))) ≡ true ⌝ }
@@ -108,11 +108,11 @@ fn write_values(out: &mut [u8], samples: &[u8], n: usize, mask: u8, set: u32) ->
     let mut a = [0u16; 321];
     let mut b = [0u16; 321];
     let mut c = [0u16; 321];
-    let plan = values_plan(samples, n, mask, set, &mut a, &mut b, &mut c);
+    let plan = located_plan(samples, n, mask, set, &mut a, &mut b, &mut c);
     if out.len() < octets_for(plan.bits) {
         return refused(Refusal::Room);
     }
-    let octets = put_placed(out, samples, n, plan, &a, &b, &c);
+    let octets = put_located(out, samples, n, plan, &a, &b, &c);
     WriteAnswer {
         end: Ending::Done,
         octets: octets,
@@ -133,7 +133,7 @@ fn write_chosen(out: &mut [u8], samples: &[u8], n: usize, mask: u8, set: u32) ->
     if l.zeros {
         return write_zeros(out, samples, n, mask, set);
     }
-    write_values(out, samples, n, mask, set)
+    write_located(out, samples, n, mask, set)
 }
 
 // The lengths of frames that have samples.

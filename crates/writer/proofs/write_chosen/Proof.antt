@@ -10,7 +10,7 @@ use Rattle.writer.proofs.write_chosen.Reads as reads
 use Rattle.writer.proofs.write_chosen.Lts as lts
 use Rattle.choice.proofs.first_look.Reads as first-look-reads
 use Rattle.writer.proofs.write_plain.Reads as write-plain-reads
-use Rattle.writer.proofs.write_values.Reads as write-values-reads
+use Rattle.writer.proofs.write_located.Reads as write-located-reads
 use Rattle.writer.proofs.write_zeros.Reads as write-zeros-reads
 
 first-look-requires : tie.Need-first-look-requires
@@ -40,8 +40,8 @@ same-length-2 c = search needs
 returns-2 : tie.Need-returns-2
 returns-2 c = search needs
 
-write-values-requires : tie.Need-write-values-requires
-write-values-requires c κs =
+write-located-requires : tie.Need-write-located-requires
+write-located-requires c κs =
     let s = c .before .before .before .before .before .before .before in
     let l = c .before .before .before .before .first-look .ensures in
     ((s .pre .0, s .pre .1), (sym (l .zeros) ∙ c .before .if2 .left, (l .plain .close (c .before .before .if1 .left), l .plain .later (c .before .before .if1 .left))))
@@ -63,6 +63,6 @@ write-chosen-spec =
     write-zeros-requires
     same-length-2
     returns-2
-    write-values-requires
+    write-located-requires
     same-length-3
     returns-3)

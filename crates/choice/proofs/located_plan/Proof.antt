@@ -1,7 +1,7 @@
 use borrow.Author.Needs.{needs}
 use mathlib.Core.Path.{sym, ap, _∙_}
 use Rattle.choice.specs.declared.Choice.{Choice}
-use Rattle.choice.proofs.Planning.{past, placed-as, not-placed, placed-for}
+use Rattle.choice.proofs.Planning.{past, located-as, not-located, located-for}
 use Rattle.locating.proofs.Rows.{flag-is, turn-of, row-is, applied-is, row-low, values-say, ways-small}
 use Rattle.look.proofs.Tests.{mask-seven}
 use Rattle.locating.proofs.Near.{law-for}
@@ -12,16 +12,16 @@ use borrow.Author.Tests.{not-true, not-false}
 use lib.Seq.{length-take-le}
 use lib.ListN.{take}
 use native.Mathlib.Omega.{arith}
-use Rattle.choice.proofs.values_plan.Statement.{statement}
-use Rattle.choice.proofs.values_plan.Tie as tie
-use Rattle.choice.proofs.values_plan.Reads as reads
-use Rattle.choice.proofs.values_plan.Lts as lts
+use Rattle.choice.proofs.located_plan.Statement.{statement}
+use Rattle.choice.proofs.located_plan.Tie as tie
+use Rattle.choice.proofs.located_plan.Reads as reads
+use Rattle.choice.proofs.located_plan.Lts as lts
 use Rattle.choice.proofs.better.Reads as better-reads
 use Rattle.locating.proofs.flag_of.Reads as flag-of-reads
 use Rattle.locating.proofs.located_applies.Reads as located-applies-reads
 use Rattle.locating.proofs.located_bits.Reads as located-bits-reads
-use Rattle.choice.proofs.not_placed.Reads as not-placed-reads
-use Rattle.choice.proofs.placed_by.Reads as placed-by-reads
+use Rattle.choice.proofs.not_located.Reads as not-located-reads
+use Rattle.choice.proofs.located_by.Reads as located-by-reads
 use Rattle.locating.proofs.row_of.Reads as row-of-reads
 use Rattle.locating.proofs.tally_of.Reads as tally-of-reads
 use Rattle.choice.proofs.uncompressed_of.Reads as uncompressed-of-reads
@@ -33,15 +33,15 @@ use Rattle.prefix.proofs.holds.Reads as holds-reads
 holds-requires : tie.Need-holds-requires
 holds-requires c κs = search needs
 
-not-placed-requires : tie.Need-not-placed-requires
-not-placed-requires c κs = search needs
+not-located-requires : tie.Need-not-located-requires
+not-located-requires c κs = search needs
 
 returns : tie.Need-returns
 returns c =
     let s = c .before .before .before .before in
     let f = take (s .args .n) (s .args .samples .now) in
     let size = length-take-le (s .args .n) (s .args .samples .now) (s .pre .0 .1 .1 .0) in
-    placed-as (s .pre .1 .1 .1 .1) (not-placed (s .args .set) (s .pre .1 .0) size (s .pre .0 .1 .0) (ap (λ (h : Bool). h && applies (s .args .mask) 7 f) (sym (c .before .before .holds .ensures) ∙ not-true _ (c .before .if1 .taken))) (c .not-placed .ensures .0) (c .not-placed .ensures .1))
+    located-as (s .pre .1 .1 .1 .1) (not-located (s .args .set) (s .pre .1 .0) size (s .pre .0 .1 .0) (ap (λ (h : Bool). h && applies (s .args .mask) 7 f) (sym (c .before .before .holds .ensures) ∙ not-true _ (c .before .if1 .taken))) (c .not-located .ensures .0) (c .not-located .ensures .1))
 
 tally-of-requires : tie.Need-tally-of-requires
 tally-of-requires c κs = search needs
@@ -52,8 +52,8 @@ row-of-requires c κs = search needs
 located-applies-requires : tie.Need-located-applies-requires
 located-applies-requires c κs = search needs
 
-not-placed-requires-2 : tie.Need-not-placed-requires-2
-not-placed-requires-2 c κs = search needs
+not-located-requires-2 : tie.Need-not-located-requires-2
+not-located-requires-2 c κs = search needs
 
 returns-2 : tie.Need-returns-2
 returns-2 c =
@@ -61,7 +61,7 @@ returns-2 c =
     let f = take (s .args .n) (s .args .samples .now) in
     let size = length-take-le (s .args .n) (s .args .samples .now) (s .pre .0 .1 .1 .0) in
     let i = c .before .before .before .before .tally-of .ensures in
-    placed-as (s .pre .1 .1 .1 .1) (not-placed (s .args .set) (s .pre .1 .0) size (s .pre .0 .1 .0) (past (s .args .set) 7 (sym (applied-is i size (c .before .before .before .row-of .ensures .0) (c .before .before .located-applies .ensures)) ∙ not-true _ (c .before .if2 .taken))) (c .not-placed2 .ensures .0) (c .not-placed2 .ensures .1))
+    located-as (s .pre .1 .1 .1 .1) (not-located (s .args .set) (s .pre .1 .0) size (s .pre .0 .1 .0) (past (s .args .set) 7 (sym (applied-is i size (c .before .before .before .row-of .ensures .0) (c .before .before .located-applies .ensures)) ∙ not-true _ (c .before .if2 .taken))) (c .not-located2 .ensures .0) (c .not-located2 .ensures .1))
 
 add-flag-of : tie.Need-add-flag-of
 add-flag-of c =
@@ -99,8 +99,8 @@ better-requires c κs =
     let w = ways-small (c .before .before .ways-of .ensures) in
     (omega (arith, ap (λ (k : Choice). k .bits) (c .before .uncompressed-of .ensures), c .before .before .before .before .before .before .before .before .before .before .before .before .before .before .before .before .before .pre .0 .1 .0), omega (arith, c .located-bits .ensures, w .0, w .1 .0, w .1 .1))
 
-placed-by-requires : tie.Need-placed-by-requires
-placed-by-requires c κs = search needs
+located-by-requires : tie.Need-located-by-requires
+located-by-requires c κs = search needs
 
 returns-3 : tie.Need-returns-3
 returns-3 c =
@@ -111,19 +111,19 @@ returns-3 c =
     let on = not-false _ (c .before .before .before .before .before .before .before .before .before .before .before .before .if2 .left) in
     let r = c .before .before .before .before .before .before .before .before .before .before .before .before .before .before .row-of .ensures .0 in
     let t = c .before .before .before .before .before .before .before .before .before .before .before .before .before .located-applies .ensures in
-    placed-as (s .pre .1 .1 .1 .1) (placed-for (s .args .set) (s .pre .1 .0) size (s .pre .0 .1 .0) (sym (c .before .before .before .before .before .before .before .before .before .before .before .before .before .before .before .before .before .holds .ensures) ∙ not-false _ (c .before .before .before .before .before .before .before .before .before .before .before .before .before .before .before .before .if1 .left)) (sym (applied-is i size r t) ∙ on) (row-is i size r) (row-low i size r t on) (c .before .before .before .before .before .before .before .before .before .before .flag-of .ensures .0 ∙ flag-is i) (c .before .before .before .before .before .before .before .before .before .before .flag-of .ensures .1) (c .before .before .before .before .before .before .before .before .plus-zero .result) (turn-of i (law-for (s .args .mask) (s .pre .0 .1 .1 .1 .0)) (c .before .before .before .before .before .before .before .before .before .before .before .before .before .before .row-of .result) (c .before .before .before .before .before .before .before .before .before .before .flag-of .result) (c .before .before .before .before .before .before .before .before .plus-zero .ensures) (c .before .before .before .before .before .before .before .before .before .values-of .ensures)) (ap samplesOf (c .before .before .before .before .before .before .before .before .before .values-of .ensures) ∙ values-say i size r t on (c .before .before .before .before .before .before .before .before .before .before .flag-of .ensures .0)) (c .before .before .before .before .ways-of .ensures) (c .before .before .before .uncompressed-of .ensures) (c .before .before .located-bits .ensures) (c .before .better .ensures) (c .placed-by .ensures))
+    located-as (s .pre .1 .1 .1 .1) (located-for (s .args .set) (s .pre .1 .0) size (s .pre .0 .1 .0) (sym (c .before .before .before .before .before .before .before .before .before .before .before .before .before .before .before .before .before .holds .ensures) ∙ not-false _ (c .before .before .before .before .before .before .before .before .before .before .before .before .before .before .before .before .if1 .left)) (sym (applied-is i size r t) ∙ on) (row-is i size r) (row-low i size r t on) (c .before .before .before .before .before .before .before .before .before .before .flag-of .ensures .0 ∙ flag-is i) (c .before .before .before .before .before .before .before .before .before .before .flag-of .ensures .1) (c .before .before .before .before .before .before .before .before .plus-zero .result) (turn-of i (law-for (s .args .mask) (s .pre .0 .1 .1 .1 .0)) (c .before .before .before .before .before .before .before .before .before .before .before .before .before .before .row-of .result) (c .before .before .before .before .before .before .before .before .before .before .flag-of .result) (c .before .before .before .before .before .before .before .before .plus-zero .ensures) (c .before .before .before .before .before .before .before .before .before .values-of .ensures)) (ap samplesOf (c .before .before .before .before .before .before .before .before .before .values-of .ensures) ∙ values-say i size r t on (c .before .before .before .before .before .before .before .before .before .before .flag-of .ensures .0)) (c .before .before .before .before .ways-of .ensures) (c .before .before .before .uncompressed-of .ensures) (c .before .before .located-bits .ensures) (c .before .better .ensures) (c .located-by .ensures))
 
-pub values-plan-spec : {M : Type 1} → statement M
-values-plan-spec =
+pub located-plan-spec : {M : Type 1} → statement M
+located-plan-spec =
     tie.close
     (tie.spec
     holds-requires
-    not-placed-requires
+    not-located-requires
     returns
     tally-of-requires
     row-of-requires
     located-applies-requires
-    not-placed-requires-2
+    not-located-requires-2
     returns-2
     add-flag-of
     flag-of-requires
@@ -133,5 +133,5 @@ values-plan-spec =
     uncompressed-of-requires
     located-bits-requires
     better-requires
-    placed-by-requires
+    located-by-requires
     returns-3)

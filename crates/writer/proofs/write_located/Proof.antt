@@ -5,17 +5,17 @@ use mathlib.Core.List.{List}
 use lib.ListN.{take}
 use Rattle.rules.specs.Chooses.{Written}
 use Rattle.writer.specs.Answers.{full}
-use Rattle.forms.proofs.Turns.{placed-ready}
+use Rattle.forms.proofs.Turns.{located-ready}
 use Rattle.forms.proofs.Form.{cells-length}
 use Rattle.writer.proofs.Planned.{plan-form}
 use Rattle.writer.proofs.Writing.{form-refused, form-fits, form-written}
-use Rattle.writer.proofs.write_values.Statement.{statement}
-use Rattle.writer.proofs.write_values.Tie as tie
-use Rattle.writer.proofs.write_values.Reads as reads
-use Rattle.writer.proofs.write_values.Lts as lts
-use Rattle.choice.proofs.values_plan.Reads as values-plan-reads
+use Rattle.writer.proofs.write_located.Statement.{statement}
+use Rattle.writer.proofs.write_located.Tie as tie
+use Rattle.writer.proofs.write_located.Reads as reads
+use Rattle.writer.proofs.write_located.Lts as lts
+use Rattle.choice.proofs.located_plan.Reads as located-plan-reads
 use Rattle.measure.proofs.octets_for.Reads as octets-for-reads
-use Rattle.forms.proofs.put_placed.Reads as put-placed-reads
+use Rattle.forms.proofs.put_located.Reads as put-located-reads
 use Rattle.writer.proofs.refused.Reads as refused-reads
 
 -- the frame, and its chosen form
@@ -25,8 +25,8 @@ frame s = take (s .args .n) (s .args .samples .now)
 abbrev chosen : tie.Start → Written
 chosen s = full (s .args .mask) (s .args .set) (frame s)
 
-values-plan-requires : tie.Need-values-plan-requires
-values-plan-requires c κs =
+located-plan-requires : tie.Need-located-plan-requires
+located-plan-requires c κs =
     let s = c .before .before .before .before .before in
     let f = s .pre .0 .0 in
     ((f .some, (f .few, (f .long, (s .pre .0 .1, f .whole)))), (s .pre .1 .0, (s .pre .1 .1 .0, ((refl, (refl, refl)), s .pre .1 .1 .1))))
@@ -40,15 +40,15 @@ refused-requires c κs = search needs
 returns : tie.Need-returns
 returns c =
     let s = c .before .before .before .before .before .before .before .before .before in
-    form-refused (chosen s) (c .before .before .before .values-plan .ensures .bits) (c .before .before .octets-for .ensures) (c .before .if1 .taken) (c .refused .ensures)
+    form-refused (chosen s) (c .before .before .before .located-plan .ensures .bits) (c .before .before .octets-for .ensures) (c .before .if1 .taken) (c .refused .ensures)
 
-put-placed-requires : tie.Need-put-placed-requires
-put-placed-requires c κs =
+put-located-requires : tie.Need-put-located-requires
+put-located-requires c κs =
     let s = c .before .before .before .before .before .before .before .before .before .before .before .before in
-    let plan = c .before .before .before .before .before .before .values-plan in
+    let plan = c .before .before .before .before .before .before .located-plan in
     let p = plan .ensures in
     let e = plan-form (s .args .n) (frame s) (plan .result) _ _ _ (cells-length (s .pre .0 .0)) p in
-    ((s .pre .0 .0, λ n. placed-ready (p .placed (sym (p .tool) ∙ p .kind n))), form-fits (chosen s) (p .bits) (c .before .before .before .before .before .octets-for .ensures) e (c .before .before .before .before .if1 .left))
+    ((s .pre .0 .0, λ n. located-ready (p .located (sym (p .tool) ∙ p .kind n))), form-fits (chosen s) (p .bits) (c .before .before .before .before .before .octets-for .ensures) e (c .before .before .before .before .if1 .left))
 
 same-length : tie.Need-same-length
 same-length c = search needs
@@ -56,19 +56,19 @@ same-length c = search needs
 returns-2 : tie.Need-returns-2
 returns-2 c =
     let s = c .before .before .before .before .before .before .before .before .before .before .before .before .before .before .before in
-    let plan = c .before .before .before .before .before .before .before .before .before .values-plan in
+    let plan = c .before .before .before .before .before .before .before .before .before .located-plan in
     let p = plan .ensures in
     let e = plan-form (s .args .n) (frame s) (plan .result) _ _ _ (cells-length (s .pre .0 .0)) p in
-    form-written (chosen s) (p .bits) (c .before .before .before .before .before .before .before .before .octets-for .ensures) e (c .before .before .before .before .before .before .before .if1 .left) (c .before .before .put-placed .ensures) refl refl refl (p .tool)
+    form-written (chosen s) (p .bits) (c .before .before .before .before .before .before .before .before .octets-for .ensures) e (c .before .before .before .before .before .before .before .if1 .left) (c .before .before .put-located .ensures) refl refl refl (p .tool)
 
-pub write-values-spec : {M : Type 1} → statement M
-write-values-spec =
+pub write-located-spec : {M : Type 1} → statement M
+write-located-spec =
     tie.close
     (tie.spec
-    values-plan-requires
+    located-plan-requires
     octets-for-requires
     refused-requires
     returns
-    put-placed-requires
+    put-located-requires
     same-length
     returns-2)
