@@ -7,7 +7,7 @@ spread-of-requires : tie.Need-spread-of-requires
 spread-of-requires c κs = (search needs, mask-seven _ (search needs))
 
 plain-tool-requires : tie.Need-plain-tool-requires
-plain-tool-requires c κs = search needs
+plain-tool-requires c κs = (c .before .before .pre, c .spread-of .ensures)
 
 returns : tie.Need-returns
 returns c = record { plain = c .before .plain-tool .ensures; zeros = c .before .before .spread-of .ensures .zeros }
