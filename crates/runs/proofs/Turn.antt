@@ -15,9 +15,10 @@ use Rattle.rules.specs.Runs.{rice, runsFrom}
 use Rattle.rules.specs.Chooses.{countOf}
 use Rattle.bits.specs.declared.Outcome.the-variants.{Got, Refused}
 use Rattle.runs.specs.Flagged.{oneRun, marked, Put, MarksCells}
+use Rattle.runs.specs.Reached.{Marking, Filled}
 use Rattle.runs.proofs.Answer.{marks-refused}
 use Rattle.runs.proofs.Ones.{marked-run}
-use Rattle.runs.proofs.Marking.{Marking, marking-none, marking-room, marking-mark, marking-all}
+use Rattle.runs.proofs.Marking.{marking-none, marking-room, marking-mark, marking-all}
 
 -- a run is judged by the places left
 module _ (bits : List ℕ) (n s left at : ℕ) {v next : ℕ} (e : rice n s bits at ≡ whole v next) where
@@ -47,17 +48,6 @@ runs-step bits n s more left done at h = rw (ne-eqb left 0 (λ z. omega arith)) 
         ≡ andThen (andThen r (λ v j. cond (ltb left v) (fail Run at) (give v) bits j)) (λ v j. cond (eqb v left) (give (done ++ replicate v 0)) (runsFrom n s more (left - (v + 1)) (done ++ (replicate v 0 ++ (1 ∷ [])))) bits j)
     go (whole v j) = go2 v j (ltb left v)
     go (refuse w b) = refl
-
--- `count` runs are read, and fill the first `filled` of d places
-pub record Filled (bits : List ℕ) (at n s d common other : ℕ) (old cells : List ℕ) (filled count place : ℕ) : Type 0 where
-  pub done : List ℕ
-  pub so-far : runsFrom n s d d [] bits at ≡ runsFrom n s (d - count) (d - filled) done bits place
-  pub marking : Marking d common other old cells done
-  pub size : length done ≡ filled
-  pub ones : marked done ≡ count
-  pub fuel : count ≤ filled
-  pub within : filled ≤ d
-  pub near : place ≤ at + 330 * count
 
 pub filled-none : (bits : List ℕ) (at n s : ℕ) {d common : ℕ} (other : ℕ) {old cells : List ℕ} → Put old 0 (replicate d common) cells → d ≤ 320 → length old ≡ 320
     → Filled bits at n s d common other cells cells 0 0 at
