@@ -47,10 +47,10 @@ pub fn bit(octets: &[u8], at: usize) -> Outcome
 fn octet_at(octets: &[u8], i: usize) -> u8
     ensures { λ r. ⌜ r ≡ getD (now (octets .entry)) i 0 ⌝ }
 {
-    if i < octets.len() {
-        return octets[i];
+    if octets.len() <= i {
+        return 0;
     }
-    0
+    octets[i]
 }
 
 fn word(octet: u8) -> u32

@@ -13,7 +13,7 @@ use Rattle.rules.specs.Chooses.{countOf}
 use Rattle.bits.specs.declared.Outcome.{Outcome}
 use Rattle.bits.specs.declared.Outcome.the-variants.{Got}
 use Rattle.runs.specs.Flagged.{marked, kinds, Put, Marks, MarksCells}
-use Rattle.runs.specs.Reached.{Marking}
+pub use Rattle.runs.specs.Reached.{Marking}
 use Rattle.runs.proofs.Ones.{marked-none, count-append}
 use Rattle.runs.proofs.Puts.{put-first, put-length, length-kinds, kinds-append, kinds-common}
 use Rattle.runs.proofs.Answer.{marks-got}

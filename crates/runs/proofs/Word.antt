@@ -37,7 +37,7 @@ module _ {octets : List ℕ} {at n s d other : ℕ} {old : List ℕ} {before mar
   pub in-word-ends : (r : Stretch) → r .filled ≡ filled → r .count ≡ count → r .place ≡ at + (all - good) → r .size ≡ 0
       → Reads-several octets n s d other old before marks at new r
   in-word-ends r f c p z =
-      record { goes = rw (f, c, p) (i .goes); last = λ h. absurd (omega arith); small = omega arith; from = let w = i .from in omega arith }
+      record { goes = rw (f, c, p) (i .goes); last = λ h. absurd (omega arith); small = omega arith; from = rw f (i .from); room = i .room }
 
   module _ {zeros v : ℕ} (c : zeros ≡ leadingZeros 32 (word / 2 ^ 32)) (h : zeros < 32) (m : s ≤ 9) (g : zeros + (s + 1) ≤ good) (e : v ≡ runIn word zeros s) where
     code : rice n s (bitsOf octets) (at + (all - good)) ≡ whole v (at + (all - good) + (zeros + (s + 1)))
@@ -52,7 +52,8 @@ module _ {octets : List ℕ} {at n s d other : ℕ} {old : List ℕ} {before mar
           goes = rw (f, k, p) (i .goes);
           last = λ t. (omega arith, omega arith, rw (p, q, f, z, w) code);
           small = omega arith;
-          from = let b = i .from in omega arith;
+          from = rw f (i .from);
+          room = i .room;
         }
 
     -- one that does not
@@ -61,8 +62,8 @@ module _ {octets : List ℕ} {at n s d other : ℕ} {old : List ℕ} {before mar
     in-word-turn l =
         let size = zeros + (s + 1) in
         let b = i .left in
-        let w = i .from in
         let k = i .few in
+        let y = i .from in
         let p : at + (all - good) + size ≡ at + (all - (good - size)) = omega arith in
         let q : filled + (v + 1) ≡ filled + v + 1 = omega arith in
         let t = run-fits (bitsOf octets) n s (d - filled) (at + (all - good)) code (omega arith) in

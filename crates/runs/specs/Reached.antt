@@ -2,10 +2,15 @@
 use Prim.Native.Nat.{ℕ, _+_, _*_, _-_, _≤_, _<_}
 use mathlib.Core.Path.{_≡_}
 use mathlib.Core.List.{List, [], _++_}
+use mathlib.Core.Bool.{cond}
 use lib.ListN.{length, getD, drop, replicate}
+use lib.Dec.{leb, ltb}
+use Rattle.rules.specs.declared.Refusal.the-variants.{Run}
 use Rattle.rules.specs.Bits.{bitsOf}
 use Rattle.rules.specs.Reading.{whole}
 use Rattle.rules.specs.Runs.{rice, runsFrom}
+use Rattle.bits.specs.declared.Outcome.{Outcome}
+use Rattle.bits.specs.declared.Outcome.the-variants.{Got, Refused}
 use Rattle.runs.specs.Flagged.{marked, kinds}
 use Rattle.runs.specs.declared.Stretch.{Stretch}
 
@@ -39,3 +44,8 @@ pub record Reads-several (octets : List ℕ) (n s d other : ℕ) (old : List ℕ
   pub last : 0 < r .size → (d ≤ r .past) × (r .filled ≤ r .past) × (rice n s (bitsOf octets) (r .place) ≡ whole (r .past - r .filled) (r .place + r .size))
   pub small : r .size ≤ 41
   pub from : filled ≤ r .filled
+  pub room : length new ≡ 320
+
+-- the answer there: all places are filled, the run is too long, or "the closing sample is imagined"
+abbrev pub endOf : ℕ → Stretch → Outcome
+endOf d t = cond (leb d (t .filled)) (Got (t .count) (t .place)) (cond (ltb d (t .past)) (Refused Run (t .place)) (Got (t .count) (t .place + t .size)))

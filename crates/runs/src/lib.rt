@@ -8,7 +8,7 @@ ghost use Rattle.rules.specs.Reading.{bitsFrom};
 ghost use Rattle.rules.specs.Runs.{runsFrom};
 ghost use Rattle.bits.specs.Outcomes.{Reads};
 ghost use Rattle.runs.specs.Flagged.{oneRun, kindOf, kinds, Put, MarksCells};
-ghost use Rattle.runs.specs.Reached.{Reads-several};
+ghost use Rattle.runs.specs.Reached.{Reads-several, endOf};
 use bits::Outcome;
 use rules::Refusal;
 
@@ -49,6 +49,18 @@ struct Stretch {
     size: usize,
 }
 
+fn come_to(filled: usize, count: usize, place: usize, past: usize, size: usize) -> Stretch
+    ensures { λ r. ⌜ (r .filled ≡ filled) × (r .count ≡ count) × (r .place ≡ place) × (r .past ≡ past) × (r .size ≡ size) ⌝ }
+{
+    Stretch {
+        filled: filled,
+        count: count,
+        place: place,
+        past: past,
+        size: size,
+    }
+}
+
 // The runs whose codes stand whole in one word of bits: leading zeros, a shift and a mark each.
 fn several(
     octets: &[u8],
@@ -62,7 +74,7 @@ fn several(
     other: u8,
 ) -> Stretch
     requires { ⌜ (at ≤ 2 ^ 40) × (s ≤ 9) × (d ≤ 320) × (before ≤ d) × (marks ≤ before) × (length (now cells) ≡ 320) ⌝ }
-    ensures { λ r. ⌜ Reads-several (now (octets .entry)) n s d other (now (cells .entry)) before marks at (now (cells .exit)) r × (length (now (cells .exit)) ≡ 320) ⌝ }
+    ensures { λ r. ⌜ Reads-several (now (octets .entry)) n s d other (now (cells .entry)) before marks at (now (cells .exit)) r ⌝ }
 {
     let held = bits::hold(octets, at, n);
     let all = held.good;
@@ -81,13 +93,7 @@ fn several(
         }
         let p = filled + bits::run_in(word, zeros, s);
         if d <= p {
-            return Stretch {
-                filled: filled,
-                count: count,
-                place: at + (all - good),
-                past: p,
-                size: size,
-            };
+            return come_to(filled, count, at + (all - good), p, size);
         }
         cells[p] = other;
         filled = p + 1;
@@ -95,13 +101,21 @@ fn several(
         word = word << size;
         good -= size;
     }
-    Stretch {
-        filled: filled,
-        count: count,
-        place: at + (all - good),
-        past: 0,
-        size: 0,
+    come_to(filled, count, at + (all - good), 0, 0)
+}
+
+// A run that reaches the end of D places: none is wanted, it is too long, or its closing sample is imagined.
+fn ended(t: Stretch, d: usize) -> Outcome
+    requires { ⌜ (t .place ≤ 2 ^ 40) × (t .size ≤ 41) ⌝ }
+    ensures { λ r. ⌜ r ≡ endOf d t ⌝ }
+{
+    if d <= t.filled {
+        return Outcome::Got(t.count, t.place);
     }
+    if d < t.past {
+        return Outcome::Refused(Refusal::Run, t.place);
+    }
+    Outcome::Got(t.count, t.place + t.size)
 }
 
 // "Runs over D places": v places of the common kind, then one of the other, till all D are filled.
@@ -130,14 +144,7 @@ pub fn runs(
         count = t.count;
         place = t.place;
         if 0 < t.size {
-            if d <= filled {
-                break Outcome::Got(count, place);
-            }
-            if d < t.past {
-                break Outcome::Refused(Refusal::Run, place);
-            }
-            // "the closing sample is imagined"
-            break Outcome::Got(count, place + t.size);
+            break ended(t, d);
         }
         if before < filled {
             continue;
@@ -145,7 +152,7 @@ pub fn runs(
         if d <= filled {
             break Outcome::Got(count, place);
         }
-        // A code that no word holds whole.
+        // A code that no word holds whole
         let left = d - filled;
         match run(octets, place, n, s, left) {
             Outcome::Refused(why, bit) => {

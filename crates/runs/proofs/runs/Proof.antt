@@ -6,7 +6,7 @@ use Rattle.rules.specs.Bits.{bitsOf}
 use Rattle.bits.proofs.Told.{told, refused}
 use Rattle.runs.specs.Reached.{Filled}
 use Rattle.runs.proofs.Marking.{marks-filled, marking-room}
-use Rattle.runs.proofs.Turn.{filled-none, run-long, run-fits, runs-filled, runs-refused, runs-closed, runs-turn}
+use Rattle.runs.proofs.Turn.{filled-none, runs-filled, runs-refused, runs-closed, runs-turn, runs-ended}
 use Rattle.runs.proofs.runs.Statement.{statement}
 use Rattle.runs.proofs.runs.Tie as tie
 
@@ -28,34 +28,34 @@ several-requires c κs =
     let i = c .before .loop .inv in
     (omega (arith, i), omega arith, omega arith, i .within, i .fuel, marking-room (i .marking))
 
-add-t26 : tie.Need-add-t26 Inv-loop μ-loop
-add-t26 c =
-    let k = c .before .before .before .before .before .before in
-    let f = k .several .ensures .0 .goes .on (k .before .before .loop .inv) in
-    omega (arith, f, k .several .ensures .0 .small)
+ended-requires : tie.Need-ended-requires Inv-loop μ-loop
+ended-requires c κs =
+    let k = c .before .before in
+    let f = k .several .ensures .goes .on (k .before .before .loop .inv) in
+    omega (arith, f, k .several .ensures .small)
 
 loop-less : tie.Need-loop-less Inv-loop μ-loop
 loop-less c =
     let k = c .before .before .before in
-    let f = k .several .ensures .0 .goes .on (k .before .before .loop .inv) in
+    let f = k .several .ensures .goes .on (k .before .before .loop .inv) in
     omega (arith, f)
 
 loop-again : tie.Need-loop-again Inv-loop μ-loop
 loop-again c =
     let k = c .before .before .before in
-    let f = k .several .ensures .0 .goes .on (k .before .before .loop .inv) in
+    let f = k .several .ensures .goes .on (k .before .before .loop .inv) in
     f
 
 sub-left : tie.Need-sub-left Inv-loop μ-loop
 sub-left c =
     let k = c .before .before .before .before in
-    let f = k .several .ensures .0 .goes .on (k .before .before .loop .inv) in
+    let f = k .several .ensures .goes .on (k .before .before .loop .inv) in
     f .within
 
 run-requires : tie.Need-run-requires Inv-loop μ-loop
 run-requires c κs =
     let k = c .before .before .before .before in
-    let f = k .several .ensures .0 .goes .on (k .before .before .loop .inv) in
+    let f = k .several .ensures .goes .on (k .before .before .loop .inv) in
     omega (arith, f)
 
 enum-known-why : tie.Need-enum-known-why Inv-loop μ-loop
@@ -67,90 +67,76 @@ enum-known-v c = search needs
 add-cells : tie.Need-add-cells Inv-loop μ-loop
 add-cells c =
     let k = c .before .before .before .before .before .before .before .before .before in
-    let f = k .several .ensures .0 .goes .on (k .before .before .loop .inv) in
+    let f = k .several .ensures .goes .on (k .before .before .loop .inv) in
     let v = told (c .before .before .before .before .run .ensures) (c .before .before .v .given .1) in
     omega (arith, f)
 
 element-write-cells : tie.Need-element-write-cells Inv-loop μ-loop
 element-write-cells c =
     let k = c .before .before .before .before .before .before .before .before .before in
-    let f = k .several .ensures .0 .goes .on (k .before .before .loop .inv) in
+    let f = k .several .ensures .goes .on (k .before .before .loop .inv) in
     let v = told (c .before .before .before .before .run .ensures) (c .before .before .v .given .1) in
     omega (arith, f)
 
 add-filled : tie.Need-add-filled Inv-loop μ-loop
 add-filled c =
     let k = c .before .before .before .before .before .before .before .before .before in
-    let f = k .several .ensures .0 .goes .on (k .before .before .loop .inv) in
+    let f = k .several .ensures .goes .on (k .before .before .loop .inv) in
     let v = told (c .before .before .before .before .run .ensures) (c .before .before .v .given .1) in
     omega (arith, f)
 
 add-filled-2 : tie.Need-add-filled-2 Inv-loop μ-loop
 add-filled-2 c =
     let k = c .before .before .before .before .before .before .before .before .before in
-    let f = k .several .ensures .0 .goes .on (k .before .before .loop .inv) in
+    let f = k .several .ensures .goes .on (k .before .before .loop .inv) in
     let v = told (c .before .before .before .before .run .ensures) (c .before .before .v .given .1) in
     omega (arith, f)
 
 add-count : tie.Need-add-count Inv-loop μ-loop
 add-count c =
     let k = c .before .before .before .before .before .before .before .before .before in
-    let f = k .several .ensures .0 .goes .on (k .before .before .loop .inv) in
+    let f = k .several .ensures .goes .on (k .before .before .loop .inv) in
     omega (arith, f)
 
 loop-less-2 : tie.Need-loop-less-2 Inv-loop μ-loop
 loop-less-2 c =
     let k = c .before .before .before .before .before .before .before .before .before in
-    let f = k .several .ensures .0 .goes .on (k .before .before .loop .inv) in
+    let f = k .several .ensures .goes .on (k .before .before .loop .inv) in
     let v = told (c .before .before .before .before .run .ensures) (c .before .before .v .given .1) in
-    omega (arith, f)
+    omega (arith, f, k .several .ensures .from)
 
 loop-again-2 : tie.Need-loop-again-2 Inv-loop μ-loop
 loop-again-2 c =
     let k = c .before .before .before .before .before .before .before .before .before in
-    let f = k .several .ensures .0 .goes .on (k .before .before .loop .inv) in
+    let f = k .several .ensures .goes .on (k .before .before .loop .inv) in
     let v = told (c .before .before .before .before .run .ensures) (c .before .before .v .given .1) in
-    runs-turn f (omega arith) (v .says) (omega arith) (c .if6 .left) (v .next)
+    runs-turn f (omega arith) (v .says) (omega arith) (c .if4 .left) (v .next)
 
 returns : tie.Need-returns Inv-loop μ-loop
 returns c =
     let k = c .before .before .before in
-    let f = k .several .ensures .0 .goes .on (k .before .before .loop .inv) in
-    marks-filled (runs-filled f (omega arith)) (k .before .before .before .fill .ensures)
+    let r = k .several .ensures in
+    let f = r .goes .on (k .before .before .loop .inv) in
+    rw (c .ended .ensures) (marks-filled (runs-ended _ f (r .last (omega arith)) (r .small)) (k .before .before .before .fill .ensures))
 
 returns-2 : tie.Need-returns-2 Inv-loop μ-loop
 returns-2 c =
-    let k = c .before .before .before .before .before in
-    let f = k .several .ensures .0 .goes .on (k .before .before .loop .inv) in
-    let l = k .several .ensures .0 .last (omega arith) in
-    marks-filled (runs-refused f (omega arith) (run-long _ _ _ _ _ (l .2) (omega arith))) (k .before .before .before .fill .ensures)
+    let k = c .before .before .before .before in
+    let f = k .several .ensures .goes .on (k .before .before .loop .inv) in
+    marks-filled (runs-filled f (omega arith)) (k .before .before .before .fill .ensures)
 
 returns-3 : tie.Need-returns-3 Inv-loop μ-loop
 returns-3 c =
-    let k = c .before .before .before .before .before .before in
-    let f = k .several .ensures .0 .goes .on (k .before .before .loop .inv) in
-    let l = k .several .ensures .0 .last (omega arith) in
-    let z = k .several .ensures .0 .small in
-    marks-filled (runs-closed f (omega arith) (run-fits _ _ _ _ _ (l .2) (omega arith)) (omega arith) (omega arith)) (k .before .before .before .fill .ensures)
+    let k = c .before .before .before .before .before .before .before .before in
+    let f = k .several .ensures .goes .on (k .before .before .loop .inv) in
+    marks-filled (runs-refused f (omega arith) (refused (c .before .before .before .run .ensures) (c .before .why .given .1))) (k .before .before .before .fill .ensures)
 
 returns-4 : tie.Need-returns-4 Inv-loop μ-loop
 returns-4 c =
-    let k = c .before .before .before .before in
-    let f = k .several .ensures .0 .goes .on (k .before .before .loop .inv) in
-    marks-filled (runs-filled f (omega arith)) (k .before .before .before .fill .ensures)
-
-returns-5 : tie.Need-returns-5 Inv-loop μ-loop
-returns-5 c =
-    let k = c .before .before .before .before .before .before .before .before in
-    let f = k .several .ensures .0 .goes .on (k .before .before .loop .inv) in
-    marks-filled (runs-refused f (omega arith) (refused (c .before .before .before .run .ensures) (c .before .why .given .1))) (k .before .before .before .fill .ensures)
-
-returns-6 : tie.Need-returns-6 Inv-loop μ-loop
-returns-6 c =
     let k = c .before .before .before .before .before .before .before .before .before in
-    let f = k .several .ensures .0 .goes .on (k .before .before .loop .inv) in
+    let f = k .several .ensures .goes .on (k .before .before .loop .inv) in
     let v = told (c .before .before .before .before .run .ensures) (c .before .before .v .given .1) in
-    marks-filled (runs-closed f (omega arith) (v .says) (c .if6 .taken) (v .next)) (k .before .before .before .fill .ensures)
+    marks-filled (runs-closed f (omega arith) (v .says) (c .if4 .taken) (v .next)) (k .before .before .before .fill .ensures)
 
 pub runs-spec : {M : Type 1} → statement M
 runs-spec =
@@ -161,7 +147,7 @@ runs-spec =
     fill-requires
     loop-holds
     several-requires
-    add-t26
+    ended-requires
     loop-less
     loop-again
     sub-left
@@ -178,6 +164,4 @@ runs-spec =
     returns
     returns-2
     returns-3
-    returns-4
-    returns-5
-    returns-6)
+    returns-4)

@@ -1,6 +1,5 @@
 -- The codes of one word (Word).
 use borrow.Author.Needs.{needs}
-use mathlib.Core.Path.{refl}
 use native.Mathlib.Omega.{arith}
 use Rattle.runs.proofs.Word.{In-word, in-word-none, in-word-turn, in-word-last, in-word-ends}
 use Rattle.runs.proofs.several.Statement.{statement}
@@ -35,18 +34,22 @@ add-p : tie.Need-add-p Inv-loop μ-loop
 add-p c =
     omega (arith, c .run-in .ensures .1)
 
-sub-t21 : tie.Need-sub-t21 Inv-loop μ-loop
-sub-t21 c = search needs
+sub-come-to : tie.Need-sub-come-to Inv-loop μ-loop
+sub-come-to c = search needs
 
-add-t22 : tie.Need-add-t22 Inv-loop μ-loop
-add-t22 c = search needs
+add-come-to : tie.Need-add-come-to Inv-loop μ-loop
+add-come-to c = search needs
+
+come-to-requires : tie.Need-come-to-requires Inv-loop μ-loop
+come-to-requires c κs = search needs
 
 returns : tie.Need-returns Inv-loop μ-loop
 returns c =
-    let i = c .before .before .before .before .before .loop .inv in
-    let z = c .before .before .before .before .zeros-in .ensures in
-    let v = c .before .run-in .ensures in
-    (in-word-last i (z .0) (omega arith) (omega arith) (omega arith) (v .0) _ refl refl refl refl refl (omega arith), i .room)
+    let i = c .before .before .before .before .before .before .loop .inv in
+    let z = c .before .before .before .before .before .zeros-in .ensures in
+    let v = c .before .before .run-in .ensures in
+    let r = c .come-to .ensures in
+    in-word-last i (z .0) (omega arith) (omega arith) (omega arith) (v .0) _ (r .0) (r .1) (r .2) (r .3) (r .4) (omega arith)
 
 element-write-cells : tie.Need-element-write-cells Inv-loop μ-loop
 element-write-cells c = search needs
@@ -70,16 +73,20 @@ loop-again c =
     let v = c .before .run-in .ensures in
     in-word-turn i (z .0) (omega arith) (omega arith) (omega arith) (v .0) (omega arith)
 
-sub-t26 : tie.Need-sub-t26 Inv-loop μ-loop
-sub-t26 c = search needs
+sub-come-to-2 : tie.Need-sub-come-to-2 Inv-loop μ-loop
+sub-come-to-2 c = search needs
 
-add-t27 : tie.Need-add-t27 Inv-loop μ-loop
-add-t27 c = search needs
+add-come-to-2 : tie.Need-add-come-to-2 Inv-loop μ-loop
+add-come-to-2 c = search needs
+
+come-to-requires-2 : tie.Need-come-to-requires-2 Inv-loop μ-loop
+come-to-requires-2 c κs = search needs
 
 returns-2 : tie.Need-returns-2 Inv-loop μ-loop
 returns-2 c =
-    let i = c .before .before .loop .inv in
-    (in-word-ends i _ refl refl refl refl, i .room)
+    let i = c .before .before .before .loop .inv in
+    let r = c .come-to2 .ensures in
+    in-word-ends i _ (r .0) (r .1) (r .2) (r .4)
 
 pub several-spec : {M : Type 1} → statement M
 several-spec =
@@ -94,8 +101,9 @@ several-spec =
     add-size-2
     run-in-requires
     add-p
-    sub-t21
-    add-t22
+    sub-come-to
+    add-come-to
+    come-to-requires
     returns
     element-write-cells
     add-filled
@@ -103,6 +111,7 @@ several-spec =
     shl-word
     loop-less
     loop-again
-    sub-t26
-    add-t27
+    sub-come-to-2
+    add-come-to-2
+    come-to-requires-2
     returns-2)
