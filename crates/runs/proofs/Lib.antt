@@ -6,3 +6,4 @@ pub mod Marking
 pub mod Turn
 pub mod Windows
 pub mod Gathered
+pub mod Word

@@ -1,4 +1,4 @@
--- Cells whose first are those of the flags `done`, and whose others up to d are still common.
+-- Laws of cells that are marked up to a place (specs/Reached).
 use Prim.Native.Nat.{ℕ, zero, suc, _+_, _-_, _≤_, _<_}
 use mathlib.Core.Path.{_≡_, refl, sym, ap, _∙_}
 use mathlib.Core.List.{List, [], _∷_, _++_, append-assoc, append-nil}
@@ -8,21 +8,15 @@ use lib.Dec.{lit<}
 use lib.ListN.{length, drop, set, replicate, length-append, length-drop, length-replicate, replicate-append-replicate}
 use lib.Seq.{set-at, drop-at}
 use Rattle.rules.specs.Reading.{Read, whole, refuse}
-use Rattle.rules.proofs.Octets.{Below, none, more, below-append, below-replicate}
+use Rattle.rules.proofs.Octets.{Below, none, more, below-at, below-all, below-append, below-replicate}
 use Rattle.rules.specs.Chooses.{countOf}
 use Rattle.bits.specs.declared.Outcome.{Outcome}
 use Rattle.bits.specs.declared.Outcome.the-variants.{Got}
 use Rattle.runs.specs.Flagged.{marked, kinds, Put, Marks, MarksCells}
+pub use Rattle.runs.specs.Reached.{Marking}
 use Rattle.runs.proofs.Ones.{marked-none, count-append}
 use Rattle.runs.proofs.Puts.{put-first, put-length, length-kinds, kinds-append, kinds-common}
 use Rattle.runs.proofs.Answer.{marks-got}
-
-pub record Marking (d common other : ℕ) (old new done : List ℕ) : Type 0 where
-  pub made : new ≡ kinds common other done ++ (replicate (d - length done) common ++ drop d old)
-  pub below : Below 2 done
-  pub within : length done ≤ d
-  pub fits : d ≤ 320
-  pub before : length old ≡ 320
 
 -- d common cells: what was past them still is
 filled-rest : (d common : ℕ) {old new : List ℕ} → Put old 0 (replicate d common) new → drop d new ≡ drop d old
@@ -44,7 +38,7 @@ marking-none {d} {common} other p f b =
     let l = length-replicate d common in
     record {
       made = rw (sub-zero d, filled-rest d common p) (put-first p l);
-      below = none;
+      below = λ i. lit< tt;
       within = omega arith;
       fits = f;
       before = put-length p (omega arith) ∙ b;
@@ -84,7 +78,7 @@ module _ {d common other : ℕ} {old new done : List ℕ} (g : Marking d common 
               set-at (kinds common other done ++ replicate v common) common (replicate m common ++ drop d old) other (length done + v) k,
             )
             (simp append-assoc);
-        below = below-append (g .below) (below-append (below-replicate v {x = 0} (lit< tt)) (more (lit< tt) none));
+        below = below-at (below-append (below-all done (g .below)) (below-append (below-replicate v {x = 0} (lit< tt)) (more (lit< tt) none))) (lit< tt);
         within = omega arith;
         fits = g .fits;
         before = g .before;
@@ -99,5 +93,5 @@ module _ {d common other : ℕ} {old new done : List ℕ} (g : Marking d common 
       let r : kinds common other (done ++ replicate v 0) ≡ kinds common other done ++ replicate v common =
       kinds-append common other done (replicate v 0) ∙ ap (λ (t : List ℕ). kinds common other done ++ t) (kinds-common common other v)
       in
-      marks-got e o (simp (length-append, length-replicate) (omega arith)) (below-append (g .below) (below-replicate v {x = 0} (lit< tt)))
+      marks-got e o (simp (length-append, length-replicate) (omega arith)) (below-append (below-all done (g .below)) (below-replicate v {x = 0} (lit< tt)))
       (g .made ∙ rw (k, r) (sym (append-assoc (kinds common other done) (replicate v common) (drop d old)))) (g .fits) (g .before) n

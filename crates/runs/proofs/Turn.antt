@@ -5,9 +5,10 @@ use mathlib.Core.List.{List, [], _∷_, _++_, append-nil}
 use mathlib.Core.Bool.{Bool, true, false, cond}
 use native.Mathlib.Omega.{arith}
 use native.Mathlib.Nat.{sub-zero}
+use native.Mathlib.Decide.{decLe}
 use lib.ListN.{length, set, replicate, length-append, length-replicate}
 use lib.Dec.{eqb, ltb}
-use borrow.Author.Tests.{lt-ltb, le-ltb, eq-eqb, ne-eqb}
+use borrow.Author.Tests.{lt-ltb, le-ltb, le-leb, lt-leb, eq-eqb, ne-eqb}
 use Rattle.rules.specs.declared.Refusal.{Refusal}
 use Rattle.rules.specs.declared.Refusal.the-variants.{Run}
 use Rattle.rules.specs.Reading.{Read, whole, refuse, andThen, give, fail}
@@ -15,9 +16,11 @@ use Rattle.rules.specs.Runs.{rice, runsFrom}
 use Rattle.rules.specs.Chooses.{countOf}
 use Rattle.bits.specs.declared.Outcome.the-variants.{Got, Refused}
 use Rattle.runs.specs.Flagged.{oneRun, marked, Put, MarksCells}
+use Rattle.runs.specs.declared.Stretch.{Stretch}
+use Rattle.runs.specs.Reached.{Marking, Filled, endOf}
 use Rattle.runs.proofs.Answer.{marks-refused}
 use Rattle.runs.proofs.Ones.{marked-run}
-use Rattle.runs.proofs.Marking.{Marking, marking-none, marking-room, marking-mark, marking-all}
+use Rattle.runs.proofs.Marking.{marking-none, marking-room, marking-mark, marking-all}
 
 -- a run is judged by the places left
 module _ (bits : List ℕ) (n s left at : ℕ) {v next : ℕ} (e : rice n s bits at ≡ whole v next) where
@@ -47,17 +50,6 @@ runs-step bits n s more left done at h = rw (ne-eqb left 0 (λ z. omega arith)) 
         ≡ andThen (andThen r (λ v j. cond (ltb left v) (fail Run at) (give v) bits j)) (λ v j. cond (eqb v left) (give (done ++ replicate v 0)) (runsFrom n s more (left - (v + 1)) (done ++ (replicate v 0 ++ (1 ∷ [])))) bits j)
     go (whole v j) = go2 v j (ltb left v)
     go (refuse w b) = refl
-
--- `count` runs are read, and fill the first `filled` of d places
-pub record Filled (bits : List ℕ) (at n s d common other : ℕ) (old cells : List ℕ) (filled count place : ℕ) : Type 0 where
-  pub done : List ℕ
-  pub so-far : runsFrom n s d d [] bits at ≡ runsFrom n s (d - count) (d - filled) done bits place
-  pub marking : Marking d common other old cells done
-  pub size : length done ≡ filled
-  pub ones : marked done ≡ count
-  pub fuel : count ≤ filled
-  pub within : filled ≤ d
-  pub near : place ≤ at + 330 * count
 
 pub filled-none : (bits : List ℕ) (at n s : ℕ) {d common : ℕ} (other : ℕ) {old cells : List ℕ} → Put old 0 (replicate d common) cells → d ≤ 320 → length old ≡ 320
     → Filled bits at n s d common other cells cells 0 0 at
@@ -129,3 +121,19 @@ module _ {bits : List ℕ} {at n s d common other : ℕ} {old cells : List ℕ} 
             within = omega arith;
             near = let y = f .near in omega arith;
           }
+
+-- a run that reaches the end of the places, or the end itself
+pub runs-ended : {bits : List ℕ} {at n s d common other : ℕ} {old cells : List ℕ} (t : Stretch)
+    → Filled bits at n s d common other old cells (t .filled) (t .count) (t .place)
+    → (d ≤ t .past) × (t .filled ≤ t .past) × (rice n s bits (t .place) ≡ whole (t .past - t .filled) (t .place + t .size)) → t .size ≤ 41
+    → MarksCells (runsFrom n s d d [] bits at) d (at + 330 * d) common other old cells (endOf d t)
+runs-ended {bits} {at} {n} {s} {d} {common} {other} {old} {cells} t f (p, q, e) z = go (decLe d (t .filled)) (decLe (t .past) d)
+  where
+    go : Dec (d ≤ t .filled) → Dec (t .past ≤ d) → MarksCells (runsFrom n s d d [] bits at) d (at + 330 * d) common other old cells (endOf d t)
+    go (yes h) k = rw (le-leb d (t .filled) h) (runs-filled f h)
+    go (no h) (no k) =
+        rw (lt-leb d (t .filled) (omega arith), lt-ltb d (t .past) (omega arith))
+        (runs-refused f (omega arith) (run-long bits n s (d - t .filled) (t .place) e (omega arith)))
+    go (no h) (yes k) =
+        rw (lt-leb d (t .filled) (omega arith), le-ltb d (t .past) k)
+        (runs-closed f (omega arith) (run-fits bits n s (d - t .filled) (t .place) e (omega arith)) (omega arith) (omega arith))

@@ -1,1 +1,2 @@
 pub mod Flagged
+pub mod Reached

@@ -8,6 +8,7 @@ ghost use Rattle.rules.specs.Reading.{bitsFrom};
 ghost use Rattle.rules.specs.Runs.{runsFrom};
 ghost use Rattle.bits.specs.Outcomes.{Reads};
 ghost use Rattle.runs.specs.Flagged.{oneRun, kindOf, kinds, Put, MarksCells};
+ghost use Rattle.runs.specs.Reached.{Reads-several, endOf};
 use bits::Outcome;
 use rules::Refusal;
 
@@ -38,6 +39,85 @@ fn run(octets: &[u8], at: usize, n: usize, s: usize, left: usize) -> Outcome
     }
 }
 
+// What `several` has read: how far the places are filled, how many marks there are, and the next place.
+// Of a run that reaches the end of the places, `past` is the place it comes to and `size` its bits; else `size` is 0.
+struct Stretch {
+    filled: usize,
+    count: usize,
+    place: usize,
+    past: usize,
+    size: usize,
+}
+
+fn come_to(filled: usize, count: usize, place: usize, past: usize, size: usize) -> Stretch
+    ensures { λ r. ⌜ (r .filled ≡ filled) × (r .count ≡ count) × (r .place ≡ place) × (r .past ≡ past) × (r .size ≡ size) ⌝ }
+{
+    Stretch {
+        filled: filled,
+        count: count,
+        place: place,
+        past: past,
+        size: size,
+    }
+}
+
+// The runs whose codes stand whole in one word of bits: leading zeros, a shift and a mark each.
+fn several(
+    octets: &[u8],
+    at: usize,
+    n: usize,
+    s: usize,
+    d: usize,
+    before: usize,
+    marks: usize,
+    cells: &mut [u8; 320],
+    other: u8,
+) -> Stretch
+    requires { ⌜ (at ≤ 2 ^ 40) × (s ≤ 9) × (d ≤ 320) × (before ≤ d) × (marks ≤ before) × (length (now cells) ≡ 320) ⌝ }
+    ensures { λ r. ⌜ Reads-several (now (octets .entry)) n s d other (now (cells .entry)) before marks at (now (cells .exit)) r ⌝ }
+{
+    let held = bits::hold(octets, at, n);
+    let all = held.good;
+    let mut word = held.word;
+    let mut good = held.good;
+    let mut filled = before;
+    let mut count = marks;
+    loop {
+        let zeros = bits::zeros_in(word);
+        if zeros == 32 {
+            break;
+        }
+        let size = zeros + (s + 1);
+        if good < size {
+            break;
+        }
+        let p = filled + bits::run_in(word, zeros, s);
+        if d <= p {
+            return come_to(filled, count, at + (all - good), p, size);
+        }
+        cells[p] = other;
+        filled = p + 1;
+        count += 1;
+        word = word << size;
+        good -= size;
+    }
+    come_to(filled, count, at + (all - good), 0, 0)
+}
+
+// A run that reaches the end of D places: none is wanted, it is too long, or its closing sample is imagined.
+fn ended(t: Stretch, d: usize) -> Outcome
+    requires { ⌜ (t .place ≤ 2 ^ 40) × (t .size ≤ 41) ⌝ }
+    ensures { λ r. ⌜ r ≡ endOf d t ⌝ }
+{
+    if d <= t.filled {
+        return Outcome::Got(t.count, t.place);
+    }
+    if d < t.past {
+        return Outcome::Refused(Refusal::Run, t.place);
+    }
+    Outcome::Got(t.count, t.place + t.size)
+}
+
 // "Runs over D places": v places of the common kind, then one of the other, till all D are filled.
 // The answer is the number of the other kind and the next place, or the refusal and its bit.
 pub fn runs(
@@ -58,16 +138,27 @@ pub fn runs(
     let mut count = 0;
     let mut place = at;
     loop {
+        let before = filled;
+        let t = several(octets, place, n, s, d, filled, count, cells, other);
+        filled = t.filled;
+        count = t.count;
+        place = t.place;
+        if 0 < t.size {
+            break ended(t, d);
+        }
+        if before < filled {
+            continue;
+        }
         if d <= filled {
             break Outcome::Got(count, place);
         }
+        // A code that no word holds whole
         let left = d - filled;
         match run(octets, place, n, s, left) {
             Outcome::Refused(why, bit) => {
                 break Outcome::Refused(why, bit);
             }
             Outcome::Got(v, next) => {
-                // "the closing sample is imagined"
                 if v == left {
                     break Outcome::Got(count, next);
                 }

@@ -1,11 +1,12 @@
 -- A number that is cut is SHORT (Cut); else it stands in the window of five octets (Window).
 use borrow.Author.Needs.{needs}
 use native.Mathlib.Omega.{arith}
-use mathlib.Core.Path.{sym}
+use mathlib.Core.Path.{_≡_, sym}
 use lib.Pow.{pow-pos}
+use Prim.Native.Nat.{_+_, _*_, _/_, _%_}
 use Rattle.rules.specs.Reading.{numberFrom}
 use Rattle.bits.proofs.Cut.{number-cut}
-use Rattle.bits.proofs.Window.{number-window}
+use Rattle.bits.proofs.Window.{number-ahead, ahead-part}
 use Rattle.bits.proofs.Shift.{power-whole, low-small}
 use Rattle.bits.proofs.number.Statement.{statement}
 use Rattle.bits.proofs.number.Tie as tie
@@ -50,9 +51,11 @@ rem-t9 c =
 returns-3 : tie.Need-returns-3
 returns-3 c =
     let n = c .before .before .before .before .args .n in
+    let at = c .before .before .before .before .args .at in
     let w = power-whole n (omega arith) in
+    let e : 8 * (at / 8) + at % 8 ≡ at = omega arith in
     record {
-      says = rw w (sym (number-window _ _ n _ (c .window-at .ensures) (omega arith) (omega arith)));
+      says = rw w (sym (number-ahead _ at n _ (rw e at (ahead-part (at % 8) n (c .window-at .ensures) (omega arith))) (omega arith)));
       value = rw w (low-small _ n);
       next = omega arith;
     }

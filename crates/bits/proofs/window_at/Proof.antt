@@ -2,7 +2,7 @@
 use borrow.Author.Needs.{needs}
 use native.Mathlib.Omega.{arith}
 use mathlib.Core.Path.{refl}
-use Rattle.bits.proofs.Window.{window-bits}
+use Rattle.bits.proofs.Window.{ahead-five}
 use Rattle.bits.proofs.window_at.Statement.{statement}
 use Rattle.bits.proofs.window_at.Tie as tie
 
@@ -49,7 +49,7 @@ returns c =
     let k = c .before .before .before .before .before .before .before in
     let g = k .before .args in
     rw (c .five .ensures)
-    (window-bits (g .octets .now) (g .i) (a .ensures) (b .ensures) (d .ensures) (e .ensures) (f .ensures) (λ j. omega (arith, k .shared-slice-known .given j)))
+    (ahead-five (g .octets .now) (g .i) (a .ensures) (b .ensures) (d .ensures) (e .ensures) (f .ensures) (λ j. omega (arith, k .shared-slice-known .given j)))
 
 shared-slice-read-five : tie.Need-shared-slice-read-five
 shared-slice-read-five c = search needs
@@ -86,7 +86,7 @@ returns-2 c =
     let k = c .before .before .before .before .before .before .before in
     let g = k .before .args in
     rw (c .five2 .ensures)
-    (window-bits (g .octets .now) (g .i) refl refl refl refl refl (λ j. omega (arith, k .shared-slice-known .given j)))
+    (ahead-five (g .octets .now) (g .i) refl refl refl refl refl (λ j. omega (arith, k .shared-slice-known .given j)))
 
 pub window-at-spec : {M : Type 1} → statement M
 window-at-spec =
