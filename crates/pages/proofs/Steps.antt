@@ -9,7 +9,7 @@ use borrow.Author.Tests.{le-leb, lt-leb}
 use Rattle.rules.specs.declared.Ending.the-variants.{Done, Refused}
 use Rattle.rules.specs.declared.Refusal.{Refusal}
 use Rattle.rules.specs.Refusals.{refusalNumber}
-use Rattle.rules.specs.Reading.{Read, whole}
+use Rattle.rules.specs.Reading.{Read, whole, refuse}
 use Rattle.rules.specs.Frame.{Found, octetsUsed, readOne}
 use Rattle.reader.specs.declared.Report.{Report}
 use Rattle.reader.specs.Answers.{Tells, ReadsInto}
@@ -57,6 +57,10 @@ frame-told : {f : Found} {i : ℕ} {r : Report} (k at kept : ℕ) (next : ℕ �
     ≡ frameLine k at (r .len) (r .tool) (r .octets) (r .bits) ++ next (r .octets) (r .len)
 frame-told k at kept next t = rw (t .len, t .tool, t .octets, t .bits)
 
+refusal-told : {w : Refusal} {bit : ℕ} {r : Report} (k at kept : ℕ) (next : Found → List ℕ) → Tells (refuse w bit) r
+    → afterRead (refuse w bit) k at kept next ≡ stopLine (refusalNumber w) at (r .tool) (r .bit) ++ samplesLine kept
+refusal-told k at kept next t = rw (t .tool, t .bit)
+
 module _ {found : Read Found} {r : Report} {out out′ : List ℕ} (t : ReadsInto found r out out′) where
   read-done : (k at kept : ℕ) (next : ℕ → ℕ → List ℕ) → r .end ≡ Done
       → afterRead found k at kept (λ f. next (octetsUsed f) (length (f .samples)))
@@ -69,7 +73,7 @@ module _ {found : Read Found} {r : Report} {out out′ : List ℕ} (t : ReadsInt
       → afterRead found k at kept next ≡ stopLine (refusalNumber w) at (r .tool) (r .bit) ++ samplesLine kept
   read-refused k at kept next e =
       let a = refused t e in
-      ap (λ (x : Read Found). afterRead x k at kept next) (a .is) ∙ rw (a .tells .tells .tool, a .tells .tells .bit)
+      ap (λ (x : Read Found). afterRead x k at kept next) (a .is) ∙ refusal-told k at kept next (a .tells .tells)
 
 -- what a step does: it lists a part, and comes nearer to the end
 abbrev Nearer : List ℕ → ℕ → Stand → List ℕ → ℕ → Stand → List ℕ → ℕ → Type 0
