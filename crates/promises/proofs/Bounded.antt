@@ -176,7 +176,7 @@ costs-marked n s (suc fuel) left done h =
     (λ v r q. omega arith)))
 
 -- ceil(log2 D) is no more than it need be
-width-most : (w m d r : ℕ) → d ≤ 2 ^ (w + r) → widthFrom w m d ≤ w + r
+pub width-most : (w m d r : ℕ) → d ≤ 2 ^ (w + r) → widthFrom w m d ≤ w + r
 unfolding widthFrom
 width-most w zero d r h = omega arith
 width-most w (suc m) d zero h =

@@ -15,5 +15,6 @@ pub mod Nesting
 pub mod Lists
 pub mod Upgrade
 pub mod Bounded
+pub mod Points
 pub mod Fits
 pub mod RoundTrip
