@@ -23,7 +23,7 @@ use Rattle.rules.specs.Frame.{Found, octetsUsed, body, withTool, afterFirst, fr
 use Rattle.rules.specs.Located.{widthFrom, widthOf, listedFrom, listed, byMethod, emptyIn, lay, valuesInto, valuesOf, located}
 use Rattle.rules.specs.Chooses.{countOf}
 use Rattle.rules.proofs.Octets.{Below, none, more, bitsOf-below, length-lowBits}
-use Rattle.rules.proofs.Laid.{lay-count}
+use Rattle.rules.proofs.Laid.{empty-all, lay-count}
 use Rattle.rules.proofs.Signed.{LawMask, sampleOf-one-to-one, law-mask}
 use Rattle.rules.proofs.Gives.{Gives, gives-bit, gives-number, gives-zerosFrom, gives-rice, gives-runsFrom, gives-byMethod, gives-readTree, Leaves}
 use Rattle.rules.proofs.Accepted.{Steps, through, steps, not-refused, filled-is, number-next}
@@ -230,11 +230,6 @@ costs-values n z cells (next {x = x} {s = xs} g t) h =
     (λ flags r f. omega arith))
     (λ m r q. omega arith))
 
-empty-all : (z n : ℕ) → emptyIn z (replicate n z) ≡ n
-unfolding emptyIn
-empty-all z zero = refl
-empty-all z (suc n) = let e = empty-all z n in rw (eq-eqb z z refl) (omega arith)
-
 costs-located : {mask : ℕ} → LawMask mask → (n : ℕ) → n ≤ 320 → Costs 0 (λ s. 2686) (located mask n)
 unfolding located
 costs-located {mask} l n h =
@@ -266,11 +261,11 @@ tree-depth : (n : ℕ) → isLength n ≡ true → leb (depth (treeOf n)) 6 ≡ 
 unfolding treeOf depth
 tree-depth n l = by-length (λ n. leb (depth (treeOf n)) 6 ≡ true) refl refl refl refl refl n l
 
-tree-leaves : (n : ℕ) → isLength n ≡ true → Leaves (λ s. s ≤ 9) (treeOf n)
+pub tree-leaves : (n : ℕ) → isLength n ≡ true → Leaves (λ s. s ≤ 9) (treeOf n)
 unfolding treeOf
 tree-leaves n l = by-length (λ n. Leaves (λ s. s ≤ 9) (treeOf n)) (omega arith) (omega arith) (omega arith) (omega arith) (omega arith) n l
 
-at-most-320 : (n : ℕ) → isLength n ≡ true → n ≤ 320
+pub at-most-320 : (n : ℕ) → isLength n ≡ true → n ≤ 320
 at-most-320 n l = by-length (λ n. n ≤ 320) (omega arith) (omega arith) (omega arith) (omega arith) (omega arith) n l
 
 costs-plusMinus : (mask n mark : ℕ) → isLength n ≡ true → Costs 0 (λ s. 6 + 10 * n) (plusMinus mask n mark)
@@ -316,13 +311,13 @@ unfolding body
 costs-six mask n mark l = costs-plusMinus mask n mark l
 
 -- no first octet is tool 6 without its second bit, and each has one of the five lengths
-abbrev plain : First → Bool
+abbrev pub plain : First → Bool
 plain unassigned = true
 plain pad = true
 plain (tool t n) = not (eqb t 6) && isLength n
 plain (sixOrEight n) = isLength n
 
-first-plain : (o : ℕ) → o < 256 → plain (firstOctet o) ≡ true
+pub first-plain : (o : ℕ) → o < 256 → plain (firstOctet o) ≡ true
 unfolding firstOctet lookUp rows
 first-plain o h = allBelow-at (λ o. plain (firstOctet o)) 256 refl o h
 

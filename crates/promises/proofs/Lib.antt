@@ -18,3 +18,4 @@ pub mod Bounded
 pub mod Points
 pub mod Fits
 pub mod RoundTrip
+pub mod Bit

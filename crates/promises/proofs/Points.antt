@@ -10,7 +10,7 @@ use lib.Dec.{eqb, leb, ltb}
 use borrow.Author.Tests.{ltb-true, ltb-false, leb-true}
 use Rattle.rules.specs.declared.Refusal.{Refusal}
 use Rattle.rules.specs.declared.Refusal.the-variants.{Short, Prefix, Tool, Room, Case, Method, Run, Place, Align, Length, Set, Law, Long}
-use Rattle.rules.specs.Tools.{holds}
+use Rattle.rules.specs.Tools.{holds, isLength}
 use Rattle.rules.specs.Bits.{fillFor}
 use Rattle.rules.specs.Reading.{Read, whole, refuse, Reader, andThen, _>>=_, give, fail, here, bit, numberFrom, number, bitsFrom, octetsAfter, filled}
 use Rattle.rules.specs.Samples.{sampleOf, plusZero, minusZero}
@@ -21,9 +21,10 @@ use Rattle.rules.specs.First.{sixNotEight}
 use Rattle.rules.specs.Frame.{Found, body, withTool}
 use Rattle.rules.proofs.Accepted.{Steps, through, steps, number-next}
 use Rattle.rules.proofs.Gives.{Leaves}
+use Rattle.rules.proofs.Laid.{empty-most, length-lay}
 use Rattle.promises.proofs.Reach.{never, place-of, value-of, Far, far-bit, far-then, Near, near-give, near-fail, near-here, near-bit, near-then, near-cond, near-more}
 use Rattle.promises.proofs.Further.{Goes, short, same, Firm, firm-give, firm-bind, firm-cond, firm-here, firm-bit, firm-numberFrom, firm-bitsFrom, firm-zerosFrom, firm-rice, firm-runsFrom, firm-readTree, firm-byMethod, firm-body, far-firm}
-use Rattle.promises.proofs.Bounded.{width-most}
+use Rattle.promises.proofs.Bounded.{width-most, tree-leaves, at-most-320}
 
 -- The bit that a refusal names, n bits being there. SHORT's is the first that is missing. Every other is one of those that are there, save that
 -- a listed place of no bits may stand at their end. What is judged by the prefix names bit 0, and so do the refusals from 10 on.
@@ -285,3 +286,73 @@ points-method lo hi n d start m h k l r =
     points-cond (eqb m 5) (λ t. points-give (replicate d 0)) (λ t.
     points-cond (eqb m 6) (λ t. points-fail lo hi Method start (λ n g. omega arith) r) (λ t.
     points-bind (firm-numberFrom 0 2) (points-numberFrom 0 2) (λ less. points-listed (widthOf d) d [] (less + 1) (width-most 0 d d 9 (omega arith)))))))
+
+points-values : {W : ℕ → Type 0} (n z : ℕ) (xs cells : List ℕ) → n ≤ 320 → length cells ≤ 320 → Points W (valuesInto n z xs cells)
+unfolding valuesInto
+points-values n z [] cells h k = points-give cells
+points-values n z (x ∷ xs) cells h k =
+    let d = emptyIn z cells in
+    points-here (λ start. points-go start start 3 3 (firm-numberFrom 0 3) (far-number 0 3) (near-number 0 3) (points-numberFrom 0 3) (λ m.
+    points-bind (firm-byMethod n d start m) (points-method (start + 3) (start + 3) n d start m h (omega (arith, empty-most z cells)) (omega arith) (omega arith)) (λ flags.
+    points-here (λ end.
+    points-cond (eqb (emptyIn z (lay z x flags 0 cells)) 0) (λ t. points-fail end end Place end (λ n g. g) (omega arith)) (λ t.
+    points-values n z xs (lay z x flags 0 cells) h (omega (arith, length-lay z x flags 0 cells)))))))
+
+-- "the range case": it and the flag have been read
+points-located : {W : ℕ → Type 0} (mask n : ℕ) → n ≤ 320 → Points W (located mask n)
+unfolding located
+points-located mask n h =
+    points-here (λ start. points-go start start 2 2 (firm-numberFrom 0 2) (far-number 0 2) (near-number 0 2) (points-numberFrom 0 2) (λ c.
+    points-go (start + 2) (start + 2) 1 1 (firm-numberFrom 0 1) (far-number 0 1) (near-number 0 1) (points-numberFrom 0 1) (λ flag.
+    points-cond (eqb (length (valuesOf n c flag)) 0)
+    (λ t. points-fail (start + 2 + 1) (start + 2 + 1) Case start (λ n g. omega arith) (omega arith))
+    (λ t. points-values n (plusZero mask) (map (sampleOf mask) (valuesOf n c flag)) (replicate n (plusZero mask)) h (omega (arith, length-replicate n (plusZero mask)))))))
+
+-- what a tree gives is one of its leaves
+tree-gives : (P : ℕ → Type 0) (t : Tree) → Leaves P t → (b : List ℕ) (i s j : ℕ) → readTree t b i ≡ whole s j → P s
+unfolding readTree
+tree-gives P (leaf x) l b i s j e = subst P (value-of e) l
+tree-gives P (fork z o) l b i s j e = go (λ k. tree-gives P z (l .0) b k s j) (λ k. tree-gives P o (l .1) b k s j) (steps (bit b i) _ e)
+  where
+    go : ((k : ℕ) → readTree z b k ≡ whole s j → P s) → ((k : ℕ) → readTree o b k ≡ whole s j → P s)
+        → Steps (bit b i) (λ a k. cond (eqb a 1) (readTree o) (readTree z) b k) s j → P s
+    go left right (through a k q d) = one (eqb a 1) d
+      where
+        one : (t : Bool) → cond t (readTree o) (readTree z) b k ≡ whole s j → P s
+        one true d = right k d
+        one false d = left k d
+
+points-six : {W : ℕ → Type 0} (mask n mark : ℕ) → isLength n ≡ true → Points W (readTree (treeOf n) >>= (λ s. runsFrom n s n n [] >>= (λ flags. give (map (zeroOf mask mark) flags))))
+points-six mask n mark l =
+    points-then (λ s j. s ≤ 9) (firm-readTree (treeOf n)) (points-readTree (treeOf n))
+    (λ b i s j v e. tree-gives (λ s. s ≤ 9) (treeOf n) (tree-leaves n l) b i s j e)
+    (λ s. record { says = λ b i v k. rest s v .says b i tt k; past = λ b c i v k. rest s v .past b c i tt k })
+  where
+    rest : (s : ℕ) → s ≤ 9 → Points Any (runsFrom n s n n [] >>= (λ flags. give (map (zeroOf mask mark) flags)))
+    rest s v = points-bind (firm-runsFrom n s n n []) (points-runs n s n n [] (at-most-320 n l) v) (λ flags. points-give (map (zeroOf mask mark) flags))
+
+pub points-body : {W : ℕ → Type 0} (mask t n mark : ℕ) → isLength n ≡ true → Points W (body mask t n mark)
+unfolding body
+points-body mask t n mark l =
+    points-cond (eqb t 1) (λ e. points-octetsAfter [] n) (λ e.
+    points-cond (eqb t 2) (λ e. points-give (replicate n (plusZero mask))) (λ e.
+    points-cond (eqb t 3) (λ e. points-give (replicate n (minusZero mask))) (λ e.
+    points-cond (eqb t 4) (λ e. points-bind (firm-numberFrom 0 8) (points-numberFrom 0 8) (λ x. points-give (replicate n x))) (λ e.
+    points-cond (eqb t 5) (λ e. points-bind (firm-bitsFrom [] n) (points-bitsFrom [] n) (λ flags. points-give (map (zeroOf mask 0) flags))) (λ e.
+    points-cond (eqb t 6) (λ e. points-six mask n mark l) (λ e.
+    points-located mask n (at-most-320 n l)))))))
+
+-- the tool is decided by the prefix, so within the first octet and the next
+pub points-withTool : (mask set room t n mark : ℕ) → isLength n ≡ true → Points (Between 1 8) (withTool mask set room t n mark)
+unfolding withTool
+points-withTool mask set room t n mark l =
+    points-cond (not (holds set t)) (λ e. points-fail 1 8 (Tool t) 0 (λ n h. (refl, h)) (omega arith)) (λ e.
+    points-cond (ltb room n) (λ e. points-fail 1 8 Room 0 (λ n h. (refl, h)) (omega arith)) (λ e.
+    points-bind (firm-body mask t n mark) (points-body mask t n mark l) (λ s.
+    points-here (λ bits. points-filled (record { tool = t; samples = s; bits = bits }) (fillFor bits)))))
+
+pub points-sixNotEight : {W : ℕ → Type 0} → Points W sixNotEight
+unfolding sixNotEight
+points-sixNotEight =
+    points-bind firm-bit points-bit (λ a. points-cond (eqb a 1) (λ t. points-give 6) (λ t.
+    points-bind firm-bit points-bit (λ c. points-cond (eqb c 1) (λ t. points-give 6) (λ t. points-give 8))))
