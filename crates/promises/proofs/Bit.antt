@@ -58,14 +58,19 @@ after-says mask set room (sixOrEight n) p b h =
     (points-sixNotEight {W = Between 0 8} .says b (i + 1) (omega arith, omega (arith, mark-first n)) (omega (arith, mark-first n)))
     (λ t. tool-says mask set room b n mark (i + 1) t p (omega arith) (omega (arith, mark-first n)) (omega (arith, mark-first n))))
 
-first-of-bits : (b : List ℕ) → Below 2 b → 8 ≤ length b → plain (firstOctet (valueFrom 0 (take 8 b))) ≡ true
+pub first-of-bits : (b : List ℕ) → Below 2 b → 8 ≤ length b → plain (firstOctet (valueFrom 0 (take 8 b))) ≡ true
 first-of-bits b z h = first-plain (valueFrom 0 (take 8 b)) (value-small 8 (below-take 8 z) (length-take-le 8 b h))
 
-frame-says : (mask set room : ℕ) {b : List ℕ} → Below 2 b → 8 ≤ length b → Says (length b) 0 (frame mask set room b 0)
+pub frame-after : (mask set room : ℕ) (b : List ℕ) → 8 ≤ length b
+    → frame mask set room b 0 ≡ afterFirst mask set room (firstOctet (valueFrom 0 (take 8 b))) b 8
 unfolding frame
-frame-says mask set room {b} z h =
+frame-after mask set room b h =
     let e : number 8 b 0 ≡ whole (valueFrom 0 (take 8 b)) 8 = rw (append-nil b) at (first-eight b [] h) in
-    rw e (after-says mask set room (firstOctet (valueFrom 0 (take 8 b))) (first-of-bits b z h) b h)
+    rw e refl
+
+frame-says : (mask set room : ℕ) {b : List ℕ} → Below 2 b → 8 ≤ length b → Says (length b) 0 (frame mask set room b 0)
+frame-says mask set room {b} z h =
+    rw (frame-after mask set room b h) (after-says mask set room (firstOctet (valueFrom 0 (take 8 b))) (first-of-bits b z h) b h)
 
 octets-say : (law set room : ℕ) (octets : List ℕ) → Says (8 * length octets) 0 (frame (maskOf law) set room (bitsOf octets) 0)
 octets-say law set room [] = rw (nothing-short (maskOf law) set room) (refl, omega arith)
@@ -91,7 +96,7 @@ read-bit octets law set room w at e = (subst (λ (m : Read Found). Says (8 * len
 pub short-bit : (octets : List ℕ) (law set room at : ℕ) → readOne octets law set room ≡ refuse Short at → at ≡ 8 * length octets
 short-bit octets law set room at e = read-bit octets law set room Short at e
 
-ended-by : {u w : Refusal} → Refused u ≡ Refused w → u ≡ w
+pub ended-by : {u w : Refusal} → Refused u ≡ Refused w → u ≡ w
 ended-by e = cc
 
 -- A walk counts from the refused frame's place

@@ -19,3 +19,4 @@ pub mod Points
 pub mod Fits
 pub mod RoundTrip
 pub mod Bit
+pub mod Asks

@@ -24,7 +24,7 @@ use Rattle.rules.proofs.Gives.{Leaves}
 use Rattle.rules.proofs.Laid.{empty-most, length-lay}
 use Rattle.promises.proofs.Reach.{never, place-of, value-of, Far, far-bit, far-then, Near, near-give, near-fail, near-here, near-bit, near-then, near-cond, near-more}
 use Rattle.promises.proofs.Further.{Goes, short, same, Firm, firm-give, firm-bind, firm-cond, firm-here, firm-bit, firm-numberFrom, firm-bitsFrom, firm-zerosFrom, firm-rice, firm-runsFrom, firm-readTree, firm-byMethod, firm-body, far-firm}
-use Rattle.promises.proofs.Bounded.{width-most, tree-leaves, at-most-320}
+use Rattle.promises.proofs.Bounded.{near-numberFrom, width-most, tree-leaves, at-most-320}
 
 -- The bit that a refusal names, n bits being there. SHORT's is the first that is missing. Every other is one of those that are there, save that
 -- a listed place of no bits may stand at their end. What is judged by the prefix names bit 0, and so do the refusals from 10 on.
@@ -203,9 +203,6 @@ points-octetsAfter done (suc n) = points-bind (firm-numberFrom 0 8) (points-numb
 far-number : (v n : ℕ) → Far n (numberFrom v n)
 far-number v n = record { goes = λ b i a j e. omega (arith, number-next v n b i e) }
 
-near-number : (v n : ℕ) → Near n (numberFrom v n)
-near-number v n = record { goes = λ b i a j e. omega (arith, number-next v n b i e) }
-
 -- "a filling bit isn't 0"
 pub points-filled : {A : Type 0} {W : ℕ → Type 0} (a : A) (n : ℕ) → Points W (filled a n)
 unfolding filled
@@ -228,7 +225,7 @@ points-rice n s h =
     points-here (λ start. points-bind (firm-zerosFrom start 0 (n + 1)) (points-zeros start start start 0 (n + 1) (omega arith) (omega arith)) (λ k.
     points-bind (firm-numberFrom 0 s) (points-numberFrom 0 s) (λ low. points-give (k * 2 ^ s + low))))
 
-near-zeros : (start k left : ℕ) → Near left (zerosFrom start k left)
+pub near-zeros : (start k left : ℕ) → Near left (zerosFrom start k left)
 unfolding zerosFrom
 near-zeros start k zero = near-fail 0 Run start
 near-zeros start k (suc left) =
@@ -239,7 +236,7 @@ near-rice : (n s : ℕ) → Near (0 + (n + 1 + (s + 0))) (rice n s)
 unfolding rice
 near-rice n s =
     near-then 0 (n + 1 + (s + 0)) near-here (λ start. near-then (n + 1) (s + 0) (near-zeros start 0 (n + 1)) (λ k.
-    near-then s 0 (near-number 0 s) (λ low. near-give (k * 2 ^ s + low))))
+    near-then s 0 (near-numberFrom 0 s) (λ low. near-give (k * 2 ^ s + low))))
 
 far-zeros : (start k left : ℕ) → 1 ≤ left → Far 1 (zerosFrom start k left)
 unfolding zerosFrom
@@ -272,7 +269,7 @@ points-listed : {W : ℕ → Type 0} (w d : ℕ) (done : List ℕ) (k : ℕ) →
 unfolding listedFrom
 points-listed w d done zero h = points-give (done ++ replicate (d - length done) 0)
 points-listed w d done (suc k) h =
-    points-here (λ start. points-go start start w w (firm-numberFrom 0 w) (far-number 0 w) (near-number 0 w) (points-numberFrom 0 w) (λ p.
+    points-here (λ start. points-go start start w w (firm-numberFrom 0 w) (far-number 0 w) (near-numberFrom 0 w) (points-numberFrom 0 w) (λ p.
     points-cond (leb (length done) p && ltb p d)
     (λ t. points-listed w d (done ++ (replicate (p - length done) 0 ++ (1 ∷ []))) k h)
     (λ t. points-fail (start + w) (start + w) Place start (λ n g. omega arith) (omega arith))))
@@ -292,7 +289,7 @@ unfolding valuesInto
 points-values n z [] cells h k = points-give cells
 points-values n z (x ∷ xs) cells h k =
     let d = emptyIn z cells in
-    points-here (λ start. points-go start start 3 3 (firm-numberFrom 0 3) (far-number 0 3) (near-number 0 3) (points-numberFrom 0 3) (λ m.
+    points-here (λ start. points-go start start 3 3 (firm-numberFrom 0 3) (far-number 0 3) (near-numberFrom 0 3) (points-numberFrom 0 3) (λ m.
     points-bind (firm-byMethod n d start m) (points-method (start + 3) (start + 3) n d start m h (omega (arith, empty-most z cells)) (omega arith) (omega arith)) (λ flags.
     points-here (λ end.
     points-cond (eqb (emptyIn z (lay z x flags 0 cells)) 0) (λ t. points-fail end end Place end (λ n g. g) (omega arith)) (λ t.
@@ -302,8 +299,8 @@ points-values n z (x ∷ xs) cells h k =
 points-located : {W : ℕ → Type 0} (mask n : ℕ) → n ≤ 320 → Points W (located mask n)
 unfolding located
 points-located mask n h =
-    points-here (λ start. points-go start start 2 2 (firm-numberFrom 0 2) (far-number 0 2) (near-number 0 2) (points-numberFrom 0 2) (λ c.
-    points-go (start + 2) (start + 2) 1 1 (firm-numberFrom 0 1) (far-number 0 1) (near-number 0 1) (points-numberFrom 0 1) (λ flag.
+    points-here (λ start. points-go start start 2 2 (firm-numberFrom 0 2) (far-number 0 2) (near-numberFrom 0 2) (points-numberFrom 0 2) (λ c.
+    points-go (start + 2) (start + 2) 1 1 (firm-numberFrom 0 1) (far-number 0 1) (near-numberFrom 0 1) (points-numberFrom 0 1) (λ flag.
     points-cond (eqb (length (valuesOf n c flag)) 0)
     (λ t. points-fail (start + 2 + 1) (start + 2 + 1) Case start (λ n g. omega arith) (omega arith))
     (λ t. points-values n (plusZero mask) (map (sampleOf mask) (valuesOf n c flag)) (replicate n (plusZero mask)) h (omega (arith, length-replicate n (plusZero mask)))))))
