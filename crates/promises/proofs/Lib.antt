@@ -20,3 +20,4 @@ pub mod Fits
 pub mod RoundTrip
 pub mod Bit
 pub mod Asks
+pub mod Sharp
