@@ -81,7 +81,8 @@ asks-then {A} {B} {Q} {p} {f} c k cost v g s h = record { asks = λ b z i m at e
 
 -- numbers, flags, octets
 asks-bits : {A : Type 0} {f : ℕ → Reader A} (k : ℕ) → ((a : ℕ) → Asks 0 k (f a)) → Asks 0 (suc k) (bit >>= f)
-asks-bits k g = asks-then 0 (suc k) (λ a. 1) gives-bit (costs-near 1 near-bit) (pays 0 1 (suc k) (omega arith) asks-bit) (λ a h. pays (0 + 1) k (suc k) (omega arith) (g a))
+asks-bits k g =
+    asks-then 0 (suc k) (λ a. 1) gives-bit (costs-near 1 near-bit) (pays 0 1 (suc k) (omega arith) asks-bit) (λ a h. pays (0 + 1) k (suc k) (omega arith) (g a))
 
 asks-numberFrom : (v n : ℕ) → Asks 0 n (numberFrom v n)
 unfolding numberFrom
@@ -197,7 +198,8 @@ asks-values n z cells (next {x = x} {s = xs} g t) h =
     let spent = 0 + 3 + (38 + d + 5 * ones flags) in
     asks-here spent most (λ end.
     asks-cond (eqb (emptyIn z (lay z x flags 0 cells)) 0) (λ q. asks-fail spent most Place end (is-not Place (omega arith))) (λ q.
-    pays spent (length xs * 361 + 5 * emptyIn z (lay z x flags 0 cells) + n + 41) most (omega arith) (asks-values n z (lay z x flags 0 cells) t (omega arith)))))))
+    pays spent (length xs * 361 + 5 * emptyIn z (lay z x flags 0 cells) + n + 41) most (omega arith)
+    (asks-values n z (lay z x flags 0 cells) t (omega arith)))))))
 
 asks-located : {mask : ℕ} → LawMask mask → (n : ℕ) → n ≤ 320 → Asks 0 3047 (located mask n)
 unfolding located
@@ -217,7 +219,8 @@ unfolding body
 asks-six mask n mark l =
     let few = leb-true (depth (treeOf n)) 6 (tree-depth n l) in
     let small = at-most-320 n l in
-    asks-then 0 3526 (λ s. 6) (gives-readTree (λ s. s ≤ 9) (treeOf n) (tree-leaves n l)) (costs-near 6 (near-more (depth (treeOf n)) 6 few (near-tree (treeOf n))))
+    asks-then 0 3526 (λ s. 6) (gives-readTree (λ s. s ≤ 9) (treeOf n) (tree-leaves n l))
+    (costs-near 6 (near-more (depth (treeOf n)) 6 few (near-tree (treeOf n))))
     (pays 0 (depth (treeOf n)) 3526 (omega arith) (asks-tree (treeOf n))) (λ s h.
     asks-then (0 + 6) 3526 (λ flags. 10 * n) (gives-runsFrom n s n n [] (omega arith) none) (costs-runs n s n n [] h)
     (pays (0 + 6) (n * 10 + n) 3526 (omega arith) (asks-runs 10 n s n n [] (omega arith))) (λ flags q.
@@ -230,7 +233,8 @@ asks-other {mask} l t n mark h ne =
     asks-cond (eqb t 2) (λ e. asks-give 0 3047 (replicate n (plusZero mask))) (λ e.
     asks-cond (eqb t 3) (λ e. asks-give 0 3047 (replicate n (minusZero mask))) (λ e.
     asks-cond (eqb t 4) (λ e. asks-number 0 8 3047 (omega arith) (λ x q. asks-give (0 + 8) 3047 (replicate n x))) (λ e.
-    asks-cond (eqb t 5) (λ e. asks-then 0 3047 (λ flags. n) (gives-bitsFrom [] n none) (costs-near n (near-bitsFrom [] n)) (pays 0 n 3047 (omega arith) (asks-bitsFrom [] n))
+    asks-cond (eqb t 5) (λ e.
+    asks-then 0 3047 (λ flags. n) (gives-bitsFrom [] n none) (costs-near n (near-bitsFrom [] n)) (pays 0 n 3047 (omega arith) (asks-bitsFrom [] n))
     (λ flags q. asks-give (0 + n) 3047 (map (zeroOf mask 0) flags))) (λ e.
     asks-cond (eqb t 6) (λ e. absurd (ne (eqb-true t 6 e))) (λ e.
     asks-located l n h))))))
@@ -276,7 +280,9 @@ after-asks {mask} l set room (sixOrEight n) p {b} z h at e =
     go : (r : Read ℕ) → sixNotEight b (markAt n + 1) ≡ r
         → andThen r (λ t k. withTool mask set room t n (getD b (markAt n) 0) b (markAt n + 1)) ≡ refuse Short at → at < 3533
     go (whole t k) q d =
-        omega (arith, mark-first n, asks-six-or-eight l set room n (getD b (markAt n) 0) t p (six-or-eight b (markAt n + 1) t k q) .asks b z (markAt n + 1) (omega (arith, mark-first n)) at d)
+        let i : markAt n + 1 ≤ length b = omega (arith, mark-first n) in
+        let a = asks-six-or-eight l set room n (getD b (markAt n) 0) t p (six-or-eight b (markAt n + 1) t k q) in
+        omega (arith, mark-first n, a .asks b z (markAt n + 1) i at d)
     go (refuse w x) q d =
         omega (arith, mark-first n, asks-sixNotEight .asks b z (markAt n + 1) (omega (arith, mark-first n)) at (q ∙ rw (same-refusal d, same-bit d) refl))
 
@@ -285,7 +291,8 @@ octets-ask law set room [] at e = omega (arith, same-bit (sym (nothing-short (ma
 octets-ask law set room (o ∷ octets) at e = some (bitsOf (o ∷ octets)) (bitsOf-below (o ∷ octets)) (omega (arith, length-bitsOf (o ∷ octets))) e
   where
     some : (b : List ℕ) → Below 2 b → 8 ≤ length b → frame (maskOf law) set room b 0 ≡ refuse Short at → at < 3533
-    some b z h d = after-asks (law-mask law) set room (firstOctet (valueFrom 0 (take 8 b))) (first-of-bits b z h) z h at (sym (frame-after (maskOf law) set room b h) ∙ d)
+    some b z h d =
+        after-asks (law-mask law) set room (firstOctet (valueFrom 0 (take 8 b))) (first-of-bits b z h) z h at (sym (frame-after (maskOf law) set room b h) ∙ d)
 
 read-asks : (octets : List ℕ) (law set room at : ℕ) → readOne octets law set room ≡ refuse Short at → at < 3533
 unfolding readOne

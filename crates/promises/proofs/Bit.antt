@@ -140,12 +140,15 @@ both-there b c i h =
     let y = bit-there b c (i + 1) h in
     rw (x .0, x .1) (first (eqb (getD b i 0) 1) (y .0) (y .1))
   where
+    last : Reader ℕ
+    last = bit >>= (λ v. cond (eqb v 1) (give 6) (give 8))
+
     second : (t : Bool) (k : ℕ) → Whole (cond t (give 6) (give 8) b k) (cond t (give 6) (give 8) (b ++ c) k)
     second true k = decided 6 k refl refl
     second false k = decided 8 k refl refl
 
     first : (t : Bool) {v j : ℕ} → bit b (i + 1) ≡ whole v j → bit (b ++ c) (i + 1) ≡ whole v j
-        → Whole (cond t (give 6) (bit >>= (λ v. cond (eqb v 1) (give 6) (give 8))) b (i + 1)) (cond t (give 6) (bit >>= (λ v. cond (eqb v 1) (give 6) (give 8))) (b ++ c) (i + 1))
+        → Whole (cond t (give 6) last b (i + 1)) (cond t (give 6) last (b ++ c) (i + 1))
     first true d d′ = decided 6 (i + 1) refl refl
     first false {v} {j} d d′ = rw (d, d′) (second (eqb v 1) j)
 
@@ -164,18 +167,21 @@ after-past mask set room (sixOrEight n) p b c h =
     let mark = getD b i 0 in
     let m = bit-there b c i (omega (arith, mark-first n)) in
     rw (m .0, m .1)
-    (six-past (length b) (sixNotEight b (i + 1)) (sixNotEight (b ++ c) (i + 1)) (λ t. withTool mask set room t n mark b (i + 1)) (λ t. withTool mask set room t n mark (b ++ c) (i + 1))
+    (six-past (length b) (sixNotEight b (i + 1)) (sixNotEight (b ++ c) (i + 1))
+    (λ t. withTool mask set room t n mark b (i + 1)) (λ t. withTool mask set room t n mark (b ++ c) (i + 1))
     (both-there b c (i + 1) (omega (arith, mark-first n)))
     (λ t. points-withTool mask set room t n mark p .past b c (i + 1) (omega arith, omega (arith, mark-first n)) (omega (arith, mark-first n))))
 
-frame-past : (mask set room : ℕ) {b : List ℕ} → Below 2 b → (c : List ℕ) → 16 ≤ length b → Past (length b) (frame mask set room b 0) (frame mask set room (b ++ c) 0)
+frame-past : (mask set room : ℕ) {b : List ℕ} → Below 2 b → (c : List ℕ) → 16 ≤ length b
+    → Past (length b) (frame mask set room b 0) (frame mask set room (b ++ c) 0)
 unfolding frame
 frame-past mask set room {b} z c h =
     let k : 8 ≤ length b = omega arith in
     let e : number 8 b 0 ≡ whole (valueFrom 0 (take 8 b)) 8 = rw (append-nil b) at (first-eight b [] k) in
     rw (e, first-eight b c k) (after-past mask set room (firstOctet (valueFrom 0 (take 8 b))) (first-of-bits b z k) b c h)
 
-test-past : {A : Type 0} (n : ℕ) (t : Bool) (u : Refusal) (p : Reader A) (b c : List ℕ) → Past n (p b 0) (p c 0) → Past n (cond t (fail u 0) p b 0) (cond t (fail u 0) p c 0)
+test-past : {A : Type 0} (n : ℕ) (t : Bool) (u : Refusal) (p : Reader A) (b c : List ℕ) → Past n (p b 0) (p c 0)
+    → Past n (cond t (fail u 0) p b 0) (cond t (fail u 0) p c 0)
 test-past n true u p b c h = λ k w at e d other. absurd (other (sym (same-refusal d) ∙ same-refusal e))
 test-past n false u p b c h = h
 
@@ -239,7 +245,8 @@ torn octets law set at room c {f} {j} rest h k l e =
     let s : drop at octets ≡ drop at (take c octets) ++ drop c octets
     = ap (drop at) (sym (take-append-drop c octets)) ∙ drop-append-le at (take c octets) (drop c octets) (omega arith) in
     let d = rw n at (cut-apart (drop at (take c octets)) (drop c octets) law set room (rw s at e) (omega arith)) in
-    walks (stopped (Refused Short) at (8 * (c - at))) (refused {at = at} (omega arith) d) (inside [] (rest .frames) (record { place = at; found = f }) refl h k refl)
+    walks (stopped (Refused Short) at (8 * (c - at))) (refused {at = at} (omega arith) d)
+    (inside [] (rest .frames) (record { place = at; found = f }) refl h k refl)
 
 -- a frame before the cut
 cut-before : (f : Delivered) (c : ℕ) {w v : Walked} → Cut c w v → Cut c (before f w) (before f v)

@@ -15,7 +15,7 @@ use Rattle.rules.specs.Bits.{fillFor}
 use Rattle.rules.specs.Reading.{Read, whole, refuse, Reader, andThen, _>>=_, give, fail, here, bit, numberFrom, number, bitsFrom, octetsAfter, filled}
 use Rattle.rules.specs.Samples.{sampleOf, plusZero, minusZero}
 use Rattle.rules.specs.Runs.{zerosFrom, rice, runsFrom}
-use Rattle.rules.specs.Zeros.{Tree, leaf, fork, treeOf, readTree, zeroOf}
+use Rattle.rules.specs.Zeros.{Tree, leaf, fork, treeOf, readTree, zeroOf, plusMinus}
 use Rattle.rules.specs.Located.{widthOf, listedFrom, listed, byMethod, emptyIn, lay, valuesInto, valuesOf, located}
 use Rattle.rules.specs.First.{sixNotEight}
 use Rattle.rules.specs.Frame.{Found, body, withTool}
@@ -232,11 +232,12 @@ near-zeros start k (suc left) =
     near-more (1 + left) (suc left) (omega arith) (near-then 1 left near-bit (λ a.
     near-cond left (eqb a 1) (near-more 0 left (omega arith) (near-give k)) (near-zeros start (k + 1) left)))
 
-near-rice : (n s : ℕ) → Near (0 + (n + 1 + (s + 0))) (rice n s)
+near-rice : (n s : ℕ) → Near (n + 1 + s) (rice n s)
 unfolding rice
 near-rice n s =
-    near-then 0 (n + 1 + (s + 0)) near-here (λ start. near-then (n + 1) (s + 0) (near-zeros start 0 (n + 1)) (λ k.
-    near-then s 0 (near-numberFrom 0 s) (λ low. near-give (k * 2 ^ s + low))))
+    near-more (0 + (n + 1 + (s + 0))) (n + 1 + s) (omega arith)
+    (near-then 0 (n + 1 + (s + 0)) near-here (λ start. near-then (n + 1) (s + 0) (near-zeros start 0 (n + 1)) (λ k.
+    near-then s 0 (near-numberFrom 0 s) (λ low. near-give (k * 2 ^ s + low)))))
 
 far-zeros : (start k left : ℕ) → 1 ≤ left → Far 1 (zerosFrom start k left)
 unfolding zerosFrom
@@ -254,7 +255,7 @@ unfolding runsFrom
 points-runs n s zero left done h l = points-give done
 points-runs n s (suc fuel) left done h l =
     points-cond (eqb left 0) (λ t. points-give done) (λ t.
-    points-here (λ start. points-go start start 1 (n + 1 + s) (firm-rice n s) (far-rice n s) (near-more (0 + (n + 1 + (s + 0))) (n + 1 + s) (omega arith) (near-rice n s)) (points-rice n s h) (λ v.
+    points-here (λ start. points-go start start 1 (n + 1 + s) (firm-rice n s) (far-rice n s) (near-rice n s) (points-rice n s h) (λ v.
     points-cond (ltb left v) (λ t. points-fail (start + 1) (start + (n + 1 + s)) Run start (λ n g. omega arith) (omega arith)) (λ t.
     points-cond (eqb v left) (λ t. points-give (done ++ replicate v 0)) (λ t.
     points-runs n s fuel (left - (v + 1)) (done ++ (replicate v 0 ++ (1 ∷ []))) h l)))))
@@ -290,7 +291,8 @@ points-values n z [] cells h k = points-give cells
 points-values n z (x ∷ xs) cells h k =
     let d = emptyIn z cells in
     points-here (λ start. points-go start start 3 3 (firm-numberFrom 0 3) (far-number 0 3) (near-numberFrom 0 3) (points-numberFrom 0 3) (λ m.
-    points-bind (firm-byMethod n d start m) (points-method (start + 3) (start + 3) n d start m h (omega (arith, empty-most z cells)) (omega arith) (omega arith)) (λ flags.
+    let places = points-method (start + 3) (start + 3) n d start m h (omega (arith, empty-most z cells)) (omega arith) (omega arith) in
+    points-bind (firm-byMethod n d start m) places (λ flags.
     points-here (λ end.
     points-cond (eqb (emptyIn z (lay z x flags 0 cells)) 0) (λ t. points-fail end end Place end (λ n g. g) (omega arith)) (λ t.
     points-values n z xs (lay z x flags 0 cells) h (omega (arith, length-lay z x flags 0 cells)))))))
@@ -299,11 +301,12 @@ points-values n z (x ∷ xs) cells h k =
 points-located : {W : ℕ → Type 0} (mask n : ℕ) → n ≤ 320 → Points W (located mask n)
 unfolding located
 points-located mask n h =
+    let z = plusZero mask in
     points-here (λ start. points-go start start 2 2 (firm-numberFrom 0 2) (far-number 0 2) (near-numberFrom 0 2) (points-numberFrom 0 2) (λ c.
     points-go (start + 2) (start + 2) 1 1 (firm-numberFrom 0 1) (far-number 0 1) (near-numberFrom 0 1) (points-numberFrom 0 1) (λ flag.
     points-cond (eqb (length (valuesOf n c flag)) 0)
     (λ t. points-fail (start + 2 + 1) (start + 2 + 1) Case start (λ n g. omega arith) (omega arith))
-    (λ t. points-values n (plusZero mask) (map (sampleOf mask) (valuesOf n c flag)) (replicate n (plusZero mask)) h (omega (arith, length-replicate n (plusZero mask)))))))
+    (λ t. points-values n z (map (sampleOf mask) (valuesOf n c flag)) (replicate n z) h (omega (arith, length-replicate n z))))))
 
 -- what a tree gives is one of its leaves
 tree-gives : (P : ℕ → Type 0) (t : Tree) → Leaves P t → (b : List ℕ) (i s j : ℕ) → readTree t b i ≡ whole s j → P s
@@ -319,8 +322,8 @@ tree-gives P (fork z o) l b i s j e = go (λ k. tree-gives P z (l .0) b k s j) (
         one true d = right k d
         one false d = left k d
 
-points-six : {W : ℕ → Type 0} (mask n mark : ℕ) → isLength n ≡ true → Points W (readTree (treeOf n) >>= (λ s. runsFrom n s n n [] >>= (λ flags. give (map (zeroOf mask mark) flags))))
-points-six mask n mark l =
+points-plusMinus : {W : ℕ → Type 0} (mask n mark : ℕ) → isLength n ≡ true → Points W (plusMinus mask n mark)
+points-plusMinus mask n mark l =
     points-then (λ s j. s ≤ 9) (firm-readTree (treeOf n)) (points-readTree (treeOf n))
     (λ b i s j v e. tree-gives (λ s. s ≤ 9) (treeOf n) (tree-leaves n l) b i s j e)
     (λ s. record { says = λ b i v k. rest s v .says b i tt k; past = λ b c i v k. rest s v .past b c i tt k })
@@ -336,7 +339,7 @@ points-body mask t n mark l =
     points-cond (eqb t 3) (λ e. points-give (replicate n (minusZero mask))) (λ e.
     points-cond (eqb t 4) (λ e. points-bind (firm-numberFrom 0 8) (points-numberFrom 0 8) (λ x. points-give (replicate n x))) (λ e.
     points-cond (eqb t 5) (λ e. points-bind (firm-bitsFrom [] n) (points-bitsFrom [] n) (λ flags. points-give (map (zeroOf mask 0) flags))) (λ e.
-    points-cond (eqb t 6) (λ e. points-six mask n mark l) (λ e.
+    points-cond (eqb t 6) (λ e. points-plusMinus mask n mark l) (λ e.
     points-located mask n (at-most-320 n l)))))))
 
 -- the tool is decided by the prefix, so within the first octet and the next
