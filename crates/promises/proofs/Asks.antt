@@ -3,13 +3,13 @@
 use Prim.Native.Nat.{ℕ, zero, suc, _+_, _*_, _-_, _^_, _/_, _≤_, _<_, max}
 use native.Mathlib.Omega.{arith}
 use native.Mathlib.Nat.{add-mul, one-mul, mul-one, mul-le-mul-left, mul-le-mul-right, mul-le-mul, mul-suc}
-use mathlib.Core.Path.{_≡_, refl, sym, ap, subst, _∙_}
-use mathlib.Core.List.{List, [], _∷_, _++_, map, append-nil}
+use mathlib.Core.Path.{_≡_, refl, sym, ap, _∙_}
+use mathlib.Core.List.{List, [], _∷_, _++_, map}
 use mathlib.Core.Bool.{Bool, true, false, cond, not, _&&_}
-use lib.ListN.{length, getD, take, drop, replicate, length-replicate, length-map, length-drop}
+use lib.ListN.{length, getD, take, drop, replicate, length-map, length-drop}
 use lib.Dec.{eqb, leb, ltb}
 use lib.Pow.{shr-le}
-use borrow.Author.Tests.{ltb-true, ltb-false, leb-true, eqb-true, eqb-false, not-true}
+use borrow.Author.Tests.{ltb-false, leb-true, eqb-true, eqb-false, not-true}
 use Rattle.rules.specs.declared.Refusal.{Refusal}
 use Rattle.rules.specs.declared.Refusal.the-variants.{Short, Prefix, Run, Place, Method, Case, Align, Tool, Room, Law, Set, Long}
 use Rattle.rules.specs.declared.Ending.the-variants.{Refused}
@@ -31,7 +31,7 @@ use Rattle.rules.proofs.Accepted.{gives-body}
 use Rattle.rules.proofs.Laid.{empty-all, lay-count}
 use Rattle.rules.proofs.Each.{Each, nothing, next}
 use Rattle.rules.proofs.Signed.{LawMask, law-mask}
-use Rattle.promises.proofs.Reach.{never, Near, near-bit, near-more}
+use Rattle.promises.proofs.Reach.{never, near-bit, near-more}
 use Rattle.promises.proofs.Rows.{few-values}
 use Rattle.promises.proofs.Methods.{ones}
 use Rattle.promises.proofs.Bounded.{Costs, costs-near, near-numberFrom, near-bitsFrom, costs-rice, costs-runs, costs-method, width-most, depth, near-tree, tree-depth, tree-leaves, at-most-320, costs-six, costs-other, plain}

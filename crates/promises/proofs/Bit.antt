@@ -1,17 +1,17 @@
 -- R-7: which bit a refusal names, so that a cut is told from a flipped bit.
 -- Main statements: `read-bit`, `short-bit`, `walk-bit`, `walk-short` (where the bit stands); `stays-refused`, `hangs-on` (what a refusal hangs on);
 -- `cut-short`, `walk-cut` (what a cut makes of an accepted frame, and of a stream).
-use Prim.Native.Nat.{ℕ, zero, suc, _+_, _*_, _-_, _≤_, _<_}
+use Prim.Native.Nat.{ℕ, _+_, _*_, _-_, _≤_, _<_}
 use native.Mathlib.Omega.{arith}
 use mathlib.Core.Path.{_≡_, refl, sym, ap, subst, _∙_}
 use mathlib.Core.List.{List, [], _∷_, _++_, append-nil}
-use mathlib.Core.Bool.{Bool, true, false, cond, not, _&&_}
+use mathlib.Core.Bool.{Bool, true, false, cond, not}
 use lib.ListN.{length, getD, take, drop, length-drop, take-append-drop}
 use lib.Seq.{length-take-le, drop-append-le}
 use lib.Dec.{eqb, leb}
 use borrow.Author.Tests.{leb-true, leb-false}
 use Rattle.rules.specs.declared.Refusal.{Refusal}
-use Rattle.rules.specs.declared.Refusal.the-variants.{Short, Prefix, Law, Set, Long}
+use Rattle.rules.specs.declared.Refusal.the-variants.{Short, Law, Set, Long}
 use Rattle.rules.specs.declared.Ending.the-variants.{Done, Refused}
 use Rattle.rules.specs.Tools.{isSet, isLaw, isLength}
 use Rattle.rules.specs.Bits.{bitsOf, valueFrom}
@@ -19,7 +19,7 @@ use Rattle.rules.specs.Samples.{maskOf}
 use Rattle.rules.specs.Reading.{Read, whole, refuse, Reader, andThen, _>>=_, give, fail, bit, number}
 use Rattle.rules.specs.First.{First, unassigned, pad, tool, sixOrEight, firstOctet, markAt, sixNotEight}
 use Rattle.rules.specs.Frame.{Found, octetsUsed, withTool, afterFirst, frame, readOne}
-use Rattle.rules.specs.Walk.{Delivered, Walked, stopped, before, walkAll, octetsKept, samplesKept}
+use Rattle.rules.specs.Walk.{Delivered, Walked, stopped, before, walkAll, samplesKept}
 use Rattle.rules.proofs.Octets.{Below, length-bitsOf, bitsOf-append, bitsOf-below, below-take}
 use Rattle.rules.proofs.Accepted.{read-accepts}
 use Rattle.rules.proofs.Tests.{and-right}
@@ -28,8 +28,8 @@ use Rattle.promises.proofs.Reach.{never}
 use Rattle.promises.proofs.Further.{Goes, short, same, nothing-short, bit-there, mark-first, read-goes, looks-no-further}
 use Rattle.promises.proofs.Bounded.{plain, first-plain}
 use Rattle.promises.proofs.Walks.{WalkOf, ended, refused, delivers, uses, Walkable, walk-all-of, walk-all-only}
-use Rattle.promises.proofs.Refused.{cut-at, RefusedAt, refused-walk, Begins, walkable, unlawful, no-set, too-long, walk-begins}
-use Rattle.promises.proofs.Points.{BitOf, reach, Says, Past, Points, Between, earlier, same-refusal, same-bit, points-withTool, points-sixNotEight}
+use Rattle.promises.proofs.Refused.{cut-at, refused-walk, Begins, walkable, unlawful, no-set, too-long, walk-begins}
+use Rattle.promises.proofs.Points.{BitOf, reach, Says, Past, Between, earlier, same-refusal, points-withTool, points-sixNotEight}
 
 -- the length that a first octet has
 plain-length : (t n : ℕ) → plain (tool t n) ≡ true → isLength n ≡ true

@@ -2,7 +2,7 @@
 -- Main statements: `points-body`, `points-withTool`.
 use Prim.Native.Nat.{ℕ, zero, suc, _+_, _*_, _-_, _^_, _≤_, _<_}
 use native.Mathlib.Omega.{arith}
-use mathlib.Core.Path.{_≡_, refl, sym, ap, subst, _∙_}
+use mathlib.Core.Path.{_≡_, refl, sym, subst, _∙_}
 use mathlib.Core.List.{List, [], _∷_, _++_, map}
 use mathlib.Core.Bool.{Bool, true, false, cond, not, _&&_}
 use lib.ListN.{length, getD, replicate, length-append, length-replicate}
@@ -12,17 +12,17 @@ use Rattle.rules.specs.declared.Refusal.{Refusal}
 use Rattle.rules.specs.declared.Refusal.the-variants.{Short, Prefix, Tool, Room, Case, Method, Run, Place, Align, Length, Set, Law, Long}
 use Rattle.rules.specs.Tools.{holds, isLength}
 use Rattle.rules.specs.Bits.{fillFor}
-use Rattle.rules.specs.Reading.{Read, whole, refuse, Reader, andThen, _>>=_, give, fail, here, bit, numberFrom, number, bitsFrom, octetsAfter, filled}
+use Rattle.rules.specs.Reading.{Read, whole, refuse, Reader, andThen, _>>=_, give, fail, here, bit, numberFrom, bitsFrom, octetsAfter, filled}
 use Rattle.rules.specs.Samples.{sampleOf, plusZero, minusZero}
 use Rattle.rules.specs.Runs.{zerosFrom, rice, runsFrom}
 use Rattle.rules.specs.Zeros.{Tree, leaf, fork, treeOf, readTree, zeroOf, plusMinus}
 use Rattle.rules.specs.Located.{widthOf, listedFrom, listed, byMethod, emptyIn, lay, valuesInto, valuesOf, located}
 use Rattle.rules.specs.First.{sixNotEight}
-use Rattle.rules.specs.Frame.{Found, body, withTool}
+use Rattle.rules.specs.Frame.{body, withTool}
 use Rattle.rules.proofs.Accepted.{Steps, through, steps, number-next}
 use Rattle.rules.proofs.Gives.{Leaves}
 use Rattle.rules.proofs.Laid.{empty-most, length-lay}
-use Rattle.promises.proofs.Reach.{never, place-of, value-of, Far, far-bit, far-then, Near, near-give, near-fail, near-here, near-bit, near-then, near-cond, near-more}
+use Rattle.promises.proofs.Reach.{never, value-of, Far, far-bit, far-then, Near, near-give, near-fail, near-here, near-bit, near-then, near-cond, near-more}
 use Rattle.promises.proofs.Further.{Goes, short, same, Firm, firm-give, firm-bind, firm-cond, firm-here, firm-bit, firm-numberFrom, firm-bitsFrom, firm-zerosFrom, firm-rice, firm-runsFrom, firm-readTree, firm-byMethod, firm-body, far-firm}
 use Rattle.promises.proofs.Bounded.{near-numberFrom, width-most, tree-leaves, at-most-320}
 

@@ -5,7 +5,7 @@ use mathlib.Core.List.{List, [], _∷_, _++_}
 use lib.ListN.{length, replicate}
 use Rattle.rules.specs.declared.Refusal.the-variants.{Short, Tool, Run, Place}
 use Rattle.rules.specs.Bits.{lowBits, bitsOf, valueFrom, octetsFrom, pack}
-use Rattle.rules.specs.Reading.{refuse, bit, numberFrom, bitsFrom, filled}
+use Rattle.rules.specs.Reading.{refuse, bit, numberFrom, filled}
 use Rattle.rules.specs.First.{rows, lookUp, firstOctet, sixNotEight, riceCode, baseOf}
 use Rattle.rules.specs.Samples.{sampleOf, signed}
 use Rattle.rules.specs.Tools.{holds}
