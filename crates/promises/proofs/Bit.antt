@@ -124,6 +124,21 @@ pub walk-short : (octets : List ℕ) (law set room : ℕ) → walkAll octets law
     → walkAll octets law set room .bit ≡ 8 * (length octets - walkAll octets law set room .place)
 walk-short octets law set room e = walk-bit octets law set room Short e
 
+-- a walk that ended clean names no bit
+done-bit : {octets : List ℕ} {law set at room : ℕ} {w : Walked} → WalkOf octets law set at room w → w .end ≡ Done → w .bit ≡ 0
+done-bit (ended h) e = refl
+done-bit (refused h d) e = let z : _≡_ {A = ℕ} 0 1 = cc in absurd (omega arith)
+done-bit (delivers h d t) e = done-bit t e
+
+pub walk-done : (octets : List ℕ) (law set room : ℕ) → walkAll octets law set room .end ≡ Done → walkAll octets law set room .bit ≡ 0
+walk-done octets law set room e = go (walk-begins octets law set room)
+  where
+    go : Begins octets law set (walkAll octets law set room) → walkAll octets law set room .bit ≡ 0
+    go (walkable t) = done-bit (walk-all-of octets law set room t) e
+    go (unlawful l d) = rw d refl
+    go (no-set l d) = rw d refl
+    go (too-long l d) = rw d refl
+
 -- Whatever follows, a refusal other than SHORT stays, and its bit: so it is not a cut
 pub stays-refused : (x y : List ℕ) (law set room : ℕ) (w : Refusal) (at : ℕ) → readOne x law set room ≡ refuse w at → (w ≡ Short → ⊥)
     → readOne (x ++ y) law set room ≡ refuse w at
