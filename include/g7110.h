@@ -69,7 +69,7 @@ enum {
     G7110_CASE = 5,    /* range case or flag not allowed */
     G7110_METHOD = 6,  /* method 110 */
     G7110_RUN = 7,     /* run longer than the places left */
-    G7110_PLACE = 8,   /* listed place not below D or not rising, or no place left for zero */
+    G7110_PLACE = 8,   /* listed place not below D or not rising; also where no place is left to list (D = 0) */
     G7110_ALIGN = 9,   /* a filling bit isn't 0 */
     G7110_LENGTH = 10, /* writer given other than 0, 40, 80, 160, 240, 320 samples */
     G7110_SET = 11,    /* set above 127, or even for a writer */

@@ -105,7 +105,7 @@ impl fmt::Display for Refusal {
             Refusal::Case => "the range case or its flag is not allowed",
             Refusal::Method => "there is no method 110",
             Refusal::Run => "a run is longer than the places left",
-            Refusal::Place => "a listed place is too great or does not rise, or no place is left for zero",
+            Refusal::Place => "a listed place is too great or does not rise",
             Refusal::Align => "a filling bit is not 0",
             Refusal::Length => "a frame has 0, 40, 80, 160, 240 or 320 samples",
             Refusal::Set => "the tool set is above 127, or even for a writer",

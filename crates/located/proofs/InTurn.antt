@@ -88,7 +88,7 @@ module _ (s : List ℕ) (at n z : ℕ) (xs : List ℕ) (count : ℕ) (some : 0 <
       ≡ andThen r (λ flags j. valuesInto n z (drop 1 (take count xs)) (lay z (getD xs 0 0) flags 0 (replicate n z)) (bitsOf s) j)
   first-step e =
       ap (λ (l : List ℕ). valuesInto n z l (replicate n z) (bitsOf s) at) (next-value xs count 0 some k)
-      ∙ values-step s n z (getD xs 0 0) (drop 1 (take count xs)) (replicate n z) at apart ∙ rw (empty-all z n, e)
+      ∙ values-step s n z (getD xs 0 0) (drop 1 (take count xs)) (replicate n z) at ∙ rw (empty-all z n, e)
 
   pub first-refused : {w : Refusal} {b : ℕ} → flagsOf n n (bitsOf s) at ≡ refuse w b → valuesInto n z (take count xs) (replicate n z) (bitsOf s) at ≡ refuse w b
   first-refused e = first-step e
@@ -155,7 +155,7 @@ module _ {s : List ℕ} {at n z : ℕ} {xs : List ℕ} {count : ℕ} {old cells 
         ≡ andThen r (λ flags j. valuesInto n z (drop (done + 1) (take count xs)) (lay z (getD xs done 0) flags 0 (take n cells)) (bitsOf s) j)
     turn-step e =
         g .so-far ∙ ap (λ (l : List ℕ). valuesInto n z l (take n cells) (bitsOf s) place) (next-value xs count done h k)
-        ∙ values-step s n z (getD xs done 0) (drop (done + 1) (take count xs)) (take n cells) place apart ∙ rw (← g .empty, e)
+        ∙ values-step s n z (getD xs done 0) (drop (done + 1) (take count xs)) (take n cells) place ∙ rw (← g .empty, e)
 
     pub in-turn-refused : {far : ℕ} {w : Refusal} {b : ℕ} → flagsOf n left (bitsOf s) place ≡ refuse w b
         → LaysCells (valuesInto n z (drop 1 (take count xs)) (take n old) (bitsOf s) at) n far old cells (Refused w b)

@@ -5,16 +5,14 @@ use mathlib.Core.List.{List, []}
 use native.Mathlib.Omega.{arith}
 use lib.ListN.{length, replicate}
 use borrow.Author.Tests.{eq-eqb, ne-eqb, le-leb, lt-leb}
-use Rattle.rules.specs.declared.Refusal.{Refusal}
-use Rattle.rules.specs.declared.Refusal.the-variants.{Method, Place}
+use Rattle.rules.specs.declared.Refusal.the-variants.{Method}
 use Rattle.rules.specs.Reading.{Read, whole, refuse, numberFrom, bitsFrom}
 use Rattle.rules.specs.Runs.{runsFrom}
 use Rattle.rules.specs.Located.{listed, byMethod}
 use Rattle.rules.specs.Chooses.{countOf}
 use Rattle.bits.specs.declared.Outcome.{Outcome}
 use Rattle.bits.specs.declared.Outcome.the-variants.{Got, Refused}
-use Rattle.runs.specs.Flagged.{marked, Put, MarksCells}
-use Rattle.runs.proofs.Answer.{Marks-as, marks-got, marks-refused}
+use Rattle.runs.specs.Flagged.{Put, MarksCells}
 use Rattle.runs.proofs.Marking.{marking-none, marking-all, marks-filled}
 use Rattle.located.specs.Valued.{flagsOf}
 
@@ -46,20 +44,7 @@ module _ (n d start m : ℕ) (bits : List ℕ) (at : ℕ) where
   unfolding byMethod
   method-listed h = rw (ne-eqb m 0 (λ e. omega arith), lt-leb m 4 (omega arith), ne-eqb m 5 (λ e. omega arith), ne-eqb m 6 (λ e. omega arith))
 
--- a value's method is read
-module _ (bits : List ℕ) (at n d : ℕ) {m first : ℕ} (e : numberFrom 0 3 bits at ≡ whole m first) where
-  pub method-refused : {w : Refusal} {b : ℕ} → byMethod n d at m bits first ≡ refuse w b → flagsOf n d bits at ≡ refuse w b
-  unfolding flagsOf
-  method-refused f = rw (e, f)
-
-  module _ {far common other count next : ℕ} {old new : List ℕ} (t : Marks-as (byMethod n d at m bits first) d far common other old new count next) where
-    -- "after each value at least one place must be left"
-    pub none-left : d ≤ count → flagsOf n d bits at ≡ refuse Place next
-    unfolding flagsOf
-    none-left h = let o = t .ones in rw (e, t .says, le-leb d (marked (t .flags)) (omega arith))
-
-    pub some-left : {most : ℕ} → count < d → d ≤ 320 → length old ≡ 320 → far ≤ most → MarksCells (flagsOf n d bits at) d most common other old new (Got count next)
-    unfolding flagsOf
-    some-left h k b f =
-        let o = t .ones in
-        marks-got (rw (e, t .says, lt-leb d (marked (t .flags)) (omega arith))) (t .ones) (t .size) (t .below) (t .made) k b (let x = t .next in omega arith)
+-- a value's method is read, and then its flags
+pub method-read : (bits : List ℕ) (at n d : ℕ) {m first : ℕ} → numberFrom 0 3 bits at ≡ whole m first → flagsOf n d bits at ≡ byMethod n d at m bits first
+unfolding flagsOf
+method-read bits at n d e = rw e

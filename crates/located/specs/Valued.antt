@@ -4,24 +4,20 @@ use mathlib.Core.Path.{_≡_}
 use mathlib.Core.List.{List, [], _∷_, _++_}
 use mathlib.Core.Bool.{cond, false}
 use lib.ListN.{length, getD, take, drop}
-use lib.Dec.{eqb, leb}
-use Rattle.rules.specs.declared.Refusal.the-variants.{Place}
-use Rattle.rules.specs.Reading.{Read, whole, refuse, Reader, _>>=_, give, fail, here, number}
+use lib.Dec.{eqb}
+use Rattle.rules.specs.Reading.{Read, whole, refuse, Reader, _>>=_, here, number}
 use Rattle.rules.specs.Located.{byMethod}
 use Rattle.bits.specs.declared.Outcome.{Outcome}
 use Rattle.bits.specs.declared.Outcome.the-variants.{Got, Refused}
 use Rattle.bits.specs.Outcomes.{nextOf}
-use Rattle.runs.specs.Flagged.{marked}
 use Rattle.located.specs.declared.Row.{Row}
 
--- the D flags of a value: "after each value at least one place must be left"
+-- the D flags of a value
 unfoldable pub flagsOf : ℕ → ℕ → Reader (List ℕ)
 flagsOf n d = do
   start ← here
   m ← number 3
-  flags ← byMethod n d start m
-  end ← here
-  cond (leb d (marked flags)) (fail Place end) (give flags)
+  byMethod n d start m
 
 -- marks from place p on, put into the empty cells in turn
 unfoldable pub fillIn : ℕ → List ℕ → ℕ → List ℕ → List ℕ

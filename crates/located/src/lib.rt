@@ -126,7 +126,8 @@ fn by_method(
     listed(octets, at, d, cells, common, other)
 }
 
-// One value: its method, its flags, and at least one of the D places must be left. The answer is the number of its places and the next place.
+// One value: its method and its flags, which may fill every place that was left. The answer is the number of its places and the next place.
+// Document 02, R-4: where D is 0 no method but 111 reads a bit, and a listed place is PLACE.
 fn value(
     octets: &[u8],
     at: usize,
@@ -141,15 +142,7 @@ fn value(
 {
     match bits::number(octets, at, 3) {
         Outcome::Refused(why, bit) => Outcome::Refused(why, bit),
-        Outcome::Got(m, first) => match by_method(octets, first, n, d, m, at, cells, plus, x) {
-            Outcome::Refused(why, bit) => Outcome::Refused(why, bit),
-            Outcome::Got(count, next) => {
-                if d <= count {
-                    return Outcome::Refused(Refusal::Place, next);
-                }
-                Outcome::Got(count, next)
-            }
-        },
+        Outcome::Got(m, first) => by_method(octets, first, n, d, m, at, cells, plus, x),
     }
 }
 

@@ -196,10 +196,8 @@ asks-values n z cells (next {x = x} {s = xs} g t) h =
     (pays (0 + 3) (d * 5 + n + 38) most (omega arith) (asks-method n d start m h)) (λ flags f.
     let left = lay-count z x flags cells (not-true (eqb x z) g) (f .size) in
     let spent = 0 + 3 + (38 + d + 5 * ones flags) in
-    asks-here spent most (λ end.
-    asks-cond (eqb (emptyIn z (lay z x flags 0 cells)) 0) (λ q. asks-fail spent most Place end (is-not Place (omega arith))) (λ q.
     pays spent (length xs * 361 + 5 * emptyIn z (lay z x flags 0 cells) + n + 41) most (omega arith)
-    (asks-values n z (lay z x flags 0 cells) t (omega arith)))))))
+    (asks-values n z (lay z x flags 0 cells) t (omega arith)))))
 
 asks-located : {mask : ℕ} → LawMask mask → (n : ℕ) → n ≤ 320 → Asks 0 3047 (located mask n)
 unfolding located

@@ -222,11 +222,9 @@ costs-values n z cells (next {x = x} {s = xs} g t) h =
     costs-here 0 (λ r. total) (λ start.
     costs-then 0 (λ m. 3) (λ m. 3) (λ m r. total) 0 (λ r. total) (gives-number 3) (costs-near 3 (near-numberFrom 0 3))
     (λ m q. costs-then 0 (λ flags. 38 + d + 5 * ones flags) (λ flags. 41 + d + 5 * ones flags) (λ flags r. total) 3 (λ r. total) (gives-byMethod n d start m) (costs-method n d start m h)
-    (λ flags f. costs-here (41 + d + 5 * ones flags) (λ r. total) (λ end.
-    let left = lay-count z x flags cells (not-true (eqb x z) g) (f .size) in
-    costs-cond (eqb (emptyIn z (lay z x flags 0 cells)) 0) (λ q. costs-fail (41 + d + 5 * ones flags) (λ r. total) Place end)
-    (λ q. paid (41 + d + 5 * ones flags) (length xs * 361 + 5 * emptyIn z (lay z x flags 0 cells)) total (omega arith)
-    (costs-values n z (lay z x flags 0 cells) t (omega arith)))))
+    (λ flags f. let left = lay-count z x flags cells (not-true (eqb x z) g) (f .size) in
+    paid (41 + d + 5 * ones flags) (length xs * 361 + 5 * emptyIn z (lay z x flags 0 cells)) total (omega arith)
+    (costs-values n z (lay z x flags 0 cells) t (omega arith)))
     (λ flags r f. omega arith))
     (λ m r q. omega arith))
 

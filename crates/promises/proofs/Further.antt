@@ -149,8 +149,8 @@ pub firm-valuesInto : (n z : ℕ) (xs cells : List ℕ) → Firm (valuesInto n z
 unfolding valuesInto
 firm-valuesInto n z [] cells = firm-give cells
 firm-valuesInto n z (x ∷ xs) cells =
-    firm-bind firm-here (λ start. firm-bind (firm-numberFrom 0 3) (λ m. firm-bind (firm-byMethod n (emptyIn z cells) start m) (λ flags. firm-bind firm-here (λ end.
-    firm-cond (eqb (emptyIn z (lay z x flags 0 cells)) 0) (firm-fail Place end) (firm-valuesInto n z xs (lay z x flags 0 cells))))))
+    firm-bind firm-here (λ start. firm-bind (firm-numberFrom 0 3) (λ m. firm-bind (firm-byMethod n (emptyIn z cells) start m) (λ flags.
+    firm-valuesInto n z xs (lay z x flags 0 cells))))
 
 pub firm-located : (mask n : ℕ) → Firm (located mask n)
 unfolding located

@@ -9,6 +9,8 @@ pub mod Forms
 pub mod Written
 pub mod Reach
 pub mod Further
+pub mod OldReader
+pub mod Stays
 pub mod Walks
 pub mod Refused
 pub mod Nesting

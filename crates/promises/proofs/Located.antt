@@ -6,10 +6,8 @@ use mathlib.Core.List.{List, [], _∷_, _++_, append-assoc}
 use mathlib.Core.Bool.{Bool, true, false, cond, not, _||_}
 use lib.ListN.{length, getD, replicate, length-map}
 use lib.Dec.{eqb}
-use borrow.Author.Tests.{eq-eqb, ne-eqb, eqb-true, eqb-false, not-true}
+use borrow.Author.Tests.{eq-eqb, eqb-true, not-true}
 use Rattle.rules.specs.Bits.{lowBits}
-use Rattle.rules.specs.Reading.{fail}
-use Rattle.rules.specs.declared.Refusal.the-variants.{Place}
 use Rattle.rules.specs.Located.{emptyIn, lay, valuesInto}
 use Rattle.rules.specs.Chooses.{flagsFor, without, methodOf, methodForm, valueForm, valuesForm}
 use Rattle.rules.proofs.Octets.{Below}
@@ -80,28 +78,10 @@ each-without z x xs (next {x = y} {s = left} h t) = step (eqb y x) h (each-witho
     step true g u = u
     step false g u = next g u
 
--- a zero is among what is left
-pub data Has (z : ℕ) : List ℕ → Type 0 where
-  first : {l : List ℕ} → Has z (z ∷ l)
-  later : {a : ℕ} {l : List ℕ} → Has z l → Has z (a ∷ l)
-
-has-some : {z : ℕ} {l : List ℕ} → Has z l → 1 ≤ length l
-has-some first = omega arith
-has-some (later h) = omega arith
-
-has-without : {z : ℕ} (x : ℕ) {l : List ℕ} → eqb z x ≡ false → Has z l → Has z (without x l)
-unfolding without
-has-without x e first = rw (e, without) first
-has-without {z} x e (later {a = a} {l = l} h) = step (eqb a x) (has-without x e h)
-  where
-    step : (b : Bool) → Has z (without x l) → Has z (elim b [ true ↦ without x l | false ↦ a ∷ without x l ])
-    step true u = u
-    step false u = later u
-
 pub value-flags-below : (x : ℕ) (left : List ℕ) → Below 2 (flagsFor x left)
 value-flags-below x left = below-map (λ y. cond (eqb y x) 1 0) (λ y. pick-below (eqb y x) 1 0 (omega arith) (omega arith)) left
 
-without-le : (x : ℕ) (left : List ℕ) → length (without x left) ≤ length left
+pub without-le : (x : ℕ) (left : List ℕ) → length (without x left) ≤ length left
 unfolding without
 without-le x [] = omega arith
 without-le x (y ∷ left) = step (eqb y x) (without-le x left)
@@ -112,30 +92,21 @@ without-le x (y ∷ left) = step (eqb y x) (without-le x left)
 
 -- a value, and then the rest
 value-step : (n z x : ℕ) (xs flags cells : List ℕ) {b s : List ℕ} → Below 2 flags → length flags ≡ emptyIn z cells → length flags ≤ n
-    → 1 ≤ emptyIn z (lay z x flags 0 cells) → Back (valuesInto n z xs (lay z x flags 0 cells)) b s
-    → Back (valuesInto n z (x ∷ xs) cells) (valueForm flags ++ b) s
+    → Back (valuesInto n z xs (lay z x flags 0 cells)) b s → Back (valuesInto n z (x ∷ xs) cells) (valueForm flags ++ b) s
 unfolding valuesInto valueForm
-value-step n z x xs flags cells {b} {s} low e l h t =
+value-step n z x xs flags cells {b} low e l t =
     let m = methodOf flags in
     let fits = fits-chosen flags in
-    let on : (end : ℕ) → Back (cond (eqb (emptyIn z (lay z x flags 0 cells)) 0) (fail Place end) (valuesInto n z xs (lay z x flags 0 cells))) b s
-    = λ end. rw (ne-eqb (emptyIn z (lay z x flags 0 cells)) 0 (omega arith)) t in
     rw (← e) (back-here _ (λ start. back-as
-    (back-bind _ _ (back-number 3 m (fits-small fits))
-    (back-bind _ _ (back-method n start flags low l fits) (back-here _ on)))
+    (back-bind _ _ (back-number 3 m (fits-small fits)) (back-bind _ _ (back-method n start flags low l fits) t))
     refl (sym (append-assoc (lowBits 3 m) (methodForm m flags) b)) refl))
 
 -- the values in turn
 pub back-values : (n z : ℕ) (xs : List ℕ) {left cells s : List ℕ} → Each (λ x. not (eqb x z)) xs → Fills z left cells s
-    → Each (λ y. eqb y z || among xs y) left → Has z left → length left ≤ n
-    → Back (valuesInto n z xs cells) (valuesForm xs left) s
+    → Each (λ y. eqb y z || among xs y) left → length left ≤ n → Back (valuesInto n z xs cells) (valuesForm xs left) s
 unfolding valuesInto valuesForm among
-back-values n z [] {left} {cells} nothing f e h l = back-as (back-give cells) refl refl (fills-end f (each-map (λ y g. or-false (eqb y z) g) e))
-back-values n z (x ∷ xs) {left} {cells} (next d ds) f e h l =
-    let apart : eqb x z ≡ false = not-true (eqb x z) d in
-    let out = fills-lay x apart f in
-    let some = has-without x (ne-eqb z x (λ g. eqb-false x z apart (sym g))) h in
+back-values n z [] {left} {cells} nothing f e l = back-as (back-give cells) refl refl (fills-end f (each-map (λ y g. or-false (eqb y z) g) e))
+back-values n z (x ∷ xs) {left} {cells} (next d ds) f e l =
     let i : length (flagsFor x left) ≡ length left = length-map left (λ y. cond (eqb y x) 1 0) in
     value-step n z x xs (flagsFor x left) cells (value-flags-below x left) (i ∙ sym (fills-empty f)) (omega arith)
-    (omega (arith, fills-empty out, has-some some))
-    (back-values n z xs ds out (each-without z x xs e) some (omega (arith, without-le x left)))
+    (back-values n z xs ds (fills-lay x (not-true (eqb x z) d) f) (each-without z x xs e) (omega (arith, without-le x left)))

@@ -293,9 +293,7 @@ points-values n z (x ∷ xs) cells h k =
     points-here (λ start. points-go start start 3 3 (firm-numberFrom 0 3) (far-number 0 3) (near-numberFrom 0 3) (points-numberFrom 0 3) (λ m.
     let places = points-method (start + 3) (start + 3) n d start m h (omega (arith, empty-most z cells)) (omega arith) (omega arith) in
     points-bind (firm-byMethod n d start m) places (λ flags.
-    points-here (λ end.
-    points-cond (eqb (emptyIn z (lay z x flags 0 cells)) 0) (λ t. points-fail end end Place end (λ n g. g) (omega arith)) (λ t.
-    points-values n z xs (lay z x flags 0 cells) h (omega (arith, length-lay z x flags 0 cells)))))))
+    points-values n z xs (lay z x flags 0 cells) h (omega (arith, length-lay z x flags 0 cells)))))
 
 -- "the range case": it and the flag have been read
 points-located : {W : ℕ → Type 0} (mask n : ℕ) → n ≤ 320 → Points W (located mask n)

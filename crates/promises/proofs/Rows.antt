@@ -20,7 +20,7 @@ use Rattle.rules.proofs.Signed.{InRange, LawMask, signed-range, told-by-line, s
 use Rattle.rules.proofs.Tests.{and-left, and-right, allBelow, allBelow-at}
 use Rattle.rules.proofs.Each.{pick-below, or-right, Each, nothing, next, all, each-all}
 use Rattle.promises.proofs.Back.{Back, back-bind, back-here, back-number}
-use Rattle.promises.proofs.Located.{Has, first, later, among, fills-start, back-values}
+use Rattle.promises.proofs.Located.{among, fills-start, back-values}
 
 -- a sample's place on the line
 abbrev line : ℕ → ℕ → ℕ
@@ -213,31 +213,6 @@ all-covered {mask} law s c b r =
     (allBelow-at (λ l. covers c flag l) 256 (two-at (λ c flag. allBelow (λ l. covers c flag l) 256) rows-cover c flag (r .small) (flag-small mask s)) (line mask x) (on-line (signed mask x) (signed-range mask x)))
     (rw (flag-fits mask s c r, le-leb low (line mask x) p, le-leb (line mask x) high q) refl)))
 
--- some sample is 0
-count-has : (z : ℕ) (s : List ℕ) → 1 ≤ countOf (λ x. eqb x z) s → Has z s
-unfolding countOf
-count-has z [] h = absurd (omega arith)
-count-has z (x ∷ s) h = step (eqb x z) (eqb-true x z) h (count-has z s)
-  where
-    step : (b : Bool) → (b ≡ true → x ≡ z) → 1 ≤ cond b 1 0 + countOf (λ x. eqb x z) s → (1 ≤ countOf (λ x. eqb x z) s → Has z s) → Has z (x ∷ s)
-    step true e g k = rw (e refl) first
-    step false e g k = later (k (omega arith))
-
-has-led : (mask x : ℕ) (s : List ℕ) (v : ℤ) → x ≡ sampleOf mask v → zeroLeads mask (x ∷ s) v ≡ true → Has (plusZero mask) (x ∷ s)
-unfolding countOf
-has-led mask x s v e h =
-    let n = countOf (λ y. eqb y (sampleOf mask v)) s in
-    let o : 1 ≤ countOf (λ y. eqb y (sampleOf mask v)) (x ∷ s) = rw (eq-eqb x (sampleOf mask v) e) (omega arith) in
-    count-has (plusZero mask) (x ∷ s) (omega (arith, leb-true (countOf (λ y. eqb y (sampleOf mask v)) (x ∷ s)) (countOf (λ y. eqb y (plusZero mask)) (x ∷ s)) h))
-
-has-zero : {mask : ℕ} → LawMask mask → (x : ℕ) (s : List ℕ) → x < 256 → 126 ≤ line mask x → line mask x ≤ 129
-    → zeroLeads mask (x ∷ s) (pos 1) ≡ true → zeroLeads mask (x ∷ s) (negsuc 0) ≡ true → zeroLeads mask (x ∷ s) (negsuc 1) ≡ true
-    → Dec (line mask x ≡ 126) → Dec (line mask x ≡ 127) → Dec (line mask x ≡ 128) → Has (plusZero mask) (x ∷ s)
-has-zero {mask} l x s h a b p q r (yes e) d f = has-led mask x s (negsuc 1) (told l x h (negsuc 1) (omega arith) e) r
-has-zero {mask} l x s h a b p q r (no c) (yes e) f = has-led mask x s (negsuc 0) (told l x h (negsuc 0) (omega arith) e) q
-has-zero {mask} l x s h a b p q r (no c) (no d) (yes e) = rw (told l x h (pos 0) (omega arith) e) first
-has-zero {mask} l x s h a b p q r (no c) (no d) (no e) = has-led mask x s (pos 1) (told l x h (pos 1) (omega arith) (omega arith)) p
-
 -- "value-location if N is 80 or more, least and greatest are a row's, N fits it, and no value is more frequent than 0"
 pub record Locates (mask : ℕ) (s : List ℕ) : Type 0 where
   pub long : 80 ≤ length s
@@ -265,21 +240,52 @@ locates mask s e =
       minusTwo = and-right (a && b && c && d) f e;
     }
 
-has-some-zero : {mask : ℕ} → LawMask mask → {s : List ℕ} → Below 256 s → Locates mask s → (c : ℕ) → IsRow mask s c → Has (plusZero mask) s
+-- "no value is more frequent than 0", so some sample is 0
+zero-led : (mask x : ℕ) (s : List ℕ) (v : ℤ) → x ≡ sampleOf mask v → zeroLeads mask (x ∷ s) v ≡ true → 1 ≤ countOf (λ y. eqb y (plusZero mask)) (x ∷ s)
+unfolding countOf
+zero-led mask x s v e h =
+    let o : 1 ≤ countOf (λ y. eqb y (sampleOf mask v)) (x ∷ s) = rw (eq-eqb x (sampleOf mask v) e) (omega arith) in
+    omega (arith, leb-true (countOf (λ y. eqb y (sampleOf mask v)) (x ∷ s)) (countOf (λ y. eqb y (plusZero mask)) (x ∷ s)) h)
+
+zero-first : (z x : ℕ) (s : List ℕ) → x ≡ z → 1 ≤ countOf (λ y. eqb y z) (x ∷ s)
+unfolding countOf
+zero-first z x s e = rw (eq-eqb x z e) (omega arith)
+
+zero-beside : {mask : ℕ} → LawMask mask → (x : ℕ) (s : List ℕ) → x < 256 → 126 ≤ line mask x → line mask x ≤ 129 → Locates mask (x ∷ s)
+    → Dec (line mask x ≡ 126) → Dec (line mask x ≡ 127) → Dec (line mask x ≡ 128) → 1 ≤ countOf (λ y. eqb y (plusZero mask)) (x ∷ s)
+zero-beside {mask} l x s h a b p (yes e) d f = zero-led mask x s (negsuc 1) (told l x h (negsuc 1) (omega arith) e) (p .minusTwo)
+zero-beside {mask} l x s h a b p (no c) (yes e) f = zero-led mask x s (negsuc 0) (told l x h (negsuc 0) (omega arith) e) (p .minusOne)
+zero-beside {mask} l x s h a b p (no c) (no d) (yes e) = zero-first (plusZero mask) x s (told l x h (pos 0) (omega arith) e)
+zero-beside {mask} l x s h a b p (no c) (no d) (no e) = zero-led mask x s (pos 1) (told l x h (pos 1) (omega arith) (omega arith)) (p .one)
+
+zero-in-row : {mask : ℕ} → LawMask mask → {s : List ℕ} → Below 256 s → Locates mask s → (c : ℕ) → IsRow mask s c → 1 ≤ countOf (λ y. eqb y (plusZero mask)) s
 unfolding leastOf greatestOf
-has-some-zero law none a c r = absurd (omega (arith, a .long))
-has-some-zero {mask} law (more {x = x} {l = s} h t) a c r =
+zero-in-row law none a c r = absurd (omega (arith, a .long))
+zero-in-row {mask} law (more {x = x} {l = s} h t) a c r =
     let low = leb 126 (onLine (caseOf c .least)) in
     let high = leb (onLine (caseOf c .greatest)) 129 in
     let narrow = allBelow-at (λ c. leb 126 (onLine (caseOf c .least)) && leb (onLine (caseOf c .greatest)) 129) 4 rows-narrow c (r .small) in
     let low′ = leb-true 126 (onLine (caseOf c .least)) (and-left low high narrow) in
     let high′ = leb-true (onLine (caseOf c .greatest)) 129 (and-right low high narrow) in
-    has-zero law x s h (omega (arith, r .least)) (omega (arith, r .greatest)) (a .one) (a .minusOne) (a .minusTwo)
+    zero-beside law x s h (omega (arith, r .least)) (omega (arith, r .greatest)) a
     (ℕ-discrete (line mask x) 126) (ℕ-discrete (line mask x) 127) (ℕ-discrete (line mask x) 128)
+
+pub zero-occurs : {mask : ℕ} → LawMask mask → {s : List ℕ} → Below 256 s → Locates mask s → 1 ≤ countOf (λ y. eqb y (plusZero mask)) s
+zero-occurs {mask} law {s} b a = zero-in-row law b a (rowOf mask s) (the-row mask s (a .row))
 
 row-values : (mask : ℕ) (s : List ℕ) (c flag : ℕ) → IsRow mask s c → valuesOf (length s) c flag ≡ values c flag
 unfolding valuesOf
 row-values mask s c flag r = rw (r .fits) refl
+
+-- none of its values is 0
+pub row-apart : {mask : ℕ} → LawMask mask → (s : List ℕ) → Locates mask s
+    → Each (λ x. not (eqb x (plusZero mask))) (map (sampleOf mask) (valuesOf (length s) (rowOf mask s) (locatedFlag mask s)))
+row-apart {mask} law s a =
+    let c = rowOf mask s in
+    let flag = locatedFlag mask s in
+    let r = the-row mask s (a .row) in
+    rw (row-values mask s c flag r)
+    (not-zeros law (each-all isValue (values c flag) (two-at (λ c flag. all isValue (values c flag)) rows-values c flag (r .small) (flag-small mask s))))
 
 -- Tool 7: "range case (2 bits), flag (1 bit), then the values below in turn"
 pub back-located : {mask : ℕ} → LawMask mask → (s : List ℕ) → Below 256 s → Locates mask s
@@ -298,7 +304,7 @@ back-located {mask} law s b a =
     let apart = not-zeros law (each-all isValue (values c flag) (two-at (λ c flag. all isValue (values c flag)) rows-values c flag (r .small) (flag-small mask s))) in
     let on : (start : ℕ) → Back (cond (eqb (length (valuesOf n c flag)) 0) (fail Case start) (valuesInto n z (map (sampleOf mask) (valuesOf n c flag)) (replicate n z)))
     (valuesForm (map (sampleOf mask) (valuesOf n c flag)) s) s
-    = λ start. rw (e, some) (back-values n z (map (sampleOf mask) (values c flag)) apart (fills-start z s) (all-covered law s c b r) (has-some-zero law b a c r) (omega arith)) in
+    = λ start. rw (e, some) (back-values n z (map (sampleOf mask) (values c flag)) apart (fills-start z s) (all-covered law s c b r) (omega arith)) in
     back-here _ (λ start. back-bind _ _ (back-number 2 c (r .small)) (back-bind _ _ (back-number 1 flag (flag-small mask s)) (on start)))
 
 -- whatever the row and the flag: three values at most, and none is 0

@@ -73,14 +73,14 @@ frames-of n samples h b e =
     (λ z. rw (eqb-true n 0 z) pad)
     (λ l. full (rw (length-take-le n samples h) l) (below-take n b))
 
-chosen-pad : (mask set : ℕ) → chosen mask set [] ≡ record { tool = 0; bits = lowBits 8 0 }
+pub chosen-pad : (mask set : ℕ) → chosen mask set [] ≡ record { tool = 0; bits = lowBits 8 0 }
 unfolding chosen
 chosen-pad mask set = refl
 
 length-not-zero : (n : ℕ) → isLength n ≡ true → n ≡ 0 → ⊥
 length-not-zero n l = by-length (λ n. n ≡ 0 → ⊥) (omega arith) (omega arith) (omega arith) (omega arith) (omega arith) n l
 
-chosen-full : (mask set : ℕ) (s : List ℕ) → isLength (length s) ≡ true
+pub chosen-full : (mask set : ℕ) (s : List ℕ) → isLength (length s) ≡ true
     → chosen mask set s ≡ record { tool = chosenTool mask set s; bits = formOf mask (chosenTool mask set s) s }
 unfolding chosen
 chosen-full mask set s l = rw (ne-eqb (length s) 0 (length-not-zero (length s) l)) refl

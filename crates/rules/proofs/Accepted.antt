@@ -21,11 +21,11 @@ use Rattle.rules.specs.Samples.{maskOf, sampleOf, plusZero, minusZero}
 use Rattle.rules.specs.Zeros.{zeroOf, Tree, leaf, fork, treeOf}
 use Rattle.rules.specs.Located.{RangeCase, case0, case1, case2, case3, caseOf, rowValues, valuesOf, located}
 use Rattle.rules.specs.Frame.{Found, octetsUsed, body, withTool, afterFirst, frame, readOne}
-use Rattle.rules.proofs.Octets.{Below, none, more, below-replicate, bitsOf-below, length-bitsOf}
+use Rattle.rules.proofs.Octets.{Below, none, more, Sized, below-replicate, bitsOf-below, length-bitsOf}
 use Rattle.rules.proofs.Tests.{and-left, and-right, or-cases}
 use Rattle.rules.proofs.Signed.{InRange, LawMask, law-mask}
 use Rattle.rules.proofs.Firsts.{asWritten, first-as-written}
-use Rattle.rules.proofs.Gives.{Gives, gives-give, gives-fail, gives-here, gives-bit, gives-bind, gives-cond, gives-as, gives-number, Sized, gives-bitsFrom, gives-octetsAfter, gives-runsFrom, Leaves, gives-readTree, gives-valuesInto}
+use Rattle.rules.proofs.Gives.{Gives, gives-give, gives-fail, gives-here, gives-bit, gives-bind, gives-cond, gives-as, gives-number, gives-bitsFrom, gives-octetsAfter, gives-runsFrom, Leaves, gives-readTree, gives-valuesInto}
 
 -- what holds of the four rows of range cases holds of every case
 pub by-case : (P : RangeCase → Type 0) → P case0 → P case1 → P case2 → P case3 → (c : ℕ) → P (caseOf c)

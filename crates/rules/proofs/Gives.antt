@@ -18,7 +18,8 @@ use Rattle.rules.specs.First.{sixNotEight}
 use Rattle.rules.specs.Runs.{zerosFrom, rice, runsFrom}
 use Rattle.rules.specs.Zeros.{Tree, leaf, fork, treeOf, readTree}
 use Rattle.rules.specs.Located.{widthOf, listedFrom, listed, byMethod, emptyIn, lay, valuesInto}
-use Rattle.rules.proofs.Octets.{moved-up, Below, none, more, below-at, below-append, below-replicate}
+use Rattle.rules.proofs.Octets.{moved-up, Below, none, more, Sized, below-at, below-append, below-replicate}
+use Rattle.rules.proofs.Located.{lay-sized}
 use Rattle.rules.proofs.Tests.{and-left, and-right}
 
 pub record Gives {A : Type 0} (p : Reader A) (Q : A → Type 0) : Type 0 where
@@ -89,11 +90,6 @@ gives-numberFrom v (suc n) =
 
 pub gives-number : (n : ℕ) → Gives (number n) (λ x. x < 2 ^ n)
 gives-number n = gives-as (λ x l. rw (one-mul (2 ^ n)) at l) (gives-numberFrom 0 n)
-
--- a list of so many, all below m
-pub record Sized (m n : ℕ) (l : List ℕ) : Type 0 where
-  pub size : length l ≡ n
-  pub below : Below m l
 
 pub gives-bitsFrom : (done : List ℕ) (n : ℕ) → Below 2 done → Gives (bitsFrom done n) (Sized 2 (length done + n))
 unfolding bitsFrom
@@ -191,22 +187,7 @@ gives-byMethod n d start m =
     gives-cond (eqb m 6) (λ t. gives-fail Method start) (λ t.
     gives-bind (gives-number 2) (λ less h. gives-listedFrom (widthOf d) d [] (less + 1) zero-le none)))))
 
--- cells that are laid
-pub lay-sized : (z x : ℕ) (flags : List ℕ) (p : ℕ) {cells : List ℕ} → z < 256 → x < 256 → Below 256 cells
-    → Sized 256 (length cells) (lay z x flags p cells)
-unfolding lay
-lay-sized z x flags p g h none = record { size = refl; below = none }
-lay-sized z x flags p g h (more {x = y} {l = cells} k t) =
-    record {
-      size = ap suc (lay-sized z x flags _ g h t .size);
-      below = more (cell (eqb y z) (eqb (getD flags p 0) 1)) (lay-sized z x flags _ g h t .below);
-    }
-  where
-    cell : (b c : Bool) → cond b (cond c x z) y < 256
-    cell true true = h
-    cell true false = g
-    cell false c = k
-
+-- the values in turn
 pub gives-valuesInto : (n z : ℕ) {xs : List ℕ} (cells : List ℕ) → z < 256 → Below 256 xs → Below 256 cells
     → Gives (valuesInto n z xs cells) (Sized 256 (length cells))
 unfolding valuesInto
@@ -214,8 +195,6 @@ gives-valuesInto n z cells g none c = gives-give cells (record { size = refl; be
 gives-valuesInto n z cells g (more {x = x} {l = xs} h t) c =
     gives-bind gives-here (λ start u. gives-bind (gives-number 3) (λ m r.
     gives-bind (gives-byMethod n (emptyIn z cells) start m) (λ flags f.
-    gives-bind gives-here (λ end v.
-    gives-cond (eqb (emptyIn z (lay z x flags 0 cells)) 0) (λ q. gives-fail Place end) (λ q.
     let s = lay-sized z x flags 0 g h c in
     gives-as (λ l k. record { size = k .size ∙ s .size; below = k .below })
-    (gives-valuesInto n z (lay z x flags 0 cells) g t (s .below)))))))
+    (gives-valuesInto n z (lay z x flags 0 cells) g t (s .below)))))

@@ -6,6 +6,7 @@ pub mod Tests
 pub mod Signed
 pub mod Firsts
 pub mod Codes
+pub mod Located
 pub mod Gives
 pub mod Accepted
 pub mod Named

@@ -71,6 +71,11 @@ pub data Below (m : ℕ) : List ℕ → Type 0 where
   none : Below m []
   more : {x : ℕ} {l : List ℕ} → x < m → Below m l → Below m (x ∷ l)
 
+-- a list of so many, all below m
+pub record Sized (m n : ℕ) (l : List ℕ) : Type 0 where
+  pub size : length l ≡ n
+  pub below : Below m l
+
 pub below-at : {m : ℕ} {l : List ℕ} → Below m l → 0 < m → (i : ℕ) → getD l i 0 < m
 below-at none z i = z
 below-at (more h t) z zero = h

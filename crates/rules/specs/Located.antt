@@ -1,4 +1,4 @@
--- Document 01, "Tool 7" (value-location): its table, and how it is read. Its form hangs on what the writer chooses, and stands in Chooses.
+-- Document 01, "Tool 7" (value-location), as mended by document 02, R-4: its table, and how it is read. Its form hangs on what the writer chooses, and stands in Chooses.
 -- The cells of a frame are its samples: all begin as plus zero, and a cell that still is plus zero is empty.
 use Prim.Native.Nat.{ℕ, zero, suc, _+_, _-_, _^_}
 use mathlib.Core.List.{List, [], _∷_, _++_, map}
@@ -84,16 +84,15 @@ lay z x flags p [] = []
 lay z x flags p (y ∷ cells) =
     cond (eqb y z) (cond (eqb (getD flags p 0) 1) x z) y ∷ lay z x flags (cond (eqb y z) (p + 1) p) cells
 
--- the values in turn: "D is N for the first value, then the places still empty"; "after each value at least one place must be left"
+-- the values in turn: "D is N for the first value, then the places still empty". Document 02, R-4: nothing is asked of what is left.
+-- Where D is 0, methods 000 to 101 so read no bits and mean none, and 111 reads its two bits and is PLACE (proofs/Located).
 unfoldable pub valuesInto : ℕ → ℕ → List ℕ → List ℕ → Reader (List ℕ)
 valuesInto n z [] cells = give cells
 valuesInto n z (x ∷ xs) cells = do
   start ← here
   m ← number 3
   flags ← byMethod n (emptyIn z cells) start m
-  end ← here
-  cond (eqb (emptyIn z (lay z x flags 0 cells)) 0) (fail Place end)
-      (valuesInto n z xs (lay z x flags 0 cells))
+  valuesInto n z xs (lay z x flags 0 cells)
 
 -- "range case (2 bits), flag (1 bit), then the values below in turn"; CASE is judged of all three bits and N together
 unfoldable pub located : ℕ → ℕ → Reader (List ℕ)
