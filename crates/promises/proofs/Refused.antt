@@ -36,7 +36,7 @@ record Broken (octets : List ℕ) (law set at room : ℕ) (r : Refusal) (w : Wal
   octets-kept : at + octetsKept (w .frames) ≡ w .place
 
 -- the frame at a place is read from the octets up to any place behind it
-cut-at : (octets : List ℕ) (law set at p room : ℕ) {f : Found} {j : ℕ} → at + octetsUsed f ≤ p → p ≤ length octets
+pub cut-at : (octets : List ℕ) (law set at p room : ℕ) {f : Found} {j : ℕ} → at + octetsUsed f ≤ p → p ≤ length octets
     → readOne (drop at octets) law set room ≡ whole f j → readOne (drop at (take p octets)) law set room ≡ whole f j
 cut-at octets law set at p room {f} h k e =
     let l : length (take p octets) ≡ p = length-take-le p octets k in
