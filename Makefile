@@ -8,7 +8,7 @@ RUN_WITH ?= $(if $(filter x86_64,$(MACHINE)),,tools/x86-64)
 BIN ?= target/bin
 export CARGO_TARGET_DIR := $(CURDIR)/target/cargo
 
-.PHONY: help run test fuzz bench vectors archive fmt clean
+.PHONY: help run test archive vectors linked fuzz bench fmt clean
 
 help:
 	@echo 'make run     proves and builds the tools, packs, lists and unpacks a recording, and lists the example stream'
@@ -39,22 +39,25 @@ test:
 archive:
 	@$(RT) staticlib g7110
 
-fuzz: archive
-	@$(CARGO) run --release --offline --locked --quiet --package tests --bin fuzz
-
+# Compiled for x86-64 on any machine, and so on the shipped archive.
 vectors: archive
 	@$(CARGO) run --release --offline --locked --quiet --package tests --bin vectors_of -- "$(FOLDER)"
 
-# Times under an emulator say nothing, so on another machine the archive's module is compiled for that machine.
-bench: archive
+# Under an emulator fuzzing is slow and times say nothing, so on another machine the archive's module is compiled for that machine.
 ifeq ($(MACHINE),x86_64)
-	@cargo run --profile bench --offline --locked --quiet --package bench
+linked: archive
 else
+OWN := CARGO_TARGET_DIR=$(CURDIR)/target/native/cargo G7110_ARCHIVE=$(CURDIR)/target/native/libg7110.a
+linked:
 	@echo 'This machine is $(MACHINE): the proved code is the module of the archive, compiled for it.'
 	@tools/native
-	@CARGO_TARGET_DIR=$(CURDIR)/target/native/cargo G7110_ARCHIVE=$(CURDIR)/target/native/libg7110.a \
-		cargo run --profile bench --offline --locked --quiet --package bench
 endif
+
+fuzz: linked
+	@$(OWN) cargo run --release --offline --locked --quiet --package tests --bin fuzz
+
+bench: linked
+	@$(OWN) cargo run --profile bench --offline --locked --quiet --package bench
 
 fmt:
 	$(RT) fmt

@@ -19,6 +19,7 @@ mod pair;
 pub mod program;
 pub mod published;
 pub mod recordings;
+mod share;
 pub mod streams;
 mod table;
 pub mod tools;
@@ -28,6 +29,7 @@ pub use codec::{Codec, Proved, Read, Second, Walk, Write};
 pub use compare::{check, check_firsts, Compared};
 pub use notation::{bits, octets};
 pub use pair::Pair;
+pub use share::{in_share, share, shared};
 pub use table::{say, Table};
 pub use vectors::{firsts, vectors, Ask, Call, First, Settled, Vector};
 

@@ -2,10 +2,10 @@
 
 use crate::forms::{Row, LENGTHS, ROWS};
 use crate::measure::{methods_of, numbers, s_of, values, zeros};
-use crate::{Table, Write};
+use crate::{share, Table, Write};
 
 /// Written frames wanted in a cell.
-const NEED: usize = 1_000;
+const NEED: usize = share(1_000);
 const METHODS: [usize; 7] = [0, 1, 2, 3, 4, 5, 7];
 
 /// What the drawn frames have met.

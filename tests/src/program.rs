@@ -1,4 +1,5 @@
-//! Programs that were built, found and run. They are for x86-64: on another machine RUN_WITH may name what runs them.
+//! Programs that were built, found and run. Those of rt are for x86-64: on another machine RUN_WITH names what runs them.
+//! So are those that cargo builds beside the tests, if it compiles the tests for x86-64 too.
 
 use std::ffi::OsStr;
 use std::io::Write;
@@ -22,12 +23,21 @@ pub fn words(path: &Path) -> Vec<PathBuf> {
     with.into_iter().chain([path.to_path_buf()]).collect()
 }
 
-/// A command that starts a program.
+/// A command that starts a program for x86-64.
 pub fn command(path: &Path) -> Command {
     let words = words(path);
     let mut command = Command::new(&words[0]);
     command.args(&words[1..]);
     command
+}
+
+/// A command that starts a program that was compiled as this one was.
+pub fn beside(path: &str) -> Command {
+    if cfg!(target_arch = "x86_64") {
+        command(Path::new(path))
+    } else {
+        Command::new(path)
+    }
 }
 
 /// Runs a command on some standard input, to its end. A program may stop reading before the end: what is left over then

@@ -5,15 +5,15 @@ use second::gen::{damage_somehow, Prng};
 use std::collections::BTreeMap;
 use tests::faults::{self, short_place, short_places, Fault};
 use tests::forms::{any_form, some_form, Form, LENGTHS};
-use tests::{ending, say, Ask, Pair, Proved, Read, Second, Table, ENDINGS};
+use tests::{ending, say, share, shared, Ask, Pair, Proved, Read, Second, Table, ENDINGS};
 
 const ALL_TOOLS: u32 = 127;
 /// Numbers that are neither a law nor a set.
 const OUT_OF_RANGE: [u32; 8] = [128, 129, 255, 256, 0x7FFF_FFFF, 0x8000_0000, 0x8000_0001, u32::MAX];
 /// Accepted frames wanted of each tool and length.
-const ACCEPTED: usize = 10_000;
+const ACCEPTED: usize = share(10_000);
 /// Refused frames wanted of each place that refuses.
-const REFUSED: usize = 1_000;
+const REFUSED: usize = share(1_000);
 /// Turns after which a cell that is still not full is taken to be one that can't be filled.
 const MOST_TURNS: usize = 1_000;
 
@@ -60,7 +60,7 @@ fn all_inputs_of_up_to_two_octets() {
     inputs.extend((0..=255).map(|one| vec![one]));
     inputs.extend((0..=0xFFFFu16).map(|two| two.to_be_bytes().to_vec()));
     assert_eq!(inputs.len(), 65_793);
-    for given in inputs {
+    for given in shared(inputs) {
         for law in [0, 1, 2] {
             for (set, room) in [(127, 320), (127, 0), (127, 160), (0, 320), (0x55, 320), (0x2A, 239), (128, 320)] {
                 let got = pair.read(&Ask { given: given.clone(), law, set, room });
@@ -79,14 +79,14 @@ fn all_three_octets_that_begin_tools_6_and_7() {
     let rice = (0x50..=0x5F).chain(0x90..=0x9F).chain(0xD0..=0xDF).chain(0x28..=0x2B).chain(0x38..=0x3B);
     for first in rice.chain([0x25, 0x35, 0x86, 0xC6]) {
         let mut ask = ask(vec![first, 0, 0]);
-        for rest in 0..=0xFFFFu16 {
+        for rest in shared(0..=0xFFFFu16) {
             ask.given[1..].copy_from_slice(&rest.to_be_bytes());
             ask.law = u32::from(rest.count_ones() % 2);
             let got = pair.read(&ask);
             endings[got.ending as usize] += 1;
         }
     }
-    assert_eq!(pair.calls, 60 * 65_536);
+    assert_eq!(pair.calls, 60 * shared(0..65_536).count());
     close("read, all inputs of 3 octets that begin tools 6 and 7", &pair, &endings);
 }
 
@@ -320,7 +320,7 @@ fn damaged_and_random() {
     let mut pair = pair();
     let mut rng = Prng::new(6);
     let mut endings = [0; 14];
-    for turn in 0..300_000 {
+    for turn in 0..share(300_000) as u32 {
         let law = turn % 2;
         let given = match turn % 4 {
             0 => {

@@ -4,12 +4,14 @@ use second::gen::{damage_somehow, Prng};
 use tests::faults;
 use tests::forms::{pad, some_form, LENGTHS};
 use tests::streams::{Stream, FIELDS};
-use tests::{ending, say, Ask, Pair, Proved, Second, Table, Walk, ENDINGS};
+use tests::{ending, say, share, shared, Ask, Pair, Proved, Second, Table, Walk, ENDINGS};
 
 /// The octets of the longest stream that a walk takes.
 const MOST: usize = 65_535;
 /// Streams wanted in a cell.
-const WALKED: usize = 1_000;
+const WALKED: usize = share(1_000);
+/// Streams wanted of the longest, and of pads alone.
+const LONGEST: usize = share(20);
 /// Turns after which a cell that is still not full is taken to be one that can't be filled.
 const MOST_TURNS: usize = 1_000;
 
@@ -33,7 +35,7 @@ fn every_length() {
     let mut whole = ask(stream.octets.clone(), 1, stream.samples() + 100);
     whole.given.resize(MOST + 2, 0x00);
     let mut ends = 0;
-    for length in (0..=MOST + 2).rev() {
+    for length in shared((0..=MOST + 2).rev()) {
         whole.given.truncate(length);
         let got = pair.walk(&whole);
         ends += usize::from(got.ending == 0);
@@ -43,7 +45,7 @@ fn every_length() {
         }
     }
     let frames = stream.forms.len();
-    assert_eq!(pair.calls, 65_538);
+    assert_eq!(pair.calls, shared(0..65_538).count());
     say(&format!(
         "compared: walk, every length of 0 to 65,537 octets, {frames} frames at most: {} calls, {ends} clean\n",
         pair.calls
@@ -58,10 +60,12 @@ fn accepted_streams() {
     let mut rng = Prng::new(22);
     let columns = ["up to 100", "up to 2000", "up to 65535"];
     let mut table = Table::new("streams kept whole, by octets", &["mixed", "padded", "pads"], &columns, WALKED);
-    columns.iter().for_each(|column| table.needs("pads", column, 20));
+    columns.iter().for_each(|column| table.needs("pads", column, LONGEST));
     for row in ["mixed", "padded", "pads"] {
-        table.needs(row, columns[2], 20);
-        for (column, most, times) in [(columns[0], 100, WALKED), (columns[1], 2_000, WALKED), (columns[2], MOST, 20)] {
+        table.needs(row, columns[2], LONGEST);
+        for (column, most, times) in
+            [(columns[0], 100, WALKED), (columns[1], 2_000, WALKED), (columns[2], MOST, LONGEST)]
+        {
             for turn in 0..times {
                 let law = turn as u32 % 2;
                 let stream = Stream::of(most / 2 + rng.below(most / 2 + 1), || match row {
@@ -97,7 +101,7 @@ fn damaged_streams() {
     // A filling bit that is not 0 is always refused.
     table.never("filling", "kept whole");
     // After these most frames don't end where the next one starts.
-    ["code of S", "zeros", "method", "count"].iter().for_each(|field| table.needs(field, "kept whole", 10));
+    ["code of S", "zeros", "method", "count"].iter().for_each(|field| table.needs(field, "kept whole", share(10)));
     for _ in 0..MOST_TURNS {
         if table.faults().is_empty() {
             break;
@@ -179,7 +183,7 @@ fn every_room() {
     let mut pair = Pair::new(&Proved, &Second);
     let mut rng = Prng::new(25);
     let mut room_ends = 0;
-    for turn in 0..12 {
+    for turn in 0..share(12) as u32 {
         let law = turn % 2;
         let stream = Stream::mixed(900, law, &mut rng);
         for room in 0..stream.samples() + 3 {
@@ -234,7 +238,7 @@ fn damaged_somehow_and_random() {
     let mut pair = Pair::new(&Proved, &Second);
     let mut rng = Prng::new(27);
     let mut endings = [0; 14];
-    for turn in 0..40_000 {
+    for turn in 0..share(40_000) as u32 {
         let law = turn % 2;
         let most = 1 + rng.below(if turn % 100 == 0 { 60_000 } else { 900 });
         let mut given = match turn % 5 {

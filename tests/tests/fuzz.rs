@@ -2,9 +2,9 @@
 
 use std::path::{Path, PathBuf};
 use tests::fuzz::Fuzz;
-use tests::{say, Codec, Proved, Read, Second, Walk, Write};
+use tests::{say, share, Codec, Proved, Read, Second, Walk, Write};
 
-const ROUNDS: usize = 300_000;
+const ROUNDS: usize = share(300_000);
 const SEED: u64 = 7110;
 
 fn folder(name: &str) -> PathBuf {

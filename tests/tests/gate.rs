@@ -1,5 +1,5 @@
 //! The gate itself: small copies of the repository, each with one thing wrong, are put through the same `.ci/run`.
-//! A copy has one tiny crate of Rattle and one tiny package of Rust, and so no test of this file.
+//! A copy has one tiny crate of Rattle and one or two tiny packages of Rust, and so no test of this file.
 
 use std::fs;
 use std::path::{Path, PathBuf};
@@ -8,6 +8,63 @@ use std::sync::{Mutex, MutexGuard};
 
 /// Provers run one at a time.
 static ONE: Mutex<()> = Mutex::new(());
+
+/// The files of a copy with an archive. Its packages have the names, and the second one the tests, that the gate knows.
+const ARCHIVE: [(&str, &str); 10] = [
+    ("crates.txt", "g7110:\n"),
+    ("crates/g7110/src/lib.rt", "#[no_mangle]\npub extern \"C\" fn g7110_same(x: u32) -> u32 {\n    x\n}\n"),
+    ("Cargo.toml", "[workspace]\nresolver = \"2\"\nmembers = [\"wrapper\", \"tests\"]\n"),
+    (
+        "Cargo.lock",
+        r#"version = 3
+
+[[package]]
+name = "g7110"
+version = "0.1.0"
+
+[[package]]
+name = "tests"
+version = "0.1.0"
+dependencies = [
+ "g7110",
+]
+"#,
+    ),
+    ("wrapper/Cargo.toml", "[package]\nname = \"g7110\"\nversion = \"0.1.0\"\nedition = \"2021\"\nlinks = \"g7110\"\n"),
+    ("wrapper/build.rs", include_str!("../../wrapper/build.rs")),
+    ("wrapper/src/lib.rs", "extern \"C\" {\n    pub fn g7110_same(x: u32) -> u32;\n}\n"),
+    (
+        "tests/Cargo.toml",
+        r#"[package]
+name = "tests"
+version = "0.1.0"
+edition = "2021"
+
+[dependencies]
+g7110 = { path = "../wrapper" }
+
+[features]
+tenth = []
+"#,
+    ),
+    ("tests/src/lib.rs", ""),
+    (
+        "tests/tests/compare_one.rs",
+        r#"use std::io::Write;
+
+#[test]
+fn compares() {
+    let same = unsafe { g7110::g7110_same(7) };
+    let said = format!("compared: {same} on {}, tenth {}\n", std::env::consts::ARCH, cfg!(feature = "tenth"));
+    std::io::stdout().write_all(said.as_bytes()).unwrap();
+}
+"#,
+    ),
+];
+
+/// Its other tests that call the archive.
+const CALLERS: [&str; 4] =
+    ["wrapper/tests/calls.rs", "tests/tests/fuzz.rs", "tests/tests/recordings.rs", "tests/tests/vectors.rs"];
 
 struct Copy {
     root: PathBuf,
@@ -34,7 +91,7 @@ impl Copy {
         let _ = fs::remove_dir_all(&root);
         let copy = Copy { root, _alone: alone };
         let here = Path::new(env!("CARGO_MANIFEST_DIR")).join("..");
-        for file in [".ci/run", "tools/cross", "KIT"] {
+        for file in [".ci/run", "tools/cross", "tools/native", "KIT"] {
             copy.put(file, &fs::read_to_string(here.join(file)).unwrap());
         }
         copy.put("crates.txt", "listed:\n");
@@ -45,6 +102,16 @@ impl Copy {
         copy.put("Makefile", "run:\n\t@true\n");
         let made = Command::new("git").args(["init", "-q"]).current_dir(&copy.root).status().unwrap();
         assert!(made.success());
+        copy
+    }
+
+    /// A copy whose tests link an archive, with nothing wrong.
+    fn with_archive(name: &str) -> Copy {
+        let copy = Copy::new(name);
+        fs::remove_dir_all(copy.root.join("crates/listed")).unwrap();
+        ARCHIVE.into_iter().for_each(|(file, text)| copy.put(file, text));
+        let calls = "#[test]\nfn holds() {\n    assert_eq!(unsafe { g7110::g7110_same(7) }, 7);\n}\n";
+        CALLERS.into_iter().for_each(|file| copy.put(file, calls));
         copy
     }
 
@@ -119,4 +186,45 @@ fn a_crate_that_is_not_proved_and_tests_that_do_not_build() {
     assert_eq!(ended.last(), "1 passed, 2 failed", "{}", ended.said);
     assert!(ended.said.contains("gate: FAILED: rt ci: listed\n"), "{}", ended.said);
     assert!(ended.said.contains("gate: FAILED: cargo test: error"), "{}", ended.said);
+}
+
+/// Whether the machine is one that the archive is for. This test itself may be compiled for another one.
+fn one_run() -> bool {
+    Command::new("uname").arg("-m").output().unwrap().stdout == b"x86_64\n"
+}
+
+/// On x86-64 the tests are run once, on the shipped archive. Elsewhere all are run on the archive compiled for the machine, and
+/// those that call the archive on the shipped one too. The report says so, and the test itself what it was compiled for.
+#[test]
+fn an_archive() {
+    let ended = Copy::with_archive("archive").gate();
+    assert!(ended.well, "{}", ended.said);
+    let told = ended.report.lines().filter(|line| line.starts_with("archive: ") || line.starts_with("compared: "));
+    let told: Vec<&str> = told.collect();
+    if one_run() {
+        assert_eq!(ended.last(), "8 passed, 0 failed", "{}", ended.said);
+        assert_eq!(told, ["archive: as shipped, for x86-64", "compared: 7 on x86_64, tenth false"]);
+        return;
+    }
+    assert_eq!(ended.last(), "13 passed, 0 failed", "{}", ended.said);
+    let starts =
+        ["archive: compiled for ", "compared: 7 on ", "archive: as shipped, for x86-64; ", "compared: 7 on x86_64, "];
+    assert_eq!(told.len(), starts.len(), "{told:?}");
+    assert!(told.iter().zip(starts).all(|(line, start)| line.starts_with(start)), "{told:?}");
+    assert!(
+        !told[1].contains("x86_64") && told[1].ends_with("tenth false") && told[3].ends_with("tenth true"),
+        "{told:?}"
+    );
+}
+
+#[test]
+fn a_test_that_fails_on_the_shipped_archive_alone() {
+    let copy = Copy::with_archive("shipped");
+    copy.put("tests/tests/vectors.rs", "#[test]\nfn breaks() {\n    assert!(!cfg!(target_arch = \"x86_64\"));\n}\n");
+    let ended = copy.gate();
+    assert!(!ended.well, "{}", ended.said);
+    let (last, part) =
+        if one_run() { ("7 passed, 1 failed", "cargo test") } else { ("12 passed, 1 failed", "cargo test, a tenth") };
+    assert_eq!(ended.last(), last, "{}", ended.said);
+    assert!(ended.said.contains(&format!("gate: FAILED: {part}: breaks\n")), "{}", ended.said);
 }

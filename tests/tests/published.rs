@@ -4,7 +4,7 @@
 
 use std::fs;
 use std::path::{Path, PathBuf};
-use tests::program::{command, run};
+use tests::program::{beside, run};
 use tests::published::{compare, End};
 use tests::recordings::{folder, packed};
 use tests::{say, Codec, Proved, Read, Second, Walk, Write};
@@ -16,7 +16,7 @@ struct Ran {
 }
 
 fn vectors_of(folder: &Path) -> Ran {
-    let mut command = command(Path::new(env!("CARGO_BIN_EXE_vectors_of")));
+    let mut command = beside(env!("CARGO_BIN_EXE_vectors_of"));
     command.arg(folder);
     let ended = run(command, &[]);
     Ran { status: ended.status.code(), said: String::from_utf8(ended.stdout).unwrap() }

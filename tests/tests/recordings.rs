@@ -5,7 +5,7 @@
 use std::process::Command;
 use tests::forms::LENGTHS;
 use tests::recordings::{cuts, folder, packed, recordings, Recording};
-use tests::{say, Ask, Codec, Pair, Proved, Second, Table};
+use tests::{say, shared, Ask, Codec, Pair, Proved, Second, Table};
 
 /// Octets of the longest stream.
 const MOST: usize = 65_535;
@@ -32,13 +32,12 @@ fn as_shipped() {
 fn written_and_read_by_both() {
     let mut pair = Pair::new(&Proved, &Second);
     let (mut frames, mut streams) = (0, 0);
-    for recording in recordings() {
-        for length in LENGTHS {
-            for set in SETS {
-                frames += write_and_read(&mut pair, &recording, length, set);
-                streams += 1;
-            }
-        }
+    let recordings = recordings();
+    let lengths = recordings.iter().flat_map(|recording| LENGTHS.map(|length| (recording, length)));
+    let all = lengths.flat_map(|(recording, length)| SETS.map(|set| (recording, length, set)));
+    for (recording, length, set) in shared(all) {
+        frames += write_and_read(&mut pair, recording, length, set);
+        streams += 1;
     }
     say(&format!(
         "compared: recordings, {frames} frames in {streams} streams, written, read and walked: {} calls\n",

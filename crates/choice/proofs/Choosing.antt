@@ -1,7 +1,7 @@
 -- Laws of the choice, tool by tool.
-use Prim.Native.Nat.{ℕ, _+_, _*_, _≤_, _<_}
+use Prim.Native.Nat.{ℕ, _+_, _*_, _≤_}
 use mathlib.Core.Path.{_≡_, refl, sym, _∙_}
-use mathlib.Core.List.{List, [], _∷_, _++_}
+use mathlib.Core.List.{List, [], _∷_}
 use mathlib.Core.Bool.{Bool, true, false, cond, _&&_}
 use native.Mathlib.Omega.{arith}
 use lib.ListN.{length, length-append, length-map}
@@ -11,9 +11,9 @@ use Rattle.rules.specs.Chooses.{applies, formOf, octetsOfForm, choose}
 use Rattle.rules.proofs.Octets.{length-lowBits, length-bitsOf}
 use Rattle.rules.proofs.Tests.{and-left}
 use Rattle.measure.proofs.Weighing.{cond-of}
+use Rattle.look.proofs.Tests.{never}
 use Rattle.choice.specs.declared.Choice.{Choice}
 use Rattle.choice.specs.Plans.{taken, BetterIs, ChosenIs}
-use Rattle.choice.proofs.Near.{never}
 
 -- what `better` gives, by its test
 pub better-not : {best : Choice} {t : ℕ} {a : Bool} {b : ℕ} → best .bits ≤ 1000000000 → taken best a b ≡ false → BetterIs best t a b best

@@ -14,13 +14,13 @@ use Rattle.rules.specs.Runs.{runsOf, riceForms}
 use Rattle.rules.specs.Zeros.{zeroOf}
 use Rattle.rules.specs.Chooses.{countOf, markOf, bestS, riceBits, riceChoice, applies, formOf, octetsOfForm, choose}
 use Rattle.rules.proofs.Tests.{and-left, and-right}
-use Rattle.pen.proofs.Rice.{length-riceForm}
-use Rattle.measure.specs.Measures.{countIs, marksOf, twoZeros}
-use Rattle.measure.proofs.Finding.{runs-common, runs-other}
-use Rattle.choice.specs.declared.Zeros.{Zeros}
+use Rattle.measure.proofs.Rice.{length-riceForm}
+use Rattle.look.specs.Looks.{countIs, marksOf, twoZeros}
+use Rattle.finding.proofs.Finding.{runs-common, runs-other}
+use Rattle.zeros.specs.declared.Zeros.{Zeros}
 use Rattle.choice.specs.Plans.{measured, ZerosFor}
-use Rattle.choice.proofs.Near.{zeros-unplaced}
-use Rattle.choice.proofs.TwoZeros.{rice-applies, zeros-apply, rice-sum}
+use Rattle.locating.proofs.Near.{zeros-unplaced}
+use Rattle.zeros.proofs.TwoZeros.{rice-applies, zeros-apply, rice-sum}
 use Rattle.choice.proofs.Choosing.{uncompressed-chosen, binary-bits}
 use Rattle.choice.proofs.Settling.{least-some, code-some, start-some, of-two, among, passed, won}
 use Rattle.choice.proofs.Planning.{past, rice-form}

@@ -9,20 +9,22 @@ use Rattle.rules.specs.Tools.{holds}
 use Rattle.rules.specs.Chooses.{applies, formOf, choose, rowOf, locatedFlag, locatedForm, riceChoice}
 use Rattle.rules.proofs.Octets.{length-lowBits}
 use Rattle.rules.proofs.Tests.{and-left}
-use Rattle.measure.specs.Measures.{twoZeros}
+use Rattle.look.specs.Looks.{twoZeros}
 use Rattle.choice.specs.declared.Choice.{Choice}
-use Rattle.choice.specs.declared.Zeros.{Zeros}
-use Rattle.choice.specs.declared.Placed.{Placed}
-use Rattle.choice.specs.declared.Values.{Values}
-use Rattle.choice.specs.declared.Ways.{Ways}
-use Rattle.choice.specs.Ways.{InTurn, WaysAre}
-use Rattle.choice.specs.Offers.{samplesOf, valuesIn, RiceFor}
+use Rattle.zeros.specs.declared.Zeros.{Zeros}
+use Rattle.locating.specs.declared.Placed.{Placed}
+use Rattle.locating.specs.declared.Values.{Values}
+use Rattle.locating.specs.declared.Ways.{Ways}
+use Rattle.locating.specs.Ways.{InTurn, WaysAre}
+use Rattle.locating.specs.Rows.{samplesOf, valuesIn}
+use Rattle.zeros.specs.Rice.{RiceFor}
 use Rattle.choice.specs.Plans.{measured, BetterIs, ChosenIs, ZerosFor, placedBy, PlacedFor}
-use Rattle.choice.proofs.Near.{never, and-zero, zeros-unplaced}
-use Rattle.choice.proofs.TwoZeros.{rice-applies, zeros-apply}
+use Rattle.look.proofs.Tests.{never, and-zero}
+use Rattle.locating.proofs.Near.{zeros-unplaced}
+use Rattle.zeros.proofs.TwoZeros.{rice-applies, zeros-apply}
 use Rattle.choice.proofs.Choosing.{choose-step, choose-past, chosen-offered, uncompressed-chosen, binary-bits}
 use Rattle.choice.proofs.Settling.{among, alone}
-use Rattle.choice.proofs.Rows.{ways-sum}
+use Rattle.locating.proofs.Rows.{ways-sum}
 
 pub past : (set t : ℕ) {a : Bool} → a ≡ false → (holds set t && a) ≡ false
 past set t e = rw e (and-zero (holds set t))

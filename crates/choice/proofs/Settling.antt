@@ -16,15 +16,14 @@ use Rattle.rules.specs.Zeros.{codesOf, codeOf, flagOf}
 use Rattle.rules.specs.Located.{caseOf}
 use Rattle.rules.specs.Chooses.{countOf, every, leastFrom, bestS, markOf, riceChoice, locatedForm, leastOf, greatestOf, rowOf, applies, formOf, octetsOfForm, choose}
 use Rattle.rules.proofs.Octets.{length-lowBits, length-bitsOf}
-use Rattle.rules.proofs.Tests.{or-cases}
-use Rattle.pen.proofs.Rice.{length-riceForm}
-use Rattle.measure.specs.declared.Spread.{Spread}
-use Rattle.measure.specs.Measures.{near, SpreadIs}
+use Rattle.measure.proofs.Rice.{length-riceForm}
+use Rattle.look.specs.declared.Spread.{Spread}
+use Rattle.look.specs.Looks.{near, SpreadIs}
 use Rattle.rules.proofs.Counts.{count-le}
-use Rattle.measure.proofs.Finding.{runs-common, runs-other}
-use Rattle.choice.specs.Plans.{isMask, measured, valueTool, Plain}
-use Rattle.choice.proofs.Near.{never, and-zero}
-use Rattle.choice.proofs.TwoZeros.{rice-applies, rice-sum}
+use Rattle.finding.proofs.Finding.{runs-common, runs-other}
+use Rattle.choice.specs.Plans.{measured, valueTool, Plain}
+use Rattle.look.proofs.Tests.{never, and-zero}
+use Rattle.zeros.proofs.TwoZeros.{rice-applies, rice-sum}
 use Rattle.choice.proofs.Choosing.{constant-bits, minus-bits, plus-bits}
 
 -- a Rice code has a one and S low bits, so that runs of anything at all have more bits than S
@@ -200,9 +199,6 @@ none-value y first (x ∷ s) h e a = go (every (λ z. eqb z y) (x ∷ s)) refl
     go true g =
         absurd (never (sym a ∙ ap (λ (k : ℕ). every (λ z. eqb z k) (x ∷ s)) (e ∙ eqb-true x y (head-passes (λ z. eqb z y) x s g)) ∙ g))
     go false g = g
-
-pub mask-seven : (mask : ℕ) → isMask mask ≡ true → mask < 128
-mask-seven mask h = or-cases (mask < 128) (eqb mask 0x55) (eqb mask 0x7F) h (λ e. omega (arith, eqb-true mask 0x55 e)) (λ e. omega (arith, eqb-true mask 0x7F e))
 
 -- a row is near
 row-near : (mask : ℕ) (s : List ℕ) → near (leastOf mask s) (greatestOf mask s) ≡ false → rowOf mask s ≡ 4

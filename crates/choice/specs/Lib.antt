@@ -1,4 +1,2 @@
--- What the writer finds out before it chooses, and its choice.
-pub mod Ways
-pub mod Offers
+-- The choice.
 pub mod Plans

@@ -2,19 +2,20 @@
 use Prim.Native.Nat.{ℕ, _≤_}
 use mathlib.Core.Path.{_≡_}
 use mathlib.Core.List.{List, [], _∷_}
-use mathlib.Core.Bool.{Bool, true, cond, _&&_, _||_}
+use mathlib.Core.Bool.{Bool, true, cond, _&&_}
 use lib.ListN.{length}
 use lib.Dec.{eqb, leb}
 use Rattle.rules.specs.Bits.{octetsFor}
 use Rattle.rules.specs.Tools.{holds}
 use Rattle.rules.specs.Samples.{plusZero, minusZero}
 use Rattle.rules.specs.Chooses.{choose, chosenTool, formOf, leastOf, greatestOf}
-use Rattle.measure.specs.Measures.{near}
+use Rattle.look.specs.Looks.{near}
 use Rattle.choice.specs.declared.Choice.{Choice}
-use Rattle.choice.specs.declared.Zeros.{Zeros}
-use Rattle.choice.specs.declared.Placed.{Placed}
-use Rattle.choice.specs.declared.Ways.{Ways}
-use Rattle.choice.specs.Offers.{RiceIs, PlacedIs}
+use Rattle.zeros.specs.declared.Zeros.{Zeros}
+use Rattle.locating.specs.declared.Placed.{Placed}
+use Rattle.locating.specs.declared.Ways.{Ways}
+use Rattle.zeros.specs.Rice.{RiceIs}
+use Rattle.locating.specs.Rows.{PlacedIs}
 
 -- whether a tool is taken
 abbrev pub taken : Choice → Bool → ℕ → Bool
@@ -30,10 +31,6 @@ pub record ChosenIs (mask set : ℕ) (s ts : List ℕ) (r : Choice) : Type 0 whe
   pub tool : r .tool ≡ choose mask set s ts
   pub bits : r .bits ≡ length (formOf mask (choose mask set s ts) s)
   pub small : r .bits ≤ 1000000000
-
--- one of the two masks
-abbrev pub isMask : ℕ → Bool
-isMask mask = eqb mask 0x55 || eqb mask 0x7F
 
 -- the tools that are measured
 abbrev pub measured : List ℕ

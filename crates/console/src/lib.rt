@@ -1,5 +1,5 @@
 // What the bench tools read and say: their arguments, files, and the lines on standard error. No contract can say what is
-// read or written: what a line holds comes from crates `options` and `lines`.
+// read or written: what a line holds comes from crates `options`, `filenames`, `refusals` and `lines`.
 ghost use Prim.Native.Nat.{_≤_};
 ghost use lib.ListN.{length};
 ghost use Rattle.io.specs.Counts.{Counts};
@@ -36,7 +36,7 @@ pub fn stop(number: u32, place: usize, tool: u32) {
 // A refusal of document 01, and the last line.
 pub fn refused(packs: bool, number: u32, place: usize, tool: u32) {
     let mut name = [0u8; 8];
-    let n = options::refusal_name(number, &mut name);
+    let n = refusals::refusal_name(number, &mut name);
     say_tool(packs);
     say(b"refused: ");
     io::write_all(STDERR_FILENO, &name[..n]);
@@ -138,7 +138,7 @@ pub fn file_name(index: usize, name: &mut [u8]) -> usize
         return 0;
     }
     let n = os::arg(index, name);
-    if options::is_same(&name[..n], b"-") {
+    if texts::is_same(&name[..n], b"-") {
         return 0;
     }
     n
@@ -161,7 +161,7 @@ pub fn target_name(s: Settings, law: u32, source: &[u8], name: &mut [u8]) -> Tar
     if source.len() == 0 {
         return Target { len: 0, fits: true };
     }
-    let len = options::new_name(s.packs, law, source, name);
+    let len = filenames::new_name(s.packs, law, source, name);
     Target {
         len,
         fits: len != 0,

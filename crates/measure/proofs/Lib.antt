@@ -1,7 +1,2 @@
-pub mod Finding
+pub mod Rice
 pub mod Weighing
-pub mod Looking
-pub mod Spreading
-pub mod Leaving
-pub mod Rows
-pub mod Values

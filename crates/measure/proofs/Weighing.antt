@@ -8,7 +8,7 @@ use native.Mathlib.Nat.{pow-suc, zero-mul, suc-mul, mul-le-mul}
 use native.Mathlib.Numerals.{add-one}
 use native.Mathlib.Decide.{decLt}
 use borrow.Author.Tests.{lt-leb, le-leb, le-ltb}
-use lib.ListN.{length, getD, take, length-append, length-replicate}
+use lib.ListN.{length, getD, take, replicate, length-append, length-replicate}
 use lib.Dec.{ltb}
 use lib.Seq.{length-take-le}
 use lib.Pow.{pow-mono}
@@ -16,7 +16,7 @@ use Rattle.rules.specs.Runs.{riceForm, riceForms}
 use Rattle.rules.specs.Located.{widthFrom, widthOf}
 use Rattle.rules.specs.Chooses.{leastFrom, leastS}
 use Rattle.rules.proofs.Octets.{length-lowBits}
-use Rattle.pen.proofs.Rice.{length-riceForm, forms-suc}
+use Rattle.measure.proofs.Rice.{length-riceForm, forms-suc}
 use Rattle.measure.specs.declared.Least.{Least}
 use Rattle.measure.specs.Measures.{bitsWith, LeastIs}
 
@@ -135,3 +135,9 @@ width-stops w (suc more) d h = rw (le-leb d (2 ^ w) h)
 
 pub width-done : (w d : ℕ) → d ≤ 2 ^ w → widthFrom w (d - w) d ≡ widthOf d → w ≡ widthOf d
 width-done w d h e = sym (width-stops w (d - w) d h) ∙ e
+
+-- nothing goes with S
+pub zero-at : (n s : ℕ) → _≡_ {A = ℕ} (getD (replicate n 0) s 0) 0
+zero-at zero s = refl
+zero-at (suc n) zero = refl
+zero-at (suc n) (suc s) = zero-at n s

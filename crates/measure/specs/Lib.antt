@@ -1,3 +1,2 @@
--- What is found out about flags and about a frame.
+-- What runs need.
 pub mod Measures
-pub mod Tracks

@@ -4,13 +4,13 @@ use mathlib.Core.List.{List}
 use mathlib.Core.Bool.{Bool, true, false, cond, not, _&&_, _||_}
 use lib.ListN.{length, getD, drop}
 use lib.Dec.{eqb, leb}
-use Rattle.options.specs.declared.Number.{Number}
-use Rattle.options.specs.declared.Number.the-variants.{Is, Not}
+use Rattle.texts.specs.declared.Number.{Number}
+use Rattle.texts.specs.declared.Number.the-variants.{Is, Not}
 use Rattle.options.specs.declared.Argument.{Argument}
 use Rattle.options.specs.declared.Argument.the-variants.{File, Law, Fill, Waits, Counts, Unknown}
 use Rattle.options.specs.declared.Settings.{Settings}
-use Rattle.options.specs.Names.{unknown, lawTold}
-use Rattle.options.specs.Numbers.{numberIn}
+use Rattle.filenames.specs.Names.{unknown, lawTold}
+use Rattle.texts.specs.Numbers.{numberIn}
 
 -- what follows an option: nothing (0), MASTER (1), the frame length (2), the tool set (3)
 -- "-s#", for `pack` "-n#", for `unpack` "-c MASTER"

@@ -1,4 +1,1 @@
-pub mod Words
-pub mod Names
-pub mod Numbers
 pub mod Arguments

@@ -18,7 +18,8 @@ use Rattle.packing.proofs.Whole.{pack-inside, well-packed}
 use Rattle.packing.proofs.Parts.{carried-on}
 use Rattle.packing.proofs.Onward.{Adds, on-adds, on-takes-room}
 use Rattle.pack.specs.declared.Run.{Run}
-use Rattle.pack.specs.Runs.{partSize, goesOn, OneSound, Stands, stepsLeft}
+use Rattle.cutting.specs.Parts.{partSize, goesOn}
+use Rattle.pack.specs.Runs.{OneSound, Stands, stepsLeft}
 
 never : {A : Type 0} → false ≡ true → A
 never e = let z : _≡_ {A = ℕ} 0 1 = cc in absurd (omega arith)

@@ -4,33 +4,18 @@ use mathlib.Core.Path.{_≡_}
 use mathlib.Core.Bool.{Bool, true, false, cond}
 use mathlib.Core.List.{List}
 use lib.ListN.{length}
-use lib.Dec.{eqb}
-use Rattle.rules.specs.declared.Ending.{Ending}
-use Rattle.rules.specs.declared.Ending.the-variants.{Done, Refused}
-use Rattle.rules.specs.Refusals.{numberOf}
+use Rattle.rules.specs.declared.Ending.the-variants.{Done}
 use Rattle.rules.specs.Tools.{isLength}
 use Rattle.options.specs.declared.Settings.{Settings}
 use Rattle.packing.specs.Packing.{Pack}
-use Rattle.packing.specs.Parts.{FillsUp}
+use Rattle.cutting.specs.Cuts.{FillsUp}
 use Rattle.pack.specs.declared.Run.{Run}
-
--- the octets of a part: a multiple of every frame length, and of 40
-abbrev pub partSize : ℕ
-partSize = 61440
-
--- a part that is full may have more after it; after a refusal nothing matters
-abbrev pub goesOn : Ending → ℕ → Bool
-goesOn Done count = eqb count partSize
-goesOn (Refused why) count = false
+use Rattle.cutting.specs.Parts.{partSize}
 
 -- where it is asked, the part is filled up; else it stays as it is
 abbrev pub FilledIf : Bool → ℕ → ℕ → List ℕ → List ℕ → ℕ → Type 0
 FilledIf true count law part part′ r = FillsUp count law part part′ r
 FilledIf false count law part part′ r = (r ≡ 0) × (part′ ≡ part)
-
--- the room is the longest stream, so ROOM (4) is LONG (13) here
-abbrev pub numberFor : Ending → ℕ
-numberFor end = cond (eqb (numberOf end) 4) 13 (numberOf end)
 
 -- whatever was read, what is kept is the packing of one sound, and where more may come, the sound has whole parts only
 pub record OneSound (s : Settings) (out : List ℕ) (run : Run) : Type 0 where

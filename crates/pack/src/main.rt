@@ -1,10 +1,11 @@
-// The bench tool `pack`: raw G.711 octets in, a stream of frames out. What matters is in crate `packing`: here the sound is read in parts
+// The bench tool `pack`: raw G.711 octets in, a stream of frames out. What matters is in crates `cutting` and `packing`: here the sound is read in parts
 // of whole frames, the stream is kept, and it is written when all is well.
 ghost use Prim.Native.Nat.{_+_, _≤_, _<_};
 ghost use mathlib.Core.Path.{_≡_};
 ghost use mathlib.Core.Bool.{true};
 ghost use lib.ListN.{length};
-ghost use Rattle.pack.specs.Runs.{partSize, goesOn, FilledIf, numberFor, WholeSound, Stands, stepsLeft};
+ghost use Rattle.cutting.specs.Parts.{partSize};
+ghost use Rattle.pack.specs.Runs.{FilledIf, WholeSound, Stands, stepsLeft};
 use options::Settings;
 use packing::PackAnswer;
 use rules::Ending;
@@ -17,16 +18,6 @@ struct Run {
     failed: bool,
 }
 
-// A part that is full may have more after it; after a refusal nothing matters.
-fn may_go_on(end: Ending, count: usize) -> bool
-    ensures { λ r. ⌜ r ≡ goesOn end count ⌝ }
-{
-    let Ending::Done = end else {
-        return false;
-    };
-    count == 61440
-}
-
 // Where it is asked, what the last part lacks is filled up.
 fn filled_up(fill: bool, part: &mut [u8], count: usize, law: u32) -> usize
     requires { ⌜ (length (now part) ≡ partSize) × (count ≤ partSize) ⌝ }
@@ -34,7 +25,7 @@ fn filled_up(fill: bool, part: &mut [u8], count: usize, law: u32) -> usize
     ensures most { λ r. ⌜ count + r ≤ partSize ⌝ }
 {
     if fill {
-        return packing::fill_up(part, count, law);
+        return cutting::fill_up(part, count, law);
     }
     0
 }
@@ -60,7 +51,7 @@ fn next_part(fd: i32, run: Run, s: Settings, part: &mut [u8], out: &mut [u8]) ->
     let end = count + filled;
     let p = packing::pack_on(packed, &part[..end], s.law, s.set, s.length as usize, out);
     let e = p.end;
-    let more = may_go_on(e, count);
+    let more = cutting::may_go_on(e, count);
     Run {
         packed: p,
         filled,
@@ -80,17 +71,6 @@ fn all_parts(fd: i32, start: Run, s: Settings, part: &mut [u8], out: &mut [u8]) 
         run = next;
     }
     run
-}
-
-// The room is the longest stream, so ROOM is LONG here.
-fn number_for(end: Ending) -> u32
-    ensures { λ r. ⌜ r ≡ numberFor end ⌝ }
-{
-    let number = rules::number_of(end);
-    if number == 4 {
-        return 13;
-    }
-    number
 }
 
 // Why the settings are refused.
@@ -152,7 +132,7 @@ fn finish(run: Run, s: Settings, in_name: &[u8], out_name: &[u8], out: &[u8])
     }
     let p = run.packed;
     let e = p.end;
-    let number = number_for(e);
+    let number = cutting::number_for(e);
     if number != 0 {
         explain_sound(number);
         console::refused(true, number, p.samples, 0);

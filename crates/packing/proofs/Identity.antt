@@ -18,8 +18,9 @@ use Rattle.rules.proofs.Octets.{Below, below-take, below-drop}
 use Rattle.promises.proofs.Written.{full}
 use Rattle.promises.proofs.Lists.{Part, frameOf, frames, All, last, then, stream, samplesAll, deliveries, lists-walked, deliveries-samples, deliveries-octets}
 use Rattle.packing.specs.declared.PackAnswer.{PackAnswer}
-use Rattle.packing.specs.Packing.{nextLength, cutsFrom, cuts, formOctets, soundIn, streamOf, Packed, packAll, Pack}
-use Rattle.packing.proofs.Lengths.{next-fits}
+use Rattle.cutting.specs.Cuts.{nextLength, cutsFrom, cuts, soundIn}
+use Rattle.packing.specs.Packing.{formOctets, streamOf, packAll, Pack}
+use Rattle.cutting.proofs.Lengths.{next-fits}
 use Rattle.packing.proofs.Whole.{well-packed, pack-bounds}
 
 -- frames as parts of a stream, each written with the same set

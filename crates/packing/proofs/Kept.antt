@@ -2,7 +2,8 @@
 use Prim.Native.Nat.{ℕ}
 use mathlib.Core.Path.{_≡_, refl, sym, ap, _∙_}
 use mathlib.Core.List.{List, [], _∷_, _++_, append-assoc, append-nil}
-use Rattle.packing.specs.Packing.{soundIn, streamOf, formOctets, Packed, before}
+use Rattle.cutting.specs.Cuts.{soundIn}
+use Rattle.packing.specs.Packing.{streamOf, formOctets, Packed, before}
 
 pub soundIn-append : (a b : List (List ℕ)) → soundIn (a ++ b) ≡ soundIn a ++ soundIn b
 unfolding soundIn

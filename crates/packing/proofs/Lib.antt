@@ -1,11 +1,8 @@
-pub mod Lengths
 pub mod Kept
-pub mod Cuts
 pub mod Part
 pub mod Way
 pub mod Ordered
 pub mod Whole
 pub mod Identity
 pub mod Parts
-pub mod Filling
 pub mod Onward

@@ -15,10 +15,11 @@ use Rattle.rules.specs.Samples.{maskOf}
 use Rattle.rules.proofs.Octets.{Below, below-take}
 use Rattle.promises.proofs.Written.{Frames, full, chosen-short}
 use Rattle.packing.specs.declared.PackAnswer.{PackAnswer}
-use Rattle.packing.specs.Packing.{nextLength, cuts, formOctets, soundIn, streamOf}
+use Rattle.cutting.specs.Cuts.{nextLength, cuts, soundIn}
+use Rattle.packing.specs.Packing.{formOctets, streamOf}
 use Rattle.packing.specs.Parts.{packedOn, PacksAfter, PackOn}
-use Rattle.packing.proofs.Lengths.{next-fits}
-use Rattle.packing.proofs.Cuts.{cuts-none, cuts-next}
+use Rattle.cutting.proofs.Lengths.{next-fits}
+use Rattle.cutting.proofs.Cuts.{cuts-none, cuts-next}
 use Rattle.packing.proofs.Whole.{Bounds, pack-bounds, none-kept, not-done, well-packed}
 
 -- a frame has an octet

@@ -4,14 +4,14 @@ use mathlib.Core.Path.{_≡_, refl, subst}
 use mathlib.Core.List.{List}
 use mathlib.Core.Bool.{true, false}
 use native.Mathlib.Omega.{arith}
-use lib.ListN.{length}
 use borrow.Author.Tests.{le-leb, lt-leb, eq-eqb}
 use Rattle.rules.specs.declared.Refusal.{Refusal}
 use Rattle.rules.specs.declared.Refusal.the-variants.{Law, Set, Length}
 use Rattle.rules.specs.declared.Ending.the-variants.{Refused}
 use Rattle.rules.specs.Tools.{isLaw, isWriterSet, isLength}
 use Rattle.packing.specs.declared.PackAnswer.{PackAnswer}
-use Rattle.packing.specs.Packing.{cuts, soundIn, streamOf, Packed, halted, putAll, endOf, packAll, Packs}
+use Rattle.cutting.specs.Cuts.{cuts, soundIn, endOf}
+use Rattle.packing.specs.Packing.{streamOf, Packed, halted, putAll, packAll, Packs}
 use Rattle.packing.specs.Parts.{StopsAtOnce}
 
 -- no frame is packed, and the output is as lent

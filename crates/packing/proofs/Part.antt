@@ -13,7 +13,8 @@ use Rattle.rules.specs.Chooses.{writeOne}
 use Rattle.rules.specs.Calls.{Writes}
 use Rattle.rules.proofs.Lent.{from-on, back-on}
 use Rattle.packing.specs.declared.PackAnswer.{PackAnswer}
-use Rattle.packing.specs.Packing.{soundIn, streamOf, packAll, Packs}
+use Rattle.cutting.specs.Cuts.{soundIn}
+use Rattle.packing.specs.Packing.{streamOf, packAll, Packs}
 use Rattle.packing.specs.Parts.{PutsFrame, packedOn, PacksAfter, PackOn}
 
 pub length-part : (l : List ℕ) (at : ℕ) → length (take (length l - at) (drop at l)) ≡ length l - at

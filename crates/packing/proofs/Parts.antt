@@ -3,7 +3,7 @@ use Prim.Native.Nat.{ℕ, _*_, _-_, _≤_}
 use native.Mathlib.Omega.{arith}
 use mathlib.Core.Path.{_≡_, refl, sym, ap, _∙_}
 use mathlib.Core.List.{List, [], _∷_, _++_, append-assoc}
-use mathlib.Core.Bool.{Bool, true, false, cond, not}
+use mathlib.Core.Bool.{Bool, true, false, cond}
 use lib.ListN.{length, take, drop, length-append, length-drop, take-append-drop}
 use lib.Seq.{drop-drop, take-at, drop-at}
 use lib.Dec.{ltb}
@@ -13,9 +13,10 @@ use Rattle.rules.specs.declared.Ending.{Ending}
 use Rattle.rules.specs.declared.Ending.the-variants.{Done, Refused}
 use Rattle.rules.specs.Tools.{isLaw, isWriterSet, isLength}
 use Rattle.packing.specs.declared.PackAnswer.{PackAnswer}
-use Rattle.packing.specs.Packing.{cuts, formOctets, soundIn, streamOf, Packed, halted, before, putAll, lastEnd, endOf, packAll, Packs, Pack}
+use Rattle.cutting.specs.Cuts.{cuts, soundIn, lastEnd, endOf}
+use Rattle.packing.specs.Packing.{formOctets, streamOf, Packed, halted, before, putAll, packAll, Packs, Pack}
 use Rattle.packing.specs.Parts.{packedOn, PacksAfter, PackOn}
-use Rattle.packing.proofs.Cuts.{cuts-parts, cuts-multiple}
+use Rattle.cutting.proofs.Cuts.{cuts-parts, cuts-multiple}
 use Rattle.packing.proofs.Kept.{soundIn-append, streamOf-append, after}
 use Rattle.packing.proofs.Whole.{not-done, well-packed, pack-inside}
 use Rattle.packing.proofs.Ordered.{packs-as, the-frames}

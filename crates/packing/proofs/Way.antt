@@ -20,10 +20,11 @@ use Rattle.rules.specs.Chooses.{wrote, declined, chosen, writeOne}
 use Rattle.rules.specs.Calls.{atStart, Writes}
 use Rattle.rules.proofs.Octets.{length-pack}
 use Rattle.rules.proofs.Lent.{Lent, lent-start, lent-length, lent-at-start, lent-same, lent-more}
-use Rattle.packing.specs.Packing.{nextLength, cuts, formOctets, soundIn, streamOf, Packed, halted, before, putAll, lastEnd, endOf, Packs}
+use Rattle.cutting.specs.Cuts.{nextLength, cuts, soundIn, lastEnd, endOf}
+use Rattle.packing.specs.Packing.{formOctets, streamOf, Packed, halted, before, putAll, Packs}
 use Rattle.packing.specs.Parts.{PutsFrame}
-use Rattle.packing.proofs.Lengths.{Fits, next-fits}
-use Rattle.packing.proofs.Cuts.{cuts-none, cuts-next}
+use Rattle.cutting.proofs.Lengths.{Fits, next-fits}
+use Rattle.cutting.proofs.Cuts.{cuts-none, cuts-next}
 use Rattle.packing.proofs.Kept.{soundIn-more, streamOf-more, after, after-before}
 
 -- what the writer says to a frame of a length, by a law and a writer's set: only ROOM is left to refuse

@@ -13,8 +13,9 @@ use Rattle.rules.specs.declared.Ending.{Ending}
 use Rattle.rules.specs.declared.Ending.the-variants.{Done, Refused}
 use Rattle.rules.specs.Tools.{isLaw, isWriterSet, isLength}
 use Rattle.packing.specs.declared.PackAnswer.{PackAnswer}
-use Rattle.packing.specs.Packing.{cuts, formOctets, soundIn, streamOf, Packed, halted, before, putAll, lastEnd, endOf, packAll, Packs}
-use Rattle.packing.proofs.Cuts.{cuts-whole, cuts-few, cuts-inside}
+use Rattle.cutting.specs.Cuts.{cuts, soundIn, lastEnd, endOf}
+use Rattle.packing.specs.Packing.{formOctets, streamOf, Packed, halted, before, putAll, packAll, Packs}
+use Rattle.cutting.proofs.Cuts.{cuts-whole, cuts-few, cuts-inside}
 
 -- so many frames, so much sound and so many octets at most
 pub record Bounds (frames samples octets : ℕ) (p : Packed) (law set : ℕ) : Type 0 where

@@ -1,17 +1,17 @@
--- A frame written on its way, packing that stops before any frame, packing in parts, and a sound filled up.
-use Prim.Native.Nat.{ℕ, _+_, _-_, _%_}
+-- A frame written on its way, packing that stops before any frame, and packing in parts.
+use Prim.Native.Nat.{ℕ, _+_, _-_}
 use mathlib.Core.Path.{_≡_}
 use mathlib.Core.List.{List, _++_}
-use lib.ListN.{length, take, drop, replicate}
+use lib.ListN.{length, take, drop}
 use Rattle.rules.specs.declared.Refusal.{Refusal}
 use Rattle.rules.specs.declared.Ending.{Ending}
 use Rattle.rules.specs.declared.Ending.the-variants.{Done, Refused}
 use Rattle.rules.specs.declared.WriteAnswer.{WriteAnswer}
 use Rattle.rules.specs.Chooses.{writeOne}
-use Rattle.rules.specs.Samples.{maskOf, plusZero}
 use Rattle.rules.specs.Calls.{atStart, Writes}
 use Rattle.packing.specs.declared.PackAnswer.{PackAnswer}
-use Rattle.packing.specs.Packing.{soundIn, streamOf, Packed, halted, packAll}
+use Rattle.cutting.specs.Cuts.{soundIn}
+use Rattle.packing.specs.Packing.{streamOf, Packed, halted, packAll}
 
 -- the frame of `len` octets from `from` on is written, into the output from `at` on; what stands before that stays
 pub record PutsFrame (sound : List ℕ) (from len law set at : ℕ) (out out′ : List ℕ) (r : WriteAnswer) : Type 0 where
@@ -40,12 +40,3 @@ pub record PacksAfter (soFar : PackAnswer) (law set : ℕ) (p : Packed) (out out
 
 abbrev pub PackOn : PackAnswer → List ℕ → ℕ → ℕ → ℕ → List ℕ → List ℕ → PackAnswer → Type 0
 PackOn soFar part law set n out out′ r = PacksAfter soFar law set (packedOn (soFar .end) part law set n (length out - soFar .octets)) out out′ r
-
--- how many octets there are to the next multiple of 40
-abbrev pub toFill : ℕ → ℕ
-toFill len = (40 - len % 40) % 40
-
--- plus zeros after the first `len` octets, up to the next multiple of 40; the rest is as lent
-pub record FillsUp (len law : ℕ) (sound sound′ : List ℕ) (r : ℕ) : Type 0 where
-  pub added : r ≡ toFill len
-  pub lent : sound′ ≡ take len sound ++ (replicate (toFill len) (plusZero (maskOf law)) ++ drop (len + toFill len) sound)

@@ -1,11 +1,15 @@
-// A sound packed into a stream of frames: each next frame is as long as the frame length and the sound left allow.
+// A sound packed into a stream of frames, one after another.
 ghost use Prim.Native.Nat.{_+_, _-_, _^_, _≤_, _<_};
 ghost use mathlib.Core.Path.{_≡_};
 ghost use mathlib.Core.Bool.{true};
 ghost use lib.ListN.{length};
-ghost use Rattle.rules.specs.Tools.{isLaw, isWriterSet, isLength};
-ghost use Rattle.packing.specs.Packing.{largestUpTo, nextLength, cuts, lastEnd, endOf, putAll, Packs, Pack};
-ghost use Rattle.packing.specs.Parts.{PutsFrame, StopsAtOnce, PackOn, toFill, FillsUp};
+ghost use Rattle.rules.specs.Tools.{isLaw, isWriterSet};
+ghost use Rattle.cutting.specs.Cuts.{cuts, endOf};
+ghost use Rattle.packing.specs.Packing.{putAll, Packs, Pack};
+ghost use Rattle.packing.specs.Parts.{PutsFrame, StopsAtOnce, PackOn};
+use cutting::is_length;
+use cutting::last_end;
+use cutting::next_length;
 use rules::Ending;
 use rules::Refusal;
 use rules::WriteAnswer;
@@ -16,48 +20,6 @@ pub struct PackAnswer {
     pub frames: usize,
     pub samples: usize,
     pub octets: usize,
-}
-
-// Of the five lengths the largest that is at most `most`; 0 where none is.
-fn largest_up_to(most: usize) -> usize
-    ensures { λ r. ⌜ r ≡ largestUpTo most ⌝ }
-{
-    if 320 <= most {
-        return 320;
-    }
-    if 240 <= most {
-        return 240;
-    }
-    if 160 <= most {
-        return 160;
-    }
-    if 80 <= most {
-        return 80;
-    }
-    if 40 <= most {
-        return 40;
-    }
-    0
-}
-
-// The next frame's length: at most the frame length and at most the sound left.
-fn next_length(n: usize, left: usize) -> usize
-    ensures { λ r. ⌜ r ≡ nextLength n left ⌝ }
-{
-    if n <= left {
-        return largest_up_to(n);
-    }
-    largest_up_to(left)
-}
-
-// A length is the largest up to itself.
-fn is_length(n: usize) -> bool
-    ensures { λ r. ⌜ r ≡ isLength n ⌝ }
-{
-    if n == 0 {
-        return false;
-    }
-    largest_up_to(n) == n
 }
 
 // One frame of the sound; its form goes to the output from `at` on.
@@ -74,16 +36,6 @@ fn put_frame(
     ensures { λ r. ⌜ PutsFrame (now (sound .entry)) from (to - from) law set at (now (out .entry)) (now (out .exit)) r ⌝ }
 {
     writer::write_samples(&sound[from..to], law, set, &mut out[at..])
-}
-
-// How a sound ends with so many octets left that no length fits.
-fn last_end(left: usize) -> Ending
-    ensures { λ r. ⌜ r ≡ lastEnd left ⌝ }
-{
-    if left == 0 {
-        return Ending::Done;
-    }
-    Ending::Refused(Refusal::Length)
 }
 
 // Frame after frame, until no length fits or a form does not fit in what is left of the output.
@@ -177,19 +129,4 @@ pub fn pack_on(
         samples: done.samples + p.samples,
         octets: at + p.octets,
     }
-}
-
-// Plus zeros after the first `len` octets, up to the next multiple of 40, which every end of a sound can be cut into. Answers how many.
-pub fn fill_up(sound: &mut [u8], len: usize, law: u32) -> usize
-    requires { ⌜ len + toFill len ≤ length (now sound) ⌝ }
-    ensures { λ r. ⌜ FillsUp len law (now (sound .entry)) (now (sound .exit)) r ⌝ }
-{
-    let plus = law::plus_zero(law::mask_of(law));
-    let more = (40 - len % 40) % 40;
-    let mut i = 0;
-    while i < more {
-        sound[len + i] = plus;
-        i += 1;
-    }
-    more
 }

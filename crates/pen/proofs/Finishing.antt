@@ -1,5 +1,5 @@
 -- Laws of the end: what is held, filled and stored; and then all is packed.
-use Prim.Native.Nat.{ℕ, zero, suc, _+_, _*_, _-_, _^_, _/_, _%_, _≤_, _<_}
+use Prim.Native.Nat.{ℕ, _+_, _*_, _-_, _^_, _/_, _%_, _≤_, _<_}
 use mathlib.Core.Path.{_≡_, sym, ap, _∙_}
 use mathlib.Core.List.{List, _++_, append-nil, append-assoc}
 use native.Mathlib.Omega.{arith}
@@ -12,7 +12,7 @@ use Rattle.pen.specs.declared.Pen.{Pen}
 use Rattle.pen.specs.Puts.{penBits, Able, Puts, Flushes, Packed}
 use Rattle.rules.proofs.Words.{lowBits-split, lowBits-mod}
 use Rattle.pen.proofs.Putting.{drop-further}
-use Rattle.pen.proofs.Rice.{zero-bits}
+use Rattle.look.proofs.Rows.{zero-bits}
 
 -- a turn of the loop
 pub record FlushTurn (o : List ℕ) (word held₀ at₀ : ℕ) (o′ : List ℕ) (held at : ℕ) : Type 0 where

@@ -4,10 +4,10 @@ use mathlib.Core.Path.{_≡_, refl, sym, ap, _∙_}
 use mathlib.Core.List.{List, [], _++_, append-nil, append-assoc}
 use native.Mathlib.Omega.{arith}
 use lib.ListN.{length, take, drop, set, length-append}
-use lib.Seq.{sets, sets-eq, take-at, drop-at, drop-drop, length-take-le}
+use lib.Seq.{sets-eq, take-at, drop-at, drop-drop, length-take-le}
 use lib.Pow.{pow-add, pow-mono, shl-exact}
 use lib.Arith.{digits-lt}
-use Rattle.rules.specs.Bits.{lowBits, bitsOf}
+use Rattle.rules.specs.Bits.{lowBits}
 use Rattle.rules.proofs.Octets.{length-lowBits, bitsOf-append}
 use Rattle.pen.specs.declared.Pen.{Pen}
 use Rattle.pen.specs.Puts.{penBits, Able, Puts, Stores}

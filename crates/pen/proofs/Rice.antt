@@ -1,30 +1,20 @@
 -- Laws of putting Rice codes.
-use Prim.Native.Nat.{ℕ, zero, suc, _+_, _*_, _-_, _^_, _/_, _%_, _≤_, _<_}
+use Prim.Native.Nat.{ℕ, suc, _+_, _*_, _-_, _^_, _/_, _%_, _≤_, _<_}
 use mathlib.Core.Path.{_≡_, refl, ap, _∙_}
-use mathlib.Core.List.{List, [], _∷_, _++_, append-nil, append-assoc}
+use mathlib.Core.List.{List, [], _∷_, _++_, append-assoc}
 use native.Mathlib.Omega.{arith}
-use native.Mathlib.Numerals.{add-one}
-use native.Mathlib.Nat.{zero-add, zero-div, mod-lt, pow-suc, lt-of-lt-of-le}
+use native.Mathlib.Nat.{zero-add, mod-lt, pow-suc, lt-of-lt-of-le}
 use lib.Dec.{lit<}
 use lib.ListN.{length, getD, take, replicate, length-append, length-replicate, replicate-append-replicate}
-use lib.Seq.{take-suc, take-add}
-use lib.Pow.{pow-pos, pow-mono, shl-exact}
+use lib.Pow.{pow-pos, pow-mono}
 use Rattle.rules.specs.Bits.{lowBits}
 use Rattle.rules.specs.Runs.{riceForm, riceForms}
-use Rattle.rules.proofs.Octets.{length-lowBits}
 use Rattle.pen.specs.declared.Pen.{Pen}
 use Rattle.pen.specs.Puts.{Able, Puts}
 use Rattle.rules.proofs.Words.{lowBits-mod, lowBits-join}
 use Rattle.pen.proofs.Putting.{puts-none, puts-then, puts-as, able-then}
-
-pub length-riceForm : (s v : ℕ) → length (riceForm s v) ≡ v / 2 ^ s + 1 + s
-unfolding riceForm
-length-riceForm s v = simp (length-append, length-replicate, length-lowBits) (omega arith)
-
-pub zero-bits : (n : ℕ) → lowBits n 0 ≡ replicate n 0
-unfolding lowBits
-zero-bits zero = refl
-zero-bits (suc n) = rw (zero-div, zero-bits n)
+use Rattle.measure.proofs.Rice.{forms-le, forms-suc}
+use Rattle.look.proofs.Rows.{zero-bits}
 
 -- a turn of the loop: so many zeros are still to come
 pub record ZerosTurn (o : List ℕ) (v : ℕ) (p : Pen) (o′ : List ℕ) (p′ : Pen) (zeros : ℕ) : Type 0 where
@@ -55,10 +45,6 @@ module _ {o o′ : List ℕ} {v : ℕ} {p p′ : Pen} {zeros : ℕ} (turn : Zero
       let e : v - (zeros - zeros) ≡ v = omega arith in
       rw e at (zeros-then zeros (omega arith) put size .puts)
 
--- what the code has for 2 ^ s
-pub one-shifted : (s : ℕ) → s ≤ 15 → (1 * 2 ^ s) % 2 ^ 64 ≡ 2 ^ s
-one-shifted s h = shl-exact {a = 1} 1 s 64 (lit< tt) (omega arith) ∙ omega arith
-
 pub rice-fits : (k s v : ℕ) {one : ℕ} → one ≡ 2 ^ s → one + v % one < 2 ^ (k + 1 + s)
 rice-fits k s v e =
     let m = mod-lt v (pow-pos s) in
@@ -88,21 +74,6 @@ pub rice-long : (s v : ℕ) {o o′ o″ : List ℕ} {p p′ p″ : Pen} {one : 
 unfolding riceForm
 rice-long s v e zeros put =
     puts-then zeros (puts-as put (rice-end 0 s v e))
-
--- runs: those done, and one more
-forms-append : (s : ℕ) (a b : List ℕ) → riceForms s (a ++ b) ≡ riceForms s a ++ riceForms s b
-unfolding riceForms
-forms-append s [] b = refl
-forms-append s (v ∷ a) b = rw (forms-append s a b, append-assoc)
-
-pub forms-suc : (s : ℕ) (l : List ℕ) (j : ℕ) → j < length l → riceForms s (take (j + 1) l) ≡ riceForms s (take j l) ++ riceForm s (getD l j 0)
-unfolding riceForms
-forms-suc s l j h = rw (add-one, take-suc l j 0, forms-append, append-nil)
-
-forms-le : (s : ℕ) (l : List ℕ) (i n : ℕ) → i ≤ n → length (riceForms s (take i l)) ≤ length (riceForms s (take n l))
-forms-le s l i n h =
-    let e : n ≡ i + (n - i) = omega arith in
-    rw (e, take-add i (n - i) l, forms-append, length-append) (omega arith)
 
 pub record RunsTurn (o : List ℕ) (p : Pen) (s : ℕ) (runs o′ : List ℕ) (p′ : Pen) (count j : ℕ) : Type 0 where
   pub puts : Puts o p (riceForms s (take j runs)) o′ p′

@@ -1,28 +1,18 @@
 -- Laws of putting a row of words.
-use Prim.Native.Nat.{ℕ, suc, _+_, _*_, _-_, _^_, _/_, _%_, _≤_, _<_}
+use Prim.Native.Nat.{ℕ, _+_, _*_, _^_, _/_, _%_, _≤_, _<_}
 use mathlib.Core.Path.{_≡_, refl, sym, ap, _∙_}
-use mathlib.Core.List.{List, [], _∷_, _++_, append-nil, append-assoc}
+use mathlib.Core.List.{List, _++_, append-nil}
 use native.Mathlib.Omega.{arith}
 use native.Mathlib.Numerals.{add-one}
-use lib.ListN.{length, getD, take, length-append}
+use lib.ListN.{length, getD, take}
 use lib.Seq.{take-suc, length-take-le}
 use Rattle.rules.specs.Bits.{lowBits}
-use Rattle.rules.proofs.Octets.{length-lowBits}
 use Rattle.pen.specs.declared.Pen.{Pen}
 use Rattle.pen.specs.Puts.{Able, Puts}
-use Rattle.pen.specs.Rows.{rowBits}
+use Rattle.look.specs.Rows.{rowBits}
 use Rattle.rules.proofs.Words.{lowBits-split, lowBits-mod}
 use Rattle.pen.proofs.Putting.{puts-none, puts-then, puts-as, able-then}
-
-pub row-append : (a b : List ℕ) → rowBits (a ++ b) ≡ rowBits a ++ rowBits b
-unfolding rowBits
-row-append [] b = refl
-row-append (w ∷ a) b = rw (row-append a b, append-assoc)
-
-pub length-rowBits : (ws : List ℕ) → length (rowBits ws) ≡ 40 * length ws
-unfolding rowBits
-length-rowBits [] = refl
-length-rowBits (w ∷ ws) = rw (length-append (lowBits 40 w) (rowBits ws), length-lowBits 40 w, length-rowBits ws) (omega arith)
+use Rattle.look.proofs.Rows.{length-rowBits, row-append}
 
 -- a word by its upper 8 bits and its lower 32
 word-parts : (w : ℕ) → lowBits 8 (w / 2 ^ 32) ++ lowBits 32 (w % 2 ^ 32) ≡ lowBits 40 w

@@ -29,11 +29,6 @@ pub record Stores (o : List ℕ) (at w : ℕ) (o′ : List ℕ) : Type 0 where
   pub says : bitsOf (take (at + 4) o′) ≡ bitsOf (take at o) ++ lowBits 32 w
   pub rest : drop (at + 4) o′ ≡ drop (at + 4) o
 
--- n flags as the bits of a number
-pub record Gathers (flags : List ℕ) (n v : ℕ) : Type 0 where
-  pub says : lowBits n v ≡ flags
-  pub fits : v < 2 ^ n
-
 -- all that the pen holds stored, where it is whole octets
 pub record Flushes (o : List ℕ) (p : Pen) (o′ : List ℕ) (n : ℕ) : Type 0 where
   pub says : bitsOf (take n o′) ≡ penBits o p

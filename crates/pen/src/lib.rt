@@ -2,12 +2,11 @@
 // Up to 31 bits are held in a word; where 32 are there, they are stored as four octets at once.
 
 ghost use mathlib.Core.Path.{_≡_};
-ghost use mathlib.Core.List.{[]};
 ghost use Prim.Native.Nat.{ℕ, _+_, _*_, _-_, _^_, _%_, _≤_, _<_};
 ghost use lib.ListN.{length, getD, take, replicate};
-ghost use Rattle.rules.specs.Bits.{lowBits, bitsOf};
+ghost use Rattle.rules.specs.Bits.{lowBits};
 ghost use Rattle.rules.specs.Runs.{riceForm, riceForms};
-ghost use Rattle.pen.specs.Rows.{rowBits};
+ghost use Rattle.look.specs.Rows.{rowBits};
 ghost use Rattle.pen.specs.Puts.{penBits, Able, Puts, Stores, Flushes, Packed};
 
 pub struct Pen {

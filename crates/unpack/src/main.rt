@@ -67,7 +67,7 @@ fn compared(fd: i32, sound: &[u8], master: &mut [u8]) -> Used
         };
     }
     let m = got.count;
-    let good = unpacking::agree(sound, &master[..m]);
+    let good = comparing::agree(sound, &master[..m]);
     if good == n {
         return Used {
             wrong: NOTHING,

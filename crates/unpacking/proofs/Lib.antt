@@ -1,4 +1,3 @@
-pub mod Agrees
 pub mod Parting
 pub mod Guarded
 pub mod Whole

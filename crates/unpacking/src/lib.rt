@@ -1,9 +1,8 @@
-// A stream back to sound, part by part, and the comparison of two sounds.
+// A stream back to sound, part by part.
 ghost use mathlib.Core.Path.{_≡_};
 ghost use Prim.Native.Nat.{suc, _≤_};
 ghost use lib.ListN.{length};
 ghost use Rattle.unpacking.specs.Parts.{Parts, partFrom, NextPart, Goes, StopsAtOnce};
-ghost use Rattle.unpacking.specs.Agreeing.{agreeing};
 use rules::Ending;
 use rules::Refusal;
 
@@ -88,22 +87,4 @@ pub fn next_part(stream: &[u8], law: u32, set: u32, at: usize, out: &mut [u8]) -
         return stopped(Refusal::Long);
     }
     frames_from(stream, law, set, at, out)
-}
-
-// The number of octets at the start in which two sounds agree.
-pub fn agree(a: &[u8], b: &[u8]) -> usize
-    ensures { λ r. ⌜ r ≡ agreeing (now (a .entry)) (now (b .entry)) ⌝ }
-    ensures most { λ r. ⌜ (r ≤ length (now (a .entry))) × (r ≤ length (now (b .entry))) ⌝ }
-{
-    let mut i = 0;
-    while i < a.len() {
-        if b.len() <= i {
-            return i;
-        }
-        if a[i] != b[i] {
-            return i;
-        }
-        i += 1;
-    }
-    i
 }

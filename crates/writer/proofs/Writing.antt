@@ -1,5 +1,5 @@
 -- Laws of a writing: what it tells, and the order of its refusals.
-use Prim.Native.Nat.{ℕ, _+_, _%_, _≤_, _<_}
+use Prim.Native.Nat.{ℕ, _%_, _≤_, _<_}
 use mathlib.Core.Path.{_≡_, refl, sym, ap, _∙_}
 use mathlib.Core.List.{List, [], _∷_, _++_}
 use mathlib.Core.Bool.{Bool, true, false, cond}
@@ -19,10 +19,11 @@ use Rattle.rules.specs.Chooses.{formOf, Written, Write, declined, chosen, write
 use Rattle.rules.specs.Calls.{Writes}
 use Rattle.rules.proofs.Octets.{length-pack}
 use Rattle.rules.proofs.Tests.{by-length}
-use Rattle.choice.specs.Plans.{isMask, Plain}
+use Rattle.look.specs.Looks.{isMask}
+use Rattle.choice.specs.Plans.{Plain}
 use Rattle.pen.specs.Puts.{Packed}
 use Rattle.writer.specs.Answers.{Tells, fitting, pad, full, plain, found}
-use Rattle.writer.proofs.Whole.{whole-form}
+use Rattle.forms.proofs.Whole.{whole-form}
 
 -- a refusal leaves the output as lent
 pub refused-writes : {why : Refusal} {r : WriteAnswer} {out : List ℕ} → Tells (declined why) r → Writes (declined why) r out out

@@ -11,7 +11,7 @@ use Rattle.rules.specs.Bits.{lowBits, bitsOf, octetsFor}
 use Rattle.rules.specs.Chooses.{Written, Write, wrote, declined, choose, chosenTool, formOf}
 use Rattle.rules.specs.Calls.{writeEnd, writtenBits, writeTool}
 use Rattle.choice.specs.Plans.{measured}
-use Rattle.writer.specs.Forms.{wholeOctets}
+use Rattle.forms.specs.Forms.{wholeOctets}
 
 pub record Tells (written : Write) (r : WriteAnswer) : Type 0 where
   pub end : r .end ≡ writeEnd written

@@ -1,4 +1,2 @@
--- What the writer puts out.
-pub mod Ways
-pub mod Forms
+-- What a writing reports.
 pub mod Answers

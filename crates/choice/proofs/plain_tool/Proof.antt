@@ -4,8 +4,8 @@ use mathlib.Core.Path.{_≡_, sym}
 use native.Mathlib.Omega.{arith}
 use lib.ListN.{length, getD, take}
 use lib.Seq.{length-take-le, getD-take}
-use Rattle.measure.specs.declared.Spread.{Spread}
-use Rattle.choice.proofs.Settling.{OneValue, one-of, several, spread, value-settled, value-lacks, mask-seven}
+use Rattle.choice.proofs.Settling.{OneValue, one-of, several, spread, value-settled, value-lacks}
+use Rattle.look.proofs.Tests.{mask-seven}
 use Rattle.choice.proofs.plain_tool.Statement.{statement}
 use Rattle.choice.proofs.plain_tool.Tie as tie
 use Rattle.choice.proofs.plain_tool.Reads as reads

@@ -2,10 +2,10 @@ use borrow.Author.Needs.{needs}
 use mathlib.Core.Path.{sym, ap, _∙_}
 use Rattle.choice.specs.declared.Choice.{Choice}
 use Rattle.choice.proofs.Planning.{past, not-placed, placed-for}
-use Rattle.choice.proofs.Rows.{flag-is, turn-of, row-is, applied-is, row-low, values-say, ways-small}
-use Rattle.choice.proofs.Settling.{mask-seven}
-use Rattle.choice.proofs.Near.{law-for}
-use Rattle.choice.specs.Offers.{samplesOf}
+use Rattle.locating.proofs.Rows.{flag-is, turn-of, row-is, applied-is, row-low, values-say, ways-small}
+use Rattle.look.proofs.Tests.{mask-seven}
+use Rattle.locating.proofs.Near.{law-for}
+use Rattle.locating.specs.Rows.{samplesOf}
 use Rattle.rules.specs.Chooses.{applies}
 use mathlib.Core.Bool.{Bool, _&&_}
 use borrow.Author.Tests.{not-true, not-false}
@@ -17,16 +17,16 @@ use Rattle.choice.proofs.values_plan.Tie as tie
 use Rattle.choice.proofs.values_plan.Reads as reads
 use Rattle.choice.proofs.values_plan.Lts as lts
 use Rattle.choice.proofs.better.Reads as better-reads
-use Rattle.choice.proofs.flag_of.Reads as flag-of-reads
-use Rattle.choice.proofs.located_applies.Reads as located-applies-reads
-use Rattle.choice.proofs.located_bits.Reads as located-bits-reads
+use Rattle.locating.proofs.flag_of.Reads as flag-of-reads
+use Rattle.locating.proofs.located_applies.Reads as located-applies-reads
+use Rattle.locating.proofs.located_bits.Reads as located-bits-reads
 use Rattle.choice.proofs.not_placed.Reads as not-placed-reads
 use Rattle.choice.proofs.placed_by.Reads as placed-by-reads
-use Rattle.choice.proofs.row_of.Reads as row-of-reads
-use Rattle.choice.proofs.tally_of.Reads as tally-of-reads
+use Rattle.locating.proofs.row_of.Reads as row-of-reads
+use Rattle.locating.proofs.tally_of.Reads as tally-of-reads
 use Rattle.choice.proofs.uncompressed_of.Reads as uncompressed-of-reads
-use Rattle.choice.proofs.values_of.Reads as values-of-reads
-use Rattle.choice.proofs.ways_of.Reads as ways-of-reads
+use Rattle.locating.proofs.values_of.Reads as values-of-reads
+use Rattle.locating.proofs.ways_of.Reads as ways-of-reads
 use Rattle.law.proofs.plus_zero.Reads as plus-zero-reads
 use Rattle.prefix.proofs.holds.Reads as holds-reads
 

@@ -1,8 +1,8 @@
 use borrow.Author.Needs.{needs}
 use mathlib.Core.Path.{refl, ap}
 use Rattle.choice.specs.declared.Choice.{Choice}
-use Rattle.choice.proofs.Near.{counted, count-fits}
-use Rattle.choice.proofs.TwoZeros.{plus-left}
+use Rattle.locating.proofs.Near.{counted, count-fits}
+use Rattle.zeros.proofs.TwoZeros.{plus-left}
 use Rattle.choice.proofs.Planning.{zeros-planned}
 use Rattle.choice.proofs.Even.{binary-settled}
 use lib.Seq.{length-take-le}
@@ -13,11 +13,11 @@ use Rattle.choice.proofs.zeros_plan.Tie as tie
 use Rattle.choice.proofs.zeros_plan.Reads as reads
 use Rattle.choice.proofs.zeros_plan.Lts as lts
 use Rattle.choice.proofs.better.Reads as better-reads
-use Rattle.choice.proofs.binary_at_once.Reads as binary-at-once-reads
-use Rattle.choice.proofs.rice_of.Reads as rice-of-reads
+use Rattle.zeros.proofs.binary_at_once.Reads as binary-at-once-reads
+use Rattle.zeros.proofs.rice_of.Reads as rice-of-reads
 use Rattle.choice.proofs.uncompressed_of.Reads as uncompressed-of-reads
 use Rattle.law.proofs.minus_zero.Reads as minus-zero-reads
-use Rattle.measure.proofs.count_of.Reads as count-of-reads
+use Rattle.look.proofs.count_of.Reads as count-of-reads
 use Rattle.prefix.proofs.holds.Reads as holds-reads
 
 minus-zero-requires : tie.Need-minus-zero-requires

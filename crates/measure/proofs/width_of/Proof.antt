@@ -1,10 +1,9 @@
-use borrow.Author.Needs.{needs}
 use native.Mathlib.Nat.{sub-zero}
 use Prim.Native.Nat.{_≤_, _<_, _-_, _^_}
-use mathlib.Core.Path.{_≡_, refl}
+use mathlib.Core.Path.{_≡_}
 use native.Mathlib.Omega.{arith}
 use Rattle.rules.specs.Located.{widthFrom, widthOf}
-use Rattle.pen.proofs.Rice.{one-shifted}
+use Rattle.measure.proofs.Rice.{one-shifted}
 use Rattle.measure.proofs.Weighing.{width-small, width-turn, width-done}
 use Rattle.measure.proofs.width_of.Statement.{statement}
 use Rattle.measure.proofs.width_of.Tie as tie

@@ -1,8 +1,8 @@
 use borrow.Author.Needs.{needs}
-use Rattle.options.proofs.Texts.{part-left}
+use Rattle.texts.proofs.Texts.{part-left}
 use lib.ListN.{getD}
 use Rattle.options.specs.Arguments.{argumentOf, numberedOf}
-use mathlib.Core.Path.{_≡_, refl, sym, ap, _∙_}
+use mathlib.Core.Path.{ap, _∙_}
 use borrow.Author.Tests.{eq-eqb, ne-eqb}
 use Rattle.options.proofs.argument_in.Statement.{statement}
 use Rattle.options.proofs.argument_in.Tie as tie

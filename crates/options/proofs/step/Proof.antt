@@ -1,8 +1,8 @@
 use borrow.Author.Needs.{needs}
 use Rattle.options.specs.declared.Argument.{Argument}
-use Rattle.options.specs.declared.Number.{Number}
+use Rattle.texts.specs.declared.Number.{Number}
 use Rattle.options.specs.Arguments.{stepOf, withArgument, withNumber}
-use mathlib.Core.Path.{_≡_, refl, sym, ap, _∙_}
+use mathlib.Core.Path.{ap, _∙_}
 use borrow.Author.Tests.{eq-eqb, ne-eqb}
 use Rattle.options.proofs.step.Statement.{statement}
 use Rattle.options.proofs.step.Tie as tie

@@ -1,4 +1,3 @@
-use borrow.Author.Needs.{needs}
 use Rattle.options.specs.Arguments.{wantedBy}
 use borrow.Author.Tests.{eq-eqb, ne-eqb}
 use Rattle.options.proofs.wanted_by.Statement.{statement}

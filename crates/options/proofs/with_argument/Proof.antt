@@ -2,7 +2,6 @@ use borrow.Author.Needs.{needs}
 use Rattle.options.specs.Arguments.{withArgument}
 use Rattle.options.specs.declared.Argument.{Argument}
 use mathlib.Core.Path.{sym, ap, _∙_}
-use borrow.Author.Tests.{eq-eqb, ne-eqb}
 use Rattle.options.proofs.with_argument.Statement.{statement}
 use Rattle.options.proofs.with_argument.Tie as tie
 

@@ -1,6 +1,6 @@
 use borrow.Author.Needs.{needs}
 use Rattle.options.specs.Arguments.{withNumber}
-use Rattle.options.specs.declared.Number.{Number}
+use Rattle.texts.specs.declared.Number.{Number}
 use mathlib.Core.Path.{sym, ap, _∙_}
 use borrow.Author.Tests.{eq-eqb, ne-eqb}
 use Rattle.options.proofs.with_number.Statement.{statement}

@@ -1,7 +1,8 @@
 use borrow.Author.Needs.{needs}
 use mathlib.Core.Path.{_≡_, _∙_}
 use lib.ListN.{length}
-use Rattle.pack.specs.Runs.{partSize, Stands, stepsLeft}
+use Rattle.cutting.specs.Parts.{partSize}
+use Rattle.pack.specs.Runs.{Stands, stepsLeft}
 use Rattle.pack.proofs.all_parts.Statement.{statement}
 use Rattle.pack.proofs.all_parts.Tie as tie
 

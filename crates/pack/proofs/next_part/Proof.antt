@@ -7,7 +7,7 @@ use lib.ListN.{length, take}
 use lib.Seq.{length-take-le}
 use Rattle.rules.proofs.Octets.{Below, below-all, below-take}
 use Rattle.pack.specs.declared.Run.{Run}
-use Rattle.pack.specs.Runs.{partSize}
+use Rattle.cutting.specs.Parts.{partSize}
 use Rattle.pack.proofs.Running.{read-failed, part-taken}
 use Rattle.pack.proofs.next_part.Statement.{statement}
 use Rattle.pack.proofs.next_part.Tie as tie

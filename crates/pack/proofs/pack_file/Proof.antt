@@ -4,7 +4,7 @@ use mathlib.Core.Bool.{true, false}
 use native.Mathlib.Omega.{arith}
 use Rattle.pack.specs.declared.Run.{Run}
 use Rattle.pack.proofs.Running.{stands-first}
-use Rattle.pack.proofs.Numbers.{number-done}
+use Rattle.cutting.proofs.Numbers.{number-done}
 use Rattle.pack.proofs.pack_file.Statement.{statement}
 use Rattle.pack.proofs.pack_file.Tie as tie
 

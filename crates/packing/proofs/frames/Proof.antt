@@ -7,7 +7,7 @@ use Rattle.rules.specs.declared.Refusal.{Refusal}
 use Rattle.rules.specs.declared.Ending.the-variants.{Done, Refused}
 use Rattle.rules.proofs.Lent.{lent-length}
 use Rattle.packing.specs.Packing.{Packs}
-use Rattle.packing.proofs.Lengths.{Fits, next-fits}
+use Rattle.cutting.proofs.Lengths.{Fits, next-fits}
 use Rattle.packing.proofs.Way.{packed, Packing, pack-start, pack-done, pack-turn, pack-refused}
 use Rattle.packing.proofs.frames.Statement.{statement}
 use Rattle.packing.proofs.frames.Tie as tie

@@ -1,7 +1,6 @@
 use borrow.Author.Needs.{needs}
-use Rattle.pen.proofs.Finishing.{flush-done}
+use Rattle.pen.proofs.Finishing.{flush-done, FlushTurn, flush-turn}
 use native.Mathlib.Omega.{arith}
-use Rattle.pen.proofs.Finishing.{FlushTurn, flush-turn}
 use Rattle.pen.proofs.flush.Statement.{statement}
 use Rattle.pen.proofs.flush.Tie as tie
 use Rattle.pen.proofs.flush.Reads as reads

@@ -4,7 +4,8 @@ use native.Mathlib.Omega.{arith}
 use lib.ListN.{length-replicate}
 use lib.Pow.{pow-pos}
 use Rattle.pen.proofs.Putting.{able-as, able-then}
-use Rattle.pen.proofs.Rice.{length-riceForm, one-shifted, rice-fits, rice-word, rice-short, rice-long}
+use Rattle.measure.proofs.Rice.{length-riceForm, one-shifted}
+use Rattle.pen.proofs.Rice.{rice-fits, rice-word, rice-short, rice-long}
 use Rattle.pen.proofs.put_rice.Statement.{statement}
 use Rattle.pen.proofs.put_rice.Tie as tie
 use Rattle.pen.proofs.put_rice.Reads as reads

@@ -1,9 +1,8 @@
 use borrow.Author.Needs.{needs}
 use mathlib.Core.Path.{_≡_, refl}
-use Rattle.pen.proofs.Rice.{runs-none, runs-able, runs-then}
+use Rattle.pen.proofs.Rice.{runs-none, runs-able, runs-then, RunsTurn}
 use Prim.Native.Nat.{_-_}
 use native.Mathlib.Omega.{arith}
-use Rattle.pen.proofs.Rice.{RunsTurn}
 use Rattle.pen.proofs.put_runs.Statement.{statement}
 use Rattle.pen.proofs.put_runs.Tie as tie
 use Rattle.pen.proofs.put_runs.Reads as reads

@@ -1,4 +1,3 @@
-use borrow.Author.Needs.{needs}
 use native.Mathlib.Omega.{arith}
 use Rattle.writer.proofs.Writing.{not-length}
 use Rattle.writer.proofs.is_length.Statement.{statement}

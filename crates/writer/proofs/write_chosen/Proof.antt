@@ -2,7 +2,7 @@ use borrow.Author.Needs.{needs}
 use mathlib.Core.Path.{sym, ap, _∙_}
 use borrow.Author.Tests.{eq-eqb, ne-eqb}
 use lib.ListN.{length}
-use Rattle.choice.proofs.Settling.{mask-seven}
+use Rattle.look.proofs.Tests.{mask-seven}
 use Rattle.writer.specs.Answers.{fitting}
 use Rattle.writer.proofs.Writing.{writes-as, plain-full, found-full}
 use Rattle.writer.proofs.write_chosen.Statement.{statement}
@@ -10,7 +10,7 @@ use Rattle.writer.proofs.write_chosen.Tie as tie
 use Rattle.writer.proofs.write_chosen.Reads as reads
 use Rattle.writer.proofs.write_chosen.Lts as lts
 use Rattle.choice.proofs.plain_tool.Reads as plain-tool-reads
-use Rattle.measure.proofs.spread_of.Reads as spread-of-reads
+use Rattle.look.proofs.spread_of.Reads as spread-of-reads
 use Rattle.writer.proofs.write_plain.Reads as write-plain-reads
 use Rattle.writer.proofs.write_values.Reads as write-values-reads
 use Rattle.writer.proofs.write_zeros.Reads as write-zeros-reads

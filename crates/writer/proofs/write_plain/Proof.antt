@@ -8,17 +8,17 @@ use lib.ListN.{length, take}
 use lib.Seq.{length-take-le}
 use Rattle.rules.specs.Bits.{bitsOf}
 use Rattle.rules.proofs.Octets.{length-bitsOf}
-use Rattle.writer.specs.Forms.{wholeOctets}
+use Rattle.forms.specs.Forms.{wholeOctets}
 use Rattle.writer.specs.Answers.{plain}
-use Rattle.writer.proofs.Whole.{whole-length, octets-few}
+use Rattle.forms.proofs.Whole.{whole-length, octets-few}
 use Rattle.writer.proofs.Writing.{no-room, all-written}
 use Rattle.writer.proofs.write_plain.Statement.{statement}
 use Rattle.writer.proofs.write_plain.Tie as tie
 use Rattle.writer.proofs.write_plain.Reads as reads
 use Rattle.writer.proofs.write_plain.Lts as lts
-use Rattle.writer.proofs.put_whole.Reads as put-whole-reads
+use Rattle.forms.proofs.put_whole.Reads as put-whole-reads
 use Rattle.writer.proofs.refused.Reads as refused-reads
-use Rattle.writer.proofs.whole_octets.Reads as whole-octets-reads
+use Rattle.forms.proofs.whole_octets.Reads as whole-octets-reads
 
 -- eight bits an octet
 need : (s : tie.Start) → length (bitsOf (wholeOctets (s .args .tool) (take (s .args .n) (s .args .samples .now)))) ≡ 8 * length (wholeOctets (s .args .tool) (take (s .args .n) (s .args .samples .now)))

@@ -5,16 +5,17 @@ use native.Mathlib.Omega.{arith}
 use lib.ListN.{length, take}
 use Rattle.rules.specs.Chooses.{formOf}
 use Rattle.writer.specs.Answers.{found}
-use Rattle.writer.proofs.Turns.{placed-ready}
-use Rattle.writer.proofs.Form.{cells-length, plan-form}
+use Rattle.forms.proofs.Turns.{placed-ready}
+use Rattle.forms.proofs.Form.{cells-length}
+use Rattle.writer.proofs.Planned.{plan-form}
 use Rattle.writer.proofs.Writing.{no-room, all-written}
 use Rattle.writer.proofs.write_values.Statement.{statement}
 use Rattle.writer.proofs.write_values.Tie as tie
 use Rattle.writer.proofs.write_values.Reads as reads
 use Rattle.writer.proofs.write_values.Lts as lts
 use Rattle.choice.proofs.values_plan.Reads as values-plan-reads
-use Rattle.writer.proofs.octets_for.Reads as octets-for-reads
-use Rattle.writer.proofs.put_placed.Reads as put-placed-reads
+use Rattle.measure.proofs.octets_for.Reads as octets-for-reads
+use Rattle.forms.proofs.put_placed.Reads as put-placed-reads
 use Rattle.writer.proofs.refused.Reads as refused-reads
 
 values-plan-requires : tie.Need-values-plan-requires

@@ -5,7 +5,8 @@ use native.Mathlib.Omega.{arith}
 use lib.ListN.{length, take}
 use Rattle.rules.specs.Chooses.{formOf}
 use Rattle.writer.specs.Answers.{found}
-use Rattle.writer.proofs.Form.{cells-length, rice-ready, row-flags, zeros-form}
+use Rattle.forms.proofs.Form.{cells-length, rice-ready, row-flags}
+use Rattle.writer.proofs.Planned.{zeros-form}
 use Rattle.writer.proofs.Writing.{no-room, all-written}
 use Rattle.writer.proofs.write_zeros.Statement.{statement}
 use Rattle.writer.proofs.write_zeros.Tie as tie
@@ -13,9 +14,9 @@ use Rattle.writer.proofs.write_zeros.Reads as reads
 use Rattle.writer.proofs.write_zeros.Lts as lts
 use Rattle.choice.proofs.zeros_plan.Reads as zeros-plan-reads
 use Rattle.law.proofs.plus_zero.Reads as plus-zero-reads
-use Rattle.measure.proofs.others.Reads as others-reads
-use Rattle.writer.proofs.octets_for.Reads as octets-for-reads
-use Rattle.writer.proofs.put_two_zeros.Reads as put-two-zeros-reads
+use Rattle.look.proofs.others.Reads as others-reads
+use Rattle.measure.proofs.octets_for.Reads as octets-for-reads
+use Rattle.forms.proofs.put_two_zeros.Reads as put-two-zeros-reads
 use Rattle.writer.proofs.refused.Reads as refused-reads
 
 plus-zero-requires : tie.Need-plus-zero-requires

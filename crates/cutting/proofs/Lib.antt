@@ -1,0 +1,4 @@
+pub mod Lengths
+pub mod Cuts
+pub mod Filling
+pub mod Numbers

@@ -1,0 +1,74 @@
+use borrow.Author.Needs.{needs}
+use Prim.Native.Nat.{_-_}
+use mathlib.Core.Path.{refl, ap, _∙_}
+use native.Mathlib.Omega.{arith}
+use Rattle.rules.specs.Samples.{plusZero}
+use Rattle.cutting.specs.Cuts.{toFill}
+use Rattle.cutting.proofs.Filling.{Filling, fill-start, fill-length, fill-turn, fill-done, mask-low}
+use Rattle.cutting.proofs.fill_up.Statement.{statement}
+use Rattle.cutting.proofs.fill_up.Tie as tie
+
+abbrev Inv-loop : tie.InvT-loop
+Inv-loop sound₀ len law plus more i₀ sound i = Filling sound₀ len more plus sound i
+
+abbrev μ-loop : tie.MeasureT-loop
+μ-loop sound₀ len law plus more i₀ sound i = more - i
+
+mask-of-requires : tie.Need-mask-of-requires Inv-loop μ-loop
+mask-of-requires c κs = search needs
+
+plus-zero-requires : tie.Need-plus-zero-requires Inv-loop μ-loop
+plus-zero-requires c κs = rw (c .mask-of .ensures) (mask-low (c .before .before .args .law))
+
+sub-more : tie.Need-sub-more Inv-loop μ-loop
+sub-more c = search needs
+
+loop-holds : tie.Need-loop-holds Inv-loop μ-loop
+loop-holds c = let s = c .before .before .before in fill-start (s .args .sound .now) (s .args .len) (toFill (s .args .len)) (c .plus-zero .result)
+
+add-sound : tie.Need-add-sound Inv-loop μ-loop
+add-sound c = search needs
+
+slice-write-sound : tie.Need-slice-write-sound Inv-loop μ-loop
+slice-write-sound c =
+    let s = c .before .before .before .before .before in
+    omega (arith, fill-length (s .args .sound .now) (s .args .len) (toFill (s .args .len)) (c .before .before .plus-zero .result) (s .pre) (c .before .loop .inv))
+
+add-i : tie.Need-add-i Inv-loop μ-loop
+add-i c = search needs
+
+loop-less : tie.Need-loop-less Inv-loop μ-loop
+loop-less c = search needs
+
+loop-again : tie.Need-loop-again Inv-loop μ-loop
+loop-again c =
+    let s = c .before .before .before .before .before in
+    fill-turn (s .args .sound .now) (s .args .len) (toFill (s .args .len)) (c .before .before .plus-zero .result) (s .pre) (c .before .loop .inv) (omega arith)
+
+same-length : tie.Need-same-length Inv-loop μ-loop
+same-length c =
+    let s = c .before .before .before .before .before in
+    fill-length (s .args .sound .now) (s .args .len) (toFill (s .args .len)) (c .before .before .plus-zero .result) (s .pre) (c .before .loop .inv)
+
+returns : tie.Need-returns Inv-loop μ-loop
+returns c =
+    let s = c .before .before .before .before .before in
+    fill-done (s .args .sound .now) (s .args .len) (toFill (s .args .len)) (c .before .before .plus-zero .result) (s .pre) (c .before .loop .inv) (omega arith) refl (c .before .before .plus-zero .ensures ∙ ap plusZero (c .before .before .before .mask-of .ensures))
+
+pub fill-up-spec : {M : Type 1} → statement M
+fill-up-spec =
+    tie.close
+    (tie.spec
+    Inv-loop
+    μ-loop
+    mask-of-requires
+    plus-zero-requires
+    sub-more
+    loop-holds
+    add-sound
+    slice-write-sound
+    add-i
+    loop-less
+    loop-again
+    same-length
+    returns)

@@ -1,0 +1,58 @@
+use borrow.Author.Needs.{needs}
+use Rattle.filenames.proofs.Names.{place-step, place-end}
+use Rattle.filenames.specs.Names.{placeFrom, endingAt}
+use lib.ListN.{length, drop}
+use native.Mathlib.Omega.{arith}
+use mathlib.Core.Path.{_≡_, refl, sym, _∙_, ap}
+use Prim.Native.Nat.{_+_, _-_, _≤_, ℕ}
+use Rattle.filenames.proofs.ending_at.Statement.{statement}
+use Rattle.filenames.proofs.ending_at.Tie as tie
+
+abbrev Inv-loop : tie.InvT-loop
+Inv-loop name none place₀ i₀ place i = (none ≡ length name) × (i ≤ length name) × (place ≤ length name) × (endingAt name ≡ placeFrom none place i (drop i name))
+
+abbrev μ-loop : tie.MeasureT-loop
+μ-loop name none place₀ i₀ place i = length name - i
+
+loop-holds : tie.Need-loop-holds Inv-loop μ-loop
+unfolding endingAt
+loop-holds c = (omega arith, omega arith, omega arith, refl)
+
+shared-slice-read-place-after : tie.Need-shared-slice-read-place-after Inv-loop μ-loop
+shared-slice-read-place-after c = search needs
+
+place-after-requires : tie.Need-place-after-requires Inv-loop μ-loop
+place-after-requires c κs = search needs
+
+add-i : tie.Need-add-i Inv-loop μ-loop
+add-i c = search needs
+
+loop-less : tie.Need-loop-less Inv-loop μ-loop
+loop-less c = search needs
+
+loop-again : tie.Need-loop-again Inv-loop μ-loop
+loop-again c = (
+  omega arith,
+  omega arith,
+  omega (arith, c .place-after .ensures .1),
+  c .before .before .before .loop .inv .3
+      ∙ place-step (c .before .before .before .before .before .args .name .now) (length (c .before .before .before .before .before .args .name .now)) (c .before .before .before .loop .place) (c .before .before .before .loop .i) (omega arith)
+      ∙ ap (λ (p : ℕ). placeFrom (length (c .before .before .before .before .before .args .name .now)) p (c .before .before .before .loop .i + 1) (drop (c .before .before .before .loop .i + 1) (c .before .before .before .before .before .args .name .now))) (sym (c .place-after .ensures .0)),
+)
+
+returns : tie.Need-returns Inv-loop μ-loop
+returns c = (sym (c .before .loop .inv .3 ∙ place-end (c .before .before .before .args .name .now) (length (c .before .before .before .args .name .now)) (c .before .loop .place) (c .before .loop .i) (omega arith)), omega arith)
+
+pub ending-at-spec : {M : Type 1} → statement M
+ending-at-spec =
+    tie.close
+    (tie.spec
+    Inv-loop
+    μ-loop
+    loop-holds
+    shared-slice-read-place-after
+    place-after-requires
+    add-i
+    loop-less
+    loop-again
+    returns)

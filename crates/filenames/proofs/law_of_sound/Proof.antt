@@ -1,0 +1,79 @@
+use borrow.Author.Needs.{needs}
+use Rattle.filenames.specs.Names.{lawOfSound}
+use Rattle.filenames.proofs.law_of_sound.Statement.{statement}
+use Rattle.filenames.proofs.law_of_sound.Tie as tie
+
+slice-aggregate-is-same : tie.Need-slice-aggregate-is-same
+slice-aggregate-is-same c = search needs
+
+is-same-requires : tie.Need-is-same-requires
+is-same-requires c κs = search needs
+
+returns : tie.Need-returns
+unfolding lawOfSound
+returns c = rw (← (c .before .is-same .ensures), c .if1 .taken)
+
+slice-aggregate-is-same-2 : tie.Need-slice-aggregate-is-same-2
+slice-aggregate-is-same-2 c = search needs
+
+is-same-requires-2 : tie.Need-is-same-requires-2
+is-same-requires-2 c κs = search needs
+
+returns-2 : tie.Need-returns-2
+unfolding lawOfSound
+returns-2 c = rw (← (c .before .before .before .before .is-same .ensures), c .before .before .before .if1 .left, ← (c .before .is-same2 .ensures), c .if2 .taken)
+
+slice-aggregate-is-same-3 : tie.Need-slice-aggregate-is-same-3
+slice-aggregate-is-same-3 c = search needs
+
+is-same-requires-3 : tie.Need-is-same-requires-3
+is-same-requires-3 c κs = search needs
+
+returns-3 : tie.Need-returns-3
+unfolding lawOfSound
+returns-3 c = rw (← (c .before .before .before .before .before .before .before .is-same .ensures), c .before .before .before .before .before .before .if1 .left, ← (c .before .before .before .before .is-same2 .ensures), c .before .before .before .if2 .left, ← (c .before .is-same3 .ensures), c .if3 .taken)
+
+slice-aggregate-is-same-4 : tie.Need-slice-aggregate-is-same-4
+slice-aggregate-is-same-4 c = search needs
+
+is-same-requires-4 : tie.Need-is-same-requires-4
+is-same-requires-4 c κs = search needs
+
+returns-4 : tie.Need-returns-4
+unfolding lawOfSound
+returns-4 c = rw (← (c .before .before .before .before .before .before .before .before .before .before .is-same .ensures), c .before .before .before .before .before .before .before .before .before .if1 .left, ← (c .before .before .before .before .before .before .before .is-same2 .ensures), c .before .before .before .before .before .before .if2 .left, ← (c .before .before .before .before .is-same3 .ensures), c .before .before .before .if3 .left, ← (c .before .is-same4 .ensures), c .if4 .taken)
+
+slice-aggregate-is-same-5 : tie.Need-slice-aggregate-is-same-5
+slice-aggregate-is-same-5 c = search needs
+
+is-same-requires-5 : tie.Need-is-same-requires-5
+is-same-requires-5 c κs = search needs
+
+returns-5 : tie.Need-returns-5
+unfolding lawOfSound
+returns-5 c = rw (← (c .before .before .before .before .before .before .before .before .before .before .before .before .before .is-same .ensures), c .before .before .before .before .before .before .before .before .before .before .before .before .if1 .left, ← (c .before .before .before .before .before .before .before .before .before .before .is-same2 .ensures), c .before .before .before .before .before .before .before .before .before .if2 .left, ← (c .before .before .before .before .before .before .before .is-same3 .ensures), c .before .before .before .before .before .before .if3 .left, ← (c .before .before .before .before .is-same4 .ensures), c .before .before .before .if4 .left, ← (c .before .is-same5 .ensures), c .if5 .taken)
+
+returns-6 : tie.Need-returns-6
+unfolding lawOfSound
+returns-6 c = rw (← (c .before .before .before .before .before .before .before .before .before .before .before .before .before .is-same .ensures), c .before .before .before .before .before .before .before .before .before .before .before .before .if1 .left, ← (c .before .before .before .before .before .before .before .before .before .before .is-same2 .ensures), c .before .before .before .before .before .before .before .before .before .if2 .left, ← (c .before .before .before .before .before .before .before .is-same3 .ensures), c .before .before .before .before .before .before .if3 .left, ← (c .before .before .before .before .is-same4 .ensures), c .before .before .before .if4 .left, ← (c .before .is-same5 .ensures), c .if5 .left)
+
+pub law-of-sound-spec : {M : Type 1} → statement M
+law-of-sound-spec =
+    tie.close
+    (tie.spec
+    slice-aggregate-is-same
+    is-same-requires
+    returns
+    slice-aggregate-is-same-2
+    is-same-requires-2
+    returns-2
+    slice-aggregate-is-same-3
+    is-same-requires-3
+    returns-3
+    slice-aggregate-is-same-4
+    is-same-requires-4
+    returns-4
+    slice-aggregate-is-same-5
+    is-same-requires-5
+    returns-5
+    returns-6)

@@ -1,0 +1,4 @@
+pub mod Finding
+pub mod Leaving
+pub mod Tracking
+pub mod Values

@@ -1,0 +1,73 @@
+use borrow.Author.Needs.{needs}
+use Prim.Native.Nat.{_*_, _-_, _≤_}
+use mathlib.Core.Path.{_≡_}
+use native.Mathlib.Omega.{arith}
+use lib.ListN.{take}
+use Rattle.look.specs.Rows.{rowBits}
+use Rattle.finding.specs.Tracks.{TrackIs}
+use Rattle.finding.proofs.Tracking.{row-track-none, track-end}
+use Rattle.finding.proofs.runs_in.Statement.{statement}
+use Rattle.finding.proofs.runs_in.Tie as tie
+use Rattle.finding.proofs.runs_in.Reads as reads
+use Rattle.finding.proofs.runs_in.Lts as lts
+use Rattle.finding.proofs.close_last.Reads as close-last-reads
+use Rattle.finding.proofs.no_runs.Reads as no-runs-reads
+use Rattle.finding.proofs.word_runs.Reads as word-runs-reads
+
+abbrev Inv-loop : tie.InvT-loop
+Inv-loop row k runs₀ t₀ i₀ runs t i = (i ≤ k) × TrackIs (rowBits (take i row)) runs t (40 * i)
+
+abbrev μ-loop : tie.MeasureT-loop
+μ-loop row k runs₀ t₀ i₀ runs t i = k - i
+
+no-runs-requires : tie.Need-no-runs-requires Inv-loop μ-loop
+no-runs-requires c κs = search needs
+
+loop-holds : tie.Need-loop-holds Inv-loop μ-loop
+loop-holds c =
+    let s = c .before in
+    (omega arith, row-track-none (s .args .row .now) (s .args .runs .now) _ (c .no-runs .ensures .0) (c .no-runs .ensures .1) (s .pre .0 .1 .1))
+
+word-runs-requires : tie.Need-word-runs-requires Inv-loop μ-loop
+word-runs-requires c κs =
+    let s = c .before .before .before .before in
+    let l = c .before .before .loop in
+    ((omega arith, (s .pre .0 .1 .0, s .pre .1 (l .i))), l .inv .1)
+
+add-i : tie.Need-add-i Inv-loop μ-loop
+add-i c = search needs
+
+loop-less : tie.Need-loop-less Inv-loop μ-loop
+loop-less c = search needs
+
+loop-again : tie.Need-loop-again Inv-loop μ-loop
+loop-again c = (omega arith, c .word-runs .ensures)
+
+mul-close-last : tie.Need-mul-close-last Inv-loop μ-loop
+mul-close-last c = search needs
+
+close-last-requires : tie.Need-close-last-requires Inv-loop μ-loop
+close-last-requires c κs = let k = c .before .before .loop .inv .1 in (k .size, (k .few, (omega (arith, k .behind), omega arith)))
+
+returns : tie.Need-returns Inv-loop μ-loop
+returns c =
+    let l = c .before .before .before .loop in
+    let s = c .before .before .before .before .before in
+    let e : l .i ≡ s .args .k = omega arith in
+    track-end (rw e at (l .inv .1)) (c .close-last .ensures) (omega arith)
+
+pub runs-in-spec : {M : Type 1} → statement M
+runs-in-spec =
+    tie.close
+    (tie.spec
+    Inv-loop
+    μ-loop
+    no-runs-requires
+    loop-holds
+    word-runs-requires
+    add-i
+    loop-less
+    loop-again
+    mul-close-last
+    close-last-requires
+    returns)

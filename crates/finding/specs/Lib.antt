@@ -1,0 +1,3 @@
+-- Runs found.
+pub mod Runs
+pub mod Tracks

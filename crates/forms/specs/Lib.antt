@@ -1,0 +1,3 @@
+-- The forms, as planned.
+pub mod Ways
+pub mod Forms

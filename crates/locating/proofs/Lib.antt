@@ -1,0 +1,4 @@
+pub mod Methods
+pub mod Turns
+pub mod Near
+pub mod Rows

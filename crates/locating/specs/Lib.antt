@@ -1,0 +1,3 @@
+-- Value-location.
+pub mod Ways
+pub mod Rows

@@ -1,0 +1,4 @@
+pub mod Tests
+pub mod Looking
+pub mod Spreading
+pub mod Rows

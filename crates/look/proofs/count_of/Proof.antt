@@ -1,0 +1,78 @@
+use borrow.Author.Needs.{needs}
+use Prim.Native.Nat.{_-_, _≤_}
+use mathlib.Core.Path.{_≡_, refl}
+use native.Mathlib.Omega.{arith}
+use lib.ListN.{take}
+use Rattle.rules.specs.Chooses.{countOf}
+use Rattle.look.specs.Looks.{countIs}
+use Rattle.look.proofs.Looking.{count-more}
+use Rattle.look.proofs.count_of.Statement.{statement}
+use Rattle.look.proofs.count_of.Tie as tie
+use Rattle.look.proofs.count_of.Reads as reads
+use Rattle.look.proofs.count_of.Lts as lts
+use Rattle.look.proofs.same.Reads as same-reads
+
+abbrev Inv-loop : tie.InvT-loop
+Inv-loop samples n x count₀ i₀ count i = (i ≤ n) × ((count ≤ i) × (count ≡ countIs x (take i samples)))
+
+abbrev μ-loop : tie.MeasureT-loop
+μ-loop samples n x count₀ i₀ count i = n - i
+
+-- src/lib.rt:247:5
+loop-holds : tie.Need-loop-holds Inv-loop μ-loop
+unfolding countOf
+loop-holds c = (omega arith, (omega arith, refl))
+
+-- src/lib.rt:248:23
+shared-slice-read-same : tie.Need-shared-slice-read-same Inv-loop μ-loop
+shared-slice-read-same c = search needs
+
+-- src/lib.rt:248:18
+same-requires : tie.Need-same-requires Inv-loop μ-loop
+same-requires c κs = search needs
+
+-- src/lib.rt:248:9
+add-count : tie.Need-add-count Inv-loop μ-loop
+add-count c = omega (arith, c .before .before .before .loop .inv .1 .0, c .same .ensures .1, c .before .before .loop-test .taken, c .before .before .before .before .before .pre .0)
+
+-- src/lib.rt:249:9
+add-i : tie.Need-add-i Inv-loop μ-loop
+add-i c = search needs
+
+-- src/lib.rt:247:5
+loop-less : tie.Need-loop-less Inv-loop μ-loop
+loop-less c = search needs
+
+-- src/lib.rt:247:5
+loop-again : tie.Need-loop-again Inv-loop μ-loop
+loop-again c =
+    let s = c .before .before .before .before .before .args .samples .now in
+    let l = c .before .before .before .loop in
+    let k = c .before .before .loop-test .taken in
+    (omega (arith, k), (omega (arith, l .inv .1 .0, c .same .ensures .1), count-more s (l .i) (omega (arith, k, c .before .before .before .before .before .pre .1)) _ (l .inv .1 .1) (c .same .ensures .0)))
+
+-- src/lib.rt:251:5
+cast-result : tie.Need-cast-result Inv-loop μ-loop
+cast-result c = omega (arith, c .before .loop .inv .0, c .before .loop .inv .1 .0, c .before .before .before .pre .0)
+
+-- src/lib.rt:241:1
+returns : tie.Need-returns Inv-loop μ-loop
+returns c =
+    let e : c .before .loop .i ≡ c .before .before .before .args .n = omega (arith, c .before .loop .inv .0, c .loop-test .left) in
+    (rw e at (c .before .loop .inv .1 .1), omega (arith, c .before .loop .inv .0, c .before .loop .inv .1 .0, c .before .before .before .pre .0))
+
+pub count-of-spec : {M : Type 1} → statement M
+count-of-spec =
+    tie.close
+    (tie.spec
+    Inv-loop
+    μ-loop
+    loop-holds
+    shared-slice-read-same
+    same-requires
+    add-count
+    add-i
+    loop-less
+    loop-again
+    cast-result
+    returns)

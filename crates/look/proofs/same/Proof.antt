@@ -1,0 +1,16 @@
+use mathlib.Core.Path.{refl}
+use native.Mathlib.Omega.{arith}
+use borrow.Author.Tests.{eq-eqb, ne-eqb}
+use Rattle.look.proofs.same.Statement.{statement}
+use Rattle.look.proofs.same.Tie as tie
+use Rattle.look.proofs.same.Reads as reads
+use Rattle.look.proofs.same.Lts as lts
+
+returns : tie.Need-returns
+returns c = simp (eq-eqb _ _ (c .if1 .taken)) (refl, omega arith)
+
+returns-2 : tie.Need-returns-2
+returns-2 c = simp (ne-eqb _ _ (c .if1 .left)) (refl, omega arith)
+
+pub same-spec : {M : Type 1} → statement M
+same-spec = tie.close (tie.spec returns returns-2)

@@ -1,0 +1,3 @@
+-- What a frame looks like.
+pub mod Looks
+pub mod Rows

@@ -1,0 +1,35 @@
+-- What the samples of a frame have in common, and how many of them are a value.
+use Prim.Native.Nat.{ℕ, _%_}
+use mathlib.Core.Path.{_≡_}
+use mathlib.Core.List.{List, map}
+use mathlib.Core.Bool.{Bool, cond, _&&_, _||_}
+use lib.Dec.{eqb, leb, ltb}
+use Rattle.rules.specs.Samples.{plusZero, minusZero}
+use Rattle.rules.specs.Chooses.{countOf, every, leastOf, greatestOf}
+use Rattle.look.specs.declared.Spread.{Spread}
+
+-- each element that is x as one number, each other as another
+abbrev pub marksOf : ℕ → ℕ → ℕ → List ℕ → List ℕ
+marksOf x hit miss s = map (λ y. cond (eqb y x) hit miss) s
+
+-- how many are this one
+abbrev pub countIs : ℕ → List ℕ → ℕ
+countIs y s = countOf (λ x. eqb x y) s
+
+-- all samples from -2 to 1, by their least and greatest on the line
+abbrev pub near : ℕ → ℕ → Bool
+near least greatest = leb 126 least && leb greatest 129
+
+-- frames of the two zeros only
+abbrev pub twoZeros : ℕ → List ℕ → Bool
+twoZeros mask s = every (λ x. eqb x (plusZero mask) || eqb x (minusZero mask)) s
+
+-- what the bits that any sets, and those that all set, tell of a frame
+pub record SpreadIs (mask first : ℕ) (s : List ℕ) (r : Spread) : Type 0 where
+  pub same : eqb (r .any) (r .all) ≡ every (λ x. eqb x first) s
+  pub zeros : eqb (r .any % 128) 0 ≡ twoZeros mask s
+  pub close : ltb (r .any % 128) 2 ≡ near (leastOf mask s) (greatestOf mask s)
+
+-- one of the two masks
+abbrev pub isMask : ℕ → Bool
+isMask mask = eqb mask 0x55 || eqb mask 0x7F

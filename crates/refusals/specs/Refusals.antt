@@ -1,0 +1,33 @@
+-- The names of the refusals of document 01, as octets.
+use Prim.Native.Nat.{ℕ, _≤_}
+use mathlib.Core.Path.{_≡_}
+use mathlib.Core.List.{List, [], _∷_}
+use lib.ListN.{length, getD, take}
+
+-- "Numbered refusals", from number 1 on; any other number has no name
+unfoldable pub refusalNames : List (List ℕ)
+refusalNames =
+    []
+    ∷ (0x53 ∷ 0x48 ∷ 0x4F ∷ 0x52 ∷ 0x54 ∷ [])
+    ∷ (0x50 ∷ 0x52 ∷ 0x45 ∷ 0x46 ∷ 0x49 ∷ 0x58 ∷ [])
+    ∷ (0x54 ∷ 0x4F ∷ 0x4F ∷ 0x4C ∷ [])
+    ∷ (0x52 ∷ 0x4F ∷ 0x4F ∷ 0x4D ∷ [])
+    ∷ (0x43 ∷ 0x41 ∷ 0x53 ∷ 0x45 ∷ [])
+    ∷ (0x4D ∷ 0x45 ∷ 0x54 ∷ 0x48 ∷ 0x4F ∷ 0x44 ∷ [])
+    ∷ (0x52 ∷ 0x55 ∷ 0x4E ∷ [])
+    ∷ (0x50 ∷ 0x4C ∷ 0x41 ∷ 0x43 ∷ 0x45 ∷ [])
+    ∷ (0x41 ∷ 0x4C ∷ 0x49 ∷ 0x47 ∷ 0x4E ∷ [])
+    ∷ (0x4C ∷ 0x45 ∷ 0x4E ∷ 0x47 ∷ 0x54 ∷ 0x48 ∷ [])
+    ∷ (0x53 ∷ 0x45 ∷ 0x54 ∷ [])
+    ∷ (0x4C ∷ 0x41 ∷ 0x57 ∷ [])
+    ∷ (0x4C ∷ 0x4F ∷ 0x4E ∷ 0x47 ∷ [])
+    ∷ []
+
+unfoldable pub refusalName : ℕ → List ℕ
+refusalName n = getD refusalNames n []
+
+-- a word at the start of six octets
+pub record Named (word octets : List ℕ) (len : ℕ) : Type 0 where
+  pub says : take len octets ≡ word
+  pub most : len ≤ 6
+  pub size : length octets ≡ 6

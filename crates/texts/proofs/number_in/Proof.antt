@@ -1,0 +1,74 @@
+use borrow.Author.Needs.{needs}
+use Rattle.texts.proofs.Digits.{none-of-none, none-of-many, number-start, number-step, number-low, number-high, number-end, digits-few, digits-more}
+use Rattle.texts.specs.Numbers.{numberFrom, numberIn}
+use lib.ListN.{length, drop}
+use native.Mathlib.Omega.{arith}
+use mathlib.Core.Path.{_≡_, sym, _∙_}
+use Prim.Native.Nat.{_-_, _^_, _≤_, _<_}
+use Rattle.texts.proofs.number_in.Statement.{statement}
+use Rattle.texts.proofs.number_in.Tie as tie
+
+abbrev Inv-loop : tie.InvT-loop
+Inv-loop text v₀ i₀ v i = (i ≤ length text) × (length text ≤ 9) × (v < 10 ^ i) × (numberIn text ≡ numberFrom v (drop i text))
+
+abbrev μ-loop : tie.MeasureT-loop
+μ-loop text v₀ i₀ v i = length text - i
+
+returns : tie.Need-returns Inv-loop μ-loop
+returns c = sym (none-of-none _ (c .if1 .taken))
+
+returns-2 : tie.Need-returns-2 Inv-loop μ-loop
+returns-2 c = sym (none-of-many _ (c .if2 .taken))
+
+loop-holds : tie.Need-loop-holds Inv-loop μ-loop
+loop-holds c = (omega arith, omega arith, omega arith, number-start _ (c .before .if1 .left) (c .if2 .left))
+
+shared-slice-read-x : tie.Need-shared-slice-read-x Inv-loop μ-loop
+shared-slice-read-x c = search needs
+
+returns-3 : tie.Need-returns-3 Inv-loop μ-loop
+returns-3 c = sym (c .before .before .before .loop .inv .3 ∙ number-low (c .before .before .before .before .before .before .args .text .now) (c .before .before .before .loop .v) (c .before .before .before .loop .i) (omega arith) (omega arith))
+
+returns-4 : tie.Need-returns-4 Inv-loop μ-loop
+returns-4 c = sym (c .before .before .before .before .loop .inv .3 ∙ number-high (c .before .before .before .before .before .before .before .args .text .now) (c .before .before .before .before .loop .v) (c .before .before .before .before .loop .i) (omega arith) (omega arith))
+
+mul-v : tie.Need-mul-v Inv-loop μ-loop
+mul-v c = omega (arith, digits-few _ _ (c .before .before .before .before .loop .inv .2) (omega arith))
+
+cast-v : tie.Need-cast-v Inv-loop μ-loop
+cast-v c = search needs
+
+add-v : tie.Need-add-v Inv-loop μ-loop
+add-v c = omega (arith, digits-few _ _ (c .before .before .before .before .loop .inv .2) (omega arith))
+
+add-i : tie.Need-add-i Inv-loop μ-loop
+add-i c = search needs
+
+loop-less : tie.Need-loop-less Inv-loop μ-loop
+loop-less c = search needs
+
+loop-again : tie.Need-loop-again Inv-loop μ-loop
+loop-again c = (omega arith, omega arith, digits-more _ _ _ (c .before .before .before .before .loop .inv .2) (omega arith), c .before .before .before .before .loop .inv .3 ∙ number-step (c .before .before .before .before .before .before .before .args .text .now) (c .before .before .before .before .loop .v) (c .before .before .before .before .loop .i) (omega arith) (omega arith) (omega arith))
+
+returns-5 : tie.Need-returns-5 Inv-loop μ-loop
+returns-5 c = sym (c .before .loop .inv .3 ∙ number-end (c .before .before .before .before .args .text .now) (c .before .loop .v) (c .before .loop .i) (omega arith))
+
+pub number-in-spec : {M : Type 1} → statement M
+number-in-spec =
+    tie.close
+    (tie.spec
+    Inv-loop
+    μ-loop
+    returns
+    returns-2
+    loop-holds
+    shared-slice-read-x
+    returns-3
+    returns-4
+    mul-v
+    cast-v
+    add-v
+    add-i
+    loop-less
+    loop-again
+    returns-5)

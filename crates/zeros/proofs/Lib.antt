@@ -1,0 +1,2 @@
+pub mod TwoZeros
+pub mod Turning

@@ -1,0 +1,2 @@
+-- A frame of the two zeros.
+pub mod Rice
