@@ -556,6 +556,14 @@ fn any_row(places: usize, rng: &mut Prng) -> Vec<bool> {
     }
 }
 
+/// All places but five at most, so that the next value has few or none.
+fn all_but_a_few(places: usize, rng: &mut Prng) -> Vec<bool> {
+    let free = rng.below(6).min(places);
+    let mut row: Vec<bool> = (0..places).map(|place| place >= free).collect();
+    rng.shuffle(&mut row);
+    row
+}
+
 pub fn uncompressed_form(samples: &[u8]) -> MadeForm {
     let mut bits = prefix(1, samples.len());
     for &sample in samples {
@@ -635,29 +643,48 @@ pub fn value_location_form(length: usize, law: u32, rng: &mut Prng) -> MadeForm 
     bits.into_form(samples_of(&numbers, law), 7)
 }
 
-/// Puts one value by any method and gives the row of its places, at least one
-/// of which stays free.
+/// The start of a tool 7 form whose values so far take every place while at
+/// least one value is still to come: its method bits are what must follow.
+pub fn filled_start(length: usize, rng: &mut Prng) -> BitString {
+    let rows: Vec<&Row> = allowed_rows(length).iter().filter(|row| row.values.len() > 1).collect();
+    let row = *rng.pick(&rows);
+    let mut bits = prefix(7, length);
+    bits.number(row.case, 2);
+    bits.number(row.flag, 1);
+
+    let before = rng.below(row.values.len() - 1);
+    let mut places = length;
+    for _ in 0..before {
+        let taken = put_any_value(&mut bits, places, rng);
+        places -= taken.iter().filter(|&&one| one).count();
+    }
+    let method = rng.below(5);
+    bits.number(method, 3);
+    match method {
+        0 => bits.row(&vec![true; places]),
+        s => bits.runs(s as u32, &vec![true; places]),
+    }
+    bits
+}
+
+/// Puts one value by any method and gives the row of its places: none of
+/// them, all of them, or any others.
 fn put_any_value(bits: &mut BitString, places: usize, rng: &mut Prng) -> Vec<bool> {
     let method = *rng.pick(&[0usize, 1, 2, 3, 4, 5, 7]);
-    let most = places - 1;
-    // A list has at least one place, so where only one is left it can't be used.
-    let method = if method == 7 && most == 0 { 5 } else { method };
+    // A list has at least one place, so where none is left it can't be used.
+    let method = if method == 7 && places == 0 { 5 } else { method };
     let row = match method {
         5 => vec![false; places],
         7 => {
-            let count = 1 + rng.below(most.min(4));
+            let most = places.min(4);
+            // As many as are left, where a list can say them all.
+            let count = if rng.chance(1, 4) { most } else { 1 + rng.below(most) };
             let mut row: Vec<bool> = (0..places).map(|place| place < count).collect();
             rng.shuffle(&mut row);
             row
         }
-        _ => {
-            let mut row = any_row(places, rng);
-            if row.iter().all(|&one| one) {
-                let free = rng.below(places);
-                row[free] = false;
-            }
-            row
-        }
+        _ if rng.chance(1, 8) => all_but_a_few(places, rng),
+        _ => any_row(places, rng),
     };
     bits.number(method, 3);
     match method {

@@ -156,10 +156,8 @@ fn read_value_location(octets: &[u8], law: Law, frame: &mut [u8]) -> Result<usiz
         if places < samples {
             taken = taken.moved_onto(&empty);
         }
+        // Nothing need be left, neither for 0 nor for the values to come.
         places -= taken.count();
-        if places == 0 {
-            return Err(Refusal::Place);
-        }
         empty = empty.and_not(&taken);
         if value & SIGN != 0 {
             signs = signs.or(&taken);
@@ -174,6 +172,9 @@ fn read_value_location(octets: &[u8], law: Law, frame: &mut [u8]) -> Result<usiz
 }
 
 /// Reads the places of one value, counted among the `places` still empty.
+///
+/// Where none is empty a row has no bits and there is no run to read, so the
+/// methods up to 101 end with their own three bits and mean none.
 #[inline]
 fn read_value(bits: &mut BitReader, samples: usize, places: usize) -> Result<Plane, Refusal> {
     let mut taken = Plane::EMPTY;
@@ -197,6 +198,8 @@ fn read_row(bits: &mut BitReader, places: usize, taken: &mut Plane) -> Result<()
     Ok(())
 }
 
+/// A list has at least one place, and none is below 0: where no place is
+/// empty, the two bits of the count are read and the first place is refused.
 #[inline]
 fn read_listed(bits: &mut BitReader, places: usize, taken: &mut Plane) -> Result<(), Refusal> {
     let count = bits.take(2)? + 1;

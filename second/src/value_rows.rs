@@ -34,9 +34,10 @@ pub(crate) fn case_of(ones: bool, minus_ones: bool, minus_twos: bool, samples: u
     }
 }
 
-/// Bits of a place listed among `places` places: ceil(log2(places)).
+/// Bits of a place listed among `places` places: ceil(log2(places)). Among no
+/// places there is no logarithm, and no bits are read.
 pub(crate) fn place_bits(places: usize) -> u32 {
-    usize::BITS - (places - 1).leading_zeros()
+    usize::BITS - places.saturating_sub(1).leading_zeros()
 }
 
 #[cfg(test)]
@@ -45,7 +46,7 @@ mod tests {
 
     #[test]
     fn place_bits_is_the_rounded_up_logarithm() {
-        for places in 1..=320usize {
+        for places in 0..=320usize {
             let least = (0..).find(|&b| 1usize << b >= places).unwrap();
             assert_eq!(place_bits(places), least);
         }

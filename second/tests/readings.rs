@@ -35,14 +35,19 @@ fn r2_listed_places_are_judged_one_by_one() {
 }
 
 #[test]
-fn r3_no_place_left_is_judged_before_the_next_value() {
+fn r3_a_value_has_its_method_though_no_place_is_left() {
     let octets = octets_of(&["10000110", "011", "000", &"1".repeat(80), "00"]);
     assert_eq!(octets, hex("86 63 FF FF FF FF FF FF FF FF FF FC"));
-    assert_eq!(ending(&octets), PLACE);
+    assert_eq!(ending(&octets), SHORT);
+    // With method 101 for -1 it is a frame of 80 times 1.
+    let octets = hex("86 63 FF FF FF FF FF FF FF FF FF FE 80");
+    let mut out = [0; 80];
+    let report = read_frame(&octets, 1, 127, &mut out);
+    assert_eq!((report.ending, report.bits, out), (0, 97, [0xFE; 80]));
 }
 
 #[test]
-fn r4_no_place_left_is_judged_when_the_value_is_whole() {
+fn r4_a_list_is_not_judged_by_its_count() {
     let octets =
         octets_of(&["10000110", "011", "010", "111", &"100".repeat(76), "111", "11", "000110"]);
     let middle = "24 92 49 ".repeat(9);
@@ -105,4 +110,49 @@ fn r10_two_is_added_once_to_the_listed_places() {
     let report = write_frame(&samples, 1, 127, &mut out);
     assert_eq!((report.octets, report.bits), (4, 30));
     assert_eq!(out[..4], [0x86, 0xFD, 0x00, 0x40]);
+}
+
+/// 80 times 1 by method 000, then -1 by the bits given, filled up with 0.
+fn filled_then(more: &str) -> Vec<u8> {
+    let mut bits = BitString::default();
+    ["10000110", "011", "000", &"1".repeat(80), more].iter().for_each(|part| bits.text(part));
+    bits.octets()
+}
+
+#[test]
+fn r11_method_110_stays_method_where_no_place_is_left() {
+    assert_eq!(filled_then("110"), hex("86 63 FF FF FF FF FF FF FF FF FF FF 00"));
+    assert_eq!(ending(&filled_then("110")), METHOD);
+}
+
+#[test]
+fn r12_a_list_among_no_places_needs_its_two_bits() {
+    // 240 samples: 1 five times, -1 everywhere else, then -2 by a list of
+    // which one bit is there.
+    let row = "1".repeat(5) + &"0".repeat(235);
+    let octets = octets_of(&["00100101", "001", "000", &row, "000", &"1".repeat(235), "111", "1"]);
+    let zeros = "00 ".repeat(29);
+    let ones = "FF ".repeat(29);
+    assert_eq!(octets, hex(&format!("25 23 E0 {zeros} 7F {ones}")));
+    assert_eq!(ending(&octets), SHORT);
+    for more in 0..=255 {
+        let mut whole = octets.clone();
+        whole.push(more);
+        assert_eq!(ending(&whole), PLACE);
+    }
+}
+
+#[test]
+fn r13_among_one_place_a_listed_place_has_no_bits() {
+    // 1 at all places but the last, then -1 by a list of one, of two.
+    let filled = ["10000110", "011", "000", &"1".repeat(79), "0"].concat();
+    let one = octets_of(&[&filled, "111", "00", "00000"]);
+    assert_eq!(one, hex("86 63 FF FF FF FF FF FF FF FF FF FB 80"));
+    let mut out = [0; 80];
+    let report = read_frame(&one, 1, 127, &mut out);
+    assert_eq!((report.ending, report.bits), (0, 99));
+    assert_eq!((out[..79].to_vec(), out[79]), (vec![0xFE; 79], 0x7F));
+    let two = octets_of(&[&filled, "111", "01", "00000"]);
+    assert_eq!(two, hex("86 63 FF FF FF FF FF FF FF FF FF FB A0"));
+    assert_eq!(ending(&two), PLACE);
 }

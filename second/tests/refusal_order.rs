@@ -154,14 +154,15 @@ fn body_faults_come_as_the_bits_come() {
     bits.text("0");
     reads(&bits.octets(), 1, 127, 80, SHORT, 0);
 
-    // A value that leaves no place is PLACE though the next value is missing.
+    // A value that leaves no place is no fault: the next one's method is what
+    // is missing.
     let mut bits = BitString::default();
     bits.text("10000110");
     bits.text("011");
     bits.text("000");
     bits.text(&"1".repeat(80));
     bits.text("00");
-    reads(&bits.octets(), 1, 127, 80, PLACE, 0);
+    reads(&bits.octets(), 1, 127, 80, SHORT, 0);
 }
 
 #[test]
@@ -183,7 +184,7 @@ fn zeros_are_counted_up_to_the_frame_length_in_tool_7_too() {
         }
     }
     // v = 1 fills the place left with 0; v = 0 takes it, v = 2 is too long.
-    for (tail, ending) in [("11", 0), ("10", PLACE), ("010", RUN)] {
+    for (tail, ending, last) in [("11", 0, 0xFF), ("10", 0, 0x7F), ("010", RUN, 0)] {
         let mut here = bits.clone();
         here.text(tail);
         let mut out = [0; 80];
@@ -192,7 +193,7 @@ fn zeros_are_counted_up_to_the_frame_length_in_tool_7_too() {
         if ending == 0 {
             assert_eq!(report.bits, start + 2);
             assert_eq!(out[..79], [0xFE; 79]);
-            assert_eq!(out[79], 0xFF);
+            assert_eq!(out[79], last);
         }
     }
 }

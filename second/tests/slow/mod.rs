@@ -281,9 +281,6 @@ fn frame(octets: &[u8], law: u32, set: u32, room: usize) -> Result<Frame, Refuse
                     }
                 }
                 empty = (0..d).filter(|&place| !row[place]).map(|place| empty[place]).collect();
-                if empty.is_empty() {
-                    return Err((PLACE, 0));
-                }
             }
             numbers.iter().map(|&number| sample(number, law)).collect()
         }
