@@ -45,24 +45,23 @@ pub enum Fault {
     ValueLong(usize),
     PlaceBeyond(usize),
     PlaceNotRising(usize),
-    NoneLeftByRow(usize),
-    NoneLeftByRuns(usize),
-    NoneLeftByList(usize),
+    /// A list where no place is left; and one of more places than the single one that is left.
+    NoneLeft(usize),
+    OneLeft(usize),
     ValueFilling,
 }
 
 /// Every fault, in the order in which they are listed.
 pub fn all() -> Vec<Fault> {
     let mut all = vec![Fault::RiceZeros, Fault::RiceLong, Fault::RiceFilling, Fault::Case];
-    let numbered: [fn(usize) -> Fault; 8] = [
+    let numbered: [fn(usize) -> Fault; 7] = [
         Fault::Method,
         Fault::ValueZeros,
         Fault::ValueLong,
         Fault::PlaceBeyond,
         Fault::PlaceNotRising,
-        Fault::NoneLeftByRow,
-        Fault::NoneLeftByRuns,
-        Fault::NoneLeftByList,
+        Fault::NoneLeft,
+        Fault::OneLeft,
     ];
     for fault in numbered {
         all.extend((1..=3).map(fault));
@@ -93,27 +92,24 @@ impl Fault {
             Fault::ValueLong(value) => format!("value {value}, a run too long"),
             Fault::PlaceBeyond(value) => format!("value {value}, place not below D"),
             Fault::PlaceNotRising(value) => format!("value {value}, place not rising"),
-            Fault::NoneLeftByRow(value) => format!("value {value}, none left by bits"),
-            Fault::NoneLeftByRuns(value) => format!("value {value}, none left by runs"),
-            Fault::NoneLeftByList(value) => format!("value {value}, none left by list"),
+            Fault::NoneLeft(value) => format!("value {value}, a list where no place is left"),
+            Fault::OneLeft(value) => format!("value {value}, a list too long for the place left"),
             Fault::ValueFilling => "tool 7, filling".into(),
         }
     }
 
-    /// Whether a frame of this length can have it. A list has at most 4 places: it can fill the first value's
-    /// places of no length.
+    /// Whether a frame of this length can have it. The first value has all places left.
     pub fn possible(self, length: usize) -> bool {
         match self {
             Fault::RiceZeros | Fault::RiceLong | Fault::RiceFilling => true,
-            Fault::NoneLeftByList(1) => false,
+            Fault::NoneLeft(1) | Fault::OneLeft(1) => false,
             Fault::Method(3)
             | Fault::ValueZeros(3)
             | Fault::ValueLong(3)
             | Fault::PlaceBeyond(3)
             | Fault::PlaceNotRising(3)
-            | Fault::NoneLeftByRow(3)
-            | Fault::NoneLeftByRuns(3)
-            | Fault::NoneLeftByList(3) => length >= 240,
+            | Fault::NoneLeft(3)
+            | Fault::OneLeft(3) => length >= 240,
             _ => length >= 80,
         }
     }
@@ -130,9 +126,8 @@ impl Fault {
             | Fault::ValueLong(value)
             | Fault::PlaceBeyond(value)
             | Fault::PlaceNotRising(value)
-            | Fault::NoneLeftByRow(value)
-            | Fault::NoneLeftByRuns(value)
-            | Fault::NoneLeftByList(value) => self.in_value(length, value - 1, rng),
+            | Fault::NoneLeft(value)
+            | Fault::OneLeft(value) => self.in_value(length, value - 1, rng),
         };
         let (mut octets, judged, bit) = made?;
         let more = rng.below(6);
@@ -154,11 +149,15 @@ impl Fault {
     fn in_value(self, length: usize, index: usize, rng: &mut Prng) -> Option<Made> {
         let able: Vec<_> = rows(length).iter().filter(|row| row.values.len() > index).collect();
         let row = **able.get(rng.below(able.len().max(1)))?;
-        let mut located = Located::start(length, row.case, row.flag);
-        located.put_before(row, index, 1, rng);
-        if matches!(self, Fault::NoneLeftByList(_)) {
-            located = nearly_full(length, row, index, rng)?;
-        }
+        let mut located = match self {
+            Fault::NoneLeft(_) => nearly_full(length, row, index, 0, rng)?,
+            Fault::OneLeft(_) => nearly_full(length, row, index, 1, rng)?,
+            _ => {
+                let mut located = Located::start(length, row.case, row.flag);
+                located.put_before(row, index, 1, rng);
+                located
+            }
+        };
         let left = located.empty.len();
         let s = 1 + rng.below(4);
         match self {
@@ -175,9 +174,7 @@ impl Fault {
             }
             Fault::PlaceBeyond(_) => beyond(&mut located, index, rng)?,
             Fault::PlaceNotRising(_) => not_rising(&mut located, index, rng),
-            Fault::NoneLeftByRow(_) => located.put(index, 1, 0, &vec![true; left]),
-            Fault::NoneLeftByRuns(_) => located.put(index, 1, s, &vec![true; left]),
-            _ => located.put(index, 1, 7, &vec![true; left]),
+            _ => listed_in_vain(&mut located, index, rng),
         }
         Some(with_any_filling(&located.bits, rng))
     }
@@ -250,17 +247,26 @@ fn too_long(bits: &mut Bits, s: usize, left: usize, length: usize, rng: &mut Prn
     (v <= most).then(|| bits.rice(s, v, 9))
 }
 
-/// Values that leave 1 to 4 places to the value of this number.
-fn nearly_full(length: usize, row: Row, index: usize, rng: &mut Prng) -> Option<Located> {
+/// Values that leave so many places to the value of this number, which is not the first.
+fn nearly_full(length: usize, row: Row, index: usize, keep: usize, rng: &mut Prng) -> Option<Located> {
     let mut located = Located::start(length, row.case, row.flag);
-    located.put_before(row, index.checked_sub(1)?, 4, rng);
+    located.put_before(row, index.checked_sub(1)?, keep, rng);
     let places = located.empty.len();
-    let keep = 1 + rng.below(4.min(places));
     let mut flags: Vec<bool> = (0..places).map(|place| place >= keep).collect();
     rng.shuffle(&mut flags);
-    let method = rng.below(5);
+    let method = if flags.contains(&true) { rng.below(5) } else { 5 };
     located.put(index - 1, row.values[index - 1], method, &flags);
     Some(located)
+}
+
+/// A list that has more places than are left, which are none or one. A place of no bits is 0: where none is left the first
+/// is not below D, and where one is left the second does not rise.
+fn listed_in_vain(located: &mut Located, index: usize, rng: &mut Prng) {
+    let left = located.empty.len();
+    located.method(index, 7);
+    located.bits.field(Field::Count);
+    located.bits.number(left + rng.below(4 - left), 2);
+    (0..=left).for_each(|at| located.bits.field(Field::Place(at)));
 }
 
 /// A list of which one place is not below D, if so great a place can be said at all.

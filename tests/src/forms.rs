@@ -273,6 +273,13 @@ impl Located {
         self.empty = left;
     }
 
+    /// Puts a value into all empty places but so many.
+    fn put_all_but(&mut self, index: usize, value: i32, method: usize, keep: usize, rng: &mut Prng) {
+        let mut flags: Vec<bool> = (0..self.empty.len()).map(|place| place >= keep).collect();
+        rng.shuffle(&mut flags);
+        self.put(index, value, method, &flags);
+    }
+
     /// Puts values until only the one of this number is still to come, each by any method that leaves enough places.
     pub fn put_before(&mut self, row: Row, index: usize, keep: usize, rng: &mut Prng) {
         for (at, value) in row.values[..index].iter().enumerate() {
@@ -284,6 +291,9 @@ impl Located {
 
 /// Flags of any kind, with at least so many places left free.
 fn any_flags(places: usize, keep: usize, rng: &mut Prng) -> Vec<bool> {
+    if places == 0 {
+        return Vec::new();
+    }
     let mut flags = match rng.below(12) {
         0 => vec![false; places],
         1 => vec![true; places],
@@ -349,7 +359,7 @@ pub fn any_form(tool: u32, length: usize, law: u32, rng: &mut Prng) -> Option<Fo
         7 => {
             let row = *pick(rows(length), rng)?;
             let mut located = Located::start(length, row.case, row.flag);
-            located.put_before(row, row.values.len(), 1, rng);
+            located.put_before(row, row.values.len(), rng.below(2), rng);
             numbers = located.numbers;
             located.bits
         }
@@ -382,6 +392,44 @@ fn constant_form(length: usize, octet: u8) -> Form {
     bits.field(Field::Constant);
     bits.number(usize::from(octet), 8);
     Form { bits, tool: 4, samples: vec![octet; length] }
+}
+
+/// A form of tool 7 in which one value fills all places that are empty but so many, by D bits, runs or a list, and the
+/// values after it, if there are any, go on by the method `next`. A list has at most 4 places, so it fills those that the
+/// value before it has left.
+pub fn filled_form(length: usize, law: u32, fills: Fills, rng: &mut Prng) -> Option<Form> {
+    let Fills { row, value, by, left, next } = fills;
+    let mut located = Located::start(length, row.case, row.flag);
+    if by == 7 {
+        located.put_before(row, value.checked_sub(1)?, left + 4, rng);
+        let keep = (left + 1 + rng.below(4)).min(located.empty.len());
+        located.put_all_but(value - 1, row.values[value - 1], rng.below(5), keep, rng);
+    } else {
+        located.put_before(row, value, left + 1, rng);
+    }
+    located.put_all_but(value, row.values[value], by, left, rng);
+    for (at, number) in row.values.iter().enumerate().skip(value + 1) {
+        let places = located.empty.len();
+        match next {
+            7 => located.put(at, *number, if places > 0 { 7 } else { 5 }, &vec![true; places]),
+            5 => located.put(at, *number, 5, &vec![false; places]),
+            _ => {
+                let flags = any_flags(places, 0, rng);
+                located.put(at, *number, next, &flags);
+            }
+        }
+    }
+    Some(Form { bits: located.bits, tool: 7, samples: samples(&located.numbers, law) })
+}
+
+/// Which value of a row fills the places, by which method, how many it leaves, and the method of the values after it.
+#[derive(Clone, Copy, Debug)]
+pub struct Fills {
+    pub row: Row,
+    pub value: usize,
+    pub by: usize,
+    pub left: usize,
+    pub next: usize,
 }
 
 /// A form of any tool and length.

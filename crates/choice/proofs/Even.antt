@@ -19,7 +19,7 @@ use Rattle.look.specs.Looks.{countIs, marksOf, twoZeros}
 use Rattle.finding.proofs.Finding.{runs-common, runs-other}
 use Rattle.zeros.specs.declared.Zeros.{Zeros}
 use Rattle.choice.specs.Plans.{measured, ZerosFor}
-use Rattle.locating.proofs.Near.{zeros-unplaced}
+use Rattle.locating.proofs.Near.{zeros-unlocated}
 use Rattle.zeros.proofs.TwoZeros.{rice-applies, zeros-apply, rice-sum}
 use Rattle.choice.proofs.Choosing.{uncompressed-chosen, binary-bits}
 use Rattle.choice.proofs.Settling.{least-some, code-some, start-some, of-two, among, passed, won}
@@ -76,9 +76,9 @@ module _ (mask : ℕ) (s : List ℕ) {n plus minus : ℕ} (size : length s ≡ n
       go (suc (suc S)) h = omega (arith, start, threes (suc (suc S)) (zeroOf mask (markOf mask s) 0) (omega arith) s 0, few, size, forties)
 
   -- so binary is taken
-  pub binary-settled : {set : ℕ} {runs : List ℕ} {r : Zeros} {t : Bool} → mask < 128 → twoZeros mask s ≡ true → n ≤ 320
-      → t ≡ (holds set 5 && ltb minus (plus + 14) && ltb plus (minus + 14)) → t ≡ true → r .tool ≡ 5 → r .bits ≡ 8 + n → ZerosFor mask set s r runs
-  binary-settled {set} {runs} {r} seven zeros few told taken tool bits =
+  pub binary-settled : (set : ℕ) {runs : List ℕ} {r : Zeros} {t : Bool} → mask < 128 → twoZeros mask s ≡ true → n ≤ 320
+      → t ≡ (holds set 5 && ltb minus (plus + 14) && ltb plus (minus + 14)) → t ≡ true → r .tool ≡ 5 → r .bits ≡ 8 + n → ZerosFor mask (choose mask set s measured) s r runs
+  binary-settled set {runs} {r} seven zeros few told taken tool bits =
       let h = holds set 5 in
       let p = ltb minus (plus + 14) in
       let q = ltb plus (minus + 14) in
@@ -89,7 +89,7 @@ module _ (mask : ℕ) (s : List ℕ) {n plus minus : ℕ} (size : length s ≡ n
       let five = binary-bits mask s size in
       let P : ℕ → Type 0 = λ t. octetsOfForm mask s 5 ≤ octetsOfForm mask s t in
       let one : P (choose mask set s []) = rw (← (uncompressed-chosen mask s size set few .bits)) (omega (arith, five)) in
-      let rest : P (choose mask set s (7 ∷ [])) = rw (passed mask s set 7 [] (past set 7 (zeros-unplaced mask seven s zeros))) one in
+      let rest : P (choose mask set s (7 ∷ [])) = rw (passed mask s set 7 [] (past set 7 (zeros-unlocated mask seven s zeros))) one in
       let six : P 6 = omega (arith, five, more, rice-form mask s, forties) in
       let last : choose mask set s measured ≡ 5 = won mask s set 5 _ on (among mask s set P 6 _ six rest) in
       record {

@@ -12,15 +12,15 @@ use Rattle.rules.proofs.Tests.{and-left}
 use Rattle.look.specs.Looks.{twoZeros}
 use Rattle.choice.specs.declared.Choice.{Choice}
 use Rattle.zeros.specs.declared.Zeros.{Zeros}
-use Rattle.locating.specs.declared.Placed.{Placed}
+use Rattle.locating.specs.declared.Located.{Located}
 use Rattle.locating.specs.declared.Values.{Values}
 use Rattle.locating.specs.declared.Ways.{Ways}
 use Rattle.locating.specs.Ways.{InTurn, WaysAre}
 use Rattle.locating.specs.Rows.{samplesOf, valuesIn}
 use Rattle.zeros.specs.Rice.{RiceFor}
-use Rattle.choice.specs.Plans.{measured, BetterIs, ChosenIs, ZerosFor, placedBy, PlacedFor}
+use Rattle.choice.specs.Plans.{measured, BetterIs, ChosenIs, ZerosFor, locatedBy, LocatedFor}
 use Rattle.look.proofs.Tests.{never, and-zero}
-use Rattle.locating.proofs.Near.{zeros-unplaced}
+use Rattle.locating.proofs.Near.{zeros-unlocated}
 use Rattle.zeros.proofs.TwoZeros.{rice-applies, zeros-apply}
 use Rattle.choice.proofs.Choosing.{choose-step, choose-past, chosen-offered, uncompressed-chosen, binary-bits}
 use Rattle.choice.proofs.Settling.{among, alone}
@@ -52,14 +52,21 @@ located-bits mask s {w = w} some few says ways =
 uncompressed-is : (mask set : ℕ) (s : List ℕ) {n : ℕ} {first : Choice} → length s ≡ n → n ≤ 320 → first ≡ record { tool = 1; bits = 8 + 8 * n } → ChosenIs mask set s [] first
 uncompressed-is mask set s size few e = rw e (uncompressed-chosen mask s size set few)
 
+-- a plan for another name of its tool
+pub zeros-as : {mask t u : ℕ} {s runs : List ℕ} {r : Zeros} → u ≡ t → ZerosFor mask t s r runs → ZerosFor mask u s r runs
+zeros-as e p = rw e p
+
+pub located-as : {mask t u : ℕ} {s a b c : List ℕ} {r : Located} → u ≡ t → LocatedFor mask t s r a b c → LocatedFor mask u s r a b c
+located-as e p = rw e p
+
 -- a frame of the two zeros: uncompressed, then Rice, then binary
 pub zeros-planned : {mask set n : ℕ} {s runs : List ℕ} {rice : Zeros} {one six five : Choice} {h₆ h₅ : Bool} → mask < 128 → twoZeros mask s ≡ true → length s ≡ n → n ≤ 320
     → RiceFor mask set s rice runs → one ≡ record { tool = 1; bits = 8 + 8 * n } → h₆ ≡ holds set 6 → BetterIs one 6 h₆ (rice .bits) six
     → h₅ ≡ holds set 5 → BetterIs six 5 h₅ (8 + n) five
-    → ZerosFor mask set s (record { tool = five .tool; bits = five .bits; mark = rice .mark; s = rice .s; count = rice .count }) runs
+    → ZerosFor mask (choose mask set s measured) s (record { tool = five .tool; bits = five .bits; mark = rice .mark; s = rice .s; count = rice .count }) runs
 zeros-planned {mask} {set} {n} {s} {runs} {rice} {h₆ = h₆} {h₅ = h₅} seven zeros size few riced e₁ e₆ b₆ e₅ b₅ =
     let on : applies mask 6 s ≡ true = zeros-apply mask s ∙ zeros in
-    let c₇ = choose-past 7 (past set 7 (zeros-unplaced mask seven s zeros)) (uncompressed-is mask set s size few e₁) in
+    let c₇ = choose-past 7 (past set 7 (zeros-unlocated mask seven s zeros)) (uncompressed-is mask set s size few e₁) in
     let c₆ = choose-step c₇ 6 h₆ (rice .bits) (e₆ ∙ offers set 6 on) (λ h. riced .rice (sym e₆ ∙ h) .bits ∙ rice-form mask s) b₆ in
     let c₅ = choose-step c₆ 5 h₅ (8 + n) (e₅ ∙ offers set 5 (rice-applies mask s ∙ on)) (λ h. binary-bits mask s size) b₅ in
     let P : ℕ → Type 0 = λ t. (t ≡ 1 → ⊥) → (t ≡ 6 → ⊥) → t ≡ 5 in
@@ -84,7 +91,7 @@ zeros-planned {mask} {set} {n} {s} {runs} {rice} {h₆ = h₆} {h₅ = h₅} sev
     }
 
 -- a frame that has a 1 or a -2: uncompressed, then value-location
-module _ {mask set : ℕ} {s : List ℕ} (zeros : twoZeros mask s ≡ false) where
+module _ {mask : ℕ} (set : ℕ) {s : List ℕ} (zeros : twoZeros mask s ≡ false) where
   no-zeros : {r : Choice} → ChosenIs mask set s (7 ∷ []) r → ChosenIs mask set s measured r
   no-zeros done =
       let off : applies mask 6 s ≡ false = zeros-apply mask s ∙ zeros in
@@ -95,23 +102,23 @@ module _ {mask set : ℕ} {s : List ℕ} (zeros : twoZeros mask s ≡ false) whe
       let P : ℕ → Type 0 = λ t. (t ≡ 1 → ⊥) → t ≡ 7 in
       rw (done .tool) (among mask s set P 7 [] (λ x. refl) (alone mask s set P (λ x. absurd (x refl))))
 
-  pub not-placed : {n : ℕ} {a b c : List ℕ} {r : Placed} → length s ≡ n → n ≤ 320 → (holds set 7 && applies mask 7 s) ≡ false → r .tool ≡ 1 → r .bits ≡ 8 + 8 * n
-      → PlacedFor mask set s r a b c
-  not-placed {n} {r = r} size few off t b =
+  pub not-located : {n : ℕ} {a b c : List ℕ} {r : Located} → length s ≡ n → n ≤ 320 → (holds set 7 && applies mask 7 s) ≡ false → r .tool ≡ 1 → r .bits ≡ 8 + 8 * n
+      → LocatedFor mask (choose mask set s measured) s r a b c
+  not-located {n} {r = r} size few off t b =
       let done = no-zeros (choose-past 7 off (uncompressed-chosen mask s size set few)) in
       record {
         tool = t ∙ done .tool;
         bits = b ∙ done .bits;
         small = omega arith;
-        placed = λ e. absurd (never (sym off ∙ chosen-offered mask set s measured 7 e (λ z. omega arith)));
+        located = λ e. absurd (never (sym off ∙ chosen-offered mask set s measured 7 e (λ z. omega arith)));
         kind = λ x. absurd (x t);
       }
 
-  pub placed-for : {n row flag : ℕ} {a b c : List ℕ} {v : Values} {w : Ways} {one best : Choice} {r : Placed} {k : ℕ} → length s ≡ n → n ≤ 320 → holds set 7 ≡ true
+  pub located-for : {n row flag : ℕ} {a b c : List ℕ} {v : Values} {w : Ways} {one best : Choice} {r : Located} {k : ℕ} → length s ≡ n → n ≤ 320 → holds set 7 ≡ true
       → applies mask 7 s ≡ true → row ≡ rowOf mask s → row < 4 → flag ≡ locatedFlag mask s → flag < 2 → (plus : ℕ) → InTurn plus s v → samplesOf v ≡ valuesIn mask s
       → WaysAre s v w a b c → one ≡ record { tool = 1; bits = 8 + 8 * n } → k ≡ 11 + (w .first .bits + w .second .bits + w .third .bits) → BetterIs one 7 true k best
-      → r ≡ placedBy best row flag (v .count) w → PlacedFor mask set s r a b c
-  placed-for {v = v} {w = w} {k = k} size few held on q low f mark plus turn says ways e sum better told =
+      → r ≡ locatedBy best row flag (v .count) w → LocatedFor mask (choose mask set s measured) s r a b c
+  located-for {v = v} {w = w} {k = k} size few held on q low f mark plus turn says ways e sum better told =
       let offered : true ≡ (holds set 7 && applies mask 7 s) = rw (held, on) in
       let first′ = choose-step (uncompressed-is mask set s size few e) 7 true k offered (λ h. sum ∙ located-bits mask s (turn .some) (turn .few) says ways) better in
       let done = no-zeros first′ in
@@ -120,7 +127,7 @@ module _ {mask set : ℕ} {s : List ℕ} (zeros : twoZeros mask s ≡ false) whe
         tool = done .tool;
         bits = done .bits;
         small = done .small;
-        placed = λ e.
+        located = λ e.
             record {
               x = v .first .sample;
               y = v .second .sample;

@@ -9,13 +9,14 @@ use Rattle.rules.specs.Bits.{octetsFor}
 use Rattle.rules.specs.Tools.{holds}
 use Rattle.rules.specs.Samples.{plusZero, minusZero}
 use Rattle.rules.specs.Chooses.{choose, chosenTool, formOf, leastOf, greatestOf}
-use Rattle.look.specs.Looks.{near}
+use Rattle.look.specs.Looks.{near, twoZeros}
 use Rattle.choice.specs.declared.Choice.{Choice}
+use Rattle.choice.specs.declared.Settled.{Settled}
 use Rattle.zeros.specs.declared.Zeros.{Zeros}
-use Rattle.locating.specs.declared.Placed.{Placed}
+use Rattle.locating.specs.declared.Located.{Located}
 use Rattle.locating.specs.declared.Ways.{Ways}
 use Rattle.zeros.specs.Rice.{RiceIs}
-use Rattle.locating.specs.Rows.{PlacedIs}
+use Rattle.locating.specs.Rows.{LocatedIs}
 
 -- whether a tool is taken
 abbrev pub taken : Choice → Bool → ℕ → Bool
@@ -47,23 +48,28 @@ pub record Plain (mask set : ℕ) (s : List ℕ) (r : ℕ) : Type 0 where
   pub close : r ≡ 0 → near (leastOf mask s) (greatestOf mask s) ≡ true
   pub most : r ≤ 4
 
--- what is written of a frame of the two zeros
-pub record ZerosFor (mask set : ℕ) (s : List ℕ) (r : Zeros) (runs : List ℕ) : Type 0 where
-  pub tool : r .tool ≡ choose mask set s measured
-  pub bits : r .bits ≡ length (formOf mask (choose mask set s measured) s)
+-- what the first look tells: the tool, or 0 and whether the frame is of the two zeros
+pub record Settles (mask set : ℕ) (s : List ℕ) (r : Settled) : Type 0 where
+  pub plain : Plain mask set s (r .tool)
+  pub zeros : r .zeros ≡ twoZeros mask s
+
+-- tool t as it is written of a frame of the two zeros
+pub record ZerosFor (mask t : ℕ) (s : List ℕ) (r : Zeros) (runs : List ℕ) : Type 0 where
+  pub tool : r .tool ≡ t
+  pub bits : r .bits ≡ length (formOf mask t s)
   pub small : r .bits ≤ 1000000000
-  pub rice : choose mask set s measured ≡ 6 → RiceIs mask s r runs
+  pub rice : t ≡ 6 → RiceIs mask s r runs
   pub kind : (r .tool ≡ 1 → ⊥) → (r .tool ≡ 6 → ⊥) → r .tool ≡ 5
 
 -- a choice, with what value-location writes
-abbrev pub placedBy : Choice → ℕ → ℕ → ℕ → Ways → Placed
-placedBy best row flag count w =
+abbrev pub locatedBy : Choice → ℕ → ℕ → ℕ → Ways → Located
+locatedBy best row flag count w =
     record { tool = best .tool; bits = best .bits; row = row; flag = flag; count = count; first = w .first; second = w .second; third = w .third }
 
--- what is written of a frame that has a 1 or a -2
-pub record PlacedFor (mask set : ℕ) (s : List ℕ) (r : Placed) (a b c : List ℕ) : Type 0 where
-  pub tool : r .tool ≡ choose mask set s measured
-  pub bits : r .bits ≡ length (formOf mask (choose mask set s measured) s)
+-- tool t as it is written of a frame that has a 1 or a -2
+pub record LocatedFor (mask t : ℕ) (s : List ℕ) (r : Located) (a b c : List ℕ) : Type 0 where
+  pub tool : r .tool ≡ t
+  pub bits : r .bits ≡ length (formOf mask t s)
   pub small : r .bits ≤ 1000000000
-  pub placed : choose mask set s measured ≡ 7 → PlacedIs mask s r a b c
+  pub located : t ≡ 7 → LocatedIs mask s r a b c
   pub kind : (r .tool ≡ 1 → ⊥) → r .tool ≡ 7

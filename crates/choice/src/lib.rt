@@ -2,7 +2,7 @@
 
 use law::minus_zero;
 use law::plus_zero;
-use locating::Placed;
+use locating::Located;
 use locating::Ways;
 use locating::flag_of;
 use locating::located_applies;
@@ -14,9 +14,9 @@ use locating::way_by;
 use locating::ways_of;
 use look::Spread;
 use look::count_of;
+use look::spread_of;
 use prefix::holds;
 use zeros::Zeros;
-use zeros::binary_at_once;
 use zeros::rice_of;
 ghost use mathlib.Core.Path.{_≡_};
 ghost use mathlib.Core.Bool.{true, false, cond, _&&_};
@@ -26,10 +26,10 @@ ghost use lib.ListN.{length, getD, take};
 ghost use lib.Dec.{eqb, ltb};
 ghost use Rattle.rules.specs.Tools as tools;
 ghost use Rattle.rules.specs.Zeros.{flagOf};
-ghost use Rattle.rules.specs.Chooses.{leastOf, greatestOf};
+ghost use Rattle.rules.specs.Chooses.{leastOf, greatestOf, choose, chosenTool};
 ghost use Rattle.look.specs.Looks.{near, twoZeros, SpreadIs, isMask};
 ghost use Rattle.look.specs.Rows.{RowIs};
-ghost use Rattle.choice.specs.Plans.{BetterIs, valueTool, Plain, ZerosFor, placedBy, PlacedFor};
+ghost use Rattle.choice.specs.Plans.{BetterIs, measured, valueTool, Plain, Settles, ZerosFor, locatedBy, LocatedFor};
 
 // A tool, and the bits of its form.
 struct Choice {
@@ -101,7 +101,7 @@ fn spread_tool(any: u8) -> u32
 
 // The tool of a frame that the first look settles, else 0. A frame of one value takes one or two octets, and no other form is as short;
 // where no tool of one value is held, a frame with a sample below -2 or above 1 stays uncompressed, as it does where its samples differ.
-pub fn plain_tool(samples: &[u8], n: usize, l: Spread, mask: u8, set: u32) -> u32
+fn plain_tool(samples: &[u8], n: usize, l: Spread, mask: u8, set: u32) -> u32
     requires { ⌜ (1 ≤ n) × ((n ≤ length (now samples)) × (isMask mask ≡ true)) ⌝ }
     requires { ⌜ SpreadIs mask (getD (now samples) 0 0) (take n (now samples)) l ⌝ }
     ensures { λ r. ⌜ Plain mask set (take n (now (samples .entry))) r ⌝ }
@@ -114,6 +114,43 @@ pub fn plain_tool(samples: &[u8], n: usize, l: Spread, mask: u8, set: u32) -> u3
         return tool;
     }
     spread_tool(l.any)
+}
+
+// What the first look tells of a frame: its tool, or 0 where one of the plans finds it, and then which one.
+pub struct Settled {
+    pub tool: u32,
+    pub zeros: bool,
+}
+
+// The first look. With the mask taken off, the low bits of both zeros are 0.
+pub fn first_look(samples: &[u8], n: usize, mask: u8, set: u32) -> Settled
+    requires { ⌜ (1 ≤ n) × ((n ≤ length (now samples)) × (isMask mask ≡ true)) ⌝ }
+    ensures { λ r. ⌜ Settles mask set (take n (now (samples .entry))) r ⌝ }
+{
+    let l = spread_of(samples, n, mask);
+    let tool = plain_tool(samples, n, l, mask, set);
+    Settled {
+        tool: tool,
+        zeros: l.any % 128 == 0,
+    }
+}
+
+// Whether binary is held and the two zeros are so nearly as many that Rice can't need fewer octets. Let c of the N samples be of the rarer
+// zero: there are c runs or more, with N - c places in them. With S = 1 a run v has 2 + v / 2 bits, and twice that is v + 3 or more, so twice
+// the bits of all runs are N + 2c or more; before them stand 7 or more. A larger S has 3 or more for each run, and before them 5 or more. N is
+// 40 or more. So where the two differ by less than 14, which is where N is below 2c + 14, Rice has more than N bits: N / 8 + 1 octets or more,
+// and binary has just these.
+fn binary_at_once(set: u32, plus: usize, minus: usize) -> bool
+    requires { ⌜ (plus ≤ 320) × (minus ≤ 320) ⌝ }
+    ensures { λ r. ⌜ r ≡ tools.holds set 5 && ltb minus (plus + 14) && ltb plus (minus + 14) ⌝ }
+{
+    if !holds(set, 5) {
+        return false;
+    }
+    if plus + 14 <= minus {
+        return false;
+    }
+    plus < minus + 14
 }
 
 // "Fewest octets" for a frame of the two zeros that the first look does not settle: from uncompressed on, each tool of the tie order takes
@@ -131,7 +168,8 @@ pub fn zeros_plan(
     requires { ⌜ twoZeros mask (take n (now samples)) ≡ true ⌝ }
     requires { ⌜ RowIs (map (flagOf mask 0) (take n (now samples))) (n / 40) (now row) ⌝ }
     requires { ⌜ length (now runs) ≡ 321 ⌝ }
-    ensures { λ r. ⌜ ZerosFor mask set (take n (now (samples .entry))) r (now (runs .exit)) ⌝ }
+    requires { ⌜ chosenTool mask set (take n (now samples)) ≡ choose mask set (take n (now samples)) measured ⌝ }
+    ensures { λ r. ⌜ ZerosFor mask (chosenTool mask set (take n (now (samples .entry)))) (take n (now (samples .entry))) r (now (runs .exit)) ⌝ }
 {
     let minus = count_of(samples, n, minus_zero(mask));
     let plus = n - minus;
@@ -159,12 +197,12 @@ pub fn zeros_plan(
 }
 
 // Uncompressed, with nothing measured.
-fn not_placed(n: usize) -> Placed
+fn not_located(n: usize) -> Located
     requires { ⌜ n ≤ 320 ⌝ }
     ensures { λ r. ⌜ (r .tool ≡ 1) × (r .bits ≡ 8 + 8 * n) ⌝ }
 {
     let none = way_by(5, 0, 0, 0, 0);
-    Placed {
+    Located {
         tool: 1,
         bits: 8 + 8 * n,
         row: 0,
@@ -177,13 +215,13 @@ fn not_placed(n: usize) -> Placed
 }
 
 // The choice, with what value-location writes.
-fn placed_by(best: Choice, row: usize, flag: usize, count: usize, w: Ways) -> Placed
-    ensures { λ r. ⌜ r ≡ placedBy best row flag count w ⌝ }
+fn located_by(best: Choice, row: usize, flag: usize, count: usize, w: Ways) -> Located
+    ensures { λ r. ⌜ r ≡ locatedBy best row flag count w ⌝ }
 {
     let first = w.first;
     let second = w.second;
     let third = w.third;
-    Placed {
+    Located {
         tool: best.tool,
         bits: best.bits,
         row: row,
@@ -197,7 +235,7 @@ fn placed_by(best: Choice, row: usize, flag: usize, count: usize, w: Ways) -> Pl
 
 // "Fewest octets" for a frame from -2 to 1 that has a 1 or a -2: binary and Rice do not apply. Nothing is measured where the set lacks
 // value-location or it does not apply.
-pub fn values_plan(
+pub fn located_plan(
     samples: &[u8],
     n: usize,
     mask: u8,
@@ -205,25 +243,26 @@ pub fn values_plan(
     a: &mut [u16; 321],
     b: &mut [u16; 321],
     c: &mut [u16; 321],
-) -> Placed
+) -> Located
     requires { ⌜ (1 ≤ n) × ((n ≤ 320) × ((n ≤ length (now samples)) × ((isMask mask ≡ true) × (n % 40 ≡ 0)))) ⌝ }
     requires { ⌜ twoZeros mask (take n (now samples)) ≡ false ⌝ }
     requires { ⌜ near (leastOf mask (take n (now samples))) (greatestOf mask (take n (now samples))) ≡ true ⌝ }
     requires { ⌜ (length (now a) ≡ 321) × ((length (now b) ≡ 321) × (length (now c) ≡ 321)) ⌝ }
-    ensures { λ r. ⌜ PlacedFor mask set (take n (now (samples .entry))) r (now (a .exit)) (now (b .exit)) (now (c .exit)) ⌝ }
+    requires { ⌜ chosenTool mask set (take n (now samples)) ≡ choose mask set (take n (now samples)) measured ⌝ }
+    ensures { λ r. ⌜ LocatedFor mask (chosenTool mask set (take n (now (samples .entry)))) (take n (now (samples .entry))) r (now (a .exit)) (now (b .exit)) (now (c .exit)) ⌝ }
 {
     if !holds(set, 7) {
-        return not_placed(n);
+        return not_located(n);
     }
     let t = tally_of(samples, n, mask);
     let row = row_of(t, n);
     if !located_applies(t, n, row) {
-        return not_placed(n);
+        return not_located(n);
     }
     let flag = flag_of(t.one, t.minus + t.twos);
     let v = values_of(mask, t, row, flag);
     let w = ways_of(samples, n, plus_zero(mask), v, a, b, c);
     let uncompressed = uncompressed_of(n);
     let seven = better(uncompressed, 7, true, located_bits(w));
-    placed_by(seven, row, flag, v.count, w)
+    located_by(seven, row, flag, v.count, w)
 }

@@ -15,17 +15,17 @@ use Rattle.rules.specs.Zeros.{prefix, codeOf, flagOf}
 use Rattle.rules.specs.Chooses.{markOf, bestS, riceChoice, rowOf, locatedFlag, locatedForm, formOf}
 use Rattle.rules.specs.Samples.{plusZero, minusZero}
 use Rattle.look.specs.Looks.{countIs, marksOf}
-use Rattle.locating.specs.declared.Placed.{Placed}
+use Rattle.locating.specs.declared.Located.{Located}
 use Rattle.zeros.specs.declared.Zeros.{Zeros}
 use Rattle.zeros.specs.Rice.{RiceIs}
-use Rattle.locating.specs.Rows.{PlacedIs}
+use Rattle.locating.specs.Rows.{LocatedIs}
 use Rattle.pen.specs.declared.Pen.{Pen}
 use Rattle.pen.specs.Puts.{penBits, Able, Puts, Packed}
 use Rattle.look.specs.Rows.{rowBits, RowIs}
 use Rattle.rules.proofs.Words.{lowBits-join}
 use Rattle.pen.proofs.Putting.{drop-further}
-use Rattle.forms.specs.Forms.{IsFrame, wholeOctets, RiceReady, riceFormOf, valuesFormOf, placedFormOf, planForm, zerosForm}
-use Rattle.forms.proofs.Turns.{placed-values}
+use Rattle.forms.specs.Forms.{IsFrame, wholeOctets, RiceReady, riceFormOf, valuesFormOf, locatedFormOf, planForm, zerosForm}
+use Rattle.forms.proofs.Turns.{located-values}
 
 pub row-flag : (row flag : ℕ) (l : List ℕ) → flag < 2 → lowBits 3 (row * 2 + flag) ++ l ≡ lowBits 2 row ++ (lowBits 1 flag ++ l)
 row-flag row flag l h = rw (lowBits-join 2 1 row flag h, append-assoc)
@@ -90,23 +90,23 @@ pub located-seven : (mask : ℕ) (s : List ℕ) → locatedForm mask s ≡ formO
 unfolding formOf
 located-seven mask s = refl
 
-module _ (n : ℕ) (s : List ℕ) (r : Placed) (a b c : List ℕ) where
+module _ (n : ℕ) (s : List ℕ) (r : Located) (a b c : List ℕ) where
   pub plan-whole : r .tool ≡ 1 → bitsOf (wholeOctets 1 s) ≡ planForm n s r a b c
   unfolding planForm
   plan-whole e = rw e
 
-  pub plan-placed : (r .tool ≡ 1 → ⊥) → prefix 7 n ++ placedFormOf r a b c ≡ planForm n s r a b c
+  pub plan-located : (r .tool ≡ 1 → ⊥) → prefix 7 n ++ locatedFormOf r a b c ≡ planForm n s r a b c
   unfolding planForm
-  plan-placed e = rw (ne-eqb (r .tool) 1 e)
+  plan-located e = rw (ne-eqb (r .tool) 1 e)
 
-  pub located-form : {mask : ℕ} → length s ≡ n → PlacedIs mask s r a b c → prefix 7 n ++ placedFormOf r a b c ≡ locatedForm mask s
+  pub located-form : {mask : ℕ} → length s ≡ n → LocatedIs mask s r a b c → prefix 7 n ++ locatedFormOf r a b c ≡ locatedForm mask s
   unfolding locatedForm
   located-form {mask} size p =
       let form : ℕ → ℕ → ℕ → List ℕ → List ℕ = λ k row flag v. prefix 7 k ++ (lowBits 2 row ++ (lowBits 1 flag ++ v)) in
       ap (λ (k : ℕ). form k (r .row) (r .flag) (valuesFormOf r a b c)) (sym size)
       ∙ ap (λ (k : ℕ). form (length s) k (r .flag) (valuesFormOf r a b c)) (p .row)
       ∙ ap (λ (k : ℕ). form (length s) (rowOf mask s) k (valuesFormOf r a b c)) (p .flag)
-      ∙ ap (form (length s) (rowOf mask s) (locatedFlag mask s)) (placed-values p)
+      ∙ ap (form (length s) (rowOf mask s) (locatedFlag mask s)) (located-values p)
 
 -- a pen that has put nothing
 pub record Fresh (p : Pen) : Type 0 where

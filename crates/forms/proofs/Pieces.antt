@@ -1,17 +1,14 @@
 -- Laws of the pieces of a form.
-use Prim.Native.Nat.{ℕ, zero, suc, _+_, _*_, _-_, _^_, _/_, _≤_, _<_}
+use Prim.Native.Nat.{ℕ, zero, suc, _+_, _*_, _^_, _/_, _≤_, _<_}
 use mathlib.Core.Path.{_≡_, refl, sym, ap, _∙_}
 use mathlib.Core.List.{List, [], _∷_, _++_}
 use native.Mathlib.Omega.{arith}
-use borrow.Author.Tests.{le-leb, lt-leb, ne-eqb}
-use lib.ListN.{length, getD, length-append}
+use borrow.Author.Tests.{le-leb, lt-leb}
+use lib.ListN.{length, length-append}
 use Rattle.rules.specs.Bits.{lowBits}
 use Rattle.rules.specs.First.{baseOf, riceCode}
-use Rattle.rules.specs.Zeros.{codesOf, codeOf}
 use Rattle.rules.proofs.Octets.{length-lowBits}
 use Rattle.rules.proofs.Words.{lowBits-join}
-use Rattle.forms.specs.declared.Code.{Code}
-use Rattle.forms.specs.Forms.{CodeIs}
 
 -- the mark's three bits
 marked : (k mark : ℕ) → mark < 2 → (a b : ℕ) → lowBits 3 (k + 0) ≡ a ∷ b ∷ 0 ∷ [] → lowBits 3 (k + 1) ≡ a ∷ b ∷ 1 ∷ [] → lowBits 3 (k + mark) ≡ a ∷ b ∷ mark ∷ []
@@ -40,19 +37,3 @@ bits-length n v e = ap length (sym e) ∙ length-lowBits n v
 -- three pieces, one after the other
 pub length-three : (a b c : List ℕ) → length (a ++ (b ++ c)) ≡ length a + (length b + length c)
 length-three a b c = length-append a (b ++ c) ∙ ap (λ (k : ℕ). length a + k) (length-append b c)
-
--- the codes of S
-pub code-told : {n s k bits value : ℕ} {r : Code} → s ≡ k → r .bits ≡ bits → r .value ≡ value → lowBits bits value ≡ codeOf n k → bits ≤ 8 → value < 2 ^ bits
-    → CodeIs n s r
-code-told e f g says few fits = record { says = rw (e, f, g) says; few = rw f few; fits = rw (f, g) fits }
-
-pub codes-more : (n : ℕ) → (n ≡ 40 → ⊥) → (n ≡ 80 → ⊥) → codesOf n ≡ codesOf 160
-unfolding codesOf
-codes-more n a b = rw (ne-eqb n 40 a, ne-eqb n 80 b)
-
-pub code-as : {n m s : ℕ} {r : Code} → codesOf n ≡ codesOf m → CodeIs m s r → CodeIs n s r
-code-as {s = s} e c = record { says = c .says ∙ ap (λ (l : List (List ℕ)). getD l (s - 1) []) (sym e); few = c .few; fits = c .fits }
-
--- not k, and so more
-pub up : {s k : ℕ} → k ≤ s → (s ≡ k → ⊥) → suc k ≤ s
-up h n = omega arith

@@ -7,14 +7,14 @@ use borrow.Author.Tests.{ne-eqb}
 use lib.ListN.{length, take, length-append}
 use Rattle.rules.specs.Chooses.{valueForm, valuesForm}
 use Rattle.locating.specs.declared.Way.{Way}
-use Rattle.locating.specs.declared.Placed.{Placed}
+use Rattle.locating.specs.declared.Located.{Located}
 use Rattle.locating.specs.Ways.{WayOf}
-use Rattle.locating.specs.Rows.{valuesIn, PlacedIs}
+use Rattle.locating.specs.Rows.{valuesIn, LocatedIs}
 use Rattle.forms.specs.Ways.{wayOf, WayPlanned}
-use Rattle.forms.specs.Forms.{valuesFormOf, PlacedReady}
+use Rattle.forms.specs.Forms.{valuesFormOf, LocatedReady}
 use Rattle.forms.proofs.Ways.{way-form, way-ready}
 
-module _ (r : Placed) (a b c : List ℕ) where
+module _ (r : Located) (a b c : List ℕ) where
   -- one, two and three values
   pub values-one : r .count ≡ 1 → wayOf (r .first) a ≡ valuesFormOf r a b c
   unfolding valuesFormOf
@@ -50,9 +50,9 @@ way-is o = way-form (sym (o .found .says)) (o .flagged) (o .way .method)
 way-planned : {flags runs : List ℕ} {w : Way} → WayOf flags w runs → WayPlanned w runs
 way-planned o = record { few = o .found .few; size = o .found .size; ready = way-ready (sym (o .found .says)) (o .flagged) (o .way .method) }
 
-module _ {mask : ℕ} {s : List ℕ} {r : Placed} {a b c : List ℕ} (p : PlacedIs mask s r a b c) where
-  pub placed-ready : PlacedReady r a b c
-  placed-ready =
+module _ {mask : ℕ} {s : List ℕ} {r : Located} {a b c : List ℕ} (p : LocatedIs mask s r a b c) where
+  pub located-ready : LocatedReady r a b c
+  located-ready =
       record {
         row = p .low;
         flag = p .mark;
@@ -63,9 +63,9 @@ module _ {mask : ℕ} {s : List ℕ} {r : Placed} {a b c : List ℕ} (p : Placed
         };
       }
 
-  pub placed-values : valuesFormOf r a b c ≡ valuesForm (valuesIn mask s) s
+  pub located-values : valuesFormOf r a b c ≡ valuesForm (valuesIn mask s) s
   unfolding valuesForm
-  placed-values = rw (p .values) (go (r .count) refl (p .some) (p .few))
+  located-values = rw (p .values) (go (r .count) refl (p .some) (p .few))
     where
       xs : List ℕ
       xs = p .x ∷ p .y ∷ p .z ∷ []

@@ -10,16 +10,9 @@ use Rattle.rules.specs.Zeros.{prefix, codeOf, mostS}
 use Rattle.rules.specs.First.{octetFor, riceCode}
 use Rattle.rules.specs.Runs.{riceForms}
 use Rattle.look.specs.Rows.{rowBits}
-use Rattle.locating.specs.declared.Placed.{Placed}
+use Rattle.locating.specs.declared.Located.{Located}
 use Rattle.zeros.specs.declared.Zeros.{Zeros}
 use Rattle.forms.specs.Ways.{wayOf, WayPlanned}
-use Rattle.forms.specs.declared.Code.{Code}
-
--- the code of S as a number of so many bits
-pub record CodeIs (n s : ℕ) (r : Code) : Type 0 where
-  pub says : lowBits (r .bits) (r .value) ≡ codeOf n s
-  pub few : r .bits ≤ 8
-  pub fits : r .value < 2 ^ r .bits
 
 -- n samples of a frame, 40 to a word
 pub record IsFrame (samples : List ℕ) (n : ℕ) : Type 0 where
@@ -52,27 +45,27 @@ pub record RiceReady (n : ℕ) (r : Zeros) (runs : List ℕ) : Type 0 where
   pub size : length runs ≡ 321
 
 -- the values of a row in turn, as planned
-unfoldable pub valuesFormOf : Placed → List ℕ → List ℕ → List ℕ → List ℕ
+unfoldable pub valuesFormOf : Located → List ℕ → List ℕ → List ℕ → List ℕ
 valuesFormOf r a b c =
     wayOf (r .first) a ++ cond (eqb (r .count) 1) [] (wayOf (r .second) b ++ cond (eqb (r .count) 2) [] (wayOf (r .third) c))
 
-pub record ValuesReady (r : Placed) (a b c : List ℕ) : Type 0 where
+pub record ValuesReady (r : Located) (a b c : List ℕ) : Type 0 where
   pub first : WayPlanned (r .first) a
   pub second : (r .count ≡ 1 → ⊥) → WayPlanned (r .second) b
   pub third : (r .count ≡ 1 → ⊥) → (r .count ≡ 2 → ⊥) → WayPlanned (r .third) c
 
 -- value-location as planned
-abbrev pub placedFormOf : Placed → List ℕ → List ℕ → List ℕ → List ℕ
-placedFormOf r a b c = lowBits 2 (r .row) ++ (lowBits 1 (r .flag) ++ valuesFormOf r a b c)
+abbrev pub locatedFormOf : Located → List ℕ → List ℕ → List ℕ → List ℕ
+locatedFormOf r a b c = lowBits 2 (r .row) ++ (lowBits 1 (r .flag) ++ valuesFormOf r a b c)
 
-pub record PlacedReady (r : Placed) (a b c : List ℕ) : Type 0 where
+pub record LocatedReady (r : Located) (a b c : List ℕ) : Type 0 where
   pub row : r .row < 4
   pub flag : r .flag < 2
   pub values : ValuesReady r a b c
 
 -- the planned form of n samples that have a 1 or a -2
-unfoldable pub planForm : ℕ → List ℕ → Placed → List ℕ → List ℕ → List ℕ → List ℕ
-planForm n s r a b c = cond (eqb (r .tool) 1) (bitsOf (wholeOctets 1 s)) (prefix 7 n ++ placedFormOf r a b c)
+unfoldable pub planForm : ℕ → List ℕ → Located → List ℕ → List ℕ → List ℕ → List ℕ
+planForm n s r a b c = cond (eqb (r .tool) 1) (bitsOf (wholeOctets 1 s)) (prefix 7 n ++ locatedFormOf r a b c)
 
 -- the planned form of n samples that are the two zeros; the row's flags are 1 at minus zero
 unfoldable pub zerosForm : ℕ → List ℕ → Zeros → List ℕ → List ℕ → List ℕ

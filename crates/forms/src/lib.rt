@@ -1,6 +1,7 @@
 // The forms of the tools, put out as planned: nothing is decided here.
 
-use locating::Placed;
+use codes::code_of;
+use locating::Located;
 use locating::Way;
 use measure::width_of;
 use pen::Pen;
@@ -23,13 +24,7 @@ ghost use Rattle.rules.specs.First.{riceCode};
 ghost use Rattle.rules.specs.Zeros as zeros;
 ghost use Rattle.pen.specs.Puts.{Able, Puts, Packed};
 ghost use Rattle.forms.specs.Ways.{placesBy, listedForm, marksForm, wayOf, WayPlanned};
-ghost use Rattle.forms.specs.Forms.{CodeIs, wholeOctets, Copied, RiceReady, riceFormOf, ValuesReady, valuesFormOf, PlacedReady, placedFormOf, planForm, IsFrame, zerosForm, ZerosReady};
-
-// A code: so many bits, and their number.
-pub struct Code {
-    pub bits: usize,
-    pub value: u64,
-}
+ghost use Rattle.forms.specs.Forms.{wholeOctets, Copied, RiceReady, riceFormOf, ValuesReady, valuesFormOf, LocatedReady, locatedFormOf, planForm, IsFrame, zerosForm, ZerosReady};
 
 fn wide(x: u8) -> u64
     ensures { λ r. ⌜ (r ≡ x) × (r < 256) ⌝ }
@@ -102,76 +97,6 @@ fn put_start(out: &mut [u8], p: Pen, n: usize, mark: usize) -> Pen
         return put(out, p, 7, (base / 16) * 8 + 4 + mark as u64);
     }
     put(out, p, 5, (base / 64) * 8 + 2 + mark as u64)
-}
-
-fn bits_of(bits: usize, value: u64) -> Code
-    ensures { λ r. ⌜ (r .bits ≡ bits) × (r .value ≡ value) ⌝ }
-{
-    Code {
-        bits: bits,
-        value: value,
-    }
-}
-
-// The code of S for 40 samples.
-fn code_of_40(s: usize) -> Code
-    requires { ⌜ (1 ≤ s) × (s ≤ 5) ⌝ }
-    ensures { λ r. ⌜ CodeIs 40 s r ⌝ }
-{
-    match s {
-        1 => bits_of(2, 1),
-        2 => bits_of(2, 2),
-        3 => bits_of(3, 6),
-        4 => bits_of(4, 14),
-        _ => bits_of(4, 15),
-    }
-}
-
-// The code of S for 80 samples.
-fn code_of_80(s: usize) -> Code
-    requires { ⌜ (1 ≤ s) × (s ≤ 6) ⌝ }
-    ensures { λ r. ⌜ CodeIs 80 s r ⌝ }
-{
-    match s {
-        1 => bits_of(2, 1),
-        2 => bits_of(2, 2),
-        3 => bits_of(4, 12),
-        4 => bits_of(4, 13),
-        5 => bits_of(4, 14),
-        _ => bits_of(4, 15),
-    }
-}
-
-// The code of S for 160, 240 and 320 samples.
-fn code_of_more(s: usize) -> Code
-    requires { ⌜ (1 ≤ s) × (s ≤ 9) ⌝ }
-    ensures { λ r. ⌜ CodeIs 160 s r ⌝ }
-{
-    match s {
-        1 => bits_of(2, 1),
-        2 => bits_of(2, 2),
-        3 => bits_of(4, 12),
-        4 => bits_of(4, 13),
-        5 => bits_of(5, 28),
-        6 => bits_of(5, 29),
-        7 => bits_of(5, 30),
-        8 => bits_of(6, 62),
-        _ => bits_of(6, 63),
-    }
-}
-
-// The code of S.
-fn code_of(n: usize, s: usize) -> Code
-    requires { ⌜ (1 ≤ s) × (s ≤ zeros.mostS n) ⌝ }
-    ensures { λ r. ⌜ CodeIs n s r ⌝ }
-{
-    if n == 40 {
-        return code_of_40(s);
-    }
-    if n == 80 {
-        return code_of_80(s);
-    }
-    code_of_more(s)
 }
 
 // Rice: the start, the code of S, and the runs.
@@ -256,7 +181,7 @@ fn put_value(out: &mut [u8], p: Pen, w: Way, runs: &[u16; 321]) -> Pen
 fn put_values(
     out: &mut [u8],
     p: Pen,
-    plan: Placed,
+    plan: Located,
     a: &[u16; 321],
     b: &[u16; 321],
     c: &[u16; 321],
@@ -280,33 +205,33 @@ fn put_values(
 }
 
 // "Range case (2 bits), flag (1 bit), then the values": the body of value-location.
-fn put_located(
+fn put_located_body(
     out: &mut [u8],
     p: Pen,
-    plan: Placed,
+    plan: Located,
     a: &[u16; 321],
     b: &[u16; 321],
     c: &[u16; 321],
 ) -> Pen
-    requires { ⌜ PlacedReady plan (now a) (now b) (now c) ⌝ }
-    requires { ⌜ Able (now out) p (length (placedFormOf plan (now a) (now b) (now c))) ⌝ }
-    ensures { λ r. ⌜ Puts (now (out .entry)) p (placedFormOf plan (now (a .entry)) (now (b .entry)) (now (c .entry))) (now (out .exit)) r ⌝ }
+    requires { ⌜ LocatedReady plan (now a) (now b) (now c) ⌝ }
+    requires { ⌜ Able (now out) p (length (locatedFormOf plan (now a) (now b) (now c))) ⌝ }
+    ensures { λ r. ⌜ Puts (now (out .entry)) p (locatedFormOf plan (now (a .entry)) (now (b .entry)) (now (c .entry))) (now (out .exit)) r ⌝ }
 {
     let q = put(out, p, 3, plan.row as u64 * 2 + plan.flag as u64);
     put_values(out, q, plan, a, b, c)
 }
 
 // The planned form of a frame that has a 1 or a -2, as octets. Their number comes back.
-pub fn put_placed(
+pub fn put_located(
     out: &mut [u8],
     samples: &[u8],
     n: usize,
-    plan: Placed,
+    plan: Located,
     a: &[u16; 321],
     b: &[u16; 321],
     c: &[u16; 321],
 ) -> usize
-    requires { ⌜ (IsFrame (now samples) n) × ((plan .tool ≡ 1 → ⊥) → PlacedReady plan (now a) (now b) (now c)) ⌝ }
+    requires { ⌜ (IsFrame (now samples) n) × ((plan .tool ≡ 1 → ⊥) → LocatedReady plan (now a) (now b) (now c)) ⌝ }
     requires { ⌜ length (planForm n (take n (now samples)) plan (now a) (now b) (now c)) ≤ 8 * length (now out) ⌝ }
     ensures { λ r. ⌜ Packed (planForm n (take n (now (samples .entry))) plan (now (a .entry)) (now (b .entry)) (now (c .entry))) (now (out .entry)) (now (out .exit)) r ⌝ }
 {
@@ -315,7 +240,7 @@ pub fn put_placed(
     }
     let p = fresh();
     let q = put_prefix(out, p, 7, n);
-    let r = put_located(out, q, plan, a, b, c);
+    let r = put_located_body(out, q, plan, a, b, c);
     finish(out, r)
 }
 

@@ -270,9 +270,9 @@ zeros-near mask m (x ∷ s) h =
     step false false e f c le ih p = absurd (omega (arith, rw (e, f) at c))
 
 -- so no row has them
-pub zeros-unplaced : (mask : ℕ) → mask < 128 → (s : List ℕ) → twoZeros mask s ≡ true → applies mask 7 s ≡ false
+pub zeros-unlocated : (mask : ℕ) → mask < 128 → (s : List ℕ) → twoZeros mask s ≡ true → applies mask 7 s ≡ false
 unfolding applies rowOf caseOf
-zeros-unplaced mask m s e =
+zeros-unlocated mask m s e =
     let i = zeros-near mask m s (eqb-true _ _ e) in
     let four : rowOf mask s ≡ 4 =
     rw (ne-eqb (leastOf mask s) 126 (λ z. omega (arith, i .0)), ne-eqb (greatestOf mask s) 129 (λ z. omega (arith, i .1)), and-zero (eqb (leastOf mask s) 127), and-zero (eqb (leastOf mask s) 128)) in

@@ -13,7 +13,7 @@ use Rattle.look.specs.Looks.{countIs}
 use Rattle.locating.specs.declared.Tally.{Tally}
 use Rattle.locating.specs.declared.Value.{Value}
 use Rattle.locating.specs.declared.Values.{Values}
-use Rattle.locating.specs.declared.Placed.{Placed}
+use Rattle.locating.specs.declared.Located.{Located}
 use Rattle.locating.specs.Ways.{WayOf}
 
 -- the least and the greatest of samples from -2 to 1, on the line, by how many there are of each
@@ -85,7 +85,7 @@ abbrev pub valuesIn : ℕ → List ℕ → List ℕ
 valuesIn mask s = map (sampleOf mask) (valuesOf (length s) (rowOf mask s) (locatedFlag mask s))
 
 -- what value-location writes: its values are x, y and z, as many of them as the row has for the flag
-pub record PlacedIs (mask : ℕ) (s : List ℕ) (r : Placed) (a b c : List ℕ) : Type 0 where
+pub record LocatedIs (mask : ℕ) (s : List ℕ) (r : Located) (a b c : List ℕ) : Type 0 where
   pub x : ℕ
   pub y : ℕ
   pub z : ℕ

@@ -340,7 +340,7 @@ pub fn ways_of(
 
 // What is written of a frame that has a 1 or a -2: the tool and its bits, and for value-location the row, the flag, how many values the row
 // has for the flag, and a way for each.
-pub struct Placed {
+pub struct Located {
     pub tool: u32,
     pub bits: usize,
     pub row: usize,

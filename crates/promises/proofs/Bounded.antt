@@ -28,7 +28,7 @@ use Rattle.rules.proofs.Signed.{LawMask, sampleOf-one-to-one, law-mask}
 use Rattle.rules.proofs.Gives.{Gives, gives-bit, gives-number, gives-zerosFrom, gives-rice, gives-runsFrom, gives-byMethod, gives-readTree, Leaves}
 use Rattle.rules.proofs.Accepted.{Steps, through, steps, not-refused, filled-is, number-next}
 use Rattle.rules.proofs.Tests.{and-left, and-right, allBelow-at, by-length}
-use Rattle.promises.proofs.Each.{or-right, Each, nothing, next}
+use Rattle.rules.proofs.Each.{or-right, Each, nothing, next}
 use Rattle.promises.proofs.Further.{SixOrEight, six, eight, six-or-eight, eight-out, mark-first}
 use Rattle.promises.proofs.Rows.{few-values}
 use Rattle.promises.proofs.Methods.{ones}

@@ -20,8 +20,8 @@ use Rattle.rules.proofs.Octets.{Below, none, more, below-append, below-replicat
 use Rattle.rules.proofs.Signed.{LawMask}
 use Rattle.rules.proofs.Firsts.{hasOwn}
 use Rattle.rules.proofs.Tests.{by-length}
+use Rattle.rules.proofs.Each.{pick-below, Each, each-of}
 use Rattle.promises.proofs.Back.{Back}
-use Rattle.promises.proofs.Each.{pick-below, Each, each-of}
 use Rattle.promises.proofs.Zeros.{isZero, flags-below, back-uncompressed, back-constantly, back-constant, back-binary, back-plusMinus}
 use Rattle.promises.proofs.Methods.{leastS-range}
 use Rattle.promises.proofs.Located.{value-flags-below}

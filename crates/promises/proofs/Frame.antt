@@ -19,7 +19,7 @@ use Rattle.rules.proofs.Octets.{Below, none, more, value-from, value-below, bel
 use Rattle.rules.proofs.Firsts.{hasOwn, first-of, first-of-six}
 use Rattle.rules.proofs.Codes.{bit-seam}
 use Rattle.rules.proofs.Tests.{allBelow, allBelow-at, by-length}
-use Rattle.promises.proofs.Each.{Each, nothing, next, all, each-all}
+use Rattle.rules.proofs.Each.{Each, nothing, next, all, each-all}
 use Rattle.promises.proofs.Back.{Back, back-give, back-bit, back-number, back-first, back-value, back-filled}
 
 -- a frame read whole: its tool, its samples and its bits, and all its octets

@@ -23,8 +23,8 @@ use Rattle.rules.specs.Frame.{Found, octetsUsed, body, withTool, afterFirst, fr
 use Rattle.rules.proofs.Accepted.{Steps, through, steps, frame-accepts, read-accepts}
 use Rattle.rules.proofs.Octets.{length-bitsOf, bitsOf-append, bitsOf-below}
 use Rattle.rules.proofs.Signed.{law-mask}
+use Rattle.rules.proofs.Each.{pick-below}
 use Rattle.promises.proofs.Frame.{first-eight}
-use Rattle.promises.proofs.Each.{pick-below}
 use Rattle.promises.proofs.Reach.{never, place-of, value-of, Far, far-bit, far-then, far-cond, far-fail, Near, near-give, near-bit, near-then, near-cond, near-more}
 
 -- a reading m of bits of which there are n, and m′, the same with more bits after them

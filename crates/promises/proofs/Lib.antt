@@ -1,5 +1,4 @@
 pub mod Back
-pub mod Each
 pub mod Runs
 pub mod Zeros
 pub mod Methods
@@ -7,7 +6,6 @@ pub mod Located
 pub mod Rows
 pub mod Frame
 pub mod Forms
-pub mod Chosen
 pub mod Written
 pub mod Reach
 pub mod Further
@@ -17,6 +15,7 @@ pub mod Walks
 pub mod Refused
 pub mod Nesting
 pub mod Lists
+pub mod Upgrade
 pub mod Bounded
 pub mod Fits
 pub mod RoundTrip

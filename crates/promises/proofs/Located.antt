@@ -11,8 +11,8 @@ use Rattle.rules.specs.Bits.{lowBits}
 use Rattle.rules.specs.Located.{emptyIn, lay, valuesInto}
 use Rattle.rules.specs.Chooses.{flagsFor, without, methodOf, methodForm, valueForm, valuesForm}
 use Rattle.rules.proofs.Octets.{Below}
+use Rattle.rules.proofs.Each.{Each, nothing, next, each-map, or-false, pick-below, below-map}
 use Rattle.promises.proofs.Back.{Back, back-give, back-bind, back-here, back-as, back-number}
-use Rattle.promises.proofs.Each.{Each, nothing, next, each-map, or-false, pick-below, below-map}
 use Rattle.promises.proofs.Methods.{fits-small, back-method, fits-chosen}
 
 -- what is left, put into the empty cells in turn, is the frame

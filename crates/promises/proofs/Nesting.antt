@@ -17,7 +17,7 @@ use Rattle.rules.specs.Reading.{Read, whole, refuse, Reader, andThen, _>>=_, he
 use Rattle.rules.specs.First.{First, unassigned, pad, tool, sixOrEight, firstOctet, markAt, sixNotEight}
 use Rattle.rules.specs.Frame.{Found, octetsUsed, body, withTool, afterFirst, frame, readOne}
 use Rattle.rules.specs.Walk.{Delivered, Walked, stopped, before, walkFrom, longest, walkAll}
-use Rattle.promises.proofs.Each.{Each, nothing, next}
+use Rattle.rules.proofs.Each.{Each, nothing, next}
 use Rattle.promises.proofs.Reach.{never}
 use Rattle.promises.proofs.Walks.{WalkOf, ended, refused, delivers, uses, walk-of, walk-next, walk-only}
 

@@ -18,8 +18,8 @@ use Rattle.rules.specs.Chooses.{countOf, valuesForm, leastOf, greatestOf, above
 use Rattle.rules.proofs.Octets.{Below, none, more}
 use Rattle.rules.proofs.Signed.{InRange, LawMask, signed-range, told-by-line, sampleOf-one-to-one}
 use Rattle.rules.proofs.Tests.{and-left, and-right, allBelow, allBelow-at}
+use Rattle.rules.proofs.Each.{pick-below, or-right, Each, nothing, next, all, each-all}
 use Rattle.promises.proofs.Back.{Back, back-bind, back-here, back-number}
-use Rattle.promises.proofs.Each.{pick-below, or-right, Each, nothing, next, all, each-all}
 use Rattle.promises.proofs.Located.{among, fills-start, back-values}
 
 -- a sample's place on the line

@@ -20,10 +20,10 @@ use Rattle.rules.specs.Frame.{Found, readOne}
 use Rattle.rules.specs.Chooses.{countOf, without, rowOf, locatedFlag, applies, chosenTool, Written, chosen, wrote, writeOne}
 use Rattle.rules.proofs.Octets.{Below}
 use Rattle.rules.proofs.Signed.{LawMask, law-mask}
-use Rattle.promises.proofs.Each.{Each, nothing, next}
+use Rattle.rules.proofs.Each.{Each, nothing, next}
 use Rattle.promises.proofs.Frame.{foundAt}
 use Rattle.promises.proofs.Rows.{locates, zero-occurs, row-apart}
-use Rattle.promises.proofs.Chosen.{chosen-usable}
+use Rattle.rules.proofs.Chosen.{chosen-usable}
 use Rattle.promises.proofs.Written.{Frames, pad, full, frames-of, wrote-by, chosen-pad, chosen-full, back}
 use Rattle.promises.proofs.OldReader.{oldRead, Reached, Parts, alike, goes-on, NoZero, old-reader}
 

@@ -22,11 +22,11 @@ use Rattle.rules.specs.Chooses.{markOf, bestS, riceChoice, rowOf, locatedFlag, 
 use Rattle.rules.proofs.Octets.{Below, below-take, length-lowBits, length-bitsOf, lowBits-below, bitsOf-append, bitsOf-pack, length-pack}
 use Rattle.rules.proofs.Signed.{law-mask}
 use Rattle.rules.proofs.Tests.{or-cases, by-length}
+use Rattle.rules.proofs.Each.{each-at}
+use Rattle.rules.proofs.Chosen.{writer-holds, FirstLeast, order, chosen-first-least, usable, chosen-usable, chosen-least}
 use Rattle.promises.proofs.Back.{back-number, back-first}
-use Rattle.promises.proofs.Each.{each-at}
 use Rattle.promises.proofs.Frame.{foundAt, filledBits, rice-code}
 use Rattle.promises.proofs.Forms.{form-below, form-restores}
-use Rattle.promises.proofs.Chosen.{writer-holds, FirstLeast, order, chosen-first-least, usable, chosen-usable, chosen-least}
 
 -- the tests that a written frame has passed, and what was written
 pub record Wrote (n : ℕ) (samples : List ℕ) (law set room : ℕ) (w : Written) : Type 0 where

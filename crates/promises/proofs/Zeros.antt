@@ -14,8 +14,8 @@ use Rattle.rules.specs.Zeros.{uncompressed, constantly, constant, zeroOf, flagO
 use Rattle.rules.specs.Tools.{isLength}
 use Rattle.rules.proofs.Codes.{code-read}
 use Rattle.rules.proofs.Octets.{Below}
+use Rattle.rules.proofs.Each.{Each, nothing, next, pick-below, below-map}
 use Rattle.promises.proofs.Back.{Back, back-give, back-bind, back-as, back-number, back-flags, back-octetsAfter}
-use Rattle.promises.proofs.Each.{Each, nothing, next, pick-below, below-map}
 use Rattle.promises.proofs.Runs.{back-runs}
 
 -- the code of S, for every length

@@ -14,3 +14,5 @@ pub mod Kept
 pub mod Laid
 pub mod Room
 pub mod Lent
+pub mod Each
+pub mod Chosen

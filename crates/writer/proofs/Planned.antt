@@ -7,18 +7,18 @@ use native.Mathlib.Decide.{ℕ-discrete}
 use lib.ListN.{length}
 use Rattle.rules.specs.Zeros.{flagOf}
 use Rattle.rules.specs.Chooses.{formOf}
-use Rattle.locating.specs.declared.Placed.{Placed}
+use Rattle.locating.specs.declared.Located.{Located}
 use Rattle.zeros.specs.declared.Zeros.{Zeros}
-use Rattle.choice.specs.Plans.{ZerosFor, PlacedFor}
+use Rattle.choice.specs.Plans.{ZerosFor, LocatedFor}
 use Rattle.look.specs.Rows.{RowIs}
 use Rattle.forms.specs.Forms.{planForm, zerosForm}
 use Rattle.forms.proofs.Whole.{whole-form}
-use Rattle.forms.proofs.Form.{zeros-whole, zeros-rice, zeros-binary, rice-form, binary-form, plan-whole, plan-placed, located-form, located-seven}
+use Rattle.forms.proofs.Form.{zeros-whole, zeros-rice, zeros-binary, rice-form, binary-form, plan-whole, plan-located, located-form, located-seven}
 
 -- a frame of the two zeros
 module _ (n : ℕ) (s : List ℕ) (r : Zeros) (row runs : List ℕ) where
-  pub zeros-form : {mask set : ℕ} → length s ≡ n → RowIs (map (flagOf mask 0) s) (n / 40) row → ZerosFor mask set s r runs → zerosForm n s r row runs ≡ formOf mask (r .tool) s
-  zeros-form {mask} {set} size words p = go (ℕ-discrete (r .tool) 1) (ℕ-discrete (r .tool) 6)
+  pub zeros-form : {mask t : ℕ} → length s ≡ n → RowIs (map (flagOf mask 0) s) (n / 40) row → ZerosFor mask t s r runs → zerosForm n s r row runs ≡ formOf mask t s
+  zeros-form {mask} {t} size words p = go (ℕ-discrete (r .tool) 1) (ℕ-discrete (r .tool) 6) ∙ ap (λ (k : ℕ). formOf mask k s) (p .tool)
     where
       go : Dec (r .tool ≡ 1) → Dec (r .tool ≡ 6) → zerosForm n s r row runs ≡ formOf mask (r .tool) s
       go (yes e) d = sym (zeros-whole n s r row runs e) ∙ whole-form mask 1 s (omega arith) (omega arith) ∙ ap (λ (k : ℕ). formOf mask k s) (sym e)
@@ -26,12 +26,12 @@ module _ (n : ℕ) (s : List ℕ) (r : Zeros) (row runs : List ℕ) where
       go (no e) (no f) = sym (zeros-binary n s r row runs e f) ∙ binary-form n s r row runs mask size words ∙ ap (λ (k : ℕ). formOf mask k s) (sym (p .kind e f))
 
 -- a frame that has a 1 or a -2
-module _ (n : ℕ) (s : List ℕ) (r : Placed) (a b c : List ℕ) where
-  pub plan-form : {mask set : ℕ} → length s ≡ n → PlacedFor mask set s r a b c → planForm n s r a b c ≡ formOf mask (r .tool) s
-  plan-form {mask} {set} size p = go (ℕ-discrete (r .tool) 1)
+module _ (n : ℕ) (s : List ℕ) (r : Located) (a b c : List ℕ) where
+  pub plan-form : {mask t : ℕ} → length s ≡ n → LocatedFor mask t s r a b c → planForm n s r a b c ≡ formOf mask t s
+  plan-form {mask} {t} size p = go (ℕ-discrete (r .tool) 1) ∙ ap (λ (k : ℕ). formOf mask k s) (p .tool)
     where
       go : Dec (r .tool ≡ 1) → planForm n s r a b c ≡ formOf mask (r .tool) s
       go (yes e) = sym (plan-whole n s r a b c e) ∙ whole-form mask 1 s (omega arith) (omega arith) ∙ ap (λ (k : ℕ). formOf mask k s) (sym e)
       go (no e) =
           let t = p .kind e in
-          sym (plan-placed n s r a b c e) ∙ located-form n s r a b c size (p .placed (sym (p .tool) ∙ t)) ∙ located-seven mask s ∙ ap (λ (k : ℕ). formOf mask k s) (sym t)
+          sym (plan-located n s r a b c e) ∙ located-form n s r a b c size (p .located (sym (p .tool) ∙ t)) ∙ located-seven mask s ∙ ap (λ (k : ℕ). formOf mask k s) (sym t)

@@ -1,5 +1,5 @@
 -- Laws of a writing: what it tells, and the order of its refusals.
-use Prim.Native.Nat.{ℕ, _%_, _≤_, _<_}
+use Prim.Native.Nat.{ℕ, _%_, _≤_, _<_, _*_}
 use mathlib.Core.Path.{_≡_, refl, sym, ap, _∙_}
 use mathlib.Core.List.{List, [], _∷_, _++_}
 use mathlib.Core.Bool.{Bool, true, false, cond}
@@ -22,7 +22,7 @@ use Rattle.rules.proofs.Tests.{by-length}
 use Rattle.look.specs.Looks.{isMask}
 use Rattle.choice.specs.Plans.{Plain}
 use Rattle.pen.specs.Puts.{Packed}
-use Rattle.writer.specs.Answers.{Tells, fitting, pad, full, plain, found}
+use Rattle.writer.specs.Answers.{Tells, fitting, pad, full, plain}
 use Rattle.forms.proofs.Whole.{whole-form}
 
 -- a refusal leaves the output as lent
@@ -45,6 +45,18 @@ all-written w {r} {out} {out′} {n} h p e o b t =
     rw (le-ltb (length out) (octetsFor (length (w .bits))) h)
     (record { end = e; octets = o ∙ p .size; bits = b; tool = t; lent = p .lent ∙ ap (λ (i : ℕ). pack (w .bits) ++ drop i out) k })
 
+-- the same of a form by its bits: where the octets for them are no more than the room, it fits and is written
+module _ (w : Written) {bits need : ℕ} (size : bits ≡ length (w .bits)) (octets : need ≡ octetsFor bits) where
+  pub form-refused : {r : WriteAnswer} {out : List ℕ} → length out < need → Tells (declined Room) r → Writes (fitting (length out) w) r out out
+  form-refused h t = no-room w (omega arith) t
+
+  pub form-fits : {form : List ℕ} {room : ℕ} → form ≡ w .bits → need ≤ room → length form ≤ 8 * room
+  form-fits e h = rw e (omega arith)
+
+  pub form-written : {form out out′ : List ℕ} {n : ℕ} {r : WriteAnswer} → form ≡ w .bits → need ≤ length out → Packed form out out′ n
+      → r .end ≡ Done → r .octets ≡ n → r .bits ≡ bits → r .tool ≡ w .tool → Writes (fitting (length out) w) r out out′
+  form-written e h p end o b t = all-written w (omega arith) (rw e at p) end o (b ∙ size) t
+
 -- one octet 00
 pub pad-packed : {out out′ : List ℕ} → out′ ≡ 0 ∷ drop 1 out → Packed (pad .bits) out out′ 1
 unfolding pack octetsFrom lowBits valueFrom
@@ -66,9 +78,6 @@ pub plain-full : {mask set t : ℕ} {s : List ℕ} → Plain mask set s t → (t
 plain-full {mask} {set} {t} {s} p n =
     let e = p .settled n in
     ap (λ (b : List ℕ). record { tool = t; bits = b }) (whole-form mask t s (omega arith) (p .most)) ∙ ap (λ (k : ℕ). record { tool = k; bits = formOf mask k s }) e
-
-pub found-full : {mask set t : ℕ} {s : List ℕ} → Plain mask set s t → t ≡ 0 → found mask set s ≡ full mask set s
-found-full {mask} {set} {t} {s} p z = ap (λ (k : ℕ). record { tool = k; bits = formOf mask k s }) (sym (p .later z))
 
 pub is-mask : (law : ℕ) → isMask (maskOf law) ≡ true
 is-mask law = go (eqb law 0)

@@ -8,9 +8,8 @@ use lib.Dec.{ltb}
 use Rattle.rules.specs.declared.Refusal.the-variants.{Room}
 use Rattle.rules.specs.declared.WriteAnswer.{WriteAnswer}
 use Rattle.rules.specs.Bits.{lowBits, bitsOf, octetsFor}
-use Rattle.rules.specs.Chooses.{Written, Write, wrote, declined, choose, chosenTool, formOf}
+use Rattle.rules.specs.Chooses.{Written, Write, wrote, declined, chosenTool, formOf}
 use Rattle.rules.specs.Calls.{writeEnd, writtenBits, writeTool}
-use Rattle.choice.specs.Plans.{measured}
 use Rattle.forms.specs.Forms.{wholeOctets}
 
 pub record Tells (written : Write) (r : WriteAnswer) : Type 0 where
@@ -34,7 +33,3 @@ full mask set s = record { tool = chosenTool mask set s; bits = formOf mask (cho
 -- a form that the first look settles
 abbrev pub plain : ℕ → List ℕ → Written
 plain t s = record { tool = t; bits = bitsOf (wholeOctets t s) }
-
--- the best of the tools that are measured
-abbrev pub found : ℕ → ℕ → List ℕ → Written
-found mask set s = record { tool = choose mask set s measured; bits = formOf mask (choose mask set s measured) s }

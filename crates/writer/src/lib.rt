@@ -1,16 +1,15 @@
 // Writing one frame: the chosen form alone is put out.
 
-use choice::plain_tool;
-use choice::values_plan;
+use choice::first_look;
+use choice::located_plan;
 use choice::zeros_plan;
-use forms::put_placed;
+use forms::put_located;
 use forms::put_two_zeros;
 use forms::put_whole;
 use forms::whole_octets;
 use law::mask_of;
 use law::plus_zero;
 use look::others;
-use look::spread_of;
 use measure::octets_for;
 use rules::Ending;
 use rules::Frame;
@@ -21,12 +20,13 @@ ghost use mathlib.Core.Bool.{true, false};
 ghost use Prim.Native.Nat.{_*_, _≤_, _<_};
 ghost use lib.ListN.{length, take};
 ghost use Rattle.rules.specs.Zeros as zeros;
-ghost use Rattle.rules.specs.Chooses.{leastOf, greatestOf, declined, writeOne};
+ghost use Rattle.rules.specs.Chooses.{leastOf, greatestOf, choose, chosenTool, declined, writeOne};
 ghost use Rattle.rules.specs.Tools.{isLength};
 ghost use Rattle.rules.specs.Calls.{Writes, WriteFrame, WriteSamples};
 ghost use Rattle.look.specs.Looks.{near, twoZeros, isMask};
+ghost use Rattle.choice.specs.Plans.{measured};
 ghost use Rattle.forms.specs.Forms.{IsFrame};
-ghost use Rattle.writer.specs.Answers.{Tells, fitting, pad, full, plain, found};
+ghost use Rattle.writer.specs.Answers.{Tells, fitting, pad, full, plain};
 
 // A refusal: no octets, no bits, no tool.
 fn refused(why: Refusal) -> WriteAnswer
@@ -79,7 +79,8 @@ fn write_plain(out: &mut [u8], samples: &[u8], n: usize, tool: u32) -> WriteAnsw
 fn write_zeros(out: &mut [u8], samples: &[u8], n: usize, mask: u8, set: u32) -> WriteAnswer
     requires { ⌜ (IsFrame (now samples) n) × (mask < 128) ⌝ }
     requires { ⌜ twoZeros mask (take n (now samples)) ≡ true ⌝ }
-    ensures { λ r. ⌜ Writes (fitting (length (now (out .entry))) (found mask set (take n (now (samples .entry))))) r (now (out .entry)) (now (out .exit)) ⌝ }
+    requires { ⌜ chosenTool mask set (take n (now samples)) ≡ choose mask set (take n (now samples)) measured ⌝ }
+    ensures { λ r. ⌜ Writes (fitting (length (now (out .entry))) (full mask set (take n (now (samples .entry))))) r (now (out .entry)) (now (out .exit)) ⌝ }
 {
     let row = others(samples, n / 40, plus_zero(mask));
     let mut runs = [0u16; 321];
@@ -97,20 +98,21 @@ fn write_zeros(out: &mut [u8], samples: &[u8], n: usize, mask: u8, set: u32) -> 
 }
 
 // A frame from -2 to 1 that has a 1 or a -2, likewise.
-fn write_values(out: &mut [u8], samples: &[u8], n: usize, mask: u8, set: u32) -> WriteAnswer
+fn write_located(out: &mut [u8], samples: &[u8], n: usize, mask: u8, set: u32) -> WriteAnswer
     requires { ⌜ (IsFrame (now samples) n) × (isMask mask ≡ true) ⌝ }
     requires { ⌜ twoZeros mask (take n (now samples)) ≡ false ⌝ }
     requires { ⌜ near (leastOf mask (take n (now samples))) (greatestOf mask (take n (now samples))) ≡ true ⌝ }
-    ensures { λ r. ⌜ Writes (fitting (length (now (out .entry))) (found mask set (take n (now (samples .entry))))) r (now (out .entry)) (now (out .exit)) ⌝ }
+    requires { ⌜ chosenTool mask set (take n (now samples)) ≡ choose mask set (take n (now samples)) measured ⌝ }
+    ensures { λ r. ⌜ Writes (fitting (length (now (out .entry))) (full mask set (take n (now (samples .entry))))) r (now (out .entry)) (now (out .exit)) ⌝ }
 {
     let mut a = [0u16; 321];
     let mut b = [0u16; 321];
     let mut c = [0u16; 321];
-    let plan = values_plan(samples, n, mask, set, &mut a, &mut b, &mut c);
+    let plan = located_plan(samples, n, mask, set, &mut a, &mut b, &mut c);
     if out.len() < octets_for(plan.bits) {
         return refused(Refusal::Room);
     }
-    let octets = put_placed(out, samples, n, plan, &a, &b, &c);
+    let octets = put_located(out, samples, n, plan, &a, &b, &c);
     WriteAnswer {
         end: Ending::Done,
         octets: octets,
@@ -119,20 +121,19 @@ fn write_values(out: &mut [u8], samples: &[u8], n: usize, mask: u8, set: u32) ->
     }
 }
 
-// One look; what it does not settle is planned.
+// What the first look does not settle is planned.
 fn write_chosen(out: &mut [u8], samples: &[u8], n: usize, mask: u8, set: u32) -> WriteAnswer
     requires { ⌜ (IsFrame (now samples) n) × (isMask mask ≡ true) ⌝ }
     ensures { λ r. ⌜ Writes (fitting (length (now (out .entry))) (full mask set (take n (now (samples .entry))))) r (now (out .entry)) (now (out .exit)) ⌝ }
 {
-    let l = spread_of(samples, n, mask);
-    let tool = plain_tool(samples, n, l, mask, set);
-    if tool != 0 {
-        return write_plain(out, samples, n, tool);
+    let l = first_look(samples, n, mask, set);
+    if l.tool != 0 {
+        return write_plain(out, samples, n, l.tool);
     }
-    if l.any % 128 == 0 {
+    if l.zeros {
         return write_zeros(out, samples, n, mask, set);
     }
-    write_values(out, samples, n, mask, set)
+    write_located(out, samples, n, mask, set)
 }
 
 // The lengths of frames that have samples.

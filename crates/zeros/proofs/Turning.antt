@@ -17,11 +17,10 @@ use Rattle.rules.specs.Zeros.{zeroOf}
 use Rattle.rules.specs.Chooses.{countOf}
 use Rattle.look.specs.Rows.{Gathers, rowBits, RowIs}
 use Rattle.rules.proofs.Words.{lowBits-join}
-use Rattle.look.proofs.Rows.{row-append, row-one}
+use Rattle.look.proofs.Rows.{row-append, row-one, row-none}
 use Rattle.look.specs.Looks.{marksOf, twoZeros}
 use Rattle.finding.specs.Runs.{RunsAre}
 use Rattle.rules.proofs.Counts.{count-le}
-use Rattle.look.proofs.Rows.{row-none}
 use Rattle.zeros.specs.Rice.{turnsOf}
 use Rattle.zeros.proofs.TwoZeros.{two-zeros}
 
@@ -34,29 +33,24 @@ with-top n b r small h =
     ap (λ (k : ℕ). lowBits k (b * 2 ^ n + r)) e ∙ (rw m at (lowBits-join 1 n b r h))
 
 -- all its flags turned
+turn-more : (n w : ℕ) → w < 2 ^ suc n → ((w : ℕ) → w < 2 ^ n → lowBits n (2 ^ n - 1 - w) ≡ turnsOf true (lowBits n w)) → Dec (w < 2 ^ n)
+    → lowBits (suc n) (2 ^ suc n - 1 - w) ≡ turnsOf true (lowBits (suc n) w)
+turn-more n w h ih (yes p) =
+    let e : w ≡ 0 * 2 ^ n + w = omega arith in
+    let f : 2 ^ suc n - 1 - w ≡ 1 * 2 ^ n + (2 ^ n - 1 - w) = omega (arith, pow-suc 2 n) in
+    ap (lowBits (suc n)) f ∙ with-top n 1 (2 ^ n - 1 - w) (omega arith) (omega arith) ∙ ap (λ (l : List ℕ). 1 ∷ l) (ih w p)
+    ∙ ap (turnsOf true) (sym (ap (lowBits (suc n)) e ∙ with-top n 0 w (omega arith) p))
+turn-more n w h ih (no p) =
+    let q : w - 2 ^ n < 2 ^ n = omega (arith, pow-suc 2 n) in
+    let e : w ≡ 1 * 2 ^ n + (w - 2 ^ n) = omega arith in
+    let f : 2 ^ suc n - 1 - w ≡ 0 * 2 ^ n + (2 ^ n - 1 - (w - 2 ^ n)) = omega (arith, pow-suc 2 n) in
+    ap (lowBits (suc n)) f ∙ with-top n 0 (2 ^ n - 1 - (w - 2 ^ n)) (omega arith) (omega arith) ∙ ap (λ (l : List ℕ). 0 ∷ l) (ih (w - 2 ^ n) q)
+    ∙ ap (turnsOf true) (sym (ap (lowBits (suc n)) e ∙ with-top n 1 (w - 2 ^ n) (omega arith) q))
+
 turn-bits : (n w : ℕ) → w < 2 ^ n → lowBits n (2 ^ n - 1 - w) ≡ turnsOf true (lowBits n w)
 unfolding lowBits
 turn-bits zero w h = refl
-turn-bits (suc n) w h = step (turn-bits n) (decLt w (2 ^ n)) (with-top n)
-  where
-    two : 2 ^ suc n ≡ 2 ^ n * 2
-    two = pow-suc 2 n
-
-    step : ((w : ℕ) → w < 2 ^ n → lowBits n (2 ^ n - 1 - w) ≡ turnsOf true (lowBits n w)) → Dec (w < 2 ^ n)
-        → ((b r : ℕ) → b < 2 → r < 2 ^ n → lowBits (suc n) (b * 2 ^ n + r) ≡ b ∷ lowBits n r)
-        → lowBits (suc n) (2 ^ suc n - 1 - w) ≡ turnsOf true (lowBits (suc n) w)
-    step ih (yes p) top =
-        let e : w ≡ 0 * 2 ^ n + w = omega arith in
-        let f : 2 ^ suc n - 1 - w ≡ 1 * 2 ^ n + (2 ^ n - 1 - w) = omega (arith, two) in
-        ap (lowBits (suc n)) f ∙ top 1 (2 ^ n - 1 - w) (omega arith) (omega arith) ∙ ap (λ (l : List ℕ). 1 ∷ l) (ih w p)
-        ∙ ap (turnsOf true) (sym (ap (lowBits (suc n)) e ∙ top 0 w (omega arith) p))
-    step ih (no p) top =
-        let r = w - 2 ^ n in
-        let q : r < 2 ^ n = omega (arith, two, h) in
-        let e : w ≡ 1 * 2 ^ n + r = omega arith in
-        let f : 2 ^ suc n - 1 - w ≡ 0 * 2 ^ n + (2 ^ n - 1 - r) = omega (arith, two) in
-        ap (lowBits (suc n)) f ∙ top 0 (2 ^ n - 1 - r) (omega arith) (omega arith) ∙ ap (λ (l : List ℕ). 0 ∷ l) (ih r q)
-        ∙ ap (turnsOf true) (sym (ap (lowBits (suc n)) e ∙ top 1 r (omega arith) q))
+turn-bits (suc n) w h = turn-more n w h (turn-bits n) (decLt w (2 ^ n))
 
 turns-none : (l : List ℕ) → turnsOf false l ≡ l
 turns-none [] = refl

@@ -1,39 +1,26 @@
 -- Laws of frames of zeros: where binary and Rice apply, and what Rice would write.
-use Prim.Native.Nat.{ℕ, zero, suc, _+_, _-_, _≤_}
+use Prim.Native.Nat.{ℕ, _+_, _-_, _≤_}
 use mathlib.Core.Path.{_≡_, refl, sym, ap, ap₂, _∙_}
 use mathlib.Core.List.{List, [], _∷_, _++_, map}
 use mathlib.Core.Bool.{Bool, true, false, cond, _||_}
 use native.Mathlib.Omega.{arith}
 use borrow.Author.Tests.{eqb-true}
-use lib.ListN.{length, getD, take, replicate, length-append}
+use lib.ListN.{length, take, length-append}
 use lib.Dec.{eqb, ltb}
 use Rattle.rules.specs.Tools.{holds}
 use Rattle.rules.specs.Samples.{sampleOf, plusZero, minusZero}
 use Rattle.rules.specs.First.{riceCode}
 use Rattle.rules.specs.Runs.{riceForms, runsForm}
-use Rattle.rules.specs.Zeros.{codesOf, codeOf, mostS, zeroOf, flagOf}
+use Rattle.rules.specs.Zeros.{codeOf, mostS, zeroOf, flagOf}
 use Rattle.rules.specs.Chooses.{countOf, applies, markOf, leastFrom, bestS, riceBits, riceChoice}
 use Rattle.measure.specs.declared.Least.{Least}
 use Rattle.look.specs.Looks.{countIs, marksOf, twoZeros}
 use Rattle.finding.specs.Runs.{RunsAre}
 use Rattle.measure.specs.Measures.{bitsWith, LeastIs}
 use Rattle.zeros.specs.declared.Zeros.{Zeros}
-use Rattle.zeros.specs.Rice.{CodesAre, StartIs, RiceFor}
-use Rattle.measure.proofs.Weighing.{zero-at}
+use Rattle.codes.specs.Codes.{CodesAre}
+use Rattle.zeros.specs.Rice.{StartIs, RiceFor}
 use Rattle.look.proofs.Tests.{never}
-
--- a table of the lengths of codes
-lengths-at : (codes : List (List ℕ)) (k s : ℕ) → getD (map length codes ++ replicate k 0) s 0 ≡ length (getD codes s [])
-lengths-at [] k s = zero-at k s
-lengths-at (c ∷ codes) k zero = refl
-lengths-at (c ∷ codes) k (suc s) = lengths-at codes k s
-
-pub codes-told : (codes : List (List ℕ)) (k : ℕ) {n : ℕ} → codesOf n ≡ codes → length (getD codes 0 []) ≡ 2 → CodesAre n (2 ∷ (map length codes ++ replicate k 0))
-codes-told codes k {n} e two = record { says = λ s. at s ∙ ap (λ (l : List (List ℕ)). length (getD l (s - 1) [])) (sym e) }
-  where
-    at : (s : ℕ) → getD (2 ∷ (map length codes ++ replicate k 0)) s 0 ≡ length (getD codes (s - 1) [])
-    at zero = sym two
-    at (suc s) = let f : suc s - 1 ≡ s = omega arith in rw f (lengths-at codes k s)
 
 -- each sample that is one of two is counted once
 either : (p q : ℕ) → (p ≡ q → ⊥) → (s : List ℕ) → countOf (λ x. eqb x p || eqb x q) s ≡ countIs p s + countIs q s

@@ -3,11 +3,11 @@ use Prim.Native.Nat.{ℕ, _-_, _/_, _≤_}
 use mathlib.Core.Path.{_≡_}
 use mathlib.Core.List.{List, map}
 use mathlib.Core.Bool.{Bool, true, cond}
-use lib.ListN.{length, getD}
+use lib.ListN.{length}
 use Rattle.rules.specs.Tools.{holds}
 use Rattle.rules.specs.Samples.{plusZero, minusZero}
 use Rattle.rules.specs.First.{riceCode}
-use Rattle.rules.specs.Zeros.{codeOf, mostS, flagOf}
+use Rattle.rules.specs.Zeros.{mostS, flagOf}
 use Rattle.rules.specs.Chooses.{markOf, bestS, riceChoice}
 use Rattle.look.specs.Looks.{countIs, twoZeros}
 use Rattle.finding.specs.Runs.{RunsAre}
@@ -25,10 +25,6 @@ pub record ZerosAre (mask n p m : ℕ) (words s : List ℕ) : Type 0 where
   pub plus : p ≡ countIs (plusZero mask) s
   pub minus : m ≡ countIs (minusZero mask) s
   pub row : RowIs (map (flagOf mask 0) s) (n / 40) words
-
--- the bits of the codes of S
-pub record CodesAre (n : ℕ) (r : List ℕ) : Type 0 where
-  pub says : (s : ℕ) → getD r s 0 ≡ length (codeOf n s)
 
 -- the bits before it
 pub record StartIs (n r : ℕ) : Type 0 where

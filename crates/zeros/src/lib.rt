@@ -1,21 +1,23 @@
-// A frame of the two zeros: what Rice would write of it, and whether binary is taken by the counts alone.
+// A frame of the two zeros: what Rice would write of it.
 
+use codes::lengths_of;
+use codes::most_s;
 use finding::runs_in;
 use law::minus_zero;
 use law::plus_zero;
 use measure::least_s;
 use prefix::holds;
 ghost use mathlib.Core.Path.{_≡_};
-ghost use mathlib.Core.Bool.{false, cond, _&&_};
+ghost use mathlib.Core.Bool.{cond};
 ghost use mathlib.Core.List.{List};
 ghost use Prim.Native.Nat.{ℕ, _+_, _^_, _/_, _≤_, _<_};
 ghost use lib.ListN.{length, getD, take};
 ghost use lib.Dec.{ltb};
 ghost use Rattle.rules.specs.Tools as tools;
 ghost use Rattle.rules.specs.Bits.{lowBits};
-ghost use Rattle.rules.specs.Zeros.{zeroOf, mostS};
+ghost use Rattle.rules.specs.Zeros.{zeroOf};
 ghost use Rattle.look.specs.Rows.{Gathers, rowBits, RowIs};
-ghost use Rattle.zeros.specs.Rice.{turnsOf, ZerosAre, CodesAre, StartIs, RiceFor};
+ghost use Rattle.zeros.specs.Rice.{turnsOf, ZerosAre, StartIs, RiceFor};
 
 // "the commoner zero, plus on a tie": the mark that is written is 1 where it is minus.
 fn mark_of(plus: usize, minus: usize) -> usize
@@ -33,31 +35,6 @@ fn common_zero(mask: u8, plus: usize, minus: usize) -> u8
         return plus_zero(mask);
     }
     minus_zero(mask)
-}
-
-// The bits of the code of each S; the first entry is not asked for.
-fn code_lengths(n: usize) -> [u8; 10]
-    ensures { λ r. ⌜ CodesAre n r ⌝ }
-{
-    if n == 40 {
-        return [2, 2, 2, 3, 4, 4, 0, 0, 0, 0];
-    }
-    if n == 80 {
-        return [2, 2, 2, 4, 4, 4, 4, 0, 0, 0];
-    }
-    [2, 2, 2, 4, 4, 5, 5, 5, 6, 6]
-}
-
-fn most_s(n: usize) -> usize
-    ensures { λ r. ⌜ (r ≡ mostS n) × ((1 ≤ r) × (r ≤ 9)) ⌝ }
-{
-    if n == 40 {
-        return 5;
-    }
-    if n == 80 {
-        return 6;
-    }
-    9
 }
 
 // The bits before the code of S: the length code, and three more.
@@ -128,7 +105,7 @@ pub fn rice_of(
     let zero = common_zero(mask, plus, minus);
     let flags = turned_row(row, n / 40, zero == minus_zero(mask));
     let count = runs_in(&flags, n / 40, runs);
-    let extra = code_lengths(n);
+    let extra = lengths_of(n);
     let least = least_s(runs, count, &extra, most_s(n));
     Zeros {
         tool: 6,
@@ -137,22 +114,4 @@ pub fn rice_of(
         s: least.s,
         count: count,
     }
-}
-
-// Whether binary is held and the two zeros are so nearly as many that Rice can't need fewer octets. Let c of the N samples be of the rarer
-// zero: there are c runs or more, with N - c places in them. With S = 1 a run v has 2 + v / 2 bits, and twice that is v + 3 or more, so twice
-// the bits of all runs are N + 2c or more; before them stand 7 or more. A larger S has 3 or more for each run, and before them 5 or more. N is
-// 40 or more. So where the two differ by less than 14, which is where N is below 2c + 14, Rice has more than N bits: N / 8 + 1 octets or more,
-// and binary has just these.
-pub fn binary_at_once(set: u32, plus: usize, minus: usize) -> bool
-    requires { ⌜ (plus ≤ 320) × (minus ≤ 320) ⌝ }
-    ensures { λ r. ⌜ r ≡ tools.holds set 5 && ltb minus (plus + 14) && ltb plus (minus + 14) ⌝ }
-{
-    if !holds(set, 5) {
-        return false;
-    }
-    if plus + 14 <= minus {
-        return false;
-    }
-    plus < minus + 14
 }

@@ -3,7 +3,7 @@ use mathlib.Core.Path.{refl, ap}
 use Rattle.choice.specs.declared.Choice.{Choice}
 use Rattle.locating.proofs.Near.{counted, count-fits}
 use Rattle.zeros.proofs.TwoZeros.{plus-left}
-use Rattle.choice.proofs.Planning.{zeros-planned}
+use Rattle.choice.proofs.Planning.{zeros-as, zeros-planned}
 use Rattle.choice.proofs.Even.{binary-settled}
 use lib.Seq.{length-take-le}
 use lib.ListN.{take}
@@ -13,7 +13,7 @@ use Rattle.choice.proofs.zeros_plan.Tie as tie
 use Rattle.choice.proofs.zeros_plan.Reads as reads
 use Rattle.choice.proofs.zeros_plan.Lts as lts
 use Rattle.choice.proofs.better.Reads as better-reads
-use Rattle.zeros.proofs.binary_at_once.Reads as binary-at-once-reads
+use Rattle.choice.proofs.binary_at_once.Reads as binary-at-once-reads
 use Rattle.zeros.proofs.rice_of.Reads as rice-of-reads
 use Rattle.choice.proofs.uncompressed_of.Reads as uncompressed-of-reads
 use Rattle.law.proofs.minus_zero.Reads as minus-zero-reads
@@ -42,7 +42,7 @@ returns c =
     let size = length-take-le (s .args .n) (s .args .samples .now) (s .pre .0 .1 .0) in
     let m = counted l (c .before .before .count-of .ensures .0) (c .before .before .before .minus-zero .ensures) in
     let fits = count-fits (c .before .before .before .minus-zero .result) (s .args .samples .now) (s .pre .0 .1 .0) (c .before .before .count-of .ensures .0) in
-    binary-settled (s .args .mask) l size (s .pre .0 .1 .1 .1) (plus-left (s .args .mask) l (s .pre .1 .0) size m) m (omega (arith, fits)) (s .pre .0 .1 .1 .0) (s .pre .1 .0) (s .pre .0 .0) (c .before .binary-at-once .ensures) (c .if1 .taken) refl refl
+    zeros-as (s .pre .1 .1 .1 .1) (binary-settled (s .args .mask) l size (s .pre .0 .1 .1 .1) (plus-left (s .args .mask) l (s .pre .1 .0) size m) m (omega (arith, fits)) (s .args .set) (s .pre .0 .1 .1 .0) (s .pre .1 .0) (s .pre .0 .0) (c .before .binary-at-once .ensures) (c .if1 .taken) refl refl)
 
 rice-of-requires : tie.Need-rice-of-requires
 rice-of-requires c κs = search needs
@@ -78,7 +78,7 @@ returns-2 c =
     let l = take (s .args .n) (s .args .samples .now) in
     let size = length-take-le (s .args .n) (s .args .samples .now) (s .pre .0 .1 .0) in
     let m = counted l (c .before .before .before .before .before .before .before .before .before .count-of .ensures .0) (c .before .before .before .before .before .before .before .before .before .before .minus-zero .ensures) in
-    zeros-planned (s .pre .0 .1 .1 .0) (s .pre .1 .0) size (s .pre .0 .0) (c .before .before .before .before .before .rice-of .ensures l (record { size = size; zeros = s .pre .1 .0; plus = plus-left (s .args .mask) l (s .pre .1 .0) size m; minus = m; row = s .pre .1 .1 .0 })) (c .before .before .before .before .uncompressed-of .ensures) (c .before .before .before .holds .ensures) (c .before .before .better .ensures) (c .before .holds2 .ensures) (c .better2 .ensures)
+    zeros-as (s .pre .1 .1 .1 .1) (zeros-planned (s .pre .0 .1 .1 .0) (s .pre .1 .0) size (s .pre .0 .0) (c .before .before .before .before .before .rice-of .ensures l (record { size = size; zeros = s .pre .1 .0; plus = plus-left (s .args .mask) l (s .pre .1 .0) size m; minus = m; row = s .pre .1 .1 .0 })) (c .before .before .before .before .uncompressed-of .ensures) (c .before .before .before .holds .ensures) (c .before .before .better .ensures) (c .before .holds2 .ensures) (c .better2 .ensures))
 
 pub zeros-plan-spec : {M : Type 1} → statement M
 zeros-plan-spec =

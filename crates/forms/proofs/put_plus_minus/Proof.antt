@@ -13,7 +13,7 @@ use Rattle.forms.proofs.put_plus_minus.Reads as reads
 use Rattle.forms.proofs.put_plus_minus.Lts as lts
 use Rattle.pen.proofs.put.Reads as put-reads
 use Rattle.pen.proofs.put_runs.Reads as put-runs-reads
-use Rattle.forms.proofs.code_of.Reads as code-of-reads
+use Rattle.codes.proofs.code_of.Reads as code-of-reads
 use Rattle.forms.proofs.put_start.Reads as put-start-reads
 
 put-start-requires : tie.Need-put-start-requires

@@ -6,8 +6,8 @@ use lib.ListN.{length}
 use Rattle.rules.specs.Bits.{bitsOf}
 use Rattle.rules.specs.Samples.{maskOf}
 use Rattle.rules.specs.Frame.{readOne}
-use Rattle.reader.specs.declared.Opening.{Opening}
-use Rattle.reader.specs.Opening.{afterOpening, Ranges}
+use Rattle.opening.specs.declared.Opening.{Opening}
+use Rattle.opening.specs.Opening.{afterOpening, Ranges}
 use Rattle.reader.specs.Answers.{Fills}
 use Rattle.reader.proofs.Told.{fills-as, into-none, buffer-has, put-from}
 use Rattle.reader.proofs.Lent.{samples-fit}

@@ -1,13 +1,13 @@
 use borrow.Author.Needs.{needs}
 use Prim.Native.Nat.{ℕ}
-use mathlib.Core.Path.{refl, sym, ap, _∙_}
-use native.Mathlib.Omega.{arith}
-use lib.ListN.{length, take}
-use Rattle.rules.specs.Chooses.{formOf}
-use Rattle.writer.specs.Answers.{found}
+use mathlib.Core.Path.{refl, sym, _∙_}
+use mathlib.Core.List.{List}
+use lib.ListN.{take}
+use Rattle.rules.specs.Chooses.{Written}
+use Rattle.writer.specs.Answers.{full}
 use Rattle.forms.proofs.Form.{cells-length, rice-ready, row-flags}
 use Rattle.writer.proofs.Planned.{zeros-form}
-use Rattle.writer.proofs.Writing.{no-room, all-written}
+use Rattle.writer.proofs.Writing.{form-refused, form-fits, form-written}
 use Rattle.writer.proofs.write_zeros.Statement.{statement}
 use Rattle.writer.proofs.write_zeros.Tie as tie
 use Rattle.writer.proofs.write_zeros.Reads as reads
@@ -19,6 +19,13 @@ use Rattle.measure.proofs.octets_for.Reads as octets-for-reads
 use Rattle.forms.proofs.put_two_zeros.Reads as put-two-zeros-reads
 use Rattle.writer.proofs.refused.Reads as refused-reads
 
+-- the frame, and its chosen form
+abbrev frame : tie.Start → List ℕ
+frame s = take (s .args .n) (s .args .samples .now)
+
+abbrev chosen : tie.Start → Written
+chosen s = full (s .args .mask) (s .args .set) (frame s)
+
 plus-zero-requires : tie.Need-plus-zero-requires
 plus-zero-requires c κs = search needs
 
@@ -29,7 +36,8 @@ zeros-plan-requires : tie.Need-zeros-plan-requires
 zeros-plan-requires c κs =
     let s = c .before .before .before .before .before .before in
     let f = s .pre .0 .0 in
-    ((f .few, (f .long, (s .pre .0 .1, f .whole))), (s .pre .1, (row-flags (s .args .mask) f (c .before .before .before .plus-zero .ensures) (c .before .before .others .ensures), refl)))
+    let words = row-flags (s .args .mask) f (c .before .before .before .plus-zero .ensures) (c .before .before .others .ensures) in
+    ((f .few, (f .long, (s .pre .0 .1, f .whole))), (s .pre .1 .0, (words, (refl, s .pre .1 .1))))
 
 octets-for-requires : tie.Need-octets-for-requires
 octets-for-requires c κs = search needs
@@ -40,17 +48,18 @@ refused-requires c κs = search needs
 returns : tie.Need-returns
 returns c =
     let s = c .before .before .before .before .before .before .before .before .before .before in
-    no-room (found (s .args .mask) (s .args .set) (take (s .args .n) (s .args .samples .now))) (omega (arith, c .before .before .before .zeros-plan .ensures .bits, c .before .before .octets-for .ensures, c .before .if1 .taken)) (c .refused .ensures)
+    form-refused (chosen s) (c .before .before .before .zeros-plan .ensures .bits) (c .before .before .octets-for .ensures) (c .before .if1 .taken) (c .refused .ensures)
 
 put-two-zeros-requires : tie.Need-put-two-zeros-requires
 put-two-zeros-requires c κs =
     let s = c .before .before .before .before .before .before .before .before .before .before .before .before in
     let f = s .pre .0 .0 in
-    let l = take (s .args .n) (s .args .samples .now) in
-    let words = row-flags (s .args .mask) f (c .before .before .before .before .before .before .before .before .before .plus-zero .ensures) (c .before .before .before .before .before .before .before .before .others .ensures) in
-    let p = c .before .before .before .before .before .zeros-plan .ensures in
-    let e = zeros-form (s .args .n) l (c .before .before .before .before .before .zeros-plan .result) (c .before .before .before .before .before .before .before .before .others .result) _ (cells-length f) words p ∙ ap (λ (t : ℕ). formOf (s .args .mask) t l) (p .tool) in
-    (record { sized = f; rice = λ k. rice-ready f (p .rice (sym (p .tool) ∙ k)); size = words .size; small = words .small }, omega (arith, ap length e, p .bits, c .before .before .before .before .octets-for .ensures, c .before .before .before .if1 .left))
+    let others = c .before .before .before .before .before .before .before .before .others in
+    let words = row-flags (s .args .mask) f (c .before .before .before .before .before .before .before .before .before .plus-zero .ensures) (others .ensures) in
+    let plan = c .before .before .before .before .before .zeros-plan in
+    let p = plan .ensures in
+    let e = zeros-form (s .args .n) (frame s) (plan .result) (others .result) _ (cells-length f) words p in
+    (record { sized = f; rice = λ k. rice-ready f (p .rice (sym (p .tool) ∙ k)); size = words .size; small = words .small }, form-fits (chosen s) (p .bits) (c .before .before .before .before .octets-for .ensures) e (c .before .before .before .if1 .left))
 
 same-length : tie.Need-same-length
 same-length c = search needs
@@ -59,11 +68,12 @@ returns-2 : tie.Need-returns-2
 returns-2 c =
     let s = c .before .before .before .before .before .before .before .before .before .before .before .before .before .before .before in
     let f = s .pre .0 .0 in
-    let l = take (s .args .n) (s .args .samples .now) in
-    let words = row-flags (s .args .mask) f (c .before .before .before .before .before .before .before .before .before .before .before .before .plus-zero .ensures) (c .before .before .before .before .before .before .before .before .before .before .before .others .ensures) in
-    let p = c .before .before .before .before .before .before .before .before .zeros-plan .ensures in
-    let e = zeros-form (s .args .n) l (c .before .before .before .before .before .before .before .before .zeros-plan .result) (c .before .before .before .before .before .before .before .before .before .before .before .others .result) _ (cells-length f) words p ∙ ap (λ (t : ℕ). formOf (s .args .mask) t l) (p .tool) in
-    all-written (found (s .args .mask) (s .args .set) l) (omega (arith, p .bits, c .before .before .before .before .before .before .before .octets-for .ensures, c .before .before .before .before .before .before .if1 .left)) (rw e at (c .before .before .put-two-zeros .ensures)) refl refl (p .bits) (p .tool)
+    let others = c .before .before .before .before .before .before .before .before .before .before .before .others in
+    let words = row-flags (s .args .mask) f (c .before .before .before .before .before .before .before .before .before .before .before .before .plus-zero .ensures) (others .ensures) in
+    let plan = c .before .before .before .before .before .before .before .before .zeros-plan in
+    let p = plan .ensures in
+    let e = zeros-form (s .args .n) (frame s) (plan .result) (others .result) _ (cells-length f) words p in
+    form-written (chosen s) (p .bits) (c .before .before .before .before .before .before .before .octets-for .ensures) e (c .before .before .before .before .before .before .if1 .left) (c .before .before .put-two-zeros .ensures) refl refl refl (p .tool)
 
 pub write-zeros-spec : {M : Type 1} → statement M
 write-zeros-spec =

@@ -1,0 +1,3 @@
+pub mod Six
+pub mod Opened
+pub mod Ordered

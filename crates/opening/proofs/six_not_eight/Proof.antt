@@ -1,0 +1,61 @@
+use native.Mathlib.Omega.{arith}
+use mathlib.Core.Path.{sym, _∙_}
+use Rattle.opening.proofs.Six.{six-at-once, second-missing, six-by-second, eight}
+use borrow.Author.Needs.{needs}
+use Rattle.opening.proofs.six_not_eight.Statement.{statement}
+use Rattle.opening.proofs.six_not_eight.Tie as tie
+
+bit-at-requires : tie.Need-bit-at-requires
+bit-at-requires c κs = search needs
+
+add-t6 : tie.Need-add-t6
+add-t6 c = search needs
+
+returns : tie.Need-returns
+returns c = record { says = sym (six-at-once (c .before .before .before .args .octets .now) (c .before .before .before .args .at) (omega arith) (sym (c .before .bit-at .ensures .0) ∙ c .if1 .taken)); value = omega arith; next = omega arith }
+
+add-second : tie.Need-add-second
+add-second c = search needs
+
+returns-2 : tie.Need-returns-2
+returns-2 c = record { says = sym (second-missing (c .before .before .before .before .args .octets .now) (c .before .before .before .before .args .at) (omega arith) (λ e. c .before .if1 .left (c .before .before .bit-at .ensures .0 ∙ e)) (omega arith)); value = omega arith; next = omega arith }
+
+bit-at-requires-2 : tie.Need-bit-at-requires-2
+bit-at-requires-2 c κs = search needs
+
+add-t9 : tie.Need-add-t9
+add-t9 c = search needs
+
+returns-3 : tie.Need-returns-3
+returns-3 c = record {
+  says = sym (six-by-second (c .before .before .before .before .before .before .args .octets .now) (c .before .before .before .before .before .before .args .at) (omega arith) (λ e. c .before .before .before .if1 .left (c .before .before .before .before .bit-at .ensures .0 ∙ e)) (omega arith)
+      (sym (c .before .bit-at2 .ensures .0) ∙ c .if3 .taken));
+  value = omega arith;
+  next = omega arith;
+}
+
+add-t7 : tie.Need-add-t7
+add-t7 c = search needs
+
+returns-4 : tie.Need-returns-4
+returns-4 c = record {
+  says = sym (eight (c .before .before .before .before .before .before .args .octets .now) (c .before .before .before .before .before .before .args .at) (omega arith) (λ e. c .before .before .before .if1 .left (c .before .before .before .before .bit-at .ensures .0 ∙ e)) (omega arith)
+      (λ e. c .if3 .left (c .before .bit-at2 .ensures .0 ∙ e)));
+  value = omega arith;
+  next = omega arith;
+}
+
+pub six-not-eight-spec : {M : Type 1} → statement M
+six-not-eight-spec =
+    tie.close
+    (tie.spec
+    bit-at-requires
+    add-t6
+    returns
+    add-second
+    returns-2
+    bit-at-requires-2
+    add-t9
+    returns-3
+    add-t7
+    returns-4)
