@@ -213,8 +213,15 @@ fn refused_before_any_frame() {
         let good = ask(Stream::mixed(most, 1, &mut rng).octets, 1, 3_000);
         let mut too_long = long.clone();
         too_long.resize(MOST + 1 + rng.below(3), 0x41);
-        let refused =
-            |name: &str| Walk { ending: ending(name).unwrap(), tool: 0, frames: 0, octets: 0, samples: 0, place: 0, bit: 0 };
+        let refused = |name: &str| Walk {
+            ending: ending(name).unwrap(),
+            tool: 0,
+            frames: 0,
+            octets: 0,
+            samples: 0,
+            place: 0,
+            bit: 0,
+        };
         let given = if turn % 8 == 0 { too_long.clone() } else { good.given.clone() };
         let set = *rng.pick(&[127, 128, u32::MAX]);
         let law = *rng.pick(&[2, 3, 0x8000_0000, u32::MAX]);

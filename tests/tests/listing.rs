@@ -53,11 +53,13 @@ fn a_frame_at_the_very_end() {
     input[65_534] = 0x56;
     input[65_535] = 0x0F;
     let text = listed(&input);
-    assert!(text
-        .ends_with("\nframe=65533 at=65533 samples=40 tool=6 octets=2 bits=16\nstop=0 at=65535 tool=0 bit=0\nsamples=40\n"));
+    assert!(text.ends_with(
+        "\nframe=65533 at=65533 samples=40 tool=6 octets=2 bits=16\nstop=0 at=65535 tool=0 bit=0\nsamples=40\n"
+    ));
     input[65_535] = 0x28;
     input[65_534] = 0x41;
     let text = listed(&input);
-    assert!(text
-        .ends_with("\nframe=65533 at=65533 samples=40 tool=2 octets=1 bits=8\nstop=1 at=65534 tool=0 bit=8\nsamples=40\n"));
+    assert!(text.ends_with(
+        "\nframe=65533 at=65533 samples=40 tool=2 octets=1 bits=8\nstop=1 at=65534 tool=0 bit=8\nsamples=40\n"
+    ));
 }
