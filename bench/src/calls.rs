@@ -1,5 +1,6 @@
-//! Both codecs behind the same kind of call, with the whole report asked for: none is drawn into the loop that times it.
+//! Every codec behind the same kind of call, with the whole report asked for: none is drawn into the loop that times it.
 
+use crate::by_bits;
 use std::hint::black_box;
 
 #[inline(never)]
@@ -15,6 +16,13 @@ pub fn second_read(octets: &[u8], law: u32, set: u32, out: &mut [u8]) -> u32 {
     let got = second::read_frame(octets, law, set, out);
     black_box(&[got.samples as u64, got.octets as u64, got.bits as u64, u64::from(got.tool), got.bit as u64]);
     got.ending
+}
+
+#[inline(never)]
+pub fn by_bits_read(octets: &[u8], law: u32, set: u32, out: &mut [u8]) -> u32 {
+    let (ending, report) = by_bits::read(octets, law, set, out);
+    black_box(&report);
+    ending
 }
 
 #[cfg(feature = "writer")]
@@ -46,4 +54,11 @@ pub fn second_walk(octets: &[u8], law: u32, set: u32, out: &mut [u8]) -> u32 {
     let got = second::walk(octets, law, set, out);
     black_box(&[got.frames as u64, got.octets as u64, got.samples as u64, u64::from(got.tool), got.bit as u64]);
     got.ending
+}
+
+#[inline(never)]
+pub fn by_bits_walk(octets: &[u8], law: u32, set: u32, out: &mut [u8]) -> u32 {
+    let (ending, report) = by_bits::walk(octets, law, set, out);
+    black_box(&report);
+    ending
 }

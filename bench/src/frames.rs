@@ -13,6 +13,13 @@ pub struct Batch {
     pub frames: Vec<Vec<u8>>,
 }
 
+impl Batch {
+    /// Whether the frames are mostly runs, so that the loop by bits stands beside the windows.
+    pub fn has_runs(&self) -> bool {
+        self.name.starts_with("Rice") || self.name.starts_with("values, runs")
+    }
+}
+
 const fn values(case: usize, often: Often) -> Kind {
     Kind::Range { case, ones: often, minus_ones: often, minus_twos: often }
 }

@@ -1,6 +1,9 @@
 //! The proved code, through the archive, beside the second program: the same inputs in one run, both built for
 //! release, no buffer cleared between calls. Prints tables for docs/BENCHMARKS.md.
+//!
+//! Rows of runs have one contestant more: reading bit by bit, as it was before request R-2.
 
+mod by_bits;
 mod calls;
 mod frames;
 mod time;
@@ -25,18 +28,32 @@ fn longest() -> Vec<u8> {
 
 /// A row: nanoseconds of each, the speed beside the second program's, and the time beside memcpy's, if it has any.
 fn row(name: &str, [proved, second, copy]: [f64; 3], count: f64) {
-    let (proved, second, copy) = (proved / count, second / count, copy / count);
-    print!("| {name} | {proved:.1} | {second:.1} | {:.2} |", second / proved);
+    println!("{}", cells(name, [proved, second, copy], count));
+}
+
+/// A row with one cell more: nanoseconds of the loop by bits, if it takes part.
+fn row_beside(name: &str, [proved, second, copy, by_bits]: [f64; 4], count: f64, takes_part: bool) {
+    let last = if takes_part { format!("{:.1}", by_bits / count) } else { "-".into() };
+    println!("{} {last} |", cells(name, [proved, second, copy], count));
+}
+
+fn cells(name: &str, times: [f64; 3], count: f64) -> String {
+    let [proved, second, copy] = times.map(|time| time / count);
+    let start = format!("| {name} | {proved:.1} | {second:.1} | {:.2} |", second / proved);
     match copy < 0.02 {
-        true => println!(" - | - |"),
-        false => println!(" {copy:.2} | {:.1} |", proved / copy),
+        true => format!("{start} - | - |"),
+        false => format!("{start} {copy:.2} | {:.1} |", proved / copy),
     }
 }
 
-fn head(title: &str, first: &str, unit: &str) {
+/// The last columns of tables of reading and walking, and of the others.
+const BESIDE: &str = " by bits, ns |";
+const ALONE: &str = "";
+
+fn head(title: &str, first: &str, unit: &str, last: &str) {
     println!("\n### {title}\n");
-    println!("| {first} | proved, {unit} | second, {unit} | speed to second | memcpy, {unit} | time to memcpy |");
-    let columns = first.matches('|').count() + 6;
+    println!("| {first} | proved, {unit} | second, {unit} | speed to second | memcpy, {unit} | time to memcpy |{last}");
+    let columns = first.matches('|').count() + 6 + last.matches('|').count();
     println!("|{}", "---|".repeat(columns));
 }
 
@@ -60,14 +77,16 @@ fn copy(frames: &[Vec<u8>], out: &mut [u8]) {
 
 fn reading(batch: &Batch) {
     let forms = written(batch);
-    let mut outs = [[0; 320]; 3];
-    let [one, other, third] = outs.each_mut();
+    let besides: &[Vec<u8>] = if batch.has_runs() { &forms } else { &[] };
+    let mut outs = [[0; 320]; 4];
+    let [one, other, third, fourth] = outs.each_mut();
     let times = best([
         &mut || each(&forms, |form| calls::proved_read(form, batch.law, SET, one)),
         &mut || each(&forms, |form| calls::second_read(form, batch.law, SET, other)),
         &mut || copy(&batch.frames, third),
+        &mut || each(besides, |form| calls::by_bits_read(form, batch.law, SET, fourth)),
     ]);
-    row(&batch.name, times, forms.len() as f64);
+    row_beside(&batch.name, times, forms.len() as f64, batch.has_runs());
 }
 
 #[cfg(feature = "writer")]
@@ -102,13 +121,13 @@ fn each(inputs: &[Vec<u8>], mut call: impl FnMut(&[u8]) -> u32) {
     }
 }
 
-/// Nanoseconds of one walk by each, and of a copy of its samples.
-fn walk_times(stream: &[u8], law: u32) -> ([f64; 3], usize) {
+/// Nanoseconds of one walk by each, of a copy of its samples, and of one by bits over the same or over no octets.
+fn walk_times(stream: &[u8], law: u32, by_bits: &[u8]) -> ([f64; 4], usize) {
     let mut one = vec![0; 320 * stream.len()];
     let kept = second::walk(stream, law, SET, &mut one);
     assert_eq!(kept.ending, 0);
     one.truncate(kept.samples + 320);
-    let (mut other, mut third) = (one.clone(), one.clone());
+    let (mut other, mut third, mut fourth) = (one.clone(), one.clone(), one.clone());
     let source = one[..kept.samples].to_vec();
     let times = best([
         &mut || {
@@ -120,6 +139,9 @@ fn walk_times(stream: &[u8], law: u32) -> ([f64; 3], usize) {
         &mut || {
             third[..source.len()].copy_from_slice(black_box(&source));
             black_box(&mut third);
+        },
+        &mut || {
+            black_box(calls::by_bits_walk(black_box(by_bits), law, SET, &mut fourth));
         },
     ]);
     (times, kept.frames)
@@ -137,16 +159,18 @@ fn stream(batch: &Batch) -> Vec<u8> {
 }
 
 fn walking(batch: &Batch) {
-    let (times, frames) = walk_times(&stream(batch), batch.law);
-    row(&batch.name, times, frames as f64);
+    let stream = stream(batch);
+    let by_bits = if batch.has_runs() { &stream[..] } else { &[] };
+    let (times, frames) = walk_times(&stream, batch.law, by_bits);
+    row_beside(&batch.name, times, frames as f64, batch.has_runs());
 }
 
 /// How a walk's cost grows: nanoseconds an octet of streams of one frame over and over.
 fn growth(name: &str, frame: &[u8]) {
     for octets in [1_000, 4_000, 16_000, STREAM] {
         let stream = frame.repeat(octets / frame.len());
-        let (times, _) = walk_times(&stream, 1);
-        row(&format!("{name} | {}", stream.len()), times, stream.len() as f64);
+        let ([proved, second, copy, _], _) = walk_times(&stream, 1, &[]);
+        row(&format!("{name} | {}", stream.len()), [proved, second, copy], stream.len() as f64);
     }
 }
 
@@ -155,13 +179,13 @@ fn main() {
     let mut batches = by_kind(&LENGTHS);
     batches.push(mixed());
     batches.extend(recordings());
-    head("Reading one frame", "kind | samples", "ns");
+    head("Reading one frame", "kind | samples", "ns", BESIDE);
     batches.iter().for_each(reading);
-    head("Writing one frame", "kind | samples", "ns");
+    head("Writing one frame", "kind | samples", "ns", ALONE);
     batches.iter().for_each(writing);
-    head("Walking, a frame", "kind | samples", "ns");
+    head("Walking, a frame", "kind | samples", "ns", BESIDE);
     batches.iter().for_each(walking);
-    head("How a walk grows, an octet", "stream of | octets", "ns");
+    head("How a walk grows, an octet", "stream of | octets", "ns", ALONE);
     growth("pads", &[0x00]);
     growth("plus zeros, 40", &[0x41]);
     growth("the longest frames", &longest());

@@ -262,7 +262,8 @@ impl Located {
         }
     }
 
-    fn lay(&mut self, value: i32, flags: &[bool]) {
+    /// Lays a value at the places of its flags; the others stay empty.
+    pub fn lay(&mut self, value: i32, flags: &[bool]) {
         let mut left = Vec::new();
         for (place, flag) in self.empty.iter().zip(flags) {
             match flag {

@@ -24,6 +24,7 @@ pub mod streams;
 mod table;
 pub mod tools;
 mod vectors;
+pub mod windows;
 
 pub use codec::{Codec, Proved, Read, Second, Walk, Write};
 pub use compare::{check, check_firsts, Compared};

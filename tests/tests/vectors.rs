@@ -8,7 +8,8 @@ fn backs() -> Vec<Box<dyn Codec>> {
 }
 
 /// The files that a test below runs.
-const FILES: [&str; 5] = ["usual.txt", "unusual.txt", "faulty.txt", "open-points.txt", "first-octet.txt"];
+const FILES: [&str; 6] =
+    ["usual.txt", "unusual.txt", "faulty.txt", "open-points.txt", "windows.txt", "first-octet.txt"];
 
 fn folder() -> std::path::PathBuf {
     std::path::Path::new(env!("CARGO_MANIFEST_DIR")).join("vectors")
@@ -59,6 +60,11 @@ fn open_points() {
 }
 
 #[test]
+fn windows() {
+    run("windows.txt");
+}
+
+#[test]
 fn first_octet() {
     let firsts = firsts(&text("first-octet.txt")).unwrap_or_else(|fault| panic!("first-octet.txt: {fault}"));
     for codec in backs() {
@@ -81,7 +87,7 @@ fn no_file_is_left_out() {
 #[test]
 fn the_marked_cases_are_all_there() {
     let all: Vec<String> =
-        FILES[..4].iter().flat_map(|file| vectors(&text(file)).unwrap()).map(|vector| vector.name).collect();
+        FILES[..5].iter().flat_map(|file| vectors(&text(file)).unwrap()).map(|vector| vector.name).collect();
     for n in 1..=16 {
         assert!(all.contains(&format!("P{n}")), "P{n} is missing");
     }
