@@ -144,12 +144,12 @@ fn vector(words: &mut Words) -> Result<Vector, String> {
     Ok(Vector { name, call })
 }
 
-/// The bit that a refusal gives. It must stand beside those that find fault with a bit; for all others it is 0.
+/// The bit that a refusal gives: it must stand beside those from 1 to 9, and beside no other ending, where it is 0.
 fn named_bit(ended: u32, wanted: &mut Fields) -> Result<usize, String> {
-    let finds = ["SHORT", "CASE", "METHOD", "RUN", "PLACE", "ALIGN"].iter().any(|name| ending(name) == Some(ended));
+    let gives = (1..=9).contains(&ended);
     match wanted.take("bit") {
-        Some(bit) if finds => bit.parse().map_err(|_| format!("bit={bit} is no number")),
-        None if !finds => Ok(0),
+        Some(bit) if gives => bit.parse().map_err(|_| format!("bit={bit} is no number")),
+        None if !gives => Ok(0),
         Some(_) => Err("this ending gives no bit".into()),
         None => Err("this ending gives a bit".into()),
     }
@@ -236,7 +236,8 @@ mod tests {
         for wrong in [
             "read P1 octets=41",
             "read P1 octets=41 -> SHORT",
-            "read P1 octets=41 -> PREFIX bit=0",
+            "read P1 octets=41 -> LAW bit=0",
+            "read P1 octets=41 -> PREFIX",
             "read P1 octets=41 -> SHORT bit=x",
             "read P1 octets=41 -> fine",
             "read P1 -> SHORT bit=8",
