@@ -13,10 +13,26 @@
  *
  * WHAT A CALL RETURNS
  *   0 (G7110_OK), or the number of a refusal. The report is written in both cases.
- *   A refused g7110_read or g7110_write leaves the output as lent; its report is all 0, save that G7110_TOOL gives the tool.
+ *   A refused g7110_read or g7110_write leaves the output as lent; its report is all 0, save that G7110_TOOL gives the tool
+ *   and that a refused g7110_read gives the bit.
  *   A refused g7110_walk keeps the frames before the refused one: their samples stand in the output and are counted in
  *   the report. Past them the output is as lent.
  *   An accepted call too leaves the output past what it reports as lent.
+ *
+ * BIT
+ *   Which bit was bad: counted from 0 at the refused frame's start, highest bit of an octet first.
+ *     G7110_SHORT             the first bit that is missing: 8 times the octets from the frame's start
+ *     G7110_CASE, _METHOD     the first bit of the range case, of the method
+ *     G7110_RUN               the first bit of the run's code
+ *     G7110_PLACE             the first bit of the listed place; where no place is left, the end of the count bits
+ *     G7110_ALIGN             the first filling bit that is 1
+ *   0 for every other refusal, and for an accepted call. docs/RETURNS.md has an example of each.
+ *
+ * VERSIONS
+ *   2   g7110_read and g7110_walk report five numbers: the bit is new, at the end. They write report[4], so a program that was
+ *       compiled for version 1, which lends four, must be compiled again. A value-location frame that leaves no place for
+ *       zero is accepted; version 1 refused it with G7110_PLACE.
+ *   1   the first.
  *
  * BUFFERS
  *   A pointer comes with its length in octets. A length of 0 may come with any pointer, NULL too.
@@ -35,7 +51,7 @@
  *   Keep a greeting's frame, and get it back:
  *
  *     uint8_t kept[G7110_MAX_WRITTEN], sound[G7110_MAX_SAMPLES];
- *     uint64_t wrote[3], got[4];
+ *     uint64_t wrote[3], got[5];
  *     if (g7110_write(samples, 160, 1, G7110_ALL_TOOLS, kept, sizeof kept, wrote) != G7110_OK) return 1;
  *     if (g7110_read(kept, wrote[0], 1, G7110_ALL_TOOLS, sound, sizeof sound, got) != G7110_OK) return 1;
  *     // got[0] is 160, and sound holds the samples again
@@ -50,7 +66,7 @@
 extern "C" {
 #endif
 
-#define G7110_VERSION 1
+#define G7110_VERSION 2
 
 #define G7110_MAX_SAMPLES 320 /* samples of a frame */
 #define G7110_MAX_WRITTEN 321 /* octets of a written frame */
@@ -77,19 +93,20 @@ enum {
     G7110_LONG = 13    /* walk given more than 65,535 octets */
 };
 
-/* Reads one frame at the start of the octets. report: samples, octets used, bits, tool. */
+/* Reads one frame at the start of the octets. report: samples, octets used, bits, tool, bit. */
 uint32_t g7110_read(const uint8_t *octets, size_t octets_len, uint32_t law, uint32_t set,
-                    uint8_t *out, size_t out_len, uint64_t report[4]);
+                    uint8_t *out, size_t out_len, uint64_t report[5]);
 
 /* Writes one frame of samples_len samples in the chosen form: of the set's tools that apply, the fewest octets.
  * At most samples_len + 1 octets. report: octets, bits, tool. */
 uint32_t g7110_write(const uint8_t *samples, size_t samples_len, uint32_t law, uint32_t set,
                      uint8_t *out, size_t out_len, uint64_t report[3]);
 
-/* Walks a stream, frame after frame. report: frames, octets (also the place of a refused frame), samples, tool.
+/* Walks a stream, frame after frame. report: frames, octets (also the place of a refused frame), samples, tool, bit (of the
+ * refused frame, counted from its start).
  * G7110_LAW, G7110_SET and G7110_LONG refuse before any frame. A walk over no octets is accepted. */
 uint32_t g7110_walk(const uint8_t *octets, size_t octets_len, uint32_t law, uint32_t set,
-                    uint8_t *out, size_t out_len, uint64_t report[4]);
+                    uint8_t *out, size_t out_len, uint64_t report[5]);
 
 #ifdef __cplusplus
 }

@@ -5,7 +5,7 @@ use std::hint::black_box;
 
 #[inline(never)]
 pub fn proved_read(octets: &[u8], law: u32, set: u32, out: &mut [u8]) -> u32 {
-    let mut report = [0; 4];
+    let mut report = [0; 5];
     let ending = g7110::raw::read(octets, law, set, out, &mut report);
     black_box(&report);
     ending
@@ -14,7 +14,7 @@ pub fn proved_read(octets: &[u8], law: u32, set: u32, out: &mut [u8]) -> u32 {
 #[inline(never)]
 pub fn second_read(octets: &[u8], law: u32, set: u32, out: &mut [u8]) -> u32 {
     let got = second::read_frame(octets, law, set, out);
-    black_box(&[got.samples as u64, got.octets as u64, got.bits as u64, u64::from(got.tool)]);
+    black_box(&[got.samples as u64, got.octets as u64, got.bits as u64, u64::from(got.tool), got.bit as u64]);
     got.ending
 }
 
@@ -43,7 +43,7 @@ pub fn second_write(samples: &[u8], law: u32, set: u32, out: &mut [u8]) -> u32 {
 
 #[inline(never)]
 pub fn proved_walk(octets: &[u8], law: u32, set: u32, out: &mut [u8]) -> u32 {
-    let mut report = [0; 4];
+    let mut report = [0; 5];
     let ending = g7110::raw::walk(octets, law, set, out, &mut report);
     black_box(&report);
     ending
@@ -52,7 +52,7 @@ pub fn proved_walk(octets: &[u8], law: u32, set: u32, out: &mut [u8]) -> u32 {
 #[inline(never)]
 pub fn second_walk(octets: &[u8], law: u32, set: u32, out: &mut [u8]) -> u32 {
     let got = second::walk(octets, law, set, out);
-    black_box(&[got.frames as u64, got.octets as u64, got.samples as u64, u64::from(got.tool)]);
+    black_box(&[got.frames as u64, got.octets as u64, got.samples as u64, u64::from(got.tool), got.bit as u64]);
     got.ending
 }
 

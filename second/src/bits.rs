@@ -68,7 +68,7 @@ impl<'a> BitReader<'a> {
     #[inline]
     pub fn accept(&mut self, count: u32) -> Result<(), Refusal> {
         if self.good < count {
-            return Err(Refusal::Short);
+            return Err(Refusal::short(self.octets));
         }
         self.drop_bits(count);
         Ok(())
@@ -117,20 +117,21 @@ impl<'a> BitReader<'a> {
 
     #[inline(never)]
     fn rice_across_windows(mut self, s: u32, most_zeros: usize) -> Result<(Self, usize), Refusal> {
+        let code_starts = self.position();
         let mut zeros = 0;
         loop {
             self.refill();
             let here = self.window.leading_zeros().min(self.good);
             zeros += here as usize;
             if zeros > most_zeros {
-                return Err(Refusal::Run);
+                return Err(Refusal::Run { bit: code_starts });
             }
             if here < self.good {
                 self.drop_bits(here + 1);
                 break;
             }
             if here == 0 {
-                return Err(Refusal::Short);
+                return Err(Refusal::short(self.octets));
             }
             self.drop_bits(here);
         }
@@ -142,11 +143,15 @@ impl<'a> BitReader<'a> {
     #[inline]
     pub fn check_filling(&self) -> Result<(), Refusal> {
         let position = self.position();
-        let inside = position % 8;
-        if inside != 0 && self.octets[position / 8] & (0xFF >> inside) != 0 {
-            return Err(Refusal::Align);
+        let (octet, inside) = (position / 8, position % 8);
+        if inside == 0 {
+            return Ok(());
         }
-        Ok(())
+        let filling = self.octets[octet] & (0xFF >> inside);
+        match filling.leading_zeros() as usize {
+            8 => Ok(()),
+            first_one => Err(Refusal::Align { bit: 8 * octet + first_one }),
+        }
     }
 }
 
@@ -249,7 +254,8 @@ mod tests {
 
     impl Slow<'_> {
         fn bit(&mut self) -> Result<usize, Refusal> {
-            let octet = *self.octets.get(self.at / 8).ok_or(Refusal::Short)?;
+            let short = Refusal::Short { bit: self.at };
+            let octet = *self.octets.get(self.at / 8).ok_or(short)?;
             let bit = octet >> (7 - self.at % 8) & 1;
             self.at += 1;
             Ok(bit as usize)
@@ -264,11 +270,12 @@ mod tests {
         }
 
         fn rice(&mut self, s: u32, most_zeros: usize) -> Result<usize, Refusal> {
+            let start = self.at;
             let mut zeros = 0;
             while self.bit()? == 0 {
                 zeros += 1;
                 if zeros == most_zeros + 1 {
-                    return Err(Refusal::Run);
+                    return Err(Refusal::Run { bit: start });
                 }
             }
             Ok((zeros << s) + self.number(s)?)
@@ -298,12 +305,13 @@ mod tests {
             let mut slow = Slow { octets: &octets, at: skip as usize };
             loop {
                 let s = 1 + rng.below(9) as u32;
+                let start = fast.position();
                 let ours = fast.rice(s, most);
                 let theirs = slow.rice(s, most);
                 // A whole code with too many zeros is left to the caller, who
                 // finds it longer than the places left.
                 let ours = match ours {
-                    Ok(v) if v >> s > most => Err(Refusal::Run),
+                    Ok(v) if v >> s > most => Err(Refusal::Run { bit: start }),
                     other => other,
                 };
                 assert_eq!(ours, theirs);
@@ -338,9 +346,10 @@ mod tests {
                     break;
                 }
                 assert_eq!(fast.position(), slow.at);
-                let rest = slow.at.next_multiple_of(8) - slow.at;
-                let clean = Slow { octets: &octets, at: slow.at }.number(rest as u32) == Ok(0);
-                assert_eq!(fast.check_filling().is_ok(), clean);
+                let mut filling = slow.at..slow.at.next_multiple_of(8);
+                let wrong = filling.find(|&at| octets[at / 8] << (at % 8) & 0x80 != 0);
+                let judged = wrong.map_or(Ok(()), |bit| Err(Refusal::Align { bit }));
+                assert_eq!(fast.check_filling(), judged);
             }
         }
         println!("bit numbers compared: {compared}");

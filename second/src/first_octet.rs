@@ -22,13 +22,13 @@ static OPENINGS: [Opening; 256] = all_openings();
 /// first octets hangs on the first bit of the second one.
 #[inline]
 pub(crate) fn decide(octets: &[u8]) -> Result<Opening, Refusal> {
-    let &first = octets.first().ok_or(Refusal::Short)?;
+    let &first = octets.first().ok_or(Refusal::short(octets))?;
     let mut opening = OPENINGS[first as usize];
     if opening.tool >= UNDECIDED {
         if opening.tool == UNASSIGNED {
             return Err(Refusal::Prefix);
         }
-        let &second = octets.get(1).ok_or(Refusal::Short)?;
+        let &second = octets.get(1).ok_or(Refusal::short(octets))?;
         opening.tool = if second & 0x80 == 0 { 8 } else { 6 };
     }
     Ok(opening)
@@ -244,7 +244,7 @@ mod tests {
     #[test]
     fn only_four_octets_wait_for_the_second() {
         let waiting: Vec<u8> =
-            (0..=255u8).filter(|&f| decide(&[f]) == Err(Refusal::Short)).collect();
+            (0..=255u8).filter(|&f| decide(&[f]) == Err(Refusal::Short { bit: 8 })).collect();
         assert_eq!(waiting, [0x28, 0x2A, 0x38, 0x3A]);
     }
 }

@@ -71,11 +71,16 @@ impl Text {
     }
 
     fn stop(&mut self, end: Result<(), Refusal>, at: usize) {
-        let (number, tool) = match end {
-            Ok(()) => (0, 0),
-            Err(refusal) => (refusal.number(), refusal.tool()),
+        let (number, tool, bit) = match end {
+            Ok(()) => (0, 0, 0),
+            Err(refusal) => (refusal.number(), refusal.tool(), refusal.bit()),
         };
-        self.fields(&[("stop=", number as usize), (" at=", at), (" tool=", tool as usize)]);
+        self.fields(&[
+            ("stop=", number as usize),
+            (" at=", at),
+            (" tool=", tool as usize),
+            (" bit=", bit),
+        ]);
     }
 
     /// One line of names and numbers.

@@ -18,6 +18,8 @@ pub struct ReadReport {
     pub octets: usize,
     pub bits: usize,
     pub tool: u32,
+    /// The bit a refusal points at, counted from the frame's start.
+    pub bit: usize,
 }
 
 /// Reads one frame at the start of `octets`. The length of `out` is the room;
@@ -32,6 +34,7 @@ pub fn read_frame(octets: &[u8], law: u32, set: u32, out: &mut [u8]) -> ReadRepo
             octets: frame.octets(),
             bits: frame.bits,
             tool: u32::from(frame.tool),
+            bit: 0,
         },
         Err(refusal) => ReadReport {
             ending: refusal.number(),
@@ -39,6 +42,7 @@ pub fn read_frame(octets: &[u8], law: u32, set: u32, out: &mut [u8]) -> ReadRepo
             octets: 0,
             bits: 0,
             tool: refusal.tool(),
+            bit: refusal.bit(),
         },
     }
 }
@@ -94,19 +98,19 @@ fn fill(frame: &mut [u8], octet: u8) -> usize {
 }
 
 fn read_uncompressed(octets: &[u8], frame: &mut [u8]) -> Result<usize, Refusal> {
-    let body = octets.get(1..1 + frame.len()).ok_or(Refusal::Short)?;
+    let body = octets.get(1..1 + frame.len()).ok_or(Refusal::short(octets))?;
     frame.copy_from_slice(body);
     Ok(8 + 8 * frame.len())
 }
 
 fn read_constant(octets: &[u8], frame: &mut [u8]) -> Result<usize, Refusal> {
-    let &octet = octets.get(1).ok_or(Refusal::Short)?;
+    let &octet = octets.get(1).ok_or(Refusal::short(octets))?;
     frame.fill(octet);
     Ok(16)
 }
 
 fn read_binary(octets: &[u8], law: Law, frame: &mut [u8]) -> Result<usize, Refusal> {
-    let body = octets.get(1..1 + frame.len() / 8).ok_or(Refusal::Short)?;
+    let body = octets.get(1..1 + frame.len() / 8).ok_or(Refusal::short(octets))?;
     // A 1 is minus zero, and minus zero is plus zero with its top bit turned.
     let plus = eight_of(law.plus);
     for (eight, &bits) in frame.chunks_exact_mut(8).zip(body) {
@@ -143,9 +147,10 @@ fn read_s(bits: &mut BitReader, samples: usize) -> Result<u32, Refusal> {
 fn read_value_location(octets: &[u8], law: Law, frame: &mut [u8]) -> Result<usize, Refusal> {
     let samples = frame.len();
     let mut bits = BitReader::new(octets, 8);
+    let case_starts = bits.position();
     let case = bits.take(2)?;
     let flag = bits.take(1)?;
-    let values = values(case, flag, samples).ok_or(Refusal::Case)?;
+    let values = values(case, flag, samples).ok_or(Refusal::Case { bit: case_starts })?;
 
     let mut signs = Plane::EMPTY;
     let mut low_bits = Plane::EMPTY;
@@ -178,11 +183,12 @@ fn read_value_location(octets: &[u8], law: Law, frame: &mut [u8]) -> Result<usiz
 #[inline]
 fn read_value(bits: &mut BitReader, samples: usize, places: usize) -> Result<Plane, Refusal> {
     let mut taken = Plane::EMPTY;
+    let method_starts = bits.position();
     match bits.take(3)? {
         0b000 => read_row(bits, places, &mut taken)?,
         s @ 0b001..=0b100 => read_runs(bits, s, samples, places, |place| taken.insert(place))?,
         0b101 => {}
-        0b110 => return Err(Refusal::Method),
+        0b110 => return Err(Refusal::Method { bit: method_starts }),
         _ => read_listed(bits, places, &mut taken)?,
     }
     Ok(taken)
@@ -206,9 +212,11 @@ fn read_listed(bits: &mut BitReader, places: usize, taken: &mut Plane) -> Result
     let width = place_bits(places);
     let mut least = 0;
     for _ in 0..count {
+        // A place of no bits starts where the bits before it end.
+        let place_starts = bits.position();
         let place = bits.take(width)? as usize;
         if place < least || place >= places {
-            return Err(Refusal::Place);
+            return Err(Refusal::Place { bit: place_starts });
         }
         taken.insert(place);
         least = place + 1;

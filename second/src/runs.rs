@@ -19,7 +19,7 @@ pub(crate) fn read_runs(
     while filled < places {
         let run = bits.rice(s, frame_samples)?;
         if run > places - filled {
-            return Err(Refusal::Run);
+            return Err(Refusal::Run { bit: bits.position() - rice_bits(run, s) });
         }
         filled += run;
         // A run up to the end has its closing sample only imagined.
@@ -29,6 +29,11 @@ pub(crate) fn read_runs(
         }
     }
     Ok(())
+}
+
+/// Bits of the code of a run: its zeros, a 1 and the low bits.
+fn rice_bits(run: usize, s: u32) -> usize {
+    (run >> s) + 1 + s as usize
 }
 
 /// The runs of a row of places.

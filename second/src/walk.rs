@@ -20,6 +20,8 @@ pub struct WalkReport {
     /// Where the refused frame starts; the stream's length at a clean end.
     pub place: usize,
     pub tool: u32,
+    /// The bit a refusal points at, counted from the refused frame's start.
+    pub bit: usize,
 }
 
 /// Reads frame after frame until the octets are used up or one is refused.
@@ -31,9 +33,9 @@ pub fn walk(octets: &[u8], law: u32, set: u32, out: &mut [u8]) -> WalkReport {
         Ok(law) => tally.read_all(octets, law, set, out),
         Err(refusal) => Err(refusal),
     };
-    let (ending, tool) = match end {
-        Ok(()) => (0, 0),
-        Err(refusal) => (refusal.number(), refusal.tool()),
+    let (ending, tool, bit) = match end {
+        Ok(()) => (0, 0, 0),
+        Err(refusal) => (refusal.number(), refusal.tool(), refusal.bit()),
     };
     WalkReport {
         ending,
@@ -43,6 +45,7 @@ pub fn walk(octets: &[u8], law: u32, set: u32, out: &mut [u8]) -> WalkReport {
         // The next frame starts where the last one ended, refused or not.
         place: tally.octets,
         tool,
+        bit,
     }
 }
 

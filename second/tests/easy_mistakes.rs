@@ -84,20 +84,20 @@ fn no_empty_run_after_the_rarer_zero_at_the_end() {
 fn the_second_octet_decides_28_2a_38_3a() {
     let mut out = [0; 320];
     for first in [0x28u8, 0x2A, 0x38, 0x3A] {
-        assert_eq!(read_frame(&[first], MU, 127, &mut out), refused_read((SHORT, 0)));
+        assert_eq!(read_frame(&[first], MU, 127, &mut out), refused_read((SHORT, 0, 8)));
         // Even where neither tool could be used.
-        assert_eq!(read_frame(&[first], MU, 0, &mut out), refused_read((SHORT, 0)));
+        assert_eq!(read_frame(&[first], MU, 0, &mut out), refused_read((SHORT, 0, 8)));
         for second in 0..=255u8 {
             let report = read_frame(&[first, second], MU, 95, &mut out);
             let tool = if second < 0x80 { 8 } else { 6 };
-            assert_eq!(report, refused_read((TOOL, tool)));
+            assert_eq!(report, refused_read((TOOL, tool, 0)));
         }
     }
     for first in [0x29u8, 0x2B, 0x39, 0x3B] {
         // No second octet is needed to know the tool, nor to miss room for it.
-        assert_eq!(read_frame(&[first], MU, 95, &mut out), refused_read((TOOL, 6)));
-        assert_eq!(read_frame(&[first], MU, 127, &mut out[..239]), refused_read((ROOM, 0)));
-        assert_eq!(read_frame(&[first], MU, 127, &mut out), refused_read((SHORT, 0)));
+        assert_eq!(read_frame(&[first], MU, 95, &mut out), refused_read((TOOL, 6, 0)));
+        assert_eq!(read_frame(&[first], MU, 127, &mut out[..239]), refused_read((ROOM, 0, 0)));
+        assert_eq!(read_frame(&[first], MU, 127, &mut out), refused_read((SHORT, 0, 8)));
         // 1 then 0 is S = 2, never tool 8.
         let second = if first < 0x30 { 0x00 } else { 0x7F };
         assert_ne!(read_frame(&[first, second], MU, 127, &mut out).ending, TOOL);
@@ -155,14 +155,14 @@ fn an_unknown_first_octet_is_not_a_pad() {
     let mut unknown = vec![0x01u8, 0x46, 0x47, 0x85, 0x87, 0xC5, 0xC7];
     unknown.extend(0x88..=0x8F);
     for first in unknown {
-        assert_eq!(read_frame(&[first], MU, 127, &mut out), refused_read((PREFIX, 0)));
-        assert_eq!(read_frame(&[first], MU, 0, &mut out[..0]), refused_read((PREFIX, 0)));
+        assert_eq!(read_frame(&[first], MU, 127, &mut out), refused_read((PREFIX, 0, 0)));
+        assert_eq!(read_frame(&[first], MU, 0, &mut out[..0]), refused_read((PREFIX, 0, 0)));
         let report = walk(&[0x00, first, 0x41], MU, 127, &mut out);
         let expected =
-            WalkReport { ending: PREFIX, frames: 1, octets: 1, samples: 0, place: 1, tool: 0 };
+            WalkReport { ending: PREFIX, frames: 1, octets: 1, samples: 0, place: 1, tool: 0, bit: 0 };
         assert_eq!(report, expected);
         let text = String::from_utf8(listing(&[b'A', 0x00, first])).unwrap();
-        assert!(text.ends_with("stop=2 at=1 tool=0\nsamples=0\n"));
+        assert!(text.ends_with("stop=2 at=1 tool=0 bit=0\nsamples=0\n"));
     }
     assert!(out.iter().all(|&o| o == 0x77));
 }

@@ -12,7 +12,7 @@ const EXAMPLE: &str = "law=1
 frame=0 at=0 samples=40 tool=2 octets=1 bits=8
 frame=1 at=1 samples=0 tool=0 octets=1 bits=8
 frame=2 at=2 samples=40 tool=6 octets=2 bits=16
-stop=1 at=4 tool=0
+stop=1 at=4 tool=0 bit=8
 samples=80
 ";
 
@@ -25,19 +25,19 @@ fn slow_text(input: &[u8]) -> String {
     let law = match input.first() {
         Some(b'A') => 0,
         Some(b'M') => 1,
-        _ => return "stop=12 at=0 tool=0\n".to_string(),
+        _ => return "stop=12 at=0 tool=0 bit=0\n".to_string(),
     };
     let stream = &input[1..];
     if stream.len() > 65_535 {
-        return "stop=13 at=0 tool=0\n".to_string();
+        return "stop=13 at=0 tool=0 bit=0\n".to_string();
     }
     let mut text = format!("law={law}\n");
     let (mut at, mut samples, mut index) = (0, 0, 0);
-    let (mut stop, mut tool) = (0, 0);
+    let (mut stop, mut tool, mut bit) = (0, 0, 0);
     while at < stream.len() {
         let (r, _) = slow::read(&stream[at..], law, 127, &[0; 320]);
         if r.ending != 0 {
-            (stop, tool) = (r.ending, r.tool);
+            (stop, tool, bit) = (r.ending, r.tool, r.bit);
             break;
         }
         writeln!(
@@ -50,7 +50,7 @@ fn slow_text(input: &[u8]) -> String {
         at += r.octets;
         samples += r.samples;
     }
-    writeln!(text, "stop={stop} at={at} tool={tool}\nsamples={samples}").unwrap();
+    writeln!(text, "stop={stop} at={at} tool={tool} bit={bit}\nsamples={samples}").unwrap();
     text
 }
 
@@ -78,33 +78,33 @@ fn the_program_prints_the_example() {
 
 #[test]
 fn other_first_octets_and_long_streams() {
-    assert_eq!(text(&[]), "stop=12 at=0 tool=0\n");
+    assert_eq!(text(&[]), "stop=12 at=0 tool=0 bit=0\n");
     for first in (0..=255u8).filter(|f| ![b'A', b'M'].contains(f)) {
-        assert_eq!(text(&[first, 0x41]), "stop=12 at=0 tool=0\n");
+        assert_eq!(text(&[first, 0x41]), "stop=12 at=0 tool=0 bit=0\n");
     }
     // Another first octet is told before a long stream is.
-    assert_eq!(text(&vec![0; 70_000]), "stop=12 at=0 tool=0\n");
+    assert_eq!(text(&vec![0; 70_000]), "stop=12 at=0 tool=0 bit=0\n");
     let mut input = vec![0; 65_537];
     input[0] = b'A';
-    assert_eq!(text(&input), "stop=13 at=0 tool=0\n");
+    assert_eq!(text(&input), "stop=13 at=0 tool=0 bit=0\n");
     input.pop();
     let whole = text(&input);
     assert!(whole.starts_with("law=0\nframe=0 at=0 samples=0 tool=0 octets=1 bits=8\n"));
     assert!(whole.ends_with(
-        "frame=65534 at=65534 samples=0 tool=0 octets=1 bits=8\nstop=0 at=65535 tool=0\nsamples=0\n"
+        "frame=65534 at=65534 samples=0 tool=0 octets=1 bits=8\nstop=0 at=65535 tool=0 bit=0\nsamples=0\n"
     ));
     // The most samples a stream can hold.
     input[1..].fill(0x31);
-    assert!(text(&input).ends_with("stop=0 at=65535 tool=0\nsamples=20971200\n"));
+    assert!(text(&input).ends_with("stop=0 at=65535 tool=0 bit=0\nsamples=20971200\n"));
 }
 
 #[test]
 fn clean_ends_and_tools() {
-    assert_eq!(text(b"A"), "law=0\nstop=0 at=0 tool=0\nsamples=0\n");
-    assert_eq!(text(&[b'A', 0x28, 0x00]), "law=0\nstop=3 at=0 tool=8\nsamples=0\n");
+    assert_eq!(text(b"A"), "law=0\nstop=0 at=0 tool=0 bit=0\nsamples=0\n");
+    assert_eq!(text(&[b'A', 0x28, 0x00]), "law=0\nstop=3 at=0 tool=8 bit=0\nsamples=0\n");
     assert_eq!(
         text(&[b'A', 0x00, 0xFF]),
-        "law=0\nframe=0 at=0 samples=0 tool=0 octets=1 bits=8\nstop=3 at=1 tool=9\nsamples=0\n"
+        "law=0\nframe=0 at=0 samples=0 tool=0 octets=1 bits=8\nstop=3 at=1 tool=9 bit=0\nsamples=0\n"
     );
 }
 

@@ -15,16 +15,16 @@ fn read(octets: &[u8]) -> (ReadReport, Vec<u8>) {
 
 fn accepts(octets: &[u8], samples: &[u8], bits: usize, tool: u32) {
     let (report, out) = read(octets);
-    let expected =
-        ReadReport { ending: 0, samples: samples.len(), octets: bits.div_ceil(8), bits, tool };
+    let octets = bits.div_ceil(8);
+    let expected = ReadReport { ending: 0, samples: samples.len(), octets, bits, tool, bit: 0 };
     assert_eq!(report, expected);
     assert_eq!(&out[..samples.len()], samples);
     assert!(out[samples.len()..].iter().all(|&o| o == LENT));
 }
 
-fn refuses(octets: &[u8], ending: u32, tool: u32) {
+fn refuses(octets: &[u8], ending: u32, tool: u32, bit: usize) {
     let (report, out) = read(octets);
-    assert_eq!(report, refused_read((ending, tool)));
+    assert_eq!(report, refused_read((ending, tool, bit)));
     assert!(out.iter().all(|&o| o == LENT));
 }
 
@@ -54,12 +54,12 @@ fn p3_pad() {
 
 #[test]
 fn p4_nothing() {
-    refuses(&[], SHORT, 0);
+    refuses(&[], SHORT, 0, 0);
 }
 
 #[test]
 fn p5_unassigned() {
-    refuses(&[0x46], PREFIX, 0);
+    refuses(&[0x46], PREFIX, 0, 0);
 }
 
 #[test]
@@ -84,7 +84,7 @@ fn p8_forty_plus_without_the_constant_tools() {
 
 #[test]
 fn p9_run_one_too_long() {
-    refuses(&[0x57, 0x19], RUN, 0);
+    refuses(&[0x57, 0x19], RUN, 0, 9);
 }
 
 #[test]
@@ -96,30 +96,30 @@ fn p10_one_in_front() {
 
 #[test]
 fn p11_filling_bit_set() {
-    refuses(&[0x86, 0xFC, 0x01], ALIGN, 0);
+    refuses(&[0x86, 0xFC, 0x01], ALIGN, 0, 23);
 }
 
 #[test]
 fn p12_flag_not_allowed() {
-    refuses(&[0x86, 0xDC], CASE, 0);
+    refuses(&[0x86, 0xDC], CASE, 0, 8);
 }
 
 #[test]
 fn p13_method_110() {
-    refuses(&[0x86, 0xF8], METHOD, 0);
+    refuses(&[0x86, 0xF8], METHOD, 0, 11);
 }
 
 #[test]
 fn p14_place_too_high() {
-    refuses(&[0x86, 0xFC, 0xFE], PLACE, 0);
+    refuses(&[0x86, 0xFC, 0xFE], PLACE, 0, 16);
 }
 
 #[test]
 fn p15_pulse_mode() {
-    refuses(&[0x28, 0x00], TOOL, 8);
+    refuses(&[0x28, 0x00], TOOL, 8, 0);
 }
 
 #[test]
 fn p16_second_octet_missing() {
-    refuses(&[0x28], SHORT, 0);
+    refuses(&[0x28], SHORT, 0, 8);
 }

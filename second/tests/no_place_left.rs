@@ -137,7 +137,7 @@ fn method_110_is_method_and_111_is_place_after_its_two_bits() {
         if to_come == 0 {
             return;
         }
-        for (method, needs, ending) in [("110", 3, METHOD), ("111", 5, PLACE)] {
+        for (method, needs, ending, at) in [("110", 3, METHOD, 0), ("111", 5, PLACE, 5)] {
             for tail in 0..32usize {
                 let mut bits = filled.clone();
                 bits.text(method);
@@ -146,8 +146,8 @@ fn method_110_is_method_and_111_is_place_after_its_two_bits() {
                 for cut in filled.len() / 8..=octets.len() {
                     let whole = 8 * cut >= filled.len() + needs;
                     let (report, out) = read(&octets[..cut], law, length);
-                    let wanted = if whole { ending } else { SHORT };
-                    assert_eq!(report, refused_read((wanted, 0)));
+                    let wanted = if whole { (ending, 0, filled.len() + at) } else { (SHORT, 0, 8 * cut) };
+                    assert_eq!(report, refused_read(wanted));
                     assert!(out.iter().all(|&o| o == LENT));
                     calls += 1;
                 }
@@ -199,9 +199,9 @@ fn among_one_place_a_listed_place_has_no_bits() {
                 let mut more = before.clone();
                 more.text(count);
                 let octets = more.octets();
-                assert_eq!(read(&octets, 0, length).0, refused_read((PLACE, 0)));
+                assert_eq!(read(&octets, 0, length).0, refused_read((PLACE, 0, more.len())));
                 let short = &octets[..(before.len() + 1) / 8];
-                assert_eq!(read(short, 0, length).0, refused_read((SHORT, 0)));
+                assert_eq!(read(short, 0, length).0, refused_read((SHORT, 0, 8 * short.len())));
                 calls += 2;
             }
         }

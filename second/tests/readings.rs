@@ -20,6 +20,12 @@ fn ending(octets: &[u8]) -> u32 {
     read_frame(octets, 1, 127, &mut [0; 320]).ending
 }
 
+/// The ending and its bit.
+fn ending_and_bit(octets: &[u8]) -> (u32, usize) {
+    let report = read_frame(octets, 1, 127, &mut [0; 320]);
+    (report.ending, report.bit)
+}
+
 #[test]
 fn r1_zeros_are_counted_to_the_frame_length() {
     let octets = octets_of(&["10000110", "011", "000", &"1".repeat(79), "0", "001", "0000000"]);
@@ -91,12 +97,12 @@ fn r7_law_and_set_refuse_a_walk_over_no_octets() {
 fn r8_a_long_stream_prints_one_line() {
     let mut input = vec![0x00; 65_537];
     input[0] = b'A';
-    assert_eq!(listing(&input), b"stop=13 at=0 tool=0\n");
+    assert_eq!(listing(&input), b"stop=13 at=0 tool=0 bit=0\n");
 }
 
 #[test]
 fn r9_every_line_ends_with_a_line_feed() {
-    assert_eq!(listing(b"A"), b"law=0\nstop=0 at=0 tool=0\nsamples=0\n");
+    assert_eq!(listing(b"A"), b"law=0\nstop=0 at=0 tool=0 bit=0\nsamples=0\n");
 }
 
 #[test]
@@ -155,4 +161,40 @@ fn r13_among_one_place_a_listed_place_has_no_bits() {
     let two = octets_of(&[&filled, "111", "01", "00000"]);
     assert_eq!(two, hex("86 63 FF FF FF FF FF FF FF FF FF FB A0"));
     assert_eq!(ending(&two), PLACE);
+}
+
+#[test]
+fn r14_the_first_missing_bit_is_not_the_cut_codes_first() {
+    assert_eq!(ending_and_bit(&hex("57 80 01")), (SHORT, 24));
+    assert_eq!(ending_and_bit(&hex("28")), (SHORT, 8));
+}
+
+#[test]
+fn r15_too_many_zeros_give_the_first_of_them() {
+    assert_eq!(ending_and_bit(&hex("52 00 00 00 00 00")), (RUN, 7));
+}
+
+#[test]
+fn r16_a_flag_not_allowed_gives_the_range_case() {
+    assert_eq!(ending_and_bit(&hex("86 DC")), (CASE, 8));
+}
+
+#[test]
+fn r17_the_refused_place_is_the_one_pointed_at() {
+    assert_eq!(ending_and_bit(&hex("86 FE 00 00")), (PLACE, 23));
+    let of_no_bits = hex("86 63 FF FF FF FF FF FF FF FF FF FB A0");
+    assert_eq!(ending_and_bit(&of_no_bits), (PLACE, 99));
+    assert_eq!(ending_and_bit(&filled_then("11100")), (PLACE, 99));
+}
+
+#[test]
+fn r18_the_first_wrong_filling_bit_is_not_the_first_filling_bit() {
+    assert_eq!(ending_and_bit(&hex("86 F5")), (ALIGN, 15));
+    assert_eq!(ending_and_bit(&hex("86 F7")), (ALIGN, 14));
+}
+
+#[test]
+fn r19_a_walk_counts_bits_from_the_refused_frame() {
+    let report = walk(&hex("00 86 F8"), 1, 127, &mut [0; 80]);
+    assert_eq!((report.ending, report.place, report.bit), (METHOD, 1, 11));
 }

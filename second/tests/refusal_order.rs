@@ -7,10 +7,21 @@ use slow::*;
 
 const LENT: u8 = 0x99;
 
+/// A refusal whose bit is 0, or SHORT.
 fn reads(octets: &[u8], law: u32, set: u32, room: usize, ending: u32, tool: u32) {
+    let bit = if ending == SHORT { 8 * octets.len() } else { 0 };
+    refuses(octets, law, set, room, (ending, tool, bit));
+}
+
+/// A refusal inside the body, by mu-law and all tools.
+fn body(octets: &[u8], room: usize, ending: u32, bit: usize) {
+    refuses(octets, 1, 127, room, (ending, 0, bit));
+}
+
+fn refuses(octets: &[u8], law: u32, set: u32, room: usize, wanted: Refused) {
     let mut out = vec![LENT; room];
     let report = read_frame(octets, law, set, &mut out);
-    assert_eq!(report, refused_read((ending, tool)), "{octets:02X?}");
+    assert_eq!(report, refused_read(wanted), "{octets:02X?}");
     assert!(out.iter().all(|&o| o == LENT));
 }
 
@@ -104,14 +115,14 @@ fn body_faults_come_as_the_bits_come() {
     for zeros in 0..=41usize {
         let bits = rice(zeros, "");
         if bits.len() % 8 == 0 {
-            let ending = if zeros > 40 { RUN } else { SHORT };
-            reads(&bits.octets(), 1, 127, 40, ending, 0);
+            let (ending, bit) = if zeros > 40 { (RUN, 7) } else { (SHORT, bits.len()) };
+            body(&bits.octets(), 40, ending, bit);
         }
     }
     assert_eq!(rice(41, "").len() % 8, 0);
     assert_eq!(rice(33, "").len() % 8, 0);
     // The 41st zero is RUN even where the octets end with it.
-    reads(&rice(41, "").octets(), 1, 127, 40, RUN, 0);
+    body(&rice(41, "").octets(), 40, RUN, 7);
 
     // Too long a run is judged when it is whole: S = 5, one low bit missing.
     // 01 010 1111, zeros, 1, low five bits.
@@ -122,16 +133,16 @@ fn body_faults_come_as_the_bits_come() {
     assert_eq!(bits.len(), 16);
     reads(&bits.octets(), 1, 127, 40, SHORT, 0);
     bits.text("1");
-    reads(&bits.octets(), 1, 127, 40, RUN, 0);
+    body(&bits.octets(), 40, RUN, 9);
 
     // RUN and PLACE before ALIGN; METHOD and CASE before any later SHORT.
-    reads(&[0x57, 0x19], 1, 127, 40, RUN, 0);
-    reads(&[0x86, 0xFC, 0xFF], 1, 127, 80, PLACE, 0);
-    reads(&[0x86, 0xF8], 1, 127, 80, METHOD, 0);
-    reads(&[0x86, 0x3F], 1, 127, 80, CASE, 0);
-    reads(&[0x86, 0x1F], 1, 127, 80, CASE, 0);
-    reads(&[0x86, 0xBF], 1, 127, 80, CASE, 0);
-    reads(&[0xC6, 0x3F], 1, 127, 160, CASE, 0);
+    body(&[0x57, 0x19], 40, RUN, 9);
+    body(&[0x86, 0xFC, 0xFF], 80, PLACE, 16);
+    body(&[0x86, 0xF8], 80, METHOD, 11);
+    body(&[0x86, 0x3F], 80, CASE, 8);
+    body(&[0x86, 0x1F], 80, CASE, 8);
+    body(&[0x86, 0xBF], 80, CASE, 8);
+    body(&[0xC6, 0x3F], 160, CASE, 8);
     // The same case with 240 samples goes on to its values.
     reads(&[0x25, 0x3F], 1, 127, 240, SHORT, 0);
 
@@ -143,7 +154,7 @@ fn body_faults_come_as_the_bits_come() {
     bits.text("11");
     bits.text("1010000");
     bits.text("0");
-    reads(&bits.octets(), 1, 127, 80, PLACE, 0);
+    body(&bits.octets(), 80, PLACE, 16);
     // The same with a good first place: SHORT.
     let mut bits = BitString::default();
     bits.text("10000110");
@@ -180,7 +191,8 @@ fn zeros_are_counted_up_to_the_frame_length_in_tool_7_too() {
         let mut here = bits.clone();
         here.text(&"0".repeat(zeros));
         if here.len() % 8 == 0 {
-            reads(&here.octets(), 1, 127, 80, if zeros > 80 { RUN } else { SHORT }, 0);
+            let (ending, bit) = if zeros > 80 { (RUN, start) } else { (SHORT, here.len()) };
+            body(&here.octets(), 80, ending, bit);
         }
     }
     // v = 1 fills the place left with 0; v = 0 takes it, v = 2 is too long.
@@ -200,7 +212,8 @@ fn zeros_are_counted_up_to_the_frame_length_in_tool_7_too() {
 
 #[test]
 fn walk_law_set_long() {
-    let nothing = |ending| WalkReport { ending, frames: 0, octets: 0, samples: 0, place: 0, tool: 0 };
+    let nothing =
+        |ending| WalkReport { ending, frames: 0, octets: 0, samples: 0, place: 0, tool: 0, bit: 0 };
     let long = vec![0; 65_536];
     let mut out = [LENT; 40];
     for octets in [&[][..], &[0x41], &[0x46], &long] {
@@ -233,6 +246,7 @@ fn every_refusal_leaves_the_room_as_lent() {
             assert_eq!((report.samples, report.octets, report.bits), (0, 0, 0));
             assert_eq!(report.tool != 0, report.ending == TOOL);
         }
+        assert_eq!(report.bit == 0, [0, PREFIX, TOOL, ROOM].contains(&report.ending) || octets.is_empty());
         assert!(out[report.samples..].iter().all(|&o| o == LENT));
     }
     println!("endings 0 to 13: {by_ending:?}");

@@ -7,11 +7,11 @@ use second::{read_frame, walk, write_frame, WalkReport};
 /// A walk by single reads.
 fn walk_by_frames(octets: &[u8], law: u32, set: u32, out: &mut [u8]) -> WalkReport {
     let (mut at, mut frames, mut samples) = (0, 0, 0);
-    let (mut ending, mut tool) = (0, 0);
+    let (mut ending, mut tool, mut bit) = (0, 0, 0);
     while at < octets.len() {
         let (report, after) = slow::read(&octets[at..], law, set, &out[samples..]);
         if report.ending != 0 {
-            (ending, tool) = (report.ending, report.tool);
+            (ending, tool, bit) = (report.ending, report.tool, report.bit);
             break;
         }
         out[samples..].copy_from_slice(&after);
@@ -19,7 +19,7 @@ fn walk_by_frames(octets: &[u8], law: u32, set: u32, out: &mut [u8]) -> WalkRepo
         samples += report.samples;
         frames += 1;
     }
-    WalkReport { ending, frames, octets: at, samples, place: at, tool }
+    WalkReport { ending, frames, octets: at, samples, place: at, tool, bit }
 }
 
 fn stream(frames: usize, law: u32, rng: &mut Prng) -> (Vec<u8>, Vec<u8>) {
@@ -50,6 +50,7 @@ fn good_streams() {
             samples: samples.len(),
             place: octets.len(),
             tool: 0,
+            bit: 0,
         };
         assert_eq!(report, expected);
         assert_eq!(&out[..samples.len()], samples);
@@ -117,7 +118,8 @@ fn written_streams_come_back() {
 
 #[test]
 fn an_empty_walk_is_accepted() {
-    let nothing = WalkReport { ending: 0, frames: 0, octets: 0, samples: 0, place: 0, tool: 0 };
+    let nothing =
+        WalkReport { ending: 0, frames: 0, octets: 0, samples: 0, place: 0, tool: 0, bit: 0 };
     assert_eq!(walk(&[], 0, 0, &mut []), nothing);
     assert_eq!(walk(&[], 1, 127, &mut [1, 2, 3]), nothing);
 }
@@ -127,7 +129,7 @@ fn room_is_what_is_left_of_it() {
     let mut out = [0x55; 100];
     let report = walk(&[0x41, 0x00, 0x42, 0x41, 0x00], 1, 127, &mut out);
     let expected =
-        WalkReport { ending: 4, frames: 3, octets: 3, samples: 80, place: 3, tool: 0 };
+        WalkReport { ending: 4, frames: 3, octets: 3, samples: 80, place: 3, tool: 0, bit: 0 };
     assert_eq!(report, expected);
     assert_eq!(out[..40], [0xFF; 40]);
     assert_eq!(out[40..80], [0x7F; 40]);

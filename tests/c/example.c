@@ -16,7 +16,7 @@
 static int keep_and_get_back(const uint8_t *samples)
 {
     uint8_t kept[G7110_MAX_WRITTEN], sound[G7110_MAX_SAMPLES];
-    uint64_t wrote[3], got[4];
+    uint64_t wrote[3], got[5];
     if (g7110_write(samples, 160, 1, G7110_ALL_TOOLS, kept, sizeof kept, wrote) != G7110_OK) return 1;
     if (g7110_read(kept, (size_t)wrote[0], 1, G7110_ALL_TOOLS, sound, sizeof sound, got) != G7110_OK) return 1;
     CHECK(got[0] == 160);
@@ -30,7 +30,7 @@ static int keep_and_get_back(const uint8_t *samples)
 static int nothing_lent(void)
 {
     uint8_t pad = 0xA7;
-    uint64_t read[4], wrote[3], walked[4];
+    uint64_t read[5], wrote[3], walked[5];
     CHECK(g7110_read(NULL, 0, 1, G7110_ALL_TOOLS, NULL, 0, read) == G7110_SHORT);
     CHECK(g7110_read((const uint8_t *)"", 1, 1, 0, NULL, 0, read) == G7110_OK && read[1] == 1);
     CHECK(g7110_write(NULL, 0, 1, G7110_ALL_TOOLS, NULL, 0, wrote) == G7110_ROOM);
@@ -44,25 +44,27 @@ static int walk_and_stop(void)
 {
     static const uint8_t stream[5] = {0x41, 0x00, 0x56, 0x0F, 0x86};
     uint8_t out[200];
-    uint64_t kept[4];
+    uint64_t kept[5];
     memset(out, 0xA7, sizeof out);
     CHECK(g7110_walk(stream, sizeof stream, 1, G7110_ALL_TOOLS, out, sizeof out, kept) == G7110_SHORT);
-    CHECK(kept[0] == 3 && kept[1] == 4 && kept[2] == 80 && kept[3] == 0);
+    CHECK(kept[0] == 3 && kept[1] == 4 && kept[2] == 80 && kept[3] == 0 && kept[4] == 8);
     CHECK(out[78] == 0xFF && out[79] == 0x7F && out[80] == 0xA7 && out[199] == 0xA7);
     return 0;
 }
 
-/* A refused call leaves the output as lent, and reports nothing but the tool. */
+/* A refused call leaves the output as lent, and reports nothing but the tool and the bit. */
 static int refused(void)
 {
-    static const uint8_t pulse[2] = {0x28, 0x00};
+    static const uint8_t pulse[2] = {0x28, 0x00}, run[2] = {0x57, 0x19};
     uint8_t out[G7110_MAX_SAMPLES], odd[41];
-    uint64_t read[4] = {9, 9, 9, 9}, wrote[3] = {9, 9, 9};
+    uint64_t read[5] = {9, 9, 9, 9, 9}, wrote[3] = {9, 9, 9};
     size_t at;
     memset(out, 0xA7, sizeof out);
     memset(odd, 0xFF, sizeof odd);
     CHECK(g7110_read(pulse, 2, 1, G7110_ALL_TOOLS, out, sizeof out, read) == G7110_TOOL);
-    CHECK(read[0] == 0 && read[1] == 0 && read[2] == 0 && read[3] == 8);
+    CHECK(read[0] == 0 && read[1] == 0 && read[2] == 0 && read[3] == 8 && read[4] == 0);
+    CHECK(g7110_read(run, 2, 1, G7110_ALL_TOOLS, out, sizeof out, read) == G7110_RUN);
+    CHECK(read[0] == 0 && read[1] == 0 && read[2] == 0 && read[3] == 0 && read[4] == 9);
     CHECK(g7110_write(odd, 41, 1, G7110_ALL_TOOLS, out, sizeof out, wrote) == G7110_LENGTH);
     CHECK(g7110_write(odd, 40, 1, 2, out, sizeof out, wrote) == G7110_SET);
     CHECK(g7110_write(odd, 40, 2, 2, out, sizeof out, wrote) == G7110_LAW);

@@ -20,7 +20,7 @@ std::vector<std::uint8_t> keep(const std::vector<std::uint8_t> &samples)
 std::vector<std::uint8_t> get_back(const std::vector<std::uint8_t> &kept)
 {
     std::vector<std::uint8_t> sound(G7110_MAX_SAMPLES);
-    std::uint64_t got[4];
+    std::uint64_t got[5];
     if (g7110_read(kept.data(), kept.size(), 1, G7110_ALL_TOOLS, sound.data(), sound.size(), got) != G7110_OK) return {};
     sound.resize(static_cast<std::size_t>(got[0]));
     return sound;
@@ -35,7 +35,7 @@ int main()
     samples[7] = 0x7F;
     const std::vector<std::uint8_t> kept = keep(samples);
     if (kept.empty() || kept.size() > 4 || get_back(kept) != samples) return 1;
-    std::uint64_t walked[4];
+    std::uint64_t walked[5];
     if (g7110_walk(nullptr, 0, 0, 0, nullptr, 0, walked) != G7110_OK) return 1;
     std::puts("ok");
     return 0;

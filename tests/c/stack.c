@@ -21,7 +21,7 @@ static uint8_t out[1 << 16];
 static void *make(void *argument)
 {
     const struct call *call = argument;
-    uint64_t report[4];
+    uint64_t report[5];
     if (call->which == 1) g7110_read(call->given, call->length, 1, G7110_ALL_TOOLS, out, sizeof out, report);
     if (call->which == 2) g7110_write(call->given, call->length, 1, G7110_ALL_TOOLS, out, sizeof out, report);
     if (call->which == 3) g7110_walk(call->given, call->length, 1, G7110_ALL_TOOLS, out, sizeof out, report);

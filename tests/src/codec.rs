@@ -10,6 +10,7 @@ pub struct Read {
     pub samples: usize,
     pub octets: usize,
     pub bits: usize,
+    pub bit: usize,
 }
 
 /// What one call of the writer reports.
@@ -30,6 +31,7 @@ pub struct Walk {
     pub octets: usize,
     pub samples: usize,
     pub place: usize,
+    pub bit: usize,
 }
 
 /// A back end. The length of `out` is the room that is lent.
@@ -61,7 +63,14 @@ impl Codec for Second {
 
     fn read(&self, octets: &[u8], law: u32, set: u32, out: &mut [u8]) -> Read {
         let got = second::read_frame(octets, law, set, out);
-        Read { ending: got.ending, tool: got.tool, samples: got.samples, octets: got.octets, bits: got.bits }
+        Read {
+            ending: got.ending,
+            tool: got.tool,
+            samples: got.samples,
+            octets: got.octets,
+            bits: got.bits,
+            bit: got.bit,
+        }
     }
 
     fn write(&self, samples: &[u8], law: u32, set: u32, out: &mut [u8]) -> Write {
@@ -78,6 +87,7 @@ impl Codec for Second {
             octets: got.octets,
             samples: got.samples,
             place: got.place,
+            bit: got.bit,
         }
     }
 
@@ -102,10 +112,10 @@ impl Codec for Proved {
     }
 
     fn read(&self, octets: &[u8], law: u32, set: u32, out: &mut [u8]) -> Read {
-        let mut report = [UNWRITTEN; 4];
+        let mut report = [UNWRITTEN; 5];
         let ending = g7110::raw::read(octets, law, set, out, &mut report);
-        let [samples, octets, bits, tool] = report;
-        Read { ending, tool: tool as u32, samples: samples as usize, octets: octets as usize, bits: bits as usize }
+        let [samples, octets, bits, tool, bit] = report.map(|number| number as usize);
+        Read { ending, tool: tool as u32, samples, octets, bits, bit }
     }
 
     #[cfg(not(feature = "writer"))]
@@ -123,11 +133,10 @@ impl Codec for Proved {
 
     /// The C call reports the place once: it is the octets kept.
     fn walk(&self, octets: &[u8], law: u32, set: u32, out: &mut [u8]) -> Walk {
-        let mut report = [UNWRITTEN; 4];
+        let mut report = [UNWRITTEN; 5];
         let ending = g7110::raw::walk(octets, law, set, out, &mut report);
-        let [frames, octets, samples, tool] = report;
-        let octets = octets as usize;
-        Walk { ending, tool: tool as u32, frames: frames as usize, octets, samples: samples as usize, place: octets }
+        let [frames, octets, samples, tool, bit] = report.map(|number| number as usize);
+        Walk { ending, tool: tool as u32, frames, octets, samples, place: octets, bit }
     }
 
     fn listing(&self, input: &[u8]) -> Option<Vec<u8>> {

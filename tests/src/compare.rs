@@ -84,7 +84,7 @@ pub fn check_firsts(codec: &dyn Codec, firsts: &[First], compared: &mut Compared
         seen[first.octet as usize] += nexts.len();
         let alone = Ask { given: vec![first.octet], law: 1, set: 0, room: 0 };
         match first.next {
-            Some(_) => bench.read("alone", &alone, refused("SHORT", 0), &[]),
+            Some(_) => bench.read("alone", &alone, short(1), &[]),
             None => bench.first(&alone, first.settled),
         }
         for next in nexts {
@@ -99,9 +99,14 @@ pub fn check_firsts(codec: &dyn Codec, firsts: &[First], compared: &mut Compared
     }
 }
 
-/// A report of the reader with nothing in it.
+/// A report of the reader with nothing in it: PREFIX, TOOL and ROOM give bit 0.
 fn refused(name: &str, tool: u32) -> Read {
-    Read { ending: ending(name).expect("a name of document 01"), tool, samples: 0, octets: 0, bits: 0 }
+    Read { ending: ending(name).expect("a name of document 01"), tool, samples: 0, octets: 0, bits: 0, bit: 0 }
+}
+
+/// SHORT of so many octets: it gives the first missing bit.
+fn short(octets: usize) -> Read {
+    Read { bit: 8 * octets, ..refused("SHORT", 0) }
 }
 
 /// Whether the body of a tool's frame has samples as they are: uncompressed and constant.
@@ -189,7 +194,7 @@ impl Bench<'_> {
         self.compared.faults.push(format!("{} ({what}, {}): {fault}", self.name, self.codec.name()));
     }
 
-    /// Of an accepted frame every cut is SHORT, what follows changes nothing, N - 1 octets of room are too few, the
+    /// Of an accepted frame every cut is SHORT at the cut, what follows changes nothing, N - 1 octets of room are too few, the
     /// set needs its tool, a walk over its octets has one frame, and under the other law it has the same signed
     /// numbers (tools 1 and 4: the same samples). A refusal that is not SHORT stands whatever follows and under
     /// either law, and a walk that starts there is refused in the same words at place 0.
@@ -207,17 +212,18 @@ impl Bench<'_> {
             return;
         }
         if wanted.ending != 0 {
-            let walk = Walk { ending: wanted.ending, tool: wanted.tool, frames: 0, octets: 0, samples: 0, place: 0 };
+            let Read { ending, tool, bit, .. } = wanted;
+            let walk = Walk { ending, tool, frames: 0, octets: 0, samples: 0, place: 0, bit };
             self.walk("as a walk", ask, walk, &[]);
             return;
         }
         let used = wanted.octets;
         for cut in 0..used {
             let ask = Ask { given: ask.given[..cut].to_vec(), ..ask.clone() };
-            self.read(&format!("cut to {cut} octets"), &ask, refused("SHORT", 0), &[]);
+            self.read(&format!("cut to {cut} octets"), &ask, short(cut), &[]);
         }
         let alone = Ask { given: ask.given[..used].to_vec(), ..ask.clone() };
-        let walk = Walk { ending: 0, tool: 0, frames: 1, octets: used, samples: samples.len(), place: used };
+        let walk = Walk { ending: 0, tool: 0, frames: 1, octets: used, samples: samples.len(), place: used, bit: 0 };
         self.walk("as a walk", &alone, walk, samples);
         if wanted.tool > 0 {
             self.read("in less room", &Ask { room: samples.len() - 1, ..ask.clone() }, refused("ROOM", 0), &[]);
@@ -240,8 +246,8 @@ impl Bench<'_> {
             return;
         }
         let back = Ask { given: octets.to_vec(), room: ask.given.len(), ..ask.clone() };
-        let read =
-            Read { ending: 0, tool: wanted.tool, samples: ask.given.len(), octets: octets.len(), bits: wanted.bits };
+        let (samples, octets_used) = (ask.given.len(), octets.len());
+        let read = Read { ending: 0, tool: wanted.tool, samples, octets: octets_used, bits: wanted.bits, bit: 0 };
         self.read("read back", &back, read, &ask.given);
         self.beside_read(&back, read, &ask.given);
         self.write("in just room", &Ask { room: octets.len(), ..ask.clone() }, wanted, octets);
@@ -252,7 +258,7 @@ impl Bench<'_> {
 
     /// With set 0 a first octet shows its tool, and with set 127 a carried one shows its length by ROOM.
     fn first(&mut self, ask: &Ask, settled: Settled) {
-        let empty = Read { ending: 0, tool: 0, samples: 0, octets: 1, bits: 8 };
+        let empty = Read { ending: 0, tool: 0, samples: 0, octets: 1, bits: 8, bit: 0 };
         match settled {
             Settled::Carried { tool: 0, .. } => self.read("as a pad", ask, empty, &[]),
             Settled::Unassigned => self.read("unassigned", ask, refused("PREFIX", 0), &[]),

@@ -15,7 +15,12 @@ pub struct Faulty {
     pub place: String,
     /// How many bits must be there for the refusal.
     pub judged: usize,
+    /// The bit that the refusal gives (document 02, R-7).
+    pub bit: usize,
 }
+
+/// Octets, how many of their bits must be there for the refusal, and the bit that it gives.
+type Made = (Vec<u8>, usize, usize);
 
 impl Faulty {
     /// The octets that must be there for the refusal; with fewer it is SHORT.
@@ -124,24 +129,24 @@ impl Fault {
             | Fault::NoneLeft(value)
             | Fault::OneLeft(value) => self.in_value(length, value - 1, rng),
         };
-        let (mut octets, judged) = made?;
+        let (mut octets, judged, bit) = made?;
         let more = rng.below(6);
         octets.extend(rng.octets(more));
-        Some(Faulty { octets, length, refusal: self.refusal(), place: self.place(), judged })
+        Some(Faulty { octets, length, refusal: self.refusal(), place: self.place(), judged, bit })
     }
 
-    fn rice_run(self, length: usize, rng: &mut Prng) -> Option<(Vec<u8>, usize)> {
+    fn rice_run(self, length: usize, rng: &mut Prng) -> Option<Made> {
         let s = 1 + rng.below(s_codes(length).len());
         let mut bits = rice_start(length, rng.flip(), s);
         let left = runs_before(&mut bits, s, length, rng);
         match self {
-            Fault::RiceZeros => bits.zeros(length + 1),
+            Fault::RiceZeros => endless(&mut bits, length),
             _ => too_long(&mut bits, s, left, length, rng)?,
         }
         Some(with_any_filling(&bits, rng))
     }
 
-    fn in_value(self, length: usize, index: usize, rng: &mut Prng) -> Option<(Vec<u8>, usize)> {
+    fn in_value(self, length: usize, index: usize, rng: &mut Prng) -> Option<Made> {
         let able: Vec<_> = rows(length).iter().filter(|row| row.values.len() > index).collect();
         let row = **able.get(rng.below(able.len().max(1)))?;
         let mut located = match self {
@@ -160,7 +165,7 @@ impl Fault {
             Fault::ValueZeros(_) => {
                 located.method(index, s);
                 runs_before(&mut located.bits, s, left, rng);
-                located.bits.zeros(length + 1);
+                endless(&mut located.bits, length);
             }
             Fault::ValueLong(_) => {
                 located.method(index, s);
@@ -175,30 +180,39 @@ impl Fault {
     }
 }
 
-/// The octets of bits that end at a fault, the rest of the last octet being anything, and the number of bits.
-fn with_any_filling(bits: &Bits, rng: &mut Prng) -> (Vec<u8>, usize) {
+/// A run's code of N + 1 zeros.
+fn endless(bits: &mut Bits, length: usize) {
+    bits.field(Field::Zeros(9));
+    bits.zeros(length + 1);
+}
+
+/// The octets of bits that end at a fault, the rest of the last octet being anything. The refusal gives the first bit of
+/// what is at fault: the run's code, the listed place, the range case or the method.
+fn with_any_filling(bits: &Bits, rng: &mut Prng) -> Made {
     let judged = bits.len();
     let mut octets = bits.octets();
     if judged % 8 != 0 {
         *octets.last_mut().expect("there are bits") |= rng.octet() >> (judged % 8);
     }
-    (octets, judged)
+    (octets, judged, bits.last_start())
 }
 
-/// A good form with one filling bit or more set, if it has any.
-fn filling(form: &Form, rng: &mut Prng) -> Option<(Vec<u8>, usize)> {
+/// A good form with one filling bit or more set, if it has any; the refusal gives the first of them.
+fn filling(form: &Form, rng: &mut Prng) -> Option<Made> {
     let judged = form.bits.len();
     let room = (8 - judged % 8) % 8;
     if room == 0 {
         return None;
     }
     let mut octets = form.octets();
-    *octets.last_mut()? |= 1 + rng.below((1 << room) - 1) as u8;
-    Some((octets, judged))
+    let set = 1 + rng.below((1 << room) - 1) as u8;
+    *octets.last_mut()? |= set;
+    let bit = 8 * (octets.len() - 1) + set.leading_zeros() as usize;
+    Some((octets, judged, bit))
 }
 
 /// A range case, flag and length that no row has; all that follows is anything.
-fn wrong_case(length: usize, rng: &mut Prng) -> (Vec<u8>, usize) {
+fn wrong_case(length: usize, rng: &mut Prng) -> Made {
     loop {
         let (case, flag) = (rng.below(4), rng.below(2));
         if !rows(length).iter().any(|row| (row.case, row.flag) == (case, flag)) {

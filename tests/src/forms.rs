@@ -87,6 +87,11 @@ impl Bits {
         self.fields[after - 1].1
     }
 
+    /// Where the last run's code, range case, method or listed place starts: the bit that a refusal there gives.
+    pub fn last_start(&self) -> usize {
+        self.fields.iter().rev().find(|(_, field)| *field != Field::Low).expect("a form has a prefix").0
+    }
+
     /// Whole octets, the last one filled with 0 bits.
     pub fn octets(&self) -> Vec<u8> {
         let octet = |bits: &[bool]| (0..8).fold(0, |sum, at| sum << 1 | u8::from(bits.get(at) == Some(&true)));

@@ -14,28 +14,32 @@ pub const USAGE: u32 = 64;
 pub const DIFFERS: u32 = 65;
 pub const FILES: u32 = 74;
 
-/// The last line: `stop=N at=P tool=T`.
+/// The last line: `stop=N at=P tool=T`, and of `unpack` ` bit=B` behind it.
 #[derive(Clone, Copy, Debug, PartialEq, Eq)]
 pub struct Stop {
     pub number: u32,
     pub at: usize,
     pub tool: u32,
+    pub bit: usize,
 }
 
 impl Stop {
+    /// One that finds no fault with a bit.
     pub fn new(number: u32, at: usize, tool: u32) -> Stop {
-        Stop { number, at, tool }
+        Stop { number, at, tool, bit: 0 }
     }
 
-    /// A line that is just this.
-    fn of(text: &str) -> Option<Stop> {
+    /// A line that is just this, with a bit or without.
+    fn of(text: &str, has_bit: bool) -> Option<Stop> {
         let mut fields = text.split(' ');
-        let stop = Stop {
-            number: fields.next()?.strip_prefix("stop=")?.parse().ok()?,
-            at: fields.next()?.strip_prefix("at=")?.parse().ok()?,
-            tool: fields.next()?.strip_prefix("tool=")?.parse().ok()?,
+        let mut number = |name: &str| fields.next()?.strip_prefix(name)?.parse::<usize>().ok();
+        let (stop, at, tool) = (number("stop=")?, number("at=")?, number("tool=")?);
+        let (bit, last) = match has_bit {
+            true => number("bit=").map(|bit| (bit, format!(" bit={bit}")))?,
+            false => (0, String::new()),
         };
-        (text == format!("stop={} at={} tool={}", stop.number, stop.at, stop.tool)).then_some(stop)
+        let whole = text == format!("stop={stop} at={at} tool={tool}{last}");
+        whole.then_some(Stop { number: stop as u32, at, tool: tool as u32, bit })
     }
 }
 
@@ -51,7 +55,8 @@ impl Ran {
     pub fn stop(&self) -> Stop {
         let last = self.err.lines().last().unwrap_or("");
         let whole = self.err.ends_with('\n');
-        Stop::of(last).filter(|_| whole).unwrap_or_else(|| panic!("{}: no last line\n{}", self.line, self.err))
+        let has_bit = self.line.starts_with("unpack");
+        Stop::of(last, has_bit).filter(|_| whole).unwrap_or_else(|| panic!("{}: no last line\n{}", self.line, self.err))
     }
 
     /// A number that a line before the last says.
@@ -203,7 +208,8 @@ pub fn unpack_wanted(stream: &[u8], law: u32, set: u32) -> UnpackWanted {
     let mut sound = vec![0; 320 * stream.len().min(MOST)];
     let got = Second.walk(stream, law, set, &mut sound);
     sound.truncate(got.samples);
-    UnpackWanted { stop: Stop::new(got.ending, got.place, got.tool), frames: got.frames, sound }
+    let stop = Stop { number: got.ending, at: got.place, tool: got.tool, bit: got.bit };
+    UnpackWanted { stop, frames: got.frames, sound }
 }
 
 /// What `unpack -c` should say: where the sound and the master part, if that is in the frames kept; else how the stream

@@ -128,18 +128,31 @@ fn vector(words: &mut Words) -> Result<Vector, String> {
             let out = wanted.octets("samples")?.unwrap_or_default();
             let octets = wanted.number("used", 0)? as usize;
             let bits = wanted.number("bits", 0)? as usize;
-            Call::Read(ask, Read { ending: ended, tool, samples: out.len(), octets, bits }, out)
+            let bit = named_bit(ended, &mut wanted)?;
+            Call::Read(ask, Read { ending: ended, tool, samples: out.len(), octets, bits, bit }, out)
         }
         _ => {
             let out = wanted.octets("samples")?.unwrap_or_default();
             let frames = wanted.number("frames", 0)? as usize;
             let octets = wanted.number("used", 0)? as usize;
             let place = wanted.number("place", 0)? as usize;
-            Call::Walk(ask, Walk { ending: ended, tool, frames, octets, samples: out.len(), place }, out)
+            let bit = named_bit(ended, &mut wanted)?;
+            Call::Walk(ask, Walk { ending: ended, tool, frames, octets, samples: out.len(), place, bit }, out)
         }
     };
     wanted.end()?;
     Ok(Vector { name, call })
+}
+
+/// The bit that a refusal gives: it must stand beside those from 1 to 9, and beside no other ending, where it is 0.
+fn named_bit(ended: u32, wanted: &mut Fields) -> Result<usize, String> {
+    let gives = (1..=9).contains(&ended);
+    match wanted.take("bit") {
+        Some(bit) if gives => bit.parse().map_err(|_| format!("bit={bit} is no number")),
+        None if !gives => Ok(0),
+        Some(_) => Err("this ending gives no bit".into()),
+        None => Err("this ending gives a bit".into()),
+    }
 }
 
 fn first(words: &mut Words) -> Result<Vec<First>, String> {
@@ -222,16 +235,20 @@ mod tests {
         assert_eq!(vectors("# nothing\n\n").unwrap().len(), 0);
         for wrong in [
             "read P1 octets=41",
+            "read P1 octets=41 -> SHORT",
+            "read P1 octets=41 -> LAW bit=0",
+            "read P1 octets=41 -> PREFIX",
+            "read P1 octets=41 -> SHORT bit=x",
             "read P1 octets=41 -> fine",
-            "read P1 -> SHORT",
-            "rede P1 octets=41 -> SHORT",
-            "read P1 octets=41 rom=3 -> SHORT",
-            "read P1 octets=41 room=3 room=4 -> SHORT",
-            "read P1 octets=41 -> SHORT use=1",
-            "read P1 octets=41 law=4294967296 -> SHORT",
-            "read P1 octets=41 as=01000000 -> SHORT",
-            "read P1 octets=41 -> SHORT\nread P1 octets=42 -> SHORT",
-            "list P1 octets=41 -> SHORT",
+            "read P1 -> SHORT bit=8",
+            "rede P1 octets=41 -> SHORT bit=8",
+            "read P1 octets=41 rom=3 -> SHORT bit=8",
+            "read P1 octets=41 room=3 room=4 -> SHORT bit=8",
+            "read P1 octets=41 -> SHORT bit=8 use=1",
+            "read P1 octets=41 law=4294967296 -> SHORT bit=8",
+            "read P1 octets=41 as=01000000 -> SHORT bit=8",
+            "read P1 octets=41 -> SHORT bit=8\nread P1 octets=42 -> SHORT bit=8",
+            "list P1 octets=41 -> SHORT bit=8",
         ] {
             assert!(vectors(wrong).is_err(), "{wrong}");
         }

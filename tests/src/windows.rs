@@ -155,6 +155,8 @@ struct Code {
 pub struct Asked {
     pub octets: Vec<u8>,
     pub refusal: Option<&'static str>,
+    /// The bit of the refusal: the first that is missing, or the first of the code; 0 where it accepts.
+    pub bit: usize,
     pub samples: Vec<u8>,
     pub bits: usize,
 }
@@ -165,14 +167,14 @@ pub fn draw(tool: u32, start: usize, zeros: Zeros, cut: Cut, law: u32, rng: &mut
     let code = code(tool, length, zeros.of(length)?, start, rng)?;
     let octets = code.cut(cut, rng)?;
     let there = code.judged <= 8 * octets.len();
-    let refusal = match (&code.numbers, there) {
-        (_, false) => Some("SHORT"),
-        (None, true) => Some("RUN"),
-        (Some(_), true) => None,
+    let (refusal, bit) = match (&code.numbers, there) {
+        (_, false) => (Some("SHORT"), 8 * octets.len()),
+        (None, true) => (Some("RUN"), code.start),
+        (Some(_), true) => (None, 0),
     };
     let numbers = code.numbers.filter(|_| refusal.is_none()).unwrap_or_default();
     let samples = numbers.iter().map(|number| sample_of(*number, law)).collect();
-    Some(Asked { octets, refusal, samples, bits: code.judged })
+    Some(Asked { octets, refusal, bit, samples, bits: code.judged })
 }
 
 impl Code {

@@ -17,12 +17,14 @@ fn read_whole_and_cut(pair: &mut Pair, form: &Form, law: u32, rng: &mut Prng) {
     let more = rng.below(4);
     let ask = Ask { given: [&octets[..], &rng.octets(more)].concat(), law, set: 64, room: form.length() };
     let got = pair.read(&ask);
-    if (got.ending, got.bits, got.octets) != (0, form.bits.len(), octets.len()) || pair.output() != form.samples {
+    if (got.ending, got.bits, got.octets, got.bit) != (0, form.bits.len(), octets.len(), 0)
+        || pair.output() != form.samples
+    {
         pair.differ("made", &ask, &format!("{got:?}"));
     }
     let cut = Ask { given: octets[..rng.below(octets.len())].to_vec(), ..ask };
     let got = pair.read(&cut);
-    if got.ending != ending("SHORT").unwrap() {
+    if (got.ending, got.bit) != (ending("SHORT").unwrap(), 8 * cut.given.len()) {
         pair.differ("cut", &cut, &format!("{got:?}"));
     }
 }

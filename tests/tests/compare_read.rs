@@ -26,7 +26,16 @@ fn ask(given: Vec<u8>) -> Ask {
 }
 
 fn refused(name: &str, tool: u32) -> Read {
-    Read { ending: ending(name).unwrap(), tool, samples: 0, octets: 0, bits: 0 }
+    refused_at(name, tool, 0)
+}
+
+fn refused_at(name: &str, tool: u32, bit: usize) -> Read {
+    Read { ending: ending(name).unwrap(), tool, samples: 0, octets: 0, bits: 0, bit }
+}
+
+/// SHORT gives the first missing bit.
+fn short(octets: &[u8]) -> Read {
+    refused_at("SHORT", 0, 8 * octets.len())
 }
 
 /// Reads on both, and holds the answer against the one the frame was made for.
@@ -41,7 +50,7 @@ fn read_as(pair: &mut Pair, ask: &Ask, wanted: Read, samples: &[u8]) {
 
 fn accepted(form: &Form) -> Read {
     let bits = form.bits.len();
-    Read { ending: 0, tool: form.tool, samples: form.length(), octets: bits.div_ceil(8), bits }
+    Read { ending: 0, tool: form.tool, samples: form.length(), octets: bits.div_ceil(8), bits, bit: 0 }
 }
 
 /// The endings of many calls, as one line.
@@ -138,12 +147,12 @@ fn refused_in_the_body() {
                 let Some(made) = fault.make(length, &mut rng) else { continue };
                 let mut ask = ask(made.octets.clone());
                 ask.law = rng.below(2) as u32;
-                read_as(&mut pair, &ask, refused(made.refusal, 0), &[]);
+                read_as(&mut pair, &ask, refused_at(made.refusal, 0, made.bit), &[]);
                 table.add(name(fault), length);
                 ask.given.truncate(made.needed());
-                read_as(&mut pair, &ask, refused(made.refusal, 0), &[]);
+                read_as(&mut pair, &ask, refused_at(made.refusal, 0, made.bit), &[]);
                 ask.given.truncate(made.needed() - 1);
-                read_as(&mut pair, &ask, refused("SHORT", 0), &[]);
+                read_as(&mut pair, &ask, short(&ask.given), &[]);
             }
         }
     }
@@ -194,7 +203,8 @@ fn cut_everywhere(pair: &mut Pair, form: &Form, law: u32, table: &mut Table, rng
     }
     for (place, cuts) in cuts {
         let given = octets[..*rng.pick(&cuts)].to_vec();
-        read_as(pair, &Ask { law, ..ask(given) }, refused("SHORT", 0), &[]);
+        let wanted = short(&given);
+        read_as(pair, &Ask { law, ..ask(given) }, wanted, &[]);
         table.add(place, form.length());
     }
 }
@@ -228,7 +238,7 @@ fn refused_before_the_body() {
         check("SHORT no octets", Ask { given: vec![], set, room: rng.below(400), ..good.clone() }, refused("SHORT", 0));
         let undecided = vec![*rng.pick(&[0x28, 0x2A, 0x38, 0x3A])];
         let room = rng.below(400);
-        check("SHORT second octet", Ask { given: undecided, set, room, ..good.clone() }, refused("SHORT", 0));
+        check("SHORT second octet", Ask { given: undecided, set, room, ..good.clone() }, refused_at("SHORT", 0, 8));
         for octet in &unassigned {
             let given = [&[*octet], &behind[..]].concat();
             check(&format!("PREFIX {octet:02X}"), Ask { given, set, room, ..good.clone() }, refused("PREFIX", 0));

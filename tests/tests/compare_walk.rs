@@ -75,7 +75,7 @@ fn accepted_streams() {
                 });
                 let (octets, frames) = (stream.octets.len(), stream.forms.len());
                 let samples = stream.samples();
-                let wanted = Walk { ending: 0, tool: 0, frames, octets, samples, place: octets };
+                let wanted = Walk { ending: 0, tool: 0, frames, octets, samples, place: octets, bit: 0 };
                 walk_as(&mut pair, &ask(stream.octets, law, samples + rng.below(3)), wanted);
                 if pair.output() != stream.forms.iter().flat_map(|form| form.samples.clone()).collect::<Vec<_>>() {
                     let said = ask(vec![], law, samples);
@@ -137,14 +137,14 @@ fn refused_streams() {
         let (law, name) = (turn as u32 % 2, REFUSALS[turn / 2 % REFUSALS.len()]);
         let most = if rng.flip() { 0 } else { 1 + rng.below(1_500) };
         let good = Stream::mixed(most, law, &mut rng);
-        let Some(bad) = refused_octets(name, law, &mut rng) else { continue };
+        let Some((bad, bit)) = refused_octets(name, law, &mut rng) else { continue };
         let mut room = good.samples() + 700;
         if name == "ROOM" {
             room = good.samples() + rng.below(40);
         }
         let got = pair.walk(&ask([&good.octets[..], &bad].concat(), law, room));
-        let kept = (got.frames, got.octets, got.place, got.samples);
-        let made = (good.forms.len(), good.octets.len(), good.octets.len(), good.samples());
+        let kept = (got.frames, got.octets, got.place, got.samples, got.bit);
+        let made = (good.forms.len(), good.octets.len(), good.octets.len(), good.samples(), bit);
         if got.ending != ending(name).unwrap() || kept != made {
             pair.differ("made", &ask(bad, law, room), &format!("{got:?}, made for {name} after {made:?}"));
         }
@@ -157,22 +157,23 @@ fn refused_streams() {
 /// What refuses a frame of a walk.
 const REFUSALS: [&str; 9] = ["SHORT", "PREFIX", "TOOL", "ROOM", "CASE", "METHOD", "RUN", "PLACE", "ALIGN"];
 
-/// A frame with this refusal, to stand at a stream's end, if the numbers drawn allow one.
-fn refused_octets(name: &str, law: u32, rng: &mut Prng) -> Option<Vec<u8>> {
+/// A frame with this refusal, to stand at a stream's end, and the bit that it gives, if the numbers drawn allow one.
+fn refused_octets(name: &str, law: u32, rng: &mut Prng) -> Option<(Vec<u8>, usize)> {
     match name {
-        "PREFIX" => Some(vec![*rng.pick(&[0x01, 0x46, 0x85, 0xC7, 0x8A]), rng.octet()]),
-        "TOOL" => Some(vec![*rng.pick(&[0x02, 0x1F, 0x45, 0x48, 0x60, 0xC8, 0xFF, 0x50, 0x91]), rng.octet()]),
+        "PREFIX" => Some((vec![*rng.pick(&[0x01, 0x46, 0x85, 0xC7, 0x8A]), rng.octet()], 0)),
+        "TOOL" => Some((vec![*rng.pick(&[0x02, 0x1F, 0x45, 0x48, 0x60, 0xC8, 0xFF, 0x50, 0x91]), rng.octet()], 0)),
         "SHORT" => {
             let mut octets = some_form(law, rng).octets();
             octets.pop();
-            (!octets.is_empty()).then_some(octets)
+            let bit = 8 * octets.len();
+            (!octets.is_empty()).then_some((octets, bit))
         }
-        "ROOM" => Some(vec![*rng.pick(&[0x41, 0x40, 0x86, 0x31, 0x56]), 0x0F]),
+        "ROOM" => Some((vec![*rng.pick(&[0x41, 0x40, 0x86, 0x31, 0x56]), 0x0F], 0)),
         _ => {
             let faults: Vec<_> = faults::all().into_iter().filter(|fault| fault.refusal() == name).collect();
             let (fault, length) = (*rng.pick(&faults), *rng.pick(&LENGTHS));
             let made = fault.possible(length).then(|| fault.make(length, rng)).flatten()?;
-            Some(made.octets)
+            Some((made.octets, made.bit))
         }
     }
 }
@@ -212,8 +213,15 @@ fn refused_before_any_frame() {
         let good = ask(Stream::mixed(most, 1, &mut rng).octets, 1, 3_000);
         let mut too_long = long.clone();
         too_long.resize(MOST + 1 + rng.below(3), 0x41);
-        let refused =
-            |name: &str| Walk { ending: ending(name).unwrap(), tool: 0, frames: 0, octets: 0, samples: 0, place: 0 };
+        let refused = |name: &str| Walk {
+            ending: ending(name).unwrap(),
+            tool: 0,
+            frames: 0,
+            octets: 0,
+            samples: 0,
+            place: 0,
+            bit: 0,
+        };
         let given = if turn % 8 == 0 { too_long.clone() } else { good.given.clone() };
         let set = *rng.pick(&[127, 128, u32::MAX]);
         let law = *rng.pick(&[2, 3, 0x8000_0000, u32::MAX]);

@@ -18,10 +18,10 @@ fn row(start: usize, zeros: Zeros) -> String {
 
 /// Reads on both, and holds the answer against the one that the code was made for.
 fn read_as(pair: &mut Pair, tool: u32, asked: Asked, law: u32) {
-    let Asked { octets, refusal, samples, bits } = asked;
+    let Asked { octets, refusal, bit, samples, bits } = asked;
     let wanted = match refusal {
-        Some(name) => Read { ending: ending(name).unwrap(), tool: 0, samples: 0, octets: 0, bits: 0 },
-        None => Read { ending: 0, tool, samples: samples.len(), octets: bits.div_ceil(8), bits },
+        Some(name) => Read { ending: ending(name).unwrap(), tool: 0, samples: 0, octets: 0, bits: 0, bit },
+        None => Read { ending: 0, tool, samples: samples.len(), octets: bits.div_ceil(8), bits, bit },
     };
     let ask = Ask { given: octets, law, set: 127, room: 320 };
     let got = pair.read(&ask);

@@ -42,7 +42,8 @@ fn write_and_read_back(pair: &mut Pair, frame: &[u8], law: u32, set: u32) -> (Wr
     write_as(pair, &Ask { room: wrote.octets.saturating_sub(1), ..ask.clone() }, refused("ROOM"));
     let back = Ask { given: form.clone(), law, set, room: frame.len() };
     let read = pair.read(&back);
-    let wanted = Read { ending: 0, tool: wrote.tool, samples: frame.len(), octets: wrote.octets, bits: wrote.bits };
+    let Write { tool, octets, bits, .. } = wrote;
+    let wanted = Read { ending: 0, tool, samples: frame.len(), octets, bits, bit: 0 };
     if read != wanted || pair.output() != frame {
         pair.differ("read back", &back, &format!("{read:?}, wanted {wanted:?}"));
     }

@@ -24,12 +24,12 @@ fn as_many_octets_as_a_stream_may_have() {
     for at in 0..65_535 {
         writeln!(wanted, "frame={at} at={at} samples=0 tool=0 octets=1 bits=8").unwrap();
     }
-    wanted += "stop=0 at=65535 tool=0\nsamples=0\n";
+    wanted += "stop=0 at=65535 tool=0 bit=0\nsamples=0\n";
     let mut input = vec![0x00; 65_536];
     input[0] = b'A';
     assert!(listed(&input) == wanted, "65,535 pads");
     input.push(0x00);
-    assert_eq!(listed(&input), "stop=13 at=0 tool=0\n");
+    assert_eq!(listed(&input), "stop=13 at=0 tool=0 bit=0\n");
 }
 
 /// The greatest number of samples: 65,535 octets of 31, 320 plus zeros each. Room is never short.
@@ -39,7 +39,7 @@ fn as_many_samples_as_a_stream_may_have() {
     for at in 0..65_535 {
         writeln!(wanted, "frame={at} at={at} samples=320 tool=2 octets=1 bits=8").unwrap();
     }
-    wanted += "stop=0 at=65535 tool=0\nsamples=20971200\n";
+    wanted += "stop=0 at=65535 tool=0 bit=0\nsamples=20971200\n";
     let mut input = vec![0x31; 65_536];
     input[0] = b'M';
     assert!(listed(&input) == wanted, "65,535 frames of 320 samples");
@@ -53,11 +53,13 @@ fn a_frame_at_the_very_end() {
     input[65_534] = 0x56;
     input[65_535] = 0x0F;
     let text = listed(&input);
-    assert!(text
-        .ends_with("\nframe=65533 at=65533 samples=40 tool=6 octets=2 bits=16\nstop=0 at=65535 tool=0\nsamples=40\n"));
+    assert!(text.ends_with(
+        "\nframe=65533 at=65533 samples=40 tool=6 octets=2 bits=16\nstop=0 at=65535 tool=0 bit=0\nsamples=40\n"
+    ));
     input[65_535] = 0x28;
     input[65_534] = 0x41;
     let text = listed(&input);
-    assert!(text
-        .ends_with("\nframe=65533 at=65533 samples=40 tool=2 octets=1 bits=8\nstop=1 at=65534 tool=0\nsamples=40\n"));
+    assert!(text.ends_with(
+        "\nframe=65533 at=65533 samples=40 tool=2 octets=1 bits=8\nstop=1 at=65534 tool=0 bit=8\nsamples=40\n"
+    ));
 }

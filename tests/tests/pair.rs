@@ -14,6 +14,7 @@ impl Codec for Wrong {
         let mut got = Second.read(octets, law, set, out);
         match self.0 {
             "another tool" => got.tool ^= 1,
+            "another bit" => got.bit ^= 1,
             "another sample" if got.samples > 0 => out[got.samples - 1] ^= 1,
             "an octet past the samples" if got.samples < out.len() => out[got.samples] ^= 1,
             "the last octet" if got.samples < out.len() => out[out.len() - 1] ^= 1,
@@ -35,6 +36,7 @@ impl Codec for Wrong {
         let got = Second.walk(octets, law, set, out);
         match self.0 {
             "the place" if got.ending != 0 => Walk { place: octets.len(), ..got },
+            "a walk's bit" => Walk { bit: got.bit + 1, ..got },
             _ => got,
         }
     }
@@ -58,6 +60,8 @@ fn differences(one: &dyn Codec, other: &dyn Codec) -> usize {
 fn each_difference_is_found() {
     for way in [
         "another tool",
+        "another bit",
+        "a walk's bit",
         "another sample",
         "an octet past the samples",
         "the last octet",

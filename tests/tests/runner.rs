@@ -15,7 +15,7 @@ impl Codec for Spoilt {
         match self.0 {
             "refuses everything" => {
                 out.fill(0);
-                return Read { ending: 1, tool: 0, samples: 0, octets: 0, bits: 0 };
+                return Read { ending: 1, tool: 0, samples: 0, octets: 0, bits: 0, bit: 8 * octets.len() };
             }
             "answers P1 always" => return Second.read(&[0x41], law, set, out),
             "counts filling bits" => got.bits = got.octets * 8,
@@ -27,6 +27,11 @@ impl Codec for Spoilt {
             "forgets the last sample" if got.samples > 0 => out[got.samples - 1] ^= 0x80,
             "needs no filling bits to be 0" if got.ending == 9 => return Read { ending: 0, ..got },
             "calls a cut frame RUN" if got.ending == 1 && octets.len() > 1 => got.ending = 7,
+            "gives no bit" => got.bit = 0,
+            "gives the last bit that is there" if got.ending == 1 => got.bit = got.bit.saturating_sub(1),
+            "gives a bit of what is accepted" if got.ending == 0 => got.bit = got.bits,
+            "gives the next bit for RUN" if got.ending == 7 => got.bit += 1,
+            "gives the octet's last bit for ALIGN" if got.ending == 9 => got.bit |= 7,
             _ => {}
         }
         got
@@ -55,6 +60,7 @@ impl Codec for Spoilt {
             "keeps nothing when it refuses" if got.ending != 0 => {
                 return Walk { frames: 0, octets: 0, samples: 0, place: 0, ..got };
             }
+            "counts the bit from the stream's start" if got.ending != 0 => got.bit += 8 * got.place,
             "reads its first frame and counts the rest" if got.samples > 40 => out[40..got.samples].fill(0xA7),
             _ => {}
         }
@@ -99,6 +105,12 @@ fn every_spoilt_back_end_is_found_out() {
         "forgets the last sample",
         "needs no filling bits to be 0",
         "calls a cut frame RUN",
+        "gives no bit",
+        "gives the last bit that is there",
+        "gives a bit of what is accepted",
+        "gives the next bit for RUN",
+        "gives the octet's last bit for ALIGN",
+        "counts the bit from the stream's start",
         "writes tool 1 always",
         "writes nothing",
         "writes past its octets",

@@ -66,7 +66,7 @@ fn lists(law: u32, stream: &[u8], frames: usize, samples: usize) {
     same("listing", &text, &Second.listing(&input).unwrap());
     let text = String::from_utf8(text).unwrap();
     assert_eq!(text.lines().filter(|line| line.starts_with("frame=")).count(), frames);
-    assert!(text.ends_with(&format!("\nstop=0 at={} tool=0\nsamples={samples}\n", stream.len())), "{text}");
+    assert!(text.ends_with(&format!("\nstop=0 at={} tool=0 bit=0\nsamples={samples}\n", stream.len())), "{text}");
 }
 
 /// Sounds of every multiple of 40 to 1,000 samples, so that the end is split in every way, through the standard streams.

@@ -117,6 +117,22 @@ impl fmt::Display for Refusal {
 
 impl std::error::Error for Refusal {}
 
+/// Why a frame was refused, and which bit was bad: counted from 0 at the frame's start, the first missing one for SHORT.
+/// It is 0 for PREFIX, TOOL, ROOM and for what no frame can be blamed for.
+#[derive(Clone, Copy, Debug, PartialEq, Eq)]
+pub struct Refused {
+    pub why: Refusal,
+    pub bit: usize,
+}
+
+impl fmt::Display for Refused {
+    fn fmt(&self, f: &mut fmt::Formatter) -> fmt::Result {
+        write!(f, "{}, at bit {}", self.why, self.bit)
+    }
+}
+
+impl std::error::Error for Refused {}
+
 /// A frame that was read; its samples stand at the start of the output.
 #[derive(Clone, Copy, Debug, PartialEq, Eq)]
 pub struct Read {
@@ -142,17 +158,17 @@ pub struct Walk {
     pub octets: usize,
     pub samples: usize,
     /// What ended the walk before the stream's end.
-    pub refused: Option<Refusal>,
+    pub refused: Option<Refused>,
 }
 
 /// Reads one frame at the start of the octets. What is refused leaves the output as it was.
-pub fn read(octets: &[u8], law: Law, set: u32, out: &mut [u8]) -> Result<Read, Refusal> {
-    let mut report = [0; 4];
+pub fn read(octets: &[u8], law: Law, set: u32, out: &mut [u8]) -> Result<Read, Refused> {
+    let mut report = [0; 5];
     let ending = raw::read(octets, law.number(), set, out, &mut report);
-    let [samples, octets, bits, tool] = report;
+    let [samples, octets, bits, tool, bit] = report;
     match ending {
         0 => Ok(Read { samples: samples as usize, octets: octets as usize, bits: bits as usize, tool: tool as u32 }),
-        _ => Err(Refusal::of(ending, tool)),
+        _ => Err(Refused { why: Refusal::of(ending, tool), bit: bit as usize }),
     }
 }
 
@@ -170,9 +186,9 @@ pub fn write(samples: &[u8], law: Law, set: u32, out: &mut [u8]) -> Result<Writt
 
 /// Walks a stream, frame after frame, to its end or to a frame that is refused.
 pub fn walk(octets: &[u8], law: Law, set: u32, out: &mut [u8]) -> Walk {
-    let mut report = [0; 4];
+    let mut report = [0; 5];
     let ending = raw::walk(octets, law.number(), set, out, &mut report);
-    let [frames, octets, samples, tool] = report;
-    let refused = (ending != 0).then(|| Refusal::of(ending, tool));
+    let [frames, octets, samples, tool, bit] = report;
+    let refused = (ending != 0).then(|| Refused { why: Refusal::of(ending, tool), bit: bit as usize });
     Walk { frames: frames as usize, octets: octets as usize, samples: samples as usize, refused }
 }

@@ -12,7 +12,7 @@ extern "C" {
         set: u32,
         out: *mut u8,
         out_len: usize,
-        report: *mut [u64; 4],
+        report: *mut [u64; 5],
     ) -> u32;
     #[cfg(feature = "writer")]
     fn g7110_write(
@@ -31,12 +31,12 @@ extern "C" {
         set: u32,
         out: *mut u8,
         out_len: usize,
-        report: *mut [u64; 4],
+        report: *mut [u64; 5],
     ) -> u32;
 }
 
-/// The ending; the report is samples, octets, bits and tool.
-pub fn read(octets: &[u8], law: u32, set: u32, out: &mut [u8], report: &mut [u64; 4]) -> u32 {
+/// The ending; the report is samples, octets, bits, tool and the refusal's bit.
+pub fn read(octets: &[u8], law: u32, set: u32, out: &mut [u8], report: &mut [u64; 5]) -> u32 {
     // SAFETY: both slices and the report are live for the call, and the borrows keep them apart.
     unsafe { g7110_read(octets.as_ptr(), octets.len(), law, set, out.as_mut_ptr(), out.len(), report) }
 }
@@ -48,8 +48,8 @@ pub fn write(samples: &[u8], law: u32, set: u32, out: &mut [u8], report: &mut [u
     unsafe { g7110_write(samples.as_ptr(), samples.len(), law, set, out.as_mut_ptr(), out.len(), report) }
 }
 
-/// The ending; the report is frames, octets, samples and tool.
-pub fn walk(octets: &[u8], law: u32, set: u32, out: &mut [u8], report: &mut [u64; 4]) -> u32 {
+/// The ending; the report is frames, octets, samples, tool and the refusal's bit.
+pub fn walk(octets: &[u8], law: u32, set: u32, out: &mut [u8], report: &mut [u64; 5]) -> u32 {
     // SAFETY: as in `read`.
     unsafe { g7110_walk(octets.as_ptr(), octets.len(), law, set, out.as_mut_ptr(), out.len(), report) }
 }

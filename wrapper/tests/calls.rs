@@ -2,7 +2,7 @@
 
 #![cfg(feature = "writer")]
 
-use g7110::{read, walk, write, Law, Read, Refusal, Walk, Written, ALL_TOOLS, MAX_SAMPLES, MAX_WRITTEN};
+use g7110::{read, walk, write, Law, Read, Refusal, Refused, Walk, Written, ALL_TOOLS, MAX_SAMPLES, MAX_WRITTEN};
 
 const PLUS: u8 = 0xFF;
 const MINUS: u8 = 0x7F;
@@ -42,7 +42,7 @@ fn the_law_decides_the_samples() {
 fn a_walk_keeps_what_stands_before_a_refusal() {
     let stream = [0x41, 0x00, 0x56, 0x0F, 0x86];
     let mut out = [0xA7; 160];
-    let kept = Walk { frames: 3, octets: 4, samples: 80, refused: Some(Refusal::Short) };
+    let kept = Walk { frames: 3, octets: 4, samples: 80, refused: Some(Refused { why: Refusal::Short, bit: 8 }) };
     assert_eq!(walk(&stream, Law::Mu, ALL_TOOLS, &mut out), kept);
     assert_eq!(out[..79], [PLUS; 79]);
     assert_eq!(out[79], MINUS);
@@ -51,7 +51,7 @@ fn a_walk_keeps_what_stands_before_a_refusal() {
 
 #[test]
 fn nothing_is_lent() {
-    assert_eq!(read(&[], Law::A, ALL_TOOLS, &mut []), Err(Refusal::Short));
+    assert_eq!(read(&[], Law::A, ALL_TOOLS, &mut []), Err(Refused { why: Refusal::Short, bit: 0 }));
     assert_eq!(read(&[0x00], Law::A, ALL_TOOLS, &mut []), Ok(Read { samples: 0, octets: 1, bits: 8, tool: 0 }));
     assert_eq!(write(&[], Law::A, ALL_TOOLS, &mut []), Err(Refusal::Room));
     assert_eq!(walk(&[], Law::A, 0, &mut []), Walk { frames: 0, octets: 0, samples: 0, refused: None });
@@ -60,28 +60,29 @@ fn nothing_is_lent() {
 #[test]
 fn every_refusal_has_its_number() {
     let mut out = [0xA7; 320];
-    let reads: [(&[u8], u32, Refusal); 10] = [
-        (&[0x28], 127, Refusal::Short),
-        (&[0x46], 127, Refusal::Prefix),
-        (&[0x28, 0x00], 127, Refusal::Tool(8)),
-        (&[0x41], 0, Refusal::Tool(2)),
-        (&[0x86, 0xDC], 127, Refusal::Case),
-        (&[0x86, 0xF8], 127, Refusal::Method),
-        (&[0x57, 0x19], 127, Refusal::Run),
-        (&[0x86, 0xFC, 0xFE], 127, Refusal::Place),
-        (&[0x86, 0xFC, 0x01], 127, Refusal::Align),
-        (&[0x41], 128, Refusal::Set),
+    let reads: [(&[u8], u32, Refusal, usize); 10] = [
+        (&[0x28], 127, Refusal::Short, 8),
+        (&[0x46], 127, Refusal::Prefix, 0),
+        (&[0x28, 0x00], 127, Refusal::Tool(8), 0),
+        (&[0x41], 0, Refusal::Tool(2), 0),
+        (&[0x86, 0xDC], 127, Refusal::Case, 8),
+        (&[0x86, 0xF8], 127, Refusal::Method, 11),
+        (&[0x57, 0x19], 127, Refusal::Run, 9),
+        (&[0x86, 0xFC, 0xFE], 127, Refusal::Place, 16),
+        (&[0x86, 0xFC, 0x01], 127, Refusal::Align, 23),
+        (&[0x41], 128, Refusal::Set, 0),
     ];
-    for (octets, set, refusal) in reads {
-        assert_eq!(read(octets, Law::Mu, set, &mut out), Err(refusal));
+    for (octets, set, why, bit) in reads {
+        assert_eq!(read(octets, Law::Mu, set, &mut out), Err(Refused { why, bit }));
     }
-    assert_eq!(read(&[0x31], Law::Mu, 127, &mut out[..319]), Err(Refusal::Room));
+    assert_eq!(read(&[0x31], Law::Mu, 127, &mut out[..319]), Err(Refused { why: Refusal::Room, bit: 0 }));
     assert_eq!(write(&[PLUS; 41], Law::Mu, 127, &mut out), Err(Refusal::Length));
     assert_eq!(write(&[PLUS; 40], Law::Mu, 126, &mut out), Err(Refusal::Set));
-    assert_eq!(walk(&vec![0; 65_536], Law::Mu, 127, &mut out).refused, Some(Refusal::Long));
-    let mut report = [9; 4];
+    let long = Some(Refused { why: Refusal::Long, bit: 0 });
+    assert_eq!(walk(&vec![0; 65_536], Law::Mu, 127, &mut out).refused, long);
+    let mut report = [9; 5];
     assert_eq!(g7110::raw::read(&[0x41], 2, 127, &mut out, &mut report), Refusal::Law.number());
-    assert_eq!(report, [0; 4], "a report is written in every case");
+    assert_eq!(report, [0; 5], "a report is written in every case");
     assert_eq!(out, [0xA7; 320], "a refused call leaves the output as lent");
 }
 

@@ -26,15 +26,31 @@ pub fn say_tool(packs: bool) {
     }
 }
 
-// The last line of every run: `stop=N at=P tool=T`.
-pub fn stop(number: u32, place: usize, tool: u32) {
+// The last line of a run of `pack`: `stop=N at=P tool=T`.
+fn stop_packing(number: u32, place: usize, tool: u32) {
     let mut text = [0u8; 160];
-    let n = lines::stop_line(number as usize, place, tool as usize, &mut text, 0);
+    let n = lines::pack_line(number as usize, place, tool as usize, &mut text, 0);
     io::write_all(STDERR_FILENO, &text[..n]);
 }
 
+// The last line of a run of `unpack`: `stop=N at=P tool=T bit=B`.
+fn stop_unpacking(number: u32, place: usize, tool: u32, bit: usize) {
+    let mut text = [0u8; 160];
+    let n = lines::stop_line(number as usize, place, tool as usize, bit, &mut text, 0);
+    io::write_all(STDERR_FILENO, &text[..n]);
+}
+
+// The last line of every run. A writing has no bit to name.
+pub fn stop(packs: bool, number: u32, place: usize, tool: u32, bit: usize) {
+    if packs {
+        stop_packing(number, place, tool);
+    } else {
+        stop_unpacking(number, place, tool, bit);
+    }
+}
+
 // A refusal of document 01, and the last line.
-pub fn refused(packs: bool, number: u32, place: usize, tool: u32) {
+pub fn refused(packs: bool, number: u32, place: usize, tool: u32, bit: usize) {
     let mut name = [0u8; 8];
     let n = refusals::refusal_name(number, &mut name);
     say_tool(packs);
@@ -45,7 +61,7 @@ pub fn refused(packs: bool, number: u32, place: usize, tool: u32) {
         say_number(b", tool ", tool as usize);
     }
     say(b"\n");
-    stop(number, place, tool);
+    stop(packs, number, place, tool, bit);
 }
 
 // What was done.
@@ -71,7 +87,7 @@ pub fn usage(packs: bool, why: &[u8]) {
     say(why);
     say(b"\n");
     say_usage(packs);
-    stop(64, 0, 0);
+    stop(packs, 64, 0, 0, 0);
 }
 
 // Says an argument, or its number where it is too long.
@@ -103,7 +119,7 @@ pub fn wrong_settings(s: Settings) {
     say_argument(s.place);
     say(b"\n");
     say_usage(s.packs);
-    stop(64, 0, 0);
+    stop(s.packs, 64, 0, 0, 0);
 }
 
 // One argument more.
@@ -200,7 +216,7 @@ pub fn failed(packs: bool, name: &[u8], standard: &[u8]) {
     } else {
         os::fail(name);
     }
-    stop(74, 0, 0);
+    stop(packs, 74, 0, 0, 0);
 }
 
 // How many octets were read, and whether a read failed.

@@ -9,18 +9,18 @@ use Rattle.rules.specs.Frame.{Found}
 use Rattle.rules.specs.Bits.{octetsFor, pack}
 use Rattle.rules.specs.Chooses.{Write}
 use Rattle.rules.specs.Walk.{Walked, octetsKept, samplesKept}
-use Rattle.rules.specs.Calls.{readEnd, readSamples, readOctets, readBits, readTool, writeEnd, writtenBits, writeTool, atStart}
+use Rattle.rules.specs.Calls.{readEnd, readSamples, readOctets, readBits, readTool, readBit, writeEnd, writtenBits, writeTool, atStart}
 
--- the number; samples, octets used, bits and tool; the samples at the start of the output, the rest as lent
-pub record ReadReported (found : Read Found) (out out′ four : List ℕ) (r : ℕ) : Type 0 where
+-- the number; samples, octets used, bits, tool and the refusal's bit; the samples at the start of the output, the rest as lent
+pub record ReadReported (found : Read Found) (out out′ five : List ℕ) (r : ℕ) : Type 0 where
   pub number : r ≡ numberOf (readEnd found)
-  pub report : four ≡ length (readSamples found) ∷ readOctets found ∷ readBits found ∷ readTool found ∷ []
+  pub report : five ≡ length (readSamples found) ∷ readOctets found ∷ readBits found ∷ readTool found ∷ readBit found ∷ []
   pub lent : out′ ≡ atStart (readSamples found) out
 
--- the number; frames, octets and samples kept, and the tool that is named; the samples at the start of the output, the rest as lent
-pub record WalkReported (walked : Walked) (out out′ four : List ℕ) (r : ℕ) : Type 0 where
+-- the number; frames, octets and samples kept, the tool that is named and the refusal's bit; the samples at the start of the output, the rest as lent
+pub record WalkReported (walked : Walked) (out out′ five : List ℕ) (r : ℕ) : Type 0 where
   pub number : r ≡ numberOf (walked .end)
-  pub report : four ≡ length (walked .frames) ∷ octetsKept (walked .frames) ∷ length (samplesKept (walked .frames)) ∷ toolNamed (walked .end) ∷ []
+  pub report : five ≡ length (walked .frames) ∷ octetsKept (walked .frames) ∷ length (samplesKept (walked .frames)) ∷ toolNamed (walked .end) ∷ walked .bit ∷ []
   pub lent : out′ ≡ atStart (samplesKept (walked .frames)) out
 
 -- the number; octets, bits and tool; the octets at the start of the output, the rest as lent

@@ -5,14 +5,14 @@ ghost use Rattle.rules.specs.Walk.{walkAll};
 ghost use Rattle.rules.specs.Chooses.{writeOne};
 ghost use Rattle.g7110.specs.Boundary.{ReadReported, WalkReported, WriteReported};
 
-// Reading one frame: the number, and in the report samples, octets used, bits and tool.
+// Reading one frame: the number, and in the report samples, octets used, bits, tool and the refusal's bit.
 #[no_mangle]
 pub extern "C" fn g7110_read(
     octets: &[u8],
     law: u32,
     set: u32,
     out: &mut [u8],
-    report: &mut [u64; 4],
+    report: &mut [u64; 5],
 ) -> u32
     ensures { λ r. ⌜ ReadReported (readOne (now (octets .entry)) law set (length (now (out .entry)))) (now (out .entry)) (now (out .exit)) (now (report .exit)) r ⌝ }
 {
@@ -22,19 +22,20 @@ pub extern "C" fn g7110_read(
         a.octets as u64,
         a.bits as u64,
         a.tool as u64,
+        a.bit as u64,
     ];
     let end = a.end;
     rules::number_of(end)
 }
 
-// Walking a stream: the number, and in the report frames, octets and samples kept, and the tool that TOOL gives.
+// Walking a stream: the number, and in the report frames, octets and samples kept, the tool that TOOL gives, and the refusal's bit.
 #[no_mangle]
 pub extern "C" fn g7110_walk(
     octets: &[u8],
     law: u32,
     set: u32,
     out: &mut [u8],
-    report: &mut [u64; 4],
+    report: &mut [u64; 5],
 ) -> u32
     ensures { λ r. ⌜ WalkReported (walkAll (now (octets .entry)) law set (length (now (out .entry)))) (now (out .entry)) (now (out .exit)) (now (report .exit)) r ⌝ }
 {
@@ -46,6 +47,7 @@ pub extern "C" fn g7110_walk(
         a.octets as u64,
         a.samples as u64,
         tool as u64,
+        a.bit as u64,
     ];
     rules::number_of(end)
 }

@@ -20,10 +20,10 @@ use Rattle.rules.proofs.Room.{read-room}
 
 -- the lines of a walk, after k frames that hold `kept` samples
 abbrev linesOf : ℕ → ℕ → Walked → List ℕ
-linesOf k kept w = frameLines k (w .frames) ++ endLines (w .end) (w .place) (kept + length (samplesKept (w .frames)))
+linesOf k kept w = frameLines k (w .frames) ++ endLines (w .end) (w .place) (w .bit) (kept + length (samplesKept (w .frames)))
 
 -- no frame, and the end
-at-end : (k kept at bit : ℕ) (end : Ending) → linesOf k kept (stopped end at bit) ≡ endLines end at kept
+at-end : (k kept at bit : ℕ) (end : Ending) → linesOf k kept (stopped end at bit) ≡ endLines end at bit kept
 unfolding frameLines samplesKept
 at-end k kept at bit end = rw add-zero
 
@@ -62,7 +62,7 @@ module _ (octets : List ℕ) (law : ℕ) where
 
   test-same : (more : ℕ) → Same more → (k kept at room : ℕ) → 320 * (length octets - at) ≤ room → (t : Bool) → leb (length octets) at ≡ t
       → linesOf k kept (cond t (stopped Done at 0) (walkOn more at room (readOne (drop at octets) law allTools room)))
-      ≡ cond t (endLines Done at kept) (linesOn more k kept at (readOne (drop at octets) law allTools 320))
+      ≡ cond t (endLines Done at 0 kept) (linesOn more k kept at (readOne (drop at octets) law allTools 320))
   test-same more same k kept at room h true e = at-end k kept at 0 Done
   test-same more same k kept at room h false e =
       let l = leb-false (length octets) at e in

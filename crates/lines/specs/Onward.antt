@@ -17,8 +17,8 @@ abbrev pub allTools : ℕ
 allTools = 127
 
 -- the last two lines
-abbrev pub endLines : Ending → ℕ → ℕ → List ℕ
-endLines end at kept = stopLine (numberOf end) at (toolNamed end) ++ samplesLine kept
+abbrev pub endLines : Ending → ℕ → ℕ → ℕ → List ℕ
+endLines end at bit kept = stopLine (numberOf end) at (toolNamed end) bit ++ samplesLine kept
 
 abbrev pub foundLine : ℕ → ℕ → Found → List ℕ
 foundLine k at f = frameLine k at (length (f .samples)) (f .tool) (octetsUsed f) (f .bits)
@@ -26,12 +26,12 @@ foundLine k at f = frameLine k at (length (f .samples)) (f .tool) (octetsUsed f)
 -- a frame's line and the lines after it, or the last two
 abbrev pub afterRead : Read Found → ℕ → ℕ → ℕ → (Found → List ℕ) → List ℕ
 afterRead (whole f i) k at kept next = foundLine k at f ++ next f
-afterRead (refuse w bit) k at kept next = endLines (Refused w) at kept
+afterRead (refuse w bit) k at kept next = endLines (Refused w) at bit kept
 
 -- each frame has an octet, so the first number, one more than the octets, is never short
 unfoldable pub linesFrom : ℕ → List ℕ → ℕ → ℕ → ℕ → ℕ → List ℕ
-linesFrom zero octets law k at kept = endLines Done at kept
+linesFrom zero octets law k at kept = endLines Done at 0 kept
 linesFrom (suc more) octets law k at kept =
-    cond (leb (length octets) at) (endLines Done at kept)
+    cond (leb (length octets) at) (endLines Done at 0 kept)
     (afterRead (readOne (drop at octets) law allTools 320) k at kept
     (λ f. linesFrom more octets law (k + 1) (at + octetsUsed f) (kept + length (f .samples))))

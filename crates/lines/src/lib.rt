@@ -3,7 +3,7 @@
 ghost use Prim.Native.Nat.{_+_, _≤_};
 ghost use lib.ListN.{length};
 ghost use mathlib.Core.List.{_++_};
-ghost use Rattle.rules.specs.Listing.{lineEnd, toolWord, octetsWord, bitsWord, decimal, field, lawLine, frameLine, stopLine, samplesLine};
+ghost use Rattle.rules.specs.Listing.{lineEnd, toolWord, octetsWord, bitsWord, decimal, field, lawLine, frameLine, stopFields, stopLine, samplesLine};
 ghost use Rattle.lines.specs.Puts.{Puts, Spells};
 
 fn put_word(word: &[u8], out: &mut [u8], at: usize) -> usize
@@ -77,14 +77,42 @@ pub fn samples_line(samples: usize, out: &mut [u8], at: usize) -> usize
     put_word(b"\n", out, end)
 }
 
-pub fn stop_line(number: usize, place: usize, tool: usize, out: &mut [u8], at: usize) -> usize
-    requires { ⌜ at + 160 ≤ length (now out) ⌝ }
-    ensures { λ r. ⌜ Puts (now (out .entry)) at (stopLine number place tool) (now (out .exit)) r ⌝ }
-    ensures most { λ r. ⌜ r ≤ at + 160 ⌝ }
+// How and where it stopped, and the tool that is named.
+fn put_stop(number: usize, place: usize, tool: usize, out: &mut [u8], at: usize) -> usize
+    requires { ⌜ at + 75 ≤ length (now out) ⌝ }
+    ensures { λ r. ⌜ Puts (now (out .entry)) at (stopFields number place tool) (now (out .exit)) r ⌝ }
+    ensures most { λ r. ⌜ r ≤ at + 75 ⌝ }
 {
     let n = put_field(b"stop=", number, out, at);
     let p = put_field(b" at=", place, out, n);
-    let end = put_field(b" tool=", tool, out, p);
+    put_field(b" tool=", tool, out, p)
+}
+
+// "The listing's stop line gains ` bit=` at its end."
+pub fn stop_line(
+    number: usize,
+    place: usize,
+    tool: usize,
+    bit: usize,
+    out: &mut [u8],
+    at: usize,
+) -> usize
+    requires { ⌜ at + 160 ≤ length (now out) ⌝ }
+    ensures { λ r. ⌜ Puts (now (out .entry)) at (stopLine number place tool bit) (now (out .exit)) r ⌝ }
+    ensures most { λ r. ⌜ r ≤ at + 160 ⌝ }
+{
+    let t = put_stop(number, place, tool, out, at);
+    let end = put_field(b" bit=", bit, out, t);
+    put_word(b"\n", out, end)
+}
+
+// The same of a writing, which has no bit to name.
+pub fn pack_line(number: usize, place: usize, tool: usize, out: &mut [u8], at: usize) -> usize
+    requires { ⌜ at + 160 ≤ length (now out) ⌝ }
+    ensures { λ r. ⌜ Puts (now (out .entry)) at (stopFields number place tool ++ lineEnd) (now (out .exit)) r ⌝ }
+    ensures most { λ r. ⌜ r ≤ at + 160 ⌝ }
+{
+    let end = put_stop(number, place, tool, out, at);
     put_word(b"\n", out, end)
 }
 

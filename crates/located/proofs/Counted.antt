@@ -13,25 +13,6 @@ use Rattle.rules.specs.Located.{emptyIn, lay}
 use Rattle.runs.specs.Flagged.{kindOf, kinds}
 use Rattle.located.specs.Valued.{fillIn}
 
-pub empty-most : (z : ℕ) (cells : List ℕ) → emptyIn z cells ≤ length cells
-unfolding emptyIn
-empty-most z [] = omega arith
-empty-most z (y ∷ cells) = go (eqb y z) (empty-most z cells)
-  where
-    go : (b : Bool) → emptyIn z cells ≤ length cells → cond b 1 0 + emptyIn z cells ≤ suc (length cells)
-    go true h = omega arith
-    go false h = omega arith
-
-pub empty-all : (z n : ℕ) → emptyIn z (replicate n z) ≡ n
-unfolding emptyIn
-empty-all z zero = refl
-empty-all z (suc n) = let e = empty-all z n in rw (eq-eqb z z refl) (omega arith)
-
-pub length-lay : (z x : ℕ) (flags : List ℕ) (p : ℕ) (cells : List ℕ) → length (lay z x flags p cells) ≡ length cells
-unfolding lay
-length-lay z x flags p [] = refl
-length-lay z x flags p (y ∷ cells) = ap suc (length-lay z x flags (cond (eqb y z) (p + 1) p) cells)
-
 -- where all cells are empty, the flags' kinds are the cells
 lay-kinds : (z x : ℕ) (flags : List ℕ) (p k : ℕ) → p + k ≡ length flags → lay z x flags p (replicate k z) ≡ kinds z x (drop p flags)
 unfolding lay

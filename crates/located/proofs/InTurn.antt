@@ -12,7 +12,7 @@ use Rattle.rules.specs.declared.Refusal.{Refusal}
 use Rattle.rules.specs.Bits.{bitsOf}
 use Rattle.rules.specs.Reading.{Read, whole, refuse, andThen}
 use Rattle.rules.specs.Located.{emptyIn, lay, valuesInto}
-use Rattle.rules.proofs.Laid.{lay-count}
+use Rattle.rules.proofs.Laid.{empty-all, length-lay, lay-count}
 use Rattle.bits.specs.declared.Outcome.{Outcome}
 use Rattle.bits.specs.declared.Outcome.the-variants.{Got, Refused}
 use Rattle.runs.specs.Flagged.{kinds}
@@ -20,7 +20,7 @@ use Rattle.runs.proofs.Answer.{Marks-as}
 use Rattle.runs.proofs.Puts.{length-kinds}
 use Rattle.bodies.specs.Bodied.{endOf, Leaves, FillsBody}
 use Rattle.located.specs.Valued.{flagsOf, fillIn, Lays, LaysCells, Apart}
-use Rattle.located.proofs.Counted.{empty-most, empty-all, length-lay, lay-first, fill-lay}
+use Rattle.located.proofs.Counted.{lay-first, fill-lay}
 use Rattle.located.proofs.OneValue.{values-step}
 
 pub apart-at : (z : ℕ) (xs : List ℕ) → Apart z xs → (i : ℕ) → i < length xs → eqb (getD xs i 0) z ≡ false

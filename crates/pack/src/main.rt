@@ -119,7 +119,7 @@ fn write_stream(run: Run, s: Settings, name: &[u8], out: &[u8])
         console::say_number(b"filled=", run.filled);
         console::say(b"\n");
     }
-    console::stop(0, p.samples, 0);
+    console::stop(true, 0, p.samples, 0, 0);
 }
 
 // Nothing is written, and no file made, unless all of the sound was read and packed.
@@ -135,7 +135,7 @@ fn finish(run: Run, s: Settings, in_name: &[u8], out_name: &[u8], out: &[u8])
     let number = cutting::number_for(e);
     if number != 0 {
         explain_sound(number);
-        console::refused(true, number, p.samples, 0);
+        console::refused(true, number, p.samples, 0, 0);
         return;
     }
     write_stream(run, s, out_name, out);
@@ -150,7 +150,7 @@ fn pack_file(s: Settings, in_name: &[u8], out_name: &[u8], part: &mut [u8], out:
     let number = rules::number_of(e);
     if number != 0 {
         explain_settings(number);
-        console::refused(true, number, 0, 0);
+        console::refused(true, number, 0, 0, 0);
         return;
     }
     let fd = console::open_in(in_name);

@@ -18,12 +18,12 @@ use Rattle.pages.specs.declared.Opened.{Opened}
 use Rattle.pages.specs.Pages.{linesLeft, Opens, Stops, OpensInput}
 
 -- a refusal is all of the listing
-pub opens-stopped : (stream : List ℕ) {whole : List ℕ} {number : ℕ} {out out′ : List ℕ} {r : Opened} → Stops number out r out′ → whole ≡ stopLine number 0 0
+pub opens-stopped : (stream : List ℕ) {whole : List ℕ} {number : ℕ} {out out′ : List ℕ} {r : Opened} → Stops number out r out′ → whole ≡ stopLine number 0 0 0
     → Opens whole stream out r out′
 unfolding linesLeft
 opens-stopped stream {whole} {number} t e =
     record {
-      text = stopLine number 0 0;
+      text = stopLine number 0 0 0;
       puts = t .puts;
       says = rw (t .ended, append-nil) e;
       stands = λ g. absurd (false≢true (sym g ∙ t .ended));
@@ -31,7 +31,7 @@ opens-stopped stream {whole} {number} t e =
     }
 
 -- "a longer stream prints that line with 13"
-pub too-long : (law : ℕ) (stream : List ℕ) → longest < length stream → listStream law stream ≡ stopLine 13 0 0
+pub too-long : (law : ℕ) (stream : List ℕ) → longest < length stream → listStream law stream ≡ stopLine 13 0 0 0
 unfolding listStream
 too-long law stream h = rw (lt-leb (length stream) longest h)
 
@@ -57,12 +57,12 @@ opens-stream stream {r = r} b h l p m =
 -- an input by its first octet
 by-letter : (input : List ℕ) → 0 < length input
     → listing input
-    ≡ cond (eqb (getD input 0 0) 0x41) (listStream 0 (drop 1 input)) (cond (eqb (getD input 0 0) 0x4D) (listStream 1 (drop 1 input)) (stopLine 12 0 0))
+    ≡ cond (eqb (getD input 0 0) 0x41) (listStream 0 (drop 1 input)) (cond (eqb (getD input 0 0) 0x4D) (listStream 1 (drop 1 input)) (stopLine 12 0 0 0))
 unfolding listing
 by-letter [] h = absurd (omega arith)
 by-letter (x ∷ l) h = refl
 
-pub input-none : (input : List ℕ) → length input ≡ 0 → listing input ≡ stopLine 12 0 0
+pub input-none : (input : List ℕ) → length input ≡ 0 → listing input ≡ stopLine 12 0 0 0
 unfolding listing
 input-none [] e = refl
 input-none (x ∷ l) e = absurd (omega arith)
@@ -74,7 +74,7 @@ module _ (input : List ℕ) (h : 0 < length input) where
   pub input-m : getD input 0 0 ≡ 0x4D → listing input ≡ listStream 1 (drop 1 input)
   input-m e = by-letter input h ∙ rw e
 
-  pub input-other : (getD input 0 0 ≡ 0x41 → ⊥) → (getD input 0 0 ≡ 0x4D → ⊥) → listing input ≡ stopLine 12 0 0
+  pub input-other : (getD input 0 0 ≡ 0x41 → ⊥) → (getD input 0 0 ≡ 0x4D → ⊥) → listing input ≡ stopLine 12 0 0 0
   input-other a m = by-letter input h ∙ rw (ne-eqb _ _ a, ne-eqb _ _ m)
 
   -- the stream is what follows the first octet
@@ -85,5 +85,5 @@ module _ (input : List ℕ) (h : 0 < length input) where
       record { opens = rw e (rw (take-all n (drop 1 input) k) at t); some = λ g. h }
 
 -- no law's letter
-pub stops-input : (input : List ℕ) {out out′ : List ℕ} {r : Opened} → listing input ≡ stopLine 12 0 0 → Stops 12 out r out′ → OpensInput input out r out′
+pub stops-input : (input : List ℕ) {out out′ : List ℕ} {r : Opened} → listing input ≡ stopLine 12 0 0 0 → Stops 12 out r out′ → OpensInput input out r out′
 stops-input input e t = record { opens = opens-stopped (drop 1 input) t e; some = λ g. absurd (false≢true (sym g ∙ t .ended)) }

@@ -9,7 +9,7 @@ use borrow.Author.Tests.{le-leb, lt-leb}
 use Rattle.rules.specs.declared.Ending.the-variants.{Done, Refused}
 use Rattle.rules.specs.declared.Refusal.{Refusal}
 use Rattle.rules.specs.Refusals.{refusalNumber}
-use Rattle.rules.specs.Reading.{Read, whole}
+use Rattle.rules.specs.Reading.{Read, whole, refuse}
 use Rattle.rules.specs.Frame.{Found, octetsUsed, readOne}
 use Rattle.reader.specs.declared.Report.{Report}
 use Rattle.reader.specs.Answers.{Tells, ReadsInto}
@@ -23,12 +23,12 @@ use Rattle.pages.specs.Pages.{Stands, linesLeft, stepsLeft, Ends, ListsF
 
 -- the lines left: at the stream's end, and before it
 module _ (stream : List ℕ) (law : ℕ) where
-  from-end : (more k at kept : ℕ) → length stream ≤ at → linesFrom more stream law k at kept ≡ endLines Done at kept
+  from-end : (more k at kept : ℕ) → length stream ≤ at → linesFrom more stream law k at kept ≡ endLines Done at 0 kept
   unfolding linesFrom
   from-end zero k at kept h = refl
   from-end (suc more) k at kept h = rw (le-leb (length stream) at h)
 
-  pub left-end : (s : Stand) → s .ended ≡ false → length stream ≤ s .at → linesLeft stream law s ≡ endLines Done (s .at) (s .samples)
+  pub left-end : (s : Stand) → s .ended ≡ false → length stream ≤ s .at → linesLeft stream law s ≡ endLines Done (s .at) 0 (s .samples)
   unfolding linesLeft
   left-end s e h = rw e (from-end (suc (length stream) - s .frames) (s .frames) (s .at) (s .samples) h)
 
@@ -57,6 +57,10 @@ frame-told : {f : Found} {i : ℕ} {r : Report} (k at kept : ℕ) (next : ℕ �
     ≡ frameLine k at (r .len) (r .tool) (r .octets) (r .bits) ++ next (r .octets) (r .len)
 frame-told k at kept next t = rw (t .len, t .tool, t .octets, t .bits)
 
+refusal-told : {w : Refusal} {bit : ℕ} {r : Report} (k at kept : ℕ) (next : Found → List ℕ) → Tells (refuse w bit) r
+    → afterRead (refuse w bit) k at kept next ≡ stopLine (refusalNumber w) at (r .tool) (r .bit) ++ samplesLine kept
+refusal-told k at kept next t = rw (t .tool, t .bit)
+
 module _ {found : Read Found} {r : Report} {out out′ : List ℕ} (t : ReadsInto found r out out′) where
   read-done : (k at kept : ℕ) (next : ℕ → ℕ → List ℕ) → r .end ≡ Done
       → afterRead found k at kept (λ f. next (octetsUsed f) (length (f .samples)))
@@ -66,23 +70,23 @@ module _ {found : Read Found} {r : Report} {out out′ : List ℕ} (t : ReadsInt
       ap (λ (x : Read Found). afterRead x k at kept (λ f. next (octetsUsed f) (length (f .samples)))) (a .is) ∙ frame-told k at kept next (a .tells .tells)
 
   pub read-refused : (k at kept : ℕ) (next : Found → List ℕ) {w : Refusal} → r .end ≡ Refused w
-      → afterRead found k at kept next ≡ stopLine (refusalNumber w) at (r .tool) ++ samplesLine kept
+      → afterRead found k at kept next ≡ stopLine (refusalNumber w) at (r .tool) (r .bit) ++ samplesLine kept
   read-refused k at kept next e =
       let a = refused t e in
-      ap (λ (x : Read Found). afterRead x k at kept next) (a .is) ∙ rw (a .tells .tells .tool)
+      ap (λ (x : Read Found). afterRead x k at kept next) (a .is) ∙ refusal-told k at kept next (a .tells .tells)
 
 -- what a step does: it lists a part, and comes nearer to the end
 abbrev Nearer : List ℕ → ℕ → Stand → List ℕ → ℕ → Stand → List ℕ → ℕ → Type 0
 Nearer stream law s out to s′ out′ to′ = Lists stream law s out to s′ out′ to′ × stepsLeft stream s′ < stepsLeft stream s
 
 -- the last two lines
-pub step-last : (stream : List ℕ) (law : ℕ) {number tool : ℕ} {s : Stand} {out out′ : List ℕ} {to : ℕ} {r : Page}
-    → Ends number tool s out to r out′ → Stands stream s → s .ended ≡ false → to + 320 ≤ length out
-    → linesLeft stream law s ≡ stopLine number (s .at) tool ++ samplesLine (s .samples) → Nearer stream law s out to (r .stand) out′ (r .to)
+pub step-last : (stream : List ℕ) (law : ℕ) {number tool bit : ℕ} {s : Stand} {out out′ : List ℕ} {to : ℕ} {r : Page}
+    → Ends number tool bit s out to r out′ → Stands stream s → s .ended ≡ false → to + 320 ≤ length out
+    → linesLeft stream law s ≡ stopLine number (s .at) tool bit ++ samplesLine (s .samples) → Nearer stream law s out to (r .stand) out′ (r .to)
 unfolding linesLeft stepsLeft
-step-last stream law {number} {tool} {s} t a n h e = (
+step-last stream law {number} {tool} {bit} {s} t a n h e = (
   record {
-    text = stopLine number (s .at) tool ++ samplesLine (s .samples);
+    text = stopLine number (s .at) tool bit ++ samplesLine (s .samples);
     puts = t .puts;
     says = rw (t .ended, append-nil) e;
     stands =

@@ -38,8 +38,8 @@ pub record Lists (stream : List ℕ) (law : ℕ) (s : Stand) (out : List ℕ) (t
   pub size : to′ ≤ length out
 
 -- the last two lines
-pub record Ends (number tool : ℕ) (s : Stand) (out : List ℕ) (to : ℕ) (r : Page) (out′ : List ℕ) : Type 0 where
-  pub puts : Puts out to (stopLine number (s .at) tool ++ samplesLine (s .samples)) out′ (r .to)
+pub record Ends (number tool bit : ℕ) (s : Stand) (out : List ℕ) (to : ℕ) (r : Page) (out′ : List ℕ) : Type 0 where
+  pub puts : Puts out to (stopLine number (s .at) tool bit ++ samplesLine (s .samples)) out′ (r .to)
   pub ended : r .stand .ended ≡ true
   pub at : r .stand .at ≡ s .at
   pub frames : r .stand .frames ≡ s .frames
@@ -65,7 +65,7 @@ pub record Opens (whole stream out : List ℕ) (r : Opened) (out′ : List ℕ) 
 
 -- a refusal before any frame
 pub record Stops (number : ℕ) (out : List ℕ) (r : Opened) (out′ : List ℕ) : Type 0 where
-  pub puts : Puts out 0 (stopLine number 0 0) out′ (r .to)
+  pub puts : Puts out 0 (stopLine number 0 0 0) out′ (r .to)
   pub ended : r .stand .ended ≡ true
   pub most : r .to ≤ 160
 

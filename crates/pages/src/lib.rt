@@ -33,11 +33,11 @@ pub struct Opened {
 }
 
 // The last two lines.
-fn last(number: usize, tool: usize, s: Stand, out: &mut [u8], to: usize) -> Page
+fn last(number: usize, tool: usize, bit: usize, s: Stand, out: &mut [u8], to: usize) -> Page
     requires { ⌜ to + 320 ≤ length (now out) ⌝ }
-    ensures { λ r. ⌜ Ends number tool s (now (out .entry)) to r (now (out .exit)) ⌝ }
+    ensures { λ r. ⌜ Ends number tool bit s (now (out .entry)) to r (now (out .exit)) ⌝ }
 {
-    let stop = lines::stop_line(number, s.at, tool, out, to);
+    let stop = lines::stop_line(number, s.at, tool, bit, out, to);
     let end = lines::samples_line(s.samples, out, stop);
     Page {
         stand: Stand {
@@ -94,7 +94,7 @@ fn step(stream: &[u8], law: u32, s: Stand, room: &mut [u8; 320], out: &mut [u8],
 {
     let at = s.at;
     if stream.len() <= at {
-        return last(0, 0, s, out, to);
+        return last(0, 0, 0, s, out, to);
     }
     let r = read_at(stream, at, law, room);
     let end = r.end;
@@ -102,6 +102,7 @@ fn step(stream: &[u8], law: u32, s: Stand, room: &mut [u8; 320], out: &mut [u8],
         Ending::Refused(why) => last(
             rules::refusal_number(why) as usize,
             r.tool as usize,
+            r.bit,
             s,
             out,
             to,
@@ -133,12 +134,12 @@ pub fn next_page(stream: &[u8], law: u32, from: Stand, out: &mut [u8]) -> Page
     }
 }
 
-// "Input with no or another first octet prints `stop=12 at=0 tool=0` only; a longer stream prints that line with 13."
+// "Input with no or another first octet prints `stop=12 at=0 tool=0` only; a longer stream prints that line with 13"; its bit is 0.
 fn refused(number: usize, out: &mut [u8]) -> Opened
     requires { ⌜ 160 ≤ length (now out) ⌝ }
     ensures { λ r. ⌜ Stops number (now (out .entry)) r (now (out .exit)) ⌝ }
 {
-    let to = lines::stop_line(number, 0, 0, out, 0);
+    let to = lines::stop_line(number, 0, 0, 0, out, 0);
     Opened {
         law: 0,
         stand: Stand {

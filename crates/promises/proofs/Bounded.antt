@@ -23,7 +23,7 @@ use Rattle.rules.specs.Frame.{Found, octetsUsed, body, withTool, afterFirst, fr
 use Rattle.rules.specs.Located.{widthFrom, widthOf, listedFrom, listed, byMethod, emptyIn, lay, valuesInto, valuesOf, located}
 use Rattle.rules.specs.Chooses.{countOf}
 use Rattle.rules.proofs.Octets.{Below, none, more, bitsOf-below, length-lowBits}
-use Rattle.rules.proofs.Laid.{lay-count}
+use Rattle.rules.proofs.Laid.{empty-all, lay-count}
 use Rattle.rules.proofs.Signed.{LawMask, sampleOf-one-to-one, law-mask}
 use Rattle.rules.proofs.Gives.{Gives, gives-bit, gives-number, gives-zerosFrom, gives-rice, gives-runsFrom, gives-byMethod, gives-readTree, Leaves}
 use Rattle.rules.proofs.Accepted.{Steps, through, steps, not-refused, filled-is, number-next}
@@ -39,10 +39,10 @@ use Rattle.promises.proofs.Frame.{foundAt}
 use Rattle.promises.proofs.Reach.{never, place-of, value-of, Near, near-fail, near-give, near-here, near-bit, near-then, near-cond, near-more}
 
 -- A reading's cost by what it gives: from place i to j, with c saved up and k of the value left, j + c is at most i + k
-record Costs {A : Type 0} (c : ℕ) (k : A → ℕ) (p : Reader A) : Type 0 where
-  goes : (b : List ℕ) → Below 2 b → (i : ℕ) → i ≤ length b → (a : A) (j : ℕ) → p b i ≡ whole a j → j + c ≤ i + k a
+pub record Costs {A : Type 0} (c : ℕ) (k : A → ℕ) (p : Reader A) : Type 0 where
+  pub goes : (b : List ℕ) → Below 2 b → (i : ℕ) → i ≤ length b → (a : A) (j : ℕ) → p b i ≡ whole a j → j + c ≤ i + k a
 
-costs-near : {A : Type 0} (k : ℕ) {p : Reader A} → Near k p → Costs 0 (λ a. k) p
+pub costs-near : {A : Type 0} (k : ℕ) {p : Reader A} → Near k p → Costs 0 (λ a. k) p
 costs-near k g = record { goes = λ b z i h a j e. omega (arith, g .goes b i a j e) }
 
 costs-give : {A : Type 0} (c : ℕ) (k : A → ℕ) (a : A) → c ≤ k a → Costs c k (give a)
@@ -65,12 +65,12 @@ costs-then {A} {B} {Q} {p} {f} c k d l C L v g h s = record { goes = λ b z i m 
         omega (arith, g .goes b z i m a n e, h a (u .2) .goes b z n (u .1) r j q, s a r (u .2))
 
 -- numbers
-near-numberFrom : (v n : ℕ) → Near n (numberFrom v n)
+pub near-numberFrom : (v n : ℕ) → Near n (numberFrom v n)
 unfolding numberFrom
 near-numberFrom v zero = near-give v
 near-numberFrom v (suc n) = near-more (1 + n) (suc n) (omega arith) (near-then 1 n near-bit (λ a. near-numberFrom (2 * v + a) n))
 
-near-bitsFrom : (done : List ℕ) (n : ℕ) → Near n (bitsFrom done n)
+pub near-bitsFrom : (done : List ℕ) (n : ℕ) → Near n (bitsFrom done n)
 unfolding bitsFrom
 near-bitsFrom done zero = near-give done
 near-bitsFrom done (suc n) = near-more (1 + n) (suc n) (omega arith) (near-then 1 n near-bit (λ a. near-bitsFrom (done ++ (a ∷ [])) n))
@@ -94,7 +94,7 @@ costs-zerosFrom start k (suc left) =
 costs-here : {B : Type 0} {f : ℕ → Reader B} (c : ℕ) (k : B → ℕ) → ((i : ℕ) → Costs c k (f i)) → Costs c k (here >>= f)
 costs-here c k g = record { goes = λ b z i h a j e. g i .goes b z i h a j e }
 
-costs-rice : (n s : ℕ) → Costs 0 (λ v. v / 2 ^ s + 1 + s) (rice n s)
+pub costs-rice : (n s : ℕ) → Costs 0 (λ v. v / 2 ^ s + 1 + s) (rice n s)
 unfolding rice
 costs-rice n s =
     costs-here 0 (λ v. v / 2 ^ s + 1 + s) (λ start.
@@ -118,7 +118,7 @@ paid : {A : Type 0} {p : Reader A} (c k l : ℕ) → c + k ≤ l → Costs 0 (λ
 paid c k l h g = record { goes = λ b z i m a j e. omega (arith, g .goes b z i m a j e) }
 
 -- over so many places, with S at most 9: ten bits a place
-costs-runs : (n s fuel left : ℕ) (done : List ℕ) → s ≤ 9 → Costs 0 (λ flags. 10 * left) (runsFrom n s fuel left done)
+pub costs-runs : (n s fuel left : ℕ) (done : List ℕ) → s ≤ 9 → Costs 0 (λ flags. 10 * left) (runsFrom n s fuel left done)
 unfolding runsFrom
 costs-runs n s zero left done h = costs-give 0 (λ flags. 10 * left) done (omega arith)
 costs-runs n s (suc fuel) left done h =
@@ -176,7 +176,7 @@ costs-marked n s (suc fuel) left done h =
     (λ v r q. omega arith)))
 
 -- ceil(log2 D) is no more than it need be
-width-most : (w m d r : ℕ) → d ≤ 2 ^ (w + r) → widthFrom w m d ≤ w + r
+pub width-most : (w m d r : ℕ) → d ≤ 2 ^ (w + r) → widthFrom w m d ≤ w + r
 unfolding widthFrom
 width-most w zero d r h = omega arith
 width-most w (suc m) d zero h =
@@ -189,7 +189,7 @@ width-most w (suc m) d (suc r) h = step (leb d (2 ^ w)) (let e : w + suc r ≡ w
     step true g = omega arith
     step false g = omega arith
 
-near-listedFrom : (w d : ℕ) (done : List ℕ) (k : ℕ) → Near (w * k) (listedFrom w d done k)
+pub near-listedFrom : (w d : ℕ) (done : List ℕ) (k : ℕ) → Near (w * k) (listedFrom w d done k)
 unfolding listedFrom
 near-listedFrom w d done zero = near-more 0 (w * 0) (omega arith) (near-give (done ++ replicate (d - length done) 0))
 near-listedFrom w d done (suc k) =
@@ -198,7 +198,7 @@ near-listedFrom w d done (suc k) =
     near-cond (w * k) (leb (length done) p && ltb p d) (near-listedFrom w d (done ++ (replicate (p - length done) 0 ++ (1 ∷ []))) k) (near-fail (w * k) Place start))))
 
 -- the flags of a value, in a frame of 320 or less
-costs-method : (n d start m : ℕ) → d ≤ 320 → Costs 0 (λ flags. 38 + d + 5 * ones flags) (byMethod n d start m)
+pub costs-method : (n d start m : ℕ) → d ≤ 320 → Costs 0 (λ flags. 38 + d + 5 * ones flags) (byMethod n d start m)
 unfolding byMethod listed
 costs-method n d start m h =
     costs-cond (eqb m 0) (λ t. costs-as 0 0 (λ flags. d) (λ flags. 38 + d + 5 * ones flags) (λ flags. omega arith) (costs-near d (near-bitsFrom [] d)))
@@ -228,12 +228,7 @@ costs-values n z cells (next {x = x} {s = xs} g t) h =
     (λ flags r f. omega arith))
     (λ m r q. omega arith))
 
-empty-all : (z n : ℕ) → emptyIn z (replicate n z) ≡ n
-unfolding emptyIn
-empty-all z zero = refl
-empty-all z (suc n) = let e = empty-all z n in rw (eq-eqb z z refl) (omega arith)
-
-costs-located : {mask : ℕ} → LawMask mask → (n : ℕ) → n ≤ 320 → Costs 0 (λ s. 2686) (located mask n)
+pub costs-located : {mask : ℕ} → LawMask mask → (n : ℕ) → n ≤ 320 → Costs 0 (λ s. 2686) (located mask n)
 unfolding located
 costs-located {mask} l n h =
     costs-here 0 (λ s. 2686) (λ start.
@@ -249,26 +244,26 @@ costs-located {mask} l n h =
     (λ c s p. omega arith))
 
 -- the code of S
-depth : Tree → ℕ
+unfoldable pub depth : Tree → ℕ
 depth (leaf s) = 0
 depth (fork z o) = 1 + max (depth z) (depth o)
 
-near-tree : (t : Tree) → Near (depth t) (readTree t)
+pub near-tree : (t : Tree) → Near (depth t) (readTree t)
 unfolding readTree depth
 near-tree (leaf s) = near-give s
 near-tree (fork z o) =
     near-then 1 (max (depth z) (depth o)) near-bit (λ a. near-cond (max (depth z) (depth o)) (eqb a 1)
     (near-more (depth o) (max (depth z) (depth o)) (omega arith) (near-tree o)) (near-more (depth z) (max (depth z) (depth o)) (omega arith) (near-tree z)))
 
-tree-depth : (n : ℕ) → isLength n ≡ true → leb (depth (treeOf n)) 6 ≡ true
+pub tree-depth : (n : ℕ) → isLength n ≡ true → leb (depth (treeOf n)) 6 ≡ true
 unfolding treeOf depth
 tree-depth n l = by-length (λ n. leb (depth (treeOf n)) 6 ≡ true) refl refl refl refl refl n l
 
-tree-leaves : (n : ℕ) → isLength n ≡ true → Leaves (λ s. s ≤ 9) (treeOf n)
+pub tree-leaves : (n : ℕ) → isLength n ≡ true → Leaves (λ s. s ≤ 9) (treeOf n)
 unfolding treeOf
 tree-leaves n l = by-length (λ n. Leaves (λ s. s ≤ 9) (treeOf n)) (omega arith) (omega arith) (omega arith) (omega arith) (omega arith) n l
 
-at-most-320 : (n : ℕ) → isLength n ≡ true → n ≤ 320
+pub at-most-320 : (n : ℕ) → isLength n ≡ true → n ≤ 320
 at-most-320 n l = by-length (λ n. n ≤ 320) (omega arith) (omega arith) (omega arith) (omega arith) (omega arith) n l
 
 costs-plusMinus : (mask n mark : ℕ) → isLength n ≡ true → Costs 0 (λ s. 6 + 10 * n) (plusMinus mask n mark)
@@ -284,7 +279,7 @@ costs-plusMinus mask n mark l =
 cheap : {A : Type 0} (k : ℕ) {p : Reader A} → k ≤ 2686 → Near k p → Costs 0 (λ s. 2686) p
 cheap k h g = costs-near 2686 (near-more k 2686 h g)
 
-costs-other : {mask : ℕ} → LawMask mask → (t n mark : ℕ) → n ≤ 320 → (t ≡ 6 → ⊥) → Costs 0 (λ s. 2686) (body mask t n mark)
+pub costs-other : {mask : ℕ} → LawMask mask → (t n mark : ℕ) → n ≤ 320 → (t ≡ 6 → ⊥) → Costs 0 (λ s. 2686) (body mask t n mark)
 unfolding body
 costs-other {mask} l t n mark h ne =
     costs-cond (eqb t 1) (λ e. cheap (8 * n) (omega arith) (near-octetsAfter [] n))
@@ -309,18 +304,18 @@ withTool-bits mask set room t n mark k {b} z i h g {f} {j} e =
         let w = filled-is (record { tool = t; samples = s; bits = m }) (fillFor m) b m c in
         rw (← (w .0)) (omega (arith, g .goes b z i h s m d))
 
-costs-six : (mask n mark : ℕ) → isLength n ≡ true → Costs 0 (λ s. 6 + 10 * n) (body mask 6 n mark)
+pub costs-six : (mask n mark : ℕ) → isLength n ≡ true → Costs 0 (λ s. 6 + 10 * n) (body mask 6 n mark)
 unfolding body
 costs-six mask n mark l = costs-plusMinus mask n mark l
 
 -- no first octet is tool 6 without its second bit, and each has one of the five lengths
-abbrev plain : First → Bool
+abbrev pub plain : First → Bool
 plain unassigned = true
 plain pad = true
 plain (tool t n) = not (eqb t 6) && isLength n
 plain (sixOrEight n) = isLength n
 
-first-plain : (o : ℕ) → o < 256 → plain (firstOctet o) ≡ true
+pub first-plain : (o : ℕ) → o < 256 → plain (firstOctet o) ≡ true
 unfolding firstOctet lookUp rows
 first-plain o h = allBelow-at (λ o. plain (firstOctet o)) 256 refl o h
 

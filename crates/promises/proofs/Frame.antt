@@ -74,7 +74,7 @@ first-eight bits post h =
     let e : bits ++ post ≡ take 8 bits ++ (drop 8 bits ++ post) = rw (← (append-assoc (take 8 bits) (drop 8 bits) post), take-append-drop 8 bits) refl in
     rw e (rw l at (back-first (back-value 0 (take 8 bits)) (drop 8 bits ++ post)))
 
-value-small : {l : List ℕ} (k : ℕ) → Below 2 l → length l ≡ k → valueFrom 0 l < 2 ^ k
+pub value-small : {l : List ℕ} (k : ℕ) → Below 2 l → length l ≡ k → valueFrom 0 l < 2 ^ k
 value-small k b e = rw e at (value-below b)
 
 begins : (code rest : List ℕ) (m : ℕ) → length code + m ≡ 8 → Below 2 code → Below 2 rest → m ≤ length rest

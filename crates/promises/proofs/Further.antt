@@ -94,12 +94,12 @@ unfolding numberFrom
 firm-numberFrom v zero = firm-give v
 firm-numberFrom v (suc n) = firm-bind firm-bit (λ a. firm-numberFrom (2 * v + a) n)
 
-firm-bitsFrom : (done : List ℕ) (n : ℕ) → Firm (bitsFrom done n)
+pub firm-bitsFrom : (done : List ℕ) (n : ℕ) → Firm (bitsFrom done n)
 unfolding bitsFrom
 firm-bitsFrom done zero = firm-give done
 firm-bitsFrom done (suc n) = firm-bind firm-bit (λ a. firm-bitsFrom (done ++ (a ∷ [])) n)
 
-firm-octetsAfter : (done : List ℕ) (n : ℕ) → Firm (octetsAfter done n)
+pub firm-octetsAfter : (done : List ℕ) (n : ℕ) → Firm (octetsAfter done n)
 unfolding octetsAfter
 firm-octetsAfter done zero = firm-give done
 firm-octetsAfter done (suc n) = firm-bind (firm-numberFrom 0 8) (λ x. firm-octetsAfter (done ++ (x ∷ [])) n)
@@ -109,17 +109,17 @@ unfolding filled
 firm-filled a zero = firm-give a
 firm-filled a (suc n) = firm-bind firm-here (λ at. firm-bind firm-bit (λ f. firm-cond (eqb f 0) (firm-filled a n) (firm-fail Align at)))
 
-firm-zerosFrom : (start k left : ℕ) → Firm (zerosFrom start k left)
+pub firm-zerosFrom : (start k left : ℕ) → Firm (zerosFrom start k left)
 unfolding zerosFrom
 firm-zerosFrom start k zero = firm-fail Run start
 firm-zerosFrom start k (suc left) = firm-bind firm-bit (λ a. firm-cond (eqb a 1) (firm-give k) (firm-zerosFrom start (k + 1) left))
 
-firm-rice : (n s : ℕ) → Firm (rice n s)
+pub firm-rice : (n s : ℕ) → Firm (rice n s)
 unfolding rice
 firm-rice n s =
     firm-bind firm-here (λ start. firm-bind (firm-zerosFrom start 0 (n + 1)) (λ k. firm-bind (firm-numberFrom 0 s) (λ low. firm-give (k * 2 ^ s + low))))
 
-firm-runsFrom : (n s fuel left : ℕ) (done : List ℕ) → Firm (runsFrom n s fuel left done)
+pub firm-runsFrom : (n s fuel left : ℕ) (done : List ℕ) → Firm (runsFrom n s fuel left done)
 unfolding runsFrom
 firm-runsFrom n s zero left done = firm-give done
 firm-runsFrom n s (suc fuel) left done =
@@ -127,32 +127,32 @@ firm-runsFrom n s (suc fuel) left done =
     firm-cond (ltb left v) (firm-fail Run start) (firm-cond (eqb v left) (firm-give (done ++ replicate v 0))
     (firm-runsFrom n s fuel (left - (v + 1)) (done ++ (replicate v 0 ++ (1 ∷ []))))))))
 
-firm-readTree : (t : Tree) → Firm (readTree t)
+pub firm-readTree : (t : Tree) → Firm (readTree t)
 unfolding readTree
 firm-readTree (leaf s) = firm-give s
 firm-readTree (fork z o) = firm-bind firm-bit (λ a. firm-cond (eqb a 1) (firm-readTree o) (firm-readTree z))
 
-firm-listedFrom : (w d : ℕ) (done : List ℕ) (k : ℕ) → Firm (listedFrom w d done k)
+pub firm-listedFrom : (w d : ℕ) (done : List ℕ) (k : ℕ) → Firm (listedFrom w d done k)
 unfolding listedFrom
 firm-listedFrom w d done zero = firm-give (done ++ replicate (d - length done) 0)
 firm-listedFrom w d done (suc k) =
     firm-bind firm-here (λ start. firm-bind (firm-numberFrom 0 w) (λ p. firm-cond (leb (length done) p && ltb p d)
     (firm-listedFrom w d (done ++ (replicate (p - length done) 0 ++ (1 ∷ []))) k) (firm-fail Place start)))
 
-firm-byMethod : (n d start m : ℕ) → Firm (byMethod n d start m)
+pub firm-byMethod : (n d start m : ℕ) → Firm (byMethod n d start m)
 unfolding byMethod listed
 firm-byMethod n d start m =
     firm-cond (eqb m 0) (firm-bitsFrom [] d) (firm-cond (leb m 4) (firm-runsFrom n m d d []) (firm-cond (eqb m 5) (firm-give (replicate d 0))
     (firm-cond (eqb m 6) (firm-fail Method start) (firm-bind (firm-numberFrom 0 2) (λ less. firm-listedFrom (widthOf d) d [] (less + 1))))))
 
-firm-valuesInto : (n z : ℕ) (xs cells : List ℕ) → Firm (valuesInto n z xs cells)
+pub firm-valuesInto : (n z : ℕ) (xs cells : List ℕ) → Firm (valuesInto n z xs cells)
 unfolding valuesInto
 firm-valuesInto n z [] cells = firm-give cells
 firm-valuesInto n z (x ∷ xs) cells =
     firm-bind firm-here (λ start. firm-bind (firm-numberFrom 0 3) (λ m. firm-bind (firm-byMethod n (emptyIn z cells) start m) (λ flags.
     firm-valuesInto n z xs (lay z x flags 0 cells))))
 
-firm-located : (mask n : ℕ) → Firm (located mask n)
+pub firm-located : (mask n : ℕ) → Firm (located mask n)
 unfolding located
 firm-located mask n =
     firm-bind firm-here (λ start. firm-bind (firm-numberFrom 0 2) (λ c. firm-bind (firm-numberFrom 0 1) (λ flag.
@@ -177,7 +177,7 @@ firm-withTool mask set room t n mark =
     firm-cond (not (holds set t)) (firm-fail (Tool t) 0) (firm-cond (ltb room n) (firm-fail Room 0)
     (firm-bind (firm-body mask t n mark) (λ s. firm-bind firm-here (λ bits. firm-filled (record { tool = t; samples = s; bits = bits }) (fillFor bits)))))
 
-far-firm : {A : Type 0} {p : Reader A} → Firm p → Far 0 p
+pub far-firm : {A : Type 0} {p : Reader A} → Firm p → Far 0 p
 far-firm g = record { goes = λ b i a j e. omega (arith, g .onward b i a j e) }
 
 -- a code of S has two bits or more
@@ -205,7 +205,7 @@ pub eight-out : (mask set room n mark : ℕ) (b : List ℕ) (i : ℕ) {f : Found
 unfolding withTool holds
 eight-out mask set room n mark b i e = never e
 
-firm-six : Firm sixNotEight
+pub firm-six : Firm sixNotEight
 unfolding sixNotEight
 firm-six = firm-bind firm-bit (λ a. firm-cond (eqb a 1) (firm-give 6) (firm-bind firm-bit (λ b. firm-cond (eqb b 1) (firm-give 6) (firm-give 8))))
 
@@ -243,7 +243,7 @@ six-within mask set room n mark b i {t} {k} e six {f} {j} d = omega (arith, near
 six-within mask set room n mark b i e eight d = eight-out mask set room n mark b i d
 
 -- a bit that is there is the same with more after it
-bit-there : (b c : List ℕ) (i : ℕ) → i < length b → (bit b i ≡ whole (getD b i 0) (i + 1)) × (bit (b ++ c) i ≡ whole (getD b i 0) (i + 1))
+pub bit-there : (b c : List ℕ) (i : ℕ) → i < length b → (bit b i ≡ whole (getD b i 0) (i + 1)) × (bit (b ++ c) i ≡ whole (getD b i 0) (i + 1))
 unfolding bit
 bit-there b c i h = (rw (lt-ltb i (length b) h) refl, rw (lt-ltb i (length (b ++ c)) (omega (arith, length-append b c)), List·getD-append b c 0 i h) refl)
 
@@ -285,7 +285,7 @@ frame-goes mask set room b c h =
     rw (e, first-eight b c h) (after-goes mask set room (firstOctet (valueFrom 0 (take 8 b))) b c h)
 
 -- of octets: none, or some
-nothing-short : (mask set room : ℕ) → frame mask set room (bitsOf []) 0 ≡ refuse Short 0
+pub nothing-short : (mask set room : ℕ) → frame mask set room (bitsOf []) 0 ≡ refuse Short 0
 unfolding frame numberFrom bit bitsOf
 nothing-short mask set room = refl
 

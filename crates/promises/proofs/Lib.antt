@@ -17,5 +17,9 @@ pub mod Nesting
 pub mod Lists
 pub mod Upgrade
 pub mod Bounded
+pub mod Points
 pub mod Fits
 pub mod RoundTrip
+pub mod Bit
+pub mod Asks
+pub mod Sharp

@@ -36,7 +36,7 @@ record Broken (octets : List ℕ) (law set at room : ℕ) (r : Refusal) (w : Wal
   octets-kept : at + octetsKept (w .frames) ≡ w .place
 
 -- the frame at a place is read from the octets up to any place behind it
-cut-at : (octets : List ℕ) (law set at p room : ℕ) {f : Found} {j : ℕ} → at + octetsUsed f ≤ p → p ≤ length octets
+pub cut-at : (octets : List ℕ) (law set at p room : ℕ) {f : Found} {j : ℕ} → at + octetsUsed f ≤ p → p ≤ length octets
     → readOne (drop at octets) law set room ≡ whole f j → readOne (drop at (take p octets)) law set room ≡ whole f j
 cut-at octets law set at p room {f} h k e =
     let l : length (take p octets) ≡ p = length-take-le p octets k in
@@ -111,20 +111,22 @@ walk-begins octets law set room = go (isLaw law) (isSet set) (leb (length octets
     go true true true d e f = walkable (record { lawful = d; small = e; short = leb-true (length octets) longest f })
 
 -- Demand 1, of a single call: "writes nothing and reports 0 samples, 0 octets used, 0 bits and tool 0, save that TOOL gives the tool"
-pub record Nothing (w : Refusal) (r : ReadAnswer) (out out′ : List ℕ) : Type 0 where
+-- but for the refusal's bit
+pub record Nothing (w : Refusal) (at : ℕ) (r : ReadAnswer) (out out′ : List ℕ) : Type 0 where
   pub end : r .end ≡ Refused w
   pub len : r .frame .len ≡ 0
   pub samples : r .frame .samples ≡ replicate 320 0
   pub octets : r .octets ≡ 0
   pub bits : r .bits ≡ 0
   pub tool : r .tool ≡ refusalTool w
+  pub bit : r .bit ≡ at
   pub lent : out′ ≡ out
 
 pub refused-read : (octets : List ℕ) (law set : ℕ) (out out′ : List ℕ) (r : ReadAnswer) (w : Refusal) (at : ℕ)
-    → readOne octets law set (length out) ≡ refuse w at → ReadFrame octets law set out out′ r → Nothing w r out out′
+    → readOne octets law set (length out) ≡ refuse w at → ReadFrame octets law set out out′ r → Nothing w at r out out′
 refused-read octets law set out out′ r w at e c =
     let d : Reads (refuse w at) r out out′ = rw e at c in
-    record { end = d .end; len = d .frame .len; samples = d .frame .samples; octets = d .octets; bits = d .bits; tool = d .tool; lent = d .lent }
+    record { end = d .end; len = d .frame .len; samples = d .frame .samples; octets = d .octets; bits = d .bits; tool = d .tool; bit = d .bit; lent = d .lent }
 
 pub record NothingWritten (w : Refusal) (r : WriteAnswer) (out out′ : List ℕ) : Type 0 where
   pub end : r .end ≡ Refused w

@@ -16,7 +16,7 @@ use Rattle.rules.specs.Chooses.{applies, formOf, octetsOfForm, tieOrder, chosen
 use Rattle.rules.proofs.Octets.{length-pack}
 use Rattle.rules.proofs.Tests.{and-left, and-right, allBelow, allBelow-at}
 use Rattle.rules.proofs.Chosen.{FirstLeast, usable, order, writer-holds, choose-least, wider-least, first-of-fewer, one-first-least}
-use Rattle.promises.proofs.Written.{Wrote, wrote-by}
+use Rattle.promises.proofs.Written.{wrote-by}
 use Rattle.promises.proofs.Lists.{Part, padding, frameOf, writtenFor, octetsOf, stream}
 
 -- the octets of a frame's form, by the writer's set

@@ -6,7 +6,7 @@ use lib.ListN.{length, take}
 use Rattle.rules.specs.Bits.{fillFor}
 use Rattle.rules.specs.Reading.{Read, filled}
 use Rattle.rules.specs.Frame.{Found}
-use Rattle.rules.specs.Calls.{readEnd, readSamples, readOctets, readBits, readTool, atStart}
+use Rattle.rules.specs.Calls.{readEnd, readSamples, readOctets, readBits, readTool, readBit, atStart}
 use Rattle.reader.specs.declared.Report.{Report}
 
 -- a frame of tool t whose body is read: its filling bits, and the frame
@@ -19,6 +19,7 @@ pub record Tells (found : Read Found) (r : Report) : Type 0 where
   pub octets : r .octets ≡ readOctets found
   pub bits : r .bits ≡ readBits found
   pub tool : r .tool ≡ readTool found
+  pub bit : r .bit ≡ readBit found
 
 -- the samples are the first of the frame buffer's 320
 pub record Fills (found : Read Found) (r : Report) (buffer : List ℕ) : Type 0 where

@@ -21,13 +21,14 @@ use rules::Frame;
 use rules::ReadAnswer;
 use rules::Refusal;
 
-// What a reading reports; its samples stand where they were put.
+// What a reading reports; its samples stand where they were put. `bit` is the refusal's.
 pub struct Report {
     pub end: Ending,
     pub len: usize,
     pub octets: usize,
     pub bits: usize,
     pub tool: u32,
+    pub bit: usize,
 }
 
 // The body of a tool that the set holds, into the lent samples.
@@ -64,9 +65,9 @@ fn filling(octets: &[u8], end: usize) -> Outcome
     Outcome::Got(0, at)
 }
 
-// "A refused single call .. reports 0 samples, 0 octets used, 0 bits and tool 0, save that TOOL gives the tool."
-fn refused(why: Refusal) -> Report
-    ensures { λ r. ⌜ ((at : ℕ) → Tells (refuse why at) r) ⌝ }
+// "A refused single call .. reports 0 samples, 0 octets used, 0 bits and tool 0, save that TOOL gives the tool", and the refusal's bit.
+fn refused(why: Refusal, bit: usize) -> Report
+    ensures { λ r. ⌜ Tells (refuse why bit) r ⌝ }
 {
     let tool = rules::refusal_tool(why);
     Report {
@@ -75,6 +76,7 @@ fn refused(why: Refusal) -> Report
         octets: 0,
         bits: 0,
         tool,
+        bit,
     }
 }
 
@@ -88,6 +90,7 @@ fn pad() -> Report
         octets: 1,
         bits: 8,
         tool: 0,
+        bit: 0,
     }
 }
 
@@ -97,13 +100,14 @@ fn finished(octets: &[u8], tool: u32, len: usize, bits: usize) -> Report
     ensures { λ r. ⌜ ((s : List ℕ) → len ≡ length s → Tells (finish tool s bits (bitsOf (now (octets .entry)))) r) ⌝ }
 {
     match filling(octets, bits) {
-        Outcome::Refused(why, _) => refused(why),
+        Outcome::Refused(why, bit) => refused(why, bit),
         Outcome::Got(_, _) => Report {
             end: Ending::Done,
             len,
             octets: (bits + 7) / 8,
             bits,
             tool,
+            bit: 0,
         },
     }
 }
@@ -122,13 +126,13 @@ fn with_tool(
 {
     let tool = h.tool;
     if !prefix::holds(set, tool) {
-        return refused(Refusal::Tool(tool));
+        return refused(Refusal::Tool(tool), 0);
     }
     if room < h.len {
-        return refused(Refusal::Room);
+        return refused(Refusal::Room, 0);
     }
     match body_of(octets, law::mask_of(law), h, samples) {
-        Outcome::Refused(why, _) => refused(why),
+        Outcome::Refused(why, bit) => refused(why, bit),
         // A body read whole has the frame's length.
         Outcome::Got(_, bits) => finished(octets, tool, h.len, bits),
     }
@@ -151,7 +155,7 @@ pub fn read_into(octets: &[u8], law: u32, set: u32, out: &mut [u8]) -> Report
     ensures { λ r. ⌜ ReadsInto (readOne (now (octets .entry)) law set (length (now (out .entry)))) r (now (out .entry)) (now (out .exit)) ⌝ }
 {
     match opens(octets, law, set) {
-        Opening::Refused(why, _) => refused(why),
+        Opening::Refused(why, bit) => refused(why, bit),
         Opening::Pad => pad(),
         Opening::Body(h) => {
             let mut samples = [0; 320];
@@ -177,5 +181,6 @@ pub fn read_frame(octets: &[u8], law: u32, set: u32, out: &mut [u8]) -> ReadAnsw
         octets: r.octets,
         bits: r.bits,
         tool: r.tool,
+        bit: r.bit,
     }
 }

@@ -1,16 +1,35 @@
--- A value laid into the empty cells (specs/Located): each flag that is 1 fills one.
+-- Empty cells, and a value laid into them (specs/Located): each flag that is 1 fills one.
 use Prim.Native.Nat.{ℕ, zero, suc, _+_, _≤_, _<_}
-use mathlib.Core.Path.{_≡_, refl, _∙_}
+use mathlib.Core.Path.{_≡_, refl, ap, _∙_}
 use mathlib.Core.List.{List, [], _∷_}
 use mathlib.Core.Bool.{Bool, true, false, cond}
 use native.Mathlib.Omega.{arith}
 use native.Mathlib.Numerals.{add-one}
 use lib.Dec.{eqb}
-use lib.ListN.{length, getD, drop, drop-of-length-le}
+use lib.ListN.{length, getD, drop, replicate, drop-of-length-le}
 use lib.Seq.{drop-cons}
 use borrow.Author.Tests.{eq-eqb}
 use Rattle.rules.specs.Located.{emptyIn, lay}
 use Rattle.rules.specs.Chooses.{countOf}
+
+pub empty-most : (z : ℕ) (cells : List ℕ) → emptyIn z cells ≤ length cells
+unfolding emptyIn
+empty-most z [] = omega arith
+empty-most z (y ∷ cells) = go (eqb y z) (empty-most z cells)
+  where
+    go : (b : Bool) → emptyIn z cells ≤ length cells → cond b 1 0 + emptyIn z cells ≤ suc (length cells)
+    go true h = omega arith
+    go false h = omega arith
+
+pub empty-all : (z n : ℕ) → emptyIn z (replicate n z) ≡ n
+unfolding emptyIn
+empty-all z zero = refl
+empty-all z (suc n) = let e = empty-all z n in rw (eq-eqb z z refl) (omega arith)
+
+pub length-lay : (z x : ℕ) (flags : List ℕ) (p : ℕ) (cells : List ℕ) → length (lay z x flags p cells) ≡ length cells
+unfolding lay
+length-lay z x flags p [] = refl
+length-lay z x flags p (y ∷ cells) = ap suc (length-lay z x flags (cond (eqb y z) (p + 1) p) cells)
 
 one-cell : (z x : ℕ) (b : Bool) → eqb x z ≡ false → cond (eqb (cond b x z) z) 1 0 + cond b 1 0 ≡ 1
 one-cell z x true h = rw h

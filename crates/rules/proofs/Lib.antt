@@ -10,6 +10,7 @@ pub mod Located
 pub mod Gives
 pub mod Accepted
 pub mod Named
+pub mod WhichBit
 pub mod Kept
 pub mod Laid
 pub mod Room

@@ -38,6 +38,12 @@ abbrev pub readTool : Read Found → ℕ
 readTool (whole f i) = f .tool
 readTool (refuse w at) = refusalTool w
 
+-- Document 02, R-7: "Every refusal from 1 to 9 gives one bit, counted from 0 at the frame's start .. 0 for PREFIX, TOOL and ROOM."
+-- LAW and SET, and an accepted frame, give 0.
+abbrev pub readBit : Read Found → ℕ
+readBit (whole f i) = 0
+readBit (refuse w at) = at
+
 -- these samples at the start, the rest as lent
 abbrev pub atStart : List ℕ → List ℕ → List ℕ
 atStart s out = s ++ drop (length s) out
@@ -53,6 +59,7 @@ pub record Reads (found : Read Found) (r : ReadAnswer) (out out′ : List ℕ) :
   pub octets : r .octets ≡ readOctets found
   pub bits : r .bits ≡ readBits found
   pub tool : r .tool ≡ readTool found
+  pub bit : r .bit ≡ readBit found
   pub lent : out′ ≡ atStart (readSamples found) out
 
 -- reading one frame
@@ -93,6 +100,7 @@ pub record Walks (walked : Walked) (r : WalkAnswer) (out out′ : List ℕ) : Ty
   pub octets : r .octets ≡ octetsKept (walked .frames)
   pub samples : r .samples ≡ length (samplesKept (walked .frames))
   pub place : r .place ≡ walked .place
+  pub bit : r .bit ≡ walked .bit
   pub lent : out′ ≡ atStart (samplesKept (walked .frames)) out
 
 -- walking a stream

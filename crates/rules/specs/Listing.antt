@@ -1,4 +1,5 @@
 -- Document 01, "Walk and listing": what the listing program prints, as octets. Every line ends in octet 0A.
+-- Document 02, R-7: "The listing's stop line gains ` bit=` at its end, 0 on stops 0, 12 and 13."
 use Prim.Native.Nat.{ℕ, zero, suc, _+_, _*_, _/_, _%_}
 use mathlib.Core.List.{List, [], _∷_, _++_}
 use mathlib.Core.Bool.{cond, not}
@@ -24,7 +25,7 @@ lineEnd = 0x0A ∷ []
 abbrev pub field : List ℕ → ℕ → List ℕ
 field word n = word ++ decimal n
 
--- "law=", "frame=", " at=", "samples=" and " samples=", " tool=", " octets=", " bits=", "stop="
+-- "law=", "frame=", " at=", "samples=" and " samples=", " tool=", " octets=", " bits=", "stop=", " bit="
 abbrev pub lawWord : List ℕ
 lawWord = 0x6C ∷ 0x61 ∷ 0x77 ∷ 0x3D ∷ []
 
@@ -49,6 +50,9 @@ bitsWord = 0x20 ∷ 0x62 ∷ 0x69 ∷ 0x74 ∷ 0x73 ∷ 0x3D ∷ []
 abbrev pub stopWord : List ℕ
 stopWord = 0x73 ∷ 0x74 ∷ 0x6F ∷ 0x70 ∷ 0x3D ∷ []
 
+abbrev pub bitWord : List ℕ
+bitWord = 0x20 ∷ 0x62 ∷ 0x69 ∷ 0x74 ∷ 0x3D ∷ []
+
 -- the lines
 unfoldable pub lawLine : ℕ → List ℕ
 lawLine law = field lawWord law ++ lineEnd
@@ -58,8 +62,11 @@ frameLine k place samples tool octets bits =
     field frameWord k ++ (field atWord place ++ (field (0x20 ∷ samplesWord) samples ++ (field toolWord tool
     ++ (field octetsWord octets ++ (field bitsWord bits ++ lineEnd)))))
 
-unfoldable pub stopLine : ℕ → ℕ → ℕ → List ℕ
-stopLine number place tool = field stopWord number ++ (field atWord place ++ (field toolWord tool ++ lineEnd))
+abbrev pub stopFields : ℕ → ℕ → ℕ → List ℕ
+stopFields number place tool = field stopWord number ++ (field atWord place ++ field toolWord tool)
+
+unfoldable pub stopLine : ℕ → ℕ → ℕ → ℕ → List ℕ
+stopLine number place tool bit = stopFields number place tool ++ (field bitWord bit ++ lineEnd)
 
 unfoldable pub samplesLine : ℕ → List ℕ
 samplesLine n = field samplesWord n ++ lineEnd
@@ -74,7 +81,7 @@ frameLines k (f ∷ fs) =
 abbrev pub walkLines : Walked → List ℕ
 walkLines w =
     frameLines 0 (w .frames)
-    ++ (stopLine (numberOf (w .end)) (w .place) (toolNamed (w .end)) ++ samplesLine (length (samplesKept (w .frames))))
+    ++ (stopLine (numberOf (w .end)) (w .place) (toolNamed (w .end)) (w .bit) ++ samplesLine (length (samplesKept (w .frames))))
 
 -- "a stream of at most 65,535 octets": the program's own bound
 abbrev pub mostListed : ℕ
@@ -84,11 +91,11 @@ mostListed = 65535
 -- "a longer stream prints that line with 13"
 unfoldable pub listStream : ℕ → List ℕ → List ℕ
 listStream law stream =
-    cond (not (leb (length stream) mostListed)) (stopLine (refusalNumber Long) 0 0)
+    cond (not (leb (length stream) mostListed)) (stopLine (refusalNumber Long) 0 0 0)
     (lawLine law ++ walkLines (walkAll stream law 127 (320 * length stream)))
 
--- "Input with no or another first octet prints `stop=12 at=0 tool=0` only"
+-- "Input with no or another first octet prints `stop=12 at=0 tool=0` only", and from R-7 on ` bit=0` after it
 unfoldable pub listing : List ℕ → List ℕ
-listing [] = stopLine (refusalNumber Law) 0 0
+listing [] = stopLine (refusalNumber Law) 0 0 0
 listing (letter ∷ stream) =
-    cond (eqb letter 0x41) (listStream 0 stream) (cond (eqb letter 0x4D) (listStream 1 stream) (stopLine (refusalNumber Law) 0 0))
+    cond (eqb letter 0x41) (listStream 0 stream) (cond (eqb letter 0x4D) (listStream 1 stream) (stopLine (refusalNumber Law) 0 0 0))

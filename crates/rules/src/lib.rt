@@ -94,22 +94,24 @@ pub fn tool_of(end: Ending) -> u32
     }
 }
 
-// Reading one frame.
+// Reading one frame; `bit` is the refusal's (document 02, R-7).
 pub struct ReadAnswer {
     pub end: Ending,
     pub frame: Frame,
     pub octets: usize,
     pub bits: usize,
     pub tool: u32,
+    pub bit: usize,
 }
 
-// Walking a stream: what was kept, and the place of the refused frame.
+// Walking a stream: what was kept, the place of the refused frame, and its bit.
 pub struct WalkAnswer {
     pub end: Ending,
     pub frames: usize,
     pub octets: usize,
     pub samples: usize,
     pub place: usize,
+    pub bit: usize,
 }
 
 // Writing one frame.

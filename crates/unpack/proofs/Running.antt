@@ -15,18 +15,18 @@ use Rattle.unpacking.proofs.Whole.{Unpacked, last, part, Keeps, unpacked-whole}
 use Rattle.unpack.specs.Runs.{Before, none, one-more, NextSound, TellsWalk}
 
 -- the parts before, and those from there on, are all the parts
-all-parts : {stream : List ℕ} {law set : ℕ} {done sound : List ℕ} {count frames at place : ℕ} {end : Ending} → Before stream law set done count at
-    → Unpacked stream law set at sound frames end place → Unpacked stream law set 0 (done ++ sound) (count + frames) end place
-all-parts {stream} {law} {set} {sound = sound} {frames = frames} {place = place} {end = end} none u =
+all-parts : {stream : List ℕ} {law set : ℕ} {done sound : List ℕ} {count frames at place bit : ℕ} {end : Ending} → Before stream law set done count at
+    → Unpacked stream law set at sound frames end place bit → Unpacked stream law set 0 (done ++ sound) (count + frames) end place bit
+all-parts {stream} {law} {set} {sound = sound} {frames = frames} {place = place} {bit = bit} {end = end} none u =
     let e : frames ≡ 0 + frames = omega arith in
-    subst (λ (n : ℕ). Unpacked stream law set 0 sound n end place) e u
+    subst (λ (n : ℕ). Unpacked stream law set 0 sound n end place bit) e u
 all-parts {stream} {law} {set} {sound = sound} {frames = frames} {place = place} {end = end} (one-more {sound = before} {frames = count} {out′ = out′} {r = r} b n m) u =
     let t = all-parts b (part n m u) in
     rw (append-assoc before (take (r .samples) out′) sound, add-assoc count (r .frames) frames) t
 
 -- so the sound written, with the last part, is the sound of the walk
 pub last-keeps : {stream : List ℕ} {law set at : ℕ} {page : List ℕ} {p : Part} (s : NextSound stream law set at page p) → p .more ≡ false
-    → Keeps (walkAll stream law set (320 * length stream)) (s .sound ++ take (p .samples) page) (s .frames + p .frames) (p .end) (p .at)
+    → Keeps (walkAll stream law set (320 * length stream)) (s .sound ++ take (p .samples) page) (s .frames + p .frames) (p .end) (p .at) (p .bit)
 last-keeps {stream} {law} {set} s m = unpacked-whole stream law set (all-parts (s .before) (last (s .is) m)) (320 * length stream) (omega arith)
 
 -- the parts so far
@@ -64,12 +64,13 @@ module _ (stream : List ℕ) (law set : ℕ) where
           }
 
       pub goes-whole : p .more ≡ false → {wrong : ℕ}
-          → TellsWalk stream law set (record { end = p .end; at = p .at; frames = frames + p .frames; samples = samples + good; wrong = wrong })
+          → TellsWalk stream law set (record { end = p .end; at = p .at; bit = p .bit; frames = frames + p .frames; samples = samples + good; wrong = wrong })
       goes-whole m =
           let k = last-keeps next-sound m in
           record {
             end = k .end-is;
             at = k .place-is;
+            bit = k .bit-is;
             frames = k .frames-are;
             samples =
                 omega (arith, w .kept, u, part-size, length-append (w .sound) (take (p .samples) page′))

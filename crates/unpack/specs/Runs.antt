@@ -33,5 +33,6 @@ pub record UsesUpTo (size : ℕ) (r : Used) : Type 0 where
 pub record TellsWalk (stream : List ℕ) (law set : ℕ) (t : Total) : Type 0 where
   pub end : t .end ≡ walkAll stream law set (320 * length stream) .end
   pub at : t .at ≡ walkAll stream law set (320 * length stream) .place
+  pub bit : t .bit ≡ walkAll stream law set (320 * length stream) .bit
   pub frames : t .frames ≡ length (walkAll stream law set (320 * length stream) .frames)
   pub samples : t .samples ≡ length (samplesKept (walkAll stream law set (320 * length stream) .frames))

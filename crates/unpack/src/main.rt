@@ -26,10 +26,11 @@ struct Used {
     good: usize,
 }
 
-// What came of a stream: how it ended and where, the frames, the samples that are well, and what is wrong.
+// What came of a stream: how it ended and where, the refusal's bit, the frames, the samples that are well, and what is wrong.
 struct Total {
     end: Ending,
     at: usize,
+    bit: usize,
     frames: usize,
     samples: usize,
     wrong: u32,
@@ -133,6 +134,7 @@ fn parts(
         let total = Total {
             end,
             at: p.at,
+            bit: p.bit,
             frames,
             samples,
             wrong: u.wrong,
@@ -163,10 +165,10 @@ fn finish(t: Total) {
     let end = t.end;
     let number = rules::number_of(end);
     if number == 0 {
-        console::stop(0, t.at, 0);
+        console::stop(false, 0, t.at, 0, 0);
         return;
     }
-    console::refused(false, number, t.at, rules::tool_of(end));
+    console::refused(false, number, t.at, rules::tool_of(end), t.bit);
 }
 
 // Reads the stream, and one octet more where it is too long; says what failed.
@@ -221,7 +223,7 @@ fn differs(wrong: u32, place: usize) {
         console::say_number(b"the sound differs from the master at octet ", place);
     }
     console::say(b"\n");
-    console::stop(65, place, 0);
+    console::stop(false, 65, place, 0, 0);
 }
 
 // What is wrong with a master after its octets for all the sound: nothing, or it is longer.
@@ -280,7 +282,7 @@ fn compare_with(stream: &[u8], law: u32, set: u32, name: &[u8])
 // Reads the stream, and writes or compares its sound. `name` is INFILE, `other` OUTFILE or the master. SET comes before any file.
 fn run(s: Settings, law: u32, name: &[u8], other: &[u8]) {
     if 127 < s.set {
-        console::refused(false, 11, 0, 0);
+        console::refused(false, 11, 0, 0, 0);
         return;
     }
     let mut stream = [0u8; 65536];
@@ -290,7 +292,7 @@ fn run(s: Settings, law: u32, name: &[u8], other: &[u8]) {
     }
     let n = got.count;
     if 65535 < n {
-        console::refused(false, 13, 0, 0);
+        console::refused(false, 13, 0, 0, 0);
         return;
     }
     if s.master == 0 {

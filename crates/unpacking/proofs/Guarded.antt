@@ -14,12 +14,12 @@ use Rattle.unpacking.specs.declared.Part.{Part}
 use Rattle.unpacking.specs.Parts.{Parted, halted, partFrom, partOf, Parts, Goes, StopsAtOnce}
 
 -- no frame, and the output is as lent
-pub stops : {why : Refusal} {r : Part} (octets : List ℕ) (at : ℕ) (out : List ℕ) {p : Parted} → StopsAtOnce why r → halted (Refused why) 0 false ≡ p
+pub stops : {why : Refusal} {r : Part} (octets : List ℕ) (at : ℕ) (out : List ℕ) {p : Parted} → StopsAtOnce why r → halted (Refused why) 0 0 false ≡ p
     → Parts p r out out × Goes octets at out r
 unfolding samplesKept
 stops {why} {r} octets at out s e = (
   subst (λ (p : Parted). Parts p r out out) e
-      (record { end = s .end; at = s .at; frames = s .frames; samples = s .samples; more = s .more; lent = refl }),
+      (record { end = s .end; at = s .at; bit = s .bit; frames = s .frames; samples = s .samples; more = s .more; lent = refl }),
   record {
     fits = omega (arith, s .samples);
     held = omega (arith, s .samples);
@@ -31,15 +31,15 @@ stops {why} {r} octets at out s e = (
 )
 
 module _ (octets : List ℕ) (law set at room : ℕ) where
-  pub no-law : 1 < law → halted (Refused Law) 0 false ≡ partOf octets law set at room
+  pub no-law : 1 < law → halted (Refused Law) 0 0 false ≡ partOf octets law set at room
   unfolding partOf
   no-law h = rw (lt-leb law 1 h)
 
-  pub no-set : law ≤ 1 → 127 < set → halted (Refused Set) 0 false ≡ partOf octets law set at room
+  pub no-set : law ≤ 1 → 127 < set → halted (Refused Set) 0 0 false ≡ partOf octets law set at room
   unfolding partOf
   no-set g h = rw (le-leb law 1 g, lt-leb set 127 h)
 
-  pub too-long : law ≤ 1 → set ≤ 127 → 65535 < length octets → halted (Refused Long) 0 false ≡ partOf octets law set at room
+  pub too-long : law ≤ 1 → set ≤ 127 → 65535 < length octets → halted (Refused Long) 0 0 false ≡ partOf octets law set at room
   unfolding partOf
   too-long g h l = rw (le-leb law 1 g, le-leb set 127 h, lt-leb (length octets) 65535 l)
 

@@ -23,11 +23,11 @@ use Rattle.unpacking.specs.Parts.{Parted, halted, withFrame, partFrom, P
 
 -- frames, and then the rest of a part
 abbrev pub after : List Delivered → Parted → Parted
-after done p = record { frames = done ++ p .frames; end = p .end; place = p .place; more = p .more }
+after done p = record { frames = done ++ p .frames; end = p .end; place = p .place; bit = p .bit; more = p .more }
 
 after-with : (done : List Delivered) (f : Delivered) (p : Parted) → after done (withFrame f p) ≡ after (done ++ (f ∷ [])) p
 after-with done f p =
-    ap (λ (l : List Delivered). record { frames = l; end = p .end; place = p .place; more = p .more }) (sym (append-assoc done (f ∷ []) (p .frames)))
+    ap (λ (l : List Delivered). record { frames = l; end = p .end; place = p .place; bit = p .bit; more = p .more }) (sym (append-assoc done (f ∷ []) (p .frames)))
 
 -- a frame, and then the rest; or a frame that is refused, and no rest
 module _ (octets : List ℕ) (law set more n at room : ℕ) (e : more ≡ suc n) (h : at < length octets) (l : 320 ≤ room) where
@@ -38,7 +38,7 @@ module _ (octets : List ℕ) (law set more n at room : ℕ) (e : more ≡ suc n)
   part-next next left f q u r = rw (e, lt-leb (length octets) at h, le-ltb room 320 l, q, u, r)
 
   part-off : (bit : ℕ) (why : Refusal) → readOne (drop at octets) law set 320 ≡ refuse why bit
-      → partFrom more octets law set at room ≡ halted (Refused why) at false
+      → partFrom more octets law set at room ≡ halted (Refused why) at bit false
   unfolding partFrom
   part-off bit why q = rw (e, lt-leb (length octets) at h, le-ltb room 320 l, q)
 
@@ -73,13 +73,14 @@ module _ (octets : List ℕ) (law set from : ℕ) (out₀ : List ℕ) where
       }
 
   -- where it stops, with no frame left
-  part-stop : {out : List ℕ} {at to count : ℕ} (w : Parting out at to count) (e : Ending) (more : Bool)
-      → partFrom (w .more) octets law set at (length out₀ - to) ≡ halted e at more
-      → Parts parted (record { end = e; at = at; frames = count; samples = to; more = more }) out₀ out
-  part-stop {out} {at} {to} {count} w e more q =
-      subst (λ (x : Parted). Parts x (record { end = e; at = at; frames = count; samples = to; more = more }) out₀ out) (sym (w .is-whole ∙ ap (after (w .done)) q)) (record {
+  part-stop : {out : List ℕ} {at to count : ℕ} (w : Parting out at to count) (e : Ending) (bit : ℕ) (more : Bool)
+      → partFrom (w .more) octets law set at (length out₀ - to) ≡ halted e at bit more
+      → Parts parted (record { end = e; at = at; bit = bit; frames = count; samples = to; more = more }) out₀ out
+  part-stop {out} {at} {to} {count} w e bit more q =
+      subst (λ (x : Parted). Parts x (record { end = e; at = at; bit = bit; frames = count; samples = to; more = more }) out₀ out) (sym (w .is-whole ∙ ap (after (w .done)) q)) (record {
         end = refl;
         at = refl;
+        bit = refl;
         frames = rw append-nil (w .frames);
         samples = rw append-nil (w .kept .size);
         more = refl;
@@ -88,28 +89,28 @@ module _ (octets : List ℕ) (law set from : ℕ) (out₀ : List ℕ) where
 
   module _ {out : List ℕ} {at to count : ℕ} (w : Parting out at to count) where
     -- the end of the stream
-    pub part-done : length octets ≤ at → Parts parted (record { end = Done; at = at; frames = count; samples = to; more = false }) out₀ out
+    pub part-done : length octets ≤ at → Parts parted (record { end = Done; at = at; bit = 0; frames = count; samples = to; more = false }) out₀ out
     unfolding partFrom
     part-done h = go (w .more) refl
       where
-        go : (n : ℕ) → w .more ≡ n → Parts parted (record { end = Done; at = at; frames = count; samples = to; more = false }) out₀ out
-        go zero e = part-stop w Done false (rw e)
-        go (suc n) e = part-stop w Done false (rw (e, le-leb (length octets) at h))
+        go : (n : ℕ) → w .more ≡ n → Parts parted (record { end = Done; at = at; bit = 0; frames = count; samples = to; more = false }) out₀ out
+        go zero e = part-stop w Done 0 false (rw e)
+        go (suc n) e = part-stop w Done 0 false (rw (e, le-leb (length octets) at h))
 
     -- what ends a part ends its frames
-    pub goes-ended : (e : Ending) → Goes octets from out₀ (record { end = e; at = at; frames = count; samples = to; more = false })
-    goes-ended e = record { fits = w .kept .room; held = w .held; few = w .inside; passed = λ m. absurd (false≢true m); nearer = λ h m. absurd (false≢true m); inside = λ m. absurd (false≢true m) }
+    pub goes-ended : (e : Ending) (bit : ℕ) → Goes octets from out₀ (record { end = e; at = at; bit = bit; frames = count; samples = to; more = false })
+    goes-ended e bit = record { fits = w .kept .room; held = w .held; few = w .inside; passed = λ m. absurd (false≢true m); nearer = λ h m. absurd (false≢true m); inside = λ m. absurd (false≢true m) }
 
     module _ (h : at < length octets) where
       more-is : w .more ≡ suc (w .more - 1)
       more-is = omega (arith, w .enough)
 
       -- no room for any frame
-      pub part-full : length out₀ - to < 320 → Parts parted (record { end = Done; at = at; frames = count; samples = to; more = true }) out₀ out
+      pub part-full : length out₀ - to < 320 → Parts parted (record { end = Done; at = at; bit = 0; frames = count; samples = to; more = true }) out₀ out
       unfolding partFrom
-      part-full l = part-stop w Done true (rw (more-is, lt-leb (length octets) at h, lt-ltb (length out₀ - to) 320 l))
+      part-full l = part-stop w Done 0 true (rw (more-is, lt-leb (length octets) at h, lt-ltb (length out₀ - to) 320 l))
 
-      pub goes-on : length out₀ - to < 320 → Goes octets from out₀ (record { end = Done; at = at; frames = count; samples = to; more = true })
+      pub goes-on : length out₀ - to < 320 → Goes octets from out₀ (record { end = Done; at = at; bit = 0; frames = count; samples = to; more = true })
       goes-on l = record { fits = w .kept .room; held = w .held; few = w .inside; passed = λ m. w .few; nearer = λ k m. omega (arith, w .few, w .held); inside = λ m. omega arith }
 
       -- a step, as its answer says
@@ -119,12 +120,13 @@ module _ (octets : List ℕ) (law set from : ℕ) (out₀ : List ℕ) where
 
         -- a frame that is refused
         pub part-refused : (why : Refusal) → r .end ≡ Refused why
-            → Parts parted (record { end = Refused why; at = at; frames = count; samples = to; more = false }) out₀ out′
+            → Parts parted (record { end = Refused why; at = at; bit = r .bit; frames = count; samples = to; more = false }) out₀ out′
         part-refused why e =
             let a = refused read-here e in
-            subst (λ (x : List ℕ). Parts parted (record { end = Refused why; at = at; frames = count; samples = to; more = false }) out₀ x)
+            subst (λ (x : List ℕ). Parts parted (record { end = Refused why; at = at; bit = r .bit; frames = count; samples = to; more = false }) out₀ x)
             (sym (lent-same (w .kept) (s .lent) (a .tells .lent)))
-            (part-stop w (Refused why) false (part-off octets law set (w .more) (w .more - 1) at (length out₀ - to) more-is h l (a .bit) why (a .is)))
+            (part-stop w (Refused why) (r .bit) false (part-off octets law set (w .more) (w .more - 1) at (length out₀ - to) more-is h l (r .bit) why
+            (a .is ∙ ap (refuse why) (sym (a .tells .tells .bit)))))
 
         -- a frame that is accepted
         pub part-turn : r .end ≡ Done

@@ -16,47 +16,49 @@ use Rattle.rules.specs.Walk.{Delivered, longest, samplesKept}
 use Rattle.rules.specs.Calls.{atStart}
 use Rattle.unpacking.specs.declared.Part.{Part}
 
--- a part: its frames, how it ended, the place where it ended, and whether there is more
+-- a part: its frames, how it ended, the place where it ended, the refusal's bit, and whether there is more
 pub record Parted : Type 0 where
   pub frames : List Delivered
   pub end : Ending
   pub place : ℕ
+  pub bit : ℕ
   pub more : Bool
 
 -- no frame
-abbrev pub halted : Ending → ℕ → Bool → Parted
-halted end place more = record { frames = []; end = end; place = place; more = more }
+abbrev pub halted : Ending → ℕ → ℕ → Bool → Parted
+halted end place bit more = record { frames = []; end = end; place = place; bit = bit; more = more }
 
 -- a frame, and then the rest of the part
 abbrev pub withFrame : Delivered → Parted → Parted
-withFrame f p = record { frames = f ∷ p .frames; end = p .end; place = p .place; more = p .more }
+withFrame f p = record { frames = f ∷ p .frames; end = p .end; place = p .place; bit = p .bit; more = p .more }
 
-abbrev pub goOn : Read Found → (Found → Parted) → (Refusal → Parted) → Parted
+abbrev pub goOn : Read Found → (Found → Parted) → (Refusal → ℕ → Parted) → Parted
 goOn (whole f i) next stop = next f
-goOn (refuse w bit) next stop = stop w
+goOn (refuse w bit) next stop = stop w bit
 
 -- frame after frame from place `at` on, as in `walkFrom`; a part ends, with more to come, where the room left is below 320
 unfoldable pub partFrom : ℕ → List ℕ → ℕ → ℕ → ℕ → ℕ → Parted
-partFrom zero octets law set at room = halted Done at false
+partFrom zero octets law set at room = halted Done at 0 false
 partFrom (suc more) octets law set at room =
-    cond (leb (length octets) at) (halted Done at false)
-    (cond (ltb room 320) (halted Done at true)
+    cond (leb (length octets) at) (halted Done at 0 false)
+    (cond (ltb room 320) (halted Done at 0 true)
     (goOn (readOne (drop at octets) law set 320)
     (λ f. withFrame (record { place = at; found = f }) (partFrom more octets law set (at + octetsUsed f) (room - length (f .samples))))
-    (λ w. halted (Refused w) at false)))
+    (λ w bit. halted (Refused w) at bit false)))
 
 -- "LAW, SET and LONG refuse a walk before any frame, with place 0."
 unfoldable pub partOf : List ℕ → ℕ → ℕ → ℕ → ℕ → Parted
 partOf octets law set at room =
-    cond (not (isLaw law)) (halted (Refused Law) 0 false)
-    (cond (not (isSet set)) (halted (Refused Set) 0 false)
-    (cond (not (leb (length octets) longest)) (halted (Refused Long) 0 false)
+    cond (not (isLaw law)) (halted (Refused Law) 0 0 false)
+    (cond (not (isSet set)) (halted (Refused Set) 0 0 false)
+    (cond (not (leb (length octets) longest)) (halted (Refused Long) 0 0 false)
     (partFrom (suc (length octets)) octets law set at room)))
 
 -- the answer and the lent output are those of a part
 pub record Parts (parted : Parted) (r : Part) (out out′ : List ℕ) : Type 0 where
   pub end : r .end ≡ parted .end
   pub at : r .at ≡ parted .place
+  pub bit : r .bit ≡ parted .bit
   pub frames : r .frames ≡ length (parted .frames)
   pub samples : r .samples ≡ length (samplesKept (parted .frames))
   pub more : r .more ≡ parted .more
@@ -78,6 +80,7 @@ pub record Goes (octets : List ℕ) (at : ℕ) (out : List ℕ) (r : Part) : Typ
 pub record StopsAtOnce (why : Refusal) (r : Part) : Type 0 where
   pub end : r .end ≡ Refused why
   pub at : r .at ≡ 0
+  pub bit : r .bit ≡ 0
   pub frames : r .frames ≡ 0
   pub samples : r .samples ≡ 0
   pub more : r .more ≡ false

@@ -6,22 +6,24 @@ ghost use Rattle.unpacking.specs.Parts.{Parts, partFrom, NextPart, Goes,
 use rules::Ending;
 use rules::Refusal;
 
-// A part of a walk: how it ended, the place where it ended, its frames and their samples, and whether there is more.
+// A part of a walk: how it ended, the place where it ended, the refusal's bit, its frames and their samples, and whether there is more.
 pub struct Part {
     pub end: Ending,
     pub at: usize,
+    pub bit: usize,
     pub frames: usize,
     pub samples: usize,
     pub more: bool,
 }
 
 // What is unpacked so far, as a part.
-fn so_far(end: Ending, at: usize, frames: usize, samples: usize, more: bool) -> Part
-    ensures { λ r. ⌜ r ≡ record { end = end; at = at; frames = frames; samples = samples; more = more } ⌝ }
+fn so_far(end: Ending, at: usize, bit: usize, frames: usize, samples: usize, more: bool) -> Part
+    ensures { λ r. ⌜ r ≡ record { end = end; at = at; bit = bit; frames = frames; samples = samples; more = more } ⌝ }
 {
     Part {
         end,
         at,
+        bit,
         frames,
         samples,
         more,
@@ -39,16 +41,16 @@ fn frames_from(stream: &[u8], law: u32, set: u32, from: usize, out: &mut [u8]) -
     let mut frames = 0;
     loop {
         if stream.len() <= at {
-            return so_far(Ending::Done, at, frames, to, false);
+            return so_far(Ending::Done, at, 0, frames, to, false);
         }
         if out.len() - to < 320 {
-            return so_far(Ending::Done, at, frames, to, true);
+            return so_far(Ending::Done, at, 0, frames, to, true);
         }
         let r = walk::step(stream, law, set, at, out, to);
         let e = r.end;
         match e {
             Ending::Refused(why) => {
-                return so_far(Ending::Refused(why), at, frames, to, false);
+                return so_far(Ending::Refused(why), at, r.bit, frames, to, false);
             }
             Ending::Done => {
                 at += r.octets;
@@ -66,6 +68,7 @@ fn stopped(why: Refusal) -> Part
     Part {
         end: Ending::Refused(why),
         at: 0,
+        bit: 0,
         frames: 0,
         samples: 0,
         more: false,

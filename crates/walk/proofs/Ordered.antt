@@ -17,7 +17,7 @@ pub stops : {why : Refusal} {r : WalkAnswer} → StopsAtOnce why r → (w : Walk
 unfolding octetsKept samplesKept
 stops {why} {r} s w e out =
     subst (λ (w : Walked). Walks w r out out) e
-    (record { end = s .end; frames = s .frames; octets = s .octets; samples = s .samples; place = s .place; lent = refl })
+    (record { end = s .end; frames = s .frames; octets = s .octets; samples = s .samples; place = s .place; bit = s .bit; lent = refl })
 
 module _ (octets : List ℕ) (law set room : ℕ) where
   pub no-law : 1 < law → stopped (Refused Law) 0 0 ≡ walkAll octets law set room

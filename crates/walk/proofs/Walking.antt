@@ -65,21 +65,22 @@ module _ (octets : List ℕ) (law set : ℕ) (out₀ : List ℕ) where
   -- where it stops, with no frame left
   pub walk-stop : {out : List ℕ} {at to count : ℕ} (w : Walking out at to count) (e : Ending) (bit : ℕ)
       → walkFrom (w .more) octets law set at (length out₀ - to) ≡ stopped e at bit
-      → Walks walked (record { end = e; frames = count; octets = at; samples = to; place = at }) out₀ out
+      → Walks walked (record { end = e; frames = count; octets = at; samples = to; place = at; bit = bit }) out₀ out
   walk-stop {out} {at} {to} {count} w e bit q =
-      subst (λ (x : Walked). Walks x (record { end = e; frames = count; octets = at; samples = to; place = at }) out₀ out) (sym (w .is-whole ∙ ap (after (w .done)) q)) (record {
+      subst (λ (x : Walked). Walks x (record { end = e; frames = count; octets = at; samples = to; place = at; bit = bit }) out₀ out) (sym (w .is-whole ∙ ap (after (w .done)) q)) (record {
         end = refl;
         frames = rw append-nil (w .frames);
         octets = rw append-nil (w .octets-kept);
         samples = rw append-nil (w .kept .size);
         place = refl;
+        bit = refl;
         lent = rw append-nil (lent-at-start (w .kept));
       })
 
   module _ {out : List ℕ} {at to count : ℕ} (w : Walking out at to count) where
     -- the end of the stream
     pub walk-done : length octets ≤ at
-        → Walks walked (record { end = Done; frames = count; octets = at; samples = to; place = at }) out₀ out
+        → Walks walked (record { end = Done; frames = count; octets = at; samples = to; place = at; bit = 0 }) out₀ out
     unfolding walkFrom
     walk-done h =
         let e : w .more ≡ suc (w .more - 1) = omega (arith, w .enough, w .inside) in
@@ -98,12 +99,13 @@ module _ (octets : List ℕ) (law set : ℕ) (out₀ : List ℕ) where
 
       -- a frame that is refused
       pub walk-refused : (why : Refusal) → r .end ≡ Refused why
-          → Walks walked (record { end = Refused why; frames = count; octets = at; samples = to; place = at }) out₀ out′
+          → Walks walked (record { end = Refused why; frames = count; octets = at; samples = to; place = at; bit = r .bit }) out₀ out′
       walk-refused why e =
           let a = refused read-here e in
-          subst (λ (x : List ℕ). Walks walked (record { end = Refused why; frames = count; octets = at; samples = to; place = at }) out₀ x)
+          subst (λ (x : List ℕ). Walks walked (record { end = Refused why; frames = count; octets = at; samples = to; place = at; bit = r .bit }) out₀ x)
           (sym (lent-same (w .kept) (s .lent) (a .tells .lent)))
-          (walk-stop w (Refused why) (a .bit) (walk-off octets law set (w .more) (w .more - 1) at (length out₀ - to) (a .bit) why more-is h (a .is)))
+          (walk-stop w (Refused why) (r .bit) (walk-off octets law set (w .more) (w .more - 1) at (length out₀ - to) (r .bit) why more-is h
+          (a .is ∙ ap (refuse why) (sym (a .tells .tells .bit)))))
 
       -- a frame that is accepted
       pub walk-turn : r .end ≡ Done → Walking out′ (at + r .octets) (to + r .len) (count + 1)

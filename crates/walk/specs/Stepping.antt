@@ -22,3 +22,4 @@ pub record StopsAtOnce (why : Refusal) (r : WalkAnswer) : Type 0 where
   pub octets : r .octets ≡ 0
   pub samples : r .samples ≡ 0
   pub place : r .place ≡ 0
+  pub bit : r .bit ≡ 0

@@ -17,6 +17,12 @@ pub fn step(octets: &[u8], law: u32, set: u32, at: usize, out: &mut [u8], to: us
     reader::read_into(&octets[at..], law, set, &mut out[to..])
 }
 
+// How a walk stops, and the refusal's bit.
+struct Stop {
+    end: Ending,
+    bit: usize,
+}
+
 // Frame after frame, up to the end of the stream or to the frame that is refused.
 fn frames(octets: &[u8], law: u32, set: u32, out: &mut [u8]) -> WalkAnswer
     requires { ⌜ length (now octets) ≤ 65535 ⌝ }
@@ -25,14 +31,22 @@ fn frames(octets: &[u8], law: u32, set: u32, out: &mut [u8]) -> WalkAnswer
     let mut at = 0;
     let mut to = 0;
     let mut count = 0;
-    let end = 'frames: loop {
+    let stop = 'frames: loop {
         if octets.len() <= at {
-            break 'frames Ending::Done;
+            break 'frames Stop {
+                end: Ending::Done,
+                bit: 0,
+            };
         }
         let r = step(octets, law, set, at, out, to);
         let e = r.end;
         match e {
-            Ending::Refused(why) => break 'frames Ending::Refused(why),
+            Ending::Refused(why) => {
+                break 'frames Stop {
+                    end: Ending::Refused(why),
+                    bit: r.bit,
+                };
+            }
             Ending::Done => {
                 at += r.octets;
                 to += r.len;
@@ -40,12 +54,14 @@ fn frames(octets: &[u8], law: u32, set: u32, out: &mut [u8]) -> WalkAnswer
             }
         }
     };
+    let end = stop.end;
     WalkAnswer {
         end,
         frames: count,
         octets: at,
         samples: to,
         place: at,
+        bit: stop.bit,
     }
 }
 
@@ -59,6 +75,7 @@ fn stopped(why: Refusal) -> WalkAnswer
         octets: 0,
         samples: 0,
         place: 0,
+        bit: 0,
     }
 }
 

@@ -24,11 +24,11 @@ pub const LONG: u32 = 13;
 
 pub const LENGTHS: [usize; 5] = [40, 80, 160, 240, 320];
 
-/// A refusal and the tool it gives.
-pub type Refused = (u32, u32);
+/// A refusal, the tool and the bit that it gives.
+pub type Refused = (u32, u32, usize);
 
-pub fn refused_read((ending, tool): Refused) -> ReadReport {
-    ReadReport { ending, samples: 0, octets: 0, bits: 0, tool }
+pub fn refused_read((ending, tool, bit): Refused) -> ReadReport {
+    ReadReport { ending, samples: 0, octets: 0, bits: 0, tool, bit }
 }
 
 pub fn refused_write(ending: u32) -> WriteReport {
@@ -61,7 +61,7 @@ struct Bits<'a> {
 
 impl Bits<'_> {
     fn bit(&mut self) -> Result<usize, Refused> {
-        let Some(octet) = self.octets.get(self.at / 8) else { return Err((SHORT, 0)) };
+        let Some(octet) = self.octets.get(self.at / 8) else { return Err((SHORT, 0, self.at)) };
         let bit = (octet >> (7 - self.at % 8)) & 1;
         self.at += 1;
         Ok(bit as usize)
@@ -76,11 +76,12 @@ impl Bits<'_> {
     }
 
     fn rice(&mut self, s: usize, n: usize) -> Result<usize, Refused> {
+        let code = self.at;
         let mut zeros = 0;
         while self.bit()? == 0 {
             zeros += 1;
             if zeros == n + 1 {
-                return Err((RUN, 0));
+                return Err((RUN, 0, code));
             }
         }
         Ok(zeros * 2usize.pow(s as u32) + self.number(s)?)
@@ -90,9 +91,10 @@ impl Bits<'_> {
     fn runs(&mut self, s: usize, n: usize, d: usize) -> Result<Vec<bool>, Refused> {
         let mut row = Vec::new();
         while row.len() < d {
+            let code = self.at;
             let v = self.rice(s, n)?;
             if v > d - row.len() {
-                return Err((RUN, 0));
+                return Err((RUN, 0, code));
             }
             for _ in 0..v {
                 row.push(false);
@@ -106,8 +108,9 @@ impl Bits<'_> {
 
     fn filling(&mut self) -> Result<(), Refused> {
         while self.at % 8 != 0 {
+            let here = self.at;
             if self.bit()? == 1 {
-                return Err((ALIGN, 0));
+                return Err((ALIGN, 0, here));
             }
         }
         Ok(())
@@ -189,9 +192,9 @@ type Frame = (Vec<u8>, usize, u32);
 
 fn frame(octets: &[u8], law: u32, set: u32, room: usize) -> Result<Frame, Refused> {
     if octets.is_empty() {
-        return Err((SHORT, 0));
+        return Err((SHORT, 0, 0));
     }
-    let Some((n, tool)) = first_octet(octets[0]) else { return Err((PREFIX, 0)) };
+    let Some((n, tool)) = first_octet(octets[0]) else { return Err((PREFIX, 0, 0)) };
     let length_bits = if n >= 240 { 4 } else { 2 };
 
     let mut tool = tool;
@@ -201,10 +204,10 @@ fn frame(octets: &[u8], law: u32, set: u32, room: usize) -> Result<Frame, Refuse
         tool = if bits.bit()? == 1 || bits.bit()? == 1 { 6 } else { 8 };
     }
     if tool >= 8 || (tool >= 1 && (set / 2u32.pow(tool - 1)) % 2 == 0) {
-        return Err((TOOL, tool));
+        return Err((TOOL, tool, 0));
     }
     if room < n {
-        return Err((ROOM, 0));
+        return Err((ROOM, 0, 0));
     }
 
     let (plus, minus) = (sample(0, law), sample(-1, law));
@@ -242,13 +245,17 @@ fn frame(octets: &[u8], law: u32, set: u32, room: usize) -> Result<Frame, Refuse
             row.iter().map(|&o| if o { other } else { common }).collect()
         }
         _ => {
+            let range_case = bits.at;
             let case = bits.number(2)?;
             let flag = bits.number(1)?;
-            let Some(values) = row_values(case, flag, n) else { return Err((CASE, 0)) };
+            let Some(values) = row_values(case, flag, n) else {
+                return Err((CASE, 0, range_case));
+            };
             let mut numbers = vec![0; n];
             let mut empty: Vec<usize> = (0..n).collect();
             for value in values {
                 let d = empty.len();
+                let method = bits.at;
                 let row = match bits.number(3)? {
                     0 => {
                         let mut row = vec![];
@@ -259,15 +266,16 @@ fn frame(octets: &[u8], law: u32, set: u32, room: usize) -> Result<Frame, Refuse
                     }
                     s @ 1..=4 => bits.runs(s, n, d)?,
                     5 => vec![false; d],
-                    6 => return Err((METHOD, 0)),
+                    6 => return Err((METHOD, 0, method)),
                     _ => {
                         let count = bits.number(2)? + 1;
                         let mut row = vec![false; d];
                         let mut last = None;
                         for _ in 0..count {
+                            let listed = bits.at;
                             let place = bits.number(ceil_log2(d))?;
                             if place >= d || Some(place) <= last {
-                                return Err((PLACE, 0));
+                                return Err((PLACE, 0, listed));
                             }
                             row[place] = true;
                             last = Some(place);
@@ -294,10 +302,10 @@ fn frame(octets: &[u8], law: u32, set: u32, room: usize) -> Result<Frame, Refuse
 /// What `read_frame` must report, and what must stand in `out` after it.
 pub fn read(octets: &[u8], law: u32, set: u32, out: &[u8]) -> (ReadReport, Vec<u8>) {
     if law > 1 {
-        return (refused_read((LAW, 0)), out.to_vec());
+        return (refused_read((LAW, 0, 0)), out.to_vec());
     }
     if set > 127 {
-        return (refused_read((SET, 0)), out.to_vec());
+        return (refused_read((SET, 0, 0)), out.to_vec());
     }
     match frame(octets, law, set, out.len()) {
         Err(refused) => (refused_read(refused), out.to_vec()),
@@ -305,7 +313,7 @@ pub fn read(octets: &[u8], law: u32, set: u32, out: &[u8]) -> (ReadReport, Vec<u
             let mut after = out.to_vec();
             after[..samples.len()].copy_from_slice(&samples);
             let octets = if bits % 8 == 0 { bits / 8 } else { bits / 8 + 1 };
-            (ReadReport { ending: 0, samples: samples.len(), octets, bits, tool }, after)
+            (ReadReport { ending: 0, samples: samples.len(), octets, bits, tool, bit: 0 }, after)
         }
     }
 }

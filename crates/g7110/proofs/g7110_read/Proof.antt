@@ -22,7 +22,7 @@ returns c =
     let t = c .before .before .before .before .before .read-frame .ensures in
     record {
       number = c .number-of .ensures ∙ ap numberOf (t .end);
-      report = then (t .frame .len) (then (t .octets) (then (t .bits) (then (t .tool) refl)));
+      report = then (t .frame .len) (then (t .octets) (then (t .bits) (then (t .tool) (then (t .bit) refl))));
       lent = t .lent;
     }
 

@@ -24,8 +24,8 @@ refused-requires c κs = search needs
 enum-told : tie.Need-enum-told
 enum-told c = search needs
 
-add-t9 : tie.Need-add-t9
-add-t9 c = search needs
+add-t10 : tie.Need-add-t10
+add-t10 c = search needs
 
 -- what the filling was read as, o, tells what is finished
 ended : (c : tie.After-filling) (o : Outcome) → c .filling .result ≡ o → (s : List ℕ)
@@ -36,15 +36,15 @@ ended c o e s = filled-by _ (fillFor (c .before .before .args .bits)) (bitsOf (c
 returns : tie.Need-returns
 returns c =
     λ s h. tells-as
-    (ended (c .before .before .before .before) _ (c .before .before .why .given .1) s) (c .refused .ensures _)
+    (ended (c .before .before .before .before) _ (c .before .before .why .given .1) s) (c .refused .ensures)
 
 returns-2 : tie.Need-returns-2
 returns-2 c =
     λ s h. tells-as
     (ended (c .before .before) _ (c .enum-told .given .1) s)
-    (record { end = refl; len = h; octets = refl; bits = refl; tool = refl })
+    (record { end = refl; len = h; octets = refl; bits = refl; tool = refl; bit = refl })
 
 pub finished-spec : {M : Type 1} → statement M
 finished-spec =
     tie.close
-    (tie.spec filling-requires enum-known-why refused-requires enum-told add-t9 returns returns-2)
+    (tie.spec filling-requires enum-known-why refused-requires enum-told add-t10 returns returns-2)

@@ -32,6 +32,7 @@ returns c =
       octets = t .tells .octets;
       bits = t .tells .bits;
       tool = t .tells .tool;
+      bit = t .tells .bit;
       lent = t .lent;
     }
 

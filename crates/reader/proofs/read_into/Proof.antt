@@ -65,7 +65,7 @@ put-out-requires c κs =
     (buffer-has f, omega (arith, f .tells .len, samples-fit (s .args .octets .now) (s .args .law) (s .args .set) (length (s .args .out .now)) .1))
 
 returns : tie.Need-returns
-returns c = into-none (reading (c .before .before .before .before) _ (c .before .before .why .given .1)) refl (c .refused .ensures _)
+returns c = into-none (reading (c .before .before .before .before) _ (c .before .before .why .given .1)) refl (c .refused .ensures)
 
 returns-2 : tie.Need-returns-2
 returns-2 c = into-none (reading (c .before .before .before) _ (c .before .enum-told .given .1)) refl (c .pad .ensures)

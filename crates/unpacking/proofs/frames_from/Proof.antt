@@ -43,7 +43,7 @@ same-length c = lent-length (c .before .before .loop .inv .kept)
 returns : tie.Need-returns Inv-loop μ-loop
 returns c =
     let w = c .before .before .loop .inv in
-    rw (c .so-far .ensures) (part-done _ _ _ _ _ w (c .before .if1 .taken), goes-ended _ _ _ _ _ w Done)
+    rw (c .so-far .ensures) (part-done _ _ _ _ _ w (c .before .if1 .taken), goes-ended _ _ _ _ _ w Done 0)
 
 sub-if2 : tie.Need-sub-if2 Inv-loop μ-loop
 sub-if2 c = omega (arith, lent-length (c .before .loop .inv .kept), c .before .loop .inv .kept .room)
@@ -78,7 +78,7 @@ returns-3 c =
     let w = s .before .before .before .before .loop .inv in
     let e = c .before .before .e in
     rw (c .so-far3 .ensures)
-    (part-refused _ _ _ _ _ w (s .before .before .before .if1 .left) (room s) (s .step .ensures) (e .given .0 .0) (e .given .1), goes-ended _ _ _ _ _ w (Refused (e .given .0 .0)))
+    (part-refused _ _ _ _ _ w (s .before .before .before .if1 .left) (room s) (s .step .ensures) (e .given .0 .0) (e .given .1), goes-ended _ _ _ _ _ w (Refused (e .given .0 .0)) _)
 
 enum-told : tie.Need-enum-told Inv-loop μ-loop
 enum-told c = search needs

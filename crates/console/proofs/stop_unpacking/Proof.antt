@@ -2,8 +2,8 @@ use borrow.Author.Needs.{needs}
 use lib.Seq.{length-take-le}
 use native.Mathlib.Omega.{arith}
 use mathlib.Core.Path.{_≡_, refl, sym, ap, _∙_}
-use Rattle.console.proofs.stop.Statement.{statement}
-use Rattle.console.proofs.stop.Tie as tie
+use Rattle.console.proofs.stop_unpacking.Statement.{statement}
+use Rattle.console.proofs.stop_unpacking.Tie as tie
 
 slice-aggregate-stop-line : tie.Need-slice-aggregate-stop-line
 slice-aggregate-stop-line c = search needs
@@ -23,8 +23,8 @@ write-all-requires c κs = search needs
 returns : tie.Need-returns
 returns c = search needs
 
-pub stop-spec : {M : Type 1} → statement M
-stop-spec =
+pub stop-unpacking-spec : {M : Type 1} → statement M
+stop-unpacking-spec =
     tie.close
     (tie.spec
     slice-aggregate-stop-line
