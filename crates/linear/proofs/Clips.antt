@@ -1,4 +1,5 @@
--- Values are clipped exactly outside the law's range: inside, m is the value's size with the bias; outside it is the clip, and the octet that of the range's end.
+-- Values are clipped exactly outside the law's range: inside, m is the value's size with the bias; outside it is the clip,
+-- and the octet is that of the range's end.
 use Prim.Native.Nat.{ℕ, _+_, _-_, _≤_, _<_, min}
 use mathlib.Core.Path.{_≡_, sym, ap, _∙_}
 use native.Mathlib.Omega.{arith}
@@ -38,13 +39,21 @@ clip-same l a b g h = omega arith
 
 -- "other values are clipped as there": all from the range's ends on are the ends
 pub a-high : (n : ℕ) → 4095 ≤ n → fromPCM 0 (pos n) ≡ fromPCM 0 (pos 4095)
-a-high n h = from-is 0 (pos n) ∙ same-above (constantsOf 0) n 4095 (clip-same (constantsOf 0) n 4095 (omega arith) (omega arith)) ∙ sym (from-is 0 (pos 4095))
+a-high n h =
+    let l = constantsOf 0 in
+    from-is 0 (pos n) ∙ same-above l n 4095 (clip-same l n 4095 (omega arith) (omega arith)) ∙ sym (from-is 0 (pos 4095))
 
 pub a-low : (n : ℕ) → 4095 ≤ n → fromPCM 0 (negsuc n) ≡ fromPCM 0 (negsuc 4095)
-a-low n h = from-is 0 (negsuc n) ∙ same-below (constantsOf 0) n 4095 (clip-same (constantsOf 0) n 4095 (omega arith) (omega arith)) ∙ sym (from-is 0 (negsuc 4095))
+a-low n h =
+    let l = constantsOf 0 in
+    from-is 0 (negsuc n) ∙ same-below l n 4095 (clip-same l n 4095 (omega arith) (omega arith)) ∙ sym (from-is 0 (negsuc 4095))
 
 pub mu-high : (n : ℕ) → 8158 ≤ n → fromPCM 1 (pos n) ≡ fromPCM 1 (pos 8158)
-mu-high n h = from-is 1 (pos n) ∙ same-above (constantsOf 1) n 8158 (clip-same (constantsOf 1) n 8158 (omega arith) (omega arith)) ∙ sym (from-is 1 (pos 8158))
+mu-high n h =
+    let l = constantsOf 1 in
+    from-is 1 (pos n) ∙ same-above l n 8158 (clip-same l n 8158 (omega arith) (omega arith)) ∙ sym (from-is 1 (pos 8158))
 
 pub mu-low : (n : ℕ) → 8158 ≤ n → fromPCM 1 (negsuc n) ≡ fromPCM 1 (negsuc 8158)
-mu-low n h = from-is 1 (negsuc n) ∙ same-below (constantsOf 1) n 8158 (clip-same (constantsOf 1) n 8158 (omega arith) (omega arith)) ∙ sym (from-is 1 (negsuc 8158))
+mu-low n h =
+    let l = constantsOf 1 in
+    from-is 1 (negsuc n) ∙ same-below l n 8158 (clip-same l n 8158 (omega arith) (omega arith)) ∙ sym (from-is 1 (negsuc 8158))

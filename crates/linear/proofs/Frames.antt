@@ -22,9 +22,11 @@ pub turn : {A B : Type 0} (f : A → B) (s : List A) (d : List B) (i : ℕ) (a :
 turn f s d i a v h g e =
     let n = length-map s f in
     let z = paste-suc d 0 (map f s) i (f a) (omega arith) (omega arith) in
-    ap (λ k. set (paste d 0 (map f s) i) k v) (sym (zero-add i)) ∙ ap (λ w. set (paste d 0 (map f s) i) (0 + i) w) (e ∙ sym (List·getD-map f s i a)) ∙ z ∙ ap (paste d 0 (map f s)) (sym (add-one i))
+    ap (λ k. set (paste d 0 (map f s) i) k v) (sym (zero-add i))
+    ∙ ap (λ w. set (paste d 0 (map f s) i) (0 + i) w) (e ∙ sym (List·getD-map f s i a)) ∙ z ∙ ap (paste d 0 (map f s)) (sym (add-one i))
 
-pub kept : {A B : Type 0} (f : A → B) (s : List A) (d : List B) (i : ℕ) → i ≤ length s → length s ≤ length d → length (paste d 0 (map f s) i) ≡ length d
+pub kept : {A B : Type 0} (f : A → B) (s : List A) (d : List B) (i : ℕ) → i ≤ length s → length s ≤ length d
+    → length (paste d 0 (map f s) i) ≡ length d
 kept f s d i h g = let n = length-map s f in length-paste d 0 (map f s) i (omega arith) (omega arith)
 
 pub whole : {A B : Type 0} (f : A → B) (s : List A) (d : List B) (i : ℕ) → i ≡ length s → paste d 0 (map f s) i ≡ map f s ++ drop (length s) d
@@ -32,7 +34,8 @@ whole f s d i e =
     let n = length-map s f in
     ap (λ k. take i (map f s) ++ drop k d) (zero-add i ∙ e) ∙ ap (λ t. t ++ drop (length s) d) (take-all i (map f s) (omega arith))
 
-pub no-frame : (n : ℕ) → (n ≡ 0 → ⊥) → (n ≡ 40 → ⊥) → (n ≡ 80 → ⊥) → (n ≡ 160 → ⊥) → (n ≡ 240 → ⊥) → (n ≡ 320 → ⊥) → false ≡ (eqb n 0 || isLength n)
+pub no-frame : (n : ℕ) → (n ≡ 0 → ⊥) → (n ≡ 40 → ⊥) → (n ≡ 80 → ⊥) → (n ≡ 160 → ⊥) → (n ≡ 240 → ⊥) → (n ≡ 320 → ⊥)
+    → false ≡ (eqb n 0 || isLength n)
 no-frame n a b c d e f = rw (ne-eqb n 0 a, ne-eqb n 40 b, ne-eqb n 80 c, ne-eqb n 160 d, ne-eqb n 240 e, ne-eqb n 320 f)
 
 pub done-room : (law n room : ℕ) → judged law n room ≡ Done → n ≤ room
@@ -49,5 +52,6 @@ pub converted : {A B : Type 0} (f : A → B) (law : ℕ) (s : List A) (out : Lis
 converted f law s out e h =
     record { end = e; lent = h ∙ ap (λ n. map f s ++ drop n out) (sym (length-map s f)) ∙ ap (λ r. after r (map f s) out) e }
 
-pub refused : {A : Type 0} {law n : ℕ} {ys out : List A} {r : Ending} (w : Refusal) → r ≡ judged law n (length out) → r ≡ Refused w → Converts law n ys out out r
+pub refused : {A : Type 0} {law n : ℕ} {ys out : List A} {r : Ending} (w : Refusal)
+    → r ≡ judged law n (length out) → r ≡ Refused w → Converts law n ys out out r
 refused {ys = ys} {out = out} w e g = record { end = e; lent = ap (λ r. after r ys out) (sym g ∙ e) }

@@ -65,7 +65,8 @@ m-is l (pos n) = go (leb (n + l .bias) (l .top)) refl
     go false e = let u = leb-false (n + l .bias) (l .top) e in ap pos (omega arith)
 m-is l (negsuc n) = rw (less n (l .bias), add-one (l .top)) (go (leb (l .top) (n + l .bias)) refl)
   where
-    go : (t : Bool) → leb (l .top) (n + l .bias) ≡ t → negℤ (cond t (negsuc (l .top)) (negsuc (n + l .bias))) -ℤ pos 1 ≡ pos (min (n + l .bias) (l .top))
+    go : (t : Bool) → leb (l .top) (n + l .bias) ≡ t
+        → negℤ (cond t (negsuc (l .top)) (negsuc (n + l .bias))) -ℤ pos 1 ≡ pos (min (n + l .bias) (l .top))
     go true e = let u = leb-true (l .top) (n + l .bias) e in one-less (l .top) ∙ ap pos (omega arith)
     go false e = let u = leb-false (l .top) (n + l .bias) e in one-less (n + l .bias) ∙ ap pos (omega arith)
 
@@ -91,7 +92,8 @@ marked : (y : ℕ) → y < 128 → bitXor y 0x80 ≡ 128 + y
 marked y h = eqb-true _ _ (allBelow-at (λ y. eqb (bitXor y 0x80) (128 + y)) 128 refl y h)
 
 -- x of (6-6) and (6-8): y by its sign
-by-sign : {l : Constants} → Sound l → (x : ℤ) {y : ℕ} → y ≡ bitXor (codeOf (mOf l (mag x)) - l .step) (l .mask) → cond (nonNeg x) (bitXor y 0x80) y ≡ octetOf l x
+by-sign : {l : Constants} → Sound l → (x : ℤ) {y : ℕ} → y ≡ bitXor (codeOf (mOf l (mag x)) - l .step) (l .mask)
+    → cond (nonNeg x) (bitXor y 0x80) y ≡ octetOf l x
 unfolding octetOf shrink sampleOf
 by-sign {l} s (pos n) e =
     let c = code-in s n in

@@ -52,7 +52,8 @@ shrunk {l} s (pos y) h = go (eqb (levelOf (y + l .step) - l .bias) 0) refl
     value : pos (codeOf (mOf l (levelOf (y + l .step) - l .bias)) - l .step) ≡ pos y
     value = rw (m-level s y h, level-code (y + l .step) (omega arith)) (ap pos (omega arith))
 
-    go : (b : Bool) → eqb (levelOf (y + l .step) - l .bias) 0 ≡ b → pos (codeOf (mOf l (levelOf (y + l .step) - l .bias)) - l .step) ≡ cond b (pos 0) (pos y)
+    go : (b : Bool) → eqb (levelOf (y + l .step) - l .bias) 0 ≡ b
+        → pos (codeOf (mOf l (levelOf (y + l .step) - l .bias)) - l .step) ≡ cond b (pos 0) (pos y)
     go true e = value ∙ ap pos (first-level s y h (eqb-true _ _ e))
     go false e = value
 shrunk {l} s (negsuc y) h = go (levelOf (y + l .step) - l .bias) refl
@@ -79,7 +80,9 @@ returns {l} s o h = rw (shrunk s (signed (l .mask) o) (signed-range (l .mask) o)
 -- "all 256 A-law octets return to themselves"
 pub a-returns : (o : ℕ) → o < 256 → fromPCM 0 (toPCM 0 o) ≡ o
 unfolding linearOf grow levelOf signed sampleOf
-a-returns o h = back-and-there 0 o h ∙ returns (sound 0) o h ∙ eqb-true _ _ (allBelow-at (λ o. eqb (cond (isZero (linearOf constantsA o)) (plusZero 0x55) o) o) 256 refl o h)
+a-returns o h =
+    back-and-there 0 o h ∙ returns (sound 0) o h
+    ∙ eqb-true _ _ (allBelow-at (λ o. eqb (cond (isZero (linearOf constantsA o)) (plusZero 0x55) o) o) 256 refl o h)
 
 -- "all mu-law octets but 7F, which returns as FF"
 abbrev pub minusAsPlus : ℕ → ℕ
@@ -87,10 +90,13 @@ minusAsPlus o = cond (eqb o 0x7F) 0xFF o
 
 pub mu-returns : (o : ℕ) → o < 256 → fromPCM 1 (toPCM 1 o) ≡ minusAsPlus o
 unfolding linearOf grow levelOf signed sampleOf
-mu-returns o h = back-and-there 1 o h ∙ returns (sound 1) o h ∙ eqb-true _ _ (allBelow-at (λ o. eqb (cond (isZero (linearOf constantsMu o)) (plusZero 0x7F) o) (minusAsPlus o)) 256 refl o h)
+mu-returns o h =
+    back-and-there 1 o h ∙ returns (sound 1) o h
+    ∙ eqb-true _ _ (allBelow-at (λ o. eqb (cond (isZero (linearOf constantsMu o)) (plusZero 0x7F) o) (minusAsPlus o)) 256 refl o h)
 
 -- "over whole frames"
-frame-returns : (law : ℕ) (f : ℕ → ℕ) → ((o : ℕ) → o < 256 → fromPCM law (toPCM law o) ≡ f o) → {s : List ℕ} → Below 256 s → map (fromPCM law) (map (toPCM law) s) ≡ map f s
+frame-returns : (law : ℕ) (f : ℕ → ℕ) → ((o : ℕ) → o < 256 → fromPCM law (toPCM law o) ≡ f o) → {s : List ℕ} → Below 256 s
+    → map (fromPCM law) (map (toPCM law) s) ≡ map f s
 frame-returns law f k none = refl
 frame-returns law f k (more {x = x} {l = l} h t) = rw (k x h, frame-returns law f k t)
 

@@ -1,4 +1,5 @@
--- 001, section 6.8.1 and 6.8.2: samples to linear PCM and back. Each equation stands as 001 prints it, under 001's names, in ℤ where a number can be below 0.
+-- 001, section 6.8.1 and 6.8.2: samples to linear PCM and back. Each equation stands as 001 prints it, under 001's names,
+-- in ℤ where a number can be below 0.
 -- ⊕ is `bitXor`, ⊗ is `bitAnd`, n / 2^k rounded down is `/`.
 use Prim.Native.Nat.{ℕ, zero, suc, _+_, _-_, _*_, _/_, _^_}
 use mathlib.Core.Bool.{cond}

@@ -79,7 +79,7 @@ fn code_of(m: u32) -> u32
 }
 
 // (6-5) to (6-8): one linear value to its octet.
-fn octet_of(law: u32, x: i16) -> u8
+pub fn octet_of(law: u32, x: i16) -> u8
     ensures { λ r. ⌜ r ≡ fromPCM law x ⌝ }
 {
     let l = constants_of(law);
@@ -103,7 +103,7 @@ fn level(c: u32) -> u32
 }
 
 // (6-1) to (6-4): one octet to its linear value.
-fn linear_of(law: u32, octet: u8) -> i16
+pub fn linear_of(law: u32, octet: u8) -> i16
     ensures { λ r. ⌜ r ≡ toPCM law octet ⌝ }
 {
     let l = constants_of(law);

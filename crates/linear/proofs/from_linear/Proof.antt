@@ -23,13 +23,19 @@ returns : tie.Need-returns
 returns c = refused _ (c .before .before .judge .ensures) (c .enum-told2 .given .1)
 
 fill-octets-requires : tie.Need-fill-octets-requires
-fill-octets-requires c κs = done-room (c .before .before .before .before .before .args .law) (length (c .before .before .before .before .before .args .linear .now)) (length (c .before .before .before .before .before .args .out .now)) (sym (c .before .before .before .judge .ensures) ∙ c .before .enum-told .given .1)
+fill-octets-requires c κs =
+    let a = c .before .before .before .before .before .args in
+    let e = sym (c .before .before .before .judge .ensures) ∙ c .before .enum-told .given .1 in
+    done-room (a .law) (length (a .linear .now)) (length (a .out .now)) e
 
 same-length : tie.Need-same-length
 same-length c = search needs
 
 returns-2 : tie.Need-returns-2
-returns-2 c = converted (fromPCM (c .before .before .before .before .before .before .before .before .args .law)) (c .before .before .before .before .before .before .before .before .args .law) (c .before .before .before .before .before .before .before .before .args .linear .now) (c .before .before .before .before .before .before .before .before .args .out .now) (sym (c .before .before .before .before .enum-told .given .1) ∙ c .before .before .before .before .before .before .judge .ensures) (c .before .before .fill-octets .ensures)
+returns-2 c =
+    let a = c .before .before .before .before .before .before .before .before .args in
+    let e = sym (c .before .before .before .before .enum-told .given .1) ∙ c .before .before .before .before .before .before .judge .ensures in
+    converted (fromPCM (a .law)) (a .law) (a .linear .now) (a .out .now) e (c .before .before .fill-octets .ensures)
 
 pub from-linear-spec : {M : Type 1} → statement M
 from-linear-spec =

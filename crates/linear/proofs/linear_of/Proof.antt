@@ -1,6 +1,6 @@
 use native.Mathlib.Omega.{arith}
 use mathlib.Core.Path.{_≡_, sym, ap, _∙_}
-use Prim.Native.Nat.{_+_, _-_, _%_, _<_, _≤_}
+use Prim.Native.Nat.{ℕ, _+_, _-_, _%_, _<_, _≤_}
 use lib.Bits.{bitXor}
 use mir.Syntax.{w16}
 use mir.Facts.{toZ-pos}
@@ -18,7 +18,12 @@ use Rattle.linear.proofs.level.Reads as level-reads
 small : (c : tie.After-struct-known2) → Sound (c .before .before .constants-of .result)
 small c = sound-as (c .before .before .before .args .law) (c .before .before .constants-of .ensures)
 
-range : (c : tie.After-struct-known3) → Level (bitXor (c .before .before .before .before .before .args .octet) (c .before .before .before .before .constants-of .result .mask) % 128 + c .before .before .before .before .constants-of .result .step) (c .before .level .result)
+-- the level of the octet's code
+abbrev code : (c : tie.After-struct-known3) → ℕ
+code c = bitXor (c .before .before .before .before .before .args .octet) (c .before .before .before .before .constants-of .result .mask) % 128
+    + c .before .before .before .before .constants-of .result .step
+
+range : (c : tie.After-struct-known3) → Level (code c) (c .before .level .result)
 range c = rw (c .before .level .ensures) (level-range _ (omega (arith, small (c .before .before))))
 
 constants-of-requires : tie.Need-constants-of-requires
@@ -40,13 +45,21 @@ cast-v : tie.Need-cast-v
 cast-v c = record { sfits = omega (arith, range c) }
 
 returns : tie.Need-returns
-returns c = toZ-pos w16 (omega (arith, range (c .before))) ∙ linear-above (c .before .before .before .before .before .before .args .law) (c .before .before .before .before .before .constants-of .ensures) (omega arith) (omega arith) (c .before .before .level .ensures)
+returns c =
+    let k = c .before .before .before .before .before in
+    toZ-pos w16 (omega (arith, range (c .before)))
+    ∙ linear-above (k .before .args .law) (k .constants-of .ensures) (omega arith) (omega arith) (c .before .before .level .ensures)
 
 sub-result : tie.Need-sub-result
-sub-result c = minus w16 (c .before .before .level .result - c .before .before .before .before .before .constants-of .result .bias) (omega (arith, range (c .before))) .fits
+sub-result c =
+    let k = c .before .before .before .before .before in
+    minus w16 (c .before .before .level .result - k .constants-of .result .bias) (omega (arith, range (c .before))) .fits
 
 returns-2 : tie.Need-returns-2
-returns-2 c = minus w16 (c .before .before .level .result - c .before .before .before .before .before .constants-of .result .bias) (omega (arith, range (c .before))) .is ∙ linear-below (c .before .before .before .before .before .before .args .law) (c .before .before .before .before .before .constants-of .ensures) (omega arith) (omega arith) (c .before .before .level .ensures)
+returns-2 c =
+    let k = c .before .before .before .before .before in
+    minus w16 (c .before .before .level .result - k .constants-of .result .bias) (omega (arith, range (c .before))) .is
+    ∙ linear-below (k .before .args .law) (k .constants-of .ensures) (omega arith) (omega arith) (c .before .before .level .ensures)
 
 pub linear-of-spec : {M : Type 1} → statement M
 linear-of-spec =

@@ -32,7 +32,9 @@ clipped-requires c κs = search needs
 
 returns : tie.Need-returns
 unfolding mOf
-returns c = c .clipped .ensures ∙ ap (λ n. min (n + c .before .before .before .args .l .bias) (c .before .before .before .args .l .top)) (size-below (under (c .before .before)))
+returns c =
+    let l = c .before .before .before .args .l in
+    c .clipped .ensures ∙ ap (λ n. min (n + l .bias) (l .top)) (size-below (under (c .before .before)))
 
 cast-clipped-2 : tie.Need-cast-clipped-2
 cast-clipped-2 c = rw (over c .bits) (tt, record { fits = omega (arith, over c .small) })
@@ -45,7 +47,9 @@ clipped-requires-2 c κs = search needs
 
 returns-2 : tie.Need-returns-2
 unfolding mOf
-returns-2 c = c .clipped2 .ensures ∙ ap (λ n. min (n + c .before .before .before .args .l .bias) (c .before .before .before .args .l .top)) (size-above (over (c .before .before)))
+returns-2 c =
+    let l = c .before .before .before .args .l in
+    c .clipped2 .ensures ∙ ap (λ n. min (n + l .bias) (l .top)) (size-above (over (c .before .before)))
 
 pub m-of-spec : {M : Type 1} → statement M
 m-of-spec =

@@ -23,7 +23,9 @@ sized : (c : tie.After-m-of) → c .m-of .result ≡ mOf (c .before .constants-o
 sized c = c .m-of .ensures ∙ ap (λ x. mOf (c .before .constants-of .result) (mag x)) (toZ-ofZ (c .before .before .fits .x))
 
 ready : (c : tie.After-struct-known) → Code (c .before .before .before .constants-of .result) (c .before .code-of .result)
-ready c = code-fits (c .before .before .before .before .args .law) _ (c .before .before .before .constants-of .ensures) (c .before .before .m-of .ensures) (c .before .code-of .ensures)
+ready c =
+    let k = c .before .before .before in
+    code-fits (k .before .args .law) _ (k .constants-of .ensures) (c .before .before .m-of .ensures) (c .before .code-of .ensures)
 
 under : (c : tie.Then1) → Below w16 (c .before .before .before .before .before .before .args .x)
 under c = below (c .before .before .before .before .before .before .fits .x) (c .if1 .taken)
@@ -38,7 +40,10 @@ m-of-requires : tie.Need-m-of-requires
 m-of-requires c κs = omega (arith, sound-as (c .before .args .law) (c .constants-of .ensures))
 
 code-of-requires : tie.Need-code-of-requires
-code-of-requires c κs = omega (arith, sized c, m-top (c .before .constants-of .result) (mag (c .before .before .args .x)), sound-as (c .before .before .args .law) (c .before .constants-of .ensures) .top)
+code-of-requires c κs =
+    let k = c .before in
+    let s = sound-as (k .before .args .law) (k .constants-of .ensures) .top in
+    omega (arith, sized c, m-top (k .constants-of .result) (mag (k .before .args .x)), s)
 
 sub-y : tie.Need-sub-y
 sub-y c = ready c .from
@@ -47,16 +52,23 @@ cast-y : tie.Need-cast-y
 cast-y c = record { fits = omega (arith, ready c) }
 
 returns : tie.Need-returns
-returns c = octet-below (c .before .before .before .before .before .before .args .law) (c .before .before .before .before .before .constants-of .ensures) (under c .is) (sized (c .before .before .before .before)) (c .before .before .before .code-of .ensures)
+returns c =
+    let k = c .before .before .before .before .before in
+    octet-below (k .before .args .law) (k .constants-of .ensures) (under c .is) (sized (c .before .before .before .before))
+    (c .before .before .before .code-of .ensures)
 
 add-result : tie.Need-add-result
 add-result c =
     let l = c .before .before .before .before .before .constants-of in
     let k = c .before .before .before .code-of .result in
-    record { fits = omega (arith, xor-lt 7 (k - l .result .step) (l .result .mask) (omega (arith, ready (c .before .before))) (sound-as (c .before .before .before .before .before .before .args .law) (l .ensures) .mask)) }
+    let s = sound-as (c .before .before .before .before .before .before .args .law) (l .ensures) in
+    record { fits = omega (arith, xor-lt 7 (k - l .result .step) (l .result .mask) (omega (arith, ready (c .before .before))) (s .mask)) }
 
 returns-2 : tie.Need-returns-2
-returns-2 c = octet-above (c .before .before .before .before .before .before .args .law) (c .before .before .before .before .before .constants-of .ensures) (over c .is) (sized (c .before .before .before .before)) (c .before .before .before .code-of .ensures)
+returns-2 c =
+    let k = c .before .before .before .before .before in
+    octet-above (k .before .args .law) (k .constants-of .ensures) (over c .is) (sized (c .before .before .before .before))
+    (c .before .before .before .code-of .ensures)
 
 pub octet-of-spec : {M : Type 1} → statement M
 octet-of-spec =
