@@ -65,3 +65,18 @@ minus w v h =
     let e : pos 0 -ℤ toZ w v ≡ negℤ (pos v) = ap (λ (z : ℤ). pos 0 -ℤ z) (toZ-pos w h) ∙ +ℤ-idl (negℤ (pos v)) in
     let f = neg-fits w v h in
     record { fits = rw e f; is = rw e (toZ-ofZ f) }
+
+-- -1 - v, for v of the lower half
+turned-pos : (y : ℕ) → negsuc 0 -ℤ pos y ≡ negsuc y
+turned-pos zero = refl
+turned-pos (suc y) = ap negsuc (omega arith)
+
+pub record Turned (w : Width) (v : ℕ) : Type 0 where
+  pub fits : SFits w (negsuc 0 -ℤ toZ w v)
+  pub is : toZ w (ofZ w (negsuc 0 -ℤ toZ w v)) ≡ negsuc v
+
+pub turned : (w : Width) (v : ℕ) → v < 2 ^ hbits w → Turned w v
+turned w v h =
+    let e : negsuc 0 -ℤ toZ w v ≡ negsuc v = ap (λ (z : ℤ). negsuc 0 -ℤ z) (toZ-pos w h) ∙ turned-pos v in
+    let f : SFits w (negsuc v) = record { sfits = h } in
+    record { fits = rw e f; is = rw e (toZ-ofZ f) }

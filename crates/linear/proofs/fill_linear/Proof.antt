@@ -56,10 +56,11 @@ loop-again c =
     let l = c .before .before .before .loop in
     let a = c .before .before .before .before .before .args in
     let in-list : l .i < length (a .samples .now) = omega arith in
-    let in-room : length (a .samples .now) ≤ length (a .out .now) = omega arith in
-    (omega arith,
-    let e = toZ-ofZ {w = w16} (record { sfits = c .linear-of .ok }) ∙ c .linear-of .ensures in
-    rw (l .inv .1) (turn (toPCM (a .law)) (a .samples .now) (a .out .now) (l .i) 0 _ in-list in-room e))
+    let in-room : length (a .samples .now) ≤ length (a .out .now) = omega arith in (
+      omega arith,
+      let e = toZ-ofZ {w = w16} (record { sfits = c .linear-of .ok }) ∙ c .linear-of .ensures in
+          rw (l .inv .1) (turn (toPCM (a .law)) (a .samples .now) (a .out .now) (l .i) 0 _ in-list in-room e),
+    )
 
 same-length : tie.Need-same-length Inv-loop μ-loop
 same-length c = sized (c .before)

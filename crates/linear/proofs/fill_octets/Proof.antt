@@ -56,10 +56,11 @@ loop-again c =
     let l = c .before .before .before .loop in
     let a = c .before .before .before .before .before .args in
     let in-list : l .i < length (a .linear .now) = omega arith in
-    let in-room : length (a .linear .now) ≤ length (a .out .now) = omega arith in
-    (omega arith,
-    let e = c .octet-of .ensures ∙ ap (fromPCM (a .law)) (toZ-ofZ {w = w16} (record { sfits = c .before .octet-of-arg .given })) in
-    rw (l .inv .1) (turn (fromPCM (a .law)) (a .linear .now) (a .out .now) (l .i) (pos 0) _ in-list in-room e))
+    let in-room : length (a .linear .now) ≤ length (a .out .now) = omega arith in (
+      omega arith,
+      let e = c .octet-of .ensures ∙ ap (fromPCM (a .law)) (toZ-ofZ {w = w16} (record { sfits = c .before .octet-of-arg .given })) in
+          rw (l .inv .1) (turn (fromPCM (a .law)) (a .linear .now) (a .out .now) (l .i) (pos 0) _ in-list in-room e),
+    )
 
 same-length : tie.Need-same-length Inv-loop μ-loop
 same-length c = sized (c .before)
