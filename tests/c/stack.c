@@ -81,6 +81,12 @@ static void frame(uint8_t *samples, int kind)
     }
 }
 
+/* What a call uses more than a thread that makes none; a conversion calls nothing, and uses no more. */
+static unsigned long over(int which)
+{
+    return greatest[which] > greatest[0] ? (unsigned long)(greatest[which] - greatest[0]) : 0;
+}
+
 int main(void)
 {
     uint8_t samples[320], form[G7110_MAX_WRITTEN], stream[STREAM];
@@ -101,10 +107,10 @@ int main(void)
     }
     measure(3, stream, sizeof stream);
     measure(3, stream, length - 1);
-    printf("stack: g7110_read %lu octets\n", (unsigned long)(greatest[1] - greatest[0]));
-    printf("stack: g7110_write %lu octets\n", (unsigned long)(greatest[2] - greatest[0]));
-    printf("stack: g7110_walk %lu octets\n", (unsigned long)(greatest[3] - greatest[0]));
-    printf("stack: g7110_to_linear %lu octets\n", (unsigned long)(greatest[4] - greatest[0]));
-    printf("stack: g7110_from_linear %lu octets\n", (unsigned long)(greatest[5] - greatest[0]));
+    printf("stack: g7110_read %lu octets\n", over(1));
+    printf("stack: g7110_write %lu octets\n", over(2));
+    printf("stack: g7110_walk %lu octets\n", over(3));
+    printf("stack: g7110_to_linear %lu octets\n", over(4));
+    printf("stack: g7110_from_linear %lu octets\n", over(5));
     return 0;
 }

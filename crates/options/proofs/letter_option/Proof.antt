@@ -34,16 +34,28 @@ wanted-by-requires c κs = search needs
 returns-7 : tie.Need-returns-7
 unfolding letterOf
 returns-7 c =
-    rw (ne-eqb _ _ (c .before .before .before .before .before .before .if1 .left), ne-eqb _ _ (c .before .before .before .before .before .if2 .left), ne-eqb _ _ (c .before .before .before .before .if3 .left),
-    ne-eqb _ _ (c .before .before .before .if5 .left), ne-eqb _ _ (c .before .before .if6 .left),
-    ← (c .before .wanted-by .ensures), eq-eqb _ _ (c .if7 .taken))
+    rw (
+      ne-eqb _ _ (c .before .before .before .before .before .before .if1 .left),
+      ne-eqb _ _ (c .before .before .before .before .before .if2 .left),
+      ne-eqb _ _ (c .before .before .before .before .if3 .left),
+      ne-eqb _ _ (c .before .before .before .if5 .left),
+      ne-eqb _ _ (c .before .before .if6 .left),
+      ← (c .before .wanted-by .ensures),
+      eq-eqb _ _ (c .if7 .taken),
+    )
 
 returns-8 : tie.Need-returns-8
 unfolding letterOf
 returns-8 c =
-    rw (ne-eqb _ _ (c .before .before .before .before .before .before .if1 .left), ne-eqb _ _ (c .before .before .before .before .before .if2 .left), ne-eqb _ _ (c .before .before .before .before .if3 .left),
-    ne-eqb _ _ (c .before .before .before .if5 .left), ne-eqb _ _ (c .before .before .if6 .left),
-    ← (c .before .wanted-by .ensures), ne-eqb _ _ (c .if7 .left))
+    rw (
+      ne-eqb _ _ (c .before .before .before .before .before .before .if1 .left),
+      ne-eqb _ _ (c .before .before .before .before .before .if2 .left),
+      ne-eqb _ _ (c .before .before .before .before .if3 .left),
+      ne-eqb _ _ (c .before .before .before .if5 .left),
+      ne-eqb _ _ (c .before .before .if6 .left),
+      ← (c .before .wanted-by .ensures),
+      ne-eqb _ _ (c .if7 .left),
+    )
 
 pub letter-option-spec : {M : Type 1} → statement M
 letter-option-spec =

@@ -52,7 +52,7 @@ all-parts-requires c κs =
     let s = c .before .before .before .before .before .before .before .before .before .before .before .before .before .before .before .before in
     let p = c .before .before .before .before .before .before .before .before .pack in
     let k = p .kept .1 .1 .1 .1 .0 in
-    let start : Run = record { packed = p .result; filled = 0; more = true; failed = false } in
+    let start : Run = record { packed = p .result; filled = 0; more = true; failed = false; left = c .before .before .open-sound .result .left } in
     (stands-first (s .args .s) (s .args .out .now) (p .last .1 .1 .1 .1 .0) start k (p .ensures) (number-done (p .result .end) (sym (c .before .before .before .before .before .number-of .ensures) ∙ omega arith)), omega (arith, k, s .pre .0), s .pre .1)
 
 finish-requires : tie.Need-finish-requires
