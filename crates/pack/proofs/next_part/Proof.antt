@@ -15,7 +15,7 @@ use Rattle.pack.proofs.next_part.Tie as tie
 -- the part, as it is read and filled up
 module _ (c : tie.After-filled-up) where
   part-length : length (c .filled-up .last .1 .0) ≡ partSize
-  part-length = c .filled-up .kept .1 .0 ∙ c .before .before .before .before .before .read-part .kept .1 .0 ∙ c .before .before .before .before .before .before .before .before .before .before .pre .3
+  part-length = c .filled-up .kept .1 .0 ∙ c .before .before .before .before .before .read-part .kept .1 .1 .1 .1 .0 ∙ c .before .before .before .before .before .before .before .before .before .before .pre .3
 
   end-length : length (take (c .before .before .before .before .before .read-part .result .count + c .filled-up .result) (c .filled-up .last .1 .0)) ≡ c .before .before .before .before .before .read-part .result .count + c .filled-up .result
   end-length = length-take-le (c .before .before .before .before .before .read-part .result .count + c .filled-up .result) (c .filled-up .last .1 .0) (omega (arith, part-length, c .filled-up .ensures .1))

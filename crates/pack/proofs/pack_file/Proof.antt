@@ -1,12 +1,24 @@
-use borrow.Author.Needs.{needs}
 use mathlib.Core.Path.{sym, _∙_}
 use mathlib.Core.Bool.{true, false}
 use native.Mathlib.Omega.{arith}
 use Rattle.pack.specs.declared.Run.{Run}
 use Rattle.pack.proofs.Running.{stands-first}
 use Rattle.pack.proofs.Numbers.{number-done}
+use borrow.Author.Needs.{needs}
 use Rattle.pack.proofs.pack_file.Statement.{statement}
 use Rattle.pack.proofs.pack_file.Tie as tie
+use Rattle.pack.proofs.pack_file.Reads as reads
+use Rattle.pack.proofs.pack_file.Lts as lts
+use Rattle.console.proofs.failed.Reads as failed-reads
+use Rattle.console.proofs.open_in.Reads as open-in-reads
+use Rattle.console.proofs.refused.Reads as refused-reads
+use Rattle.console.proofs.stop.Reads as stop-reads
+use Rattle.pack.proofs.all_parts.Reads as all-parts-reads
+use Rattle.pack.proofs.explain_settings.Reads as explain-settings-reads
+use Rattle.pack.proofs.finish.Reads as finish-reads
+use Rattle.packing.proofs.pack.Reads as pack-reads
+use Rattle.rules.proofs.number_of.Reads as number-of-reads
+use Rattle.sounds.proofs.open_sound.Reads as open-sound-reads
 
 slice-aggregate-pack : tie.Need-slice-aggregate-pack
 slice-aggregate-pack c = search needs
@@ -47,16 +59,11 @@ same-length-2 c = search needs
 returns-2 : tie.Need-returns-2
 returns-2 c = search needs
 
-all-parts-requires : tie.Need-all-parts-requires
-all-parts-requires c κs =
-    let s = c .before .before .before .before .before .before .before .before .before .before .before .before .before .before .before .before in
-    let p = c .before .before .before .before .before .before .before .before .pack in
-    let k = p .kept .1 .1 .1 .1 .0 in
-    let start : Run = record { packed = p .result; filled = 0; more = true; failed = false; left = c .before .before .open-sound .result .left } in
-    (stands-first (s .args .s) (s .args .out .now) (p .last .1 .1 .1 .1 .0) start k (p .ensures) (number-done (p .result .end) (sym (c .before .before .before .before .before .number-of .ensures) ∙ omega arith)), omega (arith, k, s .pre .0), s .pre .1)
+open-sound-requires : tie.Need-open-sound-requires
+open-sound-requires c κs = search needs
 
-finish-requires : tie.Need-finish-requires
-finish-requires c κs = search needs
+stop-requires : tie.Need-stop-requires
+stop-requires c κs = search needs
 
 same-length-3 : tie.Need-same-length-3
 same-length-3 c = search needs
@@ -66,6 +73,31 @@ same-length-4 c = search needs
 
 returns-3 : tie.Need-returns-3
 returns-3 c = search needs
+
+all-parts-requires : tie.Need-all-parts-requires
+all-parts-requires c κs =
+    let s = c .before .before .before .before .before .before .before .before .before .before .before .before .before .before .before .before .before .before .before .before .before .before in
+    let p = c .before .before .before .before .before .before .before .before .before .before .before .before .before .before .pack in
+    let o = c .before .before .before .before .before .before .open-sound in
+    let k = p .kept .1 .1 .1 .1 .0 in
+    let start : Run = record { packed = p .result; filled = 0; more = true; failed = false; left = o .result .left } in
+    let well = number-done (p .result .end) (sym (c .before .before .before .before .before .before .before .before .before .before .before .number-of .ensures) ∙ omega arith) in (
+      stands-first (s .args .s) (s .args .out .now) (p .last .1 .1 .1 .1 .0) start k (p .ensures) well,
+      omega (arith, k, s .pre .0),
+      o .kept .1 .1 .0 ∙ s .pre .1,
+    )
+
+finish-requires : tie.Need-finish-requires
+finish-requires c κs = search needs
+
+same-length-5 : tie.Need-same-length-5
+same-length-5 c = search needs
+
+same-length-6 : tie.Need-same-length-6
+same-length-6 c = search needs
+
+returns-4 : tie.Need-returns-4
+returns-4 c = search needs
 
 pub pack-file-spec : {M : Type 1} → statement M
 pack-file-spec =
@@ -84,8 +116,13 @@ pack-file-spec =
     failed-requires
     same-length-2
     returns-2
-    all-parts-requires
-    finish-requires
+    open-sound-requires
+    stop-requires
     same-length-3
     same-length-4
-    returns-3)
+    returns-3
+    all-parts-requires
+    finish-requires
+    same-length-5
+    same-length-6
+    returns-4)
