@@ -81,7 +81,8 @@ all-parts-requires c κs =
     let o = c .before .before .before .before .before .before .open-sound in
     let k = p .kept .1 .1 .1 .1 .0 in
     let start : Run = record { packed = p .result; filled = 0; more = true; failed = false; left = o .result .left } in
-    let well = number-done (p .result .end) (sym (c .before .before .before .before .before .before .before .before .before .before .before .number-of .ensures) ∙ omega arith) in (
+    let n = c .before .before .before .before .before .before .before .before .before .before in
+    let well = number-done (p .result .end) (sym (n .before .number-of .ensures) ∙ n .if1 .left) in (
       stands-first (s .args .s) (s .args .out .now) (p .last .1 .1 .1 .1 .0) start k (p .ensures) well,
       omega (arith, k, s .pre .0),
       o .kept .1 .1 .0 ∙ s .pre .1,
