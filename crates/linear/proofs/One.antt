@@ -66,5 +66,5 @@ level-up : (c : ℕ) → 16 ≤ c → levelOf c ≡ (2 * (c % 16) + 33) * 2 ^ (c
 unfolding levelOf
 level-up c g = rw (ne-eqb (c / 16) 0 (λ z. omega arith)) (mul-comm _ _)
 
-pub level-shifted : (c : ℕ) → 16 ≤ c → c < 144 → (2 * (c % 16) + 33) * 2 ^ (c / 16 - 1) % 4294967296 ≡ levelOf c
+pub level-shifted : (c : ℕ) → 16 ≤ c → c < 144 → (2 * (c % 16) + 33) * 2 ^ (c / 16 - 1) % 65536 ≡ levelOf c
 level-shifted c g h = rw (← (level-up c g)) (mod-eq-of-lt (omega (arith, level-range c h)))

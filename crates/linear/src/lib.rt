@@ -91,8 +91,8 @@ pub fn octet_of(law: u32, x: i16) -> u8
     128 + y
 }
 
-// The level of a code by (6-2) and (6-4), the bias still in it.
-fn level(c: u32) -> u32
+// The level of a code by (6-2) and (6-4), the bias still in it: at most 8,191, so 16 bits are enough and quicker.
+fn level(c: u16) -> u16
     requires { ⌜ c < 144 ⌝ }
     ensures { λ r. ⌜ r ≡ levelOf c ⌝ }
 {
@@ -107,8 +107,9 @@ pub fn linear_of(law: u32, octet: u8) -> i16
     ensures { λ r. ⌜ r ≡ toPCM law octet ⌝ }
 {
     let l = constants_of(law);
-    let y = ((octet ^ l.mask) % 128) as u32;
-    let v = (level(y + l.step) - l.bias) as i16;
+    let y = ((octet ^ l.mask) % 128) as u16;
+    let c = y + l.step as u16;
+    let v = (level(c) - l.bias as u16) as i16;
     if 128 <= octet {
         return v;
     }

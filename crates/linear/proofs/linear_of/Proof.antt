@@ -32,17 +32,23 @@ constants-of-requires c κs = search needs
 cast-y : tie.Need-cast-y
 cast-y c = search needs
 
-add-level : tie.Need-add-level
-add-level c = record { fits = omega (arith, small c) }
+cast-c : tie.Need-cast-c
+cast-c c = record { fits = omega (arith, small c) }
+
+add-c : tie.Need-add-c
+add-c c = record { fits = omega (arith, small c) }
 
 level-requires : tie.Need-level-requires
 level-requires c κs = omega (arith, small c)
 
+cast-v : tie.Need-cast-v
+cast-v c = record { fits = omega (arith, small (c .before .before)) }
+
 sub-v : tie.Need-sub-v
 sub-v c = omega (arith, small (c .before .before), range c)
 
-cast-v : tie.Need-cast-v
-cast-v c = record { sfits = omega (arith, range c) }
+cast-v-2 : tie.Need-cast-v-2
+cast-v-2 c = record { sfits = omega (arith, range c) }
 
 returns : tie.Need-returns
 returns c =
@@ -67,10 +73,12 @@ linear-of-spec =
     (tie.spec
     constants-of-requires
     cast-y
-    add-level
+    cast-c
+    add-c
     level-requires
-    sub-v
     cast-v
+    sub-v
+    cast-v-2
     returns
     sub-result
     returns-2)
