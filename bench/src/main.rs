@@ -111,7 +111,9 @@ fn expanding(batch: &Batch) {
 
 /// Linear values to samples, frame by frame: the octets are taken for values over the whole scale.
 fn compressing(batch: &Batch) {
-    let wide = |frame: &Vec<u8>| frame.windows(2).chain([&frame[..2]]).map(|two| i16::from_le_bytes([two[0], two[1]]) >> 2).collect();
+    let wide = |frame: &Vec<u8>| {
+        frame.windows(2).chain([&frame[..2]]).map(|two| i16::from_le_bytes([two[0], two[1]]) >> 2).collect()
+    };
     let frames: Vec<Vec<i16>> = batch.frames.iter().map(wide).collect();
     let mut outs = [[0; 320]; 3];
     let [one, other, third] = outs.each_mut();

@@ -97,7 +97,11 @@ fn octets_return() {
 /// Document 01's signed number of a sample.
 fn signed_of(octet: u8, law: u32) -> i32 {
     let y = i32::from((octet ^ if law == 0 { 0x55 } else { 0x7F }) & 0x7F);
-    if octet < 128 { -y - 1 } else { y }
+    if octet < 128 {
+        -y - 1
+    } else {
+        y
+    }
 }
 
 /// e of (6-6) and (6-8): the least e with m / 64 + 1 at most 2^e, m / 64 rounded down first.
@@ -138,7 +142,10 @@ fn values_return_near() {
         let far = |value: i16| away.iter().find(|(given, _)| *given == value).unwrap().1;
         let most = 1 << (segments - 1);
         assert_eq!([far(least - 1), far(greatest + 1), far(greatest + 2)], [most + 1, most, most + 1], "law {law}");
-        say(&format!("compared: linear: law {law}, {} values return at most 2^e away, {segments} bounds reached\n", greatest as i32 - least as i32 + 1));
+        say(&format!(
+            "compared: linear: law {law}, {} values return at most 2^e away, {segments} bounds reached\n",
+            greatest as i32 - least as i32 + 1
+        ));
     }
 }
 

@@ -3,8 +3,8 @@
 
 use second::linear::{linear_of, octet_of};
 use tests::recordings::recordings;
-use tests::tools::{law_words, pack_wanted, same, Room, Stop, FILES, USAGE};
 use tests::say;
+use tests::tools::{law_words, pack_wanted, same, Room, Stop, FILES, USAGE};
 
 fn room(name: &str) -> Room {
     Room::new(env!("CARGO_TARGET_TMPDIR"), &format!("masters-{name}"))
@@ -78,18 +78,11 @@ fn every_value() {
         let sound = samples_of(&values, law);
         let wanted = pack_wanted(&sound, law, 127, 160, false);
         let (option, _, _) = law_words(law);
-        // Values in turn don't pack: a stream of 65,535 octets holds a part of them.
-        let fits = wanted.stop.at;
         for (form, master) in [("-l", octets_of(&values)), ("-w", wav(&values))] {
-            room.run("pack", &format!("{option} {form}"), &master).ends(wanted.stop).writes(&[]);
-            for part in values.chunks(fits.min(32_000)) {
-                let sound = samples_of(part, law);
-                let master = if form == "-l" { octets_of(part) } else { wav(part) };
-                let wanted = pack_wanted(&sound, law, 127, 160, false);
-                let ran = room.run("pack", &format!("{option} {form}"), &master);
-                ran.ends(wanted.stop).writes(&wanted.stream.octets);
-            }
+            let ran = room.run("pack", &format!("{option} {form}"), &master);
+            ran.ends(wanted.stop).writes(&wanted.stream.octets);
         }
+        assert_eq!(wanted.stop, Stop::new(0, values.len(), 0), "all of them fit");
     }
     tell("every value of 16 bits packed", &room);
 }

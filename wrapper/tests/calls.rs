@@ -2,7 +2,9 @@
 
 #![cfg(feature = "writer")]
 
-use g7110::{from_linear, read, to_linear, walk, write, Law, Read, Refusal, Walk, Written, ALL_TOOLS, MAX_SAMPLES, MAX_WRITTEN};
+use g7110::{
+    from_linear, read, to_linear, walk, write, Law, Read, Refusal, Walk, Written, ALL_TOOLS, MAX_SAMPLES, MAX_WRITTEN,
+};
 
 const PLUS: u8 = 0xFF;
 const MINUS: u8 = 0x7F;
