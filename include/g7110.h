@@ -1,6 +1,7 @@
-/* g7110.h: G.711.0 frames of the seven carried tools, read, written and walked. This header is also the manual.
+/* g7110.h: G.711.0 frames of the seven carried tools, read, written and walked; frames of samples to linear values and back.
+ * This header is also the manual.
  *
- * Every answer below is proved equal to the project's definitions of document 01, for all inputs.
+ * Every answer below is proved equal to the project's definitions of document 01, and of 001's section 6.8, for all inputs.
  *
  * The archive libg7110.a is for x86-64 Linux alone.
  *
@@ -18,6 +19,8 @@
  *   A refused g7110_walk keeps the frames before the refused one: their samples stand in the output and are counted in
  *   the report. Past them the output is as lent.
  *   An accepted call too leaves the output past what it reports as lent.
+ *   A conversion has no report: accepted, its samples_len or linear_len results stand at the output's start; refused, the
+ *   output is as lent.
  *
  * BIT
  *   Which bit was bad: counted from 0 at the refused frame's start, highest bit of an octet first.
@@ -29,13 +32,16 @@
  *   0 for every other refusal, and for an accepted call. docs/RETURNS.md has an example of each.
  *
  * VERSIONS
+ *   G7110_VERSION goes up by one when a call is added or a report changes.
+ *   3   g7110_to_linear and g7110_from_linear.
  *   2   g7110_read and g7110_walk report five numbers: the bit is new, at the end. They write report[4], so a program that was
  *       compiled for version 1, which lends four, must be compiled again. A value-location frame that leaves no place for
  *       zero is accepted; version 1 refused it with G7110_PLACE.
  *   1   the first.
  *
  * BUFFERS
- *   A pointer comes with its length in octets. A length of 0 may come with any pointer, NULL too.
+ *   A pointer comes with its length, in octets, or in values where it points to int16_t. A length of 0 may come with any
+ *   pointer, NULL too. A pointer to int16_t is aligned as such a pointer must be.
  *   Lent buffers must not overlap: not input and output, not output and report.
  *   The calls use no heap, no global state and no lock: they may be called from several threads at once, each with its own buffers.
  *
@@ -46,6 +52,15 @@
  * ROOM
  *   The output's length is the room. Reading needs the frame's samples (G7110_MAX_SAMPLES are always enough), writing the
  *   form's octets (G7110_MAX_WRITTEN are always enough), walking the samples of all frames together.
+ *
+ *   Converting needs as many values as the frame has samples.
+ *
+ * LINEAR VALUES
+ *   They are in the scale of 001's section 6.8, not of 16 bits: A-law has 13 bits, -4096 to 4095, mu-law 14, -8159 to 8158.
+ *   Other values are clipped to these ends. A master of 16 bits is brought to scale first, by an arithmetic shift right of 3
+ *   for A-law and 2 for mu-law, and back by a shift left; the calls don't shift.
+ *   All 256 octets of A-law return to themselves, and all of mu-law but 7F (minus zero), which returns as FF. In the ranges
+ *   above a value returns at most 2^e away, e as in (6-6) and (6-8): 64 at most for A-law, 128 for mu-law.
  *
  * EXAMPLE
  *   Keep a greeting's frame, and get it back:
@@ -66,7 +81,7 @@
 extern "C" {
 #endif
 
-#define G7110_VERSION 2
+#define G7110_VERSION 3
 
 #define G7110_MAX_SAMPLES 320 /* samples of a frame */
 #define G7110_MAX_WRITTEN 321 /* octets of a written frame */
@@ -87,7 +102,7 @@ enum {
     G7110_RUN = 7,     /* run longer than the places left */
     G7110_PLACE = 8,   /* listed place not below D or not rising; also where no place is left to list (D = 0) */
     G7110_ALIGN = 9,   /* a filling bit isn't 0 */
-    G7110_LENGTH = 10, /* writer given other than 0, 40, 80, 160, 240, 320 samples */
+    G7110_LENGTH = 10, /* writer or conversion given other than 0, 40, 80, 160, 240, 320 samples */
     G7110_SET = 11,    /* set above 127, or even for a writer */
     G7110_LAW = 12,    /* law above 1 */
     G7110_LONG = 13    /* walk given more than 65,535 octets */
@@ -107,6 +122,14 @@ uint32_t g7110_write(const uint8_t *samples, size_t samples_len, uint32_t law, u
  * G7110_LAW, G7110_SET and G7110_LONG refuse before any frame. A walk over no octets is accepted. */
 uint32_t g7110_walk(const uint8_t *octets, size_t octets_len, uint32_t law, uint32_t set,
                     uint8_t *out, size_t out_len, uint64_t report[5]);
+
+/* Converts a frame of samples to linear values, by (6-1) to (6-4) of 001. Refusals, in order: G7110_LAW, G7110_LENGTH,
+ * G7110_ROOM (out_len counts values). */
+uint32_t g7110_to_linear(const uint8_t *samples, size_t samples_len, uint32_t law, int16_t *out, size_t out_len);
+
+/* Converts a frame of linear values to samples, by (6-5) to (6-8) of 001. Refusals, in order: G7110_LAW, G7110_LENGTH,
+ * G7110_ROOM. */
+uint32_t g7110_from_linear(const int16_t *linear, size_t linear_len, uint32_t law, uint8_t *out, size_t out_len);
 
 #ifdef __cplusplus
 }

@@ -62,3 +62,23 @@ pub fn by_bits_walk(octets: &[u8], law: u32, set: u32, out: &mut [u8]) -> u32 {
     black_box(&report);
     ending
 }
+
+#[inline(never)]
+pub fn proved_to_linear(samples: &[u8], law: u32, out: &mut [i16]) -> u32 {
+    g7110::raw::to_linear(samples, law, out)
+}
+
+#[inline(never)]
+pub fn second_to_linear(samples: &[u8], law: u32, out: &mut [i16]) -> u32 {
+    second::linear::to_linear(samples, law, out)
+}
+
+#[inline(never)]
+pub fn proved_from_linear(linear: &[i16], law: u32, out: &mut [u8]) -> u32 {
+    g7110::raw::from_linear(linear, law, out)
+}
+
+#[inline(never)]
+pub fn second_from_linear(linear: &[i16], law: u32, out: &mut [u8]) -> u32 {
+    second::linear::from_linear(linear, law, out)
+}

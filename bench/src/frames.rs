@@ -53,6 +53,19 @@ pub fn by_kind(lengths: &[usize]) -> Vec<Batch> {
     batches
 }
 
+/// Frames of any octets, for both laws: what is converted.
+pub fn any_octets(lengths: &[usize]) -> Vec<Batch> {
+    let mut rng = Prng::new(3);
+    let mut batches = Vec::new();
+    for (law, name) in ["A", "mu"].iter().enumerate() {
+        for length in lengths {
+            let frames = (0..FRAMES).map(|_| make_frame(Kind::RandomOctets, *length, law as u32, &mut rng)).collect();
+            batches.push(Batch { name: format!("{name} | {length}"), law: law as u32, frames });
+        }
+    }
+    batches
+}
+
 /// All kinds and all lengths in turn.
 pub fn mixed() -> Batch {
     let mut rng = Prng::new(2);

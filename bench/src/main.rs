@@ -8,7 +8,7 @@ mod calls;
 mod frames;
 mod time;
 
-use frames::{by_kind, mixed, recordings, Batch};
+use frames::{any_octets, by_kind, mixed, recordings, Batch};
 use std::hint::black_box;
 use time::best;
 
@@ -115,7 +115,36 @@ fn writing(batch: &Batch) {
     println!("| {} | - | {:.1} | - | {:.2} | - |", batch.name, second / count, copied / count);
 }
 
-fn each(inputs: &[Vec<u8>], mut call: impl FnMut(&[u8]) -> u32) {
+/// Samples to linear values, frame by frame.
+fn expanding(batch: &Batch) {
+    let mut outs = [[0; 320]; 2];
+    let [one, other] = outs.each_mut();
+    let mut third = [0; 320];
+    let times = best([
+        &mut || each(&batch.frames, |frame| calls::proved_to_linear(frame, batch.law, one)),
+        &mut || each(&batch.frames, |frame| calls::second_to_linear(frame, batch.law, other)),
+        &mut || copy(&batch.frames, &mut third),
+    ]);
+    row(&batch.name, times, batch.frames.len() as f64);
+}
+
+/// Linear values to samples, frame by frame: the octets are taken for values over the whole scale.
+fn compressing(batch: &Batch) {
+    let wide = |frame: &Vec<u8>| {
+        frame.windows(2).chain([&frame[..2]]).map(|two| i16::from_le_bytes([two[0], two[1]]) >> 2).collect()
+    };
+    let frames: Vec<Vec<i16>> = batch.frames.iter().map(wide).collect();
+    let mut outs = [[0; 320]; 3];
+    let [one, other, third] = outs.each_mut();
+    let times = best([
+        &mut || each(&frames, |frame| calls::proved_from_linear(frame, batch.law, one)),
+        &mut || each(&frames, |frame| calls::second_from_linear(frame, batch.law, other)),
+        &mut || copy(&batch.frames, third),
+    ]);
+    row(&batch.name, times, frames.len() as f64);
+}
+
+fn each<T>(inputs: &[Vec<T>], mut call: impl FnMut(&[T]) -> u32) {
     for input in inputs {
         black_box(call(black_box(input)));
     }
@@ -189,4 +218,9 @@ fn main() {
     growth("pads", &[0x00]);
     growth("plus zeros, 40", &[0x41]);
     growth("the longest frames", &longest());
+    let batches = any_octets(&LENGTHS);
+    head("Samples to linear values, a frame", "law | samples", "ns", ALONE);
+    batches.iter().for_each(expanding);
+    head("Linear values to samples, a frame", "law | samples", "ns", ALONE);
+    batches.iter().for_each(compressing);
 }

@@ -4,6 +4,7 @@
 //! * [`write_frame`] writes the chosen form of one frame.
 //! * [`walk`] reads the frames of a stream one after the other.
 //! * [`listing`] makes the text the listing program prints.
+//! * [`linear`] turns samples into linear values and back.
 //!
 //! None of the first three touches the heap: a frame is at most 320 samples,
 //! so whatever has to be held back until a frame is known to be good fits on
@@ -15,6 +16,7 @@ mod bits;
 mod first_octet;
 pub mod gen;
 mod law;
+pub mod linear;
 mod listing;
 mod planes;
 mod read;

@@ -26,6 +26,26 @@ static int keep_and_get_back(const uint8_t *samples)
     return 0;
 }
 
+/* A frame of linear values and back. The scale is 001's own, so 20,000 is clipped. */
+static int to_linear_and_back(const uint8_t *samples)
+{
+    int16_t linear[161];
+    uint8_t back[161];
+    linear[160] = 77;
+    back[160] = 0xA7;
+    CHECK(g7110_to_linear(samples, 160, 1, linear, 160) == G7110_OK && linear[160] == 77);
+    CHECK(g7110_from_linear(linear, 160, 1, back, 160) == G7110_OK && back[160] == 0xA7);
+    CHECK(memcmp(back, samples, 160) == 0);
+    linear[0] = 20000;
+    linear[1] = -1;
+    CHECK(g7110_from_linear(linear, 160, 0, back, 160) == G7110_OK && back[0] == 0xAA && back[1] == 0x55);
+    CHECK(g7110_to_linear(samples, 41, 2, linear, 0) == G7110_LAW);
+    CHECK(g7110_to_linear(samples, 41, 1, linear, 0) == G7110_LENGTH);
+    CHECK(g7110_to_linear(samples, 40, 1, linear, 39) == G7110_ROOM);
+    CHECK(g7110_from_linear(NULL, 0, 1, NULL, 0) == G7110_OK);
+    return 0;
+}
+
 /* A length of 0 may come with NULL. */
 static int nothing_lent(void)
 {
@@ -79,6 +99,7 @@ int main(void)
     size_t at;
     for (at = 0; at < sizeof samples; at++) samples[at] = at % 20 == 0 ? 0xFE : 0xFF;
     if (keep_and_get_back(samples) || nothing_lent() || walk_and_stop() || refused()) return 1;
+    if (to_linear_and_back(samples)) return 1;
     printf("ok\n");
     return 0;
 }

@@ -11,12 +11,13 @@
 enum { STACK = 1 << 20, PAINT = 0xC5, STREAM = 4000 };
 
 struct call {
-    int which; /* 0 none, 1 read, 2 write, 3 walk */
+    int which; /* 0 none, 1 read, 2 write, 3 walk, 4 to linear values, 5 from them */
     const uint8_t *given;
     size_t length;
 };
 
 static uint8_t out[1 << 16];
+static int16_t linear[320];
 
 static void *make(void *argument)
 {
@@ -25,6 +26,8 @@ static void *make(void *argument)
     if (call->which == 1) g7110_read(call->given, call->length, 1, G7110_ALL_TOOLS, out, sizeof out, report);
     if (call->which == 2) g7110_write(call->given, call->length, 1, G7110_ALL_TOOLS, out, sizeof out, report);
     if (call->which == 3) g7110_walk(call->given, call->length, 1, G7110_ALL_TOOLS, out, sizeof out, report);
+    if (call->which == 4) g7110_to_linear(call->given, call->length, 1, linear, 320);
+    if (call->which == 5) g7110_from_linear(linear, call->length, 1, out, sizeof out);
     return NULL;
 }
 
@@ -47,7 +50,7 @@ static size_t used(struct call call)
     return STACK - low;
 }
 
-static size_t greatest[4];
+static size_t greatest[6];
 
 static void measure(int which, const uint8_t *given, size_t length)
 {
@@ -78,6 +81,12 @@ static void frame(uint8_t *samples, int kind)
     }
 }
 
+/* What a call uses more than a thread that makes none; a conversion calls nothing, and uses no more. */
+static unsigned long over(int which)
+{
+    return greatest[which] > greatest[0] ? (unsigned long)(greatest[which] - greatest[0]) : 0;
+}
+
 int main(void)
 {
     uint8_t samples[320], form[G7110_MAX_WRITTEN], stream[STREAM];
@@ -89,6 +98,8 @@ int main(void)
     for (kind = 0; kind < 8; kind++) {
         frame(samples, kind);
         measure(2, samples, 320);
+        measure(4, samples, 320);
+        measure(5, samples, 320);
         if (g7110_write(samples, 320, 1, G7110_ALL_TOOLS, form, sizeof form, wrote) != G7110_OK) return 1;
         for (cut = 0; cut < 2; cut++) measure(1, form, (size_t)wrote[0] - (size_t)cut);
         memcpy(stream + length, form, (size_t)wrote[0]);
@@ -96,8 +107,10 @@ int main(void)
     }
     measure(3, stream, sizeof stream);
     measure(3, stream, length - 1);
-    printf("stack: g7110_read %lu octets\n", (unsigned long)(greatest[1] - greatest[0]));
-    printf("stack: g7110_write %lu octets\n", (unsigned long)(greatest[2] - greatest[0]));
-    printf("stack: g7110_walk %lu octets\n", (unsigned long)(greatest[3] - greatest[0]));
+    printf("stack: g7110_read %lu octets\n", over(1));
+    printf("stack: g7110_write %lu octets\n", over(2));
+    printf("stack: g7110_walk %lu octets\n", over(3));
+    printf("stack: g7110_to_linear %lu octets\n", over(4));
+    printf("stack: g7110_from_linear %lu octets\n", over(5));
     return 0;
 }

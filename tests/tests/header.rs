@@ -61,9 +61,11 @@ fn the_stack_that_a_call_uses() {
     let said = run("cc", "-std=c99", "stack.c", &["-pthread"]);
     say(&said.replace("stack:", "compared: stack, the shipped archive:"));
     let octets: Vec<u64> = said.lines().map(|line| line.split_whitespace().nth(2).unwrap().parse().unwrap()).collect();
-    assert_eq!(octets.len(), 3, "{said}");
+    assert_eq!(octets.len(), 5, "{said}");
     let most = defined("G7110_STACK");
-    assert!(octets.iter().all(|octets| *octets > 0 && *octets <= most), "the header says {most}\n{said}");
+    // A conversion calls nothing, and may use none.
+    assert!(octets[..3].iter().all(|octets| *octets > 0), "{said}");
+    assert!(octets.iter().all(|octets| *octets <= most), "the header says {most}\n{said}");
     // A quarter: what the C library's own functions take differs from one processor to another.
     assert!(octets.iter().any(|octets| 4 * octets > most), "the header says {most}\n{said}");
 }

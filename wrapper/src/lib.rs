@@ -1,4 +1,5 @@
-//! G.711.0 frames of the seven carried tools, read, written and walked by the proved code of libg7110.a.
+//! G.711.0 frames of the seven carried tools, read, written and walked by the proved code of libg7110.a, and frames of
+//! samples converted to linear values and back.
 //!
 //! include/g7110.h is the manual; the names here are its names. No call uses the heap.
 
@@ -191,4 +192,21 @@ pub fn walk(octets: &[u8], law: Law, set: u32, out: &mut [u8]) -> Walk {
     let [frames, octets, samples, tool, bit] = report;
     let refused = (ending != 0).then(|| Refused { why: Refusal::of(ending, tool), bit: bit as usize });
     Walk { frames: frames as usize, octets: octets as usize, samples: samples as usize, refused }
+}
+
+/// Converts a frame of samples to linear values of 001's section 6.8: 13 bits for A-law, 14 for mu-law. What is refused
+/// leaves the output as it was.
+pub fn to_linear(samples: &[u8], law: Law, out: &mut [i16]) -> Result<(), Refusal> {
+    match raw::to_linear(samples, law.number(), out) {
+        0 => Ok(()),
+        ending => Err(Refusal::of(ending, 0)),
+    }
+}
+
+/// Converts a frame of linear values, in the same scale, to samples; other values are clipped.
+pub fn from_linear(linear: &[i16], law: Law, out: &mut [u8]) -> Result<(), Refusal> {
+    match raw::from_linear(linear, law.number(), out) {
+        0 => Ok(()),
+        ending => Err(Refusal::of(ending, 0)),
+    }
 }

@@ -1,4 +1,4 @@
-//! The three functions of include/g7110.h as they are: a number comes back, and a report that is written in every case.
+//! The functions of include/g7110.h as they are: a number comes back, and a report, where there is one, is written in every case.
 //! This is the only file with unsafe code. A slice brings a pointer that is good for its length, and two slices, one
 //! of them mutable, don't overlap: that is all that the header asks.
 
@@ -33,6 +33,8 @@ extern "C" {
         out_len: usize,
         report: *mut [u64; 5],
     ) -> u32;
+    fn g7110_to_linear(samples: *const u8, samples_len: usize, law: u32, out: *mut i16, out_len: usize) -> u32;
+    fn g7110_from_linear(linear: *const i16, linear_len: usize, law: u32, out: *mut u8, out_len: usize) -> u32;
 }
 
 /// The ending; the report is samples, octets, bits, tool and the refusal's bit.
@@ -52,4 +54,16 @@ pub fn write(samples: &[u8], law: u32, set: u32, out: &mut [u8], report: &mut [u
 pub fn walk(octets: &[u8], law: u32, set: u32, out: &mut [u8], report: &mut [u64; 5]) -> u32 {
     // SAFETY: as in `read`.
     unsafe { g7110_walk(octets.as_ptr(), octets.len(), law, set, out.as_mut_ptr(), out.len(), report) }
+}
+
+/// The ending; the linear values stand in `out`.
+pub fn to_linear(samples: &[u8], law: u32, out: &mut [i16]) -> u32 {
+    // SAFETY: as in `read`; a slice of i16 is aligned.
+    unsafe { g7110_to_linear(samples.as_ptr(), samples.len(), law, out.as_mut_ptr(), out.len()) }
+}
+
+/// The ending; the octets stand in `out`.
+pub fn from_linear(linear: &[i16], law: u32, out: &mut [u8]) -> u32 {
+    // SAFETY: as in `to_linear`.
+    unsafe { g7110_from_linear(linear.as_ptr(), linear.len(), law, out.as_mut_ptr(), out.len()) }
 }

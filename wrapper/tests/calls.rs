@@ -2,7 +2,10 @@
 
 #![cfg(feature = "writer")]
 
-use g7110::{read, walk, write, Law, Read, Refusal, Refused, Walk, Written, ALL_TOOLS, MAX_SAMPLES, MAX_WRITTEN};
+use g7110::{
+    from_linear, read, to_linear, walk, write, Law, Read, Refusal, Refused, Walk, Written, ALL_TOOLS, MAX_SAMPLES,
+    MAX_WRITTEN,
+};
 
 const PLUS: u8 = 0xFF;
 const MINUS: u8 = 0x7F;
@@ -84,6 +87,34 @@ fn every_refusal_has_its_number() {
     assert_eq!(g7110::raw::read(&[0x41], 2, 127, &mut out, &mut report), Refusal::Law.number());
     assert_eq!(report, [0; 5], "a report is written in every case");
     assert_eq!(out, [0xA7; 320], "a refused call leaves the output as lent");
+}
+
+/// The scale is 001's own: 20,000 is clipped, and -1 is not plus zero.
+#[test]
+fn to_linear_and_back() {
+    let samples: Vec<u8> = (0..160).map(|at| (at * 3 % 256) as u8).collect();
+    let (mut linear, mut back) = ([0; 161], [0xA7; 161]);
+    assert_eq!(to_linear(&samples, Law::A, &mut linear), Ok(()));
+    assert_eq!(from_linear(&linear[..160], Law::A, &mut back), Ok(()));
+    assert_eq!((&back[..160], back[160], linear[160]), (&samples[..], 0xA7, 0));
+    let mut wide = [20_000; 40];
+    wide[1] = -1;
+    assert_eq!(from_linear(&wide, Law::A, &mut back), Ok(()));
+    assert_eq!(back[..3], [0xAA, 0x55, 0xAA]);
+    assert_eq!(from_linear(&wide, Law::Mu, &mut back), Ok(()));
+    assert_eq!(back[..3], [0x80, MINUS, 0x80]);
+}
+
+#[test]
+fn a_refused_conversion_writes_nothing() {
+    let (mut linear, mut octets) = ([7; 40], [0xA7; 40]);
+    assert_eq!(to_linear(&[PLUS; 41], Law::Mu, &mut linear), Err(Refusal::Length));
+    assert_eq!(to_linear(&[PLUS; 80], Law::Mu, &mut linear), Err(Refusal::Room));
+    assert_eq!(from_linear(&[0; 80], Law::Mu, &mut octets), Err(Refusal::Room));
+    assert_eq!(g7110::raw::to_linear(&[PLUS; 41], 2, &mut linear), Refusal::Law.number());
+    assert_eq!(g7110::raw::from_linear(&[0; 41], 2, &mut octets), Refusal::Law.number());
+    assert_eq!((linear, octets), ([7; 40], [0xA7; 40]));
+    assert_eq!(to_linear(&[], Law::A, &mut []), Ok(()));
 }
 
 /// No state is shared: calls from several threads at once answer as one alone does.

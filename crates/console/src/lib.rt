@@ -75,9 +75,9 @@ pub fn summary(frames: usize, samples: usize, octets: usize) {
 // How a tool is called.
 fn say_usage(packs: bool) {
     if packs {
-        say(b"usage: pack [-u|-a] [-n#] [-s#] [-f] [INFILE [OUTFILE]]\n");
+        say(b"usage: pack [-u|-a] [-l|-w] [-n#] [-s#] [-f] [INFILE [OUTFILE]]\n");
     } else {
-        say(b"usage: unpack [-u|-a] [-s#] [-c MASTER] [INFILE [OUTFILE]]\n");
+        say(b"usage: unpack [-u|-a] [-l|-w] [-s#] [-c MASTER] [INFILE [OUTFILE]]\n");
     }
 }
 

@@ -9,6 +9,7 @@ use Rattle.rules.specs.Frame.{Found}
 use Rattle.rules.specs.Bits.{octetsFor, pack}
 use Rattle.rules.specs.Chooses.{Write}
 use Rattle.rules.specs.Walk.{Walked, octetsKept, samplesKept}
+use Rattle.linear.specs.Calls.{judged, after}
 use Rattle.rules.specs.Calls.{readEnd, readSamples, readOctets, readBits, readTool, readBit, writeEnd, writtenBits, writeTool, atStart}
 
 -- the number; samples, octets used, bits, tool and the refusal's bit; the samples at the start of the output, the rest as lent
@@ -28,3 +29,8 @@ pub record WriteReported (written : Write) (out out′ three : List ℕ) (r : �
   pub number : r ≡ numberOf (writeEnd written)
   pub report : three ≡ octetsFor (length (writtenBits written)) ∷ length (writtenBits written) ∷ writeTool written ∷ []
   pub lent : out′ ≡ atStart (pack (writtenBits written)) out
+
+-- a frame converted: the number; the values at the start of the output, the rest as lent, or all of it as lent
+pub record Converted {A : Type 0} (law n : ℕ) (ys out out′ : List A) (r : ℕ) : Type 0 where
+  pub number : r ≡ numberOf (judged law n (length out))
+  pub lent : out′ ≡ after (judged law n (length out)) ys out

@@ -1,9 +1,11 @@
 // The C boundary: numbers and slices only. include/g7110.h says what a C program passes.
+ghost use mathlib.Core.List.{map};
 ghost use lib.ListN.{length};
 ghost use Rattle.rules.specs.Frame.{readOne};
 ghost use Rattle.rules.specs.Walk.{walkAll};
 ghost use Rattle.rules.specs.Chooses.{writeOne};
-ghost use Rattle.g7110.specs.Boundary.{ReadReported, WalkReported, WriteReported};
+ghost use Rattle.linear.specs.Equations.{toPCM, fromPCM};
+ghost use Rattle.g7110.specs.Boundary.{ReadReported, WalkReported, WriteReported, Converted};
 
 // Reading one frame: the number, and in the report samples, octets used, bits, tool and the refusal's bit.
 #[no_mangle]
@@ -66,5 +68,23 @@ pub extern "C" fn g7110_write(
     let a = writer::write_samples(samples, law, set, out);
     *report = [a.octets as u64, a.bits as u64, a.tool as u64];
     let end = a.end;
+    rules::number_of(end)
+}
+
+// A frame of octets to linear values.
+#[no_mangle]
+pub extern "C" fn g7110_to_linear(samples: &[u8], law: u32, out: &mut [i16]) -> u32
+    ensures { λ r. ⌜ Converted law (length (now (samples .entry))) (map (toPCM law) (now (samples .entry))) (now (out .entry)) (now (out .exit)) r ⌝ }
+{
+    let end = linear::to_linear(samples, law, out);
+    rules::number_of(end)
+}
+
+// A frame of linear values to octets.
+#[no_mangle]
+pub extern "C" fn g7110_from_linear(linear: &[i16], law: u32, out: &mut [u8]) -> u32
+    ensures { λ r. ⌜ Converted law (length (now (linear .entry))) (map (fromPCM law) (now (linear .entry))) (now (out .entry)) (now (out .exit)) r ⌝ }
+{
+    let end = linear::from_linear(linear, law, out);
     rules::number_of(end)
 }

@@ -7,7 +7,7 @@ use lib.Dec.{eqb, leb}
 use Rattle.texts.specs.declared.Number.{Number}
 use Rattle.texts.specs.declared.Number.the-variants.{Is, Not}
 use Rattle.options.specs.declared.Argument.{Argument}
-use Rattle.options.specs.declared.Argument.the-variants.{File, Law, Fill, Waits, Counts, Unknown}
+use Rattle.options.specs.declared.Argument.the-variants.{File, Law, Fill, Form, Waits, Counts, Unknown}
 use Rattle.options.specs.declared.Settings.{Settings}
 use Rattle.filenames.specs.Names.{unknown, lawTold}
 use Rattle.texts.specs.Numbers.{numberIn}
@@ -18,11 +18,12 @@ unfoldable pub wantedBy : Bool → ℕ → ℕ
 wantedBy packs x =
     cond (eqb x 0x73) 3 (cond (packs && eqb x 0x6E) 2 (cond (not packs && eqb x 0x63) 1 0))
 
--- an option of one letter: "-u", "-a", for `pack` "-f"; or one whose word is the next argument
+-- an option of one letter: "-u", "-a", for `pack` "-f"; "-l", a master of linear values, and "-w", a WAV file; or one whose word is the next argument
 unfoldable pub letterOf : Bool → ℕ → Argument
 letterOf packs x =
     cond (eqb x 0x75) (Law 1) (cond (eqb x 0x61) (Law 0) (cond (eqb x 0x66) (cond packs Fill Unknown)
-    (cond (eqb (wantedBy packs x) 0) Unknown (Waits (wantedBy packs x)))))
+    (cond (eqb x 0x6C) (Form 1) (cond (eqb x 0x77) (Form 2)
+    (cond (eqb (wantedBy packs x) 0) Unknown (Waits (wantedBy packs x)))))))
 
 -- an option with its number
 unfoldable pub numberedOf : Bool → ℕ → List ℕ → Argument
@@ -35,55 +36,60 @@ argumentOf packs text =
     (cond (eqb (length text) 1 || not (eqb (getD text 0 0) 0x2D)) File
     (cond (eqb (length text) 2) (letterOf packs (getD text 1 0)) (numberedOf packs (getD text 1 0) (drop 2 text))))
 
--- before any argument: the frame length is 160 and the set 127 unless said; files are given by their arguments' numbers, 0 is none
+-- before any argument: the frame length is 160 and the set 127 unless said; the sound is raw G.711 (0); files are given by their arguments' numbers, 0 is none
 abbrev pub atFirst : Bool → Settings
 atFirst packs =
-    record { packs = packs; law = unknown; length = 160; set = 127; fill = false; infile = 0; outfile = 0; master = 0; wants = 0; wrong = 0; place = 0 }
+    record { packs = packs; law = unknown; length = 160; set = 127; fill = false; form = 0; infile = 0; outfile = 0; master = 0; wants = 0; wrong = 0; place = 0 }
 
 -- what is wrong with argument i: an option that is not known (1), no number (2), a file too many (3), a word that is missing (4), too long (5)
 abbrev pub withWrong : Settings → ℕ → ℕ → Settings
 withWrong s why i =
-    record { packs = s .packs; law = s .law; length = s .length; set = s .set; fill = s .fill; infile = s .infile; outfile = s .outfile; master = s .master; wants = s .wants; wrong = why; place = i }
+    record { packs = s .packs; law = s .law; length = s .length; set = s .set; fill = s .fill; form = s .form; infile = s .infile; outfile = s .outfile; master = s .master; wants = s .wants; wrong = why; place = i }
 
 -- -u, -a
 abbrev pub withLaw : Settings → ℕ → Settings
 withLaw s l =
-    record { packs = s .packs; law = l; length = s .length; set = s .set; fill = s .fill; infile = s .infile; outfile = s .outfile; master = s .master; wants = s .wants; wrong = s .wrong; place = s .place }
+    record { packs = s .packs; law = l; length = s .length; set = s .set; fill = s .fill; form = s .form; infile = s .infile; outfile = s .outfile; master = s .master; wants = s .wants; wrong = s .wrong; place = s .place }
 
 -- -f
 abbrev pub withFill : Settings → Settings
 withFill s =
-    record { packs = s .packs; law = s .law; length = s .length; set = s .set; fill = true; infile = s .infile; outfile = s .outfile; master = s .master; wants = s .wants; wrong = s .wrong; place = s .place }
+    record { packs = s .packs; law = s .law; length = s .length; set = s .set; fill = true; form = s .form; infile = s .infile; outfile = s .outfile; master = s .master; wants = s .wants; wrong = s .wrong; place = s .place }
+
+-- -l (1), -w (2)
+abbrev pub withForm : Settings → ℕ → Settings
+withForm s f =
+    record { packs = s .packs; law = s .law; length = s .length; set = s .set; fill = s .fill; form = f; infile = s .infile; outfile = s .outfile; master = s .master; wants = s .wants; wrong = s .wrong; place = s .place }
 
 -- the next argument is this option's word
 abbrev pub withWants : Settings → ℕ → Settings
 withWants s w =
-    record { packs = s .packs; law = s .law; length = s .length; set = s .set; fill = s .fill; infile = s .infile; outfile = s .outfile; master = s .master; wants = w; wrong = s .wrong; place = s .place }
+    record { packs = s .packs; law = s .law; length = s .length; set = s .set; fill = s .fill; form = s .form; infile = s .infile; outfile = s .outfile; master = s .master; wants = w; wrong = s .wrong; place = s .place }
 
 -- -c MASTER
 abbrev pub withMaster : Settings → ℕ → Settings
 withMaster s i =
-    record { packs = s .packs; law = s .law; length = s .length; set = s .set; fill = s .fill; infile = s .infile; outfile = s .outfile; master = i; wants = 0; wrong = s .wrong; place = s .place }
+    record { packs = s .packs; law = s .law; length = s .length; set = s .set; fill = s .fill; form = s .form; infile = s .infile; outfile = s .outfile; master = i; wants = 0; wrong = s .wrong; place = s .place }
 
 -- -n#
 abbrev pub withLength : Settings → ℕ → Settings
 withLength s n =
-    record { packs = s .packs; law = s .law; length = n; set = s .set; fill = s .fill; infile = s .infile; outfile = s .outfile; master = s .master; wants = 0; wrong = s .wrong; place = s .place }
+    record { packs = s .packs; law = s .law; length = n; set = s .set; fill = s .fill; form = s .form; infile = s .infile; outfile = s .outfile; master = s .master; wants = 0; wrong = s .wrong; place = s .place }
 
 -- -s#
 abbrev pub withSet : Settings → ℕ → Settings
 withSet s n =
-    record { packs = s .packs; law = s .law; length = s .length; set = n; fill = s .fill; infile = s .infile; outfile = s .outfile; master = s .master; wants = 0; wrong = s .wrong; place = s .place }
+    record { packs = s .packs; law = s .law; length = s .length; set = n; fill = s .fill; form = s .form; infile = s .infile; outfile = s .outfile; master = s .master; wants = 0; wrong = s .wrong; place = s .place }
 
 -- INFILE
 abbrev pub withInfile : Settings → ℕ → Settings
 withInfile s i =
-    record { packs = s .packs; law = s .law; length = s .length; set = s .set; fill = s .fill; infile = i; outfile = s .outfile; master = s .master; wants = s .wants; wrong = s .wrong; place = s .place }
+    record { packs = s .packs; law = s .law; length = s .length; set = s .set; fill = s .fill; form = s .form; infile = i; outfile = s .outfile; master = s .master; wants = s .wants; wrong = s .wrong; place = s .place }
 
 -- OUTFILE
 abbrev pub withOutfile : Settings → ℕ → Settings
 withOutfile s i =
-    record { packs = s .packs; law = s .law; length = s .length; set = s .set; fill = s .fill; infile = s .infile; outfile = i; master = s .master; wants = s .wants; wrong = s .wrong; place = s .place }
+    record { packs = s .packs; law = s .law; length = s .length; set = s .set; fill = s .fill; form = s .form; infile = s .infile; outfile = i; master = s .master; wants = s .wants; wrong = s .wrong; place = s .place }
 
 -- the first file is INFILE, the second OUTFILE, and there is no third
 unfoldable pub withFile : Settings → ℕ → Settings
@@ -99,6 +105,7 @@ withArgument s (Law l) i = withLaw s l
 withArgument s Fill i = withFill s
 withArgument s (Waits w) i = withWants s w
 withArgument s (Counts w m) i = withNumber s w m i
+withArgument s (Form f) i = withForm s f
 withArgument s Unknown i = withWrong s 1 i
 
 -- argument i; what is wrong once stays so

@@ -13,10 +13,11 @@ pub enum Argument {
     Fill,
     Waits(u32),
     Counts(u32, Number),
+    Form(u32),
     Unknown,
 }
 
-// The settings that the arguments make. A law that no option tells is 2. Files are given by their arguments' numbers, 0 is none.
+// The settings that the arguments make. A law that no option tells is 2. The form of the sound is raw G.711 (0), linear values (1) or a WAV file (2). Files are given by their arguments' numbers, 0 is none.
 // `wrong` says what is wrong with argument `place`: 1 an option that is not known, 2 no number, 3 a file too many,
 // 4 a word that is missing, 5 too long.
 pub struct Settings {
@@ -25,6 +26,7 @@ pub struct Settings {
     pub length: u32,
     pub set: u32,
     pub fill: bool,
+    pub form: u32,
     pub infile: usize,
     pub outfile: usize,
     pub master: usize,
@@ -42,6 +44,7 @@ pub fn at_first(packs: bool) -> Settings
         length: 160,
         set: 127,
         fill: false,
+        form: 0,
         infile: 0,
         outfile: 0,
         master: 0,
@@ -93,6 +96,12 @@ fn letter_option(packs: bool, letter: u8) -> Argument
             return Argument::Fill;
         }
         return Argument::Unknown;
+    }
+    if letter == b'l' {
+        return Argument::Form(1);
+    }
+    if letter == b'w' {
+        return Argument::Form(2);
     }
     let wanted = wanted_by(packs, letter);
     if wanted == 0 {
@@ -181,6 +190,10 @@ fn with_argument(mut s: Settings, a: Argument, index: usize) -> Settings
             s
         }
         Argument::Counts(which, n) => with_number(s, which, n, index),
+        Argument::Form(form) => {
+            s.form = form;
+            s
+        }
         Argument::Unknown => with_wrong(s, 1, index),
     }
 }

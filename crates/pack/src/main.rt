@@ -1,4 +1,4 @@
-// The bench tool `pack`: raw G.711 octets in, a stream of frames out. What matters is in crates `cutting` and `packing`: here the sound is read in parts
+// The bench tool `pack`: raw G.711 octets or a linear master in, a stream of frames out. What matters is in crates `cutting` and `packing`: here the sound is read in parts
 // of whole frames, the stream is kept, and it is written when all is well.
 ghost use Prim.Native.Nat.{_+_, _≤_, _<_};
 ghost use mathlib.Core.Path.{_≡_};
@@ -10,12 +10,14 @@ use options::Settings;
 use packing::PackAnswer;
 use rules::Ending;
 
-// What was packed so far, how many octets were added to the last part, whether more sound may come, and whether a read failed.
+// What was packed so far, how many octets were added to the last part, whether more sound may come, whether a read failed, and
+// how many octets the file should still have.
 struct Run {
     packed: PackAnswer,
     filled: usize,
     more: bool,
     failed: bool,
+    left: usize,
 }
 
 // Where it is asked, what the last part lacks is filled up.
@@ -37,13 +39,14 @@ fn next_part(fd: i32, run: Run, s: Settings, part: &mut [u8], out: &mut [u8]) ->
     ensures less { λ r. ⌜ stepsLeft (length (now (out .entry))) r < stepsLeft (length (now (out .entry))) run ⌝ }
 {
     let packed = run.packed;
-    let got = console::read_part(fd, part);
+    let got = sounds::read_part(fd, s.form, s.law, run.left, part);
     if got.failed {
         return Run {
             packed,
             filled: 0,
             more: false,
             failed: true,
+            left: 0,
         };
     }
     let count = got.count;
@@ -57,6 +60,7 @@ fn next_part(fd: i32, run: Run, s: Settings, part: &mut [u8], out: &mut [u8]) ->
         filled,
         more,
         failed: false,
+        left: got.left,
     }
 }
 
@@ -122,6 +126,14 @@ fn write_stream(run: Run, s: Settings, name: &[u8], out: &[u8])
     console::stop(true, 0, p.samples, 0, 0);
 }
 
+// Whether a master ends before it should. A stream that is too long ends the reading too.
+fn is_cut(left: usize, number: u32) -> bool {
+    if number == 13 {
+        return false;
+    }
+    left != 0
+}
+
 // Nothing is written, and no file made, unless all of the sound was read and packed.
 fn finish(run: Run, s: Settings, in_name: &[u8], out_name: &[u8], out: &[u8])
     requires { ⌜ Stands s (now out) run ⌝ }
@@ -133,6 +145,11 @@ fn finish(run: Run, s: Settings, in_name: &[u8], out_name: &[u8], out: &[u8])
     let p = run.packed;
     let e = p.end;
     let number = cutting::number_for(e);
+    if is_cut(run.left, number) {
+        console::say(b"pack: the master ends inside its sound\n");
+        console::stop(true, 74, 0, 0, 0);
+        return;
+    }
     if number != 0 {
         explain_sound(number);
         console::refused(true, number, p.samples, 0, 0);
@@ -158,11 +175,17 @@ fn pack_file(s: Settings, in_name: &[u8], out_name: &[u8], part: &mut [u8], out:
         console::failed(true, in_name, b"standard input");
         return;
     }
+    let o = sounds::open_sound(fd, s.form, part);
+    if o.trouble != 0 {
+        console::stop(true, 74, 0, 0, 0);
+        return;
+    }
     let start = Run {
         packed,
         filled: 0,
         more: true,
         failed: false,
+        left: o.left,
     };
     let run = all_parts(fd, start, s, part, out);
     finish(run, s, in_name, out_name, out);

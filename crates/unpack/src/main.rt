@@ -36,13 +36,25 @@ struct Total {
     wrong: u32,
 }
 
-// The sound of a part, written. It is the part of `stream` at `at`, by a law and a set, which stand here for the contract alone.
-fn written(stream: &[u8], law: u32, set: u32, at: usize, p: Part, fd: i32, page: &[u8]) -> Used
+// The form of a sound that is only counted.
+const COUNTED: u32 = 3;
+
+// The sound of a part, written in its form. It is the part of `stream` at `at`, by a law and a set; the set stands here for the contract alone.
+fn written(
+    stream: &[u8],
+    law: u32,
+    set: u32,
+    at: usize,
+    p: Part,
+    fd: i32,
+    page: &[u8],
+    form: u32,
+) -> Used
     requires { ⌜ (NextSound (now stream) law set at (now page) p) × (p .samples ≤ length (now page)) ⌝ }
     ensures { λ r. ⌜ UsesUpTo (p .samples) r ⌝ }
 {
     let n = p.samples;
-    if io::write_all(fd, &page[..n]) {
+    if sounds::write_part(fd, form, law, &page[..n]) {
         return Used {
             wrong: NOTHING,
             good: n,
@@ -98,6 +110,7 @@ fn use_part(
     fd: i32,
     page: &[u8],
     master: &mut [u8],
+    form: u32,
 ) -> Used
     requires { ⌜ (NextSound (now stream) law set at (now page) p) × (p .samples ≤ length (now page)) × (length (now page) ≤ length (now master)) ⌝ }
     ensures { λ r. ⌜ UsesUpTo (p .samples) r ⌝ }
@@ -106,7 +119,7 @@ fn use_part(
         let n = p.samples;
         return compared(fd, &page[..n], master);
     }
-    written(stream, law, set, at, p, fd, page)
+    written(stream, law, set, at, p, fd, page, form)
 }
 
 // Part after part, page by page.
@@ -118,6 +131,7 @@ fn parts(
     fd: i32,
     page: &mut [u8],
     master: &mut [u8],
+    form: u32,
 ) -> Total
     requires { ⌜ (length (now stream) ≤ 65535) × (320 ≤ length (now page)) × (length (now page) ≤ length (now master)) ⌝ }
     ensures { λ r. ⌜ (r .wrong ≡ 0 → TellsWalk (now (stream .entry)) law set r) ⌝ }
@@ -127,7 +141,7 @@ fn parts(
     let mut samples = 0;
     loop {
         let p = unpacking::next_part(stream, law, set, at, page);
-        let u = use_part(stream, law, set, at, p, compares, fd, page, master);
+        let u = use_part(stream, law, set, at, p, compares, fd, page, master, form);
         let end = p.end;
         frames += p.frames;
         samples += u.good;
@@ -150,13 +164,13 @@ fn parts(
 }
 
 // The second page is for the master.
-fn all_parts(stream: &[u8], law: u32, set: u32, compares: bool, fd: i32) -> Total
+fn all_parts(stream: &[u8], law: u32, set: u32, compares: bool, fd: i32, form: u32) -> Total
     requires { ⌜ length (now stream) ≤ 65535 ⌝ }
     ensures { λ r. ⌜ (r .wrong ≡ 0 → TellsWalk (now (stream .entry)) law set r) ⌝ }
 {
     let mut page = [0u8; 61440];
     let mut master = [0u8; 61440];
-    parts(stream, law, set, compares, fd, &mut page, &mut master)
+    parts(stream, law, set, compares, fd, &mut page, &mut master, form)
 }
 
 // The last lines of a run in which nothing is wrong with the files: what was done, and the refusal if there is one.
@@ -191,8 +205,19 @@ fn read_stream(name: &[u8], stream: &mut [u8]) -> Got
     got
 }
 
+// A WAV file tells before its sound how long it is: the stream is walked once for that.
+fn heading_written(stream: &[u8], law: u32, set: u32, form: u32, fd: i32) -> bool
+    requires { ⌜ length (now stream) ≤ 65535 ⌝ }
+{
+    if form != 2 {
+        return true;
+    }
+    let t = all_parts(stream, law, set, false, fd, COUNTED);
+    sounds::write_heading(fd, t.samples)
+}
+
 // Writes the sound of a stream to a file.
-fn write_to(stream: &[u8], law: u32, set: u32, name: &[u8])
+fn write_to(stream: &[u8], law: u32, set: u32, form: u32, name: &[u8])
     requires { ⌜ length (now stream) ≤ 65535 ⌝ }
 {
     let fd = console::open_out(name);
@@ -200,7 +225,11 @@ fn write_to(stream: &[u8], law: u32, set: u32, name: &[u8])
         console::failed(false, name, b"standard output");
         return;
     }
-    let t = all_parts(stream, law, set, false, fd);
+    if !heading_written(stream, law, set, form, fd) {
+        console::failed(false, name, b"standard output");
+        return;
+    }
+    let t = all_parts(stream, law, set, false, fd, form);
     if t.wrong != NOTHING {
         console::failed(false, name, b"standard output");
         return;
@@ -275,7 +304,7 @@ fn compare_with(stream: &[u8], law: u32, set: u32, name: &[u8])
         console::failed(false, name, b"standard input");
         return;
     }
-    let t = all_parts(stream, law, set, true, fd);
+    let t = all_parts(stream, law, set, true, fd, 0);
     conclude(t, fd, name);
 }
 
@@ -296,14 +325,36 @@ fn run(s: Settings, law: u32, name: &[u8], other: &[u8]) {
         return;
     }
     if s.master == 0 {
-        write_to(&stream[..n], law, s.set, other);
+        write_to(&stream[..n], law, s.set, s.form, other);
     } else {
         compare_with(&stream[..n], law, s.set, other);
     }
 }
 
+// Whether -l or -w can't be met: a master that is compared is raw G.711, and no ending is known for another form.
+fn wrong_form(s: Settings, name: &[u8]) -> bool {
+    if s.form == 0 {
+        return false;
+    }
+    if s.master != 0 {
+        console::usage(
+            false,
+            b"-c compares raw G.711, so -l and -w don't go with it",
+        );
+        return true;
+    }
+    if s.outfile == 0 && name.len() != 0 {
+        console::usage(false, b"with -l or -w OUTFILE must be said");
+        return true;
+    }
+    false
+}
+
 // Finds the name of the other file.
 fn with_names(s: Settings, law: u32, name: &[u8]) {
+    if wrong_form(s, name) {
+        return;
+    }
     let mut space = [0u8; 4095];
     if s.master != 0 {
         if s.outfile != 0 {

@@ -20,18 +20,44 @@ returns-4 : tie.Need-returns-4
 unfolding letterOf
 returns-4 c = rw (ne-eqb _ _ (c .before .before .before .if1 .left), ne-eqb _ _ (c .before .before .if2 .left), eq-eqb _ _ (c .before .if3 .taken), c .if4 .left)
 
-wanted-by-requires : tie.Need-wanted-by-requires
-wanted-by-requires c κs = search needs
-
 returns-5 : tie.Need-returns-5
 unfolding letterOf
-returns-5 c = rw (ne-eqb _ _ (c .before .before .before .before .if1 .left), ne-eqb _ _ (c .before .before .before .if2 .left), ne-eqb _ _ (c .before .before .if3 .left), ← (c .before .wanted-by .ensures), eq-eqb _ _ (c .if5 .taken))
+returns-5 c = rw (ne-eqb _ _ (c .before .before .before .if1 .left), ne-eqb _ _ (c .before .before .if2 .left), ne-eqb _ _ (c .before .if3 .left), eq-eqb _ _ (c .if5 .taken))
 
 returns-6 : tie.Need-returns-6
 unfolding letterOf
-returns-6 c = rw (ne-eqb _ _ (c .before .before .before .before .if1 .left), ne-eqb _ _ (c .before .before .before .if2 .left), ne-eqb _ _ (c .before .before .if3 .left), ← (c .before .wanted-by .ensures), ne-eqb _ _ (c .if5 .left))
+returns-6 c = rw (ne-eqb _ _ (c .before .before .before .before .if1 .left), ne-eqb _ _ (c .before .before .before .if2 .left), ne-eqb _ _ (c .before .before .if3 .left), ne-eqb _ _ (c .before .if5 .left), eq-eqb _ _ (c .if6 .taken))
+
+wanted-by-requires : tie.Need-wanted-by-requires
+wanted-by-requires c κs = search needs
+
+returns-7 : tie.Need-returns-7
+unfolding letterOf
+returns-7 c =
+    rw (
+      ne-eqb _ _ (c .before .before .before .before .before .before .if1 .left),
+      ne-eqb _ _ (c .before .before .before .before .before .if2 .left),
+      ne-eqb _ _ (c .before .before .before .before .if3 .left),
+      ne-eqb _ _ (c .before .before .before .if5 .left),
+      ne-eqb _ _ (c .before .before .if6 .left),
+      ← (c .before .wanted-by .ensures),
+      eq-eqb _ _ (c .if7 .taken),
+    )
+
+returns-8 : tie.Need-returns-8
+unfolding letterOf
+returns-8 c =
+    rw (
+      ne-eqb _ _ (c .before .before .before .before .before .before .if1 .left),
+      ne-eqb _ _ (c .before .before .before .before .before .if2 .left),
+      ne-eqb _ _ (c .before .before .before .before .if3 .left),
+      ne-eqb _ _ (c .before .before .before .if5 .left),
+      ne-eqb _ _ (c .before .before .if6 .left),
+      ← (c .before .wanted-by .ensures),
+      ne-eqb _ _ (c .if7 .left),
+    )
 
 pub letter-option-spec : {M : Type 1} → statement M
 letter-option-spec =
     tie.close
-    (tie.spec returns returns-2 returns-3 returns-4 wanted-by-requires returns-5 returns-6)
+    (tie.spec returns returns-2 returns-3 returns-4 returns-5 returns-6 wanted-by-requires returns-7 returns-8)

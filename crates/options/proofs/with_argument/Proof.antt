@@ -26,6 +26,9 @@ enum-known-a-3 c = search needs
 with-number-requires : tie.Need-with-number-requires
 with-number-requires c κs = search needs
 
+enum-known-a-4 : tie.Need-enum-known-a-4
+enum-known-a-4 c = search needs
+
 enum-told-3 : tie.Need-enum-told-3
 enum-told-3 c = search needs
 
@@ -48,7 +51,10 @@ returns-5 : tie.Need-returns-5
 returns-5 c = c .with-number .ensures ∙ sym (ap (λ (a : Argument). withArgument (c .before .before .before .before .args .s) a (c .before .before .before .before .args .index)) (c .before .before .a3 .given .1))
 
 returns-6 : tie.Need-returns-6
-returns-6 c = c .with-wrong .ensures ∙ sym (ap (λ (a : Argument). withArgument (c .before .before .before .args .s) a (c .before .before .before .args .index)) (c .before .enum-told3 .given .1))
+returns-6 c = sym (ap (λ (a : Argument). withArgument (c .before .before .before .args .s) a (c .before .before .before .args .index)) (c .before .a4 .given .1))
+
+returns-7 : tie.Need-returns-7
+returns-7 c = c .with-wrong .ensures ∙ sym (ap (λ (a : Argument). withArgument (c .before .before .before .args .s) a (c .before .before .before .args .index)) (c .before .enum-told3 .given .1))
 
 pub with-argument-spec : {M : Type 1} → statement M
 with-argument-spec =
@@ -61,6 +67,7 @@ with-argument-spec =
     enum-known-a-2
     enum-known-a-3
     with-number-requires
+    enum-known-a-4
     enum-told-3
     with-wrong-requires
     returns
@@ -68,4 +75,5 @@ with-argument-spec =
     returns-3
     returns-4
     returns-5
-    returns-6)
+    returns-6
+    returns-7)

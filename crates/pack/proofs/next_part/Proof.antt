@@ -15,7 +15,7 @@ use Rattle.pack.proofs.next_part.Tie as tie
 -- the part, as it is read and filled up
 module _ (c : tie.After-filled-up) where
   part-length : length (c .filled-up .last .1 .0) ≡ partSize
-  part-length = c .filled-up .kept .1 .0 ∙ c .before .before .before .before .before .read-part .kept .1 .0 ∙ c .before .before .before .before .before .before .before .before .before .before .pre .3
+  part-length = c .filled-up .kept .1 .0 ∙ c .before .before .before .before .before .read-part .kept .1 .1 .1 .1 .0 ∙ c .before .before .before .before .before .before .before .before .before .before .pre .3
 
   end-length : length (take (c .before .before .before .before .before .read-part .result .count + c .filled-up .result) (c .filled-up .last .1 .0)) ≡ c .before .before .before .before .before .read-part .result .count + c .filled-up .result
   end-length = length-take-le (c .before .before .before .before .before .read-part .result .count + c .filled-up .result) (c .filled-up .last .1 .0) (omega (arith, part-length, c .filled-up .ensures .1))
@@ -29,7 +29,7 @@ same-length c = search needs
 returns : tie.Need-returns
 returns c =
     let s = c .before .before .before .before .before .before .before .before in
-    let t = read-failed (s .args .s) (s .args .out .now) (s .args .run) (record { packed = s .args .run .packed; filled = 0; more = false; failed = true }) (s .pre .0) (s .pre .1) refl refl in
+    let t = read-failed (s .args .s) (s .args .out .now) (s .args .run) (record { packed = s .args .run .packed; filled = 0; more = false; failed = true; left = 0 }) (s .pre .0) (s .pre .1) refl refl in
     (t .stands, t .less)
 
 filled-up-requires : tie.Need-filled-up-requires
@@ -67,7 +67,7 @@ same-length-3 c = search needs
 returns-2 : tie.Need-returns-2
 returns-2 c =
     let s = c .before .before .before .before .before .before .before .before .before .before .before .before .before .before .before .before .before .before .before in
-    let r : Run = record { packed = c .before .before .before .pack-on .result; filled = c .before .before .before .before .before .before .before .before .before .filled-up .result; more = c .may-go-on .result; failed = false } in
+    let r : Run = record { packed = c .before .before .before .pack-on .result; filled = c .before .before .before .before .before .before .before .before .before .filled-up .result; more = c .may-go-on .result; failed = false; left = c .before .before .before .before .before .before .before .before .before .before .before .before .before .before .read-part .result .left } in
     let l = end-length (c .before .before .before .before .before .before .before .before .before) in
     let octets : Below 256 (take (c .before .before .before .before .before .before .before .before .before .before .before .before .before .before .read-part .result .count + c .before .before .before .before .before .before .before .before .before .filled-up .result) (c .before .before .before .before .before .before .before .before .before .filled-up .last .1 .0)) = below-take (c .before .before .before .before .before .before .before .before .before .before .before .before .before .before .read-part .result .count + c .before .before .before .before .before .before .before .before .before .filled-up .result) (below-all (c .before .before .before .before .before .before .before .before .before .filled-up .last .1 .0) (λ i. c .before .before .before .before .before .before .before .slice-known4 .given i .fits)) in
     let t = part-taken (s .args .s) (take (c .before .before .before .before .before .before .before .before .before .before .before .before .before .before .read-part .result .count + c .before .before .before .before .before .before .before .before .before .filled-up .result) (c .before .before .before .before .before .before .before .before .before .filled-up .last .1 .0)) (c .before .before .before .before .before .before .before .before .before .before .before .before .before .before .read-part .result .count) (s .args .out .now) (c .before .before .before .pack-on .last .1 .1 .1 .1 .1 .0) (s .args .run) r octets (omega (arith, l, c .before .before .before .before .before .before .before .before .before .filled-up .ensures .1)) (omega (arith, l)) (c .before .before .before .pack-on .kept .1 .1 .1 .1 .1 .0) (s .pre .0) (s .pre .1) (c .before .before .before .pack-on .ensures) (c .may-go-on .ensures) in

@@ -1,10 +1,10 @@
-use borrow.Author.Needs.{needs}
 use mathlib.Core.Path.{sym, _∙_}
 use mathlib.Core.Bool.{true, false}
 use native.Mathlib.Omega.{arith}
 use Rattle.pack.specs.declared.Run.{Run}
 use Rattle.pack.proofs.Running.{stands-first}
 use Rattle.cutting.proofs.Numbers.{number-done}
+use borrow.Author.Needs.{needs}
 use Rattle.pack.proofs.pack_file.Statement.{statement}
 use Rattle.pack.proofs.pack_file.Tie as tie
 
@@ -47,16 +47,11 @@ same-length-2 c = search needs
 returns-2 : tie.Need-returns-2
 returns-2 c = search needs
 
-all-parts-requires : tie.Need-all-parts-requires
-all-parts-requires c κs =
-    let s = c .before .before .before .before .before .before .before .before .before .before .before .before .before .before .before .before in
-    let p = c .before .before .before .before .before .before .before .before .pack in
-    let k = p .kept .1 .1 .1 .1 .0 in
-    let start : Run = record { packed = p .result; filled = 0; more = true; failed = false } in
-    (stands-first (s .args .s) (s .args .out .now) (p .last .1 .1 .1 .1 .0) start k (p .ensures) (number-done (p .result .end) (sym (c .before .before .before .before .before .number-of .ensures) ∙ omega arith)), omega (arith, k, s .pre .0), s .pre .1)
+open-sound-requires : tie.Need-open-sound-requires
+open-sound-requires c κs = search needs
 
-finish-requires : tie.Need-finish-requires
-finish-requires c κs = search needs
+stop-requires : tie.Need-stop-requires
+stop-requires c κs = search needs
 
 same-length-3 : tie.Need-same-length-3
 same-length-3 c = search needs
@@ -66,6 +61,32 @@ same-length-4 c = search needs
 
 returns-3 : tie.Need-returns-3
 returns-3 c = search needs
+
+all-parts-requires : tie.Need-all-parts-requires
+all-parts-requires c κs =
+    let s = c .before .before .before .before .before .before .before .before .before .before .before .before .before .before .before .before .before .before .before .before .before .before in
+    let p = c .before .before .before .before .before .before .before .before .before .before .before .before .before .before .pack in
+    let o = c .before .before .before .before .before .before .open-sound in
+    let k = p .kept .1 .1 .1 .1 .0 in
+    let start : Run = record { packed = p .result; filled = 0; more = true; failed = false; left = o .result .left } in
+    let n = c .before .before .before .before .before .before .before .before .before .before in
+    let well = number-done (p .result .end) (sym (n .before .number-of .ensures) ∙ n .if1 .left) in (
+      stands-first (s .args .s) (s .args .out .now) (p .last .1 .1 .1 .1 .0) start k (p .ensures) well,
+      omega (arith, k, s .pre .0),
+      o .kept .1 .1 .0 ∙ s .pre .1,
+    )
+
+finish-requires : tie.Need-finish-requires
+finish-requires c κs = search needs
+
+same-length-5 : tie.Need-same-length-5
+same-length-5 c = search needs
+
+same-length-6 : tie.Need-same-length-6
+same-length-6 c = search needs
+
+returns-4 : tie.Need-returns-4
+returns-4 c = search needs
 
 pub pack-file-spec : {M : Type 1} → statement M
 pack-file-spec =
@@ -84,8 +105,13 @@ pack-file-spec =
     failed-requires
     same-length-2
     returns-2
-    all-parts-requires
-    finish-requires
+    open-sound-requires
+    stop-requires
     same-length-3
     same-length-4
-    returns-3)
+    returns-3
+    all-parts-requires
+    finish-requires
+    same-length-5
+    same-length-6
+    returns-4)

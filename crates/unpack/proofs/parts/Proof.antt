@@ -11,10 +11,10 @@ use Rattle.unpack.proofs.parts.Statement.{statement}
 use Rattle.unpack.proofs.parts.Tie as tie
 
 abbrev Inv-loop : tie.InvT-loop
-Inv-loop stream law set compares fd page₀ master₀ at₀ frames₀ samples₀ page master at frames samples = Going stream law set (length page₀) page at frames samples × (length master ≡ length master₀)
+Inv-loop stream law set compares fd page₀ master₀ form at₀ frames₀ samples₀ page master at frames samples = Going stream law set (length page₀) page at frames samples × (length master ≡ length master₀)
 
 abbrev μ-loop : tie.MeasureT-loop
-μ-loop stream law set compares fd page₀ master₀ at₀ frames₀ samples₀ page master at frames samples = length stream - at
+μ-loop stream law set compares fd page₀ master₀ form at₀ frames₀ samples₀ page master at frames samples = length stream - at
 
 -- the two pages keep their lengths
 module _ (d : tie.After-use-part Inv-loop μ-loop) where

@@ -4,11 +4,11 @@ use lib.Seq.{length-take-le}
 use Rattle.unpack.proofs.written.Statement.{statement}
 use Rattle.unpack.proofs.written.Tie as tie
 
-slice-aggregate-write-all : tie.Need-slice-aggregate-write-all
-slice-aggregate-write-all c = sym (length-take-le _ _ (c .before .before .before .pre .1))
+slice-aggregate-write-part : tie.Need-slice-aggregate-write-part
+slice-aggregate-write-part c = sym (length-take-le _ _ (c .before .before .before .pre .1))
 
-write-all-requires : tie.Need-write-all-requires
-write-all-requires c κs = search needs
+write-part-requires : tie.Need-write-part-requires
+write-part-requires c κs = search needs
 
 returns : tie.Need-returns
 returns c = search needs
@@ -17,4 +17,4 @@ returns-2 : tie.Need-returns-2
 returns-2 c = search needs
 
 pub written-spec : {M : Type 1} → statement M
-written-spec = tie.close (tie.spec slice-aggregate-write-all write-all-requires returns returns-2)
+written-spec = tie.close (tie.spec slice-aggregate-write-part write-part-requires returns returns-2)

@@ -1,0 +1,34 @@
+use native.Mathlib.Omega.{arith}
+use mathlib.Core.Path.{_≡_, sym, ap, _∙_}
+use Rattle.linear.specs.Equations.{eOf}
+use Rattle.linear.specs.Constants.{codeOf}
+use Rattle.linear.proofs.One.{code-small}
+use borrow.Author.Needs.{needs}
+use Rattle.linear.proofs.code_of.Statement.{statement}
+use Rattle.linear.proofs.code_of.Tie as tie
+use Rattle.linear.proofs.code_of.Reads as reads
+use Rattle.linear.proofs.code_of.Lts as lts
+use Rattle.linear.proofs.e_of.Reads as e-of-reads
+
+e-of-requires : tie.Need-e-of-requires
+e-of-requires c κs = search needs
+
+mul-result : tie.Need-mul-result
+mul-result c = let e = c .e-of .ensures in omega (arith, code-small (c .before .args .m) (c .before .pre))
+
+add-result : tie.Need-add-result
+add-result c = let e = c .e-of .ensures in omega (arith, code-small (c .before .args .m) (c .before .pre))
+
+shr-result : tie.Need-shr-result
+shr-result c = let e = c .e-of .ensures in omega (arith, code-small (c .before .args .m) (c .before .pre))
+
+add-result-2 : tie.Need-add-result-2
+add-result-2 c = rw (c .e-of .ensures) (omega (arith, code-small (c .before .args .m) (c .before .pre)))
+
+returns : tie.Need-returns
+unfolding codeOf
+returns c = rw (c .e-of .ensures)
+
+pub code-of-spec : {M : Type 1} → statement M
+code-of-spec =
+    tie.close (tie.spec e-of-requires mul-result add-result shr-result add-result-2 returns)

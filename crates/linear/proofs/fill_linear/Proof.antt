@@ -1,0 +1,88 @@
+use Rattle.linear.proofs.Frames.{turn, kept, whole}
+use mir.Syntax.{w16}
+use mir.Facts.{toZ-ofZ}
+use lib.IntN.{pos}
+use Prim.Native.Nat.{_≤_, _<_, _-_, _+_}
+use native.Mathlib.Omega.{arith}
+use native.Mathlib.Numerals.{add-one}
+use mathlib.Core.Path.{_≡_, sym, ap, _∙_}
+use mathlib.Core.List.{map}
+use lib.ListN.{length}
+use lib.Seq.{paste, paste-zero, paste-suc, length-paste}
+use Rattle.linear.specs.Equations.{toPCM}
+use borrow.Author.Needs.{needs}
+use Rattle.linear.proofs.fill_linear.Statement.{statement}
+use Rattle.linear.proofs.fill_linear.Tie as tie
+use Rattle.linear.proofs.fill_linear.Reads as reads
+use Rattle.linear.proofs.fill_linear.Lts as lts
+use Rattle.linear.proofs.linear_of.Reads as linear-of-reads
+
+abbrev Inv-loop : tie.InvT-loop
+Inv-loop samples law out₀ i₀ out i = (i ≤ length samples) × (out ≡ paste out₀ 0 (map (toPCM law) samples) i)
+
+abbrev μ-loop : tie.MeasureT-loop
+μ-loop samples law out₀ i₀ out i = length samples - i
+
+sized : (s : tie.At-loop Inv-loop μ-loop) → length (s .loop .out) ≡ length (s .before .before .args .out .now)
+sized s =
+    let a = s .before .before .args in
+    rw (s .loop .inv .1) (kept (toPCM (a .law)) (a .samples .now) (a .out .now) (s .loop .i) (omega arith) (omega arith))
+
+loop-holds : tie.Need-loop-holds Inv-loop μ-loop
+loop-holds c =
+    let a = c .before .args in
+    (omega arith, paste-zero (a .out .now) 0 (map (toPCM (a .law)) (a .samples .now)))
+
+shared-slice-read-linear-of : tie.Need-shared-slice-read-linear-of Inv-loop μ-loop
+shared-slice-read-linear-of c = search needs
+
+linear-of-requires : tie.Need-linear-of-requires Inv-loop μ-loop
+linear-of-requires c κs = search needs
+
+mul-t5 : tie.Need-mul-t5 Inv-loop μ-loop
+mul-t5 c = search needs
+
+slice-set-from-out : tie.Need-slice-set-from-out Inv-loop μ-loop
+slice-set-from-out c = omega (arith, sized (c .before .before .before))
+
+add-i : tie.Need-add-i Inv-loop μ-loop
+add-i c = search needs
+
+loop-less : tie.Need-loop-less Inv-loop μ-loop
+loop-less c = search needs
+
+loop-again : tie.Need-loop-again Inv-loop μ-loop
+loop-again c =
+    let l = c .before .before .before .loop in
+    let a = c .before .before .before .before .before .args in
+    let in-list : l .i < length (a .samples .now) = omega arith in
+    let in-room : length (a .samples .now) ≤ length (a .out .now) = omega arith in (
+      omega arith,
+      let e = toZ-ofZ {w = w16} (record { sfits = c .linear-of .ok }) ∙ c .linear-of .ensures in
+          rw (l .inv .1) (turn (toPCM (a .law)) (a .samples .now) (a .out .now) (l .i) 0 _ in-list in-room e),
+    )
+
+same-length : tie.Need-same-length Inv-loop μ-loop
+same-length c = sized (c .before)
+
+returns : tie.Need-returns Inv-loop μ-loop
+returns c =
+    let a = c .before .before .before .args in
+    c .before .loop .inv .1 ∙ whole (toPCM (a .law)) (a .samples .now) (a .out .now) (c .before .loop .i) (omega arith)
+
+pub fill-linear-spec : {M : Type 1} → statement M
+fill-linear-spec =
+    tie.close
+    (tie.spec
+    Inv-loop
+    μ-loop
+    loop-holds
+    shared-slice-read-linear-of
+    linear-of-requires
+    mul-t5
+    slice-set-from-out
+    add-i
+    loop-less
+    loop-again
+    same-length
+    returns)

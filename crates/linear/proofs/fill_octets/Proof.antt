@@ -1,0 +1,88 @@
+use Rattle.linear.proofs.Frames.{turn, kept, whole}
+use mir.Syntax.{w16}
+use mir.Facts.{toZ-ofZ}
+use lib.IntN.{pos}
+use Prim.Native.Nat.{_≤_, _<_, _-_, _+_}
+use native.Mathlib.Omega.{arith}
+use native.Mathlib.Numerals.{add-one}
+use mathlib.Core.Path.{_≡_, sym, ap, _∙_}
+use mathlib.Core.List.{map}
+use lib.ListN.{length}
+use lib.Seq.{paste, paste-zero, paste-suc, length-paste}
+use Rattle.linear.specs.Equations.{fromPCM}
+use borrow.Author.Needs.{needs}
+use Rattle.linear.proofs.fill_octets.Statement.{statement}
+use Rattle.linear.proofs.fill_octets.Tie as tie
+use Rattle.linear.proofs.fill_octets.Reads as reads
+use Rattle.linear.proofs.fill_octets.Lts as lts
+use Rattle.linear.proofs.octet_of.Reads as octet-of-reads
+
+abbrev Inv-loop : tie.InvT-loop
+Inv-loop linear law out₀ i₀ out i = (i ≤ length linear) × (out ≡ paste out₀ 0 (map (fromPCM law) linear) i)
+
+abbrev μ-loop : tie.MeasureT-loop
+μ-loop linear law out₀ i₀ out i = length linear - i
+
+sized : (s : tie.At-loop Inv-loop μ-loop) → length (s .loop .out) ≡ length (s .before .before .args .out .now)
+sized s =
+    let a = s .before .before .args in
+    rw (s .loop .inv .1) (kept (fromPCM (a .law)) (a .linear .now) (a .out .now) (s .loop .i) (omega arith) (omega arith))
+
+loop-holds : tie.Need-loop-holds Inv-loop μ-loop
+loop-holds c =
+    let a = c .before .args in
+    (omega arith, paste-zero (a .out .now) 0 (map (fromPCM (a .law)) (a .linear .now)))
+
+mul-octet-of : tie.Need-mul-octet-of Inv-loop μ-loop
+mul-octet-of c = search needs
+
+shared-slice-copy-out-octet-of : tie.Need-shared-slice-copy-out-octet-of Inv-loop μ-loop
+shared-slice-copy-out-octet-of c = search needs
+
+octet-of-requires : tie.Need-octet-of-requires Inv-loop μ-loop
+octet-of-requires c κs = search needs
+
+slice-write-out : tie.Need-slice-write-out Inv-loop μ-loop
+slice-write-out c = omega (arith, sized (c .before .before .before))
+
+add-i : tie.Need-add-i Inv-loop μ-loop
+add-i c = search needs
+
+loop-less : tie.Need-loop-less Inv-loop μ-loop
+loop-less c = search needs
+
+loop-again : tie.Need-loop-again Inv-loop μ-loop
+loop-again c =
+    let l = c .before .before .before .loop in
+    let a = c .before .before .before .before .before .args in
+    let in-list : l .i < length (a .linear .now) = omega arith in
+    let in-room : length (a .linear .now) ≤ length (a .out .now) = omega arith in (
+      omega arith,
+      let e = c .octet-of .ensures ∙ ap (fromPCM (a .law)) (toZ-ofZ {w = w16} (record { sfits = c .before .octet-of-arg .given })) in
+          rw (l .inv .1) (turn (fromPCM (a .law)) (a .linear .now) (a .out .now) (l .i) (pos 0) _ in-list in-room e),
+    )
+
+same-length : tie.Need-same-length Inv-loop μ-loop
+same-length c = sized (c .before)
+
+returns : tie.Need-returns Inv-loop μ-loop
+returns c =
+    let a = c .before .before .before .args in
+    c .before .loop .inv .1 ∙ whole (fromPCM (a .law)) (a .linear .now) (a .out .now) (c .before .loop .i) (omega arith)
+
+pub fill-octets-spec : {M : Type 1} → statement M
+fill-octets-spec =
+    tie.close
+    (tie.spec
+    Inv-loop
+    μ-loop
+    loop-holds
+    mul-octet-of
+    shared-slice-copy-out-octet-of
+    octet-of-requires
+    slice-write-out
+    add-i
+    loop-less
+    loop-again
+    same-length
+    returns)

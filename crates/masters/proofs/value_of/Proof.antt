@@ -1,0 +1,50 @@
+use native.Mathlib.Omega.{arith}
+use mathlib.Core.Path.{_≡_, sym, ap, subst, _∙_}
+use Prim.Native.Nat.{_+_, _-_, _*_}
+use mir.Syntax.{w16}
+use mir.Facts.{toZ-pos}
+use Rattle.linear.proofs.Signs.{turned}
+use Rattle.masters.proofs.Values.{value-above, value-below}
+use borrow.Author.Needs.{needs}
+use Rattle.masters.proofs.value_of.Statement.{statement}
+use Rattle.masters.proofs.value_of.Tie as tie
+
+mul-result : tie.Need-mul-result
+mul-result c = search needs
+
+add-result : tie.Need-add-result
+add-result c = search needs
+
+cast-result : tie.Need-cast-result
+cast-result c = search needs
+
+returns : tie.Need-returns
+returns c = toZ-pos w16 (omega arith) ∙ value-above (c .before .args .low) (c .before .args .high) (omega arith)
+
+sub-n : tie.Need-sub-n
+sub-n c = search needs
+
+sub-n-2 : tie.Need-sub-n-2
+sub-n-2 c = search needs
+
+mul-n : tie.Need-mul-n
+mul-n c = search needs
+
+add-n : tie.Need-add-n
+add-n c = search needs
+
+cast-n : tie.Need-cast-n
+cast-n c = search needs
+
+sub-result : tie.Need-sub-result
+sub-result c =
+    let a = c .before .args in
+    turned w16 (255 - a .low + 256 * (255 - a .high)) (omega arith) .fits
+
+returns-2 : tie.Need-returns-2
+returns-2 c =
+    let a = c .before .args in
+    turned w16 (255 - a .low + 256 * (255 - a .high)) (omega arith) .is ∙ value-below (a .low) (a .high) (omega arith)
+
+pub value-of-spec : {M : Type 1} → statement M
+value-of-spec = tie.close (tie.spec mul-result add-result cast-result returns sub-n sub-n-2 mul-n add-n cast-n sub-result returns-2)

@@ -1,0 +1,2 @@
+-- Masters of 16 bits.
+pub mod Masters

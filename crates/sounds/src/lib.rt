@@ -1,0 +1,216 @@
+// The forms in which the bench tools read and write a sound: raw G.711 (0), linear values of 16 bits (1), a WAV file of them (2).
+// No contract can say what is read or written. What octets mean stands in crates `masters` and `wave`.
+ghost use Prim.Native.Nat.{_≤_, _<_};
+ghost use mathlib.Core.Path.{_≡_};
+ghost use lib.ListN.{length};
+use wave::Heading;
+use wave::Wrong;
+
+// A part that was read: its samples, whether a read failed, and how many octets the file should still have.
+pub struct Heard {
+    pub count: usize,
+    pub failed: bool,
+    pub left: usize,
+}
+
+// A sound that was opened: how many octets it should have, 0 where nothing tells it; and whether it was refused (1) or a read failed (2).
+pub struct Opened {
+    pub trouble: u32,
+    pub left: usize,
+}
+
+// At most so many octets, read as linear values; `left` is how many octets came.
+fn read_values(fd: i32, law: u32, most: usize, octets: &mut [u8], part: &mut [u8]) -> Heard
+    requires { ⌜ most ≤ length (now octets) ⌝ }
+    ensures { λ r. ⌜ r .count ≤ length (now (part .exit)) ⌝ }
+{
+    let got = console::read_part(fd, &mut octets[..most]);
+    let n = got.count;
+    let count = masters::sound_of(&octets[..n], law, part);
+    Heard {
+        count,
+        failed: got.failed,
+        left: n,
+    }
+}
+
+// How many octets of a file of linear values are read for a part: two for each sample, and no more than the file should have.
+fn octets_for(form: u32, left: usize) -> usize
+    ensures { λ r. ⌜ r ≤ 122880 ⌝ }
+{
+    if form == 1 {
+        return 122880;
+    }
+    if left < 122880 {
+        return left;
+    }
+    122880
+}
+
+// How many octets the file should still have: all but those that came; without a heading, the other half of a value.
+fn left_after(form: u32, left: usize, came: usize) -> usize {
+    if form == 1 {
+        return came % 2;
+    }
+    if left < came {
+        return 0;
+    }
+    left - came
+}
+
+// The next samples of a sound, as many as the part holds: 61,440.
+pub fn read_part(fd: i32, form: u32, law: u32, left: usize, part: &mut [u8]) -> Heard
+    ensures { λ r. ⌜ r .count ≤ length (now (part .exit)) ⌝ }
+{
+    if form == 0 {
+        let got = console::read_part(fd, part);
+        return Heard {
+            count: got.count,
+            failed: got.failed,
+            left: 0,
+        };
+    }
+    let mut octets = [0u8; 122880];
+    let heard = read_values(fd, law, octets_for(form, left), &mut octets, part);
+    Heard {
+        count: heard.count,
+        failed: heard.failed,
+        left: left_after(form, left, heard.left),
+    }
+}
+
+// What is wrong with a WAV file, and what it has there.
+fn say_what(before: &[u8], what: u32, after: &[u8]) {
+    console::say_number(before, what as usize);
+    console::say(after);
+}
+
+// Why a WAV file is refused.
+fn say_wrong(why: Wrong) {
+    console::say_tool(true);
+    match why {
+        Wrong::NotWave => console::say(b"this is no WAV file\n"),
+        Wrong::Format(what) => say_what(b"the WAV file has format ", what, b", and PCM is 1\n"),
+        Wrong::Channels(what) => say_what(
+            b"the WAV file has ",
+            what,
+            b" channels, and a master has 1\n",
+        ),
+        Wrong::Rate(what) => say_what(
+            b"the WAV file has ",
+            what,
+            b" samples a second, and a master has 8000\n",
+        ),
+        Wrong::Bits(what) => say_what(
+            b"the WAV file has ",
+            what,
+            b" bits a sample, and a master has 16\n",
+        ),
+        Wrong::ShortFormat(what) => say_what(
+            b"the WAV file tells its format in ",
+            what,
+            b" octets, and 16 are needed\n",
+        ),
+        Wrong::NoFormat => console::say(b"the WAV file tells no format before its sound\n"),
+        Wrong::OddSound(what) => say_what(
+            b"the WAV file has a sound of ",
+            what,
+            b" octets, half a sample too many\n",
+        ),
+        Wrong::ManyChunks => console::say(
+            b"the WAV file has more than 32 chunks before its sound\n",
+        ),
+    }
+}
+
+// So many octets more of a heading. The answer is where they end; 0 says that they don't come.
+fn more_octets(fd: i32, n: usize, k: usize, space: &mut [u8]) -> usize
+    requires { ⌜ n ≤ length (now space) ⌝ }
+    ensures { λ r. ⌜ ((r ≡ 0 → ⊥) → n < r) × (r ≤ length (now (space .exit))) ⌝ }
+{
+    if k == 0 {
+        return 0;
+    }
+    if space.len() - n < k {
+        return 0;
+    }
+    let end = n + k;
+    let got = console::read_part(fd, &mut space[n..end]);
+    if got.count < k {
+        return 0;
+    }
+    end
+}
+
+fn say_no_heading() {
+    console::say_tool(true);
+    console::say(b"the WAV file ends inside its heading, or the heading is too long\n");
+}
+
+// The heading of a WAV file, octets after octets as it asks for them.
+fn read_heading(fd: i32, space: &mut [u8]) -> Opened {
+    let mut n = 0;
+    loop {
+        let heading = wave::heading_in(&space[..n]);
+        match heading {
+            Heading::Sound(size) => return Opened {
+                trouble: 0,
+                left: size,
+            },
+            Heading::Refused(why) => {
+                say_wrong(why);
+                return Opened {
+                    trouble: 1,
+                    left: 0,
+                };
+            }
+            Heading::More(k) => {
+                let end = more_octets(fd, n, k, space);
+                if end == 0 {
+                    say_no_heading();
+                    return Opened {
+                        trouble: 1,
+                        left: 0,
+                    };
+                }
+                n = end;
+            }
+        }
+    }
+}
+
+// What comes before the sound: a heading in a WAV file, else nothing.
+pub fn open_sound(fd: i32, form: u32, space: &mut [u8]) -> Opened {
+    if form == 2 {
+        return read_heading(fd, space);
+    }
+    Opened {
+        trouble: 0,
+        left: 0,
+    }
+}
+
+// A part of a sound, written; in form 3 nothing is, and the sound is only counted. A part has at most 61,440 samples.
+pub fn write_part(fd: i32, form: u32, law: u32, sound: &[u8]) -> bool {
+    if form == 3 {
+        return true;
+    }
+    if form == 0 {
+        return io::write_all(fd, sound);
+    }
+    if 61440 < sound.len() {
+        return false;
+    }
+    let mut octets = [0u8; 122880];
+    let n = masters::master_of(sound, law, &mut octets);
+    io::write_all(fd, &octets[..n])
+}
+
+// The heading of a WAV file of so many samples, where its length can tell them.
+pub fn write_heading(fd: i32, samples: usize) -> bool {
+    if 0x7FFFFFFF < samples {
+        return false;
+    }
+    let heading = wave::heading_for((2 * samples) as u32);
+    io::write_all(fd, &heading)
+}

@@ -1,0 +1,21 @@
+use native.Mathlib.Omega.{arith}
+use borrow.Author.Tests.{eq-eqb, ne-eqb, lt-ltb, le-ltb}
+use Rattle.wave.specs.Headings.{halfAt, wordAt, formatAt, formatIn, soundOf, stepAt, after, headingOf, chunksFrom, onward}
+use borrow.Author.Needs.{needs}
+use Rattle.wave.proofs.sound_of.Statement.{statement}
+use Rattle.wave.proofs.sound_of.Tie as tie
+
+returns : tie.Need-returns
+unfolding soundOf
+returns c = rw (c .before .if1 .taken, eq-eqb _ _ (c .if2 .taken))
+
+returns-2 : tie.Need-returns-2
+unfolding soundOf
+returns-2 c = rw (c .before .if1 .taken, ne-eqb _ _ (c .if2 .left))
+
+returns-3 : tie.Need-returns-3
+unfolding soundOf
+returns-3 c = rw (c .if1 .left)
+
+pub sound-of-spec : {M : Type 1} → statement M
+sound-of-spec = tie.close (tie.spec returns returns-2 returns-3)

@@ -1,0 +1,2 @@
+-- The heading of a WAV file.
+pub mod Headings
