@@ -1,0 +1,5 @@
+pub mod Lines
+pub mod State
+pub mod Revisions
+pub mod Calls
+pub mod Promises
