@@ -1,8 +1,14 @@
 // The C boundary: numbers and slices only. include/g7110.h says what a C program passes.
+ghost use mathlib.Core.Path.{_≡_};
 ghost use lib.ListN.{length};
 ghost use Rattle.rules.specs.Frame.{readOne};
 ghost use Rattle.rules.specs.Walk.{walkAll};
 ghost use Rattle.rules.specs.Chooses.{writeOne};
+ghost use Rattle.settings.specs.Lines.{settingsIn};
+ghost use Rattle.settings.specs.Revisions.{saveIn, lookUp, backTo};
+ghost use Rattle.settings.specs.State.{boxOf};
+ghost use Rattle.settings.specs.Calls.{Wipe};
+ghost use Rattle.g7110.specs.Settings.{AddReported, ReadReported as TextReported};
 ghost use Rattle.g7110.specs.Boundary.{ReadReported, WalkReported, WriteReported};
 
 // Reading one frame: the number, and in the report samples, octets used, bits and tool.
@@ -65,4 +71,59 @@ pub extern "C" fn g7110_write(
     *report = [a.octets as u64, a.bits as u64, a.tool as u64];
     let end = a.end;
     rules::number_of(end)
+}
+
+// Saving settings: the number, and in the report the new revision.
+#[no_mangle]
+pub extern "C" fn g7110_settings_save(
+    state: &mut [u32; 41],
+    text: &[u8],
+    report: &mut [u64; 1],
+) -> u32
+    ensures { λ r. ⌜ AddReported (saveIn (boxOf (now (state .entry))) (settingsIn (now (text .entry)))) (now (state .entry)) (now (state .exit)) (now (report .exit)) r ⌝ }
+{
+    let a = settings::save(state, text);
+    let revision = settings::told_of(a);
+    *report = [revision as u64];
+    settings::number_of(a)
+}
+
+// Going back to a kept revision: the number, and in the report the new revision.
+#[no_mangle]
+pub extern "C" fn g7110_settings_back(
+    state: &mut [u32; 41],
+    revision: u32,
+    report: &mut [u64; 1],
+) -> u32
+    ensures { λ r. ⌜ AddReported (backTo (boxOf (now (state .entry))) (lookUp revision (boxOf (now (state .entry)) .revisions))) (now (state .entry)) (now (state .exit)) (now (report .exit)) r ⌝ }
+{
+    let a = settings::back(state, revision);
+    let next = settings::told_of(a);
+    *report = [next as u64];
+    settings::number_of(a)
+}
+
+// A kept revision's text: the number, and in the report its octets.
+#[no_mangle]
+pub extern "C" fn g7110_settings_read(
+    state: &[u32; 41],
+    revision: u32,
+    text: &mut [u8; 80],
+    report: &mut [u64; 1],
+) -> u32
+    ensures { λ r. ⌜ TextReported (lookUp revision (boxOf (now (state .entry)) .revisions)) (now (text .entry)) (now (text .exit)) (now (report .exit)) r ⌝ }
+{
+    let a = settings::read(state, revision, text);
+    let octets = settings::told_of(a);
+    *report = [octets as u64];
+    settings::number_of(a)
+}
+
+// The wipe for the next tenant: never refused.
+#[no_mangle]
+pub extern "C" fn g7110_settings_wipe(state: &mut [u32; 41]) -> u32
+    ensures { λ r. ⌜ (r ≡ 0) × (Wipe (now (state .entry)) (now (state .exit))) ⌝ }
+{
+    settings::wipe(state);
+    0
 }
