@@ -4,11 +4,8 @@ ghost use lib.ListN.{length};
 ghost use Rattle.rules.specs.Frame.{readOne};
 ghost use Rattle.rules.specs.Walk.{walkAll};
 ghost use Rattle.rules.specs.Chooses.{writeOne};
-ghost use Rattle.settings.specs.Lines.{settingsIn};
-ghost use Rattle.settings.specs.Revisions.{saveIn, lookUp, backTo};
-ghost use Rattle.settings.specs.State.{boxOf};
 ghost use Rattle.settings.specs.Calls.{Wipe};
-ghost use Rattle.g7110.specs.Settings.{AddReported, ReadReported as TextReported};
+ghost use Rattle.g7110.specs.Settings.{SaveReported, BackReported, RevisionReported};
 ghost use Rattle.g7110.specs.Boundary.{ReadReported, WalkReported, WriteReported};
 
 // Reading one frame: the number, and in the report samples, octets used, bits and tool.
@@ -80,7 +77,7 @@ pub extern "C" fn g7110_settings_save(
     text: &[u8],
     report: &mut [u64; 1],
 ) -> u32
-    ensures { λ r. ⌜ AddReported (saveIn (boxOf (now (state .entry))) (settingsIn (now (text .entry)))) (now (state .entry)) (now (state .exit)) (now (report .exit)) r ⌝ }
+    ensures { λ r. ⌜ SaveReported (now (text .entry)) (now (state .entry)) (now (state .exit)) (now (report .exit)) r ⌝ }
 {
     let a = settings::save(state, text);
     let revision = settings::told_of(a);
@@ -95,7 +92,7 @@ pub extern "C" fn g7110_settings_back(
     revision: u32,
     report: &mut [u64; 1],
 ) -> u32
-    ensures { λ r. ⌜ AddReported (backTo (boxOf (now (state .entry))) (lookUp revision (boxOf (now (state .entry)) .revisions))) (now (state .entry)) (now (state .exit)) (now (report .exit)) r ⌝ }
+    ensures { λ r. ⌜ BackReported revision (now (state .entry)) (now (state .exit)) (now (report .exit)) r ⌝ }
 {
     let a = settings::back(state, revision);
     let next = settings::told_of(a);
@@ -111,7 +108,7 @@ pub extern "C" fn g7110_settings_read(
     text: &mut [u8; 80],
     report: &mut [u64; 1],
 ) -> u32
-    ensures { λ r. ⌜ TextReported (lookUp revision (boxOf (now (state .entry)) .revisions)) (now (text .entry)) (now (text .exit)) (now (report .exit)) r ⌝ }
+    ensures { λ r. ⌜ RevisionReported revision (now (state .entry)) (now (text .entry)) (now (text .exit)) (now (report .exit)) r ⌝ }
 {
     let a = settings::read(state, revision, text);
     let octets = settings::told_of(a);

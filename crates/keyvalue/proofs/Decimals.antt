@@ -76,7 +76,8 @@ digits-before zero n a b = refl
 digits-before (suc more) n a b = go (ltb n 10) (digits-before more (n / 10) ((48 + n % 10) ∷ a) b)
   where
     go : (t : Bool) → digitsFrom more (n / 10) ((48 + n % 10) ∷ a) ++ b ≡ digitsFrom more (n / 10) ((48 + n % 10) ∷ (a ++ b))
-        → cond t ((48 + n) ∷ a) (digitsFrom more (n / 10) ((48 + n % 10) ∷ a)) ++ b ≡ cond t ((48 + n) ∷ (a ++ b)) (digitsFrom more (n / 10) ((48 + n % 10) ∷ (a ++ b)))
+        → cond t ((48 + n) ∷ a) (digitsFrom more (n / 10) ((48 + n % 10) ∷ a)) ++ b
+        ≡ cond t ((48 + n) ∷ (a ++ b)) (digitsFrom more (n / 10) ((48 + n % 10) ∷ (a ++ b)))
     go true e = refl
     go false e = e
 
@@ -84,7 +85,8 @@ pub decimal-back : (n i : ℕ) (rest : List ℕ) → n < 10 ^ 20 → noDigit res
 unfolding digitsFrom decimalOn
 decimal-back zero i rest h e = refl
 decimal-back (suc n) i rest h e =
-    let l : length (digitsFrom 20 (suc n) rest) ≡ length (decimal (suc n)) + length rest = ap length (sym (digits-before 20 (suc n) [] rest)) ∙ length-append (decimal (suc n)) rest in
+    let l : length (digitsFrom 20 (suc n) rest) ≡ length (decimal (suc n)) + length rest =
+    ap length (sym (digits-before 20 (suc n) [] rest)) ∙ length-append (decimal (suc n)) rest in
     ap (decimalOn i) (digits-before 20 (suc n) [] rest)
     ∙ digits-back 20 (suc n) (length (decimal (suc n))) i rest (omega arith) h l
     ∙ digits-over (suc n) (i + length (decimal (suc n))) rest e
@@ -102,7 +104,14 @@ no-more : (v i : ℕ) (text : List ℕ) (n j : ℕ) → whole v i ≡ whole n j 
 no-more v i text n j e =
     let a : v ≡ n = cc in
     let b : i ≡ j = cc in
-    record { digits = []; rest = text; parts = refl; place = omega arith; shift = λ more t. let z : 0 + more ≡ more = omega arith in rw (z, a); large = λ m h. let z : m + 0 ≡ m = omega arith in rw (z, ← a) h }
+    record {
+      digits = [];
+      rest = text;
+      parts = refl;
+      place = omega arith;
+      shift = λ more t. let z : 0 + more ≡ more = omega arith in rw (z, a);
+      large = λ m h. let z : m + 0 ≡ m = omega arith in rw (z, ← a) h;
+    }
 
 -- a digit after others is written after them
 one-more : (v x more : ℕ) (t : List ℕ) → 1 ≤ v → 48 ≤ x → x ≤ 57 → digitsFrom (suc more) (10 * v + (x - 48)) t ≡ digitsFrom more v (x ∷ t)

@@ -127,7 +127,8 @@ pub number-only : (text : List ℕ) (i n j : ℕ) → n < 10 ^ 20 → number tex
 unfolding number
 number-only text i n j h e =
     let w = decimal-only i (drop i text) n j h e in
-    record { says = w .parts ∙ ap (λ (l : List ℕ). decimal n ++ l) (sym (ap (λ (k : ℕ). drop k text) (w .place) ∙ onward text (decimal n) (w .rest) i (w .parts))) }
+    let r = ap (λ (k : ℕ). drop k text) (w .place) ∙ onward text (decimal n) (w .rest) i (w .parts) in
+    record { says = w .parts ∙ ap (λ (l : List ℕ). decimal n ++ l) (sym r) }
 
 pub line-only : (key text : List ℕ) (i n j : ℕ) → n < 10 ^ 20 → line key text i ≡ whole n j → Stands text i (lineOf key n) j
 unfolding line lineOf
@@ -145,7 +146,8 @@ pub record InRange (key text : List ℕ) (low high i n j : ℕ) : Type 0 where
   pub most : n ≤ high
   pub says : Stands text i (lineOf key n) j
 
-pub ranged-only : (key : List ℕ) (low high : ℕ) (text : List ℕ) (i n j : ℕ) → high < 10 ^ 20 → ranged key low high text i ≡ whole n j → InRange key text low high i n j
+pub ranged-only : (key : List ℕ) (low high : ℕ) (text : List ℕ) (i n j : ℕ) → high < 10 ^ 20 → ranged key low high text i ≡ whole n j
+    → InRange key text low high i n j
 unfolding ranged
 ranged-only key low high text i n j h e =
     let m = through (line key text i) _ e in

@@ -24,7 +24,8 @@ word-fits word text at e = omega (arith, begins-fits word (drop at text) e, leng
 
 -- the number is held where it is read
 pub line-held : (key text : List ℕ) (at : ℕ) → capped (line key text at)
-    ≡ cond (begins key (drop at text)) (andThen (capped (number text (at + length key))) (λ n j. cond (begins lineEnd (drop j text)) (whole n (j + 1)) none)) none
+    ≡ cond (begins key (drop at text))
+    (andThen (capped (number text (at + length key))) (λ n j. cond (begins lineEnd (drop j text)) (whole n (j + 1)) none)) none
 unfolding line
 line-held key text at = go (begins key (drop at text)) (number text (at + length key))
   where
@@ -49,7 +50,8 @@ pub ranged-held : (key : List ℕ) (low high : ℕ) (text : List ℕ) (at : ℕ)
 unfolding ranged
 ranged-held key low high text at h = go (line key text at)
   where
-    held : (m j : ℕ) (t : Bool) → leb m high ≡ t → cond (leb low m && t) (whole m j) none ≡ cond (leb low (min m most) && leb (min m most) high) (whole (min m most) j) none
+    held : (m j : ℕ) (t : Bool) → leb m high ≡ t
+        → cond (leb low m && t) (whole m j) none ≡ cond (leb low (min m most) && leb (min m most) high) (whole (min m most) j) none
     held m j true e = let q = leb-true m high e in let z : min m most ≡ m = omega arith in rw (z, e)
     held m j false e = let q = leb-false m high e in rw (lt-leb (min m most) high (omega arith), and-false (leb low m), and-false (leb low (min m most)))
 

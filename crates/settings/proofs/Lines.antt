@@ -14,7 +14,8 @@ use Rattle.settings.specs.declared.Given.the-variants.{Is, Bad}
 use Rattle.keyvalue.specs.Reading.{Read, whole, none, Reader, _>>=_, ended}
 use Rattle.keyvalue.specs.Lines.{lineOf, ranged}
 use Rattle.settings.specs.Lines.{setWord, blockWord, greetingWord, fourLines, settings, settingsText, given, settingsIn}
-use Rattle.keyvalue.proofs.Exact.{Back, back-bind, back-last, back-alone, back-ranged, Stands, chain, stands-alone, got-value, got-place, InRange, ranged-only, Through, through, passed}
+use Rattle.keyvalue.proofs.Exact.{Back, back-bind, back-last, back-alone, back-ranged, Stands, chain, stands-alone, got-value, got-place}
+use Rattle.keyvalue.proofs.Exact.{InRange, ranged-only, Through, through, passed}
 
 module _ (text : List ℕ) where
   pub no-law : none ≡ ranged lawWord 0 1 text 0 → Bad ≡ settingsIn text
@@ -71,7 +72,8 @@ given-is : (r : Read Settings) (s : Settings) → given r ≡ Is s → (i : ℕ)
 given-is (whole t i) s e = (i, let z : t ≡ s = cc in ap (λ (u : Settings). whole u i) z)
 given-is none s e = let z : _≡_ {A = ℕ} 0 1 = cc in absurd (omega arith)
 
-settled : {text : List ℕ} {s t : Settings} {i j k : ℕ} → s ≡ t → j ≡ k → (Sound s) × (Stands text i (settingsText s) j) → (Sound t) × (Stands text i (settingsText t) k)
+settled : {text : List ℕ} {s t : Settings} {i j k : ℕ} → s ≡ t → j ≡ k → (Sound s) × (Stands text i (settingsText s) j)
+    → (Sound t) × (Stands text i (settingsText t) k)
 settled m n h = rw (← m, ← n) h
 
 -- and nothing else is read as settings

@@ -2,6 +2,7 @@
 --   `kept-true`: the kept revisions are the last eight of those saved since the last wipe, each as it was saved under its number;
 --   numbers rise by one from 1 and never repeat, also across wipes (`Counted`);
 --   `saved-reads`: what is saved is read under its new number;   `text-back`: the text saved is the text read;
+--   `spent-is`, `done-is`: SPENT exactly when the number would pass 4,294,967,295;
 --   `wipe-empties`: after a wipe every number of the revisions is 0.
 use Prim.Native.Nat.{ℕ, zero, suc, _+_, _*_, _-_, _≤_, _<_}
 use mathlib.Core.Path.{_≡_, refl, sym, ap, _∙_}
@@ -147,12 +148,12 @@ pub record KeptTrue (s : Seen) : Type 0 where
   pub before : List Revision
   pub part : s .all ≡ before ++ s .since
 
--- what adding gives, by the number
-spent-is : (b : Box) (v : Settings) → ltb mostNumber (b .last + 1) ≡ true → addTo b v ≡ refused Spent
+-- SPENT exactly when the number would pass 4,294,967,295; else the values are added
+pub spent-is : (b : Box) (v : Settings) → ltb mostNumber (b .last + 1) ≡ true → addTo b v ≡ refused Spent
 unfolding addTo
 spent-is b v e = rw e
 
-done-is : (b : Box) (v : Settings) → ltb mostNumber (b .last + 1) ≡ false → addTo b v ≡ done (added b v)
+pub done-is : (b : Box) (v : Settings) → ltb mostNumber (b .last + 1) ≡ false → addTo b v ≡ done (added b v)
 unfolding addTo
 done-is b v e = rw e
 
@@ -164,7 +165,8 @@ module _ {s : Seen} (t : KeptTrue s) where
   kept-counted : Counted at (lastEight (s .since))
   kept-counted =
       let c = counted-drop (t .numbers) (length (t .before)) in
-      let d : drop (length (t .before)) (s .all) ≡ s .since = ap (drop (length (t .before))) (t .part) ∙ drop-at (t .before) (s .since) (length (t .before)) refl in
+      let d : drop (length (t .before)) (s .all) ≡ s .since =
+      ap (drop (length (t .before))) (t .part) ∙ drop-at (t .before) (s .since) (length (t .before)) refl in
       counted-drop (rw d at c) (length (s .since) - 8)
 
   -- so the box is what the numbers say
@@ -177,7 +179,8 @@ module _ {s : Seen} (t : KeptTrue s) where
   abbrev new : Settings → Revision
   new v = record { number = length (s .all) + 1; values = v }
 
-  adds-true : (v : Settings) (x : Seen) → x .cells ≡ laid (added (boxOf (s .cells)) v) → x .all ≡ s .all ++ (new v ∷ []) → x .since ≡ s .since ++ (new v ∷ []) → KeptTrue x
+  adds-true : (v : Settings) (x : Seen) → x .cells ≡ laid (added (boxOf (s .cells)) v) → x .all ≡ s .all ++ (new v ∷ [])
+      → x .since ≡ s .since ++ (new v ∷ []) → KeptTrue x
   unfolding added
   adds-true v x c a n =
       let l : length (x .all) ≡ length (s .all) + 1 = ap length a ∙ length-append (s .all) (new v ∷ []) in
@@ -192,7 +195,11 @@ module _ {s : Seen} (t : KeptTrue s) where
             ∙ g;
         numbers = rw (a, h) (counted-snoc (t .numbers) v);
         before = t .before;
-        part = a ∙ ap (λ (r : List Revision). r ++ (new v ∷ [])) (t .part) ∙ append-assoc (t .before) (s .since) (new v ∷ []) ∙ ap (λ (r : List Revision). t .before ++ r) (sym n);
+        part =
+            a
+            ∙ ap (λ (r : List Revision). r ++ (new v ∷ [])) (t .part)
+            ∙ append-assoc (t .before) (s .since) (new v ∷ [])
+            ∙ ap (λ (r : List Revision). t .before ++ r) (sym n);
       }
 
   -- a call that adds nothing changes nothing

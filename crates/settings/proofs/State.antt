@@ -7,7 +7,8 @@ use mathlib.Core.Bool.{Bool, true, false, cond}
 use native.Mathlib.Omega.{arith}
 use native.Mathlib.Nat.{add-zero}
 use lib.ListN.{length, getD, take, drop, set, replicate, length-append, length-replicate, length-drop, take-append-drop, drop-of-length-le}
-use lib.Seq.{paste, paste-zero, paste-suc, getD-drop, sets-eq, drop-nil, take-at, drop-at, drop-drop, drop-append-add, take-append-add, take-append-le, drop-append-le, length-take-le, take-all}
+use lib.Seq.{paste, paste-zero, paste-suc, getD-drop, sets-eq, drop-nil, take-at, drop-at, drop-drop}
+use lib.Seq.{drop-append-add, take-append-add, take-append-le, drop-append-le, length-take-le, take-all}
 use lib.Dec.{eqb}
 use borrow.Author.Tests.{eq-eqb, ne-eqb, eqb-true, eqb-false}
 use Rattle.settings.specs.declared.Settings.{Settings}
@@ -145,7 +146,11 @@ unfolding rowsAt keptOf
 gathering-end {cells} {rows} {k} {i} g h =
     let e : 8 - i ≡ 0 = omega (arith, g .most) in
     let a : g .kept ≡ keptOf (rowsAt cells 8 0) = sym (append-nil (g .kept)) ∙ rw e at (g .all) in
-    record { count = g .count ∙ ap length a; few = omega (arith, g .few, g .most); says = g .says ∙ ap (λ (l : List Revision). cellsOf l ++ replicate (45 - 5 * k) 0) a }
+    record {
+      count = g .count ∙ ap length a;
+      few = omega (arith, g .few, g .most);
+      says = g .says ∙ ap (λ (l : List Revision). cellsOf l ++ replicate (45 - 5 * k) 0) a;
+    }
 
 -- the eight that stay, of the rows once one is put after k others
 module _ {revisions : List Revision} {rows rows′ : List ℕ} {k : ℕ} (new : Revision) (g : Gathers revisions rows k)

@@ -66,7 +66,8 @@ add-t17 c =
 returns-3 : tie.Need-returns-3
 returns-3 c =
     let k = c .before .before .before in
-    line-no-number _ _ _ (sym (k .before .has-word .ensures) ∙ not-false _ (k .if1 .left)) (told (c .enum-told .given .1) (c .before .before .number-at .ensures))
+    line-no-number _ _ _ (sym (k .before .has-word .ensures) ∙ not-false _ (k .if1 .left))
+    (told (c .enum-told .given .1) (c .before .before .number-at .ensures))
 
 -- src/lib.rt:88:1
 returns-4 : tie.Need-returns-4

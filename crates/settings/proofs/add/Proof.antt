@@ -28,7 +28,8 @@ add-t11 c = search needs
 -- src/lib.rt:239:1
 returns-2 : tie.Need-returns-2
 returns-2 c =
-    rw (c .before .before .before .before .last-of .ensures) (is-added _ _ _ (omega (arith, c .before .before .before .before .last-of .ensures)) (c .with-added .ensures))
+    let l = c .before .before .before .before .last-of .ensures in
+    rw l (is-added _ _ _ (omega (arith, l)) (c .with-added .ensures))
 
 pub add-spec : {M : Type 1} → statement M
 add-spec = tie.close (tie.spec last-of-requires returns with-added-requires add-t11 returns-2)

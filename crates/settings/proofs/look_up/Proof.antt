@@ -50,7 +50,9 @@ loop-less c = search needs
 
 -- src/lib.rt:149:5
 loop-again : tie.Need-loop-again Inv-loop μ-loop
-loop-again c = (omega arith, c .before .before .before .before .loop .inv .1 ∙ looked-on _ _ _ (omega arith) (λ e. c .if2 .left (ap number (c .before .before .row-at .ensures) ∙ e)))
+loop-again c =
+    let h = c .before .before .before .before .loop .inv .1 in
+    (omega arith, h ∙ looked-on _ _ _ (omega arith) (λ e. c .if2 .left (ap number (c .before .before .row-at .ensures) ∙ e)))
 
 -- src/lib.rt:141:1
 returns-3 : tie.Need-returns-3 Inv-loop μ-loop

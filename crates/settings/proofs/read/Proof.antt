@@ -35,7 +35,9 @@ returns c = read-gone _ (sym (c .before .before .look-up .ensures) ∙ c .enum-t
 
 -- src/lib.rt:265:1
 returns-2 : tie.Need-returns-2
-returns-2 c = read-text _ _ (sym (c .before .before .before .before .before .look-up .ensures) ∙ c .before .before .before .v .given .1) (c .put-settings .ensures .0)
+returns-2 c =
+    let v = c .before .before .before in
+    read-text _ _ (sym (v .before .before .look-up .ensures) ∙ v .v .given .1) (c .put-settings .ensures .0)
 
 pub read-spec : {M : Type 1} → statement M
 read-spec =

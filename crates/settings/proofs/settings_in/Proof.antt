@@ -79,8 +79,10 @@ returns c =
     let b = g .before .before .before .before .before in
     let s = b .before .before .before .before .before in
     let l = s .before .before .before .before .before in
-    more-after _ (told (l .law .given .1) (l .before .before .ranged-line .ensures)) (told (s .set .given .1) (s .before .before .ranged-line2 .ensures))
-    (told (b .block .given .1) (b .before .before .ranged-line3 .ensures)) (told (g .greeting .given .1) (g .before .before .ranged-line4 .ensures)) (omega arith)
+    more-after _ (told (l .law .given .1) (l .before .before .ranged-line .ensures))
+    (told (s .set .given .1) (s .before .before .ranged-line2 .ensures))
+    (told (b .block .given .1) (b .before .before .ranged-line3 .ensures))
+    (told (g .greeting .given .1) (g .before .before .ranged-line4 .ensures)) (omega arith)
 
 -- src/lib.rt:137:1
 returns-2 : tie.Need-returns-2
@@ -116,8 +118,10 @@ returns-6 c =
     let b = g .before .before .before .before .before in
     let s = b .before .before .before .before .before in
     let l = s .before .before .before .before .before in
-    all-read _ (told (l .law .given .1) (l .before .before .ranged-line .ensures)) (told (s .set .given .1) (s .before .before .ranged-line2 .ensures))
-    (told (b .block .given .1) (b .before .before .ranged-line3 .ensures)) (told (g .greeting .given .1) (g .before .before .ranged-line4 .ensures)) (omega arith)
+    all-read _ (told (l .law .given .1) (l .before .before .ranged-line .ensures))
+    (told (s .set .given .1) (s .before .before .ranged-line2 .ensures))
+    (told (b .block .given .1) (b .before .before .ranged-line3 .ensures))
+    (told (g .greeting .given .1) (g .before .before .ranged-line4 .ensures)) (omega arith)
 
 pub settings-in-spec : {M : Type 1} → statement M
 settings-in-spec =
