@@ -11,12 +11,13 @@
 enum { STACK = 1 << 20, PAINT = 0xC5, STREAM = 4000 };
 
 struct call {
-    int which; /* 0 none, 1 read, 2 write, 3 walk */
+    int which; /* 0 none, 1 read, 2 write, 3 walk; of settings 4 save, 5 back, 6 read, 7 wipe */
     const uint8_t *given;
     size_t length;
 };
 
 static uint8_t out[1 << 16];
+static uint32_t state[G7110_SETTINGS];
 
 static void *make(void *argument)
 {
@@ -25,6 +26,10 @@ static void *make(void *argument)
     if (call->which == 1) g7110_read(call->given, call->length, 1, G7110_ALL_TOOLS, out, sizeof out, report);
     if (call->which == 2) g7110_write(call->given, call->length, 1, G7110_ALL_TOOLS, out, sizeof out, report);
     if (call->which == 3) g7110_walk(call->given, call->length, 1, G7110_ALL_TOOLS, out, sizeof out, report);
+    if (call->which == 4) g7110_settings_save(state, call->given, call->length, report);
+    if (call->which == 5) g7110_settings_back(state, state[0], report);
+    if (call->which == 6) g7110_settings_read(state, state[0], out, report);
+    if (call->which == 7) g7110_settings_wipe(state);
     return NULL;
 }
 
@@ -47,7 +52,7 @@ static size_t used(struct call call)
     return STACK - low;
 }
 
-static size_t greatest[4];
+static size_t greatest[8];
 
 static void measure(int which, const uint8_t *given, size_t length)
 {
@@ -78,13 +83,31 @@ static void frame(uint8_t *samples, int kind)
     }
 }
 
+/* Each call over settings: on few revisions and on eight, and a text that is refused. */
+static void settings(void)
+{
+    static const char text[] = "law=1\nset=127\nblock=1048576\ngreeting=65535\n";
+    int turn;
+    for (turn = 0; turn < 12; turn++) {
+        measure(4, (const uint8_t *)text, sizeof text - 1 - (turn == 5));
+        measure(5, NULL, 0);
+        measure(6, NULL, 0);
+    }
+    measure(7, NULL, 0);
+    measure(6, NULL, 0);
+}
+
 int main(void)
 {
+    static const char *const names[8] = {"", "read", "write", "walk", "settings_save", "settings_back", "settings_read", "settings_wipe"};
     uint8_t samples[320], form[G7110_MAX_WRITTEN], stream[STREAM];
     uint64_t wrote[3];
     size_t length = 0;
     int kind, cut;
     memset(stream, 0, sizeof stream);
+    /* The first thread of all uses more, once: names that are looked up. */
+    measure(0, NULL, 0);
+    greatest[0] = 0;
     measure(0, NULL, 0);
     for (kind = 0; kind < 8; kind++) {
         frame(samples, kind);
@@ -96,8 +119,7 @@ int main(void)
     }
     measure(3, stream, sizeof stream);
     measure(3, stream, length - 1);
-    printf("stack: g7110_read %lu octets\n", (unsigned long)(greatest[1] - greatest[0]));
-    printf("stack: g7110_write %lu octets\n", (unsigned long)(greatest[2] - greatest[0]));
-    printf("stack: g7110_walk %lu octets\n", (unsigned long)(greatest[3] - greatest[0]));
+    settings();
+    for (kind = 1; kind < 8; kind++) printf("stack: g7110_%s %lu octets\n", names[kind], (unsigned long)(greatest[kind] - greatest[0]));
     return 0;
 }

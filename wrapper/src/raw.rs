@@ -1,4 +1,4 @@
-//! The three functions of include/g7110.h as they are: a number comes back, and a report that is written in every case.
+//! The functions of include/g7110.h as they are: a number comes back, and a report that is written in every case.
 //! This is the only file with unsafe code. A slice brings a pointer that is good for its length, and two slices, one
 //! of them mutable, don't overlap: that is all that the header asks.
 
@@ -33,6 +33,10 @@ extern "C" {
         out_len: usize,
         report: *mut [u64; 4],
     ) -> u32;
+    fn g7110_settings_save(state: *mut [u32; 41], text: *const u8, text_len: usize, report: *mut [u64; 1]) -> u32;
+    fn g7110_settings_back(state: *mut [u32; 41], revision: u32, report: *mut [u64; 1]) -> u32;
+    fn g7110_settings_read(state: *const [u32; 41], revision: u32, text: *mut [u8; 80], report: *mut [u64; 1]) -> u32;
+    fn g7110_settings_wipe(state: *mut [u32; 41]) -> u32;
 }
 
 /// The ending; the report is samples, octets, bits and tool.
@@ -52,4 +56,28 @@ pub fn write(samples: &[u8], law: u32, set: u32, out: &mut [u8], report: &mut [u
 pub fn walk(octets: &[u8], law: u32, set: u32, out: &mut [u8], report: &mut [u64; 4]) -> u32 {
     // SAFETY: as in `read`.
     unsafe { g7110_walk(octets.as_ptr(), octets.len(), law, set, out.as_mut_ptr(), out.len(), report) }
+}
+
+/// The ending; the report is the new revision.
+pub fn settings_save(state: &mut [u32; 41], text: &[u8], report: &mut [u64; 1]) -> u32 {
+    // SAFETY: as in `read`, of the state too.
+    unsafe { g7110_settings_save(state, text.as_ptr(), text.len(), report) }
+}
+
+/// The ending; the report is the new revision.
+pub fn settings_back(state: &mut [u32; 41], revision: u32, report: &mut [u64; 1]) -> u32 {
+    // SAFETY: as in `settings_save`.
+    unsafe { g7110_settings_back(state, revision, report) }
+}
+
+/// The ending; the report is the octets of text.
+pub fn settings_read(state: &[u32; 41], revision: u32, text: &mut [u8; 80], report: &mut [u64; 1]) -> u32 {
+    // SAFETY: as in `settings_save`.
+    unsafe { g7110_settings_read(state, revision, text, report) }
+}
+
+/// The ending, which is 0.
+pub fn settings_wipe(state: &mut [u32; 41]) -> u32 {
+    // SAFETY: as in `settings_save`.
+    unsafe { g7110_settings_wipe(state) }
 }
