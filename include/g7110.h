@@ -26,7 +26,7 @@
  *
  * STACK
  *   A call uses at most G7110_STACK octets of stack, what it calls included. That is measured, not proved: tests/c/stack.c
- *   makes each call on frames of every kind, and on few and many settings, and the tests hold what it finds against this figure.
+ *   makes each call on frames of every kind, and on few and many settings; the tests hold what it finds against this figure.
  *
  * SETTINGS
  *   A box keeps its last eight settings. They lie in 41 numbers that the caller lends and keeps, in whatever store it has:
@@ -127,7 +127,8 @@ uint32_t g7110_walk(const uint8_t *octets, size_t octets_len, uint32_t law, uint
 /* Saves the settings that the text says. Refused with G7110_LINE, then G7110_SPENT. report: the new revision. */
 uint32_t g7110_settings_save(uint32_t state[41], const uint8_t *text, size_t text_len, uint64_t report[1]);
 
-/* Saves the values of a kept revision under a new number. Refused with G7110_GONE, then G7110_SPENT. report: the new revision. */
+/* Saves the values of a kept revision under a new number. Refused with G7110_GONE, then G7110_SPENT.
+ * report: the new revision. */
 uint32_t g7110_settings_back(uint32_t state[41], uint32_t revision, uint64_t report[1]);
 
 /* Writes a kept revision's text at the start of the lent 80 octets; the rest stays as lent. Refused with G7110_GONE.

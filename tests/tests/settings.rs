@@ -8,9 +8,14 @@ use tests::settings::{
 };
 use tests::{say, Proved, Second, Table};
 
-/// Lists of calls from a fresh state, and calls of each at most.
+/// Lists of calls from a fresh state, and near the last number; calls of each at most.
 const LISTS: usize = 2_000;
+const NEAR_THE_LAST: usize = 600;
 const MOST_CALLS: usize = 160;
+/// Calls of the lists from a fresh state, at least; each is followed by readings.
+const LEAST_CALLS: usize = 100_000;
+/// States of each kind of content.
+const STATES: usize = 12_000;
 /// What a cell of a table needs.
 const NEED: usize = 1_000;
 
@@ -117,7 +122,7 @@ fn any_list_of_calls() {
     lists(&mut keepers, &mut table, LISTS, |_| 0, 131);
     table.close();
     keepers.close();
-    assert!(table.sum() >= 100_000, "{} calls", table.sum());
+    assert!(table.sum() >= LEAST_CALLS, "{} calls", table.sum());
     say(&format!("compared: settings, drawn lists: {LISTS} lists, {} calls in all\n", keepers.calls));
 }
 
@@ -126,10 +131,10 @@ fn any_list_of_calls() {
 fn near_the_last_number() {
     let mut keepers = Keepers::new(&Proved, &Second);
     let mut table = endings("settings, calls of drawn lists near the last number");
-    lists(&mut keepers, &mut table, 600, |rng| u32::MAX - rng.below(40) as u32, 132);
+    lists(&mut keepers, &mut table, NEAR_THE_LAST, |rng| u32::MAX - rng.below(40) as u32, 132);
     table.close();
     keepers.close();
-    say(&format!("compared: settings, near the last number: 600 lists, {} calls in all\n", keepers.calls));
+    say(&format!("compared: settings, near the last number: {NEAR_THE_LAST} lists, {} calls in all\n", keepers.calls));
 }
 
 /// Any 41 numbers are a state: every call on them. What is kept and what is left is worked out here once more.
@@ -140,7 +145,7 @@ fn any_cells() {
     let columns = ["save", "SPENT", "back", "GONE", "read", "read none", "wipe"];
     let mut table = Table::new("settings, calls on any 41 numbers", &CELLS, &columns, NEED);
     let mut longest = 0;
-    for turn in 0..6 * 12_000 {
+    for turn in 0..CELLS.len() * STATES {
         let kind = CELLS[turn % CELLS.len()];
         let cells = some_cells(kind, &mut rng);
         let revision = some_revision(&cells, &mut rng);
