@@ -5,29 +5,19 @@ use Rattle.settings.specs.Calls.{numberOf, toldOf}
 use borrow.Author.Needs.{needs}
 use Rattle.g7110.proofs.g7110_settings_read.Statement.{statement}
 use Rattle.g7110.proofs.g7110_settings_read.Tie as tie
-use Rattle.g7110.proofs.g7110_settings_read.Reads as reads
-use Rattle.g7110.proofs.g7110_settings_read.Lts as lts
-use Rattle.settings.proofs.number_of.Reads as number-of-reads
-use Rattle.settings.proofs.read.Reads as read-reads
-use Rattle.settings.proofs.told_of.Reads as told-of-reads
 
--- src/lib.rt:108:9
 read-requires : tie.Need-read-requires
 read-requires c κs = search needs
 
--- src/lib.rt:109:9
 told-of-requires : tie.Need-told-of-requires
 told-of-requires c κs = search needs
 
--- src/lib.rt:110:16
 cast-t8 : tie.Need-cast-t8
 cast-t8 c = search needs
 
--- src/lib.rt:111:5
 number-of-requires : tie.Need-number-of-requires
 number-of-requires c κs = search needs
 
--- src/lib.rt:99:1
 returns : tie.Need-returns
 returns c =
     let t = c .before .before .before .read .ensures in

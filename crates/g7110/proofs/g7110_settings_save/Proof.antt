@@ -5,29 +5,19 @@ use Rattle.settings.specs.Calls.{numberOf, toldOf}
 use borrow.Author.Needs.{needs}
 use Rattle.g7110.proofs.g7110_settings_save.Statement.{statement}
 use Rattle.g7110.proofs.g7110_settings_save.Tie as tie
-use Rattle.g7110.proofs.g7110_settings_save.Reads as reads
-use Rattle.g7110.proofs.g7110_settings_save.Lts as lts
-use Rattle.settings.proofs.number_of.Reads as number-of-reads
-use Rattle.settings.proofs.save.Reads as save-reads
-use Rattle.settings.proofs.told_of.Reads as told-of-reads
 
--- src/lib.rt:81:9
 save-requires : tie.Need-save-requires
 save-requires c κs = search needs
 
--- src/lib.rt:82:9
 told-of-requires : tie.Need-told-of-requires
 told-of-requires c κs = search needs
 
--- src/lib.rt:83:16
 cast-t7 : tie.Need-cast-t7
 cast-t7 c = search needs
 
--- src/lib.rt:84:5
 number-of-requires : tie.Need-number-of-requires
 number-of-requires c κs = search needs
 
--- src/lib.rt:77:1
 returns : tie.Need-returns
 returns c =
     let t = c .before .before .before .save .ensures in

@@ -7,8 +7,6 @@ use Rattle.keyvalue.specs.Reading.{begins}
 use Rattle.keyvalue.proofs.Words.{word-end, word-cut, word-step, word-differ}
 use Rattle.keyvalue.proofs.has_word.Statement.{statement}
 use Rattle.keyvalue.proofs.has_word.Tie as tie
-use Rattle.keyvalue.proofs.has_word.Reads as reads
-use Rattle.keyvalue.proofs.has_word.Lts as lts
 
 abbrev Inv-loop : tie.InvT-loop
 Inv-loop text at word i₀ j₀ i j = (i ≤ length word) × (begins word (drop at text) ≡ begins (drop i word) (drop j text))
@@ -16,52 +14,42 @@ Inv-loop text at word i₀ j₀ i j = (i ≤ length word) × (begins word (drop 
 abbrev μ-loop : tie.MeasureT-loop
 μ-loop text at word i₀ j₀ i j = length word - i
 
--- src/lib.rt:73:5
 loop-holds : tie.Need-loop-holds Inv-loop μ-loop
 loop-holds c = (omega arith, refl)
 
--- src/lib.rt:75:13
 returns : tie.Need-returns Inv-loop μ-loop
 returns c =
     let l = c .before .before in
     let a = l .before .args in
     sym (l .loop .inv .1 ∙ word-cut (a .word .now) (a .text .now) (l .loop .i) (l .loop .j) (omega arith) (omega arith))
 
--- src/lib.rt:77:12
 shared-slice-read-if2 : tie.Need-shared-slice-read-if2 Inv-loop μ-loop
 shared-slice-read-if2 c = search needs
 
--- src/lib.rt:77:23
 shared-slice-read-if2-2 : tie.Need-shared-slice-read-if2-2 Inv-loop μ-loop
 shared-slice-read-if2-2 c = search needs
 
--- src/lib.rt:78:13
 returns-2 : tie.Need-returns-2 Inv-loop μ-loop
 returns-2 c =
     let l = c .before .before .before .before .before in
     let a = l .before .args in
     sym (l .loop .inv .1 ∙ word-differ (a .word .now) (a .text .now) _ _ (omega arith) (omega arith) (c .if2 .taken))
 
--- src/lib.rt:80:9
 add-i : tie.Need-add-i Inv-loop μ-loop
 add-i c = search needs
 
--- src/lib.rt:81:9
 add-j : tie.Need-add-j Inv-loop μ-loop
 add-j c = search needs
 
--- src/lib.rt:73:5
 loop-less : tie.Need-loop-less Inv-loop μ-loop
 loop-less c = search needs
 
--- src/lib.rt:73:5
 loop-again : tie.Need-loop-again Inv-loop μ-loop
 loop-again c =
     let l = c .before .before .before .before .before in
     let a = l .before .args in
     (omega arith, l .loop .inv .1 ∙ word-step (a .word .now) (a .text .now) _ _ (omega arith) (omega arith) (c .if2 .left))
 
--- src/lib.rt:68:1
 returns-3 : tie.Need-returns-3 Inv-loop μ-loop
 returns-3 c =
     let l = c .before in

@@ -2,14 +2,10 @@ use borrow.Author.Tests.{le-leb, lt-leb}
 use borrow.Author.Needs.{needs}
 use Rattle.keyvalue.proofs.is_digit.Statement.{statement}
 use Rattle.keyvalue.proofs.is_digit.Tie as tie
-use Rattle.keyvalue.proofs.is_digit.Reads as reads
-use Rattle.keyvalue.proofs.is_digit.Lts as lts
 
--- src/lib.rt:23:9
 returns : tie.Need-returns
 returns c = rw (lt-leb 48 _ (c .if1 .taken))
 
--- src/lib.rt:19:1
 returns-2 : tie.Need-returns-2
 returns-2 c = rw (le-leb 48 _ (c .if1 .left))
 

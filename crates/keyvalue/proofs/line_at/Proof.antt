@@ -8,46 +8,33 @@ use Rattle.keyvalue.proofs.Lines.{word-fits, line-no-key, line-no-numbe
 use borrow.Author.Needs.{needs}
 use Rattle.keyvalue.proofs.line_at.Statement.{statement}
 use Rattle.keyvalue.proofs.line_at.Tie as tie
-use Rattle.keyvalue.proofs.line_at.Reads as reads
-use Rattle.keyvalue.proofs.line_at.Lts as lts
-use Rattle.keyvalue.proofs.has_word.Reads as has-word-reads
-use Rattle.keyvalue.proofs.number_at.Reads as number-at-reads
 
--- src/lib.rt:91:9
 has-word-requires : tie.Need-has-word-requires
 has-word-requires c κs = search needs
 
--- src/lib.rt:92:9
 returns : tie.Need-returns
 returns c = line-no-key _ _ _ (sym (c .before .has-word .ensures) ∙ not-true _ (c .if1 .taken))
 
--- src/lib.rt:94:27
 add-number-at : tie.Need-add-number-at
 add-number-at c =
     let a = c .before .before .before .before .args in
     omega (arith, word-fits (a .key .now) (a .text .now) (a .at) (sym (c .before .has-word .ensures) ∙ not-false _ (c .if1 .left)))
 
--- src/lib.rt:94:11
 number-at-requires : tie.Need-number-at-requires
 number-at-requires c κs = search needs
 
--- src/lib.rt:95:22
 enum-told : tie.Need-enum-told
 enum-told c = search needs
 
--- src/lib.rt:96:19
 enum-known-n : tie.Need-enum-known-n
 enum-known-n c = search needs
 
--- src/lib.rt:97:37
 slice-aggregate-has-word : tie.Need-slice-aggregate-has-word
 slice-aggregate-has-word c = search needs
 
--- src/lib.rt:97:17
 has-word-requires-2 : tie.Need-has-word-requires-2
 has-word-requires-2 c κs = search needs
 
--- src/lib.rt:98:17
 returns-2 : tie.Need-returns-2
 returns-2 c =
     let n = c .before .before .before .before in
@@ -55,21 +42,18 @@ returns-2 c =
     line-no-end _ _ _ (sym (k .before .has-word .ensures) ∙ not-false _ (k .if1 .left)) (told (n .n .given .1) (n .before .before .number-at .ensures))
     (sym (c .before .has-word2 .ensures) ∙ not-true _ (c .if2 .taken))
 
--- src/lib.rt:100:26
 add-t17 : tie.Need-add-t17
 add-t17 c =
     let n = c .before .before .before .before in
     let a = n .before .before .before .before .before .before .before .args in
     omega (arith, word-fits lineEnd (a .text .now) (n .n .given .0 .1 .0) (sym (c .before .has-word2 .ensures) ∙ not-false _ (c .if2 .left)))
 
--- src/lib.rt:88:1
 returns-3 : tie.Need-returns-3
 returns-3 c =
     let k = c .before .before .before in
     line-no-number _ _ _ (sym (k .before .has-word .ensures) ∙ not-false _ (k .if1 .left))
     (told (c .enum-told .given .1) (c .before .before .number-at .ensures))
 
--- src/lib.rt:88:1
 returns-4 : tie.Need-returns-4
 returns-4 c =
     let n = c .before .before .before .before in

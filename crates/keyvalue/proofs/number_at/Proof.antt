@@ -8,10 +8,6 @@ use Rattle.keyvalue.specs.Reading.{digitsOn, number, most, capped}
 use Rattle.keyvalue.proofs.Numbers.{digit-range, digits-end, digits-stop, digits-step, number-past, number-zero, number-not, number-start}
 use Rattle.keyvalue.proofs.number_at.Statement.{statement}
 use Rattle.keyvalue.proofs.number_at.Tie as tie
-use Rattle.keyvalue.proofs.number_at.Reads as reads
-use Rattle.keyvalue.proofs.number_at.Lts as lts
-use Rattle.keyvalue.proofs.is_digit.Reads as is-digit-reads
-use Rattle.keyvalue.proofs.more.Reads as more-reads
 
 abbrev Inv-loop : tie.InvT-loop
 Inv-loop text at first v₀ i₀ v i = (i ≤ length text) × (v ≤ most) × (capped (number text at) ≡ capped (digitsOn v i (drop i text)))
@@ -19,79 +15,62 @@ Inv-loop text at first v₀ i₀ v i = (i ≤ length text) × (v ≤ most) × (c
 abbrev μ-loop : tie.MeasureT-loop
 μ-loop text at first v₀ i₀ v i = length text - i
 
--- src/lib.rt:45:9
 returns : tie.Need-returns Inv-loop μ-loop
 returns c = sym (number-past _ _ (omega arith))
 
--- src/lib.rt:47:17
 shared-slice-read-first : tie.Need-shared-slice-read-first Inv-loop μ-loop
 shared-slice-read-first c = search needs
 
--- src/lib.rt:49:29
 add-t11 : tie.Need-add-t11 Inv-loop μ-loop
 add-t11 c = search needs
 
--- src/lib.rt:49:9
 returns-2 : tie.Need-returns-2 Inv-loop μ-loop
 returns-2 c = sym (number-zero _ _ (omega arith) (c .if2 .taken))
 
--- src/lib.rt:51:9
 is-digit-requires : tie.Need-is-digit-requires Inv-loop μ-loop
 is-digit-requires c κs = search needs
 
--- src/lib.rt:52:9
 returns-3 : tie.Need-returns-3 Inv-loop μ-loop
 returns-3 c = sym (number-not _ _ (omega arith) (c .before .before .if2 .left) (sym (c .before .is-digit .ensures) ∙ not-true _ (c .if3 .taken)))
 
--- src/lib.rt:54:9
 more-requires : tie.Need-more-requires Inv-loop μ-loop
 more-requires c κs = digit-range _ (sym (c .before .is-digit .ensures) ∙ not-false _ (c .if3 .left))
 
--- src/lib.rt:55:17
 add-i : tie.Need-add-i Inv-loop μ-loop
 add-i c = search needs
 
--- src/lib.rt:56:5
 loop-holds : tie.Need-loop-holds Inv-loop μ-loop
 loop-holds c =
     let z = c .before .before .before .if2 .left in
     let d = sym (c .before .before .is-digit .ensures) ∙ not-false _ (c .before .if3 .left) in
     (omega arith, omega arith, rw (c .more .ensures) (number-start _ _ (omega arith) z d))
 
--- src/lib.rt:57:17
 shared-slice-read-x : tie.Need-shared-slice-read-x Inv-loop μ-loop
 shared-slice-read-x c = search needs
 
--- src/lib.rt:58:13
 is-digit-requires-2 : tie.Need-is-digit-requires-2 Inv-loop μ-loop
 is-digit-requires-2 c κs = search needs
 
--- src/lib.rt:59:13
 returns-4 : tie.Need-returns-4 Inv-loop μ-loop
 returns-4 c =
     let l = c .before .before .before .before in
     sym (l .loop .inv .2 ∙ digits-stop _ _ _ (omega arith) (omega arith) (sym (c .before .is-digit2 .ensures) ∙ not-true _ (c .if4 .taken)))
 
--- src/lib.rt:61:9
 more-requires-2 : tie.Need-more-requires-2 Inv-loop μ-loop
 more-requires-2 c κs = digit-range _ (sym (c .before .is-digit2 .ensures) ∙ not-false _ (c .if4 .left))
 
--- src/lib.rt:62:9
 add-i-2 : tie.Need-add-i-2 Inv-loop μ-loop
 add-i-2 c = search needs
 
--- src/lib.rt:56:5
 loop-less : tie.Need-loop-less Inv-loop μ-loop
 loop-less c = search needs
 
--- src/lib.rt:56:5
 loop-again : tie.Need-loop-again Inv-loop μ-loop
 loop-again c =
     let l = c .before .before .before .before .before in
     let d = sym (c .before .before .is-digit2 .ensures) ∙ not-false _ (c .before .if4 .left) in
     (omega arith, omega arith, l .loop .inv .2 ∙ rw (c .more2 .ensures) (digits-step _ _ _ (omega arith) d))
 
--- src/lib.rt:41:1
 returns-5 : tie.Need-returns-5 Inv-loop μ-loop
 returns-5 c = sym (c .before .loop .inv .2 ∙ digits-end _ _ _ (omega arith) (omega arith))
 

@@ -8,28 +8,19 @@ use Rattle.keyvalue.proofs.Decimals.{decimal-few}
 use borrow.Author.Needs.{needs}
 use Rattle.keyvalue.proofs.put_line.Statement.{statement}
 use Rattle.keyvalue.proofs.put_line.Tie as tie
-use Rattle.keyvalue.proofs.put_line.Reads as reads
-use Rattle.keyvalue.proofs.put_line.Lts as lts
-use Rattle.lines.proofs.put_field.Reads as put-field-reads
-use Rattle.lines.proofs.put_word.Reads as put-word-reads
 
--- src/lib.rt:132:9
 put-field-requires : tie.Need-put-field-requires
 put-field-requires c κs = search needs
 
--- src/lib.rt:133:21
 slice-aggregate-put-word : tie.Need-slice-aggregate-put-word
 slice-aggregate-put-word c = search needs
 
--- src/lib.rt:133:5
 put-word-requires : tie.Need-put-word-requires
 put-word-requires c κs = search needs
 
--- src/lib.rt:127:1
 same-length : tie.Need-same-length
 same-length c = search needs
 
--- src/lib.rt:127:1
 returns : tie.Need-returns
 unfolding lineOf
 returns c =

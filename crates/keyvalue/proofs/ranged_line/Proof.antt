@@ -5,37 +5,27 @@ use Rattle.keyvalue.proofs.Lines.{ranged-none, ranged-low, ranged-high,
 use borrow.Author.Needs.{needs}
 use Rattle.keyvalue.proofs.ranged_line.Statement.{statement}
 use Rattle.keyvalue.proofs.ranged_line.Tie as tie
-use Rattle.keyvalue.proofs.ranged_line.Reads as reads
-use Rattle.keyvalue.proofs.ranged_line.Lts as lts
-use Rattle.keyvalue.proofs.line_at.Reads as line-at-reads
 
--- src/lib.rt:110:11
 line-at-requires : tie.Need-line-at-requires
 line-at-requires c κs = search needs
 
--- src/lib.rt:111:22
 enum-told : tie.Need-enum-told
 enum-told c = search needs
 
--- src/lib.rt:112:19
 enum-known-n : tie.Need-enum-known-n
 enum-known-n c = search needs
 
--- src/lib.rt:114:17
 returns : tie.Need-returns
 returns c = ranged-low _ _ _ _ _ (omega arith) (told (c .before .before .n .given .1) (c .before .before .before .before .line-at .ensures)) (omega arith)
 
--- src/lib.rt:117:17
 returns-2 : tie.Need-returns-2
 returns-2 c =
     let n = c .before .before .before in
     ranged-high _ _ _ _ _ (omega arith) (told (n .n .given .1) (n .before .before .line-at .ensures)) (omega arith)
 
--- src/lib.rt:106:1
 returns-3 : tie.Need-returns-3
 returns-3 c = ranged-none _ _ _ _ _ (omega arith) (told (c .enum-told .given .1) (c .before .before .line-at .ensures))
 
--- src/lib.rt:106:1
 returns-4 : tie.Need-returns-4
 returns-4 c =
     let n = c .before .before .before in

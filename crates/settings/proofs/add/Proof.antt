@@ -4,28 +4,19 @@ use Rattle.settings.proofs.Revisions.{is-spent, is-added}
 use borrow.Author.Needs.{needs}
 use Rattle.settings.proofs.add.Statement.{statement}
 use Rattle.settings.proofs.add.Tie as tie
-use Rattle.settings.proofs.add.Reads as reads
-use Rattle.settings.proofs.add.Lts as lts
-use Rattle.settings.proofs.last_of.Reads as last-of-reads
-use Rattle.settings.proofs.with_added.Reads as with-added-reads
 
--- src/lib.rt:242:9
 last-of-requires : tie.Need-last-of-requires
 last-of-requires c κs = search needs
 
--- src/lib.rt:244:9
 returns : tie.Need-returns
 returns c = is-spent _ _ _ (sym (c .before .last-of .ensures) ∙ c .if1 .taken)
 
--- src/lib.rt:246:9
 with-added-requires : tie.Need-with-added-requires
 with-added-requires c κs = search needs
 
--- src/lib.rt:248:18
 add-t11 : tie.Need-add-t11
 add-t11 c = search needs
 
--- src/lib.rt:239:1
 returns-2 : tie.Need-returns-2
 returns-2 c =
     let l = c .before .before .before .before .last-of .ensures in

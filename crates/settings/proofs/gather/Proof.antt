@@ -6,10 +6,6 @@ use Rattle.settings.proofs.State.{Gathering, gathering-size, gathering-
 use borrow.Author.Needs.{needs}
 use Rattle.settings.proofs.gather.Statement.{statement}
 use Rattle.settings.proofs.gather.Tie as tie
-use Rattle.settings.proofs.gather.Reads as reads
-use Rattle.settings.proofs.gather.Lts as lts
-use Rattle.settings.proofs.keep_row.Reads as keep-row-reads
-use Rattle.settings.proofs.row_at.Reads as row-at-reads
 
 abbrev Inv-loop : tie.InvT-loop
 Inv-loop state rows₀ k₀ i₀ rows k i = Gathering state rows k i
@@ -17,37 +13,29 @@ Inv-loop state rows₀ k₀ i₀ rows k i = Gathering state rows k i
 abbrev μ-loop : tie.MeasureT-loop
 μ-loop state rows₀ k₀ i₀ rows k i = 8 - i
 
--- src/lib.rt:191:5
 loop-holds : tie.Need-loop-holds Inv-loop μ-loop
 loop-holds c = gathering-start _ _ (c .before .before .pre .1)
 
--- src/lib.rt:192:13
 row-at-requires : tie.Need-row-at-requires Inv-loop μ-loop
 row-at-requires c κs = search needs
 
--- src/lib.rt:193:9
 keep-row-requires : tie.Need-keep-row-requires Inv-loop μ-loop
 keep-row-requires c κs = (omega (arith, c .before .before .before .loop .inv .few), gathering-size (c .before .before .before .loop .inv))
 
--- src/lib.rt:194:9
 add-i : tie.Need-add-i Inv-loop μ-loop
 add-i c = search needs
 
--- src/lib.rt:191:5
 loop-less : tie.Need-loop-less Inv-loop μ-loop
 loop-less c = search needs
 
--- src/lib.rt:191:5
 loop-again : tie.Need-loop-again Inv-loop μ-loop
 loop-again c =
     gathering-turn (c .before .before .before .before .before .before .loop .inv) (omega arith)
     (rw (c .before .before .before .before .row-at .ensures) at (c .before .before .keep-row .ensures))
 
--- src/lib.rt:185:1
 same-length : tie.Need-same-length Inv-loop μ-loop
 same-length c = gathering-size (c .before .loop .inv) ∙ sym (ap length (c .before .before .before .before .pre .1))
 
--- src/lib.rt:185:1
 returns : tie.Need-returns Inv-loop μ-loop
 returns c = gathering-end (c .before .loop .inv) (omega arith)
 

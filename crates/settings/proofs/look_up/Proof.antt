@@ -9,9 +9,6 @@ use Rattle.settings.proofs.Revisions.{zero-gone, kept-looked, looked-he
 use borrow.Author.Needs.{needs}
 use Rattle.settings.proofs.look_up.Statement.{statement}
 use Rattle.settings.proofs.look_up.Tie as tie
-use Rattle.settings.proofs.look_up.Reads as reads
-use Rattle.settings.proofs.look_up.Lts as lts
-use Rattle.settings.proofs.row_at.Reads as row-at-reads
 
 abbrev number : Revision → ℕ
 number r = r .number
@@ -22,39 +19,31 @@ Inv-loop state n k₀ k = (k ≤ 8) × (lookUp n (rowsAt state 8 0) ≡ lookUp n
 abbrev μ-loop : tie.MeasureT-loop
 μ-loop state n k₀ k = 8 - k
 
--- src/lib.rt:146:9
 returns : tie.Need-returns Inv-loop μ-loop
 returns c = sym (rw (c .if1 .taken) (zero-gone _))
 
--- src/lib.rt:149:5
 loop-holds : tie.Need-loop-holds Inv-loop μ-loop
 loop-holds c = (omega arith, refl)
 
--- src/lib.rt:150:13
 row-at-requires : tie.Need-row-at-requires Inv-loop μ-loop
 row-at-requires c κs = search needs
 
--- src/lib.rt:153:13
 returns-2 : tie.Need-returns-2 Inv-loop μ-loop
 returns-2 c = sym (kept-looked _ (c .before .before .before .before .before .before .if1 .left) _ ∙ c .before .before .before .before .before .loop .inv .1
     ∙ looked-here _ _ _ (omega arith) (ap number (sym (c .before .before .before .row-at .ensures)) ∙ c .before .if2 .taken)
     ∙ ap (λ (r : Revision). Under (r .values)) (sym (c .before .before .before .row-at .ensures)))
 
--- src/lib.rt:155:9
 add-k : tie.Need-add-k Inv-loop μ-loop
 add-k c = search needs
 
--- src/lib.rt:149:5
 loop-less : tie.Need-loop-less Inv-loop μ-loop
 loop-less c = search needs
 
--- src/lib.rt:149:5
 loop-again : tie.Need-loop-again Inv-loop μ-loop
 loop-again c =
     let h = c .before .before .before .before .loop .inv .1 in
     (omega arith, h ∙ looked-on _ _ _ (omega arith) (λ e. c .if2 .left (ap number (c .before .before .row-at .ensures) ∙ e)))
 
--- src/lib.rt:141:1
 returns-3 : tie.Need-returns-3 Inv-loop μ-loop
 returns-3 c = sym (kept-looked _ (c .before .before .if1 .left) _ ∙ c .before .loop .inv .1 ∙ looked-through _ _ _ (omega arith))
 

@@ -3,47 +3,34 @@ use Rattle.settings.proofs.Calls.{four-puts}
 use borrow.Author.Needs.{needs}
 use Rattle.settings.proofs.put_settings.Statement.{statement}
 use Rattle.settings.proofs.put_settings.Tie as tie
-use Rattle.settings.proofs.put_settings.Reads as reads
-use Rattle.settings.proofs.put_settings.Lts as lts
-use Rattle.keyvalue.proofs.put_line.Reads as put-line-reads
 
--- src/lib.rt:112:29
 slice-aggregate-put-line : tie.Need-slice-aggregate-put-line
 slice-aggregate-put-line c = search needs
 
--- src/lib.rt:112:9
 put-line-requires : tie.Need-put-line-requires
 put-line-requires c κs = search needs
 
--- src/lib.rt:113:29
 slice-aggregate-put-line-2 : tie.Need-slice-aggregate-put-line-2
 slice-aggregate-put-line-2 c = search needs
 
--- src/lib.rt:113:9
 put-line-requires-2 : tie.Need-put-line-requires-2
 put-line-requires-2 c κs = search needs
 
--- src/lib.rt:114:29
 slice-aggregate-put-line-3 : tie.Need-slice-aggregate-put-line-3
 slice-aggregate-put-line-3 c = search needs
 
--- src/lib.rt:114:9
 put-line-requires-3 : tie.Need-put-line-requires-3
 put-line-requires-3 c κs = search needs
 
--- src/lib.rt:115:21
 slice-aggregate-put-line-4 : tie.Need-slice-aggregate-put-line-4
 slice-aggregate-put-line-4 c = search needs
 
--- src/lib.rt:115:5
 put-line-requires-4 : tie.Need-put-line-requires-4
 put-line-requires-4 c κs = search needs
 
--- src/lib.rt:108:1
 same-length : tie.Need-same-length
 same-length c = search needs
 
--- src/lib.rt:108:1
 returns : tie.Need-returns
 returns c =
     let d = c .before .before in

@@ -4,36 +4,25 @@ use Rattle.settings.proofs.Calls.{read-gone, read-text}
 use borrow.Author.Needs.{needs}
 use Rattle.settings.proofs.read.Statement.{statement}
 use Rattle.settings.proofs.read.Tie as tie
-use Rattle.settings.proofs.read.Reads as reads
-use Rattle.settings.proofs.read.Lts as lts
-use Rattle.settings.proofs.look_up.Reads as look-up-reads
-use Rattle.settings.proofs.put_settings.Reads as put-settings-reads
 
--- src/lib.rt:268:11
 look-up-requires : tie.Need-look-up-requires
 look-up-requires c κs = search needs
 
--- src/lib.rt:269:42
 enum-told : tie.Need-enum-told
 enum-told c = search needs
 
--- src/lib.rt:270:21
 enum-known-v : tie.Need-enum-known-v
 enum-known-v c = search needs
 
--- src/lib.rt:271:17
 put-settings-requires : tie.Need-put-settings-requires
 put-settings-requires c κs = search needs
 
--- src/lib.rt:272:26
 cast-t13 : tie.Need-cast-t13
 cast-t13 c = search needs
 
--- src/lib.rt:265:1
 returns : tie.Need-returns
 returns c = read-gone _ (sym (c .before .before .look-up .ensures) ∙ c .enum-told .given .1)
 
--- src/lib.rt:265:1
 returns-2 : tie.Need-returns-2
 returns-2 c =
     let v = c .before .before .before in

@@ -3,32 +3,22 @@ use Rattle.settings.proofs.Calls.{save-line, save-adds}
 use borrow.Author.Needs.{needs}
 use Rattle.settings.proofs.save.Statement.{statement}
 use Rattle.settings.proofs.save.Tie as tie
-use Rattle.settings.proofs.save.Reads as reads
-use Rattle.settings.proofs.save.Lts as lts
-use Rattle.settings.proofs.add.Reads as add-reads
-use Rattle.settings.proofs.settings_in.Reads as settings-in-reads
 
--- src/lib.rt:247:11
 settings-in-requires : tie.Need-settings-in-requires
 settings-in-requires c κs = search needs
 
--- src/lib.rt:248:39
 enum-told : tie.Need-enum-told
 enum-told c = search needs
 
--- src/lib.rt:249:19
 enum-known-v : tie.Need-enum-known-v
 enum-known-v c = search needs
 
--- src/lib.rt:249:25
 add-requires : tie.Need-add-requires
 add-requires c κs = search needs
 
--- src/lib.rt:244:1
 returns : tie.Need-returns
 returns c = save-line _ _ (sym (c .before .before .settings-in .ensures) ∙ c .enum-told .given .1)
 
--- src/lib.rt:244:1
 returns-2 : tie.Need-returns-2
 returns-2 c = save-adds _ _ _ (sym (c .before .before .before .before .before .settings-in .ensures) ∙ c .before .before .before .v .given .1) (c .add .ensures)
 

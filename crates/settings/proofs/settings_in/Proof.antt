@@ -4,75 +4,55 @@ use Rattle.settings.proofs.Lines.{no-law, no-set, no-block, no-greeting
 use borrow.Author.Needs.{needs}
 use Rattle.settings.proofs.settings_in.Statement.{statement}
 use Rattle.settings.proofs.settings_in.Tie as tie
-use Rattle.settings.proofs.settings_in.Reads as reads
-use Rattle.settings.proofs.settings_in.Lts as lts
-use Rattle.keyvalue.proofs.ranged_line.Reads as ranged-line-reads
 
--- src/lib.rt:140:32
 slice-aggregate-ranged-line : tie.Need-slice-aggregate-ranged-line
 slice-aggregate-ranged-line c = search needs
 
--- src/lib.rt:140:11
 ranged-line-requires : tie.Need-ranged-line-requires
 ranged-line-requires c κs = search needs
 
--- src/lib.rt:141:22
 enum-told : tie.Need-enum-told
 enum-told c = search needs
 
--- src/lib.rt:142:19
 enum-known-law : tie.Need-enum-known-law
 enum-known-law c = search needs
 
--- src/lib.rt:142:57
 slice-aggregate-ranged-line-2 : tie.Need-slice-aggregate-ranged-line-2
 slice-aggregate-ranged-line-2 c = search needs
 
--- src/lib.rt:142:36
 ranged-line-requires-2 : tie.Need-ranged-line-requires-2
 ranged-line-requires-2 c κs = search needs
 
--- src/lib.rt:143:26
 enum-told-2 : tie.Need-enum-told-2
 enum-told-2 c = search needs
 
--- src/lib.rt:144:23
 enum-known-set : tie.Need-enum-known-set
 enum-known-set c = search needs
 
--- src/lib.rt:144:61
 slice-aggregate-ranged-line-3 : tie.Need-slice-aggregate-ranged-line-3
 slice-aggregate-ranged-line-3 c = search needs
 
--- src/lib.rt:144:40
 ranged-line-requires-3 : tie.Need-ranged-line-requires-3
 ranged-line-requires-3 c κs = search needs
 
--- src/lib.rt:145:30
 enum-told-3 : tie.Need-enum-told-3
 enum-told-3 c = search needs
 
--- src/lib.rt:146:27
 enum-known-block : tie.Need-enum-known-block
 enum-known-block c = search needs
 
--- src/lib.rt:146:67
 slice-aggregate-ranged-line-4 : tie.Need-slice-aggregate-ranged-line-4
 slice-aggregate-ranged-line-4 c = search needs
 
--- src/lib.rt:146:46
 ranged-line-requires-4 : tie.Need-ranged-line-requires-4
 ranged-line-requires-4 c κs = search needs
 
--- src/lib.rt:147:34
 enum-told-4 : tie.Need-enum-told-4
 enum-told-4 c = search needs
 
--- src/lib.rt:148:31
 enum-known-greeting : tie.Need-enum-known-greeting
 enum-known-greeting c = search needs
 
--- src/lib.rt:150:29
 returns : tie.Need-returns
 returns c =
     let g = c .before .before in
@@ -84,17 +64,14 @@ returns c =
     (told (b .block .given .1) (b .before .before .ranged-line3 .ensures))
     (told (g .greeting .given .1) (g .before .before .ranged-line4 .ensures)) (omega arith)
 
--- src/lib.rt:137:1
 returns-2 : tie.Need-returns-2
 returns-2 c = no-law _ (told (c .enum-told .given .1) (c .before .before .ranged-line .ensures))
 
--- src/lib.rt:137:1
 returns-3 : tie.Need-returns-3
 returns-3 c =
     let l = c .before .before .before .before .before in
     no-set _ (told (l .law .given .1) (l .before .before .ranged-line .ensures)) (told (c .enum-told2 .given .1) (c .before .before .ranged-line2 .ensures))
 
--- src/lib.rt:137:1
 returns-4 : tie.Need-returns-4
 returns-4 c =
     let s = c .before .before .before .before .before in
@@ -102,7 +79,6 @@ returns-4 c =
     no-block _ (told (l .law .given .1) (l .before .before .ranged-line .ensures)) (told (s .set .given .1) (s .before .before .ranged-line2 .ensures))
     (told (c .enum-told3 .given .1) (c .before .before .ranged-line3 .ensures))
 
--- src/lib.rt:137:1
 returns-5 : tie.Need-returns-5
 returns-5 c =
     let b = c .before .before .before .before .before in
@@ -111,7 +87,6 @@ returns-5 c =
     no-greeting _ (told (l .law .given .1) (l .before .before .ranged-line .ensures)) (told (s .set .given .1) (s .before .before .ranged-line2 .ensures))
     (told (b .block .given .1) (b .before .before .ranged-line3 .ensures)) (told (c .enum-told4 .given .1) (c .before .before .ranged-line4 .ensures))
 
--- src/lib.rt:137:1
 returns-6 : tie.Need-returns-6
 returns-6 c =
     let g = c .before .before in
