@@ -1,7 +1,7 @@
-/* g7110.h: G.711.0 frames of the seven carried tools, read, written and walked; frames of samples to linear values and back.
- * This header is also the manual.
+/* g7110.h: G.711.0 frames of the seven carried tools, read, written and walked; frames of samples to linear values and back;
+ * a box's settings, saved and put back. This header is also the manual.
  *
- * Every answer below is proved equal to the project's definitions of document 01, and of 001's section 6.8, for all inputs.
+ * Every answer below is proved equal to the project's definitions of documents 01 and 02 and of 001's section 6.8, for all inputs.
  *
  * The archive libg7110.a is for x86-64 Linux alone.
  *
@@ -33,6 +33,7 @@
  *
  * VERSIONS
  *   G7110_VERSION goes up by one when a call is added or a report changes.
+ *   4   the calls over settings.
  *   3   g7110_to_linear and g7110_from_linear.
  *   2   g7110_read and g7110_walk report five numbers: the bit is new, at the end. They write report[4], so a program that was
  *       compiled for version 1, which lends four, must be compiled again. A value-location frame that leaves no place for
@@ -47,7 +48,24 @@
  *
  * STACK
  *   A call uses at most G7110_STACK octets of stack, what it calls included. That is measured, not proved: tests/c/stack.c
- *   makes each call on frames of every kind, and the tests hold what it finds against this figure.
+ *   makes each call on frames of every kind, and on few and many settings; the tests hold what it finds against this figure.
+ *
+ * SETTINGS
+ *   A box keeps its last eight settings. They lie in 41 numbers that the caller lends and keeps, in whatever store it has:
+ *   the last number given, then eight revisions of five numbers (number, law, set, block, greeting), the oldest first, empty
+ *   ones all 0 and last. A fresh state is all 0. Any content is a state: a row whose number is 0 is none; of two rows with
+ *   one number the first is meant; a new number is one more than the first of the 41, whatever the rows say.
+ *   The text of settings is four lines in this order, each ended by octet 0A, and nothing after them:
+ *     law=       0 or 1
+ *     set=       0 to 127
+ *     block=     1 to 1048576, the octets of the box's block
+ *     greeting=  0 to 65535, 0 for none
+ *   A number is decimal, without sign, space or leading zero; one too large is refused, never wrapped.
+ *   A save, and going back, adds a revision numbered one more than the last, from 1; the ninth pushes out the oldest, which
+ *   may be the one gone back to. A wipe for the next tenant sets the 40 numbers of the revisions to 0 and leaves the numbering
+ *   running. A refused call leaves the state and the text as lent and reports 0.
+ *   When a box starts it reads its newest settings (revision state[0]) and lends a block of that size; with G7110_GONE there
+ *   are none, and the block has G7110_NO_SETTINGS_BLOCK octets. docs/STORE.md shows it.
  *
  * ROOM
  *   The output's length is the room. Reading needs the frame's samples (G7110_MAX_SAMPLES are always enough), writing the
@@ -70,6 +88,15 @@
  *     if (g7110_write(samples, 160, 1, G7110_ALL_TOOLS, kept, sizeof kept, wrote) != G7110_OK) return 1;
  *     if (g7110_read(kept, wrote[0], 1, G7110_ALL_TOOLS, sound, sizeof sound, got) != G7110_OK) return 1;
  *     // got[0] is 160, and sound holds the samples again
+ *
+ *   Try other settings, and put the old ones back:
+ *
+ *     uint32_t state[G7110_SETTINGS] = {0};
+ *     uint64_t old[1], now[1];
+ *     if (g7110_settings_save(state, text, text_len, old) != G7110_OK) return 1;
+ *     if (g7110_settings_save(state, other, other_len, now) != G7110_OK) return 1;
+ *     if (g7110_settings_back(state, (uint32_t)old[0], now) != G7110_OK) return 1;
+ *     // revision now[0] has the old values
  */
 #ifndef G7110_H
 #define G7110_H
@@ -81,7 +108,7 @@
 extern "C" {
 #endif
 
-#define G7110_VERSION 3
+#define G7110_VERSION 4
 
 #define G7110_MAX_SAMPLES 320 /* samples of a frame */
 #define G7110_MAX_WRITTEN 321 /* octets of a written frame */
@@ -89,6 +116,9 @@ extern "C" {
 #define G7110_MAX_STREAM 65535 /* octets of a walk */
 #define G7110_ALL_TOOLS 127
 #define G7110_STACK 8192       /* octets of stack, measured */
+#define G7110_SETTINGS 41      /* numbers of a box's settings */
+#define G7110_SETTINGS_TEXT 80 /* octets lent for their text, which has at most 67 */
+#define G7110_NO_SETTINGS_BLOCK 16384 /* octets of the block of a box that has no settings */
 
 /* The refusals, by number. */
 enum {
@@ -105,7 +135,10 @@ enum {
     G7110_LENGTH = 10, /* writer or conversion given other than 0, 40, 80, 160, 240, 320 samples */
     G7110_SET = 11,    /* set above 127, or even for a writer */
     G7110_LAW = 12,    /* law above 1 */
-    G7110_LONG = 13    /* walk given more than 65,535 octets */
+    G7110_LONG = 13,   /* walk given more than 65,535 octets */
+    G7110_LINE = 23,   /* text not of the settings' form, or a value out of its range */
+    G7110_GONE = 24,   /* revision not kept; 0 is never kept */
+    G7110_SPENT = 25   /* the new revision's number would pass 4,294,967,295 */
 };
 
 /* Reads one frame at the start of the octets. report: samples, octets used, bits, tool, bit. */
@@ -130,6 +163,20 @@ uint32_t g7110_to_linear(const uint8_t *samples, size_t samples_len, uint32_t la
 /* Converts a frame of linear values to samples, by (6-5) to (6-8) of 001. Refusals, in order: G7110_LAW, G7110_LENGTH,
  * G7110_ROOM. */
 uint32_t g7110_from_linear(const int16_t *linear, size_t linear_len, uint32_t law, uint8_t *out, size_t out_len);
+
+/* Saves the settings that the text says. Refused with G7110_LINE, then G7110_SPENT. report: the new revision. */
+uint32_t g7110_settings_save(uint32_t state[41], const uint8_t *text, size_t text_len, uint64_t report[1]);
+
+/* Saves the values of a kept revision under a new number. Refused with G7110_GONE, then G7110_SPENT.
+ * report: the new revision. */
+uint32_t g7110_settings_back(uint32_t state[41], uint32_t revision, uint64_t report[1]);
+
+/* Writes a kept revision's text at the start of the lent 80 octets; the rest stays as lent. Refused with G7110_GONE.
+ * From a state that the calls have left, it is the text that was saved. report: octets of text. */
+uint32_t g7110_settings_read(const uint32_t state[41], uint32_t revision, uint8_t text[80], uint64_t report[1]);
+
+/* Empties the list for the next tenant; the numbering runs on. Never refused. */
+uint32_t g7110_settings_wipe(uint32_t state[41]);
 
 #ifdef __cplusplus
 }

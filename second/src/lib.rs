@@ -5,6 +5,7 @@
 //! * [`walk`] reads the frames of a stream one after the other.
 //! * [`listing`] makes the text the listing program prints.
 //! * [`linear`] turns samples into linear values and back.
+//! * [`settings`] keeps the last eight settings of a box.
 //!
 //! None of the first three touches the heap: a frame is at most 320 samples,
 //! so whatever has to be held back until a frame is known to be good fits on
@@ -23,6 +24,7 @@ mod read;
 mod refusal;
 mod runs;
 mod s_codes;
+pub mod settings;
 mod value_rows;
 mod walk;
 mod write;

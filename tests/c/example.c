@@ -93,13 +93,57 @@ static int refused(void)
     return 0;
 }
 
+/* The octets of a box's block: those of its newest settings, or 16,384 where it has none. docs/STORE.md shows it. */
+static uint32_t block_octets(const uint32_t state[G7110_SETTINGS])
+{
+    uint8_t text[G7110_SETTINGS_TEXT];
+    uint64_t octets[1];
+    uint32_t block = 0;
+    const uint8_t *at;
+    if (g7110_settings_read(state, state[0], text, octets) != G7110_OK) return G7110_NO_SETTINGS_BLOCK;
+    for (at = text; *at != 'b'; at++) ; /* the third line is the first with a b */
+    for (at += 6; *at != '\n'; at++) block = 10 * block + (*at - '0');
+    return block;
+}
+
+/* A box's settings: saved, put back, and wiped for the next tenant. */
+static int settings(void)
+{
+    static const char first[] = "law=1\nset=127\nblock=16384\ngreeting=0\n";
+    static const char other[] = "law=1\nset=1\nblock=65536\ngreeting=7\n";
+    uint32_t state[G7110_SETTINGS] = {0};
+    uint8_t text[G7110_SETTINGS_TEXT];
+    uint64_t told[1];
+    size_t at;
+    CHECK(g7110_settings_read(state, state[0], text, told) == G7110_GONE && told[0] == 0);
+    CHECK(block_octets(state) == 16384);
+    CHECK(g7110_settings_save(state, (const uint8_t *)first, strlen(first), told) == G7110_OK && told[0] == 1);
+    CHECK(g7110_settings_save(state, (const uint8_t *)other, strlen(other), told) == G7110_OK && told[0] == 2);
+    CHECK(block_octets(state) == 65536);
+    CHECK(g7110_settings_back(state, 1, told) == G7110_OK && told[0] == 3);
+    CHECK(block_octets(state) == 16384);
+    memset(text, 0xA7, sizeof text);
+    CHECK(g7110_settings_read(state, state[0], text, told) == G7110_OK && told[0] == strlen(first));
+    CHECK(memcmp(text, first, strlen(first)) == 0 && text[strlen(first)] == 0xA7 && text[79] == 0xA7);
+    CHECK(g7110_settings_save(state, (const uint8_t *)first, strlen(first) - 1, told) == G7110_LINE && told[0] == 0);
+    CHECK(g7110_settings_save(state, NULL, 0, told) == G7110_LINE);
+    CHECK(g7110_settings_save(state, (const uint8_t *)other, strlen(other), told) == G7110_OK && block_octets(state) == 65536);
+    CHECK(g7110_settings_wipe(state) == G7110_OK && state[0] == 4 && block_octets(state) == 16384);
+    for (at = 1; at < G7110_SETTINGS; at++) CHECK(state[at] == 0);
+    CHECK(g7110_settings_read(state, 4, text, told) == G7110_GONE);
+    state[0] = UINT32_MAX;
+    CHECK(g7110_settings_save(state, (const uint8_t *)first, strlen(first), told) == G7110_SPENT && told[0] == 0);
+    CHECK(g7110_settings_back(state, 3, told) == G7110_GONE);
+    return 0;
+}
+
 int main(void)
 {
     uint8_t samples[160];
     size_t at;
     for (at = 0; at < sizeof samples; at++) samples[at] = at % 20 == 0 ? 0xFE : 0xFF;
     if (keep_and_get_back(samples) || nothing_lent() || walk_and_stop() || refused()) return 1;
-    if (to_linear_and_back(samples)) return 1;
+    if (to_linear_and_back(samples) || settings()) return 1;
     printf("ok\n");
     return 0;
 }

@@ -30,7 +30,7 @@ std::vector<std::uint8_t> get_back(const std::vector<std::uint8_t> &kept)
 
 int main()
 {
-    static_assert(G7110_LONG == 13, "the refusals are numbered as in the manual");
+    static_assert(G7110_LONG == 13 && G7110_SPENT == 25, "the refusals are numbered as in the manual");
     std::vector<std::uint8_t> samples(160, 0xFF);
     samples[7] = 0x7F;
     const std::vector<std::uint8_t> kept = keep(samples);

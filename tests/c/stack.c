@@ -11,13 +11,14 @@
 enum { STACK = 1 << 20, PAINT = 0xC5, STREAM = 4000 };
 
 struct call {
-    int which; /* 0 none, 1 read, 2 write, 3 walk, 4 to linear values, 5 from them */
+    int which; /* 0 none, 1 read, 2 write, 3 walk, 4 to linear values, 5 from them; of settings 6 save, 7 back, 8 read, 9 wipe */
     const uint8_t *given;
     size_t length;
 };
 
 static uint8_t out[1 << 16];
 static int16_t linear[320];
+static uint32_t state[G7110_SETTINGS];
 
 static void *make(void *argument)
 {
@@ -28,6 +29,10 @@ static void *make(void *argument)
     if (call->which == 3) g7110_walk(call->given, call->length, 1, G7110_ALL_TOOLS, out, sizeof out, report);
     if (call->which == 4) g7110_to_linear(call->given, call->length, 1, linear, 320);
     if (call->which == 5) g7110_from_linear(linear, call->length, 1, out, sizeof out);
+    if (call->which == 6) g7110_settings_save(state, call->given, call->length, report);
+    if (call->which == 7) g7110_settings_back(state, state[0], report);
+    if (call->which == 8) g7110_settings_read(state, state[0], out, report);
+    if (call->which == 9) g7110_settings_wipe(state);
     return NULL;
 }
 
@@ -50,7 +55,7 @@ static size_t used(struct call call)
     return STACK - low;
 }
 
-static size_t greatest[6];
+static size_t greatest[10];
 
 static void measure(int which, const uint8_t *given, size_t length)
 {
@@ -81,19 +86,38 @@ static void frame(uint8_t *samples, int kind)
     }
 }
 
-/* What a call uses more than a thread that makes none; a conversion calls nothing, and uses no more. */
+/* What a call uses more than a thread that makes none; a conversion or a wipe may use no more. */
 static unsigned long over(int which)
 {
     return greatest[which] > greatest[0] ? (unsigned long)(greatest[which] - greatest[0]) : 0;
 }
 
+/* Each call over settings: on few revisions and on eight, and a text that is refused. */
+static void settings(void)
+{
+    static const char text[] = "law=1\nset=127\nblock=1048576\ngreeting=65535\n";
+    int turn;
+    for (turn = 0; turn < 12; turn++) {
+        measure(6, (const uint8_t *)text, sizeof text - 1 - (turn == 5));
+        measure(7, NULL, 0);
+        measure(8, NULL, 0);
+    }
+    measure(9, NULL, 0);
+    measure(8, NULL, 0);
+}
+
 int main(void)
 {
+    static const char *const names[10] = {"",        "read",          "write",         "walk",          "to_linear",
+                                          "from_linear", "settings_save", "settings_back", "settings_read", "settings_wipe"};
     uint8_t samples[320], form[G7110_MAX_WRITTEN], stream[STREAM];
     uint64_t wrote[3];
     size_t length = 0;
     int kind, cut;
     memset(stream, 0, sizeof stream);
+    /* The first thread of all uses more, once: names that are looked up. */
+    measure(0, NULL, 0);
+    greatest[0] = 0;
     measure(0, NULL, 0);
     for (kind = 0; kind < 8; kind++) {
         frame(samples, kind);
@@ -107,10 +131,7 @@ int main(void)
     }
     measure(3, stream, sizeof stream);
     measure(3, stream, length - 1);
-    printf("stack: g7110_read %lu octets\n", over(1));
-    printf("stack: g7110_write %lu octets\n", over(2));
-    printf("stack: g7110_walk %lu octets\n", over(3));
-    printf("stack: g7110_to_linear %lu octets\n", over(4));
-    printf("stack: g7110_from_linear %lu octets\n", over(5));
+    settings();
+    for (kind = 1; kind < 10; kind++) printf("stack: g7110_%s %lu octets\n", names[kind], over(kind));
     return 0;
 }

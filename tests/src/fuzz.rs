@@ -3,9 +3,10 @@
 use crate::faults;
 use crate::forms::{some_form, LENGTHS};
 use crate::pair::asked;
+use crate::settings::{some_call, some_cells, Keepers, State, CELLS, FRESH};
 use crate::streams::Stream;
 use crate::vectors::Ask;
-use crate::{Codec, Pair};
+use crate::{Codec, Pair, Proved, Second};
 use second::gen::{all_kinds, damage_somehow, make_frame, Kind, Prng};
 use std::fs;
 use std::path::{Path, PathBuf};
@@ -24,6 +25,8 @@ pub struct Fuzz<'a> {
     /// Octets of frames and streams, some changed several times.
     pool: Vec<Vec<u8>>,
     folder: PathBuf,
+    keepers: Keepers<'static>,
+    state: State,
     pub reads: usize,
     pub writes: usize,
     pub walks: usize,
@@ -39,6 +42,8 @@ impl<'a> Fuzz<'a> {
             kinds: all_kinds(),
             pool: vec![vec![0x00]],
             folder: folder.to_path_buf(),
+            keepers: Keepers::new(&Proved, &Second),
+            state: FRESH,
             reads: 0,
             writes: 0,
             walks: 0,
@@ -46,20 +51,26 @@ impl<'a> Fuzz<'a> {
     }
 
     pub fn differences(&self) -> usize {
-        self.pair.differences
+        self.pair.differences + self.keepers.differences
     }
 
-    pub fn shown(&self) -> &[String] {
-        self.pair.shown()
+    pub fn shown(&self) -> Vec<String> {
+        [self.pair.shown(), self.keepers.shown()].concat()
+    }
+
+    /// Calls over settings.
+    pub fn settings(&self) -> usize {
+        self.keepers.calls
     }
 
     /// One input, and one call or more with it.
     pub fn round(&mut self) {
-        match self.rng.below(8) {
+        match self.rng.below(9) {
             0..=3 => self.read(),
             4..=6 if cfg!(feature = "writer") => self.write(),
             4..=6 => self.read(),
-            _ => self.walk(),
+            7 => self.walk(),
+            _ => self.settle(),
         }
     }
 
@@ -112,6 +123,28 @@ impl<'a> Fuzz<'a> {
                 pair.differ("read back", &back, &format!("{read:?}"));
             }
         });
+    }
+
+    /// Some calls over a box's settings, on the state that earlier ones left, a fresh one, or one of any content.
+    fn settle(&mut self) {
+        match self.rng.below(40) {
+            0 => self.state = FRESH,
+            1 => {
+                let kind = *self.rng.pick(&CELLS);
+                self.state = some_cells(kind, &mut self.rng);
+            }
+            _ => {}
+        }
+        for _ in 0..1 + self.rng.below(8) {
+            let call = some_call(&self.state, &mut self.rng);
+            let before = self.keepers.differences;
+            self.keepers.call(&mut self.state, &call);
+            if self.keepers.differences > before && before < SAVED {
+                let name = format!("seed-{}-settings-{}.txt", self.seed, self.keepers.differences);
+                let said = self.keepers.shown().last().cloned().unwrap_or_default();
+                self.put(&name, &format!("{said}\n\nseed={}\n", self.seed));
+            }
+        }
     }
 
     /// Octets: a form, a faulty frame, something at random, or something of the pool changed once more.
@@ -184,7 +217,10 @@ impl<'a> Fuzz<'a> {
 
     fn save(&self, ask: &Ask) {
         let name = format!("seed-{}-{}.txt", self.seed, self.pair.differences);
-        let text = format!("{}\n\nseed={} {}\n", self.pair.last(), self.seed, asked(ask, usize::MAX));
+        self.put(&name, &format!("{}\n\nseed={} {}\n", self.pair.last(), self.seed, asked(ask, usize::MAX)));
+    }
+
+    fn put(&self, name: &str, text: &str) {
         fs::create_dir_all(&self.folder).expect("the folder can be made");
         fs::write(self.folder.join(name), text).expect("the folder can be written to");
     }

@@ -2,7 +2,7 @@
 //! [`Codec`]; [`check`] runs one vector, and its neighbours, on one back end. docs/TESTING.md has the line format.
 //!
 //! A [`Pair`] asks two back ends the same. [`forms`], [`faults`], [`frames`] and [`streams`] make what they are asked,
-//! and a [`Table`] counts what was met.
+//! and a [`Table`] counts what was met. [`settings`] does the same for a box's settings.
 
 #![deny(unsafe_code)]
 
@@ -19,6 +19,7 @@ mod pair;
 pub mod program;
 pub mod published;
 pub mod recordings;
+pub mod settings;
 mod share;
 pub mod streams;
 mod table;

@@ -19,7 +19,10 @@ fn nothing_differs() {
     let mut fuzz = Fuzz::new(&Proved, &Second, SEED, &folder);
     (0..ROUNDS).for_each(|_| fuzz.round());
     let Fuzz { reads, writes, walks, .. } = fuzz;
-    say(&format!("compared: fuzz, seed {SEED}: {reads} frames read, {writes} written, {walks} streams walked\n"));
+    let settings = fuzz.settings();
+    say(&format!(
+        "compared: fuzz, seed {SEED}: {reads} frames read, {writes} written, {walks} streams walked, {settings} calls over settings\n"
+    ));
     assert!(
         fuzz.differences() == 0,
         "{} differences, saved in target/fuzz\n{}",

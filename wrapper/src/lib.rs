@@ -1,11 +1,12 @@
-//! G.711.0 frames of the seven carried tools, read, written and walked by the proved code of libg7110.a, and frames of
-//! samples converted to linear values and back.
+//! G.711.0 frames of the seven carried tools, read, written and walked by the proved code of libg7110.a; frames of samples
+//! converted to linear values and back; and a box's [`settings`], saved and put back.
 //!
 //! include/g7110.h is the manual; the names here are its names. No call uses the heap.
 
 #![deny(unsafe_code)]
 
 pub mod raw;
+pub mod settings;
 
 use std::fmt;
 

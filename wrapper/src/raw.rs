@@ -35,6 +35,10 @@ extern "C" {
     ) -> u32;
     fn g7110_to_linear(samples: *const u8, samples_len: usize, law: u32, out: *mut i16, out_len: usize) -> u32;
     fn g7110_from_linear(linear: *const i16, linear_len: usize, law: u32, out: *mut u8, out_len: usize) -> u32;
+    fn g7110_settings_save(state: *mut [u32; 41], text: *const u8, text_len: usize, report: *mut [u64; 1]) -> u32;
+    fn g7110_settings_back(state: *mut [u32; 41], revision: u32, report: *mut [u64; 1]) -> u32;
+    fn g7110_settings_read(state: *const [u32; 41], revision: u32, text: *mut [u8; 80], report: *mut [u64; 1]) -> u32;
+    fn g7110_settings_wipe(state: *mut [u32; 41]) -> u32;
 }
 
 /// The ending; the report is samples, octets, bits, tool and the refusal's bit.
@@ -66,4 +70,28 @@ pub fn to_linear(samples: &[u8], law: u32, out: &mut [i16]) -> u32 {
 pub fn from_linear(linear: &[i16], law: u32, out: &mut [u8]) -> u32 {
     // SAFETY: as in `to_linear`.
     unsafe { g7110_from_linear(linear.as_ptr(), linear.len(), law, out.as_mut_ptr(), out.len()) }
+}
+
+/// The ending; the report is the new revision.
+pub fn settings_save(state: &mut [u32; 41], text: &[u8], report: &mut [u64; 1]) -> u32 {
+    // SAFETY: as in `read`, of the state too.
+    unsafe { g7110_settings_save(state, text.as_ptr(), text.len(), report) }
+}
+
+/// The ending; the report is the new revision.
+pub fn settings_back(state: &mut [u32; 41], revision: u32, report: &mut [u64; 1]) -> u32 {
+    // SAFETY: as in `settings_save`.
+    unsafe { g7110_settings_back(state, revision, report) }
+}
+
+/// The ending; the report is the octets of text.
+pub fn settings_read(state: &[u32; 41], revision: u32, text: &mut [u8; 80], report: &mut [u64; 1]) -> u32 {
+    // SAFETY: as in `settings_save`.
+    unsafe { g7110_settings_read(state, revision, text, report) }
+}
+
+/// The ending, which is 0.
+pub fn settings_wipe(state: &mut [u32; 41]) -> u32 {
+    // SAFETY: as in `settings_save`.
+    unsafe { g7110_settings_wipe(state) }
 }

@@ -2,6 +2,7 @@
 
 #![cfg(feature = "writer")]
 
+use g7110::settings;
 use g7110::{
     from_linear, read, to_linear, walk, write, Law, Read, Refusal, Refused, Walk, Written, ALL_TOOLS, MAX_SAMPLES,
     MAX_WRITTEN,
@@ -134,4 +135,40 @@ fn from_several_threads() {
         })
         .collect();
     threads.into_iter().for_each(|thread| thread.join().unwrap());
+}
+
+/// The header's second example: other settings tried, the old ones put back, and all of it wiped.
+#[test]
+fn settings_put_back_and_wiped() {
+    let old = b"law=1\nset=127\nblock=16384\ngreeting=0\n";
+    let mut state = settings::FRESH;
+    let mut text = [0xA7; settings::TEXT];
+    assert_eq!(settings::read(&state, state[0], &mut text), Err(settings::Refusal::Gone));
+    assert_eq!(settings::save(&mut state, old), Ok(1));
+    assert_eq!(settings::save(&mut state, b"law=1\nset=1\nblock=65536\ngreeting=7\n"), Ok(2));
+    assert_eq!(settings::back(&mut state, 1), Ok(3));
+    assert_eq!(settings::read(&state, 3, &mut text), Ok(old.len()));
+    assert_eq!(text[..old.len()], old[..]);
+    assert_eq!(text[old.len()..], [0xA7; settings::TEXT][old.len()..]);
+    settings::wipe(&mut state);
+    assert_eq!(state[0], 3, "the numbering runs on");
+    assert_eq!(state[1..], [0; 40], "nothing of the last tenant is left");
+    assert_eq!(settings::read(&state, 3, &mut text), Err(settings::Refusal::Gone));
+    assert_eq!(settings::save(&mut state, old), Ok(4));
+}
+
+#[test]
+fn settings_are_refused_and_unchanged() {
+    let mut state = settings::FRESH;
+    state[0] = u32::MAX;
+    let lent = state;
+    let good = b"law=0\nset=0\nblock=1\ngreeting=0\n";
+    assert_eq!(settings::save(&mut state, &good[..good.len() - 1]), Err(settings::Refusal::Line));
+    assert_eq!(settings::save(&mut state, &[]), Err(settings::Refusal::Line));
+    assert_eq!(settings::save(&mut state, good), Err(settings::Refusal::Spent));
+    assert_eq!(settings::back(&mut state, 0), Err(settings::Refusal::Gone));
+    assert_eq!(state, lent);
+    let mut report = [9];
+    assert_eq!(g7110::raw::settings_back(&mut state, 1, &mut report), settings::Refusal::Gone.number());
+    assert_eq!(report, [0], "a report is written in every case");
 }

@@ -1,9 +1,12 @@
 // The C boundary: numbers and slices only. include/g7110.h says what a C program passes.
 ghost use mathlib.Core.List.{map};
+ghost use mathlib.Core.Path.{_≡_};
 ghost use lib.ListN.{length};
 ghost use Rattle.rules.specs.Frame.{readOne};
 ghost use Rattle.rules.specs.Walk.{walkAll};
 ghost use Rattle.rules.specs.Chooses.{writeOne};
+ghost use Rattle.settings.specs.Calls.{Wipe};
+ghost use Rattle.g7110.specs.Settings.{SaveReported, BackReported, RevisionReported};
 ghost use Rattle.linear.specs.Equations.{toPCM, fromPCM};
 ghost use Rattle.g7110.specs.Boundary.{ReadReported, WalkReported, WriteReported, Converted};
 
@@ -87,4 +90,59 @@ pub extern "C" fn g7110_from_linear(linear: &[i16], law: u32, out: &mut [u8]) ->
 {
     let end = linear::from_linear(linear, law, out);
     rules::number_of(end)
+}
+
+// Saving settings: the number, and in the report the new revision.
+#[no_mangle]
+pub extern "C" fn g7110_settings_save(
+    state: &mut [u32; 41],
+    text: &[u8],
+    report: &mut [u64; 1],
+) -> u32
+    ensures { λ r. ⌜ SaveReported (now (text .entry)) (now (state .entry)) (now (state .exit)) (now (report .exit)) r ⌝ }
+{
+    let a = settings::save(state, text);
+    let revision = settings::told_of(a);
+    *report = [revision as u64];
+    settings::number_of(a)
+}
+
+// Going back to a kept revision: the number, and in the report the new revision.
+#[no_mangle]
+pub extern "C" fn g7110_settings_back(
+    state: &mut [u32; 41],
+    revision: u32,
+    report: &mut [u64; 1],
+) -> u32
+    ensures { λ r. ⌜ BackReported revision (now (state .entry)) (now (state .exit)) (now (report .exit)) r ⌝ }
+{
+    let a = settings::back(state, revision);
+    let next = settings::told_of(a);
+    *report = [next as u64];
+    settings::number_of(a)
+}
+
+// A kept revision's text: the number, and in the report its octets.
+#[no_mangle]
+pub extern "C" fn g7110_settings_read(
+    state: &[u32; 41],
+    revision: u32,
+    text: &mut [u8; 80],
+    report: &mut [u64; 1],
+) -> u32
+    ensures { λ r. ⌜ RevisionReported revision (now (state .entry)) (now (text .entry)) (now (text .exit)) (now (report .exit)) r ⌝ }
+{
+    let a = settings::read(state, revision, text);
+    let octets = settings::told_of(a);
+    *report = [octets as u64];
+    settings::number_of(a)
+}
+
+// The wipe for the next tenant: never refused.
+#[no_mangle]
+pub extern "C" fn g7110_settings_wipe(state: &mut [u32; 41]) -> u32
+    ensures { λ r. ⌜ (r ≡ 0) × (Wipe (now (state .entry)) (now (state .exit))) ⌝ }
+{
+    settings::wipe(state);
+    0
 }

@@ -6,7 +6,7 @@ ghost use mathlib.Core.List.{_++_};
 ghost use Rattle.rules.specs.Listing.{lineEnd, toolWord, octetsWord, bitsWord, decimal, field, lawLine, frameLine, stopFields, stopLine, samplesLine};
 ghost use Rattle.lines.specs.Puts.{Puts, Spells};
 
-fn put_word(word: &[u8], out: &mut [u8], at: usize) -> usize
+pub fn put_word(word: &[u8], out: &mut [u8], at: usize) -> usize
     requires { ⌜ at + length (now word) ≤ length (now out) ⌝ }
     ensures { λ r. ⌜ Puts (now (out .entry)) at (now (word .entry)) (now (out .exit)) r ⌝ }
 {
@@ -50,7 +50,7 @@ fn put_number(n: usize, out: &mut [u8], at: usize) -> usize
     put_word(&octets[from..], out, at)
 }
 
-fn put_field(word: &[u8], n: usize, out: &mut [u8], at: usize) -> usize
+pub fn put_field(word: &[u8], n: usize, out: &mut [u8], at: usize) -> usize
     requires { ⌜ at + length (now word) + 20 ≤ length (now out) ⌝ }
     ensures { λ r. ⌜ Puts (now (out .entry)) at (field (now (word .entry)) n) (now (out .exit)) r ⌝ }
     ensures most { λ r. ⌜ r ≤ at + length (now (word .entry)) + 20 ⌝ }

@@ -47,5 +47,8 @@ fn main() {
 
 fn tell(fuzz: &Fuzz) {
     let Fuzz { reads, writes, walks, .. } = fuzz;
-    println!("fuzz: {reads} frames read, {writes} written, {walks} streams walked: {} differences", fuzz.differences());
+    let (settings, differences) = (fuzz.settings(), fuzz.differences());
+    println!(
+        "fuzz: {reads} frames read, {writes} written, {walks} streams walked, {settings} calls over settings: {differences} differences"
+    );
 }

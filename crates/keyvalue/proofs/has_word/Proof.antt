@@ -1,0 +1,74 @@
+use borrow.Author.Needs.{needs}
+use Prim.Native.Nat.{_-_, _≤_}
+use mathlib.Core.Path.{_≡_, refl, sym, _∙_}
+use native.Mathlib.Omega.{arith}
+use lib.ListN.{length, drop}
+use Rattle.keyvalue.specs.Reading.{begins}
+use Rattle.keyvalue.proofs.Words.{word-end, word-cut, word-step, word-differ}
+use Rattle.keyvalue.proofs.has_word.Statement.{statement}
+use Rattle.keyvalue.proofs.has_word.Tie as tie
+
+abbrev Inv-loop : tie.InvT-loop
+Inv-loop text at word i₀ j₀ i j = (i ≤ length word) × (begins word (drop at text) ≡ begins (drop i word) (drop j text))
+
+abbrev μ-loop : tie.MeasureT-loop
+μ-loop text at word i₀ j₀ i j = length word - i
+
+loop-holds : tie.Need-loop-holds Inv-loop μ-loop
+loop-holds c = (omega arith, refl)
+
+returns : tie.Need-returns Inv-loop μ-loop
+returns c =
+    let l = c .before .before in
+    let a = l .before .args in
+    sym (l .loop .inv .1 ∙ word-cut (a .word .now) (a .text .now) (l .loop .i) (l .loop .j) (omega arith) (omega arith))
+
+shared-slice-read-if2 : tie.Need-shared-slice-read-if2 Inv-loop μ-loop
+shared-slice-read-if2 c = search needs
+
+shared-slice-read-if2-2 : tie.Need-shared-slice-read-if2-2 Inv-loop μ-loop
+shared-slice-read-if2-2 c = search needs
+
+returns-2 : tie.Need-returns-2 Inv-loop μ-loop
+returns-2 c =
+    let l = c .before .before .before .before .before in
+    let a = l .before .args in
+    sym (l .loop .inv .1 ∙ word-differ (a .word .now) (a .text .now) _ _ (omega arith) (omega arith) (c .if2 .taken))
+
+add-i : tie.Need-add-i Inv-loop μ-loop
+add-i c = search needs
+
+add-j : tie.Need-add-j Inv-loop μ-loop
+add-j c = search needs
+
+loop-less : tie.Need-loop-less Inv-loop μ-loop
+loop-less c = search needs
+
+loop-again : tie.Need-loop-again Inv-loop μ-loop
+loop-again c =
+    let l = c .before .before .before .before .before in
+    let a = l .before .args in
+    (omega arith, l .loop .inv .1 ∙ word-step (a .word .now) (a .text .now) _ _ (omega arith) (omega arith) (c .if2 .left))
+
+returns-3 : tie.Need-returns-3 Inv-loop μ-loop
+returns-3 c =
+    let l = c .before in
+    let a = l .before .args in
+    sym (l .loop .inv .1 ∙ word-end (a .word .now) (a .text .now) (l .loop .i) (l .loop .j) (omega arith))
+
+pub has-word-spec : {M : Type 1} → statement M
+has-word-spec =
+    tie.close
+    (tie.spec
+    Inv-loop
+    μ-loop
+    loop-holds
+    returns
+    shared-slice-read-if2
+    shared-slice-read-if2-2
+    returns-2
+    add-i
+    add-j
+    loop-less
+    loop-again
+    returns-3)

@@ -1,0 +1,99 @@
+use borrow.Author.Tests.{not-true, not-false}
+use borrow.Author.Needs.{needs}
+use Prim.Native.Nat.{_-_, _≤_}
+use mathlib.Core.Path.{_≡_, sym, _∙_}
+use native.Mathlib.Omega.{arith}
+use lib.ListN.{length, drop}
+use Rattle.keyvalue.specs.Reading.{digitsOn, number, most, capped}
+use Rattle.keyvalue.proofs.Numbers.{digit-range, digits-end, digits-stop, digits-step, number-past, number-zero, number-not, number-start}
+use Rattle.keyvalue.proofs.number_at.Statement.{statement}
+use Rattle.keyvalue.proofs.number_at.Tie as tie
+
+abbrev Inv-loop : tie.InvT-loop
+Inv-loop text at first v₀ i₀ v i = (i ≤ length text) × (v ≤ most) × (capped (number text at) ≡ capped (digitsOn v i (drop i text)))
+
+abbrev μ-loop : tie.MeasureT-loop
+μ-loop text at first v₀ i₀ v i = length text - i
+
+returns : tie.Need-returns Inv-loop μ-loop
+returns c = sym (number-past _ _ (omega arith))
+
+shared-slice-read-first : tie.Need-shared-slice-read-first Inv-loop μ-loop
+shared-slice-read-first c = search needs
+
+add-t11 : tie.Need-add-t11 Inv-loop μ-loop
+add-t11 c = search needs
+
+returns-2 : tie.Need-returns-2 Inv-loop μ-loop
+returns-2 c = sym (number-zero _ _ (omega arith) (c .if2 .taken))
+
+is-digit-requires : tie.Need-is-digit-requires Inv-loop μ-loop
+is-digit-requires c κs = search needs
+
+returns-3 : tie.Need-returns-3 Inv-loop μ-loop
+returns-3 c = sym (number-not _ _ (omega arith) (c .before .before .if2 .left) (sym (c .before .is-digit .ensures) ∙ not-true _ (c .if3 .taken)))
+
+more-requires : tie.Need-more-requires Inv-loop μ-loop
+more-requires c κs = digit-range _ (sym (c .before .is-digit .ensures) ∙ not-false _ (c .if3 .left))
+
+add-i : tie.Need-add-i Inv-loop μ-loop
+add-i c = search needs
+
+loop-holds : tie.Need-loop-holds Inv-loop μ-loop
+loop-holds c =
+    let z = c .before .before .before .if2 .left in
+    let d = sym (c .before .before .is-digit .ensures) ∙ not-false _ (c .before .if3 .left) in
+    (omega arith, omega arith, rw (c .more .ensures) (number-start _ _ (omega arith) z d))
+
+shared-slice-read-x : tie.Need-shared-slice-read-x Inv-loop μ-loop
+shared-slice-read-x c = search needs
+
+is-digit-requires-2 : tie.Need-is-digit-requires-2 Inv-loop μ-loop
+is-digit-requires-2 c κs = search needs
+
+returns-4 : tie.Need-returns-4 Inv-loop μ-loop
+returns-4 c =
+    let l = c .before .before .before .before in
+    sym (l .loop .inv .2 ∙ digits-stop _ _ _ (omega arith) (omega arith) (sym (c .before .is-digit2 .ensures) ∙ not-true _ (c .if4 .taken)))
+
+more-requires-2 : tie.Need-more-requires-2 Inv-loop μ-loop
+more-requires-2 c κs = digit-range _ (sym (c .before .is-digit2 .ensures) ∙ not-false _ (c .if4 .left))
+
+add-i-2 : tie.Need-add-i-2 Inv-loop μ-loop
+add-i-2 c = search needs
+
+loop-less : tie.Need-loop-less Inv-loop μ-loop
+loop-less c = search needs
+
+loop-again : tie.Need-loop-again Inv-loop μ-loop
+loop-again c =
+    let l = c .before .before .before .before .before in
+    let d = sym (c .before .before .is-digit2 .ensures) ∙ not-false _ (c .before .if4 .left) in
+    (omega arith, omega arith, l .loop .inv .2 ∙ rw (c .more2 .ensures) (digits-step _ _ _ (omega arith) d))
+
+returns-5 : tie.Need-returns-5 Inv-loop μ-loop
+returns-5 c = sym (c .before .loop .inv .2 ∙ digits-end _ _ _ (omega arith) (omega arith))
+
+pub number-at-spec : {M : Type 1} → statement M
+number-at-spec =
+    tie.close
+    (tie.spec
+    Inv-loop
+    μ-loop
+    returns
+    shared-slice-read-first
+    add-t11
+    returns-2
+    is-digit-requires
+    returns-3
+    more-requires
+    add-i
+    loop-holds
+    shared-slice-read-x
+    is-digit-requires-2
+    returns-4
+    more-requires-2
+    add-i-2
+    loop-less
+    loop-again
+    returns-5)

@@ -1,0 +1,105 @@
+-- The text of settings in the code's steps; what is written is read, and nothing else.
+use Prim.Native.Nat.{ℕ, _+_, _≤_, _<_, _^_}
+use mathlib.Core.Path.{_≡_, refl, sym, ap, _∙_}
+use mathlib.Core.List.{List, [], _∷_, _++_, append-assoc, append-nil}
+use mathlib.Core.Bool.{Bool, true, false, cond, _&&_}
+use native.Mathlib.Omega.{arith}
+use lib.ListN.{length, drop, length-drop, drop-of-length-le}
+use lib.Dec.{leb}
+use borrow.Author.Tests.{le-leb, lt-leb, leb-true}
+use Rattle.rules.specs.Listing.{lawWord}
+use Rattle.settings.specs.declared.Settings.{Settings}
+use Rattle.settings.specs.declared.Given.{Given}
+use Rattle.settings.specs.declared.Given.the-variants.{Is, Bad}
+use Rattle.keyvalue.specs.Reading.{Read, whole, none, Reader, _>>=_, ended}
+use Rattle.keyvalue.specs.Lines.{lineOf, ranged}
+use Rattle.settings.specs.Lines.{setWord, blockWord, greetingWord, fourLines, settings, settingsText, given, settingsIn}
+use Rattle.keyvalue.proofs.Exact.{Back, back-bind, back-last, back-alone, back-ranged, Stands, chain, stands-alone, got-value, got-place}
+use Rattle.keyvalue.proofs.Exact.{InRange, ranged-only, Through, through, passed}
+
+module _ (text : List ℕ) where
+  pub no-law : none ≡ ranged lawWord 0 1 text 0 → Bad ≡ settingsIn text
+  unfolding settings fourLines
+  no-law e = sym (rw (← e))
+
+  module _ {law a : ℕ} (e : whole law a ≡ ranged lawWord 0 1 text 0) where
+    pub no-set : none ≡ ranged setWord 0 127 text a → Bad ≡ settingsIn text
+    unfolding settings fourLines
+    no-set f = sym (rw (← e, ← f))
+
+    module _ {set b : ℕ} (f : whole set b ≡ ranged setWord 0 127 text a) where
+      pub no-block : none ≡ ranged blockWord 1 1048576 text b → Bad ≡ settingsIn text
+      unfolding settings fourLines
+      no-block g = sym (rw (← e, ← f, ← g))
+
+      module _ {block c : ℕ} (g : whole block c ≡ ranged blockWord 1 1048576 text b) where
+        pub no-greeting : none ≡ ranged greetingWord 0 65535 text c → Bad ≡ settingsIn text
+        unfolding settings fourLines
+        no-greeting h = sym (rw (← e, ← f, ← g, ← h))
+
+        module _ {greeting d : ℕ} (h : whole greeting d ≡ ranged greetingWord 0 65535 text c) where
+          pub more-after : d < length text → Bad ≡ settingsIn text
+          unfolding settings fourLines
+          more-after l = sym (rw (← e, ← f, ← g, ← h, lt-leb (length text) d l))
+
+          pub all-read : length text ≤ d → Is (record { law = law; set = set; block = block; greeting = greeting }) ≡ settingsIn text
+          unfolding settings fourLines
+          all-read l = sym (rw (← e, ← f, ← g, ← h, le-leb (length text) d l))
+
+-- the values that a box takes
+pub record Sound (s : Settings) : Type 0 where
+  pub law : s .law ≤ 1
+  pub set : s .set ≤ 127
+  pub least : 1 ≤ s .block
+  pub most : s .block ≤ 1048576
+  pub greeting : s .greeting ≤ 65535
+
+-- the four lines are read back, and so is a text of them alone
+four-back : (s : Settings) → Sound s → Back fourLines (settingsText s) s
+unfolding fourLines settingsText
+four-back s h =
+    back-bind (ranged lawWord 0 1) _ (back-ranged lawWord 0 1 (s .law) (omega arith) (omega arith) (h .law))
+    (back-bind (ranged setWord 0 127) _ (back-ranged setWord 0 127 (s .set) (omega arith) (omega arith) (h .set))
+    (back-bind (ranged blockWord 1 1048576) _ (back-ranged blockWord 1 1048576 (s .block) (omega arith) (h .least) (h .most))
+    (back-last (ranged greetingWord 0 65535) _ (back-ranged greetingWord 0 65535 (s .greeting) (omega arith) (omega arith) (h .greeting)))))
+
+-- what is written is read back
+pub settings-back : (s : Settings) → Sound s → settingsIn (settingsText s) ≡ Is s
+unfolding settings
+settings-back s h = ap given (back-alone fourLines (four-back s h))
+
+given-is : (r : Read Settings) (s : Settings) → given r ≡ Is s → (i : ℕ) × (r ≡ whole s i)
+given-is (whole t i) s e = (i, let z : t ≡ s = cc in ap (λ (u : Settings). whole u i) z)
+given-is none s e = let z : _≡_ {A = ℕ} 0 1 = cc in absurd (omega arith)
+
+settled : {text : List ℕ} {s t : Settings} {i j k : ℕ} → s ≡ t → j ≡ k → (Sound s) × (Stands text i (settingsText s) j)
+    → (Sound t) × (Stands text i (settingsText t) k)
+settled m n h = rw (← m, ← n) h
+
+-- and nothing else is read as settings
+four-only : (text : List ℕ) (s : Settings) (i j : ℕ) → fourLines text i ≡ whole s j → (Sound s) × (Stands text i (settingsText s) j)
+unfolding fourLines settingsText
+four-only text s i j e =
+    let a = through (ranged lawWord 0 1 text i) _ e in
+    let b = through (ranged setWord 0 127 text (a .place)) _ (a .then) in
+    let c = through (ranged blockWord 1 1048576 text (b .place)) _ (b .then) in
+    let d = through (ranged greetingWord 0 65535 text (c .place)) _ (c .then) in
+    let p = ranged-only lawWord 0 1 text i (a .value) (a .place) (omega arith) (a .first) in
+    let q = ranged-only setWord 0 127 text (a .place) (b .value) (b .place) (omega arith) (b .first) in
+    let r = ranged-only blockWord 1 1048576 text (b .place) (c .value) (c .place) (omega arith) (c .first) in
+    let t = ranged-only greetingWord 0 65535 text (c .place) (d .value) (d .place) (omega arith) (d .first) in
+    let m = got-value (d .then) in
+    let n = got-place (d .then) in
+    settled m n (
+      record { law = p .most; set = q .most; least = r .least; most = r .most; greeting = t .most },
+      chain (p .says) (chain (q .says) (chain (r .says) (t .says))),
+    )
+
+pub settings-only : (text : List ℕ) (s : Settings) → settingsIn text ≡ Is s → (Sound s) × (text ≡ settingsText s)
+unfolding settings
+settings-only text s e =
+    let g = given-is (settings text 0) s e in
+    let m = through (fourLines text 0) _ (g .1) in
+    let o = passed (leb (length text) (m .place)) _ (m .then) in
+    let f = four-only text s 0 (m .place) (m .first ∙ ap (λ (v : Settings). whole v (m .place)) (got-value (o .1))) in
+    (f .0, stands-alone (f .1) (leb-true (length text) (m .place) (o .0)))
