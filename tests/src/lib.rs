@@ -8,6 +8,7 @@
 
 mod codec;
 mod compare;
+pub mod docs;
 pub mod faults;
 pub mod forms;
 pub mod frames;

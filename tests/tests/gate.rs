@@ -121,16 +121,14 @@ impl Copy {
         fs::write(path, text).unwrap();
     }
 
-    /// Runs the copy's gate as CI does.
+    /// Runs the copy's gate as CI does, whatever these tests are compiled for.
     fn gate(&self) -> Ended {
-        let out = Command::new("bash")
-            .arg(".ci/run")
-            .current_dir(&self.root)
-            .env("CI", "true")
-            .env_remove("LD_LIBRARY_PATH")
-            .stdin(Stdio::null())
-            .output()
-            .unwrap();
+        let mut command = Command::new("bash");
+        command.arg(".ci/run").current_dir(&self.root).env("CI", "true");
+        for word in ["LD_LIBRARY_PATH", "CARGO_BUILD_TARGET", "RUSTC", "RUSTDOC"] {
+            command.env_remove(word);
+        }
+        let out = command.stdin(Stdio::null()).output().unwrap();
         let said = String::from_utf8_lossy(&out.stdout).into_owned();
         let report = fs::read_to_string(self.root.join("target/gate.txt")).unwrap_or_default();
         Ended { well: out.status.success(), said, report }

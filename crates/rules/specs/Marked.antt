@@ -67,24 +67,40 @@ All (c ∷ cs) = Says c × All cs
 
 abbrev pub marked : List Case
 marked =
+    -- P1
     reads (0x41 ∷ []) (found 2 (plus 40) 1 8)
+    -- P2
     ∷ reads (0x22 ∷ []) (found 3 (minus 240) 1 8)
+    -- P3
     ∷ reads (0x00 ∷ []) (found 0 [] 1 8)
+    -- P4
     ∷ reads [] (refusal 1 0)
+    -- P5
     ∷ reads (0x46 ∷ []) (refusal 2 0)
+    -- P6
     ∷ writes (inTurn 20) 127 (0x44 ∷ 0x55 ∷ 0x55 ∷ 0x55 ∷ 0x55 ∷ 0x55 ∷ []) 48 5
     ∷ needs (inTurn 20) 6 6
+    -- P7
     ∷ writes (plus 39 ++ minus 1) 127 (0x56 ∷ 0x0F ∷ []) 16 6
     ∷ takes (plus 39 ++ minus 1) 3 11
     ∷ takes (plus 39 ++ minus 1) 4 11
     ∷ takes (plus 39 ++ minus 1) 5 11
+    -- P8
     ∷ writes (plus 40) 33 (0x57 ∷ 0x18 ∷ []) 16 6
+    -- P9
     ∷ reads (0x57 ∷ 0x19 ∷ []) (refusal 7 0)
+    -- P10
     ∷ writes (0xFE ∷ plus 79) 127 (0x86 ∷ 0xFC ∷ 0x00 ∷ []) 23 7
+    -- P11
     ∷ reads (0x86 ∷ 0xFC ∷ 0x01 ∷ []) (refusal 9 0)
+    -- P12
     ∷ reads (0x86 ∷ 0xDC ∷ []) (refusal 5 0)
+    -- P13
     ∷ reads (0x86 ∷ 0xF8 ∷ []) (refusal 6 0)
+    -- P14
     ∷ reads (0x86 ∷ 0xFC ∷ 0xFE ∷ []) (refusal 8 0)
+    -- P15
     ∷ reads (0x28 ∷ 0x00 ∷ []) (refusal 3 8)
+    -- P16
     ∷ reads (0x28 ∷ []) (refusal 1 0)
     ∷ []

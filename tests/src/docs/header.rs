@@ -1,0 +1,103 @@
+//! include/g7110.h: its numbers are those of the definitions, of the code and of wrapper/. That the stack's figure is
+//! enough is measured by tests/tests/header.rs.
+
+use super::{Files, Held};
+use std::collections::BTreeMap;
+
+const HEADER: &str = "include/g7110.h";
+const WRAPPER: &str = "wrapper/src/lib.rs";
+
+/// The names of the header with their numbers: the limits, which are defined, and the endings, which are listed.
+fn numbers(files: &Files, start: &str, between: &str) -> BTreeMap<String, u64> {
+    let lines = files.text(HEADER).lines().filter_map(|line| line.trim_start().strip_prefix(start));
+    let pairs = lines.filter_map(|line| line.split_once(between));
+    pairs.filter_map(|(name, rest)| Some((name.to_string(), first_number(rest)?))).collect()
+}
+
+fn first_number(text: &str) -> Option<u64> {
+    text.chars().take_while(|c| c.is_ascii_digit() || *c == '_').filter(|c| *c != '_').collect::<String>().parse().ok()
+}
+
+/// The refusals have the numbers that a definition gives them, in the header and in the wrapper.
+pub fn refusals(files: &Files) -> Held {
+    let mut held = Held::new("refusals of the header, by the definitions and the wrapper");
+    let mut defined = BTreeMap::from([("OK".to_string(), 0)]);
+    for line in
+        files.under("crates/", ".antt").filter(|(path, _)| path.contains("/specs/")).flat_map(|(_, text)| text.lines())
+    {
+        if let Some((name, number)) = numbered(line) {
+            defined.insert(name.to_uppercase(), number);
+            let told = [format!("::{name} => {number},"), format!("::{name}(_) => {number},")];
+            let wrapper = files.text(WRAPPER);
+            held.hold(told.iter().any(|told| wrapper.contains(told)), || format!("wrapper: {name} is not {number}"));
+        }
+    }
+    let listed = numbers(files, "G7110_", " = ");
+    held.also(listed == defined, || format!("header: {listed:?}\ndefinitions: {defined:?}"));
+    held
+}
+
+/// A clause of a definition of numbers: `refusalNumber Short = 1`, `refusalNumber (Tool t) = 3`.
+fn numbered(line: &str) -> Option<(&str, u64)> {
+    let (left, right) = line.split_once(" = ")?;
+    let (definition, name) = left.split_once(' ')?;
+    let name = name.trim_start_matches('(').split(' ').next()?;
+    let number = right.parse().ok()?;
+    (definition.ends_with("Number") && name.starts_with(char::is_uppercase)).then_some((name, number))
+}
+
+/// Each number that the header defines is a constant of the wrapper; the limits are those of definitions and proofs.
+pub fn limits(files: &Files) -> Held {
+    let mut held = Held::new("limits of the header, by the definitions and the wrapper");
+    let defined = numbers(files, "#define G7110_", " ");
+    let constants = files.text(WRAPPER).lines().filter_map(|line| line.strip_prefix("pub const "));
+    let constants =
+        constants.filter_map(|line| Some((line.split(':').next()?, first_number(line.split(" = ").nth(1)?)?)));
+    let constants: BTreeMap<&str, u64> = constants.collect();
+    for (name, number) in &defined {
+        held.hold(constants.get(name.as_str()) == Some(number), || format!("wrapper: {name} is not {number}"));
+    }
+    for (name, path, before, after) in LIMITS {
+        let number = defined.get(name).map_or("missing".to_string(), u64::to_string);
+        let wanted = format!("{before}{number}{after}");
+        held.also(files.text(path).contains(&wanted), || format!("{name}: {path} does not have: {wanted}"));
+    }
+    let most = |name| defined.get(name).copied().unwrap_or(0);
+    let one_more = most("MAX_WRITTEN") == most("MAX_SAMPLES") + 1;
+    held.also(one_more, || "header: a written frame has one octet more than samples".to_string());
+    held
+}
+
+/// A limit, and the words around it in the definition, the proof or the code that has it.
+const LIMITS: [(&str, &str, &str, &str); 4] = [
+    ("MAX_SAMPLES", "crates/rules/src/lib.rt", "samples: [u8; ", "]"),
+    ("MAX_FRAME", "crates/promises/proofs/Bounded.antt", "octetsUsed f ≤ ", ")"),
+    ("MAX_STREAM", "crates/rules/specs/Walk.antt", "\nlongest = ", "\n"),
+    ("ALL_TOOLS", "crates/rules/specs/Tools.antt", "\nisSet set = leb set ", "\n"),
+];
+
+/// The calls of the header are those of crate g7110 and of the wrapper, with as many entries in their reports.
+pub fn reports(files: &Files) -> Held {
+    let mut held = Held::new("calls and reports of the header, by the crate and the wrapper");
+    let header = calls(files.text(HEADER), "uint32_t ");
+    held.count = header.len();
+    for path in ["crates/g7110/src/lib.rt", "wrapper/src/raw.rs"] {
+        let found = calls(files.text(path), "fn ");
+        held.also(found == header, || format!("{path}: {found:?}\nheader: {header:?}"));
+    }
+    held
+}
+
+/// The functions of C with the entries of their reports, 0 where there is none: `report[4]`, `report: &mut [u64; 4]`.
+fn calls(text: &str, before: &str) -> BTreeMap<String, u64> {
+    let start = format!("{before}g7110_");
+    let declared = text.split(&start).skip(1);
+    let entries = |words: &str| {
+        let report = words.split("report").nth(1)?;
+        report.split(|c: char| !c.is_ascii_digit()).filter_map(|digits| digits.parse().ok()).next_back()
+    };
+    declared
+        .filter_map(|rest| rest.split_once('('))
+        .map(|(name, rest)| (name.to_string(), entries(rest.split(')').next().unwrap_or("")).unwrap_or(0)))
+        .collect()
+}

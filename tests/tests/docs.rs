@@ -1,0 +1,108 @@
+//! The docs against the files that they speak of: statements, names, edits and their first errors, rooms, the header's
+//! numbers, the landings. Then the checks themselves, on a small repository with one thing wrong at a time.
+
+use tests::docs::{all, Files, Held};
+use tests::program::repository;
+use tests::say;
+
+/// The gate sets this: it has tried every edit, so every log must be there.
+const TRIED: &str = "EDITS_TRIED";
+
+#[test]
+fn the_docs_are_true() {
+    let files = Files::read(&repository());
+    let held = all(&files);
+    for Held { what, count, left_out, .. } in &held {
+        say(&format!("compared: docs, {what}: {count} held\n"));
+        if *left_out > 0 {
+            say(&format!("compared: docs, {what}: {left_out} left out: rt must-fail has left no log of them\n"));
+        }
+    }
+    let faults = faults(&held);
+    assert!(faults.is_empty(), "{} differences\n{}", faults.len(), faults.join("\n"));
+    for Held { what, count, left_out, .. } in held {
+        // The landings come with the first request.
+        let none_yet = what == "landings" && !files.has("docs/LANDINGS.md");
+        assert!(count + left_out > 0 || none_yet, "{what}: nothing was held");
+        assert!(left_out == 0 || std::env::var_os(TRIED).is_none(), "{what}: {left_out} logs are missing");
+    }
+}
+
+fn faults(held: &[Held]) -> Vec<String> {
+    held.iter().flat_map(|held| held.faults.iter().map(|fault| format!("{}: {fault}", held.what))).collect()
+}
+
+/// A repository with nothing wrong.
+fn small() -> Files {
+    let parts = include_str!("../data/small-docs.txt").split("==== ").skip(1);
+    Files::of(&parts.filter_map(|part| part.split_once('\n')).collect::<Vec<_>>())
+}
+
+/// What is planted: the start of the name of the check that must see it, a file, a text in it, and another for that.
+const PLANTED: [(&str, &str, &str, &str); 35] = [
+    // Another statement, one that is only the start of what is proved, a field too many.
+    ("statements", "docs/PROMISES.md", "n ≡ n", "n ≡ 0"),
+    ("statements", "crates/promises/proofs/Back.antt", "→ n ≡ n", "→ n ≡ n → n ≡ n"),
+    ("statements", "crates/promises/proofs/Back.antt", "    pub one : ℕ\n", "    pub one : ℕ\n    pub two : ℕ\n"),
+    // Names of definitions, of proofs, of code, and those that only follow one.
+    ("names", "docs/PROMISES.md", "`Back.back`", "`Back.forth`"),
+    ("names", "docs/PROMISES.md", "`back-too`", "`back-two`"),
+    ("names", "docs/PROMISES.md", "`rules::read`", "`rules::reads`"),
+    ("names", "docs/PROMISES.md", "`rules::read`", "`rule::read(law)`"),
+    ("names", "docs/PAPER.md", "`Walk.short`", "`Walk.wide`"),
+    ("names", "docs/PAPER.md", "and `Frame`", "and `Frames`"),
+    ("names", "docs/CONTRACTS.md", "rules: `read`", "rules: `write`"),
+    ("names", "crates/rules/specs/Walk.antt", "longest :", "longer :"),
+    ("names", "crates/rules/src/lib.rt", "fn read", "fn reads"),
+    // Edits: not kept, not named, named twice, of another crate, not kept and named in PAPER.
+    ("must-fail", "docs/CONTRACTS.md", "`too_long`", "`too_wide`"),
+    ("must-fail", "docs/CONTRACTS.md", "| g7110, `too_short` |", "| `too_short` |"),
+    ("must-fail", "docs/CONTRACTS.md", "| g7110, `too_short` |", "| rules, `too_long` |"),
+    ("must-fail", "docs/PAPER.md", "`too_long`", "`too_wide`"),
+    // First errors: of another law, another file, another need, another function, and for the shape alone.
+    ("first errors", "docs/CONTRACTS.md", "Back, `back`", "Back, `other`"),
+    ("first errors", "docs/CONTRACTS.md", "Back, `back`", "Other, `back`"),
+    ("first errors", "docs/CONTRACTS.md", "`returns-2`", "`returns`"),
+    ("first errors", "docs/CONTRACTS.md", "`g7110_read`, ", ""),
+    ("first errors", "target/must-fail/rules/too_long/.log", "the two types differ", "tie has no `Need-returns`"),
+    // Rooms: a crate that is not listed, one that is not there, one above what it stands on, another room.
+    ("rooms", "README.md", "crates/rules, crates/promises", "crates/rules"),
+    ("rooms", "README.md", "crates/g7110", "crates/g7110, crates/bits"),
+    ("rooms", "crates.txt", "promises: rules", "promises: rules g7110"),
+    ("rooms", "README.md", "| tools/ |", "| tool/ |"),
+    // Numbers: a refusal in the header, in the definition, in the wrapper; limits; a report.
+    ("refusals", "include/g7110.h", "G7110_TOOL = 3", "G7110_TOOL = 4"),
+    ("refusals", "crates/rules/specs/Refusals.antt", "Short = 1", "Short = 2"),
+    ("refusals", "wrapper/src/lib.rs", "Tool(_) => 3", "Tool(_) => 2"),
+    ("limits", "include/g7110.h", "VERSION 1", "VERSION 2"),
+    ("limits", "crates/rules/specs/Walk.antt", "= 65535", "= 65536"),
+    ("limits", "crates/promises/proofs/Bounded.antt", "402", "403"),
+    ("calls", "wrapper/src/raw.rs", "[u64; 4]", "[u64; 5]"),
+    // Landings without a time, and a page that names a machine.
+    ("landings", "docs/LANDINGS.md", "812 s", "BEFORE s"),
+    ("landings", "docs/landings/R-01.md", "1,020 s", "more"),
+    ("lines", "docs/PAPER.md", "Reading.", "Reading /home/someone."),
+];
+
+#[test]
+fn each_difference_is_found() {
+    let none = faults(&all(&small()));
+    assert!(none.is_empty(), "{}", none.join("\n"));
+    for (check, path, old, new) in PLANTED {
+        let mut files = small();
+        let text = files.text(path).replacen(old, new, 1);
+        assert_ne!(text, files.text(path), "{path} has no {old}");
+        files.put(path, text);
+        let found = all(&files).into_iter().find(|held| held.what.starts_with(check)).expect("a check");
+        assert!(!found.faults.is_empty(), "{check}: {path}: {new} was not seen");
+    }
+    say(&format!("compared: docs, planted differences: {}, each found\n", PLANTED.len()));
+}
+
+#[test]
+fn a_log_that_is_missing_is_told() {
+    let mut files = small();
+    files.put("target/must-fail/rules/too_long/.log", String::new());
+    let left_out: usize = all(&files).iter().map(|held| held.left_out).sum();
+    assert_eq!(left_out, 1);
+}
