@@ -4,13 +4,16 @@ use crate::raw;
 use std::fmt;
 
 /// The last number given, then eight revisions of five numbers: number, law, set, block, greeting. All content is a state.
-pub type State = [u32; 41];
+pub type State = [u32; SETTINGS];
+
+/// Numbers of a box's settings.
+pub const SETTINGS: usize = 41;
 
 /// The state of a box that nothing was saved in.
-pub const FRESH: State = [0; 41];
+pub const FRESH: State = [0; SETTINGS];
 
 /// Octets that a text is lent. It has at most 67 of them.
-pub const TEXT: usize = 80;
+pub const SETTINGS_TEXT: usize = 80;
 
 /// Octets of a block where a box has no settings.
 pub const NO_SETTINGS_BLOCK: u32 = 16_384;
@@ -82,7 +85,7 @@ pub fn back(state: &mut State, revision: u32) -> Result<u32, Refusal> {
 }
 
 /// A kept revision's text, at the start of what is lent; gives its octets.
-pub fn read(state: &State, revision: u32, text: &mut [u8; TEXT]) -> Result<usize, Refusal> {
+pub fn read(state: &State, revision: u32, text: &mut [u8; SETTINGS_TEXT]) -> Result<usize, Refusal> {
     let mut report = [0];
     let ending = raw::settings_read(state, revision, text, &mut report);
     told(ending, report).map(|octets| octets as usize)

@@ -142,14 +142,14 @@ fn from_several_threads() {
 fn settings_put_back_and_wiped() {
     let old = b"law=1\nset=127\nblock=16384\ngreeting=0\n";
     let mut state = settings::FRESH;
-    let mut text = [0xA7; settings::TEXT];
+    let mut text = [0xA7; settings::SETTINGS_TEXT];
     assert_eq!(settings::read(&state, state[0], &mut text), Err(settings::Refusal::Gone));
     assert_eq!(settings::save(&mut state, old), Ok(1));
     assert_eq!(settings::save(&mut state, b"law=1\nset=1\nblock=65536\ngreeting=7\n"), Ok(2));
     assert_eq!(settings::back(&mut state, 1), Ok(3));
     assert_eq!(settings::read(&state, 3, &mut text), Ok(old.len()));
     assert_eq!(text[..old.len()], old[..]);
-    assert_eq!(text[old.len()..], [0xA7; settings::TEXT][old.len()..]);
+    assert_eq!(text[old.len()..], [0xA7; settings::SETTINGS_TEXT][old.len()..]);
     settings::wipe(&mut state);
     assert_eq!(state[0], 3, "the numbering runs on");
     assert_eq!(state[1..], [0; 40], "nothing of the last tenant is left");

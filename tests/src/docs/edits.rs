@@ -45,8 +45,10 @@ pub fn edits(files: &Files) -> Held {
     for line in files.text("docs/PAPER.md").lines() {
         let Some((_, told)) = line.split_once("Must-fail: ") else { continue };
         let (before, label) = quoted(told).first().copied().unwrap_or(("", ""));
-        let of = before.strip_suffix(", ").unwrap_or("rules");
-        held.hold(kept(of, label), || format!("PAPER: {of} has no edit {label}"));
+        let file = format!("/must-fail/{label}.edit");
+        let below = before.strip_suffix(", ").map_or("crates/".to_string(), |of| format!("crates/{of}/"));
+        let there = files.under(&below, &file).next().is_some();
+        held.hold(there, || format!("PAPER: {below} has no edit {label}"));
     }
     held
 }

@@ -5,7 +5,8 @@ use super::{Files, Held};
 use std::collections::BTreeMap;
 
 const HEADER: &str = "include/g7110.h";
-const WRAPPER: &str = "wrapper/src/lib.rs";
+/// The files of the wrapper, which has each refusal's number and each limit once.
+const WRAPPER: &str = "wrapper/src/";
 
 /// The names of the header with their numbers: the limits, which are defined, and the endings, which are listed.
 fn numbers(files: &Files, start: &str, between: &str) -> BTreeMap<String, u64> {
@@ -28,8 +29,9 @@ pub fn refusals(files: &Files) -> Held {
         if let Some((name, number)) = numbered(line) {
             defined.insert(name.to_uppercase(), number);
             let told = [format!("::{name} => {number},"), format!("::{name}(_) => {number},")];
-            let wrapper = files.text(WRAPPER);
-            held.hold(told.iter().any(|told| wrapper.contains(told)), || format!("wrapper: {name} is not {number}"));
+            let mut wrapper = files.under(WRAPPER, ".rs");
+            let there = wrapper.any(|(_, text)| told.iter().any(|told| text.contains(told)));
+            held.hold(there, || format!("wrapper: {name} is not {number}"));
         }
     }
     let listed = numbers(files, "G7110_", " = ");
@@ -50,7 +52,8 @@ fn numbered(line: &str) -> Option<(&str, u64)> {
 pub fn limits(files: &Files) -> Held {
     let mut held = Held::new("limits of the header, by the definitions and the wrapper");
     let defined = numbers(files, "#define G7110_", " ");
-    let constants = files.text(WRAPPER).lines().filter_map(|line| line.strip_prefix("pub const "));
+    let lines = files.under(WRAPPER, ".rs").flat_map(|(_, text)| text.lines());
+    let constants = lines.filter_map(|line| line.strip_prefix("pub const "));
     let constants =
         constants.filter_map(|line| Some((line.split(':').next()?, first_number(line.split(" = ").nth(1)?)?)));
     let constants: BTreeMap<&str, u64> = constants.collect();

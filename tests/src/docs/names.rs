@@ -5,16 +5,14 @@
 use super::{is_name, quoted, Files, Held};
 
 const PAGES: [&str; 3] = ["docs/PROMISES.md", "docs/PAPER.md", "docs/CONTRACTS.md"];
-/// Where a file is looked for if its crate is not said.
-const PAPER: [&str; 2] = ["rules", "promises"];
 /// A type of the language, whose functions may be named as those of a crate are.
 const TYPE: &str = "u32";
 
 /// Where a name should be.
 #[derive(Clone, PartialEq)]
 enum Home {
-    /// specs/ or proofs/ of a crate, in a file of this name.
-    File(Vec<String>, String),
+    /// specs/ or proofs/ of a crate, or of any where it is not said, in a file of this name.
+    File(Option<String>, String),
     /// src/ of a crate.
     Code(String),
 }
@@ -61,10 +59,11 @@ fn home_of(inside: &str) -> (Option<Home>, &str) {
         return (Some(Home::Code(of.to_string())), name);
     }
     let parts: Vec<&str> = inside.split('.').collect();
-    let own = |of: &[&str], file: &str| Home::File(of.iter().map(|of| of.to_string()).collect(), file.to_string());
     match parts[..] {
-        [file, name] if is_file(file) && is_name(name) => (Some(own(&PAPER, file)), name),
-        [of, file, name] if is_name(of) && is_file(file) && is_name(name) => (Some(own(&[of], file)), name),
+        [file, name] if is_file(file) && is_name(name) => (Some(Home::File(None, file.to_string())), name),
+        [of, file, name] if is_name(of) && is_file(file) && is_name(name) => {
+            (Some(Home::File(Some(of.to_string()), file.to_string())), name)
+        }
         _ => (None, inside),
     }
 }
@@ -81,10 +80,12 @@ fn crate_before(before: &str) -> Option<&str> {
 
 fn stands(files: &Files, home: &Home, name: &str) -> bool {
     match home {
-        Home::File(crates, file) => crates.iter().any(|of| {
-            let paths = ["specs", "proofs"].map(|folder| format!("crates/{of}/{folder}/{file}.antt"));
-            paths.iter().any(|path| files.text(path).lines().any(|line| defines(line, name)))
-        }),
+        Home::File(of, file) => {
+            let ends = ["specs", "proofs"].map(|folder| format!("/{folder}/{file}.antt"));
+            let below = of.as_ref().map_or("crates/".to_string(), |of| format!("crates/{of}/"));
+            let mut texts = ends.iter().flat_map(|end| files.under(&below, end));
+            texts.any(|(_, text)| text.lines().any(|line| defines(line, name)))
+        }
         Home::Code(of) => files.under(&format!("crates/{of}/src/"), ".rt").any(|(_, text)| has_item(text, name)),
     }
 }
