@@ -1,4 +1,4 @@
-//! The docs against the files that they speak of: statements, names, edits and their first errors, rooms, the header's
+//! The docs against the files that they speak of: statements, names, edits and their errors, rooms, the header's
 //! numbers, the landings. Then the checks themselves, on a small repository with one thing wrong at a time.
 
 use tests::docs::{all, Files, Held};
@@ -60,11 +60,11 @@ const PLANTED: [(&str, &str, &str, &str); 35] = [
     ("must-fail", "docs/CONTRACTS.md", "| g7110, `too_short` |", "| rules, `too_long` |"),
     ("must-fail", "docs/PAPER.md", "`too_long`", "`too_wide`"),
     // First errors: of another law, another file, another need, another function, and for the shape alone.
-    ("first errors", "docs/CONTRACTS.md", "Back, `back`", "Back, `other`"),
-    ("first errors", "docs/CONTRACTS.md", "Back, `back`", "Other, `back`"),
-    ("first errors", "docs/CONTRACTS.md", "`returns-2`", "`returns`"),
-    ("first errors", "docs/CONTRACTS.md", "`g7110_read`, ", ""),
-    ("first errors", "target/must-fail/rules/too_long/.log", "the two types differ", "tie has no `Need-returns`"),
+    ("errors of the edits", "docs/CONTRACTS.md", "Back, `back`", "Back, `other`"),
+    ("errors of the edits", "docs/CONTRACTS.md", "Back, `back`", "Other, `back`"),
+    ("errors of the edits", "docs/CONTRACTS.md", "`returns-2`", "`returns`"),
+    ("errors of the edits", "docs/CONTRACTS.md", "`g7110_read`, ", ""),
+    ("errors of the edits", "target/must-fail/rules/too_long/.log", "the two types differ", "tie has no `Need-returns`"),
     // Rooms: a crate that is not listed, one that is not there, one above what it stands on, another room.
     ("rooms", "README.md", "crates/rules, crates/promises", "crates/rules"),
     ("rooms", "README.md", "crates/g7110", "crates/g7110, crates/bits"),
