@@ -68,21 +68,29 @@ fn the_programs_agree() {
     refusals(&mut listed, &mut rng);
     for turn in 0..DRAWN {
         let (letter, law) = (b"AM"[turn % 2], turn as u32 % 2);
-        let most = if turn % 10 == 0 { 65_535 } else { 1 + rng.below(3_000) };
-        let whole = Stream::mixed(most, law, &mut rng).octets;
+        let whole = drawn(turn, law, &mut rng);
         listed.check("whole streams", &with_letter(letter, &whole));
         let cut = rng.below(whole.len() + 1);
         listed.check("cut streams", &with_letter(letter, &whole[..cut]));
-        if !whole.is_empty() {
-            let mut damaged = damage_somehow(&whole, &mut rng);
-            damaged.truncate(65_535);
-            listed.check("damaged streams", &with_letter(letter, &damaged));
-        }
+        let mut damaged = damage_somehow(&whole, &mut rng);
+        damaged.truncate(65_535);
+        listed.check("damaged streams", &with_letter(letter, &damaged));
         let long = rng.below(2_000);
         listed.check("random octets", &with_letter(letter, &rng.octets(long)));
     }
     listed.table.close();
     assert!(listed.faults.is_empty(), "{} differences\n{}", listed.faults.len(), listed.faults.join("\n"));
+}
+
+/// A stream of one octet or more, so that it can be damaged; every tenth is long.
+fn drawn(turn: usize, law: u32, rng: &mut Prng) -> Vec<u8> {
+    loop {
+        let most = if turn % 10 == 0 { 65_535 } else { 1 + rng.below(3_000) };
+        let octets = Stream::mixed(most, law, rng).octets;
+        if !octets.is_empty() {
+            return octets;
+        }
+    }
 }
 
 /// No octet, one, and every first octet of a stream.

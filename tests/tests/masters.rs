@@ -117,7 +117,7 @@ fn a_stream_that_is_refused() {
     let mut room = room("refused");
     let ran = room.run("unpack", "-u -w", &[0x41, 0x00, 0x56, 0x0F, 0x86]);
     let sound = [vec![0xFF; 79], vec![0x7F]].concat();
-    ran.ends(Stop::new(1, 4, 0)).writes(&wav(&values_of(&sound, 1)));
+    ran.ends(Stop { bit: 8, ..Stop::new(1, 4, 0) }).writes(&wav(&values_of(&sound, 1)));
     let ran = room.run("unpack", "-a -w", &[]);
     ran.ends(Stop::new(0, 0, 0)).writes(&wav(&[]));
     tell("a stream that is refused, and an empty one", &room);
