@@ -2,11 +2,13 @@
 //! through the static library, against the second program and against the samples that each was made of.
 
 use second::gen::Prng;
-use tests::forms::{filled_form, rows, Fills, Form, LENGTHS};
+use tests::forms::{filled_form, rows, Fills, Form, Row, LENGTHS, ROWS};
 use tests::{ending, say, share, Ask, Pair, Proved, Second, Table};
 
 /// Frames wanted in a cell.
-const WANTED: usize = share(1_000);
+const WANTED: usize = share(3_000);
+/// The same frames once more, by row and method: wanted in each cell.
+const WANTED_BY_ROW: usize = share(1_000);
 /// The methods that fill: D bits, runs, a list; and those that may follow.
 const BY: [(&str, &[usize]); 3] = [("bits", &[0]), ("runs", &[1, 2, 3, 4]), ("a list", &[7])];
 const NEXT: [(&str, &[usize]); 4] = [("000", &[0]), ("runs", &[1, 2, 3, 4]), ("101", &[5]), ("111", &[7])];
@@ -46,6 +48,26 @@ fn cells() -> Vec<(String, usize, usize, &'static [usize], Option<&'static [usiz
     all
 }
 
+fn row_and_method(row: &Row, by: usize) -> String {
+    format!("case {}, flag {}, method {by}", row.case, row.flag)
+}
+
+/// The cells of row, flag, method and length. A list fills no first value.
+fn by_row() -> Table {
+    let methods: Vec<usize> = BY.iter().flat_map(|(_, by)| by.iter().copied()).collect();
+    let names: Vec<String> = ROWS.iter().flat_map(|row| methods.iter().map(|by| row_and_method(row, *by))).collect();
+    let mut table = Table::new("no place left, or one, by row, method and length", &names, &LENGTHS, WANTED_BY_ROW);
+    for length in LENGTHS {
+        for row in &ROWS {
+            let there = rows(length).iter().any(|other| (other.case, other.flag) == (row.case, row.flag));
+            for by in methods.iter().filter(|by| !there || **by == 7 && row.values.len() == 1) {
+                table.never(row_and_method(row, *by), length);
+            }
+        }
+    }
+    table
+}
+
 /// Every row, flag, method and length; by the first, second and third value; every method after it.
 #[test]
 fn frames_without_a_zero() {
@@ -53,6 +75,7 @@ fn frames_without_a_zero() {
     let cells = cells();
     let names: Vec<&String> = cells.iter().map(|(name, ..)| name).collect();
     let mut table = Table::new("no place left, or one, by value and length", &names, &LENGTHS, WANTED);
+    let mut by_row = by_row();
     for (name, value, left, by, next) in &cells {
         for length in LENGTHS {
             // The last value of a row is followed by none. A list fills no first value, and none is read where no place is.
@@ -71,10 +94,12 @@ fn frames_without_a_zero() {
                 let form = filled_form(length, law, fills, &mut rng).expect("a list has a value before it");
                 read_whole_and_cut(&mut pair, &form, law, &mut rng);
                 table.add(name, length);
+                by_row.add(row_and_method(&row, fills.by), length);
             }
         }
     }
     table.close();
+    by_row.close();
     say(&format!("compared: read, frames with no place left or one, whole and cut: {} calls\n", pair.calls));
     pair.close();
 }
