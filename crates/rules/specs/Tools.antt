@@ -7,9 +7,12 @@ use lib.Dec.{eqb, leb}
 use Rattle.rules.specs.declared.Refusal.the-variants.{Set, Law}
 use Rattle.rules.specs.Refusals.{Asked, ask}
 
--- "Tool t (1 to 7) adds 2^(t-1)": whether a set holds tool t
+-- "Tool t (1 to 7) adds 2^(t-1)": what is a tool, and whether a set holds it
+abbrev pub isTool : ℕ → Bool
+isTool t = leb 1 t && leb t 7
+
 unfoldable pub holds : ℕ → ℕ → Bool
-holds set t = leb 1 t && leb t 7 && eqb (set / 2 ^ (t - 1) % 2) 1
+holds set t = isTool t && eqb (set / 2 ^ (t - 1) % 2) 1
 
 -- one's tools within the other's
 pub record Within (a b : ℕ) : Type 0 where
