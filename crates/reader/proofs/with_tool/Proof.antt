@@ -71,7 +71,7 @@ module _ (c : tie.After-body-of) where
   -- and it has the frame's length
   sized : {len bits : ℕ} (e : c .body-of .result ≡ Got len bits) → s .args .h .len ≡ length (body-whole fills e .s)
   sized e = body-size (s .args .law) (s .args .h .tool) (s .args .h .len) (s .args .h .mark) (s .pre .0 .len) (s .args .octets .now) (s .args .h .at)
-        (omega (arith, s .pre .0 .at, s .pre .1))
+      (omega (arith, s .pre .0 .at, s .pre .1))
       (body-whole fills e .says)
 
 enum-known-why : tie.Need-enum-known-why
