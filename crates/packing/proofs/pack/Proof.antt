@@ -39,7 +39,8 @@ returns c =
     let met = all-met (writerAsks (a .law) (a .set)) (sym (t .before .before .guard-writer .ensures) ∙ t .enum-told .given .1) in
     let l = c .before .before .is-length in
     stops (c .stopped2 .ensures) (a .law) (a .set) _
-    (no-length (a .sound .now) (a .law) (a .set) (a .n) (length (a .out .now)) (met .0) (met .1 .0) (sym (l .ensures) ∙ not-true (l .result) (c .before .if1 .taken)))
+    (no-length (a .sound .now) (a .law) (a .set) (a .n) (length (a .out .now)) (met .0) (met .1 .0)
+    (sym (l .ensures) ∙ not-true (l .result) (c .before .if1 .taken)))
     (a .out .now)
 
 frames-requires : tie.Need-frames-requires
