@@ -3,24 +3,13 @@ use Prim.Native.Nat.{ℕ, zero, suc, _+_, _≤_, _<_}
 use mathlib.Core.Path.{_≡_, refl, sym, ap, _∙_}
 use mathlib.Core.List.{List, map}
 use native.Mathlib.Omega.{arith}
-use lib.Bits.{xor-zero-l}
 use lib.ListN.{length, length-map}
 use Rattle.rules.specs.Reading.{Read, whole}
-use Rattle.rules.specs.Samples.{sampleOf, plusZero, minusZero}
 use Rattle.rules.proofs.Octets.{Below, none, more}
 use Rattle.bits.specs.declared.Outcome.the-variants.{Got}
 use Rattle.runs.specs.Flagged.{kindOf, kinds}
 use Rattle.runs.proofs.Answer.{Marks-as}
 use Rattle.bodies.specs.Bodied.{FillsBody}
-
--- "plus zero is 0, minus zero is -1"
-pub plus-zero : (mask : ℕ) → plusZero mask ≡ 128 + mask
-unfolding sampleOf
-plus-zero mask = rw xor-zero-l
-
-pub minus-zero : (mask : ℕ) → minusZero mask ≡ mask
-unfolding sampleOf
-minus-zero mask = xor-zero-l mask
 
 -- two kinds are all that flags of 0 and 1 tell
 kind-flag : (g : ℕ → ℕ) (f : ℕ) → f < 2 → kindOf (g 0) (g 1) f ≡ g f

@@ -10,13 +10,6 @@ use lib.Dec.{eqb}
 use Rattle.rules.specs.Samples.{maskOf, plusZero}
 use Rattle.cutting.specs.Cuts.{toFill, FillsUp}
 
-pub mask-low : (law : ℕ) → maskOf law < 128
-mask-low law = go (eqb law 0)
-  where
-    go : (b : Bool) → cond b 0x55 0x7F < 128
-    go true = omega arith
-    go false = omega arith
-
 module _ (sound₀ : List ℕ) (len more plus : ℕ) where
   pub record Filling (sound : List ℕ) (i : ℕ) : Type 0 where
     pub is : sound ≡ paste sound₀ len (replicate more plus) i

@@ -58,24 +58,10 @@ largest-is m =
     last true e = one refl (leb-true 40 m e) (omega arith)
     last false e = none (leb-false 40 m e)
 
--- a length is the largest up to itself, and 0 is none
+-- a length is the largest up to itself
 pub largest-self : (n : ℕ) → isLength n ≡ true → largestUpTo n ≡ n
 unfolding largestUpTo
 largest-self n l = by-length (λ n. largestUpTo n ≡ n) refl refl refl refl refl n l
-
-pub zero-no-length : (n : ℕ) → n ≡ 0 → false ≡ isLength n
-zero-no-length n e = rw e
-
-never : true ≡ false → ⊥
-never e = let z : _≡_ {A = ℕ} 0 1 = cc in absurd (omega arith)
-
-pub length-told : (n r : ℕ) → (n ≡ 0 → ⊥) → r ≡ largestUpTo n → eqb r n ≡ isLength n
-length-told n r h e = rw e (go (isLength n) refl (largestUpTo n) refl (largest-is n))
-  where
-    go : (b : Bool) → isLength n ≡ b → (m : ℕ) → m ≡ largestUpTo n → Largest n m → eqb m n ≡ b
-    go true i m k l = eq-eqb m n (k ∙ largest-self n i)
-    go false i m k (none z) = ne-eqb 0 n (λ q. h (sym q))
-    go false i m k (one a b c) = ne-eqb m n (λ q. never (sym (rw q at a) ∙ i))
 
 -- the frame length itself wherever it fits
 pub next-whole : (n left : ℕ) → isLength n ≡ true → n ≤ left → nextLength n left ≡ n

@@ -2,7 +2,6 @@
 ghost use Prim.Native.Nat.{_+_, _≤_};
 ghost use mathlib.Core.Path.{_≡_};
 ghost use lib.ListN.{length};
-ghost use Rattle.rules.specs.Tools.{isLength};
 ghost use Rattle.cutting.specs.Cuts.{largestUpTo, nextLength, lastEnd, toFill, FillsUp};
 ghost use Rattle.cutting.specs.Parts.{goesOn, numberFor};
 use rules::Ending;
@@ -38,16 +37,6 @@ pub fn next_length(n: usize, left: usize) -> usize
         return largest_up_to(n);
     }
     largest_up_to(left)
-}
-
-// A length is the largest up to itself.
-pub fn is_length(n: usize) -> bool
-    ensures { λ r. ⌜ r ≡ isLength n ⌝ }
-{
-    if n == 0 {
-        return false;
-    }
-    largest_up_to(n) == n
 }
 
 // How a sound ends with so many octets left that no length fits.

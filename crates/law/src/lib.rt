@@ -10,7 +10,8 @@ pub fn mask_of(law: u32) -> u8
     if law == 0 { 0x55 } else { 0x7F }
 }
 
-// "y is the sample xor mask, low 7 bits; it maps to y if the sample is 128 or more, else to -y - 1"
+// "y is the sample xor mask, low 7 bits; it maps to y if the sample is 128 or more, else to -y - 1".
+// No call of ours asks it: it stands here because document 01 names this map and its signed result (its "right form for each place").
 pub fn signed_of(mask: u8, sample: u8) -> i8
     ensures { λ r. ⌜ r ≡ signed mask sample ⌝ }
 {

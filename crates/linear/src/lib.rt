@@ -135,7 +135,7 @@ fn is_frame(n: usize) -> bool
 fn judge(law: u32, n: usize, room: usize) -> Ending
     ensures { λ r. ⌜ r ≡ judged law n room ⌝ }
 {
-    if 1 < law {
+    if rules::MOST_LAW < law {
         return Ending::Refused(Refusal::Law);
     }
     if is_frame(n) {

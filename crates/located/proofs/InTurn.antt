@@ -57,10 +57,7 @@ lays-as {equal = equal} {n = n} {old = old} {mid = mid} {new = new} t e d k =
     go (whole cells next) (l, m) = (l, m ∙ ap (λ (k : List ℕ). cells ++ k) d)
     go (refuse w at) u = tt
 
--- the samples of the body, and a body that is refused
-pub body-refused : {found : Read (List ℕ)} {far : ℕ} {old new : List ℕ} {w : Refusal} {b : ℕ} → found ≡ refuse w b → length new ≡ 320 → FillsBody found far old new (Refused w b)
-body-refused e room = rw e (record { end = refl; next = zero-le; samples = room })
-
+-- the samples of the body
 pub lays-body : {found equal : Read (List ℕ)} {n near far : ℕ} {old new : List ℕ} {r : Outcome} → LaysCells equal n near old new r → found ≡ equal → n ≤ 320 → near ≤ far
     → FillsBody found far old new r
 lays-body {equal = equal} {n = n} {near = near} {far = far} {old = old} {new = new} {r = r} t e h k = rw e (go equal t)

@@ -13,6 +13,7 @@ use Rattle.rules.specs.declared.Refusal.the-variants.{Case}
 use Rattle.rules.specs.Reading.{whole, refuse, numberFrom}
 use Rattle.rules.specs.Samples.{sampleOf, plusZero}
 use Rattle.rules.specs.Located.{RangeCase, case0, case1, case2, case3, caseOf, rowValues, valuesOf, valuesInto, located}
+use Rattle.rules.proofs.Signed.{plus-zero}
 use Rattle.rules.proofs.Accepted.{by-case}
 use Rattle.located.specs.declared.Row.{Row}
 use Rattle.located.specs.Valued.{Apart, RowOf}
@@ -25,10 +26,6 @@ pub record Three (mask : ℕ) : Type 0 where
   pub one : sampleOf mask (pos 1) ≡ 127 + mask
   pub minus : sampleOf mask (negsuc 0) ≡ mask
   pub less : sampleOf mask (negsuc 1) ≡ mask - 1
-
-pub plus-zero : (mask : ℕ) → plusZero mask ≡ 128 + mask
-unfolding sampleOf
-plus-zero mask = rw (xor-zero-l mask)
 
 pub three : (mask : ℕ) → mask % 2 ≡ 1 → Three mask
 unfolding sampleOf

@@ -9,6 +9,7 @@ use Rattle.texts.specs.declared.Number.the-variants.{Is, Not}
 use Rattle.options.specs.declared.Argument.{Argument}
 use Rattle.options.specs.declared.Argument.the-variants.{File, Law, Fill, Form, Waits, Counts, Unknown}
 use Rattle.options.specs.declared.Settings.{Settings}
+use Rattle.rules.specs.Tools.{allTools}
 use Rattle.filenames.specs.Names.{unknown, lawTold}
 use Rattle.texts.specs.Numbers.{numberIn}
 
@@ -36,10 +37,10 @@ argumentOf packs text =
     (cond (eqb (length text) 1 || not (eqb (getD text 0 0) 0x2D)) File
     (cond (eqb (length text) 2) (letterOf packs (getD text 1 0)) (numberedOf packs (getD text 1 0) (drop 2 text))))
 
--- before any argument: the frame length is 160 and the set 127 unless said; the sound is raw G.711 (0); files are given by their arguments' numbers, 0 is none
+-- before any argument: the frame length is 160 and the set has all tools unless said; the sound is raw G.711 (0); files are given by their arguments' numbers, 0 is none
 abbrev pub atFirst : Bool → Settings
 atFirst packs =
-    record { packs = packs; law = unknown; length = 160; set = 127; fill = false; form = 0; infile = 0; outfile = 0; master = 0; wants = 0; wrong = 0; place = 0 }
+    record { packs = packs; law = unknown; length = 160; set = allTools; fill = false; form = 0; infile = 0; outfile = 0; master = 0; wants = 0; wrong = 0; place = 0 }
 
 -- what is wrong with argument i: an option that is not known (1), no number (2), a file too many (3), a word that is missing (4), too long (5)
 abbrev pub withWrong : Settings → ℕ → ℕ → Settings

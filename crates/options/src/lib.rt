@@ -42,7 +42,7 @@ pub fn at_first(packs: bool) -> Settings
         packs,
         law: 2,
         length: 160,
-        set: 127,
+        set: rules::ALL_TOOLS,
         fill: false,
         form: 0,
         infile: 0,

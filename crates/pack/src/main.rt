@@ -4,6 +4,7 @@ ghost use Prim.Native.Nat.{_+_, _≤_, _<_};
 ghost use mathlib.Core.Path.{_≡_};
 ghost use mathlib.Core.Bool.{true};
 ghost use lib.ListN.{length};
+ghost use Rattle.rules.specs.Walk.{longest};
 ghost use Rattle.cutting.specs.Parts.{partSize};
 ghost use Rattle.pack.specs.Runs.{FilledIf, WholeSound, Stands, stepsLeft};
 use options::Settings;
@@ -34,7 +35,7 @@ fn filled_up(fill: bool, part: &mut [u8], count: usize, law: u32) -> usize
 
 // One part read and packed.
 fn next_part(fd: i32, run: Run, s: Settings, part: &mut [u8], out: &mut [u8]) -> Run
-    requires { ⌜ (Stands s (now out) run) × (run .more ≡ true) × (length (now out) ≤ 65535) × (length (now part) ≡ partSize) ⌝ }
+    requires { ⌜ (Stands s (now out) run) × (run .more ≡ true) × (length (now out) ≤ longest) × (length (now part) ≡ partSize) ⌝ }
     ensures stands { λ r. ⌜ Stands s (now (out .exit)) r ⌝ }
     ensures less { λ r. ⌜ stepsLeft (length (now (out .entry))) r < stepsLeft (length (now (out .entry))) run ⌝ }
 {
@@ -66,7 +67,7 @@ fn next_part(fd: i32, run: Run, s: Settings, part: &mut [u8], out: &mut [u8]) ->
 
 // Part after part, until the sound ends, is refused or can't be read.
 fn all_parts(fd: i32, start: Run, s: Settings, part: &mut [u8], out: &mut [u8]) -> Run
-    requires { ⌜ (Stands s (now out) start) × (length (now out) ≤ 65535) × (length (now part) ≡ partSize) ⌝ }
+    requires { ⌜ (Stands s (now out) start) × (length (now out) ≤ longest) × (length (now part) ≡ partSize) ⌝ }
     ensures { λ r. ⌜ Stands s (now (out .exit)) r ⌝ }
 {
     let mut run = start;
@@ -80,7 +81,11 @@ fn all_parts(fd: i32, start: Run, s: Settings, part: &mut [u8], out: &mut [u8]) 
 // Why the settings are refused.
 fn explain_settings(number: u32) {
     if number == 11 {
-        console::say(b"pack: the tool set is an odd number of at most 127\n");
+        console::say_number(
+            b"pack: the tool set is an odd number of at most ",
+            rules::ALL_TOOLS as usize,
+        );
+        console::say(b"\n");
     }
     if number == 10 {
         console::say(b"pack: the frame length is 40, 80, 160, 240 or 320\n");
@@ -93,9 +98,8 @@ fn explain_sound(number: u32) {
         console::say(b"pack: no length fits the octets at the end; -f fills them up\n");
     }
     if number == 13 {
-        console::say(
-            b"pack: the stream would be longer than 65535 octets; the sound up to the place below fits\n",
-        );
+        console::say_number(b"pack: the stream would be longer than ", rules::LONGEST);
+        console::say(b" octets; the sound up to the place below fits\n");
     }
 }
 
@@ -160,7 +164,7 @@ fn finish(run: Run, s: Settings, in_name: &[u8], out_name: &[u8], out: &[u8])
 
 // The settings are judged by packing no sound, before any file is opened.
 fn pack_file(s: Settings, in_name: &[u8], out_name: &[u8], part: &mut [u8], out: &mut [u8])
-    requires { ⌜ (length (now out) ≤ 65535) × (length (now part) ≡ partSize) ⌝ }
+    requires { ⌜ (length (now out) ≤ longest) × (length (now part) ≡ partSize) ⌝ }
 {
     let packed = packing::pack(b"", s.law, s.set, s.length as usize, out);
     let e = packed.end;
@@ -200,7 +204,7 @@ fn pack_named(s: Settings, in_name: &[u8], name: &mut [u8]) {
     }
     let n = t.len;
     let mut part = [0u8; 61440];
-    let mut out = [0u8; 65535];
+    let mut out = [0u8; rules::LONGEST];
     pack_file(s, in_name, &name[..n], &mut part, &mut out);
 }
 

@@ -5,10 +5,11 @@ use mathlib.Core.List.{List, [], _∷_, _++_}
 use mathlib.Core.Bool.{cond, not}
 use lib.ListN.{length}
 use lib.Dec.{ltb}
-use Rattle.rules.specs.declared.Refusal.the-variants.{Room, Length, Set, Law}
+use Rattle.rules.specs.declared.Refusal.the-variants.{Room, Length}
 use Rattle.rules.specs.declared.Ending.{Ending}
 use Rattle.rules.specs.declared.Ending.the-variants.{Refused}
-use Rattle.rules.specs.Tools.{isWriterSet, isLaw, isLength}
+use Rattle.rules.specs.Refusals.{judged}
+use Rattle.rules.specs.Tools.{writerAsks, isLength}
 use Rattle.rules.specs.Bits.{pack}
 use Rattle.rules.specs.Samples.{maskOf}
 use Rattle.rules.specs.Chooses.{chosen}
@@ -47,10 +48,9 @@ putAll law set room (s ∷ frames) end =
 -- "LAW, SET, then LENGTH"; then frame by frame from the start
 unfoldable pub packAll : List ℕ → ℕ → ℕ → ℕ → ℕ → Packed
 packAll sound law set n room =
-    cond (not (isLaw law)) (halted (Refused Law))
-    (cond (not (isWriterSet set)) (halted (Refused Set))
+    judged (writerAsks law set) (λ why. halted (Refused why))
     (cond (not (isLength n)) (halted (Refused Length))
-    (putAll law set room (cuts n sound) (endOf n sound))))
+    (putAll law set room (cuts n sound) (endOf n sound)))
 
 -- what packing reports: the frames packed, the sound in them and their octets, which stand at the output's start; the rest is as lent
 pub record Packs (law set : ℕ) (p : Packed) (r : PackAnswer) (out out′ : List ℕ) : Type 0 where

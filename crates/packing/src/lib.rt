@@ -7,7 +7,6 @@ ghost use Rattle.rules.specs.Tools.{isLaw, isWriterSet};
 ghost use Rattle.cutting.specs.Cuts.{cuts, endOf};
 ghost use Rattle.packing.specs.Packing.{putAll, Packs, Pack};
 ghost use Rattle.packing.specs.Parts.{PutsFrame, StopsAtOnce, PackOn};
-use cutting::is_length;
 use cutting::last_end;
 use cutting::next_length;
 use rules::Ending;
@@ -89,19 +88,15 @@ fn stopped(why: Refusal) -> PackAnswer
 pub fn pack(sound: &[u8], law: u32, set: u32, n: usize, out: &mut [u8]) -> PackAnswer
     ensures { λ r. ⌜ Pack (now (sound .entry)) law set n (now (out .entry)) (now (out .exit)) r ⌝ }
 {
-    if 1 < law {
-        return stopped(Refusal::Law);
+    match rules::guard_writer(law, set) {
+        Ending::Refused(why) => stopped(why),
+        Ending::Done => {
+            if !rules::is_length(n) {
+                return stopped(Refusal::Length);
+            }
+            frames(sound, law, set, n, out)
+        }
     }
-    if 127 < set {
-        return stopped(Refusal::Set);
-    }
-    if set % 2 == 0 {
-        return stopped(Refusal::Set);
-    }
-    if !is_length(n) {
-        return stopped(Refusal::Length);
-    }
-    frames(sound, law, set, n, out)
 }
 
 // The next part of a sound. Where the parts before it are whole frames, this is packing all of the sound at once (proofs/Parts).

@@ -31,10 +31,12 @@ use Rattle.rules.proofs.Accepted.{gives-body}
 use Rattle.rules.proofs.Laid.{empty-all, lay-count}
 use Rattle.rules.proofs.Each.{Each, nothing, next}
 use Rattle.rules.proofs.Signed.{LawMask, law-mask}
-use Rattle.promises.proofs.Reach.{never, near-bit, near-more}
+use Rattle.rules.proofs.Room.{length-most}
+use Rattle.rules.proofs.Gives.{no-refusal}
+use Rattle.promises.proofs.Reach.{near-bit, near-more}
 use Rattle.promises.proofs.Rows.{few-values}
 use Rattle.promises.proofs.Methods.{ones}
-use Rattle.promises.proofs.Bounded.{Costs, costs-near, near-numberFrom, near-bitsFrom, costs-rice, costs-runs, costs-method, width-most, depth, near-tree, tree-depth, tree-leaves, at-most-320, costs-six, costs-other, plain}
+use Rattle.promises.proofs.Bounded.{Costs, costs-near, near-numberFrom, near-bitsFrom, costs-rice, costs-runs, costs-method, width-most, depth, near-tree, tree-depth, tree-leaves, costs-six, costs-other, plain}
 use Rattle.promises.proofs.Further.{SixOrEight, six, eight, six-or-eight, bit-there, mark-first, nothing-short}
 use Rattle.promises.proofs.Refused.{refused-walk, Begins, walkable, unlawful, no-set, too-long, walk-begins}
 use Rattle.promises.proofs.Points.{same-refusal, same-bit, near-zeros}
@@ -45,7 +47,7 @@ pub record Asks {A : Type 0} (c k : ℕ) (p : Reader A) : Type 0 where
   pub asks : (b : List ℕ) → Below 2 b → (i : ℕ) → i ≤ length b → (at : ℕ) → p b i ≡ refuse Short at → at + c < i + k
 
 asks-give : {A : Type 0} (c k : ℕ) (a : A) → Asks c k (give a)
-asks-give c k a = record { asks = λ b z i h at e. never (sym e) }
+asks-give c k a = record { asks = λ b z i h at e. no-refusal (sym e) }
 
 asks-fail : {A : Type 0} (c k : ℕ) (w : Refusal) (at : ℕ) → (w ≡ Short → ⊥) → Asks {A = A} c k (fail w at)
 asks-fail c k w at other = record { asks = λ b z i h at e. absurd (other (same-refusal e)) }
@@ -55,7 +57,7 @@ unfolding bit
 asks-bit = record { asks = λ b z i h at e. go (getD b i 0) i (ltb i (length b)) at e }
   where
     go : (v i : ℕ) (t : Bool) (at : ℕ) → cond t (whole v (i + 1)) (refuse Short i) ≡ refuse Short at → at + 0 < i + 1
-    go v i true at e = never (sym e)
+    go v i true at e = no-refusal (sym e)
     go v i false at e = omega (arith, same-bit e)
 
 asks-cond : {A : Type 0} {c k : ℕ} {p q : Reader A} (t : Bool) → (t ≡ true → Asks c k p) → (t ≡ false → Asks c k q) → Asks c k (cond t p q)
@@ -216,7 +218,7 @@ asks-six : (mask n mark : ℕ) → isLength n ≡ true → Asks 0 3526 (body mas
 unfolding body
 asks-six mask n mark l =
     let few = leb-true (depth (treeOf n)) 6 (tree-depth n l) in
-    let small = at-most-320 n l in
+    let small = length-most n l in
     asks-then 0 3526 (λ s. 6) (gives-readTree (λ s. s ≤ 9) (treeOf n) (tree-leaves n l))
     (costs-near 6 (near-more (depth (treeOf n)) 6 few (near-tree (treeOf n))))
     (pays 0 (depth (treeOf n)) 3526 (omega arith) (asks-tree (treeOf n))) (λ s h.
@@ -238,13 +240,13 @@ asks-other {mask} l t n mark h ne =
     asks-located l n h))))))
 
 -- a body that asks for k at most and has c bits at most, and then its filling
-asks-withTool : {mask : ℕ} → LawMask mask → (set room t n mark c k : ℕ) → c + 7 ≤ k → Costs 0 (λ s. c) (body mask t n mark) → Asks 0 k (body mask t n mark)
+asks-withTool : {mask : ℕ} → LawMask mask → (set room t n mark c k : ℕ) → isLength n ≡ true → c + 7 ≤ k → Costs 0 (λ s. c) (body mask t n mark) → Asks 0 k (body mask t n mark)
     → Asks 0 k (withTool mask set room t n mark)
 unfolding withTool
-asks-withTool {mask} l set room t n mark c k h g s =
+asks-withTool {mask} l set room t n mark c k len h g s =
     asks-cond (not (holds set t)) (λ e. asks-fail 0 k (Tool t) 0 (is-not (Tool t) (omega arith))) (λ e.
     asks-cond (ltb room n) (λ e. asks-fail 0 k Room 0 (is-not Room (omega arith))) (λ e.
-    asks-then 0 k (λ s. c) (gives-body l t n mark) g s (λ samples q. asks-here (0 + c) k (λ bits.
+    asks-then 0 k (λ s. c) (gives-body l t n mark len) g s (λ samples q. asks-here (0 + c) k (λ bits.
     pays (0 + c) (fillFor bits) k (omega arith) (asks-filled (record { tool = t; samples = samples; bits = bits }) (fillFor bits))))))
 
 -- the frame: 3,533 bits at most
@@ -256,21 +258,21 @@ asks-sixNotEight =
 -- the tool is 6 or 8, and 8 is in no set
 asks-six-or-eight : {mask : ℕ} → LawMask mask → (set room n mark t : ℕ) → isLength n ≡ true → SixOrEight t → Asks 0 3526 (withTool mask set room t n mark)
 asks-six-or-eight {mask} l set room n mark t len six =
-    asks-withTool l set room 6 n mark (6 + 10 * n) 3526 (omega (arith, at-most-320 n len)) (costs-six mask n mark len) (asks-six mask n mark len)
+    asks-withTool l set room 6 n mark (6 + 10 * n) 3526 len (omega (arith, length-most n len)) (costs-six mask n mark len) (asks-six mask n mark len)
 asks-six-or-eight {mask} l set room n mark t len eight =
-    asks-withTool l set room 8 n mark 2686 3526 (omega arith) (costs-other l 8 n mark (at-most-320 n len) (omega arith))
-    (pays 0 3047 3526 (omega arith) (asks-other l 8 n mark (at-most-320 n len) (omega arith)))
+    asks-withTool l set room 8 n mark 2686 3526 len (omega arith) (costs-other l 8 n mark (length-most n len) (omega arith))
+    (pays 0 3047 3526 (omega arith) (asks-other l 8 n mark (length-most n len) (omega arith)))
 
 after-asks : {mask : ℕ} → LawMask mask → (set room : ℕ) (first : First) → plain first ≡ true → {b : List ℕ} → Below 2 b → 8 ≤ length b
     → (at : ℕ) → afterFirst mask set room first b 8 ≡ refuse Short at → at < 3533
 unfolding afterFirst
 after-asks l set room unassigned p z h at e = absurd (is-not Prefix (omega arith) (same-refusal e))
-after-asks l set room pad p z h at e = never (sym e)
+after-asks l set room pad p z h at e = no-refusal (sym e)
 after-asks {mask} l set room (tool t n) p {b} z h at e =
     let len = and-right (not (eqb t 6)) (isLength n) p in
     let ne = eqb-false t 6 (not-true (eqb t 6) (and-left (not (eqb t 6)) (isLength n) p)) in
-    let small = at-most-320 n len in
-    omega (arith, asks-withTool l set room t n 0 2686 3047 (omega arith) (costs-other l t n 0 small ne) (asks-other l t n 0 small ne) .asks b z 8 h at e)
+    let small = length-most n len in
+    omega (arith, asks-withTool l set room t n 0 2686 3047 len (omega arith) (costs-other l t n 0 small ne) (asks-other l t n 0 small ne) .asks b z 8 h at e)
 after-asks {mask} l set room (sixOrEight n) p {b} z h at e =
     let m = bit-there b [] (markAt n) (omega (arith, mark-first n)) in
     go (sixNotEight b (markAt n + 1)) refl (rw (m .0) at e)

@@ -24,7 +24,7 @@ use Rattle.rules.proofs.Octets.{Below, length-bitsOf, bitsOf-append, bitsOf-bel
 use Rattle.rules.proofs.Accepted.{read-accepts}
 use Rattle.rules.proofs.Tests.{and-right}
 use Rattle.promises.proofs.Frame.{first-eight, value-small}
-use Rattle.promises.proofs.Reach.{never}
+use Rattle.rules.proofs.Gives.{no-refusal}
 use Rattle.promises.proofs.Further.{Goes, short, same, nothing-short, bit-there, mark-first, read-goes, looks-no-further}
 use Rattle.promises.proofs.Bounded.{plain, first-plain}
 use Rattle.promises.proofs.Walks.{WalkOf, ended, refused, delivers, uses, Walkable, walk-all-of, walk-all-only}
@@ -175,7 +175,7 @@ after-past : (mask set room : ℕ) (first : First) → plain first ≡ true → 
     → Past (length b) (afterFirst mask set room first b 8) (afterFirst mask set room first (b ++ c) 8)
 unfolding afterFirst
 after-past mask set room unassigned p b c h = λ k w at e d other. absurd (other (sym (same-refusal d) ∙ same-refusal e))
-after-past mask set room pad p b c h = λ k w at e d other. never (sym e)
+after-past mask set room pad p b c h = λ k w at e d other. no-refusal (sym e)
 after-past mask set room (tool t n) p b c h = points-withTool mask set room t n 0 (plain-length t n p) .past b c 8 (omega arith, omega arith) (omega arith)
 after-past mask set room (sixOrEight n) p b c h =
     let i = markAt n in

@@ -36,7 +36,9 @@ use Rattle.promises.proofs.Zeros.{isZero}
 use Rattle.promises.proofs.Forms.{rice-restores, plusMinusForm-below}
 use Rattle.promises.proofs.Written.{read-bits}
 use Rattle.promises.proofs.Frame.{foundAt}
-use Rattle.promises.proofs.Reach.{never, place-of, value-of, Near, near-fail, near-give, near-here, near-bit, near-then, near-cond, near-more}
+use Rattle.rules.proofs.Room.{length-most}
+use Rattle.rules.proofs.Gives.{no-refusal, same-place, same-value}
+use Rattle.promises.proofs.Reach.{Near, near-fail, near-give, near-here, near-bit, near-then, near-cond, near-more}
 
 -- A reading's cost by what it gives: from place i to j, with c saved up and k of the value left, j + c is at most i + k
 pub record Costs {A : Type 0} (c : ℕ) (k : A → ℕ) (p : Reader A) : Type 0 where
@@ -46,10 +48,10 @@ pub costs-near : {A : Type 0} (k : ℕ) {p : Reader A} → Near k p → Costs 0 
 costs-near k g = record { goes = λ b z i h a j e. omega (arith, g .goes b i a j e) }
 
 costs-give : {A : Type 0} (c : ℕ) (k : A → ℕ) (a : A) → c ≤ k a → Costs c k (give a)
-costs-give c k a h = record { goes = λ b z i l v j e. rw (← (value-of e), ← (place-of e)) (omega arith) }
+costs-give c k a h = record { goes = λ b z i l v j e. rw (← (same-value e), ← (same-place e)) (omega arith) }
 
 costs-fail : {A : Type 0} (c : ℕ) (k : A → ℕ) (w : Refusal) (at : ℕ) → Costs c k (fail w at)
-costs-fail c k w at = record { goes = λ b z i l v j e. never e }
+costs-fail c k w at = record { goes = λ b z i l v j e. no-refusal e }
 
 costs-cond : {A : Type 0} {c : ℕ} {k : A → ℕ} {p q : Reader A} (t : Bool) → (t ≡ true → Costs c k p) → (t ≡ false → Costs c k q) → Costs c k (cond t p q)
 costs-cond true g h = g refl
@@ -263,9 +265,6 @@ pub tree-leaves : (n : ℕ) → isLength n ≡ true → Leaves (λ s. s ≤ 9) (
 unfolding treeOf
 tree-leaves n l = by-length (λ n. Leaves (λ s. s ≤ 9) (treeOf n)) (omega arith) (omega arith) (omega arith) (omega arith) (omega arith) n l
 
-pub at-most-320 : (n : ℕ) → isLength n ≡ true → n ≤ 320
-at-most-320 n l = by-length (λ n. n ≤ 320) (omega arith) (omega arith) (omega arith) (omega arith) (omega arith) n l
-
 costs-plusMinus : (mask n mark : ℕ) → isLength n ≡ true → Costs 0 (λ s. 6 + 10 * n) (plusMinus mask n mark)
 costs-plusMinus mask n mark l =
     costs-then 0 (λ r. 6) (λ r. 0) (λ r s. 10 * n) 0 (λ s. 6 + 10 * n) (gives-readTree (λ s. s ≤ 9) (treeOf n) (tree-leaves n l))
@@ -322,17 +321,17 @@ first-plain o h = allBelow-at (λ o. plain (firstOctet o)) 256 refl o h
 after-bits : {mask : ℕ} → LawMask mask → (set room : ℕ) (first : First) → plain first ≡ true → {b : List ℕ} → Below 2 b → 8 ≤ length b
     → {f : Found} {j : ℕ} → afterFirst mask set room first b 8 ≡ whole f j → f .bits ≤ 3213
 unfolding afterFirst
-after-bits l set room unassigned p z h e = never e
-after-bits l set room pad p z h {f} {j} e = let v : record { tool = 0; samples = []; bits = 8 } ≡ f = value-of e in rw (← v) (omega arith)
+after-bits l set room unassigned p z h e = no-refusal e
+after-bits l set room pad p z h {f} {j} e = let v : record { tool = 0; samples = []; bits = 8 } ≡ f = same-value e in rw (← v) (omega arith)
 after-bits {mask} l set room (tool t n) p z h e =
     let len = and-right (not (eqb t 6)) (isLength n) p in
     let ne = eqb-false t 6 (not-true (eqb t 6) (and-left (not (eqb t 6)) (isLength n) p)) in
-    omega (arith, withTool-bits mask set room t n 0 2686 z 8 h (costs-other l t n 0 (at-most-320 n len) ne) e)
+    omega (arith, withTool-bits mask set room t n 0 2686 z 8 h (costs-other l t n 0 (length-most n len) ne) e)
 after-bits {mask} l set room (sixOrEight n) p {b} z h {f} {j} e = go (steps (bit b (markAt n)) _ e)
   where
     decide : (mark t k : ℕ) → SixOrEight t → withTool mask set room t n mark b (markAt n + 1) ≡ whole f j → f .bits ≤ 3213
     decide mark t k six d =
-        omega (arith, mark-first n, at-most-320 n p, withTool-bits mask set room 6 n mark (6 + 10 * n) z (markAt n + 1) (omega (arith, mark-first n)) (costs-six mask n mark p) d)
+        omega (arith, mark-first n, length-most n p, withTool-bits mask set room 6 n mark (6 + 10 * n) z (markAt n + 1) (omega (arith, mark-first n)) (costs-six mask n mark p) d)
     decide mark t k eight d = eight-out mask set room n mark b (markAt n + 1) d
 
     decided : (mark m : ℕ) → Steps (sixNotEight b m) (λ t k. withTool mask set room t n mark b (markAt n + 1)) f j → f .bits ≤ 3213

@@ -7,7 +7,7 @@ use mathlib.Core.Bool.{Bool, true, false, cond}
 use lib.ListN.{length, getD}
 use lib.Dec.{eqb, leb, ltb}
 use borrow.Author.Tests.{le-leb}
-use Rattle.rules.specs.Tools.{holds, isLength}
+use Rattle.rules.specs.Tools.{isTool, holds, isLength}
 use Rattle.rules.specs.Bits.{lowBits, bitsOf}
 use Rattle.rules.specs.First.{octetFor}
 use Rattle.rules.specs.Samples.{plusZero, minusZero, sampleOf}
@@ -19,7 +19,7 @@ use Rattle.rules.specs.Chooses.{countOf, markOf, bestS, riceBits, riceChoice, f
 use Rattle.rules.proofs.Octets.{Below, none, more, below-append, below-replicate, below-at, lowBits-below, bitsOf-below}
 use Rattle.rules.proofs.Signed.{LawMask}
 use Rattle.rules.proofs.Firsts.{hasOwn}
-use Rattle.rules.proofs.Tests.{by-length}
+use Rattle.rules.proofs.Tests.{by-length, by-tool}
 use Rattle.rules.proofs.Each.{pick-below, Each, each-of}
 use Rattle.promises.proofs.Back.{Back}
 use Rattle.promises.proofs.Zeros.{isZero, flags-below, back-uncompressed, back-constantly, back-constant, back-binary, back-plusMinus}
@@ -94,38 +94,38 @@ pub record Restores (mask t : ℕ) (s form : List ℕ) : Type 0 where
 pub uncompressed-restores : (mask : ℕ) (s : List ℕ) → isLength (length s) ≡ true → Below 256 s → Restores mask 1 s (uncompressedForm s)
 unfolding body
 uncompressed-restores mask s l b =
-    record { reads = λ set room post h r. read-own mask set room 1 (length s) (bitsOf s) post s l (omega arith) refl h r (back-uncompressed s b) }
+    record { reads = λ set room post h r. read-own mask set room 1 (length s) (bitsOf s) post s l refl h r (back-uncompressed s b) }
 
 -- a form that is a first octet alone
-alone : (mask t : ℕ) (s : List ℕ) → isLength (length s) ≡ true → t < 8 → hasOwn (length s) t ≡ true → Back (body mask t (length s) 0) [] s
+alone : (mask t : ℕ) (s : List ℕ) → isLength (length s) ≡ true → hasOwn (length s) t ≡ true → Back (body mask t (length s) 0) [] s
     → Restores mask t s (prefix t (length s))
-alone mask t s l h o back =
+alone mask t s l o back =
     record {
       reads = λ set room post g r.
-          rw (append-nil (prefix t (length s))) at (read-own mask set room t (length s) [] post s l h o g r back);
+          rw (append-nil (prefix t (length s))) at (read-own mask set room t (length s) [] post s l o g r back);
     }
 
 pub plus-restores : (mask : ℕ) (s : List ℕ) → isLength (length s) ≡ true → Each (λ x. eqb x (plusZero mask)) s → Restores mask 2 s (plusForm s)
 unfolding body
-plus-restores mask s l e = alone mask 2 s l (omega arith) refl (back-constantly (plusZero mask) s e)
+plus-restores mask s l e = alone mask 2 s l refl (back-constantly (plusZero mask) s e)
 
 pub minus-restores : (mask : ℕ) (s : List ℕ) → isLength (length s) ≡ true → Each (λ x. eqb x (minusZero mask)) s → Restores mask 3 s (minusForm s)
 unfolding body
-minus-restores mask s l e = alone mask 3 s l (omega arith) refl (back-constantly (minusZero mask) s e)
+minus-restores mask s l e = alone mask 3 s l refl (back-constantly (minusZero mask) s e)
 
 pub constant-restores : (mask : ℕ) (s : List ℕ) → isLength (length s) ≡ true → Below 256 s → Each (λ x. eqb x (getD s 0 0)) s → Restores mask 4 s (constantForm s)
 unfolding body
 constant-restores mask s l b e =
     record {
       reads = λ set room post h r.
-          read-own mask set room 4 (length s) (lowBits 8 (getD s 0 0)) post s l (omega arith) refl h r
+          read-own mask set room 4 (length s) (lowBits 8 (getD s 0 0)) post s l refl h r
           (back-constant (getD s 0 0) s e (below-at b (omega arith) 0));
     }
 
 pub binary-restores : (mask : ℕ) (s : List ℕ) → isLength (length s) ≡ true → Each (isZero mask) s → Restores mask 5 s (binaryForm mask s)
 unfolding body
 binary-restores mask s l e =
-    record { reads = λ set room post h r. read-own mask set room 5 (length s) (map (flagOf mask 0) s) post s l (omega arith) refl h r (back-binary mask s e) }
+    record { reads = λ set room post h r. read-own mask set room 5 (length s) (map (flagOf mask 0) s) post s l refl h r (back-binary mask s e) }
 
 -- of either mark and every S of the length
 pub rice-restores : (mask mark r : ℕ) (s : List ℕ) → isLength (length s) ≡ true → mark < 2 → 1 ≤ r → r ≤ mostS (length s) → Each (isZero mask) s
@@ -147,21 +147,21 @@ located-restores {mask} law s l b a =
       reads = λ set room post h r.
           read-own mask set room 7 (length s)
           (lowBits 2 (rowOf mask s) ++ (lowBits 1 (locatedFlag mask s) ++ valuesForm (map (sampleOf mask) (valuesOf (length s) (rowOf mask s) (locatedFlag mask s))) s))
-          post s l (omega arith) (le-leb 80 (length s) (a .long)) h r (back-located law s b a);
+          post s l (le-leb 80 (length s) (a .long)) h r (back-located law s b a);
     }
 
 -- every tool's form of every frame that it applies to
-pub form-restores : {mask : ℕ} → LawMask mask → (t : ℕ) (s : List ℕ) → isLength (length s) ≡ true → Below 256 s → 1 ≤ t → t ≤ 7 → applies mask t s ≡ true
+pub form-restores : {mask : ℕ} → LawMask mask → (t : ℕ) (s : List ℕ) → isLength (length s) ≡ true → Below 256 s → isTool t ≡ true → applies mask t s ≡ true
     → Restores mask t s (formOf mask t s)
 unfolding formOf applies riceChoice
-form-restores law zero s l b h k a = absurd (omega arith)
-form-restores {mask} law (suc zero) s l b h k a = uncompressed-restores mask s l b
-form-restores {mask} law (suc (suc zero)) s l b h k a = plus-restores mask s l (each-of (λ x. eqb x (plusZero mask)) s a)
-form-restores {mask} law (suc (suc (suc zero))) s l b h k a = minus-restores mask s l (each-of (λ x. eqb x (minusZero mask)) s a)
-form-restores {mask} law (suc (suc (suc (suc zero)))) s l b h k a = constant-restores mask s l b (each-of (λ x. eqb x (getD s 0 0)) s a)
-form-restores {mask} law (suc (suc (suc (suc (suc zero))))) s l b h k a = binary-restores mask s l (each-of (isZero mask) s a)
-form-restores {mask} law (suc (suc (suc (suc (suc (suc zero)))))) s l b h k a =
-    let r = bestS-range mask s l in
-    rice-restores mask (markOf mask s) (bestS mask (markOf mask s) s) s l (mark-small mask s) (r .0) (r .1) (each-of (isZero mask) s a)
-form-restores {mask} law (suc (suc (suc (suc (suc (suc (suc zero))))))) s l b h k a = located-restores law s l b (locates mask s a)
-form-restores law (suc (suc (suc (suc (suc (suc (suc (suc t)))))))) s l b h k a = absurd (omega arith)
+form-restores {mask} law t s l b h =
+    by-tool (λ t. applies mask t s ≡ true → Restores mask t s (formOf mask t s))
+    (λ a. uncompressed-restores mask s l b)
+    (λ a. plus-restores mask s l (each-of (λ x. eqb x (plusZero mask)) s a))
+    (λ a. minus-restores mask s l (each-of (λ x. eqb x (minusZero mask)) s a))
+    (λ a. constant-restores mask s l b (each-of (λ x. eqb x (getD s 0 0)) s a))
+    (λ a. binary-restores mask s l (each-of (isZero mask) s a))
+    (λ a. let r = bestS-range mask s l in
+    rice-restores mask (markOf mask s) (bestS mask (markOf mask s) s) s l (mark-small mask s) (r .0) (r .1) (each-of (isZero mask) s a))
+    (λ a. located-restores law s l b (locates mask s a))
+    t h

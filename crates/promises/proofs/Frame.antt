@@ -16,7 +16,7 @@ use Rattle.rules.specs.First.{tool, sixOrEight, firstOctet, baseOf, octetFor, r
 use Rattle.rules.specs.Zeros.{codesOf, codeOf, mostS}
 use Rattle.rules.specs.Frame.{Found, body, withTool, afterFirst, frame}
 use Rattle.rules.proofs.Octets.{Below, none, more, value-from, value-below, below-append, below-take, below-replicate}
-use Rattle.rules.proofs.Firsts.{hasOwn, first-of, first-of-six}
+use Rattle.rules.proofs.Firsts.{hasOwn, own-low, first-of, first-of-six}
 use Rattle.rules.proofs.Codes.{bit-seam}
 use Rattle.rules.proofs.Tests.{allBelow, allBelow-at, by-length}
 use Rattle.rules.proofs.Each.{Each, nothing, next, all, each-all}
@@ -44,23 +44,23 @@ with-tool mask set room t n mark pre b post s h r back =
     ((rw (append-assoc pre b (fill ++ post)) at f) ∙ ap (whole (record { tool = t; samples = s; bits = length (pre ++ b) })) end)
 
 -- Tools 1 to 5 and 7: a first octet of their own
-own-octet : (n t : ℕ) → isLength n ≡ true → t < 8 → octetFor t n < 256
+own-octet : (n t : ℕ) → isLength n ≡ true → hasOwn n t ≡ true → octetFor t n < 256
 unfolding baseOf
-own-octet n t l h =
+own-octet n t l own =
     ltb-true (octetFor t n) 256
-    (allBelow-at (λ t. ltb (octetFor t n) 256) 8 (by-length (λ n. allBelow (λ t. ltb (octetFor t n) 256) 8 ≡ true) refl refl refl refl refl n l) t h)
+    (allBelow-at (λ t. ltb (octetFor t n) 256) 8 (by-length (λ n. allBelow (λ t. ltb (octetFor t n) 256) 8 ≡ true) refl refl refl refl refl n l) t (own-low n t own))
 
-pub read-own : (mask set room t n : ℕ) (b post s : List ℕ) → isLength n ≡ true → t < 8 → hasOwn n t ≡ true → holds set t ≡ true → n ≤ room
+pub read-own : (mask set room t n : ℕ) (b post s : List ℕ) → isLength n ≡ true → hasOwn n t ≡ true → holds set t ≡ true → n ≤ room
     → Back (body mask t n 0) b s
     → frame mask set room (filledBits (lowBits 8 (octetFor t n) ++ b) ++ post) 0 ≡ foundAt t s (length (lowBits 8 (octetFor t n) ++ b))
 unfolding frame afterFirst
-read-own mask set room t n b post s l k own h r back =
+read-own mask set room t n b post s l own h r back =
     let o = octetFor t n in
     let fill : List ℕ = replicate (fillFor (length (lowBits 8 o ++ b))) 0 in
     let e : ((lowBits 8 o ++ b) ++ fill) ++ post ≡ lowBits 8 o ++ (b ++ (fill ++ post)) = simp append-assoc in
     let first : number 8 (filledBits (lowBits 8 o ++ b) ++ post) 0 ≡ whole o (length (lowBits 8 o))
-    = rw e (back-first (back-number 8 o (own-octet n t l k)) (b ++ (fill ++ post))) in
-    rw (first, first-of n t l k own) (with-tool mask set room t n 0 (lowBits 8 o) b post s h r back)
+    = rw e (back-first (back-number 8 o (own-octet n t l own)) (b ++ (fill ++ post))) in
+    rw (first, first-of n t l own) (with-tool mask set room t n 0 (lowBits 8 o) b post s h r back)
 
 -- Tool 6: the first octet has its code, and bits of what follows
 value-append : (u : ℕ) (a b : List ℕ) → valueFrom u (a ++ b) ≡ valueFrom (valueFrom u a) b

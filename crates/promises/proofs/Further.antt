@@ -25,7 +25,8 @@ use Rattle.rules.proofs.Octets.{length-bitsOf, bitsOf-append, bitsOf-below}
 use Rattle.rules.proofs.Signed.{law-mask}
 use Rattle.rules.proofs.Each.{pick-below}
 use Rattle.promises.proofs.Frame.{first-eight}
-use Rattle.promises.proofs.Reach.{never, place-of, value-of, Far, far-bit, far-then, far-cond, far-fail, Near, near-give, near-bit, near-then, near-cond, near-more}
+use Rattle.rules.proofs.Gives.{no-refusal, same-place, same-value}
+use Rattle.promises.proofs.Reach.{Far, far-bit, far-then, far-cond, far-fail, Near, near-give, near-bit, near-then, near-cond, near-more}
 
 -- a reading m of bits of which there are n, and m′, the same with more bits after them
 pub data Goes {A : Type 0} (n : ℕ) (m m′ : Read A) : Type 0 where
@@ -37,17 +38,17 @@ pub record Firm {A : Type 0} (p : Reader A) : Type 0 where
   pub goes : (b c : List ℕ) (i : ℕ) → Goes (length b) (p b i) (p (b ++ c) i)
 
 pub firm-give : {A : Type 0} (a : A) → Firm (give a)
-firm-give a = record { onward = λ b i c j e. omega (arith, place-of e); goes = λ b c i. same refl }
+firm-give a = record { onward = λ b i c j e. omega (arith, same-place e); goes = λ b c i. same refl }
 
 pub firm-fail : {A : Type 0} (w : Refusal) (at : ℕ) → Firm {A = A} (fail w at)
-firm-fail w at = record { onward = λ b i c j e. never e; goes = λ b c i. same refl }
+firm-fail w at = record { onward = λ b i c j e. no-refusal e; goes = λ b c i. same refl }
 
 pub firm-here : Firm here
-firm-here = record { onward = λ b i c j e. omega (arith, place-of e); goes = λ b c i. same refl }
+firm-here = record { onward = λ b i c j e. omega (arith, same-place e); goes = λ b c i. same refl }
 
 bit-on : (n v i : ℕ) (t : Bool) {a j : ℕ} → n ≤ i → cond t (whole v (i + 1)) (refuse Short i) ≡ whole a j → n < j
-bit-on n v i true h e = omega (arith, place-of e)
-bit-on n v i false h e = never e
+bit-on n v i true h e = omega (arith, same-place e)
+bit-on n v i false h e = no-refusal e
 
 bit-goes : (b c : List ℕ) (i : ℕ) (t : Bool) → ltb i (length b) ≡ t
     → Goes (length b) (cond t (whole (getD b i 0) (i + 1)) (refuse Short i)) (cond (ltb i (length (b ++ c))) (whole (getD (b ++ c) i 0) (i + 1)) (refuse Short i))
@@ -203,7 +204,7 @@ far-six mask set room n mark =
 -- tool 8 is in no set
 pub eight-out : (mask set room n mark : ℕ) (b : List ℕ) (i : ℕ) {f : Found} {j : ℕ} {X : Type 0} → withTool mask set room 8 n mark b i ≡ whole f j → X
 unfolding withTool holds
-eight-out mask set room n mark b i e = never e
+eight-out mask set room n mark b i e = no-refusal e
 
 pub firm-six : Firm sixNotEight
 unfolding sixNotEight
@@ -219,14 +220,14 @@ unfolding sixNotEight
 six-or-eight b i t k e = go (steps (bit b i) (λ a l. cond (eqb a 1) (give 6) (bit >>= (λ c. cond (eqb c 1) (give 6) (give 8))) b l) e)
   where
     last : (x : Bool) (m : ℕ) → cond x (give 6) (give 8) b m ≡ whole t k → SixOrEight t
-    last true m d = rw (← (value-of d)) six
-    last false m d = rw (← (value-of d)) eight
+    last true m d = rw (← (same-value d)) six
+    last false m d = rw (← (same-value d)) eight
 
     second : (m : ℕ) → Steps (bit b m) (λ c l. cond (eqb c 1) (give 6) (give 8) b l) t k → SixOrEight t
     second m (through c l q d) = last (eqb c 1) l d
 
     first : (x : Bool) (l : ℕ) → cond x (give 6) (bit >>= (λ c. cond (eqb c 1) (give 6) (give 8))) b l ≡ whole t k → SixOrEight t
-    first true l d = rw (← (value-of d)) six
+    first true l d = rw (← (same-value d)) six
     first false l d = second l (steps (bit b l) (λ c l. cond (eqb c 1) (give 6) (give 8) b l) d)
 
     go : Steps (bit b i) (λ a l. cond (eqb a 1) (give 6) (bit >>= (λ c. cond (eqb c 1) (give 6) (give 8))) b l) t k → SixOrEight t

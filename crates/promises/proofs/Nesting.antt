@@ -18,7 +18,7 @@ use Rattle.rules.specs.First.{First, unassigned, pad, tool, sixOrEight, firstOc
 use Rattle.rules.specs.Frame.{Found, octetsUsed, body, withTool, afterFirst, frame, readOne}
 use Rattle.rules.specs.Walk.{Delivered, Walked, stopped, before, walkFrom, longest, walkAll}
 use Rattle.rules.proofs.Each.{Each, nothing, next}
-use Rattle.promises.proofs.Reach.{never}
+use Rattle.rules.proofs.Gives.{no-refusal}
 use Rattle.promises.proofs.Walks.{WalkOf, ended, refused, delivers, uses, walk-of, walk-next, walk-only}
 
 -- the reading by the smaller set, beside that by the larger
@@ -124,7 +124,7 @@ walk-nests octets law a b s t n {at} {room} (delivers {f = f} {j = j} {rest = w}
   where
     other : Nests a (readOne (drop at octets) law a room) (readOne (drop at octets) law b room) → readOne (drop at octets) law b room ≡ whole f j
     other (alike d) = sym d ∙ e
-    other (ends x d y) = never (sym d ∙ e)
+    other (ends x d y) = no-refusal (sym d ∙ e)
 
 test-walks : (a : ℕ) (t : Bool) (r : Refusal) (w v : Walked) → WalksNest a w v → WalksNest a (cond t (stopped (Refused r) 0 0) w) (cond t (stopped (Refused r) 0 0) v)
 test-walks a true r w v h = alike refl

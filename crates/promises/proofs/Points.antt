@@ -22,9 +22,11 @@ use Rattle.rules.specs.Frame.{body, withTool}
 use Rattle.rules.proofs.Accepted.{Steps, through, steps, number-next}
 use Rattle.rules.proofs.Gives.{Leaves}
 use Rattle.rules.proofs.Laid.{empty-most, length-lay}
-use Rattle.promises.proofs.Reach.{never, value-of, Far, far-bit, far-then, Near, near-give, near-fail, near-here, near-bit, near-then, near-cond, near-more}
+use Rattle.rules.proofs.Room.{length-most}
+use Rattle.rules.proofs.Gives.{no-refusal, same-value}
+use Rattle.promises.proofs.Reach.{Far, far-bit, far-then, Near, near-give, near-fail, near-here, near-bit, near-then, near-cond, near-more}
 use Rattle.promises.proofs.Further.{Goes, short, same, Firm, firm-give, firm-bind, firm-cond, firm-here, firm-bit, firm-numberFrom, firm-bitsFrom, firm-zerosFrom, firm-rice, firm-runsFrom, firm-readTree, firm-byMethod, firm-body, far-firm}
-use Rattle.promises.proofs.Bounded.{near-numberFrom, width-most, tree-leaves, at-most-320}
+use Rattle.promises.proofs.Bounded.{near-numberFrom, width-most, tree-leaves}
 
 -- The bit that a refusal names, n bits being there. SHORT's is the first that is missing. Every other is one of those that are there, save that
 -- a listed place of no bits may stand at their end. What is judged by the prefix names bit 0, and so do the refusals from 10 on.
@@ -117,7 +119,7 @@ then-past n m (refuse u x′) f f′ (short x e past) q h k = λ at w at′ d d�
 
 -- The steps
 pub points-give : {A : Type 0} {W : ℕ → Type 0} (a : A) → Points W (give a)
-points-give a = record { says = λ b i v k. (omega arith, k); past = λ b c i v k at w at′ d. never (sym d) }
+points-give a = record { says = λ b i v k. (omega arith, k); past = λ b c i v k at w at′ d. no-refusal (sym d) }
 
 pub points-fail : {A : Type 0} (lo hi : ℕ) (w : Refusal) (at : ℕ) → ((n : ℕ) → lo ≤ n → BitOf n w at) → hi ≤ at + reach w
     → Points {A = A} (Between lo hi) (fail w at)
@@ -132,7 +134,7 @@ bit-says b i true e k = (omega arith, omega (arith, ltb-true i (length b) e))
 bit-says b i false e k = (omega (arith, ltb-false i (length b) e), omega arith)
 
 bit-short : (v i : ℕ) (t : Bool) {w : Refusal} {at : ℕ} → cond t (whole v (i + 1)) (refuse Short i) ≡ refuse w at → w ≡ Short
-bit-short v i true e = never (sym e)
+bit-short v i true e = no-refusal (sym e)
 bit-short v i false e = sym (same-refusal e)
 
 pub points-bit : {W : ℕ → Type 0} → Points W bit
@@ -309,7 +311,7 @@ points-located mask n h =
 -- what a tree gives is one of its leaves
 tree-gives : (P : ℕ → Type 0) (t : Tree) → Leaves P t → (b : List ℕ) (i s j : ℕ) → readTree t b i ≡ whole s j → P s
 unfolding readTree
-tree-gives P (leaf x) l b i s j e = subst P (value-of e) l
+tree-gives P (leaf x) l b i s j e = subst P (same-value e) l
 tree-gives P (fork z o) l b i s j e = go (λ k. tree-gives P z (l .0) b k s j) (λ k. tree-gives P o (l .1) b k s j) (steps (bit b i) _ e)
   where
     go : ((k : ℕ) → readTree z b k ≡ whole s j → P s) → ((k : ℕ) → readTree o b k ≡ whole s j → P s)
@@ -327,7 +329,7 @@ points-plusMinus mask n mark l =
     (λ s. record { says = λ b i v k. rest s v .says b i tt k; past = λ b c i v k. rest s v .past b c i tt k })
   where
     rest : (s : ℕ) → s ≤ 9 → Points Any (runsFrom n s n n [] >>= (λ flags. give (map (zeroOf mask mark) flags)))
-    rest s v = points-bind (firm-runsFrom n s n n []) (points-runs n s n n [] (at-most-320 n l) v) (λ flags. points-give (map (zeroOf mask mark) flags))
+    rest s v = points-bind (firm-runsFrom n s n n []) (points-runs n s n n [] (length-most n l) v) (λ flags. points-give (map (zeroOf mask mark) flags))
 
 pub points-body : {W : ℕ → Type 0} (mask t n mark : ℕ) → isLength n ≡ true → Points W (body mask t n mark)
 unfolding body
@@ -338,7 +340,7 @@ points-body mask t n mark l =
     points-cond (eqb t 4) (λ e. points-bind (firm-numberFrom 0 8) (points-numberFrom 0 8) (λ x. points-give (replicate n x))) (λ e.
     points-cond (eqb t 5) (λ e. points-bind (firm-bitsFrom [] n) (points-bitsFrom [] n) (λ flags. points-give (map (zeroOf mask 0) flags))) (λ e.
     points-cond (eqb t 6) (λ e. points-plusMinus mask n mark l) (λ e.
-    points-located mask n (at-most-320 n l)))))))
+    points-located mask n (length-most n l)))))))
 
 -- the tool is decided by the prefix, so within the first octet and the next
 pub points-withTool : (mask set room t n mark : ℕ) → isLength n ≡ true → Points (Between 1 8) (withTool mask set room t n mark)

@@ -9,27 +9,19 @@ use lib.Dec.{ltb}
 use Rattle.rules.specs.declared.Refusal.{Refusal}
 use Rattle.rules.specs.declared.Refusal.the-variants.{Short}
 use Rattle.rules.specs.Reading.{Read, whole, refuse, Reader, _>>=_, give, fail, here, bit}
+use Rattle.rules.proofs.Gives.{no-refusal, same-place, same-value}
 use Rattle.rules.proofs.Accepted.{Steps, through, steps}
-
-pub never : {A X : Type 0} {w : Refusal} {at : ℕ} {a : A} {j : ℕ} → _≡_ {A = Read A} (refuse w at) (whole a j) → X
-never e = let z : _≡_ {A = ℕ} 0 1 = cc in absurd (omega arith)
-
-pub place-of : {A : Type 0} {a c : A} {i j : ℕ} → _≡_ {A = Read A} (whole a i) (whole c j) → i ≡ j
-place-of e = cc
-
-pub value-of : {A : Type 0} {a c : A} {i j : ℕ} → _≡_ {A = Read A} (whole a i) (whole c j) → a ≡ c
-value-of e = cc
 
 -- one bit is one place
 bit-next : (v i : ℕ) (t : Bool) {a j : ℕ} → cond t (whole v (i + 1)) (refuse Short i) ≡ whole a j → i + 1 ≡ j
-bit-next v i true e = place-of e
-bit-next v i false e = never e
+bit-next v i true e = same-place e
+bit-next v i false e = no-refusal e
 
 pub record Far {A : Type 0} (k : ℕ) (p : Reader A) : Type 0 where
   pub goes : (b : List ℕ) (i : ℕ) (a : A) (j : ℕ) → p b i ≡ whole a j → i + k ≤ j
 
 pub far-fail : {A : Type 0} (k : ℕ) (w : Refusal) (at : ℕ) → Far {A = A} k (fail w at)
-far-fail k w at = record { goes = λ b i a j e. never e }
+far-fail k w at = record { goes = λ b i a j e. no-refusal e }
 
 pub far-bit : Far 1 bit
 unfolding bit
@@ -49,13 +41,13 @@ pub record Near {A : Type 0} (k : ℕ) (p : Reader A) : Type 0 where
   pub goes : (b : List ℕ) (i : ℕ) (a : A) (j : ℕ) → p b i ≡ whole a j → j ≤ i + k
 
 pub near-give : {A : Type 0} (a : A) → Near 0 (give a)
-near-give a = record { goes = λ b i c j e. omega (arith, place-of e) }
+near-give a = record { goes = λ b i c j e. omega (arith, same-place e) }
 
 pub near-fail : {A : Type 0} (k : ℕ) (w : Refusal) (at : ℕ) → Near {A = A} k (fail w at)
-near-fail k w at = record { goes = λ b i a j e. never e }
+near-fail k w at = record { goes = λ b i a j e. no-refusal e }
 
 pub near-here : Near 0 here
-near-here = record { goes = λ b i c j e. omega (arith, place-of e) }
+near-here = record { goes = λ b i c j e. omega (arith, same-place e) }
 
 pub near-bit : Near 1 bit
 unfolding bit

@@ -9,12 +9,12 @@ use mathlib.Core.Bool.{Bool, true, false, cond, not, _&&_, _||_}
 use lib.ListN.{length, take, length-append}
 use lib.Dec.{eqb, leb}
 use borrow.Author.Tests.{le-ltb, ne-eqb, leb-true}
-use Rattle.rules.specs.Tools.{holds, Within, isSet, isWriterSet}
+use Rattle.rules.specs.Tools.{isTool, holds, Within, allTools, isSet, isWriterSet}
 use Rattle.rules.specs.Bits.{octetsFor}
 use Rattle.rules.specs.Samples.{maskOf}
 use Rattle.rules.specs.Chooses.{applies, formOf, octetsOfForm, tieOrder, chosenTool, Written, chosen, wrote, writeOne}
 use Rattle.rules.proofs.Octets.{length-pack}
-use Rattle.rules.proofs.Tests.{and-left, and-right, allBelow, allBelow-at}
+use Rattle.rules.proofs.Tests.{and-left, and-right, implied, allBelow, allBelow-at, pastTools, tool-low}
 use Rattle.rules.proofs.Chosen.{FirstLeast, usable, order, writer-holds, choose-least, wider-least, first-of-fewer, one-first-least}
 use Rattle.promises.proofs.Written.{wrote-by}
 use Rattle.promises.proofs.Lists.{Part, padding, frameOf, writtenFor, octetsOf, stream}
@@ -149,35 +149,36 @@ one-more mask a t b s odd m lost = unless (eqb (length s) 0) _ _ _ t others lost
     others : (u ≡ t → ⊥) → form u ≡ form (chosenTool mask a s)
     others not-t = rw (same-tool mask a b s odd (m .within) (m .only u held not-t)) refl
 
--- "Tool t adds 2^(t-1)", where t was not in the set; here t is k + 1. One test of all sets and tools, computed.
+-- "Tool t adds 2^(t-1)", where t was not in the set. One test of all sets and tools, computed.
 asSum : ℕ → ℕ → ℕ → Bool
-asSum a k u = cond (holds a u || eqb u (suc k)) (holds (a + 2 ^ k) u) (not (holds (a + 2 ^ k) u))
+asSum a t u = cond (holds a u || eqb u t) (holds (a + 2 ^ (t - 1)) u) (not (holds (a + 2 ^ (t - 1)) u))
 
-all-sums : allBelow (λ a. allBelow (λ k. holds a (suc k) || allBelow (asSum a k) 8) 7) 128 ≡ true
+abbrev sums : ℕ → ℕ → Bool
+sums a t = not (isTool t) || (holds a t || allBelow (asSum a t) pastTools)
+
+all-sums : allBelow (λ a. allBelow (sums a) pastTools) (suc allTools) ≡ true
 unfolding holds asSum
 all-sums = refl
 
 -- no set holds a tool past the last
-held-low : (set t : ℕ) → holds set t ≡ true → t < 8
+held-low : (set t : ℕ) → holds set t ≡ true → t < pastTools
 unfolding holds
-held-low set t e =
-    let odd = eqb (set / 2 ^ (t - 1) % 2) 1 in
-    omega (arith, leb-true t 7 (and-right (leb 1 t) (leb t 7) (and-left (leb 1 t && leb t 7) odd e)))
+held-low set t e = tool-low t (and-left (isTool t) (eqb (set / 2 ^ (t - 1) % 2) 1) e)
 
-pub one-added : (a k : ℕ) → isSet a ≡ true → k < 7 → holds a (suc k) ≡ false → OneMore a (suc k) (a + 2 ^ k)
+pub one-added : (a t : ℕ) → isSet a ≡ true → isTool t ≡ true → holds a t ≡ false → OneMore a t (a + 2 ^ (t - 1))
 unfolding asSum
-one-added a k small h out = record {
+one-added a t small h out = record {
   within = record { also = λ u e. rw e at (at u (held-low a u e)) };
-  only = λ u e other. kept u (holds a u) refl (rw (ne-eqb u (suc k) other) at (at u (held-low (a + 2 ^ k) u e))) e;
+  only = λ u e other. kept u (holds a u) refl (rw (ne-eqb u t other) at (at u (held-low (a + 2 ^ (t - 1)) u e))) e;
 }
   where
-    at : (u : ℕ) → u < 8 → asSum a k u ≡ true
+    at : (u : ℕ) → u < pastTools → asSum a t u ≡ true
     at u l =
-        let set = allBelow-at (λ a. allBelow (λ k. holds a (suc k) || allBelow (asSum a k) 8) 7) 128 all-sums a (omega (arith, leb-true a 127 small)) in
-        let tool = allBelow-at (λ k. holds a (suc k) || allBelow (asSum a k) 8) 7 set k h in
-        allBelow-at (asSum a k) 8 (rw out at tool) u l
+        let set = allBelow-at (λ a. allBelow (sums a) pastTools) (suc allTools) all-sums a (omega (arith, leb-true a allTools small)) in
+        let tool = implied (isTool t) (holds a t || allBelow (asSum a t) pastTools) (allBelow-at (sums a) pastTools set t (tool-low t h)) h in
+        allBelow-at (asSum a t) pastTools (rw out at tool) u l
 
-    kept : (u : ℕ) (x : Bool) → holds a u ≡ x → cond (x || false) (holds (a + 2 ^ k) u) (not (holds (a + 2 ^ k) u)) ≡ true
-        → holds (a + 2 ^ k) u ≡ true → holds a u ≡ true
+    kept : (u : ℕ) (x : Bool) → holds a u ≡ x → cond (x || false) (holds (a + 2 ^ (t - 1)) u) (not (holds (a + 2 ^ (t - 1)) u)) ≡ true
+        → holds (a + 2 ^ (t - 1)) u ≡ true → holds a u ≡ true
     kept u true e f g = e
     kept u false e f g = absurd (let z = rw g at f in let n : _≡_ {A = ℕ} 0 1 = cc in omega arith)

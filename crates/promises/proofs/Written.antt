@@ -10,7 +10,7 @@ use lib.Dec.{eqb, ltb}
 use borrow.Author.Tests.{le-ltb, ne-eqb, eqb-true, leb-true, ltb-false, not-false}
 use Rattle.rules.specs.declared.Refusal.{Refusal}
 use Rattle.rules.specs.declared.Refusal.the-variants.{Law, Set, Length, Room}
-use Rattle.rules.specs.Tools.{holds, Within, isSet, isWriterSet, isLaw, isLength}
+use Rattle.rules.specs.Tools.{isTool, holds, Within, isSet, isWriterSet, isLaw, isLength}
 use Rattle.rules.specs.Bits.{lowBits, bitsOf, octetsFor, pack}
 use Rattle.rules.specs.First.{octetFor, riceCode, firstOctet, lookUp, rows}
 use Rattle.rules.specs.Samples.{maskOf, sampleOf}
@@ -21,7 +21,7 @@ use Rattle.rules.specs.Located.{valuesOf}
 use Rattle.rules.specs.Chooses.{markOf, bestS, riceChoice, rowOf, locatedFlag, valuesForm, locatedForm, applies, formOf, octetsOfForm, tieOrder, chosenTool, Written, chosen, Write, wrote, declined, writeOne}
 use Rattle.rules.proofs.Octets.{Below, below-take, length-lowBits, length-bitsOf, lowBits-below, bitsOf-append, bitsOf-pack, length-pack}
 use Rattle.rules.proofs.Signed.{law-mask}
-use Rattle.rules.proofs.Tests.{or-cases, by-length}
+use Rattle.rules.proofs.Tests.{or-cases, by-length, tool-some}
 use Rattle.rules.proofs.Each.{each-at}
 use Rattle.rules.proofs.Chosen.{writer-holds, FirstLeast, order, chosen-first-least, usable, chosen-usable, chosen-least}
 use Rattle.promises.proofs.Back.{back-number, back-first}
@@ -92,12 +92,12 @@ unfolding readOne
 read-bits law set room {b} more l s low = rw (l, s, bitsOf-append (pack b) more, bitsOf-pack low) refl
 
 -- a tool's form, by any reader that holds the tool
-pub form-back : (law t : ℕ) (s : List ℕ) → isLaw law ≡ true → isLength (length s) ≡ true → Below 256 s → 1 ≤ t → t ≤ 7 → applies (maskOf law) t s ≡ true
+pub form-back : (law t : ℕ) (s : List ℕ) → isLaw law ≡ true → isLength (length s) ≡ true → Below 256 s → isTool t ≡ true → applies (maskOf law) t s ≡ true
     → (set room : ℕ) (more : List ℕ) → isSet set ≡ true → holds set t ≡ true → length s ≤ room
     → readOne (pack (formOf (maskOf law) t s) ++ more) law set room ≡ foundAt t s (length (formOf (maskOf law) t s))
-form-back law t s i l b h k a set room more e held r =
+form-back law t s i l b h a set room more e held r =
     read-bits law set room more i e (form-below (maskOf law) t s l)
-    ∙ form-restores (law-mask law) t s l b h k a .reads set room (bitsOf more) held r
+    ∙ form-restores (law-mask law) t s l b h a .reads set room (bitsOf more) held r
 
 -- "Zero samples give one octet 00."
 pad-frame : (mask set room : ℕ) (post : List ℕ) → frame mask set room (filledBits (lowBits 8 0) ++ post) 0 ≡ foundAt 0 [] (length (lowBits 8 0))
@@ -123,8 +123,8 @@ chosen-back law set {s} i o (full l b) reader room more e h r =
     let t = chosenTool mask set s in
     let c = chosen-full mask set s l in
     let u = chosen-usable mask set s o in
-    let held : holds reader t ≡ true = (rw c at h) (u .low) in
-    rw c (form-back law t s i l b (u .low) (u .high) (u .fits) reader room more e held r)
+    let held : holds reader t ≡ true = (rw c at h) (tool-some t (u .is)) in
+    rw c (form-back law t s i l b (u .is) (u .fits) reader room more e held r)
 
 -- Demand 2: "reading the written octets gives the frame, exactly the written octets used, the same bits and tool", whatever follows
 pub back : (n : ℕ) (samples : List ℕ) (law set room : ℕ) (w : Written) → n ≤ length samples → Below 256 samples

@@ -2,19 +2,20 @@
 use Prim.Native.Nat.{ℕ, _*_, _≤_, _<_}
 use mathlib.Core.Path.{_≡_, sym}
 use mathlib.Core.List.{List}
-use mathlib.Core.Bool.{true, false, _&&_}
-use lib.Dec.{leb, lit≤}
+use mathlib.Core.Bool.{true, false}
+use lib.Dec.{lit≤}
 use lib.ListN.{length}
-use borrow.Author.Tests.{lt-ltb, le-ltb, leb-true}
+use borrow.Author.Tests.{lt-ltb, le-ltb, ne-eqb}
 use Rattle.rules.specs.declared.Refusal.{Refusal}
 use Rattle.rules.specs.declared.Refusal.the-variants.{Tool, Room}
 use Rattle.rules.specs.Tools.{holds, isLength}
 use Rattle.rules.specs.Bits.{bitsOf}
 use Rattle.rules.specs.Reading.{whole, refuse}
 use Rattle.rules.specs.Samples.{maskOf}
+use Rattle.rules.specs.Located.{located}
 use Rattle.rules.specs.Frame.{body, withTool}
 use Rattle.rules.proofs.Octets.{length-bitsOf, bitsOf-below}
-use Rattle.rules.proofs.Tests.{and-left, and-right, by-length}
+use Rattle.rules.proofs.Tests.{by-length}
 use Rattle.rules.proofs.Signed.{law-mask}
 use Rattle.rules.proofs.Accepted.{gives-body}
 use Rattle.reader.specs.Answers.{finish}
@@ -39,23 +40,21 @@ module _ (mask set room t n mark : ℕ) (b : List ℕ) (i : ℕ) where
   with-body h l e = rw (h, le-ltb room n l, e)
 
 -- a body that was read whole ends within the octets
-pub body-within : (law t n mark : ℕ) (s : List ℕ) (i : ℕ) {x : List ℕ} {j : ℕ} → i ≤ 8 * length s
+pub body-within : (law t n mark : ℕ) → isLength n ≡ true → (s : List ℕ) (i : ℕ) {x : List ℕ} {j : ℕ} → i ≤ 8 * length s
     → body (maskOf law) t n mark (bitsOf s) i ≡ whole x j → j ≤ 8 * length s
-body-within law t n mark s i h e =
-    rw length-bitsOf at (gives-body (law-mask law) t n mark .on (bitsOf-below s) (rw length-bitsOf h) e .1)
+body-within law t n mark len s i h e =
+    rw length-bitsOf at (gives-body (law-mask law) t n mark len .on (bitsOf-below s) (rw length-bitsOf h) e .1)
 
 -- and has the frame's length
-pub body-size : (law t n mark : ℕ) (s : List ℕ) (i : ℕ) {x : List ℕ} {j : ℕ} → i ≤ 8 * length s
+pub body-size : (law t n mark : ℕ) → isLength n ≡ true → (s : List ℕ) (i : ℕ) {x : List ℕ} {j : ℕ} → i ≤ 8 * length s
     → body (maskOf law) t n mark (bitsOf s) i ≡ whole x j → n ≡ length x
-body-size law t n mark s i h e =
-    sym (gives-body (law-mask law) t n mark .on (bitsOf-below s) (rw length-bitsOf h) e .2 .size)
+body-size law t n mark len s i h e =
+    sym (gives-body (law-mask law) t n mark len .on (bitsOf-below s) (rw length-bitsOf h) e .2 .size)
 
--- a set holds tools 1 to 7 only
-pub held-range : (set t : ℕ) → holds set t ≡ true → (1 ≤ t) × (t ≤ 7)
-unfolding holds
-held-range set t h =
-    let g = and-left (leb 1 t && leb t 7) _ h in
-    (leb-true 1 t (and-left (leb 1 t) (leb t 7) g), leb-true t 7 (and-right (leb 1 t) (leb t 7) g))
+-- the last of the tools
+pub last-body : (mask t n mark : ℕ) → (t ≡ 1 → ⊥) → (t ≡ 2 → ⊥) → (t ≡ 3 → ⊥) → (t ≡ 4 → ⊥) → (t ≡ 5 → ⊥) → (t ≡ 6 → ⊥) → body mask t n mark ≡ located mask n
+unfolding body
+last-body mask t n mark a b c d e f = rw (ne-eqb t 1 a, ne-eqb t 2 b, ne-eqb t 3 c, ne-eqb t 4 d, ne-eqb t 5 e, ne-eqb t 6 f)
 
 -- the lengths' range
 pub length-range : (n : ℕ) → isLength n ≡ true → (1 ≤ n) × (n ≤ 320)

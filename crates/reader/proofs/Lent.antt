@@ -4,7 +4,7 @@ use mathlib.Core.Path.{_≡_, refl, sym, ap, _∙_}
 use mathlib.Core.List.{List, _++_}
 use mathlib.Core.Bool.{true, _||_}
 use native.Mathlib.Omega.{arith}
-use lib.Dec.{eqb, lit≤}
+use lib.Dec.{eqb}
 use lib.ListN.{length, take, drop, replicate, length-append, length-replicate, replicate-append-replicate}
 use lib.Seq.{take-append-seam, drop-at}
 use borrow.Author.Tests.{eqb-true}
@@ -12,7 +12,8 @@ use Rattle.rules.specs.Tools.{isLength}
 use Rattle.rules.specs.Reading.{Read, whole, refuse}
 use Rattle.rules.specs.Frame.{Found, readOne}
 use Rattle.rules.specs.Calls.{readSamples, IsFrame}
-use Rattle.rules.proofs.Tests.{or-cases, by-length}
+use Rattle.rules.proofs.Tests.{or-cases}
+use Rattle.rules.proofs.Room.{length-most}
 use Rattle.rules.proofs.Accepted.{read-accepts}
 use Rattle.reader.specs.declared.Report.{Report}
 use Rattle.reader.specs.Answers.{ReadsInto}
@@ -21,7 +22,7 @@ at-most-320 : (n : ℕ) → (eqb n 0 || isLength n) ≡ true → n ≤ 320
 at-most-320 n h =
     or-cases (n ≤ 320) (eqb n 0) (isLength n) h
     (λ e. omega (arith, eqb-true n 0 e))
-    (λ e. by-length (λ n. n ≤ 320) (lit≤ tt) (lit≤ tt) (lit≤ tt) (lit≤ tt) (lit≤ tt) n e)
+    (λ e. length-most n e)
 
 pub samples-fit : (octets : List ℕ) (law set room : ℕ)
     → (length (readSamples (readOne octets law set room)) ≤ 320) × (length (readSamples (readOne octets law set room)) ≤ room)

@@ -33,7 +33,7 @@ pub struct Report {
 
 // The body of a tool that the set holds, into the lent samples.
 fn body_of(octets: &[u8], mask: u8, h: Head, samples: &mut [u8; 320]) -> Outcome
-    requires { ⌜ (HeadFits h) × (1 ≤ h .tool) × (h .tool ≤ 7) × (mask < 128) × (mask % 2 ≡ 1) × (length (now samples) ≡ 320) ⌝ }
+    requires { ⌜ (HeadFits h) × (mask < 128) × (mask % 2 ≡ 1) × (length (now samples) ≡ 320) ⌝ }
     ensures { λ r. ⌜ FillsBody (body mask (h .tool) (h .len) (h .mark) (bitsOf (now (octets .entry))) (h .at)) (2 ^ 41) (now (samples .entry)) (now (samples .exit)) r ⌝ }
 {
     let tool = h.tool;

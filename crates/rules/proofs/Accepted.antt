@@ -95,9 +95,9 @@ gives-located {mask} l n =
     (gives-valuesInto n (plusZero mask) (replicate n (plusZero mask)) (plus-below l)
     (octets-below l (valuesOf n c flag) (values-in-range n c flag)) (below-replicate n (plus-below l)))))))
 
-pub gives-body : {mask : ℕ} → LawMask mask → (t n mark : ℕ) → Gives (body mask t n mark) (Sized 256 n)
+pub gives-body : {mask : ℕ} → LawMask mask → (t n mark : ℕ) → isLength n ≡ true → Gives (body mask t n mark) (Sized 256 n)
 unfolding body
-gives-body {mask} l t n mark =
+gives-body {mask} l t n mark len =
     gives-cond (eqb t 1) (λ e. gives-as (λ s k. record { size = k .size ∙ zero-add n; below = k .below }) (gives-octetsAfter [] n none)) (λ e.
     gives-cond (eqb t 2) (λ e. gives-constantly n (plusZero mask) (plus-below l)) (λ e.
     gives-cond (eqb t 3) (λ e. gives-constantly n (minusZero mask) (minus-below l)) (λ e.
@@ -193,7 +193,7 @@ withTool-accepts {mask} l set room t n mark len {b} z i one h {f} {j} e =
     go : holds set t ≡ true → n ≤ room
         → Steps (body mask t n mark b i) (λ s k. filled (done s k) (fillFor k) b k) f j → Accepts set room b f j
     go held fits (through s k q e) =
-        let g = gives-body l t n mark .on z h q in
+        let g = gives-body l t n mark len .on z h q in
         let w = filled-is (done s k) (fillFor k) b k e in
         let v = gives-filled {Q = λ x. Unit {0}} (done s k) (fillFor k) tt .on z (g .1) e in
         subst (λ (x : Found). Accepts set room b x j) (w .0) (record {

@@ -7,7 +7,7 @@ use mathlib.Core.List.{List, [], _∷_, _++_}
 use mathlib.Core.Bool.{Bool, true, false, cond, not, _&&_, _||_}
 use lib.Dec.{eqb, leb, ltb}
 use borrow.Author.Tests.{lt-ltb, le-leb, eq-eqb, eqb-true, leb-true, leb-false, ltb-true}
-use Rattle.rules.specs.Tools.{holds, isSet, isWriterSet}
+use Rattle.rules.specs.Tools.{isTool, holds, isSet, isWriterSet}
 use Rattle.rules.specs.Chooses.{applies, octetsOfForm, tieOrder, choose, chosenTool}
 use Rattle.rules.proofs.Tests.{and-left, and-right}
 use Rattle.rules.proofs.Each.{or-right, Each, nothing, next, each-map, each-append, each-at, each-all}
@@ -152,8 +152,7 @@ chosen-first-least mask set s h = choose-least mask set s tieOrder (writer-holds
 
 -- it is one of the tools, the set holds it and it applies
 pub record Usable (mask set : ℕ) (s : List ℕ) (t : ℕ) : Type 0 where
-  pub low : 1 ≤ t
-  pub high : t ≤ 7
+  pub is : isTool t ≡ true
   pub held : holds set t ≡ true
   pub fits : applies mask t s ≡ true
 
@@ -161,10 +160,8 @@ pub chosen-usable : (mask set : ℕ) (s : List ℕ) → isWriterSet set ≡ true
 chosen-usable mask set s h =
     let t = chosenTool mask set s in
     let f = chosen-first-least mask set s h in
-    let range = each-at (f .before) t (f .after) (rw (f .stands) at (each-all (λ u. leb 1 u && leb u 7) order refl)) in
     record {
-      low = leb-true 1 t (and-left (leb 1 t) (leb t 7) range);
-      high = leb-true t 7 (and-right (leb 1 t) (leb t 7) range);
+      is = each-at (f .before) t (f .after) (rw (f .stands) at (each-all (λ u. isTool u) order refl));
       held = and-left (holds set t) (applies mask t s) (f .ok);
       fits = and-right (holds set t) (applies mask t s) (f .ok);
     }

@@ -1,16 +1,17 @@
 -- The first octets (specs/First): which are not assigned, and which begin each carried tool and length.
 -- Each rule is one test over all 256.
+use native.Mathlib.Omega.{arith}
 use Prim.Native.Nat.{ℕ, _+_, _-_, _/_, _%_, _^_, _≤_, _<_}
 use mathlib.Core.Path.{_≡_, refl, sym, ap, ap₂, _∙_}
 use mathlib.Core.List.{List, [], _∷_, _++_}
 use mathlib.Core.Bool.{Bool, true, false, Bool·beq, not, cond, _&&_, _||_, false≢true}
 use lib.Dec.{eqb, leb}
 use lib.ListN.{length}
-use borrow.Author.Tests.{eqb-true}
+use borrow.Author.Tests.{eqb-true, leb-true}
 use Rattle.rules.specs.Tools.{isLength}
 use Rattle.rules.specs.Bits.{lowBits, valueFrom}
 use Rattle.rules.specs.First.{First, unassigned, pad, tool, sixOrEight, rows, lookUp, firstOctet, baseOf, isLong, octetFor, riceCode}
-use Rattle.rules.proofs.Tests.{and-left, and-right, allBelow, allBelow-at, by-length}
+use Rattle.rules.proofs.Tests.{and-left, and-right, or-cases, implied, allBelow, allBelow-at, by-length}
 
 abbrev oneOf : List ℕ → ℕ → Bool
 oneOf [] o = false
@@ -53,31 +54,34 @@ first-as-written o h = allBelow-at (λ o. asWritten o (firstOctet o)) 256 refl o
 abbrev pub hasOwn : ℕ → ℕ → Bool
 hasOwn n t = (leb 1 t && leb t 5) || (eqb t 7 && leb 80 n)
 
-abbrev isTool : ℕ → ℕ → First → Bool
-isTool t n unassigned = false
-isTool t n pad = false
-isTool t n (tool u m) = eqb u t && eqb m n
-isTool t n (sixOrEight m) = false
+abbrev beginsTool : ℕ → ℕ → First → Bool
+beginsTool t n unassigned = false
+beginsTool t n pad = false
+beginsTool t n (tool u m) = eqb u t && eqb m n
+beginsTool t n (sixOrEight m) = false
 
-is-tool : (t n : ℕ) (f : First) → isTool t n f ≡ true → f ≡ tool t n
-is-tool t n unassigned h = absurd (false≢true h)
-is-tool t n pad h = absurd (false≢true h)
-is-tool t n (tool u m) h = ap₂ tool (eqb-true u t (and-left (eqb u t) (eqb m n) h)) (eqb-true m n (and-right (eqb u t) (eqb m n) h))
-is-tool t n (sixOrEight m) h = absurd (false≢true h)
+begins-tool : (t n : ℕ) (f : First) → beginsTool t n f ≡ true → f ≡ tool t n
+begins-tool t n unassigned h = absurd (false≢true h)
+begins-tool t n pad h = absurd (false≢true h)
+begins-tool t n (tool u m) h = ap₂ tool (eqb-true u t (and-left (eqb u t) (eqb m n) h)) (eqb-true m n (and-right (eqb u t) (eqb m n) h))
+begins-tool t n (sixOrEight m) h = absurd (false≢true h)
 
 abbrev own : ℕ → ℕ → Bool
-own n t = not (hasOwn n t) || isTool t n (firstOctet (octetFor t n))
+own n t = not (hasOwn n t) || beginsTool t n (firstOctet (octetFor t n))
 
-implied : (a b : Bool) → (not a || b) ≡ true → a ≡ true → b ≡ true
-implied true b h e = h
-implied false b h e = absurd (false≢true e)
+-- so it is below 8
+pub own-low : (n t : ℕ) → hasOwn n t ≡ true → t < 8
+own-low n t e =
+    or-cases (t < 8) (leb 1 t && leb t 5) (eqb t 7 && leb 80 n) e
+    (λ h. omega (arith, leb-true t 5 (and-right (leb 1 t) (leb t 5) h)))
+    (λ h. omega (arith, eqb-true t 7 (and-left (eqb t 7) (leb 80 n) h)))
 
-pub first-of : (n t : ℕ) → isLength n ≡ true → t < 8 → hasOwn n t ≡ true → firstOctet (octetFor t n) ≡ tool t n
+pub first-of : (n t : ℕ) → isLength n ≡ true → hasOwn n t ≡ true → firstOctet (octetFor t n) ≡ tool t n
 unfolding firstOctet lookUp rows baseOf
-first-of n t l h e =
-    is-tool t n (firstOctet (octetFor t n))
-    (implied (hasOwn n t) (isTool t n (firstOctet (octetFor t n)))
-    (allBelow-at (own n) 8 (by-length (λ n. allBelow (own n) 8 ≡ true) refl refl refl refl refl n l) t h) e)
+first-of n t l e =
+    begins-tool t n (firstOctet (octetFor t n))
+    (implied (hasOwn n t) (beginsTool t n (firstOctet (octetFor t n)))
+    (allBelow-at (own n) 8 (by-length (λ n. allBelow (own n) 8 ≡ true) refl refl refl refl refl n l) t (own-low n t e)) e)
 
 -- An octet that begins with tool 6's code of a length is tool 6 or 8 of that length.
 abbrev pub beginsRice : ℕ → ℕ → ℕ → Bool

@@ -6,7 +6,7 @@ use mathlib.Core.List.{List, [], _∷_, _++_, map}
 use mathlib.Core.Bool.{Bool, true, false, cond, _&&_}
 use native.Mathlib.Omega.{arith}
 use native.Mathlib.Nat.{le-refl, lt-of-lt-of-le, mul-le-mul-right, pow-suc, mul-comm, mul-assoc, one-mul, add-zero, zero-add, add-mul}
-use lib.Dec.{eqb, leb, ltb, lit<, lit≤}
+use lib.Dec.{eqb, leb, ltb, lit<}
 use lib.Arith.{digits-lt}
 use lib.Pow.{pow-pos}
 use lib.ListN.{length, getD, replicate, length-append, length-replicate}
@@ -14,7 +14,6 @@ use borrow.Author.Tests.{ltb-true, ltb-false, leb-true, eqb-true, eqb-false}
 use Rattle.rules.specs.declared.Refusal.{Refusal}
 use Rattle.rules.specs.declared.Refusal.the-variants.{Short, Run, Align, Method, Place, Case}
 use Rattle.rules.specs.Reading.{Read, whole, refuse, Reader, andThen, _>>=_, give, fail, here, bit, numberFrom, number, bitsFrom, octetsAfter, filled}
-use Rattle.rules.specs.First.{sixNotEight}
 use Rattle.rules.specs.Runs.{zerosFrom, rice, runsFrom}
 use Rattle.rules.specs.Zeros.{Tree, leaf, fork, treeOf, readTree}
 use Rattle.rules.specs.Located.{widthOf, listedFrom, listed, byMethod, emptyIn, lay, valuesInto}
@@ -25,13 +24,14 @@ use Rattle.rules.proofs.Tests.{and-left, and-right}
 pub record Gives {A : Type 0} (p : Reader A) (Q : A → Type 0) : Type 0 where
   pub on : {b : List ℕ} {i : ℕ} {a : A} {j : ℕ} → Below 2 b → i ≤ length b → p b i ≡ whole a j → (i ≤ j) × (j ≤ length b) × Q a
 
-no-refusal : {A : Type 0} {X : Type 0} {w : Refusal} {at : ℕ} {a : A} {j : ℕ} → _≡_ {A = Read A} (refuse w at) (whole a j) → X
+-- a reading that is whole is no refusal, and tells its value and its place
+pub no-refusal : {A : Type 0} {X : Type 0} {w : Refusal} {at : ℕ} {a : A} {j : ℕ} → _≡_ {A = Read A} (refuse w at) (whole a j) → X
 no-refusal e = let z : _≡_ {A = ℕ} 0 1 = cc in absurd (omega arith)
 
-same-value : {A : Type 0} {a c : A} {i j : ℕ} → _≡_ {A = Read A} (whole a i) (whole c j) → a ≡ c
+pub same-value : {A : Type 0} {a c : A} {i j : ℕ} → _≡_ {A = Read A} (whole a i) (whole c j) → a ≡ c
 same-value e = cc
 
-same-place : {A : Type 0} {a c : A} {i j : ℕ} → _≡_ {A = Read A} (whole a i) (whole c j) → i ≡ j
+pub same-place : {A : Type 0} {a c : A} {i j : ℕ} → _≡_ {A = Read A} (whole a i) (whole c j) → i ≡ j
 same-place e = cc
 
 pub gives-give : {A : Type 0} {Q : A → Type 0} (a : A) → Q a → Gives (give a) Q
@@ -152,13 +152,6 @@ unfolding readTree
 gives-readTree P (leaf s) h = gives-give s h
 gives-readTree P (fork z o) h =
     gives-bind gives-bit (λ a l. gives-cond (eqb a 1) (λ t. gives-readTree P o (h .1)) (λ t. gives-readTree P z (h .0)))
-
--- tool 6 or 8
-pub gives-sixNotEight : Gives sixNotEight (λ t. (6 ≤ t) × (t ≤ 8))
-unfolding sixNotEight
-gives-sixNotEight =
-    gives-bind gives-bit (λ a h. gives-cond (eqb a 1) (λ t. gives-give 6 (lit≤ tt, lit≤ tt)) (λ t.
-    gives-bind gives-bit (λ b g. gives-cond (eqb b 1) (λ u. gives-give 6 (lit≤ tt, lit≤ tt)) (λ u. gives-give 8 (lit≤ tt, lit≤ tt)))))
 
 -- places that are listed
 pub gives-listedFrom : (w d : ℕ) (done : List ℕ) (count : ℕ) → length done ≤ d → Below 2 done → Gives (listedFrom w d done count) (Sized 2 d)

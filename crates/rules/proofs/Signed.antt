@@ -5,7 +5,7 @@ use mathlib.Core.Bool.{Bool, true, false, cond, _&&_}
 use native.Mathlib.Omega.{arith}
 use lib.Dec.{eqb, leb}
 use lib.IntN.{ℤ, pos, negsuc}
-use lib.Bits.{bitXor}
+use lib.Bits.{bitXor, xor-zero-l}
 use borrow.Author.Tests.{eqb-true, leb-true}
 use Rattle.rules.specs.Samples.{maskOf, signed, sampleOf, plusZero, minusZero, onLine}
 use Rattle.rules.proofs.Tests.{and-left, and-right, allBelow, allBelow-at}
@@ -75,3 +75,12 @@ signed-one-to-one {mask} l x y g h e = sym (l .back x g) ∙ ap (sampleOf mask) 
 
 pub sampleOf-one-to-one : {mask : ℕ} → LawMask mask → (v w : ℤ) → InRange v → InRange w → sampleOf mask v ≡ sampleOf mask w → v ≡ w
 sampleOf-one-to-one {mask} l v w g h e = sym (l .forth v g) ∙ ap (signed mask) e ∙ l .forth w h
+
+-- "plus zero is 0, minus zero is -1", as octets
+pub plus-zero : (mask : ℕ) → plusZero mask ≡ 128 + mask
+unfolding sampleOf
+plus-zero mask = rw xor-zero-l
+
+pub minus-zero : (mask : ℕ) → minusZero mask ≡ mask
+unfolding sampleOf
+minus-zero mask = xor-zero-l mask

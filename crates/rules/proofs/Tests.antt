@@ -1,13 +1,14 @@
--- A rule of all numbers below n, by one test that is computed; and what a test that joins two says of each.
+-- A rule of all numbers below n, by one test that is computed; what a test that joins two says of each;
+-- and what holds of every length (`by-length`) and of every tool (`by-tool`).
 use Prim.Native.Nat.{ℕ, zero, suc, _≤_, _<_}
 use mathlib.Core.Path.{_≡_, refl, sym, subst}
-use mathlib.Core.Bool.{Bool, true, false, _&&_, _||_}
+use mathlib.Core.Bool.{Bool, true, false, not, _&&_, _||_, false≢true}
 use native.Mathlib.Nat.{not-suc-le-zero}
 use native.Mathlib.Omega.{arith}
 use native.Mathlib.Decide.{ℕ-discrete}
-use lib.Dec.{eqb}
-use borrow.Author.Tests.{eqb-true}
-use Rattle.rules.specs.Tools.{isLength}
+use lib.Dec.{eqb, leb, lit<, lit≤}
+use borrow.Author.Tests.{eqb-true, ne-eqb, leb-true}
+use Rattle.rules.specs.Tools.{isTool, isLength}
 
 pub and-left : (a b : Bool) → (a && b) ≡ true → a ≡ true
 and-left true b e = refl
@@ -20,6 +21,11 @@ and-right false b e = absurd (subst (λ (t : Bool). isFalse t) e tt)
     isFalse : Bool → Type 0
     isFalse true = ⊥
     isFalse false = Unit {0}
+
+-- a test that follows from another
+pub implied : (a b : Bool) → (not a || b) ≡ true → a ≡ true → b ≡ true
+implied true b h e = h
+implied false b h e = absurd (false≢true e)
 
 abbrev pub allBelow : (ℕ → Bool) → ℕ → Bool
 allBelow f zero = true
@@ -49,3 +55,32 @@ by-length P a b c d e n h =
   where
     is : (m : ℕ) → P m → eqb n m ≡ true → P n
     is m p h = subst P (sym (eqb-true n m h)) p
+
+pub not-length : (n : ℕ) → (n ≡ 40 → ⊥) → (n ≡ 80 → ⊥) → (n ≡ 160 → ⊥) → (n ≡ 240 → ⊥) → (n ≡ 320 → ⊥) → false ≡ isLength n
+not-length n a b c d e = rw (ne-eqb n 40 a, ne-eqb n 80 b, ne-eqb n 160 c, ne-eqb n 240 d, ne-eqb n 320 e)
+
+-- what holds of the seven tools holds of every tool
+pub by-tool : (P : ℕ → Type 0) → P 1 → P 2 → P 3 → P 4 → P 5 → P 6 → P 7 → (t : ℕ) → isTool t ≡ true → P t
+by-tool P a b c d e f g t h = go t (leb-true 1 t (and-left (leb 1 t) (leb t 7) h)) (leb-true t 7 (and-right (leb 1 t) (leb t 7) h))
+  where
+    go : (t : ℕ) → 1 ≤ t → t ≤ 7 → P t
+    go zero l k = absurd (omega arith)
+    go (suc zero) l k = a
+    go (suc (suc zero)) l k = b
+    go (suc (suc (suc zero))) l k = c
+    go (suc (suc (suc (suc zero)))) l k = d
+    go (suc (suc (suc (suc (suc zero))))) l k = e
+    go (suc (suc (suc (suc (suc (suc zero)))))) l k = f
+    go (suc (suc (suc (suc (suc (suc (suc zero))))))) l k = g
+    go (suc (suc (suc (suc (suc (suc (suc (suc t)))))))) l k = absurd (omega arith)
+
+-- 0, a pad's, is none
+pub tool-some : (t : ℕ) → isTool t ≡ true → 1 ≤ t
+tool-some t h = by-tool (λ t. 1 ≤ t) (lit≤ tt) (lit≤ tt) (lit≤ tt) (lit≤ tt) (lit≤ tt) (lit≤ tt) (lit≤ tt) t h
+
+-- every tool is below this number, for tests that are computed
+abbrev pub pastTools : ℕ
+pastTools = 8
+
+pub tool-low : (t : ℕ) → isTool t ≡ true → t < pastTools
+tool-low t h = by-tool (λ t. t < pastTools) (lit< tt) (lit< tt) (lit< tt) (lit< tt) (lit< tt) (lit< tt) (lit< tt) t h

@@ -7,37 +7,38 @@ use native.Mathlib.Omega.{arith}
 use lib.ListN.{length, drop, length-drop, drop-of-length-le}
 use lib.Dec.{leb}
 use borrow.Author.Tests.{le-leb, lt-leb, leb-true}
+use Rattle.rules.specs.Tools.{mostLaw, allTools}
 use Rattle.rules.specs.Listing.{lawWord}
 use Rattle.settings.specs.declared.Settings.{Settings}
 use Rattle.settings.specs.declared.Given.{Given}
 use Rattle.settings.specs.declared.Given.the-variants.{Is, Bad}
 use Rattle.keyvalue.specs.Reading.{Read, whole, none, Reader, _>>=_, ended}
 use Rattle.keyvalue.specs.Lines.{lineOf, ranged}
-use Rattle.settings.specs.Lines.{setWord, blockWord, greetingWord, fourLines, settings, settingsText, given, settingsIn}
+use Rattle.settings.specs.Lines.{setWord, blockWord, greetingWord, mostBlock, mostGreeting, fourLines, settings, settingsText, given, settingsIn}
 use Rattle.keyvalue.proofs.Exact.{Back, back-bind, back-last, back-alone, back-ranged, Stands, chain, stands-alone, got-value, got-place}
 use Rattle.keyvalue.proofs.Exact.{InRange, ranged-only, Through, through, passed}
 
 module _ (text : List ℕ) where
-  pub no-law : none ≡ ranged lawWord 0 1 text 0 → Bad ≡ settingsIn text
+  pub no-law : none ≡ ranged lawWord 0 mostLaw text 0 → Bad ≡ settingsIn text
   unfolding settings fourLines
   no-law e = sym (rw (← e))
 
-  module _ {law a : ℕ} (e : whole law a ≡ ranged lawWord 0 1 text 0) where
-    pub no-set : none ≡ ranged setWord 0 127 text a → Bad ≡ settingsIn text
+  module _ {law a : ℕ} (e : whole law a ≡ ranged lawWord 0 mostLaw text 0) where
+    pub no-set : none ≡ ranged setWord 0 allTools text a → Bad ≡ settingsIn text
     unfolding settings fourLines
     no-set f = sym (rw (← e, ← f))
 
-    module _ {set b : ℕ} (f : whole set b ≡ ranged setWord 0 127 text a) where
-      pub no-block : none ≡ ranged blockWord 1 1048576 text b → Bad ≡ settingsIn text
+    module _ {set b : ℕ} (f : whole set b ≡ ranged setWord 0 allTools text a) where
+      pub no-block : none ≡ ranged blockWord 1 mostBlock text b → Bad ≡ settingsIn text
       unfolding settings fourLines
       no-block g = sym (rw (← e, ← f, ← g))
 
-      module _ {block c : ℕ} (g : whole block c ≡ ranged blockWord 1 1048576 text b) where
-        pub no-greeting : none ≡ ranged greetingWord 0 65535 text c → Bad ≡ settingsIn text
+      module _ {block c : ℕ} (g : whole block c ≡ ranged blockWord 1 mostBlock text b) where
+        pub no-greeting : none ≡ ranged greetingWord 0 mostGreeting text c → Bad ≡ settingsIn text
         unfolding settings fourLines
         no-greeting h = sym (rw (← e, ← f, ← g, ← h))
 
-        module _ {greeting d : ℕ} (h : whole greeting d ≡ ranged greetingWord 0 65535 text c) where
+        module _ {greeting d : ℕ} (h : whole greeting d ≡ ranged greetingWord 0 mostGreeting text c) where
           pub more-after : d < length text → Bad ≡ settingsIn text
           unfolding settings fourLines
           more-after l = sym (rw (← e, ← f, ← g, ← h, lt-leb (length text) d l))
@@ -48,20 +49,20 @@ module _ (text : List ℕ) where
 
 -- the values that a box takes
 pub record Sound (s : Settings) : Type 0 where
-  pub law : s .law ≤ 1
-  pub set : s .set ≤ 127
+  pub law : s .law ≤ mostLaw
+  pub set : s .set ≤ allTools
   pub least : 1 ≤ s .block
-  pub most : s .block ≤ 1048576
-  pub greeting : s .greeting ≤ 65535
+  pub most : s .block ≤ mostBlock
+  pub greeting : s .greeting ≤ mostGreeting
 
 -- the four lines are read back, and so is a text of them alone
 four-back : (s : Settings) → Sound s → Back fourLines (settingsText s) s
 unfolding fourLines settingsText
 four-back s h =
-    back-bind (ranged lawWord 0 1) _ (back-ranged lawWord 0 1 (s .law) (omega arith) (omega arith) (h .law))
-    (back-bind (ranged setWord 0 127) _ (back-ranged setWord 0 127 (s .set) (omega arith) (omega arith) (h .set))
-    (back-bind (ranged blockWord 1 1048576) _ (back-ranged blockWord 1 1048576 (s .block) (omega arith) (h .least) (h .most))
-    (back-last (ranged greetingWord 0 65535) _ (back-ranged greetingWord 0 65535 (s .greeting) (omega arith) (omega arith) (h .greeting)))))
+    back-bind (ranged lawWord 0 mostLaw) _ (back-ranged lawWord 0 mostLaw (s .law) (omega arith) (omega arith) (h .law))
+    (back-bind (ranged setWord 0 allTools) _ (back-ranged setWord 0 allTools (s .set) (omega arith) (omega arith) (h .set))
+    (back-bind (ranged blockWord 1 mostBlock) _ (back-ranged blockWord 1 mostBlock (s .block) (omega arith) (h .least) (h .most))
+    (back-last (ranged greetingWord 0 mostGreeting) _ (back-ranged greetingWord 0 mostGreeting (s .greeting) (omega arith) (omega arith) (h .greeting)))))
 
 -- what is written is read back
 pub settings-back : (s : Settings) → Sound s → settingsIn (settingsText s) ≡ Is s
@@ -80,14 +81,14 @@ settled m n h = rw (← m, ← n) h
 four-only : (text : List ℕ) (s : Settings) (i j : ℕ) → fourLines text i ≡ whole s j → (Sound s) × (Stands text i (settingsText s) j)
 unfolding fourLines settingsText
 four-only text s i j e =
-    let a = through (ranged lawWord 0 1 text i) _ e in
-    let b = through (ranged setWord 0 127 text (a .place)) _ (a .then) in
-    let c = through (ranged blockWord 1 1048576 text (b .place)) _ (b .then) in
-    let d = through (ranged greetingWord 0 65535 text (c .place)) _ (c .then) in
-    let p = ranged-only lawWord 0 1 text i (a .value) (a .place) (omega arith) (a .first) in
-    let q = ranged-only setWord 0 127 text (a .place) (b .value) (b .place) (omega arith) (b .first) in
-    let r = ranged-only blockWord 1 1048576 text (b .place) (c .value) (c .place) (omega arith) (c .first) in
-    let t = ranged-only greetingWord 0 65535 text (c .place) (d .value) (d .place) (omega arith) (d .first) in
+    let a = through (ranged lawWord 0 mostLaw text i) _ e in
+    let b = through (ranged setWord 0 allTools text (a .place)) _ (a .then) in
+    let c = through (ranged blockWord 1 mostBlock text (b .place)) _ (b .then) in
+    let d = through (ranged greetingWord 0 mostGreeting text (c .place)) _ (c .then) in
+    let p = ranged-only lawWord 0 mostLaw text i (a .value) (a .place) (omega arith) (a .first) in
+    let q = ranged-only setWord 0 allTools text (a .place) (b .value) (b .place) (omega arith) (b .first) in
+    let r = ranged-only blockWord 1 mostBlock text (b .place) (c .value) (c .place) (omega arith) (c .first) in
+    let t = ranged-only greetingWord 0 mostGreeting text (c .place) (d .value) (d .place) (omega arith) (d .first) in
     let m = got-value (d .then) in
     let n = got-place (d .then) in
     settled m n (

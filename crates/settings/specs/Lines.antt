@@ -2,6 +2,7 @@
 -- one line each in that order, written as in R-6".
 use Prim.Native.Nat.{ℕ}
 use mathlib.Core.List.{List, [], _∷_, _++_}
+use Rattle.rules.specs.Tools.{mostLaw, allTools}
 use Rattle.rules.specs.Listing.{lawWord}
 use Rattle.keyvalue.specs.Reading.{Read, whole, none, Reader, _>>=_, give, ended}
 use Rattle.keyvalue.specs.Lines.{lineOf, ranged}
@@ -19,13 +20,7 @@ blockWord = 0x62 ∷ 0x6C ∷ 0x6F ∷ 0x63 ∷ 0x6B ∷ 0x3D ∷ []
 abbrev pub greetingWord : List ℕ
 greetingWord = 0x67 ∷ 0x72 ∷ 0x65 ∷ 0x65 ∷ 0x74 ∷ 0x69 ∷ 0x6E ∷ 0x67 ∷ 0x3D ∷ []
 
--- the greatest value of each
-abbrev pub mostLaw : ℕ
-mostLaw = 1
-
-abbrev pub mostSet : ℕ
-mostSet = 127
-
+-- the greatest block and greeting; law and set are those of the calls
 abbrev pub mostBlock : ℕ
 mostBlock = 1048576
 
@@ -35,7 +30,7 @@ mostGreeting = 65535
 unfoldable pub fourLines : Reader Settings
 fourLines = do
   law ← ranged lawWord 0 mostLaw
-  set ← ranged setWord 0 mostSet
+  set ← ranged setWord 0 allTools
   block ← ranged blockWord 1 mostBlock
   greeting ← ranged greetingWord 0 mostGreeting
   give (record { law = law; set = set; block = block; greeting = greeting })

@@ -11,6 +11,13 @@ ghost use Rattle.settings.specs.State.{valuesAt, rowAt, boxOf, cellsOf, 
 ghost use Rattle.settings.specs.Gathers.{KeepsRow, Gathers};
 ghost use Rattle.settings.specs.Calls.{refusalNumber, numberOf, toldOf, Adds, Save, Back, Read, Wipe};
 use keyvalue::Told;
+use rules::ALL_TOOLS;
+use rules::MOST_LAW;
+
+// The greatest block and greeting; law and set are those of the calls.
+pub const MOST_BLOCK: u32 = 1048576;
+
+pub const MOST_GREETING: u32 = 65535;
 
 pub struct Settings {
     pub law: u32,
@@ -84,18 +91,18 @@ pub fn told_of(a: Answer) -> u32
 pub fn settings_in(text: &[u8]) -> Given
     ensures { λ r. ⌜ r ≡ settingsIn (now (text .entry)) ⌝ }
 {
-    match keyvalue::ranged_line(text, 0, b"law=", 0, 1) {
+    match keyvalue::ranged_line(text, 0, b"law=", 0, MOST_LAW) {
         Told::Not => Given::Bad,
-        Told::Got(law, a) => match keyvalue::ranged_line(text, a, b"set=", 0, 127) {
+        Told::Got(law, a) => match keyvalue::ranged_line(text, a, b"set=", 0, ALL_TOOLS) {
             Told::Not => Given::Bad,
-            Told::Got(set, b) => match keyvalue::ranged_line(text, b, b"block=", 1, 1048576) {
+            Told::Got(set, b) => match keyvalue::ranged_line(text, b, b"block=", 1, MOST_BLOCK) {
                 Told::Not => Given::Bad,
                 Told::Got(block, c) => match keyvalue::ranged_line(
                     text,
                     c,
                     b"greeting=",
                     0,
-                    65535,
+                    MOST_GREETING,
                 ) {
                     Told::Not => Given::Bad,
                     Told::Got(greeting, d) => {

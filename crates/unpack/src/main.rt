@@ -1,8 +1,11 @@
 // The bench tool `unpack`: a stream back to sound, or, with a master, the sound compared with it. What a part holds stands in
 // crate `unpacking`, what the arguments mean in `options`, what is said in `console`.
 ghost use mathlib.Core.Path.{_≡_};
+ghost use mathlib.Core.Bool.{false};
 ghost use Prim.Native.Nat.{_≤_};
 ghost use lib.ListN.{length};
+ghost use Rattle.rules.specs.declared.Ending.the-variants.{Done};
+ghost use Rattle.rules.specs.Walk.{longest};
 ghost use Rattle.unpack.specs.Runs.{NextSound, UsesUpTo, TellsWalk};
 use console::Got;
 use options::Settings;
@@ -133,7 +136,7 @@ fn parts(
     master: &mut [u8],
     form: u32,
 ) -> Total
-    requires { ⌜ (length (now stream) ≤ 65535) × (320 ≤ length (now page)) × (length (now page) ≤ length (now master)) ⌝ }
+    requires { ⌜ (length (now stream) ≤ longest) × (320 ≤ length (now page)) × (length (now page) ≤ length (now master)) ⌝ }
     ensures { λ r. ⌜ (r .wrong ≡ 0 → TellsWalk (now (stream .entry)) law set r) ⌝ }
 {
     let mut at = 0;
@@ -165,7 +168,7 @@ fn parts(
 
 // The second page is for the master.
 fn all_parts(stream: &[u8], law: u32, set: u32, compares: bool, fd: i32, form: u32) -> Total
-    requires { ⌜ length (now stream) ≤ 65535 ⌝ }
+    requires { ⌜ length (now stream) ≤ longest ⌝ }
     ensures { λ r. ⌜ (r .wrong ≡ 0 → TellsWalk (now (stream .entry)) law set r) ⌝ }
 {
     let mut page = [0u8; 61440];
@@ -207,7 +210,7 @@ fn read_stream(name: &[u8], stream: &mut [u8]) -> Got
 
 // A WAV file tells before its sound how long it is: the stream is walked once for that.
 fn heading_written(stream: &[u8], law: u32, set: u32, form: u32, fd: i32) -> bool
-    requires { ⌜ length (now stream) ≤ 65535 ⌝ }
+    requires { ⌜ length (now stream) ≤ longest ⌝ }
 {
     if form != 2 {
         return true;
@@ -218,7 +221,7 @@ fn heading_written(stream: &[u8], law: u32, set: u32, form: u32, fd: i32) -> boo
 
 // Writes the sound of a stream to a file.
 fn write_to(stream: &[u8], law: u32, set: u32, form: u32, name: &[u8])
-    requires { ⌜ length (now stream) ≤ 65535 ⌝ }
+    requires { ⌜ length (now stream) ≤ longest ⌝ }
 {
     let fd = console::open_out(name);
     if fd < 0 {
@@ -297,7 +300,7 @@ fn conclude(t: Total, fd: i32, name: &[u8]) {
 
 // Compares the sound of a stream with a master.
 fn compare_with(stream: &[u8], law: u32, set: u32, name: &[u8])
-    requires { ⌜ length (now stream) ≤ 65535 ⌝ }
+    requires { ⌜ length (now stream) ≤ longest ⌝ }
 {
     let fd = console::open_in(name);
     if fd < 0 {
@@ -308,20 +311,33 @@ fn compare_with(stream: &[u8], law: u32, set: u32, name: &[u8])
     conclude(t, fd, name);
 }
 
+// LAW, SET and LONG are told before any frame is read.
+fn refuses(end: Ending) -> bool
+    ensures { λ r. ⌜ (r ≡ false → end ≡ Done) ⌝ }
+{
+    match end {
+        Ending::Refused(why) => {
+            console::refused(false, rules::refusal_number(why), 0, 0, 0);
+            true
+        }
+        Ending::Done => false,
+    }
+}
+
 // Reads the stream, and writes or compares its sound. `name` is INFILE, `other` OUTFILE or the master. SET comes before any file.
 fn run(s: Settings, law: u32, name: &[u8], other: &[u8]) {
-    if 127 < s.set {
-        console::refused(false, 11, 0, 0, 0);
+    let e = rules::guard(law, s.set);
+    if refuses(e) {
         return;
     }
-    let mut stream = [0u8; 65536];
+    let mut stream = [0u8; rules::LONGEST + 1];
     let got = read_stream(name, &mut stream);
     if got.failed {
         return;
     }
     let n = got.count;
-    if 65535 < n {
-        console::refused(false, 13, 0, 0, 0);
+    let e = rules::guard_stream(law, s.set, n);
+    if refuses(e) {
         return;
     }
     if s.master == 0 {

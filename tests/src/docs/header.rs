@@ -76,7 +76,7 @@ const LIMITS: [(&str, &str, &str, &str); 4] = [
     ("MAX_SAMPLES", "crates/rules/src/lib.rt", "samples: [u8; ", "]"),
     ("MAX_FRAME", "crates/promises/proofs/Bounded.antt", "octetsUsed f ≤ ", ")"),
     ("MAX_STREAM", "crates/rules/specs/Walk.antt", "\nlongest = ", "\n"),
-    ("ALL_TOOLS", "crates/rules/specs/Tools.antt", "\nisSet set = leb set ", "\n"),
+    ("ALL_TOOLS", "crates/rules/specs/Tools.antt", "\nallTools = ", "\n"),
 ];
 
 /// The calls of the header are those of crate g7110 and of the wrapper, with as many entries in their reports.

@@ -1,6 +1,6 @@
 use borrow.Author.Needs.{needs}
 use borrow.Author.Tests.{eq-eqb, ne-eqb}
-use Rattle.bodies.proofs.TwoZeros.{plus-zero, minus-zero}
+use Rattle.rules.proofs.Signed.{plus-zero, minus-zero}
 use Rattle.bodies.proofs.zero_of.Statement.{statement}
 use Rattle.bodies.proofs.zero_of.Tie as tie
 

@@ -4,7 +4,8 @@ use mathlib.Core.Path.{refl, ap, _∙_}
 use native.Mathlib.Omega.{arith}
 use Rattle.rules.specs.Samples.{plusZero}
 use Rattle.cutting.specs.Cuts.{toFill}
-use Rattle.cutting.proofs.Filling.{Filling, fill-start, fill-length, fill-turn, fill-done, mask-low}
+use Rattle.law.proofs.Mask.{mask-small}
+use Rattle.cutting.proofs.Filling.{Filling, fill-start, fill-length, fill-turn, fill-done}
 use Rattle.cutting.proofs.fill_up.Statement.{statement}
 use Rattle.cutting.proofs.fill_up.Tie as tie
 
@@ -18,7 +19,7 @@ mask-of-requires : tie.Need-mask-of-requires Inv-loop μ-loop
 mask-of-requires c κs = search needs
 
 plus-zero-requires : tie.Need-plus-zero-requires Inv-loop μ-loop
-plus-zero-requires c κs = rw (c .mask-of .ensures) (mask-low (c .before .before .args .law))
+plus-zero-requires c κs = rw (c .mask-of .ensures) (mask-small (c .before .before .args .law))
 
 sub-more : tie.Need-sub-more Inv-loop μ-loop
 sub-more c = search needs

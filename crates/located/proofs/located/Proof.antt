@@ -3,7 +3,8 @@ use borrow.Author.Needs.{needs}
 use native.Mathlib.Omega.{arith}
 use Rattle.rules.specs.Located.{located}
 use Rattle.bits.proofs.Told.{told, refused}
-use Rattle.located.proofs.InTurn.{body-refused, lays-body}
+use Rattle.bodies.proofs.Poured.{fills-refused}
+use Rattle.located.proofs.InTurn.{lays-body}
 use Rattle.located.proofs.Rows.{values-apart, apart-as, no-values, some-values}
 use Rattle.located.proofs.located.Statement.{statement}
 use Rattle.located.proofs.located.Tie as tie
@@ -35,7 +36,7 @@ returns : tie.Need-returns
 returns c =
     let s = told (c .before .before .before .before .before .before .before .before .before .number .ensures) (c .before .before .before .before .before .before .before .case .given .1) in
     let f = told (c .before .before .before .before .before .number2 .ensures) (c .before .before .before .flag .given .1) in
-    body-refused (no-values _ _ _ _ (s .says) (f .says) (c .before .row-of .ensures) (c .if1 .taken)) (omega arith)
+    fills-refused (no-values _ _ _ _ (s .says) (f .says) (c .before .row-of .ensures) (c .if1 .taken)) (omega arith)
 
 add-values : tie.Need-add-values
 add-values c = search needs
@@ -49,13 +50,13 @@ values-requires c κs =
 
 returns-2 : tie.Need-returns-2
 unfolding located
-returns-2 c = body-refused (rw (refused (c .before .before .before .number .ensures) (c .before .why .given .1))) (omega arith)
+returns-2 c = fills-refused (rw (refused (c .before .before .before .number .ensures) (c .before .why .given .1))) (omega arith)
 
 returns-3 : tie.Need-returns-3
 unfolding located
 returns-3 c =
     let s = told (c .before .before .before .before .before .before .before .number .ensures) (c .before .before .before .before .before .case .given .1) in
-    body-refused (rw (s .says, refused (c .before .before .before .number2 .ensures) (c .before .why2 .given .1))) (omega arith)
+    fills-refused (rw (s .says, refused (c .before .before .before .number2 .ensures) (c .before .why2 .given .1))) (omega arith)
 
 returns-4 : tie.Need-returns-4
 returns-4 c =

@@ -1,73 +1,88 @@
 use borrow.Author.Needs.{needs}
-use mathlib.Core.Path.{sym, _∙_}
-use native.Mathlib.Omega.{arith}
+use mathlib.Core.Path.{_≡_, sym, _∙_}
+use mathlib.Core.List.{List}
+use mathlib.Core.Bool.{true, false}
+use Prim.Native.Nat.{ℕ}
 use borrow.Author.Tests.{not-true, not-false}
 use lib.ListN.{length}
-use Rattle.packing.proofs.Ordered.{stops, packs-as, lawful, odd, no-law, too-large, even, no-length, the-frames}
+use Rattle.rules.specs.declared.Ending.the-variants.{Done}
+use Rattle.rules.specs.Refusals.{verdict}
+use Rattle.rules.specs.Tools.{isLength, writerAsks}
+use Rattle.rules.proofs.Guards.{AllMet, all-met}
+use Rattle.packing.proofs.Ordered.{stops, packs-as, refuses, no-length, the-frames}
 use Rattle.packing.proofs.pack.Statement.{statement}
 use Rattle.packing.proofs.pack.Tie as tie
+
+guard-writer-requires : tie.Need-guard-writer-requires
+guard-writer-requires c κs = search needs
+
+enum-known-why : tie.Need-enum-known-why
+enum-known-why c = search needs
 
 stopped-requires : tie.Need-stopped-requires
 stopped-requires c κs = search needs
 
-returns : tie.Need-returns
-returns c =
-    let s = c .before .before .before .before in
-    stops (c .stopped .ensures) (s .args .law) (s .args .set) _ (no-law (s .args .sound .now) (s .args .law) (s .args .set) (s .args .n) (length (s .args .out .now)) (omega arith)) (s .args .out .now)
-
-stopped-requires-2 : tie.Need-stopped-requires-2
-stopped-requires-2 c κs = search needs
-
-returns-2 : tie.Need-returns-2
-returns-2 c =
-    let s = c .before .before .before .before .before in
-    stops (c .stopped2 .ensures) (s .args .law) (s .args .set) _ (too-large (s .args .sound .now) (s .args .law) (s .args .set) (s .args .n) (length (s .args .out .now)) (omega arith) (omega arith)) (s .args .out .now)
-
-stopped-requires-3 : tie.Need-stopped-requires-3
-stopped-requires-3 c κs = search needs
-
-returns-3 : tie.Need-returns-3
-returns-3 c =
-    let s = c .before .before .before .before .before .before in
-    stops (c .stopped3 .ensures) (s .args .law) (s .args .set) _ (even (s .args .sound .now) (s .args .law) (s .args .set) (s .args .n) (length (s .args .out .now)) (omega arith) (omega arith) (omega arith)) (s .args .out .now)
+enum-told : tie.Need-enum-told
+enum-told c = search needs
 
 is-length-requires : tie.Need-is-length-requires
 is-length-requires c κs = search needs
 
-stopped-requires-4 : tie.Need-stopped-requires-4
-stopped-requires-4 c κs = search needs
+stopped-requires-2 : tie.Need-stopped-requires-2
+stopped-requires-2 c κs = search needs
 
-returns-4 : tie.Need-returns-4
-returns-4 c =
-    let s = c .before .before .before .before .before .before .before .before in
-    stops (c .stopped4 .ensures) (s .args .law) (s .args .set) _ (no-length (s .args .sound .now) (s .args .law) (s .args .set) (s .args .n) (length (s .args .out .now)) (lawful (s .args .law) (omega arith)) (odd (s .args .set) (omega arith) (omega arith)) (sym (c .before .before .is-length .ensures) ∙ not-true (c .before .before .is-length .result) (c .before .if4 .taken))) (s .args .out .now)
+-- LENGTH
+returns : tie.Need-returns
+returns c =
+    let t = c .before .before .before in
+    let a = t .before .before .before .before .before .args in
+    let met = all-met (writerAsks (a .law) (a .set)) (sym (t .before .before .guard-writer .ensures) ∙ t .enum-told .given .1) in
+    let l = c .before .before .is-length in
+    stops (c .stopped2 .ensures) (a .law) (a .set) _
+    (no-length (a .sound .now) (a .law) (a .set) (a .n) (length (a .out .now)) (met .0) (met .1 .0)
+    (sym (l .ensures) ∙ not-true (l .result) (c .before .if1 .taken)))
+    (a .out .now)
 
 frames-requires : tie.Need-frames-requires
 frames-requires c κs =
-    let s = c .before .before .before .before .before .before .before .before in
-    (lawful (s .args .law) (omega arith), odd (s .args .set) (omega arith) (omega arith))
+    let t = c .before .before .before in
+    let a = t .before .before .before .before .before .args in
+    let met = all-met (writerAsks (a .law) (a .set)) (sym (t .before .before .guard-writer .ensures) ∙ t .enum-told .given .1) in
+    (met .0, met .1 .0)
+
+-- LAW or SET
+returns-2 : tie.Need-returns-2
+returns-2 c =
+    let a = c .before .before .before .before .before .before .before .args in
+    let e = sym (c .before .before .before .before .guard-writer .ensures) ∙ c .before .before .why .given .1 in
+    stops (c .stopped .ensures) (a .law) (a .set) _ (refuses (a .sound .now) (a .law) (a .set) (a .n) (length (a .out .now)) e) (a .out .now)
 
 same-length : tie.Need-same-length
 same-length c = search needs
 
-returns-5 : tie.Need-returns-5
-returns-5 c =
-    let s = c .before .before .before .before .before .before .before .before .before .before .before in
-    packs-as (the-frames (s .args .sound .now) (s .args .law) (s .args .set) (s .args .n) (length (s .args .out .now)) (lawful (s .args .law) (omega arith)) (odd (s .args .set) (omega arith) (omega arith)) (sym (c .before .before .before .before .before .is-length .ensures) ∙ not-false (c .before .before .before .before .before .is-length .result) (c .before .before .before .before .if4 .left))) (c .before .before .frames .ensures)
+returns-3 : tie.Need-returns-3
+returns-3 c =
+    let t = c .before .before .before .before .before .before in
+    let a = t .before .before .before .before .before .args in
+    let met = all-met (writerAsks (a .law) (a .set)) (sym (t .before .before .guard-writer .ensures) ∙ t .enum-told .given .1) in
+    let l = c .before .before .before .before .before .is-length in
+    packs-as
+    (the-frames (a .sound .now) (a .law) (a .set) (a .n) (length (a .out .now)) (met .0) (met .1 .0)
+    (sym (l .ensures) ∙ not-false (l .result) (c .before .before .before .before .if1 .left)))
+    (c .before .before .frames .ensures)
 
 pub pack-spec : {M : Type 1} → statement M
 pack-spec =
     tie.close
     (tie.spec
+    guard-writer-requires
+    enum-known-why
     stopped-requires
-    returns
-    stopped-requires-2
-    returns-2
-    stopped-requires-3
-    returns-3
+    enum-told
     is-length-requires
-    stopped-requires-4
-    returns-4
+    stopped-requires-2
+    returns
     frames-requires
+    returns-2
     same-length
-    returns-5)
+    returns-3)

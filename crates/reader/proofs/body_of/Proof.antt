@@ -3,12 +3,13 @@ use borrow.Author.Needs.{needs}
 use Prim.Native.Nat.{ℕ, _≤_}
 use mathlib.Core.Path.{_≡_, sym, ap, _∙_}
 use native.Mathlib.Omega.{arith}
+use mathlib.Core.List.{List}
 use lib.ListN.{length, replicate}
 use Rattle.rules.specs.Bits.{bitsOf}
-use Rattle.rules.specs.Reading.{whole}
+use Rattle.rules.specs.Reading.{Reader, whole}
 use Rattle.rules.specs.Frame.{body}
 use Rattle.bodies.proofs.Poured.{fills-as}
-use Rattle.reader.proofs.Decided.{length-range}
+use Rattle.reader.proofs.Decided.{length-range, last-body}
 use Rattle.reader.proofs.body_of.Statement.{statement}
 use Rattle.reader.proofs.body_of.Tie as tie
 
@@ -24,7 +25,7 @@ module _ (s : tie.Start) where
       ap (λ (t : ℕ). body (s .args .mask) t (s .args .h .len) (s .args .h .mark) (bitsOf (s .args .octets .now)) (s .args .h .at)) e
 
   lent : length (s .args .samples .now) ≡ 320
-  lent = s .pre .5
+  lent = s .pre .3
 
 uncompressed-requires : tie.Need-uncompressed-requires
 uncompressed-requires c κs =
@@ -47,16 +48,16 @@ constant-requires : tie.Need-constant-requires
 constant-requires c κs = let s = c .before .before .before in (omega (arith, s .pre .0 .at), ranged s .1, lent s)
 
 binary-requires : tie.Need-binary-requires
-binary-requires c κs = let s = c .before .before .before in (omega (arith, s .pre .0 .at), ranged s .1, s .pre .3, lent s)
+binary-requires c κs = let s = c .before .before .before in (omega (arith, s .pre .0 .at), ranged s .1, s .pre .1, lent s)
 
 cast-plus-minus : tie.Need-cast-plus-minus
 cast-plus-minus c = search needs
 
 plus-minus-requires : tie.Need-plus-minus-requires
-plus-minus-requires c κs = let s = c .before .before .before .before in (omega (arith, s .pre .0 .at), ranged s .1, s .pre .3, lent s)
+plus-minus-requires c κs = let s = c .before .before .before .before in (omega (arith, s .pre .0 .at), ranged s .1, s .pre .1, lent s)
 
 located-requires : tie.Need-located-requires
-located-requires c κs = let s = c .before .before .before in (omega (arith, s .pre .0 .at), ranged s .1, s .pre .3, s .pre .4, lent s)
+located-requires c κs = let s = c .before .before .before in (omega (arith, s .pre .0 .at), ranged s .1, s .pre .1, s .pre .2, lent s)
 
 returns : tie.Need-returns
 unfolding body
@@ -98,7 +99,9 @@ returns-7 : tie.Need-returns-7
 unfolding body
 returns-7 c =
     let s = c .before .before .before .before in
-    fills-as (c .located .ensures) (of-tool s 7 (omega arith)) (omega (arith, s .pre .0 .at))
+    let last = last-body (s .args .mask) (s .args .h .tool) (s .args .h .len) (s .args .h .mark)
+    (omega arith) (omega arith) (omega arith) (omega arith) (omega arith) (omega arith) in
+    fills-as (c .located .ensures) (ap (λ (r : Reader (List ℕ)). r (bitsOf (s .args .octets .now)) (s .args .h .at)) last) (omega (arith, s .pre .0 .at))
 
 pub body-of-spec : {M : Type 1} → statement M
 body-of-spec =

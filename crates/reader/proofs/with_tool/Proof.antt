@@ -18,7 +18,7 @@ use Rattle.law.proofs.Mask.{mask-small, mask-odd}
 use Rattle.bodies.specs.Bodied.{FillsBody}
 use Rattle.bodies.proofs.Told.{body-whole, body-length, body-refused}
 use Rattle.reader.proofs.Told.{fills-none, fills-finish}
-use Rattle.reader.proofs.Decided.{no-tool, no-room, no-body, with-body, body-within, body-size, held-range}
+use Rattle.reader.proofs.Decided.{no-tool, no-room, no-body, with-body, body-within, body-size}
 use Rattle.reader.proofs.with_tool.Statement.{statement}
 use Rattle.reader.proofs.with_tool.Tie as tie
 
@@ -46,8 +46,7 @@ mask-of-requires c κs = search needs
 body-of-requires : tie.Need-body-of-requires
 body-of-requires c κs =
     let s = c .before .before .before .before .before .before .before in
-    let h = held-range (s .args .set) (s .args .h .tool) (held (c .before .before .before .before)) in
-    (s .pre .0, h .0, h .1, omega (arith, mask-small (s .args .law)), omega (arith, mask-odd (s .args .law)), s .pre .2)
+    (s .pre .0, omega (arith, mask-small (s .args .law)), omega (arith, mask-odd (s .args .law)), s .pre .2)
 
 -- the body's answer
 module _ (c : tie.After-body-of) where
@@ -63,14 +62,16 @@ module _ (c : tie.After-body-of) where
   -- read whole, it ends within the octets
   within : {len bits : ℕ} → c .body-of .result ≡ Got len bits → (bits ≤ 8 * length (s .args .octets .now)) × (bits ≤ 2 ^ 41)
   within e = (
-    body-within (s .args .law) (s .args .h .tool) (s .args .h .len) (s .args .h .mark) (s .args .octets .now) (s .args .h .at) (omega (arith, s .pre .0 .at, s .pre .1))
+    body-within (s .args .law) (s .args .h .tool) (s .args .h .len) (s .args .h .mark) (s .pre .0 .len) (s .args .octets .now) (s .args .h .at)
+        (omega (arith, s .pre .0 .at, s .pre .1))
         (body-whole fills e .says),
     omega (arith, rw (ap nextOf e) at (fills .next)),
   )
 
   -- and it has the frame's length
   sized : {len bits : ℕ} (e : c .body-of .result ≡ Got len bits) → s .args .h .len ≡ length (body-whole fills e .s)
-  sized e = body-size (s .args .law) (s .args .h .tool) (s .args .h .len) (s .args .h .mark) (s .args .octets .now) (s .args .h .at) (omega (arith, s .pre .0 .at, s .pre .1))
+  sized e = body-size (s .args .law) (s .args .h .tool) (s .args .h .len) (s .args .h .mark) (s .pre .0 .len) (s .args .octets .now) (s .args .h .at)
+      (omega (arith, s .pre .0 .at, s .pre .1))
       (body-whole fills e .says)
 
 enum-known-why : tie.Need-enum-known-why
