@@ -94,9 +94,7 @@ module _ (mask : ℕ) (s : List ℕ) {n plus minus : ℕ} (size : length s ≡ n
       let six : P 6 = omega (arith, five, more, rice-form mask s, forties) in
       let last : choose mask set s measured ≡ 5 = won mask s set 5 _ on (among mask s set P 6 _ six rest) in
       record {
-        tool = tool ∙ sym last;
-        bits = bits ∙ five ∙ ap (λ (t : ℕ). length (formOf mask t s)) (sym last);
-        small = omega (arith, bits);
+        chosen = record { tool = tool ∙ sym last; bits = bits ∙ five ∙ ap (λ (t : ℕ). length (formOf mask t s)) (sym last); small = omega (arith, bits) };
         rice = λ e. absurd (omega (arith, e, last));
         kind = λ x y. tool;
       }

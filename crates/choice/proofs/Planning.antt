@@ -58,9 +58,7 @@ zeros-planned {mask} {set} {n} {s} {runs} {rice} {h₆ = h₆} {h₅ = h₅} sev
     let last : P (choose mask set s (7 ∷ [])) = rw (← (c₇ .tool), e₁) (λ x y. absurd (x refl)) in
     let k : P (choose mask set s measured) = among mask s set P 5 _ (λ x y. refl) (among mask s set P 6 _ (λ x y. absurd (y refl)) last) in
     record {
-      tool = c₅ .tool;
-      bits = c₅ .bits;
-      small = c₅ .small;
+      chosen = record { tool = c₅ .tool; bits = c₅ .bits; small = c₅ .small };
       rice = λ e.
           let i = riced .rice (and-left (holds set 6) (applies mask 6 s) (chosen-offered mask set s measured 6 e (λ z. omega arith))) in
           record {
@@ -92,9 +90,7 @@ module _ {mask : ℕ} (set : ℕ) {s : List ℕ} (zeros : twoZeros mask s ≡ fa
   not-located {n} {r = r} size few off t b =
       let done = no-zeros (choose-past 7 off (uncompressed-chosen mask s size set few)) in
       record {
-        tool = t ∙ done .tool;
-        bits = b ∙ done .bits;
-        small = omega arith;
+        chosen = record { tool = t ∙ done .tool; bits = b ∙ done .bits; small = omega arith };
         located = λ e. absurd (never (sym off ∙ chosen-offered mask set s measured 7 e (λ z. omega arith)));
         kind = λ x. absurd (x t);
       }
@@ -108,9 +104,7 @@ module _ {mask : ℕ} (set : ℕ) {s : List ℕ} (zeros : twoZeros mask s ≡ fa
       let done = no-zeros first′ in
       rw told
       (record {
-        tool = done .tool;
-        bits = done .bits;
-        small = done .small;
+        chosen = record { tool = done .tool; bits = done .bits; small = done .small };
         located = λ e.
             record {
               x = i .x;

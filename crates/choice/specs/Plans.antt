@@ -10,7 +10,7 @@ use Rattle.rules.specs.Samples.{plusZero, minusZero}
 use Rattle.rules.specs.Chooses.{choose, chosenTool, formOf, leastOf, greatestOf}
 use Rattle.look.specs.Looks.{near, twoZeros}
 use Rattle.offers.specs.declared.Choice.{Choice}
-use Rattle.choice.specs.declared.Settled.{Settled}
+use Rattle.choice.specs.declared.settle.Settled.{Settled}
 use Rattle.zeros.specs.declared.Zeros.{Zeros}
 use Rattle.locating.specs.declared.Located.{Located}
 use Rattle.zeros.specs.Rice.{RiceIs}
@@ -24,23 +24,33 @@ measured = 5 ∷ 6 ∷ 7 ∷ []
 abbrev pub valueTool : ℕ → ℕ → ℕ → ℕ
 valueTool mask set x = cond (holds set 2 && eqb x (plusZero mask)) 2 (cond (holds set 3 && eqb x (minusZero mask)) 3 (cond (holds set 4) 4 0))
 
--- a choice that is settled, or 0 where it lies among the tools that are measured; all samples are then from -2 to 1
+-- a frame that the look leaves: all samples are from -2 to 1, and the choice lies among the tools that are measured
+pub record Left (mask set : ℕ) (s : List ℕ) : Type 0 where
+  pub later : chosenTool mask set s ≡ choose mask set s measured
+  pub close : near (leastOf mask s) (greatestOf mask s) ≡ true
+
+-- a tool that is settled, or 0 where the frame is left
 pub record Plain (mask set : ℕ) (s : List ℕ) (r : ℕ) : Type 0 where
   pub settled : (r ≡ 0 → ⊥) → r ≡ chosenTool mask set s
-  pub later : r ≡ 0 → chosenTool mask set s ≡ choose mask set s measured
-  pub close : r ≡ 0 → near (leastOf mask s) (greatestOf mask s) ≡ true
+  pub left : r ≡ 0 → Left mask set s
   pub most : r ≤ 4
 
--- what the first look tells: the tool, or 0 and whether the frame is of the two zeros
+-- tool t, and the bits of its form
+pub record Chosen (mask t : ℕ) (s : List ℕ) (u b : ℕ) : Type 0 where
+  pub tool : u ≡ t
+  pub bits : b ≡ length (formOf mask t s)
+  pub small : b ≤ 1000000000
+
+-- the paper's choice, or tool 0 where the frame is left, and then whether it is of the two zeros
 pub record Settles (mask set : ℕ) (s : List ℕ) (r : Settled) : Type 0 where
-  pub plain : Plain mask set s (r .tool)
+  pub chosen : (r .tool ≡ 0 → ⊥) → Chosen mask (chosenTool mask set s) s (r .tool) (r .bits)
+  pub left : r .tool ≡ 0 → Left mask set s
   pub zeros : r .zeros ≡ twoZeros mask s
+  pub most : r .tool ≤ 4
 
 -- tool t as it is written of a frame of the two zeros
 pub record ZerosFor (mask t : ℕ) (s : List ℕ) (r : Zeros) (runs : List ℕ) : Type 0 where
-  pub tool : r .tool ≡ t
-  pub bits : r .bits ≡ length (formOf mask t s)
-  pub small : r .bits ≤ 1000000000
+  pub chosen : Chosen mask t s (r .tool) (r .bits)
   pub rice : t ≡ 6 → RiceIs mask s r runs
   pub kind : (r .tool ≡ 1 → ⊥) → (r .tool ≡ 6 → ⊥) → r .tool ≡ 5
 
@@ -51,8 +61,6 @@ locatedBy best w =
 
 -- tool t as it is written of a frame that has a 1 or a -2
 pub record LocatedFor (mask t : ℕ) (s : List ℕ) (r : Located) (a b c : List ℕ) : Type 0 where
-  pub tool : r .tool ≡ t
-  pub bits : r .bits ≡ length (formOf mask t s)
-  pub small : r .bits ≤ 1000000000
+  pub chosen : Chosen mask t s (r .tool) (r .bits)
   pub located : t ≡ 7 → LocatedIs mask s r a b c
   pub kind : (r .tool ≡ 1 → ⊥) → r .tool ≡ 7

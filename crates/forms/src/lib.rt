@@ -54,20 +54,6 @@ fn put_samples(out: &mut [u8], samples: &[u8], n: usize)
     }
 }
 
-// The octets of tools 1 to 4: the first one, and with it the samples, or the one that all are.
-pub fn whole_octets(tool: u32, n: usize) -> usize
-    requires { ⌜ n ≤ 320 ⌝ }
-    ensures { λ r. ⌜ r ≡ cond (eqb tool 1) (1 + n) (cond (eqb tool 4) 2 1) ⌝ }
-{
-    if tool == 1 {
-        return 1 + n;
-    }
-    if tool == 4 {
-        return 2;
-    }
-    1
-}
-
 // The form of tools 1 to 4: whole octets, stored with no pen. Their number comes back.
 pub fn put_whole(out: &mut [u8], samples: &[u8], n: usize, tool: u32) -> usize
     requires { ⌜ (1 ≤ tool) × (tool ≤ 4) ⌝ }

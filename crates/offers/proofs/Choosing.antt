@@ -64,10 +64,13 @@ chosen-offered mask set s (u ∷ ts) t e ne =
 
 -- the bits of the plain forms, and where they apply
 module _ (mask : ℕ) (s : List ℕ) {n : ℕ} (size : length s ≡ n) where
+  pub uncompressed-bits : 8 + 8 * n ≡ length (formOf mask 1 s)
+  unfolding formOf
+  uncompressed-bits = rw (length-append, length-lowBits, length-bitsOf, size)
+
   pub uncompressed-chosen : (set : ℕ) → n ≤ 320 → ChosenIs mask set s [] (record { tool = 1; bits = 8 + 8 * n })
-  unfolding choose formOf
-  uncompressed-chosen set few =
-      record { tool = refl; bits = rw (length-append, length-lowBits, length-bitsOf, size); small = omega arith }
+  unfolding choose
+  uncompressed-chosen set few = record { tool = refl; bits = uncompressed-bits; small = omega arith }
 
   pub binary-bits : 8 + n ≡ length (formOf mask 5 s)
   unfolding formOf

@@ -5,18 +5,16 @@ use mathlib.Core.List.{List}
 use mathlib.Core.Bool.{Bool, true, false, cond, _&&_}
 use native.Mathlib.Omega.{arith}
 use borrow.Author.Tests.{ne-eqb, lt-leb, le-leb, lt-ltb, le-ltb}
-use lib.ListN.{length, getD, length-append}
+use lib.ListN.{length, getD}
 use lib.Dec.{eqb, leb, ltb}
 use Rattle.rules.specs.Tools.{holds}
 use Rattle.rules.specs.Samples.{plusZero, minusZero}
 use Rattle.rules.specs.Chooses.{every, rowOf, applies, formOf, riceChoice, locatedForm, leastOf, greatestOf}
-use Rattle.rules.proofs.Octets.{length-lowBits, length-bitsOf}
-use Rattle.look.specs.Looks.{near, twoZeros}
-use Rattle.look.proofs.Tests.{and-zero}
-use Rattle.locating.proofs.Near.{row-near, located-near}
+use Rattle.look.specs.Looks.{near}
+use Rattle.locating.proofs.Near.{row-near}
 use Rattle.offers.specs.declared.Offer.{Offer}
 use Rattle.offers.specs.Offers.{failing, OfferIs, offerIf}
-use Rattle.offers.proofs.Choosing.{plus-bits, minus-bits, constant-bits}
+use Rattle.offers.proofs.Choosing.{uncompressed-bits, plus-bits, minus-bits, constant-bits}
 
 pub offer-as : {mask t u : ℕ} {s : List ℕ} {r : Offer} → u ≡ t → OfferIs mask t s r → OfferIs mask u s r
 offer-as e p = rw e p
@@ -37,9 +35,8 @@ offer-one mask t s {a = false} low e f few told = unmet mask t s low e told
 -- tools 1 to 4
 module _ (mask : ℕ) (s : List ℕ) where
   pub uncompressed-offer : {n : ℕ} {r : Offer} → length s ≡ n → n ≤ 320 → r ≡ offerIf true (8 + 8 * n) → OfferIs mask 1 s r
-  unfolding applies formOf
-  uncompressed-offer size few told =
-      offer-one mask 1 s (omega arith) refl (rw (length-append, length-lowBits, length-bitsOf, size)) (omega arith) told
+  unfolding applies
+  uncompressed-offer size few told = offer-one mask 1 s (omega arith) refl (uncompressed-bits mask s size) (omega arith) told
 
   pub plus-offer : {x : ℕ} {r : Offer} → x ≡ plusZero mask → r ≡ offerIf (every (λ y. eqb y x) s) 8 → OfferIs mask 2 s r
   unfolding applies

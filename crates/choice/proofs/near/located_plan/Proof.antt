@@ -11,12 +11,12 @@ use Rattle.rules.specs.Chooses.{applies}
 use Rattle.offers.specs.declared.Choice.{Choice}
 use Rattle.locating.proofs.Rows.{applied-is}
 use Rattle.choice.proofs.Planning.{past, located-as, not-located, located-for}
-use Rattle.choice.proofs.located_plan.Statement.{statement}
-use Rattle.choice.proofs.located_plan.Tie as tie
-use Rattle.choice.proofs.located_plan.Reads as reads
-use Rattle.choice.proofs.located_plan.Lts as lts
-use Rattle.choice.proofs.located_by.Reads as located-by-reads
-use Rattle.choice.proofs.not_located.Reads as not-located-reads
+use Rattle.choice.proofs.near.located_plan.Statement.{statement}
+use Rattle.choice.proofs.near.located_plan.Tie as tie
+use Rattle.choice.proofs.near.located_plan.Reads as reads
+use Rattle.choice.proofs.near.located_plan.Lts as lts
+use Rattle.choice.proofs.near.located_by.Reads as located-by-reads
+use Rattle.choice.proofs.near.not_located.Reads as not-located-reads
 use Rattle.locating.proofs.located_applies.Reads as located-applies-reads
 use Rattle.locating.proofs.located_of.Reads as located-of-reads
 use Rattle.locating.proofs.row_of.Reads as row-of-reads
@@ -42,7 +42,7 @@ returns : tie.Need-returns
 returns c =
     let s = c .before .before .before .before in
     let off = ap (λ (h : Bool). h && applies (s .args .mask) 7 (frame s)) (sym (c .before .before .holds .ensures) ∙ not-true _ (c .before .if1 .taken)) in
-    located-as (s .pre .1 .1 .1 .1) (not-located (s .args .set) (s .pre .1 .0) (size s) (s .pre .0 .0 .few) off (c .not-located .ensures .0) (c .not-located .ensures .1))
+    located-as (s .pre .1 .0 .0 .later) (not-located (s .args .set) (s .pre .1 .0 .1) (size s) (s .pre .0 .0 .few) off (c .not-located .ensures .0) (c .not-located .ensures .1))
 
 tally-of-requires : tie.Need-tally-of-requires
 tally-of-requires c κs = search needs
@@ -60,8 +60,8 @@ returns-2 : tie.Need-returns-2
 returns-2 c =
     let s = c .before .before .before .before .before .before .before .before in
     let off = sym (applied-is (c .before .before .before .before .tally-of .ensures) (size s) (c .before .before .before .row-of .ensures .0) (c .before .before .located-applies .ensures)) ∙ not-true _ (c .before .if2 .taken) in
-    located-as (s .pre .1 .1 .1 .1)
-    (not-located (s .args .set) (s .pre .1 .0) (size s) (s .pre .0 .0 .few) (past (s .args .set) 7 off) (c .not-located2 .ensures .0) (c .not-located2 .ensures .1))
+    located-as (s .pre .1 .0 .0 .later)
+    (not-located (s .args .set) (s .pre .1 .0 .1) (size s) (s .pre .0 .0 .few) (past (s .args .set) 7 off) (c .not-located2 .ensures .0) (c .not-located2 .ensures .1))
 
 located-of-requires : tie.Need-located-of-requires
 located-of-requires c κs =
@@ -69,7 +69,7 @@ located-of-requires c κs =
     let t = c .before .before .before .before .before .before .tally-of .ensures in
     let found = c .before .before .before .before .before .row-of .ensures .0 in
     let on = sym (applied-is t (size s) found (c .before .before .before .before .located-applies .ensures)) ∙ not-false _ (c .before .before .before .if2 .left) in
-    (s .pre .0, ((t, on), (found, s .pre .1 .1 .1 .0)))
+    (s .pre .0, ((t, on), (found, s .pre .1 .1)))
 
 uncompressed-of-requires : tie.Need-uncompressed-of-requires
 uncompressed-of-requires c κs =
@@ -88,8 +88,8 @@ returns-3 c =
     let t = c .before .before .before .before .before .before .before .before .before .before .tally-of .ensures in
     let on = sym (applied-is t (size s) (c .before .before .before .before .before .before .before .before .before .row-of .ensures .0) (c .before .before .before .before .before .before .before .before .located-applies .ensures)) ∙ not-false _ (c .before .before .before .before .before .before .before .if2 .left) in
     let held = sym (c .before .before .before .before .before .before .before .before .before .before .before .before .holds .ensures) ∙ not-false _ (c .before .before .before .before .before .before .before .before .before .before .before .if1 .left) in
-    located-as (s .pre .1 .1 .1 .1)
-    (located-for (s .args .set) (s .pre .1 .0) (size s) (s .pre .0 .0 .few) held on (c .before .before .before .located-of .ensures) (c .before .before .uncompressed-of .ensures) (c .before .better .ensures) (c .located-by .ensures))
+    located-as (s .pre .1 .0 .0 .later)
+    (located-for (s .args .set) (s .pre .1 .0 .1) (size s) (s .pre .0 .0 .few) held on (c .before .before .before .located-of .ensures) (c .before .before .uncompressed-of .ensures) (c .before .better .ensures) (c .located-by .ensures))
 
 pub located-plan-spec : {M : Type 1} → statement M
 located-plan-spec =

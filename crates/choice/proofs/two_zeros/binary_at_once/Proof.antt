@@ -1,10 +1,10 @@
 use borrow.Author.Needs.{needs}
 use borrow.Author.Tests.{not-true, not-false, le-ltb, lt-ltb}
 use mathlib.Core.Path.{sym, _∙_}
-use Rattle.choice.proofs.binary_at_once.Statement.{statement}
-use Rattle.choice.proofs.binary_at_once.Tie as tie
-use Rattle.choice.proofs.binary_at_once.Reads as reads
-use Rattle.choice.proofs.binary_at_once.Lts as lts
+use Rattle.choice.proofs.two_zeros.binary_at_once.Statement.{statement}
+use Rattle.choice.proofs.two_zeros.binary_at_once.Tie as tie
+use Rattle.choice.proofs.two_zeros.binary_at_once.Reads as reads
+use Rattle.choice.proofs.two_zeros.binary_at_once.Lts as lts
 use Rattle.prefix.proofs.holds.Reads as holds-reads
 
 holds-requires : tie.Need-holds-requires

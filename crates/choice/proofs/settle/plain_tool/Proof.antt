@@ -6,18 +6,18 @@ use lib.ListN.{length, getD, take}
 use lib.Seq.{length-take-le, getD-take}
 use Rattle.choice.proofs.Settling.{OneValue, one-of, several, spread, value-settled, value-lacks}
 use Rattle.look.proofs.Tests.{mask-seven}
-use Rattle.choice.proofs.plain_tool.Statement.{statement}
-use Rattle.choice.proofs.plain_tool.Tie as tie
-use Rattle.choice.proofs.plain_tool.Reads as reads
-use Rattle.choice.proofs.plain_tool.Lts as lts
-use Rattle.choice.proofs.one_value_tool.Reads as one-value-tool-reads
-use Rattle.choice.proofs.spread_tool.Reads as spread-tool-reads
+use Rattle.choice.proofs.settle.plain_tool.Statement.{statement}
+use Rattle.choice.proofs.settle.plain_tool.Tie as tie
+use Rattle.choice.proofs.settle.plain_tool.Reads as reads
+use Rattle.choice.proofs.settle.plain_tool.Lts as lts
+use Rattle.choice.proofs.settle.one_value_tool.Reads as one-value-tool-reads
+use Rattle.choice.proofs.settle.spread_tool.Reads as spread-tool-reads
 
 some : (s : tie.Start) → 1 ≤ length (take (s .args .n) (s .args .samples .now))
-some s = omega (arith, length-take-le (s .args .n) (s .args .samples .now) (s .pre .0 .1 .0), s .pre .0 .0)
+some s = omega (arith, length-take-le (s .args .n) (s .args .samples .now) (s .pre .0 .0 .long), s .pre .0 .0 .some)
 
 first : (s : tie.Start) → getD (s .args .samples .now) 0 0 ≡ getD (take (s .args .n) (s .args .samples .now)) 0 0
-first s = sym (getD-take (s .args .n) (s .args .samples .now) 0 0 (s .pre .0 .0))
+first s = sym (getD-take (s .args .n) (s .args .samples .now) 0 0 (s .pre .0 .0 .some))
 
 one : (s : tie.Start) → s .args .l .any ≡ s .args .l .all → OneValue (s .args .mask) (s .args .set) (getD (s .args .samples .now) 0 0) (take (s .args .n) (s .args .samples .now))
 one s = one-of (s .args .set) (some s) (first s) (s .pre .1)
@@ -34,7 +34,7 @@ shared-slice-read-one-value-tool : tie.Need-shared-slice-read-one-value-tool
 shared-slice-read-one-value-tool c = search needs
 
 one-value-tool-requires : tie.Need-one-value-tool-requires
-one-value-tool-requires c κs = mask-seven _ (c .before .before .before .before .pre .0 .1 .1)
+one-value-tool-requires c κs = mask-seven _ (c .before .before .before .before .pre .0 .1)
 
 returns-2 : tie.Need-returns-2
 returns-2 c =

@@ -3,10 +3,10 @@ use mathlib.Core.Path.{sym, ap, _∙_}
 use mathlib.Core.Bool.{Bool, _&&_}
 use borrow.Author.Tests.{not-true, not-false}
 use lib.Dec.{eqb}
-use Rattle.choice.proofs.is_for.Statement.{statement}
-use Rattle.choice.proofs.is_for.Tie as tie
-use Rattle.choice.proofs.is_for.Reads as reads
-use Rattle.choice.proofs.is_for.Lts as lts
+use Rattle.choice.proofs.settle.is_for.Statement.{statement}
+use Rattle.choice.proofs.settle.is_for.Tie as tie
+use Rattle.choice.proofs.settle.is_for.Reads as reads
+use Rattle.choice.proofs.settle.is_for.Lts as lts
 use Rattle.prefix.proofs.holds.Reads as holds-reads
 
 holds-requires : tie.Need-holds-requires

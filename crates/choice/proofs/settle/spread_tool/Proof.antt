@@ -1,9 +1,9 @@
 use Prim.Native.Nat.{_%_}
 use borrow.Author.Tests.{lt-ltb, le-ltb}
-use Rattle.choice.proofs.spread_tool.Statement.{statement}
-use Rattle.choice.proofs.spread_tool.Tie as tie
-use Rattle.choice.proofs.spread_tool.Reads as reads
-use Rattle.choice.proofs.spread_tool.Lts as lts
+use Rattle.choice.proofs.settle.spread_tool.Statement.{statement}
+use Rattle.choice.proofs.settle.spread_tool.Tie as tie
+use Rattle.choice.proofs.settle.spread_tool.Reads as reads
+use Rattle.choice.proofs.settle.spread_tool.Lts as lts
 
 returns : tie.Need-returns
 returns c = rw (le-ltb (c .before .args .any % 128) 2 (c .if1 .taken))

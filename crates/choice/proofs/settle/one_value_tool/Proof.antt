@@ -5,11 +5,11 @@ use lib.Dec.{eqb}
 use Rattle.rules.specs.Tools.{holds}
 use Rattle.rules.specs.Samples.{plusZero, minusZero}
 use Rattle.choice.proofs.Settling.{for-zero}
-use Rattle.choice.proofs.one_value_tool.Statement.{statement}
-use Rattle.choice.proofs.one_value_tool.Tie as tie
-use Rattle.choice.proofs.one_value_tool.Reads as reads
-use Rattle.choice.proofs.one_value_tool.Lts as lts
-use Rattle.choice.proofs.is_for.Reads as is-for-reads
+use Rattle.choice.proofs.settle.one_value_tool.Statement.{statement}
+use Rattle.choice.proofs.settle.one_value_tool.Tie as tie
+use Rattle.choice.proofs.settle.one_value_tool.Reads as reads
+use Rattle.choice.proofs.settle.one_value_tool.Lts as lts
+use Rattle.choice.proofs.settle.is_for.Reads as is-for-reads
 use Rattle.law.proofs.minus_zero.Reads as minus-zero-reads
 use Rattle.law.proofs.plus_zero.Reads as plus-zero-reads
 use Rattle.prefix.proofs.holds.Reads as holds-reads
