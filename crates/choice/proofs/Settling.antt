@@ -1,5 +1,5 @@
 -- Laws of what the first look settles: a frame of one value, and a frame that only uncompressed applies to.
-use Prim.Native.Nat.{ℕ, zero, suc, _+_, _/_, _%_, _≤_, _<_}
+use Prim.Native.Nat.{ℕ, zero, suc, _+_, _*_, _/_, _%_, _≤_, _<_}
 use mathlib.Core.Path.{_≡_, refl, sym, ap, _∙_}
 use mathlib.Core.List.{List, [], _∷_, map}
 use mathlib.Core.Bool.{Bool, true, false, cond, _&&_}
@@ -14,17 +14,18 @@ use Rattle.rules.specs.First.{isLong, baseOf, riceCode}
 use Rattle.rules.specs.Runs.{runsOf, riceForms}
 use Rattle.rules.specs.Zeros.{codesOf, codeOf, flagOf}
 use Rattle.rules.specs.Located.{caseOf}
-use Rattle.rules.specs.Chooses.{countOf, every, leastFrom, bestS, markOf, riceChoice, locatedForm, leastOf, greatestOf, rowOf, applies, formOf, octetsOfForm, choose}
+use Rattle.rules.specs.Chooses.{countOf, every, leastFrom, bestS, markOf, riceChoice, locatedForm, leastOf, greatestOf, rowOf, applies, formOf, octetsOfForm, choose, chosenTool}
 use Rattle.rules.proofs.Octets.{length-lowBits, length-bitsOf}
 use Rattle.measure.proofs.Rice.{length-riceForm}
 use Rattle.look.specs.declared.Spread.{Spread}
 use Rattle.look.specs.Looks.{near, SpreadIs}
 use Rattle.rules.proofs.Counts.{count-le}
 use Rattle.finding.proofs.Finding.{runs-common, runs-other}
-use Rattle.choice.specs.Plans.{measured, valueTool, Plain}
+use Rattle.choice.specs.Plans.{measured, valueTool, Plain, Chosen}
 use Rattle.look.proofs.Tests.{never, and-zero}
+use Rattle.locating.proofs.Near.{located-near}
 use Rattle.zeros.proofs.TwoZeros.{rice-applies, rice-sum}
-use Rattle.choice.proofs.Choosing.{constant-bits, minus-bits, plus-bits}
+use Rattle.offers.proofs.Choosing.{uncompressed-bits, constant-bits, minus-bits, plus-bits}
 
 -- a Rice code has a one and S low bits, so that runs of anything at all have more bits than S
 one-run : (s v : ℕ) (vs : List ℕ) → s < length (riceForms s (v ∷ vs))
@@ -132,8 +133,7 @@ module _ (mask : ℕ) (s : List ℕ) where
     plus-settled e =
         record {
           settled = λ n. sym (won 2 _ e (omega (arith, plus-bits mask s refl, form-some (choose mask set s (3 ∷ 4 ∷ measured)))));
-          later = λ z. absurd (omega arith);
-          close = λ z. absurd (omega arith);
+          left = λ z. absurd (omega arith);
           most = omega arith;
         }
 
@@ -142,8 +142,7 @@ module _ (mask : ℕ) (s : List ℕ) where
       minus-settled e =
           record {
             settled = λ n. sym (passed 2 _ two ∙ won 3 _ e (omega (arith, minus-bits mask s refl, form-some (choose mask set s (4 ∷ measured)))));
-            later = λ z. absurd (omega arith);
-            close = λ z. absurd (omega arith);
+            left = λ z. absurd (omega arith);
             most = omega arith;
           }
 
@@ -152,14 +151,13 @@ module _ (mask : ℕ) (s : List ℕ) where
         constant-settled some e =
             record {
               settled = λ n. sym (passed 2 _ two ∙ passed 3 _ three ∙ won 4 _ e (omega (arith, constant-bits mask s refl, measured-long set some)));
-              later = λ z. absurd (omega arith);
-              close = λ z. absurd (omega arith);
+              left = λ z. absurd (omega arith);
               most = omega arith;
             }
 
         pub unsettled : (holds set 4 && applies mask 4 s) ≡ false → near (leastOf mask s) (greatestOf mask s) ≡ true → Plain mask set s 0
         unsettled four n =
-            record { settled = λ n. absurd (n refl); later = λ z. passed 2 _ two ∙ passed 3 _ three ∙ passed 4 _ four; close = λ z. n; most = omega arith }
+            record { settled = λ n. absurd (n refl); left = λ z. record { later = passed 2 _ two ∙ passed 3 _ three ∙ passed 4 _ four; close = n }; most = omega arith }
 
         pub spread-settled : (holds set 4 && applies mask 4 s) ≡ false → applies mask 6 s ≡ false → applies mask 7 s ≡ false → Plain mask set s 1
         spread-settled four six seven =
@@ -167,8 +165,7 @@ module _ (mask : ℕ) (s : List ℕ) where
             let none : (t : ℕ) → applies mask t s ≡ false → (holds set t && applies mask t s) ≡ false = λ t e. rw e (and-zero (holds set t)) in
             record {
               settled = λ n. sym (passed 2 _ two ∙ passed 3 _ three ∙ passed 4 _ four ∙ passed 5 _ (none 5 five) ∙ passed 6 _ (none 6 six) ∙ passed 7 _ (none 7 seven) ∙ last);
-              later = λ z. absurd (omega arith);
-              close = λ z. absurd (omega arith);
+              left = λ z. absurd (omega arith);
               most = omega arith;
             }
 
@@ -199,30 +196,6 @@ none-value y first (x ∷ s) h e a = go (every (λ z. eqb z y) (x ∷ s)) refl
     go true g =
         absurd (never (sym a ∙ ap (λ (k : ℕ). every (λ z. eqb z k) (x ∷ s)) (e ∙ eqb-true x y (head-passes (λ z. eqb z y) x s g)) ∙ g))
     go false g = g
-
--- a row is near
-row-near : (mask : ℕ) (s : List ℕ) → near (leastOf mask s) (greatestOf mask s) ≡ false → rowOf mask s ≡ 4
-unfolding rowOf caseOf
-row-near mask s far = go (leb 126 (leastOf mask s)) refl (leb (greatestOf mask s) 129) refl
-  where
-    least : ℕ
-    least = leastOf mask s
-
-    greatest : ℕ
-    greatest = greatestOf mask s
-
-    go : (a : Bool) → leb 126 (leastOf mask s) ≡ a → (b : Bool) → leb (greatestOf mask s) 129 ≡ b → rowOf mask s ≡ 4
-    go false e b f =
-        let h = leb-false 126 (leastOf mask s) e in
-        rw (ne-eqb (leastOf mask s) 126 (λ z. omega arith), ne-eqb (leastOf mask s) 127 (λ z. omega arith), ne-eqb (leastOf mask s) 128 (λ z. omega arith))
-    go true e false f =
-        let h = leb-false (greatestOf mask s) 129 f in
-        rw (ne-eqb (greatestOf mask s) 129 (λ z. omega arith), ne-eqb (greatestOf mask s) 128 (λ z. omega arith), and-zero (eqb (leastOf mask s) 126), and-zero (eqb (leastOf mask s) 127), and-zero (eqb (leastOf mask s) 128))
-    go true e true f = absurd (never (sym (rw (e, f) at far)))
-
-located-near : (mask : ℕ) (s : List ℕ) → near (leastOf mask s) (greatestOf mask s) ≡ false → applies mask 7 s ≡ false
-unfolding applies
-located-near mask s far = rw (row-near mask s far, and-zero (leb 80 (length s)))
 
 -- the zeros are nearer still
 zeros-near : {mask first : ℕ} {s : List ℕ} {l : Spread} → SpreadIs mask first s l → ltb (l .any % 128) 2 ≡ false → applies mask 6 s ≡ false
@@ -300,3 +273,25 @@ module _ {mask set first r : ℕ} {s : List ℕ} (o : OneValue mask set first s)
 -- a test against a zero, said of the zero that is meant
 pub for-zero : (set t first : ℕ) {y z : ℕ} {r : Bool} → r ≡ (holds set t && eqb first y) → y ≡ z → (holds set t && eqb first z) ≡ r
 for-zero set t first e f = sym (e ∙ ap (λ (k : ℕ). holds set t && eqb first k) f)
+
+-- the bits of a tool that is settled
+whole-bits : (mask t : ℕ) (s : List ℕ) {n : ℕ} → length s ≡ n → 1 ≤ t → t ≤ 4 → cond (eqb t 1) (8 + 8 * n) (cond (eqb t 4) 16 8) ≡ length (formOf mask t s)
+whole-bits mask zero s size h k = absurd (omega arith)
+whole-bits mask (suc zero) s size h k = uncompressed-bits mask s size
+whole-bits mask (suc (suc zero)) s size h k = plus-bits mask s size
+whole-bits mask (suc (suc (suc zero))) s size h k = minus-bits mask s size
+whole-bits mask (suc (suc (suc (suc zero)))) s size h k = constant-bits mask s size
+whole-bits mask (suc (suc (suc (suc (suc t))))) s size h k = absurd (omega arith)
+
+whole-few : (t n : ℕ) → n ≤ 320 → cond (eqb t 1) (8 + 8 * n) (cond (eqb t 4) 16 8) ≤ 1000000000
+whole-few t n h = of-two (λ b. b ≤ 1000000000) (eqb t 1) (omega arith) (of-two (λ b. b ≤ 1000000000) (eqb t 4) (omega arith) (omega arith))
+
+pub settled-chosen : {mask set t b n : ℕ} {s : List ℕ} → Plain mask set s t → length s ≡ n → n ≤ 320 → b ≡ cond (eqb t 1) (8 + 8 * n) (cond (eqb t 4) 16 8) → (t ≡ 0 → ⊥)
+    → Chosen mask (chosenTool mask set s) s t b
+settled-chosen {mask} {set} {t} {b} {n} {s} p size few told some =
+    let e = p .settled some in
+    record {
+      tool = e;
+      bits = told ∙ whole-bits mask t s size (omega (arith, some)) (p .most) ∙ ap (λ (k : ℕ). length (formOf mask k s)) e;
+      small = rw told (whole-few t n few);
+    }

@@ -2,36 +2,19 @@
 use Prim.Native.Nat.{ℕ, _≤_}
 use mathlib.Core.Path.{_≡_}
 use mathlib.Core.List.{List, [], _∷_}
-use mathlib.Core.Bool.{Bool, true, cond, _&&_}
+use mathlib.Core.Bool.{true, cond, _&&_}
 use lib.ListN.{length}
-use lib.Dec.{eqb, leb}
-use Rattle.rules.specs.Bits.{octetsFor}
+use lib.Dec.{eqb}
 use Rattle.rules.specs.Tools.{holds}
 use Rattle.rules.specs.Samples.{plusZero, minusZero}
 use Rattle.rules.specs.Chooses.{choose, chosenTool, formOf, leastOf, greatestOf}
 use Rattle.look.specs.Looks.{near, twoZeros}
-use Rattle.choice.specs.declared.Choice.{Choice}
-use Rattle.choice.specs.declared.Settled.{Settled}
+use Rattle.offers.specs.declared.Choice.{Choice}
+use Rattle.choice.specs.declared.settle.Settled.{Settled}
 use Rattle.zeros.specs.declared.Zeros.{Zeros}
 use Rattle.locating.specs.declared.Located.{Located}
-use Rattle.locating.specs.declared.Ways.{Ways}
 use Rattle.zeros.specs.Rice.{RiceIs}
 use Rattle.locating.specs.Rows.{LocatedIs}
-
--- whether a tool is taken
-abbrev pub taken : Choice → Bool → ℕ → Bool
-taken best offered bits = offered && leb (octetsFor bits) (octetsFor (best .bits))
-
-pub record BetterIs (best : Choice) (t : ℕ) (offered : Bool) (bits : ℕ) (r : Choice) : Type 0 where
-  pub tool : r .tool ≡ cond (taken best offered bits) t (best .tool)
-  pub size : r .bits ≡ cond (taken best offered bits) bits (best .bits)
-  pub small : r .bits ≤ 1000000000
-
--- the best of some tools and of uncompressed
-pub record ChosenIs (mask set : ℕ) (s ts : List ℕ) (r : Choice) : Type 0 where
-  pub tool : r .tool ≡ choose mask set s ts
-  pub bits : r .bits ≡ length (formOf mask (choose mask set s ts) s)
-  pub small : r .bits ≤ 1000000000
 
 -- the tools that are measured
 abbrev pub measured : List ℕ
@@ -41,35 +24,43 @@ measured = 5 ∷ 6 ∷ 7 ∷ []
 abbrev pub valueTool : ℕ → ℕ → ℕ → ℕ
 valueTool mask set x = cond (holds set 2 && eqb x (plusZero mask)) 2 (cond (holds set 3 && eqb x (minusZero mask)) 3 (cond (holds set 4) 4 0))
 
--- a choice that is settled, or 0 where it lies among the tools that are measured; all samples are then from -2 to 1
+-- a frame that the look leaves: all samples are from -2 to 1, and the choice lies among the tools that are measured
+pub record Left (mask set : ℕ) (s : List ℕ) : Type 0 where
+  pub later : chosenTool mask set s ≡ choose mask set s measured
+  pub close : near (leastOf mask s) (greatestOf mask s) ≡ true
+
+-- a tool that is settled, or 0 where the frame is left
 pub record Plain (mask set : ℕ) (s : List ℕ) (r : ℕ) : Type 0 where
   pub settled : (r ≡ 0 → ⊥) → r ≡ chosenTool mask set s
-  pub later : r ≡ 0 → chosenTool mask set s ≡ choose mask set s measured
-  pub close : r ≡ 0 → near (leastOf mask s) (greatestOf mask s) ≡ true
+  pub left : r ≡ 0 → Left mask set s
   pub most : r ≤ 4
 
--- what the first look tells: the tool, or 0 and whether the frame is of the two zeros
+-- tool t, and the bits of its form
+pub record Chosen (mask t : ℕ) (s : List ℕ) (u b : ℕ) : Type 0 where
+  pub tool : u ≡ t
+  pub bits : b ≡ length (formOf mask t s)
+  pub small : b ≤ 1000000000
+
+-- the paper's choice, or tool 0 where the frame is left, and then whether it is of the two zeros
 pub record Settles (mask set : ℕ) (s : List ℕ) (r : Settled) : Type 0 where
-  pub plain : Plain mask set s (r .tool)
+  pub chosen : (r .tool ≡ 0 → ⊥) → Chosen mask (chosenTool mask set s) s (r .tool) (r .bits)
+  pub left : r .tool ≡ 0 → Left mask set s
   pub zeros : r .zeros ≡ twoZeros mask s
+  pub most : r .tool ≤ 4
 
 -- tool t as it is written of a frame of the two zeros
 pub record ZerosFor (mask t : ℕ) (s : List ℕ) (r : Zeros) (runs : List ℕ) : Type 0 where
-  pub tool : r .tool ≡ t
-  pub bits : r .bits ≡ length (formOf mask t s)
-  pub small : r .bits ≤ 1000000000
+  pub chosen : Chosen mask t s (r .tool) (r .bits)
   pub rice : t ≡ 6 → RiceIs mask s r runs
   pub kind : (r .tool ≡ 1 → ⊥) → (r .tool ≡ 6 → ⊥) → r .tool ≡ 5
 
 -- a choice, with what value-location writes
-abbrev pub locatedBy : Choice → ℕ → ℕ → ℕ → Ways → Located
-locatedBy best row flag count w =
-    record { tool = best .tool; bits = best .bits; row = row; flag = flag; count = count; first = w .first; second = w .second; third = w .third }
+abbrev pub locatedBy : Choice → Located → Located
+locatedBy best w =
+    record { tool = best .tool; bits = best .bits; row = w .row; flag = w .flag; count = w .count; first = w .first; second = w .second; third = w .third }
 
 -- tool t as it is written of a frame that has a 1 or a -2
 pub record LocatedFor (mask t : ℕ) (s : List ℕ) (r : Located) (a b c : List ℕ) : Type 0 where
-  pub tool : r .tool ≡ t
-  pub bits : r .bits ≡ length (formOf mask t s)
-  pub small : r .bits ≤ 1000000000
+  pub chosen : Chosen mask t s (r .tool) (r .bits)
   pub located : t ≡ 7 → LocatedIs mask s r a b c
   pub kind : (r .tool ≡ 1 → ⊥) → r .tool ≡ 7

@@ -70,14 +70,6 @@ whole-length t s {n} e = go (eqb t 1) (eqb t 4)
     go false true = refl
     go false false = refl
 
-pub octets-few : (t n : ℕ) → n ≤ 320 → cond (eqb t 1) (1 + n) (cond (eqb t 4) 2 1) ≤ 321
-octets-few t n h = go (eqb t 1) (eqb t 4)
-  where
-    go : (a b : Bool) → cond a (1 + n) (cond b 2 1) ≤ 321
-    go true b = omega arith
-    go false true = omega arith
-    go false false = omega arith
-
 pub octets-some : (t n : ℕ) → 1 ≤ cond (eqb t 1) (1 + n) (cond (eqb t 4) 2 1)
 octets-some t n = go (eqb t 1) (eqb t 4)
   where

@@ -1,12 +1,11 @@
 // Writing one frame: the chosen form alone is put out.
 
-use choice::first_look;
-use choice::located_plan;
-use choice::zeros_plan;
+use choice::near::located_plan;
+use choice::settle::choose;
+use choice::two_zeros::zeros_plan;
 use forms::put_located;
 use forms::put_two_zeros;
 use forms::put_whole;
-use forms::whole_octets;
 use law::mask_of;
 use law::plus_zero;
 use look::others;
@@ -15,17 +14,21 @@ use rules::Ending;
 use rules::Frame;
 use rules::Refusal;
 use rules::WriteAnswer;
+use rules::guard_writer;
+use rules::is_length;
 ghost use mathlib.Core.Path.{_≡_};
 ghost use mathlib.Core.Bool.{true, false};
-ghost use Prim.Native.Nat.{_*_, _≤_, _<_};
+ghost use Prim.Native.Nat.{_≤_};
 ghost use lib.ListN.{length, take};
-ghost use Rattle.rules.specs.Zeros as zeros;
-ghost use Rattle.rules.specs.Chooses.{leastOf, greatestOf, choose, chosenTool, declined, writeOne};
-ghost use Rattle.rules.specs.Tools.{isLength};
+ghost use Rattle.rules.specs.declared.Ending.the-variants.{Done};
+ghost use Rattle.rules.specs.Bits.{bitsOf};
+ghost use Rattle.rules.specs.Refusals.{verdict};
+ghost use Rattle.rules.specs.Tools.{writerAsks};
+ghost use Rattle.rules.specs.Chooses.{declined, writeOne};
 ghost use Rattle.rules.specs.Calls.{Writes, WriteFrame, WriteSamples};
-ghost use Rattle.look.specs.Looks.{near, twoZeros, isMask};
-ghost use Rattle.choice.specs.Plans.{measured};
-ghost use Rattle.forms.specs.Forms.{IsFrame};
+ghost use Rattle.look.specs.Looks.{twoZeros, isMask, FrameIn};
+ghost use Rattle.choice.specs.Plans.{Left};
+ghost use Rattle.forms.specs.Forms.{wholeOctets};
 ghost use Rattle.writer.specs.Answers.{Tells, fitting, pad, full, plain};
 
 // A refusal: no octets, no bits, no tool.
@@ -40,6 +43,18 @@ fn refused(why: Refusal) -> WriteAnswer
     }
 }
 
+// What was put out.
+fn wrote(octets: usize, bits: usize, tool: u32) -> WriteAnswer
+    ensures { λ r. ⌜ r ≡ record { end = Done; octets = octets; bits = bits; tool = tool } ⌝ }
+{
+    WriteAnswer {
+        end: Ending::Done,
+        octets: octets,
+        bits: bits,
+        tool: tool,
+    }
+}
+
 // "Zero samples give one octet 00."
 fn write_pad(out: &mut [u8]) -> WriteAnswer
     ensures { λ r. ⌜ Writes (fitting (length (now (out .entry))) pad) r (now (out .entry)) (now (out .exit)) ⌝ }
@@ -48,38 +63,26 @@ fn write_pad(out: &mut [u8]) -> WriteAnswer
         return refused(Refusal::Room);
     }
     out[0] = 0;
-    WriteAnswer {
-        end: Ending::Done,
-        octets: 1,
-        bits: 8,
-        tool: 0,
-    }
+    wrote(1, 8, 0)
 }
 
-// "ROOM means the chosen form's octets for a writer". Tools 1 to 4, which the first look settles.
-fn write_plain(out: &mut [u8], samples: &[u8], n: usize, tool: u32) -> WriteAnswer
-    requires { ⌜ (1 ≤ tool) × (tool ≤ 4) ⌝ }
-    requires { ⌜ IsFrame (now samples) n ⌝ }
+// "ROOM means the chosen form's octets for a writer". Tools 1 to 4, which the look settles.
+fn write_plain(out: &mut [u8], samples: &[u8], n: usize, tool: u32, bits: usize) -> WriteAnswer
+    requires { ⌜ (FrameIn (now samples) n) × ((1 ≤ tool) × (tool ≤ 4)) ⌝ }
+    requires { ⌜ (bits ≡ length (bitsOf (wholeOctets tool (take n (now samples))))) × (bits ≤ 1000000000) ⌝ }
     ensures { λ r. ⌜ Writes (fitting (length (now (out .entry))) (plain tool (take n (now (samples .entry))))) r (now (out .entry)) (now (out .exit)) ⌝ }
 {
-    let need = whole_octets(tool, n);
-    if out.len() < need {
+    if out.len() < octets_for(bits) {
         return refused(Refusal::Room);
     }
     let octets = put_whole(out, samples, n, tool);
-    WriteAnswer {
-        end: Ending::Done,
-        octets: octets,
-        bits: 8 * need,
-        tool: tool,
-    }
+    wrote(octets, bits, tool)
 }
 
 // A frame of the two zeros: planned, and then the planned form alone is written. Its flags are gathered once, for the plan and for binary.
 fn write_zeros(out: &mut [u8], samples: &[u8], n: usize, mask: u8, set: u32) -> WriteAnswer
-    requires { ⌜ (IsFrame (now samples) n) × (mask < 128) ⌝ }
-    requires { ⌜ twoZeros mask (take n (now samples)) ≡ true ⌝ }
-    requires { ⌜ chosenTool mask set (take n (now samples)) ≡ choose mask set (take n (now samples)) measured ⌝ }
+    requires { ⌜ (FrameIn (now samples) n) × (isMask mask ≡ true) ⌝ }
+    requires { ⌜ (Left mask set (take n (now samples))) × (twoZeros mask (take n (now samples)) ≡ true) ⌝ }
     ensures { λ r. ⌜ Writes (fitting (length (now (out .entry))) (full mask set (take n (now (samples .entry))))) r (now (out .entry)) (now (out .exit)) ⌝ }
 {
     let row = others(samples, n / 40, plus_zero(mask));
@@ -89,20 +92,13 @@ fn write_zeros(out: &mut [u8], samples: &[u8], n: usize, mask: u8, set: u32) -> 
         return refused(Refusal::Room);
     }
     let octets = put_two_zeros(out, samples, n, plan, &row, &runs);
-    WriteAnswer {
-        end: Ending::Done,
-        octets: octets,
-        bits: plan.bits,
-        tool: plan.tool,
-    }
+    wrote(octets, plan.bits, plan.tool)
 }
 
 // A frame from -2 to 1 that has a 1 or a -2, likewise.
 fn write_located(out: &mut [u8], samples: &[u8], n: usize, mask: u8, set: u32) -> WriteAnswer
-    requires { ⌜ (IsFrame (now samples) n) × (isMask mask ≡ true) ⌝ }
-    requires { ⌜ twoZeros mask (take n (now samples)) ≡ false ⌝ }
-    requires { ⌜ near (leastOf mask (take n (now samples))) (greatestOf mask (take n (now samples))) ≡ true ⌝ }
-    requires { ⌜ chosenTool mask set (take n (now samples)) ≡ choose mask set (take n (now samples)) measured ⌝ }
+    requires { ⌜ (FrameIn (now samples) n) × (isMask mask ≡ true) ⌝ }
+    requires { ⌜ (Left mask set (take n (now samples))) × (twoZeros mask (take n (now samples)) ≡ false) ⌝ }
     ensures { λ r. ⌜ Writes (fitting (length (now (out .entry))) (full mask set (take n (now (samples .entry))))) r (now (out .entry)) (now (out .exit)) ⌝ }
 {
     let mut a = [0u16; 321];
@@ -113,57 +109,29 @@ fn write_located(out: &mut [u8], samples: &[u8], n: usize, mask: u8, set: u32) -
         return refused(Refusal::Room);
     }
     let octets = put_located(out, samples, n, plan, &a, &b, &c);
-    WriteAnswer {
-        end: Ending::Done,
-        octets: octets,
-        bits: plan.bits,
-        tool: plan.tool,
-    }
+    wrote(octets, plan.bits, plan.tool)
 }
 
-// What the first look does not settle is planned.
+// What `choice` chose is put out. Arrays for runs are made only where a plan needs them.
 fn write_chosen(out: &mut [u8], samples: &[u8], n: usize, mask: u8, set: u32) -> WriteAnswer
-    requires { ⌜ (IsFrame (now samples) n) × (isMask mask ≡ true) ⌝ }
+    requires { ⌜ (FrameIn (now samples) n) × (isMask mask ≡ true) ⌝ }
     ensures { λ r. ⌜ Writes (fitting (length (now (out .entry))) (full mask set (take n (now (samples .entry))))) r (now (out .entry)) (now (out .exit)) ⌝ }
 {
-    let l = first_look(samples, n, mask, set);
-    if l.tool != 0 {
-        return write_plain(out, samples, n, l.tool);
+    let chosen = choose(samples, n, mask, set);
+    if chosen.tool != 0 {
+        return write_plain(out, samples, n, chosen.tool, chosen.bits);
     }
-    if l.zeros {
+    if chosen.zeros {
         return write_zeros(out, samples, n, mask, set);
     }
     write_located(out, samples, n, mask, set)
 }
 
-// The lengths of frames that have samples.
-fn is_length(n: usize) -> bool
-    ensures { λ r. ⌜ r ≡ isLength n ⌝ }
-{
-    match n {
-        40 => true,
-        80 => true,
-        160 => true,
-        240 => true,
-        320 => true,
-        _ => false,
-    }
-}
-
-// The first n samples as a frame: "Order: LAW, SET, then LENGTH", and ROOM last.
-fn write_some(samples: &[u8], n: usize, law: u32, set: u32, out: &mut [u8]) -> WriteAnswer
-    requires { ⌜ (n ≤ 320 → n ≤ length (now samples)) ⌝ }
+// After LAW and SET: LENGTH, and ROOM last.
+fn write_lawful(samples: &[u8], n: usize, law: u32, set: u32, out: &mut [u8]) -> WriteAnswer
+    requires { ⌜ (verdict (writerAsks law set) ≡ Done) × (n ≤ 320 → n ≤ length (now samples)) ⌝ }
     ensures { λ r. ⌜ Writes (writeOne n (now (samples .entry)) law set (length (now (out .entry)))) r (now (out .entry)) (now (out .exit)) ⌝ }
 {
-    if 1 < law {
-        return refused(Refusal::Law);
-    }
-    if 127 < set {
-        return refused(Refusal::Set);
-    }
-    if set % 2 == 0 {
-        return refused(Refusal::Set);
-    }
     if n == 0 {
         return write_pad(out);
     }
@@ -171,6 +139,17 @@ fn write_some(samples: &[u8], n: usize, law: u32, set: u32, out: &mut [u8]) -> W
         return refused(Refusal::Length);
     }
     write_chosen(out, samples, n, mask_of(law), set)
+}
+
+// The first n samples as a frame: "Order: LAW, SET, then LENGTH".
+fn write_some(samples: &[u8], n: usize, law: u32, set: u32, out: &mut [u8]) -> WriteAnswer
+    requires { ⌜ (n ≤ 320 → n ≤ length (now samples)) ⌝ }
+    ensures { λ r. ⌜ Writes (writeOne n (now (samples .entry)) law set (length (now (out .entry)))) r (now (out .entry)) (now (out .exit)) ⌝ }
+{
+    match guard_writer(law, set) {
+        Ending::Refused(why) => refused(why),
+        Ending::Done => write_lawful(samples, n, law, set, out),
+    }
 }
 
 // Writing one frame. Samples past the length change nothing.

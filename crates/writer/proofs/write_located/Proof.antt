@@ -13,10 +13,11 @@ use Rattle.writer.proofs.write_located.Statement.{statement}
 use Rattle.writer.proofs.write_located.Tie as tie
 use Rattle.writer.proofs.write_located.Reads as reads
 use Rattle.writer.proofs.write_located.Lts as lts
-use Rattle.choice.proofs.located_plan.Reads as located-plan-reads
+use Rattle.choice.proofs.near.located_plan.Reads as located-plan-reads
 use Rattle.measure.proofs.octets_for.Reads as octets-for-reads
 use Rattle.forms.proofs.put_located.Reads as put-located-reads
 use Rattle.writer.proofs.refused.Reads as refused-reads
+use Rattle.writer.proofs.wrote.Reads as wrote-reads
 
 -- the frame, and its chosen form
 abbrev frame : tie.Start → List ℕ
@@ -28,8 +29,7 @@ chosen s = full (s .args .mask) (s .args .set) (frame s)
 located-plan-requires : tie.Need-located-plan-requires
 located-plan-requires c κs =
     let s = c .before .before .before .before .before in
-    let f = s .pre .0 .0 in
-    ((f .some, (f .few, (f .long, (s .pre .0 .1, f .whole)))), (s .pre .1 .0, (s .pre .1 .1 .0, ((refl, (refl, refl)), s .pre .1 .1 .1))))
+    (s .pre .0, (s .pre .1, (refl, (refl, refl))))
 
 octets-for-requires : tie.Need-octets-for-requires
 octets-for-requires c κs = search needs
@@ -40,7 +40,7 @@ refused-requires c κs = search needs
 returns : tie.Need-returns
 returns c =
     let s = c .before .before .before .before .before .before .before .before .before in
-    form-refused (chosen s) (c .before .before .before .located-plan .ensures .bits) (c .before .before .octets-for .ensures) (c .before .if1 .taken) (c .refused .ensures)
+    form-refused (chosen s) (c .before .before .before .located-plan .ensures .chosen .bits) (c .before .before .octets-for .ensures) (c .before .if1 .taken) (c .refused .ensures)
 
 put-located-requires : tie.Need-put-located-requires
 put-located-requires c κs =
@@ -48,18 +48,21 @@ put-located-requires c κs =
     let plan = c .before .before .before .before .before .before .located-plan in
     let p = plan .ensures in
     let e = plan-form (s .args .n) (frame s) (plan .result) _ _ _ (cells-length (s .pre .0 .0)) p in
-    ((s .pre .0 .0, λ n. located-ready (p .located (sym (p .tool) ∙ p .kind n))), form-fits (chosen s) (p .bits) (c .before .before .before .before .before .octets-for .ensures) e (c .before .before .before .before .if1 .left))
+    ((s .pre .0 .0, λ n. located-ready (p .located (sym (p .chosen .tool) ∙ p .kind n))), form-fits (chosen s) (p .chosen .bits) (c .before .before .before .before .before .octets-for .ensures) e (c .before .before .before .before .if1 .left))
+
+wrote-requires : tie.Need-wrote-requires
+wrote-requires c κs = search needs
 
 same-length : tie.Need-same-length
 same-length c = search needs
 
 returns-2 : tie.Need-returns-2
 returns-2 c =
-    let s = c .before .before .before .before .before .before .before .before .before .before .before .before .before .before .before in
-    let plan = c .before .before .before .before .before .before .before .before .before .located-plan in
+    let s = c .before .before .before .before .before .before .before .before .before .before .before .before .before .before .before .before in
+    let plan = c .before .before .before .before .before .before .before .before .before .before .located-plan in
     let p = plan .ensures in
     let e = plan-form (s .args .n) (frame s) (plan .result) _ _ _ (cells-length (s .pre .0 .0)) p in
-    form-written (chosen s) (p .bits) (c .before .before .before .before .before .before .before .before .octets-for .ensures) e (c .before .before .before .before .before .before .before .if1 .left) (c .before .before .put-located .ensures) refl refl refl (p .tool)
+    form-written (chosen s) (p .chosen .bits) (c .before .before .before .before .before .before .before .before .before .octets-for .ensures) e (c .before .before .before .before .before .before .before .before .if1 .left) (c .before .before .before .put-located .ensures) (p .chosen .tool) (c .wrote .ensures)
 
 pub write-located-spec : {M : Type 1} → statement M
 write-located-spec =
@@ -70,5 +73,6 @@ write-located-spec =
     refused-requires
     returns
     put-located-requires
+    wrote-requires
     same-length
     returns-2)

@@ -1,35 +1,36 @@
 use borrow.Author.Needs.{needs}
-use Prim.Native.Nat.{_+_, _*_}
-use mathlib.Core.Bool.{cond}
-use lib.Dec.{eqb}
+use Prim.Native.Nat.{ℕ, _+_, _*_}
 use mathlib.Core.Path.{_≡_, refl}
+use mathlib.Core.List.{List}
+use mathlib.Core.Bool.{cond}
 use native.Mathlib.Omega.{arith}
 use lib.ListN.{length, take}
 use lib.Seq.{length-take-le}
+use lib.Dec.{eqb}
 use Rattle.rules.specs.Bits.{bitsOf}
 use Rattle.rules.proofs.Octets.{length-bitsOf}
 use Rattle.forms.specs.Forms.{wholeOctets}
+use Rattle.forms.proofs.Whole.{whole-length}
 use Rattle.writer.specs.Answers.{plain}
-use Rattle.forms.proofs.Whole.{whole-length, octets-few}
-use Rattle.writer.proofs.Writing.{no-room, all-written}
+use Rattle.writer.proofs.Writing.{form-refused, form-written}
 use Rattle.writer.proofs.write_plain.Statement.{statement}
 use Rattle.writer.proofs.write_plain.Tie as tie
 use Rattle.writer.proofs.write_plain.Reads as reads
 use Rattle.writer.proofs.write_plain.Lts as lts
 use Rattle.forms.proofs.put_whole.Reads as put-whole-reads
+use Rattle.measure.proofs.octets_for.Reads as octets-for-reads
 use Rattle.writer.proofs.refused.Reads as refused-reads
-use Rattle.forms.proofs.whole_octets.Reads as whole-octets-reads
+use Rattle.writer.proofs.wrote.Reads as wrote-reads
 
--- eight bits an octet
-need : (s : tie.Start) → length (bitsOf (wholeOctets (s .args .tool) (take (s .args .n) (s .args .samples .now)))) ≡ 8 * length (wholeOctets (s .args .tool) (take (s .args .n) (s .args .samples .now)))
-need s = length-bitsOf (wholeOctets (s .args .tool) (take (s .args .n) (s .args .samples .now)))
+-- the octets, and eight bits to each
+abbrev whole : tie.Start → List ℕ
+whole s = wholeOctets (s .args .tool) (take (s .args .n) (s .args .samples .now))
 
-size : (s : tie.Start)
-    → length (wholeOctets (s .args .tool) (take (s .args .n) (s .args .samples .now))) ≡ cond (eqb (s .args .tool) 1) (1 + s .args .n) (cond (eqb (s .args .tool) 4) 2 1)
-size s = whole-length (s .args .tool) (take (s .args .n) (s .args .samples .now)) (length-take-le (s .args .n) (s .args .samples .now) (s .pre .1 .long))
+size : (s : tie.Start) → length (whole s) ≡ cond (eqb (s .args .tool) 1) (1 + s .args .n) (cond (eqb (s .args .tool) 4) 2 1)
+size s = whole-length (s .args .tool) (take (s .args .n) (s .args .samples .now)) (length-take-le (s .args .n) (s .args .samples .now) (s .pre .0 .0 .long))
 
-whole-octets-requires : tie.Need-whole-octets-requires
-whole-octets-requires c κs = search needs
+octets-for-requires : tie.Need-octets-for-requires
+octets-for-requires c κs = search needs
 
 refused-requires : tie.Need-refused-requires
 refused-requires c κs = search needs
@@ -37,34 +38,32 @@ refused-requires c κs = search needs
 returns : tie.Need-returns
 returns c =
     let s = c .before .before .before .before .before in
-    no-room (plain (s .args .tool) (take (s .args .n) (s .args .samples .now))) (omega (arith, need s, size s, c .before .before .whole-octets .ensures, c .before .if1 .taken)) (c .refused .ensures)
+    form-refused (plain (s .args .tool) (take (s .args .n) (s .args .samples .now))) (s .pre .1 .0) (c .before .before .octets-for .ensures) (c .before .if1 .taken) (c .refused .ensures)
 
 put-whole-requires : tie.Need-put-whole-requires
 put-whole-requires c κs =
     let s = c .before .before .before .before .before in
-    (s .pre .0, (s .pre .1, omega (arith, c .before .before .whole-octets .ensures, c .before .if1 .left)))
+    (s .pre .0 .1, (s .pre .0 .0, omega (arith, length-bitsOf (whole s), size s, s .pre .1 .0, c .before .before .octets-for .ensures, c .before .if1 .left)))
 
-mul-t7 : tie.Need-mul-t7
-mul-t7 c =
-    let s = c .before .before .before .before .before .before .before .before in
-    omega (arith, c .before .before .before .before .before .whole-octets .ensures, octets-few (s .args .tool) (s .args .n) (s .pre .1 .few))
+wrote-requires : tie.Need-wrote-requires
+wrote-requires c κs = search needs
 
 same-length : tie.Need-same-length
 same-length c = search needs
 
 returns-2 : tie.Need-returns-2
 returns-2 c =
-    let s = c .before .before .before .before .before .before .before .before in
-    all-written (plain (s .args .tool) (take (s .args .n) (s .args .samples .now))) (omega (arith, need s, size s, c .before .before .before .before .before .whole-octets .ensures, c .before .before .before .before .if1 .left)) (c .before .before .put-whole .ensures) refl refl (omega (arith, need s, size s, c .before .before .before .before .before .whole-octets .ensures)) refl
+    let s = c .before .before .before .before .before .before .before .before .before in
+    form-written (plain (s .args .tool) (take (s .args .n) (s .args .samples .now))) (s .pre .1 .0) (c .before .before .before .before .before .before .octets-for .ensures) refl (c .before .before .before .before .before .if1 .left) (c .before .before .before .put-whole .ensures) refl (c .wrote .ensures)
 
 pub write-plain-spec : {M : Type 1} → statement M
 write-plain-spec =
     tie.close
     (tie.spec
-    whole-octets-requires
+    octets-for-requires
     refused-requires
     returns
     put-whole-requires
-    mul-t7
+    wrote-requires
     same-length
     returns-2)

@@ -1,0 +1,86 @@
+// A frame from -2 to 1 that the look leaves and that has a 1 or a -2: uncompressed or value-location.
+
+use locating::Located;
+use locating::located_applies;
+use locating::located_of;
+use locating::row_of;
+use locating::tally_of;
+use locating::way_by;
+use offers::Choice;
+use offers::better;
+use offers::uncompressed_of;
+use prefix::holds;
+ghost use mathlib.Core.Path.{_≡_};
+ghost use mathlib.Core.Bool.{true, false};
+ghost use Prim.Native.Nat.{_+_, _*_, _≤_};
+ghost use lib.ListN.{length, take};
+ghost use Rattle.rules.specs.Chooses.{chosenTool};
+ghost use Rattle.look.specs.Looks.{twoZeros, isMask, FrameIn};
+ghost use Rattle.choice.specs.Plans.{Left, locatedBy, LocatedFor};
+
+// Uncompressed, with nothing measured.
+fn not_located(n: usize) -> Located
+    requires { ⌜ n ≤ 320 ⌝ }
+    ensures { λ r. ⌜ (r .tool ≡ 1) × (r .bits ≡ 8 + 8 * n) ⌝ }
+{
+    let none = way_by(5, 0, 0, 0, 0);
+    Located {
+        tool: 1,
+        bits: 8 + 8 * n,
+        row: 0,
+        flag: 0,
+        count: 0,
+        first: none,
+        second: none,
+        third: none,
+    }
+}
+
+// The choice, with what value-location writes.
+fn located_by(best: Choice, w: Located) -> Located
+    ensures { λ r. ⌜ r ≡ locatedBy best w ⌝ }
+{
+    let first = w.first;
+    let second = w.second;
+    let third = w.third;
+    Located {
+        tool: best.tool,
+        bits: best.bits,
+        row: w.row,
+        flag: w.flag,
+        count: w.count,
+        first: first,
+        second: second,
+        third: third,
+    }
+}
+
+// "Fewest octets" for a frame from -2 to 1 that has a 1 or a -2: binary and Rice do not apply. Nothing is measured where the set lacks
+// value-location or it does not apply.
+pub fn located_plan(
+    samples: &[u8],
+    n: usize,
+    mask: u8,
+    set: u32,
+    a: &mut [u16; 321],
+    b: &mut [u16; 321],
+    c: &mut [u16; 321],
+) -> Located
+    requires { ⌜ (FrameIn (now samples) n) × (isMask mask ≡ true) ⌝ }
+    requires { ⌜ (Left mask set (take n (now samples))) × (twoZeros mask (take n (now samples)) ≡ false) ⌝ }
+    requires { ⌜ (length (now a) ≡ 321) × ((length (now b) ≡ 321) × (length (now c) ≡ 321)) ⌝ }
+    ensures { λ r. ⌜ LocatedFor mask (chosenTool mask set (take n (now (samples .entry)))) (take n (now (samples .entry))) r (now (a .exit)) (now (b .exit)) (now (c .exit)) ⌝ }
+{
+    if !holds(set, 7) {
+        return not_located(n);
+    }
+    let t = tally_of(samples, n, mask);
+    let row = row_of(t, n);
+    if !located_applies(t, n, row) {
+        return not_located(n);
+    }
+    let located = located_of(samples, n, mask, t, row, a, b, c);
+    let uncompressed = uncompressed_of(n);
+    let seven = better(uncompressed, 7, true, located.bits);
+    located_by(seven, located)
+}
