@@ -13,11 +13,11 @@ use Rattle.rules.specs.Reading.{whole, refuse}
 use Rattle.rules.specs.Frame.{Found, octetsUsed, readOne}
 use Rattle.rules.specs.Walk.{Delivered, samplesKept}
 use Rattle.rules.proofs.Room.{read-room}
+use Rattle.rules.proofs.Walk.{samplesKept-more}
 use Rattle.rules.proofs.Lent.{Lent, lent-start, lent-length, lent-at-start, lent-same, lent-more}
 use Rattle.reader.specs.declared.Report.{Report}
 use Rattle.reader.specs.Answers.{ReadsInto}
 use Rattle.walk.specs.Stepping.{Steps}
-use Rattle.walk.proofs.Kept.{samplesKept-more}
 use Rattle.walk.proofs.Told.{accepted, refused, read-bounds}
 use Rattle.unpacking.specs.Parts.{Parted, halted, withFrame, partFrom, Parts, Goes}
 

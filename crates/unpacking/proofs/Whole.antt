@@ -16,8 +16,7 @@ use Rattle.rules.specs.Frame.{Found, octetsUsed, readOne}
 use Rattle.rules.specs.Walk.{Delivered, Walked, stopped, before, onward, walkFrom, walkAll, samplesKept, longest}
 use Rattle.rules.proofs.Accepted.{read-accepts, read-uses}
 use Rattle.rules.proofs.Room.{read-room}
-use Rattle.walk.proofs.Kept.{after}
-use Rattle.rules.proofs.Kept.{samplesKept-append}
+use Rattle.rules.proofs.Walk.{samplesKept-append, after}
 use Rattle.unpacking.specs.declared.Part.{Part}
 use Rattle.unpacking.specs.Parts.{Parted, halted, withFrame, goOn, partFrom, partOf, Parts, NextPart}
 

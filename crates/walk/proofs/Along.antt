@@ -1,46 +1,20 @@
 -- A walk on its way: the frames passed, put before the walk of the rest, are the whole walk; so many octets, samples and frames are passed.
-use Prim.Native.Nat.{ℕ, zero, suc, _+_, _-_, _≤_, _<_}
+use Prim.Native.Nat.{ℕ, _+_, _-_, _≤_, _<_}
 use mathlib.Core.Path.{_≡_, refl, sym, ap, subst, _∙_}
 use mathlib.Core.List.{List, [], _∷_, _++_, append-nil}
 use native.Mathlib.Omega.{arith}
 use lib.ListN.{length, drop, length-append}
-use borrow.Author.Tests.{le-leb, lt-leb}
 use Rattle.rules.specs.declared.Refusal.{Refusal}
 use Rattle.rules.specs.declared.Ending.{Ending}
 use Rattle.rules.specs.declared.Ending.the-variants.{Done, Refused}
 use Rattle.rules.specs.declared.WalkAnswer.{WalkAnswer}
-use Rattle.rules.specs.Reading.{whole, refuse}
-use Rattle.rules.specs.Frame.{Found, octetsUsed, readOne}
-use Rattle.rules.specs.Walk.{Delivered, Walked, stopped, before, walkFrom, octetsKept, samplesKept}
+use Rattle.rules.specs.Frame.{readOne}
+use Rattle.rules.specs.Walk.{Delivered, Walked, stopped, walkFrom, octetsKept, samplesKept}
+use Rattle.rules.proofs.Walk.{octetsKept-more, samplesKept-more, after, after-before, walk-last, walk-ended, walk-off, walk-one}
 use Rattle.reader.specs.declared.Report.{Report}
 use Rattle.reader.specs.Answers.{Tells}
 use Rattle.walk.specs.Counting.{Counts}
-use Rattle.walk.proofs.Kept.{octetsKept-more, samplesKept-more, after, after-before}
 use Rattle.walk.proofs.Told.{Bounds, tells-done, tells-refused, tells-bounds}
-
--- a frame, and then the rest
-pub walk-one : (octets : List ℕ) (law set more n at room next left : ℕ) (f : Found) {j : ℕ} → more ≡ suc n → at < length octets
-    → readOne (drop at octets) law set room ≡ whole f j → next ≡ at + octetsUsed f → left ≡ room - length (f .samples)
-    → walkFrom more octets law set at room ≡ before (record { place = at; found = f }) (walkFrom n octets law set next left)
-unfolding walkFrom
-walk-one octets law set more n at room next left f e h q u l = rw (e, lt-leb (length octets) at h, q, u, l)
-
--- a frame that is refused, and no rest
-pub walk-off : (octets : List ℕ) (law set more n at room bit : ℕ) (why : Refusal) → more ≡ suc n → at < length octets
-    → readOne (drop at octets) law set room ≡ refuse why bit → walkFrom more octets law set at room ≡ stopped (Refused why) at bit
-unfolding walkFrom
-walk-off octets law set more n at room bit why e h q = rw (e, lt-leb (length octets) at h, q)
-
--- the end of the stream
-pub walk-ended : (octets : List ℕ) (law set more at room : ℕ) → length octets ≤ at → walkFrom more octets law set at room ≡ stopped Done at 0
-unfolding walkFrom
-walk-ended octets law set zero at room h = refl
-walk-ended octets law set (suc more) at room h = rw (le-leb (length octets) at h)
-
--- no frame is allowed
-pub walk-last : (octets : List ℕ) (law set more at room : ℕ) → more ≡ 0 → walkFrom more octets law set at room ≡ stopped Done at 0
-unfolding walkFrom
-walk-last octets law set more at room e = rw e
 
 module _ (octets : List ℕ) (law set fuel from room : ℕ) where
   abbrev pub walked : Walked
@@ -95,7 +69,7 @@ module _ (octets : List ℕ) (law set fuel from room : ℕ) where
           → Counts walked (record { end = Refused why; frames = count; octets = at - from; samples = room - left; place = at; bit = r .bit })
       along-refused why e =
           along-stop (Refused why) (r .bit)
-          (walk-off octets law set (fuel - count) (fuel - (count + 1)) at left (r .bit) why (omega arith) h (tells-refused t e))
+          (walk-off octets law set (fuel - count) (fuel - (count + 1)) at left (omega arith) h (r .bit) why (tells-refused t e))
 
       -- it is accepted
       pub along-bounds : r .end ≡ Done → Bounds (drop at octets) left r
@@ -106,7 +80,7 @@ module _ (octets : List ℕ) (law set fuel from room : ℕ) where
           let a = tells-done t e in
           let b = along-bounds e in
           let d : Delivered = record { place = at; found = a .frame } in
-          let next = walk-one octets law set (fuel - count) (fuel - (count + 1)) at left (at + r .octets) (left - r .len) (a .frame) (omega arith) h (a .is) (omega (arith, a .tells .octets)) (omega (arith, a .tells .len)) in
+          let next = walk-one octets law set (fuel - count) (fuel - (count + 1)) at left (omega arith) h (at + r .octets) (left - r .len) (a .frame) (a .is) (omega (arith, a .tells .octets)) (omega (arith, a .tells .len)) in
           record {
             done = w .done ++ (d ∷ []);
             is-whole = w .is-whole ∙ ap (after (w .done)) next ∙ after-before (w .done) d _;

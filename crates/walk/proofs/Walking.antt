@@ -4,33 +4,19 @@ use mathlib.Core.Path.{_≡_, refl, sym, ap, subst, _∙_}
 use mathlib.Core.List.{List, [], _∷_, _++_, append-nil}
 use native.Mathlib.Omega.{arith}
 use lib.ListN.{length, drop, length-append, length-drop}
-use borrow.Author.Tests.{le-leb, lt-leb}
 use Rattle.rules.specs.declared.Refusal.{Refusal}
 use Rattle.rules.specs.declared.Ending.{Ending}
 use Rattle.rules.specs.declared.Ending.the-variants.{Done, Refused}
-use Rattle.rules.specs.Reading.{whole, refuse}
-use Rattle.rules.specs.Frame.{Found, octetsUsed, readOne}
-use Rattle.rules.specs.Walk.{Delivered, Walked, stopped, before, walkFrom, octetsKept, samplesKept}
+use Rattle.rules.specs.Reading.{refuse}
+use Rattle.rules.specs.Frame.{readOne}
+use Rattle.rules.specs.Walk.{Delivered, Walked, stopped, walkFrom, octetsKept, samplesKept}
 use Rattle.rules.specs.Calls.{Walks}
+use Rattle.rules.proofs.Walk.{octetsKept-more, samplesKept-more, after, after-before, walk-ended, walk-off, walk-one}
 use Rattle.rules.proofs.Lent.{Lent, lent-start, lent-length, lent-at-start, lent-same, lent-more}
 use Rattle.reader.specs.declared.Report.{Report}
 use Rattle.reader.specs.Answers.{ReadsInto}
 use Rattle.walk.specs.Stepping.{Steps}
-use Rattle.walk.proofs.Kept.{octetsKept-more, samplesKept-more, after, after-before}
 use Rattle.walk.proofs.Told.{Bounds, accepted, refused, read-bounds}
-
--- a frame, and then the rest
-walk-on : (octets : List ℕ) (law set more n at room next left : ℕ) (f : Found) {j : ℕ} → more ≡ suc n → at < length octets
-    → readOne (drop at octets) law set room ≡ whole f j → next ≡ at + octetsUsed f → left ≡ room - length (f .samples)
-    → walkFrom more octets law set at room ≡ before (record { place = at; found = f }) (walkFrom n octets law set next left)
-unfolding walkFrom
-walk-on octets law set more n at room next left f e h q u l = rw (e, lt-leb (length octets) at h, q, u, l)
-
--- a frame that is refused, and no rest
-walk-off : (octets : List ℕ) (law set more n at room bit : ℕ) (why : Refusal) → more ≡ suc n → at < length octets
-    → readOne (drop at octets) law set room ≡ refuse why bit → walkFrom more octets law set at room ≡ stopped (Refused why) at bit
-unfolding walkFrom
-walk-off octets law set more n at room bit why e h q = rw (e, lt-leb (length octets) at h, q)
 
 module _ (octets : List ℕ) (law set : ℕ) (out₀ : List ℕ) where
   abbrev pub walked : Walked
@@ -81,10 +67,7 @@ module _ (octets : List ℕ) (law set : ℕ) (out₀ : List ℕ) where
     -- the end of the stream
     pub walk-done : length octets ≤ at
         → Walks walked (record { end = Done; frames = count; octets = at; samples = to; place = at; bit = 0 }) out₀ out
-    unfolding walkFrom
-    walk-done h =
-        let e : w .more ≡ suc (w .more - 1) = omega (arith, w .enough, w .inside) in
-        walk-stop w Done 0 (rw (e, le-leb (length octets) at h))
+    walk-done h = walk-stop w Done 0 (walk-ended octets law set (w .more) at (length out₀ - to) h)
 
     -- a step, as its answer says
     module _ (h : at < length octets) {out′ : List ℕ} {r : Report} (s : Steps octets law set at to out out′ r) where
@@ -104,7 +87,7 @@ module _ (octets : List ℕ) (law set : ℕ) (out₀ : List ℕ) where
           let a = refused read-here e in
           subst (λ (x : List ℕ). Walks walked (record { end = Refused why; frames = count; octets = at; samples = to; place = at; bit = r .bit }) out₀ x)
           (sym (lent-same (w .kept) (s .lent) (a .tells .lent)))
-          (walk-stop w (Refused why) (r .bit) (walk-off octets law set (w .more) (w .more - 1) at (length out₀ - to) (r .bit) why more-is h
+          (walk-stop w (Refused why) (r .bit) (walk-off octets law set (w .more) (w .more - 1) at (length out₀ - to) more-is h (r .bit) why
           (a .is ∙ ap (refuse why) (sym (a .tells .tells .bit)))))
 
       -- a frame that is accepted
@@ -115,7 +98,7 @@ module _ (octets : List ℕ) (law set : ℕ) (out₀ : List ℕ) where
           let b = bounds e in
           let d : Delivered = record { place = at; found = a .frame } in
           let n = w .more - 1 in
-          let next = walk-on octets law set (w .more) n at (length out₀ - to) (at + r .octets) (length out₀ - (to + r .len)) (a .frame) more-is h (a .is) (omega (arith, t .octets)) (omega (arith, t .len)) in
+          let next = walk-one octets law set (w .more) n at (length out₀ - to) more-is h (at + r .octets) (length out₀ - (to + r .len)) (a .frame) (a .is) (omega (arith, t .octets)) (omega (arith, t .len)) in
           record {
             done = w .done ++ (d ∷ []);
             more = n;
