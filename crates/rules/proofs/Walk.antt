@@ -111,13 +111,14 @@ module _ (octets : List ℕ) (law set : ℕ) where
   -- what is true of every walk
   pub record Told (n at room : ℕ) (w : Walked) : Type 0 where
     pub place : w .place ≡ at + octetsKept (w .frames)
-    pub inside : at ≤ length octets → w .place ≤ length octets
+    pub inside : octetsKept (w .frames) ≤ length octets - at
     pub fits : length (samplesKept (w .frames)) ≤ room
     pub few : length (w .frames) ≤ n
     pub some : length (w .frames) ≤ octetsKept (w .frames)
     pub held : length (samplesKept (w .frames)) ≤ 320 * length (w .frames)
-    -- it ended clean before its last frame: that is the stream's end
+    -- it ended clean: all frames that are allowed are there, or it is at the stream's end
     pub whole : w .end ≡ Done → length (w .frames) < n → length octets ≤ w .place
+    pub full : w .end ≡ Done → w .place < length octets → length (w .frames) ≡ n
     pub clean : w .end ≡ Done → w .bit ≡ 0
     -- it was refused: the frame at its place is, with the room left
     pub refusal : {r : Refusal} → w .end ≡ Refused r
@@ -130,35 +131,37 @@ module _ (octets : List ℕ) (law set : ℕ) where
   is-refusal : {r u : Refusal} → Refused r ≡ Refused u → r ≡ u
   is-refusal e = cc
 
-  told-none : (n at room : ℕ) → (0 < n → length octets ≤ at) → Told n at room (stopped Done at 0)
+  told-none : (n at room : ℕ) → (0 < n → length octets ≤ at) → (at < length octets → 0 ≡ n) → Told n at room (stopped Done at 0)
   unfolding octetsKept samplesKept
-  told-none n at room h =
+  told-none n at room h g =
       record {
         place = omega arith;
-        inside = λ k. k;
+        inside = omega arith;
         fits = omega arith;
         few = omega arith;
         some = omega arith;
         held = omega arith;
         whole = λ e k. h k;
+        full = λ e k. g k;
         clean = λ e. refl;
         refusal = λ e. not-refused e;
       }
 
   pub walks-told : {n at room : ℕ} {w : Walked} → Walks n at room w → Told n at room w
   unfolding octetsKept samplesKept
-  walks-told {n} {at} {room} last = told-none 0 at room (λ k. absurd (omega arith))
-  walks-told {n} {at} {room} (ended h) = told-none n at room (λ k. h)
+  walks-told {n} {at} {room} last = told-none 0 at room (λ k. absurd (omega arith)) (λ k. refl)
+  walks-told {n} {at} {room} (ended h) = told-none n at room (λ k. h) (λ k. absurd (omega arith))
   walks-told {n} {at} {room} (refused h e) =
       let none : room - 0 ≡ room = omega arith in
       record {
         place = omega arith;
-        inside = λ k. k;
+        inside = omega arith;
         fits = omega arith;
         few = omega arith;
         some = omega arith;
         held = omega arith;
         whole = λ d. not-refused (sym d);
+        full = λ d. not-refused (sym d);
         clean = λ d. not-refused (sym d);
         refusal = λ d. (h, omega arith, rw (none, ← (is-refusal d)) e);
       }
@@ -171,12 +174,13 @@ module _ (octets : List ℕ) (law set : ℕ) where
       let m : room - length (f .samples ++ samplesKept (w .frames)) ≡ room - length (f .samples) - length (samplesKept (w .frames)) = omega (arith, s) in
       record {
         place = omega (arith, i .place);
-        inside = λ k. i .inside (omega (arith, u .1));
+        inside = omega (arith, u .1, i .inside);
         fits = omega (arith, s, i .fits, a .fits);
         few = omega (arith, i .few);
         some = omega (arith, i .some, u .0);
         held = omega (arith, s, i .held, read-most (drop at octets) law set room e);
         whole = λ d k. i .whole d (omega arith);
+        full = λ d k. omega (arith, i .full d k);
         clean = λ d. i .clean d;
         refusal = λ d. let r = i .refusal d in (r .0, omega (arith, r .1), rw m (r .2));
       }

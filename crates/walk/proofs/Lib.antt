@@ -1,5 +1,4 @@
 pub mod Part
 pub mod Told
 pub mod Along
-pub mod Walking
-pub mod Ordered
+pub mod Keeping
