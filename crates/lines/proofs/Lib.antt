@@ -1,3 +1,2 @@
 pub mod Putting
 pub mod Spelling
-pub mod Listed

@@ -1,21 +1,24 @@
 -- How the listing opens: by a refusal, or by the law's line.
-use Prim.Native.Nat.{ℕ, _+_, _≤_, _<_}
+use Prim.Native.Nat.{ℕ, _+_, _*_, _≤_, _<_}
 use mathlib.Core.Path.{_≡_, refl, sym, _∙_}
-use mathlib.Core.List.{List, [], _∷_, append-nil}
+use mathlib.Core.List.{List, [], _∷_, _++_, append-nil}
 use mathlib.Core.Bool.{false, cond, false≢true}
 use native.Mathlib.Omega.{arith}
-use native.Mathlib.Nat.{sub-zero}
+use native.Mathlib.Nat.{zero-add}
 use lib.ListN.{length, getD, take, drop, length-drop}
 use lib.Seq.{take-all}
 use lib.Dec.{eqb}
-use borrow.Author.Tests.{ne-eqb, lt-leb}
-use Rattle.rules.specs.Walk.{longest}
-use Rattle.rules.specs.Listing.{stopLine, lawLine, listStream, listing}
+use borrow.Author.Tests.{ne-eqb, lt-leb, le-leb}
+use Rattle.rules.specs.declared.Ending.the-variants.{Done}
+use Rattle.rules.specs.Refusals.{verdict}
+use Rattle.rules.specs.Tools.{mostLaw}
+use Rattle.rules.specs.Walk.{longest, walkAsks}
+use Rattle.rules.specs.Listing.{stopLine, lawLine, listStream, listing, mostListed, listedTools}
+use Rattle.rules.proofs.Guards.{walk-allowed}
 use Rattle.lines.specs.Puts.{Puts}
-use Rattle.lines.proofs.Listed.{stream-listed}
 use Rattle.pages.specs.declared.Stand.{Stand}
 use Rattle.pages.specs.declared.Opened.{Opened}
-use Rattle.pages.specs.Pages.{linesLeft, Opens, Stops, OpensInput}
+use Rattle.pages.specs.Pages.{linesOf, walkLeft, linesLeft, Opens, Stops, OpensInput}
 
 -- a refusal is all of the listing
 pub opens-stopped : (stream : List ℕ) {whole : List ℕ} {number : ℕ} {out out′ : List ℕ} {r : Opened} → Stops number out r out′ → whole ≡ stopLine number 0 0 0
@@ -31,9 +34,17 @@ opens-stopped stream {whole} {number} t e =
     }
 
 -- "a longer stream prints that line with 13"
-pub too-long : (law : ℕ) (stream : List ℕ) → longest < length stream → listStream law stream ≡ stopLine 13 0 0 0
+pub too-long : (law : ℕ) (stream : List ℕ) → mostListed < length stream → listStream law stream ≡ stopLine 13 0 0 0
 unfolding listStream
-too-long law stream h = rw (lt-leb (length stream) longest h)
+too-long law stream h = rw (lt-leb (length stream) mostListed h)
+
+-- else it prints the law's line, and the lines of the walk from the stream's start on
+stream-listed : (law : ℕ) (stream : List ℕ) → law ≤ mostLaw → length stream ≤ mostListed
+    → listStream law stream ≡ lawLine law ++ linesOf 0 0 (walkLeft stream law 0)
+unfolding listStream
+stream-listed law stream h l =
+    let met : verdict (walkAsks law listedTools (length stream)) ≡ Done = rw (le-leb law mostLaw h, le-leb (length stream) longest (omega arith)) in
+    rw (le-leb (length stream) mostListed l, walk-allowed stream law listedTools (320 * length stream) met, zero-add)
 
 -- the law's line, and the stream's first place
 pub record Begins (s : Stand) : Type 0 where
@@ -42,14 +53,14 @@ pub record Begins (s : Stand) : Type 0 where
   pub samples : s .samples ≡ 0
   pub goes : s .ended ≡ false
 
-pub opens-stream : (stream : List ℕ) {out out′ : List ℕ} {r : Opened} → Begins (r .stand) → r .law ≤ 1 → length stream ≤ longest
+pub opens-stream : (stream : List ℕ) {out out′ : List ℕ} {r : Opened} → Begins (r .stand) → r .law ≤ mostLaw → length stream ≤ mostListed
     → Puts out 0 (lawLine (r .law)) out′ (r .to) → r .to ≤ 160 → Opens (listStream (r .law) stream) stream out r out′
 unfolding linesLeft
 opens-stream stream {r = r} b h l p m =
     record {
       text = lawLine (r .law);
       puts = p;
-      says = stream-listed (r .law) stream h l ∙ rw (b .goes, b .frames, b .at, b .samples, sub-zero);
+      says = stream-listed (r .law) stream h l ∙ rw (b .goes, b .frames, b .at, b .samples);
       stands = λ g. record { short = l; inside = omega (arith, b .at); frames = omega (arith, b .at, b .frames); samples = omega (arith, b .samples) };
       most = m;
     }

@@ -35,6 +35,6 @@ pub record Turn (stream : List ℕ) (law : ℕ) (s₀ : Stand) (out₀ : List �
   pub nearer : stepsLeft stream s ≤ stepsLeft stream s₀
 
 pub turn-then : {stream : List ℕ} {law : ℕ} {s₀ s s′ : Stand} {out₀ out out′ : List ℕ} {to to′ : ℕ}
-    → Turn stream law s₀ out₀ s out to → Lists stream law s out to s′ out′ to′ × stepsLeft stream s′ < stepsLeft stream s
+    → Turn stream law s₀ out₀ s out to → Lists stream law s out to s′ out′ to′ → stepsLeft stream s′ < stepsLeft stream s
     → Lists stream law s₀ out₀ 0 s′ out′ to′ × stepsLeft stream s′ < stepsLeft stream s₀
-turn-then t q = (lists-then (t .lists) (q .0), lt-of-lt-of-le (q .1) (t .nearer))
+turn-then t q l = (lists-then (t .lists) q, lt-of-lt-of-le l (t .nearer))

@@ -4,26 +4,38 @@ use mathlib.Core.Path.{_≡_}
 use mathlib.Core.List.{List, [], _++_}
 use mathlib.Core.Bool.{true, false, cond}
 use lib.ListN.{length, drop}
-use Rattle.rules.specs.Walk.{longest}
-use Rattle.rules.specs.Listing.{frameLine, stopLine, samplesLine, listing}
+use Rattle.rules.specs.declared.Ending.{Ending}
+use Rattle.rules.specs.Refusals.{numberOf, toolNamed}
+use Rattle.rules.specs.Walk.{Walked, walkFrom, samplesKept}
+use Rattle.rules.specs.Listing.{frameLine, frameLines, stopLine, samplesLine, listing, mostListed, listedTools}
 use Rattle.reader.specs.declared.Report.{Report}
 use Rattle.lines.specs.Puts.{Puts}
-use Rattle.lines.specs.Onward.{linesFrom}
 use Rattle.pages.specs.declared.Stand.{Stand}
 use Rattle.pages.specs.declared.Page.{Page}
 use Rattle.pages.specs.declared.Opened.{Opened}
 
 -- a place that the listing of a stream can reach
 pub record Stands (stream : List ℕ) (s : Stand) : Type 0 where
-  pub short : length stream ≤ longest
+  pub short : length stream ≤ mostListed
   pub inside : s .at ≤ length stream
   pub frames : s .frames ≤ s .at
   pub samples : s .samples ≤ 320 * s .frames
 
+-- the last two lines
+abbrev pub endLines : Ending → ℕ → ℕ → ℕ → List ℕ
+endLines end at bit kept = stopLine (numberOf end) at (toolNamed end) bit ++ samplesLine kept
+
+-- the lines of a walk, after k frames that hold `kept` samples
+abbrev pub linesOf : ℕ → ℕ → Walked → List ℕ
+linesOf k kept w = frameLines k (w .frames) ++ endLines (w .end) (w .place) (w .bit) (kept + length (samplesKept (w .frames)))
+
+-- the walk from a place on, whose frames and room are never short
+abbrev pub walkLeft : List ℕ → ℕ → ℕ → Walked
+walkLeft stream law at = walkFrom (suc (length stream)) stream law listedTools at (320 * length stream)
+
 -- the lines from there on
 unfoldable pub linesLeft : List ℕ → ℕ → Stand → List ℕ
-linesLeft stream law s =
-    cond (s .ended) [] (linesFrom (suc (length stream) - s .frames) stream law (s .frames) (s .at) (s .samples))
+linesLeft stream law s = cond (s .ended) [] (linesOf (s .frames) (s .samples) (walkLeft stream law (s .at)))
 
 -- how far it is to the end
 unfoldable pub stepsLeft : List ℕ → Stand → ℕ

@@ -4,9 +4,8 @@ ghost use mathlib.Core.Path.{_≡_};
 ghost use Prim.Native.Nat.{_+_, _^_, _≤_, _<_};
 ghost use mathlib.Core.Bool.{false};
 ghost use lib.ListN.{length, drop};
-ghost use Rattle.rules.specs.Listing.{listStream};
-ghost use Rattle.rules.specs.Frame.{readOne};
-ghost use Rattle.reader.specs.Answers.{ReadsInto};
+ghost use Rattle.rules.specs.Tools.{mostLaw};
+ghost use Rattle.rules.specs.Listing.{listStream, mostListed};
 ghost use Rattle.pages.specs.Pages.{Stands, Lists, Ends, ListsFrame, Opens, Stops, OpensInput, stepsLeft};
 use reader::Report;
 use rules::Ending;
@@ -50,17 +49,9 @@ fn last(number: usize, tool: usize, bit: usize, s: Stand, out: &mut [u8], to: us
     }
 }
 
-// The frame at a place; 320 samples of room are enough for any.
-fn read_at(stream: &[u8], at: usize, law: u32, room: &mut [u8; 320]) -> Report
-    requires { ⌜ at ≤ length (now stream) ⌝ }
-    ensures { λ r. ⌜ ReadsInto (readOne (drop at (now (stream .entry))) law 127 320) r (now (room .entry)) (now (room .exit)) ⌝ }
-{
-    walk::step(stream, law, 127, at, room, 0)
-}
-
 // A frame that was read: its line, and where the listing stands after it.
 fn list_frame(r: Report, s: Stand, out: &mut [u8], to: usize) -> Page
-    requires { ⌜ (s .frames < 65536) × (s .at + r .octets < 65536) × (s .samples + r .len < 2 ^ 32) × (to + 320 ≤ length (now out)) ⌝ }
+    requires { ⌜ (s .frames ≤ mostListed) × (s .at + r .octets ≤ mostListed) × (s .samples + r .len < 2 ^ 32) × (to + 320 ≤ length (now out)) ⌝ }
     ensures { λ p. ⌜ ListsFrame s r (now (out .entry)) to p (now (out .exit)) ⌝ }
 {
     let at = s.at;
@@ -86,17 +77,18 @@ fn list_frame(r: Report, s: Stand, out: &mut [u8], to: usize) -> Page
     }
 }
 
-// The line of the frame at the place, or, at the stream's end and where the frame is refused, the last two lines.
+// The line of the frame at the place (320 samples of room are enough for any), or, at the stream's end and where the frame is refused, the last two lines.
 fn step(stream: &[u8], law: u32, s: Stand, room: &mut [u8; 320], out: &mut [u8], to: usize) -> Page
-    requires { ⌜ (Stands (now stream) s) × (s .ended ≡ false) × (to + 320 ≤ length (now out)) ⌝ }
+    requires { ⌜ (Stands (now stream) s) × (s .ended ≡ false) × (to + 320 ≤ length (now out)) × (length (now room) ≡ 320) ⌝ }
     ensures { λ r. ⌜ Lists (now (stream .entry)) law s (now (out .entry)) to (r .stand) (now (out .exit)) (r .to) ⌝ }
     ensures less { λ r. ⌜ stepsLeft (now (stream .entry)) (r .stand) < stepsLeft (now (stream .entry)) s ⌝ }
+    ensures size { λ r. ⌜ length (now (room .exit)) ≡ 320 ⌝ }
 {
     let at = s.at;
     if stream.len() <= at {
         return last(0, 0, 0, s, out, to);
     }
-    let r = read_at(stream, at, law, room);
+    let r = walk::pass(stream, law, rules::LISTED_TOOLS, at, 320, room);
     let end = r.end;
     match end {
         Ending::Refused(why) => last(
@@ -154,10 +146,10 @@ fn refused(number: usize, out: &mut [u8]) -> Opened
 
 // The law's line, and the stream's first place.
 fn open_stream(stream: &[u8], law: u32, out: &mut [u8]) -> Opened
-    requires { ⌜ (law ≤ 1) × (160 ≤ length (now out)) ⌝ }
+    requires { ⌜ (law ≤ mostLaw) × (160 ≤ length (now out)) ⌝ }
     ensures { λ r. ⌜ Opens (listStream law (now (stream .entry))) (now (stream .entry)) (now (out .entry)) r (now (out .exit)) ⌝ }
 {
-    if 65535 < stream.len() {
+    if rules::MOST_LISTED < stream.len() {
         return refused(13, out);
     }
     let to = lines::law_line(law as usize, out, 0);

@@ -12,9 +12,9 @@ pub mod Gives
 pub mod Accepted
 pub mod Named
 pub mod WhichBit
-pub mod Kept
 pub mod Laid
 pub mod Room
 pub mod Lent
+pub mod Walk
 pub mod Each
 pub mod Chosen

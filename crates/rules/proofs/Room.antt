@@ -1,11 +1,12 @@
--- "Room is never short": a frame has at most 320 samples, so more room changes nothing.
+-- "Room is never short": a frame has at most 320 samples (`read-most`), so more room changes nothing (`read-room`).
 use Prim.Native.Nat.{ℕ, _+_, _≤_, zero-le}
 use mathlib.Core.Path.{_≡_, refl}
 use mathlib.Core.List.{List}
 use mathlib.Core.Bool.{Bool, true, false, cond, not}
 use native.Mathlib.Omega.{arith}
-use lib.Dec.{lit≤}
-use borrow.Author.Tests.{le-ltb}
+use lib.Dec.{eqb, lit≤}
+use lib.ListN.{length}
+use borrow.Author.Tests.{le-ltb, eqb-true}
 use Rattle.rules.specs.declared.Refusal.the-variants.{Law, Set}
 use Rattle.rules.specs.Tools.{isLength, isLaw, isSet}
 use Rattle.rules.specs.Bits.{bitsOf}
@@ -14,9 +15,10 @@ use Rattle.rules.specs.First.{First, unassigned, pad, tool, sixOrEight, 
 use Rattle.rules.specs.Samples.{maskOf}
 use Rattle.rules.specs.Frame.{Found, withTool, afterFirst, frame, readOne}
 use Rattle.rules.proofs.Octets.{Below, bitsOf-below}
-use Rattle.rules.proofs.Tests.{and-left, by-length}
+use Rattle.rules.proofs.Tests.{and-left, or-cases, by-length}
 use Rattle.rules.proofs.Firsts.{asWritten, first-as-written}
 use Rattle.rules.proofs.Gives.{gives-number}
+use Rattle.rules.proofs.Accepted.{read-accepts}
 
 pub length-most : (n : ℕ) → isLength n ≡ true → n ≤ 320
 length-most n h = by-length (λ n. n ≤ 320) (lit≤ tt) (lit≤ tt) (lit≤ tt) (lit≤ tt) (lit≤ tt) n h
@@ -60,3 +62,9 @@ unfolding readOne
 read-room octets law set room h =
     guarded (frame (maskOf law) set room) (frame (maskOf law) set 320) (bitsOf octets)
     (one-frame (maskOf law) set room h (bitsOf-below octets)) (not (isLaw law)) (not (isSet set))
+
+-- an accepted frame has at most 320 samples
+pub read-most : (octets : List ℕ) (law set room : ℕ) {f : Found} {j : ℕ} → readOne octets law set room ≡ whole f j → length (f .samples) ≤ 320
+read-most octets law set room {f} e =
+    let n = length (f .samples) in
+    or-cases (n ≤ 320) (eqb n 0) (isLength n) (read-accepts octets law set room e .size) (λ z. omega (arith, eqb-true n 0 z)) (λ l. length-most n l)

@@ -1,3 +1,2 @@
-pub mod Parting
-pub mod Guarded
+pub mod Parted
 pub mod Whole

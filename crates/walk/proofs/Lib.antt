@@ -1,5 +1,4 @@
 pub mod Part
-pub mod Kept
 pub mod Told
-pub mod Walking
-pub mod Ordered
+pub mod Along
+pub mod Keeping

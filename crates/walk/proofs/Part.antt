@@ -7,7 +7,7 @@ use Rattle.rules.specs.Frame.{readOne}
 use Rattle.rules.proofs.Lent.{from-on, back-on}
 use Rattle.reader.specs.declared.Report.{Report}
 use Rattle.reader.specs.Answers.{ReadsInto}
-use Rattle.walk.specs.Stepping.{Steps}
+use Rattle.walk.specs.Counting.{Steps}
 
 pub step-made : (octets : List ℕ) (law set at to : ℕ) (out last : List ℕ) {r : Report}
     → ReadsInto (readOne (take (length octets - at) (drop at octets)) law set (length (take (length out - to) (drop to out)))) r

@@ -2,13 +2,15 @@
 use borrow.Author.Needs.{needs}
 use native.Mathlib.Omega.{arith}
 use native.Mathlib.Nat.{le-refl, le-of-lt}
+use mathlib.Core.Path.{_≡_, refl}
+use lib.ListN.{length}
 use Rattle.pages.specs.Pages.{stepsLeft}
 use Rattle.pages.proofs.Turns.{lists-none, Turn, turn-then}
 use Rattle.pages.proofs.next_page.Statement.{statement}
 use Rattle.pages.proofs.next_page.Tie as tie
 
 abbrev Inv-loop : tie.InvT-loop
-Inv-loop stream law out₀ room₀ s₀ to₀ out room s to = Turn stream law s₀ out₀ s out to
+Inv-loop stream law out₀ room₀ s₀ to₀ out room s to = Turn stream law s₀ out₀ s out to × (length room ≡ 320)
 
 abbrev μ-loop : tie.MeasureT-loop
 μ-loop stream law out₀ room₀ s₀ to₀ out room s to = stepsLeft stream s
@@ -16,33 +18,33 @@ abbrev μ-loop : tie.MeasureT-loop
 loop-holds : tie.Need-loop-holds Inv-loop μ-loop
 loop-holds c =
     let p = c .before .before .pre in
-    record { lists = lists-none _ _ _ _ (p .0); goes = p .1; room = omega arith; nearer = le-refl _ }
+    (record { lists = lists-none _ _ _ _ (p .0); goes = p .1; room = omega arith; nearer = le-refl _ }, refl)
 
 step-requires : tie.Need-step-requires Inv-loop μ-loop
-step-requires c κs = let t = c .before .before .loop .inv in (t .lists .stands, t .goes, t .room)
+step-requires c κs = let t = c .before .before .loop .inv in (t .0 .lists .stands, t .0 .goes, t .0 .room, t .1)
 
 same-length : tie.Need-same-length Inv-loop μ-loop
-same-length c = turn-then (c .before .before .before .before .before .before .before .loop .inv) (c .before .before .before .before .step .ensures) .0 .puts .size
+same-length c = turn-then (c .before .before .before .before .before .before .before .loop .inv .0) (c .before .before .before .before .step .ensures .0) (c .before .before .before .before .step .ensures .1 .0) .0 .puts .size
 
 returns : tie.Need-returns Inv-loop μ-loop
-returns c = turn-then (c .before .before .before .before .before .before .before .loop .inv) (c .before .before .before .before .step .ensures)
+returns c = turn-then (c .before .before .before .before .before .before .before .loop .inv .0) (c .before .before .before .before .step .ensures .0) (c .before .before .before .before .step .ensures .1 .0)
 
 sub-if2 : tie.Need-sub-if2 Inv-loop μ-loop
 sub-if2 c = search needs
 
 same-length-2 : tie.Need-same-length-2 Inv-loop μ-loop
-same-length-2 c = turn-then (c .before .before .before .before .before .before .before .before .before .loop .inv) (c .before .before .before .before .before .before .step .ensures) .0 .puts .size
+same-length-2 c = turn-then (c .before .before .before .before .before .before .before .before .before .loop .inv .0) (c .before .before .before .before .before .before .step .ensures .0) (c .before .before .before .before .before .before .step .ensures .1 .0) .0 .puts .size
 
 returns-2 : tie.Need-returns-2 Inv-loop μ-loop
-returns-2 c = turn-then (c .before .before .before .before .before .before .before .before .before .loop .inv) (c .before .before .before .before .before .before .step .ensures)
+returns-2 c = turn-then (c .before .before .before .before .before .before .before .before .before .loop .inv .0) (c .before .before .before .before .before .before .step .ensures .0) (c .before .before .before .before .before .before .step .ensures .1 .0)
 
 loop-less : tie.Need-loop-less Inv-loop μ-loop
-loop-less c = c .before .before .before .before .before .before .step .ensures .1
+loop-less c = c .before .before .before .before .before .before .step .ensures .1 .0
 
 loop-again : tie.Need-loop-again Inv-loop μ-loop
 loop-again c =
-    let t = turn-then (c .before .before .before .before .before .before .before .before .before .loop .inv) (c .before .before .before .before .before .before .step .ensures) in
-    record { lists = t .0; goes = c .before .before .if1 .left; room = omega (arith, t .0 .size, t .0 .puts .size); nearer = le-of-lt (t .1) }
+    let t = turn-then (c .before .before .before .before .before .before .before .before .before .loop .inv .0) (c .before .before .before .before .before .before .step .ensures .0) (c .before .before .before .before .before .before .step .ensures .1 .0) in
+    (record { lists = t .0; goes = c .before .before .if1 .left; room = omega (arith, t .0 .size, t .0 .puts .size); nearer = le-of-lt (t .1) }, c .before .before .before .before .before .before .step .ensures .1 .1)
 
 pub next-page-spec : {M : Type 1} → statement M
 next-page-spec =

@@ -1,10 +1,9 @@
 -- The stream's end, a refused frame, or a frame's line (Steps).
 use borrow.Author.Needs.{needs}
 use native.Mathlib.Omega.{arith}
-use mathlib.Core.Path.{_∙_}
 use lib.ListN.{length-drop}
 use Rattle.walk.proofs.Told.{read-bounds}
-use Rattle.pages.proofs.Steps.{left-end, left-read, read-refused, step-last, step-frame}
+use Rattle.pages.proofs.Steps.{left-end, left-refused, step-last, step-frame}
 use Rattle.pages.proofs.step.Statement.{statement}
 use Rattle.pages.proofs.step.Tie as tie
 
@@ -17,10 +16,11 @@ same-length c = search needs
 returns : tie.Need-returns
 returns c =
     let a = c .before .before .before .before .before .before .before in
-    step-last _ _ (c .before .before .last .ensures) (a .pre .0) (a .pre .1) (a .pre .2) (left-end _ _ _ (a .pre .1) (omega arith))
+    let n = step-last (a .args .stream .now) (a .args .law) (c .before .before .last .ensures) (a .pre .0) (a .pre .1) (a .pre .2) (left-end (a .args .stream .now) (a .args .law) (a .args .s) (a .pre .1) (omega arith)) in
+    (n .0, (n .1, a .pre .3))
 
-read-at-requires : tie.Need-read-at-requires
-read-at-requires c κs = search needs
+pass-requires : tie.Need-pass-requires
+pass-requires c κs = search needs
 
 enum-known-end : tie.Need-enum-known-end
 enum-known-end c = search needs
@@ -43,7 +43,7 @@ enum-told c = search needs
 list-frame-requires : tie.Need-list-frame-requires
 list-frame-requires c κs =
     let a = c .before .before .before .before .before .before .before .before in
-    let b = read-bounds _ _ _ _ (c .before .before .before .read-at .ensures) (c .before .enum-told .given .1) in
+    let b = read-bounds _ _ _ _ (c .before .before .before .pass .ensures .tells) (c .before .enum-told .given .1) in
     let p = a .pre .0 in
     let n = length-drop (a .args .s .at) (a .args .stream .now) in
     (omega (arith, p .frames, p .inside, p .short), omega (arith, b .inside, p .short), omega (arith, b .fits, p .samples, p .frames, p .inside, p .short), a .pre .2)
@@ -54,9 +54,10 @@ same-length-2 c = search needs
 returns-2 : tie.Need-returns-2
 returns-2 c =
     let a = c .before .before .before .before .before .before .before .before .before .before .before .before .before .before in
-    let r = c .before .before .before .before .before .before .before .before .before .read-at .ensures in
-    step-last _ _ (c .before .before .last2 .ensures) (a .pre .0) (a .pre .1) (a .pre .2)
-    (rw (c .before .before .before .before .before .refusal-number .ensures) (left-read _ _ _ (a .pre .0) (a .pre .1) (omega arith) ∙ read-refused r _ _ _ _ (c .before .before .before .before .before .before .before .end .given .1)))
+    let r = c .before .before .before .before .before .before .before .before .before .pass .ensures in
+    let n = step-last (a .args .stream .now) (a .args .law) (c .before .before .last2 .ensures) (a .pre .0) (a .pre .1) (a .pre .2)
+    (rw (c .before .before .before .before .before .refusal-number .ensures) (left-refused (a .args .stream .now) (a .args .law) (a .args .s) (a .pre .1) (omega arith) (r .tells) (c .before .before .before .before .before .before .before .end .given .1))) in
+    (n .0, (n .1, r .size))
 
 same-length-3 : tie.Need-same-length-3
 same-length-3 c = search needs
@@ -64,7 +65,9 @@ same-length-3 c = search needs
 returns-3 : tie.Need-returns-3
 returns-3 c =
     let a = c .before .before .before .before .before .before .before .before .before .before .before in
-    step-frame _ _ (c .before .before .list-frame .ensures) (a .pre .0) (a .pre .1) (a .pre .2) (c .before .before .before .before .before .before .before .before .if1 .left) (c .before .before .before .before .before .before .read-at .ensures) (c .before .before .before .before .enum-told .given .1)
+    let r = c .before .before .before .before .before .before .pass .ensures in
+    let n = step-frame (a .args .stream .now) (a .args .law) (c .before .before .list-frame .ensures) (a .pre .0) (a .pre .1) (a .pre .2) (c .before .before .before .before .before .before .before .before .if1 .left) (r .tells) (c .before .before .before .before .enum-told .given .1) in
+    (n .0, (n .1, r .size))
 
 pub step-spec : {M : Type 1} → statement M
 step-spec =
@@ -73,7 +76,7 @@ step-spec =
     last-requires
     same-length
     returns
-    read-at-requires
+    pass-requires
     enum-known-end
     refusal-number-requires
     cast-last

@@ -1,47 +1,55 @@
+-- The guard refuses before any frame; else a walk of as many frames as are sure to fit (Parted).
 use borrow.Author.Needs.{needs}
-use Rattle.unpacking.proofs.Guarded.{stops, no-law, no-set, too-long, the-frames, parts-as}
+use mathlib.Core.Path.{sym, _∙_}
 use lib.ListN.{length}
-use native.Mathlib.Omega.{arith}
+use Rattle.unpacking.proofs.Parted.{part-refused, part-allowed, parts-none, goes-none, parts-of, goes-of}
 use Rattle.unpacking.proofs.next_part.Statement.{statement}
 use Rattle.unpacking.proofs.next_part.Tie as tie
+
+guard-stream-requires : tie.Need-guard-stream-requires
+guard-stream-requires c κs = search needs
+
+enum-known-why : tie.Need-enum-known-why
+enum-known-why c = search needs
 
 stopped-requires : tie.Need-stopped-requires
 stopped-requires c κs = search needs
 
+enum-told : tie.Need-enum-told
+enum-told c = search needs
+
+keep-on-requires : tie.Need-keep-on-requires
+keep-on-requires c κs = search needs
+
+part-of-requires : tie.Need-part-of-requires
+part-of-requires c κs = search needs
+
 returns : tie.Need-returns
-returns c = stops (c .before .before .before .before .args .stream .now) (c .before .before .before .before .args .at) (c .before .before .before .before .args .out .now) (c .stopped .ensures) (no-law (c .before .before .before .before .args .stream .now) (c .before .before .before .before .args .law) (c .before .before .before .before .args .set) (c .before .before .before .before .args .at) (length (c .before .before .before .before .args .out .now)) (omega arith))
-
-stopped-requires-2 : tie.Need-stopped-requires-2
-stopped-requires-2 c κs = search needs
-
-returns-2 : tie.Need-returns-2
-returns-2 c = stops (c .before .before .before .before .before .args .stream .now) (c .before .before .before .before .before .args .at) (c .before .before .before .before .before .args .out .now) (c .stopped2 .ensures) (no-set (c .before .before .before .before .before .args .stream .now) (c .before .before .before .before .before .args .law) (c .before .before .before .before .before .args .set) (c .before .before .before .before .before .args .at) (length (c .before .before .before .before .before .args .out .now)) (omega arith) (omega arith))
-
-stopped-requires-3 : tie.Need-stopped-requires-3
-stopped-requires-3 c κs = search needs
-
-returns-3 : tie.Need-returns-3
-returns-3 c = stops (c .before .before .before .before .before .before .args .stream .now) (c .before .before .before .before .before .before .args .at) (c .before .before .before .before .before .before .args .out .now) (c .stopped3 .ensures) (too-long (c .before .before .before .before .before .before .args .stream .now) (c .before .before .before .before .before .before .args .law) (c .before .before .before .before .before .before .args .set) (c .before .before .before .before .before .before .args .at) (length (c .before .before .before .before .before .before .args .out .now)) (omega arith) (omega arith) (omega arith))
-
-frames-from-requires : tie.Need-frames-from-requires
-frames-from-requires c κs = search needs
+returns c =
+    let a = c .before .before .before .before .before .before .before .args in
+    let e = sym (c .before .before .before .before .guard-stream .ensures) ∙ c .before .before .why .given .1 in
+    rw (c .stopped .ensures, part-refused (a .stream .now) (a .law) (a .set) (a .at) (length (a .out .now)) e) (parts-none _ _ _, goes-none _ _ _ _)
 
 same-length : tie.Need-same-length
 same-length c = search needs
 
-returns-4 : tie.Need-returns-4
-returns-4 c = (parts-as (the-frames (c .before .before .before .before .before .before .before .before .before .args .stream .now) (c .before .before .before .before .before .before .before .before .before .args .law) (c .before .before .before .before .before .before .before .before .before .args .set) (c .before .before .before .before .before .before .before .before .before .args .at) (length (c .before .before .before .before .before .before .before .before .before .args .out .now)) (omega arith) (omega arith) (omega arith)) (c .before .before .frames-from .ensures .0), c .before .before .frames-from .ensures .1)
+returns-2 : tie.Need-returns-2
+returns-2 c =
+    let a = c .before .before .before .before .before .before .before .before .before .before .args in
+    let e = sym (c .before .before .before .before .before .before .before .guard-stream .ensures) ∙ c .before .before .before .before .before .enum-told .given .1 in
+    let p = parts-of (c .before .before .before .keep-on .ensures) (c .part-of .ensures) in
+    (rw (part-allowed (a .stream .now) (a .law) (a .set) (a .at) (length (a .out .now)) e) p, goes-of (a .stream .now) (a .law) (a .set) (a .at) (a .out .now) p)
 
 pub next-part-spec : {M : Type 1} → statement M
 next-part-spec =
     tie.close
     (tie.spec
+    guard-stream-requires
+    enum-known-why
     stopped-requires
+    enum-told
+    keep-on-requires
+    part-of-requires
     returns
-    stopped-requires-2
-    returns-2
-    stopped-requires-3
-    returns-3
-    frames-from-requires
     same-length
-    returns-4)
+    returns-2)

@@ -1,47 +1,55 @@
+-- The guard refuses before any frame (Guards of rules); else the frames, as many as there are octets (Walk of rules).
 use borrow.Author.Needs.{needs}
+use Prim.Native.Nat.{suc}
+use mathlib.Core.Path.{sym, _∙_}
 use native.Mathlib.Omega.{arith}
 use lib.ListN.{length}
-use Rattle.walk.proofs.Ordered.{stops, walks-as, no-law, no-set, too-long, the-frames}
+use Rattle.rules.proofs.Guards.{walk-refused, walk-allowed}
+use Rattle.rules.proofs.Walk.{walk-fuel}
+use Rattle.walk.proofs.Keeping.{walks-none}
 use Rattle.walk.proofs.walk.Statement.{statement}
 use Rattle.walk.proofs.walk.Tie as tie
 
-stopped-requires : tie.Need-stopped-requires
-stopped-requires c κs = search needs
+guard-stream-requires : tie.Need-guard-stream-requires
+guard-stream-requires c κs = search needs
+
+enum-known-why : tie.Need-enum-known-why
+enum-known-why c = search needs
+
+answer-requires : tie.Need-answer-requires
+answer-requires c κs = search needs
+
+enum-told : tie.Need-enum-told
+enum-told c = search needs
+
+keep-on-requires : tie.Need-keep-on-requires
+keep-on-requires c κs = search needs
 
 returns : tie.Need-returns
-returns c = stops (c .stopped .ensures) _ (no-law (c .before .before .before .before .args .octets .now) (c .before .before .before .before .args .law) (c .before .before .before .before .args .set) (length (c .before .before .before .before .args .out .now)) (omega arith)) (c .before .before .before .before .args .out .now)
-
-stopped-requires-2 : tie.Need-stopped-requires-2
-stopped-requires-2 c κs = search needs
-
-returns-2 : tie.Need-returns-2
-returns-2 c = stops (c .stopped2 .ensures) _ (no-set (c .before .before .before .before .before .args .octets .now) (c .before .before .before .before .before .args .law) (c .before .before .before .before .before .args .set) (length (c .before .before .before .before .before .args .out .now)) (omega arith) (omega arith)) (c .before .before .before .before .before .args .out .now)
-
-stopped-requires-3 : tie.Need-stopped-requires-3
-stopped-requires-3 c κs = search needs
-
-returns-3 : tie.Need-returns-3
-returns-3 c = stops (c .stopped3 .ensures) _ (too-long (c .before .before .before .before .before .before .args .octets .now) (c .before .before .before .before .before .before .args .law) (c .before .before .before .before .before .before .args .set) (length (c .before .before .before .before .before .before .args .out .now)) (omega arith) (omega arith) (omega arith)) (c .before .before .before .before .before .before .args .out .now)
-
-frames-requires : tie.Need-frames-requires
-frames-requires c κs = search needs
+returns c =
+    let a = c .before .before .before .before .before .before .before .args in
+    rw (c .answer .ensures, walk-refused (a .octets .now) (a .law) (a .set) (length (a .out .now)) (sym (c .before .before .before .before .guard-stream .ensures) ∙ c .before .before .why .given .1)) (walks-none _ _)
 
 same-length : tie.Need-same-length
 same-length c = search needs
 
-returns-4 : tie.Need-returns-4
-returns-4 c = walks-as (the-frames (c .before .before .before .before .before .before .before .before .before .args .octets .now) (c .before .before .before .before .before .before .before .before .before .args .law) (c .before .before .before .before .before .before .before .before .before .args .set) (length (c .before .before .before .before .before .before .before .before .before .args .out .now)) (omega arith) (omega arith) (omega arith)) (c .before .before .frames .ensures)
+returns-2 : tie.Need-returns-2
+returns-2 c =
+    let a = c .before .before .before .before .before .before .before .before .before .args in
+    let n = length (a .octets .now) in
+    let g = sym (c .before .before .before .before .before .before .guard-stream .ensures) ∙ c .before .before .before .before .enum-told .given .1 in
+    rw (walk-allowed (a .octets .now) (a .law) (a .set) (length (a .out .now)) g, walk-fuel (a .octets .now) (a .law) (a .set) (suc n) n 0 (length (a .out .now)) (omega arith) (omega arith))
+    (c .before .before .keep-on .ensures)
 
 pub walk-spec : {M : Type 1} → statement M
 walk-spec =
     tie.close
     (tie.spec
-    stopped-requires
+    guard-stream-requires
+    enum-known-why
+    answer-requires
+    enum-told
+    keep-on-requires
     returns
-    stopped-requires-2
-    returns-2
-    stopped-requires-3
-    returns-3
-    frames-requires
     same-length
-    returns-4)
+    returns-2)

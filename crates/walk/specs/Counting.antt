@@ -1,12 +1,11 @@
--- A step of a walk, and a walk that stops before any frame.
+-- A step of a walk, and what is counted of a walk that keeps no samples.
 use Prim.Native.Nat.{ℕ, _-_}
 use mathlib.Core.Path.{_≡_}
 use mathlib.Core.List.{List, _++_}
 use lib.ListN.{length, take, drop}
-use Rattle.rules.specs.declared.Refusal.{Refusal}
-use Rattle.rules.specs.declared.Ending.the-variants.{Refused}
 use Rattle.rules.specs.declared.WalkAnswer.{WalkAnswer}
 use Rattle.rules.specs.Frame.{readOne}
+use Rattle.rules.specs.Walk.{Walked, octetsKept, samplesKept}
 use Rattle.reader.specs.declared.Report.{Report}
 use Rattle.reader.specs.Answers.{ReadsInto}
 
@@ -16,10 +15,11 @@ pub record Steps (octets : List ℕ) (law set at to : ℕ) (out out′ : List �
   pub reads : ReadsInto (readOne (drop at octets) law set (length out - to)) r (drop to out) rest
   pub lent : out′ ≡ take to out ++ rest
 
-pub record StopsAtOnce (why : Refusal) (r : WalkAnswer) : Type 0 where
-  pub end : r .end ≡ Refused why
-  pub frames : r .frames ≡ 0
-  pub octets : r .octets ≡ 0
-  pub samples : r .samples ≡ 0
-  pub place : r .place ≡ 0
-  pub bit : r .bit ≡ 0
+-- the answer is that of a walk; no output is lent
+pub record Counts (walked : Walked) (r : WalkAnswer) : Type 0 where
+  pub end : r .end ≡ walked .end
+  pub frames : r .frames ≡ length (walked .frames)
+  pub octets : r .octets ≡ octetsKept (walked .frames)
+  pub samples : r .samples ≡ length (samplesKept (walked .frames))
+  pub place : r .place ≡ walked .place
+  pub bit : r .bit ≡ walked .bit
