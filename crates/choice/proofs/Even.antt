@@ -21,9 +21,10 @@ use Rattle.zeros.specs.declared.Zeros.{Zeros}
 use Rattle.choice.specs.Plans.{measured, ZerosFor}
 use Rattle.locating.proofs.Near.{zeros-unlocated}
 use Rattle.zeros.proofs.TwoZeros.{rice-applies, zeros-apply, rice-sum}
-use Rattle.choice.proofs.Choosing.{uncompressed-chosen, binary-bits}
+use Rattle.offers.proofs.Choosing.{uncompressed-chosen, binary-bits}
 use Rattle.choice.proofs.Settling.{least-some, code-some, start-some, of-two, among, passed, won}
-use Rattle.choice.proofs.Planning.{past, rice-form}
+use Rattle.offers.proofs.Offering.{rice-form}
+use Rattle.choice.proofs.Planning.{past}
 
 -- one run more
 forms-more : (S v : ℕ) (vs : List ℕ) → length (riceForms S (v ∷ vs)) ≡ v / 2 ^ S + 1 + S + length (riceForms S vs)

@@ -1,4 +1,3 @@
-pub mod Choosing
 pub mod Settling
 pub mod Planning
 pub mod Even

@@ -4,27 +4,24 @@ use mathlib.Core.Path.{_≡_, refl, sym, ap, _∙_}
 use mathlib.Core.List.{List, [], _∷_}
 use mathlib.Core.Bool.{Bool, true, false, _&&_}
 use native.Mathlib.Omega.{arith}
-use lib.ListN.{length, length-append}
+use lib.ListN.{length}
 use Rattle.rules.specs.Tools.{holds}
-use Rattle.rules.specs.Chooses.{applies, formOf, choose, rowOf, locatedFlag, locatedForm, riceChoice}
-use Rattle.rules.proofs.Octets.{length-lowBits}
+use Rattle.rules.specs.Chooses.{applies, formOf, choose}
 use Rattle.rules.proofs.Tests.{and-left}
 use Rattle.look.specs.Looks.{twoZeros}
-use Rattle.choice.specs.declared.Choice.{Choice}
+use Rattle.offers.specs.declared.Choice.{Choice}
 use Rattle.zeros.specs.declared.Zeros.{Zeros}
 use Rattle.locating.specs.declared.Located.{Located}
-use Rattle.locating.specs.declared.Values.{Values}
-use Rattle.locating.specs.declared.Ways.{Ways}
-use Rattle.locating.specs.Ways.{InTurn, WaysAre}
-use Rattle.locating.specs.Rows.{samplesOf, valuesIn}
+use Rattle.locating.specs.Rows.{LocatedIs}
 use Rattle.zeros.specs.Rice.{RiceFor}
-use Rattle.choice.specs.Plans.{measured, BetterIs, ChosenIs, ZerosFor, locatedBy, LocatedFor}
+use Rattle.offers.specs.Ties.{BetterIs, ChosenIs}
+use Rattle.choice.specs.Plans.{measured, ZerosFor, locatedBy, LocatedFor}
 use Rattle.look.proofs.Tests.{never, and-zero}
 use Rattle.locating.proofs.Near.{zeros-unlocated}
 use Rattle.zeros.proofs.TwoZeros.{rice-applies, zeros-apply}
-use Rattle.choice.proofs.Choosing.{choose-step, choose-past, chosen-offered, uncompressed-chosen, binary-bits}
+use Rattle.offers.proofs.Choosing.{choose-step, choose-past, chosen-offered, uncompressed-chosen, binary-bits}
 use Rattle.choice.proofs.Settling.{among, alone}
-use Rattle.locating.proofs.Rows.{ways-sum}
+use Rattle.offers.proofs.Offering.{rice-form, located-form}
 
 pub past : (set t : ℕ) {a : Bool} → a ≡ false → (holds set t && a) ≡ false
 past set t e = rw e (and-zero (holds set t))
@@ -35,18 +32,6 @@ offers set t e = rw e (sym (both (holds set t)))
     both : (b : Bool) → (b && true) ≡ b
     both true = refl
     both false = refl
-
-pub rice-form : (mask : ℕ) (s : List ℕ) → length (riceChoice mask s) ≡ length (formOf mask 6 s)
-unfolding formOf
-rice-form mask s = refl
-
-located-bits : (mask : ℕ) (s : List ℕ) {a b c : List ℕ} {v : Values} {w : Ways} → 1 ≤ v .count → v .count ≤ 3
-    → samplesOf v ≡ valuesIn mask s → WaysAre s v w a b c
-    → 11 + (w .first .bits + w .second .bits + w .third .bits) ≡ length (formOf mask 7 s)
-unfolding formOf locatedForm
-located-bits mask s {w = w} some few says ways =
-    let e = ways-sum some few ways in
-    rw (length-append, length-lowBits, length-append, length-lowBits, length-append, length-lowBits, ← says) (omega (arith, e))
 
 -- uncompressed, from which each choice goes on
 uncompressed-is : (mask set : ℕ) (s : List ℕ) {n : ℕ} {first : Choice} → length s ≡ n → n ≤ 320 → first ≡ record { tool = 1; bits = 8 + 8 * n } → ChosenIs mask set s [] first
@@ -114,13 +99,12 @@ module _ {mask : ℕ} (set : ℕ) {s : List ℕ} (zeros : twoZeros mask s ≡ fa
         kind = λ x. absurd (x t);
       }
 
-  pub located-for : {n row flag : ℕ} {a b c : List ℕ} {v : Values} {w : Ways} {one best : Choice} {r : Located} {k : ℕ} → length s ≡ n → n ≤ 320 → holds set 7 ≡ true
-      → applies mask 7 s ≡ true → row ≡ rowOf mask s → row < 4 → flag ≡ locatedFlag mask s → flag < 2 → (plus : ℕ) → InTurn plus s v → samplesOf v ≡ valuesIn mask s
-      → WaysAre s v w a b c → one ≡ record { tool = 1; bits = 8 + 8 * n } → k ≡ 11 + (w .first .bits + w .second .bits + w .third .bits) → BetterIs one 7 true k best
-      → r ≡ locatedBy best row flag (v .count) w → LocatedFor mask (choose mask set s measured) s r a b c
-  located-for {v = v} {w = w} {k = k} size few held on q low f mark plus turn says ways e sum better told =
+  pub located-for : {n : ℕ} {a b c : List ℕ} {w : Located} {one best : Choice} {r : Located} → length s ≡ n → n ≤ 320 → holds set 7 ≡ true → applies mask 7 s ≡ true
+      → LocatedIs mask s w a b c → one ≡ record { tool = 1; bits = 8 + 8 * n } → BetterIs one 7 true (w .bits) best → r ≡ locatedBy best w
+      → LocatedFor mask (choose mask set s measured) s r a b c
+  located-for {w = w} size few held on i e better told =
       let offered : true ≡ (holds set 7 && applies mask 7 s) = rw (held, on) in
-      let first′ = choose-step (uncompressed-is mask set s size few e) 7 true k offered (λ h. sum ∙ located-bits mask s (turn .some) (turn .few) says ways) better in
+      let first′ = choose-step (uncompressed-is mask set s size few e) 7 true (w .bits) offered (λ h. i .bits ∙ located-form mask s) better in
       let done = no-zeros first′ in
       rw told
       (record {
@@ -129,19 +113,21 @@ module _ {mask : ℕ} (set : ℕ) {s : List ℕ} (zeros : twoZeros mask s ≡ fa
         small = done .small;
         located = λ e.
             record {
-              x = v .first .sample;
-              y = v .second .sample;
-              z = v .third .sample;
-              row = q;
-              low = low;
-              flag = f;
-              mark = mark;
-              some = turn .some;
-              few = turn .few;
-              values = sym says;
-              first = ways .first;
-              second = ways .second;
-              third = ways .third;
+              x = i .x;
+              y = i .y;
+              z = i .z;
+              row = i .row;
+              low = i .low;
+              flag = i .flag;
+              mark = i .mark;
+              some = i .some;
+              few = i .few;
+              values = i .values;
+              first = i .first;
+              second = i .second;
+              third = i .third;
+              bits = done .bits ∙ ap (λ (t : ℕ). length (formOf mask t s)) e ∙ sym (located-form mask s);
+              small = done .small;
             };
         kind = one-or-seven first′;
       })

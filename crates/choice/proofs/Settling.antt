@@ -23,8 +23,9 @@ use Rattle.rules.proofs.Counts.{count-le}
 use Rattle.finding.proofs.Finding.{runs-common, runs-other}
 use Rattle.choice.specs.Plans.{measured, valueTool, Plain}
 use Rattle.look.proofs.Tests.{never, and-zero}
+use Rattle.locating.proofs.Near.{located-near}
 use Rattle.zeros.proofs.TwoZeros.{rice-applies, rice-sum}
-use Rattle.choice.proofs.Choosing.{constant-bits, minus-bits, plus-bits}
+use Rattle.offers.proofs.Choosing.{constant-bits, minus-bits, plus-bits}
 
 -- a Rice code has a one and S low bits, so that runs of anything at all have more bits than S
 one-run : (s v : ℕ) (vs : List ℕ) → s < length (riceForms s (v ∷ vs))
@@ -199,30 +200,6 @@ none-value y first (x ∷ s) h e a = go (every (λ z. eqb z y) (x ∷ s)) refl
     go true g =
         absurd (never (sym a ∙ ap (λ (k : ℕ). every (λ z. eqb z k) (x ∷ s)) (e ∙ eqb-true x y (head-passes (λ z. eqb z y) x s g)) ∙ g))
     go false g = g
-
--- a row is near
-row-near : (mask : ℕ) (s : List ℕ) → near (leastOf mask s) (greatestOf mask s) ≡ false → rowOf mask s ≡ 4
-unfolding rowOf caseOf
-row-near mask s far = go (leb 126 (leastOf mask s)) refl (leb (greatestOf mask s) 129) refl
-  where
-    least : ℕ
-    least = leastOf mask s
-
-    greatest : ℕ
-    greatest = greatestOf mask s
-
-    go : (a : Bool) → leb 126 (leastOf mask s) ≡ a → (b : Bool) → leb (greatestOf mask s) 129 ≡ b → rowOf mask s ≡ 4
-    go false e b f =
-        let h = leb-false 126 (leastOf mask s) e in
-        rw (ne-eqb (leastOf mask s) 126 (λ z. omega arith), ne-eqb (leastOf mask s) 127 (λ z. omega arith), ne-eqb (leastOf mask s) 128 (λ z. omega arith))
-    go true e false f =
-        let h = leb-false (greatestOf mask s) 129 f in
-        rw (ne-eqb (greatestOf mask s) 129 (λ z. omega arith), ne-eqb (greatestOf mask s) 128 (λ z. omega arith), and-zero (eqb (leastOf mask s) 126), and-zero (eqb (leastOf mask s) 127), and-zero (eqb (leastOf mask s) 128))
-    go true e true f = absurd (never (sym (rw (e, f) at far)))
-
-located-near : (mask : ℕ) (s : List ℕ) → near (leastOf mask s) (greatestOf mask s) ≡ false → applies mask 7 s ≡ false
-unfolding applies
-located-near mask s far = rw (row-near mask s far, and-zero (leb 80 (length s)))
 
 -- the zeros are nearer still
 zeros-near : {mask first : ℕ} {s : List ℕ} {l : Spread} → SpreadIs mask first s l → ltb (l .any % 128) 2 ≡ false → applies mask 6 s ≡ false

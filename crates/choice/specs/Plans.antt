@@ -2,36 +2,19 @@
 use Prim.Native.Nat.{ℕ, _≤_}
 use mathlib.Core.Path.{_≡_}
 use mathlib.Core.List.{List, [], _∷_}
-use mathlib.Core.Bool.{Bool, true, cond, _&&_}
+use mathlib.Core.Bool.{true, cond, _&&_}
 use lib.ListN.{length}
-use lib.Dec.{eqb, leb}
-use Rattle.rules.specs.Bits.{octetsFor}
+use lib.Dec.{eqb}
 use Rattle.rules.specs.Tools.{holds}
 use Rattle.rules.specs.Samples.{plusZero, minusZero}
 use Rattle.rules.specs.Chooses.{choose, chosenTool, formOf, leastOf, greatestOf}
 use Rattle.look.specs.Looks.{near, twoZeros}
-use Rattle.choice.specs.declared.Choice.{Choice}
+use Rattle.offers.specs.declared.Choice.{Choice}
 use Rattle.choice.specs.declared.Settled.{Settled}
 use Rattle.zeros.specs.declared.Zeros.{Zeros}
 use Rattle.locating.specs.declared.Located.{Located}
-use Rattle.locating.specs.declared.Ways.{Ways}
 use Rattle.zeros.specs.Rice.{RiceIs}
 use Rattle.locating.specs.Rows.{LocatedIs}
-
--- whether a tool is taken
-abbrev pub taken : Choice → Bool → ℕ → Bool
-taken best offered bits = offered && leb (octetsFor bits) (octetsFor (best .bits))
-
-pub record BetterIs (best : Choice) (t : ℕ) (offered : Bool) (bits : ℕ) (r : Choice) : Type 0 where
-  pub tool : r .tool ≡ cond (taken best offered bits) t (best .tool)
-  pub size : r .bits ≡ cond (taken best offered bits) bits (best .bits)
-  pub small : r .bits ≤ 1000000000
-
--- the best of some tools and of uncompressed
-pub record ChosenIs (mask set : ℕ) (s ts : List ℕ) (r : Choice) : Type 0 where
-  pub tool : r .tool ≡ choose mask set s ts
-  pub bits : r .bits ≡ length (formOf mask (choose mask set s ts) s)
-  pub small : r .bits ≤ 1000000000
 
 -- the tools that are measured
 abbrev pub measured : List ℕ
@@ -62,9 +45,9 @@ pub record ZerosFor (mask t : ℕ) (s : List ℕ) (r : Zeros) (runs : List ℕ) 
   pub kind : (r .tool ≡ 1 → ⊥) → (r .tool ≡ 6 → ⊥) → r .tool ≡ 5
 
 -- a choice, with what value-location writes
-abbrev pub locatedBy : Choice → ℕ → ℕ → ℕ → Ways → Located
-locatedBy best row flag count w =
-    record { tool = best .tool; bits = best .bits; row = row; flag = flag; count = count; first = w .first; second = w .second; third = w .third }
+abbrev pub locatedBy : Choice → Located → Located
+locatedBy best w =
+    record { tool = best .tool; bits = best .bits; row = w .row; flag = w .flag; count = w .count; first = w .first; second = w .second; third = w .third }
 
 -- tool t as it is written of a frame that has a 1 or a -2
 pub record LocatedFor (mask t : ℕ) (s : List ℕ) (r : Located) (a b c : List ℕ) : Type 0 where

@@ -3,18 +3,17 @@
 use law::minus_zero;
 use law::plus_zero;
 use locating::Located;
-use locating::Ways;
-use locating::flag_of;
 use locating::located_applies;
-use locating::located_bits;
+use locating::located_of;
 use locating::row_of;
 use locating::tally_of;
-use locating::values_of;
 use locating::way_by;
-use locating::ways_of;
 use look::Spread;
 use look::count_of;
 use look::spread_of;
+use offers::Choice;
+use offers::better;
+use offers::uncompressed_of;
 use prefix::holds;
 use zeros::Zeros;
 use zeros::rice_of;
@@ -27,43 +26,9 @@ ghost use lib.Dec.{eqb, ltb};
 ghost use Rattle.rules.specs.Tools as tools;
 ghost use Rattle.rules.specs.Zeros.{flagOf};
 ghost use Rattle.rules.specs.Chooses.{leastOf, greatestOf, choose, chosenTool};
-ghost use Rattle.look.specs.Looks.{near, twoZeros, SpreadIs, isMask};
+ghost use Rattle.look.specs.Looks.{near, twoZeros, SpreadIs, isMask, FrameIn};
 ghost use Rattle.look.specs.Rows.{RowIs};
-ghost use Rattle.choice.specs.Plans.{BetterIs, measured, valueTool, Plain, Settles, ZerosFor, locatedBy, LocatedFor};
-
-// A tool, and the bits of its form.
-struct Choice {
-    tool: u32,
-    bits: usize,
-}
-
-// Uncompressed: "N octets", and the first one.
-fn uncompressed_of(n: usize) -> Choice
-    requires { ⌜ n ≤ 320 ⌝ }
-    ensures { λ r. ⌜ r ≡ record { tool = 1; bits = 8 + 8 * n } ⌝ }
-{
-    Choice {
-        tool: 1,
-        bits: 8 + 8 * n,
-    }
-}
-
-// The tool, if it is offered and its octets are not more; else what was best before it.
-fn better(best: Choice, tool: u32, offered: bool, bits: usize) -> Choice
-    requires { ⌜ (best .bits ≤ 1000000000) × (bits ≤ 1000000000) ⌝ }
-    ensures { λ r. ⌜ BetterIs best tool offered bits r ⌝ }
-{
-    if !offered {
-        return best;
-    }
-    if (best.bits + 7) / 8 < (bits + 7) / 8 {
-        return best;
-    }
-    Choice {
-        tool: tool,
-        bits: bits,
-    }
-}
+ghost use Rattle.choice.specs.Plans.{measured, valueTool, Plain, Settles, ZerosFor, locatedBy, LocatedFor};
 
 // Whether a tool is for this sample, and held.
 fn is_for(x: u8, y: u8, set: u32, tool: u32) -> bool
@@ -215,8 +180,8 @@ fn not_located(n: usize) -> Located
 }
 
 // The choice, with what value-location writes.
-fn located_by(best: Choice, row: usize, flag: usize, count: usize, w: Ways) -> Located
-    ensures { λ r. ⌜ r ≡ locatedBy best row flag count w ⌝ }
+fn located_by(best: Choice, w: Located) -> Located
+    ensures { λ r. ⌜ r ≡ locatedBy best w ⌝ }
 {
     let first = w.first;
     let second = w.second;
@@ -224,9 +189,9 @@ fn located_by(best: Choice, row: usize, flag: usize, count: usize, w: Ways) -> L
     Located {
         tool: best.tool,
         bits: best.bits,
-        row: row,
-        flag: flag,
-        count: count,
+        row: w.row,
+        flag: w.flag,
+        count: w.count,
         first: first,
         second: second,
         third: third,
@@ -244,7 +209,7 @@ pub fn located_plan(
     b: &mut [u16; 321],
     c: &mut [u16; 321],
 ) -> Located
-    requires { ⌜ (1 ≤ n) × ((n ≤ 320) × ((n ≤ length (now samples)) × ((isMask mask ≡ true) × (n % 40 ≡ 0)))) ⌝ }
+    requires { ⌜ (FrameIn (now samples) n) × (isMask mask ≡ true) ⌝ }
     requires { ⌜ twoZeros mask (take n (now samples)) ≡ false ⌝ }
     requires { ⌜ near (leastOf mask (take n (now samples))) (greatestOf mask (take n (now samples))) ≡ true ⌝ }
     requires { ⌜ (length (now a) ≡ 321) × ((length (now b) ≡ 321) × (length (now c) ≡ 321)) ⌝ }
@@ -259,10 +224,7 @@ pub fn located_plan(
     if !located_applies(t, n, row) {
         return not_located(n);
     }
-    let flag = flag_of(t.one, t.minus + t.twos);
-    let v = values_of(mask, t, row, flag);
-    let w = ways_of(samples, n, plus_zero(mask), v, a, b, c);
-    let uncompressed = uncompressed_of(n);
-    let seven = better(uncompressed, 7, true, located_bits(w));
-    located_by(seven, row, flag, v.count, w)
+    let located = located_of(samples, n, mask, t, row, a, b, c);
+    let seven = better(uncompressed_of(n), 7, true, located.bits);
+    located_by(seven, located)
 }

@@ -14,7 +14,7 @@ use Rattle.rules.specs.Runs.{riceForms}
 use Rattle.rules.specs.Zeros.{prefix, codeOf, flagOf}
 use Rattle.rules.specs.Chooses.{markOf, bestS, riceChoice, rowOf, locatedFlag, locatedForm, formOf}
 use Rattle.rules.specs.Samples.{plusZero, minusZero}
-use Rattle.look.specs.Looks.{countIs, marksOf}
+use Rattle.look.specs.Looks.{countIs, FrameIn}
 use Rattle.locating.specs.declared.Located.{Located}
 use Rattle.zeros.specs.declared.Zeros.{Zeros}
 use Rattle.zeros.specs.Rice.{RiceIs}
@@ -24,7 +24,7 @@ use Rattle.pen.specs.Puts.{penBits, Able, Puts, Packed}
 use Rattle.look.specs.Rows.{rowBits, RowIs}
 use Rattle.rules.proofs.Words.{lowBits-join}
 use Rattle.pen.proofs.Putting.{drop-further}
-use Rattle.forms.specs.Forms.{IsFrame, wholeOctets, RiceReady, riceFormOf, valuesFormOf, locatedFormOf, planForm, zerosForm}
+use Rattle.forms.specs.Forms.{wholeOctets, RiceReady, riceFormOf, valuesFormOf, locatedFormOf, planForm, zerosForm}
 use Rattle.forms.proofs.Turns.{located-values}
 
 pub row-flag : (row flag : ℕ) (l : List ℕ) → flag < 2 → lowBits 3 (row * 2 + flag) ++ l ≡ lowBits 2 row ++ (lowBits 1 flag ++ l)
@@ -34,11 +34,11 @@ pub bit-of : (b : Bool) → cond b 1 0 < 2
 bit-of true = omega arith
 bit-of false = omega arith
 
-pub cells-length : {samples : List ℕ} {n : ℕ} → IsFrame samples n → length (take n samples) ≡ n
+pub cells-length : {samples : List ℕ} {n : ℕ} → FrameIn samples n → length (take n samples) ≡ n
 cells-length {samples} {n} f = length-take-le n samples (f .long)
 
 -- Rice as planned
-pub rice-ready : {mask n : ℕ} {samples runs : List ℕ} {r : Zeros} → IsFrame samples n → RiceIs mask (take n samples) r runs → RiceReady n r runs
+pub rice-ready : {mask n : ℕ} {samples runs : List ℕ} {r : Zeros} → FrameIn samples n → RiceIs mask (take n samples) r runs → RiceReady n r runs
 rice-ready {mask} {n} {samples} f i =
     record {
       mark = rw (i .mark) (bit-of (ltb (countIs (plusZero mask) (take n samples)) (countIs (minusZero mask) (take n samples))));
@@ -48,13 +48,6 @@ rice-ready {mask} {n} {samples} f i =
       few = i .found .few;
       size = i .found .size;
     }
-
--- the row of the flags of plus zero is that of binary
-pub row-flags : (mask : ℕ) {n x : ℕ} {samples row : List ℕ} → IsFrame samples n → x ≡ plusZero mask → RowIs (marksOf x 0 1 (take (40 * (n / 40)) samples)) (n / 40) row
-    → RowIs (map (flagOf mask 0) (take n samples)) (n / 40) row
-row-flags mask {n} {x} {samples} f e words =
-    let whole : 40 * (n / 40) ≡ n = omega (arith, f .whole) in
-    rw (ap (λ (k : ℕ). marksOf x 0 1 (take k samples)) whole ∙ ap (λ (z : ℕ). marksOf z 0 1 (take n samples)) e) at words
 
 -- what is planned for a frame of the two zeros
 module _ (n : ℕ) (s : List ℕ) (r : Zeros) (row runs : List ℕ) where

@@ -9,17 +9,11 @@ use Rattle.rules.specs.Bits.{lowBits, bitsOf}
 use Rattle.rules.specs.Zeros.{prefix, codeOf, mostS}
 use Rattle.rules.specs.First.{octetFor, riceCode}
 use Rattle.rules.specs.Runs.{riceForms}
+use Rattle.look.specs.Looks.{FrameIn}
 use Rattle.look.specs.Rows.{rowBits}
 use Rattle.locating.specs.declared.Located.{Located}
 use Rattle.zeros.specs.declared.Zeros.{Zeros}
 use Rattle.forms.specs.Ways.{wayOf, WayPlanned}
-
--- n samples of a frame, 40 to a word
-pub record IsFrame (samples : List ℕ) (n : ℕ) : Type 0 where
-  pub some : 1 ≤ n
-  pub few : n ≤ 320
-  pub long : n ≤ length samples
-  pub whole : n % 40 ≡ 0
 
 -- the octets of tools 1 to 4
 unfoldable pub wholeOctets : ℕ → List ℕ → List ℕ
@@ -73,7 +67,7 @@ zerosForm n s r row runs =
     cond (eqb (r .tool) 1) (bitsOf (wholeOctets 1 s)) (cond (eqb (r .tool) 6) (riceFormOf n r runs) (prefix 5 n ++ rowBits (take (n / 40) row)))
 
 pub record ZerosReady (samples : List ℕ) (n : ℕ) (plan : Zeros) (row runs : List ℕ) : Type 0 where
-  pub sized : IsFrame samples n
+  pub sized : FrameIn samples n
   pub rice : plan .tool ≡ 6 → RiceReady n plan runs
   pub size : length row ≡ 8
   pub small : (i : ℕ) → getD row i 0 < 2 ^ 40

@@ -23,8 +23,9 @@ ghost use Rattle.rules.specs.Bits.{bitsOf};
 ghost use Rattle.rules.specs.First.{riceCode};
 ghost use Rattle.rules.specs.Zeros as zeros;
 ghost use Rattle.pen.specs.Puts.{Able, Puts, Packed};
+ghost use Rattle.look.specs.Looks.{FrameIn};
 ghost use Rattle.forms.specs.Ways.{placesBy, listedForm, marksForm, wayOf, WayPlanned};
-ghost use Rattle.forms.specs.Forms.{wholeOctets, Copied, RiceReady, riceFormOf, ValuesReady, valuesFormOf, LocatedReady, locatedFormOf, planForm, IsFrame, zerosForm, ZerosReady};
+ghost use Rattle.forms.specs.Forms.{wholeOctets, Copied, RiceReady, riceFormOf, ValuesReady, valuesFormOf, LocatedReady, locatedFormOf, planForm, zerosForm, ZerosReady};
 
 fn wide(x: u8) -> u64
     ensures { λ r. ⌜ (r ≡ x) × (r < 256) ⌝ }
@@ -70,7 +71,7 @@ pub fn whole_octets(tool: u32, n: usize) -> usize
 // The form of tools 1 to 4: whole octets, stored with no pen. Their number comes back.
 pub fn put_whole(out: &mut [u8], samples: &[u8], n: usize, tool: u32) -> usize
     requires { ⌜ (1 ≤ tool) × (tool ≤ 4) ⌝ }
-    requires { ⌜ IsFrame (now samples) n ⌝ }
+    requires { ⌜ FrameIn (now samples) n ⌝ }
     requires { ⌜ cond (eqb tool 1) (1 + n) (cond (eqb tool 4) 2 1) ≤ length (now out) ⌝ }
     ensures { λ r. ⌜ Packed (bitsOf (wholeOctets tool (take n (now (samples .entry))))) (now (out .entry)) (now (out .exit)) r ⌝ }
 {
@@ -231,7 +232,7 @@ pub fn put_located(
     b: &[u16; 321],
     c: &[u16; 321],
 ) -> usize
-    requires { ⌜ (IsFrame (now samples) n) × ((plan .tool ≡ 1 → ⊥) → LocatedReady plan (now a) (now b) (now c)) ⌝ }
+    requires { ⌜ (FrameIn (now samples) n) × ((plan .tool ≡ 1 → ⊥) → LocatedReady plan (now a) (now b) (now c)) ⌝ }
     requires { ⌜ length (planForm n (take n (now samples)) plan (now a) (now b) (now c)) ≤ 8 * length (now out) ⌝ }
     ensures { λ r. ⌜ Packed (planForm n (take n (now (samples .entry))) plan (now (a .entry)) (now (b .entry)) (now (c .entry))) (now (out .entry)) (now (out .exit)) r ⌝ }
 {

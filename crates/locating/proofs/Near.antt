@@ -5,7 +5,7 @@ use mathlib.Core.List.{List, [], _∷_}
 use mathlib.Core.Bool.{Bool, true, false, cond, _&&_, _||_}
 use native.Mathlib.Omega.{arith}
 use native.Mathlib.Nat.{zero-add}
-use borrow.Author.Tests.{eqb-true, eqb-false, eq-eqb, ne-eqb}
+use borrow.Author.Tests.{eqb-true, eqb-false, eq-eqb, ne-eqb, leb-false}
 use lib.ListN.{length, take}
 use lib.Seq.{length-take-le}
 use lib.Dec.{eqb, leb, ltb}
@@ -21,7 +21,7 @@ use Rattle.rules.proofs.Counts.{count-le}
 use Rattle.look.proofs.Spreading.{alike, near-is, is-near}
 use Rattle.locating.specs.declared.Tally.{Tally}
 use Rattle.locating.specs.Rows.{leastBy, greatestBy, Tallied}
-use Rattle.look.proofs.Tests.{and-zero}
+use Rattle.look.proofs.Tests.{never, and-zero}
 
 pub law-for : (mask : ℕ) → isMask mask ≡ true → LawMask mask
 law-for mask h = or-cases (LawMask mask) (eqb mask 0x55) (eqb mask 0x7F) h (λ e. rw (eqb-true mask 0x55 e) (law-mask 0)) (λ e. rw (eqb-true mask 0x7F e) (law-mask 1))
@@ -277,3 +277,21 @@ zeros-unlocated mask m s e =
     let four : rowOf mask s ≡ 4 =
     rw (ne-eqb (leastOf mask s) 126 (λ z. omega (arith, i .0)), ne-eqb (greatestOf mask s) 129 (λ z. omega (arith, i .1)), and-zero (eqb (leastOf mask s) 127), and-zero (eqb (leastOf mask s) 128)) in
     rw (four, and-zero (leb 80 (length s)))
+
+-- a row is near
+pub row-near : (mask : ℕ) (s : List ℕ) → near (leastOf mask s) (greatestOf mask s) ≡ false → rowOf mask s ≡ 4
+unfolding rowOf caseOf
+row-near mask s far = go (leb 126 (leastOf mask s)) refl (leb (greatestOf mask s) 129) refl
+  where
+    go : (a : Bool) → leb 126 (leastOf mask s) ≡ a → (b : Bool) → leb (greatestOf mask s) 129 ≡ b → rowOf mask s ≡ 4
+    go false e b f =
+        let h = leb-false 126 (leastOf mask s) e in
+        rw (ne-eqb (leastOf mask s) 126 (λ z. omega arith), ne-eqb (leastOf mask s) 127 (λ z. omega arith), ne-eqb (leastOf mask s) 128 (λ z. omega arith))
+    go true e false f =
+        let h = leb-false (greatestOf mask s) 129 f in
+        rw (ne-eqb (greatestOf mask s) 129 (λ z. omega arith), ne-eqb (greatestOf mask s) 128 (λ z. omega arith), and-zero (eqb (leastOf mask s) 126), and-zero (eqb (leastOf mask s) 127), and-zero (eqb (leastOf mask s) 128))
+    go true e true f = absurd (never (sym (rw (e, f) at far)))
+
+pub located-near : (mask : ℕ) (s : List ℕ) → near (leastOf mask s) (greatestOf mask s) ≡ false → applies mask 7 s ≡ false
+unfolding applies
+located-near mask s far = rw (row-near mask s far, and-zero (leb 80 (length s)))

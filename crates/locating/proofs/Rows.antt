@@ -10,15 +10,17 @@ use lib.Dec.{eqb, leb, ltb}
 use lib.IntN.{pos, negsuc}
 use Rattle.rules.specs.Samples.{sampleOf, plusZero, minusZero, onLine}
 use Rattle.rules.specs.Located.{caseOf, valuesOf}
-use Rattle.rules.specs.Chooses.{isRow, rowOf, locatedFlag, applies, valuesForm, leastOf, greatestOf}
+use Rattle.rules.specs.Chooses.{isRow, rowOf, locatedFlag, locatedForm, applies, valuesForm, leastOf, greatestOf}
+use Rattle.rules.proofs.Octets.{length-lowBits}
 use Rattle.rules.proofs.Signed.{LawMask}
 use Rattle.rules.proofs.Tests.{and-left, and-right}
 use Rattle.locating.specs.declared.Tally.{Tally}
 use Rattle.locating.specs.declared.Value.{Value}
 use Rattle.locating.specs.declared.Values.{Values}
 use Rattle.locating.specs.declared.Ways.{Ways}
+use Rattle.locating.specs.declared.Located.{Located}
 use Rattle.locating.specs.Ways.{ValueIs, InTurn, WaysAre}
-use Rattle.locating.specs.Rows.{leastBy, greatestBy, rowBy, Tallied, samplesOf, only, two, three, valuesBy, oneIn, minusIn, twosIn, valuesFor, valuesIn}
+use Rattle.locating.specs.Rows.{leastBy, greatestBy, rowBy, Tallied, samplesOf, only, two, three, valuesBy, oneIn, minusIn, twosIn, valuesFor, valuesIn, LocatedIs}
 use Rattle.look.proofs.Tests.{never}
 use Rattle.locating.proofs.Near.{apart}
 
@@ -171,6 +173,14 @@ ways-small {v = v} {w = w} i = (i .first .way .small, (second (leb 2 (v .count))
     third true e = i .third (leb-true 3 (v .count) e) .way .small
     third false e = omega (arith, i .no-third (leb-false 3 (v .count) e))
 
+-- and of all that value-location writes
+located-length : (mask : ℕ) {s a b c : List ℕ} {v : Values} {w : Ways} → 1 ≤ v .count → v .count ≤ 3 → samplesOf v ≡ valuesIn mask s → WaysAre s v w a b c
+    → 11 + (w .first .bits + w .second .bits + w .third .bits) ≡ length (locatedForm mask s)
+unfolding locatedForm
+located-length mask some few says ways =
+    let e = ways-sum some few ways in
+    rw (length-append, length-lowBits, length-append, length-lowBits, length-append, length-lowBits, ← says) (omega (arith, e))
+
 -- a row's values for a flag that it has
 said : (mask : ℕ) (t : Tally) (row flag : ℕ) → row < 4 → (row ≡ 2 → flag ≡ 0) → (row ≡ 3 → flag ≡ 1)
     → samplesOf (valuesFor mask t row flag) ≡ map (sampleOf mask) (cond (eqb flag 1) (caseOf row .flag1) (caseOf row .flag0))
@@ -284,3 +294,28 @@ module _ {mask : ℕ} {s : List ℕ} {t : Tally} (tally : Tallied mask s t) wher
           let fit : leb (caseOf (rowOf mask s) .from) (length s) ≡ true = rows-fit mask s (rw (← row-is) (lt-ltb row 4 (row-low e))) in
           said mask t row flag (row-low e) (λ z. f ∙ flag-two z) (λ z. f ∙ flag-three z)
           ∙ rw (row-is, f ∙ flag-is, fit)
+
+      -- and all that is written
+      pub located-is : {flag bits plus : ℕ} {x y z : List ℕ} {v : Values} {w : Ways} → a ≡ true → flag ≡ cond (leb (t .minus + t .twos) (t .one)) 1 0 → flag < 2
+          → v ≡ valuesFor mask t row flag → InTurn plus s v → WaysAre s v w x y z → bits ≡ 11 + (w .first .bits + w .second .bits + w .third .bits)
+          → LocatedIs mask s (record { tool = 7; bits = bits; row = row; flag = flag; count = v .count; first = w .first; second = w .second; third = w .third }) x y z
+      located-is {v = v} on f mark told turn ways sum =
+          let says : samplesOf v ≡ valuesIn mask s = ap samplesOf told ∙ values-say on f in
+          let k = ways-small ways in
+          record {
+            x = v .first .sample;
+            y = v .second .sample;
+            z = v .third .sample;
+            row = row-is;
+            low = row-low on;
+            flag = f ∙ flag-is;
+            mark = mark;
+            some = turn .some;
+            few = turn .few;
+            values = sym says;
+            first = ways .first;
+            second = ways .second;
+            third = ways .third;
+            bits = sum ∙ located-length mask (turn .some) (turn .few) says ways;
+            small = omega (arith, sum, k .0, k .1 .0, k .1 .1);
+          }

@@ -8,7 +8,7 @@ use lib.Dec.{eqb, leb}
 use lib.IntN.{pos, negsuc}
 use Rattle.rules.specs.Samples.{sampleOf, plusZero, minusZero}
 use Rattle.rules.specs.Located.{valuesOf}
-use Rattle.rules.specs.Chooses.{flagsFor, without, leastOf, greatestOf, above, below, rowOf, locatedFlag}
+use Rattle.rules.specs.Chooses.{flagsFor, without, leastOf, greatestOf, above, below, rowOf, locatedFlag, locatedForm}
 use Rattle.look.specs.Looks.{countIs}
 use Rattle.locating.specs.declared.Tally.{Tally}
 use Rattle.locating.specs.declared.Value.{Value}
@@ -99,3 +99,5 @@ pub record LocatedIs (mask : ℕ) (s : List ℕ) (r : Located) (a b c : List ℕ
   pub first : WayOf (flagsFor x s) (r .first) a
   pub second : 2 ≤ r .count → WayOf (flagsFor y (without x s)) (r .second) b
   pub third : 3 ≤ r .count → WayOf (flagsFor z (without y (without x s))) (r .third) c
+  pub bits : r .bits ≡ length (locatedForm mask s)
+  pub small : r .bits ≤ 1000000000

@@ -2,6 +2,7 @@
 
 use finding::found_in;
 use law::minus_zero;
+use law::plus_zero;
 use law::sample_of;
 use look::count_of;
 use measure::least_s;
@@ -12,10 +13,10 @@ ghost use Prim.Native.Nat.{_+_, _*_, _/_, _%_, _≤_, _<_};
 ghost use lib.ListN.{length, take};
 ghost use lib.Dec.{eqb, leb, ltb};
 ghost use Rattle.rules.specs.Tools as tools;
-ghost use Rattle.rules.specs.Chooses.{leastOf, greatestOf};
-ghost use Rattle.look.specs.Looks.{near, isMask};
+ghost use Rattle.rules.specs.Chooses.{leastOf, greatestOf, applies};
+ghost use Rattle.look.specs.Looks.{near, isMask, FrameIn};
 ghost use Rattle.locating.specs.Ways.{WayFor, WayIn, InTurn, WaysAre};
-ghost use Rattle.locating.specs.Rows.{leastBy, greatestBy, rowBy, Tallied, valuesBy, valuesFor};
+ghost use Rattle.locating.specs.Rows.{leastBy, greatestBy, rowBy, Tallied, valuesBy, valuesFor, LocatedIs};
 
 // How a value is written: its method, all its bits with the method's three, its D places, how often it occurs, and how many runs it has.
 pub struct Way {
@@ -192,7 +193,7 @@ pub fn located_applies(t: Tally, n: usize, row: usize) -> bool
 }
 
 // "flag 1 if as many samples are above 0 as below or more"
-pub fn flag_of(above: usize, below: usize) -> usize
+fn flag_of(above: usize, below: usize) -> usize
     ensures { λ r. ⌜ (r ≡ cond (leb below above) 1 0) × (r < 2) ⌝ }
 {
     if below <= above { 1 } else { 0 }
@@ -281,7 +282,7 @@ fn ordered(row: usize, flag: usize, one: Value, minus: Value, twos: Value) -> Va
 }
 
 // The same of the values that were counted.
-pub fn values_of(mask: u8, t: Tally, row: usize, flag: usize) -> Values
+fn values_of(mask: u8, t: Tally, row: usize, flag: usize) -> Values
     requires { ⌜ mask < 128 ⌝ }
     ensures { λ r. ⌜ r ≡ valuesFor mask t row flag ⌝ }
 {
@@ -308,7 +309,7 @@ pub struct Ways {
 }
 
 // The ways of values, one after the other, "D is N for the first value, then the places still empty". Their runs are left in the lent arrays.
-pub fn ways_of(
+fn ways_of(
     samples: &[u8],
     n: usize,
     plus: u8,
@@ -352,7 +353,7 @@ pub struct Located {
 }
 
 // The bits of value-location: the first octet, "range case (2 bits), flag (1 bit), then the values".
-pub fn located_bits(w: Ways) -> usize
+fn located_bits(w: Ways) -> usize
     requires { ⌜ w .first .bits + w .second .bits + w .third .bits ≤ 600000000 ⌝ }
     ensures { λ r. ⌜ r ≡ 11 + (w .first .bits + w .second .bits + w .third .bits) ⌝ }
 {
@@ -360,4 +361,40 @@ pub fn located_bits(w: Ways) -> usize
     let second = w.second;
     let third = w.third;
     11 + (first.bits + second.bits + third.bits)
+}
+
+// What value-location writes of a frame that it applies to. The runs of its values are left in the lent arrays.
+pub fn located_of(
+    samples: &[u8],
+    n: usize,
+    mask: u8,
+    t: Tally,
+    row: usize,
+    a: &mut [u16; 321],
+    b: &mut [u16; 321],
+    c: &mut [u16; 321],
+) -> Located
+    requires { ⌜ (FrameIn (now samples) n) × (isMask mask ≡ true) ⌝ }
+    requires { ⌜ (Tallied mask (take n (now samples)) t) × (applies mask 7 (take n (now samples)) ≡ true) ⌝ }
+    requires { ⌜ row ≡ rowBy (leastBy (t .twos) (t .minus) (t .plus)) (greatestBy (t .one) (t .plus) (t .minus)) n ⌝ }
+    requires { ⌜ (length (now a) ≡ 321) × ((length (now b) ≡ 321) × (length (now c) ≡ 321)) ⌝ }
+    ensures { λ r. ⌜ LocatedIs mask (take n (now (samples .entry))) r (now (a .exit)) (now (b .exit)) (now (c .exit)) ⌝ }
+{
+    let flag = flag_of(t.one, t.minus + t.twos);
+    let v = values_of(mask, t, row, flag);
+    let w = ways_of(samples, n, plus_zero(mask), v, a, b, c);
+    let bits = located_bits(w);
+    let first = w.first;
+    let second = w.second;
+    let third = w.third;
+    Located {
+        tool: 7,
+        bits: bits,
+        row: row,
+        flag: flag,
+        count: v.count,
+        first: first,
+        second: second,
+        third: third,
+    }
 }

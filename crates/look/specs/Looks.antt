@@ -1,8 +1,9 @@
 -- What the samples of a frame have in common, and how many of them are a value.
-use Prim.Native.Nat.{ℕ, _%_}
+use Prim.Native.Nat.{ℕ, _%_, _≤_}
 use mathlib.Core.Path.{_≡_}
 use mathlib.Core.List.{List, map}
 use mathlib.Core.Bool.{Bool, cond, _&&_, _||_}
+use lib.ListN.{length}
 use lib.Dec.{eqb, leb, ltb}
 use Rattle.rules.specs.Samples.{plusZero, minusZero}
 use Rattle.rules.specs.Chooses.{countOf, every, leastOf, greatestOf}
@@ -33,3 +34,10 @@ pub record SpreadIs (mask first : ℕ) (s : List ℕ) (r : Spread) : Type 0 wher
 -- one of the two masks
 abbrev pub isMask : ℕ → Bool
 isMask mask = eqb mask 0x55 || eqb mask 0x7F
+
+-- n samples of a frame, 40 to a word
+pub record FrameIn (samples : List ℕ) (n : ℕ) : Type 0 where
+  pub some : 1 ≤ n
+  pub few : n ≤ 320
+  pub long : n ≤ length samples
+  pub whole : n % 40 ≡ 0

@@ -23,9 +23,8 @@ ghost use Rattle.rules.specs.Zeros as zeros;
 ghost use Rattle.rules.specs.Chooses.{leastOf, greatestOf, choose, chosenTool, declined, writeOne};
 ghost use Rattle.rules.specs.Tools.{isLength};
 ghost use Rattle.rules.specs.Calls.{Writes, WriteFrame, WriteSamples};
-ghost use Rattle.look.specs.Looks.{near, twoZeros, isMask};
+ghost use Rattle.look.specs.Looks.{near, twoZeros, isMask, FrameIn};
 ghost use Rattle.choice.specs.Plans.{measured};
-ghost use Rattle.forms.specs.Forms.{IsFrame};
 ghost use Rattle.writer.specs.Answers.{Tells, fitting, pad, full, plain};
 
 // A refusal: no octets, no bits, no tool.
@@ -59,7 +58,7 @@ fn write_pad(out: &mut [u8]) -> WriteAnswer
 // "ROOM means the chosen form's octets for a writer". Tools 1 to 4, which the first look settles.
 fn write_plain(out: &mut [u8], samples: &[u8], n: usize, tool: u32) -> WriteAnswer
     requires { ⌜ (1 ≤ tool) × (tool ≤ 4) ⌝ }
-    requires { ⌜ IsFrame (now samples) n ⌝ }
+    requires { ⌜ FrameIn (now samples) n ⌝ }
     ensures { λ r. ⌜ Writes (fitting (length (now (out .entry))) (plain tool (take n (now (samples .entry))))) r (now (out .entry)) (now (out .exit)) ⌝ }
 {
     let need = whole_octets(tool, n);
@@ -77,7 +76,7 @@ fn write_plain(out: &mut [u8], samples: &[u8], n: usize, tool: u32) -> WriteAnsw
 
 // A frame of the two zeros: planned, and then the planned form alone is written. Its flags are gathered once, for the plan and for binary.
 fn write_zeros(out: &mut [u8], samples: &[u8], n: usize, mask: u8, set: u32) -> WriteAnswer
-    requires { ⌜ (IsFrame (now samples) n) × (mask < 128) ⌝ }
+    requires { ⌜ (FrameIn (now samples) n) × (mask < 128) ⌝ }
     requires { ⌜ twoZeros mask (take n (now samples)) ≡ true ⌝ }
     requires { ⌜ chosenTool mask set (take n (now samples)) ≡ choose mask set (take n (now samples)) measured ⌝ }
     ensures { λ r. ⌜ Writes (fitting (length (now (out .entry))) (full mask set (take n (now (samples .entry))))) r (now (out .entry)) (now (out .exit)) ⌝ }
@@ -99,7 +98,7 @@ fn write_zeros(out: &mut [u8], samples: &[u8], n: usize, mask: u8, set: u32) -> 
 
 // A frame from -2 to 1 that has a 1 or a -2, likewise.
 fn write_located(out: &mut [u8], samples: &[u8], n: usize, mask: u8, set: u32) -> WriteAnswer
-    requires { ⌜ (IsFrame (now samples) n) × (isMask mask ≡ true) ⌝ }
+    requires { ⌜ (FrameIn (now samples) n) × (isMask mask ≡ true) ⌝ }
     requires { ⌜ twoZeros mask (take n (now samples)) ≡ false ⌝ }
     requires { ⌜ near (leastOf mask (take n (now samples))) (greatestOf mask (take n (now samples))) ≡ true ⌝ }
     requires { ⌜ chosenTool mask set (take n (now samples)) ≡ choose mask set (take n (now samples)) measured ⌝ }
@@ -123,7 +122,7 @@ fn write_located(out: &mut [u8], samples: &[u8], n: usize, mask: u8, set: u32) -
 
 // What the first look does not settle is planned.
 fn write_chosen(out: &mut [u8], samples: &[u8], n: usize, mask: u8, set: u32) -> WriteAnswer
-    requires { ⌜ (IsFrame (now samples) n) × (isMask mask ≡ true) ⌝ }
+    requires { ⌜ (FrameIn (now samples) n) × (isMask mask ≡ true) ⌝ }
     ensures { λ r. ⌜ Writes (fitting (length (now (out .entry))) (full mask set (take n (now (samples .entry))))) r (now (out .entry)) (now (out .exit)) ⌝ }
 {
     let l = first_look(samples, n, mask, set);

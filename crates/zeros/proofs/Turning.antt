@@ -1,7 +1,7 @@
 -- Laws of a row of the flags of plus zero, turned into one of the flags of the common zero.
 use Prim.Native.Nat.{ℕ, zero, suc, _+_, _*_, _-_, _^_, _/_, _%_, _≤_, _<_}
 use mathlib.Core.Path.{_≡_, refl, sym, ap, _∙_}
-use mathlib.Core.List.{List, [], _∷_, _++_, append-nil, map-append}
+use mathlib.Core.List.{List, [], _∷_, _++_, map, append-nil, map-append}
 use mathlib.Core.Bool.{Bool, true, false, cond, _||_}
 use native.Mathlib.Omega.{arith}
 use native.Mathlib.Nat.{pow-suc}
@@ -13,12 +13,12 @@ use lib.Seq.{take-suc}
 use lib.Dec.{eqb}
 use Rattle.rules.specs.Bits.{lowBits}
 use Rattle.rules.specs.Samples.{plusZero, minusZero}
-use Rattle.rules.specs.Zeros.{zeroOf}
+use Rattle.rules.specs.Zeros.{zeroOf, flagOf}
 use Rattle.rules.specs.Chooses.{countOf}
 use Rattle.look.specs.Rows.{Gathers, rowBits, RowIs}
 use Rattle.rules.proofs.Words.{lowBits-join}
 use Rattle.look.proofs.Rows.{row-append, row-one, row-none}
-use Rattle.look.specs.Looks.{marksOf, twoZeros}
+use Rattle.look.specs.Looks.{marksOf, twoZeros, FrameIn}
 use Rattle.finding.specs.Runs.{RunsAre}
 use Rattle.rules.proofs.Counts.{count-le}
 use Rattle.zeros.specs.Rice.{turnsOf}
@@ -76,6 +76,13 @@ row-turn t row r i w h few done g =
     let e : turnsOf t (rowBits (take (i + 1) row)) ≡ turnsOf t (rowBits (take i row)) ++ turnsOf t (lowBits 40 (getD row i 0)) =
     rw (add-one, take-suc row i 0 h, row-append, append-nil) (map-append f (rowBits (take i row)) (lowBits 40 (getD row i 0))) in
     rw e (row-one (turnsOf t (rowBits (take i row))) (turnsOf t (lowBits 40 (getD row i 0))) r i w done few g)
+
+-- the row of the flags of plus zero is that of binary
+pub row-flags : (mask : ℕ) {n x : ℕ} {samples row : List ℕ} → FrameIn samples n → x ≡ plusZero mask → RowIs (marksOf x 0 1 (take (40 * (n / 40)) samples)) (n / 40) row
+    → RowIs (map (flagOf mask 0) (take n samples)) (n / 40) row
+row-flags mask {n} {x} {samples} f e words =
+    let whole : 40 * (n / 40) ≡ n = omega (arith, f .whole) in
+    rw (ap (λ (k : ℕ). marksOf x 0 1 (take k samples)) whole ∙ ap (λ (z : ℕ). marksOf z 0 1 (take n samples)) e) at words
 
 -- where all samples are p or q, those that are not q are those that are p
 marks-turned : (p q : ℕ) → (p ≡ q → ⊥) → (s : List ℕ) → countOf (λ x. eqb x p || eqb x q) s ≡ length s → turnsOf true (marksOf p 0 1 s) ≡ marksOf q 0 1 s

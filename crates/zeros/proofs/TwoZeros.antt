@@ -39,6 +39,11 @@ pub two-zeros : (mask : ℕ) → plusZero mask ≡ minusZero mask → ⊥
 unfolding sampleOf
 two-zeros mask e = omega arith
 
+-- so a frame is of the two zeros where their counts make up its length
+pub zeros-counted : (mask : ℕ) (s : List ℕ) {n plus minus : ℕ} → length s ≡ n → plus ≡ countIs (plusZero mask) s → minus ≡ countIs (minusZero mask) s
+    → eqb (plus + minus) n ≡ twoZeros mask s
+zeros-counted mask s size p m = rw (p, m, ← size, either (plusZero mask) (minusZero mask) (two-zeros mask) s)
+
 -- where binary applies Rice does: to frames of the two zeros
 pub rice-applies : (mask : ℕ) (s : List ℕ) → applies mask 5 s ≡ applies mask 6 s
 unfolding applies

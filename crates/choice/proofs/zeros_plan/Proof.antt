@@ -1,6 +1,6 @@
 use borrow.Author.Needs.{needs}
 use mathlib.Core.Path.{refl, ap}
-use Rattle.choice.specs.declared.Choice.{Choice}
+use Rattle.offers.specs.declared.Choice.{Choice}
 use Rattle.locating.proofs.Near.{counted, count-fits}
 use Rattle.zeros.proofs.TwoZeros.{plus-left}
 use Rattle.choice.proofs.Planning.{zeros-as, zeros-planned}
@@ -12,10 +12,10 @@ use Rattle.choice.proofs.zeros_plan.Statement.{statement}
 use Rattle.choice.proofs.zeros_plan.Tie as tie
 use Rattle.choice.proofs.zeros_plan.Reads as reads
 use Rattle.choice.proofs.zeros_plan.Lts as lts
-use Rattle.choice.proofs.better.Reads as better-reads
+use Rattle.offers.proofs.better.Reads as better-reads
 use Rattle.choice.proofs.binary_at_once.Reads as binary-at-once-reads
 use Rattle.zeros.proofs.rice_of.Reads as rice-of-reads
-use Rattle.choice.proofs.uncompressed_of.Reads as uncompressed-of-reads
+use Rattle.offers.proofs.uncompressed_of.Reads as uncompressed-of-reads
 use Rattle.law.proofs.minus_zero.Reads as minus-zero-reads
 use Rattle.look.proofs.count_of.Reads as count-of-reads
 use Rattle.prefix.proofs.holds.Reads as holds-reads

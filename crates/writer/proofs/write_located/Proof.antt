@@ -28,8 +28,7 @@ chosen s = full (s .args .mask) (s .args .set) (frame s)
 located-plan-requires : tie.Need-located-plan-requires
 located-plan-requires c κs =
     let s = c .before .before .before .before .before in
-    let f = s .pre .0 .0 in
-    ((f .some, (f .few, (f .long, (s .pre .0 .1, f .whole)))), (s .pre .1 .0, (s .pre .1 .1 .0, ((refl, (refl, refl)), s .pre .1 .1 .1))))
+    (s .pre .0, (s .pre .1 .0, (s .pre .1 .1 .0, ((refl, (refl, refl)), s .pre .1 .1 .1))))
 
 octets-for-requires : tie.Need-octets-for-requires
 octets-for-requires c κs = search needs

@@ -5,7 +5,8 @@ use mathlib.Core.List.{List}
 use lib.ListN.{take}
 use Rattle.rules.specs.Chooses.{Written}
 use Rattle.writer.specs.Answers.{full}
-use Rattle.forms.proofs.Form.{cells-length, rice-ready, row-flags}
+use Rattle.forms.proofs.Form.{cells-length, rice-ready}
+use Rattle.zeros.proofs.Turning.{row-flags}
 use Rattle.writer.proofs.Planned.{zeros-form}
 use Rattle.writer.proofs.Writing.{form-refused, form-fits, form-written}
 use Rattle.writer.proofs.write_zeros.Statement.{statement}

@@ -2,11 +2,11 @@ use borrow.Author.Needs.{needs}
 use Rattle.rules.specs.Bits.{octetsFor}
 use native.Mathlib.Omega.{arith}
 use borrow.Author.Tests.{not-true, not-false, le-leb, lt-leb}
-use Rattle.choice.proofs.Choosing.{better-not, better-yes}
-use Rattle.choice.proofs.better.Statement.{statement}
-use Rattle.choice.proofs.better.Tie as tie
-use Rattle.choice.proofs.better.Reads as reads
-use Rattle.choice.proofs.better.Lts as lts
+use Rattle.offers.proofs.Choosing.{better-not, better-yes}
+use Rattle.offers.proofs.better.Statement.{statement}
+use Rattle.offers.proofs.better.Tie as tie
+use Rattle.offers.proofs.better.Reads as reads
+use Rattle.offers.proofs.better.Lts as lts
 
 returns : tie.Need-returns
 returns c = better-not (c .before .pre .0) (rw (not-true (c .before .args .offered) (c .if1 .taken)))

@@ -12,8 +12,8 @@ use Rattle.rules.proofs.Octets.{length-lowBits, length-bitsOf}
 use Rattle.rules.proofs.Tests.{and-left}
 use Rattle.measure.proofs.Weighing.{cond-of}
 use Rattle.look.proofs.Tests.{never}
-use Rattle.choice.specs.declared.Choice.{Choice}
-use Rattle.choice.specs.Plans.{taken, BetterIs, ChosenIs}
+use Rattle.offers.specs.declared.Choice.{Choice}
+use Rattle.offers.specs.Ties.{taken, BetterIs, ChosenIs}
 
 -- what `better` gives, by its test
 pub better-not : {best : Choice} {t : ℕ} {a : Bool} {b : ℕ} → best .bits ≤ 1000000000 → taken best a b ≡ false → BetterIs best t a b best

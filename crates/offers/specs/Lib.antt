@@ -1,0 +1,3 @@
+-- Offers, and the tie order.
+pub mod Offers
+pub mod Ties
