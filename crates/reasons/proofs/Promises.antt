@@ -146,7 +146,7 @@ no-only mask set s t m e = go (holds set t) (eqb (failing mask s t) 0) refl e
         (refl, first-false 1 m (conditions mask s t) same (omega arith))
 
 -- what is written of a frame that has samples
-chosen-some : (mask set : ℕ) (s : List ℕ) → 1 ≤ length s
+pub chosen-some : (mask set : ℕ) (s : List ℕ) → 1 ≤ length s
     → chosen mask set s ≡ record { tool = chosenTool mask set s; bits = formOf mask (chosenTool mask set s) s }
 unfolding chosen
 chosen-some mask set s some = rw (ne-eqb (length s) 0 (λ z. omega arith))

@@ -53,8 +53,8 @@ stateIn = wordOr outWord outIn (wordOr noWord noIn (after fitsWord fitsIn))
 -- numbers that the struct's types hold
 abbrev pub Short : State → Type 0
 Short Out = Unit {0}
-Short (No why) = why < 65536
-Short (Fits octets) = octets < 65536
+Short (No why) = why < 4294967296
+Short (Fits octets) = octets < 4294967296
 
 abbrev rest : State → List ℕ
 rest Out = outWord ++ (field whyKey 0 ++ (field octetsWord 0 ++ lineEnd))
@@ -97,13 +97,7 @@ winner-back f winner false h =
 abbrev pub reasonsBy : State → State → State → State → State → State → State → ℕ → Bool → Reasons
 reasonsBy uncompressed plus minus constant binary rice located winner tie =
     record {
-      uncompressed = uncompressed;
-      plus = plus;
-      minus = minus;
-      constant = constant;
-      binary = binary;
-      rice = rice;
-      located = located;
+      states = record { uncompressed = uncompressed; plus = plus; minus = minus; constant = constant; binary = binary; rice = rice; located = located };
       winner = winner;
       tie = tie;
     }
@@ -120,27 +114,27 @@ linesIn = do
   winnerIn (reasonsBy uncompressed plus minus constant binary rice located)
 
 pub record AllShort (r : Reasons) : Type 0 where
-  pub uncompressed : Short (r .uncompressed)
-  pub plus : Short (r .plus)
-  pub minus : Short (r .minus)
-  pub constant : Short (r .constant)
-  pub binary : Short (r .binary)
-  pub rice : Short (r .rice)
-  pub located : Short (r .located)
-  pub winner : r .winner < 65536
+  pub uncompressed : Short (r .states .uncompressed)
+  pub plus : Short (r .states .plus)
+  pub minus : Short (r .states .minus)
+  pub constant : Short (r .states .constant)
+  pub binary : Short (r .states .binary)
+  pub rice : Short (r .states .rice)
+  pub located : Short (r .states .located)
+  pub winner : r .winner < 4294967296
 
 pub lines-back : (r : Reasons) → AllShort r → Back linesIn (linesOf r) r
 unfolding linesIn linesOf
 lines-back r h =
     simp append-assoc
-    (back-bind (toolIn 1) _ (tool-back 1 (r .uncompressed) (h .uncompressed))
-    (back-bind (toolIn 2) _ (tool-back 2 (r .plus) (h .plus))
-    (back-bind (toolIn 3) _ (tool-back 3 (r .minus) (h .minus))
-    (back-bind (toolIn 4) _ (tool-back 4 (r .constant) (h .constant))
-    (back-bind (toolIn 5) _ (tool-back 5 (r .binary) (h .binary))
-    (back-bind (toolIn 6) _ (tool-back 6 (r .rice) (h .rice))
-    (back-bind (toolIn 7) _ (tool-back 7 (r .located) (h .located))
-    (winner-back (reasonsBy (r .uncompressed) (r .plus) (r .minus) (r .constant) (r .binary) (r .rice) (r .located)) (r .winner) (r .tie) (omega (arith, h .winner))))))))))
+    (back-bind (toolIn 1) _ (tool-back 1 (r .states .uncompressed) (h .uncompressed))
+    (back-bind (toolIn 2) _ (tool-back 2 (r .states .plus) (h .plus))
+    (back-bind (toolIn 3) _ (tool-back 3 (r .states .minus) (h .minus))
+    (back-bind (toolIn 4) _ (tool-back 4 (r .states .constant) (h .constant))
+    (back-bind (toolIn 5) _ (tool-back 5 (r .states .binary) (h .binary))
+    (back-bind (toolIn 6) _ (tool-back 6 (r .states .rice) (h .rice))
+    (back-bind (toolIn 7) _ (tool-back 7 (r .states .located) (h .located))
+    (winner-back (reasonsBy (r .states .uncompressed) (r .states .plus) (r .states .minus) (r .states .constant) (r .states .binary) (r .states .rice) (r .states .located)) (r .winner) (r .tie) (omega (arith, h .winner))))))))))
 
 -- no two answers have the same lines
 pub lines-one : (r q : Reasons) → AllShort r → AllShort q → linesOf r ≡ linesOf q → r ≡ q

@@ -6,6 +6,7 @@ use mathlib.Core.Bool.{Bool, cond}
 use Rattle.rules.specs.Listing.{field, lineEnd, octetsWord}
 use Rattle.reasons.specs.declared.State.{State}
 use Rattle.reasons.specs.declared.State.the-variants.{Out, No, Fits}
+use Rattle.reasons.specs.declared.States.{States}
 use Rattle.reasons.specs.declared.Reasons.{Reasons}
 
 -- "tool=", " state=", " why=", "winner=", " by="; " octets=" is the listing's
@@ -56,11 +57,11 @@ unfoldable pub winnerLine : ℕ → Bool → List ℕ
 winnerLine winner tie = field winnerKey winner ++ (byKey ++ (byWord tie ++ lineEnd))
 
 -- "list tools 1 to 7 in order": the first four, and the others
-abbrev pub firstLines : Reasons → List ℕ
-firstLines r = toolLine 1 (r .uncompressed) ++ (toolLine 2 (r .plus) ++ (toolLine 3 (r .minus) ++ toolLine 4 (r .constant)))
+abbrev pub firstLines : States → List ℕ
+firstLines s = toolLine 1 (s .uncompressed) ++ (toolLine 2 (s .plus) ++ (toolLine 3 (s .minus) ++ toolLine 4 (s .constant)))
 
-abbrev pub laterLines : Reasons → List ℕ
-laterLines r = toolLine 5 (r .binary) ++ (toolLine 6 (r .rice) ++ toolLine 7 (r .located))
+abbrev pub laterLines : States → List ℕ
+laterLines s = toolLine 5 (s .binary) ++ (toolLine 6 (s .rice) ++ toolLine 7 (s .located))
 
 unfoldable pub linesOf : Reasons → List ℕ
-linesOf r = firstLines r ++ (laterLines r ++ winnerLine (r .winner) (r .tie))
+linesOf r = firstLines (r .states) ++ (laterLines (r .states) ++ winnerLine (r .winner) (r .tie))

@@ -7,13 +7,15 @@ use mathlib.Core.Bool.{Bool, true, false, cond, not, _&&_, _||_}
 use lib.ListN.{length, take}
 use lib.Dec.{eqb, leb, ltb}
 use lib.IntN.{pos, negsuc}
-use Rattle.rules.specs.declared.Refusal.the-variants.{Length, Set, Law}
-use Rattle.rules.specs.Tools.{holds, isWriterSet, isLaw, isLength}
+use Rattle.rules.specs.declared.Refusal.the-variants.{Length}
+use Rattle.rules.specs.Refusals.{judged}
+use Rattle.rules.specs.Tools.{holds, isLength, writerAsks}
 use Rattle.rules.specs.Bits.{octetsFor}
 use Rattle.rules.specs.Samples.{maskOf}
 use Rattle.rules.specs.Chooses.{applies, rowOf, zeroLeads, octetsOfForm, Written, chosen}
 use Rattle.reasons.specs.declared.State.{State}
 use Rattle.reasons.specs.declared.State.the-variants.{Out, No, Fits}
+use Rattle.reasons.specs.declared.States.{States}
 use Rattle.reasons.specs.declared.Reasons.{Reasons}
 use Rattle.reasons.specs.declared.Why.{Why}
 use Rattle.reasons.specs.declared.Why.the-variants.{Told, Refused}
@@ -65,8 +67,8 @@ anyOf p (t ∷ ts) = p t || anyOf p ts
 abbrev pub tools : List ℕ
 tools = 1 ∷ 2 ∷ 3 ∷ 4 ∷ 5 ∷ 6 ∷ 7 ∷ []
 
-unfoldable pub reasonsOf : ℕ → ℕ → List ℕ → Reasons
-reasonsOf mask set s =
+unfoldable pub statesOf : ℕ → ℕ → List ℕ → States
+statesOf mask set s =
     record {
       uncompressed = stateOf mask set s 1;
       plus = stateOf mask set s 2;
@@ -75,25 +77,25 @@ reasonsOf mask set s =
       binary = stateOf mask set s 5;
       rice = stateOf mask set s 6;
       located = stateOf mask set s 7;
-      winner = winnerOf mask set s;
-      tie = anyOf (alsoNeeds mask set s) tools;
     }
+
+unfoldable pub reasonsOf : ℕ → ℕ → List ℕ → Reasons
+reasonsOf mask set s = record { states = statesOf mask set s; winner = winnerOf mask set s; tie = anyOf (alsoNeeds mask set s) tools }
 
 -- the state that an answer has for a tool
 unfoldable pub toldOf : Reasons → ℕ → State
 toldOf r t =
-    cond (eqb t 1) (r .uncompressed)
-    (cond (eqb t 2) (r .plus)
-    (cond (eqb t 3) (r .minus)
-    (cond (eqb t 4) (r .constant)
-    (cond (eqb t 5) (r .binary)
-    (cond (eqb t 6) (r .rice)
-    (r .located))))))
+    cond (eqb t 1) (r .states .uncompressed)
+    (cond (eqb t 2) (r .states .plus)
+    (cond (eqb t 3) (r .states .minus)
+    (cond (eqb t 4) (r .states .constant)
+    (cond (eqb t 5) (r .states .binary)
+    (cond (eqb t 6) (r .states .rice)
+    (r .states .located))))))
 
 -- n samples, the first of those given. "Refusals as for the writer, ROOM left out."
 unfoldable pub whyOne : ℕ → List ℕ → ℕ → ℕ → Why
 whyOne n samples law set =
-    cond (not (isLaw law)) (Refused Law)
-    (cond (not (isWriterSet set)) (Refused Set)
+    judged (writerAsks law set) Refused
     (cond (not (eqb n 0 || isLength n)) (Refused Length)
-    (Told (reasonsOf (maskOf law) set (take n samples)))))
+    (Told (reasonsOf (maskOf law) set (take n samples))))

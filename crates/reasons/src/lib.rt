@@ -12,12 +12,12 @@ use rules::Refusal;
 // "not in the set, doesn't apply with the first failing condition of document 01, or its octets".
 pub enum State {
     Out,
-    No(u8),
-    Fits(u16),
+    No(u32),
+    Fits(u32),
 }
 
-// The state of each tool, 1 to 7 in order; "then .. the winner .., and whether it won by octets or by the tie order".
-pub struct Reasons {
+// "list tools 1 to 7 in order": the state of each.
+pub struct States {
     pub uncompressed: State,
     pub plus: State,
     pub minus: State,
@@ -25,7 +25,12 @@ pub struct Reasons {
     pub binary: State,
     pub rice: State,
     pub located: State,
-    pub winner: u8,
+}
+
+// "Then name the winner .., and whether it won by octets or by the tie order."
+pub struct Reasons {
+    pub states: States,
+    pub winner: u32,
     pub tie: bool,
 }
 
@@ -35,20 +40,20 @@ pub enum Why {
     Refused(Refusal),
 }
 
-// A word and a number of at most five digits.
-fn put_short(word: &[u8], n: u16, out: &mut [u8], at: usize) -> usize
+// A word and a number of at most ten digits.
+fn put_short(word: &[u8], n: u32, out: &mut [u8], at: usize) -> usize
     requires { ⌜ at + length (now word) + 20 ≤ length (now out) ⌝ }
     ensures { λ r. ⌜ Puts (now (out .entry)) at (field (now (word .entry)) n) (now (out .exit)) r ⌝ }
-    ensures most { λ r. ⌜ r ≤ at + length (now (word .entry)) + 5 ⌝ }
+    ensures most { λ r. ⌜ r ≤ at + length (now (word .entry)) + 10 ⌝ }
 {
     lines::put_field(word, n as usize, out, at)
 }
 
 // The fields of a tool's line: its state's word, the condition that fails, its octets.
-fn put_fields(tool: u16, word: &[u8], why: u16, octets: u16, out: &mut [u8], at: usize) -> usize
-    requires { ⌜ (length (now word) ≤ 4) × (at + 64 ≤ length (now out)) ⌝ }
+fn put_fields(tool: u32, word: &[u8], why: u32, octets: u32, out: &mut [u8], at: usize) -> usize
+    requires { ⌜ (length (now word) ≤ 4) × (at + 70 ≤ length (now out)) ⌝ }
     ensures { λ r. ⌜ Puts (now (out .entry)) at (fieldsLine tool (now (word .entry)) why octets) (now (out .exit)) r ⌝ }
-    ensures most { λ r. ⌜ r ≤ at + 45 ⌝ }
+    ensures most { λ r. ⌜ r ≤ at + 60 ⌝ }
 {
     let a = put_short(b"tool=", tool, out, at);
     let b = lines::put_word(b" state=", out, a);
@@ -59,14 +64,14 @@ fn put_fields(tool: u16, word: &[u8], why: u16, octets: u16, out: &mut [u8], at:
 }
 
 // "state out, no or fits; why 0 except for no, octets 0 except for fits".
-fn put_tool(tool: u16, state: State, out: &mut [u8], at: usize) -> usize
-    requires { ⌜ at + 64 ≤ length (now out) ⌝ }
+fn put_tool(tool: u32, state: State, out: &mut [u8], at: usize) -> usize
+    requires { ⌜ at + 70 ≤ length (now out) ⌝ }
     ensures { λ r. ⌜ Puts (now (out .entry)) at (toolLine tool state) (now (out .exit)) r ⌝ }
-    ensures most { λ r. ⌜ r ≤ at + 45 ⌝ }
+    ensures most { λ r. ⌜ r ≤ at + 60 ⌝ }
 {
     match state {
         State::Out => put_fields(tool, b"out", 0, 0, out, at),
-        State::No(why) => put_fields(tool, b"no", why as u16, 0, out, at),
+        State::No(why) => put_fields(tool, b"no", why, 0, out, at),
         State::Fits(octets) => put_fields(tool, b"fits", 0, octets, out, at),
     }
 }
@@ -84,27 +89,27 @@ fn put_by(tie: bool, out: &mut [u8], at: usize) -> usize
 }
 
 // "and last `winner=6 by=octets`".
-fn put_winner(winner: u8, tie: bool, out: &mut [u8], at: usize) -> usize
-    requires { ⌜ at + 64 ≤ length (now out) ⌝ }
+fn put_winner(winner: u32, tie: bool, out: &mut [u8], at: usize) -> usize
+    requires { ⌜ at + 70 ≤ length (now out) ⌝ }
     ensures { λ r. ⌜ Puts (now (out .entry)) at (winnerLine winner tie) (now (out .exit)) r ⌝ }
-    ensures most { λ r. ⌜ r ≤ at + 45 ⌝ }
+    ensures most { λ r. ⌜ r ≤ at + 60 ⌝ }
 {
-    let a = put_short(b"winner=", winner as u16, out, at);
+    let a = put_short(b"winner=", winner, out, at);
     let b = lines::put_word(b" by=", out, a);
     let c = put_by(tie, out, b);
     lines::put_word(b"\n", out, c)
 }
 
 // The lines of tools 1 to 4.
-fn put_first(r: Reasons, out: &mut [u8], at: usize) -> usize
-    requires { ⌜ at + 256 ≤ length (now out) ⌝ }
-    ensures { λ n. ⌜ Puts (now (out .entry)) at (firstLines r) (now (out .exit)) n ⌝ }
-    ensures most { λ n. ⌜ n ≤ at + 180 ⌝ }
+fn put_first(s: States, out: &mut [u8], at: usize) -> usize
+    requires { ⌜ at + 250 ≤ length (now out) ⌝ }
+    ensures { λ n. ⌜ Puts (now (out .entry)) at (firstLines s) (now (out .exit)) n ⌝ }
+    ensures most { λ n. ⌜ n ≤ at + 240 ⌝ }
 {
-    let uncompressed = r.uncompressed;
-    let plus = r.plus;
-    let minus = r.minus;
-    let constant = r.constant;
+    let uncompressed = s.uncompressed;
+    let plus = s.plus;
+    let minus = s.minus;
+    let constant = s.constant;
     let a = put_tool(1, uncompressed, out, at);
     let b = put_tool(2, plus, out, a);
     let c = put_tool(3, minus, out, b);
@@ -112,27 +117,28 @@ fn put_first(r: Reasons, out: &mut [u8], at: usize) -> usize
 }
 
 // The lines of tools 5 to 7.
-fn put_later(r: Reasons, out: &mut [u8], at: usize) -> usize
-    requires { ⌜ at + 256 ≤ length (now out) ⌝ }
-    ensures { λ n. ⌜ Puts (now (out .entry)) at (laterLines r) (now (out .exit)) n ⌝ }
-    ensures most { λ n. ⌜ n ≤ at + 135 ⌝ }
+fn put_later(s: States, out: &mut [u8], at: usize) -> usize
+    requires { ⌜ at + 250 ≤ length (now out) ⌝ }
+    ensures { λ n. ⌜ Puts (now (out .entry)) at (laterLines s) (now (out .exit)) n ⌝ }
+    ensures most { λ n. ⌜ n ≤ at + 180 ⌝ }
 {
-    let binary = r.binary;
-    let rice = r.rice;
-    let located = r.located;
+    let binary = s.binary;
+    let rice = s.rice;
+    let located = s.located;
     let a = put_tool(5, binary, out, at);
     let b = put_tool(6, rice, out, a);
     put_tool(7, located, out, b)
 }
 
-// All lines from place `at` on, of which there are at most 360 octets.
+// All lines from place `at` on, of which there are at most 480 octets.
 pub fn put_reasons(r: Reasons, out: &mut [u8], at: usize) -> usize
     requires { ⌜ at + 512 ≤ length (now out) ⌝ }
     ensures { λ n. ⌜ Puts (now (out .entry)) at (linesOf r) (now (out .exit)) n ⌝ }
-    ensures most { λ n. ⌜ n ≤ at + 360 ⌝ }
+    ensures most { λ n. ⌜ n ≤ at + 480 ⌝ }
 {
-    let a = put_first(r, out, at);
-    let b = put_later(r, out, a);
+    let s = r.states;
+    let a = put_first(s, out, at);
+    let b = put_later(s, out, a);
     put_winner(r.winner, r.tie, out, b)
 }
 

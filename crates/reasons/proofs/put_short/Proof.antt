@@ -14,7 +14,7 @@ same-length c = search needs
 returns : tie.Need-returns
 returns c =
     let p = c .before .before .put-field .ensures .0 in
-    let few = decimal-few 4 (c .before .before .before .before .before .before .args .n) (omega arith) in
+    let few = decimal-few 9 (c .before .before .before .before .before .before .args .n) (omega arith) in
     (p, rw (p .place, length-append) (omega arith))
 
 pub put-short-spec : {M : Type 1} → statement M

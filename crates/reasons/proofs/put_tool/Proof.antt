@@ -18,9 +18,6 @@ enum-known-state c = search needs
 slice-aggregate-put-fields-2 : tie.Need-slice-aggregate-put-fields-2
 slice-aggregate-put-fields-2 c = search needs
 
-cast-put-fields : tie.Need-cast-put-fields
-cast-put-fields c = search needs
-
 put-fields-requires-2 : tie.Need-put-fields-requires-2
 put-fields-requires-2 c κs = search needs
 
@@ -60,7 +57,6 @@ put-tool-spec =
     put-fields-requires
     enum-known-state
     slice-aggregate-put-fields-2
-    cast-put-fields
     put-fields-requires-2
     enum-known-state-2
     slice-aggregate-put-fields-3
