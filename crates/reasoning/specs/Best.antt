@@ -4,10 +4,11 @@ use mathlib.Core.List.{List}
 use mathlib.Core.Bool.{Bool, false, cond, not, _&&_, _||_}
 use lib.Dec.{eqb, leb}
 use Rattle.rules.specs.declared.Refusal.the-variants.{Length}
-use Rattle.rules.specs.Tools.{isLength}
+use Rattle.rules.specs.Tools.{holds, isLength}
 use Rattle.reasons.specs.declared.State.{State}
 use Rattle.reasons.specs.declared.State.the-variants.{Out, No, Fits}
 use Rattle.reasons.specs.declared.States.{States}
+use Rattle.reasons.specs.declared.Reasons.{Reasons}
 use Rattle.reasons.specs.declared.Why.{Why}
 use Rattle.reasons.specs.declared.Why.the-variants.{Told, Refused}
 use Rattle.reasons.specs.Why.{needs, reasonsOf}
@@ -38,6 +39,26 @@ tieIn s best =
     || (alsoBy best 5 (s .binary)
     || (alsoBy best 6 (s .rice)
     || (alsoBy best 7 (s .located) || false))))))
+
+-- "A frame of no samples fails condition 1 of every tool in the set, and its winner is tool 0 by octets."
+abbrev pub emptyState : ℕ → ℕ → State
+emptyState set t = cond (not (holds set t)) Out (No 1)
+
+abbrev pub emptyReasons : ℕ → Reasons
+emptyReasons set =
+    record {
+      states = record {
+        uncompressed = emptyState set 1;
+        plus = emptyState set 2;
+        minus = emptyState set 3;
+        constant = emptyState set 4;
+        binary = emptyState set 5;
+        rice = emptyState set 6;
+        located = emptyState set 7;
+      };
+      winner = 0;
+      tie = false;
+    }
 
 -- once LAW and SET are met
 abbrev pub whyAllowed : ℕ → List ℕ → ℕ → ℕ → Why

@@ -13,14 +13,12 @@ use rules::Ending;
 use rules::Frame;
 use rules::Refusal;
 ghost use mathlib.Core.Path.{_≡_};
-ghost use mathlib.Core.Bool.{true, false, not, _&&_};
-ghost use mathlib.Core.List.{[]};
-ghost use Prim.Native.Nat.{ℕ, _≤_, _+_};
+ghost use mathlib.Core.Bool.{true, _||_};
+ghost use Prim.Native.Nat.{_≤_};
 ghost use lib.ListN.{length, take};
-ghost use lib.Dec.{eqb};
 ghost use Rattle.look.specs.Looks.{isMask, FrameIn};
-ghost use Rattle.reasons.specs.Why.{needs, stateOf, statesOf, reasonsOf, whyOne};
-ghost use Rattle.reasoning.specs.Best.{bestBy, bestIn, alsoBy, tieIn, whyAllowed};
+ghost use Rattle.reasons.specs.Why.{stateOf, statesOf, reasonsOf, whyOne};
+ghost use Rattle.reasoning.specs.Best.{bestBy, bestIn, alsoBy, tieIn, emptyState, emptyReasons, whyAllowed};
 
 // "not in the set, doesn't apply with the first failing condition of document 01, or its octets".
 fn state_of(samples: &[u8], n: usize, mask: u8, set: u32, tool: u32) -> State
@@ -72,13 +70,16 @@ struct Best {
 fn better_of(best: Best, tool: u32, state: State) -> Best
     ensures { λ r. ⌜ r ≡ bestBy best tool state ⌝ }
 {
-    let State::Fits(octets) = state else {
-        return best;
-    };
-    if best.octets < octets {
-        return best;
+    match state {
+        State::Out => best,
+        State::No(_) => best,
+        State::Fits(octets) => {
+            if best.octets < octets {
+                return best;
+            }
+            Best { tool, octets }
+        }
     }
-    Best { tool, octets }
 }
 
 // "fewest octets", and on equal octets the tie order: from uncompressed on, each tool takes its place where it is not more.
@@ -111,10 +112,21 @@ fn also_needs(best: Best, tool: u32, state: State) -> bool
     if tool == best.tool {
         return false;
     }
-    let State::Fits(octets) = state else {
-        return false;
-    };
-    octets == best.octets
+    match state {
+        State::Out => false,
+        State::No(_) => false,
+        State::Fits(octets) => octets == best.octets,
+    }
+}
+
+// The tool, or one that was asked before it.
+fn or_needs(best: Best, tool: u32, state: State, other: bool) -> bool
+    ensures { λ r. ⌜ r ≡ alsoBy best tool state || other ⌝ }
+{
+    if also_needs(best, tool, state) {
+        return true;
+    }
+    other
 }
 
 // "by=tie exactly when another tool in the set needs as few".
@@ -128,25 +140,13 @@ fn tie_in(s: States, best: Best) -> bool
     let binary = s.binary;
     let rice = s.rice;
     let located = s.located;
-    if also_needs(best, 1, uncompressed) {
-        return true;
-    }
-    if also_needs(best, 2, plus) {
-        return true;
-    }
-    if also_needs(best, 3, minus) {
-        return true;
-    }
-    if also_needs(best, 4, constant) {
-        return true;
-    }
-    if also_needs(best, 5, binary) {
-        return true;
-    }
-    if also_needs(best, 6, rice) {
-        return true;
-    }
-    also_needs(best, 7, located)
+    let seven = or_needs(best, 7, located, false);
+    let six = or_needs(best, 6, rice, seven);
+    let five = or_needs(best, 5, binary, six);
+    let four = or_needs(best, 4, constant, five);
+    let three = or_needs(best, 3, minus, four);
+    let two = or_needs(best, 2, plus, three);
+    or_needs(best, 1, uncompressed, two)
 }
 
 // The reasons for a frame that has samples.
@@ -166,7 +166,7 @@ fn reasons_of(samples: &[u8], n: usize, mask: u8, set: u32) -> Reasons
 
 // "A frame of no samples fails condition 1 of every tool in the set".
 fn empty_state(set: u32, tool: u32) -> State
-    ensures { λ r. ⌜ (mask : ℕ) → r ≡ stateOf mask set [] tool ⌝ }
+    ensures { λ r. ⌜ r ≡ emptyState set tool ⌝ }
 {
     if !holds(set, tool) {
         return State::Out;
@@ -176,7 +176,7 @@ fn empty_state(set: u32, tool: u32) -> State
 
 // "and its winner is tool 0 by octets".
 fn empty_reasons(set: u32) -> Reasons
-    ensures { λ r. ⌜ (mask : ℕ) → r ≡ reasonsOf mask set [] ⌝ }
+    ensures { λ r. ⌜ r ≡ emptyReasons set ⌝ }
 {
     let uncompressed = empty_state(set, 1);
     let plus = empty_state(set, 2);
