@@ -10,7 +10,7 @@ use Rattle.rules.specs.Bits.{octetsFor, pack}
 use Rattle.rules.specs.Chooses.{Write}
 use Rattle.rules.specs.Walk.{Walked, octetsKept, samplesKept}
 use Rattle.reasons.specs.declared.Why.{Why}
-use Rattle.reasons.specs.Calls.{whyNumber, whyText}
+use Rattle.reasons.specs.Calls.{whyEnding, whyText}
 use Rattle.linear.specs.Calls.{judged, after}
 use Rattle.rules.specs.Calls.{readEnd, readSamples, readOctets, readBits, readTool, readBit, writeEnd, writtenBits, writeTool, atStart}
 
@@ -34,7 +34,7 @@ pub record WriteReported (written : Write) (out out′ three : List ℕ) (r : �
 
 -- why a tool wins: the number; the octets of text; the text at the start of what is lent, the rest as lent
 pub record WhyReported (why : Why) (text text′ one : List ℕ) (r : ℕ) : Type 0 where
-  pub number : r ≡ whyNumber why
+  pub number : r ≡ whyEnding why
   pub report : one ≡ length (whyText why) ∷ []
   pub lent : text′ ≡ atStart (whyText why) text
 

@@ -168,10 +168,10 @@ fn reasons_of(samples: &[u8], n: usize, mask: u8, set: u32) -> Reasons
 fn empty_state(set: u32, tool: u32) -> State
     ensures { λ r. ⌜ r ≡ emptyState set tool ⌝ }
 {
-    if !holds(set, tool) {
-        return State::Out;
+    if holds(set, tool) {
+        return State::No(1);
     }
-    State::No(1)
+    State::Out
 }
 
 // "and its winner is tool 0 by octets".

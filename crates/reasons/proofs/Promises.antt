@@ -24,7 +24,7 @@ use Rattle.reasons.specs.declared.State.the-variants.{Out, No, Fits}
 use Rattle.reasons.specs.declared.Reasons.{Reasons}
 use Rattle.reasons.specs.declared.Why.{Why}
 use Rattle.reasons.specs.declared.Why.the-variants.{Told, Refused}
-use Rattle.reasons.specs.Why.{locatedConditions, conditions, firstFailing, failing, stateOf, winnerOf, needs, octetsWritten, alsoNeeds, anyOf, tools, reasonsOf, toldOf, whyOne}
+use Rattle.reasons.specs.Why.{locatedConditions, conditions, firstFailing, failing, stateOf, winnerOf, needs, octetsWritten, alsoNeeds, anyOf, tools, reasonsOf, whyOne}
 
 -- no condition fails exactly where the tool applies
 all-five : (a b c d e : Bool) → eqb (firstFailing 1 (a ∷ b ∷ (c && d && e) ∷ [])) 0 ≡ (a && b && c && d && e)
@@ -243,7 +243,7 @@ tie-when mask set s a =
     (rw (ne-eqb (a .tool) (winnerOf mask set s) (a .other), a .fits) (eq-eqb (octetsWritten mask set s) (octetsWritten mask set s) refl))
 
 -- "Refusals as for the writer, ROOM left out": with room enough the writer refuses what is refused here, and writes else
-abbrev writerOf : Why → Written → Write
+abbrev pub writerOf : Why → Written → Write
 writerOf (Told r) w = wrote w
 writerOf (Refused why) w = declined why
 

@@ -15,9 +15,9 @@ pub record Prints (r : Reasons) (text text′ : List ℕ) (n : ℕ) : Type 0 whe
   pub lent : text′ ≡ atStart (linesOf r) text
 
 -- the number; "with no line printed" where it is not 0
-abbrev pub whyNumber : Why → ℕ
-whyNumber (Told r) = 0
-whyNumber (Refused w) = refusalNumber w
+abbrev pub whyEnding : Why → ℕ
+whyEnding (Told r) = 0
+whyEnding (Refused w) = refusalNumber w
 
 abbrev pub whyText : Why → List ℕ
 whyText (Told r) = linesOf r

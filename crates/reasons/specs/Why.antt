@@ -22,12 +22,11 @@ use Rattle.reasons.specs.declared.Why.the-variants.{Told, Refused}
 
 -- "Value-location's conditions are 1 the length, 2 the row, 3 the frequency of 0; other tools have one, numbered 1."
 -- "A frame of no samples fails condition 1 of every tool": that of value-location asks 80 samples or more.
+abbrev pub zeroLeadsAll : ℕ → List ℕ → Bool
+zeroLeadsAll mask s = zeroLeads mask s (pos 1) && zeroLeads mask s (negsuc 0) && zeroLeads mask s (negsuc 1)
+
 abbrev pub locatedConditions : ℕ → List ℕ → List Bool
-locatedConditions mask s =
-    leb 80 (length s)
-    ∷ ltb (rowOf mask s) 4
-    ∷ (zeroLeads mask s (pos 1) && zeroLeads mask s (negsuc 0) && zeroLeads mask s (negsuc 1))
-    ∷ []
+locatedConditions mask s = leb 80 (length s) ∷ ltb (rowOf mask s) 4 ∷ zeroLeadsAll mask s ∷ []
 
 unfoldable pub conditions : ℕ → List ℕ → ℕ → List Bool
 conditions mask s t = cond (eqb t 7) (locatedConditions mask s) ((not (eqb (length s) 0) && applies mask t s) ∷ [])
@@ -81,17 +80,6 @@ statesOf mask set s =
 
 unfoldable pub reasonsOf : ℕ → ℕ → List ℕ → Reasons
 reasonsOf mask set s = record { states = statesOf mask set s; winner = winnerOf mask set s; tie = anyOf (alsoNeeds mask set s) tools }
-
--- the state that an answer has for a tool
-unfoldable pub toldOf : Reasons → ℕ → State
-toldOf r t =
-    cond (eqb t 1) (r .states .uncompressed)
-    (cond (eqb t 2) (r .states .plus)
-    (cond (eqb t 3) (r .states .minus)
-    (cond (eqb t 4) (r .states .constant)
-    (cond (eqb t 5) (r .states .binary)
-    (cond (eqb t 6) (r .states .rice)
-    (r .states .located))))))
 
 -- n samples, the first of those given. "Refusals as for the writer, ROOM left out."
 unfoldable pub whyOne : ℕ → List ℕ → ℕ → ℕ → Why

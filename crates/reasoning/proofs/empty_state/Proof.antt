@@ -1,4 +1,3 @@
-use borrow.Author.Tests.{not-true, not-false}
 use mathlib.Core.Path.{sym, ap, _∙_}
 use borrow.Author.Needs.{needs}
 use Rattle.reasoning.proofs.empty_state.Statement.{statement}
@@ -8,10 +7,10 @@ holds-requires : tie.Need-holds-requires
 holds-requires c κs = search needs
 
 returns : tie.Need-returns
-returns c = rw (sym (c .before .holds .ensures) ∙ not-true (c .before .holds .result) (c .if1 .taken))
+returns c = rw (sym (c .before .holds .ensures) ∙ c .if1 .taken)
 
 returns-2 : tie.Need-returns-2
-returns-2 c = rw (sym (c .before .holds .ensures) ∙ not-false (c .before .holds .result) (c .if1 .left))
+returns-2 c = rw (sym (c .before .holds .ensures) ∙ c .if1 .left)
 
 pub empty-state-spec : {M : Type 1} → statement M
 empty-state-spec = tie.close (tie.spec holds-requires returns returns-2)
