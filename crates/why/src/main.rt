@@ -8,7 +8,6 @@ ghost use Rattle.cutting.specs.Parts.{partSize};
 ghost use Rattle.why.specs.Shows.{headLine, frameText, Shows, mostSound};
 use libc::STDOUT_FILENO;
 use options::Settings;
-use options::WHY;
 use reasons::Reasons;
 use reasons::Why;
 use rules::Ending;
@@ -184,27 +183,27 @@ fn is_missing(s: Settings, frames: usize) -> bool {
 // What was done, or why it was not.
 fn finish(run: Run, s: Settings, in_name: &[u8]) {
     if run.trouble == 1 {
-        console::failed(WHY, in_name, b"standard input");
+        console::failed(options::WHY, in_name, b"standard input");
         return;
     }
     if run.trouble == 2 {
-        console::failed(WHY, b"", b"standard output");
+        console::failed(options::WHY, b"", b"standard output");
         return;
     }
     let end = run.end;
     let number = rules::number_of(end);
     if number != 0 {
         console::say(b"why: no length fits the octets at the end\n");
-        console::refused(WHY, number, run.samples, 0, 0);
+        console::refused(options::WHY, number, run.samples, 0, 0);
         return;
     }
     if is_missing(s, run.frames) {
         console::say_number(b"why: the sound has no such frame; its frames are ", run.frames);
         console::say(b"\n");
-        console::stop(WHY, 64, run.samples, 0, 0);
+        console::stop(options::WHY, 64, run.samples, 0, 0);
         return;
     }
-    console::stop(WHY, 0, run.samples, 0, 0);
+    console::stop(options::WHY, 0, run.samples, 0, 0);
 }
 
 // The settings are judged before any file is opened.
@@ -212,12 +211,12 @@ fn why_file(s: Settings, in_name: &[u8]) {
     let number = settings_number(s);
     if number != 0 {
         explain_settings(number);
-        console::refused(WHY, number, 0, 0, 0);
+        console::refused(options::WHY, number, 0, 0, 0);
         return;
     }
     let fd = console::open_in(in_name);
     if fd < 0 {
-        console::failed(WHY, in_name, b"standard input");
+        console::failed(options::WHY, in_name, b"standard input");
         return;
     }
     let mut part = [0u8; 61440];
@@ -231,7 +230,7 @@ fn why_with(mut s: Settings, space: &mut [u8]) {
     let in_name: &[u8] = &space[..n];
     let law = options::law_of(s, in_name);
     if law == 2 {
-        console::usage(WHY, b"the law is not known: say -u or -a");
+        console::usage(options::WHY, b"the law is not known: say -u or -a");
         return;
     }
     s.law = law;
@@ -239,7 +238,7 @@ fn why_with(mut s: Settings, space: &mut [u8]) {
 }
 
 fn main() {
-    let s = console::settings(WHY);
+    let s = console::settings(options::WHY);
     if s.wrong != 0 {
         console::wrong_settings(s);
         return;
