@@ -20,12 +20,12 @@ text-of-requires : tie.Need-text-of-requires
 text-of-requires c κs = search needs
 
 returns : tie.Need-returns
-returns c = 
+returns c =
     let w = sym (c .before .before .before .before .before .why-samples .ensures) ∙ c .before .before .before .why .given .1 in
     why-refused w (c .refusal-number .ensures)
 
 returns-2 : tie.Need-returns-2
-returns-2 c = 
+returns-2 c =
     let w = sym (c .before .before .before .before .before .before .why-samples .ensures) ∙ c .before .before .before .before .r .given .1 in
     why-told _ w (c .before .text-of .ensures)
 
