@@ -6,6 +6,7 @@ ghost use lib.ListN.{length};
 ghost use Rattle.unpack.specs.Runs.{NextSound, UsesUpTo, TellsWalk};
 use console::Got;
 use options::Settings;
+use options::UNPACK;
 use rules::Ending;
 use unpacking::Part;
 
@@ -179,10 +180,10 @@ fn finish(t: Total) {
     let end = t.end;
     let number = rules::number_of(end);
     if number == 0 {
-        console::stop(false, 0, t.at, 0, 0);
+        console::stop(UNPACK, 0, t.at, 0, 0);
         return;
     }
-    console::refused(false, number, t.at, rules::tool_of(end), t.bit);
+    console::refused(UNPACK, number, t.at, rules::tool_of(end), t.bit);
 }
 
 // Reads the stream, and one octet more where it is too long; says what failed.
@@ -191,7 +192,7 @@ fn read_stream(name: &[u8], stream: &mut [u8]) -> Got
 {
     let fd = console::open_in(name);
     if fd < 0 {
-        console::failed(false, name, b"standard input");
+        console::failed(UNPACK, name, b"standard input");
         return Got {
             count: 0,
             failed: true,
@@ -199,7 +200,7 @@ fn read_stream(name: &[u8], stream: &mut [u8]) -> Got
     }
     let got = console::read_part(fd, stream);
     if got.failed {
-        console::failed(false, name, b"standard input");
+        console::failed(UNPACK, name, b"standard input");
     }
     console::close(fd);
     got
@@ -222,20 +223,20 @@ fn write_to(stream: &[u8], law: u32, set: u32, form: u32, name: &[u8])
 {
     let fd = console::open_out(name);
     if fd < 0 {
-        console::failed(false, name, b"standard output");
+        console::failed(UNPACK, name, b"standard output");
         return;
     }
     if !heading_written(stream, law, set, form, fd) {
-        console::failed(false, name, b"standard output");
+        console::failed(UNPACK, name, b"standard output");
         return;
     }
     let t = all_parts(stream, law, set, false, fd, form);
     if t.wrong != NOTHING {
-        console::failed(false, name, b"standard output");
+        console::failed(UNPACK, name, b"standard output");
         return;
     }
     if !console::close(fd) {
-        console::failed(false, name, b"standard output");
+        console::failed(UNPACK, name, b"standard output");
         return;
     }
     finish(t);
@@ -243,7 +244,7 @@ fn write_to(stream: &[u8], law: u32, set: u32, form: u32, name: &[u8])
 
 // Where the master differs, and the last line.
 fn differs(wrong: u32, place: usize) {
-    console::say_tool(false);
+    console::say_tool(UNPACK);
     if wrong == SHORTER {
         console::say_number(b"the master is shorter: it ends at octet ", place);
     } else if wrong == LONGER {
@@ -252,7 +253,7 @@ fn differs(wrong: u32, place: usize) {
         console::say_number(b"the sound differs from the master at octet ", place);
     }
     console::say(b"\n");
-    console::stop(false, 65, place, 0, 0);
+    console::stop(UNPACK, 65, place, 0, 0);
 }
 
 // What is wrong with a master after its octets for all the sound: nothing, or it is longer.
@@ -271,7 +272,7 @@ fn left_over(fd: i32) -> u32 {
 // What a comparison came to. A frame that is refused comes before what a master has left over.
 fn conclude(t: Total, fd: i32, name: &[u8]) {
     if t.wrong == FAILED {
-        console::failed(false, name, b"standard input");
+        console::failed(UNPACK, name, b"standard input");
         return;
     }
     if t.wrong != NOTHING {
@@ -285,7 +286,7 @@ fn conclude(t: Total, fd: i32, name: &[u8]) {
     }
     let wrong = left_over(fd);
     if wrong == FAILED {
-        console::failed(false, name, b"standard input");
+        console::failed(UNPACK, name, b"standard input");
         return;
     }
     if wrong != NOTHING {
@@ -301,7 +302,7 @@ fn compare_with(stream: &[u8], law: u32, set: u32, name: &[u8])
 {
     let fd = console::open_in(name);
     if fd < 0 {
-        console::failed(false, name, b"standard input");
+        console::failed(UNPACK, name, b"standard input");
         return;
     }
     let t = all_parts(stream, law, set, true, fd, 0);
@@ -311,7 +312,7 @@ fn compare_with(stream: &[u8], law: u32, set: u32, name: &[u8])
 // Reads the stream, and writes or compares its sound. `name` is INFILE, `other` OUTFILE or the master. SET comes before any file.
 fn run(s: Settings, law: u32, name: &[u8], other: &[u8]) {
     if 127 < s.set {
-        console::refused(false, 11, 0, 0, 0);
+        console::refused(UNPACK, 11, 0, 0, 0);
         return;
     }
     let mut stream = [0u8; 65536];
@@ -321,7 +322,7 @@ fn run(s: Settings, law: u32, name: &[u8], other: &[u8]) {
     }
     let n = got.count;
     if 65535 < n {
-        console::refused(false, 13, 0, 0, 0);
+        console::refused(UNPACK, 13, 0, 0, 0);
         return;
     }
     if s.master == 0 {
@@ -338,13 +339,13 @@ fn wrong_form(s: Settings, name: &[u8]) -> bool {
     }
     if s.master != 0 {
         console::usage(
-            false,
+            UNPACK,
             b"-c compares raw G.711, so -l and -w don't go with it",
         );
         return true;
     }
     if s.outfile == 0 && name.len() != 0 {
-        console::usage(false, b"with -l or -w OUTFILE must be said");
+        console::usage(UNPACK, b"with -l or -w OUTFILE must be said");
         return true;
     }
     false
@@ -362,7 +363,7 @@ fn with_names(s: Settings, law: u32, name: &[u8]) {
         }
         let n = console::file_name(s.master, &mut space);
         if name.len() == 0 && n == 0 {
-            console::usage(false, b"INFILE and MASTER can't both be standard input");
+            console::usage(UNPACK, b"INFILE and MASTER can't both be standard input");
             return;
         }
         run(s, law, name, &space[..n]);
@@ -371,7 +372,7 @@ fn with_names(s: Settings, law: u32, name: &[u8]) {
     let target = console::target_name(s, law, name, &mut space);
     let n = target.len;
     if !target.fits {
-        console::usage(false, b"OUTFILE's name would be too long");
+        console::usage(UNPACK, b"OUTFILE's name would be too long");
         return;
     }
     run(s, law, name, &space[..n]);
@@ -379,7 +380,7 @@ fn with_names(s: Settings, law: u32, name: &[u8]) {
 
 // "usage, then LAW, SET, .., then files, then the sound's own"
 fn main() {
-    let s = console::settings(false);
+    let s = console::settings(UNPACK);
     if s.wrong != 0 {
         console::wrong_settings(s);
         return;
@@ -388,7 +389,7 @@ fn main() {
     let n = console::file_name(s.infile, &mut space);
     let law = options::law_of(s, &space[..n]);
     if law == 2 {
-        console::usage(false, b"the law is not known: say -u or -a");
+        console::usage(UNPACK, b"the law is not known: say -u or -a");
         return;
     }
     with_names(s, law, &space[..n]);
