@@ -140,7 +140,7 @@ fn all_parts(fd: i32, s: Settings, part: &mut [u8]) -> Run
         more: true,
         trouble: 0,
     };
-    let mut i = 0;
+    let mut i = 0usize;
     while i < 160000000000000 && run.more {
         let next = next_part(fd, run, s, part);
         run = next;
