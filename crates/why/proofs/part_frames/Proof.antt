@@ -1,3 +1,5 @@
+use Prim.Native.Nat.{_+_, _-_, _≤_}
+use lib.ListN.{length}
 use borrow.Author.Needs.{needs}
 use Rattle.why.proofs.part_frames.Statement.{statement}
 use Rattle.why.proofs.part_frames.Tie as tie
@@ -9,10 +11,10 @@ use Rattle.cutting.proofs.next_length.Reads as next-length-reads
 use Rattle.why.proofs.show_wanted.Reads as show-wanted-reads
 
 abbrev Inv-loop : tie.InvT-loop
-Inv-loop part run s from₀ k₀ from k = ?
+Inv-loop part run s from₀ k₀ from k = (from ≤ length part) × (k ≤ run .frames + from)
 
 abbrev μ-loop : tie.MeasureT-loop
-μ-loop part run s from₀ k₀ from k = ?
+μ-loop part run s from₀ k₀ from k = length part - from
 
 -- src/main.rt:83:5
 loop-holds : tie.Need-loop-holds Inv-loop μ-loop
