@@ -8,7 +8,9 @@ use texts::number_in;
 
 // The tools: `unpack`, `pack`, and `why`, which says why `pack` takes its tools.
 pub const UNPACK: u32 = 0;
+
 pub const PACK: u32 = 1;
+
 pub const WHY: u32 = 2;
 
 // What an argument is. `Waits` and `Counts` say what follows an option: MASTER (1), the frame length (2), the tool set (3), a frame (4).

@@ -198,7 +198,10 @@ fn finish(run: Run, s: Settings, in_name: &[u8]) {
         return;
     }
     if is_missing(s, run.frames) {
-        console::say_number(b"why: the sound has no such frame; its frames are ", run.frames);
+        console::say_number(
+            b"why: the sound has no such frame; its frames are ",
+            run.frames,
+        );
         console::say(b"\n");
         console::stop(options::WHY, 64, run.samples, 0, 0);
         return;

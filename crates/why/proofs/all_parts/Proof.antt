@@ -1,3 +1,4 @@
+-- After i parts there are at most i times a part's samples, and no more frames.
 use borrow.Author.Needs.{needs}
 use Prim.Native.Nat.{_*_, _-_, _≤_}
 use mathlib.Core.Path.{_≡_}

@@ -1,3 +1,4 @@
+-- What is read is the part's beginning, so a part adds at most its own size.
 use borrow.Author.Needs.{needs}
 use native.Mathlib.Omega.{arith}
 use mathlib.Core.Path.{_≡_, sym, _∙_}
@@ -42,8 +43,10 @@ same-length-2 c = search needs
 returns-2 : tie.Need-returns-2
 returns-2 c =
     let d = c .before .before .before .before .before in
-    let e = c .part-frames .ensures in
-    (omega (arith, e .0, read-length d, part-length d, d .read-part .ensures), omega (arith, e .1, read-length d, part-length d, d .read-part .ensures))
+    let e = c .part-frames .ensures in (
+      omega (arith, e .0, read-length d, part-length d, d .read-part .ensures),
+      omega (arith, e .1, read-length d, part-length d, d .read-part .ensures),
+    )
 
 pub next-part-spec : {M : Type 1} → statement M
 next-part-spec =

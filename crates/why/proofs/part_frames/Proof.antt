@@ -1,3 +1,4 @@
+-- Each turn takes one frame more of the part; the measure is what is left of it.
 use Prim.Native.Nat.{_+_, _-_, _≤_}
 use lib.ListN.{length}
 use borrow.Author.Needs.{needs}
@@ -17,7 +18,9 @@ module _ (c : tie.Else1 Inv-loop μ-loop) where
   some : 1 ≤ c .before .before .next-length .result
   some = omega arith
 
-  fits : Fits (length (c .before .before .before .before .before .before .args .part .now) - c .before .before .before .before .loop .from) (c .before .before .next-length .result)
+  fits : Fits
+      (length (c .before .before .before .before .before .before .args .part .now) - c .before .before .before .before .loop .from)
+      (c .before .before .next-length .result)
   fits = next-fits _ _ (c .before .before .next-length .result) (c .before .before .next-length .ensures) some
 
 loop-holds : tie.Need-loop-holds Inv-loop μ-loop
@@ -45,7 +48,9 @@ returns : tie.Need-returns Inv-loop μ-loop
 returns c = search needs
 
 add-to : tie.Need-add-to Inv-loop μ-loop
-add-to c = record { fits = omega (arith, fits c .within, c .before .before .before .before .loop .inv .0, c .before .before .before .before .before .before .pre .0) }
+add-to c =
+    let at = c .before .before .before .before in
+    record { fits = omega (arith, fits c .within, at .loop .inv .0, at .before .before .pre .0) }
 
 sub-show-wanted : tie.Need-sub-show-wanted Inv-loop μ-loop
 sub-show-wanted c = search needs
@@ -66,7 +71,9 @@ add-k : tie.Need-add-k Inv-loop μ-loop
 add-k c = search needs
 
 loop-less : tie.Need-loop-less Inv-loop μ-loop
-loop-less c = omega (arith, fits (c .before .before .before) .within, fits (c .before .before .before) .some, c .before .before .before .before .before .before .before .loop .inv .0)
+loop-less c =
+    let d = c .before .before .before in
+    omega (arith, fits d .within, fits d .some, d .before .before .before .before .loop .inv .0)
 
 loop-again : tie.Need-loop-again Inv-loop μ-loop
 loop-again c =

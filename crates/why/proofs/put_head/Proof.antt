@@ -25,7 +25,10 @@ same-length : tie.Need-same-length
 same-length c = search needs
 
 returns : tie.Need-returns
-returns c = head-put _ _ (c .before .before .before .before .before .before .before .before .before .before .before .before .put-field .ensures .0) (c .before .before .before .before .before .before .before .put-field2 .ensures .0) (c .before .before .put-word .ensures) (c .before .before .before .before .before .before .before .before .before .before .before .before .put-field .ensures .1) (c .before .before .before .before .before .before .before .put-field2 .ensures .1)
+returns c =
+    let second = c .before .before .before .before .before .before .before .put-field2 in
+    let first = c .before .before .before .before .before .before .before .before .before .before .before .before .put-field in
+    head-put _ _ (first .ensures .0) (second .ensures .0) (c .before .before .put-word .ensures) (first .ensures .1) (second .ensures .1)
 
 pub put-head-spec : {M : Type 1} → statement M
 put-head-spec =
