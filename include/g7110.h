@@ -1,5 +1,5 @@
 /* g7110.h: G.711.0 frames of the seven carried tools, read, written and walked; frames of samples to linear values and back;
- * a box's settings, saved and put back. This header is also the manual.
+ * why a frame takes its tool; a box's settings, saved and put back. This header is also the manual.
  *
  * Every answer below is proved equal to the project's definitions of documents 01 and 02 and of 001's section 6.8, for all inputs.
  *
@@ -33,6 +33,7 @@
  *
  * VERSIONS
  *   G7110_VERSION goes up by one when a call is added or a report changes.
+ *   5   g7110_why.
  *   4   the calls over settings.
  *   3   g7110_to_linear and g7110_from_linear.
  *   2   g7110_read and g7110_walk report five numbers: the bit is new, at the end. They write report[4], so a program that was
@@ -49,6 +50,22 @@
  * STACK
  *   A call uses at most G7110_STACK octets of stack, what it calls included. That is measured, not proved: tests/c/stack.c
  *   makes each call on frames of every kind, and on few and many settings; the tests hold what it finds against this figure.
+ *
+ * WHY
+ *   g7110_why tells why g7110_write takes the tool that it takes. Its text is eight lines, each ended by octet 0A: tools 1 to 7 in
+ *   order, and the winner.
+ *     tool=6 state=fits why=0 octets=2
+ *     winner=6 by=octets
+ *   state=out    the tool is not in the set.
+ *   state=no     it does not apply: why= is the first of its conditions that fails. Value-location (7) has three: 1 the length, 80
+ *                samples or more; 2 the row, that least and greatest are a row's and the length fits it; 3 the frequency of 0, that no
+ *                value is more frequent. Every other tool has one, numbered 1. why= is 0 in the other states.
+ *   state=fits   it applies: octets= is what its form needs. octets= is 0 in the other states.
+ *   winner=      the tool that g7110_write reports: fewest octets, and on equal octets the first of 2, 3, 4, 5, 6, 7, 1.
+ *   by=tie       another tool in the set needs as few octets as the winner; else by=octets.
+ *   A frame of no samples: condition 1 of every tool in the set fails, and the winner is tool 0 by octets.
+ *   The text has at most 480 octets. It stands at the start of the lent 512; the rest stays as lent. A refused call leaves
+ *   all of it as lent and reports 0.
  *
  * SETTINGS
  *   A box keeps its last eight settings. They lie in 41 numbers that the caller lends and keeps, in whatever store it has:
@@ -89,6 +106,13 @@
  *     if (g7110_read(kept, wrote[0], 1, G7110_ALL_TOOLS, sound, sizeof sound, got) != G7110_OK) return 1;
  *     // got[0] is 160, and sound holds the samples again
  *
+ *   Ask why a frame took as many octets as it did:
+ *
+ *     uint8_t text[G7110_WHY_TEXT];
+ *     uint64_t said[1];
+ *     if (g7110_why(samples, 160, 1, G7110_ALL_TOOLS, text, said) != G7110_OK) return 1;
+ *     fwrite(text, 1, said[0], stdout);
+ *
  *   Try other settings, and put the old ones back:
  *
  *     uint32_t state[G7110_SETTINGS] = {0};
@@ -108,7 +132,7 @@
 extern "C" {
 #endif
 
-#define G7110_VERSION 4
+#define G7110_VERSION 5
 
 #define G7110_MAX_SAMPLES 320 /* samples of a frame */
 #define G7110_MAX_WRITTEN 321 /* octets of a written frame */
@@ -116,6 +140,7 @@ extern "C" {
 #define G7110_MAX_STREAM 65535 /* octets of a walk */
 #define G7110_ALL_TOOLS 127
 #define G7110_STACK 8192       /* octets of stack, measured */
+#define G7110_WHY_TEXT 512     /* octets lent for the text of g7110_why */
 #define G7110_SETTINGS 41      /* numbers of a box's settings */
 #define G7110_SETTINGS_TEXT 80 /* octets lent for their text, which has at most 67 */
 #define G7110_NO_SETTINGS_BLOCK 16384 /* octets of the block of a box that has no settings */
@@ -149,6 +174,11 @@ uint32_t g7110_read(const uint8_t *octets, size_t octets_len, uint32_t law, uint
  * At most samples_len + 1 octets. report: octets, bits, tool. */
 uint32_t g7110_write(const uint8_t *samples, size_t samples_len, uint32_t law, uint32_t set,
                      uint8_t *out, size_t out_len, uint64_t report[3]);
+
+/* Tells why g7110_write takes its tool for these samples, as the manual says under WHY. Refusals as of g7110_write, in its order,
+ * G7110_ROOM left out: G7110_LAW, G7110_SET, G7110_LENGTH. report: octets of text. */
+uint32_t g7110_why(const uint8_t *samples, size_t samples_len, uint32_t law, uint32_t set, uint8_t text[512],
+                   uint64_t report[1]);
 
 /* Walks a stream, frame after frame. report: frames, octets (also the place of a refused frame), samples, tool, bit (of the
  * refused frame, counted from its start).

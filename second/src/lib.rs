@@ -6,6 +6,7 @@
 //! * [`listing`] makes the text the listing program prints.
 //! * [`linear`] turns samples into linear values and back.
 //! * [`settings`] keeps the last eight settings of a box.
+//! * [`why`] says why a frame is written with the tool it is.
 //!
 //! None of the first three touches the heap: a frame is at most 320 samples,
 //! so whatever has to be held back until a frame is known to be good fits on
@@ -27,6 +28,7 @@ mod s_codes;
 pub mod settings;
 mod value_rows;
 mod walk;
+pub mod why;
 mod write;
 
 pub use listing::listing;

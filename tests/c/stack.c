@@ -11,7 +11,7 @@
 enum { STACK = 1 << 20, PAINT = 0xC5, STREAM = 4000 };
 
 struct call {
-    int which; /* 0 none, 1 read, 2 write, 3 walk, 4 to linear values, 5 from them; of settings 6 save, 7 back, 8 read, 9 wipe */
+    int which; /* 0 none, 1 read, 2 write, 3 walk, 4 to linear values, 5 from them; of settings 6 save, 7 back, 8 read, 9 wipe; 10 why */
     const uint8_t *given;
     size_t length;
 };
@@ -33,6 +33,7 @@ static void *make(void *argument)
     if (call->which == 7) g7110_settings_back(state, state[0], report);
     if (call->which == 8) g7110_settings_read(state, state[0], out, report);
     if (call->which == 9) g7110_settings_wipe(state);
+    if (call->which == 10) g7110_why(call->given, call->length, 1, G7110_ALL_TOOLS, out, report);
     return NULL;
 }
 
@@ -55,7 +56,7 @@ static size_t used(struct call call)
     return STACK - low;
 }
 
-static size_t greatest[10];
+static size_t greatest[11];
 
 static void measure(int which, const uint8_t *given, size_t length)
 {
@@ -108,8 +109,9 @@ static void settings(void)
 
 int main(void)
 {
-    static const char *const names[10] = {"",        "read",          "write",         "walk",          "to_linear",
-                                          "from_linear", "settings_save", "settings_back", "settings_read", "settings_wipe"};
+    static const char *const names[11] = {"",        "read",          "write",         "walk",          "to_linear",
+                                          "from_linear", "settings_save", "settings_back", "settings_read", "settings_wipe",
+                                          "why"};
     uint8_t samples[320], form[G7110_MAX_WRITTEN], stream[STREAM];
     uint64_t wrote[3];
     size_t length = 0;
@@ -122,6 +124,7 @@ int main(void)
     for (kind = 0; kind < 8; kind++) {
         frame(samples, kind);
         measure(2, samples, 320);
+        measure(10, samples, 320);
         measure(4, samples, 320);
         measure(5, samples, 320);
         if (g7110_write(samples, 320, 1, G7110_ALL_TOOLS, form, sizeof form, wrote) != G7110_OK) return 1;
@@ -132,6 +135,6 @@ int main(void)
     measure(3, stream, sizeof stream);
     measure(3, stream, length - 1);
     settings();
-    for (kind = 1; kind < 10; kind++) printf("stack: g7110_%s %lu octets\n", names[kind], over(kind));
+    for (kind = 1; kind < 11; kind++) printf("stack: g7110_%s %lu octets\n", names[kind], over(kind));
     return 0;
 }

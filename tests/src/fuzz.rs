@@ -2,6 +2,7 @@
 
 use crate::faults;
 use crate::forms::{some_form, LENGTHS};
+use crate::further::Further;
 use crate::pair::asked;
 use crate::settings::{some_call, some_cells, Keepers, State, CELLS, FRESH};
 use crate::streams::Stream;
@@ -27,6 +28,8 @@ pub struct Fuzz<'a> {
     folder: PathBuf,
     keepers: Keepers<'static>,
     state: State,
+    /// The calls of document 02 that came after settings.
+    pub further: Further,
     pub reads: usize,
     pub writes: usize,
     pub walks: usize,
@@ -44,6 +47,7 @@ impl<'a> Fuzz<'a> {
             folder: folder.to_path_buf(),
             keepers: Keepers::new(&Proved, &Second),
             state: FRESH,
+            further: Further::new(seed),
             reads: 0,
             writes: 0,
             walks: 0,
@@ -51,11 +55,11 @@ impl<'a> Fuzz<'a> {
     }
 
     pub fn differences(&self) -> usize {
-        self.pair.differences + self.keepers.differences
+        self.pair.differences + self.keepers.differences + self.further.differences()
     }
 
     pub fn shown(&self) -> Vec<String> {
-        [self.pair.shown(), self.keepers.shown()].concat()
+        [self.pair.shown(), self.keepers.shown(), &self.further.shown()].concat()
     }
 
     /// Calls over settings.
@@ -71,6 +75,17 @@ impl<'a> Fuzz<'a> {
             4..=6 => self.read(),
             7 => self.walk(),
             _ => self.settle(),
+        }
+        self.go_further();
+    }
+
+    fn go_further(&mut self) {
+        let before = self.further.differences();
+        self.further.round(&self.pool);
+        if self.further.differences() > before && before < SAVED {
+            let name = format!("seed-{}-further-{}.txt", self.seed, self.further.differences());
+            let said = self.further.shown().last().cloned().unwrap_or_default();
+            self.put(&name, &format!("{said}\n\nseed={}\n", self.seed));
         }
     }
 

@@ -2,7 +2,8 @@
 //! [`Codec`]; [`check`] runs one vector, and its neighbours, on one back end. docs/TESTING.md has the line format.
 //!
 //! A [`Pair`] asks two back ends the same. [`forms`], [`faults`], [`frames`] and [`streams`] make what they are asked,
-//! and a [`Table`] counts what was met. [`settings`] does the same for a box's settings.
+//! and a [`Table`] counts what was met. [`settings`] does the same for a box's settings, [`why`] for the lines that say why a
+//! tool was taken.
 
 #![deny(unsafe_code)]
 
@@ -12,6 +13,7 @@ pub mod docs;
 pub mod faults;
 pub mod forms;
 pub mod frames;
+pub mod further;
 pub mod fuzz;
 pub mod measure;
 pub mod met;
@@ -26,6 +28,7 @@ pub mod streams;
 mod table;
 pub mod tools;
 mod vectors;
+pub mod why;
 pub mod windows;
 
 pub use codec::{Codec, Proved, Read, Second, Walk, Write};

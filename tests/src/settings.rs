@@ -32,7 +32,7 @@ impl Told {
         Told { ending, told: 0 }
     }
 
-    fn of(answer: Result<u64, u32>) -> Told {
+    pub fn of(answer: Result<u64, u32>) -> Told {
         match answer {
             Ok(told) => Told { ending: 0, told },
             Err(ending) => Told::refused(ending),

@@ -23,6 +23,7 @@ fn nothing_differs() {
     say(&format!(
         "compared: fuzz, seed {SEED}: {reads} frames read, {writes} written, {walks} streams walked, {settings} calls over settings\n"
     ));
+    say(&format!("compared: fuzz, seed {SEED}: {}\n", fuzz.further.words()));
     assert!(
         fuzz.differences() == 0,
         "{} differences, saved in target/fuzz\n{}",

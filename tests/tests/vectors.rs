@@ -11,8 +11,8 @@ fn backs() -> Vec<Box<dyn Codec>> {
 const FILES: [&str; 6] =
     ["usual.txt", "unusual.txt", "faulty.txt", "open-points.txt", "windows.txt", "first-octet.txt"];
 
-/// The file that tests/settings.rs runs.
-const SETTINGS: &str = "settings.txt";
+/// The files that tests of their own run.
+const OTHERS: [&str; 2] = ["settings.txt", "why.txt"];
 
 fn folder() -> std::path::PathBuf {
     std::path::Path::new(env!("CARGO_MANIFEST_DIR")).join("vectors")
@@ -82,7 +82,7 @@ fn no_file_is_left_out() {
     let mut found: Vec<String> =
         std::fs::read_dir(folder()).unwrap().map(|file| file.unwrap().file_name().into_string().unwrap()).collect();
     let mut known = FILES.map(String::from).to_vec();
-    known.push(SETTINGS.to_string());
+    known.extend(OTHERS.map(String::from));
     found.sort();
     known.sort();
     assert_eq!(found, known);

@@ -33,6 +33,15 @@ extern "C" {
         out_len: usize,
         report: *mut [u64; 5],
     ) -> u32;
+    #[cfg(feature = "writer")]
+    fn g7110_why(
+        samples: *const u8,
+        samples_len: usize,
+        law: u32,
+        set: u32,
+        text: *mut [u8; 512],
+        report: *mut [u64; 1],
+    ) -> u32;
     fn g7110_to_linear(samples: *const u8, samples_len: usize, law: u32, out: *mut i16, out_len: usize) -> u32;
     fn g7110_from_linear(linear: *const i16, linear_len: usize, law: u32, out: *mut u8, out_len: usize) -> u32;
     fn g7110_settings_save(state: *mut [u32; 41], text: *const u8, text_len: usize, report: *mut [u64; 1]) -> u32;
@@ -52,6 +61,13 @@ pub fn read(octets: &[u8], law: u32, set: u32, out: &mut [u8], report: &mut [u64
 pub fn write(samples: &[u8], law: u32, set: u32, out: &mut [u8], report: &mut [u64; 3]) -> u32 {
     // SAFETY: as in `read`.
     unsafe { g7110_write(samples.as_ptr(), samples.len(), law, set, out.as_mut_ptr(), out.len(), report) }
+}
+
+/// The ending; the report is the octets of text.
+#[cfg(feature = "writer")]
+pub fn why(samples: &[u8], law: u32, set: u32, text: &mut [u8; 512], report: &mut [u64; 1]) -> u32 {
+    // SAFETY: as in `read`, of the text too.
+    unsafe { g7110_why(samples.as_ptr(), samples.len(), law, set, text, report) }
 }
 
 /// The ending; the report is frames, octets, samples, tool and the refusal's bit.

@@ -4,8 +4,8 @@
 
 use g7110::settings;
 use g7110::{
-    from_linear, read, to_linear, walk, write, Law, Read, Refusal, Refused, Walk, Written, ALL_TOOLS, MAX_SAMPLES,
-    MAX_WRITTEN,
+    from_linear, read, to_linear, walk, why, write, Law, Read, Reasons, Refusal, Refused, State, Walk, Written,
+    ALL_TOOLS, MAX_SAMPLES, MAX_WRITTEN, WHY_TEXT,
 };
 
 const PLUS: u8 = 0xFF;
@@ -116,6 +116,51 @@ fn a_refused_conversion_writes_nothing() {
     assert_eq!(g7110::raw::from_linear(&[0; 41], 2, &mut octets), Refusal::Law.number());
     assert_eq!((linear, octets), ([7; 40], [0xA7; 40]));
     assert_eq!(to_linear(&[], Law::A, &mut []), Ok(()));
+}
+
+/// A silent frame takes six octets where binary is the best that the set holds.
+#[test]
+fn why_six_octets() {
+    use State::{Fits, Out};
+    let reasons = Reasons { states: [Fits(41), Out, Out, Out, Fits(6), Out, Out], winner: 5, tie: false };
+    assert_eq!(why(&[PLUS; 40], Law::Mu, 17), Ok(reasons));
+    let (mut text, mut report) = ([0xA7; WHY_TEXT], [9]);
+    assert_eq!(g7110::raw::why(&[PLUS; 40], 1, 17, &mut text, &mut report), 0);
+    let said = reasons.to_string();
+    assert_eq!((report[0] as usize, &text[..said.len()]), (said.len(), said.as_bytes()));
+    assert!(text[said.len()..].iter().all(|octet| *octet == 0xA7), "the rest stays as lent");
+}
+
+/// The winner and its octets are the writer's, for every odd set; a frame of no samples has tool 0.
+#[test]
+fn why_the_writer_takes_its_tool() {
+    let mixed: Vec<u8> = (0..240).map(|at| [PLUS, PLUS, MINUS, 0xFE, 0x7E][at % 31 % 5]).collect();
+    for samples in [&[PLUS; 40][..], &[MINUS; 160], &[0x12; 80], &mixed, &mixed[..80], &mixed[..40]] {
+        for set in (1..128).step_by(2) {
+            let mut out = [0; MAX_WRITTEN];
+            let wrote = write(samples, Law::Mu, set, &mut out).unwrap();
+            let reasons = why(samples, Law::Mu, set).unwrap();
+            assert_eq!(reasons.winner, wrote.tool);
+            assert_eq!(reasons.states[wrote.tool as usize - 1], State::Fits(wrote.octets));
+            for (state, tool) in reasons.states.iter().zip(0..) {
+                assert_eq!(*state == State::Out, set >> tool & 1 == 0);
+            }
+        }
+    }
+    let none = why(&[], Law::A, 5).unwrap();
+    assert_eq!((none.states[0], none.states[1], none.states[2]), (State::No(1), State::Out, State::No(1)));
+    assert_eq!((none.winner, none.tie), (0, false));
+}
+
+#[test]
+fn a_refused_why_says_nothing() {
+    let (mut text, mut report) = ([0xA7; WHY_TEXT], [9]);
+    for (len, law, set, number) in [(41, 2, 126, 12), (41, 1, 126, 11), (41, 1, 255, 11), (41, 1, 127, 10)] {
+        assert_eq!(g7110::raw::why(&[PLUS; 320][..len], law, set, &mut text, &mut report), number);
+        assert_eq!((report, text), ([0], [0xA7; WHY_TEXT]));
+        report = [9];
+    }
+    assert_eq!(why(&[PLUS; 41], Law::Mu, 127), Err(Refusal::Length));
 }
 
 /// No state is shared: calls from several threads at once answer as one alone does.

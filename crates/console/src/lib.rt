@@ -5,6 +5,7 @@ ghost use lib.ListN.{length};
 ghost use Rattle.io.specs.Counts.{Counts};
 use libc::STDERR_FILENO;
 use options::Settings;
+use options::UNPACK;
 
 // Says a text for people.
 pub fn say(text: &[u8]) {
@@ -18,11 +19,11 @@ pub fn say_number(word: &[u8], n: usize) {
 }
 
 // The tool's name stands before its messages.
-pub fn say_tool(packs: bool) {
-    if packs {
-        say(b"pack: ");
-    } else {
-        say(b"unpack: ");
+pub fn say_tool(tool: u32) {
+    match tool {
+        0 => say(b"unpack: "),
+        1 => say(b"pack: "),
+        _ => say(b"why: "),
     }
 }
 
@@ -41,19 +42,19 @@ fn stop_unpacking(number: u32, place: usize, tool: u32, bit: usize) {
 }
 
 // The last line of every run. A writing has no bit to name.
-pub fn stop(packs: bool, number: u32, place: usize, tool: u32, bit: usize) {
-    if packs {
-        stop_packing(number, place, tool);
-    } else {
+pub fn stop(program: u32, number: u32, place: usize, tool: u32, bit: usize) {
+    if program == UNPACK {
         stop_unpacking(number, place, tool, bit);
+    } else {
+        stop_packing(number, place, tool);
     }
 }
 
 // A refusal of document 01, and the last line.
-pub fn refused(packs: bool, number: u32, place: usize, tool: u32, bit: usize) {
+pub fn refused(program: u32, number: u32, place: usize, tool: u32, bit: usize) {
     let mut name = [0u8; 8];
     let n = refusals::refusal_name(number, &mut name);
-    say_tool(packs);
+    say_tool(program);
     say(b"refused: ");
     io::write_all(STDERR_FILENO, &name[..n]);
     say_number(b" at octet ", place);
@@ -61,7 +62,7 @@ pub fn refused(packs: bool, number: u32, place: usize, tool: u32, bit: usize) {
         say_number(b", tool ", tool as usize);
     }
     say(b"\n");
-    stop(packs, number, place, tool, bit);
+    stop(program, number, place, tool, bit);
 }
 
 // What was done.
@@ -73,21 +74,21 @@ pub fn summary(frames: usize, samples: usize, octets: usize) {
 }
 
 // How a tool is called.
-fn say_usage(packs: bool) {
-    if packs {
-        say(b"usage: pack [-u|-a] [-l|-w] [-n#] [-s#] [-f] [INFILE [OUTFILE]]\n");
-    } else {
-        say(b"usage: unpack [-u|-a] [-l|-w] [-s#] [-c MASTER] [INFILE [OUTFILE]]\n");
+fn say_usage(tool: u32) {
+    match tool {
+        0 => say(b"usage: unpack [-u|-a] [-l|-w] [-s#] [-c MASTER] [INFILE [OUTFILE]]\n"),
+        1 => say(b"usage: pack [-u|-a] [-l|-w] [-n#] [-s#] [-f] [INFILE [OUTFILE]]\n"),
+        _ => say(b"usage: why [-u|-a] [-s#] [-n#] [-k#] [INFILE]\n"),
     }
 }
 
 // A call that is wrong, why, and the last line.
-pub fn usage(packs: bool, why: &[u8]) {
-    say_tool(packs);
+pub fn usage(tool: u32, why: &[u8]) {
+    say_tool(tool);
     say(why);
     say(b"\n");
-    say_usage(packs);
-    stop(packs, 64, 0, 0, 0);
+    say_usage(tool);
+    stop(tool, 64, 0, 0, 0);
 }
 
 // Says an argument, or its number where it is too long.
@@ -114,12 +115,12 @@ fn say_wrong(wrong: u32) {
 
 // Settings that are wrong, and the last line.
 pub fn wrong_settings(s: Settings) {
-    say_tool(s.packs);
+    say_tool(s.tool);
     say_wrong(s.wrong);
     say_argument(s.place);
     say(b"\n");
-    say_usage(s.packs);
-    stop(s.packs, 64, 0, 0, 0);
+    say_usage(s.tool);
+    stop(s.tool, 64, 0, 0, 0);
 }
 
 // One argument more.
@@ -132,11 +133,11 @@ fn settings_after(s: Settings, i: usize, text: &mut [u8]) -> Settings {
 }
 
 // The settings that all arguments make, up to the first that is wrong.
-pub fn settings(packs: bool) -> Settings {
+pub fn settings(tool: u32) -> Settings {
     let mut text = [0u8; 4095];
     let view: &mut [u8] = &mut text;
     let count = os::arg_count();
-    let mut s = options::at_first(packs);
+    let mut s = options::at_first(tool);
     let mut i = 1;
     while i < count && s.wrong == 0 {
         let next = settings_after(s, i, view);
@@ -177,7 +178,7 @@ pub fn target_name(s: Settings, law: u32, source: &[u8], name: &mut [u8]) -> Tar
     if source.len() == 0 {
         return Target { len: 0, fits: true };
     }
-    let len = filenames::new_name(s.packs, law, source, name);
+    let len = filenames::new_name(s.tool != UNPACK, law, source, name);
     Target {
         len,
         fits: len != 0,
@@ -209,14 +210,14 @@ pub fn close(fd: i32) -> bool {
 }
 
 // A file that could not be opened, read or written: why, and the last line.
-pub fn failed(packs: bool, name: &[u8], standard: &[u8]) {
-    say_tool(packs);
+pub fn failed(tool: u32, name: &[u8], standard: &[u8]) {
+    say_tool(tool);
     if name.len() == 0 {
         os::fail(standard);
     } else {
         os::fail(name);
     }
-    stop(packs, 74, 0, 0, 0);
+    stop(tool, 74, 0, 0, 0);
 }
 
 // How many octets were read, and whether a read failed.

@@ -9,6 +9,8 @@ use Rattle.rules.specs.Frame.{Found}
 use Rattle.rules.specs.Bits.{octetsFor, pack}
 use Rattle.rules.specs.Chooses.{Write}
 use Rattle.rules.specs.Walk.{Walked, octetsKept, samplesKept}
+use Rattle.reasons.specs.declared.Why.{Why}
+use Rattle.reasons.specs.Calls.{whyEnding, whyText}
 use Rattle.linear.specs.Calls.{judged, after}
 use Rattle.rules.specs.Calls.{readEnd, readSamples, readOctets, readBits, readTool, readBit, writeEnd, writtenBits, writeTool, atStart}
 
@@ -29,6 +31,12 @@ pub record WriteReported (written : Write) (out out′ three : List ℕ) (r : �
   pub number : r ≡ numberOf (writeEnd written)
   pub report : three ≡ octetsFor (length (writtenBits written)) ∷ length (writtenBits written) ∷ writeTool written ∷ []
   pub lent : out′ ≡ atStart (pack (writtenBits written)) out
+
+-- why a tool wins: the number; the octets of text; the text at the start of what is lent, the rest as lent
+pub record WhyReported (why : Why) (text text′ one : List ℕ) (r : ℕ) : Type 0 where
+  pub number : r ≡ whyEnding why
+  pub report : one ≡ length (whyText why) ∷ []
+  pub lent : text′ ≡ atStart (whyText why) text
 
 -- a frame converted: the number; the values at the start of the output, the rest as lent, or all of it as lent
 pub record Converted {A : Type 0} (law n : ℕ) (ys out out′ : List A) (r : ℕ) : Type 0 where

@@ -7,8 +7,10 @@ ghost use Rattle.rules.specs.Walk.{walkAll};
 ghost use Rattle.rules.specs.Chooses.{writeOne};
 ghost use Rattle.settings.specs.Calls.{Wipe};
 ghost use Rattle.g7110.specs.Settings.{SaveReported, BackReported, RevisionReported};
+ghost use Rattle.reasons.specs.Why.{whyOne};
 ghost use Rattle.linear.specs.Equations.{toPCM, fromPCM};
-ghost use Rattle.g7110.specs.Boundary.{ReadReported, WalkReported, WriteReported, Converted};
+ghost use Rattle.g7110.specs.Boundary.{ReadReported, WalkReported, WriteReported, WhyReported, Converted};
+use reasons::Why;
 
 // Reading one frame: the number, and in the report samples, octets used, bits, tool and the refusal's bit.
 #[no_mangle]
@@ -72,6 +74,30 @@ pub extern "C" fn g7110_write(
     *report = [a.octets as u64, a.bits as u64, a.tool as u64];
     let end = a.end;
     rules::number_of(end)
+}
+
+// Why the writer takes its tool: the number, and in the report the octets of text.
+#[no_mangle]
+pub extern "C" fn g7110_why(
+    samples: &[u8],
+    law: u32,
+    set: u32,
+    text: &mut [u8; 512],
+    report: &mut [u64; 1],
+) -> u32
+    ensures { λ r. ⌜ WhyReported (whyOne (length (now (samples .entry))) (now (samples .entry)) law set) (now (text .entry)) (now (text .exit)) (now (report .exit)) r ⌝ }
+{
+    match reasoning::why_samples(samples, law, set) {
+        Why::Refused(why) => {
+            *report = [0];
+            rules::refusal_number(why)
+        }
+        Why::Told(r) => {
+            let octets = reasons::text_of(r, text);
+            *report = [octets as u64];
+            0
+        }
+    }
 }
 
 // A frame of octets to linear values.

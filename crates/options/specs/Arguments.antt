@@ -13,91 +13,114 @@ use Rattle.rules.specs.Tools.{allTools}
 use Rattle.filenames.specs.Names.{unknown, lawTold}
 use Rattle.texts.specs.Numbers.{numberIn}
 
--- what follows an option: nothing (0), MASTER (1), the frame length (2), the tool set (3)
--- "-s#", for `pack` "-n#", for `unpack` "-c MASTER"
-unfoldable pub wantedBy : Bool → ℕ → ℕ
-wantedBy packs x =
-    cond (eqb x 0x73) 3 (cond (packs && eqb x 0x6E) 2 (cond (not packs && eqb x 0x63) 1 0))
+-- the tools: `unpack`, `pack`, and `why`, which says why `pack` takes its tools
+abbrev pub unpack : ℕ
+unpack = 0
 
--- an option of one letter: "-u", "-a", for `pack` "-f"; "-l", a master of linear values, and "-w", a WAV file; or one whose word is the next argument
-unfoldable pub letterOf : Bool → ℕ → Argument
-letterOf packs x =
-    cond (eqb x 0x75) (Law 1) (cond (eqb x 0x61) (Law 0) (cond (eqb x 0x66) (cond packs Fill Unknown)
-    (cond (eqb x 0x6C) (Form 1) (cond (eqb x 0x77) (Form 2)
-    (cond (eqb (wantedBy packs x) 0) Unknown (Waits (wantedBy packs x)))))))
+abbrev pub pack : ℕ
+pack = 1
+
+abbrev pub why : ℕ
+why = 2
+
+-- what follows an option: nothing (0), MASTER (1), the frame length (2), the tool set (3), a frame (4)
+-- "-s#", for `unpack` "-c MASTER", for the others "-n#", for `why` "-k#"
+unfoldable pub wantedBy : ℕ → ℕ → ℕ
+wantedBy tool x =
+    cond (eqb x 0x73) 3 (cond (eqb tool unpack) (cond (eqb x 0x63) 1 0)
+    (cond (eqb x 0x6E) 2 (cond (eqb tool why && eqb x 0x6B) 4 0)))
+
+-- "-l", a master of linear values, and "-w", a WAV file; `why` reads raw sound alone
+abbrev pub formOption : ℕ → ℕ → Argument
+formOption tool f = cond (eqb tool why) Unknown (Form f)
+
+-- an option of one letter: "-u", "-a", for `pack` "-f"; "-l", "-w"; or one whose word is the next argument
+unfoldable pub letterOf : ℕ → ℕ → Argument
+letterOf tool x =
+    cond (eqb x 0x75) (Law 1) (cond (eqb x 0x61) (Law 0) (cond (eqb x 0x66) (cond (eqb tool pack) Fill Unknown)
+    (cond (eqb x 0x6C) (formOption tool 1) (cond (eqb x 0x77) (formOption tool 2)
+    (cond (eqb (wantedBy tool x) 0) Unknown (Waits (wantedBy tool x)))))))
 
 -- an option with its number
-unfoldable pub numberedOf : Bool → ℕ → List ℕ → Argument
-numberedOf packs x rest = cond (leb 2 (wantedBy packs x)) (Counts (wantedBy packs x) (numberIn rest)) Unknown
+unfoldable pub numberedOf : ℕ → ℕ → List ℕ → Argument
+numberedOf tool x rest = cond (leb 2 (wantedBy tool x)) (Counts (wantedBy tool x) (numberIn rest)) Unknown
 
 -- what an argument is; "-" alone is a file, and so is what has no '-' in front; an empty one is nothing that is known
-unfoldable pub argumentOf : Bool → List ℕ → Argument
-argumentOf packs text =
+unfoldable pub argumentOf : ℕ → List ℕ → Argument
+argumentOf tool text =
     cond (eqb (length text) 0) Unknown
     (cond (eqb (length text) 1 || not (eqb (getD text 0 0) 0x2D)) File
-    (cond (eqb (length text) 2) (letterOf packs (getD text 1 0)) (numberedOf packs (getD text 1 0) (drop 2 text))))
+    (cond (eqb (length text) 2) (letterOf tool (getD text 1 0)) (numberedOf tool (getD text 1 0) (drop 2 text))))
 
 -- before any argument: the frame length is 160 and the set has all tools unless said; the sound is raw G.711 (0); files are given by their arguments' numbers, 0 is none
-abbrev pub atFirst : Bool → Settings
-atFirst packs =
-    record { packs = packs; law = unknown; length = 160; set = allTools; fill = false; form = 0; infile = 0; outfile = 0; master = 0; wants = 0; wrong = 0; place = 0 }
+abbrev pub atFirst : ℕ → Settings
+atFirst tool =
+    record { tool = tool; law = unknown; length = 160; set = allTools; fill = false; form = 0; only = false; frame = 0; infile = 0; outfile = 0; master = 0; wants = 0; wrong = 0; place = 0 }
 
 -- what is wrong with argument i: an option that is not known (1), no number (2), a file too many (3), a word that is missing (4), too long (5)
 abbrev pub withWrong : Settings → ℕ → ℕ → Settings
 withWrong s why i =
-    record { packs = s .packs; law = s .law; length = s .length; set = s .set; fill = s .fill; form = s .form; infile = s .infile; outfile = s .outfile; master = s .master; wants = s .wants; wrong = why; place = i }
+    record { tool = s .tool; law = s .law; length = s .length; set = s .set; fill = s .fill; form = s .form; only = s .only; frame = s .frame; infile = s .infile; outfile = s .outfile; master = s .master; wants = s .wants; wrong = why; place = i }
 
 -- -u, -a
 abbrev pub withLaw : Settings → ℕ → Settings
 withLaw s l =
-    record { packs = s .packs; law = l; length = s .length; set = s .set; fill = s .fill; form = s .form; infile = s .infile; outfile = s .outfile; master = s .master; wants = s .wants; wrong = s .wrong; place = s .place }
+    record { tool = s .tool; law = l; length = s .length; set = s .set; fill = s .fill; form = s .form; only = s .only; frame = s .frame; infile = s .infile; outfile = s .outfile; master = s .master; wants = s .wants; wrong = s .wrong; place = s .place }
 
 -- -f
 abbrev pub withFill : Settings → Settings
 withFill s =
-    record { packs = s .packs; law = s .law; length = s .length; set = s .set; fill = true; form = s .form; infile = s .infile; outfile = s .outfile; master = s .master; wants = s .wants; wrong = s .wrong; place = s .place }
+    record { tool = s .tool; law = s .law; length = s .length; set = s .set; fill = true; form = s .form; only = s .only; frame = s .frame; infile = s .infile; outfile = s .outfile; master = s .master; wants = s .wants; wrong = s .wrong; place = s .place }
 
 -- -l (1), -w (2)
 abbrev pub withForm : Settings → ℕ → Settings
 withForm s f =
-    record { packs = s .packs; law = s .law; length = s .length; set = s .set; fill = s .fill; form = f; infile = s .infile; outfile = s .outfile; master = s .master; wants = s .wants; wrong = s .wrong; place = s .place }
+    record { tool = s .tool; law = s .law; length = s .length; set = s .set; fill = s .fill; form = f; only = s .only; frame = s .frame; infile = s .infile; outfile = s .outfile; master = s .master; wants = s .wants; wrong = s .wrong; place = s .place }
 
 -- the next argument is this option's word
 abbrev pub withWants : Settings → ℕ → Settings
 withWants s w =
-    record { packs = s .packs; law = s .law; length = s .length; set = s .set; fill = s .fill; form = s .form; infile = s .infile; outfile = s .outfile; master = s .master; wants = w; wrong = s .wrong; place = s .place }
+    record { tool = s .tool; law = s .law; length = s .length; set = s .set; fill = s .fill; form = s .form; only = s .only; frame = s .frame; infile = s .infile; outfile = s .outfile; master = s .master; wants = w; wrong = s .wrong; place = s .place }
 
 -- -c MASTER
 abbrev pub withMaster : Settings → ℕ → Settings
 withMaster s i =
-    record { packs = s .packs; law = s .law; length = s .length; set = s .set; fill = s .fill; form = s .form; infile = s .infile; outfile = s .outfile; master = i; wants = 0; wrong = s .wrong; place = s .place }
+    record { tool = s .tool; law = s .law; length = s .length; set = s .set; fill = s .fill; form = s .form; only = s .only; frame = s .frame; infile = s .infile; outfile = s .outfile; master = i; wants = 0; wrong = s .wrong; place = s .place }
 
 -- -n#
 abbrev pub withLength : Settings → ℕ → Settings
 withLength s n =
-    record { packs = s .packs; law = s .law; length = n; set = s .set; fill = s .fill; form = s .form; infile = s .infile; outfile = s .outfile; master = s .master; wants = 0; wrong = s .wrong; place = s .place }
+    record { tool = s .tool; law = s .law; length = n; set = s .set; fill = s .fill; form = s .form; only = s .only; frame = s .frame; infile = s .infile; outfile = s .outfile; master = s .master; wants = 0; wrong = s .wrong; place = s .place }
+
+-- -k#
+abbrev pub withFrame : Settings → ℕ → Settings
+withFrame s k =
+    record { tool = s .tool; law = s .law; length = s .length; set = s .set; fill = s .fill; form = s .form; only = true; frame = k; infile = s .infile; outfile = s .outfile; master = s .master; wants = 0; wrong = s .wrong; place = s .place }
 
 -- -s#
 abbrev pub withSet : Settings → ℕ → Settings
 withSet s n =
-    record { packs = s .packs; law = s .law; length = s .length; set = n; fill = s .fill; form = s .form; infile = s .infile; outfile = s .outfile; master = s .master; wants = 0; wrong = s .wrong; place = s .place }
+    record { tool = s .tool; law = s .law; length = s .length; set = n; fill = s .fill; form = s .form; only = s .only; frame = s .frame; infile = s .infile; outfile = s .outfile; master = s .master; wants = 0; wrong = s .wrong; place = s .place }
 
 -- INFILE
 abbrev pub withInfile : Settings → ℕ → Settings
 withInfile s i =
-    record { packs = s .packs; law = s .law; length = s .length; set = s .set; fill = s .fill; form = s .form; infile = i; outfile = s .outfile; master = s .master; wants = s .wants; wrong = s .wrong; place = s .place }
+    record { tool = s .tool; law = s .law; length = s .length; set = s .set; fill = s .fill; form = s .form; only = s .only; frame = s .frame; infile = i; outfile = s .outfile; master = s .master; wants = s .wants; wrong = s .wrong; place = s .place }
 
 -- OUTFILE
 abbrev pub withOutfile : Settings → ℕ → Settings
 withOutfile s i =
-    record { packs = s .packs; law = s .law; length = s .length; set = s .set; fill = s .fill; form = s .form; infile = s .infile; outfile = i; master = s .master; wants = s .wants; wrong = s .wrong; place = s .place }
+    record { tool = s .tool; law = s .law; length = s .length; set = s .set; fill = s .fill; form = s .form; only = s .only; frame = s .frame; infile = s .infile; outfile = i; master = s .master; wants = s .wants; wrong = s .wrong; place = s .place }
 
--- the first file is INFILE, the second OUTFILE, and there is no third
+-- the first file is INFILE, the second OUTFILE, which `why` does not have, and there is no third
 unfoldable pub withFile : Settings → ℕ → Settings
-withFile s i = cond (eqb (s .infile) 0) (withInfile s i) (cond (eqb (s .outfile) 0) (withOutfile s i) (withWrong s 3 i))
+withFile s i =
+    cond (eqb (s .infile) 0) (withInfile s i)
+    (cond (eqb (s .tool) why) (withWrong s 3 i)
+    (cond (eqb (s .outfile) 0) (withOutfile s i) (withWrong s 3 i)))
 
 abbrev pub withNumber : Settings → ℕ → Number → ℕ → Settings
-withNumber s w (Is n) i = cond (eqb w 2) (withLength s n) (withSet s n)
+withNumber s w (Is n) i = cond (eqb w 2) (withLength s n) (cond (eqb w 4) (withFrame s n) (withSet s n))
 withNumber s w Not i = withWrong s 2 i
 
 abbrev pub withArgument : Settings → Argument → ℕ → Settings
@@ -113,7 +136,7 @@ withArgument s Unknown i = withWrong s 1 i
 unfoldable pub stepOf : Settings → List ℕ → ℕ → Settings
 stepOf s text i =
     cond (not (eqb (s .wrong) 0)) s
-    (cond (eqb (s .wants) 0) (withArgument s (argumentOf (s .packs) text) i)
+    (cond (eqb (s .wants) 0) (withArgument s (argumentOf (s .tool) text) i)
     (cond (eqb (s .wants) 1) (withMaster s i) (withNumber s (s .wants) (numberIn text) i)))
 
 -- after the last of n arguments
@@ -122,4 +145,4 @@ endOf s n = cond (not (eqb (s .wrong) 0) || eqb (s .wants) 0) s (withWrong s 4 n
 
 -- the law: as an option says, otherwise as INFILE's name tells
 unfoldable pub lawOf : Settings → List ℕ → ℕ
-lawOf s name = cond (eqb (s .law) unknown) (lawTold (s .packs) name) (s .law)
+lawOf s name = cond (eqb (s .law) unknown) (lawTold (not (eqb (s .tool) unpack)) name) (s .law)

@@ -1,12 +1,19 @@
 // The words of a command line: what an argument is, and the settings that the arguments make.
 ghost use mathlib.Core.Path.{_≡_};
 ghost use lib.ListN.{length};
-ghost use Rattle.options.specs.Arguments.{wantedBy, letterOf, numberedOf, argumentOf, atFirst, withWrong, withFile, withNumber, withArgument, stepOf, endOf, lawOf};
+ghost use Rattle.options.specs.Arguments.{wantedBy, formOption, letterOf, numberedOf, argumentOf, atFirst, withWrong, withFile, withNumber, withArgument, stepOf, endOf, lawOf};
 use filenames::law_told;
 use texts::Number;
 use texts::number_in;
 
-// What an argument is. `Waits` and `Counts` say what follows an option: MASTER (1), the frame length (2), the tool set (3).
+// The tools: `unpack`, `pack`, and `why`, which says why `pack` takes its tools.
+pub const UNPACK: u32 = 0;
+
+pub const PACK: u32 = 1;
+
+pub const WHY: u32 = 2;
+
+// What an argument is. `Waits` and `Counts` say what follows an option: MASTER (1), the frame length (2), the tool set (3), a frame (4).
 pub enum Argument {
     File,
     Law(u32),
@@ -21,12 +28,14 @@ pub enum Argument {
 // `wrong` says what is wrong with argument `place`: 1 an option that is not known, 2 no number, 3 a file too many,
 // 4 a word that is missing, 5 too long.
 pub struct Settings {
-    pub packs: bool,
+    pub tool: u32,
     pub law: u32,
     pub length: u32,
     pub set: u32,
     pub fill: bool,
     pub form: u32,
+    pub only: bool,
+    pub frame: u32,
     pub infile: usize,
     pub outfile: usize,
     pub master: usize,
@@ -35,16 +44,18 @@ pub struct Settings {
     pub place: usize,
 }
 
-pub fn at_first(packs: bool) -> Settings
-    ensures { λ r. ⌜ r ≡ atFirst packs ⌝ }
+pub fn at_first(tool: u32) -> Settings
+    ensures { λ r. ⌜ r ≡ atFirst tool ⌝ }
 {
     Settings {
-        packs,
+        tool,
         law: 2,
         length: 160,
         set: rules::ALL_TOOLS,
         fill: false,
         form: 0,
+        only: false,
+        frame: 0,
         infile: 0,
         outfile: 0,
         master: 0,
@@ -62,28 +73,44 @@ pub fn with_wrong(mut s: Settings, why: u32, index: usize) -> Settings
     s
 }
 
-// What follows an option: "-s#", for `pack` "-n#", for `unpack` "-c MASTER".
-fn wanted_by(packs: bool, letter: u8) -> u32
-    ensures { λ r. ⌜ r ≡ wantedBy packs letter ⌝ }
+// What follows an option: "-s#", for `unpack` "-c MASTER", for the others "-n#", for `why` "-k#".
+fn wanted_by(tool: u32, letter: u8) -> u32
+    ensures { λ r. ⌜ r ≡ wantedBy tool letter ⌝ }
 {
     if letter == b's' {
         return 3;
     }
-    if packs {
-        if letter == b'n' {
-            return 2;
+    if tool == UNPACK {
+        if letter == b'c' {
+            return 1;
         }
         return 0;
     }
-    if letter == b'c' {
-        return 1;
+    if letter == b'n' {
+        return 2;
+    }
+    if tool != WHY {
+        return 0;
+    }
+    if letter == b'k' {
+        return 4;
     }
     0
 }
 
+// The form of the sound: "-l", linear values, and "-w", a WAV file. `why` reads raw sound alone.
+fn form_option(tool: u32, form: u32) -> Argument
+    ensures { λ r. ⌜ r ≡ formOption tool form ⌝ }
+{
+    if tool == WHY {
+        return Argument::Unknown;
+    }
+    Argument::Form(form)
+}
+
 // An option of one letter, or one whose word is the next argument.
-fn letter_option(packs: bool, letter: u8) -> Argument
-    ensures { λ r. ⌜ r ≡ letterOf packs letter ⌝ }
+fn letter_option(tool: u32, letter: u8) -> Argument
+    ensures { λ r. ⌜ r ≡ letterOf tool letter ⌝ }
 {
     if letter == b'u' {
         return Argument::Law(1);
@@ -92,18 +119,18 @@ fn letter_option(packs: bool, letter: u8) -> Argument
         return Argument::Law(0);
     }
     if letter == b'f' {
-        if packs {
+        if tool == PACK {
             return Argument::Fill;
         }
         return Argument::Unknown;
     }
     if letter == b'l' {
-        return Argument::Form(1);
+        return form_option(tool, 1);
     }
     if letter == b'w' {
-        return Argument::Form(2);
+        return form_option(tool, 2);
     }
-    let wanted = wanted_by(packs, letter);
+    let wanted = wanted_by(tool, letter);
     if wanted == 0 {
         return Argument::Unknown;
     }
@@ -111,10 +138,10 @@ fn letter_option(packs: bool, letter: u8) -> Argument
 }
 
 // An option with its number.
-fn numbered_option(packs: bool, letter: u8, rest: &[u8]) -> Argument
-    ensures { λ r. ⌜ r ≡ numberedOf packs letter (now (rest .entry)) ⌝ }
+fn numbered_option(tool: u32, letter: u8, rest: &[u8]) -> Argument
+    ensures { λ r. ⌜ r ≡ numberedOf tool letter (now (rest .entry)) ⌝ }
 {
-    let wanted = wanted_by(packs, letter);
+    let wanted = wanted_by(tool, letter);
     if wanted < 2 {
         return Argument::Unknown;
     }
@@ -123,8 +150,8 @@ fn numbered_option(packs: bool, letter: u8, rest: &[u8]) -> Argument
 }
 
 // What an argument is; "-" alone is a file, and so is what has no '-' in front; an empty one is nothing that is known.
-pub fn argument_in(packs: bool, text: &[u8]) -> Argument
-    ensures { λ r. ⌜ r ≡ argumentOf packs (now (text .entry)) ⌝ }
+pub fn argument_in(tool: u32, text: &[u8]) -> Argument
+    ensures { λ r. ⌜ r ≡ argumentOf tool (now (text .entry)) ⌝ }
 {
     if text.len() == 0 {
         return Argument::Unknown;
@@ -136,18 +163,21 @@ pub fn argument_in(packs: bool, text: &[u8]) -> Argument
         return Argument::File;
     }
     if text.len() == 2 {
-        return letter_option(packs, text[1]);
+        return letter_option(tool, text[1]);
     }
-    numbered_option(packs, text[1], &text[2..])
+    numbered_option(tool, text[1], &text[2..])
 }
 
-// The first file is INFILE, the second OUTFILE, and there is no third.
+// The first file is INFILE, the second OUTFILE, which `why` does not have, and there is no third.
 fn with_file(mut s: Settings, index: usize) -> Settings
     ensures { λ r. ⌜ r ≡ withFile s index ⌝ }
 {
     if s.infile == 0 {
         s.infile = index;
         return s;
+    }
+    if s.tool == WHY {
+        return with_wrong(s, 3, index);
     }
     if s.outfile == 0 {
         s.outfile = index;
@@ -156,7 +186,7 @@ fn with_file(mut s: Settings, index: usize) -> Settings
     with_wrong(s, 3, index)
 }
 
-// The number of "-n" or "-s".
+// The number of "-n", "-k" or "-s".
 fn with_number(mut s: Settings, which: u32, n: Number, index: usize) -> Settings
     ensures { λ r. ⌜ r ≡ withNumber s which n index ⌝ }
 {
@@ -166,6 +196,11 @@ fn with_number(mut s: Settings, which: u32, n: Number, index: usize) -> Settings
     s.wants = 0;
     if which == 2 {
         s.length = v;
+        return s;
+    }
+    if which == 4 {
+        s.only = true;
+        s.frame = v;
         return s;
     }
     s.set = v;
@@ -206,7 +241,7 @@ pub fn step(mut s: Settings, text: &[u8], index: usize) -> Settings
         return s;
     }
     if s.wants == 0 {
-        let a = argument_in(s.packs, text);
+        let a = argument_in(s.tool, text);
         return with_argument(s, a, index);
     }
     if s.wants == 1 {
@@ -236,7 +271,7 @@ pub fn law_of(s: Settings, name: &[u8]) -> u32
     ensures { λ r. ⌜ r ≡ lawOf s (now (name .entry)) ⌝ }
 {
     if s.law == 2 {
-        return law_told(s.packs, name);
+        return law_told(s.tool != UNPACK, name);
     }
     s.law
 }

@@ -7,6 +7,7 @@ ghost use lib.ListN.{length};
 ghost use Rattle.rules.specs.Walk.{longest};
 ghost use Rattle.cutting.specs.Parts.{partSize};
 ghost use Rattle.pack.specs.Runs.{FilledIf, WholeSound, Stands, stepsLeft};
+use options::PACK;
 use options::Settings;
 use packing::PackAnswer;
 use rules::Ending;
@@ -109,17 +110,17 @@ fn write_stream(run: Run, s: Settings, name: &[u8], out: &[u8])
 {
     let fd = console::open_out(name);
     if fd < 0 {
-        console::failed(true, name, b"standard output");
+        console::failed(PACK, name, b"standard output");
         return;
     }
     let p = run.packed;
     let to = p.octets;
     if !io::write_all(fd, &out[..to]) {
-        console::failed(true, name, b"standard output");
+        console::failed(PACK, name, b"standard output");
         return;
     }
     if !console::close(fd) {
-        console::failed(true, name, b"standard output");
+        console::failed(PACK, name, b"standard output");
         return;
     }
     console::summary(p.frames, p.samples, to);
@@ -127,7 +128,7 @@ fn write_stream(run: Run, s: Settings, name: &[u8], out: &[u8])
         console::say_number(b"filled=", run.filled);
         console::say(b"\n");
     }
-    console::stop(true, 0, p.samples, 0, 0);
+    console::stop(PACK, 0, p.samples, 0, 0);
 }
 
 // Whether a master ends before it should. A stream that is too long ends the reading too.
@@ -143,7 +144,7 @@ fn finish(run: Run, s: Settings, in_name: &[u8], out_name: &[u8], out: &[u8])
     requires { ⌜ Stands s (now out) run ⌝ }
 {
     if run.failed {
-        console::failed(true, in_name, b"standard input");
+        console::failed(PACK, in_name, b"standard input");
         return;
     }
     let p = run.packed;
@@ -151,12 +152,12 @@ fn finish(run: Run, s: Settings, in_name: &[u8], out_name: &[u8], out: &[u8])
     let number = cutting::number_for(e);
     if is_cut(run.left, number) {
         console::say(b"pack: the master ends inside its sound\n");
-        console::stop(true, 74, 0, 0, 0);
+        console::stop(PACK, 74, 0, 0, 0);
         return;
     }
     if number != 0 {
         explain_sound(number);
-        console::refused(true, number, p.samples, 0, 0);
+        console::refused(PACK, number, p.samples, 0, 0);
         return;
     }
     write_stream(run, s, out_name, out);
@@ -171,17 +172,17 @@ fn pack_file(s: Settings, in_name: &[u8], out_name: &[u8], part: &mut [u8], out:
     let number = rules::number_of(e);
     if number != 0 {
         explain_settings(number);
-        console::refused(true, number, 0, 0, 0);
+        console::refused(PACK, number, 0, 0, 0);
         return;
     }
     let fd = console::open_in(in_name);
     if fd < 0 {
-        console::failed(true, in_name, b"standard input");
+        console::failed(PACK, in_name, b"standard input");
         return;
     }
     let o = sounds::open_sound(fd, s.form, part);
     if o.trouble != 0 {
-        console::stop(true, 74, 0, 0, 0);
+        console::stop(PACK, 74, 0, 0, 0);
         return;
     }
     let start = Run {
@@ -199,7 +200,7 @@ fn pack_file(s: Settings, in_name: &[u8], out_name: &[u8], part: &mut [u8], out:
 fn pack_named(s: Settings, in_name: &[u8], name: &mut [u8]) {
     let t = console::target_name(s, s.law, in_name, name);
     if !t.fits {
-        console::usage(true, b"the name of INFILE is too long for another ending");
+        console::usage(PACK, b"the name of INFILE is too long for another ending");
         return;
     }
     let n = t.len;
@@ -214,7 +215,7 @@ fn pack_with(mut s: Settings, space: &mut [u8], name: &mut [u8]) {
     let in_name: &[u8] = &space[..n];
     let law = options::law_of(s, in_name);
     if law == 2 {
-        console::usage(true, b"the law is not known: say -u or -a");
+        console::usage(PACK, b"the law is not known: say -u or -a");
         return;
     }
     s.law = law;
@@ -222,7 +223,7 @@ fn pack_with(mut s: Settings, space: &mut [u8], name: &mut [u8]) {
 }
 
 fn main() {
-    let s = console::settings(true);
+    let s = console::settings(PACK);
     if s.wrong != 0 {
         console::wrong_settings(s);
         return;

@@ -3,6 +3,7 @@
 ghost use Prim.Native.Nat.{_≤_, _<_};
 ghost use mathlib.Core.Path.{_≡_};
 ghost use lib.ListN.{length};
+use options::PACK;
 use wave::Heading;
 use wave::Wrong;
 
@@ -87,7 +88,7 @@ fn say_what(before: &[u8], what: u32, after: &[u8]) {
 
 // Why a WAV file is refused.
 fn say_wrong(why: Wrong) {
-    console::say_tool(true);
+    console::say_tool(PACK);
     match why {
         Wrong::NotWave => console::say(b"this is no WAV file\n"),
         Wrong::Format(what) => say_what(b"the WAV file has format ", what, b", and PCM is 1\n"),
@@ -143,7 +144,7 @@ fn more_octets(fd: i32, n: usize, k: usize, space: &mut [u8]) -> usize
 }
 
 fn say_no_heading() {
-    console::say_tool(true);
+    console::say_tool(PACK);
     console::say(b"the WAV file ends inside its heading, or the heading is too long\n");
 }
 

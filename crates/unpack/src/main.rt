@@ -9,6 +9,7 @@ ghost use Rattle.rules.specs.Walk.{longest};
 ghost use Rattle.unpack.specs.Runs.{NextSound, UsesUpTo, TellsWalk};
 use console::Got;
 use options::Settings;
+use options::UNPACK;
 use rules::Ending;
 use unpacking::Part;
 
@@ -182,10 +183,10 @@ fn finish(t: Total) {
     let end = t.end;
     let number = rules::number_of(end);
     if number == 0 {
-        console::stop(false, 0, t.at, 0, 0);
+        console::stop(UNPACK, 0, t.at, 0, 0);
         return;
     }
-    console::refused(false, number, t.at, rules::tool_of(end), t.bit);
+    console::refused(UNPACK, number, t.at, rules::tool_of(end), t.bit);
 }
 
 // Reads the stream, and one octet more where it is too long; says what failed.
@@ -194,7 +195,7 @@ fn read_stream(name: &[u8], stream: &mut [u8]) -> Got
 {
     let fd = console::open_in(name);
     if fd < 0 {
-        console::failed(false, name, b"standard input");
+        console::failed(UNPACK, name, b"standard input");
         return Got {
             count: 0,
             failed: true,
@@ -202,7 +203,7 @@ fn read_stream(name: &[u8], stream: &mut [u8]) -> Got
     }
     let got = console::read_part(fd, stream);
     if got.failed {
-        console::failed(false, name, b"standard input");
+        console::failed(UNPACK, name, b"standard input");
     }
     console::close(fd);
     got
@@ -225,20 +226,20 @@ fn write_to(stream: &[u8], law: u32, set: u32, form: u32, name: &[u8])
 {
     let fd = console::open_out(name);
     if fd < 0 {
-        console::failed(false, name, b"standard output");
+        console::failed(UNPACK, name, b"standard output");
         return;
     }
     if !heading_written(stream, law, set, form, fd) {
-        console::failed(false, name, b"standard output");
+        console::failed(UNPACK, name, b"standard output");
         return;
     }
     let t = all_parts(stream, law, set, false, fd, form);
     if t.wrong != NOTHING {
-        console::failed(false, name, b"standard output");
+        console::failed(UNPACK, name, b"standard output");
         return;
     }
     if !console::close(fd) {
-        console::failed(false, name, b"standard output");
+        console::failed(UNPACK, name, b"standard output");
         return;
     }
     finish(t);
@@ -246,7 +247,7 @@ fn write_to(stream: &[u8], law: u32, set: u32, form: u32, name: &[u8])
 
 // Where the master differs, and the last line.
 fn differs(wrong: u32, place: usize) {
-    console::say_tool(false);
+    console::say_tool(UNPACK);
     if wrong == SHORTER {
         console::say_number(b"the master is shorter: it ends at octet ", place);
     } else if wrong == LONGER {
@@ -255,7 +256,7 @@ fn differs(wrong: u32, place: usize) {
         console::say_number(b"the sound differs from the master at octet ", place);
     }
     console::say(b"\n");
-    console::stop(false, 65, place, 0, 0);
+    console::stop(UNPACK, 65, place, 0, 0);
 }
 
 // What is wrong with a master after its octets for all the sound: nothing, or it is longer.
@@ -274,7 +275,7 @@ fn left_over(fd: i32) -> u32 {
 // What a comparison came to. A frame that is refused comes before what a master has left over.
 fn conclude(t: Total, fd: i32, name: &[u8]) {
     if t.wrong == FAILED {
-        console::failed(false, name, b"standard input");
+        console::failed(UNPACK, name, b"standard input");
         return;
     }
     if t.wrong != NOTHING {
@@ -288,7 +289,7 @@ fn conclude(t: Total, fd: i32, name: &[u8]) {
     }
     let wrong = left_over(fd);
     if wrong == FAILED {
-        console::failed(false, name, b"standard input");
+        console::failed(UNPACK, name, b"standard input");
         return;
     }
     if wrong != NOTHING {
@@ -304,7 +305,7 @@ fn compare_with(stream: &[u8], law: u32, set: u32, name: &[u8])
 {
     let fd = console::open_in(name);
     if fd < 0 {
-        console::failed(false, name, b"standard input");
+        console::failed(UNPACK, name, b"standard input");
         return;
     }
     let t = all_parts(stream, law, set, true, fd, 0);
@@ -317,7 +318,7 @@ fn refuses(end: Ending) -> bool
 {
     match end {
         Ending::Refused(why) => {
-            console::refused(false, rules::refusal_number(why), 0, 0, 0);
+            console::refused(UNPACK, rules::refusal_number(why), 0, 0, 0);
             true
         }
         Ending::Done => false,
@@ -354,13 +355,13 @@ fn wrong_form(s: Settings, name: &[u8]) -> bool {
     }
     if s.master != 0 {
         console::usage(
-            false,
+            UNPACK,
             b"-c compares raw G.711, so -l and -w don't go with it",
         );
         return true;
     }
     if s.outfile == 0 && name.len() != 0 {
-        console::usage(false, b"with -l or -w OUTFILE must be said");
+        console::usage(UNPACK, b"with -l or -w OUTFILE must be said");
         return true;
     }
     false
@@ -378,7 +379,7 @@ fn with_names(s: Settings, law: u32, name: &[u8]) {
         }
         let n = console::file_name(s.master, &mut space);
         if name.len() == 0 && n == 0 {
-            console::usage(false, b"INFILE and MASTER can't both be standard input");
+            console::usage(UNPACK, b"INFILE and MASTER can't both be standard input");
             return;
         }
         run(s, law, name, &space[..n]);
@@ -387,7 +388,7 @@ fn with_names(s: Settings, law: u32, name: &[u8]) {
     let target = console::target_name(s, law, name, &mut space);
     let n = target.len;
     if !target.fits {
-        console::usage(false, b"OUTFILE's name would be too long");
+        console::usage(UNPACK, b"OUTFILE's name would be too long");
         return;
     }
     run(s, law, name, &space[..n]);
@@ -395,7 +396,7 @@ fn with_names(s: Settings, law: u32, name: &[u8]) {
 
 // "usage, then LAW, SET, .., then files, then the sound's own"
 fn main() {
-    let s = console::settings(false);
+    let s = console::settings(UNPACK);
     if s.wrong != 0 {
         console::wrong_settings(s);
         return;
@@ -404,7 +405,7 @@ fn main() {
     let n = console::file_name(s.infile, &mut space);
     let law = options::law_of(s, &space[..n]);
     if law == 2 {
-        console::usage(false, b"the law is not known: say -u or -a");
+        console::usage(UNPACK, b"the law is not known: say -u or -a");
         return;
     }
     with_names(s, law, &space[..n]);

@@ -51,4 +51,5 @@ fn tell(fuzz: &Fuzz) {
     println!(
         "fuzz: {reads} frames read, {writes} written, {walks} streams walked, {settings} calls over settings: {differences} differences"
     );
+    println!("fuzz: {}", fuzz.further.words());
 }

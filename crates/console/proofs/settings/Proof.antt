@@ -5,10 +5,10 @@ use Rattle.console.proofs.settings.Statement.{statement}
 use Rattle.console.proofs.settings.Tie as tie
 
 abbrev Inv-loop : tie.InvT-loop
-Inv-loop packs view₀ count s₀ i₀ view s i = 1 ≤ i
+Inv-loop tool view₀ count s₀ i₀ view s i = 1 ≤ i
 
 abbrev μ-loop : tie.MeasureT-loop
-μ-loop packs view₀ count s₀ i₀ view s i = count - i
+μ-loop tool view₀ count s₀ i₀ view s i = count - i
 
 slice-aggregate-view : tie.Need-slice-aggregate-view Inv-loop μ-loop
 slice-aggregate-view c = search needs

@@ -50,7 +50,7 @@ numbered-option-requires c κs = search needs
 returns-5 : tie.Need-returns-5
 unfolding argumentOf
 returns-5 c = rw (ne-eqb _ _ (c .before .before .before .before .before .before .before .if1 .left), ne-eqb _ _ (c .before .before .before .before .before .before .if2 .left), eq-eqb _ _ (c .before .before .before .before .if3 .left), ne-eqb _ _ (c .before .before .before .if4 .left))
-    (c .numbered-option .ensures ∙ ap (numberedOf (c .before .before .before .before .before .before .before .before .before .args .packs) (getD (c .before .before .before .before .before .before .before .before .before .args .text .now) 1 0)) (part-left (c .before .before .before .before .before .before .before .before .before .args .text .now) 2))
+    (c .numbered-option .ensures ∙ ap (numberedOf (c .before .before .before .before .before .before .before .before .before .args .tool) (getD (c .before .before .before .before .before .before .before .before .before .args .text .now) 1 0)) (part-left (c .before .before .before .before .before .before .before .before .before .args .text .now) 2))
 
 pub argument-in-spec : {M : Type 1} → statement M
 argument-in-spec =

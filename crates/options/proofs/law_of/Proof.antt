@@ -1,6 +1,6 @@
-use borrow.Author.Needs.{needs}
 use Rattle.options.specs.Arguments.{lawOf}
 use borrow.Author.Tests.{eq-eqb, ne-eqb}
+use borrow.Author.Needs.{needs}
 use Rattle.options.proofs.law_of.Statement.{statement}
 use Rattle.options.proofs.law_of.Tie as tie
 
@@ -9,7 +9,7 @@ law-told-requires c κs = search needs
 
 returns : tie.Need-returns
 unfolding lawOf
-returns c = rw (eq-eqb _ _ (c .before .if1 .taken)) (c .law-told .ensures)
+returns c = rw (eq-eqb _ _ (c .before .before .if1 .taken)) (c .law-told .ensures)
 
 returns-2 : tie.Need-returns-2
 unfolding lawOf

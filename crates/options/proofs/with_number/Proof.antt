@@ -1,8 +1,8 @@
-use borrow.Author.Needs.{needs}
-use Rattle.options.specs.Arguments.{withNumber}
-use Rattle.texts.specs.declared.Number.{Number}
 use mathlib.Core.Path.{sym, ap, _∙_}
+use Rattle.texts.specs.declared.Number.{Number}
+use Rattle.options.specs.Arguments.{withNumber}
 use borrow.Author.Tests.{eq-eqb, ne-eqb}
+use borrow.Author.Needs.{needs}
 use Rattle.options.proofs.with_number.Statement.{statement}
 use Rattle.options.proofs.with_number.Tie as tie
 
@@ -22,8 +22,12 @@ returns-2 : tie.Need-returns-2
 returns-2 c = rw (c .before .before .n .given .1, eq-eqb _ _ (c .if1 .taken))
 
 returns-3 : tie.Need-returns-3
-returns-3 c = rw (c .before .before .n .given .1, ne-eqb _ _ (c .if1 .left))
+returns-3 c = rw (c .before .before .before .n .given .1, ne-eqb _ _ (c .before .if1 .left), eq-eqb _ _ (c .if2 .taken))
+
+returns-4 : tie.Need-returns-4
+returns-4 c = rw (c .before .before .before .n .given .1, ne-eqb _ _ (c .before .if1 .left), ne-eqb _ _ (c .if2 .left))
 
 pub with-number-spec : {M : Type 1} → statement M
 with-number-spec =
-    tie.close (tie.spec enum-known-n enum-told with-wrong-requires returns returns-2 returns-3)
+    tie.close
+    (tie.spec enum-known-n enum-told with-wrong-requires returns returns-2 returns-3 returns-4)

@@ -1,0 +1,46 @@
+use Prim.Native.Nat.{_≤_}
+use lib.ListN.{length, take}
+use Rattle.reasoning.proofs.Telling.{state-out, state-no, state-fits}
+use lib.Seq.{length-take-le}
+use borrow.Author.Tests.{not-true, not-false}
+use mathlib.Core.Path.{sym, ap, _∙_}
+use borrow.Author.Needs.{needs}
+use Rattle.reasoning.proofs.state_of.Statement.{statement}
+use Rattle.reasoning.proofs.state_of.Tie as tie
+
+-- the frame has samples
+some : (s : tie.Start) → 1 ≤ length (take (s .args .n) (s .args .samples .now))
+some s = rw (length-take-le (s .args .n) (s .args .samples .now) (s .pre .0 .0 .long)) (s .pre .0 .0 .some)
+
+holds-requires : tie.Need-holds-requires
+holds-requires c κs = search needs
+
+returns : tie.Need-returns
+returns c = state-out _ _ _ _ (some (c .before .before .before)) (sym (c .before .holds .ensures) ∙ not-true (c .before .holds .result) (c .if1 .taken))
+
+offer-of-requires : tie.Need-offer-of-requires
+offer-of-requires c κs = search needs
+
+returns-2 : tie.Need-returns-2
+returns-2 c = state-no _ _ _ _ (some (c .before .before .before .before .before .before)) (c .before .before .offer-of .result) (sym (c .before .before .before .before .holds .ensures) ∙ not-false (c .before .before .before .before .holds .result) (c .before .before .before .if1 .left)) (c .before .before .offer-of .ensures) (c .if2 .taken)
+
+octets-for-requires : tie.Need-octets-for-requires
+octets-for-requires c κs = search needs
+
+cast-t10 : tie.Need-cast-t10
+cast-t10 c = search needs
+
+returns-3 : tie.Need-returns-3
+returns-3 c = state-fits _ _ _ _ (some (c .before .before .before .before .before .before .before)) (c .before .before .before .offer-of .result) (sym (c .before .before .before .before .before .holds .ensures) ∙ not-false (c .before .before .before .before .before .holds .result) (c .before .before .before .before .if1 .left)) (c .before .before .before .offer-of .ensures) (c .before .if2 .left) (c .octets-for .ensures)
+
+pub state-of-spec : {M : Type 1} → statement M
+state-of-spec =
+    tie.close
+    (tie.spec
+    holds-requires
+    returns
+    offer-of-requires
+    returns-2
+    octets-for-requires
+    cast-t10
+    returns-3)

@@ -1,0 +1,44 @@
+use borrow.Author.Needs.{needs}
+use Rattle.reasoning.proofs.winner_of.Statement.{statement}
+use Rattle.reasoning.proofs.winner_of.Tie as tie
+
+cast-t15 : tie.Need-cast-t15
+cast-t15 c = search needs
+
+add-t16 : tie.Need-add-t16
+add-t16 c = search needs
+
+better-of-requires : tie.Need-better-of-requires
+better-of-requires c κs = search needs
+
+better-of-requires-2 : tie.Need-better-of-requires-2
+better-of-requires-2 c κs = search needs
+
+better-of-requires-3 : tie.Need-better-of-requires-3
+better-of-requires-3 c κs = search needs
+
+better-of-requires-4 : tie.Need-better-of-requires-4
+better-of-requires-4 c κs = search needs
+
+better-of-requires-5 : tie.Need-better-of-requires-5
+better-of-requires-5 c κs = search needs
+
+better-of-requires-6 : tie.Need-better-of-requires-6
+better-of-requires-6 c κs = search needs
+
+returns : tie.Need-returns
+returns c = rw (c .better-of6 .ensures, c .before .better-of5 .ensures, c .before .before .better-of4 .ensures, c .before .before .before .better-of3 .ensures, c .before .before .before .before .better-of2 .ensures, c .before .before .before .before .before .better-of .ensures)
+
+pub winner-of-spec : {M : Type 1} → statement M
+winner-of-spec =
+    tie.close
+    (tie.spec
+    cast-t15
+    add-t16
+    better-of-requires
+    better-of-requires-2
+    better-of-requires-3
+    better-of-requires-4
+    better-of-requires-5
+    better-of-requires-6
+    returns)

@@ -1,0 +1,2 @@
+-- How the winner is found from the states alone.
+pub mod Best

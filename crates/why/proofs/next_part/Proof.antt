@@ -1,0 +1,62 @@
+-- What is read is the part's beginning, so a part adds at most its own size.
+use borrow.Author.Needs.{needs}
+use native.Mathlib.Omega.{arith}
+use mathlib.Core.Path.{_≡_, sym, _∙_}
+use lib.ListN.{length, take}
+use lib.Seq.{length-take-le}
+use Rattle.cutting.specs.Parts.{partSize}
+use Rattle.why.proofs.next_part.Statement.{statement}
+use Rattle.why.proofs.next_part.Tie as tie
+
+-- the part keeps its length, and what was read is its beginning
+module _ (c : tie.After-read-part) where
+  part-length : length (c .read-part .last .1 .0) ≡ partSize
+  part-length = c .read-part .kept .1 .0 ∙ c .before .before .before .pre .0
+
+  read-length : length (take (c .read-part .result .count) (c .read-part .last .1 .0)) ≡ c .read-part .result .count
+  read-length = length-take-le _ _ (c .read-part .ensures)
+
+read-part-requires : tie.Need-read-part-requires
+read-part-requires c κs = search needs
+
+same-length : tie.Need-same-length
+same-length c = search needs
+
+returns : tie.Need-returns
+returns c = search needs
+
+slice-reshare-prefix-part-frames : tie.Need-slice-reshare-prefix-part-frames
+slice-reshare-prefix-part-frames c = search needs
+
+slice-aggregate-part-frames : tie.Need-slice-aggregate-part-frames
+slice-aggregate-part-frames c = sym (read-length (c .before .before .before .before))
+
+part-frames-requires : tie.Need-part-frames-requires
+part-frames-requires c κs =
+    let d = c .before .before .before .before in
+    let a = d .before .before .before .pre in
+    (omega (arith, read-length d, part-length d, d .read-part .ensures), a .1, a .2)
+
+same-length-2 : tie.Need-same-length-2
+same-length-2 c = search needs
+
+returns-2 : tie.Need-returns-2
+returns-2 c =
+    let d = c .before .before .before .before .before in
+    let e = c .part-frames .ensures in (
+      omega (arith, e .0, read-length d, part-length d, d .read-part .ensures),
+      omega (arith, e .1, read-length d, part-length d, d .read-part .ensures),
+    )
+
+pub next-part-spec : {M : Type 1} → statement M
+next-part-spec =
+    tie.close
+    (tie.spec
+    read-part-requires
+    same-length
+    returns
+    slice-reshare-prefix-part-frames
+    slice-aggregate-part-frames
+    part-frames-requires
+    same-length-2
+    returns-2)

@@ -1,0 +1,251 @@
+// The bench tool `why`: raw G.711 octets in; for each frame that `pack` cuts them into, why the writer takes its tool. What matters is in crates
+// `reasoning` and `reasons`: here the sound is read in parts of whole frames, and each frame's lines are written as it comes.
+ghost use Prim.Native.Nat.{_+_, _*_, _≤_, _<_};
+ghost use mathlib.Core.Path.{_≡_};
+ghost use lib.ListN.{length};
+ghost use Rattle.lines.specs.Puts.{Puts};
+ghost use Rattle.cutting.specs.Parts.{partSize};
+ghost use Rattle.why.specs.Shows.{headLine, frameText, Shows, mostSound};
+use libc::STDOUT_FILENO;
+use options::Settings;
+use reasons::Reasons;
+use reasons::Why;
+use rules::Ending;
+
+// How the sound ended so far, its frames and the samples in them, whether more sound may come, and whether a read (1) or a write (2) failed.
+struct Run {
+    end: Ending,
+    frames: usize,
+    samples: usize,
+    more: bool,
+    trouble: u32,
+}
+
+// A frame's heading: `frame=K at=P`.
+fn put_head(k: usize, place: usize, out: &mut [u8]) -> usize
+    requires { ⌜ length (now out) ≡ 640 ⌝ }
+    ensures { λ n. ⌜ Puts (now (out .entry)) 0 (headLine k place) (now (out .exit)) n ⌝ }
+    ensures most { λ n. ⌜ n ≤ 51 ⌝ }
+{
+    let a = lines::put_field(b"frame=", k, out, 0);
+    let b = lines::put_field(b" at=", place, out, a);
+    lines::put_word(b"\n", out, b)
+}
+
+// The heading, and the lines of its reasons.
+fn put_frame(k: usize, place: usize, r: Reasons, out: &mut [u8]) -> usize
+    requires { ⌜ length (now out) ≡ 640 ⌝ }
+    ensures { λ n. ⌜ Puts (now (out .entry)) 0 (frameText k place r) (now (out .exit)) n ⌝ }
+    ensures most { λ n. ⌜ n ≤ 640 ⌝ }
+{
+    let a = put_head(k, place, out);
+    reasons::put_reasons(r, out, a)
+}
+
+// Only a frame's heading and the lines of its reasons are written.
+fn write_frame(frame: &[u8], k: usize, place: usize, law: u32, set: u32, text: &[u8]) -> bool
+    requires { ⌜ Shows (now frame) k place law set (now text) ⌝ }
+{
+    io::write_all(STDOUT_FILENO, text)
+}
+
+// The reasons of frame k, which stands at `place` of the sound.
+fn show_frame(frame: &[u8], k: usize, place: usize, law: u32, set: u32) -> bool {
+    match reasoning::why_samples(frame, law, set) {
+        Why::Refused(_) => false,
+        Why::Told(r) => {
+            let mut text = [0u8; 640];
+            let n = put_frame(k, place, r, &mut text);
+            write_frame(frame, k, place, law, set, &text[..n])
+        }
+    }
+}
+
+// "`-k#` for one frame only": another one is passed over.
+fn show_wanted(frame: &[u8], k: usize, place: usize, s: Settings) -> bool {
+    if s.only {
+        if k != s.frame as usize {
+            return true;
+        }
+        return show_frame(frame, k, place, s.law, s.set);
+    }
+    show_frame(frame, k, place, s.law, s.set)
+}
+
+// Frame after frame of a part, until no length fits or a write fails.
+fn part_frames(part: &[u8], run: Run, s: Settings) -> Run
+    requires { ⌜ (length (now part) ≤ partSize) × (run .frames ≤ mostSound) × (run .samples ≤ mostSound) ⌝ }
+    ensures frames { λ r. ⌜ r .frames ≤ run .frames + length (now (part .entry)) ⌝ }
+    ensures samples { λ r. ⌜ r .samples ≤ run .samples + length (now (part .entry)) ⌝ }
+{
+    let mut from = 0;
+    let mut k = run.frames;
+    loop {
+        let left = part.len() - from;
+        let len = cutting::next_length(s.length as usize, left);
+        let place = run.samples + from;
+        if len == 0 {
+            let end = cutting::last_end(left);
+            return Run {
+                end,
+                frames: k,
+                samples: place,
+                more: cutting::may_go_on(end, part.len()),
+                trouble: 0,
+            };
+        }
+        let to = from + len;
+        if !show_wanted(&part[from..to], k, place, s) {
+            return Run {
+                end: Ending::Done,
+                frames: k,
+                samples: place,
+                more: false,
+                trouble: 2,
+            };
+        }
+        from = to;
+        k += 1;
+    }
+}
+
+// One part read and shown.
+fn next_part(fd: i32, run: Run, s: Settings, part: &mut [u8]) -> Run
+    requires { ⌜ (length (now part) ≡ partSize) × (run .frames ≤ mostSound) × (run .samples ≤ mostSound) ⌝ }
+    ensures frames { λ r. ⌜ r .frames ≤ run .frames + partSize ⌝ }
+    ensures samples { λ r. ⌜ r .samples ≤ run .samples + partSize ⌝ }
+{
+    let got = console::read_part(fd, part);
+    if got.failed {
+        return Run {
+            end: Ending::Done,
+            frames: run.frames,
+            samples: run.samples,
+            more: false,
+            trouble: 1,
+        };
+    }
+    let count = got.count;
+    part_frames(&part[..count], run, s)
+}
+
+// Part after part, until the sound ends, is refused, or can't be read or shown. No file has as many parts as are counted here.
+fn all_parts(fd: i32, s: Settings, part: &mut [u8]) -> Run
+    requires { ⌜ length (now part) ≡ partSize ⌝ }
+{
+    let mut run = Run {
+        end: Ending::Done,
+        frames: 0,
+        samples: 0,
+        more: true,
+        trouble: 0,
+    };
+    let mut i = 0usize;
+    while i < 160000000000000 && run.more {
+        let next = next_part(fd, run, s, part);
+        run = next;
+        i += 1;
+    }
+    run
+}
+
+// The number that refuses the settings: LAW, SET, and LENGTH of the frame length; 0 where none does.
+fn settings_number(s: Settings) -> u32 {
+    match reasoning::why_samples(b"", s.law, s.set) {
+        Why::Refused(why) => rules::refusal_number(why),
+        Why::Told(_) => {
+            if rules::is_length(s.length as usize) {
+                return 0;
+            }
+            10
+        }
+    }
+}
+
+// Why the settings are refused.
+fn explain_settings(number: u32) {
+    if number == 11 {
+        console::say(b"why: the tool set is an odd number of at most 127\n");
+    }
+    if number == 10 {
+        console::say(b"why: the frame length is 40, 80, 160, 240 or 320\n");
+    }
+}
+
+// A frame that was asked for and that the sound does not have.
+fn is_missing(s: Settings, frames: usize) -> bool {
+    if s.only {
+        return frames <= s.frame as usize;
+    }
+    false
+}
+
+// What was done, or why it was not.
+fn finish(run: Run, s: Settings, in_name: &[u8]) {
+    if run.trouble == 1 {
+        console::failed(options::WHY, in_name, b"standard input");
+        return;
+    }
+    if run.trouble == 2 {
+        console::failed(options::WHY, b"", b"standard output");
+        return;
+    }
+    let end = run.end;
+    let number = rules::number_of(end);
+    if number != 0 {
+        console::say(b"why: no length fits the octets at the end\n");
+        console::refused(options::WHY, number, run.samples, 0, 0);
+        return;
+    }
+    if is_missing(s, run.frames) {
+        console::say_number(
+            b"why: the sound has no such frame; its frames are ",
+            run.frames,
+        );
+        console::say(b"\n");
+        console::stop(options::WHY, 64, run.samples, 0, 0);
+        return;
+    }
+    console::stop(options::WHY, 0, run.samples, 0, 0);
+}
+
+// The settings are judged before any file is opened.
+fn why_file(s: Settings, in_name: &[u8]) {
+    let number = settings_number(s);
+    if number != 0 {
+        explain_settings(number);
+        console::refused(options::WHY, number, 0, 0, 0);
+        return;
+    }
+    let fd = console::open_in(in_name);
+    if fd < 0 {
+        console::failed(options::WHY, in_name, b"standard input");
+        return;
+    }
+    let mut part = [0u8; 61440];
+    let run = all_parts(fd, s, &mut part);
+    finish(run, s, in_name);
+}
+
+// A law that no option tells is told by the ending of what is read.
+fn why_with(mut s: Settings, space: &mut [u8]) {
+    let n = console::file_name(s.infile, space);
+    let in_name: &[u8] = &space[..n];
+    let law = options::law_of(s, in_name);
+    if law == 2 {
+        console::usage(options::WHY, b"the law is not known: say -u or -a");
+        return;
+    }
+    s.law = law;
+    why_file(s, in_name);
+}
+
+fn main() {
+    let s = console::settings(options::WHY);
+    if s.wrong != 0 {
+        console::wrong_settings(s);
+        return;
+    }
+    let mut in_name = [0u8; 4095];
+    why_with(s, &mut in_name);
+}
