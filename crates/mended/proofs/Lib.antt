@@ -1,0 +1,2 @@
+-- Rooms: a walk by another room.
+pub mod Rooms
