@@ -1,6 +1,6 @@
 -- The filling (specs/Mend): frames of one octet put one after another (`put-start`, `put-turn`, `put-done`), the five lengths as the code
--- puts them (`filling-is`), and how many octets they are (`filling-length`).
-use Prim.Native.Nat.{ℕ, suc, _+_, _/_, _%_, _≤_, _<_}
+-- puts them (`filling-is`), and how many octets they are (`filling-length`, `filling-few`).
+use Prim.Native.Nat.{ℕ, suc, _+_, _*_, _/_, _%_, _≤_, _<_}
 use native.Mathlib.Omega.{arith}
 use mathlib.Core.Path.{_≡_, refl, sym, ap, _∙_}
 use mathlib.Core.List.{List, [], _++_, append-nil}
@@ -70,6 +70,19 @@ pub filling-length : (left : ℕ) → length (filling left) ≡ by320 left + by2
 filling-length left =
     ap length (sym (filling-is left))
     ∙ simp (length-append, length-replicate) (omega arith)
+
+-- each frame fills 40 samples or more
+few : (l r s t u v a b c d e : ℕ) → l ≡ 320 * a + r → r ≡ 240 * b + s → s ≡ 160 * c + t → t ≡ 80 * d + u → u ≡ 40 * e + v → 40 * (a + b + c + d + e) ≤ l
+few l r s t u v a b c d e g h i j k = omega arith
+
+pub filling-few : (left : ℕ) → 40 * length (filling left) ≤ left
+filling-few left =
+    let r = left % 320 in
+    let s = r % 240 in
+    let t = s % 160 in
+    let u = t % 80 in
+    rw (filling-length left)
+    (few left r s t u (u % 40) (left / 320) (r / 240) (s / 160) (t / 80) (u / 40) (omega arith) (omega arith) (omega arith) (omega arith) (omega arith))
 
 -- the room that is left behind them
 pub room-on : {o o′ : List ℕ} {at next : ℕ} (count octet more : ℕ) → Puts o at (replicate count octet) o′ next → at + (count + more) ≤ length o

@@ -54,6 +54,16 @@ abbrev pub bitOf : Mend → ℕ
 bitOf (mends m) = m .walked .bit
 bitOf (declines w) = 0
 
+-- what is told of a refusal
+pub record Declines (why : MendRefusal) (r : MendAnswer) : Type 0 where
+  pub end : r .end ≡ Refused why
+  pub octets : r .octets ≡ 0
+  pub frames : r .frames ≡ 0
+  pub kept : r .kept ≡ 0
+  pub filled : r .filled ≡ 0
+  pub stop : r .stop ≡ walks.Done
+  pub bit : r .bit ≡ 0
+
 pub record Mends (m : Mend) (r : MendAnswer) (out out′ : List ℕ) : Type 0 where
   pub end : r .end ≡ mendEnd m
   pub octets : r .octets ≡ length (resultOf m)

@@ -6,7 +6,7 @@ ghost use lib.ListN.{length, replicate};
 ghost use Rattle.rules.specs.First.{octetFor};
 ghost use Rattle.lines.specs.Puts.{Puts};
 ghost use Rattle.mending.specs.Mend.{isTotal, filling};
-ghost use Rattle.mending.specs.Calls.{mendRefusalNumber, mendNumber, MendGreeting};
+ghost use Rattle.mending.specs.Calls.{mendRefusalNumber, mendNumber, Declines, MendGreeting};
 use rules::Ending;
 use rules::Refusal;
 
@@ -95,4 +95,57 @@ fn fill_octets(left: usize) -> usize
         + left % 320 % 240 / 160
         + left % 320 % 240 % 160 / 80
         + left % 320 % 240 % 160 % 80 / 40
+}
+
+// A refused greeting: zeros are told, and nothing is written.
+fn declined(why: MendRefusal) -> MendAnswer
+    ensures { λ r. ⌜ Declines why r ⌝ }
+{
+    MendAnswer {
+        end: MendEnding::Refused(why),
+        octets: 0,
+        frames: 0,
+        kept: 0,
+        filled: 0,
+        stop: Ending::Done,
+        bit: 0,
+    }
+}
+
+// Mending a greeting: one walk, then what is kept, whole, and the filling. The result's length is known before an octet is written.
+pub fn mend(octets: &[u8], law: u32, total: u64, out: &mut [u8]) -> MendAnswer
+    ensures { λ r. ⌜ MendGreeting (now (octets .entry)) law total (now (out .entry)) (now (out .exit)) r ⌝ }
+{
+    if 1 < law {
+        return declined(MendRefusal::Frame(Refusal::Law));
+    }
+    if 65535 < octets.len() {
+        return declined(MendRefusal::Frame(Refusal::Long));
+    }
+    if !is_total(total) {
+        return declined(MendRefusal::Total);
+    }
+    let whole = total as usize;
+    let w = walk::walk_on(octets, law, 127, 0, octets.len() + 1, whole);
+    let kept = w.octets;
+    let filled = whole - w.samples;
+    let result = kept + fill_octets(filled);
+    if 65535 < result {
+        return declined(MendRefusal::Frame(Refusal::Long));
+    }
+    if out.len() < result {
+        return declined(MendRefusal::Frame(Refusal::Room));
+    }
+    let to = lines::put_word(&octets[..kept], out, 0);
+    let n = fill(filled, out, to);
+    let stop = w.end;
+    MendAnswer {
+        end: MendEnding::Done,
+        octets: n,
+        frames: w.frames,
+        kept,
+        filled,
+        stop,
+        bit: w.bit,
+    }
 }
