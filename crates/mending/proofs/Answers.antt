@@ -1,4 +1,5 @@
--- An answer of the code is the definition's: a refusal (`declined-as`), and a greeting that is mended (`mended-as`).
+-- An answer of the code is the definition's: a refusal (`declined-as`), and a greeting that is mended (`mended-as`); its octets are inside the
+-- output (`answer-inside`).
 use Prim.Native.Nat.{ℕ, suc, _+_, _-_, _≤_}
 use native.Mathlib.Omega.{arith}
 use mathlib.Core.Path.{_≡_, refl, sym, ap, subst, _∙_}
@@ -15,7 +16,7 @@ use Rattle.mending.specs.declared.MendRefusal.{MendRefusal}
 use Rattle.mending.specs.declared.MendEnding.the-variants.{Done}
 use Rattle.mending.specs.declared.MendAnswer.{MendAnswer}
 use Rattle.mending.specs.Mend.{allTools, walkUpTo, filling, filledAfter, mended, Mend, mends, declines}
-use Rattle.mending.specs.Calls.{Declines, Mends}
+use Rattle.mending.specs.Calls.{Declines, resultOf, Mends}
 use Rattle.mending.proofs.Kept.{walk-within}
 
 pub declined-as : {why : MendRefusal} {r : MendAnswer} {m : Mend} → Declines why r → declines why ≡ m → (out : List ℕ) → Mends m r out out
@@ -69,3 +70,9 @@ module _ (octets : List ℕ) (law total : ℕ) {r : WalkAnswer} (counted : Count
         bit = c .bit;
         lent = puts-first all ∙ ap (λ (x : List ℕ). atStart x out) result-is;
       })
+
+-- what an answer says to be written stands in the output
+pub answer-inside : {m : Mend} {r : MendAnswer} {out out′ : List ℕ} → Mends m r out out′ → r .octets ≤ length out′
+answer-inside {m} {r} {out} {out′} a =
+    let s = resultOf m in
+    omega (arith, a .octets, ap length (a .lent) ∙ length-append s (drop (length s) out))

@@ -21,9 +21,9 @@ abbrev pub mendRefusalNumber : MendRefusal → ℕ
 mendRefusalNumber (Frame w) = refusalNumber w
 mendRefusalNumber Total = 22
 
-abbrev pub mendNumber : MendEnding → ℕ
-mendNumber Done = 0
-mendNumber (Refused w) = mendRefusalNumber w
+abbrev pub mendNumberOf : MendEnding → ℕ
+mendNumberOf Done = 0
+mendNumberOf (Refused w) = mendRefusalNumber w
 
 -- what is read off: the result's octets, the frames and octets kept, the samples filled, how the walk stopped and its bit (R-7)
 abbrev pub mendEnd : Mend → MendEnding

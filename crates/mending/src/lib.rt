@@ -6,7 +6,7 @@ ghost use lib.ListN.{length, replicate};
 ghost use Rattle.rules.specs.First.{octetFor};
 ghost use Rattle.lines.specs.Puts.{Puts};
 ghost use Rattle.mending.specs.Mend.{isTotal, filling};
-ghost use Rattle.mending.specs.Calls.{mendRefusalNumber, mendNumber, Declines, MendGreeting};
+ghost use Rattle.mending.specs.Calls.{mendRefusalNumber, mendNumberOf, Declines, MendGreeting};
 use rules::Ending;
 use rules::Refusal;
 
@@ -43,7 +43,7 @@ pub fn mend_refusal_number(why: MendRefusal) -> u32
 
 // A mended greeting has the number 0.
 pub fn mend_number(end: MendEnding) -> u32
-    ensures { λ r. ⌜ r ≡ mendNumber end ⌝ }
+    ensures { λ r. ⌜ r ≡ mendNumberOf end ⌝ }
 {
     match end {
         MendEnding::Done => 0,
