@@ -196,15 +196,20 @@ fn write_result(name: &[u8], result: &[u8]) -> bool {
     console::close(fd)
 }
 
-// A greeting that is not mended, and the last line.
-fn refused(number: u32) {
+// The name of a refusal of document 01.
+fn say_name(number: u32) {
     let mut name = [0u8; 8];
     let n = refusals::refusal_name(number, &mut name);
+    console::say(&name[..n]);
+}
+
+// A greeting that is not mended, and the last line.
+fn refused(number: u32) {
     console::say(b"mend: refused: ");
     if number == 22 {
         console::say(b"TOTAL");
     } else {
-        console::say(&name[..n]);
+        say_name(number);
     }
     console::say(b"\n");
     console::stop(false, number, 0, 0, 0);
@@ -215,10 +220,8 @@ fn say_stop(number: u32, place: usize, bit: usize) {
     if number == 0 {
         return;
     }
-    let mut name = [0u8; 8];
-    let n = refusals::refusal_name(number, &mut name);
     console::say(b"mend: the walk stopped: ");
-    console::say(&name[..n]);
+    say_name(number);
     console::say_number(b" at octet ", place);
     console::say_number(b", bit ", bit);
     console::say(b"\n");
