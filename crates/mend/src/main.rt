@@ -96,7 +96,7 @@ fn with_argument(mut a: Asked, index: usize, text: &mut [u8]) -> Asked {
     step(a, &text[..n], index)
 }
 
-fn asked() -> Asked {
+fn arguments() -> Asked {
     let mut text = [0u8; 4095];
     let view: &mut [u8] = &mut text;
     let count = os::arg_count();
@@ -267,7 +267,7 @@ fn run(law: u32, total: u64, name: &[u8], other: &[u8]) {
 }
 
 fn main() {
-    let a = asked();
+    let a = arguments();
     let mut space = [0u8; 4095];
     let n = console::file_name(a.infile, &mut space);
     let law = law_of(a.law, &space[..n]);

@@ -87,7 +87,8 @@ filling-plus left h =
     let b40 : b % 40 ≡ 0 = omega (arith, a40) in
     let c40 : c % 40 ≡ 0 = omega (arith, b40) in
     let e : d % 40 ≡ 0 = omega (arith, c40) in
-    next 320 left refl (next 240 a refl (next 160 b refl (next 80 c refl (next 40 d refl (rw e none) (omega arith)) (omega arith)) (omega arith)) (omega arith)) (omega arith)
+    next 320 left refl (next 240 a refl (next 160 b refl (next 80 c refl (next 40 d refl (rw e none) (omega arith)) (omega arith)) (omega arith))
+    (omega arith)) (omega arith)
 
 -- walked behind what stands before them
 pub record FilledUp (before octets : List ℕ) (law room left : ℕ) : Type 0 where
@@ -112,11 +113,13 @@ plus-walks law i (one n {left = left} {octets = octets} l p) before room r =
     let size : length (f .samples) ≡ n = length-replicate n (plusZero (maskOf law)) in
     let rest = plus-walks law i p (before ++ (o ∷ [])) (room - n) (omega arith) in
     let here : drop (length before) (before ++ (o ∷ octets)) ≡ o ∷ octets = drop-append-seam before (o ∷ octets) in
-    let read : readOne (drop (length before) (before ++ (o ∷ octets))) law allTools room ≡ whole f 8 = rw here (plus-read law n room octets i l (omega arith)) in
+    let read : readOne (drop (length before) (before ++ (o ∷ octets))) law allTools room ≡ whole f 8 = rw here (plus-read law n room octets i l
+    (omega arith)) in
     let on : length (before ++ (o ∷ [])) ≡ length before + 1 = length-append before (o ∷ []) in
     let walk : WalkOf (before ++ (o ∷ octets)) law allTools (length before + 1) (room - length (f .samples))
     (record { frames = rest .frames; end = Done; place = length (before ++ (o ∷ octets)); bit = 0 })
-    = subst (λ (k : ℕ). WalkOf (before ++ (o ∷ octets)) law allTools (length before + 1) (room - k) (record { frames = rest .frames; end = Done; place = length (before ++ (o ∷ octets)); bit = 0 }))
+    = subst (λ (k : ℕ). WalkOf (before ++ (o ∷ octets)) law allTools (length before + 1) (room - k)
+    (record { frames = rest .frames; end = Done; place = length (before ++ (o ∷ octets)); bit = 0 }))
     (sym size) (rw (append-assoc before (o ∷ []) octets, on) at (rest .walks)) in
     record {
       frames = record { place = length before; found = f } ∷ rest .frames;

@@ -34,8 +34,10 @@ module _ (octets : List ℕ) (law total room : ℕ) where
     greeting-long : isLaw law ≡ true → longest < length octets → Judged (declines (Frame Long))
     no-total : isLaw law ≡ true → length octets ≤ longest → isTotal total ≡ false → Judged (declines Total)
     result-long : Mendable octets law total → longest < length (mended octets law total .octets) → Judged (declines (Frame Long))
-    no-room : Mendable octets law total → length (mended octets law total .octets) ≤ longest → room < length (mended octets law total .octets) → Judged (declines (Frame Room))
-    well : Mendable octets law total → length (mended octets law total .octets) ≤ longest → length (mended octets law total .octets) ≤ room → Judged (mends (mended octets law total))
+    no-room : Mendable octets law total → length (mended octets law total .octets) ≤ longest
+        → room < length (mended octets law total .octets) → Judged (declines (Frame Room))
+    well : Mendable octets law total → length (mended octets law total .octets) ≤ longest
+        → length (mended octets law total .octets) ≤ room → Judged (mends (mended octets law total))
 
   pub judged : Judged (mendOf octets law total room)
   unfolding mendOf inRoom

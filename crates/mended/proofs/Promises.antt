@@ -88,7 +88,11 @@ module _ {octets : List ℕ} {law total : ℕ} (may : Mendable octets law total)
       let l : length p ≡ c = length-take-le c octets h in
       let o = walk-all-of p law allTools room (record { lawful = may .lawful; small = refl; short = omega (arith, may .short) }) in
       let behind = walkFrom (suc (length octets)) octets law allTools (length p) (total - length (samplesKept (v .frames))) in
-      let rest = walk-of (suc (length octets)) (p ++ q) law allTools (length p) (total - length (samplesKept (v .frames))) (omega (arith, ap length (take-append-drop c octets))) in
+      let rest = walk-of (suc (length octets)) (p ++ q) law allTools (length p) (total - length (samplesKept (v .frames))) (omega (
+        arith,
+        ap length
+            (take-append-drop c octets),
+      )) in
       let all = joined q (walk-in-room total o e s) (omega arith) e rest in
       let same = walk-only (rw (take-append-drop c octets) at all) (suc (length octets)) (omega arith) in
       omega (arith, clean o (omega arith) e .used, l, ap (λ (x : Walked). octetsKept (x .frames)) same, octetsKept-append (v .frames) (behind .frames))
@@ -168,7 +172,8 @@ unchanged-is octets law total v e l s =
     let k = octetsKept (v .frames) in
     let z : filledAfter v total ≡ 0 = omega (arith, s) in
     let o : take k octets ++ filling (filledAfter v total) ≡ octets
-    = ap (λ (n : ℕ). take k octets ++ filling n) z ∙ ap (λ (x : List ℕ). take k octets ++ x) nothing-filled ∙ append-nil (take k octets) ∙ take-all k octets l in
+    = ap (λ (n : ℕ). take k octets ++ filling n) z ∙ ap (λ (x : List ℕ). take k octets ++ x) nothing-filled ∙ append-nil
+    (take k octets) ∙ take-all k octets l in
     ap (mendedBy octets total) e ∙ (λ i. record { walked = v; filled = z i; octets = o i })
 
 -- "An undamaged greeting of the right total comes back unchanged": one that a walk with any room accepts whole

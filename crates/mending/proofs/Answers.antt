@@ -59,7 +59,8 @@ module _ (octets : List ℕ) (law total : ℕ) {r : WalkAnswer} (counted : Count
   unfolding mended
   mended-as e {out} {o} {out′} {to} {n} p q =
       let all = puts-then p q in
-      subst (λ (m : Mend). Mends m (record { end = Done; octets = n; frames = r .frames; kept = r .octets; filled = total - r .samples; stop = r .end; bit = r .bit }) out out′) e
+      subst (λ (m : Mend). Mends m
+      (record { end = Done; octets = n; frames = r .frames; kept = r .octets; filled = total - r .samples; stop = r .end; bit = r .bit }) out out′) e
       (record {
         end = refl;
         octets = omega (arith, all .place, ap length result-is);

@@ -59,7 +59,8 @@ abbrev pub by40 : ℕ → ℕ
 by40 left = left % 320 % 240 % 160 % 80 / 40
 
 pub filling-is : (left : ℕ)
-    → replicate (by320 left) 0x31 ++ (replicate (by240 left) 0x21 ++ (replicate (by160 left) 0xC1 ++ (replicate (by80 left) 0x81 ++ replicate (by40 left) 0x41)))
+    → replicate (by320 left) 0x31 ++ (replicate (by240 left) 0x21 ++ (replicate (by160 left) 0xC1 ++ (replicate (by80 left) 0x81 ++ replicate
+    (by40 left) 0x41)))
     ≡ filling left
 unfolding fillBy baseOf
 filling-is left =

@@ -34,11 +34,21 @@ module _ (octets : List ℕ) (law total room : ℕ) where
           pub no-room : room < length (mended octets law total .octets) → declines (Frame Room) ≡ mendOf octets law total room
           unfolding mendOf inRoom
           no-room h =
-              rw (le-leb law 1 g, le-leb (length octets) longest l, t, le-leb (length (mended octets law total .octets)) longest s,
-              lt-ltb room (length (mended octets law total .octets)) h)
+              rw (
+                le-leb law 1 g,
+                le-leb (length octets) longest l,
+                t,
+                le-leb (length (mended octets law total .octets)) longest s,
+                lt-ltb room (length (mended octets law total .octets)) h,
+              )
 
           pub mends-it : length (mended octets law total .octets) ≤ room → mends (mended octets law total) ≡ mendOf octets law total room
           unfolding mendOf inRoom
           mends-it h =
-              rw (le-leb law 1 g, le-leb (length octets) longest l, t, le-leb (length (mended octets law total .octets)) longest s,
-              le-ltb room (length (mended octets law total .octets)) h)
+              rw (
+                le-leb law 1 g,
+                le-leb (length octets) longest l,
+                t,
+                le-leb (length (mended octets law total .octets)) longest s,
+                le-ltb room (length (mended octets law total .octets)) h,
+              )

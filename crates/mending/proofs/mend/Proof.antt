@@ -36,7 +36,8 @@ declined-requires-3 c κs = search needs
 returns-3 : tie.Need-returns-3
 returns-3 c =
     let a = c .before .before .before .before .before .before .before .args in
-    declined-as (c .declined3 .ensures) (no-total (a .octets .now) (a .law) (a .total) (length (a .out .now)) (omega arith) (omega arith) (sym (c .before .before .is-total .ensures) ∙ not-true _ (c .before .if3 .taken))) (a .out .now)
+    declined-as (c .declined3 .ensures) (no-total (a .octets .now) (a .law) (a .total) (length (a .out .now)) (omega arith) (omega arith) (sym
+    (c .before .before .is-total .ensures) ∙ not-true _ (c .before .if3 .taken))) (a .out .now)
 
 add-walk-on : tie.Need-add-walk-on
 add-walk-on c = search needs
@@ -53,7 +54,13 @@ fill-octets-requires c κs = search needs
 add-result : tie.Need-add-result
 add-result c =
     let a = c .before .before .before .before .before .before .before .before .before .args in
-    omega (arith, kept-inside (a .octets .now) (a .law) (a .total) (c .before .before .walk-on .ensures), c .fill-octets .ensures, filling-few (a .total - c .before .before .walk-on .result .samples))
+    omega (
+      arith,
+      kept-inside (a .octets .now) (a .law) (a .total) (c .before .before .walk-on .ensures),
+      c .fill-octets .ensures,
+      filling-few
+          (a .total - c .before .before .walk-on .result .samples),
+    )
 
 declined-requires-4 : tie.Need-declined-requires-4
 declined-requires-4 c κs = search needs
@@ -61,8 +68,13 @@ declined-requires-4 c κs = search needs
 returns-4 : tie.Need-returns-4
 returns-4 c =
     let a = c .before .before .before .before .before .before .before .before .before .before .before .args in
-    declined-as (c .declined4 .ensures) (result-long (a .octets .now) (a .law) (a .total) (length (a .out .now)) (omega arith) (omega arith) (sym (c .before .before .before .before .before .before .is-total .ensures) ∙ not-false _ (c .before .before .before .before .before .if3 .left))
-    (omega (arith, result-length (a .octets .now) (a .law) (a .total) (c .before .before .before .before .walk-on .ensures) _ (c .before .before .fill-octets .ensures)))) (a .out .now)
+    declined-as (c .declined4 .ensures) (result-long (a .octets .now) (a .law) (a .total) (length (a .out .now)) (omega arith) (omega arith) (sym
+    (c .before .before .before .before .before .before .is-total .ensures) ∙ not-false _ (c .before .before .before .before .before .if3 .left))
+    (omega (
+      arith,
+      result-length (a .octets .now) (a .law) (a .total) (c .before .before .before .before .walk-on .ensures) _
+          (c .before .before .fill-octets .ensures),
+    ))) (a .out .now)
 
 declined-requires-5 : tie.Need-declined-requires-5
 declined-requires-5 c κs = search needs
@@ -70,8 +82,18 @@ declined-requires-5 c κs = search needs
 returns-5 : tie.Need-returns-5
 returns-5 c =
     let a = c .before .before .before .before .before .before .before .before .before .before .before .before .args in
-    declined-as (c .declined5 .ensures) (no-room (a .octets .now) (a .law) (a .total) (length (a .out .now)) (omega arith) (omega arith) (sym (c .before .before .before .before .before .before .before .is-total .ensures) ∙ not-false _ (c .before .before .before .before .before .before .if3 .left))
-    (omega (arith, result-length (a .octets .now) (a .law) (a .total) (c .before .before .before .before .before .walk-on .ensures) _ (c .before .before .before .fill-octets .ensures))) (omega (arith, result-length (a .octets .now) (a .law) (a .total) (c .before .before .before .before .before .walk-on .ensures) _ (c .before .before .before .fill-octets .ensures)))) (a .out .now)
+    declined-as (c .declined5 .ensures) (no-room (a .octets .now) (a .law) (a .total) (length (a .out .now)) (omega arith) (omega arith) (sym
+    (c .before .before .before .before .before .before .before .is-total .ensures) ∙ not-false _
+    (c .before .before .before .before .before .before .if3 .left))
+    (omega (
+      arith,
+      result-length (a .octets .now) (a .law) (a .total) (c .before .before .before .before .before .walk-on .ensures) _
+          (c .before .before .before .fill-octets .ensures),
+    )) (omega (
+      arith,
+      result-length (a .octets .now) (a .law) (a .total)
+          (c .before .before .before .before .before .walk-on .ensures) _ (c .before .before .before .fill-octets .ensures),
+    ))) (a .out .now)
 
 slice-aggregate-put-word : tie.Need-slice-aggregate-put-word
 slice-aggregate-put-word c =
@@ -87,9 +109,17 @@ put-word-requires c κs =
 fill-requires : tie.Need-fill-requires
 fill-requires c κs =
     let a = c .before .before .before .before .before .before .before .before .before .before .before .before .before .before .before .before .before .args in
-    let i = kept-inside (a .octets .now) (a .law) (a .total) (c .before .before .before .before .before .before .before .before .before .before .walk-on .ensures) in
+    let i = kept-inside (a .octets .now) (a .law) (a .total)
+    (c .before .before .before .before .before .before .before .before .before .before .walk-on .ensures) in
     let p = c .before .before .before .put-word .ensures in
-    omega (arith, p .place, p .size, c .before .before .before .before .before .before .before .before .fill-octets .ensures, length-take-le _ (a .octets .now) i)
+    omega (
+      arith,
+      p .place,
+      p .size,
+      c .before .before .before .before .before .before .before .before .fill-octets .ensures,
+      length-take-le _
+          (a .octets .now) i,
+    )
 
 same-length : tie.Need-same-length
 same-length c = search needs
@@ -97,9 +127,22 @@ same-length c = search needs
 returns-6 : tie.Need-returns-6
 returns-6 c =
     let a = c .before .before .before .before .before .before .before .before .before .before .before .before .before .before .before .before .before .before .before .before .args in
-    mended-as (a .octets .now) (a .law) (a .total) (c .before .before .before .before .before .before .before .before .before .before .before .before .before .walk-on .ensures)
-    (mends-it (a .octets .now) (a .law) (a .total) (length (a .out .now)) (omega arith) (omega arith) (sym (c .before .before .before .before .before .before .before .before .before .before .before .before .before .before .before .is-total .ensures) ∙ not-false _ (c .before .before .before .before .before .before .before .before .before .before .before .before .before .before .if3 .left))
-    (omega (arith, result-length (a .octets .now) (a .law) (a .total) (c .before .before .before .before .before .before .before .before .before .before .before .before .before .walk-on .ensures) _ (c .before .before .before .before .before .before .before .before .before .before .before .fill-octets .ensures))) (omega (arith, result-length (a .octets .now) (a .law) (a .total) (c .before .before .before .before .before .before .before .before .before .before .before .before .before .walk-on .ensures) _ (c .before .before .before .before .before .before .before .before .before .before .before .fill-octets .ensures))))
+    mended-as (a .octets .now) (a .law) (a .total)
+    (c .before .before .before .before .before .before .before .before .before .before .before .before .before .walk-on .ensures)
+    (mends-it (a .octets .now) (a .law) (a .total) (length (a .out .now)) (omega arith) (omega arith) (sym
+    (c .before .before .before .before .before .before .before .before .before .before .before .before .before .before .before .is-total .ensures) ∙ not-false _ (c .before .before .before .before .before .before .before .before .before .before .before .before .before .before .if3 .left))
+    (omega (
+      arith,
+      result-length (a .octets .now) (a .law) (a .total)
+          (c .before .before .before .before .before .before .before .before .before .before .before .before .before .walk-on .ensures) _
+          (c .before .before .before .before .before .before .before .before .before .before .before .fill-octets .ensures),
+    )) (omega (
+      arith,
+      result-length
+          (a .octets .now) (a .law) (a .total)
+          (c .before .before .before .before .before .before .before .before .before .before .before .before .before .walk-on .ensures) _
+          (c .before .before .before .before .before .before .before .before .before .before .before .fill-octets .ensures),
+    )))
     (c .before .before .before .before .before .before .put-word .ensures) (c .before .before .fill .ensures)
 
 pub mend-spec : {M : Type 1} → statement M

@@ -19,7 +19,11 @@ add-out c = search needs
 
 slice-write-out : tie.Need-slice-write-out Inv-loop μ-loop
 slice-write-out c =
-    omega (arith, put-length (c .before .before .args .out .now) (c .before .before .args .at) (c .before .before .args .count) (c .before .before .args .octet) (c .before .before .pre) (c .before .loop .inv))
+    omega (
+      arith,
+      put-length (c .before .before .args .out .now) (c .before .before .args .at) (c .before .before .args .count)
+          (c .before .before .args .octet) (c .before .before .pre) (c .before .loop .inv),
+    )
 
 add-i : tie.Need-add-i Inv-loop μ-loop
 add-i c = search needs
@@ -29,18 +33,21 @@ loop-less c = omega arith
 
 loop-again : tie.Need-loop-again Inv-loop μ-loop
 loop-again c =
-    put-turn (c .before .before .args .out .now) (c .before .before .args .at) (c .before .before .args .count) (c .before .before .args .octet) (c .before .before .pre) (c .before .loop .inv) (omega arith)
+    put-turn (c .before .before .args .out .now) (c .before .before .args .at) (c .before .before .args .count) (c .before .before .args .octet)
+    (c .before .before .pre) (c .before .loop .inv) (omega arith)
 
 add-result : tie.Need-add-result Inv-loop μ-loop
 add-result c = search needs
 
 same-length : tie.Need-same-length Inv-loop μ-loop
 same-length c =
-    put-length (c .before .before .args .out .now) (c .before .before .args .at) (c .before .before .args .count) (c .before .before .args .octet) (c .before .before .pre) (c .before .loop .inv)
+    put-length (c .before .before .args .out .now) (c .before .before .args .at) (c .before .before .args .count) (c .before .before .args .octet)
+    (c .before .before .pre) (c .before .loop .inv)
 
 returns : tie.Need-returns Inv-loop μ-loop
 returns c =
-    put-done (c .before .before .args .out .now) (c .before .before .args .at) (c .before .before .args .count) (c .before .before .args .octet) (c .before .before .pre) (c .before .loop .inv) (omega arith)
+    put-done (c .before .before .args .out .now) (c .before .before .args .at) (c .before .before .args .count) (c .before .before .args .octet)
+    (c .before .before .pre) (c .before .loop .inv) (omega arith)
 
 pub put-frames-spec : {M : Type 1} → statement M
 put-frames-spec =
