@@ -1,5 +1,5 @@
 /* g7110.h: G.711.0 frames of the seven carried tools, read, written and walked; frames of samples to linear values and back;
- * why a frame takes its tool; a box's settings, saved and put back. This header is also the manual.
+ * why a frame takes its tool; a box's settings, saved and put back; a damaged greeting, mended. This header is also the manual.
  *
  * Every answer below is proved equal to the project's definitions of documents 01 and 02 and of 001's section 6.8, for all inputs.
  *
@@ -33,6 +33,7 @@
  *
  * VERSIONS
  *   G7110_VERSION goes up by one when a call is added or a report changes.
+ *   6   g7110_mend.
  *   5   g7110_why.
  *   4   the calls over settings.
  *   3   g7110_to_linear and g7110_from_linear.
@@ -84,11 +85,20 @@
  *   When a box starts it reads its newest settings (revision state[0]) and lends a block of that size; with G7110_GONE there
  *   are none, and the block has G7110_NO_SETTINGS_BLOCK octets. docs/STORE.md shows it.
  *
+ * MENDING
+ *   Whole frames are kept from the greeting's start as long as the walk with G7110_ALL_TOOLS accepts them and they don't pass
+ *   the total; pads right behind the last of them are kept too, also at the total. The first frame that is refused or passes
+ *   the total ends the keeping, and nothing behind it is looked at. Constant plus zero frames fill up to the total, the
+ *   longest first: 320, 240, 160, 80, 40 samples, one octet each. So the result is accepted by the walk and holds exactly the
+ *   total; an undamaged greeting of the right total comes back unchanged, and mending twice changes nothing more.
+ *   The total is a multiple of 40, at most G7110_MOST_TOTAL; 0 is allowed. A refused call writes nothing and reports zeros.
+ *
  * ROOM
  *   The output's length is the room. Reading needs the frame's samples (G7110_MAX_SAMPLES are always enough), writing the
  *   form's octets (G7110_MAX_WRITTEN are always enough), walking the samples of all frames together.
  *
- *   Converting needs as many values as the frame has samples.
+ *   Converting needs as many values as the frame has samples. Mending needs the result's octets (G7110_MAX_STREAM are always
+ *   enough).
  *
  * LINEAR VALUES
  *   They are in the scale of 001's section 6.8, not of 16 bits: A-law has 13 bits, -4096 to 4095, mu-law 14, -8159 to 8158.
@@ -121,6 +131,13 @@
  *     if (g7110_settings_save(state, other, other_len, now) != G7110_OK) return 1;
  *     if (g7110_settings_back(state, (uint32_t)old[0], now) != G7110_OK) return 1;
  *     // revision now[0] has the old values
+ *
+ *   Mend a greeting of 40,000 samples, and say what was lost:
+ *
+ *     uint8_t mended[G7110_MAX_STREAM];
+ *     uint64_t told[4];
+ *     if (g7110_mend(damaged, damaged_len, 1, 40000, mended, sizeof mended, told) != G7110_OK) return 1;
+ *     // the first told[0] octets of mended are a greeting of 40,000 samples; the last told[3] of them are plus zeros
  */
 #ifndef G7110_H
 #define G7110_H
@@ -132,7 +149,7 @@
 extern "C" {
 #endif
 
-#define G7110_VERSION 5
+#define G7110_VERSION 6
 
 #define G7110_MAX_SAMPLES 320 /* samples of a frame */
 #define G7110_MAX_WRITTEN 321 /* octets of a written frame */
@@ -144,6 +161,7 @@ extern "C" {
 #define G7110_SETTINGS 41      /* numbers of a box's settings */
 #define G7110_SETTINGS_TEXT 80 /* octets lent for their text, which has at most 67 */
 #define G7110_NO_SETTINGS_BLOCK 16384 /* octets of the block of a box that has no settings */
+#define G7110_MOST_TOTAL 1000000      /* samples of a greeting that is mended */
 
 /* The refusals, by number. */
 enum {
@@ -161,6 +179,7 @@ enum {
     G7110_SET = 11,    /* set above 127, or even for a writer */
     G7110_LAW = 12,    /* law above 1 */
     G7110_LONG = 13,   /* walk given more than 65,535 octets */
+    G7110_TOTAL = 22,  /* total of samples not a multiple of 40, or above 1,000,000 */
     G7110_LINE = 23,   /* text not of the settings' form, or a value out of its range */
     G7110_GONE = 24,   /* revision not kept; 0 is never kept */
     G7110_SPENT = 25   /* the new revision's number would pass 4,294,967,295 */
@@ -207,6 +226,12 @@ uint32_t g7110_settings_read(const uint32_t state[41], uint32_t revision, uint8_
 
 /* Empties the list for the next tenant; the numbering runs on. Never refused. */
 uint32_t g7110_settings_wipe(uint32_t state[41]);
+
+/* Mends a damaged greeting whose true total of samples is known; the result stands at the output's start.
+ * Refusals, in order: G7110_LAW, G7110_LONG (the greeting), G7110_TOTAL, G7110_LONG (the result), G7110_ROOM.
+ * report: octets of the result, frames kept, octets kept, samples filled. */
+uint32_t g7110_mend(const uint8_t *octets, size_t octets_len, uint32_t law, uint64_t total,
+                    uint8_t *out, size_t out_len, uint64_t report[4]);
 
 #ifdef __cplusplus
 }

@@ -6,6 +6,7 @@
 //! * [`listing`] makes the text the listing program prints.
 //! * [`linear`] turns samples into linear values and back.
 //! * [`settings`] keeps the last eight settings of a box.
+//! * [`mend`] mends a damaged greeting.
 //! * [`why`] says why a frame is written with the tool it is.
 //!
 //! None of the first three touches the heap: a frame is at most 320 samples,
@@ -20,6 +21,7 @@ pub mod gen;
 mod law;
 pub mod linear;
 mod listing;
+pub mod mend;
 mod planes;
 mod read;
 mod refusal;

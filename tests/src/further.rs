@@ -2,6 +2,7 @@
 //! [`crate::fuzz`] has drawn and changed: with them or without, those inputs are the same.
 
 use crate::forms::LENGTHS;
+use crate::mend::Menders;
 use crate::why::Reasons;
 use crate::{Proved, Second};
 use second::gen::{all_kinds, make_frame, Kind, Prng};
@@ -14,35 +15,43 @@ pub struct Further {
     rng: Prng,
     kinds: Vec<Kind>,
     reasons: Reasons<'static>,
+    menders: Menders<'static>,
 }
 
 impl Further {
     /// The same seed gives the same inputs.
     pub fn new(seed: u64) -> Further {
-        Further { rng: Prng::new(!seed), kinds: all_kinds(), reasons: Reasons::new(&Proved, &Second) }
+        Further {
+            rng: Prng::new(!seed),
+            kinds: all_kinds(),
+            reasons: Reasons::new(&Proved, &Second),
+            menders: Menders::new(&Proved, &Second),
+        }
     }
 
     /// One round; the pool has octets of frames and streams, good and bad.
-    pub fn round(&mut self, _pool: &[Vec<u8>]) {
+    pub fn round(&mut self, pool: &[Vec<u8>]) {
         match self.rng.below(ROUNDS) {
             0 => self.explain(),
+            1 => self.mend(pool),
             _ => {}
         }
     }
 
     pub fn differences(&self) -> usize {
-        let all = [self.reasons.differences];
+        let all = [self.reasons.differences, self.menders.differences];
         all.iter().sum()
     }
 
     pub fn shown(&self) -> Vec<String> {
-        let all = [self.reasons.shown()];
+        let all = [self.reasons.shown(), self.menders.shown()];
         all.concat()
     }
 
     /// How many calls there were, in words.
     pub fn words(&self) -> String {
-        let all = [format!("{} frames explained", self.reasons.calls)];
+        let all =
+            [format!("{} frames explained", self.reasons.calls), format!("{} greetings mended", self.menders.calls)];
         all.join(", ")
     }
 
@@ -80,5 +89,21 @@ impl Further {
             samples.truncate(self.rng.below(samples.len() + 1));
         }
         self.reasons.call(&samples, law, set);
+    }
+
+    /// Some octets of the pool, one after another.
+    fn octets(&mut self, pool: &[Vec<u8>], parts: usize) -> Vec<u8> {
+        (0..self.rng.below(parts + 1)).flat_map(|_| self.rng.pick(pool).clone()).collect()
+    }
+
+    fn mend(&mut self, pool: &[Vec<u8>]) {
+        let (law, octets) = (self.law(), self.octets(pool, 8));
+        let total = match self.rng.below(20) {
+            0 => self.rng.next_u64(),
+            1 => 999_960 + self.rng.below(100) as u64,
+            _ => 40 * self.rng.below(80) as u64,
+        };
+        let room = if self.rng.chance(1, 6) { self.rng.below(200) } else { octets.len() + 3_200 };
+        self.menders.call(&octets, law, total, room);
     }
 }

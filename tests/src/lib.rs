@@ -3,7 +3,7 @@
 //!
 //! A [`Pair`] asks two back ends the same. [`forms`], [`faults`], [`frames`] and [`streams`] make what they are asked,
 //! and a [`Table`] counts what was met. [`settings`] does the same for a box's settings, [`why`] for the lines that say why a
-//! tool was taken.
+//! tool was taken, [`mend`] for a greeting that is mended.
 
 #![deny(unsafe_code)]
 
@@ -16,6 +16,7 @@ pub mod frames;
 pub mod further;
 pub mod fuzz;
 pub mod measure;
+pub mod mend;
 pub mod met;
 mod notation;
 mod pair;

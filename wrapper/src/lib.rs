@@ -1,10 +1,12 @@
 //! G.711.0 frames of the seven carried tools, read, written and walked by the proved code of libg7110.a; frames of samples
-//! converted to linear values and back; [`why`] a frame takes its tool; and a box's [`settings`], saved and put back.
+//! converted to linear values and back; [`why`] a frame takes its tool; a box's [`settings`], saved and put back; and a
+//! damaged greeting, [`mending`] it.
 //!
 //! include/g7110.h is the manual; the names here are its names. No call uses the heap.
 
 #![deny(unsafe_code)]
 
+pub mod mending;
 pub mod raw;
 #[cfg(feature = "writer")]
 mod reasons;
@@ -32,7 +34,7 @@ impl Law {
 }
 
 /// The header's version.
-pub const VERSION: u32 = 5;
+pub const VERSION: u32 = 6;
 /// Octets of stack that a call uses at most: measured, not proved.
 pub const STACK: usize = 8_192;
 /// Every carried tool. Tool t, 1 to 7, adds 2^(t-1) to a set; a writer's set is odd.

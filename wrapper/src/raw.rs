@@ -48,6 +48,15 @@ extern "C" {
     fn g7110_settings_back(state: *mut [u32; 41], revision: u32, report: *mut [u64; 1]) -> u32;
     fn g7110_settings_read(state: *const [u32; 41], revision: u32, text: *mut [u8; 80], report: *mut [u64; 1]) -> u32;
     fn g7110_settings_wipe(state: *mut [u32; 41]) -> u32;
+    fn g7110_mend(
+        octets: *const u8,
+        octets_len: usize,
+        law: u32,
+        total: u64,
+        out: *mut u8,
+        out_len: usize,
+        report: *mut [u64; 4],
+    ) -> u32;
 }
 
 /// The ending; the report is samples, octets, bits, tool and the refusal's bit.
@@ -110,4 +119,10 @@ pub fn settings_read(state: &[u32; 41], revision: u32, text: &mut [u8; 80], repo
 pub fn settings_wipe(state: &mut [u32; 41]) -> u32 {
     // SAFETY: as in `settings_save`.
     unsafe { g7110_settings_wipe(state) }
+}
+
+/// The ending; the report is octets of the result, frames kept, octets kept and samples filled.
+pub fn mend(octets: &[u8], law: u32, total: u64, out: &mut [u8], report: &mut [u64; 4]) -> u32 {
+    // SAFETY: as in `read`.
+    unsafe { g7110_mend(octets.as_ptr(), octets.len(), law, total, out.as_mut_ptr(), out.len(), report) }
 }

@@ -217,3 +217,23 @@ fn settings_are_refused_and_unchanged() {
     assert_eq!(g7110::raw::settings_back(&mut state, 1, &mut report), settings::Refusal::Gone.number());
     assert_eq!(report, [0], "a report is written in every case");
 }
+
+/// The header's third example: a greeting mended, and what is refused leaves the output as lent.
+#[test]
+fn a_greeting_is_mended() {
+    use g7110::mending::{mend, Mended, Refusal};
+    let mut out = [0xA7; 8];
+    let told = mend(&[0x41, 0x00, 0x56, 0x0F, 0x86], Law::Mu, 160, &mut out);
+    assert_eq!(told, Ok(Mended { octets: 5, frames: 3, kept: 4, filled: 80 }));
+    assert_eq!(out, [0x41, 0x00, 0x56, 0x0F, 0x81, 0xA7, 0xA7, 0xA7]);
+    let mut out = [0xA7; 8];
+    assert_eq!(mend(&[0x41, 0x00, 0x41, 0x00], Law::A, 40, &mut out), Ok(Mended { octets: 2, frames: 2, kept: 2, filled: 0 }));
+    assert_eq!(out, [0x41, 0x00, 0xA7, 0xA7, 0xA7, 0xA7, 0xA7, 0xA7]);
+    let mut out = [0xA7; 1];
+    assert_eq!(mend(&[], Law::A, 39, &mut out), Err(Refusal::Total));
+    assert_eq!(mend(&[], Law::A, 1_000_040, &mut out), Err(Refusal::Total));
+    assert_eq!(mend(&[], Law::A, 400, &mut out), Err(Refusal::Frame(g7110::Refusal::Room)));
+    assert_eq!(mend(&[0; 65_535], Law::A, 40, &mut out), Err(Refusal::Frame(g7110::Refusal::Long)));
+    assert_eq!(mend(&[0; 65_536], Law::A, 39, &mut out), Err(Refusal::Frame(g7110::Refusal::Long)));
+    assert_eq!(out, [0xA7]);
+}

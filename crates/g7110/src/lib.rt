@@ -5,7 +5,9 @@ ghost use lib.ListN.{length};
 ghost use Rattle.rules.specs.Frame.{readOne};
 ghost use Rattle.rules.specs.Walk.{walkAll};
 ghost use Rattle.rules.specs.Chooses.{writeOne};
+ghost use Rattle.mending.specs.Mend.{mendOf};
 ghost use Rattle.settings.specs.Calls.{Wipe};
+ghost use Rattle.g7110.specs.Mending.{MendReported};
 ghost use Rattle.g7110.specs.Settings.{SaveReported, BackReported, RevisionReported};
 ghost use Rattle.reasons.specs.Why.{whyOne};
 ghost use Rattle.linear.specs.Equations.{toPCM, fromPCM};
@@ -171,4 +173,26 @@ pub extern "C" fn g7110_settings_wipe(state: &mut [u32; 41]) -> u32
 {
     settings::wipe(state);
     0
+}
+
+// Mending a damaged greeting: the number, and in the report octets of the result, frames kept, octets kept and samples filled.
+#[no_mangle]
+pub extern "C" fn g7110_mend(
+    octets: &[u8],
+    law: u32,
+    total: u64,
+    out: &mut [u8],
+    report: &mut [u64; 4],
+) -> u32
+    ensures { λ r. ⌜ MendReported (mendOf (now (octets .entry)) law total (length (now (out .entry)))) (now (out .entry)) (now (out .exit)) (now (report .exit)) r ⌝ }
+{
+    let a = mending::mend(octets, law, total, out);
+    *report = [
+        a.octets as u64,
+        a.frames as u64,
+        a.kept as u64,
+        a.filled as u64,
+    ];
+    let end = a.end;
+    mending::mend_number(end)
 }

@@ -1,0 +1,280 @@
+// The bench tool `mend`: a damaged greeting and its true total of samples to a greeting of that total. What is kept and what is filled stands in
+// crate `mending`. The result is whole before OUTFILE is opened, so a refused greeting leaves that file as it was.
+ghost use Prim.Native.Nat.{_≤_};
+ghost use lib.ListN.{length};
+use console::Got;
+use rules::Ending;
+use texts::Number;
+
+// What the arguments say: the law (2 where no option tells it), the total and whether it was told, the arguments of the two files (0 is none).
+// `wants` says that the next argument is the total, `wrong` that one is not known.
+struct Asked {
+    law: u32,
+    total: u64,
+    told: bool,
+    wants: bool,
+    infile: usize,
+    outfile: usize,
+    wrong: bool,
+}
+
+fn with_total(mut a: Asked, text: &[u8]) -> Asked {
+    a.wants = false;
+    let n = texts::number_in(text);
+    let Number::Is(v) = n else {
+        a.wrong = true;
+        return a;
+    };
+    a.total = v as u64;
+    a.told = true;
+    a
+}
+
+// The first file is INFILE, the second OUTFILE, and there is no third.
+fn with_file(mut a: Asked, index: usize) -> Asked {
+    if a.infile == 0 {
+        a.infile = index;
+        return a;
+    }
+    if a.outfile == 0 {
+        a.outfile = index;
+        return a;
+    }
+    a.wrong = true;
+    a
+}
+
+// An option: "-u", "-a", "-t TOTAL" or "-tTOTAL".
+fn with_option(mut a: Asked, letter: u8, rest: &[u8]) -> Asked {
+    if letter == b't' {
+        if rest.len() != 0 {
+            return with_total(a, rest);
+        }
+        a.wants = true;
+        return a;
+    }
+    if rest.len() != 0 {
+        a.wrong = true;
+        return a;
+    }
+    if letter == b'u' {
+        a.law = 1;
+        return a;
+    }
+    if letter == b'a' {
+        a.law = 0;
+        return a;
+    }
+    a.wrong = true;
+    a
+}
+
+// One argument more; "-" alone is a file.
+fn step(mut a: Asked, text: &[u8], index: usize) -> Asked {
+    if a.wants {
+        return with_total(a, text);
+    }
+    if text.len() == 0 {
+        a.wrong = true;
+        return a;
+    }
+    if text.len() == 1 {
+        return with_file(a, index);
+    }
+    if text[0] != b'-' {
+        return with_file(a, index);
+    }
+    with_option(a, text[1], &text[2..])
+}
+
+fn with_argument(mut a: Asked, index: usize, text: &mut [u8]) -> Asked {
+    let n = os::arg(index, text);
+    if os::errno() != 0 {
+        a.wrong = true;
+        return a;
+    }
+    step(a, &text[..n], index)
+}
+
+fn arguments() -> Asked {
+    let mut text = [0u8; 4095];
+    let view: &mut [u8] = &mut text;
+    let count = os::arg_count();
+    let mut a = Asked {
+        law: 2,
+        total: 0,
+        told: false,
+        wants: false,
+        infile: 0,
+        outfile: 0,
+        wrong: false,
+    };
+    let mut i = 1;
+    while i < count {
+        let next = with_argument(a, i, view);
+        a = next;
+        i += 1;
+    }
+    a
+}
+
+// The law: as an option says, otherwise as INFILE's ending tells.
+fn law_of(law: u32, name: &[u8]) -> u32 {
+    if law == 2 {
+        return filenames::law_told(false, name);
+    }
+    law
+}
+
+fn usage(why: &[u8]) {
+    console::say(b"mend: ");
+    console::say(why);
+    console::say(b"\nusage: mend [-u|-a] -t TOTAL INFILE OUTFILE\n");
+    console::stop(options::UNPACK, 64, 0, 0, 0);
+}
+
+// Whether the call can't be made, and why.
+fn wrongly_asked(a: Asked, law: u32) -> bool {
+    if a.wrong {
+        usage(b"an argument is not known, or no number of 1 to 9 digits");
+        return true;
+    }
+    if !a.told {
+        usage(b"the total is not said");
+        return true;
+    }
+    if a.outfile == 0 {
+        usage(b"INFILE and OUTFILE must be said");
+        return true;
+    }
+    if law == 2 {
+        usage(b"the law is not known: say -u or -a");
+        return true;
+    }
+    false
+}
+
+// A file that could not be opened, read or written.
+fn failed(name: &[u8], standard: &[u8]) {
+    console::say(b"mend: ");
+    if name.len() == 0 {
+        os::fail(standard);
+    } else {
+        os::fail(name);
+    }
+    console::stop(options::UNPACK, 74, 0, 0, 0);
+}
+
+// Reads the greeting, and one octet more where it is too long.
+fn read_greeting(name: &[u8], greeting: &mut [u8]) -> Got
+    ensures { λ r. ⌜ r .count ≤ length (now (greeting .exit)) ⌝ }
+{
+    let fd = console::open_in(name);
+    if fd < 0 {
+        failed(name, b"standard input");
+        return Got {
+            count: 0,
+            failed: true,
+        };
+    }
+    let got = console::read_part(fd, greeting);
+    if got.failed {
+        failed(name, b"standard input");
+    }
+    console::close(fd);
+    got
+}
+
+fn write_result(name: &[u8], result: &[u8]) -> bool {
+    let fd = console::open_out(name);
+    if fd < 0 {
+        return false;
+    }
+    if !io::write_all(fd, result) {
+        return false;
+    }
+    console::close(fd)
+}
+
+// The name of a refusal of document 01.
+fn say_name(number: u32) {
+    let mut name = [0u8; 8];
+    let n = refusals::refusal_name(number, &mut name);
+    console::say(&name[..n]);
+}
+
+// A greeting that is not mended, and the last line.
+fn refused(number: u32) {
+    console::say(b"mend: refused: ");
+    if number == 22 {
+        console::say(b"TOTAL");
+    } else {
+        say_name(number);
+    }
+    console::say(b"\n");
+    console::stop(options::UNPACK, number, 0, 0, 0);
+}
+
+// Why the walk of what is kept stopped, in words; nothing where it went through the whole greeting.
+fn say_stop(number: u32, place: usize, bit: usize) {
+    if number == 0 {
+        return;
+    }
+    console::say(b"mend: the walk stopped: ");
+    say_name(number);
+    console::say_number(b" at octet ", place);
+    console::say_number(b", bit ", bit);
+    console::say(b"\n");
+}
+
+// What was kept and filled, how the walk stopped, and the last line, whose place is the end of the octets written.
+fn finish(octets: usize, frames: usize, kept: usize, filled: usize, stop: Ending, bit: usize) {
+    let number = rules::number_of(stop);
+    say_stop(number, kept, bit);
+    console::say_number(b"frames=", frames);
+    console::say_number(b" kept=", kept);
+    console::say_number(b" filled=", filled);
+    console::say_number(b"\nwalk=", number as usize);
+    console::say_number(b" at=", kept);
+    console::say_number(b" tool=", rules::tool_of(stop) as usize);
+    console::say_number(b" bit=", bit);
+    console::say(b"\n");
+    console::stop(options::UNPACK, 0, octets, 0, 0);
+}
+
+fn run(law: u32, total: u64, name: &[u8], other: &[u8]) {
+    let mut greeting = [0u8; 65536];
+    let got = read_greeting(name, &mut greeting);
+    if got.failed {
+        return;
+    }
+    let n = got.count;
+    let mut result = [0u8; 65535];
+    let a = mending::mend(&greeting[..n], law, total, &mut result);
+    let end = a.end;
+    let number = mending::mend_number(end);
+    if number != 0 {
+        refused(number);
+        return;
+    }
+    let k = a.octets;
+    if !write_result(other, &result[..k]) {
+        failed(other, b"standard output");
+        return;
+    }
+    let stop = a.stop;
+    finish(k, a.frames, a.kept, a.filled, stop, a.bit);
+}
+
+fn main() {
+    let a = arguments();
+    let mut space = [0u8; 4095];
+    let n = console::file_name(a.infile, &mut space);
+    let law = law_of(a.law, &space[..n]);
+    if wrongly_asked(a, law) {
+        return;
+    }
+    let mut names = [0u8; 4095];
+    let m = console::file_name(a.outfile, &mut names);
+    run(law, a.total, &space[..n], &names[..m]);
+}

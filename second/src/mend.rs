@@ -1,0 +1,90 @@
+//! Mending a damaged greeting (document 02, R-12).
+
+use crate::read::read_frame;
+use crate::walk::MOST_OCTETS;
+use crate::MOST_SAMPLES;
+
+const ROOM: u32 = 4;
+const LAW: u32 = 12;
+const LONG: u32 = 13;
+const TOTAL: u32 = 22;
+
+/// Every tool that is carried.
+const ALL_TOOLS: u32 = 127;
+const MOST_TOTAL: u64 = 1_000_000;
+
+/// Constant plus zero frames, the longest first: samples, and the one octet.
+const FILLING: [(usize, u8); 5] = [(320, 0x31), (240, 0x21), (160, 0xC1), (80, 0x81), (40, 0x41)];
+
+#[derive(Clone, Copy, Debug, Default, PartialEq, Eq)]
+pub struct Mended {
+    /// Octets of the result.
+    pub octets: usize,
+    pub frames_kept: usize,
+    pub octets_kept: usize,
+    pub samples_filled: usize,
+}
+
+/// Writes the mended greeting to the start of `out`, or gives the number of
+/// the refusal: then nothing is written.
+pub fn mend(octets: &[u8], law: u32, total: u64, out: &mut [u8]) -> Result<Mended, u32> {
+    if law > 1 {
+        return Err(LAW);
+    }
+    if octets.len() > MOST_OCTETS {
+        return Err(LONG);
+    }
+    if total % 40 != 0 || total > MOST_TOTAL {
+        return Err(TOTAL);
+    }
+    let kept = keep(octets, law, total as usize);
+    let samples_filled = total as usize - kept.samples;
+    let mut result = octets[..kept.octets].to_vec();
+    result.extend(filling(samples_filled));
+    if result.len() > MOST_OCTETS {
+        return Err(LONG);
+    }
+    out.get_mut(..result.len()).ok_or(ROOM)?.copy_from_slice(&result);
+    Ok(Mended {
+        octets: result.len(),
+        frames_kept: kept.frames,
+        octets_kept: kept.octets,
+        samples_filled,
+    })
+}
+
+#[derive(Default)]
+struct Kept {
+    frames: usize,
+    octets: usize,
+    samples: usize,
+}
+
+/// The whole frames from the start, up to the first that is refused or that
+/// would pass the total. A pad never passes it, so pads at the total are kept.
+fn keep(octets: &[u8], law: u32, total: usize) -> Kept {
+    let mut kept = Kept::default();
+    while kept.octets < octets.len() {
+        let frame = read_frame(&octets[kept.octets..], law, ALL_TOOLS, &mut [0; MOST_SAMPLES]);
+        if frame.ending != 0 || kept.samples + frame.samples > total {
+            break;
+        }
+        kept.frames += 1;
+        kept.octets += frame.octets;
+        kept.samples += frame.samples;
+    }
+    kept
+}
+
+/// Frames of plus zeros for so many samples.
+fn filling(samples: usize) -> Vec<u8> {
+    let mut octets = vec![];
+    let mut left = samples;
+    for (length, octet) in FILLING {
+        while left >= length {
+            octets.push(octet);
+            left -= length;
+        }
+    }
+    octets
+}
