@@ -1,0 +1,1 @@
+// Closing up (document 02, R-6): "all greetings first close up from 0 in their order".
