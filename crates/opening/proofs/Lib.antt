@@ -1,3 +1,2 @@
 pub mod Six
 pub mod Opened
-pub mod Ordered

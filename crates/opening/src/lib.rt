@@ -10,6 +10,7 @@ ghost use Rattle.bits.specs.Outcomes.{Reads};
 ghost use Rattle.opening.specs.Opening.{Opens, SixOrEight, Starts};
 use bits::Outcome;
 use prefix::Begins;
+use rules::Ending;
 use rules::Refusal;
 
 // What a frame's first bits say: its tool and length, tool 6's mark, and the place where its body begins.
@@ -99,11 +100,8 @@ fn opening_of(octets: &[u8]) -> Opening
 pub fn opens(octets: &[u8], law: u32, set: u32) -> Opening
     ensures { λ r. ⌜ Starts (now (octets .entry)) law set r ⌝ }
 {
-    if 1 < law {
-        return Opening::Refused(Refusal::Law, 0);
+    match rules::guard(law, set) {
+        Ending::Refused(why) => Opening::Refused(why, 0),
+        Ending::Done => opening_of(octets),
     }
-    if 127 < set {
-        return Opening::Refused(Refusal::Set, 0);
-    }
-    opening_of(octets)
 }

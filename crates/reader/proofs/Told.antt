@@ -1,17 +1,28 @@
 -- A report tells of a reading whatever equal reading it tells of.
-use mathlib.Core.Path.{_≡_, refl, sym, subst, _∙_}
+use mathlib.Core.Path.{_≡_, refl, sym, ap, subst, _∙_}
 use mathlib.Core.List.{List, [], _++_}
 use Prim.Native.Nat.{ℕ, _≤_}
 use native.Mathlib.Omega.{arith}
 use lib.ListN.{length, take, drop, length-take}
 use Rattle.rules.specs.declared.Refusal.{Refusal}
-use Rattle.rules.specs.Bits.{fillFor}
+use Rattle.rules.specs.Bits.{bitsOf, fillFor}
+use Rattle.rules.specs.Samples.{maskOf}
 use Rattle.rules.specs.Reading.{Read, whole, refuse, andThen, filled}
-use Rattle.rules.specs.Frame.{Found}
+use Rattle.rules.specs.Frame.{Found, readOne}
 use Rattle.rules.specs.Calls.{readSamples}
+use Rattle.opening.specs.declared.Opening.{Opening}
+use Rattle.opening.specs.Opening.{afterOpening, Ranges, Starts}
 use Rattle.reader.specs.declared.Report.{Report}
 use Rattle.reader.specs.Answers.{Tells, Fills, ReadsInto, finish}
 use Rattle.reader.proofs.Filled.{filled-as}
+
+-- the frame opens as o: the reading is what follows that
+module _ {octets : List ℕ} {law set : ℕ} {r o : Opening} (t : Starts octets law set r) (e : r ≡ o) where
+  pub opened : (room : ℕ) → afterOpening (maskOf law) set room o (bitsOf octets) ≡ readOne octets law set room
+  opened room = ap (λ (o : Opening). afterOpening (maskOf law) set room o (bitsOf octets)) (sym e) ∙ t .says room
+
+  pub opened-fits : Ranges octets o
+  opened-fits = subst (Ranges octets) e (t .ranges)
 
 pub tells-as : {m n : Read Found} {r : Report} → m ≡ n → Tells m r → Tells n r
 tells-as {r = r} e t = subst (λ (m : Read Found). Tells m r) e t
@@ -19,9 +30,9 @@ tells-as {r = r} e t = subst (λ (m : Read Found). Tells m r) e t
 pub fills-as : {m n : Read Found} {r : Report} {buffer : List ℕ} → m ≡ n → Fills m r buffer → Fills n r buffer
 fills-as {r = r} {buffer = buffer} e t = subst (λ (m : Read Found). Fills m r buffer) e t
 
--- the frame buffer of a refused frame holds none of its samples
-pub fills-none : {n : Read Found} {w : Refusal} {at : ℕ} {r : Report} {buffer : List ℕ} → refuse w at ≡ n → length buffer ≡ 320 → Tells (refuse w at) r → Fills n r buffer
-fills-none e l t = fills-as e (record { tells = t; samples = refl; size = l })
+-- a frame with no samples, or a refused one: the frame buffer holds none of its samples
+pub fills-none : {m n : Read Found} {r : Report} {buffer : List ℕ} → m ≡ n → readSamples m ≡ [] → length buffer ≡ 320 → Tells m r → Fills n r buffer
+fills-none {m} {r = r} {buffer = buffer} e z l t = fills-as e (record { tells = t; samples = rw z; size = l })
 
 -- the filling bits are read, and the samples are a whole body's, or none
 abbrev Has : List ℕ → Read Found → Type 0

@@ -138,6 +138,19 @@ fn with_tool(
     }
 }
 
+// One frame read into a frame buffer that is lent, its room a number: what is reported, and an accepted frame's samples at the buffer's start.
+// For a walk that keeps no samples: nothing is put out, and one buffer serves every frame.
+pub fn fill_frame(octets: &[u8], law: u32, set: u32, room: usize, samples: &mut [u8; 320]) -> Report
+    requires { ⌜ length (now samples) ≡ 320 ⌝ }
+    ensures { λ r. ⌜ Fills (readOne (now (octets .entry)) law set room) r (now (samples .exit)) ⌝ }
+{
+    match opens(octets, law, set) {
+        Opening::Refused(why, bit) => refused(why, bit),
+        Opening::Pad => pad(),
+        Opening::Body(h) => with_tool(octets, law, set, room, h, samples),
+    }
+}
+
 // The first n of some samples to the start of others; the rest of them stays as lent.
 fn put_out(samples: &[u8], n: usize, out: &mut [u8])
     requires { ⌜ (n ≤ length (now samples)) × (n ≤ length (now out)) ⌝ }

@@ -6,7 +6,7 @@ use native.Mathlib.Nat.{not-suc-le-zero}
 use native.Mathlib.Omega.{arith}
 use native.Mathlib.Decide.{ℕ-discrete}
 use lib.Dec.{eqb}
-use borrow.Author.Tests.{eqb-true}
+use borrow.Author.Tests.{eqb-true, ne-eqb}
 use Rattle.rules.specs.Tools.{isLength}
 
 pub and-left : (a b : Bool) → (a && b) ≡ true → a ≡ true
@@ -49,3 +49,6 @@ by-length P a b c d e n h =
   where
     is : (m : ℕ) → P m → eqb n m ≡ true → P n
     is m p h = subst P (sym (eqb-true n m h)) p
+
+pub not-length : (n : ℕ) → (n ≡ 40 → ⊥) → (n ≡ 80 → ⊥) → (n ≡ 160 → ⊥) → (n ≡ 240 → ⊥) → (n ≡ 320 → ⊥) → false ≡ isLength n
+not-length n a b c d e = rw (ne-eqb n 40 a, ne-eqb n 80 b, ne-eqb n 160 c, ne-eqb n 240 d, ne-eqb n 320 e)

@@ -6,8 +6,9 @@ use lib.ListN.{length, getD, take}
 use lib.Dec.{eqb, leb, ltb}
 use lib.IntN.{ℤ, pos, negsuc}
 use Rattle.rules.specs.declared.Refusal.{Refusal}
-use Rattle.rules.specs.declared.Refusal.the-variants.{Length, Set, Law, Room}
-use Rattle.rules.specs.Tools.{holds, isWriterSet, isLaw, isLength}
+use Rattle.rules.specs.declared.Refusal.the-variants.{Length, Room}
+use Rattle.rules.specs.Refusals.{judged}
+use Rattle.rules.specs.Tools.{holds, writerAsks, isLength}
 use Rattle.rules.specs.Bits.{lowBits, octetsFor}
 use Rattle.rules.specs.Samples.{maskOf, signed, sampleOf, plusZero, minusZero, onLine}
 use Rattle.rules.specs.Runs.{runsForm}
@@ -193,8 +194,7 @@ pub data Write : Type 0 where
 -- "Order: LAW, SET, then LENGTH"; "ROOM means the chosen form's octets for a writer"
 unfoldable pub writeOne : ℕ → List ℕ → ℕ → ℕ → ℕ → Write
 writeOne n samples law set room =
-    cond (not (isLaw law)) (declined Law)
-    (cond (not (isWriterSet set)) (declined Set)
+    judged (writerAsks law set) declined
     (cond (not (eqb n 0 || isLength n)) (declined Length)
     (cond (ltb room (octetsFor (length (chosen (maskOf law) set (take n samples) .bits)))) (declined Room)
-    (wrote (chosen (maskOf law) set (take n samples))))))
+    (wrote (chosen (maskOf law) set (take n samples)))))

@@ -4,8 +4,9 @@ use mathlib.Core.List.{List, []}
 use mathlib.Core.Bool.{cond, not}
 use lib.ListN.{length}
 use lib.Dec.{eqb, ltb}
-use Rattle.rules.specs.declared.Refusal.the-variants.{Prefix, Tool, Room, Set, Law}
-use Rattle.rules.specs.Tools.{holds, isSet, isLaw}
+use Rattle.rules.specs.declared.Refusal.the-variants.{Prefix, Tool, Room}
+use Rattle.rules.specs.Refusals.{judged}
+use Rattle.rules.specs.Tools.{holds, readerAsks}
 use Rattle.rules.specs.Bits.{bitsOf, octetsFor, fillFor}
 use Rattle.rules.specs.Reading.{Read, Reader, _>>=_, give, fail, here, from, bit, number, filled}
 use Rattle.rules.specs.First.{First, unassigned, pad, tool, sixOrEight, firstOctet, markAt, sixNotEight}
@@ -60,10 +61,7 @@ frame mask set room = do
 
 -- one frame, `room` being the output's: "Order: LAW, SET", then the frame
 abbrev pub single : ℕ → ℕ → ℕ → Reader Found
-single law set room =
-    cond (not (isLaw law)) (fail Law 0)
-    (cond (not (isSet set)) (fail Set 0)
-    (frame (maskOf law) set room))
+single law set room = judged (readerAsks law set) (λ why. fail why 0) (frame (maskOf law) set room)
 
 -- "one frame at the start of some octets"
 unfoldable pub readOne : List ℕ → ℕ → ℕ → ℕ → Read Found

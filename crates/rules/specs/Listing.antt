@@ -83,16 +83,19 @@ walkLines w =
     frameLines 0 (w .frames)
     ++ (stopLine (numberOf (w .end)) (w .place) (toolNamed (w .end)) (w .bit) ++ samplesLine (length (samplesKept (w .frames))))
 
--- "a stream of at most 65,535 octets": the program's own bound
+-- "a stream of at most 65,535 octets; set 127": the program's own bound and set
 abbrev pub mostListed : ℕ
 mostListed = 65535
+
+abbrev pub listedTools : ℕ
+listedTools = 127
 
 -- "A or M, then a stream of at most 65,535 octets; set 127. Room is never short": 320 samples for each octet are enough.
 -- "a longer stream prints that line with 13"
 unfoldable pub listStream : ℕ → List ℕ → List ℕ
 listStream law stream =
     cond (not (leb (length stream) mostListed)) (stopLine (refusalNumber Long) 0 0 0)
-    (lawLine law ++ walkLines (walkAll stream law 127 (320 * length stream)))
+    (lawLine law ++ walkLines (walkAll stream law listedTools (320 * length stream)))
 
 -- "Input with no or another first octet prints `stop=12 at=0 tool=0` only", and from R-7 on ` bit=0` after it
 unfoldable pub listing : List ℕ → List ℕ

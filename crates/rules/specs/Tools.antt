@@ -1,8 +1,11 @@
--- Document 01, "The part of G.711.0 we carry": tool sets, laws, lengths.
+-- Document 01, "The part of G.711.0 we carry": tool sets, laws, lengths; and what a call asks of them.
 use Prim.Native.Nat.{ℕ, _-_, _^_, _/_, _%_}
 use mathlib.Core.Path.{_≡_}
+use mathlib.Core.List.{List, [], _∷_}
 use mathlib.Core.Bool.{Bool, true, _&&_, _||_}
 use lib.Dec.{eqb, leb}
+use Rattle.rules.specs.declared.Refusal.the-variants.{Set, Law}
+use Rattle.rules.specs.Refusals.{Asked, ask}
 
 -- "Tool t (1 to 7) adds 2^(t-1)": whether a set holds tool t
 unfoldable pub holds : ℕ → ℕ → Bool
@@ -13,17 +16,30 @@ pub record Within (a b : ℕ) : Type 0 where
   pub also : (t : ℕ) → holds a t ≡ true → holds b t ≡ true
 
 -- "A tool set is a number from 0 to 127."
+abbrev pub allTools : ℕ
+allTools = 127
+
 abbrev pub isSet : ℕ → Bool
-isSet set = leb set 127
+isSet set = leb set allTools
 
 -- "A writer's set must hold tool 1, so it is odd."
 abbrev pub isWriterSet : ℕ → Bool
 isWriterSet set = isSet set && eqb (set % 2) 1
 
 -- "The law is 0 for A, 1 for mu."
+abbrev pub mostLaw : ℕ
+mostLaw = 1
+
 abbrev pub isLaw : ℕ → Bool
-isLaw law = leb law 1
+isLaw law = leb law mostLaw
 
 -- the lengths that a frame of samples may have; a frame of none is a pad
 abbrev pub isLength : ℕ → Bool
 isLength n = eqb n 40 || eqb n 80 || eqb n 160 || eqb n 240 || eqb n 320
+
+-- "Order: LAW, SET": what a reader asks of its settings, and a writer
+abbrev pub readerAsks : ℕ → ℕ → List Asked
+readerAsks law set = ask Law (isLaw law) ∷ ask Set (isSet set) ∷ []
+
+abbrev pub writerAsks : ℕ → ℕ → List Asked
+writerAsks law set = ask Law (isLaw law) ∷ ask Set (isWriterSet set) ∷ []

@@ -1,13 +1,14 @@
 -- Document 01, "Walk and listing": "each next frame starts where the last one ended, in the middle of the same octets".
 use Prim.Native.Nat.{ℕ, zero, suc, _+_, _-_}
 use mathlib.Core.List.{List, [], _∷_, _++_}
-use mathlib.Core.Bool.{cond, not}
+use mathlib.Core.Bool.{cond}
 use lib.ListN.{length, drop}
 use lib.Dec.{leb}
 use Rattle.rules.specs.declared.Refusal.{Refusal}
 use Rattle.rules.specs.declared.Refusal.the-variants.{Set, Law, Long}
 use Rattle.rules.specs.declared.Ending.{Ending}
 use Rattle.rules.specs.declared.Ending.the-variants.{Done, Refused}
+use Rattle.rules.specs.Refusals.{Asked, ask, judged}
 use Rattle.rules.specs.Tools.{isSet, isLaw}
 use Rattle.rules.specs.Reading.{Read, whole, refuse}
 use Rattle.rules.specs.Frame.{Found, octetsUsed, readOne}
@@ -49,13 +50,15 @@ walkFrom (suc more) octets law set at room =
 abbrev pub longest : ℕ
 longest = 65535
 
+-- "Order: LAW, SET, then .. LONG"
+abbrev pub walkAsks : ℕ → ℕ → ℕ → List Asked
+walkAsks law set octets = ask Law (isLaw law) ∷ ask Set (isSet set) ∷ ask Long (leb octets longest) ∷ []
+
 -- "LAW, SET and LONG refuse a walk before any frame, with place 0."
 unfoldable pub walkAll : List ℕ → ℕ → ℕ → ℕ → Walked
 walkAll octets law set room =
-    cond (not (isLaw law)) (stopped (Refused Law) 0 0)
-    (cond (not (isSet set)) (stopped (Refused Set) 0 0)
-    (cond (not (leb (length octets) longest)) (stopped (Refused Long) 0 0)
-    (walkFrom (suc (length octets)) octets law set 0 room)))
+    judged (walkAsks law set (length octets)) (λ why. stopped (Refused why) 0 0)
+    (walkFrom (suc (length octets)) octets law set 0 room)
 
 -- what is read off the list of frames
 unfoldable pub octetsKept : List Delivered → ℕ

@@ -1,7 +1,9 @@
-// The vocabulary of document 01: a frame, the thirteen refusals, and the answers of the three calls.
+// The vocabulary of document 01: a frame, the thirteen refusals, the limits with what is asked before all else, and the answers of the three calls.
 // What each case and each answer means stands in specs/.
 ghost use mathlib.Core.Path.{_≡_};
-ghost use Rattle.rules.specs.Refusals.{refusalNumber, refusalTool, numberOf, toolNamed};
+ghost use Rattle.rules.specs.Refusals.{refusalNumber, refusalTool, numberOf, toolNamed, verdict};
+ghost use Rattle.rules.specs.Tools.{isLength, readerAsks, writerAsks};
+ghost use Rattle.rules.specs.Walk.{walkAsks};
 
 // "One frame with its samples and its length travel together". A reader leaves 00 past the length; a writer does not look there.
 pub struct Frame {
@@ -91,6 +93,80 @@ pub fn tool_of(end: Ending) -> u32
     match end {
         Ending::Done => 0,
         Ending::Refused(why) => refusal_tool(why),
+    }
+}
+
+// Each limit has one name here and one in the paper (`mostLaw`, `allTools`, `longest`, `mostListed`, `listedTools`).
+// "The law is 0 for A, 1 for mu."
+pub const MOST_LAW: u32 = 1;
+
+// "A tool set is a number from 0 to 127."
+pub const ALL_TOOLS: u32 = 127;
+
+// "walk given more than 65,535 octets" is LONG.
+pub const LONGEST: usize = 65535;
+
+// The listing program's own: "a stream of at most 65,535 octets; set 127".
+pub const MOST_LISTED: usize = 65535;
+
+pub const LISTED_TOOLS: u32 = 127;
+
+// "Order: LAW, SET": what a reader asks.
+pub fn guard(law: u32, set: u32) -> Ending
+    ensures { λ r. ⌜ r ≡ verdict (readerAsks law set) ⌝ }
+{
+    if MOST_LAW < law {
+        return Ending::Refused(Refusal::Law);
+    }
+    if ALL_TOOLS < set {
+        return Ending::Refused(Refusal::Set);
+    }
+    Ending::Done
+}
+
+// "Order: LAW, SET, then .. LONG": what a walk over so many octets asks.
+pub fn guard_stream(law: u32, set: u32, octets: usize) -> Ending
+    ensures { λ r. ⌜ r ≡ verdict (walkAsks law set octets) ⌝ }
+{
+    if MOST_LAW < law {
+        return Ending::Refused(Refusal::Law);
+    }
+    if ALL_TOOLS < set {
+        return Ending::Refused(Refusal::Set);
+    }
+    if LONGEST < octets {
+        return Ending::Refused(Refusal::Long);
+    }
+    Ending::Done
+}
+
+// What a writer asks: "A writer's set must hold tool 1, so it is odd."
+pub fn guard_writer(law: u32, set: u32) -> Ending
+    ensures { λ r. ⌜ r ≡ verdict (writerAsks law set) ⌝ }
+{
+    if MOST_LAW < law {
+        return Ending::Refused(Refusal::Law);
+    }
+    if ALL_TOOLS < set {
+        return Ending::Refused(Refusal::Set);
+    }
+    if set % 2 == 0 {
+        return Ending::Refused(Refusal::Set);
+    }
+    Ending::Done
+}
+
+// The lengths of frames that have samples; another is LENGTH.
+pub fn is_length(n: usize) -> bool
+    ensures { λ r. ⌜ r ≡ isLength n ⌝ }
+{
+    match n {
+        40 => true,
+        80 => true,
+        160 => true,
+        240 => true,
+        320 => true,
+        _ => false,
     }
 }
 

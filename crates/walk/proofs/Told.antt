@@ -10,7 +10,26 @@ use Rattle.rules.specs.Reading.{Read, whole, refuse}
 use Rattle.rules.specs.Frame.{Found, readOne}
 use Rattle.rules.proofs.Accepted.{read-accepts, read-uses}
 use Rattle.reader.specs.declared.Report.{Report}
-use Rattle.reader.specs.Answers.{ReadsInto}
+use Rattle.reader.specs.Answers.{Tells, ReadsInto}
+
+-- what a report tells of an accepted frame
+pub record TellsFrame (found : Read Found) (r : Report) : Type 0 where
+  pub frame : Found
+  pub next : ℕ
+  pub is : found ≡ whole frame next
+  pub tells : Tells (whole frame next) r
+
+pub tells-done : {found : Read Found} {r : Report} → Tells found r → r .end ≡ Done → TellsFrame found r
+tells-done {found = whole f i} t e = record { frame = f; next = i; is = refl; tells = t }
+tells-done {found = refuse v k} t e = let d = t .end in let z : _≡_ {A = ℕ} 0 1 = cc in absurd (omega arith)
+
+-- and of a refused one
+pub tells-refused : {found : Read Found} {why : Refusal} {r : Report} → Tells found r → r .end ≡ Refused why → found ≡ refuse why (r .bit)
+tells-refused {found = whole f i} t e = let d = t .end in let z : _≡_ {A = ℕ} 0 1 = cc in absurd (omega arith)
+tells-refused {found = refuse v k} {why = why} {r} t e =
+    let d = t .end in
+    let same : v ≡ why = cc in
+    rw (same, t .bit)
 
 -- an accepted frame
 pub record Accepts (found : Read Found) (r : Report) (out out′ : List ℕ) : Type 0 where
@@ -42,9 +61,12 @@ pub record Bounds (octets : List ℕ) (room : ℕ) (r : Report) : Type 0 where
   pub inside : r .octets ≤ length octets
   pub fits : r .len ≤ room
 
-pub read-bounds : (octets : List ℕ) (law set room : ℕ) {r : Report} {out out′ : List ℕ} → ReadsInto (readOne octets law set room) r out out′ → r .end ≡ Done → Bounds octets room r
-read-bounds octets law set room t e =
-    let a = accepted t e in
+pub tells-bounds : (octets : List ℕ) (law set room : ℕ) {r : Report} → Tells (readOne octets law set room) r → r .end ≡ Done → Bounds octets room r
+tells-bounds octets law set room t e =
+    let a = tells-done t e in
     let u = read-uses octets law set room (a .is) in
     let f = read-accepts octets law set room (a .is) .fits in
-    record { some = omega (arith, a .tells .tells .octets, u .0); inside = omega (arith, a .tells .tells .octets, u .1); fits = omega (arith, a .tells .tells .len, f) }
+    record { some = omega (arith, a .tells .octets, u .0); inside = omega (arith, a .tells .octets, u .1); fits = omega (arith, a .tells .len, f) }
+
+pub read-bounds : (octets : List ℕ) (law set room : ℕ) {r : Report} {out out′ : List ℕ} → ReadsInto (readOne octets law set room) r out out′ → r .end ≡ Done → Bounds octets room r
+read-bounds octets law set room t e = tells-bounds octets law set room (t .tells) e

@@ -1,9 +1,13 @@
 // Walking a stream: "each next frame starts where the last one ended, in the middle of the same octets".
+ghost use mathlib.Core.Path.{_≡_};
 ghost use Prim.Native.Nat.{suc, _≤_};
-ghost use lib.ListN.{length};
+ghost use lib.ListN.{length, drop};
+ghost use Rattle.rules.specs.Frame.{readOne};
 ghost use Rattle.rules.specs.Calls.{Walk, Walks};
 ghost use Rattle.rules.specs.Walk.{walkFrom};
+ghost use Rattle.reader.specs.Answers.{Fills};
 ghost use Rattle.walk.specs.Stepping.{Steps, StopsAtOnce};
+ghost use Rattle.walk.specs.Counting.{Counts};
 use reader::Report;
 use rules::Ending;
 use rules::Refusal;
@@ -63,6 +67,82 @@ fn frames(octets: &[u8], law: u32, set: u32, out: &mut [u8]) -> WalkAnswer
         place: at,
         bit: stop.bit,
     }
+}
+
+// One frame, at a place of the stream, read for what it reports; the frame buffer is lent.
+fn pass(
+    octets: &[u8],
+    law: u32,
+    set: u32,
+    at: usize,
+    room: usize,
+    samples: &mut [u8; 320],
+) -> Report
+    requires { ⌜ (at ≤ length (now octets)) × (length (now samples) ≡ 320) ⌝ }
+    ensures { λ r. ⌜ Fills (readOne (drop at (now (octets .entry))) law set room) r (now (samples .exit)) ⌝ }
+{
+    reader::fill_frame(&octets[at..], law, set, room, samples)
+}
+
+// What was walked so far, as an answer.
+fn answer(
+    end: Ending,
+    frames: usize,
+    octets: usize,
+    samples: usize,
+    place: usize,
+    bit: usize,
+) -> WalkAnswer
+    ensures { λ r. ⌜ r ≡ record { end = end; frames = frames; octets = octets; samples = samples; place = place; bit = bit } ⌝ }
+{
+    WalkAnswer {
+        end,
+        frames,
+        octets,
+        samples,
+        place,
+        bit,
+    }
+}
+
+// A walk from a place on that keeps no samples, of so many frames at most; its room is only a number that falls.
+// It can be taken up again: from its place on, with the room left.
+pub fn walk_on(
+    octets: &[u8],
+    law: u32,
+    set: u32,
+    at: usize,
+    frames: usize,
+    room: usize,
+) -> WalkAnswer
+    ensures { λ r. ⌜ Counts (walkFrom frames (now (octets .entry)) law set at room) r ⌝ }
+{
+    let mut samples = [0u8; 320];
+    let mut place = at;
+    let mut left = room;
+    let mut count = 0;
+    while count < frames && place < octets.len() {
+        let r = pass(octets, law, set, place, left, &mut samples);
+        let e = r.end;
+        match e {
+            Ending::Refused(why) => {
+                return answer(
+                    Ending::Refused(why),
+                    count,
+                    place - at,
+                    room - left,
+                    place,
+                    r.bit,
+                );
+            }
+            Ending::Done => {
+                place += r.octets;
+                left -= r.len;
+                count += 1;
+            }
+        }
+    }
+    answer(Ending::Done, count, place - at, room - left, place, 0)
 }
 
 // "LAW, SET and LONG refuse a walk before any frame, with place 0."

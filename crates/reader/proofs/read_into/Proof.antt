@@ -1,15 +1,11 @@
 -- How the frame opens; a body is read into the frame buffer, and put out from it (Told).
 use borrow.Author.Needs.{needs}
-use mathlib.Core.Path.{_≡_, refl, sym, ap, subst, _∙_}
+use mathlib.Core.Path.{refl, sym}
 use native.Mathlib.Omega.{arith}
 use lib.ListN.{length}
-use Rattle.rules.specs.Bits.{bitsOf}
-use Rattle.rules.specs.Samples.{maskOf}
 use Rattle.rules.specs.Frame.{readOne}
-use Rattle.opening.specs.declared.Opening.{Opening}
-use Rattle.opening.specs.Opening.{afterOpening, Ranges}
 use Rattle.reader.specs.Answers.{Fills}
-use Rattle.reader.proofs.Told.{fills-as, into-none, buffer-has, put-from}
+use Rattle.reader.proofs.Told.{opened, opened-fits, fills-as, into-none, buffer-has, put-from}
 use Rattle.reader.proofs.Lent.{samples-fit}
 use Rattle.reader.proofs.read_into.Statement.{statement}
 use Rattle.reader.proofs.read_into.Tie as tie
@@ -32,28 +28,14 @@ pad-requires c κs = search needs
 enum-known-h : tie.Need-enum-known-h
 enum-known-h c = search needs
 
--- it opens as o
-module _ (c : tie.After-opens) (o : Opening) (e : c .opens .result ≡ o) where
-  abbrev s : tie.Start
-  s = c .before .before .before
-
-  reading : afterOpening (maskOf (s .args .law)) (s .args .set) (length (s .args .out .now)) o (bitsOf (s .args .octets .now))
-      ≡ readOne (s .args .octets .now) (s .args .law) (s .args .set) (length (s .args .out .now))
-  reading =
-      ap (λ (o : Opening). afterOpening (maskOf (s .args .law)) (s .args .set) (length (s .args .out .now)) o (bitsOf (s .args .octets .now))) (sym e)
-      ∙ c .opens .ensures .says (length (s .args .out .now))
-
-  ranges : Ranges (s .args .octets .now) o
-  ranges = subst (Ranges (s .args .octets .now)) e (c .opens .ensures .ranges)
-
 with-tool-requires : tie.Need-with-tool-requires
 with-tool-requires c κs =
-    let r = ranges (c .before .before .before .before) _ (c .before .before .h .given .1) in
+    let r = opened-fits (c .before .before .before .before .opens .ensures) (c .before .before .h .given .1) in
     (r .0, r .1, refl)
 
 -- the body's samples are in the frame buffer
 fills : (c : tie.After-with-tool) → Fills (readOne (c .before .before .before .before .before .before .before .before .args .octets .now) (c .before .before .before .before .before .before .before .before .args .law) (c .before .before .before .before .before .before .before .before .args .set) (length (c .before .before .before .before .before .before .before .before .args .out .now))) (c .with-tool .result) (c .with-tool .last .1 .1 .1 .1 .1 .0)
-fills c = fills-as (reading (c .before .before .before .before .before) _ (c .before .before .before .h .given .1)) (c .with-tool .ensures)
+fills c = fills-as (opened (c .before .before .before .before .before .opens .ensures) (c .before .before .before .h .given .1) _) (c .with-tool .ensures)
 
 slice-aggregate-put-out : tie.Need-slice-aggregate-put-out
 slice-aggregate-put-out c = sym (fills (c .before) .size)
@@ -65,10 +47,10 @@ put-out-requires c κs =
     (buffer-has f, omega (arith, f .tells .len, samples-fit (s .args .octets .now) (s .args .law) (s .args .set) (length (s .args .out .now)) .1))
 
 returns : tie.Need-returns
-returns c = into-none (reading (c .before .before .before .before) _ (c .before .before .why .given .1)) refl (c .refused .ensures)
+returns c = into-none (opened (c .before .before .before .before .opens .ensures) (c .before .before .why .given .1) _) refl (c .refused .ensures)
 
 returns-2 : tie.Need-returns-2
-returns-2 c = into-none (reading (c .before .before .before) _ (c .before .enum-told .given .1)) refl (c .pad .ensures)
+returns-2 c = into-none (opened (c .before .before .before .opens .ensures) (c .before .enum-told .given .1) _) refl (c .pad .ensures)
 
 same-length : tie.Need-same-length
 same-length c = search needs

@@ -1,7 +1,7 @@
 -- TOOL, ROOM, the body, ALIGN (Decided), as the definition has them.
 use borrow.Author.Needs.{needs}
 use Prim.Native.Nat.{ℕ, _*_, _^_, _≤_}
-use mathlib.Core.Path.{_≡_, sym, ap, _∙_}
+use mathlib.Core.Path.{_≡_, refl, sym, ap, _∙_}
 use mathlib.Core.List.{List}
 use mathlib.Core.Bool.{true}
 use borrow.Author.Tests.{not-true, not-false}
@@ -29,7 +29,7 @@ refused-requires : tie.Need-refused-requires
 refused-requires c κs = search needs
 
 returns : tie.Need-returns
-returns c = fills-none (no-tool _ _ _ _ _ _ _ _ (sym (c .before .before .holds .ensures) ∙ not-true _ (c .before .if1 .taken))) (c .before .before .before .before .pre .2) (c .refused .ensures)
+returns c = fills-none (no-tool _ _ _ _ _ _ _ _ (sym (c .before .before .holds .ensures) ∙ not-true _ (c .before .if1 .taken))) refl (c .before .before .before .before .pre .2) (c .refused .ensures)
 
 refused-requires-2 : tie.Need-refused-requires-2
 refused-requires-2 c κs = search needs
@@ -38,7 +38,7 @@ held : (c : tie.Else1) → holds (c .before .before .before .args .set) (c .befo
 held c = sym (c .before .holds .ensures) ∙ not-false _ (c .if1 .left)
 
 returns-2 : tie.Need-returns-2
-returns-2 c = fills-none (no-room _ _ _ _ _ _ _ _ (held (c .before .before .before)) (c .before .if2 .taken)) (c .before .before .before .before .before .before .pre .2) (c .refused2 .ensures)
+returns-2 c = fills-none (no-room _ _ _ _ _ _ _ _ (held (c .before .before .before)) (c .before .if2 .taken)) refl (c .before .before .before .before .before .before .pre .2) (c .refused2 .ensures)
 
 mask-of-requires : tie.Need-mask-of-requires
 mask-of-requires c κs = search needs
@@ -86,7 +86,7 @@ finished-requires : tie.Need-finished-requires
 finished-requires c κs = within (c .before .before .before) (c .before .bits .given .1)
 
 returns-3 : tie.Need-returns-3
-returns-3 c = fills-none (no-body _ _ _ _ _ _ _ _ (held (c .before .before .before .before .before .before .before .before .before)) (omega arith) (body-refused (fills (c .before .before .before .before)) (c .before .before .why .given .1))) (body-length (fills (c .before .before .before .before)) (c .before .before .before .before .before .before .before .before .before .before .before .before .pre .2)) (c .refused3 .ensures)
+returns-3 c = fills-none (no-body _ _ _ _ _ _ _ _ (held (c .before .before .before .before .before .before .before .before .before)) (omega arith) (body-refused (fills (c .before .before .before .before)) (c .before .before .why .given .1))) refl (body-length (fills (c .before .before .before .before)) (c .before .before .before .before .before .before .before .before .before .before .before .before .pre .2)) (c .refused3 .ensures)
 
 returns-4 : tie.Need-returns-4
 returns-4 c =
