@@ -6,6 +6,7 @@ use lib.ListN.{length}
 use lib.Dec.{ltb}
 use Rattle.rules.specs.declared.Ending.{Ending}
 use Rattle.rules.specs.declared.Ending.the-variants.{Done, Refused}
+use Rattle.rules.specs.Tools.{allTools}
 use Rattle.rules.specs.Walk.{walkAll}
 
 abbrev pub isDone : Ending → Bool
@@ -14,7 +15,7 @@ isDone (Refused w) = false
 
 -- the tools of the store's walk
 abbrev pub storeSet : ℕ
-storeSet = 127
+storeSet = allTools
 
 -- the law does not matter to what a walk accepts: mu is taken
 abbrev pub storeLaw : ℕ

@@ -1,0 +1,68 @@
+use borrow.Author.Needs.{needs}
+use Rattle.closing.proofs.shift.Statement.{statement}
+use Rattle.closing.proofs.shift.Tie as tie
+use Rattle.closing.proofs.shift.Reads as reads
+use Rattle.closing.proofs.shift.Lts as lts
+
+abbrev Inv-loop : tie.InvT-loop
+Inv-loop block₀ from to n i₀ block i = ?
+
+abbrev μ-loop : tie.MeasureT-loop
+μ-loop block₀ from to n i₀ block i = ?
+
+-- src/lib.rt:15:5
+loop-holds : tie.Need-loop-holds Inv-loop μ-loop
+loop-holds c = search needs
+
+-- src/lib.rt:16:31
+add-block : tie.Need-add-block Inv-loop μ-loop
+add-block c = search needs
+
+-- src/lib.rt:16:25
+slice-read-block : tie.Need-slice-read-block Inv-loop μ-loop
+slice-read-block c = search needs
+
+-- src/lib.rt:16:15
+add-block-2 : tie.Need-add-block-2 Inv-loop μ-loop
+add-block-2 c = search needs
+
+-- src/lib.rt:16:9
+slice-write-block : tie.Need-slice-write-block Inv-loop μ-loop
+slice-write-block c = search needs
+
+-- src/lib.rt:15:9
+add-i : tie.Need-add-i Inv-loop μ-loop
+add-i c = search needs
+
+-- src/lib.rt:15:5
+loop-less : tie.Need-loop-less Inv-loop μ-loop
+loop-less c = search needs
+
+-- src/lib.rt:15:5
+loop-again : tie.Need-loop-again Inv-loop μ-loop
+loop-again c = search needs
+
+-- src/lib.rt:11:1
+same-length : tie.Need-same-length Inv-loop μ-loop
+same-length c = search needs
+
+-- src/lib.rt:11:1
+returns : tie.Need-returns Inv-loop μ-loop
+returns c = search needs
+
+pub shift-spec : {M : Type 1} → statement M
+shift-spec =
+    tie.close
+    (tie.spec
+    Inv-loop
+    μ-loop
+    loop-holds
+    add-block
+    slice-read-block
+    add-block-2
+    slice-write-block
+    add-i
+    loop-less
+    loop-again
+    same-length
+    returns)
