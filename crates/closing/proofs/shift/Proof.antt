@@ -1,3 +1,6 @@
+use Prim.Native.Nat.{_-_}
+use native.Mathlib.Omega.{arith}
+use Rattle.closing.proofs.Shifting.{Shifting, shift-none, shift-turn, shift-all}
 use borrow.Author.Needs.{needs}
 use Rattle.closing.proofs.shift.Statement.{statement}
 use Rattle.closing.proofs.shift.Tie as tie
@@ -5,14 +8,14 @@ use Rattle.closing.proofs.shift.Reads as reads
 use Rattle.closing.proofs.shift.Lts as lts
 
 abbrev Inv-loop : tie.InvT-loop
-Inv-loop block₀ from to n i₀ block i = ?
+Inv-loop block₀ from to n i₀ block i = Shifting block₀ from to n i block
 
 abbrev μ-loop : tie.MeasureT-loop
-μ-loop block₀ from to n i₀ block i = ?
+μ-loop block₀ from to n i₀ block i = n - i
 
 -- src/lib.rt:15:5
 loop-holds : tie.Need-loop-holds Inv-loop μ-loop
-loop-holds c = search needs
+loop-holds c = shift-none _ _ _ _
 
 -- src/lib.rt:16:31
 add-block : tie.Need-add-block Inv-loop μ-loop
@@ -40,7 +43,7 @@ loop-less c = search needs
 
 -- src/lib.rt:15:5
 loop-again : tie.Need-loop-again Inv-loop μ-loop
-loop-again c = search needs
+loop-again c = shift-turn (c .before .before .loop .inv) (omega arith) (omega arith) (omega arith)
 
 -- src/lib.rt:11:1
 same-length : tie.Need-same-length Inv-loop μ-loop
@@ -48,7 +51,7 @@ same-length c = search needs
 
 -- src/lib.rt:11:1
 returns : tie.Need-returns Inv-loop μ-loop
-returns c = search needs
+returns c = shift-all (c .before .loop .inv) (omega arith)
 
 pub shift-spec : {M : Type 1} → statement M
 shift-spec =
