@@ -21,7 +21,9 @@ row-inside t size n i e h g = rw e (rising-next t 0 size 0 n 1 i h g .inside)
 
 -- the part of the block that the code lends
 part-same : (b : List ℕ) (r : Row) → take (r .start + r .octets - r .start) (drop (r .start) b) ≡ greeting b r
-part-same b r = ap (λ (n : ℕ). take n (drop (r .start) b)) (omega arith)
+part-same b r =
+    let z : r .start + r .octets - r .start ≡ r .octets = omega arith in
+    ap (λ (n : ℕ). take n (drop (r .start) b)) z
 
 module _ (b t : List ℕ) (n i : ℕ) where
   pub bad-none : n ≤ i → false ≡ anyBad b (left t n i)

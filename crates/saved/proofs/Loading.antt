@@ -4,7 +4,7 @@ use mathlib.Core.Path.{_≡_, refl, sym, ap, _∙_}
 use mathlib.Core.List.{List, [], _∷_}
 use mathlib.Core.Bool.{Bool, true, false, cond, not}
 use native.Mathlib.Omega.{arith}
-use lib.ListN.{length, replicate}
+use lib.ListN.{length, getD}
 use lib.Dec.{ltb}
 use borrow.Author.Tests.{lt-ltb, le-ltb}
 use Rattle.rows.specs.declared.Row.{Row}
@@ -60,7 +60,8 @@ judged-whole b size none f g = let e = f .count in let z : _≡_ {A = ℕ} 0 1 =
 judged-whole b size (whole rows i) {cells} {cells′} {n} f g =
     let e = f .count in
     let k : n ≡ length rows = cc in
-    let r : rowsAt cells′ n 1 ≡ rows = ap (λ (c : List ℕ). rowsAt c n 1) (f .filled) ∙ ap (λ (m : ℕ). rowsAt (laid rows cells) m 1) k ∙ rows-laid rows cells in
+    let m : n ≡ getD (laid rows cells) 0 0 = k ∙ sym (count-laid rows cells) in
+    let r : rowsAt cells′ n 1 ≡ rows = ap (λ (c : List ℕ). rowsAt c n 1) (f .filled) ∙ ap (λ (j : ℕ). rowsAt (laid rows cells) j 1) m ∙ rows-laid rows cells in
     g ∙ ap (λ (l : List Row). verdictOf (loadIn b size l)) r
 
 -- a verdict, as an outcome
