@@ -18,7 +18,7 @@ use Rattle.rows.specs.Changed.{insertAt, written}
 use Rattle.rows.proofs.Rising.{Next, rising-head}
 use Rattle.keeping.specs.Kept.{Clear}
 use Rattle.keeping.proofs.Rising.{rising-nil, rising-cons, rising-join}
-use Rattle.keeping.proofs.Reads.{kept, contents-append, contents-cons, below-reads, above-reads, own-part}
+use Rattle.keeping.proofs.Contents.{kept, contents-append, contents-cons, below-reads, above-reads, own-part}
 
 pub record Split (want size lo i : ℕ) (rows : List Row) (j s : ℕ) : Type 0 where
   pub k : ℕ
@@ -102,19 +102,19 @@ abbrev pub Bounds : ℕ → ℕ → ℕ → Gap → Type 0
 Bounds p want size (At j s) = s ≤ p
 Bounds p want size Nowhere = size < p + want
 
-bounds-cases : {p want size lo i : ℕ} {more : Gap} (b : Bool) → lo ≤ p → (b ≡ true → Bounds p want size more) → Bounds p want size (cond b more (At i lo))
-bounds-cases true l f = f refl
-bounds-cases false l f = l
+bounds-cases : (p want size lo i : ℕ) (more : Gap) (b : Bool) → lo ≤ p → (b ≡ true → Bounds p want size more) → Bounds p want size (cond b more (At i lo))
+bounds-cases p want size lo i more true l f = f refl
+bounds-cases p want size lo i more false l f = l
 
 pub gap-lowest : (p want size lo i : ℕ) (rows : List Row) → 1 ≤ want → lo ≤ p → rising 1 lo size rows ≡ true → Clear p want rows
     → p + want ≤ size → Bounds p want size (gapFrom want size lo i rows)
 unfolding gapFrom Clear
 gap-lowest p want size lo i [] w l h c q =
-    bounds-cases (ltb size (lo + want)) l (λ t. let z = ltb-true size (lo + want) t in absurd (omega arith))
+    bounds-cases p want size lo i Nowhere (ltb size (lo + want)) l (λ t. let z = ltb-true size (lo + want) t in absurd (omega arith))
 gap-lowest p want size lo i (r ∷ rows) w l h c q =
     let n = rising-head 1 lo size r rows h in
     let m = n .0 in
-    bounds-cases (ltb (r .start) (lo + want)) l (λ t.
+    bounds-cases p want size lo i (gapFrom want size (r .start + r .octets) (i + 1) rows) (ltb (r .start) (lo + want)) l (λ t.
         let z = ltb-true (r .start) (lo + want) t in
         gap-lowest p want size (r .start + r .octets) (i + 1) rows w (past m z (decLt p (r .start + r .octets))) (n .1) (c .1) q)
   where

@@ -10,6 +10,7 @@ use lib.ListN.{length, take, drop, getD, length-append, length-drop, length-take
 use lib.Seq.{take-all, take-at, drop-at, getD-append-add, append-snoc}
 use lib.Dec.{leb, ltb}
 use borrow.Author.Tests.{le-ltb, ltb-false, leb-false, leb-true}
+use Rattle.rules.specs.Walk.{walkAll}
 use Rattle.rules.proofs.Tests.{and-left, and-right}
 use Rattle.rows.specs.declared.Row.{Row}
 use Rattle.rows.specs.declared.Gap.{Gap}
@@ -21,7 +22,7 @@ use Rattle.rows.specs.Cells.{rowsOf, cellsOf, laid}
 use Rattle.rows.specs.Sane.{rising, numbered, saneOf, Ordered}
 use Rattle.rows.specs.Changed.{nth, insertAt, removeAt, written}
 use Rattle.closing.specs.Closing.{closedRows, closedBlock}
-use Rattle.greetings.specs.Bad.{isBad}
+use Rattle.greetings.specs.Bad.{isBad, isDone, storeLaw, storeSet, neverShort}
 use Rattle.store.specs.declared.Refusal.{Refusal}
 use Rattle.store.specs.declared.Refusal.the-variants.{Number, Taken as taken, Absent, Bad, Full, NoRoom, Table}
 use Rattle.store.specs.Store.{Outcome, leaves, refused, After, putAt, fitted, putIn, getIn, deleteIn, gotten, without}
@@ -33,7 +34,7 @@ use Rattle.closing.proofs.Closed.{length-closed}
 use Rattle.keeping.proofs.Rising.{rising-nil, rising-join, rising-remove, closing-rises, held-append, held-cons, held-closed, held-inserted}
 use Rattle.keeping.proofs.Numbers.{Fresh, Distinct, fresh-of, distinct-of, numbered-of, fresh-closed, distinct-closed, inserted-distinct, distinct-remove}
 use Rattle.keeping.proofs.Numbers.{FoundAt, find-split}
-use Rattle.keeping.proofs.Reads.{kept, contents-append, contents-cons, contents-nil, closing-reads, closed-length, length-written, below-reads, own-part}
+use Rattle.keeping.proofs.Contents.{kept, contents-append, contents-cons, contents-nil, closing-reads, closed-length, length-written, below-reads, own-part}
 use Rattle.keeping.proofs.Gaps.{gap-inside, gap-rises, gap-reads}
 
 no-outcome : {A : Type 0} {w : Refusal} {a : After} → refused w ≡ leaves a → A
@@ -63,11 +64,11 @@ laid-sane size rows t c f h d =
 -- a greeting that is not bad has an octet
 pub good-some : (xs : List ℕ) → isBad xs ≡ false → 1 ≤ length xs
 unfolding isBad
-good-some xs e = go (ltb (length xs) 1) refl e
+good-some xs e = go (ltb (length xs) 1) (not (isDone (walkAll xs storeLaw storeSet (neverShort (length xs)) .end))) refl e
   where
-    go : (t : Bool) {r : Bool} → ltb (length xs) 1 ≡ t → cond t true r ≡ false → 1 ≤ length xs
-    go true p e = let z : _≡_ {A = ℕ} 0 1 = cc in absurd (omega arith)
-    go false p e = ltb-false (length xs) 1 p
+    go : (t r : Bool) → ltb (length xs) 1 ≡ t → cond t true r ≡ false → 1 ≤ length xs
+    go true r p e = let z : _≡_ {A = ℕ} 0 1 = cc in absurd (omega arith)
+    go false r p e = ltb-false (length xs) 1 p
 
 -- PUT
 pub record Granted (b t : List ℕ) (x : ℕ) (xs : List ℕ) (a : After) : Type 0 where
@@ -121,6 +122,11 @@ module _ (size : ℕ) (rows : List Row) (r : Row) (h : rising 1 0 size rows ≡ 
   behind-rises o s g =
       let c = rw zero-add at (closing-rises rows 0 0 size h) in
       rising-join (closedRows 0 rows) r [] 0 size o (omega arith) g (rw s c) (rising-nil 1 (r .start + r .octets) size)
+
+-- the new greeting reads as given, every other as before
+pub record ReadsNew (b t : List ℕ) (x : ℕ) (xs : List ℕ) (a : After) : Type 0 where
+  pub place : ℕ
+  pub is : contents (a .block) (a .rows) ≡ contents b (take place (rowsOf t)) ++ (kept x xs ∷ contents b (drop place (rowsOf t)))
 
 module _ (b t : List ℕ) (x : ℕ) (xs : List ℕ) {a : After} (e : putOf b t x xs ≡ leaves a) where
   granted : Granted b t x xs a
@@ -177,12 +183,7 @@ module _ (b t : List ℕ) (x : ℕ) (xs : List ℕ) {a : After} (e : putOf b t x
   pub put-held : held (a .rows) ≡ held (rowsOf t) + length xs
   put-held = rw (granted .is) (held-in (lowestGap (length xs) (sizeOf b) (rowsOf t)))
 
-  -- the new greeting reads as given, every other as before
-  pub record Reads (a : After) : Type 0 where
-    pub place : ℕ
-    pub is : contents (a .block) (a .rows) ≡ contents b (take place (rowsOf t)) ++ (kept x xs ∷ contents b (drop place (rowsOf t)))
-
-  reads-in : (p : Gap) → p ≡ lowestGap (length xs) (sizeOf b) (rowsOf t) → Reads (putAt b (rowsOf t) x xs p)
+  reads-in : (p : Gap) → p ≡ lowestGap (length xs) (sizeOf b) (rowsOf t) → ReadsNew b t x xs (putAt b (rowsOf t) x xs p)
   reads-in (At i s) q = record { place = i; is = gap-reads b xs (sizeOf b) x (rowsOf t) i s (omega arith) some (ordered .rises) q }
   reads-in Nowhere q =
       let rows = rowsOf t in
@@ -201,7 +202,7 @@ module _ (b t : List ℕ) (x : ℕ) (xs : List ℕ) {a : After} (e : putOf b t x
       own-part b₁ xs (held rows) big, contents-nil w b) in
       record { place = n; is = rw (behind-all (sizeOf b) rows r (ordered .rises), tr, dr) c }
 
-  pub put-reads : Reads a
+  pub put-reads : ReadsNew b t x xs a
   put-reads = rw (granted .is) (reads-in (lowestGap (length xs) (sizeOf b) (rowsOf t)) refl)
 
 -- DELETE
@@ -249,14 +250,14 @@ found-out {x} {rows} f =
     rw p (ap (λ (l : List Row). removeAt (length (f .before)) l) (f .is) ∙ taken-out (f .before) (f .row) (f .behind))
 
 module _ (b t : List ℕ) (x : ℕ) {a : After} (e : deleteOf b t x ≡ leaves a) where
-  gone : Gone b t x a
+  abbrev pub gone : Gone b t x a
   gone = delete-gone b t x a e
 
   pub delete-block : a .block ≡ b
   delete-block = rw (gone .is)
 
   pub delete-rows : a .rows ≡ gone .found .before ++ gone .found .behind
-  delete-rows = rw (gone .is) (found-out (gone .found))
+  delete-rows = ap (λ (y : After). y .rows) (gone .is) ∙ found-out (gone .found)
 
   pub delete-held : held (a .rows) + nth (findFrom x 0 (rowsOf t)) (rowsOf t) .octets ≡ held (rowsOf t)
   delete-held =

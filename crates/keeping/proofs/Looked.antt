@@ -13,7 +13,7 @@ use Rattle.greetings.specs.Bad.{isBad}
 use Rattle.saved.specs.Saved.{anyBad}
 use Rattle.keeping.specs.Kept.{Octets, here, missing, lookUp, allGood}
 use Rattle.keeping.proofs.Numbers.{Fresh}
-use Rattle.keeping.proofs.Reads.{kept, contents-append, contents-cons}
+use Rattle.keeping.proofs.Contents.{kept, contents-append, contents-cons}
 
 -- the first of two lists has it, or the second
 abbrev orElse : Octets → Octets → Octets

@@ -36,7 +36,7 @@ use Rattle.rows.proofs.Judged.{sane-ordered}
 use Rattle.keeping.specs.Told.{Call, putting, getting, deleting, saving, loading, Store, rowsIn, putMore, putFirst, noneDeleted, see, seeAll, fresh}
 use Rattle.keeping.specs.Kept.{Octets, here, missing, lookUp, allGood, Clear}
 use Rattle.keeping.proofs.Numbers.{Fresh, FoundAt, fresh-of, absent-of, fresh-append, distinct-behind}
-use Rattle.keeping.proofs.Reads.{kept, contents-append, contents-cons}
+use Rattle.keeping.proofs.Contents.{kept, contents-append, contents-cons}
 use Rattle.keeping.proofs.Gaps.{Bounds, gap-lowest, gap-split, split-clear}
 use Rattle.keeping.proofs.Granted.{Granted, put-granted, put-sane, put-length, put-held, put-reads, put-fresh, good-some, sane-distinct}
 use Rattle.keeping.proofs.Granted.{Gone, delete-gone, delete-block, delete-rows, delete-held, delete-sane, Got, get-got, get-of}
@@ -80,7 +80,9 @@ module _ (b t : List ℕ) (x : ℕ) {a : After} (e : deleteOf b t x ≡ leaves a
       ∙ ap (λ (l : List Kept). contents b (found .before) ++ l) (contents-cons b (found .row) (found .behind))
 
   left-contents : contents (a .block) (a .rows) ≡ contents b (found .before) ++ contents b (found .behind)
-  left-contents = rw (delete-block b t x e, delete-rows b t x e) (contents-append b (found .before) (found .behind))
+  left-contents =
+      ap (λ (y : List ℕ). contents y (a .rows)) (delete-block b t x e) ∙ ap (contents b) (delete-rows b t x e)
+      ∙ contents-append b (found .before) (found .behind)
 
   pub delete-reads-none : lookUp x (contents (a .block) (a .rows)) ≡ missing
   delete-reads-none =
@@ -114,7 +116,9 @@ get-reads b t x a e =
     ap (contents b) (f .is) ∙ contents-append b (f .before) (f .row ∷ f .behind)
     ∙ ap (λ (l : List Kept). contents b (f .before) ++ l) (contents-cons b (f .row) (f .behind))
     ∙ ap (λ (m : ℕ). contents b (f .before) ++ (kept m o ∷ contents b (f .behind))) (f .number) in
-    rw (w, g .start, g .octets) (look-put x o (contents b (f .before)) (contents b (f .behind)) (fresh-missing x b (f .before) (n .0)))
+    let q : take (a .second) (drop (a .first) b) ≡ o =
+    ap (λ (k : ℕ). take k (drop (a .first) b)) (g .octets) ∙ ap (λ (k : ℕ). take (f .row .octets) (drop k b)) (g .start) in
+    ap (lookUp x) w ∙ look-put x o (contents b (f .before)) (contents b (f .behind)) (fresh-missing x b (f .before) (n .0)) ∙ ap here (sym q)
 
 here-same : {o p : List ℕ} → here o ≡ here p → o ≡ p
 here-same e = cc
@@ -182,7 +186,7 @@ noroom-only b t x xs e =
 
 -- THE LOWEST GAP: where one is found it is clear, and no lower place is; where none is found no place is clear
 pub record Lowest (want size : ℕ) (rows : List Row) (g : Gap) : Type 0 where
-  pub clear : {i s : ℕ} → g ≡ At i s → Clear s want rows × (s + want ≤ size)
+  pub clear : (i at : ℕ) → g ≡ At i at → Clear at want rows × (at + want ≤ size)
   pub least : (p : ℕ) → Clear p want rows → p + want ≤ size → Bounds p want size g
 
 pub put-lowest : (b t : List ℕ) (x : ℕ) (xs : List ℕ) (a : After) → putOf b t x xs ≡ leaves a
@@ -191,9 +195,9 @@ put-lowest b t x xs a e =
     let g = put-granted b t x xs a e in
     let o = sane-ordered (sizeOf b) t (g .sane) in
     record {
-      clear = λ q.
+      clear = λ i at q.
           let s = gap-split (length xs) (sizeOf b) 0 0 (rowsOf t) (omega arith) (o .rises) (sym q) in
-          (rw (take-append-drop (s .k) (rowsOf t)) at (split-clear (rowsOf t) s), s .inside);
+          (subst (λ (l : List Row). Clear at (length xs) l) (take-append-drop (s .k) (rowsOf t)) (split-clear (rowsOf t) s), s .inside);
       least = λ p c h. gap-lowest p (length xs) (sizeOf b) 0 0 (rowsOf t) (good-some xs (g .good)) (omega arith) (o .rises) c h;
     }
 
@@ -309,5 +313,6 @@ saved-text rows room text e = go (ltb room (length (tableText rows))) e
 pub what-save-writes : {size : ℕ} {s : Store} → Keeps size s → (room : ℕ) (text : List ℕ) → saveOf (s .block) (s .table) room ≡ saved text
     → (t : List ℕ) → 97 ≤ length t → loadOf text (s .block) t ≡ leaves (record { block = s .block; rows = rowsIn s; first = 0; second = 0 })
 what-save-writes {size} {s} k room text e t h =
-    let w = saved-text (rowsIn s) room text (sym (rw (k .sane)) ∙ e) in
+    let q : saveOf (s .block) (s .table) room ≡ saveIn (rowsIn s) room = rw (k .sane) in
+    let w = saved-text (rowsIn s) room text (sym q ∙ e) in
     rw w (saved-loads k t h)

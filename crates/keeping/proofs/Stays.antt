@@ -24,7 +24,7 @@ use Rattle.rows.proofs.Lists.{same-getD}
 use Rattle.rows.proofs.Rising.{rising-head}
 use Rattle.rows.proofs.Judged.{sane-ordered}
 use Rattle.keeping.specs.Kept.{Spared, Passed}
-use Rattle.keeping.proofs.Reads.{length-greeting, closed-length, high-part}
+use Rattle.keeping.proofs.Contents.{length-greeting, closed-length, high-part}
 use Rattle.keeping.proofs.Gaps.{gap-inside}
 use Rattle.keeping.proofs.Granted.{good-some, put-granted}
 
