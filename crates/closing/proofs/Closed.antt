@@ -131,8 +131,13 @@ module _ {size : ℕ} {b₀ t₀ : List ℕ} (o : Ordered size t₀) (fits : siz
           let body = bodies b₀ (rowsAt t₀ i 1) in
           let u : take to b ≡ body = ap (λ (x : List ℕ). take to x) (c .block) ∙ take-at body (drop to b₀) to (c .long) in
           let d : drop to b ≡ drop to b₀ = ap (λ (x : List ℕ). drop to x) (c .block) ∙ drop-at body (drop to b₀) to (c .long) in
-          rw (u, same-drop to s b b₀ d (x .above), same-drop to (to + n) b b₀ d (omega arith), rows-snoc t₀ i 1,
-          bodies-snoc b₀ (rowsAt t₀ i 1) (rowAt t₀ k))
+          rw (
+            u,
+            same-drop to s b b₀ d (x .above),
+            same-drop to (to + n) b b₀ d (omega arith),
+            rows-snoc t₀ i 1,
+            bodies-snoc b₀ (rowsAt t₀ i 1) (rowAt t₀ k),
+          )
 
       close-turn₀ : Closing size b₀ t₀ (i + 1) (paste b to (drop (getD t₀ (1 + 3 * i + 1) 0) b) (getD t₀ (1 + 3 * i + 2) 0))
           (set t (1 + 3 * i + 1) to) (to + getD t₀ (1 + 3 * i + 2) 0) (m + movedOne (getD t₀ (1 + 3 * i + 1) 0) to (getD t₀ (1 + 3 * i + 2) 0))

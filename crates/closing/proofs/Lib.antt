@@ -1,4 +1,2 @@
--- Laws of closing up.
---   Shifting: octets moved down, front to back (`shift-turn`, `shift-same`).     Closed: row by row (`close-turn`, `close-all`).
-pub mod Shifting
+-- Laws of closing up, row by row (`close-turn`, `close-all`).
 pub mod Closed

@@ -24,7 +24,14 @@ pub fn is_bad(octets: &[u8]) -> bool
     if rules::LONGEST < len {
         return true;
     }
-    let walked = walk::walk_on(octets, rules::MOST_LAW, rules::ALL_TOOLS, 0, len + 1, 320 * len);
+    let walked = walk::walk_on(
+        octets,
+        rules::MOST_LAW,
+        rules::ALL_TOOLS,
+        0,
+        len + 1,
+        320 * len,
+    );
     let end = walked.end;
     !is_done(end)
 }

@@ -1,6 +1,6 @@
 -- Rows and the cells that they lie in: `rows-snoc`, `cells-rows` (the cells of rows are those they are read from), `rows-laid` (laid, they read back),
 -- `laid-again` (laid over fewer, as if laid at once).
-use Prim.Native.Nat.{ℕ, zero, suc, _+_, _*_, _-_, _≤_}
+use Prim.Native.Nat.{ℕ, zero, suc, _+_, _*_, _-_, _≤_, _<_}
 use mathlib.Core.Path.{_≡_, refl, sym, ap, _∙_}
 use mathlib.Core.List.{List, [], _∷_, _++_, append-assoc}
 use native.Mathlib.Omega.{arith}
@@ -11,6 +11,7 @@ use lib.Seq.{drop-at, drop-cons, drop-drop, append-snoc, getD-append-add, set-at
 use Rattle.rows.specs.declared.Row.{Row}
 use Rattle.rows.specs.Rows.{held}
 use Rattle.rows.specs.Cells.{rowAt, rowsAt, rowsOf, cellsOf, laid}
+use Rattle.rows.specs.Changed.{nth}
 use Rattle.rows.proofs.Lists.{same-getD}
 
 pub row-is : (t : List ℕ) (k : ℕ) {a b c : ℕ} → a ≡ getD t k 0 → b ≡ getD t (k + 1) 0 → c ≡ getD t (k + 2) 0
@@ -49,6 +50,13 @@ drop-rows t (suc n) k (suc i) h =
     let e : suc n - suc i ≡ n - i = omega arith in
     let f : k + 3 + 3 * i ≡ k + 3 * suc i = omega arith in
     rw (e, ← f) (drop-rows t n (k + 3) i (omega arith))
+
+-- row i of a table
+pub nth-rows : (t : List ℕ) (n k i : ℕ) → i < n → nth i (rowsAt t n k) ≡ rowAt t (k + 3 * i)
+unfolding rowsAt
+nth-rows t zero k i h = absurd (not-suc-le-zero h)
+nth-rows t (suc n) k zero h = ap (λ (y : ℕ). rowAt t y) (omega arith)
+nth-rows t (suc n) k (suc i) h = nth-rows t n (k + 3) i (omega arith) ∙ ap (λ (y : ℕ). rowAt t y) (omega arith)
 
 pub held-snoc : (rs : List Row) (r : Row) → held (rs ++ (r ∷ [])) ≡ held rs + r .octets
 unfolding held

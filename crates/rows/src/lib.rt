@@ -11,7 +11,9 @@ ghost use Rattle.rows.specs.Sane.{rising, numbered, saneOf, Ordered};
 
 // "one block of 16,384 octets"; "up to 32, each with a number from 1 to 65,535".
 pub const LARGEST_BLOCK: usize = 16384;
+
 pub const MOST_GREETINGS: usize = 32;
+
 pub const MOST_NUMBER: usize = 65535;
 
 // A greeting: its number, where it starts in the block, and its octets.

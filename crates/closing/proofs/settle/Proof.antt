@@ -1,7 +1,7 @@
 use mathlib.Core.Path.{_≡_}
 use native.Mathlib.Omega.{arith}
 use borrow.Author.Tests.{eq-eqb, ne-eqb}
-use Rattle.closing.proofs.Shifting.{shift-same}
+use Rattle.rows.proofs.Shifting.{shift-same}
 use borrow.Author.Needs.{needs}
 use Rattle.closing.proofs.settle.Statement.{statement}
 use Rattle.closing.proofs.settle.Tie as tie

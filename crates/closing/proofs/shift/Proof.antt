@@ -1,6 +1,6 @@
 use Prim.Native.Nat.{_-_}
 use native.Mathlib.Omega.{arith}
-use Rattle.closing.proofs.Shifting.{Shifting, shift-none, shift-turn, shift-all}
+use Rattle.rows.proofs.Shifting.{Shifting, shift-none, shift-turn, shift-all}
 use borrow.Author.Needs.{needs}
 use Rattle.closing.proofs.shift.Statement.{statement}
 use Rattle.closing.proofs.shift.Tie as tie

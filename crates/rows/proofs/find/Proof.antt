@@ -35,7 +35,7 @@ row-at-requires c κs = search needs
 
 -- src/lib.rt:74:13
 returns : tie.Need-returns Inv-loop μ-loop
-returns c = 
+returns c =
     let s = c .before .before .before .before .before .before .args in
     let l = c .before .before .before .before .loop in
     (find-hit (s .table .now) (s .n) (l .i) (c .before .before .row-at .ensures .0) (omega arith) (s .number) (omega arith) ∙ sym (l .inv .0), omega arith)
@@ -50,14 +50,14 @@ loop-less c = search needs
 
 -- src/lib.rt:71:5
 loop-again : tie.Need-loop-again Inv-loop μ-loop
-loop-again c = 
+loop-again c =
     let s = c .before .before .before .before .before .before .args in
     let l = c .before .before .before .before .loop in
     (l .inv .0 ∙ find-miss (s .table .now) (s .n) (l .i) (c .before .before .row-at .ensures .0) (omega arith) (s .number) (λ e. omega arith), omega arith)
 
 -- src/lib.rt:66:1
 returns-2 : tie.Need-returns-2 Inv-loop μ-loop
-returns-2 c = 
+returns-2 c =
     let s = c .before .before .before .args in
     let l = c .before .loop in
     (find-end (s .table .now) (s .n) (l .i) (s .number) (omega arith) (omega arith) ∙ sym (l .inv .0), omega arith)

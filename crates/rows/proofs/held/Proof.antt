@@ -49,7 +49,7 @@ loop-less c = search needs
 
 -- src/lib.rt:151:5
 loop-again : tie.Need-loop-again Inv-loop μ-loop
-loop-again c = 
+loop-again c =
     let s = c .before .before .before .before .before in
     let l = c .before .before .before .loop in
     let h = held-turn (s .args .table .now) (s .args .n) (l .i) (c .before .row-at .ensures .0) (omega arith) (l .inv .0) in
@@ -58,7 +58,7 @@ loop-again c =
 
 -- src/lib.rt:146:1
 returns : tie.Need-returns Inv-loop μ-loop
-returns c = 
+returns c =
     let s = c .before .before .before in
     let l = c .before .loop in
     (l .inv .0 ∙ ap (λ (x : ℕ). held (rowsAt (s .args .table .now) x 1)) (omega (arith, s .pre .0)), omega arith)

@@ -23,7 +23,7 @@ abbrev μ-loop : tie.MeasureT-loop
 
 -- src/lib.rt:165:5
 loop-holds : tie.Need-loop-holds Inv-loop μ-loop
-loop-holds c = 
+loop-holds c =
     let s = c .before in
     let all = ap (λ (x : ℕ). rowsAt (s .args .table .now) x 1) (sym (s .pre .0)) ∙ left-all (s .args .table .now) (s .args .n) in
     (ap (λ (x : List Row). lowestGap (s .args .want) (s .args .size) x) all, omega arith, omega arith)
@@ -46,7 +46,7 @@ add-if1 c = search needs
 
 -- src/lib.rt:168:13
 returns : tie.Need-returns Inv-loop μ-loop
-returns c = 
+returns c =
     let s = c .before .before .before .before .before .before .args in
     let l = c .before .before .before .before .loop in
     gap-here (s .table .now) (s .n) (l .i) (c .before .before .row-at .ensures .0) (omega arith) (s .want) (s .size) (l .at) (omega arith) ∙ sym (l .inv .0)
@@ -65,13 +65,15 @@ loop-less c = search needs
 
 -- src/lib.rt:165:5
 loop-again : tie.Need-loop-again Inv-loop μ-loop
-loop-again c = 
+loop-again c =
     let s = c .before .before .before .before .before .before .before in
     let l = c .before .before .before .before .before .loop in
     let r = c .before .before .before .row-at .ensures .0 in
-    let x = row-next (s .args .n) (l .i) (s .pre .1) (s .pre .0) r (omega arith) in
-    (l .inv .0 ∙ gap-turn (s .args .table .now) (s .args .n) (l .i) r (omega arith) (s .args .want) (s .args .size) (l .at) (omega arith),
-    omega arith, x .inside)
+    let x = row-next (s .args .n) (l .i) (s .pre .1) (s .pre .0) r (omega arith) in (
+      l .inv .0 ∙ gap-turn (s .args .table .now) (s .args .n) (l .i) r (omega arith) (s .args .want) (s .args .size) (l .at) (omega arith),
+      omega arith,
+      x .inside,
+    )
 
 -- src/lib.rt:173:8
 add-if2 : tie.Need-add-if2 Inv-loop μ-loop
@@ -79,14 +81,14 @@ add-if2 c = search needs
 
 -- src/lib.rt:174:9
 returns-2 : tie.Need-returns-2 Inv-loop μ-loop
-returns-2 c = 
+returns-2 c =
     let s = c .before .before .before .before .args in
     let l = c .before .before .loop in
     gap-end (s .table .now) (s .n) (l .i) (s .want) (s .size) (l .at) (omega arith) (omega arith) (omega arith) ∙ sym (l .inv .0)
 
 -- src/lib.rt:159:1
 returns-3 : tie.Need-returns-3 Inv-loop μ-loop
-returns-3 c = 
+returns-3 c =
     let s = c .before .before .before .before .args in
     let l = c .before .before .loop in
     gap-none (s .table .now) (s .n) (l .i) (s .want) (s .size) (l .at) (omega arith) (omega arith) ∙ sym (l .inv .0)

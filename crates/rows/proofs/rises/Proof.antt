@@ -22,7 +22,7 @@ abbrev μ-loop : tie.MeasureT-loop
 
 -- src/lib.rt:88:5
 loop-holds : tie.Need-loop-holds Inv-loop μ-loop
-loop-holds c = 
+loop-holds c =
     let s = c .before .args in
     (ap (λ (x : List Row). rising (s .least) 0 (s .size) x) (left-all (s .table .now) (s .n)), omega arith)
 
@@ -40,14 +40,14 @@ row-at-requires c κs = search needs
 
 -- src/lib.rt:91:13
 returns : tie.Need-returns Inv-loop μ-loop
-returns c = 
+returns c =
     let s = c .before .before .before .before .before .before .args in
     let l = c .before .before .before .before .loop in
     rising-low (s .table .now) (s .n) (l .i) (s .least) (s .size) (l .at) (c .before .before .row-at .ensures .0) (omega arith) (omega arith) ∙ sym (l .inv .0)
 
 -- src/lib.rt:94:13
 returns-2 : tie.Need-returns-2 Inv-loop μ-loop
-returns-2 c = 
+returns-2 c =
     let s = c .before .before .before .before .before .before .before .before .args in
     let l = c .before .before .before .before .before .before .loop in
     rising-few (s .table .now) (s .n) (l .i) (s .least) (s .size) (l .at) (c .before .before .before .before .row-at .ensures .0) (omega arith) (omega arith) (omega arith) ∙ sym (l .inv .0)
@@ -58,7 +58,7 @@ add-end c = search needs
 
 -- src/lib.rt:98:13
 returns-3 : tie.Need-returns-3 Inv-loop μ-loop
-returns-3 c = 
+returns-3 c =
     let s = c .before .before .before .before .before .before .before .before .before .before .args in
     let l = c .before .before .before .before .before .before .before .before .loop in
     rising-out (s .table .now) (s .n) (l .i) (s .least) (s .size) (l .at) (c .before .before .before .before .before .before .row-at .ensures .0) (omega arith) (omega arith) (omega arith) (omega arith) ∙ sym (l .inv .0)
@@ -73,16 +73,17 @@ loop-less c = search needs
 
 -- src/lib.rt:88:5
 loop-again : tie.Need-loop-again Inv-loop μ-loop
-loop-again c = 
+loop-again c =
     let s = c .before .before .before .before .before .before .before .before .before .before .args in
     let l = c .before .before .before .before .before .before .before .before .loop in
-    let r = c .before .before .before .before .before .before .row-at .ensures .0 in
-    (l .inv .0 ∙ rising-turn (s .table .now) (s .n) (l .i) (s .least) (s .size) (l .at) r (omega arith) (omega arith) (omega arith) (omega arith),
-    omega arith)
+    let r = c .before .before .before .before .before .before .row-at .ensures .0 in (
+      l .inv .0 ∙ rising-turn (s .table .now) (s .n) (l .i) (s .least) (s .size) (l .at) r (omega arith) (omega arith) (omega arith) (omega arith),
+      omega arith,
+    )
 
 -- src/lib.rt:82:1
 returns-4 : tie.Need-returns-4 Inv-loop μ-loop
-returns-4 c = 
+returns-4 c =
     let s = c .before .before .before .args in
     let l = c .before .loop in
     rising-end (s .table .now) (s .n) (l .i) (s .least) (s .size) (l .at) (omega arith) ∙ sym (l .inv .0)

@@ -54,11 +54,12 @@ wide-requires-3 c κs = search needs
 
 -- src/lib.rt:54:1
 returns : tie.Need-returns
-returns c = 
-    let s = c .before .before .before .before .before .before .before in
-    (row-is (s .args .table .now) (s .args .k) (c .before .before .before .before .wide .ensures) (c .before .before .wide2 .ensures) (c .wide3 .ensures),
-    omega (arith, c .before .before .wide2 .ensures, c .before .shared-slice-known4 .given (s .args .k + 1)),
-    omega (arith, c .wide3 .ensures, c .before .shared-slice-known4 .given (s .args .k + 2)))
+returns c =
+    let s = c .before .before .before .before .before .before .before in (
+      row-is (s .args .table .now) (s .args .k) (c .before .before .before .before .wide .ensures) (c .before .before .wide2 .ensures) (c .wide3 .ensures),
+      omega (arith, c .before .before .wide2 .ensures, c .before .shared-slice-known4 .given (s .args .k + 1)),
+      omega (arith, c .wide3 .ensures, c .before .shared-slice-known4 .given (s .args .k + 2)),
+    )
 
 pub row-at-spec : {M : Type 1} → statement M
 row-at-spec =
