@@ -70,7 +70,7 @@ module _ (b t : List ℕ) (x : ℕ) (xs : List ℕ) {a : After} (e : putOf b t x
       (good-cons x xs (contents b (drop i rows)) (put-granted b t x xs a e .good) (p .1)))
 
 module _ (b t : List ℕ) (x : ℕ) {a : After} (e : deleteOf b t x ≡ leaves a) where
-  found : FoundAt x 0 (rowsOf t)
+  abbrev found : FoundAt x 0 (rowsOf t)
   found = delete-gone b t x a e .found
 
   whole-contents : contents b (rowsOf t)
@@ -140,7 +140,8 @@ get-after-put b t x xs a e =
     let new : lookUp x (contents (a .block) rows) ≡ here xs = rw z (put-reads-new b t x xs e) in
     let n : absent x rows ≡ false = go (absent x rows) refl new in
     let g = get-of (a .block) (laid (a .rows) t) x s (put-granted b t x xs a e .number) n in
-    record { got = _; is = g; octets = here-same (sym (get-reads (a .block) (laid (a .rows) t) x _ g) ∙ new) }
+    let r = gotten (a .block) rows (nth (findFrom x 0 rows) rows) in
+    record { got = r; is = g; octets = here-same (sym (get-reads (a .block) (laid (a .rows) t) x r g) ∙ new) }
   where
     go : (q : Bool) → absent x (rowsOf (laid (a .rows) t)) ≡ q → lookUp x (contents (a .block) (rowsOf (laid (a .rows) t))) ≡ here xs → q ≡ false
     go false p n = refl
