@@ -8,6 +8,7 @@ ghost use Rattle.rules.specs.Chooses.{writeOne};
 ghost use Rattle.settings.specs.Calls.{Wipe};
 ghost use Rattle.g7110.specs.Settings.{SaveReported, BackReported, RevisionReported};
 ghost use Rattle.linear.specs.Equations.{toPCM, fromPCM};
+ghost use Rattle.g7110.specs.Saved.{SavedReported, LoadReported};
 ghost use Rattle.g7110.specs.Boundary.{ReadReported, WalkReported, WriteReported, Converted};
 
 // Reading one frame: the number, and in the report samples, octets used, bits, tool and the refusal's bit.
@@ -90,6 +91,31 @@ pub extern "C" fn g7110_from_linear(linear: &[i16], law: u32, out: &mut [u8]) ->
 {
     let end = linear::from_linear(linear, law, out);
     rules::number_of(end)
+}
+
+// Saving a store's table: the number, and in the report the octets of text.
+#[no_mangle]
+pub extern "C" fn g7110_store_save(
+    block: &[u8],
+    table: &[u32],
+    out: &mut [u8],
+    report: &mut [u64; 1],
+) -> u32
+    ensures { λ r. ⌜ SavedReported (now (block .entry)) (now (table .entry)) (now (out .entry)) (now (out .exit)) (now (report .exit)) r ⌝ }
+{
+    let a = saved::save(block, table, out);
+    let octets = store::first_of(a);
+    *report = [octets as u64];
+    store::number_of(a)
+}
+
+// Loading a table's text: the number.
+#[no_mangle]
+pub extern "C" fn g7110_store_load(text: &[u8], block: &[u8], table: &mut [u32]) -> u32
+    ensures { λ r. ⌜ LoadReported (now (text .entry)) (now (block .entry)) (now (table .entry)) (now (table .exit)) r ⌝ }
+{
+    let a = saved::load(text, block, table);
+    store::number_of(a)
 }
 
 // Saving settings: the number, and in the report the new revision.
