@@ -164,6 +164,20 @@ uint32_t g7110_to_linear(const uint8_t *samples, size_t samples_len, uint32_t la
  * G7110_ROOM. */
 uint32_t g7110_from_linear(const int16_t *linear, size_t linear_len, uint32_t law, uint8_t *out, size_t out_len);
 
+/* Saves a store's table as text (document 02, R-6): for each greeting in order of start the lines `prompt=`, `start=` and
+ * `octets=`, decimal without leading zeros, each ended by octet 0A; at most 1,216 octets. The text stands at the start of the
+ * lent octets; the rest stays as lent. Refused with 26 (TABLE) where the table is not one that calls leave for this block, then
+ * with G7110_ROOM where the text does not fit; then nothing is written. report: octets of text. */
+uint32_t g7110_store_save(const uint8_t *block, size_t block_len, const uint32_t *table, size_t table_len,
+                          uint8_t *out, size_t out_len, uint64_t report[1]);
+
+/* Loads a table's text, with its block, into the lent table, which is output: only its length is judged. Refused with 26 (TABLE)
+ * for a text that save does not write, a number used twice, or greetings that overlap or pass the block's end, over the whole
+ * text; only then with 18 (BAD) for a greeting that is empty or that the walk refuses with set 127. A refused call leaves the
+ * table as lent. What save writes, load takes; docs/STORE.md says what to write first. */
+uint32_t g7110_store_load(const uint8_t *text, size_t text_len, const uint8_t *block, size_t block_len,
+                          uint32_t *table, size_t table_len);
+
 /* Saves the settings that the text says. Refused with G7110_LINE, then G7110_SPENT. report: the new revision. */
 uint32_t g7110_settings_save(uint32_t state[41], const uint8_t *text, size_t text_len, uint64_t report[1]);
 

@@ -94,8 +94,11 @@ module _ (b xs : List ℕ) (size x : ℕ) (rows : List Row) (j s : ℕ) (f : siz
       let r = rowOf x s (length xs) in
       rw at-k (contents-append w (take (g .k) rows) (r ∷ drop (g .k) rows)
       ∙ ap (λ (y : List Kept). contents w (take (g .k) rows) ++ y) (contents-cons w r (drop (g .k) rows))
-      ∙ rw (below-reads b xs s l (take (g .k) rows) 0 (g .below), above-reads b xs s l (drop (g .k) rows) (s + length xs) size (omega arith) (g .above),
-      own-part b xs s l))
+      ∙ rw (
+        below-reads b xs s l (take (g .k) rows) 0 (g .below),
+        above-reads b xs s l (drop (g .k) rows) (s + length xs) size (omega arith) (g .above),
+        own-part b xs s l,
+      ))
 
 -- no lower place is clear; where no gap is found, none is
 abbrev pub Bounds : ℕ → ℕ → ℕ → Gap → Type 0
@@ -115,8 +118,8 @@ gap-lowest p want size lo i (r ∷ rows) w l h c q =
     let n = rising-head 1 lo size r rows h in
     let m = n .0 in
     bounds-cases p want size lo i (gapFrom want size (r .start + r .octets) (i + 1) rows) (ltb (r .start) (lo + want)) l (λ t.
-        let z = ltb-true (r .start) (lo + want) t in
-        gap-lowest p want size (r .start + r .octets) (i + 1) rows w (past m z (decLt p (r .start + r .octets))) (n .1) (c .1) q)
+    let z = ltb-true (r .start) (lo + want) t in
+    gap-lowest p want size (r .start + r .octets) (i + 1) rows w (past m z (decLt p (r .start + r .octets))) (n .1) (c .1) q)
   where
     past : Next 1 lo size r → r .start < lo + want → Dec (p < r .start + r .octets) → r .start + r .octets ≤ p
     past m z (yes y) = absurd (c .0 y (omega arith))

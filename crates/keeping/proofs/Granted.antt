@@ -32,9 +32,10 @@ use Rattle.rows.proofs.Cells.{length-rows, length-cells, rows-laid, count-laid}
 use Rattle.rows.proofs.Judged.{sane-ordered}
 use Rattle.closing.proofs.Closed.{length-closed}
 use Rattle.keeping.proofs.Rising.{rising-nil, rising-join, rising-remove, closing-rises, held-append, held-cons, held-closed, held-inserted}
-use Rattle.keeping.proofs.Numbers.{Fresh, Distinct, fresh-of, distinct-of, numbered-of, fresh-closed, distinct-closed, inserted-distinct, distinct-remove}
-use Rattle.keeping.proofs.Numbers.{FoundAt, find-split}
-use Rattle.keeping.proofs.Contents.{kept, contents-append, contents-cons, contents-nil, closing-reads, closed-length, length-written, below-reads, own-part}
+use Rattle.keeping.proofs.Numbers.{Fresh, Distinct, fresh-of, distinct-of, numbered-of, fresh-closed, distinct-closed, inserted-distinct}
+use Rattle.keeping.proofs.Numbers.{distinct-remove, FoundAt, find-split}
+use Rattle.keeping.proofs.Contents.{kept, contents-append, contents-cons, contents-nil, closing-reads, closed-length}
+use Rattle.keeping.proofs.Contents.{length-written, below-reads, own-part}
 use Rattle.keeping.proofs.Gaps.{gap-inside, gap-rises, gap-reads}
 
 no-outcome : {A : Type 0} {w : Refusal} {a : After} → refused w ≡ leaves a → A
@@ -198,8 +199,13 @@ module _ (b t : List ℕ) (x : ℕ) (xs : List ℕ) {a : After} (e : putOf b t x
       let big : held rows + length xs ≤ length b₁ = omega (arith, granted .room, closed-length b rows (sizeOf b) (ordered .rises) (omega arith)) in
       let c : contents w (done ++ (r ∷ [])) ≡ contents b rows ++ (kept x xs ∷ contents b []) =
       contents-append w done (r ∷ [])
-      ∙ rw (contents-cons w r [], below-reads b₁ xs (held rows) big done 0 h, closing-reads b rows (sizeOf b) (ordered .rises) (omega arith),
-      own-part b₁ xs (held rows) big, contents-nil w b) in
+      ∙ rw (
+        contents-cons w r [],
+        below-reads b₁ xs (held rows) big done 0 h,
+        closing-reads b rows (sizeOf b) (ordered .rises) (omega arith),
+        own-part b₁ xs (held rows) big,
+        contents-nil w b,
+      ) in
       record { place = n; is = rw (behind-all (sizeOf b) rows r (ordered .rises), tr, dr) c }
 
   pub put-reads : ReadsNew b t x xs a
@@ -217,7 +223,8 @@ unfolding deleteIn
 delete-gone b t x a e = go (saneOf (sizeOf b) t) refl (isNumber x) refl (absent x (rowsOf t)) refl e
   where
     go : (s : Bool) → saneOf (sizeOf b) t ≡ s → (n : Bool) → isNumber x ≡ n → (f : Bool) → absent x (rowsOf t) ≡ f
-        → cond (not s) (refused Table) (cond (not n) (refused Number) (cond f (refused Absent) (leaves (without b (rowsOf t) (findFrom x 0 (rowsOf t)))))) ≡ leaves a
+        → cond (not s) (refused Table) (cond (not n) (refused Number) (cond f (refused Absent)
+        (leaves (without b (rowsOf t) (findFrom x 0 (rowsOf t)))))) ≡ leaves a
         → Gone b t x a
     go false s′ n n′ f f′ e = no-outcome e
     go true s′ false n′ f f′ e = no-outcome e
@@ -287,7 +294,8 @@ unfolding getIn
 get-got b t x a e = go (saneOf (sizeOf b) t) refl (isNumber x) (absent x (rowsOf t)) refl e
   where
     go : (s : Bool) → saneOf (sizeOf b) t ≡ s → (n : Bool) → (f : Bool) → absent x (rowsOf t) ≡ f
-        → cond (not s) (refused Table) (cond (not n) (refused Number) (cond f (refused Absent) (leaves (gotten b (rowsOf t) (nth (findFrom x 0 (rowsOf t)) (rowsOf t)))))) ≡ leaves a
+        → cond (not s) (refused Table) (cond (not n) (refused Number) (cond f (refused Absent)
+        (leaves (gotten b (rowsOf t) (nth (findFrom x 0 (rowsOf t)) (rowsOf t)))))) ≡ leaves a
         → Got b t x a
     go false s′ n f f′ e = no-outcome e
     go true s′ false f f′ e = no-outcome e

@@ -40,7 +40,8 @@ use Rattle.keeping.proofs.Contents.{kept, contents-append, contents-con
 use Rattle.keeping.proofs.Gaps.{Bounds, gap-lowest, gap-split, split-clear}
 use Rattle.keeping.proofs.Granted.{Granted, put-granted, put-sane, put-length, put-held, put-reads, put-fresh, good-some, sane-distinct}
 use Rattle.keeping.proofs.Granted.{Gone, delete-gone, delete-block, delete-rows, delete-held, delete-sane, Got, get-got, get-of}
-use Rattle.keeping.proofs.Looked.{fresh-missing, look-put, look-other, look-none, contents-split, good-of, bad-of, good-append, good-parts, good-cons, good-rest}
+use Rattle.keeping.proofs.Looked.{fresh-missing, look-put, look-other, look-none, contents-split, good-of, bad-of}
+use Rattle.keeping.proofs.Looked.{good-append, good-parts, good-cons, good-rest}
 use Rattle.keeping.proofs.Loaded.{load-took, load-sane, load-of}
 
 -- EVERY OTHER GREETING READS THE SAME
@@ -100,7 +101,8 @@ module _ (b t : List ℕ) (x : ℕ) {a : After} (e : deleteOf b t x ≡ leaves a
 
   delete-good : allGood (contents b (rowsOf t)) ≡ true → allGood (contents (a .block) (a .rows)) ≡ true
   delete-good g =
-      let p = good-parts (contents b (found .before)) (kept (found .row .number) (greeting b (found .row)) ∷ contents b (found .behind)) (rw whole-contents at g) in
+      let k = kept (found .row .number) (greeting b (found .row)) in
+      let p = good-parts (contents b (found .before)) (k ∷ contents b (found .behind)) (rw whole-contents at g) in
       rw left-contents (good-append (contents b (found .before)) (contents b (found .behind)) (p .0)
       (good-rest (found .row .number) (greeting b (found .row)) (contents b (found .behind)) (p .1)))
 

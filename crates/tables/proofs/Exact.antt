@@ -118,7 +118,8 @@ rows-only zero done text i rows j e =
 rows-only (suc more) done text i rows j e = go (leb (length text) i) refl e (λ r k. rows-only more (done ++ (r ∷ [])) text k rows j)
   where
     go : (t : Bool) → leb (length text) i ≡ t → cond t (whole done i) (andThen (row text i) (λ r j. rowsFrom more (done ++ (r ∷ [])) text j)) ≡ whole rows j
-        → ((r : Row) (k : ℕ) → rowsFrom more (done ++ (r ∷ [])) text k ≡ whole rows j → More (done ++ (r ∷ [])) text k more rows) → More done text i (suc more) rows
+        → ((r : Row) (k : ℕ) → rowsFrom more (done ++ (r ∷ [])) text k ≡ whole rows j → More (done ++ (r ∷ [])) text k more rows)
+        → More done text i (suc more) rows
     go true h e ih = none-more (leb-true (length text) i h) e
     go false h e ih =
         let m = through (row text i) _ e in

@@ -37,13 +37,15 @@ sub-is-bad c = search needs
 
 part-is-bad-start : tie.Need-part-is-bad-start Inv-loop μ-loop
 part-is-bad-start c =
-    let a = c .before .before .before .before .before .before .args in
-    omega (arith, row-inside (a .table .now) (a .size) (a .n) _ (c .before .row-at .ensures .0) (omega arith) (c .before .before .before .before .before .before .pre .3))
+    let s = c .before .before .before .before .before .before in
+    let a = s .args in
+    omega (arith, row-inside (a .table .now) (a .size) (a .n) _ (c .before .row-at .ensures .0) (omega arith) (s .pre .3))
 
 part-is-bad-end : tie.Need-part-is-bad-end Inv-loop μ-loop
 part-is-bad-end c =
-    let a = c .before .before .before .before .before .before .args in
-    omega (arith, row-inside (a .table .now) (a .size) (a .n) _ (c .before .row-at .ensures .0) (omega arith) (c .before .before .before .before .before .before .pre .3))
+    let s = c .before .before .before .before .before .before in
+    let a = s .args in
+    omega (arith, row-inside (a .table .now) (a .size) (a .n) _ (c .before .row-at .ensures .0) (omega arith) (s .pre .3))
 
 is-bad-requires : tie.Need-is-bad-requires Inv-loop μ-loop
 is-bad-requires c κs = search needs
@@ -62,7 +64,8 @@ loop-less c = search needs
 loop-again : tie.Need-loop-again Inv-loop μ-loop
 loop-again c =
     let r = c .before .before .before .before .row-at .ensures .0 in
-    (omega arith, sym (bad-on _ _ _ _ r (omega arith) (c .before .is-bad .ensures) (c .if1 .left)) ∙ c .before .before .before .before .before .before .loop .inv .1)
+    let l = c .before .before .before .before .before .before .loop .inv .1 in
+    (omega arith, sym (bad-on _ _ _ _ r (omega arith) (c .before .is-bad .ensures) (c .if1 .left)) ∙ l)
 
 returns-2 : tie.Need-returns-2 Inv-loop μ-loop
 returns-2 c = bad-none _ _ _ _ (omega arith) ∙ c .before .loop .inv .1

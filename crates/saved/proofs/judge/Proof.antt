@@ -29,7 +29,9 @@ returns : tie.Need-returns
 returns c = judged-wrong _ _ _ (fills-as (c .enum-told .given .1) (c .before .before .before .read-rows .ensures))
 
 returns-2 : tie.Need-returns-2
-returns-2 c = judged-whole _ _ _ (fills-as (c .before .before .before .n .given .1) (c .before .before .before .before .before .before .read-rows .ensures)) (c .judge-rows .ensures)
+returns-2 c =
+    let n = c .before .before .before in
+    judged-whole _ _ _ (fills-as (n .n .given .1) (n .before .before .before .read-rows .ensures)) (c .judge-rows .ensures)
 
 pub judge-spec : {M : Type 1} → statement M
 judge-spec =

@@ -28,7 +28,9 @@ same-length : tie.Need-same-length
 same-length c = search needs
 
 returns-3 : tie.Need-returns-3
-returns-3 c = load-fine _ _ _ (omega arith) (sym (c .before .before .before .before .enum-told .given .1) ∙ c .before .before .before .before .before .before .judge .ensures) (c .before .before .read-rows .ensures)
+returns-3 c =
+    let t = c .before .before .before .before in
+    load-fine _ _ _ (omega arith) (sym (t .enum-told .given .1) ∙ t .before .before .judge .ensures) (c .before .before .read-rows .ensures)
 
 pub load-spec : {M : Type 1} → statement M
 load-spec =

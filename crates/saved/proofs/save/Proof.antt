@@ -16,7 +16,9 @@ sane-requires : tie.Need-sane-requires
 sane-requires c κs = search needs
 
 returns : tie.Need-returns
-returns c = save-table (c .before .before .before .before .before .before .args .block .now) _ _ (c .before .before .size-of .ensures) (c .before .sane .ensures) (not-true _ (c .if1 .taken))
+returns c =
+    let a = c .before .before .before .before .before .before .args in
+    save-table (a .block .now) _ _ (c .before .before .size-of .ensures) (c .before .sane .ensures) (not-true _ (c .if1 .taken))
 
 shared-slice-read-wide : tie.Need-shared-slice-read-wide
 shared-slice-read-wide c =
@@ -37,7 +39,8 @@ returns-2 : tie.Need-returns-2
 returns-2 c =
     let w = c .before .before in
     let i = w .before .before in
-    save-room (c .before .before .before .before .before .before .before .before .before .before .args .block .now) _ _ (i .before .before .size-of .ensures) (i .before .sane .ensures) (not-false _ (i .if1 .left)) (w .wide .ensures)
+    let a = c .before .before .before .before .before .before .before .before .before .before .args in
+    save-room (a .block .now) _ _ (i .before .before .size-of .ensures) (i .before .sane .ensures) (not-false _ (i .if1 .left)) (w .wide .ensures)
     (c .before .text-octets .ensures) (omega arith)
 
 put-rows-requires : tie.Need-put-rows-requires
@@ -55,7 +58,8 @@ returns-3 c =
     let p = c .before .before in
     let t = p .before .before .before in
     let i = t .before .before .before in
-    save-text (c .before .before .before .before .before .before .before .before .before .before .before .before .before .before .args .block .now) _ _ (i .before .before .size-of .ensures) (i .before .sane .ensures) (not-false _ (i .if1 .left)) (t .before .wide .ensures)
+    let a = c .before .before .before .before .before .before .before .before .before .before .before .before .before .before .args in
+    save-text (a .block .now) _ _ (i .before .before .size-of .ensures) (i .before .sane .ensures) (not-false _ (i .if1 .left)) (t .before .wide .ensures)
     (t .text-octets .ensures) (omega arith) (p .put-rows .ensures)
 
 pub save-spec : {M : Type 1} → statement M

@@ -68,9 +68,10 @@ loop-again c =
     let p = c .before .before in
     let m = p .before .before .before in
     let i = m .before .before .before in
-    let s = i .before .before .loop .inv in
-    (p .put-cells .kept .0 ∙ s .0,
-    stand-turn (s .1) (omega arith) (i .if1 .left) (sym (ap asRow (m .number .given .1)) ∙ m .before .before .line-of .ensures) (p .put-cells .ensures))
+    let s = i .before .before .loop .inv in (
+      p .put-cells .kept .0 ∙ s .0,
+      stand-turn (s .1) (omega arith) (i .if1 .left) (sym (ap asRow (m .number .given .1)) ∙ m .before .before .line-of .ensures) (p .put-cells .ensures),
+    )
 
 cast-cells : tie.Need-cast-cells Inv-loop μ-loop
 cast-cells c = omega (arith, c .before .loop .inv .1 .few)
