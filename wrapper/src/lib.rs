@@ -6,6 +6,7 @@
 #![deny(unsafe_code)]
 
 pub mod raw;
+pub mod saved;
 pub mod settings;
 
 use std::fmt;
