@@ -11,7 +11,8 @@
 enum { STACK = 1 << 20, PAINT = 0xC5, STREAM = 4000 };
 
 struct call {
-    int which; /* 0 none, 1 read, 2 write, 3 walk, 4 to linear values, 5 from them; of settings 6 save, 7 back, 8 read, 9 wipe */
+    int which; /* 0 none, 1 read, 2 write, 3 walk, 4 to linear values, 5 from them; of settings 6 save, 7 back, 8 read, 9 wipe;
+                * of a store 10 put, 11 get, 12 delete */
     const uint8_t *given;
     size_t length;
 };
@@ -19,6 +20,9 @@ struct call {
 static uint8_t out[1 << 16];
 static int16_t linear[320];
 static uint32_t state[G7110_SETTINGS];
+static uint8_t block[G7110_MAX_BLOCK];
+static uint32_t table[1 + 3 * G7110_MAX_GREETINGS];
+static uint32_t number;
 
 static void *make(void *argument)
 {
@@ -33,6 +37,9 @@ static void *make(void *argument)
     if (call->which == 7) g7110_settings_back(state, state[0], report);
     if (call->which == 8) g7110_settings_read(state, state[0], out, report);
     if (call->which == 9) g7110_settings_wipe(state);
+    if (call->which == 10) g7110_store_put(block, sizeof block, table, sizeof table / sizeof *table, number, call->given, call->length, report);
+    if (call->which == 11) g7110_store_get(block, sizeof block, table, sizeof table / sizeof *table, number, report);
+    if (call->which == 12) g7110_store_delete(block, sizeof block, table, sizeof table / sizeof *table, number);
     return NULL;
 }
 
@@ -55,7 +62,7 @@ static size_t used(struct call call)
     return STACK - low;
 }
 
-static size_t greatest[10];
+static size_t greatest[13];
 
 static void measure(int which, const uint8_t *given, size_t length)
 {
@@ -106,10 +113,22 @@ static void settings(void)
     measure(8, NULL, 0);
 }
 
+/* Each call over a store: greetings of every kind of frame, gaps, closing up, and one that is refused. */
+static void store(const uint8_t *stream, size_t length)
+{
+    for (number = 1; number <= 7; number++) measure(10, stream, length);
+    for (number = 2; number <= 6; number += 2) measure(12, NULL, 0);
+    for (number = 8; number <= 40; number++) measure(10, stream, number % 3 ? length : length - 1);
+    memset(out, 0x41, sizeof out);
+    measure(10, out, 6000);
+    for (number = 1; number <= 41; number++) measure(11, NULL, 0);
+}
+
 int main(void)
 {
-    static const char *const names[10] = {"",        "read",          "write",         "walk",          "to_linear",
-                                          "from_linear", "settings_save", "settings_back", "settings_read", "settings_wipe"};
+    static const char *const names[13] = {"",          "read",          "write",         "walk",          "to_linear",
+                                          "from_linear", "settings_save", "settings_back", "settings_read", "settings_wipe",
+                                          "store_put", "store_get",     "store_delete"};
     uint8_t samples[320], form[G7110_MAX_WRITTEN], stream[STREAM];
     uint64_t wrote[3];
     size_t length = 0;
@@ -132,6 +151,7 @@ int main(void)
     measure(3, stream, sizeof stream);
     measure(3, stream, length - 1);
     settings();
-    for (kind = 1; kind < 10; kind++) printf("stack: g7110_%s %lu octets\n", names[kind], over(kind));
+    store(stream, length);
+    for (kind = 1; kind < 13; kind++) printf("stack: g7110_%s %lu octets\n", names[kind], over(kind));
     return 0;
 }

@@ -1,5 +1,5 @@
 //! G.711.0 frames of the seven carried tools, read, written and walked by the proved code of libg7110.a; frames of samples
-//! converted to linear values and back; and a box's [`settings`], saved and put back.
+//! converted to linear values and back; a box's [`settings`], saved and put back; and a [`store`] of greetings.
 //!
 //! include/g7110.h is the manual; the names here are its names. No call uses the heap.
 
@@ -8,6 +8,7 @@
 pub mod raw;
 pub mod saved;
 pub mod settings;
+pub mod store;
 
 use std::fmt;
 
@@ -28,7 +29,7 @@ impl Law {
 }
 
 /// The header's version.
-pub const VERSION: u32 = 4;
+pub const VERSION: u32 = 5;
 /// Octets of stack that a call uses at most: measured, not proved.
 pub const STACK: usize = 8_192;
 /// Every carried tool. Tool t, 1 to 7, adds 2^(t-1) to a set; a writer's set is odd.

@@ -56,6 +56,15 @@ extern "C" {
     fn g7110_settings_back(state: *mut [u32; 41], revision: u32, report: *mut [u64; 1]) -> u32;
     fn g7110_settings_read(state: *const [u32; 41], revision: u32, text: *mut [u8; 80], report: *mut [u64; 1]) -> u32;
     fn g7110_settings_wipe(state: *mut [u32; 41]) -> u32;
+    fn g7110_store_cells(size: u64) -> u64;
+    fn g7110_store_put(
+        block: *mut u8, block_len: usize, table: *mut u32, table_len: usize, number: u32, octets: *const u8,
+        octets_len: usize, report: *mut [u64; 2],
+    ) -> u32;
+    fn g7110_store_get(
+        block: *const u8, block_len: usize, table: *const u32, table_len: usize, number: u32, report: *mut [u64; 2],
+    ) -> u32;
+    fn g7110_store_delete(block: *const u8, block_len: usize, table: *mut u32, table_len: usize, number: u32) -> u32;
 }
 
 /// The ending; the report is samples, octets, bits, tool and the refusal's bit.
@@ -125,4 +134,29 @@ pub fn settings_read(state: &[u32; 41], revision: u32, text: &mut [u8; 80], repo
 pub fn settings_wipe(state: &mut [u32; 41]) -> u32 {
     // SAFETY: as in `settings_save`.
     unsafe { g7110_settings_wipe(state) }
+}
+
+/// How many cells a store's table needs for a block of a size.
+pub fn store_cells(size: u64) -> u64 {
+    // SAFETY: a number in, a number out.
+    unsafe { g7110_store_cells(size) }
+}
+
+/// The ending; the report is the start and the octets moved.
+pub fn store_put(block: &mut [u8], table: &mut [u32], number: u32, octets: &[u8], report: &mut [u64; 2]) -> u32 {
+    let (b, t) = (block.as_mut_ptr(), table.as_mut_ptr());
+    // SAFETY: as in `read`; a slice of u32 is aligned.
+    unsafe { g7110_store_put(b, block.len(), t, table.len(), number, octets.as_ptr(), octets.len(), report) }
+}
+
+/// The ending; the report is the start and the octets.
+pub fn store_get(block: &[u8], table: &[u32], number: u32, report: &mut [u64; 2]) -> u32 {
+    // SAFETY: as in `store_put`.
+    unsafe { g7110_store_get(block.as_ptr(), block.len(), table.as_ptr(), table.len(), number, report) }
+}
+
+/// The ending.
+pub fn store_delete(block: &[u8], table: &mut [u32], number: u32) -> u32 {
+    // SAFETY: as in `store_put`.
+    unsafe { g7110_store_delete(block.as_ptr(), block.len(), table.as_mut_ptr(), table.len(), number) }
 }

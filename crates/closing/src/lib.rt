@@ -7,14 +7,47 @@ ghost use Rattle.rows.specs.Cells.{rowsOf};
 ghost use Rattle.rows.specs.Sane.{Ordered};
 ghost use Rattle.closing.specs.Closing.{movedOne, Closes};
 
-// n octets moved down, front to back: their old and new places may overlap.
-fn shift(block: &mut [u8], from: usize, to: usize, n: usize)
+// 64 octets moved at once: all are read before the first is written.
+fn hop(block: &mut [u8], from: usize, to: usize)
+    requires { ⌜ (to ≤ from) × (from + 64 ≤ length (now block)) ⌝ }
+    ensures { λ _. ⌜ now (block .exit) ≡ paste (now (block .entry)) to (drop from (now (block .entry))) 64 ⌝ }
+{
+    let mut chunk = [0u8; 64];
+    let end = from + 64;
+    placing::copy(&mut chunk, 0, &block[from..end]);
+    placing::copy(block, to, &chunk);
+}
+
+// As many times 64 octets as there are; how many octets that is.
+fn hops(block: &mut [u8], from: usize, to: usize, n: usize) -> usize
+    requires { ⌜ (to ≤ from) × (from + n ≤ length (now block)) ⌝ }
+    ensures { λ r. ⌜ (now (block .exit) ≡ paste (now (block .entry)) to (drop from (now (block .entry))) r) × (r ≤ n) ⌝ }
+{
+    let mut i = 0;
+    while 64 <= n - i {
+        hop(block, from + i, to + i);
+        i += 64;
+    }
+    i
+}
+
+// The few octets that are left, one by one, front to back.
+fn nudge(block: &mut [u8], from: usize, to: usize, n: usize)
     requires { ⌜ (to ≤ from) × (from + n ≤ length (now block)) ⌝ }
     ensures { λ _. ⌜ now (block .exit) ≡ paste (now (block .entry)) to (drop from (now (block .entry))) n ⌝ }
 {
     for i in 0..n {
         block[to + i] = block[from + i];
     }
+}
+
+// n octets moved down, front to back: their old and new places may overlap.
+fn shift(block: &mut [u8], from: usize, to: usize, n: usize)
+    requires { ⌜ (to ≤ from) × (from + n ≤ length (now block)) ⌝ }
+    ensures { λ _. ⌜ now (block .exit) ≡ paste (now (block .entry)) to (drop from (now (block .entry))) n ⌝ }
+{
+    let i = hops(block, from, to, n);
+    nudge(block, from + i, to + i, n - i);
 }
 
 // The same where the start changes; how many octets are reported as moved.

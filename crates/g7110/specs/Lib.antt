@@ -1,3 +1,4 @@
 pub mod Boundary
 pub mod Saved
 pub mod Settings
+pub mod Store

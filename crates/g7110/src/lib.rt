@@ -7,6 +7,8 @@ ghost use Rattle.rules.specs.Walk.{walkAll};
 ghost use Rattle.rules.specs.Chooses.{writeOne};
 ghost use Rattle.settings.specs.Calls.{Wipe};
 ghost use Rattle.g7110.specs.Settings.{SaveReported, BackReported, RevisionReported};
+ghost use Rattle.rows.specs.Limits.{cellsFor};
+ghost use Rattle.g7110.specs.Store.{PutReported, GetReported, DeleteReported};
 ghost use Rattle.linear.specs.Equations.{toPCM, fromPCM};
 ghost use Rattle.g7110.specs.Saved.{SavedReported, LoadReported};
 ghost use Rattle.g7110.specs.Boundary.{ReadReported, WalkReported, WriteReported, Converted};
@@ -171,4 +173,56 @@ pub extern "C" fn g7110_settings_wipe(state: &mut [u32; 41]) -> u32
 {
     settings::wipe(state);
     0
+}
+
+// How many cells a store's table needs for a block of a size.
+#[no_mangle]
+pub extern "C" fn g7110_store_cells(size: u64) -> u64
+    ensures { λ r. ⌜ r ≡ cellsFor size ⌝ }
+{
+    rows::cells_for(size)
+}
+
+// Putting a greeting: the number, and in the report its start and the octets moved.
+#[no_mangle]
+pub extern "C" fn g7110_store_put(
+    block: &mut [u8],
+    table: &mut [u32],
+    number: u32,
+    octets: &[u8],
+    report: &mut [u64; 2],
+) -> u32
+    ensures { λ r. ⌜ PutReported number (now (octets .entry)) (now (block .entry)) (now (table .entry)) (now (block .exit)) (now (table .exit)) (now (report .exit)) r ⌝ }
+{
+    let a = store::put(block, table, number, octets);
+    let start = store::first_of(a);
+    let moved = store::second_of(a);
+    *report = [start as u64, moved as u64];
+    store::number_of(a)
+}
+
+// Getting one: the number, and in the report its start and octets.
+#[no_mangle]
+pub extern "C" fn g7110_store_get(
+    block: &[u8],
+    table: &[u32],
+    number: u32,
+    report: &mut [u64; 2],
+) -> u32
+    ensures { λ r. ⌜ GetReported number (now (block .entry)) (now (table .entry)) (now (report .exit)) r ⌝ }
+{
+    let a = store::get(block, table, number);
+    let start = store::first_of(a);
+    let octets = store::second_of(a);
+    *report = [start as u64, octets as u64];
+    store::number_of(a)
+}
+
+// Deleting one: the number.
+#[no_mangle]
+pub extern "C" fn g7110_store_delete(block: &[u8], table: &mut [u32], number: u32) -> u32
+    ensures { λ r. ⌜ DeleteReported number (now (block .entry)) (now (table .entry)) (now (table .exit)) r ⌝ }
+{
+    let a = store::delete(block, table, number);
+    store::number_of(a)
 }

@@ -54,8 +54,9 @@ putAt b rows number xs Nowhere = putBehind b rows number xs
 abbrev pub fitted : List ℕ → List Row → ℕ → ℕ → List ℕ → After
 fitted b rows size number xs = putAt b rows number xs (lowestGap (length xs) size rows)
 
--- "Refusals, in order: NUMBER (15), TAKEN (16) on put .., BAD (18) .., FULL (19) at 32, NOROOM (20)"; "NOROOM is given exactly when no earlier
--- refusal is and the octets held plus the new ones exceed" the size
+-- "Refusals, in order: NUMBER (15), TAKEN (16) on put .., BAD (18) .., FULL (19) at 32, NOROOM (20)".
+-- "NOROOM is given exactly when no earlier refusal is and the octets held plus the new ones exceed" the size,
+-- wherever the deleted room lies.
 unfoldable pub putIn : List ℕ → ℕ → List Row → ℕ → List ℕ → Outcome
 putIn b size rows number xs =
     cond (not (isNumber number)) (refused Number)

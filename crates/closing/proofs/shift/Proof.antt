@@ -1,71 +1,46 @@
-use Prim.Native.Nat.{_-_}
 use native.Mathlib.Omega.{arith}
-use Rattle.rows.proofs.Shifting.{Shifting, shift-none, shift-turn, shift-all}
+use Rattle.closing.proofs.Hopping.{shift-rest}
 use borrow.Author.Needs.{needs}
 use Rattle.closing.proofs.shift.Statement.{statement}
 use Rattle.closing.proofs.shift.Tie as tie
 use Rattle.closing.proofs.shift.Reads as reads
 use Rattle.closing.proofs.shift.Lts as lts
+use Rattle.closing.proofs.hops.Reads as hops-reads
+use Rattle.closing.proofs.nudge.Reads as nudge-reads
 
-abbrev Inv-loop : tie.InvT-loop
-Inv-loop block₀ from to n i₀ block i = Shifting block₀ from to n i block
+-- src/lib.rt:49:9
+hops-requires : tie.Need-hops-requires
+hops-requires c κs = search needs
 
-abbrev μ-loop : tie.MeasureT-loop
-μ-loop block₀ from to n i₀ block i = n - i
+-- src/lib.rt:50:18
+add-nudge : tie.Need-add-nudge
+add-nudge c = search needs
 
--- src/lib.rt:15:5
-loop-holds : tie.Need-loop-holds Inv-loop μ-loop
-loop-holds c = shift-none _ _ _ _
+-- src/lib.rt:50:28
+add-nudge-2 : tie.Need-add-nudge-2
+add-nudge-2 c = search needs
 
--- src/lib.rt:16:31
-add-block : tie.Need-add-block Inv-loop μ-loop
-add-block c = search needs
+-- src/lib.rt:50:36
+sub-nudge : tie.Need-sub-nudge
+sub-nudge c = search needs
 
--- src/lib.rt:16:25
-slice-read-block : tie.Need-slice-read-block Inv-loop μ-loop
-slice-read-block c = search needs
+-- src/lib.rt:50:5
+nudge-requires : tie.Need-nudge-requires
+nudge-requires c κs = search needs
 
--- src/lib.rt:16:15
-add-block-2 : tie.Need-add-block-2 Inv-loop μ-loop
-add-block-2 c = search needs
-
--- src/lib.rt:16:9
-slice-write-block : tie.Need-slice-write-block Inv-loop μ-loop
-slice-write-block c = search needs
-
--- src/lib.rt:15:9
-add-i : tie.Need-add-i Inv-loop μ-loop
-add-i c = search needs
-
--- src/lib.rt:15:5
-loop-less : tie.Need-loop-less Inv-loop μ-loop
-loop-less c = search needs
-
--- src/lib.rt:15:5
-loop-again : tie.Need-loop-again Inv-loop μ-loop
-loop-again c = shift-turn (c .before .before .loop .inv) (omega arith) (omega arith) (omega arith)
-
--- src/lib.rt:11:1
-same-length : tie.Need-same-length Inv-loop μ-loop
+-- src/lib.rt:45:1
+same-length : tie.Need-same-length
 same-length c = search needs
 
--- src/lib.rt:11:1
-returns : tie.Need-returns Inv-loop μ-loop
-returns c = shift-all (c .before .loop .inv) (omega arith)
+-- src/lib.rt:45:1
+returns : tie.Need-returns
+returns c =
+    let s = c .before .before .before .before .before .before .before .before .before .args in
+    let hops = c .before .before .before .before .before .before .hops in
+    shift-rest (s .block .now) (s .from) (s .to) (s .n) (hops .result) (hops .ensures .0) (hops .kept .0) (omega arith) (omega arith) (omega arith)
+    (c .before .before .nudge .ensures)
 
 pub shift-spec : {M : Type 1} → statement M
 shift-spec =
     tie.close
-    (tie.spec
-    Inv-loop
-    μ-loop
-    loop-holds
-    add-block
-    slice-read-block
-    add-block-2
-    slice-write-block
-    add-i
-    loop-less
-    loop-again
-    same-length
-    returns)
+    (tie.spec hops-requires add-nudge add-nudge-2 sub-nudge nudge-requires same-length returns)
