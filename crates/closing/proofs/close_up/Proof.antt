@@ -43,85 +43,66 @@ module _ (c : tie.After-slice-known4 Inv-loop μ-loop) where
       let settled = c .before .before .settle .ensures in
       close-turn (s .0) (s .1 .0) (c .before .before .before .before .before .before .before .loop .inv) (here (c .before .before .before .before .before .before)) (c .before .before .before .before .row-at .ensures .0) (settled .0) (settled .1)
 
--- src/lib.rt:38:24
 slice-read-wide : tie.Need-slice-read-wide Inv-loop μ-loop
 slice-read-wide c = search needs
 
--- src/lib.rt:38:9
 wide-requires : tie.Need-wide-requires Inv-loop μ-loop
 wide-requires c κs = search needs
 
--- src/lib.rt:41:5
 loop-holds : tie.Need-loop-holds Inv-loop μ-loop
 loop-holds c = close-none (c .before .before .before .before .pre .0) (c .before .before .before .before .pre .1 .0)
 
--- src/lib.rt:42:21
 mul-k : tie.Need-mul-k Inv-loop μ-loop
 mul-k c = search needs
 
--- src/lib.rt:42:17
 add-k : tie.Need-add-k Inv-loop μ-loop
 add-k c = search needs
 
--- src/lib.rt:43:13
 row-at-requires : tie.Need-row-at-requires Inv-loop μ-loop
 row-at-requires c κs =
     let o = c .before .before .before .before .before .before .before .pre .0 in
     omega (arith, o .cells, o .few, here (c .before), c .before .before .loop .inv .table-size)
 
--- src/lib.rt:44:13
 settle-requires : tie.Need-settle-requires Inv-loop μ-loop
 settle-requires c κs =
     let n = near (c .before .before .before) (c .before .row-at .ensures .0) in
     (n .above, omega (arith, n .inside, c .before .before .before .before .loop .inv .block-size))
 
--- src/lib.rt:45:24
 cast-table : tie.Need-cast-table Inv-loop μ-loop
 cast-table c = omega (arith, c .before .before .before .before .before .before .before .loop .inv .inside, c .before .before .before .before .before .before .before .before .before .before .before .before .pre .1 .1)
 
--- src/lib.rt:45:15
 add-table : tie.Need-add-table Inv-loop μ-loop
 add-table c = search needs
 
--- src/lib.rt:45:9
 mul-table : tie.Need-mul-table Inv-loop μ-loop
 mul-table c = search needs
 
--- src/lib.rt:45:9
 slice-write-table : tie.Need-slice-write-table Inv-loop μ-loop
 slice-write-table c =
     let o = c .before .before .before .before .before .before .before .before .before .before .before .before .pre .0 in
     omega (arith, o .cells, o .few, here (c .before .before .before .before .before .before), c .before .before .before .before .before .before .before .loop .inv .table-size)
 
--- src/lib.rt:46:9
 add-moved : tie.Need-add-moved Inv-loop μ-loop
 add-moved c = let t = turned c in omega (arith, t .few, t .inside, c .before .before .before .before .before .before .before .before .before .before .before .before .pre .1 .1)
 
--- src/lib.rt:47:9
 add-to : tie.Need-add-to Inv-loop μ-loop
 add-to c = let t = turned (c .before) in omega (arith, t .inside, c .before .before .before .before .before .before .before .before .before .before .before .before .before .pre .1 .1)
 
--- src/lib.rt:41:9
 add-i : tie.Need-add-i Inv-loop μ-loop
 add-i c = search needs
 
--- src/lib.rt:41:5
 loop-less : tie.Need-loop-less Inv-loop μ-loop
 loop-less c = omega (arith, here (c .before .before .before .before .before .before .before), c .before .before .before .before .before .before .before .loop-test .taken)
 
--- src/lib.rt:41:5
 loop-again : tie.Need-loop-again Inv-loop μ-loop
 loop-again c = turned (c .before)
 
--- src/lib.rt:33:1
 same-length : tie.Need-same-length Inv-loop μ-loop
 same-length c = c .before .loop .inv .block-size
 
--- src/lib.rt:33:1
 same-length-2 : tie.Need-same-length-2 Inv-loop μ-loop
 same-length-2 c = c .before .loop .inv .table-size
 
--- src/lib.rt:33:1
 returns : tie.Need-returns Inv-loop μ-loop
 returns c =
     let s = c .before .before .before .before .before .before .pre in

@@ -10,43 +10,33 @@ use Rattle.closing.proofs.hop.Reads as reads
 use Rattle.closing.proofs.hop.Lts as lts
 use Rattle.placing.proofs.copy.Reads as copy-reads
 
--- src/lib.rt:16:15
 add-end : tie.Need-add-end
 add-end c = search needs
 
--- src/lib.rt:17:19
 slice-aggregate-copy : tie.Need-slice-aggregate-copy
 slice-aggregate-copy c = search needs
 
--- src/lib.rt:17:34
 sub-copy : tie.Need-sub-copy
 sub-copy c = search needs
 
--- src/lib.rt:17:34
 part-copy-start : tie.Need-part-copy-start
 part-copy-start c = search needs
 
--- src/lib.rt:17:34
 part-copy-end : tie.Need-part-copy-end
 part-copy-end c = search needs
 
--- src/lib.rt:17:5
 copy-requires : tie.Need-copy-requires
 copy-requires c κs = search needs
 
--- src/lib.rt:18:30
 slice-aggregate-copy-2 : tie.Need-slice-aggregate-copy-2
 slice-aggregate-copy-2 c = search needs
 
--- src/lib.rt:18:5
 copy-requires-2 : tie.Need-copy-requires-2
 copy-requires-2 c κs = search needs
 
--- src/lib.rt:11:1
 same-length : tie.Need-same-length
 same-length c = search needs
 
--- src/lib.rt:11:1
 returns : tie.Need-returns
 returns c =
     let s = c .before .before .before .before .before .before .before .before .before .before .before .args in

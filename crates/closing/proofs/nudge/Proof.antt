@@ -13,43 +13,33 @@ Inv-loop block₀ from to n i₀ block i = Shifting block₀ from to n i block
 abbrev μ-loop : tie.MeasureT-loop
 μ-loop block₀ from to n i₀ block i = n - i
 
--- src/lib.rt:15:5
 loop-holds : tie.Need-loop-holds Inv-loop μ-loop
 loop-holds c = shift-none _ _ _ _
 
--- src/lib.rt:16:31
 add-block : tie.Need-add-block Inv-loop μ-loop
 add-block c = search needs
 
--- src/lib.rt:16:25
 slice-read-block : tie.Need-slice-read-block Inv-loop μ-loop
 slice-read-block c = search needs
 
--- src/lib.rt:16:15
 add-block-2 : tie.Need-add-block-2 Inv-loop μ-loop
 add-block-2 c = search needs
 
--- src/lib.rt:16:9
 slice-write-block : tie.Need-slice-write-block Inv-loop μ-loop
 slice-write-block c = search needs
 
--- src/lib.rt:15:9
 add-i : tie.Need-add-i Inv-loop μ-loop
 add-i c = search needs
 
--- src/lib.rt:15:5
 loop-less : tie.Need-loop-less Inv-loop μ-loop
 loop-less c = search needs
 
--- src/lib.rt:15:5
 loop-again : tie.Need-loop-again Inv-loop μ-loop
 loop-again c = shift-turn (c .before .before .loop .inv) (omega arith) (omega arith) (omega arith)
 
--- src/lib.rt:11:1
 same-length : tie.Need-same-length Inv-loop μ-loop
 same-length c = search needs
 
--- src/lib.rt:11:1
 returns : tie.Need-returns Inv-loop μ-loop
 returns c = shift-all (c .before .loop .inv) (omega arith)
 

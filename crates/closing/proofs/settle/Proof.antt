@@ -9,22 +9,18 @@ use Rattle.closing.proofs.settle.Reads as reads
 use Rattle.closing.proofs.settle.Lts as lts
 use Rattle.closing.proofs.shift.Reads as shift-reads
 
--- src/lib.rt:26:9
 returns : tie.Need-returns
 returns c =
     let s = c .before .before .args in
     let e : s .from ≡ s .to = omega arith in
     (rw e (shift-same (s .block .now) (s .to) (s .n) (omega arith)), rw (eq-eqb (s .from) (s .to) e))
 
--- src/lib.rt:28:5
 shift-requires : tie.Need-shift-requires
 shift-requires c κs = search needs
 
--- src/lib.rt:21:1
 same-length : tie.Need-same-length
 same-length c = search needs
 
--- src/lib.rt:21:1
 returns-2 : tie.Need-returns-2
 returns-2 c =
     let s = c .before .before .before .before .before .before .args in

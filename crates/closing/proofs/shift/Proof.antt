@@ -8,31 +8,24 @@ use Rattle.closing.proofs.shift.Lts as lts
 use Rattle.closing.proofs.hops.Reads as hops-reads
 use Rattle.closing.proofs.nudge.Reads as nudge-reads
 
--- src/lib.rt:49:9
 hops-requires : tie.Need-hops-requires
 hops-requires c κs = search needs
 
--- src/lib.rt:50:18
 add-nudge : tie.Need-add-nudge
 add-nudge c = search needs
 
--- src/lib.rt:50:28
 add-nudge-2 : tie.Need-add-nudge-2
 add-nudge-2 c = search needs
 
--- src/lib.rt:50:36
 sub-nudge : tie.Need-sub-nudge
 sub-nudge c = search needs
 
--- src/lib.rt:50:5
 nudge-requires : tie.Need-nudge-requires
 nudge-requires c κs = search needs
 
--- src/lib.rt:45:1
 same-length : tie.Need-same-length
 same-length c = search needs
 
--- src/lib.rt:45:1
 returns : tie.Need-returns
 returns c =
     let s = c .before .before .before .before .before .before .before .before .before .args in

@@ -8,19 +8,15 @@ use Rattle.g7110.proofs.g7110_store_delete.Lts as lts
 use Rattle.store.proofs.delete.Reads as delete-reads
 use Rattle.store.proofs.number_of.Reads as number-of-reads
 
--- src/lib.rt:200:9
 delete-requires : tie.Need-delete-requires
 delete-requires c κs = search needs
 
--- src/lib.rt:201:5
 number-of-requires : tie.Need-number-of-requires
 number-of-requires c κs = search needs
 
--- src/lib.rt:196:1
 same-length : tie.Need-same-length
 same-length c = search needs
 
--- src/lib.rt:196:1
 returns : tie.Need-returns
 returns c =
     let t = c .before .before .before .delete .ensures in

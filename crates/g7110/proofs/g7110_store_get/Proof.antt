@@ -11,23 +11,18 @@ use Rattle.store.proofs.get.Reads as get-reads
 use Rattle.store.proofs.number_of.Reads as number-of-reads
 use Rattle.store.proofs.second_of.Reads as second-of-reads
 
--- src/lib.rt:188:9
 get-requires : tie.Need-get-requires
 get-requires c κs = search needs
 
--- src/lib.rt:189:9
 first-of-requires : tie.Need-first-of-requires
 first-of-requires c κs = search needs
 
--- src/lib.rt:190:9
 second-of-requires : tie.Need-second-of-requires
 second-of-requires c κs = search needs
 
--- src/lib.rt:192:5
 number-of-requires : tie.Need-number-of-requires
 number-of-requires c κs = search needs
 
--- src/lib.rt:179:1
 returns : tie.Need-returns
 returns c =
     let t = c .before .before .before .before .get .ensures in

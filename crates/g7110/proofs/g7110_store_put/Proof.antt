@@ -11,31 +11,24 @@ use Rattle.store.proofs.number_of.Reads as number-of-reads
 use Rattle.store.proofs.put.Reads as put-reads
 use Rattle.store.proofs.second_of.Reads as second-of-reads
 
--- src/lib.rt:171:9
 put-requires : tie.Need-put-requires
 put-requires c κs = search needs
 
--- src/lib.rt:172:9
 first-of-requires : tie.Need-first-of-requires
 first-of-requires c κs = search needs
 
--- src/lib.rt:173:9
 second-of-requires : tie.Need-second-of-requires
 second-of-requires c κs = search needs
 
--- src/lib.rt:175:5
 number-of-requires : tie.Need-number-of-requires
 number-of-requires c κs = search needs
 
--- src/lib.rt:161:1
 same-length : tie.Need-same-length
 same-length c = search needs
 
--- src/lib.rt:161:1
 same-length-2 : tie.Need-same-length-2
 same-length-2 c = search needs
 
--- src/lib.rt:161:1
 returns : tie.Need-returns
 returns c =
     let t = c .before .before .before .before .before .before .before .before .put .ensures in

@@ -8,31 +8,24 @@ use Rattle.greetings.proofs.is_bad.Lts as lts
 use Rattle.greetings.proofs.is_done.Reads as is-done-reads
 use Rattle.walk.proofs.walk_on.Reads as walk-on-reads
 
--- src/lib.rt:22:9
 returns : tie.Need-returns
 returns c = bad-empty (c .before .before .args .octets .now) (omega arith)
 
--- src/lib.rt:25:9
 returns-2 : tie.Need-returns-2
 returns-2 c = bad-long (c .before .before .before .args .octets .now) (omega arith) (omega arith)
 
--- src/lib.rt:27:78
 add-walk-on : tie.Need-add-walk-on
 add-walk-on c = search needs
 
--- src/lib.rt:27:87
 mul-walk-on : tie.Need-mul-walk-on
 mul-walk-on c = search needs
 
--- src/lib.rt:27:9
 walk-on-requires : tie.Need-walk-on-requires
 walk-on-requires c κs = search needs
 
--- src/lib.rt:29:6
 is-done-requires : tie.Need-is-done-requires
 is-done-requires c κs = search needs
 
--- src/lib.rt:17:1
 returns-3 : tie.Need-returns-3
 returns-3 c = bad-walked (c .before .before .before .before .before .args .octets .now) (omega arith) (omega arith) (c .before .walk-on .ensures .end) (c .is-done .ensures)
 

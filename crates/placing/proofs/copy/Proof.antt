@@ -14,39 +14,30 @@ Inv-loop block₀ at octets i₀ i-end block i = Copying block₀ at octets i bl
 abbrev μ-loop : tie.MeasureT-loop
 μ-loop block₀ at octets i₀ i-end block i = length octets - i
 
--- src/lib.rt:69:5
 loop-holds : tie.Need-loop-holds Inv-loop μ-loop
 loop-holds c = copy-none _ _ _
 
--- src/lib.rt:70:25
 shared-slice-read-block : tie.Need-shared-slice-read-block Inv-loop μ-loop
 shared-slice-read-block c = search needs
 
--- src/lib.rt:70:15
 add-block : tie.Need-add-block Inv-loop μ-loop
 add-block c = search needs
 
--- src/lib.rt:70:9
 slice-write-block : tie.Need-slice-write-block Inv-loop μ-loop
 slice-write-block c = search needs
 
--- src/lib.rt:69:9
 add-i : tie.Need-add-i Inv-loop μ-loop
 add-i c = search needs
 
--- src/lib.rt:69:5
 loop-less : tie.Need-loop-less Inv-loop μ-loop
 loop-less c = search needs
 
--- src/lib.rt:69:5
 loop-again : tie.Need-loop-again Inv-loop μ-loop
 loop-again c = copy-turn (c .before .before .loop .inv) (omega arith) (omega arith)
 
--- src/lib.rt:65:1
 same-length : tie.Need-same-length Inv-loop μ-loop
 same-length c = search needs
 
--- src/lib.rt:65:1
 returns : tie.Need-returns Inv-loop μ-loop
 returns c = copy-all (c .before .loop .inv) (omega arith)
 

@@ -10,48 +10,37 @@ use Rattle.placing.proofs.insert.Lts as lts
 use Rattle.placing.proofs.lay_row.Reads as lay-row-reads
 use Rattle.placing.proofs.raise.Reads as raise-reads
 
--- src/lib.rt:251:17
 mul-k : tie.Need-mul-k
 mul-k c = search needs
 
--- src/lib.rt:251:13
 add-k : tie.Need-add-k
 add-k c = search needs
 
--- src/lib.rt:252:25
 mul-raise : tie.Need-mul-raise
 mul-raise c = search needs
 
--- src/lib.rt:252:21
 add-raise : tie.Need-add-raise
 add-raise c = search needs
 
--- src/lib.rt:252:5
 raise-requires : tie.Need-raise-requires
 raise-requires c κs = search needs
 
--- src/lib.rt:253:5
 lay-row-requires : tie.Need-lay-row-requires
 lay-row-requires c κs = search needs
 
--- src/lib.rt:254:17
 add-table : tie.Need-add-table
 add-table c = search needs
 
--- src/lib.rt:254:16
 cast-table : tie.Need-cast-table
 cast-table c = search needs
 
--- src/lib.rt:254:5
 slice-write-table : tie.Need-slice-write-table
 slice-write-table c = search needs
 
--- src/lib.rt:247:1
 same-length : tie.Need-same-length
 same-length c =
     length-set (c .before .before .lay-row .last .0) 0 _ ∙ c .before .before .lay-row .kept .0 ∙ c .before .before .before .before .before .before .raise .kept .0
 
--- src/lib.rt:247:1
 returns : tie.Need-returns
 returns c =
     let s = c .before .before .before .before .before .before .before .before .before .args in

@@ -7,55 +7,42 @@ use Rattle.placing.proofs.lay_row.Tie as tie
 use Rattle.placing.proofs.lay_row.Reads as reads
 use Rattle.placing.proofs.lay_row.Lts as lts
 
--- src/lib.rt:37:16
 cast-table : tie.Need-cast-table
 cast-table c = search needs
 
--- src/lib.rt:37:5
 mul-table : tie.Need-mul-table
 mul-table c = search needs
 
--- src/lib.rt:37:5
 slice-write-table : tie.Need-slice-write-table
 slice-write-table c = search needs
 
--- src/lib.rt:38:20
 cast-table-2 : tie.Need-cast-table-2
 cast-table-2 c = search needs
 
--- src/lib.rt:38:11
 add-table : tie.Need-add-table
 add-table c = search needs
 
--- src/lib.rt:38:5
 mul-table-2 : tie.Need-mul-table-2
 mul-table-2 c = search needs
 
--- src/lib.rt:38:5
 slice-write-table-2 : tie.Need-slice-write-table-2
 slice-write-table-2 c = simp length-set (omega arith)
 
--- src/lib.rt:39:20
 cast-table-3 : tie.Need-cast-table-3
 cast-table-3 c = search needs
 
--- src/lib.rt:39:11
 add-table-2 : tie.Need-add-table-2
 add-table-2 c = search needs
 
--- src/lib.rt:39:5
 mul-table-3 : tie.Need-mul-table-3
 mul-table-3 c = search needs
 
--- src/lib.rt:39:5
 slice-write-table-3 : tie.Need-slice-write-table-3
 slice-write-table-3 c = simp length-set (omega arith)
 
--- src/lib.rt:33:1
 same-length : tie.Need-same-length
 same-length c = search needs
 
--- src/lib.rt:33:1
 returns : tie.Need-returns
 returns c = let s = c .before .before .before .args in row-laid (s .table .now) (s .k) (s .r) (omega arith)
 

@@ -13,55 +13,42 @@ Inv-loop table₀ at n i₀ table i = Shifting table₀ (at + 3) at n i table
 abbrev μ-loop : tie.MeasureT-loop
 μ-loop table₀ at n i₀ table i = n - i
 
--- src/lib.rt:27:5
 loop-holds : tie.Need-loop-holds Inv-loop μ-loop
 loop-holds c = shift-none _ _ _ _
 
--- src/lib.rt:28:31
 add-table : tie.Need-add-table Inv-loop μ-loop
 add-table c = search needs
 
--- src/lib.rt:28:31
 add-table-2 : tie.Need-add-table-2 Inv-loop μ-loop
 add-table-2 c = search needs
 
--- src/lib.rt:28:25
 mul-table : tie.Need-mul-table Inv-loop μ-loop
 mul-table c = search needs
 
--- src/lib.rt:28:25
 slice-read-table : tie.Need-slice-read-table Inv-loop μ-loop
 slice-read-table c = search needs
 
--- src/lib.rt:28:15
 add-table-3 : tie.Need-add-table-3 Inv-loop μ-loop
 add-table-3 c = search needs
 
--- src/lib.rt:28:9
 mul-table-2 : tie.Need-mul-table-2 Inv-loop μ-loop
 mul-table-2 c = search needs
 
--- src/lib.rt:28:9
 slice-write-table : tie.Need-slice-write-table Inv-loop μ-loop
 slice-write-table c = search needs
 
--- src/lib.rt:27:9
 add-i : tie.Need-add-i Inv-loop μ-loop
 add-i c = search needs
 
--- src/lib.rt:27:5
 loop-less : tie.Need-loop-less Inv-loop μ-loop
 loop-less c = search needs
 
--- src/lib.rt:27:5
 loop-again : tie.Need-loop-again Inv-loop μ-loop
 loop-again c = shift-turn (c .before .before .loop .inv) (omega arith) (omega arith) (omega arith)
 
--- src/lib.rt:23:1
 same-length : tie.Need-same-length Inv-loop μ-loop
 same-length c = search needs
 
--- src/lib.rt:23:1
 returns : tie.Need-returns Inv-loop μ-loop
 returns c = shift-all (c .before .loop .inv) (omega arith)
 

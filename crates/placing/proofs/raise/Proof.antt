@@ -12,47 +12,36 @@ Inv-loop table₀ at n j₀ table j = Raising table₀ at n j table
 abbrev μ-loop : tie.MeasureT-loop
 μ-loop table₀ at n j₀ table j = j
 
--- src/lib.rt:16:5
 loop-holds : tie.Need-loop-holds Inv-loop μ-loop
 loop-holds c = raise-none _ _ _ (omega arith)
 
--- src/lib.rt:17:13
 sub-j : tie.Need-sub-j Inv-loop μ-loop
 sub-j c = search needs
 
--- src/lib.rt:18:24
 mul-table : tie.Need-mul-table Inv-loop μ-loop
 mul-table c = search needs
 
--- src/lib.rt:18:24
 slice-read-table : tie.Need-slice-read-table Inv-loop μ-loop
 slice-read-table c = search needs
 
--- src/lib.rt:18:15
 add-table : tie.Need-add-table Inv-loop μ-loop
 add-table c = search needs
 
--- src/lib.rt:18:9
 mul-table-2 : tie.Need-mul-table-2 Inv-loop μ-loop
 mul-table-2 c = search needs
 
--- src/lib.rt:18:9
 slice-write-table : tie.Need-slice-write-table Inv-loop μ-loop
 slice-write-table c = search needs
 
--- src/lib.rt:16:5
 loop-less : tie.Need-loop-less Inv-loop μ-loop
 loop-less c = search needs
 
--- src/lib.rt:16:5
 loop-again : tie.Need-loop-again Inv-loop μ-loop
 loop-again c = raise-turn (c .before .before .loop .inv) (omega arith) (omega arith) (omega arith)
 
--- src/lib.rt:11:1
 same-length : tie.Need-same-length Inv-loop μ-loop
 same-length c = search needs
 
--- src/lib.rt:11:1
 returns : tie.Need-returns Inv-loop μ-loop
 returns c = raise-all (c .before .loop .inv) (omega arith)
 

@@ -7,47 +7,36 @@ use Rattle.placing.proofs.remove.Reads as reads
 use Rattle.placing.proofs.remove.Lts as lts
 use Rattle.placing.proofs.lower.Reads as lower-reads
 
--- src/lib.rt:262:21
 add-left : tie.Need-add-left
 add-left c = search needs
 
--- src/lib.rt:262:16
 sub-left : tie.Need-sub-left
 sub-left c = search needs
 
--- src/lib.rt:263:22
 mul-lower : tie.Need-mul-lower
 mul-lower c = search needs
 
--- src/lib.rt:263:18
 add-lower : tie.Need-add-lower
 add-lower c = search needs
 
--- src/lib.rt:263:29
 mul-lower-2 : tie.Need-mul-lower-2
 mul-lower-2 c = search needs
 
--- src/lib.rt:263:5
 lower-requires : tie.Need-lower-requires
 lower-requires c κs = search needs
 
--- src/lib.rt:264:17
 sub-table : tie.Need-sub-table
 sub-table c = search needs
 
--- src/lib.rt:264:16
 cast-table : tie.Need-cast-table
 cast-table c = search needs
 
--- src/lib.rt:264:5
 slice-write-table : tie.Need-slice-write-table
 slice-write-table c = search needs
 
--- src/lib.rt:258:1
 same-length : tie.Need-same-length
 same-length c = search needs
 
--- src/lib.rt:258:1
 returns : tie.Need-returns
 returns c =
     let s = c .before .before .before .before .before .args in

@@ -21,60 +21,48 @@ Inv-loop table n i₀ i = (numbered (rowsAt table n 1) ≡ numbered (left table 
 abbrev μ-loop : tie.MeasureT-loop
 μ-loop table n i₀ i = n - i
 
--- src/lib.rt:112:5
 loop-holds : tie.Need-loop-holds Inv-loop μ-loop
 loop-holds c = (ap (λ (x : List Row). numbered x) (left-all (c .before .args .table .now) (c .before .args .n)), omega arith)
 
--- src/lib.rt:113:35
 mul-row-at : tie.Need-mul-row-at Inv-loop μ-loop
 mul-row-at c = search needs
 
--- src/lib.rt:113:31
 add-row-at : tie.Need-add-row-at Inv-loop μ-loop
 add-row-at c = search needs
 
--- src/lib.rt:113:13
 row-at-requires : tie.Need-row-at-requires Inv-loop μ-loop
 row-at-requires c κs = search needs
 
--- src/lib.rt:115:13
 returns : tie.Need-returns Inv-loop μ-loop
 returns c =
     let s = c .before .before .before .before .before .before .args in
     let l = c .before .before .before .before .loop in
     numbered-low (s .table .now) (s .n) (l .i) (c .before .before .row-at .ensures .0) (omega arith) (omega arith) ∙ sym (l .inv .0)
 
--- src/lib.rt:118:13
 returns-2 : tie.Need-returns-2 Inv-loop μ-loop
 returns-2 c =
     let s = c .before .before .before .before .before .before .before .before .args in
     let l = c .before .before .before .before .before .before .loop in
     numbered-high (s .table .now) (s .n) (l .i) (c .before .before .before .before .row-at .ensures .0) (omega arith) (omega arith) (omega arith) ∙ sym (l .inv .0)
 
--- src/lib.rt:120:27
 add-find : tie.Need-add-find Inv-loop μ-loop
 add-find c = search needs
 
--- src/lib.rt:120:12
 find-requires : tie.Need-find-requires Inv-loop μ-loop
 find-requires c κs = search needs
 
--- src/lib.rt:121:13
 returns-3 : tie.Need-returns-3 Inv-loop μ-loop
 returns-3 c =
     let s = c .before .before .before .before .before .before .before .before .before .before .args in
     let l = c .before .before .before .before .before .before .before .before .loop in
     numbered-again (s .table .now) (s .n) (l .i) (c .before .before .before .before .before .before .row-at .ensures .0) (omega arith) (c .before .find .ensures .0) (omega arith) (omega arith) (omega arith) ∙ sym (l .inv .0)
 
--- src/lib.rt:123:9
 add-i : tie.Need-add-i Inv-loop μ-loop
 add-i c = search needs
 
--- src/lib.rt:112:5
 loop-less : tie.Need-loop-less Inv-loop μ-loop
 loop-less c = search needs
 
--- src/lib.rt:112:5
 loop-again : tie.Need-loop-again Inv-loop μ-loop
 loop-again c =
     let s = c .before .before .before .before .before .before .before .before .before .before .args in
@@ -83,7 +71,6 @@ loop-again c =
     let f = c .before .find .ensures .0 in
     (l .inv .0 ∙ numbered-turn (s .table .now) (s .n) (l .i) r (omega arith) f (omega arith) (omega arith) (omega arith), omega arith)
 
--- src/lib.rt:107:1
 returns-4 : tie.Need-returns-4 Inv-loop μ-loop
 returns-4 c =
     let s = c .before .before .before .args in

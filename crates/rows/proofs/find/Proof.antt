@@ -17,45 +17,36 @@ Inv-loop table n from number i₀ i = (findFrom number from (left table n from) 
 abbrev μ-loop : tie.MeasureT-loop
 μ-loop table n from number i₀ i = n - i
 
--- src/lib.rt:71:5
 loop-holds : tie.Need-loop-holds Inv-loop μ-loop
 loop-holds c = search needs
 
--- src/lib.rt:72:35
 mul-row-at : tie.Need-mul-row-at Inv-loop μ-loop
 mul-row-at c = search needs
 
--- src/lib.rt:72:31
 add-row-at : tie.Need-add-row-at Inv-loop μ-loop
 add-row-at c = search needs
 
--- src/lib.rt:72:13
 row-at-requires : tie.Need-row-at-requires Inv-loop μ-loop
 row-at-requires c κs = search needs
 
--- src/lib.rt:74:13
 returns : tie.Need-returns Inv-loop μ-loop
 returns c =
     let s = c .before .before .before .before .before .before .args in
     let l = c .before .before .before .before .loop in
     (find-hit (s .table .now) (s .n) (l .i) (c .before .before .row-at .ensures .0) (omega arith) (s .number) (omega arith) ∙ sym (l .inv .0), omega arith)
 
--- src/lib.rt:76:9
 add-i : tie.Need-add-i Inv-loop μ-loop
 add-i c = search needs
 
--- src/lib.rt:71:5
 loop-less : tie.Need-loop-less Inv-loop μ-loop
 loop-less c = search needs
 
--- src/lib.rt:71:5
 loop-again : tie.Need-loop-again Inv-loop μ-loop
 loop-again c =
     let s = c .before .before .before .before .before .before .args in
     let l = c .before .before .before .before .loop in
     (l .inv .0 ∙ find-miss (s .table .now) (s .n) (l .i) (c .before .before .row-at .ensures .0) (omega arith) (s .number) (λ e. omega arith), omega arith)
 
--- src/lib.rt:66:1
 returns-2 : tie.Need-returns-2 Inv-loop μ-loop
 returns-2 c =
     let s = c .before .before .before .args in

@@ -18,36 +18,28 @@ Inv-loop table n size sum₀ i₀ sum i = (sum ≡ held (rowsAt table i 1)) × (
 abbrev μ-loop : tie.MeasureT-loop
 μ-loop table n size sum₀ i₀ sum i = n - i
 
--- src/lib.rt:151:5
 loop-holds : tie.Need-loop-holds Inv-loop μ-loop
 unfolding rowsAt held
 loop-holds c = (refl, omega arith, omega arith)
 
--- src/lib.rt:152:35
 mul-row-at : tie.Need-mul-row-at Inv-loop μ-loop
 mul-row-at c = search needs
 
--- src/lib.rt:152:31
 add-row-at : tie.Need-add-row-at Inv-loop μ-loop
 add-row-at c = search needs
 
--- src/lib.rt:152:13
 row-at-requires : tie.Need-row-at-requires Inv-loop μ-loop
 row-at-requires c κs = search needs
 
--- src/lib.rt:153:9
 add-sum : tie.Need-add-sum Inv-loop μ-loop
 add-sum c = search needs
 
--- src/lib.rt:151:9
 add-i : tie.Need-add-i Inv-loop μ-loop
 add-i c = search needs
 
--- src/lib.rt:151:5
 loop-less : tie.Need-loop-less Inv-loop μ-loop
 loop-less c = search needs
 
--- src/lib.rt:151:5
 loop-again : tie.Need-loop-again Inv-loop μ-loop
 loop-again c =
     let s = c .before .before .before .before .before in
@@ -56,7 +48,6 @@ loop-again c =
     let x = row-next (s .args .n) (l .i) (s .pre .1) (s .pre .0) (c .before .row-at .ensures .0) (omega arith) in
     (h, omega arith, omega (arith, x .above, x .inside, l .inv .0))
 
--- src/lib.rt:146:1
 returns : tie.Need-returns Inv-loop μ-loop
 returns c =
     let s = c .before .before .before in

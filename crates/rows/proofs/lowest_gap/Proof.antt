@@ -21,49 +21,39 @@ Inv-loop table n size want at₀ i₀ at i = (lowestGap want size (rowsOf table)
 abbrev μ-loop : tie.MeasureT-loop
 μ-loop table n size want at₀ i₀ at i = n - i
 
--- src/lib.rt:165:5
 loop-holds : tie.Need-loop-holds Inv-loop μ-loop
 loop-holds c =
     let s = c .before in
     let all = ap (λ (x : ℕ). rowsAt (s .args .table .now) x 1) (sym (s .pre .0)) ∙ left-all (s .args .table .now) (s .args .n) in
     (ap (λ (x : List Row). lowestGap (s .args .want) (s .args .size) x) all, omega arith, omega arith)
 
--- src/lib.rt:166:35
 mul-row-at : tie.Need-mul-row-at Inv-loop μ-loop
 mul-row-at c = search needs
 
--- src/lib.rt:166:31
 add-row-at : tie.Need-add-row-at Inv-loop μ-loop
 add-row-at c = search needs
 
--- src/lib.rt:166:13
 row-at-requires : tie.Need-row-at-requires Inv-loop μ-loop
 row-at-requires c κs = search needs
 
--- src/lib.rt:167:12
 add-if1 : tie.Need-add-if1 Inv-loop μ-loop
 add-if1 c = search needs
 
--- src/lib.rt:168:13
 returns : tie.Need-returns Inv-loop μ-loop
 returns c =
     let s = c .before .before .before .before .before .before .args in
     let l = c .before .before .before .before .loop in
     gap-here (s .table .now) (s .n) (l .i) (c .before .before .row-at .ensures .0) (omega arith) (s .want) (s .size) (l .at) (omega arith) ∙ sym (l .inv .0)
 
--- src/lib.rt:170:14
 add-at : tie.Need-add-at Inv-loop μ-loop
 add-at c = search needs
 
--- src/lib.rt:171:9
 add-i : tie.Need-add-i Inv-loop μ-loop
 add-i c = search needs
 
--- src/lib.rt:165:5
 loop-less : tie.Need-loop-less Inv-loop μ-loop
 loop-less c = search needs
 
--- src/lib.rt:165:5
 loop-again : tie.Need-loop-again Inv-loop μ-loop
 loop-again c =
     let s = c .before .before .before .before .before .before .before in
@@ -75,18 +65,15 @@ loop-again c =
       x .inside,
     )
 
--- src/lib.rt:173:8
 add-if2 : tie.Need-add-if2 Inv-loop μ-loop
 add-if2 c = search needs
 
--- src/lib.rt:174:9
 returns-2 : tie.Need-returns-2 Inv-loop μ-loop
 returns-2 c =
     let s = c .before .before .before .before .args in
     let l = c .before .before .loop in
     gap-end (s .table .now) (s .n) (l .i) (s .want) (s .size) (l .at) (omega arith) (omega arith) (omega arith) ∙ sym (l .inv .0)
 
--- src/lib.rt:159:1
 returns-3 : tie.Need-returns-3 Inv-loop μ-loop
 returns-3 c =
     let s = c .before .before .before .before .args in

@@ -20,58 +20,47 @@ Inv-loop table n least size at₀ i₀ at i = (rising least 0 size (rowsAt table
 abbrev μ-loop : tie.MeasureT-loop
 μ-loop table n least size at₀ i₀ at i = n - i
 
--- src/lib.rt:88:5
 loop-holds : tie.Need-loop-holds Inv-loop μ-loop
 loop-holds c =
     let s = c .before .args in
     (ap (λ (x : List Row). rising (s .least) 0 (s .size) x) (left-all (s .table .now) (s .n)), omega arith)
 
--- src/lib.rt:89:35
 mul-row-at : tie.Need-mul-row-at Inv-loop μ-loop
 mul-row-at c = search needs
 
--- src/lib.rt:89:31
 add-row-at : tie.Need-add-row-at Inv-loop μ-loop
 add-row-at c = search needs
 
--- src/lib.rt:89:13
 row-at-requires : tie.Need-row-at-requires Inv-loop μ-loop
 row-at-requires c κs = search needs
 
--- src/lib.rt:91:13
 returns : tie.Need-returns Inv-loop μ-loop
 returns c =
     let s = c .before .before .before .before .before .before .args in
     let l = c .before .before .before .before .loop in
     rising-low (s .table .now) (s .n) (l .i) (s .least) (s .size) (l .at) (c .before .before .row-at .ensures .0) (omega arith) (omega arith) ∙ sym (l .inv .0)
 
--- src/lib.rt:94:13
 returns-2 : tie.Need-returns-2 Inv-loop μ-loop
 returns-2 c =
     let s = c .before .before .before .before .before .before .before .before .args in
     let l = c .before .before .before .before .before .before .loop in
     rising-few (s .table .now) (s .n) (l .i) (s .least) (s .size) (l .at) (c .before .before .before .before .row-at .ensures .0) (omega arith) (omega arith) (omega arith) ∙ sym (l .inv .0)
 
--- src/lib.rt:96:19
 add-end : tie.Need-add-end Inv-loop μ-loop
 add-end c = search needs
 
--- src/lib.rt:98:13
 returns-3 : tie.Need-returns-3 Inv-loop μ-loop
 returns-3 c =
     let s = c .before .before .before .before .before .before .before .before .before .before .args in
     let l = c .before .before .before .before .before .before .before .before .loop in
     rising-out (s .table .now) (s .n) (l .i) (s .least) (s .size) (l .at) (c .before .before .before .before .before .before .row-at .ensures .0) (omega arith) (omega arith) (omega arith) (omega arith) ∙ sym (l .inv .0)
 
--- src/lib.rt:101:9
 add-i : tie.Need-add-i Inv-loop μ-loop
 add-i c = search needs
 
--- src/lib.rt:88:5
 loop-less : tie.Need-loop-less Inv-loop μ-loop
 loop-less c = search needs
 
--- src/lib.rt:88:5
 loop-again : tie.Need-loop-again Inv-loop μ-loop
 loop-again c =
     let s = c .before .before .before .before .before .before .before .before .before .before .args in
@@ -81,7 +70,6 @@ loop-again c =
       omega arith,
     )
 
--- src/lib.rt:82:1
 returns-4 : tie.Need-returns-4 Inv-loop μ-loop
 returns-4 c =
     let s = c .before .before .before .args in

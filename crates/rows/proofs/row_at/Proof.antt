@@ -8,51 +8,39 @@ use Rattle.rows.proofs.row_at.Reads as reads
 use Rattle.rows.proofs.row_at.Lts as lts
 use Rattle.rows.proofs.wide.Reads as wide-reads
 
--- src/lib.rt:59:22
 mul-wide : tie.Need-mul-wide
 mul-wide c = search needs
 
--- src/lib.rt:59:22
 shared-slice-read-wide : tie.Need-shared-slice-read-wide
 shared-slice-read-wide c = search needs
 
--- src/lib.rt:59:17
 wide-requires : tie.Need-wide-requires
 wide-requires c κs = search needs
 
--- src/lib.rt:60:27
 add-wide : tie.Need-add-wide
 add-wide c = search needs
 
--- src/lib.rt:60:21
 mul-wide-2 : tie.Need-mul-wide-2
 mul-wide-2 c = search needs
 
--- src/lib.rt:60:21
 shared-slice-read-wide-2 : tie.Need-shared-slice-read-wide-2
 shared-slice-read-wide-2 c = search needs
 
--- src/lib.rt:60:16
 wide-requires-2 : tie.Need-wide-requires-2
 wide-requires-2 c κs = search needs
 
--- src/lib.rt:61:28
 add-wide-2 : tie.Need-add-wide-2
 add-wide-2 c = search needs
 
--- src/lib.rt:61:22
 mul-wide-3 : tie.Need-mul-wide-3
 mul-wide-3 c = search needs
 
--- src/lib.rt:61:22
 shared-slice-read-wide-3 : tie.Need-shared-slice-read-wide-3
 shared-slice-read-wide-3 c = search needs
 
--- src/lib.rt:61:17
 wide-requires-3 : tie.Need-wide-requires-3
 wide-requires-3 c κs = search needs
 
--- src/lib.rt:54:1
 returns : tie.Need-returns
 returns c =
     let s = c .before .before .before .before .before .before .before in (

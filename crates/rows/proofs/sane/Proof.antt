@@ -9,38 +9,30 @@ use Rattle.rows.proofs.distinct.Reads as distinct-reads
 use Rattle.rows.proofs.rises.Reads as rises-reads
 use Rattle.rows.proofs.wide.Reads as wide-reads
 
--- src/lib.rt:133:9
 returns : tie.Need-returns
 returns c = sane-short (c .before .before .args .size) (c .before .before .args .table .now) (omega arith)
 
--- src/lib.rt:135:18
 shared-slice-read-wide : tie.Need-shared-slice-read-wide
 shared-slice-read-wide c = search needs
 
--- src/lib.rt:135:9
 wide-requires : tie.Need-wide-requires
 wide-requires c κs = search needs
 
--- src/lib.rt:137:9
 returns-2 : tie.Need-returns-2
 returns-2 c = let s = c .before .before .before .before .before .args in sane-many (s .size) (s .table .now) (omega arith) (c .before .wide .ensures) (omega arith)
 
--- src/lib.rt:139:8
 rises-requires : tie.Need-rises-requires
 rises-requires c κs = search needs
 
--- src/lib.rt:140:9
 distinct-requires : tie.Need-distinct-requires
 distinct-requires c κs = search needs
 
--- src/lib.rt:140:9
 returns-3 : tie.Need-returns-3
 returns-3 c =
     let s = c .before .before .before .before .before .before .before .before .args in
     sane-rest (s .size) (s .table .now) (omega arith) (c .before .before .before .before .wide .ensures) (omega arith) (c .before .before .rises .ensures)
     (rw (c .before .if3 .taken) (c .distinct .ensures))
 
--- src/lib.rt:129:1
 returns-4 : tie.Need-returns-4
 returns-4 c =
     let s = c .before .before .before .before .before .before .before .args in

@@ -24,56 +24,44 @@ looked c =
 few : (c : tie.After-known-told2) → c .before .n .given .0 .0 ≤ 32
 few c = omega (arith, looked c .count, looked c .order .few)
 
--- src/lib.rt:219:9
 size-of-requires : tie.Need-size-of-requires
 size-of-requires c κs = search needs
 
--- src/lib.rt:220:30
 wide-requires : tie.Need-wide-requires
 wide-requires c κs = search needs
 
--- src/lib.rt:220:11
 judge-requires : tie.Need-judge-requires
 judge-requires c κs = search needs
 
--- src/lib.rt:221:20
 enum-known-why : tie.Need-enum-known-why
 enum-known-why c = search needs
 
--- src/lib.rt:222:21
 enum-known-n : tie.Need-enum-known-n
 enum-known-n c = search needs
 
--- src/lib.rt:224:17
 same-length : tie.Need-same-length
 same-length c = search needs
 
--- src/lib.rt:224:17
 returns : tie.Need-returns
 returns c =
     let s = c .before .before .before .before .before .before .before .before .before .before .args in
     delete-absent (s .block .now) (s .table .now) (s .number) (c .before .before .before .before .before .before .before .size-of .ensures) (looked (c .before)) (omega arith)
 
--- src/lib.rt:226:13
 remove-requires : tie.Need-remove-requires
 remove-requires c κs = let k = looked (c .before .before) in (k .count, few (c .before .before), omega arith, k .order .cells)
 
--- src/lib.rt:216:1
 same-length-2 : tie.Need-same-length-2
 same-length-2 c = search needs
 
--- src/lib.rt:216:1
 returns-2 : tie.Need-returns-2
 returns-2 c =
     let s = c .before .before .before .before .before .before .before .before .before .args in
     let stop = sym (c .before .why .given .1) ∙ c .before .before .before .judge .ensures in
     delete-stop (s .block .now) (s .table .now) (s .number) (c .before .before .before .before .before .before .size-of .ensures) (rw (c .before .before .before .before .wide .ensures) at stop)
 
--- src/lib.rt:216:1
 same-length-3 : tie.Need-same-length-3
 same-length-3 c = search needs
 
--- src/lib.rt:216:1
 returns-3 : tie.Need-returns-3
 returns-3 c =
     let s = c .before .before .before .before .before .before .before .before .before .before .before .before .before .before .args in

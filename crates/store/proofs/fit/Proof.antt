@@ -18,15 +18,12 @@ use Rattle.closing.proofs.close_up.Reads as close-up-reads
 use Rattle.rows.proofs.lowest_gap.Reads as lowest-gap-reads
 use Rattle.store.proofs.place.Reads as place-reads
 
--- src/lib.rt:143:11
 lowest-gap-requires : tie.Need-lowest-gap-requires
 lowest-gap-requires c κs = search needs
 
--- src/lib.rt:144:17
 enum-known-i : tie.Need-enum-known-i
 enum-known-i c = search needs
 
--- src/lib.rt:145:13
 place-requires : tie.Need-place-requires
 place-requires c κs =
     let s = c .before .before .before .before .before .before .before .before .before .before in
@@ -38,15 +35,12 @@ place-requires c κs =
       (omega (arith, g .inside, s .pre .0 .3), omega (arith, g .inside, s .pre .0 .4)),
     )
 
--- src/lib.rt:149:43
 enum-told : tie.Need-enum-told
 enum-told c = search needs
 
--- src/lib.rt:149:17
 close-up-requires : tie.Need-close-up-requires
 close-up-requires c κs = search needs
 
--- src/lib.rt:150:13
 place-requires-2 : tie.Need-place-requires-2
 place-requires-2 c κs =
     let s = c .before .before .before .before .before .before .before .before .before .before .before .before .before .before .before .before in
@@ -60,15 +54,12 @@ place-requires-2 c κs =
       (omega (arith, s .pre .1 .2, s .pre .0 .3, closed .kept .0), omega (arith, s .pre .1 .2, s .pre .0 .4)),
     )
 
--- src/lib.rt:130:1
 same-length : tie.Need-same-length
 same-length c = search needs
 
--- src/lib.rt:130:1
 same-length-2 : tie.Need-same-length-2
 same-length-2 c = search needs
 
--- src/lib.rt:130:1
 returns : tie.Need-returns
 returns c =
     let s = c .before .before .before .before .before .before .before .before .before .before .before .before .before .before .before .args in
@@ -76,15 +67,12 @@ returns c =
     let placed = c .before .before .before .before .place .ensures in
     fit-gap (s .block .now) (s .table .now) (s .size) (s .number) (s .octets .now) found (placed .0) (placed .1)
 
--- src/lib.rt:130:1
 same-length-3 : tie.Need-same-length-3
 same-length-3 c = search needs
 
--- src/lib.rt:130:1
 same-length-4 : tie.Need-same-length-4
 same-length-4 c = search needs
 
--- src/lib.rt:130:1
 returns-2 : tie.Need-returns-2
 returns-2 c =
     let s = c .before .before .before .before .before .before .before .before .before .before .before .before .before .before .before .before .before .before .before .before .before in

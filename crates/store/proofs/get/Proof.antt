@@ -24,52 +24,41 @@ looked c =
 few : (c : tie.After-known-told2) → c .before .n .given .0 .0 ≤ 32
 few c = omega (arith, looked c .count, looked c .order .few)
 
--- src/lib.rt:202:9
 size-of-requires : tie.Need-size-of-requires
 size-of-requires c κs = search needs
 
--- src/lib.rt:203:30
 wide-requires : tie.Need-wide-requires
 wide-requires c κs = search needs
 
--- src/lib.rt:203:11
 judge-requires : tie.Need-judge-requires
 judge-requires c κs = search needs
 
--- src/lib.rt:204:20
 enum-known-why : tie.Need-enum-known-why
 enum-known-why c = search needs
 
--- src/lib.rt:205:21
 enum-known-n : tie.Need-enum-known-n
 enum-known-n c = search needs
 
--- src/lib.rt:207:17
 returns : tie.Need-returns
 returns c =
     let s = c .before .before .before .before .before .before .before .before .before .args in
     get-absent (s .block .now) (s .table .now) (s .number) (c .before .before .before .before .before .before .size-of .ensures) (looked (c .before)) (omega arith)
 
--- src/lib.rt:209:45
 mul-row-at : tie.Need-mul-row-at
 mul-row-at c = omega (arith, few (c .before))
 
--- src/lib.rt:209:41
 add-row-at : tie.Need-add-row-at
 add-row-at c = omega (arith, few (c .before))
 
--- src/lib.rt:209:17
 row-at-requires : tie.Need-row-at-requires
 row-at-requires c κs = omega (arith, few (c .before), looked (c .before) .order .cells)
 
--- src/lib.rt:199:1
 returns-2 : tie.Need-returns-2
 returns-2 c =
     let s = c .before .before .before .before .before .before .before .before .args in
     let stop = sym (c .before .why .given .1) ∙ c .before .before .before .judge .ensures in
     get-stop (s .block .now) (s .table .now) (s .number) (c .before .before .before .before .before .size-of .ensures) (rw (c .before .before .before .before .wide .ensures) at stop)
 
--- src/lib.rt:199:1
 returns-3 : tie.Need-returns-3
 returns-3 c =
     let s = c .before .before .before .before .before .before .before .before .before .before .args in

@@ -16,41 +16,33 @@ use Rattle.rows.proofs.wide.Reads as wide-reads
 order : (c : tie.After-shared-slice-known2) → Ordered (c .before .before .before .before .before .before .args .size) (c .before .before .before .before .before .before .args .table .now)
 order c = sane-ordered _ _ (sym (c .before .before .before .before .sane .ensures) ∙ not-false _ (c .before .before .before .if1 .left))
 
--- src/lib.rt:88:9
 sane-requires : tie.Need-sane-requires
 sane-requires c κs = search needs
 
--- src/lib.rt:89:9
 returns : tie.Need-returns
 returns c =
     let s = c .before .before .before .args in
     look-table (s .size) (s .table .now) (s .number) (c .before .sane .ensures) (not-true _ (c .if1 .taken))
 
--- src/lib.rt:92:9
 returns-2 : tie.Need-returns-2
 returns-2 c =
     let s = c .before .before .before .before .args in
     look-low (s .size) (s .table .now) (s .number) (c .before .before .sane .ensures) (not-false _ (c .before .if1 .left)) (omega arith)
 
--- src/lib.rt:95:9
 returns-3 : tie.Need-returns-3
 returns-3 c =
     let s = c .before .before .before .before .before .args in
     look-high (s .size) (s .table .now) (s .number) (c .before .before .before .sane .ensures) (not-false _ (c .before .before .if1 .left)) (omega arith) (omega arith)
 
--- src/lib.rt:97:24
 shared-slice-read-wide : tie.Need-shared-slice-read-wide
 shared-slice-read-wide c = omega (arith, order c .cells)
 
--- src/lib.rt:97:9
 wide-requires : tie.Need-wide-requires
 wide-requires c κs = search needs
 
--- src/lib.rt:98:20
 find-requires : tie.Need-find-requires
 find-requires c κs = let o = order (c .before) in omega (arith, o .few, o .cells, c .wide .ensures)
 
--- src/lib.rt:85:1
 returns-4 : tie.Need-returns-4
 returns-4 c =
     let s = c .before .before .before .before .before .before .before .before .args in

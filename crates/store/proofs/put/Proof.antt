@@ -20,53 +20,42 @@ looked : (c : tie.After-known-told2) → Looked (c .before .before .before .befo
     (c .before .n .given .0 .0) (c .before .n .given .0 .1 .0)
 looked c = look-told _ _ _ (sym (c .before .n .given .1) ∙ c .before .before .before .judge .ensures)
 
--- src/lib.rt:190:9
 size-of-requires : tie.Need-size-of-requires
 size-of-requires c κs = search needs
 
--- src/lib.rt:191:9
 wide-requires : tie.Need-wide-requires
 wide-requires c κs = search needs
 
--- src/lib.rt:192:11
 judge-requires : tie.Need-judge-requires
 judge-requires c κs = search needs
 
--- src/lib.rt:193:20
 enum-known-why : tie.Need-enum-known-why
 enum-known-why c = search needs
 
--- src/lib.rt:194:21
 enum-known-n : tie.Need-enum-known-n
 enum-known-n c = search needs
 
--- src/lib.rt:194:30
 put-among-requires : tie.Need-put-among-requires
 put-among-requires c κs =
     let k = looked (c .before .before) in
     let z = c .before .before .before .before .before .before .before .before .size-of .ensures in
     (k, (omega (arith, z), omega (arith, z), at-most _ _ _ k))
 
--- src/lib.rt:187:1
 same-length : tie.Need-same-length
 same-length c = search needs
 
--- src/lib.rt:187:1
 returns : tie.Need-returns
 returns c =
     let s = c .before .before .before .before .before .before .before .before .before .before .args in
     let stop = sym (c .before .why .given .1) ∙ c .before .before .before .judge .ensures in
     rw (c .before .before .before .before .before .wide .ensures) at (put-stop (s .block .now) (s .table .now) (c .before .before .before .before .before .wide .result) (c .before .before .before .before .before .before .size-of .ensures) (s .octets .now) stop)
 
--- src/lib.rt:187:1
 same-length-2 : tie.Need-same-length-2
 same-length-2 c = search needs
 
--- src/lib.rt:187:1
 same-length-3 : tie.Need-same-length-3
 same-length-3 c = search needs
 
--- src/lib.rt:187:1
 returns-2 : tie.Need-returns-2
 returns-2 c =
     let s = c .before .before .before .before .before .before .before .before .before .before .before .before .before .before .before .before .before .args in

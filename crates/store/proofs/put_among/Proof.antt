@@ -9,44 +9,36 @@ use Rattle.greetings.proofs.is_bad.Reads as is-bad-reads
 use Rattle.rows.proofs.held.Reads as held-reads
 use Rattle.store.proofs.fit.Reads as fit-reads
 
--- src/lib.rt:171:9
 returns : tie.Need-returns
 returns c =
     let s = c .before .before .before .before in
     let a = s .args in
     put-taken (a .block .now) (a .table .now) (a .size) (a .number) (a .octets .now) (s .pre .0) (omega arith)
 
--- src/lib.rt:173:8
 is-bad-requires : tie.Need-is-bad-requires
 is-bad-requires c κs = search needs
 
--- src/lib.rt:174:9
 returns-2 : tie.Need-returns-2
 returns-2 c =
     let s = c .before .before .before .before .before .before in
     let a = s .args in
     put-bad (a .block .now) (a .table .now) (a .size) (a .number) (a .octets .now) (s .pre .0) (omega arith) (c .before .is-bad .ensures) (c .if2 .taken)
 
--- src/lib.rt:177:9
 returns-3 : tie.Need-returns-3
 returns-3 c =
     let s = c .before .before .before .before .before .before .before in
     let a = s .args in
     put-full (a .block .now) (a .table .now) (a .size) (a .number) (a .octets .now) (s .pre .0) (omega arith) (c .before .before .is-bad .ensures) (c .before .if2 .left) (omega arith)
 
--- src/lib.rt:179:9
 held-requires : tie.Need-held-requires
 held-requires c κs = search needs
 
--- src/lib.rt:180:8
 sub-if4 : tie.Need-sub-if4
 sub-if4 c = search needs
 
--- src/lib.rt:181:9
 same-length : tie.Need-same-length
 same-length c = search needs
 
--- src/lib.rt:181:9
 returns-4 : tie.Need-returns-4
 returns-4 c =
     let s = c .before .before .before .before .before .before .before .before .before .before in
@@ -54,22 +46,18 @@ returns-4 c =
     put-no-room (a .block .now) (a .table .now) (a .size) (a .number) (a .octets .now) (s .pre .0) (omega arith) (c .before .before .before .before .before .is-bad .ensures) (c .before .before .before .before .if2 .left)
     (omega arith) (c .before .held .ensures .0) (omega (arith, c .before .held .ensures .1))
 
--- src/lib.rt:183:5
 fit-requires : tie.Need-fit-requires
 fit-requires c κs =
     let s = c .before .before .before .before .before .before .before .before .before .before .before .before .pre in
     let held = c .before .before .before .held .ensures in
     ((s .0 .count, omega arith, omega (arith, s .1 .2), s .1 .0, s .1 .1), (s .0 .order, held .0, omega (arith, held .1, c .before .before .if4 .left)))
 
--- src/lib.rt:157:1
 same-length-2 : tie.Need-same-length-2
 same-length-2 c = search needs
 
--- src/lib.rt:157:1
 same-length-3 : tie.Need-same-length-3
 same-length-3 c = search needs
 
--- src/lib.rt:157:1
 returns-5 : tie.Need-returns-5
 returns-5 c =
     let s = c .before .before .before .before .before .before .before .before .before .before .before .before .before .before .before .before .before in
