@@ -1,5 +1,6 @@
 /* g7110.h: G.711.0 frames of the seven carried tools, read, written and walked; frames of samples to linear values and back;
- * why a frame takes its tool; a box's settings, saved and put back; a damaged greeting, mended. This header is also the manual.
+ * why a frame takes its tool; a box's settings, saved and put back; a damaged greeting, mended; a store of greetings that
+ * fills its gaps. This header is also the manual.
  *
  * Every answer below is proved equal to the project's definitions of documents 01 and 02 and of 001's section 6.8, for all inputs.
  *
@@ -33,6 +34,7 @@
  *
  * VERSIONS
  *   G7110_VERSION goes up by one when a call is added or a report changes.
+ *   7   the calls over a store of greetings.
  *   6   g7110_mend.
  *   5   g7110_why.
  *   4   the calls over settings.
@@ -43,14 +45,15 @@
  *   1   the first.
  *
  * BUFFERS
- *   A pointer comes with its length, in octets, or in values where it points to int16_t. A length of 0 may come with any
- *   pointer, NULL too. A pointer to int16_t is aligned as such a pointer must be.
+ *   A pointer comes with its length, in octets, or in values where it points to int16_t or uint32_t. A length of 0 may come
+ *   with any pointer, NULL too. A pointer to int16_t or uint32_t is aligned as such a pointer must be.
  *   Lent buffers must not overlap: not input and output, not output and report.
  *   The calls use no heap, no global state and no lock: they may be called from several threads at once, each with its own buffers.
  *
  * STACK
  *   A call uses at most G7110_STACK octets of stack, what it calls included. That is measured, not proved: tests/c/stack.c
- *   makes each call on frames of every kind, and on few and many settings; the tests hold what it finds against this figure.
+ *   makes each call on frames of every kind, on few and many settings and on few and many greetings; the tests hold what it
+ *   finds against this figure.
  *
  * WHY
  *   g7110_why tells why g7110_write takes the tool that it takes. Its text is eight lines, each ended by octet 0A: tools 1 to 7 in
@@ -92,6 +95,26 @@
  *   longest first: 320, 240, 160, 80, 40 samples, one octet each. So the result is accepted by the walk and holds exactly the
  *   total; an undamaged greeting of the right total comes back unchanged, and mending twice changes nothing more.
  *   The total is a multiple of 40, at most G7110_MOST_TOTAL; 0 is allowed. A refused call writes nothing and reports zeros.
+ *
+ * STORE
+ *   A block of at most G7110_MAX_BLOCK octets keeps up to G7110_MAX_GREETINGS greetings, each with a number from 1 to
+ *   G7110_MAX_NUMBER and 1 or more octets that the walk accepts with set 127. The caller lends the block and a table, and
+ *   keeps both; the calls keep nothing. A longer block is used up to G7110_MAX_BLOCK; octets past that are never touched.
+ *   The table has g7110_store_cells(size) numbers; a fresh one is all 0. Cell 0 is how many greetings there are, then come
+ *   number, start and octets of each, in order of start; further cells are never looked at or changed.
+ *   A put takes the lowest gap that holds the greeting; the room behind the last one is a gap like any other. If none holds
+ *   it, all greetings first close up from 0 in their order: those whose start changes are moved, and the octets moved are
+ *   reported. So G7110_NOROOM is given only when the octets held and the new ones exceed the block. No other octet of the
+ *   block is written, and every other greeting reads the same. Deleting writes nothing into the block.
+ *   Refusals, in order: G7110_TABLE, G7110_NUMBER, G7110_TAKEN (put) or G7110_ABSENT (get, delete), G7110_BAD, G7110_FULL,
+ *   G7110_NOROOM. G7110_TABLE is for a table that is too short, or that calls do not leave for a block of this size: more
+ *   than 32 greetings, starts not in order, greetings that overlap, are empty or pass the block's end, a number out of range
+ *   or used twice. From calls alone it can't arise. A refused call leaves block and table as lent and reports zeros.
+ *   To play greeting 7:
+ *
+ *     uint64_t got[2];
+ *     if (g7110_store_get(block, block_len, table, cells, 7, got) != G7110_OK) return 1;
+ *     // its octets are the got[1] octets from block + got[0] on
  *
  * ROOM
  *   The output's length is the room. Reading needs the frame's samples (G7110_MAX_SAMPLES are always enough), writing the
@@ -149,7 +172,7 @@
 extern "C" {
 #endif
 
-#define G7110_VERSION 6
+#define G7110_VERSION 7
 
 #define G7110_MAX_SAMPLES 320 /* samples of a frame */
 #define G7110_MAX_WRITTEN 321 /* octets of a written frame */
@@ -162,6 +185,9 @@ extern "C" {
 #define G7110_SETTINGS_TEXT 80 /* octets lent for their text, which has at most 67 */
 #define G7110_NO_SETTINGS_BLOCK 16384 /* octets of the block of a box that has no settings */
 #define G7110_MOST_TOTAL 1000000      /* samples of a greeting that is mended */
+#define G7110_MAX_BLOCK 16384  /* octets of a store's block */
+#define G7110_MAX_GREETINGS 32 /* greetings of a store */
+#define G7110_MAX_NUMBER 65535 /* the greatest number of a greeting */
 
 /* The refusals, by number. */
 enum {
@@ -179,10 +205,17 @@ enum {
     G7110_SET = 11,    /* set above 127, or even for a writer */
     G7110_LAW = 12,    /* law above 1 */
     G7110_LONG = 13,   /* walk given more than 65,535 octets */
+    G7110_NUMBER = 15, /* a greeting's number is 0 or above 65,535 */
+    G7110_TAKEN = 16,  /* put: a greeting has the number */
+    G7110_ABSENT = 17, /* get, delete: no greeting has the number */
+    G7110_BAD = 18,    /* the greeting is empty, or the walk refuses it with set 127 and room enough */
+    G7110_FULL = 19,   /* the store has 32 greetings */
+    G7110_NOROOM = 20, /* the octets held and the new ones exceed the block's size */
     G7110_TOTAL = 22,  /* total of samples not a multiple of 40, or above 1,000,000 */
     G7110_LINE = 23,   /* text not of the settings' form, or a value out of its range */
     G7110_GONE = 24,   /* revision not kept; 0 is never kept */
-    G7110_SPENT = 25   /* the new revision's number would pass 4,294,967,295 */
+    G7110_SPENT = 25,  /* the new revision's number would pass 4,294,967,295 */
+    G7110_TABLE = 26   /* a store's table is too short, or is not one that calls leave for this block */
 };
 
 /* Reads one frame at the start of the octets. report: samples, octets used, bits, tool, bit. */
@@ -232,6 +265,35 @@ uint32_t g7110_settings_wipe(uint32_t state[41]);
  * report: octets of the result, frames kept, octets kept, samples filled. */
 uint32_t g7110_mend(const uint8_t *octets, size_t octets_len, uint32_t law, uint64_t total,
                     uint8_t *out, size_t out_len, uint64_t report[4]);
+
+/* How many numbers a store's table needs for a block of size octets; of a size above G7110_MAX_BLOCK that of the greatest. */
+uint64_t g7110_store_cells(uint64_t size);
+
+/* Puts a greeting. Refused with G7110_TABLE, G7110_NUMBER, G7110_TAKEN, G7110_BAD, G7110_FULL, G7110_NOROOM.
+ * report: its start, octets moved. */
+uint32_t g7110_store_put(uint8_t *block, size_t block_len, uint32_t *table, size_t table_len, uint32_t number,
+                         const uint8_t *octets, size_t octets_len, uint64_t report[2]);
+
+/* Tells where a greeting lies. Refused with G7110_TABLE, G7110_NUMBER, G7110_ABSENT. report: its start, its octets. */
+uint32_t g7110_store_get(const uint8_t *block, size_t block_len, const uint32_t *table, size_t table_len, uint32_t number,
+                         uint64_t report[2]);
+
+/* Takes a greeting out; its room is used again. Refused with G7110_TABLE, G7110_NUMBER, G7110_ABSENT. */
+uint32_t g7110_store_delete(const uint8_t *block, size_t block_len, uint32_t *table, size_t table_len, uint32_t number);
+
+/* Saves a store's table as text (document 02, R-6): for each greeting in order of start the lines `prompt=`, `start=` and
+ * `octets=`, decimal without leading zeros, each ended by octet 0A; at most 1,216 octets. The text stands at the start of the
+ * lent octets; the rest stays as lent. Refused with G7110_TABLE where the table is not one that calls leave for this block, then
+ * with G7110_ROOM where the text does not fit; then nothing is written. report: octets of text. */
+uint32_t g7110_store_save(const uint8_t *block, size_t block_len, const uint32_t *table, size_t table_len,
+                          uint8_t *out, size_t out_len, uint64_t report[1]);
+
+/* Loads a table's text, with its block, into the lent table, which is output: only its length is judged. Refused with G7110_TABLE
+ * for a text that save does not write, a number used twice, or greetings that overlap or pass the block's end, over the whole
+ * text; only then with G7110_BAD for a greeting that is empty or that the walk refuses with set 127. A refused call leaves the
+ * table as lent. What save writes, load takes; docs/STORE.md says what to write first. */
+uint32_t g7110_store_load(const uint8_t *text, size_t text_len, const uint8_t *block, size_t block_len,
+                          uint32_t *table, size_t table_len);
 
 #ifdef __cplusplus
 }

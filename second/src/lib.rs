@@ -7,6 +7,7 @@
 //! * [`linear`] turns samples into linear values and back.
 //! * [`settings`] keeps the last eight settings of a box.
 //! * [`mend`] mends a damaged greeting.
+//! * [`store`] keeps greetings in a block and fills its gaps.
 //! * [`why`] says why a frame is written with the tool it is.
 //!
 //! None of the first three touches the heap: a frame is at most 320 samples,
@@ -28,6 +29,7 @@ mod refusal;
 mod runs;
 mod s_codes;
 pub mod settings;
+pub mod store;
 mod value_rows;
 mod walk;
 pub mod why;

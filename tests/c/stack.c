@@ -11,7 +11,8 @@
 enum { STACK = 1 << 20, PAINT = 0xC5, STREAM = 4000 };
 
 struct call {
-    int which; /* 0 none, 1 read, 2 write, 3 walk, 4 to linear values, 5 from them; of settings 6 save, 7 back, 8 read, 9 wipe; 10 why */
+    int which; /* 0 none, 1 read, 2 write, 3 walk, 4 to linear values, 5 from them; of settings 6 save, 7 back, 8 read, 9 wipe;
+                * 10 why; of a store 11 put, 12 get, 13 delete, 14 save, 15 load; 16 mend */
     const uint8_t *given;
     size_t length;
 };
@@ -19,6 +20,9 @@ struct call {
 static uint8_t out[1 << 16];
 static int16_t linear[320];
 static uint32_t state[G7110_SETTINGS];
+static uint8_t block[G7110_MAX_BLOCK];
+static uint32_t table[1 + 3 * G7110_MAX_GREETINGS];
+static uint32_t number;
 
 static void *make(void *argument)
 {
@@ -34,6 +38,12 @@ static void *make(void *argument)
     if (call->which == 8) g7110_settings_read(state, state[0], out, report);
     if (call->which == 9) g7110_settings_wipe(state);
     if (call->which == 10) g7110_why(call->given, call->length, 1, G7110_ALL_TOOLS, out, report);
+    if (call->which == 11) g7110_store_put(block, sizeof block, table, sizeof table / sizeof *table, number, call->given, call->length, report);
+    if (call->which == 12) g7110_store_get(block, sizeof block, table, sizeof table / sizeof *table, number, report);
+    if (call->which == 13) g7110_store_delete(block, sizeof block, table, sizeof table / sizeof *table, number);
+    if (call->which == 14) g7110_store_save(block, sizeof block, table, sizeof table / sizeof *table, out, sizeof out, report);
+    if (call->which == 15) g7110_store_load(call->given, call->length, block, sizeof block, table, sizeof table / sizeof *table);
+    if (call->which == 16) g7110_mend(call->given, call->length, 1, 40000, out, sizeof out, report);
     return NULL;
 }
 
@@ -56,7 +66,7 @@ static size_t used(struct call call)
     return STACK - low;
 }
 
-static size_t greatest[11];
+static size_t greatest[17];
 
 static void measure(int which, const uint8_t *given, size_t length)
 {
@@ -107,11 +117,28 @@ static void settings(void)
     measure(8, NULL, 0);
 }
 
+/* Each call over a store: greetings of every kind of frame, gaps, closing up, and one that is refused. */
+static void store(const uint8_t *stream, size_t length)
+{
+    static uint8_t text[2048], large[6000];
+    uint64_t saved[1];
+    for (number = 1; number <= 7; number++) measure(11, stream, length);
+    for (number = 2; number <= 6; number += 2) measure(13, NULL, 0);
+    for (number = 8; number <= 40; number++) measure(11, stream, number % 3 ? length : length - 1);
+    memset(large, 0x41, sizeof large);
+    measure(11, large, sizeof large);
+    for (number = 1; number <= 41; number++) measure(12, NULL, 0);
+    measure(14, NULL, 0);
+    if (g7110_store_save(block, sizeof block, table, sizeof table / sizeof *table, text, sizeof text, saved) != G7110_OK) return;
+    measure(15, text, (size_t)saved[0]);
+}
+
 int main(void)
 {
-    static const char *const names[11] = {"",        "read",          "write",         "walk",          "to_linear",
+    static const char *const names[17] = {"",            "read",          "write",         "walk",          "to_linear",
                                           "from_linear", "settings_save", "settings_back", "settings_read", "settings_wipe",
-                                          "why"};
+                                          "why",         "store_put",     "store_get",     "store_delete",  "store_save",
+                                          "store_load",  "mend"};
     uint8_t samples[320], form[G7110_MAX_WRITTEN], stream[STREAM];
     uint64_t wrote[3];
     size_t length = 0;
@@ -135,6 +162,9 @@ int main(void)
     measure(3, stream, sizeof stream);
     measure(3, stream, length - 1);
     settings();
-    for (kind = 1; kind < 11; kind++) printf("stack: g7110_%s %lu octets\n", names[kind], over(kind));
+    measure(16, stream, length);
+    measure(16, stream, length - 1);
+    store(stream, length);
+    for (kind = 1; kind < 17; kind++) printf("stack: g7110_%s %lu octets\n", names[kind], over(kind));
     return 0;
 }

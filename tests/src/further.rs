@@ -3,8 +3,10 @@
 
 use crate::forms::LENGTHS;
 use crate::mend::Menders;
+use crate::store::{Call, Stores, BLOCK, SAVED};
 use crate::why::Reasons;
 use crate::{Proved, Second};
+use second::gen::damage_somehow;
 use second::gen::{all_kinds, make_frame, Kind, Prng};
 
 /// Of so many rounds each kind of call has one.
@@ -16,6 +18,7 @@ pub struct Further {
     kinds: Vec<Kind>,
     reasons: Reasons<'static>,
     menders: Menders<'static>,
+    stores: Stores<'static>,
 }
 
 impl Further {
@@ -26,6 +29,7 @@ impl Further {
             kinds: all_kinds(),
             reasons: Reasons::new(&Proved, &Second),
             menders: Menders::new(&Proved, &Second),
+            stores: Stores::new(&Proved, vec![0; BLOCK]),
         }
     }
 
@@ -34,24 +38,28 @@ impl Further {
         match self.rng.below(ROUNDS) {
             0 => self.explain(),
             1 => self.mend(pool),
+            2 => self.keep(pool),
             _ => {}
         }
     }
 
     pub fn differences(&self) -> usize {
-        let all = [self.reasons.differences, self.menders.differences];
+        let all = [self.reasons.differences, self.menders.differences, self.stores.differences];
         all.iter().sum()
     }
 
     pub fn shown(&self) -> Vec<String> {
-        let all = [self.reasons.shown(), self.menders.shown()];
+        let all = [self.reasons.shown(), self.menders.shown(), self.stores.shown()];
         all.concat()
     }
 
     /// How many calls there were, in words.
     pub fn words(&self) -> String {
-        let all =
-            [format!("{} frames explained", self.reasons.calls), format!("{} greetings mended", self.menders.calls)];
+        let all = [
+            format!("{} frames explained", self.reasons.calls),
+            format!("{} greetings mended", self.menders.calls),
+            format!("{} calls of a store", self.stores.calls),
+        ];
         all.join(", ")
     }
 
@@ -105,5 +113,40 @@ impl Further {
         };
         let room = if self.rng.chance(1, 6) { self.rng.below(200) } else { octets.len() + 3_200 };
         self.menders.call(&octets, law, total, room);
+    }
+
+    /// Some calls of a store, on what earlier ones left or on a fresh block.
+    fn keep(&mut self, pool: &[Vec<u8>]) {
+        if self.rng.chance(1, 60) {
+            let size = *self.rng.pick(&[0, 30, 500, 3_000, BLOCK, BLOCK + 20]);
+            self.stores.renew(self.rng.octets(size));
+        }
+        for _ in 0..1 + self.rng.below(6) {
+            let number = match self.rng.below(20) {
+                0 => self.rng.next_u64() as u32,
+                _ => self.rng.below(40) as u32,
+            };
+            let call = match self.rng.below(12) {
+                0..=5 => Call::Put(number, self.octets(pool, 3)),
+                6 | 7 => Call::Delete(number),
+                8 => Call::Get(number),
+                9 => Call::Save(self.rng.below(SAVED)),
+                _ => {
+                    let text = self.stores.model.text();
+                    let damaged = !text.is_empty() && self.rng.flip();
+                    Call::Load(if damaged { damage_somehow(&text, &mut self.rng) } else { text })
+                }
+            };
+            self.stores.call(&call);
+        }
+        if self.rng.chance(1, 20) {
+            let cells = self.stores.cells();
+            let at = self.rng.below(cells.len());
+            cells[at] ^= 1 << self.rng.below(32);
+            if !self.stores.reread() {
+                self.stores.all_refused(&[Call::Get(1), Call::Put(1, vec![0x41]), Call::Delete(1), Call::Save(SAVED)]);
+                self.stores.renew(vec![0; BLOCK]);
+            }
+        }
     }
 }

@@ -3,7 +3,8 @@
 //!
 //! A [`Pair`] asks two back ends the same. [`forms`], [`faults`], [`frames`] and [`streams`] make what they are asked,
 //! and a [`Table`] counts what was met. [`settings`] does the same for a box's settings, [`why`] for the lines that say why a
-//! tool was taken, [`mend`] for a greeting that is mended.
+//! tool was taken, [`mend`] for a greeting that is mended, [`store`] for the
+//! greetings of a box.
 
 #![deny(unsafe_code)]
 
@@ -25,6 +26,7 @@ pub mod published;
 pub mod recordings;
 pub mod settings;
 mod share;
+pub mod store;
 pub mod streams;
 mod table;
 pub mod tools;

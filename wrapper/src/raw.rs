@@ -44,6 +44,23 @@ extern "C" {
     ) -> u32;
     fn g7110_to_linear(samples: *const u8, samples_len: usize, law: u32, out: *mut i16, out_len: usize) -> u32;
     fn g7110_from_linear(linear: *const i16, linear_len: usize, law: u32, out: *mut u8, out_len: usize) -> u32;
+    fn g7110_store_save(
+        block: *const u8,
+        block_len: usize,
+        table: *const u32,
+        table_len: usize,
+        out: *mut u8,
+        out_len: usize,
+        report: *mut [u64; 1],
+    ) -> u32;
+    fn g7110_store_load(
+        text: *const u8,
+        text_len: usize,
+        block: *const u8,
+        block_len: usize,
+        table: *mut u32,
+        table_len: usize,
+    ) -> u32;
     fn g7110_settings_save(state: *mut [u32; 41], text: *const u8, text_len: usize, report: *mut [u64; 1]) -> u32;
     fn g7110_settings_back(state: *mut [u32; 41], revision: u32, report: *mut [u64; 1]) -> u32;
     fn g7110_settings_read(state: *const [u32; 41], revision: u32, text: *mut [u8; 80], report: *mut [u64; 1]) -> u32;
@@ -57,6 +74,15 @@ extern "C" {
         out_len: usize,
         report: *mut [u64; 4],
     ) -> u32;
+    fn g7110_store_cells(size: u64) -> u64;
+    fn g7110_store_put(
+        block: *mut u8, block_len: usize, table: *mut u32, table_len: usize, number: u32, octets: *const u8,
+        octets_len: usize, report: *mut [u64; 2],
+    ) -> u32;
+    fn g7110_store_get(
+        block: *const u8, block_len: usize, table: *const u32, table_len: usize, number: u32, report: *mut [u64; 2],
+    ) -> u32;
+    fn g7110_store_delete(block: *const u8, block_len: usize, table: *mut u32, table_len: usize, number: u32) -> u32;
 }
 
 /// The ending; the report is samples, octets, bits, tool and the refusal's bit.
@@ -97,6 +123,20 @@ pub fn from_linear(linear: &[i16], law: u32, out: &mut [u8]) -> u32 {
     unsafe { g7110_from_linear(linear.as_ptr(), linear.len(), law, out.as_mut_ptr(), out.len()) }
 }
 
+/// The ending; the report is the octets of text.
+pub fn store_save(block: &[u8], table: &[u32], out: &mut [u8], report: &mut [u64; 1]) -> u32 {
+    let (b, t) = (block.as_ptr(), table.as_ptr());
+    // SAFETY: as in `read`; a slice of u32 is aligned.
+    unsafe { g7110_store_save(b, block.len(), t, table.len(), out.as_mut_ptr(), out.len(), report) }
+}
+
+/// The ending; the table is what the call leaves.
+pub fn store_load(text: &[u8], block: &[u8], table: &mut [u32]) -> u32 {
+    let (x, b) = (text.as_ptr(), block.as_ptr());
+    // SAFETY: as in `store_save`.
+    unsafe { g7110_store_load(x, text.len(), b, block.len(), table.as_mut_ptr(), table.len()) }
+}
+
 /// The ending; the report is the new revision.
 pub fn settings_save(state: &mut [u32; 41], text: &[u8], report: &mut [u64; 1]) -> u32 {
     // SAFETY: as in `read`, of the state too.
@@ -125,4 +165,29 @@ pub fn settings_wipe(state: &mut [u32; 41]) -> u32 {
 pub fn mend(octets: &[u8], law: u32, total: u64, out: &mut [u8], report: &mut [u64; 4]) -> u32 {
     // SAFETY: as in `read`.
     unsafe { g7110_mend(octets.as_ptr(), octets.len(), law, total, out.as_mut_ptr(), out.len(), report) }
+}
+
+/// How many cells a store's table needs for a block of a size.
+pub fn store_cells(size: u64) -> u64 {
+    // SAFETY: a number in, a number out.
+    unsafe { g7110_store_cells(size) }
+}
+
+/// The ending; the report is the start and the octets moved.
+pub fn store_put(block: &mut [u8], table: &mut [u32], number: u32, octets: &[u8], report: &mut [u64; 2]) -> u32 {
+    let (b, t) = (block.as_mut_ptr(), table.as_mut_ptr());
+    // SAFETY: as in `read`; a slice of u32 is aligned.
+    unsafe { g7110_store_put(b, block.len(), t, table.len(), number, octets.as_ptr(), octets.len(), report) }
+}
+
+/// The ending; the report is the start and the octets.
+pub fn store_get(block: &[u8], table: &[u32], number: u32, report: &mut [u64; 2]) -> u32 {
+    // SAFETY: as in `store_put`.
+    unsafe { g7110_store_get(block.as_ptr(), block.len(), table.as_ptr(), table.len(), number, report) }
+}
+
+/// The ending.
+pub fn store_delete(block: &[u8], table: &mut [u32], number: u32) -> u32 {
+    // SAFETY: as in `store_put`.
+    unsafe { g7110_store_delete(block.as_ptr(), block.len(), table.as_mut_ptr(), table.len(), number) }
 }

@@ -1,3 +1,5 @@
 pub mod Boundary
+pub mod Saved
 pub mod Settings
 pub mod Mending
+pub mod Store

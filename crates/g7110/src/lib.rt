@@ -10,7 +10,10 @@ ghost use Rattle.settings.specs.Calls.{Wipe};
 ghost use Rattle.g7110.specs.Mending.{MendReported};
 ghost use Rattle.g7110.specs.Settings.{SaveReported, BackReported, RevisionReported};
 ghost use Rattle.reasons.specs.Why.{whyOne};
+ghost use Rattle.rows.specs.Limits.{cellsFor};
+ghost use Rattle.g7110.specs.Store.{PutReported, GetReported, DeleteReported};
 ghost use Rattle.linear.specs.Equations.{toPCM, fromPCM};
+ghost use Rattle.g7110.specs.Saved.{SavedReported, LoadReported};
 ghost use Rattle.g7110.specs.Boundary.{ReadReported, WalkReported, WriteReported, WhyReported, Converted};
 use reasons::Why;
 
@@ -120,6 +123,31 @@ pub extern "C" fn g7110_from_linear(linear: &[i16], law: u32, out: &mut [u8]) ->
     rules::number_of(end)
 }
 
+// Saving a store's table: the number, and in the report the octets of text.
+#[no_mangle]
+pub extern "C" fn g7110_store_save(
+    block: &[u8],
+    table: &[u32],
+    out: &mut [u8],
+    report: &mut [u64; 1],
+) -> u32
+    ensures { λ r. ⌜ SavedReported (now (block .entry)) (now (table .entry)) (now (out .entry)) (now (out .exit)) (now (report .exit)) r ⌝ }
+{
+    let a = saved::save(block, table, out);
+    let octets = store::first_of(a);
+    *report = [octets as u64];
+    store::number_of(a)
+}
+
+// Loading a table's text: the number.
+#[no_mangle]
+pub extern "C" fn g7110_store_load(text: &[u8], block: &[u8], table: &mut [u32]) -> u32
+    ensures { λ r. ⌜ LoadReported (now (text .entry)) (now (block .entry)) (now (table .entry)) (now (table .exit)) r ⌝ }
+{
+    let a = saved::load(text, block, table);
+    store::number_of(a)
+}
+
 // Saving settings: the number, and in the report the new revision.
 #[no_mangle]
 pub extern "C" fn g7110_settings_save(
@@ -195,4 +223,56 @@ pub extern "C" fn g7110_mend(
     ];
     let end = a.end;
     mending::mend_number(end)
+}
+
+// How many cells a store's table needs for a block of a size.
+#[no_mangle]
+pub extern "C" fn g7110_store_cells(size: u64) -> u64
+    ensures { λ r. ⌜ r ≡ cellsFor size ⌝ }
+{
+    rows::cells_for(size)
+}
+
+// Putting a greeting: the number, and in the report its start and the octets moved.
+#[no_mangle]
+pub extern "C" fn g7110_store_put(
+    block: &mut [u8],
+    table: &mut [u32],
+    number: u32,
+    octets: &[u8],
+    report: &mut [u64; 2],
+) -> u32
+    ensures { λ r. ⌜ PutReported number (now (octets .entry)) (now (block .entry)) (now (table .entry)) (now (block .exit)) (now (table .exit)) (now (report .exit)) r ⌝ }
+{
+    let a = store::put(block, table, number, octets);
+    let start = store::first_of(a);
+    let moved = store::second_of(a);
+    *report = [start as u64, moved as u64];
+    store::number_of(a)
+}
+
+// Getting one: the number, and in the report its start and octets.
+#[no_mangle]
+pub extern "C" fn g7110_store_get(
+    block: &[u8],
+    table: &[u32],
+    number: u32,
+    report: &mut [u64; 2],
+) -> u32
+    ensures { λ r. ⌜ GetReported number (now (block .entry)) (now (table .entry)) (now (report .exit)) r ⌝ }
+{
+    let a = store::get(block, table, number);
+    let start = store::first_of(a);
+    let octets = store::second_of(a);
+    *report = [start as u64, octets as u64];
+    store::number_of(a)
+}
+
+// Deleting one: the number.
+#[no_mangle]
+pub extern "C" fn g7110_store_delete(block: &[u8], table: &mut [u32], number: u32) -> u32
+    ensures { λ r. ⌜ DeleteReported number (now (block .entry)) (now (table .entry)) (now (table .exit)) r ⌝ }
+{
+    let a = store::delete(block, table, number);
+    store::number_of(a)
 }

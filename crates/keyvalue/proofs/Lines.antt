@@ -1,16 +1,17 @@
 -- A line as the code reads it: its number as the code holds it.
-use Prim.Native.Nat.{ℕ, zero, suc, _+_, _-_, _≤_, _<_, min}
+use Prim.Native.Nat.{ℕ, zero, suc, _+_, _-_, _^_, _≤_, _<_, min}
 use mathlib.Core.Path.{_≡_, refl, sym, ap, _∙_}
 use mathlib.Core.List.{List, [], _∷_}
 use mathlib.Core.Bool.{Bool, true, false, cond, _&&_}
 use native.Mathlib.Omega.{arith}
-use lib.ListN.{length, drop, length-drop}
+use lib.ListN.{length, drop, length-drop, length-append}
 use lib.Dec.{eqb, leb}
 use borrow.Author.Tests.{le-leb, lt-leb, leb-true, leb-false}
-use Rattle.rules.specs.Listing.{lineEnd}
+use Rattle.rules.specs.Listing.{decimal, lineEnd}
 use Rattle.rules.proofs.Tests.{and-right}
 use Rattle.keyvalue.specs.Reading.{Read, whole, none, andThen, begins, number, most, capped}
-use Rattle.keyvalue.specs.Lines.{line, ranged, isWithin}
+use Rattle.keyvalue.specs.Lines.{lineOf, line, ranged, isWithin}
+use Rattle.keyvalue.proofs.Decimals.{decimal-few}
 
 -- a word that stands in a text fits it
 pub begins-fits : (word text : List ℕ) → begins word text ≡ true → length word ≤ length text
@@ -88,3 +89,11 @@ module _ (key : List ℕ) (low high : ℕ) (text : List ℕ) (at : ℕ) (h : hig
 
     pub ranged-whole : low ≤ n → n ≤ high → whole n j ≡ ranged key low high text at
     ranged-whole a b = sym (ranged-held key low high text at h ∙ rw (← e, le-leb low n a, le-leb n high b))
+
+-- a line's octets: its key's, its digits', and 0A; a number of 32 bits has at most 10 digits
+pub line-length : (key : List ℕ) (n : ℕ) → length (lineOf key n) ≡ length key + length (decimal n) + 1
+unfolding lineOf
+line-length key n = simp length-append (omega arith)
+
+pub line-few : (key : List ℕ) (n : ℕ) → n < 2 ^ 32 → length (lineOf key n) ≤ length key + 11
+line-few key n h = omega (arith, line-length key n, decimal-few 9 n (omega arith))

@@ -123,12 +123,22 @@ pub fn ranged_line(text: &[u8], at: usize, key: &[u8], low: u32, high: u32) -> T
     }
 }
 
-// A line put into lent octets at a place; answers the next place.
+// How many octets a line is.
+pub fn line_octets(key: &[u8], n: u32) -> usize
+    requires { ⌜ length (now key) ≤ 1000 ⌝ }
+    ensures { λ r. ⌜ r ≡ length (lineOf (now (key .entry)) n) ⌝ }
+    ensures most { λ r. ⌜ r ≤ length (now (key .entry)) + 11 ⌝ }
+{
+    key.len() + lines::digits(n as usize) + 1
+}
+
+// A line put into lent octets at a place, with room for just that; answers the next place.
 pub fn put_line(key: &[u8], n: u32, out: &mut [u8], at: usize) -> usize
-    requires { ⌜ at + length (now key) + 21 ≤ length (now out) ⌝ }
+    requires { ⌜ at + length (lineOf (now key) n) ≤ length (now out) ⌝ }
     ensures { λ r. ⌜ Puts (now (out .entry)) at (lineOf (now (key .entry)) n) (now (out .exit)) r ⌝ }
     ensures most { λ r. ⌜ r ≤ at + length (now (key .entry)) + 11 ⌝ }
 {
-    let end = lines::put_field(key, n as usize, out, at);
+    let value = lines::put_word(key, out, at);
+    let end = lines::put_number(n as usize, out, value);
     lines::put_word(b"\n", out, end)
 }

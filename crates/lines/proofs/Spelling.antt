@@ -1,6 +1,6 @@
 -- The digits of a number, found from the last one: `rest` is still to be spelled, its last digit at place `from` of 20 octets.
 use Prim.Native.Nat.{ℕ, zero, suc, _+_, _*_, _-_, _^_, _/_, _%_, _≤_, _<_}
-use mathlib.Core.Path.{_≡_, refl, sym, _∙_}
+use mathlib.Core.Path.{_≡_, refl, sym, ap, _∙_}
 use mathlib.Core.List.{List, [], _∷_}
 use native.Mathlib.Omega.{arith}
 use mathlib.Core.Bool.{Bool, true, false, cond}
@@ -71,3 +71,7 @@ digits-most (suc more) n text = go (ltb n 10) (digits-most more (n / 10) ((48 + 
 
 pub decimal-most : (n : ℕ) → length (decimal n) ≤ 20
 decimal-most n = digits-most 20 n []
+
+-- so many octets
+pub spells-length : {digits o : List ℕ} (from : ℕ) → Spells digits o from → 20 - from ≡ length digits
+spells-length {digits} {o} from s = let l = length-drop from o in let n = s .size in let e = ap length (s .says) in omega arith

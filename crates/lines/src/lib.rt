@@ -1,6 +1,7 @@
 // The lines of the listing (document 01, "Walk and listing"). Each function puts its text into lent octets at a place
 // and answers the next place.
 ghost use Prim.Native.Nat.{_+_, _≤_};
+ghost use mathlib.Core.Path.{_≡_};
 ghost use lib.ListN.{length};
 ghost use mathlib.Core.List.{_++_};
 ghost use Rattle.rules.specs.Listing.{lineEnd, toolWord, octetsWord, bitsWord, decimal, field, lawLine, frameLine, stopFields, stopLine, samplesLine};
@@ -40,8 +41,16 @@ fn spell(n: usize) -> Spelled
     Spelled { octets, from }
 }
 
-fn put_number(n: usize, out: &mut [u8], at: usize) -> usize
-    requires { ⌜ at + 20 ≤ length (now out) ⌝ }
+// How many octets a number's digits are.
+pub fn digits(n: usize) -> usize
+    ensures { λ r. ⌜ r ≡ length (decimal n) ⌝ }
+{
+    let d = spell(n);
+    20 - d.from
+}
+
+pub fn put_number(n: usize, out: &mut [u8], at: usize) -> usize
+    requires { ⌜ at + length (decimal n) ≤ length (now out) ⌝ }
     ensures { λ r. ⌜ Puts (now (out .entry)) at (decimal n) (now (out .exit)) r ⌝ }
 {
     let d = spell(n);

@@ -82,7 +82,7 @@ const LIMITS: [(&str, &str, &str, &str); 4] = [
 /// The calls of the header are those of crate g7110 and of the wrapper, with as many entries in their reports.
 pub fn reports(files: &Files) -> Held {
     let mut held = Held::new("calls and reports of the header, by the crate and the wrapper");
-    let header = calls(files.text(HEADER), "uint32_t ");
+    let header = calls(files.text(HEADER), "_t ");
     held.count = header.len();
     for path in ["crates/g7110/src/lib.rt", "wrapper/src/raw.rs"] {
         let found = calls(files.text(path), "fn ");

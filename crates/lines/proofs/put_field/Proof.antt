@@ -10,7 +10,9 @@ put-word-requires : tie.Need-put-word-requires
 put-word-requires c κs = search needs
 
 put-number-requires : tie.Need-put-number-requires
-put-number-requires c κs = search needs
+put-number-requires c κs =
+    let w = c .before .before .before .put-word .ensures in
+    omega (arith, w .place, w .size, decimal-most (c .before .before .before .before .before .before .before .args .n))
 
 same-length : tie.Need-same-length
 same-length c = search needs

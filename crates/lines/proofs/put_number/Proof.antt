@@ -1,4 +1,7 @@
 -- A number is its digits, put as a word.
+use mathlib.Core.Path.{ap}
+use lib.ListN.{length}
+use native.Mathlib.Omega.{arith}
 use borrow.Author.Needs.{needs}
 use Rattle.lines.proofs.Spelling.{spelled}
 use Rattle.lines.proofs.Putting.{puts-as}
@@ -18,7 +21,7 @@ part-put-word-end : tie.Need-part-put-word-end
 part-put-word-end c = search needs
 
 put-word-requires : tie.Need-put-word-requires
-put-word-requires c κs = search needs
+put-word-requires c κs = let e = ap length (spelled _ (c .before .before .before .before .spell .ensures)) in omega arith
 
 same-length : tie.Need-same-length
 same-length c = search needs

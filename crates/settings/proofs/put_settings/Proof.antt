@@ -1,32 +1,54 @@
+use Prim.Native.Nat.{_≤_}
+use lib.ListN.{length}
 use native.Mathlib.Omega.{arith}
+use Rattle.rules.specs.Listing.{lawWord}
+use Rattle.keyvalue.specs.Lines.{lineOf}
+use Rattle.keyvalue.proofs.Lines.{line-few}
+use Rattle.settings.specs.Lines.{setWord, blockWord, greetingWord}
 use Rattle.settings.proofs.Calls.{four-puts}
 use borrow.Author.Needs.{needs}
 use Rattle.settings.proofs.put_settings.Statement.{statement}
 use Rattle.settings.proofs.put_settings.Tie as tie
 
+last-line : (c : tie.Start) → length (lineOf greetingWord (c .args .s .greeting)) ≤ 20
+last-line c = line-few greetingWord (c .args .s .greeting) (omega arith)
+
 slice-aggregate-put-line : tie.Need-slice-aggregate-put-line
 slice-aggregate-put-line c = search needs
 
 put-line-requires : tie.Need-put-line-requires
-put-line-requires c κs = search needs
+put-line-requires c κs =
+    let s = c .before .before .before .args .s in
+    omega (arith, line-few lawWord (s .law) (omega arith))
 
 slice-aggregate-put-line-2 : tie.Need-slice-aggregate-put-line-2
 slice-aggregate-put-line-2 c = search needs
 
 put-line-requires-2 : tie.Need-put-line-requires-2
-put-line-requires-2 c κs = search needs
+put-line-requires-2 c κs =
+    let l = c .before .before .before .before in
+    let s = l .before .before .before .before .args .s in
+    omega (arith, l .put-line .ensures .1, line-few setWord (s .set) (omega arith))
 
 slice-aggregate-put-line-3 : tie.Need-slice-aggregate-put-line-3
 slice-aggregate-put-line-3 c = search needs
 
 put-line-requires-3 : tie.Need-put-line-requires-3
-put-line-requires-3 c κs = search needs
+put-line-requires-3 c κs =
+    let t = c .before .before .before .before in
+    let l = t .before .before .before .before .before in
+    let s = l .before .before .before .before .args .s in
+    omega (arith, l .put-line .ensures .1, t .put-line2 .ensures .1, line-few blockWord (s .block) (omega arith))
 
 slice-aggregate-put-line-4 : tie.Need-slice-aggregate-put-line-4
 slice-aggregate-put-line-4 c = search needs
 
 put-line-requires-4 : tie.Need-put-line-requires-4
-put-line-requires-4 c κs = search needs
+put-line-requires-4 c κs =
+    let b = c .before .before .before .before in
+    let t = b .before .before .before .before .before in
+    let l = t .before .before .before .before .before in
+    omega (arith, l .put-line .ensures .1, t .put-line2 .ensures .1, b .put-line3 .ensures .1, last-line (l .before .before .before .before))
 
 same-length : tie.Need-same-length
 same-length c = search needs

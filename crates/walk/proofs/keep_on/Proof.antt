@@ -30,8 +30,12 @@ module _ (c : tie.After-step Inv-frames μ-frames) (e : c .step .result .end ≡
 
   inside : c .before .before .before .before .frames .place + c .step .result .octets ≤ length (c .before .before .before .before .before .before .before .args .octets .now)
   inside =
-      omega (arith, bounds .inside, c .before .before .if2 .left,
-      length-drop (c .before .before .before .before .frames .place) (c .before .before .before .before .before .before .before .args .octets .now))
+      omega (
+        arith,
+        bounds .inside,
+        c .before .before .if2 .left,
+        length-drop (c .before .before .before .before .frames .place) (c .before .before .before .before .before .before .before .args .octets .now),
+      )
 
 frames-holds : tie.Need-frames-holds Inv-frames μ-frames
 frames-holds c = (keep-start _ _ _ _ _ _, omega arith)
@@ -55,14 +59,22 @@ add-place c =
 add-used : tie.Need-add-used Inv-frames μ-frames
 add-used c =
     let s = c .before .before .before .before .before .before in
-    omega (arith, inside s (c .before .before .enum-told .given .1), s .before .before .before .before .frames .inv .1,
-    s .before .before .before .before .before .before .before .good)
+    omega (
+      arith,
+      inside s (c .before .before .enum-told .given .1),
+      s .before .before .before .before .frames .inv .1,
+      s .before .before .before .before .before .before .before .good,
+    )
 
 add-to : tie.Need-add-to Inv-frames μ-frames
 add-to c =
     let s = c .before .before .before .before .before .before .before in
-    omega (arith, bounds s (c .before .before .before .enum-told .given .1) .fits, s .before .before .before .before .frames .inv .0 .kept .room,
-    s .before .before .before .before .before .before .before .good)
+    omega (
+      arith,
+      bounds s (c .before .before .before .enum-told .given .1) .fits,
+      s .before .before .before .before .frames .inv .0 .kept .room,
+      s .before .before .before .before .before .before .before .good,
+    )
 
 add-count : tie.Need-add-count Inv-frames μ-frames
 add-count c = search needs
@@ -72,9 +84,11 @@ frames-less c = omega (arith, c .before .before .before .before .before .before 
 
 frames-again : tie.Need-frames-again Inv-frames μ-frames
 frames-again c =
-    let s = c .before .before .before .before .before .before .before in
-    (keep-turn _ _ _ _ _ _ (s .before .before .before .before .frames .inv .0) (s .before .before .before .if1 .left) (s .before .before .if2 .left)
-    (s .step .ensures) (c .before .before .before .enum-told .given .1), omega (arith, s .before .before .before .before .frames .inv .1))
+    let s = c .before .before .before .before .before .before .before in (
+      keep-turn _ _ _ _ _ _ (s .before .before .before .before .frames .inv .0) (s .before .before .before .if1 .left) (s .before .before .if2 .left)
+          (s .step .ensures) (c .before .before .before .enum-told .given .1),
+      omega (arith, s .before .before .before .before .frames .inv .1),
+    )
 
 same-length : tie.Need-same-length Inv-frames μ-frames
 same-length c = lent-length (c .before .frames .inv .0 .kept)

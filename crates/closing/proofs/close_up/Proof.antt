@@ -1,0 +1,135 @@
+use Prim.Native.Nat.{_+_, _*_, _-_, _<_}
+use mathlib.Core.Path.{_≡_, _∙_}
+use native.Mathlib.Omega.{arith}
+use lib.ListN.{getD, set}
+use Rattle.rows.specs.declared.Row.{Row}
+use Rattle.rows.specs.Cells.{rowAt}
+use Rattle.rows.proofs.Rising.{Next}
+use Rattle.closing.proofs.Closed.{Closing, close-none, close-all, close-next, row-here, close-turn}
+use borrow.Author.Needs.{needs}
+use Rattle.closing.proofs.close_up.Statement.{statement}
+use Rattle.closing.proofs.close_up.Tie as tie
+use Rattle.closing.proofs.close_up.Reads as reads
+use Rattle.closing.proofs.close_up.Lts as lts
+use Rattle.closing.proofs.settle.Reads as settle-reads
+use Rattle.rows.proofs.row_at.Reads as row-at-reads
+use Rattle.rows.proofs.wide.Reads as wide-reads
+
+abbrev Inv-loop : tie.InvT-loop
+Inv-loop block₀ table₀ size n to₀ moved₀ i₀ block table to moved i = Closing size block₀ table₀ i block table to moved
+
+abbrev μ-loop : tie.MeasureT-loop
+μ-loop block₀ table₀ size n to₀ moved₀ i₀ block table to moved i = n - i
+
+-- a turn of the loop, and its row
+module _ (c : tie.In-loop Inv-loop μ-loop) where
+  here : c .before .loop .i < getD (c .before .before .before .before .before .before .args .table .now) 0 0
+  here = omega (arith, c .before .before .wide .ensures, c .loop-test .taken)
+
+  near : {r : Row} → r ≡ rowAt (c .before .loop .table) (1 + 3 * c .before .loop .i) → Next 1 (c .before .loop .to) (c .before .before .before .before .before .before .args .size) r
+  near e =
+      let s = c .before .before .before .before .before .before .pre in
+      rw (e ∙ row-here (s .0) (s .1 .0) (c .before .loop .inv) here) (close-next (s .0) (s .1 .0) (c .before .loop .inv) here)
+
+module _ (c : tie.After-slice-known4 Inv-loop μ-loop) where
+  turned : Closing (c .before .before .before .before .before .before .before .before .before .before .before .before .args .size) (c .before .before .before .before .before .before .before .before .before .before .before .before .args .block .now)
+      (c .before .before .before .before .before .before .before .before .before .before .before .before .args .table .now) (c .before .before .before .before .before .before .before .loop .i + 1)
+      (c .before .before .settle .last .0)
+      (set (c .before .before .before .before .before .before .before .loop .table) (1 + 3 * c .before .before .before .before .before .before .before .loop .i + 1) (c .before .before .before .before .before .before .before .loop .to))
+      (c .before .before .before .before .before .before .before .loop .to + c .before .before .before .before .row-at .result .octets)
+      (c .before .before .before .before .before .before .before .loop .moved + c .before .before .settle .result)
+  turned =
+      let s = c .before .before .before .before .before .before .before .before .before .before .before .before .pre in
+      let settled = c .before .before .settle .ensures in
+      close-turn (s .0) (s .1 .0) (c .before .before .before .before .before .before .before .loop .inv) (here (c .before .before .before .before .before .before)) (c .before .before .before .before .row-at .ensures .0) (settled .0) (settled .1)
+
+slice-read-wide : tie.Need-slice-read-wide Inv-loop μ-loop
+slice-read-wide c = search needs
+
+wide-requires : tie.Need-wide-requires Inv-loop μ-loop
+wide-requires c κs = search needs
+
+loop-holds : tie.Need-loop-holds Inv-loop μ-loop
+loop-holds c = close-none (c .before .before .before .before .pre .0) (c .before .before .before .before .pre .1 .0)
+
+mul-k : tie.Need-mul-k Inv-loop μ-loop
+mul-k c = search needs
+
+add-k : tie.Need-add-k Inv-loop μ-loop
+add-k c = search needs
+
+row-at-requires : tie.Need-row-at-requires Inv-loop μ-loop
+row-at-requires c κs =
+    let o = c .before .before .before .before .before .before .before .pre .0 in
+    omega (arith, o .cells, o .few, here (c .before), c .before .before .loop .inv .table-size)
+
+settle-requires : tie.Need-settle-requires Inv-loop μ-loop
+settle-requires c κs =
+    let n = near (c .before .before .before) (c .before .row-at .ensures .0) in
+    (n .above, omega (arith, n .inside, c .before .before .before .before .loop .inv .block-size))
+
+cast-table : tie.Need-cast-table Inv-loop μ-loop
+cast-table c = omega (arith, c .before .before .before .before .before .before .before .loop .inv .inside, c .before .before .before .before .before .before .before .before .before .before .before .before .pre .1 .1)
+
+add-table : tie.Need-add-table Inv-loop μ-loop
+add-table c = search needs
+
+mul-table : tie.Need-mul-table Inv-loop μ-loop
+mul-table c = search needs
+
+slice-write-table : tie.Need-slice-write-table Inv-loop μ-loop
+slice-write-table c =
+    let o = c .before .before .before .before .before .before .before .before .before .before .before .before .pre .0 in
+    omega (arith, o .cells, o .few, here (c .before .before .before .before .before .before), c .before .before .before .before .before .before .before .loop .inv .table-size)
+
+add-moved : tie.Need-add-moved Inv-loop μ-loop
+add-moved c = let t = turned c in omega (arith, t .few, t .inside, c .before .before .before .before .before .before .before .before .before .before .before .before .pre .1 .1)
+
+add-to : tie.Need-add-to Inv-loop μ-loop
+add-to c = let t = turned (c .before) in omega (arith, t .inside, c .before .before .before .before .before .before .before .before .before .before .before .before .before .pre .1 .1)
+
+add-i : tie.Need-add-i Inv-loop μ-loop
+add-i c = search needs
+
+loop-less : tie.Need-loop-less Inv-loop μ-loop
+loop-less c = omega (arith, here (c .before .before .before .before .before .before .before), c .before .before .before .before .before .before .before .loop-test .taken)
+
+loop-again : tie.Need-loop-again Inv-loop μ-loop
+loop-again c = turned (c .before)
+
+same-length : tie.Need-same-length Inv-loop μ-loop
+same-length c = c .before .loop .inv .block-size
+
+same-length-2 : tie.Need-same-length-2 Inv-loop μ-loop
+same-length-2 c = c .before .loop .inv .table-size
+
+returns : tie.Need-returns Inv-loop μ-loop
+returns c =
+    let s = c .before .before .before .before .before .before .pre in
+    close-all (s .0) (s .1 .0) (c .before .loop .inv) (omega (arith, c .before .before .wide .ensures, c .loop-test .left))
+
+pub close-up-spec : {M : Type 1} → statement M
+close-up-spec =
+    tie.close
+    (tie.spec
+    Inv-loop
+    μ-loop
+    slice-read-wide
+    wide-requires
+    loop-holds
+    mul-k
+    add-k
+    row-at-requires
+    settle-requires
+    cast-table
+    add-table
+    mul-table
+    slice-write-table
+    add-moved
+    add-to
+    add-i
+    loop-less
+    loop-again
+    same-length
+    same-length-2
+    returns)

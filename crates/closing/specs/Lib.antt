@@ -1,0 +1,2 @@
+-- Document 02, R-6: closing up.
+pub mod Closing

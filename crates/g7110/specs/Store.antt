@@ -1,0 +1,31 @@
+-- What the calls over a store of greetings report (document 02, R-6): the number, and two numbers more.
+use Prim.Native.Nat.{ℕ}
+use mathlib.Core.Path.{_≡_}
+use mathlib.Core.List.{List, [], _∷_}
+use Rattle.store.specs.Store.{Outcome}
+use Rattle.store.specs.Calls.{numberOf, firstOf, secondOf, answerOf, blockAfter, tableAfter, putOf, getOf, deleteOf}
+
+-- the start and the octets moved, or the start and the octets; zeros where refused
+abbrev pub twoOf : Outcome → List ℕ
+twoOf o = firstOf (answerOf o) ∷ secondOf (answerOf o) ∷ []
+
+-- the number and the report; the block and the table as the call leaves them
+pub record ChangeReported (o : Outcome) (b t b′ t′ two : List ℕ) (r : ℕ) : Type 0 where
+  pub number : r ≡ numberOf (answerOf o)
+  pub report : two ≡ twoOf o
+  pub block : b′ ≡ blockAfter o b
+  pub table : t′ ≡ tableAfter o t
+
+-- putting a greeting
+abbrev pub PutReported : ℕ → List ℕ → List ℕ → List ℕ → List ℕ → List ℕ → List ℕ → ℕ → Type 0
+PutReported number xs b t b′ t′ two r = ChangeReported (putOf b t number xs) b t b′ t′ two r
+
+-- getting one
+pub record GetReported (number : ℕ) (b t two : List ℕ) (r : ℕ) : Type 0 where
+  pub ending : r ≡ numberOf (answerOf (getOf b t number))
+  pub report : two ≡ twoOf (getOf b t number)
+
+-- deleting one
+pub record DeleteReported (number : ℕ) (b t t′ : List ℕ) (r : ℕ) : Type 0 where
+  pub ending : r ≡ numberOf (answerOf (deleteOf b t number))
+  pub table : t′ ≡ tableAfter (deleteOf b t number) t

@@ -1,0 +1,2 @@
+-- Document 02, R-6: what may be a greeting.
+pub mod Bad

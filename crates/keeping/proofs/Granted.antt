@@ -1,0 +1,311 @@
+-- What an accepted put, delete or get tells (`Granted`, `Taken`, `Got`), and the table that it leaves: sane (`put-sane`, `delete-sane`), with the new
+-- greeting and every other one as it was (`put-reads`), and what it holds.
+use Prim.Native.Nat.{ℕ, zero, suc, _+_, _*_, _-_, _≤_, _<_, min}
+use mathlib.Core.Path.{_≡_, refl, sym, ap, subst, _∙_}
+use mathlib.Core.List.{List, [], _∷_, _++_}
+use mathlib.Core.Bool.{Bool, true, false, cond, not, _&&_}
+use native.Mathlib.Omega.{arith}
+use native.Mathlib.Nat.{zero-add}
+use lib.ListN.{length, take, drop, getD, length-append, length-drop, length-take, take-append-drop, drop-of-length-le}
+use lib.Seq.{take-all, take-at, drop-at, getD-append-add, append-snoc}
+use lib.Dec.{leb, ltb}
+use borrow.Author.Tests.{le-ltb, ltb-false, leb-false, leb-true}
+use Rattle.rules.specs.Walk.{walkAll}
+use Rattle.rules.proofs.Tests.{and-left, and-right}
+use Rattle.rows.specs.declared.Row.{Row}
+use Rattle.rows.specs.declared.Gap.{Gap}
+use Rattle.rows.specs.declared.Gap.the-variants.{At, Nowhere}
+use Rattle.rows.specs.Limits.{sizeOf, isNumber}
+use Rattle.rows.specs.Rows.{rowOf, held, greeting, Kept, contents}
+use Rattle.rows.specs.Finding.{absent, findFrom, lowestGap}
+use Rattle.rows.specs.Cells.{rowsOf, cellsOf, laid}
+use Rattle.rows.specs.Sane.{rising, numbered, saneOf, Ordered}
+use Rattle.rows.specs.Changed.{nth, insertAt, removeAt, written}
+use Rattle.closing.specs.Closing.{closedRows, closedBlock}
+use Rattle.greetings.specs.Bad.{isBad, isDone, storeLaw, storeSet, neverShort}
+use Rattle.store.specs.declared.Refusal.{Refusal}
+use Rattle.store.specs.declared.Refusal.the-variants.{Number, Taken as taken, Absent, Bad, Full, NoRoom, Table}
+use Rattle.store.specs.Store.{Outcome, leaves, refused, After, putAt, fitted, putIn, getIn, deleteIn, gotten, without}
+use Rattle.store.specs.Calls.{putOf, getOf, deleteOf}
+use Rattle.rows.proofs.Lists.{passed, both}
+use Rattle.rows.proofs.Cells.{length-rows, length-cells, rows-laid, count-laid}
+use Rattle.rows.proofs.Judged.{sane-ordered}
+use Rattle.closing.proofs.Closed.{length-closed}
+use Rattle.keeping.proofs.Rising.{rising-nil, rising-join, rising-remove, closing-rises, held-append, held-cons, held-closed, held-inserted}
+use Rattle.keeping.proofs.Numbers.{Fresh, Distinct, fresh-of, distinct-of, numbered-of, fresh-closed, distinct-closed, inserted-distinct}
+use Rattle.keeping.proofs.Numbers.{distinct-remove, FoundAt, find-split}
+use Rattle.keeping.proofs.Contents.{kept, contents-append, contents-cons, contents-nil, closing-reads, closed-length}
+use Rattle.keeping.proofs.Contents.{length-written, below-reads, own-part}
+use Rattle.keeping.proofs.Gaps.{gap-inside, gap-rises, gap-reads}
+
+no-outcome : {A : Type 0} {w : Refusal} {a : After} → refused w ≡ leaves a → A
+no-outcome e = let z : _≡_ {A = ℕ} 0 1 = cc in absurd (omega arith)
+
+-- a table that calls leave
+pub sane-distinct : (size : ℕ) (t : List ℕ) → saneOf size t ≡ true → Distinct (rowsOf t)
+unfolding saneOf
+sane-distinct size t s =
+    let a = passed (ltb (length t) 97) _ s in
+    let b = passed (ltb 32 (getD t 0 0)) _ (a .1) in
+    distinct-of (rowsOf t) (both (rising 1 0 size (rowsOf t)) _ (b .1) .1)
+
+length-laid : (rows : List Row) (t : List ℕ) → 97 ≤ length t → 97 ≤ length (laid rows t)
+unfolding laid
+length-laid rows t c =
+    let h = length-append (length rows ∷ cellsOf rows) (drop (1 + 3 * length rows) t) in
+    omega (arith, h, length-cells rows, length-drop (1 + 3 * length rows) t)
+
+pub laid-sane : (size : ℕ) (rows : List Row) (t : List ℕ) → 97 ≤ length t → length rows ≤ 32 → rising 1 0 size rows ≡ true → Distinct rows
+    → saneOf size (laid rows t) ≡ true
+unfolding saneOf
+laid-sane size rows t c f h d =
+    let e = rows-laid rows t in
+    rw (le-ltb (length (laid rows t)) 97 (length-laid rows t c), e, count-laid rows t, le-ltb 32 (length rows) f, h) (numbered-of rows d)
+
+-- a greeting that is not bad has an octet
+pub good-some : (xs : List ℕ) → isBad xs ≡ false → 1 ≤ length xs
+unfolding isBad
+good-some xs e = go (ltb (length xs) 1) (not (isDone (walkAll xs storeLaw storeSet (neverShort (length xs)) .end))) refl e
+  where
+    go : (t r : Bool) → ltb (length xs) 1 ≡ t → cond t true r ≡ false → 1 ≤ length xs
+    go true r p e = let z : _≡_ {A = ℕ} 0 1 = cc in absurd (omega arith)
+    go false r p e = ltb-false (length xs) 1 p
+
+-- PUT
+pub record Granted (b t : List ℕ) (x : ℕ) (xs : List ℕ) (a : After) : Type 0 where
+  pub sane : saneOf (sizeOf b) t ≡ true
+  pub number : isNumber x ≡ true
+  pub fresh : absent x (rowsOf t) ≡ true
+  pub good : isBad xs ≡ false
+  pub few : length (rowsOf t) ≤ 31
+  pub room : held (rowsOf t) + length xs ≤ sizeOf b
+  pub is : a ≡ fitted b (rowsOf t) (sizeOf b) x xs
+
+pub put-granted : (b t : List ℕ) (x : ℕ) (xs : List ℕ) (a : After) → putOf b t x xs ≡ leaves a → Granted b t x xs a
+unfolding putIn
+put-granted b t x xs a e =
+    go (saneOf (sizeOf b) t) refl (isNumber x) refl (absent x (rowsOf t)) refl (isBad xs) refl (leb 32 (length (rowsOf t))) refl
+    (ltb (sizeOf b) (held (rowsOf t) + length xs)) refl e
+  where
+    go : (s : Bool) → saneOf (sizeOf b) t ≡ s → (n : Bool) → isNumber x ≡ n → (f : Bool) → absent x (rowsOf t) ≡ f → (g : Bool) → isBad xs ≡ g
+        → (q : Bool) → leb 32 (length (rowsOf t)) ≡ q → (r : Bool) → ltb (sizeOf b) (held (rowsOf t) + length xs) ≡ r
+        → cond (not s) (refused Table) (cond (not n) (refused Number) (cond (not f) (refused taken) (cond g (refused Bad) (cond q (refused Full)
+        (cond r (refused NoRoom) (leaves (fitted b (rowsOf t) (sizeOf b) x xs))))))) ≡ leaves a
+        → Granted b t x xs a
+    go false s′ n n′ f f′ g g′ q q′ r r′ e = no-outcome e
+    go true s′ false n′ f f′ g g′ q q′ r r′ e = no-outcome e
+    go true s′ true n′ false f′ g g′ q q′ r r′ e = no-outcome e
+    go true s′ true n′ true f′ true g′ q q′ r r′ e = no-outcome e
+    go true s′ true n′ true f′ false g′ true q′ r r′ e = no-outcome e
+    go true s′ true n′ true f′ false g′ false q′ true r′ e = no-outcome e
+    go true s′ true n′ true f′ false g′ false q′ false r′ e =
+        let l = leb-false 32 (length (rowsOf t)) q′ in
+        record { sane = s′; number = n′; fresh = f′; good = g′; few = omega arith; room = ltb-false _ _ r′; is = cc }
+
+pub low-number : (x : ℕ) → isNumber x ≡ true → 1 ≤ x
+low-number x e = leb-true 1 x (and-left (leb 1 x) (leb x 65535) e)
+
+pub high-number : (x : ℕ) → isNumber x ≡ true → x ≤ 65535
+high-number x e = leb-true x 65535 (and-right (leb 1 x) (leb x 65535) e)
+
+length-inserted : (i : ℕ) (r : Row) (rows : List Row) → length (insertAt i r rows) ≤ length rows + 1
+length-inserted i r rows = omega (arith, length-append (take i rows) (r ∷ drop i rows), length-take i rows, length-drop i rows)
+
+-- what closing up puts the greeting behind
+module _ (size : ℕ) (rows : List Row) (r : Row) (h : rising 1 0 size rows ≡ true) where
+  pub behind-all : insertAt (length rows) r (closedRows 0 rows) ≡ closedRows 0 rows ++ (r ∷ [])
+  behind-all =
+      let l = length-closed 0 rows in
+      let d : drop (length rows) (closedRows 0 rows) ≡ [] = drop-of-length-le (closedRows 0 rows) {i = length rows} (omega arith) in
+      rw (take-all (length rows) (closedRows 0 rows) (omega arith), d)
+
+  pub behind-rises : 1 ≤ r .octets → r .start ≡ held rows → r .start + r .octets ≤ size → rising 1 0 size (closedRows 0 rows ++ (r ∷ [])) ≡ true
+  behind-rises o s g =
+      let c = rw zero-add at (closing-rises rows 0 0 size h) in
+      rising-join (closedRows 0 rows) r [] 0 size o (omega arith) g (rw s c) (rising-nil 1 (r .start + r .octets) size)
+
+-- the new greeting reads as given, every other as before
+pub record ReadsNew (b t : List ℕ) (x : ℕ) (xs : List ℕ) (a : After) : Type 0 where
+  pub place : ℕ
+  pub is : contents (a .block) (a .rows) ≡ contents b (take place (rowsOf t)) ++ (kept x xs ∷ contents b (drop place (rowsOf t)))
+
+module _ (b t : List ℕ) (x : ℕ) (xs : List ℕ) {a : After} (e : putOf b t x xs ≡ leaves a) where
+  granted : Granted b t x xs a
+  granted = put-granted b t x xs a e
+
+  ordered : Ordered (sizeOf b) t
+  ordered = sane-ordered (sizeOf b) t (granted .sane)
+
+  some : 1 ≤ length xs
+  some = good-some xs (granted .good)
+
+  distinct : Distinct (rowsOf t)
+  distinct = sane-distinct (sizeOf b) t (granted .sane)
+
+  pub put-fresh : Fresh x (rowsOf t)
+  put-fresh = fresh-of x (rowsOf t) (granted .fresh)
+
+  sane-in : (p : Gap) → p ≡ lowestGap (length xs) (sizeOf b) (rowsOf t) → saneOf (sizeOf b) (laid (putAt b (rowsOf t) x xs p .rows) t) ≡ true
+  sane-in (At i s) q =
+      let rows = rowsOf t in
+      let new = rowOf x s (length xs) in
+      let n = granted .number in
+      laid-sane (sizeOf b) (insertAt i new rows) t (ordered .cells) (omega (arith, length-inserted i new rows, granted .few))
+      (gap-rises b xs (sizeOf b) x rows i s (omega arith) some (ordered .rises) q)
+      (inserted-distinct i new rows (low-number x n) (high-number x n) put-fresh distinct)
+  sane-in Nowhere q =
+      let rows = rowsOf t in
+      let new = rowOf x (held rows) (length xs) in
+      let n = granted .number in
+      let c = closedRows 0 rows in
+      laid-sane (sizeOf b) (insertAt (length rows) new c) t (ordered .cells)
+      (omega (arith, length-inserted (length rows) new c, length-closed 0 rows, granted .few))
+      (rw (behind-all (sizeOf b) rows new (ordered .rises)) (behind-rises (sizeOf b) rows new (ordered .rises) some refl (granted .room)))
+      (inserted-distinct (length rows) new c (low-number x n) (high-number x n) (fresh-closed x 0 rows put-fresh) (distinct-closed 0 rows distinct))
+
+  pub put-sane : saneOf (sizeOf b) (laid (a .rows) t) ≡ true
+  put-sane = rw (granted .is) (sane-in (lowestGap (length xs) (sizeOf b) (rowsOf t)) refl)
+
+  length-in : (p : Gap) → p ≡ lowestGap (length xs) (sizeOf b) (rowsOf t) → length (putAt b (rowsOf t) x xs p .block) ≡ length b
+  length-in (At i s) q = length-written b s xs (omega (arith, gap-inside b xs (sizeOf b) x (rowsOf t) i s (omega arith) some (ordered .rises) q))
+  length-in Nowhere q =
+      let c = closed-length b (rowsOf t) (sizeOf b) (ordered .rises) (omega arith) in
+      length-written (closedBlock b (rowsOf t)) (held (rowsOf t)) xs (omega (arith, c, granted .room)) ∙ c
+
+  pub put-length : length (a .block) ≡ length b
+  put-length = rw (granted .is) (length-in (lowestGap (length xs) (sizeOf b) (rowsOf t)) refl)
+
+  held-in : (p : Gap) → held (putAt b (rowsOf t) x xs p .rows) ≡ held (rowsOf t) + length xs
+  held-in (At i s) = held-inserted i (rowOf x s (length xs)) (rowsOf t)
+  held-in Nowhere =
+      held-inserted (length (rowsOf t)) (rowOf x (held (rowsOf t)) (length xs)) (closedRows 0 (rowsOf t))
+      ∙ ap (λ (y : ℕ). y + length xs) (held-closed 0 (rowsOf t))
+
+  pub put-held : held (a .rows) ≡ held (rowsOf t) + length xs
+  put-held = rw (granted .is) (held-in (lowestGap (length xs) (sizeOf b) (rowsOf t)))
+
+  reads-in : (p : Gap) → p ≡ lowestGap (length xs) (sizeOf b) (rowsOf t) → ReadsNew b t x xs (putAt b (rowsOf t) x xs p)
+  reads-in (At i s) q = record { place = i; is = gap-reads b xs (sizeOf b) x (rowsOf t) i s (omega arith) some (ordered .rises) q }
+  reads-in Nowhere q =
+      let rows = rowsOf t in
+      let done = closedRows 0 rows in
+      let n = length rows in
+      let b₁ = closedBlock b rows in
+      let w = written b₁ (held rows) xs in
+      let r = rowOf x (held rows) (length xs) in
+      let h = rw zero-add at (closing-rises rows 0 0 (sizeOf b) (ordered .rises)) in
+      let tr = take-all n rows (omega arith) in
+      let dr : drop n rows ≡ [] = drop-of-length-le rows {i = n} (omega arith) in
+      let big : held rows + length xs ≤ length b₁ = omega (arith, granted .room, closed-length b rows (sizeOf b) (ordered .rises) (omega arith)) in
+      let c : contents w (done ++ (r ∷ [])) ≡ contents b rows ++ (kept x xs ∷ contents b []) =
+      contents-append w done (r ∷ [])
+      ∙ rw (
+        contents-cons w r [],
+        below-reads b₁ xs (held rows) big done 0 h,
+        closing-reads b rows (sizeOf b) (ordered .rises) (omega arith),
+        own-part b₁ xs (held rows) big,
+        contents-nil w b,
+      ) in
+      record { place = n; is = rw (behind-all (sizeOf b) rows r (ordered .rises), tr, dr) c }
+
+  pub put-reads : ReadsNew b t x xs a
+  put-reads = rw (granted .is) (reads-in (lowestGap (length xs) (sizeOf b) (rowsOf t)) refl)
+
+-- DELETE
+pub record Gone (b t : List ℕ) (x : ℕ) (a : After) : Type 0 where
+  pub sane : saneOf (sizeOf b) t ≡ true
+  pub number : isNumber x ≡ true
+  pub found : FoundAt x 0 (rowsOf t)
+  pub is : a ≡ without b (rowsOf t) (findFrom x 0 (rowsOf t))
+
+pub delete-gone : (b t : List ℕ) (x : ℕ) (a : After) → deleteOf b t x ≡ leaves a → Gone b t x a
+unfolding deleteIn
+delete-gone b t x a e = go (saneOf (sizeOf b) t) refl (isNumber x) refl (absent x (rowsOf t)) refl e
+  where
+    go : (s : Bool) → saneOf (sizeOf b) t ≡ s → (n : Bool) → isNumber x ≡ n → (f : Bool) → absent x (rowsOf t) ≡ f
+        → cond (not s) (refused Table) (cond (not n) (refused Number) (cond f (refused Absent)
+        (leaves (without b (rowsOf t) (findFrom x 0 (rowsOf t)))))) ≡ leaves a
+        → Gone b t x a
+    go false s′ n n′ f f′ e = no-outcome e
+    go true s′ false n′ f f′ e = no-outcome e
+    go true s′ true n′ true f′ e = no-outcome e
+    go true s′ true n′ false f′ e = record { sane = s′; number = n′; found = find-split x 0 (rowsOf t) f′; is = cc }
+
+-- a greeting among others, taken out, and got
+module _ (before : List Row) (r : Row) (behind : List Row) where
+  pub taken-out : removeAt (length before) (before ++ (r ∷ behind)) ≡ before ++ behind
+  taken-out =
+      let d : drop (length before + 1) (before ++ (r ∷ behind)) ≡ behind =
+      ap (drop (length before + 1)) (sym (append-snoc before r behind))
+      ∙ drop-at (before ++ (r ∷ [])) behind (length before + 1) (length-append before (r ∷ [])) in
+      rw (take-at before (r ∷ behind) (length before) refl, d)
+
+  pub nth-of : nth (length before) (before ++ (r ∷ behind)) ≡ r
+  nth-of = let z : length before + 0 ≡ length before = omega arith in rw z at (getD-append-add before (r ∷ behind) 0 (rowOf 0 0 0))
+
+  pub held-out : held (before ++ behind) + r .octets ≡ held (before ++ (r ∷ behind))
+  held-out = omega (arith, held-append before behind, held-append before (r ∷ behind), held-cons r behind)
+
+pub found-nth : {x : ℕ} {rows : List Row} → (f : FoundAt x 0 rows) → nth (findFrom x 0 rows) rows ≡ f .row
+found-nth {x} {rows} f =
+    let p : findFrom x 0 rows ≡ length (f .before) = f .place ∙ omega arith in
+    rw p (ap (λ (l : List Row). nth (length (f .before)) l) (f .is) ∙ nth-of (f .before) (f .row) (f .behind))
+
+pub found-out : {x : ℕ} {rows : List Row} → (f : FoundAt x 0 rows) → removeAt (findFrom x 0 rows) rows ≡ f .before ++ f .behind
+found-out {x} {rows} f =
+    let p : findFrom x 0 rows ≡ length (f .before) = f .place ∙ omega arith in
+    rw p (ap (λ (l : List Row). removeAt (length (f .before)) l) (f .is) ∙ taken-out (f .before) (f .row) (f .behind))
+
+module _ (b t : List ℕ) (x : ℕ) {a : After} (e : deleteOf b t x ≡ leaves a) where
+  abbrev pub gone : Gone b t x a
+  gone = delete-gone b t x a e
+
+  pub delete-block : a .block ≡ b
+  delete-block = rw (gone .is)
+
+  pub delete-rows : a .rows ≡ gone .found .before ++ gone .found .behind
+  delete-rows = ap (λ (y : After). y .rows) (gone .is) ∙ found-out (gone .found)
+
+  pub delete-held : held (a .rows) + nth (findFrom x 0 (rowsOf t)) (rowsOf t) .octets ≡ held (rowsOf t)
+  delete-held =
+      let f = gone .found in
+      rw (delete-rows, found-nth f) (held-out (f .before) (f .row) (f .behind) ∙ ap held (sym (f .is)))
+
+  pub delete-sane : saneOf (sizeOf b) (laid (a .rows) t) ≡ true
+  delete-sane =
+      let f = gone .found in
+      let o = sane-ordered (sizeOf b) t (gone .sane) in
+      let d = sane-distinct (sizeOf b) t (gone .sane) in
+      let n = ap length (f .is) ∙ length-append (f .before) (f .row ∷ f .behind) in
+      let k = length-append (f .before) (f .behind) in
+      rw delete-rows (laid-sane (sizeOf b) (f .before ++ f .behind) t (o .cells) (omega (arith, k, n, length-rows t (getD t 0 0) 1, o .few))
+      (rising-remove (f .before) (f .row) (f .behind) 0 (sizeOf b) (subst (λ (l : List Row). rising 1 0 (sizeOf b) l ≡ true) (f .is) (o .rises)))
+      (distinct-remove (f .before) (f .row) (f .behind) (subst Distinct (f .is) d)))
+
+-- GET
+pub record Got (b t : List ℕ) (x : ℕ) (a : After) : Type 0 where
+  pub sane : saneOf (sizeOf b) t ≡ true
+  pub found : FoundAt x 0 (rowsOf t)
+  pub start : a .first ≡ found .row .start
+  pub octets : a .second ≡ found .row .octets
+
+pub get-got : (b t : List ℕ) (x : ℕ) (a : After) → getOf b t x ≡ leaves a → Got b t x a
+unfolding getIn
+get-got b t x a e = go (saneOf (sizeOf b) t) refl (isNumber x) (absent x (rowsOf t)) refl e
+  where
+    go : (s : Bool) → saneOf (sizeOf b) t ≡ s → (n : Bool) → (f : Bool) → absent x (rowsOf t) ≡ f
+        → cond (not s) (refused Table) (cond (not n) (refused Number) (cond f (refused Absent)
+        (leaves (gotten b (rowsOf t) (nth (findFrom x 0 (rowsOf t)) (rowsOf t)))))) ≡ leaves a
+        → Got b t x a
+    go false s′ n f f′ e = no-outcome e
+    go true s′ false f f′ e = no-outcome e
+    go true s′ true true f′ e = no-outcome e
+    go true s′ true false f′ e =
+        let c = find-split x 0 (rowsOf t) f′ in
+        let q : a ≡ gotten b (rowsOf t) (nth (findFrom x 0 (rowsOf t)) (rowsOf t)) = cc in
+        record { sane = s′; found = c; start = rw q (ap (λ (r : Row). r .start) (found-nth c)); octets = rw q (ap (λ (r : Row). r .octets) (found-nth c)) }
+
+pub get-of : (b t : List ℕ) (x : ℕ) → saneOf (sizeOf b) t ≡ true → isNumber x ≡ true → absent x (rowsOf t) ≡ false
+    → getOf b t x ≡ leaves (gotten b (rowsOf t) (nth (findFrom x 0 (rowsOf t)) (rowsOf t)))
+unfolding getIn
+get-of b t x s n f = rw (s, n, f)

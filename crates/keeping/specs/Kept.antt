@@ -1,0 +1,50 @@
+-- What the promises speak of: what a store reads under a number; places that are clear; greetings whose start changed; places that closing up writes.
+use Prim.Native.Nat.{ℕ, _+_, _≤_, _<_}
+use mathlib.Core.Path.{_≡_}
+use mathlib.Core.List.{List, [], _∷_}
+use mathlib.Core.Bool.{Bool, true, false, cond}
+use lib.Dec.{eqb}
+use Rattle.rows.specs.declared.Row.{Row}
+use Rattle.rows.specs.declared.Gap.{Gap}
+use Rattle.rows.specs.declared.Gap.the-variants.{At, Nowhere}
+use Rattle.rows.specs.Rows.{Kept}
+use Rattle.greetings.specs.Bad.{isBad}
+
+-- the octets kept under a number, or none
+pub data Octets : Type 0 where
+  here : List ℕ → Octets
+  missing : Octets
+
+unfoldable pub lookUp : ℕ → List Kept → Octets
+lookUp x [] = missing
+lookUp x (k ∷ ks) = cond (eqb (k .number) x) (here (k .octets)) (lookUp x ks)
+
+-- none of them is one that the walk refuses, or empty
+unfoldable pub allGood : List Kept → Bool
+allGood [] = true
+allGood (k ∷ ks) = cond (isBad (k .octets)) false (allGood ks)
+
+-- no greeting has an octet from place p on, for so many octets
+unfoldable pub Clear : ℕ → ℕ → List Row → Type 0
+Clear p want [] = Unit {0}
+Clear p want (r ∷ rows) = ((p < r .start + r .octets) → (r .start < p + want) → ⊥) × Clear p want rows
+
+-- a greeting's start, by its number; 0 where there is none
+unfoldable pub startOf : ℕ → List Row → ℕ
+startOf x [] = 0
+startOf x (r ∷ rows) = cond (eqb (r .number) x) (r .start) (startOf x rows)
+
+-- "the summed lengths of those whose start changed", from the greetings before a call and those after it
+unfoldable pub changed : List Row → List Row → ℕ
+changed [] after = 0
+changed (r ∷ rows) after = cond (eqb (r .start) (startOf (r .number) after)) 0 (r .octets) + changed rows after
+
+-- closing up does not write place p: it is in no greeting's new place, but for a greeting whose start stays
+unfoldable pub Spared : ℕ → ℕ → List Row → Type 0
+Spared p at [] = Unit {0}
+Spared p at (r ∷ rows) = ((r .start ≡ at → ⊥) → at ≤ p → p < at + r .octets → ⊥) × Spared p (at + r .octets) rows
+
+-- nor does it where a gap was found
+abbrev pub Passed : ℕ → Gap → List Row → Type 0
+Passed p (At i at) rows = Unit {0}
+Passed p Nowhere rows = Spared p 0 rows

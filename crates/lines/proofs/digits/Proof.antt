@@ -1,0 +1,17 @@
+-- The digits stand at the end of 20 octets.
+use Rattle.lines.proofs.Spelling.{spells-length}
+use borrow.Author.Needs.{needs}
+use Rattle.lines.proofs.digits.Statement.{statement}
+use Rattle.lines.proofs.digits.Tie as tie
+
+spell-requires : tie.Need-spell-requires
+spell-requires c κs = search needs
+
+sub-result : tie.Need-sub-result
+sub-result c = search needs
+
+returns : tie.Need-returns
+returns c = spells-length _ (c .before .spell .ensures)
+
+pub digits-spec : {M : Type 1} → statement M
+digits-spec = tie.close (tie.spec spell-requires sub-result returns)

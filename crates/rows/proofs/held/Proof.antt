@@ -1,0 +1,71 @@
+use Prim.Native.Nat.{ℕ, _+_, _*_, _-_, _≤_, _<_}
+use mathlib.Core.Path.{_≡_, refl, sym, ap, _∙_}
+use native.Mathlib.Omega.{arith}
+use Rattle.rows.specs.Rows.{held}
+use Rattle.rows.specs.Cells.{rowsAt}
+use Rattle.rows.proofs.Finding.{held-turn}
+use Rattle.rows.proofs.Judged.{row-next}
+use borrow.Author.Needs.{needs}
+use Rattle.rows.proofs.held.Statement.{statement}
+use Rattle.rows.proofs.held.Tie as tie
+use Rattle.rows.proofs.held.Reads as reads
+use Rattle.rows.proofs.held.Lts as lts
+use Rattle.rows.proofs.row_at.Reads as row-at-reads
+
+abbrev Inv-loop : tie.InvT-loop
+Inv-loop table n size sum₀ i₀ sum i = (sum ≡ held (rowsAt table i 1)) × (i ≤ n) × (sum ≤ size)
+
+abbrev μ-loop : tie.MeasureT-loop
+μ-loop table n size sum₀ i₀ sum i = n - i
+
+loop-holds : tie.Need-loop-holds Inv-loop μ-loop
+unfolding rowsAt held
+loop-holds c = (refl, omega arith, omega arith)
+
+mul-row-at : tie.Need-mul-row-at Inv-loop μ-loop
+mul-row-at c = search needs
+
+add-row-at : tie.Need-add-row-at Inv-loop μ-loop
+add-row-at c = search needs
+
+row-at-requires : tie.Need-row-at-requires Inv-loop μ-loop
+row-at-requires c κs = search needs
+
+add-sum : tie.Need-add-sum Inv-loop μ-loop
+add-sum c = search needs
+
+add-i : tie.Need-add-i Inv-loop μ-loop
+add-i c = search needs
+
+loop-less : tie.Need-loop-less Inv-loop μ-loop
+loop-less c = search needs
+
+loop-again : tie.Need-loop-again Inv-loop μ-loop
+loop-again c =
+    let s = c .before .before .before .before .before in
+    let l = c .before .before .before .loop in
+    let h = held-turn (s .args .table .now) (s .args .n) (l .i) (c .before .row-at .ensures .0) (omega arith) (l .inv .0) in
+    let x = row-next (s .args .n) (l .i) (s .pre .1) (s .pre .0) (c .before .row-at .ensures .0) (omega arith) in
+    (h, omega arith, omega (arith, x .above, x .inside, l .inv .0))
+
+returns : tie.Need-returns Inv-loop μ-loop
+returns c =
+    let s = c .before .before .before in
+    let l = c .before .loop in
+    (l .inv .0 ∙ ap (λ (x : ℕ). held (rowsAt (s .args .table .now) x 1)) (omega (arith, s .pre .0)), omega arith)
+
+pub held-spec : {M : Type 1} → statement M
+held-spec =
+    tie.close
+    (tie.spec
+    Inv-loop
+    μ-loop
+    loop-holds
+    mul-row-at
+    add-row-at
+    row-at-requires
+    add-sum
+    add-i
+    loop-less
+    loop-again
+    returns)

@@ -1,0 +1,96 @@
+use Prim.Native.Nat.{ℕ, _+_, _*_, _-_, _≤_, _<_}
+use mathlib.Core.Path.{_≡_, refl, sym, ap, _∙_}
+use mathlib.Core.List.{List}
+use native.Mathlib.Omega.{arith}
+use Rattle.rows.specs.declared.Row.{Row}
+use Rattle.rows.specs.Cells.{rowsAt}
+use Rattle.rows.specs.Sane.{rising}
+use Rattle.rows.proofs.Left.{left, left-all}
+use Rattle.rows.proofs.Rising.{rising-end, rising-low, rising-few, rising-out, rising-turn}
+use borrow.Author.Needs.{needs}
+use Rattle.rows.proofs.rises.Statement.{statement}
+use Rattle.rows.proofs.rises.Tie as tie
+use Rattle.rows.proofs.rises.Reads as reads
+use Rattle.rows.proofs.rises.Lts as lts
+use Rattle.rows.proofs.row_at.Reads as row-at-reads
+
+abbrev Inv-loop : tie.InvT-loop
+Inv-loop table n least size at₀ i₀ at i = (rising least 0 size (rowsAt table n 1) ≡ rising least at size (left table n i)) × (i ≤ n)
+
+abbrev μ-loop : tie.MeasureT-loop
+μ-loop table n least size at₀ i₀ at i = n - i
+
+loop-holds : tie.Need-loop-holds Inv-loop μ-loop
+loop-holds c =
+    let s = c .before .args in
+    (ap (λ (x : List Row). rising (s .least) 0 (s .size) x) (left-all (s .table .now) (s .n)), omega arith)
+
+mul-row-at : tie.Need-mul-row-at Inv-loop μ-loop
+mul-row-at c = search needs
+
+add-row-at : tie.Need-add-row-at Inv-loop μ-loop
+add-row-at c = search needs
+
+row-at-requires : tie.Need-row-at-requires Inv-loop μ-loop
+row-at-requires c κs = search needs
+
+returns : tie.Need-returns Inv-loop μ-loop
+returns c =
+    let s = c .before .before .before .before .before .before .args in
+    let l = c .before .before .before .before .loop in
+    rising-low (s .table .now) (s .n) (l .i) (s .least) (s .size) (l .at) (c .before .before .row-at .ensures .0) (omega arith) (omega arith) ∙ sym (l .inv .0)
+
+returns-2 : tie.Need-returns-2 Inv-loop μ-loop
+returns-2 c =
+    let s = c .before .before .before .before .before .before .before .before .args in
+    let l = c .before .before .before .before .before .before .loop in
+    rising-few (s .table .now) (s .n) (l .i) (s .least) (s .size) (l .at) (c .before .before .before .before .row-at .ensures .0) (omega arith) (omega arith) (omega arith) ∙ sym (l .inv .0)
+
+add-end : tie.Need-add-end Inv-loop μ-loop
+add-end c = search needs
+
+returns-3 : tie.Need-returns-3 Inv-loop μ-loop
+returns-3 c =
+    let s = c .before .before .before .before .before .before .before .before .before .before .args in
+    let l = c .before .before .before .before .before .before .before .before .loop in
+    rising-out (s .table .now) (s .n) (l .i) (s .least) (s .size) (l .at) (c .before .before .before .before .before .before .row-at .ensures .0) (omega arith) (omega arith) (omega arith) (omega arith) ∙ sym (l .inv .0)
+
+add-i : tie.Need-add-i Inv-loop μ-loop
+add-i c = search needs
+
+loop-less : tie.Need-loop-less Inv-loop μ-loop
+loop-less c = search needs
+
+loop-again : tie.Need-loop-again Inv-loop μ-loop
+loop-again c =
+    let s = c .before .before .before .before .before .before .before .before .before .before .args in
+    let l = c .before .before .before .before .before .before .before .before .loop in
+    let r = c .before .before .before .before .before .before .row-at .ensures .0 in (
+      l .inv .0 ∙ rising-turn (s .table .now) (s .n) (l .i) (s .least) (s .size) (l .at) r (omega arith) (omega arith) (omega arith) (omega arith),
+      omega arith,
+    )
+
+returns-4 : tie.Need-returns-4 Inv-loop μ-loop
+returns-4 c =
+    let s = c .before .before .before .args in
+    let l = c .before .loop in
+    rising-end (s .table .now) (s .n) (l .i) (s .least) (s .size) (l .at) (omega arith) ∙ sym (l .inv .0)
+
+pub rises-spec : {M : Type 1} → statement M
+rises-spec =
+    tie.close
+    (tie.spec
+    Inv-loop
+    μ-loop
+    loop-holds
+    mul-row-at
+    add-row-at
+    row-at-requires
+    returns
+    returns-2
+    add-end
+    returns-3
+    add-i
+    loop-less
+    loop-again
+    returns-4)

@@ -1,0 +1,30 @@
+-- Document 02, R-6: "Boxes have one block of 16,384 octets for greetings. Keep up to 32, each with a number from 1 to 65,535".
+use Prim.Native.Nat.{ℕ, _+_, _*_, min}
+use mathlib.Core.List.{List}
+use mathlib.Core.Bool.{Bool, _&&_}
+use lib.ListN.{length}
+use lib.Dec.{leb}
+
+-- the greatest size of a block
+abbrev pub largestBlock : ℕ
+largestBlock = 16384
+
+-- the greatest number of greetings
+abbrev pub mostGreetings : ℕ
+mostGreetings = 32
+
+-- the greatest number of a greeting
+abbrev pub mostNumber : ℕ
+mostNumber = 65535
+
+-- "a number from 1 to 65,535"
+abbrev pub isNumber : ℕ → Bool
+isNumber x = leb 1 x && leb x mostNumber
+
+-- the size of a lent block: its octets, or 16,384 where they are more. What lies past the size is never touched.
+abbrev pub sizeOf : List ℕ → ℕ
+sizeOf b = min (length b) largestBlock
+
+-- how many cells a table needs for a block of a size: how many greetings there are, then three for each of 32
+abbrev pub cellsFor : ℕ → ℕ
+cellsFor size = 97

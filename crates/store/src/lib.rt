@@ -1,0 +1,230 @@
+// A greeting store that fills its gaps (document 02, R-6): greetings in a lent block, with a lent table; put, get and delete.
+// What each call answers and leaves stands in specs/Calls.
+ghost use mathlib.Core.Path.{_≡_};
+ghost use Prim.Native.Nat.{_+_, _^_, _≤_, _<_};
+ghost use lib.ListN.{length, getD};
+ghost use Rattle.rows.specs.Rows.{rowOf, held as heldBy};
+ghost use Rattle.rows.specs.Cells.{rowsOf, laid};
+ghost use Rattle.rows.specs.Sane.{Ordered};
+ghost use Rattle.rows.specs.Changed.{insertAt, written};
+ghost use Rattle.store.specs.Store.{leaves, fitted, putIn};
+ghost use Rattle.store.specs.Calls.{refusalNumber, numberOf, firstOf, secondOf, Says, Put, Get, Delete};
+ghost use Rattle.store.specs.Looking.{lookOf, Looked};
+use rows::Gap;
+use rows::Row;
+
+// "Refusals, in order"; TABLE (26) comes first, and ROOM (4) is saving's.
+pub enum Refusal {
+    Room,
+    Number,
+    Taken,
+    Absent,
+    Bad,
+    Full,
+    NoRoom,
+    Table,
+}
+
+// The start and the octets moved, or the start and the octets; or the refusal.
+pub enum Answer {
+    Done(usize, usize),
+    Refused(Refusal),
+}
+
+// What is judged first: a refusal, or how many greetings there are and the number's place among them.
+pub enum Look {
+    Stop(Refusal),
+    Found(usize, usize),
+}
+
+pub fn refusal_number(why: Refusal) -> u32
+    ensures { λ r. ⌜ r ≡ refusalNumber why ⌝ }
+{
+    match why {
+        Refusal::Room => 4,
+        Refusal::Number => 15,
+        Refusal::Taken => 16,
+        Refusal::Absent => 17,
+        Refusal::Bad => 18,
+        Refusal::Full => 19,
+        Refusal::NoRoom => 20,
+        Refusal::Table => 26,
+    }
+}
+
+// An accepted call has the number 0.
+pub fn number_of(a: Answer) -> u32
+    ensures { λ r. ⌜ r ≡ numberOf a ⌝ }
+{
+    match a {
+        Answer::Done(_, _) => 0,
+        Answer::Refused(why) => refusal_number(why),
+    }
+}
+
+// What an accepted call tells; a refused one reports zeros.
+pub fn first_of(a: Answer) -> usize
+    ensures { λ r. ⌜ r ≡ firstOf a ⌝ }
+{
+    match a {
+        Answer::Done(first, _) => first,
+        Answer::Refused(_) => 0,
+    }
+}
+
+pub fn second_of(a: Answer) -> usize
+    ensures { λ r. ⌜ r ≡ secondOf a ⌝ }
+{
+    match a {
+        Answer::Done(_, second) => second,
+        Answer::Refused(_) => 0,
+    }
+}
+
+// What all calls judge first: TABLE, NUMBER.
+fn judge(table: &[u32], size: usize, number: usize) -> Look
+    ensures { λ r. ⌜ r ≡ lookOf size (now (table .entry)) number ⌝ }
+{
+    if !rows::sane(table, size) {
+        return Look::Stop(Refusal::Table);
+    }
+    if number < 1 {
+        return Look::Stop(Refusal::Number);
+    }
+    if rows::MOST_NUMBER < number {
+        return Look::Stop(Refusal::Number);
+    }
+    let n = rows::wide(table[0]);
+    Look::Found(n, rows::find(table, n, 0, number))
+}
+
+// A greeting written at a place, with its row, i rows standing before it.
+fn place(
+    block: &mut [u8],
+    table: &mut [u32],
+    n: usize,
+    i: usize,
+    at: usize,
+    number: usize,
+    octets: &[u8],
+)
+    requires { ⌜ (n ≡ getD (now table) 0 0) × (n ≤ 31) × (i ≤ n) × (97 ≤ length (now table)) × (number < 2 ^ 32) ⌝ }
+    requires { ⌜ (at + length (now octets) ≤ length (now block)) × (at + length (now octets) < 2 ^ 32) ⌝ }
+    ensures { λ _. ⌜ (now (block .exit) ≡ written (now (block .entry)) at (now (octets .entry))) × (now (table .exit) ≡ laid (insertAt i (rowOf number at (length (now (octets .entry)))) (rowsOf (now (table .entry)))) (now (table .entry))) ⌝ }
+{
+    let len = octets.len();
+    placing::copy(block, at, octets);
+    placing::insert(
+        table,
+        n,
+        i,
+        Row {
+            number: number,
+            start: at,
+            octets: len,
+        },
+    );
+}
+
+// "A put takes the lowest gap that holds it; if none does, all greetings first close up from 0 in their order." Behind them there is room then.
+fn fit(
+    block: &mut [u8],
+    table: &mut [u32],
+    n: usize,
+    size: usize,
+    number: usize,
+    octets: &[u8],
+    behind: usize,
+) -> Answer
+    requires { ⌜ (n ≡ getD (now table) 0 0) × (n ≤ 31) × (number < 2 ^ 32) × (size ≤ length (now block)) × (size < 2 ^ 32) ⌝ }
+    requires { ⌜ Ordered size (now table) × (behind ≡ heldBy (rowsOf (now table))) × (behind + length (now octets) ≤ size) ⌝ }
+    ensures { λ r. ⌜ Says (leaves (fitted (now (block .entry)) (rowsOf (now (table .entry))) size number (now (octets .entry)))) (now (block .entry)) (now (table .entry)) (now (block .exit)) (now (table .exit)) r ⌝ }
+{
+    match rows::lowest_gap(table, n, size, octets.len()) {
+        Gap::At(i, at) => {
+            place(block, table, n, i, at, number, octets);
+            Answer::Done(at, 0)
+        }
+        Gap::Nowhere => {
+            let moved = closing::close_up(block, table, size);
+            place(block, table, n, n, behind, number, octets);
+            Answer::Done(behind, moved)
+        }
+    }
+}
+
+// What is left to judge of a put: TAKEN, BAD, FULL, NOROOM.
+fn put_among(
+    block: &mut [u8],
+    table: &mut [u32],
+    size: usize,
+    n: usize,
+    i: usize,
+    number: usize,
+    octets: &[u8],
+) -> Answer
+    requires { ⌜ Looked size (now table) number n i ⌝ }
+    requires { ⌜ (size ≤ length (now block)) × (size < 2 ^ 32) × (number ≤ 65535) ⌝ }
+    ensures { λ r. ⌜ Says (putIn (now (block .entry)) size (rowsOf (now (table .entry))) number (now (octets .entry))) (now (block .entry)) (now (table .entry)) (now (block .exit)) (now (table .exit)) r ⌝ }
+{
+    if i < n {
+        return Answer::Refused(Refusal::Taken);
+    }
+    if greetings::is_bad(octets) {
+        return Answer::Refused(Refusal::Bad);
+    }
+    if rows::MOST_GREETINGS <= n {
+        return Answer::Refused(Refusal::Full);
+    }
+    let behind = rows::held(table, n, size);
+    if size - behind < octets.len() {
+        return Answer::Refused(Refusal::NoRoom);
+    }
+    fit(block, table, n, size, number, octets, behind)
+}
+
+// "Put": TABLE, NUMBER, TAKEN, BAD, FULL, NOROOM; the start, and the octets moved.
+pub fn put(block: &mut [u8], table: &mut [u32], number: u32, octets: &[u8]) -> Answer
+    ensures { λ r. ⌜ Put number (now (octets .entry)) (now (block .entry)) (now (table .entry)) (now (block .exit)) (now (table .exit)) r ⌝ }
+{
+    let size = rows::size_of(block.len());
+    let x = rows::wide(number);
+    match judge(table, size, x) {
+        Look::Stop(why) => Answer::Refused(why),
+        Look::Found(n, i) => put_among(block, table, size, n, i, x, octets),
+    }
+}
+
+// "Get": TABLE, NUMBER, ABSENT; the start and the octets.
+pub fn get(block: &[u8], table: &[u32], number: u32) -> Answer
+    ensures { λ r. ⌜ Get number (now (block .entry)) (now (table .entry)) r ⌝ }
+{
+    let size = rows::size_of(block.len());
+    match judge(table, size, rows::wide(number)) {
+        Look::Stop(why) => Answer::Refused(why),
+        Look::Found(n, i) => {
+            if n <= i {
+                return Answer::Refused(Refusal::Absent);
+            }
+            let r = rows::row_at(table, 1 + 3 * i);
+            Answer::Done(r.start, r.octets)
+        }
+    }
+}
+
+// "Delete": TABLE, NUMBER, ABSENT.
+pub fn delete(block: &[u8], table: &mut [u32], number: u32) -> Answer
+    ensures { λ r. ⌜ Delete number (now (block .entry)) (now (table .entry)) (now (table .exit)) r ⌝ }
+{
+    let size = rows::size_of(block.len());
+    match judge(table, size, rows::wide(number)) {
+        Look::Stop(why) => Answer::Refused(why),
+        Look::Found(n, i) => {
+            if n <= i {
+                return Answer::Refused(Refusal::Absent);
+            }
+            placing::remove(table, n, i);
+            Answer::Done(0, 0)
+        }
+    }
+}

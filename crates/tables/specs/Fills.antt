@@ -1,0 +1,36 @@
+-- A text that is read into a lent table, in the code's steps.
+use Prim.Native.Nat.{ℕ, _+_, _≤_}
+use mathlib.Core.Path.{_≡_}
+use mathlib.Core.List.{List, [], _∷_, _++_}
+use lib.ListN.{length, take, drop}
+use Rattle.rows.specs.declared.Row.{Row}
+use Rattle.rows.specs.Rows.{rowOf}
+use Rattle.rows.specs.Cells.{laid}
+use Rattle.keyvalue.specs.Reading.{Read, whole, none}
+use Rattle.tables.specs.declared.Line.{Line}
+use Rattle.tables.specs.declared.Line.the-variants.{Here, Nothing}
+use Rattle.tables.specs.declared.Count.{Count}
+use Rattle.tables.specs.declared.Count.the-variants.{Greetings, Wrong}
+
+abbrev pub asRow : Line → Read Row
+asRow (Here number start octets next) = whole (rowOf number start octets) next
+asRow Nothing = none
+
+-- a greeting's three cells, from place k on
+pub record PutsRow (r : Row) (k : ℕ) (cells cells′ : List ℕ) : Type 0 where
+  pub says : take (k + 3) cells′ ≡ take k cells ++ (r .number ∷ r .start ∷ r .octets ∷ [])
+  pub rest : drop (k + 3) cells′ ≡ drop (k + 3) cells
+
+abbrev pub countOf : Read (List Row) → Count
+countOf (whole rows i) = Greetings (length rows)
+countOf none = Wrong
+
+-- greetings that are listed stand in the table; where they are not, it is left in any state
+abbrev pub Filled : Read (List Row) → List ℕ → List ℕ → Type 0
+Filled (whole rows i) cells cells′ = cells′ ≡ laid rows cells
+Filled none cells cells′ = Unit {0}
+
+pub record Fills (found : Read (List Row)) (cells cells′ : List ℕ) (r : Count) : Type 0 where
+  pub count : r ≡ countOf found
+  pub filled : Filled found cells cells′
+  pub few : (n : ℕ) → r ≡ Greetings n → n ≤ 32

@@ -1,0 +1,24 @@
+//! A store's table saved as text, and loaded: document 02, R-6. The header has the text's form.
+
+use crate::raw;
+use crate::store::Refusal;
+
+/// Octets that a saved table has at most.
+pub const MAX_TABLE: usize = 1_216;
+
+/// Writes the table's text at the start of the output; gives its octets.
+pub fn save(block: &[u8], table: &[u32], out: &mut [u8]) -> Result<usize, Refusal> {
+    let mut report = [0];
+    match raw::store_save(block, table, out, &mut report) {
+        0 => Ok(report[0] as usize),
+        ending => Err(Refusal::of(ending)),
+    }
+}
+
+/// Loads a table's text, with its block. Whatever the table held does not matter; only its length does.
+pub fn load(text: &[u8], block: &[u8], table: &mut [u32]) -> Result<(), Refusal> {
+    match raw::store_load(text, block, table) {
+        0 => Ok(()),
+        ending => Err(Refusal::of(ending)),
+    }
+}
