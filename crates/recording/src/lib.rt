@@ -1,0 +1,33 @@
+// Recordings from studios (document 02, R-1): the G.711.0 storage file of RFC 7655, read and written.
+// What each call answers and leaves stands in specs/Calls; the heading and the marks in specs/Remembered.
+ghost use mathlib.Core.Path.{_≡_};
+ghost use Rattle.recording.specs.Calls.{refusalNumber, refusalTool, numberOf, toolNamed};
+
+// HEAD (14), or a refusal of document 01.
+pub enum Refusal {
+    Head,
+    Frame(rules::Refusal),
+}
+
+// How a call ended.
+pub enum Ending {
+    Done,
+    Refused(Refusal),
+}
+
+// Reading a file: its law, its items, the octets after the heading up to its end or the refused item, the samples of its frames, and the
+// refusal's bit.
+pub struct FileRead {
+    pub end: Ending,
+    pub law: u32,
+    pub items: usize,
+    pub octets: usize,
+    pub samples: usize,
+    pub bit: usize,
+}
+
+// Writing a file.
+pub struct FileWritten {
+    pub end: Ending,
+    pub octets: usize,
+}
