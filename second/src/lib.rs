@@ -7,6 +7,7 @@
 //! * [`linear`] turns samples into linear values and back.
 //! * [`settings`] keeps the last eight settings of a box.
 //! * [`mend`] mends a damaged greeting.
+//! * [`recording`] reads and writes the storage file of studios.
 //! * [`store`] keeps greetings in a block and fills its gaps.
 //! * [`why`] says why a frame is written with the tool it is.
 //!
@@ -25,6 +26,7 @@ mod listing;
 pub mod mend;
 mod planes;
 mod read;
+pub mod recording;
 mod refusal;
 mod runs;
 mod s_codes;
