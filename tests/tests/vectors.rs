@@ -12,7 +12,7 @@ const FILES: [&str; 6] =
     ["usual.txt", "unusual.txt", "faulty.txt", "open-points.txt", "windows.txt", "first-octet.txt"];
 
 /// The files that tests of their own run.
-const OTHERS: [&str; 4] = ["settings.txt", "why.txt", "mend.txt", "store.txt"];
+const OTHERS: [&str; 5] = ["settings.txt", "why.txt", "mend.txt", "store.txt", "file.txt"];
 
 fn folder() -> std::path::PathBuf {
     std::path::Path::new(env!("CARGO_MANIFEST_DIR")).join("vectors")
