@@ -23,8 +23,8 @@ help:
 # A recording packed, listed, unpacked and compared. Then M 41 00 56 0F 86, the example of document 01, is listed.
 run:
 	@mkdir -p target
-	@echo 'Proving and building pack, listing, unpack and mend; the first time takes some minutes.'
-	@$(RT) check listing mend pack unpack >target/run-build.log 2>&1 || { tail -n 20 target/run-build.log; exit 1; }
+	@echo 'Proving and building pack, listing, unpack, mend and why; the first time takes some minutes.'
+	@$(RT) check listing mend pack unpack why >target/run-build.log 2>&1 || { tail -n 20 target/run-build.log; exit 1; }
 	@BIN='$(BIN)' RUN_WITH='$(RUN_WITH)' tools/show
 	@printf '%s\n' "$$ printf 'M\101\000\126\017\206' | $(BIN)/listing"
 	@printf 'M\101\000\126\017\206' | $(RUN_WITH) $(BIN)/listing >target/listing-example.txt
