@@ -1,5 +1,5 @@
-//! The bench tools `pack` and `unpack`, run through tools/status, and what they should do, worked out with the second
-//! program.
+//! The bench tools `pack`, `unpack`, `why` and `mend`, run through tools/status, and what they should do, worked out with
+//! the second program.
 
 use crate::program::{built, line, repository, run, words};
 use crate::recordings::{cuts, packed, Packed};
@@ -14,7 +14,7 @@ pub const USAGE: u32 = 64;
 pub const DIFFERS: u32 = 65;
 pub const FILES: u32 = 74;
 
-/// The last line: `stop=N at=P tool=T`, and of `unpack` ` bit=B` behind it.
+/// The last line: `stop=N at=P tool=T`, and of `unpack` and `mend` ` bit=B` behind it.
 #[derive(Clone, Copy, Debug, PartialEq, Eq)]
 pub struct Stop {
     pub number: u32,
@@ -55,7 +55,7 @@ impl Ran {
     pub fn stop(&self) -> Stop {
         let last = self.err.lines().last().unwrap_or("");
         let whole = self.err.ends_with('\n');
-        let has_bit = self.line.starts_with("unpack");
+        let has_bit = ["unpack", "mend"].iter().any(|name| self.line.starts_with(name));
         Stop::of(last, has_bit).filter(|_| whole).unwrap_or_else(|| panic!("{}: no last line\n{}", self.line, self.err))
     }
 
@@ -221,4 +221,62 @@ pub fn verify_wanted(stream: &[u8], law: u32, set: u32, master: &[u8]) -> Stop {
         None if stop.number == 0 && master.len() > sound.len() => Stop::new(DIFFERS, sound.len(), 0),
         None => stop,
     }
+}
+
+/// What `why` should do with a sound: the text, and how it ends.
+pub struct WhyWanted {
+    pub stop: Stop,
+    /// The lines of each frame, `frame=K at=P` first.
+    pub frames: Vec<String>,
+}
+
+/// The frames are those of `pack`, however long the sound is. Octets that no length fits are LENGTH where they begin, after
+/// the lines of the frames before them.
+pub fn why_wanted(sound: &[u8], law: u32, set: u32, length: usize) -> WhyWanted {
+    let (mut at, mut frames) = (0, Vec::new());
+    let (lengths, left) = cuts(sound.len(), length);
+    for (number, cut) in lengths.into_iter().enumerate() {
+        let why = second::why::why(&sound[at..at + cut], law, set).expect("law, set and length are right");
+        let lines = String::from_utf8(second::why::lines(&why)).expect("lines are text");
+        frames.push(format!("frame={number} at={at}\n{lines}"));
+        at += cut;
+    }
+    WhyWanted { stop: Stop::new(if left > 0 { 10 } else { 0 }, at, 0), frames }
+}
+
+/// What `mend` should do with a stream: all that it says, and the file.
+pub struct MendWanted {
+    pub stop: Stop,
+    pub said: String,
+    /// The refusal that the walk of what is kept stopped with, 0 where it came to the end.
+    pub walk: u32,
+    pub result: Vec<u8>,
+}
+
+/// Of a total that is not refused. The walk has as much room as the total.
+pub fn mend_wanted(stream: &[u8], law: u32, total: usize) -> MendWanted {
+    let mut result = vec![0; MOST];
+    let done = second::mend::mend(stream, law, total as u64, &mut result).expect("stream and total are right");
+    result.truncate(done.octets);
+    let walk = Second.walk(stream, law, 127, &mut vec![0; total]);
+    assert_eq!((walk.frames, walk.place), (done.frames_kept, done.octets_kept), "the walk keeps what is kept");
+    let stopped = match walk.ending {
+        0 => String::new(),
+        number => {
+            let name = ENDINGS[number as usize];
+            format!("mend: the walk stopped: {name} at octet {}, bit {}\n", walk.place, walk.bit)
+        }
+    };
+    let said = format!(
+        "{stopped}frames={} kept={} filled={}\nwalk={} at={} tool={} bit={}\nstop=0 at={} tool=0 bit=0\n",
+        done.frames_kept,
+        done.octets_kept,
+        done.samples_filled,
+        walk.ending,
+        walk.place,
+        walk.tool,
+        walk.bit,
+        done.octets
+    );
+    MendWanted { stop: Stop::new(0, done.octets, 0), said, walk: walk.ending, result }
 }
