@@ -8,6 +8,9 @@ const HEADER: &str = "include/g7110.h";
 /// The files of the wrapper, which has each refusal's number and each limit once.
 const WRAPPER: &str = "wrapper/src/";
 
+/// The definitions of calls that the header does not have yet (document 02, R-1).
+const NOT_YET: &str = "crates/recording/";
+
 /// The names of the header with their numbers: the limits, which are defined, and the endings, which are listed.
 fn numbers(files: &Files, start: &str, between: &str) -> BTreeMap<String, u64> {
     let lines = files.text(HEADER).lines().filter_map(|line| line.trim_start().strip_prefix(start));
@@ -23,9 +26,8 @@ fn first_number(text: &str) -> Option<u64> {
 pub fn refusals(files: &Files) -> Held {
     let mut held = Held::new("refusals of the header, by the definitions and the wrapper");
     let mut defined = BTreeMap::from([("OK".to_string(), 0)]);
-    for line in
-        files.under("crates/", ".antt").filter(|(path, _)| path.contains("/specs/")).flat_map(|(_, text)| text.lines())
-    {
+    let specs = files.under("crates/", ".antt").filter(|(path, _)| path.contains("/specs/") && !path.starts_with(NOT_YET));
+    for line in specs.flat_map(|(_, text)| text.lines()) {
         if let Some((name, number)) = numbered(line) {
             defined.insert(name.to_uppercase(), number);
             let told = [format!("::{name} => {number},"), format!("::{name}(_) => {number},")];
