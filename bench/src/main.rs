@@ -6,6 +6,11 @@
 mod by_bits;
 mod calls;
 mod frames;
+mod greetings;
+mod mended;
+#[cfg(feature = "writer")]
+mod reasons;
+mod store;
 mod time;
 
 use frames::{any_octets, by_kind, mixed, recordings, Batch};
@@ -51,10 +56,14 @@ const BESIDE: &str = " by bits, ns |";
 const ALONE: &str = "";
 
 fn head(title: &str, first: &str, unit: &str, last: &str) {
-    println!("\n### {title}\n");
-    println!("| {first} | proved, {unit} | second, {unit} | speed to second | memcpy, {unit} | time to memcpy |{last}");
-    let columns = first.matches('|').count() + 6 + last.matches('|').count();
-    println!("|{}", "---|".repeat(columns));
+    let times = format!("proved, {unit} | second, {unit} | speed to second | memcpy, {unit} | time to memcpy");
+    table(title, &format!("| {first} | {times} |{last}"));
+}
+
+/// A table's title and its columns.
+fn table(title: &str, columns: &str) {
+    let line = "---|".repeat(columns.matches('|').count() - 1);
+    println!("\n### {title}\n\n{columns}\n|{line}");
 }
 
 fn written(batch: &Batch) -> Vec<Vec<u8>> {
@@ -203,11 +212,13 @@ fn growth(name: &str, frame: &[u8]) {
     }
 }
 
-fn main() {
-    println!("Best of several turns; ns a frame. Speed to second: the second program's time over the proved code's.");
-    let mut batches = by_kind(&LENGTHS);
-    batches.push(mixed());
-    batches.extend(recordings());
+/// Frames of every kind and of these lengths, mixed ones and recordings.
+fn all_batches(lengths: &[usize]) -> Vec<Batch> {
+    by_kind(lengths).into_iter().chain([mixed()]).chain(recordings()).collect()
+}
+
+fn frame_tables() {
+    let batches = all_batches(&LENGTHS);
     head("Reading one frame", "kind | samples", "ns", BESIDE);
     batches.iter().for_each(reading);
     head("Writing one frame", "kind | samples", "ns", ALONE);
@@ -218,9 +229,34 @@ fn main() {
     growth("pads", &[0x00]);
     growth("plus zeros, 40", &[0x41]);
     growth("the longest frames", &longest());
+}
+
+fn linear_tables() {
     let batches = any_octets(&LENGTHS);
     head("Samples to linear values, a frame", "law | samples", "ns", ALONE);
     batches.iter().for_each(expanding);
     head("Linear values to samples, a frame", "law | samples", "ns", ALONE);
     batches.iter().for_each(compressing);
+}
+
+/// The parts of a run: those named on the command line, or all.
+const PARTS: &[(&str, fn())] = &[
+    ("frames", frame_tables),
+    ("linear", linear_tables),
+    ("store", store::tables),
+    ("mend", mended::tables),
+    #[cfg(feature = "writer")]
+    ("why", reasons::tables),
+];
+
+fn main() {
+    let asked: Vec<String> = std::env::args().skip(1).collect();
+    if let Some(word) = asked.iter().find(|word| PARTS.iter().all(|(name, _)| name != word)) {
+        eprintln!("There is no part {word}: frames, linear, store, mend, why.");
+        std::process::exit(1);
+    }
+    println!("Best of several turns; ns a frame. Speed to second: the second program's time over the proved code's.");
+    for (_, tables) in PARTS.iter().filter(|(name, _)| asked.is_empty() || asked.iter().any(|word| word == name)) {
+        tables();
+    }
 }

@@ -1,0 +1,253 @@
+//! The greeting store (R-6): puts beside the walk over the same octets, closing up beside memmove, then the short calls.
+//!
+//! A call that changes the table finds it as it was each time: 97 cells are copied back, and that is in the time.
+
+use crate::calls;
+use crate::greetings::{greetings, head, row, Greeting, BLOCK};
+use crate::table;
+use crate::time::best;
+use second::store::{Greeting as Row, Store};
+use std::hint::black_box;
+
+/// The number that is put and got.
+const NUMBER: u32 = 40_000;
+
+/// The same store in the proved code's form and in the second program's.
+#[derive(Clone)]
+struct Both {
+    block: Vec<u8>,
+    table: Vec<u32>,
+    second: Store,
+}
+
+impl Both {
+    fn fresh() -> Both {
+        Both { block: vec![0; BLOCK], table: vec![0; g7110::store::cells(BLOCK)], second: Store::fresh(vec![0; BLOCK]) }
+    }
+
+    /// The octets that moved.
+    fn put(&mut self, number: u32, octets: &[u8]) -> usize {
+        let put = g7110::store::put(&mut self.block, &mut self.table, number, octets).expect("there is room");
+        let other = self.second.put(number, octets).expect("there is room");
+        assert_eq!((put.start, put.moved), (other.start, other.moved));
+        put.moved
+    }
+
+    fn delete(&mut self, number: u32) {
+        g7110::store::delete(&self.block, &mut self.table, number).expect("it is there");
+        self.second.delete(number).expect("it is there");
+    }
+
+    /// The same greeting so many times, numbered from 1.
+    fn fill(&mut self, count: u32, octets: &[u8]) {
+        (1..=count).for_each(|number| {
+            self.put(number, octets);
+        });
+    }
+}
+
+/// The proved code's store, put back before each call.
+struct Proved {
+    block: Vec<u8>,
+    before: Vec<u32>,
+    table: Vec<u32>,
+}
+
+impl Proved {
+    fn of(both: &Both) -> Proved {
+        Proved { block: both.block.clone(), before: both.table.clone(), table: both.table.clone() }
+    }
+
+    fn put(&mut self, octets: &[u8]) {
+        self.table.copy_from_slice(black_box(&self.before));
+        black_box(calls::proved_put(&mut self.block, &mut self.table, NUMBER, black_box(octets)));
+    }
+
+    fn delete(&mut self, number: u32) {
+        self.table.copy_from_slice(black_box(&self.before));
+        black_box(calls::proved_delete(&self.block, &mut self.table, number));
+    }
+}
+
+/// The second program's, put back in the same way.
+struct Model {
+    store: Store,
+    before: Vec<Row>,
+}
+
+impl Model {
+    fn of(both: &Both) -> Model {
+        Model { store: both.second.clone(), before: both.second.greetings.clone() }
+    }
+
+    fn put(&mut self, octets: &[u8]) {
+        self.store.greetings.clone_from(black_box(&self.before));
+        black_box(calls::second_put(&mut self.store, NUMBER, black_box(octets)));
+    }
+
+    fn delete(&mut self, number: u32) {
+        self.store.greetings.clone_from(black_box(&self.before));
+        black_box(calls::second_delete(&mut self.store, number));
+    }
+}
+
+/// A put that moves nothing, beside the walk over the same octets.
+fn putting(both: &Both, Greeting { name, law, octets, samples }: &Greeting) {
+    assert_eq!(both.clone().put(NUMBER, octets), 0);
+    let (mut proved, mut model) = (Proved::of(both), Model::of(both));
+    let mut out = vec![0; samples + 320];
+    let times = best([
+        &mut || proved.put(octets),
+        &mut || {
+            black_box(calls::proved_walk(black_box(octets), *law, crate::SET, &mut out));
+        },
+        &mut || model.put(octets),
+    ]);
+    row(name, octets.len(), times, "0.9");
+}
+
+/// A block that is full but for a gap before so many greetings and one behind them, both of one octet less than a put needs.
+fn apart(count: u32, gap: usize) -> Both {
+    let mut both = Both::fresh();
+    both.put(NUMBER, &vec![0; gap]);
+    let rest = BLOCK - 2 * gap;
+    both.fill(count - 1, &vec![0; rest / count as usize]);
+    both.put(count, &vec![0; rest - rest / count as usize * (count as usize - 1)]);
+    both.delete(NUMBER);
+    both
+}
+
+/// A put that closes up, less the same put behind greetings that are together already; beside memmove of the octets.
+fn closing_up(count: u32, octets: &[u8]) {
+    let gap = octets.len() - 1;
+    let apart = apart(count, gap);
+    let mut together = apart.clone();
+    let moved = together.put(NUMBER, octets);
+    assert_eq!(moved, BLOCK - 2 * gap);
+    together.delete(NUMBER);
+    let (mut one, mut other) = (Proved::of(&apart), Proved::of(&together));
+    let (mut third, mut fourth) = (Model::of(&apart), Model::of(&together));
+    let mut block = apart.block.clone();
+    let times = best([
+        &mut || one.put(octets),
+        &mut || other.put(octets),
+        &mut || {
+            block.copy_within(black_box(gap)..black_box(gap + moved), 0);
+            black_box(&mut block);
+        },
+        &mut || third.put(octets),
+        &mut || fourth.put(octets),
+    ]);
+    let [put, placed, moving, second, second_placed] = times;
+    let closing = put - placed;
+    print!("| {count} | {gap} | {moved} | {put:.0} | {closing:.0} | {moving:.0} | {:.2} | 0.5 |", moving / closing);
+    println!(" {:.0} | {:.2} |", second - second_placed, (second - second_placed) / closing);
+}
+
+/// A row of a short call: nanoseconds of each.
+fn short(name: &str, [proved, second]: [f64; 2], wanted: &str) {
+    println!("| {name} | {proved:.0} | {wanted} | {second:.0} | {:.2} |", second / proved);
+}
+
+fn getting(name: &str, both: &Both, number: u32) {
+    let times = best([
+        &mut || {
+            black_box(calls::proved_get(&both.block, black_box(&both.table), number));
+        },
+        &mut || {
+            black_box(calls::second_get(black_box(&both.second), number));
+        },
+    ]);
+    short(&format!("get, {name}"), times, "below 1,000");
+}
+
+fn deleting(name: &str, both: &Both, number: u32) {
+    let (mut proved, mut model) = (Proved::of(both), Model::of(both));
+    let times = best([&mut || proved.delete(number), &mut || model.delete(number)]);
+    short(&format!("delete, {name}"), times, "below 1,000");
+}
+
+fn saving(both: &Both) {
+    let mut outs = [[0; g7110::saved::MAX_TABLE]; 2];
+    let [one, other] = outs.each_mut();
+    let times = best([
+        &mut || {
+            black_box(calls::proved_save(&both.block, black_box(&both.table), one));
+        },
+        &mut || {
+            black_box(calls::second_save(black_box(&both.second), other));
+        },
+    ]);
+    short("save", times, "-");
+}
+
+/// Loading walks each greeting: the walk over them all stands beside it. The second program's block is copied.
+fn loading(greeting: &Greeting) {
+    let mut both = Both::fresh();
+    both.fill(32, &greeting.octets);
+    let (text, held) = (both.second.text(), both.second.held());
+    let mut out = vec![0; 32 * greeting.samples + 320];
+    assert_eq!(g7110::saved::load(&text, &both.block, &mut both.table), Ok(()));
+    let times = best([
+        &mut || {
+            black_box(calls::proved_load(black_box(&text), &both.block, &mut both.table));
+        },
+        &mut || {
+            black_box(calls::proved_walk(black_box(&both.block[..held]), greeting.law, crate::SET, &mut out));
+        },
+        &mut || {
+            black_box(calls::second_load(black_box(&text), &both.block));
+        },
+    ]);
+    row(&greeting.name, held, times, "-");
+}
+
+fn puts() {
+    head("The store: a put that moves nothing, beside the walk over the same octets", "put");
+    greetings(BLOCK).iter().for_each(|greeting| putting(&Both::fresh(), greeting));
+    head("The store: such a put of at most 512 octets, behind 31 others", "put");
+    let mut others = Both::fresh();
+    others.fill(31, &[0; 512]);
+    greetings(512).iter().for_each(|greeting| putting(&others, greeting));
+}
+
+/// What is put: an uncompressed frame of so many samples, then pads.
+fn uncompressed(samples: usize, octets: usize) -> Vec<u8> {
+    let mut form = vec![0; octets];
+    let samples: Vec<u8> = (0..samples).map(|place| place as u8).collect();
+    assert_eq!(second::write_frame(&samples, 1, crate::SET, &mut form).octets, samples.len() + 1);
+    form
+}
+
+/// Moved by 1, by 256 so that 31 greetings have 512 octets each, and by 320.
+fn closings() {
+    table(
+        "The store: closing up, beside memmove of the octets moved",
+        "| greetings | moved by | octets moved | the whole put, ns | closing up, ns | memmove, ns | speed to memmove \
+         | wanted | second, ns | speed to second |",
+    );
+    for count in [1, 8, 31] {
+        closing_up(count, &[0, 0]);
+        closing_up(count, &uncompressed(240, 257));
+        closing_up(count, &uncompressed(320, 321));
+    }
+}
+
+pub fn tables() {
+    puts();
+    closings();
+    table(
+        "The store: short calls at 32 greetings of 512 octets",
+        "| call | proved, ns | wanted | second, ns | speed to second |",
+    );
+    let mut full = Both::fresh();
+    full.fill(32, &[0; 512]);
+    getting("first", &full, 1);
+    getting("last", &full, 32);
+    getting("absent", &full, NUMBER);
+    deleting("first", &full, 1);
+    deleting("last", &full, 32);
+    saving(&full);
+    head("The store: loading 32 greetings of at most 512 octets, beside the walk over them", "load");
+    greetings(512).iter().for_each(loading);
+}
