@@ -87,7 +87,11 @@ finished-requires : tie.Need-finished-requires
 finished-requires c κs = within (c .before .before .before) (c .before .bits .given .1)
 
 returns-3 : tie.Need-returns-3
-returns-3 c = fills-none (no-body _ _ _ _ _ _ _ _ (held (c .before .before .before .before .before .before .before .before .before)) (omega arith) (body-refused (fills (c .before .before .before .before)) (c .before .before .why .given .1))) refl (body-length (fills (c .before .before .before .before)) (c .before .before .before .before .before .before .before .before .before .before .before .before .pre .2)) (c .refused3 .ensures)
+returns-3 c =
+    let read = c .before .before .before .before in
+    let room = read .before .before .before .before .before in
+    fills-none (no-body _ _ _ _ _ _ _ _ (held room) (omega arith) (body-refused (fills read) (c .before .before .why .given .1))) refl
+    (body-length (fills read) (room .before .before .before .pre .2)) (c .refused3 .ensures)
 
 returns-4 : tie.Need-returns-4
 returns-4 c =

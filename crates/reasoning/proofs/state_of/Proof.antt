@@ -31,7 +31,12 @@ cast-t10 : tie.Need-cast-t10
 cast-t10 c = search needs
 
 returns-3 : tie.Need-returns-3
-returns-3 c = state-fits _ _ _ _ (some (c .before .before .before .before .before .before .before)) (c .before .before .before .offer-of .result) (sym (c .before .before .before .before .before .holds .ensures) ∙ not-false (c .before .before .before .before .before .holds .result) (c .before .before .before .before .if1 .left)) (c .before .before .before .offer-of .ensures) (c .before .if2 .left) (c .octets-for .ensures)
+returns-3 c =
+    let offer = c .before .before .before in
+    let held = offer .before .before in
+    state-fits _ _ _ _ (some (held .before .before)) (offer .offer-of .result)
+    (sym (held .holds .ensures) ∙ not-false (held .holds .result) (offer .before .if1 .left))
+    (offer .offer-of .ensures) (c .before .if2 .left) (c .octets-for .ensures)
 
 pub state-of-spec : {M : Type 1} → statement M
 state-of-spec =

@@ -45,7 +45,11 @@ returns c =
     let p = c .before .before .before .before .before .before .before .before .before .before .before .before .before .before .before .before .before .before .before .before .before .before .before .before .before .before .put-short .ensures in
     let s = c .before .before .before .before .before .before .before .before .before .before .before .before .put-short2 .ensures in
     let t = c .before .before .before .before .before .before .before .put-short3 .ensures in
-    fields-put _ _ _ _ (p .0) (c .before .before .before .before .before .before .before .before .before .before .before .before .before .before .before .before .before .before .before .before .before .put-word .ensures) (c .before .before .before .before .before .before .before .before .before .before .before .before .before .before .before .before .before .put-word2 .ensures) (s .0) (t .0) (c .before .before .put-word3 .ensures) (c .before .before .before .before .before .before .before .before .before .before .before .before .before .before .before .before .before .before .before .before .before .before .before .before .before .before .before .before .before .before .before .pre .0) (p .1) (s .1) (t .1)
+    let ended = c .before .before in
+    let word = ended .before .before .before .before .before .before .before .before .before .before .before .before .before .before .before in
+    let state = word .before .before .before .before in
+    let start = state .before .before .before .before .before .before .before .before .before .before in
+    fields-put _ _ _ _ (p .0) (state .put-word .ensures) (word .put-word2 .ensures) (s .0) (t .0) (ended .put-word3 .ensures) (start .pre .0) (p .1) (s .1) (t .1)
 
 pub put-fields-spec : {M : Type 1} → statement M
 put-fields-spec =

@@ -20,7 +20,14 @@ same-length : tie.Need-same-length
 same-length c = search needs
 
 returns : tie.Need-returns
-returns c = (puts-then (c .before .before .before .before .before .before .before .before .before .before .before .before .before .before .put-tool .ensures .0) (puts-then (c .before .before .before .before .before .before .before .before .before .before .put-tool2 .ensures .0) (puts-then (c .before .before .before .before .before .before .put-tool3 .ensures .0) (c .before .before .put-tool4 .ensures .0))), omega arith)
+returns c =
+    let fourth = c .before .before in
+    let third = fourth .before .before .before .before in
+    let second = third .before .before .before .before in
+    let first = second .before .before .before .before in (
+      puts-then (first .put-tool .ensures .0) (puts-then (second .put-tool2 .ensures .0) (puts-then (third .put-tool3 .ensures .0) (fourth .put-tool4 .ensures .0))),
+      omega arith,
+    )
 
 pub put-first-spec : {M : Type 1} → statement M
 put-first-spec =

@@ -29,7 +29,14 @@ same-length : tie.Need-same-length
 same-length c = search needs
 
 returns : tie.Need-returns
-returns c = (winner-put _ _ (c .before .before .before .before .before .before .before .before .before .before .before .before .before .before .before .before .put-short .ensures .0) (c .before .before .before .before .before .before .before .before .before .before .before .put-word .ensures) (c .before .before .before .before .before .before .before .put-by .ensures .0) (c .before .before .put-word2 .ensures), omega (arith, c .before .before .put-word2 .ensures .place))
+returns c =
+    let ended = c .before .before in
+    let by = ended .before .before .before .before .before in
+    let word = by .before .before .before .before in
+    let winner = word .before .before .before .before .before in (
+      winner-put _ _ (winner .put-short .ensures .0) (word .put-word .ensures) (by .put-by .ensures .0) (ended .put-word2 .ensures),
+      omega (arith, ended .put-word2 .ensures .place),
+    )
 
 pub put-winner-spec : {M : Type 1} → statement M
 put-winner-spec =

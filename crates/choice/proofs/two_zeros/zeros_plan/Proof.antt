@@ -79,8 +79,16 @@ returns-2 c =
     let s = c .before .before .before .before .before .before .before .before .before .before .before .before in
     let l = take (s .args .n) (s .args .samples .now) in
     let size = length-take-le (s .args .n) (s .args .samples .now) (s .pre .0 .0 .long) in
-    let m = counted l (c .before .before .before .before .before .before .before .before .before .count-of .ensures .0) (c .before .before .before .before .before .before .before .before .before .before .minus-zero .ensures) in
-    zeros-as (s .pre .1 .0 .0 .later) (zeros-planned (mask-seven _ (s .pre .0 .1)) (s .pre .1 .0 .1) size (s .pre .0 .0 .few) (c .before .before .before .before .before .rice-of .ensures l (record { size = size; zeros = s .pre .1 .0 .1; plus = plus-left (s .args .mask) l (s .pre .1 .0 .1) size m; minus = m; row = s .pre .1 .1 .0 })) (c .before .before .before .before .uncompressed-of .ensures) (c .before .before .before .holds .ensures) (c .before .before .better .ensures) (c .before .holds2 .ensures) (c .better2 .ensures))
+    let six = c .before .before in
+    let plain = six .before .before in
+    let rice = plain .before in
+    let counting = rice .before .before .before .before in
+    let m = counted l (counting .count-of .ensures .0) (counting .before .minus-zero .ensures) in
+    let zeros = s .pre .1 .0 .1 in
+    zeros-as (s .pre .1 .0 .0 .later)
+    (zeros-planned (mask-seven _ (s .pre .0 .1)) zeros size (s .pre .0 .0 .few)
+    (rice .rice-of .ensures l (record { size = size; zeros = zeros; plus = plus-left (s .args .mask) l zeros size m; minus = m; row = s .pre .1 .1 .0 }))
+    (plain .uncompressed-of .ensures) (six .before .holds .ensures) (six .better .ensures) (c .before .holds2 .ensures) (c .better2 .ensures))
 
 pub zeros-plan-spec : {M : Type 1} → statement M
 zeros-plan-spec =
