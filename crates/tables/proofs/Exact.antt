@@ -21,18 +21,18 @@ pub record Sayable (r : Row) : Type 0 where
   pub start : r .start ≤ 65535
   pub octets : r .octets ≤ 65535
 
-abbrev pub Each : (Row → Type 0) → List Row → Type 0
+abbrev pub Each : {A : Type 0} → (A → Type 0) → List A → Type 0
 Each p [] = Unit {0}
-Each p (r ∷ rows) = p r × Each p rows
+Each p (x ∷ xs) = p x × Each p xs
 
-row-back : (r : Row) → Sayable r → Back row (rowText r) r
+pub row-back : (r : Row) → Sayable r → Back row (rowText r) r
 unfolding row rowText
 row-back r h =
     back-bind (ranged promptWord 1 65535) _ (back-ranged promptWord 1 65535 (r .number) (omega (arith, h .most)) (h .least) (h .most))
     (back-bind (ranged startWord 0 65535) _ (back-ranged startWord 0 65535 (r .start) (omega (arith, h .start)) (omega arith) (h .start))
     (back-last (ranged octetsWord 0 65535) _ (back-ranged octetsWord 0 65535 (r .octets) (omega (arith, h .octets)) (omega arith) (h .octets))))
 
-row-some : (r : Row) (rest : List ℕ) → 1 ≤ length (rowText r ++ rest)
+pub row-some : (r : Row) (rest : List ℕ) → 1 ≤ length (rowText r ++ rest)
 unfolding rowText lineOf
 row-some r rest = omega arith
 
