@@ -8,6 +8,7 @@ use lib.Seq.{drop-drop}
 use Rattle.rules.specs.Listing.{decimal, lawWord, samplesWord}
 use Rattle.rules.proofs.Lent.{from-on}
 use Rattle.rows.specs.declared.Row.{Row}
+use Rattle.rows.specs.Rows.{held}
 use Rattle.rows.specs.Cells.{rowAt, rowsAt}
 use Rattle.rows.proofs.Left.{left, left-all, left-none, left-step}
 use Rattle.marks.specs.Marks.{Mark, Note, markOf}
@@ -130,7 +131,7 @@ pub within-first : (hs ms : List ℕ) (n : ℕ) → 2 * marksHeld (rowsAt hs n 1
 within-first hs ms n h = record { says = omega (arith, ap marksHeld (left-all hs n)) }
 
 within-step : (hs : List ℕ) (n i : ℕ) → i < n → marksHeld (left hs n i) ≡ getD hs (1 + 3 * i + 2) 0 + marksHeld (left hs n (i + 1))
-unfolding marksHeld
+unfolding held
 within-step hs n i h = rw (left-step hs n i refl h)
 
 module _ {hs ms : List ℕ} {n p i : ℕ} (w : Within hs ms n p i) (h : i < n) where

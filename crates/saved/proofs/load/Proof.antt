@@ -1,46 +1,125 @@
--- What is judged, and then taken (Loading).
-use mathlib.Core.Path.{_≡_, sym, ap, _∙_}
+-- R-6's lines, or R-8's (Loading).
+use mathlib.Core.Path.{_≡_, refl, sym, ap, _∙_}
 use native.Mathlib.Omega.{arith}
-use Rattle.saved.proofs.Loading.{load-short, load-stop, load-fine}
+use Rattle.rows.specs.Limits.{sizeOf}
+use Rattle.saved.proofs.Judging.{celled-fine}
+use Rattle.saved.proofs.Loading.{rows-as, celled-early, all-notes, load-short, load-later, load-stop, load-fine}
 use borrow.Author.Needs.{needs}
 use Rattle.saved.proofs.load.Statement.{statement}
 use Rattle.saved.proofs.load.Tie as tie
 
+size-of-requires : tie.Need-size-of-requires
+size-of-requires c κs = search needs
+
+store-cells-requires : tie.Need-store-cells-requires
+store-cells-requires c κs = search needs
+
 returns : tie.Need-returns
-returns c = load-short _ _ _ (omega arith)
+returns c =
+    let a = c .before .before .before .before .before .before .args in load-short (a .text .now) (a .block .now) (a .table .now) (c .before .before .size-of .ensures) (c .before .store-cells .ensures) (omega arith)
 
-judge-requires : tie.Need-judge-requires
-judge-requires c κs = search needs
-
-enum-known-why : tie.Need-enum-known-why
-enum-known-why c = search needs
-
-enum-told : tie.Need-enum-told
-enum-told c = search needs
+slice-aggregate-read-rows : tie.Need-slice-aggregate-read-rows
+slice-aggregate-read-rows c = search needs
 
 read-rows-requires : tie.Need-read-rows-requires
 read-rows-requires c κs = search needs
 
-returns-2 : tie.Need-returns-2
-returns-2 c = load-stop _ _ _ (omega arith) (sym (c .before .why .given .1) ∙ c .before .before .before .judge .ensures)
+enum-told : tie.Need-enum-told
+enum-told c = search needs
+
+load-noted-requires : tie.Need-load-noted-requires
+load-noted-requires c κs =
+    (c .before .before .before .before .before .before .before .before .size-of .ensures, omega (arith, c .before .before .before .before .before .before .before .store-cells .ensures))
+
+enum-known-n : tie.Need-enum-known-n
+enum-known-n c = search needs
+
+slice-aggregate-judge-rows : tie.Need-slice-aggregate-judge-rows
+slice-aggregate-judge-rows c = search needs
+
+slice-aggregate-judge-rows-2 : tie.Need-slice-aggregate-judge-rows-2
+slice-aggregate-judge-rows-2 c = search needs
+
+judge-rows-requires : tie.Need-judge-rows-requires
+judge-rows-requires c κs =
+    let f = c .before .before .before .before .before .before .read-rows .ensures .few _ (c .before .before .before .n .given .1) in (omega arith, omega arith, omega arith)
+
+enum-known-why : tie.Need-enum-known-why
+enum-known-why c = search needs
+
+enum-told-2 : tie.Need-enum-told-2
+enum-told-2 c = search needs
+
+read-rows-requires-2 : tie.Need-read-rows-requires-2
+read-rows-requires-2 c κs =
+    omega (arith, c .before .before .before .before .before .before .before .before .before .before .before .before .before .store-cells .ensures)
+
+slice-aggregate-store-notes : tie.Need-slice-aggregate-store-notes
+slice-aggregate-store-notes c = search needs
+
+slice-aggregate-store-notes-2 : tie.Need-slice-aggregate-store-notes-2
+slice-aggregate-store-notes-2 c = search needs
+
+store-notes-requires : tie.Need-store-notes-requires
+store-notes-requires c κs =
+    let b = c .before .before .before .before .before .before .before .before .before .before .before .before .before .before .before .before .before .before .before .before .before .before .before .before .args .block .now in
+    let e = celled-early b _ (rows-as (c .before .before .before .before .before .before .before .before .before .before .before .before .before .n .given .1) (c .before .before .before .before .before .before .before .before .before .before .before .before .before .before .before .before .read-rows .ensures)) (omega arith) in
+    let p = celled-fine (e .celled) b (sizeOf b) (sym (c .before .before .before .before .before .before .before .enum-told2 .given .1) ∙ c .before .before .before .before .before .before .before .before .before .judge-rows .ensures) in
+    let z = c .before .before .before .before .before .before .before .before .before .before .before .before .before .before .before .before .before .before .before .before .size-of .ensures in
+    all-notes (e .celled) p z z (omega (arith, c .before .before .before .before .before .read-rows2 .kept .1 .0, c .before .before .before .before .before .before .before .before .before .before .before .before .before .before .before .before .before .before .before .store-cells .ensures))
 
 same-length : tie.Need-same-length
 same-length c = search needs
 
+returns-2 : tie.Need-returns-2
+returns-2 c =
+    let a = c .before .before .before .before .before .before .before .before .before .before .before .before .before .before .before .args in
+    load-later (a .text .now) (a .block .now) (a .table .now) (c .before .before .before .before .before .before .before .before .before .before .before .size-of .ensures) (c .before .before .before .before .before .before .before .before .before .before .store-cells .ensures) (omega arith)
+    (rows-as (c .before .before .before .before .enum-told .given .1) (c .before .before .before .before .before .before .before .read-rows .ensures)) (c .before .before .load-noted .ensures)
+
 returns-3 : tie.Need-returns-3
 returns-3 c =
-    let t = c .before .before .before .before in
-    load-fine _ _ _ (omega arith) (sym (t .enum-told .given .1) ∙ t .before .before .judge .ensures) (c .before .before .read-rows .ensures)
+    let b = c .before .before .before .before .before .before .before .before .before .before .before .before .before .before .before .before .before .before .args .block .now in
+    let e = celled-early b _ (rows-as (c .before .before .before .before .before .before .before .n .given .1) (c .before .before .before .before .before .before .before .before .before .before .read-rows .ensures)) (omega arith) in
+    let a = c .before .before .before .before .before .before .before .before .before .before .before .before .before .before .before .before .before .before .args in
+    load-stop (a .text .now) (a .block .now) (a .table .now) (c .before .before .before .before .before .before .before .before .before .before .before .before .before .before .size-of .ensures) (c .before .before .before .before .before .before .before .before .before .before .before .before .before .store-cells .ensures) (omega arith) e
+    (sym (c .before .why .given .1) ∙ c .before .before .before .judge-rows .ensures)
+
+same-length-2 : tie.Need-same-length-2
+same-length-2 c = search needs
+
+returns-4 : tie.Need-returns-4
+returns-4 c =
+    let b = c .before .before .before .before .before .before .before .before .before .before .before .before .before .before .before .before .before .before .before .before .before .before .before .before .before .before .before .args .block .now in
+    let e = celled-early b _ (rows-as (c .before .before .before .before .before .before .before .before .before .before .before .before .before .before .before .before .n .given .1) (c .before .before .before .before .before .before .before .before .before .before .before .before .before .before .before .before .before .before .before .read-rows .ensures)) (omega arith) in
+    let f = sym (c .before .before .before .before .before .before .before .before .before .before .enum-told2 .given .1) ∙ c .before .before .before .before .before .before .before .before .before .before .before .before .judge-rows .ensures in
+    let a = c .before .before .before .before .before .before .before .before .before .before .before .before .before .before .before .before .before .before .before .before .before .before .before .before .before .before .before .args in
+    load-fine (a .text .now) (a .block .now) (a .table .now) (c .before .before .before .before .before .before .before .before .before .before .before .before .before .before .before .before .before .before .before .before .before .before .before .size-of .ensures) (c .before .before .before .before .before .before .before .before .before .before .before .before .before .before .before .before .before .before .before .before .before .before .store-cells .ensures) (omega arith) e f
+    (c .before .before .before .before .before .before .before .before .read-rows2 .ensures) (c .before .before .store-notes .ensures)
 
 pub load-spec : {M : Type 1} → statement M
 load-spec =
     tie.close
     (tie.spec
+    size-of-requires
+    store-cells-requires
     returns
-    judge-requires
-    enum-known-why
-    enum-told
+    slice-aggregate-read-rows
     read-rows-requires
-    returns-2
+    enum-told
+    load-noted-requires
+    enum-known-n
+    slice-aggregate-judge-rows
+    slice-aggregate-judge-rows-2
+    judge-rows-requires
+    enum-known-why
+    enum-told-2
+    read-rows-requires-2
+    slice-aggregate-store-notes
+    slice-aggregate-store-notes-2
+    store-notes-requires
     same-length
-    returns-3)
+    returns-2
+    returns-3
+    same-length-2
+    returns-4)
