@@ -37,7 +37,8 @@ record After (done all : List Mark) (text : List ℕ) (i j : ℕ) : Type 0 where
   parts : all ≡ done ++ new
   same : (ms : List Mark) → nextOf (marksAre ms text i) ≡ to (sameMarks new ms) j
 
-no-more : {done all : List Mark} {text : List ℕ} {i j : ℕ} → begins markWord (drop i text) ≡ false → whole done i ≡ whole all j → After done all text i j
+no-more : {done all : List Mark} {text : List ℕ} {i j : ℕ} → begins markWord (drop i text) ≡ false → whole done i ≡ whole all j
+    → After done all text i j
 unfolding marksAre sameMarks markLine
 no-more {done} {all} {text} {i} {j} h e = record { new = []; parts = sym (got-value e) ∙ sym (append-nil done); same = go }
   where
@@ -72,7 +73,8 @@ marks-after (suc more) done text i all j h e =
   where
     go : (t : Bool) → begins markWord (drop i text) ≡ t
         → cond t (andThen (markLine text i) (λ m j. markLinesFrom more (done ++ (m ∷ [])) text j)) (whole done i) ≡ whole all j
-        → ((q : Mark) (k : ℕ) → length text < k + more → markLinesFrom more (done ++ (q ∷ [])) text k ≡ whole all j → After (done ++ (q ∷ [])) all text k j)
+        → ((q : Mark) (k : ℕ) → length text < k + more → markLinesFrom more (done ++ (q ∷ [])) text k ≡ whole all j
+        → After (done ++ (q ∷ [])) all text k j)
         → After done all text i j
     go true p e ih =
         let m = through (markLine text i) _ e in
@@ -88,7 +90,8 @@ marks-compared text i all ms j e =
     rw (a .parts) (a .same ms)
 
 -- samples, then marks
-samples-compared : (text : List ℕ) (i : ℕ) (g : Note) (s p : ℕ) (ms : List Mark) (j : ℕ) → line samplesWord text i ≡ whole s p → markLines text p ≡ whole ms j
+samples-compared : (text : List ℕ) (i : ℕ) (g : Note) (s p : ℕ) (ms : List Mark) (j : ℕ) → line samplesWord text i ≡ whole s p
+    → markLines text p ≡ whole ms j
     → nextOf (noteIs (g .samples) (g .marks) text i) ≡ to (eqb s (g .samples) && sameMarks ms (g .marks)) j
 unfolding noteIs
 samples-compared text i g s p ms j e f =
@@ -147,7 +150,8 @@ pub record Comparing (text b : List ℕ) (size left at : ℕ) (answer : Bool) : 
   pub fine : anyBad b new ≡ false
   pub all : allTrue b new ≡ answer
 
-pub comparing-first : {text b : List ℕ} {size n : ℕ} → Sound b size n (listedIn text) → Comparing text b size (n - 0) 0 (allTrue b (greetingsOf (listedIn text)))
+pub comparing-first : {text b : List ℕ} {size n : ℕ} → Sound b size n (listedIn text)
+    → Comparing text b size (n - 0) 0 (allTrue b (greetingsOf (listedIn text)))
 comparing-first {text} {b} {size} {n} s = go (listedIn text) refl s
   where
     go : (r : Read (List Listed)) → listedIn text ≡ r → Sound b size n r → Comparing text b size (n - 0) 0 (allTrue b (greetingsOf r))
@@ -176,7 +180,8 @@ record Turn (text : List ℕ) (at : ℕ) (new : List Listed) (end : ℕ) : Type 
 no-turn : {A : Type 0} {xs : List Listed} {at end n : ℕ} → whole [] at ≡ whole xs end → length xs ≡ suc n → A
 no-turn {A} {xs} e l = let z : [] ≡ xs = got-value e in let m = ap length z in absurd (omega arith)
 
-turn : (more : ℕ) (text : List ℕ) (at : ℕ) (new : List Listed) (end n : ℕ) → listedFrom more [] text at ≡ whole new end → length new ≡ suc n → Turn text at new end
+turn : (more : ℕ) (text : List ℕ) (at : ℕ) (new : List Listed) (end n : ℕ) → listedFrom more [] text at ≡ whole new end → length new ≡ suc n
+    → Turn text at new end
 unfolding listedFrom
 turn zero text at new end n e l = go (leb (length text) at) e
   where
@@ -185,7 +190,8 @@ turn zero text at new end n e l = go (leb (length text) at) e
     go false e = let z : _≡_ {A = ℕ} 0 1 = cc in absurd (omega arith)
 turn (suc more) text at new end n e l = go (leb (length text) at) e
   where
-    last : (x : Listed) (j : ℕ) → listed text at ≡ whole x j → (r : Read (List Listed)) → listedFrom more [] text j ≡ r → before (x ∷ []) r ≡ whole new end
+    last : (x : Listed) (j : ℕ) → listed text at ≡ whole x j → (r : Read (List Listed)) → listedFrom more [] text j ≡ r
+        → before (x ∷ []) r ≡ whole new end
         → Turn text at new end
     last x j h (whole rest i) f g =
         record { more = more; x = x; rest = rest; next = j; parts = sym (got-value g); here = h; reads = f ∙ ap (whole rest) (got-place g) }
@@ -250,7 +256,8 @@ module _ {text b : List ℕ} {size left at : ℕ} {answer : Bool} {n : ℕ} (s :
   pub comparing-turn : {r : Row} {law place : ℕ} → whole (headOf r law) place ≡ headed text at → HeadTurn text b size n at answer r law place
   comparing-turn {r} {law} {place} e =
       let t = turn (s .more) text at (s .new) (s .end) n (s .reads) (s .count ∙ l) in
-      let g : andThen (noted law text place) (λ n k. whole (listedOf r n) k) ≡ whole (t .x) (t .next) = sym (rw (listed-parts text at, ← e)) ∙ t .here in
+      let g : andThen (noted law text place) (λ n k. whole (listedOf r n) k) ≡ whole (t .x) (t .next) = sym (rw (listed-parts text at, ← e))
+      ∙ t .here in
       let p = through (noted law text place) _ g in
       let x : listedOf r (p .value) ≡ t .x = got-value (p .then) in
       let k : p .place ≡ t .next = got-place (p .then) in
@@ -267,7 +274,8 @@ module _ {text b : List ℕ} {size left at : ℕ} {answer : Bool} {r : Row} {law
   pub turn-part : {xs : List ℕ} → xs ≡ greeting b r → size ≤ 16384 → (length xs ≤ 16384) × (isBad law xs ≡ false)
   turn-part q h = rw q (omega (arith, t .inside, length-take (r .octets) (drop (r .start) b)), t .fine)
 
-  pub turn-astray : {xs : List ℕ} → xs ≡ greeting b r → Astray ≡ nextOf (noteIs (noteOf law xs .samples) (noteOf law xs .marks) text place) → false ≡ answer
+  pub turn-astray : {xs : List ℕ} → xs ≡ greeting b r → Astray ≡ nextOf (noteIs (noteOf law xs .samples) (noteOf law xs .marks) text place)
+      → false ≡ answer
   turn-astray q e =
       let g = noteOf law (greeting b r) in
       go (sameNote (t .note) g) refl ((rw q at e) ∙ note-compared text law place (t .note) g (t .next) (t .notes))

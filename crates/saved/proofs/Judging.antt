@@ -49,7 +49,8 @@ after b size xs = leaves (record { block = b; rows = rowsListed xs; notes = note
 
 judged-celled : (b : List ℕ) (size : ℕ) {xs : List Listed} {cells laws : List ℕ} {n : ℕ} → Celled xs cells laws n
     → judgedBy b size (rowsAt cells n 1) laws
-    ≡ cond (not (rising 0 0 size (rowsListed xs))) (Stop Table) (cond (not (numbered (rowsListed xs))) (Stop Table) (cond (anyBad b xs) (Stop Bad) Fine))
+    ≡ cond (not (rising 0 0 size (rowsListed xs))) (Stop Table)
+    (cond (not (numbered (rowsListed xs))) (Stop Table) (cond (anyBad b xs) (Stop Bad) Fine))
 unfolding judgedBy
 judged-celled b size {xs} {cells} {laws} {n} c =
     let d = ap (badBy b (rowsListed xs)) (c .laws-are) ∙ sym (bad-celled b xs (drop (length xs) laws)) in
@@ -67,7 +68,8 @@ module _ {xs : List Listed} {cells laws : List ℕ} {n : ℕ} (c : Celled xs cel
       go (rising 0 0 size (rowsListed xs)) (numbered (rowsListed xs)) (anyBad b xs) (not (allTrue b xs)) (e ∙ judged-celled b size c)
     where
       go : (x y u v : Bool) → Stop w ≡ cond (not x) (Stop Table) (cond (not y) (Stop Table) (cond u (Stop Bad) Fine))
-          → Stop w ≡ verdictOf (cond (not x) (refused Table) (cond (not y) (refused Table) (cond u (refused Bad) (cond v (refused Table) (after b size xs)))))
+          → Stop w ≡ verdictOf
+          (cond (not x) (refused Table) (cond (not y) (refused Table) (cond u (refused Bad) (cond v (refused Table) (after b size xs)))))
       go false y u v e = e
       go true false u v e = e
       go true true true v e = e

@@ -175,7 +175,8 @@ none-read : (found : Read (List Row)) {a b : List ℕ} → Fills found a b Wrong
 none-read (whole rows i) f = let e = f .count in let z : _≡_ {A = ℕ} 0 1 = cc in absurd (omega arith)
 none-read none f = refl
 
-rows-twice : (found : Read (List Row)) {rows : List Row} {i : ℕ} {t t₁ : List ℕ} {q : Count} → found ≡ whole rows i → Fills found t t₁ q → t₁ ≡ laid rows t
+rows-twice : (found : Read (List Row)) {rows : List Row} {i : ℕ} {t t₁ : List ℕ} {q : Count} → found ≡ whole rows i → Fills found t t₁ q
+    → t₁ ≡ laid rows t
 rows-twice found {rows} {i} {t} {t₁} {q} e f = go (rw e at f)
   where
     go : Fills (whole rows i) t t₁ q → t₁ ≡ laid rows t
@@ -186,7 +187,8 @@ module _ (text b t : List ℕ) {size cells : ℕ} (z : size ≡ sizeOf b) (k : c
   load-short h = refuses (loadOf text b t) t (rw (← z, ← k, lt-ltb (length t) cells h))
 
   module _ (h : cells ≤ length t) where
-    pub load-later : {x y t′ : List ℕ} {r : Answer} → Fills (tableIn text) x y Wrong → Takes (loadNoted b (sizeOf b) (listedIn text)) t t′ r → Load text b t t′ r
+    pub load-later : {x y t′ : List ℕ} {r : Answer} → Fills (tableIn text) x y Wrong → Takes (loadNoted b (sizeOf b) (listedIn text)) t t′ r
+        → Load text b t t′ r
     load-later f g = rw (← z, ← k, le-ltb (length t) cells h, none-read (tableIn text) f) (rw (← z) at g)
 
     module _ {x : List ℕ} {n : ℕ} (e : Early b (tableIn text) x n) where

@@ -1,4 +1,5 @@
--- Notes laid into a table one after another: a table in its three parts (Parts), notes laid and read back (`notes-of`), laid over fewer (`notes-again`).
+-- Notes laid into a table one after another: a table in its three parts (Parts), notes laid and read back (`notes-of`), laid over fewer
+-- (`notes-again`).
 use Prim.Native.Nat.{ℕ, zero, suc, _+_, _*_, _-_, _/_, _≤_, _<_, min}
 use mathlib.Core.Path.{_≡_, refl, sym, ap, _∙_}
 use mathlib.Core.List.{List, [], _∷_, _++_, append-assoc, append-nil}
@@ -119,13 +120,15 @@ module _ (t : List ℕ) (h : 194 ≤ length t) where
     heads-of = ap rowsOf second-is ∙ rows-laid (heads x) (p .b ++ allLaid x (p .c))
 
     pub count-of : getD (notesLaid x t) 97 0 ≡ length x
-    count-of = sym (law-at (notesLaid x t) 97) ∙ ap (λ (l : List ℕ). getD l 0 0) second-is ∙ count-laid (heads x) (p .b ++ allLaid x (p .c)) ∙ length-heads x
+    count-of =
+        sym (law-at (notesLaid x t) 97) ∙ ap (λ (l : List ℕ). getD l 0 0) second-is ∙ count-laid (heads x) (p .b ++ allLaid x (p .c)) ∙ length-heads x
 
     marks-of : drop 194 (notesLaid x t) ≡ allLaid x (p .c)
     marks-of =
         let n = length-heads x in
         let b′ = laid (heads x) (p .b) in
-        let m : length (p .a ++ b′) ≡ 194 = omega (arith, length-append (p .a) b′, length-laid (heads x) (p .b) (omega arith) (p .second), p .first) in
+        let m : length (p .a ++ b′) ≡ 194 = omega
+        (arith, length-append (p .a) b′, length-laid (heads x) (p .b) (omega arith) (p .second), p .first) in
         ap (drop 194) (form ∙ sym (append-assoc (p .a) b′ (allLaid x (p .c)))) ∙ drop-at (p .a ++ b′) (allLaid x (p .c)) 194 m
 
     pub notes-of : notesOf (notesLaid x t) ≡ x
@@ -162,7 +165,8 @@ notes-snoc : (b : List ℕ) (rows : List Row) (r : Row) (laws : List ℕ)
 unfolding notesBy
 notes-snoc b [] r laws = refl
 notes-snoc b (x ∷ rows) r laws =
-    let e : getD (drop 1 laws) (length rows) 0 ≡ getD laws (suc (length rows)) 0 = getD-drop 1 laws (length rows) 0 ∙ ap (λ (k : ℕ). getD laws k 0) (omega arith) in
+    let e : getD (drop 1 laws) (length rows) 0 ≡ getD laws (suc (length rows)) 0 = getD-drop 1 laws (length rows) 0 ∙ ap (λ (k : ℕ). getD laws k 0)
+    (omega arith) in
     ap (λ (l : List Note). noteOf (getD laws 0 0) (greeting b x) ∷ l)
     (notes-snoc b rows r (drop 1 laws) ∙ ap (λ (k : ℕ). notesBy b rows (drop 1 laws) ++ (noteOf k (greeting b r) ∷ [])) e)
 
@@ -265,7 +269,8 @@ module _ {b cells laws : List ℕ} {n size : ℕ} {t₀ : List ℕ} (k : AllNote
           let qe : noteOf (getD laws i 0) xs ≡ note = ap (λ (l : List ℕ). noteOf (getD laws i 0) l) (q ∙ ap (greeting b) e) in
           let ins : insertNote i (noteOf (getD laws i 0) xs) (notesOf t) ≡ x ++ (note ∷ []) = inserted ns qe lx in
           let a = ap length next ∙ length-append x (note ∷ []) in
-          let ca = ap (λ (l : List Note). length (allCells l)) next ∙ ap length (all-append x (note ∷ [])) ∙ length-append (allCells x) (allCells (note ∷ [])) in
+          let ca = ap (λ (l : List Note). length (allCells l)) next ∙ ap length (all-append x (note ∷ [])) ∙ length-append (allCells x)
+          (allCells (note ∷ [])) in
           let hh = ap (λ (l : List Note). marksHeld (heads l)) next ∙ held-heads x note in
           let hr = ap held (rows-snoc cells i 1) ∙ held-snoc (rowsAt cells i 1) (rowAt cells (1 + 3 * i)) in
           let o = storing-one refl in
@@ -276,7 +281,8 @@ module _ {b cells laws : List ℕ} {n size : ℕ} {t₀ : List ℕ} (k : AllNote
             among = omega arith;
             is =
                 g ∙ ap (λ (l : List Note). notesLaid l t) (ins ∙ sym next) ∙ ap (notesLaid (by b cells laws (i + 1))) (s .is)
-                ∙ notes-again t₀ w (by b cells laws (i + 1)) x (omega (arith, length-i b cells laws (i + 1), k .few)) (omega arith) (omega (arith, ca));
+                ∙ notes-again t₀ w (by b cells laws (i + 1)) x (omega (arith, length-i b cells laws (i + 1), k .few)) (omega arith)
+                (omega (arith, ca));
             fine =
                 let f = rw (left-step cells n i e h, drop-drop 1 i laws) at (s .fine) in
                 bad-split (isBad (getD (drop i laws) 0 0) (greeting b r)) _ f .1;
@@ -316,5 +322,6 @@ module _ {b cells laws : List ℕ} {n size : ℕ} {t : List ℕ} (k : AllNotes b
         few = none-held b cells laws;
       }
 
-  pub storing-end : {t′ : List ℕ} {i : ℕ} → Storing b cells laws n size (set t 97 0) t′ i → n ≤ i → t′ ≡ notesLaid (notesBy b (rowsAt cells n 1) laws) t
+  pub storing-end : {t′ : List ℕ} {i : ℕ} → Storing b cells laws n size (set t 97 0) t′ i → n ≤ i
+      → t′ ≡ notesLaid (notesBy b (rowsAt cells n 1) laws) t
   storing-end s h = end-is all-set s h ∙ over-none (by b cells laws n) (omega (arith, length-i b cells laws n, k .few))

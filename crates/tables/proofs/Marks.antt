@@ -243,7 +243,8 @@ module _ (text : List ℕ) (at law : ℕ) where
   unfolding noted
   note-no-samples e = sym (rw (no-number (line samplesWord text at) e))
 
-  pub note-marks : {n a : ℕ} {r : Next} → whole n a ≡ capped (line samplesWord text at) → r ≡ nextOf (markLines text a) → r ≡ nextOf (noted law text at)
+  pub note-marks : {n a : ℕ} {r : Next} → whole n a ≡ capped (line samplesWord text at) → r ≡ nextOf (markLines text a)
+      → r ≡ nextOf (noted law text at)
   unfolding noted
   note-marks {n} {a} {r} e f =
       let h = number-held (line samplesWord text at) e in

@@ -13,7 +13,8 @@ use Rattle.keyvalue.specs.Reading.{Read, whole, none, andThen, give, begins, af
 use Rattle.keyvalue.specs.Lines.{lineOf, line, ranged}
 use Rattle.keyvalue.proofs.Exact.{Back, back-give, back-after, back-number, back-line, back-ranged, onward}
 use Rattle.tables.specs.Table.{promptWord, row, rowsFrom, tableIn, rowText, tableText}
-use Rattle.tables.specs.Noted.{Listed, markWord, comma, markLine, markLinesFrom, markLines, listed, listedFrom, listedIn, markText, marksText, noteText, listedText}
+use Rattle.tables.specs.Noted.{Listed, markWord, comma, markLine, markLinesFrom, markLines}
+use Rattle.tables.specs.Noted.{listed, listedFrom, listedIn, markText, marksText, noteText, listedText}
 use Rattle.tables.proofs.Exact.{Sayable, Each, row-back, row-some}
 use Rattle.tables.proofs.Noting.{noted-ending}
 
@@ -68,7 +69,8 @@ marks-from (suc more) done (m ∷ ms) text i rest h l e f =
     let b : begins markWord (drop i text) ≡ true = ap (begins markWord) e′ ∙ mark-begins m (marksText ms ++ rest) in
     let r = mark-back (m .octets) (m .samples) (h .0 .octets) (h .0 .samples) .reads text i (marksText ms ++ rest) e′ in
     rw (b, r, n)
-    (marks-from more (done ++ (m ∷ [])) ms text (i + length (markText m)) rest (h .1) (omega arith) (onward text (markText m) (marksText ms ++ rest) i e′) f
+    (marks-from more (done ++ (m ∷ [])) ms text (i + length (markText m)) rest (h .1) (omega arith)
+    (onward text (markText m) (marksText ms ++ rest) i e′) f
     ∙ ap (λ (l : List Mark). whole l (i + length (markText m) + length (marksText ms))) (append-assoc done (m ∷ []) ms))
 
 marks-back : (ms : List Mark) (text : List ℕ) (i : ℕ) (rest : List ℕ) → Each SayableMark ms → drop i text ≡ marksText ms ++ rest

@@ -111,7 +111,8 @@ module _ {text cells₀ cells laws₀ laws : List ℕ} {k at : ℕ} (s : Noting 
         let q = kept (listed text at) e in
         turn (q .real) (q .first) (q .row-is) (q .law-is)
       where
-        turn : (x : Listed) → listed text at ≡ whole x j → x .row ≡ r → x .note .law ≡ law → Noting text cells₀ cells′ laws₀ (set laws k law) (k + 1) j
+        turn : (x : Listed) → listed text at ≡ whole x j → x .row ≡ r → x .note .law ≡ law
+            → Noting text cells₀ cells′ laws₀ (set laws k law) (k + 1) j
         turn x f u v = record {
           done = s .done ++ (x ∷ []);
           count = length-append (s .done) (x ∷ []) ∙ ap (λ (n : ℕ). n + 1) (s .count);

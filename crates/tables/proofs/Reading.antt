@@ -18,7 +18,8 @@ use Rattle.rows.proofs.Cells.{cells-snoc}
 use Rattle.tables.proofs.Exact.{ending}
 
 -- three cells stored one after another
-pub three-cells : (l : List ℕ) (i a b c : ℕ) → i + 3 ≤ length l → take (i + 3) (set (set (set l i a) (i + 1) b) (i + 2) c) ≡ take i l ++ (a ∷ b ∷ c ∷ [])
+pub three-cells : (l : List ℕ) (i a b c : ℕ) → i + 3 ≤ length l
+    → take (i + 3) (set (set (set l i a) (i + 1) b) (i + 2) c) ≡ take i l ++ (a ∷ b ∷ c ∷ [])
 three-cells l i a b c h =
     let x : i + 3 ≡ suc (i + 2) = omega arith in
     let y : i + 2 ≡ suc (i + 1) = omega arith in
@@ -117,7 +118,8 @@ module _ {text cells₀ cells : List ℕ} {k at : ℕ} (s : Stand text cells₀ 
     pub stand-none : (cells′ : List ℕ) → none ≡ row text at → Fills (tableIn text) cells₀ cells′ Wrong
     stand-none cells′ e = wrong (s .left ∙ step ∙ rw (← e)) cells₀ cells′
 
-    pub stand-turn : {cells′ : List ℕ} {r : Row} {j : ℕ} → whole r j ≡ row text at → PutsRow r (1 + 3 * k) cells cells′ → Stand text cells₀ cells′ (k + 1) j
+    pub stand-turn : {cells′ : List ℕ} {r : Row} {j : ℕ} → whole r j ≡ row text at → PutsRow r (1 + 3 * k) cells cells′
+        → Stand text cells₀ cells′ (k + 1) j
     stand-turn {cells′} {r} {j} e p =
         record {
           done = s .done ++ (r ∷ []);

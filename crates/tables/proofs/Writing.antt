@@ -1,4 +1,5 @@
--- The text of greetings, one after another: what is left of it at a mark (`marks-left`) and at a greeting (`text-left`), counted (Counting) and put (Putting).
+-- The text of greetings, one after another: what is left of it at a mark (`marks-left`) and at a greeting (`text-left`), counted (Counting) and
+-- put (Putting).
 use Prim.Native.Nat.{ℕ, zero, suc, _+_, _*_, _-_, _≤_, _<_}
 use mathlib.Core.Path.{_≡_, refl, sym, ap, _∙_}
 use mathlib.Core.List.{List, [], _∷_, _++_, append-assoc, append-nil}
@@ -43,7 +44,8 @@ pub record Counting (all left : List ℕ) (sum most : ℕ) : Type 0 where
 pub counting-first : {all left : List ℕ} {most : ℕ} → left ≡ all → Counting all left 0 most
 counting-first e = record { few = omega arith; says = omega (arith, ap length e) }
 
-pub counting-turn : {all left rest : List ℕ} {sum most : ℕ} (w : List ℕ) {more n : ℕ} → Counting all left sum most → left ≡ w ++ rest → more ≡ length w
+pub counting-turn : {all left rest : List ℕ} {sum most : ℕ} (w : List ℕ) {more n : ℕ} → Counting all left sum most → left ≡ w ++ rest
+    → more ≡ length w
     → more ≤ n → {most′ : ℕ} → most + n ≤ most′ → Counting all rest (sum + more) most′
 counting-turn {all} {left} {rest} {sum} {most} w {more} {n} c e f h k =
     let l = ap length e ∙ length-append w rest in
@@ -117,7 +119,8 @@ pub text-left : (t hs ms : List ℕ) (n p i : ℕ) → i < n
 unfolding listedText listing notesIn
 text-left t hs ms n p i h =
     let more = textLeft t hs ms n (p + 2 * getD hs (1 + 3 * i + 2) 0) (i + 1) in
-    rw (left-step t n i refl h, left-step hs n i refl h, drop-drop (2 * getD hs (1 + 3 * i + 2) 0) p ms, append-assoc (rowLaid t i) (noteLaid hs ms p i) more)
+    rw (left-step t n i refl h, left-step hs n i refl h, drop-drop (2 * getD hs (1 + 3 * i + 2) 0) p ms, append-assoc (rowLaid t i)
+    (noteLaid hs ms p i) more)
 
 pub text-over : (t hs ms : List ℕ) (n p i : ℕ) → n ≤ i → textLeft t hs ms n p i ≡ []
 unfolding listedText listing
@@ -152,7 +155,8 @@ note-part : (hs ms : List ℕ) (p i : ℕ) → notePart hs ms p i ≡ noteLaid h
 note-part hs ms p i = ap (λ (l : List ℕ). noteText (noteAt hs (1 + 3 * i) l)) (from-on ms p)
 
 -- a greeting counted
-pub octets-turn : (t hs ms : List ℕ) (n p i : ℕ) {all : List ℕ} {sum row note m : ℕ} → Counting all (textLeft t hs ms n p i) sum (115964117079 * i) → i < n
+pub octets-turn : (t hs ms : List ℕ) (n p i : ℕ) {all : List ℕ} {sum row note m : ℕ} → Counting all (textLeft t hs ms n p i) sum (115964117079 * i)
+    → i < n
     → row ≡ length (rowLaid t i) → row ≤ 53 → note ≡ length (notePart hs ms p i) → note ≤ 115964117026 → m ≡ getD hs (1 + 3 * i + 2) 0
     → Counting all (textLeft t hs ms n (p + 2 * m) (i + 1)) (sum + (row + note)) (115964117079 * (i + 1))
 octets-turn t hs ms n p i {all} {sum} {row} {note} {m} c h e a f b g =

@@ -6,7 +6,8 @@ use Rattle.tables.specs.Noted.{listedIn}
 use Rattle.tables.specs.Passing.{asHead}
 use Rattle.saved.specs.Saved.{allTrue}
 use Rattle.saved.specs.Steps.{greetingsOf}
-use Rattle.saved.proofs.Compared.{Comparing, comparing-first, comparing-end, comparing-missing, comparing-turn, turn-lent, turn-part, turn-astray, turn-on}
+use Rattle.saved.proofs.Compared.{Comparing, comparing-first, comparing-end, comparing-missing}
+use Rattle.saved.proofs.Compared.{comparing-turn, turn-lent, turn-part, turn-astray, turn-on}
 use borrow.Author.Needs.{needs}
 use Rattle.saved.proofs.all_true.Statement.{statement}
 use Rattle.saved.proofs.all_true.Tie as tie
@@ -106,12 +107,16 @@ loop-less c = search needs
 
 loop-again : tie.Need-loop-again Inv-loop μ-loop
 loop-again c =
-    let l = c .before .before .before .before .before .before .before .before .before .before .before .before in
+    let q5 = c .before .before .before .before .before in
+    let q6 = q5 .before in
+    let q8 = q6 .before .before in
+    let q12 = q8 .before .before .before .before in
+    let l = q12 in
     let a = l .before .before .before .args in
     let s : a .n - l .loop .i ≡ suc (a .n - (l .loop .i + 1)) = omega arith in
-    let h = c .before .before .before .before .before .before .before .before in
+    let h = q8 in
     let t = comparing-turn (l .loop .inv .1) s (sym (ap asHead (h .start .given .1)) ∙ h .before .before .head-at .ensures) in
-    let q = turn-lent t (c .before .before .before .before .before .before .wide .ensures) (c .before .before .before .before .before .wide2 .ensures) in
+    let q = turn-lent t (q6 .wide .ensures) (q5 .wide2 .ensures) in
     (omega arith, turn-on t q (sym (c .before .next .given .1) ∙ c .before .before .before .same-note .ensures))
 
 returns-3 : tie.Need-returns-3 Inv-loop μ-loop

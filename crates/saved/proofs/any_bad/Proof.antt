@@ -62,10 +62,13 @@ is-bad-requires c κs = search needs
 
 returns : tie.Need-returns Inv-loop μ-loop
 returns c =
-    let l = c .before .before .before .before .before .before .before in
+    let q5 = c .before .before .before .before .before in
+    let q7 = q5 .before .before in
+    let l = q7 in
     let a = l .before .before .before .before .args in
-    let r = c .before .before .before .before .before .row-at .ensures .0 in
-    bad-here (a .block .now) (a .cells .now) (a .laws .now) (a .n) (l .loop .i) r (omega arith) (c .before .is-bad .ensures) (c .if1 .taken) ∙ l .loop .inv .1
+    let r = q5 .row-at .ensures .0 in
+    bad-here (a .block .now) (a .cells .now) (a .laws .now) (a .n) (l .loop .i) r (omega arith) (c .before .is-bad .ensures) (c .if1 .taken)
+    ∙ l .loop .inv .1
 
 add-i : tie.Need-add-i Inv-loop μ-loop
 add-i c = search needs
@@ -75,9 +78,11 @@ loop-less c = search needs
 
 loop-again : tie.Need-loop-again Inv-loop μ-loop
 loop-again c =
-    let l = c .before .before .before .before .before .before .before in
+    let q5 = c .before .before .before .before .before in
+    let q7 = q5 .before .before in
+    let l = q7 in
     let a = l .before .before .before .before .args in
-    let r = c .before .before .before .before .before .row-at .ensures .0 in
+    let r = q5 .row-at .ensures .0 in
     let o = bad-on (a .block .now) (a .cells .now) (a .laws .now) (a .n) (l .loop .i) r (omega arith) (c .before .is-bad .ensures) (c .if1 .left) in
     (omega arith, sym o ∙ l .loop .inv .1)
 

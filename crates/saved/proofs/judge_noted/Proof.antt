@@ -29,9 +29,11 @@ all-true-requires c κs =
 
 returns : tie.Need-returns
 returns c =
-    let s = c .before .before .before .before .before .before .before .before .before .before in
+    let q5 = c .before .before .before .before .before in
+    let q10 = q5 .before .before .before .before .before in
+    let s = q10 in
     let b = s .args .block .now in
-    let p = celled-fine (s .pre .1) b (sizeOf b) (sym (c .before .before .before .enum-told .given .1) ∙ c .before .before .before .before .before .judge-rows .ensures) in
+    let p = celled-fine (s .pre .1) b (sizeOf b) (sym (c .before .before .before .enum-told .given .1) ∙ q5 .judge-rows .ensures) in
     sym (ap verdictOf (passes-true p (sym (c .before .all-true .ensures) ∙ c .if1 .taken)))
 
 returns-2 : tie.Need-returns-2
@@ -42,9 +44,11 @@ returns-2 c =
 
 returns-3 : tie.Need-returns-3
 returns-3 c =
-    let s = c .before .before .before .before .before .before .before .before .before .before in
+    let q5 = c .before .before .before .before .before in
+    let q10 = q5 .before .before .before .before .before in
+    let s = q10 in
     let b = s .args .block .now in
-    let p = celled-fine (s .pre .1) b (sizeOf b) (sym (c .before .before .before .enum-told .given .1) ∙ c .before .before .before .before .before .judge-rows .ensures) in
+    let p = celled-fine (s .pre .1) b (sizeOf b) (sym (c .before .before .before .enum-told .given .1) ∙ q5 .judge-rows .ensures) in
     passes-false p (sym (c .before .all-true .ensures) ∙ c .if1 .left)
 
 pub judge-noted-spec : {M : Type 1} → statement M

@@ -16,7 +16,9 @@ store-cells-requires c κs = search needs
 
 returns : tie.Need-returns
 returns c =
-    let a = c .before .before .before .before .before .before .args in load-short (a .text .now) (a .block .now) (a .table .now) (c .before .before .size-of .ensures) (c .before .store-cells .ensures) (omega arith)
+    let q6 = c .before .before .before .before .before .before in
+    let a = q6 .args in load-short (a .text .now) (a .block .now) (a .table .now) (c .before .before .size-of .ensures)
+    (c .before .store-cells .ensures) (omega arith)
 
 slice-aggregate-read-rows : tie.Need-slice-aggregate-read-rows
 slice-aggregate-read-rows c = search needs
@@ -29,7 +31,9 @@ enum-told c = search needs
 
 load-noted-requires : tie.Need-load-noted-requires
 load-noted-requires c κs =
-    (c .before .before .before .before .before .before .before .before .size-of .ensures, omega (arith, c .before .before .before .before .before .before .before .store-cells .ensures))
+    let q7 = c .before .before .before .before .before .before .before in
+    let q8 = q7 .before in
+    (q8 .size-of .ensures, omega (arith, q7 .store-cells .ensures))
 
 enum-known-n : tie.Need-enum-known-n
 enum-known-n c = search needs
@@ -42,7 +46,8 @@ slice-aggregate-judge-rows-2 c = search needs
 
 judge-rows-requires : tie.Need-judge-rows-requires
 judge-rows-requires c κs =
-    let f = c .before .before .before .before .before .before .read-rows .ensures .few _ (c .before .before .before .n .given .1) in (omega arith, omega arith, omega arith)
+    let q6 = c .before .before .before .before .before .before in
+    let f = q6 .read-rows .ensures .few _ (c .before .before .before .n .given .1) in (omega arith, omega arith, omega arith)
 
 enum-known-why : tie.Need-enum-known-why
 enum-known-why c = search needs
@@ -52,7 +57,8 @@ enum-told-2 c = search needs
 
 read-rows-requires-2 : tie.Need-read-rows-requires-2
 read-rows-requires-2 c κs =
-    omega (arith, c .before .before .before .before .before .before .before .before .before .before .before .before .before .store-cells .ensures)
+    let q13 = c .before .before .before .before .before .before .before .before .before .before .before .before .before in
+    omega (arith, q13 .store-cells .ensures)
 
 slice-aggregate-store-notes : tie.Need-slice-aggregate-store-notes
 slice-aggregate-store-notes c = search needs
@@ -62,27 +68,44 @@ slice-aggregate-store-notes-2 c = search needs
 
 store-notes-requires : tie.Need-store-notes-requires
 store-notes-requires c κs =
-    let b = c .before .before .before .before .before .before .before .before .before .before .before .before .before .before .before .before .before .before .before .before .before .before .before .before .args .block .now in
-    let e = celled-early b _ (rows-as (c .before .before .before .before .before .before .before .before .before .before .before .before .before .n .given .1) (c .before .before .before .before .before .before .before .before .before .before .before .before .before .before .before .before .read-rows .ensures)) (omega arith) in
-    let p = celled-fine (e .celled) b (sizeOf b) (sym (c .before .before .before .before .before .before .before .enum-told2 .given .1) ∙ c .before .before .before .before .before .before .before .before .before .judge-rows .ensures) in
-    let z = c .before .before .before .before .before .before .before .before .before .before .before .before .before .before .before .before .before .before .before .before .size-of .ensures in
-    all-notes (e .celled) p z z (omega (arith, c .before .before .before .before .before .read-rows2 .kept .1 .0, c .before .before .before .before .before .before .before .before .before .before .before .before .before .before .before .before .before .before .before .store-cells .ensures))
+    let q5 = c .before .before .before .before .before in
+    let q7 = q5 .before .before in
+    let q9 = q7 .before .before in
+    let q13 = q9 .before .before .before .before in
+    let q16 = q13 .before .before .before in
+    let q19 = q16 .before .before .before in
+    let q20 = q19 .before in
+    let q24 = q20 .before .before .before .before in
+    let b = q24 .args .block .now in
+    let e = celled-early b _ (rows-as (q13 .n .given .1) (q16 .read-rows .ensures)) (omega arith) in
+    let p = celled-fine (e .celled) b (sizeOf b) (sym (q7 .enum-told2 .given .1) ∙ q9 .judge-rows .ensures) in
+    let z = q20 .size-of .ensures in
+    all-notes (e .celled) p z z (omega (arith, q5 .read-rows2 .kept .1 .0, q19 .store-cells .ensures))
 
 same-length : tie.Need-same-length
 same-length c = search needs
 
 returns-2 : tie.Need-returns-2
 returns-2 c =
-    let a = c .before .before .before .before .before .before .before .before .before .before .before .before .before .before .before .args in
-    load-later (a .text .now) (a .block .now) (a .table .now) (c .before .before .before .before .before .before .before .before .before .before .before .size-of .ensures) (c .before .before .before .before .before .before .before .before .before .before .store-cells .ensures) (omega arith)
-    (rows-as (c .before .before .before .before .enum-told .given .1) (c .before .before .before .before .before .before .before .read-rows .ensures)) (c .before .before .load-noted .ensures)
+    let q7 = c .before .before .before .before .before .before .before in
+    let q10 = q7 .before .before .before in
+    let q11 = q10 .before in
+    let q15 = q11 .before .before .before .before in
+    let a = q15 .args in
+    load-later (a .text .now) (a .block .now) (a .table .now) (q11 .size-of .ensures) (q10 .store-cells .ensures) (omega arith)
+    (rows-as (c .before .before .before .before .enum-told .given .1) (q7 .read-rows .ensures)) (c .before .before .load-noted .ensures)
 
 returns-3 : tie.Need-returns-3
 returns-3 c =
-    let b = c .before .before .before .before .before .before .before .before .before .before .before .before .before .before .before .before .before .before .args .block .now in
-    let e = celled-early b _ (rows-as (c .before .before .before .before .before .before .before .n .given .1) (c .before .before .before .before .before .before .before .before .before .before .read-rows .ensures)) (omega arith) in
-    let a = c .before .before .before .before .before .before .before .before .before .before .before .before .before .before .before .before .before .before .args in
-    load-stop (a .text .now) (a .block .now) (a .table .now) (c .before .before .before .before .before .before .before .before .before .before .before .before .before .before .size-of .ensures) (c .before .before .before .before .before .before .before .before .before .before .before .before .before .store-cells .ensures) (omega arith) e
+    let q7 = c .before .before .before .before .before .before .before in
+    let q10 = q7 .before .before .before in
+    let q13 = q10 .before .before .before in
+    let q14 = q13 .before in
+    let q18 = q14 .before .before .before .before in
+    let b = q18 .args .block .now in
+    let e = celled-early b _ (rows-as (q7 .n .given .1) (q10 .read-rows .ensures)) (omega arith) in
+    let a = q18 .args in
+    load-stop (a .text .now) (a .block .now) (a .table .now) (q14 .size-of .ensures) (q13 .store-cells .ensures) (omega arith) e
     (sym (c .before .why .given .1) ∙ c .before .before .before .judge-rows .ensures)
 
 same-length-2 : tie.Need-same-length-2
@@ -90,12 +113,20 @@ same-length-2 c = search needs
 
 returns-4 : tie.Need-returns-4
 returns-4 c =
-    let b = c .before .before .before .before .before .before .before .before .before .before .before .before .before .before .before .before .before .before .before .before .before .before .before .before .before .before .before .args .block .now in
-    let e = celled-early b _ (rows-as (c .before .before .before .before .before .before .before .before .before .before .before .before .before .before .before .before .n .given .1) (c .before .before .before .before .before .before .before .before .before .before .before .before .before .before .before .before .before .before .before .read-rows .ensures)) (omega arith) in
-    let f = sym (c .before .before .before .before .before .before .before .before .before .before .enum-told2 .given .1) ∙ c .before .before .before .before .before .before .before .before .before .before .before .before .judge-rows .ensures in
-    let a = c .before .before .before .before .before .before .before .before .before .before .before .before .before .before .before .before .before .before .before .before .before .before .before .before .before .before .before .args in
-    load-fine (a .text .now) (a .block .now) (a .table .now) (c .before .before .before .before .before .before .before .before .before .before .before .before .before .before .before .before .before .before .before .before .before .before .before .size-of .ensures) (c .before .before .before .before .before .before .before .before .before .before .before .before .before .before .before .before .before .before .before .before .before .before .store-cells .ensures) (omega arith) e f
-    (c .before .before .before .before .before .before .before .before .read-rows2 .ensures) (c .before .before .store-notes .ensures)
+    let q8 = c .before .before .before .before .before .before .before .before in
+    let q10 = q8 .before .before in
+    let q12 = q10 .before .before in
+    let q16 = q12 .before .before .before .before in
+    let q19 = q16 .before .before .before in
+    let q22 = q19 .before .before .before in
+    let q23 = q22 .before in
+    let q27 = q23 .before .before .before .before in
+    let b = q27 .args .block .now in
+    let e = celled-early b _ (rows-as (q16 .n .given .1) (q19 .read-rows .ensures)) (omega arith) in
+    let f = sym (q10 .enum-told2 .given .1) ∙ q12 .judge-rows .ensures in
+    let a = q27 .args in
+    load-fine (a .text .now) (a .block .now) (a .table .now) (q23 .size-of .ensures) (q22 .store-cells .ensures) (omega arith) e f
+    (q8 .read-rows2 .ensures) (c .before .before .store-notes .ensures)
 
 pub load-spec : {M : Type 1} → statement M
 load-spec =

@@ -31,7 +31,8 @@ slice-aggregate-judge-noted-2 c = search needs
 
 judge-noted-requires : tie.Need-judge-noted-requires
 judge-noted-requires c κs =
-    celled-noted _ (fills-as (c .before .before .before .n .given .1) (c .before .before .before .before .before .before .before .read-noted .ensures)) (omega arith) (omega arith)
+    let q7 = c .before .before .before .before .before .before .before in
+    celled-noted _ (fills-as (c .before .before .before .n .given .1) (q7 .read-noted .ensures)) (omega arith) (omega arith)
 
 enum-known-why : tie.Need-enum-known-why
 enum-known-why c = search needs
@@ -44,7 +45,8 @@ slice-aggregate-read-noted-3 c = search needs
 
 read-noted-requires-2 : tie.Need-read-noted-requires-2
 read-noted-requires-2 c κs =
-    (omega (arith, c .before .before .before .before .before .before .before .before .before .before .before .before .before .before .before .before .before .before .pre .1), omega arith)
+    let q18 = c .before .before .before .before .before .before .before .before .before .before .before .before .before .before .before .before .before .before in
+    (omega (arith, q18 .pre .1), omega arith)
 
 slice-aggregate-store-notes : tie.Need-slice-aggregate-store-notes
 slice-aggregate-store-notes c = search needs
@@ -54,11 +56,17 @@ slice-aggregate-store-notes-2 c = search needs
 
 store-notes-requires : tie.Need-store-notes-requires
 store-notes-requires c κs =
-    let s = c .before .before .before .before .before .before .before .before .before .before .before .before .before .before .before .before .before .before .before .before .before .before .before .before .before in
+    let q6 = c .before .before .before .before .before .before in
+    let q9 = q6 .before .before .before in
+    let q11 = q9 .before .before in
+    let q15 = q11 .before .before .before .before in
+    let q19 = q15 .before .before .before .before in
+    let q25 = q19 .before .before .before .before .before .before in
+    let s = q25 in
     let b = s .args .block .now in
-    let w = celled-noted _ (fills-as (c .before .before .before .before .before .before .before .before .before .before .before .before .before .before .before .n .given .1) (c .before .before .before .before .before .before .before .before .before .before .before .before .before .before .before .before .before .before .before .read-noted .ensures)) (omega arith) (omega arith) in
-    let a = accepts b (sizeOf b) _ (sym (c .before .before .before .before .before .before .before .before .before .enum-told2 .given .1) ∙ c .before .before .before .before .before .before .before .before .before .before .before .judge-noted .ensures) in
-    all-notes (w .1) (a .passes) (s .pre .0) (s .pre .0) (omega (arith, s .pre .1, c .before .before .before .before .before .before .read-noted2 .kept .1 .0))
+    let w = celled-noted _ (fills-as (q15 .n .given .1) (q19 .read-noted .ensures)) (omega arith) (omega arith) in
+    let a = accepts b (sizeOf b) _ (sym (q9 .enum-told2 .given .1) ∙ q11 .judge-noted .ensures) in
+    all-notes (w .1) (a .passes) (s .pre .0) (s .pre .0) (omega (arith, s .pre .1, q6 .read-noted2 .kept .1 .0))
 
 returns : tie.Need-returns
 returns c =
@@ -66,21 +74,31 @@ returns c =
 
 returns-2 : tie.Need-returns-2
 returns-2 c =
-    let s = c .before .before .before .before .before .before .before .before .before .before .before .before .before .before .before .before .before in
+    let q7 = c .before .before .before .before .before .before .before in
+    let q11 = q7 .before .before .before .before in
+    let q17 = q11 .before .before .before .before .before .before in
+    let s = q17 in
     let b = s .args .block .now in
-    let w = celled-noted _ (fills-as (c .before .before .before .before .before .before .before .n .given .1) (c .before .before .before .before .before .before .before .before .before .before .before .read-noted .ensures)) (omega arith) (omega arith) in
-    noted-stop b (sizeOf b) (listedIn (s .args .text .now)) _ (w .0) (sym (c .before .why .given .1) ∙ c .before .before .before .judge-noted .ensures)
+    let w = celled-noted _ (fills-as (q7 .n .given .1) (q11 .read-noted .ensures)) (omega arith) (omega arith) in
+    noted-stop b (sizeOf b) (listedIn (s .args .text .now)) _ (w .0)
+    (sym (c .before .why .given .1) ∙ c .before .before .before .judge-noted .ensures)
 
 same-length : tie.Need-same-length
 same-length c = search needs
 
 returns-3 : tie.Need-returns-3
 returns-3 c =
-    let s = c .before .before .before .before .before .before .before .before .before .before .before .before .before .before .before .before .before .before .before .before .before .before .before .before .before .before .before .before in
+    let q9 = c .before .before .before .before .before .before .before .before .before in
+    let q12 = q9 .before .before .before in
+    let q14 = q12 .before .before in
+    let q18 = q14 .before .before .before .before in
+    let q22 = q18 .before .before .before .before in
+    let q28 = q22 .before .before .before .before .before .before in
+    let s = q28 in
     let b = s .args .block .now in
-    let w = celled-noted _ (fills-as (c .before .before .before .before .before .before .before .before .before .before .before .before .before .before .before .before .before .before .n .given .1) (c .before .before .before .before .before .before .before .before .before .before .before .before .before .before .before .before .before .before .before .before .before .before .read-noted .ensures)) (omega arith) (omega arith) in
-    let a = accepts b (sizeOf b) _ (sym (c .before .before .before .before .before .before .before .before .before .before .before .before .enum-told2 .given .1) ∙ c .before .before .before .before .before .before .before .before .before .before .before .before .before .before .judge-noted .ensures) in
-    noted-fine b (sizeOf b) (listedIn (s .args .text .now)) (w .0) (w .1) a (c .before .before .before .before .before .before .before .before .before .read-noted2 .ensures) (c .before .before .store-notes .ensures)
+    let w = celled-noted _ (fills-as (q18 .n .given .1) (q22 .read-noted .ensures)) (omega arith) (omega arith) in
+    let a = accepts b (sizeOf b) _ (sym (q12 .enum-told2 .given .1) ∙ q14 .judge-noted .ensures) in
+    noted-fine b (sizeOf b) (listedIn (s .args .text .now)) (w .0) (w .1) a (q9 .read-noted2 .ensures) (c .before .before .store-notes .ensures)
 
 pub load-noted-spec : {M : Type 1} → statement M
 load-noted-spec =

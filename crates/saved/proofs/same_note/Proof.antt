@@ -22,16 +22,21 @@ slice-aggregate-note-is c = search needs
 
 note-is-requires : tie.Need-note-is-requires
 note-is-requires c κs =
-    let t = tallied (c .before .before .before .before .before .take .ensures) (c .before .before .before .before .before .before .before .before .before .pre .1) (c .before .before .samples .given .1) (omega arith) in
+    let q5 = c .before .before .before .before .before in
+    let q9 = q5 .before .before .before .before in
+    let t = tallied (q5 .take .ensures) (q9 .pre .1) (c .before .before .samples .given .1) (omega arith) in
     (t .small, t .fits, t .cells-small)
 
 returns : tie.Need-returns
 returns c =
-    tally-wrong (c .before .before .before .take .ensures) (c .before .before .before .before .before .before .before .pre .1) (c .enum-told .given .1)
+    let q7 = c .before .before .before .before .before .before .before in
+    tally-wrong (c .before .before .before .take .ensures) (q7 .pre .1) (c .enum-told .given .1)
 
 returns-2 : tie.Need-returns-2
 returns-2 c =
-    note-as (tallied (c .before .before .before .before .before .before .take .ensures) (c .before .before .before .before .before .before .before .before .before .before .pre .1) (c .before .before .before .samples .given .1) (omega arith)) _ _ (c .note-is .ensures)
+    let q6 = c .before .before .before .before .before .before in
+    let q10 = q6 .before .before .before .before in
+    note-as (tallied (q6 .take .ensures) (q10 .pre .1) (c .before .before .before .samples .given .1) (omega arith)) _ _ (c .note-is .ensures)
 
 pub same-note-spec : {M : Type 1} → statement M
 same-note-spec =

@@ -27,10 +27,12 @@ slice-aggregate-put-note c = search needs
 
 put-note-requires : tie.Need-put-note-requires
 put-note-requires c κs =
-    let s = c .before .before .before .before .before .before .before .before .before .before .before in
+    let q7 = c .before .before .before .before .before .before .before in
+    let q11 = q7 .before .before .before .before in
+    let s = q11 in
     let p = s .pre in
     let a = s .args in
-    let t = tallied (c .before .before .before .before .before .before .before .take .ensures) (p .fine) (c .before .before .before .before .samples .given .1) (p .small) in
+    let t = tallied (q7 .take .ensures) (p .fine) (c .before .before .before .before .samples .given .1) (p .small) in
     let f = note-few (a .law) (a .octets .now) (p .fine) (omega (arith, p .small)) in (
       (p .count, p .few, omega arith, t .fits),
       (omega (arith, p .room, t .count, f), (omega (arith, c .before .wide .ensures), omega (arith, t .small), omega (arith, t .count, f, p .small))),
@@ -38,16 +40,21 @@ put-note-requires c κs =
 
 returns : tie.Need-returns
 returns c =
-    tally-wrong (c .before .before .before .take .ensures) (c .before .before .before .before .before .before .before .pre .fine) (c .enum-told .given .1)
+    let q7 = c .before .before .before .before .before .before .before in
+    tally-wrong (c .before .before .before .take .ensures) (q7 .pre .fine) (c .enum-told .given .1)
 
 same-length : tie.Need-same-length
 same-length c = search needs
 
 returns-2 : tie.Need-returns-2
 returns-2 c =
-    let s = c .before .before .before .before .before .before .before .before .before .before .before .before .before .before in
+    let q7 = c .before .before .before .before .before .before .before in
+    let q10 = q7 .before .before .before in
+    let q14 = q10 .before .before .before .before in
+    let s = q14 in
     let p = s .pre in
-    note-stored (s .args .table .now) (s .args .i) (tallied (c .before .before .before .before .before .before .before .before .before .before .take .ensures) (p .fine) (c .before .before .before .before .before .before .before .samples .given .1) (p .small)) (c .before .before .before .before .wide .ensures) (c .before .before .put-note .ensures)
+    note-stored (s .args .table .now) (s .args .i) (tallied (q10 .take .ensures) (p .fine) (q7 .samples .given .1) (p .small))
+    (c .before .before .before .before .wide .ensures) (c .before .before .put-note .ensures)
 
 pub store-note-spec : {M : Type 1} → statement M
 store-note-spec =

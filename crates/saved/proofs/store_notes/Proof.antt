@@ -58,9 +58,11 @@ shared-slice-read-store-note c =
 
 store-note-requires : tie.Need-store-note-requires Inv-loop μ-loop
 store-note-requires c κs =
-    let s = c .before .before .before .before .before .before .before .before .before .before .before in
+    let q6 = c .before .before .before .before .before .before in
+    let q11 = q6 .before .before .before .before .before in
+    let s = q11 in
     let r = c .before .before .before .before .row-at in
-    storing-one (all-set (s .pre)) (c .before .before .before .before .before .before .loop .inv .1) (omega arith) (r .ensures .0) (part-same (s .args .block .now) (r .result))
+    storing-one (all-set (s .pre)) (q6 .loop .inv .1) (omega arith) (r .ensures .0) (part-same (s .args .block .now) (r .result))
 
 add-i : tie.Need-add-i Inv-loop μ-loop
 add-i c = search needs
@@ -70,11 +72,15 @@ loop-less c = search needs
 
 loop-again : tie.Need-loop-again Inv-loop μ-loop
 loop-again c =
-    let s = c .before .before .before .before .before .before .before .before .before .before .before .before .before .before in
-    let r = c .before .before .before .before .before .before .before .row-at in
-    let l = c .before .before .before .before .before .before .before .before .before .loop .inv in
+    let q7 = c .before .before .before .before .before .before .before in
+    let q9 = q7 .before .before in
+    let q14 = q9 .before .before .before .before .before in
+    let s = q14 in
+    let r = q7 .row-at in
+    let l = q9 .loop .inv in
     let q = part-same (s .args .block .now) (r .result) in
-    (c .before .before .store-note .kept .1 .1 .0 ∙ l .0, storing-turn (all-set (s .pre)) (l .1) (omega arith) (r .ensures .0) q (c .before .before .store-note .ensures))
+    (c .before .before .store-note .kept .1 .1 .0 ∙ l .0, storing-turn (all-set (s .pre)) (l .1) (omega arith) (r .ensures .0) q
+    (c .before .before .store-note .ensures))
 
 same-length : tie.Need-same-length Inv-loop μ-loop
 same-length c =

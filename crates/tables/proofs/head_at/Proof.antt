@@ -34,13 +34,15 @@ returns c = head-no-row _ _ (sym (ap asRow (c .enum-told .given .1)) ∙ c .befo
 returns-2 : tie.Need-returns-2
 returns-2 c =
     let n = c .before .before .before .before .before in
-    head-no-law _ _ (sym (ap asRow (n .number .given .1)) ∙ n .before .before .line-of .ensures) (told (c .enum-told2 .given .1) (c .before .before .ranged-line .ensures))
+    head-no-law _ _ (sym (ap asRow (n .number .given .1)) ∙ n .before .before .line-of .ensures)
+    (told (c .enum-told2 .given .1) (c .before .before .ranged-line .ensures))
 
 returns-3 : tie.Need-returns-3
 returns-3 c =
     let l = c .before in
     let n = l .before .before .before .before .before in
-    head-whole _ _ (sym (ap asRow (n .number .given .1)) ∙ n .before .before .line-of .ensures) (told (l .law .given .1) (l .before .before .ranged-line .ensures))
+    head-whole _ _ (sym (ap asRow (n .number .given .1)) ∙ n .before .before .line-of .ensures)
+    (told (l .law .given .1) (l .before .before .ranged-line .ensures))
 
 pub head-at-spec : {M : Type 1} → statement M
 head-at-spec =

@@ -30,12 +30,14 @@ returns c = listed-no-head _ _ (sym (ap asHead (c .enum-told .given .1)) ∙ c .
 returns-2 : tie.Need-returns-2
 returns-2 c =
     let n = c .before .before .before .before in
-    listed-astray _ _ (sym (ap asHead (n .number .given .1)) ∙ n .before .before .head-at .ensures) (sym (c .enum-told2 .given .1) ∙ c .before .before .note-past .ensures)
+    listed-astray _ _ (sym (ap asHead (n .number .given .1)) ∙ n .before .before .head-at .ensures)
+    (sym (c .enum-told2 .given .1) ∙ c .before .before .note-past .ensures)
 
 returns-3 : tie.Need-returns-3
 returns-3 c =
     let n = c .before .before .before .before .before in
-    listed-whole _ _ (sym (ap asHead (n .number .given .1)) ∙ n .before .before .head-at .ensures) (sym (c .before .b .given .1) ∙ c .before .before .before .note-past .ensures)
+    listed-whole _ _ (sym (ap asHead (n .number .given .1)) ∙ n .before .before .head-at .ensures)
+    (sym (c .before .b .given .1) ∙ c .before .before .before .note-past .ensures)
 
 pub listed-at-spec : {M : Type 1} → statement M
 listed-at-spec =

@@ -51,13 +51,15 @@ enum-known-samples c = search needs
 returns-2 : tie.Need-returns-2
 returns-2 c =
     let i = c .before .before .before .before in
-    mark-no-octets _ _ (sym (i .before .has-word .ensures) ∙ not-false _ (i .if1 .left)) (told (c .enum-told .given .1) (c .before .before .number-then .ensures))
+    mark-no-octets _ _ (sym (i .before .has-word .ensures) ∙ not-false _ (i .if1 .left))
+    (told (c .enum-told .given .1) (c .before .before .number-then .ensures))
 
 returns-3 : tie.Need-returns-3
 returns-3 c =
     let o = c .before .before .before .before .before in
     let i = o .before .before .before .before in
-    mark-no-samples _ _ (sym (i .before .has-word .ensures) ∙ not-false _ (i .if1 .left)) (told (o .octets .given .1) (o .before .before .number-then .ensures))
+    mark-no-samples _ _ (sym (i .before .has-word .ensures) ∙ not-false _ (i .if1 .left))
+    (told (o .octets .given .1) (o .before .before .number-then .ensures))
     (told (c .enum-told2 .given .1) (c .before .before .number-then2 .ensures))
 
 returns-4 : tie.Need-returns-4
@@ -65,7 +67,8 @@ returns-4 c =
     let s = c .before in
     let o = s .before .before .before .before .before in
     let i = o .before .before .before .before in
-    mark-whole _ _ (sym (i .before .has-word .ensures) ∙ not-false _ (i .if1 .left)) (told (o .octets .given .1) (o .before .before .number-then .ensures))
+    mark-whole _ _ (sym (i .before .has-word .ensures) ∙ not-false _ (i .if1 .left))
+    (told (o .octets .given .1) (o .before .before .number-then .ensures))
     (told (s .samples .given .1) (s .before .before .number-then2 .ensures))
 
 pub mark-at-spec : {M : Type 1} → statement M

@@ -25,7 +25,8 @@ enum-told c = search needs
 
 returns : tie.Need-returns Inv-loop μ-loop
 returns c =
-    are-none (c .before .before .before .before .loop .inv .1) (omega arith) (sym (ap asMark (c .enum-told .given .1)) ∙ c .before .before .mark-at .ensures)
+    are-none (c .before .before .before .before .loop .inv .1) (omega arith)
+    (sym (ap asMark (c .enum-told .given .1)) ∙ c .before .before .mark-at .ensures)
 
 enum-known-octets : tie.Need-enum-known-octets Inv-loop μ-loop
 enum-known-octets c = search needs
@@ -43,7 +44,8 @@ returns-2 : tie.Need-returns-2 Inv-loop μ-loop
 returns-2 c =
     let o = c .before .before .before in
     let l = o .before .before .before .before in
-    are-octets (l .loop .inv .1) (omega arith) (l .before .before .before .pre .1) (sym (ap asMark (o .octets .given .1)) ∙ o .before .before .mark-at .ensures) (c .if1 .taken)
+    are-octets (l .loop .inv .1) (omega arith) (l .before .before .before .pre .1)
+    (sym (ap asMark (o .octets .given .1)) ∙ o .before .before .mark-at .ensures) (c .if1 .taken)
 
 mul-if2 : tie.Need-mul-if2 Inv-loop μ-loop
 mul-if2 c = search needs
@@ -61,7 +63,8 @@ returns-3 : tie.Need-returns-3 Inv-loop μ-loop
 returns-3 c =
     let o = c .before .before .before .before .before in
     let l = o .before .before .before .before in
-    are-samples (l .loop .inv .1) (omega arith) (l .before .before .before .pre .1) (sym (ap asMark (o .octets .given .1)) ∙ o .before .before .mark-at .ensures) (c .before .before .if1 .left) (c .if2 .taken)
+    are-samples (l .loop .inv .1) (omega arith) (l .before .before .before .pre .1)
+    (sym (ap asMark (o .octets .given .1)) ∙ o .before .before .mark-at .ensures) (c .before .before .if1 .left) (c .if2 .taken)
 
 add-j : tie.Need-add-j Inv-loop μ-loop
 add-j c = search needs

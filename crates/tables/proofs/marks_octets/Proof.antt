@@ -3,7 +3,8 @@ use Prim.Native.Nat.{_*_, _-_, _≤_}
 use native.Mathlib.Omega.{arith}
 use Rattle.notes.specs.Cells.{marksIn}
 use Rattle.tables.specs.Noted.{marksText}
-use Rattle.tables.proofs.Writing.{Counting, counting-first, counting-turn, counting-end, marksLeft, markLaid, marks-start, marks-left, marks-over}
+use Rattle.tables.proofs.Writing.{Counting, counting-first, counting-turn, counting-end}
+use Rattle.tables.proofs.Writing.{marksLeft, markLaid, marks-start, marks-left, marks-over}
 use borrow.Author.Needs.{needs}
 use Rattle.tables.proofs.marks_octets.Statement.{statement}
 use Rattle.tables.proofs.marks_octets.Tie as tie

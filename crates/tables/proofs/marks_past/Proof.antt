@@ -35,7 +35,8 @@ enum-told c = search needs
 returns : tie.Need-returns Inv-loop μ-loop
 returns c =
     let i = c .before .before .before in
-    marking-stuck (i .before .before .before .loop .inv) (sym (i .before .has-word .ensures) ∙ i .if1 .taken) (sym (ap asMark (c .enum-told .given .1)) ∙ c .before .before .mark-at .ensures)
+    marking-stuck (i .before .before .before .loop .inv) (sym (i .before .has-word .ensures) ∙ i .if1 .taken)
+    (sym (ap asMark (c .enum-told .given .1)) ∙ c .before .before .mark-at .ensures)
 
 enum-known-next : tie.Need-enum-known-next Inv-loop μ-loop
 enum-known-next c = search needs

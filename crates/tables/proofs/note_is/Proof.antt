@@ -25,7 +25,8 @@ wide-requires c κs = search needs
 returns : tie.Need-returns
 returns c =
     let n = c .before .before .before in
-    is-other _ _ _ _ (c .before .before .before .before .before .before .before .before .before .pre .0) (told (n .n .given .1) (n .before .before .line-at .ensures)) (λ e. c .if1 .taken (c .before .wide .ensures ∙ e))
+    is-other _ _ _ _ (c .before .before .before .before .before .before .before .before .before .pre .0)
+    (told (n .n .given .1) (n .before .before .line-at .ensures)) (λ e. c .if1 .taken (c .before .wide .ensures ∙ e))
 
 marks-are-requires : tie.Need-marks-are-requires
 marks-are-requires c κs = (omega arith, c .before .before .before .before .before .before .before .before .before .pre .2)
@@ -36,7 +37,9 @@ returns-2 c = is-none _ _ _ _ (told (c .enum-told .given .1) (c .before .before 
 returns-3 : tie.Need-returns-3
 returns-3 c =
     let n = c .before .before .before .before in
-    is-same _ _ _ _ (c .before .before .before .before .before .before .before .before .before .before .pre .0) (told (n .n .given .1) (n .before .before .line-at .ensures)) (sym (c .before .before .wide .ensures) ∙ c .before .if1 .left) (c .marks-are .ensures)
+    is-same _ _ _ _ (c .before .before .before .before .before .before .before .before .before .before .pre .0)
+    (told (n .n .given .1) (n .before .before .line-at .ensures)) (sym (c .before .before .wide .ensures) ∙ c .before .if1 .left)
+    (c .marks-are .ensures)
 
 pub note-is-spec : {M : Type 1} → statement M
 note-is-spec =

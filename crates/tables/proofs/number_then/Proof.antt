@@ -23,19 +23,22 @@ has-word-requires c κs = search needs
 
 returns : tie.Need-returns
 returns c =
-    then-no-word _ _ _ (told (c .before .before .before .n .given .1) (c .before .before .before .before .before .number-at .ensures)) (sym (c .before .has-word .ensures) ∙ not-true _ (c .if1 .taken))
+    then-no-word _ _ _ (told (c .before .before .before .n .given .1) (c .before .before .before .before .before .number-at .ensures))
+    (sym (c .before .has-word .ensures) ∙ not-true _ (c .if1 .taken))
 
 add-t11 : tie.Need-add-t11
 add-t11 c =
     let a = c .before .before .before .before .before .before .before .before .args in
-    omega (arith, word-fits (a .word .now) (a .text .now) (c .before .before .before .n .given .0 .1 .0) (sym (c .before .has-word .ensures) ∙ not-false _ (c .if1 .left)))
+    omega (arith, word-fits (a .word .now) (a .text .now) (c .before .before .before .n .given .0 .1 .0)
+    (sym (c .before .has-word .ensures) ∙ not-false _ (c .if1 .left)))
 
 returns-2 : tie.Need-returns-2
 returns-2 c = then-no-number _ _ _ (told (c .enum-told .given .1) (c .before .before .number-at .ensures))
 
 returns-3 : tie.Need-returns-3
 returns-3 c =
-    then-whole _ _ _ (told (c .before .before .before .n .given .1) (c .before .before .before .before .before .number-at .ensures)) (sym (c .before .has-word .ensures) ∙ not-false _ (c .if1 .left))
+    then-whole _ _ _ (told (c .before .before .before .n .given .1) (c .before .before .before .before .before .number-at .ensures))
+    (sym (c .before .has-word .ensures) ∙ not-false _ (c .if1 .left))
 
 pub number-then-spec : {M : Type 1} → statement M
 number-then-spec =

@@ -3,7 +3,8 @@ use Prim.Native.Nat.{_*_, _-_, _≤_}
 use native.Mathlib.Omega.{arith}
 use Rattle.tables.specs.Noted.{listedText}
 use Rattle.tables.specs.Held.{heldIn}
-use Rattle.tables.proofs.Writing.{Counting, Within, within-first, within-here, within-turn, within-part, textLeft, text-start, text-over, octets-turn, counting-first, counting-end}
+use Rattle.tables.proofs.Writing.{Counting, Within, within-first, within-here, within-turn, within-part}
+use Rattle.tables.proofs.Writing.{textLeft, text-start, text-over, octets-turn, counting-first, counting-end}
 use borrow.Author.Needs.{needs}
 use Rattle.tables.proofs.octets_of.Statement.{statement}
 use Rattle.tables.proofs.octets_of.Tie as tie

@@ -3,7 +3,8 @@ use Prim.Native.Nat.{_-_, _≤_}
 use native.Mathlib.Omega.{arith}
 use Rattle.tables.specs.Noted.{listedText}
 use Rattle.tables.specs.Held.{heldIn}
-use Rattle.tables.proofs.Writing.{Putting, Within, within-first, within-here, within-turn, within-part, textLeft, text-start, text-over, row-fits, note-fits, note-put, putting-first, putting-end}
+use Rattle.tables.proofs.Writing.{Putting, Within, within-first, within-here, within-turn, within-part, textLeft}
+use Rattle.tables.proofs.Writing.{text-start, text-over, row-fits, note-fits, note-put, putting-first, putting-end}
 use borrow.Author.Needs.{needs}
 use Rattle.tables.proofs.put_all.Statement.{statement}
 use Rattle.tables.proofs.put_all.Tie as tie
@@ -28,7 +29,8 @@ put-row-requires : tie.Need-put-row-requires Inv-loop μ-loop
 put-row-requires c κs =
     let l = c .before .before in
     let a = l .before .before .before .before .before .args in
-    (omega arith, row-fits (a .table .now) (a .heads .now) (a .marks .now) (a .n) (l .loop .from) (l .loop .i) (l .loop .inv .2) (omega arith) (omega arith))
+    (omega arith, row-fits (a .table .now) (a .heads .now) (a .marks .now) (a .n) (l .loop .from) (l .loop .i) (l .loop .inv .2) (omega arith)
+    (omega arith))
 
 mul-put-note : tie.Need-mul-put-note Inv-loop μ-loop
 mul-put-note c = search needs
@@ -68,11 +70,13 @@ wide-requires c κs = search needs
 
 mul-from : tie.Need-mul-from Inv-loop μ-loop
 mul-from c =
-    omega (arith, c .wide .ensures, within-here (c .before .before .before .before .before .before .before .before .before .before .before .before .loop .inv .1) (omega arith))
+    omega (arith, c .wide .ensures, within-here
+    (c .before .before .before .before .before .before .before .before .before .before .before .before .loop .inv .1) (omega arith))
 
 add-from : tie.Need-add-from Inv-loop μ-loop
 add-from c =
-    omega (arith, c .wide .ensures, within-here (c .before .before .before .before .before .before .before .before .before .before .before .before .loop .inv .1) (omega arith))
+    omega (arith, c .wide .ensures, within-here
+    (c .before .before .before .before .before .before .before .before .before .before .before .before .loop .inv .1) (omega arith))
 
 add-i : tie.Need-add-i Inv-loop μ-loop
 add-i c = search needs
@@ -87,7 +91,8 @@ loop-again c =
     let s = l .loop .inv in
     let w = c .wide .ensures in
     let q = note-put (a .table .now) (a .heads .now) (a .marks .now) (a .n) (l .loop .from) (l .loop .i) (s .2) (omega arith)
-    (c .before .before .before .before .before .before .before .before .before .put-row .ensures) (c .before .before .before .before .put-note .ensures) w in
+    (c .before .before .before .before .before .before .before .before .before .put-row .ensures)
+    (c .before .before .before .before .put-note .ensures) w in
     (omega arith, within-turn (s .1) (omega arith) w, q)
 
 same-length : tie.Need-same-length Inv-loop μ-loop

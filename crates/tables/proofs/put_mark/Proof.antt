@@ -66,7 +66,8 @@ returns c =
     let l = c .before .before in
     let d = l .before .before .before .before .before .before in
     let w = d .before .before .before .before .before .before in
-    puts-then (puts-then (w .put-word .ensures) (puts-as (ap decimal (d .before .before .wide .ensures)) (d .put-number .ensures))) (l .put-line .ensures .0)
+    puts-then (puts-then (w .put-word .ensures) (puts-as (ap decimal (d .before .before .wide .ensures)) (d .put-number .ensures)))
+    (l .put-line .ensures .0)
 
 pub put-mark-spec : {M : Type 1} → statement M
 put-mark-spec =

@@ -3,7 +3,8 @@ use Prim.Native.Nat.{_-_, _≤_}
 use native.Mathlib.Omega.{arith}
 use Rattle.notes.specs.Cells.{marksIn}
 use Rattle.tables.specs.Noted.{marksText}
-use Rattle.tables.proofs.Writing.{Putting, putting-first, putting-fits, putting-turn, putting-end, marksLeft, markLaid, marks-start, marks-left, marks-over}
+use Rattle.tables.proofs.Writing.{Putting, putting-first, putting-fits, putting-turn, putting-end}
+use Rattle.tables.proofs.Writing.{marksLeft, markLaid, marks-start, marks-left, marks-over}
 use borrow.Author.Needs.{needs}
 use Rattle.tables.proofs.put_marks.Statement.{statement}
 use Rattle.tables.proofs.put_marks.Tie as tie

@@ -10,7 +10,8 @@ use Rattle.tables.proofs.read_noted.Statement.{statement}
 use Rattle.tables.proofs.read_noted.Tie as tie
 
 abbrev Inv-loop : tie.InvT-loop
-Inv-loop text cells₀ laws₀ k₀ at₀ cells laws k at = (length cells ≡ length cells₀) × (length laws ≡ length laws₀) × Noting text cells₀ cells laws₀ laws k at
+Inv-loop text cells₀ laws₀ k₀ at₀ cells laws k at =
+    (length cells ≡ length cells₀) × (length laws ≡ length laws₀) × Noting text cells₀ cells laws₀ laws k at
 
 abbrev μ-loop : tie.MeasureT-loop
 μ-loop text cells₀ laws₀ k₀ at₀ cells laws k at = 32 - k
@@ -42,7 +43,8 @@ same-length-4 c = c .before .before .before .before .before .loop .inv .1
 returns-2 : tie.Need-returns-2 Inv-loop μ-loop
 returns-2 c =
     let l = c .before .before .before in
-    noting-none (l .before .before .loop .inv .2) (omega arith) (l .if1 .left) _ _ (sym (ap asHead (c .enum-told .given .1)) ∙ c .before .before .listed-at .ensures)
+    noting-none (l .before .before .loop .inv .2) (omega arith) (l .if1 .left) _ _
+    (sym (ap asHead (c .enum-told .given .1)) ∙ c .before .before .listed-at .ensures)
 
 enum-known-number : tie.Need-enum-known-number Inv-loop μ-loop
 enum-known-number c = search needs
@@ -89,7 +91,8 @@ loop-again c =
     let n = i .if1 .left in
     let s = i .before .before .loop .inv in
     let e = sym (ap asHead (m .number .given .1)) ∙ m .before .before .listed-at .ensures in
-    (p .put-cells .kept .0 ∙ s .0, rw length-set (s .1), noting-turn (s .2) (omega arith) n (omega (arith, s .1, s .2 .few)) e (p .put-cells .ensures))
+    (p .put-cells .kept .0 ∙ s .0, rw length-set (s .1), noting-turn (s .2) (omega arith) n (omega (arith, s .1, s .2 .few)) e
+    (p .put-cells .ensures))
 
 cast-cells : tie.Need-cast-cells Inv-loop μ-loop
 cast-cells c = omega (arith, c .before .loop .inv .2 .few)
