@@ -38,6 +38,20 @@ long-by true c = refl
 long-by false true = refl
 long-by false false = refl
 
+-- the same, in the code's order
+module _ (n law : ℕ) (xs : List ℕ) where
+  pub long-bad : isBad law xs ≡ true → longOf n law xs ≡ Bad
+  unfolding longOf
+  long-bad e = rw e
+
+  pub long-full : isBad law xs ≡ false → 32 ≤ n → longOf n law xs ≡ Full
+  unfolding longOf
+  long-full e h = rw (e, le-leb 32 n h)
+
+  pub long-room : isBad law xs ≡ false → n < 32 → longOf n law xs ≡ NoRoom
+  unfolding longOf
+  long-room e h = rw (e, lt-leb 32 n h)
+
 -- put, once the table, the law and the number were judged
 module _ (b t : List ℕ) (size law x : ℕ) (xs : List ℕ) {n i : ℕ} (k : Looked size t x n i) (l : law ≤ 1) where
   abbrev put-is : Outcome

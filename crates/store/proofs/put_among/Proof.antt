@@ -1,0 +1,70 @@
+use borrow.Author.Needs.{needs}
+use Rattle.store.proofs.put_among.Statement.{statement}
+use Rattle.store.proofs.put_among.Tie as tie
+use Rattle.store.proofs.put_among.Reads as reads
+use Rattle.store.proofs.put_among.Lts as lts
+use Rattle.marks.proofs.take.Reads as take-reads
+use Rattle.rows.proofs.wide.Reads as wide-reads
+use Rattle.store.proofs.over_long.Reads as over-long-reads
+use Rattle.store.proofs.put_sound.Reads as put-sound-reads
+
+returns : tie.Need-returns
+returns c = ?
+
+over-long-requires : tie.Need-over-long-requires
+over-long-requires c κs = search needs
+
+returns-2 : tie.Need-returns-2
+returns-2 c = ?
+
+slice-aggregate-take : tie.Need-slice-aggregate-take
+slice-aggregate-take c = search needs
+
+take-requires : tie.Need-take-requires
+take-requires c κs = search needs
+
+enum-told : tie.Need-enum-told
+enum-told c = search needs
+
+enum-known-samples : tie.Need-enum-known-samples
+enum-known-samples c = search needs
+
+wide-requires : tie.Need-wide-requires
+wide-requires c κs = search needs
+
+slice-aggregate-put-sound : tie.Need-slice-aggregate-put-sound
+slice-aggregate-put-sound c = search needs
+
+put-sound-requires : tie.Need-put-sound-requires
+put-sound-requires c κs = ?
+
+returns-3 : tie.Need-returns-3
+returns-3 c = ?
+
+same-length : tie.Need-same-length
+same-length c = search needs
+
+same-length-2 : tie.Need-same-length-2
+same-length-2 c = search needs
+
+returns-4 : tie.Need-returns-4
+returns-4 c = ?
+
+pub put-among-spec : {M : Type 1} → statement M
+put-among-spec =
+    tie.close
+    (tie.spec
+    returns
+    over-long-requires
+    returns-2
+    slice-aggregate-take
+    take-requires
+    enum-told
+    enum-known-samples
+    wide-requires
+    slice-aggregate-put-sound
+    put-sound-requires
+    returns-3
+    same-length
+    same-length-2
+    returns-4)
