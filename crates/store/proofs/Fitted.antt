@@ -71,8 +71,8 @@ module _ (b t : List ℕ) (size law x : ℕ) (xs : List ℕ) {note : Note} (z : 
       stored-more new t (omega (arith, big, length-closed 0 rows)) (closed-more h c q g) n note v
       ∙ ap (λ (y : Note). stored new (insertNote n y (notesOf t)) t) z
       in
-      let place = λ (y : ℕ). stored (insertAt y r done) (insertNote y (noteOf law xs) (notesOf t)) t in
-      let start = λ (y : ℕ). stored (insertAt (length rows) (rowOf x y (length xs)) done) (insertNote (length rows) (noteOf law xs) (notesOf t)) t in
+      let place : ℕ → List ℕ = λ (y : ℕ). stored (insertAt y r done) (insertNote y (noteOf law xs) (notesOf t)) t in
+      let start : ℕ → List ℕ = λ (y : ℕ). stored (insertAt (length rows) (rowOf x y (length xs)) done) (insertNote (length rows) (noteOf law xs) (notesOf t)) t in
       rw (← e) (record {
         answer = rw (← p, ← (c .moved));
         block = k ∙ ap (λ (y : List ℕ). written y h xs) (c .block) ∙ ap (λ (y : ℕ). written (closedBlock b rows) y xs) p;

@@ -1,3 +1,12 @@
+use Prim.Native.Nat.{_≤_}
+use mathlib.Core.Path.{_≡_, sym, _∙_}
+use native.Mathlib.Omega.{arith}
+use borrow.Author.Tests.{not-true, not-false}
+use Rattle.notes.proofs.Matched.{sane-noted, room-for}
+use Rattle.notes.proofs.Stored.{heads-kept, count-kept}
+use Rattle.store.proofs.Looks.{look-told}
+use Rattle.store.proofs.Fitted.{rows-less}
+use Rattle.store.proofs.Called.{delete-table, delete-stop, delete-absent, delete-found}
 use borrow.Author.Needs.{needs}
 use Rattle.store.proofs.delete.Statement.{statement}
 use Rattle.store.proofs.delete.Tie as tie
@@ -20,13 +29,15 @@ same-length : tie.Need-same-length
 same-length c = search needs
 
 returns : tie.Need-returns
-returns c = ?
+returns c =
+    let s = c .before .before .before .before .before .before .args in
+    delete-table (s .block .now) (s .table .now) (c .before .before .before .size-of .ensures) (c .before .sane .ensures) (not-true _ (c .if1 .taken)) (s .number)
 
 wide-requires : tie.Need-wide-requires
 wide-requires c κs = search needs
 
 judge-requires : tie.Need-judge-requires
-judge-requires c κs = ?
+judge-requires c κs = sane-noted _ _ (sym (c .before .before .before .sane .ensures) ∙ not-false _ (c .before .before .if1 .left))
 
 enum-known-why : tie.Need-enum-known-why
 enum-known-why c = search needs
@@ -38,25 +49,39 @@ same-length-2 : tie.Need-same-length-2
 same-length-2 c = search needs
 
 returns-2 : tie.Need-returns-2
-returns-2 c = ?
+returns-2 c =
+    let s = c .before .before .before .before .before .before .before .before .before .before .before .before .before .args in
+    delete-absent (s .block .now) (s .table .now) (c .before .before .before .before .before .before .before .before .before .before .size-of .ensures) (c .before .before .before .before .before .before .before .before .sane .ensures) (not-false _ (c .before .before .before .before .before .before .before .if1 .left)) (s .number) (look-told _ _ _ (sym (c .before .before .before .before .before .before .before .before .sane .ensures) ∙ not-false _ (c .before .before .before .before .before .before .before .if1 .left)) (rw (c .before .before .before .before .before .wide .ensures) at (sym (c .before .before .n .given .1) ∙ c .before .before .before .before .judge .ensures))) (omega arith)
 
 remove-requires : tie.Need-remove-requires
-remove-requires c κs = ?
+remove-requires c κs = let k = (look-told _ _ _ (sym (c .before .before .before .before .before .before .before .before .before .sane .ensures) ∙ not-false _ (c .before .before .before .before .before .before .before .before .if1 .left)) (rw (c .before .before .before .before .before .before .wide .ensures) at (sym (c .before .before .before .n .given .1) ∙ c .before .before .before .before .before .judge .ensures))) in (k .count, omega (arith, k .count, k .noted .order .few), omega arith, k .noted .order .cells)
 
 drop-note-requires : tie.Need-drop-note-requires
-drop-note-requires c κs = ?
+drop-note-requires c κs =
+    let s = c .before .before .before .before .before .before .before .before .before .before .before .before .before .before .before .before .before .before .args in
+    let k = (look-told _ _ _ (sym (c .before .before .before .before .before .before .before .before .before .before .before .before .before .sane .ensures) ∙ not-false _ (c .before .before .before .before .before .before .before .before .before .before .before .before .if1 .left)) (rw (c .before .before .before .before .before .before .before .before .before .before .wide .ensures) at (sym (c .before .before .before .before .before .before .before .n .given .1) ∙ c .before .before .before .before .before .before .before .before .before .judge .ensures))) in
+    let few = rows-less (s .table .now) (c .before .before .before .before .before .before .before .n .given .0 .1 .0) (k .noted .order .few) in
+    let gone = c .before .before .before .remove .ensures in
+    let small : c .before .before .before .before .before .before .before .before .before .before .before .before .before .before .before .size-of .result ≤ 16384 = omega (arith, c .before .before .before .before .before .before .before .before .before .before .before .before .before .before .before .size-of .ensures) in
+    ((k .count ∙ sym (k .noted .count) ∙ sym (count-kept _ _ few gone), omega (arith, k .count, k .noted .order .few), omega arith),
+    rw (heads-kept _ _ few gone) (omega (arith, room-for (k .noted) small, c .before .before .before .remove .kept .0)))
 
 same-length-3 : tie.Need-same-length-3
 same-length-3 c = search needs
 
 returns-3 : tie.Need-returns-3
-returns-3 c = ?
+returns-3 c =
+    let s = c .before .before .before .before .before .before .before .before .before .before .before .before .args in
+    let stop = sym (c .before .why .given .1) ∙ c .before .before .before .judge .ensures in
+    delete-stop (s .block .now) (s .table .now) (c .before .before .before .before .before .before .before .before .before .size-of .ensures) (c .before .before .before .before .before .before .before .sane .ensures) (not-false _ (c .before .before .before .before .before .before .if1 .left)) (s .number) (rw (c .before .before .before .before .wide .ensures) at stop)
 
 same-length-4 : tie.Need-same-length-4
 same-length-4 c = search needs
 
 returns-4 : tie.Need-returns-4
-returns-4 c = ?
+returns-4 c =
+    let s = c .before .before .before .before .before .before .before .before .before .before .before .before .before .before .before .before .before .before .before .before .before .args in
+    delete-found (s .block .now) (s .table .now) (c .before .before .before .before .before .before .before .before .before .before .before .before .before .before .before .before .before .before .size-of .ensures) (c .before .before .before .before .before .before .before .before .before .before .before .before .before .before .before .before .sane .ensures) (not-false _ (c .before .before .before .before .before .before .before .before .before .before .before .before .before .before .before .if1 .left)) (s .number) (look-told _ _ _ (sym (c .before .before .before .before .before .before .before .before .before .before .before .before .before .before .before .before .sane .ensures) ∙ not-false _ (c .before .before .before .before .before .before .before .before .before .before .before .before .before .before .before .if1 .left)) (rw (c .before .before .before .before .before .before .before .before .before .before .before .before .before .wide .ensures) at (sym (c .before .before .before .before .before .before .before .before .before .before .n .given .1) ∙ c .before .before .before .before .before .before .before .before .before .before .before .before .judge .ensures))) (omega arith) (c .before .before .before .before .before .before .remove .ensures) (c .before .before .drop-note .ensures)
 
 pub delete-spec : {M : Type 1} → statement M
 delete-spec =
