@@ -2,3 +2,5 @@ pub mod Opening
 pub mod Noting
 pub mod Stored
 pub mod Matched
+pub mod Held
+pub mod Fits
