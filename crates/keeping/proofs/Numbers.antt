@@ -93,6 +93,11 @@ unfolding Fresh
 fresh-append x [] c f = (tt, f)
 fresh-append x (y ∷ a) c f = let g = fresh-append x a c (f .1) in ((f .0, g .0), g .1)
 
+pub fresh-join : (x : ℕ) (a c : List Row) → Fresh x a → Fresh x c → Fresh x (a ++ c)
+unfolding Fresh
+fresh-join x [] c f g = g
+fresh-join x (y ∷ a) c f g = (f .0, fresh-join x a c (f .1) g)
+
 -- those behind a greeting have other numbers
 pub distinct-behind : (a : List Row) (r : Row) (c : List Row) → Distinct (a ++ (r ∷ c)) → Fresh (r .number) a × Fresh (r .number) c
 unfolding Distinct Fresh
