@@ -285,6 +285,51 @@ fn as_many_marks_as_fit() {
     }
 }
 
+/// As many marks as a table can have: 287 that are true, of 32 greetings that each end just behind a mark; and 288 that are lent,
+/// which reach the last cell. Saved, loaded, jumped by, closed up from the front, the middle and the end.
+#[test]
+fn the_fullest_table() {
+    for (name, keeper) in KEEPERS {
+        let mut stores = Stores::new(keeper, vec![0xEE; BLOCK]);
+        for number in 1..=32 {
+            let octets = if number == 32 { BLOCK - 31 * 513 } else { 513 };
+            assert_eq!(stores.promised(&Call::Put(number & 1, number, vec![0x41; octets])).ending, 0);
+        }
+        let marks = |stores: &Stores| stores.model.greetings.iter().map(|row| row.marks.len()).sum::<usize>();
+        assert_eq!((marks(&stores), stores.model.held()), (287, BLOCK));
+        stores.saved_and_loaded();
+        for number in [1, 32, 16] {
+            stores.promised(&Call::Jump(number, 40 * 480));
+            stores.promised(&Call::Delete(number));
+            stores.promised(&Call::Put(0, number, vec![0x31; 481]));
+        }
+        stores.close();
+        // 32 greetings of 512 octets have 8 marks each, and are lent with 9.
+        stores.renew(vec![0xEE; BLOCK]);
+        for number in 1..=32 {
+            stores.call(&Call::Put(1, number, vec![0x41; 512]));
+        }
+        assert_eq!(marks(&stores), 256);
+        let judged = stores.lend(|cells| {
+            (0..32).for_each(|row| cells[MORE_ROWS + 3 + 3 * row] = 9);
+            (MARKS + 512..cells.len()).for_each(|at| cells[at] = 1_000_000 + at as u32);
+        });
+        assert!(judged && marks(&stores) == 288);
+        stores.call(&Call::Save(SAVED));
+        assert!(stores.text.ends_with(b"mark=1000768,1000769\n"));
+        for number in [1, 32, 16, 2, 31] {
+            (0..24).for_each(|part| {
+                stores.call(&Call::Jump(number, part * 853));
+            });
+            stores.call(&Call::Delete(number));
+            stores.call(&Call::Put(1, 100 + number, vec![0; 64]));
+            stores.call(&Call::Save(SAVED));
+        }
+        stores.close();
+        say(&format!("compared: store, {name}, the fullest table: {} calls\n", stores.calls));
+    }
+}
+
 /// Drawn stores, of both laws, read back from R-6's lines: law 1, the same samples and marks, and saved in R-8's lines.
 #[test]
 fn early_tables() {

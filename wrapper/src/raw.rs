@@ -83,6 +83,7 @@ extern "C" {
         block: *const u8, block_len: usize, table: *const u32, table_len: usize, number: u32, report: *mut [u64; 2],
     ) -> u32;
     fn g7110_store_delete(block: *const u8, block_len: usize, table: *mut u32, table_len: usize, number: u32) -> u32;
+    #[cfg(feature = "jump")]
     fn g7110_store_jump(
         block: *const u8, block_len: usize, table: *const u32, table_len: usize, number: u32, sample: u64,
         report: *mut [u64; 4],
@@ -199,6 +200,7 @@ pub fn store_delete(block: &[u8], table: &mut [u32], number: u32) -> u32 {
 }
 
 /// The ending; the report is the frame, its place in the greeting, the sample's place in the frame and the frames read.
+#[cfg(feature = "jump")]
 pub fn store_jump(block: &[u8], table: &[u32], number: u32, sample: u64, report: &mut [u64; 4]) -> u32 {
     // SAFETY: as in `store_put`.
     unsafe { g7110_store_jump(block.as_ptr(), block.len(), table.as_ptr(), table.len(), number, sample, report) }

@@ -239,6 +239,7 @@ fn a_greeting_is_mended() {
 }
 
 /// Greetings put with their law, jumped into, saved and loaded; and what is refused.
+#[cfg(feature = "jump")]
 #[test]
 fn greetings_are_kept_and_jumped_into() {
     use g7110::saved::{load, save, MAX_TABLE};
