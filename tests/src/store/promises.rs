@@ -1,5 +1,6 @@
 //! The promises over any list of calls from a fresh block, checked on a back end's own answers: what it saved before and
-//! after, what it tells, and its own reader over what was put. The model takes no part.
+//! after, what it tells of where a greeting lies and of a jump, and its own reader over what was put. The call's own answer is
+//! held against the model's first. The model's marks take no part.
 
 use super::stores::Kept;
 use super::{
