@@ -16,6 +16,7 @@ use rows::Row;
 // "Refusals, in order"; TABLE (26) comes first, and ROOM (4) is saving's.
 pub enum Refusal {
     Room,
+    Law,
     Number,
     Taken,
     Absent,
@@ -42,6 +43,7 @@ pub fn refusal_number(why: Refusal) -> u32
 {
     match why {
         Refusal::Room => 4,
+        Refusal::Law => 12,
         Refusal::Number => 15,
         Refusal::Taken => 16,
         Refusal::Absent => 17,
