@@ -28,8 +28,7 @@ static uint8_t out[1 << 16];
 static int16_t linear[320];
 static uint32_t state[G7110_SETTINGS];
 static uint8_t block[G7110_MAX_BLOCK];
-/* As many numbers as g7110_store_cells(G7110_MAX_BLOCK) says. */
-static uint32_t table[194 + 2 * (G7110_MAX_BLOCK / 64 + G7110_MAX_GREETINGS)];
+static uint32_t table[G7110_MAX_CELLS];
 static uint32_t number;
 
 static void *make(void *argument)
