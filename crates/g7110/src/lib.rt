@@ -230,7 +230,8 @@ pub extern "C" fn g7110_mend(
 pub extern "C" fn g7110_store_cells(size: u64) -> u64
     ensures { λ r. ⌜ r ≡ storeCells size ⌝ }
 {
-    notes::store_cells(size)
+    let cells = notes::store_cells(size as usize);
+    cells as u64
 }
 
 // Putting a greeting of a law: the number, and in the report its start and the octets moved.
