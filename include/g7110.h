@@ -33,7 +33,7 @@
  *   0 for every other refusal, and for an accepted call. docs/RETURNS.md has an example of each.
  *
  * VERSIONS
- *   G7110_VERSION goes up by one when a call is added or a report changes.
+ *   G7110_VERSION goes up by one when a call is added, or a call or its report changes.
  *   9   g7110_store_put takes the law, before the number. A store's table has more numbers: the law, the samples and the marks of
  *       each greeting. g7110_store_save writes them; g7110_store_load takes its text and that of version 7. A program that was
  *       compiled for an earlier version must be compiled again. A table's numbers of version 7 are refused with G7110_TABLE: load
