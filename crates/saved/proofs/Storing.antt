@@ -1,0 +1,327 @@
+-- Notes laid into a table one after another: a table in its three parts (Parts), notes laid and read back (`notes-of`), laid over fewer
+-- (`notes-again`).
+use Prim.Native.Nat.{ℕ, zero, suc, _+_, _*_, _-_, _/_, _≤_, _<_, min}
+use mathlib.Core.Path.{_≡_, refl, sym, ap, _∙_}
+use mathlib.Core.List.{List, [], _∷_, _++_, append-assoc, append-nil}
+use mathlib.Core.Bool.{Bool, true, false, cond}
+use native.Mathlib.Omega.{arith}
+use native.Mathlib.Numerals.{add-one}
+use lib.ListN.{length, getD, take, drop, set, length-set, length-append, length-take, length-drop, take-append-drop}
+use lib.Seq.{take-at, drop-at, set-at, drop-drop, drop-append-le, getD-drop, length-take-le, take-length, drop-length}
+use Rattle.rows.specs.declared.Row.{Row}
+use Rattle.rows.specs.Rows.{greeting, held}
+use Rattle.rows.specs.Cells.{rowAt, rowsAt, rowsOf, cellsOf, laid}
+use Rattle.rows.specs.Sane.{rising}
+use Rattle.rows.proofs.Left.{left, left-all, left-step}
+use Rattle.rows.proofs.Cells.{rows-snoc, length-rows, length-cells, rows-laid, count-laid, laid-again, held-snoc}
+use Rattle.rows.proofs.Rising.{rising-next}
+use Rattle.greetings.specs.Bad.{isBad}
+use Rattle.marks.specs.Marks.{Note, noteOf, mostMarks, markCells}
+use Rattle.marks.proofs.Marked.{length-cells as length-mark-cells}
+use Rattle.notes.specs.Notes.{insertNote}
+use Rattle.notes.specs.Cells.{headOf, heads, headsOf, notesIn, notesOf, marksHeld, allCells, allLaid, anewFrom, notesLaid}
+use Rattle.notes.specs.Sane.{storeCells}
+use Rattle.notes.proofs.Noting.{notes-back, length-heads, heads-append, all-append, length-all}
+use Rattle.saved.specs.Steps.{badBy, notesBy, OneMore, AllNotes}
+use Rattle.saved.proofs.Bad.{law-at}
+use Rattle.saved.proofs.Small.{note-few}
+use Rattle.saved.proofs.Compared.{bad-split}
+
+-- a table in three parts: the greetings, the second list, the marks
+record Parts (t : List ℕ) : Type 0 where
+  a : List ℕ
+  b : List ℕ
+  c : List ℕ
+  is : t ≡ a ++ (b ++ c)
+  first : length a ≡ 97
+  second : length b ≡ 97
+
+in-parts : (t : List ℕ) → 194 ≤ length t → Parts t
+in-parts t h =
+    let u = drop 97 t in
+    let l = length-drop 97 t in
+    record {
+      a = take 97 t;
+      b = take 97 u;
+      c = drop 97 u;
+      is = sym (take-append-drop 97 t) ∙ ap (λ (x : List ℕ). take 97 t ++ x) (sym (take-append-drop 97 u));
+      first = length-take-le 97 t (omega arith);
+      second = length-take-le 97 u (omega arith);
+    }
+
+laid-part : (hs : List Row) (b c : List ℕ) → length hs ≤ 32 → length b ≡ 97 → laid hs (b ++ c) ≡ laid hs b ++ c
+unfolding laid
+laid-part hs b c h l =
+    ap (λ (x : List ℕ). (length hs ∷ cellsOf hs) ++ x) (drop-append-le (1 + 3 * length hs) b c (omega arith))
+    ∙ sym (append-assoc (length hs ∷ cellsOf hs) (drop (1 + 3 * length hs) b) c)
+
+length-laid : (hs : List Row) (b : List ℕ) → length hs ≤ 32 → length b ≡ 97 → length (laid hs b) ≡ 97
+unfolding laid
+length-laid hs b h l =
+    omega (arith, length-append (length hs ∷ cellsOf hs) (drop (1 + 3 * length hs) b), length-cells hs, length-drop (1 + 3 * length hs) b)
+
+-- notes laid, in parts
+laid-parts : (notes : List Note) (a b c : List ℕ) → length notes ≤ 32 → length a ≡ 97 → length b ≡ 97
+    → notesLaid notes (a ++ (b ++ c)) ≡ a ++ (laid (heads notes) b ++ allLaid notes c)
+unfolding notesLaid
+laid-parts notes a b c h k l =
+    let hs = heads notes in
+    let n = length-heads notes in
+    let b′ = laid hs b in
+    let one : anewFrom 97 (laid hs) (a ++ (b ++ c)) ≡ (a ++ b′) ++ c =
+    ap (λ (x : List ℕ). x ++ laid hs (drop 97 (a ++ (b ++ c)))) (take-at a (b ++ c) 97 k)
+    ∙ ap (λ (x : List ℕ). a ++ laid hs x) (drop-at a (b ++ c) 97 k)
+    ∙ ap (λ (x : List ℕ). a ++ x) (laid-part hs b c (omega arith) l) ∙ sym (append-assoc a b′ c)
+    in
+    let m : length (a ++ b′) ≡ 194 = omega (arith, length-append a b′, length-laid hs b (omega arith) l) in
+    ap (anewFrom 194 (allLaid notes)) one
+    ∙ ap (λ (x : List ℕ). x ++ allLaid notes (drop 194 ((a ++ b′) ++ c))) (take-at (a ++ b′) c 194 m)
+    ∙ ap (λ (x : List ℕ). (a ++ b′) ++ allLaid notes x) (drop-at (a ++ b′) c 194 m)
+    ∙ append-assoc a b′ (allLaid notes c)
+
+all-again : (x y : List Note) (c : List ℕ) → length (allCells y) ≤ length (allCells x) → allLaid x (allLaid y c) ≡ allLaid x c
+all-again x y c h =
+    let k = length (allCells y) in
+    let m = length (allCells x) - k in
+    let e : length (allCells x) ≡ k + m = omega arith in
+    ap (λ (l : List ℕ). allCells x ++ l)
+    (ap (λ (n : ℕ). drop n (allLaid y c)) e ∙ sym (drop-drop m k (allLaid y c)) ∙ ap (drop m) (drop-at (allCells y) (drop k c) k refl)
+    ∙ drop-drop m k c ∙ ap (λ (n : ℕ). drop n c) (sym e))
+
+module _ (t : List ℕ) (h : 194 ≤ length t) where
+  abbrev p : Parts t
+  p = in-parts t h
+
+  -- laid over fewer, as if laid at once
+  pub notes-again : (x y : List Note) → length x ≤ 32 → length y ≤ length x → length (allCells y) ≤ length (allCells x)
+      → notesLaid x (notesLaid y t) ≡ notesLaid x t
+  notes-again x y f g l =
+      let n = length-heads x in
+      let m = length-heads y in
+      let b′ = laid (heads y) (p .b) in
+      let inner = ap (notesLaid y) (p .is) ∙ laid-parts y (p .a) (p .b) (p .c) (omega arith) (p .first) (p .second) in
+      ap (notesLaid x) inner
+      ∙ laid-parts x (p .a) b′ (allLaid y (p .c)) f (p .first) (length-laid (heads y) (p .b) (omega arith) (p .second))
+      ∙ ap (λ (u : List ℕ). p .a ++ (u ++ allLaid x (allLaid y (p .c)))) (laid-again (heads x) (heads y) (p .b) (omega arith))
+      ∙ ap (λ (u : List ℕ). p .a ++ (laid (heads x) (p .b) ++ u)) (all-again x y (p .c) l)
+      ∙ sym (ap (notesLaid x) (p .is) ∙ laid-parts x (p .a) (p .b) (p .c) f (p .first) (p .second))
+
+  module _ (x : List Note) (f : length x ≤ 32) where
+    form : notesLaid x t ≡ p .a ++ (laid (heads x) (p .b) ++ allLaid x (p .c))
+    form = ap (notesLaid x) (p .is) ∙ laid-parts x (p .a) (p .b) (p .c) f (p .first) (p .second)
+
+    second-is : drop 97 (notesLaid x t) ≡ laid (heads x) (p .b ++ allLaid x (p .c))
+    second-is =
+        let n = length-heads x in
+        ap (drop 97) form ∙ drop-at (p .a) (laid (heads x) (p .b) ++ allLaid x (p .c)) 97 (p .first)
+        ∙ sym (laid-part (heads x) (p .b) (allLaid x (p .c)) (omega arith) (p .second))
+
+    pub heads-of : headsOf (notesLaid x t) ≡ heads x
+    heads-of = ap rowsOf second-is ∙ rows-laid (heads x) (p .b ++ allLaid x (p .c))
+
+    pub count-of : getD (notesLaid x t) 97 0 ≡ length x
+    count-of =
+        sym (law-at (notesLaid x t) 97) ∙ ap (λ (l : List ℕ). getD l 0 0) second-is ∙ count-laid (heads x) (p .b ++ allLaid x (p .c)) ∙ length-heads x
+
+    marks-of : drop 194 (notesLaid x t) ≡ allLaid x (p .c)
+    marks-of =
+        let n = length-heads x in
+        let b′ = laid (heads x) (p .b) in
+        let m : length (p .a ++ b′) ≡ 194 = omega
+        (arith, length-append (p .a) b′, length-laid (heads x) (p .b) (omega arith) (p .second), p .first) in
+        ap (drop 194) (form ∙ sym (append-assoc (p .a) b′ (allLaid x (p .c)))) ∙ drop-at (p .a ++ b′) (allLaid x (p .c)) 194 m
+
+    pub notes-of : notesOf (notesLaid x t) ≡ x
+    notes-of =
+        ap (λ (hs : List Row). notesIn hs (drop 194 (notesLaid x t))) heads-of
+        ∙ ap (notesIn (heads x)) marks-of ∙ notes-back x (drop (length (allCells x)) (p .c))
+
+    pub length-of : 194 + length (allCells x) ≤ length t → length (notesLaid x t) ≡ length t
+    length-of l =
+        let n = length-heads x in
+        let b′ = laid (heads x) (p .b) in
+        let c′ = allLaid x (p .c) in
+        let k = ap length form ∙ length-append (p .a) (b′ ++ c′) in
+        let m = ap length (p .is) ∙ length-append (p .a) (p .b ++ p .c) in
+        let q = length-laid (heads x) (p .b) (omega arith) (p .second) in
+        let r = length-append b′ c′ in
+        let s = length-append (p .b) (p .c) in
+        let u = length-append (allCells x) (drop (length (allCells x)) (p .c)) in
+        let v = length-drop (length (allCells x)) (p .c) in
+        omega (arith, p .first, p .second)
+
+  -- the second list made empty
+  pub none-laid : set t 97 0 ≡ notesLaid [] t
+  unfolding heads allCells laid cellsOf
+  none-laid = go (p .b) (p .second) (p .is) ∙ sym (form [] (omega arith))
+    where
+      go : (b : List ℕ) → length b ≡ 97 → t ≡ p .a ++ (b ++ p .c) → set t 97 0 ≡ p .a ++ (((0 ∷ []) ++ drop 1 b) ++ p .c)
+      go [] l e = absurd (omega arith)
+      go (x ∷ b) l e = ap (λ (u : List ℕ). set u 97 0) e ∙ set-at (p .a) x (b ++ p .c) 0 97 (p .first)
+
+-- the notes of one greeting more
+notes-snoc : (b : List ℕ) (rows : List Row) (r : Row) (laws : List ℕ)
+    → notesBy b (rows ++ (r ∷ [])) laws ≡ notesBy b rows laws ++ (noteOf (getD laws (length rows) 0) (greeting b r) ∷ [])
+unfolding notesBy
+notes-snoc b [] r laws = refl
+notes-snoc b (x ∷ rows) r laws =
+    let e : getD (drop 1 laws) (length rows) 0 ≡ getD laws (suc (length rows)) 0 = getD-drop 1 laws (length rows) 0 ∙ ap (λ (k : ℕ). getD laws k 0)
+    (omega arith) in
+    ap (λ (l : List Note). noteOf (getD laws 0 0) (greeting b x) ∷ l)
+    (notes-snoc b rows r (drop 1 laws) ∙ ap (λ (k : ℕ). notesBy b rows (drop 1 laws) ++ (noteOf k (greeting b r) ∷ [])) e)
+
+length-by : (b : List ℕ) (rows : List Row) (laws : List ℕ) → length (notesBy b rows laws) ≡ length rows
+unfolding notesBy
+length-by b [] laws = refl
+length-by b (r ∷ rows) laws = ap suc (length-by b rows (drop 1 laws))
+
+abbrev by : List ℕ → List ℕ → List ℕ → ℕ → List Note
+by b cells laws i = notesBy b (rowsAt cells i 1) laws
+
+length-i : (b cells laws : List ℕ) (i : ℕ) → length (by b cells laws i) ≡ i
+length-i b cells laws i = length-by b (rowsAt cells i 1) laws ∙ length-rows cells i 1
+
+by-next : (b cells laws : List ℕ) (i : ℕ)
+    → by b cells laws (i + 1) ≡ by b cells laws i ++ (noteOf (getD laws i 0) (greeting b (rowAt cells (1 + 3 * i))) ∷ [])
+by-next b cells laws i =
+    ap (λ (l : List Row). notesBy b l laws) (rows-snoc cells i 1) ∙ notes-snoc b (rowsAt cells i 1) (rowAt cells (1 + 3 * i)) laws
+    ∙ ap (λ (k : ℕ). by b cells laws i ++ (noteOf (getD laws k 0) (greeting b (rowAt cells (1 + 3 * i))) ∷ [])) (length-rows cells i 1)
+
+held-heads : (notes : List Note) (n : Note) → marksHeld (heads (notes ++ (n ∷ []))) ≡ marksHeld (heads notes) + length (n .marks)
+unfolding heads
+held-heads notes n = ap marksHeld (heads-append notes (n ∷ [])) ∙ held-snoc (heads notes) (headOf n)
+
+inserted : {notes x : List Note} {y note : Note} {i : ℕ} → notes ≡ x → y ≡ note → length x ≡ i → insertNote i y notes ≡ x ++ (note ∷ [])
+inserted {notes} {x} {y} {note} {i} p q l = rw (p, q, ← l, take-length x, drop-length x)
+
+few-marks : (b : List ℕ) (law : ℕ) {r q : Row} → r ≡ q → length (noteOf law (greeting b r) .marks) ≤ mostMarks (length (greeting b r))
+    → length (greeting b r) ≤ r .octets → length (noteOf law (greeting b q) .marks) ≤ mostMarks (q .octets)
+few-marks b law e f g = rw (← e) (omega arith)
+
+-- where the storing stands
+pub record Storing (b cells laws : List ℕ) (n size : ℕ) (t₀ t : List ℕ) (i : ℕ) : Type 0 where
+  pub among : i ≤ n
+  pub is : t ≡ notesLaid (by b cells laws i) t₀
+  pub fine : badBy b (left cells n i) (drop i laws) ≡ false
+  pub few : 64 * marksHeld (heads (by b cells laws i)) ≤ held (rowsAt cells i 1) + 64 * i
+
+by-none : (b cells laws : List ℕ) → by b cells laws 0 ≡ []
+unfolding rowsAt notesBy
+by-none b cells laws = refl
+
+none-held : (b cells laws : List ℕ) → 64 * marksHeld (heads (by b cells laws 0)) ≤ held (rowsAt cells 0 1) + 64 * 0
+unfolding rowsAt notesBy heads held
+none-held b cells laws = omega arith
+
+module _ {b cells laws : List ℕ} {n size : ℕ} {t₀ : List ℕ} (k : AllNotes b cells laws n size t₀) where
+  wide : 194 + 2 * (size / 64 + 32) ≤ length t₀
+  wide = let z : min size 16384 ≡ size = omega (arith, k .small) in rw z at (k .room)
+
+  module _ {t : List ℕ} {i : ℕ} (s : Storing b cells laws n size t₀ t i) where
+    -- the marks so far fit
+    fits : length (allCells (by b cells laws i)) ≡ 2 * marksHeld (heads (by b cells laws i))
+    fits = length-all (by b cells laws i)
+
+    inside-so-far : i < n → held (rowsAt cells i 1) + rowAt cells (1 + 3 * i) .octets ≤ size
+    inside-so-far h = let r = rising-next cells 0 size 0 n 1 i h (k .rises) in omega (arith, r .above, r .inside)
+
+    module _ (h : i < n) {r : Row} (e : r ≡ rowAt cells (1 + 3 * i)) where
+      so-far : 64 * marksHeld (heads (by b cells laws i)) + r .octets ≤ size + 64 * i
+      so-far = let z = ap (λ (q : Row). q .octets) e in omega (arith, s .few, inside-so-far h, z)
+
+      before-end : 194 + length (allCells (by b cells laws i)) ≤ length t₀
+      before-end = omega (arith, so-far, fits, wide, k .few)
+
+      pub storing-length : length t ≡ length t₀
+      storing-length =
+          ap length (s .is) ∙ length-of t₀ (omega (arith, wide)) (by b cells laws i) (omega (arith, length-i b cells laws i, k .few)) before-end
+
+      bad-here : isBad (getD laws i 0) (greeting b r) ≡ false
+      unfolding badBy
+      bad-here =
+          let f = rw (left-step cells n i e h, law-at laws i) at (s .fine) in
+          bad-split (isBad (getD laws i 0) (greeting b r)) _ f .0
+
+      pub storing-one : {xs : List ℕ} → xs ≡ greeting b r → OneMore (getD laws i 0) xs t i
+      storing-one q =
+          let few32 : length (by b cells laws i) ≤ 32 = omega (arith, length-i b cells laws i, k .few) in
+          let c = ap (λ (l : List ℕ). getD l 97 0) (s .is) ∙ count-of t₀ (omega (arith, wide)) (by b cells laws i) few32 in
+          let m = ap marksHeld (ap headsOf (s .is) ∙ heads-of t₀ (omega (arith, wide)) (by b cells laws i) few32) in
+          let z = length-take (r .octets) (drop (r .start) b) in
+          rw q (record {
+            fine = bad-here;
+            small = omega (arith, so-far, z, k .small, inside-so-far h, ap (λ (q : Row). q .octets) e);
+            count = sym (length-i b cells laws i) ∙ sym c;
+            few = omega (arith, k .few);
+            room = omega (arith, storing-length, m, so-far, wide, z, k .few);
+          })
+
+      pub storing-turn : {xs t′ : List ℕ} → xs ≡ greeting b r → t′ ≡ notesLaid (insertNote i (noteOf (getD laws i 0) xs) (notesOf t)) t
+          → Storing b cells laws n size t₀ t′ (i + 1)
+      unfolding badBy
+      storing-turn {xs} {t′} q g =
+          let w : 194 ≤ length t₀ = omega (arith, wide) in
+          let x = by b cells laws i in
+          let note = noteOf (getD laws i 0) (greeting b (rowAt cells (1 + 3 * i))) in
+          let lx = length-i b cells laws i in
+          let next : by b cells laws (i + 1) ≡ x ++ (note ∷ []) = by-next b cells laws i in
+          let ns : notesOf t ≡ x = ap notesOf (s .is) ∙ notes-of t₀ w x (omega (arith, lx, k .few)) in
+          let qe : noteOf (getD laws i 0) xs ≡ note = ap (λ (l : List ℕ). noteOf (getD laws i 0) l) (q ∙ ap (greeting b) e) in
+          let ins : insertNote i (noteOf (getD laws i 0) xs) (notesOf t) ≡ x ++ (note ∷ []) = inserted ns qe lx in
+          let a = ap length next ∙ length-append x (note ∷ []) in
+          let ca = ap (λ (l : List Note). length (allCells l)) next ∙ ap length (all-append x (note ∷ [])) ∙ length-append (allCells x)
+          (allCells (note ∷ [])) in
+          let hh = ap (λ (l : List Note). marksHeld (heads l)) next ∙ held-heads x note in
+          let hr = ap held (rows-snoc cells i 1) ∙ held-snoc (rowsAt cells i 1) (rowAt cells (1 + 3 * i)) in
+          let o = storing-one refl in
+          let ft = note-few (getD laws i 0) (greeting b r) bad-here (omega (arith, o .small)) in
+          let fr : length (note .marks) ≤ mostMarks (rowAt cells (1 + 3 * i) .octets) =
+          few-marks b (getD laws i 0) e ft (omega (arith, length-take (r .octets) (drop (r .start) b))) in
+          record {
+            among = omega arith;
+            is =
+                g ∙ ap (λ (l : List Note). notesLaid l t) (ins ∙ sym next) ∙ ap (notesLaid (by b cells laws (i + 1))) (s .is)
+                ∙ notes-again t₀ w (by b cells laws (i + 1)) x (omega (arith, length-i b cells laws (i + 1), k .few)) (omega arith)
+                (omega (arith, ca));
+            fine =
+                let f = rw (left-step cells n i e h, drop-drop 1 i laws) at (s .fine) in
+                bad-split (isBad (getD (drop i laws) 0 0) (greeting b r)) _ f .1;
+            few = omega (arith, s .few, hh, hr, fr);
+          }
+
+    end-is : n ≤ i → t ≡ notesLaid (notesBy b (rowsAt cells n 1) laws) t₀
+    end-is h = let e : i ≡ n = omega (arith, s .among) in s .is ∙ ap (λ (j : ℕ). notesLaid (by b cells laws j) t₀) e
+
+-- from the second list made empty
+module _ {b cells laws : List ℕ} {n size : ℕ} {t : List ℕ} (k : AllNotes b cells laws n size t) where
+  start : 194 ≤ length t
+  start = omega (arith, wide k)
+
+  pub all-set : AllNotes b cells laws n size (set t 97 0)
+  all-set = record {
+    few = k .few;
+    cells-room = k .cells-room;
+    laws-room = k .laws-room;
+    inside = k .inside;
+    small = k .small;
+    rises = k .rises;
+    fine = k .fine;
+    room = rw (length-set t 97 0) (k .room);
+  }
+
+  over-none : (x : List Note) → length x ≤ 32 → notesLaid x (set t 97 0) ≡ notesLaid x t
+  unfolding allCells
+  over-none x h = ap (notesLaid x) (none-laid t start) ∙ notes-again t start x [] h (omega arith) (omega arith)
+
+  pub storing-first : Storing b cells laws n size (set t 97 0) (set t 97 0) 0
+  storing-first =
+      record {
+        among = omega arith;
+        is = none-laid t start ∙ sym (over-none [] (omega arith)) ∙ ap (λ (l : List Note). notesLaid l (set t 97 0)) (sym (by-none b cells laws));
+        fine = rw (← (left-all cells n)) (k .fine);
+        few = none-held b cells laws;
+      }
+
+  pub storing-end : {t′ : List ℕ} {i : ℕ} → Storing b cells laws n size (set t 97 0) t′ i → n ≤ i
+      → t′ ≡ notesLaid (notesBy b (rowsAt cells n 1) laws) t
+  storing-end s h = end-is all-set s h ∙ over-none (by b cells laws n) (omega (arith, length-i b cells laws n, k .few))
