@@ -3,7 +3,7 @@
 use Prim.Native.Nat.{ℕ, suc, _+_, _*_, _-_, _/_, _%_, _≤_, _<_}
 use mathlib.Core.Path.{_≡_, refl, sym, ap, subst, _∙_}
 use mathlib.Core.List.{List, [], _∷_, _++_, append-nil}
-use mathlib.Core.Bool.{Bool, true, false}
+use mathlib.Core.Bool.{Bool, true, false, cond}
 use native.Mathlib.Omega.{arith}
 use lib.ListN.{length, drop, set, length-append, length-set}
 use lib.Dec.{ltb}
@@ -21,8 +21,8 @@ use Rattle.greetings.proofs.Bad.{walk-of, bad-empty}
 use Rattle.marks.specs.declared.Tally.{Tally}
 use Rattle.marks.specs.declared.Tally.the-variants.{Wrong, Counted}
 use Rattle.marks.specs.Marks.{Mark, markOf, marksFrom, marksOf, mostMarks, markCells, noteOf}
-use Rattle.marks.specs.Taking.{tallyOf, Takes}
-use Rattle.marks.proofs.Marked.{marks-append, marks-one, cells-more, length-cells, two-set}
+use Rattle.marks.specs.Taking.{countedOf, tallyOf, Takes}
+use Rattle.marks.proofs.Marked.{marks-append, marks-one, marks-most, cells-more, length-cells, two-set}
 
 -- a greeting whose walk is refused, and one whose walk is not
 bad-off : (law : ℕ) (xs : List ℕ) → 1 ≤ length xs → {r : Refusal} → walkOf law xs .end ≡ Refused r → isBad law xs ≡ true
@@ -209,3 +209,34 @@ module _ (law : ℕ) (xs : List ℕ) where
             answer = rw (good, frames, ← (t .along .before), t .along .count);
             lent = λ _. rw (frames, t .along .count) (t .cells-are);
           }
+
+-- what a note may count
+module _ (law : ℕ) (xs : List ℕ) (l : law ≤ mostLaw) (g : length xs ≤ longest) where
+  walk-counts : Told xs law storeSet (length xs + 1) 0 (320 * length xs) (walkOf law xs)
+  walk-counts =
+      subst (λ (w : Walked). Told xs law storeSet (length xs + 1) 0 (320 * length xs) w) (sym (walk-of law xs l g))
+      (walk-told xs law storeSet (length xs + 1) 0 (320 * length xs))
+
+  pub note-marks : length (noteOf law xs .marks) ≤ mostMarks (length xs)
+  note-marks = omega (arith, marks-most 0 0 (walkOf law xs .frames), walk-counts .some, walk-counts .inside)
+
+  pub note-samples : noteOf law xs .samples ≤ 320 * length xs
+  note-samples = walk-counts .fits
+
+-- an answer that counts
+pub taken-told : (law : ℕ) (xs : List ℕ) {cells cells′ : List ℕ} {samples m : ℕ} → Takes law xs cells cells′ (Counted samples m)
+    → (isBad law xs ≡ false) × (samples ≡ noteOf law xs .samples) × (m ≡ length (noteOf law xs .marks))
+unfolding tallyOf
+taken-told law xs {samples = samples} {m} t = by (isBad law xs) (t .answer)
+  where
+    by : (b : Bool) → Counted samples m ≡ cond b Wrong (countedOf (noteOf law xs)) → (b ≡ false) × (samples ≡ noteOf law xs .samples) × (m ≡ length (noteOf law xs .marks))
+    by true e = let z : _≡_ {A = ℕ} 0 1 = cc in absurd (omega arith)
+    by false e = (refl, cc, cc)
+
+pub taken-bad : (law : ℕ) (xs : List ℕ) {cells cells′ : List ℕ} → Takes law xs cells cells′ Wrong → isBad law xs ≡ true
+unfolding tallyOf
+taken-bad law xs t = by (isBad law xs) (t .answer)
+  where
+    by : (b : Bool) → Wrong ≡ cond b Wrong (countedOf (noteOf law xs)) → b ≡ true
+    by true e = refl
+    by false e = let z : _≡_ {A = ℕ} 0 1 = cc in absurd (omega arith)

@@ -171,3 +171,26 @@ marks-next t n i e h room =
     held-turn (drop 97 t) n i refl h refl
     in
     omega (arith, o, sum)
+
+-- greetings laid leave the second list as it is
+module _ (rows : List Row) (t : List ℕ) {t₁ : List ℕ} (few : length rows ≤ 32) (e : t₁ ≡ laid rows t) where
+  behind : drop 97 t₁ ≡ drop 97 t
+  behind = ap (λ (x : List ℕ). drop 97 x) e ∙ laid-within rows t few
+
+  pub heads-kept : headsOf t₁ ≡ headsOf t
+  heads-kept = ap (λ (x : List ℕ). rowsOf x) behind
+
+  pub count-kept : getD t₁ 97 0 ≡ getD t 97 0
+  count-kept = sym (getD-drop 97 t₁ 0 0) ∙ ap (λ (x : List ℕ). getD x 0 0) behind ∙ getD-drop 97 t 0 0
+
+  -- a note put in after its greeting, and taken out after it
+  pub stored-more : (i : ℕ) (note : Note) {t′ : List ℕ} → t′ ≡ notesLaid (insertNote i note (notesOf t₁)) t₁
+      → t′ ≡ stored rows (insertNote i note (notesOf t)) t
+  stored-more i note g =
+      g ∙ ap (λ (u : List ℕ). notesLaid (insertNote i note (notesOf u)) u) e
+      ∙ ap (λ (ns : List Note). notesLaid (insertNote i note ns) (laid rows t)) (notes-kept rows t few)
+
+  pub stored-less : (i : ℕ) {t′ : List ℕ} → t′ ≡ notesLaid (removeNote i (notesOf t₁)) t₁ → t′ ≡ stored rows (removeNote i (notesOf t)) t
+  stored-less i g =
+      g ∙ ap (λ (u : List ℕ). notesLaid (removeNote i (notesOf u)) u) e
+      ∙ ap (λ (ns : List Note). notesLaid (removeNote i ns) (laid rows t)) (notes-kept rows t few)
