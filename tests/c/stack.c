@@ -10,9 +10,16 @@
 
 enum { STACK = 1 << 20, PAINT = 0xC5, STREAM = 4000 };
 
+/* Kinds of call, none among them. With JUMP the header has g7110_store_jump. */
+#ifdef JUMP
+enum { CALLS = 18 };
+#else
+enum { CALLS = 17 };
+#endif
+
 struct call {
     int which; /* 0 none, 1 read, 2 write, 3 walk, 4 to linear values, 5 from them; of settings 6 save, 7 back, 8 read, 9 wipe;
-                * 10 why; of a store 11 put, 12 get, 13 delete, 14 save, 15 load; 16 mend */
+                * 10 why; of a store 11 put, 12 get, 13 delete, 14 save, 15 load; 16 mend; 17 jump */
     const uint8_t *given;
     size_t length;
 };
@@ -21,7 +28,7 @@ static uint8_t out[1 << 16];
 static int16_t linear[320];
 static uint32_t state[G7110_SETTINGS];
 static uint8_t block[G7110_MAX_BLOCK];
-static uint32_t table[1 + 3 * G7110_MAX_GREETINGS];
+static uint32_t table[G7110_MAX_CELLS];
 static uint32_t number;
 
 static void *make(void *argument)
@@ -38,12 +45,15 @@ static void *make(void *argument)
     if (call->which == 8) g7110_settings_read(state, state[0], out, report);
     if (call->which == 9) g7110_settings_wipe(state);
     if (call->which == 10) g7110_why(call->given, call->length, 1, G7110_ALL_TOOLS, out, report);
-    if (call->which == 11) g7110_store_put(block, sizeof block, table, sizeof table / sizeof *table, number, call->given, call->length, report);
+    if (call->which == 11) g7110_store_put(block, sizeof block, table, sizeof table / sizeof *table, 1, number, call->given, call->length, report);
     if (call->which == 12) g7110_store_get(block, sizeof block, table, sizeof table / sizeof *table, number, report);
     if (call->which == 13) g7110_store_delete(block, sizeof block, table, sizeof table / sizeof *table, number);
     if (call->which == 14) g7110_store_save(block, sizeof block, table, sizeof table / sizeof *table, out, sizeof out, report);
     if (call->which == 15) g7110_store_load(call->given, call->length, block, sizeof block, table, sizeof table / sizeof *table);
     if (call->which == 16) g7110_mend(call->given, call->length, 1, 40000, out, sizeof out, report);
+#ifdef JUMP
+    if (call->which == 17) g7110_store_jump(block, sizeof block, table, sizeof table / sizeof *table, number, call->length, report);
+#endif
     return NULL;
 }
 
@@ -66,7 +76,7 @@ static size_t used(struct call call)
     return STACK - low;
 }
 
-static size_t greatest[17];
+static size_t greatest[18];
 
 static void measure(int which, const uint8_t *given, size_t length)
 {
@@ -120,14 +130,19 @@ static void settings(void)
 /* Each call over a store: greetings of every kind of frame, gaps, closing up, and one that is refused. */
 static void store(const uint8_t *stream, size_t length)
 {
-    static uint8_t text[2048], large[6000];
+    static uint8_t text[8192], large[6000];
     uint64_t saved[1];
+    size_t sample;
     for (number = 1; number <= 7; number++) measure(11, stream, length);
     for (number = 2; number <= 6; number += 2) measure(13, NULL, 0);
     for (number = 8; number <= 40; number++) measure(11, stream, number % 3 ? length : length - 1);
     memset(large, 0x41, sizeof large);
     measure(11, large, sizeof large);
     for (number = 1; number <= 41; number++) measure(12, NULL, 0);
+    /* Into frames of every kind; and from marks, up to 64 frames, in the last greeting, and past its end. */
+    for (number = 1; number <= 7; number += 2)
+        for (sample = 0; sample < 2560; sample += 320) measure(17, NULL, sample);
+    for (number = 41, sample = 0; sample <= 240000; sample += 23960) measure(17, NULL, sample);
     measure(14, NULL, 0);
     if (g7110_store_save(block, sizeof block, table, sizeof table / sizeof *table, text, sizeof text, saved) != G7110_OK) return;
     measure(15, text, (size_t)saved[0]);
@@ -135,10 +150,10 @@ static void store(const uint8_t *stream, size_t length)
 
 int main(void)
 {
-    static const char *const names[17] = {"",            "read",          "write",         "walk",          "to_linear",
+    static const char *const names[18] = {"",            "read",          "write",         "walk",          "to_linear",
                                           "from_linear", "settings_save", "settings_back", "settings_read", "settings_wipe",
                                           "why",         "store_put",     "store_get",     "store_delete",  "store_save",
-                                          "store_load",  "mend"};
+                                          "store_load",  "mend",          "store_jump"};
     uint8_t samples[320], form[G7110_MAX_WRITTEN], stream[STREAM];
     uint64_t wrote[3];
     size_t length = 0;
@@ -165,6 +180,6 @@ int main(void)
     measure(16, stream, length);
     measure(16, stream, length - 1);
     store(stream, length);
-    for (kind = 1; kind < 17; kind++) printf("stack: g7110_%s %lu octets\n", names[kind], over(kind));
+    for (kind = 1; kind < CALLS; kind++) printf("stack: g7110_%s %lu octets\n", names[kind], over(kind));
     return 0;
 }

@@ -3,7 +3,7 @@
 
 use crate::forms::LENGTHS;
 use crate::mend::Menders;
-use crate::store::{Call, Stores, BLOCK, SAVED};
+use crate::store::{early_text_of, Call, Stores, BLOCK, SAVED};
 use crate::why::Reasons;
 use crate::{Proved, Second};
 use second::gen::damage_somehow;
@@ -127,26 +127,47 @@ impl Further {
                 _ => self.rng.below(40) as u32,
             };
             let call = match self.rng.below(12) {
-                0..=5 => Call::Put(number, self.octets(pool, 3)),
+                0..=5 => Call::Put(self.law(), number, self.octets(pool, 3)),
                 6 | 7 => Call::Delete(number),
                 8 => Call::Get(number),
                 9 => Call::Save(self.rng.below(SAVED)),
-                _ => {
-                    let text = self.stores.model.text();
+                10 => {
+                    let text = self.text();
                     let damaged = !text.is_empty() && self.rng.flip();
                     Call::Load(if damaged { damage_somehow(&text, &mut self.rng) } else { text })
                 }
+                _ => self.jump(number),
             };
             self.stores.call(&call);
         }
         if self.rng.chance(1, 20) {
-            let cells = self.stores.cells();
-            let at = self.rng.below(cells.len());
-            cells[at] ^= 1 << self.rng.below(32);
-            if !self.stores.reread() {
-                self.stores.all_refused(&[Call::Get(1), Call::Put(1, vec![0x41]), Call::Delete(1), Call::Save(SAVED)]);
+            let (at, bit) = (self.rng.below(self.stores.cells().len()), self.rng.below(32));
+            if !self.stores.lend(|cells| cells[at] ^= 1 << bit) {
+                let calls =
+                    [Call::Get(1), Call::Put(1, 1, vec![0x41]), Call::Delete(1), Call::Save(SAVED), Call::Jump(1, 0)];
+                calls.iter().for_each(|call| {
+                    self.stores.call(call);
+                });
                 self.stores.renew(vec![0; BLOCK]);
             }
         }
+    }
+
+    /// The lines of the store as it is; now and then those of R-6 alone.
+    fn text(&mut self) -> Vec<u8> {
+        match self.rng.below(4) {
+            0 => early_text_of(&self.stores.model.greetings),
+            _ => self.stores.model.text(),
+        }
+    }
+
+    /// A jump into a greeting that is there, mostly, and to a sample that it has.
+    fn jump(&mut self, number: u32) -> Call {
+        let rows = &self.stores.model.greetings;
+        if rows.is_empty() || self.rng.chance(1, 10) {
+            return Call::Jump(number, self.rng.next_u64());
+        }
+        let row = &rows[self.rng.below(rows.len())];
+        Call::Jump(row.number, self.rng.below(row.samples + 2) as u64)
     }
 }

@@ -76,13 +76,18 @@ extern "C" {
     ) -> u32;
     fn g7110_store_cells(size: u64) -> u64;
     fn g7110_store_put(
-        block: *mut u8, block_len: usize, table: *mut u32, table_len: usize, number: u32, octets: *const u8,
+        block: *mut u8, block_len: usize, table: *mut u32, table_len: usize, law: u32, number: u32, octets: *const u8,
         octets_len: usize, report: *mut [u64; 2],
     ) -> u32;
     fn g7110_store_get(
         block: *const u8, block_len: usize, table: *const u32, table_len: usize, number: u32, report: *mut [u64; 2],
     ) -> u32;
     fn g7110_store_delete(block: *const u8, block_len: usize, table: *mut u32, table_len: usize, number: u32) -> u32;
+    #[cfg(feature = "jump")]
+    fn g7110_store_jump(
+        block: *const u8, block_len: usize, table: *const u32, table_len: usize, number: u32, sample: u64,
+        report: *mut [u64; 4],
+    ) -> u32;
 }
 
 /// The ending; the report is samples, octets, bits, tool and the refusal's bit.
@@ -174,10 +179,12 @@ pub fn store_cells(size: u64) -> u64 {
 }
 
 /// The ending; the report is the start and the octets moved.
-pub fn store_put(block: &mut [u8], table: &mut [u32], number: u32, octets: &[u8], report: &mut [u64; 2]) -> u32 {
+pub fn store_put(
+    block: &mut [u8], table: &mut [u32], law: u32, number: u32, octets: &[u8], report: &mut [u64; 2],
+) -> u32 {
     let (b, t) = (block.as_mut_ptr(), table.as_mut_ptr());
     // SAFETY: as in `read`; a slice of u32 is aligned.
-    unsafe { g7110_store_put(b, block.len(), t, table.len(), number, octets.as_ptr(), octets.len(), report) }
+    unsafe { g7110_store_put(b, block.len(), t, table.len(), law, number, octets.as_ptr(), octets.len(), report) }
 }
 
 /// The ending; the report is the start and the octets.
@@ -190,4 +197,11 @@ pub fn store_get(block: &[u8], table: &[u32], number: u32, report: &mut [u64; 2]
 pub fn store_delete(block: &[u8], table: &mut [u32], number: u32) -> u32 {
     // SAFETY: as in `store_put`.
     unsafe { g7110_store_delete(block.as_ptr(), block.len(), table.as_mut_ptr(), table.len(), number) }
+}
+
+/// The ending; the report is the frame, its place in the greeting, the sample's place in the frame and the frames read.
+#[cfg(feature = "jump")]
+pub fn store_jump(block: &[u8], table: &[u32], number: u32, sample: u64, report: &mut [u64; 4]) -> u32 {
+    // SAFETY: as in `store_put`.
+    unsafe { g7110_store_jump(block.as_ptr(), block.len(), table.as_ptr(), table.len(), number, sample, report) }
 }

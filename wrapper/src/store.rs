@@ -1,6 +1,7 @@
-//! A greeting store that fills its gaps: document 02, R-6. Greetings in a lent block, with a lent table.
+//! A greeting store that fills its gaps: document 02, R-6, with marks and jumps, R-8 and R-9. Greetings in a lent block, with
+//! a lent table.
 
-use crate::raw;
+use crate::{raw, Law};
 use std::fmt;
 
 /// Octets of the largest block; a longer one is used up to here.
@@ -10,7 +11,10 @@ pub const MAX_GREETINGS: usize = 32;
 /// The greatest number of a greeting; the least is 1.
 pub const MAX_NUMBER: u32 = 65_535;
 
-/// How many cells a table needs for a block of a size. A fresh table is all 0.
+/// How many cells a table needs for the largest block: 194, and two for each of 288 marks.
+pub const MAX_CELLS: usize = 770;
+
+/// How many cells a table needs for a block of a size, at most [`MAX_CELLS`]. A fresh table is all 0.
 pub fn cells(size: usize) -> usize {
     raw::store_cells(size as u64) as usize
 }
@@ -26,12 +30,14 @@ pub enum Refusal {
     Taken,
     /// No greeting has the number.
     Absent,
-    /// The greeting is empty, or the walk refuses it.
+    /// The greeting is empty, or the walk refuses it; of a jump, marks or octets that no calls left.
     Bad,
     /// There are 32 greetings.
     Full,
     /// The octets held and the new ones exceed the block.
     NoRoom,
+    /// The sample number is not below the greeting's samples.
+    Beyond,
     /// The table is too short, or not what calls leave for this block.
     Table,
 }
@@ -47,6 +53,7 @@ impl Refusal {
             18 => Refusal::Bad,
             19 => Refusal::Full,
             20 => Refusal::NoRoom,
+            21 => Refusal::Beyond,
             26 => Refusal::Table,
             _ => unreachable!("the header has no ending {ending} of these calls"),
         }
@@ -62,6 +69,7 @@ impl Refusal {
             Refusal::Bad => 18,
             Refusal::Full => 19,
             Refusal::NoRoom => 20,
+            Refusal::Beyond => 21,
             Refusal::Table => 26,
         }
     }
@@ -77,6 +85,7 @@ impl fmt::Display for Refusal {
             Refusal::Bad => "the greeting is empty, or the walk refuses it",
             Refusal::Full => "the store has 32 greetings",
             Refusal::NoRoom => "the octets held and the new ones exceed the block",
+            Refusal::Beyond => "the greeting has no such sample",
             Refusal::Table => "the table is not one that calls left for this block",
         })
     }
@@ -98,10 +107,23 @@ pub struct Got {
     pub octets: usize,
 }
 
-/// Puts a greeting into the lowest gap that holds it; if none does, the others close up from 0 first.
-pub fn put(block: &mut [u8], table: &mut [u32], number: u32, octets: &[u8]) -> Result<Put, Refusal> {
+/// The frame of a greeting that holds a sample.
+#[derive(Clone, Copy, Debug, PartialEq, Eq)]
+pub struct Jump {
+    /// Counted from 0, pads among them.
+    pub frame: usize,
+    /// Where it starts, from the greeting's start.
+    pub place: usize,
+    /// The sample's place in the frame.
+    pub within: usize,
+    /// Frames read to find it, from the last mark at or before the sample: 1 to 64.
+    pub read: usize,
+}
+
+/// Puts a greeting of a law into the lowest gap that holds it; if none does, the others close up from 0 first.
+pub fn put(block: &mut [u8], table: &mut [u32], law: Law, number: u32, octets: &[u8]) -> Result<Put, Refusal> {
     let mut report = [0; 2];
-    match raw::store_put(block, table, number, octets, &mut report) {
+    match raw::store_put(block, table, law.number(), number, octets, &mut report) {
         0 => Ok(Put { start: report[0] as usize, moved: report[1] as usize }),
         ending => Err(Refusal::of(ending)),
     }
@@ -120,6 +142,19 @@ pub fn get(block: &[u8], table: &[u32], number: u32) -> Result<Got, Refusal> {
 pub fn delete(block: &[u8], table: &mut [u32], number: u32) -> Result<(), Refusal> {
     match raw::store_delete(block, table, number) {
         0 => Ok(()),
+        ending => Err(Refusal::of(ending)),
+    }
+}
+
+/// Names the frame of a greeting that holds a sample, counted from 0.
+#[cfg(feature = "jump")]
+pub fn jump(block: &[u8], table: &[u32], number: u32, sample: u64) -> Result<Jump, Refusal> {
+    let mut report = [0; 4];
+    match raw::store_jump(block, table, number, sample, &mut report) {
+        0 => {
+            let [frame, place, within, read] = report.map(|number| number as usize);
+            Ok(Jump { frame, place, within, read })
+        }
         ending => Err(Refusal::of(ending)),
     }
 }

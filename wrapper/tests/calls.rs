@@ -237,3 +237,50 @@ fn a_greeting_is_mended() {
     assert_eq!(mend(&[0; 65_536], Law::A, 39, &mut out), Err(Refusal::Frame(g7110::Refusal::Long)));
     assert_eq!(out, [0xA7]);
 }
+
+/// Greetings put with their law, saved and loaded; and what is refused.
+#[test]
+fn greetings_are_kept() {
+    use g7110::saved::{load, save, MAX_TABLE};
+    use g7110::store::{cells, delete, get, put, Got, Put, Refusal, MAX_BLOCK, MAX_CELLS};
+    assert_eq!((cells(0), cells(64), cells(MAX_BLOCK), cells(usize::MAX)), (258, 260, MAX_CELLS, MAX_CELLS));
+    let (mut block, mut table) = ([0xEE; 300], [0; 266]);
+    assert_eq!(put(&mut block, &mut table, Law::A, 7, &[0, 0]), Ok(Put { start: 0, moved: 0 }));
+    assert_eq!(put(&mut block, &mut table, Law::Mu, 8, &[0x41; 70]), Ok(Put { start: 2, moved: 0 }));
+    assert_eq!(get(&block, &table, 8), Ok(Got { start: 2, octets: 70 }));
+    assert_eq!(put(&mut block, &mut table, Law::A, 9, &[0x46]), Err(Refusal::Bad));
+    let mut text = [0; MAX_TABLE];
+    let octets = save(&block, &table, &mut text).unwrap();
+    let lines = "prompt=7\nstart=0\noctets=2\nlaw=0\nsamples=0\nmark=0,0\n\
+                 prompt=8\nstart=2\noctets=70\nlaw=1\nsamples=2800\nmark=0,0\nmark=64,2560\n";
+    assert_eq!(text[..octets], *lines.as_bytes());
+    let mut other = [u32::MAX; 266];
+    assert_eq!(load(&text[..octets], &block, &mut other), Ok(()));
+    assert_eq!(load(lines.replace("64,", "63,").as_bytes(), &block, &mut other), Err(Refusal::Table));
+    assert_eq!(delete(&block, &mut other, 7), Ok(()));
+    assert_eq!(load(b"prompt=1\nstart=2\noctets=1\n", &block, &mut other), Ok(()), "in R-6's lines");
+    assert_eq!(get(&block, &other, 8), Err(Refusal::Absent));
+    let mut report = [9; 2];
+    let ending = g7110::raw::store_put(&mut block, &mut other, 2, 0, &[], &mut report);
+    assert_eq!((ending, report), (g7110::Refusal::Law.number(), [0; 2]), "a report is written in every case");
+}
+
+/// A greeting jumped into; and what is refused.
+#[cfg(feature = "jump")]
+#[test]
+fn greetings_are_jumped_into() {
+    use g7110::store::{jump, put, Jump, Put, Refusal};
+    let (mut block, mut table) = ([0xEE; 300], [0; 266]);
+    assert_eq!(put(&mut block, &mut table, Law::A, 7, &[0, 0]), Ok(Put { start: 0, moved: 0 }));
+    assert_eq!(put(&mut block, &mut table, Law::Mu, 8, &[0x41; 70]), Ok(Put { start: 2, moved: 0 }));
+    assert_eq!(jump(&block, &table, 8, 40), Ok(Jump { frame: 1, place: 1, within: 0, read: 2 }));
+    assert_eq!(jump(&block, &table, 8, 2_559), Ok(Jump { frame: 63, place: 63, within: 39, read: 64 }));
+    assert_eq!(jump(&block, &table, 8, 2_560), Ok(Jump { frame: 64, place: 64, within: 0, read: 1 }));
+    assert_eq!(jump(&block, &table, 8, 2_800), Err(Refusal::Beyond));
+    assert_eq!(jump(&block, &table, 7, 0), Err(Refusal::Beyond));
+    assert_eq!(jump(&block, &table, 9, 0), Err(Refusal::Absent));
+    assert_eq!(jump(&block, &table, 0, 0), Err(Refusal::Number));
+    let mut report = [9; 4];
+    assert_eq!(g7110::raw::store_jump(&block, &table, 2, 0, &mut report), Refusal::Absent.number());
+    assert_eq!(report, [0; 4], "a report is written in every case");
+}
