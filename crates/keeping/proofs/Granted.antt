@@ -32,7 +32,7 @@ use Rattle.notes.proofs.Noting.{heads-notes, length-heads}
 use Rattle.notes.proofs.Stored.{length-notes}
 use Rattle.notes.proofs.Held.{rows-stored, notes-stored}
 use Rattle.notes.proofs.Matched.{sane-noted, room-for}
-use Rattle.notes.proofs.Fits.{Fits, matched-head, matched-cons, matched-nil, matched-inserted, matched-removed, sane-old, sane-stored}
+use Rattle.notes.proofs.Pairs.{Fits, matched-head, matched-cons, matched-nil, matched-inserted, matched-removed, sane-old, sane-stored}
 use Rattle.store.specs.declared.Refusal.{Refusal}
 use Rattle.store.specs.declared.Refusal.the-variants.{Law, Number, Taken as taken, Absent, Bad, Full, NoRoom, Table}
 use Rattle.store.specs.Store.{leaves, refused, After, putAt, fitted, putIn, getIn, deleteIn, gotten, without}

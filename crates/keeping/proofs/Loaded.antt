@@ -20,8 +20,8 @@ use Rattle.marks.proofs.Count.{note-few}
 use Rattle.notes.specs.Notes.{True}
 use Rattle.notes.specs.Cells.{headOf, heads, stored}
 use Rattle.notes.specs.Sane.{storeCells, matched, saneStore}
-use Rattle.notes.proofs.Held.{heads-cons}
-use Rattle.notes.proofs.Fits.{matched-nil, matched-cons}
+use Rattle.notes.proofs.Noting.{heads-cons}
+use Rattle.notes.proofs.Pairs.{matched-nil, matched-cons}
 use Rattle.store.specs.declared.Refusal.{Refusal}
 use Rattle.store.specs.declared.Refusal.the-variants.{Bad, Table}
 use Rattle.store.specs.Store.{Outcome, leaves, refused, After}

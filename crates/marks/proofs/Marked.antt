@@ -7,7 +7,7 @@ use native.Mathlib.Omega.{arith}
 use lib.ListN.{length, getD, drop, set, length-append}
 use lib.Seq.{drop-cons, set-at}
 use lib.Dec.{eqb}
-use borrow.Author.Tests.{eq-eqb, ne-eqb, eqb-true, eqb-false}
+use borrow.Author.Tests.{eq-eqb, ne-eqb}
 use Rattle.rules.specs.Walk.{Delivered, samplesKept}
 use Rattle.marks.specs.Marks.{Mark, markOf, isMarked, marksFrom, markCells}
 
@@ -76,21 +76,3 @@ two-set p t k a b e h =
     ap (λ (l : List ℕ). set l (k + 1) b) (first ∙ sym (append-assoc p (a ∷ []) rest))
     ∙ set-at (p ++ (a ∷ [])) (getD t (k + 1) 0) (drop (k + 2) t) b (k + 1) (omega (arith, e, length-append p (a ∷ [])))
     ∙ simp append-assoc
-
--- no more marks than every 64th frame, and one
-pub marks-most : (i before : ℕ) (a : List Delivered) → 64 * length (marksFrom i before a) ≤ length a + (i + 63) % 64
-unfolding marksFrom
-marks-most i before [] = omega arith
-marks-most i before (f ∷ a) = by (isMarked i) refl (marks-most (i + 1) (before + length (f .found .samples)) a)
-  where
-    more : ℕ
-    more = length (marksFrom (i + 1) (before + length (f .found .samples)) a)
-
-    past : (r : ℕ) → i % 64 ≡ r → (r ≡ 0 → ⊥) → 64 * more ≤ length a + (i + 1 + 63) % 64 → 64 * more ≤ suc (length a) + (i + 63) % 64
-    past zero e z h = absurd (z refl)
-    past (suc r) e z h = omega arith
-
-    by : (b : Bool) → isMarked i ≡ b → 64 * more ≤ length a + (i + 1 + 63) % 64
-        → 64 * length (step b (markOf (f .place) before) (marksFrom (i + 1) (before + length (f .found .samples)) a)) ≤ suc (length a) + (i + 63) % 64
-    by true e h = let z : i % 64 ≡ 0 = eqb-true (i % 64) 0 e in omega arith
-    by false e h = let z : i % 64 ≡ 0 → ⊥ = eqb-false (i % 64) 0 e in past (i % 64) refl z h

@@ -22,7 +22,7 @@ use Rattle.marks.specs.declared.Tally.{Tally}
 use Rattle.marks.specs.declared.Tally.the-variants.{Wrong, Counted}
 use Rattle.marks.specs.Marks.{Mark, markOf, marksFrom, marksOf, mostMarks, markCells, noteOf}
 use Rattle.marks.specs.Taking.{countedOf, tallyOf, Takes}
-use Rattle.marks.proofs.Marked.{marks-append, marks-one, marks-most, cells-more, length-cells, two-set}
+use Rattle.marks.proofs.Marked.{marks-append, marks-one, cells-more, length-cells, two-set}
 
 -- a greeting whose walk is refused, and one whose walk is not
 bad-off : (law : ℕ) (xs : List ℕ) → 1 ≤ length xs → {r : Refusal} → walkOf law xs .end ≡ Refused r → isBad law xs ≡ true
@@ -209,19 +209,6 @@ module _ (law : ℕ) (xs : List ℕ) where
             answer = rw (good, frames, ← (t .along .before), t .along .count);
             lent = λ _. rw (frames, t .along .count) (t .cells-are);
           }
-
--- what a note may count
-module _ (law : ℕ) (xs : List ℕ) (l : law ≤ mostLaw) (g : length xs ≤ longest) where
-  walk-counts : Told xs law storeSet (length xs + 1) 0 (320 * length xs) (walkOf law xs)
-  walk-counts =
-      subst (λ (w : Walked). Told xs law storeSet (length xs + 1) 0 (320 * length xs) w) (sym (walk-of law xs l g))
-      (walk-told xs law storeSet (length xs + 1) 0 (320 * length xs))
-
-  pub note-marks : length (noteOf law xs .marks) ≤ mostMarks (length xs)
-  note-marks = omega (arith, marks-most 0 0 (walkOf law xs .frames), walk-counts .some, walk-counts .inside)
-
-  pub note-samples : noteOf law xs .samples ≤ 320 * length xs
-  note-samples = walk-counts .fits
 
 -- an answer that counts
 pub taken-told : (law : ℕ) (xs : List ℕ) {cells cells′ : List ℕ} {samples m : ℕ} → Takes law xs cells cells′ (Counted samples m)

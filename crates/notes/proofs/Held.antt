@@ -10,7 +10,7 @@ use Rattle.rows.specs.Cells.{rowsOf, cellsOf, laid}
 use Rattle.rows.proofs.Cells.{length-cells, rows-laid, count-laid}
 use Rattle.marks.specs.Marks.{Note}
 use Rattle.notes.proofs.Noting.{length-heads, length-all, notes-back}
-use Rattle.notes.specs.Cells.{headOf, heads, headsOf, notesOf, marksHeld, allCells, allLaid, notesLaid, stored}
+use Rattle.notes.specs.Cells.{heads, headsOf, notesOf, marksHeld, allCells, allLaid, notesLaid, stored}
 
 -- rows laid over a beginning of the cells, the rest as it was
 laid-part : (rows : List Row) (a z : List ℕ) → 1 + 3 * length rows ≤ length a → laid rows a ++ z ≡ laid rows (a ++ z)
@@ -24,11 +24,6 @@ unfolding laid
 length-laid rows t h =
     length-append (length rows ∷ cellsOf rows) (drop (1 + 3 * length rows) t)
     ∙ omega (arith, length-cells rows, length-drop (1 + 3 * length rows) t)
-
--- notes but for their marks
-pub heads-cons : (n : Note) (c : List Note) → heads (n ∷ c) ≡ headOf n ∷ heads c
-unfolding heads
-heads-cons n c = refl
 
 -- the three parts of a table that holds greetings with their notes
 module _ (rows : List Row) (notes : List Note) (t : List ℕ) (h : length rows ≤ 32) (g : length notes ≤ 32) (c : 194 ≤ length t) where

@@ -103,7 +103,7 @@ nth-heads i [] h = absurd (omega arith)
 nth-heads zero (n ∷ notes) h = refl
 nth-heads (suc i) (n ∷ notes) h = nth-heads i notes (omega arith)
 
-heads-cons : (n : Note) (notes : List Note) → heads (n ∷ notes) ≡ headOf n ∷ heads notes
+pub heads-cons : (n : Note) (notes : List Note) → heads (n ∷ notes) ≡ headOf n ∷ heads notes
 unfolding heads
 heads-cons n notes = refl
 

@@ -1,5 +1,5 @@
--- The three parts of a table lie apart: greetings laid leave the notes as they are (`notes-kept`), and notes laid leave the greetings (`rows-kept`).
--- `note-put`, `note-out`: a note put in and taken out, from what the steps do. `notes-laid`: notes laid are the notes read.
+-- The three parts of a table lie apart: greetings laid leave the notes as they are (`notes-kept`, `heads-kept`, `count-kept`).
+-- `note-put`, `note-out`: a note put in and taken out, from what the steps do; `stored-more`, `stored-less`: the same after its greeting.
 use Prim.Native.Nat.{ℕ, zero, suc, _+_, _*_, _-_, _≤_, _<_}
 use mathlib.Core.Path.{_≡_, refl, sym, ap, _∙_}
 use mathlib.Core.List.{List, [], _∷_, _++_, append-assoc, append-nil}

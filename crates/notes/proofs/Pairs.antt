@@ -18,8 +18,8 @@ use Rattle.marks.specs.Marks.{Note, mostMarks}
 use Rattle.notes.specs.Cells.{headOf, heads, stored}
 use Rattle.notes.specs.Notes.{insertNote}
 use Rattle.notes.specs.Sane.{storeCells, matched, saneStore}
-use Rattle.notes.proofs.Held.{rows-stored, count-stored, heads-stored, second-count, length-stored, heads-cons}
-use Rattle.notes.proofs.Noting.{length-heads, heads-append}
+use Rattle.notes.proofs.Held.{rows-stored, count-stored, heads-stored, second-count, length-stored}
+use Rattle.notes.proofs.Noting.{length-heads, heads-append, heads-cons}
 use Rattle.notes.proofs.Matched.{marks-fit}
 
 -- one greeting and its second row
