@@ -1,3 +1,9 @@
+-- TAKEN, longer than the block, BAD; then what was taken of the walk is the greeting's note (Called).
+use mathlib.Core.Path.{sym, subst, _∙_}
+use native.Mathlib.Omega.{arith}
+use lib.ListN.{length}
+use Rattle.marks.proofs.Taking.{taken-bad}
+use Rattle.store.proofs.Called.{put-taken, put-long, put-bad, sound-taken}
 use borrow.Author.Needs.{needs}
 use Rattle.store.proofs.put_among.Statement.{statement}
 use Rattle.store.proofs.put_among.Tie as tie
@@ -9,13 +15,22 @@ use Rattle.store.proofs.over_long.Reads as over-long-reads
 use Rattle.store.proofs.put_sound.Reads as put-sound-reads
 
 returns : tie.Need-returns
-returns c = ?
+returns c =
+    let s = c .before .before .before .before in
+    let a = s .args in
+    let p = s .pre in
+    put-taken (a .block .now) (a .table .now) (a .size) (a .law) (a .number) (a .octets .now) (p .0) (p .1 .2) (omega arith)
 
 over-long-requires : tie.Need-over-long-requires
 over-long-requires c κs = search needs
 
 returns-2 : tie.Need-returns-2
-returns-2 c = ?
+returns-2 c =
+    let s = c .before .before .before .before .before .before in
+    let a = s .args in
+    let p = s .pre in
+    put-long (a .block .now) (a .table .now) (a .size) (a .law) (a .number) (a .octets .now) (p .0) (p .1 .2) (omega arith)
+    (c .over-long .ensures) (omega arith)
 
 slice-aggregate-take : tie.Need-slice-aggregate-take
 slice-aggregate-take c = search needs
@@ -36,10 +51,26 @@ slice-aggregate-put-sound : tie.Need-slice-aggregate-put-sound
 slice-aggregate-put-sound c = search needs
 
 put-sound-requires : tie.Need-put-sound-requires
-put-sound-requires c κs = ?
+put-sound-requires c κs =
+    let wide = c .before .wide .ensures in
+    let told = c .before .before .before .before .before in
+    let take = told .before .before .before .take .ensures in
+    let s = told .before .before .before .before .before .before .before .before .before .before in
+    let p = s .pre in
+    let k = sound-taken take (told .samples .given .1) wide (omega arith) in
+    (
+      (p .0, omega arith, k .fine),
+      ((p .1 .0, p .1 .1, p .1 .3, omega arith), ((omega (arith, wide), k .heard, k .few, k .fits), k .note)),
+    )
 
 returns-3 : tie.Need-returns-3
-returns-3 c = ?
+returns-3 c =
+    let take = c .before .before .before .take .ensures in
+    let s = c .before .before .before .before .before .before .before .before .before .before in
+    let a = s .args in
+    let p = s .pre in
+    put-bad (a .block .now) (a .table .now) (a .size) (a .law) (a .number) (a .octets .now) (p .0) (p .1 .2) (omega arith)
+    (taken-bad _ _ (rw (c .enum-told .given .1) at take))
 
 same-length : tie.Need-same-length
 same-length c = search needs
@@ -48,7 +79,9 @@ same-length-2 : tie.Need-same-length-2
 same-length-2 c = search needs
 
 returns-4 : tie.Need-returns-4
-returns-4 c = ?
+returns-4 c =
+    let put = c .before .before .before .before in
+    rw (put .before .before .wide .ensures) at (put .put-sound .ensures)
 
 pub put-among-spec : {M : Type 1} → statement M
 put-among-spec =
