@@ -24,7 +24,7 @@ use Rattle.notes.specs.Sane.{storeCells}
 use Rattle.notes.proofs.Noting.{notes-back, length-heads, heads-append, all-append, length-all}
 use Rattle.saved.specs.Steps.{badBy, notesBy, OneMore, AllNotes}
 use Rattle.saved.proofs.Bad.{law-at}
-use Rattle.saved.proofs.Small.{note-few}
+use Rattle.marks.proofs.Count.{note-few}
 use Rattle.saved.proofs.Compared.{bad-split}
 
 -- a table in three parts: the greetings, the second list, the marks
@@ -274,7 +274,7 @@ module _ {b cells laws : List ℕ} {n size : ℕ} {t₀ : List ℕ} (k : AllNote
           let hh = ap (λ (l : List Note). marksHeld (heads l)) next ∙ held-heads x note in
           let hr = ap held (rows-snoc cells i 1) ∙ held-snoc (rowsAt cells i 1) (rowAt cells (1 + 3 * i)) in
           let o = storing-one refl in
-          let ft = note-few (getD laws i 0) (greeting b r) bad-here (omega (arith, o .small)) in
+          let ft = note-few (getD laws i 0) (greeting b r) in
           let fr : length (note .marks) ≤ mostMarks (rowAt cells (1 + 3 * i) .octets) =
           few-marks b (getD laws i 0) e ft (omega (arith, length-take (r .octets) (drop (r .start) b))) in
           record {

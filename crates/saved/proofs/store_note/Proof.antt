@@ -1,7 +1,8 @@
 -- What was taken, put behind the rest (Small).
 use mathlib.Core.Path.{_≡_, refl, sym, ap, _∙_}
 use native.Mathlib.Omega.{arith}
-use Rattle.saved.proofs.Small.{fine-law, note-few, Tallied, tallied, tally-wrong, note-stored}
+use Rattle.marks.proofs.Count.{note-few}
+use Rattle.saved.proofs.Small.{fine-law, Tallied, tallied, tally-wrong, note-stored}
 use borrow.Author.Needs.{needs}
 use Rattle.saved.proofs.store_note.Statement.{statement}
 use Rattle.saved.proofs.store_note.Tie as tie
@@ -33,7 +34,7 @@ put-note-requires c κs =
     let p = s .pre in
     let a = s .args in
     let t = tallied (q7 .take .ensures) (p .fine) (c .before .before .before .before .samples .given .1) (p .small) in
-    let f = note-few (a .law) (a .octets .now) (p .fine) (omega (arith, p .small)) in (
+    let f = note-few (a .law) (a .octets .now) in (
       (p .count, p .few, omega arith, t .fits),
       (omega (arith, p .room, t .count, f), (omega (arith, c .before .wide .ensures), omega (arith, t .small), omega (arith, t .count, f, p .small))),
     )
