@@ -256,13 +256,8 @@ fn a_recording_is_written_and_read() {
     assert_eq!((&out[..80], &out[80..]), (&samples[..], &[0xA7; 120][..]));
     let each = told.each(&items, &out);
     assert_eq!(each.len(), 5);
-    let wanted = [
-        Item::Frame(&[PLUS; 40]),
-        Item::Lost(Some(80)),
-        Item::Frame(&[]),
-        Item::Lost(None),
-        Item::Frame(&[MINUS; 40]),
-    ];
+    let wanted =
+        [Item::Frame(&[PLUS; 40]), Item::Lost(Some(80)), Item::Frame(&[]), Item::Lost(None), Item::Frame(&[MINUS; 40])];
     assert_eq!(each.collect::<Vec<_>>(), wanted);
 }
 
