@@ -21,7 +21,8 @@ use Rattle.keyvalue.specs.Reading.{begins}
 use Rattle.recording.specs.declared.Refusal.the-variants.{Head, Frame}
 use Rattle.recording.specs.declared.Ending.the-variants.{Done, Refused}
 use Rattle.recording.specs.Remembered.{Headed, heading, noHeading, headed, headingOf, headingLength, lostOctet}
-use Rattle.recording.specs.Items.{Item, lost, Recorded, stopped, before, itemOf, roomTaken, afterRead, itemsFrom, File, nothing, byHeading, readFile}
+use Rattle.recording.specs.Items.{Item, lost, Recorded, stopped, before, itemOf, roomTaken, afterRead, itemsFrom}
+use Rattle.recording.specs.Items.{File, nothing, byHeading, readFile}
 
 -- refused, and not with SHORT
 pub record Stands (w : refusal.Refusal) (r : Recorded) : Type 0 where
@@ -111,7 +112,8 @@ set-test : (w : refusal.Refusal) (b : Bool) (x : File) {u v : File} → (Stands 
 set-test w true x h s = refl
 set-test w false x h s = h s
 
-heading-test : (w : refusal.Refusal) (h : Headed) (none : File) (next next′ : ℕ → File) → ((law : ℕ) → Stands w (next law .read) → next′ law ≡ next law)
+heading-test : (w : refusal.Refusal) (h : Headed) (none : File) (next next′ : ℕ → File)
+    → ((law : ℕ) → Stands w (next law .read) → next′ law ≡ next law)
     → Stands w (byHeading h none next .read) → byHeading h none next′ ≡ byHeading h none next
 heading-test w noHeading none next next′ k s = refl
 heading-test w (heading law) none next next′ k s = k law s
