@@ -5,3 +5,5 @@ pub mod Erasing
 pub mod Turning
 pub mod Steps
 pub mod Playing
+pub mod Whole
+pub mod Parts

@@ -20,6 +20,11 @@ use recording::Ending;
 use recording::FileRead;
 use recording::Refusal;
 
+// The octets of a heading; what is added to the length of a loss in an item's number of 16 bits (`headingLength`, `lossFrom` of the paper).
+pub const HEADING_LENGTH: usize = 10;
+
+pub const LOSS_FROM: u16 = 32768;
+
 // One item: how it ended, its octets, the samples that are sound, the item as a number, and a refusal's bit.
 struct Turn {
     end: rules::Ending,
@@ -80,7 +85,7 @@ fn lost_turn(octets: usize, n: usize) -> Turn
         end: rules::Ending::Done,
         octets,
         len: 0,
-        cell: 32768 + n as u16,
+        cell: LOSS_FROM + n as u16,
         bit: 0,
     }
 }
@@ -227,8 +232,8 @@ fn read_items(octets: &[u8], law: u32, set: u32, out: &mut [u8], cells: &mut [u1
     requires { ⌜ (headingLength ≤ length (now octets)) × (length (now octets) - headingLength ≤ longest) ⌝ }
     ensures { λ r. ⌜ Reads (wholeFile (now (octets .entry)) law set (length (now (out .entry))) (length (now (cells .entry)))) r (now (out .entry)) (now (out .exit)) (now (cells .entry)) (now (cells .exit)) ⌝ }
 {
-    let items = octets.len() - 10 + 1;
-    let r = play_on(&octets[10..], law, set, 0, items, out, cells);
+    let items = octets.len() - HEADING_LENGTH + 1;
+    let r = play_on(&octets[HEADING_LENGTH..], law, set, 0, items, out, cells);
     let end = r.end;
     FileRead {
         end,
@@ -250,7 +255,7 @@ pub fn read_file(octets: &[u8], set: u32, out: &mut [u8], cells: &mut [u16]) -> 
     match law_in(octets) {
         Heading::Missing => unread(Refusal::Head, 0),
         Heading::Law(law) => {
-            if rules::LONGEST < octets.len() - 10 {
+            if rules::LONGEST < octets.len() - HEADING_LENGTH {
                 return unread(Refusal::Frame(rules::Refusal::Long), law);
             }
             read_items(octets, law, set, out, cells)
