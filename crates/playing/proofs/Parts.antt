@@ -8,19 +8,19 @@ use mathlib.Core.List.{List, [], _∷_, _++_}
 use mathlib.Core.Bool.{Bool, true, false, cond}
 use lib.ListN.{length, getD, drop, length-append}
 use lib.Dec.{eqb, leb}
-use borrow.Author.Tests.{leb-true, leb-false, eqb-true, eqb-false}
+use borrow.Author.Tests.{leb-true, leb-false}
 use Rattle.rules.specs.declared.Refusal as rule
 use Rattle.rules.specs.declared.Refusal.the-variants as rules
 use Rattle.rules.specs.Samples.{maskOf}
-use Rattle.rules.specs.Reading.{Read, whole}
-use Rattle.rules.specs.Frame.{readOne}
-use Rattle.rules.proofs.Room.{read-room, read-most}
+use Rattle.rules.specs.Reading.{Read}
+use Rattle.rules.specs.Frame.{Found}
+use Rattle.rules.proofs.Room.{read-room}
 use Rattle.recording.specs.declared.Refusal.{Refusal}
 use Rattle.recording.specs.declared.Refusal.the-variants.{Frame}
 use Rattle.recording.specs.declared.Ending.{Ending}
 use Rattle.recording.specs.declared.Ending.the-variants.{Done, Refused}
 use Rattle.recording.specs.Remembered.{lostOctet}
-use Rattle.recording.specs.Items.{Item, Recorded, stopped, before, itemsFrom, soundOf, soundIn}
+use Rattle.recording.specs.Items.{Item, lost, Recorded, stopped, before, itemsFrom, soundOf, soundIn}
 use Rattle.playing.specs.Turns.{Step, takes, stops, frameStep, itemStep}
 use Rattle.playing.proofs.Turning.{Fits, step-fits}
 use Rattle.playing.proofs.Steps.{byStep, after, restFrom, items-last, items-ended, items-full, items-step, items-off, items-one}
@@ -221,3 +221,34 @@ module _ (octets : List ℕ) (law set : ℕ) where
   items-fuel m n at room places h k =
       sym (fuel (reads m at room places) h n) ∙ ap (λ (k : ℕ). itemsFrom k octets law set at room places) (add-comm m n)
       ∙ fuel (reads n at room places) k m
+
+  -- room for 320 samples is enough for an item
+  step-room : (at room : ℕ) → 320 ≤ room → itemStep octets law set at room ≡ itemStep octets law set at 320
+  step-room at room h =
+      ap (λ (m : Read Found). cond (eqb (getD octets at 0) lostOctet) (takes (lost 0) 1) (frameStep (maskOf law) m))
+      (read-room (drop at octets) law set room h)
+
+  -- enough room, and enough places, for the items allowed and for the octets left
+  abbrev pub Roomy : ℕ → ℕ → ℕ → ℕ → Type 0
+  Roomy n at room places = (320 * min n (length octets - at) ≤ room) × (min n (length octets - at) ≤ places)
+
+  roomy : {n at room places : ℕ} {r : Recorded} → Reads n at room places r → (more others : ℕ) → Roomy n at room places → Roomy n at more others
+      → itemsFrom n octets law set at more others ≡ r
+  roomy {at = at} last more others h k = items-last octets law set 0 at more others refl
+  roomy {n} {at} (ended l) more others h k = items-ended octets law set n at more others l
+  roomy {n = suc n} {at} (full l) more others h k = absurd (omega (arith, h .1))
+  roomy {n = suc n} {at} {room} {places = suc places} (refused {w = w} {bit = bit} l e) more others h k =
+      items-off octets law set (suc n) n at more others refl l (omega (arith, k .1)) w bit
+      (step-room at more (omega (arith, k .0)) ∙ sym (step-room at room (omega (arith, h .0))) ∙ e)
+  roomy {n = suc n} {at} {room} {places = suc places} (delivers {i = i} {used = used} l e t) more others h k =
+      let least = sym (step-room at room (omega (arith, h .0))) ∙ e in
+      let f = fits l e in
+      let m = fits l least in
+      items-one octets law set (suc n) n at more others refl l (omega (arith, k .1)) i used (more - length (soundOf i)) (others - 1)
+      (step-room at more (omega (arith, k .0)) ∙ least) refl refl
+      ∙ ap (before i) (roomy t (more - length (soundOf i)) (others - 1)
+      (omega (arith, h .0, f .0, m .2), omega (arith, h .1, f .0)) (omega (arith, k .0, f .0, m .2), omega (arith, k .1, f .0)))
+
+  pub items-roomy : (n at room places more others : ℕ) → Roomy n at room places → Roomy n at more others
+      → itemsFrom n octets law set at room places ≡ itemsFrom n octets law set at more others
+  items-roomy n at room places more others h k = sym (roomy (reads n at room places) more others h k)
