@@ -1,7 +1,7 @@
 -- A reading on its way: the items done, put before the reading of the rest, are the whole reading; their sound stands at the output's start,
 -- and they as numbers at that of the cells.
 -- `play-start`, `play-turn`; where it stops: `play-last`, `play-ended`, `play-full`, `play-refused`.
-use Prim.Native.Nat.{ℕ, suc, _+_, _-_, _≤_, _<_}
+use Prim.Native.Nat.{ℕ, _+_, _-_, _≤_, _<_}
 use native.Mathlib.Omega.{arith}
 use native.Mathlib.Numerals.{add-one}
 use mathlib.Core.Path.{_≡_, refl, sym, ap, subst, _∙_}

@@ -18,7 +18,7 @@ use Rattle.recording.specs.declared.Refusal.{Refusal}
 use Rattle.recording.specs.declared.Refusal.the-variants.{Head, Frame}
 use Rattle.recording.specs.declared.Ending.the-variants.{Refused}
 use Rattle.recording.specs.declared.FileRead.{FileRead}
-use Rattle.recording.specs.Remembered.{Headed, heading, noHeading, headed, headingOf, headingLength}
+use Rattle.recording.specs.Remembered.{heading, noHeading, headed, headingOf, headingLength}
 use Rattle.recording.specs.Items.{itemsFrom, nothing, readFile, soundIn}
 use Rattle.recording.specs.Calls.{Reads}
 use Rattle.playing.specs.declared.Played.{Played}

@@ -1,37 +1,28 @@
+-- The heading of A, that of mu, or none (Whole).
 use borrow.Author.Needs.{needs}
 use mathlib.Core.Path.{sym, _∙_}
 use Rattle.playing.proofs.Whole.{headed-a, headed-mu, headed-none}
 use Rattle.playing.proofs.law_in.Statement.{statement}
 use Rattle.playing.proofs.law_in.Tie as tie
-use Rattle.playing.proofs.law_in.Reads as reads
-use Rattle.playing.proofs.law_in.Lts as lts
-use Rattle.keyvalue.proofs.has_word.Reads as has-word-reads
 
--- src/lib.rt:202:38
 slice-aggregate-has-word : tie.Need-slice-aggregate-has-word
 slice-aggregate-has-word c = search needs
 
--- src/lib.rt:202:8
 has-word-requires : tie.Need-has-word-requires
 has-word-requires c κs = search needs
 
--- src/lib.rt:203:9
 returns : tie.Need-returns
 returns c = headed-a _ (sym (c .before .has-word .ensures) ∙ c .if1 .taken)
 
--- src/lib.rt:205:38
 slice-aggregate-has-word-2 : tie.Need-slice-aggregate-has-word-2
 slice-aggregate-has-word-2 c = search needs
 
--- src/lib.rt:205:8
 has-word-requires-2 : tie.Need-has-word-requires-2
 has-word-requires-2 c κs = search needs
 
--- src/lib.rt:206:9
 returns-2 : tie.Need-returns-2
 returns-2 c = headed-mu _ (sym (c .before .before .before .before .has-word .ensures) ∙ c .before .before .before .if1 .left) (sym (c .before .has-word2 .ensures) ∙ c .if2 .taken)
 
--- src/lib.rt:199:1
 returns-3 : tie.Need-returns-3
 returns-3 c = headed-none _ (sym (c .before .before .before .before .has-word .ensures) ∙ c .before .before .before .if1 .left) (sym (c .before .has-word2 .ensures) ∙ c .if2 .left)
 

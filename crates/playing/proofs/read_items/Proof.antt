@@ -1,46 +1,35 @@
+-- The octets after the heading are handed over whole (Whole).
 use borrow.Author.Needs.{needs}
 use Rattle.playing.proofs.Whole.{items-read}
 use Rattle.playing.proofs.read_items.Statement.{statement}
 use Rattle.playing.proofs.read_items.Tie as tie
-use Rattle.playing.proofs.read_items.Reads as reads
-use Rattle.playing.proofs.read_items.Lts as lts
-use Rattle.playing.proofs.play_on.Reads as play-on-reads
 
--- src/lib.rt:230:17
 sub-items : tie.Need-sub-items
 sub-items c = search needs
 
--- src/lib.rt:230:17
 add-items : tie.Need-add-items
 add-items c = search needs
 
--- src/lib.rt:231:21
 sub-play-on : tie.Need-sub-play-on
 sub-play-on c = search needs
 
--- src/lib.rt:231:21
 part-play-on-start : tie.Need-part-play-on-start
 part-play-on-start c = search needs
 
--- src/lib.rt:231:21
 part-play-on-end : tie.Need-part-play-on-end
 part-play-on-end c = search needs
 
--- src/lib.rt:231:9
 play-on-requires : tie.Need-play-on-requires
 play-on-requires c κs = search needs
 
--- src/lib.rt:226:1
 same-length : tie.Need-same-length
 same-length c = search needs
 
--- src/lib.rt:226:1
 same-length-2 : tie.Need-same-length-2
 same-length-2 c = search needs
 
--- src/lib.rt:226:1
 returns : tie.Need-returns
-returns c = 
+returns c =
     let s = c .before .before .before .before .before .before .before .before .before .before .before in
     items-read (s .args .octets .now) (s .args .law) (s .args .set) (c .before .before .before .before .play-on .ensures)
 
