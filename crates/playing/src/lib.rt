@@ -8,14 +8,13 @@ ghost use lib.ListN.{length, getD, take, drop};
 ghost use lib.Dec.{eqb};
 ghost use Rattle.rules.specs.Samples.{maskOf};
 ghost use Rattle.rules.specs.Frame.{readOne};
-ghost use Rattle.rules.specs.Calls.{atStart};
 ghost use Rattle.rules.specs.Walk.{longest};
 ghost use Rattle.recording.specs.declared.Ending.the-variants.{Refused};
 ghost use Rattle.recording.specs.Remembered.{lostOctet, erased, headed, headingLength};
-ghost use Rattle.recording.specs.Items.{lost, itemsFrom};
-ghost use Rattle.recording.specs.Calls.{Reads, ReadFile};
+ghost use Rattle.recording.specs.Items.{lost};
+ghost use Rattle.recording.specs.Calls.{ReadFile};
 ghost use Rattle.playing.specs.Turns.{takes, frameStep, itemStep, Tells, Turned};
-ghost use Rattle.playing.specs.Plays.{Plays, asHeaded, wholeFile};
+ghost use Rattle.playing.specs.Plays.{PlayOn, asHeaded, ReadItems};
 use recording::Ending;
 use recording::FileRead;
 use recording::Refusal;
@@ -166,7 +165,7 @@ pub fn play_on(
     out: &mut [u8],
     cells: &mut [u16],
 ) -> Played
-    ensures { λ r. ⌜ Plays (itemsFrom items (now (octets .entry)) law set at (length (now (out .entry))) (length (now (cells .entry)))) r (now (out .entry)) (now (out .exit)) (now (cells .entry)) (now (cells .exit)) ⌝ }
+    ensures { λ r. ⌜ PlayOn (now (octets .entry)) law set at items (now (out .entry)) (now (out .exit)) (now (cells .entry)) (now (cells .exit)) r ⌝ }
 {
     let mut samples = [0u8; 320];
     let mut place = at;
@@ -187,7 +186,8 @@ pub fn play_on(
         let e = r.end;
         match e {
             rules::Ending::Refused(why) => {
-                return so_far(Ending::Refused(Refusal::Frame(why)), count, place, to, r.bit);
+                let of = Refusal::Frame(why);
+                return so_far(Ending::Refused(of), count, place, to, r.bit);
             }
             rules::Ending::Done => {
                 put_sound(&samples, r.len, out, to);
@@ -230,7 +230,7 @@ fn unread(why: Refusal, law: u32) -> FileRead
 // The items after the heading, all of them.
 fn read_items(octets: &[u8], law: u32, set: u32, out: &mut [u8], cells: &mut [u16]) -> FileRead
     requires { ⌜ (headingLength ≤ length (now octets)) × (length (now octets) - headingLength ≤ longest) ⌝ }
-    ensures { λ r. ⌜ Reads (wholeFile (now (octets .entry)) law set (length (now (out .entry))) (length (now (cells .entry)))) r (now (out .entry)) (now (out .exit)) (now (cells .entry)) (now (cells .exit)) ⌝ }
+    ensures { λ r. ⌜ ReadItems (now (octets .entry)) law set (now (out .entry)) (now (out .exit)) (now (cells .entry)) (now (cells .exit)) r ⌝ }
 {
     let items = octets.len() - HEADING_LENGTH + 1;
     let r = play_on(&octets[HEADING_LENGTH..], law, set, 0, items, out, cells);

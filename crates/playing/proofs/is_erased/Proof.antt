@@ -33,7 +33,8 @@ returns-2 c =
     rw (c .count-of .ensures .0) (erased-plus (maskOf (s .args .law)) (s .args .n) (s .args .samples .now) (omega arith) (omega arith) p)
 
 sample-of-requires-2 : tie.Need-sample-of-requires-2
-sample-of-requires-2 c κs = rw (c .before .before .before .mask-of .ensures) (mask-seven _ (is-mask (c .before .before .before .before .before .before .args .law)))
+sample-of-requires-2 c κs =
+    rw (c .before .before .before .mask-of .ensures) (mask-seven _ (is-mask (c .before .before .before .before .before .before .args .law)))
 
 count-of-requires-2 : tie.Need-count-of-requires-2
 count-of-requires-2 c κs = search needs
