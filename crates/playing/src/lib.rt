@@ -255,7 +255,8 @@ pub fn read_file(octets: &[u8], set: u32, out: &mut [u8], cells: &mut [u16]) -> 
     match law_in(octets) {
         Heading::Missing => unread(Refusal::Head, 0),
         Heading::Law(law) => {
-            if rules::LONGEST < octets.len() - HEADING_LENGTH {
+            let after = octets.len() - HEADING_LENGTH;
+            if rules::LONGEST < after {
                 return unread(Refusal::Frame(rules::Refusal::Long), law);
             }
             read_items(octets, law, set, out, cells)

@@ -31,8 +31,8 @@ unread-requires-2 c κs = search needs
 enum-known-law : tie.Need-enum-known-law
 enum-known-law c = search needs
 
-sub-if2 : tie.Need-sub-if2
-sub-if2 c = headed-long _ (is-headed (c .before .before .before) (c .before .law .given .1))
+sub-after : tie.Need-sub-after
+sub-after c = headed-long _ (is-headed (c .before .before .before) (c .before .law .given .1))
 
 unread-requires-3 : tie.Need-unread-requires-3
 unread-requires-3 c κs = search needs
@@ -75,7 +75,7 @@ read-file-spec =
     enum-told
     unread-requires-2
     enum-known-law
-    sub-if2
+    sub-after
     unread-requires-3
     returns-2
     read-items-requires
