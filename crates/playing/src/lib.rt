@@ -7,6 +7,7 @@ ghost use mathlib.Core.List.{_++_};
 ghost use lib.ListN.{length, getD, take, drop};
 ghost use lib.Dec.{eqb};
 ghost use Rattle.rules.specs.Samples.{maskOf};
+ghost use Rattle.rules.specs.Chooses.{every};
 ghost use Rattle.rules.specs.Frame.{readOne};
 ghost use Rattle.rules.specs.Walk.{longest};
 ghost use Rattle.recording.specs.declared.Ending.the-variants.{Refused};
@@ -56,6 +57,15 @@ fn is_mark(octets: &[u8], at: usize) -> bool
     octets[at] == 0x01
 }
 
+// Whether n samples are all x: none is another.
+fn all_are(samples: &[u8], n: usize, x: u8) -> bool
+    requires { ⌜ (n ≤ 320) × (n ≤ length (now samples)) ⌝ }
+    ensures { λ r. ⌜ r ≡ every (λ y. eqb y x) (take n (now (samples .entry))) ⌝ }
+{
+    let others = n - look::count_of(samples, n, x);
+    others == 0
+}
+
 // Whether a frame is an erasure frame: all 0++ or all 0--. The first sample settles nearly every frame.
 fn is_erased(samples: &[u8], n: usize, law: u32) -> bool
     requires { ⌜ (n ≤ 320) × (n ≤ length (now samples)) ⌝ }
@@ -67,10 +77,10 @@ fn is_erased(samples: &[u8], n: usize, law: u32) -> bool
     let mask = law::mask_of(law);
     let first = samples[0];
     if first == law::sample_of(mask, 1) {
-        return look::count_of(samples, n, first) == n;
+        return all_are(samples, n, first);
     }
     if first == law::sample_of(mask, -2) {
-        return look::count_of(samples, n, first) == n;
+        return all_are(samples, n, first);
     }
     false
 }
