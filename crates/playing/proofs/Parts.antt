@@ -193,15 +193,15 @@ module _ (octets : List ℕ) (law set : ℕ) where
   pub items-on : (m n at room places : ℕ) → itemsFrom m octets law set at room places .end ≡ Done
       → itemsFrom (m + n) octets law set at room places ≡ onFrom n room places (itemsFrom m octets law set at room places)
   items-on m n at room places e =
-      items-parts m n at room places
-      ∙ ap (λ (end : Ending). byEnd end (onFrom n room places (itemsFrom m octets law set at room places)) (itemsFrom m octets law set at room places)) e
+      let r = itemsFrom m octets law set at room places in
+      items-parts m n at room places ∙ ap (λ (end : Ending). byEnd end (onFrom n room places r) r) e
 
   -- more items allowed do not change a refused reading
   pub items-kept : (m n at room places : ℕ) {why : Refusal} → itemsFrom m octets law set at room places .end ≡ Refused why
       → itemsFrom (m + n) octets law set at room places ≡ itemsFrom m octets law set at room places
   items-kept m n at room places e =
-      items-parts m n at room places
-      ∙ ap (λ (end : Ending). byEnd end (onFrom n room places (itemsFrom m octets law set at room places)) (itemsFrom m octets law set at room places)) e
+      let r = itemsFrom m octets law set at room places in
+      items-parts m n at room places ∙ ap (λ (end : Ending). byEnd end (onFrom n room places r) r) e
 
   -- items allowed above the octets left do not matter
   fuel : {m at room places : ℕ} {r : Recorded} → Reads m at room places r → length octets ≤ at + m → (n : ℕ)

@@ -125,7 +125,8 @@ module _ (octets : List ℕ) (law set′ fuel from : ℕ) (out₀ cells₀ : Lis
               few = omega arith;
               kept =
                   rw soundIn-more (lent-more (w .kept) put (soundOf i) (one .len) (omega (arith, play-fits .2, lent-length (w .kept)))
-                  (ap (λ (s : List ℕ). s ++ drop (r .len) (drop to out)) (one .sounds) ∙ ap (λ (n : ℕ). soundOf i ++ drop n (drop to out)) (one .len)));
+                  (ap (λ (s : List ℕ). s ++ drop (r .len) (drop to out)) (one .sounds)
+                  ∙ ap (λ (n : ℕ). soundOf i ++ drop n (drop to out)) (one .len)));
               told =
                   rw (map-append cellOf (w .done) (i ∷ []), ← (one .cell))
                   (lent-cell (w .told) (omega (arith, lent-length (w .told))) (r .cell));

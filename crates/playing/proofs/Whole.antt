@@ -21,6 +21,7 @@ use Rattle.recording.specs.declared.FileRead.{FileRead}
 use Rattle.recording.specs.Remembered.{heading, noHeading, headed, headingOf, headingLength}
 use Rattle.recording.specs.Items.{itemsFrom, nothing, readFile, soundIn}
 use Rattle.recording.specs.Calls.{Reads}
+use Rattle.recording.proofs.Headings.{set-first}
 use Rattle.playing.specs.declared.Played.{Played}
 use Rattle.playing.specs.Plays.{Plays, wholeFile}
 
@@ -50,8 +51,7 @@ module _ (octets : List ℕ) where
   -- "SET, HEAD, LONG (octets after the heading above the walk's limit), then item by item"
   module _ (set room places : ℕ) where
     pub file-set : allTools < set → readFile octets set room places ≡ nothing (Frame rules.Set) 0
-    unfolding readFile
-    file-set h = rw (lt-leb set allTools h) refl
+    file-set h = set-first octets set room places (lt-leb set allTools h)
 
     module _ (s : set ≤ allTools) where
       pub file-head : headed octets ≡ noHeading → readFile octets set room places ≡ nothing Head 0

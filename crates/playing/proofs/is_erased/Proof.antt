@@ -22,28 +22,29 @@ shared-slice-read-first c = search needs
 sample-of-requires : tie.Need-sample-of-requires
 sample-of-requires c κs = rw (c .before .mask-of .ensures) (mask-seven _ (is-mask (c .before .before .before .before .args .law)))
 
-count-of-requires : tie.Need-count-of-requires
-count-of-requires c κs = search needs
+all-are-requires : tie.Need-all-are-requires
+all-are-requires c κs = search needs
 
 returns-2 : tie.Need-returns-2
 returns-2 c =
     let s = c .before .before .before .before .before .before .before in
     let m = c .before .before .before .before .mask-of .ensures in
     let p = c .before .if2 .taken ∙ c .before .before .sample-of .ensures ∙ ap (λ (mask : ℕ). plusPlus mask) m in
-    rw (c .count-of .ensures .0) (erased-plus (maskOf (s .args .law)) (s .args .n) (s .args .samples .now) (omega arith) (omega arith) p)
+    rw (c .all-are .ensures) (erased-plus (maskOf (s .args .law)) (s .args .n) (s .args .samples .now) (omega arith) (omega arith) p)
 
 sample-of-requires-2 : tie.Need-sample-of-requires-2
-sample-of-requires-2 c κs = rw (c .before .before .before .mask-of .ensures) (mask-seven _ (is-mask (c .before .before .before .before .before .before .args .law)))
+sample-of-requires-2 c κs =
+    rw (c .before .before .before .mask-of .ensures) (mask-seven _ (is-mask (c .before .before .before .before .before .before .args .law)))
 
-count-of-requires-2 : tie.Need-count-of-requires-2
-count-of-requires-2 c κs = search needs
+all-are-requires-2 : tie.Need-all-are-requires-2
+all-are-requires-2 c κs = search needs
 
 returns-3 : tie.Need-returns-3
 returns-3 c =
     let s = c .before .before .before .before .before .before .before .before .before in
     let m = c .before .before .before .before .before .before .mask-of .ensures in
     let p = c .before .if3 .taken ∙ c .before .before .sample-of2 .ensures ∙ ap (λ (mask : ℕ). minusMinus mask) m in
-    rw (c .count-of2 .ensures .0) (erased-minus (maskOf (s .args .law)) (s .args .n) (s .args .samples .now) (omega arith) (omega arith) p)
+    rw (c .all-are2 .ensures) (erased-minus (maskOf (s .args .law)) (s .args .n) (s .args .samples .now) (omega arith) (omega arith) p)
 
 returns-4 : tie.Need-returns-4
 returns-4 c =
@@ -62,9 +63,9 @@ is-erased-spec =
     mask-of-requires
     shared-slice-read-first
     sample-of-requires
-    count-of-requires
+    all-are-requires
     returns-2
     sample-of-requires-2
-    count-of-requires-2
+    all-are-requires-2
     returns-3
     returns-4)

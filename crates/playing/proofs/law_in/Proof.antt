@@ -21,10 +21,14 @@ has-word-requires-2 : tie.Need-has-word-requires-2
 has-word-requires-2 c κs = search needs
 
 returns-2 : tie.Need-returns-2
-returns-2 c = headed-mu _ (sym (c .before .before .before .before .has-word .ensures) ∙ c .before .before .before .if1 .left) (sym (c .before .has-word2 .ensures) ∙ c .if2 .taken)
+returns-2 c =
+    headed-mu _ (sym (c .before .before .before .before .has-word .ensures) ∙ c .before .before .before .if1 .left)
+    (sym (c .before .has-word2 .ensures) ∙ c .if2 .taken)
 
 returns-3 : tie.Need-returns-3
-returns-3 c = headed-none _ (sym (c .before .before .before .before .has-word .ensures) ∙ c .before .before .before .if1 .left) (sym (c .before .has-word2 .ensures) ∙ c .if2 .left)
+returns-3 c =
+    headed-none _ (sym (c .before .before .before .before .has-word .ensures) ∙ c .before .before .before .if1 .left)
+    (sym (c .before .has-word2 .ensures) ∙ c .if2 .left)
 
 pub law-in-spec : {M : Type 1} → statement M
 law-in-spec =

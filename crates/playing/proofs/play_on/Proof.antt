@@ -22,7 +22,8 @@ module _ (c : tie.After-item-at Inv-loop μ-loop) (e : c .item-at .result .end �
   fits : (c .before .before .before .before .before .loop .place + c .item-at .result .octets
       ≤ length (c .before .before .before .before .before .before .before .before .before .args .octets .now))
       × (c .item-at .result .len ≤ length (c .item-at .last .1 .1 .1 .1 .1 .0))
-      × (c .before .before .before .before .before .loop .to + c .item-at .result .len ≤ length (c .before .before .before .before .before .loop .out))
+      × (c .before .before .before .before .before .loop .to + c .item-at .result .len
+      ≤ length (c .before .before .before .before .before .loop .out))
   fits =
       play-fits _ _ _ _ _ _ _ (c .before .before .before .before .before .loop .inv) (c .before .before .before .before .if1 .left)
       (c .before .before .before .if2 .left) (c .before .before .if3 .left) (c .item-at .ensures) e
@@ -66,7 +67,8 @@ same-length-6 c = lent-length (c .before .before .before .before .loop .inv .tol
 returns-3 : tie.Need-returns-3 Inv-loop μ-loop
 returns-3 c =
     rw (c .so-far3 .ensures)
-    (play-full _ _ _ _ _ _ _ (c .before .before .before .before .loop .inv) (c .before .before .before .if1 .left) (c .before .before .if2 .left) (c .before .if3 .taken))
+    (play-full _ _ _ _ _ _ _ (c .before .before .before .before .loop .inv) (c .before .before .before .if1 .left) (c .before .before .if2 .left)
+    (c .before .if3 .taken))
 
 sub-item-at : tie.Need-sub-item-at Inv-loop μ-loop
 sub-item-at c = let w = c .before .before .before .loop .inv in omega (arith, w .kept .room, lent-length (w .kept))
@@ -91,7 +93,8 @@ returns-4 c =
     let s = c .before .before .before .before in
     rw (c .so-far4 .ensures)
     (play-refused _ _ _ _ _ _ _ (s .before .before .before .before .before .loop .inv) (s .before .before .before .before .if1 .left)
-    (s .before .before .before .if2 .left) (s .before .before .if3 .left) (s .item-at .ensures) (c .before .before .e .given .0 .0) (c .before .before .e .given .1))
+    (s .before .before .before .if2 .left) (s .before .before .if3 .left) (s .item-at .ensures)
+    (c .before .before .e .given .0 .0) (c .before .before .e .given .1))
 
 enum-told : tie.Need-enum-told Inv-loop μ-loop
 enum-told c = search needs

@@ -22,7 +22,8 @@ same-length c = search needs
 returns : tie.Need-returns
 returns c =
     let s = c .before .before .before .before .before .before in
-    sound-put (s .args .samples .now) (s .args .out .now) (c .before .before .put-out .last .1 .1 .0) (s .args .n) (s .args .to) (c .before .before .put-out .ensures)
+    let p = c .before .before .put-out in
+    sound-put (s .args .samples .now) (s .args .out .now) (p .last .1 .1 .0) (s .args .n) (s .args .to) (p .ensures)
 
 pub put-sound-spec : {M : Type 1} → statement M
 put-sound-spec =

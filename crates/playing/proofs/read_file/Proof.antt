@@ -31,8 +31,8 @@ unread-requires-2 c κs = search needs
 enum-known-law : tie.Need-enum-known-law
 enum-known-law c = search needs
 
-sub-if2 : tie.Need-sub-if2
-sub-if2 c = headed-long _ (is-headed (c .before .before .before) (c .before .law .given .1))
+sub-after : tie.Need-sub-after
+sub-after c = headed-long _ (is-headed (c .before .before .before) (c .before .law .given .1))
 
 unread-requires-3 : tie.Need-unread-requires-3
 unread-requires-3 c κs = search needs
@@ -40,10 +40,13 @@ unread-requires-3 c κs = search needs
 returns-2 : tie.Need-returns-2
 returns-2 c =
     let h = is-headed (c .before .before .before .before .before) (c .before .before .before .law .given .1) in
-    rw (c .unread3 .ensures, file-long _ _ _ _ (c .before .before .before .before .before .before .if1 .left) _ h (c .before .if2 .taken)) (reads-none _ _ _ _)
+    let s = c .before .before .before .before .before .before .if1 .left in
+    rw (c .unread3 .ensures, file-long _ _ _ _ s _ h (c .before .if2 .taken)) (reads-none _ _ _ _)
 
 read-items-requires : tie.Need-read-items-requires
-read-items-requires c κs = (headed-long _ (is-headed (c .before .before .before .before .before .before) (c .before .before .before .before .law .given .1)), c .before .before .if2 .left)
+read-items-requires c κs =
+    let h = is-headed (c .before .before .before .before .before .before) (c .before .before .before .before .law .given .1) in
+    (headed-long _ h, c .before .before .if2 .left)
 
 returns-3 : tie.Need-returns-3
 returns-3 c =
@@ -72,7 +75,7 @@ read-file-spec =
     enum-told
     unread-requires-2
     enum-known-law
-    sub-if2
+    sub-after
     unread-requires-3
     returns-2
     read-items-requires
