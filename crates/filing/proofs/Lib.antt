@@ -1,3 +1,5 @@
--- Cells: a number of 16 bits, and the entries that all give.
+-- Cells: a number of 16 bits, and the entries that all give.     Forms: the octets of a form and of an item.
+-- Way: the three loops on their way.
 pub mod Cells
+pub mod Forms
 pub mod Way
