@@ -1,5 +1,6 @@
 -- Cells: a number of 16 bits, and the entries that all give.     Forms: the octets of a form and of an item.
--- Way: the three loops on their way.
+-- Put: a form that is written.     Way: the three loops on their way.
 pub mod Cells
 pub mod Forms
+pub mod Put
 pub mod Way

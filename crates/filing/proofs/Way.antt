@@ -5,7 +5,7 @@ use native.Mathlib.Omega.{arith}
 use mathlib.Core.Path.{_≡_, refl, sym, ap, _∙_}
 use mathlib.Core.List.{List, [], _∷_, _++_, append-assoc, append-nil}
 use mathlib.Core.Bool.{Bool, true, false}
-use lib.ListN.{length, drop, getD, length-append, length-drop, drop-of-length-le}
+use lib.ListN.{length, take, drop, getD, length-append, length-drop, drop-of-length-le}
 use lib.Seq.{drop-drop}
 use lib.Dec.{eqb}
 use borrow.Author.Tests.{eq-eqb, ne-eqb, eqb-true, eqb-false}
@@ -143,3 +143,39 @@ module _ (cells samples : List ℕ) where
         pub done : List ℕ
         pub puts : Puts out₀ at done out to
         pub all : done ++ left i from ≡ octetsGiven mask set cells samples
+
+      pub write-start : isGiven (givenBy cells samples) ≡ true → Writing out₀ 0 0 at
+      write-start g =
+          record {
+            going = going-start g;
+            done = [];
+            puts = record { says = sym (append-nil (take at out₀)); rest = refl; place = omega arith; size = refl };
+            all = refl;
+          }
+
+      module _ {out : List ℕ} {i from to : ℕ} (w : Writing out i from to) where
+        pub write-room : at + length (octetsGiven mask set cells samples) ≤ length out₀ → i < length cells → to + length (item i from) ≤ length out
+        write-room h k =
+            let rest = left (i + 1) (from + taken (getD cells i 0)) in
+            omega (
+              arith,
+              w .puts .place,
+              w .puts .size,
+              sym (length-append (w .done) (left i from)) ∙ ap length (w .all),
+              ap length (left-next (w .going) k) ∙ length-append (item i from) rest,
+            )
+
+        pub write-turn : i < length cells → {out′ : List ℕ} {next : ℕ} → Puts out to (item i from) out′ next
+            → Writing out′ (i + 1) (from + taken (getD cells i 0)) next
+        write-turn h p =
+            record {
+              going = going-on (w .going) h;
+              done = w .done ++ item i from;
+              puts = puts-then (w .puts) p;
+              all =
+                  append-assoc (w .done) (item i from) (left (i + 1) (from + taken (getD cells i 0)))
+                  ∙ ap (λ x. w .done ++ x) (sym (left-next (w .going) h)) ∙ w .all;
+            }
+
+        pub write-done : length cells ≤ i → Puts out₀ at (octetsGiven mask set cells samples) out to
+        write-done h = puts-as (sym (append-nil (w .done)) ∙ ap (λ x. w .done ++ x) (sym (left-none from h)) ∙ w .all) (w .puts)
