@@ -1,7 +1,7 @@
 use borrow.Author.Needs.{needs}
 use native.Mathlib.Omega.{arith}
 use mathlib.Core.Path.{sym, ap, _∙_}
-use lib.ListN.{length}
+use lib.ListN.{length, drop}
 use Rattle.rules.specs.Samples.{maskOf}
 use Rattle.lines.proofs.Putting.{puts-as}
 use Rattle.filing.proofs.Forms.{item-lost, frame-end, frame-for, loss-end, loss-for}
@@ -55,7 +55,7 @@ put-lost-requires : tie.Need-put-lost-requires
 put-lost-requires c κs =
     let s = c .before .before .before .before .before .before .before in
     let n = c .before .before .before .length-in in
-    omega (arith, s .pre .1 .1, ap length (item-lost (maskOf (s .args .law)) (s .args .set) (s .args .c) _ (omega arith) (sym (n .ensures) ∙ c .before .if2 .taken)))
+    omega (arith, s .pre .1 .1, ap length (item-lost (maskOf (s .args .law)) (s .args .set) (s .args .c) (drop (s .args .from) (s .args .samples .now)) (omega arith) (sym (n .ensures) ∙ c .before .if2 .taken)))
 
 same-length-2 : tie.Need-same-length-2
 same-length-2 c = search needs
@@ -64,7 +64,7 @@ returns-2 : tie.Need-returns-2
 returns-2 c =
     let s = c .before .before .before .before .before .before .before .before .before .before in
     let n = c .before .before .before .before .before .before .length-in in
-    puts-as (sym (item-lost (maskOf (s .args .law)) (s .args .set) (s .args .c) _ (omega arith) (sym (n .ensures) ∙ c .before .before .before .before .if2 .taken))) (c .before .before .put-lost .ensures)
+    puts-as (sym (item-lost (maskOf (s .args .law)) (s .args .set) (s .args .c) (drop (s .args .from) (s .args .samples .now)) (omega arith) (sym (n .ensures) ∙ c .before .before .before .before .if2 .taken))) (c .before .before .put-lost .ensures)
 
 slice-aggregate-put-form : tie.Need-slice-aggregate-put-form
 slice-aggregate-put-form c =
