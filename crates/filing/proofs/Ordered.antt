@@ -30,6 +30,9 @@ use Rattle.filing.specs.Steps.{Declines}
 pub declined-as : {why : rules.Refusal} {r : FileWritten} {f : Filed} → Declines why r → declined (Frame why) ≡ f → (out : List ℕ) → Writes f r out out
 declined-as {r = r} d e out = subst (λ (f : Filed). Writes f r out out) e (record { end = d .end; octets = d .octets; lent = refl })
 
+pub written-as : {f g : Filed} {r : FileWritten} {out out′ : List ℕ} → f ≡ g → Writes f r out out′ → Writes g r out out′
+written-as {r = r} {out = out} {out′ = out′} e w = subst (λ (f : Filed). Writes f r out out′) e w
+
 -- LAW and SET, then what is given
 module _ (samples cells : List ℕ) (law set room : ℕ) where
   pub file-refused : {why : rules.Refusal} → verdict (writerAsks law set) ≡ asked.Refused why → declined (Frame why) ≡ writeFile samples cells law set room

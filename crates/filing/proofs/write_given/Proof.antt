@@ -1,4 +1,10 @@
 use borrow.Author.Needs.{needs}
+use native.Mathlib.Omega.{arith}
+use mathlib.Core.Path.{ap, _∙_}
+use lib.ListN.{length, replicate}
+use Rattle.look.proofs.Tests.{mask-seven, is-mask}
+use Rattle.recording.specs.Remembered.{plusPlus}
+use Rattle.filing.proofs.Ordered.{declined-as, too-long, no-room, file-written}
 use Rattle.filing.proofs.write_given.Statement.{statement}
 use Rattle.filing.proofs.write_given.Tie as tie
 use Rattle.filing.proofs.write_given.Reads as reads
@@ -11,69 +17,76 @@ use Rattle.lines.proofs.put_word.Reads as put-word-reads
 use Rattle.recording.proofs.marking.heading_of.Reads as heading-of-reads
 use Rattle.recording.proofs.marking.plus_plus.Reads as plus-plus-reads
 
--- src/lib.rt:43:9
 mask-of-requires : tie.Need-mask-of-requires
 mask-of-requires c κs = search needs
 
--- src/lib.rt:44:18
 plus-plus-requires : tie.Need-plus-plus-requires
-plus-plus-requires c κs = search needs
+plus-plus-requires c κs = rw (c .mask-of .ensures) (mask-seven _ (is-mask (c .before .before .before .before .args .law)))
 
--- src/lib.rt:45:55
 slice-aggregate-all-octets : tie.Need-slice-aggregate-all-octets
 slice-aggregate-all-octets c = search needs
 
--- src/lib.rt:45:9
 all-octets-requires : tie.Need-all-octets-requires
-all-octets-requires c κs = search needs
+all-octets-requires c κs =
+    let s = c .before .before .before .before .before .before in
+    (s .pre .1, (rw (c .before .before .mask-of .ensures) (is-mask (s .args .law)), ap (λ x. replicate 320 x) (c .before .plus-plus .ensures)))
 
--- src/lib.rt:47:9
 refused-requires : tie.Need-refused-requires
 refused-requires c κs = search needs
 
--- src/lib.rt:47:9
 returns : tie.Need-returns
-returns c = search needs
+returns c =
+    let s = c .before .before .before .before .before .before .before .before .before in
+    let a = s .args in
+    let m = rw (c .before .before .before .before .before .mask-of .ensures) at (c .before .before .all-octets .ensures) in
+    declined-as (c .refused .ensures) (too-long (a .samples .now) (a .cells .now) (a .law) (a .set) (length (a .out .now)) (s .pre .1) (m .long (omega arith))) (a .out .now)
 
--- src/lib.rt:49:20
 add-if2 : tie.Need-add-if2
 add-if2 c = search needs
 
--- src/lib.rt:50:9
 refused-requires-2 : tie.Need-refused-requires-2
 refused-requires-2 c κs = search needs
 
--- src/lib.rt:50:9
 returns-2 : tie.Need-returns-2
-returns-2 c = search needs
+returns-2 c =
+    let s = c .before .before .before .before .before .before .before .before .before .before in
+    let a = s .args in
+    let m = rw (c .before .before .before .before .before .before .mask-of .ensures) at (c .before .before .before .all-octets .ensures) in
+    let e = m .exact (omega arith) in
+    declined-as (c .refused2 .ensures) (no-room (a .samples .now) (a .cells .now) (a .law) (a .set) (length (a .out .now)) (s .pre .1) (omega arith) (omega arith)) (a .out .now)
 
--- src/lib.rt:52:19
 heading-of-requires : tie.Need-heading-of-requires
 heading-of-requires c κs = search needs
 
--- src/lib.rt:53:30
 slice-aggregate-put-word : tie.Need-slice-aggregate-put-word
 slice-aggregate-put-word c = search needs
 
--- src/lib.rt:53:9
 put-word-requires : tie.Need-put-word-requires
 put-word-requires c κs = search needs
 
--- src/lib.rt:54:54
 slice-aggregate-put-items : tie.Need-slice-aggregate-put-items
 slice-aggregate-put-items c = search needs
 
--- src/lib.rt:54:9
 put-items-requires : tie.Need-put-items-requires
-put-items-requires c κs = search needs
+put-items-requires c κs =
+    let s = c .before .before .before .before .before .before .before .before .before .before .before .before .before .before .before .before .before in
+    let mask = c .before .before .before .before .before .before .before .before .before .before .before .before .before .mask-of .ensures in
+    let m = rw mask at (c .before .before .before .before .before .before .before .before .before .before .all-octets .ensures) in
+    let p = rw (c .before .before .before .before .before .before .before .heading-of .ensures) at (c .before .before .before .before .put-word .ensures) in
+    let quiet = ap (λ x. replicate 320 x) (c .before .before .before .before .before .before .before .before .before .before .before .before .plus-plus .ensures ∙ ap plusPlus mask) in
+    (s .pre .1, ((s .pre .0, quiet), omega (arith, m .exact (omega arith), p .place, p .size)))
 
--- src/lib.rt:38:1
 same-length : tie.Need-same-length
 same-length c = search needs
 
--- src/lib.rt:38:1
 returns-3 : tie.Need-returns-3
-returns-3 c = search needs
+returns-3 c =
+    let s = c .before .before .before .before .before .before .before .before .before .before .before .before .before .before .before .before .before .before .before .before in
+    let m = rw (c .before .before .before .before .before .before .before .before .before .before .before .before .before .before .before .before .mask-of .ensures) at (c .before .before .before .before .before .before .before .before .before .before .before .before .before .all-octets .ensures) in
+    let e = m .exact (omega arith) in
+    let p = rw (c .before .before .before .before .before .before .before .before .before .before .heading-of .ensures) at (c .before .before .before .before .before .before .before .put-word .ensures) in
+    let a = s .args in
+    file-written (a .samples .now) (a .cells .now) (a .law) (a .set) (s .pre .1) (omega arith) (omega arith) p (c .before .before .put-items .ensures)
 
 pub write-given-spec : {M : Type 1} → statement M
 write-given-spec =
