@@ -15,7 +15,8 @@ ghost use Rattle.g7110.specs.Store.{PutReported, GetReported, DeleteRepo
 ghost use Rattle.linear.specs.Equations.{toPCM, fromPCM};
 ghost use Rattle.g7110.specs.Saved.{SavedReported, LoadReported};
 ghost use Rattle.recording.specs.Items.{readFile};
-ghost use Rattle.g7110.specs.Recordings.{FileReadReported};
+ghost use Rattle.recording.specs.Files.{writeFile};
+ghost use Rattle.g7110.specs.Recordings.{FileReadReported, FileWriteReported};
 ghost use Rattle.g7110.specs.Boundary.{ReadReported, WalkReported, WriteReported, WhyReported, Converted};
 use reasons::Why;
 
@@ -302,5 +303,23 @@ pub extern "C" fn g7110_file_read(
         tool as u64,
         a.bit as u64,
     ];
+    recording::number_of(end)
+}
+
+// Writing one: the number, and in the report the octets of the file.
+#[no_mangle]
+pub extern "C" fn g7110_file_write(
+    samples: &[u8],
+    items: &[u16],
+    law: u32,
+    set: u32,
+    out: &mut [u8],
+    report: &mut [u64; 1],
+) -> u32
+    ensures { λ r. ⌜ FileWriteReported (writeFile (now (samples .entry)) (now (items .entry)) law set (length (now (out .entry)))) (now (out .entry)) (now (out .exit)) (now (report .exit)) r ⌝ }
+{
+    let a = filing::write_file(samples, items, law, set, out);
+    *report = [a.octets as u64];
+    let end = a.end;
     recording::number_of(end)
 }
