@@ -1,14 +1,14 @@
 // Writing a recording file (document 02, R-1): its heading, then frames and losses. What is refused is found before an octet is written.
 
-use items::put_items;
 use given::are_given;
+use items::put_items;
 use law::mask_of;
-use recording::marking::HEADING;
-use recording::marking::heading_of;
-use recording::marking::plus_plus;
 use recording::Ending;
 use recording::FileWritten;
 use recording::Refusal;
+use recording::marking::HEADING;
+use recording::marking::heading_of;
+use recording::marking::plus_plus;
 use rules::LONGEST;
 use sizes::all_octets;
 ghost use mathlib.Core.Path.{_≡_};

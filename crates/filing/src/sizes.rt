@@ -1,10 +1,10 @@
 // The octets of forms that are not written yet: "Nothing is written by a refused call: measure first".
 
+use crate::given::length_in;
+use crate::given::samples_in;
 use choice::near::located_plan;
 use choice::settle::choose;
 use choice::two_zeros::zeros_plan;
-use crate::given::length_in;
-use crate::given::samples_in;
 use law::plus_zero;
 use look::others;
 use measure::octets_for;

@@ -33,9 +33,13 @@ put-item-requires : tie.Need-put-item-requires Inv-loop μ-loop
 put-item-requires c κs =
     let s = c .before .before .before .before .before .before .before .before in
     let w = c .before .before .before .loop .inv in
-    let g = w .going in
-    ((going-item (s .args .cells .now) (s .args .samples .now) g (omega arith), g .inside), (s .pre .1 .0,
-    write-room (s .args .cells .now) (s .args .samples .now) (maskOf (s .args .law)) (s .args .set) (s .args .out .now) (s .args .at) w (s .pre .1 .1) (omega arith)))
+    let g = w .going in (
+      (going-item (s .args .cells .now) (s .args .samples .now) g (omega arith), g .inside),
+      (
+        s .pre .1 .0,
+        write-room (s .args .cells .now) (s .args .samples .now) (maskOf (s .args .law)) (s .args .set) (s .args .out .now) (s .args .at) w (s .pre .1 .1) (omega arith),
+      ),
+    )
 
 samples-in-requires : tie.Need-samples-in-requires Inv-loop μ-loop
 samples-in-requires c κs = search needs
