@@ -14,8 +14,6 @@ ghost use mathlib.Core.Path.{_≡_};
 ghost use mathlib.Core.Bool.{true, false};
 ghost use Prim.Native.Nat.{_≤_};
 ghost use lib.ListN.{length, take, drop};
-ghost use Rattle.rules.specs.Bits.{octetsFor};
-ghost use Rattle.rules.specs.Chooses.{chosenTool, formOf};
 ghost use Rattle.look.specs.Looks.{twoZeros, isMask, FrameIn};
 ghost use Rattle.choice.specs.Plans.{Left};
 ghost use Rattle.recording.specs.Files.{entryOctets, sixLengths, givenBy};
