@@ -3,11 +3,11 @@
 --   octets-next: the octets of what is given.
 use Prim.Native.Nat.{ℕ, _-_, _≤_, _<_}
 use native.Mathlib.Omega.{arith}
-use mathlib.Core.Path.{_≡_, refl, sym, ap, _∙_}
+use mathlib.Core.Path.{_≡_, refl, sym, _∙_}
 use mathlib.Core.List.{List, [], _∷_, _++_}
-use mathlib.Core.Bool.{Bool, true, false, cond, _||_}
+use mathlib.Core.Bool.{Bool, true, false, cond}
 use lib.ListN.{length, take, drop}
-use lib.Dec.{eqb, leb, ltb}
+use lib.Dec.{eqb, ltb}
 use borrow.Author.Tests.{ne-eqb, lt-leb, le-leb, lt-ltb, le-ltb, ltb-true, ltb-false}
 use Rattle.rules.proofs.Tests.{not-length}
 use Rattle.recording.specs.Items.{lossFrom}
@@ -88,7 +88,8 @@ module _ (c : ℕ) (cells samples : List ℕ) where
 
     pub given-on : taken c ≤ length samples → isGiven (givenBy (c ∷ cells) samples) ≡ isGiven (givenBy cells (drop (taken c) samples))
     given-on h =
-        rw (given-by c cells samples, e, le-ltb (length samples) (taken c) h) (with-given (entryBy c samples) (givenBy cells (drop (taken c) samples)))
+        rw (given-by c cells samples, e, le-ltb (length samples) (taken c) h)
+        (with-given (entryBy c samples) (givenBy cells (drop (taken c) samples)))
 
   -- where entries are given, the next number is one of them
   pub record Next : Type 0 where

@@ -3,14 +3,14 @@
 use Prim.Native.Nat.{ℕ, zero, suc, _+_, _-_, _≤_, _<_}
 use native.Mathlib.Omega.{arith}
 use mathlib.Core.Path.{_≡_, refl, sym, ap, _∙_}
-use mathlib.Core.List.{List, [], _∷_, _++_}
-use mathlib.Core.Bool.{Bool, true, false, _||_}
+use mathlib.Core.List.{List, [], _∷_}
+use mathlib.Core.Bool.{true}
 use lib.ListN.{length, take, drop, replicate, length-drop, length-replicate}
 use lib.Seq.{length-take-le}
 use lib.Dec.{eqb}
 use borrow.Author.Tests.{ne-eqb, eqb-true}
 use Rattle.rules.specs.Tools.{isLength}
-use Rattle.rules.specs.Bits.{lowBits, valueFrom, octetsFor, octetsFrom, pack}
+use Rattle.rules.specs.Bits.{lowBits}
 use Rattle.rules.specs.Chooses.{chosen}
 use Rattle.rules.proofs.Octets.{length-pack}
 use Rattle.rules.proofs.Room.{length-most}

@@ -2,16 +2,16 @@
 -- file that is written (`file-written`).
 use Prim.Native.Nat.{ℕ, _+_, _≤_, _<_}
 use native.Mathlib.Omega.{arith}
-use mathlib.Core.Path.{_≡_, refl, sym, ap, subst, _∙_}
+use mathlib.Core.Path.{_≡_, refl, sym, subst, _∙_}
 use mathlib.Core.List.{List, _++_}
 use mathlib.Core.Bool.{true, false}
-use lib.ListN.{length, drop, take-append-drop}
+use lib.ListN.{length, take-append-drop}
 use borrow.Author.Tests.{le-leb, lt-leb, le-ltb, lt-ltb}
 use Rattle.rules.specs.declared.Refusal as rules
 use Rattle.rules.specs.declared.Refusal.the-variants.{Length, Long, Room}
 use Rattle.rules.specs.declared.Ending.the-variants as asked
 use Rattle.rules.specs.Refusals.{verdict}
-use Rattle.rules.specs.Tools.{isLaw, isWriterSet, writerAsks}
+use Rattle.rules.specs.Tools.{writerAsks}
 use Rattle.rules.specs.Samples.{maskOf}
 use Rattle.rules.specs.Walk.{longest}
 use Rattle.rules.specs.Calls.{atStart}
@@ -27,7 +27,8 @@ use Rattle.recording.specs.Calls.{Writes}
 use Rattle.filing.specs.Cells.{isGiven, entriesOf, octetsGiven}
 use Rattle.filing.specs.Steps.{Declines}
 
-pub declined-as : {why : rules.Refusal} {r : FileWritten} {f : Filed} → Declines why r → declined (Frame why) ≡ f → (out : List ℕ) → Writes f r out out
+pub declined-as : {why : rules.Refusal} {r : FileWritten} {f : Filed} → Declines why r → declined (Frame why) ≡ f → (out : List ℕ)
+    → Writes f r out out
 declined-as {r = r} d e out = subst (λ (f : Filed). Writes f r out out) e (record { end = d .end; octets = d .octets; lent = refl })
 
 pub written-as : {f g : Filed} {r : FileWritten} {out out′ : List ℕ} → f ≡ g → Writes f r out out′ → Writes g r out out′
@@ -35,7 +36,8 @@ written-as {r = r} {out = out} {out′ = out′} e w = subst (λ (f : Filed). Wr
 
 -- LAW and SET, then what is given
 module _ (samples cells : List ℕ) (law set room : ℕ) where
-  pub file-refused : {why : rules.Refusal} → verdict (writerAsks law set) ≡ asked.Refused why → declined (Frame why) ≡ writeFile samples cells law set room
+  pub file-refused : {why : rules.Refusal} → verdict (writerAsks law set) ≡ asked.Refused why
+      → declined (Frame why) ≡ writeFile samples cells law set room
   unfolding writeFile
   file-refused e = sym (verdict-refused (λ why. declined (Frame why)) (fileGiven law set (givenBy cells samples) room) (writerAsks law set) e)
 

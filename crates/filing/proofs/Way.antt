@@ -3,7 +3,7 @@
 use Prim.Native.Nat.{ℕ, _+_, _-_, _≤_, _<_}
 use native.Mathlib.Omega.{arith}
 use mathlib.Core.Path.{_≡_, refl, sym, ap, _∙_}
-use mathlib.Core.List.{List, [], _∷_, _++_, append-assoc, append-nil}
+use mathlib.Core.List.{List, [], _++_, append-assoc, append-nil}
 use mathlib.Core.Bool.{Bool, true, false}
 use lib.ListN.{length, take, drop, getD, length-append, length-drop, drop-of-length-le}
 use lib.Seq.{drop-drop}
@@ -13,7 +13,7 @@ use Rattle.keyvalue.proofs.Numbers.{drop-next}
 use Rattle.rules.specs.Walk.{longest}
 use Rattle.lines.specs.Puts.{Puts}
 use Rattle.lines.proofs.Putting.{puts-then, puts-as}
-use Rattle.recording.specs.Files.{entryOctets, entriesOctets, sixLengths, givenBy}
+use Rattle.recording.specs.Files.{entryOctets, sixLengths, givenBy}
 use Rattle.filing.specs.Cells.{lengthIn, taken, entryBy, isGiven, octetsGiven}
 use Rattle.filing.specs.Steps.{ItemIn, Measures}
 use Rattle.filing.proofs.Cells.{no-item, no-samples, given-on, Next, next-given, none-left, octets-next, octets-none}

@@ -12,7 +12,8 @@ use Rattle.recording.specs.declared.Refusal.the-variants.{Frame}
 use Rattle.recording.specs.declared.Ending.the-variants.{Refused}
 use Rattle.recording.specs.declared.FileWritten.{FileWritten}
 use Rattle.recording.specs.Remembered.{plusPlus}
-use Rattle.recording.specs.Files.{sixLengths}
+use Rattle.recording.specs.Files.{sixLengths, givenBy, fileGiven}
+use Rattle.recording.specs.Calls.{Writes}
 use Rattle.filing.specs.Cells.{lengthIn, taken}
 
 -- "the writer's chosen form"
@@ -42,3 +43,7 @@ pub record Measures (total r : ℕ) : Type 0 where
 pub record Declines (why : rules.Refusal) (r : FileWritten) : Type 0 where
   pub end : r .end ≡ Refused (Frame why)
   pub octets : r .octets ≡ 0
+
+-- after LAW, SET and LENGTH: "LONG, ROOM (heading and all)"
+abbrev pub WriteGiven : List ℕ → List ℕ → ℕ → ℕ → List ℕ → List ℕ → FileWritten → Type 0
+WriteGiven samples cells law set out out′ r = Writes (fileGiven law set (givenBy cells samples) (length out)) r out out′

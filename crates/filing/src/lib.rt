@@ -1,24 +1,23 @@
 // Writing a recording file (document 02, R-1): its heading, then frames and losses. What is refused is found before an octet is written.
 
-use items::put_items;
 use given::are_given;
+use items::put_items;
 use law::mask_of;
-use recording::marking::HEADING;
-use recording::marking::heading_of;
-use recording::marking::plus_plus;
 use recording::Ending;
 use recording::FileWritten;
 use recording::Refusal;
+use recording::marking::HEADING;
+use recording::marking::heading_of;
+use recording::marking::plus_plus;
 use rules::LONGEST;
 use sizes::all_octets;
 ghost use mathlib.Core.Path.{_≡_};
 ghost use mathlib.Core.Bool.{true};
-ghost use lib.ListN.{length};
 ghost use Rattle.rules.specs.Tools.{isLaw, isWriterSet};
-ghost use Rattle.recording.specs.Files.{givenBy, fileGiven};
-ghost use Rattle.recording.specs.Calls.{Writes, WriteFile};
+ghost use Rattle.recording.specs.Files.{givenBy};
+ghost use Rattle.recording.specs.Calls.{WriteFile};
 ghost use Rattle.filing.specs.Cells.{isGiven};
-ghost use Rattle.filing.specs.Steps.{Declines};
+ghost use Rattle.filing.specs.Steps.{Declines, WriteGiven};
 
 pub mod given;
 pub mod items;
@@ -38,7 +37,7 @@ fn refused(why: rules::Refusal) -> FileWritten
 fn write_given(samples: &[u8], cells: &[u16], law: u32, set: u32, out: &mut [u8]) -> FileWritten
     requires { ⌜ (isLaw law ≡ true) × (isWriterSet set ≡ true) ⌝ }
     requires { ⌜ isGiven (givenBy (now cells) (now samples)) ≡ true ⌝ }
-    ensures { λ r. ⌜ Writes (fileGiven law set (givenBy (now (cells .entry)) (now (samples .entry))) (length (now (out .entry)))) r (now (out .entry)) (now (out .exit)) ⌝ }
+    ensures { λ r. ⌜ WriteGiven (now (samples .entry)) (now (cells .entry)) law set (now (out .entry)) (now (out .exit)) r ⌝ }
 {
     let mask = mask_of(law);
     let quiet = [plus_plus(mask); 320];

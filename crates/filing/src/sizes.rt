@@ -1,10 +1,10 @@
 // The octets of forms that are not written yet: "Nothing is written by a refused call: measure first".
 
+use crate::given::length_in;
+use crate::given::samples_in;
 use choice::near::located_plan;
 use choice::settle::choose;
 use choice::two_zeros::zeros_plan;
-use crate::given::length_in;
-use crate::given::samples_in;
 use law::plus_zero;
 use look::others;
 use measure::octets_for;
@@ -14,8 +14,6 @@ ghost use mathlib.Core.Path.{_≡_};
 ghost use mathlib.Core.Bool.{true, false};
 ghost use Prim.Native.Nat.{_≤_};
 ghost use lib.ListN.{length, take, drop};
-ghost use Rattle.rules.specs.Bits.{octetsFor};
-ghost use Rattle.rules.specs.Chooses.{chosenTool, formOf};
 ghost use Rattle.look.specs.Looks.{twoZeros, isMask, FrameIn};
 ghost use Rattle.choice.specs.Plans.{Left};
 ghost use Rattle.recording.specs.Files.{entryOctets, sixLengths, givenBy};

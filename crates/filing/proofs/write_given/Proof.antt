@@ -36,10 +36,12 @@ refused-requires c κs = search needs
 
 returns : tie.Need-returns
 returns c =
-    let s = c .before .before .before .before .before .before .before .before .before in
+    let t = c .before .before in
+    let s = t .before .before .before .before .before .before .before in
     let a = s .args in
-    let m = rw (c .before .before .before .before .before .mask-of .ensures) at (c .before .before .all-octets .ensures) in
-    declined-as (c .refused .ensures) (too-long (a .samples .now) (a .cells .now) (a .law) (a .set) (length (a .out .now)) (s .pre .1) (m .long (omega arith))) (a .out .now)
+    let m = rw (t .before .before .before .mask-of .ensures) at (t .all-octets .ensures) in
+    let long = too-long (a .samples .now) (a .cells .now) (a .law) (a .set) (length (a .out .now)) (s .pre .1) (m .long (omega arith)) in
+    declined-as (c .refused .ensures) long (a .out .now)
 
 add-if2 : tie.Need-add-if2
 add-if2 c = search needs
@@ -49,11 +51,13 @@ refused-requires-2 c κs = search needs
 
 returns-2 : tie.Need-returns-2
 returns-2 c =
-    let s = c .before .before .before .before .before .before .before .before .before .before in
+    let t = c .before .before .before in
+    let s = t .before .before .before .before .before .before .before in
     let a = s .args in
-    let m = rw (c .before .before .before .before .before .before .mask-of .ensures) at (c .before .before .before .all-octets .ensures) in
+    let m = rw (t .before .before .before .mask-of .ensures) at (t .all-octets .ensures) in
     let e = m .exact (omega arith) in
-    declined-as (c .refused2 .ensures) (no-room (a .samples .now) (a .cells .now) (a .law) (a .set) (length (a .out .now)) (s .pre .1) (omega arith) (omega arith)) (a .out .now)
+    let short = no-room (a .samples .now) (a .cells .now) (a .law) (a .set) (length (a .out .now)) (s .pre .1) (omega arith) (omega arith) in
+    declined-as (c .refused2 .ensures) short (a .out .now)
 
 heading-of-requires : tie.Need-heading-of-requires
 heading-of-requires c κs = search needs
@@ -69,11 +73,13 @@ slice-aggregate-put-items c = search needs
 
 put-items-requires : tie.Need-put-items-requires
 put-items-requires c κs =
-    let s = c .before .before .before .before .before .before .before .before .before .before .before .before .before .before .before .before .before in
-    let mask = c .before .before .before .before .before .before .before .before .before .before .before .before .before .mask-of .ensures in
-    let m = rw mask at (c .before .before .before .before .before .before .before .before .before .before .all-octets .ensures) in
-    let p = rw (c .before .before .before .before .before .before .before .heading-of .ensures) at (c .before .before .before .before .put-word .ensures) in
-    let quiet = ap (λ x. replicate 320 x) (c .before .before .before .before .before .before .before .before .before .before .before .before .plus-plus .ensures ∙ ap plusPlus mask) in
+    let w = c .before .before .before .before in
+    let t = w .before .before .before .before .before .before in
+    let s = t .before .before .before .before .before .before .before in
+    let mask = t .before .before .before .mask-of .ensures in
+    let m = rw mask at (t .all-octets .ensures) in
+    let p = rw (w .before .before .before .heading-of .ensures) at (w .put-word .ensures) in
+    let quiet = ap (λ x. replicate 320 x) (t .before .before .plus-plus .ensures ∙ ap plusPlus mask) in
     (s .pre .1, ((s .pre .0, quiet), omega (arith, m .exact (omega arith), p .place, p .size)))
 
 same-length : tie.Need-same-length
@@ -81,11 +87,13 @@ same-length c = search needs
 
 returns-3 : tie.Need-returns-3
 returns-3 c =
-    let s = c .before .before .before .before .before .before .before .before .before .before .before .before .before .before .before .before .before .before .before .before in
-    let m = rw (c .before .before .before .before .before .before .before .before .before .before .before .before .before .before .before .before .mask-of .ensures) at (c .before .before .before .before .before .before .before .before .before .before .before .before .before .all-octets .ensures) in
-    let e = m .exact (omega arith) in
-    let p = rw (c .before .before .before .before .before .before .before .before .before .before .heading-of .ensures) at (c .before .before .before .before .before .before .before .put-word .ensures) in
+    let w = c .before .before .before .before .before .before .before in
+    let t = w .before .before .before .before .before .before in
+    let s = t .before .before .before .before .before .before .before in
     let a = s .args in
+    let m = rw (t .before .before .before .mask-of .ensures) at (t .all-octets .ensures) in
+    let e = m .exact (omega arith) in
+    let p = rw (w .before .before .before .heading-of .ensures) at (w .put-word .ensures) in
     file-written (a .samples .now) (a .cells .now) (a .law) (a .set) (s .pre .1) (omega arith) (omega arith) p (c .before .before .put-items .ensures)
 
 pub write-given-spec : {M : Type 1} → statement M

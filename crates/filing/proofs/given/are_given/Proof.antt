@@ -32,9 +32,10 @@ is-item-requires c κs = search needs
 
 returns : tie.Need-returns Inv-loop μ-loop
 returns c =
-    let a = c .before .before .before .before .before .before .before .args in
     let i = c .before .is-item in
-    judge-no-item (a .cells .now) (a .samples .now) (c .before .before .before .before .loop .inv) (omega arith) (sym (i .ensures) ∙ not-true _ (c .if1 .taken))
+    let l = c .before .before .before .before in
+    let a = l .before .before .before .args in
+    judge-no-item (a .cells .now) (a .samples .now) (l .loop .inv) (omega arith) (sym (i .ensures) ∙ not-true _ (c .if1 .taken))
 
 samples-in-requires : tie.Need-samples-in-requires Inv-loop μ-loop
 samples-in-requires c κs = search needs
@@ -44,11 +45,12 @@ sub-if2 c = search needs
 
 returns-2 : tie.Need-returns-2 Inv-loop μ-loop
 returns-2 c =
-    let a = c .before .before .before .before .before .before .before .before .before .args in
     let i = c .before .before .before .is-item in
+    let l = c .before .before .before .before .before .before in
+    let a = l .before .before .before .args in
     let n = c .before .samples-in .ensures in
-    judge-no-samples (a .cells .now) (a .samples .now) (c .before .before .before .before .before .before .loop .inv) (omega arith) (sym (i .ensures) ∙ not-false _ (c .before .before .if1 .left))
-    (omega (arith, n))
+    let six = sym (i .ensures) ∙ not-false _ (c .before .before .if1 .left) in
+    judge-no-samples (a .cells .now) (a .samples .now) (l .loop .inv) (omega arith) six (omega (arith, n))
 
 add-from : tie.Need-add-from Inv-loop μ-loop
 add-from c = search needs
@@ -61,11 +63,12 @@ loop-less c = search needs
 
 loop-again : tie.Need-loop-again Inv-loop μ-loop
 loop-again c =
-    let a = c .before .before .before .before .before .before .before .before .before .args in
     let i = c .before .before .before .is-item in
+    let l = c .before .before .before .before .before .before in
+    let a = l .before .before .before .args in
     let n = c .before .samples-in .ensures in
-    rw n (judge-turn (a .cells .now) (a .samples .now) (c .before .before .before .before .before .before .loop .inv) (omega arith)
-    (sym (i .ensures) ∙ not-false _ (c .before .before .if1 .left)) (omega (arith, n)))
+    let six = sym (i .ensures) ∙ not-false _ (c .before .before .if1 .left) in
+    rw n (judge-turn (a .cells .now) (a .samples .now) (l .loop .inv) (omega arith) six (omega (arith, n)))
 
 returns-3 : tie.Need-returns-3 Inv-loop μ-loop
 returns-3 c =

@@ -1,7 +1,6 @@
 use borrow.Author.Needs.{needs}
 use Prim.Native.Nat.{_-_}
 use native.Mathlib.Omega.{arith}
-use mathlib.Core.Path.{sym, _∙_}
 use lib.ListN.{length}
 use Rattle.rules.specs.Samples.{maskOf}
 use Rattle.filing.proofs.Way.{going-item, going-on, Writing, write-start, write-room, write-turn, write-done}
@@ -31,19 +30,22 @@ shared-slice-read-c c = search needs
 
 put-item-requires : tie.Need-put-item-requires Inv-loop μ-loop
 put-item-requires c κs =
-    let s = c .before .before .before .before .before .before .before .before in
-    let w = c .before .before .before .loop .inv in
+    let l = c .before .before .before in
+    let s = l .before .before .before .before .before in
+    let w = l .loop .inv in
     let g = w .going in
     ((going-item (s .args .cells .now) (s .args .samples .now) g (omega arith), g .inside), (s .pre .1 .0,
-    write-room (s .args .cells .now) (s .args .samples .now) (maskOf (s .args .law)) (s .args .set) (s .args .out .now) (s .args .at) w (s .pre .1 .1) (omega arith)))
+    write-room (s .args .cells .now) (s .args .samples .now) (maskOf (s .args .law)) (s .args .set) (s .args .out .now) (s .args .at)
+    w (s .pre .1 .1) (omega arith)))
 
 samples-in-requires : tie.Need-samples-in-requires Inv-loop μ-loop
 samples-in-requires c κs = search needs
 
 add-from : tie.Need-add-from Inv-loop μ-loop
 add-from c =
-    let s = c .before .before .before .before .before .before .before .before .before .before .before .before in
-    let g = going-on (s .args .cells .now) (s .args .samples .now) (c .before .before .before .before .before .before .before .loop .inv .going) (omega arith) in
+    let l = c .before .before .before .before .before .before .before in
+    let s = l .before .before .before .before .before in
+    let g = going-on (s .args .cells .now) (s .args .samples .now) (l .loop .inv .going) (omega arith) in
     omega (arith, g .inside, c .samples-in .ensures, s .good)
 
 add-i : tie.Need-add-i Inv-loop μ-loop
@@ -54,10 +56,11 @@ loop-less c = search needs
 
 loop-again : tie.Need-loop-again Inv-loop μ-loop
 loop-again c =
-    let s = c .before .before .before .before .before .before .before .before .before .before .before .before in
+    let l = c .before .before .before .before .before .before .before in
+    let s = l .before .before .before .before .before in
     rw (c .samples-in .ensures)
     (write-turn (s .args .cells .now) (s .args .samples .now) (maskOf (s .args .law)) (s .args .set) (s .args .out .now) (s .args .at)
-    (c .before .before .before .before .before .before .before .loop .inv) (omega arith) (c .before .before .before .put-item .ensures))
+    (l .loop .inv) (omega arith) (c .before .before .before .put-item .ensures))
 
 same-length : tie.Need-same-length Inv-loop μ-loop
 same-length c = search needs
@@ -65,7 +68,8 @@ same-length c = search needs
 returns : tie.Need-returns Inv-loop μ-loop
 returns c =
     let s = c .before .before .before .before .before .before in
-    write-done (s .args .cells .now) (s .args .samples .now) (maskOf (s .args .law)) (s .args .set) (s .args .out .now) (s .args .at) (c .before .loop .inv) (omega arith)
+    write-done (s .args .cells .now) (s .args .samples .now) (maskOf (s .args .law)) (s .args .set) (s .args .out .now) (s .args .at)
+    (c .before .loop .inv) (omega arith)
 
 pub put-items-spec : {M : Type 1} → statement M
 put-items-spec =

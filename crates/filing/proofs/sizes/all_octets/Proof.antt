@@ -1,9 +1,8 @@
 use borrow.Author.Needs.{needs}
 use Prim.Native.Nat.{_-_}
 use native.Mathlib.Omega.{arith}
-use mathlib.Core.Path.{sym, _∙_}
 use lib.ListN.{length}
-use Rattle.filing.proofs.Way.{going-item, going-on, Measuring, measure-start, measure-turn, measure-done, measure-long}
+use Rattle.filing.proofs.Way.{going-item, going-on, Measuring, measure-start, measure-turn, measure-done}
 use Rattle.filing.proofs.sizes.all_octets.Statement.{statement}
 use Rattle.filing.proofs.sizes.all_octets.Tie as tie
 use Rattle.filing.proofs.sizes.all_octets.Reads as reads
@@ -45,8 +44,9 @@ samples-in-requires c κs = search needs
 
 add-from : tie.Need-add-from Inv-loop μ-loop
 add-from c =
-    let s = c .before .before .before .before .before .before .before .before .before in
-    let g = going-on (s .args .cells .now) (s .args .samples .now) (c .before .before .before .before .before .loop .inv .going) (omega arith) in
+    let l = c .before .before .before .before .before in
+    let s = l .before .before .before .before in
+    let g = going-on (s .args .cells .now) (s .args .samples .now) (l .loop .inv .going) (omega arith) in
     omega (arith, g .inside, c .samples-in .ensures, s .good)
 
 add-i : tie.Need-add-i Inv-loop μ-loop
@@ -57,10 +57,11 @@ loop-less c = search needs
 
 loop-again : tie.Need-loop-again Inv-loop μ-loop
 loop-again c =
-    let a = c .before .before .before .before .before .before .before .before .before .args in
+    let l = c .before .before .before .before .before in
+    let a = l .before .before .before .before .args in
     let n = c .before .item-octets .ensures in
     rw (c .samples-in .ensures)
-    (measure-turn (a .cells .now) (a .samples .now) (a .mask) (a .set) (c .before .before .before .before .before .loop .inv) (omega arith) (omega arith) (n .0) (n .1))
+    (measure-turn (a .cells .now) (a .samples .now) (a .mask) (a .set) (l .loop .inv) (omega arith) (omega arith) (n .0) (n .1))
 
 returns-2 : tie.Need-returns-2 Inv-loop μ-loop
 returns-2 c =

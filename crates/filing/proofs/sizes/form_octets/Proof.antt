@@ -1,4 +1,3 @@
-use borrow.Author.Needs.{needs}
 use native.Mathlib.Omega.{arith}
 use mathlib.Core.Path.{_≡_}
 use mathlib.Core.Bool.{true}
@@ -9,9 +8,6 @@ use Rattle.look.proofs.Tests.{frame-in}
 use Rattle.filing.proofs.Forms.{six-length, pad-sized, form-sized}
 use Rattle.filing.proofs.sizes.form_octets.Statement.{statement}
 use Rattle.filing.proofs.sizes.form_octets.Tie as tie
-use Rattle.filing.proofs.sizes.form_octets.Reads as reads
-use Rattle.filing.proofs.sizes.form_octets.Lts as lts
-use Rattle.filing.proofs.sizes.some_octets.Reads as some-octets-reads
 
 returns : tie.Need-returns
 returns c =

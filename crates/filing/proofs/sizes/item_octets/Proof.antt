@@ -17,7 +17,9 @@ add-form-octets : tie.Need-add-form-octets
 add-form-octets c =
     let s = c .before .before .before .before in
     let n = c .before .length-in in
-    omega (arith, s .good, frame-end (s .args .mask) (s .args .set) (s .args .c) (n .result) (n .ensures) (s .args .samples .now) (s .args .from) (s .pre .0 .0) (omega arith) (s .pre .0 .1))
+    omega (arith, s .good,
+    frame-end (s .args .mask) (s .args .set) (s .args .c) (n .result) (n .ensures)
+    (s .args .samples .now) (s .args .from) (s .pre .0 .0) (omega arith) (s .pre .0 .1))
 
 sub-form-octets : tie.Need-sub-form-octets
 sub-form-octets c = search needs
@@ -29,19 +31,22 @@ part-form-octets-end : tie.Need-part-form-octets-end
 part-form-octets-end c =
     let s = c .before .before .before .before in
     let n = c .before .length-in in
-    frame-end (s .args .mask) (s .args .set) (s .args .c) (n .result) (n .ensures) (s .args .samples .now) (s .args .from) (s .pre .0 .0) (omega arith) (s .pre .0 .1)
+    frame-end (s .args .mask) (s .args .set) (s .args .c) (n .result) (n .ensures)
+    (s .args .samples .now) (s .args .from) (s .pre .0 .0) (omega arith) (s .pre .0 .1)
 
 form-octets-requires : tie.Need-form-octets-requires
 form-octets-requires c κs =
     let s = c .before .before .before .before .before in
     let n = c .before .before .length-in in
-    (frame-for (s .args .mask) (s .args .set) (s .args .c) (n .result) (n .ensures) (s .args .samples .now) (s .args .from) (s .pre .0 .0) (omega arith) .six, s .pre .1 .0)
+    (frame-for (s .args .mask) (s .args .set) (s .args .c) (n .result) (n .ensures)
+    (s .args .samples .now) (s .args .from) (s .pre .0 .0) (omega arith) .six, s .pre .1 .0)
 
 returns : tie.Need-returns
 returns c =
     let s = c .before .before .before .before .before .before in
     let n = c .before .before .before .length-in in
-    let f = frame-for (s .args .mask) (s .args .set) (s .args .c) (n .result) (n .ensures) (s .args .samples .now) (s .args .from) (s .pre .0 .0) (omega arith) in
+    let f = frame-for (s .args .mask) (s .args .set) (s .args .c) (n .result) (n .ensures)
+    (s .args .samples .now) (s .args .from) (s .pre .0 .0) (omega arith) in
     (c .form-octets .ensures .0 ∙ ap length (sym (f .octets)), c .form-octets .ensures .1)
 
 returns-2 : tie.Need-returns-2
@@ -60,14 +65,16 @@ form-octets-requires-2 : tie.Need-form-octets-requires-2
 form-octets-requires-2 c κs =
     let s = c .before .before .before .before .before .before in
     let n = c .before .before .before .length-in in
-    let f = loss-for (s .args .mask) (s .args .set) (s .args .c) (n .result) (n .ensures) (s .pre .0 .0) (s .pre .1 .1) (omega arith) (c .before .if2 .left) in
+    let f = loss-for (s .args .mask) (s .args .set) (s .args .c) (n .result) (n .ensures)
+    (s .pre .0 .0) (s .pre .1 .1) (omega arith) (c .before .if2 .left) in
     (f .six, s .pre .1 .0)
 
 returns-3 : tie.Need-returns-3
 returns-3 c =
     let s = c .before .before .before .before .before .before .before in
     let n = c .before .before .before .before .length-in in
-    let f = loss-for (s .args .mask) (s .args .set) (s .args .c) (n .result) (n .ensures) (s .pre .0 .0) (s .pre .1 .1) (omega arith) (c .before .before .if2 .left) in
+    let f = loss-for (s .args .mask) (s .args .set) (s .args .c) (n .result) (n .ensures)
+    (s .pre .0 .0) (s .pre .1 .1) (omega arith) (c .before .before .if2 .left) in
     (c .form-octets2 .ensures .0 ∙ ap length (sym (f .octets)), c .form-octets2 .ensures .1)
 
 pub item-octets-spec : {M : Type 1} → statement M
