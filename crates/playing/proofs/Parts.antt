@@ -286,7 +286,8 @@ module _ (octets : List ℕ) (law set : ℕ) where
 
     pub items-left : itemsFrom m octets law set at room places .end ≡ Done
         → Roomy n (itemsFrom m octets law set at room places .place)
-        (more - length (soundIn (itemsFrom m octets law set at room places .items))) (others - length (itemsFrom m octets law set at room places .items))
+        (more - length (soundIn (itemsFrom m octets law set at room places .items)))
+        (others - length (itemsFrom m octets law set at room places .items))
     items-left e = go (itemsFrom m octets law set at room places) (items-told m at room places) e (leb (length octets) _) refl
       where
         go : (r : Recorded) → Told m at room places r → r .end ≡ Done → (b : Bool) → leb (length octets) (r .place) ≡ b
