@@ -1,5 +1,6 @@
 -- A reading is its parts one after another (`items-parts`, `items-on`, `items-kept`); what is true of every reading (`items-told`); items
--- allowed above the octets left do not matter (`items-fuel`); 320 samples and a place for each item are always enough (`items-roomy`).
+-- allowed above the octets left do not matter (`items-fuel`); 320 samples and a place for each item are always enough (`items-roomy`), so a
+-- caller may read each part into the same output (`items-piece`, `items-stopped`, `items-left`).
 use Prim.Native.Nat.{ℕ, zero, suc, _+_, _*_, _-_, _≤_, _<_, min}
 use native.Mathlib.Omega.{arith}
 use native.Mathlib.Nat.{add-comm}
@@ -74,6 +75,21 @@ module _ (octets : List ℕ) (law set : ℕ) where
       → (1 ≤ used) × (at + used ≤ length octets) × (length (soundOf i) ≤ room)
   fits {at} {room} h e = subst (Fits octets at room) e (step-fits octets law set at room h)
 
+  -- room for 320 samples is enough for an item
+  step-room : (at room : ℕ) → 320 ≤ room → itemStep octets law set at room ≡ itemStep octets law set at 320
+  step-room at room h =
+      ap (λ (m : Read Found). cond (eqb (getD octets at 0) lostOctet) (takes (lost 0) 1) (frameStep (maskOf law) m))
+      (read-room (drop at octets) law set room h)
+
+  -- an item has at most 320 samples
+  most : (room : ℕ) {at : ℕ} {i : Item} {used : ℕ} → at < length octets → itemStep octets law set at room ≡ takes i used
+      → length (soundOf i) ≤ 320
+  most room {at} {i} h e = go (leb 320 room) refl
+    where
+      go : (b : Bool) → leb 320 room ≡ b → length (soundOf i) ≤ 320
+      go true l = fits h (sym (step-room at room (leb-true 320 room l)) ∙ e) .2
+      go false l = omega (arith, fits h e .2, leb-false 320 room l)
+
   -- there is one such reading
   pub reads-only : {n at room places : ℕ} {r : Recorded} → Reads n at room places r → itemsFrom n octets law set at room places ≡ r
   reads-only {at = at} {room} {places} last = items-last octets law set 0 at room places refl
@@ -88,28 +104,32 @@ module _ (octets : List ℕ) (law set : ℕ) where
   -- what is true of every reading
   pub record Told (n at room places : ℕ) (r : Recorded) : Type 0 where
     pub fits : length (soundIn (r .items)) ≤ room
+    pub held : length (soundIn (r .items)) ≤ 320 * length (r .items)
     pub few : length (r .items) ≤ n
     pub placed : length (r .items) ≤ places
     pub some : at + length (r .items) ≤ r .place
     pub inside : at ≤ length octets → r .place ≤ length octets
     -- it ended clean: all items that are allowed are there, or it is at the end
     pub all : r .end ≡ Done → length (r .items) < n → length octets ≤ r .place
+    pub full : r .end ≡ Done → r .place < length octets → length (r .items) ≡ n
     pub clean : r .end ≡ Done → r .bit ≡ 0
 
   -- Done is no refusal
   not-refused : {A : Type 0} {r : Refusal} → Refused r ≡ Done → A
   not-refused e = let z : _≡_ {A = ℕ} 0 1 = cc in absurd (omega arith)
 
-  told-none : (n at room places : ℕ) → (0 < n → length octets ≤ at) → Told n at room places (stopped Done at 0)
+  told-none : (n at room places : ℕ) → (0 < n → length octets ≤ at) → (at < length octets → 0 ≡ n) → Told n at room places (stopped Done at 0)
   unfolding soundIn
-  told-none n at room places h =
+  told-none n at room places h g =
       record {
         fits = omega arith;
+        held = omega arith;
         few = omega arith;
         placed = omega arith;
         some = omega arith;
         inside = λ l. l;
         all = λ e k. h k;
+        full = λ e k. g k;
         clean = λ e. refl;
       }
 
@@ -118,18 +138,20 @@ module _ (octets : List ℕ) (law set : ℕ) where
   told-stop n at room places why bit =
       record {
         fits = omega arith;
+        held = omega arith;
         few = omega arith;
         placed = omega arith;
         some = omega arith;
         inside = λ l. l;
         all = λ e. not-refused e;
+        full = λ e. not-refused e;
         clean = λ e. not-refused e;
       }
 
   reads-told : {n at room places : ℕ} {r : Recorded} → Reads n at room places r → Told n at room places r
   unfolding soundIn
-  reads-told {n} {at} {room} {places} last = told-none 0 at room places (λ k. absurd (omega arith))
-  reads-told {n} {at} {room} {places} (ended h) = told-none n at room places (λ k. h)
+  reads-told {n} {at} {room} {places} last = told-none 0 at room places (λ k. absurd (omega arith)) (λ k. refl)
+  reads-told {n} {at} {room} {places} (ended h) = told-none n at room places (λ k. h) (λ k. absurd (omega arith))
   reads-told {n} {at} {room} {places} (full h) = told-stop n at room 0 (Frame rules.Room) 0
   reads-told {n} {at} {room} {places} (refused {w = w} {bit = bit} h e) = told-stop n at room places (Frame w) bit
   reads-told {n = suc n} {at} {room} {places} (delivers {i = i} {rest = r} h e t) =
@@ -137,11 +159,13 @@ module _ (octets : List ℕ) (law set : ℕ) where
       let f = fits h e in
       record {
         fits = omega (arith, k .fits, f .2, length-append (soundOf i) (soundIn (r .items)));
+        held = omega (arith, k .held, most room h e, length-append (soundOf i) (soundIn (r .items)));
         few = omega (arith, k .few);
         placed = omega (arith, k .placed);
         some = omega (arith, k .some, f .0);
         inside = λ l. k .inside (f .1);
         all = λ d m. k .all d (omega arith);
+        full = λ d m. omega (arith, k .full d m);
         clean = λ d. k .clean d;
       }
 
@@ -222,12 +246,6 @@ module _ (octets : List ℕ) (law set : ℕ) where
       sym (fuel (reads m at room places) h n) ∙ ap (λ (k : ℕ). itemsFrom k octets law set at room places) (add-comm m n)
       ∙ fuel (reads n at room places) k m
 
-  -- room for 320 samples is enough for an item
-  step-room : (at room : ℕ) → 320 ≤ room → itemStep octets law set at room ≡ itemStep octets law set at 320
-  step-room at room h =
-      ap (λ (m : Read Found). cond (eqb (getD octets at 0) lostOctet) (takes (lost 0) 1) (frameStep (maskOf law) m))
-      (read-room (drop at octets) law set room h)
-
   -- enough room, and enough places, for the items allowed and for the octets left
   abbrev pub Roomy : ℕ → ℕ → ℕ → ℕ → Type 0
   Roomy n at room places = (320 * min n (length octets - at) ≤ room) × (min n (length octets - at) ≤ places)
@@ -252,3 +270,30 @@ module _ (octets : List ℕ) (law set : ℕ) where
   pub items-roomy : (n at room places more others : ℕ) → Roomy n at room places → Roomy n at more others
       → itemsFrom n octets law set at room places ≡ itemsFrom n octets law set at more others
   items-roomy n at room places more others h k = sym (roomy (reads n at room places) more others h k)
+
+  -- one part of a reading whose room is ample, read with ample room of its own: the rest follows, and has ample room too
+  module _ (m n at room places more others : ℕ) (h : Roomy (m + n) at more others) (k : Roomy m at room places) where
+    same : itemsFrom m octets law set at more others ≡ itemsFrom m octets law set at room places
+    same = items-roomy m at more others room places (omega (arith, h .0), omega (arith, h .1)) k
+
+    pub items-piece : itemsFrom m octets law set at room places .end ≡ Done
+        → itemsFrom (m + n) octets law set at more others ≡ onFrom n more others (itemsFrom m octets law set at room places)
+    items-piece e = items-on m n at more others (ap (λ (r : Recorded). r .end) same ∙ e) ∙ ap (onFrom n more others) same
+
+    pub items-stopped : {why : Refusal} → itemsFrom m octets law set at room places .end ≡ Refused why
+        → itemsFrom (m + n) octets law set at more others ≡ itemsFrom m octets law set at room places
+    items-stopped e = items-kept m n at more others (ap (λ (r : Recorded). r .end) same ∙ e) ∙ same
+
+    pub items-left : itemsFrom m octets law set at room places .end ≡ Done
+        → Roomy n (itemsFrom m octets law set at room places .place)
+        (more - length (soundIn (itemsFrom m octets law set at room places .items)))
+        (others - length (itemsFrom m octets law set at room places .items))
+    items-left e = go (itemsFrom m octets law set at room places) (items-told m at room places) e (leb (length octets) _) refl
+      where
+        go : (r : Recorded) → Told m at room places r → r .end ≡ Done → (b : Bool) → leb (length octets) (r .place) ≡ b
+            → Roomy n (r .place) (more - length (soundIn (r .items))) (others - length (r .items))
+        go r t e true l = let z = leb-true (length octets) (r .place) l in (omega arith, omega arith)
+        go r t e false l =
+            let z = leb-false (length octets) (r .place) l in
+            let c = t .full e z in
+            (omega (arith, h .0, t .held, t .some), omega (arith, h .1, t .some))

@@ -1,5 +1,5 @@
--- A whole file: what its heading says (`headed-a`, `headed-mu`, `headed-none`, `headed-long`), what refuses it before its items, in order
--- (`file-set`, `file-head`, `file-long`; `reads-none`), and its items (`file-whole`, `items-read`).
+-- A whole file: what its heading says (`headed-a`, `headed-mu`, `headed-none`, `headed-long`, `headed-law`), what refuses it before its
+-- items, in order (`file-set`, `file-head`, `file-long`; `reads-none`), and its items (`file-whole`, `items-read`).
 use Prim.Native.Nat.{ℕ, _+_, _-_, _≤_, _<_}
 use native.Mathlib.Omega.{arith}
 use native.Mathlib.Numerals.{add-one}
@@ -9,7 +9,7 @@ use mathlib.Core.Bool.{Bool, true, false, cond}
 use lib.ListN.{length, take, drop}
 use borrow.Author.Tests.{lt-leb, le-leb}
 use Rattle.rules.specs.declared.Refusal.the-variants as rules
-use Rattle.rules.specs.Tools.{allTools}
+use Rattle.rules.specs.Tools.{isLaw, allTools}
 use Rattle.rules.specs.Walk.{longest}
 use Rattle.rules.proofs.Lent.{from-on}
 use Rattle.keyvalue.specs.Reading.{begins}
@@ -47,6 +47,19 @@ module _ (octets : List ℕ) where
       go true p y q e = begins-fits (headingOf 0) octets p
       go false p true q e = begins-fits (headingOf 1) octets q
       go false p false q e = let z : _≡_ {A = ℕ} 0 1 = cc in absurd (omega arith)
+
+  -- a heading's law is one of the two
+  pub headed-law : {law : ℕ} → headed octets ≡ heading law → isLaw law ≡ true
+  unfolding headed
+  headed-law {law} e = go (begins (headingOf 0) octets) (begins (headingOf 1) octets) e
+    where
+      is-law : (x : ℕ) → isLaw x ≡ true → heading x ≡ heading law → isLaw law ≡ true
+      is-law x h e = let z : x ≡ law = cc in rw (← z) h
+
+      go : (x y : Bool) → cond x (heading 0) (cond y (heading 1) noHeading) ≡ heading law → isLaw law ≡ true
+      go true y e = is-law 0 refl e
+      go false true e = is-law 1 refl e
+      go false false e = let z : _≡_ {A = ℕ} 0 1 = cc in absurd (omega arith)
 
   -- "SET, HEAD, LONG (octets after the heading above the walk's limit), then item by item"
   module _ (set room places : ℕ) where
