@@ -21,9 +21,9 @@ use recording::FileRead;
 use recording::Refusal;
 
 // The octets of a heading; what is added to the length of a loss in an item's number of 16 bits (`headingLength`, `lossFrom` of the paper).
-pub const HEADING_LENGTH: usize = 10;
+pub const HEADING_LENGTH: usize = recording::marking::HEADING;
 
-pub const LOSS_FROM: u16 = 32768;
+pub const LOSS_FROM: u16 = recording::marking::LOSS_FROM;
 
 // One item: how it ended, its octets, the samples that are sound, the item as a number, and a refusal's bit.
 struct Turn {
@@ -54,7 +54,7 @@ fn is_mark(octets: &[u8], at: usize) -> bool
     requires { ⌜ at < length (now octets) ⌝ }
     ensures { λ r. ⌜ r ≡ eqb (getD (now (octets .entry)) at 0) lostOctet ⌝ }
 {
-    octets[at] == 0x01
+    octets[at] == recording::marking::LOST
 }
 
 // Whether n samples are all x: none is another.
@@ -214,10 +214,12 @@ pub fn play_on(
 pub fn law_in(octets: &[u8]) -> Heading
     ensures { λ r. ⌜ asHeaded r ≡ headed (now (octets .entry)) ⌝ }
 {
-    if keyvalue::has_word(octets, 0, b"#!G7110A\n\0") {
+    let of_a = recording::marking::heading_of(0);
+    if keyvalue::has_word(octets, 0, &of_a) {
         return Heading::Law(0);
     }
-    if keyvalue::has_word(octets, 0, b"#!G7110M\n\0") {
+    let of_mu = recording::marking::heading_of(1);
+    if keyvalue::has_word(octets, 0, &of_mu) {
         return Heading::Law(1);
     }
     Heading::Missing
