@@ -76,10 +76,10 @@ fn is_erased(samples: &[u8], n: usize, law: u32) -> bool
     }
     let mask = law::mask_of(law);
     let first = samples[0];
-    if first == law::sample_of(mask, 1) {
+    if first == recording::marking::plus_plus(mask) {
         return all_are(samples, n, first);
     }
-    if first == law::sample_of(mask, -2) {
+    if first == recording::marking::minus_minus(mask) {
         return all_are(samples, n, first);
     }
     false

@@ -37,3 +37,11 @@ pub fn plus_plus(mask: u8) -> u8
 {
     sample_of(mask, 1)
 }
+
+// 0--, that on the other side.
+pub fn minus_minus(mask: u8) -> u8
+    requires { ⌜ mask < 128 ⌝ }
+    ensures { λ r. ⌜ r ≡ remembered.minusMinus mask ⌝ }
+{
+    sample_of(mask, -2)
+}

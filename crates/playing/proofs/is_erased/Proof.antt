@@ -19,8 +19,8 @@ mask-of-requires c κs = search needs
 shared-slice-read-first : tie.Need-shared-slice-read-first
 shared-slice-read-first c = search needs
 
-sample-of-requires : tie.Need-sample-of-requires
-sample-of-requires c κs = rw (c .before .mask-of .ensures) (mask-seven _ (is-mask (c .before .before .before .before .args .law)))
+plus-plus-requires : tie.Need-plus-plus-requires
+plus-plus-requires c κs = rw (c .before .mask-of .ensures) (mask-seven _ (is-mask (c .before .before .before .before .args .law)))
 
 all-are-requires : tie.Need-all-are-requires
 all-are-requires c κs = search needs
@@ -29,11 +29,11 @@ returns-2 : tie.Need-returns-2
 returns-2 c =
     let s = c .before .before .before .before .before .before .before in
     let m = c .before .before .before .before .mask-of .ensures in
-    let p = c .before .if2 .taken ∙ c .before .before .sample-of .ensures ∙ ap (λ (mask : ℕ). plusPlus mask) m in
+    let p = c .before .if2 .taken ∙ c .before .before .plus-plus .ensures ∙ ap (λ (mask : ℕ). plusPlus mask) m in
     rw (c .all-are .ensures) (erased-plus (maskOf (s .args .law)) (s .args .n) (s .args .samples .now) (omega arith) (omega arith) p)
 
-sample-of-requires-2 : tie.Need-sample-of-requires-2
-sample-of-requires-2 c κs =
+minus-minus-requires : tie.Need-minus-minus-requires
+minus-minus-requires c κs =
     rw (c .before .before .before .mask-of .ensures) (mask-seven _ (is-mask (c .before .before .before .before .before .before .args .law)))
 
 all-are-requires-2 : tie.Need-all-are-requires-2
@@ -43,15 +43,15 @@ returns-3 : tie.Need-returns-3
 returns-3 c =
     let s = c .before .before .before .before .before .before .before .before .before in
     let m = c .before .before .before .before .before .before .mask-of .ensures in
-    let p = c .before .if3 .taken ∙ c .before .before .sample-of2 .ensures ∙ ap (λ (mask : ℕ). minusMinus mask) m in
+    let p = c .before .if3 .taken ∙ c .before .before .minus-minus .ensures ∙ ap (λ (mask : ℕ). minusMinus mask) m in
     rw (c .all-are2 .ensures) (erased-minus (maskOf (s .args .law)) (s .args .n) (s .args .samples .now) (omega arith) (omega arith) p)
 
 returns-4 : tie.Need-returns-4
 returns-4 c =
     let s = c .before .before .before .before .before .before .before .before in
     let m = c .before .before .before .before .before .mask-of .ensures in
-    let p = c .before .before .before .sample-of .ensures ∙ ap (λ (mask : ℕ). plusPlus mask) m in
-    let q = c .before .sample-of2 .ensures ∙ ap (λ (mask : ℕ). minusMinus mask) m in
+    let p = c .before .before .before .plus-plus .ensures ∙ ap (λ (mask : ℕ). plusPlus mask) m in
+    let q = c .before .minus-minus .ensures ∙ ap (λ (mask : ℕ). minusMinus mask) m in
     erased-other (maskOf (s .args .law)) (s .args .n) (s .args .samples .now) (omega arith) (omega arith)
     (λ e. c .before .before .if2 .left (e ∙ sym p)) (λ e. c .if3 .left (e ∙ sym q))
 
@@ -62,10 +62,10 @@ is-erased-spec =
     returns
     mask-of-requires
     shared-slice-read-first
-    sample-of-requires
+    plus-plus-requires
     all-are-requires
     returns-2
-    sample-of-requires-2
+    minus-minus-requires
     all-are-requires-2
     returns-3
     returns-4)
