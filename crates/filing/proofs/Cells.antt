@@ -42,6 +42,14 @@ module _ (c : ℕ) where
     unfolding entryBy
     entry-loss samples = rw (le-ltb c lossFrom h) refl
 
+  pub length-le : lengthIn c ≤ c
+  length-le = go (ltb c lossFrom) refl
+    where
+      go : (t : Bool) → ltb c lossFrom ≡ t → lengthIn c ≤ c
+      go true e = omega (arith, length-frame (ltb-true c lossFrom e))
+      go false e = omega (arith, length-loss (ltb-false c lossFrom e))
+
+  module _ (h : lossFrom ≤ c) where
     no-six : sixLengths c ≡ false
     no-six =
         rw (ne-eqb c 0 (omega arith))

@@ -1,21 +1,26 @@
 -- The octets of the chosen form of samples, and of an item: the samples that are written for it.
---   form-sized: what a plan counts.     item-frame, item-lost, item-loss: an item's octets.     form-put: what the writer writes.
+--   form-sized: what a plan counts.     item-frame, item-lost, item-loss: an item's octets.
+--   item-most: they are N + 1 at most.
 use Prim.Native.Nat.{ℕ, zero, suc, _+_, _-_, _≤_, _<_}
 use native.Mathlib.Omega.{arith}
+use native.Mathlib.Decide.{ℕ-discrete}
 use mathlib.Core.Path.{_≡_, refl, sym, ap, _∙_}
 use mathlib.Core.List.{List, [], _∷_}
-use mathlib.Core.Bool.{true}
+use mathlib.Core.Bool.{Bool, true, false}
 use lib.ListN.{length, take, drop, replicate, length-drop, length-replicate}
 use lib.Seq.{length-take-le}
-use lib.Dec.{eqb}
-use borrow.Author.Tests.{ne-eqb, eqb-true}
-use Rattle.rules.specs.Tools.{isLength}
+use lib.Dec.{eqb, ltb, lit<}
+use lib.IntN.{pos}
+use borrow.Author.Tests.{ne-eqb, eqb-true, ltb-true, ltb-false}
+use Rattle.rules.specs.Tools.{isWriterSet, isLength}
 use Rattle.rules.specs.Bits.{lowBits}
 use Rattle.rules.specs.Chooses.{chosen}
-use Rattle.rules.proofs.Octets.{length-pack}
+use Rattle.rules.specs.Samples.{maskOf}
+use Rattle.rules.proofs.Octets.{Below, below-replicate, length-pack}
+use Rattle.rules.proofs.Signed.{law-mask}
 use Rattle.rules.proofs.Room.{length-most}
 use Rattle.rules.proofs.Tests.{or-cases}
-use Rattle.promises.proofs.Written.{chosen-pad, chosen-full}
+use Rattle.promises.proofs.Written.{Frames, full, frames-of, chosen-pad, chosen-full, chosen-short}
 use Rattle.recording.specs.Items.{lossFrom}
 use Rattle.recording.specs.Remembered.{lostOctet, plusPlus}
 use Rattle.recording.specs.Files.{entryOctets, sixLengths}
@@ -90,3 +95,27 @@ module _ (mask set c n : ℕ) (e : n ≡ lengthIn c) where
           six = rw (length-replicate (lengthIn c) (plusPlus mask)) (i .allowed);
           octets = item-loss mask set c samples h (λ o. z (e ∙ o));
         })
+
+-- "A written frame has 1 to N + 1 octets", and so has a loss
+form-most : (law set : ℕ) {s : List ℕ} → isWriterSet set ≡ true → Frames s → length (form (maskOf law) set s) ≤ length s + 1
+unfolding form
+form-most law set o f = chosen-short (maskOf law) set o f .most
+
+pub item-most : (law set c : ℕ) (samples : List ℕ) → isWriterSet set ≡ true → Below 256 samples → ItemIn samples c
+    → length (entryOctets (maskOf law) set (entryBy c samples)) ≤ suc (lengthIn c)
+item-most law set c samples o b i = go (ltb c lossFrom) refl (ℕ-discrete (lengthIn c) 0)
+  where
+    go : (t : Bool) → ltb c lossFrom ≡ t → Dec (lengthIn c ≡ 0) → length (entryOctets (maskOf law) set (entryBy c samples)) ≤ suc (lengthIn c)
+    go true e d =
+        let h = ltb-true c lossFrom e in
+        let inside : c ≤ length samples = omega (arith, taken-frame c h, i .inside) in
+        let f = frames-of c samples inside b (rw (length-frame c h) at (i .allowed)) in
+        let e = ap length (item-frame (maskOf law) set c samples h) in
+        omega (arith, e, form-most law set o f, length-take-le c samples inside, length-frame c h)
+    go false e (yes z) = omega (arith, ap length (item-lost (maskOf law) set c samples (ltb-false c lossFrom e) z))
+    go false e (no n) =
+        let size = length-replicate (lengthIn c) (plusPlus (maskOf law)) in
+        let f : Frames (replicate (lengthIn c) (plusPlus (maskOf law)))
+        = full {s = replicate (lengthIn c) (plusPlus (maskOf law))} (rw size (six-length (lengthIn c) n (i .allowed)))
+        (below-replicate (lengthIn c) (law-mask law .octet (pos 1) (lit< tt))) in
+        omega (arith, ap length (item-loss (maskOf law) set c samples (ltb-false c lossFrom e) n), form-most law set o f, size)

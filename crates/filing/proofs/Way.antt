@@ -1,9 +1,10 @@
--- The three loops on their way, item by item.
+-- The loops on their way, item by item.
 --   Judging: whether entries are given.     Measuring: their octets, counted.     Writing: their octets, written.
-use Prim.Native.Nat.{ℕ, _+_, _-_, _≤_, _<_}
+--   Counting: the most that they may be.     measured-settles, most-settles: what LONG and ROOM are judged by.
+use Prim.Native.Nat.{ℕ, suc, _+_, _-_, _≤_, _<_}
 use native.Mathlib.Omega.{arith}
 use mathlib.Core.Path.{_≡_, refl, sym, ap, _∙_}
-use mathlib.Core.List.{List, [], _++_, append-assoc, append-nil}
+use mathlib.Core.List.{List, [], _∷_, _++_, append-assoc, append-nil}
 use mathlib.Core.Bool.{Bool, true, false}
 use lib.ListN.{length, take, drop, getD, length-append, length-drop, drop-of-length-le}
 use lib.Seq.{drop-drop}
@@ -11,11 +12,16 @@ use lib.Dec.{eqb}
 use borrow.Author.Tests.{eq-eqb, ne-eqb, eqb-true, eqb-false}
 use Rattle.keyvalue.proofs.Numbers.{drop-next}
 use Rattle.rules.specs.Walk.{longest}
+use Rattle.rules.specs.Samples.{maskOf}
+use Rattle.rules.specs.Tools.{isWriterSet}
+use Rattle.rules.proofs.Octets.{Below, below-drop}
 use Rattle.lines.specs.Puts.{Puts}
 use Rattle.lines.proofs.Putting.{puts-then, puts-as}
+use Rattle.recording.specs.Remembered.{headingLength}
 use Rattle.recording.specs.Files.{entryOctets, sixLengths, givenBy}
-use Rattle.filing.specs.Cells.{lengthIn, taken, entryBy, isGiven, octetsGiven}
-use Rattle.filing.specs.Steps.{ItemIn, Measures}
+use Rattle.filing.specs.Cells.{lengthIn, taken, entryBy, mostFor, isGiven, octetsGiven}
+use Rattle.filing.specs.Steps.{ItemIn, Measures, Settles}
+use Rattle.filing.proofs.Forms.{item-most}
 use Rattle.filing.proofs.Cells.{no-item, no-samples, given-on, Next, next-given, none-left, octets-next, octets-none}
 
 -- nothing is left
@@ -179,3 +185,65 @@ module _ (cells samples : List ℕ) where
 
         pub write-done : length cells ≤ i → Puts out₀ at (octetsGiven mask set cells samples) out to
         write-done h = puts-as (sym (append-nil (w .done)) ∙ ap (λ x. w .done ++ x) (sym (left-none from h)) ∙ w .all) (w .puts)
+
+-- the most that items may have
+octets-most : (law set : ℕ) → isWriterSet set ≡ true → (cells samples : List ℕ) → Below 256 samples → isGiven (givenBy cells samples) ≡ true
+    → length (octetsGiven (maskOf law) set cells samples) ≤ mostFor cells
+unfolding mostFor
+octets-most law set o [] samples b g = omega (arith, ap length (octets-none (maskOf law) set samples))
+octets-most law set o (c ∷ cells) samples b g =
+    let n = next-given c cells samples g in
+    let first = entryOctets (maskOf law) set (entryBy c samples) in
+    let rest = octetsGiven (maskOf law) set cells (drop (taken c) samples) in
+    omega (
+      arith,
+      ap length (octets-next (maskOf law) set c cells samples n) ∙ length-append first rest,
+      item-most law set c samples o b (n .item),
+      octets-most law set o cells (drop (taken c) samples) (below-drop (taken c) b) (n .on),
+    )
+
+most-next : (cells : List ℕ) (i : ℕ) → i < length cells → mostFor (drop i cells) ≡ suc (lengthIn (getD cells i 0)) + mostFor (drop (i + 1) cells)
+unfolding mostFor
+most-next cells i h = rw (drop-next cells i h) refl
+
+most-none : (cells : List ℕ) {i : ℕ} → length cells ≤ i → mostFor (drop i cells) ≡ 0
+unfolding mostFor
+most-none cells h = rw (drop-of-length-le cells h) refl
+
+-- these counted so far
+pub record Counting (cells : List ℕ) (i sum : ℕ) : Type 0 where
+  pub most : i ≤ length cells
+  pub few : sum ≤ longest + 65536
+  pub total : sum + mostFor (drop i cells) ≡ mostFor cells
+
+pub count-start : (cells : List ℕ) → Counting cells 0 0
+count-start cells = record { most = omega arith; few = omega arith; total = omega arith }
+
+module _ (cells : List ℕ) {i sum : ℕ} (k : Counting cells i sum) where
+  pub count-turn : i < length cells → sum ≤ longest → {n : ℕ} → n ≡ suc (lengthIn (getD cells i 0)) → n ≤ 65536
+      → Counting cells (i + 1) (sum + n)
+  count-turn h l e s = record { most = omega arith; few = omega arith; total = omega (arith, k .total, most-next cells i h) }
+
+  pub count-done : length cells ≤ i → Measures (mostFor cells) sum
+  count-done h = let t = k .total in let e = most-none cells h in record { exact = λ k. omega arith; long = λ k. omega arith }
+
+  pub count-long : longest < sum → Measures (mostFor cells) sum
+  count-long h = let t = k .total in record { exact = λ k. omega arith; long = λ k. omega arith }
+
+-- what is measured, and the most where it fits, settle LONG and ROOM
+pub measured-settles : {total r : ℕ} (room : ℕ) → Measures total r → Settles total room r
+measured-settles room m =
+    record {
+      long = m .long;
+      short = λ h. omega (arith, m .exact h);
+      no-room = λ h k. omega (arith, m .exact h);
+      room-for = λ h k. omega (arith, m .exact h);
+    }
+
+pub most-settles : (law set : ℕ) (cells samples : List ℕ) {r room : ℕ} → isWriterSet set ≡ true → Below 256 samples
+    → isGiven (givenBy cells samples) ≡ true → Measures (mostFor cells) r → r ≤ longest → headingLength + r ≤ room
+    → Settles (length (octetsGiven (maskOf law) set cells samples)) room r
+most-settles law set cells samples o b g m s f =
+    let e = m .exact s in
+    let t = octets-most law set o cells samples b g in
+    record { long = λ h. omega arith; short = λ h. omega arith; no-room = λ h k. omega arith; room-for = λ h k. omega arith }

@@ -1,6 +1,6 @@
 -- "a frame is its number of samples .., a loss 32768 + its length": a number of 16 bits as an entry, and the entries that all give.
-use Prim.Native.Nat.{ℕ, _-_}
-use mathlib.Core.List.{List, []}
+use Prim.Native.Nat.{ℕ, suc, _+_, _-_}
+use mathlib.Core.List.{List, [], _∷_}
 use mathlib.Core.Bool.{Bool, true, false, cond}
 use lib.ListN.{take}
 use lib.Dec.{ltb}
@@ -16,6 +16,11 @@ taken c = cond (ltb c lossFrom) c 0
 
 unfoldable pub entryBy : ℕ → List ℕ → Entry
 entryBy c samples = cond (ltb c lossFrom) (frame (take c samples)) (loss (c - lossFrom))
+
+-- "A written frame has 1 to N + 1 octets", and so has a loss: the most that all have together
+unfoldable pub mostFor : List ℕ → ℕ
+mostFor [] = 0
+mostFor (c ∷ cells) = suc (lengthIn c) + mostFor cells
 
 -- whether entries are given, and which
 abbrev pub isGiven : Given → Bool

@@ -1,5 +1,5 @@
 -- What the parts of the code promise each other.
-use Prim.Native.Nat.{ℕ, _≤_, _<_}
+use Prim.Native.Nat.{ℕ, _+_, _≤_, _<_}
 use mathlib.Core.Path.{_≡_}
 use mathlib.Core.List.{List}
 use mathlib.Core.Bool.{true}
@@ -11,7 +11,7 @@ use Rattle.rules.specs.declared.Refusal as rules
 use Rattle.recording.specs.declared.Refusal.the-variants.{Frame}
 use Rattle.recording.specs.declared.Ending.the-variants.{Refused}
 use Rattle.recording.specs.declared.FileWritten.{FileWritten}
-use Rattle.recording.specs.Remembered.{plusPlus}
+use Rattle.recording.specs.Remembered.{headingLength, plusPlus}
 use Rattle.recording.specs.Files.{sixLengths, givenBy, fileGiven}
 use Rattle.recording.specs.Calls.{Writes}
 use Rattle.filing.specs.Cells.{lengthIn, taken}
@@ -38,6 +38,13 @@ pub record ItemIn (samples : List ℕ) (c : ℕ) : Type 0 where
 pub record Measures (total r : ℕ) : Type 0 where
   pub exact : r ≤ longest → r ≡ total
   pub long : longest < r → longest < total
+
+-- a number that settles LONG and ROOM as the octets themselves do
+pub record Settles (total room r : ℕ) : Type 0 where
+  pub long : longest < r → longest < total
+  pub short : r ≤ longest → total ≤ longest
+  pub no-room : r ≤ longest → room < headingLength + r → room < headingLength + total
+  pub room-for : r ≤ longest → headingLength + r ≤ room → headingLength + total ≤ room
 
 -- a refusal
 pub record Declines (why : rules.Refusal) (r : FileWritten) : Type 0 where

@@ -10,7 +10,7 @@ use recording::marking::HEADING;
 use recording::marking::heading_of;
 use recording::marking::plus_plus;
 use rules::LONGEST;
-use sizes::all_octets;
+use sizes::octets_to_judge;
 ghost use mathlib.Core.Path.{_≡_};
 ghost use mathlib.Core.Bool.{true};
 ghost use Rattle.rules.specs.Tools.{isLaw, isWriterSet};
@@ -33,15 +33,14 @@ fn refused(why: rules::Refusal) -> FileWritten
     }
 }
 
-// After LAW, SET and LENGTH: "LONG, ROOM (heading and all)". All is measured first.
+// After LAW, SET and LENGTH: "LONG, ROOM (heading and all)", judged before an octet is written.
 fn write_given(samples: &[u8], cells: &[u16], law: u32, set: u32, out: &mut [u8]) -> FileWritten
     requires { ⌜ (isLaw law ≡ true) × (isWriterSet set ≡ true) ⌝ }
     requires { ⌜ isGiven (givenBy (now cells) (now samples)) ≡ true ⌝ }
     ensures { λ r. ⌜ WriteGiven (now (samples .entry)) (now (cells .entry)) law set (now (out .entry)) (now (out .exit)) r ⌝ }
 {
-    let mask = mask_of(law);
-    let quiet = [plus_plus(mask); 320];
-    let after = all_octets(samples, cells, mask, set, &quiet);
+    let quiet = [plus_plus(mask_of(law)); 320];
+    let after = octets_to_judge(samples, cells, law, set, &quiet, out.len());
     if LONGEST < after {
         return refused(rules::Refusal::Long);
     }

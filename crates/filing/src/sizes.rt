@@ -5,20 +5,24 @@ use crate::given::samples_in;
 use choice::near::located_plan;
 use choice::settle::choose;
 use choice::two_zeros::zeros_plan;
+use law::mask_of;
 use law::plus_zero;
 use look::others;
 use measure::octets_for;
+use recording::marking::HEADING;
 use recording::marking::LOSS_FROM;
 use rules::LONGEST;
 ghost use mathlib.Core.Path.{_≡_};
 ghost use mathlib.Core.Bool.{true, false};
-ghost use Prim.Native.Nat.{_≤_};
+ghost use Prim.Native.Nat.{suc, _≤_};
 ghost use lib.ListN.{length, take, drop};
+ghost use Rattle.rules.specs.Samples.{maskOf};
+ghost use Rattle.rules.specs.Tools.{isWriterSet};
 ghost use Rattle.look.specs.Looks.{twoZeros, isMask, FrameIn};
 ghost use Rattle.choice.specs.Plans.{Left};
 ghost use Rattle.recording.specs.Files.{entryOctets, sixLengths, givenBy};
-ghost use Rattle.filing.specs.Cells.{entryBy, isGiven, octetsGiven};
-ghost use Rattle.filing.specs.Steps.{form, Quiet, ItemIn, Sizes, Measures};
+ghost use Rattle.filing.specs.Cells.{lengthIn, entryBy, mostFor, isGiven, octetsGiven};
+ghost use Rattle.filing.specs.Steps.{form, Quiet, ItemIn, Sizes, Measures, Settles};
 
 // A frame of the two zeros.
 fn zeros_octets(samples: &[u8], n: usize, mask: u8, set: u32) -> usize
@@ -88,7 +92,7 @@ fn item_octets(samples: &[u8], from: usize, c: u16, mask: u8, set: u32, quiet: &
 }
 
 // All items, or as many as are LONG together.
-pub fn all_octets(samples: &[u8], cells: &[u16], mask: u8, set: u32, quiet: &[u8]) -> usize
+fn all_octets(samples: &[u8], cells: &[u16], mask: u8, set: u32, quiet: &[u8]) -> usize
     requires { ⌜ isGiven (givenBy (now cells) (now samples)) ≡ true ⌝ }
     requires { ⌜ (isMask mask ≡ true) × (Quiet mask (now quiet)) ⌝ }
     ensures { λ r. ⌜ Measures (length (octetsGiven mask set (now (cells .entry)) (now (samples .entry)))) r ⌝ }
@@ -106,4 +110,43 @@ pub fn all_octets(samples: &[u8], cells: &[u16], mask: u8, set: u32, quiet: &[u8
         i += 1;
     }
     sum
+}
+
+// "A written frame has 1 to N + 1 octets", and so has a loss.
+fn item_most(c: u16) -> usize
+    ensures { λ r. ⌜ (r ≡ suc (lengthIn c)) × (r ≤ 65536) ⌝ }
+{
+    length_in(c) + 1
+}
+
+// The most that all items may have, or as many of these octets as are LONG together.
+fn most_octets(cells: &[u16]) -> usize
+    ensures { λ r. ⌜ Measures (mostFor (now (cells .entry))) r ⌝ }
+{
+    let mut i = 0;
+    let mut sum = 0;
+    while i < cells.len() {
+        if LONGEST < sum {
+            return sum;
+        }
+        let c = cells[i];
+        sum += item_most(c);
+        i += 1;
+    }
+    sum
+}
+
+// What settles LONG and ROOM: the most that the items may have, where that fits; else their octets, for which every frame is planned.
+pub fn octets_to_judge(samples: &[u8], cells: &[u16], law: u32, set: u32, quiet: &[u8], room: usize) -> usize
+    requires { ⌜ (isGiven (givenBy (now cells) (now samples)) ≡ true) × (isWriterSet set ≡ true) ⌝ }
+    requires { ⌜ Quiet (maskOf law) (now quiet) ⌝ }
+    ensures { λ r. ⌜ Settles (length (octetsGiven (maskOf law) set (now (cells .entry)) (now (samples .entry)))) room r ⌝ }
+{
+    let most = most_octets(cells);
+    if most <= LONGEST {
+        if HEADING + most <= room {
+            return most;
+        }
+    }
+    all_octets(samples, cells, mask_of(law), set, quiet)
 }

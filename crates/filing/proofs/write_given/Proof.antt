@@ -11,7 +11,7 @@ use Rattle.filing.proofs.write_given.Reads as reads
 use Rattle.filing.proofs.write_given.Lts as lts
 use Rattle.filing.proofs.items.put_items.Reads as put-items-reads
 use Rattle.filing.proofs.refused.Reads as refused-reads
-use Rattle.filing.proofs.sizes.all_octets.Reads as all-octets-reads
+use Rattle.filing.proofs.sizes.octets_to_judge.Reads as octets-to-judge-reads
 use Rattle.law.proofs.mask_of.Reads as mask-of-reads
 use Rattle.lines.proofs.put_word.Reads as put-word-reads
 use Rattle.recording.proofs.marking.heading_of.Reads as heading-of-reads
@@ -23,13 +23,14 @@ mask-of-requires c κs = search needs
 plus-plus-requires : tie.Need-plus-plus-requires
 plus-plus-requires c κs = rw (c .mask-of .ensures) (mask-seven _ (is-mask (c .before .before .before .before .args .law)))
 
-slice-aggregate-all-octets : tie.Need-slice-aggregate-all-octets
-slice-aggregate-all-octets c = search needs
+slice-aggregate-octets-to-judge : tie.Need-slice-aggregate-octets-to-judge
+slice-aggregate-octets-to-judge c = search needs
 
-all-octets-requires : tie.Need-all-octets-requires
-all-octets-requires c κs =
+octets-to-judge-requires : tie.Need-octets-to-judge-requires
+octets-to-judge-requires c κs =
     let s = c .before .before .before .before .before .before in
-    (s .pre .1, (rw (c .before .before .mask-of .ensures) (is-mask (s .args .law)), ap (λ x. replicate 320 x) (c .before .plus-plus .ensures)))
+    let quiet = ap (λ x. replicate 320 x) (c .before .plus-plus .ensures ∙ ap plusPlus (c .before .before .mask-of .ensures)) in
+    ((s .pre .1, s .pre .0 .1), quiet)
 
 refused-requires : tie.Need-refused-requires
 refused-requires c κs = search needs
@@ -39,9 +40,9 @@ returns c =
     let t = c .before .before in
     let s = t .before .before .before .before .before .before .before in
     let a = s .args in
-    let m = rw (t .before .before .before .mask-of .ensures) at (t .all-octets .ensures) in
-    let long = too-long (a .samples .now) (a .cells .now) (a .law) (a .set) (length (a .out .now)) (s .pre .1) (m .long (omega arith)) in
-    declined-as (c .refused .ensures) long (a .out .now)
+    let m = t .octets-to-judge .ensures in
+    declined-as (c .refused .ensures) (too-long (a .samples .now) (a .cells .now) (a .law) (a .set) (length (a .out .now)) (s .pre .1) (m .long (omega arith)))
+    (a .out .now)
 
 add-if2 : tie.Need-add-if2
 add-if2 c = search needs
@@ -54,10 +55,10 @@ returns-2 c =
     let t = c .before .before .before in
     let s = t .before .before .before .before .before .before .before in
     let a = s .args in
-    let m = rw (t .before .before .before .mask-of .ensures) at (t .all-octets .ensures) in
-    let e = m .exact (omega arith) in
-    let short = no-room (a .samples .now) (a .cells .now) (a .law) (a .set) (length (a .out .now)) (s .pre .1) (omega arith) (omega arith) in
-    declined-as (c .refused2 .ensures) short (a .out .now)
+    let m = t .octets-to-judge .ensures in
+    let short = m .no-room (omega arith) (omega arith) in
+    declined-as (c .refused2 .ensures) (no-room (a .samples .now) (a .cells .now) (a .law) (a .set) (length (a .out .now)) (s .pre .1) (m .short (omega arith)) short)
+    (a .out .now)
 
 heading-of-requires : tie.Need-heading-of-requires
 heading-of-requires c κs = search needs
@@ -76,11 +77,10 @@ put-items-requires c κs =
     let w = c .before .before .before .before in
     let t = w .before .before .before .before .before .before in
     let s = t .before .before .before .before .before .before .before in
-    let mask = t .before .before .before .mask-of .ensures in
-    let m = rw mask at (t .all-octets .ensures) in
+    let m = t .octets-to-judge .ensures in
     let p = rw (w .before .before .before .heading-of .ensures) at (w .put-word .ensures) in
-    let quiet = ap (λ x. replicate 320 x) (t .before .before .plus-plus .ensures ∙ ap plusPlus mask) in
-    (s .pre .1, ((s .pre .0, quiet), omega (arith, m .exact (omega arith), p .place, p .size)))
+    let quiet = ap (λ x. replicate 320 x) (t .before .before .plus-plus .ensures ∙ ap plusPlus (t .before .before .before .mask-of .ensures)) in
+    (s .pre .1, ((s .pre .0, quiet), omega (arith, m .room-for (omega arith) (omega arith), p .place, p .size)))
 
 same-length : tie.Need-same-length
 same-length c = search needs
@@ -91,10 +91,10 @@ returns-3 c =
     let t = w .before .before .before .before .before .before in
     let s = t .before .before .before .before .before .before .before in
     let a = s .args in
-    let m = rw (t .before .before .before .mask-of .ensures) at (t .all-octets .ensures) in
-    let e = m .exact (omega arith) in
+    let m = t .octets-to-judge .ensures in
     let p = rw (w .before .before .before .heading-of .ensures) at (w .put-word .ensures) in
-    file-written (a .samples .now) (a .cells .now) (a .law) (a .set) (s .pre .1) (omega arith) (omega arith) p (c .before .before .put-items .ensures)
+    file-written (a .samples .now) (a .cells .now) (a .law) (a .set) (s .pre .1) (m .short (omega arith)) (m .room-for (omega arith) (omega arith)) p
+    (c .before .before .put-items .ensures)
 
 pub write-given-spec : {M : Type 1} → statement M
 write-given-spec =
@@ -102,8 +102,8 @@ write-given-spec =
     (tie.spec
     mask-of-requires
     plus-plus-requires
-    slice-aggregate-all-octets
-    all-octets-requires
+    slice-aggregate-octets-to-judge
+    octets-to-judge-requires
     refused-requires
     returns
     add-if2
