@@ -13,23 +13,6 @@ use options::UNPACK;
 use rules::Ending;
 use unpacking::Part;
 
-// What is wrong with the file that is written or compared.
-const NOTHING: u32 = 0;
-
-const FAILED: u32 = 1;
-
-const DIFFERS: u32 = 2;
-
-const SHORTER: u32 = 3;
-
-const LONGER: u32 = 4;
-
-// What came of a part's sound: what is wrong, and how many octets are well.
-struct Used {
-    wrong: u32,
-    good: usize,
-}
-
 // What came of a stream: how it ended and where, the refusal's bit, the frames, the samples that are well, and what is wrong.
 struct Total {
     end: Ending,
@@ -39,9 +22,6 @@ struct Total {
     samples: usize,
     wrong: u32,
 }
-
-// The form of a sound that is only counted.
-const COUNTED: u32 = 3;
 
 // The sound of a part, written in its form. It is the part of `stream` at `at`, by a law and a set; the set stands here for the contract alone.
 fn written(
@@ -67,39 +47,6 @@ fn written(
     Used {
         wrong: FAILED,
         good: 0,
-    }
-}
-
-// The sound of a part, compared with as much of the master.
-fn compared(fd: i32, sound: &[u8], master: &mut [u8]) -> Used
-    requires { ⌜ length (now sound) ≤ length (now master) ⌝ }
-    ensures { λ r. ⌜ UsesUpTo (length (now (sound .entry))) r ⌝ }
-{
-    let n = sound.len();
-    let got = console::read_part(fd, &mut master[..n]);
-    if got.failed {
-        return Used {
-            wrong: FAILED,
-            good: 0,
-        };
-    }
-    let m = got.count;
-    let good = comparing::agree(sound, &master[..m]);
-    if good == n {
-        return Used {
-            wrong: NOTHING,
-            good,
-        };
-    }
-    if good == m {
-        return Used {
-            wrong: SHORTER,
-            good,
-        };
-    }
-    Used {
-        wrong: DIFFERS,
-        good,
     }
 }
 
@@ -243,33 +190,6 @@ fn write_to(stream: &[u8], law: u32, set: u32, form: u32, name: &[u8])
         return;
     }
     finish(t);
-}
-
-// Where the master differs, and the last line.
-fn differs(wrong: u32, place: usize) {
-    console::say_tool(UNPACK);
-    if wrong == SHORTER {
-        console::say_number(b"the master is shorter: it ends at octet ", place);
-    } else if wrong == LONGER {
-        console::say_number(b"the master is longer: the sound ends at octet ", place);
-    } else {
-        console::say_number(b"the sound differs from the master at octet ", place);
-    }
-    console::say(b"\n");
-    console::stop(UNPACK, 65, place, 0, 0);
-}
-
-// What is wrong with a master after its octets for all the sound: nothing, or it is longer.
-fn left_over(fd: i32) -> u32 {
-    let mut one = [0u8; 1];
-    let got = console::read_part(fd, &mut one);
-    if got.failed {
-        return FAILED;
-    }
-    if got.count == 0 {
-        return NOTHING;
-    }
-    LONGER
 }
 
 // What a comparison came to. A frame that is refused comes before what a master has left over.

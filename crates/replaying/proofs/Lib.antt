@@ -1,0 +1,2 @@
+-- Whole: the parts, one after another, are the recording.
+pub mod Whole
