@@ -1,0 +1,30 @@
+-- The contract of reading items from a place on, and of what a heading says.
+use Prim.Native.Nat.{ℕ, suc, _-_}
+use mathlib.Core.Path.{_≡_}
+use mathlib.Core.List.{List, map}
+use lib.ListN.{length, drop}
+use Rattle.rules.specs.Calls.{atStart}
+use Rattle.recording.specs.Remembered.{Headed, heading, noHeading, headingLength}
+use Rattle.recording.specs.Items.{Recorded, itemsFrom, File, soundIn, cellOf}
+use Rattle.playing.specs.declared.Played.{Played}
+use Rattle.playing.specs.declared.Heading.{Heading}
+use Rattle.playing.specs.declared.Heading.the-variants.{Law, Missing}
+
+-- the frames' samples stand at the output's start, the items at that of theirs; the rest of both is as lent
+pub record Plays (read : Recorded) (r : Played) (out out′ cells cells′ : List ℕ) : Type 0 where
+  pub end : r .end ≡ read .end
+  pub items : r .items ≡ length (read .items)
+  pub place : r .place ≡ read .place
+  pub samples : r .samples ≡ length (soundIn (read .items))
+  pub bit : r .bit ≡ read .bit
+  pub lent : out′ ≡ atStart (soundIn (read .items)) out
+  pub told : cells′ ≡ atStart (map cellOf (read .items)) cells
+
+abbrev pub asHeaded : Heading → Headed
+asHeaded (Law law) = heading law
+asHeaded Missing = noHeading
+
+-- a file whose heading says this law, its items read to the end
+abbrev pub wholeFile : List ℕ → ℕ → ℕ → ℕ → ℕ → File
+wholeFile octets law set room places =
+    record { law = law; read = itemsFrom (suc (length octets - headingLength)) (drop headingLength octets) law set 0 room places }
