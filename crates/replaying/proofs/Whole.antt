@@ -2,21 +2,17 @@
 use Prim.Native.Nat.{ℕ, suc, _+_, _*_, _/_, _-_, _≤_, _<_, min}
 use mathlib.Core.Path.{_≡_, refl, sym, ap, _∙_}
 use mathlib.Core.List.{List, [], _++_, append-assoc, append-nil}
-use mathlib.Core.Bool.{true, false, false≢true}
+use mathlib.Core.Bool.{true, false}
 use native.Mathlib.Omega.{arith}
 use lib.ListN.{length}
-use borrow.Author.Tests.{ltb-true, ltb-false}
+use borrow.Author.Tests.{ltb-false}
 use Rattle.recording.specs.declared.Ending.{Ending}
 use Rattle.recording.specs.declared.Ending.the-variants.{Done, Refused}
 use Rattle.recording.specs.Items.{Item, Recorded, itemsFrom, soundIn}
 use Rattle.recording.proofs.Parts.{after, byEnd, onFrom, items-ended, items-parts, items-told, items-fuel, items-roomy}
 use Rattle.replaying.specs.Parts.{sureItems, partOf, goesOn}
+use Rattle.replaying.proofs.Parted.{more-inside}
 use Rattle.replaying.specs.Runs.{Before, none, one-more, played}
-
--- more is to come only of a part that ended clean before the end
-pub more-inside : (end : Ending) (place size : ℕ) → goesOn end place size ≡ true → (end ≡ Done) × (place < size)
-more-inside Done place size e = (refl, ltb-true place size e)
-more-inside (Refused why) place size e = absurd (false≢true e)
 
 after-after : (a b : List Item) (r : Recorded) → after a (after b r) ≡ after (a ++ b) r
 after-after a b r = ap (λ (l : List Item). record { items = l; end = r .end; place = r .place; bit = r .bit }) (sym (append-assoc a b (r .items)))

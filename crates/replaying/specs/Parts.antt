@@ -2,13 +2,15 @@
 use Prim.Native.Nat.{ℕ, _+_, _*_, _/_, _≤_, _<_, min}
 use mathlib.Core.Path.{_≡_}
 use mathlib.Core.List.{List, [], _∷_, map}
-use mathlib.Core.Bool.{Bool, true, false, cond}
+use mathlib.Core.Bool.{Bool, true, false}
 use lib.ListN.{length}
 use lib.Dec.{leb, ltb}
+use Rattle.rules.specs.Chooses.{countOf}
 use Rattle.rules.specs.Calls.{atStart}
 use Rattle.recording.specs.declared.Ending.{Ending}
 use Rattle.recording.specs.declared.Ending.the-variants.{Done, Refused}
 use Rattle.recording.specs.Items.{Item, sound, lost, Recorded, itemsFrom, soundIn, cellOf, lossFrom}
+use Rattle.playing.specs.declared.Played.{Played}
 use Rattle.replaying.specs.declared.Part.{Part}
 
 -- a frame has at most 320 samples, so these items fit, whatever they are
@@ -32,12 +34,11 @@ unfoldable pub lossesIn : List Item → ℕ
 lossesIn [] = 0
 lossesIn (i ∷ is) = lossOf i + lossesIn is
 
-abbrev pub isLoss : ℕ → ℕ
-isLoss c = cond (leb lossFrom c) 1 0
+abbrev pub isLoss : ℕ → Bool
+isLoss c = leb lossFrom c
 
-unfoldable pub lossCells : List ℕ → ℕ
-lossCells [] = 0
-lossCells (c ∷ cs) = isLoss c + lossCells cs
+abbrev pub lossCells : List ℕ → ℕ
+lossCells cs = countOf isLoss cs
 
 -- the answer, the lent output and the lent cells are those of a part of so many octets
 pub record Parts (size : ℕ) (read : Recorded) (r : Part) (out out′ cells cells′ : List ℕ) : Type 0 where
@@ -66,3 +67,13 @@ pub record Goes (octets : List ℕ) (at : ℕ) (out cells : List ℕ) (r : Part)
   pub passed : at + r .items ≤ r .at
   pub nearer : 320 ≤ length out → 1 ≤ length cells → r .more ≡ true → at < r .at
   pub inside : r .more ≡ true → r .at ≤ length octets
+
+-- what was played of so many octets, as a part
+pub record Answers (p : Played) (lost size : ℕ) (r : Part) : Type 0 where
+  pub end : r .end ≡ p .end
+  pub at : r .at ≡ p .place
+  pub bit : r .bit ≡ p .bit
+  pub items : r .items ≡ p .items
+  pub losses : r .lost ≡ lost
+  pub samples : r .samples ≡ p .samples
+  pub more : r .more ≡ goesOn (p .end) (p .place) size

@@ -239,8 +239,15 @@ pub struct Used {
     pub good: usize,
 }
 
+// What is done with a sound: it is compared with a master, or written in a form.
+pub struct Way {
+    pub compares: bool,
+    pub fd: i32,
+    pub form: u32,
+}
+
 // A part of a sound, written in its form, and what came of it.
-pub fn written(fd: i32, form: u32, law: u32, sound: &[u8]) -> Used
+fn written(fd: i32, form: u32, law: u32, sound: &[u8]) -> Used
     ensures { λ r. ⌜ UsesUpTo (length (now (sound .entry))) r ⌝ }
 {
     if write_part(fd, form, law, sound) {
@@ -256,7 +263,7 @@ pub fn written(fd: i32, form: u32, law: u32, sound: &[u8]) -> Used
 }
 
 // A part of a sound, compared with as much of the master.
-pub fn compared(fd: i32, sound: &[u8], master: &mut [u8]) -> Used
+fn compared(fd: i32, sound: &[u8], master: &mut [u8]) -> Used
     requires { ⌜ length (now sound) ≤ length (now master) ⌝ }
     ensures { λ r. ⌜ UsesUpTo (length (now (sound .entry))) r ⌝ }
 {
@@ -286,6 +293,17 @@ pub fn compared(fd: i32, sound: &[u8], master: &mut [u8]) -> Used
         wrong: DIFFERS,
         good,
     }
+}
+
+// A part of a sound, written or compared.
+pub fn use_sound(way: Way, law: u32, sound: &[u8], master: &mut [u8]) -> Used
+    requires { ⌜ length (now sound) ≤ length (now master) ⌝ }
+    ensures { λ r. ⌜ UsesUpTo (length (now (sound .entry))) r ⌝ }
+{
+    if way.compares {
+        return compared(way.fd, sound, master);
+    }
+    written(way.fd, way.form, law, sound)
 }
 
 // What is wrong with a master after its octets for all the sound: nothing, or it is longer.
