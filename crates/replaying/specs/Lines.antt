@@ -2,7 +2,7 @@
 use Prim.Native.Nat.{ℕ, _+_}
 use mathlib.Core.Path.{_≡_}
 use mathlib.Core.List.{List, [], _∷_, _++_}
-use lib.ListN.{length}
+use lib.ListN.{length, getD}
 use Rattle.rules.specs.Listing.{lineEnd, atWord, samplesWord, field}
 use Rattle.recording.specs.Items.{Item, lost, soundIn}
 use Rattle.replaying.specs.declared.Part.{Part}
@@ -27,15 +27,17 @@ pub record Follows (body : List ℕ) (law set at number heard : ℕ) : Type 0 wh
   pub count : number ≡ length done
   pub sound : heard ≡ length (soundIn done)
 
--- an item there, alone in its part
-pub record NextItem (body : List ℕ) (law set at number heard : ℕ) (cells : List ℕ) (p : Part) : Type 0 where
+-- an item there, alone in its part, and the number that tells it
+pub record NextItem (body : List ℕ) (law set at number heard cell : ℕ) (p : Part) : Type 0 where
   pub follows : Follows body law set at number heard
   pub page : List ℕ
   pub page′ : List ℕ
   pub lent : List ℕ
+  pub cells : List ℕ
   pub room : length page ≡ 320
   pub place : length lent ≡ 1
   pub is : NextPart body law set at page page′ lent cells p
+  pub told : cell ≡ getD cells 0 0
 
 -- it is a loss of so many samples
 pub record LossAt (body : List ℕ) (law set at number heard n : ℕ) : Type 0 where

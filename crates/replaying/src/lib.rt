@@ -127,3 +127,203 @@ pub fn next_part(
     let lost = losses(cells, p.items);
     part_of(p, lost, body.len())
 }
+
+// The line of a loss: `loss=I at=P samples=N before=S`.
+fn put_loss(number: usize, place: usize, samples: usize, heard: usize, out: &mut [u8]) -> usize
+    requires { ⌜ 160 ≤ length (now out) ⌝ }
+    ensures { λ r. ⌜ Puts (now (out .entry)) 0 (lossLine number place samples heard) (now (out .exit)) r ⌝ }
+    ensures most { λ r. ⌜ r ≤ 160 ⌝ }
+{
+    let l = lines::put_field(b"loss=", number, out, 0);
+    let p = lines::put_field(b" at=", place, out, l);
+    let s = lines::put_field(b" samples=", samples, out, p);
+    let end = lines::put_field(b" before=", heard, out, s);
+    lines::put_word(b"\n", out, end)
+}
+
+// Says a loss of `n` samples: item `number`, at a place of the recording, before sample `heard` of its sound. Law and set stand here for the
+// contract alone.
+fn say_loss(body: &[u8], law: u32, set: u32, at: usize, number: usize, heard: usize, n: usize)
+    requires { ⌜ LossAt (now body) law set at number heard n ⌝ }
+{
+    let mut text = [0u8; 160];
+    let to = put_loss(number, at, n, heard, &mut text);
+    console::say(&text[..to]);
+}
+
+// Says a frame, as the listing does.
+fn say_frame(body: &[u8], law: u32, set: u32, at: usize, number: usize)
+    requires { ⌜ at ≤ length (now body) ⌝ }
+{
+    let mut samples = [0u8; 320];
+    let r = walk::pass(body, law, set, at, 320, &mut samples);
+    let mut text = [0u8; 160];
+    let to = lines::frame_line(
+        number,
+        at,
+        r.len,
+        r.tool as usize,
+        r.octets,
+        r.bits,
+        &mut text,
+        0,
+    );
+    console::say(&text[..to]);
+}
+
+// Says an item, alone in its part: a loss always, a frame where all are told.
+fn say_item(
+    body: &[u8],
+    law: u32,
+    set: u32,
+    at: usize,
+    number: usize,
+    heard: usize,
+    p: Part,
+    cell: u16,
+    tells: u32,
+)
+    requires { ⌜ (at ≤ length (now body)) × NextItem (now body) law set at number heard cell p ⌝ }
+{
+    if p.items == 0 {
+        return;
+    }
+    if p.lost != 0 {
+        say_loss(body, law, set, at, number, heard, (cell - 32768) as usize);
+        return;
+    }
+    if tells == TELLS_ALL {
+        say_frame(body, law, set, at, number);
+    }
+}
+
+// What is told of so many items from a place on. They are played one by one, so that the place of each is known.
+fn tell(
+    body: &[u8],
+    law: u32,
+    set: u32,
+    from: usize,
+    first: usize,
+    before: usize,
+    items: usize,
+    tells: u32,
+    page: &mut [u8],
+    one: &mut [u16],
+)
+    requires { ⌜ (length (now body) ≤ longest) × Follows (now body) law set from first before × (length (now page) ≡ 320) × (length (now one) ≡ 1) ⌝ }
+{
+    let mut at = from;
+    let mut number = first;
+    let mut heard = before;
+    let mut left = items;
+    while 0 < left {
+        let p = next_part(body, law, set, at, page, one);
+        say_item(body, law, set, at, number, heard, p, one[0], tells);
+        if !p.more {
+            return;
+        }
+        at = p.at;
+        number += p.items;
+        heard += p.samples;
+        left -= 1;
+    }
+}
+
+// What is told of a part: nothing where nothing is asked, or where it has no loss and only these are.
+fn tell_part(
+    body: &[u8],
+    law: u32,
+    set: u32,
+    at: usize,
+    number: usize,
+    heard: usize,
+    p: Part,
+    tells: u32,
+)
+    requires { ⌜ (length (now body) ≤ longest) × Follows (now body) law set at number heard ⌝ }
+{
+    if tells == TELLS_NOTHING {
+        return;
+    }
+    if p.lost == 0 && tells != TELLS_ALL {
+        return;
+    }
+    let mut page = [0u8; 320];
+    let mut one = [0u16; 1];
+    tell(body, law, set, at, number, heard, p.items, tells, &mut page, &mut one);
+}
+
+// The sound of a part, written or compared. It is the part of the recording at `at`, by a law and a set; the set stands here for the contract
+// alone.
+fn use_part(
+    body: &[u8],
+    law: u32,
+    set: u32,
+    at: usize,
+    p: Part,
+    way: Way,
+    page: &[u8],
+    master: &mut [u8],
+) -> Used
+    requires { ⌜ NextSound (now body) law set at (now page) p × (p .samples ≤ length (now page)) × (length (now page) ≤ length (now master)) ⌝ }
+    ensures { λ r. ⌜ UsesUpTo (p .samples) r ⌝ }
+{
+    let n = p.samples;
+    sounds::use_sound(way, law, &page[..n], master)
+}
+
+// Part after part, page by page.
+fn parts(
+    body: &[u8],
+    law: u32,
+    set: u32,
+    way: Way,
+    tells: u32,
+    page: &mut [u8],
+    master: &mut [u8],
+    cells: &mut [u16],
+) -> Total
+    requires { ⌜ (length (now body) ≤ longest) × (320 ≤ length (now page)) × (length (now page) ≤ length (now master)) × (1 ≤ length (now cells)) ⌝ }
+    ensures { λ r. ⌜ (r .wrong ≡ 0 → TellsFile (now (body .entry)) law set r) ⌝ }
+{
+    let mut at = 0;
+    let mut items = 0;
+    let mut lost = 0;
+    let mut samples = 0;
+    loop {
+        let p = next_part(body, law, set, at, page, cells);
+        let u = use_part(body, law, set, at, p, way, page, master);
+        tell_part(body, law, set, at, items, samples, p, tells);
+        let end = p.end;
+        items += p.items;
+        lost += p.lost;
+        samples += u.good;
+        let total = Total {
+            end,
+            at: p.at,
+            bit: p.bit,
+            items,
+            lost,
+            samples,
+            wrong: u.wrong,
+        };
+        if u.wrong != sounds::NOTHING {
+            return total;
+        }
+        if !p.more {
+            return total;
+        }
+        at = p.at;
+    }
+}
+
+// A whole recording, after its heading: its sound is used, and its losses, or all its items, are told. The second page is for a master.
+pub fn play(body: &[u8], law: u32, set: u32, way: Way, tells: u32) -> Total
+    requires { ⌜ length (now body) ≤ longest ⌝ }
+    ensures { λ r. ⌜ (r .wrong ≡ 0 → TellsFile (now (body .entry)) law set r) ⌝ }
+{
+    let mut page = [0u8; 61440];
+    let mut master = [0u8; 61440];
+    let mut cells = [0u16; 192];
+    parts(body, law, set, way, tells, &mut page, &mut master, &mut cells)
+}
