@@ -1,7 +1,7 @@
 -- A reading on its way: the items done, put before the reading of the rest, are the whole reading; their sound stands at the output's start,
 -- and they as numbers at that of the cells.
 -- `play-start`, `play-turn`; where it stops: `play-last`, `play-ended`, `play-full`, `play-refused`.
-use Prim.Native.Nat.{ℕ, suc, _+_, _-_, _≤_, _<_}
+use Prim.Native.Nat.{ℕ, _+_, _-_, _≤_, _<_}
 use native.Mathlib.Omega.{arith}
 use native.Mathlib.Numerals.{add-one}
 use mathlib.Core.Path.{_≡_, refl, sym, ap, subst, _∙_}
@@ -125,7 +125,8 @@ module _ (octets : List ℕ) (law set′ fuel from : ℕ) (out₀ cells₀ : Lis
               few = omega arith;
               kept =
                   rw soundIn-more (lent-more (w .kept) put (soundOf i) (one .len) (omega (arith, play-fits .2, lent-length (w .kept)))
-                  (ap (λ (s : List ℕ). s ++ drop (r .len) (drop to out)) (one .sounds) ∙ ap (λ (n : ℕ). soundOf i ++ drop n (drop to out)) (one .len)));
+                  (ap (λ (s : List ℕ). s ++ drop (r .len) (drop to out)) (one .sounds)
+                  ∙ ap (λ (n : ℕ). soundOf i ++ drop n (drop to out)) (one .len)));
               told =
                   rw (map-append cellOf (w .done) (i ∷ []), ← (one .cell))
                   (lent-cell (w .told) (omega (arith, lent-length (w .told))) (r .cell));

@@ -6,7 +6,7 @@ use mathlib.Core.Path.{_≡_, refl, sym, ap, _∙_}
 use mathlib.Core.List.{List, [], _∷_, _++_, append-assoc, append-nil}
 use mathlib.Core.Bool.{Bool, true, false, cond}
 use lib.ListN.{length, getD, drop}
-use lib.Dec.{eqb, leb}
+use lib.Dec.{eqb}
 use borrow.Author.Tests.{le-leb, lt-leb, ne-eqb}
 use Rattle.rules.specs.declared.Refusal.{Refusal}
 use Rattle.rules.specs.declared.Refusal.the-variants as rules
@@ -61,12 +61,14 @@ module _ (octets : List ℕ) (law set : ℕ) where
     unfolding itemsFrom
     items-full p = rw (e, p, lt-leb (length octets) at h)
 
-    pub items-step : 1 ≤ places → itemsFrom more octets law set at room places ≡ byStep (itemStep octets law set at room) at (restFrom n at room places)
+    pub items-step : 1 ≤ places
+        → itemsFrom more octets law set at room places ≡ byStep (itemStep octets law set at room) at (restFrom n at room places)
     unfolding itemsFrom
     items-step p = rw (e, lt-leb (length octets) at h, ne-eqb places 0 (omega arith)) (go (eqb (getD octets at 0) lostOctet))
       where
         judged : (f : Found) (b : Bool)
-            → before (cond b (lost (length (f .samples))) (sound f)) (itemsFrom n octets law set (at + octetsUsed f) (room - cond b 0 (length (f .samples))) (places - 1))
+            → before (cond b (lost (length (f .samples))) (sound f))
+            (itemsFrom n octets law set (at + octetsUsed f) (room - cond b 0 (length (f .samples))) (places - 1))
             ≡ restFrom n at room places (cond b (lost (length (f .samples))) (sound f)) (octetsUsed f)
         judged f true = refl
         judged f false = refl

@@ -3,7 +3,7 @@
 use Prim.Native.Nat.{ℕ, _+_, _-_, _≤_, _<_}
 use native.Mathlib.Omega.{arith}
 use mathlib.Core.Path.{_≡_, refl, sym, ap, _∙_}
-use mathlib.Core.List.{List, [], _++_}
+use mathlib.Core.List.{List, _++_}
 use mathlib.Core.Bool.{Bool, true, false, cond}
 use lib.ListN.{length, getD, take, drop, length-drop}
 use lib.Dec.{eqb}
@@ -11,13 +11,13 @@ use Rattle.rules.specs.declared.Refusal.{Refusal}
 use Rattle.rules.specs.declared.Ending.the-variants.{Done, Refused}
 use Rattle.rules.specs.Samples.{maskOf}
 use Rattle.rules.specs.Reading.{Read, whole, refuse}
-use Rattle.rules.specs.Frame.{Found, octetsUsed, readOne}
+use Rattle.rules.specs.Frame.{Found, readOne}
 use Rattle.rules.proofs.Accepted.{read-accepts, read-uses}
 use Rattle.rules.proofs.Lent.{from-on, back-on}
 use Rattle.reader.specs.declared.Report.{Report}
 use Rattle.reader.specs.Answers.{Fills}
 use Rattle.recording.specs.Remembered.{lostOctet, erased}
-use Rattle.recording.specs.Items.{Item, lost, sound, itemOf, soundOf, cellOf}
+use Rattle.recording.specs.Items.{Item, lost, sound, soundOf, cellOf}
 use Rattle.playing.specs.declared.Turn.{Turn}
 use Rattle.playing.specs.Turns.{Step, takes, stops, frameStep, itemStep, Tells, Turned}
 

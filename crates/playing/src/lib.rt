@@ -7,18 +7,23 @@ ghost use mathlib.Core.List.{_++_};
 ghost use lib.ListN.{length, getD, take, drop};
 ghost use lib.Dec.{eqb};
 ghost use Rattle.rules.specs.Samples.{maskOf};
+ghost use Rattle.rules.specs.Chooses.{every};
 ghost use Rattle.rules.specs.Frame.{readOne};
-ghost use Rattle.rules.specs.Calls.{atStart};
 ghost use Rattle.rules.specs.Walk.{longest};
 ghost use Rattle.recording.specs.declared.Ending.the-variants.{Refused};
 ghost use Rattle.recording.specs.Remembered.{lostOctet, erased, headed, headingLength};
-ghost use Rattle.recording.specs.Items.{lost, itemsFrom};
-ghost use Rattle.recording.specs.Calls.{Reads, ReadFile};
+ghost use Rattle.recording.specs.Items.{lost};
+ghost use Rattle.recording.specs.Calls.{ReadFile};
 ghost use Rattle.playing.specs.Turns.{takes, frameStep, itemStep, Tells, Turned};
-ghost use Rattle.playing.specs.Plays.{Plays, asHeaded, wholeFile};
+ghost use Rattle.playing.specs.Plays.{PlayOn, asHeaded, ReadItems};
 use recording::Ending;
 use recording::FileRead;
 use recording::Refusal;
+
+// The octets of a heading; what is added to the length of a loss in an item's number of 16 bits (`headingLength`, `lossFrom` of the paper).
+pub const HEADING_LENGTH: usize = 10;
+
+pub const LOSS_FROM: u16 = 32768;
 
 // One item: how it ended, its octets, the samples that are sound, the item as a number, and a refusal's bit.
 struct Turn {
@@ -52,6 +57,15 @@ fn is_mark(octets: &[u8], at: usize) -> bool
     octets[at] == 0x01
 }
 
+// Whether n samples are all x: none is another.
+fn all_are(samples: &[u8], n: usize, x: u8) -> bool
+    requires { ⌜ (n ≤ 320) × (n ≤ length (now samples)) ⌝ }
+    ensures { λ r. ⌜ r ≡ every (λ y. eqb y x) (take n (now (samples .entry))) ⌝ }
+{
+    let others = n - look::count_of(samples, n, x);
+    others == 0
+}
+
 // Whether a frame is an erasure frame: all 0++ or all 0--. The first sample settles nearly every frame.
 fn is_erased(samples: &[u8], n: usize, law: u32) -> bool
     requires { ⌜ (n ≤ 320) × (n ≤ length (now samples)) ⌝ }
@@ -63,10 +77,10 @@ fn is_erased(samples: &[u8], n: usize, law: u32) -> bool
     let mask = law::mask_of(law);
     let first = samples[0];
     if first == law::sample_of(mask, 1) {
-        return look::count_of(samples, n, first) == n;
+        return all_are(samples, n, first);
     }
     if first == law::sample_of(mask, -2) {
-        return look::count_of(samples, n, first) == n;
+        return all_are(samples, n, first);
     }
     false
 }
@@ -80,7 +94,7 @@ fn lost_turn(octets: usize, n: usize) -> Turn
         end: rules::Ending::Done,
         octets,
         len: 0,
-        cell: 32768 + n as u16,
+        cell: LOSS_FROM + n as u16,
         bit: 0,
     }
 }
@@ -161,7 +175,7 @@ pub fn play_on(
     out: &mut [u8],
     cells: &mut [u16],
 ) -> Played
-    ensures { λ r. ⌜ Plays (itemsFrom items (now (octets .entry)) law set at (length (now (out .entry))) (length (now (cells .entry)))) r (now (out .entry)) (now (out .exit)) (now (cells .entry)) (now (cells .exit)) ⌝ }
+    ensures { λ r. ⌜ PlayOn (now (octets .entry)) law set at items (now (out .entry)) (now (out .exit)) (now (cells .entry)) (now (cells .exit)) r ⌝ }
 {
     let mut samples = [0u8; 320];
     let mut place = at;
@@ -182,7 +196,8 @@ pub fn play_on(
         let e = r.end;
         match e {
             rules::Ending::Refused(why) => {
-                return so_far(Ending::Refused(Refusal::Frame(why)), count, place, to, r.bit);
+                let of = Refusal::Frame(why);
+                return so_far(Ending::Refused(of), count, place, to, r.bit);
             }
             rules::Ending::Done => {
                 put_sound(&samples, r.len, out, to);
@@ -225,10 +240,10 @@ fn unread(why: Refusal, law: u32) -> FileRead
 // The items after the heading, all of them.
 fn read_items(octets: &[u8], law: u32, set: u32, out: &mut [u8], cells: &mut [u16]) -> FileRead
     requires { ⌜ (headingLength ≤ length (now octets)) × (length (now octets) - headingLength ≤ longest) ⌝ }
-    ensures { λ r. ⌜ Reads (wholeFile (now (octets .entry)) law set (length (now (out .entry))) (length (now (cells .entry)))) r (now (out .entry)) (now (out .exit)) (now (cells .entry)) (now (cells .exit)) ⌝ }
+    ensures { λ r. ⌜ ReadItems (now (octets .entry)) law set (now (out .entry)) (now (out .exit)) (now (cells .entry)) (now (cells .exit)) r ⌝ }
 {
-    let items = octets.len() - 10 + 1;
-    let r = play_on(&octets[10..], law, set, 0, items, out, cells);
+    let items = octets.len() - HEADING_LENGTH + 1;
+    let r = play_on(&octets[HEADING_LENGTH..], law, set, 0, items, out, cells);
     let end = r.end;
     FileRead {
         end,
@@ -250,7 +265,8 @@ pub fn read_file(octets: &[u8], set: u32, out: &mut [u8], cells: &mut [u16]) -> 
     match law_in(octets) {
         Heading::Missing => unread(Refusal::Head, 0),
         Heading::Law(law) => {
-            if rules::LONGEST < octets.len() - 10 {
+            let after = octets.len() - HEADING_LENGTH;
+            if rules::LONGEST < after {
                 return unread(Refusal::Frame(rules::Refusal::Long), law);
             }
             read_items(octets, law, set, out, cells)

@@ -1,18 +1,24 @@
 -- What was played, as a part, and what a caller goes by.
 use Prim.Native.Nat.{ℕ, _+_, _*_, _/_, _≤_, _<_}
-use mathlib.Core.Path.{_≡_, refl, sym, ap, _∙_}
+use mathlib.Core.Path.{_≡_, refl, sym, ap, subst, _∙_}
 use mathlib.Core.List.{List, [], _∷_, _++_, map}
 use mathlib.Core.Bool.{Bool, true, false, cond, false≢true}
 use native.Mathlib.Omega.{arith}
-use lib.ListN.{length, take, drop, length-map}
+use lib.ListN.{length, getD, take, drop, length-append, length-map}
 use lib.Seq.{take-at}
-use lib.Dec.{leb}
+use lib.Dec.{eqb, leb}
 use borrow.Author.Tests.{le-leb, lt-leb, ltb-true}
+use Rattle.rules.specs.Samples.{maskOf}
+use Rattle.rules.specs.Reading.{Read, whole, refuse}
+use Rattle.rules.specs.Frame.{Found, readOne}
 use Rattle.rules.specs.Chooses.{countOf}
+use Rattle.rules.proofs.Room.{read-most}
 use Rattle.recording.specs.declared.Ending.{Ending}
 use Rattle.recording.specs.declared.Ending.the-variants.{Done, Refused}
-use Rattle.recording.specs.Items.{Item, sound, lost, Recorded, itemsFrom, soundOf, soundIn, cellOf, lossFrom}
-use Rattle.recording.proofs.Parts.{Reads, last, ended, full, off, on, reads, stands-takes, items-told}
+use Rattle.recording.specs.Remembered.{lostOctet, erased}
+use Rattle.recording.specs.Items.{Item, sound, lost, Recorded, itemOf, itemsFrom, soundOf, soundIn, cellOf, lossFrom}
+use Rattle.playing.specs.Turns.{Step, takes, stops, frameStep, itemStep}
+use Rattle.playing.proofs.Parts.{Reads, last, ended, full, refused, delivers, reads, items-told}
 use Rattle.playing.specs.declared.Played.{Played}
 use Rattle.playing.specs.Plays.{Plays}
 use Rattle.replaying.specs.declared.Part.{Part}
@@ -28,14 +34,50 @@ cell-loss : (i : Item) → length (soundOf i) ≤ 320 → cond (isLoss (cellOf i
 cell-loss (sound f) h = rw (lt-leb lossFrom (length (f .samples)) (omega arith))
 cell-loss (lost n) h = rw (le-leb lossFrom (lossFrom + n) (omega arith))
 
+-- an item's sound has at most 320 samples
+abbrev Most : Step → Type 0
+Most (takes i used) = length (soundOf i) ≤ 320
+Most (stops w bit) = 0 ≤ 320
+
+sound-most : (mask : ℕ) (f : Found) → length (f .samples) ≤ 320 → length (soundOf (itemOf mask f)) ≤ 320
+sound-most mask f h = go (erased mask (f .samples))
+  where
+    go : (b : Bool) → length (soundOf (cond b (lost (length (f .samples))) (sound f))) ≤ 320
+    go true = omega arith
+    go false = h
+
 module _ (octets : List ℕ) (law set : ℕ) where
+  step-most : (at room : ℕ) → Most (itemStep octets law set at room)
+  step-most at room = go (eqb (getD octets at 0) lostOctet) (readOne (drop at octets) law set room) refl
+    where
+      go : (b : Bool) (m : Read Found) → readOne (drop at octets) law set room ≡ m → Most (cond b (takes (lost 0) 1) (frameStep (maskOf law) m))
+      go true m e = omega arith
+      go false (whole f j) e = sound-most (maskOf law) f (read-most (drop at octets) law set room e)
+      go false (refuse w bit) e = omega arith
+
+  item-most : (at room : ℕ) {i : Item} {used : ℕ} → itemStep octets law set at room ≡ takes i used → length (soundOf i) ≤ 320
+  item-most at room e = subst Most e (step-most at room)
+
+  reads-held : {n at room places : ℕ} {r : Recorded} → Reads octets law set n at room places r → length (soundIn (r .items)) ≤ 320 * length (r .items)
+  unfolding soundIn
+  reads-held last = omega arith
+  reads-held (ended h) = omega arith
+  reads-held (full h) = omega arith
+  reads-held (refused h e) = omega arith
+  reads-held {at = at} {room} (delivers {i = i} {rest = r} h e t) =
+      omega (arith, item-most at room e, reads-held t, length-append (soundOf i) (soundIn (r .items)))
+
+  pub items-held : (n at room places : ℕ)
+      → length (soundIn (itemsFrom n octets law set at room places .items)) ≤ 320 * length (itemsFrom n octets law set at room places .items)
+  items-held n at room places = reads-held (reads octets law set n at room places)
+
   reads-losses : {n at room places : ℕ} {r : Recorded} → Reads octets law set n at room places r → lossCells (map cellOf (r .items)) ≡ lossesIn (r .items)
   unfolding countOf lossesIn
   reads-losses last = refl
   reads-losses (ended h) = refl
   reads-losses (full h) = refl
-  reads-losses (off h o) = refl
-  reads-losses (on {i = i} {rest = r} h s t) = rw (cell-loss i (stands-takes octets law set h s .most), reads-losses t)
+  reads-losses (refused h e) = refl
+  reads-losses {at = at} {room} (delivers {i = i} {rest = r} h e t) = rw (cell-loss i (item-most at room e), reads-losses t)
 
 pub losses-few : (is : List Item) → lossesIn is ≤ length is
 unfolding lossesIn
@@ -74,16 +116,18 @@ module _ (octets : List ℕ) (law set at : ℕ) (out cells : List ℕ) where
 
   pub goes-of : {r : Part} {out′ cells′ : List ℕ} → NextPart octets law set at out out′ cells cells′ r → Goes octets at out cells r
   goes-of {r} t =
-      let d = items-told octets law set (sureItems (length out) (length cells)) at (length out) (length cells) in
+      let n = sureItems (length out) (length cells) in
+      let d = items-told octets law set n at (length out) (length cells) in
       let on : r .more ≡ true → (part .end ≡ Done) × (part .place < length octets)
       = λ m. more-inside (part .end) (part .place) (length octets) (sym (t .more) ∙ m) in
+      let whole : r .more ≡ true → (length (part .items) < n → ⊥) = λ m k. absurd (omega (arith, on m .1, d .all (on m .0) k)) in
       record {
         fits = omega (arith, t .samples, d .fits);
-        places = omega (arith, t .items, d .few);
-        held = omega (arith, t .samples, t .items, d .held);
+        places = omega (arith, t .items, d .placed);
+        held = omega (arith, t .samples, t .items, items-held octets law set n at (length out) (length cells));
         some = omega (arith, t .losses, t .items, losses-few (part .items));
-        few = λ h. omega (arith, t .items, d .passed, d .inside h);
-        passed = omega (arith, t .items, t .at, d .passed);
-        nearer = λ h k m. omega (arith, t .at, d .passed, d .full (on m .0) (on m .1));
+        few = λ h. omega (arith, t .items, d .some, d .inside h);
+        ends = λ h. omega (arith, t .at, d .inside h);
+        nearer = λ h k m. let w = whole m in omega (arith, t .at, d .some, w);
         inside = λ m. omega (arith, t .at, on m .1);
       }

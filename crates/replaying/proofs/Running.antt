@@ -7,12 +7,13 @@ use mathlib.Core.List.{List, [], _∷_, _++_, map}
 use lib.ListN.{length, getD, length-append}
 use Rattle.rules.specs.Calls.{atStart}
 use Rattle.recording.specs.Items.{Item, sound, lost, soundIn, cellOf}
-use Rattle.recording.proofs.Parts.{sound-append, items-told}
+use Rattle.playing.proofs.Steps.{soundIn-append}
+use Rattle.playing.proofs.Parts.{items-told}
 use Rattle.replaying.specs.declared.Part.{Part}
 use Rattle.replaying.specs.Parts.{sureItems, partOf, goesOn, lossesIn, NextPart, Goes}
 use Rattle.replaying.specs.Runs.{Before, none, one-more, NextSound, played, TellsFile}
 use Rattle.replaying.specs.Lines.{Follows, NextItem, LossAt}
-use Rattle.replaying.proofs.Parted.{more-inside, losses-few}
+use Rattle.replaying.proofs.Parted.{more-inside, items-held, losses-few}
 use Rattle.replaying.proofs.Whole.{whole-parts}
 
 losses-append : (a b : List Item) → lossesIn (a ++ b) ≡ lossesIn a + lossesIn b
@@ -36,8 +37,8 @@ module _ (body : List ℕ) (law set : ℕ) where
       let w = partOf body law set at room places in
       let l = length-append done (w .items) in
       record {
-        few = omega (arith, l, k .few, d .passed);
-        held = omega (arith, l, k .held, d .held, ap length (sound-append done (w .items)), length-append (soundIn done) (soundIn (w .items)));
+        few = omega (arith, l, k .few, d .some);
+        held = omega (arith, l, k .held, items-held body law set (sureItems room places) at room places, ap length (soundIn-append done (w .items)), length-append (soundIn done) (soundIn (w .items)));
         inside = omega (arith, more-inside (w .end) (w .place) (length body) m .1);
       }
 
@@ -62,7 +63,7 @@ module _ (body : List ℕ) (law set : ℕ) where
             done = f .done ++ next;
             before = rw (n .at) (one-more (f .before) (length out) (length cells) (sym (n .more) ∙ m));
             count = omega (arith, f .count, n .items, length-append (f .done) next);
-            sound = omega (arith, f .sound, n .samples, ap length (sound-append (f .done) next), length-append (soundIn (f .done)) (soundIn next));
+            sound = omega (arith, f .sound, n .samples, ap length (soundIn-append (f .done) next), length-append (soundIn (f .done)) (soundIn next));
           }
 
       pub next-sound : NextSound body law set at out′ p
@@ -81,7 +82,7 @@ module _ (body : List ℕ) (law set : ℕ) where
             items = omega (arith, f .count, n .items, length-append (f .done) next) ∙ sym (ap (λ r. length (r .items)) w);
             losses = omega (arith, e, n .losses, losses-append (f .done) next) ∙ sym (ap (λ r. lossesIn (r .items)) w);
             samples =
-                omega (arith, f .sound, n .samples, ap length (sound-append (f .done) next), length-append (soundIn (f .done)) (soundIn next))
+                omega (arith, f .sound, n .samples, ap length (soundIn-append (f .done) next), length-append (soundIn (f .done)) (soundIn next))
                 ∙ sym (ap (λ r. length (soundIn (r .items))) w);
           }
 

@@ -9,9 +9,10 @@ use borrow.Author.Tests.{ltb-false}
 use Rattle.recording.specs.declared.Ending.{Ending}
 use Rattle.recording.specs.declared.Ending.the-variants.{Done, Refused}
 use Rattle.recording.specs.Items.{Item, Recorded, itemsFrom, soundIn}
-use Rattle.recording.proofs.Parts.{after, byEnd, onFrom, items-ended, items-parts, items-told, items-fuel, items-roomy}
+use Rattle.playing.proofs.Steps.{after, items-ended}
+use Rattle.playing.proofs.Parts.{byEnd, onFrom, items-parts, items-told, items-fuel, items-roomy}
 use Rattle.replaying.specs.Parts.{sureItems, partOf, goesOn}
-use Rattle.replaying.proofs.Parted.{more-inside}
+use Rattle.replaying.proofs.Parted.{more-inside, items-held}
 use Rattle.replaying.specs.Runs.{Before, none, one-more, played}
 
 after-after : (a b : List Item) (r : Recorded) → after a (after b r) ≡ after (a ++ b) r
@@ -29,13 +30,14 @@ module _ (body : List ℕ) (law set : ℕ) where
     by-parts : restOf at ≡ byEnd (part .end) (after (part .items) (restOf (part .place))) part
     by-parts =
         let d = items-told body law set (sureItems room places) at room places in
+        let e = items-held body law set (sureItems room places) at room places in
         items-fuel body law set (suc (length body)) (sureItems room places + suc (length body)) at (320 * length body) (length body) (omega arith) (omega arith)
         ∙ items-parts body law set (sureItems room places) (suc (length body)) at (320 * length body) (length body)
         ∙ ap (λ (r : Recorded). byEnd (r .end) (onFrom body law set (suc (length body)) (320 * length body) (length body) r) r)
         (items-roomy body law set (sureItems room places) at (320 * length body) (length body) room places (omega arith, omega arith) (omega arith, omega arith))
         ∙ ap (λ (r : Recorded). byEnd (part .end) (after (part .items) r) part)
         (items-roomy body law set (suc (length body)) (part .place) (320 * length body - length (soundIn (part .items))) (length body - length (part .items))
-        (320 * length body) (length body) (omega (arith, d .passed, d .held), omega (arith, d .passed)) (omega arith, omega arith))
+        (320 * length body) (length body) (omega (arith, d .some, e), omega (arith, d .some)) (omega arith, omega arith))
 
     -- more comes: the recording goes on where the part ended
     pub part-then : goesOn (part .end) (part .place) (length body) ≡ true → restOf at ≡ after (part .items) (restOf (part .place))

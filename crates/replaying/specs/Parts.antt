@@ -64,7 +64,7 @@ pub record Goes (octets : List ℕ) (at : ℕ) (out cells : List ℕ) (r : Part)
   pub held : r .samples ≤ 320 * r .items
   pub some : r .lost ≤ r .items
   pub few : at ≤ length octets → at + r .items ≤ length octets
-  pub passed : at + r .items ≤ r .at
+  pub ends : at ≤ length octets → r .at ≤ length octets
   pub nearer : 320 ≤ length out → 1 ≤ length cells → r .more ≡ true → at < r .at
   pub inside : r .more ≡ true → r .at ≤ length octets
 

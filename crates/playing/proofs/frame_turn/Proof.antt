@@ -1,3 +1,4 @@
+-- A frame as it was passed, judged a loss or sound (Turning).
 use borrow.Author.Needs.{needs}
 use mathlib.Core.Path.{sym, _∙_}
 use native.Mathlib.Omega.{arith}
@@ -5,37 +6,26 @@ use Rattle.reader.proofs.Told.{buffer-has}
 use Rattle.playing.proofs.Turning.{frame-sound, frame-lost}
 use Rattle.playing.proofs.frame_turn.Statement.{statement}
 use Rattle.playing.proofs.frame_turn.Tie as tie
-use Rattle.playing.proofs.frame_turn.Reads as reads
-use Rattle.playing.proofs.frame_turn.Lts as lts
-use Rattle.playing.proofs.is_erased.Reads as is-erased-reads
-use Rattle.playing.proofs.lost_turn.Reads as lost-turn-reads
-use Rattle.walk.proofs.pass.Reads as pass-reads
 
--- src/lib.rt:98:9
 pass-requires : tie.Need-pass-requires
 pass-requires c κs = search needs
 
--- src/lib.rt:99:8
 is-erased-requires : tie.Need-is-erased-requires
 is-erased-requires c κs = let f = c .before .before .pass .ensures in (omega (arith, buffer-has f, f .size), buffer-has f)
 
--- src/lib.rt:100:9
 lost-turn-requires : tie.Need-lost-turn-requires
 lost-turn-requires c κs = let f = c .before .before .before .before .pass .ensures in omega (arith, buffer-has f, f .size)
 
--- src/lib.rt:100:9
 returns : tie.Need-returns
-returns c = 
+returns c =
     frame-lost _ (c .before .before .before .before .before .pass .ensures) (sym (c .before .before .is-erased .ensures) ∙ c .before .if1 .taken)
     (c .lost-turn .ensures)
 
--- src/lib.rt:107:15
 cast-t13 : tie.Need-cast-t13
 cast-t13 c = let f = c .before .before .before .before .before .pass .ensures in omega (arith, buffer-has f, f .size)
 
--- src/lib.rt:87:1
 returns-2 : tie.Need-returns-2
-returns-2 c = 
+returns-2 c =
     frame-sound _ (c .before .before .before .before .before .pass .ensures) (sym (c .before .before .is-erased .ensures) ∙ c .before .if1 .left)
 
 pub frame-turn-spec : {M : Type 1} → statement M

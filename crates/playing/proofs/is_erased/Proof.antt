@@ -1,3 +1,4 @@
+-- The first sample tells which of the two marks it may be, or that it is none (Erasing).
 use borrow.Author.Needs.{needs}
 use Prim.Native.Nat.{ℕ}
 use mathlib.Core.Path.{sym, ap, _∙_}
@@ -8,59 +9,45 @@ use Rattle.recording.specs.Remembered.{plusPlus, minusMinus}
 use Rattle.playing.proofs.Erasing.{erased-none, erased-plus, erased-minus, erased-other}
 use Rattle.playing.proofs.is_erased.Statement.{statement}
 use Rattle.playing.proofs.is_erased.Tie as tie
-use Rattle.playing.proofs.is_erased.Reads as reads
-use Rattle.playing.proofs.is_erased.Lts as lts
-use Rattle.law.proofs.mask_of.Reads as mask-of-reads
-use Rattle.law.proofs.sample_of.Reads as sample-of-reads
-use Rattle.look.proofs.count_of.Reads as count-of-reads
 
--- src/lib.rt:59:9
 returns : tie.Need-returns
 returns c = erased-none _ _ _ (c .if1 .taken)
 
--- src/lib.rt:61:9
 mask-of-requires : tie.Need-mask-of-requires
 mask-of-requires c κs = search needs
 
--- src/lib.rt:62:17
 shared-slice-read-first : tie.Need-shared-slice-read-first
 shared-slice-read-first c = search needs
 
--- src/lib.rt:63:17
 sample-of-requires : tie.Need-sample-of-requires
 sample-of-requires c κs = rw (c .before .mask-of .ensures) (mask-seven _ (is-mask (c .before .before .before .before .args .law)))
 
--- src/lib.rt:64:16
-count-of-requires : tie.Need-count-of-requires
-count-of-requires c κs = search needs
+all-are-requires : tie.Need-all-are-requires
+all-are-requires c κs = search needs
 
--- src/lib.rt:64:9
 returns-2 : tie.Need-returns-2
-returns-2 c = 
+returns-2 c =
     let s = c .before .before .before .before .before .before .before in
     let m = c .before .before .before .before .mask-of .ensures in
     let p = c .before .if2 .taken ∙ c .before .before .sample-of .ensures ∙ ap (λ (mask : ℕ). plusPlus mask) m in
-    rw (c .count-of .ensures .0) (erased-plus (maskOf (s .args .law)) (s .args .n) (s .args .samples .now) (omega arith) (omega arith) p)
+    rw (c .all-are .ensures) (erased-plus (maskOf (s .args .law)) (s .args .n) (s .args .samples .now) (omega arith) (omega arith) p)
 
--- src/lib.rt:66:17
 sample-of-requires-2 : tie.Need-sample-of-requires-2
-sample-of-requires-2 c κs = rw (c .before .before .before .mask-of .ensures) (mask-seven _ (is-mask (c .before .before .before .before .before .before .args .law)))
+sample-of-requires-2 c κs =
+    rw (c .before .before .before .mask-of .ensures) (mask-seven _ (is-mask (c .before .before .before .before .before .before .args .law)))
 
--- src/lib.rt:67:16
-count-of-requires-2 : tie.Need-count-of-requires-2
-count-of-requires-2 c κs = search needs
+all-are-requires-2 : tie.Need-all-are-requires-2
+all-are-requires-2 c κs = search needs
 
--- src/lib.rt:67:9
 returns-3 : tie.Need-returns-3
-returns-3 c = 
+returns-3 c =
     let s = c .before .before .before .before .before .before .before .before .before in
     let m = c .before .before .before .before .before .before .mask-of .ensures in
     let p = c .before .if3 .taken ∙ c .before .before .sample-of2 .ensures ∙ ap (λ (mask : ℕ). minusMinus mask) m in
-    rw (c .count-of2 .ensures .0) (erased-minus (maskOf (s .args .law)) (s .args .n) (s .args .samples .now) (omega arith) (omega arith) p)
+    rw (c .all-are2 .ensures) (erased-minus (maskOf (s .args .law)) (s .args .n) (s .args .samples .now) (omega arith) (omega arith) p)
 
--- src/lib.rt:54:1
 returns-4 : tie.Need-returns-4
-returns-4 c = 
+returns-4 c =
     let s = c .before .before .before .before .before .before .before .before in
     let m = c .before .before .before .before .before .mask-of .ensures in
     let p = c .before .before .before .sample-of .ensures ∙ ap (λ (mask : ℕ). plusPlus mask) m in
@@ -76,9 +63,9 @@ is-erased-spec =
     mask-of-requires
     shared-slice-read-first
     sample-of-requires
-    count-of-requires
+    all-are-requires
     returns-2
     sample-of-requires-2
-    count-of-requires-2
+    all-are-requires-2
     returns-3
     returns-4)

@@ -1,9 +1,8 @@
 -- Each turn takes one item (Playing); the measure is how many items more are allowed.
 use borrow.Author.Needs.{needs}
 use Prim.Native.Nat.{_+_, _-_, _≤_}
-use mathlib.Core.Path.{_≡_, refl, sym, _∙_}
+use mathlib.Core.Path.{_≡_, refl, sym}
 use native.Mathlib.Omega.{arith}
-use native.Mathlib.Nat.{le-of-lt}
 use lib.ListN.{length}
 use Rattle.rules.specs.declared.Ending.the-variants.{Done}
 use Rattle.rules.proofs.Lent.{lent-length}
@@ -23,7 +22,8 @@ module _ (c : tie.After-item-at Inv-loop μ-loop) (e : c .item-at .result .end �
   fits : (c .before .before .before .before .before .loop .place + c .item-at .result .octets
       ≤ length (c .before .before .before .before .before .before .before .before .before .args .octets .now))
       × (c .item-at .result .len ≤ length (c .item-at .last .1 .1 .1 .1 .1 .0))
-      × (c .before .before .before .before .before .loop .to + c .item-at .result .len ≤ length (c .before .before .before .before .before .loop .out))
+      × (c .before .before .before .before .before .loop .to + c .item-at .result .len
+      ≤ length (c .before .before .before .before .before .loop .out))
   fits =
       play-fits _ _ _ _ _ _ _ (c .before .before .before .before .before .loop .inv) (c .before .before .before .before .if1 .left)
       (c .before .before .before .if2 .left) (c .before .before .if3 .left) (c .item-at .ensures) e
@@ -65,9 +65,10 @@ same-length-6 : tie.Need-same-length-6 Inv-loop μ-loop
 same-length-6 c = lent-length (c .before .before .before .before .loop .inv .told)
 
 returns-3 : tie.Need-returns-3 Inv-loop μ-loop
-returns-3 c = 
+returns-3 c =
     rw (c .so-far3 .ensures)
-    (play-full _ _ _ _ _ _ _ (c .before .before .before .before .loop .inv) (c .before .before .before .if1 .left) (c .before .before .if2 .left) (c .before .if3 .taken))
+    (play-full _ _ _ _ _ _ _ (c .before .before .before .before .loop .inv) (c .before .before .before .if1 .left) (c .before .before .if2 .left)
+    (c .before .if3 .taken))
 
 sub-item-at : tie.Need-sub-item-at Inv-loop μ-loop
 sub-item-at c = let w = c .before .before .before .loop .inv in omega (arith, w .kept .room, lent-length (w .kept))
@@ -88,11 +89,12 @@ same-length-8 : tie.Need-same-length-8 Inv-loop μ-loop
 same-length-8 c = lent-length (c .before .before .before .before .before .before .before .before .before .loop .inv .told)
 
 returns-4 : tie.Need-returns-4 Inv-loop μ-loop
-returns-4 c = 
+returns-4 c =
     let s = c .before .before .before .before in
     rw (c .so-far4 .ensures)
     (play-refused _ _ _ _ _ _ _ (s .before .before .before .before .before .loop .inv) (s .before .before .before .before .if1 .left)
-    (s .before .before .before .if2 .left) (s .before .before .if3 .left) (s .item-at .ensures) (c .before .before .e .given .0 .0) (c .before .before .e .given .1))
+    (s .before .before .before .if2 .left) (s .before .before .if3 .left) (s .item-at .ensures)
+    (c .before .before .e .given .0 .0) (c .before .before .e .given .1))
 
 enum-told : tie.Need-enum-told Inv-loop μ-loop
 enum-told c = search needs
@@ -110,7 +112,7 @@ slice-write-cells : tie.Need-slice-write-cells Inv-loop μ-loop
 slice-write-cells c = c .before .before .before .before .before .before .before .before .before .if3 .left
 
 add-place : tie.Need-add-place Inv-loop μ-loop
-add-place c = 
+add-place c =
     let s = c .before .before .before .before .before .before .before .before in
     omega (
       arith,
@@ -119,7 +121,7 @@ add-place c =
     )
 
 add-to : tie.Need-add-to Inv-loop μ-loop
-add-to c = 
+add-to c =
     let s = c .before .before .before .before .before .before .before .before .before in
     omega (
       arith,
@@ -135,7 +137,7 @@ loop-less : tie.Need-loop-less Inv-loop μ-loop
 loop-less c = omega (arith, c .before .before .before .before .before .before .before .before .before .before .before .before .before .if1 .left)
 
 loop-again : tie.Need-loop-again Inv-loop μ-loop
-loop-again c = 
+loop-again c =
     let s = c .before .before .before .before .before .before .before .before .before in
     play-turn _ _ _ _ _ _ _ (s .before .before .before .before .before .loop .inv) (s .before .before .before .before .if1 .left)
     (s .before .before .before .if2 .left) (s .before .before .if3 .left) (s .item-at .ensures)
