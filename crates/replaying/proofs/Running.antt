@@ -70,10 +70,10 @@ module _ (body : List ℕ) (law set : ℕ) where
       next-sound = record { done = f .done; before = f .before; lent = out; cells = cells; cells′ = cells′; is = n }
 
       -- the last part: the totals are the recording's
-      pub goes-whole : p .more ≡ false → {lost wrong : ℕ} → lost ≡ lossesIn (f .done)
+      pub goes-whole : p .more ≡ false → {lost wrong good : ℕ} → lost ≡ lossesIn (f .done) → good ≡ p .samples
           → TellsFile body law set
-          (record { end = p .end; at = p .at; bit = p .bit; items = number + p .items; lost = lost + p .lost; samples = heard + p .samples; wrong = wrong })
-      goes-whole m e =
+          (record { end = p .end; at = p .at; bit = p .bit; items = number + p .items; lost = lost + p .lost; samples = heard + good; wrong = wrong })
+      goes-whole m e u =
           let w = whole-parts body law set (f .before) (length out) (length cells) (sym (n .more) ∙ m) in
           record {
             end = n .end ∙ sym (ap (λ r. r .end) w);
@@ -82,7 +82,7 @@ module _ (body : List ℕ) (law set : ℕ) where
             items = omega (arith, f .count, n .items, length-append (f .done) next) ∙ sym (ap (λ r. length (r .items)) w);
             losses = omega (arith, e, n .losses, losses-append (f .done) next) ∙ sym (ap (λ r. lossesIn (r .items)) w);
             samples =
-                omega (arith, f .sound, n .samples, ap length (soundIn-append (f .done) next), length-append (soundIn (f .done)) (soundIn next))
+                omega (arith, u, f .sound, n .samples, ap length (soundIn-append (f .done) next), length-append (soundIn (f .done)) (soundIn next))
                 ∙ sym (ap (λ r. length (soundIn (r .items))) w);
           }
 

@@ -9,7 +9,9 @@ ghost use Rattle.sounds.specs.Uses.{UsesUpTo};
 ghost use Rattle.lines.specs.Puts.{Puts};
 ghost use Rattle.replaying.specs.Parts.{sureItems, goesOn, isLoss, lossCells, Answers, NextPart, Goes};
 ghost use Rattle.replaying.specs.Runs.{NextSound, TellsFile};
+ghost use Rattle.replaying.specs.Kinds.{kindOf};
 ghost use Rattle.replaying.specs.Lines.{lossLine, Follows, NextItem, LossAt};
+use playing::Heading;
 use playing::Played;
 use recording::Ending;
 use sounds::Used;
@@ -39,6 +41,28 @@ pub struct Total {
     pub wrong: u32,
 }
 
+// What a file is: a stream, a recording of a law, or what begins as a recording and has no heading.
+pub enum Kind {
+    Stream,
+    Recording(u32),
+    Headless,
+}
+
+// What a file is, by its first octets.
+pub fn kind_of(octets: &[u8]) -> Kind
+    ensures { λ r. ⌜ r ≡ kindOf (now (octets .entry)) ⌝ }
+{
+    match playing::law_in(octets) {
+        Heading::Law(law) => Kind::Recording(law),
+        Heading::Missing => {
+            if keyvalue::has_word(octets, 0, b"#!G7110") {
+                return Kind::Headless;
+            }
+            Kind::Stream
+        }
+    }
+}
+
 // What is told of the items: nothing, the losses, or all.
 pub const TELLS_NOTHING: u32 = 0;
 
@@ -51,7 +75,7 @@ fn is_loss(cell: u16) -> usize
     ensures { λ r. ⌜ r ≡ cond (isLoss cell) 1 0 ⌝ }
     ensures most { λ r. ⌜ r ≤ 1 ⌝ }
 {
-    if 32768 <= cell {
+    if playing::LOSS_FROM <= cell {
         return 1;
     }
     0
@@ -189,7 +213,7 @@ fn say_item(
         return;
     }
     if p.lost != 0 {
-        say_loss(body, law, set, at, number, heard, (cell - 32768) as usize);
+        say_loss(body, law, set, at, number, heard, (cell - playing::LOSS_FROM) as usize);
         return;
     }
     if tells == TELLS_ALL {
@@ -285,6 +309,7 @@ fn parts(
 ) -> Total
     requires { ⌜ (length (now body) ≤ longest) × (320 ≤ length (now page)) × (length (now page) ≤ length (now master)) × (1 ≤ length (now cells)) ⌝ }
     ensures { λ r. ⌜ (r .wrong ≡ 0 → TellsFile (now (body .entry)) law set r) ⌝ }
+    ensures within { λ r. ⌜ (r .lost ≤ r .items) × (r .at ≤ length (now (body .entry))) ⌝ }
 {
     let mut at = 0;
     let mut items = 0;
@@ -321,6 +346,7 @@ fn parts(
 pub fn play(body: &[u8], law: u32, set: u32, way: Way, tells: u32) -> Total
     requires { ⌜ length (now body) ≤ longest ⌝ }
     ensures { λ r. ⌜ (r .wrong ≡ 0 → TellsFile (now (body .entry)) law set r) ⌝ }
+    ensures within { λ r. ⌜ (r .lost ≤ r .items) × (r .at ≤ length (now (body .entry))) ⌝ }
 {
     let mut page = [0u8; 61440];
     let mut master = [0u8; 61440];
