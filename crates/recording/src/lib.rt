@@ -3,6 +3,8 @@
 ghost use mathlib.Core.Path.{_≡_};
 ghost use Rattle.recording.specs.Calls.{refusalNumber, refusalTool, numberOf, toolNamed};
 
+pub mod marking;
+
 // HEAD (14), or a refusal of document 01.
 pub enum Refusal {
     Head,
