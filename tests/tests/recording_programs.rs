@@ -176,9 +176,11 @@ fn losses_told() {
             let body = &body[..body.len().min(MOST)];
             count(played(&mut room, &[&heading(law)[..], body].concat(), 127, ["-v", "", "-g"][turn % 3]));
             count(played(&mut room, &file, rng.below(128) as u32, ""));
+            count(played(&mut room, &file[..HEAD + rng.below(file.len() - HEAD)], 127, ["", "-v"][turn % 2]));
+            count(played(&mut room, &[&file[..], &[0x46]].concat(), 127, "-g"));
         }
     }
-    assert!([0, 1, 2, 3, LOST as usize].iter().all(|stop| stops[*stop] >= 5), "{stops:?}");
+    assert!([0, 1, 2, 3, LOST as usize].iter().all(|stop| stops[*stop] >= 20), "{stops:?}");
     let told: Vec<String> = stops.iter().enumerate().filter(|(_, n)| **n > 0).map(|(at, n)| format!("{at}: {n}")).collect();
     tell(&format!("losses told, runs by stop {{{}}}", told.join(", ")), &room);
 }
