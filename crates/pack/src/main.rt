@@ -125,7 +125,10 @@ fn say_erased(stream: &[u8], law: u32)
     };
     let t = replaying::play(stream, law, rules::ALL_TOOLS, way, replaying::TELLS_NOTHING);
     if t.lost != 0 {
-        console::say_number(b"pack: frames that are all 0++ or all 0--, so that readers of recordings take them for lost: ", t.lost);
+        console::say_number(
+            b"pack: frames that are all 0++ or all 0--, so that readers of recordings take them for lost: ",
+            t.lost,
+        );
         console::say(b"\n");
     }
 }

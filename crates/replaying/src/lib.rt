@@ -213,7 +213,15 @@ fn say_item(
         return;
     }
     if p.lost != 0 {
-        say_loss(body, law, set, at, number, heard, (cell - playing::LOSS_FROM) as usize);
+        say_loss(
+            body,
+            law,
+            set,
+            at,
+            number,
+            heard,
+            (cell - playing::LOSS_FROM) as usize,
+        );
         return;
     }
     if tells == TELLS_ALL {
@@ -274,7 +282,18 @@ fn tell_part(
     }
     let mut page = [0u8; 320];
     let mut one = [0u16; 1];
-    tell(body, law, set, at, number, heard, p.items, tells, &mut page, &mut one);
+    tell(
+        body,
+        law,
+        set,
+        at,
+        number,
+        heard,
+        p.items,
+        tells,
+        &mut page,
+        &mut one,
+    );
 }
 
 // The sound of a part, written or compared. It is the part of the recording at `at`, by a law and a set; the set stands here for the contract
@@ -351,5 +370,14 @@ pub fn play(body: &[u8], law: u32, set: u32, way: Way, tells: u32) -> Total
     let mut page = [0u8; 61440];
     let mut master = [0u8; 61440];
     let mut cells = [0u16; 192];
-    parts(body, law, set, way, tells, &mut page, &mut master, &mut cells)
+    parts(
+        body,
+        law,
+        set,
+        way,
+        tells,
+        &mut page,
+        &mut master,
+        &mut cells,
+    )
 }

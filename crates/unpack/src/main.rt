@@ -65,14 +65,7 @@ fn use_part(
 }
 
 // Part after part, page by page.
-fn parts(
-    stream: &[u8],
-    law: u32,
-    set: u32,
-    way: Way,
-    page: &mut [u8],
-    master: &mut [u8],
-) -> Total
+fn parts(stream: &[u8], law: u32, set: u32, way: Way, page: &mut [u8], master: &mut [u8]) -> Total
     requires { ⌜ (length (now stream) ≤ longest) × (320 ≤ length (now page)) × (length (now page) ≤ length (now master)) ⌝ }
     ensures { λ r. ⌜ (r .wrong ≡ 0 → TellsWalk (now (stream .entry)) law set r) ⌝ }
 {
@@ -167,7 +160,9 @@ fn stop_well(o: Outcome, on: bool) {
         console::stop(UNPACK, 0, o.at, 0, 0);
         return;
     }
-    console::say(b"unpack: the recording has losses, so this is not all of its sound; -g goes on all the same\n");
+    console::say(
+        b"unpack: the recording has losses, so this is not all of its sound; -g goes on all the same\n",
+    );
     console::stop(UNPACK, 66, o.at, 0, 0);
 }
 
@@ -350,7 +345,10 @@ fn with_frames(body: &[u8], law: u32, s: Settings, records: bool, name: &[u8]) {
 fn with_stream(s: Settings, name: &[u8], file: &[u8]) {
     let f = s.flags;
     if f.lists {
-        console::usage(UNPACK, b"-v lists a recording's items, and this is a stream: listing lists its frames");
+        console::usage(
+            UNPACK,
+            b"-v lists a recording's items, and this is a stream: listing lists its frames",
+        );
         return;
     }
     let law = options::law_of(s, name);

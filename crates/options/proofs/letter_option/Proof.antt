@@ -34,26 +34,46 @@ flag-by-requires c κs = search needs
 
 returns-5 : tie.Need-returns-5
 unfolding letterOf
-returns-5 c = 
-    rw (ne-eqb _ _ (c .before .before .before .before .before .if1 .left), ne-eqb _ _ (c .before .before .before .before .if2 .left), ne-eqb _ _ (c .before .before .before .if3 .left), ne-eqb _ _ (c .before .before .if4 .left),
-    ← (c .before .flag-by .ensures), ne-eqb _ _ (c .if5 .taken))
+returns-5 c =
+    rw (
+      ne-eqb _ _ (c .before .before .before .before .before .if1 .left),
+      ne-eqb _ _ (c .before .before .before .before .if2 .left),
+      ne-eqb _ _ (c .before .before .before .if3 .left),
+      ne-eqb _ _ (c .before .before .if4 .left),
+      ← (c .before .flag-by .ensures),
+      ne-eqb _ _ (c .if5 .taken),
+    )
 
 wanted-by-requires : tie.Need-wanted-by-requires
 wanted-by-requires c κs = search needs
 
 returns-6 : tie.Need-returns-6
 unfolding letterOf
-returns-6 c = 
-    rw (ne-eqb _ _ (c .before .before .before .before .before .before .before .if1 .left), ne-eqb _ _ (c .before .before .before .before .before .before .if2 .left),
-    ne-eqb _ _ (c .before .before .before .before .before .if3 .left), ne-eqb _ _ (c .before .before .before .before .if4 .left),
-    ← (c .before .before .before .flag-by .ensures), eq-eqb _ _ (c .before .before .if5 .left), ← (c .before .wanted-by .ensures), eq-eqb _ _ (c .if6 .taken))
+returns-6 c =
+    rw (
+      ne-eqb _ _ (c .before .before .before .before .before .before .before .if1 .left),
+      ne-eqb _ _ (c .before .before .before .before .before .before .if2 .left),
+      ne-eqb _ _ (c .before .before .before .before .before .if3 .left),
+      ne-eqb _ _ (c .before .before .before .before .if4 .left),
+      ← (c .before .before .before .flag-by .ensures),
+      eq-eqb _ _ (c .before .before .if5 .left),
+      ← (c .before .wanted-by .ensures),
+      eq-eqb _ _ (c .if6 .taken),
+    )
 
 returns-7 : tie.Need-returns-7
 unfolding letterOf
-returns-7 c = 
-    rw (ne-eqb _ _ (c .before .before .before .before .before .before .before .if1 .left), ne-eqb _ _ (c .before .before .before .before .before .before .if2 .left),
-    ne-eqb _ _ (c .before .before .before .before .before .if3 .left), ne-eqb _ _ (c .before .before .before .before .if4 .left),
-    ← (c .before .before .before .flag-by .ensures), eq-eqb _ _ (c .before .before .if5 .left), ← (c .before .wanted-by .ensures), ne-eqb _ _ (c .if6 .left))
+returns-7 c =
+    rw (
+      ne-eqb _ _ (c .before .before .before .before .before .before .before .if1 .left),
+      ne-eqb _ _ (c .before .before .before .before .before .before .if2 .left),
+      ne-eqb _ _ (c .before .before .before .before .before .if3 .left),
+      ne-eqb _ _ (c .before .before .before .before .if4 .left),
+      ← (c .before .before .before .flag-by .ensures),
+      eq-eqb _ _ (c .before .before .if5 .left),
+      ← (c .before .wanted-by .ensures),
+      ne-eqb _ _ (c .if6 .left),
+    )
 
 pub letter-option-spec : {M : Type 1} → statement M
 letter-option-spec =

@@ -24,7 +24,7 @@ next-part-requires : tie.Need-next-part-requires Inv-loop μ-loop
 next-part-requires c κs = search needs
 
 use-part-requires : tie.Need-use-part-requires Inv-loop μ-loop
-use-part-requires c κs = 
+use-part-requires c κs =
     let w = c .before .before .before .before .before .before .before .before .before .loop .inv in
     let n = c .before .before .before .before .before .before .next-part in
     let l = n .kept .1 .1 .1 .1 .0 in (
@@ -37,19 +37,19 @@ tell-part-requires : tie.Need-tell-part-requires Inv-loop μ-loop
 tell-part-requires c κs = (c .before .before .before .before .before .before .before .before .before .before .before .before .before .before .before .before .before .pre .0, c .before .before .before .before .before .before .before .before .before .before .before .before .loop .inv .0 .follows)
 
 add-items : tie.Need-add-items Inv-loop μ-loop
-add-items c = 
+add-items c =
     let f = c .before .before .before .before .before .before .before .before .before .before .before .before .before .before .loop .inv .0 .follows in
     let g = c .before .before .before .before .before .before .before .before .before .before .before .next-part .ensures .1 in
     omega (arith, number-most _ _ _ f, g .few (at-most _ _ _ f), c .before .before .before .before .before .before .before .before .before .before .before .before .before .before .before .before .before .before .before .pre .0)
 
 add-lost : tie.Need-add-lost Inv-loop μ-loop
-add-lost c = 
+add-lost c =
     let w = c .before .before .before .before .before .before .before .before .before .before .before .before .before .before .before .loop .inv .0 in
     let g = c .before .before .before .before .before .before .before .before .before .before .before .before .next-part .ensures .1 in
     omega (arith, lost-most _ _ _ w, number-most _ _ _ (w .follows), g .some, g .few (at-most _ _ _ (w .follows)), c .before .before .before .before .before .before .before .before .before .before .before .before .before .before .before .before .before .before .before .before .pre .0)
 
 add-samples : tie.Need-add-samples Inv-loop μ-loop
-add-samples c = 
+add-samples c =
     let f = c .before .before .before .before .before .before .before .before .before .before .before .before .before .before .before .before .loop .inv .0 .follows in
     let g = c .before .before .before .before .before .before .before .before .before .before .before .before .before .next-part .ensures .1 in
     let u = c .before .before .before .before .before .before .use-part .ensures .most in
@@ -65,7 +65,7 @@ same-length-3 : tie.Need-same-length-3 Inv-loop μ-loop
 same-length-3 c = c .before .before .before .before .before .before .before .before .before .before .before .before .before .before .before .next-part .kept .1 .1 .1 .1 .1 .0 ∙ c .before .before .before .before .before .before .before .before .before .before .before .before .before .before .before .before .before .before .loop .inv .0 .cells-size
 
 returns : tie.Need-returns Inv-loop μ-loop
-returns c = 
+returns c =
     let w = c .before .before .before .before .before .before .before .before .before .before .before .before .before .before .before .before .before .before .loop .inv .0 in
     let g = c .before .before .before .before .before .before .before .before .before .before .before .before .before .before .before .next-part .ensures .1 in
     (λ e. absurd (c .if1 .taken e), (omega (arith, lost-most _ _ _ w, g .some), g .ends (at-most _ _ _ (w .follows))))
@@ -80,7 +80,7 @@ same-length-6 : tie.Need-same-length-6 Inv-loop μ-loop
 same-length-6 c = c .before .before .before .before .before .before .before .before .before .before .before .before .before .before .before .before .before .next-part .kept .1 .1 .1 .1 .1 .0 ∙ c .before .before .before .before .before .before .before .before .before .before .before .before .before .before .before .before .before .before .before .before .loop .inv .0 .cells-size
 
 returns-2 : tie.Need-returns-2 Inv-loop μ-loop
-returns-2 c = 
+returns-2 c =
     let w = c .before .before .before .before .before .before .before .before .before .before .before .before .before .before .before .before .before .before .before .before .loop .inv .0 in
     let n = c .before .before .before .before .before .before .before .before .before .before .before .before .before .before .before .before .before .next-part in
     let u = c .before .before .before .before .before .before .before .before .before .before .use-part .ensures .all in (
@@ -89,7 +89,7 @@ returns-2 c =
     )
 
 loop-less : tie.Need-loop-less Inv-loop μ-loop
-loop-less c = 
+loop-less c =
     let w = c .before .before .before .before .before .before .before .before .before .before .before .before .before .before .before .before .before .before .before .before .loop .inv .0 in
     let n = c .before .before .before .before .before .before .before .before .before .before .before .before .before .before .before .before .before .next-part in
     let g = n .ensures .1 in
@@ -98,12 +98,12 @@ loop-less c =
     omega (arith, g .nearer (omega (arith, w .page-size, a .1)) (omega (arith, w .cells-size, a .3)) more, g .inside more)
 
 loop-again : tie.Need-loop-again Inv-loop μ-loop
-loop-again c = 
+loop-again c =
     let w = c .before .before .before .before .before .before .before .before .before .before .before .before .before .before .before .before .before .before .before .before .loop .inv in
     let n = c .before .before .before .before .before .before .before .before .before .before .before .before .before .before .before .before .before .next-part in
     let u = c .before .before .before .before .before .before .before .before .before .before .use-part in (
       going-on _ _ _ (w .0) (n .ensures .0) (n .kept .1 .1 .1 .1 .0) (n .kept .1 .1 .1 .1 .1 .0)
-      (u .ensures .all (c .before .before .if1 .left)) (not-false _ (c .if2 .left)),
+          (u .ensures .all (c .before .before .if1 .left)) (not-false _ (c .if2 .left)),
       u .kept .1 .1 .1 .1 .1 .1 .1 .0 ∙ w .1,
     )
 

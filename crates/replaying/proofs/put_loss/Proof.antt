@@ -41,7 +41,7 @@ same-length c = search needs
 
 returns : tie.Need-returns
 unfolding lossLine
-returns c = 
+returns c =
     let loss = c .before .before .before .before .before .before .before .before .before .before .before .before .before .before .before .before .before .before .before .before .before .before .put-field .ensures in
     let place = c .before .before .before .before .before .before .before .before .before .before .before .before .before .before .before .before .before .put-field2 .ensures in
     let samples = c .before .before .before .before .before .before .before .before .before .before .before .before .put-field3 .ensures in

@@ -25,7 +25,7 @@ slice-read-say-item : tie.Need-slice-read-say-item Inv-loop μ-loop
 slice-read-say-item c = omega (arith, c .before .before .before .before .before .next-part .kept .1 .1 .1 .1 .1 .0, c .before .before .before .before .before .before .before .before .before .loop .inv .2)
 
 say-item-requires : tie.Need-say-item-requires Inv-loop μ-loop
-say-item-requires c κs = 
+say-item-requires c κs =
     let w = c .before .before .before .before .before .before .before .before .before .loop .inv in
     let n = c .before .before .before .before .before .next-part in (
       at-most _ _ _ (w .0),
@@ -52,13 +52,13 @@ returns : tie.Need-returns Inv-loop μ-loop
 returns c = search needs
 
 add-number : tie.Need-add-number Inv-loop μ-loop
-add-number c = 
+add-number c =
     let w = c .before .before .before .before .before .before .before .before .before .before .before .before .before .loop .inv .0 in
     let g = c .before .before .before .before .before .before .before .before .before .next-part .ensures .1 in
     omega (arith, number-most _ _ _ w, g .few (at-most _ _ _ w), at-most _ _ _ w, c .before .before .before .before .before .before .before .before .before .before .before .before .before .before .before .before .before .pre .0)
 
 add-heard : tie.Need-add-heard Inv-loop μ-loop
-add-heard c = 
+add-heard c =
     let w = c .before .before .before .before .before .before .before .before .before .before .before .before .before .before .loop .inv .0 in
     let g = c .before .before .before .before .before .before .before .before .before .before .next-part .ensures .1 in
     omega (arith, number-most _ _ _ w, heard-most _ _ _ w, g .few (at-most _ _ _ w), g .held, at-most _ _ _ w, c .before .before .before .before .before .before .before .before .before .before .before .before .before .before .before .before .before .before .pre .0)
@@ -70,7 +70,7 @@ loop-less : tie.Need-loop-less Inv-loop μ-loop
 loop-less c = search needs
 
 loop-again : tie.Need-loop-again Inv-loop μ-loop
-loop-again c = 
+loop-again c =
     let w = c .before .before .before .before .before .before .before .before .before .before .before .before .before .before .loop .inv in
     let n = c .before .before .before .before .before .before .before .before .before .before .next-part in (
       follows-on _ _ _ (w .0) (n .ensures .0) (not-false _ (c .before .before .if1 .left)),
