@@ -43,25 +43,31 @@ say-item-requires c κs =
     )
 
 same-length : tie.Need-same-length Inv-loop μ-loop
-same-length c = c .before .before .before .before .before .before .before .before .next-part .kept .1 .1 .1 .1 .0 ∙ c .before .before .before .before .before .before .before .before .before .before .before .before .loop .inv .1 ∙ sym (c .before .before .before .before .before .before .before .before .before .before .before .before .before .before .before .before .pre .2)
+same-length c =
+    let d = c .before .before .before .before .before .before .before .before .before .before in
+    c .before .before .before .before .before .before .before .before .next-part .kept .1 .1 .1 .1 .0 ∙ d .before .before .loop .inv .1 ∙ sym (d .before .before .before .before .before .before .pre .2)
 
 same-length-2 : tie.Need-same-length-2 Inv-loop μ-loop
-same-length-2 c = c .before .before .before .before .before .before .before .before .next-part .kept .1 .1 .1 .1 .1 .0 ∙ c .before .before .before .before .before .before .before .before .before .before .before .before .loop .inv .2 ∙ sym (c .before .before .before .before .before .before .before .before .before .before .before .before .before .before .before .before .pre .3)
+same-length-2 c =
+    let d = c .before .before .before .before .before .before .before .before .before .before in
+    c .before .before .before .before .before .before .before .before .next-part .kept .1 .1 .1 .1 .1 .0 ∙ d .before .before .loop .inv .2 ∙ sym (d .before .before .before .before .before .before .pre .3)
 
 returns : tie.Need-returns Inv-loop μ-loop
 returns c = search needs
 
 add-number : tie.Need-add-number Inv-loop μ-loop
 add-number c =
-    let w = c .before .before .before .before .before .before .before .before .before .before .before .before .before .loop .inv .0 in
+    let d = c .before .before .before .before .before .before .before .before .before .before in
+    let w = d .before .before .before .loop .inv .0 in
     let g = c .before .before .before .before .before .before .before .before .before .next-part .ensures .1 in
-    omega (arith, number-most _ _ _ w, g .few (at-most _ _ _ w), at-most _ _ _ w, c .before .before .before .before .before .before .before .before .before .before .before .before .before .before .before .before .before .pre .0)
+    omega (arith, number-most _ _ _ w, g .few (at-most _ _ _ w), at-most _ _ _ w, d .before .before .before .before .before .before .before .pre .0)
 
 add-heard : tie.Need-add-heard Inv-loop μ-loop
 add-heard c =
-    let w = c .before .before .before .before .before .before .before .before .before .before .before .before .before .before .loop .inv .0 in
-    let g = c .before .before .before .before .before .before .before .before .before .before .next-part .ensures .1 in
-    omega (arith, number-most _ _ _ w, heard-most _ _ _ w, g .few (at-most _ _ _ w), g .held, at-most _ _ _ w, c .before .before .before .before .before .before .before .before .before .before .before .before .before .before .before .before .before .before .pre .0)
+    let d = c .before .before .before .before .before .before .before .before .before .before in
+    let w = d .before .before .before .before .loop .inv .0 in
+    let g = d .next-part .ensures .1 in
+    omega (arith, number-most _ _ _ w, heard-most _ _ _ w, g .few (at-most _ _ _ w), g .held, at-most _ _ _ w, d .before .before .before .before .before .before .before .before .pre .0)
 
 sub-left : tie.Need-sub-left Inv-loop μ-loop
 sub-left c = search needs
@@ -71,8 +77,9 @@ loop-less c = search needs
 
 loop-again : tie.Need-loop-again Inv-loop μ-loop
 loop-again c =
-    let w = c .before .before .before .before .before .before .before .before .before .before .before .before .before .before .loop .inv in
-    let n = c .before .before .before .before .before .before .before .before .before .before .next-part in (
+    let d = c .before .before .before .before .before .before .before .before .before .before in
+    let w = d .before .before .before .before .loop .inv in
+    let n = d .next-part in (
       follows-on _ _ _ (w .0) (n .ensures .0) (not-false _ (c .before .before .if1 .left)),
       n .kept .1 .1 .1 .1 .0 ∙ w .1,
       n .kept .1 .1 .1 .1 .1 .0 ∙ w .2,
