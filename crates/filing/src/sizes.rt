@@ -137,7 +137,14 @@ fn most_octets(cells: &[u16]) -> usize
 }
 
 // What settles LONG and ROOM: the most that the items may have, where that fits; else their octets, for which every frame is planned.
-pub fn octets_to_judge(samples: &[u8], cells: &[u16], law: u32, set: u32, quiet: &[u8], room: usize) -> usize
+pub fn octets_to_judge(
+    samples: &[u8],
+    cells: &[u16],
+    law: u32,
+    set: u32,
+    quiet: &[u8],
+    room: usize,
+) -> usize
     requires { ⌜ (isGiven (givenBy (now cells) (now samples)) ≡ true) × (isWriterSet set ≡ true) ⌝ }
     requires { ⌜ Quiet (maskOf law) (now quiet) ⌝ }
     ensures { λ r. ⌜ Settles (length (octetsGiven (maskOf law) set (now (cells .entry)) (now (samples .entry)))) room r ⌝ }

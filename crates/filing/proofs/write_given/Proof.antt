@@ -41,7 +41,8 @@ returns c =
     let s = t .before .before .before .before .before .before .before in
     let a = s .args in
     let m = t .octets-to-judge .ensures in
-    declined-as (c .refused .ensures) (too-long (a .samples .now) (a .cells .now) (a .law) (a .set) (length (a .out .now)) (s .pre .1) (m .long (omega arith)))
+    declined-as (c .refused .ensures)
+    (too-long (a .samples .now) (a .cells .now) (a .law) (a .set) (length (a .out .now)) (s .pre .1) (m .long (omega arith)))
     (a .out .now)
 
 add-if2 : tie.Need-add-if2
@@ -57,7 +58,8 @@ returns-2 c =
     let a = s .args in
     let m = t .octets-to-judge .ensures in
     let short = m .no-room (omega arith) (omega arith) in
-    declined-as (c .refused2 .ensures) (no-room (a .samples .now) (a .cells .now) (a .law) (a .set) (length (a .out .now)) (s .pre .1) (m .short (omega arith)) short)
+    declined-as (c .refused2 .ensures)
+    (no-room (a .samples .now) (a .cells .now) (a .law) (a .set) (length (a .out .now)) (s .pre .1) (m .short (omega arith)) short)
     (a .out .now)
 
 heading-of-requires : tie.Need-heading-of-requires

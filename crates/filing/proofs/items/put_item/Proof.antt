@@ -20,9 +20,12 @@ add-put-form : tie.Need-add-put-form
 add-put-form c =
     let s = c .before .before .before .before .before in
     let n = c .before .length-in in
-    omega (arith, s .good,
-    frame-end (maskOf (s .args .law)) (s .args .set) (s .args .c) (n .result) (n .ensures)
-    (s .args .samples .now) (s .args .from) (s .pre .0 .0) (omega arith) (s .pre .0 .1))
+    omega (
+      arith,
+      s .good,
+      frame-end (maskOf (s .args .law)) (s .args .set) (s .args .c) (n .result) (n .ensures)
+          (s .args .samples .now) (s .args .from) (s .pre .0 .0) (omega arith) (s .pre .0 .1),
+    )
 
 sub-put-form : tie.Need-sub-put-form
 sub-put-form c = search needs
@@ -60,9 +63,12 @@ put-lost-requires : tie.Need-put-lost-requires
 put-lost-requires c κs =
     let s = c .before .before .before .before .before .before .before in
     let n = c .before .before .before .length-in in
-    omega (arith, s .pre .1 .1,
-    ap length (item-lost (maskOf (s .args .law)) (s .args .set) (s .args .c) (drop (s .args .from) (s .args .samples .now)) (omega arith)
-    (sym (n .ensures) ∙ c .before .if2 .taken)))
+    omega (
+      arith,
+      s .pre .1 .1,
+      ap length (item-lost (maskOf (s .args .law)) (s .args .set) (s .args .c) (drop (s .args .from) (s .args .samples .now)) (omega arith)
+          (sym (n .ensures) ∙ c .before .if2 .taken)),
+    )
 
 same-length-2 : tie.Need-same-length-2
 same-length-2 c = search needs

@@ -33,10 +33,14 @@ put-item-requires c κs =
     let l = c .before .before .before in
     let s = l .before .before .before .before .before in
     let w = l .loop .inv in
-    let g = w .going in
-    ((going-item (s .args .cells .now) (s .args .samples .now) g (omega arith), g .inside), (s .pre .1 .0,
-    write-room (s .args .cells .now) (s .args .samples .now) (maskOf (s .args .law)) (s .args .set) (s .args .out .now) (s .args .at)
-    w (s .pre .1 .1) (omega arith)))
+    let g = w .going in (
+      (going-item (s .args .cells .now) (s .args .samples .now) g (omega arith), g .inside),
+      (
+        s .pre .1 .0,
+        write-room (s .args .cells .now) (s .args .samples .now) (maskOf (s .args .law)) (s .args .set) (s .args .out .now) (s .args .at)
+            w (s .pre .1 .1) (omega arith),
+      ),
+    )
 
 samples-in-requires : tie.Need-samples-in-requires Inv-loop μ-loop
 samples-in-requires c κs = search needs

@@ -2,7 +2,7 @@ use borrow.Author.Needs.{needs}
 use Prim.Native.Nat.{_-_}
 use native.Mathlib.Omega.{arith}
 use lib.ListN.{length}
-use Rattle.filing.proofs.Way.{going-item, going-on, Measuring, measure-start, measure-turn, measure-done}
+use Rattle.filing.proofs.Way.{going-item, going-on, Measuring, measure-start, measure-turn, measure-done, measure-long}
 use Rattle.filing.proofs.sizes.all_octets.Statement.{statement}
 use Rattle.filing.proofs.sizes.all_octets.Tie as tie
 use Rattle.filing.proofs.sizes.all_octets.Reads as reads
@@ -22,7 +22,10 @@ loop-holds c =
     measure-start (s .args .cells .now) (s .args .samples .now) (s .args .mask) (s .args .set) (s .pre .0)
 
 returns : tie.Need-returns Inv-loop μ-loop
-returns c = search needs
+returns c =
+    let l = c .before .before in
+    let a = l .before .before .before .before .args in
+    measure-long (a .cells .now) (a .samples .now) (a .mask) (a .set) (l .loop .inv) (omega arith)
 
 mul-c : tie.Need-mul-c Inv-loop μ-loop
 mul-c c = search needs

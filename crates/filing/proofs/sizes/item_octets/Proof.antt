@@ -17,9 +17,12 @@ add-form-octets : tie.Need-add-form-octets
 add-form-octets c =
     let s = c .before .before .before .before in
     let n = c .before .length-in in
-    omega (arith, s .good,
-    frame-end (s .args .mask) (s .args .set) (s .args .c) (n .result) (n .ensures)
-    (s .args .samples .now) (s .args .from) (s .pre .0 .0) (omega arith) (s .pre .0 .1))
+    omega (
+      arith,
+      s .good,
+      frame-end (s .args .mask) (s .args .set) (s .args .c) (n .result) (n .ensures)
+          (s .args .samples .now) (s .args .from) (s .pre .0 .0) (omega arith) (s .pre .0 .1),
+    )
 
 sub-form-octets : tie.Need-sub-form-octets
 sub-form-octets c = search needs
@@ -37,9 +40,11 @@ part-form-octets-end c =
 form-octets-requires : tie.Need-form-octets-requires
 form-octets-requires c κs =
     let s = c .before .before .before .before .before in
-    let n = c .before .before .length-in in
-    (frame-for (s .args .mask) (s .args .set) (s .args .c) (n .result) (n .ensures)
-    (s .args .samples .now) (s .args .from) (s .pre .0 .0) (omega arith) .six, s .pre .1 .0)
+    let n = c .before .before .length-in in (
+      frame-for (s .args .mask) (s .args .set) (s .args .c) (n .result) (n .ensures)
+          (s .args .samples .now) (s .args .from) (s .pre .0 .0) (omega arith) .six,
+      s .pre .1 .0,
+    )
 
 returns : tie.Need-returns
 returns c =

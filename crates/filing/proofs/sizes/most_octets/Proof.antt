@@ -42,7 +42,8 @@ loop-less c = search needs
 loop-again : tie.Need-loop-again Inv-loop μ-loop
 loop-again c =
     let n = c .item-most .ensures in
-    count-turn (c .before .before .before .before .before .before .args .cells .now) (c .before .before .before .before .loop .inv) (omega arith) (omega arith) (n .0) (n .1)
+    let l = c .before .before .before .before in
+    count-turn (l .before .before .args .cells .now) (l .loop .inv) (omega arith) (omega arith) (n .0) (n .1)
 
 returns-2 : tie.Need-returns-2 Inv-loop μ-loop
 returns-2 c = count-done (c .before .before .before .args .cells .now) (c .before .loop .inv) (omega arith)

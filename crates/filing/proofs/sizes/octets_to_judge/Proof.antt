@@ -35,7 +35,9 @@ all-octets-requires c κs =
     (s .pre .0 .0, (rw mask (is-mask (s .args .law)), rw mask (s .pre .1)))
 
 returns-2 : tie.Need-returns-2
-returns-2 c = measured-settles (c .before .before .before .before .before .before .before .args .room) (rw (c .before .mask-of .ensures) at (c .all-octets .ensures))
+returns-2 c =
+    let s = c .before .before .before .before .before .before .before in
+    measured-settles (s .args .room) (rw (c .before .mask-of .ensures) at (c .all-octets .ensures))
 
 pub octets-to-judge-spec : {M : Type 1} → statement M
 octets-to-judge-spec =
