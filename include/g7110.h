@@ -1,6 +1,6 @@
 /* g7110.h: G.711.0 frames of the seven carried tools, read, written and walked; frames of samples to linear values and back;
  * why a frame takes its tool; a box's settings, saved and put back; a damaged greeting, mended; a store of greetings that
- * fills its gaps. This header is also the manual.
+ * fills its gaps; recordings from studios, read and written. This header is also the manual.
  *
  * Every answer below is proved equal to the project's definitions of documents 01 and 02 and of 001's section 6.8, for all inputs.
  *
@@ -38,6 +38,7 @@
  *       each greeting. g7110_store_save writes them; g7110_store_load takes its text and that of version 7. A program that was
  *       compiled for an earlier version must be compiled again. A table's numbers of version 7 are refused with G7110_TABLE: load
  *       what was saved of it.
+ *   8   g7110_file_read and g7110_file_write.
  *   7   the calls over a store of greetings.
  *   6   g7110_mend.
  *   5   g7110_why.
@@ -49,15 +50,15 @@
  *   1   the first.
  *
  * BUFFERS
- *   A pointer comes with its length, in octets, or in values where it points to int16_t or uint32_t. A length of 0 may come
- *   with any pointer, NULL too. A pointer to int16_t or uint32_t is aligned as such a pointer must be.
+ *   A pointer comes with its length, in octets, or in values where it points to int16_t, uint16_t or uint32_t. A length of 0 may
+ *   come with any pointer, NULL too. A pointer to one of these is aligned as such a pointer must be.
  *   Lent buffers must not overlap: not input and output, not output and report.
  *   The calls use no heap, no global state and no lock: they may be called from several threads at once, each with its own buffers.
  *
  * STACK
  *   A call uses at most G7110_STACK octets of stack, what it calls included. That is measured, not proved: tests/c/stack.c
- *   makes each call on frames of every kind, on few and many settings and on few and many greetings; the tests hold what it
- *   finds against this figure.
+ *   makes each call on frames of every kind, on few and many settings and on few and many greetings, and on files with losses;
+ *   the tests hold what it finds against this figure.
  *
  * WHY
  *   g7110_why tells why g7110_write takes the tool that it takes. Its text is eight lines, each ended by octet 0A: tools 1 to 7 in
@@ -128,12 +129,38 @@
  *     if (g7110_store_get(block, block_len, table, cells, 7, got) != G7110_OK) return 1;
  *     // its octets are the got[1] octets from block + got[0] on
  *
+ * RECORDINGS
+ *   Studios send the G.711.0 storage file of RFC 7655. It is a heading and then items one after another, at most G7110_MAX_STREAM
+ *   octets of them. The RFC was not at hand: the heading and the marks of a loss are as they are remembered (docs/DECISIONS.md).
+ *   The heading is ten octets: "#!G7110A" or "#!G7110M" (A-law, mu-law), octet 0A, and the version, 00. The law comes from it.
+ *   An item is a frame or a loss. A loss is a lost frame. It is handed on as lost, never as sound, and two marks stand for it:
+ *     an erasure frame   an ordinary frame of 40 samples or more, by any tool, whose samples are all 0++ or all 0--, the second
+ *                        levels from zero (FE or 7E of mu-law, D4 or 54 of A-law). It is a loss of as many samples.
+ *     the octet 01       a loss whose length is not known. g7110_walk refuses it with G7110_PREFIX.
+ *   In a list of items, each of 16 bits, a frame is its number of samples, 0 for a pad; a loss is G7110_LOSS plus its length, or
+ *   G7110_LOSS alone where that is not known. The samples beside the list are those of the frames, one after another; a loss
+ *   has none there.
+ *   What is written reads back as the same list, by every reader whose set holds the writer's, save that a frame given whose
+ *   samples are all 0++ or all 0-- is an erasure frame, and reads back as a loss of its length.
+ *   A refused g7110_file_read keeps the items before the refused one, as a walk does: they stand in out and items and are
+ *   counted. A refused g7110_file_write writes nothing and reports 0.
+ *   To play a recording, and to hear of each loss:
+ *
+ *     uint64_t told[6];
+ *     uint32_t end = g7110_file_read(file, file_len, G7110_ALL_TOOLS, out, out_len, items, items_len, told);
+ *     for (size_t at = 0, from = 0; at < told[1]; at++) {
+ *         if (items[at] >= G7110_LOSS) lost(items[at] - G7110_LOSS); // samples lost, 0 if that is not known
+ *         else play(out + from, items[at]), from += items[at];
+ *     }
+ *
  * ROOM
  *   The output's length is the room. Reading needs the frame's samples (G7110_MAX_SAMPLES are always enough), writing the
  *   form's octets (G7110_MAX_WRITTEN are always enough), walking the samples of all frames together.
  *
  *   Converting needs as many values as the frame has samples. Mending needs the result's octets (G7110_MAX_STREAM are always
- *   enough).
+ *   enough). Reading a file needs the samples of its frames, and an erasure frame's while it is read, and a place in items for each
+ *   item (as many as octets behind the heading are always enough); writing one the heading and all items' octets (G7110_MAX_FILE
+ *   are always enough).
  *
  * LINEAR VALUES
  *   They are in the scale of 001's section 6.8, not of 16 bits: A-law has 13 bits, -4096 to 4095, mu-law 14, -8159 to 8158.
@@ -202,6 +229,9 @@ extern "C" {
 #define G7110_MAX_NUMBER 65535 /* the greatest number of a greeting */
 #define G7110_MAX_CELLS 770    /* numbers of the table of the largest block */
 #define G7110_MAX_TABLE 7392   /* octets of the text of a table that calls left */
+#define G7110_HEADING 10       /* octets of a file's heading */
+#define G7110_MAX_FILE 65545   /* octets of a file, its heading too */
+#define G7110_LOSS 32768       /* what is added to a loss's length in a list of items */
 
 /* The refusals, by number. */
 enum {
@@ -209,16 +239,17 @@ enum {
     G7110_SHORT = 1,   /* octets end before the frame does; also one frame asked of no octets */
     G7110_PREFIX = 2,  /* first octet not assigned */
     G7110_TOOL = 3,    /* the tool is 8 to 13, or 1 to 7 and not in the set; the number is given */
-    G7110_ROOM = 4,    /* output has fewer octets left than the frame needs */
+    G7110_ROOM = 4,    /* output has fewer octets left than the frame needs; no place left in the list of items */
     G7110_CASE = 5,    /* range case or flag not allowed */
     G7110_METHOD = 6,  /* method 110 */
     G7110_RUN = 7,     /* run longer than the places left */
     G7110_PLACE = 8,   /* listed place not below D or not rising; also where no place is left to list (D = 0) */
     G7110_ALIGN = 9,   /* a filling bit isn't 0 */
-    G7110_LENGTH = 10, /* writer or conversion given other than 0, 40, 80, 160, 240, 320 samples */
+    G7110_LENGTH = 10, /* writer or conversion given other than 0, 40, 80, 160, 240, 320 samples; a list of items that is none */
     G7110_SET = 11,    /* set above 127, or even for a writer */
     G7110_LAW = 12,    /* law above 1 */
-    G7110_LONG = 13,   /* walk given more than 65,535 octets */
+    G7110_LONG = 13,   /* walk given more than 65,535 octets; a file with more behind its heading */
+    G7110_HEAD = 14,   /* the first ten octets of a file are no heading: another letter or version, or fewer octets */
     G7110_NUMBER = 15, /* a greeting's number is 0 or above 65,535 */
     G7110_TAKEN = 16,  /* put: a greeting has the number */
     G7110_ABSENT = 17, /* get, delete: no greeting has the number */
@@ -312,6 +343,21 @@ uint32_t g7110_store_save(const uint8_t *block, size_t block_len, const uint32_t
  * docs/STORE.md says what to write first. */
 uint32_t g7110_store_load(const uint8_t *text, size_t text_len, const uint8_t *block, size_t block_len,
                           uint32_t *table, size_t table_len);
+
+/* Reads a recording. The samples of its frames stand at the start of out, its items at the start of items (items_len counts them);
+ * the rest stays as lent. Refusals, in order: G7110_SET, G7110_HEAD, G7110_LONG (octets behind the heading); then item by item
+ * G7110_ROOM where items has no place left, before the item is looked at, and those of g7110_read. report: law, items, octets
+ * behind the heading (also the place of a refused item), samples, tool, bit (of the refused item, counted from its start).
+ * G7110_SET and G7110_HEAD report zeros, G7110_LONG the law and zeros. */
+uint32_t g7110_file_read(const uint8_t *octets, size_t octets_len, uint32_t set, uint8_t *out, size_t out_len,
+                         uint16_t *items, size_t items_len, uint64_t report[6]);
+
+/* Writes a recording of items_len items, whose frames' samples are given one after another. Each frame is written as g7110_write
+ * writes it, a loss of N samples as N times 0++, one whose length is not known as the octet 01. Refusals, in order: G7110_LAW,
+ * G7110_SET, G7110_LENGTH (an item that is none; samples left over or missing), G7110_LONG (octets behind the heading),
+ * G7110_ROOM (heading and all). report: octets of the file. */
+uint32_t g7110_file_write(const uint8_t *samples, size_t samples_len, const uint16_t *items, size_t items_len,
+                          uint32_t law, uint32_t set, uint8_t *out, size_t out_len, uint64_t report[1]);
 
 #ifdef __cplusplus
 }

@@ -171,6 +171,34 @@ pub fn second_mend(octets: &[u8], law: u32, total: u64, out: &mut [u8]) -> u32 {
     black_box(second::mend::mend(octets, law, total, out)).err().unwrap_or(0)
 }
 
+#[inline(never)]
+pub fn proved_file_read(octets: &[u8], set: u32, out: &mut [u8], items: &mut [u16]) -> u32 {
+    let mut report = [0; 6];
+    let ending = g7110::raw::file_read(octets, set, out, items, &mut report);
+    black_box(&report);
+    ending
+}
+
+#[inline(never)]
+pub fn second_file_read(octets: &[u8], set: u32, out: &mut [u8], items: &mut [u16]) -> u32 {
+    black_box(second::recording::read_file(octets, set, out, items)).ending
+}
+
+#[cfg(feature = "writer")]
+#[inline(never)]
+pub fn proved_file_write(samples: &[u8], items: &[u16], law: u32, set: u32, out: &mut [u8]) -> u32 {
+    let mut report = [0];
+    let ending = g7110::raw::file_write(samples, items, law, set, out, &mut report);
+    black_box(&report);
+    ending
+}
+
+#[cfg(feature = "writer")]
+#[inline(never)]
+pub fn second_file_write(samples: &[u8], items: &[u16], law: u32, set: u32, out: &mut [u8]) -> u32 {
+    black_box(second::recording::write_file(samples, items, law, set, out)).err().unwrap_or(0)
+}
+
 #[cfg(feature = "writer")]
 #[inline(never)]
 pub fn proved_why(samples: &[u8], law: u32, set: u32, text: &mut [u8; g7110::WHY_TEXT]) -> u32 {

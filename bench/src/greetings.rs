@@ -1,4 +1,4 @@
-//! The greetings that are put, mended and walked: streams of one kind.
+//! The greetings that are put, mended, recorded and walked: streams of one kind.
 
 use crate::frames::{by_kind, recordings, Batch};
 use crate::{table, written};
@@ -15,7 +15,7 @@ pub struct Greeting {
 }
 
 impl Greeting {
-    fn of(name: &str, law: u32, octets: Vec<u8>) -> Greeting {
+    pub fn of(name: &str, law: u32, octets: Vec<u8>) -> Greeting {
         let mut out = vec![0; 320 * octets.len()];
         let walked = second::walk(&octets, law, crate::SET, &mut out);
         assert_eq!(walked.ending, 0);

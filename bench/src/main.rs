@@ -12,6 +12,8 @@ mod jumps;
 mod mended;
 #[cfg(feature = "writer")]
 mod reasons;
+#[cfg(feature = "writer")]
+mod recorded;
 mod store;
 mod time;
 
@@ -249,12 +251,14 @@ const PARTS: &[(&str, fn())] = &[
     ("mend", mended::tables),
     #[cfg(feature = "writer")]
     ("why", reasons::tables),
+    #[cfg(feature = "writer")]
+    ("file", recorded::tables),
 ];
 
 fn main() {
     let asked: Vec<String> = std::env::args().skip(1).collect();
     if let Some(word) = asked.iter().find(|word| PARTS.iter().all(|(name, _)| name != word)) {
-        eprintln!("There is no part {word}: frames, linear, store, mend, why.");
+        eprintln!("There is no part {word}: frames, linear, store, mend, why, file.");
         std::process::exit(1);
     }
     println!("Best of several turns; ns a frame. Speed to second: the second program's time over the proved code's.");

@@ -137,6 +137,30 @@ static int settings(void)
     return 0;
 }
 
+/* A recording from a studio: a frame, a loss of 80 samples, a loss of unknown length. It reads back as the same list. */
+static int recording(const uint8_t *samples)
+{
+    static const uint16_t given[3] = {160, G7110_LOSS + 80, G7110_LOSS};
+    uint8_t file[400], out[400];
+    uint16_t items[4] = {9, 9, 9, 9};
+    uint64_t wrote[1], told[6];
+    CHECK(g7110_file_write(samples, 160, given, 3, 1, G7110_ALL_TOOLS, file, sizeof file, wrote) == G7110_OK);
+    CHECK(memcmp(file, "#!G7110M\n", G7110_HEADING) == 0 && file[wrote[0] - 1] == 0x01);
+    memset(out, 0xA7, sizeof out);
+    CHECK(g7110_file_read(file, (size_t)wrote[0], G7110_ALL_TOOLS, out, sizeof out, items, 4, told) == G7110_OK);
+    CHECK(told[0] == 1 && told[1] == 3 && told[2] == wrote[0] - G7110_HEADING && told[3] == 160);
+    CHECK(told[4] == 0 && told[5] == 0);
+    CHECK(memcmp(items, given, sizeof given) == 0 && items[3] == 9);
+    CHECK(memcmp(out, samples, 160) == 0 && out[160] == 0xA7);
+    file[7] = 'm';
+    CHECK(g7110_file_read(file, (size_t)wrote[0], G7110_ALL_TOOLS, out, sizeof out, items, 4, told) == G7110_HEAD);
+    CHECK(told[0] == 0 && told[1] == 0 && told[2] == 0 && told[3] == 0);
+    CHECK(g7110_file_read(NULL, 0, G7110_ALL_TOOLS, NULL, 0, NULL, 0, told) == G7110_HEAD);
+    CHECK(g7110_file_write(samples, 159, given, 3, 1, G7110_ALL_TOOLS, file, sizeof file, wrote) == G7110_LENGTH);
+    CHECK(g7110_file_write(NULL, 0, NULL, 0, 0, 1, NULL, 0, wrote) == G7110_ROOM && wrote[0] == 0);
+    return 0;
+}
+
 /* A store: greetings put with their law, saved with their marks and loaded; and the lines of an early box, which are of law 1. */
 static int store(void)
 {
@@ -171,7 +195,7 @@ int main(void)
     size_t at;
     for (at = 0; at < sizeof samples; at++) samples[at] = at % 20 == 0 ? 0xFE : 0xFF;
     if (keep_and_get_back(samples) || nothing_lent() || walk_and_stop() || refused()) return 1;
-    if (to_linear_and_back(samples) || settings() || store()) return 1;
+    if (to_linear_and_back(samples) || settings() || recording(samples) || store()) return 1;
     printf("ok\n");
     return 0;
 }

@@ -12,14 +12,14 @@ enum { STACK = 1 << 20, PAINT = 0xC5, STREAM = 4000 };
 
 /* Kinds of call, none among them. With JUMP the header has g7110_store_jump. */
 #ifdef JUMP
-enum { CALLS = 18 };
+enum { CALLS = 20 };
 #else
-enum { CALLS = 17 };
+enum { CALLS = 19 };
 #endif
 
 struct call {
     int which; /* 0 none, 1 read, 2 write, 3 walk, 4 to linear values, 5 from them; of settings 6 save, 7 back, 8 read, 9 wipe;
-                * 10 why; of a store 11 put, 12 get, 13 delete, 14 save, 15 load; 16 mend; 17 jump */
+                * 10 why; of a store 11 put, 12 get, 13 delete, 14 save, 15 load; 16 mend; of a file 17 read, 18 write; 19 jump */
     const uint8_t *given;
     size_t length;
 };
@@ -30,11 +30,13 @@ static uint32_t state[G7110_SETTINGS];
 static uint8_t block[G7110_MAX_BLOCK];
 static uint32_t table[G7110_MAX_CELLS];
 static uint32_t number;
+static uint16_t items[STREAM];
+static size_t listed;
 
 static void *make(void *argument)
 {
     const struct call *call = argument;
-    uint64_t report[5];
+    uint64_t report[6];
     if (call->which == 1) g7110_read(call->given, call->length, 1, G7110_ALL_TOOLS, out, sizeof out, report);
     if (call->which == 2) g7110_write(call->given, call->length, 1, G7110_ALL_TOOLS, out, sizeof out, report);
     if (call->which == 3) g7110_walk(call->given, call->length, 1, G7110_ALL_TOOLS, out, sizeof out, report);
@@ -51,8 +53,10 @@ static void *make(void *argument)
     if (call->which == 14) g7110_store_save(block, sizeof block, table, sizeof table / sizeof *table, out, sizeof out, report);
     if (call->which == 15) g7110_store_load(call->given, call->length, block, sizeof block, table, sizeof table / sizeof *table);
     if (call->which == 16) g7110_mend(call->given, call->length, 1, 40000, out, sizeof out, report);
+    if (call->which == 17) g7110_file_read(call->given, call->length, G7110_ALL_TOOLS, out, sizeof out, items, STREAM, report);
+    if (call->which == 18) g7110_file_write(call->given, call->length, items, listed, 1, G7110_ALL_TOOLS, out, sizeof out, report);
 #ifdef JUMP
-    if (call->which == 17) g7110_store_jump(block, sizeof block, table, sizeof table / sizeof *table, number, call->length, report);
+    if (call->which == 19) g7110_store_jump(block, sizeof block, table, sizeof table / sizeof *table, number, call->length, report);
 #endif
     return NULL;
 }
@@ -76,7 +80,7 @@ static size_t used(struct call call)
     return STACK - low;
 }
 
-static size_t greatest[18];
+static size_t greatest[20];
 
 static void measure(int which, const uint8_t *given, size_t length)
 {
@@ -141,19 +145,38 @@ static void store(const uint8_t *stream, size_t length)
     for (number = 1; number <= 41; number++) measure(12, NULL, 0);
     /* Into frames of every kind; and from marks, up to 64 frames, in the last greeting, and past its end. */
     for (number = 1; number <= 7; number += 2)
-        for (sample = 0; sample < 2560; sample += 320) measure(17, NULL, sample);
-    for (number = 41, sample = 0; sample <= 240000; sample += 23960) measure(17, NULL, sample);
+        for (sample = 0; sample < 2560; sample += 320) measure(19, NULL, sample);
+    for (number = 41, sample = 0; sample <= 240000; sample += 23960) measure(19, NULL, sample);
     measure(14, NULL, 0);
     if (g7110_store_save(block, sizeof block, table, sizeof table / sizeof *table, text, sizeof text, saved) != G7110_OK) return;
     measure(15, text, (size_t)saved[0]);
 }
 
+/* Both calls over a file: one of every kind of frame and of losses, written, read, and read where its last frame is cut. */
+static void files(void)
+{
+    static const uint16_t losses[4] = {G7110_LOSS, G7110_LOSS + 320, 0, G7110_LOSS + 40};
+    static uint8_t samples[8 * 320], file[STREAM];
+    uint64_t wrote[1];
+    int kind;
+    for (kind = 0; kind < 8; kind++) {
+        frame(samples + 320 * kind, kind);
+        items[listed++] = losses[kind % 4];
+        items[listed++] = 320;
+    }
+    measure(18, samples, sizeof samples);
+    if (g7110_file_write(samples, sizeof samples, items, listed, 1, G7110_ALL_TOOLS, file, sizeof file, wrote) != G7110_OK) exit(2);
+    measure(17, file, (size_t)wrote[0]);
+    measure(17, file, (size_t)wrote[0] - 1);
+}
+
 int main(void)
 {
-    static const char *const names[18] = {"",            "read",          "write",         "walk",          "to_linear",
+    static const char *const names[20] = {"",            "read",          "write",         "walk",          "to_linear",
                                           "from_linear", "settings_save", "settings_back", "settings_read", "settings_wipe",
                                           "why",         "store_put",     "store_get",     "store_delete",  "store_save",
-                                          "store_load",  "mend",          "store_jump"};
+                                          "store_load",  "mend",          "file_read",     "file_write",
+                                          "store_jump"};
     uint8_t samples[320], form[G7110_MAX_WRITTEN], stream[STREAM];
     uint64_t wrote[3];
     size_t length = 0;
@@ -180,6 +203,7 @@ int main(void)
     measure(16, stream, length);
     measure(16, stream, length - 1);
     store(stream, length);
+    files();
     for (kind = 1; kind < CALLS; kind++) printf("stack: g7110_%s %lu octets\n", names[kind], over(kind));
     return 0;
 }

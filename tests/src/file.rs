@@ -6,51 +6,6 @@ use crate::measure::numbers;
 use crate::{octets, Codec, Proved, Second, ENDINGS};
 use second::gen::{sample_of, Prng};
 
-/// The calls of include/g7110.h.
-mod raw {
-    #![allow(unsafe_code)]
-
-    extern "C" {
-        fn g7110_file_read(
-            octets: *const u8,
-            octets_len: usize,
-            set: u32,
-            out: *mut u8,
-            out_len: usize,
-            items: *mut u16,
-            items_len: usize,
-            report: *mut [u64; 6],
-        ) -> u32;
-        fn g7110_file_write(
-            samples: *const u8,
-            samples_len: usize,
-            items: *const u16,
-            items_len: usize,
-            law: u32,
-            set: u32,
-            out: *mut u8,
-            out_len: usize,
-            report: *mut [u64; 1],
-        ) -> u32;
-    }
-
-    /// The ending; the report is law, items, octets behind the heading, samples, tool and the refusal's bit.
-    pub fn read(octets: &[u8], set: u32, out: &mut [u8], items: &mut [u16], report: &mut [u64; 6]) -> u32 {
-        let (out, out_len, items, items_len) = (out.as_mut_ptr(), out.len(), items.as_mut_ptr(), items.len());
-        // SAFETY: all slices and the report are live for the call, and the borrows keep them apart.
-        unsafe { g7110_file_read(octets.as_ptr(), octets.len(), set, out, out_len, items, items_len, report) }
-    }
-
-    /// The ending; the report is the octets of the file.
-    pub fn write(samples: &[u8], items: &[u16], law: u32, set: u32, out: &mut [u8], report: &mut [u64; 1]) -> u32 {
-        let (samples, samples_len, items, items_len) = (samples.as_ptr(), samples.len(), items.as_ptr(), items.len());
-        // SAFETY: as in `read`.
-        unsafe {
-            g7110_file_write(samples, samples_len, items, items_len, law, set, out.as_mut_ptr(), out.len(), report)
-        }
-    }
-}
-
 pub const ROOM: u32 = 4;
 pub const LENGTH: u32 = 10;
 pub const SET: u32 = 11;
@@ -131,14 +86,14 @@ impl Files for Second {
 impl Files for Proved {
     fn read_file(&self, octets: &[u8], set: u32, out: &mut [u8], items: &mut [u16]) -> Read {
         let mut report = [u64::MAX; 6];
-        let ending = raw::read(octets, set, out, items, &mut report);
+        let ending = g7110::raw::file_read(octets, set, out, items, &mut report);
         let [law, items, octets, samples, tool, bit] = report.map(|number| number as usize);
         Read { ending, law: law as u32, items, octets, samples, tool: tool as u32, bit }
     }
 
     fn write_file(&self, samples: &[u8], items: &[u16], law: u32, set: u32, out: &mut [u8]) -> Write {
         let mut report = [u64::MAX];
-        let ending = raw::write(samples, items, law, set, out, &mut report);
+        let ending = g7110::raw::file_write(samples, items, law, set, out, &mut report);
         Write { ending, octets: report[0] as usize }
     }
 }

@@ -1,13 +1,13 @@
 //! Fuzzing of the calls of document 02. Their inputs are drawn from a generator of their own, and from the octets that
 //! [`crate::fuzz`] has drawn and changed: with them or without, those inputs are the same.
 
+use crate::file::{file, Filed, LOSS, LOST};
 use crate::forms::LENGTHS;
 use crate::mend::Menders;
 use crate::store::{early_text_of, Call, Stores, BLOCK, SAVED};
 use crate::why::Reasons;
 use crate::{Proved, Second};
-use second::gen::damage_somehow;
-use second::gen::{all_kinds, make_frame, Kind, Prng};
+use second::gen::{all_kinds, damage_somehow, make_frame, sample_of, Kind, Prng};
 
 /// Of so many rounds each kind of call has one.
 const ROUNDS: usize = 20;
@@ -19,6 +19,7 @@ pub struct Further {
     reasons: Reasons<'static>,
     menders: Menders<'static>,
     stores: Stores<'static>,
+    files: Filed<'static>,
 }
 
 impl Further {
@@ -30,6 +31,7 @@ impl Further {
             reasons: Reasons::new(&Proved, &Second),
             menders: Menders::new(&Proved, &Second),
             stores: Stores::new(&Proved, vec![0; BLOCK]),
+            files: Filed::new(&Proved, &Second),
         }
     }
 
@@ -39,17 +41,19 @@ impl Further {
             0 => self.explain(),
             1 => self.mend(pool),
             2 => self.keep(pool),
+            3 => self.record(pool),
             _ => {}
         }
     }
 
     pub fn differences(&self) -> usize {
-        let all = [self.reasons.differences, self.menders.differences, self.stores.differences];
-        all.iter().sum()
+        let all =
+            [&self.reasons.differences, &self.menders.differences, &self.stores.differences, &self.files.differences];
+        all.into_iter().sum()
     }
 
     pub fn shown(&self) -> Vec<String> {
-        let all = [self.reasons.shown(), self.menders.shown(), self.stores.shown()];
+        let all = [self.reasons.shown(), self.menders.shown(), self.stores.shown(), self.files.shown()];
         all.concat()
     }
 
@@ -59,6 +63,7 @@ impl Further {
             format!("{} frames explained", self.reasons.calls),
             format!("{} greetings mended", self.menders.calls),
             format!("{} calls of a store", self.stores.calls),
+            format!("{} files written or read", self.files.calls),
         ];
         all.join(", ")
     }
@@ -151,6 +156,57 @@ impl Further {
                 self.stores.renew(vec![0; BLOCK]);
             }
         }
+    }
+
+    /// A recording that was written, or octets of the pool and marks behind a heading, read; damaged now and then.
+    fn record(&mut self, pool: &[Vec<u8>]) {
+        let law = self.law();
+        let mut octets = if self.rng.flip() {
+            self.written(law)
+        } else {
+            let mut body = Vec::new();
+            for _ in 0..self.rng.below(6) {
+                body.extend(if self.rng.chance(1, 4) { vec![LOST] } else { self.rng.pick(pool).clone() });
+            }
+            file(law.min(1), &body)
+        };
+        if !octets.is_empty() && self.rng.chance(1, 4) {
+            octets = damage_somehow(&octets, &mut self.rng);
+        }
+        let set = if self.rng.chance(1, 3) { self.rng.below(130) as u32 } else { self.set() };
+        let room = if self.rng.chance(1, 6) { self.rng.below(600) } else { 320 * octets.len() };
+        let places = if self.rng.chance(1, 6) { self.rng.below(8) } else { octets.len() };
+        self.files.held(&octets, set, room, places);
+    }
+
+    /// The file of a drawn list of frames, pads and losses; none where it is refused.
+    fn written(&mut self, law: u32) -> Vec<u8> {
+        let (mut items, mut samples) = (Vec::new(), Vec::new());
+        for _ in 0..self.rng.below(6) {
+            let mut frame = self.frame(law);
+            match self.rng.below(8) {
+                0 => items.push(0),
+                1 => items.push(LOSS),
+                2 => items.push(LOSS + frame.len() as u16),
+                turn => {
+                    if turn == 3 {
+                        let second = *self.rng.pick(&[1, -2]);
+                        frame.fill(sample_of(second, law.min(1)));
+                    }
+                    items.push(frame.len() as u16);
+                    samples.extend(frame);
+                }
+            }
+        }
+        if self.rng.chance(1, 20) {
+            items.push(self.rng.next_u64() as u16);
+        }
+        if self.rng.chance(1, 20) {
+            samples.truncate(self.rng.below(samples.len() + 1));
+        }
+        let (set, room) = (self.set(), if self.rng.chance(1, 6) { self.rng.below(400) } else { 2_000 });
+        self.files.write(&samples, &items, law, set, room);
+        self.files.out.clone()
     }
 
     /// The lines of the store as it is; now and then those of R-6 alone.

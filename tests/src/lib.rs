@@ -4,7 +4,7 @@
 //! A [`Pair`] asks two back ends the same. [`forms`], [`faults`], [`frames`] and [`streams`] make what they are asked,
 //! and a [`Table`] counts what was met. [`settings`] does the same for a box's settings, [`why`] for the lines that say why a
 //! tool was taken, [`mend`] for a greeting that is mended, [`store`] for the
-//! greetings of a box; `file` is for the files of studios, with the feature `recording`.
+//! greetings of a box, [`file`] for the recordings of studios.
 
 #![deny(unsafe_code)]
 
@@ -12,7 +12,6 @@ mod codec;
 mod compare;
 pub mod docs;
 pub mod faults;
-#[cfg(feature = "recording")]
 pub mod file;
 pub mod forms;
 pub mod frames;

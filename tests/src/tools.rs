@@ -9,9 +9,11 @@ use std::process::Command;
 
 /// Octets of the longest stream.
 pub const MOST: usize = 65_535;
-/// How a tool ends that was called wrongly, that found another sound than the master's, and that had trouble with a file.
+/// How a tool ends that was called wrongly, that found another sound than the master's, that found losses, and that had
+/// trouble with a file.
 pub const USAGE: u32 = 64;
 pub const DIFFERS: u32 = 65;
+pub const LOST: u32 = 66;
 pub const FILES: u32 = 74;
 
 /// The last line: `stop=N at=P tool=T`, and of `unpack` and `mend` ` bit=B` behind it.

@@ -1,9 +1,6 @@
 //! The storage file of studios (document 02, R-1): the proved code, through the static library, against the second program,
 //! and both against the frames of a file as the proved reader and writer have them one by one.
 
-// The archive has no calls of R-1 yet: this is compiled once it has them.
-#![cfg(feature = "recording")]
-
 use second::gen::{all_kinds, damage_somehow, make_frame, sample_of, Kind, Prng};
 use tests::file::{
     erased, file, heading, script, Filed, Files, Holds, Line, Read, Write, HEAD, LAW, LENGTH, LONG, LOSS, LOST, MOST,
@@ -286,38 +283,58 @@ fn beside_the_walk(filed: &mut Filed, octets: &[u8], law: u32, set: u32) {
     }
 }
 
-/// The recordings written as files with frames taken out, in each length of frame, and read back.
+/// Where frames of a recording are lost; in each some are lost besides.
+const GAPS: [&str; 4] = ["first", "last", "in rows", "here and there"];
+
+/// How many frames are lost from this one on, of so many; 0 where it is not lost.
+fn lost(gap: &str, at: usize, frames: usize, rng: &mut Prng) -> usize {
+    match gap {
+        "first" if at == 0 => 1 + rng.below(3),
+        "last" if at + 1 == frames => 1,
+        "in rows" if rng.chance(1, 20) => 2 + rng.below(6),
+        _ => usize::from(rng.chance(1, 12)),
+    }
+}
+
+/// The recordings written as files with frames taken out, in each length of frame, kept on disk, and read back.
 #[test]
 fn recordings_with_losses() {
     let mut filed = Filed::new(&Proved, &Second);
     let mut rng = Prng::new(14);
-    let (mut files, mut frames, mut losses) = (0, 0, 0);
+    let mut table = Table::new("file, recordings by lost frames and length", &GAPS, &LENGTHS, 12);
+    let path = std::path::Path::new(env!("CARGO_TARGET_TMPDIR")).join("recording");
+    let (mut frames, mut losses) = (0, 0);
     for recording in recordings() {
-        for length in LENGTHS {
+        for (gap, length) in GAPS.iter().flat_map(|gap| LENGTHS.map(|length| (*gap, length))) {
             let most = 1_000 * length.min(40);
             let sound = &recording.sound[..recording.sound.len().min(most)];
-            let (mut items, mut samples, mut at) = (Vec::new(), Vec::new(), 0);
-            for cut in cuts(sound.len(), length).0 {
-                match rng.below(12) {
-                    0 => items.push(LOSS + cut as u16),
-                    1 => items.push(LOSS),
-                    _ => {
-                        items.push(cut as u16);
-                        samples.extend(&sound[at..at + cut]);
-                        frames += 1;
-                    }
+            let cuts = cuts(sound.len(), length).0;
+            let (mut items, mut samples, mut at, mut missing) = (Vec::new(), Vec::new(), 0, 0);
+            for (turn, cut) in cuts.iter().copied().enumerate() {
+                missing = if missing > 0 { missing } else { lost(gap, turn, cuts.len(), &mut rng) };
+                if missing > 0 {
+                    items.push(if rng.flip() { LOSS } else { LOSS + cut as u16 });
+                    missing -= 1;
+                } else {
+                    items.push(cut as u16);
+                    samples.extend(&sound[at..at + cut]);
+                    frames += 1;
                 }
                 at += cut;
             }
             losses += items.iter().filter(|item| **item >= LOSS).count();
-            let octets = filed.round(&samples, &items, recording.law, 127);
+            std::fs::write(&path, filed.round(&samples, &items, recording.law, 127)).unwrap();
+            let octets = std::fs::read(&path).unwrap();
+            let told = filed.held(&octets, 127, samples.len() + 320, items.len());
+            assert_eq!((told.ending, told.law, told.octets + 10), (0, recording.law, octets.len()));
             beside_the_walk(&mut filed, &octets, recording.law, 127);
-            files += 1;
+            table.add(gap, length);
         }
     }
+    table.close();
     filed.close();
-    say(&format!("compared: file, recordings: {files} files, {frames} frames, {losses} losses\n"));
-    assert!(files == 60 && losses > 3_000, "{files}, {losses}");
+    say(&format!("compared: file, recordings: {frames} frames, {losses} losses\n"));
+    assert!(losses > 9_000, "{losses}");
 }
 
 /// Files damaged in each field and in any way, with octets 01 among the frames; and octets at random behind a heading.

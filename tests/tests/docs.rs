@@ -39,7 +39,7 @@ fn small() -> Files {
 }
 
 /// What is planted: the start of the name of the check that must see it, a file, a text in it, and another for that.
-const PLANTED: [(&str, &str, &str, &str); 35] = [
+const PLANTED: [(&str, &str, &str, &str); 37] = [
     // Another statement, one that is only the start of what is proved, a field too many.
     ("statements", "docs/PROMISES.md", "n ≡ n", "n ≡ 0"),
     ("statements", "crates/promises/proofs/Back.antt", "→ n ≡ n", "→ n ≡ n → n ≡ n"),
@@ -77,6 +77,8 @@ const PLANTED: [(&str, &str, &str, &str); 35] = [
     ("limits", "include/g7110.h", "VERSION 1", "VERSION 2"),
     ("limits", "crates/rules/specs/Walk.antt", "= 65535", "= 65536"),
     ("limits", "crates/promises/proofs/Bounded.antt", "402", "403"),
+    ("limits", "crates/recording/specs/Items.antt", "= 32768", "= 32769"),
+    ("limits", "include/g7110.h", "MAX_FILE 65545", "MAX_FILE 65535"),
     ("calls", "wrapper/src/raw.rs", "[u64; 4]", "[u64; 5]"),
     // Landings without a time, and a page that names a machine.
     ("landings", "docs/LANDINGS.md", "812 s", "BEFORE s"),

@@ -1,6 +1,7 @@
 //! G.711.0 frames of the seven carried tools, read, written and walked by the proved code of libg7110.a; frames of samples
 //! converted to linear values and back; [`why`] a frame takes its tool; a box's [`settings`], saved and put back; a damaged
-//! greeting, [`mending`] it; and a [`store`] of greetings, its table [`saved`] and loaded.
+//! greeting, [`mending`] it; a [`store`] of greetings, its table [`saved`] and loaded; and a [`recording`] of a studio, whose lost
+//! frames are handed on as lost.
 //!
 //! include/g7110.h is the manual; the names here are its names. No call uses the heap.
 
@@ -10,6 +11,7 @@ pub mod mending;
 pub mod raw;
 #[cfg(feature = "writer")]
 mod reasons;
+pub mod recording;
 pub mod saved;
 pub mod settings;
 pub mod store;

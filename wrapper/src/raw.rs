@@ -83,6 +83,27 @@ extern "C" {
         block: *const u8, block_len: usize, table: *const u32, table_len: usize, number: u32, report: *mut [u64; 2],
     ) -> u32;
     fn g7110_store_delete(block: *const u8, block_len: usize, table: *mut u32, table_len: usize, number: u32) -> u32;
+    fn g7110_file_read(
+        octets: *const u8,
+        octets_len: usize,
+        set: u32,
+        out: *mut u8,
+        out_len: usize,
+        items: *mut u16,
+        items_len: usize,
+        report: *mut [u64; 6],
+    ) -> u32;
+    fn g7110_file_write(
+        samples: *const u8,
+        samples_len: usize,
+        items: *const u16,
+        items_len: usize,
+        law: u32,
+        set: u32,
+        out: *mut u8,
+        out_len: usize,
+        report: *mut [u64; 1],
+    ) -> u32;
     #[cfg(feature = "jump")]
     fn g7110_store_jump(
         block: *const u8, block_len: usize, table: *const u32, table_len: usize, number: u32, sample: u64,
@@ -197,6 +218,20 @@ pub fn store_get(block: &[u8], table: &[u32], number: u32, report: &mut [u64; 2]
 pub fn store_delete(block: &[u8], table: &mut [u32], number: u32) -> u32 {
     // SAFETY: as in `store_put`.
     unsafe { g7110_store_delete(block.as_ptr(), block.len(), table.as_mut_ptr(), table.len(), number) }
+}
+
+/// The ending; the report is law, items, octets behind the heading, samples, tool and the refusal's bit.
+pub fn file_read(octets: &[u8], set: u32, out: &mut [u8], items: &mut [u16], report: &mut [u64; 6]) -> u32 {
+    let (out, out_len, items, items_len) = (out.as_mut_ptr(), out.len(), items.as_mut_ptr(), items.len());
+    // SAFETY: as in `read`; a slice of u16 is aligned.
+    unsafe { g7110_file_read(octets.as_ptr(), octets.len(), set, out, out_len, items, items_len, report) }
+}
+
+/// The ending; the report is the octets of the file.
+pub fn file_write(samples: &[u8], items: &[u16], law: u32, set: u32, out: &mut [u8], report: &mut [u64; 1]) -> u32 {
+    let (s, s_len, i, i_len) = (samples.as_ptr(), samples.len(), items.as_ptr(), items.len());
+    // SAFETY: as in `file_read`.
+    unsafe { g7110_file_write(s, s_len, i, i_len, law, set, out.as_mut_ptr(), out.len(), report) }
 }
 
 /// The ending; the report is the frame, its place in the greeting, the sample's place in the frame and the frames read.

@@ -284,3 +284,81 @@ fn greetings_are_jumped_into() {
     assert_eq!(g7110::raw::store_jump(&block, &table, 2, 0, &mut report), Refusal::Absent.number());
     assert_eq!(report, [0; 4], "a report is written in every case");
 }
+
+/// The header's example of a recording: a frame, a loss of 80 samples, a pad, a loss of unknown length, a frame.
+#[test]
+fn a_recording_is_written_and_read() {
+    use g7110::recording::{read, write, Item, Recording, HEADING, LOSS, MAX_FILE};
+    let samples = [[PLUS; 40], [MINUS; 40]].concat();
+    let list = [40, LOSS + 80, 0, LOSS, 40];
+    let mut file = vec![0xA7; MAX_FILE];
+    let octets = write(&samples, &list, Law::Mu, ALL_TOOLS, &mut file).unwrap();
+    assert_eq!(file[..HEADING], *b"#!G7110M\n\0");
+    assert_eq!(file[HEADING..octets], [0x41, 0x83, 0xFE, 0x00, 0x01, 0x42]);
+    assert!(file[octets..].iter().all(|octet| *octet == 0xA7), "the rest stays as lent");
+    let (mut out, mut items) = ([0xA7; 200], [9; 8]);
+    let told = read(&file[..octets], ALL_TOOLS, &mut out, &mut items);
+    assert_eq!(told, Recording { law: Some(Law::Mu), items: 5, octets: 6, samples: 80, refused: None });
+    assert_eq!((&items[..5], &items[5..]), (&list[..], &[9; 3][..]));
+    assert_eq!((&out[..80], &out[80..]), (&samples[..], &[0xA7; 120][..]));
+    let each = told.each(&items, &out);
+    assert_eq!(each.len(), 5);
+    let wanted =
+        [Item::Frame(&[PLUS; 40]), Item::Lost(Some(80)), Item::Frame(&[]), Item::Lost(None), Item::Frame(&[MINUS; 40])];
+    assert_eq!(each.collect::<Vec<_>>(), wanted);
+}
+
+/// A frame of 0++ or 0-- is an erasure frame, and read as a loss; one sample away it is a frame.
+#[test]
+fn an_erasure_frame_is_a_loss() {
+    use g7110::recording::{read, write, Item};
+    for (law, erased) in [(Law::Mu, [0xFE, 0x7E]), (Law::A, [0xD4, 0x54])] {
+        for octet in erased {
+            let (mut file, mut out, mut list) = ([0; 200], [0; 400], [0; 4]);
+            let mut samples = [octet; 80];
+            samples[79] ^= 1;
+            let octets = write(&[[octet; 80], samples].concat(), &[80, 80], law, ALL_TOOLS, &mut file).unwrap();
+            let told = read(&file[..octets], ALL_TOOLS, &mut out, &mut list);
+            let items: Vec<Item> = told.each(&list, &out).collect();
+            assert_eq!(items, [Item::Lost(Some(80)), Item::Frame(&samples)]);
+        }
+    }
+}
+
+/// A refused file keeps the items before it; a refused writing leaves the output as lent.
+#[test]
+fn a_recording_is_refused() {
+    use g7110::recording::{read, write, Item, Recording, Refusal, Refused};
+    let (mut out, mut list) = ([0xA7; 400], [9; 4]);
+    let file = b"#!G7110A\n\0\x41\x01\x57\x19";
+    let refused = |why, bit| Some(Refused { why, bit });
+    let told = read(file, ALL_TOOLS, &mut out, &mut list);
+    let run = refused(Refusal::Frame(g7110::Refusal::Run), 9);
+    assert_eq!(told, Recording { law: Some(Law::A), items: 2, octets: 2, samples: 40, refused: run });
+    assert_eq!(told.each(&list, &out).collect::<Vec<_>>(), [Item::Frame(&[0xD5; 40]), Item::Lost(None)]);
+    let nothing = |law, refused| Recording { law, items: 0, octets: 0, samples: 0, refused };
+    let head = nothing(None, refused(Refusal::Head, 0));
+    assert_eq!(read(&file[..9], ALL_TOOLS, &mut out, &mut list), head);
+    assert_eq!(read(&file.to_ascii_lowercase(), ALL_TOOLS, &mut out, &mut list), head);
+    assert_eq!(Refusal::Head.number(), 14);
+    let set = refused(Refusal::Frame(g7110::Refusal::Set), 0);
+    assert_eq!(read(&file[..9], 128, &mut out, &mut list), nothing(None, set));
+    let long = [&file[..10], &[0; 65_536]].concat();
+    let too_long = refused(Refusal::Frame(g7110::Refusal::Long), 0);
+    assert_eq!(read(&long, ALL_TOOLS, &mut out, &mut list), nothing(Some(Law::A), too_long));
+    let no_place = refused(Refusal::Frame(g7110::Refusal::Room), 0);
+    assert_eq!(read(file, ALL_TOOLS, &mut out, &mut []), nothing(Some(Law::A), no_place));
+    let mut file = [0xA7; 60];
+    for (samples, list, set, why) in [
+        (&[PLUS; 41][..], &[41][..], 127, g7110::Refusal::Length),
+        (&[PLUS; 41], &[40], 127, g7110::Refusal::Length),
+        (&[PLUS; 39], &[40], 126, g7110::Refusal::Set),
+        (&[PLUS; 39], &[40], 127, g7110::Refusal::Length),
+        (&[], &[0; 51], 127, g7110::Refusal::Room),
+        (&[], &[0; 65_536], 127, g7110::Refusal::Long),
+    ] {
+        assert_eq!(write(samples, list, Law::A, set, &mut file), Err(Refusal::Frame(why)));
+        assert_eq!(file, [0xA7; 60]);
+    }
+    assert_eq!(write(&[], &[], Law::A, 1, &mut file), Ok(10));
+}

@@ -50,7 +50,7 @@ pub fn stop(program: u32, number: u32, place: usize, tool: u32, bit: usize) {
     }
 }
 
-// A refusal of document 01, and the last line.
+// A refusal of document 01, or HEAD, and the last line.
 pub fn refused(program: u32, number: u32, place: usize, tool: u32, bit: usize) {
     let mut name = [0u8; 8];
     let n = refusals::refusal_name(number, &mut name);
@@ -66,18 +66,29 @@ pub fn refused(program: u32, number: u32, place: usize, tool: u32, bit: usize) {
 }
 
 // What was done.
-pub fn summary(frames: usize, samples: usize, octets: usize) {
+fn say_totals(frames: usize, samples: usize, octets: usize) {
     say_number(b"frames=", frames);
     say_number(b" samples=", samples);
     say_number(b" octets=", octets);
+}
+
+pub fn summary(frames: usize, samples: usize, octets: usize) {
+    say_totals(frames, samples, octets);
+    say(b"\n");
+}
+
+// The same of a recording, with its losses.
+pub fn summary_of_recording(frames: usize, samples: usize, octets: usize, lost: usize) {
+    say_totals(frames, samples, octets);
+    say_number(b" lost=", lost);
     say(b"\n");
 }
 
 // How a tool is called.
 fn say_usage(tool: u32) {
     match tool {
-        0 => say(b"usage: unpack [-u|-a] [-l|-w] [-s#] [-c MASTER] [INFILE [OUTFILE]]\n"),
-        1 => say(b"usage: pack [-u|-a] [-l|-w] [-n#] [-s#] [-f] [INFILE [OUTFILE]]\n"),
+        0 => say(b"usage: unpack [-u|-a] [-l|-w] [-s#] [-v] [-g] [-c MASTER] [INFILE [OUTFILE]]\n"),
+        1 => say(b"usage: pack [-u|-a] [-l|-w] [-n#] [-s#] [-f] [-r] [INFILE [OUTFILE]]\n"),
         _ => say(b"usage: why [-u|-a] [-s#] [-n#] [-k#] [INFILE]\n"),
     }
 }

@@ -3,3 +3,4 @@ pub mod Saved
 pub mod Settings
 pub mod Mending
 pub mod Store
+pub mod Recordings

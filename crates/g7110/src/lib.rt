@@ -14,6 +14,9 @@ ghost use Rattle.notes.specs.Sane.{storeCells};
 ghost use Rattle.g7110.specs.Store.{PutReported, GetReported, DeleteReported};
 ghost use Rattle.linear.specs.Equations.{toPCM, fromPCM};
 ghost use Rattle.g7110.specs.Saved.{SavedReported, LoadReported};
+ghost use Rattle.recording.specs.Items.{readFile};
+ghost use Rattle.recording.specs.Files.{writeFile};
+ghost use Rattle.g7110.specs.Recordings.{FileReadReported, FileWriteReported};
 ghost use Rattle.g7110.specs.Boundary.{ReadReported, WalkReported, WriteReported, WhyReported, Converted};
 use reasons::Why;
 
@@ -277,4 +280,48 @@ pub extern "C" fn g7110_store_delete(block: &[u8], table: &mut [u32], number: u3
 {
     let a = store::delete(block, table, number);
     store::number_of(a)
+}
+
+// Reading a recording file: the number, and in the report law, items, octets after the heading, samples, the tool that TOOL gives, and the
+// refusal's bit.
+#[no_mangle]
+pub extern "C" fn g7110_file_read(
+    octets: &[u8],
+    set: u32,
+    out: &mut [u8],
+    items: &mut [u16],
+    report: &mut [u64; 6],
+) -> u32
+    ensures { λ r. ⌜ FileReadReported (readFile (now (octets .entry)) set (length (now (out .entry))) (length (now (items .entry)))) (now (out .entry)) (now (out .exit)) (now (items .entry)) (now (items .exit)) (now (report .exit)) r ⌝ }
+{
+    let a = playing::read_file(octets, set, out, items);
+    let end = a.end;
+    let tool = recording::tool_of(end);
+    *report = [
+        a.law as u64,
+        a.items as u64,
+        a.octets as u64,
+        a.samples as u64,
+        tool as u64,
+        a.bit as u64,
+    ];
+    recording::number_of(end)
+}
+
+// Writing one: the number, and in the report the octets of the file.
+#[no_mangle]
+pub extern "C" fn g7110_file_write(
+    samples: &[u8],
+    items: &[u16],
+    law: u32,
+    set: u32,
+    out: &mut [u8],
+    report: &mut [u64; 1],
+) -> u32
+    ensures { λ r. ⌜ FileWriteReported (writeFile (now (samples .entry)) (now (items .entry)) law set (length (now (out .entry)))) (now (out .entry)) (now (out .exit)) (now (report .exit)) r ⌝ }
+{
+    let a = filing::write_file(samples, items, law, set, out);
+    *report = [a.octets as u64];
+    let end = a.end;
+    recording::number_of(end)
 }

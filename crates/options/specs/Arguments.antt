@@ -7,7 +7,8 @@ use lib.Dec.{eqb, leb}
 use Rattle.texts.specs.declared.Number.{Number}
 use Rattle.texts.specs.declared.Number.the-variants.{Is, Not}
 use Rattle.options.specs.declared.Argument.{Argument}
-use Rattle.options.specs.declared.Argument.the-variants.{File, Law, Fill, Form, Waits, Counts, Unknown}
+use Rattle.options.specs.declared.Argument.the-variants.{File, Law, Flag, Form, Waits, Counts, Unknown}
+use Rattle.options.specs.declared.Flags.{Flags}
 use Rattle.options.specs.declared.Settings.{Settings}
 use Rattle.rules.specs.Tools.{allTools}
 use Rattle.filenames.specs.Names.{unknown, lawTold}
@@ -34,11 +35,19 @@ wantedBy tool x =
 abbrev pub formOption : ℕ → ℕ → Argument
 formOption tool f = cond (eqb tool why) Unknown (Form f)
 
--- an option of one letter: "-u", "-a", for `pack` "-f"; "-l", "-w"; or one whose word is the next argument
+-- an option that says something by itself: for `pack` "-f" (1), fill up, and "-r" (2), write a recording; for `unpack` "-v" (3), list a
+-- recording's items, and "-g" (4), go on over losses; else 0
+unfoldable pub flagBy : ℕ → ℕ → ℕ
+flagBy tool x =
+    cond (eqb tool pack) (cond (eqb x 0x66) 1 (cond (eqb x 0x72) 2 0))
+    (cond (eqb tool unpack) (cond (eqb x 0x76) 3 (cond (eqb x 0x67) 4 0)) 0)
+
+-- an option of one letter: "-u", "-a"; "-l", "-w"; a flag; or one whose word is the next argument
 unfoldable pub letterOf : ℕ → ℕ → Argument
 letterOf tool x =
-    cond (eqb x 0x75) (Law 1) (cond (eqb x 0x61) (Law 0) (cond (eqb x 0x66) (cond (eqb tool pack) Fill Unknown)
+    cond (eqb x 0x75) (Law 1) (cond (eqb x 0x61) (Law 0)
     (cond (eqb x 0x6C) (formOption tool 1) (cond (eqb x 0x77) (formOption tool 2)
+    (cond (not (eqb (flagBy tool x) 0)) (Flag (flagBy tool x))
     (cond (eqb (wantedBy tool x) 0) Unknown (Waits (wantedBy tool x)))))))
 
 -- an option with its number
@@ -52,65 +61,76 @@ argumentOf tool text =
     (cond (eqb (length text) 1 || not (eqb (getD text 0 0) 0x2D)) File
     (cond (eqb (length text) 2) (letterOf tool (getD text 1 0)) (numberedOf tool (getD text 1 0) (drop 2 text))))
 
--- before any argument: the frame length is 160 and the set has all tools unless said; the sound is raw G.711 (0); files are given by their arguments' numbers, 0 is none
+-- before any argument: the frame length is 160 and the set has all tools unless said; no flag is; the sound is raw G.711 (0); files are
+-- given by their arguments' numbers, 0 is none
+abbrev pub noFlags : Flags
+noFlags = record { fill = false; records = false; lists = false; on = false }
+
 abbrev pub atFirst : ℕ → Settings
 atFirst tool =
-    record { tool = tool; law = unknown; length = 160; set = allTools; fill = false; form = 0; only = false; frame = 0; infile = 0; outfile = 0; master = 0; wants = 0; wrong = 0; place = 0 }
+    record { tool = tool; law = unknown; length = 160; set = allTools; flags = noFlags; form = 0; only = false; frame = 0; infile = 0; outfile = 0; master = 0; wants = 0; wrong = 0; place = 0 }
 
 -- what is wrong with argument i: an option that is not known (1), no number (2), a file too many (3), a word that is missing (4), too long (5)
 abbrev pub withWrong : Settings → ℕ → ℕ → Settings
 withWrong s why i =
-    record { tool = s .tool; law = s .law; length = s .length; set = s .set; fill = s .fill; form = s .form; only = s .only; frame = s .frame; infile = s .infile; outfile = s .outfile; master = s .master; wants = s .wants; wrong = why; place = i }
+    record { tool = s .tool; law = s .law; length = s .length; set = s .set; flags = s .flags; form = s .form; only = s .only; frame = s .frame; infile = s .infile; outfile = s .outfile; master = s .master; wants = s .wants; wrong = why; place = i }
 
 -- -u, -a
 abbrev pub withLaw : Settings → ℕ → Settings
 withLaw s l =
-    record { tool = s .tool; law = l; length = s .length; set = s .set; fill = s .fill; form = s .form; only = s .only; frame = s .frame; infile = s .infile; outfile = s .outfile; master = s .master; wants = s .wants; wrong = s .wrong; place = s .place }
+    record { tool = s .tool; law = l; length = s .length; set = s .set; flags = s .flags; form = s .form; only = s .only; frame = s .frame; infile = s .infile; outfile = s .outfile; master = s .master; wants = s .wants; wrong = s .wrong; place = s .place }
 
--- -f
-abbrev pub withFill : Settings → Settings
-withFill s =
-    record { tool = s .tool; law = s .law; length = s .length; set = s .set; fill = true; form = s .form; only = s .only; frame = s .frame; infile = s .infile; outfile = s .outfile; master = s .master; wants = s .wants; wrong = s .wrong; place = s .place }
+-- one of the flags is said
+abbrev pub raised : Flags → ℕ → Flags
+raised f k =
+    cond (eqb k 1) (record { fill = true; records = f .records; lists = f .lists; on = f .on })
+    (cond (eqb k 2) (record { fill = f .fill; records = true; lists = f .lists; on = f .on })
+    (cond (eqb k 3) (record { fill = f .fill; records = f .records; lists = true; on = f .on })
+    (record { fill = f .fill; records = f .records; lists = f .lists; on = true })))
+
+abbrev pub withFlag : Settings → ℕ → Settings
+withFlag s k =
+    record { tool = s .tool; law = s .law; length = s .length; set = s .set; flags = raised (s .flags) k; form = s .form; only = s .only; frame = s .frame; infile = s .infile; outfile = s .outfile; master = s .master; wants = s .wants; wrong = s .wrong; place = s .place }
 
 -- -l (1), -w (2)
 abbrev pub withForm : Settings → ℕ → Settings
 withForm s f =
-    record { tool = s .tool; law = s .law; length = s .length; set = s .set; fill = s .fill; form = f; only = s .only; frame = s .frame; infile = s .infile; outfile = s .outfile; master = s .master; wants = s .wants; wrong = s .wrong; place = s .place }
+    record { tool = s .tool; law = s .law; length = s .length; set = s .set; flags = s .flags; form = f; only = s .only; frame = s .frame; infile = s .infile; outfile = s .outfile; master = s .master; wants = s .wants; wrong = s .wrong; place = s .place }
 
 -- the next argument is this option's word
 abbrev pub withWants : Settings → ℕ → Settings
 withWants s w =
-    record { tool = s .tool; law = s .law; length = s .length; set = s .set; fill = s .fill; form = s .form; only = s .only; frame = s .frame; infile = s .infile; outfile = s .outfile; master = s .master; wants = w; wrong = s .wrong; place = s .place }
+    record { tool = s .tool; law = s .law; length = s .length; set = s .set; flags = s .flags; form = s .form; only = s .only; frame = s .frame; infile = s .infile; outfile = s .outfile; master = s .master; wants = w; wrong = s .wrong; place = s .place }
 
 -- -c MASTER
 abbrev pub withMaster : Settings → ℕ → Settings
 withMaster s i =
-    record { tool = s .tool; law = s .law; length = s .length; set = s .set; fill = s .fill; form = s .form; only = s .only; frame = s .frame; infile = s .infile; outfile = s .outfile; master = i; wants = 0; wrong = s .wrong; place = s .place }
+    record { tool = s .tool; law = s .law; length = s .length; set = s .set; flags = s .flags; form = s .form; only = s .only; frame = s .frame; infile = s .infile; outfile = s .outfile; master = i; wants = 0; wrong = s .wrong; place = s .place }
 
 -- -n#
 abbrev pub withLength : Settings → ℕ → Settings
 withLength s n =
-    record { tool = s .tool; law = s .law; length = n; set = s .set; fill = s .fill; form = s .form; only = s .only; frame = s .frame; infile = s .infile; outfile = s .outfile; master = s .master; wants = 0; wrong = s .wrong; place = s .place }
+    record { tool = s .tool; law = s .law; length = n; set = s .set; flags = s .flags; form = s .form; only = s .only; frame = s .frame; infile = s .infile; outfile = s .outfile; master = s .master; wants = 0; wrong = s .wrong; place = s .place }
 
 -- -k#
 abbrev pub withFrame : Settings → ℕ → Settings
 withFrame s k =
-    record { tool = s .tool; law = s .law; length = s .length; set = s .set; fill = s .fill; form = s .form; only = true; frame = k; infile = s .infile; outfile = s .outfile; master = s .master; wants = 0; wrong = s .wrong; place = s .place }
+    record { tool = s .tool; law = s .law; length = s .length; set = s .set; flags = s .flags; form = s .form; only = true; frame = k; infile = s .infile; outfile = s .outfile; master = s .master; wants = 0; wrong = s .wrong; place = s .place }
 
 -- -s#
 abbrev pub withSet : Settings → ℕ → Settings
 withSet s n =
-    record { tool = s .tool; law = s .law; length = s .length; set = n; fill = s .fill; form = s .form; only = s .only; frame = s .frame; infile = s .infile; outfile = s .outfile; master = s .master; wants = 0; wrong = s .wrong; place = s .place }
+    record { tool = s .tool; law = s .law; length = s .length; set = n; flags = s .flags; form = s .form; only = s .only; frame = s .frame; infile = s .infile; outfile = s .outfile; master = s .master; wants = 0; wrong = s .wrong; place = s .place }
 
 -- INFILE
 abbrev pub withInfile : Settings → ℕ → Settings
 withInfile s i =
-    record { tool = s .tool; law = s .law; length = s .length; set = s .set; fill = s .fill; form = s .form; only = s .only; frame = s .frame; infile = i; outfile = s .outfile; master = s .master; wants = s .wants; wrong = s .wrong; place = s .place }
+    record { tool = s .tool; law = s .law; length = s .length; set = s .set; flags = s .flags; form = s .form; only = s .only; frame = s .frame; infile = i; outfile = s .outfile; master = s .master; wants = s .wants; wrong = s .wrong; place = s .place }
 
 -- OUTFILE
 abbrev pub withOutfile : Settings → ℕ → Settings
 withOutfile s i =
-    record { tool = s .tool; law = s .law; length = s .length; set = s .set; fill = s .fill; form = s .form; only = s .only; frame = s .frame; infile = s .infile; outfile = i; master = s .master; wants = s .wants; wrong = s .wrong; place = s .place }
+    record { tool = s .tool; law = s .law; length = s .length; set = s .set; flags = s .flags; form = s .form; only = s .only; frame = s .frame; infile = s .infile; outfile = i; master = s .master; wants = s .wants; wrong = s .wrong; place = s .place }
 
 -- the first file is INFILE, the second OUTFILE, which `why` does not have, and there is no third
 unfoldable pub withFile : Settings → ℕ → Settings
@@ -126,7 +146,7 @@ withNumber s w Not i = withWrong s 2 i
 abbrev pub withArgument : Settings → Argument → ℕ → Settings
 withArgument s File i = withFile s i
 withArgument s (Law l) i = withLaw s l
-withArgument s Fill i = withFill s
+withArgument s (Flag k) i = withFlag s k
 withArgument s (Waits w) i = withWants s w
 withArgument s (Counts w m) i = withNumber s w m i
 withArgument s (Form f) i = withForm s f

@@ -1,7 +1,7 @@
 // The words of a command line: what an argument is, and the settings that the arguments make.
 ghost use mathlib.Core.Path.{_≡_};
 ghost use lib.ListN.{length};
-ghost use Rattle.options.specs.Arguments.{wantedBy, formOption, letterOf, numberedOf, argumentOf, atFirst, withWrong, withFile, withNumber, withArgument, stepOf, endOf, lawOf};
+ghost use Rattle.options.specs.Arguments.{wantedBy, formOption, flagBy, letterOf, numberedOf, argumentOf, atFirst, withWrong, withFile, withNumber, raised, withFlag, withArgument, stepOf, endOf, lawOf};
 use filenames::law_told;
 use texts::Number;
 use texts::number_in;
@@ -13,15 +13,24 @@ pub const PACK: u32 = 1;
 
 pub const WHY: u32 = 2;
 
-// What an argument is. `Waits` and `Counts` say what follows an option: MASTER (1), the frame length (2), the tool set (3), a frame (4).
+// What an argument is. `Flag` says which flag; `Waits` and `Counts` say what follows an option: MASTER (1), the frame length (2), the tool set (3), a frame (4).
 pub enum Argument {
     File,
     Law(u32),
-    Fill,
+    Flag(u32),
     Waits(u32),
     Counts(u32, Number),
     Form(u32),
     Unknown,
+}
+
+// What is said by an option alone: of `pack` that the sound is filled up, and that a recording is written; of `unpack` that a recording's
+// items are listed, and that it goes on over losses.
+pub struct Flags {
+    pub fill: bool,
+    pub records: bool,
+    pub lists: bool,
+    pub on: bool,
 }
 
 // The settings that the arguments make. A law that no option tells is 2. The form of the sound is raw G.711 (0), linear values (1) or a WAV file (2). Files are given by their arguments' numbers, 0 is none.
@@ -32,7 +41,7 @@ pub struct Settings {
     pub law: u32,
     pub length: u32,
     pub set: u32,
-    pub fill: bool,
+    pub flags: Flags,
     pub form: u32,
     pub only: bool,
     pub frame: u32,
@@ -52,7 +61,12 @@ pub fn at_first(tool: u32) -> Settings
         law: 2,
         length: 160,
         set: rules::ALL_TOOLS,
-        fill: false,
+        flags: Flags {
+            fill: false,
+            records: false,
+            lists: false,
+            on: false,
+        },
         form: 0,
         only: false,
         frame: 0,
@@ -108,6 +122,31 @@ fn form_option(tool: u32, form: u32) -> Argument
     Argument::Form(form)
 }
 
+// An option that says something by itself: for `pack` "-f" (1) and "-r" (2), for `unpack` "-v" (3) and "-g" (4); else 0.
+fn flag_by(tool: u32, letter: u8) -> u32
+    ensures { λ r. ⌜ r ≡ flagBy tool letter ⌝ }
+{
+    if tool == PACK {
+        if letter == b'f' {
+            return 1;
+        }
+        if letter == b'r' {
+            return 2;
+        }
+        return 0;
+    }
+    if tool != UNPACK {
+        return 0;
+    }
+    if letter == b'v' {
+        return 3;
+    }
+    if letter == b'g' {
+        return 4;
+    }
+    0
+}
+
 // An option of one letter, or one whose word is the next argument.
 fn letter_option(tool: u32, letter: u8) -> Argument
     ensures { λ r. ⌜ r ≡ letterOf tool letter ⌝ }
@@ -118,17 +157,15 @@ fn letter_option(tool: u32, letter: u8) -> Argument
     if letter == b'a' {
         return Argument::Law(0);
     }
-    if letter == b'f' {
-        if tool == PACK {
-            return Argument::Fill;
-        }
-        return Argument::Unknown;
-    }
     if letter == b'l' {
         return form_option(tool, 1);
     }
     if letter == b'w' {
         return form_option(tool, 2);
+    }
+    let flag = flag_by(tool, letter);
+    if flag != 0 {
+        return Argument::Flag(flag);
     }
     let wanted = wanted_by(tool, letter);
     if wanted == 0 {
@@ -207,6 +244,34 @@ fn with_number(mut s: Settings, which: u32, n: Number, index: usize) -> Settings
     s
 }
 
+// One of the flags is said.
+fn raised(mut f: Flags, which: u32) -> Flags
+    ensures { λ r. ⌜ r ≡ raised f which ⌝ }
+{
+    if which == 1 {
+        f.fill = true;
+        return f;
+    }
+    if which == 2 {
+        f.records = true;
+        return f;
+    }
+    if which == 3 {
+        f.lists = true;
+        return f;
+    }
+    f.on = true;
+    f
+}
+
+fn with_flag(mut s: Settings, which: u32) -> Settings
+    ensures { λ r. ⌜ r ≡ withFlag s which ⌝ }
+{
+    let f = raised(s.flags, which);
+    s.flags = f;
+    s
+}
+
 fn with_argument(mut s: Settings, a: Argument, index: usize) -> Settings
     ensures { λ r. ⌜ r ≡ withArgument s a index ⌝ }
 {
@@ -216,10 +281,7 @@ fn with_argument(mut s: Settings, a: Argument, index: usize) -> Settings
             s.law = law;
             s
         }
-        Argument::Fill => {
-            s.fill = true;
-            s
-        }
+        Argument::Flag(flag) => with_flag(s, flag),
         Argument::Waits(wanted) => {
             s.wants = wanted;
             s

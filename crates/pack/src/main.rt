@@ -1,4 +1,4 @@
-// The bench tool `pack`: raw G.711 octets or a linear master in, a stream of frames out. What matters is in crates `cutting` and `packing`: here the sound is read in parts
+// The bench tool `pack`: raw G.711 octets or a linear master in, a stream of frames or a recording out. What matters is in crates `cutting` and `packing`: here the sound is read in parts
 // of whole frames, the stream is kept, and it is written when all is well.
 ghost use Prim.Native.Nat.{_+_, _≤_, _<_};
 ghost use mathlib.Core.Path.{_≡_};
@@ -11,6 +11,7 @@ use options::PACK;
 use options::Settings;
 use packing::PackAnswer;
 use rules::Ending;
+use sounds::Way;
 
 // What was packed so far, how many octets were added to the last part, whether more sound may come, whether a read failed, and
 // how many octets the file should still have.
@@ -52,7 +53,7 @@ fn next_part(fd: i32, run: Run, s: Settings, part: &mut [u8], out: &mut [u8]) ->
         };
     }
     let count = got.count;
-    let filled = filled_up(s.fill, part, count, s.law);
+    let filled = filled_up(s.flags.fill, part, count, s.law);
     let end = count + filled;
     let p = packing::pack_on(packed, &part[..end], s.law, s.set, s.length as usize, out);
     let e = p.end;
@@ -104,17 +105,69 @@ fn explain_sound(number: u32) {
     }
 }
 
-// The stream of a whole sound is written, and then what was done is said.
+// A recording begins with the heading of its law.
+fn heading_written(records: bool, law: u32, fd: i32) -> bool {
+    if records {
+        let heading = recording::marking::heading_of(law);
+        return io::write_all(fd, &heading);
+    }
+    true
+}
+
+// A frame that is all 0++ or all 0-- is a loss to every reader of recordings: how many there are is said, by reading the stream so.
+fn say_erased(stream: &[u8], law: u32)
+    requires { ⌜ length (now stream) ≤ longest ⌝ }
+{
+    let way = Way {
+        compares: false,
+        fd: 0,
+        form: sounds::COUNTED,
+    };
+    let t = replaying::play(stream, law, rules::ALL_TOOLS, way, replaying::TELLS_NOTHING);
+    if t.lost != 0 {
+        console::say_number(
+            b"pack: frames that are all 0++ or all 0--, so that readers of recordings take them for lost: ",
+            t.lost,
+        );
+        console::say(b"\n");
+    }
+}
+
+// What was done, of a stream or of a recording, whose octets count the heading.
+fn say_done(run: Run, s: Settings, stream: &[u8])
+    requires { ⌜ length (now stream) ≤ longest ⌝ }
+{
+    let p = run.packed;
+    let f = s.flags;
+    if f.records {
+        say_erased(stream, s.law);
+        console::summary(p.frames, p.samples, stream.len() + playing::HEADING_LENGTH);
+    } else {
+        console::summary(p.frames, p.samples, stream.len());
+    }
+    if f.fill {
+        console::say_number(b"filled=", run.filled);
+        console::say(b"\n");
+    }
+    console::stop(PACK, 0, p.samples, 0, 0);
+}
+
+// The stream of a whole sound is written, in a recording after its heading, and then what was done is said.
 fn write_stream(run: Run, s: Settings, name: &[u8], out: &[u8])
-    requires { ⌜ (WholeSound s (now out) run) × (run .packed .octets ≤ length (now out)) ⌝ }
+    requires { ⌜ (WholeSound s (now out) run) × (run .packed .octets ≤ length (now out)) × (length (now out) ≤ longest) ⌝ }
 {
     let fd = console::open_out(name);
     if fd < 0 {
         console::failed(PACK, name, b"standard output");
         return;
     }
+    let f = s.flags;
     let p = run.packed;
     let to = p.octets;
+    if !heading_written(f.records, s.law, fd) {
+        console::failed(PACK, name, b"standard output");
+        return;
+    }
     if !io::write_all(fd, &out[..to]) {
         console::failed(PACK, name, b"standard output");
         return;
@@ -123,12 +176,7 @@ fn write_stream(run: Run, s: Settings, name: &[u8], out: &[u8])
         console::failed(PACK, name, b"standard output");
         return;
     }
-    console::summary(p.frames, p.samples, to);
-    if s.fill {
-        console::say_number(b"filled=", run.filled);
-        console::say(b"\n");
-    }
-    console::stop(PACK, 0, p.samples, 0, 0);
+    say_done(run, s, &out[..to]);
 }
 
 // Whether a master ends before it should. A stream that is too long ends the reading too.
@@ -141,7 +189,7 @@ fn is_cut(left: usize, number: u32) -> bool {
 
 // Nothing is written, and no file made, unless all of the sound was read and packed.
 fn finish(run: Run, s: Settings, in_name: &[u8], out_name: &[u8], out: &[u8])
-    requires { ⌜ Stands s (now out) run ⌝ }
+    requires { ⌜ (Stands s (now out) run) × (length (now out) ≤ longest) ⌝ }
 {
     if run.failed {
         console::failed(PACK, in_name, b"standard input");
@@ -198,6 +246,11 @@ fn pack_file(s: Settings, in_name: &[u8], out_name: &[u8], part: &mut [u8], out:
 
 // The settings are whole: the name of what is written, and then the sound.
 fn pack_named(s: Settings, in_name: &[u8], name: &mut [u8]) {
+    let f = s.flags;
+    if f.records && s.outfile == 0 && in_name.len() != 0 {
+        console::usage(PACK, b"with -r OUTFILE must be said");
+        return;
+    }
     let t = console::target_name(s, s.law, in_name, name);
     if !t.fits {
         console::usage(PACK, b"the name of INFILE is too long for another ending");

@@ -152,7 +152,7 @@ pub fn fill_frame(octets: &[u8], law: u32, set: u32, room: usize, samples: &mut 
 }
 
 // The first n of some samples to the start of others; the rest of them stays as lent.
-fn put_out(samples: &[u8], n: usize, out: &mut [u8])
+pub fn put_out(samples: &[u8], n: usize, out: &mut [u8])
     requires { ⌜ (n ≤ length (now samples)) × (n ≤ length (now out)) ⌝ }
     ensures { λ r. ⌜ now (out .exit) ≡ take n (now (samples .entry)) ++ drop n (now (out .entry)) ⌝ }
 {

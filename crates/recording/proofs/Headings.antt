@@ -1,5 +1,5 @@
 -- "HEAD (14) for a wrong or cut heading": exactly where the first ten octets are neither heading (`head-is`, `head-only`), for every set
--- that is one.
+-- that is one; "after SET": another set is told first (`set-first`).
 use Prim.Native.Nat.{ℕ, zero, suc, _-_}
 use native.Mathlib.Omega.{arith}
 use mathlib.Core.Path.{_≡_, refl, sym, ap, _∙_}
@@ -40,6 +40,11 @@ begins-only (x ∷ word) (y ∷ text) e =
 -- the first ten octets are the heading of a law
 abbrev pub Heads : ℕ → List ℕ → Type 0
 Heads law octets = take headingLength octets ≡ headingOf law
+
+-- a set that is none is told before the heading is looked at
+pub set-first : (octets : List ℕ) (set room places : ℕ) → isSet set ≡ false → readFile octets set room places ≡ nothing (Frame rules.Set) 0
+unfolding readFile
+set-first octets set room places s = rw s refl
 
 neither : (x y : Bool) → (x ≡ true → ⊥) → (y ≡ true → ⊥) → cond x (heading 0) (cond y (heading 1) noHeading) ≡ noHeading
 neither true y h k = absurd (h refl)

@@ -18,10 +18,10 @@ beyond zero n m p = p
 beyond (suc k) n m p = let q = beyond k n (m .0) p in let h = m .1 in omega arith
 
 -- such a number is no refusal's
-pub no-name : (n : ℕ) → Misses 13 n → refusalName n ≡ []
+pub no-name : (n : ℕ) → Misses 14 n → refusalName n ≡ []
 unfolding refusalName refusalNames
 no-name zero m = refl
-no-name (suc n) m = List·getD-eq-default refusalNames [] (beyond 13 (suc n) m (omega arith))
+no-name (suc n) m = List·getD-eq-default refusalNames [] (beyond 14 (suc n) m (omega arith))
 
 pub name-laid : {word octets out out′ : List ℕ} {len r : ℕ} → Named word octets len → Laid (take len octets ++ []) out out′ r → Laid word out out′ r
 name-laid {octets = octets} {len = len} n t = laid-as (append-nil (take len octets) ∙ n .says) t

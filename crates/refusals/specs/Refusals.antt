@@ -1,4 +1,4 @@
--- The names of the refusals of document 01, as octets.
+-- The names of the refusals of document 01, and of HEAD (14) of document 02, as octets.
 use Prim.Native.Nat.{ℕ, _≤_}
 use mathlib.Core.Path.{_≡_}
 use mathlib.Core.List.{List, [], _∷_}
@@ -21,6 +21,7 @@ refusalNames =
     ∷ (0x53 ∷ 0x45 ∷ 0x54 ∷ [])
     ∷ (0x4C ∷ 0x41 ∷ 0x57 ∷ [])
     ∷ (0x4C ∷ 0x4F ∷ 0x4E ∷ 0x47 ∷ [])
+    ∷ (0x48 ∷ 0x45 ∷ 0x41 ∷ 0x44 ∷ [])
     ∷ []
 
 unfoldable pub refusalName : ℕ → List ℕ

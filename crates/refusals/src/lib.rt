@@ -1,4 +1,4 @@
-// The names of document 01's refusals.
+// The names of document 01's refusals, and of HEAD (14) of document 02.
 ghost use mathlib.Core.Path.{_≡_};
 ghost use Rattle.refusals.specs.Refusals.{refusalName, Named};
 ghost use Rattle.texts.specs.Texts.{Laid};
@@ -37,6 +37,7 @@ fn name_of(number: u32) -> Word
         11 => named(*b"SET   ", 3),
         12 => named(*b"LAW   ", 3),
         13 => named(*b"LONG  ", 4),
+        14 => named(*b"HEAD  ", 4),
         _ => named(*b"      ", 0),
     }
 }

@@ -1,9 +1,12 @@
-// The forms in which the bench tools read and write a sound: raw G.711 (0), linear values of 16 bits (1), a WAV file of them (2).
+// The forms in which the bench tools read and write a sound: raw G.711 (0), linear values of 16 bits (1), a WAV file of them (2); and a sound
+// compared with a master.
 // No contract can say what is read or written. What octets mean stands in crates `masters` and `wave`.
 ghost use Prim.Native.Nat.{_≤_, _<_};
 ghost use mathlib.Core.Path.{_≡_};
 ghost use lib.ListN.{length};
+ghost use Rattle.sounds.specs.Uses.{UsesUpTo};
 use options::PACK;
+use options::UNPACK;
 use wave::Heading;
 use wave::Wrong;
 
@@ -214,4 +217,118 @@ pub fn write_heading(fd: i32, samples: usize) -> bool {
     }
     let heading = wave::heading_for((2 * samples) as u32);
     io::write_all(fd, &heading)
+}
+
+// The form of a sound that is only counted.
+pub const COUNTED: u32 = 3;
+
+// What is wrong with the file that is written or compared.
+pub const NOTHING: u32 = 0;
+
+pub const FAILED: u32 = 1;
+
+pub const DIFFERS: u32 = 2;
+
+pub const SHORTER: u32 = 3;
+
+pub const LONGER: u32 = 4;
+
+// What came of a part's sound: what is wrong, and how many octets are well.
+pub struct Used {
+    pub wrong: u32,
+    pub good: usize,
+}
+
+// What is done with a sound: it is compared with a master, or written in a form.
+pub struct Way {
+    pub compares: bool,
+    pub fd: i32,
+    pub form: u32,
+}
+
+// A part of a sound, written in its form, and what came of it.
+fn written(fd: i32, form: u32, law: u32, sound: &[u8]) -> Used
+    ensures { λ r. ⌜ UsesUpTo (length (now (sound .entry))) r ⌝ }
+{
+    if write_part(fd, form, law, sound) {
+        return Used {
+            wrong: NOTHING,
+            good: sound.len(),
+        };
+    }
+    Used {
+        wrong: FAILED,
+        good: 0,
+    }
+}
+
+// A part of a sound, compared with as much of the master.
+fn compared(fd: i32, sound: &[u8], master: &mut [u8]) -> Used
+    requires { ⌜ length (now sound) ≤ length (now master) ⌝ }
+    ensures { λ r. ⌜ UsesUpTo (length (now (sound .entry))) r ⌝ }
+{
+    let n = sound.len();
+    let got = console::read_part(fd, &mut master[..n]);
+    if got.failed {
+        return Used {
+            wrong: FAILED,
+            good: 0,
+        };
+    }
+    let m = got.count;
+    let good = comparing::agree(sound, &master[..m]);
+    if good == n {
+        return Used {
+            wrong: NOTHING,
+            good,
+        };
+    }
+    if good == m {
+        return Used {
+            wrong: SHORTER,
+            good,
+        };
+    }
+    Used {
+        wrong: DIFFERS,
+        good,
+    }
+}
+
+// A part of a sound, written or compared.
+pub fn use_sound(way: Way, law: u32, sound: &[u8], master: &mut [u8]) -> Used
+    requires { ⌜ length (now sound) ≤ length (now master) ⌝ }
+    ensures { λ r. ⌜ UsesUpTo (length (now (sound .entry))) r ⌝ }
+{
+    if way.compares {
+        return compared(way.fd, sound, master);
+    }
+    written(way.fd, way.form, law, sound)
+}
+
+// What is wrong with a master after its octets for all the sound: nothing, or it is longer.
+pub fn left_over(fd: i32) -> u32 {
+    let mut one = [0u8; 1];
+    let got = console::read_part(fd, &mut one);
+    if got.failed {
+        return FAILED;
+    }
+    if got.count == 0 {
+        return NOTHING;
+    }
+    LONGER
+}
+
+// Where the master differs, and the last line.
+pub fn differs(wrong: u32, place: usize) {
+    console::say_tool(UNPACK);
+    if wrong == SHORTER {
+        console::say_number(b"the master is shorter: it ends at octet ", place);
+    } else if wrong == LONGER {
+        console::say_number(b"the master is longer: the sound ends at octet ", place);
+    } else {
+        console::say_number(b"the sound differs from the master at octet ", place);
+    }
+    console::say(b"\n");
+    console::stop(UNPACK, 65, place, 0, 0);
 }

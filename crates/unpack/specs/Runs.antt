@@ -7,7 +7,6 @@ use lib.ListN.{length, take}
 use Rattle.rules.specs.Walk.{walkAll, samplesKept}
 use Rattle.unpacking.specs.declared.Part.{Part}
 use Rattle.unpacking.specs.Parts.{NextPart}
-use Rattle.unpack.specs.declared.Used.{Used}
 use Rattle.unpack.specs.declared.Total.{Total}
 
 -- the parts of a stream from its start on, each with more to come: their sound, their frames, and the place where the last one ended
@@ -23,11 +22,6 @@ pub record NextSound (stream : List ℕ) (law set at : ℕ) (page : List ℕ) (p
   pub before : Before stream law set sound frames at
   pub lent : List ℕ
   pub is : NextPart stream law set at lent page p
-
--- what came of a sound of so many octets: all of it is well where nothing is wrong
-pub record UsesUpTo (size : ℕ) (r : Used) : Type 0 where
-  pub most : r .good ≤ size
-  pub all : r .wrong ≡ 0 → r .good ≡ size
 
 -- a stream's totals are those of its walk, with room that is never short
 pub record TellsWalk (stream : List ℕ) (law set : ℕ) (t : Total) : Type 0 where

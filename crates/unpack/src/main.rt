@@ -1,34 +1,25 @@
-// The bench tool `unpack`: a stream back to sound, or, with a master, the sound compared with it. What a part holds stands in
-// crate `unpacking`, what the arguments mean in `options`, what is said in `console`.
+// The bench tool `unpack`: a stream, or a recording, back to sound, or, with a master, the sound compared with it. What a part of a stream holds
+// stands in crate `unpacking`, a recording in `replaying`, what the arguments mean in `options`, what is said in `console`.
 ghost use mathlib.Core.Path.{_≡_};
 ghost use mathlib.Core.Bool.{false};
 ghost use Prim.Native.Nat.{_≤_};
 ghost use lib.ListN.{length};
 ghost use Rattle.rules.specs.declared.Ending.the-variants.{Done};
 ghost use Rattle.rules.specs.Walk.{longest};
-ghost use Rattle.unpack.specs.Runs.{NextSound, UsesUpTo, TellsWalk};
+ghost use Rattle.recording.specs.Remembered.{heading, headed};
+ghost use Rattle.sounds.specs.Uses.{UsesUpTo};
+ghost use Rattle.unpack.specs.Runs.{NextSound, TellsWalk};
 use console::Got;
+use options::Flags;
 use options::Settings;
 use options::UNPACK;
+use replaying::Kind;
 use rules::Ending;
+use sounds::FAILED;
+use sounds::NOTHING;
+use sounds::Used;
+use sounds::Way;
 use unpacking::Part;
-
-// What is wrong with the file that is written or compared.
-const NOTHING: u32 = 0;
-
-const FAILED: u32 = 1;
-
-const DIFFERS: u32 = 2;
-
-const SHORTER: u32 = 3;
-
-const LONGER: u32 = 4;
-
-// What came of a part's sound: what is wrong, and how many octets are well.
-struct Used {
-    wrong: u32,
-    good: usize,
-}
 
 // What came of a stream: how it ended and where, the refusal's bit, the frames, the samples that are well, and what is wrong.
 struct Total {
@@ -40,103 +31,41 @@ struct Total {
     wrong: u32,
 }
 
-// The form of a sound that is only counted.
-const COUNTED: u32 = 3;
-
-// The sound of a part, written in its form. It is the part of `stream` at `at`, by a law and a set; the set stands here for the contract alone.
-fn written(
-    stream: &[u8],
-    law: u32,
-    set: u32,
+// What came of a file, a stream or a recording: the number, tool and bit of its end, the place of that, the file's octets up to there, the
+// frames, the losses, the samples that are well, and what is wrong.
+struct Outcome {
+    records: bool,
+    number: u32,
+    tool: u32,
+    bit: usize,
     at: usize,
-    p: Part,
-    fd: i32,
-    page: &[u8],
-    form: u32,
-) -> Used
-    requires { ⌜ (NextSound (now stream) law set at (now page) p) × (p .samples ≤ length (now page)) ⌝ }
-    ensures { λ r. ⌜ UsesUpTo (p .samples) r ⌝ }
-{
-    let n = p.samples;
-    if sounds::write_part(fd, form, law, &page[..n]) {
-        return Used {
-            wrong: NOTHING,
-            good: n,
-        };
-    }
-    Used {
-        wrong: FAILED,
-        good: 0,
-    }
+    octets: usize,
+    frames: usize,
+    lost: usize,
+    samples: usize,
+    wrong: u32,
 }
 
-// The sound of a part, compared with as much of the master.
-fn compared(fd: i32, sound: &[u8], master: &mut [u8]) -> Used
-    requires { ⌜ length (now sound) ≤ length (now master) ⌝ }
-    ensures { λ r. ⌜ UsesUpTo (length (now (sound .entry))) r ⌝ }
-{
-    let n = sound.len();
-    let got = console::read_part(fd, &mut master[..n]);
-    if got.failed {
-        return Used {
-            wrong: FAILED,
-            good: 0,
-        };
-    }
-    let m = got.count;
-    let good = comparing::agree(sound, &master[..m]);
-    if good == n {
-        return Used {
-            wrong: NOTHING,
-            good,
-        };
-    }
-    if good == m {
-        return Used {
-            wrong: SHORTER,
-            good,
-        };
-    }
-    Used {
-        wrong: DIFFERS,
-        good,
-    }
-}
-
-// A part's sound, written or compared.
+// The sound of a part, written or compared. It is the part of `stream` at `at`, by a law and a set; the set stands here for the contract alone.
 fn use_part(
     stream: &[u8],
     law: u32,
     set: u32,
     at: usize,
     p: Part,
-    compares: bool,
-    fd: i32,
+    way: Way,
     page: &[u8],
     master: &mut [u8],
-    form: u32,
 ) -> Used
     requires { ⌜ (NextSound (now stream) law set at (now page) p) × (p .samples ≤ length (now page)) × (length (now page) ≤ length (now master)) ⌝ }
     ensures { λ r. ⌜ UsesUpTo (p .samples) r ⌝ }
 {
-    if compares {
-        let n = p.samples;
-        return compared(fd, &page[..n], master);
-    }
-    written(stream, law, set, at, p, fd, page, form)
+    let n = p.samples;
+    sounds::use_sound(way, law, &page[..n], master)
 }
 
 // Part after part, page by page.
-fn parts(
-    stream: &[u8],
-    law: u32,
-    set: u32,
-    compares: bool,
-    fd: i32,
-    page: &mut [u8],
-    master: &mut [u8],
-    form: u32,
-) -> Total
+fn parts(stream: &[u8], law: u32, set: u32, way: Way, page: &mut [u8], master: &mut [u8]) -> Total
     requires { ⌜ (length (now stream) ≤ longest) × (320 ≤ length (now page)) × (length (now page) ≤ length (now master)) ⌝ }
     ensures { λ r. ⌜ (r .wrong ≡ 0 → TellsWalk (now (stream .entry)) law set r) ⌝ }
 {
@@ -145,7 +74,7 @@ fn parts(
     let mut samples = 0;
     loop {
         let p = unpacking::next_part(stream, law, set, at, page);
-        let u = use_part(stream, law, set, at, p, compares, fd, page, master, form);
+        let u = use_part(stream, law, set, at, p, way, page, master);
         let end = p.end;
         frames += p.frames;
         samples += u.good;
@@ -168,30 +97,92 @@ fn parts(
 }
 
 // The second page is for the master.
-fn all_parts(stream: &[u8], law: u32, set: u32, compares: bool, fd: i32, form: u32) -> Total
+fn all_parts(stream: &[u8], law: u32, set: u32, way: Way) -> Total
     requires { ⌜ length (now stream) ≤ longest ⌝ }
     ensures { λ r. ⌜ (r .wrong ≡ 0 → TellsWalk (now (stream .entry)) law set r) ⌝ }
 {
     let mut page = [0u8; 61440];
     let mut master = [0u8; 61440];
-    parts(stream, law, set, compares, fd, &mut page, &mut master, form)
+    parts(stream, law, set, way, &mut page, &mut master)
+}
+
+// A stream's totals as what came of it.
+fn of_stream(t: Total) -> Outcome {
+    let end = t.end;
+    Outcome {
+        records: false,
+        number: rules::number_of(end),
+        tool: rules::tool_of(end),
+        bit: t.bit,
+        at: t.at,
+        octets: t.at,
+        frames: t.frames,
+        lost: 0,
+        samples: t.samples,
+        wrong: t.wrong,
+    }
+}
+
+// A recording's: its frames are the items that are no losses, and its octets count the heading.
+fn of_recording(t: replaying::Total) -> Outcome
+    requires { ⌜ (t .lost ≤ t .items) × (t .at ≤ longest) ⌝ }
+{
+    let end = t.end;
+    Outcome {
+        records: true,
+        number: recording::number_of(end),
+        tool: recording::tool_of(end),
+        bit: t.bit,
+        at: t.at,
+        octets: t.at + playing::HEADING_LENGTH,
+        frames: t.items - t.lost,
+        lost: t.lost,
+        samples: t.samples,
+        wrong: t.wrong,
+    }
+}
+
+// What came of the octets of a file's frames, by a law, written or compared.
+fn came_of(body: &[u8], law: u32, set: u32, records: bool, way: Way, tells: u32) -> Outcome
+    requires { ⌜ length (now body) ≤ longest ⌝ }
+{
+    if records {
+        let t = replaying::play(body, law, set, way, tells);
+        return of_recording(t);
+    }
+    let t = all_parts(body, law, set, way);
+    of_stream(t)
+}
+
+// Losses end a run with a status of their own, unless it is to go on.
+fn stop_well(o: Outcome, on: bool) {
+    if o.lost == 0 || on {
+        console::stop(UNPACK, 0, o.at, 0, 0);
+        return;
+    }
+    console::say(
+        b"unpack: the recording has losses, so this is not all of its sound; -g goes on all the same\n",
+    );
+    console::stop(UNPACK, 66, o.at, 0, 0);
 }
 
 // The last lines of a run in which nothing is wrong with the files: what was done, and the refusal if there is one.
-fn finish(t: Total) {
-    console::summary(t.frames, t.samples, t.at);
-    let end = t.end;
-    let number = rules::number_of(end);
-    if number == 0 {
-        console::stop(UNPACK, 0, t.at, 0, 0);
+fn finish(o: Outcome, on: bool) {
+    if o.records {
+        console::summary_of_recording(o.frames, o.samples, o.octets, o.lost);
+    } else {
+        console::summary(o.frames, o.samples, o.octets);
+    }
+    if o.number != 0 {
+        console::refused(UNPACK, o.number, o.at, o.tool, o.bit);
         return;
     }
-    console::refused(UNPACK, number, t.at, rules::tool_of(end), t.bit);
+    stop_well(o, on);
 }
 
-// Reads the stream, and one octet more where it is too long; says what failed.
-fn read_stream(name: &[u8], stream: &mut [u8]) -> Got
-    ensures { λ r. ⌜ r .count ≤ length (now (stream .exit)) ⌝ }
+// Reads the file, and one octet more where it is too long; says what failed.
+fn read_file(name: &[u8], file: &mut [u8]) -> Got
+    ensures { λ r. ⌜ r .count ≤ length (now (file .exit)) ⌝ }
 {
     let fd = console::open_in(name);
     if fd < 0 {
@@ -201,7 +192,7 @@ fn read_stream(name: &[u8], stream: &mut [u8]) -> Got
             failed: true,
         };
     }
-    let got = console::read_part(fd, stream);
+    let got = console::read_part(fd, file);
     if got.failed {
         console::failed(UNPACK, name, b"standard input");
     }
@@ -209,32 +200,51 @@ fn read_stream(name: &[u8], stream: &mut [u8]) -> Got
     got
 }
 
-// A WAV file tells before its sound how long it is: the stream is walked once for that.
-fn heading_written(stream: &[u8], law: u32, set: u32, form: u32, fd: i32) -> bool
-    requires { ⌜ length (now stream) ≤ longest ⌝ }
+// A WAV file tells before its sound how long it is: the frames are read once for that.
+fn heading_written(body: &[u8], law: u32, set: u32, records: bool, way: Way) -> bool
+    requires { ⌜ length (now body) ≤ longest ⌝ }
 {
-    if form != 2 {
+    if way.form != 2 {
         return true;
     }
-    let t = all_parts(stream, law, set, false, fd, COUNTED);
-    sounds::write_heading(fd, t.samples)
+    let counted = Way {
+        compares: false,
+        fd: way.fd,
+        form: sounds::COUNTED,
+    };
+    let o = came_of(body, law, set, records, counted, replaying::TELLS_NOTHING);
+    sounds::write_heading(way.fd, o.samples)
 }
 
-// Writes the sound of a stream to a file.
-fn write_to(stream: &[u8], law: u32, set: u32, form: u32, name: &[u8])
-    requires { ⌜ length (now stream) ≤ longest ⌝ }
+// What is told of a recording's items.
+fn tells_of(f: Flags) -> u32 {
+    if f.lists {
+        return replaying::TELLS_ALL;
+    }
+    replaying::TELLS_LOSSES
+}
+
+// Writes the sound of a file to another.
+fn write_to(body: &[u8], law: u32, s: Settings, records: bool, name: &[u8])
+    requires { ⌜ length (now body) ≤ longest ⌝ }
 {
+    let f = s.flags;
     let fd = console::open_out(name);
     if fd < 0 {
         console::failed(UNPACK, name, b"standard output");
         return;
     }
-    if !heading_written(stream, law, set, form, fd) {
+    let way = Way {
+        compares: false,
+        fd,
+        form: s.form,
+    };
+    if !heading_written(body, law, s.set, records, way) {
         console::failed(UNPACK, name, b"standard output");
         return;
     }
-    let t = all_parts(stream, law, set, false, fd, form);
-    if t.wrong != NOTHING {
+    let o = came_of(body, law, s.set, records, way, tells_of(f));
+    if o.wrong != NOTHING {
         console::failed(UNPACK, name, b"standard output");
         return;
     }
@@ -242,74 +252,52 @@ fn write_to(stream: &[u8], law: u32, set: u32, form: u32, name: &[u8])
         console::failed(UNPACK, name, b"standard output");
         return;
     }
-    finish(t);
-}
-
-// Where the master differs, and the last line.
-fn differs(wrong: u32, place: usize) {
-    console::say_tool(UNPACK);
-    if wrong == SHORTER {
-        console::say_number(b"the master is shorter: it ends at octet ", place);
-    } else if wrong == LONGER {
-        console::say_number(b"the master is longer: the sound ends at octet ", place);
-    } else {
-        console::say_number(b"the sound differs from the master at octet ", place);
-    }
-    console::say(b"\n");
-    console::stop(UNPACK, 65, place, 0, 0);
-}
-
-// What is wrong with a master after its octets for all the sound: nothing, or it is longer.
-fn left_over(fd: i32) -> u32 {
-    let mut one = [0u8; 1];
-    let got = console::read_part(fd, &mut one);
-    if got.failed {
-        return FAILED;
-    }
-    if got.count == 0 {
-        return NOTHING;
-    }
-    LONGER
+    finish(o, f.on);
 }
 
 // What a comparison came to. A frame that is refused comes before what a master has left over.
-fn conclude(t: Total, fd: i32, name: &[u8]) {
-    if t.wrong == FAILED {
+fn conclude(o: Outcome, on: bool, fd: i32, name: &[u8]) {
+    if o.wrong == FAILED {
         console::failed(UNPACK, name, b"standard input");
         return;
     }
-    if t.wrong != NOTHING {
-        differs(t.wrong, t.samples);
+    if o.wrong != NOTHING {
+        sounds::differs(o.wrong, o.samples);
         return;
     }
-    let end = t.end;
-    if rules::number_of(end) != 0 {
-        finish(t);
+    if o.number != 0 {
+        finish(o, on);
         return;
     }
-    let wrong = left_over(fd);
+    let wrong = sounds::left_over(fd);
     if wrong == FAILED {
         console::failed(UNPACK, name, b"standard input");
         return;
     }
     if wrong != NOTHING {
-        differs(wrong, t.samples);
+        sounds::differs(wrong, o.samples);
         return;
     }
-    finish(t);
+    finish(o, on);
 }
 
-// Compares the sound of a stream with a master.
-fn compare_with(stream: &[u8], law: u32, set: u32, name: &[u8])
-    requires { ⌜ length (now stream) ≤ longest ⌝ }
+// Compares the sound of a file with a master.
+fn compare_with(body: &[u8], law: u32, s: Settings, records: bool, name: &[u8])
+    requires { ⌜ length (now body) ≤ longest ⌝ }
 {
+    let f = s.flags;
     let fd = console::open_in(name);
     if fd < 0 {
         console::failed(UNPACK, name, b"standard input");
         return;
     }
-    let t = all_parts(stream, law, set, true, fd, 0);
-    conclude(t, fd, name);
+    let way = Way {
+        compares: true,
+        fd,
+        form: 0,
+    };
+    let o = came_of(body, law, s.set, records, way, tells_of(f));
+    conclude(o, f.on, fd, name);
 }
 
 // LAW, SET and LONG are told before any frame is read.
@@ -325,27 +313,88 @@ fn refuses(end: Ending) -> bool
     }
 }
 
-// Reads the stream, and writes or compares its sound. `name` is INFILE, `other` OUTFILE or the master. SET comes before any file.
-fn run(s: Settings, law: u32, name: &[u8], other: &[u8]) {
-    let e = rules::guard(law, s.set);
+// The octets of a file's frames, by their law, to the other file: OUTFILE or the master. `name` is INFILE.
+fn to_other(body: &[u8], law: u32, s: Settings, records: bool, name: &[u8])
+    requires { ⌜ length (now body) ≤ longest ⌝ }
+{
+    let mut space = [0u8; 4095];
+    if s.master != 0 {
+        let n = console::file_name(s.master, &mut space);
+        compare_with(body, law, s, records, &space[..n]);
+        return;
+    }
+    let target = console::target_name(s, law, name, &mut space);
+    let n = target.len;
+    if !target.fits {
+        console::usage(UNPACK, b"OUTFILE's name would be too long");
+        return;
+    }
+    write_to(body, law, s, records, &space[..n]);
+}
+
+// The octets of a file's frames are judged before any of them is read.
+fn with_frames(body: &[u8], law: u32, s: Settings, records: bool, name: &[u8]) {
+    let e = rules::guard_stream(law, s.set, body.len());
     if refuses(e) {
         return;
     }
-    let mut stream = [0u8; rules::LONGEST + 1];
-    let got = read_stream(name, &mut stream);
+    to_other(body, law, s, records, name);
+}
+
+// A stream: an option or INFILE's ending tells its law.
+fn with_stream(s: Settings, name: &[u8], file: &[u8]) {
+    let f = s.flags;
+    if f.lists {
+        console::usage(
+            UNPACK,
+            b"-v lists a recording's items, and this is a stream: listing lists its frames",
+        );
+        return;
+    }
+    let law = options::law_of(s, name);
+    if law == 2 {
+        console::usage(UNPACK, b"the law is not known: say -u or -a");
+        return;
+    }
+    with_frames(file, law, s, false, name);
+}
+
+// A recording: its heading tells the law, and an option may not say another. LONG counts from the heading's end.
+fn with_recording(s: Settings, law: u32, name: &[u8], file: &[u8])
+    requires { ⌜ headed (now file) ≡ heading law ⌝ }
+{
+    if s.law != 2 && s.law != law {
+        console::usage(UNPACK, b"the recording's heading says the other law");
+        return;
+    }
+    with_frames(&file[playing::HEADING_LENGTH..], law, s, true, name);
+}
+
+// What the file is says what is done with it.
+fn with_file(s: Settings, name: &[u8], file: &[u8]) {
+    match replaying::kind_of(file) {
+        Kind::Stream => with_stream(s, name, file),
+        Kind::Recording(law) => with_recording(s, law, name, file),
+        Kind::Headless => {
+            console::say(b"unpack: a recording's heading is cut, or of another law or version\n");
+            console::refused(UNPACK, 14, 0, 0, 0);
+        }
+    }
+}
+
+// Reads the file. SET comes before it.
+fn run(s: Settings, name: &[u8]) {
+    let e = rules::guard(0, s.set);
+    if refuses(e) {
+        return;
+    }
+    let mut file = [0u8; rules::LONGEST + playing::HEADING_LENGTH + 1];
+    let got = read_file(name, &mut file);
     if got.failed {
         return;
     }
     let n = got.count;
-    let e = rules::guard_stream(law, s.set, n);
-    if refuses(e) {
-        return;
-    }
-    if s.master == 0 {
-        write_to(&stream[..n], law, s.set, s.form, other);
-    } else {
-        compare_with(&stream[..n], law, s.set, other);
-    }
+    with_file(s, name, &file[..n]);
 }
 
 // Whether -l or -w can't be met: a master that is compared is raw G.711, and no ending is known for another form.
@@ -367,34 +416,24 @@ fn wrong_form(s: Settings, name: &[u8]) -> bool {
     false
 }
 
-// Finds the name of the other file.
-fn with_names(s: Settings, law: u32, name: &[u8]) {
-    if wrong_form(s, name) {
-        return;
+// Whether a master can't be met.
+fn wrong_master(s: Settings, name: &[u8]) -> bool {
+    if s.master == 0 {
+        return false;
+    }
+    if s.outfile != 0 {
+        console::say(b"unpack: with -c nothing is written to OUTFILE\n");
     }
     let mut space = [0u8; 4095];
-    if s.master != 0 {
-        if s.outfile != 0 {
-            console::say(b"unpack: with -c nothing is written to OUTFILE\n");
-        }
-        let n = console::file_name(s.master, &mut space);
-        if name.len() == 0 && n == 0 {
-            console::usage(UNPACK, b"INFILE and MASTER can't both be standard input");
-            return;
-        }
-        run(s, law, name, &space[..n]);
-        return;
+    let n = console::file_name(s.master, &mut space);
+    if name.len() == 0 && n == 0 {
+        console::usage(UNPACK, b"INFILE and MASTER can't both be standard input");
+        return true;
     }
-    let target = console::target_name(s, law, name, &mut space);
-    let n = target.len;
-    if !target.fits {
-        console::usage(UNPACK, b"OUTFILE's name would be too long");
-        return;
-    }
-    run(s, law, name, &space[..n]);
+    false
 }
 
-// "usage, then LAW, SET, .., then files, then the sound's own"
+// "usage, then SET, .., then files, then the file's own"
 fn main() {
     let s = console::settings(UNPACK);
     if s.wrong != 0 {
@@ -403,10 +442,11 @@ fn main() {
     }
     let mut space = [0u8; 4095];
     let n = console::file_name(s.infile, &mut space);
-    let law = options::law_of(s, &space[..n]);
-    if law == 2 {
-        console::usage(UNPACK, b"the law is not known: say -u or -a");
+    if wrong_form(s, &space[..n]) {
         return;
     }
-    with_names(s, law, &space[..n]);
+    if wrong_master(s, &space[..n]) {
+        return;
+    }
+    run(s, &space[..n]);
 }

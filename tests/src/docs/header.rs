@@ -8,9 +8,6 @@ const HEADER: &str = "include/g7110.h";
 /// The files of the wrapper, which has each refusal's number and each limit once.
 const WRAPPER: &str = "wrapper/src/";
 
-/// The definitions of calls that the header does not have yet (document 02, R-1).
-const NOT_YET: &str = "crates/recording/";
-
 /// The names of the header with their numbers: the limits, which are defined, and the endings, which are listed.
 fn numbers(files: &Files, start: &str, between: &str) -> BTreeMap<String, u64> {
     let lines = files.text(HEADER).lines().filter_map(|line| line.trim_start().strip_prefix(start));
@@ -26,7 +23,7 @@ fn first_number(text: &str) -> Option<u64> {
 pub fn refusals(files: &Files) -> Held {
     let mut held = Held::new("refusals of the header, by the definitions and the wrapper");
     let mut defined = BTreeMap::from([("OK".to_string(), 0)]);
-    let specs = files.under("crates/", ".antt").filter(|(path, _)| path.contains("/specs/") && !path.starts_with(NOT_YET));
+    let specs = files.under("crates/", ".antt").filter(|(path, _)| path.contains("/specs/"));
     for line in specs.flat_map(|(_, text)| text.lines()) {
         if let Some((name, number)) = numbered(line) {
             defined.insert(name.to_uppercase(), number);
@@ -70,15 +67,19 @@ pub fn limits(files: &Files) -> Held {
     let most = |name| defined.get(name).copied().unwrap_or(0);
     let one_more = most("MAX_WRITTEN") == most("MAX_SAMPLES") + 1;
     held.also(one_more, || "header: a written frame has one octet more than samples".to_string());
+    let with_heading = most("MAX_FILE") == most("MAX_STREAM") + most("HEADING");
+    held.also(with_heading, || "header: a file has a heading and a stream".to_string());
     held
 }
 
 /// A limit, and the words around it in the definition, the proof or the code that has it.
-const LIMITS: [(&str, &str, &str, &str); 4] = [
+const LIMITS: [(&str, &str, &str, &str); 6] = [
     ("MAX_SAMPLES", "crates/rules/src/lib.rt", "samples: [u8; ", "]"),
     ("MAX_FRAME", "crates/promises/proofs/Bounded.antt", "octetsUsed f ≤ ", ")"),
     ("MAX_STREAM", "crates/rules/specs/Walk.antt", "\nlongest = ", "\n"),
     ("ALL_TOOLS", "crates/rules/specs/Tools.antt", "\nallTools = ", "\n"),
+    ("HEADING", "crates/recording/specs/Remembered.antt", "\nheadingLength = ", "\n"),
+    ("LOSS", "crates/recording/specs/Items.antt", "\nlossFrom = ", "\n"),
 ];
 
 /// A call that the wrapper has ready, its feature off, and the header does not have yet (document 02, R-9).

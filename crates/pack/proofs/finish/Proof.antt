@@ -44,7 +44,7 @@ returns-3 c = search needs
 write-stream-requires : tie.Need-write-stream-requires
 write-stream-requires c κs =
     let s = c .before .before .before .before .before .before .before .before .before in
-    (record { one = s .pre .one; well = for-done (s .args .run .packed .end) (sym (c .before .before .before .number-for .ensures) ∙ omega arith) }, s .pre .octets)
+    (record { one = s .pre .0 .one; well = for-done (s .args .run .packed .end) (sym (c .before .before .before .number-for .ensures) ∙ omega arith) }, s .pre .0 .octets, s .pre .1)
 
 returns-4 : tie.Need-returns-4
 returns-4 c = search needs

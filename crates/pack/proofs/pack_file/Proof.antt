@@ -77,7 +77,10 @@ all-parts-requires c κs =
     )
 
 finish-requires : tie.Need-finish-requires
-finish-requires c κs = search needs
+finish-requires c κs =
+    let a = c .before .before .before .before .before .all-parts in
+    let p = c .before .before .before .before .before .before .before .before .before .before .before .before .before .before .before .before .before .before .before .before .pack in
+    (a .ensures, omega (arith, a .kept .1 .1 .1 .1 .0, p .kept .1 .1 .1 .1 .0, c .before .before .before .before .before .before .before .before .before .before .before .before .before .before .before .before .before .before .before .before .before .before .before .before .before .before .before .before .pre .0))
 
 same-length-5 : tie.Need-same-length-5
 same-length-5 c = search needs

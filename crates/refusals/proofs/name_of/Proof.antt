@@ -48,6 +48,9 @@ named-requires-13 c κs = search needs
 named-requires-14 : tie.Need-named-requires-14
 named-requires-14 c κs = search needs
 
+named-requires-15 : tie.Need-named-requires-15
+named-requires-15 c κs = search needs
+
 returns : tie.Need-returns
 unfolding refusalName refusalNames
 returns c =
@@ -129,7 +132,13 @@ returns-13 c =
 returns-14 : tie.Need-returns-14
 unfolding refusalName refusalNames
 returns-14 c =
-    rw (c .named14 .ensures .0, c .named14 .ensures .1)
+    rw (c .before .before .before .match .keys14, c .named14 .ensures .0, c .named14 .ensures .1)
+    (record { says = refl; most = omega arith; size = refl })
+
+returns-15 : tie.Need-returns-15
+unfolding refusalName refusalNames
+returns-15 c =
+    rw (c .named15 .ensures .0, c .named15 .ensures .1)
     (record { says = sym (no-name (c .before .before .before .before .args .number) (c .before .before .before .match .rest)); most = omega arith; size = refl })
 
 pub name-of-spec : {M : Type 1} → statement M
@@ -150,6 +159,7 @@ name-of-spec =
     named-requires-12
     named-requires-13
     named-requires-14
+    named-requires-15
     returns
     returns-2
     returns-3
@@ -163,4 +173,5 @@ name-of-spec =
     returns-11
     returns-12
     returns-13
-    returns-14)
+    returns-14
+    returns-15)

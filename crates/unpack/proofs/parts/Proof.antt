@@ -11,10 +11,10 @@ use Rattle.unpack.proofs.parts.Statement.{statement}
 use Rattle.unpack.proofs.parts.Tie as tie
 
 abbrev Inv-loop : tie.InvT-loop
-Inv-loop stream law set compares fd page₀ master₀ form at₀ frames₀ samples₀ page master at frames samples = Going stream law set (length page₀) page at frames samples × (length master ≡ length master₀)
+Inv-loop stream law set way page₀ master₀ at₀ frames₀ samples₀ page master at frames samples = Going stream law set (length page₀) page at frames samples × (length master ≡ length master₀)
 
 abbrev μ-loop : tie.MeasureT-loop
-μ-loop stream law set compares fd page₀ master₀ form at₀ frames₀ samples₀ page master at frames samples = length stream - at
+μ-loop stream law set way page₀ master₀ at₀ frames₀ samples₀ page master at frames samples = length stream - at
 
 -- the two pages keep their lengths
 module _ (d : tie.After-use-part Inv-loop μ-loop) where
@@ -24,8 +24,8 @@ module _ (d : tie.After-use-part Inv-loop μ-loop) where
   same-page : length (d .before .before .before .before .before .next-part .last .1 .1 .1 .1 .0) ≡ length (start .args .page .now)
   same-page = d .before .before .before .before .before .next-part .kept .1 .1 .1 .1 .0 ∙ d .before .before .before .before .before .before .before .loop .inv .0 .page-size
 
-  same-master : length (d .use-part .last .1 .1 .1 .1 .1 .1 .1 .1 .0) ≡ length (start .args .master .now)
-  same-master = d .use-part .kept .1 .1 .1 .1 .1 .1 .1 .1 .0 ∙ d .before .before .before .before .before .before .before .loop .inv .1
+  same-master : length (d .use-part .last .1 .1 .1 .1 .1 .1 .1 .0) ≡ length (start .args .master .now)
+  same-master = d .use-part .kept .1 .1 .1 .1 .1 .1 .1 .0 ∙ d .before .before .before .before .before .before .before .loop .inv .1
 
 loop-holds : tie.Need-loop-holds Inv-loop μ-loop
 loop-holds c = (going-first _ _ _ _, refl)

@@ -5,12 +5,12 @@ use lib.Seq.{length-take-le}
 use Rattle.unpack.proofs.use_part.Statement.{statement}
 use Rattle.unpack.proofs.use_part.Tie as tie
 
-slice-aggregate-compared : tie.Need-slice-aggregate-compared
-slice-aggregate-compared c = sym (length-take-le _ _ (c .before .before .before .before .before .pre .1))
+slice-aggregate-use-sound : tie.Need-slice-aggregate-use-sound
+slice-aggregate-use-sound c = sym (length-take-le _ _ (c .before .before .before .before .pre .1))
 
-compared-requires : tie.Need-compared-requires
-compared-requires c κs =
-    let a = c .before .before .before .before .before .before in
+use-sound-requires : tie.Need-use-sound-requires
+use-sound-requires c κs =
+    let a = c .before .before .before .before .before in
     omega (arith, length-take-le (a .args .p .samples) (a .args .page .now) (a .pre .1), a .pre .1, a .pre .2)
 
 same-length : tie.Need-same-length
@@ -18,22 +18,9 @@ same-length c = search needs
 
 returns : tie.Need-returns
 returns c =
-    let a = c .before .before .before .before .before .before .before .before .before in
-    rw (length-take-le (a .args .p .samples) (a .args .page .now) (a .pre .1)) at (c .before .before .compared .ensures)
-
-written-requires : tie.Need-written-requires
-written-requires c κs = search needs
-
-returns-2 : tie.Need-returns-2
-returns-2 c = search needs
+    let a = c .before .before .before .before .before .before .before .before in
+    rw (length-take-le (a .args .p .samples) (a .args .page .now) (a .pre .1)) at (c .before .before .use-sound .ensures)
 
 pub use-part-spec : {M : Type 1} → statement M
 use-part-spec =
-    tie.close
-    (tie.spec
-    slice-aggregate-compared
-    compared-requires
-    same-length
-    returns
-    written-requires
-    returns-2)
+    tie.close (tie.spec slice-aggregate-use-sound use-sound-requires same-length returns)

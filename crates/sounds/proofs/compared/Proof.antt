@@ -3,8 +3,8 @@ use lib.Seq.{length-take-le}
 use lib.ListN.{length, drop, length-append}
 use native.Mathlib.Omega.{arith}
 use mathlib.Core.Path.{sym}
-use Rattle.unpack.proofs.compared.Statement.{statement}
-use Rattle.unpack.proofs.compared.Tie as tie
+use Rattle.sounds.proofs.compared.Statement.{statement}
+use Rattle.sounds.proofs.compared.Tie as tie
 
 slice-relend-prefix-read-part : tie.Need-slice-relend-prefix-read-part
 slice-relend-prefix-read-part c = search needs

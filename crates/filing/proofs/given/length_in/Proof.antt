@@ -1,0 +1,18 @@
+use borrow.Author.Needs.{needs}
+use native.Mathlib.Omega.{arith}
+use mathlib.Core.Path.{sym}
+use Rattle.filing.proofs.Cells.{length-frame, length-loss}
+use Rattle.filing.proofs.given.length_in.Statement.{statement}
+use Rattle.filing.proofs.given.length_in.Tie as tie
+
+returns : tie.Need-returns
+returns c = sym (length-frame (c .before .args .c) (omega (arith, c .if1 .taken)))
+
+cast-result : tie.Need-cast-result
+cast-result c = search needs
+
+returns-2 : tie.Need-returns-2
+returns-2 c = sym (length-loss (c .before .args .c) (omega (arith, c .if1 .left)))
+
+pub length-in-spec : {M : Type 1} → statement M
+length-in-spec = tie.close (tie.spec returns cast-result returns-2)

@@ -1,0 +1,71 @@
+-- The first sample tells which of the two marks it may be, or that it is none (Erasing).
+use borrow.Author.Needs.{needs}
+use Prim.Native.Nat.{ℕ}
+use mathlib.Core.Path.{sym, ap, _∙_}
+use native.Mathlib.Omega.{arith}
+use Rattle.rules.specs.Samples.{maskOf}
+use Rattle.look.proofs.Tests.{mask-seven, is-mask}
+use Rattle.recording.specs.Remembered.{plusPlus, minusMinus}
+use Rattle.playing.proofs.Erasing.{erased-none, erased-plus, erased-minus, erased-other}
+use Rattle.playing.proofs.is_erased.Statement.{statement}
+use Rattle.playing.proofs.is_erased.Tie as tie
+
+returns : tie.Need-returns
+returns c = erased-none _ _ _ (c .if1 .taken)
+
+mask-of-requires : tie.Need-mask-of-requires
+mask-of-requires c κs = search needs
+
+shared-slice-read-first : tie.Need-shared-slice-read-first
+shared-slice-read-first c = search needs
+
+plus-plus-requires : tie.Need-plus-plus-requires
+plus-plus-requires c κs = rw (c .before .mask-of .ensures) (mask-seven _ (is-mask (c .before .before .before .before .args .law)))
+
+all-are-requires : tie.Need-all-are-requires
+all-are-requires c κs = search needs
+
+returns-2 : tie.Need-returns-2
+returns-2 c =
+    let s = c .before .before .before .before .before .before .before in
+    let m = c .before .before .before .before .mask-of .ensures in
+    let p = c .before .if2 .taken ∙ c .before .before .plus-plus .ensures ∙ ap (λ (mask : ℕ). plusPlus mask) m in
+    rw (c .all-are .ensures) (erased-plus (maskOf (s .args .law)) (s .args .n) (s .args .samples .now) (omega arith) (omega arith) p)
+
+minus-minus-requires : tie.Need-minus-minus-requires
+minus-minus-requires c κs =
+    rw (c .before .before .before .mask-of .ensures) (mask-seven _ (is-mask (c .before .before .before .before .before .before .args .law)))
+
+all-are-requires-2 : tie.Need-all-are-requires-2
+all-are-requires-2 c κs = search needs
+
+returns-3 : tie.Need-returns-3
+returns-3 c =
+    let s = c .before .before .before .before .before .before .before .before .before in
+    let m = c .before .before .before .before .before .before .mask-of .ensures in
+    let p = c .before .if3 .taken ∙ c .before .before .minus-minus .ensures ∙ ap (λ (mask : ℕ). minusMinus mask) m in
+    rw (c .all-are2 .ensures) (erased-minus (maskOf (s .args .law)) (s .args .n) (s .args .samples .now) (omega arith) (omega arith) p)
+
+returns-4 : tie.Need-returns-4
+returns-4 c =
+    let s = c .before .before .before .before .before .before .before .before in
+    let m = c .before .before .before .before .before .mask-of .ensures in
+    let p = c .before .before .before .plus-plus .ensures ∙ ap (λ (mask : ℕ). plusPlus mask) m in
+    let q = c .before .minus-minus .ensures ∙ ap (λ (mask : ℕ). minusMinus mask) m in
+    erased-other (maskOf (s .args .law)) (s .args .n) (s .args .samples .now) (omega arith) (omega arith)
+    (λ e. c .before .before .if2 .left (e ∙ sym p)) (λ e. c .if3 .left (e ∙ sym q))
+
+pub is-erased-spec : {M : Type 1} → statement M
+is-erased-spec =
+    tie.close
+    (tie.spec
+    returns
+    mask-of-requires
+    shared-slice-read-first
+    plus-plus-requires
+    all-are-requires
+    returns-2
+    minus-minus-requires
+    all-are-requires-2
+    returns-3
+    returns-4)

@@ -1,0 +1,52 @@
+use borrow.Author.Needs.{needs}
+use mathlib.Core.Path.{_≡_, refl, sym, ap, _∙_}
+use Rattle.recording.specs.Remembered.{headed}
+use Rattle.playing.specs.declared.Heading.{Heading}
+use Rattle.playing.specs.Plays.{asHeaded}
+use Rattle.replaying.specs.Kinds.{kindOf}
+use Rattle.replaying.proofs.kind_of.Statement.{statement}
+use Rattle.replaying.proofs.kind_of.Tie as tie
+
+-- what the heading says, by the answer
+is-headed : (d : tie.After-law-in) {h : Heading} → d .law-in .result ≡ h → headed (d .before .before .args .octets .now) ≡ asHeaded h
+is-headed d e = sym (d .law-in .ensures) ∙ ap asHeaded e
+
+law-in-requires : tie.Need-law-in-requires
+law-in-requires c κs = search needs
+
+enum-known-law : tie.Need-enum-known-law
+enum-known-law c = search needs
+
+enum-told : tie.Need-enum-told
+enum-told c = search needs
+
+slice-aggregate-has-word : tie.Need-slice-aggregate-has-word
+slice-aggregate-has-word c = search needs
+
+has-word-requires : tie.Need-has-word-requires
+has-word-requires c κs = search needs
+
+returns : tie.Need-returns
+unfolding kindOf
+returns c = rw (is-headed (c .before .before .before .before .before) (c .before .before .before .enum-told .given .1), sym (c .before .has-word .ensures) ∙ c .if1 .taken)
+
+returns-2 : tie.Need-returns-2
+unfolding kindOf
+returns-2 c = rw (is-headed (c .before .before .before) (c .before .law .given .1))
+
+returns-3 : tie.Need-returns-3
+unfolding kindOf
+returns-3 c = rw (is-headed (c .before .before .before .before .before) (c .before .before .before .enum-told .given .1), sym (c .before .has-word .ensures) ∙ c .if1 .left)
+
+pub kind-of-spec : {M : Type 1} → statement M
+kind-of-spec =
+    tie.close
+    (tie.spec
+    law-in-requires
+    enum-known-law
+    enum-told
+    slice-aggregate-has-word
+    has-word-requires
+    returns
+    returns-2
+    returns-3)

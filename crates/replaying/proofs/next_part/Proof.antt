@@ -1,0 +1,55 @@
+-- What is played of as many items as are sure to fit, as a part (Parted).
+use borrow.Author.Needs.{needs}
+use native.Mathlib.Omega.{arith}
+use lib.ListN.{length}
+use Rattle.playing.specs.Plays.{Plays}
+use Rattle.replaying.specs.Parts.{partOf}
+use Rattle.replaying.proofs.Parted.{items-fit, part-told, goes-of}
+use Rattle.replaying.proofs.next_part.Statement.{statement}
+use Rattle.replaying.proofs.next_part.Tie as tie
+
+module _ (d : tie.After-play-on) where
+  abbrev start : tie.Start
+  start = d .before .before .before .before .before .before .before
+
+  plays : Plays (partOf (start .args .body .now) (start .args .law) (start .args .set) (start .args .at) (length (start .args .out .now)) (length (start .args .cells .now)))
+      (d .play-on .result) (start .args .out .now) (d .play-on .last .1 .1 .1 .1 .1 .0) (start .args .cells .now) (d .play-on .last .1 .1 .1 .1 .1 .1 .0)
+  plays = rw (d .before .before .before .sure-items .ensures) at (d .play-on .ensures)
+
+sure-items-requires : tie.Need-sure-items-requires
+sure-items-requires c κs = search needs
+
+play-on-requires : tie.Need-play-on-requires
+play-on-requires c κs = search needs
+
+losses-requires : tie.Need-losses-requires
+losses-requires c κs =
+    let d = c .before .before .before .before .before in
+    omega (arith, items-fit _ _ _ _ _ _ (plays d), d .play-on .kept .1 .1 .1 .1 .1 .1 .0)
+
+part-of-requires : tie.Need-part-of-requires
+part-of-requires c κs = search needs
+
+same-length : tie.Need-same-length
+same-length c = search needs
+
+same-length-2 : tie.Need-same-length-2
+same-length-2 c = search needs
+
+returns : tie.Need-returns
+returns c =
+    let d = c .before .before .before .before .before .before .before in
+    let t = part-told _ _ _ _ _ _ (plays d) (c .before .losses .ensures) (c .part-of .ensures) in
+    (t, goes-of _ _ _ _ _ _ t)
+
+pub next-part-spec : {M : Type 1} → statement M
+next-part-spec =
+    tie.close
+    (tie.spec
+    sure-items-requires
+    play-on-requires
+    losses-requires
+    part-of-requires
+    same-length
+    same-length-2
+    returns)

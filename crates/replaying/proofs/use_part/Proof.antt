@@ -1,0 +1,26 @@
+use borrow.Author.Needs.{needs}
+use native.Mathlib.Omega.{arith}
+use mathlib.Core.Path.{sym}
+use lib.Seq.{length-take-le}
+use Rattle.replaying.proofs.use_part.Statement.{statement}
+use Rattle.replaying.proofs.use_part.Tie as tie
+
+slice-aggregate-use-sound : tie.Need-slice-aggregate-use-sound
+slice-aggregate-use-sound c = sym (length-take-le _ _ (c .before .before .before .before .pre .1))
+
+use-sound-requires : tie.Need-use-sound-requires
+use-sound-requires c κs =
+    let a = c .before .before .before .before .before in
+    omega (arith, length-take-le (a .args .p .samples) (a .args .page .now) (a .pre .1), a .pre .1, a .pre .2)
+
+same-length : tie.Need-same-length
+same-length c = search needs
+
+returns : tie.Need-returns
+returns c =
+    let a = c .before .before .before .before .before .before .before .before in
+    rw (length-take-le (a .args .p .samples) (a .args .page .now) (a .pre .1)) at (c .before .before .use-sound .ensures)
+
+pub use-part-spec : {M : Type 1} → statement M
+use-part-spec =
+    tie.close (tie.spec slice-aggregate-use-sound use-sound-requires same-length returns)

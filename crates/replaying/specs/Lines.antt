@@ -1,0 +1,45 @@
+-- What is told of an item: "a line with its place, its length and the sample before which it stands".
+use Prim.Native.Nat.{ℕ, _+_}
+use mathlib.Core.Path.{_≡_}
+use mathlib.Core.List.{List, [], _∷_, _++_}
+use lib.ListN.{length, getD}
+use Rattle.rules.specs.Listing.{lineEnd, atWord, samplesWord, field}
+use Rattle.recording.specs.Items.{Item, lost, soundIn}
+use Rattle.replaying.specs.declared.Part.{Part}
+use Rattle.replaying.specs.Parts.{partOf, NextPart}
+use Rattle.replaying.specs.Runs.{Before}
+
+-- "loss=I at=P samples=N before=S": the item's number, its octets' place, its samples (0: not known), and the samples of the frames before it
+abbrev pub lossWord : List ℕ
+lossWord = 0x6C ∷ 0x6F ∷ 0x73 ∷ 0x73 ∷ 0x3D ∷ []
+
+abbrev pub beforeWord : List ℕ
+beforeWord = 0x20 ∷ 0x62 ∷ 0x65 ∷ 0x66 ∷ 0x6F ∷ 0x72 ∷ 0x65 ∷ 0x3D ∷ []
+
+unfoldable pub lossLine : ℕ → ℕ → ℕ → ℕ → List ℕ
+lossLine number place samples heard =
+    field lossWord number ++ (field atWord place ++ (field (0x20 ∷ samplesWord) samples ++ (field beforeWord heard ++ lineEnd)))
+
+-- so many items, whose frames have so many samples, stand before a place
+pub record Follows (body : List ℕ) (law set at number heard : ℕ) : Type 0 where
+  pub done : List Item
+  pub before : Before body law set done at
+  pub count : number ≡ length done
+  pub sound : heard ≡ length (soundIn done)
+
+-- an item there, alone in its part, and the number that tells it
+pub record NextItem (body : List ℕ) (law set at number heard cell : ℕ) (p : Part) : Type 0 where
+  pub follows : Follows body law set at number heard
+  pub page : List ℕ
+  pub page′ : List ℕ
+  pub lent : List ℕ
+  pub cells : List ℕ
+  pub room : length page ≡ 320
+  pub place : length lent ≡ 1
+  pub is : NextPart body law set at page page′ lent cells p
+  pub told : cell ≡ getD cells 0 0
+
+-- it is a loss of so many samples
+pub record LossAt (body : List ℕ) (law set at number heard n : ℕ) : Type 0 where
+  pub follows : Follows body law set at number heard
+  pub is : partOf body law set at 320 1 .items ≡ lost n ∷ []

@@ -1,0 +1,39 @@
+-- Part after part: what may be written next, what is told, and what the totals of a whole file are.
+use Prim.Native.Nat.{ℕ, suc, _+_, _*_, _≤_}
+use mathlib.Core.Path.{_≡_}
+use mathlib.Core.Bool.{true}
+use mathlib.Core.List.{List, [], _∷_, _++_}
+use lib.ListN.{length}
+use Rattle.recording.specs.Items.{Item, lost, Recorded, itemsFrom, soundIn}
+use Rattle.replaying.specs.declared.Part.{Part}
+use Rattle.replaying.specs.declared.Total.{Total}
+use Rattle.replaying.specs.Parts.{partOf, goesOn, lossesIn, NextPart}
+
+-- the parts of a recording from its start on, each with more to come: their items, and the place where the last one ended
+pub data Before (body : List ℕ) (law set : ℕ) : List Item → ℕ → Type 0 where
+  none : Before body law set [] 0
+  one-more : {done : List Item} {at : ℕ} → Before body law set done at → (room places : ℕ)
+      → goesOn (partOf body law set at room places .end) (partOf body law set at room places .place) (length body) ≡ true
+      → Before body law set (done ++ partOf body law set at room places .items) (partOf body law set at room places .place)
+
+-- what may be written: the page's sound is the recording's next part, after the parts before it
+pub record NextSound (body : List ℕ) (law set at : ℕ) (page : List ℕ) (p : Part) : Type 0 where
+  pub done : List Item
+  pub before : Before body law set done at
+  pub lent : List ℕ
+  pub cells : List ℕ
+  pub cells′ : List ℕ
+  pub is : NextPart body law set at lent page cells cells′ p
+
+-- all of a recording, with room and places that are never short
+abbrev pub played : List ℕ → ℕ → ℕ → Recorded
+played body law set = itemsFrom (suc (length body)) body law set 0 (320 * length body) (length body)
+
+-- a recording's totals are those of its items
+pub record TellsFile (body : List ℕ) (law set : ℕ) (t : Total) : Type 0 where
+  pub end : t .end ≡ played body law set .end
+  pub at : t .at ≡ played body law set .place
+  pub bit : t .bit ≡ played body law set .bit
+  pub items : t .items ≡ length (played body law set .items)
+  pub losses : t .lost ≡ lossesIn (played body law set .items)
+  pub samples : t .samples ≡ length (soundIn (played body law set .items))
