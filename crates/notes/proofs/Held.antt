@@ -13,7 +13,7 @@ use Rattle.notes.proofs.Noting.{length-heads, length-all, notes-back}
 use Rattle.notes.specs.Cells.{heads, headsOf, notesOf, marksHeld, allCells, allLaid, notesLaid, stored}
 
 -- rows laid over a beginning of the cells, the rest as it was
-laid-part : (rows : List Row) (a z : List ℕ) → 1 + 3 * length rows ≤ length a → laid rows a ++ z ≡ laid rows (a ++ z)
+pub laid-part : (rows : List Row) (a z : List ℕ) → 1 + 3 * length rows ≤ length a → laid rows a ++ z ≡ laid rows (a ++ z)
 unfolding laid
 laid-part rows a z h =
     let p = length rows ∷ cellsOf rows in

@@ -241,7 +241,15 @@ build {text} {b} {size} {left} {at} {answer} {r} {law} {place} n rest j more end
       fine = w;
       wrong = λ z. rw z at k′;
       on = λ z. record {
-        more = more; new = rest; end = end; low = r .start + r .octets; reads = f; count = c; rises = u .1; fine = v .1; all = rw z at k′;
+        more = more;
+        new = rest;
+        end = end;
+        low = r .start + r .octets;
+        reads = f;
+        count = c;
+        rises = u .1;
+        fine = v .1;
+        all = rw z at k′;
       };
     }
 

@@ -57,14 +57,16 @@ celled-noted (whole xs i) {cells₀} {cells} {laws₀} {laws} {n} f a b =
     let e = f .count in
     let k : n ≡ length xs = cc in
     let d : drop (length xs) laws ≡ drop (length xs) laws₀ =
-    ap (drop (length xs)) (f .filled .1) ∙ drop-at (lawsListed xs) (drop (length xs) laws₀) (length xs) (length-laws xs) in
-    (refl, record {
-      few = f .few n refl;
-      cells-room = a;
-      laws-room = b;
-      rows-are = rows-read (rowsListed xs) cells₀ (k ∙ sym (length-rows-listed xs)) (f .filled .0);
-      laws-are = f .filled .1 ∙ ap (λ (l : List ℕ). lawsListed xs ++ l) (sym d);
-    })
+    ap (drop (length xs)) (f .filled .1) ∙ drop-at (lawsListed xs) (drop (length xs) laws₀) (length xs) (length-laws xs) in (
+      refl,
+      record {
+        few = f .few n refl;
+        cells-room = a;
+        laws-room = b;
+        rows-are = rows-read (rowsListed xs) cells₀ (k ∙ sym (length-rows-listed xs)) (f .filled .0);
+        laws-are = f .filled .1 ∙ ap (λ (l : List ℕ). lawsListed xs ++ l) (sym d);
+      },
+    )
 
 -- those of R-6's lines: law 1
 pub rows-as : {found : Read (List Row)} {a b : List ℕ} {r q : Count} → r ≡ q → Fills found a b r → Fills found a b q

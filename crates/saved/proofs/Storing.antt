@@ -7,13 +7,13 @@ use mathlib.Core.Bool.{Bool, true, false, cond}
 use native.Mathlib.Omega.{arith}
 use native.Mathlib.Numerals.{add-one}
 use lib.ListN.{length, getD, take, drop, set, length-set, length-append, length-take, length-drop, take-append-drop}
-use lib.Seq.{take-at, drop-at, set-at, drop-drop, drop-append-le, getD-drop, length-take-le, take-length, drop-length}
+use lib.Seq.{take-at, drop-at, set-at, drop-drop, getD-drop, length-take-le, take-length, drop-length}
 use Rattle.rows.specs.declared.Row.{Row}
 use Rattle.rows.specs.Rows.{greeting, held}
 use Rattle.rows.specs.Cells.{rowAt, rowsAt, rowsOf, cellsOf, laid}
 use Rattle.rows.specs.Sane.{rising}
 use Rattle.rows.proofs.Left.{left, left-all, left-step}
-use Rattle.rows.proofs.Cells.{rows-snoc, length-rows, length-cells, rows-laid, count-laid, laid-again, held-snoc}
+use Rattle.rows.proofs.Cells.{rows-snoc, length-rows, rows-laid, count-laid, laid-again, held-snoc}
 use Rattle.rows.proofs.Rising.{rising-next}
 use Rattle.greetings.specs.Bad.{isBad}
 use Rattle.marks.specs.Marks.{Note, noteOf, mostMarks, markCells}
@@ -22,6 +22,7 @@ use Rattle.notes.specs.Notes.{insertNote}
 use Rattle.notes.specs.Cells.{headOf, heads, headsOf, notesIn, notesOf, marksHeld, allCells, allLaid, anewFrom, notesLaid}
 use Rattle.notes.specs.Sane.{storeCells}
 use Rattle.notes.proofs.Noting.{notes-back, length-heads, heads-append, all-append, length-all}
+use Rattle.notes.proofs.Held.{laid-part, length-laid}
 use Rattle.saved.specs.Steps.{badBy, notesBy, OneMore, AllNotes}
 use Rattle.saved.proofs.Bad.{law-at}
 use Rattle.marks.proofs.Count.{note-few}
@@ -49,16 +50,12 @@ in-parts t h =
       second = length-take-le 97 u (omega arith);
     }
 
-laid-part : (hs : List Row) (b c : List ℕ) → length hs ≤ 32 → length b ≡ 97 → laid hs (b ++ c) ≡ laid hs b ++ c
-unfolding laid
-laid-part hs b c h l =
-    ap (λ (x : List ℕ). (length hs ∷ cellsOf hs) ++ x) (drop-append-le (1 + 3 * length hs) b c (omega arith))
-    ∙ sym (append-assoc (length hs ∷ cellsOf hs) (drop (1 + 3 * length hs) b) c)
+-- a list of up to 32 in its 97 cells
+laid-first : (hs : List Row) (b c : List ℕ) → length hs ≤ 32 → length b ≡ 97 → laid hs (b ++ c) ≡ laid hs b ++ c
+laid-first hs b c h l = sym (laid-part hs b c (omega arith))
 
-length-laid : (hs : List Row) (b : List ℕ) → length hs ≤ 32 → length b ≡ 97 → length (laid hs b) ≡ 97
-unfolding laid
-length-laid hs b h l =
-    omega (arith, length-append (length hs ∷ cellsOf hs) (drop (1 + 3 * length hs) b), length-cells hs, length-drop (1 + 3 * length hs) b)
+long-laid : (hs : List Row) (b : List ℕ) → length hs ≤ 32 → length b ≡ 97 → length (laid hs b) ≡ 97
+long-laid hs b h l = length-laid hs b (omega arith) ∙ l
 
 -- notes laid, in parts
 laid-parts : (notes : List Note) (a b c : List ℕ) → length notes ≤ 32 → length a ≡ 97 → length b ≡ 97
@@ -71,9 +68,9 @@ laid-parts notes a b c h k l =
     let one : anewFrom 97 (laid hs) (a ++ (b ++ c)) ≡ (a ++ b′) ++ c =
     ap (λ (x : List ℕ). x ++ laid hs (drop 97 (a ++ (b ++ c)))) (take-at a (b ++ c) 97 k)
     ∙ ap (λ (x : List ℕ). a ++ laid hs x) (drop-at a (b ++ c) 97 k)
-    ∙ ap (λ (x : List ℕ). a ++ x) (laid-part hs b c (omega arith) l) ∙ sym (append-assoc a b′ c)
+    ∙ ap (λ (x : List ℕ). a ++ x) (laid-first hs b c (omega arith) l) ∙ sym (append-assoc a b′ c)
     in
-    let m : length (a ++ b′) ≡ 194 = omega (arith, length-append a b′, length-laid hs b (omega arith) l) in
+    let m : length (a ++ b′) ≡ 194 = omega (arith, length-append a b′, long-laid hs b (omega arith) l) in
     ap (anewFrom 194 (allLaid notes)) one
     ∙ ap (λ (x : List ℕ). x ++ allLaid notes (drop 194 ((a ++ b′) ++ c))) (take-at (a ++ b′) c 194 m)
     ∙ ap (λ (x : List ℕ). (a ++ b′) ++ allLaid notes x) (drop-at (a ++ b′) c 194 m)
@@ -101,7 +98,7 @@ module _ (t : List ℕ) (h : 194 ≤ length t) where
       let b′ = laid (heads y) (p .b) in
       let inner = ap (notesLaid y) (p .is) ∙ laid-parts y (p .a) (p .b) (p .c) (omega arith) (p .first) (p .second) in
       ap (notesLaid x) inner
-      ∙ laid-parts x (p .a) b′ (allLaid y (p .c)) f (p .first) (length-laid (heads y) (p .b) (omega arith) (p .second))
+      ∙ laid-parts x (p .a) b′ (allLaid y (p .c)) f (p .first) (long-laid (heads y) (p .b) (omega arith) (p .second))
       ∙ ap (λ (u : List ℕ). p .a ++ (u ++ allLaid x (allLaid y (p .c)))) (laid-again (heads x) (heads y) (p .b) (omega arith))
       ∙ ap (λ (u : List ℕ). p .a ++ (laid (heads x) (p .b) ++ u)) (all-again x y (p .c) l)
       ∙ sym (ap (notesLaid x) (p .is) ∙ laid-parts x (p .a) (p .b) (p .c) f (p .first) (p .second))
@@ -114,7 +111,7 @@ module _ (t : List ℕ) (h : 194 ≤ length t) where
     second-is =
         let n = length-heads x in
         ap (drop 97) form ∙ drop-at (p .a) (laid (heads x) (p .b) ++ allLaid x (p .c)) 97 (p .first)
-        ∙ sym (laid-part (heads x) (p .b) (allLaid x (p .c)) (omega arith) (p .second))
+        ∙ sym (laid-first (heads x) (p .b) (allLaid x (p .c)) (omega arith) (p .second))
 
     pub heads-of : headsOf (notesLaid x t) ≡ heads x
     heads-of = ap rowsOf second-is ∙ rows-laid (heads x) (p .b ++ allLaid x (p .c))
@@ -128,7 +125,7 @@ module _ (t : List ℕ) (h : 194 ≤ length t) where
         let n = length-heads x in
         let b′ = laid (heads x) (p .b) in
         let m : length (p .a ++ b′) ≡ 194 = omega
-        (arith, length-append (p .a) b′, length-laid (heads x) (p .b) (omega arith) (p .second), p .first) in
+        (arith, length-append (p .a) b′, long-laid (heads x) (p .b) (omega arith) (p .second), p .first) in
         ap (drop 194) (form ∙ sym (append-assoc (p .a) b′ (allLaid x (p .c)))) ∙ drop-at (p .a ++ b′) (allLaid x (p .c)) 194 m
 
     pub notes-of : notesOf (notesLaid x t) ≡ x
@@ -143,7 +140,7 @@ module _ (t : List ℕ) (h : 194 ≤ length t) where
         let c′ = allLaid x (p .c) in
         let k = ap length form ∙ length-append (p .a) (b′ ++ c′) in
         let m = ap length (p .is) ∙ length-append (p .a) (p .b ++ p .c) in
-        let q = length-laid (heads x) (p .b) (omega arith) (p .second) in
+        let q = long-laid (heads x) (p .b) (omega arith) (p .second) in
         let r = length-append b′ c′ in
         let s = length-append (p .b) (p .c) in
         let u = length-append (allCells x) (drop (length (allCells x)) (p .c)) in

@@ -1,5 +1,6 @@
 -- Each call, from what its steps do: `put-taken`, `put-long`, `put-bad`, `put-full`, `put-no-room`, `put-fits`; `put-table`, `put-law`, `put-stop`,
--- `put-goes-on`; `sound-taken` (what was taken of a greeting is its note); `get-table`, `get-stop`, `get-absent`, `get-found`; `delete-table`, `delete-stop`, `delete-absent`, `delete-found`.
+-- `put-goes-on`; `get-table`, `get-stop`, `get-absent`, `get-found`; `delete-table`, `delete-stop`, `delete-absent`, `delete-found`.
+-- What was taken of a greeting is its note: `sound-taken`.
 use Prim.Native.Nat.{ℕ, _+_, _*_, _^_, _≤_, _<_}
 use mathlib.Core.Path.{_≡_, refl, sym, ap, subst, _∙_}
 use mathlib.Core.List.{List, _++_}

@@ -258,13 +258,7 @@ fn put_among(
 }
 
 // "Put": TABLE, LAW, NUMBER, TAKEN, BAD, FULL, NOROOM; the start, and the octets moved.
-pub fn put(
-    block: &mut [u8],
-    table: &mut [u32],
-    law: u32,
-    number: u32,
-    octets: &[u8],
-) -> Answer
+pub fn put(block: &mut [u8], table: &mut [u32], law: u32, number: u32, octets: &[u8]) -> Answer
     ensures { λ r. ⌜ Put law number (now (octets .entry)) (now (block .entry)) (now (table .entry)) (now (block .exit)) (now (table .exit)) r ⌝ }
 {
     let size = rows::size_of(block.len());

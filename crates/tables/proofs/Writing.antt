@@ -119,8 +119,13 @@ pub text-left : (t hs ms : List ℕ) (n p i : ℕ) → i < n
 unfolding listedText listing notesIn
 text-left t hs ms n p i h =
     let more = textLeft t hs ms n (p + 2 * getD hs (1 + 3 * i + 2) 0) (i + 1) in
-    rw (left-step t n i refl h, left-step hs n i refl h, drop-drop (2 * getD hs (1 + 3 * i + 2) 0) p ms, append-assoc (rowLaid t i)
-    (noteLaid hs ms p i) more)
+    rw (
+      left-step t n i refl h,
+      left-step hs n i refl h,
+      drop-drop (2 * getD hs (1 + 3 * i + 2) 0) p ms,
+      append-assoc (rowLaid t i)
+          (noteLaid hs ms p i) more,
+    )
 
 pub text-over : (t hs ms : List ℕ) (n p i : ℕ) → n ≤ i → textLeft t hs ms n p i ≡ []
 unfolding listedText listing

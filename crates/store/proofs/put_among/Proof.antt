@@ -57,8 +57,7 @@ put-sound-requires c κs =
     let take = told .before .before .before .take .ensures in
     let s = told .before .before .before .before .before .before .before .before .before .before in
     let p = s .pre in
-    let k = sound-taken take (told .samples .given .1) wide (omega arith) in
-    (
+    let k = sound-taken take (told .samples .given .1) wide (omega arith) in (
       (p .0, omega arith, k .fine),
       ((p .1 .0, p .1 .1, p .1 .3, omega arith), ((omega (arith, wide), k .heard, k .few, k .fits), k .note)),
     )

@@ -73,9 +73,11 @@ returns c =
     let o = c .marks-octets .ensures in
     let e = ap (λ (m : ℕ). length (marksText (marksIn m (a .cells .now)))) (c .before .wide .ensures) in
     let s = c .before .before .before .line-octets2 .ensures in
-    let l = c .before .before .before .before .before .before .line-octets .ensures in
-    (omega (arith, note-length (noteAt (a .heads .now) (a .k) (a .cells .now)), o .0, e, s .0, l .0), omega
-    (arith, o .1, c .before .wide .ensures, r, s .1, l .1))
+    let l = c .before .before .before .before .before .before .line-octets .ensures in (
+      omega (arith, note-length (noteAt (a .heads .now) (a .k) (a .cells .now)), o .0, e, s .0, l .0),
+      omega
+          (arith, o .1, c .before .wide .ensures, r, s .1, l .1),
+    )
 
 pub note-octets-spec : {M : Type 1} → statement M
 note-octets-spec =
