@@ -121,7 +121,8 @@ module _ (b xs : List ℕ) (s : ℕ) (f : s + length xs ≤ length b) where
       ap (λ (x : List ℕ). kept (r .number) x ∷ contents (written b s xs) rows) (low-part (r .start) (r .octets) (n .0 .inside))
       ∙ ap (λ (x : List Kept). kept (r .number) (greeting b r) ∷ x) (below-reads rows (r .start + r .octets) (n .1))
 
-  pub above-reads : (rows : List Row) (lo size : ℕ) → s + length xs ≤ lo → rising 1 lo size rows ≡ true → contents (written b s xs) rows ≡ contents b rows
+  pub above-reads : (rows : List Row) (lo size : ℕ) → s + length xs ≤ lo → rising 1 lo size rows ≡ true
+      → contents (written b s xs) rows ≡ contents b rows
   unfolding contents kept
   above-reads [] lo size g h = refl
   above-reads (r ∷ rows) lo size g h =

@@ -68,7 +68,8 @@ apart-none [] = tt
 apart-none (r ∷ rows) = (tt, apart-none rows)
 
 -- closed up, each is where closing up puts it
-changed-closed : (pre rows rest : List Row) (at : ℕ) → Distinct rows → Apart pre rows → changed rows (pre ++ (closedRows at rows ++ rest)) ≡ movedFrom at rows
+changed-closed : (pre rows rest : List Row) (at : ℕ) → Distinct rows → Apart pre rows
+    → changed rows (pre ++ (closedRows at rows ++ rest)) ≡ movedFrom at rows
 unfolding changed closedRows movedFrom Distinct Apart
 changed-closed pre [] rest at d p = refl
 changed-closed pre (r ∷ rows) rest at d p =

@@ -36,7 +36,8 @@ rising-any lo size [] e = rising-nil 0 lo size
 rising-any lo size (r ∷ rows) e =
     let n = rising-head 1 lo size r rows e in
     let q = n .0 in
-    rising-cons 0 lo size r rows (record { above = q .above; some = omega arith; inside = q .inside }) (rising-any (r .start + r .octets) size rows (n .1))
+    rising-cons 0 lo size r rows (record { above = q .above; some = omega arith; inside = q .inside })
+    (rising-any (r .start + r .octets) size rows (n .1))
 
 pub rising-remove : (a : List Row) (r : Row) (c : List Row) (lo size : ℕ) → rising 1 lo size (a ++ (r ∷ c)) ≡ true → rising 1 lo size (a ++ c) ≡ true
 rising-remove [] r c lo size e =

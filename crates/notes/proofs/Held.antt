@@ -118,7 +118,8 @@ module _ (t : List ℕ) (h : 194 ≤ length t) where
 
     pub count-of : getD (notesLaid x t) 97 0 ≡ length x
     count-of =
-        sym (getD-drop 97 (notesLaid x t) 0 0) ∙ ap (λ (l : List ℕ). getD l 0 0) second-is ∙ count-laid (heads x) (p .b ++ allLaid x (p .c)) ∙ length-heads x
+        sym (getD-drop 97 (notesLaid x t) 0 0) ∙ ap (λ (l : List ℕ). getD l 0 0) second-is ∙ count-laid (heads x) (p .b ++ allLaid x (p .c))
+        ∙ length-heads x
 
     marks-of : drop 194 (notesLaid x t) ≡ allLaid x (p .c)
     marks-of =

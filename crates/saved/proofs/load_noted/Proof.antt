@@ -45,7 +45,8 @@ slice-aggregate-read-noted-3 c = search needs
 
 read-noted-requires-2 : tie.Need-read-noted-requires-2
 read-noted-requires-2 c κs =
-    let q18 = c .before .before .before .before .before .before .before .before .before .before .before .before .before .before .before .before .before .before in
+    let q9 = c .before .before .before .before .before .before .before .before .before in
+    let q18 = q9 .before .before .before .before .before .before .before .before .before in
     (omega (arith, q18 .pre .1), omega arith)
 
 slice-aggregate-store-notes : tie.Need-slice-aggregate-store-notes

@@ -64,7 +64,9 @@ add-result-2 : tie.Need-add-result-2
 add-result-2 c =
     let a = c .before .before .before .before .before .before .before .before .before .before .before .args in
     let r = c .before .before .shared-slice-known5 .given (a .k + 2) in
-    omega (arith, c .marks-octets .ensures .1, c .before .wide .ensures, r, c .before .before .before .line-octets2 .ensures .1, c .before .before .before .before .before .before .line-octets .ensures .1)
+    let line2 = c .before .before .before in
+    let line = line2 .before .before .before in
+    omega (arith, c .marks-octets .ensures .1, c .before .wide .ensures, r, line2 .line-octets2 .ensures .1, line .line-octets .ensures .1)
 
 returns : tie.Need-returns
 returns c =
