@@ -1,12 +1,12 @@
 -- Octets that no put or closing up writes stay: `closing-spares`, `writing-spares`, `put-stays`.
-use Prim.Native.Nat.{ℕ, zero, suc, _+_, _*_, _-_, _≤_, _<_, min}
+use Prim.Native.Nat.{ℕ, _+_, _-_, _≤_, _<_}
 use mathlib.Core.Path.{_≡_, refl, sym, ap, _∙_}
 use mathlib.Core.List.{List, [], _∷_, _++_, append-assoc}
-use mathlib.Core.Bool.{Bool, true, false}
+use mathlib.Core.Bool.{true}
 use native.Mathlib.Omega.{arith}
 use native.Mathlib.Nat.{sub-zero, zero-add}
 use native.Mathlib.Decide.{ℕ-discrete, decLt}
-use lib.ListN.{length, take, drop, getD, length-drop, List·getD-append}
+use lib.ListN.{length, take, drop, getD, List·getD-append}
 use lib.Seq.{getD-append-add, getD-drop, getD-take, length-take-le}
 use Rattle.rows.specs.declared.Row.{Row}
 use Rattle.rows.specs.declared.Gap.{Gap}

@@ -1,12 +1,11 @@
 -- The marks of frames after others (`marks-append`), of at most 64 frames from a marked one on (`marks-one`), and how marks lie in cells.
-use Prim.Native.Nat.{ℕ, zero, suc, _+_, _*_, _%_, _≤_, _<_}
+use Prim.Native.Nat.{ℕ, suc, _+_, _*_, _%_, _≤_, _<_}
 use mathlib.Core.Path.{_≡_, refl, sym, ap, _∙_}
-use mathlib.Core.List.{List, [], _∷_, _++_, append-assoc, append-nil}
+use mathlib.Core.List.{List, [], _∷_, _++_, append-assoc}
 use mathlib.Core.Bool.{Bool, true, false, cond}
 use native.Mathlib.Omega.{arith}
 use lib.ListN.{length, getD, drop, set, length-append}
 use lib.Seq.{drop-cons, set-at}
-use lib.Dec.{eqb}
 use borrow.Author.Tests.{eq-eqb, ne-eqb}
 use Rattle.rules.specs.Walk.{Delivered, samplesKept}
 use Rattle.marks.specs.Marks.{Mark, markOf, isMarked, marksFrom, markCells}

@@ -1,8 +1,8 @@
 -- A greeting's walk, 64 frames at a time. What is done after m times is the walk of 64 * m frames: `along-start`, `along-turn`. It stops at a
 -- refused frame, which makes the greeting BAD (`taken-wrong`), or at the greeting's end, with the marks and the samples that the whole walk gives
 -- (`taken-all`).
-use Prim.Native.Nat.{ℕ, suc, _+_, _*_, _-_, _/_, _%_, _≤_, _<_}
-use mathlib.Core.Path.{_≡_, refl, sym, ap, subst, _∙_}
+use Prim.Native.Nat.{ℕ, suc, _+_, _*_, _-_, _≤_, _<_}
+use mathlib.Core.Path.{_≡_, refl, sym, ap, _∙_}
 use mathlib.Core.List.{List, [], _∷_, _++_, append-nil}
 use mathlib.Core.Bool.{Bool, true, false, cond}
 use native.Mathlib.Omega.{arith}
@@ -10,7 +10,6 @@ use lib.ListN.{length, drop, set, length-append, length-set}
 use lib.Dec.{ltb}
 use borrow.Author.Tests.{le-ltb, ltb-true, ltb-false}
 use Rattle.rules.specs.declared.Refusal.{Refusal}
-use Rattle.rules.specs.declared.Ending.{Ending}
 use Rattle.rules.specs.declared.Ending.the-variants.{Done, Refused}
 use Rattle.rules.specs.declared.WalkAnswer.{WalkAnswer}
 use Rattle.rules.specs.Tools.{mostLaw}
@@ -18,8 +17,7 @@ use Rattle.rules.specs.Walk.{Delivered, Walked, stopped, walkFrom, longest, oct
 use Rattle.rules.proofs.Walk.{after, samplesKept-append, Told, walk-told, walk-on, walk-kept, walk-fuel, walk-roomy, walk-ended, walk-each}
 use Rattle.walk.specs.Counting.{Counts}
 use Rattle.greetings.specs.Bad.{isBad, walkOf, storeSet}
-use Rattle.greetings.proofs.Bad.{walk-of, bad-empty}
-use Rattle.marks.specs.declared.Tally.{Tally}
+use Rattle.greetings.proofs.Bad.{walk-of}
 use Rattle.marks.specs.declared.Tally.the-variants.{Wrong, Counted}
 use Rattle.marks.specs.Marks.{Mark, markOf, marksFrom, marksOf, mostMarks, markCells, noteOf}
 use Rattle.marks.specs.Taking.{countedOf, tallyOf, Takes}

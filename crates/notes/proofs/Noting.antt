@@ -2,14 +2,14 @@
 -- back); a note put in (`note-added`) and taken out (`note-dropped`).
 use Prim.Native.Nat.{ℕ, zero, suc, _+_, _*_, _-_, _≤_, _<_}
 use mathlib.Core.Path.{_≡_, refl, sym, ap, _∙_}
-use mathlib.Core.List.{List, [], _∷_, _++_, append-assoc, append-nil}
+use mathlib.Core.List.{List, [], _∷_, _++_, append-assoc}
 use native.Mathlib.Omega.{arith}
-use lib.ListN.{length, getD, take, drop, length-append, length-take, length-drop, take-append-drop}
+use lib.ListN.{length, getD, take, drop, length-append, length-drop, take-append-drop}
 use lib.Seq.{take-at, drop-at, split-at, take-add}
 use Rattle.rows.specs.declared.Row.{Row}
 use Rattle.rows.specs.Rows.{held}
 use Rattle.rows.specs.Changed.{nth, insertAt, removeAt}
-use Rattle.marks.specs.Marks.{Mark, Note, markOf, markCells}
+use Rattle.marks.specs.Marks.{Mark, Note, markCells}
 use Rattle.marks.proofs.Marked.{length-cells}
 use Rattle.notes.specs.Notes.{noNote, nthNote, insertNote, removeNote}
 use Rattle.notes.specs.Cells.{headOf, heads, marksIn, notesIn, marksHeld, allCells, allLaid}

@@ -1,22 +1,22 @@
 -- The three parts of a table lie apart: greetings laid leave the notes as they are (`notes-kept`, `heads-kept`, `count-kept`).
 -- `note-put`, `note-out`: a note put in and taken out, from what the steps do; `stored-more`, `stored-less`: the same after its greeting.
-use Prim.Native.Nat.{ℕ, zero, suc, _+_, _*_, _-_, _≤_, _<_}
+use Prim.Native.Nat.{ℕ, _+_, _*_, _-_, _≤_, _<_}
 use mathlib.Core.Path.{_≡_, refl, sym, ap, _∙_}
-use mathlib.Core.List.{List, [], _∷_, _++_, append-assoc, append-nil}
+use mathlib.Core.List.{List, _∷_, _++_}
 use native.Mathlib.Omega.{arith}
 use lib.ListN.{length, getD, take, drop, length-append, length-take, length-drop, take-append-drop}
-use lib.Seq.{take-at, drop-at, drop-drop, drop-append-le, take-append-le, take-take, length-take-le, getD-drop, getD-take}
+use lib.Seq.{take-at, drop-at, drop-drop, length-take-le, getD-drop}
 use Rattle.rows.specs.declared.Row.{Row}
 use Rattle.rows.specs.Cells.{rowAt, rowsAt, rowsOf, cellsOf, laid}
 use Rattle.rows.specs.Changed.{nth, insertAt, removeAt}
 use Rattle.rows.specs.Rows.{rowOf}
-use Rattle.rows.proofs.Cells.{length-cells as length-row-cells, rows-laid, length-rows, take-rows, nth-rows}
+use Rattle.rows.proofs.Cells.{length-cells as length-row-cells, length-rows, take-rows, nth-rows}
 use Rattle.rows.proofs.Finding.{held-turn}
 use Rattle.rules.proofs.Lent.{from-on, back-on}
 use Rattle.marks.proofs.Marked.{length-cells}
-use Rattle.marks.specs.Marks.{Note, markCells}
+use Rattle.marks.specs.Marks.{Note}
 use Rattle.notes.specs.Notes.{insertNote, removeNote, nthNote}
-use Rattle.notes.specs.Cells.{headOf, heads, headsOf, marksIn, notesIn, notesOf, marksHeld, allCells, allLaid, anewFrom, notesLaid, stored}
+use Rattle.notes.specs.Cells.{heads, headsOf, notesOf, marksHeld, allCells, allLaid, anewFrom, notesLaid, stored}
 use Rattle.notes.specs.Changed.{opened, shut, noteIn}
 use Rattle.notes.proofs.Noting.{heads-notes, cells-notes, length-all, heads-take, nth-heads, length-heads, heads-insert, heads-remove}
 use Rattle.notes.proofs.Noting.{note-added, all-append, note-dropped, length-marks, cells-marks}

@@ -1,26 +1,22 @@
 -- The notes of all greetings laid into a table one after another: `storing-first`, `storing-turn`, `storing-end`.
-use Prim.Native.Nat.{ℕ, zero, suc, _+_, _*_, _-_, _/_, _≤_, _<_, min}
+use Prim.Native.Nat.{ℕ, suc, _+_, _*_, _/_, _≤_, _<_, min}
 use mathlib.Core.Path.{_≡_, refl, sym, ap, _∙_}
-use mathlib.Core.List.{List, [], _∷_, _++_, append-assoc, append-nil}
-use mathlib.Core.Bool.{Bool, true, false, cond}
+use mathlib.Core.List.{List, [], _∷_, _++_}
+use mathlib.Core.Bool.{false}
 use native.Mathlib.Omega.{arith}
-use native.Mathlib.Numerals.{add-one}
-use lib.ListN.{length, getD, take, drop, set, length-set, length-append, length-take, length-drop, take-append-drop}
-use lib.Seq.{take-at, drop-at, set-at, drop-drop, getD-drop, length-take-le, take-length, drop-length}
+use lib.ListN.{length, getD, drop, set, length-set, length-append, length-take}
+use lib.Seq.{drop-drop, getD-drop, take-length, drop-length}
 use Rattle.rows.specs.declared.Row.{Row}
 use Rattle.rows.specs.Rows.{greeting, held}
-use Rattle.rows.specs.Cells.{rowAt, rowsAt, rowsOf, cellsOf, laid}
-use Rattle.rows.specs.Sane.{rising}
+use Rattle.rows.specs.Cells.{rowAt, rowsAt}
 use Rattle.rows.proofs.Left.{left, left-all, left-step}
-use Rattle.rows.proofs.Cells.{rows-snoc, length-rows, rows-laid, count-laid, laid-again, held-snoc}
+use Rattle.rows.proofs.Cells.{rows-snoc, length-rows, held-snoc}
 use Rattle.rows.proofs.Rising.{rising-next}
 use Rattle.greetings.specs.Bad.{isBad}
-use Rattle.marks.specs.Marks.{Note, noteOf, mostMarks, markCells}
-use Rattle.marks.proofs.Marked.{length-cells as length-mark-cells}
+use Rattle.marks.specs.Marks.{Note, noteOf, mostMarks}
 use Rattle.notes.specs.Notes.{insertNote}
-use Rattle.notes.specs.Cells.{headOf, heads, headsOf, notesIn, notesOf, marksHeld, allCells, allLaid, anewFrom, notesLaid}
-use Rattle.notes.specs.Sane.{storeCells}
-use Rattle.notes.proofs.Noting.{notes-back, length-heads, heads-append, all-append, length-all}
+use Rattle.notes.specs.Cells.{headOf, heads, headsOf, notesOf, marksHeld, allCells, notesLaid}
+use Rattle.notes.proofs.Noting.{heads-append, all-append, length-all}
 use Rattle.notes.proofs.Held.{notes-again, heads-of, count-of, notes-of, length-of, none-laid}
 use Rattle.saved.specs.Steps.{badBy, notesBy, OneMore, AllNotes}
 use Rattle.saved.proofs.Bad.{law-at}

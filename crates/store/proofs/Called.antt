@@ -14,7 +14,7 @@ use Rattle.rows.specs.Limits.{sizeOf}
 use Rattle.rows.specs.Rows.{held}
 use Rattle.rows.specs.Cells.{rowAt, rowsOf, laid}
 use Rattle.notes.specs.Notes.{removeNote}
-use Rattle.notes.specs.Cells.{notesOf, notesLaid, stored}
+use Rattle.notes.specs.Cells.{notesOf, notesLaid}
 use Rattle.notes.specs.Sane.{saneStore}
 use Rattle.rows.specs.Changed.{nth, removeAt}
 use Rattle.greetings.specs.Bad.{isBad}
@@ -25,11 +25,11 @@ use Rattle.marks.specs.Taking.{Takes}
 use Rattle.notes.specs.Changed.{noteIn}
 use Rattle.store.specs.declared.Refusal.{Refusal}
 use Rattle.store.specs.declared.Refusal.the-variants.{Law, Taken, Absent, Bad, Full, NoRoom, Table}
-use Rattle.store.specs.declared.Look.the-variants.{Stop, Found}
+use Rattle.store.specs.declared.Look.the-variants.{Stop}
 use Rattle.store.specs.declared.Answer.{Answer}
 use Rattle.store.specs.declared.Answer.the-variants.{Done, Refused}
 use Rattle.store.specs.Store.{Outcome, leaves, refused, fitted, putIn, gotten, getIn, without, deleteIn}
-use Rattle.store.specs.Calls.{answerOf, onTable, putOf, getOf, deleteOf, Says, Put, Get, Delete}
+use Rattle.store.specs.Calls.{onTable, putOf, getOf, deleteOf, Says, Put, Get, Delete}
 use Rattle.store.specs.Looking.{lookOf, Looked, longOf}
 use Rattle.rows.proofs.Cells.{nth-rows}
 use Rattle.store.proofs.Looks.{look-stops, many, taken, free, on-table, off-table}

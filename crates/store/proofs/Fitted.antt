@@ -20,7 +20,7 @@ use Rattle.store.specs.declared.Answer.the-variants.{Done}
 use Rattle.store.specs.Store.{leaves, fitted}
 use Rattle.store.specs.Calls.{Says}
 use Rattle.rows.proofs.Cells.{length-rows, count-laid, rows-laid, laid-again}
-use Rattle.rows.proofs.Finding.{Fits, gap-fits}
+use Rattle.rows.proofs.Finding.{gap-fits}
 use Rattle.closing.proofs.Closed.{length-closed}
 use Rattle.notes.proofs.Stored.{heads-kept, count-kept, stored-more}
 use Rattle.notes.proofs.Matched.{room-more}

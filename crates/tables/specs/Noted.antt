@@ -9,7 +9,7 @@ use Rattle.rules.specs.Tools.{mostLaw}
 use Rattle.rules.specs.Listing.{field, lineEnd, lawWord, samplesWord}
 use Rattle.rows.specs.declared.Row.{Row}
 use Rattle.rows.specs.Limits.{mostGreetings}
-use Rattle.keyvalue.specs.Reading.{Read, whole, none, Reader, andThen, _>>=_, give, begins, after, ended, number}
+use Rattle.keyvalue.specs.Reading.{Read, whole, Reader, andThen, _>>=_, give, begins, after, ended, number}
 use Rattle.keyvalue.specs.Lines.{lineOf, line, ranged}
 use Rattle.marks.specs.Marks.{Mark, Note, markOf}
 use Rattle.tables.specs.Table.{row, rowText}

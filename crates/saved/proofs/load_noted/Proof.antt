@@ -1,5 +1,5 @@
 -- What is read, judged, and then taken (Loading).
-use mathlib.Core.Path.{_≡_, refl, sym, ap, _∙_}
+use mathlib.Core.Path.{sym, _∙_}
 use native.Mathlib.Omega.{arith}
 use Rattle.rows.specs.Limits.{sizeOf}
 use Rattle.tables.specs.Noted.{listedIn}

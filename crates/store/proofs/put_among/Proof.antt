@@ -1,7 +1,5 @@
 -- TAKEN, longer than the block, BAD; then what was taken of the walk is the greeting's note (Called).
-use mathlib.Core.Path.{sym, subst, _∙_}
 use native.Mathlib.Omega.{arith}
-use lib.ListN.{length}
 use Rattle.marks.proofs.Taking.{taken-bad}
 use Rattle.store.proofs.Called.{put-taken, put-long, put-bad, sound-taken}
 use borrow.Author.Needs.{needs}
