@@ -1,5 +1,6 @@
 -- Document 02, R-8: "Lines `law`, `samples` and one `mark` per mark, as octets, a comma and samples, follow `octets`." A greeting's numbers of
--- samples and marks are of any number of digits: whether they are what the walk gives is judged when the whole table is read. "A law above 1 .. is TABLE".
+-- samples and marks are of any number of digits: whether they are what the walk gives is judged when the whole table is read.
+-- "A law above 1 .. is TABLE".
 use Prim.Native.Nat.{ℕ, zero, suc}
 use mathlib.Core.List.{List, [], _∷_, _++_}
 use mathlib.Core.Bool.{cond}
