@@ -241,9 +241,10 @@ module _ (b t : List ℕ) (law x : ℕ) (xs : List ℕ) {a : After} (e : putOf b
   few-in Nowhere =
       let rows = rowsOf t in
       let new = rowOf x (held rows) (length xs) in
-      let l = length-closed 0 rows in
-      (omega (arith, length-inserted (length rows) new (closedRows 0 rows), l, granted .few),
-      inserted-same (length rows) new (closedRows 0 rows) (noteOf law xs) (notesOf t) (same ∙ sym l))
+      let l = length-closed 0 rows in (
+        omega (arith, length-inserted (length rows) new (closedRows 0 rows), l, granted .few),
+        inserted-same (length rows) new (closedRows 0 rows) (noteOf law xs) (notesOf t) (same ∙ sym l),
+      )
 
   pub put-back : Stored (a .rows) (a .notes) t
   put-back =

@@ -1,9 +1,8 @@
 -- Octets moved are exactly the summed lengths of those whose start changed: `put-moved`.
-use Prim.Native.Nat.{ℕ, zero, suc, _+_, _≤_, _<_, min}
+use Prim.Native.Nat.{ℕ, _+_}
 use mathlib.Core.Path.{_≡_, refl, sym, ap, _∙_}
-use mathlib.Core.List.{List, [], _∷_, _++_, append-assoc}
-use mathlib.Core.Bool.{Bool, true, false, cond}
-use native.Mathlib.Omega.{arith}
+use mathlib.Core.List.{List, [], _∷_, _++_}
+use mathlib.Core.Bool.{cond}
 use lib.ListN.{length, take, drop, take-append-drop}
 use lib.Seq.{append-snoc}
 use lib.Dec.{eqb}
@@ -17,7 +16,7 @@ use Rattle.rows.specs.Finding.{lowestGap}
 use Rattle.rows.specs.Cells.{rowsOf}
 use Rattle.notes.specs.Cells.{notesOf}
 use Rattle.rows.specs.Changed.{insertAt}
-use Rattle.closing.specs.Closing.{movedTo, closedRows, movedOne, movedFrom}
+use Rattle.closing.specs.Closing.{movedTo, closedRows, movedFrom}
 use Rattle.store.specs.Store.{leaves, After, putAt}
 use Rattle.store.specs.Calls.{putOf}
 use Rattle.keeping.specs.Kept.{startOf, changed}
@@ -68,7 +67,8 @@ apart-none [] = tt
 apart-none (r ∷ rows) = (tt, apart-none rows)
 
 -- closed up, each is where closing up puts it
-changed-closed : (pre rows rest : List Row) (at : ℕ) → Distinct rows → Apart pre rows → changed rows (pre ++ (closedRows at rows ++ rest)) ≡ movedFrom at rows
+changed-closed : (pre rows rest : List Row) (at : ℕ) → Distinct rows → Apart pre rows
+    → changed rows (pre ++ (closedRows at rows ++ rest)) ≡ movedFrom at rows
 unfolding changed closedRows movedFrom Distinct Apart
 changed-closed pre [] rest at d p = refl
 changed-closed pre (r ∷ rows) rest at d p =

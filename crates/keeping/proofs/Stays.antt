@@ -1,12 +1,12 @@
 -- Octets that no put or closing up writes stay: `closing-spares`, `writing-spares`, `put-stays`.
-use Prim.Native.Nat.{ℕ, zero, suc, _+_, _*_, _-_, _≤_, _<_, min}
+use Prim.Native.Nat.{ℕ, _+_, _-_, _≤_, _<_}
 use mathlib.Core.Path.{_≡_, refl, sym, ap, _∙_}
 use mathlib.Core.List.{List, [], _∷_, _++_, append-assoc}
-use mathlib.Core.Bool.{Bool, true, false}
+use mathlib.Core.Bool.{true}
 use native.Mathlib.Omega.{arith}
 use native.Mathlib.Nat.{sub-zero, zero-add}
 use native.Mathlib.Decide.{ℕ-discrete, decLt}
-use lib.ListN.{length, take, drop, getD, length-drop, List·getD-append}
+use lib.ListN.{length, take, drop, getD, List·getD-append}
 use lib.Seq.{getD-append-add, getD-drop, getD-take, length-take-le}
 use Rattle.rows.specs.declared.Row.{Row}
 use Rattle.rows.specs.declared.Gap.{Gap}
@@ -78,7 +78,8 @@ unfolding written
 low-spares b xs at p h l =
     List·getD-append (take at b) (xs ++ drop (at + length xs) b) 0 p (omega (arith, length-take-le at b (omega arith))) ∙ getD-take at b p 0 l
 
-pub writing-spares : (b xs : List ℕ) (at p : ℕ) → at + length xs ≤ length b → (at ≤ p → p < at + length xs → ⊥) → getD (written b at xs) p 0 ≡ getD b p 0
+pub writing-spares : (b xs : List ℕ) (at p : ℕ) → at + length xs ≤ length b → (at ≤ p → p < at + length xs → ⊥)
+    → getD (written b at xs) p 0 ≡ getD b p 0
 writing-spares b xs at p h out = go (decLt p at) (decLt p (at + length xs))
   where
     go : Dec (p < at) → Dec (p < at + length xs) → getD (written b at xs) p 0 ≡ getD b p 0
@@ -88,7 +89,8 @@ writing-spares b xs at p h out = go (decLt p at) (decLt p (at + length xs))
 
 module _ (b t : List ℕ) (law x : ℕ) (xs : List ℕ) {a : After} (e : putOf b t law x xs ≡ leaves a) where
   stays-in : (g : Gap) → g ≡ lowestGap (length xs) (sizeOf b) (rowsOf t) → (p : ℕ)
-      → (putAt b (rowsOf t) (notesOf t) law x xs g .first ≤ p → p < putAt b (rowsOf t) (notesOf t) law x xs g .first + length xs → ⊥) → Passed p g (rowsOf t)
+      → (putAt b (rowsOf t) (notesOf t) law x xs g .first ≤ p → p < putAt b (rowsOf t) (notesOf t) law x xs g .first + length xs → ⊥)
+      → Passed p g (rowsOf t)
       → getD (putAt b (rowsOf t) (notesOf t) law x xs g .block) p 0 ≡ getD b p 0
   stays-in (At i s) q p out k =
       let f = put-granted b t law x xs a e in

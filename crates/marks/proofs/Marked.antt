@@ -1,12 +1,11 @@
 -- The marks of frames after others (`marks-append`), of at most 64 frames from a marked one on (`marks-one`), and how marks lie in cells.
-use Prim.Native.Nat.{ℕ, zero, suc, _+_, _*_, _%_, _≤_, _<_}
+use Prim.Native.Nat.{ℕ, suc, _+_, _*_, _%_, _≤_, _<_}
 use mathlib.Core.Path.{_≡_, refl, sym, ap, _∙_}
-use mathlib.Core.List.{List, [], _∷_, _++_, append-assoc, append-nil}
+use mathlib.Core.List.{List, [], _∷_, _++_, append-assoc}
 use mathlib.Core.Bool.{Bool, true, false, cond}
 use native.Mathlib.Omega.{arith}
 use lib.ListN.{length, getD, drop, set, length-append}
 use lib.Seq.{drop-cons, set-at}
-use lib.Dec.{eqb}
 use borrow.Author.Tests.{eq-eqb, ne-eqb}
 use Rattle.rules.specs.Walk.{Delivered, samplesKept}
 use Rattle.marks.specs.Marks.{Mark, markOf, isMarked, marksFrom, markCells}
@@ -30,7 +29,8 @@ marks-append i before (f ∷ a) b =
     let rest = marksFrom (i + 1) (before + length (f .found .samples)) a in
     let later = marks-append (i + 1) (before + length (f .found .samples)) a b in
     ap (step (isMarked i) (markOf (f .place) before)) (rw (e, g) at later)
-    ∙ step-append (isMarked i) (markOf (f .place) before) rest (marksFrom (i + suc (length a)) (before + length (f .found .samples ++ samplesKept a)) b)
+    ∙ step-append (isMarked i) (markOf (f .place) before) rest
+    (marksFrom (i + suc (length a)) (before + length (f .found .samples ++ samplesKept a)) b)
 
 -- between two marked frames
 marks-none : (i before : ℕ) (a : List Delivered) → 1 ≤ i % 64 → i % 64 + length a ≤ 64 → marksFrom i before a ≡ []
@@ -68,7 +68,9 @@ two-set p t k a b e h =
     let s : suc k ≡ k + 1 = omega arith in
     let s₂ : suc (k + 1) ≡ k + 2 = omega arith in
     let one : drop k t ≡ getD t k 0 ∷ drop (k + 1) t = drop-cons t k 0 (omega arith) ∙ ap (λ (n : ℕ). getD t k 0 ∷ drop n t) s in
-    let two : drop (k + 1) t ≡ getD t (k + 1) 0 ∷ drop (k + 2) t = drop-cons t (k + 1) 0 (omega arith) ∙ ap (λ (n : ℕ). getD t (k + 1) 0 ∷ drop n t) s₂ in
+    let two : drop (k + 1) t ≡ getD t (k + 1) 0 ∷ drop (k + 2) t =
+    drop-cons t (k + 1) 0 (omega arith) ∙ ap (λ (n : ℕ). getD t (k + 1) 0 ∷ drop n t) s₂
+    in
     let rest = getD t (k + 1) 0 ∷ drop (k + 2) t in
     let first : set (p ++ drop k t) k a ≡ p ++ (a ∷ rest) =
     ap (λ (l : List ℕ). set (p ++ l) k a) (one ∙ ap (λ (l : List ℕ). getD t k 0 ∷ l) two) ∙ set-at p (getD t k 0) rest a k e

@@ -1,7 +1,8 @@
--- A greeting's walk, 64 frames at a time. What is done after m times is the walk of 64 * m frames: `along-start`, `along-turn`. It stops at a refused frame,
--- which makes the greeting BAD (`taken-wrong`), or at the greeting's end, with the marks and the samples that the whole walk gives (`taken-all`).
-use Prim.Native.Nat.{ℕ, suc, _+_, _*_, _-_, _/_, _%_, _≤_, _<_}
-use mathlib.Core.Path.{_≡_, refl, sym, ap, subst, _∙_}
+-- A greeting's walk, 64 frames at a time. What is done after m times is the walk of 64 * m frames: `along-start`, `along-turn`. It stops at a
+-- refused frame, which makes the greeting BAD (`taken-wrong`), or at the greeting's end, with the marks and the samples that the whole walk gives
+-- (`taken-all`).
+use Prim.Native.Nat.{ℕ, suc, _+_, _*_, _-_, _≤_, _<_}
+use mathlib.Core.Path.{_≡_, refl, sym, ap, _∙_}
 use mathlib.Core.List.{List, [], _∷_, _++_, append-nil}
 use mathlib.Core.Bool.{Bool, true, false, cond}
 use native.Mathlib.Omega.{arith}
@@ -9,7 +10,6 @@ use lib.ListN.{length, drop, set, length-append, length-set}
 use lib.Dec.{ltb}
 use borrow.Author.Tests.{le-ltb, ltb-true, ltb-false}
 use Rattle.rules.specs.declared.Refusal.{Refusal}
-use Rattle.rules.specs.declared.Ending.{Ending}
 use Rattle.rules.specs.declared.Ending.the-variants.{Done, Refused}
 use Rattle.rules.specs.declared.WalkAnswer.{WalkAnswer}
 use Rattle.rules.specs.Tools.{mostLaw}
@@ -17,8 +17,7 @@ use Rattle.rules.specs.Walk.{Delivered, Walked, stopped, walkFrom, longest, oct
 use Rattle.rules.proofs.Walk.{after, samplesKept-append, Told, walk-told, walk-on, walk-kept, walk-fuel, walk-roomy, walk-ended, walk-each}
 use Rattle.walk.specs.Counting.{Counts}
 use Rattle.greetings.specs.Bad.{isBad, walkOf, storeSet}
-use Rattle.greetings.proofs.Bad.{walk-of, bad-empty}
-use Rattle.marks.specs.declared.Tally.{Tally}
+use Rattle.greetings.proofs.Bad.{walk-of}
 use Rattle.marks.specs.declared.Tally.the-variants.{Wrong, Counted}
 use Rattle.marks.specs.Marks.{Mark, markOf, marksFrom, marksOf, mostMarks, markCells, noteOf}
 use Rattle.marks.specs.Taking.{countedOf, tallyOf, Takes}
@@ -111,11 +110,13 @@ module _ (law : ℕ) (xs : List ℕ) where
         pub marks-next : marksOf (parts (m + 1) .frames) ≡ marksOf (parts m .frames) ++ (markOf at samples ∷ [])
         marks-next =
             ap (λ (x : Walked). marksOf (x .frames)) along-next ∙ marks-append 0 0 (parts m .frames) (next at .frames)
-            ∙ ap (λ (k : ℕ). marksOf (parts m .frames) ++ marksFrom k (0 + length (samplesKept (parts m .frames))) (next at .frames)) (omega (arith, along-full))
+            ∙ ap (λ (k : ℕ). marksOf (parts m .frames) ++ marksFrom k (0 + length (samplesKept (parts m .frames))) (next at .frames))
+            (omega (arith, along-full))
             ∙ ap (λ (k : ℕ). marksOf (parts m .frames) ++ marksFrom (64 * m) k (next at .frames)) (omega (arith, w .before))
             ∙ ap (λ (ms : List Mark). marksOf (parts m .frames) ++ ms) (next-marks (next at .frames) refl)
 
-        pub along-turn : {place more : ℕ} → place ≡ next at .place → more ≡ length (samplesKept (next at .frames)) → Along (m + 1) place (samples + more)
+        pub along-turn : {place more : ℕ} → place ≡ next at .place → more ≡ length (samplesKept (next at .frames))
+            → Along (m + 1) place (samples + more)
         along-turn {place} {more} p s =
             record {
               clean = ap (λ (x : Walked). x .end) along-next ∙ d;
@@ -147,7 +148,8 @@ module _ (law : ℕ) (xs : List ℕ) where
       along-all h =
           whole (64 * m) ∙ walk-on xs law storeSet (64 * m) (length xs + 1) 0 (320 * length xs) (w .clean)
           ∙ ap (λ (x : Walked). after (parts m .frames) x)
-          (walk-ended xs law storeSet (length xs + 1) (parts m .place) (320 * length xs - length (samplesKept (parts m .frames))) (omega (arith, w .place))
+          (walk-ended xs law storeSet (length xs + 1) (parts m .place) (320 * length xs - length (samplesKept (parts m .frames)))
+          (omega (arith, w .place))
           ∙ ap (λ (k : ℕ). stopped Done k 0) (sym (w .place)))
 
   -- the marks taken stand at the start of the lent cells
@@ -188,7 +190,8 @@ module _ (law : ℕ) (xs : List ℕ) where
           along = along-turn (t .along) h d (c .place) (c .samples);
           cells-are =
               ap (λ (x : List ℕ). set (set x (2 * m) at) (2 * m + 1) samples) (t .cells-are) ∙ two
-              ∙ ap (λ (x : List ℕ). x ++ drop (2 * m + 2) cells₀) (sym (cells-more old (markOf at samples)) ∙ ap markCells (sym (marks-next (t .along) h d)))
+              ∙ ap (λ (x : List ℕ). x ++ drop (2 * m + 2) cells₀)
+              (sym (cells-more old (markOf at samples)) ∙ ap markCells (sym (marks-next (t .along) h d)))
               ∙ ap (λ (n : ℕ). markCells (marksOf (parts (m + 1) .frames)) ++ drop n cells₀) k;
           size = length-set (set cells (2 * m) at) (2 * m + 1) samples ∙ length-set cells (2 * m) at ∙ t .size;
         }
@@ -216,7 +219,8 @@ pub taken-told : (law : ℕ) (xs : List ℕ) {cells cells′ : List ℕ} {sample
 unfolding tallyOf
 taken-told law xs {samples = samples} {m} t = by (isBad law xs) (t .answer)
   where
-    by : (b : Bool) → Counted samples m ≡ cond b Wrong (countedOf (noteOf law xs)) → (b ≡ false) × (samples ≡ noteOf law xs .samples) × (m ≡ length (noteOf law xs .marks))
+    by : (b : Bool) → Counted samples m ≡ cond b Wrong (countedOf (noteOf law xs))
+        → (b ≡ false) × (samples ≡ noteOf law xs .samples) × (m ≡ length (noteOf law xs .marks))
     by true e = let z : _≡_ {A = ℕ} 0 1 = cc in absurd (omega arith)
     by false e = (refl, cc, cc)
 

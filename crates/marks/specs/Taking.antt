@@ -2,7 +2,7 @@
 use Prim.Native.Nat.{ℕ, _*_}
 use mathlib.Core.Path.{_≡_}
 use mathlib.Core.List.{List, _++_}
-use mathlib.Core.Bool.{Bool, true, false, cond}
+use mathlib.Core.Bool.{false, cond}
 use lib.ListN.{length, drop}
 use Rattle.greetings.specs.Bad.{isBad}
 use Rattle.marks.specs.declared.Tally.{Tally}

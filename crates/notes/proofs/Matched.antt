@@ -1,10 +1,10 @@
 -- Tables that calls leave, in the code's order: `matched-end`, `matched-law`, `matched-many`, `matched-turn`; `sane-short`, `sane-not`, `sane-other`,
 -- `sane-rest`; `sane-noted` (what calls' steps rest on). `marks-fit`: the marks of all greetings are at most their octets / 64 and one for each,
 -- so there is always room for them (`room-for`, `room-more`).
-use Prim.Native.Nat.{ℕ, zero, suc, _+_, _*_, _-_, _/_, _≤_, _<_, min}
+use Prim.Native.Nat.{ℕ, zero, suc, _+_, _*_, _≤_, _<_}
 use mathlib.Core.Path.{_≡_, refl, sym, ap, subst, _∙_}
-use mathlib.Core.List.{List, [], _∷_, _++_}
-use mathlib.Core.Bool.{Bool, true, false, cond}
+use mathlib.Core.List.{List, [], _∷_}
+use mathlib.Core.Bool.{Bool, true, false}
 use native.Mathlib.Omega.{arith}
 use native.Mathlib.Numerals.{add-one}
 use lib.ListN.{length, getD, drop}

@@ -2,14 +2,14 @@
 -- back); a note put in (`note-added`) and taken out (`note-dropped`).
 use Prim.Native.Nat.{ℕ, zero, suc, _+_, _*_, _-_, _≤_, _<_}
 use mathlib.Core.Path.{_≡_, refl, sym, ap, _∙_}
-use mathlib.Core.List.{List, [], _∷_, _++_, append-assoc, append-nil}
+use mathlib.Core.List.{List, [], _∷_, _++_, append-assoc}
 use native.Mathlib.Omega.{arith}
-use lib.ListN.{length, getD, take, drop, length-append, length-take, length-drop, take-append-drop}
+use lib.ListN.{length, getD, take, drop, length-append, length-drop, take-append-drop}
 use lib.Seq.{take-at, drop-at, split-at, take-add}
 use Rattle.rows.specs.declared.Row.{Row}
 use Rattle.rows.specs.Rows.{held}
 use Rattle.rows.specs.Changed.{nth, insertAt, removeAt}
-use Rattle.marks.specs.Marks.{Mark, Note, markOf, markCells}
+use Rattle.marks.specs.Marks.{Mark, Note, markCells}
 use Rattle.marks.proofs.Marked.{length-cells}
 use Rattle.notes.specs.Notes.{noNote, nthNote, insertNote, removeNote}
 use Rattle.notes.specs.Cells.{headOf, heads, marksIn, notesIn, marksHeld, allCells, allLaid}
@@ -54,8 +54,12 @@ cells-notes [] cells h = refl
 cells-notes (r ∷ hs) cells h =
     let m = 2 * r .octets in
     let e : 2 * (r .octets + marksHeld hs) ≡ m + 2 * marksHeld hs = omega arith in
-    rw (e, take-add m (2 * marksHeld hs) cells, cells-marks (r .octets) cells (omega arith),
-    cells-notes hs (drop m cells) (omega (arith, length-drop m cells)))
+    rw (
+      e,
+      take-add m (2 * marksHeld hs) cells,
+      cells-marks (r .octets) cells (omega arith),
+      cells-notes hs (drop m cells) (omega (arith, length-drop m cells)),
+    )
 
 pub length-all : (notes : List Note) → length (allCells notes) ≡ 2 * marksHeld (heads notes)
 unfolding allCells heads held
@@ -116,7 +120,9 @@ heads-remove i notes = rw (heads-append (take i notes) (drop (i + 1) notes), hea
 pub all-append : (a b : List Note) → allCells (a ++ b) ≡ allCells a ++ allCells b
 unfolding allCells
 all-append [] b = refl
-all-append (n ∷ a) b = ap (λ (x : List ℕ). markCells (n .marks) ++ x) (all-append a b) ∙ sym (append-assoc (markCells (n .marks)) (allCells a) (allCells b))
+all-append (n ∷ a) b =
+    let mine = markCells (n .marks) in
+    ap (λ (x : List ℕ). mine ++ x) (all-append a b) ∙ sym (append-assoc mine (allCells a) (allCells b))
 
 all-cons : (n : Note) (notes : List Note) → allCells (n ∷ notes) ≡ markCells (n .marks) ++ allCells notes
 unfolding allCells
@@ -142,7 +148,8 @@ note-added notes i n cells new {at} {used} m a u w =
     in
     let all = insertNote i n notes in
     let f : allCells all ≡ front ++ (new ++ back) =
-    all-append (take i notes) (n ∷ drop i notes) ∙ ap (λ (x : List ℕ). front ++ x) (all-cons n (drop i notes) ∙ ap (λ (x : List ℕ). x ++ back) (sym m))
+    all-append (take i notes) (n ∷ drop i notes)
+    ∙ ap (λ (x : List ℕ). front ++ x) (all-cons n (drop i notes) ∙ ap (λ (x : List ℕ). x ++ back) (sym m))
     in
     let k : length (allCells all) ≡ used + length new = ap length f ∙ length-append front (new ++ back) ∙ omega (arith, length-append new back) in
     rw (t₁, t₂, k, f) (simp append-assoc)

@@ -110,6 +110,14 @@ module _ (size : ℕ) (rows : List Row) (notes : List Note) (t : List ℕ) (c : 
       let l₁ : ltb (length (stored rows notes t)) (storeCells size) ≡ false = le-ltb (length (stored rows notes t)) (storeCells size) (omega arith) in
       let l₂ : ltb (length (stored rows notes t)) 97 ≡ false = le-ltb (length (stored rows notes t)) 97 (omega arith) in
       rw (
-        l₁, l₂, rows-stored rows notes t few g w, count-stored rows notes t few g w, heads-stored rows notes t few g w,
-        second-count rows notes t few g w, le-ltb 32 (length rows) few, eq-eqb (length notes) (length rows) same, r, n,
+        l₁,
+        l₂,
+        rows-stored rows notes t few g w,
+        count-stored rows notes t few g w,
+        heads-stored rows notes t few g w,
+        second-count rows notes t few g w,
+        le-ltb 32 (length rows) few,
+        eq-eqb (length notes) (length rows) same,
+        r,
+        n,
       ) m

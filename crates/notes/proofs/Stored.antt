@@ -1,24 +1,25 @@
 -- The three parts of a table lie apart: greetings laid leave the notes as they are (`notes-kept`, `heads-kept`, `count-kept`).
 -- `note-put`, `note-out`: a note put in and taken out, from what the steps do; `stored-more`, `stored-less`: the same after its greeting.
-use Prim.Native.Nat.{ℕ, zero, suc, _+_, _*_, _-_, _≤_, _<_}
+use Prim.Native.Nat.{ℕ, _+_, _*_, _-_, _≤_, _<_}
 use mathlib.Core.Path.{_≡_, refl, sym, ap, _∙_}
-use mathlib.Core.List.{List, [], _∷_, _++_, append-assoc, append-nil}
+use mathlib.Core.List.{List, _∷_, _++_}
 use native.Mathlib.Omega.{arith}
 use lib.ListN.{length, getD, take, drop, length-append, length-take, length-drop, take-append-drop}
-use lib.Seq.{take-at, drop-at, drop-drop, drop-append-le, take-append-le, take-take, length-take-le, getD-drop, getD-take}
+use lib.Seq.{take-at, drop-at, drop-drop, length-take-le, getD-drop}
 use Rattle.rows.specs.declared.Row.{Row}
 use Rattle.rows.specs.Cells.{rowAt, rowsAt, rowsOf, cellsOf, laid}
 use Rattle.rows.specs.Changed.{nth, insertAt, removeAt}
 use Rattle.rows.specs.Rows.{rowOf}
-use Rattle.rows.proofs.Cells.{length-cells as length-row-cells, rows-laid, length-rows, take-rows, nth-rows}
+use Rattle.rows.proofs.Cells.{length-cells as length-row-cells, length-rows, take-rows, nth-rows}
 use Rattle.rows.proofs.Finding.{held-turn}
 use Rattle.rules.proofs.Lent.{from-on, back-on}
 use Rattle.marks.proofs.Marked.{length-cells}
-use Rattle.marks.specs.Marks.{Note, markCells}
+use Rattle.marks.specs.Marks.{Note}
 use Rattle.notes.specs.Notes.{insertNote, removeNote, nthNote}
-use Rattle.notes.specs.Cells.{headOf, heads, headsOf, marksIn, notesIn, notesOf, marksHeld, allCells, allLaid, anewFrom, notesLaid, stored}
+use Rattle.notes.specs.Cells.{heads, headsOf, notesOf, marksHeld, allCells, allLaid, anewFrom, notesLaid, stored}
 use Rattle.notes.specs.Changed.{opened, shut, noteIn}
-use Rattle.notes.proofs.Noting.{heads-notes, cells-notes, length-all, notes-back, heads-take, nth-heads, length-heads, heads-insert, heads-remove, note-added, all-append, note-dropped, length-marks, cells-marks}
+use Rattle.notes.proofs.Noting.{heads-notes, cells-notes, length-all, heads-take, nth-heads, length-heads, heads-insert, heads-remove}
+use Rattle.notes.proofs.Noting.{note-added, all-append, note-dropped, length-marks, cells-marks}
 
 -- a list of up to 32 lies in 97 cells
 pub laid-within : (rows : List Row) (t : List ℕ) → length rows ≤ 32 → drop 97 (laid rows t) ≡ drop 97 t
@@ -104,7 +105,8 @@ module _ (t : List ℕ) (n i : ℕ) (e : n ≡ getD t 97 0) (h : i ≤ n) (room 
   pub heads-less : n ≤ 32 → length (removeAt i (headsOf t)) ≤ 32
   heads-less few =
       let hs = headsOf t in
-      omega (arith, length-append (take i hs) (drop (i + 1) hs), length-take i hs, length-drop (i + 1) hs, ap length all-heads, length-rows (drop 97 t) n 1)
+      let l = ap length all-heads ∙ length-rows (drop 97 t) n 1 in
+      omega (arith, length-append (take i hs) (drop (i + 1) hs), length-take i hs, length-drop (i + 1) hs, l)
 
   marks-are : take (2 * marksHeld (rowsAt (drop 97 t) n 1)) (drop 194 t) ≡ allCells (notesOf t)
   marks-are =
@@ -139,7 +141,8 @@ module _ (t : List ℕ) (n i : ℕ) (e : n ≡ getD t 97 0) (h : i ≤ n) (room 
       sym (heads-insert i note notes ∙ rw (heads-notes (headsOf t) (drop 194 t), length-marks m marks))
       in
       made (insertNote i note notes) (insertAt i (rowOf law samples m) (headsOf t)) (λ (x : List ℕ). opened x at used new) hs lengths p q
-      (note-added notes i note (drop 194 t) new (f ∙ sym (cells-marks m marks long)) (a ∙ marks-at) (u ∙ marks-end) (ap (λ (k : ℕ). take k (drop 194 t)) u ∙ marks-are))
+      (note-added notes i note (drop 194 t) new (f ∙ sym (cells-marks m marks long)) (a ∙ marks-at) (u ∙ marks-end)
+      (ap (λ (k : ℕ). take k (drop 194 t)) u ∙ marks-are))
 
   pub note-out : {at used by : ℕ} {t₁ t₂ : List ℕ} → n ≤ 32 → i < n → by ≡ 2 * rowAt (drop 97 t) (1 + 3 * i) .octets
       → at ≡ 2 * marksHeld (rowsAt (drop 97 t) i 1) → used ≡ 2 * marksHeld (rowsAt (drop 97 t) n 1)
@@ -156,11 +159,13 @@ module _ (t : List ℕ) (n i : ℕ) (e : n ≡ getD t 97 0) (h : i ≤ n) (room 
       in
       let mine : length (nthNote i notes .marks) ≡ rowAt (drop 97 t) (1 + 3 * i) .octets =
       ap (λ (r : Row). r .octets)
-      (sym (nth-heads i notes (omega (arith, length-notes))) ∙ ap (λ (x : List Row). nth i x) (heads-notes (headsOf t) (drop 194 t) ∙ all-heads) ∙ nth-rows (drop 97 t) n 1 i inside)
+      (sym (nth-heads i notes (omega (arith, length-notes)))
+      ∙ ap (λ (x : List Row). nth i x) (heads-notes (headsOf t) (drop 194 t) ∙ all-heads) ∙ nth-rows (drop 97 t) n 1 i inside)
       in
       made (removeNote i notes) (removeAt i (headsOf t)) (λ (x : List ℕ). shut x at used by) hs lengths p q
-      (note-dropped notes i (drop 194 t) (omega (arith, length-notes)) (b ∙ ap (λ (k : ℕ). 2 * k) (sym mine) ∙ sym (length-cells (nthNote i notes .marks)))
-      (a ∙ marks-at) (u ∙ marks-end) (ap (λ (k : ℕ). take k (drop 194 t)) u ∙ marks-are))
+      (note-dropped notes i (drop 194 t) (omega (arith, length-notes))
+      (b ∙ ap (λ (k : ℕ). 2 * k) (sym mine) ∙ sym (length-cells (nthNote i notes .marks))) (a ∙ marks-at) (u ∙ marks-end)
+      (ap (λ (k : ℕ). take k (drop 194 t)) u ∙ marks-are))
 
 -- the marks of greeting i end before all do
 pub marks-next : (t : List ℕ) (n i : ℕ) → n ≡ getD t 97 0 → i < n → 194 + 2 * marksHeld (headsOf t) ≤ length t

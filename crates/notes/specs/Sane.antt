@@ -1,10 +1,10 @@
--- What calls leave (R-8), besides what R-6 says: as many notes as greetings, laws up to 1, and of each greeting no more marks than its octets can have;
--- so a put always has room for its marks. Any other lent table is TABLE. What the samples and the marks say is not judged.
+-- What calls leave (R-8), besides what R-6 says: as many notes as greetings, laws up to 1, and of each greeting no more marks than its octets can
+-- have; so a put always has room for its marks. Any other lent table is TABLE. What the samples and the marks say is not judged.
 use Prim.Native.Nat.{ℕ, _+_, _*_, _/_, _≤_, min}
 use mathlib.Core.Path.{_≡_}
 use mathlib.Core.List.{List, [], _∷_}
 use mathlib.Core.Bool.{Bool, true, false, cond}
-use lib.ListN.{length, getD, drop}
+use lib.ListN.{length, getD}
 use lib.Dec.{eqb, ltb}
 use Rattle.rules.specs.Tools.{mostLaw}
 use Rattle.rows.specs.declared.Row.{Row}

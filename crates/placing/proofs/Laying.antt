@@ -1,4 +1,5 @@
--- Cells moved up back to front, by any distance (`raise-turn`, `raise-all`), a row's cells laid (`row-laid`), octets copied (`copy-turn`, `copy-all`).
+-- Cells moved up back to front, by any distance (`raise-turn`, `raise-all`), a row's cells laid (`row-laid`), octets copied (`copy-turn`,
+-- `copy-all`).
 use Prim.Native.Nat.{ℕ, suc, _+_, _-_, _≤_, _<_}
 use mathlib.Core.Path.{_≡_, refl, sym, ap, _∙_}
 use mathlib.Core.List.{List, [], _∷_, _++_, append-assoc}

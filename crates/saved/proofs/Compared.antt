@@ -1,12 +1,12 @@
 -- Samples and marks compared one by one as they come are those that are read, compared (`note-compared`); greeting by greeting (Comparing).
 use Prim.Native.Nat.{ℕ, zero, suc, _+_, _-_, _≤_, _<_}
-use mathlib.Core.Path.{_≡_, refl, sym, ap, subst, _∙_}
+use mathlib.Core.Path.{_≡_, refl, sym, ap, _∙_}
 use mathlib.Core.List.{List, [], _∷_, _++_, append-assoc, append-nil}
 use mathlib.Core.Bool.{Bool, true, false, cond, _&&_}
 use native.Mathlib.Omega.{arith}
 use lib.ListN.{length, take, drop, length-take, drop-of-length-le}
 use lib.Dec.{eqb, leb, ltb}
-use borrow.Author.Tests.{leb-true, leb-false, le-leb, lt-leb, ltb-false}
+use borrow.Author.Tests.{ltb-false}
 use Rattle.rules.specs.Listing.{samplesWord}
 use Rattle.rows.specs.declared.Row.{Row}
 use Rattle.rows.specs.Rows.{greeting}
@@ -23,9 +23,8 @@ use Rattle.tables.specs.Noted.{Listed, markWord, markLine, markLinesFrom, markL
 use Rattle.tables.specs.Passing.{headOf, headed, noted, nextOf, marksAre, noteIs}
 use Rattle.tables.proofs.Lines.{listed-parts, noted-law}
 use Rattle.tables.proofs.Marks.{mark-goes}
-use Rattle.tables.proofs.Noting.{noted-ending}
 use Rattle.saved.specs.Saved.{anyBad, allTrue, sameMarks, sameNote}
-use Rattle.saved.specs.Steps.{greetingsOf, isWhole, Sound}
+use Rattle.saved.specs.Steps.{greetingsOf, Sound}
 use Rattle.saved.proofs.Bad.{part-same}
 
 abbrev to : Bool → ℕ → Next
@@ -241,7 +240,15 @@ build {text} {b} {size} {left} {at} {answer} {r} {law} {place} n rest j more end
       fine = w;
       wrong = λ z. rw z at k′;
       on = λ z. record {
-        more = more; new = rest; end = end; low = r .start + r .octets; reads = f; count = c; rises = u .1; fine = v .1; all = rw z at k′;
+        more = more;
+        new = rest;
+        end = end;
+        low = r .start + r .octets;
+        reads = f;
+        count = c;
+        rises = u .1;
+        fine = v .1;
+        all = rw z at k′;
       };
     }
 

@@ -1,7 +1,7 @@
 -- A text's greetings judged: TABLE, BAD, TABLE, in the code's steps.
-use Prim.Native.Nat.{ℕ, _+_, _≤_, _<_}
+use Prim.Native.Nat.{ℕ}
 use mathlib.Core.Path.{_≡_, refl, sym, ap, _∙_}
-use mathlib.Core.List.{List, [], _∷_, _++_}
+use mathlib.Core.List.{List}
 use mathlib.Core.Bool.{Bool, true, false, cond, not}
 use native.Mathlib.Omega.{arith}
 use lib.ListN.{length, drop}
@@ -15,9 +15,7 @@ use Rattle.store.specs.declared.Refusal.{Refusal}
 use Rattle.store.specs.declared.Refusal.the-variants.{Bad, Table}
 use Rattle.store.specs.Store.{Outcome, leaves, refused}
 use Rattle.tables.specs.Noted.{Listed, rowsListed, notesListed}
-use Rattle.tables.specs.Fills.{lawsListed}
 use Rattle.tables.proofs.Noting.{length-rows-listed}
-use Rattle.saved.specs.declared.Verdict.{Verdict}
 use Rattle.saved.specs.declared.Verdict.the-variants.{Stop, Fine}
 use Rattle.saved.specs.Saved.{anyBad, allTrue, loadIn}
 use Rattle.saved.specs.Steps.{badBy, judgedBy, greetingsOf, isWhole, Celled, Sound}

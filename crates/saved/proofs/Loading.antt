@@ -1,12 +1,11 @@
 -- Loading in the code's steps: what is read stands in cells (`celled-noted`, `celled-early`), and what a text that is taken leaves.
-use Prim.Native.Nat.{ℕ, zero, suc, _+_, _*_, _≤_, _<_}
+use Prim.Native.Nat.{ℕ, suc, _≤_, _<_}
 use mathlib.Core.Path.{_≡_, refl, sym, ap, _∙_}
 use mathlib.Core.List.{List, [], _∷_, _++_}
 use mathlib.Core.Bool.{Bool, true, false, cond, not}
 use native.Mathlib.Omega.{arith}
 use lib.ListN.{length, getD, drop, replicate}
 use lib.Seq.{drop-at}
-use lib.Dec.{ltb}
 use borrow.Author.Tests.{lt-ltb, le-ltb}
 use Rattle.rows.specs.declared.Row.{Row}
 use Rattle.rows.specs.Limits.{sizeOf}
@@ -28,12 +27,11 @@ use Rattle.tables.specs.Table.{tableIn}
 use Rattle.tables.specs.Noted.{Listed, listedIn, rowsListed, notesListed}
 use Rattle.tables.specs.Fills.{Fills, FillsNoted, lawsListed}
 use Rattle.tables.proofs.Noting.{length-rows-listed}
-use Rattle.saved.specs.declared.Verdict.{Verdict}
 use Rattle.saved.specs.declared.Verdict.the-variants.{Stop, Fine}
-use Rattle.saved.specs.Saved.{anyBad, allTrue, loadIn, loadNoted, loadRead, loadOf, early}
+use Rattle.saved.specs.Saved.{anyBad, allTrue, loadIn, loadNoted, loadOf, early}
 use Rattle.saved.specs.Steps.{badBy, notesBy, judgedBy, greetingsOf, isWhole, Celled, AllNotes}
 use Rattle.saved.specs.Calls.{Takes, Load, verdictOf}
-use Rattle.saved.proofs.Bad.{bad-celled, notes-celled, rows-early, length-early, laws-early, true-early}
+use Rattle.saved.proofs.Bad.{bad-celled, notes-celled, rows-early, laws-early, true-early}
 use Rattle.saved.proofs.Judging.{Passes, celled-stop, celled-fine, passes-true}
 
 length-laws : (xs : List Listed) → length (lawsListed xs) ≡ length xs
@@ -57,14 +55,16 @@ celled-noted (whole xs i) {cells₀} {cells} {laws₀} {laws} {n} f a b =
     let e = f .count in
     let k : n ≡ length xs = cc in
     let d : drop (length xs) laws ≡ drop (length xs) laws₀ =
-    ap (drop (length xs)) (f .filled .1) ∙ drop-at (lawsListed xs) (drop (length xs) laws₀) (length xs) (length-laws xs) in
-    (refl, record {
-      few = f .few n refl;
-      cells-room = a;
-      laws-room = b;
-      rows-are = rows-read (rowsListed xs) cells₀ (k ∙ sym (length-rows-listed xs)) (f .filled .0);
-      laws-are = f .filled .1 ∙ ap (λ (l : List ℕ). lawsListed xs ++ l) (sym d);
-    })
+    ap (drop (length xs)) (f .filled .1) ∙ drop-at (lawsListed xs) (drop (length xs) laws₀) (length xs) (length-laws xs) in (
+      refl,
+      record {
+        few = f .few n refl;
+        cells-room = a;
+        laws-room = b;
+        rows-are = rows-read (rowsListed xs) cells₀ (k ∙ sym (length-rows-listed xs)) (f .filled .0);
+        laws-are = f .filled .1 ∙ ap (λ (l : List ℕ). lawsListed xs ++ l) (sym d);
+      },
+    )
 
 -- those of R-6's lines: law 1
 pub rows-as : {found : Read (List Row)} {a b : List ℕ} {r q : Count} → r ≡ q → Fills found a b r → Fills found a b q

@@ -1,24 +1,23 @@
 -- Saving in the code's steps.
-use Prim.Native.Nat.{ℕ, _+_, _*_, _≤_, _<_}
+use Prim.Native.Nat.{ℕ, _≤_, _<_}
 use mathlib.Core.Path.{_≡_, refl, sym, ap, _∙_}
-use mathlib.Core.List.{List, [], _++_}
-use mathlib.Core.Bool.{Bool, true, false, cond, not}
+use mathlib.Core.List.{List, _++_}
+use mathlib.Core.Bool.{Bool, true, false}
 use native.Mathlib.Omega.{arith}
-use lib.ListN.{length, getD, take, drop, take-append-drop}
-use lib.Dec.{ltb}
+use lib.ListN.{length, getD, drop, take-append-drop}
 use borrow.Author.Tests.{lt-ltb, le-ltb}
 use Rattle.rows.specs.Limits.{sizeOf}
 use Rattle.rows.specs.Cells.{rowsAt, rowsOf}
 use Rattle.lines.specs.Puts.{Puts}
-use Rattle.notes.specs.Cells.{notesIn, notesOf, marksHeld, headsOf}
+use Rattle.notes.specs.Cells.{notesOf, marksHeld, headsOf}
 use Rattle.notes.specs.Sane.{saneStore, Noted}
 use Rattle.notes.proofs.Matched.{sane-noted, room-for}
 use Rattle.store.specs.declared.Refusal.{Refusal}
 use Rattle.store.specs.declared.Refusal.the-variants.{Room, Table}
 use Rattle.store.specs.declared.Answer.the-variants.{Done, Refused}
-use Rattle.tables.specs.Noted.{Listed, listing, listedText}
+use Rattle.tables.specs.Noted.{listing, listedText}
 use Rattle.tables.specs.Held.{heldOf, TextIn}
-use Rattle.saved.specs.Saved.{Text, saved, declined, saveOf}
+use Rattle.saved.specs.Saved.{Text, declined, saveOf}
 use Rattle.saved.specs.Calls.{Writes, Save}
 use Rattle.saved.proofs.Bad.{law-at}
 

@@ -1,5 +1,5 @@
--- A greeting that is not BAD has a law that there is (`fine-law`), and what is taken of it is its note, small enough for the cells (`tallied`): compared
--- with what a text says (`note-as`), and put among others (`note-stored`).
+-- A greeting that is not BAD has a law that there is (`fine-law`), and what is taken of it is its note, small enough for the cells (`tallied`):
+-- compared with what a text says (`note-as`), and put among others (`note-stored`).
 use Prim.Native.Nat.{ℕ, zero, suc, _*_, _≤_, _<_}
 use mathlib.Core.Path.{_≡_, refl, sym, ap, _∙_}
 use mathlib.Core.List.{List, [], _∷_, _++_}

@@ -1,163 +1,27 @@
--- Notes laid into a table one after another: a table in its three parts (Parts), notes laid and read back (`notes-of`), laid over fewer
--- (`notes-again`).
-use Prim.Native.Nat.{ℕ, zero, suc, _+_, _*_, _-_, _/_, _≤_, _<_, min}
+-- The notes of all greetings laid into a table one after another: `storing-first`, `storing-turn`, `storing-end`.
+use Prim.Native.Nat.{ℕ, suc, _+_, _*_, _/_, _≤_, _<_, min}
 use mathlib.Core.Path.{_≡_, refl, sym, ap, _∙_}
-use mathlib.Core.List.{List, [], _∷_, _++_, append-assoc, append-nil}
-use mathlib.Core.Bool.{Bool, true, false, cond}
+use mathlib.Core.List.{List, [], _∷_, _++_}
+use mathlib.Core.Bool.{false}
 use native.Mathlib.Omega.{arith}
-use native.Mathlib.Numerals.{add-one}
-use lib.ListN.{length, getD, take, drop, set, length-set, length-append, length-take, length-drop, take-append-drop}
-use lib.Seq.{take-at, drop-at, set-at, drop-drop, drop-append-le, getD-drop, length-take-le, take-length, drop-length}
+use lib.ListN.{length, getD, drop, set, length-set, length-append, length-take}
+use lib.Seq.{drop-drop, getD-drop, take-length, drop-length}
 use Rattle.rows.specs.declared.Row.{Row}
 use Rattle.rows.specs.Rows.{greeting, held}
-use Rattle.rows.specs.Cells.{rowAt, rowsAt, rowsOf, cellsOf, laid}
-use Rattle.rows.specs.Sane.{rising}
+use Rattle.rows.specs.Cells.{rowAt, rowsAt}
 use Rattle.rows.proofs.Left.{left, left-all, left-step}
-use Rattle.rows.proofs.Cells.{rows-snoc, length-rows, length-cells, rows-laid, count-laid, laid-again, held-snoc}
+use Rattle.rows.proofs.Cells.{rows-snoc, length-rows, held-snoc}
 use Rattle.rows.proofs.Rising.{rising-next}
 use Rattle.greetings.specs.Bad.{isBad}
-use Rattle.marks.specs.Marks.{Note, noteOf, mostMarks, markCells}
-use Rattle.marks.proofs.Marked.{length-cells as length-mark-cells}
+use Rattle.marks.specs.Marks.{Note, noteOf, mostMarks}
 use Rattle.notes.specs.Notes.{insertNote}
-use Rattle.notes.specs.Cells.{headOf, heads, headsOf, notesIn, notesOf, marksHeld, allCells, allLaid, anewFrom, notesLaid}
-use Rattle.notes.specs.Sane.{storeCells}
-use Rattle.notes.proofs.Noting.{notes-back, length-heads, heads-append, all-append, length-all}
+use Rattle.notes.specs.Cells.{headOf, heads, headsOf, notesOf, marksHeld, allCells, notesLaid}
+use Rattle.notes.proofs.Noting.{heads-append, all-append, length-all}
+use Rattle.notes.proofs.Held.{notes-again, heads-of, count-of, notes-of, length-of, none-laid}
 use Rattle.saved.specs.Steps.{badBy, notesBy, OneMore, AllNotes}
 use Rattle.saved.proofs.Bad.{law-at}
 use Rattle.marks.proofs.Count.{note-few}
 use Rattle.saved.proofs.Compared.{bad-split}
-
--- a table in three parts: the greetings, the second list, the marks
-record Parts (t : List ℕ) : Type 0 where
-  a : List ℕ
-  b : List ℕ
-  c : List ℕ
-  is : t ≡ a ++ (b ++ c)
-  first : length a ≡ 97
-  second : length b ≡ 97
-
-in-parts : (t : List ℕ) → 194 ≤ length t → Parts t
-in-parts t h =
-    let u = drop 97 t in
-    let l = length-drop 97 t in
-    record {
-      a = take 97 t;
-      b = take 97 u;
-      c = drop 97 u;
-      is = sym (take-append-drop 97 t) ∙ ap (λ (x : List ℕ). take 97 t ++ x) (sym (take-append-drop 97 u));
-      first = length-take-le 97 t (omega arith);
-      second = length-take-le 97 u (omega arith);
-    }
-
-laid-part : (hs : List Row) (b c : List ℕ) → length hs ≤ 32 → length b ≡ 97 → laid hs (b ++ c) ≡ laid hs b ++ c
-unfolding laid
-laid-part hs b c h l =
-    ap (λ (x : List ℕ). (length hs ∷ cellsOf hs) ++ x) (drop-append-le (1 + 3 * length hs) b c (omega arith))
-    ∙ sym (append-assoc (length hs ∷ cellsOf hs) (drop (1 + 3 * length hs) b) c)
-
-length-laid : (hs : List Row) (b : List ℕ) → length hs ≤ 32 → length b ≡ 97 → length (laid hs b) ≡ 97
-unfolding laid
-length-laid hs b h l =
-    omega (arith, length-append (length hs ∷ cellsOf hs) (drop (1 + 3 * length hs) b), length-cells hs, length-drop (1 + 3 * length hs) b)
-
--- notes laid, in parts
-laid-parts : (notes : List Note) (a b c : List ℕ) → length notes ≤ 32 → length a ≡ 97 → length b ≡ 97
-    → notesLaid notes (a ++ (b ++ c)) ≡ a ++ (laid (heads notes) b ++ allLaid notes c)
-unfolding notesLaid
-laid-parts notes a b c h k l =
-    let hs = heads notes in
-    let n = length-heads notes in
-    let b′ = laid hs b in
-    let one : anewFrom 97 (laid hs) (a ++ (b ++ c)) ≡ (a ++ b′) ++ c =
-    ap (λ (x : List ℕ). x ++ laid hs (drop 97 (a ++ (b ++ c)))) (take-at a (b ++ c) 97 k)
-    ∙ ap (λ (x : List ℕ). a ++ laid hs x) (drop-at a (b ++ c) 97 k)
-    ∙ ap (λ (x : List ℕ). a ++ x) (laid-part hs b c (omega arith) l) ∙ sym (append-assoc a b′ c)
-    in
-    let m : length (a ++ b′) ≡ 194 = omega (arith, length-append a b′, length-laid hs b (omega arith) l) in
-    ap (anewFrom 194 (allLaid notes)) one
-    ∙ ap (λ (x : List ℕ). x ++ allLaid notes (drop 194 ((a ++ b′) ++ c))) (take-at (a ++ b′) c 194 m)
-    ∙ ap (λ (x : List ℕ). (a ++ b′) ++ allLaid notes x) (drop-at (a ++ b′) c 194 m)
-    ∙ append-assoc a b′ (allLaid notes c)
-
-all-again : (x y : List Note) (c : List ℕ) → length (allCells y) ≤ length (allCells x) → allLaid x (allLaid y c) ≡ allLaid x c
-all-again x y c h =
-    let k = length (allCells y) in
-    let m = length (allCells x) - k in
-    let e : length (allCells x) ≡ k + m = omega arith in
-    ap (λ (l : List ℕ). allCells x ++ l)
-    (ap (λ (n : ℕ). drop n (allLaid y c)) e ∙ sym (drop-drop m k (allLaid y c)) ∙ ap (drop m) (drop-at (allCells y) (drop k c) k refl)
-    ∙ drop-drop m k c ∙ ap (λ (n : ℕ). drop n c) (sym e))
-
-module _ (t : List ℕ) (h : 194 ≤ length t) where
-  abbrev p : Parts t
-  p = in-parts t h
-
-  -- laid over fewer, as if laid at once
-  pub notes-again : (x y : List Note) → length x ≤ 32 → length y ≤ length x → length (allCells y) ≤ length (allCells x)
-      → notesLaid x (notesLaid y t) ≡ notesLaid x t
-  notes-again x y f g l =
-      let n = length-heads x in
-      let m = length-heads y in
-      let b′ = laid (heads y) (p .b) in
-      let inner = ap (notesLaid y) (p .is) ∙ laid-parts y (p .a) (p .b) (p .c) (omega arith) (p .first) (p .second) in
-      ap (notesLaid x) inner
-      ∙ laid-parts x (p .a) b′ (allLaid y (p .c)) f (p .first) (length-laid (heads y) (p .b) (omega arith) (p .second))
-      ∙ ap (λ (u : List ℕ). p .a ++ (u ++ allLaid x (allLaid y (p .c)))) (laid-again (heads x) (heads y) (p .b) (omega arith))
-      ∙ ap (λ (u : List ℕ). p .a ++ (laid (heads x) (p .b) ++ u)) (all-again x y (p .c) l)
-      ∙ sym (ap (notesLaid x) (p .is) ∙ laid-parts x (p .a) (p .b) (p .c) f (p .first) (p .second))
-
-  module _ (x : List Note) (f : length x ≤ 32) where
-    form : notesLaid x t ≡ p .a ++ (laid (heads x) (p .b) ++ allLaid x (p .c))
-    form = ap (notesLaid x) (p .is) ∙ laid-parts x (p .a) (p .b) (p .c) f (p .first) (p .second)
-
-    second-is : drop 97 (notesLaid x t) ≡ laid (heads x) (p .b ++ allLaid x (p .c))
-    second-is =
-        let n = length-heads x in
-        ap (drop 97) form ∙ drop-at (p .a) (laid (heads x) (p .b) ++ allLaid x (p .c)) 97 (p .first)
-        ∙ sym (laid-part (heads x) (p .b) (allLaid x (p .c)) (omega arith) (p .second))
-
-    pub heads-of : headsOf (notesLaid x t) ≡ heads x
-    heads-of = ap rowsOf second-is ∙ rows-laid (heads x) (p .b ++ allLaid x (p .c))
-
-    pub count-of : getD (notesLaid x t) 97 0 ≡ length x
-    count-of =
-        sym (law-at (notesLaid x t) 97) ∙ ap (λ (l : List ℕ). getD l 0 0) second-is ∙ count-laid (heads x) (p .b ++ allLaid x (p .c)) ∙ length-heads x
-
-    marks-of : drop 194 (notesLaid x t) ≡ allLaid x (p .c)
-    marks-of =
-        let n = length-heads x in
-        let b′ = laid (heads x) (p .b) in
-        let m : length (p .a ++ b′) ≡ 194 = omega
-        (arith, length-append (p .a) b′, length-laid (heads x) (p .b) (omega arith) (p .second), p .first) in
-        ap (drop 194) (form ∙ sym (append-assoc (p .a) b′ (allLaid x (p .c)))) ∙ drop-at (p .a ++ b′) (allLaid x (p .c)) 194 m
-
-    pub notes-of : notesOf (notesLaid x t) ≡ x
-    notes-of =
-        ap (λ (hs : List Row). notesIn hs (drop 194 (notesLaid x t))) heads-of
-        ∙ ap (notesIn (heads x)) marks-of ∙ notes-back x (drop (length (allCells x)) (p .c))
-
-    pub length-of : 194 + length (allCells x) ≤ length t → length (notesLaid x t) ≡ length t
-    length-of l =
-        let n = length-heads x in
-        let b′ = laid (heads x) (p .b) in
-        let c′ = allLaid x (p .c) in
-        let k = ap length form ∙ length-append (p .a) (b′ ++ c′) in
-        let m = ap length (p .is) ∙ length-append (p .a) (p .b ++ p .c) in
-        let q = length-laid (heads x) (p .b) (omega arith) (p .second) in
-        let r = length-append b′ c′ in
-        let s = length-append (p .b) (p .c) in
-        let u = length-append (allCells x) (drop (length (allCells x)) (p .c)) in
-        let v = length-drop (length (allCells x)) (p .c) in
-        omega (arith, p .first, p .second)
-
-  -- the second list made empty
-  pub none-laid : set t 97 0 ≡ notesLaid [] t
-  unfolding heads allCells laid cellsOf
-  none-laid = go (p .b) (p .second) (p .is) ∙ sym (form [] (omega arith))
-    where
-      go : (b : List ℕ) → length b ≡ 97 → t ≡ p .a ++ (b ++ p .c) → set t 97 0 ≡ p .a ++ (((0 ∷ []) ++ drop 1 b) ++ p .c)
-      go [] l e = absurd (omega arith)
-      go (x ∷ b) l e = ap (λ (u : List ℕ). set u 97 0) e ∙ set-at (p .a) x (b ++ p .c) 0 97 (p .first)
 
 -- the notes of one greeting more
 notes-snoc : (b : List ℕ) (rows : List Row) (r : Row) (laws : List ℕ)

@@ -1,7 +1,7 @@
 -- Document 02, R-6: "The table is saved as key=value lines"; "Reading is refused with TABLE (26) for lines not of this form or order, a number out of
 -- range or used twice, more than 32 greetings, or greetings that overlap or pass the block's end, then with BAD"; "ROOM on saving".
--- R-8: "A law above 1, or after BAD samples or marks that the walk doesn't give, is TABLE. A table all in R-6's lines is read by walking each greeting
--- as law 1, as all our early boxes were."
+-- R-8: "A law above 1, or after BAD samples or marks that the walk doesn't give, is TABLE. A table all in R-6's lines is read by walking each
+-- greeting as law 1, as all our early boxes were."
 use Prim.Native.Nat.{ℕ}
 use mathlib.Core.List.{List, [], _∷_}
 use mathlib.Core.Bool.{Bool, true, false, cond, not, _&&_}

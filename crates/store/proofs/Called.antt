@@ -1,5 +1,6 @@
 -- Each call, from what its steps do: `put-taken`, `put-long`, `put-bad`, `put-full`, `put-no-room`, `put-fits`; `put-table`, `put-law`, `put-stop`,
--- `put-goes-on`; `sound-taken` (what was taken of a greeting is its note); `get-table`, `get-stop`, `get-absent`, `get-found`; `delete-table`, `delete-stop`, `delete-absent`, `delete-found`.
+-- `put-goes-on`; `get-table`, `get-stop`, `get-absent`, `get-found`; `delete-table`, `delete-stop`, `delete-absent`, `delete-found`.
+-- What was taken of a greeting is its note: `sound-taken`.
 use Prim.Native.Nat.{ℕ, _+_, _*_, _^_, _≤_, _<_}
 use mathlib.Core.Path.{_≡_, refl, sym, ap, subst, _∙_}
 use mathlib.Core.List.{List, _++_}
@@ -13,7 +14,7 @@ use Rattle.rows.specs.Limits.{sizeOf}
 use Rattle.rows.specs.Rows.{held}
 use Rattle.rows.specs.Cells.{rowAt, rowsOf, laid}
 use Rattle.notes.specs.Notes.{removeNote}
-use Rattle.notes.specs.Cells.{notesOf, notesLaid, stored}
+use Rattle.notes.specs.Cells.{notesOf, notesLaid}
 use Rattle.notes.specs.Sane.{saneStore}
 use Rattle.rows.specs.Changed.{nth, removeAt}
 use Rattle.greetings.specs.Bad.{isBad}
@@ -24,11 +25,11 @@ use Rattle.marks.specs.Taking.{Takes}
 use Rattle.notes.specs.Changed.{noteIn}
 use Rattle.store.specs.declared.Refusal.{Refusal}
 use Rattle.store.specs.declared.Refusal.the-variants.{Law, Taken, Absent, Bad, Full, NoRoom, Table}
-use Rattle.store.specs.declared.Look.the-variants.{Stop, Found}
+use Rattle.store.specs.declared.Look.the-variants.{Stop}
 use Rattle.store.specs.declared.Answer.{Answer}
 use Rattle.store.specs.declared.Answer.the-variants.{Done, Refused}
 use Rattle.store.specs.Store.{Outcome, leaves, refused, fitted, putIn, gotten, getIn, without, deleteIn}
-use Rattle.store.specs.Calls.{answerOf, onTable, putOf, getOf, deleteOf, Says, Put, Get, Delete}
+use Rattle.store.specs.Calls.{onTable, putOf, getOf, deleteOf, Says, Put, Get, Delete}
 use Rattle.store.specs.Looking.{lookOf, Looked, longOf}
 use Rattle.rows.proofs.Cells.{nth-rows}
 use Rattle.store.proofs.Looks.{look-stops, many, taken, free, on-table, off-table}

@@ -20,7 +20,7 @@ use Rattle.store.specs.declared.Answer.the-variants.{Done}
 use Rattle.store.specs.Store.{leaves, fitted}
 use Rattle.store.specs.Calls.{Says}
 use Rattle.rows.proofs.Cells.{length-rows, count-laid, rows-laid, laid-again}
-use Rattle.rows.proofs.Finding.{Fits, gap-fits}
+use Rattle.rows.proofs.Finding.{gap-fits}
 use Rattle.closing.proofs.Closed.{length-closed}
 use Rattle.notes.proofs.Stored.{heads-kept, count-kept, stored-more}
 use Rattle.notes.proofs.Matched.{room-more}
@@ -90,7 +90,8 @@ module _ (t : List ℕ) (size x : ℕ) (xs : List ℕ) {n : ℕ} (k : Noted size
     pub behind-asks : {b b₁ t₁ t₂ : List ℕ} {c : ℕ} (h : ℕ) → Closes b t (rowsOf t) b₁ t₁ c
         → t₂ ≡ laid (insertAt n (rowOf x h (length xs)) (rowsOf t₁)) t₁ → length t₂ ≡ length t → Asks t₂ n m
     behind-asks {b} h c g l =
-        asks (insertAt n (rowOf x h (length xs)) (closedRows 0 (rowsOf t))) (omega (arith, closed-new b t x xs c q h)) (closed-more b t x xs c q h g) l
+        let rows = insertAt n (rowOf x h (length xs)) (closedRows 0 (rowsOf t)) in
+        asks rows (omega (arith, closed-new b t x xs c q h)) (closed-more b t x xs c q h g) l
 
 module _ (b t : List ℕ) (size law x : ℕ) (xs : List ℕ) {note : Note} (z : note ≡ noteOf law xs) (f : getD t 0 0 ≤ 31) where
   pub fit-gap : {i at : ℕ} {b′ t₁ t′ : List ℕ} → At i at ≡ lowestGap (length xs) size (rowsOf t) → i ≤ getD t 0 0 → b′ ≡ written b at xs
@@ -118,7 +119,8 @@ module _ (b t : List ℕ) (size law x : ℕ) (xs : List ℕ) {note : Note} (z : 
       ∙ ap (λ (y : Note). stored new (insertNote n y (notesOf t)) t) z
       in
       let place : ℕ → List ℕ = λ (y : ℕ). stored (insertAt y r done) (insertNote y note-in (notesOf t)) t in
-      let start : ℕ → List ℕ = λ (y : ℕ). stored (insertAt (length rows) (rowOf x y (length xs)) done) (insertNote (length rows) note-in (notesOf t)) t in
+      let notes = insertNote (length rows) note-in (notesOf t) in
+      let start : ℕ → List ℕ = λ (y : ℕ). stored (insertAt (length rows) (rowOf x y (length xs)) done) notes t in
       rw (← e) (record {
         answer = rw (← p, ← (c .moved));
         block = k ∙ ap (λ (y : List ℕ). written y h xs) (c .block) ∙ ap (λ (y : ℕ). written (closedBlock b rows) y xs) p;

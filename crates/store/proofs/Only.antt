@@ -1,5 +1,6 @@
--- Nothing else fits: each call's contract determines the answer and what it leaves, for all inputs, refused ones too (`only-put`, `only-get`, `only-delete`);
--- and the paper's number, with the two numbers told, determines the answer (`answers-one-to-one`). A refusal changes nothing (`refused-nothing`).
+-- Nothing else fits: each call's contract determines the answer and what it leaves, for all inputs, refused ones too (`only-put`, `only-get`,
+-- `only-delete`); and the paper's number, with the two numbers told, determines the answer (`answers-one-to-one`). A refusal changes nothing
+-- (`refused-nothing`).
 use Prim.Native.Nat.{ℕ}
 use mathlib.Core.Path.{_≡_, refl, sym, ap₂, _∙_}
 use mathlib.Core.List.{List}
@@ -18,8 +19,8 @@ pub record Same (r s : Answer) (b₁ t₁ b₂ t₂ : List ℕ) : Type 0 where
   pub block : b₁ ≡ b₂
   pub table : t₁ ≡ t₂
 
-pub only-put : (law number : ℕ) (xs b t : List ℕ) {b₁ t₁ b₂ t₂ : List ℕ} {r s : Answer} → Put law number xs b t b₁ t₁ r → Put law number xs b t b₂ t₂ s
-    → Same r s b₁ t₁ b₂ t₂
+pub only-put : (law number : ℕ) (xs b t : List ℕ) {b₁ t₁ b₂ t₂ : List ℕ} {r s : Answer} → Put law number xs b t b₁ t₁ r
+    → Put law number xs b t b₂ t₂ s → Same r s b₁ t₁ b₂ t₂
 only-put law number xs b t p q =
     record { answer = p .answer ∙ sym (q .answer); block = p .block ∙ sym (q .block); table = p .table ∙ sym (q .table) }
 

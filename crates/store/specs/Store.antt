@@ -1,5 +1,5 @@
--- Document 02, R-6: "Put, get (start and octets), delete; a refused one changes nothing." Over a block of a size, the list of its greetings and their notes
--- (R-8): "Every put and move keeps marks true to what the walk gives."
+-- Document 02, R-6: "Put, get (start and octets), delete; a refused one changes nothing." Over a block of a size, the list of its greetings and
+-- their notes (R-8): "Every put and move keeps marks true to what the walk gives."
 use Prim.Native.Nat.{ℕ, _+_}
 use mathlib.Core.List.{List}
 use mathlib.Core.Bool.{cond, not}

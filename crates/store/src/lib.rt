@@ -2,18 +2,15 @@
 // With each greeting go its law, its samples and its marks (R-8).
 // What each call answers and leaves stands in specs/Calls.
 ghost use mathlib.Core.Path.{_≡_};
-ghost use Prim.Native.Nat.{_+_, _*_, _^_, _≤_, _<_};
+ghost use Prim.Native.Nat.{_+_, _^_, _≤_, _<_};
 ghost use lib.ListN.{length, getD};
-ghost use Rattle.rows.specs.Rows.{rowOf, held as heldBy};
-ghost use Rattle.rows.specs.Cells.{rowsOf, laid};
-ghost use Rattle.rows.specs.Changed.{insertAt, written};
-ghost use Rattle.marks.specs.Marks.{mostMarks, noteOf};
-ghost use Rattle.notes.specs.Cells.{notesOf};
+ghost use Rattle.rows.specs.Rows.{held as heldBy};
+ghost use Rattle.rows.specs.Cells.{rowsOf};
+ghost use Rattle.marks.specs.Marks.{noteOf};
 ghost use Rattle.notes.specs.Sane.{Noted};
 ghost use Rattle.notes.specs.Changed.{noteIn};
-ghost use Rattle.store.specs.Store.{leaves, fitted, putIn};
-ghost use Rattle.store.specs.Calls.{refusalNumber, numberOf, firstOf, secondOf, Says, Put, Get, Delete};
-ghost use Rattle.store.specs.Looking.{lookOf, Looked, longOf};
+ghost use Rattle.store.specs.Calls.{refusalNumber, numberOf, firstOf, secondOf, Put, Get, Delete};
+ghost use Rattle.store.specs.Looking.{lookOf, Looked, longOf, Small, PutsIn, FitsIn, PlacedAt};
 ghost use mathlib.Core.Bool.{false};
 ghost use Rattle.greetings.specs.Bad.{isBad};
 use marks::Tally;
@@ -124,7 +121,7 @@ fn place(
 )
     requires { ⌜ (n ≡ getD (now table) 0 0) × (n ≤ 31) × (i ≤ n) × (97 ≤ length (now table)) × (number < 2 ^ 32) ⌝ }
     requires { ⌜ (at + length (now octets) ≤ length (now block)) × (at + length (now octets) < 2 ^ 32) ⌝ }
-    ensures { λ _. ⌜ (now (block .exit) ≡ written (now (block .entry)) at (now (octets .entry))) × (now (table .exit) ≡ laid (insertAt i (rowOf number at (length (now (octets .entry)))) (rowsOf (now (table .entry)))) (now (table .entry))) ⌝ }
+    ensures { λ _. ⌜ PlacedAt i at number (now (octets .entry)) (now (block .entry)) (now (table .entry)) (now (block .exit)) (now (table .exit)) ⌝ }
 {
     let len = octets.len();
     placing::copy(block, at, octets);
@@ -155,9 +152,9 @@ fn fit(
 ) -> Answer
     requires { ⌜ (n ≡ getD (now table) 0 0) × (n ≤ 31) × (number < 2 ^ 32) × (size ≤ length (now block)) × (size ≤ 16384) ⌝ }
     requires { ⌜ Noted size (now table) × (behind ≡ heldBy (rowsOf (now table))) × (behind + length (now octets) ≤ size) ⌝ }
-    requires { ⌜ (sound .law ≤ 1) × (sound .samples < 2 ^ 32) × (sound .marks ≤ mostMarks (length (now octets))) × (2 * sound .marks ≤ length (now marks)) ⌝ }
+    requires { ⌜ Small (sound .law) (sound .samples) (sound .marks) (now octets) (now marks) ⌝ }
     requires { ⌜ noteIn (sound .law) (sound .samples) (sound .marks) (now marks) ≡ noteOf (sound .law) (now octets) ⌝ }
-    ensures { λ r. ⌜ Says (leaves (fitted (now (block .entry)) (rowsOf (now (table .entry))) (notesOf (now (table .entry))) size (sound .law) number (now (octets .entry)))) (now (block .entry)) (now (table .entry)) (now (block .exit)) (now (table .exit)) r ⌝ }
+    ensures { λ r. ⌜ FitsIn size (sound .law) number (now (octets .entry)) (now (block .entry)) (now (table .entry)) (now (block .exit)) (now (table .exit)) r ⌝ }
 {
     match rows::lowest_gap(table, n, size, octets.len()) {
         Gap::At(i, at) => {
@@ -201,9 +198,9 @@ fn put_sound(
 ) -> Answer
     requires { ⌜ Looked size (now table) number n i × (n ≤ i) × (isBad (sound .law) (now octets) ≡ false) ⌝ }
     requires { ⌜ (size ≤ length (now block)) × (size ≤ 16384) × (number ≤ 65535) × (length (now octets) ≤ size) ⌝ }
-    requires { ⌜ (sound .law ≤ 1) × (sound .samples < 2 ^ 32) × (sound .marks ≤ mostMarks (length (now octets))) × (2 * sound .marks ≤ length (now marks)) ⌝ }
+    requires { ⌜ Small (sound .law) (sound .samples) (sound .marks) (now octets) (now marks) ⌝ }
     requires { ⌜ noteIn (sound .law) (sound .samples) (sound .marks) (now marks) ≡ noteOf (sound .law) (now octets) ⌝ }
-    ensures { λ r. ⌜ Says (putIn (now (block .entry)) size (rowsOf (now (table .entry))) (notesOf (now (table .entry))) (sound .law) number (now (octets .entry))) (now (block .entry)) (now (table .entry)) (now (block .exit)) (now (table .exit)) r ⌝ }
+    ensures { λ r. ⌜ PutsIn size (sound .law) number (now (octets .entry)) (now (block .entry)) (now (table .entry)) (now (block .exit)) (now (table .exit)) r ⌝ }
 {
     if rows::MOST_GREETINGS <= n {
         return Answer::Refused(Refusal::Full);
@@ -228,7 +225,7 @@ fn put_among(
 ) -> Answer
     requires { ⌜ Looked size (now table) number n i ⌝ }
     requires { ⌜ (size ≤ length (now block)) × (size ≤ 16384) × (law ≤ 1) × (number ≤ 65535) ⌝ }
-    ensures { λ r. ⌜ Says (putIn (now (block .entry)) size (rowsOf (now (table .entry))) (notesOf (now (table .entry))) law number (now (octets .entry))) (now (block .entry)) (now (table .entry)) (now (block .exit)) (now (table .exit)) r ⌝ }
+    ensures { λ r. ⌜ PutsIn size law number (now (octets .entry)) (now (block .entry)) (now (table .entry)) (now (block .exit)) (now (table .exit)) r ⌝ }
 {
     if i < n {
         return Answer::Refused(Refusal::Taken);
@@ -258,13 +255,7 @@ fn put_among(
 }
 
 // "Put": TABLE, LAW, NUMBER, TAKEN, BAD, FULL, NOROOM; the start, and the octets moved.
-pub fn put(
-    block: &mut [u8],
-    table: &mut [u32],
-    law: u32,
-    number: u32,
-    octets: &[u8],
-) -> Answer
+pub fn put(block: &mut [u8], table: &mut [u32], law: u32, number: u32, octets: &[u8]) -> Answer
     ensures { λ r. ⌜ Put law number (now (octets .entry)) (now (block .entry)) (now (table .entry)) (now (block .exit)) (now (table .exit)) r ⌝ }
 {
     let size = rows::size_of(block.len());

@@ -9,7 +9,7 @@ use lib.Dec.{leb}
 use borrow.Author.Tests.{le-leb, lt-leb, leb-true}
 use Rattle.rows.specs.declared.Row.{Row}
 use Rattle.rows.specs.Rows.{rowOf}
-use Rattle.keyvalue.specs.Reading.{Read, whole, none, andThen, begins}
+use Rattle.keyvalue.specs.Reading.{whole, none, andThen, begins}
 use Rattle.keyvalue.specs.Lines.{lineOf, line, ranged}
 use Rattle.keyvalue.proofs.Exact.{Back, back-bind, back-last, back-ranged, onward, Stands, chain, got-value, got-place, ranged-only, through, passed}
 use Rattle.tables.specs.Table.{promptWord, startWord, octetsWord, row, rowsFrom, tableIn, rowText, tableText}

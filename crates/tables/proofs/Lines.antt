@@ -9,11 +9,11 @@ use Rattle.rows.specs.Rows.{rowOf}
 use Rattle.marks.specs.Marks.{Mark, Note}
 use Rattle.keyvalue.specs.Reading.{Read, whole, none, andThen}
 use Rattle.keyvalue.specs.Lines.{line, ranged}
-use Rattle.keyvalue.proofs.Exact.{through, got-value, got-place}
+use Rattle.keyvalue.proofs.Exact.{through, got-value}
 use Rattle.tables.specs.declared.Next.the-variants.{To, Astray}
 use Rattle.tables.specs.Table.{promptWord, startWord, octetsWord, row}
 use Rattle.tables.specs.Noted.{Listed, markLines, listed}
-use Rattle.tables.specs.Passing.{Headed, headOf, headed, headIn, noted, nextOf}
+use Rattle.tables.specs.Passing.{headOf, headed, headIn, noted, nextOf}
 
 module _ (text : List ℕ) (at : ℕ) where
   pub no-prompt : none ≡ ranged promptWord 1 65535 text at → none ≡ row text at

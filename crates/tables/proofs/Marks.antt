@@ -1,5 +1,5 @@
 -- R-8's lines of samples and marks in the code's steps: passed over (Marking), and compared one by one with marks in cells (`are-turn`).
-use Prim.Native.Nat.{ℕ, zero, suc, _+_, _*_, _-_, _≤_, _<_, min}
+use Prim.Native.Nat.{ℕ, suc, _+_, _*_, _-_, _≤_, _<_, min}
 use mathlib.Core.Path.{_≡_, refl, sym, ap, _∙_}
 use mathlib.Core.List.{List, [], _∷_, _++_}
 use mathlib.Core.Bool.{Bool, true, false, cond}
@@ -13,7 +13,7 @@ use Rattle.marks.specs.Marks.{Mark, Note, markOf}
 use Rattle.notes.specs.Cells.{marksIn}
 use Rattle.keyvalue.specs.Reading.{Read, whole, none, andThen, begins, isDigit, digitsOn, decimalOn, number, most, capped}
 use Rattle.keyvalue.specs.Lines.{line}
-use Rattle.keyvalue.proofs.Exact.{Through, through, passed, got-value, got-place}
+use Rattle.keyvalue.proofs.Exact.{through, passed, got-value, got-place}
 use Rattle.tables.specs.declared.Next.{Next}
 use Rattle.tables.specs.declared.Next.the-variants.{To, Astray}
 use Rattle.tables.specs.Noted.{markWord, comma, markLine, markLinesFrom, markLines}

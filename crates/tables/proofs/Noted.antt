@@ -1,15 +1,15 @@
 -- R-8's lines: what is written is read back (`noted-back`). No text with a greeting is of both kinds of lines: `early-refuses`, `noted-refuses`.
-use Prim.Native.Nat.{ℕ, zero, suc, _+_, _*_, _-_, _^_, _≤_, _<_}
-use mathlib.Core.Path.{_≡_, refl, sym, ap, _∙_}
+use Prim.Native.Nat.{ℕ, zero, suc, _+_, _^_, _≤_, _<_}
+use mathlib.Core.Path.{_≡_, refl, ap, _∙_}
 use mathlib.Core.List.{List, [], _∷_, _++_, append-assoc, append-nil}
-use mathlib.Core.Bool.{Bool, true, false, cond}
+use mathlib.Core.Bool.{true, false}
 use native.Mathlib.Omega.{arith}
 use lib.ListN.{length, drop, length-append, length-drop}
-use borrow.Author.Tests.{le-leb, lt-leb}
+use borrow.Author.Tests.{lt-leb}
 use Rattle.rules.specs.Listing.{lineEnd, lawWord, samplesWord}
 use Rattle.rows.specs.declared.Row.{Row}
 use Rattle.marks.specs.Marks.{Mark, Note, markOf}
-use Rattle.keyvalue.specs.Reading.{Read, whole, none, andThen, give, begins, after, number}
+use Rattle.keyvalue.specs.Reading.{whole, none, give, begins}
 use Rattle.keyvalue.specs.Lines.{lineOf, line, ranged}
 use Rattle.keyvalue.proofs.Exact.{Back, back-give, back-after, back-number, back-line, back-ranged, onward}
 use Rattle.tables.specs.Table.{promptWord, row, rowsFrom, tableIn, rowText, tableText}

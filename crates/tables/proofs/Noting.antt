@@ -10,7 +10,6 @@ use borrow.Author.Tests.{le-leb, lt-leb}
 use Rattle.rows.specs.declared.Row.{Row}
 use Rattle.keyvalue.specs.Reading.{Read, whole, none, andThen}
 use Rattle.keyvalue.proofs.Exact.{got-value, got-place}
-use Rattle.tables.specs.declared.Count.{Count}
 use Rattle.tables.specs.declared.Count.the-variants.{Greetings, Wrong}
 use Rattle.tables.specs.Noted.{Listed, listed, listedFrom, listedIn, rowsListed}
 use Rattle.tables.specs.Fills.{PutsRow, FillsNoted, lawsListed}

@@ -1,8 +1,7 @@
 -- A text read into a lent table, greeting by greeting (Stand).
-use Prim.Native.Nat.{ℕ, zero, suc, _+_, _*_, _-_, _≤_, _<_}
+use Prim.Native.Nat.{ℕ, suc, _+_, _*_, _-_, _≤_, _<_}
 use mathlib.Core.Path.{_≡_, refl, sym, ap, _∙_}
 use mathlib.Core.List.{List, [], _∷_, _++_, append-assoc, append-nil}
-use mathlib.Core.Bool.{Bool, true, false, cond}
 use native.Mathlib.Omega.{arith}
 use lib.ListN.{length, take, drop, set, length-set, length-append, take-append-drop}
 use lib.Seq.{take-suc-set, drop-set-lt, drop-drop}
@@ -10,7 +9,6 @@ use borrow.Author.Tests.{lt-leb}
 use Rattle.rows.specs.declared.Row.{Row}
 use Rattle.rows.specs.Cells.{cellsOf, laid}
 use Rattle.keyvalue.specs.Reading.{Read, whole, none, andThen}
-use Rattle.tables.specs.declared.Count.{Count}
 use Rattle.tables.specs.declared.Count.the-variants.{Greetings, Wrong}
 use Rattle.tables.specs.Table.{row, rowsFrom, tableIn}
 use Rattle.tables.specs.Fills.{PutsRow, Fills}

@@ -1,8 +1,8 @@
 -- The text of greetings, one after another: what is left of it at a mark (`marks-left`) and at a greeting (`text-left`), counted (Counting) and
 -- put (Putting).
-use Prim.Native.Nat.{ℕ, zero, suc, _+_, _*_, _-_, _≤_, _<_}
+use Prim.Native.Nat.{ℕ, _+_, _*_, _-_, _≤_, _<_}
 use mathlib.Core.Path.{_≡_, refl, sym, ap, _∙_}
-use mathlib.Core.List.{List, [], _∷_, _++_, append-assoc, append-nil}
+use mathlib.Core.List.{List, [], _++_, append-assoc, append-nil}
 use native.Mathlib.Omega.{arith}
 use lib.ListN.{length, getD, take, drop, length-append, length-drop}
 use lib.Seq.{drop-drop}
@@ -18,7 +18,7 @@ use Rattle.keyvalue.specs.Lines.{lineOf}
 use Rattle.lines.specs.Puts.{Puts}
 use Rattle.lines.proofs.Putting.{puts-then, puts-as}
 use Rattle.tables.specs.Table.{promptWord, startWord, octetsWord, rowText}
-use Rattle.tables.specs.Noted.{Listed, comma, listing, markText, marksText, noteText, listedText}
+use Rattle.tables.specs.Noted.{comma, listing, markText, marksText, noteText, listedText}
 use Rattle.tables.specs.Held.{noteAt, heldIn, heldOf, AllIn}
 use Rattle.tables.proofs.Marks.{marks-step, marks-none, marks-all}
 
@@ -119,8 +119,13 @@ pub text-left : (t hs ms : List ℕ) (n p i : ℕ) → i < n
 unfolding listedText listing notesIn
 text-left t hs ms n p i h =
     let more = textLeft t hs ms n (p + 2 * getD hs (1 + 3 * i + 2) 0) (i + 1) in
-    rw (left-step t n i refl h, left-step hs n i refl h, drop-drop (2 * getD hs (1 + 3 * i + 2) 0) p ms, append-assoc (rowLaid t i)
-    (noteLaid hs ms p i) more)
+    rw (
+      left-step t n i refl h,
+      left-step hs n i refl h,
+      drop-drop (2 * getD hs (1 + 3 * i + 2) 0) p ms,
+      append-assoc (rowLaid t i)
+          (noteLaid hs ms p i) more,
+    )
 
 pub text-over : (t hs ms : List ℕ) (n p i : ℕ) → n ≤ i → textLeft t hs ms n p i ≡ []
 unfolding listedText listing

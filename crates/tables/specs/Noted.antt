@@ -1,5 +1,6 @@
--- Document 02, R-8: "Lines `law`, `samples` and one `mark` per mark, as octets, a comma and samples, follow `octets`." A greeting's numbers of samples and
--- marks are of any number of digits: whether they are what the walk gives is judged when the whole table is read. "A law above 1 .. is TABLE".
+-- Document 02, R-8: "Lines `law`, `samples` and one `mark` per mark, as octets, a comma and samples, follow `octets`." A greeting's numbers of
+-- samples and marks are of any number of digits: whether they are what the walk gives is judged when the whole table is read.
+-- "A law above 1 .. is TABLE".
 use Prim.Native.Nat.{ℕ, zero, suc}
 use mathlib.Core.List.{List, [], _∷_, _++_}
 use mathlib.Core.Bool.{cond}
@@ -9,7 +10,7 @@ use Rattle.rules.specs.Tools.{mostLaw}
 use Rattle.rules.specs.Listing.{field, lineEnd, lawWord, samplesWord}
 use Rattle.rows.specs.declared.Row.{Row}
 use Rattle.rows.specs.Limits.{mostGreetings}
-use Rattle.keyvalue.specs.Reading.{Read, whole, none, Reader, andThen, _>>=_, give, begins, after, ended, number}
+use Rattle.keyvalue.specs.Reading.{Read, whole, Reader, andThen, _>>=_, give, begins, after, ended, number}
 use Rattle.keyvalue.specs.Lines.{lineOf, line, ranged}
 use Rattle.marks.specs.Marks.{Mark, Note, markOf}
 use Rattle.tables.specs.Table.{row, rowText}

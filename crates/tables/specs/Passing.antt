@@ -1,8 +1,9 @@
--- R-8's lines in the code's steps: a greeting's row and law, then its samples and marks; passed over first, and compared when the whole table is read.
-use Prim.Native.Nat.{ℕ, _+_, min}
+-- R-8's lines in the code's steps: a greeting's row and law, then its samples and marks; passed over first, and compared when the whole table is
+-- read.
+use Prim.Native.Nat.{ℕ, min}
 use mathlib.Core.List.{List, [], _∷_}
 use mathlib.Core.Bool.{cond}
-use lib.ListN.{length, drop}
+use lib.ListN.{drop}
 use lib.Dec.{eqb}
 use Rattle.rules.specs.Tools.{mostLaw}
 use Rattle.rules.specs.Listing.{lawWord, samplesWord}

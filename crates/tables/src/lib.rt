@@ -102,7 +102,13 @@ pub fn head_at(text: &[u8], at: usize) -> Head
 {
     match line_of(text, at) {
         Line::Nothing => Head::Missing,
-        Line::Here(number, start, octets, a) => match keyvalue::ranged_line(text, a, b"law=", 0, 1) {
+        Line::Here(number, start, octets, a) => match keyvalue::ranged_line(
+            text,
+            a,
+            b"law=",
+            0,
+            1,
+        ) {
             Told::Not => Head::Missing,
             Told::Got(law, b) => Head::Begun(number, start, octets, law, b),
         },

@@ -32,7 +32,8 @@ is-done-requires c κs = search needs
 returns-4 : tie.Need-returns-4
 returns-4 c =
     let s = c .before .before .before .before .before .before in
-    bad-walked (s .args .law) (s .args .octets .now) (omega arith) (omega arith) (omega arith) (c .before .walk-on .ensures .end) (c .is-done .ensures)
+    bad-walked (s .args .law) (s .args .octets .now) (omega arith) (omega arith) (omega arith) (c .before .walk-on .ensures .end)
+    (c .is-done .ensures)
 
 pub is-bad-spec : {M : Type 1} → statement M
 is-bad-spec =

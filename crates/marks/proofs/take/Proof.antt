@@ -2,7 +2,8 @@ use Prim.Native.Nat.{_*_, _-_}
 use native.Mathlib.Omega.{arith}
 use mathlib.Core.Path.{sym}
 use lib.ListN.{length, length-set}
-use Rattle.marks.proofs.Taking.{Taking, takes-wrong, taking-start, taking-room, taking-few, taking-heard, taking-more, taking-on, taking-turn, taken-wrong, taken-all}
+use Rattle.marks.proofs.Taking.{Taking, takes-wrong, taking-start, taking-room, taking-few, taking-heard, taking-more, taking-on}
+use Rattle.marks.proofs.Taking.{taking-turn, taken-wrong, taken-all}
 use Rattle.greetings.proofs.Bad.{bad-empty}
 use borrow.Author.Needs.{needs}
 use Rattle.marks.proofs.take.Statement.{statement}
@@ -82,7 +83,9 @@ same-length c = search needs
 -- src/lib.rt:41:17
 returns-2 : tie.Need-returns-2 Inv-loop μ-loop
 returns-2 c =
-    taken-wrong _ _ (c .before .before .before .before .loop .inv) (omega arith) (omega arith) (omega arith) (c .before .before .walk-on .ensures) (c .enum-told .given .1) _
+    let walk-on = c .before .before in
+    let loop = walk-on .before .before in
+    taken-wrong _ _ (loop .loop .inv) (omega arith) (omega arith) (omega arith) (walk-on .walk-on .ensures) (c .enum-told .given .1) _
 
 -- src/lib.rt:44:17
 enum-told-2 : tie.Need-enum-told-2 Inv-loop μ-loop
@@ -90,7 +93,10 @@ enum-told-2 c = search needs
 
 -- src/lib.rt:45:17
 add-samples : tie.Need-add-samples Inv-loop μ-loop
-add-samples c = omega (arith, taking-heard _ _ (c .before .before .before .before .before .loop .inv) (omega arith), taking-more _ _ (c .before .before .before .before .before .loop .inv) (c .before .before .before .walk-on .ensures))
+add-samples c =
+    let walk-on = c .before .before .before in
+    let loop = walk-on .before .before in
+    omega (arith, taking-heard _ _ (loop .loop .inv) (omega arith), taking-more _ _ (loop .loop .inv) (walk-on .walk-on .ensures))
 
 -- src/lib.rt:46:17
 add-m : tie.Need-add-m Inv-loop μ-loop
@@ -98,12 +104,20 @@ add-m c = omega (arith, taking-few _ _ (c .before .before .before .before .befor
 
 -- src/lib.rt:34:5
 loop-less : tie.Need-loop-less Inv-loop μ-loop
-loop-less c = omega (arith, taking-on _ _ (c .before .before .before .before .before .loop .inv) (c .before .before .before .walk-on .ensures) (c .before .enum-told2 .given .1) (omega arith))
+loop-less c =
+    let enum-told2 = c .before in
+    let walk-on = enum-told2 .before .before in
+    let loop = walk-on .before .before in
+    omega (arith, taking-on _ _ (loop .loop .inv) (walk-on .walk-on .ensures) (enum-told2 .enum-told2 .given .1) (omega arith))
 
 -- src/lib.rt:34:5
 loop-again : tie.Need-loop-again Inv-loop μ-loop
 loop-again c =
-    taking-turn _ _ (c .before .before .before .before .before .loop .inv) (omega arith) (c .before .before .before .walk-on .ensures) (c .before .enum-told2 .given .1) (taking-room _ _ (c .before .before .before .before .before .loop .inv) (omega arith) (omega arith))
+    let enum-told2 = c .before in
+    let walk-on = enum-told2 .before .before in
+    let loop = walk-on .before .before in
+    taking-turn _ _ (loop .loop .inv) (omega arith) (walk-on .walk-on .ensures) (enum-told2 .enum-told2 .given .1)
+    (taking-room _ _ (loop .loop .inv) (omega arith) (omega arith))
 
 -- src/lib.rt:24:1
 same-length-2 : tie.Need-same-length-2 Inv-loop μ-loop

@@ -67,32 +67,45 @@ part-shut-over-end c = search needs
 
 shut-over-requires : tie.Need-shut-over-requires
 shut-over-requires c κs =
-    let s = c .before .before .before .before .before .before .before .before .before .before .before .before .before .args in
+    let remove = c .before .before .before in
+    let head-at = remove .before .before .before in
+    let marks-before2 = head-at .before .before in
+    let marks-before = marks-before2 .before .before in
+    let s = marks-before .before .before .before .args in
     let t = s .table .now in
-    let made = part-made 97 (λ (u : List ℕ). laid (removeAt (s .i) (rowsOf u)) u) t (c .before .before .before .remove .ensures) refl in
-    let size = part-length t (s .n) (s .i) (omega arith) (omega arith) (omega arith) (removeAt (s .i) (headsOf t)) (heads-less t (s .n) (s .i) (omega arith) (omega arith) (omega arith) (omega arith)) made in
-    let first = c .before .before .before .before .before .before .before .before .before .before .marks-before .ensures .0 in
-    let all = c .before .before .before .before .before .before .before .before .marks-before2 .ensures .0 in
-    let mine = ap (λ (r : Row). r .octets) (c .before .before .before .before .before .before .head-at .ensures .0) in
-    (omega (arith, marks-next t (s .n) (s .i) (omega arith) (omega arith) (omega arith), first, all, mine), omega (arith, size, all, held-all t (s .n) (s .i) (omega arith) (omega arith) (omega arith)))
+    let made = part-made 97 (λ (u : List ℕ). laid (removeAt (s .i) (rowsOf u)) u) t (remove .remove .ensures) refl in
+    let size = part-length t (s .n) (s .i) (omega arith) (omega arith) (omega arith) (removeAt (s .i) (headsOf t))
+    (heads-less t (s .n) (s .i) (omega arith) (omega arith) (omega arith) (omega arith)) made in
+    let first = marks-before .marks-before .ensures .0 in
+    let all = marks-before2 .marks-before2 .ensures .0 in
+    let mine = ap (λ (r : Row). r .octets) (head-at .head-at .ensures .0) in (
+      omega (arith, marks-next t (s .n) (s .i) (omega arith) (omega arith) (omega arith), first, all, mine),
+      omega (arith, size, all, held-all t (s .n) (s .i) (omega arith) (omega arith) (omega arith)),
+    )
 
 same-length : tie.Need-same-length
 same-length c = search needs
 
 returns : tie.Need-returns
 returns c =
-    let s = c .before .before .before .before .before .before .before .before .before .before .before .before .before .before .before .before .args in
+    let shut-over = c .before .before in
+    let remove = shut-over .before .before .before .before in
+    let head-at = remove .before .before .before in
+    let marks-before2 = head-at .before .before in
+    let marks-before = marks-before2 .before .before in
+    let s = marks-before .before .before .before .args in
     let t = s .table .now in
-    let at = c .before .before .before .before .before .before .before .before .before .before .before .before .before .marks-before .ensures .0 in
-    let used = c .before .before .before .before .before .before .before .before .before .before .before .marks-before2 .ensures .0 in
-    let mine = ap (λ (r : Row). 2 * r .octets) (c .before .before .before .before .before .before .before .before .before .head-at .ensures .0) in
-    let front = 2 * c .before .before .before .before .before .before .before .before .before .before .before .before .before .marks-before .result in
-    let all = 2 * c .before .before .before .before .before .before .before .before .before .before .before .marks-before2 .result in
-    let by = 2 * c .before .before .before .before .before .before .before .before .before .head-at .result .octets in
-    let once = take 97 t ++ (c .before .before .before .before .before .before .remove .last .0 ++ drop (length t - 97) (drop 97 t)) in
-    let made = part-made 97 (λ (u : List ℕ). laid (removeAt (s .i) (rowsOf u)) u) t (c .before .before .before .before .before .before .remove .ensures) refl in
-    note-out t (s .n) (s .i) (omega arith) (omega arith) (omega arith) (omega arith) (omega arith) mine (ap (λ (x : ℕ). 2 * x) at) (ap (λ (x : ℕ). 2 * x) used) made
-    (part-made 194 (λ (u : List ℕ). shut u front all by) once (c .before .before .shut-over .ensures) refl)
+    let at = marks-before .marks-before .ensures .0 in
+    let used = marks-before2 .marks-before2 .ensures .0 in
+    let mine = ap (λ (r : Row). 2 * r .octets) (head-at .head-at .ensures .0) in
+    let front = 2 * marks-before .marks-before .result in
+    let all = 2 * marks-before2 .marks-before2 .result in
+    let by = 2 * head-at .head-at .result .octets in
+    let once = take 97 t ++ (remove .remove .last .0 ++ drop (length t - 97) (drop 97 t)) in
+    let made = part-made 97 (λ (u : List ℕ). laid (removeAt (s .i) (rowsOf u)) u) t (remove .remove .ensures) refl in
+    note-out t (s .n) (s .i) (omega arith) (omega arith) (omega arith) (omega arith) (omega arith) mine (ap (λ (x : ℕ). 2 * x) at)
+    (ap (λ (x : ℕ). 2 * x) used) made
+    (part-made 194 (λ (u : List ℕ). shut u front all by) once (shut-over .shut-over .ensures) refl)
 
 pub drop-note-spec : {M : Type 1} → statement M
 drop-note-spec =

@@ -39,9 +39,13 @@ head-at-requires c κs = search needs
 
 returns : tie.Need-returns Inv-loop μ-loop
 returns c =
-    let s = c .before .before .before .before .before .before .before .args in
-    let w = c .before .before .before .before .before .loop in
-    matched-law (s .table .now) (drop 97 (s .table .now)) (s .n) (w .i) (c .before .before .before .row-at .ensures .0) (c .before .before .head-at .ensures .0) (omega arith) (omega arith)
+    let head-at = c .before .before in
+    let row-at = head-at .before in
+    let loop = row-at .before .before in
+    let s = loop .before .before .args in
+    let w = loop .loop in
+    matched-law (s .table .now) (drop 97 (s .table .now)) (s .n) (w .i) (row-at .row-at .ensures .0) (head-at .head-at .ensures .0) (omega arith)
+    (omega arith)
     ∙ sym (w .inv .0)
 
 add-if2 : tie.Need-add-if2 Inv-loop μ-loop
@@ -49,9 +53,13 @@ add-if2 c = search needs
 
 returns-2 : tie.Need-returns-2 Inv-loop μ-loop
 returns-2 c =
-    let s = c .before .before .before .before .before .before .before .before .before .before .args in
-    let w = c .before .before .before .before .before .before .before .before .loop in
-    matched-many (s .table .now) (drop 97 (s .table .now)) (s .n) (w .i) (c .before .before .before .before .before .before .row-at .ensures .0) (c .before .before .before .before .before .head-at .ensures .0) (omega arith) (omega arith)
+    let head-at = c .before .before .before .before .before in
+    let row-at = head-at .before in
+    let loop = row-at .before .before in
+    let s = loop .before .before .args in
+    let w = loop .loop in
+    matched-many (s .table .now) (drop 97 (s .table .now)) (s .n) (w .i) (row-at .row-at .ensures .0) (head-at .head-at .ensures .0) (omega arith)
+    (omega arith)
     (omega arith) ∙ sym (w .inv .0)
 
 add-i : tie.Need-add-i Inv-loop μ-loop
@@ -62,10 +70,16 @@ loop-less c = search needs
 
 loop-again : tie.Need-loop-again Inv-loop μ-loop
 loop-again c =
-    let s = c .before .before .before .before .before .before .before .before .before .before .args in
-    let w = c .before .before .before .before .before .before .before .before .loop in
-    (w .inv .0 ∙ matched-turn (s .table .now) (drop 97 (s .table .now)) (s .n) (w .i) (c .before .before .before .before .before .before .row-at .ensures .0) (c .before .before .before .before .before .head-at .ensures .0) (omega arith)
-    (omega arith) (omega arith), omega arith)
+    let head-at = c .before .before .before .before .before in
+    let row-at = head-at .before in
+    let loop = row-at .before .before in
+    let s = loop .before .before .args in
+    let w = loop .loop in (
+      w .inv .0 ∙ matched-turn (s .table .now) (drop 97 (s .table .now)) (s .n) (w .i) (row-at .row-at .ensures .0) (head-at .head-at .ensures .0)
+          (omega arith)
+          (omega arith) (omega arith),
+      omega arith,
+    )
 
 returns-3 : tie.Need-returns-3 Inv-loop μ-loop
 returns-3 c =

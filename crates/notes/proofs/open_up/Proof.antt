@@ -19,8 +19,10 @@ same-length c = search needs
 
 returns : tie.Need-returns
 returns c =
-    let s = c .before .before .before .before .before .before .before .before .before .before .args in
-    opened-is (s .cells .now) (s .at) (s .used) (s .new .now) (omega arith) (omega arith) (c .before .before .before .before .before .before .raise .ensures) (c .before .before .lay .ensures)
+    let lay = c .before .before in
+    let raise = lay .before .before .before .before in
+    let s = raise .before .before .before .before .args in
+    opened-is (s .cells .now) (s .at) (s .used) (s .new .now) (omega arith) (omega arith) (raise .raise .ensures) (lay .lay .ensures)
 
 pub open-up-spec : {M : Type 1} → statement M
 open-up-spec = tie.close (tie.spec raise-requires lay-requires same-length returns)

@@ -68,34 +68,51 @@ slice-aggregate-open-up c =
 
 open-up-requires : tie.Need-open-up-requires
 open-up-requires c κs =
-    let s = c .before .before .before .before .before .before .before .before .before .before .before .before .args in
+    let insert = c .before .before .before .before in
+    let marks-before2 = insert .before .before in
+    let marks-before = marks-before2 .before .before in
+    let s = marks-before .before .before .before .before .args in
     let t = s .table .now in
     let r = rowOf (s .law) (s .samples) (s .m) in
-    let made = part-made 97 (λ (u : List ℕ). laid (insertAt (s .i) r (rowsOf u)) u) t (c .before .before .before .before .insert .ensures) refl in
-    let size = part-length t (s .n) (s .i) (omega arith) (omega arith) (omega arith) (insertAt (s .i) r (headsOf t)) (heads-more t (s .n) (s .i) (omega arith) (omega arith) (omega arith) r (omega arith)) made in
-    let first = c .before .before .before .before .before .before .before .before .marks-before .ensures .0 in
-    let all = c .before .before .before .before .before .before .marks-before2 .ensures .0 in
-    (omega (arith, marks-order t (s .n) (s .i) (omega arith) (omega arith) (omega arith), first, all),
-    omega (arith, size, all, held-all t (s .n) (s .i) (omega arith) (omega arith) (omega arith), length-take-le (2 * s .m) (s .marks .now) (omega arith)))
+    let made = part-made 97 (λ (u : List ℕ). laid (insertAt (s .i) r (rowsOf u)) u) t (insert .insert .ensures) refl in
+    let size = part-length t (s .n) (s .i) (omega arith) (omega arith) (omega arith) (insertAt (s .i) r (headsOf t))
+    (heads-more t (s .n) (s .i) (omega arith) (omega arith) (omega arith) r (omega arith)) made in
+    let first = marks-before .marks-before .ensures .0 in
+    let all = marks-before2 .marks-before2 .ensures .0 in (
+      omega (arith, marks-order t (s .n) (s .i) (omega arith) (omega arith) (omega arith), first, all),
+      omega (
+        arith,
+        size,
+        all,
+        held-all t (s .n) (s .i) (omega arith) (omega arith) (omega arith),
+        length-take-le (2 * s .m) (s .marks .now)
+            (omega arith),
+      ),
+    )
 
 same-length : tie.Need-same-length
 same-length c = search needs
 
 returns : tie.Need-returns
 returns c =
-    let s = c .before .before .before .before .before .before .before .before .before .before .before .before .before .before .before .args in
+    let open-up = c .before .before in
+    let insert = open-up .before .before .before .before .before in
+    let marks-before2 = insert .before .before in
+    let marks-before = marks-before2 .before .before in
+    let s = marks-before .before .before .before .before .args in
     let t = s .table .now in
     let r = rowOf (s .law) (s .samples) (s .m) in
     let new = take (2 * s .m) (s .marks .now) in
-    let at = c .before .before .before .before .before .before .before .before .before .before .before .marks-before .ensures .0 in
-    let used = c .before .before .before .before .before .before .before .before .before .marks-before2 .ensures .0 in
-    let front = 2 * c .before .before .before .before .before .before .before .before .before .before .before .marks-before .result in
-    let all = 2 * c .before .before .before .before .before .before .before .before .before .marks-before2 .result in
-    let once = take 97 t ++ (c .before .before .before .before .before .before .before .insert .last .0 ++ drop (length t - 97) (drop 97 t)) in
-    let made = part-made 97 (λ (u : List ℕ). laid (insertAt (s .i) r (rowsOf u)) u) t (c .before .before .before .before .before .before .before .insert .ensures) refl in
-    note-put t (s .n) (s .i) (omega arith) (omega arith) (omega arith) (s .law) (s .samples) (s .m) (s .marks .now) new (omega arith) (omega arith) refl
+    let at = marks-before .marks-before .ensures .0 in
+    let used = marks-before2 .marks-before2 .ensures .0 in
+    let front = 2 * marks-before .marks-before .result in
+    let all = 2 * marks-before2 .marks-before2 .result in
+    let once = take 97 t ++ (insert .insert .last .0 ++ drop (length t - 97) (drop 97 t)) in
+    let made = part-made 97 (λ (u : List ℕ). laid (insertAt (s .i) r (rowsOf u)) u) t (insert .insert .ensures) refl in
+    note-put t (s .n) (s .i) (omega arith) (omega arith) (omega arith) (s .law) (s .samples) (s .m) (s .marks .now) new (omega arith) (omega arith)
+    refl
     (ap (λ (x : ℕ). 2 * x) at) (ap (λ (x : ℕ). 2 * x) used) made
-    (part-made 194 (λ (u : List ℕ). opened u front all new) once (c .before .before .open-up .ensures) refl)
+    (part-made 194 (λ (u : List ℕ). opened u front all new) once (open-up .open-up .ensures) refl)
 
 pub put-note-spec : {M : Type 1} → statement M
 put-note-spec =

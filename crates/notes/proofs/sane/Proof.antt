@@ -26,8 +26,10 @@ sane-requires c κs = search needs
 
 returns-2 : tie.Need-returns-2
 returns-2 c =
-    let s = c .before .before .before .before .before .args in
-    sane-not (s .size) (s .table .now) (omega (arith, c .before .before .before .store-cells .ensures)) (c .before .sane .ensures) (not-true _ (c .if2 .taken))
+    let sane = c .before in
+    let store-cells = sane .before .before in
+    let s = store-cells .before .before .args in
+    sane-not (s .size) (s .table .now) (omega (arith, store-cells .store-cells .ensures)) (sane .sane .ensures) (not-true _ (c .if2 .taken))
 
 shared-slice-read-wide : tie.Need-shared-slice-read-wide
 shared-slice-read-wide c = omega (arith, c .before .before .before .before .store-cells .ensures)
@@ -43,20 +45,35 @@ wide-requires-2 c κs = search needs
 
 fits-requires : tie.Need-fits-requires
 fits-requires c κs =
-    let o = sane-ordered _ _ (sym (c .before .before .before .before .before .before .sane .ensures) ∙ not-false _ (c .before .before .before .before .before .if2 .left)) in
-    (omega (arith, o .few, c .before .before .before .wide .ensures), omega (arith, c .before .before .before .before .before .before .before .before .store-cells .ensures))
+    let wide = c .before .before .before in
+    let if2 = wide .before .before in
+    let sane = if2 .before in
+    let store-cells = sane .before .before in
+    let o = sane-ordered _ _ (sym (sane .sane .ensures) ∙ not-false _ (if2 .if2 .left)) in
+    (omega (arith, o .few, wide .wide .ensures), omega (arith, store-cells .store-cells .ensures))
 
 returns-3 : tie.Need-returns-3
 returns-3 c =
-    let s = c .before .before .before .before .before .before .before .before .before .before .before .args in
-    sane-rest (s .size) (s .table .now) (omega (arith, c .before .before .before .before .before .before .before .before .before .store-cells .ensures)) (c .before .before .before .before .before .before .before .sane .ensures) (not-false _ (c .before .before .before .before .before .before .if2 .left))
-    (c .before .before .before .before .wide .ensures) (c .before .before .wide2 .ensures) (c .before .if3 .taken) (c .fits2 .ensures)
+    let if3 = c .before in
+    let wide2 = if3 .before in
+    let wide = wide2 .before .before in
+    let if2 = wide .before .before in
+    let sane = if2 .before in
+    let store-cells = sane .before .before in
+    let s = store-cells .before .before .args in
+    sane-rest (s .size) (s .table .now) (omega (arith, store-cells .store-cells .ensures)) (sane .sane .ensures) (not-false _ (if2 .if2 .left))
+    (wide .wide .ensures) (wide2 .wide2 .ensures) (if3 .if3 .taken) (c .fits2 .ensures)
 
 returns-4 : tie.Need-returns-4
 returns-4 c =
-    let s = c .before .before .before .before .before .before .before .before .before .before .args in
-    sane-other (s .size) (s .table .now) (omega (arith, c .before .before .before .before .before .before .before .before .store-cells .ensures)) (c .before .before .before .before .before .before .sane .ensures) (not-false _ (c .before .before .before .before .before .if2 .left))
-    (c .before .before .before .wide .ensures) (c .before .wide2 .ensures) (c .if3 .left)
+    let wide2 = c .before in
+    let wide = wide2 .before .before in
+    let if2 = wide .before .before in
+    let sane = if2 .before in
+    let store-cells = sane .before .before in
+    let s = store-cells .before .before .args in
+    sane-other (s .size) (s .table .now) (omega (arith, store-cells .store-cells .ensures)) (sane .sane .ensures) (not-false _ (if2 .if2 .left))
+    (wide .wide .ensures) (wide2 .wide2 .ensures) (c .if3 .left)
 
 pub sane-spec : {M : Type 1} → statement M
 sane-spec =

@@ -1,6 +1,6 @@
 -- Greeting by greeting (Compared, Comparing).
 use Prim.Native.Nat.{suc, _+_, _-_, _≤_}
-use mathlib.Core.Path.{_≡_, refl, sym, ap, _∙_}
+use mathlib.Core.Path.{_≡_, sym, ap, _∙_}
 use native.Mathlib.Omega.{arith}
 use Rattle.tables.specs.Noted.{listedIn}
 use Rattle.tables.specs.Passing.{asHead}

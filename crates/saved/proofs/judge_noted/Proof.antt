@@ -1,6 +1,5 @@
 -- TABLE, BAD, TABLE (Judging).
-use mathlib.Core.Path.{_≡_, refl, sym, ap, _∙_}
-use native.Mathlib.Omega.{arith}
+use mathlib.Core.Path.{sym, ap, _∙_}
 use Rattle.rows.specs.Limits.{sizeOf}
 use Rattle.saved.specs.Calls.{verdictOf}
 use Rattle.saved.proofs.Judging.{celled-stop, celled-fine, celled-count, passes-true, passes-false, sound}

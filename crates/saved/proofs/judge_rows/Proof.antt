@@ -1,5 +1,5 @@
 -- TABLE for the whole, then BAD (Judging).
-use mathlib.Core.Path.{_≡_, sym, _∙_}
+use mathlib.Core.Path.{sym, _∙_}
 use native.Mathlib.Omega.{arith}
 use borrow.Author.Tests.{not-true, not-false}
 use Rattle.saved.proofs.Judging.{not-apart, not-once, is-bad, is-fine}

@@ -1,5 +1,5 @@
 -- R-6's lines, or R-8's (Loading).
-use mathlib.Core.Path.{_≡_, refl, sym, ap, _∙_}
+use mathlib.Core.Path.{sym, _∙_}
 use native.Mathlib.Omega.{arith}
 use Rattle.rows.specs.Limits.{sizeOf}
 use Rattle.saved.proofs.Judging.{celled-fine}

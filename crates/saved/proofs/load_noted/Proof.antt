@@ -1,5 +1,5 @@
 -- What is read, judged, and then taken (Loading).
-use mathlib.Core.Path.{_≡_, refl, sym, ap, _∙_}
+use mathlib.Core.Path.{sym, _∙_}
 use native.Mathlib.Omega.{arith}
 use Rattle.rows.specs.Limits.{sizeOf}
 use Rattle.tables.specs.Noted.{listedIn}
@@ -45,7 +45,8 @@ slice-aggregate-read-noted-3 c = search needs
 
 read-noted-requires-2 : tie.Need-read-noted-requires-2
 read-noted-requires-2 c κs =
-    let q18 = c .before .before .before .before .before .before .before .before .before .before .before .before .before .before .before .before .before .before in
+    let q9 = c .before .before .before .before .before .before .before .before .before in
+    let q18 = q9 .before .before .before .before .before .before .before .before .before in
     (omega (arith, q18 .pre .1), omega arith)
 
 slice-aggregate-store-notes : tie.Need-slice-aggregate-store-notes

@@ -1,6 +1,6 @@
 -- What the walk gives, beside what the text says (Small).
 use native.Mathlib.Omega.{arith}
-use Rattle.saved.proofs.Small.{fine-law, Tallied, tallied, tally-wrong, note-as}
+use Rattle.saved.proofs.Small.{fine-law, tallied, tally-wrong, note-as}
 use borrow.Author.Needs.{needs}
 use Rattle.saved.proofs.same_note.Statement.{statement}
 use Rattle.saved.proofs.same_note.Tie as tie

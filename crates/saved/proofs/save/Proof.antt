@@ -1,5 +1,4 @@
 -- What is judged, measured, and then written (Saving).
-use mathlib.Core.Path.{_≡_, refl, sym, ap, _∙_}
 use native.Mathlib.Omega.{arith}
 use borrow.Author.Tests.{not-true, not-false}
 use Rattle.saved.proofs.Saving.{save-table, save-first, save-fits, save-room, save-text}

@@ -1,8 +1,7 @@
 -- What was taken, put behind the rest (Small).
-use mathlib.Core.Path.{_≡_, refl, sym, ap, _∙_}
 use native.Mathlib.Omega.{arith}
 use Rattle.marks.proofs.Count.{note-few}
-use Rattle.saved.proofs.Small.{fine-law, Tallied, tallied, tally-wrong, note-stored}
+use Rattle.saved.proofs.Small.{fine-law, tallied, tally-wrong, note-stored}
 use borrow.Author.Needs.{needs}
 use Rattle.saved.proofs.store_note.Statement.{statement}
 use Rattle.saved.proofs.store_note.Tie as tie

@@ -1,6 +1,6 @@
 -- Note by note (Storing).
 use Prim.Native.Nat.{_-_}
-use mathlib.Core.Path.{_≡_, refl, sym, ap, _∙_}
+use mathlib.Core.Path.{_≡_, refl, _∙_}
 use lib.ListN.{length, length-set}
 use native.Mathlib.Omega.{arith}
 use Rattle.saved.proofs.Bad.{row-inside, part-same}
@@ -78,9 +78,11 @@ loop-again c =
     let s = q14 in
     let r = q7 .row-at in
     let l = q9 .loop .inv in
-    let q = part-same (s .args .block .now) (r .result) in
-    (c .before .before .store-note .kept .1 .1 .0 ∙ l .0, storing-turn (all-set (s .pre)) (l .1) (omega arith) (r .ensures .0) q
-    (c .before .before .store-note .ensures))
+    let q = part-same (s .args .block .now) (r .result) in (
+      c .before .before .store-note .kept .1 .1 .0 ∙ l .0,
+      storing-turn (all-set (s .pre)) (l .1) (omega arith) (r .ensures .0) q
+          (c .before .before .store-note .ensures),
+    )
 
 same-length : tie.Need-same-length Inv-loop μ-loop
 same-length c =

@@ -1,5 +1,5 @@
 use Prim.Native.Nat.{_≤_}
-use mathlib.Core.Path.{_≡_, sym, _∙_}
+use mathlib.Core.Path.{sym, _∙_}
 use native.Mathlib.Omega.{arith}
 use borrow.Author.Tests.{not-true, not-false}
 use Rattle.notes.proofs.Matched.{sane-noted, room-for}
@@ -30,8 +30,10 @@ same-length c = search needs
 
 returns : tie.Need-returns
 returns c =
-    let s = c .before .before .before .before .before .before .args in
-    delete-table (s .block .now) (s .table .now) (c .before .before .before .size-of .ensures) (c .before .sane .ensures) (not-true _ (c .if1 .taken)) (s .number)
+    let sane = c .before in
+    let size-of = sane .before .before in
+    let s = size-of .before .before .before .args in
+    delete-table (s .block .now) (s .table .now) (size-of .size-of .ensures) (sane .sane .ensures) (not-true _ (c .if1 .taken)) (s .number)
 
 wide-requires : tie.Need-wide-requires
 wide-requires c κs = search needs
@@ -50,38 +52,87 @@ same-length-2 c = search needs
 
 returns-2 : tie.Need-returns-2
 returns-2 c =
-    let s = c .before .before .before .before .before .before .before .before .before .before .before .before .before .args in
-    delete-absent (s .block .now) (s .table .now) (c .before .before .before .before .before .before .before .before .before .before .size-of .ensures) (c .before .before .before .before .before .before .before .before .sane .ensures) (not-false _ (c .before .before .before .before .before .before .before .if1 .left)) (s .number) (look-told _ _ _ (sym (c .before .before .before .before .before .before .before .before .sane .ensures) ∙ not-false _ (c .before .before .before .before .before .before .before .if1 .left)) (rw (c .before .before .before .before .before .wide .ensures) at (sym (c .before .before .n .given .1) ∙ c .before .before .before .before .judge .ensures))) (omega arith)
+    let n = c .before .before in
+    let judge = n .before .before in
+    let wide = judge .before in
+    let if1 = wide .before .before in
+    let sane = if1 .before in
+    let size-of = sane .before .before in
+    let s = size-of .before .before .before .args in
+    let k = look-told _ _ _ (sym (sane .sane .ensures) ∙ not-false _ (if1 .if1 .left))
+    (rw (wide .wide .ensures) at (sym (n .n .given .1) ∙ judge .judge .ensures))
+    in
+    delete-absent (s .block .now) (s .table .now) (size-of .size-of .ensures) (sane .sane .ensures) (not-false _ (if1 .if1 .left)) (s .number)
+    k (omega arith)
 
 remove-requires : tie.Need-remove-requires
-remove-requires c κs = let k = (look-told _ _ _ (sym (c .before .before .before .before .before .before .before .before .before .sane .ensures) ∙ not-false _ (c .before .before .before .before .before .before .before .before .if1 .left)) (rw (c .before .before .before .before .before .before .wide .ensures) at (sym (c .before .before .before .n .given .1) ∙ c .before .before .before .before .before .judge .ensures))) in (k .count, omega (arith, k .count, k .noted .order .few), omega arith, k .noted .order .cells)
+remove-requires c κs =
+    let n = c .before .before .before in
+    let judge = n .before .before in
+    let wide = judge .before in
+    let if1 = wide .before .before in
+    let sane = if1 .before in
+    let k = look-told _ _ _ (sym (sane .sane .ensures) ∙ not-false _ (if1 .if1 .left))
+    (rw (wide .wide .ensures) at (sym (n .n .given .1) ∙ judge .judge .ensures))
+    in
+    (k .count, omega (arith, k .count, k .noted .order .few), omega arith, k .noted .order .cells)
 
 drop-note-requires : tie.Need-drop-note-requires
 drop-note-requires c κs =
-    let s = c .before .before .before .before .before .before .before .before .before .before .before .before .before .before .before .before .before .before .args in
-    let k = (look-told _ _ _ (sym (c .before .before .before .before .before .before .before .before .before .before .before .before .before .sane .ensures) ∙ not-false _ (c .before .before .before .before .before .before .before .before .before .before .before .before .if1 .left)) (rw (c .before .before .before .before .before .before .before .before .before .before .wide .ensures) at (sym (c .before .before .before .before .before .before .before .n .given .1) ∙ c .before .before .before .before .before .before .before .before .before .judge .ensures))) in
-    let few = rows-less (s .table .now) (c .before .before .before .before .before .before .before .n .given .0 .1 .0) (k .noted .order .few) in
-    let gone = c .before .before .before .remove .ensures in
-    let small : c .before .before .before .before .before .before .before .before .before .before .before .before .before .before .before .size-of .result ≤ 16384 = omega (arith, c .before .before .before .before .before .before .before .before .before .before .before .before .before .before .before .size-of .ensures) in
-    ((k .count ∙ sym (k .noted .count) ∙ sym (count-kept _ _ few gone), omega (arith, k .count, k .noted .order .few), omega arith),
-    rw (heads-kept _ _ few gone) (omega (arith, room-for (k .noted) small, c .before .before .before .remove .kept .0)))
+    let remove = c .before .before .before in
+    let n = remove .before .before .before .before in
+    let judge = n .before .before in
+    let wide = judge .before in
+    let if1 = wide .before .before in
+    let sane = if1 .before in
+    let size-of = sane .before .before in
+    let s = size-of .before .before .before .args in
+    let k = look-told _ _ _ (sym (sane .sane .ensures) ∙ not-false _ (if1 .if1 .left))
+    (rw (wide .wide .ensures) at (sym (n .n .given .1) ∙ judge .judge .ensures))
+    in
+    let few = rows-less (s .table .now) (n .n .given .0 .1 .0) (k .noted .order .few) in
+    let gone = remove .remove .ensures in
+    let small : size-of .size-of .result ≤ 16384 = omega (arith, size-of .size-of .ensures) in (
+      (k .count ∙ sym (k .noted .count) ∙ sym (count-kept _ _ few gone), omega (arith, k .count, k .noted .order .few), omega arith),
+      rw (heads-kept _ _ few gone) (omega (arith, room-for (k .noted) small, remove .remove .kept .0)),
+    )
 
 same-length-3 : tie.Need-same-length-3
 same-length-3 c = search needs
 
 returns-3 : tie.Need-returns-3
 returns-3 c =
-    let s = c .before .before .before .before .before .before .before .before .before .before .before .before .args in
-    let stop = sym (c .before .why .given .1) ∙ c .before .before .before .judge .ensures in
-    delete-stop (s .block .now) (s .table .now) (c .before .before .before .before .before .before .before .before .before .size-of .ensures) (c .before .before .before .before .before .before .before .sane .ensures) (not-false _ (c .before .before .before .before .before .before .if1 .left)) (s .number) (rw (c .before .before .before .before .wide .ensures) at stop)
+    let why = c .before in
+    let judge = why .before .before in
+    let wide = judge .before in
+    let if1 = wide .before .before in
+    let sane = if1 .before in
+    let size-of = sane .before .before in
+    let s = size-of .before .before .before .args in
+    let stop = sym (why .why .given .1) ∙ judge .judge .ensures in
+    delete-stop (s .block .now) (s .table .now) (size-of .size-of .ensures) (sane .sane .ensures) (not-false _ (if1 .if1 .left)) (s .number)
+    (rw (wide .wide .ensures) at stop)
 
 same-length-4 : tie.Need-same-length-4
 same-length-4 c = search needs
 
 returns-4 : tie.Need-returns-4
 returns-4 c =
-    let s = c .before .before .before .before .before .before .before .before .before .before .before .before .before .before .before .before .before .before .before .before .before .args in
-    delete-found (s .block .now) (s .table .now) (c .before .before .before .before .before .before .before .before .before .before .before .before .before .before .before .before .before .before .size-of .ensures) (c .before .before .before .before .before .before .before .before .before .before .before .before .before .before .before .before .sane .ensures) (not-false _ (c .before .before .before .before .before .before .before .before .before .before .before .before .before .before .before .if1 .left)) (s .number) (look-told _ _ _ (sym (c .before .before .before .before .before .before .before .before .before .before .before .before .before .before .before .before .sane .ensures) ∙ not-false _ (c .before .before .before .before .before .before .before .before .before .before .before .before .before .before .before .if1 .left)) (rw (c .before .before .before .before .before .before .before .before .before .before .before .before .before .wide .ensures) at (sym (c .before .before .before .before .before .before .before .before .before .before .n .given .1) ∙ c .before .before .before .before .before .before .before .before .before .before .before .before .judge .ensures))) (omega arith) (c .before .before .before .before .before .before .remove .ensures) (c .before .before .drop-note .ensures)
+    let drop-note = c .before .before in
+    let remove = drop-note .before .before .before .before in
+    let n = remove .before .before .before .before in
+    let judge = n .before .before in
+    let wide = judge .before in
+    let if1 = wide .before .before in
+    let sane = if1 .before in
+    let size-of = sane .before .before in
+    let s = size-of .before .before .before .args in
+    let k = look-told _ _ _ (sym (sane .sane .ensures) ∙ not-false _ (if1 .if1 .left))
+    (rw (wide .wide .ensures) at (sym (n .n .given .1) ∙ judge .judge .ensures))
+    in
+    delete-found (s .block .now) (s .table .now) (size-of .size-of .ensures) (sane .sane .ensures) (not-false _ (if1 .if1 .left)) (s .number)
+    k (omega arith) (remove .remove .ensures)
+    (drop-note .drop-note .ensures)
 
 pub delete-spec : {M : Type 1} → statement M
 delete-spec =

@@ -1,6 +1,4 @@
-use mathlib.Core.Path.{_≡_, refl, sym, ap, _∙_}
-use mathlib.Core.List.{List}
-use Prim.Native.Nat.{ℕ, _+_, _*_}
+use mathlib.Core.Path.{sym, _∙_}
 use native.Mathlib.Omega.{arith}
 use borrow.Author.Tests.{not-true, not-false}
 use Rattle.notes.proofs.Matched.{sane-noted}
@@ -25,8 +23,10 @@ sane-requires c κs = search needs
 
 returns : tie.Need-returns
 returns c =
-    let s = c .before .before .before .before .before .args in
-    get-table (s .block .now) (s .table .now) (c .before .before .size-of .ensures) (c .before .sane .ensures) (not-true _ (c .if1 .taken)) (s .number)
+    let sane = c .before in
+    let size-of = sane .before in
+    let s = size-of .before .before .before .args in
+    get-table (s .block .now) (s .table .now) (size-of .size-of .ensures) (sane .sane .ensures) (not-true _ (c .if1 .taken)) (s .number)
 
 wide-requires : tie.Need-wide-requires
 wide-requires c κs = search needs
@@ -42,28 +42,82 @@ enum-known-n c = search needs
 
 returns-2 : tie.Need-returns-2
 returns-2 c =
-    let s = c .before .before .before .before .before .before .before .before .before .before .before .args in
-    get-absent (s .block .now) (s .table .now) (c .before .before .before .before .before .before .before .before .size-of .ensures) (c .before .before .before .before .before .before .before .sane .ensures) (not-false _ (c .before .before .before .before .before .before .if1 .left)) (s .number) (look-told _ _ _ (sym (c .before .before .before .before .before .before .before .sane .ensures) ∙ not-false _ (c .before .before .before .before .before .before .if1 .left)) (rw (c .before .before .before .before .before .wide .ensures) at (sym (c .before .before .n .given .1) ∙ c .before .before .before .before .judge .ensures))) (omega arith)
+    let n = c .before .before in
+    let judge = n .before .before in
+    let wide = judge .before in
+    let if1 = wide .before in
+    let sane = if1 .before in
+    let size-of = sane .before in
+    let s = size-of .before .before .before .args in
+    let k = look-told _ _ _ (sym (sane .sane .ensures) ∙ not-false _ (if1 .if1 .left))
+    (rw (wide .wide .ensures) at (sym (n .n .given .1) ∙ judge .judge .ensures))
+    in
+    get-absent (s .block .now) (s .table .now) (size-of .size-of .ensures) (sane .sane .ensures) (not-false _ (if1 .if1 .left)) (s .number)
+    k (omega arith)
 
 mul-row-at : tie.Need-mul-row-at
-mul-row-at c = let k = (look-told _ _ _ (sym (c .before .before .before .before .before .before .before .sane .ensures) ∙ not-false _ (c .before .before .before .before .before .before .if1 .left)) (rw (c .before .before .before .before .before .wide .ensures) at (sym (c .before .before .n .given .1) ∙ c .before .before .before .before .judge .ensures))) in omega (arith, k .count, k .noted .order .few)
+mul-row-at c =
+    let n = c .before .before in
+    let judge = n .before .before in
+    let wide = judge .before in
+    let if1 = wide .before in
+    let sane = if1 .before in
+    let k = look-told _ _ _ (sym (sane .sane .ensures) ∙ not-false _ (if1 .if1 .left))
+    (rw (wide .wide .ensures) at (sym (n .n .given .1) ∙ judge .judge .ensures))
+    in
+    omega (arith, k .count, k .noted .order .few)
 
 add-row-at : tie.Need-add-row-at
-add-row-at c = let k = (look-told _ _ _ (sym (c .before .before .before .before .before .before .before .sane .ensures) ∙ not-false _ (c .before .before .before .before .before .before .if1 .left)) (rw (c .before .before .before .before .before .wide .ensures) at (sym (c .before .before .n .given .1) ∙ c .before .before .before .before .judge .ensures))) in omega (arith, k .count, k .noted .order .few)
+add-row-at c =
+    let n = c .before .before in
+    let judge = n .before .before in
+    let wide = judge .before in
+    let if1 = wide .before in
+    let sane = if1 .before in
+    let k = look-told _ _ _ (sym (sane .sane .ensures) ∙ not-false _ (if1 .if1 .left))
+    (rw (wide .wide .ensures) at (sym (n .n .given .1) ∙ judge .judge .ensures))
+    in
+    omega (arith, k .count, k .noted .order .few)
 
 row-at-requires : tie.Need-row-at-requires
-row-at-requires c κs = let k = (look-told _ _ _ (sym (c .before .before .before .before .before .before .before .sane .ensures) ∙ not-false _ (c .before .before .before .before .before .before .if1 .left)) (rw (c .before .before .before .before .before .wide .ensures) at (sym (c .before .before .n .given .1) ∙ c .before .before .before .before .judge .ensures))) in omega (arith, k .count, k .noted .order .few, k .noted .order .cells)
+row-at-requires c κs =
+    let n = c .before .before in
+    let judge = n .before .before in
+    let wide = judge .before in
+    let if1 = wide .before in
+    let sane = if1 .before in
+    let k = look-told _ _ _ (sym (sane .sane .ensures) ∙ not-false _ (if1 .if1 .left))
+    (rw (wide .wide .ensures) at (sym (n .n .given .1) ∙ judge .judge .ensures))
+    in
+    omega (arith, k .count, k .noted .order .few, k .noted .order .cells)
 
 returns-3 : tie.Need-returns-3
 returns-3 c =
-    let s = c .before .before .before .before .before .before .before .before .before .before .args in
-    let stop = sym (c .before .why .given .1) ∙ c .before .before .before .judge .ensures in
-    get-stop (s .block .now) (s .table .now) (c .before .before .before .before .before .before .before .size-of .ensures) (c .before .before .before .before .before .before .sane .ensures) (not-false _ (c .before .before .before .before .before .if1 .left)) (s .number) (rw (c .before .before .before .before .wide .ensures) at stop)
+    let why = c .before in
+    let judge = why .before .before in
+    let wide = judge .before in
+    let if1 = wide .before in
+    let sane = if1 .before in
+    let size-of = sane .before in
+    let s = size-of .before .before .before .args in
+    let stop = sym (why .why .given .1) ∙ judge .judge .ensures in
+    get-stop (s .block .now) (s .table .now) (size-of .size-of .ensures) (sane .sane .ensures) (not-false _ (if1 .if1 .left)) (s .number)
+    (rw (wide .wide .ensures) at stop)
 
 returns-4 : tie.Need-returns-4
 returns-4 c =
-    let s = c .before .before .before .before .before .before .before .before .before .before .before .before .args in
-    get-found (s .block .now) (s .table .now) (c .before .before .before .before .before .before .before .before .before .size-of .ensures) (c .before .before .before .before .before .before .before .before .sane .ensures) (not-false _ (c .before .before .before .before .before .before .before .if1 .left)) (s .number) (look-told _ _ _ (sym (c .before .before .before .before .before .before .before .before .sane .ensures) ∙ not-false _ (c .before .before .before .before .before .before .before .if1 .left)) (rw (c .before .before .before .before .before .before .wide .ensures) at (sym (c .before .before .before .n .given .1) ∙ c .before .before .before .before .before .judge .ensures))) (omega arith)
+    let n = c .before .before .before in
+    let judge = n .before .before in
+    let wide = judge .before in
+    let if1 = wide .before in
+    let sane = if1 .before in
+    let size-of = sane .before in
+    let s = size-of .before .before .before .args in
+    let k = look-told _ _ _ (sym (sane .sane .ensures) ∙ not-false _ (if1 .if1 .left))
+    (rw (wide .wide .ensures) at (sym (n .n .given .1) ∙ judge .judge .ensures))
+    in
+    get-found (s .block .now) (s .table .now) (size-of .size-of .ensures) (sane .sane .ensures) (not-false _ (if1 .if1 .left)) (s .number)
+    k (omega arith)
     (c .row-at .ensures .0)
 
 pub get-spec : {M : Type 1} → statement M

@@ -1,6 +1,4 @@
-use mathlib.Core.Path.{_≡_, refl, sym, ap, _∙_}
-use mathlib.Core.List.{List}
-use Prim.Native.Nat.{ℕ, _+_, _*_}
+use mathlib.Core.Path.{sym, _∙_}
 use native.Mathlib.Omega.{arith}
 use borrow.Author.Tests.{not-true, not-false}
 use Rattle.notes.proofs.Matched.{sane-noted}
@@ -28,16 +26,23 @@ same-length c = search needs
 
 returns : tie.Need-returns
 returns c =
-    let s = c .before .before .before .before .before .before .before .args in
-    put-table (s .block .now) (s .table .now) (c .before .before .before .size-of .ensures) (c .before .sane .ensures) (not-true _ (c .if1 .taken)) (s .law) (s .number) (s .octets .now)
+    let sane = c .before in
+    let size-of = sane .before .before in
+    let s = size-of .before .before .before .before .args in
+    put-table (s .block .now) (s .table .now) (size-of .size-of .ensures) (sane .sane .ensures) (not-true _ (c .if1 .taken)) (s .law) (s .number)
+    (s .octets .now)
 
 same-length-2 : tie.Need-same-length-2
 same-length-2 c = search needs
 
 returns-2 : tie.Need-returns-2
 returns-2 c =
-    let s = c .before .before .before .before .before .before .before .before .args in
-    put-law (s .block .now) (s .table .now) (c .before .before .before .before .size-of .ensures) (c .before .before .sane .ensures) (not-false _ (c .before .if1 .left)) (s .law) (s .number) (s .octets .now) (omega arith)
+    let if1 = c .before in
+    let sane = if1 .before in
+    let size-of = sane .before .before in
+    let s = size-of .before .before .before .before .args in
+    put-law (s .block .now) (s .table .now) (size-of .size-of .ensures) (sane .sane .ensures) (not-false _ (if1 .if1 .left)) (s .law) (s .number)
+    (s .octets .now) (omega arith)
 
 wide-requires : tie.Need-wide-requires
 wide-requires c κs = search needs
@@ -53,19 +58,31 @@ enum-known-n c = search needs
 
 put-among-requires : tie.Need-put-among-requires
 put-among-requires c κs =
-    let found = sym (c .before .before .before .n .given .1) ∙ c .before .before .before .before .before .judge .ensures in
-    let k = look-told _ _ _ (sym (c .before .before .before .before .before .before .before .before .before .before .sane .ensures) ∙ not-false _ (c .before .before .before .before .before .before .before .before .before .if1 .left)) found in
-    (k, (omega (arith, c .before .before .before .before .before .before .before .before .before .before .before .before .size-of .ensures), omega (arith, c .before .before .before .before .before .before .before .before .before .before .before .before .size-of .ensures), omega arith, at-most _ _ _ k))
+    let n = c .before .before .before in
+    let judge = n .before .before in
+    let if1 = judge .before .before .before .before in
+    let sane = if1 .before in
+    let size-of = sane .before .before in
+    let found = sym (n .n .given .1) ∙ judge .judge .ensures in
+    let k = look-told _ _ _ (sym (sane .sane .ensures) ∙ not-false _ (if1 .if1 .left)) found in
+    (k, (omega (arith, size-of .size-of .ensures), omega (arith, size-of .size-of .ensures), omega arith, at-most _ _ _ k))
 
 same-length-3 : tie.Need-same-length-3
 same-length-3 c = search needs
 
 returns-3 : tie.Need-returns-3
 returns-3 c =
-    let s = c .before .before .before .before .before .before .before .before .before .before .before .before .before .before .args in
-    let stop = sym (c .before .why .given .1) ∙ c .before .before .before .judge .ensures in
-    put-stop (s .block .now) (s .table .now) (c .before .before .before .before .before .before .before .before .before .before .size-of .ensures) (c .before .before .before .before .before .before .before .before .sane .ensures) (not-false _ (c .before .before .before .before .before .before .before .if1 .left)) (s .law) (s .number) (s .octets .now) (omega arith)
-    (rw (c .before .before .before .before .before .wide .ensures) at stop)
+    let why = c .before in
+    let judge = why .before .before in
+    let wide = judge .before .before in
+    let if1 = wide .before .before in
+    let sane = if1 .before in
+    let size-of = sane .before .before in
+    let s = size-of .before .before .before .before .args in
+    let stop = sym (why .why .given .1) ∙ judge .judge .ensures in
+    put-stop (s .block .now) (s .table .now) (size-of .size-of .ensures) (sane .sane .ensures) (not-false _ (if1 .if1 .left)) (s .law) (s .number)
+    (s .octets .now) (omega arith)
+    (rw (wide .wide .ensures) at stop)
 
 same-length-4 : tie.Need-same-length-4
 same-length-4 c = search needs
@@ -75,9 +92,15 @@ same-length-5 c = search needs
 
 returns-4 : tie.Need-returns-4
 returns-4 c =
-    let s = c .before .before .before .before .before .before .before .before .before .before .before .before .before .before .before .before .before .before .before .before .before .args in
-    put-goes-on (s .block .now) (s .table .now) (c .before .before .before .before .before .before .before .before .before .before .before .before .before .before .before .before .before .size-of .ensures) (c .before .before .before .before .before .before .before .before .before .before .before .before .before .before .before .sane .ensures) (not-false _ (c .before .before .before .before .before .before .before .before .before .before .before .before .before .before .if1 .left)) (s .law) (s .number) (s .octets .now)
-    (rw (c .before .before .before .before .before .before .before .before .before .before .before .before .wide .ensures) at (c .before .before .before .before .put-among .ensures))
+    let put-among = c .before .before .before .before in
+    let wide = put-among .before .before .before .before .before .before .before .before in
+    let if1 = wide .before .before in
+    let sane = if1 .before in
+    let size-of = sane .before .before in
+    let s = size-of .before .before .before .before .args in
+    put-goes-on (s .block .now) (s .table .now) (size-of .size-of .ensures) (sane .sane .ensures) (not-false _ (if1 .if1 .left)) (s .law)
+    (s .number) (s .octets .now)
+    (rw (wide .wide .ensures) at (put-among .put-among .ensures))
 
 pub put-spec : {M : Type 1} → statement M
 put-spec =

@@ -1,7 +1,5 @@
 -- TAKEN, longer than the block, BAD; then what was taken of the walk is the greeting's note (Called).
-use mathlib.Core.Path.{sym, subst, _∙_}
 use native.Mathlib.Omega.{arith}
-use lib.ListN.{length}
 use Rattle.marks.proofs.Taking.{taken-bad}
 use Rattle.store.proofs.Called.{put-taken, put-long, put-bad, sound-taken}
 use borrow.Author.Needs.{needs}
@@ -57,8 +55,7 @@ put-sound-requires c κs =
     let take = told .before .before .before .take .ensures in
     let s = told .before .before .before .before .before .before .before .before .before .before in
     let p = s .pre in
-    let k = sound-taken take (told .samples .given .1) wide (omega arith) in
-    (
+    let k = sound-taken take (told .samples .given .1) wide (omega arith) in (
       (p .0, omega arith, k .fine),
       ((p .1 .0, p .1 .1, p .1 .3, omega arith), ((omega (arith, wide), k .heard, k .few, k .fits), k .note)),
     )

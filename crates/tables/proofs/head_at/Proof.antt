@@ -1,5 +1,5 @@
 -- Three lines, then the law.
-use mathlib.Core.Path.{_≡_, refl, sym, ap, _∙_}
+use mathlib.Core.Path.{sym, ap, _∙_}
 use Rattle.keyvalue.proofs.Numbers.{told}
 use Rattle.tables.specs.Fills.{asRow}
 use Rattle.tables.proofs.Lines.{head-no-row, head-no-law, head-whole}

@@ -1,5 +1,5 @@
 -- The lines up to the law, and those after it.
-use mathlib.Core.Path.{_≡_, refl, sym, ap, _∙_}
+use mathlib.Core.Path.{sym, ap, _∙_}
 use Rattle.tables.specs.Passing.{asHead}
 use Rattle.tables.proofs.Lines.{listed-no-head, listed-astray, listed-whole}
 use borrow.Author.Needs.{needs}

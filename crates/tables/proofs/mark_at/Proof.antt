@@ -1,5 +1,5 @@
 -- A word, and two numbers with a word after each.
-use mathlib.Core.Path.{_≡_, refl, sym, ap, _∙_}
+use mathlib.Core.Path.{sym, _∙_}
 use native.Mathlib.Omega.{arith}
 use borrow.Author.Tests.{not-true, not-false}
 use Rattle.keyvalue.proofs.Numbers.{told}

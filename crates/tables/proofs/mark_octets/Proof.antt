@@ -1,8 +1,8 @@
 -- The octets of a word, two numbers, a comma and 0A.
-use mathlib.Core.Path.{_≡_, refl, sym, ap, _∙_}
+use mathlib.Core.Path.{ap, _∙_}
 use native.Mathlib.Omega.{arith}
 use lib.ListN.{length, getD}
-use Prim.Native.Nat.{ℕ, _+_}
+use Prim.Native.Nat.{ℕ}
 use Rattle.rules.specs.Listing.{decimal}
 use Rattle.keyvalue.proofs.Decimals.{decimal-few}
 use Rattle.tables.specs.Held.{markAt}

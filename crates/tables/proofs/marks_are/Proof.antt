@@ -1,6 +1,6 @@
 -- Mark by mark (Marks, Compares).
 use Prim.Native.Nat.{_-_, _≤_}
-use mathlib.Core.Path.{_≡_, refl, sym, ap, _∙_}
+use mathlib.Core.Path.{sym, ap, _∙_}
 use native.Mathlib.Omega.{arith}
 use Rattle.tables.specs.Passing.{asMark}
 use Rattle.tables.proofs.Marks.{Compares, compares-first, are-more, are-end, are-none, are-octets, are-samples, are-turn}

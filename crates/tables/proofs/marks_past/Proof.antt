@@ -1,6 +1,6 @@
 -- Mark by mark (Marks, Marking).
 use Prim.Native.Nat.{_-_}
-use mathlib.Core.Path.{_≡_, refl, sym, ap, _∙_}
+use mathlib.Core.Path.{sym, ap, _∙_}
 use native.Mathlib.Omega.{arith}
 use lib.ListN.{length}
 use Rattle.keyvalue.proofs.Lines.{word-fits}

@@ -1,5 +1,5 @@
 -- Samples, then marks.
-use mathlib.Core.Path.{_≡_, refl, sym, ap, _∙_}
+use mathlib.Core.Path.{sym, _∙_}
 use native.Mathlib.Omega.{arith}
 use Rattle.keyvalue.proofs.Numbers.{told}
 use Rattle.tables.proofs.Marks.{is-none, is-other, is-same}

@@ -1,6 +1,6 @@
 -- The octets of two lines and the marks.
 use Prim.Native.Nat.{ℕ, _+_}
-use mathlib.Core.Path.{ap, sym, _∙_}
+use mathlib.Core.Path.{ap}
 use native.Mathlib.Omega.{arith}
 use lib.ListN.{length}
 use Rattle.notes.specs.Cells.{marksIn}
@@ -64,7 +64,9 @@ add-result-2 : tie.Need-add-result-2
 add-result-2 c =
     let a = c .before .before .before .before .before .before .before .before .before .before .before .args in
     let r = c .before .before .shared-slice-known5 .given (a .k + 2) in
-    omega (arith, c .marks-octets .ensures .1, c .before .wide .ensures, r, c .before .before .before .line-octets2 .ensures .1, c .before .before .before .before .before .before .line-octets .ensures .1)
+    let line2 = c .before .before .before in
+    let line = line2 .before .before .before in
+    omega (arith, c .marks-octets .ensures .1, c .before .wide .ensures, r, line2 .line-octets2 .ensures .1, line .line-octets .ensures .1)
 
 returns : tie.Need-returns
 returns c =
@@ -73,9 +75,11 @@ returns c =
     let o = c .marks-octets .ensures in
     let e = ap (λ (m : ℕ). length (marksText (marksIn m (a .cells .now)))) (c .before .wide .ensures) in
     let s = c .before .before .before .line-octets2 .ensures in
-    let l = c .before .before .before .before .before .before .line-octets .ensures in
-    (omega (arith, note-length (noteAt (a .heads .now) (a .k) (a .cells .now)), o .0, e, s .0, l .0), omega
-    (arith, o .1, c .before .wide .ensures, r, s .1, l .1))
+    let l = c .before .before .before .before .before .before .line-octets .ensures in (
+      omega (arith, note-length (noteAt (a .heads .now) (a .k) (a .cells .now)), o .0, e, s .0, l .0),
+      omega
+          (arith, o .1, c .before .wide .ensures, r, s .1, l .1),
+    )
 
 pub note-octets-spec : {M : Type 1} → statement M
 note-octets-spec =

@@ -1,5 +1,5 @@
 -- A number, and a word after it.
-use mathlib.Core.Path.{_≡_, refl, sym, ap, _∙_}
+use mathlib.Core.Path.{sym, _∙_}
 use native.Mathlib.Omega.{arith}
 use borrow.Author.Tests.{not-true, not-false}
 use Rattle.keyvalue.proofs.Numbers.{told}
@@ -29,8 +29,11 @@ returns c =
 add-t11 : tie.Need-add-t11
 add-t11 c =
     let a = c .before .before .before .before .before .before .before .before .args in
-    omega (arith, word-fits (a .word .now) (a .text .now) (c .before .before .before .n .given .0 .1 .0)
-    (sym (c .before .has-word .ensures) ∙ not-false _ (c .if1 .left)))
+    omega (
+      arith,
+      word-fits (a .word .now) (a .text .now) (c .before .before .before .n .given .0 .1 .0)
+          (sym (c .before .has-word .ensures) ∙ not-false _ (c .if1 .left)),
+    )
 
 returns-2 : tie.Need-returns-2
 returns-2 c = then-no-number _ _ _ (told (c .enum-told .given .1) (c .before .before .number-at .ensures))

@@ -28,9 +28,11 @@ add-k c = search needs
 put-row-requires : tie.Need-put-row-requires Inv-loop μ-loop
 put-row-requires c κs =
     let l = c .before .before in
-    let a = l .before .before .before .before .before .args in
-    (omega arith, row-fits (a .table .now) (a .heads .now) (a .marks .now) (a .n) (l .loop .from) (l .loop .i) (l .loop .inv .2) (omega arith)
-    (omega arith))
+    let a = l .before .before .before .before .before .args in (
+      omega arith,
+      row-fits (a .table .now) (a .heads .now) (a .marks .now) (a .n) (l .loop .from) (l .loop .i) (l .loop .inv .2) (omega arith)
+          (omega arith),
+    )
 
 mul-put-note : tie.Need-mul-put-note Inv-loop μ-loop
 mul-put-note c = search needs
@@ -70,13 +72,21 @@ wide-requires c κs = search needs
 
 mul-from : tie.Need-mul-from Inv-loop μ-loop
 mul-from c =
-    omega (arith, c .wide .ensures, within-here
-    (c .before .before .before .before .before .before .before .before .before .before .before .before .loop .inv .1) (omega arith))
+    omega (
+      arith,
+      c .wide .ensures,
+      within-here
+          (c .before .before .before .before .before .before .before .before .before .before .before .before .loop .inv .1) (omega arith),
+    )
 
 add-from : tie.Need-add-from Inv-loop μ-loop
 add-from c =
-    omega (arith, c .wide .ensures, within-here
-    (c .before .before .before .before .before .before .before .before .before .before .before .before .loop .inv .1) (omega arith))
+    omega (
+      arith,
+      c .wide .ensures,
+      within-here
+          (c .before .before .before .before .before .before .before .before .before .before .before .before .loop .inv .1) (omega arith),
+    )
 
 add-i : tie.Need-add-i Inv-loop μ-loop
 add-i c = search needs

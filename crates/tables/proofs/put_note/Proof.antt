@@ -1,6 +1,6 @@
 -- Two lines, then the marks.
 use Prim.Native.Nat.{ℕ, _+_}
-use mathlib.Core.Path.{ap, sym, _∙_}
+use mathlib.Core.Path.{ap}
 use native.Mathlib.Omega.{arith}
 use lib.ListN.{length}
 use Rattle.notes.specs.Cells.{marksIn}

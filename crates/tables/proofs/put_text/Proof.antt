@@ -1,9 +1,5 @@
 -- The second list and the marks are parts of the table.
-use mathlib.Core.Path.{_≡_, refl, sym, ap, _∙_}
 use native.Mathlib.Omega.{arith}
-use lib.ListN.{length, drop}
-use Rattle.notes.specs.Cells.{marksHeld}
-use Rattle.rows.specs.Cells.{rowsAt}
 use Rattle.tables.proofs.Writing.{parts-fit, parts-text}
 use Rattle.lines.proofs.Putting.{puts-as}
 use borrow.Author.Needs.{needs}

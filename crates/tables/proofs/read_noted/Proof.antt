@@ -90,9 +90,12 @@ loop-again c =
     let i = m .before .before .before in
     let n = i .if1 .left in
     let s = i .before .before .loop .inv in
-    let e = sym (ap asHead (m .number .given .1)) ∙ m .before .before .listed-at .ensures in
-    (p .put-cells .kept .0 ∙ s .0, rw length-set (s .1), noting-turn (s .2) (omega arith) n (omega (arith, s .1, s .2 .few)) e
-    (p .put-cells .ensures))
+    let e = sym (ap asHead (m .number .given .1)) ∙ m .before .before .listed-at .ensures in (
+      p .put-cells .kept .0 ∙ s .0,
+      rw length-set (s .1),
+      noting-turn (s .2) (omega arith) n (omega (arith, s .1, s .2 .few)) e
+          (p .put-cells .ensures),
+    )
 
 cast-cells : tie.Need-cast-cells Inv-loop μ-loop
 cast-cells c = omega (arith, c .before .loop .inv .2 .few)

@@ -72,7 +72,7 @@ loop-again c =
     let s = i .before .before .loop .inv in (
       p .put-cells .kept .0 ∙ s .0,
       stand-turn (s .1) (omega arith) (i .if1 .left) (sym (ap asRow (m .number .given .1)) ∙ m .before .before .line-of .ensures)
-      (p .put-cells .ensures),
+          (p .put-cells .ensures),
     )
 
 cast-cells : tie.Need-cast-cells Inv-loop μ-loop

@@ -1,9 +1,7 @@
 -- The second list and the marks are parts of the table.
-use mathlib.Core.Path.{_≡_, refl, sym, ap, _∙_}
+use mathlib.Core.Path.{ap, _∙_}
 use native.Mathlib.Omega.{arith}
-use lib.ListN.{length, drop}
-use Rattle.notes.specs.Cells.{marksHeld}
-use Rattle.rows.specs.Cells.{rowsAt}
+use lib.ListN.{length}
 use Rattle.tables.proofs.Writing.{parts-fit, parts-text}
 use borrow.Author.Needs.{needs}
 use Rattle.tables.proofs.text_octets.Statement.{statement}
