@@ -18,7 +18,7 @@ use Rattle.rows.proofs.Cells.{length-rows, nth-rows}
 use Rattle.rows.proofs.Finding.{found-here, found-nowhere}
 use Rattle.rows.proofs.Judged.{row-next}
 use Rattle.rows.proofs.Rising.{Next}
-use Rattle.rules.proofs.Lent.{from-on}
+use Rattle.rules.proofs.Lent.{from-on as part-on}
 use Rattle.marks.specs.Marks.{Mark, Note, markOf, framesApart}
 use Rattle.notes.specs.Notes.{nthNote}
 use Rattle.notes.specs.Cells.{marksIn, notesOf, headsOf, marksHeld}
@@ -77,11 +77,11 @@ module _ {size : ℕ} {t : List ℕ} (k : Noted size t) (z : size ≤ 16384) {i 
       omega (arith, e, marks-next t n i (sym (k .count)) h room, held-all t n i (sym (k .count)) (omega arith) room, room)
 
   -- in the greeting at place i
-  pub row-at : (b : List ℕ) (sample : ℕ) {r g : Row} {law m first : ℕ} {a : Answer} → r ≡ rowAt t (1 + 3 * i) → g ≡ rowAt (drop 97 t) (1 + 3 * i)
+  pub row-at : (b : List ℕ) (sample : ℕ) {r g : Row} {law first : ℕ} {a : Answer} → r ≡ rowAt t (1 + 3 * i) → g ≡ rowAt (drop 97 t) (1 + 3 * i)
       → law ≡ getD t (98 + 3 * i) 0 → first ≡ 194 + 2 * marksHeld (rowsAt (drop 97 t) i 1)
       → a ≡ jumpIn (take (r .start + r .octets - r .start) (drop (r .start) b)) (noteIn law (g .start) (g .octets) (take (length t - first) (drop first t))) sample
       → a ≡ jumpIn (greeting b (nth i (rowsOf t))) (nthNote i (notesOf t)) sample
-  row-at b sample {r} {g} {law} {m} {first} {a} p q l f e =
+  row-at b sample {r} {g} {law} {first} {a} p q l f e =
       let n = getD t 0 0 in
       let o : r .start + r .octets - r .start ≡ r .octets = omega arith in
       let row : nth i (rowsOf t) ≡ r = nth-rows t n 1 i h ∙ sym p in
@@ -94,7 +94,7 @@ module _ {size : ℕ} {t : List ℕ} (k : Noted size t) (z : size ≤ 16384) {i 
       ∙ ap (λ (x : ℕ). noteIn x (g .start) (g .octets) (drop first t)) (sym lawful)
       in
       e ∙ ap (λ (x : ℕ). jumpIn (take x (drop (r .start) b)) (noteIn law (g .start) (g .octets) (take (length t - first) (drop first t))) sample) o
-      ∙ ap (λ (x : List ℕ). jumpIn (greeting b r) (noteIn law (g .start) (g .octets) x) sample) (from-on t first)
+      ∙ ap (λ (x : List ℕ). jumpIn (greeting b r) (noteIn law (g .start) (g .octets) x) sample) (part-on t first)
       ∙ ap (λ (x : Row). jumpIn (greeting b x) (noteIn law (g .start) (g .octets) (drop first t)) sample) (sym row)
       ∙ ap (λ (x : Note). jumpIn (greeting b (nth i (rowsOf t))) x sample) (sym note)
 
