@@ -1,10 +1,11 @@
 -- Document 02, R-9: "name the frame that holds it, its octet place and the sample's place in the frame, from the last mark at or before it".
-use Prim.Native.Nat.{ℕ, zero, suc, _+_, _-_, _/_}
-use mathlib.Core.List.{List, [], _∷_}
+use Prim.Native.Nat.{ℕ, zero, suc, _+_, _-_, _/_, _<_}
+use mathlib.Core.Path.{_≡_}
+use mathlib.Core.List.{List, [], _∷_, _++_}
 use mathlib.Core.Bool.{cond}
 use lib.ListN.{length, getD}
 use lib.Dec.{leb, ltb}
-use Rattle.rules.specs.Walk.{Delivered, Walked, walkFrom}
+use Rattle.rules.specs.Walk.{Delivered, Walked, walkFrom, samplesKept}
 use Rattle.greetings.specs.Bad.{walkOf, storeSet, neverShort}
 use Rattle.marks.specs.Marks.{Mark, markOf, framesApart}
 use Rattle.seeking.specs.declared.Sought.{Sought}
@@ -17,6 +18,17 @@ seek sample i before [] = Nowhere
 seek sample i before (f ∷ fs) =
     cond (ltb sample (before + length (f .found .samples))) (At i (f .place) (sample - before))
     (seek sample (i + 1) (before + length (f .found .samples)) fs)
+
+-- which frame that is: of all frames, so many stand before it, and with their samples the sample's place in it makes up the sample number
+pub record Holds (fs : List Delivered) (sample frame place inside : ℕ) : Type 0 where
+  pub before : List Delivered
+  pub named : Delivered
+  pub behind : List Delivered
+  pub are : fs ≡ before ++ (named ∷ behind)
+  pub count : frame ≡ length before
+  pub octets : place ≡ named .place
+  pub within : inside < length (named .found .samples)
+  pub sum : sample ≡ length (samplesKept before) + inside
 
 -- "The result is the one that a whole walk gives."
 abbrev pub byWalk : ℕ → List ℕ → ℕ → Sought
