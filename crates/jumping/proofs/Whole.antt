@@ -1,6 +1,6 @@
 -- "The result is the one that a whole walk gives": in a greeting that is not BAD, with the note that the walk gives, a jump names the frame that the
 -- whole walk gives (`jump-walks`). The mark that it begins at is the last one at or before the sample, fewer than 64 frames before the frame named.
-use Prim.Native.Nat.{ℕ, _+_, _*_, _-_, _/_, _%_, _≤_, _<_}
+use Prim.Native.Nat.{ℕ, _+_, _*_, _-_, _/_, _≤_, _<_}
 use mathlib.Core.Path.{_≡_, refl, sym, ap, subst, _∙_}
 use mathlib.Core.List.{List, [], _∷_, _++_, append-assoc, append-nil}
 use mathlib.Core.Bool.{Bool, true, false, cond, not}
@@ -23,12 +23,11 @@ use Rattle.marks.proofs.Marked.{marks-append}
 use Rattle.marks.proofs.Count.{marks-count}
 use Rattle.marks.proofs.Taking.{parts, next, Along, along-next, along-full, marks-next}
 use Rattle.seeking.specs.declared.Sought.the-variants.{At}
-use Rattle.seeking.specs.Seeking.{seek, byWalk, nthMark, lastMark, Holds}
+use Rattle.seeking.specs.Seeking.{seek, byWalk, nthMark, lastMark}
 use Rattle.seeking.proofs.LastMark.{LastAt, Rising, last-mark-is, last-mark-only}
 use Rattle.seeking.proofs.Whole.{seek-skip, seek-within, seek-finds, seek-near}
-use Rattle.jumping.specs.declared.Answer.{Answer}
-use Rattle.jumping.specs.declared.Answer.the-variants.{Done}
 use Rattle.jumping.specs.Jump.{named, jumpFrom, jumpIn}
+use Rattle.jumping.specs.Whole.{Named}
 
 -- what a greeting that is not BAD is
 done-of : (e : Ending) → not (isDone e) ≡ false → e ≡ Clean
@@ -250,16 +249,7 @@ module _ (law : ℕ) (xs : List ℕ) (good : isBad law xs ≡ false) where
         let n = seek-near sample (64 * k) (before k) (here k there) (sym same ∙ e) in
         omega (arith, n .0, n .1, walk-told xs law storeSet 64 (at k) 20480 .few)
 
--- a jump's answer, as a whole walk gives it: the frame whose samples hold the sample, at its place; frames read from the last mark at or before it
-pub record Named (law : ℕ) (xs : List ℕ) (sample : ℕ) (r : Answer) : Type 0 where
-  pub frame : ℕ
-  pub place : ℕ
-  pub inside : ℕ
-  pub answer : r ≡ Done frame place inside (frame % 64 + 1)
-  pub holds : Holds (walkOf law xs .frames) sample frame place inside
-  pub mark : LastAt (noteOf law xs .marks) sample (frame / 64)
-  pub last : (j : ℕ) → j < length (noteOf law xs .marks) → nthMark j (noteOf law xs .marks) .samples ≤ sample → j ≤ frame / 64
-
+-- a jump's answer, as a whole walk gives it
 pub jump-named : (law : ℕ) (xs : List ℕ) → isBad law xs ≡ false → (sample : ℕ) → sample < noteOf law xs .samples
     → Named law xs sample (jumpIn xs (noteOf law xs) sample)
 jump-named law xs good sample h =
@@ -272,6 +262,5 @@ jump-named law xs good sample h =
       inside = f .inside;
       answer = jump-walks law xs good sample h ∙ ap named (f .is);
       holds = f .holds;
-      mark = m;
-      last = last-mark-only ms sample (marks-rise law xs good) m;
+      mark = last-mark-only ms sample (marks-rise law xs good) m;
     }

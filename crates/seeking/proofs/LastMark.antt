@@ -9,7 +9,7 @@ use lib.ListN.{length}
 use lib.Dec.{leb}
 use borrow.Author.Tests.{leb-true, leb-false}
 use Rattle.marks.specs.Marks.{Mark}
-use Rattle.seeking.specs.Seeking.{nthMark, middle, lastFrom, lastMark}
+use Rattle.seeking.specs.Seeking.{nthMark, Latest, middle, lastFrom, lastMark}
 use Rattle.seeking.proofs.Halving.{last-one, last-step}
 
 pub record LastAt (ms : List Mark) (sample r : ℕ) : Type 0 where
@@ -69,11 +69,14 @@ module _ (ms : List Mark) (sample : ℕ) where
       (record { some = omega arith; inside = omega arith; first = b; behind = λ l. absurd (omega arith) }) (omega arith)
 
   -- no mark behind it is at or before the sample
-  pub last-mark-only : Rising ms → {r : ℕ} → LastAt ms sample r → (j : ℕ) → j < length ms → nthMark j ms .samples ≤ sample → j ≤ r
-  last-mark-only rises {r} w j h b = by (leb j r) refl
+  only : Rising ms → {r : ℕ} → LastAt ms sample r → (j : ℕ) → j < length ms → nthMark j ms .samples ≤ sample → j ≤ r
+  only rises {r} w j h b = by (leb j r) refl
     where
       by : (t : Bool) → leb j r ≡ t → j ≤ r
       by true e = leb-true j r e
       by false e =
           let l = leb-false j r e in
           absurd (omega (arith, w .next (omega arith), rises (r + 1) j (omega arith) h, b))
+
+  pub last-mark-only : Rising ms → {r : ℕ} → LastAt ms sample r → Latest ms sample r
+  last-mark-only rises w = record { among = w .among; before = w .before; last = only rises w }

@@ -1,5 +1,5 @@
 -- Document 02, R-9: "name the frame that holds it, its octet place and the sample's place in the frame, from the last mark at or before it".
-use Prim.Native.Nat.{ℕ, zero, suc, _+_, _-_, _/_, _<_}
+use Prim.Native.Nat.{ℕ, zero, suc, _+_, _-_, _/_, _≤_, _<_}
 use mathlib.Core.Path.{_≡_}
 use mathlib.Core.List.{List, [], _∷_, _++_}
 use mathlib.Core.Bool.{cond}
@@ -38,10 +38,17 @@ byWalk law xs sample = seek sample 0 0 (walkOf law xs .frames)
 abbrev pub fromMark : ℕ → List ℕ → ℕ → Walked
 fromMark law xs at = walkFrom framesApart xs law storeSet at (neverShort framesApart)
 
--- "the last mark at or before it", found by halving: it is one from `low` on and below `high`. As many halvings as marks are enough.
+-- "the last mark at or before it"
 abbrev pub nthMark : ℕ → List Mark → Mark
 nthMark k ms = getD ms k (markOf 0 0)
 
+-- which mark that is
+pub record Latest (ms : List Mark) (sample r : ℕ) : Type 0 where
+  pub among : r < length ms
+  pub before : nthMark r ms .samples ≤ sample
+  pub last : (j : ℕ) → j < length ms → nthMark j ms .samples ≤ sample → j ≤ r
+
+-- found by halving: it is one from `low` on and below `high`. As many halvings as marks are enough.
 abbrev pub middle : ℕ → ℕ → ℕ
 middle low high = low + (high - low) / 2
 

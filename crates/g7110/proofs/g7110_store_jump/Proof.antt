@@ -1,6 +1,4 @@
 use mathlib.Core.Path.{ap, _∙_}
-use Rattle.jumping.specs.declared.Answer.{Answer}
-use Rattle.jumping.specs.declared.Told.{Told}
 use Rattle.jumping.specs.Calls.{numberOf, toldOf}
 use Rattle.g7110.specs.Store.{fourOf}
 use borrow.Author.Needs.{needs}
@@ -22,7 +20,12 @@ number-of-requires : tie.Need-number-of-requires
 number-of-requires c κs = search needs
 
 returns : tie.Need-returns
-returns c = ?
+returns c =
+    let t = c .before .before .before .jump .ensures in
+    record {
+      ending = c .number-of .ensures ∙ ap numberOf t;
+      report = ap fourOf (c .before .before .told-of .ensures ∙ ap toldOf t);
+    }
 
 pub g7110-store-jump-spec : {M : Type 1} → statement M
 g7110-store-jump-spec = tie.close (tie.spec jump-requires told-of-requires number-of-requires returns)
