@@ -143,7 +143,6 @@ pub fn second_load(text: &[u8], block: &[u8]) -> u32 {
     black_box(Store::load(text, block.to_vec())).err().unwrap_or(0)
 }
 
-#[cfg(feature = "jump")]
 #[inline(never)]
 pub fn proved_jump(block: &[u8], table: &[u32], number: u32, sample: u64) -> u32 {
     let mut report = [0; 4];
@@ -152,7 +151,6 @@ pub fn proved_jump(block: &[u8], table: &[u32], number: u32, sample: u64) -> u32
     ending
 }
 
-#[cfg(feature = "jump")]
 #[inline(never)]
 pub fn second_jump(store: &Store, number: u32, sample: u64) -> u32 {
     black_box(store.jump(number, sample)).err().unwrap_or(0)

@@ -284,6 +284,5 @@ pub fn tables() {
     saving(&full);
     head("The store: loading 32 greetings of at most 512 octets, beside the walk over them", "load");
     greetings(512).iter().for_each(loading);
-    #[cfg(feature = "jump")]
     crate::jumps::tables();
 }

@@ -10,12 +10,8 @@
 
 enum { STACK = 1 << 20, PAINT = 0xC5, STREAM = 4000 };
 
-/* Kinds of call, none among them. With JUMP the header has g7110_store_jump. */
-#ifdef JUMP
+/* Kinds of call, none among them. */
 enum { CALLS = 20 };
-#else
-enum { CALLS = 19 };
-#endif
 
 struct call {
     int which; /* 0 none, 1 read, 2 write, 3 walk, 4 to linear values, 5 from them; of settings 6 save, 7 back, 8 read, 9 wipe;
@@ -55,9 +51,7 @@ static void *make(void *argument)
     if (call->which == 16) g7110_mend(call->given, call->length, 1, 40000, out, sizeof out, report);
     if (call->which == 17) g7110_file_read(call->given, call->length, G7110_ALL_TOOLS, out, sizeof out, items, STREAM, report);
     if (call->which == 18) g7110_file_write(call->given, call->length, items, listed, 1, G7110_ALL_TOOLS, out, sizeof out, report);
-#ifdef JUMP
     if (call->which == 19) g7110_store_jump(block, sizeof block, table, sizeof table / sizeof *table, number, call->length, report);
-#endif
     return NULL;
 }
 
@@ -80,7 +74,7 @@ static size_t used(struct call call)
     return STACK - low;
 }
 
-static size_t greatest[20];
+static size_t greatest[CALLS];
 
 static void measure(int which, const uint8_t *given, size_t length)
 {
@@ -172,7 +166,7 @@ static void files(void)
 
 int main(void)
 {
-    static const char *const names[20] = {"",            "read",          "write",         "walk",          "to_linear",
+    static const char *const names[CALLS] = {"",            "read",          "write",         "walk",          "to_linear",
                                           "from_linear", "settings_save", "settings_back", "settings_read", "settings_wipe",
                                           "why",         "store_put",     "store_get",     "store_delete",  "store_save",
                                           "store_load",  "mend",          "file_read",     "file_write",

@@ -147,7 +147,6 @@ pub fn delete(block: &[u8], table: &mut [u32], number: u32) -> Result<(), Refusa
 }
 
 /// Names the frame of a greeting that holds a sample, counted from 0.
-#[cfg(feature = "jump")]
 pub fn jump(block: &[u8], table: &[u32], number: u32, sample: u64) -> Result<Jump, Refusal> {
     let mut report = [0; 4];
     match raw::store_jump(block, table, number, sample, &mut report) {

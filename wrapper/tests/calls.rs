@@ -266,7 +266,6 @@ fn greetings_are_kept() {
 }
 
 /// A greeting jumped into; and what is refused.
-#[cfg(feature = "jump")]
 #[test]
 fn greetings_are_jumped_into() {
     use g7110::store::{jump, put, Jump, Put, Refusal};

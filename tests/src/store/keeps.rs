@@ -75,15 +75,8 @@ impl Keeps for Proved {
         Told::refused(raw::store_load(text, block, table))
     }
 
-    #[cfg(feature = "jump")]
     fn jump(&self, block: &[u8], table: &[u32], number: u32, sample: u64) -> Told {
         Told::by(|report| raw::store_jump(block, table, number, sample, report))
-    }
-
-    /// The proved jump is not there yet: the second program's, which then compares nothing.
-    #[cfg(not(feature = "jump"))]
-    fn jump(&self, block: &[u8], table: &[u32], number: u32, sample: u64) -> Told {
-        Second.jump(block, table, number, sample)
     }
 
     fn reader(&self) -> &dyn Codec {
