@@ -7,8 +7,6 @@ mod by_bits;
 mod calls;
 mod frames;
 mod greetings;
-#[cfg(feature = "jump")]
-mod jumps;
 mod mended;
 #[cfg(feature = "writer")]
 mod reasons;

@@ -82,17 +82,13 @@ const LIMITS: [(&str, &str, &str, &str); 6] = [
     ("LOSS", "crates/recording/specs/Items.antt", "\nlossFrom = ", "\n"),
 ];
 
-/// A call that the wrapper has ready, its feature off, and the header does not have yet (document 02, R-9).
-const CALL_NOT_YET: &str = "store_jump";
-
 /// The calls of the header are those of crate g7110 and of the wrapper, with as many entries in their reports.
 pub fn reports(files: &Files) -> Held {
     let mut held = Held::new("calls and reports of the header, by the crate and the wrapper");
     let header = calls(files.text(HEADER), "_t ");
     held.count = header.len();
     for path in ["crates/g7110/src/lib.rt", "wrapper/src/raw.rs"] {
-        let mut found = calls(files.text(path), "fn ");
-        found.remove(CALL_NOT_YET);
+        let found = calls(files.text(path), "fn ");
         held.also(found == header, || format!("{path}: {found:?}\nheader: {header:?}"));
     }
     held

@@ -15,8 +15,6 @@ pub enum Call {
     /// Into so much room.
     Save(usize),
     Load(Vec<u8>),
-    /// Number, sample.
-    Jump(u32, u64),
 }
 
 impl Call {
@@ -27,7 +25,6 @@ impl Call {
             Call::Delete(_) => "delete",
             Call::Save(_) => "save",
             Call::Load(_) => "load",
-            Call::Jump(..) => "jump",
         }
     }
 
@@ -41,7 +38,6 @@ impl Call {
             Call::Delete(number) => format!("delete {number}"),
             Call::Save(room) => format!("save in {room} octets"),
             Call::Load(text) => format!("load {}", text.escape_ascii()),
-            Call::Jump(number, sample) => format!("jump {number} {sample}"),
         }
     }
 
@@ -183,7 +179,6 @@ impl<'a> Stores<'a> {
             Call::Get(number) => self.keeper.get(block, table, *number),
             Call::Delete(number) => self.keeper.delete(block, table, *number),
             Call::Load(text) => self.keeper.load(text, block, table),
-            Call::Jump(number, sample) => self.keeper.jump(block, table, *number, *sample),
             Call::Save(room) => {
                 let fill = FILLS[self.calls % 2];
                 let mut lent = vec![fill; MARGIN + room + MARGIN];
@@ -217,10 +212,6 @@ impl<'a> Stores<'a> {
                 self.judged = true;
                 Told::ok(0, 0)
             }),
-            Call::Jump(number, sample) => {
-                let told = model.jump(*number, *sample);
-                told.map(|jump| Told::jumped([jump.frame, jump.place, jump.within, jump.read]))
-            }
         };
         answer.unwrap_or_else(Told::refused)
     }
