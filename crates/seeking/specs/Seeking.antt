@@ -7,8 +7,8 @@ use lib.Dec.{leb, ltb}
 use Rattle.rules.specs.Walk.{Delivered}
 use Rattle.greetings.specs.Bad.{walkOf}
 use Rattle.marks.specs.Marks.{Mark, markOf}
-use Rattle.jumping.specs.declared.Sought.{Sought}
-use Rattle.jumping.specs.declared.Sought.the-variants.{At, Nowhere}
+use Rattle.seeking.specs.declared.Sought.{Sought}
+use Rattle.seeking.specs.declared.Sought.the-variants.{At, Nowhere}
 
 -- the frame that holds a sample, its octet place, and the sample's place in it, among frames of which the first is frame i, with so many
 -- samples before it. A pad holds none.

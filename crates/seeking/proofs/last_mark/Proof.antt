@@ -1,0 +1,41 @@
+use borrow.Author.Needs.{needs}
+use Rattle.seeking.proofs.last_mark.Statement.{statement}
+use Rattle.seeking.proofs.last_mark.Tie as tie
+use Rattle.seeking.proofs.last_mark.Reads as reads
+use Rattle.seeking.proofs.last_mark.Lts as lts
+use Rattle.seeking.proofs.half.Reads as half-reads
+
+abbrev Inv-loop : tie.InvT-loop
+Inv-loop marks m sample low₀ high₀ low high = ?
+
+abbrev μ-loop : tie.MeasureT-loop
+μ-loop marks m sample low₀ high₀ low high = ?
+
+-- src/lib.rt:44:5
+loop-holds : tie.Need-loop-holds Inv-loop μ-loop
+loop-holds c = search needs
+
+-- src/lib.rt:44:11
+add-loop : tie.Need-add-loop Inv-loop μ-loop
+add-loop c = search needs
+
+-- src/lib.rt:45:13
+half-requires : tie.Need-half-requires Inv-loop μ-loop
+half-requires c κs = search needs
+
+-- src/lib.rt:44:5
+loop-less : tie.Need-loop-less Inv-loop μ-loop
+loop-less c = search needs
+
+-- src/lib.rt:44:5
+loop-again : tie.Need-loop-again Inv-loop μ-loop
+loop-again c = search needs
+
+-- src/lib.rt:38:1
+returns : tie.Need-returns Inv-loop μ-loop
+returns c = search needs
+
+pub last-mark-spec : {M : Type 1} → statement M
+last-mark-spec =
+    tie.close
+    (tie.spec Inv-loop μ-loop loop-holds add-loop half-requires loop-less loop-again returns)

@@ -1,0 +1,88 @@
+// What is sought in a greeting (document 02, R-9): the last mark at or before a sample, and from it the frame that holds the sample.
+// What they are stands in specs/Seeking.
+ghost use mathlib.Core.Path.{_≡_};
+ghost use Prim.Native.Nat.{_+_, _*_, _^_, _≤_, _<_};
+ghost use lib.ListN.{length};
+ghost use Rattle.rules.specs.Walk.{walkFrom};
+ghost use Rattle.greetings.specs.Bad.{storeSet};
+ghost use Rattle.notes.specs.Cells.{marksIn};
+ghost use Rattle.seeking.specs.Seeking.{seek, lastMark};
+ghost use Rattle.seeking.specs.Halves.{halfOf};
+use rules::Ending;
+
+// The frame that holds a sample, its octet place, and the sample's place in it.
+pub enum Sought {
+    At(usize, usize, usize),
+    Nowhere,
+}
+
+// Marks from `low` on and below `high`.
+pub struct Span {
+    pub low: usize,
+    pub high: usize,
+}
+
+// "the last mark at or before it" is in one half of the marks.
+fn half(marks: &[u32], low: usize, high: usize, sample: usize) -> Span
+    requires { ⌜ (low + 1 < high) × (2 * high ≤ length (now marks)) ⌝ }
+    ensures { λ r. ⌜ r ≡ halfOf (marksIn high (now (marks .entry))) sample low high ⌝ }
+{
+    let mid = low + (high - low) / 2;
+    if marks[2 * mid + 1] as usize <= sample {
+        return Span { low: mid, high };
+    }
+    Span { low, high: mid }
+}
+
+// "the last mark at or before it", of the marks that lie in these cells, by halving.
+pub fn last_mark(marks: &[u32], m: usize, sample: usize) -> usize
+    requires { ⌜ (1 ≤ m) × (2 * m ≤ length (now marks)) ⌝ }
+    ensures { λ r. ⌜ (r ≡ lastMark (marksIn m (now (marks .entry))) sample) × (r < m) ⌝ }
+{
+    let mut low = 0;
+    let mut high = m;
+    while low + 1 < high {
+        let s = half(marks, low, high, sample);
+        low = s.low;
+        high = s.high;
+    }
+    low
+}
+
+// The frame that holds a sample, of the 64 frames from a mark on: frame `first` stands at `at`, with so many samples before it.
+pub fn seek_on(
+    octets: &[u8],
+    law: u32,
+    at: usize,
+    first: usize,
+    before: usize,
+    sample: usize,
+) -> Sought
+    requires { ⌜ (first < 2 ^ 60) × (before < 2 ^ 32) × (length (now octets) < 2 ^ 32) ⌝ }
+    ensures { λ r. ⌜ r ≡ seek sample first before (walkFrom 64 (now (octets .entry)) law storeSet at (320 * length (now (octets .entry))) .frames) ⌝ }
+{
+    let mut samples = [0u8; 320];
+    let mut place = at;
+    let mut left = 320 * octets.len();
+    let mut passed = before;
+    let mut n = 0;
+    while n < 64 && place < octets.len() {
+        let r = walk::pass(octets, law, rules::ALL_TOOLS, place, left, &mut samples);
+        let e = r.end;
+        match e {
+            Ending::Refused(_) => {
+                return Sought::Nowhere;
+            }
+            Ending::Done => {
+                if sample < passed + r.len {
+                    return Sought::At(first + n, place, sample - passed);
+                }
+                place += r.octets;
+                left -= r.len;
+                passed += r.len;
+                n += 1;
+            }
+        }
+    }
+    Sought::Nowhere
+}
