@@ -1,0 +1,4 @@
+pub mod Opening
+pub mod Noting
+pub mod Stored
+pub mod Matched

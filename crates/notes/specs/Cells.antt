@@ -4,7 +4,7 @@ use Prim.Native.Nat.{ℕ, zero, suc, _+_, _*_}
 use mathlib.Core.List.{List, [], _∷_, _++_}
 use lib.ListN.{length, getD, take, drop}
 use Rattle.rows.specs.declared.Row.{Row}
-use Rattle.rows.specs.Rows.{rowOf}
+use Rattle.rows.specs.Rows.{rowOf, held}
 use Rattle.rows.specs.Cells.{rowsOf, laid}
 use Rattle.marks.specs.Marks.{Mark, Note, markOf, markCells}
 
@@ -41,10 +41,9 @@ notesIn (h ∷ hs) cells =
 abbrev pub notesOf : List ℕ → List Note
 notesOf t = notesIn (headsOf t) (drop firstMark t)
 
--- how many marks the greetings of a second list have
-unfoldable pub marksHeld : List Row → ℕ
-marksHeld [] = 0
-marksHeld (h ∷ hs) = h .octets + marksHeld hs
+-- how many marks the greetings of a second list have: its third numbers, summed as those of the first are
+abbrev pub marksHeld : List Row → ℕ
+marksHeld hs = held hs
 
 -- and back: the marks of all, one after another
 unfoldable pub allCells : List Note → List ℕ
