@@ -4,9 +4,9 @@ use mathlib.Core.List.{List, [], _∷_}
 use mathlib.Core.Bool.{cond}
 use lib.ListN.{length, getD}
 use lib.Dec.{leb, ltb}
-use Rattle.rules.specs.Walk.{Delivered}
-use Rattle.greetings.specs.Bad.{walkOf}
-use Rattle.marks.specs.Marks.{Mark, markOf}
+use Rattle.rules.specs.Walk.{Delivered, Walked, walkFrom}
+use Rattle.greetings.specs.Bad.{walkOf, storeSet, neverShort}
+use Rattle.marks.specs.Marks.{Mark, markOf, framesApart}
 use Rattle.seeking.specs.declared.Sought.{Sought}
 use Rattle.seeking.specs.declared.Sought.the-variants.{At, Nowhere}
 
@@ -21,6 +21,10 @@ seek sample i before (f ∷ fs) =
 -- "The result is the one that a whole walk gives."
 abbrev pub byWalk : ℕ → List ℕ → ℕ → Sought
 byWalk law xs sample = seek sample 0 0 (walkOf law xs .frames)
+
+-- the frames from a mark on, up to the next mark: room for so many frames is never short
+abbrev pub fromMark : ℕ → List ℕ → ℕ → Walked
+fromMark law xs at = walkFrom framesApart xs law storeSet at (neverShort framesApart)
 
 -- "the last mark at or before it", found by halving: it is one from `low` on and below `high`. As many halvings as marks are enough.
 abbrev pub nthMark : ℕ → List Mark → Mark

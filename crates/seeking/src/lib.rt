@@ -2,11 +2,9 @@
 // What they are stands in specs/Seeking.
 ghost use mathlib.Core.Path.{_≡_};
 ghost use Prim.Native.Nat.{_+_, _*_, _^_, _≤_, _<_};
-ghost use lib.ListN.{length};
-ghost use Rattle.rules.specs.Walk.{walkFrom};
-ghost use Rattle.greetings.specs.Bad.{storeSet};
+ghost use lib.ListN.{length, getD};
 ghost use Rattle.notes.specs.Cells.{marksIn};
-ghost use Rattle.seeking.specs.Seeking.{seek, lastMark};
+ghost use Rattle.seeking.specs.Seeking.{seek, fromMark, middle, lastMark};
 ghost use Rattle.seeking.specs.Halves.{halfOf};
 use rules::Ending;
 
@@ -15,6 +13,9 @@ pub enum Sought {
     At(usize, usize, usize),
     Nowhere,
 }
+
+// Room for the frames between two marks.
+const ROOM: usize = 20480;
 
 // Marks from `low` on and below `high`.
 pub struct Span {
@@ -25,7 +26,7 @@ pub struct Span {
 // "the last mark at or before it" is in one half of the marks.
 fn half(marks: &[u32], low: usize, high: usize, sample: usize) -> Span
     requires { ⌜ (low + 1 < high) × (2 * high ≤ length (now marks)) ⌝ }
-    ensures { λ r. ⌜ r ≡ halfOf (marksIn high (now (marks .entry))) sample low high ⌝ }
+    ensures { λ r. ⌜ r ≡ halfOf (getD (now (marks .entry)) (2 * middle low high + 1) 0) sample low high ⌝ }
 {
     let mid = low + (high - low) / 2;
     if marks[2 * mid + 1] as usize <= sample {
@@ -58,15 +59,15 @@ pub fn seek_on(
     before: usize,
     sample: usize,
 ) -> Sought
-    requires { ⌜ (first < 2 ^ 60) × (before < 2 ^ 32) × (length (now octets) < 2 ^ 32) ⌝ }
-    ensures { λ r. ⌜ r ≡ seek sample first before (walkFrom 64 (now (octets .entry)) law storeSet at (320 * length (now (octets .entry))) .frames) ⌝ }
+    requires { ⌜ (first < 2 ^ 60) × (before < 2 ^ 60) × (before ≤ sample) ⌝ }
+    ensures { λ r. ⌜ r ≡ seek sample first before (fromMark law (now (octets .entry)) at .frames) ⌝ }
 {
     let mut samples = [0u8; 320];
     let mut place = at;
-    let mut left = 320 * octets.len();
+    let mut left = ROOM;
     let mut passed = before;
     let mut n = 0;
-    while n < 64 && place < octets.len() {
+    while n < marks::FRAMES_APART && place < octets.len() {
         let r = walk::pass(octets, law, rules::ALL_TOOLS, place, left, &mut samples);
         let e = r.end;
         match e {

@@ -11,27 +11,27 @@ Inv-loop marks m sample low₀ high₀ low high = ?
 abbrev μ-loop : tie.MeasureT-loop
 μ-loop marks m sample low₀ high₀ low high = ?
 
--- src/lib.rt:44:5
+-- src/lib.rt:45:5
 loop-holds : tie.Need-loop-holds Inv-loop μ-loop
 loop-holds c = search needs
 
--- src/lib.rt:44:11
+-- src/lib.rt:45:11
 add-loop : tie.Need-add-loop Inv-loop μ-loop
 add-loop c = search needs
 
--- src/lib.rt:45:13
+-- src/lib.rt:46:13
 half-requires : tie.Need-half-requires Inv-loop μ-loop
 half-requires c κs = search needs
 
--- src/lib.rt:44:5
+-- src/lib.rt:45:5
 loop-less : tie.Need-loop-less Inv-loop μ-loop
 loop-less c = search needs
 
--- src/lib.rt:44:5
+-- src/lib.rt:45:5
 loop-again : tie.Need-loop-again Inv-loop μ-loop
 loop-again c = search needs
 
--- src/lib.rt:38:1
+-- src/lib.rt:39:1
 returns : tie.Need-returns Inv-loop μ-loop
 returns c = search needs
 
