@@ -70,10 +70,10 @@ module _ (octets : List ℕ) (law from first before sample : ℕ) where
         pub seek-bounds : Bounds (drop at octets) left r
         seek-bounds = read-bounds (drop at octets) law storeSet left t e
 
-        frame : Delivered
+        abbrev frame : Delivered
         frame = record { place = at; found = accepted t e .frame }
 
-        rest : List Delivered
+        abbrev rest : List Delivered
         rest = walkFrom (64 - (n + 1)) octets law storeSet (at + r .octets) (left - r .len) .frames
 
         one : sought ≡ seek sample (first + n) passed (frame ∷ rest)

@@ -27,6 +27,16 @@ mark-at (suc m) (suc k) cells h =
     let b = getD-drop 2 cells (2 * k + 1) 0 ∙ ap (λ (n : ℕ). getD cells n 0) f in
     mark-at m k (drop 2 cells) (omega arith) ∙ ap (λ (x : ℕ). markOf x (getD (drop 2 cells) (2 * k + 1) 0)) a ∙ ap (λ (x : ℕ). markOf (getD cells (2 * suc k) 0) x) b
 
+-- the two halves
+module _ (before sample low high : ℕ) where
+  pub half-up : before ≤ sample → spanOf (middle low high) high ≡ halfOf before sample low high
+  unfolding halfOf
+  half-up h = rw (le-leb before sample h)
+
+  pub half-down : sample < before → spanOf low (middle low high) ≡ halfOf before sample low high
+  unfolding halfOf
+  half-down h = rw (lt-leb before sample h)
+
 module _ (ms : List Mark) (sample : ℕ) where
   -- one mark is left
   pub last-one : (more low high : ℕ) → high ≤ low + 1 → lastFrom more ms sample low high ≡ low
@@ -44,8 +54,8 @@ module _ (ms : List Mark) (sample : ℕ) where
 
   -- more halvings than marks change nothing
   pub enough : (a b low high : ℕ) → high ≤ low + a + 1 → high ≤ low + b + 1 → lastFrom a ms sample low high ≡ lastFrom b ms sample low high
-  enough zero b low high h g = sym (last-one b low high (omega arith))
-  enough (suc a) zero low high h g = last-one (suc a) low high (omega arith)
+  enough zero b low high h g = last-one zero low high (omega arith) ∙ sym (last-one b low high (omega arith))
+  enough (suc a) zero low high h g = last-one (suc a) low high (omega arith) ∙ sym (last-one zero low high (omega arith))
   enough (suc a) (suc b) low high h g = by (leb high (low + 1)) refl (enough a b)
     where
       Later : Type 0

@@ -29,7 +29,8 @@ fn half(marks: &[u32], low: usize, high: usize, sample: usize) -> Span
     ensures { λ r. ⌜ r ≡ halfOf (getD (now (marks .entry)) (2 * middle low high + 1) 0) sample low high ⌝ }
 {
     let mid = low + (high - low) / 2;
-    if marks[2 * mid + 1] as usize <= sample {
+    let before = rows::wide(marks[2 * mid + 1]);
+    if before <= sample {
         return Span { low: mid, high };
     }
     Span { low, high: mid }

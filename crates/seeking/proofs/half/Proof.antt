@@ -1,8 +1,12 @@
+use mathlib.Core.Path.{_≡_}
+use native.Mathlib.Omega.{arith}
+use Rattle.seeking.proofs.Halving.{half-up, half-down}
 use borrow.Author.Needs.{needs}
 use Rattle.seeking.proofs.half.Statement.{statement}
 use Rattle.seeking.proofs.half.Tie as tie
 use Rattle.seeking.proofs.half.Reads as reads
 use Rattle.seeking.proofs.half.Lts as lts
+use Rattle.rows.proofs.wide.Reads as wide-reads
 
 -- src/lib.rt:31:22
 sub-mid : tie.Need-sub-mid
@@ -12,33 +16,33 @@ sub-mid c = search needs
 add-mid : tie.Need-add-mid
 add-mid c = search needs
 
--- src/lib.rt:32:14
-mul-if1 : tie.Need-mul-if1
-mul-if1 c = search needs
+-- src/lib.rt:32:35
+mul-wide : tie.Need-mul-wide
+mul-wide c = search needs
 
--- src/lib.rt:32:14
-add-if1 : tie.Need-add-if1
-add-if1 c = search needs
+-- src/lib.rt:32:35
+add-wide : tie.Need-add-wide
+add-wide c = search needs
 
--- src/lib.rt:32:8
-mul-if1-2 : tie.Need-mul-if1-2
-mul-if1-2 c = search needs
+-- src/lib.rt:32:29
+mul-wide-2 : tie.Need-mul-wide-2
+mul-wide-2 c = search needs
 
--- src/lib.rt:32:8
-shared-slice-read-if1 : tie.Need-shared-slice-read-if1
-shared-slice-read-if1 c = search needs
+-- src/lib.rt:32:29
+shared-slice-read-wide : tie.Need-shared-slice-read-wide
+shared-slice-read-wide c = search needs
 
--- src/lib.rt:32:8
-cast-if1 : tie.Need-cast-if1
-cast-if1 c = search needs
+-- src/lib.rt:32:9
+wide-requires : tie.Need-wide-requires
+wide-requires c κs = search needs
 
--- src/lib.rt:33:9
+-- src/lib.rt:34:9
 returns : tie.Need-returns
-returns c = search needs
+returns c = half-up _ _ _ _ (omega (arith, c .before .wide .ensures))
 
 -- src/lib.rt:27:1
 returns-2 : tie.Need-returns-2
-returns-2 c = search needs
+returns-2 c = half-down _ _ _ _ (omega (arith, c .before .wide .ensures))
 
 pub half-spec : {M : Type 1} → statement M
 half-spec =
@@ -46,10 +50,10 @@ half-spec =
     (tie.spec
     sub-mid
     add-mid
-    mul-if1
-    add-if1
-    mul-if1-2
-    shared-slice-read-if1
-    cast-if1
+    mul-wide
+    add-wide
+    mul-wide-2
+    shared-slice-read-wide
+    wide-requires
     returns
     returns-2)
