@@ -1,2 +1,4 @@
 pub mod Halving
 pub mod Along
+pub mod LastMark
+pub mod Whole
