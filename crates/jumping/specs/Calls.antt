@@ -7,17 +7,18 @@ use Rattle.rows.specs.Limits.{sizeOf}
 use Rattle.rows.specs.Cells.{rowsOf}
 use Rattle.notes.specs.Cells.{notesOf}
 use Rattle.notes.specs.Sane.{saneStore}
-use Rattle.store.specs.declared.Refusal.the-variants as store
-use Rattle.store.specs.Calls as store
 use Rattle.jumping.specs.declared.Refusal.{Refusal}
-use Rattle.jumping.specs.declared.Refusal.the-variants.{Beyond, Store}
+use Rattle.jumping.specs.declared.Refusal.the-variants.{Number, Absent, Bad, Beyond, Table}
 use Rattle.jumping.specs.declared.Answer.{Answer}
 use Rattle.jumping.specs.declared.Answer.the-variants.{Done, Refused}
 use Rattle.jumping.specs.Jump.{jumpAmong}
 
 abbrev pub refusalNumber : Refusal → ℕ
+refusalNumber Number = 15
+refusalNumber Absent = 17
+refusalNumber Bad = 18
 refusalNumber Beyond = 21
-refusalNumber (Store w) = store.refusalNumber w
+refusalNumber Table = 26
 
 abbrev pub numberOf : Answer → ℕ
 numberOf (Done frame place inside read) = 0
@@ -25,7 +26,7 @@ numberOf (Refused w) = refusalNumber w
 
 abbrev pub jumpOf : List ℕ → List ℕ → ℕ → ℕ → Answer
 jumpOf b t number sample =
-    cond (not (saneStore (sizeOf b) t)) (Refused (Store store.Table)) (jumpAmong b (rowsOf t) (notesOf t) number sample)
+    cond (not (saneStore (sizeOf b) t)) (Refused Table) (jumpAmong b (rowsOf t) (notesOf t) number sample)
 
 abbrev pub Jump : ℕ → ℕ → List ℕ → List ℕ → Answer → Type 0
 Jump number sample b t r = r ≡ jumpOf b t number sample
