@@ -33,7 +33,11 @@
  *   0 for every other refusal, and for an accepted call. docs/RETURNS.md has an example of each.
  *
  * VERSIONS
- *   G7110_VERSION goes up by one when a call is added or a report changes.
+ *   G7110_VERSION goes up by one when a call is added, or a call or its report changes.
+ *   9   g7110_store_put takes the law, before the number. A store's table has more numbers: the law, the samples and the marks of
+ *       each greeting. g7110_store_save writes them; g7110_store_load takes its text and that of version 7. A program that was
+ *       compiled for an earlier version must be compiled again. A table's numbers of version 7 are refused with G7110_TABLE: load
+ *       what was saved of it.
  *   8   g7110_file_read and g7110_file_write.
  *   7   the calls over a store of greetings.
  *   6   g7110_mend.
@@ -101,16 +105,24 @@
  *   A block of at most G7110_MAX_BLOCK octets keeps up to G7110_MAX_GREETINGS greetings, each with a number from 1 to
  *   G7110_MAX_NUMBER and 1 or more octets that the walk accepts with set 127. The caller lends the block and a table, and
  *   keeps both; the calls keep nothing. A longer block is used up to G7110_MAX_BLOCK; octets past that are never touched.
- *   The table has g7110_store_cells(size) numbers; a fresh one is all 0. Cell 0 is how many greetings there are, then come
- *   number, start and octets of each, in order of start; further cells are never looked at or changed.
+ *   The table has g7110_store_cells(size) numbers, 194 + 2 * (size / 64 + 32) of them; a fresh one is all 0:
+ *     cells 0 to 96      how many greetings there are, then number, start and octets of each, in order of start
+ *     cells 97 to 193    how many greetings there are, then law, samples and how many marks of each, in the same order
+ *     from cell 194 on   the marks of all, greeting after greeting, two cells each: octets, samples
+ *   Cells that no greeting uses stay as they were; those past g7110_store_cells(size) are never looked at or changed.
+ *   A mark stands for frame 0, 64, 128 and so on of a greeting, pads counted: the octets and the samples before that frame, from the
+ *   greeting's start. It stands for a frame that is there: after exactly 64 frames there is no second one. Samples and marks are
+ *   what the walk gives by the greeting's law; a greeting that is moved keeps them. All marks always have room.
  *   A put takes the lowest gap that holds the greeting; the room behind the last one is a gap like any other. If none holds
  *   it, all greetings first close up from 0 in their order: those whose start changes are moved, and the octets moved are
  *   reported. So G7110_NOROOM is given only when the octets held and the new ones exceed the block. No other octet of the
  *   block is written, and every other greeting reads the same. Deleting writes nothing into the block.
- *   Refusals, in order: G7110_TABLE, G7110_NUMBER, G7110_TAKEN (put) or G7110_ABSENT (get, delete), G7110_BAD, G7110_FULL,
- *   G7110_NOROOM. G7110_TABLE is for a table that is too short, or that calls do not leave for a block of this size: more
+ *   Refusals, in order: G7110_TABLE, G7110_LAW (put), G7110_NUMBER, G7110_TAKEN (put) or G7110_ABSENT (get, delete), G7110_BAD,
+ *   G7110_FULL, G7110_NOROOM. G7110_TABLE is for a table that is too short, or that calls do not leave for a block of this size: more
  *   than 32 greetings, starts not in order, greetings that overlap, are empty or pass the block's end, a number out of range
- *   or used twice. From calls alone it can't arise. A refused call leaves block and table as lent and reports zeros.
+ *   or used twice; another count in cell 97 than in cell 0, a law above 1, or more marks of a greeting than its octets / 64 + 1.
+ *   What the cells of samples and marks say is not judged; a save writes it as it stands. From calls alone G7110_TABLE can't arise,
+ *   and samples and marks are true. A refused call leaves block and table as lent and reports zeros.
  *   To play greeting 7:
  *
  *     uint64_t got[2];
@@ -199,7 +211,7 @@
 extern "C" {
 #endif
 
-#define G7110_VERSION 8
+#define G7110_VERSION 9
 
 #define G7110_MAX_SAMPLES 320 /* samples of a frame */
 #define G7110_MAX_WRITTEN 321 /* octets of a written frame */
@@ -215,6 +227,8 @@ extern "C" {
 #define G7110_MAX_BLOCK 16384  /* octets of a store's block */
 #define G7110_MAX_GREETINGS 32 /* greetings of a store */
 #define G7110_MAX_NUMBER 65535 /* the greatest number of a greeting */
+#define G7110_MAX_CELLS 770    /* numbers of the table of the largest block */
+#define G7110_MAX_TABLE 7392   /* octets of the text of a table that calls left */
 #define G7110_HEADING 10       /* octets of a file's heading */
 #define G7110_MAX_FILE 65545   /* octets of a file, its heading too */
 #define G7110_LOSS 32768       /* what is added to a loss's length in a list of items */
@@ -300,9 +314,9 @@ uint32_t g7110_mend(const uint8_t *octets, size_t octets_len, uint32_t law, uint
 /* How many numbers a store's table needs for a block of size octets; of a size above G7110_MAX_BLOCK that of the greatest. */
 uint64_t g7110_store_cells(uint64_t size);
 
-/* Puts a greeting. Refused with G7110_TABLE, G7110_NUMBER, G7110_TAKEN, G7110_BAD, G7110_FULL, G7110_NOROOM.
+/* Puts a greeting of a law. Refused with G7110_TABLE, G7110_LAW, G7110_NUMBER, G7110_TAKEN, G7110_BAD, G7110_FULL, G7110_NOROOM.
  * report: its start, octets moved. */
-uint32_t g7110_store_put(uint8_t *block, size_t block_len, uint32_t *table, size_t table_len, uint32_t number,
+uint32_t g7110_store_put(uint8_t *block, size_t block_len, uint32_t *table, size_t table_len, uint32_t law, uint32_t number,
                          const uint8_t *octets, size_t octets_len, uint64_t report[2]);
 
 /* Tells where a greeting lies. Refused with G7110_TABLE, G7110_NUMBER, G7110_ABSENT. report: its start, its octets. */
@@ -312,17 +326,21 @@ uint32_t g7110_store_get(const uint8_t *block, size_t block_len, const uint32_t 
 /* Takes a greeting out; its room is used again. Refused with G7110_TABLE, G7110_NUMBER, G7110_ABSENT. */
 uint32_t g7110_store_delete(const uint8_t *block, size_t block_len, uint32_t *table, size_t table_len, uint32_t number);
 
-/* Saves a store's table as text (document 02, R-6): for each greeting in order of start the lines `prompt=`, `start=` and
- * `octets=`, decimal without leading zeros, each ended by octet 0A; at most 1,216 octets. The text stands at the start of the
- * lent octets; the rest stays as lent. Refused with G7110_TABLE where the table is not one that calls leave for this block, then
- * with G7110_ROOM where the text does not fit; then nothing is written. report: octets of text. */
+/* Saves a store's table as text (document 02, R-6 and R-8): for each greeting in order of start the lines `prompt=`, `start=`,
+ * `octets=`, `law=`, `samples=`, and for each of its marks a line `mark=` with the octets, a comma and the samples; decimal without
+ * leading zeros, each line ended by octet 0A; of a table that calls left at most G7110_MAX_TABLE octets. The text stands at the start
+ * of the lent octets; the rest stays as lent. Refused with G7110_TABLE where the table is not one that calls leave for this block,
+ * then with G7110_ROOM where the text does not fit; then nothing is written. report: octets of text. */
 uint32_t g7110_store_save(const uint8_t *block, size_t block_len, const uint32_t *table, size_t table_len,
                           uint8_t *out, size_t out_len, uint64_t report[1]);
 
-/* Loads a table's text, with its block, into the lent table, which is output: only its length is judged. Refused with G7110_TABLE
- * for a text that save does not write, a number used twice, or greetings that overlap or pass the block's end, over the whole
- * text; only then with G7110_BAD for a greeting that is empty or that the walk refuses with set 127. A refused call leaves the
- * table as lent. What save writes, load takes; docs/STORE.md says what to write first. */
+/* Loads a table's text, with its block, into the lent table, which is output: only its length is judged. The text is all in the
+ * lines that save writes, or all in those of version 7, `prompt=`, `start=` and `octets=` alone: then each greeting is of law 1, as
+ * the early boxes' were, with the samples and marks of its walk. Refused, each time over the whole text: with G7110_TABLE for other
+ * lines, a law above 1, a number out of range or used twice, greetings that overlap or pass the block's end; only then with
+ * G7110_BAD for a greeting that is empty or that the walk refuses with set 127; only then with G7110_TABLE for samples or marks that
+ * the walk does not give. A refused call leaves the table as lent. What save writes of a table that calls left, load takes;
+ * docs/STORE.md says what to write first. */
 uint32_t g7110_store_load(const uint8_t *text, size_t text_len, const uint8_t *block, size_t block_len,
                           uint32_t *table, size_t table_len);
 

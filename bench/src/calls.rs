@@ -85,16 +85,16 @@ pub fn second_from_linear(linear: &[i16], law: u32, out: &mut [u8]) -> u32 {
 }
 
 #[inline(never)]
-pub fn proved_put(block: &mut [u8], table: &mut [u32], number: u32, octets: &[u8]) -> u32 {
+pub fn proved_put(block: &mut [u8], table: &mut [u32], law: u32, number: u32, octets: &[u8]) -> u32 {
     let mut report = [0; 2];
-    let ending = g7110::raw::store_put(block, table, number, octets, &mut report);
+    let ending = g7110::raw::store_put(block, table, law, number, octets, &mut report);
     black_box(&report);
     ending
 }
 
 #[inline(never)]
-pub fn second_put(store: &mut Store, number: u32, octets: &[u8]) -> u32 {
-    black_box(store.put(number, octets)).err().unwrap_or(0)
+pub fn second_put(store: &mut Store, law: u32, number: u32, octets: &[u8]) -> u32 {
+    black_box(store.put(law, number, octets)).err().unwrap_or(0)
 }
 
 #[inline(never)]

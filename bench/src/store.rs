@@ -1,6 +1,8 @@
-//! The greeting store: puts beside the walk over the same octets, closing up beside memmove, then the short calls.
+//! The greeting store: puts beside the walk over the same octets and beside R-6's, closing up beside memmove, then
+//! the short calls.
 //!
-//! A call that changes the table finds it as it was each time: 97 cells are copied back, and that is in the time.
+//! A call that changes the table finds it as it was each time, and that is in the time: for a put, whose greeting is the last,
+//! the 194 cells before the marks are copied back, for a delete all 770.
 
 use crate::calls;
 use crate::greetings::{greetings, head, row, Greeting, BLOCK};
@@ -10,25 +12,30 @@ use second::store::{Greeting as Row, Store};
 use std::hint::black_box;
 
 /// The number that is put and got.
-const NUMBER: u32 = 40_000;
+pub const NUMBER: u32 = 40_000;
+/// Its law, and that of all others, where it is not the greeting's own.
+const MU: u32 = 1;
+/// Cells of a table before its marks.
+const BEFORE_MARKS: usize = 194;
 
 /// The same store in the proved code's form and in the second program's.
 #[derive(Clone)]
-struct Both {
-    block: Vec<u8>,
-    table: Vec<u32>,
-    second: Store,
+pub struct Both {
+    pub block: Vec<u8>,
+    pub table: Vec<u32>,
+    pub second: Store,
 }
 
 impl Both {
-    fn fresh() -> Both {
+    pub fn fresh() -> Both {
         Both { block: vec![0; BLOCK], table: vec![0; g7110::store::cells(BLOCK)], second: Store::fresh(vec![0; BLOCK]) }
     }
 
     /// The octets that moved.
-    fn put(&mut self, number: u32, octets: &[u8]) -> usize {
-        let put = g7110::store::put(&mut self.block, &mut self.table, number, octets).expect("there is room");
-        let other = self.second.put(number, octets).expect("there is room");
+    pub fn put(&mut self, number: u32, octets: &[u8]) -> usize {
+        let put = g7110::store::put(&mut self.block, &mut self.table, g7110::Law::Mu, number, octets);
+        let put = put.expect("there is room");
+        let other = self.second.put(MU, number, octets).expect("there is room");
         assert_eq!((put.start, put.moved), (other.start, other.moved));
         put.moved
     }
@@ -58,9 +65,9 @@ impl Proved {
         Proved { block: both.block.clone(), before: both.table.clone(), table: both.table.clone() }
     }
 
-    fn put(&mut self, octets: &[u8]) {
-        self.table.copy_from_slice(black_box(&self.before));
-        black_box(calls::proved_put(&mut self.block, &mut self.table, NUMBER, black_box(octets)));
+    fn put(&mut self, law: u32, octets: &[u8]) {
+        self.table[..BEFORE_MARKS].copy_from_slice(black_box(&self.before[..BEFORE_MARKS]));
+        black_box(calls::proved_put(&mut self.block, &mut self.table, law, NUMBER, black_box(octets)));
     }
 
     fn delete(&mut self, number: u32) {
@@ -80,9 +87,9 @@ impl Model {
         Model { store: both.second.clone(), before: both.second.greetings.clone() }
     }
 
-    fn put(&mut self, octets: &[u8]) {
+    fn put(&mut self, law: u32, octets: &[u8]) {
         self.store.greetings.clone_from(black_box(&self.before));
-        black_box(calls::second_put(&mut self.store, NUMBER, black_box(octets)));
+        black_box(calls::second_put(&mut self.store, law, NUMBER, black_box(octets)));
     }
 
     fn delete(&mut self, number: u32) {
@@ -91,19 +98,40 @@ impl Model {
     }
 }
 
-/// A put that moves nothing, beside the walk over the same octets.
-fn putting(both: &Both, Greeting { name, law, octets, samples }: &Greeting) {
+/// Speeds to the walk of such a put before it kept marks, from docs/BENCHMARKS.md: of a whole block, and behind 31 others.
+const OF_R_6: [(&str, f64, f64); 9] = [
+    ("pads", 0.98, 0.85),
+    ("plus zeros, 40 samples", 1.21, 1.16),
+    ("Rice, 1 in 8", 1.07, 0.95),
+    ("values, listed", 1.03, 1.00),
+    ("values, runs", 1.03, 0.97),
+    ("uncompressed", 1.17, 0.23),
+    ("greeting.al8", 1.19, 0.23),
+    ("message.ul8", 1.03, 0.93),
+    ("silence.ul8", 1.15, 1.09),
+];
+
+fn putting_head(title: &str) {
+    let speeds = "speed to the walk | R-6's speed to it | speed to R-6 | wanted";
+    table(title, &format!("| greeting | octets | put, ns | walk, ns | {speeds} | second, ns | speed to second |"));
+}
+
+/// A put that moves nothing, beside the walk over the same octets, and by that walk beside R-6's put.
+fn putting(both: &Both, of_r_6: f64, Greeting { name, law, octets, samples }: &Greeting) {
     assert_eq!(both.clone().put(NUMBER, octets), 0);
     let (mut proved, mut model) = (Proved::of(both), Model::of(both));
     let mut out = vec![0; samples + 320];
     let times = best([
-        &mut || proved.put(octets),
+        &mut || proved.put(*law, octets),
         &mut || {
             black_box(calls::proved_walk(black_box(octets), *law, crate::SET, &mut out));
         },
-        &mut || model.put(octets),
+        &mut || model.put(*law, octets),
     ]);
-    row(name, octets.len(), times, "0.9");
+    let [put, walk, second] = times;
+    let speeds = [walk / put, of_r_6, walk / put / of_r_6].map(|speed| format!("{speed:.2}")).join(" | ");
+    print!("| {name} | {} | {put:.0} | {walk:.0} | {speeds} | 0.9 |", octets.len());
+    println!(" {second:.0} | {:.2} |", second / put);
 }
 
 /// A block that is full but for a gap before so many greetings and one behind them, both of one octet less than a put needs.
@@ -129,14 +157,14 @@ fn closing_up(count: u32, octets: &[u8]) {
     let (mut third, mut fourth) = (Model::of(&apart), Model::of(&together));
     let mut block = apart.block.clone();
     let times = best([
-        &mut || one.put(octets),
-        &mut || other.put(octets),
+        &mut || one.put(MU, octets),
+        &mut || other.put(MU, octets),
         &mut || {
             block.copy_within(black_box(gap)..black_box(gap + moved), 0);
             black_box(&mut block);
         },
-        &mut || third.put(octets),
-        &mut || fourth.put(octets),
+        &mut || third.put(MU, octets),
+        &mut || fourth.put(MU, octets),
     ]);
     let [put, placed, moving, second, second_placed] = times;
     let closing = put - placed;
@@ -202,13 +230,19 @@ fn loading(greeting: &Greeting) {
     row(&greeting.name, held, times, "-");
 }
 
+/// The speeds of R-6 for a greeting.
+fn of_r_6(greeting: &Greeting) -> [f64; 2] {
+    let (_, whole, short) = OF_R_6.iter().find(|(name, ..)| *name == greeting.name).expect("R-6 was timed on it");
+    [*whole, *short]
+}
+
 fn puts() {
-    head("The store: a put that moves nothing, beside the walk over the same octets", "put");
-    greetings(BLOCK).iter().for_each(|greeting| putting(&Both::fresh(), greeting));
-    head("The store: such a put of at most 512 octets, behind 31 others", "put");
+    putting_head("The store: a put that moves nothing, beside the walk over the same octets");
+    greetings(BLOCK).iter().for_each(|greeting| putting(&Both::fresh(), of_r_6(greeting)[0], greeting));
+    putting_head("The store: such a put of at most 512 octets, behind 31 others");
     let mut others = Both::fresh();
     others.fill(31, &[0; 512]);
-    greetings(512).iter().for_each(|greeting| putting(&others, greeting));
+    greetings(512).iter().for_each(|greeting| putting(&others, of_r_6(greeting)[1], greeting));
 }
 
 /// What is put: an uncompressed frame of so many samples, then pads.

@@ -8,7 +8,8 @@
 //! * [`settings`] keeps the last eight settings of a box.
 //! * [`mend`] mends a damaged greeting.
 //! * [`recording`] reads and writes the storage file of studios.
-//! * [`store`] keeps greetings in a block and fills its gaps.
+//! * [`store`] keeps greetings in a block and fills its gaps; [`saved`] is its
+//!   table as lines, [`table`] as the numbers that a caller lends.
 //! * [`why`] says why a frame is written with the tool it is.
 //!
 //! None of the first three touches the heap: a frame is at most 320 samples,
@@ -23,6 +24,7 @@ pub mod gen;
 mod law;
 pub mod linear;
 mod listing;
+mod marks;
 pub mod mend;
 mod planes;
 mod read;
@@ -30,8 +32,10 @@ pub mod recording;
 mod refusal;
 mod runs;
 mod s_codes;
+pub mod saved;
 pub mod settings;
 pub mod store;
+pub mod table;
 mod value_rows;
 mod walk;
 pub mod why;

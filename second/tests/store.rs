@@ -1,8 +1,8 @@
 //! The store: calls worked out by hand, the readings G1 to G10, and what is
-//! promised over drawn lists of calls.
+//! promised over drawn lists of calls. Marks are in `marks.rs`.
 
 use second::gen::{make_any_form, Prng};
-use second::store::{Greeting, Put, Store, MOST_BLOCK};
+use second::store::{Greeting, Mark, Put, Store, MOST_BLOCK};
 
 const ROOM: u32 = 4;
 const NUMBER: u32 = 15;
@@ -18,10 +18,14 @@ fn fresh(size: usize) -> Store {
     Store::fresh(vec![0xEE; size])
 }
 
+/// The law of every greeting here but where it matters: see `marks.rs`.
+const MU: u32 = 1;
+
 fn put(start: usize, moved: usize) -> Result<Put, u32> {
     Ok(Put { start, moved })
 }
 
+/// R-6's lines.
 fn text_of(greetings: &[(&str, &str, &str)]) -> Vec<u8> {
     let lines = greetings.iter().map(|(n, s, o)| format!("prompt={n}\nstart={s}\noctets={o}\n"));
     lines.collect::<String>().into_bytes()
@@ -30,46 +34,51 @@ fn text_of(greetings: &[(&str, &str, &str)]) -> Vec<u8> {
 #[test]
 fn gaps_are_filled_lowest_first_and_closed_up() {
     let mut store = fresh(10);
-    assert_eq!(store.put(7, &[0x41, 0x42, 0x00]), put(0, 0));
-    assert_eq!(store.put(9, &[0x43, 0xAA]), put(3, 0));
-    assert_eq!(store.put(5, &[0, 0, 0]), put(5, 0));
+    assert_eq!(store.put(MU, 7, &[0x41, 0x42, 0x00]), put(0, 0));
+    assert_eq!(store.put(MU, 9, &[0x43, 0xAA]), put(3, 0));
+    assert_eq!(store.put(MU, 5, &[0, 0, 0]), put(5, 0));
     assert_eq!(store.block, [0x41, 0x42, 0, 0x43, 0xAA, 0, 0, 0, 0xEE, 0xEE]);
     assert_eq!(store.delete(9), Ok(()));
     // The gap of 9 holds two; the deleted octets stay until then.
     assert_eq!(store.block[3..5], [0x43, 0xAA]);
-    assert_eq!(store.put(8, &[0x41, 0x41]), put(3, 0));
+    assert_eq!(store.put(MU, 8, &[0x41, 0x41]), put(3, 0));
     assert_eq!(store.get(8), Ok((3, 2)));
     assert_eq!(store.delete(7), Ok(()));
     // Gaps of 3 and 2, none of 5: 8 and 5 move to 0 and 2.
-    assert_eq!(store.put(4, &[0x41, 0x42, 0x41, 0x42, 0x41]), put(5, 5));
+    assert_eq!(store.put(MU, 4, &[0x41, 0x42, 0x41, 0x42, 0x41]), put(5, 5));
     assert_eq!(store.block, [0x41, 0x41, 0, 0, 0, 0x41, 0x42, 0x41, 0x42, 0x41]);
-    let saved = text_of(&[("8", "0", "2"), ("5", "2", "3"), ("4", "5", "5")]);
+    let saved = b"prompt=8\nstart=0\noctets=2\nlaw=1\nsamples=80\nmark=0,0\n\
+        prompt=5\nstart=2\noctets=3\nlaw=1\nsamples=0\nmark=0,0\n\
+        prompt=4\nstart=5\noctets=5\nlaw=1\nsamples=200\nmark=0,0\n";
     assert_eq!(store.text(), saved);
-    assert_eq!(store.put(1, &[0]), Err(NOROOM));
+    assert_eq!(store.put(MU, 1, &[0]), Err(NOROOM));
     assert_eq!(store.held(), 10);
-    assert_eq!(Store::load(&saved, store.block.clone()), Ok(store));
+    assert_eq!(Store::load(saved, store.block.clone()), Ok(store.clone()));
+    // In R-6's lines it is the same store: each greeting has law 1.
+    let early = text_of(&[("8", "0", "2"), ("5", "2", "3"), ("4", "5", "5")]);
+    assert_eq!(Store::load(&early, store.block.clone()), Ok(store));
 }
 
 /// G1: those that stay are not counted, and what is left behind stays.
 #[test]
 fn octets_moved() {
     let mut store = fresh(12);
-    store.put(1, &[0x41; 2]).unwrap();
-    store.put(2, &[0x42; 2]).unwrap();
-    store.put(3, &[0x31; 3]).unwrap();
-    store.put(4, &[0x21]).unwrap();
+    store.put(MU, 1, &[0x41; 2]).unwrap();
+    store.put(MU, 2, &[0x42; 2]).unwrap();
+    store.put(MU, 3, &[0x31; 3]).unwrap();
+    store.put(MU, 4, &[0x21]).unwrap();
     store.delete(2).unwrap();
     // 1 stays at 0; 3 moves from 4 to 2, 4 from 7 to 5; gaps were 2 and 4.
-    assert_eq!(store.put(5, &[0; 6]), put(6, 4));
+    assert_eq!(store.put(MU, 5, &[0; 6]), put(6, 4));
     assert_eq!(store.block, [0x41, 0x41, 0x31, 0x31, 0x31, 0x21, 0, 0, 0, 0, 0, 0]);
     store.delete(5).unwrap();
     store.delete(1).unwrap();
     // Gaps of 2 and 6: no closing up for 6.
-    assert_eq!(store.put(6, &[0x81; 6]), put(6, 0));
+    assert_eq!(store.put(MU, 6, &[0x81; 6]), put(6, 0));
     store.delete(6).unwrap();
     // None for 7; what is put has 8 octets of block behind 4, so the rest of
     // the block keeps what 5 and 6 left.
-    assert_eq!(store.put(7, &[0x82; 7]), put(4, 4));
+    assert_eq!(store.put(MU, 7, &[0x82; 7]), put(4, 4));
     assert_eq!(store.block[..11], [0x31, 0x31, 0x31, 0x21, 0x82, 0x82, 0x82, 0x82, 0x82, 0x82, 0x82]);
     assert_eq!(store.block[11], 0x81);
 }
@@ -79,25 +88,25 @@ fn octets_moved() {
 fn refusals_in_order() {
     let mut store = fresh(40);
     for number in 1..=32 {
-        store.put(number, &[0x41]).unwrap();
+        store.put(MU, number, &[0x41]).unwrap();
     }
     let before = store.clone();
     let long = vec![0; 100];
-    assert_eq!(store.put(0, &[0x46]), Err(NUMBER));
-    assert_eq!(store.put(65_536, &long), Err(NUMBER));
-    assert_eq!(store.put(1, &[0x46]), Err(TAKEN));
-    assert_eq!(store.put(33, &[]), Err(BAD));
-    assert_eq!(store.put(33, &[0x41, 0x46]), Err(BAD));
-    assert_eq!(store.put(33, &[0x56]), Err(BAD));
-    assert_eq!(store.put(33, &long), Err(FULL));
+    assert_eq!(store.put(MU, 0, &[0x46]), Err(NUMBER));
+    assert_eq!(store.put(MU, 65_536, &long), Err(NUMBER));
+    assert_eq!(store.put(MU, 1, &[0x46]), Err(TAKEN));
+    assert_eq!(store.put(MU, 33, &[]), Err(BAD));
+    assert_eq!(store.put(MU, 33, &[0x41, 0x46]), Err(BAD));
+    assert_eq!(store.put(MU, 33, &[0x56]), Err(BAD));
+    assert_eq!(store.put(MU, 33, &long), Err(FULL));
     assert_eq!(store.get(0), Err(NUMBER));
     assert_eq!(store.get(65_535), Err(ABSENT));
     assert_eq!(store.delete(65_536), Err(NUMBER));
     assert_eq!(store.delete(33), Err(ABSENT));
     assert_eq!(store, before);
     store.delete(32).unwrap();
-    assert_eq!(store.put(65_535, &[0; 10]), Err(NOROOM));
-    assert_eq!(store.put(65_535, &[0; 9]), put(31, 0));
+    assert_eq!(store.put(MU, 65_535, &[0; 10]), Err(NOROOM));
+    assert_eq!(store.put(MU, 65_535, &[0; 9]), put(31, 0));
 }
 
 /// G3: a greeting longer than a walk takes is BAD, one longer than the block
@@ -105,22 +114,22 @@ fn refusals_in_order() {
 #[test]
 fn long_greetings() {
     let mut store = fresh(MOST_BLOCK);
-    assert_eq!(store.put(1, &vec![0; 65_536]), Err(BAD));
-    assert_eq!(store.put(1, &vec![0; 65_535]), Err(NOROOM));
-    assert_eq!(store.put(1, &vec![0; 16_385]), Err(NOROOM));
-    assert_eq!(store.put(1, &vec![0; 16_384]), put(0, 0));
+    assert_eq!(store.put(MU, 1, &vec![0; 65_536]), Err(BAD));
+    assert_eq!(store.put(MU, 1, &vec![0; 65_535]), Err(NOROOM));
+    assert_eq!(store.put(MU, 1, &vec![0; 16_385]), Err(NOROOM));
+    assert_eq!(store.put(MU, 1, &vec![0; 16_384]), put(0, 0));
 }
 
 /// G4: a block is as long as what is lent, and at most 16,384 octets of it.
 #[test]
 fn blocks_of_other_sizes() {
     let mut none = fresh(0);
-    assert_eq!(none.put(1, &[0]), Err(NOROOM));
+    assert_eq!(none.put(MU, 1, &[0]), Err(NOROOM));
     assert_eq!(Store::load(b"", vec![]), Ok(none));
     let mut large = fresh(MOST_BLOCK + 5);
     assert_eq!(large.size(), MOST_BLOCK);
-    assert_eq!(large.put(1, &vec![0; 16_384]), put(0, 0));
-    assert_eq!(large.put(2, &[0]), Err(NOROOM));
+    assert_eq!(large.put(MU, 1, &vec![0; 16_384]), put(0, 0));
+    assert_eq!(large.put(MU, 2, &[0]), Err(NOROOM));
     assert_eq!(large.block[MOST_BLOCK..], [0xEE; 5]);
 }
 
@@ -129,9 +138,17 @@ fn blocks_of_other_sizes() {
 fn tables() {
     let block = vec![0; 20];
     let load = |text: &[u8]| Store::load(text, block.clone()).map(|store| store.greetings);
+    let whole = Greeting {
+        number: 1,
+        start: 0,
+        octets: 20,
+        law: MU,
+        samples: 0,
+        marks: vec![Mark { octets: 0, samples: 0 }],
+    };
     let one = |n: &str, s: &str, o: &str| load(&text_of(&[(n, s, o)]));
     assert_eq!(load(b""), Ok(vec![]));
-    assert_eq!(one("1", "0", "20"), Ok(vec![Greeting { number: 1, start: 0, octets: 20 }]));
+    assert_eq!(one("1", "0", "20"), Ok(vec![whole]));
     // Form.
     for (n, s, o) in [("01", "0", "1"), ("1", "00", "1"), ("1", "0", "+1"), ("1", "0", "1 "), ("", "0", "1"), ("1", "0", "1\r")] {
         assert_eq!(one(n, s, o), Err(TABLE), "{n} {s} {o}");
@@ -183,14 +200,14 @@ fn tables() {
 fn room_for_a_table() {
     let mut store = fresh(10);
     assert_eq!(store.save(&mut []), Ok(0));
-    store.put(12, &[0x41]).unwrap();
-    let wanted = b"prompt=12\nstart=0\noctets=1\n";
-    let mut out = [0xA7; 30];
-    assert_eq!(store.save(&mut out[..26]), Err(ROOM));
-    assert_eq!(out, [0xA7; 30]);
-    assert_eq!(store.save(&mut out), Ok(27));
-    assert_eq!(out[..27], wanted[..]);
-    assert_eq!(out[27..], [0xA7; 3]);
+    store.put(MU, 12, &[0x41]).unwrap();
+    let wanted = b"prompt=12\nstart=0\noctets=1\nlaw=1\nsamples=40\nmark=0,0\n";
+    let mut out = [0xA7; 56];
+    assert_eq!(store.save(&mut out[..52]), Err(ROOM));
+    assert_eq!(out, [0xA7; 56]);
+    assert_eq!(store.save(&mut out), Ok(53));
+    assert_eq!(out[..53], wanted[..]);
+    assert_eq!(out[53..], [0xA7; 3]);
 }
 
 /// The promises over any list of calls from a fresh block.
@@ -210,7 +227,7 @@ fn any_list_of_calls() {
                     let clear = |g: &Greeting| at + octets.len() <= g.start || at >= g.start + g.octets;
                     at + octets.len() <= store.size() && before.greetings.iter().all(clear)
                 });
-                match store.put(number, &octets) {
+                match store.put(MU, number, &octets) {
                     Ok(done) => {
                         put_in += octets.len();
                         assert_eq!(&store.block[done.start..done.start + octets.len()], &octets[..]);

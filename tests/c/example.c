@@ -161,13 +161,41 @@ static int recording(const uint8_t *samples)
     return 0;
 }
 
+/* A store: greetings put with their law, saved with their marks and loaded; and the lines of an early box, which are of law 1. */
+static int store(void)
+{
+    static const char lines[] = "prompt=7\nstart=0\noctets=2\nlaw=0\nsamples=0\nmark=0,0\n"
+                                "prompt=8\nstart=2\noctets=70\nlaw=1\nsamples=2800\nmark=0,0\nmark=64,2560\n";
+    static const char early[] = "prompt=8\nstart=2\noctets=70\n";
+    static uint8_t block[300], text[G7110_MAX_TABLE];
+    static uint32_t table[G7110_MAX_CELLS];
+    uint8_t frames[70];
+    uint64_t told[2], octets[1];
+    memset(frames, 0x41, sizeof frames);
+    CHECK(g7110_store_cells(sizeof block) == 266 && g7110_store_cells(G7110_MAX_BLOCK) == G7110_MAX_CELLS);
+    CHECK(g7110_store_put(block, sizeof block, table, 266, 0, 7, (const uint8_t *)"\0", 2, told) == G7110_OK && told[0] == 0);
+    CHECK(g7110_store_put(block, sizeof block, table, 266, 1, 8, frames, 70, told) == G7110_OK && told[0] == 2);
+    CHECK(g7110_store_put(block, sizeof block, table, 266, 2, 0, NULL, 0, told) == G7110_LAW && told[0] == 0);
+    CHECK(g7110_store_save(block, sizeof block, table, 266, text, sizeof text, octets) == G7110_OK);
+    CHECK(octets[0] == strlen(lines) && memcmp(text, lines, strlen(lines)) == 0);
+    CHECK(g7110_store_load((const uint8_t *)early, strlen(early), block, sizeof block, table, 265) == G7110_TABLE);
+    CHECK(g7110_store_load((const uint8_t *)early, strlen(early), block, sizeof block, table, 266) == G7110_OK);
+    CHECK(g7110_store_get(block, sizeof block, table, 266, 7, told) == G7110_ABSENT);
+    CHECK(g7110_store_save(block, sizeof block, table, 266, text, sizeof text, octets) == G7110_OK);
+    CHECK(memcmp(text, strstr(lines, "prompt=8"), (size_t)octets[0]) == 0 && octets[0] == strlen(strstr(lines, "prompt=8")));
+    CHECK(g7110_store_load((const uint8_t *)lines, strlen(lines), block, sizeof block, table, 266) == G7110_OK);
+    CHECK(g7110_store_load((const uint8_t *)lines, strlen(lines) - 2, block, sizeof block, table, 266) == G7110_TABLE);
+    CHECK(g7110_store_get(block, sizeof block, table, 266, 7, told) == G7110_OK && told[1] == 2);
+    return 0;
+}
+
 int main(void)
 {
     uint8_t samples[160];
     size_t at;
     for (at = 0; at < sizeof samples; at++) samples[at] = at % 20 == 0 ? 0xFE : 0xFF;
     if (keep_and_get_back(samples) || nothing_lent() || walk_and_stop() || refused()) return 1;
-    if (to_linear_and_back(samples) || settings() || recording(samples)) return 1;
+    if (to_linear_and_back(samples) || settings() || recording(samples) || store()) return 1;
     printf("ok\n");
     return 0;
 }

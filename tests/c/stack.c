@@ -21,7 +21,7 @@ static uint8_t out[1 << 16];
 static int16_t linear[320];
 static uint32_t state[G7110_SETTINGS];
 static uint8_t block[G7110_MAX_BLOCK];
-static uint32_t table[1 + 3 * G7110_MAX_GREETINGS];
+static uint32_t table[G7110_MAX_CELLS];
 static uint32_t number;
 static uint16_t items[STREAM];
 static size_t listed;
@@ -40,7 +40,7 @@ static void *make(void *argument)
     if (call->which == 8) g7110_settings_read(state, state[0], out, report);
     if (call->which == 9) g7110_settings_wipe(state);
     if (call->which == 10) g7110_why(call->given, call->length, 1, G7110_ALL_TOOLS, out, report);
-    if (call->which == 11) g7110_store_put(block, sizeof block, table, sizeof table / sizeof *table, number, call->given, call->length, report);
+    if (call->which == 11) g7110_store_put(block, sizeof block, table, sizeof table / sizeof *table, 1, number, call->given, call->length, report);
     if (call->which == 12) g7110_store_get(block, sizeof block, table, sizeof table / sizeof *table, number, report);
     if (call->which == 13) g7110_store_delete(block, sizeof block, table, sizeof table / sizeof *table, number);
     if (call->which == 14) g7110_store_save(block, sizeof block, table, sizeof table / sizeof *table, out, sizeof out, report);
@@ -124,7 +124,8 @@ static void settings(void)
 /* Each call over a store: greetings of every kind of frame, gaps, closing up, and one that is refused. */
 static void store(const uint8_t *stream, size_t length)
 {
-    static uint8_t text[2048], large[6000];
+    static const char early[] = "prompt=1\nstart=0\noctets=1\n"; /* the first frame, in R-6's lines */
+    static uint8_t text[8192], large[6000];
     uint64_t saved[1];
     for (number = 1; number <= 7; number++) measure(11, stream, length);
     for (number = 2; number <= 6; number += 2) measure(13, NULL, 0);
@@ -135,6 +136,7 @@ static void store(const uint8_t *stream, size_t length)
     measure(14, NULL, 0);
     if (g7110_store_save(block, sizeof block, table, sizeof table / sizeof *table, text, sizeof text, saved) != G7110_OK) return;
     measure(15, text, (size_t)saved[0]);
+    measure(15, (const uint8_t *)early, sizeof early - 1);
 }
 
 /* Both calls over a file: one of every kind of frame and of losses, written, read, and read where its last frame is cut. */

@@ -4,7 +4,7 @@
 use crate::file::{file, Filed, LOSS, LOST};
 use crate::forms::LENGTHS;
 use crate::mend::Menders;
-use crate::store::{Call, Stores, BLOCK, SAVED};
+use crate::store::{early_text_of, Call, Stores, BLOCK, SAVED};
 use crate::why::Reasons;
 use crate::{Proved, Second};
 use second::gen::{all_kinds, damage_somehow, make_frame, sample_of, Kind, Prng};
@@ -131,13 +131,13 @@ impl Further {
                 0 => self.rng.next_u64() as u32,
                 _ => self.rng.below(40) as u32,
             };
-            let call = match self.rng.below(12) {
-                0..=5 => Call::Put(number, self.octets(pool, 3)),
+            let call = match self.rng.below(11) {
+                0..=5 => Call::Put(self.law(), number, self.octets(pool, 3)),
                 6 | 7 => Call::Delete(number),
                 8 => Call::Get(number),
                 9 => Call::Save(self.rng.below(SAVED)),
                 _ => {
-                    let text = self.stores.model.text();
+                    let text = self.text();
                     let damaged = !text.is_empty() && self.rng.flip();
                     Call::Load(if damaged { damage_somehow(&text, &mut self.rng) } else { text })
                 }
@@ -145,11 +145,12 @@ impl Further {
             self.stores.call(&call);
         }
         if self.rng.chance(1, 20) {
-            let cells = self.stores.cells();
-            let at = self.rng.below(cells.len());
-            cells[at] ^= 1 << self.rng.below(32);
-            if !self.stores.reread() {
-                self.stores.all_refused(&[Call::Get(1), Call::Put(1, vec![0x41]), Call::Delete(1), Call::Save(SAVED)]);
+            let (at, bit) = (self.rng.below(self.stores.cells().len()), self.rng.below(32));
+            if !self.stores.lend(|cells| cells[at] ^= 1 << bit) {
+                let calls = [Call::Get(1), Call::Put(1, 1, vec![0x41]), Call::Delete(1), Call::Save(SAVED)];
+                calls.iter().for_each(|call| {
+                    self.stores.call(call);
+                });
                 self.stores.renew(vec![0; BLOCK]);
             }
         }
@@ -204,5 +205,13 @@ impl Further {
         let (set, room) = (self.set(), if self.rng.chance(1, 6) { self.rng.below(400) } else { 2_000 });
         self.files.write(&samples, &items, law, set, room);
         self.files.out.clone()
+    }
+
+    /// The lines of the store as it is; now and then those of R-6 alone.
+    fn text(&mut self) -> Vec<u8> {
+        match self.rng.below(4) {
+            0 => early_text_of(&self.stores.model.greetings),
+            _ => self.stores.model.text(),
+        }
     }
 }

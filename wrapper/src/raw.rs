@@ -76,7 +76,7 @@ extern "C" {
     ) -> u32;
     fn g7110_store_cells(size: u64) -> u64;
     fn g7110_store_put(
-        block: *mut u8, block_len: usize, table: *mut u32, table_len: usize, number: u32, octets: *const u8,
+        block: *mut u8, block_len: usize, table: *mut u32, table_len: usize, law: u32, number: u32, octets: *const u8,
         octets_len: usize, report: *mut [u64; 2],
     ) -> u32;
     fn g7110_store_get(
@@ -195,10 +195,12 @@ pub fn store_cells(size: u64) -> u64 {
 }
 
 /// The ending; the report is the start and the octets moved.
-pub fn store_put(block: &mut [u8], table: &mut [u32], number: u32, octets: &[u8], report: &mut [u64; 2]) -> u32 {
+pub fn store_put(
+    block: &mut [u8], table: &mut [u32], law: u32, number: u32, octets: &[u8], report: &mut [u64; 2],
+) -> u32 {
     let (b, t) = (block.as_mut_ptr(), table.as_mut_ptr());
     // SAFETY: as in `read`; a slice of u32 is aligned.
-    unsafe { g7110_store_put(b, block.len(), t, table.len(), number, octets.as_ptr(), octets.len(), report) }
+    unsafe { g7110_store_put(b, block.len(), t, table.len(), law, number, octets.as_ptr(), octets.len(), report) }
 }
 
 /// The ending; the report is the start and the octets.

@@ -1,6 +1,6 @@
-//! A greeting store that fills its gaps: document 02, R-6. Greetings in a lent block, with a lent table.
+//! A greeting store that fills its gaps: document 02, R-6, with marks, R-8. Greetings in a lent block, with a lent table.
 
-use crate::raw;
+use crate::{raw, Law};
 use std::fmt;
 
 /// Octets of the largest block; a longer one is used up to here.
@@ -10,7 +10,10 @@ pub const MAX_GREETINGS: usize = 32;
 /// The greatest number of a greeting; the least is 1.
 pub const MAX_NUMBER: u32 = 65_535;
 
-/// How many cells a table needs for a block of a size. A fresh table is all 0.
+/// How many cells a table needs for the largest block: 194, and two for each of 288 marks.
+pub const MAX_CELLS: usize = 770;
+
+/// How many cells a table needs for a block of a size, at most [`MAX_CELLS`]. A fresh table is all 0.
 pub fn cells(size: usize) -> usize {
     raw::store_cells(size as u64) as usize
 }
@@ -98,10 +101,10 @@ pub struct Got {
     pub octets: usize,
 }
 
-/// Puts a greeting into the lowest gap that holds it; if none does, the others close up from 0 first.
-pub fn put(block: &mut [u8], table: &mut [u32], number: u32, octets: &[u8]) -> Result<Put, Refusal> {
+/// Puts a greeting of a law into the lowest gap that holds it; if none does, the others close up from 0 first.
+pub fn put(block: &mut [u8], table: &mut [u32], law: Law, number: u32, octets: &[u8]) -> Result<Put, Refusal> {
     let mut report = [0; 2];
-    match raw::store_put(block, table, number, octets, &mut report) {
+    match raw::store_put(block, table, law.number(), number, octets, &mut report) {
         0 => Ok(Put { start: report[0] as usize, moved: report[1] as usize }),
         ending => Err(Refusal::of(ending)),
     }

@@ -238,6 +238,33 @@ fn a_greeting_is_mended() {
     assert_eq!(out, [0xA7]);
 }
 
+/// Greetings put with their law, saved and loaded; and what is refused.
+#[test]
+fn greetings_are_kept() {
+    use g7110::saved::{load, save, MAX_TABLE};
+    use g7110::store::{cells, delete, get, put, Got, Put, Refusal, MAX_BLOCK, MAX_CELLS};
+    assert_eq!((cells(0), cells(64), cells(MAX_BLOCK), cells(usize::MAX)), (258, 260, MAX_CELLS, MAX_CELLS));
+    let (mut block, mut table) = ([0xEE; 300], [0; 266]);
+    assert_eq!(put(&mut block, &mut table, Law::A, 7, &[0, 0]), Ok(Put { start: 0, moved: 0 }));
+    assert_eq!(put(&mut block, &mut table, Law::Mu, 8, &[0x41; 70]), Ok(Put { start: 2, moved: 0 }));
+    assert_eq!(get(&block, &table, 8), Ok(Got { start: 2, octets: 70 }));
+    assert_eq!(put(&mut block, &mut table, Law::A, 9, &[0x46]), Err(Refusal::Bad));
+    let mut text = [0; MAX_TABLE];
+    let octets = save(&block, &table, &mut text).unwrap();
+    let lines = "prompt=7\nstart=0\noctets=2\nlaw=0\nsamples=0\nmark=0,0\n\
+                 prompt=8\nstart=2\noctets=70\nlaw=1\nsamples=2800\nmark=0,0\nmark=64,2560\n";
+    assert_eq!(text[..octets], *lines.as_bytes());
+    let mut other = [u32::MAX; 266];
+    assert_eq!(load(&text[..octets], &block, &mut other), Ok(()));
+    assert_eq!(load(lines.replace("64,", "63,").as_bytes(), &block, &mut other), Err(Refusal::Table));
+    assert_eq!(delete(&block, &mut other, 7), Ok(()));
+    assert_eq!(load(b"prompt=1\nstart=2\noctets=1\n", &block, &mut other), Ok(()), "in R-6's lines");
+    assert_eq!(get(&block, &other, 8), Err(Refusal::Absent));
+    let mut report = [9; 2];
+    let ending = g7110::raw::store_put(&mut block, &mut other, 2, 0, &[], &mut report);
+    assert_eq!((ending, report), (g7110::Refusal::Law.number(), [0; 2]), "a report is written in every case");
+}
+
 /// The header's example of a recording: a frame, a loss of 80 samples, a pad, a loss of unknown length, a frame.
 #[test]
 fn a_recording_is_written_and_read() {

@@ -1,4 +1,4 @@
--- What saving and loading a store's table report (document 02, R-6): the number, and of a saving the octets of text.
+-- What saving and loading a store's table report (document 02, R-6 and R-8): the number, and of a saving the octets of text.
 use Prim.Native.Nat.{ℕ}
 use mathlib.Core.Path.{_≡_}
 use mathlib.Core.List.{List, [], _∷_, _++_}

@@ -1,4 +1,4 @@
--- What the calls over a store of greetings report (document 02, R-6): the number, and two numbers more.
+-- What the calls over a store of greetings report (document 02, R-6 and R-8): the number, and two numbers more.
 use Prim.Native.Nat.{ℕ}
 use mathlib.Core.Path.{_≡_}
 use mathlib.Core.List.{List, [], _∷_}
@@ -16,9 +16,9 @@ pub record ChangeReported (o : Outcome) (b t b′ t′ two : List ℕ) (r : ℕ)
   pub block : b′ ≡ blockAfter o b
   pub table : t′ ≡ tableAfter o t
 
--- putting a greeting
-abbrev pub PutReported : ℕ → List ℕ → List ℕ → List ℕ → List ℕ → List ℕ → List ℕ → ℕ → Type 0
-PutReported number xs b t b′ t′ two r = ChangeReported (putOf b t number xs) b t b′ t′ two r
+-- putting a greeting of a law
+abbrev pub PutReported : ℕ → ℕ → List ℕ → List ℕ → List ℕ → List ℕ → List ℕ → List ℕ → ℕ → Type 0
+PutReported law number xs b t b′ t′ two r = ChangeReported (putOf b t law number xs) b t b′ t′ two r
 
 -- getting one
 pub record GetReported (number : ℕ) (b t two : List ℕ) (r : ℕ) : Type 0 where

@@ -10,7 +10,7 @@ ghost use Rattle.settings.specs.Calls.{Wipe};
 ghost use Rattle.g7110.specs.Mending.{MendReported};
 ghost use Rattle.g7110.specs.Settings.{SaveReported, BackReported, RevisionReported};
 ghost use Rattle.reasons.specs.Why.{whyOne};
-ghost use Rattle.rows.specs.Limits.{cellsFor};
+ghost use Rattle.notes.specs.Sane.{storeCells};
 ghost use Rattle.g7110.specs.Store.{PutReported, GetReported, DeleteReported};
 ghost use Rattle.linear.specs.Equations.{toPCM, fromPCM};
 ghost use Rattle.g7110.specs.Saved.{SavedReported, LoadReported};
@@ -228,26 +228,28 @@ pub extern "C" fn g7110_mend(
     mending::mend_number(end)
 }
 
-// How many cells a store's table needs for a block of a size.
+// How many cells a store's table needs for a block of a size: its greetings, their notes and all marks.
 #[no_mangle]
 pub extern "C" fn g7110_store_cells(size: u64) -> u64
-    ensures { λ r. ⌜ r ≡ cellsFor size ⌝ }
+    ensures { λ r. ⌜ r ≡ storeCells size ⌝ }
 {
-    rows::cells_for(size)
+    let cells = notes::store_cells(size as usize);
+    cells as u64
 }
 
-// Putting a greeting: the number, and in the report its start and the octets moved.
+// Putting a greeting of a law: the number, and in the report its start and the octets moved.
 #[no_mangle]
 pub extern "C" fn g7110_store_put(
     block: &mut [u8],
     table: &mut [u32],
+    law: u32,
     number: u32,
     octets: &[u8],
     report: &mut [u64; 2],
 ) -> u32
-    ensures { λ r. ⌜ PutReported number (now (octets .entry)) (now (block .entry)) (now (table .entry)) (now (block .exit)) (now (table .exit)) (now (report .exit)) r ⌝ }
+    ensures { λ r. ⌜ PutReported law number (now (octets .entry)) (now (block .entry)) (now (table .entry)) (now (block .exit)) (now (table .exit)) (now (report .exit)) r ⌝ }
 {
-    let a = store::put(block, table, number, octets);
+    let a = store::put(block, table, law, number, octets);
     let start = store::first_of(a);
     let moved = store::second_of(a);
     *report = [start as u64, moved as u64];

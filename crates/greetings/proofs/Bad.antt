@@ -1,4 +1,4 @@
--- The tests of a greeting, in the code's order: `bad-empty`, `bad-long`, `bad-walked`.
+-- The tests of a greeting, in the code's order: `bad-empty`, `bad-law`, `bad-long`, `bad-walked`.
 use Prim.Native.Nat.{ℕ, suc, _+_, _*_, _≤_, _<_}
 use mathlib.Core.Path.{_≡_, refl, sym, ap, _∙_}
 use mathlib.Core.List.{List}
@@ -8,19 +8,30 @@ use native.Mathlib.Numerals.{add-one}
 use lib.ListN.{length}
 use borrow.Author.Tests.{lt-ltb, le-ltb, le-leb, lt-leb}
 use Rattle.rules.specs.declared.Ending.{Ending}
+use Rattle.rules.specs.Tools.{mostLaw}
 use Rattle.rules.specs.Walk.{walkFrom, walkAll, longest}
-use Rattle.greetings.specs.Bad.{isDone, isBad, storeLaw, storeSet}
+use Rattle.greetings.specs.Bad.{isDone, isBad, walkOf, storeSet}
 
-module _ (xs : List ℕ) where
-  pub bad-empty : length xs < 1 → true ≡ isBad xs
+module _ (law : ℕ) (xs : List ℕ) where
+  pub bad-empty : length xs < 1 → true ≡ isBad law xs
   unfolding isBad
   bad-empty h = rw (lt-ltb (length xs) 1 h)
 
-  pub bad-long : 1 ≤ length xs → longest < length xs → true ≡ isBad xs
+  pub bad-law : 1 ≤ length xs → mostLaw < law → true ≡ isBad law xs
   unfolding isBad walkAll
-  bad-long h g = rw (le-ltb (length xs) 1 h, lt-leb (length xs) longest g)
+  bad-law h l = rw (le-ltb (length xs) 1 h, lt-leb law mostLaw l)
 
-  pub bad-walked : {e : Ending} {d : Bool} → 1 ≤ length xs → length xs ≤ longest → e ≡ walkFrom (length xs + 1) xs storeLaw storeSet 0 (320 * length xs) .end
-      → d ≡ isDone e → not d ≡ isBad xs
-  unfolding isBad walkAll
-  bad-walked h g e d = rw (le-ltb (length xs) 1 h, le-leb (length xs) longest g, d, e, add-one (length xs))
+  -- the walk of a greeting that is not long, from its first octet on
+  pub walk-of : law ≤ mostLaw → length xs ≤ longest → walkOf law xs ≡ walkFrom (length xs + 1) xs law storeSet 0 (320 * length xs)
+  unfolding walkAll
+  walk-of l g = rw (le-leb law mostLaw l, le-leb (length xs) longest g, add-one (length xs))
+
+  module _ (h : 1 ≤ length xs) (l : law ≤ mostLaw) where
+    pub bad-long : longest < length xs → true ≡ isBad law xs
+    unfolding isBad walkAll
+    bad-long g = rw (le-ltb (length xs) 1 h, le-leb law mostLaw l, lt-leb (length xs) longest g)
+
+    pub bad-walked : {e : Ending} {d : Bool} → length xs ≤ longest → e ≡ walkFrom (length xs + 1) xs law storeSet 0 (320 * length xs) .end
+        → d ≡ isDone e → not d ≡ isBad law xs
+    unfolding isBad
+    bad-walked g e d = rw (le-ltb (length xs) 1 h, walk-of l g, d, e)

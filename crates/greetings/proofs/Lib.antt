@@ -1,2 +1,2 @@
--- The tests of a greeting, in the code's order: `bad-empty`, `bad-long`, `bad-walked`.
+-- The tests of a greeting, in the code's order: `bad-empty`, `bad-law`, `bad-long`, `bad-walked`.
 pub mod Bad

@@ -7,7 +7,7 @@ use lib.Dec.{ltb}
 use Rattle.rules.specs.declared.Ending.{Ending}
 use Rattle.rules.specs.declared.Ending.the-variants.{Done, Refused}
 use Rattle.rules.specs.Tools.{allTools}
-use Rattle.rules.specs.Walk.{walkAll}
+use Rattle.rules.specs.Walk.{Walked, walkAll}
 
 abbrev pub isDone : Ending → Bool
 isDone Done = true
@@ -17,14 +17,14 @@ isDone (Refused w) = false
 abbrev pub storeSet : ℕ
 storeSet = allTools
 
--- the law does not matter to what a walk accepts: mu is taken
-abbrev pub storeLaw : ℕ
-storeLaw = 1
-
 -- "room never short": a frame has an octet or more, and at most 320 samples
 abbrev pub neverShort : ℕ → ℕ
 neverShort octets = 320 * octets
 
+-- the walk of a greeting. Its law is the greeting's own (R-8: "its law").
+abbrev pub walkOf : ℕ → List ℕ → Walked
+walkOf law xs = walkAll xs law storeSet (neverShort (length xs))
+
 -- LONG is among the walk's refusals, so a greeting longer than a walk takes is BAD
-unfoldable pub isBad : List ℕ → Bool
-isBad xs = cond (ltb (length xs) 1) true (not (isDone (walkAll xs storeLaw storeSet (neverShort (length xs)) .end)))
+unfoldable pub isBad : ℕ → List ℕ → Bool
+isBad law xs = cond (ltb (length xs) 1) true (not (isDone (walkOf law xs .end)))

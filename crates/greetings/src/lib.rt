@@ -14,24 +14,20 @@ fn is_done(end: Ending) -> bool
 }
 
 // "BAD if the walk, room never short, refuses or the greeting is empty".
-pub fn is_bad(octets: &[u8]) -> bool
-    ensures { λ r. ⌜ r ≡ isBad (now (octets .entry)) ⌝ }
+pub fn is_bad(octets: &[u8], law: u32) -> bool
+    ensures { λ r. ⌜ r ≡ isBad law (now (octets .entry)) ⌝ }
 {
     let len = octets.len();
     if len < 1 {
         return true;
     }
+    if rules::MOST_LAW < law {
+        return true;
+    }
     if rules::LONGEST < len {
         return true;
     }
-    let walked = walk::walk_on(
-        octets,
-        rules::MOST_LAW,
-        rules::ALL_TOOLS,
-        0,
-        len + 1,
-        320 * len,
-    );
+    let walked = walk::walk_on(octets, law, rules::ALL_TOOLS, 0, len + 1, 320 * len);
     let end = walked.end;
     !is_done(end)
 }

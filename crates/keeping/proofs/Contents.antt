@@ -1,8 +1,8 @@
 -- What is read: after closing up the same (`closing-reads`); after a writing what was written, and the greetings below and above it the same.
-use Prim.Native.Nat.{ℕ, zero, suc, _+_, _*_, _-_, _≤_, _<_}
+use Prim.Native.Nat.{ℕ, _+_, _≤_}
 use mathlib.Core.Path.{_≡_, refl, sym, ap, _∙_}
 use mathlib.Core.List.{List, [], _∷_, _++_, append-assoc}
-use mathlib.Core.Bool.{Bool, true, false}
+use mathlib.Core.Bool.{true}
 use native.Mathlib.Omega.{arith}
 use lib.ListN.{length, take, drop, length-append, length-drop, take-append-drop}
 use lib.Seq.{take-at, drop-at, take-append-le, drop-append-le, length-take-le}
@@ -121,7 +121,8 @@ module _ (b xs : List ℕ) (s : ℕ) (f : s + length xs ≤ length b) where
       ap (λ (x : List ℕ). kept (r .number) x ∷ contents (written b s xs) rows) (low-part (r .start) (r .octets) (n .0 .inside))
       ∙ ap (λ (x : List Kept). kept (r .number) (greeting b r) ∷ x) (below-reads rows (r .start + r .octets) (n .1))
 
-  pub above-reads : (rows : List Row) (lo size : ℕ) → s + length xs ≤ lo → rising 1 lo size rows ≡ true → contents (written b s xs) rows ≡ contents b rows
+  pub above-reads : (rows : List Row) (lo size : ℕ) → s + length xs ≤ lo → rising 1 lo size rows ≡ true
+      → contents (written b s xs) rows ≡ contents b rows
   unfolding contents kept
   above-reads [] lo size g h = refl
   above-reads (r ∷ rows) lo size g h =

@@ -1,6 +1,6 @@
 -- A gap that is found: the greetings before it rise below it, those behind it rise above it (`gap-split`). It is the lowest: `lowest-gap`, `no-gap`.
-use Prim.Native.Nat.{ℕ, zero, suc, _+_, _*_, _-_, _≤_, _<_}
-use mathlib.Core.Path.{_≡_, refl, sym, ap, _∙_}
+use Prim.Native.Nat.{ℕ, suc, _+_, _≤_, _<_}
+use mathlib.Core.Path.{_≡_, refl, ap, _∙_}
 use mathlib.Core.List.{List, [], _∷_, _++_}
 use mathlib.Core.Bool.{Bool, true, false, cond}
 use native.Mathlib.Omega.{arith}
@@ -84,9 +84,11 @@ module _ (b xs : List ℕ) (size x : ℕ) (rows : List Row) (j s : ℕ) (f : siz
 
   pub gap-rises : rising 1 0 size (insertAt j (rowOf x s (length xs)) rows) ≡ true
   gap-rises =
-      rw at-k (rising-join (take (gap .k) rows) (rowOf x s (length xs)) (drop (gap .k) rows) 0 size o (gap .over) (gap .inside) (gap .below) (gap .above))
+      rw at-k
+      (rising-join (take (gap .k) rows) (rowOf x s (length xs)) (drop (gap .k) rows) 0 size o (gap .over) (gap .inside) (gap .below) (gap .above))
 
-  pub gap-reads : contents (written b s xs) (insertAt j (rowOf x s (length xs)) rows) ≡ contents b (take j rows) ++ (kept x xs ∷ contents b (drop j rows))
+  pub gap-reads : contents (written b s xs) (insertAt j (rowOf x s (length xs)) rows)
+      ≡ contents b (take j rows) ++ (kept x xs ∷ contents b (drop j rows))
   gap-reads =
       let g = gap in
       let w = written b s xs in
@@ -105,7 +107,8 @@ abbrev pub Bounds : ℕ → ℕ → ℕ → Gap → Type 0
 Bounds p want size (At j s) = s ≤ p
 Bounds p want size Nowhere = size < p + want
 
-bounds-cases : (p want size lo i : ℕ) (more : Gap) (b : Bool) → lo ≤ p → (b ≡ true → Bounds p want size more) → Bounds p want size (cond b more (At i lo))
+bounds-cases : (p want size lo i : ℕ) (more : Gap) (b : Bool) → lo ≤ p → (b ≡ true → Bounds p want size more)
+    → Bounds p want size (cond b more (At i lo))
 bounds-cases p want size lo i more true l f = f refl
 bounds-cases p want size lo i more false l f = l
 

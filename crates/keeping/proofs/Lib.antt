@@ -1,14 +1,21 @@
--- Document 02, R-6, over any list of calls from a fresh block.
+-- Document 02, R-6 and R-8, over any list of calls from a fresh block.
 --   Rising, Numbers: greetings in order and apart; numbers used once.     Contents: what is read after closing up and after a writing.
---   Gaps: a gap that is found, and that no lower place is clear.          Granted: what an accepted put, delete, get or load tells.
---   Promises: the promises, each by its name.                             Stays: octets that stay. Moved: octets moved.
+--   Along: greetings and their notes, side by side.                       Gaps: a gap that is found, and that no lower place is clear.
+--   Granted: what an accepted put, delete or get tells.                   Looked: what is read under a number.
+--   Stays: octets that stay. Moved: octets moved.                         Notes: each number's note, after each call and any calls.
+--   Listed, Loaded: the order of loading, and what it tells.              Sayable: what is saved can be loaded.
+--   Promises: the promises, each by its name.
 pub mod Rising
 pub mod Numbers
 pub mod Contents
+pub mod Along
 pub mod Gaps
 pub mod Granted
 pub mod Looked
 pub mod Stays
 pub mod Moved
+pub mod Notes
+pub mod Listed
 pub mod Loaded
+pub mod Sayable
 pub mod Promises

@@ -1,9 +1,8 @@
 -- Octets moved are exactly the summed lengths of those whose start changed: `put-moved`.
-use Prim.Native.Nat.{ℕ, zero, suc, _+_, _≤_, _<_, min}
+use Prim.Native.Nat.{ℕ, _+_}
 use mathlib.Core.Path.{_≡_, refl, sym, ap, _∙_}
-use mathlib.Core.List.{List, [], _∷_, _++_, append-assoc}
-use mathlib.Core.Bool.{Bool, true, false, cond}
-use native.Mathlib.Omega.{arith}
+use mathlib.Core.List.{List, [], _∷_, _++_}
+use mathlib.Core.Bool.{cond}
 use lib.ListN.{length, take, drop, take-append-drop}
 use lib.Seq.{append-snoc}
 use lib.Dec.{eqb}
@@ -15,14 +14,14 @@ use Rattle.rows.specs.Limits.{sizeOf}
 use Rattle.rows.specs.Rows.{rowOf, held}
 use Rattle.rows.specs.Finding.{lowestGap}
 use Rattle.rows.specs.Cells.{rowsOf}
+use Rattle.notes.specs.Cells.{notesOf}
 use Rattle.rows.specs.Changed.{insertAt}
-use Rattle.closing.specs.Closing.{movedTo, closedRows, movedOne, movedFrom}
+use Rattle.closing.specs.Closing.{movedTo, closedRows, movedFrom}
 use Rattle.store.specs.Store.{leaves, After, putAt}
 use Rattle.store.specs.Calls.{putOf}
-use Rattle.rows.proofs.Judged.{sane-ordered}
 use Rattle.keeping.specs.Kept.{startOf, changed}
 use Rattle.keeping.proofs.Numbers.{Fresh, Distinct, distinct-behind}
-use Rattle.keeping.proofs.Granted.{sane-distinct, put-granted, put-fresh, behind-all}
+use Rattle.keeping.proofs.Granted.{sane-rows, sane-distinct, put-granted, put-fresh, behind-all}
 
 -- the start of a greeting among others
 start-at : (pre : List Row) (r : Row) (post : List Row) → Fresh (r .number) pre → startOf (r .number) (pre ++ (r ∷ post)) ≡ r .start
@@ -68,7 +67,8 @@ apart-none [] = tt
 apart-none (r ∷ rows) = (tt, apart-none rows)
 
 -- closed up, each is where closing up puts it
-changed-closed : (pre rows rest : List Row) (at : ℕ) → Distinct rows → Apart pre rows → changed rows (pre ++ (closedRows at rows ++ rest)) ≡ movedFrom at rows
+changed-closed : (pre rows rest : List Row) (at : ℕ) → Distinct rows → Apart pre rows
+    → changed rows (pre ++ (closedRows at rows ++ rest)) ≡ movedFrom at rows
 unfolding changed closedRows movedFrom Distinct Apart
 changed-closed pre [] rest at d p = refl
 changed-closed pre (r ∷ rows) rest at d p =
@@ -80,22 +80,22 @@ changed-closed pre (r ∷ rows) rest at d p =
     let tl : changed rows (pre ++ (m ∷ more)) ≡ movedFrom (at + r .octets) rows = ap (changed rows) (sym s) ∙ ih in
     rw (own, tl)
 
-module _ (b t : List ℕ) (x : ℕ) (xs : List ℕ) {a : After} (e : putOf b t x xs ≡ leaves a) where
+module _ (b t : List ℕ) (law x : ℕ) (xs : List ℕ) {a : After} (e : putOf b t law x xs ≡ leaves a) where
   distinct : Distinct (rowsOf t)
-  distinct = sane-distinct (sizeOf b) t (put-granted b t x xs a e .sane)
+  distinct = sane-distinct (sizeOf b) t (put-granted b t law x xs a e .sane)
 
-  moved-in : (g : Gap) → putAt b (rowsOf t) x xs g .second ≡ changed (rowsOf t) (putAt b (rowsOf t) x xs g .rows)
+  moved-in : (g : Gap) → putAt b (rowsOf t) (notesOf t) law x xs g .second ≡ changed (rowsOf t) (putAt b (rowsOf t) (notesOf t) law x xs g .rows)
   moved-in (At i s) =
       let rows = rowsOf t in
       let new = rowOf x s (length xs) in
       let k = take-append-drop i rows in
-      sym (changed-none x (insertAt i new rows) [] rows distinct (put-fresh b t x xs e)
+      sym (changed-none x (insertAt i new rows) [] rows distinct (put-fresh b t law x xs e)
       (λ y n. start-past y (take i rows) new (drop i rows) n ∙ ap (startOf y) k))
   moved-in Nowhere =
       let rows = rowsOf t in
       let new = rowOf x (held rows) (length xs) in
-      let o = sane-ordered (sizeOf b) t (put-granted b t x xs a e .sane) in
+      let o = sane-rows (sizeOf b) t (put-granted b t law x xs a e .sane) in
       sym (ap (changed rows) (behind-all (sizeOf b) rows new (o .rises)) ∙ changed-closed [] rows (new ∷ []) 0 distinct (apart-none rows))
 
   pub put-moved : a .second ≡ changed (rowsOf t) (a .rows)
-  put-moved = rw (put-granted b t x xs a e .is) (moved-in (lowestGap (length xs) (sizeOf b) (rowsOf t)))
+  put-moved = rw (put-granted b t law x xs a e .is) (moved-in (lowestGap (length xs) (sizeOf b) (rowsOf t)))

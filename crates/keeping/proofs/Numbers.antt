@@ -1,8 +1,8 @@
 -- Numbers from 1 to 65,535, each used once: `Distinct`, with one put in, with one taken out, closed up. A number found among them (`find-split`).
-use Prim.Native.Nat.{ℕ, zero, suc, _+_, _*_, _-_, _≤_, _<_}
-use mathlib.Core.Path.{_≡_, refl, sym, ap, subst, _∙_}
+use Prim.Native.Nat.{ℕ, _+_, _≤_}
+use mathlib.Core.Path.{_≡_, refl, sym, ap, _∙_}
 use mathlib.Core.List.{List, [], _∷_, _++_}
-use mathlib.Core.Bool.{Bool, true, false, cond}
+use mathlib.Core.Bool.{Bool, true, false}
 use native.Mathlib.Omega.{arith}
 use lib.ListN.{length, take, drop, take-append-drop}
 use lib.Dec.{ltb, eqb}
@@ -92,6 +92,11 @@ pub fresh-append : (x : ℕ) (a c : List Row) → Fresh x (a ++ c) → Fresh x a
 unfolding Fresh
 fresh-append x [] c f = (tt, f)
 fresh-append x (y ∷ a) c f = let g = fresh-append x a c (f .1) in ((f .0, g .0), g .1)
+
+pub fresh-join : (x : ℕ) (a c : List Row) → Fresh x a → Fresh x c → Fresh x (a ++ c)
+unfolding Fresh
+fresh-join x [] c f g = g
+fresh-join x (y ∷ a) c f g = (f .0, fresh-join x a c (f .1) g)
 
 -- those behind a greeting have other numbers
 pub distinct-behind : (a : List Row) (r : Row) (c : List Row) → Distinct (a ++ (r ∷ c)) → Fresh (r .number) a × Fresh (r .number) c

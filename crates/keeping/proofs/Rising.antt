@@ -1,10 +1,10 @@
 -- Greetings in order of start, apart and inside: made, joined, one taken out. What they hold.
-use Prim.Native.Nat.{ℕ, zero, suc, _+_, _*_, _-_, _≤_, _<_}
-use mathlib.Core.Path.{_≡_, refl, sym, ap, _∙_}
+use Prim.Native.Nat.{ℕ, _+_, _≤_}
+use mathlib.Core.Path.{_≡_, refl, ap}
 use mathlib.Core.List.{List, [], _∷_, _++_}
-use mathlib.Core.Bool.{Bool, true, false}
+use mathlib.Core.Bool.{true}
 use native.Mathlib.Omega.{arith}
-use lib.ListN.{length, take, drop, take-append-drop}
+use lib.ListN.{take, drop, take-append-drop}
 use borrow.Author.Tests.{le-ltb}
 use Rattle.rows.specs.declared.Row.{Row}
 use Rattle.rows.specs.Rows.{held}
@@ -36,7 +36,8 @@ rising-any lo size [] e = rising-nil 0 lo size
 rising-any lo size (r ∷ rows) e =
     let n = rising-head 1 lo size r rows e in
     let q = n .0 in
-    rising-cons 0 lo size r rows (record { above = q .above; some = omega arith; inside = q .inside }) (rising-any (r .start + r .octets) size rows (n .1))
+    rising-cons 0 lo size r rows (record { above = q .above; some = omega arith; inside = q .inside })
+    (rising-any (r .start + r .octets) size rows (n .1))
 
 pub rising-remove : (a : List Row) (r : Row) (c : List Row) (lo size : ℕ) → rising 1 lo size (a ++ (r ∷ c)) ≡ true → rising 1 lo size (a ++ c) ≡ true
 rising-remove [] r c lo size e =

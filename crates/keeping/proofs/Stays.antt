@@ -1,12 +1,12 @@
 -- Octets that no put or closing up writes stay: `closing-spares`, `writing-spares`, `put-stays`.
-use Prim.Native.Nat.{ℕ, zero, suc, _+_, _*_, _-_, _≤_, _<_, min}
+use Prim.Native.Nat.{ℕ, _+_, _-_, _≤_, _<_}
 use mathlib.Core.Path.{_≡_, refl, sym, ap, _∙_}
 use mathlib.Core.List.{List, [], _∷_, _++_, append-assoc}
-use mathlib.Core.Bool.{Bool, true, false}
+use mathlib.Core.Bool.{true}
 use native.Mathlib.Omega.{arith}
 use native.Mathlib.Nat.{sub-zero, zero-add}
 use native.Mathlib.Decide.{ℕ-discrete, decLt}
-use lib.ListN.{length, take, drop, getD, length-drop, List·getD-append}
+use lib.ListN.{length, take, drop, getD, List·getD-append}
 use lib.Seq.{getD-append-add, getD-drop, getD-take, length-take-le}
 use Rattle.rows.specs.declared.Row.{Row}
 use Rattle.rows.specs.declared.Gap.{Gap}
@@ -15,6 +15,7 @@ use Rattle.rows.specs.Limits.{sizeOf}
 use Rattle.rows.specs.Rows.{held, greeting}
 use Rattle.rows.specs.Finding.{lowestGap}
 use Rattle.rows.specs.Cells.{rowsOf}
+use Rattle.notes.specs.Cells.{notesOf}
 use Rattle.rows.specs.Sane.{rising}
 use Rattle.rows.specs.Changed.{written}
 use Rattle.closing.specs.Closing.{bodies, closedBlock}
@@ -22,11 +23,10 @@ use Rattle.store.specs.Store.{leaves, After, putAt}
 use Rattle.store.specs.Calls.{putOf}
 use Rattle.rows.proofs.Lists.{same-getD}
 use Rattle.rows.proofs.Rising.{rising-head}
-use Rattle.rows.proofs.Judged.{sane-ordered}
 use Rattle.keeping.specs.Kept.{Spared, Passed}
 use Rattle.keeping.proofs.Contents.{length-greeting, closed-length, high-part}
 use Rattle.keeping.proofs.Gaps.{gap-inside}
-use Rattle.keeping.proofs.Granted.{good-some, put-granted}
+use Rattle.keeping.proofs.Granted.{sane-rows, good-some, put-granted}
 
 at-back : (a c : List ℕ) (p : ℕ) → length a ≤ p → getD (a ++ c) p 0 ≡ getD c (p - length a) 0
 at-back a c p h =
@@ -78,7 +78,8 @@ unfolding written
 low-spares b xs at p h l =
     List·getD-append (take at b) (xs ++ drop (at + length xs) b) 0 p (omega (arith, length-take-le at b (omega arith))) ∙ getD-take at b p 0 l
 
-pub writing-spares : (b xs : List ℕ) (at p : ℕ) → at + length xs ≤ length b → (at ≤ p → p < at + length xs → ⊥) → getD (written b at xs) p 0 ≡ getD b p 0
+pub writing-spares : (b xs : List ℕ) (at p : ℕ) → at + length xs ≤ length b → (at ≤ p → p < at + length xs → ⊥)
+    → getD (written b at xs) p 0 ≡ getD b p 0
 writing-spares b xs at p h out = go (decLt p at) (decLt p (at + length xs))
   where
     go : Dec (p < at) → Dec (p < at + length xs) → getD (written b at xs) p 0 ≡ getD b p 0
@@ -86,18 +87,19 @@ writing-spares b xs at p h out = go (decLt p at) (decLt p (at + length xs))
     go (no n) (yes l) = absurd (out (omega arith) l)
     go (no n) (no m) = same-getD p p (written b at xs) b (high-part b xs at h p (omega arith)) (omega arith)
 
-module _ (b t : List ℕ) (x : ℕ) (xs : List ℕ) {a : After} (e : putOf b t x xs ≡ leaves a) where
+module _ (b t : List ℕ) (law x : ℕ) (xs : List ℕ) {a : After} (e : putOf b t law x xs ≡ leaves a) where
   stays-in : (g : Gap) → g ≡ lowestGap (length xs) (sizeOf b) (rowsOf t) → (p : ℕ)
-      → (putAt b (rowsOf t) x xs g .first ≤ p → p < putAt b (rowsOf t) x xs g .first + length xs → ⊥) → Passed p g (rowsOf t)
-      → getD (putAt b (rowsOf t) x xs g .block) p 0 ≡ getD b p 0
+      → (putAt b (rowsOf t) (notesOf t) law x xs g .first ≤ p → p < putAt b (rowsOf t) (notesOf t) law x xs g .first + length xs → ⊥)
+      → Passed p g (rowsOf t)
+      → getD (putAt b (rowsOf t) (notesOf t) law x xs g .block) p 0 ≡ getD b p 0
   stays-in (At i s) q p out k =
-      let f = put-granted b t x xs a e in
-      let o = sane-ordered (sizeOf b) t (f .sane) in
-      let n = gap-inside b xs (sizeOf b) x (rowsOf t) i s (omega arith) (good-some xs (f .good)) (o .rises) q in
+      let f = put-granted b t law x xs a e in
+      let o = sane-rows (sizeOf b) t (f .sane) in
+      let n = gap-inside b xs (sizeOf b) x (rowsOf t) i s (omega arith) (good-some law xs (f .good)) (o .rises) q in
       writing-spares b xs s p (omega arith) out
   stays-in Nowhere q p out k =
-      let f = put-granted b t x xs a e in
-      let o = sane-ordered (sizeOf b) t (f .sane) in
+      let f = put-granted b t law x xs a e in
+      let o = sane-rows (sizeOf b) t (f .sane) in
       let c = closed-length b (rowsOf t) (sizeOf b) (o .rises) (omega arith) in
       writing-spares (closedBlock b (rowsOf t)) xs (held (rowsOf t)) p (omega (arith, c, f .room)) out
       ∙ closing-spares b (rowsOf t) p (sizeOf b) (o .rises) (omega arith) k
@@ -106,5 +108,5 @@ module _ (b t : List ℕ) (x : ℕ) (xs : List ℕ) {a : After} (e : putOf b t x
   pub put-stays : (p : ℕ) → (a .first ≤ p → p < a .first + length xs → ⊥) → Passed p (lowestGap (length xs) (sizeOf b) (rowsOf t)) (rowsOf t)
       → getD (a .block) p 0 ≡ getD b p 0
   put-stays p out k =
-      let i = put-granted b t x xs a e .is in
+      let i = put-granted b t law x xs a e .is in
       rw i (stays-in (lowestGap (length xs) (sizeOf b) (rowsOf t)) refl p (λ l h. out (rw i l) (rw i h)) k)

@@ -1,14 +1,16 @@
--- What the promises speak of: what a store reads under a number; places that are clear; greetings whose start changed; places that closing up writes.
+-- What the promises speak of: what a store reads under a number, and its note (R-8); places that are clear; greetings whose start changed; places
+-- that closing up writes.
 use Prim.Native.Nat.{ℕ, _+_, _≤_, _<_}
 use mathlib.Core.Path.{_≡_}
 use mathlib.Core.List.{List, [], _∷_}
-use mathlib.Core.Bool.{Bool, true, false, cond}
+use mathlib.Core.Bool.{false, cond}
 use lib.Dec.{eqb}
 use Rattle.rows.specs.declared.Row.{Row}
 use Rattle.rows.specs.declared.Gap.{Gap}
 use Rattle.rows.specs.declared.Gap.the-variants.{At, Nowhere}
 use Rattle.rows.specs.Rows.{Kept}
 use Rattle.greetings.specs.Bad.{isBad}
+use Rattle.marks.specs.Marks.{Note}
 
 -- the octets kept under a number, or none
 pub data Octets : Type 0 where
@@ -19,10 +21,29 @@ unfoldable pub lookUp : ℕ → List Kept → Octets
 lookUp x [] = missing
 lookUp x (k ∷ ks) = cond (eqb (k .number) x) (here (k .octets)) (lookUp x ks)
 
--- none of them is one that the walk refuses, or empty
-unfoldable pub allGood : List Kept → Bool
-allGood [] = true
-allGood (k ∷ ks) = cond (isBad (k .octets)) false (allGood ks)
+-- the note of the greeting of a number, or none
+pub data Known : Type 0 where
+  noted : Note → Known
+  unknown : Known
+
+unfoldable pub noteUnder : ℕ → List Row → List Note → Known
+noteUnder x [] notes = unknown
+noteUnder x (r ∷ rows) [] = unknown
+noteUnder x (r ∷ rows) (n ∷ notes) = cond (eqb (r .number) x) (noted n) (noteUnder x rows notes)
+
+-- as many notes as greetings, and each pair is so
+unfoldable pub Along : (Kept → Note → Type 0) → List Kept → List Note → Type 0
+Along p [] [] = Unit {0}
+Along p [] (n ∷ notes) = ⊥
+Along p (k ∷ ks) [] = ⊥
+Along p (k ∷ ks) (n ∷ notes) = p k n × Along p ks notes
+
+-- none of them is one that the walk by its note's law refuses, or empty
+abbrev pub isGood : Kept → Note → Type 0
+isGood k n = isBad (n .law) (k .octets) ≡ false
+
+abbrev pub Good : List Kept → List Note → Type 0
+Good ks notes = Along isGood ks notes
 
 -- no greeting has an octet from place p on, for so many octets
 unfoldable pub Clear : ℕ → ℕ → List Row → Type 0

@@ -1,4 +1,5 @@
--- Cells moved up back to front (`raise-turn`, `raise-all`), a row's cells laid (`row-laid`), octets copied (`copy-turn`, `copy-all`).
+-- Cells moved up back to front, by any distance (`raise-turn`, `raise-all`), a row's cells laid (`row-laid`), octets copied (`copy-turn`,
+-- `copy-all`).
 use Prim.Native.Nat.{ℕ, suc, _+_, _-_, _≤_, _<_}
 use mathlib.Core.Path.{_≡_, refl, sym, ap, _∙_}
 use mathlib.Core.List.{List, [], _∷_, _++_, append-assoc}
@@ -11,52 +12,52 @@ use Rattle.rows.specs.Changed.{rowLaid, written}
 use Rattle.rows.proofs.Cells.{drop-three, set-second}
 
 -- cells from j to n are moved
-pub record Raising (t : List ℕ) (at n j : ℕ) (t′ : List ℕ) : Type 0 where
-  pub is : t′ ≡ paste t (j + 3) (drop j t) (n - j)
+pub record Raising (t : List ℕ) (by at n j : ℕ) (t′ : List ℕ) : Type 0 where
+  pub is : t′ ≡ paste t (j + by) (drop j t) (n - j)
   pub low : at ≤ j
   pub high : j ≤ n
   pub size : length t′ ≡ length t
 
-pub raise-none : (t : List ℕ) (at n : ℕ) → at ≤ n → Raising t at n n t
-raise-none t at n h =
+pub raise-none : (t : List ℕ) (by at n : ℕ) → at ≤ n → Raising t by at n n t
+raise-none t by at n h =
     let e : n - n ≡ 0 = omega arith in
-    record { is = rw e (paste-zero t (n + 3) (drop n t)); low = h; high = omega arith; size = refl }
+    record { is = rw e (paste-zero t (n + by) (drop n t)); low = h; high = omega arith; size = refl }
 
-pub raise-all : {t t′ : List ℕ} {at n j : ℕ} → Raising t at n j t′ → j ≤ at → t′ ≡ paste t (at + 3) (drop at t) (n - at)
-raise-all {t} {t′} {at} {n} {j} r h =
+pub raise-all : {t t′ : List ℕ} {by at n j : ℕ} → Raising t by at n j t′ → j ≤ at → t′ ≡ paste t (at + by) (drop at t) (n - at)
+raise-all {t} {t′} {by} {at} {n} {j} r h =
     let l = r .low in
     let e : j ≡ at = omega arith in
-    r .is ∙ ap (λ (x : ℕ). paste t (x + 3) (drop x t) (n - x)) e
+    r .is ∙ ap (λ (x : ℕ). paste t (x + by) (drop x t) (n - x)) e
 
-pub raise-turn : {t t′ : List ℕ} {at n j m : ℕ} → Raising t at n j t′ → j ≡ m + 1 → n + 3 ≤ length t → at ≤ m
-    → Raising t at n m (set t′ (m + 3) (getD t′ m 0))
-raise-turn {t} {t′} {at} {n} {j} {m} r e h g =
+pub raise-turn : {t t′ : List ℕ} {by at n j m : ℕ} → Raising t by at n j t′ → j ≡ m + 1 → n + by ≤ length t → at ≤ m
+    → Raising t by at n m (set t′ (m + by) (getD t′ m 0))
+raise-turn {t} {t′} {by} {at} {n} {j} {m} r e h g =
     let b = r .high in
-    let x = take (n - j) (drop j t) ++ drop (j + 3 + (n - j)) t in
-    let p = take (m + 3) t in
-    let lp : length p ≡ m + 3 = length-take-le (m + 3) t (omega arith) in
-    let a : t′ ≡ take (j + 3) t ++ x = r .is ∙ append-assoc (take (j + 3) t) (take (n - j) (drop j t)) (drop (j + 3 + (n - j)) t) in
+    let x = take (n - j) (drop j t) ++ drop (j + by + (n - j)) t in
+    let p = take (m + by) t in
+    let lp : length p ≡ m + by = length-take-le (m + by) t (omega arith) in
+    let a : t′ ≡ take (j + by) t ++ x = r .is ∙ append-assoc (take (j + by) t) (take (n - j) (drop j t)) (drop (j + by + (n - j)) t) in
     let v : getD t′ m 0 ≡ getD t m 0 =
-    ap (λ (l : List ℕ). getD l m 0) a ∙ List·getD-append (take (j + 3) t) x 0 m (omega (arith, length-take-le (j + 3) t (omega arith)))
-    ∙ getD-take (j + 3) t m 0 (omega arith)
+    ap (λ (l : List ℕ). getD l m 0) a ∙ List·getD-append (take (j + by) t) x 0 m (omega (arith, length-take-le (j + by) t (omega arith)))
+    ∙ getD-take (j + by) t m 0 (omega arith)
     in
-    let s : j + 3 ≡ suc (m + 3) = omega arith in
-    let q : t′ ≡ p ++ (getD t (m + 3) 0 ∷ x) =
-    a ∙ ap (λ (k : ℕ). take k t ++ x) s ∙ ap (λ (l : List ℕ). l ++ x) (take-suc t (m + 3) 0 (omega arith)) ∙ append-snoc p (getD t (m + 3) 0) x
+    let s : j + by ≡ suc (m + by) = omega arith in
+    let q : t′ ≡ p ++ (getD t (m + by) 0 ∷ x) =
+    a ∙ ap (λ (k : ℕ). take k t ++ x) s ∙ ap (λ (l : List ℕ). l ++ x) (take-suc t (m + by) 0 (omega arith)) ∙ append-snoc p (getD t (m + by) 0) x
     in
     let w : n - m ≡ suc (n - j) = omega arith in
     let y : suc m ≡ j = omega arith in
-    let z : j + 3 + (n - j) ≡ m + 3 + (n - m) = omega arith in
+    let z : j + by + (n - j) ≡ m + by + (n - m) = omega arith in
     let d : drop m t ≡ getD t m 0 ∷ drop j t = rw y at (drop-cons t m 0 (omega arith)) in
     let u : take (n - m) (drop m t) ≡ getD t m 0 ∷ take (n - j) (drop j t) = rw (w, d) in
-    let f : set t′ (m + 3) (getD t′ m 0) ≡ paste t (m + 3) (drop m t) (n - m) =
-    ap (λ (k : ℕ). set t′ (m + 3) k) v ∙ ap (λ (l : List ℕ). set l (m + 3) (getD t m 0)) q
-    ∙ set-at p (getD t (m + 3) 0) x (getD t m 0) (m + 3) lp
+    let f : set t′ (m + by) (getD t′ m 0) ≡ paste t (m + by) (drop m t) (n - m) =
+    ap (λ (k : ℕ). set t′ (m + by) k) v ∙ ap (λ (l : List ℕ). set l (m + by) (getD t m 0)) q
+    ∙ set-at p (getD t (m + by) 0) x (getD t m 0) (m + by) lp
     ∙ ap (λ (k : ℕ). p ++ (getD t m 0 ∷ (take (n - j) (drop j t) ++ drop k t))) z
-    ∙ sym (ap (λ (l : List ℕ). (p ++ l) ++ drop (m + 3 + (n - m)) t) u
-    ∙ append-assoc p (getD t m 0 ∷ take (n - j) (drop j t)) (drop (m + 3 + (n - m)) t))
+    ∙ sym (ap (λ (l : List ℕ). (p ++ l) ++ drop (m + by + (n - m)) t) u
+    ∙ append-assoc p (getD t m 0 ∷ take (n - j) (drop j t)) (drop (m + by + (n - m)) t))
     in
-    record { is = f; low = g; high = omega arith; size = length-set t′ (m + 3) (getD t′ m 0) ∙ r .size }
+    record { is = f; low = g; high = omega arith; size = length-set t′ (m + by) (getD t′ m 0) ∙ r .size }
 
 pub row-laid : (t : List ℕ) (k : ℕ) (r : Row) → k + 3 ≤ length t
     → set (set (set t k (r .number)) (k + 1) (r .start)) (k + 2) (r .octets) ≡ rowLaid t k r

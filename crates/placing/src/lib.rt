@@ -7,25 +7,25 @@ ghost use Rattle.rows.specs.Cells.{rowsOf, laid};
 ghost use Rattle.rows.specs.Changed.{insertAt, removeAt, written, rowLaid};
 use rows::Row;
 
-// Cells up to n moved three up, back to front.
-fn raise(table: &mut [u32], at: usize, n: usize)
-    requires { ⌜ (at ≤ n) × (n + 3 ≤ length (now table)) ⌝ }
-    ensures { λ _. ⌜ now (table .exit) ≡ paste (now (table .entry)) (at + 3) (drop at (now (table .entry))) (n - at) ⌝ }
+// Cells up to n moved up by so many, back to front.
+pub fn raise(table: &mut [u32], at: usize, n: usize, by: usize)
+    requires { ⌜ (at ≤ n) × (n + by ≤ length (now table)) ⌝ }
+    ensures { λ _. ⌜ now (table .exit) ≡ paste (now (table .entry)) (at + by) (drop at (now (table .entry))) (n - at) ⌝ }
 {
     let mut j = n;
     while at < j {
         j = j - 1;
-        table[j + 3] = table[j];
+        table[j + by] = table[j];
     }
 }
 
-// n cells moved three down, front to back.
-fn lower(table: &mut [u32], at: usize, n: usize)
-    requires { ⌜ at + 3 + n ≤ length (now table) ⌝ }
-    ensures { λ _. ⌜ now (table .exit) ≡ paste (now (table .entry)) at (drop (at + 3) (now (table .entry))) n ⌝ }
+// n cells moved down by so many, front to back.
+pub fn lower(table: &mut [u32], at: usize, by: usize, n: usize)
+    requires { ⌜ at + by + n ≤ length (now table) ⌝ }
+    ensures { λ _. ⌜ now (table .exit) ≡ paste (now (table .entry)) at (drop (at + by) (now (table .entry))) n ⌝ }
 {
     for i in 0..n {
-        table[at + i] = table[at + 3 + i];
+        table[at + i] = table[at + by + i];
     }
 }
 
@@ -46,7 +46,7 @@ pub fn insert(table: &mut [u32], n: usize, i: usize, r: Row)
     ensures { λ _. ⌜ now (table .exit) ≡ laid (insertAt i r (rowsOf (now (table .entry)))) (now (table .entry)) ⌝ }
 {
     let k = 1 + 3 * i;
-    raise(table, k, 1 + 3 * n);
+    raise(table, k, 1 + 3 * n, 3);
     lay_row(table, k, r);
     table[0] = (n + 1) as u32;
 }
@@ -57,7 +57,7 @@ pub fn remove(table: &mut [u32], n: usize, i: usize)
     ensures { λ _. ⌜ now (table .exit) ≡ laid (removeAt i (rowsOf (now (table .entry)))) (now (table .entry)) ⌝ }
 {
     let left = n - (i + 1);
-    lower(table, 1 + 3 * i, 3 * left);
+    lower(table, 1 + 3 * i, 3, 3 * left);
     table[0] = (n - 1) as u32;
 }
 

@@ -1,41 +1,76 @@
 -- Saving in the code's steps.
-use Prim.Native.Nat.{ℕ, _+_, _≤_, _<_}
+use Prim.Native.Nat.{ℕ, _≤_, _<_}
 use mathlib.Core.Path.{_≡_, refl, sym, ap, _∙_}
-use mathlib.Core.List.{List, [], _++_}
-use mathlib.Core.Bool.{Bool, true, false, cond, not}
+use mathlib.Core.List.{List, _++_}
+use mathlib.Core.Bool.{Bool, true, false}
 use native.Mathlib.Omega.{arith}
-use lib.ListN.{length, getD, take, drop, take-append-drop}
-use lib.Dec.{ltb}
+use lib.ListN.{length, getD, drop, take-append-drop}
 use borrow.Author.Tests.{lt-ltb, le-ltb}
 use Rattle.rows.specs.Limits.{sizeOf}
 use Rattle.rows.specs.Cells.{rowsAt, rowsOf}
-use Rattle.rows.specs.Sane.{saneOf}
 use Rattle.lines.specs.Puts.{Puts}
+use Rattle.notes.specs.Cells.{notesOf, marksHeld, headsOf}
+use Rattle.notes.specs.Sane.{saneStore, Noted}
+use Rattle.notes.proofs.Matched.{sane-noted, room-for}
 use Rattle.store.specs.declared.Refusal.{Refusal}
 use Rattle.store.specs.declared.Refusal.the-variants.{Room, Table}
 use Rattle.store.specs.declared.Answer.the-variants.{Done, Refused}
-use Rattle.tables.specs.Table.{tableText}
-use Rattle.saved.specs.Saved.{Text, saved, declined, saveOf}
+use Rattle.tables.specs.Noted.{listing, listedText}
+use Rattle.tables.specs.Held.{heldOf, TextIn}
+use Rattle.saved.specs.Saved.{Text, declined, saveOf}
 use Rattle.saved.specs.Calls.{Writes, Save}
+use Rattle.saved.proofs.Bad.{law-at}
 
 declines : (x : Text) (out : List ℕ) {w : Refusal} → x ≡ declined w → Writes x out out (Refused w)
 declines x out e = rw e (record { answer = refl; lent = refl })
 
 -- a text put at the start
-pub puts-start : {text out out′ : List ℕ} {r : ℕ} → Puts out 0 text out′ r → (r ≡ length text) × (out′ ≡ text ++ drop (length text) out)
+puts-start : {text out out′ : List ℕ} {r : ℕ} → Puts out 0 text out′ r → (r ≡ length text) × (out′ ≡ text ++ drop (length text) out)
 puts-start {text} {out} {out′} {r} p =
     let n : r ≡ length text = p .place ∙ omega arith in
     (n, sym (take-append-drop r out′) ∙ rw (p .says, p .rest) (ap (λ (k : ℕ). text ++ drop k out) n))
 
-module _ (b t out : List ℕ) {size : ℕ} {x : Bool} (z : size ≡ sizeOf b) (e : x ≡ saneOf size t) where
+-- the greetings of a table, with their notes
+module _ (t : List ℕ) {n : ℕ} (c : n ≡ getD t 0 0) (d : getD t 97 0 ≡ getD t 0 0) where
+  second : getD (drop 97 t) 0 0 ≡ n
+  second = law-at t 97 ∙ d ∙ sym c
+
+  held-as : heldOf t n ≡ listing (rowsOf t) (notesOf t)
+  held-as = rw (← c, second)
+
+  heads-as : headsOf t ≡ rowsAt (drop 97 t) n 1
+  heads-as = rw second
+
+module _ (b t out : List ℕ) {size : ℕ} {x : Bool} (z : size ≡ sizeOf b) (e : x ≡ saneStore size t) where
   pub save-table : x ≡ false → Save b t out out (Refused Table)
   save-table f = declines (saveOf b t (length out)) out (rw (← z, ← e, f))
 
-  module _ (f : x ≡ true) {n octets : ℕ} (c : n ≡ getD t 0 0) (o : octets ≡ length (tableText (rowsAt t n 1))) where
-    pub save-room : length out < octets → Save b t out out (Refused Room)
-    save-room h = declines (saveOf b t (length out)) out (rw (← z, ← e, f, ← c, ← o, lt-ltb (length out) octets h))
+  module _ (f : x ≡ true) where
+    noted : Noted size t
+    noted = sane-noted size t (sym e ∙ f)
 
-    pub save-text : {out′ : List ℕ} {r : ℕ} → octets ≤ length out → Puts out 0 (tableText (rowsAt t n 1)) out′ r → Save b t out out′ (Done r 0)
-    save-text h p =
-        let s = puts-start p in
-        rw (← z, ← e, f, ← c, ← o, le-ltb (length out) octets h) (record { answer = ap (λ (k : ℕ). Done k 0) (s .0); lent = s .1 })
+    pub save-first : 1 ≤ length t
+    save-first = omega (arith, noted .order .cells)
+
+    module _ {n : ℕ} (c : n ≡ getD t 0 0) where
+      pub save-fits : TextIn t n
+      save-fits =
+          let h = ap marksHeld (heads-as t c (noted .count)) in
+          let r = room-for noted (omega (arith, z)) in
+          (omega (arith, c, noted .order .few), omega (arith, h, r))
+
+      text-as : listedText (heldOf t n) ≡ listedText (listing (rowsOf t) (notesOf t))
+      text-as = ap listedText (held-as t c (noted .count))
+
+      module _ {octets : ℕ} (o : octets ≡ length (listedText (heldOf t n))) where
+        measured : octets ≡ length (listedText (listing (rowsOf t) (notesOf t)))
+        measured = o ∙ ap length text-as
+
+        pub save-room : length out < octets → Save b t out out (Refused Room)
+        save-room h = declines (saveOf b t (length out)) out (rw (← z, ← e, f, ← measured, lt-ltb (length out) octets h))
+
+        pub save-text : {out′ : List ℕ} {r : ℕ} → octets ≤ length out → Puts out 0 (listedText (heldOf t n)) out′ r → Save b t out out′ (Done r 0)
+        save-text h p =
+            let s = puts-start (rw text-as at p) in
+            rw (← z, ← e, f, ← measured, le-ltb (length out) octets h)
+            (record { answer = ap (λ (k : ℕ). Done k 0) (s .0); lent = s .1 })

@@ -1,4 +1,6 @@
--- Document 02, R-6: a store's table saved and loaded.
+-- Document 02, R-6 and R-8: a store's table saved and loaded.
 --   Saved: what is written, what is taken, and the refusals in their order.     Calls: the contract of each public call.
+--   Steps: loading in the code's steps.
 pub mod Saved
 pub mod Calls
+pub mod Steps

@@ -1,17 +1,27 @@
-// A store's table saved as text, and loaded (document 02, R-6). What each call answers and leaves stands in specs/Calls.
+// A store's table saved as text, and loaded (document 02, R-6 and R-8). What each call answers and leaves stands in specs/Calls.
 ghost use mathlib.Core.Path.{_≡_};
-ghost use mathlib.Core.Bool.{true};
-ghost use Prim.Native.Nat.{_≤_};
-ghost use lib.ListN.{length};
+ghost use mathlib.Core.Bool.{true, false};
+ghost use Prim.Native.Nat.{_+_, _*_, _^_, _≤_, _<_};
+ghost use lib.ListN.{length, getD};
 ghost use Rattle.rows.specs.Limits.{sizeOf};
-ghost use Rattle.rows.specs.Cells.{rowsAt};
+ghost use Rattle.rows.specs.Cells.{rowsAt, laid};
 ghost use Rattle.rows.specs.Sane.{rising};
-ghost use Rattle.tables.specs.Table.{tableIn};
-ghost use Rattle.saved.specs.Saved.{anyBad, loadIn, loadRead};
-ghost use Rattle.saved.specs.Calls.{verdictOf, Save, Load};
+ghost use Rattle.greetings.specs.Bad.{isBad};
+ghost use Rattle.marks.specs.Marks.{noteOf, mostMarks};
+ghost use Rattle.notes.specs.Notes.{insertNote};
+ghost use Rattle.notes.specs.Cells.{headsOf, marksHeld, notesOf, notesLaid, stored};
+ghost use Rattle.notes.specs.Sane.{storeCells};
+ghost use Rattle.tables.specs.Noted.{listedIn};
+ghost use Rattle.tables.specs.Passing.{nextOf, noteIs};
+ghost use Rattle.saved.specs.Saved.{allTrue, loadIn, loadNoted};
+ghost use Rattle.saved.specs.Steps.{badBy, notesBy, judgedBy, greetingsOf, isWhole, Celled, Sound, OneMore, AllNotes};
+ghost use Rattle.saved.specs.Calls.{verdictOf, Save, Load, Takes};
+use marks::Tally;
 use store::Answer;
 use store::Refusal;
 use tables::Count;
+use tables::Head;
+use tables::Next;
 
 // Whether a text is taken, and why not.
 pub enum Verdict {
@@ -19,17 +29,17 @@ pub enum Verdict {
     Fine,
 }
 
-// "BAD", greeting by greeting.
-fn any_bad(block: &[u8], table: &[u32], n: usize, size: usize) -> bool
-    requires { ⌜ (n ≤ 32) × (97 ≤ length (now table)) × (size ≤ length (now block)) × (rising 0 0 size (rowsAt (now table) n 1) ≡ true) ⌝ }
-    ensures { λ r. ⌜ r ≡ anyBad (now (block .entry)) (rowsAt (now (table .entry)) n 1) ⌝ }
+// "BAD", greeting by greeting, each walked by its own law.
+fn any_bad(block: &[u8], cells: &[u32], laws: &[u32], n: usize, size: usize) -> bool
+    requires { ⌜ (n ≤ 32) × (97 ≤ length (now cells)) × (32 ≤ length (now laws)) × (size ≤ length (now block)) × (rising 0 0 size (rowsAt (now cells) n 1) ≡ true) ⌝ }
+    ensures { λ r. ⌜ r ≡ badBy (now (block .entry)) (rowsAt (now (cells .entry)) n 1) (now (laws .entry)) ⌝ }
 {
     let mut i = 0;
     while i < n {
-        let r = rows::row_at(table, 1 + 3 * i);
+        let r = rows::row_at(cells, 1 + 3 * i);
         let start = r.start;
         let end = r.start + r.octets;
-        if greetings::is_bad(&block[start..end]) {
+        if greetings::is_bad(&block[start..end], laws[i]) {
             return true;
         }
         i += 1;
@@ -38,47 +48,152 @@ fn any_bad(block: &[u8], table: &[u32], n: usize, size: usize) -> bool
 }
 
 // TABLE over the whole table; only then BAD.
-fn judge_rows(block: &[u8], table: &[u32], n: usize) -> Verdict
-    requires { ⌜ (n ≤ 32) × (97 ≤ length (now table)) ⌝ }
-    ensures { λ r. ⌜ r ≡ verdictOf (loadIn (now (block .entry)) (sizeOf (now (block .entry))) (rowsAt (now (table .entry)) n 1)) ⌝ }
+fn judge_rows(block: &[u8], cells: &[u32], laws: &[u32], n: usize) -> Verdict
+    requires { ⌜ (n ≤ 32) × (97 ≤ length (now cells)) × (32 ≤ length (now laws)) ⌝ }
+    ensures { λ r. ⌜ r ≡ judgedBy (now (block .entry)) (sizeOf (now (block .entry))) (rowsAt (now (cells .entry)) n 1) (now (laws .entry)) ⌝ }
 {
     let size = rows::size_of(block.len());
-    if !rows::rises(table, n, 0, size) {
+    if !rows::rises(cells, n, 0, size) {
         return Verdict::Stop(Refusal::Table);
     }
-    if !rows::distinct(table, n) {
+    if !rows::distinct(cells, n) {
         return Verdict::Stop(Refusal::Table);
     }
-    if any_bad(block, table, n, size) {
+    if any_bad(block, cells, laws, n, size) {
         return Verdict::Stop(Refusal::Bad);
     }
     Verdict::Fine
 }
 
-// A text is judged before anything that is lent changes: its greetings go into cells of its own.
-fn judge(text: &[u8], block: &[u8]) -> Verdict
-    ensures { λ r. ⌜ r ≡ verdictOf (loadRead (now (block .entry)) (sizeOf (now (block .entry))) (tableIn (now (text .entry)))) ⌝ }
+// The samples and marks that stand at a place of the text, beside those that the greeting's walk gives.
+fn same_note(text: &[u8], place: usize, octets: &[u8], law: u32) -> Next
+    requires { ⌜ (length (now octets) ≤ 16384) × (isBad law (now octets) ≡ false) ⌝ }
+    ensures { λ r. ⌜ r ≡ nextOf (noteIs (noteOf law (now (octets .entry)) .samples) (noteOf law (now (octets .entry)) .marks) (now (text .entry)) place) ⌝ }
 {
-    let mut cells = [0u32; 97];
-    match tables::read_rows(text, &mut cells) {
-        Count::Wrong => Verdict::Stop(Refusal::Table),
-        Count::Greetings(n) => judge_rows(block, &cells, n),
+    let mut cells = [0u32; 514];
+    match marks::take(octets, law, &mut cells) {
+        Tally::Wrong => Next::Astray,
+        Tally::Counted(samples, m) => tables::note_is(text, place, samples, &cells, m),
     }
 }
 
-// Loading: TABLE, then BAD. The lent table is output: only its length is judged.
+// "samples or marks that the walk doesn't give", over the whole table.
+fn all_true(text: &[u8], block: &[u8], size: usize, n: usize) -> bool
+    requires { ⌜ Sound (now block) size n (listedIn (now text)) ⌝ }
+    ensures { λ r. ⌜ r ≡ allTrue (now (block .entry)) (greetingsOf (listedIn (now (text .entry)))) ⌝ }
+{
+    let mut at = 0;
+    let mut i = 0;
+    while i < n {
+        match tables::head_at(text, at) {
+            Head::Missing => {
+                return false;
+            }
+            Head::Begun(_, start, octets, law, place) => {
+                let from = rows::wide(start);
+                let end = from + rows::wide(octets);
+                match same_note(text, place, &block[from..end], law) {
+                    Next::Astray => {
+                        return false;
+                    }
+                    Next::To(next) => {
+                        at = next;
+                        i += 1;
+                    }
+                }
+            }
+        }
+    }
+    true
+}
+
+// TABLE, then BAD, then TABLE for samples and marks.
+fn judge_noted(text: &[u8], block: &[u8], cells: &[u32], laws: &[u32], n: usize) -> Verdict
+    requires { ⌜ (isWhole (listedIn (now text)) ≡ true) × Celled (greetingsOf (listedIn (now text))) (now cells) (now laws) n ⌝ }
+    ensures { λ r. ⌜ r ≡ verdictOf (loadIn (now (block .entry)) (sizeOf (now (block .entry))) (greetingsOf (listedIn (now (text .entry))))) ⌝ }
+{
+    match judge_rows(block, cells, laws, n) {
+        Verdict::Stop(why) => Verdict::Stop(why),
+        Verdict::Fine => {
+            if all_true(text, block, rows::size_of(block.len()), n) {
+                return Verdict::Fine;
+            }
+            Verdict::Stop(Refusal::Table)
+        }
+    }
+}
+
+// What the walk gives of a greeting, behind the notes that are there.
+fn store_note(octets: &[u8], law: u32, table: &mut [u32], i: usize)
+    requires { ⌜ OneMore law (now octets) (now table) i ⌝ }
+    ensures { λ _. ⌜ now (table .exit) ≡ notesLaid (insertNote i (noteOf law (now (octets .entry))) (notesOf (now (table .entry)))) (now (table .entry)) ⌝ }
+{
+    let mut cells = [0u32; 514];
+    match marks::take(octets, law, &mut cells) {
+        Tally::Wrong => {}
+        Tally::Counted(samples, m) => {
+            notes::put_note(table, i, i, rows::wide(law), samples, &cells, m);
+        }
+    }
+}
+
+// The notes of all greetings, one after another: accepted samples and marks are those that the walks give.
+fn store_notes(block: &[u8], cells: &[u32], laws: &[u32], n: usize, size: usize, table: &mut [u32])
+    requires { ⌜ AllNotes (now block) (now cells) (now laws) n size (now table) ⌝ }
+    ensures { λ _. ⌜ now (table .exit) ≡ notesLaid (notesBy (now (block .entry)) (rowsAt (now (cells .entry)) n 1) (now (laws .entry))) (now (table .entry)) ⌝ }
+{
+    table[97] = 0;
+    let mut i = 0;
+    while i < n {
+        let r = rows::row_at(cells, 1 + 3 * i);
+        let start = r.start;
+        let end = r.start + r.octets;
+        store_note(&block[start..end], laws[i], table, i);
+        i += 1;
+    }
+}
+
+// A text of R-8's lines. It is judged before anything that is lent changes: its greetings go into cells of their own.
+fn load_noted(text: &[u8], block: &[u8], size: usize, table: &mut [u32]) -> Answer
+    requires { ⌜ (size ≡ sizeOf (now block)) × (storeCells size ≤ length (now table)) ⌝ }
+    ensures { λ r. ⌜ Takes (loadNoted (now (block .entry)) (sizeOf (now (block .entry))) (listedIn (now (text .entry)))) (now (table .entry)) (now (table .exit)) r ⌝ }
+{
+    let mut cells = [0u32; 97];
+    let mut laws = [1u32; 32];
+    match tables::read_noted(text, &mut cells, &mut laws) {
+        Count::Wrong => Answer::Refused(Refusal::Table),
+        Count::Greetings(n) => match judge_noted(text, block, &cells, &laws, n) {
+            Verdict::Stop(why) => Answer::Refused(why),
+            Verdict::Fine => {
+                let mut again = [1u32; 32];
+                tables::read_noted(text, table, &mut again);
+                store_notes(block, &cells, &laws, n, size, table);
+                Answer::Done(0, 0)
+            }
+        },
+    }
+}
+
+// Loading: "A table all in R-6's lines is read by walking each greeting as law 1". The lent table is output: only its length is judged.
 pub fn load(text: &[u8], block: &[u8], table: &mut [u32]) -> Answer
     ensures { λ r. ⌜ Load (now (text .entry)) (now (block .entry)) (now (table .entry)) (now (table .exit)) r ⌝ }
 {
-    if table.len() < 97 {
+    let size = rows::size_of(block.len());
+    if table.len() < notes::store_cells(size) {
         return Answer::Refused(Refusal::Table);
     }
-    match judge(text, block) {
-        Verdict::Stop(why) => Answer::Refused(why),
-        Verdict::Fine => {
-            tables::read_rows(text, table);
-            Answer::Done(0, 0)
-        }
+    let mut cells = [0u32; 97];
+    let laws = [1u32; 32];
+    match tables::read_rows(text, &mut cells) {
+        Count::Wrong => load_noted(text, block, size, table),
+        Count::Greetings(n) => match judge_rows(block, &cells, &laws, n) {
+            Verdict::Stop(why) => Answer::Refused(why),
+            Verdict::Fine => {
+                tables::read_rows(text, table);
+                store_notes(block, &cells, &laws, n, size, table);
+                Answer::Done(0, 0)
+            }
+        },
     }
 }
 
@@ -87,7 +202,7 @@ pub fn save(block: &[u8], table: &[u32], out: &mut [u8]) -> Answer
     ensures { λ r. ⌜ Save (now (block .entry)) (now (table .entry)) (now (out .entry)) (now (out .exit)) r ⌝ }
 {
     let size = rows::size_of(block.len());
-    if !rows::sane(table, size) {
+    if !notes::sane(table, size) {
         return Answer::Refused(Refusal::Table);
     }
     let n = rows::wide(table[0]);
@@ -95,6 +210,6 @@ pub fn save(block: &[u8], table: &[u32], out: &mut [u8]) -> Answer
     if out.len() < octets {
         return Answer::Refused(Refusal::Room);
     }
-    let end = tables::put_rows(table, n, out);
+    let end = tables::put_text(table, n, out);
     Answer::Done(end, 0)
 }

@@ -1,12 +1,13 @@
--- Nothing else fits: each call's contract determines the answer and what it leaves, for all inputs, refused ones too (`only-put`, `only-get`, `only-delete`);
--- and the paper's number, with the two numbers told, determines the answer (`answers-one-to-one`). A refusal changes nothing (`refused-nothing`).
+-- Nothing else fits: each call's contract determines the answer and what it leaves, for all inputs, refused ones too (`only-put`, `only-get`,
+-- `only-delete`); and the paper's number, with the two numbers told, determines the answer (`answers-one-to-one`). A refusal changes nothing
+-- (`refused-nothing`).
 use Prim.Native.Nat.{ℕ}
 use mathlib.Core.Path.{_≡_, refl, sym, ap₂, _∙_}
 use mathlib.Core.List.{List}
 use mathlib.Core.Bool.{cond}
 use lib.Dec.{eqb}
 use Rattle.store.specs.declared.Refusal.{Refusal}
-use Rattle.store.specs.declared.Refusal.the-variants.{Room, Number, Taken, Absent, Bad, Full, NoRoom, Table}
+use Rattle.store.specs.declared.Refusal.the-variants.{Room, Law, Number, Taken, Absent, Bad, Full, NoRoom, Table}
 use Rattle.store.specs.declared.Answer.{Answer}
 use Rattle.store.specs.declared.Answer.the-variants.{Done, Refused}
 use Rattle.store.specs.Store.{refused}
@@ -18,9 +19,9 @@ pub record Same (r s : Answer) (b₁ t₁ b₂ t₂ : List ℕ) : Type 0 where
   pub block : b₁ ≡ b₂
   pub table : t₁ ≡ t₂
 
-pub only-put : (number : ℕ) (xs b t : List ℕ) {b₁ t₁ b₂ t₂ : List ℕ} {r s : Answer} → Put number xs b t b₁ t₁ r → Put number xs b t b₂ t₂ s
-    → Same r s b₁ t₁ b₂ t₂
-only-put number xs b t p q =
+pub only-put : (law number : ℕ) (xs b t : List ℕ) {b₁ t₁ b₂ t₂ : List ℕ} {r s : Answer} → Put law number xs b t b₁ t₁ r
+    → Put law number xs b t b₂ t₂ s → Same r s b₁ t₁ b₂ t₂
+only-put law number xs b t p q =
     record { answer = p .answer ∙ sym (q .answer); block = p .block ∙ sym (q .block); table = p .table ∙ sym (q .table) }
 
 pub only-get : (number : ℕ) (b t : List ℕ) {r s : Answer} → Get number b t r → Get number b t s → r ≡ s
@@ -36,8 +37,8 @@ refused-nothing s = record { answer = s .answer; block = s .block; table = s .ta
 -- the answer, by the paper's number and the two numbers told
 abbrev why : ℕ → Refusal
 why n =
-    cond (eqb n 4) Room (cond (eqb n 15) Number (cond (eqb n 16) Taken (cond (eqb n 17) Absent (cond (eqb n 18) Bad
-    (cond (eqb n 19) Full (cond (eqb n 20) NoRoom Table))))))
+    cond (eqb n 4) Room (cond (eqb n 12) Law (cond (eqb n 15) Number (cond (eqb n 16) Taken (cond (eqb n 17) Absent (cond (eqb n 18) Bad
+    (cond (eqb n 19) Full (cond (eqb n 20) NoRoom Table)))))))
 
 pub record Told : Type 0 where
   pub first : ℕ
@@ -52,6 +53,7 @@ answerBy n t = cond (eqb n 0) (Done (t .first) (t .second)) (Refused (why n))
 by-numbers : (a : Answer) → answerBy (numberOf a) (told a) ≡ a
 by-numbers (Done first second) = refl
 by-numbers (Refused Room) = refl
+by-numbers (Refused Law) = refl
 by-numbers (Refused Number) = refl
 by-numbers (Refused Taken) = refl
 by-numbers (Refused Absent) = refl

@@ -4,10 +4,11 @@ use mathlib.Core.Path.{_≡_}
 use mathlib.Core.List.{List}
 use mathlib.Core.Bool.{cond, not}
 use Rattle.rows.specs.Limits.{sizeOf}
-use Rattle.rows.specs.Cells.{rowsOf, laid}
-use Rattle.rows.specs.Sane.{saneOf}
+use Rattle.rows.specs.Cells.{rowsOf}
+use Rattle.notes.specs.Cells.{notesOf, stored}
+use Rattle.notes.specs.Sane.{saneStore}
 use Rattle.store.specs.declared.Refusal.{Refusal}
-use Rattle.store.specs.declared.Refusal.the-variants.{Room, Number, Taken, Absent, Bad, Full, NoRoom, Table}
+use Rattle.store.specs.declared.Refusal.the-variants.{Room, Law, Number, Taken, Absent, Bad, Full, NoRoom, Table}
 use Rattle.store.specs.declared.Answer.{Answer}
 use Rattle.store.specs.declared.Answer.the-variants.{Done, Refused}
 use Rattle.store.specs.Store.{Outcome, leaves, refused, putIn, getIn, deleteIn}
@@ -15,6 +16,7 @@ use Rattle.store.specs.Store.{Outcome, leaves, refused, putIn, getIn, de
 -- the paper's number of a refusal; an accepted call has 0
 abbrev pub refusalNumber : Refusal → ℕ
 refusalNumber Room = 4
+refusalNumber Law = 12
 refusalNumber Number = 15
 refusalNumber Taken = 16
 refusalNumber Absent = 17
@@ -38,16 +40,16 @@ secondOf (Refused w) = 0
 
 -- a lent table is judged first: TABLE where it is not what calls leave
 abbrev pub onTable : ℕ → List ℕ → Outcome → Outcome
-onTable size t o = cond (not (saneOf size t)) (refused Table) o
+onTable size t o = cond (not (saneStore size t)) (refused Table) o
 
-abbrev pub putOf : List ℕ → List ℕ → ℕ → List ℕ → Outcome
-putOf b t number xs = onTable (sizeOf b) t (putIn b (sizeOf b) (rowsOf t) number xs)
+abbrev pub putOf : List ℕ → List ℕ → ℕ → ℕ → List ℕ → Outcome
+putOf b t law number xs = onTable (sizeOf b) t (putIn b (sizeOf b) (rowsOf t) (notesOf t) law number xs)
 
 abbrev pub getOf : List ℕ → List ℕ → ℕ → Outcome
-getOf b t number = onTable (sizeOf b) t (getIn b (rowsOf t) number)
+getOf b t number = onTable (sizeOf b) t (getIn b (rowsOf t) (notesOf t) number)
 
 abbrev pub deleteOf : List ℕ → List ℕ → ℕ → Outcome
-deleteOf b t number = onTable (sizeOf b) t (deleteIn b (rowsOf t) number)
+deleteOf b t number = onTable (sizeOf b) t (deleteIn b (rowsOf t) (notesOf t) number)
 
 -- what a call answers, and what it leaves of the block and the table; "a refused one changes nothing"
 abbrev pub answerOf : Outcome → Answer
@@ -59,7 +61,7 @@ blockAfter (leaves a) b = a .block
 blockAfter (refused w) b = b
 
 abbrev pub tableAfter : Outcome → List ℕ → List ℕ
-tableAfter (leaves a) t = laid (a .rows) t
+tableAfter (leaves a) t = stored (a .rows) (a .notes) t
 tableAfter (refused w) t = t
 
 pub record Says (o : Outcome) (b t b′ t′ : List ℕ) (r : Answer) : Type 0 where
@@ -68,8 +70,8 @@ pub record Says (o : Outcome) (b t b′ t′ : List ℕ) (r : Answer) : Type 0 w
   pub table : t′ ≡ tableAfter o t
 
 -- putting a greeting
-abbrev pub Put : ℕ → List ℕ → List ℕ → List ℕ → List ℕ → List ℕ → Answer → Type 0
-Put number xs b t b′ t′ r = Says (putOf b t number xs) b t b′ t′ r
+abbrev pub Put : ℕ → ℕ → List ℕ → List ℕ → List ℕ → List ℕ → List ℕ → Answer → Type 0
+Put law number xs b t b′ t′ r = Says (putOf b t law number xs) b t b′ t′ r
 
 -- getting one: nothing is lent to be changed
 abbrev pub Get : ℕ → List ℕ → List ℕ → Answer → Type 0

@@ -1,27 +1,57 @@
--- What all calls judge first, TABLE and NUMBER, in the code's steps; then how many greetings there are, and the number's place among them.
-use Prim.Native.Nat.{ℕ}
+-- What all calls judge after the table, NUMBER, in the code's steps; then how many greetings there are, and the number's place among them.
+-- Then a put in its steps: how a greeting longer than the block is refused, what is left to judge, and what is done where it fits.
+use Prim.Native.Nat.{ℕ, _*_, _^_, _≤_, _<_}
 use mathlib.Core.Path.{_≡_}
 use mathlib.Core.List.{List}
 use mathlib.Core.Bool.{true, cond, not}
-use lib.ListN.{getD}
-use Rattle.rows.specs.Limits.{isNumber}
+use lib.ListN.{length, getD}
+use lib.Dec.{leb}
+use Rattle.rows.specs.Limits.{isNumber, mostGreetings}
 use Rattle.rows.specs.Finding.{findFrom}
-use Rattle.rows.specs.Cells.{rowsOf}
-use Rattle.rows.specs.Sane.{saneOf, Ordered}
-use Rattle.store.specs.declared.Refusal.the-variants.{Table, Number}
+use Rattle.rows.specs.Rows.{rowOf}
+use Rattle.rows.specs.Cells.{rowsOf, laid}
+use Rattle.rows.specs.Changed.{insertAt, written}
+use Rattle.greetings.specs.Bad.{isBad}
+use Rattle.marks.specs.Marks.{mostMarks}
+use Rattle.notes.specs.Cells.{notesOf}
+use Rattle.notes.specs.Sane.{saneStore, Noted}
+use Rattle.store.specs.declared.Refusal.{Refusal}
+use Rattle.store.specs.declared.Refusal.the-variants.{Number, Bad, Full, NoRoom}
+use Rattle.store.specs.declared.Answer.{Answer}
 use Rattle.store.specs.declared.Look.{Look}
 use Rattle.store.specs.declared.Look.the-variants.{Stop, Found}
+use Rattle.store.specs.Store.{leaves, fitted, putIn}
+use Rattle.store.specs.Calls.{Says}
 
-unfoldable pub lookOf : ℕ → List ℕ → ℕ → Look
-lookOf size t number =
-    cond (not (saneOf size t)) (Stop Table)
-    (cond (not (isNumber number)) (Stop Number)
-    (Found (getD t 0 0) (findFrom number 0 (rowsOf t))))
+unfoldable pub lookOf : List ℕ → ℕ → Look
+lookOf t number =
+    cond (not (isNumber number)) (Stop Number)
+    (Found (getD t 0 0) (findFrom number 0 (rowsOf t)))
 
 -- n greetings, and the number's place i among them, after both were judged
 pub record Looked (size : ℕ) (t : List ℕ) (number n i : ℕ) : Type 0 where
-  pub sane : saneOf size t ≡ true
-  pub order : Ordered size t
+  pub sane : saneStore size t ≡ true
+  pub noted : Noted size t
   pub allowed : isNumber number ≡ true
   pub count : n ≡ getD t 0 0
   pub place : i ≡ findFrom number 0 (rowsOf t)
+
+-- a greeting longer than the block, once it is neither TAKEN nor its number refused: it never fits
+unfoldable pub longOf : ℕ → ℕ → List ℕ → Refusal
+longOf n law xs = cond (isBad law xs) Bad (cond (leb mostGreetings n) Full NoRoom)
+
+-- a greeting's law and samples, and its m marks in cells of their own, small enough for the table
+abbrev pub Small : ℕ → ℕ → ℕ → List ℕ → List ℕ → Type 0
+Small law samples m xs cells = (law ≤ 1) × (samples < 2 ^ 32) × (m ≤ mostMarks (length xs)) × (2 * m ≤ length cells)
+
+-- a put, once the table, the law and the number were judged
+abbrev pub PutsIn : ℕ → ℕ → ℕ → List ℕ → List ℕ → List ℕ → List ℕ → List ℕ → Answer → Type 0
+PutsIn size law number xs b t b′ t′ r = Says (putIn b size (rowsOf t) (notesOf t) law number xs) b t b′ t′ r
+
+-- where it fits
+abbrev pub FitsIn : ℕ → ℕ → ℕ → List ℕ → List ℕ → List ℕ → List ℕ → List ℕ → Answer → Type 0
+FitsIn size law number xs b t b′ t′ r = Says (leaves (fitted b (rowsOf t) (notesOf t) size law number xs)) b t b′ t′ r
+
+-- its octets at a place, and its row, i rows standing before it
+abbrev pub PlacedAt : ℕ → ℕ → ℕ → List ℕ → List ℕ → List ℕ → List ℕ → List ℕ → Type 0
+PlacedAt i at number xs b t b′ t′ = (b′ ≡ written b at xs) × (t′ ≡ laid (insertAt i (rowOf number at (length xs)) (rowsOf t)) t)

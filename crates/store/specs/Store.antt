@@ -1,9 +1,11 @@
--- Document 02, R-6: "Put, get (start and octets), delete; a refused one changes nothing." Over a block of a size and the list of its greetings.
+-- Document 02, R-6: "Put, get (start and octets), delete; a refused one changes nothing." Over a block of a size, the list of its greetings and
+-- their notes (R-8): "Every put and move keeps marks true to what the walk gives."
 use Prim.Native.Nat.{ℕ, _+_}
 use mathlib.Core.List.{List}
 use mathlib.Core.Bool.{cond, not}
 use lib.ListN.{length}
 use lib.Dec.{leb, ltb}
+use Rattle.rules.specs.Tools.{isLaw}
 use Rattle.rows.specs.declared.Row.{Row}
 use Rattle.rows.specs.declared.Gap.{Gap}
 use Rattle.rows.specs.declared.Gap.the-variants.{At, Nowhere}
@@ -13,13 +15,16 @@ use Rattle.rows.specs.Finding.{absent, findFrom, lowestGap}
 use Rattle.rows.specs.Changed.{nth, insertAt, removeAt, written}
 use Rattle.closing.specs.Closing.{closedRows, closedBlock, movedFrom}
 use Rattle.greetings.specs.Bad.{isBad}
+use Rattle.marks.specs.Marks.{Note, noteOf}
+use Rattle.notes.specs.Notes.{insertNote, removeNote}
 use Rattle.store.specs.declared.Refusal.{Refusal}
-use Rattle.store.specs.declared.Refusal.the-variants.{Number, Taken, Absent, Bad, Full, NoRoom}
+use Rattle.store.specs.declared.Refusal.the-variants.{Law, Number, Taken, Absent, Bad, Full, NoRoom}
 
 -- what an accepted call leaves, and the two numbers that it tells
 pub record After : Type 0 where
   pub block : List ℕ
   pub rows : List Row
+  pub notes : List Note
   pub first : ℕ
   pub second : ℕ
 
@@ -28,61 +33,64 @@ pub data Outcome : Type 0 where
   refused : Refusal → Outcome
 
 -- "A put takes the lowest gap that holds it": it tells the start, and that no octets moved
-abbrev pub putInto : List ℕ → List Row → ℕ → List ℕ → ℕ → ℕ → After
-putInto b rows number xs i at =
+abbrev pub putInto : List ℕ → List Row → List Note → ℕ → ℕ → List ℕ → ℕ → ℕ → After
+putInto b rows notes law number xs i at =
     record {
       block = written b at xs;
       rows = insertAt i (rowOf number at (length xs)) rows;
+      notes = insertNote i (noteOf law xs) notes;
       first = at;
       second = 0;
     }
 
--- "if none does, all greetings first close up from 0 in their order": behind them then
-abbrev pub putBehind : List ℕ → List Row → ℕ → List ℕ → After
-putBehind b rows number xs =
+-- "if none does, all greetings first close up from 0 in their order": behind them then. Marks count from a greeting's start, so a move changes none.
+abbrev pub putBehind : List ℕ → List Row → List Note → ℕ → ℕ → List ℕ → After
+putBehind b rows notes law number xs =
     record {
       block = written (closedBlock b rows) (held rows) xs;
       rows = insertAt (length rows) (rowOf number (held rows) (length xs)) (closedRows 0 rows);
+      notes = insertNote (length rows) (noteOf law xs) notes;
       first = held rows;
       second = movedFrom 0 rows;
     }
 
-abbrev pub putAt : List ℕ → List Row → ℕ → List ℕ → Gap → After
-putAt b rows number xs (At i at) = putInto b rows number xs i at
-putAt b rows number xs Nowhere = putBehind b rows number xs
+abbrev pub putAt : List ℕ → List Row → List Note → ℕ → ℕ → List ℕ → Gap → After
+putAt b rows notes law number xs (At i at) = putInto b rows notes law number xs i at
+putAt b rows notes law number xs Nowhere = putBehind b rows notes law number xs
 
-abbrev pub fitted : List ℕ → List Row → ℕ → ℕ → List ℕ → After
-fitted b rows size number xs = putAt b rows number xs (lowestGap (length xs) size rows)
+abbrev pub fitted : List ℕ → List Row → List Note → ℕ → ℕ → ℕ → List ℕ → After
+fitted b rows notes size law number xs = putAt b rows notes law number xs (lowestGap (length xs) size rows)
 
--- "Refusals, in order: NUMBER (15), TAKEN (16) on put .., BAD (18) .., FULL (19) at 32, NOROOM (20)".
+-- "Refusals, in order: NUMBER (15), TAKEN (16) on put .., BAD (18) .., FULL (19) at 32, NOROOM (20)", and R-8: "LAW first on put".
 -- "NOROOM is given exactly when no earlier refusal is and the octets held plus the new ones exceed" the size,
 -- wherever the deleted room lies.
-unfoldable pub putIn : List ℕ → ℕ → List Row → ℕ → List ℕ → Outcome
-putIn b size rows number xs =
-    cond (not (isNumber number)) (refused Number)
+unfoldable pub putIn : List ℕ → ℕ → List Row → List Note → ℕ → ℕ → List ℕ → Outcome
+putIn b size rows notes law number xs =
+    cond (not (isLaw law)) (refused Law)
+    (cond (not (isNumber number)) (refused Number)
     (cond (not (absent number rows)) (refused Taken)
-    (cond (isBad xs) (refused Bad)
+    (cond (isBad law xs) (refused Bad)
     (cond (leb mostGreetings (length rows)) (refused Full)
     (cond (ltb size (held rows + length xs)) (refused NoRoom)
-    (leaves (fitted b rows size number xs))))))
+    (leaves (fitted b rows notes size law number xs)))))))
 
 -- "get (start and octets)"
-abbrev pub gotten : List ℕ → List Row → Row → After
-gotten b rows r = record { block = b; rows = rows; first = r .start; second = r .octets }
+abbrev pub gotten : List ℕ → List Row → List Note → Row → After
+gotten b rows notes r = record { block = b; rows = rows; notes = notes; first = r .start; second = r .octets }
 
 -- "NUMBER (15), .. ABSENT (17) on get and delete"
-unfoldable pub getIn : List ℕ → List Row → ℕ → Outcome
-getIn b rows number =
+unfoldable pub getIn : List ℕ → List Row → List Note → ℕ → Outcome
+getIn b rows notes number =
     cond (not (isNumber number)) (refused Number)
     (cond (absent number rows) (refused Absent)
-    (leaves (gotten b rows (nth (findFrom number 0 rows) rows))))
+    (leaves (gotten b rows notes (nth (findFrom number 0 rows) rows))))
 
 -- a delete writes nothing into the block, and tells nothing
-abbrev pub without : List ℕ → List Row → ℕ → After
-without b rows i = record { block = b; rows = removeAt i rows; first = 0; second = 0 }
+abbrev pub without : List ℕ → List Row → List Note → ℕ → After
+without b rows notes i = record { block = b; rows = removeAt i rows; notes = removeNote i notes; first = 0; second = 0 }
 
-unfoldable pub deleteIn : List ℕ → List Row → ℕ → Outcome
-deleteIn b rows number =
+unfoldable pub deleteIn : List ℕ → List Row → List Note → ℕ → Outcome
+deleteIn b rows notes number =
     cond (not (isNumber number)) (refused Number)
     (cond (absent number rows) (refused Absent)
-    (leaves (without b rows (findFrom number 0 rows))))
+    (leaves (without b rows notes (findFrom number 0 rows))))

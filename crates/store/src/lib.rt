@@ -1,21 +1,26 @@
 // A greeting store that fills its gaps (document 02, R-6): greetings in a lent block, with a lent table; put, get and delete.
+// With each greeting go its law, its samples and its marks (R-8).
 // What each call answers and leaves stands in specs/Calls.
 ghost use mathlib.Core.Path.{_≡_};
 ghost use Prim.Native.Nat.{_+_, _^_, _≤_, _<_};
 ghost use lib.ListN.{length, getD};
-ghost use Rattle.rows.specs.Rows.{rowOf, held as heldBy};
-ghost use Rattle.rows.specs.Cells.{rowsOf, laid};
-ghost use Rattle.rows.specs.Sane.{Ordered};
-ghost use Rattle.rows.specs.Changed.{insertAt, written};
-ghost use Rattle.store.specs.Store.{leaves, fitted, putIn};
-ghost use Rattle.store.specs.Calls.{refusalNumber, numberOf, firstOf, secondOf, Says, Put, Get, Delete};
-ghost use Rattle.store.specs.Looking.{lookOf, Looked};
+ghost use Rattle.rows.specs.Rows.{held as heldBy};
+ghost use Rattle.rows.specs.Cells.{rowsOf};
+ghost use Rattle.marks.specs.Marks.{noteOf};
+ghost use Rattle.notes.specs.Sane.{Noted};
+ghost use Rattle.notes.specs.Changed.{noteIn};
+ghost use Rattle.store.specs.Calls.{refusalNumber, numberOf, firstOf, secondOf, Put, Get, Delete};
+ghost use Rattle.store.specs.Looking.{lookOf, Looked, longOf, Small, PutsIn, FitsIn, PlacedAt};
+ghost use mathlib.Core.Bool.{false};
+ghost use Rattle.greetings.specs.Bad.{isBad};
+use marks::Tally;
 use rows::Gap;
 use rows::Row;
 
 // "Refusals, in order"; TABLE (26) comes first, and ROOM (4) is saving's.
 pub enum Refusal {
     Room,
+    Law,
     Number,
     Taken,
     Absent,
@@ -31,10 +36,17 @@ pub enum Answer {
     Refused(Refusal),
 }
 
-// What is judged first: a refusal, or how many greetings there are and the number's place among them.
+// What is judged after the table: a refusal, or how many greetings there are and the number's place among them.
 pub enum Look {
     Stop(Refusal),
     Found(usize, usize),
+}
+
+// A greeting's law and samples, and how many marks it has.
+pub struct Sound {
+    pub law: usize,
+    pub samples: usize,
+    pub marks: usize,
 }
 
 pub fn refusal_number(why: Refusal) -> u32
@@ -42,6 +54,7 @@ pub fn refusal_number(why: Refusal) -> u32
 {
     match why {
         Refusal::Room => 4,
+        Refusal::Law => 12,
         Refusal::Number => 15,
         Refusal::Taken => 16,
         Refusal::Absent => 17,
@@ -81,13 +94,11 @@ pub fn second_of(a: Answer) -> usize
     }
 }
 
-// What all calls judge first: TABLE, NUMBER.
+// What all calls judge after the table: NUMBER.
 fn judge(table: &[u32], size: usize, number: usize) -> Look
-    ensures { λ r. ⌜ r ≡ lookOf size (now (table .entry)) number ⌝ }
+    requires { ⌜ Noted size (now table) ⌝ }
+    ensures { λ r. ⌜ r ≡ lookOf (now (table .entry)) number ⌝ }
 {
-    if !rows::sane(table, size) {
-        return Look::Stop(Refusal::Table);
-    }
     if number < 1 {
         return Look::Stop(Refusal::Number);
     }
@@ -110,7 +121,7 @@ fn place(
 )
     requires { ⌜ (n ≡ getD (now table) 0 0) × (n ≤ 31) × (i ≤ n) × (97 ≤ length (now table)) × (number < 2 ^ 32) ⌝ }
     requires { ⌜ (at + length (now octets) ≤ length (now block)) × (at + length (now octets) < 2 ^ 32) ⌝ }
-    ensures { λ _. ⌜ (now (block .exit) ≡ written (now (block .entry)) at (now (octets .entry))) × (now (table .exit) ≡ laid (insertAt i (rowOf number at (length (now (octets .entry)))) (rowsOf (now (table .entry)))) (now (table .entry))) ⌝ }
+    ensures { λ _. ⌜ PlacedAt i at number (now (octets .entry)) (now (block .entry)) (now (table .entry)) (now (block .exit)) (now (table .exit)) ⌝ }
 {
     let len = octets.len();
     placing::copy(block, at, octets);
@@ -127,6 +138,7 @@ fn place(
 }
 
 // "A put takes the lowest gap that holds it; if none does, all greetings first close up from 0 in their order." Behind them there is room then.
+// Its note stands among the notes where its row stands among the rows.
 fn fit(
     block: &mut [u8],
     table: &mut [u32],
@@ -135,26 +147,45 @@ fn fit(
     number: usize,
     octets: &[u8],
     behind: usize,
+    sound: Sound,
+    marks: &[u32],
 ) -> Answer
-    requires { ⌜ (n ≡ getD (now table) 0 0) × (n ≤ 31) × (number < 2 ^ 32) × (size ≤ length (now block)) × (size < 2 ^ 32) ⌝ }
-    requires { ⌜ Ordered size (now table) × (behind ≡ heldBy (rowsOf (now table))) × (behind + length (now octets) ≤ size) ⌝ }
-    ensures { λ r. ⌜ Says (leaves (fitted (now (block .entry)) (rowsOf (now (table .entry))) size number (now (octets .entry)))) (now (block .entry)) (now (table .entry)) (now (block .exit)) (now (table .exit)) r ⌝ }
+    requires { ⌜ (n ≡ getD (now table) 0 0) × (n ≤ 31) × (number < 2 ^ 32) × (size ≤ length (now block)) × (size ≤ 16384) ⌝ }
+    requires { ⌜ Noted size (now table) × (behind ≡ heldBy (rowsOf (now table))) × (behind + length (now octets) ≤ size) ⌝ }
+    requires { ⌜ Small (sound .law) (sound .samples) (sound .marks) (now octets) (now marks) ⌝ }
+    requires { ⌜ noteIn (sound .law) (sound .samples) (sound .marks) (now marks) ≡ noteOf (sound .law) (now octets) ⌝ }
+    ensures { λ r. ⌜ FitsIn size (sound .law) number (now (octets .entry)) (now (block .entry)) (now (table .entry)) (now (block .exit)) (now (table .exit)) r ⌝ }
 {
     match rows::lowest_gap(table, n, size, octets.len()) {
         Gap::At(i, at) => {
             place(block, table, n, i, at, number, octets);
+            notes::put_note(table, n, i, sound.law, sound.samples, marks, sound.marks);
             Answer::Done(at, 0)
         }
         Gap::Nowhere => {
             let moved = closing::close_up(block, table, size);
             place(block, table, n, n, behind, number, octets);
+            notes::put_note(table, n, n, sound.law, sound.samples, marks, sound.marks);
             Answer::Done(behind, moved)
         }
     }
 }
 
-// What is left to judge of a put: TAKEN, BAD, FULL, NOROOM.
-fn put_among(
+// A greeting longer than the block: BAD, FULL or NOROOM. Its marks are not kept.
+fn over_long(n: usize, octets: &[u8], law: u32) -> Refusal
+    ensures { λ r. ⌜ r ≡ longOf n law (now (octets .entry)) ⌝ }
+{
+    if greetings::is_bad(octets, law) {
+        return Refusal::Bad;
+    }
+    if rows::MOST_GREETINGS <= n {
+        return Refusal::Full;
+    }
+    Refusal::NoRoom
+}
+
+// What is left to judge of a greeting that the walk accepts: FULL, NOROOM.
+fn put_sound(
     block: &mut [u8],
     table: &mut [u32],
     size: usize,
@@ -162,17 +193,15 @@ fn put_among(
     i: usize,
     number: usize,
     octets: &[u8],
+    sound: Sound,
+    marks: &[u32],
 ) -> Answer
-    requires { ⌜ Looked size (now table) number n i ⌝ }
-    requires { ⌜ (size ≤ length (now block)) × (size < 2 ^ 32) × (number ≤ 65535) ⌝ }
-    ensures { λ r. ⌜ Says (putIn (now (block .entry)) size (rowsOf (now (table .entry))) number (now (octets .entry))) (now (block .entry)) (now (table .entry)) (now (block .exit)) (now (table .exit)) r ⌝ }
+    requires { ⌜ Looked size (now table) number n i × (n ≤ i) × (isBad (sound .law) (now octets) ≡ false) ⌝ }
+    requires { ⌜ (size ≤ length (now block)) × (size ≤ 16384) × (number ≤ 65535) × (length (now octets) ≤ size) ⌝ }
+    requires { ⌜ Small (sound .law) (sound .samples) (sound .marks) (now octets) (now marks) ⌝ }
+    requires { ⌜ noteIn (sound .law) (sound .samples) (sound .marks) (now marks) ≡ noteOf (sound .law) (now octets) ⌝ }
+    ensures { λ r. ⌜ PutsIn size (sound .law) number (now (octets .entry)) (now (block .entry)) (now (table .entry)) (now (block .exit)) (now (table .exit)) r ⌝ }
 {
-    if i < n {
-        return Answer::Refused(Refusal::Taken);
-    }
-    if greetings::is_bad(octets) {
-        return Answer::Refused(Refusal::Bad);
-    }
     if rows::MOST_GREETINGS <= n {
         return Answer::Refused(Refusal::Full);
     }
@@ -180,18 +209,66 @@ fn put_among(
     if size - behind < octets.len() {
         return Answer::Refused(Refusal::NoRoom);
     }
-    fit(block, table, n, size, number, octets, behind)
+    fit(block, table, n, size, number, octets, behind, sound, marks)
 }
 
-// "Put": TABLE, NUMBER, TAKEN, BAD, FULL, NOROOM; the start, and the octets moved.
-pub fn put(block: &mut [u8], table: &mut [u32], number: u32, octets: &[u8]) -> Answer
-    ensures { λ r. ⌜ Put number (now (octets .entry)) (now (block .entry)) (now (table .entry)) (now (block .exit)) (now (table .exit)) r ⌝ }
+// What is left to judge of a put: TAKEN, BAD, FULL, NOROOM. The walk is made once, and its marks are taken as it goes; nothing is lent to it.
+fn put_among(
+    block: &mut [u8],
+    table: &mut [u32],
+    size: usize,
+    n: usize,
+    i: usize,
+    law: u32,
+    number: usize,
+    octets: &[u8],
+) -> Answer
+    requires { ⌜ Looked size (now table) number n i ⌝ }
+    requires { ⌜ (size ≤ length (now block)) × (size ≤ 16384) × (law ≤ 1) × (number ≤ 65535) ⌝ }
+    ensures { λ r. ⌜ PutsIn size law number (now (octets .entry)) (now (block .entry)) (now (table .entry)) (now (block .exit)) (now (table .exit)) r ⌝ }
+{
+    if i < n {
+        return Answer::Refused(Refusal::Taken);
+    }
+    if size < octets.len() {
+        return Answer::Refused(over_long(n, octets, law));
+    }
+    let mut marks = [0u32; 514];
+    match marks::take(octets, law, &mut marks) {
+        Tally::Wrong => Answer::Refused(Refusal::Bad),
+        Tally::Counted(samples, m) => put_sound(
+            block,
+            table,
+            size,
+            n,
+            i,
+            number,
+            octets,
+            Sound {
+                law: rows::wide(law),
+                samples: samples,
+                marks: m,
+            },
+            &marks,
+        ),
+    }
+}
+
+// "Put": TABLE, LAW, NUMBER, TAKEN, BAD, FULL, NOROOM; the start, and the octets moved.
+pub fn put(block: &mut [u8], table: &mut [u32], law: u32, number: u32, octets: &[u8]) -> Answer
+    ensures { λ r. ⌜ Put law number (now (octets .entry)) (now (block .entry)) (now (table .entry)) (now (block .exit)) (now (table .exit)) r ⌝ }
 {
     let size = rows::size_of(block.len());
+    if !notes::sane(table, size) {
+        return Answer::Refused(Refusal::Table);
+    }
+    if rules::MOST_LAW < law {
+        return Answer::Refused(Refusal::Law);
+    }
     let x = rows::wide(number);
     match judge(table, size, x) {
         Look::Stop(why) => Answer::Refused(why),
-        Look::Found(n, i) => put_among(block, table, size, n, i, x, octets),
+        Look::Found(n, i) => put_among(block, table, size, n, i, law, x, octets),
     }
 }
 
@@ -200,6 +277,9 @@ pub fn get(block: &[u8], table: &[u32], number: u32) -> Answer
     ensures { λ r. ⌜ Get number (now (block .entry)) (now (table .entry)) r ⌝ }
 {
     let size = rows::size_of(block.len());
+    if !notes::sane(table, size) {
+        return Answer::Refused(Refusal::Table);
+    }
     match judge(table, size, rows::wide(number)) {
         Look::Stop(why) => Answer::Refused(why),
         Look::Found(n, i) => {
@@ -212,11 +292,14 @@ pub fn get(block: &[u8], table: &[u32], number: u32) -> Answer
     }
 }
 
-// "Delete": TABLE, NUMBER, ABSENT.
+// "Delete": TABLE, NUMBER, ABSENT. Its note goes with it, and the marks behind close up.
 pub fn delete(block: &[u8], table: &mut [u32], number: u32) -> Answer
     ensures { λ r. ⌜ Delete number (now (block .entry)) (now (table .entry)) (now (table .exit)) r ⌝ }
 {
     let size = rows::size_of(block.len());
+    if !notes::sane(table, size) {
+        return Answer::Refused(Refusal::Table);
+    }
     match judge(table, size, rows::wide(number)) {
         Look::Stop(why) => Answer::Refused(why),
         Look::Found(n, i) => {
@@ -224,6 +307,7 @@ pub fn delete(block: &[u8], table: &mut [u32], number: u32) -> Answer
                 return Answer::Refused(Refusal::Absent);
             }
             placing::remove(table, n, i);
+            notes::drop_note(table, n, i);
             Answer::Done(0, 0)
         }
     }

@@ -9,7 +9,7 @@ use lib.Dec.{leb}
 use borrow.Author.Tests.{le-leb, lt-leb, leb-true}
 use Rattle.rows.specs.declared.Row.{Row}
 use Rattle.rows.specs.Rows.{rowOf}
-use Rattle.keyvalue.specs.Reading.{Read, whole, none, andThen, begins}
+use Rattle.keyvalue.specs.Reading.{whole, none, andThen, begins}
 use Rattle.keyvalue.specs.Lines.{lineOf, line, ranged}
 use Rattle.keyvalue.proofs.Exact.{Back, back-bind, back-last, back-ranged, onward, Stands, chain, got-value, got-place, ranged-only, through, passed}
 use Rattle.tables.specs.Table.{promptWord, startWord, octetsWord, row, rowsFrom, tableIn, rowText, tableText}
@@ -21,18 +21,18 @@ pub record Sayable (r : Row) : Type 0 where
   pub start : r .start ≤ 65535
   pub octets : r .octets ≤ 65535
 
-abbrev pub Each : (Row → Type 0) → List Row → Type 0
+abbrev pub Each : {A : Type 0} → (A → Type 0) → List A → Type 0
 Each p [] = Unit {0}
-Each p (r ∷ rows) = p r × Each p rows
+Each p (x ∷ xs) = p x × Each p xs
 
-row-back : (r : Row) → Sayable r → Back row (rowText r) r
+pub row-back : (r : Row) → Sayable r → Back row (rowText r) r
 unfolding row rowText
 row-back r h =
     back-bind (ranged promptWord 1 65535) _ (back-ranged promptWord 1 65535 (r .number) (omega (arith, h .most)) (h .least) (h .most))
     (back-bind (ranged startWord 0 65535) _ (back-ranged startWord 0 65535 (r .start) (omega (arith, h .start)) (omega arith) (h .start))
     (back-last (ranged octetsWord 0 65535) _ (back-ranged octetsWord 0 65535 (r .octets) (omega (arith, h .octets)) (omega arith) (h .octets))))
 
-row-some : (r : Row) (rest : List ℕ) → 1 ≤ length (rowText r ++ rest)
+pub row-some : (r : Row) (rest : List ℕ) → 1 ≤ length (rowText r ++ rest)
 unfolding rowText lineOf
 row-some r rest = omega arith
 
@@ -71,7 +71,8 @@ row-same text p s o i x y z a b c =
     let u = ranged-only octetsWord 0 65535 text y o z (omega arith) c in
     (record { least = q .least; most = q .most; start = t .most; octets = u .most }, chain (q .says) (chain (t .says) (u .says)))
 
-row-as : {text : List ℕ} {r q : Row} {i j k : ℕ} → r ≡ q → j ≡ k → (Sayable r) × (Stands text i (rowText r) j) → (Sayable q) × (Stands text i (rowText q) k)
+row-as : {text : List ℕ} {r q : Row} {i j k : ℕ} → r ≡ q → j ≡ k → (Sayable r) × (Stands text i (rowText r) j)
+    → (Sayable q) × (Stands text i (rowText q) k)
 row-as m n h = rw (← m, ← n) h
 
 row-only : (text : List ℕ) (i : ℕ) (r : Row) (j : ℕ) → row text i ≡ whole r j → (Sayable r) × (Stands text i (rowText r) j)
@@ -117,7 +118,8 @@ rows-only zero done text i rows j e =
     none-more (leb-true (length text) i (o .0)) (o .1)
 rows-only (suc more) done text i rows j e = go (leb (length text) i) refl e (λ r k. rows-only more (done ++ (r ∷ [])) text k rows j)
   where
-    go : (t : Bool) → leb (length text) i ≡ t → cond t (whole done i) (andThen (row text i) (λ r j. rowsFrom more (done ++ (r ∷ [])) text j)) ≡ whole rows j
+    go : (t : Bool) → leb (length text) i ≡ t
+        → cond t (whole done i) (andThen (row text i) (λ r j. rowsFrom more (done ++ (r ∷ [])) text j)) ≡ whole rows j
         → ((r : Row) (k : ℕ) → rowsFrom more (done ++ (r ∷ [])) text k ≡ whole rows j → More (done ++ (r ∷ [])) text k more rows)
         → More done text i (suc more) rows
     go true h e ih = none-more (leb-true (length text) i h) e

@@ -1,7 +1,12 @@
 -- Laws of the text of a store's table.
---   Exact: a table that is written is read back (`table-back`), and no other text is read so (`table-only`).
---   Lines: a greeting's three lines in the code's steps.     Reading: a text read into cells.     Writing: the text put, greeting by greeting.
+--   Exact: a table of R-6's lines that is written is read back (`table-back`), and no other text is read so (`table-only`).
+--   Noted: R-8's lines that are written are read back (`noted-back`), and no text with a greeting is of both kinds.
+--   Lines: a greeting's lines in the code's steps.     Marks: its samples and marks, passed over and compared.
+--   Reading, Noting: a text read into cells, of R-6's lines and of R-8's.     Writing: the text put, greeting by greeting.
 pub mod Lines
 pub mod Exact
+pub mod Marks
 pub mod Reading
+pub mod Noting
+pub mod Noted
 pub mod Writing

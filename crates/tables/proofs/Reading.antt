@@ -1,8 +1,7 @@
 -- A text read into a lent table, greeting by greeting (Stand).
-use Prim.Native.Nat.{ℕ, zero, suc, _+_, _*_, _-_, _≤_, _<_}
+use Prim.Native.Nat.{ℕ, suc, _+_, _*_, _-_, _≤_, _<_}
 use mathlib.Core.Path.{_≡_, refl, sym, ap, _∙_}
 use mathlib.Core.List.{List, [], _∷_, _++_, append-assoc, append-nil}
-use mathlib.Core.Bool.{Bool, true, false, cond}
 use native.Mathlib.Omega.{arith}
 use lib.ListN.{length, take, drop, set, length-set, length-append, take-append-drop}
 use lib.Seq.{take-suc-set, drop-set-lt, drop-drop}
@@ -10,7 +9,6 @@ use borrow.Author.Tests.{lt-leb}
 use Rattle.rows.specs.declared.Row.{Row}
 use Rattle.rows.specs.Cells.{cellsOf, laid}
 use Rattle.keyvalue.specs.Reading.{Read, whole, none, andThen}
-use Rattle.tables.specs.declared.Count.{Count}
 use Rattle.tables.specs.declared.Count.the-variants.{Greetings, Wrong}
 use Rattle.tables.specs.Table.{row, rowsFrom, tableIn}
 use Rattle.tables.specs.Fills.{PutsRow, Fills}
@@ -18,7 +16,8 @@ use Rattle.rows.proofs.Cells.{cells-snoc}
 use Rattle.tables.proofs.Exact.{ending}
 
 -- three cells stored one after another
-pub three-cells : (l : List ℕ) (i a b c : ℕ) → i + 3 ≤ length l → take (i + 3) (set (set (set l i a) (i + 1) b) (i + 2) c) ≡ take i l ++ (a ∷ b ∷ c ∷ [])
+pub three-cells : (l : List ℕ) (i a b c : ℕ) → i + 3 ≤ length l
+    → take (i + 3) (set (set (set l i a) (i + 1) b) (i + 2) c) ≡ take i l ++ (a ∷ b ∷ c ∷ [])
 three-cells l i a b c h =
     let x : i + 3 ≡ suc (i + 2) = omega arith in
     let y : i + 2 ≡ suc (i + 1) = omega arith in
@@ -45,46 +44,63 @@ three-rest l i a b c =
 later : (a b : List ℕ) (m n : ℕ) → drop m a ≡ drop m b → drop (m + n) a ≡ drop (m + n) b
 later a b m n e = sym (drop-drop n m a) ∙ ap (drop n) e ∙ drop-drop n m b
 
--- where the reading stands: the greetings that are done stand in the cells behind the first, and what is left of the reading is all of it
+-- rows that are done stand in the cells behind the first
+pub record Rowed (cells₀ cells : List ℕ) (done : List Row) (k : ℕ) : Type 0 where
+  pub filled : take (1 + 3 * k) cells ≡ take 1 cells₀ ++ cellsOf done
+  pub rest : drop (1 + 3 * k) cells ≡ drop (1 + 3 * k) cells₀
+
+pub rowed-first : (cells : List ℕ) → Rowed cells cells [] 0
+unfolding cellsOf
+rowed-first cells = record { filled = sym (append-nil (take 1 cells)); rest = refl }
+
+pub rowed-turn : {cells₀ cells cells′ : List ℕ} {done : List Row} {k : ℕ} {r : Row} → Rowed cells₀ cells done k → PutsRow r (1 + 3 * k) cells cells′
+    → Rowed cells₀ cells′ (done ++ (r ∷ [])) (k + 1)
+rowed-turn {cells₀} {cells} {cells′} {done} {k} {r} s p =
+    let m : 1 + 3 * (k + 1) ≡ 1 + 3 * k + 3 = omega arith in
+    record {
+      filled =
+          rw m (p .says ∙ rw (s .filled, cells-snoc done r) (append-assoc (take 1 cells₀) (cellsOf done) (r .number ∷ r .start ∷ r .octets ∷ [])));
+      rest = rw m (p .rest ∙ later cells cells₀ (1 + 3 * k) 3 (s .rest));
+    }
+
+first-set : (x k : ℕ) (cells a b : List ℕ) → cells ≡ (x ∷ a) ++ b → set cells 0 k ≡ (k ∷ a) ++ b
+first-set x k cells a b e = ap (λ (l : List ℕ). set l 0 k) e
+
+-- the count goes into the first cell
+pub rowed-laid : {cells : List ℕ} {done : List Row} {k : ℕ} (cells₀ : List ℕ) → 1 ≤ length cells₀ → length done ≡ k → Rowed cells₀ cells done k
+    → set cells 0 k ≡ laid done cells₀
+unfolding laid
+rowed-laid [] l n s = absurd (omega arith)
+rowed-laid {cells} {done} {k} (x ∷ t) l n s =
+    let c : cells ≡ (x ∷ cellsOf done) ++ drop (1 + 3 * k) (x ∷ t) = sym (take-append-drop (1 + 3 * k) cells) ∙ rw (s .filled, s .rest) in
+    rw n (first-set x k cells (cellsOf done) (drop (1 + 3 * k) (x ∷ t)) c)
+
+-- where the reading stands: what is left of it is all of it
 pub record Stand (text cells₀ cells : List ℕ) (k at : ℕ) : Type 0 where
   pub done : List Row
   pub count : length done ≡ k
   pub few : k ≤ 32
   pub left : tableIn text ≡ rowsFrom (32 - k) done text at
-  pub filled : take (1 + 3 * k) cells ≡ take 1 cells₀ ++ cellsOf done
-  pub rest : drop (1 + 3 * k) cells ≡ drop (1 + 3 * k) cells₀
+  pub rows : Rowed cells₀ cells done k
 
 pub stand-first : (text cells : List ℕ) → Stand text cells cells 0 0
-unfolding cellsOf
-stand-first text cells =
-    record { done = []; count = refl; few = omega arith; left = refl; filled = sym (append-nil (take 1 cells)); rest = refl }
+stand-first text cells = record { done = []; count = refl; few = omega arith; left = refl; rows = rowed-first cells }
 
-no-count : {n : ℕ} → Wrong ≡ Greetings n → n ≤ 32
+pub no-count : {n : ℕ} → Wrong ≡ Greetings n → n ≤ 32
 no-count q = let z : _≡_ {A = ℕ} 0 1 = cc in absurd (omega arith)
-
-first-set : (x k : ℕ) (cells a b : List ℕ) → cells ≡ (x ∷ a) ++ b → set cells 0 k ≡ (k ∷ a) ++ b
-first-set x k cells a b e = ap (λ (l : List ℕ). set l 0 k) e
 
 wrong : {found : Read (List Row)} → found ≡ none → (cells cells′ : List ℕ) → Fills found cells cells′ Wrong
 wrong e cells cells′ = rw e (record { count = refl; filled = tt; few = λ n q. no-count q })
 
--- the count goes into the first cell
-filled-whole : {text cells : List ℕ} {k at : ℕ} (cells₀ : List ℕ) → 1 ≤ length cells₀ → (s : Stand text cells₀ cells k at) → length text ≤ at
-    → Fills (tableIn text) cells₀ (set cells 0 k) (Greetings k)
-unfolding laid
-filled-whole [] l s h = absurd (omega arith)
-filled-whole {text} {cells} {k} {at} (x ∷ t) l s h =
-    let e : tableIn text ≡ whole (s .done) at = s .left ∙ ending (32 - k) (s .done) text at h in
-    let c : cells ≡ (x ∷ cellsOf (s .done)) ++ drop (1 + 3 * k) (x ∷ t) = sym (take-append-drop (1 + 3 * k) cells) ∙ rw (s .filled, s .rest) in
-    rw e (record {
-      count = ap Greetings (sym (s .count));
-      filled = rw (s .count) (first-set x k cells (cellsOf (s .done)) (drop (1 + 3 * k) (x ∷ t)) c);
-      few = λ n q. let z : k ≡ n = cc in let f = s .few in omega arith;
-    })
-
 module _ {text cells₀ cells : List ℕ} {k at : ℕ} (s : Stand text cells₀ cells k at) where
   pub stand-end : 97 ≤ length cells₀ → length text ≤ at → Fills (tableIn text) cells₀ (set cells 0 k) (Greetings k)
-  stand-end l h = filled-whole cells₀ (omega arith) s h
+  stand-end l h =
+      let e : tableIn text ≡ whole (s .done) at = s .left ∙ ending (32 - k) (s .done) text at h in
+      rw e (record {
+        count = ap Greetings (sym (s .count));
+        filled = rowed-laid cells₀ (omega arith) (s .count) (s .rows);
+        few = λ n q. let z : k ≡ n = cc in let f = s .few in omega arith;
+      })
 
   pub stand-full : (cells′ : List ℕ) → at < length text → k ≡ 32 → Fills (tableIn text) cells₀ cells′ Wrong
   unfolding rowsFrom
@@ -100,16 +116,13 @@ module _ {text cells₀ cells : List ℕ} {k at : ℕ} (s : Stand text cells₀ 
     pub stand-none : (cells′ : List ℕ) → none ≡ row text at → Fills (tableIn text) cells₀ cells′ Wrong
     stand-none cells′ e = wrong (s .left ∙ step ∙ rw (← e)) cells₀ cells′
 
-    pub stand-turn : {cells′ : List ℕ} {r : Row} {j : ℕ} → whole r j ≡ row text at → PutsRow r (1 + 3 * k) cells cells′ → Stand text cells₀ cells′ (k + 1) j
+    pub stand-turn : {cells′ : List ℕ} {r : Row} {j : ℕ} → whole r j ≡ row text at → PutsRow r (1 + 3 * k) cells cells′
+        → Stand text cells₀ cells′ (k + 1) j
     stand-turn {cells′} {r} {j} e p =
-        let m : 1 + 3 * (k + 1) ≡ 1 + 3 * k + 3 = omega arith in
         record {
           done = s .done ++ (r ∷ []);
           count = length-append (s .done) (r ∷ []) ∙ ap (λ (n : ℕ). n + 1) (s .count);
           few = let f = s .few in omega arith;
           left = s .left ∙ step ∙ rw (← e);
-          filled =
-              rw m (p .says ∙ rw (s .filled, cells-snoc (s .done) r)
-              (append-assoc (take 1 cells₀) (cellsOf (s .done)) (r .number ∷ r .start ∷ r .octets ∷ [])));
-          rest = rw m (p .rest ∙ later cells cells₀ (1 + 3 * k) 3 (s .rest));
+          rows = rowed-turn (s .rows) p;
         }

@@ -11,6 +11,7 @@ use Rattle.tables.specs.declared.Line.{Line}
 use Rattle.tables.specs.declared.Line.the-variants.{Here, Nothing}
 use Rattle.tables.specs.declared.Count.{Count}
 use Rattle.tables.specs.declared.Count.the-variants.{Greetings, Wrong}
+use Rattle.tables.specs.Noted.{Listed, rowsListed}
 
 abbrev pub asRow : Line → Read Row
 asRow (Here number start octets next) = whole (rowOf number start octets) next
@@ -33,4 +34,22 @@ Filled none cells cells′ = Unit {0}
 pub record Fills (found : Read (List Row)) (cells cells′ : List ℕ) (r : Count) : Type 0 where
   pub count : r ≡ countOf found
   pub filled : Filled found cells cells′
+  pub few : (n : ℕ) → r ≡ Greetings n → n ≤ 32
+
+-- the same of R-8's lines, with the laws
+unfoldable pub lawsListed : List Listed → List ℕ
+lawsListed [] = []
+lawsListed (x ∷ xs) = x .note .law ∷ lawsListed xs
+
+abbrev pub countNoted : Read (List Listed) → Count
+countNoted (whole xs i) = Greetings (length xs)
+countNoted none = Wrong
+
+abbrev pub FilledNoted : Read (List Listed) → List ℕ → List ℕ → List ℕ → List ℕ → Type 0
+FilledNoted (whole xs i) cells cells′ laws laws′ = (cells′ ≡ laid (rowsListed xs) cells) × (laws′ ≡ lawsListed xs ++ drop (length xs) laws)
+FilledNoted none cells cells′ laws laws′ = Unit {0}
+
+pub record FillsNoted (found : Read (List Listed)) (cells cells′ laws laws′ : List ℕ) (r : Count) : Type 0 where
+  pub count : r ≡ countNoted found
+  pub filled : FilledNoted found cells cells′ laws laws′
   pub few : (n : ℕ) → r ≡ Greetings n → n ≤ 32

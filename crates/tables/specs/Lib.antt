@@ -1,4 +1,9 @@
--- Document 02, R-6: the text of a store's table.
---   Table: three lines for each greeting, as they are written and as they are read.     Fills: a text read into a lent table.
+-- Document 02, R-6 and R-8: the text of a store's table.
+--   Table: R-6's three lines for each greeting, as they are written and as they are read.     Fills: a text read into a lent table.
+--   Noted: R-8's lines: the same three, its law, its samples and its marks.
+--   Passing: R-8's lines in the code's steps, passed over and compared.     Held: the greetings of a lent table, to be written.
 pub mod Table
+pub mod Noted
 pub mod Fills
+pub mod Passing
+pub mod Held

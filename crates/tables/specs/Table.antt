@@ -9,7 +9,7 @@ use lib.Dec.{leb}
 use Rattle.rows.specs.declared.Row.{Row}
 use Rattle.rows.specs.Limits.{mostGreetings, mostNumber}
 use Rattle.rows.specs.Rows.{rowOf}
-use Rattle.keyvalue.specs.Reading.{Read, whole, none, Reader, andThen, _>>=_, give, ended}
+use Rattle.keyvalue.specs.Reading.{Read, whole, Reader, andThen, _>>=_, give, ended}
 use Rattle.keyvalue.specs.Lines.{lineOf, ranged}
 
 -- "prompt=", "start=", "octets="

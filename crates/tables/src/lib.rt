@@ -1,12 +1,17 @@
-// The text of a store's table (document 02, R-6): a greeting's three lines, written and read.
+// The text of a store's table (document 02, R-6 and R-8): R-6's lines read, R-8's written, read and compared.
 ghost use mathlib.Core.Path.{_≡_};
-ghost use Prim.Native.Nat.{_+_, _*_, _-_, _≤_};
-ghost use lib.ListN.{length};
+ghost use Prim.Native.Nat.{ℕ, _+_, _*_, _-_, _^_, _≤_, _<_};
+ghost use lib.ListN.{length, getD};
 ghost use Rattle.rows.specs.Rows.{rowOf};
-ghost use Rattle.rows.specs.Cells.{rowAt, rowsAt};
+ghost use Rattle.rows.specs.Cells.{rowAt};
+ghost use Rattle.keyvalue.specs.Reading.{asRead, capped, most};
 ghost use Rattle.lines.specs.Puts.{Puts};
-ghost use Rattle.tables.specs.Table.{row, tableIn, rowText, tableText};
-ghost use Rattle.tables.specs.Fills.{asRow, PutsRow, Fills};
+ghost use Rattle.notes.specs.Cells.{marksIn};
+ghost use Rattle.tables.specs.Table.{row, tableIn, rowText};
+ghost use Rattle.tables.specs.Noted.{markLine, markLines, listed, listedIn, markText, marksText, noteText, listedText};
+ghost use Rattle.tables.specs.Fills.{asRow, PutsRow, Fills, FillsNoted};
+ghost use Rattle.tables.specs.Passing.{headed, noted, headIn, asHead, numberThen, heldMark, asMark, nextOf, noteIs, marksAre};
+ghost use Rattle.tables.specs.Held.{markAt, noteAt, heldIn, heldOf, NoteIn, AllIn, TextIn};
 use keyvalue::Told;
 
 // A greeting's number, start and octets, and the next place; or the lines are not of this form.
@@ -19,6 +24,24 @@ pub enum Line {
 pub enum Count {
     Greetings(usize),
     Wrong,
+}
+
+// A greeting's number, start, octets and law, and the next place; or the lines are not of this form.
+pub enum Head {
+    Begun(u32, u32, u32, u32, usize),
+    Missing,
+}
+
+// A mark's octets and samples, and the next place; or the line is not of this form.
+pub enum Marked {
+    There(u32, u32, usize),
+    Unmarked,
+}
+
+// The next place; or the lines are not of this form.
+pub enum Next {
+    To(usize),
+    Astray,
 }
 
 // "for each greeting `prompt`, `start`, `octets`".
@@ -73,6 +96,170 @@ pub fn read_rows(text: &[u8], cells: &mut [u32]) -> Count
     Count::Greetings(k)
 }
 
+// "prompt", "start", "octets", and "law": what of a greeting's lines the first pass keeps. "A law above 1 .. is TABLE".
+pub fn head_at(text: &[u8], at: usize) -> Head
+    ensures { λ r. ⌜ asHead r ≡ headed (now (text .entry)) at ⌝ }
+{
+    match line_of(text, at) {
+        Line::Nothing => Head::Missing,
+        Line::Here(number, start, octets, a) => match keyvalue::ranged_line(
+            text,
+            a,
+            b"law=",
+            0,
+            1,
+        ) {
+            Told::Not => Head::Missing,
+            Told::Got(law, b) => Head::Begun(number, start, octets, law, b),
+        },
+    }
+}
+
+// A number, and a word after it.
+fn number_then(text: &[u8], at: usize, word: &[u8]) -> Told
+    ensures { λ r. ⌜ asRead r ≡ capped (numberThen (now (word .entry)) (now (text .entry)) at) ⌝ }
+{
+    match keyvalue::number_at(text, at) {
+        Told::Not => Told::Not,
+        Told::Got(n, end) => {
+            if !keyvalue::has_word(text, end, word) {
+                return Told::Not;
+            }
+            Told::Got(n, end + word.len())
+        }
+    }
+}
+
+// "one `mark` per mark, as octets, a comma and samples"; numbers of any number of digits.
+fn mark_at(text: &[u8], at: usize) -> Marked
+    ensures { λ r. ⌜ asMark r ≡ heldMark (markLine (now (text .entry)) at) ⌝ }
+{
+    if !keyvalue::has_word(text, at, b"mark=") {
+        return Marked::Unmarked;
+    }
+    match number_then(text, at + 5, b",") {
+        Told::Not => Marked::Unmarked,
+        Told::Got(octets, a) => match number_then(text, a, b"\n") {
+            Told::Not => Marked::Unmarked,
+            Told::Got(samples, b) => Marked::There(octets, samples, b),
+        },
+    }
+}
+
+// Past a greeting's marks, as many as there are.
+fn marks_past(text: &[u8], at: usize) -> Next
+    ensures { λ r. ⌜ r ≡ nextOf (markLines (now (text .entry)) at) ⌝ }
+{
+    let mut i = at;
+    while keyvalue::has_word(text, i, b"mark=") {
+        match mark_at(text, i) {
+            Marked::Unmarked => {
+                return Next::Astray;
+            }
+            Marked::There(_, _, next) => {
+                i = next;
+            }
+        }
+    }
+    Next::To(i)
+}
+
+// Past a greeting's samples and marks: what they say is judged when the whole table is read.
+fn note_past(text: &[u8], at: usize, law: u32) -> Next
+    ensures { λ r. ⌜ r ≡ nextOf (noted law (now (text .entry)) at) ⌝ }
+{
+    match keyvalue::line_at(text, at, b"samples=") {
+        Told::Not => Next::Astray,
+        Told::Got(_, a) => marks_past(text, a),
+    }
+}
+
+// A greeting's lines, of which its row and its law are kept.
+fn listed_at(text: &[u8], at: usize) -> Head
+    ensures { λ r. ⌜ asHead r ≡ headIn (listed (now (text .entry)) at) ⌝ }
+{
+    match head_at(text, at) {
+        Head::Missing => Head::Missing,
+        Head::Begun(number, start, octets, law, a) => match note_past(text, a, law) {
+            Next::Astray => Head::Missing,
+            Next::To(b) => Head::Begun(number, start, octets, law, b),
+        },
+    }
+}
+
+// The greetings that a text of R-8's lines lists, into a lent table, and their laws. What is refused leaves them in any state.
+pub fn read_noted(text: &[u8], cells: &mut [u32], laws: &mut [u32]) -> Count
+    requires { ⌜ (97 ≤ length (now cells)) × (32 ≤ length (now laws)) ⌝ }
+    ensures { λ r. ⌜ FillsNoted (listedIn (now (text .entry))) (now (cells .entry)) (now (cells .exit)) (now (laws .entry)) (now (laws .exit)) r ⌝ }
+{
+    let mut k = 0;
+    let mut at = 0;
+    while at < text.len() {
+        if k == 32 {
+            return Count::Wrong;
+        }
+        match listed_at(text, at) {
+            Head::Missing => {
+                return Count::Wrong;
+            }
+            Head::Begun(number, start, octets, law, next) => {
+                put_cells(cells, 1 + 3 * k, number, start, octets);
+                laws[k] = law;
+                k += 1;
+                at = next;
+            }
+        }
+    }
+    cells[0] = k as u32;
+    Count::Greetings(k)
+}
+
+// The marks of a text beside m marks in cells, one by one; the next place where they are the same. A cell of 4,294,967,295 would stand for more.
+fn marks_are(text: &[u8], at: usize, marks: &[u32], m: usize) -> Next
+    requires { ⌜ (2 * m ≤ length (now marks)) × ((j : ℕ) → j < 2 * m → getD (now marks) j 0 < most) ⌝ }
+    ensures { λ r. ⌜ r ≡ nextOf (marksAre (marksIn m (now (marks .entry))) (now (text .entry)) at) ⌝ }
+{
+    let mut i = at;
+    let mut j = 0;
+    while j < m {
+        match mark_at(text, i) {
+            Marked::Unmarked => {
+                return Next::Astray;
+            }
+            Marked::There(octets, samples, next) => {
+                if octets != marks[2 * j] {
+                    return Next::Astray;
+                }
+                if samples != marks[2 * j + 1] {
+                    return Next::Astray;
+                }
+                i = next;
+                j += 1;
+            }
+        }
+    }
+    if keyvalue::has_word(text, i, b"mark=") {
+        return Next::Astray;
+    }
+    Next::To(i)
+}
+
+// "samples or marks that the walk doesn't give": those of a text beside those that are given.
+pub fn note_is(text: &[u8], at: usize, samples: usize, marks: &[u32], m: usize) -> Next
+    requires { ⌜ (samples < most) × (2 * m ≤ length (now marks)) × ((j : ℕ) → j < 2 * m → getD (now marks) j 0 < most) ⌝ }
+    ensures { λ r. ⌜ r ≡ nextOf (noteIs samples (marksIn m (now (marks .entry))) (now (text .entry)) at) ⌝ }
+{
+    match keyvalue::line_at(text, at, b"samples=") {
+        Told::Not => Next::Astray,
+        Told::Got(n, a) => {
+            if rows::wide(n) != samples {
+                return Next::Astray;
+            }
+            marks_are(text, a, marks, m)
+        }
+    }
+}
+
 // How many octets a greeting's three lines are.
 fn row_octets(table: &[u32], k: usize) -> usize
     requires { ⌜ k + 3 ≤ length (now table) ⌝ }
@@ -85,21 +272,6 @@ fn row_octets(table: &[u32], k: usize) -> usize
     a + b + c
 }
 
-// How many octets the text of n greetings is.
-pub fn text_octets(table: &[u32], n: usize) -> usize
-    requires { ⌜ (n ≤ 32) × (97 ≤ length (now table)) ⌝ }
-    ensures { λ r. ⌜ r ≡ length (tableText (rowsAt (now (table .entry)) n 1)) ⌝ }
-{
-    let mut sum = 0;
-    let mut i = 0;
-    while i < n {
-        let more = row_octets(table, 1 + 3 * i);
-        sum += more;
-        i += 1;
-    }
-    sum
-}
-
 fn put_row(table: &[u32], k: usize, out: &mut [u8], at: usize) -> usize
     requires { ⌜ (k + 3 ≤ length (now table)) × (at + length (rowText (rowAt (now table) k)) ≤ length (now out)) ⌝ }
     ensures { λ r. ⌜ Puts (now (out .entry)) at (rowText (rowAt (now (table .entry)) k)) (now (out .exit)) r ⌝ }
@@ -109,16 +281,124 @@ fn put_row(table: &[u32], k: usize, out: &mut [u8], at: usize) -> usize
     keyvalue::put_line(b"octets=", table[k + 2], out, b)
 }
 
-// The text of n greetings, with room for just that; answers its octets.
-pub fn put_rows(table: &[u32], n: usize, out: &mut [u8]) -> usize
-    requires { ⌜ (n ≤ 32) × (97 ≤ length (now table)) × (length (tableText (rowsAt (now table) n 1)) ≤ length (now out)) ⌝ }
-    ensures { λ r. ⌜ Puts (now (out .entry)) 0 (tableText (rowsAt (now (table .entry)) n 1)) (now (out .exit)) r ⌝ }
+// How many octets a mark's line is.
+fn mark_octets(cells: &[u32], k: usize) -> usize
+    requires { ⌜ k + 2 ≤ length (now cells) ⌝ }
+    ensures { λ r. ⌜ r ≡ length (markText (markAt (now (cells .entry)) k)) ⌝ }
+    ensures most { λ r. ⌜ r ≤ 27 ⌝ }
 {
-    let mut at = 0;
+    let a = lines::digits(rows::wide(cells[k]));
+    let b = keyvalue::line_octets(b",", cells[k + 1]);
+    5 + a + b
+}
+
+fn put_mark(cells: &[u32], k: usize, out: &mut [u8], at: usize) -> usize
+    requires { ⌜ (k + 2 ≤ length (now cells)) × (at + length (markText (markAt (now cells) k)) ≤ length (now out)) ⌝ }
+    ensures { λ r. ⌜ Puts (now (out .entry)) at (markText (markAt (now (cells .entry)) k)) (now (out .exit)) r ⌝ }
+{
+    let a = lines::put_word(b"mark=", out, at);
+    let b = lines::put_number(rows::wide(cells[k]), out, a);
+    keyvalue::put_line(b",", cells[k + 1], out, b)
+}
+
+// How many octets the lines of m marks are.
+fn marks_octets(cells: &[u32], m: usize) -> usize
+    requires { ⌜ (2 * m ≤ length (now cells)) × (m < 2 ^ 32) ⌝ }
+    ensures { λ r. ⌜ r ≡ length (marksText (marksIn m (now (cells .entry)))) ⌝ }
+    ensures most { λ r. ⌜ r ≤ 27 * m ⌝ }
+{
+    let mut sum = 0;
+    let mut j = 0;
+    while j < m {
+        let more = mark_octets(cells, 2 * j);
+        sum += more;
+        j += 1;
+    }
+    sum
+}
+
+fn put_marks(cells: &[u32], m: usize, out: &mut [u8], at: usize) -> usize
+    requires { ⌜ (2 * m ≤ length (now cells)) × (m < 2 ^ 32) × (at + length (marksText (marksIn m (now cells))) ≤ length (now out)) ⌝ }
+    ensures { λ r. ⌜ Puts (now (out .entry)) at (marksText (marksIn m (now (cells .entry)))) (now (out .exit)) r ⌝ }
+{
+    let mut end = at;
+    let mut j = 0;
+    while j < m {
+        end = put_mark(cells, 2 * j, out, end);
+        j += 1;
+    }
+    end
+}
+
+// How many octets the lines of a law, samples and marks are.
+fn note_octets(heads: &[u32], k: usize, cells: &[u32]) -> usize
+    requires { ⌜ NoteIn (now heads) k (now cells) ⌝ }
+    ensures { λ r. ⌜ r ≡ length (noteText (noteAt (now (heads .entry)) k (now (cells .entry)))) ⌝ }
+    ensures most { λ r. ⌜ r ≤ 34 + 27 * 2 ^ 32 ⌝ }
+{
+    let a = keyvalue::line_octets(b"law=", heads[k]);
+    let b = keyvalue::line_octets(b"samples=", heads[k + 1]);
+    let c = marks_octets(cells, rows::wide(heads[k + 2]));
+    a + b + c
+}
+
+fn put_note(heads: &[u32], k: usize, cells: &[u32], out: &mut [u8], at: usize) -> usize
+    requires { ⌜ (NoteIn (now heads) k (now cells)) × (at + length (noteText (noteAt (now heads) k (now cells))) ≤ length (now out)) ⌝ }
+    ensures { λ r. ⌜ Puts (now (out .entry)) at (noteText (noteAt (now (heads .entry)) k (now (cells .entry)))) (now (out .exit)) r ⌝ }
+{
+    let a = keyvalue::put_line(b"law=", heads[k], out, at);
+    let b = keyvalue::put_line(b"samples=", heads[k + 1], out, a);
+    put_marks(cells, rows::wide(heads[k + 2]), out, b)
+}
+
+// The same for n greetings: their rows, their second list, and their marks one after another.
+fn octets_of(table: &[u32], heads: &[u32], marks: &[u32], n: usize) -> usize
+    requires { ⌜ AllIn (now table) (now heads) (now marks) n ⌝ }
+    ensures { λ r. ⌜ r ≡ length (listedText (heldIn (now (table .entry)) (now (heads .entry)) (now (marks .entry)) n)) ⌝ }
+{
+    let mut sum = 0;
+    let mut from = 0;
     let mut i = 0;
     while i < n {
-        at = put_row(table, 1 + 3 * i, out, at);
+        let k = 1 + 3 * i;
+        let row = row_octets(table, k);
+        let note = note_octets(heads, k, &marks[from..]);
+        sum += row + note;
+        from += 2 * rows::wide(heads[k + 2]);
+        i += 1;
+    }
+    sum
+}
+
+fn put_all(table: &[u32], heads: &[u32], marks: &[u32], n: usize, out: &mut [u8]) -> usize
+    requires { ⌜ (AllIn (now table) (now heads) (now marks) n) × (length (listedText (heldIn (now table) (now heads) (now marks) n)) ≤ length (now out)) ⌝ }
+    ensures { λ r. ⌜ Puts (now (out .entry)) 0 (listedText (heldIn (now (table .entry)) (now (heads .entry)) (now (marks .entry)) n)) (now (out .exit)) r ⌝ }
+{
+    let mut at = 0;
+    let mut from = 0;
+    let mut i = 0;
+    while i < n {
+        let k = 1 + 3 * i;
+        let a = put_row(table, k, out, at);
+        at = put_note(heads, k, &marks[from..], out, a);
+        from += 2 * rows::wide(heads[k + 2]);
         i += 1;
     }
     at
+}
+
+// How many octets the text of n greetings is.
+pub fn text_octets(table: &[u32], n: usize) -> usize
+    requires { ⌜ TextIn (now table) n ⌝ }
+    ensures { λ r. ⌜ r ≡ length (listedText (heldOf (now (table .entry)) n)) ⌝ }
+{
+    octets_of(table, &table[97..], &table[194..], n)
+}
+
+// The text of n greetings, with room for just that; answers its octets. Saving always writes R-8's lines.
+pub fn put_text(table: &[u32], n: usize, out: &mut [u8]) -> usize
+    requires { ⌜ (TextIn (now table) n) × (length (listedText (heldOf (now table) n)) ≤ length (now out)) ⌝ }
+    ensures { λ r. ⌜ Puts (now (out .entry)) 0 (listedText (heldOf (now (table .entry)) n)) (now (out .exit)) r ⌝ }
+{
+    put_all(table, &table[97..], &table[194..], n, out)
 }

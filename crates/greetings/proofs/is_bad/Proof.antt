@@ -1,5 +1,5 @@
 use native.Mathlib.Omega.{arith}
-use Rattle.greetings.proofs.Bad.{bad-empty, bad-long, bad-walked}
+use Rattle.greetings.proofs.Bad.{bad-empty, bad-law, bad-long, bad-walked}
 use borrow.Author.Needs.{needs}
 use Rattle.greetings.proofs.is_bad.Statement.{statement}
 use Rattle.greetings.proofs.is_bad.Tie as tie
@@ -9,10 +9,13 @@ use Rattle.greetings.proofs.is_done.Reads as is-done-reads
 use Rattle.walk.proofs.walk_on.Reads as walk-on-reads
 
 returns : tie.Need-returns
-returns c = bad-empty (c .before .before .args .octets .now) (omega arith)
+returns c = let s = c .before .before in bad-empty (s .args .law) (s .args .octets .now) (omega arith)
 
 returns-2 : tie.Need-returns-2
-returns-2 c = bad-long (c .before .before .before .args .octets .now) (omega arith) (omega arith)
+returns-2 c = let s = c .before .before .before in bad-law (s .args .law) (s .args .octets .now) (omega arith) (omega arith)
+
+returns-3 : tie.Need-returns-3
+returns-3 c = let s = c .before .before .before .before in bad-long (s .args .law) (s .args .octets .now) (omega arith) (omega arith) (omega arith)
 
 add-walk-on : tie.Need-add-walk-on
 add-walk-on c = search needs
@@ -26,8 +29,11 @@ walk-on-requires c κs = search needs
 is-done-requires : tie.Need-is-done-requires
 is-done-requires c κs = search needs
 
-returns-3 : tie.Need-returns-3
-returns-3 c = bad-walked (c .before .before .before .before .before .args .octets .now) (omega arith) (omega arith) (c .before .walk-on .ensures .end) (c .is-done .ensures)
+returns-4 : tie.Need-returns-4
+returns-4 c =
+    let s = c .before .before .before .before .before .before in
+    bad-walked (s .args .law) (s .args .octets .now) (omega arith) (omega arith) (omega arith) (c .before .walk-on .ensures .end)
+    (c .is-done .ensures)
 
 pub is-bad-spec : {M : Type 1} → statement M
 is-bad-spec =
@@ -35,8 +41,9 @@ is-bad-spec =
     (tie.spec
     returns
     returns-2
+    returns-3
     add-walk-on
     mul-walk-on
     walk-on-requires
     is-done-requires
-    returns-3)
+    returns-4)

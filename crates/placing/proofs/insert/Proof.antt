@@ -39,7 +39,9 @@ slice-write-table c = search needs
 
 same-length : tie.Need-same-length
 same-length c =
-    length-set (c .before .before .lay-row .last .0) 0 _ ∙ c .before .before .lay-row .kept .0 ∙ c .before .before .before .before .before .before .raise .kept .0
+    let lay-row = c .before .before in
+    let raise = lay-row .before .before .before .before in
+    length-set (lay-row .lay-row .last .0) 0 _ ∙ lay-row .lay-row .kept .0 ∙ raise .raise .kept .0
 
 returns : tie.Need-returns
 returns c =

@@ -8,10 +8,10 @@ use Rattle.placing.proofs.lower.Reads as reads
 use Rattle.placing.proofs.lower.Lts as lts
 
 abbrev Inv-loop : tie.InvT-loop
-Inv-loop table₀ at n i₀ table i = Shifting table₀ (at + 3) at n i table
+Inv-loop table₀ at by n i₀ table i = Shifting table₀ (at + by) at n i table
 
 abbrev μ-loop : tie.MeasureT-loop
-μ-loop table₀ at n i₀ table i = n - i
+μ-loop table₀ at by n i₀ table i = n - i
 
 loop-holds : tie.Need-loop-holds Inv-loop μ-loop
 loop-holds c = shift-none _ _ _ _

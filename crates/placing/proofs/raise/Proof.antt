@@ -7,13 +7,13 @@ use Rattle.placing.proofs.raise.Reads as reads
 use Rattle.placing.proofs.raise.Lts as lts
 
 abbrev Inv-loop : tie.InvT-loop
-Inv-loop table₀ at n j₀ table j = Raising table₀ at n j table
+Inv-loop table₀ at n by j₀ table j = Raising table₀ by at n j table
 
 abbrev μ-loop : tie.MeasureT-loop
-μ-loop table₀ at n j₀ table j = j
+μ-loop table₀ at n by j₀ table j = j
 
 loop-holds : tie.Need-loop-holds Inv-loop μ-loop
-loop-holds c = raise-none _ _ _ (omega arith)
+loop-holds c = raise-none _ _ _ _ (omega arith)
 
 sub-j : tie.Need-sub-j Inv-loop μ-loop
 sub-j c = search needs

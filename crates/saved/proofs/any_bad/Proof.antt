@@ -1,24 +1,28 @@
 -- Greeting by greeting (Bad).
-use Prim.Native.Nat.{_+_, _*_, _-_, _≤_}
+use Prim.Native.Nat.{_-_, _≤_}
 use mathlib.Core.Path.{_≡_, sym, ap, _∙_}
-use lib.ListN.{length}
+use mathlib.Core.List.{List}
+use lib.ListN.{drop}
 use native.Mathlib.Omega.{arith}
+use Rattle.rows.specs.declared.Row.{Row}
 use Rattle.rows.specs.Cells.{rowsAt}
 use Rattle.rows.proofs.Left.{left, left-all}
-use Rattle.saved.specs.Saved.{anyBad}
+use Rattle.saved.specs.Steps.{badBy}
 use Rattle.saved.proofs.Bad.{row-inside, bad-none, bad-here, bad-on}
 use borrow.Author.Needs.{needs}
 use Rattle.saved.proofs.any_bad.Statement.{statement}
 use Rattle.saved.proofs.any_bad.Tie as tie
 
 abbrev Inv-loop : tie.InvT-loop
-Inv-loop block table n size i₀ i = (i ≤ n) × (anyBad block (left table n i) ≡ anyBad block (rowsAt table n 1))
+Inv-loop block cells laws n size i₀ i = (i ≤ n) × (badBy block (left cells n i) (drop i laws) ≡ badBy block (rowsAt cells n 1) laws)
 
 abbrev μ-loop : tie.MeasureT-loop
-μ-loop block table n size i₀ i = n - i
+μ-loop block cells laws n size i₀ i = n - i
 
 loop-holds : tie.Need-loop-holds Inv-loop μ-loop
-loop-holds c = (omega arith, ap (anyBad _) (sym (left-all _ _)))
+loop-holds c =
+    let a = c .before .before .before .args in
+    (omega arith, ap (λ (l : List Row). badBy (a .block .now) l (a .laws .now)) (sym (left-all (a .cells .now) (a .n))))
 
 mul-row-at : tie.Need-mul-row-at Inv-loop μ-loop
 mul-row-at c = search needs
@@ -37,23 +41,34 @@ sub-is-bad c = search needs
 
 part-is-bad-start : tie.Need-part-is-bad-start Inv-loop μ-loop
 part-is-bad-start c =
-    let s = c .before .before .before .before .before .before in
+    let s = c .before .before .before .before .before .before .before in
     let a = s .args in
-    omega (arith, row-inside (a .table .now) (a .size) (a .n) _ (c .before .row-at .ensures .0) (omega arith) (s .pre .3))
+    omega (arith, row-inside (a .cells .now) (a .size) (a .n) _ (c .before .row-at .ensures .0) (omega arith) (s .pre .4))
 
 part-is-bad-end : tie.Need-part-is-bad-end Inv-loop μ-loop
 part-is-bad-end c =
-    let s = c .before .before .before .before .before .before in
+    let s = c .before .before .before .before .before .before .before in
     let a = s .args in
-    omega (arith, row-inside (a .table .now) (a .size) (a .n) _ (c .before .row-at .ensures .0) (omega arith) (s .pre .3))
+    omega (arith, row-inside (a .cells .now) (a .size) (a .n) _ (c .before .row-at .ensures .0) (omega arith) (s .pre .4))
+
+mul-is-bad : tie.Need-mul-is-bad Inv-loop μ-loop
+mul-is-bad c = search needs
+
+shared-slice-read-is-bad : tie.Need-shared-slice-read-is-bad Inv-loop μ-loop
+shared-slice-read-is-bad c = search needs
 
 is-bad-requires : tie.Need-is-bad-requires Inv-loop μ-loop
 is-bad-requires c κs = search needs
 
 returns : tie.Need-returns Inv-loop μ-loop
 returns c =
-    let r = c .before .before .before .before .row-at .ensures .0 in
-    bad-here _ _ _ _ r (omega arith) (c .before .is-bad .ensures) (c .if1 .taken) ∙ c .before .before .before .before .before .before .loop .inv .1
+    let q5 = c .before .before .before .before .before in
+    let q7 = q5 .before .before in
+    let l = q7 in
+    let a = l .before .before .before .before .args in
+    let r = q5 .row-at .ensures .0 in
+    bad-here (a .block .now) (a .cells .now) (a .laws .now) (a .n) (l .loop .i) r (omega arith) (c .before .is-bad .ensures) (c .if1 .taken)
+    ∙ l .loop .inv .1
 
 add-i : tie.Need-add-i Inv-loop μ-loop
 add-i c = search needs
@@ -63,12 +78,19 @@ loop-less c = search needs
 
 loop-again : tie.Need-loop-again Inv-loop μ-loop
 loop-again c =
-    let r = c .before .before .before .before .row-at .ensures .0 in
-    let l = c .before .before .before .before .before .before .loop .inv .1 in
-    (omega arith, sym (bad-on _ _ _ _ r (omega arith) (c .before .is-bad .ensures) (c .if1 .left)) ∙ l)
+    let q5 = c .before .before .before .before .before in
+    let q7 = q5 .before .before in
+    let l = q7 in
+    let a = l .before .before .before .before .args in
+    let r = q5 .row-at .ensures .0 in
+    let o = bad-on (a .block .now) (a .cells .now) (a .laws .now) (a .n) (l .loop .i) r (omega arith) (c .before .is-bad .ensures) (c .if1 .left) in
+    (omega arith, sym o ∙ l .loop .inv .1)
 
 returns-2 : tie.Need-returns-2 Inv-loop μ-loop
-returns-2 c = bad-none _ _ _ _ (omega arith) ∙ c .before .loop .inv .1
+returns-2 c =
+    let l = c .before in
+    let a = l .before .before .before .before .args in
+    bad-none (a .block .now) (a .cells .now) (a .laws .now) (a .n) (l .loop .i) (omega arith) ∙ l .loop .inv .1
 
 pub any-bad-spec : {M : Type 1} → statement M
 any-bad-spec =
@@ -84,6 +106,8 @@ any-bad-spec =
     sub-is-bad
     part-is-bad-start
     part-is-bad-end
+    mul-is-bad
+    shared-slice-read-is-bad
     is-bad-requires
     returns
     add-i

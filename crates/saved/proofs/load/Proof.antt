@@ -1,46 +1,156 @@
--- What is judged, and then taken (Loading).
-use mathlib.Core.Path.{_≡_, sym, ap, _∙_}
+-- R-6's lines, or R-8's (Loading).
+use mathlib.Core.Path.{sym, _∙_}
 use native.Mathlib.Omega.{arith}
-use Rattle.saved.proofs.Loading.{load-short, load-stop, load-fine}
+use Rattle.rows.specs.Limits.{sizeOf}
+use Rattle.saved.proofs.Judging.{celled-fine}
+use Rattle.saved.proofs.Loading.{rows-as, celled-early, all-notes, load-short, load-later, load-stop, load-fine}
 use borrow.Author.Needs.{needs}
 use Rattle.saved.proofs.load.Statement.{statement}
 use Rattle.saved.proofs.load.Tie as tie
 
+size-of-requires : tie.Need-size-of-requires
+size-of-requires c κs = search needs
+
+store-cells-requires : tie.Need-store-cells-requires
+store-cells-requires c κs = search needs
+
 returns : tie.Need-returns
-returns c = load-short _ _ _ (omega arith)
+returns c =
+    let q6 = c .before .before .before .before .before .before in
+    let a = q6 .args in load-short (a .text .now) (a .block .now) (a .table .now) (c .before .before .size-of .ensures)
+    (c .before .store-cells .ensures) (omega arith)
 
-judge-requires : tie.Need-judge-requires
-judge-requires c κs = search needs
-
-enum-known-why : tie.Need-enum-known-why
-enum-known-why c = search needs
-
-enum-told : tie.Need-enum-told
-enum-told c = search needs
+slice-aggregate-read-rows : tie.Need-slice-aggregate-read-rows
+slice-aggregate-read-rows c = search needs
 
 read-rows-requires : tie.Need-read-rows-requires
 read-rows-requires c κs = search needs
 
-returns-2 : tie.Need-returns-2
-returns-2 c = load-stop _ _ _ (omega arith) (sym (c .before .why .given .1) ∙ c .before .before .before .judge .ensures)
+enum-told : tie.Need-enum-told
+enum-told c = search needs
+
+load-noted-requires : tie.Need-load-noted-requires
+load-noted-requires c κs =
+    let q7 = c .before .before .before .before .before .before .before in
+    let q8 = q7 .before in
+    (q8 .size-of .ensures, omega (arith, q7 .store-cells .ensures))
+
+enum-known-n : tie.Need-enum-known-n
+enum-known-n c = search needs
+
+slice-aggregate-judge-rows : tie.Need-slice-aggregate-judge-rows
+slice-aggregate-judge-rows c = search needs
+
+slice-aggregate-judge-rows-2 : tie.Need-slice-aggregate-judge-rows-2
+slice-aggregate-judge-rows-2 c = search needs
+
+judge-rows-requires : tie.Need-judge-rows-requires
+judge-rows-requires c κs =
+    let q6 = c .before .before .before .before .before .before in
+    let f = q6 .read-rows .ensures .few _ (c .before .before .before .n .given .1) in (omega arith, omega arith, omega arith)
+
+enum-known-why : tie.Need-enum-known-why
+enum-known-why c = search needs
+
+enum-told-2 : tie.Need-enum-told-2
+enum-told-2 c = search needs
+
+read-rows-requires-2 : tie.Need-read-rows-requires-2
+read-rows-requires-2 c κs =
+    let q13 = c .before .before .before .before .before .before .before .before .before .before .before .before .before in
+    omega (arith, q13 .store-cells .ensures)
+
+slice-aggregate-store-notes : tie.Need-slice-aggregate-store-notes
+slice-aggregate-store-notes c = search needs
+
+slice-aggregate-store-notes-2 : tie.Need-slice-aggregate-store-notes-2
+slice-aggregate-store-notes-2 c = search needs
+
+store-notes-requires : tie.Need-store-notes-requires
+store-notes-requires c κs =
+    let q5 = c .before .before .before .before .before in
+    let q7 = q5 .before .before in
+    let q9 = q7 .before .before in
+    let q13 = q9 .before .before .before .before in
+    let q16 = q13 .before .before .before in
+    let q19 = q16 .before .before .before in
+    let q20 = q19 .before in
+    let q24 = q20 .before .before .before .before in
+    let b = q24 .args .block .now in
+    let e = celled-early b _ (rows-as (q13 .n .given .1) (q16 .read-rows .ensures)) (omega arith) in
+    let p = celled-fine (e .celled) b (sizeOf b) (sym (q7 .enum-told2 .given .1) ∙ q9 .judge-rows .ensures) in
+    let z = q20 .size-of .ensures in
+    all-notes (e .celled) p z z (omega (arith, q5 .read-rows2 .kept .1 .0, q19 .store-cells .ensures))
 
 same-length : tie.Need-same-length
 same-length c = search needs
 
+returns-2 : tie.Need-returns-2
+returns-2 c =
+    let q7 = c .before .before .before .before .before .before .before in
+    let q10 = q7 .before .before .before in
+    let q11 = q10 .before in
+    let q15 = q11 .before .before .before .before in
+    let a = q15 .args in
+    load-later (a .text .now) (a .block .now) (a .table .now) (q11 .size-of .ensures) (q10 .store-cells .ensures) (omega arith)
+    (rows-as (c .before .before .before .before .enum-told .given .1) (q7 .read-rows .ensures)) (c .before .before .load-noted .ensures)
+
 returns-3 : tie.Need-returns-3
 returns-3 c =
-    let t = c .before .before .before .before in
-    load-fine _ _ _ (omega arith) (sym (t .enum-told .given .1) ∙ t .before .before .judge .ensures) (c .before .before .read-rows .ensures)
+    let q7 = c .before .before .before .before .before .before .before in
+    let q10 = q7 .before .before .before in
+    let q13 = q10 .before .before .before in
+    let q14 = q13 .before in
+    let q18 = q14 .before .before .before .before in
+    let b = q18 .args .block .now in
+    let e = celled-early b _ (rows-as (q7 .n .given .1) (q10 .read-rows .ensures)) (omega arith) in
+    let a = q18 .args in
+    load-stop (a .text .now) (a .block .now) (a .table .now) (q14 .size-of .ensures) (q13 .store-cells .ensures) (omega arith) e
+    (sym (c .before .why .given .1) ∙ c .before .before .before .judge-rows .ensures)
+
+same-length-2 : tie.Need-same-length-2
+same-length-2 c = search needs
+
+returns-4 : tie.Need-returns-4
+returns-4 c =
+    let q8 = c .before .before .before .before .before .before .before .before in
+    let q10 = q8 .before .before in
+    let q12 = q10 .before .before in
+    let q16 = q12 .before .before .before .before in
+    let q19 = q16 .before .before .before in
+    let q22 = q19 .before .before .before in
+    let q23 = q22 .before in
+    let q27 = q23 .before .before .before .before in
+    let b = q27 .args .block .now in
+    let e = celled-early b _ (rows-as (q16 .n .given .1) (q19 .read-rows .ensures)) (omega arith) in
+    let f = sym (q10 .enum-told2 .given .1) ∙ q12 .judge-rows .ensures in
+    let a = q27 .args in
+    load-fine (a .text .now) (a .block .now) (a .table .now) (q23 .size-of .ensures) (q22 .store-cells .ensures) (omega arith) e f
+    (q8 .read-rows2 .ensures) (c .before .before .store-notes .ensures)
 
 pub load-spec : {M : Type 1} → statement M
 load-spec =
     tie.close
     (tie.spec
+    size-of-requires
+    store-cells-requires
     returns
-    judge-requires
-    enum-known-why
-    enum-told
+    slice-aggregate-read-rows
     read-rows-requires
-    returns-2
+    enum-told
+    load-noted-requires
+    enum-known-n
+    slice-aggregate-judge-rows
+    slice-aggregate-judge-rows-2
+    judge-rows-requires
+    enum-known-why
+    enum-told-2
+    read-rows-requires-2
+    slice-aggregate-store-notes
+    slice-aggregate-store-notes-2
+    store-notes-requires
     same-length
-    returns-3)
+    returns-2
+    returns-3
+    same-length-2
+    returns-4)

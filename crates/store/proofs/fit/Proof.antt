@@ -1,20 +1,14 @@
-use Prim.Native.Nat.{ℕ}
-use mathlib.Core.Path.{sym, ap, _∙_}
-use mathlib.Core.List.{List}
+-- The greeting's row, then its note (Fitted).
+use mathlib.Core.Path.{sym, _∙_}
 use native.Mathlib.Omega.{arith}
-use lib.ListN.{length, getD}
-use Rattle.rows.specs.Cells.{rowsOf}
-use Rattle.closing.specs.Closing.{closedRows}
-use Rattle.rows.proofs.Cells.{length-rows, count-laid}
-use Rattle.rows.proofs.Finding.{gap-fits}
-use Rattle.closing.proofs.Closed.{length-closed}
-use Rattle.store.proofs.Fitted.{fit-gap, fit-behind}
+use Rattle.store.proofs.Fitted.{closed-count, gap-told, gap-asks, behind-asks, fit-gap, fit-behind}
 use borrow.Author.Needs.{needs}
 use Rattle.store.proofs.fit.Statement.{statement}
 use Rattle.store.proofs.fit.Tie as tie
 use Rattle.store.proofs.fit.Reads as reads
 use Rattle.store.proofs.fit.Lts as lts
 use Rattle.closing.proofs.close_up.Reads as close-up-reads
+use Rattle.notes.proofs.put_note.Reads as put-note-reads
 use Rattle.rows.proofs.lowest_gap.Reads as lowest-gap-reads
 use Rattle.store.proofs.place.Reads as place-reads
 
@@ -26,14 +20,34 @@ enum-known-i c = search needs
 
 place-requires : tie.Need-place-requires
 place-requires c κs =
-    let s = c .before .before .before .before .before .before .before .before .before .before in
-    let t = s .args .table .now in
-    let found = sym (c .before .before .before .i .given .1) ∙ c .before .before .before .before .before .lowest-gap .ensures in
-    let g = gap-fits (length (s .args .octets .now)) (s .args .size) 1 0 0 (rowsOf t) (s .pre .1 .0 .rises) found in
-    let l = length-rows t (getD t 0 0) 1 in (
-      (s .pre .0 .0, s .pre .0 .1, omega (arith, g .among, s .pre .0 .0), s .pre .1 .0 .cells, s .pre .0 .2),
-      (omega (arith, g .inside, s .pre .0 .3), omega (arith, g .inside, s .pre .0 .4)),
+    let i = c .before .before .before in
+    let gap = i .before .before in
+    let s = gap .before .before .before .before .before .before in
+    let a = s .args in
+    let found = sym (i .i .given .1) ∙ gap .lowest-gap .ensures in
+    let p = s .pre in
+    let q = p .1 .0 in
+    let g = gap-told (a .table .now) (a .size) (a .number) (a .octets .now) (q .0) (p .0 .0) found in (
+      (p .0 .0, p .0 .1, g .0, q .0 .order .cells, p .0 .2),
+      (omega (arith, g .1, p .0 .3), omega (arith, g .1, p .0 .4)),
     )
+
+put-note-requires : tie.Need-put-note-requires
+put-note-requires c κs =
+    let place = c .before .before .before .before .before in
+    let i = place .before .before .before .before in
+    let gap = i .before .before in
+    let s = gap .before .before .before .before .before .before in
+    let a = s .args in
+    let p = s .pre in
+    let found = sym (i .i .given .1) ∙ gap .lowest-gap .ensures in
+    let q = p .1 .0 in
+    let r = p .1 .1 .0 in
+    let g = gap-told (a .table .now) (a .size) (a .number) (a .octets .now) (q .0) (p .0 .0) found in
+    let k = gap-asks (a .table .now) (a .size) (a .number) (a .octets .now) (q .0) (p .0 .0) (p .0 .4) (p .0 .1) (omega (arith, q .1, q .2))
+    (r .2) found (place .place .ensures .1) (place .place .kept .1 .0)
+    in
+    ((k .count, p .0 .1, g .0, r .3), (k .room, (omega (arith, r .0), r .1, omega (arith, r .2, q .2, p .0 .4))))
 
 enum-told : tie.Need-enum-told
 enum-told c = search needs
@@ -43,16 +57,30 @@ close-up-requires c κs = search needs
 
 place-requires-2 : tie.Need-place-requires-2
 place-requires-2 c κs =
-    let s = c .before .before .before .before .before .before .before .before .before .before .before .before .before .before .before .before in
-    let t = s .args .table .now in
-    let closed = c .before .before .before .before .before .before .close-up in
-    let k =
-    ap (λ (x : List ℕ). getD x 0 0) (closed .ensures .table) ∙ count-laid (closedRows 0 (rowsOf t)) t ∙ length-closed 0 (rowsOf t)
-    ∙ length-rows t (getD t 0 0) 1
-    in (
-      (s .pre .0 .0 ∙ sym k, s .pre .0 .1, omega arith, omega (arith, s .pre .1 .0 .cells, closed .kept .1 .0), s .pre .0 .2),
-      (omega (arith, s .pre .1 .2, s .pre .0 .3, closed .kept .0), omega (arith, s .pre .1 .2, s .pre .0 .4)),
+    let close = c .before .before .before .before .before .before in
+    let s = close .before .before .before .before .before .before .before .before .before .before .before in
+    let a = s .args in
+    let p = s .pre in
+    let q = p .1 .0 in
+    let up = close .close-up in
+    let n = closed-count (a .block .now) (a .table .now) (a .number) (a .octets .now) (up .ensures) (p .0 .0) in (
+      (n, p .0 .1, omega arith, omega (arith, q .0 .order .cells, up .kept .1 .0), p .0 .2),
+      (omega (arith, q .2, p .0 .3, up .kept .0), omega (arith, q .2, p .0 .4)),
     )
+
+put-note-requires-2 : tie.Need-put-note-requires-2
+put-note-requires-2 c κs =
+    let place = c .before .before .before .before .before in
+    let close = place .before .before .before .before .before .before .before in
+    let s = close .before .before .before .before .before .before .before .before .before .before .before in
+    let a = s .args in
+    let p = s .pre in
+    let q = p .1 .0 in
+    let r = p .1 .1 .0 in
+    let k = behind-asks (a .table .now) (a .size) (a .number) (a .octets .now) (q .0) (p .0 .0) (p .0 .4) (p .0 .1) (omega (arith, q .1, q .2))
+    (r .2) (a .behind) (close .close-up .ensures) (place .place2 .ensures .1) (place .place2 .kept .1 .0 ∙ close .close-up .kept .1 .0)
+    in
+    ((k .count, p .0 .1, omega arith, r .3), (k .room, (omega (arith, r .0), r .1, omega (arith, r .2, q .2, p .0 .4))))
 
 same-length : tie.Need-same-length
 same-length c = search needs
@@ -62,10 +90,17 @@ same-length-2 c = search needs
 
 returns : tie.Need-returns
 returns c =
-    let s = c .before .before .before .before .before .before .before .before .before .before .before .before .before .before .before .args in
-    let found = sym (c .before .before .before .before .before .before .before .before .i .given .1) ∙ c .before .before .before .before .before .before .before .before .before .before .lowest-gap .ensures in
-    let placed = c .before .before .before .before .place .ensures in
-    fit-gap (s .block .now) (s .table .now) (s .size) (s .number) (s .octets .now) found (placed .0) (placed .1)
+    let note = c .before .before in
+    let place = note .before .before .before .before .before .before in
+    let i = place .before .before .before .before in
+    let gap = i .before .before in
+    let s = gap .before .before .before .before .before .before in
+    let a = s .args in
+    let p = s .pre in
+    let found = sym (i .i .given .1) ∙ gap .lowest-gap .ensures in
+    let g = gap-told (a .table .now) (a .size) (a .number) (a .octets .now) (p .1 .0 .0) (p .0 .0) found in
+    fit-gap (a .block .now) (a .table .now) (a .size) (a .sound .law) (a .number) (a .octets .now) (p .1 .1 .1) (omega (arith, p .0 .0, p .0 .1))
+    found (omega (arith, g .0, p .0 .0)) (place .place .ensures .0) (place .place .ensures .1) (note .put-note .ensures)
 
 same-length-3 : tie.Need-same-length-3
 same-length-3 c = search needs
@@ -75,12 +110,16 @@ same-length-4 c = search needs
 
 returns-2 : tie.Need-returns-2
 returns-2 c =
-    let s = c .before .before .before .before .before .before .before .before .before .before .before .before .before .before .before .before .before .before .before .before .before in
+    let note = c .before .before in
+    let place = note .before .before .before .before .before .before in
+    let close = place .before .before .before .before .before .before .before in
+    let told = close .before .before .before in
+    let s = told .before .before .before .before .before .before .before .before in
     let a = s .args in
-    let none = sym (c .before .before .before .before .before .before .before .before .before .before .before .before .before .before .enum-told .given .1) ∙ c .before .before .before .before .before .before .before .before .before .before .before .before .before .before .before .before .lowest-gap .ensures in
-    let placed = c .before .before .before .before .place2 .ensures in
-    fit-behind (a .block .now) (a .table .now) (a .size) (a .number) (a .octets .now) none (c .before .before .before .before .before .before .before .before .before .before .before .close-up .ensures) (s .pre .1 .1) (s .pre .0 .0)
-    (placed .0) (placed .1)
+    let p = s .pre in
+    let none = sym (told .enum-told .given .1) ∙ told .before .before .lowest-gap .ensures in
+    fit-behind (a .block .now) (a .table .now) (a .size) (a .sound .law) (a .number) (a .octets .now) (p .1 .1 .1) (omega (arith, p .0 .0, p .0 .1))
+    none (close .close-up .ensures) (p .1 .0 .1) (p .0 .0) (place .place2 .ensures .0) (place .place2 .ensures .1) (note .put-note2 .ensures)
 
 pub fit-spec : {M : Type 1} → statement M
 fit-spec =
@@ -89,9 +128,11 @@ fit-spec =
     lowest-gap-requires
     enum-known-i
     place-requires
+    put-note-requires
     enum-told
     close-up-requires
     place-requires-2
+    put-note-requires-2
     same-length
     same-length-2
     returns

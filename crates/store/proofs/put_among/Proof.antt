@@ -1,83 +1,100 @@
+-- TAKEN, longer than the block, BAD; then what was taken of the walk is the greeting's note (Called).
 use native.Mathlib.Omega.{arith}
-use Rattle.store.proofs.Called.{put-taken, put-bad, put-full, put-no-room, put-fits}
+use Rattle.marks.proofs.Taking.{taken-bad}
+use Rattle.store.proofs.Called.{put-taken, put-long, put-bad, sound-taken}
 use borrow.Author.Needs.{needs}
 use Rattle.store.proofs.put_among.Statement.{statement}
 use Rattle.store.proofs.put_among.Tie as tie
 use Rattle.store.proofs.put_among.Reads as reads
 use Rattle.store.proofs.put_among.Lts as lts
-use Rattle.greetings.proofs.is_bad.Reads as is-bad-reads
-use Rattle.rows.proofs.held.Reads as held-reads
-use Rattle.store.proofs.fit.Reads as fit-reads
+use Rattle.marks.proofs.take.Reads as take-reads
+use Rattle.rows.proofs.wide.Reads as wide-reads
+use Rattle.store.proofs.over_long.Reads as over-long-reads
+use Rattle.store.proofs.put_sound.Reads as put-sound-reads
 
 returns : tie.Need-returns
 returns c =
     let s = c .before .before .before .before in
     let a = s .args in
-    put-taken (a .block .now) (a .table .now) (a .size) (a .number) (a .octets .now) (s .pre .0) (omega arith)
+    let p = s .pre in
+    put-taken (a .block .now) (a .table .now) (a .size) (a .law) (a .number) (a .octets .now) (p .0) (p .1 .2) (omega arith)
 
-is-bad-requires : tie.Need-is-bad-requires
-is-bad-requires c κs = search needs
+over-long-requires : tie.Need-over-long-requires
+over-long-requires c κs = search needs
 
 returns-2 : tie.Need-returns-2
 returns-2 c =
     let s = c .before .before .before .before .before .before in
     let a = s .args in
-    put-bad (a .block .now) (a .table .now) (a .size) (a .number) (a .octets .now) (s .pre .0) (omega arith) (c .before .is-bad .ensures) (c .if2 .taken)
+    let p = s .pre in
+    put-long (a .block .now) (a .table .now) (a .size) (a .law) (a .number) (a .octets .now) (p .0) (p .1 .2) (omega arith)
+    (c .over-long .ensures) (omega arith)
+
+slice-aggregate-take : tie.Need-slice-aggregate-take
+slice-aggregate-take c = search needs
+
+take-requires : tie.Need-take-requires
+take-requires c κs = search needs
+
+enum-told : tie.Need-enum-told
+enum-told c = search needs
+
+enum-known-samples : tie.Need-enum-known-samples
+enum-known-samples c = search needs
+
+wide-requires : tie.Need-wide-requires
+wide-requires c κs = search needs
+
+slice-aggregate-put-sound : tie.Need-slice-aggregate-put-sound
+slice-aggregate-put-sound c = search needs
+
+put-sound-requires : tie.Need-put-sound-requires
+put-sound-requires c κs =
+    let wide = c .before .wide .ensures in
+    let told = c .before .before .before .before .before in
+    let take = told .before .before .before .take .ensures in
+    let s = told .before .before .before .before .before .before .before .before .before .before in
+    let p = s .pre in
+    let k = sound-taken take (told .samples .given .1) wide (omega arith) in (
+      (p .0, omega arith, k .fine),
+      ((p .1 .0, p .1 .1, p .1 .3, omega arith), ((omega (arith, wide), k .heard, k .few, k .fits), k .note)),
+    )
 
 returns-3 : tie.Need-returns-3
 returns-3 c =
-    let s = c .before .before .before .before .before .before .before in
+    let take = c .before .before .before .take .ensures in
+    let s = c .before .before .before .before .before .before .before .before .before .before in
     let a = s .args in
-    put-full (a .block .now) (a .table .now) (a .size) (a .number) (a .octets .now) (s .pre .0) (omega arith) (c .before .before .is-bad .ensures) (c .before .if2 .left) (omega arith)
-
-held-requires : tie.Need-held-requires
-held-requires c κs = search needs
-
-sub-if4 : tie.Need-sub-if4
-sub-if4 c = search needs
+    let p = s .pre in
+    put-bad (a .block .now) (a .table .now) (a .size) (a .law) (a .number) (a .octets .now) (p .0) (p .1 .2) (omega arith)
+    (taken-bad _ _ (rw (c .enum-told .given .1) at take))
 
 same-length : tie.Need-same-length
 same-length c = search needs
 
-returns-4 : tie.Need-returns-4
-returns-4 c =
-    let s = c .before .before .before .before .before .before .before .before .before .before in
-    let a = s .args in
-    put-no-room (a .block .now) (a .table .now) (a .size) (a .number) (a .octets .now) (s .pre .0) (omega arith) (c .before .before .before .before .before .is-bad .ensures) (c .before .before .before .before .if2 .left)
-    (omega arith) (c .before .held .ensures .0) (omega (arith, c .before .held .ensures .1))
-
-fit-requires : tie.Need-fit-requires
-fit-requires c κs =
-    let s = c .before .before .before .before .before .before .before .before .before .before .before .before .pre in
-    let held = c .before .before .before .held .ensures in
-    ((s .0 .count, omega arith, omega (arith, s .1 .2), s .1 .0, s .1 .1), (s .0 .order, held .0, omega (arith, held .1, c .before .before .if4 .left)))
-
 same-length-2 : tie.Need-same-length-2
 same-length-2 c = search needs
 
-same-length-3 : tie.Need-same-length-3
-same-length-3 c = search needs
-
-returns-5 : tie.Need-returns-5
-returns-5 c =
-    let s = c .before .before .before .before .before .before .before .before .before .before .before .before .before .before .before .before .before in
-    let a = s .args in
-    put-fits (a .block .now) (a .table .now) (a .size) (a .number) (a .octets .now) (s .pre .0) (omega arith) (c .before .before .before .before .before .before .before .before .before .before .before .before .is-bad .ensures) (c .before .before .before .before .before .before .before .before .before .before .before .if2 .left)
-    (omega arith) (c .before .before .before .before .before .before .before .before .held .ensures .0) (omega (arith, c .before .before .before .before .before .before .before .before .held .ensures .1, c .before .before .before .before .before .before .before .if4 .left)) (c .before .before .before .before .fit .ensures)
+returns-4 : tie.Need-returns-4
+returns-4 c =
+    let put = c .before .before .before .before in
+    rw (put .before .before .wide .ensures) at (put .put-sound .ensures)
 
 pub put-among-spec : {M : Type 1} → statement M
 put-among-spec =
     tie.close
     (tie.spec
     returns
-    is-bad-requires
+    over-long-requires
     returns-2
+    slice-aggregate-take
+    take-requires
+    enum-told
+    enum-known-samples
+    wide-requires
+    slice-aggregate-put-sound
+    put-sound-requires
     returns-3
-    held-requires
-    sub-if4
     same-length
-    returns-4
-    fit-requires
     same-length-2
-    same-length-3
-    returns-5)
+    returns-4)

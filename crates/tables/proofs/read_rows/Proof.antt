@@ -36,7 +36,8 @@ same-length-2 c = c .before .before .before .before .before .loop .inv .0
 returns-2 : tie.Need-returns-2 Inv-loop μ-loop
 returns-2 c =
     let l = c .before .before .before in
-    stand-none (l .before .before .loop .inv .1) (omega arith) (l .if1 .left) _ (sym (ap asRow (c .enum-told .given .1)) ∙ c .before .before .line-of .ensures)
+    stand-none (l .before .before .loop .inv .1) (omega arith) (l .if1 .left) _
+    (sym (ap asRow (c .enum-told .given .1)) ∙ c .before .before .line-of .ensures)
 
 enum-known-number : tie.Need-enum-known-number Inv-loop μ-loop
 enum-known-number c = search needs
@@ -70,7 +71,8 @@ loop-again c =
     let i = m .before .before .before in
     let s = i .before .before .loop .inv in (
       p .put-cells .kept .0 ∙ s .0,
-      stand-turn (s .1) (omega arith) (i .if1 .left) (sym (ap asRow (m .number .given .1)) ∙ m .before .before .line-of .ensures) (p .put-cells .ensures),
+      stand-turn (s .1) (omega arith) (i .if1 .left) (sym (ap asRow (m .number .given .1)) ∙ m .before .before .line-of .ensures)
+          (p .put-cells .ensures),
     )
 
 cast-cells : tie.Need-cast-cells Inv-loop μ-loop

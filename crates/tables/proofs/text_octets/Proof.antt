@@ -1,58 +1,45 @@
--- Counted greeting by greeting (Writing, Counting).
-use Prim.Native.Nat.{_-_}
+-- The second list and the marks are parts of the table.
+use mathlib.Core.Path.{ap, _∙_}
 use native.Mathlib.Omega.{arith}
-use Rattle.tables.proofs.Writing.{Counting, counting-first, counting-turn, counting-end}
+use lib.ListN.{length}
+use Rattle.tables.proofs.Writing.{parts-fit, parts-text}
 use borrow.Author.Needs.{needs}
 use Rattle.tables.proofs.text_octets.Statement.{statement}
 use Rattle.tables.proofs.text_octets.Tie as tie
 
-abbrev Inv-loop : tie.InvT-loop
-Inv-loop table n sum₀ i₀ sum i = Counting table n sum i
+sub-octets-of : tie.Need-sub-octets-of
+sub-octets-of c = search needs
 
-abbrev μ-loop : tie.MeasureT-loop
-μ-loop table n sum₀ i₀ sum i = n - i
+part-octets-of-start : tie.Need-part-octets-of-start
+part-octets-of-start c = search needs
 
-loop-holds : tie.Need-loop-holds Inv-loop μ-loop
-loop-holds c = counting-first _ _
+part-octets-of-end : tie.Need-part-octets-of-end
+part-octets-of-end c = search needs
 
-mul-row-octets : tie.Need-mul-row-octets Inv-loop μ-loop
-mul-row-octets c = search needs
+sub-octets-of-2 : tie.Need-sub-octets-of-2
+sub-octets-of-2 c = search needs
 
-add-row-octets : tie.Need-add-row-octets Inv-loop μ-loop
-add-row-octets c = search needs
+part-octets-of-start-2 : tie.Need-part-octets-of-start-2
+part-octets-of-start-2 c = search needs
 
-row-octets-requires : tie.Need-row-octets-requires Inv-loop μ-loop
-row-octets-requires c κs = search needs
+part-octets-of-end-2 : tie.Need-part-octets-of-end-2
+part-octets-of-end-2 c = search needs
 
-add-sum : tie.Need-add-sum Inv-loop μ-loop
-add-sum c = search needs
+octets-of-requires : tie.Need-octets-of-requires
+octets-of-requires c κs = parts-fit (c .before .before .before .args .table .now) _ (omega arith) (omega arith)
 
-add-i : tie.Need-add-i Inv-loop μ-loop
-add-i c = search needs
-
-loop-less : tie.Need-loop-less Inv-loop μ-loop
-loop-less c = search needs
-
-loop-again : tie.Need-loop-again Inv-loop μ-loop
-loop-again c =
-    let r = c .row-octets .ensures in
-    counting-turn (c .before .before .loop .inv) (omega arith) (r .0) (r .1)
-
-returns : tie.Need-returns Inv-loop μ-loop
-returns c = counting-end (c .before .loop .inv) (omega arith)
+returns : tie.Need-returns
+returns c = c .octets-of .ensures ∙ ap length (parts-text (c .before .before .before .before .args .table .now) _)
 
 pub text-octets-spec : {M : Type 1} → statement M
 text-octets-spec =
     tie.close
     (tie.spec
-    Inv-loop
-    μ-loop
-    loop-holds
-    mul-row-octets
-    add-row-octets
-    row-octets-requires
-    add-sum
-    add-i
-    loop-less
-    loop-again
+    sub-octets-of
+    part-octets-of-start
+    part-octets-of-end
+    sub-octets-of-2
+    part-octets-of-start-2
+    part-octets-of-end-2
+    octets-of-requires
     returns)

@@ -1,0 +1,125 @@
+-- Greetings with their notes as lines list them: what "none is bad" and "samples and marks that the walk gives" say of them (`listed-good`,
+-- `listed-true`), and back for those that a table holds (`good-listing`, `true-listing`).
+use Prim.Native.Nat.{ℕ, suc}
+use mathlib.Core.Path.{_≡_, refl, sym, ap, subst, _∙_}
+use mathlib.Core.List.{List, [], _∷_}
+use mathlib.Core.Bool.{Bool, true, false, cond}
+use native.Mathlib.Omega.{arith}
+use lib.ListN.{length}
+use lib.Dec.{eqb}
+use borrow.Author.Tests.{eq-eqb, eqb-true}
+use Rattle.rules.proofs.Tests.{and-left, and-right}
+use Rattle.rows.specs.declared.Row.{Row}
+use Rattle.rows.specs.Rows.{greeting, contents}
+use Rattle.greetings.specs.Bad.{isBad}
+use Rattle.marks.specs.Marks.{Mark, Note, noteOf}
+use Rattle.notes.specs.Notes.{True}
+use Rattle.tables.specs.Noted.{Listed, rowsListed, notesListed, listing}
+use Rattle.saved.specs.Saved.{anyBad, sameMark, sameMarks, sameNote, allTrue, earlyLaw, early}
+use Rattle.keeping.specs.Kept.{Along, Good}
+use Rattle.rows.proofs.Lists.{both}
+
+-- "samples and marks": compared, they are the same
+mark-same : (m q : Mark) → sameMark m q ≡ true → m ≡ q
+mark-same m q e =
+    let a = eqb-true (m .octets) (q .octets) (and-left (eqb (m .octets) (q .octets)) (eqb (m .samples) (q .samples)) e) in
+    let b = eqb-true (m .samples) (q .samples) (and-right (eqb (m .octets) (q .octets)) (eqb (m .samples) (q .samples)) e) in
+    rw (a, b)
+
+marks-same : (ms qs : List Mark) → sameMarks ms qs ≡ true → ms ≡ qs
+unfolding sameMarks
+marks-same [] [] e = refl
+marks-same [] (q ∷ qs) e = let z : _≡_ {A = ℕ} 0 1 = cc in absurd (omega arith)
+marks-same (m ∷ ms) [] e = let z : _≡_ {A = ℕ} 0 1 = cc in absurd (omega arith)
+marks-same (m ∷ ms) (q ∷ qs) e =
+    let p = both (sameMark m q) (sameMarks ms qs) e in
+    rw (mark-same m q (p .0), marks-same ms qs (p .1))
+
+marks-self : (ms : List Mark) → sameMarks ms ms ≡ true
+unfolding sameMarks
+marks-self [] = refl
+marks-self (m ∷ ms) = rw (eq-eqb (m .octets) (m .octets) refl, eq-eqb (m .samples) (m .samples) refl) (marks-self ms)
+
+note-same : (law : ℕ) (n g : Note) → n .law ≡ law → g .law ≡ law → sameNote n g ≡ true → n ≡ g
+note-same law n g l k e =
+    let a = eqb-true (n .samples) (g .samples) (and-left (eqb (n .samples) (g .samples)) (sameMarks (n .marks) (g .marks)) e) in
+    let b = marks-same (n .marks) (g .marks) (and-right (eqb (n .samples) (g .samples)) (sameMarks (n .marks) (g .marks)) e) in
+    rw (l ∙ sym k, a, b)
+
+note-self : (n : Note) → sameNote n n ≡ true
+note-self n = rw (eq-eqb (n .samples) (n .samples) refl) (marks-self (n .marks))
+
+pub listed-good : (b : List ℕ) (xs : List Listed) → anyBad b xs ≡ false → Good (contents b (rowsListed xs)) (notesListed xs)
+unfolding anyBad rowsListed notesListed contents Along
+listed-good b [] e = tt
+listed-good b (x ∷ xs) e = go (isBad (x .note .law) (greeting b (x .row))) refl e (listed-good b xs)
+  where
+    go : (t : Bool) → isBad (x .note .law) (greeting b (x .row)) ≡ t → cond t true (anyBad b xs) ≡ false
+        → (anyBad b xs ≡ false → Good (contents b (rowsListed xs)) (notesListed xs))
+        → (isBad (x .note .law) (greeting b (x .row)) ≡ false) × Good (contents b (rowsListed xs)) (notesListed xs)
+    go true p e ih = let z : _≡_ {A = ℕ} 0 1 = cc in absurd (omega arith)
+    go false p e ih = (p, ih e)
+
+pub listed-true : (b : List ℕ) (xs : List Listed) → allTrue b xs ≡ true → True (contents b (rowsListed xs)) (notesListed xs)
+unfolding allTrue rowsListed notesListed contents True
+listed-true b [] e = tt
+listed-true b (x ∷ xs) e =
+    let p = both (sameNote (x .note) (noteOf (x .note .law) (greeting b (x .row)))) (allTrue b xs) e in
+    (note-same (x .note .law) (x .note) (noteOf (x .note .law) (greeting b (x .row))) refl refl (p .0), listed-true b xs (p .1))
+
+-- and back
+pub good-listing : (b : List ℕ) (rows : List Row) (notes : List Note) → Good (contents b rows) notes → anyBad b (listing rows notes) ≡ false
+unfolding anyBad listing contents Along
+good-listing b [] notes h = refl
+good-listing b (r ∷ rows) [] h = refl
+good-listing b (r ∷ rows) (n ∷ notes) h = rw (h .0) (good-listing b rows notes (h .1))
+
+pub true-listing : (b : List ℕ) (rows : List Row) (notes : List Note) → True (contents b rows) notes → allTrue b (listing rows notes) ≡ true
+unfolding allTrue listing contents True
+true-listing b [] notes h = refl
+true-listing b (r ∷ rows) [] h = refl
+true-listing b (r ∷ rows) (n ∷ notes) h =
+    let g = noteOf (n .law) (greeting b r) in
+    let s : sameNote n g ≡ true = subst (λ (m : Note). sameNote n m ≡ true) (h .0) (note-self n) in
+    rw s (true-listing b rows notes (h .1))
+
+pub rows-listing : (rows : List Row) (notes : List Note) → length notes ≡ length rows → rowsListed (listing rows notes) ≡ rows
+unfolding rowsListed listing
+rows-listing [] notes l = refl
+rows-listing (r ∷ rows) [] l = absurd (omega arith)
+rows-listing (r ∷ rows) (n ∷ notes) l = ap (λ (x : List Row). r ∷ x) (rows-listing rows notes (omega arith))
+
+pub notes-listing : (rows : List Row) (notes : List Note) → length notes ≡ length rows → notesListed (listing rows notes) ≡ notes
+unfolding notesListed listing
+notes-listing [] [] l = refl
+notes-listing [] (n ∷ notes) l = absurd (omega arith)
+notes-listing (r ∷ rows) [] l = absurd (omega arith)
+notes-listing (r ∷ rows) (n ∷ notes) l = ap (λ (x : List Note). n ∷ x) (notes-listing rows notes (omega arith))
+
+pub length-listing : (rows : List Row) (notes : List Note) → length notes ≡ length rows → length (listing rows notes) ≡ length rows
+unfolding listing
+length-listing [] notes l = refl
+length-listing (r ∷ rows) [] l = absurd (omega arith)
+length-listing (r ∷ rows) (n ∷ notes) l = ap suc (length-listing rows notes (omega arith))
+
+-- listed and listed again
+pub listing-listed : (xs : List Listed) → listing (rowsListed xs) (notesListed xs) ≡ xs
+unfolding listing rowsListed notesListed
+listing-listed [] = refl
+listing-listed (x ∷ xs) = ap (λ (l : List Listed). x ∷ l) (listing-listed xs)
+
+pub notes-listed : (xs : List Listed) → length (notesListed xs) ≡ length xs
+unfolding notesListed
+notes-listed [] = refl
+notes-listed (x ∷ xs) = ap suc (notes-listed xs)
+
+-- R-6's lines: their greetings, and what the walk by law 1 gives
+pub early-rows : (b : List ℕ) (rows : List Row) → rowsListed (early b rows) ≡ rows
+unfolding rowsListed early
+early-rows b [] = refl
+early-rows b (r ∷ rows) = ap (λ (x : List Row). r ∷ x) (early-rows b rows)
+
+pub early-true : (b : List ℕ) (rows : List Row) → allTrue b (early b rows) ≡ true
+unfolding allTrue early
+early-true b [] = refl
+early-true b (r ∷ rows) = rw (note-self (noteOf earlyLaw (greeting b r))) (early-true b rows)

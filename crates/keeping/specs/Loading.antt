@@ -1,0 +1,40 @@
+-- Document 02, R-6 and R-8, reading a table: TABLE "for lines not of this form or order, a number out of range or used twice, more than 32 greetings,
+-- or greetings that overlap or pass the block's end, then .. BAD"; "after BAD samples or marks that the walk doesn't give, is TABLE".
+use Prim.Native.Nat.{ℕ, _≤_}
+use mathlib.Core.Path.{_≡_}
+use mathlib.Core.List.{List}
+use mathlib.Core.Bool.{true, false}
+use lib.ListN.{length}
+use Rattle.rows.specs.declared.Row.{Row}
+use Rattle.rows.specs.Limits.{sizeOf}
+use Rattle.rows.specs.Sane.{rising, numbered}
+use Rattle.notes.specs.Sane.{storeCells}
+use Rattle.keyvalue.specs.Reading.{whole, none}
+use Rattle.tables.specs.Table.{tableIn}
+use Rattle.tables.specs.Noted.{Listed, listedIn, rowsListed, notesListed}
+use Rattle.store.specs.declared.Refusal.the-variants.{Bad, Table}
+use Rattle.store.specs.Store.{Outcome, leaves, refused, After}
+use Rattle.saved.specs.Saved.{anyBad, allTrue, early}
+
+-- the greetings that a text lists: all in R-6's lines, with what the walk by law 1 gives; or all in R-8's
+pub data Lists (text b : List ℕ) : List Listed → Type 0 where
+  in-early : {rows : List Row} {i : ℕ} → tableIn text ≡ whole rows i → Lists text b (early b rows)
+  in-noted : {xs : List Listed} {i : ℕ} → tableIn text ≡ none → listedIn text ≡ whole xs i → Lists text b xs
+
+-- nothing is TABLE before BAD: the lent cells are enough, the lines are of their form, the greetings are apart and inside, the numbers used once
+pub record Formed (text b t : List ℕ) (xs : List Listed) : Type 0 where
+  pub cells : storeCells (sizeOf b) ≤ length t
+  pub lists : Lists text b xs
+  pub apart : rising 0 0 (sizeOf b) (rowsListed xs) ≡ true
+  pub once : numbered (rowsListed xs) ≡ true
+
+-- the table that holds these greetings with these notes
+abbrev pub loaded : List ℕ → List Listed → After
+loaded b xs = record { block = b; rows = rowsListed xs; notes = notesListed xs; first = 0; second = 0 }
+
+-- the order: TABLE, BAD, TABLE; else it is taken
+pub data Judged (text b t : List ℕ) : Outcome → Type 0 where
+  unformed : ((xs : List Listed) → Formed text b t xs → ⊥) → Judged text b t (refused Table)
+  bad : {xs : List Listed} → Formed text b t xs → anyBad b xs ≡ true → Judged text b t (refused Bad)
+  untrue : {xs : List Listed} → Formed text b t xs → anyBad b xs ≡ false → allTrue b xs ≡ false → Judged text b t (refused Table)
+  taken : {xs : List Listed} → Formed text b t xs → anyBad b xs ≡ false → allTrue b xs ≡ true → Judged text b t (leaves (loaded b xs))

@@ -1,0 +1,51 @@
+// Marks inside a greeting (document 02, R-8): its samples and its marks, taken as its walk goes.
+// What they are stands in specs/Marks.
+ghost use mathlib.Core.Path.{_≡_};
+ghost use Prim.Native.Nat.{_*_, _≤_};
+ghost use lib.ListN.{length};
+ghost use Rattle.rules.specs.Tools.{mostLaw};
+ghost use Rattle.rules.specs.Walk.{longest};
+ghost use Rattle.marks.specs.Marks.{mostMarks};
+ghost use Rattle.marks.specs.Taking.{Takes};
+use rules::Ending;
+
+// "frames 0, 64, 128 and so on", and room for so many frames.
+pub const FRAMES_APART: usize = 64;
+
+const ROOM: usize = 20480;
+
+// A greeting that is BAD; or its samples, and the number of its marks.
+pub enum Tally {
+    Wrong,
+    Counted(usize, usize),
+}
+
+// A greeting's walk, 64 frames at a time: before each, its mark is taken.
+pub fn take(octets: &[u8], law: u32, marks: &mut [u32]) -> Tally
+    requires { ⌜ (law ≤ mostLaw) × (length (now octets) ≤ longest) × (2 * mostMarks (length (now octets)) ≤ length (now marks)) ⌝ }
+    ensures { λ r. ⌜ Takes law (now (octets .entry)) (now (marks .entry)) (now (marks .exit)) r ⌝ }
+{
+    if octets.len() < 1 {
+        return Tally::Wrong;
+    }
+    let mut at = 0;
+    let mut samples = 0;
+    let mut m = 0;
+    while at < octets.len() {
+        marks[2 * m] = at as u32;
+        marks[2 * m + 1] = samples as u32;
+        let walked = walk::walk_on(octets, law, rules::ALL_TOOLS, at, FRAMES_APART, ROOM);
+        let end = walked.end;
+        match end {
+            Ending::Refused(_) => {
+                return Tally::Wrong;
+            }
+            Ending::Done => {
+                at = walked.place;
+                samples += walked.samples;
+                m += 1;
+            }
+        }
+    }
+    Tally::Counted(samples, m)
+}

@@ -1,0 +1,136 @@
+use Prim.Native.Nat.{ℕ, _*_, _-_}
+use mathlib.Core.Path.{_≡_, refl, sym, ap, _∙_}
+use mathlib.Core.List.{List, _++_}
+use native.Mathlib.Omega.{arith}
+use lib.ListN.{length, getD, take, drop, length-drop}
+use lib.Seq.{getD-drop, length-take-le}
+use Rattle.rows.specs.Rows.{rowOf}
+use Rattle.rows.specs.Cells.{rowsOf, laid}
+use Rattle.rows.specs.Changed.{insertAt}
+use Rattle.rules.proofs.Lent.{from-on}
+use Rattle.notes.specs.Cells.{headsOf}
+use Rattle.notes.specs.Changed.{opened}
+use Rattle.notes.proofs.Stored.{part-made, part-length, heads-more, held-all, marks-order, note-put}
+use borrow.Author.Needs.{needs}
+use Rattle.notes.proofs.put_note.Statement.{statement}
+use Rattle.notes.proofs.put_note.Tie as tie
+use Rattle.notes.proofs.put_note.Reads as reads
+use Rattle.notes.proofs.put_note.Lts as lts
+use Rattle.notes.proofs.marks_before.Reads as marks-before-reads
+use Rattle.notes.proofs.open_up.Reads as open-up-reads
+use Rattle.placing.proofs.insert.Reads as insert-reads
+
+marks-before-requires : tie.Need-marks-before-requires
+marks-before-requires c κs = search needs
+
+mul-at : tie.Need-mul-at
+mul-at c = search needs
+
+marks-before-requires-2 : tie.Need-marks-before-requires-2
+marks-before-requires-2 c κs = search needs
+
+mul-used : tie.Need-mul-used
+mul-used c = search needs
+
+mul-end : tie.Need-mul-end
+mul-end c = search needs
+
+sub-insert : tie.Need-sub-insert
+sub-insert c = search needs
+
+part-insert-start : tie.Need-part-insert-start
+part-insert-start c = search needs
+
+part-insert-end : tie.Need-part-insert-end
+part-insert-end c = search needs
+
+insert-requires : tie.Need-insert-requires
+insert-requires c κs =
+    let s = c .before .before .before .before .before .before .before in
+    let t = s .args .table .now in
+    let e = from-on t 97 in
+    let first : getD (take (length t - 97) (drop 97 t)) 0 0 ≡ getD t 97 0 = ap (λ (x : List ℕ). getD x 0 0) e ∙ getD-drop 97 t 0 0 in
+    ((omega (arith, first), omega arith, omega arith, rw e (omega (arith, length-drop 97 t))), (omega arith, omega arith, omega arith))
+
+sub-open-up : tie.Need-sub-open-up
+sub-open-up c = search needs
+
+part-open-up-start : tie.Need-part-open-up-start
+part-open-up-start c = search needs
+
+part-open-up-end : tie.Need-part-open-up-end
+part-open-up-end c = search needs
+
+slice-aggregate-open-up : tie.Need-slice-aggregate-open-up
+slice-aggregate-open-up c =
+    let s = c .before .before .before .before .before .before .before .before .before .before .before .before .args in
+    sym (length-take-le (2 * s .m) (s .marks .now) (omega arith))
+
+open-up-requires : tie.Need-open-up-requires
+open-up-requires c κs =
+    let insert = c .before .before .before .before in
+    let marks-before2 = insert .before .before in
+    let marks-before = marks-before2 .before .before in
+    let s = marks-before .before .before .before .before .args in
+    let t = s .table .now in
+    let r = rowOf (s .law) (s .samples) (s .m) in
+    let made = part-made 97 (λ (u : List ℕ). laid (insertAt (s .i) r (rowsOf u)) u) t (insert .insert .ensures) refl in
+    let size = part-length t (s .n) (s .i) (omega arith) (omega arith) (omega arith) (insertAt (s .i) r (headsOf t))
+    (heads-more t (s .n) (s .i) (omega arith) (omega arith) (omega arith) r (omega arith)) made in
+    let first = marks-before .marks-before .ensures .0 in
+    let all = marks-before2 .marks-before2 .ensures .0 in (
+      omega (arith, marks-order t (s .n) (s .i) (omega arith) (omega arith) (omega arith), first, all),
+      omega (
+        arith,
+        size,
+        all,
+        held-all t (s .n) (s .i) (omega arith) (omega arith) (omega arith),
+        length-take-le (2 * s .m) (s .marks .now)
+            (omega arith),
+      ),
+    )
+
+same-length : tie.Need-same-length
+same-length c = search needs
+
+returns : tie.Need-returns
+returns c =
+    let open-up = c .before .before in
+    let insert = open-up .before .before .before .before .before in
+    let marks-before2 = insert .before .before in
+    let marks-before = marks-before2 .before .before in
+    let s = marks-before .before .before .before .before .args in
+    let t = s .table .now in
+    let r = rowOf (s .law) (s .samples) (s .m) in
+    let new = take (2 * s .m) (s .marks .now) in
+    let at = marks-before .marks-before .ensures .0 in
+    let used = marks-before2 .marks-before2 .ensures .0 in
+    let front = 2 * marks-before .marks-before .result in
+    let all = 2 * marks-before2 .marks-before2 .result in
+    let once = take 97 t ++ (insert .insert .last .0 ++ drop (length t - 97) (drop 97 t)) in
+    let made = part-made 97 (λ (u : List ℕ). laid (insertAt (s .i) r (rowsOf u)) u) t (insert .insert .ensures) refl in
+    note-put t (s .n) (s .i) (omega arith) (omega arith) (omega arith) (s .law) (s .samples) (s .m) (s .marks .now) new (omega arith) (omega arith)
+    refl
+    (ap (λ (x : ℕ). 2 * x) at) (ap (λ (x : ℕ). 2 * x) used) made
+    (part-made 194 (λ (u : List ℕ). opened u front all new) once (open-up .open-up .ensures) refl)
+
+pub put-note-spec : {M : Type 1} → statement M
+put-note-spec =
+    tie.close
+    (tie.spec
+    marks-before-requires
+    mul-at
+    marks-before-requires-2
+    mul-used
+    mul-end
+    sub-insert
+    part-insert-start
+    part-insert-end
+    insert-requires
+    sub-open-up
+    part-open-up-start
+    part-open-up-end
+    slice-aggregate-open-up
+    open-up-requires
+    same-length
+    returns)

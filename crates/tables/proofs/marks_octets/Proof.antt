@@ -1,0 +1,64 @@
+-- Counted mark by mark (Writing, Counting).
+use Prim.Native.Nat.{_*_, _-_, _≤_}
+use native.Mathlib.Omega.{arith}
+use Rattle.notes.specs.Cells.{marksIn}
+use Rattle.tables.specs.Noted.{marksText}
+use Rattle.tables.proofs.Writing.{Counting, counting-first, counting-turn, counting-end}
+use Rattle.tables.proofs.Writing.{marksLeft, markLaid, marks-start, marks-left, marks-over}
+use borrow.Author.Needs.{needs}
+use Rattle.tables.proofs.marks_octets.Statement.{statement}
+use Rattle.tables.proofs.marks_octets.Tie as tie
+
+abbrev Inv-loop : tie.InvT-loop
+Inv-loop cells m sum₀ j₀ sum j = (j ≤ m) × Counting (marksText (marksIn m cells)) (marksLeft cells m j) sum (27 * j)
+
+abbrev μ-loop : tie.MeasureT-loop
+μ-loop cells m sum₀ j₀ sum j = m - j
+
+loop-holds : tie.Need-loop-holds Inv-loop μ-loop
+loop-holds c = (omega arith, counting-first (marks-start _ _))
+
+mul-mark-octets : tie.Need-mul-mark-octets Inv-loop μ-loop
+mul-mark-octets c = search needs
+
+mark-octets-requires : tie.Need-mark-octets-requires Inv-loop μ-loop
+mark-octets-requires c κs = search needs
+
+add-sum : tie.Need-add-sum Inv-loop μ-loop
+add-sum c = omega (arith, c .before .before .loop .inv .1 .few, c .mark-octets .ensures .1)
+
+add-j : tie.Need-add-j Inv-loop μ-loop
+add-j c = search needs
+
+loop-less : tie.Need-loop-less Inv-loop μ-loop
+loop-less c = search needs
+
+loop-again : tie.Need-loop-again Inv-loop μ-loop
+loop-again c =
+    let l = c .before .before in
+    let a = l .before .before .args in
+    let r = c .mark-octets .ensures in
+    let m = marks-left (a .cells .now) (a .m) (l .loop .j) (omega arith) in
+    (omega arith, counting-turn (markLaid (a .cells .now) (l .loop .j)) (l .loop .inv .1) m (r .0) (r .1) (omega arith))
+
+returns : tie.Need-returns Inv-loop μ-loop
+returns c =
+    let l = c .before in
+    let a = l .before .before .args in
+    let e = counting-end (l .loop .inv .1) (marks-over (a .cells .now) (a .m) (l .loop .j) (omega arith)) in
+    (e, omega (arith, l .loop .inv .1 .few))
+
+pub marks-octets-spec : {M : Type 1} → statement M
+marks-octets-spec =
+    tie.close
+    (tie.spec
+    Inv-loop
+    μ-loop
+    loop-holds
+    mul-mark-octets
+    mark-octets-requires
+    add-sum
+    add-j
+    loop-less
+    loop-again
+    returns)

@@ -1,0 +1,146 @@
+//! A store's table as lines (document 02, R-6 and R-8), written and read.
+//!
+//! Reading has three steps over the whole table, one after the other: the
+//! lines and all that they alone can tell, with TABLE; the walk over each
+//! greeting, with BAD; samples and marks beside what the walk gave, with TABLE.
+
+use crate::marks::{walk_greeting, Mark, Walked};
+use crate::store::{Greeting, Store, BAD, MOST_GREETINGS, MOST_NUMBER, ROOM, TABLE};
+
+/// The law of greetings in R-6's lines, which don't name it.
+const EARLY_LAW: u32 = 1;
+
+impl Store {
+    /// Writes the table to the start of `out`; gives its octets.
+    pub fn save(&self, out: &mut [u8]) -> Result<usize, u32> {
+        let text = self.text();
+        out.get_mut(..text.len()).ok_or(ROOM)?.copy_from_slice(&text);
+        Ok(text.len())
+    }
+
+    /// The table's lines, always R-8's.
+    pub fn text(&self) -> Vec<u8> {
+        let mut text = String::new();
+        for Greeting { number, start, octets, law, samples, marks } in &self.greetings {
+            text += &format!("prompt={number}\nstart={start}\noctets={octets}\nlaw={law}\nsamples={samples}\n");
+            for mark in marks {
+                text += &format!("mark={},{}\n", mark.octets, mark.samples);
+            }
+        }
+        text.into_bytes()
+    }
+
+    /// The store that a table and its block give.
+    pub fn load(text: &[u8], block: Vec<u8>) -> Result<Store, u32> {
+        let mut store = Store::fresh(block);
+        let rows = parse(text, store.size()).ok_or(TABLE)?;
+        let mut all_true = true;
+        for row in rows {
+            let octets = &store.block[row.start..row.start + row.octets];
+            let law = row.said.as_ref().map_or(EARLY_LAW, |said| said.law);
+            let walked = walk_greeting(octets, law).ok_or(BAD)?;
+            all_true &= row.said.is_none_or(|said| said.is_what(&walked));
+            let Walked { samples, marks } = walked;
+            let Row { number, start, octets, .. } = row;
+            store.greetings.push(Greeting { number, start, octets, law, samples, marks });
+        }
+        all_true.then_some(store).ok_or(TABLE)
+    }
+}
+
+/// A greeting's lines.
+struct Row {
+    number: u32,
+    start: usize,
+    octets: usize,
+    /// R-8's lines, if there are any.
+    said: Option<Said>,
+}
+
+/// What a greeting's lines say beside where it lies.
+struct Said {
+    law: u32,
+    samples: u128,
+    marks: Vec<(u128, u128)>,
+}
+
+impl Said {
+    fn is_what(&self, walked: &Walked) -> bool {
+        let given = |mark: &Mark| (mark.octets as u128, mark.samples as u128);
+        self.samples == walked.samples as u128 && walked.marks.iter().map(given).eq(self.marks.iter().copied())
+    }
+}
+
+/// The greetings of a table that is good but for what their octets are, and
+/// for what the walk gives of them.
+fn parse(text: &[u8], size: usize) -> Option<Vec<Row>> {
+    let mut rows: Vec<Row> = vec![];
+    let mut rest = text;
+    let mut end = 0;
+    while !rest.is_empty() {
+        let number = line(&mut rest, "prompt")?;
+        let start = line(&mut rest, "start")?;
+        let octets = line(&mut rest, "octets")?;
+        // Only the next greeting's lines, or the end, may follow R-6's.
+        let said = if rest.is_empty() || rest.starts_with(b"prompt=") { None } else { Some(say(&mut rest)?) };
+        if !(1..=u128::from(MOST_NUMBER)).contains(&number) {
+            return None;
+        }
+        if start < end || start.saturating_add(octets) > size as u128 {
+            return None;
+        }
+        end = start + octets;
+        let number = number as u32;
+        if rows.iter().any(|row| row.number == number || row.said.is_some() != said.is_some()) {
+            return None;
+        }
+        rows.push(Row { number, start: start as usize, octets: octets as usize, said });
+    }
+    (rows.len() <= MOST_GREETINGS).then_some(rows)
+}
+
+/// R-8's lines of a greeting: the law, the samples, then marks, as many as
+/// there are, none too.
+fn say(text: &mut &[u8]) -> Option<Said> {
+    let law = line(text, "law")?;
+    let samples = line(text, "samples")?;
+    let mut marks = vec![];
+    while text.starts_with(b"mark=") {
+        marks.push(mark(text)?);
+    }
+    (law <= 1).then_some(Said { law: law as u32, samples, marks })
+}
+
+/// Takes `key=decimal` and octet 0A off the text.
+fn line(text: &mut &[u8], key: &str) -> Option<u128> {
+    *text = text.strip_prefix(key.as_bytes())?.strip_prefix(b"=")?;
+    let number = decimal(text)?;
+    *text = text.strip_prefix(b"\n")?;
+    Some(number)
+}
+
+/// Takes `mark=decimal,decimal` and octet 0A off the text.
+fn mark(text: &mut &[u8]) -> Option<(u128, u128)> {
+    *text = text.strip_prefix(b"mark=")?;
+    let octets = decimal(text)?;
+    *text = text.strip_prefix(b",")?;
+    let samples = decimal(text)?;
+    *text = text.strip_prefix(b"\n")?;
+    Some((octets, samples))
+}
+
+/// Takes a decimal without leading zeros off the text. One of very many digits
+/// is the greatest number that there is here: too large for anything, and not
+/// what any walk gives.
+fn decimal(text: &mut &[u8]) -> Option<u128> {
+    let count = text.iter().take_while(|octet| octet.is_ascii_digit()).count();
+    let (digits, rest) = text.split_at(count);
+    *text = rest;
+    if digits.is_empty() || (digits[0] == b'0' && count > 1) {
+        return None;
+    }
+    let add = |number: u128, digit: &u8| {
+        number.saturating_mul(10).saturating_add(u128::from(digit - b'0'))
+    };
+    Some(digits.iter().fold(0, add))
+}

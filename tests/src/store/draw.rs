@@ -1,0 +1,127 @@
+//! What lists of calls are drawn from.
+
+use super::{a_greeting, Call, Stores, BLOCK, MARKS, MORE_ROWS, SAVED};
+use second::gen::{damage_somehow, Prng};
+
+/// What a list of calls draws from: the block, how many numbers, and greetings.
+pub struct Profile {
+    pub block: usize,
+    pub numbers: usize,
+    pub pool: Vec<Vec<u8>>,
+}
+
+/// Blocks with room for few greetings and for many, short ones and long ones; one longer than a store's.
+pub fn profiles(rng: &mut Prng) -> Vec<Profile> {
+    let kinds = [
+        (BLOCK, 40, 2_500),
+        (BLOCK, 24, 6_000),
+        (300, 60, 12),
+        (300, 12, 90),
+        (2_000, 50, 120),
+        (BLOCK + 300, 30, 5_000),
+        (40, 8, 20),
+    ];
+    let pool = |most: usize, rng: &mut Prng| (0..120).map(|_| a_greeting_of(most, rng)).collect();
+    kinds.map(|(block, numbers, most)| Profile { block, numbers, pool: pool(most, rng) }).into_iter().collect()
+}
+
+/// One in three has frames of one octet alone, and so many marks; pads come in rows.
+fn a_greeting_of(most: usize, rng: &mut Prng) -> Vec<u8> {
+    let octets = 1 + rng.below(most);
+    if rng.chance(1, 3) {
+        short_frames(octets, rng)
+    } else {
+        a_greeting(octets, rng)
+    }
+}
+
+/// So many frames of one octet, with rows of pads, some longer than from one mark to the next.
+pub fn short_frames(frames: usize, rng: &mut Prng) -> Vec<u8> {
+    let mut greeting = Vec::new();
+    while greeting.len() < frames {
+        if rng.chance(1, 12) {
+            greeting.resize(greeting.len() + rng.below(150), 0);
+        }
+        greeting.push(*rng.pick(&[0x41, 0x42, 0x81, 0x82, 0xC1, 0xC2, 0x21, 0x22, 0x31, 0x32, 0x00]));
+    }
+    greeting.truncate(frames);
+    greeting
+}
+
+pub fn a_number(profile: &Profile, rng: &mut Prng) -> u32 {
+    match rng.below(30) {
+        0 => 0,
+        1 => *rng.pick(&[65_535, 65_536, u32::MAX, 1 << 16 | 1]),
+        _ => 1 + rng.below(profile.numbers) as u32,
+    }
+}
+
+pub fn a_law(rng: &mut Prng) -> u32 {
+    match rng.below(40) {
+        0 => *rng.pick(&[2, 3, 256, 1 << 31, u32::MAX]),
+        _ => rng.below(2) as u32,
+    }
+}
+
+/// Octets for a put: most are taken by the walk.
+fn some_octets(profile: &Profile, rng: &mut Prng) -> Vec<u8> {
+    let greeting = rng.pick(&profile.pool).clone();
+    match rng.below(60) {
+        0 => Vec::new(),
+        1 | 2 => damage_somehow(&greeting, rng),
+        3 => vec![0; *rng.pick(&[profile.block, profile.block + 1, BLOCK, BLOCK + 1])],
+        4 if rng.chance(1, 20) => vec![0; 65_535 + rng.below(2)],
+        _ => greeting,
+    }
+}
+
+pub fn some_call(profile: &Profile, stores: &Stores, rng: &mut Prng) -> Call {
+    match rng.below(20) {
+        0..=10 => Call::Put(a_law(rng), a_number(profile, rng), some_octets(profile, rng)),
+        11..=14 => Call::Delete(a_number(profile, rng)),
+        15..=17 => Call::Get(a_number(profile, rng)),
+        _ => {
+            let saved = stores.model.text().len();
+            Call::Save(if rng.flip() { SAVED } else { (saved + 1).saturating_sub(rng.below(3)) })
+        }
+    }
+}
+
+/// A store of some greetings, made by puts, with gaps.
+pub fn some_store(profile: &Profile, stores: &mut Stores, rng: &mut Prng) {
+    stores.renew(rng.octets(profile.block));
+    for _ in 0..4 + rng.below(40) {
+        let number = 1 + rng.below(profile.numbers) as u32;
+        let call = match rng.below(5) {
+            0 => Call::Delete(number),
+            _ => Call::Put(rng.below(2) as u32, number, rng.pick(&profile.pool).clone()),
+        };
+        stores.call(&call);
+    }
+}
+
+/// The parts of a table in which a number is changed.
+pub const PARTS: [&str; 5] = ["how many", "rows", "law, samples, marks", "marks", "anywhere"];
+
+/// A number of a table changed at random, in a part of it.
+pub fn change(part: &str, cells: &mut [u32], rng: &mut Prng) {
+    let used = (cells[0] as usize).clamp(1, 32);
+    let at = match part {
+        "how many" => *rng.pick(&[0, MORE_ROWS]),
+        "rows" => 1 + rng.below(3 * used),
+        "law, samples, marks" => MORE_ROWS + 1 + rng.below(3 * used),
+        "marks" => MARKS + rng.below((cells.len() - MARKS).min(40)),
+        _ => rng.below(cells.len()),
+    };
+    let other = cells[rng.below(cells.len())];
+    cells[at] = match rng.below(8) {
+        0 => 0,
+        1 => 1,
+        2 => u32::MAX,
+        3 => cells[at].wrapping_add(1),
+        4 => cells[at].wrapping_sub(1),
+        5 => other,
+        6 => rng.below(40) as u32,
+        _ => cells[at] ^ 1 << rng.below(32),
+    };
+}

@@ -1,0 +1,122 @@
+//! The back ends: the proved code through its C calls, and the second program behind the same calls.
+
+use crate::{Codec, Proved, Second};
+use g7110::raw;
+use second::store::Store;
+use second::table;
+
+/// A call's number, and its report; one of fewer than two numbers has 0 behind them.
+#[derive(Clone, Copy, Debug, PartialEq, Eq)]
+pub struct Told {
+    pub ending: u32,
+    pub report: [u64; 2],
+}
+
+impl Told {
+    pub fn refused(ending: u32) -> Told {
+        Told { ending, report: [0; 2] }
+    }
+
+    pub fn ok(one: usize, other: usize) -> Told {
+        Told { ending: 0, report: [one as u64, other as u64] }
+    }
+
+    /// A report that is lent full of ones, so that a number that is not written shows.
+    fn by<const N: usize>(call: impl FnOnce(&mut [u64; N]) -> u32) -> Told {
+        let mut report = [u64::MAX; N];
+        let ending = call(&mut report);
+        let mut told = Told::refused(ending);
+        told.report[..N].copy_from_slice(&report);
+        told
+    }
+}
+
+/// A back end: the six calls, whoever answers them.
+pub trait Keeps {
+    fn cells(&self, size: u64) -> u64;
+    fn put(&self, block: &mut [u8], table: &mut [u32], law: u32, number: u32, octets: &[u8]) -> Told;
+    fn get(&self, block: &[u8], table: &[u32], number: u32) -> Told;
+    fn delete(&self, block: &[u8], table: &mut [u32], number: u32) -> Told;
+    fn save(&self, block: &[u8], table: &[u32], out: &mut [u8]) -> Told;
+    fn load(&self, text: &[u8], block: &[u8], table: &mut [u32]) -> Told;
+
+    /// The reader that the promises are checked with: the back end's own.
+    fn reader(&self) -> &dyn Codec;
+}
+
+impl Keeps for Proved {
+    fn cells(&self, size: u64) -> u64 {
+        raw::store_cells(size)
+    }
+
+    fn put(&self, block: &mut [u8], table: &mut [u32], law: u32, number: u32, octets: &[u8]) -> Told {
+        Told::by(|report| raw::store_put(block, table, law, number, octets, report))
+    }
+
+    fn get(&self, block: &[u8], table: &[u32], number: u32) -> Told {
+        Told::by(|report| raw::store_get(block, table, number, report))
+    }
+
+    fn delete(&self, block: &[u8], table: &mut [u32], number: u32) -> Told {
+        Told::refused(raw::store_delete(block, table, number))
+    }
+
+    fn save(&self, block: &[u8], table: &[u32], out: &mut [u8]) -> Told {
+        Told::by(|report| raw::store_save(block, table, out, report))
+    }
+
+    fn load(&self, text: &[u8], block: &[u8], table: &mut [u32]) -> Told {
+        Told::refused(raw::store_load(text, block, table))
+    }
+
+    fn reader(&self) -> &dyn Codec {
+        self
+    }
+}
+
+/// The second program: the store of the lent numbers, one call on it, and its numbers again.
+impl Keeps for Second {
+    fn cells(&self, size: u64) -> u64 {
+        table::cells(size)
+    }
+
+    fn put(&self, block: &mut [u8], cells: &mut [u32], law: u32, number: u32, octets: &[u8]) -> Told {
+        let put = table::open(block, cells).and_then(|mut store| {
+            let put = store.put(law, number, octets)?;
+            block.copy_from_slice(&store.block);
+            table::close(&store, cells);
+            Ok(Told::ok(put.start, put.moved))
+        });
+        put.unwrap_or_else(Told::refused)
+    }
+
+    fn get(&self, block: &[u8], cells: &[u32], number: u32) -> Told {
+        let got = table::open(block, cells).and_then(|store| store.get(number));
+        got.map_or_else(Told::refused, |(start, octets)| Told::ok(start, octets))
+    }
+
+    fn delete(&self, block: &[u8], cells: &mut [u32], number: u32) -> Told {
+        let deleted = table::open(block, cells).and_then(|mut store| {
+            store.delete(number)?;
+            table::close(&store, cells);
+            Ok(())
+        });
+        deleted.map_or_else(Told::refused, |()| Told::ok(0, 0))
+    }
+
+    fn save(&self, block: &[u8], cells: &[u32], out: &mut [u8]) -> Told {
+        let saved = table::open(block, cells).and_then(|store| store.save(out));
+        saved.map_or_else(Told::refused, |octets| Told::ok(octets, 0))
+    }
+
+    fn load(&self, text: &[u8], block: &[u8], cells: &mut [u32]) -> Told {
+        let fresh = Store::fresh(block.to_vec());
+        let loaded = table::check_length(&fresh, cells).and_then(|()| Store::load(text, fresh.block));
+        let loaded = loaded.map(|store| table::close(&store, cells));
+        loaded.map_or_else(Told::refused, |()| Told::ok(0, 0))
+    }
+
+    fn reader(&self) -> &dyn Codec {
+        self
+    }
+}
