@@ -128,6 +128,7 @@ static void settings(void)
 /* Each call over a store: greetings of every kind of frame, gaps, closing up, and one that is refused. */
 static void store(const uint8_t *stream, size_t length)
 {
+    static const char early[] = "prompt=1\nstart=0\noctets=1\n"; /* the first frame, in R-6's lines */
     static uint8_t text[8192], large[6000];
     uint64_t saved[1];
     size_t sample;
@@ -144,6 +145,7 @@ static void store(const uint8_t *stream, size_t length)
     measure(14, NULL, 0);
     if (g7110_store_save(block, sizeof block, table, sizeof table / sizeof *table, text, sizeof text, saved) != G7110_OK) return;
     measure(15, text, (size_t)saved[0]);
+    measure(15, (const uint8_t *)early, sizeof early - 1);
 }
 
 /* Both calls over a file: one of every kind of frame and of losses, written, read, and read where its last frame is cut. */

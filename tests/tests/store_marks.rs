@@ -66,6 +66,7 @@ fn frames_around_marks() {
                 assert_eq!(all.before.len(), frames);
                 let row = stores.model.greetings[1].clone();
                 assert_eq!((row.law, row.samples, row.marks.len()), (law, all.samples, frames.div_ceil(64)));
+                assert_eq!(row.marks, all.marks());
                 jumps_to_ends(&mut stores, 2, &all);
                 stores.saved_and_loaded();
                 let text = early_text_of(&stores.model.greetings);
@@ -83,6 +84,58 @@ fn frames_around_marks() {
         table.close();
         stores.close();
         say(&format!("compared: store, {name}, frames around marks: {} calls\n", stores.calls));
+    }
+}
+
+/// Greetings with all tools at all lengths, in any order, with rows of pads between: put, loaded again, loaded in R-6's lines.
+#[test]
+fn marks_with_all_tools() {
+    for (name, keeper) in KEEPERS {
+        let mut rng = Prng::new(802);
+        let mut stores = Stores::new(keeper, Vec::new());
+        let tools = [1, 2, 3, 4, 5, 6, 7];
+        let title = format!("store, {name}, frames between marks, by tool and length");
+        let mut table = Table::new(&title, &tools, &LENGTHS, share(300));
+        table.never(7, 40);
+        let (mut greetings, mut marks, mut equal) = (0, 0, 0);
+        for turn in 0..share(300) {
+            let law = turn as u32 % 2;
+            let lengths = |tool: u32| LENGTHS.map(|length| (tool, length));
+            let mut kinds: Vec<(u32, usize)> = tools.into_iter().flat_map(lengths).chain([(0, 0); 60]).collect();
+            rng.shuffle(&mut kinds);
+            let mut octets = Vec::new();
+            for (tool, length) in kinds {
+                // Two of 60 pads are a row that is longer than from one mark to the next.
+                let pads = if tool == 0 && rng.chance(1, 30) { 130 } else { 0 };
+                let form = any_form(tool, length, law, &mut rng).map_or(Vec::new(), |form| form.octets());
+                octets.extend(form.into_iter().chain(vec![0; pads]));
+            }
+            stores.renew(rng.octets(BLOCK));
+            stores.promised(&Call::Put(law, 7, vec![0; 1 + rng.below(9)]));
+            assert_eq!(stores.promised(&Call::Put(law, 8, octets.clone())).ending, 0);
+            let all = frames_of(keeper.reader(), &octets, law).expect("a good greeting");
+            equal += all.marks().windows(2).filter(|two| two[0].samples == two[1].samples).count();
+            let row = stores.model.greetings[1].clone();
+            assert_eq!((row.law, row.samples, &row.marks), (law, all.samples, &all.marks()));
+            stores.saved_and_loaded();
+            let early = early_text_of(&stores.model.greetings);
+            assert_eq!(stores.call(&Call::Load(early)).ending, 0);
+            let now = &stores.model.greetings[1];
+            assert_eq!((now.law, now.samples, &now.marks), (1, row.samples, &row.marks));
+            for (at, (place, _)) in all.before.iter().enumerate() {
+                let read = keeper.reader().read(&octets[*place..], law, 127, &mut [0; 320]);
+                let end = all.before.get(at + 1).map_or(octets.len(), |next| next.0);
+                assert_eq!(read.octets, end - place);
+                if read.tool != 0 {
+                    table.add(read.tool, read.samples);
+                }
+            }
+            (greetings, marks) = (greetings + 1, marks + row.marks.len());
+        }
+        table.close();
+        stores.close();
+        assert!(equal >= share(50), "{equal} marks have the samples of the one before");
+        say(&format!("compared: store, {name}, all tools: {greetings} greetings, {marks} marks, {equal} equal ones\n"));
     }
 }
 
