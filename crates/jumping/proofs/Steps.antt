@@ -60,7 +60,8 @@ module _ (law samples m : ℕ) (xs cells : List ℕ) (sample : ℕ) where
         → before ≡ getD cells (2 * k + 1) 0 → r ≡ jumpFrom law xs k (markOf at before) sample → r ≡ jumpIn xs (noteIn law samples m cells) sample
     unfolding jumpIn
     in-from g {k} e l a b f =
-        rw (lt-leb samples sample h, ne-eqb (length (marksIn m cells)) 0 (λ z. absurd (omega (arith, z, length-marks m cells))), ← e, mark-at m k cells l, ← a, ← b) f
+        rw (lt-leb samples sample h, ne-eqb (length (marksIn m cells)) 0
+            (λ z. absurd (omega (arith, z, length-marks m cells))), ← e, mark-at m k cells l, ← a, ← b) f
 
 -- a greeting of a table that calls leave, and its note: it lies inside the block, its marks inside the cells
 module _ {size : ℕ} {t : List ℕ} (k : Noted size t) (z : size ≤ 16384) {i : ℕ} (h : i < getD t 0 0) where
@@ -79,14 +80,16 @@ module _ {size : ℕ} {t : List ℕ} (k : Noted size t) (z : size ≤ 16384) {i 
   -- in the greeting at place i
   pub row-at : (b : List ℕ) (sample : ℕ) {r g : Row} {law first : ℕ} {a : Answer} → r ≡ rowAt t (1 + 3 * i) → g ≡ rowAt (drop 97 t) (1 + 3 * i)
       → law ≡ getD t (98 + 3 * i) 0 → first ≡ 194 + 2 * marksHeld (rowsAt (drop 97 t) i 1)
-      → a ≡ jumpIn (take (r .start + r .octets - r .start) (drop (r .start) b)) (noteIn law (g .start) (g .octets) (take (length t - first) (drop first t))) sample
+      → a ≡ jumpIn (take (r .start + r .octets - r .start) (drop (r .start) b))
+          (noteIn law (g .start) (g .octets) (take (length t - first) (drop first t))) sample
       → a ≡ jumpIn (greeting b (nth i (rowsOf t))) (nthNote i (notesOf t)) sample
   row-at b sample {r} {g} {law} {first} {a} p q l f e =
       let n = getD t 0 0 in
       let o : r .start + r .octets - r .start ≡ r .octets = omega arith in
       let row : nth i (rowsOf t) ≡ r = nth-rows t n 1 i h ∙ sym p in
       let here : 97 + (1 + 3 * i) ≡ 98 + 3 * i = omega arith in
-      let lawful : law ≡ g .number = l ∙ sym (ap (λ (x : ℕ). getD t x 0) here) ∙ sym (getD-drop 97 t (1 + 3 * i) 0) ∙ sym (ap (λ (x : Row). x .number) q) in
+      let lawful : law ≡ g .number = l ∙ sym (ap (λ (x : ℕ). getD t x 0) here) ∙ sym (getD-drop 97 t (1 + 3 * i) 0)
+          ∙ sym (ap (λ (x : Row). x .number) q) in
       let note : nthNote i (notesOf t) ≡ noteIn law (g .start) (g .octets) (drop first t) =
       note-at t n i (sym (k .count)) h
       ∙ ap (λ (x : Row). noteIn (x .number) (x .start) (x .octets) (drop (194 + 2 * marksHeld (rowsAt (drop 97 t) i 1)) t)) (sym q)

@@ -51,10 +51,16 @@ module _ (ms : List Mark) (sample : ℕ) where
       half : (t : Bool) → leb (nthMark mid ms .samples) sample ≡ t → low + 1 < high → Later
           → LastAt ms sample (cond t (lastFrom more ms sample mid high) (lastFrom more ms sample low mid))
       half true e l later =
-          later mid high (record { some = omega arith; inside = w .inside; first = leb-true (nthMark mid ms .samples) sample e; behind = w .behind }) (omega arith)
+          let f = leb-true (nthMark mid ms .samples) sample e in
+          later mid high (record { some = omega arith; inside = w .inside; first = f; behind = w .behind }) (omega arith)
       half false e l later =
           later low mid
-          (record { some = omega arith; inside = omega (arith, w .inside); first = w .first; behind = λ _. leb-false (nthMark mid ms .samples) sample e })
+          (record {
+            some = omega arith;
+            inside = omega (arith, w .inside);
+            first = w .first;
+            behind = λ _. leb-false (nthMark mid ms .samples) sample e;
+          })
           (omega arith)
 
       by : (t : Bool) → leb high (low + 1) ≡ t → Later → LastAt ms sample (lastFrom (suc more) ms sample low high)
