@@ -56,7 +56,7 @@ module _ {size : ℕ} {s : Store} (k : Keeps size s) (x sample : ℕ) where
       by-sample : Dec (sample < samplesIn there) → Jumped s x sample (jumpInto s x sample)
       by-sample (yes l) =
           within n there l (subst (Named (there .law) (there .octets) sample) (sym into)
-              (jump-named (there .law) (there .octets) (there .good) sample l))
+          (jump-named (there .law) (there .octets) (there .good) sample l))
       by-sample (no l) =
           let m : samplesIn there ≤ sample = omega arith in
           let e = into ∙ beyond-in (there .octets) (noteOf (there .law) (there .octets)) sample m in

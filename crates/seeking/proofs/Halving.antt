@@ -1,11 +1,11 @@
 -- The last mark by halving: as many halvings as marks are enough (`enough`), and one halving keeps what is found (`halved`).
 -- `mark-at`: a mark in its cells.
-use Prim.Native.Nat.{ℕ, zero, suc, _+_, _*_, _-_, _/_, _≤_, _<_}
+use Prim.Native.Nat.{ℕ, zero, suc, _+_, _*_, _-_, _≤_, _<_}
 use mathlib.Core.Path.{_≡_, refl, sym, ap, _∙_}
 use mathlib.Core.List.{List}
 use mathlib.Core.Bool.{Bool, true, false, cond}
 use native.Mathlib.Omega.{arith}
-use lib.ListN.{length, getD, drop}
+use lib.ListN.{getD, drop}
 use lib.Seq.{getD-drop}
 use lib.Dec.{leb}
 use borrow.Author.Tests.{le-leb, lt-leb, leb-true, leb-false}
@@ -26,7 +26,7 @@ mark-at (suc m) (suc k) cells h =
     let a = getD-drop 2 cells (2 * k) 0 ∙ ap (λ (n : ℕ). getD cells n 0) e in
     let b = getD-drop 2 cells (2 * k + 1) 0 ∙ ap (λ (n : ℕ). getD cells n 0) f in
     mark-at m k (drop 2 cells) (omega arith) ∙ ap (λ (x : ℕ). markOf x (getD (drop 2 cells) (2 * k + 1) 0)) a
-        ∙ ap (λ (x : ℕ). markOf (getD cells (2 * suc k) 0) x) b
+    ∙ ap (λ (x : ℕ). markOf (getD cells (2 * suc k) 0) x) b
 
 -- the two halves
 module _ (before sample low high : ℕ) where
@@ -94,7 +94,7 @@ module _ (ms : List Mark) (sample : ℕ) where
           let e : high - low ≡ suc (high - (low + 1)) = omega arith in
           ap (λ (k : ℕ). lastFrom k ms sample low high) e ∙ last-step (high - (low + 1)) low high h
           ∙ ap (λ (x : ℕ). cond (leb x sample) (lastFrom (high - (low + 1)) ms sample mid high)
-              (lastFrom (high - (low + 1)) ms sample low mid)) (sym b)
+          (lastFrom (high - (low + 1)) ms sample low mid)) (sym b)
 
       by : (t : Bool) → leb before sample ≡ t → Halved low high (cond t (spanOf mid high) (spanOf low mid))
       by true e =
@@ -137,7 +137,7 @@ module _ {m : ℕ} {cells : List ℕ} {sample low high : ℕ} (w : Found m cells
       → Halved (marksIn m cells) sample low high r
   found-half h e =
       rw e (halved (marksIn m cells) sample low high h
-          (ap (λ (x : Mark). x .samples) (sym (mark-at m (middle low high) cells (omega (arith, w .inside))))))
+      (ap (λ (x : Mark). x .samples) (sym (mark-at m (middle low high) cells (omega (arith, w .inside))))))
 
   pub found-turn : {r : Span} → Halved (marksIn m cells) sample low high r → Found m cells sample (r .low) (r .high)
   found-turn h = record { same = w .same ∙ h .same; some = h .some; inside = omega (arith, h .inside, w .inside) }

@@ -1,7 +1,7 @@
 -- What halving finds is a mark at or before the sample, and the next one, if there is one, is behind it (`last-mark-is`); for rising marks it is
 -- the last one at or before the sample (`last-mark-only`).
 use Prim.Native.Nat.{ℕ, zero, suc, _+_, _≤_, _<_}
-use mathlib.Core.Path.{_≡_, refl, sym, ap, subst, _∙_}
+use mathlib.Core.Path.{_≡_, refl, sym, subst}
 use mathlib.Core.List.{List}
 use mathlib.Core.Bool.{Bool, true, false, cond}
 use native.Mathlib.Omega.{arith}

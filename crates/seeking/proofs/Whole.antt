@@ -46,7 +46,7 @@ seek-within sample i before (f ∷ a) b l h = by (ltb sample (before + length (f
     by false e later =
         let m = ltb-false sample here e in
         seek-past sample i before f (a ++ b) m ∙ later m (omega (arith, h, length-append (f .found .samples) (samplesKept a)))
-            ∙ sym (seek-past sample i before f a m)
+        ∙ sym (seek-past sample i before f a m)
 
 -- a sample that the frames have, in the frame that holds it; the first of them is frame i
 record Seen (sample i before : ℕ) (fs : List Delivered) : Type 0 where

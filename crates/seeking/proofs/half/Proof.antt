@@ -1,4 +1,3 @@
-use mathlib.Core.Path.{_≡_}
 use native.Mathlib.Omega.{arith}
 use Rattle.seeking.proofs.Halving.{half-up, half-down}
 use borrow.Author.Needs.{needs}

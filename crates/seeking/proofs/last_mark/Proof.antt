@@ -1,7 +1,6 @@
 use Prim.Native.Nat.{_-_}
 use native.Mathlib.Omega.{arith}
 use Rattle.seeking.proofs.Halving.{Found, found-start, found-half, found-turn, found-last}
-use borrow.Author.Needs.{needs}
 use Rattle.seeking.proofs.last_mark.Statement.{statement}
 use Rattle.seeking.proofs.last_mark.Tie as tie
 use Rattle.seeking.proofs.last_mark.Reads as reads

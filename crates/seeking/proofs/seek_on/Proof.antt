@@ -3,7 +3,6 @@ use Prim.Native.Nat.{_+_, _-_, _≤_, _<_}
 use mathlib.Core.Path.{_≡_, refl}
 use native.Mathlib.Omega.{arith}
 use native.Mathlib.Nat.{le-of-lt}
-use mathlib.Core.Logic.{⊎-elim}
 use borrow.Author.Tests.{ltb-true, ltb-false}
 use lib.ListN.{length, drop, length-drop}
 use Rattle.rules.specs.declared.Ending.the-variants.{Done}
@@ -53,7 +52,7 @@ returns : tie.Need-returns Inv-loop μ-loop
 returns c =
     let s = c .before .before in
     seek-refused _ _ _ _ _ _ (s .before .before .before .before .loop .inv) (omega arith) (here (s .before .before))
-        (s .pass .ensures .tells) _ (c .enum-told .given .1)
+    (s .pass .ensures .tells) _ (c .enum-told .given .1)
 
 enum-told-2 : tie.Need-enum-told-2 Inv-loop μ-loop
 enum-told-2 c = search needs
@@ -73,7 +72,7 @@ returns-2 : tie.Need-returns-2 Inv-loop μ-loop
 returns-2 c =
     let s = c .before .before .before .before in
     seek-found _ _ _ _ _ _ (s .before .before .before .before .loop .inv) (omega arith) (here (s .before .before))
-        (s .pass .ensures .tells) (c .before .before .enum-told2 .given .1) (omega arith)
+    (s .pass .ensures .tells) (c .before .before .enum-told2 .given .1) (omega arith)
 
 add-place : tie.Need-add-place Inv-loop μ-loop
 add-place c =
@@ -98,7 +97,7 @@ loop-again : tie.Need-loop-again Inv-loop μ-loop
 loop-again c =
     let s = c .before .before .before .before .before .before .before in
     seek-turn _ _ _ _ _ _ (s .before .before .before .before .loop .inv) (omega arith) (here (s .before .before))
-        (s .pass .ensures .tells) (c .before .before .before .before .before .enum-told2 .given .1) (omega arith) (s .pass .ensures .size)
+    (s .pass .ensures .tells) (c .before .before .before .before .before .enum-told2 .given .1) (omega arith) (s .pass .ensures .size)
 
 returns-3 : tie.Need-returns-3 Inv-loop μ-loop
 returns-3 c = seek-ended _ _ _ _ _ _ (c .before .before .loop .inv) (ltb-false _ _ (c .if1 .left))
