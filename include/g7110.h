@@ -34,6 +34,7 @@
  *
  * VERSIONS
  *   G7110_VERSION goes up by one when a call is added, or a call or its report changes.
+ *   10  g7110_store_jump.
  *   9   g7110_store_put takes the law, before the number. A store's table has more numbers: the law, the samples and the marks of
  *       each greeting. g7110_store_save writes them; g7110_store_load takes its text and that of version 7. A program that was
  *       compiled for an earlier version must be compiled again. A table's numbers of version 7 are refused with G7110_TABLE: load
@@ -117,17 +118,27 @@
  *   it, all greetings first close up from 0 in their order: those whose start changes are moved, and the octets moved are
  *   reported. So G7110_NOROOM is given only when the octets held and the new ones exceed the block. No other octet of the
  *   block is written, and every other greeting reads the same. Deleting writes nothing into the block.
- *   Refusals, in order: G7110_TABLE, G7110_LAW (put), G7110_NUMBER, G7110_TAKEN (put) or G7110_ABSENT (get, delete), G7110_BAD,
- *   G7110_FULL, G7110_NOROOM. G7110_TABLE is for a table that is too short, or that calls do not leave for a block of this size: more
+ *   A jump names the frame that holds a sample of a greeting: it begins at the last mark at or before the sample, and reads 1 to 64
+ *   frames, whatever the greeting's length. What it names is what a walk from the greeting's start would.
+ *   Refusals, in order: G7110_TABLE, G7110_LAW (put), G7110_NUMBER, G7110_TAKEN (put) or G7110_ABSENT (get, delete, jump), G7110_BAD
+ *   (put), G7110_FULL, G7110_NOROOM; of a jump G7110_BEYOND, then G7110_BAD. G7110_TABLE is for a table that is too short, or that calls do not leave for a block of this size: more
  *   than 32 greetings, starts not in order, greetings that overlap, are empty or pass the block's end, a number out of range
  *   or used twice; another count in cell 97 than in cell 0, a law above 1, or more marks of a greeting than its octets / 64 + 1.
- *   What the cells of samples and marks say is not judged; a save writes it as it stands. From calls alone G7110_TABLE can't arise,
- *   and samples and marks are true. A refused call leaves block and table as lent and reports zeros.
+ *   What the cells of samples and marks say is not judged; a save writes it as it stands, and a jump goes by it: G7110_BEYOND is by
+ *   the table's samples, and where the frames from the mark on do not reach the sample, or one of them is refused, it is G7110_BAD.
+ *   From calls alone G7110_TABLE can't arise, nor G7110_BAD of a jump, and samples and marks are true. A refused call leaves block
+ *   and table as lent and reports zeros.
  *   To play greeting 7:
  *
  *     uint64_t got[2];
  *     if (g7110_store_get(block, block_len, table, cells, 7, got) != G7110_OK) return 1;
  *     // its octets are the got[1] octets from block + got[0] on
+ *
+ *   To play it from its third second on, at 8,000 samples a second:
+ *
+ *     uint64_t to[4];
+ *     if (g7110_store_jump(block, block_len, table, cells, 7, 16000, to) != G7110_OK) return 1;
+ *     // read from the octet block + got[0] + to[1] on, and play the first frame from its sample to[2] on
  *
  * RECORDINGS
  *   Studios send the G.711.0 storage file of RFC 7655. It is a heading and then items one after another, at most G7110_MAX_STREAM
@@ -211,7 +222,7 @@
 extern "C" {
 #endif
 
-#define G7110_VERSION 9
+#define G7110_VERSION 10
 
 #define G7110_MAX_SAMPLES 320 /* samples of a frame */
 #define G7110_MAX_WRITTEN 321 /* octets of a written frame */
@@ -252,10 +263,11 @@ enum {
     G7110_HEAD = 14,   /* the first ten octets of a file are no heading: another letter or version, or fewer octets */
     G7110_NUMBER = 15, /* a greeting's number is 0 or above 65,535 */
     G7110_TAKEN = 16,  /* put: a greeting has the number */
-    G7110_ABSENT = 17, /* get, delete: no greeting has the number */
-    G7110_BAD = 18,    /* the greeting is empty, or the walk refuses it with set 127 and room enough */
+    G7110_ABSENT = 17, /* get, delete, jump: no greeting has the number */
+    G7110_BAD = 18,    /* the greeting is empty, or the walk refuses it with set 127 and room enough; jump: false marks */
     G7110_FULL = 19,   /* the store has 32 greetings */
     G7110_NOROOM = 20, /* the octets held and the new ones exceed the block's size */
+    G7110_BEYOND = 21, /* jump: the sample number isn't below the greeting's samples */
     G7110_TOTAL = 22,  /* total of samples not a multiple of 40, or above 1,000,000 */
     G7110_LINE = 23,   /* text not of the settings' form, or a value out of its range */
     G7110_GONE = 24,   /* revision not kept; 0 is never kept */
@@ -325,6 +337,12 @@ uint32_t g7110_store_get(const uint8_t *block, size_t block_len, const uint32_t 
 
 /* Takes a greeting out; its room is used again. Refused with G7110_TABLE, G7110_NUMBER, G7110_ABSENT. */
 uint32_t g7110_store_delete(const uint8_t *block, size_t block_len, uint32_t *table, size_t table_len, uint32_t number);
+
+/* Names the frame of a greeting that holds a sample, counted from 0 (document 02, R-9). Refused with G7110_TABLE, G7110_NUMBER,
+ * G7110_ABSENT, G7110_BEYOND, G7110_BAD. report: the frame, pads counted, its octet place from the greeting's start, the sample's place
+ * in the frame, and the frames read, 1 to 64: from the last mark at or before the sample up to and including the frame. */
+uint32_t g7110_store_jump(const uint8_t *block, size_t block_len, const uint32_t *table, size_t table_len, uint32_t number,
+                          uint64_t sample, uint64_t report[4]);
 
 /* Saves a store's table as text (document 02, R-6 and R-8): for each greeting in order of start the lines `prompt=`, `start=`,
  * `octets=`, `law=`, `samples=`, and for each of its marks a line `mark=` with the octets, a comma and the samples; decimal without

@@ -144,6 +144,19 @@ pub fn second_load(text: &[u8], block: &[u8]) -> u32 {
 }
 
 #[inline(never)]
+pub fn proved_jump(block: &[u8], table: &[u32], number: u32, sample: u64) -> u32 {
+    let mut report = [0; 4];
+    let ending = g7110::raw::store_jump(block, table, number, sample, &mut report);
+    black_box(&report);
+    ending
+}
+
+#[inline(never)]
+pub fn second_jump(store: &Store, number: u32, sample: u64) -> u32 {
+    black_box(store.jump(number, sample)).err().unwrap_or(0)
+}
+
+#[inline(never)]
 pub fn proved_mend(octets: &[u8], law: u32, total: u64, out: &mut [u8]) -> u32 {
     let mut report = [0; 4];
     let ending = g7110::raw::mend(octets, law, total, out, &mut report);

@@ -7,6 +7,7 @@ mod by_bits;
 mod calls;
 mod frames;
 mod greetings;
+mod jumps;
 mod mended;
 #[cfg(feature = "writer")]
 mod reasons;

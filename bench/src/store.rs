@@ -1,5 +1,5 @@
 //! The greeting store: puts beside the walk over the same octets and beside R-6's, closing up beside memmove, then
-//! the short calls.
+//! the short calls. Jumps are in jumps.rs.
 //!
 //! A call that changes the table finds it as it was each time, and that is in the time: for a put, whose greeting is the last,
 //! the 194 cells before the marks are copied back, for a delete all 770.
@@ -284,4 +284,5 @@ pub fn tables() {
     saving(&full);
     head("The store: loading 32 greetings of at most 512 octets, beside the walk over them", "load");
     greetings(512).iter().for_each(loading);
+    crate::jumps::tables();
 }

@@ -1,5 +1,6 @@
 //! What the walk gives of a greeting (document 02, R-8): its samples, and a
-//! mark for frames 0, 64, 128 and so on.
+//! mark for frames 0, 64, 128 and so on. And the jump to a sample from such a
+//! mark.
 
 use crate::read::read_frame;
 use crate::walk::MOST_OCTETS;
@@ -23,6 +24,19 @@ pub struct Walked {
     pub marks: Vec<Mark>,
 }
 
+/// What a jump reports.
+#[derive(Clone, Copy, Debug, PartialEq, Eq)]
+pub struct Jump {
+    /// Counted from 0, pads among them.
+    pub frame: usize,
+    /// Where the frame starts, from the greeting's start.
+    pub place: usize,
+    /// The sample's place in the frame.
+    pub within: usize,
+    /// Frames read, from the mark's up to and including this one.
+    pub read: usize,
+}
+
 /// Samples and marks of a greeting; none if the walk, room never short,
 /// refuses it, or if it is empty.
 pub fn walk_greeting(octets: &[u8], law: u32) -> Option<Walked> {
@@ -42,8 +56,46 @@ pub fn walk_greeting(octets: &[u8], law: u32) -> Option<Walked> {
     (frames > 0 && octets.len() <= MOST_OCTETS).then_some(walked)
 }
 
-/// Octets and samples of the frame at a place of a greeting, if it is one.
+/// The frame of a greeting that holds a sample. None where the marks, which
+/// may say anything, don't lead to it: a frame is refused, or 64 of them don't
+/// reach the sample.
+pub fn jump(octets: &[u8], law: u32, marks: &[Mark], sample: usize) -> Option<Jump> {
+    let at_mark = mark_of(marks, sample);
+    let mark = marks.get(at_mark)?;
+    let (mut place, mut before) = (mark.octets, mark.samples);
+    if before > sample {
+        return None;
+    }
+    for passed in 0..FRAMES_A_MARK {
+        let (length, samples) = frame_at(octets, place, law)?;
+        if sample < before + samples {
+            let frame = FRAMES_A_MARK * at_mark + passed;
+            return Some(Jump { frame, place, within: sample - before, read: passed + 1 });
+        }
+        place += length;
+        before += samples;
+    }
+    None
+}
+
+/// The last mark at or before the sample, if marks rise; found by halving, so
+/// it is one of them, and always the same one, whatever they say.
+fn mark_of(marks: &[Mark], sample: usize) -> usize {
+    let (mut low, mut high) = (0, marks.len());
+    while high - low > 1 {
+        let middle = low + (high - low) / 2;
+        if marks[middle].samples <= sample {
+            low = middle;
+        } else {
+            high = middle;
+        }
+    }
+    low
+}
+
+/// Octets and samples of the frame at a place of a greeting. No octets are
+/// left at its end, or past it, and so no frame.
 fn frame_at(octets: &[u8], place: usize, law: u32) -> Option<(usize, usize)> {
-    let frame = read_frame(&octets[place..], law, ALL_TOOLS, &mut [0; MOST_SAMPLES]);
+    let frame = read_frame(octets.get(place..)?, law, ALL_TOOLS, &mut [0; MOST_SAMPLES]);
     (frame.ending == 0).then_some((frame.octets, frame.samples))
 }

@@ -7,9 +7,9 @@
 //! and takes them over at its end, so a refused call can't have changed
 //! anything, and octets that move are read from the block as it was.
 
-use crate::marks::walk_greeting;
+use crate::marks::{jump, walk_greeting};
 
-pub use crate::marks::Mark;
+pub use crate::marks::{Jump, Mark};
 
 pub(crate) const ROOM: u32 = 4;
 const LAW: u32 = 12;
@@ -19,6 +19,7 @@ const ABSENT: u32 = 17;
 pub(crate) const BAD: u32 = 18;
 const FULL: u32 = 19;
 const NOROOM: u32 = 20;
+const BEYOND: u32 = 21;
 pub(crate) const TABLE: u32 = 26;
 
 /// A block has at most so many octets; what is lent past them isn't used.
@@ -117,6 +118,21 @@ impl Store {
         self.find(number).ok_or(ABSENT)?;
         self.greetings.retain(|greeting| greeting.number != number);
         Ok(())
+    }
+
+    /// The frame of a greeting that holds a sample. BAD only where the marks
+    /// or the block are not what calls left.
+    pub fn jump(&self, number: u32, sample: u64) -> Result<Jump, u32> {
+        check_number(number)?;
+        let greeting = self.find(number).ok_or(ABSENT)?;
+        if sample >= greeting.samples as u64 {
+            return Err(BEYOND);
+        }
+        jump(self.octets_of(greeting), greeting.law, &greeting.marks, sample as usize).ok_or(BAD)
+    }
+
+    pub(crate) fn octets_of(&self, greeting: &Greeting) -> &[u8] {
+        &self.block[greeting.start..greeting.end()]
     }
 
     fn find(&self, number: u32) -> Option<&Greeting> {

@@ -1,15 +1,17 @@
-//! Marks inside a greeting: worked out by hand, the readings K1 to K9, and all
-//! marks of drawn greetings.
+//! Marks inside a greeting and jumps to a sample: worked out by hand, the
+//! readings K1 to K9 and J1 to J6, and every sample of drawn greetings.
 
 use second::gen::{make_any_form, Prng};
 use second::read_frame;
-use second::store::{Mark, Store};
+use second::store::{Jump, Mark, Store};
 use second::table;
 
 const LAW: u32 = 12;
 const NUMBER: u32 = 15;
 const TAKEN: u32 = 16;
+const ABSENT: u32 = 17;
 const BAD: u32 = 18;
+const BEYOND: u32 = 21;
 const TABLE: u32 = 26;
 
 const A: u32 = 0;
@@ -30,6 +32,10 @@ fn holding(octets: &[u8]) -> Store {
 fn said(octets: &[u8]) -> (usize, Vec<(usize, usize)>) {
     let greeting = holding(octets).greetings[0].clone();
     (greeting.samples, greeting.marks.iter().map(|mark| (mark.octets, mark.samples)).collect())
+}
+
+fn jumped(frame: usize, place: usize, within: usize, read: usize) -> Result<Jump, u32> {
+    Ok(Jump { frame, place, within, read })
 }
 
 /// K1: a mark stands for a frame that is there.
@@ -184,10 +190,96 @@ fn bad_over_the_whole_table() {
     assert_eq!(Store::load(two.as_bytes(), vec![0x41, 0x41]), Err(TABLE));
 }
 
-/// Samples and marks of drawn greetings, beside a walk that keeps nothing but
-/// its own counts.
 #[test]
-fn all_marks_of_drawn_greetings() {
+fn jumps_by_hand() {
+    // 40 samples, a pad, 40, then 320 in two octets.
+    let store = holding(&[0x41, 0x00, 0x42, 0x33, 0xAA]);
+    assert_eq!(store.jump(1, 0), jumped(0, 0, 0, 1));
+    assert_eq!(store.jump(1, 39), jumped(0, 0, 39, 1));
+    assert_eq!(store.jump(1, 40), jumped(2, 2, 0, 3));
+    assert_eq!(store.jump(1, 79), jumped(2, 2, 39, 3));
+    assert_eq!(store.jump(1, 80), jumped(3, 3, 0, 4));
+    assert_eq!(store.jump(1, 399), jumped(3, 3, 319, 4));
+    assert_eq!(store.jump(1, 400), Err(BEYOND));
+    assert_eq!(store.jump(1, u64::MAX), Err(BEYOND));
+    assert_eq!(store.jump(1, 1 << 32), Err(BEYOND));
+}
+
+/// J1: of marks with equal samples the last, so at most 64 frames are read.
+#[test]
+fn jumps_over_pads() {
+    // 200 pads, then one frame: marks at 0, 64, 128 and 192, all with 0 before.
+    let mut octets = vec![0; 200];
+    octets.push(0x41);
+    let store = holding(&octets);
+    assert_eq!(store.jump(1, 0), jumped(200, 200, 0, 9));
+    // The last mark stands at the frame itself, and just before its samples.
+    let store = holding(&[vec![0; 64], vec![0x41; 65]].concat());
+    assert_eq!(store.jump(1, 0), jumped(64, 64, 0, 1));
+    assert_eq!(store.jump(1, 2_559), jumped(127, 127, 39, 64));
+    assert_eq!(store.jump(1, 2_560), jumped(128, 128, 0, 1));
+    // A sample before a row of pads that marks stand in.
+    let store = holding(&[vec![0x41], vec![0; 200], vec![0x41]].concat());
+    assert_eq!(store.jump(1, 39), jumped(0, 0, 39, 1));
+    assert_eq!(store.jump(1, 40), jumped(201, 201, 0, 10));
+}
+
+/// J2: the place counts from the greeting's start. J3: the refusals in order.
+#[test]
+fn where_and_when_a_jump_is_refused() {
+    let mut store = fresh(20);
+    store.put(MU, 5, &[0; 7]).unwrap();
+    store.put(A, 6, &[0x42, 0x43, 0xAA]).unwrap();
+    assert_eq!(store.jump(6, 45), jumped(1, 1, 5, 2));
+    assert_eq!(store.jump(0, 0), Err(NUMBER));
+    assert_eq!(store.jump(65_536, u64::MAX), Err(NUMBER));
+    assert_eq!(store.jump(7, u64::MAX), Err(ABSENT));
+    // A greeting of no samples has none to jump to.
+    assert_eq!(store.jump(5, 0), Err(BEYOND));
+    assert_eq!(store.jump(6, 80), Err(BEYOND));
+}
+
+/// J4 to J6: cells that no calls leave.
+#[test]
+fn jumps_by_false_marks() {
+    let store = holding(&[0x41; 200]);
+    let with = |samples: usize, marks: &[(usize, usize)]| {
+        let mut store = store.clone();
+        store.greetings[0].samples = samples;
+        store.greetings[0].marks = marks.iter().map(|&(octets, samples)| Mark { octets, samples }).collect();
+        store
+    };
+    // BEYOND by what is said; BAD where the greeting ends before it.
+    assert_eq!(with(100, &[(0, 0)]).jump(1, 100), Err(BEYOND));
+    assert_eq!(with(100, &[(0, 0)]).jump(1, 99), jumped(2, 2, 19, 3));
+    assert_eq!(with(9_000, &[(0, 0), (64, 2_560), (128, 5_120), (192, 7_680)]).jump(1, 8_000), Err(BAD));
+    // 64 frames don't reach it; no marks; marks past the end; a mark past the sample.
+    assert_eq!(with(8_000, &[(0, 0)]).jump(1, 2_559), jumped(63, 63, 39, 64));
+    assert_eq!(with(8_000, &[(0, 0)]).jump(1, 2_560), Err(BAD));
+    assert_eq!(with(8_000, &[]).jump(1, 0), Err(BAD));
+    assert_eq!(with(8_000, &[(200, 0)]).jump(1, 0), Err(BAD));
+    assert_eq!(with(8_000, &[(199, 0)]).jump(1, 0), jumped(0, 199, 0, 1));
+    assert_eq!(with(8_000, &[(4_294_967_295, 0)]).jump(1, 0), Err(BAD));
+    assert_eq!(with(8_000, &[(0, 1)]).jump(1, 0), Err(BAD));
+    assert_eq!(with(8_000, &[(0, 1)]).jump(1, 1), jumped(0, 0, 0, 1));
+    // Marks that don't rise: the halving decides. Of five, the one in the
+    // middle is asked first, then the first or the last but one.
+    let marks = [(0, 0), (1, 0), (2, 50), (3, 0), (4, 0)];
+    assert_eq!(with(8_000, &marks).jump(1, 10), jumped(64, 1, 10, 1));
+    assert_eq!(with(8_000, &marks).jump(1, 50), jumped(64 * 4 + 1, 5, 10, 2));
+    // A frame is read from the greeting's octets alone: these end inside it.
+    let mut cut = fresh(10);
+    cut.put(MU, 1, &[0x41, 0x43]).unwrap_err();
+    cut.put(MU, 1, &[0x41, 0x43, 0xAA]).unwrap();
+    cut.greetings[0].octets = 2;
+    assert_eq!(cut.jump(1, 39), jumped(0, 0, 39, 1));
+    assert_eq!(cut.jump(1, 40), Err(BAD));
+}
+
+/// Every sample of drawn greetings, beside a walk that keeps nothing but its
+/// own counts.
+#[test]
+fn every_sample_of_drawn_greetings() {
     let mut rng = Prng::new(9);
     let mut greetings = 0;
     while greetings < 20 {
@@ -207,18 +299,17 @@ fn all_marks_of_drawn_greetings() {
             continue;
         }
         greetings += 1;
-        let greeting = &store.greetings[0];
-        let (mut at, mut frames, mut samples) = (0, 0, 0);
+        let (mut at, mut frame, mut sample) = (0, 0, 0);
         while at < octets.len() {
-            if frames % 64 == 0 {
-                assert_eq!(greeting.marks[frames / 64], Mark { octets: at, samples });
-            }
             let read = read_frame(&octets[at..], law, 127, &mut [0; 320]);
+            for within in 0..read.samples {
+                assert_eq!(store.jump(9, sample), jumped(frame, at, within, frame % 64 + 1));
+                sample += 1;
+            }
             at += read.octets;
-            samples += read.samples;
-            frames += 1;
+            frame += 1;
         }
-        assert_eq!((greeting.law, greeting.samples, greeting.marks.len()), (law, samples, frames.div_ceil(64)));
+        assert_eq!(store.jump(9, sample), Err(BEYOND));
     }
 }
 
@@ -303,4 +394,5 @@ fn cells_that_calls_do_not_leave() {
     // With one mark fewer of the first, the second's is the mark before its own.
     let shifted = with(&[(100, 1)]).unwrap();
     assert_eq!(shifted.greetings[1].marks, [Mark { octets: 64, samples: 2_560 }]);
+    assert_eq!(shifted.jump(8, 0), Err(BAD));
 }

@@ -1,5 +1,5 @@
 //! The store: calls worked out by hand, the readings G1 to G10, and what is
-//! promised over drawn lists of calls. Marks are in `marks.rs`.
+//! promised over drawn lists of calls. Marks and jumps are in `marks.rs`.
 
 use second::gen::{make_any_form, Prng};
 use second::store::{Greeting, Mark, Put, Store, MOST_BLOCK};

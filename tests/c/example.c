@@ -170,12 +170,18 @@ static int store(void)
     static uint8_t block[300], text[G7110_MAX_TABLE];
     static uint32_t table[G7110_MAX_CELLS];
     uint8_t frames[70];
-    uint64_t told[2], octets[1];
+    uint64_t told[2], octets[1], to[4];
     memset(frames, 0x41, sizeof frames);
     CHECK(g7110_store_cells(sizeof block) == 266 && g7110_store_cells(G7110_MAX_BLOCK) == G7110_MAX_CELLS);
     CHECK(g7110_store_put(block, sizeof block, table, 266, 0, 7, (const uint8_t *)"\0", 2, told) == G7110_OK && told[0] == 0);
     CHECK(g7110_store_put(block, sizeof block, table, 266, 1, 8, frames, 70, told) == G7110_OK && told[0] == 2);
     CHECK(g7110_store_put(block, sizeof block, table, 266, 2, 0, NULL, 0, told) == G7110_LAW && told[0] == 0);
+    CHECK(g7110_store_jump(block, sizeof block, table, 266, 8, 2641, to) == G7110_OK);
+    CHECK(to[0] == 66 && to[1] == 66 && to[2] == 1 && to[3] == 3); /* frame 66, two after the mark of frame 64 */
+    CHECK(g7110_store_jump(block, sizeof block, table, 266, 8, 2559, to) == G7110_OK && to[0] == 63 && to[2] == 39 && to[3] == 64);
+    CHECK(g7110_store_jump(block, sizeof block, table, 266, 8, 2800, to) == G7110_BEYOND && to[0] == 0 && to[3] == 0);
+    CHECK(g7110_store_jump(block, sizeof block, table, 266, 7, 0, to) == G7110_BEYOND); /* pads hold no sample */
+    CHECK(g7110_store_jump(block, sizeof block, table, 266, 9, UINT64_MAX, to) == G7110_ABSENT);
     CHECK(g7110_store_save(block, sizeof block, table, 266, text, sizeof text, octets) == G7110_OK);
     CHECK(octets[0] == strlen(lines) && memcmp(text, lines, strlen(lines)) == 0);
     CHECK(g7110_store_load((const uint8_t *)early, strlen(early), block, sizeof block, table, 265) == G7110_TABLE);

@@ -10,9 +10,12 @@
 
 enum { STACK = 1 << 20, PAINT = 0xC5, STREAM = 4000 };
 
+/* Kinds of call, none among them. */
+enum { CALLS = 20 };
+
 struct call {
     int which; /* 0 none, 1 read, 2 write, 3 walk, 4 to linear values, 5 from them; of settings 6 save, 7 back, 8 read, 9 wipe;
-                * 10 why; of a store 11 put, 12 get, 13 delete, 14 save, 15 load; 16 mend; of a file 17 read, 18 write */
+                * 10 why; of a store 11 put, 12 get, 13 delete, 14 save, 15 load; 16 mend; of a file 17 read, 18 write; 19 jump */
     const uint8_t *given;
     size_t length;
 };
@@ -48,6 +51,7 @@ static void *make(void *argument)
     if (call->which == 16) g7110_mend(call->given, call->length, 1, 40000, out, sizeof out, report);
     if (call->which == 17) g7110_file_read(call->given, call->length, G7110_ALL_TOOLS, out, sizeof out, items, STREAM, report);
     if (call->which == 18) g7110_file_write(call->given, call->length, items, listed, 1, G7110_ALL_TOOLS, out, sizeof out, report);
+    if (call->which == 19) g7110_store_jump(block, sizeof block, table, sizeof table / sizeof *table, number, call->length, report);
     return NULL;
 }
 
@@ -70,7 +74,7 @@ static size_t used(struct call call)
     return STACK - low;
 }
 
-static size_t greatest[19];
+static size_t greatest[CALLS];
 
 static void measure(int which, const uint8_t *given, size_t length)
 {
@@ -127,12 +131,17 @@ static void store(const uint8_t *stream, size_t length)
     static const char early[] = "prompt=1\nstart=0\noctets=1\n"; /* the first frame, in R-6's lines */
     static uint8_t text[8192], large[6000];
     uint64_t saved[1];
+    size_t sample;
     for (number = 1; number <= 7; number++) measure(11, stream, length);
     for (number = 2; number <= 6; number += 2) measure(13, NULL, 0);
     for (number = 8; number <= 40; number++) measure(11, stream, number % 3 ? length : length - 1);
     memset(large, 0x41, sizeof large);
     measure(11, large, sizeof large);
     for (number = 1; number <= 41; number++) measure(12, NULL, 0);
+    /* Into frames of every kind; and from marks, up to 64 frames, in the last greeting, and past its end. */
+    for (number = 1; number <= 7; number += 2)
+        for (sample = 0; sample < 2560; sample += 320) measure(19, NULL, sample);
+    for (number = 41, sample = 0; sample <= 240000; sample += 23960) measure(19, NULL, sample);
     measure(14, NULL, 0);
     if (g7110_store_save(block, sizeof block, table, sizeof table / sizeof *table, text, sizeof text, saved) != G7110_OK) return;
     measure(15, text, (size_t)saved[0]);
@@ -159,10 +168,11 @@ static void files(void)
 
 int main(void)
 {
-    static const char *const names[19] = {"",            "read",          "write",         "walk",          "to_linear",
+    static const char *const names[CALLS] = {"",            "read",          "write",         "walk",          "to_linear",
                                           "from_linear", "settings_save", "settings_back", "settings_read", "settings_wipe",
                                           "why",         "store_put",     "store_get",     "store_delete",  "store_save",
-                                          "store_load",  "mend",          "file_read",     "file_write"};
+                                          "store_load",  "mend",          "file_read",     "file_write",
+                                          "store_jump"};
     uint8_t samples[320], form[G7110_MAX_WRITTEN], stream[STREAM];
     uint64_t wrote[3];
     size_t length = 0;
@@ -190,6 +200,6 @@ int main(void)
     measure(16, stream, length - 1);
     store(stream, length);
     files();
-    for (kind = 1; kind < 19; kind++) printf("stack: g7110_%s %lu octets\n", names[kind], over(kind));
+    for (kind = 1; kind < CALLS; kind++) printf("stack: g7110_%s %lu octets\n", names[kind], over(kind));
     return 0;
 }

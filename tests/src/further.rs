@@ -131,23 +131,25 @@ impl Further {
                 0 => self.rng.next_u64() as u32,
                 _ => self.rng.below(40) as u32,
             };
-            let call = match self.rng.below(11) {
+            let call = match self.rng.below(12) {
                 0..=5 => Call::Put(self.law(), number, self.octets(pool, 3)),
                 6 | 7 => Call::Delete(number),
                 8 => Call::Get(number),
                 9 => Call::Save(self.rng.below(SAVED)),
-                _ => {
+                10 => {
                     let text = self.text();
                     let damaged = !text.is_empty() && self.rng.flip();
                     Call::Load(if damaged { damage_somehow(&text, &mut self.rng) } else { text })
                 }
+                _ => self.jump(number),
             };
             self.stores.call(&call);
         }
         if self.rng.chance(1, 20) {
             let (at, bit) = (self.rng.below(self.stores.cells().len()), self.rng.below(32));
             if !self.stores.lend(|cells| cells[at] ^= 1 << bit) {
-                let calls = [Call::Get(1), Call::Put(1, 1, vec![0x41]), Call::Delete(1), Call::Save(SAVED)];
+                let calls =
+                    [Call::Get(1), Call::Put(1, 1, vec![0x41]), Call::Delete(1), Call::Save(SAVED), Call::Jump(1, 0)];
                 calls.iter().for_each(|call| {
                     self.stores.call(call);
                 });
@@ -213,5 +215,15 @@ impl Further {
             0 => early_text_of(&self.stores.model.greetings),
             _ => self.stores.model.text(),
         }
+    }
+
+    /// A jump into a greeting that is there, mostly, and to a sample that it has.
+    fn jump(&mut self, number: u32) -> Call {
+        let rows = &self.stores.model.greetings;
+        if rows.is_empty() || self.rng.chance(1, 10) {
+            return Call::Jump(number, self.rng.next_u64());
+        }
+        let row = &rows[self.rng.below(rows.len())];
+        Call::Jump(row.number, self.rng.below(row.samples + 2) as u64)
     }
 }

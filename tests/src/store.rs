@@ -1,6 +1,6 @@
-//! A greeting store that fills its gaps (document 02, R-6), with marks: a back end asked call by call beside a model in
-//! plain vectors, the second program's. [`Keeps`] is a back end, [`Stores`] asks it, checks the whole block and the whole table,
-//! and each promise on its own answers. [`script`] reads tests/vectors/store.txt.
+//! A greeting store that fills its gaps (document 02, R-6), with marks and jumps: a back end asked call by call
+//! beside a model in plain vectors, the second program's. [`Keeps`] is a back end, [`Stores`] asks it, checks the whole block
+//! and the whole table, and each promise on its own answers. [`script`] reads tests/vectors/store.txt.
 
 mod damage;
 mod draw;
@@ -12,7 +12,7 @@ mod script;
 mod stores;
 
 pub use damage::{damaged, Damaged, DAMAGES};
-pub use draw::{change, profiles, short_frames, some_call, some_store, Profile, PARTS};
+pub use draw::{change, profiles, short_frames, some_call, some_jump, some_store, Profile, PARTS};
 pub use frames::{a_greeting, frames_of, Frames};
 pub use keeps::{Keeps, Told};
 pub use rows::{early_text_of, lowest_gap, rows_of, sane, text_of};
@@ -27,9 +27,10 @@ pub const ABSENT: u32 = 17;
 pub const BAD: u32 = 18;
 pub const FULL: u32 = 19;
 pub const NOROOM: u32 = 20;
+pub const BEYOND: u32 = 21;
 pub const TABLE: u32 = 26;
 /// The endings by name.
-pub const ENDINGS: [(&str, u32); 10] = [
+pub const ENDINGS: [(&str, u32); 11] = [
     ("ok", 0),
     ("ROOM", ROOM),
     ("LAW", LAW),
@@ -39,6 +40,7 @@ pub const ENDINGS: [(&str, u32); 10] = [
     ("BAD", BAD),
     ("FULL", FULL),
     ("NOROOM", NOROOM),
+    ("BEYOND", BEYOND),
     ("TABLE", TABLE),
 ];
 

@@ -62,11 +62,11 @@ fn the_stack_that_a_call_uses() {
     let said = run("cc", "-std=c99", "stack.c", &["-pthread"]);
     say(&said.replace("stack:", "compared: stack, the shipped archive:"));
     let octets: Vec<u64> = said.lines().map(|line| line.split_whitespace().nth(2).unwrap().parse().unwrap()).collect();
-    assert_eq!(octets.len(), 18, "{said}");
+    assert_eq!(octets.len(), 19, "{said}");
     let most = defined("G7110_STACK");
     assert!(octets.iter().all(|octets| *octets <= most), "the header says {most}\n{said}");
     // A conversion calls nothing; it and a wipe may use no more than a thread that makes no call.
-    assert!([0, 1, 2, 5, 6, 7, 9, 10, 15, 16, 17].iter().all(|call| octets[*call] > 0), "{said}");
+    assert!([0, 1, 2, 5, 6, 7, 9, 10, 15, 16, 17, 18].iter().all(|call| octets[*call] > 0), "{said}");
     // A quarter: what the C library's own functions take differs from one processor to another.
     assert!(octets.iter().any(|octets| 4 * octets > most), "the header says {most}\n{said}");
 }

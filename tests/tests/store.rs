@@ -1,12 +1,13 @@
-//! A greeting store that fills its gaps (document 02, R-6), with marks: the proved code, through the static library, and
-//! the second program behind the same calls, call by call beside a model in plain vectors, and each promise checked on their
-//! own answers. tests/tests/store_marks.rs has what marks need besides, tests/tests/store_faults.rs the comparison itself.
+//! A greeting store that fills its gaps (document 02, R-6), with marks and jumps: the proved code, through the
+//! static library, and the second program behind the same calls, call by call beside a model in plain vectors, and each
+//! promise checked on their own answers. tests/tests/store_marks.rs has what marks and jumps need besides,
+//! tests/tests/store_faults.rs the comparison itself.
 
 use second::gen::{damage_somehow, Prng};
 use second::store::{Greeting, Mark, Store};
 use tests::store::{
     change, damaged, early_text_of, ending_name, profiles, script, some_call, some_store, text_of, Call, Keeps, Step,
-    Stores, Told, ABSENT, BAD, BLOCK, DAMAGES, FULL, LAW, NOROOM, NUMBER, PARTS, ROOM, SAVED, TABLE, TAKEN,
+    Stores, Told, ABSENT, BAD, BEYOND, BLOCK, DAMAGES, FULL, LAW, NOROOM, NUMBER, PARTS, ROOM, SAVED, TABLE, TAKEN,
 };
 use tests::{in_share, say, share, Proved, Second, Table};
 
@@ -23,8 +24,8 @@ const CHANGED: usize = share(9_000);
 /// The two programs, each beside the model.
 const KEEPERS: [(&str, &dyn Keeps); 2] = [("proved", &Proved), ("second", &Second)];
 
-const COLUMNS: [&str; 10] =
-    ["ok", "closed up", "ROOM", "LAW", "NUMBER", "TAKEN", "ABSENT", "BAD", "FULL", "NOROOM"];
+const COLUMNS: [&str; 11] =
+    ["ok", "closed up", "ROOM", "LAW", "NUMBER", "TAKEN", "ABSENT", "BAD", "FULL", "NOROOM", "BEYOND"];
 
 /// Vectors worked out by hand.
 #[test]
@@ -72,6 +73,8 @@ fn a_faulty_vector_is_refused() {
         "put 1 41 -> LONG",
         "put 1 41 law=x -> 0 0",
         "get 1 -> 1 2 3",
+        "jump 1 -> 1 2 3 4",
+        "jump 1 0 -> 1 2 3",
         "cells 0",
         "cells 0 -> x",
         "lend 0",
@@ -84,18 +87,19 @@ fn a_faulty_vector_is_refused() {
 
 fn column(call: &Call, told: Told) -> &'static str {
     match (call, told) {
-        (Call::Put(..), Told { ending: 0, report: [_, moved] }) if moved > 0 => "closed up",
+        (Call::Put(..), Told { ending: 0, report: [_, moved, ..] }) if moved > 0 => "closed up",
         _ => ending_name(told.ending),
     }
 }
 
 fn endings(title: &str, need: usize) -> Table {
-    let mut table = Table::new(title, &["put", "get", "delete", "save"], &COLUMNS, need);
-    let own: [(&str, &[&str]); 4] = [
+    let mut table = Table::new(title, &["put", "get", "delete", "save", "jump"], &COLUMNS, need);
+    let own: [(&str, &[&str]); 5] = [
         ("put", &["ok", "closed up", "LAW", "NUMBER", "TAKEN", "BAD", "FULL", "NOROOM"]),
         ("get", &["ok", "NUMBER", "ABSENT"]),
         ("delete", &["ok", "NUMBER", "ABSENT"]),
         ("save", &["ok", "ROOM"]),
+        ("jump", &["ok", "NUMBER", "ABSENT", "BEYOND"]),
     ];
     for (call, endings) in own {
         COLUMNS.iter().filter(|ending| !endings.contains(ending)).for_each(|ending| table.never(call, ending));
@@ -353,6 +357,8 @@ fn changed_numbers() {
     table.needs("how many", "a store", share(20));
     // What marks say is not judged: only where all numbers were drawn.
     table.needs("marks", "TABLE", share(10));
+    let jumps = ["ok", "NUMBER", "ABSENT", "BEYOND", "BAD"];
+    let mut met = Table::new("store, jumps over changed numbers", &["jump"], &jumps, share(50));
     for turn in 0..CHANGED {
         let profile = &profiles[turn % profiles.len()];
         if turn % 6 == 0 {
@@ -368,7 +374,10 @@ fn changed_numbers() {
         table.add(part, if judged { "a store" } else { "TABLE" });
         for _ in 0..10 {
             let call = some_call(profile, &stores, &mut rng);
-            stores.call(&call);
+            let told = stores.call(&call);
+            if let (Call::Jump(..), true) = (call, judged) {
+                met.add("jump", ending_name(told.ending));
+            }
         }
         // Back to the table of before, by its numbers or by what it saved.
         (0..kept.block.len()).for_each(|at| stores.octet(at, kept.block[at]));
@@ -381,6 +390,7 @@ fn changed_numbers() {
         assert_eq!(stores.model, kept);
     }
     table.close();
+    met.close();
     stores.close();
     say(&format!("compared: store, changed numbers: {CHANGED} tables, {} calls\n", stores.calls));
 }
@@ -410,8 +420,9 @@ fn sizes() {
                     Proved.delete(&block, &mut table, 0),
                     Proved.save(&block, &table, &mut []),
                     Proved.load(&text, &block, &mut table),
+                    Proved.jump(&block, &table, 0, 0),
                 ];
-                assert_eq!(told, [Told::refused(TABLE); 5], "{size}, {cells} numbers");
+                assert_eq!(told, [Told::refused(TABLE); 6], "{size}, {cells} numbers");
                 assert!(table.iter().all(|cell| *cell == fill) && block.iter().all(|octet| *octet == 0));
                 calls += told.len();
             }
@@ -423,12 +434,14 @@ fn sizes() {
             let or = |refusal: u32, told: Told| if size == 0 { Told::refused(refusal) } else { told };
             assert_eq!(Proved.put(&mut block, &mut table, 0, 5, &[0x41]), or(NOROOM, Told::ok(0, 0)));
             assert_eq!(Proved.get(&block, &table, 5), or(ABSENT, Told::ok(0, 1)));
+            assert_eq!(Proved.jump(&block, &table, 5, 39), or(ABSENT, Told::jumped([0, 0, 39, 1])));
             assert_eq!(Proved.load(&text, &block, &mut table).ending, 0);
             assert_eq!(Proved.get(&block, &table, 5), or(ABSENT, Told::ok(0, 1)));
+            assert_eq!(Proved.jump(&block, &table, 5, 40), or(ABSENT, Told::refused(BEYOND)));
             assert_eq!(Proved.delete(&block, &mut table, 5).ending, if size == 0 { ABSENT } else { 0 });
             assert!(table[past..].iter().all(|cell| *cell == 0xA7A7_A7A7), "{size}");
             block.fill(0);
-            calls += 5;
+            calls += 7;
         }
     }
     say(&format!("compared: store, sizes: a table has {} numbers; {calls} calls\n", needed(BLOCK)));
@@ -525,6 +538,7 @@ fn refusals_by_name() {
         (BAD, "BAD"),
         (FULL, "FULL"),
         (NOROOM, "NOROOM"),
+        (BEYOND, "BEYOND"),
         (TABLE, "TABLE"),
     ];
     for (number, name) in named {

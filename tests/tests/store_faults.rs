@@ -2,11 +2,11 @@
 //! vectors, on drawn lists of calls, damaged tables and changed numbers.
 
 use second::gen::Prng;
-use second::store::{Greeting, Mark, Store};
+use second::store::{Greeting, Jump, Mark, Store};
 use second::table;
 use tests::store::{
     change, damaged, early_text_of, lowest_gap, profiles, rows_of, script, some_call, text_of, Call, Keeps, Step,
-    Stores, Told, ABSENT, BAD, BLOCK, DAMAGES, FULL, GREETINGS, LAW, MARKS, MORE_ROWS, NOROOM, NUMBER, PARTS,
+    Stores, Told, ABSENT, BAD, BEYOND, BLOCK, DAMAGES, FULL, GREETINGS, LAW, MARKS, MORE_ROWS, NOROOM, NUMBER, PARTS,
     TABLE, TAKEN,
 };
 use tests::{say, Codec, Second};
@@ -77,6 +77,23 @@ faults!(
     CountsOfMarksNotJudged,
     JudgesMarks,
     TableOf97,
+    // Jumps.
+    FirstOfEqualMarks,
+    OffByOne,
+    ReadWithoutTheNamed,
+    PlaceInTheBlock,
+    BeyondByOne,
+    BeyondBeforeAbsent,
+    SampleOf32Bits,
+    FrameFromItsMark,
+    PadsNotNamed,
+    ReadsPastTheGreeting,
+    SixtyFive,
+    SixtyThree,
+    WalksFromTheStart,
+    MarksInTurn,
+    JumpReportsWhenRefused,
+    BadIsBeyond,
 );
 
 struct Wrong(Fault);
@@ -285,6 +302,83 @@ fn any_false(rows: &[Greeting], block: &[u8]) -> bool {
     })
 }
 
+/// Jumps that are wrong.
+impl Wrong {
+    fn jumps(&self, store: &Store, number: u32, sample: u64) -> Result<Jump, u32> {
+        if !(1..65_536).contains(&number) {
+            return Err(NUMBER);
+        }
+        let Some(row) = store.greetings.iter().find(|row| row.number == number) else {
+            return Err(if self.0 == Fault::BeyondBeforeAbsent && sample > 500 { BEYOND } else { ABSENT });
+        };
+        let sample = if self.0 == Fault::SampleOf32Bits { u64::from(sample as u32) } else { sample };
+        let within = sample < row.samples as u64 || (self.0 == Fault::BeyondByOne && sample == row.samples as u64);
+        if !within {
+            return Err(BEYOND);
+        }
+        self.jump_in(store, row, sample as usize).ok_or(if self.0 == Fault::BadIsBeyond { BEYOND } else { BAD })
+    }
+
+    fn mark_for(&self, marks: &[Mark], sample: usize) -> usize {
+        let (mut low, mut high) = (0, marks.len());
+        if self.0 == Fault::MarksInTurn {
+            return marks.iter().rposition(|mark| mark.samples <= sample).unwrap_or(0);
+        }
+        while high - low > 1 {
+            let middle = low + (high - low) / 2;
+            if marks[middle].samples <= sample {
+                low = middle;
+            } else {
+                high = middle;
+            }
+        }
+        if self.0 == Fault::FirstOfEqualMarks && !marks.is_empty() {
+            low = marks.iter().position(|mark| mark.samples == marks[low].samples).unwrap_or(low);
+        }
+        if self.0 == Fault::WalksFromTheStart {
+            return 0;
+        }
+        low
+    }
+
+    fn jump_in(&self, store: &Store, row: &Greeting, sample: usize) -> Option<Jump> {
+        let at = self.mark_for(&row.marks, sample);
+        let mark = *row.marks.get(at)?;
+        let end = if self.0 == Fault::ReadsPastTheGreeting { store.size() } else { row.start + row.octets };
+        let octets = &store.block[row.start..end];
+        let most = match self.0 {
+            Fault::SixtyFive => 65,
+            Fault::SixtyThree => 63,
+            Fault::WalksFromTheStart => usize::MAX,
+            _ => 64,
+        };
+        let (mut place, mut before, mut pads) = (mark.octets, mark.samples, 0);
+        if before > sample {
+            return None;
+        }
+        for passed in 0..most {
+            let read = Codec::read(&Second, octets.get(place..)?, row.law, 127, &mut [0; 320]);
+            if read.ending != 0 {
+                return None;
+            }
+            let reaches = before + read.samples + usize::from(self.0 == Fault::OffByOne && passed < 63);
+            if sample < reaches {
+                let frame = match self.0 {
+                    Fault::FrameFromItsMark => passed,
+                    Fault::PadsNotNamed => 64 * at + passed - pads,
+                    _ => 64 * at + passed,
+                };
+                let read = passed + usize::from(self.0 != Fault::ReadWithoutTheNamed);
+                let place = place + if self.0 == Fault::PlaceInTheBlock { row.start } else { 0 };
+                return Some(Jump { frame, place, within: sample - before, read });
+            }
+            pads += usize::from(read.samples == 0);
+            (place, before) = (place + read.octets, before + read.samples);
+        }
+        None
+    }
+}
+
 impl Keeps for Wrong {
     fn cells(&self, size: u64) -> u64 {
         Keeps::cells(&Second, size)
@@ -441,6 +535,15 @@ impl Keeps for Wrong {
             _ => {}
         }
         told
+    }
+
+    fn jump(&self, block: &[u8], lent: &[u32], number: u32, sample: u64) -> Told {
+        let Some(store) = opened(block, lent) else { return Told::refused(TABLE) };
+        match self.jumps(&store, number, sample) {
+            Ok(jump) => Told::jumped([jump.frame, jump.place, jump.within, jump.read]),
+            Err(BAD) if self.0 == Fault::JumpReportsWhenRefused => Told { ending: BAD, report: [0, 0, 0, 64] },
+            Err(ending) => Told::refused(ending),
+        }
     }
 
     fn reader(&self) -> &dyn Codec {

@@ -1,12 +1,11 @@
-//! Marks inside a greeting (document 02, R-8): the proved code, and the second program behind the same calls, beside the model
-//! and beside all frames of each greeting, read one by one with the same back end's reader.
+//! Marks inside a greeting and jumps to a sample (document 02, R-8 and R-9): the proved code, and the second program behind the
+//! same calls, beside the model and beside all frames of each greeting, read one by one with the same back end's reader.
 
 use second::gen::Prng;
-use second::store::Greeting;
 use tests::forms::{any_form, some_form, LENGTHS};
 use tests::store::{
-    early_text_of, ending_name, frames_of, profiles, rows_of, short_frames, some_store, Call, Keeps, Stores, Told,
-    BLOCK, MARKS, MORE_ROWS, SAVED, TABLE,
+    early_text_of, ending_name, frames_of, profiles, rows_of, short_frames, some_store, Call, Frames, Keeps, Stores,
+    Told, BEYOND, BLOCK, MARKS, MORE_ROWS, SAVED, TABLE,
 };
 use tests::{in_share, say, share, Proved, Second, Table};
 
@@ -28,7 +27,26 @@ fn greeting(kind: &str, frames: usize, law: u32, rng: &mut Prng) -> Vec<u8> {
     }
 }
 
-/// Greetings of 1, 63, 64, 65, 128 frames and others around the marks: put, saved and loaded, loaded in R-6's lines, moved.
+/// A jump that the whole walk makes known.
+fn jump(stores: &mut Stores, number: u32, frames: &Frames, sample: usize) {
+    let wanted = if sample < frames.samples { frames.holding(sample) } else { Told::refused(BEYOND) };
+    let told = stores.call(&Call::Jump(number, sample as u64));
+    if told != wanted {
+        stores.differ(&format!("jump {number} {sample}"), &format!("{told:?}, the whole walk gives {wanted:?}"));
+    }
+}
+
+/// To the first and the last sample of each frame, and past the last one. Gives how many.
+fn jumps_to_ends(stores: &mut Stores, number: u32, frames: &Frames) -> usize {
+    let starts = frames.before.iter().map(|(_, samples)| *samples);
+    let ends = starts.flat_map(|samples| [samples, samples.saturating_sub(1)]);
+    let mut samples: Vec<usize> = ends.chain([frames.samples.saturating_sub(1), frames.samples]).collect();
+    samples.dedup();
+    samples.iter().for_each(|sample| jump(stores, number, frames, *sample));
+    samples.len()
+}
+
+/// Greetings of 1, 63, 64, 65, 128 frames and others around the marks: put, saved and loaded, loaded in R-6's lines, jumped into.
 #[test]
 fn frames_around_marks() {
     for (name, keeper) in KEEPERS {
@@ -49,6 +67,7 @@ fn frames_around_marks() {
                 let row = stores.model.greetings[1].clone();
                 assert_eq!((row.law, row.samples, row.marks.len()), (law, all.samples, frames.div_ceil(64)));
                 assert_eq!(row.marks, all.marks());
+                jumps_to_ends(&mut stores, 2, &all);
                 stores.saved_and_loaded();
                 let text = early_text_of(&stores.model.greetings);
                 assert_eq!(stores.call(&Call::Load(text)).ending, 0);
@@ -58,6 +77,7 @@ fn frames_around_marks() {
                 assert_eq!(told, Told::ok(octets.len() + 1, octets.len() + 1));
                 let early = &stores.model.greetings[0];
                 assert_eq!((early.law, early.samples, &early.marks), (1, row.samples, &row.marks));
+                jumps_to_ends(&mut stores, 2, &all);
                 table.add(kind, frames);
             }
         }
@@ -119,29 +139,83 @@ fn marks_with_all_tools() {
     }
 }
 
+/// Every sample of greetings with all tools at all lengths, in any order, with rows of pads between.
+#[test]
+fn every_sample_with_all_tools() {
+    for (name, keeper) in KEEPERS {
+        let mut rng = Prng::new(802);
+        let mut stores = Stores::new(keeper, Vec::new());
+        let tools = [1, 2, 3, 4, 5, 6, 7];
+        let title = format!("store, {name}, samples jumped to, by tool and length of the frame");
+        let mut table = Table::new(&title, &tools, &LENGTHS, share(1_000));
+        table.never(7, 40);
+        let (mut greetings, mut equal) = (0, 0);
+        for turn in 0..share(30) {
+            let law = turn as u32 % 2;
+            let lengths = |tool: u32| LENGTHS.map(|length| (tool, length));
+            let mut kinds: Vec<(u32, usize)> = tools.into_iter().flat_map(lengths).chain([(0, 0); 60]).collect();
+            rng.shuffle(&mut kinds);
+            let mut octets = Vec::new();
+            for (tool, length) in kinds {
+                // Two of 60 pads are a row that is longer than from one mark to the next.
+                let pads = if tool == 0 && rng.chance(1, 30) { 130 } else { 0 };
+                let form = any_form(tool, length, law, &mut rng).map_or(Vec::new(), |form| form.octets());
+                octets.extend(form.into_iter().chain(vec![0; pads]));
+            }
+            stores.renew(rng.octets(BLOCK));
+            stores.promised(&Call::Put(law, 7, vec![0; 1 + rng.below(9)]));
+            assert_eq!(stores.promised(&Call::Put(law, 8, octets.clone())).ending, 0);
+            let all = frames_of(keeper.reader(), &octets, law).expect("a good greeting");
+            equal += all.marks().windows(2).filter(|two| two[0].samples == two[1].samples).count();
+            for sample in 0..=all.samples {
+                jump(&mut stores, 8, &all, sample);
+            }
+            for (at, (place, _)) in all.before.iter().enumerate() {
+                let read = keeper.reader().read(&octets[*place..], law, 127, &mut [0; 320]);
+                let end = all.before.get(at + 1).map_or(octets.len(), |next| next.0);
+                assert_eq!(read.octets, end - place);
+                if read.tool != 0 {
+                    table.add_many(read.tool, read.samples, read.samples);
+                }
+            }
+            greetings += 1;
+        }
+        table.close();
+        stores.close();
+        assert!(equal >= share(5), "{equal} marks have the samples of the one before");
+        let samples = table.sum();
+        say(&format!(
+            "compared: store, {name}, every sample: {greetings} greetings, {samples} samples, {equal} equal marks\n"
+        ));
+    }
+}
+
 /// Greetings that fill the block: 16,384 pads, 16,384 frames of one octet and of each length, pads in rows.
 #[test]
 fn the_longest_greetings() {
     for (name, keeper) in KEEPERS {
         let mut rng = Prng::new(803);
         let mut stores = Stores::new(keeper, Vec::new());
-        let mut greetings = 0;
+        let mut jumps = 0;
         let same = [0x00, 0x41, 0x82, 0xC1, 0x22, 0x31].map(|octet| vec![octet; BLOCK]);
         let drawn = [(); 3].map(|()| short_frames(BLOCK, &mut rng));
         for (turn, octets) in same.into_iter().chain(drawn).enumerate() {
             stores.renew(vec![0xEE; BLOCK]);
             stores.promised(&Call::Put(turn as u32 % 2, 1, octets.clone()));
             let all = frames_of(keeper.reader(), &octets, 1).expect("a good greeting");
-            let marks = &stores.model.greetings[0].marks;
-            assert_eq!((marks.len(), marks), (256, &all.marks()));
+            assert_eq!(stores.model.greetings[0].marks.len(), 256);
             assert_eq!(stores.cells()[MORE_ROWS..MORE_ROWS + 4], [1, turn as u32 % 2, all.samples as u32, 256]);
             stores.saved_and_loaded();
-            greetings += 1;
+            let few = Frames { before: all.before.iter().copied().step_by(share(10).min(7)).collect(), ..all.clone() };
+            let ends: Vec<usize> = few.before.iter().flat_map(|(_, at)| [*at, at.saturating_sub(1)]).collect();
+            ends.iter().for_each(|sample| jump(&mut stores, 1, &all, *sample));
+            jump(&mut stores, 1, &all, all.samples);
+            jumps += ends.len() + 1;
             stores.promised(&Call::Put(1, 2, vec![0]));
             stores.promised(&Call::Delete(1));
         }
         stores.close();
-        say(&format!("compared: store, {name}, the longest greetings: {greetings}, {} calls\n", stores.calls));
+        say(&format!("compared: store, {name}, the longest greetings: {jumps} jumps, {} calls\n", stores.calls));
     }
 }
 
@@ -189,21 +263,18 @@ fn falsify(how: &str, cells: &mut [u32], rng: &mut Prng) {
     }
 }
 
-/// False marks in lent numbers, and blocks that were changed: what is then saved is loaded only where it is true. All other calls
-/// go on, and carry the marks along as they are.
+/// False marks in lent numbers, and blocks that were changed: answers alike, in bounds, at most 64 frames read. Other calls go on
+/// and carry the marks along as they are.
 #[test]
 fn false_marks() {
     for (name, keeper) in KEEPERS {
         let mut rng = Prng::new(804);
         let mut stores = Stores::new(keeper, Vec::new());
-        let columns = ["ok", "TABLE", "BAD"];
-        let mut table = Table::new(&format!("store, {name}, loads of false marks"), &FALSE, &columns, 0);
-        for how in &FALSE[..8] {
-            table.needs(how, "TABLE", share(if *how == "marks swapped" { 200 } else { 300 }));
-            table.never(how, "BAD");
-        }
-        table.needs("the block", "BAD", share(200));
-        table.needs("the block", "TABLE", share(30));
+        let columns = ["ok", "BEYOND", "BAD"];
+        let mut table = Table::new(&format!("store, {name}, jumps by false marks"), &FALSE, &columns, share(300));
+        table.needs("all marks drawn", "ok", 0);
+        table.needs("marks drawn small", "ok", share(100));
+        table.needs("the block", "BAD", share(100));
         for turn in 0..share(3_600) {
             stores.renew(rng.octets(3_000));
             for number in 1..=3 {
@@ -220,26 +291,28 @@ fn false_marks() {
                 }),
                 _ => assert!(stores.lend(|cells| falsify(how, cells, &mut rng)), "what marks say is not judged"),
             }
-            for number in 1..=3 {
-                stores.call(&Call::Get(number));
+            for _ in 0..20 {
+                let row = rng.pick(&stores.model.greetings).clone();
+                let near = match row.marks.len() {
+                    0 => 0,
+                    marks => row.marks[rng.below(marks)].samples + rng.below(100),
+                };
+                let sample = if rng.chance(1, 3) { near } else { rng.below(row.samples + 1 + row.samples / 8) };
+                let told = stores.call(&Call::Jump(row.number, sample as u64));
+                let [frame, place, within, read] = told.report;
+                let bounds = place < row.octets as u64 && within < 320 && (1..=64).contains(&read) && frame + 1 >= read;
+                if told.ending == 0 && !bounds {
+                    stores.differ("a jump by false marks", &format!("{told:?}"));
+                }
+                table.add(how, ending_name(told.ending));
             }
-            stores.call(&Call::Save(SAVED));
-            let (text, block) = (stores.text.clone(), stores.model.block.clone());
-            let told = stores.call(&Call::Load(text.clone()));
-            table.add(how, ending_name(told.ending));
-            let is_true = |row: &Greeting| {
-                let octets = &block[row.start..row.start + row.octets];
-                let all = frames_of(keeper.reader(), octets, row.law);
-                all.is_some_and(|all| (row.samples, &row.marks) == (all.samples, &all.marks()))
-            };
-            assert_eq!(told.ending == 0, rows_of(&text).expect("it was saved").iter().all(is_true), "{how}");
             stores.call(&Call::Put(1, 9, vec![0x41; 70]));
             stores.call(&Call::Delete(1 + turn as u32 % 3));
             stores.call(&Call::Save(SAVED));
         }
         table.close();
         stores.close();
-        say(&format!("compared: store, {name}, false marks: {} tables, {} calls\n", table.sum(), stores.calls));
+        say(&format!("compared: store, {name}, false marks: {} jumps, {} calls\n", table.sum(), stores.calls));
     }
 }
 
@@ -254,7 +327,7 @@ fn as_many_marks_as_fit() {
             for marks in 0..9 {
                 let judged = stores.lend(|cells| cells[MORE_ROWS + 3] = marks as u32);
                 assert_eq!(judged, marks <= octets / 64 + 1, "{octets} octets, {marks} marks");
-                let told = stores.call(&Call::Get(1));
+                let told = stores.call(&Call::Jump(1, 0));
                 assert_eq!(told.ending == TABLE, !judged);
                 stores.call(&Call::Save(SAVED));
             }
@@ -266,7 +339,7 @@ fn as_many_marks_as_fit() {
 }
 
 /// As many marks as a table can have: 287 that are true, of 32 greetings that each end just behind a mark; and 288 that are lent,
-/// which reach the last cell. Saved, loaded, closed up from the front, the middle and the end.
+/// which reach the last cell. Saved, loaded, jumped by, closed up from the front, the middle and the end.
 #[test]
 fn the_fullest_table() {
     for (name, keeper) in KEEPERS {
@@ -279,7 +352,7 @@ fn the_fullest_table() {
         assert_eq!((marks(&stores), stores.model.held()), (287, BLOCK));
         stores.saved_and_loaded();
         for number in [1, 32, 16] {
-            stores.promised(&Call::Get(number));
+            stores.promised(&Call::Jump(number, 40 * 480));
             stores.promised(&Call::Delete(number));
             stores.promised(&Call::Put(0, number, vec![0x31; 481]));
         }
@@ -298,7 +371,9 @@ fn the_fullest_table() {
         stores.call(&Call::Save(SAVED));
         assert!(stores.text.ends_with(b"mark=1000768,1000769\n"));
         for number in [1, 32, 16, 2, 31] {
-            stores.call(&Call::Get(number));
+            (0..24).for_each(|part| {
+                stores.call(&Call::Jump(number, part * 853));
+            });
             stores.call(&Call::Delete(number));
             stores.call(&Call::Put(1, 100 + number, vec![0; 64]));
             stores.call(&Call::Save(SAVED));

@@ -104,6 +104,10 @@ extern "C" {
         out_len: usize,
         report: *mut [u64; 1],
     ) -> u32;
+    fn g7110_store_jump(
+        block: *const u8, block_len: usize, table: *const u32, table_len: usize, number: u32, sample: u64,
+        report: *mut [u64; 4],
+    ) -> u32;
 }
 
 /// The ending; the report is samples, octets, bits, tool and the refusal's bit.
@@ -227,4 +231,10 @@ pub fn file_write(samples: &[u8], items: &[u16], law: u32, set: u32, out: &mut [
     let (s, s_len, i, i_len) = (samples.as_ptr(), samples.len(), items.as_ptr(), items.len());
     // SAFETY: as in `file_read`.
     unsafe { g7110_file_write(s, s_len, i, i_len, law, set, out.as_mut_ptr(), out.len(), report) }
+}
+
+/// The ending; the report is the frame, its place in the greeting, the sample's place in the frame and the frames read.
+pub fn store_jump(block: &[u8], table: &[u32], number: u32, sample: u64, report: &mut [u64; 4]) -> u32 {
+    // SAFETY: as in `store_put`.
+    unsafe { g7110_store_jump(block.as_ptr(), block.len(), table.as_ptr(), table.len(), number, sample, report) }
 }

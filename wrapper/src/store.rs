@@ -1,4 +1,5 @@
-//! A greeting store that fills its gaps: document 02, R-6, with marks, R-8. Greetings in a lent block, with a lent table.
+//! A greeting store that fills its gaps: document 02, R-6, with marks and jumps, R-8 and R-9. Greetings in a lent block, with
+//! a lent table.
 
 use crate::{raw, Law};
 use std::fmt;
@@ -29,12 +30,14 @@ pub enum Refusal {
     Taken,
     /// No greeting has the number.
     Absent,
-    /// The greeting is empty, or the walk refuses it.
+    /// The greeting is empty, or the walk refuses it; of a jump, marks or octets that no calls left.
     Bad,
     /// There are 32 greetings.
     Full,
     /// The octets held and the new ones exceed the block.
     NoRoom,
+    /// The sample number is not below the greeting's samples.
+    Beyond,
     /// The table is too short, or not what calls leave for this block.
     Table,
 }
@@ -50,6 +53,7 @@ impl Refusal {
             18 => Refusal::Bad,
             19 => Refusal::Full,
             20 => Refusal::NoRoom,
+            21 => Refusal::Beyond,
             26 => Refusal::Table,
             _ => unreachable!("the header has no ending {ending} of these calls"),
         }
@@ -65,6 +69,7 @@ impl Refusal {
             Refusal::Bad => 18,
             Refusal::Full => 19,
             Refusal::NoRoom => 20,
+            Refusal::Beyond => 21,
             Refusal::Table => 26,
         }
     }
@@ -80,6 +85,7 @@ impl fmt::Display for Refusal {
             Refusal::Bad => "the greeting is empty, or the walk refuses it",
             Refusal::Full => "the store has 32 greetings",
             Refusal::NoRoom => "the octets held and the new ones exceed the block",
+            Refusal::Beyond => "the greeting has no such sample",
             Refusal::Table => "the table is not one that calls left for this block",
         })
     }
@@ -99,6 +105,19 @@ pub struct Put {
 pub struct Got {
     pub start: usize,
     pub octets: usize,
+}
+
+/// The frame of a greeting that holds a sample.
+#[derive(Clone, Copy, Debug, PartialEq, Eq)]
+pub struct Jump {
+    /// Counted from 0, pads among them.
+    pub frame: usize,
+    /// Where it starts, from the greeting's start.
+    pub place: usize,
+    /// The sample's place in the frame.
+    pub within: usize,
+    /// Frames read to find it, from the last mark at or before the sample: 1 to 64.
+    pub read: usize,
 }
 
 /// Puts a greeting of a law into the lowest gap that holds it; if none does, the others close up from 0 first.
@@ -123,6 +142,18 @@ pub fn get(block: &[u8], table: &[u32], number: u32) -> Result<Got, Refusal> {
 pub fn delete(block: &[u8], table: &mut [u32], number: u32) -> Result<(), Refusal> {
     match raw::store_delete(block, table, number) {
         0 => Ok(()),
+        ending => Err(Refusal::of(ending)),
+    }
+}
+
+/// Names the frame of a greeting that holds a sample, counted from 0.
+pub fn jump(block: &[u8], table: &[u32], number: u32, sample: u64) -> Result<Jump, Refusal> {
+    let mut report = [0; 4];
+    match raw::store_jump(block, table, number, sample, &mut report) {
+        0 => {
+            let [frame, place, within, read] = report.map(|number| number as usize);
+            Ok(Jump { frame, place, within, read })
+        }
         ending => Err(Refusal::of(ending)),
     }
 }

@@ -265,6 +265,25 @@ fn greetings_are_kept() {
     assert_eq!((ending, report), (g7110::Refusal::Law.number(), [0; 2]), "a report is written in every case");
 }
 
+/// A greeting jumped into; and what is refused.
+#[test]
+fn greetings_are_jumped_into() {
+    use g7110::store::{jump, put, Jump, Put, Refusal};
+    let (mut block, mut table) = ([0xEE; 300], [0; 266]);
+    assert_eq!(put(&mut block, &mut table, Law::A, 7, &[0, 0]), Ok(Put { start: 0, moved: 0 }));
+    assert_eq!(put(&mut block, &mut table, Law::Mu, 8, &[0x41; 70]), Ok(Put { start: 2, moved: 0 }));
+    assert_eq!(jump(&block, &table, 8, 40), Ok(Jump { frame: 1, place: 1, within: 0, read: 2 }));
+    assert_eq!(jump(&block, &table, 8, 2_559), Ok(Jump { frame: 63, place: 63, within: 39, read: 64 }));
+    assert_eq!(jump(&block, &table, 8, 2_560), Ok(Jump { frame: 64, place: 64, within: 0, read: 1 }));
+    assert_eq!(jump(&block, &table, 8, 2_800), Err(Refusal::Beyond));
+    assert_eq!(jump(&block, &table, 7, 0), Err(Refusal::Beyond));
+    assert_eq!(jump(&block, &table, 9, 0), Err(Refusal::Absent));
+    assert_eq!(jump(&block, &table, 0, 0), Err(Refusal::Number));
+    let mut report = [9; 4];
+    assert_eq!(g7110::raw::store_jump(&block, &table, 2, 0, &mut report), Refusal::Absent.number());
+    assert_eq!(report, [0; 4], "a report is written in every case");
+}
+
 /// The header's example of a recording: a frame, a loss of 80 samples, a pad, a loss of unknown length, a frame.
 #[test]
 fn a_recording_is_written_and_read() {

@@ -1,9 +1,11 @@
--- What the calls over a store of greetings report (document 02, R-6 and R-8): the number, and two numbers more.
+-- What the calls over a store of greetings report (document 02, R-6, R-8 and R-9): the number, and two numbers more; of a jump four.
 use Prim.Native.Nat.{ℕ}
 use mathlib.Core.Path.{_≡_}
 use mathlib.Core.List.{List, [], _∷_}
 use Rattle.store.specs.Store.{Outcome}
 use Rattle.store.specs.Calls.{numberOf, firstOf, secondOf, answerOf, blockAfter, tableAfter, putOf, getOf, deleteOf}
+use Rattle.jumping.specs.declared.Told.{Told}
+use Rattle.jumping.specs.Calls.{numberOf as jumpNumberOf, toldOf, jumpOf}
 
 -- the start and the octets moved, or the start and the octets; zeros where refused
 abbrev pub twoOf : Outcome → List ℕ
@@ -29,3 +31,11 @@ pub record GetReported (number : ℕ) (b t two : List ℕ) (r : ℕ) : Type 0 wh
 pub record DeleteReported (number : ℕ) (b t t′ : List ℕ) (r : ℕ) : Type 0 where
   pub ending : r ≡ numberOf (answerOf (deleteOf b t number))
   pub table : t′ ≡ tableAfter (deleteOf b t number) t
+
+-- jumping to a sample of one: the frame, its octet place, the sample's place in it, the frames read; zeros where refused
+abbrev pub fourOf : Told → List ℕ
+fourOf t = t .frame ∷ t .place ∷ t .inside ∷ t .read ∷ []
+
+pub record JumpReported (number sample : ℕ) (b t four : List ℕ) (r : ℕ) : Type 0 where
+  pub ending : r ≡ jumpNumberOf (jumpOf b t number sample)
+  pub report : four ≡ fourOf (toldOf (jumpOf b t number sample))

@@ -11,7 +11,7 @@ ghost use Rattle.g7110.specs.Mending.{MendReported};
 ghost use Rattle.g7110.specs.Settings.{SaveReported, BackReported, RevisionReported};
 ghost use Rattle.reasons.specs.Why.{whyOne};
 ghost use Rattle.notes.specs.Sane.{storeCells};
-ghost use Rattle.g7110.specs.Store.{PutReported, GetReported, DeleteReported};
+ghost use Rattle.g7110.specs.Store.{PutReported, GetReported, DeleteReported, JumpReported};
 ghost use Rattle.linear.specs.Equations.{toPCM, fromPCM};
 ghost use Rattle.g7110.specs.Saved.{SavedReported, LoadReported};
 ghost use Rattle.recording.specs.Items.{readFile};
@@ -280,6 +280,28 @@ pub extern "C" fn g7110_store_delete(block: &[u8], table: &mut [u32], number: u3
 {
     let a = store::delete(block, table, number);
     store::number_of(a)
+}
+
+// Jumping to a sample of one: the number, and in the report the frame that holds it, its octet place, the sample's place in it, and the frames read.
+#[no_mangle]
+pub extern "C" fn g7110_store_jump(
+    block: &[u8],
+    table: &[u32],
+    number: u32,
+    sample: u64,
+    report: &mut [u64; 4],
+) -> u32
+    ensures { λ r. ⌜ JumpReported number sample (now (block .entry)) (now (table .entry)) (now (report .exit)) r ⌝ }
+{
+    let a = jumping::jump(block, table, number, sample);
+    let t = jumping::told_of(a);
+    *report = [
+        t.frame as u64,
+        t.place as u64,
+        t.inside as u64,
+        t.read as u64,
+    ];
+    jumping::number_of(a)
 }
 
 // Reading a recording file: the number, and in the report law, items, octets after the heading, samples, the tool that TOOL gives, and the

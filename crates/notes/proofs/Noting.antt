@@ -1,11 +1,11 @@
 -- Notes and the cells that they lie in: `heads-notes`, `cells-notes` (the cells of notes are those they are read from), `notes-back` (laid, they read
--- back); a note put in (`note-added`) and taken out (`note-dropped`).
+-- back), `nth-note` (one of them); a note put in (`note-added`) and taken out (`note-dropped`).
 use Prim.Native.Nat.{ℕ, zero, suc, _+_, _*_, _-_, _≤_, _<_}
 use mathlib.Core.Path.{_≡_, refl, sym, ap, _∙_}
 use mathlib.Core.List.{List, [], _∷_, _++_, append-assoc}
 use native.Mathlib.Omega.{arith}
 use lib.ListN.{length, getD, take, drop, length-append, length-drop, take-append-drop}
-use lib.Seq.{take-at, drop-at, split-at, take-add}
+use lib.Seq.{take-at, drop-at, drop-drop, split-at, take-add}
 use Rattle.rows.specs.declared.Row.{Row}
 use Rattle.rows.specs.Rows.{held}
 use Rattle.rows.specs.Changed.{nth, insertAt, removeAt}
@@ -13,7 +13,7 @@ use Rattle.marks.specs.Marks.{Mark, Note, markCells}
 use Rattle.marks.proofs.Marked.{length-cells}
 use Rattle.notes.specs.Notes.{noNote, nthNote, insertNote, removeNote}
 use Rattle.notes.specs.Cells.{headOf, heads, marksIn, notesIn, marksHeld, allCells, allLaid}
-use Rattle.notes.specs.Changed.{opened, shut}
+use Rattle.notes.specs.Changed.{opened, shut, noteIn}
 
 -- so many marks
 pub length-marks : (n : ℕ) (cells : List ℕ) → length (marksIn n cells) ≡ n
@@ -106,6 +106,18 @@ unfolding heads
 nth-heads i [] h = absurd (omega arith)
 nth-heads zero (n ∷ notes) h = refl
 nth-heads (suc i) (n ∷ notes) h = nth-heads i notes (omega arith)
+
+-- note i: its marks stand behind those of the notes before it
+pub nth-note : (hs : List Row) (cells : List ℕ) (i : ℕ) → i < length hs
+    → nthNote i (notesIn hs cells) ≡ noteIn (nth i hs .number) (nth i hs .start) (nth i hs .octets) (drop (2 * marksHeld (take i hs)) cells)
+unfolding notesIn held
+nth-note [] cells i h = absurd (omega arith)
+nth-note (r ∷ hs) cells zero h = refl
+nth-note (r ∷ hs) cells (suc i) h =
+    let e : 2 * r .octets + 2 * marksHeld (take i hs) ≡ 2 * (r .octets + marksHeld (take i hs)) = omega arith in
+    nth-note hs (drop (2 * r .octets) cells) i (omega arith)
+    ∙ ap (noteIn (nth i hs .number) (nth i hs .start) (nth i hs .octets))
+    (drop-drop (2 * marksHeld (take i hs)) (2 * r .octets) cells ∙ ap (λ (k : ℕ). drop k cells) e)
 
 pub heads-cons : (n : Note) (notes : List Note) → heads (n ∷ notes) ≡ headOf n ∷ heads notes
 unfolding heads

@@ -1,5 +1,6 @@
 -- The three parts of a table lie apart: greetings laid leave the notes as they are (`notes-kept`, `heads-kept`, `count-kept`).
 -- `note-put`, `note-out`: a note put in and taken out, from what the steps do; `stored-more`, `stored-less`: the same after its greeting.
+-- `note-at`: one note of a table, in its cells.
 use Prim.Native.Nat.{ℕ, _+_, _*_, _-_, _≤_, _<_}
 use mathlib.Core.Path.{_≡_, refl, sym, ap, _∙_}
 use mathlib.Core.List.{List, _∷_, _++_}
@@ -19,7 +20,7 @@ use Rattle.notes.specs.Notes.{insertNote, removeNote, nthNote}
 use Rattle.notes.specs.Cells.{heads, headsOf, notesOf, marksHeld, allCells, allLaid, anewFrom, notesLaid, stored}
 use Rattle.notes.specs.Changed.{opened, shut, noteIn}
 use Rattle.notes.proofs.Noting.{heads-notes, cells-notes, length-all, heads-take, nth-heads, length-heads, heads-insert, heads-remove}
-use Rattle.notes.proofs.Noting.{note-added, all-append, note-dropped, length-marks, cells-marks}
+use Rattle.notes.proofs.Noting.{note-added, all-append, note-dropped, length-marks, cells-marks, nth-note}
 
 -- a list of up to 32 lies in 97 cells
 pub laid-within : (rows : List Row) (t : List ℕ) → length rows ≤ 32 → drop 97 (laid rows t) ≡ drop 97 t
@@ -176,6 +177,25 @@ marks-next t n i e h room =
     held-turn (drop 97 t) n i refl h refl
     in
     omega (arith, o, sum)
+
+-- note i of a table: law, samples and how many marks in the second list, its marks behind those of the greetings before it
+pub note-at : (t : List ℕ) (n i : ℕ) → n ≡ getD t 97 0 → i < n
+    → nthNote i (notesOf t)
+    ≡ noteIn (rowAt (drop 97 t) (1 + 3 * i) .number) (rowAt (drop 97 t) (1 + 3 * i) .start) (rowAt (drop 97 t) (1 + 3 * i) .octets)
+    (drop (194 + 2 * marksHeld (rowsAt (drop 97 t) i 1)) t)
+note-at t n i e h =
+    let u = drop 97 t in
+    let hs = headsOf t in
+    let count : getD u 0 0 ≡ n = getD-drop 97 t 0 0 ∙ sym e in
+    let many : hs ≡ rowsAt u n 1 = ap (λ (k : ℕ). rowsAt u k 1) count in
+    let mine : nth i hs ≡ rowAt u (1 + 3 * i) = ap (nth i) many ∙ nth-rows u n 1 i h in
+    let before : take i hs ≡ rowsAt u i 1 = ap (take i) many ∙ take-rows u n 1 i (omega arith) in
+    let far = 2 * marksHeld (rowsAt u i 1) in
+    nth-note hs (drop 194 t) i (omega (arith, ap length many, length-rows u n 1))
+    ∙ ap (λ (r : Row). noteIn (r .number) (r .start) (r .octets) (drop (2 * marksHeld (take i hs)) (drop 194 t))) mine
+    ∙ ap (λ (rs : List Row). noteIn (rowAt u (1 + 3 * i) .number) (rowAt u (1 + 3 * i) .start) (rowAt u (1 + 3 * i) .octets)
+    (drop (2 * marksHeld rs) (drop 194 t))) before
+    ∙ ap (noteIn (rowAt u (1 + 3 * i) .number) (rowAt u (1 + 3 * i) .start) (rowAt u (1 + 3 * i) .octets)) (drop-drop far 194 t)
 
 -- greetings laid leave the second list as it is
 module _ (rows : List Row) (t : List ℕ) {t₁ : List ℕ} (few : length rows ≤ 32) (e : t₁ ≡ laid rows t) where

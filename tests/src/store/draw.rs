@@ -75,15 +75,39 @@ fn some_octets(profile: &Profile, rng: &mut Prng) -> Vec<u8> {
     }
 }
 
+/// A jump: mostly into a greeting that is there, and to a sample that it has.
+pub fn some_jump(profile: &Profile, stores: &Stores, rng: &mut Prng) -> Call {
+    let rows = &stores.model.greetings;
+    if rows.is_empty() || rng.chance(1, 7) {
+        let number = if rng.chance(1, 6) { *rng.pick(&[0, 65_536, u32::MAX]) } else { a_number(profile, rng) };
+        return Call::Jump(number, rng.below(1_000) as u64);
+    }
+    let row = rng.pick(rows);
+    let last = row.samples.saturating_sub(1) as u64;
+    let sample = match rng.below(16) {
+        0 => last + 1,
+        1 => last + 2 + rng.below(400) as u64,
+        2 => *rng.pick(&[u64::MAX, 1 << 32, (1 << 32) + last, 1 << 63]),
+        3 => last,
+        4 => 0,
+        5 => row.marks.get(rng.below(row.marks.len().max(1))).map_or(0, |mark| mark.samples as u64),
+        // Around where frames of the usual lengths begin.
+        6 | 7 => (rng.below(row.samples / 40 + 1) as u64 * 40).saturating_sub(rng.below(2) as u64),
+        _ => rng.below(row.samples.max(1)) as u64,
+    };
+    Call::Jump(row.number, sample)
+}
+
 pub fn some_call(profile: &Profile, stores: &Stores, rng: &mut Prng) -> Call {
-    match rng.below(20) {
+    match rng.below(24) {
         0..=10 => Call::Put(a_law(rng), a_number(profile, rng), some_octets(profile, rng)),
         11..=14 => Call::Delete(a_number(profile, rng)),
         15..=17 => Call::Get(a_number(profile, rng)),
-        _ => {
+        18 | 19 => {
             let saved = stores.model.text().len();
             Call::Save(if rng.flip() { SAVED } else { (saved + 1).saturating_sub(rng.below(3)) })
         }
+        _ => some_jump(profile, stores, rng),
     }
 }
 

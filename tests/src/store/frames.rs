@@ -1,5 +1,6 @@
-//! Greetings to put, and all their frames: what marks are held against.
+//! Greetings to put, and all their frames: what marks and jumps are held against.
 
+use super::Told;
 use crate::streams::Stream;
 use crate::Codec;
 use second::gen::Prng;
@@ -33,6 +34,13 @@ impl Frames {
     /// One of each 64.
     pub fn marks(&self) -> Vec<Mark> {
         self.before.iter().step_by(64).map(|&(octets, samples)| Mark { octets, samples }).collect()
+    }
+
+    /// What a jump to a sample tells: the last frame at or before it is the one that holds it, as pads are before others.
+    pub fn holding(&self, sample: usize) -> Told {
+        let frame = self.before.partition_point(|(_, samples)| *samples <= sample) - 1;
+        let (octets, samples) = self.before[frame];
+        Told::jumped([frame, octets, sample - samples, frame % 64 + 1])
     }
 }
 

@@ -5,20 +5,25 @@ use g7110::raw;
 use second::store::Store;
 use second::table;
 
-/// A call's number, and its report; one of fewer than two numbers has 0 behind them.
+/// A call's number, and its report; one of fewer than four numbers has 0 behind them.
 #[derive(Clone, Copy, Debug, PartialEq, Eq)]
 pub struct Told {
     pub ending: u32,
-    pub report: [u64; 2],
+    pub report: [u64; 4],
 }
 
 impl Told {
     pub fn refused(ending: u32) -> Told {
-        Told { ending, report: [0; 2] }
+        Told { ending, report: [0; 4] }
     }
 
     pub fn ok(one: usize, other: usize) -> Told {
-        Told { ending: 0, report: [one as u64, other as u64] }
+        Told { ending: 0, report: [one as u64, other as u64, 0, 0] }
+    }
+
+    /// Of a jump: the frame, its place, the sample's place in it, frames read.
+    pub fn jumped(report: [usize; 4]) -> Told {
+        Told { ending: 0, report: report.map(|number| number as u64) }
     }
 
     /// A report that is lent full of ones, so that a number that is not written shows.
@@ -31,7 +36,7 @@ impl Told {
     }
 }
 
-/// A back end: the six calls, whoever answers them.
+/// A back end: the seven calls, whoever answers them.
 pub trait Keeps {
     fn cells(&self, size: u64) -> u64;
     fn put(&self, block: &mut [u8], table: &mut [u32], law: u32, number: u32, octets: &[u8]) -> Told;
@@ -39,6 +44,7 @@ pub trait Keeps {
     fn delete(&self, block: &[u8], table: &mut [u32], number: u32) -> Told;
     fn save(&self, block: &[u8], table: &[u32], out: &mut [u8]) -> Told;
     fn load(&self, text: &[u8], block: &[u8], table: &mut [u32]) -> Told;
+    fn jump(&self, block: &[u8], table: &[u32], number: u32, sample: u64) -> Told;
 
     /// The reader that the promises are checked with: the back end's own.
     fn reader(&self) -> &dyn Codec;
@@ -67,6 +73,10 @@ impl Keeps for Proved {
 
     fn load(&self, text: &[u8], block: &[u8], table: &mut [u32]) -> Told {
         Told::refused(raw::store_load(text, block, table))
+    }
+
+    fn jump(&self, block: &[u8], table: &[u32], number: u32, sample: u64) -> Told {
+        Told::by(|report| raw::store_jump(block, table, number, sample, report))
     }
 
     fn reader(&self) -> &dyn Codec {
@@ -114,6 +124,11 @@ impl Keeps for Second {
         let loaded = table::check_length(&fresh, cells).and_then(|()| Store::load(text, fresh.block));
         let loaded = loaded.map(|store| table::close(&store, cells));
         loaded.map_or_else(Told::refused, |()| Told::ok(0, 0))
+    }
+
+    fn jump(&self, block: &[u8], cells: &[u32], number: u32, sample: u64) -> Told {
+        let jumped = table::open(block, cells).and_then(|store| store.jump(number, sample));
+        jumped.map_or_else(Told::refused, |jump| Told::jumped([jump.frame, jump.place, jump.within, jump.read]))
     }
 
     fn reader(&self) -> &dyn Codec {

@@ -1,10 +1,10 @@
 //! The promises over any list of calls from a fresh block, checked on a back end's own answers: what it saved before and
-//! after, what it tells of where a greeting lies, and its own reader over what was put. The call's own answer is held against
-//! the model's first. The model's marks take no part.
+//! after, what it tells of where a greeting lies and of a jump, and its own reader over what was put. The call's own answer is
+//! held against the model's first. The model's marks take no part.
 
 use super::stores::Kept;
 use super::{
-    frames_of, lowest_gap, rows_of, sane, Call, Frames, Stores, Told, ABSENT, BAD, FULL, GREETINGS, LAW,
+    frames_of, lowest_gap, rows_of, sane, Call, Frames, Stores, Told, ABSENT, BAD, BEYOND, FULL, GREETINGS, LAW,
     NOROOM, NUMBER, SAVED, TAKEN,
 };
 use second::store::Greeting;
@@ -60,9 +60,16 @@ impl Stores<'_> {
                 let refusal = refusals.iter().find(|(refused, _)| *refused);
                 refusal.map_or(Some((0, None)), |(_, ending)| told(Told::refused(*ending)))
             }
-            Call::Get(number) | Call::Delete(number) if !ranged(number) => told(Told::refused(NUMBER)),
-            Call::Get(number) | Call::Delete(number) if !self.kept.contains_key(number) => {
+            Call::Get(number) | Call::Delete(number) | Call::Jump(number, _) if !ranged(number) => {
+                told(Told::refused(NUMBER))
+            }
+            Call::Get(number) | Call::Delete(number) | Call::Jump(number, _) if !self.kept.contains_key(number) => {
                 told(Told::refused(ABSENT))
+            }
+            Call::Jump(number, sample) => {
+                let frames = &self.kept[number].frames;
+                let beyond = *sample >= frames.samples as u64;
+                told(if beyond { Told::refused(BEYOND) } else { frames.holding(*sample as usize) })
             }
             Call::Get(_) | Call::Delete(_) => Some((0, None)),
             Call::Save(_) | Call::Load(_) => None,
@@ -105,6 +112,7 @@ impl Stores<'_> {
         } else if moved > 0 {
             faults.push("a call other than a put moved something".to_string());
         }
+        faults.extend(self.fault_of_a_jump(&now));
         faults.iter().for_each(|fault| self.differ(words, fault));
         self.rows = now;
     }
@@ -125,5 +133,15 @@ impl Stores<'_> {
             faults.push(format!("law, samples or marks of {} are not what the walk gives", row.number));
         }
         faults
+    }
+
+    /// A jump into one of the greetings, another one after each call, beside all its frames.
+    fn fault_of_a_jump(&mut self, now: &[Greeting]) -> Option<String> {
+        let row = now.get(self.calls % now.len().max(1))?;
+        let kept = self.kept.get(&row.number)?;
+        let sample = self.calls.wrapping_mul(0x9E37_79B9) % kept.frames.samples.max(1);
+        let wanted = if kept.frames.samples == 0 { Told::refused(BEYOND) } else { kept.frames.holding(sample) };
+        let told = self.make(&Call::Jump(row.number, sample as u64));
+        (told != wanted).then(|| format!("jump {} {sample}: {told:?}, the whole walk gives {wanted:?}", row.number))
     }
 }

@@ -46,6 +46,7 @@ fn step(line: &str) -> Option<Step> {
         ("put", given) => Some(Step::Makes(put(given)?, told(wanted)?)),
         ("get", [_]) => Some(Step::Makes(Call::Get(number()?), told(wanted)?)),
         ("delete", [_]) => Some(Step::Makes(Call::Delete(number()?), told(wanted)?)),
+        ("jump", [_, sample]) => Some(Step::Makes(Call::Jump(number()?, sample.parse().ok()?), told(wanted)?)),
         ("save", []) => Some(Step::Saves(lines_of(wanted.first().unwrap_or(&"")))),
         ("save", [room]) => Some(Step::Makes(Call::Save(room.parse().ok()?), told(wanted)?)),
         ("load", []) => Some(Step::Makes(Call::Load(Vec::new()), told(wanted)?)),
@@ -67,12 +68,16 @@ fn put(given: &[&str]) -> Option<Call> {
     }
 }
 
-/// `ok`, a refusal by its name, or the two numbers of a report.
+/// `ok`, a refusal by its name, or the two or four numbers of a report.
 fn told(wanted: &[&str]) -> Option<Told> {
     match wanted {
         ["ok"] => Some(Told::ok(0, 0)),
         [name] => ENDINGS.iter().find(|(known, _)| known == name).map(|(_, number)| Told::refused(*number)),
         [one, other] => Some(Told::ok(one.parse().ok()?, other.parse().ok()?)),
+        [frame, place, within, read] => {
+            let report = [frame, place, within, read].map(|number| number.parse().ok());
+            Some(Told::jumped([report[0]?, report[1]?, report[2]?, report[3]?]))
+        }
         _ => None,
     }
 }

@@ -15,6 +15,8 @@ pub enum Call {
     /// Into so much room.
     Save(usize),
     Load(Vec<u8>),
+    /// Number, sample.
+    Jump(u32, u64),
 }
 
 impl Call {
@@ -25,6 +27,7 @@ impl Call {
             Call::Delete(_) => "delete",
             Call::Save(_) => "save",
             Call::Load(_) => "load",
+            Call::Jump(..) => "jump",
         }
     }
 
@@ -38,6 +41,7 @@ impl Call {
             Call::Delete(number) => format!("delete {number}"),
             Call::Save(room) => format!("save in {room} octets"),
             Call::Load(text) => format!("load {}", text.escape_ascii()),
+            Call::Jump(number, sample) => format!("jump {number} {sample}"),
         }
     }
 
@@ -179,6 +183,7 @@ impl<'a> Stores<'a> {
             Call::Get(number) => self.keeper.get(block, table, *number),
             Call::Delete(number) => self.keeper.delete(block, table, *number),
             Call::Load(text) => self.keeper.load(text, block, table),
+            Call::Jump(number, sample) => self.keeper.jump(block, table, *number, *sample),
             Call::Save(room) => {
                 let fill = FILLS[self.calls % 2];
                 let mut lent = vec![fill; MARGIN + room + MARGIN];
@@ -212,6 +217,10 @@ impl<'a> Stores<'a> {
                 self.judged = true;
                 Told::ok(0, 0)
             }),
+            Call::Jump(number, sample) => {
+                let told = model.jump(*number, *sample);
+                told.map(|jump| Told::jumped([jump.frame, jump.place, jump.within, jump.read]))
+            }
         };
         answer.unwrap_or_else(Told::refused)
     }
