@@ -38,8 +38,9 @@ returns-2 c =
     let a = c .before .before .before .before .before .args in
     let ahead = c .before .before .before .next-bits .ensures in
     let f = c .before .before .s-in .ensures in
+    let k = c .before .before .s-in .result .bits in
     record {
-      says = rw (found-number f (ahead .small) _ (a .at) (ahead .same), number-there (a .octets .now) 0 (c .before .before .s-in .result .bits) (a .at) (omega arith));
+      says = rw (found-number f (ahead .small) _ (a .at) (ahead .same), number-there (a .octets .now) 0 k (a .at) (omega arith));
       value = f .most;
       next = let few = f .few in omega arith;
     }
