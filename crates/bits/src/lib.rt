@@ -111,7 +111,7 @@ fn least(a: usize, b: usize) -> usize
 }
 
 // A window of 32 bits from a place on; a bit that is missing counts 0.
-fn next_bits(octets: &[u8], at: usize) -> u32
+pub fn next_bits(octets: &[u8], at: usize) -> u32
     requires { ⌜ at ≤ 2 ^ 41 ⌝ }
     ensures { λ r. ⌜ Ahead 32 (bitsOf (now (octets .entry))) at r ⌝ }
 {

@@ -2,4 +2,3 @@ pub mod Poured
 pub mod Told
 pub mod WholeOctets
 pub mod TwoZeros
-pub mod Forks

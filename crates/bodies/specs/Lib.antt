@@ -1,2 +1,1 @@
 pub mod Bodied
-pub mod Trees

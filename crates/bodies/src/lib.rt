@@ -4,10 +4,9 @@ ghost use Prim.Native.Nat.{_+_, _*_, _^_, _/_, _%_, _≤_, _<_};
 ghost use lib.ListN.{length, replicate};
 ghost use Rattle.rules.specs.Bits.{bitsOf};
 ghost use Rattle.rules.specs.Reading.{whole};
-ghost use Rattle.rules.specs.Zeros.{uncompressed as octetsOf, constant as constantly, binary as bitsAsZeros, plusMinus, zeroOf, leaf, fork, treeOf, readTree};
+ghost use Rattle.rules.specs.Zeros.{uncompressed as octetsOf, constant as constantly, binary as bitsAsZeros, plusMinus, zeroOf, treeOf, readTree};
 ghost use Rattle.bits.specs.Outcomes.{Reads};
 ghost use Rattle.bodies.specs.Bodied.{FillsBody};
-ghost use Rattle.bodies.specs.Trees.{two, pastTwo};
 use bits::Outcome;
 use rules::Refusal;
 
@@ -70,125 +69,17 @@ pub fn binary(octets: &[u8], at: usize, n: usize, mask: u8, samples: &mut [u8; 3
     }
 }
 
-// The next bit picks one of two codes in turn.
-fn one_of_two(octets: &[u8], at: usize, s: usize) -> Outcome
-    requires { ⌜ (at ≤ 2 ^ 38) × (s ≤ 8) ⌝ }
-    ensures { λ r. ⌜ Reads (readTree (two s) (bitsOf (now (octets .entry))) at) 9 (at + 1) r ⌝ }
-{
-    match bits::bit(octets, at) {
-        Outcome::Refused(why, bit) => Outcome::Refused(why, bit),
-        Outcome::Got(b, next) => Outcome::Got(s + b, next),
-    }
-}
-
-// A 0 is the code of S; a 1 and one bit more pick one of the next two.
-fn one_of_three(octets: &[u8], at: usize, s: usize) -> Outcome
-    requires { ⌜ (at + 1 ≤ 2 ^ 38) × (s ≤ 7) ⌝ }
-    ensures { λ r. ⌜ Reads (readTree (fork (leaf s) (two (s + 1))) (bitsOf (now (octets .entry))) at) 9 (at + 2) r ⌝ }
-{
-    match bits::bit(octets, at) {
-        Outcome::Refused(why, bit) => Outcome::Refused(why, bit),
-        Outcome::Got(b, next) => {
-            if b == 1 {
-                return one_of_two(octets, next, s + 1);
-            }
-            Outcome::Got(s, next)
-        }
-    }
-}
-
-// The next two bits pick one of four codes in turn.
-fn one_of_four(octets: &[u8], at: usize, s: usize) -> Outcome
-    requires { ⌜ (at + 1 ≤ 2 ^ 38) × (s ≤ 6) ⌝ }
-    ensures { λ r. ⌜ Reads (readTree (fork (two s) (two (s + 2))) (bitsOf (now (octets .entry))) at) 9 (at + 2) r ⌝ }
-{
-    match bits::bit(octets, at) {
-        Outcome::Refused(why, bit) => Outcome::Refused(why, bit),
-        Outcome::Got(b, next) => {
-            if b == 1 {
-                return one_of_two(octets, next, s + 2);
-            }
-            one_of_two(octets, next, s)
-        }
-    }
-}
-
-// 5 to 9 of the long frames, after 111: 00, 01, 10, 110, 111.
-fn one_of_five(octets: &[u8], at: usize) -> Outcome
-    requires { ⌜ at + 2 ≤ 2 ^ 38 ⌝ }
-    ensures { λ r. ⌜ Reads (readTree (fork (two 5) (fork (leaf 7) (two 8))) (bitsOf (now (octets .entry))) at) 9 (at + 3) r ⌝ }
-{
-    match bits::bit(octets, at) {
-        Outcome::Refused(why, bit) => Outcome::Refused(why, bit),
-        Outcome::Got(b, next) => {
-            if b == 1 {
-                return one_of_three(octets, next, 7);
-            }
-            one_of_two(octets, next, 5)
-        }
-    }
-}
-
-// 3 to 9 of the long frames, after 11.
-fn one_of_seven(octets: &[u8], at: usize) -> Outcome
-    requires { ⌜ at + 3 ≤ 2 ^ 38 ⌝ }
-    ensures { λ r. ⌜ Reads (readTree (fork (two 3) (fork (two 5) (fork (leaf 7) (two 8)))) (bitsOf (now (octets .entry))) at) 9 (at + 4) r ⌝ }
-{
-    match bits::bit(octets, at) {
-        Outcome::Refused(why, bit) => Outcome::Refused(why, bit),
-        Outcome::Got(b, next) => {
-            if b == 1 {
-                return one_of_five(octets, next);
-            }
-            one_of_two(octets, next, 3)
-        }
-    }
-}
-
-// What follows 11, by the frame's length.
-fn past_two(octets: &[u8], at: usize, n: usize) -> Outcome
-    requires { ⌜ at + 3 ≤ 2 ^ 38 ⌝ }
-    ensures { λ r. ⌜ Reads (readTree (pastTwo n) (bitsOf (now (octets .entry))) at) 9 (at + 4) r ⌝ }
-{
-    if n == 40 {
-        return one_of_three(octets, at, 3);
-    }
-    if n == 80 {
-        return one_of_four(octets, at, 3);
-    }
-    one_of_seven(octets, at)
-}
-
-// What follows a 1: 10 is 2.
-fn past_one(octets: &[u8], at: usize, n: usize) -> Outcome
-    requires { ⌜ at + 4 ≤ 2 ^ 38 ⌝ }
-    ensures { λ r. ⌜ Reads (readTree (fork (leaf 2) (pastTwo n)) (bitsOf (now (octets .entry))) at) 9 (at + 5) r ⌝ }
-{
-    match bits::bit(octets, at) {
-        Outcome::Refused(why, bit) => Outcome::Refused(why, bit),
-        Outcome::Got(b, next) => {
-            if b == 1 {
-                return past_two(octets, next, n);
-            }
-            Outcome::Got(2, next)
-        }
-    }
-}
-
-// The code of S.
+// The code of S, by the table of codes: what the next bits begin with, SHORT where they are not all there.
 fn code_of_s(octets: &[u8], at: usize, n: usize) -> Outcome
-    requires { ⌜ at + 5 ≤ 2 ^ 38 ⌝ }
+    requires { ⌜ at ≤ 2 ^ 37 ⌝ }
     ensures { λ r. ⌜ Reads (readTree (treeOf n) (bitsOf (now (octets .entry))) at) 9 (at + 6) r ⌝ }
 {
-    match bits::bit(octets, at) {
-        Outcome::Refused(why, bit) => Outcome::Refused(why, bit),
-        Outcome::Got(b, next) => {
-            if b == 1 {
-                return past_one(octets, next, n);
-            }
-            one_of_two(octets, next, 0)
-        }
+    let found = codes::s_in(n, bits::next_bits(octets, at));
+    let end = at + found.bits;
+    if octets.len() < (end + 7) / 8 {
+        return Outcome::Refused(Refusal::Short, bits::missing(octets, at));
     }
+    Outcome::Got(found.s, end)
 }
 
 // "Tool 6: code of S, then runs over N."

@@ -56,7 +56,8 @@ shift-on {b} {b′} {b″} {from} {to} {n} {i} k s m h f g =
     }
 
 -- all that are left
-pub shift-rest : {b′ b″ : List ℕ} (b : List ℕ) (from to n i : ℕ) → b′ ≡ paste b to (drop from b) i → length b′ ≡ length b → to ≤ from → from + n ≤ length b → i ≤ n
+pub shift-rest : {b′ b″ : List ℕ} (b : List ℕ) (from to n i : ℕ) → b′ ≡ paste b to (drop from b) i
+    → length b′ ≡ length b → to ≤ from → from + n ≤ length b → i ≤ n
     → b″ ≡ paste b′ (to + i) (drop (from + i) b′) (n - i) → b″ ≡ paste b to (drop from b) n
 shift-rest {b′} b from to n i s l h f g e =
     let done : Shifting b from to n i b′ = record { is = s; within = g; size = l } in

@@ -1,18 +1,18 @@
 -- Laws of the table of codes: its codes, computed one after another, are the paper's.
-use Prim.Native.Nat.{ℕ, zero, suc, _-_, _^_, _≤_, _<_}
+use Prim.Native.Nat.{ℕ, zero, suc, _*_, _-_, _^_, _/_, _%_, _≤_, _<_}
 use mathlib.Core.Path.{_≡_, refl, sym, ap, _∙_}
 use mathlib.Core.List.{List, [], _∷_, _++_}
 use mathlib.Core.Bool.{Bool, true, false, _&&_}
 use native.Mathlib.Omega.{arith}
-use borrow.Author.Tests.{ltb-true, leb-true, ne-eqb}
+use borrow.Author.Tests.{eqb-true, ltb-true, leb-true, ne-eqb}
 use lib.ListN.{length, getD, replicate}
-use lib.Dec.{leb, ltb, lit<}
+use lib.Dec.{eqb, leb, ltb, lit<}
 use Rattle.rules.specs.Bits.{lowBits}
 use Rattle.rules.specs.Zeros.{codesOf, codeOf}
 use Rattle.rules.proofs.Octets.{length-lowBits}
-use Rattle.rules.proofs.Tests.{and-left, and-right}
+use Rattle.rules.proofs.Tests.{and-left, and-right, allBelow, allBelow-at}
 use Rattle.codes.specs.declared.Table.{Table}
-use Rattle.codes.specs.Codes.{TableIs, CodesAre, CodeIs}
+use Rattle.codes.specs.Codes.{sFrom, sIn, TableIs, CodesAre, CodeIs}
 
 -- the codes that a table's entries are
 abbrev pub coded : List ℕ → List ℕ → List (List ℕ)
@@ -57,10 +57,16 @@ pub codes-more : (n : ℕ) → (n ≡ 40 → ⊥) → (n ≡ 80 → ⊥) → cod
 unfolding codesOf
 codes-more n p q = rw (ne-eqb n 40 p, ne-eqb n 80 q)
 
--- a table, by two tests that compute
-pub table-told : (m k : ℕ) {n : ℕ} (bs vs : List ℕ) → codesOf n ≡ codesOf m → coded bs vs ≡ codesOf m ++ replicate k [] → within (2 ∷ bs) (0 ∷ vs) ≡ true
-    → 2 ≡ getD bs 0 0 → length bs ≡ 9 → length vs ≡ 9 → TableIs n (record { bits = 2 ∷ bs; values = 0 ∷ vs })
-table-told m k {n} bs vs e c w two size sized =
+-- the digits of the numbers of six bits
+abbrev pub digitAt : List ℕ → ℕ → ℕ
+digitAt found w = getD found (w / 16) 0 / 2 ^ (4 * (w % 16)) % 16
+
+-- a table, by three tests that compute
+pub table-told : (m k : ℕ) {n : ℕ} (bs vs found : List ℕ) → codesOf n ≡ codesOf m → coded bs vs ≡ codesOf m ++ replicate k [] → within (2 ∷ bs) (0 ∷ vs) ≡ true
+    → 2 ≡ getD bs 0 0 → length bs ≡ 9 → length vs ≡ 9 → allBelow (λ w. eqb (digitAt found w) (sIn m w)) 64 ≡ true → length found ≡ 4
+    → TableIs n (record { bits = 2 ∷ bs; values = 0 ∷ vs; found = found })
+unfolding sIn
+table-told m k {n} bs vs found e c w two size sized digits wide =
     record {
       says = says;
       first = two;
@@ -68,6 +74,8 @@ table-told m k {n} bs vs e c w two size sized =
       fits = λ s. within-at (2 ∷ bs) (0 ∷ vs) w s .1;
       size = ap suc size;
       sized = ap suc sized;
+      finds = λ w h. rw e (eqb-true _ _ (allBelow-at (λ w. eqb (digitAt found w) (sFrom 1 (codesOf m) (lowBits 6 w))) 64 digits w h));
+      wide = wide;
     }
   where
     says : (s : ℕ) → 1 ≤ s → lowBits (getD (2 ∷ bs) s 0) (getD (0 ∷ vs) s 0) ≡ codeOf n s

@@ -57,7 +57,8 @@ start-from (suc a) n s =
         let z = eqb-false l 0 e in
         let f = next-fits n (length s) l q (omega (arith, z)) in
         let rest = soundIn (cutsFrom a n (drop l s)) in
-        let k : length (take l s ++ rest) ≡ l + length rest = length-append (take l s) rest ∙ ap (λ (x : ℕ). x + length rest) (length-take-le l s (f .within)) in
+        let k : length (take l s ++ rest) ≡ l + length rest =
+        length-append (take l s) rest ∙ ap (λ (x : ℕ). x + length rest) (length-take-le l s (f .within)) in
         ap (λ (x : List ℕ). take l s ++ x) ih ∙ sym (take-add l (length rest) s) ∙ ap (λ (x : ℕ). take x s) (sym k)
 
 pub cuts-start : (n : ℕ) (s : List ℕ) → soundIn (cuts n s) ≡ take (length (soundIn (cuts n s))) s

@@ -5,7 +5,7 @@ use native.Mathlib.Omega.{arith}
 use mathlib.Core.Path.{_≡_, refl, sym, subst, _∙_}
 use mathlib.Core.List.{List, _++_}
 use mathlib.Core.Bool.{true, false}
-use lib.ListN.{length, take-append-drop}
+use lib.ListN.{length}
 use borrow.Author.Tests.{le-leb, lt-leb, le-ltb, lt-ltb}
 use Rattle.rules.specs.declared.Refusal as rules
 use Rattle.rules.specs.declared.Refusal.the-variants.{Length, Long, Room}
@@ -14,10 +14,9 @@ use Rattle.rules.specs.Refusals.{verdict}
 use Rattle.rules.specs.Tools.{writerAsks}
 use Rattle.rules.specs.Samples.{maskOf}
 use Rattle.rules.specs.Walk.{longest}
-use Rattle.rules.specs.Calls.{atStart}
 use Rattle.rules.proofs.Guards.{verdict-refused, verdict-done}
 use Rattle.lines.specs.Puts.{Puts}
-use Rattle.lines.proofs.Putting.{puts-then}
+use Rattle.lines.proofs.Putting.{puts-then, puts-first}
 use Rattle.recording.specs.declared.Refusal.the-variants.{Frame}
 use Rattle.recording.specs.declared.Ending.the-variants.{Done}
 use Rattle.recording.specs.declared.FileWritten.{FileWritten}
@@ -74,12 +73,6 @@ module _ (samples cells : List ℕ) (law set room : ℕ) (g : isGiven (givenBy c
 
     fits : headingLength + length after ≤ room → filed (headingOf law ++ after) ≡ fileGiven law set (givenBy cells samples) room
     fits h = rw (given-sized, le-leb (length after) longest s, le-ltb room (length (headingOf law ++ after)) (omega arith)) refl
-
--- what is put at the start
-puts-first : {out x out′ : List ℕ} {n : ℕ} → Puts out 0 x out′ n → out′ ≡ atStart x out
-puts-first {out} {x} {out′} {n} p =
-    let e : n ≡ length x = omega (arith, p .place) in
-    sym (take-append-drop n out′) ∙ rw (p .says, p .rest, e) refl
 
 -- the heading, and then all items
 pub file-written : (samples cells : List ℕ) (law set : ℕ) {out o out′ : List ℕ} {at n : ℕ} → isGiven (givenBy cells samples) ≡ true

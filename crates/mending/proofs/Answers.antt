@@ -4,13 +4,13 @@ use Prim.Native.Nat.{ℕ, suc, _+_, _-_, _≤_}
 use native.Mathlib.Omega.{arith}
 use mathlib.Core.Path.{_≡_, refl, sym, ap, subst, _∙_}
 use mathlib.Core.List.{List, _++_}
-use lib.ListN.{length, take, drop, length-append, take-append-drop}
+use lib.ListN.{length, take, drop, length-append}
 use lib.Seq.{length-take-le}
 use Rattle.rules.specs.declared.WalkAnswer.{WalkAnswer}
 use Rattle.rules.specs.Walk.{walkFrom}
 use Rattle.rules.specs.Calls.{atStart}
 use Rattle.lines.specs.Puts.{Puts}
-use Rattle.lines.proofs.Putting.{puts-then}
+use Rattle.lines.proofs.Putting.{puts-then, puts-first}
 use Rattle.walk.specs.Counting.{Counts}
 use Rattle.mending.specs.declared.MendRefusal.{MendRefusal}
 use Rattle.mending.specs.declared.MendEnding.the-variants.{Done}
@@ -24,12 +24,6 @@ pub declined-as : {why : MendRefusal} {r : MendAnswer} {m : Mend} → Declines w
 declined-as {r = r} d e out =
     subst (λ (m : Mend). Mends m r out out) e
     (record { end = d .end; octets = d .octets; frames = d .frames; kept = d .kept; filled = d .filled; stop = d .stop; bit = d .bit; lent = refl })
-
--- what is put at the start
-puts-first : {out x out′ : List ℕ} {n : ℕ} → Puts out 0 x out′ n → out′ ≡ atStart x out
-puts-first {out} {x} {out′} {n} p =
-    let e : n ≡ length x = omega (arith, p .place) in
-    sym (take-append-drop n out′) ∙ rw (p .says, p .rest, e) refl
 
 module _ (octets : List ℕ) (law total : ℕ) {r : WalkAnswer} (counted : Counts (walkFrom (length octets + 1) octets law allTools 0 total) r) where
   c : Counts (walkUpTo octets law total) r

@@ -1,46 +1,21 @@
--- The filling (specs/Mend): frames of one octet put one after another (`put-start`, `put-turn`, `put-done`), the five lengths as the code
--- puts them (`filling-is`), and how many octets they are (`filling-length`, `filling-few`).
-use Prim.Native.Nat.{ℕ, suc, _+_, _*_, _/_, _%_, _≤_, _<_}
+-- The filling (specs/Mend): frames of one octet put one after another (`put-done`), the five lengths as the code puts them (`filling-is`),
+-- and how many octets they are (`filling-length`, `filling-few`).
+use Prim.Native.Nat.{ℕ, _+_, _*_, _/_, _%_, _≤_}
 use native.Mathlib.Omega.{arith}
 use mathlib.Core.Path.{_≡_, refl, sym, ap, _∙_}
 use mathlib.Core.List.{List, [], _++_, append-nil}
-use lib.ListN.{length, set, replicate, length-append, length-replicate, getD-replicate}
-use lib.Seq.{paste, paste-zero, paste-suc, length-paste}
+use lib.ListN.{length, replicate, length-append, length-replicate}
 use Rattle.rules.specs.First.{baseOf}
+use Rattle.rules.proofs.Lent.{Filling}
 use Rattle.lines.specs.Puts.{Puts}
 use Rattle.lines.proofs.Putting.{puts-word, puts-then, puts-as}
 use Rattle.mending.specs.Mend.{fillBy, filling}
 
-module _ (out₀ : List ℕ) (at count octet : ℕ) where
-  pub record Putting (out : List ℕ) (i : ℕ) : Type 0 where
-    pub is : out ≡ paste out₀ at (replicate count octet) i
-    pub most : i ≤ count
-
-  pub put-start : Putting out₀ 0
-  put-start = record { is = paste-zero out₀ at (replicate count octet); most = omega arith }
-
-  module _ (h : at + count ≤ length out₀) {out : List ℕ} {i : ℕ} (p : Putting out i) where
-    pub put-length : length out ≡ length out₀
-    put-length =
-        ap length (p .is) ∙ length-paste out₀ at (replicate count octet) i (omega (arith, p .most)) (omega (arith, p .most, length-replicate count octet))
-
-    pub put-turn : i < count → Putting (set out (at + i) octet) (i + 1)
-    put-turn g =
-        let z = replicate count octet in
-        let s : i + 1 ≡ suc i = omega arith in
-        record {
-          is =
-              ap (λ (x : List ℕ). set x (at + i) octet) (p .is)
-              ∙ ap (set (paste out₀ at z i) (at + i)) (sym (getD-replicate count i octet 0 g))
-              ∙ paste-suc out₀ at z i 0 (omega arith) (omega (arith, length-replicate count octet))
-              ∙ ap (paste out₀ at z) (sym s);
-          most = omega arith;
-        }
-
-    pub put-done : count ≤ i → Puts out₀ at (replicate count octet) out (at + i)
-    put-done g =
-        let l = length-replicate count octet in
-        puts-word out₀ (replicate count octet) out at i (omega arith) (omega (arith, p .most)) (p .is)
+pub put-done : {out₀ out : List ℕ} {at count octet i : ℕ} → at + count ≤ length out₀ → Filling out₀ at count octet out i → count ≤ i
+    → Puts out₀ at (replicate count octet) out (at + i)
+put-done {out₀} {out} {at} {count} {octet} {i} h f g =
+    let l = length-replicate count octet in
+    puts-word out₀ (replicate count octet) out at i (omega arith) (omega (arith, f .most)) (f .is)
 
 -- each length as often as it fits in what the longer ones leave
 abbrev pub by320 : ℕ → ℕ

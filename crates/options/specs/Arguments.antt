@@ -68,17 +68,54 @@ noFlags = record { fill = false; records = false; lists = false; on = false }
 
 abbrev pub atFirst : ℕ → Settings
 atFirst tool =
-    record { tool = tool; law = unknown; length = 160; set = allTools; flags = noFlags; form = 0; only = false; frame = 0; infile = 0; outfile = 0; master = 0; wants = 0; wrong = 0; place = 0 }
+    record {
+      tool = tool;
+      law = unknown;
+      length = 160;
+      set = allTools;
+      flags = noFlags;
+      form = 0;
+      only = false;
+      frame = 0;
+      infile = 0;
+      outfile = 0;
+      master = 0;
+      wants = 0;
+      wrong = 0;
+      place = 0;
+    }
+
+-- settings by their fields in turn
+abbrev settings : (tool law n set : ℕ) (flags : Flags) (form : ℕ) (only : Bool) (frame infile outfile master wants wrong place : ℕ) → Settings
+settings tool law n set flags form only frame infile outfile master wants wrong place =
+    record {
+      tool = tool;
+      law = law;
+      length = n;
+      set = set;
+      flags = flags;
+      form = form;
+      only = only;
+      frame = frame;
+      infile = infile;
+      outfile = outfile;
+      master = master;
+      wants = wants;
+      wrong = wrong;
+      place = place;
+    }
 
 -- what is wrong with argument i: an option that is not known (1), no number (2), a file too many (3), a word that is missing (4), too long (5)
 abbrev pub withWrong : Settings → ℕ → ℕ → Settings
 withWrong s why i =
-    record { tool = s .tool; law = s .law; length = s .length; set = s .set; flags = s .flags; form = s .form; only = s .only; frame = s .frame; infile = s .infile; outfile = s .outfile; master = s .master; wants = s .wants; wrong = why; place = i }
+    settings (s .tool) (s .law) (s .length) (s .set) (s .flags) (s .form) (s .only) (s .frame)
+    (s .infile) (s .outfile) (s .master) (s .wants) why i
 
 -- -u, -a
 abbrev pub withLaw : Settings → ℕ → Settings
 withLaw s l =
-    record { tool = s .tool; law = l; length = s .length; set = s .set; flags = s .flags; form = s .form; only = s .only; frame = s .frame; infile = s .infile; outfile = s .outfile; master = s .master; wants = s .wants; wrong = s .wrong; place = s .place }
+    settings (s .tool) l (s .length) (s .set) (s .flags) (s .form) (s .only) (s .frame)
+    (s .infile) (s .outfile) (s .master) (s .wants) (s .wrong) (s .place)
 
 -- one of the flags is said
 abbrev pub raised : Flags → ℕ → Flags
@@ -90,47 +127,56 @@ raised f k =
 
 abbrev pub withFlag : Settings → ℕ → Settings
 withFlag s k =
-    record { tool = s .tool; law = s .law; length = s .length; set = s .set; flags = raised (s .flags) k; form = s .form; only = s .only; frame = s .frame; infile = s .infile; outfile = s .outfile; master = s .master; wants = s .wants; wrong = s .wrong; place = s .place }
+    settings (s .tool) (s .law) (s .length) (s .set) (raised (s .flags) k) (s .form) (s .only) (s .frame)
+    (s .infile) (s .outfile) (s .master) (s .wants) (s .wrong) (s .place)
 
 -- -l (1), -w (2)
 abbrev pub withForm : Settings → ℕ → Settings
 withForm s f =
-    record { tool = s .tool; law = s .law; length = s .length; set = s .set; flags = s .flags; form = f; only = s .only; frame = s .frame; infile = s .infile; outfile = s .outfile; master = s .master; wants = s .wants; wrong = s .wrong; place = s .place }
+    settings (s .tool) (s .law) (s .length) (s .set) (s .flags) f (s .only) (s .frame)
+    (s .infile) (s .outfile) (s .master) (s .wants) (s .wrong) (s .place)
 
 -- the next argument is this option's word
 abbrev pub withWants : Settings → ℕ → Settings
 withWants s w =
-    record { tool = s .tool; law = s .law; length = s .length; set = s .set; flags = s .flags; form = s .form; only = s .only; frame = s .frame; infile = s .infile; outfile = s .outfile; master = s .master; wants = w; wrong = s .wrong; place = s .place }
+    settings (s .tool) (s .law) (s .length) (s .set) (s .flags) (s .form) (s .only) (s .frame)
+    (s .infile) (s .outfile) (s .master) w (s .wrong) (s .place)
 
 -- -c MASTER
 abbrev pub withMaster : Settings → ℕ → Settings
 withMaster s i =
-    record { tool = s .tool; law = s .law; length = s .length; set = s .set; flags = s .flags; form = s .form; only = s .only; frame = s .frame; infile = s .infile; outfile = s .outfile; master = i; wants = 0; wrong = s .wrong; place = s .place }
+    settings (s .tool) (s .law) (s .length) (s .set) (s .flags) (s .form) (s .only) (s .frame)
+    (s .infile) (s .outfile) i 0 (s .wrong) (s .place)
 
 -- -n#
 abbrev pub withLength : Settings → ℕ → Settings
 withLength s n =
-    record { tool = s .tool; law = s .law; length = n; set = s .set; flags = s .flags; form = s .form; only = s .only; frame = s .frame; infile = s .infile; outfile = s .outfile; master = s .master; wants = 0; wrong = s .wrong; place = s .place }
+    settings (s .tool) (s .law) n (s .set) (s .flags) (s .form) (s .only) (s .frame)
+    (s .infile) (s .outfile) (s .master) 0 (s .wrong) (s .place)
 
 -- -k#
 abbrev pub withFrame : Settings → ℕ → Settings
 withFrame s k =
-    record { tool = s .tool; law = s .law; length = s .length; set = s .set; flags = s .flags; form = s .form; only = true; frame = k; infile = s .infile; outfile = s .outfile; master = s .master; wants = 0; wrong = s .wrong; place = s .place }
+    settings (s .tool) (s .law) (s .length) (s .set) (s .flags) (s .form) true k
+    (s .infile) (s .outfile) (s .master) 0 (s .wrong) (s .place)
 
 -- -s#
 abbrev pub withSet : Settings → ℕ → Settings
 withSet s n =
-    record { tool = s .tool; law = s .law; length = s .length; set = n; flags = s .flags; form = s .form; only = s .only; frame = s .frame; infile = s .infile; outfile = s .outfile; master = s .master; wants = 0; wrong = s .wrong; place = s .place }
+    settings (s .tool) (s .law) (s .length) n (s .flags) (s .form) (s .only) (s .frame)
+    (s .infile) (s .outfile) (s .master) 0 (s .wrong) (s .place)
 
 -- INFILE
 abbrev pub withInfile : Settings → ℕ → Settings
 withInfile s i =
-    record { tool = s .tool; law = s .law; length = s .length; set = s .set; flags = s .flags; form = s .form; only = s .only; frame = s .frame; infile = i; outfile = s .outfile; master = s .master; wants = s .wants; wrong = s .wrong; place = s .place }
+    settings (s .tool) (s .law) (s .length) (s .set) (s .flags) (s .form) (s .only) (s .frame) i (s .outfile) (s
+    .master) (s .wants) (s .wrong) (s .place)
 
 -- OUTFILE
 abbrev pub withOutfile : Settings → ℕ → Settings
 withOutfile s i =
-    record { tool = s .tool; law = s .law; length = s .length; set = s .set; flags = s .flags; form = s .form; only = s .only; frame = s .frame; infile = s .infile; outfile = i; master = s .master; wants = s .wants; wrong = s .wrong; place = s .place }
+    settings (s .tool) (s .law) (s .length) (s .set) (s .flags) (s .form) (s .only) (s .frame)
+    (s .infile) i (s .master) (s .wants) (s .wrong) (s .place)
 
 -- the first file is INFILE, the second OUTFILE, which `why` does not have, and there is no third
 unfoldable pub withFile : Settings → ℕ → Settings

@@ -1,7 +1,8 @@
 // The words of a command line: what an argument is, and the settings that the arguments make.
 ghost use mathlib.Core.Path.{_≡_};
 ghost use lib.ListN.{length};
-ghost use Rattle.options.specs.Arguments.{wantedBy, formOption, flagBy, letterOf, numberedOf, argumentOf, atFirst, withWrong, withFile, withNumber, raised, withFlag, withArgument, stepOf, endOf, lawOf};
+ghost use Rattle.options.specs.Arguments.{wantedBy, formOption, flagBy, letterOf, numberedOf, argumentOf, atFirst, withWrong, withFile};
+ghost use Rattle.options.specs.Arguments.{withNumber, raised, withFlag, withArgument, stepOf, endOf, lawOf};
 use filenames::law_told;
 use texts::Number;
 use texts::number_in;
@@ -13,7 +14,8 @@ pub const PACK: u32 = 1;
 
 pub const WHY: u32 = 2;
 
-// What an argument is. `Flag` says which flag; `Waits` and `Counts` say what follows an option: MASTER (1), the frame length (2), the tool set (3), a frame (4).
+// What an argument is. `Flag` says which flag; `Waits` and `Counts` say what follows an option: MASTER (1), the frame length (2),
+// the tool set (3), a frame (4).
 pub enum Argument {
     File,
     Law(u32),
@@ -33,7 +35,8 @@ pub struct Flags {
     pub on: bool,
 }
 
-// The settings that the arguments make. A law that no option tells is 2. The form of the sound is raw G.711 (0), linear values (1) or a WAV file (2). Files are given by their arguments' numbers, 0 is none.
+// The settings that the arguments make. A law that no option tells is 2. The form of the sound is raw G.711 (0), linear values (1) or a
+// WAV file (2). Files are given by their arguments' numbers, 0 is none.
 // `wrong` says what is wrong with argument `place`: 1 an option that is not known, 2 no number, 3 a file too many,
 // 4 a word that is missing, 5 too long.
 pub struct Settings {

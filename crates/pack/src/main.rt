@@ -10,6 +10,7 @@ ghost use Rattle.pack.specs.Runs.{FilledIf, WholeSound, Stands, stepsLef
 use options::PACK;
 use options::Settings;
 use packing::PackAnswer;
+use recording::marking::HEADING;
 use rules::Ending;
 use sounds::Way;
 
@@ -141,7 +142,7 @@ fn say_done(run: Run, s: Settings, stream: &[u8])
     let f = s.flags;
     if f.records {
         say_erased(stream, s.law);
-        console::summary(p.frames, p.samples, stream.len() + playing::HEADING_LENGTH);
+        console::summary(p.frames, p.samples, stream.len() + HEADING);
     } else {
         console::summary(p.frames, p.samples, stream.len());
     }

@@ -19,11 +19,8 @@ ghost use Rattle.playing.specs.Plays.{PlayOn, asHeaded, ReadItems};
 use recording::Ending;
 use recording::FileRead;
 use recording::Refusal;
-
-// The octets of a heading; what is added to the length of a loss in an item's number of 16 bits (`headingLength`, `lossFrom` of the paper).
-pub const HEADING_LENGTH: usize = recording::marking::HEADING;
-
-pub const LOSS_FROM: u16 = recording::marking::LOSS_FROM;
+use recording::marking::HEADING;
+use recording::marking::LOSS_FROM;
 
 // One item: how it ended, its octets, the samples that are sound, the item as a number, and a refusal's bit.
 struct Turn {
@@ -244,8 +241,8 @@ fn read_items(octets: &[u8], law: u32, set: u32, out: &mut [u8], cells: &mut [u1
     requires { ⌜ (headingLength ≤ length (now octets)) × (length (now octets) - headingLength ≤ longest) ⌝ }
     ensures { λ r. ⌜ ReadItems (now (octets .entry)) law set (now (out .entry)) (now (out .exit)) (now (cells .entry)) (now (cells .exit)) r ⌝ }
 {
-    let items = octets.len() - HEADING_LENGTH + 1;
-    let r = play_on(&octets[HEADING_LENGTH..], law, set, 0, items, out, cells);
+    let items = octets.len() - HEADING + 1;
+    let r = play_on(&octets[HEADING..], law, set, 0, items, out, cells);
     let end = r.end;
     FileRead {
         end,
@@ -267,7 +264,7 @@ pub fn read_file(octets: &[u8], set: u32, out: &mut [u8], cells: &mut [u16]) -> 
     match law_in(octets) {
         Heading::Missing => unread(Refusal::Head, 0),
         Heading::Law(law) => {
-            let after = octets.len() - HEADING_LENGTH;
+            let after = octets.len() - HEADING;
             if rules::LONGEST < after {
                 return unread(Refusal::Frame(rules::Refusal::Long), law);
             }

@@ -14,6 +14,7 @@ ghost use Rattle.replaying.specs.Lines.{lossLine, Follows, NextItem, Los
 use playing::Heading;
 use playing::Played;
 use recording::Ending;
+use recording::marking::LOSS_FROM;
 use sounds::Used;
 use sounds::Way;
 
@@ -75,7 +76,7 @@ fn is_loss(cell: u16) -> usize
     ensures { λ r. ⌜ r ≡ cond (isLoss cell) 1 0 ⌝ }
     ensures most { λ r. ⌜ r ≤ 1 ⌝ }
 {
-    if playing::LOSS_FROM <= cell {
+    if LOSS_FROM <= cell {
         return 1;
     }
     0
@@ -220,7 +221,7 @@ fn say_item(
             at,
             number,
             heard,
-            (cell - playing::LOSS_FROM) as usize,
+            (cell - LOSS_FROM) as usize,
         );
         return;
     }

@@ -1,10 +1,12 @@
--- A lent output that is filled from its start on: what is kept so far, and then the rest as lent.
-use Prim.Native.Nat.{ℕ, _+_, _-_, _≤_}
+-- A lent output that is filled from its start on: what is kept so far, and then the rest as lent (Lent); and one that is filled with an octet
+-- from a place on (Filling).
+use Prim.Native.Nat.{ℕ, suc, _+_, _-_, _≤_, _<_}
 use mathlib.Core.Path.{_≡_, refl, sym, ap, _∙_}
 use mathlib.Core.List.{List, [], _++_, append-assoc, append-nil}
 use native.Mathlib.Omega.{arith}
-use lib.ListN.{length, take, drop, length-append, length-drop, take-append-drop, drop-of-length-le}
-use lib.Seq.{take-at, drop-at, drop-drop, take-all}
+use lib.ListN.{length, take, drop, set, replicate, length-append, length-drop, length-replicate, take-append-drop, drop-of-length-le}
+use lib.ListN.{getD-replicate}
+use lib.Seq.{take-at, drop-at, drop-drop, take-all, paste, paste-zero, paste-suc, length-paste}
 use Rattle.rules.specs.Calls.{atStart}
 
 -- the part of a list from a place on, as it is lent to a call: whole, with nothing after it
@@ -51,3 +53,30 @@ module _ {out₀ kept out : List ℕ} {to : ℕ} (l : Lent out₀ kept out to) w
           is = put ∙ ap (λ (x : List ℕ). take to out ++ x) f ∙ rw (lent-take, lent-drop, drop-drop, append-assoc, e);
           room = omega (arith, l .room, h);
         }
+
+-- the first i of `count` octets from a place on are stored
+pub record Filling (out₀ : List ℕ) (at count octet : ℕ) (out : List ℕ) (i : ℕ) : Type 0 where
+  pub is : out ≡ paste out₀ at (replicate count octet) i
+  pub most : i ≤ count
+
+pub fill-start : (out₀ : List ℕ) (at count octet : ℕ) → Filling out₀ at count octet out₀ 0
+fill-start out₀ at count octet = record { is = paste-zero out₀ at (replicate count octet); most = omega arith }
+
+module _ {out₀ : List ℕ} {at count octet : ℕ} (h : at + count ≤ length out₀) {out : List ℕ} {i : ℕ} (f : Filling out₀ at count octet out i) where
+  pub fill-length : length out ≡ length out₀
+  fill-length =
+      ap length (f .is)
+      ∙ length-paste out₀ at (replicate count octet) i (omega (arith, f .most)) (omega (arith, f .most, length-replicate count octet))
+
+  pub fill-turn : i < count → Filling out₀ at count octet (set out (at + i) octet) (i + 1)
+  fill-turn g =
+      let z = replicate count octet in
+      let s : i + 1 ≡ suc i = omega arith in
+      record {
+        is =
+            ap (λ (x : List ℕ). set x (at + i) octet) (f .is)
+            ∙ ap (set (paste out₀ at z i) (at + i)) (sym (getD-replicate count i octet 0 g))
+            ∙ paste-suc out₀ at z i 0 (omega arith) (omega (arith, length-replicate count octet))
+            ∙ ap (paste out₀ at z) (sym s);
+        most = omega arith;
+      }

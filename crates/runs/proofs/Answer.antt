@@ -42,7 +42,8 @@ pub record Marks-as (found : Read (List ℕ)) (d far common other : ℕ) (old ne
   pub room : length new ≡ 320
 
 module _ {d far common other : ℕ} {old new : List ℕ} {r : Outcome} where
-  told-by : (found : Read (List ℕ)) → MarksCells found d far common other old new r → {count next : ℕ} → r ≡ Got count next → Marks-as found d far common other old new count next
+  told-by : (found : Read (List ℕ)) → MarksCells found d far common other old new r → {count next : ℕ}
+      → r ≡ Got count next → Marks-as found d far common other old new count next
   told-by (whole flags at) t {count} {next} e =
       let g : Got (marked flags) at ≡ Got count next = sym (t .end) ∙ e in
       let c : marked flags ≡ count = cc in
@@ -73,8 +74,10 @@ module _ {d far common other : ℕ} {old new : List ℕ} {r : Outcome} where
       let q : at ≡ b = cc in
       rw (p, q)
 
-  pub marks-told : {found : Read (List ℕ)} → MarksCells found d far common other old new r → {count next : ℕ} → r ≡ Got count next → Marks-as found d far common other old new count next
+  pub marks-told : {found : Read (List ℕ)} → MarksCells found d far common other old new r → {count next : ℕ}
+      → r ≡ Got count next → Marks-as found d far common other old new count next
   marks-told {found} t e = told-by found t e
 
-  pub marks-told-refused : {found : Read (List ℕ)} → MarksCells found d far common other old new r → {w : Refusal} {b : ℕ} → r ≡ Refused w b → found ≡ refuse w b
+  pub marks-told-refused : {found : Read (List ℕ)} → MarksCells found d far common other old new r
+      → {w : Refusal} {b : ℕ} → r ≡ Refused w b → found ≡ refuse w b
   marks-told-refused {found} t e = told-refused found t e

@@ -62,7 +62,8 @@ window-small {v} {n} h k =
     let q : v < 2 ^ 32 = omega (arith, pow-pos n) in
     record { value = q; ones = ones-le 32 v q }
 
-module _ {bits : List ℕ} {at d common other : ℕ} {old cells : List ℕ} {filled count place : ℕ} (g : Gathered bits at d common other old cells filled count place) where
+module _ {bits : List ℕ} {at d common other : ℕ} {old cells : List ℕ} {filled count place : ℕ}
+    (g : Gathered bits at d common other old cells filled count place) where
   pub gathered-all : d ≤ filled → MarksCells (bitsFrom [] d bits at) d (at + d) common other old cells (Got count place)
   unfolding bitsFrom
   gathered-all h =

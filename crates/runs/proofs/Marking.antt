@@ -33,7 +33,8 @@ marks-filled {found} {d} {far} {common} {other} {old} {mid} {new} {r} t p = reco
     go (whole flags next) (l, b, m) = (l, b, m ∙ ap (λ (k : List ℕ). kinds common other flags ++ k) (filled-rest d common p))
     go (refuse w at) u = tt
 
-pub marking-none : {d common : ℕ} {old new : List ℕ} (other : ℕ) → Put old 0 (replicate d common) new → d ≤ 320 → length old ≡ 320 → Marking d common other new new []
+pub marking-none : {d common : ℕ} {old new : List ℕ} (other : ℕ) → Put old 0 (replicate d common) new → d ≤ 320
+    → length old ≡ 320 → Marking d common other new new []
 marking-none {d} {common} other p f b =
     let l = length-replicate d common in
     record {
@@ -85,7 +86,8 @@ module _ {d common other : ℕ} {old new done : List ℕ} (g : Marking d common 
       }
 
   -- the others are v common places, and were read as such
-  pub marking-all : {found : Read (List ℕ)} {far count next : ℕ} (v : ℕ) → length done + v ≡ d → found ≡ whole (done ++ replicate v 0) next → marked done ≡ count → next ≤ far
+  pub marking-all : {found : Read (List ℕ)} {far count next : ℕ} (v : ℕ) → length done + v ≡ d
+      → found ≡ whole (done ++ replicate v 0) next → marked done ≡ count → next ≤ far
       → MarksCells found d far common other old new (Got count next)
   marking-all {count = count} v h e c n =
       let k : d - length done ≡ v = omega arith in

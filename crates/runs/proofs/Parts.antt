@@ -40,7 +40,8 @@ module _ {common other : ℕ} {old new : List ℕ} {from n v j : ℕ} (g : Sprea
   size : length (kinds common other (lowBits j (v / 2 ^ (n - j)))) ≡ j
   size = length-kinds common other (lowBits j (v / 2 ^ (n - j))) ∙ length-lowBits j (v / 2 ^ (n - j))
 
-  pub spreading-turn : (k : ℕ) {i : ℕ} {xs after : List ℕ} → j + k ≤ n → xs ≡ kinds common other (lowBits k (v / 2 ^ (n - (j + k)))) → from + j ≡ i → Put new i xs after
+  pub spreading-turn : (k : ℕ) {i : ℕ} {xs after : List ℕ} → j + k ≤ n
+      → xs ≡ kinds common other (lowBits k (v / 2 ^ (n - (j + k)))) → from + j ≡ i → Put new i xs after
       → Spreading common other old from n v (j + k) after
   spreading-turn k {i} {xs} {after} h e a p =
       let s = size in
@@ -68,7 +69,8 @@ module _ {common other : ℕ} {old new : List ℕ} {from n v j : ℕ} (g : Sprea
       let w = v / 2 ^ (n - (j + 1)) in
       spreading-turn 1 (omega arith) (rw (div-one w, e)) refl (put-one new (from + j) x (omega arith))
 
-  pub spreading-eight : {x i : ℕ} {after : List ℕ} → j + 8 ≤ n → x ≡ v / 2 ^ (n - (j + 8)) % 256 → from + j ≡ i → Put new i (kinds common other (lowBits 8 x)) after
+  pub spreading-eight : {x i : ℕ} {after : List ℕ} → j + 8 ≤ n → x ≡ v / 2 ^ (n - (j + 8)) % 256 → from + j ≡ i
+      → Put new i (kinds common other (lowBits 8 x)) after
       → Spreading common other old from n v (j + 8) after
   spreading-eight {x} h e a p =
       spreading-turn 8 h (ap (kinds common other) (ap (λ (y : ℕ). lowBits 8 y) e ∙ low-bits 8 8 (v / 2 ^ (n - (j + 8))) (omega arith))) a p

@@ -32,7 +32,8 @@ module _ {old xs new : List ℕ} {from : ℕ} (p : Put old from xs new) (h : fro
   put-then {i} {ys} {both} {after} e q s =
       let f = front ∙ e in
       let t : take i new ≡ take from old ++ xs = ap (λ (l : List ℕ). take i l) split ∙ take-at (take from old ++ xs) (drop (from + length xs) old) i f in
-      let d : drop i new ≡ drop (from + length xs) old = ap (λ (l : List ℕ). drop i l) split ∙ drop-at (take from old ++ xs) (drop (from + length xs) old) i f in
+      let d : drop i new ≡ drop (from + length xs) old =
+      ap (λ (l : List ℕ). drop i l) split ∙ drop-at (take from old ++ xs) (drop (from + length xs) old) i f in
       let k : length both ≡ length xs + length ys = ap length (sym s) ∙ length-append xs ys in
       let m : from + length xs + length ys ≡ from + length both = omega arith in
       let g : drop (i + length ys) new ≡ drop (from + length both) old =

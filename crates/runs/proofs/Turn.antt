@@ -11,7 +11,7 @@ use lib.Dec.{eqb, ltb}
 use borrow.Author.Tests.{lt-ltb, le-ltb, le-leb, lt-leb, eq-eqb, ne-eqb}
 use Rattle.rules.specs.declared.Refusal.{Refusal}
 use Rattle.rules.specs.declared.Refusal.the-variants.{Run}
-use Rattle.rules.specs.Reading.{Read, whole, refuse, andThen, give, fail}
+use Rattle.rules.specs.Reading.{Read, Reader, whole, refuse, andThen, give, fail}
 use Rattle.rules.specs.Runs.{rice, runsFrom}
 use Rattle.rules.specs.Chooses.{countOf}
 use Rattle.bits.specs.declared.Outcome.the-variants.{Got, Refused}
@@ -33,25 +33,30 @@ module _ (bits : List ℕ) (n s left at : ℕ) {v next : ℕ} (e : rice n s bits
   run-fits h = rw (e, le-ltb left v h)
 
 -- a run, and what follows it
+abbrev runsOn : ℕ → ℕ → ℕ → ℕ → List ℕ → ℕ → Reader (List ℕ)
+runsOn n s more left done v =
+    cond (eqb v left) (give (done ++ replicate v 0)) (runsFrom n s more (left - (v + 1)) (done ++ (replicate v 0 ++ (1 ∷ []))))
+
 runs-step : (bits : List ℕ) (n s more left : ℕ) (done : List ℕ) (at : ℕ) → 0 < left
     → runsFrom n s (suc more) left done bits at
-    ≡ andThen (oneRun n s left bits at) (λ v j. cond (eqb v left) (give (done ++ replicate v 0)) (runsFrom n s more (left - (v + 1)) (done ++ (replicate v 0 ++ (1 ∷ [])))) bits j)
+    ≡ andThen (oneRun n s left bits at) (λ v j. runsOn n s more left done v bits j)
 unfolding runsFrom oneRun
 runs-step bits n s more left done at h = rw (ne-eqb left 0 (λ z. omega arith)) (go (rice n s bits at))
   where
     go2 : (v j : ℕ) (b : Bool)
-        → cond b (fail Run at) (cond (eqb v left) (give (done ++ replicate v 0)) (runsFrom n s more (left - (v + 1)) (done ++ (replicate v 0 ++ (1 ∷ []))))) bits j
-        ≡ andThen (cond b (fail Run at) (give v) bits j) (λ v j. cond (eqb v left) (give (done ++ replicate v 0)) (runsFrom n s more (left - (v + 1)) (done ++ (replicate v 0 ++ (1 ∷ [])))) bits j)
+        → cond b (fail Run at) (runsOn n s more left done v) bits j
+        ≡ andThen (cond b (fail Run at) (give v) bits j) (λ v j. runsOn n s more left done v bits j)
     go2 v j true = refl
     go2 v j false = refl
 
     go : (r : Read ℕ)
-        → andThen r (λ v j. cond (ltb left v) (fail Run at) (cond (eqb v left) (give (done ++ replicate v 0)) (runsFrom n s more (left - (v + 1)) (done ++ (replicate v 0 ++ (1 ∷ []))))) bits j)
-        ≡ andThen (andThen r (λ v j. cond (ltb left v) (fail Run at) (give v) bits j)) (λ v j. cond (eqb v left) (give (done ++ replicate v 0)) (runsFrom n s more (left - (v + 1)) (done ++ (replicate v 0 ++ (1 ∷ [])))) bits j)
+        → andThen r (λ v j. cond (ltb left v) (fail Run at) (runsOn n s more left done v) bits j)
+        ≡ andThen (andThen r (λ v j. cond (ltb left v) (fail Run at) (give v) bits j)) (λ v j. runsOn n s more left done v bits j)
     go (whole v j) = go2 v j (ltb left v)
     go (refuse w b) = refl
 
-pub filled-none : (bits : List ℕ) (at n s : ℕ) {d common : ℕ} (other : ℕ) {old cells : List ℕ} → Put old 0 (replicate d common) cells → d ≤ 320 → length old ≡ 320
+pub filled-none : (bits : List ℕ) (at n s : ℕ) {d common : ℕ} (other : ℕ) {old cells : List ℕ}
+    → Put old 0 (replicate d common) cells → d ≤ 320 → length old ≡ 320
     → Filled bits at n s d common other cells cells 0 0 at
 unfolding countOf
 filled-none bits at n s other p f b =
@@ -77,7 +82,9 @@ module _ {bits : List ℕ} {at n s d common other : ℕ} {old cells : List ℕ} 
       let x = f .near in
       let z = f .size in
       let e : d - filled ≡ 0 = omega arith in
-      marking-all (f .marking) 0 (omega arith) (f .so-far ∙ rw e (ended (d - count)) ∙ ap (λ (l : List ℕ). whole l place) (sym (append-nil (f .done)))) (f .ones) (omega arith)
+      marking-all (f .marking) 0 (omega arith)
+      (f .so-far ∙ rw e (ended (d - count)) ∙ ap (λ (l : List ℕ). whole l place) (sym (append-nil (f .done))))
+      (f .ones) (omega arith)
     where
       ended : (more : ℕ) → runsFrom n s more 0 (f .done) bits place ≡ whole (f .done) place
       ended zero = refl
@@ -89,7 +96,7 @@ module _ {bits : List ℕ} {at n s d common other : ℕ} {old cells : List ℕ} 
 
     stepped : {r : Read ℕ} → oneRun n s (d - filled) bits place ≡ r
         → runsFrom n s d d [] bits at
-        ≡ andThen r (λ v j. cond (eqb v (d - filled)) (give (f .done ++ replicate v 0)) (runsFrom n s (d - (count + 1)) (d - filled - (v + 1)) (f .done ++ (replicate v 0 ++ (1 ∷ [])))) bits j)
+        ≡ andThen r (λ v j. runsOn n s (d - (count + 1)) (d - filled) (f .done) v bits j)
     stepped e = f .so-far ∙ rw (fuel-left, ← e) (runs-step bits n s (d - (count + 1)) (d - filled) (f .done) place (omega arith))
 
     pub runs-refused : {w : Refusal} {b : ℕ} → oneRun n s (d - filled) bits place ≡ refuse w b

@@ -25,7 +25,8 @@ pub record In-word (octets : List ℕ) (at n s d other : ℕ) (old : List ℕ) (
   pub few : count ≤ filled
   pub room : length new ≡ 320
 
-pub in-word-none : (octets : List ℕ) (at n s d other : ℕ) {old : List ℕ} {before marks word good : ℕ} → Holds octets at n word good → before ≤ d → marks ≤ before
+pub in-word-none : (octets : List ℕ) (at n s d other : ℕ) {old : List ℕ} {before marks word good : ℕ}
+    → Holds octets at n word good → before ≤ d → marks ≤ before
     → length old ≡ 320 → In-word octets at n s d other old before marks good old word good before marks
 in-word-none octets at n s d other {good = good} h w f r =
     let e : at + (good - good) ≡ at = omega arith in
@@ -39,7 +40,8 @@ module _ {octets : List ℕ} {at n s d other : ℕ} {old : List ℕ} {before mar
   in-word-ends r f c p z =
       record { goes = rw (f, c, p) (i .goes); last = λ h. absurd (omega arith); small = omega arith; from = rw f (i .from); room = i .room }
 
-  module _ {zeros v : ℕ} (c : zeros ≡ leadingZeros 32 (word / 2 ^ 32)) (h : zeros < 32) (m : s ≤ 9) (g : zeros + (s + 1) ≤ good) (e : v ≡ runIn word zeros s) where
+  module _ {zeros v : ℕ} (c : zeros ≡ leadingZeros 32 (word / 2 ^ 32)) (h : zeros < 32) (m : s ≤ 9)
+      (g : zeros + (s + 1) ≤ good) (e : v ≡ runIn word zeros s) where
     code : rice n s (bitsOf octets) (at + (all - good)) ≡ whole v (at + (all - good) + (zeros + (s + 1)))
     code = rice-held octets (at + (all - good)) n s (i .holds) c h m g ∙ ap (λ (x : ℕ). whole x (at + (all - good) + (zeros + (s + 1)))) (sym e)
 
@@ -58,7 +60,8 @@ module _ {octets : List ℕ} {at n s d other : ℕ} {old : List ℕ} {before mar
 
     -- one that does not
     pub in-word-turn : filled + v < d
-        → In-word octets at n s d other old before marks all (set new (filled + v) other) (word * 2 ^ (zeros + (s + 1)) % 2 ^ 64) (good - (zeros + (s + 1))) (filled + v + 1) (count + 1)
+        → In-word octets at n s d other old before marks all (set new (filled + v) other)
+        (word * 2 ^ (zeros + (s + 1)) % 2 ^ 64) (good - (zeros + (s + 1))) (filled + v + 1) (count + 1)
     in-word-turn l =
         let size = zeros + (s + 1) in
         let b = i .left in

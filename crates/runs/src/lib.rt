@@ -5,7 +5,7 @@ ghost use Prim.Native.Nat.{_+_, _*_, _-_, _^_, _/_, _≤_, _<_, min};
 ghost use lib.ListN.{length, replicate};
 ghost use Rattle.rules.specs.Bits.{lowBits, bitsOf};
 ghost use Rattle.rules.specs.Reading.{bitsFrom};
-ghost use Rattle.rules.specs.Runs.{runsFrom};
+ghost use Rattle.rules.specs.Runs.{runs as runsOver};
 ghost use Rattle.bits.specs.Outcomes.{Reads};
 ghost use Rattle.runs.specs.Flagged.{oneRun, kindOf, kinds, Put, MarksCells};
 ghost use Rattle.runs.specs.Reached.{Reads-several, endOf};
@@ -131,7 +131,7 @@ pub fn runs(
     other: u8,
 ) -> Outcome
     requires { ⌜ (at ≤ 2 ^ 38) × (n ≤ 320) × (s ≤ 9) × (d ≤ 320) × (length (now cells) ≡ 320) ⌝ }
-    ensures { λ r. ⌜ MarksCells (runsFrom n s d d [] (bitsOf (now (octets .entry))) at) d (at + 330 * d) common other (now (cells .entry)) (now (cells .exit)) r ⌝ }
+    ensures { λ r. ⌜ MarksCells (runsOver n s d (bitsOf (now (octets .entry))) at) d (at + 330 * d) common other (now (cells .entry)) (now (cells .exit)) r ⌝ }
 {
     fill(cells, d, common);
     let mut filled = 0;

@@ -13,6 +13,7 @@ use console::Got;
 use options::Flags;
 use options::Settings;
 use options::UNPACK;
+use recording::marking::HEADING;
 use replaying::Kind;
 use rules::Ending;
 use sounds::FAILED;
@@ -134,7 +135,7 @@ fn of_recording(t: replaying::Total) -> Outcome
         tool: recording::tool_of(end),
         bit: t.bit,
         at: t.at,
-        octets: t.at + playing::HEADING_LENGTH,
+        octets: t.at + HEADING,
         frames: t.items - t.lost,
         lost: t.lost,
         samples: t.samples,
@@ -367,7 +368,7 @@ fn with_recording(s: Settings, law: u32, name: &[u8], file: &[u8])
         console::usage(UNPACK, b"the recording's heading says the other law");
         return;
     }
-    with_frames(&file[playing::HEADING_LENGTH..], law, s, true, name);
+    with_frames(&file[HEADING..], law, s, true, name);
 }
 
 // What the file is says what is done with it.
@@ -388,7 +389,7 @@ fn run(s: Settings, name: &[u8]) {
     if refuses(e) {
         return;
     }
-    let mut file = [0u8; rules::LONGEST + playing::HEADING_LENGTH + 1];
+    let mut file = [0u8; rules::LONGEST + HEADING + 1];
     let got = read_file(name, &mut file);
     if got.failed {
         return;

@@ -12,7 +12,8 @@ use Rattle.wave.specs.declared.Heading.the-variants.{More, Sound, Refuse
 use Rattle.wave.specs.declared.Wrong.the-variants.{NotWave, Format, Channels, Rate, Bits, ShortFormat, ManyChunks}
 use Rattle.wave.specs.declared.Step.{Step}
 use Rattle.wave.specs.declared.Step.the-variants.{On, Ends}
-use Rattle.wave.specs.Headings.{halfAt, wordAt, formatAt, formatIn, soundOf, after, stepAt, onward, chunksFrom, headingOf, riffName, waveName, formatName, dataName}
+use Rattle.wave.specs.Headings.{halfAt, wordAt, formatAt, formatIn, soundOf, after, stepAt, onward, chunksFrom, headingOf}
+use Rattle.wave.specs.Headings.{riffName, waveName, formatName, dataName}
 
 module _ (l : List ℕ) (at size : ℕ) where
   pub other-format : {f : ℕ} → f ≡ halfAt l at → (f ≡ 1 → ⊥) → Ends (Refused (Format f)) ≡ formatAt l at size

@@ -24,13 +24,16 @@ enum-known-next : tie.Need-enum-known-next
 enum-known-next c = search needs
 
 returns : tie.Need-returns
-returns c = fills-refused (rw (marks-told-refused (c .before .before .before .straight .ensures) (c .before .why .given .1))) (c .before .before .before .straight .ensures .room)
+returns c =
+    fills-refused (rw (marks-told-refused (c .before .before .before .straight .ensures) (c .before .why .given .1)))
+    (c .before .before .before .straight .ensures .room)
 
 returns-2 : tie.Need-returns-2
 returns-2 c =
     let s = c .before .before .before .before .before .before .before .before in
     let m = marks-told (c .before .before .before .straight .ensures) (c .before .next .given .1) in
-    zeros-filled (zeroOf (s .args .mask) 0) m (c .before .before .before .before .before .before .zero-of .ensures) (c .before .before .before .before .before .zero-of2 .ensures) (λ flags e. rw e) (omega arith) (omega arith)
+    zeros-filled (zeroOf (s .args .mask) 0) m (c .before .before .before .before .before .before .zero-of .ensures)
+    (c .before .before .before .before .before .zero-of2 .ensures) (λ flags e. rw e) (omega arith) (omega arith)
 
 pub binary-spec : {M : Type 1} → statement M
 binary-spec =

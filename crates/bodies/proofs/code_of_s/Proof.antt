@@ -1,57 +1,51 @@
--- The first fork of the tree (Forks).
+-- The code that the next bits begin with is read as a number of its bits (Codes' Begun), and that is cut or there (Bits' Cut, Window).
 use borrow.Author.Needs.{needs}
 use native.Mathlib.Omega.{arith}
-use Rattle.rules.specs.Zeros.{treeOf}
-use Rattle.bodies.specs.Trees.{pastTwo}
-use Rattle.bits.proofs.Told.{told, refused}
-use Rattle.bodies.proofs.Forks.{fork-refused, fork-one, fork-zero}
+use Rattle.bits.proofs.Cut.{number-cut}
+use Rattle.bits.proofs.Window.{number-there}
+use Rattle.codes.proofs.Begun.{found-number}
 use Rattle.bodies.proofs.code_of_s.Statement.{statement}
 use Rattle.bodies.proofs.code_of_s.Tie as tie
 
-bit-requires : tie.Need-bit-requires
-bit-requires c κs = search needs
+next-bits-requires : tie.Need-next-bits-requires
+next-bits-requires c κs = search needs
 
-enum-known-why : tie.Need-enum-known-why
-enum-known-why c = search needs
+s-in-requires : tie.Need-s-in-requires
+s-in-requires c κs = search needs
 
-enum-known-b : tie.Need-enum-known-b
-enum-known-b c = search needs
+add-end : tie.Need-add-end
+add-end c = search needs
 
-past-one-requires : tie.Need-past-one-requires
-past-one-requires c κs =
-    let v = told (c .before .before .before .before .bit .ensures) (c .before .before .b .given .1) in
-    omega arith
+add-if1 : tie.Need-add-if1
+add-if1 c = search needs
+
+missing-requires : tie.Need-missing-requires
+missing-requires c κs = search needs
 
 returns : tie.Need-returns
-unfolding treeOf pastTwo
 returns c =
-    let v = told (c .before .before .before .before .before .bit .ensures) (c .before .before .before .b .given .1) in
-    fork-one _ _ _ _ v (c .before .if1 .taken) (c .past-one .ensures) (omega arith)
-
-one-of-two-requires : tie.Need-one-of-two-requires
-one-of-two-requires c κs =
-    let v = told (c .before .before .before .before .bit .ensures) (c .before .before .b .given .1) in
-    omega arith
+    let a = c .before .before .before .before .before .before .args in
+    let ahead = c .before .before .before .before .next-bits .ensures in
+    let f = c .before .before .before .s-in .ensures in
+    record {
+      says = rw (c .missing .ensures, found-number f (ahead .small) _ (a .at) (ahead .same), number-cut (a .octets .now) 0 _ (a .at) (f .some) (omega arith));
+      value = omega arith;
+      next = omega arith;
+    }
 
 returns-2 : tie.Need-returns-2
-unfolding treeOf pastTwo
-returns-2 c = fork-refused _ _ _ _ (refused (c .before .before .before .bit .ensures) (c .before .why .given .1))
-
-returns-3 : tie.Need-returns-3
-unfolding treeOf pastTwo
-returns-3 c =
-    let v = told (c .before .before .before .before .before .bit .ensures) (c .before .before .before .b .given .1) in
-    fork-zero _ _ _ _ v (c .before .if1 .left) (c .one-of-two .ensures) (omega arith)
+returns-2 c =
+    let a = c .before .before .before .before .before .args in
+    let ahead = c .before .before .before .next-bits .ensures in
+    let f = c .before .before .s-in .ensures in
+    let k = c .before .before .s-in .result .bits in
+    record {
+      says = rw (found-number f (ahead .small) _ (a .at) (ahead .same), number-there (a .octets .now) 0 k (a .at) (omega arith));
+      value = f .most;
+      next = let few = f .few in omega arith;
+    }
 
 pub code-of-s-spec : {M : Type 1} → statement M
 code-of-s-spec =
     tie.close
-    (tie.spec
-    bit-requires
-    enum-known-why
-    enum-known-b
-    past-one-requires
-    returns
-    one-of-two-requires
-    returns-2
-    returns-3)
+    (tie.spec next-bits-requires s-in-requires add-end add-if1 missing-requires returns returns-2)

@@ -24,7 +24,9 @@ filled-requires : tie.Need-filled-requires
 filled-requires c κs = search needs
 
 returns : tie.Need-returns
-returns c = fills-refused (rw (refused (c .before .before .before .number .ensures) (c .before .why .given .1))) (c .before .before .before .before .before .pre .2)
+returns c =
+    fills-refused (rw (refused (c .before .before .before .number .ensures) (c .before .why .given .1)))
+    (c .before .before .before .before .before .pre .2)
 
 returns-2 : tie.Need-returns-2
 returns-2 c =

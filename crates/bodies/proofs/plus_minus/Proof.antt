@@ -36,19 +36,25 @@ enum-known-next : tie.Need-enum-known-next
 enum-known-next c = search needs
 
 returns : tie.Need-returns
-returns c = fills-refused (rw (refused (c .before .before .before .code-of-s .ensures) (c .before .why .given .1))) (c .before .before .before .before .before .before .before .pre .3)
+returns c =
+    fills-refused (rw (refused (c .before .before .before .code-of-s .ensures) (c .before .why .given .1)))
+    (c .before .before .before .before .before .before .before .pre .3)
 
 returns-2 : tie.Need-returns-2
 returns-2 c =
-    let s = told (c .before .before .before .before .before .before .before .before .code-of-s .ensures) (c .before .before .before .before .before .before .s .given .1) in
-    fills-refused (rw (s .says, marks-told-refused (c .before .before .before .runs .ensures) (c .before .why2 .given .1))) (c .before .before .before .runs .ensures .room)
+    let k = c .before .before .before .before .before .before in
+    let s = told (k .before .before .code-of-s .ensures) (k .s .given .1) in
+    let r = c .before .before .before .runs .ensures in
+    fills-refused (rw (s .says, marks-told-refused r (c .before .why2 .given .1))) (r .room)
 
 returns-3 : tie.Need-returns-3
 returns-3 c =
     let a = c .before .before .before .before .before .before .before .before .before .before .before .before .args in
-    let s = told (c .before .before .before .before .before .before .before .before .code-of-s .ensures) (c .before .before .before .before .before .before .s .given .1) in
+    let k = c .before .before .before .before .before .before in
+    let s = told (k .before .before .code-of-s .ensures) (k .s .given .1) in
     let m = marks-told (c .before .before .before .runs .ensures) (c .before .next .given .1) in
-    zeros-filled (zeroOf (a .mask) (a .mark)) m (c .before .before .before .before .before .before .before .before .before .before .zero-of .ensures) (c .before .before .before .before .before .before .before .before .before .zero-of2 .ensures) (λ flags e. rw (s .says, e)) (omega arith) (omega arith)
+    zeros-filled (zeroOf (a .mask) (a .mark)) m (k .before .before .before .before .zero-of .ensures) (k .before .before .before .zero-of2 .ensures)
+    (λ flags e. rw (s .says, e)) (omega arith) (omega arith)
 
 pub plus-minus-spec : {M : Type 1} → statement M
 plus-minus-spec =

@@ -31,7 +31,8 @@ returns : tie.Need-returns Inv-loop μ-loop
 returns c =
     let a = c .before .before .before in
     let m = c .missing .ensures in
-    fills-refused (rw m (octets-cut (a .args .octets .now) (sizes (c .before .before)) (a .args .n) [] (a .args .at) (omega arith) (omega arith) (omega arith))) (a .pre .4)
+    fills-refused (rw m (octets-cut (a .args .octets .now) (sizes (c .before .before)) (a .args .n) [] (a .args .at)
+    (omega arith) (omega arith) (omega arith))) (a .pre .4)
 
 loop-holds : tie.Need-loop-holds Inv-loop μ-loop
 loop-holds c =
@@ -59,7 +60,9 @@ loop-again c =
     let a = c .before .before .before .before .before in
     let i = c .before .before .loop .i in
     let l = part-length (a .args .octets .now) (a .args .at / 8) (a .args .n) (omega arith) in
-    poured-next (c .before .before .loop .inv) (rw l (omega arith)) (sym (getD-take (a .args .n) (drop (a .args .at / 8) (a .args .octets .now)) i 0 (omega arith) ∙ getD-drop (a .args .at / 8) (a .args .octets .now) i 0))
+    poured-next (c .before .before .loop .inv) (rw l (omega arith))
+    (sym (getD-take (a .args .n) (drop (a .args .at / 8) (a .args .octets .now)) i 0 (omega arith)
+    ∙ getD-drop (a .args .at / 8) (a .args .octets .now) i 0))
 
 mul-t7 : tie.Need-mul-t7 Inv-loop μ-loop
 mul-t7 c = search needs
@@ -72,7 +75,9 @@ returns-2 c =
     let k = c .before .before .before in
     let a = k .before in
     let l = part-length (a .args .octets .now) (a .args .at / 8) (a .args .n) (omega arith) in
-    poured-all (c .before .loop .inv) (rw l (omega arith)) (octets-there (a .args .octets .now) (sizes k) (a .args .n) [] (a .args .at) (omega arith) (omega arith)) (sym l) (omega arith)
+    poured-all (c .before .loop .inv) (rw l (omega arith))
+    (octets-there (a .args .octets .now) (sizes k) (a .args .n) [] (a .args .at) (omega arith) (omega arith)) (sym l)
+    (omega arith)
 
 pub uncompressed-spec : {M : Type 1} → statement M
 uncompressed-spec =

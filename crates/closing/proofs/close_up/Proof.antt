@@ -26,22 +26,24 @@ module _ (c : tie.In-loop Inv-loop μ-loop) where
   here : c .before .loop .i < getD (c .before .before .before .before .before .before .args .table .now) 0 0
   here = omega (arith, c .before .before .wide .ensures, c .loop-test .taken)
 
-  near : {r : Row} → r ≡ rowAt (c .before .loop .table) (1 + 3 * c .before .loop .i) → Next 1 (c .before .loop .to) (c .before .before .before .before .before .before .args .size) r
+  near : {r : Row} → r ≡ rowAt (c .before .loop .table) (1 + 3 * c .before .loop .i)
+      → Next 1 (c .before .loop .to) (c .before .before .before .before .before .before .args .size) r
   near e =
       let s = c .before .before .before .before .before .before .pre in
       rw (e ∙ row-here (s .0) (s .1 .0) (c .before .loop .inv) here) (close-next (s .0) (s .1 .0) (c .before .loop .inv) here)
 
 module _ (c : tie.After-slice-known4 Inv-loop μ-loop) where
-  turned : Closing (c .before .before .before .before .before .before .before .before .before .before .before .before .args .size) (c .before .before .before .before .before .before .before .before .before .before .before .before .args .block .now)
-      (c .before .before .before .before .before .before .before .before .before .before .before .before .args .table .now) (c .before .before .before .before .before .before .before .loop .i + 1)
-      (c .before .before .settle .last .0)
-      (set (c .before .before .before .before .before .before .before .loop .table) (1 + 3 * c .before .before .before .before .before .before .before .loop .i + 1) (c .before .before .before .before .before .before .before .loop .to))
-      (c .before .before .before .before .before .before .before .loop .to + c .before .before .before .before .row-at .result .octets)
-      (c .before .before .before .before .before .before .before .loop .moved + c .before .before .settle .result)
+  turned : let a = c .before .before .before .before .before .before .before .before .before .before .before .before .args in
+      let l = c .before .before .before .before .before .before .before .loop in
+      Closing (a .size) (a .block .now) (a .table .now) (l .i + 1) (c .before .before .settle .last .0)
+      (set (l .table) (1 + 3 * l .i + 1) (l .to))
+      (l .to + c .before .before .before .before .row-at .result .octets) (l .moved + c .before .before .settle .result)
   turned =
       let s = c .before .before .before .before .before .before .before .before .before .before .before .before .pre in
       let settled = c .before .before .settle .ensures in
-      close-turn (s .0) (s .1 .0) (c .before .before .before .before .before .before .before .loop .inv) (here (c .before .before .before .before .before .before)) (c .before .before .before .before .row-at .ensures .0) (settled .0) (settled .1)
+      let turn = c .before .before .before .before .before .before in
+      close-turn (s .0) (s .1 .0) (turn .before .loop .inv) (here turn)
+      (c .before .before .before .before .row-at .ensures .0) (settled .0) (settled .1)
 
 slice-read-wide : tie.Need-slice-read-wide Inv-loop μ-loop
 slice-read-wide c = search needs
@@ -69,7 +71,9 @@ settle-requires c κs =
     (n .above, omega (arith, n .inside, c .before .before .before .before .loop .inv .block-size))
 
 cast-table : tie.Need-cast-table Inv-loop μ-loop
-cast-table c = omega (arith, c .before .before .before .before .before .before .before .loop .inv .inside, c .before .before .before .before .before .before .before .before .before .before .before .before .pre .1 .1)
+cast-table c =
+    let low = c .before .before .before .before .before .before .before .before .before .before .before .before .pre .1 .1 in
+    omega (arith, c .before .before .before .before .before .before .before .loop .inv .inside, low)
 
 add-table : tie.Need-add-table Inv-loop μ-loop
 add-table c = search needs
@@ -80,19 +84,26 @@ mul-table c = search needs
 slice-write-table : tie.Need-slice-write-table Inv-loop μ-loop
 slice-write-table c =
     let o = c .before .before .before .before .before .before .before .before .before .before .before .before .pre .0 in
-    omega (arith, o .cells, o .few, here (c .before .before .before .before .before .before), c .before .before .before .before .before .before .before .loop .inv .table-size)
+    let turn = c .before .before .before .before .before .before in
+    omega (arith, o .cells, o .few, here turn, turn .before .loop .inv .table-size)
 
 add-moved : tie.Need-add-moved Inv-loop μ-loop
-add-moved c = let t = turned c in omega (arith, t .few, t .inside, c .before .before .before .before .before .before .before .before .before .before .before .before .pre .1 .1)
+add-moved c =
+    let t = turned c in
+    let low = c .before .before .before .before .before .before .before .before .before .before .before .before .pre .1 .1 in
+    omega (arith, t .few, t .inside, low)
 
 add-to : tie.Need-add-to Inv-loop μ-loop
-add-to c = let t = turned (c .before) in omega (arith, t .inside, c .before .before .before .before .before .before .before .before .before .before .before .before .before .pre .1 .1)
+add-to c =
+    let t = turned (c .before) in
+    let low = c .before .before .before .before .before .before .before .before .before .before .before .before .before .pre .1 .1 in
+    omega (arith, t .inside, low)
 
 add-i : tie.Need-add-i Inv-loop μ-loop
 add-i c = search needs
 
 loop-less : tie.Need-loop-less Inv-loop μ-loop
-loop-less c = omega (arith, here (c .before .before .before .before .before .before .before), c .before .before .before .before .before .before .before .loop-test .taken)
+loop-less c = let turn = c .before .before .before .before .before .before .before in omega (arith, here turn, turn .loop-test .taken)
 
 loop-again : tie.Need-loop-again Inv-loop μ-loop
 loop-again c = turned (c .before)

@@ -42,7 +42,8 @@ returns c =
     let s = c .before .before .before .before .before .before .before .before .before .before .before .args in
     let z : s .from + 64 - s .from ≡ 64 = omega arith in
     let part = ap (λ (y : ℕ). take y (drop (s .from) (s .block .now))) z in
-    hop-all (s .block .now) (replicate 64 0) (s .from) (s .to) 64 (omega arith) refl part (c .before .before .before .before .before .before .copy .ensures) (c .before .before .copy2 .ensures)
+    hop-all (s .block .now) (replicate 64 0) (s .from) (s .to) 64 (omega arith) refl part
+    (c .before .before .before .before .before .before .copy .ensures) (c .before .before .copy2 .ensures)
 
 pub hop-spec : {M : Type 1} → statement M
 hop-spec =

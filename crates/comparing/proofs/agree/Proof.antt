@@ -19,7 +19,10 @@ loop-holds : tie.Need-loop-holds Inv-loop μ-loop
 loop-holds c = (omega arith, omega arith, sym (zero-add (agreeing (c .args .a .now) (c .args .b .now))))
 
 returns : tie.Need-returns Inv-loop μ-loop
-returns c = (sym (c .before .before .loop .inv .2 ∙ agree-second (c .before .before .before .args .a .now) (c .before .before .before .args .b .now) (c .before .before .loop .i) (c .if1 .taken)), (omega arith, omega arith))
+returns c =
+    let s = c .before .before .before .args in
+    let l = c .before .before .loop in
+    (sym (l .inv .2 ∙ agree-second (s .a .now) (s .b .now) (l .i) (c .if1 .taken)), (omega arith, omega arith))
 
 shared-slice-read-if2 : tie.Need-shared-slice-read-if2 Inv-loop μ-loop
 shared-slice-read-if2 c = search needs
@@ -28,7 +31,10 @@ shared-slice-read-if2-2 : tie.Need-shared-slice-read-if2-2 Inv-loop μ-loop
 shared-slice-read-if2-2 c = search needs
 
 returns-2 : tie.Need-returns-2 Inv-loop μ-loop
-returns-2 c = (sym (c .before .before .before .before .before .loop .inv .2 ∙ agree-differ (c .before .before .before .before .before .before .args .a .now) (c .before .before .before .before .before .before .args .b .now) (c .before .before .before .before .before .loop .i) (omega arith) (omega arith) (c .if2 .taken)), (omega arith, omega arith))
+returns-2 c =
+    let s = c .before .before .before .before .before .before .args in
+    let l = c .before .before .before .before .before .loop in
+    (sym (l .inv .2 ∙ agree-differ (s .a .now) (s .b .now) (l .i) (omega arith) (omega arith) (c .if2 .taken)), (omega arith, omega arith))
 
 add-i : tie.Need-add-i Inv-loop μ-loop
 add-i c = search needs
@@ -37,10 +43,16 @@ loop-less : tie.Need-loop-less Inv-loop μ-loop
 loop-less c = search needs
 
 loop-again : tie.Need-loop-again Inv-loop μ-loop
-loop-again c = (omega arith, omega arith, c .before .before .before .before .before .loop .inv .2 ∙ agree-step (c .before .before .before .before .before .before .args .a .now) (c .before .before .before .before .before .before .args .b .now) (c .before .before .before .before .before .loop .i) (omega arith) (omega arith) (c .if2 .left))
+loop-again c =
+    let s = c .before .before .before .before .before .before .args in
+    let l = c .before .before .before .before .before .loop in
+    (omega arith, omega arith, l .inv .2 ∙ agree-step (s .a .now) (s .b .now) (l .i) (omega arith) (omega arith) (c .if2 .left))
 
 returns-3 : tie.Need-returns-3 Inv-loop μ-loop
-returns-3 c = (sym (c .before .loop .inv .2 ∙ agree-first (c .before .before .args .a .now) (c .before .before .args .b .now) (c .before .loop .i) (c .loop-test .left)), (omega arith, omega arith))
+returns-3 c =
+    let s = c .before .before .args in
+    let l = c .before .loop in
+    (sym (l .inv .2 ∙ agree-first (s .a .now) (s .b .now) (l .i) (c .loop-test .left)), (omega arith, omega arith))
 
 pub agree-spec : {M : Type 1} → statement M
 agree-spec =

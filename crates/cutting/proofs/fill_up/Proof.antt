@@ -5,7 +5,8 @@ use native.Mathlib.Omega.{arith}
 use Rattle.rules.specs.Samples.{plusZero}
 use Rattle.cutting.specs.Cuts.{toFill}
 use Rattle.law.proofs.Mask.{mask-small}
-use Rattle.cutting.proofs.Filling.{Filling, fill-start, fill-length, fill-turn, fill-done}
+use Rattle.rules.proofs.Lent.{Filling, fill-start, fill-length, fill-turn}
+use Rattle.cutting.proofs.Filling.{fill-done}
 use Rattle.cutting.proofs.fill_up.Statement.{statement}
 use Rattle.cutting.proofs.fill_up.Tie as tie
 
@@ -31,9 +32,7 @@ add-sound : tie.Need-add-sound Inv-loop μ-loop
 add-sound c = search needs
 
 slice-write-sound : tie.Need-slice-write-sound Inv-loop μ-loop
-slice-write-sound c =
-    let s = c .before .before .before .before .before in
-    omega (arith, fill-length (s .args .sound .now) (s .args .len) (toFill (s .args .len)) (c .before .before .plus-zero .result) (s .pre) (c .before .loop .inv))
+slice-write-sound c = omega (arith, fill-length (c .before .before .before .before .before .pre) (c .before .loop .inv))
 
 add-i : tie.Need-add-i Inv-loop μ-loop
 add-i c = search needs
@@ -42,19 +41,15 @@ loop-less : tie.Need-loop-less Inv-loop μ-loop
 loop-less c = search needs
 
 loop-again : tie.Need-loop-again Inv-loop μ-loop
-loop-again c =
-    let s = c .before .before .before .before .before in
-    fill-turn (s .args .sound .now) (s .args .len) (toFill (s .args .len)) (c .before .before .plus-zero .result) (s .pre) (c .before .loop .inv) (omega arith)
+loop-again c = fill-turn (c .before .before .before .before .before .pre) (c .before .loop .inv) (omega arith)
 
 same-length : tie.Need-same-length Inv-loop μ-loop
-same-length c =
-    let s = c .before .before .before .before .before in
-    fill-length (s .args .sound .now) (s .args .len) (toFill (s .args .len)) (c .before .before .plus-zero .result) (s .pre) (c .before .loop .inv)
+same-length c = fill-length (c .before .before .before .before .before .pre) (c .before .loop .inv)
 
 returns : tie.Need-returns Inv-loop μ-loop
 returns c =
-    let s = c .before .before .before .before .before in
-    fill-done (s .args .sound .now) (s .args .len) (toFill (s .args .len)) (c .before .before .plus-zero .result) (s .pre) (c .before .loop .inv) (omega arith) refl (c .before .before .plus-zero .ensures ∙ ap plusZero (c .before .before .before .mask-of .ensures))
+    fill-done (c .before .loop .inv) (omega arith) refl
+    (c .before .before .plus-zero .ensures ∙ ap plusZero (c .before .before .before .mask-of .ensures))
 
 pub fill-up-spec : {M : Type 1} → statement M
 fill-up-spec =

@@ -31,17 +31,21 @@ loop-less : tie.Need-loop-less Inv-loop μ-loop
 loop-less c = search needs
 
 loop-again : tie.Need-loop-again Inv-loop μ-loop
-loop-again c = (
-  omega arith,
-  omega arith,
-  omega (arith, c .place-after .ensures .1),
-  c .before .before .before .loop .inv .3
-      ∙ place-step (c .before .before .before .before .before .args .name .now) (length (c .before .before .before .before .before .args .name .now)) (c .before .before .before .loop .place) (c .before .before .before .loop .i) (omega arith)
-      ∙ ap (λ (p : ℕ). placeFrom (length (c .before .before .before .before .before .args .name .now)) p (c .before .before .before .loop .i + 1) (drop (c .before .before .before .loop .i + 1) (c .before .before .before .before .before .args .name .now))) (sym (c .place-after .ensures .0)),
-)
+loop-again c =
+    let name = c .before .before .before .before .before .args .name .now in
+    let l = c .before .before .before .loop in (
+      omega arith,
+      omega arith,
+      omega (arith, c .place-after .ensures .1),
+      l .inv .3 ∙ place-step name (length name) (l .place) (l .i) (omega arith)
+          ∙ ap (λ (p : ℕ). placeFrom (length name) p (l .i + 1) (drop (l .i + 1) name)) (sym (c .place-after .ensures .0)),
+    )
 
 returns : tie.Need-returns Inv-loop μ-loop
-returns c = (sym (c .before .loop .inv .3 ∙ place-end (c .before .before .before .args .name .now) (length (c .before .before .before .args .name .now)) (c .before .loop .place) (c .before .loop .i) (omega arith)), omega arith)
+returns c =
+    let name = c .before .before .before .args .name .now in
+    let l = c .before .loop in
+    (sym (l .inv .3 ∙ place-end name (length name) (l .place) (l .i) (omega arith)), omega arith)
 
 pub ending-at-spec : {M : Type 1} → statement M
 ending-at-spec =

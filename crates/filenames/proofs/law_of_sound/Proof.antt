@@ -21,7 +21,9 @@ is-same-requires-2 c κs = search needs
 
 returns-2 : tie.Need-returns-2
 unfolding lawOfSound
-returns-2 c = rw (← (c .before .before .before .before .is-same .ensures), c .before .before .before .if1 .left, ← (c .before .is-same2 .ensures), c .if2 .taken)
+returns-2 c =
+    let at1 = c .before .before .before in
+    rw (← (at1 .before .is-same .ensures), at1 .if1 .left, ← (c .before .is-same2 .ensures), c .if2 .taken)
 
 slice-aggregate-is-same-3 : tie.Need-slice-aggregate-is-same-3
 slice-aggregate-is-same-3 c = search needs
@@ -31,7 +33,10 @@ is-same-requires-3 c κs = search needs
 
 returns-3 : tie.Need-returns-3
 unfolding lawOfSound
-returns-3 c = rw (← (c .before .before .before .before .before .before .before .is-same .ensures), c .before .before .before .before .before .before .if1 .left, ← (c .before .before .before .before .is-same2 .ensures), c .before .before .before .if2 .left, ← (c .before .is-same3 .ensures), c .if3 .taken)
+returns-3 c =
+    let at2 = c .before .before .before in
+    let at1 = at2 .before .before .before in
+    rw (← (at1 .before .is-same .ensures), at1 .if1 .left, ← (at2 .before .is-same2 .ensures), at2 .if2 .left, ← (c .before .is-same3 .ensures), c .if3 .taken)
 
 slice-aggregate-is-same-4 : tie.Need-slice-aggregate-is-same-4
 slice-aggregate-is-same-4 c = search needs
@@ -41,7 +46,12 @@ is-same-requires-4 c κs = search needs
 
 returns-4 : tie.Need-returns-4
 unfolding lawOfSound
-returns-4 c = rw (← (c .before .before .before .before .before .before .before .before .before .before .is-same .ensures), c .before .before .before .before .before .before .before .before .before .if1 .left, ← (c .before .before .before .before .before .before .before .is-same2 .ensures), c .before .before .before .before .before .before .if2 .left, ← (c .before .before .before .before .is-same3 .ensures), c .before .before .before .if3 .left, ← (c .before .is-same4 .ensures), c .if4 .taken)
+returns-4 c =
+    let at3 = c .before .before .before in
+    let at2 = at3 .before .before .before in
+    let at1 = at2 .before .before .before in
+    rw (← (at1 .before .is-same .ensures), at1 .if1 .left, ← (at2 .before .is-same2 .ensures), at2 .if2 .left)
+    (rw (← (at3 .before .is-same3 .ensures), at3 .if3 .left, ← (c .before .is-same4 .ensures), c .if4 .taken))
 
 slice-aggregate-is-same-5 : tie.Need-slice-aggregate-is-same-5
 slice-aggregate-is-same-5 c = search needs
@@ -51,11 +61,25 @@ is-same-requires-5 c κs = search needs
 
 returns-5 : tie.Need-returns-5
 unfolding lawOfSound
-returns-5 c = rw (← (c .before .before .before .before .before .before .before .before .before .before .before .before .before .is-same .ensures), c .before .before .before .before .before .before .before .before .before .before .before .before .if1 .left, ← (c .before .before .before .before .before .before .before .before .before .before .is-same2 .ensures), c .before .before .before .before .before .before .before .before .before .if2 .left, ← (c .before .before .before .before .before .before .before .is-same3 .ensures), c .before .before .before .before .before .before .if3 .left, ← (c .before .before .before .before .is-same4 .ensures), c .before .before .before .if4 .left, ← (c .before .is-same5 .ensures), c .if5 .taken)
+returns-5 c =
+    let at4 = c .before .before .before in
+    let at3 = at4 .before .before .before in
+    let at2 = at3 .before .before .before in
+    let at1 = at2 .before .before .before in
+    rw (← (at1 .before .is-same .ensures), at1 .if1 .left, ← (at2 .before .is-same2 .ensures), at2 .if2 .left)
+    (rw (← (at3 .before .is-same3 .ensures), at3 .if3 .left, ← (at4 .before .is-same4 .ensures), at4 .if4 .left)
+    (rw (← (c .before .is-same5 .ensures), c .if5 .taken)))
 
 returns-6 : tie.Need-returns-6
 unfolding lawOfSound
-returns-6 c = rw (← (c .before .before .before .before .before .before .before .before .before .before .before .before .before .is-same .ensures), c .before .before .before .before .before .before .before .before .before .before .before .before .if1 .left, ← (c .before .before .before .before .before .before .before .before .before .before .is-same2 .ensures), c .before .before .before .before .before .before .before .before .before .if2 .left, ← (c .before .before .before .before .before .before .before .is-same3 .ensures), c .before .before .before .before .before .before .if3 .left, ← (c .before .before .before .before .is-same4 .ensures), c .before .before .before .if4 .left, ← (c .before .is-same5 .ensures), c .if5 .left)
+returns-6 c =
+    let at4 = c .before .before .before in
+    let at3 = at4 .before .before .before in
+    let at2 = at3 .before .before .before in
+    let at1 = at2 .before .before .before in
+    rw (← (at1 .before .is-same .ensures), at1 .if1 .left, ← (at2 .before .is-same2 .ensures), at2 .if2 .left)
+    (rw (← (at3 .before .is-same3 .ensures), at3 .if3 .left, ← (at4 .before .is-same4 .ensures), at4 .if4 .left)
+    (rw (← (c .before .is-same5 .ensures), c .if5 .left)))
 
 pub law-of-sound-spec : {M : Type 1} → statement M
 law-of-sound-spec =

@@ -21,7 +21,8 @@ is-same-requires-2 c κs = search needs
 
 returns-2 : tie.Need-returns-2
 unfolding lawOfStream
-returns-2 c = rw (← (c .before .before .before .before .is-same .ensures), c .before .before .before .if1 .left, ← (c .before .is-same2 .ensures), c .if2 .taken)
+returns-2 c =
+    rw (← (c .before .before .before .before .is-same .ensures), c .before .before .before .if1 .left, ← (c .before .is-same2 .ensures), c .if2 .taken)
 
 returns-3 : tie.Need-returns-3
 unfolding lawOfStream

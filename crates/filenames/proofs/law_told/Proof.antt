@@ -24,7 +24,11 @@ law-of-sound-requires c κs = search needs
 
 returns : tie.Need-returns
 unfolding lawTold
-returns c = rw (c .before .before .if1 .taken) (c .law-of-sound .ensures ∙ ap lawOfSound (part-left (c .before .before .before .before .before .args .name .now) (c .before .before .before .ending-at .result) ∙ ap (λ (n : ℕ). drop n (c .before .before .before .before .before .args .name .now)) (c .before .before .before .ending-at .ensures .0)))
+returns c =
+    let a = c .before .before .before .before .before .args in
+    let e = c .before .before .before .ending-at in
+    rw (c .before .before .if1 .taken) (c .law-of-sound .ensures
+    ∙ ap lawOfSound (part-left (a .name .now) (e .result) ∙ ap (λ (n : ℕ). drop n (a .name .now)) (e .ensures .0)))
 
 sub-law-of-stream : tie.Need-sub-law-of-stream
 sub-law-of-stream c = search needs
@@ -40,7 +44,11 @@ law-of-stream-requires c κs = search needs
 
 returns-2 : tie.Need-returns-2
 unfolding lawTold
-returns-2 c = rw (c .before .before .if1 .left) (c .law-of-stream .ensures ∙ ap lawOfStream (part-left (c .before .before .before .before .before .args .name .now) (c .before .before .before .ending-at .result) ∙ ap (λ (n : ℕ). drop n (c .before .before .before .before .before .args .name .now)) (c .before .before .before .ending-at .ensures .0)))
+returns-2 c =
+    let a = c .before .before .before .before .before .args in
+    let e = c .before .before .before .ending-at in
+    rw (c .before .before .if1 .left) (c .law-of-stream .ensures
+    ∙ ap lawOfStream (part-left (a .name .now) (e .result) ∙ ap (λ (n : ℕ). drop n (a .name .now)) (e .ensures .0)))
 
 pub law-told-spec : {M : Type 1} → statement M
 law-told-spec =

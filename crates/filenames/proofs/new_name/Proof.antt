@@ -23,7 +23,12 @@ same-length : tie.Need-same-length
 same-length c = search needs
 
 returns : tie.Need-returns
-returns c = laid-as (name-appended (c .before .before .before .before .before .before .before .before .before .before .args .packs) (c .before .before .before .before .before .before .before .before .before .before .args .law) (c .before .before .before .before .before .before .before .before .before .before .args .name .now) (c .before .before .before .before .before .before .before .new-ending .result) (sym (c .before .before .before .before .before .before .law-told .ensures) ∙ c .before .before .before .before .before .if1 .taken) (c .before .before .before .before .before .before .before .new-ending .ensures .0)) (c .before .before .lay .ensures)
+returns c =
+    let a = c .before .before .before .before .before .before .before .before .before .before .args in
+    let e = c .before .before .before .before .before .before .before .new-ending in
+    laid-as (name-appended (a .packs) (a .law) (a .name .now) (e .result)
+    (sym (c .before .before .before .before .before .before .law-told .ensures)
+    ∙ c .before .before .before .before .before .if1 .taken) (e .ensures .0)) (c .before .before .lay .ensures)
 
 ending-at-requires : tie.Need-ending-at-requires
 ending-at-requires c κs = search needs
@@ -47,7 +52,15 @@ same-length-2 : tie.Need-same-length-2
 same-length-2 c = search needs
 
 returns-2 : tie.Need-returns-2
-returns-2 c = laid-as (name-replaced (c .before .before .before .before .before .before .before .before .before .before .before .before .before .args .packs) (c .before .before .before .before .before .before .before .before .before .before .before .before .before .args .law) (c .before .before .before .before .before .before .before .before .before .before .before .before .before .args .name .now) (c .before .before .before .before .before .before .before .ending-at .result) (c .before .before .before .before .before .before .before .before .before .before .new-ending .result) (λ e. c .before .before .before .before .before .before .before .before .if1 .left (c .before .before .before .before .before .before .before .before .before .law-told .ensures ∙ e)) (c .before .before .before .before .before .before .before .ending-at .ensures .0) (c .before .before .before .before .before .before .before .before .before .before .new-ending .ensures .1) (c .before .before .before .before .before .before .before .before .before .before .new-ending .ensures .0)) (c .before .before .lay2 .ensures)
+returns-2 c =
+    let e = c .before .before .before .before .before .before .before .ending-at in
+    let test = c .before .before .before .before .before .before .before .before in
+    let n = test .before .before .new-ending in
+    let a = test .before .before .before .before .before .args in
+    laid-as
+    (name-replaced (a .packs) (a .law) (a .name .now) (e .result) (n .result) (λ f. test .if1 .left (test .before .law-told .ensures ∙ f))
+    (e .ensures .0) (n .ensures .1) (n .ensures .0))
+    (c .before .before .lay2 .ensures)
 
 pub new-name-spec : {M : Type 1} → statement M
 new-name-spec =

@@ -28,7 +28,8 @@ sub-result c = rw (turned (bitXor (c .before .args .sample) (c .before .args .ma
 returns : tie.Need-returns
 unfolding signed
 returns c =
-    rw (le-leb 128 (c .before .args .sample) (omega (arith, c .if1 .taken))) (same (bitXor (c .before .args .sample) (c .before .args .mask) % 128) (omega arith))
+    rw (le-leb 128 (c .before .args .sample) (omega (arith, c .if1 .taken)))
+    (same (bitXor (c .before .args .sample) (c .before .args .mask) % 128) (omega arith))
 
 returns-2 : tie.Need-returns-2
 unfolding signed

@@ -33,8 +33,9 @@ same-length c = search needs
 returns : tie.Need-returns
 unfolding frameLine
 returns c =
-    let frame = c .before .before .before .before .before .before .before .before .before .before .before .before .before .before .before .before .put-field .ensures in
-    let place = c .before .before .before .before .before .before .before .before .before .before .before .put-field2 .ensures in
+    let second = c .before .before .before .before .before .before .before .before .before .before .before in
+    let frame = second .before .before .before .before .before .put-field .ensures in
+    let place = second .put-field2 .ensures in
     let samples = c .before .before .before .before .before .before .put-field3 .ensures in
     let reading = c .before .before .put-reading .ensures in
     (puts-then (frame .0) (puts-then (place .0) (puts-then (samples .0) (reading .0))), omega arith)

@@ -21,7 +21,8 @@ returns : tie.Need-returns
 returns c =
     let w = c .before .before .before .before .before .before .put-word .ensures in
     let d = c .before .before .put-number .ensures in
-    (puts-then w d, omega (arith, w .place, d .place, decimal-most (c .before .before .before .before .before .before .before .before .before .before .args .n)))
+    let most = decimal-most (c .before .before .before .before .before .before .before .before .before .before .args .n) in
+    (puts-then w d, omega (arith, w .place, d .place, most))
 
 pub put-field-spec : {M : Type 1} → statement M
 put-field-spec = tie.close (tie.spec put-word-requires put-number-requires same-length returns)

@@ -34,8 +34,9 @@ same-length c = search needs
 
 returns : tie.Need-returns
 returns c =
-    let tool = c .before .before .before .before .before .before .before .before .before .before .before .before .before .before .before .before .before .put-field .ensures in
-    let octets = c .before .before .before .before .before .before .before .before .before .before .before .before .put-field2 .ensures in
+    let second = c .before .before .before .before .before .before .before .before .before .before .before .before in
+    let tool = second .before .before .before .before .before .put-field .ensures in
+    let octets = second .put-field2 .ensures in
     let bits = c .before .before .before .before .before .before .before .put-field3 .ensures in
     let end = c .before .before .put-word .ensures in
     (puts-then (tool .0) (puts-then (octets .0) (puts-then (bits .0) end)), omega arith)

@@ -83,4 +83,6 @@ returns c =
     }
 
 pub master-of-spec : {M : Type 1} → statement M
-master-of-spec = tie.close (tie.spec Inv-loop μ-loop lesser-requires loop-holds shared-slice-read-pair-for pair-for-requires mul-at slice-write-out add-out slice-write-out-2 add-i loop-less loop-again mul-result same-length returns)
+master-of-spec =
+    tie.close (tie.spec Inv-loop μ-loop lesser-requires loop-holds shared-slice-read-pair-for pair-for-requires
+    mul-at slice-write-out add-out slice-write-out-2 add-i loop-less loop-again mul-result same-length returns)

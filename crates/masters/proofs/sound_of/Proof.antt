@@ -77,4 +77,6 @@ returns c =
     record { count = l .inv .1; lent = l .inv .2 ∙ laid s (a .out .now) (l .i) ∙ ap (λ k. take k s ++ drop k (a .out .now)) e }
 
 pub sound-of-spec : {M : Type 1} → statement M
-sound-of-spec = tie.close (tie.spec Inv-loop μ-loop lesser-requires loop-holds mul-at shared-slice-read-sample-for add-sample-for shared-slice-read-sample-for-2 sample-for-requires slice-write-out add-i loop-less loop-again same-length returns)
+sound-of-spec =
+    tie.close (tie.spec Inv-loop μ-loop lesser-requires loop-holds mul-at shared-slice-read-sample-for add-sample-for
+    shared-slice-read-sample-for-2 sample-for-requires slice-write-out add-i loop-less loop-again same-length returns)

@@ -10,7 +10,8 @@ linear-of-requires c κs = search needs
 mul-result : tie.Need-mul-result
 mul-result c =
     let a = c .before .before .args in
-    raised (a .law) (a .octet) (record { sfits = c .before .linear-of .ok }) (c .before .linear-of .ensures) (unit-a (a .law) (c .if1 .taken)) (omega arith) .fits
+    raised (a .law) (a .octet) (record { sfits = c .before .linear-of .ok }) (c .before .linear-of .ensures)
+    (unit-a (a .law) (c .if1 .taken)) (omega arith) .fits
 
 returns : tie.Need-returns
 returns c =
@@ -20,7 +21,8 @@ returns c =
 mul-result-2 : tie.Need-mul-result-2
 mul-result-2 c =
     let a = c .before .before .args in
-    raised (a .law) (a .octet) (record { sfits = c .before .linear-of .ok }) (c .before .linear-of .ensures) (unit-mu (a .law) (c .if1 .left)) (omega arith) .fits
+    raised (a .law) (a .octet) (record { sfits = c .before .linear-of .ok }) (c .before .linear-of .ensures)
+    (unit-mu (a .law) (c .if1 .left)) (omega arith) .fits
 
 returns-2 : tie.Need-returns-2
 returns-2 c =

@@ -1,29 +1,25 @@
 use borrow.Author.Needs.{needs}
 use Prim.Native.Nat.{_-_}
 use native.Mathlib.Omega.{arith}
-use Rattle.mending.proofs.Filling.{Putting, put-start, put-length, put-turn, put-done}
+use Rattle.rules.proofs.Lent.{Filling, fill-start, fill-length, fill-turn}
+use Rattle.mending.proofs.Filling.{put-done}
 use Rattle.mending.proofs.put_frames.Statement.{statement}
 use Rattle.mending.proofs.put_frames.Tie as tie
 
 abbrev Inv-loop : tie.InvT-loop
-Inv-loop octet count out₀ at i₀ out i = Putting out₀ at count octet out i
+Inv-loop octet count out₀ at i₀ out i = Filling out₀ at count octet out i
 
 abbrev μ-loop : tie.MeasureT-loop
 μ-loop octet count out₀ at i₀ out i = count - i
 
 loop-holds : tie.Need-loop-holds Inv-loop μ-loop
-loop-holds c = put-start (c .args .out .now) (c .args .at) (c .args .count) (c .args .octet)
+loop-holds c = fill-start (c .args .out .now) (c .args .at) (c .args .count) (c .args .octet)
 
 add-out : tie.Need-add-out Inv-loop μ-loop
 add-out c = search needs
 
 slice-write-out : tie.Need-slice-write-out Inv-loop μ-loop
-slice-write-out c =
-    omega (
-      arith,
-      put-length (c .before .before .args .out .now) (c .before .before .args .at) (c .before .before .args .count)
-          (c .before .before .args .octet) (c .before .before .pre) (c .before .loop .inv),
-    )
+slice-write-out c = omega (arith, fill-length (c .before .before .pre) (c .before .loop .inv))
 
 add-i : tie.Need-add-i Inv-loop μ-loop
 add-i c = search needs
@@ -32,22 +28,16 @@ loop-less : tie.Need-loop-less Inv-loop μ-loop
 loop-less c = omega arith
 
 loop-again : tie.Need-loop-again Inv-loop μ-loop
-loop-again c =
-    put-turn (c .before .before .args .out .now) (c .before .before .args .at) (c .before .before .args .count) (c .before .before .args .octet)
-    (c .before .before .pre) (c .before .loop .inv) (omega arith)
+loop-again c = fill-turn (c .before .before .pre) (c .before .loop .inv) (omega arith)
 
 add-result : tie.Need-add-result Inv-loop μ-loop
 add-result c = search needs
 
 same-length : tie.Need-same-length Inv-loop μ-loop
-same-length c =
-    put-length (c .before .before .args .out .now) (c .before .before .args .at) (c .before .before .args .count) (c .before .before .args .octet)
-    (c .before .before .pre) (c .before .loop .inv)
+same-length c = fill-length (c .before .before .pre) (c .before .loop .inv)
 
 returns : tie.Need-returns Inv-loop μ-loop
-returns c =
-    put-done (c .before .before .args .out .now) (c .before .before .args .at) (c .before .before .args .count) (c .before .before .args .octet)
-    (c .before .before .pre) (c .before .loop .inv) (omega arith)
+returns c = put-done (c .before .before .pre) (c .before .loop .inv) (omega arith)
 
 pub put-frames-spec : {M : Type 1} → statement M
 put-frames-spec =

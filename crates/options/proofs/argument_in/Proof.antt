@@ -30,7 +30,11 @@ letter-option-requires c κs = search needs
 
 returns-4 : tie.Need-returns-4
 unfolding argumentOf
-returns-4 c = rw (ne-eqb _ _ (c .before .before .before .before .before .before .if1 .left), ne-eqb _ _ (c .before .before .before .before .before .if2 .left), eq-eqb _ _ (c .before .before .before .if3 .left), eq-eqb _ _ (c .before .before .if4 .taken)) (c .letter-option .ensures)
+returns-4 c =
+    rw (ne-eqb _ _ (c .before .before .before .before .before .before .if1 .left))
+    (rw (ne-eqb _ _ (c .before .before .before .before .before .if2 .left))
+    (rw (eq-eqb _ _ (c .before .before .before .if3 .left), eq-eqb _ _ (c .before .before .if4 .taken))
+    (c .letter-option .ensures)))
 
 shared-slice-read-numbered-option : tie.Need-shared-slice-read-numbered-option
 shared-slice-read-numbered-option c = search needs
@@ -49,8 +53,12 @@ numbered-option-requires c κs = search needs
 
 returns-5 : tie.Need-returns-5
 unfolding argumentOf
-returns-5 c = rw (ne-eqb _ _ (c .before .before .before .before .before .before .before .if1 .left), ne-eqb _ _ (c .before .before .before .before .before .before .if2 .left), eq-eqb _ _ (c .before .before .before .before .if3 .left), ne-eqb _ _ (c .before .before .before .if4 .left))
-    (c .numbered-option .ensures ∙ ap (numberedOf (c .before .before .before .before .before .before .before .before .before .args .tool) (getD (c .before .before .before .before .before .before .before .before .before .args .text .now) 1 0)) (part-left (c .before .before .before .before .before .before .before .before .before .args .text .now) 2))
+returns-5 c =
+    let a = c .before .before .before .before .before .before .before .before .before .args in
+    rw (ne-eqb _ _ (c .before .before .before .before .before .before .before .if1 .left))
+    (rw (ne-eqb _ _ (c .before .before .before .before .before .before .if2 .left))
+    (rw (eq-eqb _ _ (c .before .before .before .before .if3 .left), ne-eqb _ _ (c .before .before .before .if4 .left))
+    (c .numbered-option .ensures ∙ ap (numberedOf (a .tool) (getD (a .text .now) 1 0)) (part-left (a .text .now) 2))))
 
 pub argument-in-spec : {M : Type 1} → statement M
 argument-in-spec =

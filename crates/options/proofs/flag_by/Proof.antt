@@ -26,11 +26,15 @@ returns-5 c = rw (ne-eqb _ _ (c .before .before .if1 .left), eq-eqb _ _ (c .befo
 
 returns-6 : tie.Need-returns-6
 unfolding flagBy
-returns-6 c = rw (ne-eqb _ _ (c .before .before .before .if1 .left), eq-eqb _ _ (c .before .before .if4 .left), ne-eqb _ _ (c .before .if5 .left), eq-eqb _ _ (c .if6 .taken))
+returns-6 c =
+    rw (ne-eqb _ _ (c .before .before .before .if1 .left), eq-eqb _ _ (c .before .before .if4 .left))
+    (rw (ne-eqb _ _ (c .before .if5 .left), eq-eqb _ _ (c .if6 .taken)))
 
 returns-7 : tie.Need-returns-7
 unfolding flagBy
-returns-7 c = rw (ne-eqb _ _ (c .before .before .before .if1 .left), eq-eqb _ _ (c .before .before .if4 .left), ne-eqb _ _ (c .before .if5 .left), ne-eqb _ _ (c .if6 .left))
+returns-7 c =
+    rw (ne-eqb _ _ (c .before .before .before .if1 .left), eq-eqb _ _ (c .before .before .if4 .left))
+    (rw (ne-eqb _ _ (c .before .if5 .left), ne-eqb _ _ (c .if6 .left)))
 
 pub flag-by-spec : {M : Type 1} → statement M
 flag-by-spec =

@@ -20,14 +20,18 @@ form-option-requires c κs = search needs
 
 returns-3 : tie.Need-returns-3
 unfolding letterOf
-returns-3 c = rw (ne-eqb _ _ (c .before .before .before .if1 .left), ne-eqb _ _ (c .before .before .if2 .left), eq-eqb _ _ (c .before .if3 .taken)) (c .form-option .ensures)
+returns-3 c =
+    rw (ne-eqb _ _ (c .before .before .before .if1 .left), ne-eqb _ _ (c .before .before .if2 .left))
+    (rw (eq-eqb _ _ (c .before .if3 .taken)) (c .form-option .ensures))
 
 form-option-requires-2 : tie.Need-form-option-requires-2
 form-option-requires-2 c κs = search needs
 
 returns-4 : tie.Need-returns-4
 unfolding letterOf
-returns-4 c = rw (ne-eqb _ _ (c .before .before .before .before .if1 .left), ne-eqb _ _ (c .before .before .before .if2 .left), ne-eqb _ _ (c .before .before .if3 .left), eq-eqb _ _ (c .before .if4 .taken)) (c .form-option2 .ensures)
+returns-4 c =
+    rw (ne-eqb _ _ (c .before .before .before .before .if1 .left), ne-eqb _ _ (c .before .before .before .if2 .left))
+    (rw (ne-eqb _ _ (c .before .before .if3 .left), eq-eqb _ _ (c .before .if4 .taken)) (c .form-option2 .ensures))
 
 flag-by-requires : tie.Need-flag-by-requires
 flag-by-requires c κs = search needs

@@ -19,12 +19,16 @@ with-argument-requires c κs = search needs
 
 returns-2 : tie.Need-returns-2
 unfolding stepOf
-returns-2 c = rw (eq-eqb _ _ (c .before .before .before .before .if1 .left), eq-eqb _ _ (c .before .before .if2 .taken))
-    (c .with-argument .ensures ∙ ap (λ (a : Argument). withArgument (c .before .before .before .before .before .before .before .args .s) a (c .before .before .before .before .before .before .before .args .index)) (c .before .argument-in .ensures))
+returns-2 c =
+    let s = c .before .before .before .before .before .before .before .args in
+    rw (eq-eqb _ _ (c .before .before .before .before .if1 .left), eq-eqb _ _ (c .before .before .if2 .taken))
+    (c .with-argument .ensures ∙ ap (λ (a : Argument). withArgument (s .s) a (s .index)) (c .before .argument-in .ensures))
 
 returns-3 : tie.Need-returns-3
 unfolding stepOf
-returns-3 c = rw (eq-eqb _ _ (c .before .before .before .before .if1 .left), ne-eqb _ _ (c .before .before .if2 .left), eq-eqb (c .before .before .before .before .before .before .before .args .s .wants) 1 (c .if3 .taken))
+returns-3 c =
+    rw (eq-eqb _ _ (c .before .before .before .before .if1 .left), ne-eqb _ _ (c .before .before .if2 .left))
+    (rw (eq-eqb (c .before .before .before .before .before .before .before .args .s .wants) 1 (c .if3 .taken)))
 
 number-in-requires : tie.Need-number-in-requires
 number-in-requires c κs = search needs
@@ -34,8 +38,11 @@ with-number-requires c κs = search needs
 
 returns-4 : tie.Need-returns-4
 unfolding stepOf
-returns-4 c = rw (eq-eqb _ _ (c .before .before .before .before .before .before .if1 .left), ne-eqb _ _ (c .before .before .before .before .if2 .left), ne-eqb _ _ (c .before .before .if3 .left))
-    (c .with-number .ensures ∙ ap (λ (n : Number). withNumber (c .before .before .before .before .before .before .before .before .before .args .s) (c .before .before .before .before .before .before .before .before .before .args .s .wants) n (c .before .before .before .before .before .before .before .before .before .args .index)) (c .before .number-in .ensures))
+returns-4 c =
+    let a = c .before .before .before .before .before .before .before .before .before .args in
+    rw (eq-eqb _ _ (c .before .before .before .before .before .before .if1 .left))
+    (rw (ne-eqb _ _ (c .before .before .before .before .if2 .left), ne-eqb _ _ (c .before .before .if3 .left))
+    (c .with-number .ensures ∙ ap (λ (n : Number). withNumber (a .s) (a .s .wants) n (a .index)) (c .before .number-in .ensures)))
 
 pub step-spec : {M : Type 1} → statement M
 step-spec =

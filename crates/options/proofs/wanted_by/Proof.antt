@@ -22,15 +22,21 @@ returns-4 c = rw (ne-eqb _ _ (c .before .before .if1 .left), ne-eqb _ _ (c .befo
 
 returns-5 : tie.Need-returns-5
 unfolding wantedBy
-returns-5 c = rw (ne-eqb _ _ (c .before .before .before .if1 .left), ne-eqb _ _ (c .before .before .if2 .left), ne-eqb _ _ (c .before .if4 .left), ne-eqb _ _ (c .if5 .taken))
+returns-5 c =
+    rw (ne-eqb _ _ (c .before .before .before .if1 .left), ne-eqb _ _ (c .before .before .if2 .left))
+    (rw (ne-eqb _ _ (c .before .if4 .left), ne-eqb _ _ (c .if5 .taken)))
 
 returns-6 : tie.Need-returns-6
 unfolding wantedBy
-returns-6 c = rw (ne-eqb _ _ (c .before .before .before .before .if1 .left), ne-eqb _ _ (c .before .before .before .if2 .left), ne-eqb _ _ (c .before .before .if4 .left), eq-eqb _ _ (c .before .if5 .left), eq-eqb _ _ (c .if6 .taken))
+returns-6 c =
+    rw (ne-eqb _ _ (c .before .before .before .before .if1 .left), ne-eqb _ _ (c .before .before .before .if2 .left))
+    (rw (ne-eqb _ _ (c .before .before .if4 .left), eq-eqb _ _ (c .before .if5 .left), eq-eqb _ _ (c .if6 .taken)))
 
 returns-7 : tie.Need-returns-7
 unfolding wantedBy
-returns-7 c = rw (ne-eqb _ _ (c .before .before .before .before .if1 .left), ne-eqb _ _ (c .before .before .before .if2 .left), ne-eqb _ _ (c .before .before .if4 .left), eq-eqb _ _ (c .before .if5 .left), ne-eqb _ _ (c .if6 .left))
+returns-7 c =
+    rw (ne-eqb _ _ (c .before .before .before .before .if1 .left), ne-eqb _ _ (c .before .before .before .if2 .left))
+    (rw (ne-eqb _ _ (c .before .before .if4 .left), eq-eqb _ _ (c .before .if5 .left), ne-eqb _ _ (c .if6 .left)))
 
 pub wanted-by-spec : {M : Type 1} → statement M
 wanted-by-spec =

@@ -24,7 +24,10 @@ with-wrong-requires-2 c κs = search needs
 
 returns-4 : tie.Need-returns-4
 unfolding withFile
-returns-4 c = rw (ne-eqb _ _ (c .before .before .before .before .before .if1 .left), ne-eqb _ _ (c .before .before .before .if2 .left), ne-eqb _ _ (c .before .if3 .left)) (c .with-wrong2 .ensures)
+returns-4 c =
+    rw (ne-eqb _ _ (c .before .before .before .before .before .if1 .left))
+    (rw (ne-eqb _ _ (c .before .before .before .if2 .left), ne-eqb _ _ (c .before .if3 .left))
+    (c .with-wrong2 .ensures))
 
 pub with-file-spec : {M : Type 1} → statement M
 with-file-spec =

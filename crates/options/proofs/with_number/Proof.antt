@@ -16,7 +16,10 @@ with-wrong-requires : tie.Need-with-wrong-requires
 with-wrong-requires c κs = search needs
 
 returns : tie.Need-returns
-returns c = c .with-wrong .ensures ∙ sym (ap (λ (n : Number). withNumber (c .before .before .before .args .s) (c .before .before .before .args .which) n (c .before .before .before .args .index)) (c .before .enum-told .given .1))
+returns c =
+    let a = c .before .before .before .args in
+    c .with-wrong .ensures ∙ sym (ap (λ (n : Number). withNumber (a .s) (a .which) n (a .index))
+    (c .before .enum-told .given .1))
 
 returns-2 : tie.Need-returns-2
 returns-2 c = rw (c .before .before .n .given .1, eq-eqb _ _ (c .if1 .taken))

@@ -129,7 +129,9 @@ returns-3 : tie.Need-returns-3 Inv-loop μ-loop
 returns-3 c =
     let k = c .before .before .before .before .before .before .before .before in
     let f = k .several .ensures .goes .on (k .before .before .loop .inv) in
-    marks-filled (runs-refused f (omega arith) (refused (c .before .before .before .run .ensures) (c .before .why .given .1))) (k .before .before .before .fill .ensures)
+    marks-filled (runs-refused f (omega arith)
+    (refused (c .before .before .before .run .ensures) (c .before .why .given .1)))
+    (k .before .before .before .fill .ensures)
 
 returns-4 : tie.Need-returns-4 Inv-loop μ-loop
 returns-4 c =

@@ -39,7 +39,10 @@ few-requires-4 : tie.Need-few-requires-4
 few-requires-4 c κs = omega (arith, c .before .few3 .ensures .1)
 
 returns : tie.Need-returns
-returns c = spreading-whole _ _ _ _ (c .before .before .before .before .before .before .few .ensures .0) (c .before .before .before .before .few2 .ensures .0) (c .before .before .few3 .ensures .0) (c .few4 .ensures .0) (omega arith) (omega arith)
+returns c =
+    spreading-whole _ _ _ _ (c .before .before .before .before .before .before .few .ensures .0)
+    (c .before .before .before .before .few2 .ensures .0) (c .before .before .few3 .ensures .0) (c .few4 .ensures .0)
+    (omega arith) (omega arith)
 
 pub spread-all-spec : {M : Type 1} → statement M
 spread-all-spec =

@@ -69,7 +69,8 @@ loop-less c = search needs
 loop-again : tie.Need-loop-again Inv-loop μ-loop
 loop-again c =
     let v = told (c .before .before .before .before .before .number .ensures) (c .before .before .before .v .given .1) in
-    gathered-turn (c .before .before .before .before .before .before .before .before .loop .inv) (c .before .before .before .before .before .before .window .ensures)
+    gathered-turn (c .before .before .before .before .before .before .before .before .loop .inv)
+    (c .before .before .before .before .before .before .window .ensures)
     (bitsOf-below _) (v .says) (v .value) (v .next) (c .spread .ensures)
 
 returns-2 : tie.Need-returns-2 Inv-loop μ-loop

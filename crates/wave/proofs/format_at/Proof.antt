@@ -21,7 +21,8 @@ half-at-requires-2 c κs = search needs
 returns-2 : tie.Need-returns-2
 returns-2 c =
     let a = c .before .before .before .before .before .args in
-    other-channels (a .octets .now) (a .at) (a .size) (c .before .before .before .half-at .ensures .0) (c .before .before .if1 .left) (c .before .half-at2 .ensures .0) (c .if2 .taken)
+    other-channels (a .octets .now) (a .at) (a .size) (c .before .before .before .half-at .ensures .0)
+    (c .before .before .if1 .left) (c .before .half-at2 .ensures .0) (c .if2 .taken)
 
 add-word-at : tie.Need-add-word-at
 add-word-at c = search needs
@@ -32,7 +33,9 @@ word-at-requires c κs = search needs
 returns-3 : tie.Need-returns-3
 returns-3 c =
     let a = c .before .before .before .before .before .before .before .args in
-    other-rate (a .octets .now) (a .at) (a .size) (c .before .before .before .before .before .half-at .ensures .0) (c .before .before .before .before .if1 .left) (c .before .before .before .half-at2 .ensures .0) (c .before .before .if2 .left) (c .before .word-at .ensures) (c .if3 .taken)
+    other-rate (a .octets .now) (a .at) (a .size) (c .before .before .before .before .before .half-at .ensures .0)
+    (c .before .before .before .before .if1 .left) (c .before .before .before .half-at2 .ensures .0)
+    (c .before .before .if2 .left) (c .before .word-at .ensures) (c .if3 .taken)
 
 add-half-at-2 : tie.Need-add-half-at-2
 add-half-at-2 c = search needs
@@ -43,14 +46,22 @@ half-at-requires-3 c κs = search needs
 returns-4 : tie.Need-returns-4
 returns-4 c =
     let a = c .before .before .before .before .before .before .before .before .before .args in
-    other-bits (a .octets .now) (a .at) (a .size) (c .before .before .before .before .before .before .before .half-at .ensures .0) (c .before .before .before .before .before .before .if1 .left) (c .before .before .before .before .before .half-at2 .ensures .0) (c .before .before .before .before .if2 .left)
+    other-bits (a .octets .now) (a .at) (a .size)
+    (c .before .before .before .before .before .before .before .half-at .ensures .0)
+    (c .before .before .before .before .before .before .if1 .left)
+    (c .before .before .before .before .before .half-at2 .ensures .0) (c .before .before .before .before .if2 .left)
     (c .before .before .before .word-at .ensures) (c .before .before .if3 .left) (c .before .half-at3 .ensures .0) (c .if4 .taken)
 
 returns-5 : tie.Need-returns-5
 returns-5 c =
     let a = c .before .before .before .before .before .before .before .before .before .args in
-    the-format (a .octets .now) (a .at) (a .size) (c .before .before .before .before .before .before .before .half-at .ensures .0) (c .before .before .before .before .before .before .if1 .left) (c .before .before .before .before .before .half-at2 .ensures .0) (c .before .before .before .before .if2 .left)
+    the-format (a .octets .now) (a .at) (a .size)
+    (c .before .before .before .before .before .before .before .half-at .ensures .0)
+    (c .before .before .before .before .before .before .if1 .left)
+    (c .before .before .before .before .before .half-at2 .ensures .0) (c .before .before .before .before .if2 .left)
     (c .before .before .before .word-at .ensures) (c .before .before .if3 .left) (c .before .half-at3 .ensures .0) (c .if4 .left)
 
 pub format-at-spec : {M : Type 1} → statement M
-format-at-spec = tie.close (tie.spec half-at-requires returns add-half-at half-at-requires-2 returns-2 add-word-at word-at-requires returns-3 add-half-at-2 half-at-requires-3 returns-4 returns-5)
+format-at-spec =
+    tie.close (tie.spec half-at-requires returns add-half-at half-at-requires-2 returns-2 add-word-at
+    word-at-requires returns-3 add-half-at-2 half-at-requires-3 returns-4 returns-5)

@@ -31,11 +31,16 @@ word-at-requires-2 : tie.Need-word-at-requires-2 Inv-loop μ-loop
 word-at-requires-2 c κs = search needs
 
 returns-3 : tie.Need-returns-3 Inv-loop μ-loop
-returns-3 c = no-wave (c .before .before .before .before .before .before .args .octets .now) (omega arith) (c .before .before .before .word-at .ensures) (c .before .before .if2 .left) (c .before .word-at2 .ensures) (c .if3 .taken)
+returns-3 c =
+    no-wave (c .before .before .before .before .before .before .args .octets .now) (omega arith)
+    (c .before .before .before .word-at .ensures) (c .before .before .if2 .left) (c .before .word-at2 .ensures)
+    (c .if3 .taken)
 
 loop-holds : tie.Need-loop-holds Inv-loop μ-loop
 loop-holds c = (
-  begins (c .before .before .before .before .before .before .args .octets .now) (omega arith) (c .before .before .before .word-at .ensures) (c .before .before .if2 .left) (c .before .word-at2 .ensures) (c .if3 .left),
+  begins (c .before .before .before .before .before .before .args .octets .now) (omega arith)
+      (c .before .before .before .word-at .ensures) (c .before .before .if2 .left) (c .before .word-at2 .ensures)
+      (c .if3 .left),
   omega arith,
   omega arith,
 )
@@ -95,4 +100,6 @@ returns-5 c =
 
 pub heading-in-spec : {M : Type 1} → statement M
 heading-in-spec =
-    tie.close (tie.spec Inv-loop μ-loop sub-more returns word-at-requires returns-2 word-at-requires-2 returns-3 loop-holds step-at-requires enum-known-step returns-4 enum-known-step-2 add-at cast-at add-at-2 cast-at-2 add-at-3 sub-left loop-less loop-again returns-5)
+    tie.close (tie.spec Inv-loop μ-loop sub-more returns word-at-requires returns-2 word-at-requires-2 returns-3
+    loop-holds step-at-requires enum-known-step returns-4 enum-known-step-2 add-at cast-at add-at-2 cast-at-2
+    add-at-3 sub-left loop-less loop-again returns-5)

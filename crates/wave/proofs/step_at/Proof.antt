@@ -30,7 +30,8 @@ sound-of-requires c κs = search needs
 returns-2 : tie.Need-returns-2
 returns-2 c =
     let a = c .before .before .before .before .before .before .args in
-    step-sound (a .octets .now) (a .at) (a .seen) (omega arith) (c .before .before .before .word-at .ensures) (c .before .before .word-at2 .ensures) (c .before .if2 .taken) (c .sound-of .ensures)
+    step-sound (a .octets .now) (a .at) (a .seen) (omega arith) (c .before .before .before .word-at .ensures)
+    (c .before .before .word-at2 .ensures) (c .before .if2 .taken) (c .sound-of .ensures)
 
 format-in-requires : tie.Need-format-in-requires
 format-in-requires c κs = search needs
@@ -38,12 +39,17 @@ format-in-requires c κs = search needs
 returns-3 : tie.Need-returns-3
 returns-3 c =
     let a = c .before .before .before .before .before .before .before .args in
-    step-format (a .octets .now) (a .at) (a .seen) (omega arith) (c .before .before .before .before .word-at .ensures) (c .before .before .before .word-at2 .ensures) (c .before .before .if2 .left) (c .before .if3 .taken) (c .format-in .ensures)
+    step-format (a .octets .now) (a .at) (a .seen) (omega arith)
+    (c .before .before .before .before .word-at .ensures) (c .before .before .before .word-at2 .ensures)
+    (c .before .before .if2 .left) (c .before .if3 .taken) (c .format-in .ensures)
 
 returns-4 : tie.Need-returns-4
 returns-4 c =
     let a = c .before .before .before .before .before .before .args in
-    step-skip (a .octets .now) (a .at) (a .seen) (omega arith) (c .before .before .before .word-at .ensures) (c .before .before .word-at2 .ensures) (c .before .if2 .left) (c .if3 .left)
+    step-skip (a .octets .now) (a .at) (a .seen) (omega arith) (c .before .before .before .word-at .ensures)
+    (c .before .before .word-at2 .ensures) (c .before .if2 .left) (c .if3 .left)
 
 pub step-at-spec : {M : Type 1} → statement M
-step-at-spec = tie.close (tie.spec add-end sub-more returns word-at-requires add-word-at word-at-requires-2 sound-of-requires returns-2 format-in-requires returns-3 returns-4)
+step-at-spec =
+    tie.close (tie.spec add-end sub-more returns word-at-requires add-word-at word-at-requires-2 sound-of-requires
+    returns-2 format-in-requires returns-3 returns-4)
