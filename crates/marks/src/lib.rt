@@ -11,7 +11,10 @@ use rules::Ending;
 // "frames 0, 64, 128 and so on", and room for so many frames.
 pub const FRAMES_APART: usize = 64;
 
-const ROOM: usize = 20480;
+pub const ROOM: usize = 20480;
+
+// Cells for the marks of 257 times 64 frames: those of a greeting of up to 16,384 octets, and of any that has no more frames.
+pub const KEPT_APART: usize = 514;
 
 // A greeting that is BAD; or its samples, and the number of its marks.
 pub enum Tally {
