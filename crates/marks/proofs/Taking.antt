@@ -99,7 +99,7 @@ module _ (law : ℕ) (xs : List ℕ) where
             let back = ltb-false at (next at .place) e in
             absurd (omega (arith, next-told .full d (omega arith), next-told .some, next-told .place))
 
-        next-on : at < next at .place
+        pub next-on : at < next at .place
         next-on = on-by (ltb at (next at .place)) refl
 
         next-marks : (fs : List Delivered) → next at .frames ≡ fs → marksFrom (64 * m) samples fs ≡ markOf at samples ∷ []

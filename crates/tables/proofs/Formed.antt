@@ -15,6 +15,7 @@ use Rattle.rows.specs.Sane.{rising}
 use Rattle.rows.proofs.Lists.{passed}
 use Rattle.keyvalue.specs.Reading.{whole, none, begins}
 use Rattle.keyvalue.specs.Lines.{lineOf, line, ranged}
+use Rattle.tables.specs.declared.Form.{Form}
 use Rattle.tables.specs.Table.{promptWord, mostPlace, row, rowsFrom, tableIn, rowText, tableText}
 use Rattle.tables.specs.Noted.{Listed, listed, listedFrom, listedAt, listedIn, rowsListed, listedText}
 use Rattle.tables.specs.Form.{formWord, formLine, anyFar, needsForm, formOf, formedIn, formBy}
@@ -32,6 +33,13 @@ form-taken text e = sym (rw e)
 
 pub form-left : (text : List ℕ) → begins formLine text ≡ false → record { from = 0; most = mostPlace } ≡ formOf text
 form-left text e = sym (rw e)
+
+pub form-most : (text : List ℕ) {form : Form} → form ≡ formOf text → form .most ≤ largestBlock
+form-most text {form} e = go (begins formLine text) e
+  where
+    go : (b : Bool) → form ≡ cond b (record { from = 7; most = largestBlock }) (record { from = 0; most = mostPlace }) → form .most ≤ largestBlock
+    go true e = rw e (omega arith)
+    go false e = rw e (omega arith)
 
 module _ (size : ℕ) {w : ℕ} (z : w ≡ mostPlace) where
   pub form-here : w < size → formLine ≡ formBy size

@@ -8,10 +8,11 @@ use lib.ListN.{length, take, drop, set, length-append, take-append-drop}
 use lib.Seq.{take-suc-set, drop-set-lt, drop-drop}
 use borrow.Author.Tests.{le-leb, lt-leb}
 use Rattle.rows.specs.declared.Row.{Row}
+use Rattle.marks.specs.Marks.{Note}
 use Rattle.keyvalue.specs.Reading.{Read, whole, none, andThen}
 use Rattle.keyvalue.proofs.Exact.{got-value, got-place}
 use Rattle.tables.specs.declared.Count.the-variants.{Greetings, Wrong}
-use Rattle.tables.specs.Noted.{Listed, listed, listedFrom, listedAt, rowsListed}
+use Rattle.tables.specs.Noted.{Listed, listed, listedFrom, listedAt, rowsListed, listing}
 use Rattle.tables.specs.Fills.{PutsRow, FillsNoted, lawsListed}
 use Rattle.tables.specs.Passing.{Headed, headOf, headIn}
 use Rattle.tables.proofs.Reading.{Rowed, rowed-first, rowed-turn, rowed-laid, no-count}
@@ -30,6 +31,13 @@ pub length-rows-listed : (xs : List Listed) → length (rowsListed xs) ≡ lengt
 unfolding rowsListed
 length-rows-listed [] = refl
 length-rows-listed (x ∷ xs) = ap suc (length-rows-listed xs)
+
+-- greetings with their notes are those greetings
+pub rows-listing : (rows : List Row) (notes : List Note) → length notes ≡ length rows → rowsListed (listing rows notes) ≡ rows
+unfolding rowsListed listing
+rows-listing [] notes l = refl
+rows-listing (r ∷ rows) [] l = absurd (omega arith)
+rows-listing (r ∷ rows) (n ∷ notes) l = ap (λ (x : List Row). r ∷ x) (rows-listing rows notes (omega arith))
 
 -- at the text's end the greetings are done
 pub noted-ending : (far more : ℕ) (done : List Listed) (text : List ℕ) (at : ℕ) → length text ≤ at
