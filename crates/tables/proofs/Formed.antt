@@ -64,7 +64,7 @@ formed rest = refl
 pub unformed : (text : List ℕ) → begins formLine text ≡ false → formedIn text ≡ listedIn text
 unformed text e = rw e
 
-listed-begins : (xs : List Listed) → begins formLine (listedText xs) ≡ false
+pub listed-begins : (xs : List Listed) → begins formLine (listedText xs) ≡ false
 unfolding begins listedText rowText lineOf
 listed-begins [] = refl
 listed-begins (x ∷ xs) = refl
