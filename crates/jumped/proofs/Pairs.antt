@@ -1,8 +1,8 @@
 -- A greeting that is not absent, and its note (`stands`): what the store reads under its number, and what the walk gives of it.
 use Prim.Native.Nat.{ℕ, suc, _+_}
-use mathlib.Core.Path.{_≡_, refl, sym, ap, subst, _∙_}
-use mathlib.Core.List.{List, [], _∷_, _++_}
-use mathlib.Core.Bool.{true, false}
+use mathlib.Core.Path.{_≡_, ap, subst, _∙_}
+use mathlib.Core.List.{List, _∷_, _++_}
+use mathlib.Core.Bool.{false}
 use native.Mathlib.Omega.{arith}
 use lib.ListN.{length, take, drop, length-append, length-take}
 use lib.Seq.{split-at}
@@ -15,7 +15,7 @@ use Rattle.greetings.specs.Bad.{isBad}
 use Rattle.marks.specs.Marks.{Note, noteOf}
 use Rattle.notes.specs.Notes.{noNote, nthNote}
 use Rattle.keeping.specs.Told.{Store, rowsIn, notesFor}
-use Rattle.keeping.specs.Kept.{here, lookUp, noted, noteUnder, Along, isGood}
+use Rattle.keeping.specs.Kept.{lookUp, noted, noteUnder, Along, isGood}
 use Rattle.keeping.proofs.Numbers.{Fresh, Distinct, FoundAt, find-split, distinct-behind}
 use Rattle.keeping.proofs.Along.{length-contents, along-apart, isTrue, true-along, under-put}
 use Rattle.keeping.proofs.Contents.{kept, contents-append, contents-cons}

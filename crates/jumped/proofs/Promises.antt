@@ -1,7 +1,8 @@
 -- Document 02, R-9, over every store that calls have left (`Keeps`, `all-kept` of keeping), any number and any sample number.
 --   `jump-tells`, `all-jumps`: what a jump answers, and when: the result is the one that a whole walk gives, and every sample below the walk's samples
 --   has one; of a store after any list of calls from a fresh block.
---   `beyond-only`, `never-table`, `never-bad`: BEYOND only where the sample is not below the walk's samples; TABLE and BAD do not arise from calls alone.
+--   `beyond-only`, `there-one`: BEYOND only where the sample is not below the walk's samples; there is one greeting of a number, with one law.
+--   `never-table`, `never-bad`: TABLE and BAD do not arise from calls alone.
 use Prim.Native.Nat.{ℕ, _≤_, _<_}
 use mathlib.Core.Path.{_≡_, refl, sym, ap, subst, _∙_}
 use mathlib.Core.List.{List}
@@ -21,6 +22,7 @@ use Rattle.jumping.specs.Jump.{jumpIn, jumpAmong}
 use Rattle.jumping.specs.Whole.{Named}
 use Rattle.jumping.proofs.Whole.{jump-named}
 use Rattle.keeping.specs.Told.{Call, Store, rowsIn, seeAll, fresh}
+use Rattle.keeping.specs.Kept.{here, noted}
 use Rattle.keeping.proofs.Promises.{Keeps, all-kept}
 use Rattle.jumped.specs.Jumped.{There, samplesIn, jumpInto, Jumped, unnumbered, unheld, beyond, within}
 use Rattle.jumped.proofs.Pairs.{Stands, stands}
@@ -40,20 +42,21 @@ module _ {size : ℕ} {s : Store} (k : Keeps size s) (x sample : ℕ) where
     jump-absent a = rw (k .sane, n, a)
 
     module _ (a : absent x (rowsIn s) ≡ false) where
-      abbrev here : Stands s x
-      here = stands k x a
+      abbrev mine : Stands s x
+      mine = stands k x a
 
       abbrev there : There s x
-      there = here .there
+      there = mine .there
 
       -- it is a jump in that greeting, with the note that the walk gives
       into : jumpInto s x sample ≡ jumpIn (there .octets) (noteOf (there .law) (there .octets)) sample
       unfolding jumpAmong
-      into = rw (k .sane, n, a, here .greets, here .note)
+      into = rw (k .sane, n, a, mine .greets, mine .note)
 
       by-sample : Dec (sample < samplesIn there) → Jumped s x sample (jumpInto s x sample)
       by-sample (yes l) =
-          within n there l (subst (Named (there .law) (there .octets) sample) (sym into) (jump-named (there .law) (there .octets) (there .good) sample l))
+          within n there l (subst (Named (there .law) (there .octets) sample) (sym into)
+          (jump-named (there .law) (there .octets) (there .good) sample l))
       by-sample (no l) =
           let m : samplesIn there ≤ sample = omega arith in
           let e = into ∙ beyond-in (there .octets) (noteOf (there .law) (there .octets)) sample m in
@@ -72,11 +75,32 @@ pub all-jumps : (b : List ℕ) (cells : ℕ) (cs : List Call) → storeCells (si
     → Jumped (seeAll cs (fresh b cells)) x sample (jumpInto (seeAll cs (fresh b cells)) x sample)
 all-jumps b cells cs h x sample = jump-tells (all-kept b cells cs h) x sample
 
+-- one greeting of a number, with one law
+same-octets : {o p : List ℕ} → here o ≡ here p → o ≡ p
+same-octets e = cc
+
+same-note : {m n : Note} → noted m ≡ noted n → m ≡ n
+same-note e = cc
+
+pub there-one : {s : Store} {x : ℕ} (g h : There s x) → (g .law ≡ h .law) × (g .octets ≡ h .octets)
+there-one g h =
+    (ap (λ (n : Note). n .law) (same-note (sym (g .knows) ∙ h .knows)), same-octets (sym (g .reads) ∙ h .reads))
+
 -- no other answer
 not-done : {w : Refusal} {a b c d : ℕ} {A : Type 0} → Done a b c d ≡ Refused w → A
 not-done e = let z : _≡_ {A = ℕ} 0 1 = cc in absurd (omega arith)
 
+pub record Over (s : Store) (x sample : ℕ) : Type 0 where
+  pub there : There s x
+  pub over : samplesIn there ≤ sample
+
 module _ {s : Store} {x sample : ℕ} where
+  pub beyond-only : {r : Answer} → Jumped s x sample r → r ≡ Refused Beyond → Over s x sample
+  beyond-only (unnumbered n) e = let z : _≡_ {A = ℕ} 0 1 = cc in absurd (omega arith)
+  beyond-only (unheld n a) e = let z : _≡_ {A = ℕ} 0 1 = cc in absurd (omega arith)
+  beyond-only (beyond n g h) e = record { there = g; over = h }
+  beyond-only (within n g h w) e = not-done (sym (w .answer) ∙ e)
+
   pub never-table : {r : Answer} → Jumped s x sample r → r ≡ Refused Table → ⊥
   never-table (unnumbered n) e = let z : _≡_ {A = ℕ} 0 1 = cc in absurd (omega arith)
   never-table (unheld n a) e = let z : _≡_ {A = ℕ} 0 1 = cc in absurd (omega arith)

@@ -5,7 +5,7 @@ use mathlib.Core.Path.{_≡_, refl, sym, ap, _∙_}
 use mathlib.Core.List.{List}
 use mathlib.Core.Bool.{Bool, true, false}
 use native.Mathlib.Omega.{arith}
-use lib.ListN.{length, getD, take, drop, length-drop}
+use lib.ListN.{length, getD, take, drop}
 use lib.Seq.{getD-drop}
 use borrow.Author.Tests.{lt-ltb, le-ltb, le-leb, lt-leb, eq-eqb, ne-eqb}
 use Rattle.rows.specs.declared.Row.{Row}
@@ -17,18 +17,17 @@ use Rattle.rows.specs.Changed.{nth}
 use Rattle.rows.proofs.Cells.{length-rows, nth-rows}
 use Rattle.rows.proofs.Finding.{found-here, found-nowhere}
 use Rattle.rows.proofs.Judged.{row-next}
-use Rattle.rows.proofs.Rising.{Next}
 use Rattle.rules.proofs.Lent.{from-on as part-on}
-use Rattle.marks.specs.Marks.{Mark, Note, markOf, framesApart}
+use Rattle.marks.specs.Marks.{Note, markOf}
 use Rattle.notes.specs.Notes.{nthNote}
-use Rattle.notes.specs.Cells.{marksIn, notesOf, headsOf, marksHeld}
+use Rattle.notes.specs.Cells.{marksIn, notesOf, marksHeld}
 use Rattle.notes.specs.Sane.{saneStore, Noted}
 use Rattle.notes.specs.Changed.{noteIn}
 use Rattle.notes.proofs.Noting.{length-marks}
 use Rattle.notes.proofs.Matched.{room-for}
 use Rattle.notes.proofs.Stored.{note-at, marks-next, held-all}
 use Rattle.seeking.specs.declared.Sought.{Sought}
-use Rattle.seeking.specs.Seeking.{seek, fromMark, nthMark, lastMark}
+use Rattle.seeking.specs.Seeking.{seek, fromMark, lastMark}
 use Rattle.seeking.proofs.Halving.{mark-at}
 use Rattle.jumping.specs.declared.Refusal.the-variants.{Number, Absent, Bad, Beyond, Table}
 use Rattle.jumping.specs.declared.Answer.{Answer}
@@ -60,7 +59,15 @@ module _ (law samples m : ℕ) (xs cells : List ℕ) (sample : ℕ) where
         → before ≡ getD cells (2 * k + 1) 0 → r ≡ jumpFrom law xs k (markOf at before) sample → r ≡ jumpIn xs (noteIn law samples m cells) sample
     unfolding jumpIn
     in-from g {k} e l a b f =
-        rw (lt-leb samples sample h, ne-eqb (length (marksIn m cells)) 0 (λ z. absurd (omega (arith, z, length-marks m cells))), ← e, mark-at m k cells l, ← a, ← b) f
+        rw (
+          lt-leb samples sample h,
+          ne-eqb (length (marksIn m cells)) 0
+              (λ z. absurd (omega (arith, z, length-marks m cells))),
+          ← e,
+          mark-at m k cells l,
+          ← a,
+          ← b,
+        ) f
 
 -- a greeting of a table that calls leave, and its note: it lies inside the block, its marks inside the cells
 module _ {size : ℕ} {t : List ℕ} (k : Noted size t) (z : size ≤ 16384) {i : ℕ} (h : i < getD t 0 0) where
@@ -79,14 +86,16 @@ module _ {size : ℕ} {t : List ℕ} (k : Noted size t) (z : size ≤ 16384) {i 
   -- in the greeting at place i
   pub row-at : (b : List ℕ) (sample : ℕ) {r g : Row} {law first : ℕ} {a : Answer} → r ≡ rowAt t (1 + 3 * i) → g ≡ rowAt (drop 97 t) (1 + 3 * i)
       → law ≡ getD t (98 + 3 * i) 0 → first ≡ 194 + 2 * marksHeld (rowsAt (drop 97 t) i 1)
-      → a ≡ jumpIn (take (r .start + r .octets - r .start) (drop (r .start) b)) (noteIn law (g .start) (g .octets) (take (length t - first) (drop first t))) sample
+      → a ≡ jumpIn (take (r .start + r .octets - r .start) (drop (r .start) b))
+      (noteIn law (g .start) (g .octets) (take (length t - first) (drop first t))) sample
       → a ≡ jumpIn (greeting b (nth i (rowsOf t))) (nthNote i (notesOf t)) sample
   row-at b sample {r} {g} {law} {first} {a} p q l f e =
       let n = getD t 0 0 in
       let o : r .start + r .octets - r .start ≡ r .octets = omega arith in
       let row : nth i (rowsOf t) ≡ r = nth-rows t n 1 i h ∙ sym p in
       let here : 97 + (1 + 3 * i) ≡ 98 + 3 * i = omega arith in
-      let lawful : law ≡ g .number = l ∙ sym (ap (λ (x : ℕ). getD t x 0) here) ∙ sym (getD-drop 97 t (1 + 3 * i) 0) ∙ sym (ap (λ (x : Row). x .number) q) in
+      let lawful : law ≡ g .number = l ∙ sym (ap (λ (x : ℕ). getD t x 0) here) ∙ sym (getD-drop 97 t (1 + 3 * i) 0)
+      ∙ sym (ap (λ (x : Row). x .number) q) in
       let note : nthNote i (notesOf t) ≡ noteIn law (g .start) (g .octets) (drop first t) =
       note-at t n i (sym (k .count)) h
       ∙ ap (λ (x : Row). noteIn (x .number) (x .start) (x .octets) (drop (194 + 2 * marksHeld (rowsAt (drop 97 t) i 1)) t)) (sym q)

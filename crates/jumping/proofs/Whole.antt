@@ -6,7 +6,7 @@ use mathlib.Core.List.{List, [], _∷_, _++_, append-assoc, append-nil}
 use mathlib.Core.Bool.{Bool, true, false, cond, not}
 use native.Mathlib.Omega.{arith}
 use native.Mathlib.Decide.{decLt}
-use lib.ListN.{length, getD, length-append}
+use lib.ListN.{length, length-append}
 use lib.Seq.{getD-append-add}
 use lib.Dec.{ltb}
 use borrow.Author.Tests.{le-ltb, ltb-false, lt-leb, ne-eqb}
@@ -15,13 +15,13 @@ use Rattle.rules.specs.declared.Ending.{Ending}
 use Rattle.rules.specs.declared.Ending.the-variants.{Done as Clean, Refused as Off}
 use Rattle.rules.specs.Tools.{mostLaw}
 use Rattle.rules.specs.Walk.{Delivered, Walked, walkFrom, longest, samplesKept}
-use Rattle.rules.proofs.Walk.{after, samplesKept-append, walk-told, walk-on, walk-kept, walk-fuel, walk-ended}
+use Rattle.rules.proofs.Walk.{samplesKept-append, walk-told, walk-on, walk-kept, walk-fuel, walk-ended}
 use Rattle.greetings.specs.Bad.{isDone, isBad, walkOf, storeSet}
 use Rattle.greetings.proofs.Bad.{bad-law, bad-long, walk-of}
 use Rattle.marks.specs.Marks.{Mark, markOf, marksFrom, marksOf, noteOf}
 use Rattle.marks.proofs.Marked.{marks-append}
 use Rattle.marks.proofs.Count.{marks-count}
-use Rattle.marks.proofs.Taking.{parts, next, Along, along-next, along-full, marks-next}
+use Rattle.marks.proofs.Taking.{parts, next, Along, along-next, marks-next}
 use Rattle.seeking.specs.declared.Sought.the-variants.{At}
 use Rattle.seeking.specs.Seeking.{seek, byWalk, nthMark, lastMark}
 use Rattle.seeking.proofs.LastMark.{LastAt, Rising, last-mark-is, last-mark-only}

@@ -92,14 +92,7 @@ fn count_read(s: Sought) -> Answer
 }
 
 // From mark k of a greeting, which stands at an octet place with so many samples before it.
-fn from_mark(
-    octets: &[u8],
-    law: u32,
-    k: usize,
-    at: usize,
-    before: usize,
-    sample: usize,
-) -> Answer
+fn from_mark(octets: &[u8], law: u32, k: usize, at: usize, before: usize, sample: usize) -> Answer
     requires { ⌜ (k < 2 ^ 32) × (before < 2 ^ 60) ⌝ }
     ensures { λ r. ⌜ r ≡ jumpFrom law (now (octets .entry)) k (markOf at before) sample ⌝ }
 {
@@ -111,14 +104,7 @@ fn from_mark(
 }
 
 // In a greeting with its note: BEYOND, and then from the last mark at or before the sample.
-fn within(
-    octets: &[u8],
-    law: u32,
-    samples: usize,
-    marks: &[u32],
-    m: usize,
-    sample: usize,
-) -> Answer
+fn within(octets: &[u8], law: u32, samples: usize, marks: &[u32], m: usize, sample: usize) -> Answer
     requires { ⌜ (2 * m ≤ length (now marks)) × (m < 2 ^ 32) ⌝ }
     ensures { λ r. ⌜ r ≡ jumpIn (now (octets .entry)) (noteIn law samples m (now (marks .entry))) sample ⌝ }
 {

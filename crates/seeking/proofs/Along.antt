@@ -49,12 +49,19 @@ module _ (octets : List ℕ) (law from first before sample : ℕ) where
   pub seek-start : {buffer : List ℕ} → before ≤ sample → length buffer ≡ 320 → Along buffer from 20480 before 0
   seek-start h s =
       let e : first ≡ first + 0 = omega arith in
-      record { same = ap (λ (k : ℕ). seek sample k before (fromMark law octets from .frames)) e; few = omega arith; room = refl; behind = h; size = s }
+      record {
+        same = ap (λ (k : ℕ). seek sample k before (fromMark law octets from .frames)) e;
+        few = omega arith;
+        room = refl;
+        behind = h;
+        size = s;
+      }
 
   module _ {buffer : List ℕ} {at left passed n : ℕ} (w : Along buffer at left passed n) where
     -- no frame is left
     stop : {x : Walked} → walkFrom (64 - n) octets law storeSet at left ≡ x → x .frames ≡ [] → Nowhere ≡ sought
-    stop q e = sym (w .same ∙ ap (λ (x : List Delivered). seek sample (first + n) passed x) (ap (λ (x : Walked). x .frames) q ∙ e) ∙ seek-none sample (first + n) passed)
+    stop q e = sym (w .same ∙ ap (λ (x : List Delivered). seek sample (first + n) passed x) (ap (λ (x : Walked). x .frames) q ∙ e)
+        ∙ seek-none sample (first + n) passed)
 
     pub seek-ended : length octets ≤ at → Nowhere ≡ sought
     seek-ended h = stop (walk-ended octets law storeSet (64 - n) at left h) refl

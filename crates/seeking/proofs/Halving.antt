@@ -1,11 +1,11 @@
 -- The last mark by halving: as many halvings as marks are enough (`enough`), and one halving keeps what is found (`halved`).
 -- `mark-at`: a mark in its cells.
-use Prim.Native.Nat.{ℕ, zero, suc, _+_, _*_, _-_, _/_, _≤_, _<_}
+use Prim.Native.Nat.{ℕ, zero, suc, _+_, _*_, _-_, _≤_, _<_}
 use mathlib.Core.Path.{_≡_, refl, sym, ap, _∙_}
 use mathlib.Core.List.{List}
 use mathlib.Core.Bool.{Bool, true, false, cond}
 use native.Mathlib.Omega.{arith}
-use lib.ListN.{length, getD, drop}
+use lib.ListN.{getD, drop}
 use lib.Seq.{getD-drop}
 use lib.Dec.{leb}
 use borrow.Author.Tests.{le-leb, lt-leb, leb-true, leb-false}
@@ -25,7 +25,8 @@ mark-at (suc m) (suc k) cells h =
     let f : 2 + (2 * k + 1) ≡ 2 * suc k + 1 = omega arith in
     let a = getD-drop 2 cells (2 * k) 0 ∙ ap (λ (n : ℕ). getD cells n 0) e in
     let b = getD-drop 2 cells (2 * k + 1) 0 ∙ ap (λ (n : ℕ). getD cells n 0) f in
-    mark-at m k (drop 2 cells) (omega arith) ∙ ap (λ (x : ℕ). markOf x (getD (drop 2 cells) (2 * k + 1) 0)) a ∙ ap (λ (x : ℕ). markOf (getD cells (2 * suc k) 0) x) b
+    mark-at m k (drop 2 cells) (omega arith) ∙ ap (λ (x : ℕ). markOf x (getD (drop 2 cells) (2 * k + 1) 0)) a
+    ∙ ap (λ (x : ℕ). markOf (getD cells (2 * suc k) 0) x) b
 
 -- the two halves
 module _ (before sample low high : ℕ) where
@@ -79,7 +80,8 @@ module _ (ms : List Mark) (sample : ℕ) where
     pub inside : r .high ≤ high
     pub less : r .high - r .low < high - low
 
-  pub halved : (low high : ℕ) {before : ℕ} → low + 1 < high → before ≡ nthMark (middle low high) ms .samples → Halved low high (halfOf before sample low high)
+  pub halved : (low high : ℕ) {before : ℕ} → low + 1 < high → before ≡ nthMark (middle low high) ms .samples
+      → Halved low high (halfOf before sample low high)
   unfolding halfOf
   halved low high {before} h b = by (leb before sample) refl
     where
@@ -91,7 +93,8 @@ module _ (ms : List Mark) (sample : ℕ) where
       here =
           let e : high - low ≡ suc (high - (low + 1)) = omega arith in
           ap (λ (k : ℕ). lastFrom k ms sample low high) e ∙ last-step (high - (low + 1)) low high h
-          ∙ ap (λ (x : ℕ). cond (leb x sample) (lastFrom (high - (low + 1)) ms sample mid high) (lastFrom (high - (low + 1)) ms sample low mid)) (sym b)
+          ∙ ap (λ (x : ℕ). cond (leb x sample) (lastFrom (high - (low + 1)) ms sample mid high)
+          (lastFrom (high - (low + 1)) ms sample low mid)) (sym b)
 
       by : (t : Bool) → leb before sample ≡ t → Halved low high (cond t (spanOf mid high) (spanOf low mid))
       by true e =
@@ -123,15 +126,18 @@ pub found-start : (m : ℕ) (cells : List ℕ) (sample : ℕ) → 1 ≤ m → Fo
 found-start m cells sample h =
     let e : m ≡ m - 0 = omega arith in
     record {
-      same = ap (λ (k : ℕ). lastFrom k (marksIn m cells) sample 0 k) (length-marks m cells) ∙ ap (λ (k : ℕ). lastFrom k (marksIn m cells) sample 0 m) e;
+      same = ap (λ (k : ℕ). lastFrom k (marksIn m cells) sample 0 k) (length-marks m cells)
+          ∙ ap (λ (k : ℕ). lastFrom k (marksIn m cells) sample 0 m) e;
       some = omega arith;
       inside = omega arith;
     }
 
 module _ {m : ℕ} {cells : List ℕ} {sample low high : ℕ} (w : Found m cells sample low high) where
-  pub found-half : low + 1 < high → {r : Span} → r ≡ halfOf (getD cells (2 * middle low high + 1) 0) sample low high → Halved (marksIn m cells) sample low high r
+  pub found-half : low + 1 < high → {r : Span} → r ≡ halfOf (getD cells (2 * middle low high + 1) 0) sample low high
+      → Halved (marksIn m cells) sample low high r
   found-half h e =
-      rw e (halved (marksIn m cells) sample low high h (ap (λ (x : Mark). x .samples) (sym (mark-at m (middle low high) cells (omega (arith, w .inside))))))
+      rw e (halved (marksIn m cells) sample low high h
+      (ap (λ (x : Mark). x .samples) (sym (mark-at m (middle low high) cells (omega (arith, w .inside))))))
 
   pub found-turn : {r : Span} → Halved (marksIn m cells) sample low high r → Found m cells sample (r .low) (r .high)
   found-turn h = record { same = w .same ∙ h .same; some = h .some; inside = omega (arith, h .inside, w .inside) }

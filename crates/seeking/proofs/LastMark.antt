@@ -1,7 +1,7 @@
 -- What halving finds is a mark at or before the sample, and the next one, if there is one, is behind it (`last-mark-is`); for rising marks it is
 -- the last one at or before the sample (`last-mark-only`).
 use Prim.Native.Nat.{ℕ, zero, suc, _+_, _≤_, _<_}
-use mathlib.Core.Path.{_≡_, refl, sym, ap, subst, _∙_}
+use mathlib.Core.Path.{_≡_, refl, sym, subst}
 use mathlib.Core.List.{List}
 use mathlib.Core.Bool.{Bool, true, false, cond}
 use native.Mathlib.Omega.{arith}
@@ -51,10 +51,16 @@ module _ (ms : List Mark) (sample : ℕ) where
       half : (t : Bool) → leb (nthMark mid ms .samples) sample ≡ t → low + 1 < high → Later
           → LastAt ms sample (cond t (lastFrom more ms sample mid high) (lastFrom more ms sample low mid))
       half true e l later =
-          later mid high (record { some = omega arith; inside = w .inside; first = leb-true (nthMark mid ms .samples) sample e; behind = w .behind }) (omega arith)
+          let f = leb-true (nthMark mid ms .samples) sample e in
+          later mid high (record { some = omega arith; inside = w .inside; first = f; behind = w .behind }) (omega arith)
       half false e l later =
           later low mid
-          (record { some = omega arith; inside = omega (arith, w .inside); first = w .first; behind = λ _. leb-false (nthMark mid ms .samples) sample e })
+          (record {
+            some = omega arith;
+            inside = omega (arith, w .inside);
+            first = w .first;
+            behind = λ _. leb-false (nthMark mid ms .samples) sample e;
+          })
           (omega arith)
 
       by : (t : Bool) → leb high (low + 1) ≡ t → Later → LastAt ms sample (lastFrom (suc more) ms sample low high)

@@ -32,18 +32,21 @@ pub seek-within : (sample i before : ℕ) (a b : List Delivered) → before ≤ 
     → seek sample i before (a ++ b) ≡ seek sample i before a
 unfolding samplesKept
 seek-within sample i before [] b l h = absurd (omega arith)
-seek-within sample i before (f ∷ a) b l h = by (ltb sample (before + length (f .found .samples))) refl (seek-within sample (i + 1) (before + length (f .found .samples)) a b)
+seek-within sample i before (f ∷ a) b l h = by (ltb sample (before + length (f .found .samples))) refl
+    (seek-within sample (i + 1) (before + length (f .found .samples)) a b)
   where
     here : ℕ
     here = before + length (f .found .samples)
 
-    by : (t : Bool) → ltb sample here ≡ t → (here ≤ sample → sample < here + length (samplesKept a) → seek sample (i + 1) here (a ++ b) ≡ seek sample (i + 1) here a)
+    by : (t : Bool) → ltb sample here ≡ t → (here ≤ sample → sample < here + length (samplesKept a)
+        → seek sample (i + 1) here (a ++ b) ≡ seek sample (i + 1) here a)
         → seek sample i before (f ∷ (a ++ b)) ≡ seek sample i before (f ∷ a)
     by true e later =
         let m = ltb-true sample here e in seek-here sample i before f (a ++ b) m ∙ sym (seek-here sample i before f a m)
     by false e later =
         let m = ltb-false sample here e in
-        seek-past sample i before f (a ++ b) m ∙ later m (omega (arith, h, length-append (f .found .samples) (samplesKept a))) ∙ sym (seek-past sample i before f a m)
+        seek-past sample i before f (a ++ b) m ∙ later m (omega (arith, h, length-append (f .found .samples) (samplesKept a)))
+        ∙ sym (seek-past sample i before f a m)
 
 -- a sample that the frames have, in the frame that holds it; the first of them is frame i
 record Seen (sample i before : ℕ) (fs : List Delivered) : Type 0 where

@@ -6,23 +6,18 @@ use Rattle.jumping.proofs.count_read.Tie as tie
 use Rattle.jumping.proofs.count_read.Reads as reads
 use Rattle.jumping.proofs.count_read.Lts as lts
 
--- src/lib.rt:31:20
 enum-known-s : tie.Need-enum-known-s
 enum-known-s c = search needs
 
--- src/lib.rt:32:48
 add-t7 : tie.Need-add-t7
 add-t7 c = search needs
 
--- src/lib.rt:34:44
 enum-told : tie.Need-enum-told
 enum-told c = search needs
 
--- src/lib.rt:27:1
 returns : tie.Need-returns
 returns c = sym (ap named (c .before .s .given .1))
 
--- src/lib.rt:27:1
 returns-2 : tie.Need-returns-2
 returns-2 c = sym (ap named (c .enum-told .given .1))
 

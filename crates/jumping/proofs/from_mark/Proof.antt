@@ -8,23 +8,18 @@ use Rattle.jumping.proofs.from_mark.Lts as lts
 use Rattle.jumping.proofs.count_read.Reads as count-read-reads
 use Rattle.seeking.proofs.seek_on.Reads as seek-on-reads
 
--- src/lib.rt:51:9
 returns : tie.Need-returns
 returns c = from-behind _ _ _ _ _ _ (omega arith)
 
--- src/lib.rt:53:17
 mul-first : tie.Need-mul-first
 mul-first c = search needs
 
--- src/lib.rt:54:16
 seek-on-requires : tie.Need-seek-on-requires
 seek-on-requires c κs = search needs
 
--- src/lib.rt:54:5
 count-read-requires : tie.Need-count-read-requires
 count-read-requires c κs = search needs
 
--- src/lib.rt:39:1
 returns-2 : tie.Need-returns-2
 returns-2 c = from-on _ _ _ _ _ _ (omega arith) (c .before .seek-on .ensures) (c .count-read .ensures)
 

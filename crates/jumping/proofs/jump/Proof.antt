@@ -34,7 +34,8 @@ among-requires c κs =
     let if1 = c .before in
     let sane = if1 .before in
     let size-of = sane .before in
-    (sane-noted _ _ (sym (sane .sane .ensures) ∙ not-false _ (if1 .if1 .left)), omega (arith, size-of .size-of .ensures), omega (arith, size-of .size-of .ensures))
+    let size = size-of .size-of .ensures in
+    (sane-noted _ _ (sym (sane .sane .ensures) ∙ not-false _ (if1 .if1 .left)), omega (arith, size), omega (arith, size))
 
 returns-2 : tie.Need-returns-2
 returns-2 c =

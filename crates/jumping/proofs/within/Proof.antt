@@ -10,62 +10,52 @@ use Rattle.jumping.proofs.from_mark.Reads as from-mark-reads
 use Rattle.rows.proofs.wide.Reads as wide-reads
 use Rattle.seeking.proofs.last_mark.Reads as last-mark-reads
 
--- src/lib.rt:70:9
 returns : tie.Need-returns
 returns c = in-beyond _ _ _ _ _ _ (omega arith)
 
--- src/lib.rt:73:9
 returns-2 : tie.Need-returns-2
 returns-2 c = in-none _ _ _ _ _ _ (omega arith) (omega arith)
 
--- src/lib.rt:75:9
 last-mark-requires : tie.Need-last-mark-requires
 last-mark-requires c κs = search needs
 
--- src/lib.rt:76:31
 mul-wide : tie.Need-mul-wide
 mul-wide c = search needs
 
--- src/lib.rt:76:25
 mul-wide-2 : tie.Need-mul-wide-2
 mul-wide-2 c = search needs
 
--- src/lib.rt:76:25
 shared-slice-read-wide : tie.Need-shared-slice-read-wide
 shared-slice-read-wide c = search needs
 
--- src/lib.rt:76:9
 wide-requires : tie.Need-wide-requires
 wide-requires c κs = search needs
 
--- src/lib.rt:77:35
 mul-wide-3 : tie.Need-mul-wide-3
 mul-wide-3 c = search needs
 
--- src/lib.rt:77:35
 add-wide : tie.Need-add-wide
 add-wide c = search needs
 
--- src/lib.rt:77:29
 mul-wide-4 : tie.Need-mul-wide-4
 mul-wide-4 c = search needs
 
--- src/lib.rt:77:29
 shared-slice-read-wide-2 : tie.Need-shared-slice-read-wide-2
 shared-slice-read-wide-2 c = search needs
 
--- src/lib.rt:77:9
 wide-requires-2 : tie.Need-wide-requires-2
 wide-requires-2 c κs = search needs
 
--- src/lib.rt:78:5
 from-mark-requires : tie.Need-from-mark-requires
-from-mark-requires c κs = (omega (arith, c .before .before .before .before .last-mark .ensures .1), omega (arith, c .wide2 .ensures, c .before .shared-slice-known4 .given (2 * c .before .before .before .before .last-mark .result + 1)))
+from-mark-requires c κs =
+    let last = c .before .before .before .before .last-mark in
+    (omega (arith, last .ensures .1), omega (arith, c .wide2 .ensures, c .before .shared-slice-known4 .given (2 * last .result + 1)))
 
--- src/lib.rt:58:1
 returns-3 : tie.Need-returns-3
 returns-3 c =
-    in-from _ _ _ _ _ _ (omega arith) (omega arith) (c .before .before .before .before .before .last-mark .ensures .0) (c .before .before .before .before .before .last-mark .ensures .1) (c .before .before .before .wide .ensures) (c .before .wide2 .ensures) (c .from-mark .ensures)
+    let last = c .before .before .before .before .before .last-mark .ensures in
+    in-from _ _ _ _ _ _ (omega arith) (omega arith) (last .0) (last .1) (c .before .before .before .wide .ensures) (c .before .wide2 .ensures)
+    (c .from-mark .ensures)
 
 pub within-spec : {M : Type 1} → statement M
 within-spec =

@@ -1,4 +1,3 @@
-use mathlib.Core.Path.{_≡_}
 use native.Mathlib.Omega.{arith}
 use Rattle.seeking.proofs.Halving.{half-up, half-down}
 use borrow.Author.Needs.{needs}
@@ -8,39 +7,30 @@ use Rattle.seeking.proofs.half.Reads as reads
 use Rattle.seeking.proofs.half.Lts as lts
 use Rattle.rows.proofs.wide.Reads as wide-reads
 
--- src/lib.rt:31:22
 sub-mid : tie.Need-sub-mid
 sub-mid c = search needs
 
--- src/lib.rt:31:15
 add-mid : tie.Need-add-mid
 add-mid c = search needs
 
--- src/lib.rt:32:35
 mul-wide : tie.Need-mul-wide
 mul-wide c = search needs
 
--- src/lib.rt:32:35
 add-wide : tie.Need-add-wide
 add-wide c = search needs
 
--- src/lib.rt:32:29
 mul-wide-2 : tie.Need-mul-wide-2
 mul-wide-2 c = search needs
 
--- src/lib.rt:32:29
 shared-slice-read-wide : tie.Need-shared-slice-read-wide
 shared-slice-read-wide c = search needs
 
--- src/lib.rt:32:9
 wide-requires : tie.Need-wide-requires
 wide-requires c κs = search needs
 
--- src/lib.rt:34:9
 returns : tie.Need-returns
 returns c = half-up _ _ _ _ (omega (arith, c .before .wide .ensures))
 
--- src/lib.rt:27:1
 returns-2 : tie.Need-returns-2
 returns-2 c = half-down _ _ _ _ (omega (arith, c .before .wide .ensures))
 

@@ -1,7 +1,6 @@
 use Prim.Native.Nat.{_-_}
 use native.Mathlib.Omega.{arith}
 use Rattle.seeking.proofs.Halving.{Found, found-start, found-half, found-turn, found-last}
-use borrow.Author.Needs.{needs}
 use Rattle.seeking.proofs.last_mark.Statement.{statement}
 use Rattle.seeking.proofs.last_mark.Tie as tie
 use Rattle.seeking.proofs.last_mark.Reads as reads
@@ -14,27 +13,21 @@ Inv-loop marks m sample low₀ high₀ low high = Found m marks sample low high
 abbrev μ-loop : tie.MeasureT-loop
 μ-loop marks m sample low₀ high₀ low high = high - low
 
--- src/lib.rt:45:5
 loop-holds : tie.Need-loop-holds Inv-loop μ-loop
 loop-holds c = found-start _ _ _ (omega arith)
 
--- src/lib.rt:45:11
 add-loop : tie.Need-add-loop Inv-loop μ-loop
 add-loop c = omega (arith, c .loop .inv .some, c .loop .inv .inside)
 
--- src/lib.rt:46:13
 half-requires : tie.Need-half-requires Inv-loop μ-loop
 half-requires c κs = (omega arith, omega (arith, c .before .loop .inv .inside))
 
--- src/lib.rt:45:5
 loop-less : tie.Need-loop-less Inv-loop μ-loop
 loop-less c = found-half (c .before .before .loop .inv) (omega arith) (c .half .ensures) .less
 
--- src/lib.rt:45:5
 loop-again : tie.Need-loop-again Inv-loop μ-loop
 loop-again c = found-turn (c .before .before .loop .inv) (found-half (c .before .before .loop .inv) (omega arith) (c .half .ensures))
 
--- src/lib.rt:39:1
 returns : tie.Need-returns Inv-loop μ-loop
 returns c = (found-last (c .before .loop .inv) (omega arith), omega (arith, c .before .loop .inv .some, c .before .loop .inv .inside))
 

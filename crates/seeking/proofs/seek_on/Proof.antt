@@ -3,7 +3,6 @@ use Prim.Native.Nat.{_+_, _-_, _≤_, _<_}
 use mathlib.Core.Path.{_≡_, refl}
 use native.Mathlib.Omega.{arith}
 use native.Mathlib.Nat.{le-of-lt}
-use mathlib.Core.Logic.{⊎-elim}
 use borrow.Author.Tests.{ltb-true, ltb-false}
 use lib.ListN.{length, drop, length-drop}
 use Rattle.rules.specs.declared.Ending.the-variants.{Done}
@@ -29,83 +28,80 @@ here c = ltb-true _ _ (c .if1 .taken)
 
 -- a frame that was passed
 module _ (c : tie.After-pass Inv-loop μ-loop) (e : c .pass .result .end ≡ Done) where
-  bounds : Bounds (drop (c .before .before .before .before .loop .place) (c .before .before .before .before .before .before .args .octets .now)) (c .before .before .before .before .loop .left) (c .pass .result)
+  bounds : Bounds (drop (c .before .before .before .before .loop .place)
+      (c .before .before .before .before .before .before .args .octets .now)) (c .before .before .before .before .loop .left)
+      (c .pass .result)
   bounds = seek-bounds _ _ _ _ _ _ (c .before .before .before .before .loop .inv) (omega arith) (here (c .before .before)) (c .pass .ensures .tells) e
 
-  inside : c .before .before .before .before .loop .place + c .pass .result .octets ≤ length (c .before .before .before .before .before .before .args .octets .now)
-  inside = omega (arith, bounds .inside, here (c .before .before), length-drop (c .before .before .before .before .loop .place) (c .before .before .before .before .before .before .args .octets .now))
+  inside : c .before .before .before .before .loop .place + c .pass .result .octets
+      ≤ length (c .before .before .before .before .before .before .args .octets .now)
+  inside =
+      let s = c .before .before .before .before in
+      omega (arith, bounds .inside, here (c .before .before), length-drop (s .loop .place) (s .before .before .args .octets .now))
 
--- src/lib.rt:70:5
 loop-holds : tie.Need-loop-holds Inv-loop μ-loop
 loop-holds c = seek-start _ _ _ _ _ _ (omega arith) refl
 
--- src/lib.rt:71:13
 pass-requires : tie.Need-pass-requires Inv-loop μ-loop
 pass-requires c κs = (le-of-lt (here (c .before)), c .before .before .before .loop .inv .size)
 
--- src/lib.rt:75:17
 enum-told : tie.Need-enum-told Inv-loop μ-loop
 enum-told c = search needs
 
--- src/lib.rt:75:17
 returns : tie.Need-returns Inv-loop μ-loop
 returns c =
     let s = c .before .before in
-    seek-refused _ _ _ _ _ _ (s .before .before .before .before .loop .inv) (omega arith) (here (s .before .before)) (s .pass .ensures .tells) _ (c .enum-told .given .1)
+    seek-refused _ _ _ _ _ _ (s .before .before .before .before .loop .inv) (omega arith) (here (s .before .before))
+    (s .pass .ensures .tells) _ (c .enum-told .given .1)
 
--- src/lib.rt:78:29
 enum-told-2 : tie.Need-enum-told-2 Inv-loop μ-loop
 enum-told-2 c = search needs
 
--- src/lib.rt:78:29
 add-if2 : tie.Need-add-if2 Inv-loop μ-loop
-add-if2 c = omega (arith, bounds (c .before .before .before) (c .before .enum-told2 .given .1) .fits, c .before .before .before .before .before .before .before .loop .inv .room)
+add-if2 c =
+    let s = c .before .before .before in
+    omega (arith, bounds s (c .before .enum-told2 .given .1) .fits, s .before .before .before .before .loop .inv .room)
 
--- src/lib.rt:79:39
 add-t20 : tie.Need-add-t20 Inv-loop μ-loop
 add-t20 c = search needs
 
--- src/lib.rt:79:57
 sub-t21 : tie.Need-sub-t21 Inv-loop μ-loop
 sub-t21 c = c .before .before .before .before .before .before .before .before .loop .inv .behind
 
--- src/lib.rt:79:21
 returns-2 : tie.Need-returns-2 Inv-loop μ-loop
 returns-2 c =
     let s = c .before .before .before .before in
-    seek-found _ _ _ _ _ _ (s .before .before .before .before .loop .inv) (omega arith) (here (s .before .before)) (s .pass .ensures .tells) (c .before .before .enum-told2 .given .1) (omega arith)
+    seek-found _ _ _ _ _ _ (s .before .before .before .before .loop .inv) (omega arith) (here (s .before .before))
+    (s .pass .ensures .tells) (c .before .before .enum-told2 .given .1) (omega arith)
 
--- src/lib.rt:81:17
 add-place : tie.Need-add-place Inv-loop μ-loop
-add-place c = omega (arith, inside (c .before .before .before .before .before) (c .before .before .before .enum-told2 .given .1), c .before .before .before .before .before .before .before .before .before .before .before .good)
+add-place c =
+    let s = c .before .before .before .before .before in
+    omega (arith, inside s (c .before .before .before .enum-told2 .given .1), s .before .before .before .before .before .before .good)
 
--- src/lib.rt:82:17
 sub-left : tie.Need-sub-left Inv-loop μ-loop
 sub-left c = bounds (c .before .before .before .before .before .before) (c .before .before .before .before .enum-told2 .given .1) .fits
 
--- src/lib.rt:83:17
 add-passed : tie.Need-add-passed Inv-loop μ-loop
-add-passed c = omega (arith, bounds (c .before .before .before .before .before .before .before) (c .before .before .before .before .before .enum-told2 .given .1) .fits, c .before .before .before .before .before .before .before .before .before .before .before .loop .inv .room)
+add-passed c =
+    let s = c .before .before .before .before .before .before .before in
+    omega (arith, bounds s (c .before .before .before .before .before .enum-told2 .given .1) .fits, s .before .before .before .before .loop .inv .room)
 
--- src/lib.rt:84:17
 add-n : tie.Need-add-n Inv-loop μ-loop
 add-n c = search needs
 
--- src/lib.rt:70:5
 loop-less : tie.Need-loop-less Inv-loop μ-loop
 loop-less c = omega arith
 
--- src/lib.rt:70:5
 loop-again : tie.Need-loop-again Inv-loop μ-loop
 loop-again c =
     let s = c .before .before .before .before .before .before .before in
-    seek-turn _ _ _ _ _ _ (s .before .before .before .before .loop .inv) (omega arith) (here (s .before .before)) (s .pass .ensures .tells) (c .before .before .before .before .before .enum-told2 .given .1) (omega arith) (s .pass .ensures .size)
+    seek-turn _ _ _ _ _ _ (s .before .before .before .before .loop .inv) (omega arith) (here (s .before .before))
+    (s .pass .ensures .tells) (c .before .before .before .before .before .enum-told2 .given .1) (omega arith) (s .pass .ensures .size)
 
--- src/lib.rt:54:1
 returns-3 : tie.Need-returns-3 Inv-loop μ-loop
 returns-3 c = seek-ended _ _ _ _ _ _ (c .before .before .loop .inv) (ltb-false _ _ (c .if1 .left))
 
--- src/lib.rt:54:1
 returns-4 : tie.Need-returns-4 Inv-loop μ-loop
 returns-4 c = seek-last _ _ _ _ _ _ (c .before .loop .inv) (omega arith)
 
