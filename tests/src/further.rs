@@ -4,7 +4,7 @@
 use crate::file::{file, Filed, LOSS, LOST};
 use crate::forms::LENGTHS;
 use crate::mend::Menders;
-use crate::store::{early_text_of, Call, Stores, BLOCK, SAVED};
+use crate::store::{early_text_of, Call, Stores, BLOCK};
 use crate::why::Reasons;
 use crate::{Proved, Second};
 use second::gen::{all_kinds, damage_somehow, make_frame, sample_of, Kind, Prng};
@@ -135,7 +135,7 @@ impl Further {
                 0..=5 => Call::Put(self.law(), number, self.octets(pool, 3)),
                 6 | 7 => Call::Delete(number),
                 8 => Call::Get(number),
-                9 => Call::Save(self.rng.below(SAVED)),
+                9 => Call::Save(self.rng.below(self.stores.room())),
                 10 => {
                     let text = self.text();
                     let damaged = !text.is_empty() && self.rng.flip();
@@ -149,7 +149,7 @@ impl Further {
             let (at, bit) = (self.rng.below(self.stores.cells().len()), self.rng.below(32));
             if !self.stores.lend(|cells| cells[at] ^= 1 << bit) {
                 let calls =
-                    [Call::Get(1), Call::Put(1, 1, vec![0x41]), Call::Delete(1), Call::Save(SAVED), Call::Jump(1, 0)];
+                    [Call::Get(1), Call::Put(1, 1, vec![0x41]), Call::Delete(1), Call::Save(self.stores.room()), Call::Jump(1, 0)];
                 calls.iter().for_each(|call| {
                     self.stores.call(call);
                 });
