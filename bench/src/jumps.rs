@@ -83,7 +83,7 @@ fn skipping(Greeting { name, octets, samples, .. }: &Greeting) {
 }
 
 /// Longer greetings: jumps cost the same as in a usual block.
-pub fn long_tables() {
+fn long_tables() {
     head("Longer greetings: a jump to the last of so many frames, 40 samples each", "frames");
     for frames in [BLOCK, 65_536, LONGEST] {
         let both = holding(&vec![0x41; frames]);
@@ -107,4 +107,5 @@ pub fn tables() {
         "| greeting | frames read | jump, ns | a frame, ns | walk, a frame, ns | second, a frame, ns |",
     );
     greetings(BLOCK).iter().for_each(skipping);
+    long_tables();
 }

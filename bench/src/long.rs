@@ -1,5 +1,5 @@
 //! Longer greetings: a walk of 1,048,576 octets beside one of 65,535, an octet; then the store on its largest block, whose
-//! usual one is in store.rs.
+//! usual one is in store.rs. Jumps are in jumps.rs.
 
 use crate::calls;
 use crate::greetings::{greetings, head, row, Greeting, BLOCK};
@@ -66,6 +66,4 @@ pub fn tables() {
     head("Longer greetings: loading, beside the walk", "load");
     greetings(LONGEST / 32).iter().for_each(|greeting| loading(LONGEST, 32, greeting));
     greetings(LONGEST).iter().chain([&Greeting::two_minutes()]).for_each(|greeting| loading(LONGEST, 1, greeting));
-    #[cfg(feature = "jump")]
-    crate::jumps::long_tables();
 }

@@ -410,8 +410,7 @@ fn many_marks() {
     }
 }
 
-/// Two minutes of a hotel's guide, in both laws and in frames of two lengths: stored, saved, loaded, moved, and jumped into. Jumps are
-/// the proved code's with the feature `jump` alone.
+/// Two minutes of a hotel's guide, in both laws and in frames of two lengths: stored, saved, loaded, moved, and jumped into.
 #[test]
 fn two_minutes_stored() {
     for (name, keeper) in KEEPERS {
