@@ -10,9 +10,9 @@ use tests::{ending, say, share, shared, Ask, Pair, Proved, Second, Table, Walk, 
 const USUAL: usize = 65_535;
 /// Streams wanted in a cell.
 const WALKED: usize = share(1_000);
-/// Streams wanted of those up to 65,535 octets, of pads alone, and of the longest.
+/// Streams wanted of those up to 65,535 octets, of pads alone, and of the longest, which are few, and none of a tenth.
 const LONG: usize = share(20);
-const LONGEST: usize = share(3);
+const LONGEST: usize = share(30) / 10;
 /// Turns after which a cell that is still not full is taken to be one that can't be filled.
 const MOST_TURNS: usize = 1_000;
 
