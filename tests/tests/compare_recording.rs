@@ -3,7 +3,8 @@
 
 use second::gen::{all_kinds, damage_somehow, make_frame, sample_of, Kind, Prng};
 use tests::file::{
-    erased, file, heading, script, Filed, Files, Holds, Line, Read, Write, HEAD, LAW, LENGTH, LONG, LOSS, LOST, ROOM, SET,
+    erased, file, heading, script, Filed, Files, Holds, Line, Read, Write, HEAD, LAW, LENGTH, LONG, LOSS, LOST, ROOM,
+    SET,
 };
 use tests::forms::{rows, LENGTHS, ROWS};
 use tests::recordings::{cuts, recordings};

@@ -85,7 +85,13 @@ fn around_the_longest() {
             for (last, whole) in [(0x00, all), (0x40, stops("ROOM", 0)), (0x46, stops("PREFIX", 0))] {
                 asked.given[before] = last;
                 walk_as(&mut pair, &asked, if length > MOST { refused("LONG") } else { whole });
-                *if length > MOST { &mut long } else if whole.ending == 0 { &mut good } else { &mut ended } += 1;
+                *if length > MOST {
+                    &mut long
+                } else if whole.ending == 0 {
+                    &mut good
+                } else {
+                    &mut ended
+                } += 1;
             }
             asked.room += 320;
             asked.given[before] = 0x40;

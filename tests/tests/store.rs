@@ -7,7 +7,8 @@ use second::gen::{damage_somehow, Prng};
 use second::store::{Greeting, Mark, Store};
 use tests::store::{
     change, damaged, early_text_of, ending_name, profiles, script, some_call, some_store, text_of, Call, Keeps, Step,
-    Stores, Told, ABSENT, BAD, BEYOND, BLOCK, DAMAGES, FORM, FULL, LAW, MOST_BLOCK, NOROOM, NUMBER, PARTS, ROOM, TABLE, TAKEN,
+    Stores, Told, ABSENT, BAD, BEYOND, BLOCK, DAMAGES, FORM, FULL, LAW, MOST_BLOCK, NOROOM, NUMBER, PARTS, ROOM, TABLE,
+    TAKEN,
 };
 use tests::{in_share, say, share, Proved, Second, Table};
 
@@ -404,7 +405,9 @@ fn sizes() {
         assert_eq!(Proved.cells(size), needed, "{size}");
     }
     let most = MOST_BLOCK as u64;
-    for (size, needed) in [(most - 1, 33_024), (most, 33_026), (most + 1, 33_026), (most + 64, 33_026), (u64::MAX, 33_026)] {
+    for (size, needed) in
+        [(most - 1, 33_024), (most, 33_026), (most + 1, 33_026), (most + 64, 33_026), (u64::MAX, 33_026)]
+    {
         assert_eq!(Proved.cells(size), needed, "{size}");
     }
     let far = [65_535, 65_536, u64::from(u32::MAX), 1 << 32, 1 << 63];

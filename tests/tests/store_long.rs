@@ -6,9 +6,9 @@ use second::saved::old_reads;
 use second::store::Greeting;
 use tests::recordings::{packed, two_minutes};
 use tests::store::{
-    asks_for_form, damaged, early_text_of, ending_name, first_line, frames_of, is_large, large_profiles, profiles, short_frames,
-    some_call, some_store, text_of, whole_text_of, Call, Keeps, Profile, Stores, Told, BAD, BEYOND, BLOCK, DAMAGES, FIRST_LINES, FORM, MARKS,
-    MORE_ROWS, MOST_BLOCK, MOST_WITHOUT, NOROOM, TABLE,
+    asks_for_form, damaged, early_text_of, ending_name, first_line, frames_of, is_large, large_profiles, profiles,
+    short_frames, some_call, some_store, text_of, whole_text_of, Call, Keeps, Profile, Stores, Told, BAD, BEYOND,
+    BLOCK, DAMAGES, FIRST_LINES, FORM, MARKS, MORE_ROWS, MOST_BLOCK, MOST_WITHOUT, NOROOM, TABLE,
 };
 use tests::streams::plain_frames;
 use tests::{say, share, Proved, Second, Table, MOST};
@@ -107,7 +107,8 @@ fn old_boxes() {
     let mut stores = Stores::new(&Proved, Vec::new());
     let columns = ["read alike", "TABLE"];
     let rows = ["up to 16,384", "up to 65,535", "larger"];
-    let mut table = Table::new("store, saved tables read by an old box, by octets of the block", &rows, &columns, share(20));
+    let mut table =
+        Table::new("store, saved tables read by an old box, by octets of the block", &rows, &columns, share(20));
     table.never("up to 16,384", "TABLE");
     table.never("larger", "read alike");
     let mut all = profiles(&mut rng);
@@ -129,7 +130,9 @@ fn old_boxes() {
         table.add(row, if ending == 0 { columns[0] } else { columns[1] });
         let lines = text_of(&stores.model.greetings);
         let behind = &lines[..rng.below(lines.len() + 1)];
-        for text in [[FORM, &lines].concat(), [FORM, behind].concat(), [FORM, &early_text_of(&stores.model.greetings)].concat()] {
+        for text in
+            [[FORM, &lines].concat(), [FORM, behind].concat(), [FORM, &early_text_of(&stores.model.greetings)].concat()]
+        {
             assert_eq!(old_reads(&text, stores.model.block.clone()), Err(TABLE));
         }
     }
@@ -258,7 +261,10 @@ fn both_sides_of_65535() {
                     let told = stores.call(&Call::Load(text));
                     let got = stores.call(&Call::Get(7));
                     if told.ending != wanted || (wanted == 0 && got != Told::ok(start, octets)) {
-                        stores.differ(&format!("{start}, {octets}, form {form}, early {early}"), &format!("{told:?}, {got:?}"));
+                        stores.differ(
+                            &format!("{start}, {octets}, form {form}, early {early}"),
+                            &format!("{told:?}, {got:?}"),
+                        );
                     }
                     *if wanted == 0 { &mut loaded } else { &mut refused } += 1;
                 }
@@ -286,9 +292,10 @@ fn blocks_filled_up() {
                 [&frames[..], &vec![0; octets - frames.len()]].concat()
             };
             for (parts, ending) in [(vec![size + 1], if size < MOST { NOROOM } else { BAD }), (vec![size, 1], NOROOM)] {
-                let told = parts.iter().zip(1..).map(|(octets, number)| {
-                    stores.promised(&Call::Put(1, number, whole(*octets, &mut rng)))
-                });
+                let told = parts
+                    .iter()
+                    .zip(1..)
+                    .map(|(octets, number)| stores.promised(&Call::Put(1, number, whole(*octets, &mut rng))));
                 assert_eq!(told.last().map(|told| told.ending), Some(ending), "{block}");
             }
             stores.saved_and_loaded();
@@ -381,11 +388,20 @@ fn many_marks() {
                 assert_eq!(stores.promised(&Call::Put(law, 4, octets)), Told::ok(130, 0));
                 assert_eq!(stores.model.greetings[1].marks.len(), frames.div_ceil(64));
                 stores.saved_and_loaded();
-                for sample in [0, 1, all.samples / 2, all.samples - 1].into_iter().chain((0..9).map(|_| rng.below(all.samples))) {
+                for sample in
+                    [0, 1, all.samples / 2, all.samples - 1].into_iter().chain((0..9).map(|_| rng.below(all.samples)))
+                {
                     assert_eq!(stores.call(&Call::Jump(4, sample as u64)), all.holding(sample));
                 }
                 let rows = stores.model.greetings.clone();
-                for damage in ["a wrong mark", "a mark too many", "a mark too few", "no marks", "a mark of 40 digits", "wrong samples"] {
+                for damage in [
+                    "a wrong mark",
+                    "a mark too many",
+                    "a mark too few",
+                    "no marks",
+                    "a mark of 40 digits",
+                    "wrong samples",
+                ] {
                     let Some(made) = damaged(damage, &rows, stores.model.size(), &mut rng) else { continue };
                     not_loaded(damage, &made.text, made.by_lines, &mut stores, &mut rng);
                     wrong += 1;
@@ -394,7 +410,13 @@ fn many_marks() {
                 for at in [rows[1].marks.len() - 1, rows[1].marks.len() / 2] {
                     let mut others = rows.clone();
                     others[1].marks[at].samples += 1;
-                    not_loaded("a wrong mark", &whole_text_of(&others, stores.model.size()), false, &mut stores, &mut rng);
+                    not_loaded(
+                        "a wrong mark",
+                        &whole_text_of(&others, stores.model.size()),
+                        false,
+                        &mut stores,
+                        &mut rng,
+                    );
                     wrong += 1;
                 }
                 let early = stores.call(&Call::Load(early_text_of(&rows)));
@@ -406,7 +428,10 @@ fn many_marks() {
             }
         }
         stores.close();
-        say(&format!("compared: store, {name}, many marks: {greetings} greetings, {wrong} wrong tables, {} calls\n", stores.calls));
+        say(&format!(
+            "compared: store, {name}, many marks: {greetings} greetings, {wrong} wrong tables, {} calls\n",
+            stores.calls
+        ));
     }
 }
 
@@ -447,7 +472,10 @@ fn two_minutes_stored() {
             }
         }
         stores.close();
-        say(&format!("compared: store, {name}, two minutes: streams of {octets:?} octets, {jumps} jumps, {} calls\n", stores.calls));
+        say(&format!(
+            "compared: store, {name}, two minutes: streams of {octets:?} octets, {jumps} jumps, {} calls\n",
+            stores.calls
+        ));
     }
 }
 
@@ -466,5 +494,8 @@ fn first_lines_are_asked_for() {
         assert_eq!(asks_for_form(&rows, size), asked);
         assert_eq!(whole_text_of(&rows, size).starts_with(FORM), asked);
     }
-    assert_eq!([ending_name(BAD), ending_name(TABLE), ending_name(NOROOM), ending_name(BEYOND)], ["BAD", "TABLE", "NOROOM", "BEYOND"]);
+    assert_eq!(
+        [ending_name(BAD), ending_name(TABLE), ending_name(NOROOM), ending_name(BEYOND)],
+        ["BAD", "TABLE", "NOROOM", "BEYOND"]
+    );
 }

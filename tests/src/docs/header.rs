@@ -71,7 +71,9 @@ pub fn limits(files: &Files) -> Held {
     held.also(with_heading, || "header: a file has a heading and a stream".to_string());
     let block = most("MAX_BLOCK");
     let marks = block / 64 + most("MAX_GREETINGS");
-    held.also(most("MAX_CELLS") == 194 + 2 * marks, || format!("header: a table has 194 cells and two for each of {marks} marks"));
+    held.also(most("MAX_CELLS") == 194 + 2 * marks, || {
+        format!("header: a table has 194 cells and two for each of {marks} marks")
+    });
     let text = longest_table(most("MAX_GREETINGS"), marks, block, most("MAX_NUMBER"), most("MAX_SAMPLES"));
     held.also(most("MAX_TABLE") == text, || format!("header: the text of a table has at most {text} octets"));
     held
