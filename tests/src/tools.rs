@@ -3,12 +3,10 @@
 
 use crate::program::{built, line, repository, run, words};
 use crate::recordings::{cuts, packed, Packed};
-use crate::{Codec, Second, ENDINGS};
+use crate::{Codec, Second, ENDINGS, MOST};
 use std::path::{Path, PathBuf};
 use std::process::Command;
 
-/// Octets of the longest stream.
-pub const MOST: usize = 65_535;
 /// How a tool ends that was called wrongly, that found another sound than the master's, that found losses, and that had
 /// trouble with a file.
 pub const USAGE: u32 = 64;

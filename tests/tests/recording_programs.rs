@@ -6,8 +6,8 @@ use second::recording::{heading, is_erased, read_file, write_file, LOSS};
 use tests::forms::LENGTHS;
 use tests::program::listing;
 use tests::recordings::{packed, recordings};
-use tests::tools::{law_words, same, Room, Stop, DIFFERS, LOST, MOST, USAGE};
-use tests::{say, Codec, Second};
+use tests::tools::{law_words, same, Room, Stop, DIFFERS, LOST, USAGE};
+use tests::{say, Codec, Second, MOST, MOST_LISTED};
 
 /// Octets of a heading.
 const HEAD: usize = 10;
@@ -280,20 +280,27 @@ fn headings() {
 fn the_longest_recordings() {
     let mut room = room("longest");
     for law in 0..2 {
-        for (more, octet) in [(0, 0x00), (0, 0x01), (0, 0x41), (1, 0x01), (2, 0x00), (400, 0x41)] {
-            let file = [&heading(law)[..], &vec![octet; MOST + more]].concat();
-            if more > 0 {
+        for (octets, octet) in [
+            (MOST_LISTED, 0x01),
+            (MOST_LISTED + 1, 0x41),
+            (MOST, [0x00, 0x41][law as usize]),
+            (MOST + 1, 0x01),
+            (MOST + 10, 0x00),
+            (MOST + 400, 0x41),
+        ] {
+            let file = [&heading(law)[..], &vec![octet; octets]].concat();
+            if octets > MOST {
                 room.run("unpack", "", &file).ends(Stop::new(13, 0, 0)).writes(&[]);
             } else {
                 played(&mut room, &file, 127, ["", "-g"][law as usize]);
             }
         }
         let (option, ..) = law_words(law);
-        let sound: Vec<u8> = (0..320 * 200).map(|at| (at * 7 % 251) as u8).collect();
+        let sound: Vec<u8> = (0..320 * 3_266).map(|at| (at * 7 % 251) as u8).collect();
         let stream = packed(&Second, &sound, law, 1, 320, MOST);
         let ran = room.run("pack", &format!("{option} -r -s1 -n320"), &sound);
         ran.ends(Stop::new(0, sound.len(), 0)).writes(&[&heading(law)[..], &stream.octets].concat());
-        let long: Vec<u8> = sound.iter().chain(&sound).copied().collect();
+        let long: Vec<u8> = sound.iter().chain(&sound[..640]).copied().collect();
         let most = packed(&Second, &long, law, 1, 320, MOST).samples;
         room.run("pack", &format!("{option} -r -s1 -n320"), &long).ends(Stop::new(13, most, 0)).writes(&[]);
         // Without OUTFILE a recording goes nowhere but to standard output.
