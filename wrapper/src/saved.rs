@@ -3,9 +3,9 @@
 use crate::raw;
 use crate::store::Refusal;
 
-/// Octets that a table saved has at most, if calls left it: lines of 60 octets for each of 32 greetings, and of 19 for each of
-/// 288 marks.
-pub const MAX_TABLE: usize = 7_392;
+/// Octets that a table saved has at most, if calls left it: a first line of 7, lines of 66 octets for each of 32 greetings, and of
+/// 23 for each of 16,416 marks.
+pub const MAX_TABLE: usize = 379_687;
 
 /// Writes the table's text at the start of the output; gives its octets.
 pub fn save(block: &[u8], table: &[u32], out: &mut [u8]) -> Result<usize, Refusal> {
