@@ -8,7 +8,6 @@ use lib.Dec.{ltb}
 use Rattle.rows.specs.declared.Row.{Row}
 use Rattle.rows.specs.Limits.{largestBlock}
 use Rattle.keyvalue.specs.Reading.{Read, begins}
-use Rattle.keyvalue.specs.Lines.{lineOf}
 use Rattle.tables.specs.declared.Form.{Form}
 use Rattle.tables.specs.Table.{mostPlace}
 use Rattle.tables.specs.Noted.{Listed, listedAt, rowsListed, listedText}
