@@ -1,21 +1,22 @@
--- Octets one after another: where the first are walked clean, the walk goes on with the second as by themselves (`joined`). So a stream can be
--- walked part by part, each part cut where a frame ends.
+-- Octets one after another: where the first are walked clean, the walk goes on with the second as by themselves (`joined`). Octets cut where their
+-- walk ended are walked clean (`cut-clean`). So a stream can be walked part by part, each part cut where a frame ends.
 use Prim.Native.Nat.{ℕ, suc, _+_, _*_, _-_, _≤_, _<_}
 use native.Mathlib.Omega.{arith}
 use mathlib.Core.Path.{_≡_, refl, sym, ap, _∙_}
 use mathlib.Core.List.{List, _++_}
-use lib.ListN.{length, drop, length-append, length-drop}
-use lib.Seq.{drop-drop, drop-at, drop-append-le}
+use lib.ListN.{length, take, drop, length-append}
+use lib.Seq.{drop-drop, drop-at, drop-append-le, length-take-le, take-length}
 use Rattle.rules.specs.declared.Refusal.the-variants.{Short}
+use Rattle.rules.specs.declared.Ending.{Ending}
 use Rattle.rules.specs.declared.Ending.the-variants.{Done, Refused}
-use Rattle.rules.specs.Reading.{whole, refuse}
-use Rattle.rules.specs.Frame.{Found, octetsUsed, readOne}
-use Rattle.rules.specs.Walk.{Walked, stopped, walkFrom, walkAll, octetsKept, samplesKept}
+use Rattle.rules.specs.Reading.{refuse}
+use Rattle.rules.specs.Frame.{octetsUsed, readOne}
+use Rattle.rules.specs.Walk.{Walked, walkFrom, walkAll, samplesKept}
 use Rattle.rules.proofs.Walk.{after, samplesKept-append, Walks, last, ended, refused, delivers, walks, walk-last, walk-ended, walk-off, walk-one}
 use Rattle.rules.proofs.Walk.{walk-told, walk-on, walk-fuel, walk-roomy, walks-only}
-use Rattle.rules.proofs.Walk.{Told}
 use Rattle.promises.proofs.Further.{looks-no-further}
 use Rattle.promises.proofs.Walks.{Walkable, walk-all}
+use Rattle.promises.proofs.Refused.{refused-walk}
 
 -- a walk of the same frames, so many octets further on
 pub record Moved (k : ℕ) (w v : Walked) : Type 0 where
@@ -124,3 +125,51 @@ joined a b law set h e =
           ∙ ap (λ (x : List ℕ). samplesKept (wa .frames) ++ x) (v .samples ∙ ap (λ (w : Walked). samplesKept (w .frames)) rest)
           ∙ ap (λ (x : List ℕ). x ++ samplesKept (walkOf b law set .frames)) (sym (ap samplesKept over));
     })
+
+-- octets cut where their walk ended
+pub record CutClean (w : List ℕ) (law set : ℕ) (x : List ℕ) : Type 0 where
+  pub size : length x ≡ walkOf w law set .place
+  pub clean : walkOf x law set .end ≡ Done
+  pub frames : walkOf x law set .frames ≡ walkOf w law set .frames
+
+pub walk-place : (w : List ℕ) (law set : ℕ) → Walkable w law set → walkOf w law set .place ≤ length w
+walk-place w law set h =
+    let t = walk-told w law set (suc (length w)) 0 (320 * length w) in
+    let e = ap (λ (v : Walked). v .place) (walk-all w law set (320 * length w) h) in
+    omega (arith, e, t .place, t .inside)
+
+pub cut-clean : (w : List ℕ) (law set : ℕ) → Walkable w law set → CutClean w law set (take (walkOf w law set .place) w)
+cut-clean w law set h = go (walkOf w law set .end) refl
+  where
+    long : length (take (walkOf w law set .place) w) ≡ walkOf w law set .place
+    long = length-take-le (walkOf w law set .place) w (walk-place w law set h)
+
+    done : walkOf w law set .end ≡ Done → walkOf w law set .place ≡ length w
+    done e =
+        let whole = walk-all w law set (320 * length w) h in
+        let t = walk-told w law set (suc (length w)) 0 (320 * length w) in
+        let f = sym (ap (λ (v : Walked). v .end) whole) ∙ e in
+        let p = ap (λ (v : Walked). v .place) whole in
+        omega (arith, p, t .place, t .inside, t .some, t .whole f (omega (arith, t .some, t .inside)))
+
+    go : (e : Ending) → walkOf w law set .end ≡ e → CutClean w law set (take (walkOf w law set .place) w)
+    go Done e =
+        let same : take (walkOf w law set .place) w ≡ w = ap (λ (k : ℕ). take k w) (done e) ∙ take-length w in
+        record {
+          size = long;
+          clean = ap (λ (x : List ℕ). walkOf x law set .end) same ∙ e;
+          frames = ap (λ (x : List ℕ). walkOf x law set .frames) same;
+        }
+    go (Refused r) e =
+        let x = take (walkOf w law set .place) w in
+        let k = refused-walk w law set (320 * length w) r h e .kept in
+        let ok : Walkable x law set = record { lawful = h .lawful; small = h .small; short = omega (arith, long, walk-place w law set h, h .short) } in
+        let room : walkOf x law set ≡ walkAll x law set (320 * length w) =
+        walk-all x law set (320 * length x) ok
+        ∙ walk-roomy x law set (suc (length x)) 0 (320 * length x) (320 * length w) (omega arith) (omega (arith, long, walk-place w law set h))
+        ∙ sym (walk-all x law set (320 * length w) ok) in
+        record {
+          size = long;
+          clean = ap (λ (v : Walked). v .end) (room ∙ k);
+          frames = ap (λ (v : Walked). v .frames) (room ∙ k);
+        }
