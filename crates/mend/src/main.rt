@@ -6,6 +6,9 @@ use console::Got;
 use rules::Ending;
 use texts::Number;
 
+// The octets of a greeting, and of a result, that are kept.
+const HELD: usize = 65535;
+
 // What the arguments say: the law (2 where no option tells it), the total and whether it was told, the arguments of the two files (0 is none).
 // `wants` says that the next argument is the total, `wrong` that one is not known.
 struct Asked {
@@ -242,17 +245,29 @@ fn finish(octets: usize, frames: usize, kept: usize, filled: usize, stop: Ending
     console::stop(options::UNPACK, 0, octets, 0, 0);
 }
 
+// The room is that of the longest result that is kept, so ROOM is LONG here.
+fn number_for(number: u32) -> u32 {
+    if number == 4 {
+        return 13;
+    }
+    number
+}
+
 fn run(law: u32, total: u64, name: &[u8], other: &[u8]) {
-    let mut greeting = [0u8; 65536];
+    let mut greeting = [0u8; HELD + 1];
     let got = read_greeting(name, &mut greeting);
     if got.failed {
         return;
     }
     let n = got.count;
-    let mut result = [0u8; 65535];
+    if HELD < n {
+        refused(13);
+        return;
+    }
+    let mut result = [0u8; HELD];
     let a = mending::mend(&greeting[..n], law, total, &mut result);
     let end = a.end;
-    let number = mending::mend_number(end);
+    let number = number_for(mending::mend_number(end));
     if number != 0 {
         refused(number);
         return;

@@ -14,6 +14,9 @@ use recording::marking::HEADING;
 use rules::Ending;
 use sounds::Way;
 
+// The octets of a stream that is kept until all of the sound was packed.
+const HELD: usize = 65535;
+
 // What was packed so far, how many octets were added to the last part, whether more sound may come, whether a read failed, and
 // how many octets the file should still have.
 struct Run {
@@ -101,7 +104,7 @@ fn explain_sound(number: u32) {
         console::say(b"pack: no length fits the octets at the end; -f fills them up\n");
     }
     if number == 13 {
-        console::say_number(b"pack: the stream would be longer than ", rules::LONGEST);
+        console::say_number(b"pack: the stream would be longer than ", HELD);
         console::say(b" octets; the sound up to the place below fits\n");
     }
 }
@@ -259,7 +262,7 @@ fn pack_named(s: Settings, in_name: &[u8], name: &mut [u8]) {
     }
     let n = t.len;
     let mut part = [0u8; 61440];
-    let mut out = [0u8; rules::LONGEST];
+    let mut out = [0u8; HELD];
     pack_file(s, in_name, &name[..n], &mut part, &mut out);
 }
 

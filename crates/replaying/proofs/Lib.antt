@@ -2,5 +2,6 @@
 -- Running: part after part, and what is told of an item.      Headings: a file that is a recording has its heading.
 pub mod Parted
 pub mod Whole
+pub mod Joined
 pub mod Running
 pub mod Headings

@@ -1,10 +1,12 @@
 -- What is told of an item: "a line with its place, its length and the sample before which it stands".
-use Prim.Native.Nat.{ℕ, _+_}
+use Prim.Native.Nat.{ℕ, _+_, _*_, _^_, _≤_, _<_}
 use mathlib.Core.Path.{_≡_}
 use mathlib.Core.List.{List, [], _∷_, _++_}
 use lib.ListN.{length, getD}
+use Rattle.rules.specs.Walk.{longest}
 use Rattle.rules.specs.Listing.{lineEnd, atWord, samplesWord, field}
 use Rattle.recording.specs.Items.{Item, lost, soundIn}
+use Rattle.replaying.specs.declared.Base.{Base}
 use Rattle.replaying.specs.declared.Part.{Part}
 use Rattle.replaying.specs.Parts.{partOf, NextPart}
 use Rattle.replaying.specs.Runs.{Before}
@@ -43,3 +45,10 @@ pub record NextItem (body : List ℕ) (law set at number heard cell : ℕ) (p : 
 pub record LossAt (body : List ℕ) (law set at number heard n : ℕ) : Type 0 where
   pub follows : Follows body law set at number heard
   pub is : partOf body law set at 320 1 .items ≡ lost n ∷ []
+
+-- what stands before the octets that are played, where they are a part of a recording: small enough for sums
+abbrev pub Small : Base → Type 0
+Small b = (b .at ≤ longest) × (b .items ≤ longest) × (b .samples ≤ 320 * longest)
+
+abbrev pub Sums : Base → ℕ → ℕ → ℕ → Type 0
+Sums b at number heard = (b .at + at < 2 ^ 64) × (b .items + number < 2 ^ 64) × (b .samples + heard < 2 ^ 64)

@@ -22,6 +22,9 @@ use sounds::Used;
 use sounds::Way;
 use unpacking::Part;
 
+// The octets of the frames of a file that is kept.
+const HELD: usize = 65535;
+
 // What came of a stream: how it ended and where, the refusal's bit, the frames, the samples that are well, and what is wrong.
 struct Total {
     end: Ending,
@@ -339,6 +342,10 @@ fn with_frames(body: &[u8], law: u32, s: Settings, records: bool, name: &[u8]) {
     if refuses(e) {
         return;
     }
+    if HELD < body.len() {
+        console::refused(UNPACK, 13, 0, 0, 0);
+        return;
+    }
     to_other(body, law, s, records, name);
 }
 
@@ -389,7 +396,7 @@ fn run(s: Settings, name: &[u8]) {
     if refuses(e) {
         return;
     }
-    let mut file = [0u8; rules::LONGEST + HEADING + 1];
+    let mut file = [0u8; HELD + HEADING + 1];
     let got = read_file(name, &mut file);
     if got.failed {
         return;

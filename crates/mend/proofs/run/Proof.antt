@@ -15,12 +15,18 @@ read-greeting-requires c κs = search needs
 returns : tie.Need-returns
 returns c = search needs
 
+refused-requires : tie.Need-refused-requires
+refused-requires c κs = search needs
+
+returns-2 : tie.Need-returns-2
+returns-2 c = search needs
+
 array-share-prefix-greeting : tie.Need-array-share-prefix-greeting
 array-share-prefix-greeting c = search needs
 
 slice-aggregate-mend : tie.Need-slice-aggregate-mend
 slice-aggregate-mend c =
-    let r = c .before .before .before .read-greeting in
+    let r = c .before .before .before .before .read-greeting in
     sym (length-take-le (r .result .count) (r .last .1 .0) (r .ensures))
 
 slice-aggregate-mend-2 : tie.Need-slice-aggregate-mend-2
@@ -32,17 +38,20 @@ mend-requires c κs = search needs
 mend-number-requires : tie.Need-mend-number-requires
 mend-number-requires c κs = search needs
 
-refused-requires : tie.Need-refused-requires
-refused-requires c κs = search needs
+number-for-requires : tie.Need-number-for-requires
+number-for-requires c κs = search needs
 
-returns-2 : tie.Need-returns-2
-returns-2 c = search needs
+refused-requires-2 : tie.Need-refused-requires-2
+refused-requires-2 c κs = search needs
+
+returns-3 : tie.Need-returns-3
+returns-3 c = search needs
 
 array-share-prefix-result : tie.Need-array-share-prefix-result
-array-share-prefix-result c = let m = c .before .before .before .mend in omega (arith, answer-inside (m .ensures), m .kept .1 .1 .1 .0)
+array-share-prefix-result c = let m = c .before .before .before .before .mend in omega (arith, answer-inside (m .ensures), m .kept .1 .1 .1 .0)
 
 slice-aggregate-write-result : tie.Need-slice-aggregate-write-result
-slice-aggregate-write-result c = sym (length-take-le _ _ (answer-inside (c .before .before .before .before .mend .ensures)))
+slice-aggregate-write-result c = sym (length-take-le _ _ (answer-inside (c .before .before .before .before .before .mend .ensures)))
 
 write-result-requires : tie.Need-write-result-requires
 write-result-requires c κs = search needs
@@ -53,14 +62,14 @@ slice-aggregate-failed c = search needs
 failed-requires : tie.Need-failed-requires
 failed-requires c κs = search needs
 
-returns-3 : tie.Need-returns-3
-returns-3 c = search needs
+returns-4 : tie.Need-returns-4
+returns-4 c = search needs
 
 finish-requires : tie.Need-finish-requires
 finish-requires c κs = search needs
 
-returns-4 : tie.Need-returns-4
-returns-4 c = search needs
+returns-5 : tie.Need-returns-5
+returns-5 c = search needs
 
 pub run-spec : {M : Type 1} → statement M
 run-spec =
@@ -69,18 +78,21 @@ run-spec =
     slice-aggregate-read-greeting
     read-greeting-requires
     returns
+    refused-requires
+    returns-2
     array-share-prefix-greeting
     slice-aggregate-mend
     slice-aggregate-mend-2
     mend-requires
     mend-number-requires
-    refused-requires
-    returns-2
+    number-for-requires
+    refused-requires-2
+    returns-3
     array-share-prefix-result
     slice-aggregate-write-result
     write-result-requires
     slice-aggregate-failed
     failed-requires
-    returns-3
+    returns-4
     finish-requires
-    returns-4)
+    returns-5)
