@@ -486,11 +486,7 @@ fn windows(b: Body, law: u32, set: u32, way: Way, tells: u32, window: &mut [u8])
             set,
             way,
             tells,
-            Base {
-                at,
-                items,
-                samples,
-            },
+            Base { at, items, samples },
         );
         let end = t.end;
         let total = Total {
