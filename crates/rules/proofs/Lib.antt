@@ -8,6 +8,7 @@ pub mod Signed
 pub mod Firsts
 pub mod Codes
 pub mod Located
+pub mod Fractional
 pub mod Gives
 pub mod Accepted
 pub mod Named
