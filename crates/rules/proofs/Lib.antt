@@ -19,3 +19,4 @@ pub mod Lent
 pub mod Walk
 pub mod Each
 pub mod Chosen
+pub mod FrameRow
