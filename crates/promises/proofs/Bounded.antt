@@ -19,7 +19,7 @@ use Rattle.rules.specs.Samples.{maskOf, sampleOf, plusZero, minusZero}
 use Rattle.rules.specs.Runs.{zerosFrom, rice, riceForm, runsFrom, runsOf, riceForms}
 use Rattle.rules.specs.Zeros.{Tree, leaf, fork, treeOf, readTree, zeroOf, flagOf, codesOf, codeOf, mostS, plusMinus, plusMinusForm}
 use Rattle.rules.specs.First.{baseOf, riceCode, First, unassigned, pad, tool, sixOrEight, rows, lookUp, firstOctet, markAt, sixNotEight}
-use Rattle.rules.specs.Frame.{Found, octetsUsed, body, withTool, afterFirst, frame, readOne}
+use Rattle.rules.specs.Frame.{Found, octetsUsed, body, withTool, rowIn, afterFirst, frame, readOne}
 use Rattle.rules.specs.Located.{widthFrom, widthOf, listedFrom, listed, byMethod, emptyIn, lay, valuesInto, valuesOf, located}
 use Rattle.rules.specs.Chooses.{countOf}
 use Rattle.rules.proofs.Octets.{Below, none, more, bitsOf-below, length-lowBits}
@@ -38,7 +38,8 @@ use Rattle.promises.proofs.Written.{read-bits}
 use Rattle.promises.proofs.Frame.{foundAt}
 use Rattle.rules.proofs.Room.{length-most}
 use Rattle.rules.proofs.Gives.{no-refusal, same-place, same-value}
-use Rattle.promises.proofs.Reach.{Near, near-fail, near-give, near-here, near-bit, near-then, near-cond, near-more}
+use Rattle.promises.proofs.Reach.{Near, near-fail, near-give, near-here, near-bit, near-then, near-cond, near-more, near-numberFrom}
+use Rattle.promises.proofs.Fractional.{bodyBits, body-bits-most, near-fractional, fractional-most}
 
 -- A reading's cost by what it gives: from place i to j, with c saved up and k of the value left, j + c is at most i + k
 pub record Costs {A : Type 0} (c : ℕ) (k : A → ℕ) (p : Reader A) : Type 0 where
@@ -66,12 +67,7 @@ costs-then {A} {B} {Q} {p} {f} c k d l C L v g h s = record { goes = λ b z i m 
         let u = v .on z m e in
         omega (arith, g .goes b z i m a n e, h a (u .2) .goes b z n (u .1) r j q, s a r (u .2))
 
--- numbers
-pub near-numberFrom : (v n : ℕ) → Near n (numberFrom v n)
-unfolding numberFrom
-near-numberFrom v zero = near-give v
-near-numberFrom v (suc n) = near-more (1 + n) (suc n) (omega arith) (near-then 1 n near-bit (λ a. near-numberFrom (2 * v + a) n))
-
+-- bits and octets
 pub near-bitsFrom : (done : List ℕ) (n : ℕ) → Near n (bitsFrom done n)
 unfolding bitsFrom
 near-bitsFrom done zero = near-give done
@@ -287,7 +283,8 @@ costs-other {mask} l t n mark h ne =
     (λ e. costs-cond (eqb t 4) (λ e. cheap (8 + 0) (omega arith) (near-then 8 0 (near-numberFrom 0 8) (λ x. near-give (replicate n x))))
     (λ e. costs-cond (eqb t 5) (λ e. cheap (n + 0) (omega arith) (near-then n 0 (near-bitsFrom [] n) (λ flags. near-give (map (zeroOf mask 0) flags))))
     (λ e. costs-cond (eqb t 6) (λ e. absurd (ne (eqb-true t 6 e)))
-    (λ e. costs-located l n h))))))
+    (λ e. costs-cond (eqb t 11) (λ e. cheap (bodyBits mark n) (omega (arith, body-bits-most mark n h)) (near-fractional mask mark n))
+    (λ e. costs-located l n h)))))))
 
 -- a frame whose body begins at place i
 withTool-bits : (mask set room t n mark k : ℕ) {b : List ℕ} → Below 2 b → (i : ℕ) → i ≤ length b → Costs 0 (λ s. k) (body mask t n mark)
@@ -318,16 +315,16 @@ pub first-plain : (o : ℕ) → o < 256 → plain (firstOctet o) ≡ true
 unfolding firstOctet lookUp rows
 first-plain o h = allBelow-at (λ o. plain (firstOctet o)) 256 refl o h
 
-after-bits : {mask : ℕ} → LawMask mask → (set room : ℕ) (first : First) → plain first ≡ true → {b : List ℕ} → Below 2 b → 8 ≤ length b
-    → {f : Found} {j : ℕ} → afterFirst mask set room first b 8 ≡ whole f j → f .bits ≤ 3213
+after-bits : {mask : ℕ} → LawMask mask → (set room o : ℕ) (first : First) → plain first ≡ true → {b : List ℕ} → Below 2 b → 8 ≤ length b
+    → {f : Found} {j : ℕ} → afterFirst mask set room o first b 8 ≡ whole f j → f .bits ≤ 3213
 unfolding afterFirst
-after-bits l set room unassigned p z h e = no-refusal e
-after-bits l set room pad p z h {f} {j} e = let v : record { tool = 0; samples = []; bits = 8 } ≡ f = same-value e in rw (← v) (omega arith)
-after-bits {mask} l set room (tool t n) p z h e =
+after-bits l set room o unassigned p z h e = no-refusal e
+after-bits l set room o pad p z h {f} {j} e = let v : record { tool = 0; samples = []; bits = 8 } ≡ f = same-value e in rw (← v) (omega arith)
+after-bits {mask} l set room o (tool t n) p z h e =
     let len = and-right (not (eqb t 6)) (isLength n) p in
     let ne = eqb-false t 6 (not-true (eqb t 6) (and-left (not (eqb t 6)) (isLength n) p)) in
-    omega (arith, withTool-bits mask set room t n 0 2686 z 8 h (costs-other l t n 0 (length-most n len) ne) e)
-after-bits {mask} l set room (sixOrEight n) p {b} z h {f} {j} e = go (steps (bit b (markAt n)) _ e)
+    omega (arith, withTool-bits mask set room t n (rowIn o t n) 2686 z 8 h (costs-other l t n (rowIn o t n) (length-most n len) ne) e)
+after-bits {mask} l set room o (sixOrEight n) p {b} z h {f} {j} e = go (steps (bit b (markAt n)) _ e)
   where
     decide : (mark t k : ℕ) → SixOrEight t → withTool mask set room t n mark b (markAt n + 1) ≡ whole f j → f .bits ≤ 3213
     decide mark t k six d =
@@ -344,11 +341,11 @@ frame-bits : {mask : ℕ} → LawMask mask → (set room : ℕ) {b : List ℕ} �
 unfolding frame
 frame-bits {mask} l set room {b} z {f} {j} e = go (steps (number 8 b 0) _ e)
   where
-    go : Steps (number 8 b 0) (λ o k. afterFirst mask set room (firstOctet o) b k) f j → f .bits ≤ 3213
+    go : Steps (number 8 b 0) (λ o k. afterFirst mask set room o (firstOctet o) b k) f j → f .bits ≤ 3213
     go (through o k q d) =
         let g = gives-number 8 .on z (omega arith) q in
         let p : 8 ≡ k = number-next 0 8 b 0 q in
-        after-bits l set room (firstOctet o) (first-plain o (g .2)) z (omega (arith, g .1)) (rw (← p) at d)
+        after-bits l set room o (firstOctet o) (first-plain o (g .2)) z (omega (arith, g .1)) (rw (← p) at d)
 
 -- Bounded: "An accepted one has at most 402", 3,213 bits
 pub bounded : (octets : List ℕ) (law set room : ℕ) {f : Found} {j : ℕ} → readOne octets law set room ≡ whole f j → (f .bits ≤ 3213) × (octetsUsed f ≤ 402)

@@ -4,6 +4,7 @@ pub mod Zeros
 pub mod Methods
 pub mod Located
 pub mod Rows
+pub mod Fractional
 pub mod Frame
 pub mod Forms
 pub mod Written
