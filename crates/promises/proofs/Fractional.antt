@@ -1,5 +1,5 @@
 -- Tool 11: what it writes of a frame that has a row is read back (`back-fractional`); it has at most 80 octets of body, whole ones, and no filling bits
--- (`fractional-most`, `fractional-filled`); and it is refused by SHORT or PLACE alone (`fractional-refused`).
+-- (`fractional-most`, `fractional-filled`); its body is refused by SHORT or PLACE alone (`fractional-refused`), so a frame is never RUN nor ALIGN (`eleven-refused`).
 use Prim.Native.Nat.{ℕ, zero, suc, _+_, _*_, _^_, _/_, _%_, _≤_, _<_}
 use native.Mathlib.Omega.{arith}
 use native.Mathlib.Nat.{lt-of-lt-of-le, mul-suc}
@@ -12,17 +12,20 @@ use lib.Seq.{length-take-le}
 use lib.Dec.{ltb, eqb, leb}
 use borrow.Author.Tests.{lt-ltb, ltb-true, leb-true, eqb-true}
 use Rattle.rules.specs.declared.Refusal.{Refusal}
-use Rattle.rules.specs.declared.Refusal.the-variants.{Short, Place}
-use Rattle.rules.specs.Tools.{isLength}
+use Rattle.rules.specs.declared.Refusal.the-variants.{Short, Tool, Room, Run, Place, Align}
+use Rattle.rules.specs.Refusals.{refusalNumber}
+use Rattle.rules.specs.Tools.{holds, isLength}
 use Rattle.rules.specs.Bits.{lowBits, fillFor}
-use Rattle.rules.specs.Reading.{Read, whole, refuse, andThen, fail, bit, numberFrom, number}
+use Rattle.rules.specs.Reading.{Read, whole, refuse, andThen, _>>=_, fail, here, bit, numberFrom, number, filled}
 use Rattle.rules.specs.Fractional.{valuesAt, rowCount, radix, groupOf, bitsFor, ofDigits, digitsOf, groupsFrom, groupsForm, placeIn, groupsAs, groupsFormAs, samplesAt, fractional, fractionalBody}
+use Rattle.rules.specs.Frame.{Found, body, withTool}
 use Rattle.rules.specs.Chooses.{fractionalRow, fractionalApplies}
 use Rattle.rules.proofs.Octets.{Below, below-take, below-drop, below-append, lowBits-below, none}
 use Rattle.rules.proofs.Tests.{implied, allBelow, allBelow-at, by-length}
 use Rattle.rules.proofs.Signed.{LawMask}
 use Rattle.rules.proofs.Room.{length-most}
-use Rattle.rules.proofs.Gives.{no-refusal}
+use Rattle.rules.proofs.Gives.{no-refusal, same-place}
+use Rattle.rules.proofs.Accepted.{Steps, through, steps, number-next}
 use Rattle.rules.proofs.Firsts.{rows-few}
 use Rattle.rules.proofs.Fractional.{digits-back, digits-fit, Among, places-back, places-below, radix-range, length-samplesAt, Packs, packs-of}
 use Rattle.rules.proofs.FrameRow.{row-low, row-among}
@@ -133,6 +136,30 @@ fractional-filled n k l h =
     (lt-ltb k (rowCount n) h)) in
     omega arith
 
+-- it goes exactly so far
+groups-next : (r g w : ℕ) (done : List ℕ) (m : ℕ) (b : List ℕ) (i : ℕ) {ds : List ℕ} {j : ℕ} → groupsFrom r g w done m b i ≡ whole ds j → i + w * m ≡ j
+unfolding groupsFrom
+groups-next r g w done zero b i e = omega (arith, same-place e)
+groups-next r g w done (suc m) b i {ds} {j} e = go (λ v k. groups-next r g w (done ++ digitsOf r g v) m b k) (steps (numberFrom 0 w b i) _ e)
+  where
+    one : (v k : ℕ) (t : Bool) → i + w ≡ k → (groupsFrom r g w (done ++ digitsOf r g v) m b k ≡ whole ds j → k + w * m ≡ j)
+        → cond t (groupsFrom r g w (done ++ digitsOf r g v) m) (fail Place i) b k ≡ whole ds j → i + w * suc m ≡ j
+    one v k true q later d = omega (arith, later d, mul-suc w m)
+    one v k false q later d = no-refusal d
+
+    go : ((v k : ℕ) → groupsFrom r g w (done ++ digitsOf r g v) m b k ≡ whole ds j → k + w * m ≡ j)
+        → Steps (numberFrom 0 w b i) (λ v k. cond (ltb v (r ^ g)) (groupsFrom r g w (done ++ digitsOf r g v) m) (fail Place i) b k) ds j → i + w * suc m ≡ j
+    go later (through v k q d) = one v k (ltb v (r ^ g)) (number-next 0 w b i q) (later v k) d
+
+pub fractional-next : (mask k n : ℕ) (b : List ℕ) (i : ℕ) {s : List ℕ} {j : ℕ} → fractional mask k n b i ≡ whole s j → i + bodyBits k n ≡ j
+unfolding groupsAs
+fractional-next mask k n b i {s} {j} e =
+    go (steps (groupsFrom (radix k) (groupOf (radix k)) (bitsFor (radix k)) [] (n / groupOf (radix k)) b i) _ e)
+  where
+    go : Steps (groupsFrom (radix k) (groupOf (radix k)) (bitsFor (radix k)) [] (n / groupOf (radix k)) b i) (λ digits m. whole (map (λ d. getD (samplesAt mask k) d 0) digits) m) s j
+        → i + bodyBits k n ≡ j
+    go (through digits m q d) = groups-next (radix k) (groupOf (radix k)) (bitsFor (radix k)) [] (n / groupOf (radix k)) b i q ∙ same-place d
+
 -- No RUN arises in this body, nor any other refusal than SHORT and PLACE.
 abbrev pub ShortOrPlace : {A : Type 0} → Read A → Type 0
 ShortOrPlace (whole a j) = Unit {0}
@@ -169,3 +196,38 @@ fractional-refused mask k n b i =
     let g = groupOf (radix k) in
     short-then (groupsFrom (radix k) g (bitsFor (radix k)) [] (n / g) b i) (λ digits j. whole (map (λ d. getD (samplesAt mask k) d 0) digits) j)
     (short-groups (radix k) g (bitsFor (radix k)) [] (n / g) b i) (λ digits j. tt)
+
+-- So a frame of tool 11 is never RUN, and since its body fills whole octets, never ALIGN.
+abbrev pub NeitherRunNorAlign : Read Found → Type 0
+NeitherRunNorAlign (whole a j) = Unit {0}
+NeitherRunNorAlign (refuse w at) = (w ≡ Run → ⊥) × (w ≡ Align → ⊥)
+
+other-number : (w u : Refusal) → (refusalNumber w ≡ refusalNumber u → ⊥) → w ≡ u → ⊥
+other-number w u h e = h (ap refusalNumber e)
+
+neither : (w : Refusal) (at : ℕ) → (w ≡ Short) ⊎ (w ≡ Place) → NeitherRunNorAlign (refuse w at)
+neither w at (inl e) = rw e (other-number Short Run (omega arith), other-number Short Align (omega arith))
+neither w at (inr e) = rw e (other-number Place Run (omega arith), other-number Place Align (omega arith))
+
+none-left : (f : Found) (m : ℕ) → m ≡ 0 → (b : List ℕ) (j : ℕ) → NeitherRunNorAlign (filled f m b j)
+unfolding filled
+none-left f zero z b j = tt
+none-left f (suc m) z b j = absurd (omega arith)
+
+module _ (mask set room n k : ℕ) (len : isLength n ≡ true) (few : k < rowCount n) (b : List ℕ) where
+  body-then : (m : Read (List ℕ)) → fractional mask k n b 8 ≡ m → ShortOrPlace m
+      → NeitherRunNorAlign (andThen m (λ s j. filled (record { tool = 11; samples = s; bits = j }) (fillFor j) b j))
+  body-then (whole s j) e h =
+      let end : 8 + bodyBits k n ≡ j = fractional-next mask k n b 8 e in
+      none-left (record { tool = 11; samples = s; bits = j }) (fillFor j) (rw end at (fractional-filled n k len few)) b j
+  body-then (refuse w at) e h = neither w at h
+
+  judged : (x y : Bool) → NeitherRunNorAlign (cond (not x) (fail (Tool 11) 0) (cond y (fail Room 0)
+      (fractional mask k n >>= (λ s. here >>= (λ bits. filled (record { tool = 11; samples = s; bits = bits }) (fillFor bits))))) b 8)
+  judged false y = (other-number (Tool 11) Run (omega arith), other-number (Tool 11) Align (omega arith))
+  judged true true = (other-number Room Run (omega arith), other-number Room Align (omega arith))
+  judged true false = body-then (fractional mask k n b 8) refl (fractional-refused mask k n b 8)
+
+  pub eleven-refused : NeitherRunNorAlign (withTool mask set room 11 n k b 8)
+  unfolding withTool body
+  eleven-refused = judged (holds set 11) (ltb room n)

@@ -11,6 +11,7 @@ pub mod Written
 pub mod Reach
 pub mod Further
 pub mod OldReader
+pub mod Before
 pub mod Stays
 pub mod Walks
 pub mod Refused
