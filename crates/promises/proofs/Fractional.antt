@@ -17,7 +17,7 @@ use Rattle.rules.specs.Refusals.{refusalNumber}
 use Rattle.rules.specs.Tools.{holds, isLength}
 use Rattle.rules.specs.Bits.{lowBits, fillFor}
 use Rattle.rules.specs.Reading.{Read, whole, refuse, andThen, _>>=_, fail, here, bit, numberFrom, number, filled}
-use Rattle.rules.specs.Fractional.{valuesAt, rowCount, radix, groupOf, bitsFor, ofDigits, digitsOf, groupsFrom, groupsForm, placeIn, groupsAs, groupsFormAs, samplesAt, fractional, fractionalBody}
+use Rattle.rules.specs.Fractional.{valuesAt, rowCount, radix, groupOf, bitsFor, Packs, ofDigits, digitsOf, groupsFrom, groupsForm, placeIn, groupsAs, groupsFormAs, samplesAt, fractional, fractionalBody}
 use Rattle.rules.specs.Frame.{Found, body, withTool}
 use Rattle.rules.specs.Chooses.{fractionalRow, fractionalApplies}
 use Rattle.rules.proofs.Octets.{Below, below-take, below-drop, below-append, lowBits-below, none}
@@ -27,7 +27,7 @@ use Rattle.rules.proofs.Room.{length-most}
 use Rattle.rules.proofs.Gives.{no-refusal, same-place}
 use Rattle.rules.proofs.Accepted.{Steps, through, steps, number-next}
 use Rattle.rules.proofs.Firsts.{rows-few}
-use Rattle.rules.proofs.Fractional.{digits-back, digits-fit, Among, places-back, places-below, radix-range, length-samplesAt, Packs, packs-of}
+use Rattle.rules.proofs.Fractional.{digits-back, digits-fit, Among, places-back, places-below, radix-range, length-samplesAt, packs-of}
 use Rattle.rules.proofs.FrameRow.{row-low, row-among}
 use Rattle.promises.proofs.Back.{Back, back-give, back-bind, back-here, back-as, back-number}
 use Rattle.promises.proofs.Reach.{Near, near-give, near-fail, near-here, near-then, near-cond, near-more, near-numberFrom}

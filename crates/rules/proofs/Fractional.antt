@@ -2,13 +2,15 @@
 --   digits-back, digits-forth     g digits below R' and numbers below R'^g are one to one
 --   place-back                    a value's digit tells the value
 --   as-printed                    the rows are those of table 7-28 as it is printed
+--   values-told, sample-told      its values are those of (8-23) to (8-28)
 --   packs-of                      every R' of the table fits its bits, and every length is whole groups
 use Prim.Native.Nat.{ℕ, zero, suc, _+_, _*_, _-_, _^_, _/_, _%_, _≤_, _<_}
-use mathlib.Core.Path.{_≡_, refl, sym, ap, ap₂, _∙_}
+use mathlib.Core.Path.{_≡_, refl, sym, ap, ap₂, subst, _∙_}
 use mathlib.Core.List.{List, [], _∷_, _++_, map}
 use mathlib.Core.Bool.{Bool, true, false, cond, _&&_, _||_}
 use native.Mathlib.Omega.{arith}
-use native.Mathlib.Nat.{mod-lt, mod-eq-of-lt, mod-add-div, div-eq-of-lt, add-mul-div-left, add-mul-mod-self-left, div-lt-iff-lt-mul, pow-zero, pow-suc, mul-comm, zero-add}
+use native.Mathlib.Nat.{mod-lt, mod-eq-of-lt, mod-add-div, div-eq-of-lt, add-mul-div-left, add-mul-mod-self-left, div-lt-iff-lt-mul, pow-zero, pow-suc, mul-comm, zero-add, add-zero}
+use native.Mathlib.Decide.{ℕ-discrete}
 use borrow.Author.Tests.{eqb-true, leb-true}
 use lib.Arith.{digits-lt}
 use lib.Dec.{eqb, leb, ltb, lit≤}
@@ -16,7 +18,7 @@ use lib.IntN.{ℤ}
 use lib.ListN.{length, getD, length-map}
 use Rattle.rules.specs.Tools.{isLength}
 use Rattle.rules.specs.Samples.{sampleOf, onLine}
-use Rattle.rules.specs.Fractional.{valuesAt, firstCode, rowCount, radix, leastAt, greatestAt, groupOf, bitsFor, ofDigits, digitsOf, placeIn, samplesAt, Printed, table728}
+use Rattle.rules.specs.Fractional.{valuesAt, firstCode, rowCount, radix, leastAt, greatestAt, lowAt, belowAt, valueFor, groupOf, bitsFor, Packs, ofDigits, digitsOf, placeIn, samplesAt, Printed, table728}
 use Rattle.rules.proofs.Octets.{Below, none, more}
 use Rattle.rules.proofs.Tests.{and-left, and-right, allBelow-at, by-length}
 
@@ -120,17 +122,44 @@ pub length-samplesAt : (mask k : ℕ) → length (samplesAt mask k) ≡ radix k
 unfolding samplesAt
 length-samplesAt mask k = length-map (valuesAt k) (sampleOf mask)
 
--- g digits below r fit w bits, and n samples are whole groups
-pub record Packs (r g w n : ℕ) : Type 0 where
-  pub some : 2 ≤ r
-  pub few : r ≤ 6
-  pub group : 1 ≤ g
-  pub five : g ≤ 5
-  pub bits : w ≤ 13
-  pub fits : r ^ g ≤ 2 ^ w
-  pub whole : n / g * g ≡ n
-  pub room : n ≤ 320
+-- the values of a row, by (8-27) and (8-28)
+unfoldable pub counted : ℕ → ℕ → ℕ → ℕ → List ℤ
+counted low below d zero = []
+counted low below d (suc n) = valueFor low below d ∷ counted low below (d + 1) n
 
+abbrev EachBelow : (ℕ → Type 0) → ℕ → Type 0
+EachBelow P zero = Unit {0}
+EachBelow P (suc n) = P n × EachBelow P n
+
+each-below : (P : ℕ → Type 0) (n : ℕ) → EachBelow P n → (k : ℕ) → k < n → P k
+each-below P zero h k l = absurd (omega arith)
+each-below P (suc n) h k l = go (ℕ-discrete k n) (each-below P n (h .1) k)
+  where
+    go : Dec (k ≡ n) → (k < n → P k) → P k
+    go (yes e) later = subst P (sym e) (h .0)
+    go (no e) later = later (omega arith)
+
+pub values-told : (k : ℕ) → k < 12 → valuesAt k ≡ counted (lowAt k) (belowAt k) 0 (radix k)
+unfolding valuesAt counted
+values-told k h =
+    each-below (λ k. valuesAt k ≡ counted (lowAt k) (belowAt k) 0 (radix k)) 12
+    (refl, (refl, (refl, (refl, (refl, (refl, (refl, (refl, (refl, (refl, (refl, (refl, tt)))))))))))) k h
+
+counted-at : (f : ℤ → ℕ) (low below i n d : ℕ) → d < n → getD (map f (counted low below i n)) d 0 ≡ f (valueFor low below (i + d))
+unfolding counted
+counted-at f low below i zero d h = absurd (omega arith)
+counted-at f low below i (suc n) zero h = ap (λ (m : ℕ). f (valueFor low below m)) (sym (add-zero i))
+counted-at f low below i (suc n) (suc d) h =
+    counted-at f low below (i + 1) n d (omega arith) ∙ ap (λ (m : ℕ). f (valueFor low below m)) (let e : i + 1 + d ≡ i + suc d = omega arith in e)
+
+-- so of its samples
+pub sample-told : (mask k d : ℕ) → k < 12 → d < radix k → getD (samplesAt mask k) d 0 ≡ sampleOf mask (valueFor (lowAt k) (belowAt k) d)
+unfolding samplesAt
+sample-told mask k d h l =
+    ap (λ (vs : List ℤ). getD (map (sampleOf mask) vs) d 0) (values-told k h)
+    ∙ counted-at (sampleOf mask) (lowAt k) (belowAt k) 0 (radix k) d l ∙ ap (λ (n : ℕ). sampleOf mask (valueFor (lowAt k) (belowAt k) n)) (zero-add d)
+
+-- every R' of the table packs
 pub packs-of : (r n : ℕ) → 2 ≤ r → r ≤ 6 → n ≤ 320 → n % 40 ≡ 0 → Packs r (groupOf r) (bitsFor r) n
 unfolding groupOf bitsFor
 packs-of zero n h k a b = absurd (omega arith)

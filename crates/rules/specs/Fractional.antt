@@ -1,6 +1,7 @@
 -- Document 02, R-14: tool 11 (fractional-bit), by sections 7.11 and 8.9 of 001: table 7-28, the digits, and the body, as it is read and as it is written.
 -- The row of a frame hangs on its least and greatest, and stands in Chooses.
-use Prim.Native.Nat.{ℕ, zero, suc, _+_, _*_, _-_, _^_, _/_, _%_}
+use Prim.Native.Nat.{ℕ, zero, suc, _+_, _*_, _-_, _^_, _/_, _%_, _≤_}
+use mathlib.Core.Path.{_≡_}
 use mathlib.Core.List.{List, [], _∷_, _++_, map}
 use mathlib.Core.Bool.{Bool, true, false, cond, _||_}
 use lib.ListN.{length, getD, take, drop}
@@ -55,6 +56,23 @@ hasMinusOne (v ∷ vs) = eqb (onLine v) (onLine (negsuc 0)) || hasMinusOne vs
 abbrev pub minusAt : ℕ → Bool
 minusAt k = hasMinusOne (valuesAt k)
 
+-- What 8.9 determines of a row besides R': how far its least is below 0 (X_min), and how many of its values are below 0, one less where -1 is left
+-- out (the flag of 7-75). Of {0, 1} none are, whatever the flag: "the table decides"
+abbrev pub lowAt : ℕ → ℕ
+lowAt k = 128 - leastAt k
+
+abbrev pub belowAt : ℕ → ℕ
+belowAt k = lowAt k - cond (minusAt k) 0 1
+
+-- (7-77): the digit of a value; (8-23) to (8-28): the value of a digit. That these are the places of the table's values, from the least up, is proved
+-- (proofs/Fractional, `values-told`)
+abbrev pub digitFor : ℕ → ℕ → ℤ → ℕ
+digitFor low below (pos y) = below + y
+digitFor low below (negsuc y) = low - suc y
+
+abbrev pub valueFor : ℕ → ℕ → ℕ → ℤ
+valueFor low below d = cond (ltb d below) (negsuc (low - suc d)) (pos (d - below))
+
 -- Table 7-27: so many samples are coded together, and in so many bits. Where R' is 2 or 4 each one by itself, in 1 or 2 bits; else M = 5 of them
 -- as one V, in 8, 12 or 13.
 unfoldable pub groupOf : ℕ → ℕ
@@ -62,6 +80,17 @@ groupOf r = cond (eqb r 2 || eqb r 4) 1 5
 
 unfoldable pub bitsFor : ℕ → ℕ
 bitsFor r = cond (eqb r 2) 1 (cond (eqb r 4) 2 (cond (eqb r 3) 8 (cond (eqb r 5) 12 13)))
+
+-- so g digits below r fit w bits, and n samples are whole groups (proofs/Fractional, `packs-of`)
+pub record Packs (r g w n : ℕ) : Type 0 where
+  pub some : 2 ≤ r
+  pub few : r ≤ 6
+  pub group : 1 ≤ g
+  pub five : g ≤ 5
+  pub bits : w ≤ 13
+  pub fits : r ^ g ≤ 2 ^ w
+  pub whole : n / g * g ≡ n
+  pub room : n ≤ 320
 
 -- (7-78): V = l0 + l1 R' + .. + l4 R'^4; and the g digits of V, the lowest first
 unfoldable pub ofDigits : ℕ → List ℕ → ℕ
