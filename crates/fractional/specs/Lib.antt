@@ -1,2 +1,2 @@
--- The rows of tool 11 as the code has them.
+-- The samples of a row.
 pub mod Rows

@@ -1,14 +1,16 @@
 // The body of tool 11 (document 02, R-14; 001, section 8.9), read into a lent frame buffer.
 ghost use mathlib.Core.Path.{_≡_};
-ghost use mathlib.Core.List.{[], _∷_, map};
+ghost use mathlib.Core.List.{map};
 ghost use Prim.Native.Nat.{_+_, _*_, _^_, _/_, _%_, _≤_, _<_};
 ghost use lib.ListN.{length, getD};
 ghost use Rattle.rules.specs.Bits.{bitsOf};
 ghost use Rattle.rules.specs.Fractional.{Packs, digitsOf, groupsAs, groupsOf, fractional};
 ghost use Rattle.runs.specs.Flagged.{Put};
 ghost use Rattle.bodies.specs.Bodied.{FillsBody};
-ghost use Rattle.fractional.specs.Rows.{RowIs};
+ghost use Rattle.fractional.specs.Rows.{six};
 use bits::Outcome;
+use ranges::row_at;
+use ranges::sample_at;
 use rules::Refusal;
 
 // Division by each R', a constant, so that it is a product and a shift.
@@ -85,71 +87,19 @@ fn two_values(octets: &[u8], at: usize, n: usize, values: &[u8; 6], samples: &mu
     }
 }
 
-// A row: R', and its samples from the least up; what is past the last is plus zero.
-pub struct Row {
-    pub radix: usize,
-    pub values: [u8; 6],
-}
-
-fn row_with(radix: usize, a: u8, b: u8, c: u8, d: u8, e: u8, f: u8) -> Row
-    ensures { λ r. ⌜ (r .radix ≡ radix) × (r .values ≡ a ∷ (b ∷ (c ∷ (d ∷ (e ∷ (f ∷ [])))))) ⌝ }
+// The samples of a row's digits. Those past its last one are never looked at.
+fn values_of(mask: u8, low: usize, below: usize) -> [u8; 6]
+    requires { ⌜ (mask < 128) × (below ≤ low) × (low < 128) ⌝ }
+    ensures { λ r. ⌜ r ≡ six mask low below ⌝ }
 {
-    Row {
-        radix: radix,
-        values: [a, b, c, d, e, f],
-    }
-}
-
-// Table 7-28: the rows that 80 samples have too.
-fn first_rows(mask: u8, k: usize) -> Row
-    requires { ⌜ (mask < 128) × (k < 6) ⌝ }
-    ensures { λ r. ⌜ RowIs mask k r ⌝ }
-{
-    let p0 = law::sample_of(mask, 0);
-    let p1 = law::sample_of(mask, 1);
-    let n1 = law::sample_of(mask, -1);
-    let n2 = law::sample_of(mask, -2);
-    match k {
-        0 => row_with(2, p0, p1, p0, p0, p0, p0),
-        1 => row_with(4, n2, n1, p0, p1, p0, p0),
-        2 => row_with(2, n2, p0, p0, p0, p0, p0),
-        3 => row_with(3, n2, p0, p1, p0, p0, p0),
-        4 => row_with(3, n2, n1, p0, p0, p0, p0),
-        _ => row_with(3, n1, p0, p1, p0, p0, p0),
-    }
-}
-
-// The rows of 40 samples alone.
-fn last_rows(mask: u8, k: usize) -> Row
-    requires { ⌜ (mask < 128) × (6 ≤ k) × (k < 12) ⌝ }
-    ensures { λ r. ⌜ RowIs mask k r ⌝ }
-{
-    let p0 = law::sample_of(mask, 0);
-    let p1 = law::sample_of(mask, 1);
-    let p2 = law::sample_of(mask, 2);
-    let n1 = law::sample_of(mask, -1);
-    let n2 = law::sample_of(mask, -2);
-    let n3 = law::sample_of(mask, -3);
-    let n4 = law::sample_of(mask, -4);
-    match k {
-        6 => row_with(4, n3, n2, p0, p1, p0, p0),
-        7 => row_with(5, n2, n1, p0, p1, p2, p0),
-        8 => row_with(4, n2, p0, p1, p2, p0, p0),
-        9 => row_with(6, n3, n2, n1, p0, p1, p2),
-        10 => row_with(5, n3, n2, p0, p1, p2, p0),
-        _ => row_with(6, n4, n3, n2, p0, p1, p2),
-    }
-}
-
-// Row k of table 7-28.
-pub fn row_at(mask: u8, k: usize) -> Row
-    requires { ⌜ (mask < 128) × (k < 12) ⌝ }
-    ensures { λ r. ⌜ RowIs mask k r ⌝ }
-{
-    if k < 6 {
-        return first_rows(mask, k);
-    }
-    last_rows(mask, k)
+    [
+        sample_at(mask, low, below, 0),
+        sample_at(mask, low, below, 1),
+        sample_at(mask, low, below, 2),
+        sample_at(mask, low, below, 3),
+        sample_at(mask, low, below, 4),
+        sample_at(mask, low, below, 5),
+    ]
 }
 
 // n samples by R'. "R' = 2 and 4: 1 and 2 bits a sample. R' = 3, 5, 6: five samples in 8, 12, 13 bits."
@@ -185,7 +135,7 @@ pub fn body(
     requires { ⌜ (at ≤ 2 ^ 37) × (n ≤ 320) × (n % 40 ≡ 0) × (k < 12) × (mask < 128) × (length (now samples) ≡ 320) ⌝ }
     ensures { λ o. ⌜ FillsBody (fractional mask k n (bitsOf (now (octets .entry))) at) (at + 4160) (now (samples .entry)) (now (samples .exit)) o ⌝ }
 {
-    let row = row_at(mask, k);
-    let r = row.radix;
-    by_radix(octets, at, n, r, &row.values, samples)
+    let row = row_at(k);
+    let values = values_of(mask, row.low, row.below);
+    by_radix(octets, at, n, row.radix, &values, samples)
 }
