@@ -22,7 +22,7 @@ use Rattle.rules.specs.Runs.{zerosFrom, rice, runsFrom}
 use Rattle.rules.specs.Zeros.{Tree, leaf, fork, treeOf, readTree, zeroOf}
 use Rattle.rules.specs.Located.{widthOf, listedFrom, listed, byMethod, emptyIn, lay, valuesInto, valuesOf, located}
 use Rattle.rules.specs.First.{First, unassigned, pad, tool, sixOrEight, firstOctet, markAt, sixNotEight}
-use Rattle.rules.specs.Fractional.{radix, groupOf, bitsFor, digitsOf, groupsFrom, groupsAs, samplesAt, fractional}
+use Rattle.rules.specs.Fractional.{radix, groupOf, bitsFor, bodyBits, digitsOf, groupsFrom, groupsAs, samplesAt, fractional}
 use Rattle.rules.specs.Frame.{Found, body, withTool, rowIn, afterFirst, frame, readOne}
 use Rattle.rules.specs.Walk.{Walked, stopped, walkAll, samplesKept}
 use Rattle.rules.proofs.Octets.{Below, none, bitsOf-below, length-bitsOf}
@@ -35,7 +35,7 @@ use Rattle.rules.proofs.Signed.{LawMask, law-mask}
 use Rattle.rules.proofs.Room.{length-most}
 use Rattle.rules.proofs.Gives.{no-refusal}
 use Rattle.promises.proofs.Reach.{near-bit, near-more, near-numberFrom}
-use Rattle.promises.proofs.Fractional.{bodyBits, body-bits-most, near-groups}
+use Rattle.promises.proofs.Fractional.{body-bits-most, near-groups}
 use Rattle.promises.proofs.Rows.{few-values}
 use Rattle.promises.proofs.Methods.{ones}
 use Rattle.promises.proofs.Bounded.{Costs, costs-near, near-bitsFrom, costs-rice, costs-runs, costs-method, width-most, depth, near-tree, tree-depth, tree-leaves, costs-six, costs-other, plain}

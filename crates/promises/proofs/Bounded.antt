@@ -19,7 +19,7 @@ use Rattle.rules.specs.Samples.{maskOf, sampleOf, plusZero, minusZero}
 use Rattle.rules.specs.Runs.{zerosFrom, rice, riceForm, runsFrom, runsOf, riceForms}
 use Rattle.rules.specs.Zeros.{Tree, leaf, fork, treeOf, readTree, zeroOf, flagOf, codesOf, codeOf, mostS, plusMinus, plusMinusForm}
 use Rattle.rules.specs.First.{baseOf, riceCode, First, unassigned, pad, tool, sixOrEight, rows, lookUp, firstOctet, markAt, sixNotEight}
-use Rattle.rules.specs.Fractional.{firstCode, rowCount}
+use Rattle.rules.specs.Fractional.{firstCode, rowCount, bodyBits}
 use Rattle.rules.specs.Frame.{Found, octetsUsed, body, withTool, rowIn, afterFirst, frame, readOne}
 use Rattle.rules.specs.Located.{widthFrom, widthOf, listedFrom, listed, byMethod, emptyIn, lay, valuesInto, valuesOf, located}
 use Rattle.rules.specs.Chooses.{countOf}
@@ -41,7 +41,7 @@ use Rattle.rules.proofs.Room.{length-most}
 use Rattle.rules.proofs.Firsts.{isCode, asWritten, first-as-written}
 use Rattle.rules.proofs.Gives.{no-refusal, same-place, same-value}
 use Rattle.promises.proofs.Reach.{Near, near-fail, near-give, near-here, near-bit, near-then, near-cond, near-more, near-numberFrom}
-use Rattle.promises.proofs.Fractional.{bodyBits, body-bits-most, near-fractional, fractional-most}
+use Rattle.promises.proofs.Fractional.{body-bits-most, near-fractional, fractional-most}
 
 -- A reading's cost by what it gives: from place i to j, with c saved up and k of the value left, j + c is at most i + k
 pub record Costs {A : Type 0} (c : ℕ) (k : A → ℕ) (p : Reader A) : Type 0 where

@@ -17,7 +17,7 @@ use Rattle.rules.specs.Refusals.{refusalNumber}
 use Rattle.rules.specs.Tools.{holds, isLength}
 use Rattle.rules.specs.Bits.{lowBits, fillFor}
 use Rattle.rules.specs.Reading.{Read, whole, refuse, andThen, _>>=_, fail, here, bit, numberFrom, number, filled}
-use Rattle.rules.specs.Fractional.{valuesAt, rowCount, radix, groupOf, bitsFor, Packs, ofDigits, digitsOf, groupsFrom, groupsForm, placeIn, groupsAs, groupsFormAs, samplesAt, fractional, fractionalBody}
+use Rattle.rules.specs.Fractional.{valuesAt, rowCount, radix, groupOf, bitsFor, bodyBits, Packs, ofDigits, digitsOf, groupsFrom, groupsForm, placeIn, groupsAs, groupsFormAs, samplesAt, fractional, fractionalBody}
 use Rattle.rules.specs.Frame.{Found, body, withTool}
 use Rattle.rules.specs.Chooses.{fractionalRow, fractionalApplies}
 use Rattle.rules.proofs.Octets.{Below, below-take, below-drop, below-append, lowBits-below, none}
@@ -89,10 +89,6 @@ near-groups r g w done (suc m) =
     near-more (0 + (w + w * m)) (w * suc m) (omega (arith, mul-suc w m))
     (near-then 0 (w + w * m) near-here (λ start. near-then w (w * m) (near-numberFrom 0 w) (λ v.
     near-cond (w * m) (ltb v (r ^ g)) (near-groups r g w (done ++ digitsOf r g v) m) (near-fail (w * m) Place start))))
-
--- the bits of the body of row k
-abbrev pub bodyBits : ℕ → ℕ → ℕ
-bodyBits k n = bitsFor (radix k) * (n / groupOf (radix k))
 
 pub near-fractional : (mask k n : ℕ) → Near (bodyBits k n) (fractional mask k n)
 unfolding groupsAs

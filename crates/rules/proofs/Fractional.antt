@@ -9,17 +9,18 @@ use mathlib.Core.Path.{_≡_, refl, sym, ap, ap₂, subst, _∙_}
 use mathlib.Core.List.{List, [], _∷_, _++_, map}
 use mathlib.Core.Bool.{Bool, true, false, cond, _&&_, _||_}
 use native.Mathlib.Omega.{arith}
-use native.Mathlib.Nat.{mod-lt, mod-eq-of-lt, mod-add-div, div-eq-of-lt, add-mul-div-left, add-mul-mod-self-left, div-lt-iff-lt-mul, pow-zero, pow-suc, mul-comm, zero-add, add-zero}
+use native.Mathlib.Nat.{mod-lt, mod-eq-of-lt, mod-add-div, div-eq-of-lt, add-mul-div-left, add-mul-mod-self-left, div-lt-iff-lt-mul, pow-zero, pow-suc, mul-comm, mul-suc, zero-add, add-zero}
 use native.Mathlib.Decide.{ℕ-discrete}
 use borrow.Author.Tests.{eqb-true, leb-true}
 use lib.Arith.{digits-lt}
 use lib.Dec.{eqb, leb, ltb, lit≤}
 use lib.IntN.{ℤ}
-use lib.ListN.{length, getD, length-map}
+use lib.ListN.{length, getD, take, drop, length-map, length-append}
 use Rattle.rules.specs.Tools.{isLength}
 use Rattle.rules.specs.Samples.{sampleOf, onLine}
-use Rattle.rules.specs.Fractional.{valuesAt, firstCode, rowCount, radix, leastAt, greatestAt, lowAt, belowAt, valueFor, groupOf, bitsFor, Packs, ofDigits, digitsOf, placeIn, samplesAt, Printed, table728}
-use Rattle.rules.proofs.Octets.{Below, none, more}
+use Rattle.rules.specs.Fractional.{valuesAt, firstCode, rowCount, radix, leastAt, greatestAt, lowAt, belowAt, valueFor, groupOf, bitsFor, bodyBits, Packs, ofDigits, digitsOf, placeIn, groupsForm, groupsFormAs, samplesAt, fractionalBody, Printed, table728}
+use Rattle.rules.specs.Bits.{lowBits}
+use Rattle.rules.proofs.Octets.{Below, none, more, length-lowBits}
 use Rattle.rules.proofs.Tests.{and-left, and-right, allBelow-at, by-length}
 
 -- digits
@@ -175,6 +176,17 @@ packs-of (suc (suc (suc (suc (suc zero))))) n h k a b =
 packs-of (suc (suc (suc (suc (suc (suc zero)))))) n h k a b =
     record { some = h; few = k; group = omega arith; five = omega arith; bits = omega arith; fits = lit≤ tt; whole = omega arith; room = a }
 packs-of (suc (suc (suc (suc (suc (suc (suc r))))))) n h k a b = absurd (omega arith)
+
+-- the bits of a body
+length-groups : (r g w m : ℕ) (ds : List ℕ) → length (groupsForm r g w m ds) ≡ w * m
+unfolding groupsForm
+length-groups r g w zero ds = omega arith
+length-groups r g w (suc m) ds =
+    length-append (lowBits w (ofDigits r (take g ds))) (groupsForm r g w m (drop g ds)) ∙ omega (arith, length-lowBits w (ofDigits r (take g ds)), length-groups r g w m (drop g ds), mul-suc w m)
+
+pub length-body : (mask k : ℕ) (s : List ℕ) → length (fractionalBody mask k s) ≡ bodyBits k (length s)
+unfolding groupsFormAs
+length-body mask k s = length-groups (radix k) (groupOf (radix k)) (bitsFor (radix k)) (length s / groupOf (radix k)) (map (placeIn (samplesAt mask k)) s)
 
 -- every length is whole groups, of whatever R'
 pub groups-whole : (r n : ℕ) → isLength n ≡ true → n / groupOf r * groupOf r ≡ n

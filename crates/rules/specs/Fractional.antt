@@ -81,6 +81,10 @@ groupOf r = cond (eqb r 2 || eqb r 4) 1 5
 unfoldable pub bitsFor : ℕ → ℕ
 bitsFor r = cond (eqb r 2) 1 (cond (eqb r 4) 2 (cond (eqb r 3) 8 (cond (eqb r 5) 12 13)))
 
+-- "Number of output bits per frame" of row k
+abbrev pub bodyBits : ℕ → ℕ → ℕ
+bodyBits k n = bitsFor (radix k) * (n / groupOf (radix k))
+
 -- so g digits below r fit w bits, and n samples are whole groups (proofs/Fractional, `packs-of`)
 pub record Packs (r g w n : ℕ) : Type 0 where
   pub some : 2 ≤ r
