@@ -35,7 +35,8 @@ use Rattle.rules.proofs.Signed.{LawMask, law-mask}
 use Rattle.rules.proofs.Room.{length-most}
 use Rattle.rules.proofs.Gives.{no-refusal}
 use Rattle.promises.proofs.Reach.{near-bit, near-more, near-numberFrom}
-use Rattle.promises.proofs.Fractional.{body-bits-most, near-groups}
+use Rattle.rules.proofs.Fractional.{body-bits-most}
+use Rattle.promises.proofs.Fractional.{near-groups}
 use Rattle.promises.proofs.Rows.{few-values}
 use Rattle.promises.proofs.Methods.{ones}
 use Rattle.promises.proofs.Bounded.{Costs, costs-near, near-bitsFrom, costs-rice, costs-runs, costs-method, width-most, depth, near-tree, tree-depth, tree-leaves, costs-six, costs-other, plain}

@@ -41,7 +41,8 @@ use Rattle.rules.proofs.Room.{length-most}
 use Rattle.rules.proofs.Firsts.{isCode, asWritten, first-as-written}
 use Rattle.rules.proofs.Gives.{no-refusal, same-place, same-value}
 use Rattle.promises.proofs.Reach.{Near, near-fail, near-give, near-here, near-bit, near-then, near-cond, near-more, near-numberFrom}
-use Rattle.promises.proofs.Fractional.{body-bits-most, near-fractional, fractional-most}
+use Rattle.rules.proofs.Fractional.{body-bits-most}
+use Rattle.promises.proofs.Fractional.{near-fractional, fractional-most}
 
 -- A reading's cost by what it gives: from place i to j, with c saved up and k of the value left, j + c is at most i + k
 pub record Costs {A : Type 0} (c : ℕ) (k : A → ℕ) (p : Reader A) : Type 0 where

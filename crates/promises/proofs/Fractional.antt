@@ -98,18 +98,6 @@ near-fractional mask k n =
     near-more (most + 0) most (omega arith)
     (near-then most 0 (near-groups (radix k) g (bitsFor (radix k)) [] (n / g)) (λ digits. near-give (map (λ d. getD (samplesAt mask k) d 0) digits)))
 
--- of whatever mark: 832 bits at most
-pub body-bits-most : (k n : ℕ) → n ≤ 320 → bodyBits k n ≤ 832
-unfolding groupOf bitsFor
-body-bits-most k n small = go (eqb (radix k) 2) (eqb (radix k) 4) (eqb (radix k) 3) (eqb (radix k) 5)
-  where
-    go : (a b c d : Bool) → cond a 1 (cond b 2 (cond c 8 (cond d 12 13))) * (n / cond (a || b) 1 5) ≤ 832
-    go true b c d = omega (arith, small)
-    go false true c d = omega (arith, small)
-    go false false true d = omega (arith, small)
-    go false false false true = omega (arith, small)
-    go false false false false = omega (arith, small)
-
 -- of a row of the length: 640 at most, 80 octets, and whole ones
 abbrev rowWhole : ℕ → ℕ → Bool
 rowWhole n k = not (ltb k (rowCount n)) || leb (bodyBits k n) 640

@@ -188,6 +188,18 @@ pub length-body : (mask k : ℕ) (s : List ℕ) → length (fractionalBody mask 
 unfolding groupsFormAs
 length-body mask k s = length-groups (radix k) (groupOf (radix k)) (bitsFor (radix k)) (length s / groupOf (radix k)) (map (placeIn (samplesAt mask k)) s)
 
+-- of whatever row: 832 bits at most
+pub body-bits-most : (k n : ℕ) → n ≤ 320 → bodyBits k n ≤ 832
+unfolding groupOf bitsFor
+body-bits-most k n small = go (eqb (radix k) 2) (eqb (radix k) 4) (eqb (radix k) 3) (eqb (radix k) 5)
+  where
+    go : (a b c d : Bool) → cond a 1 (cond b 2 (cond c 8 (cond d 12 13))) * (n / cond (a || b) 1 5) ≤ 832
+    go true b c d = omega (arith, small)
+    go false true c d = omega (arith, small)
+    go false false true d = omega (arith, small)
+    go false false false true = omega (arith, small)
+    go false false false false = omega (arith, small)
+
 -- every length is whole groups, of whatever R'
 pub groups-whole : (r n : ℕ) → isLength n ≡ true → n / groupOf r * groupOf r ≡ n
 unfolding groupOf
