@@ -1,20 +1,31 @@
 -- Laws of each tool's offer.
 use Prim.Native.Nat.{ℕ, _+_, _*_, _≤_, _<_}
-use mathlib.Core.Path.{_≡_, refl, sym, ap, _∙_}
+use mathlib.Core.Path.{_≡_, refl, sym, ap, ap₂, _∙_}
 use mathlib.Core.List.{List}
 use mathlib.Core.Bool.{Bool, true, false, cond, _&&_}
 use native.Mathlib.Omega.{arith}
 use borrow.Author.Tests.{ne-eqb, lt-leb, le-leb, lt-ltb, le-ltb}
-use lib.ListN.{length, getD}
+use lib.ListN.{length, getD, length-append}
 use lib.Dec.{eqb, leb, ltb}
-use Rattle.rules.specs.Tools.{holds}
+use Rattle.rules.specs.Tools.{isTool, holds}
+use Rattle.rules.proofs.Tests.{by-tool}
 use Rattle.rules.specs.Samples.{plusZero, minusZero}
-use Rattle.rules.specs.Chooses.{every, rowOf, applies, formOf, riceChoice, locatedForm, leastOf, greatestOf}
+use Rattle.rules.specs.Chooses.{every, rowOf, applies, formOf, riceChoice, locatedForm, fractionalRow, fractionalForm, leastOf, greatestOf}
+use Rattle.rules.specs.Bits.{lowBits}
+use Rattle.rules.specs.Fractional.{firstCode, rowCount, bodyBits, fractionalBody}
+use Rattle.rules.proofs.Octets.{length-lowBits}
+use Rattle.rules.proofs.Fractional.{length-body}
 use Rattle.look.specs.Looks.{near}
 use Rattle.locating.proofs.Near.{row-near}
 use Rattle.offers.specs.declared.Offer.{Offer}
 use Rattle.offers.specs.Offers.{failing, OfferIs, offerIf}
 use Rattle.offers.proofs.Choosing.{uncompressed-bits, plus-bits, minus-bits, constant-bits}
+
+-- a tool that is not 11
+pub low-tool : (t : ℕ) → isTool t ≡ true → (t ≡ 11 → ⊥) → (1 ≤ t) × (t ≤ 7)
+low-tool t h =
+    by-tool (λ t. (t ≡ 11 → ⊥) → (1 ≤ t) × (t ≤ 7)) (λ z. (omega arith, omega arith)) (λ z. (omega arith, omega arith)) (λ z. (omega arith, omega arith)) (λ z. (omega arith, omega arith))
+    (λ z. (omega arith, omega arith)) (λ z. (omega arith, omega arith)) (λ z. (omega arith, omega arith)) (λ z. absurd (z refl)) t h
 
 pub offer-as : {mask t u : ℕ} {s : List ℕ} {r : Offer} → u ≡ t → OfferIs mask t s r → OfferIs mask u s r
 offer-as e p = rw e p
@@ -24,13 +35,13 @@ pub met : (mask t : ℕ) (s : List ℕ) {b : ℕ} {r : Offer} → applies mask t
 unfolding failing
 met mask t s e f few told = rw told (record { why = rw e; bits = f ∙ rw e; small = few })
 
-pub unmet : (mask t : ℕ) (s : List ℕ) {r : Offer} → t ≤ 6 → applies mask t s ≡ false → r ≡ record { why = 1; bits = 0 } → OfferIs mask t s r
+pub unmet : (mask t : ℕ) (s : List ℕ) {r : Offer} → (t ≡ 7 → ⊥) → applies mask t s ≡ false → r ≡ record { why = 1; bits = 0 } → OfferIs mask t s r
 unfolding failing
-unmet mask t s low e told = rw told (record { why = rw (e, ne-eqb t 7 (λ z. omega arith)); bits = rw e; small = omega arith })
+unmet mask t s other e told = rw told (record { why = rw (e, ne-eqb t 7 other); bits = rw e; small = omega arith })
 
 pub offer-one : (mask t : ℕ) (s : List ℕ) {a : Bool} {b : ℕ} {r : Offer} → t ≤ 6 → applies mask t s ≡ a → b ≡ length (formOf mask t s) → b ≤ 1000000000 → r ≡ offerIf a b → OfferIs mask t s r
 offer-one mask t s {a = true} low e f few told = met mask t s e f few told
-offer-one mask t s {a = false} low e f few told = unmet mask t s low e told
+offer-one mask t s {a = false} low e f few told = unmet mask t s (λ z. omega arith) e told
 
 -- tools 1 to 4
 module _ (mask : ℕ) (s : List ℕ) where
@@ -58,6 +69,28 @@ module _ (mask : ℕ) (s : List ℕ) where
   pub rice-held : holds 32 6 ≡ true
   unfolding holds
   rice-held = refl
+
+  -- tool 11
+  module _ {n : ℕ} (size : length s ≡ n) {k : ℕ} (row : k ≡ fractionalRow mask s) where
+    pub fractional-form : 8 + bodyBits k n ≡ length (formOf mask 11 s)
+    unfolding formOf fractionalForm
+    fractional-form =
+        rw (row, ← size) (sym (length-append (lowBits 8 (firstCode (length s) + fractionalRow mask s)) (fractionalBody mask (fractionalRow mask s) s)
+        ∙ ap₂ _+_ (length-lowBits 8 (firstCode (length s) + fractionalRow mask s)) (length-body mask (fractionalRow mask s) s)))
+
+    pub row-applies : k < rowCount n → applies mask 11 s ≡ true
+    unfolding applies
+    row-applies h = rw (← row, size) (lt-ltb k (rowCount n) h)
+
+    pub row-unmet : rowCount n ≤ k → applies mask 11 s ≡ false
+    unfolding applies
+    row-unmet h = rw (← row, size) (le-ltb k (rowCount n) h)
+
+    pub fractional-offer : {b : ℕ} {r : Offer} → k < rowCount n → b ≡ 8 + bodyBits k n → b ≤ 840 → r ≡ record { why = 0; bits = b } → OfferIs mask 11 s r
+    fractional-offer h e few told = met mask 11 s (row-applies h) (e ∙ fractional-form) (omega arith) told
+
+    pub no-row-offer : {r : Offer} → rowCount n ≤ k → r ≡ record { why = 1; bits = 0 } → OfferIs mask 11 s r
+    no-row-offer h told = unmet mask 11 s (λ z. omega arith) (row-unmet h) told
 
   -- value-location by its conditions in turn: the length, the row, the frequency of 0
   pub located-form : length (locatedForm mask s) ≡ length (formOf mask 7 s)
