@@ -1,22 +1,25 @@
 -- Laws of each tool's offer.
 use Prim.Native.Nat.{ℕ, _+_, _*_, _≤_, _<_}
 use mathlib.Core.Path.{_≡_, refl, sym, ap, ap₂, _∙_}
+use mathlib.Core.Logic.{_⊎_, inl, inr}
 use mathlib.Core.List.{List}
 use mathlib.Core.Bool.{Bool, true, false, cond, _&&_}
 use native.Mathlib.Omega.{arith}
-use borrow.Author.Tests.{ne-eqb, lt-leb, le-leb, lt-ltb, le-ltb}
+use borrow.Author.Tests.{ne-eqb, eqb-true, lt-leb, le-leb, lt-ltb, le-ltb}
 use lib.ListN.{length, getD, length-append}
 use lib.Dec.{eqb, leb, ltb}
 use Rattle.rules.specs.Tools.{isTool, holds}
 use Rattle.rules.proofs.Tests.{by-tool}
 use Rattle.rules.specs.Samples.{plusZero, minusZero}
-use Rattle.rules.specs.Chooses.{every, rowOf, applies, formOf, riceChoice, locatedForm, fractionalRow, fractionalForm, leastOf, greatestOf}
+use Rattle.rules.specs.Chooses.{every, rowOf, applies, formOf, riceChoice, locatedForm, fractionalRow, fractionalApplies, fractionalForm, leastOf, greatestOf}
 use Rattle.rules.specs.Bits.{lowBits}
 use Rattle.rules.specs.Fractional.{firstCode, rowCount, bodyBits, fractionalBody}
 use Rattle.rules.proofs.Octets.{length-lowBits}
 use Rattle.rules.proofs.Fractional.{length-body}
-use Rattle.look.specs.Looks.{near}
-use Rattle.locating.proofs.Near.{row-near}
+use Rattle.look.specs.Looks.{nearBy, near, twoZeros}
+use Rattle.look.proofs.Tests.{never}
+use Rattle.rules.proofs.FrameRow.{row-extent}
+use Rattle.locating.proofs.Near.{row-near, zeros-near}
 use Rattle.offers.specs.declared.Offer.{Offer}
 use Rattle.offers.specs.Offers.{failing, OfferIs, offerIf}
 use Rattle.offers.proofs.Choosing.{uncompressed-bits, plus-bits, minus-bits, constant-bits}
@@ -116,3 +119,26 @@ module _ (mask : ℕ) (s : List ℕ) where
     unfolding failing
     rare-offer h g off told =
         rw told (record { why = rw (off, le-leb 80 (length s) (omega arith), lt-ltb (rowOf mask s) 4 g); bits = rw off; small = omega arith })
+
+-- frames that have no row: one with a sample below -4 or above 3, and one of the two zeros
+pub far-unrowed : (mask : ℕ) (s : List ℕ) → nearBy 4 (leastOf mask s) (greatestOf mask s) ≡ false → applies mask 11 s ≡ false
+unfolding applies
+far-unrowed mask s far = go (fractionalApplies mask s) refl
+  where
+    go : (b : Bool) → fractionalApplies mask s ≡ b → b ≡ false
+    go true e =
+        let r = row-extent mask s e in
+        absurd (never (sym far ∙ rw (le-leb 124 (leastOf mask s) (r .low), le-leb (greatestOf mask s) 131 (omega (arith, r .high))) refl))
+    go false e = refl
+
+pub zeros-unrowed : (mask : ℕ) → mask < 128 → (s : List ℕ) → twoZeros mask s ≡ true → applies mask 11 s ≡ false
+unfolding applies
+zeros-unrowed mask m s e = go (fractionalApplies mask s) refl
+  where
+    go : (b : Bool) → fractionalApplies mask s ≡ b → b ≡ false
+    go true f = either (row-extent mask s f .wide)
+      where
+        either : leastOf mask s < 127 ⊎ 128 < greatestOf mask s → true ≡ false
+        either (inl h) = absurd (let i = zeros-near mask m s (eqb-true _ _ e) in omega (arith, i .0))
+        either (inr h) = absurd (let i = zeros-near mask m s (eqb-true _ _ e) in omega (arith, i .1))
+    go false f = refl

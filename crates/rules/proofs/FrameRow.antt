@@ -1,17 +1,18 @@
--- The row of a frame (specs/Chooses, tool 11): a frame that has a row is made of the row's values (`row-among`).
+-- The row of a frame (specs/Chooses, tool 11): a frame that has a row is made of the row's values (`row-among`), and lies within it (`row-extent`).
 use Prim.Native.Nat.{ℕ, zero, suc, _+_, _≤_, _<_, min, max}
 use mathlib.Core.Path.{_≡_, refl, sym, ap, _∙_}
+use mathlib.Core.Logic.{_⊎_, inl, inr}
 use mathlib.Core.List.{List, [], _∷_, map}
 use mathlib.Core.Bool.{Bool, true, false, cond, not, _&&_, _||_, false≢true}
 use native.Mathlib.Omega.{arith}
-use borrow.Author.Tests.{eqb-true, eqb-false, le-leb, ne-eqb}
-use lib.Dec.{eqb, leb, lit<}
+use borrow.Author.Tests.{eqb-true, eqb-false, le-leb, leb-true, ltb-true, ne-eqb}
+use lib.Dec.{eqb, leb, ltb, lit<}
 use lib.IntN.{ℤ, pos, negsuc}
 use lib.ListN.{length}
 use Rattle.rules.specs.Tools.{isLength}
 use Rattle.rules.specs.Samples.{signed, sampleOf, minusZero, onLine}
 use Rattle.rules.specs.Fractional.{valuesAt, rowCount, leastAt, greatestAt, minusAt, placeIn, samplesAt}
-use Rattle.rules.specs.Chooses.{countOf, leastOf, greatestOf, minusOccurs, sameTest, isRowOf, rowFrom, fractionalRow}
+use Rattle.rules.specs.Chooses.{countOf, leastOf, greatestOf, minusOccurs, sameTest, isRowOf, rowFrom, fractionalRow, fractionalApplies}
 use Rattle.rules.proofs.Octets.{Below, none, more}
 use Rattle.rules.proofs.Tests.{and-left, and-right, or-cases, allBelow, allBelow-at}
 use Rattle.rules.proofs.Signed.{InRange, LawMask, signed-range, told-by-line}
@@ -129,3 +130,52 @@ row-among {mask} l s len b h =
     let v : has ≡ true = and-right (low && high) has t in
     among l k (row-low mask s len h) b (omega arith) (omega arith)
     (λ z. eqb-true _ _ (not-zero (eqb (countOf (λ x. eqb x (minusZero mask)) s) 0) (same-none (minusOccurs mask s) (minusAt k) v z)))
+
+-- a frame that has a row lies within it: from -4 to 2, and past the two zeros
+pub record Rowed (mask : ℕ) (s : List ℕ) : Type 0 where
+  pub low : 124 ≤ leastOf mask s
+  pub high : greatestOf mask s ≤ 130
+  pub apart : leastOf mask s + 2 ≤ greatestOf mask s + 1
+  pub wide : leastOf mask s < 127 ⊎ 128 < greatestOf mask s
+
+abbrev rowWide : ℕ → Bool
+rowWide k = leb 124 (leastAt k) && leb (greatestAt k) 130 && ltb (leastAt k) (greatestAt k) && (ltb (leastAt k) 127 || ltb 128 (greatestAt k))
+
+rows-wide : allBelow rowWide 12 ≡ true
+unfolding valuesAt
+rows-wide = refl
+
+most-rows : (n : ℕ) → rowCount n ≤ 12
+unfolding rowCount
+most-rows n = go (eqb n 40) (eqb n 80)
+  where
+    go : (a b : Bool) → cond a 12 (cond b 6 4) ≤ 12
+    go true b = omega arith
+    go false true = omega arith
+    go false false = omega arith
+
+pub row-extent : (mask : ℕ) (s : List ℕ) → fractionalApplies mask s ≡ true → Rowed mask s
+row-extent mask s a =
+    let h = ltb-true (fractionalRow mask s) (rowCount (length s)) a in
+    let k = fractionalRow mask s in
+    let low : Bool = eqb (leastOf mask s) (leastAt k) in
+    let high : Bool = eqb (greatestOf mask s) (greatestAt k) in
+    let has : Bool = sameTest (minusOccurs mask s) (minusAt k) in
+    let t : low && high && has ≡ true = found-row mask s h in
+    let u : low && high ≡ true = and-left (low && high) has t in
+    let e : leastOf mask s ≡ leastAt k = eqb-true _ _ (and-left low high u) in
+    let f : greatestOf mask s ≡ greatestAt k = eqb-true _ _ (and-right low high u) in
+    let p : Bool = leb 124 (leastAt k) in
+    let q : Bool = leb (greatestAt k) 130 in
+    let r : Bool = ltb (leastAt k) (greatestAt k) in
+    let v : Bool = ltb (leastAt k) 127 || ltb 128 (greatestAt k) in
+    let w : p && q && r && v ≡ true = allBelow-at rowWide 12 rows-wide k (omega (arith, most-rows (length s))) in
+    let pqr = and-left (p && q && r) v w in
+    let pq = and-left (p && q) r pqr in
+    record {
+      low = omega (arith, leb-true 124 (leastAt k) (and-left p q pq));
+      high = omega (arith, leb-true (greatestAt k) 130 (and-right p q pq));
+      apart = omega (arith, ltb-true (leastAt k) (greatestAt k) (and-right (p && q) r pqr));
+      wide = or-cases (leastOf mask s < 127 ⊎ 128 < greatestOf mask s) (ltb (leastAt k) 127) (ltb 128 (greatestAt k)) (and-right (p && q && r) v w)
+          (λ x. inl (omega (arith, ltb-true (leastAt k) 127 x))) (λ x. inr (omega (arith, ltb-true 128 (greatestAt k) x)));
+    }
