@@ -17,7 +17,7 @@ use Rattle.bodies.specs.Bodied.{FillsBody}
 use Rattle.bodies.proofs.Poured.{fills-put, fills-refused}
 use Rattle.rules.specs.Fractional.{digitsOf, groupsFrom, groupsAs}
 use Rattle.rules.specs.Fractional.{Packs}
-use Rattle.rules.proofs.Fractional.{length-digits}
+use Rattle.rules.proofs.Fractional.{length-digits, group-fits}
 
 pub record Filling (values bits : List ℕ) (at r g w n : ℕ) (old new : List ℕ) (filled place : ℕ) : Type 0 where
   pub done : List ℕ
@@ -33,11 +33,6 @@ pub filling-none : (values bits : List ℕ) (at : ℕ) {r g w n : ℕ} (old : Li
     → Filling values bits at r g w n old old 0 at
 filling-none values bits at {r} {g} {w} {n} old p h =
     record { done = []; more = n / g; says = refl; size = refl; left = zero-add _ ∙ p .whole; put = put-none old 0; room = h; near = omega arith }
-
--- a group is left
-pub group-fits : (more filled g n : ℕ) → filled + more * g ≡ n → filled < n → filled + g ≤ n
-group-fits zero filled g n e h = absurd (omega (arith, zero-mul g))
-group-fits (suc m) filled g n e h = omega (arith, suc-mul m g)
 
 module _ (values bits : List ℕ) (at r g w n filled place : ℕ) where
   refused-at : (more : ℕ) (done : List ℕ) → groupsFrom r g w [] (n / g) bits at ≡ groupsFrom r g w done more bits place → filled + more * g ≡ n → filled < n

@@ -9,7 +9,7 @@ use mathlib.Core.Path.{_≡_, refl, sym, ap, ap₂, subst, _∙_}
 use mathlib.Core.List.{List, [], _∷_, _++_, map}
 use mathlib.Core.Bool.{Bool, true, false, cond, _&&_, _||_}
 use native.Mathlib.Omega.{arith}
-use native.Mathlib.Nat.{mod-lt, mod-eq-of-lt, mod-add-div, div-eq-of-lt, add-mul-div-left, add-mul-mod-self-left, div-lt-iff-lt-mul, pow-zero, pow-suc, mul-comm, mul-suc, zero-add, add-zero}
+use native.Mathlib.Nat.{mod-lt, mod-eq-of-lt, mod-add-div, div-eq-of-lt, add-mul-div-left, add-mul-mod-self-left, div-lt-iff-lt-mul, pow-zero, pow-suc, mul-comm, zero-mul, suc-mul, mul-suc, zero-add, add-zero}
 use native.Mathlib.Decide.{ℕ-discrete}
 use borrow.Author.Tests.{eqb-true, leb-true}
 use lib.Arith.{digits-lt}
@@ -176,6 +176,11 @@ packs-of (suc (suc (suc (suc (suc zero))))) n h k a b =
 packs-of (suc (suc (suc (suc (suc (suc zero)))))) n h k a b =
     record { some = h; few = k; group = omega arith; five = omega arith; bits = omega arith; fits = lit≤ tt; whole = omega arith; room = a }
 packs-of (suc (suc (suc (suc (suc (suc (suc r))))))) n h k a b = absurd (omega arith)
+
+-- a group is left
+pub group-fits : (m filled g n : ℕ) → filled + m * g ≡ n → filled < n → filled + g ≤ n
+group-fits zero filled g n e h = absurd (omega (arith, zero-mul g))
+group-fits (suc m) filled g n e h = omega (arith, suc-mul m g)
 
 -- the bits of a body
 length-groups : (r g w m : ℕ) (ds : List ℕ) → length (groupsForm r g w m ds) ≡ w * m
