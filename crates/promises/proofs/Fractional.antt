@@ -66,10 +66,10 @@ pub back-fractional : {mask : ℕ} → LawMask mask → (s : List ℕ) → isLen
 back-fractional {mask} law s l b a =
     let k = fractionalRow mask s in
     let h : k < rowCount (length s) = ltb-true k (rowCount (length s)) a in
-    let r = radix-range k (row-low mask s l h) in
+    let r = radix-range k (row-low mask s h) in
     let e = length-samplesAt mask k in
     rw e at (back-groupsAs (samplesAt mask k) {g = groupOf (radix k)} {w = bitsFor (radix k)} s
-    (rw e (packs-of (radix k) (length s) (r .0) (r .1) (length-most (length s) l) (forties (length s) l))) (row-among law s l b h))
+    (rw e (packs-of (radix k) (length s) (r .0) (r .1) (length-most (length s) l) (forties (length s) l))) (row-among law s b h))
 
 -- every body is bits
 groupsForm-below : (r g w m : ℕ) (ds : List ℕ) → Below 2 (groupsForm r g w m ds)

@@ -9,14 +9,12 @@ use borrow.Author.Tests.{eqb-true, eqb-false, le-leb, leb-true, ltb-true, ne-eqb
 use lib.Dec.{eqb, leb, ltb, lit<}
 use lib.IntN.{ℤ, pos, negsuc}
 use lib.ListN.{length}
-use Rattle.rules.specs.Tools.{isLength}
 use Rattle.rules.specs.Samples.{signed, sampleOf, minusZero, onLine}
 use Rattle.rules.specs.Fractional.{valuesAt, rowCount, leastAt, greatestAt, minusAt, placeIn, samplesAt}
 use Rattle.rules.specs.Chooses.{countOf, leastOf, greatestOf, minusOccurs, sameTest, isRowOf, rowFrom, fractionalRow, fractionalApplies}
 use Rattle.rules.proofs.Octets.{Below, none, more}
 use Rattle.rules.proofs.Tests.{and-left, and-right, or-cases, allBelow, allBelow-at}
 use Rattle.rules.proofs.Signed.{InRange, LawMask, signed-range, told-by-line}
-use Rattle.rules.proofs.Firsts.{rows-few}
 use Rattle.rules.proofs.Fractional.{Among, done, and}
 use Rattle.rules.proofs.Accepted.{AllInRange, row-in-range-at}
 
@@ -113,12 +111,21 @@ not-zero : (b : Bool) → not b ≡ false → b ≡ true
 not-zero true e = refl
 not-zero false e = sym e
 
-pub row-low : (mask : ℕ) (s : List ℕ) → isLength (length s) ≡ true → fractionalRow mask s < rowCount (length s) → fractionalRow mask s < 12
-row-low mask s len h = omega (arith, rows-few (length s) len)
+most-rows : (n : ℕ) → rowCount n ≤ 12
+unfolding rowCount
+most-rows n = go (eqb n 40) (eqb n 80)
+  where
+    go : (a b : Bool) → cond a 12 (cond b 6 4) ≤ 12
+    go true b = omega arith
+    go false true = omega arith
+    go false false = omega arith
 
-pub row-among : {mask : ℕ} → LawMask mask → (s : List ℕ) → isLength (length s) ≡ true → Below 256 s → fractionalRow mask s < rowCount (length s)
+pub row-low : (mask : ℕ) (s : List ℕ) → fractionalRow mask s < rowCount (length s) → fractionalRow mask s < 12
+row-low mask s h = omega (arith, most-rows (length s))
+
+pub row-among : {mask : ℕ} → LawMask mask → (s : List ℕ) → Below 256 s → fractionalRow mask s < rowCount (length s)
     → Among (samplesAt mask (fractionalRow mask s)) s
-row-among {mask} l s len b h =
+row-among {mask} l s b h =
     let k = fractionalRow mask s in
     let low : Bool = eqb (leastOf mask s) (leastAt k) in
     let high : Bool = eqb (greatestOf mask s) (greatestAt k) in
@@ -128,7 +135,7 @@ row-among {mask} l s len b h =
     let e : leastOf mask s ≡ leastAt k = eqb-true _ _ (and-left low high u) in
     let f : greatestOf mask s ≡ greatestAt k = eqb-true _ _ (and-right low high u) in
     let v : has ≡ true = and-right (low && high) has t in
-    among l k (row-low mask s len h) b (omega arith) (omega arith)
+    among l k (row-low mask s h) b (omega arith) (omega arith)
     (λ z. eqb-true _ _ (not-zero (eqb (countOf (λ x. eqb x (minusZero mask)) s) 0) (same-none (minusOccurs mask s) (minusAt k) v z)))
 
 -- a frame that has a row lies within it: from -4 to 2, and past the two zeros
@@ -144,15 +151,6 @@ rowWide k = leb 124 (leastAt k) && leb (greatestAt k) 130 && ltb (leastAt k) (gr
 rows-wide : allBelow rowWide 12 ≡ true
 unfolding valuesAt
 rows-wide = refl
-
-most-rows : (n : ℕ) → rowCount n ≤ 12
-unfolding rowCount
-most-rows n = go (eqb n 40) (eqb n 80)
-  where
-    go : (a b : Bool) → cond a 12 (cond b 6 4) ≤ 12
-    go true b = omega arith
-    go false true = omega arith
-    go false false = omega arith
 
 pub row-extent : (mask : ℕ) (s : List ℕ) → fractionalApplies mask s ≡ true → Rowed mask s
 row-extent mask s a =
