@@ -9,7 +9,7 @@ use lib.ListN.{length, getD}
 use Rattle.rules.specs.Zeros.{flagOf}
 use Rattle.rules.specs.Bits.{lowBits}
 use Rattle.rules.specs.Fractional.{radix, firstCode, placeIn, samplesAt, fractionalBody}
-use Rattle.rules.specs.Chooses.{fractionalForm, formOf}
+use Rattle.rules.specs.Chooses.{fractionalForm, formOf, chosenTool}
 use Rattle.rules.proofs.Octets.{Below, below-at}
 use Rattle.rules.proofs.Signed.{LawMask}
 use Rattle.rules.proofs.Fractional.{Among, places-below, radix-range, length-samplesAt}
@@ -17,7 +17,7 @@ use Rattle.rules.proofs.FrameRow.{row-low, row-among}
 use Rattle.locating.specs.declared.Located.{Located}
 use Rattle.zeros.specs.declared.Zeros.{Zeros}
 use Rattle.choice.specs.declared.last.Last.{Last}
-use Rattle.choice.specs.Plans.{ZerosFor, LocatedFor, LastIs}
+use Rattle.choice.specs.Plans.{Chosen, ZerosFor, LocatedFor, LastIs}
 use Rattle.look.specs.Rows.{RowIs}
 use Rattle.forms.specs.Forms.{planForm, zerosForm}
 use Rattle.forms.proofs.Whole.{whole-form}
@@ -39,6 +39,16 @@ module _ (n : ℕ) (s : List ℕ) (r : Located) (a b c : List ℕ) where
   plan-form {mask} {t} size p seven =
       let is : t ≡ 7 = sym (p .chosen .tool) ∙ seven in
       located-form n s r a b c size (p .located is) ∙ located-seven mask s ∙ ap (λ (k : ℕ). formOf mask k s) (sym is)
+
+-- the last of the tie order, where it was chosen
+pub last-chosen : {mask set : ℕ} {s : List ℕ} {last : Last} → LastIs mask set s last → chosenTool mask set s ≡ last .choice .tool
+    → Chosen mask (chosenTool mask set s) s (last .choice .tool) (last .choice .bits)
+last-chosen {mask} {set} {s} p e =
+    record {
+      tool = sym e;
+      bits = p .chosen .bits ∙ ap (λ (k : ℕ). length (formOf mask k s)) (sym (p .chosen .tool) ∙ sym e);
+      small = p .chosen .small;
+    }
 
 -- fractional-bit, where it was chosen
 module _ (mask set n : ℕ) (s : List ℕ) (last : Last) (size : length s ≡ n) (p : LastIs mask set s last) (eleven : last .choice .tool ≡ 11) where

@@ -11,13 +11,6 @@ use Rattle.writer.proofs.Planned.{plan-form}
 use Rattle.writer.proofs.Writing.{form-refused, form-fits, form-written}
 use Rattle.writer.proofs.write_located.Statement.{statement}
 use Rattle.writer.proofs.write_located.Tie as tie
-use Rattle.writer.proofs.write_located.Reads as reads
-use Rattle.writer.proofs.write_located.Lts as lts
-use Rattle.choice.proofs.near.located_plan.Reads as located-plan-reads
-use Rattle.measure.proofs.octets_for.Reads as octets-for-reads
-use Rattle.forms.proofs.put_located.Reads as put-located-reads
-use Rattle.writer.proofs.refused.Reads as refused-reads
-use Rattle.writer.proofs.wrote.Reads as wrote-reads
 
 -- the frame, and its chosen form
 abbrev frame : tie.Start → List ℕ
@@ -29,7 +22,7 @@ chosen s = full (s .args .mask) (s .args .set) (frame s)
 located-plan-requires : tie.Need-located-plan-requires
 located-plan-requires c κs =
     let s = c .before .before .before .before .before in
-    (s .pre .0, (s .pre .1, (refl, (refl, refl))))
+    (s .pre .0, (s .pre .1 .0, ((s .pre .1 .1 .0, s .pre .1 .1 .1 .chosen), (refl, (refl, refl)))))
 
 octets-for-requires : tie.Need-octets-for-requires
 octets-for-requires c κs = search needs
