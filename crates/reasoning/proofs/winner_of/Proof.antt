@@ -26,8 +26,18 @@ better-of-requires-5 c κs = search needs
 better-of-requires-6 : tie.Need-better-of-requires-6
 better-of-requires-6 c κs = search needs
 
+better-of-requires-7 : tie.Need-better-of-requires-7
+better-of-requires-7 c κs = search needs
+
 returns : tie.Need-returns
-returns c = rw (c .better-of6 .ensures, c .before .better-of5 .ensures, c .before .before .better-of4 .ensures, c .before .before .before .better-of3 .ensures, c .before .before .before .before .better-of2 .ensures, c .before .before .before .before .before .better-of .ensures)
+returns c =
+    rw (c .better-of7 .ensures,
+    c .before .better-of6 .ensures,
+    c .before .before .better-of5 .ensures,
+    c .before .before .before .better-of4 .ensures,
+    c .before .before .before .before .better-of3 .ensures,
+    c .before .before .before .before .before .better-of2 .ensures,
+    c .before .before .before .before .before .before .better-of .ensures)
 
 pub winner-of-spec : {M : Type 1} → statement M
 winner-of-spec =
@@ -41,4 +51,5 @@ winner-of-spec =
     better-of-requires-4
     better-of-requires-5
     better-of-requires-6
+    better-of-requires-7
     returns)

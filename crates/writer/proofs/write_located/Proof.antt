@@ -1,7 +1,8 @@
 use borrow.Author.Needs.{needs}
 use Prim.Native.Nat.{ℕ}
-use mathlib.Core.Path.{refl, sym, _∙_}
+use mathlib.Core.Path.{_≡_, refl, sym, _∙_}
 use mathlib.Core.List.{List}
+use native.Mathlib.Omega.{arith}
 use lib.ListN.{take}
 use Rattle.rules.specs.Chooses.{Written}
 use Rattle.writer.specs.Answers.{full}
@@ -11,13 +12,6 @@ use Rattle.writer.proofs.Planned.{plan-form}
 use Rattle.writer.proofs.Writing.{form-refused, form-fits, form-written}
 use Rattle.writer.proofs.write_located.Statement.{statement}
 use Rattle.writer.proofs.write_located.Tie as tie
-use Rattle.writer.proofs.write_located.Reads as reads
-use Rattle.writer.proofs.write_located.Lts as lts
-use Rattle.choice.proofs.near.located_plan.Reads as located-plan-reads
-use Rattle.measure.proofs.octets_for.Reads as octets-for-reads
-use Rattle.forms.proofs.put_located.Reads as put-located-reads
-use Rattle.writer.proofs.refused.Reads as refused-reads
-use Rattle.writer.proofs.wrote.Reads as wrote-reads
 
 -- the frame, and its chosen form
 abbrev frame : tie.Start → List ℕ
@@ -29,50 +23,68 @@ chosen s = full (s .args .mask) (s .args .set) (frame s)
 located-plan-requires : tie.Need-located-plan-requires
 located-plan-requires c κs =
     let s = c .before .before .before .before .before in
-    (s .pre .0, (s .pre .1, (refl, (refl, refl))))
+    (s .pre .0, (s .pre .1 .0, ((s .pre .1 .1 .0, s .pre .1 .1 .1 .chosen), (refl, (refl, refl)))))
 
-octets-for-requires : tie.Need-octets-for-requires
-octets-for-requires c κs = search needs
-
-refused-requires : tie.Need-refused-requires
-refused-requires c κs = search needs
-
-returns : tie.Need-returns
-returns c =
+write-last-requires : tie.Need-write-last-requires
+write-last-requires c κs =
     let s = c .before .before .before .before .before .before .before .before .before in
-    form-refused (chosen s) (c .before .before .before .located-plan .ensures .chosen .bits) (c .before .before .octets-for .ensures) (c .before .if1 .taken) (c .refused .ensures)
-
-put-located-requires : tie.Need-put-located-requires
-put-located-requires c κs =
-    let s = c .before .before .before .before .before .before .before .before .before .before .before .before in
-    let plan = c .before .before .before .before .before .before .located-plan in
-    let p = plan .ensures in
-    let e = plan-form (s .args .n) (frame s) (plan .result) _ _ _ (cells-length (s .pre .0 .0)) p in
-    ((s .pre .0 .0, λ n. located-ready (p .located (sym (p .chosen .tool) ∙ p .kind n))), form-fits (chosen s) (p .chosen .bits) (c .before .before .before .before .before .octets-for .ensures) e (c .before .before .before .before .if1 .left))
-
-wrote-requires : tie.Need-wrote-requires
-wrote-requires c κs = search needs
+    let p = c .before .before .before .located-plan .ensures in
+    (s .pre .0, (s .pre .1 .1 .1, sym (p .chosen .tool) ∙ p .kind (c .before .if1 .taken)))
 
 same-length : tie.Need-same-length
 same-length c = search needs
 
+returns : tie.Need-returns
+returns c = c .before .before .write-last .ensures
+
+octets-for-requires : tie.Need-octets-for-requires
+octets-for-requires c κs = c .before .before .located-plan .ensures .chosen .small
+
+refused-requires : tie.Need-refused-requires
+refused-requires c κs = search needs
+
 returns-2 : tie.Need-returns-2
 returns-2 c =
-    let s = c .before .before .before .before .before .before .before .before .before .before .before .before .before .before .before .before in
-    let plan = c .before .before .before .before .before .before .before .before .before .before .located-plan in
-    let p = plan .ensures in
-    let e = plan-form (s .args .n) (frame s) (plan .result) _ _ _ (cells-length (s .pre .0 .0)) p in
-    form-written (chosen s) (p .chosen .bits) (c .before .before .before .before .before .before .before .before .before .octets-for .ensures) e (c .before .before .before .before .before .before .before .before .if1 .left) (c .before .before .before .put-located .ensures) (p .chosen .tool) (c .wrote .ensures)
+    let plan = c .before .before .before .before .before in
+    form-refused (chosen (plan .before .before .before .before .before .before)) (plan .located-plan .ensures .chosen .bits) (c .before .before .octets-for .ensures) (c .before .if2 .taken) (c .refused .ensures)
+
+put-located-requires : tie.Need-put-located-requires
+put-located-requires c κs =
+    let plan = c .before .before .before .before .before .before .before .before in
+    let s = plan .before .before .before .before .before .before in
+    let p = plan .located-plan .ensures in
+    let seven = c .before .before .before .before .before .before .if1 .left in
+    let e = plan-form (s .args .n) (frame s) (plan .located-plan .result) _ _ _ (cells-length (s .pre .0 .0)) p seven in
+    (located-ready (p .located (sym (p .chosen .tool) ∙ seven)), form-fits (chosen s) (p .chosen .bits) (c .before .before .before .before .before .octets-for .ensures) e (c .before .before .before .before .if2 .left))
+
+wrote-requires : tie.Need-wrote-requires
+wrote-requires c κs = search needs
+
+same-length-2 : tie.Need-same-length-2
+same-length-2 c = search needs
+
+returns-3 : tie.Need-returns-3
+returns-3 c =
+    let plan = c .before .before .before .before .before .before .before .before .before .before .before .before in
+    let s = plan .before .before .before .before .before .before in
+    let p = plan .located-plan .ensures in
+    let seven = c .before .before .before .before .before .before .before .before .before .before .if1 .left in
+    let e = plan-form (s .args .n) (frame s) (plan .located-plan .result) _ _ _ (cells-length (s .pre .0 .0)) p seven in
+    form-written (chosen s) (p .chosen .bits) (c .before .before .before .before .before .before .before .before .before .octets-for .ensures) e
+    (c .before .before .before .before .before .before .before .before .if2 .left) (c .before .before .before .put-located .ensures) (p .chosen .tool) (c .wrote .ensures)
 
 pub write-located-spec : {M : Type 1} → statement M
 write-located-spec =
     tie.close
     (tie.spec
     located-plan-requires
+    write-last-requires
+    same-length
+    returns
     octets-for-requires
     refused-requires
-    returns
+    returns-2
     put-located-requires
     wrote-requires
-    same-length
-    returns-2)
+    same-length-2
+    returns-3)
