@@ -223,8 +223,9 @@ fn b9_other_first_lines() {
     let mixed = ["form=2\n", &lines, "prompt=2\nstart=10\noctets=1\n"].concat();
     assert_eq!(load(mixed.as_bytes(), 20), TABLE);
     // All of R-6's and R-8's own faults are still found behind it.
-    for after in ["prompt=0\nstart=0\noctets=1\nlaw=1\nsamples=0\nmark=0,0\n", "prompt=1\nstart=0\noctets=1\nlaw=2\nsamples=0\nmark=0,0\n"] {
-        assert_eq!(Store::load(("form=2\n".to_string() + after).as_bytes(), vec![0x46]), Err(TABLE));
+    for (prompt, law) in [(0, 1), (1, 2), (65_536, 0)] {
+        let text = format!("form=2\nprompt={prompt}\nstart=0\noctets=1\nlaw={law}\nsamples=0\nmark=0,0\n");
+        assert_eq!(Store::load(text.as_bytes(), vec![0x46]), Err(TABLE));
     }
     let wrong = "form=2\nprompt=1\nstart=0\noctets=1\nlaw=1\nsamples=1\nmark=0,0\n";
     assert_eq!(Store::load(wrong.as_bytes(), vec![0x46]), Err(BAD));
