@@ -239,6 +239,7 @@ fn b10_old_boxes() {
     let old = |text: &[u8], size: usize| old_reads(text, vec![0; size]).err().unwrap_or(0);
     assert_eq!(old(b"form=2\n", 16_384), TABLE);
     let mut rng = Prng::new(1110);
+    let mut by_old = [0; 2];
     for _ in 0..2_000 {
         let store = drawn(&mut rng);
         let text = store.text();
@@ -259,9 +260,16 @@ fn b10_old_boxes() {
         }
         assert_eq!(line, text.starts_with(b"form=2\n"));
         if !line && store.size() <= 16_384 {
-            assert_eq!(old_reads(&text, store.block.clone()), Ok(store));
+            // Tool 11 came later: a greeting that has it is BAD there.
+            let octets = |g: &Greeting| store.block[g.start..g.start + g.octets].to_vec();
+            let known = |g: &Greeting| walk(&octets(g), MU, 127, &mut [0; 2_000]).ending == 0;
+            let wanted = if store.greetings.iter().all(known) { Ok(store.clone()) } else { Err(BAD) };
+            assert!(old_reads(&text, store.block.clone()) == wanted);
+            by_old[usize::from(wanted.is_ok())] += 1;
         }
     }
+    println!("tables refused and taken by an old box: {by_old:?}");
+    assert!(by_old.iter().all(|&count| count > 50));
     assert_eq!(old(late(16_383, 1).as_bytes(), 20_000), 0);
     assert_eq!(old(late(16_384, 1).as_bytes(), 20_000), TABLE);
     assert_eq!(old(early(0, 16_384).as_bytes(), 16_384), 0);
