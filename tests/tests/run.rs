@@ -6,6 +6,7 @@ use std::path::{Path, PathBuf};
 use std::process::{Command, Output};
 use tests::program::repository;
 use tests::recordings::{packed, recordings};
+use tests::tools::UNLESS_SAID;
 use tests::{say, Second, MOST};
 
 /// Changed octets that are tried.
@@ -21,7 +22,7 @@ fn folder(name: &str) -> PathBuf {
 /// The packed file of the recording that is shown.
 fn stream() -> Vec<u8> {
     let shown = recordings().into_iter().find(|recording| recording.name == "greeting.ul8").unwrap();
-    packed(&Second, &shown.sound, shown.law, 127, 160, MOST).octets
+    packed(&Second, &shown.sound, shown.law, UNLESS_SAID, 160, MOST).octets
 }
 
 /// A command for AFTER_PACK that puts these octets in the packed file's place.

@@ -11,7 +11,7 @@ use tests::store::{
     MORE_ROWS, MOST_BLOCK, MOST_WITHOUT, NOROOM, TABLE,
 };
 use tests::streams::plain_frames;
-use tests::{say, share, Proved, Second, Table, MOST};
+use tests::{say, share, Proved, Second, Table, ALL_TOOLS, MOST};
 
 const KEEPERS: [(&str, &dyn Keeps); 2] = [("proved", &Proved), ("second", &Second)];
 /// What a cell of a table of damaged texts needs.
@@ -369,7 +369,7 @@ fn two_minutes_stored() {
         for recording in two_minutes() {
             let lengths = if recording.law == 1 { [160, 40] } else { [320, 80] };
             for length in lengths {
-                let stream = packed(&Second, &recording.sound, recording.law, 127, length, MOST);
+                let stream = packed(&Second, &recording.sound, recording.law, ALL_TOOLS, length, MOST);
                 assert_eq!(stream.samples, 120 * 8_000, "all of it is packed");
                 assert!(stream.octets.len() > 8 * MOST_WITHOUT, "{} octets", stream.octets.len());
                 octets.push(stream.octets.len());
