@@ -352,6 +352,8 @@ fn damaged_files() {
     ["code of S", "zeros", "method", "count", "filling"].iter().for_each(|field| table.needs(field, "ok", 0));
     table.never("none", "refused");
     table.needs("octets at random", "ok", share(20));
+    // Few numbers of five samples are too great.
+    table.needs("five samples", "refused", share(20));
     for turn in 0..share(24_000) {
         let (law, field) = ((turn % 2) as u32, fields[turn / 2 % fields.len()]);
         let stream = Stream::mixed(10 + rng.below(400), law, &mut rng);

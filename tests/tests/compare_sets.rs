@@ -6,7 +6,7 @@
 use second::gen::{make_frame, Kind, Miss, Often, Pattern, Prng};
 use std::iter::repeat_with;
 use tests::forms::LENGTHS;
-use tests::frames::{even_frame, few_frame, located_frame};
+use tests::frames::{even_frame, few_frame, located_frame, near_tie_frame};
 use tests::wrong::Wrong;
 use tests::{say, set_of, share, Ask, Codec, Pair, Proved, Read, Second, Table, Walk, Write, ALL_TOOLS, TOOLS};
 
@@ -51,7 +51,7 @@ fn frames(length: usize, law: u32, rng: &mut Prng) -> Vec<Vec<u8>> {
     let mut frames = Vec::new();
     for _ in 0..FRAMES {
         frames.extend(kinds.iter().map(|kind| make_frame(*kind, length, law, rng)));
-        frames.extend([few_frame, even_frame, located_frame].map(|draw| draw(length, law, rng)));
+        frames.extend([few_frame, even_frame, located_frame, near_tie_frame].map(|draw| draw(length, law, rng)));
     }
     frames
 }
@@ -112,6 +112,8 @@ impl Shown {
             PAIRS,
         );
         fewer.never(0, "fewer octets");
+        // One pair of sets, 1 and 255.
+        fewer.needs(7, "as many", share(400));
         more.iter().for_each(|more| fewer.never(more, "more octets"));
         let mut wins = Table::new("sets with one tool more: that tool wins, by length", &tools, &lengths, PAIRS);
         tools.iter().for_each(|tool| wins.never(tool, 0));

@@ -14,7 +14,7 @@ const WALKED: usize = share(1_000);
 const LONG: usize = share(20);
 const LONGEST: usize = share(3);
 /// Turns after which a cell that is still not full is taken to be one that can't be filled.
-const MOST_TURNS: usize = 1_000;
+const MOST_TURNS: usize = 2_000;
 
 fn ask(given: Vec<u8>, law: u32, room: usize) -> Ask {
     Ask { given, law, set: ALL_TOOLS, room }

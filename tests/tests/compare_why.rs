@@ -4,7 +4,7 @@
 use second::gen::{all_kinds, make_frame, sample_of, Kind, Miss, Pattern, Prng, RANGES};
 use tests::digits::{self, some_numbers, Digits, TABLE};
 use tests::forms::LENGTHS;
-use tests::frames::{even_frame, few_frame, located_frame, scattered, SINGLE};
+use tests::frames::{even_frame, few_frame, located_frame, near_tie_frame, scattered, SINGLE};
 use tests::settings::Told;
 use tests::why::{script, Explains, Reasons, Said, State, LENT};
 use tests::{odd_set, say, set_of, share, shared, vectors, Call, Proved, Second, Table, ALL_TOOLS, TOOLS};
@@ -95,13 +95,14 @@ fn every_vector_of_writing() {
 
 /// A frame that one tool or another is for, or one that just is not.
 fn some_frame(length: usize, law: u32, kinds: &[Kind], rng: &mut Prng) -> Vec<u8> {
-    match rng.below(7) {
+    match rng.below(8) {
         0 => make_frame(*rng.pick(&SINGLE), length, law, rng),
         1 => make_frame(Kind::TwoZeros(scattered(rng)), length, law, rng),
         2 => located_frame(length, law, rng),
         3 => even_frame(length, law, rng),
         4 => few_frame(length, law, rng),
-        5 => make_frame(Kind::Digits { row: rng.below(12), one_in: 1 + rng.below(4) }, length, law, rng),
+        5 => near_tie_frame(length, law, rng),
+        6 => make_frame(Kind::Digits { row: rng.below(12), one_in: 1 + rng.below(4) }, length, law, rng),
         _ => make_frame(*rng.pick(kinds), length, law, rng),
     }
 }

@@ -124,15 +124,15 @@ fn what_the_tools_save() {
 /// The tools that each recording uses, and no others.
 const USED: [(&str, &[u32]); 12] = [
     ("greeting.al8", &[1, 2, 6, 7]),
-    ("greeting.ul8", &[1, 2]),
-    ("hum.al8", &[1, 2, 4, 5, 6, 7]),
-    ("hum.ul8", &[1, 2, 4, 5, 6, 7]),
+    ("greeting.ul8", &[1, 2, 11]),
+    ("hum.al8", &[2, 4, 5, 6, 7, 11]),
+    ("hum.ul8", &[2, 4, 5, 6, 7, 11]),
     ("message.al8", &[1, 6]),
-    ("message.ul8", &[1, 7]),
+    ("message.ul8", &[1, 7, 11]),
     ("music.al8", &[1, 2]),
     ("music.ul8", &[1, 2]),
-    ("noise.al8", &[1, 2, 6, 7]),
-    ("noise.ul8", &[1, 2, 7]),
+    ("noise.al8", &[1, 2, 6, 7, 11]),
+    ("noise.ul8", &[1, 2, 7, 11]),
     ("silence.al8", &[2, 3, 5, 6]),
     ("silence.ul8", &[2, 3, 5, 6]),
 ];

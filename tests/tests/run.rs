@@ -6,8 +6,7 @@ use std::path::{Path, PathBuf};
 use std::process::{Command, Output};
 use tests::program::repository;
 use tests::recordings::{packed, recordings};
-use tests::tools::UNLESS_SAID;
-use tests::{say, Second, MOST};
+use tests::{say, Second, LISTED_TOOLS, MOST};
 
 /// Changed octets that are tried.
 const PLACES: usize = 24;
@@ -19,10 +18,10 @@ fn folder(name: &str) -> PathBuf {
     folder
 }
 
-/// The packed file of the recording that is shown.
+/// The packed file of the recording that is shown: it is listed too, so with the listing program's tools.
 fn stream() -> Vec<u8> {
     let shown = recordings().into_iter().find(|recording| recording.name == "greeting.ul8").unwrap();
-    packed(&Second, &shown.sound, shown.law, UNLESS_SAID, 160, MOST).octets
+    packed(&Second, &shown.sound, shown.law, LISTED_TOOLS, 160, MOST).octets
 }
 
 /// A command for AFTER_PACK that puts these octets in the packed file's place.
