@@ -64,7 +64,8 @@ impl Further {
     }
 
     pub fn differences(&self) -> usize {
-        let all = [&self.reasons.differences, &self.menders.differences, &self.stores.differences, &self.files.differences];
+        let all =
+            [&self.reasons.differences, &self.menders.differences, &self.stores.differences, &self.files.differences];
         all.into_iter().chain([&self.walks.differences, &self.large.differences]).sum()
     }
 
@@ -80,7 +81,10 @@ impl Further {
             format!("{} greetings mended", self.menders.calls),
             format!("{} calls of a store", self.stores.calls),
             format!("{} files written or read", self.files.calls),
-            format!("{} long streams walked, in a file, mended and kept, {} calls of a large store", self.walks.calls, self.large.calls),
+            format!(
+                "{} long streams walked, in a file, mended and kept, {} calls of a large store",
+                self.walks.calls, self.large.calls
+            ),
         ];
         all.join(", ")
     }
@@ -165,8 +169,13 @@ impl Further {
         if self.rng.chance(1, 20) {
             let (at, bit) = (self.rng.below(self.stores.cells().len()), self.rng.below(32));
             if !self.stores.lend(|cells| cells[at] ^= 1 << bit) {
-                let calls =
-                    [Call::Get(1), Call::Put(1, 1, vec![0x41]), Call::Delete(1), Call::Save(self.stores.room()), Call::Jump(1, 0)];
+                let calls = [
+                    Call::Get(1),
+                    Call::Put(1, 1, vec![0x41]),
+                    Call::Delete(1),
+                    Call::Save(self.stores.room()),
+                    Call::Jump(1, 0),
+                ];
                 calls.iter().for_each(|call| {
                     self.stores.call(call);
                 });

@@ -4,12 +4,13 @@
 use second::gen::{all_kinds, damage_somehow, make_frame, sample_of, Kind, Prng};
 use tests::digits::TABLE;
 use tests::file::{
-    erased, file, heading, script, Filed, Files, Holds, Line, Read, Write, HEAD, LAW, LENGTH, LONG, LOSS, LOST, ROOM, SET,
+    erased, file, heading, script, Filed, Files, Holds, Line, Read, Write, HEAD, LAW, LENGTH, LONG, LOSS, LOST, ROOM,
+    SET,
 };
 use tests::forms::{rows, LENGTHS, ROWS};
 use tests::recordings::{cuts, recordings};
 use tests::streams::{Stream, FIELDS};
-use tests::{in_share, odd_set, say, share, shared, Codec, Proved, Second, Table, ALL_TOOLS, LISTED_TOOLS, MOST, MOST_LISTED};
+use tests::{in_share, odd_set, say, share, Codec, Proved, Second, Table, ALL_TOOLS, LISTED_TOOLS, MOST, MOST_LISTED};
 
 /// What a cell of a table needs.
 const NEED: usize = share(1_000);
@@ -436,30 +437,30 @@ fn every_room() {
 fn around_the_longest() {
     let mut filed = Filed::new(&Proved, &Second);
     let (mut good, mut long) = (0, 0);
-    // Ten octets more is a whole heading.
-    for octets in [MOST, MOST + 1, MOST - 1, MOST - 10, MOST + 10, MOST + 11] {
-        for (law, octet) in shared([(1, LOST), (0, 0x00)]) {
-            let given = file(law, &vec![octet; octets]);
-            let told = filed.held(&given, ALL_TOOLS, 0, MOST + 20);
-            let items = vec![if octet == LOST { LOSS } else { 0 }; octets];
-            let wrote = filed.write(&[], &items, law, 1, MOST + 100);
-            let ending = if octets > MOST { LONG } else { 0 };
-            assert_eq!((told.ending, wrote.ending), (ending, ending), "{octets}");
-            assert_eq!(filed.write(&[], &items, law, 1, 0).ending, if octets > MOST { LONG } else { ROOM });
-            assert_eq!(wrote.octets, if octets > MOST { 0 } else { octets + 10 });
-            if octets > MOST {
-                assert_eq!(told, Read { ending: LONG, law, ..Read::default() });
-                assert_eq!(filed.held(&given[1..], ALL_TOOLS, 0, 0).ending, HEAD);
-                assert_eq!(filed.held(&given, 256, 0, 0).ending, SET);
-                long += 2;
-            } else {
-                good += 2;
-            }
+    // Ten octets more is a whole heading. Of a tenth the longest and one octet more are tried.
+    let lengths = [MOST, MOST + 1, MOST - 1, MOST - 10, MOST + 10, MOST + 11];
+    for turn in 0..share(12) {
+        let (octets, (law, octet)) = (lengths[turn % 6], [(1, LOST), (0, 0x00)][(turn + turn / 6) % 2]);
+        let given = file(law, &vec![octet; octets]);
+        let told = filed.held(&given, ALL_TOOLS, 0, MOST + 20);
+        let items = vec![if octet == LOST { LOSS } else { 0 }; octets];
+        let wrote = filed.write(&[], &items, law, 1, MOST + 100);
+        let ending = if octets > MOST { LONG } else { 0 };
+        assert_eq!((told.ending, wrote.ending), (ending, ending), "{octets}");
+        assert_eq!(filed.write(&[], &items, law, 1, 0).ending, if octets > MOST { LONG } else { ROOM });
+        assert_eq!(wrote.octets, if octets > MOST { 0 } else { octets + 10 });
+        if octets > MOST {
+            assert_eq!(told, Read { ending: LONG, law, ..Read::default() });
+            assert_eq!(filed.held(&given[1..], ALL_TOOLS, 0, 0).ending, HEAD);
+            assert_eq!(filed.held(&given, 256, 0, 0).ending, SET);
+            long += 2;
+        } else {
+            good += 2;
         }
     }
     // Frames of 320 as they are: 3,266 have 1,048,386 octets, and 190 marks more are just enough.
     let samples: Vec<u8> = Prng::new(17).octets(3_266 * 320);
-    for marks in 188..193 {
+    for marks in [190, 191, 188, 189, 192].into_iter().take(share(5) + 1) {
         let items = [vec![320; 3_266], vec![LOSS; marks]].concat();
         let wrote = filed.write(&samples, &items, 1, 1, MOST + 100);
         assert_eq!(wrote.ending, if marks > 190 { LONG } else { 0 }, "{marks}");

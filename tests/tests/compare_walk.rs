@@ -10,9 +10,9 @@ use tests::{ending, say, share, shared, Ask, Pair, Proved, Second, Table, Walk, 
 const USUAL: usize = 65_535;
 /// Streams wanted in a cell.
 const WALKED: usize = share(1_000);
-/// Streams wanted of those up to 65,535 octets, of pads alone, and of the longest.
+/// Streams wanted of those up to 65,535 octets, of pads alone, and of the longest, which are few, and none of a tenth.
 const LONG: usize = share(20);
-const LONGEST: usize = share(3);
+const LONGEST: usize = share(30) / 10;
 /// Turns after which a cell that is still not full is taken to be one that can't be filled.
 const MOST_TURNS: usize = 2_000;
 
@@ -85,7 +85,13 @@ fn around_the_longest() {
             for (last, whole) in [(0x00, all), (0x40, stops("ROOM", 0)), (0x46, stops("PREFIX", 0))] {
                 asked.given[before] = last;
                 walk_as(&mut pair, &asked, if length > MOST { refused("LONG") } else { whole });
-                *if length > MOST { &mut long } else if whole.ending == 0 { &mut good } else { &mut ended } += 1;
+                *if length > MOST {
+                    &mut long
+                } else if whole.ending == 0 {
+                    &mut good
+                } else {
+                    &mut ended
+                } += 1;
             }
             asked.room += 320;
             asked.given[before] = 0x40;

@@ -58,7 +58,9 @@ impl Codec for Spoilt {
         }
         let mut got = Second.walk(octets, law, set, out);
         match self.0 {
-            "walks no more than is listed" if got.ending != 12 && got.ending != 11 && octets.len() > MOST_LISTED => got.ending = 13,
+            "walks no more than is listed" if got.ending != 12 && got.ending != 11 && octets.len() > MOST_LISTED => {
+                got.ending = 13
+            }
             "writes past the kept samples" if got.samples < out.len() => out[got.samples] ^= 1,
             "gives the end as the place" => got.place = octets.len(),
             "counts no pads" => got.frames -= octets.iter().filter(|octet| **octet == 0).count().min(got.frames),

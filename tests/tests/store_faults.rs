@@ -5,9 +5,9 @@ use second::gen::Prng;
 use second::store::{Greeting, Jump, Mark, Store};
 use second::table;
 use tests::store::{
-    asks_for_form, change, damaged, early_text_of, is_large, lowest_gap, profiles, rows_of, script, some_call, text_of, Call, Keeps,
-    Step, Stores, Told, ABSENT, BAD, BEYOND, BLOCK, DAMAGES, FORM, FULL, GREETINGS, LAW, MARKS, MORE_ROWS, MOST_BLOCK, MOST_WITHOUT,
-    NOROOM, NUMBER, PARTS, ROOM, TABLE, TAKEN,
+    asks_for_form, change, damaged, early_text_of, is_large, lowest_gap, profiles, rows_of, script, some_call, text_of,
+    Call, Keeps, Step, Stores, Told, ABSENT, BAD, BEYOND, BLOCK, DAMAGES, FORM, FULL, GREETINGS, LAW, MARKS, MORE_ROWS,
+    MOST_BLOCK, MOST_WITHOUT, NOROOM, NUMBER, PARTS, ROOM, TABLE, TAKEN,
 };
 use tests::{say, Codec, Second, ALL_TOOLS, LISTED_TOOLS, MOST};
 

@@ -6,9 +6,9 @@ use second::saved::old_reads;
 use second::store::Greeting;
 use tests::recordings::{packed, two_minutes};
 use tests::store::{
-    asks_for_form, damaged, early_text_of, ending_name, first_line, frames_of, is_large, large_profiles, profiles, some_call,
-    some_store, text_of, whole_text_of, Call, Keeps, Profile, Stores, Told, BAD, BEYOND, BLOCK, DAMAGES, FIRST_LINES, FORM, MARKS,
-    MORE_ROWS, MOST_BLOCK, MOST_WITHOUT, NOROOM, TABLE,
+    asks_for_form, damaged, early_text_of, ending_name, first_line, frames_of, is_large, large_profiles, profiles,
+    short_frames, some_call, some_store, text_of, whole_text_of, Call, Keeps, Profile, Stores, Told, BAD, BEYOND,
+    BLOCK, DAMAGES, FIRST_LINES, FORM, MARKS, MORE_ROWS, MOST_BLOCK, MOST_WITHOUT, NOROOM, TABLE,
 };
 use tests::streams::plain_frames;
 use tests::{say, share, Proved, Second, Table, ALL_TOOLS, MOST};
@@ -107,7 +107,8 @@ fn old_boxes() {
     let mut stores = Stores::new(&Proved, Vec::new());
     let columns = ["read alike", "TABLE"];
     let rows = ["up to 16,384", "up to 65,535", "larger"];
-    let mut table = Table::new("store, saved tables read by an old box, by octets of the block", &rows, &columns, share(20));
+    let mut table =
+        Table::new("store, saved tables read by an old box, by octets of the block", &rows, &columns, share(20));
     table.never("up to 16,384", "TABLE");
     table.never("larger", "read alike");
     let mut all = profiles(&mut rng);
@@ -129,7 +130,9 @@ fn old_boxes() {
         table.add(row, if ending == 0 { columns[0] } else { columns[1] });
         let lines = text_of(&stores.model.greetings);
         let behind = &lines[..rng.below(lines.len() + 1)];
-        for text in [[FORM, &lines].concat(), [FORM, behind].concat(), [FORM, &early_text_of(&stores.model.greetings)].concat()] {
+        for text in
+            [[FORM, &lines].concat(), [FORM, behind].concat(), [FORM, &early_text_of(&stores.model.greetings)].concat()]
+        {
             assert_eq!(old_reads(&text, stores.model.block.clone()), Err(TABLE));
         }
     }
@@ -258,7 +261,10 @@ fn both_sides_of_65535() {
                     let told = stores.call(&Call::Load(text));
                     let got = stores.call(&Call::Get(7));
                     if told.ending != wanted || (wanted == 0 && got != Told::ok(start, octets)) {
-                        stores.differ(&format!("{start}, {octets}, form {form}, early {early}"), &format!("{told:?}, {got:?}"));
+                        stores.differ(
+                            &format!("{start}, {octets}, form {form}, early {early}"),
+                            &format!("{told:?}, {got:?}"),
+                        );
                     }
                     *if wanted == 0 { &mut loaded } else { &mut refused } += 1;
                 }
@@ -286,9 +292,10 @@ fn blocks_filled_up() {
                 [&frames[..], &vec![0; octets - frames.len()]].concat()
             };
             for (parts, ending) in [(vec![size + 1], if size < MOST { NOROOM } else { BAD }), (vec![size, 1], NOROOM)] {
-                let told = parts.iter().zip(1..).map(|(octets, number)| {
-                    stores.promised(&Call::Put(1, number, whole(*octets, &mut rng)))
-                });
+                let told = parts
+                    .iter()
+                    .zip(1..)
+                    .map(|(octets, number)| stores.promised(&Call::Put(1, number, whole(*octets, &mut rng))));
                 assert_eq!(told.last().map(|told| told.ending), Some(ending), "{block}");
             }
             stores.saved_and_loaded();
@@ -359,8 +366,76 @@ fn the_fullest_table() {
     }
 }
 
-/// Two minutes of a hotel's guide, in both laws and in frames of two lengths: stored, saved, loaded, moved, and jumped into. Jumps are
-/// the proved code's with the feature `jump` alone.
+/// Greetings of so many frames of one octet that they have around 256, 512, 1,024 and more marks, put between two others that have
+/// some; saved, loaded, in R-6's lines too, jumped into, moved, and with a mark that is wrong, missing or one too many.
+#[test]
+fn many_marks() {
+    for (name, keeper) in KEEPERS {
+        let mut rng = Prng::new(1107);
+        let mut stores = Stores::new(keeper, Vec::new());
+        let (mut greetings, mut wrong) = (0, 0);
+        let all: &[usize] = &[255, 256, 257, 258, 288, 289, 511, 512, 513, 1_023, 1_024, 1_025, 2_048, 4_097];
+        for &marks in if name == "proved" { all } else { &all[1..4] } {
+            for frames in [64 * marks - 1, 64 * marks, 64 * marks + 1] {
+                let law = greetings % 2;
+                let octets = if frames % 3 == 0 { vec![0x42; frames] } else { short_frames(frames, &mut rng) };
+                let all = frames_of(keeper.reader(), &octets, law).expect("a good greeting");
+                stores.renew(rng.octets(frames + 500));
+                stores.promised(&Call::Put(1, 1, vec![0x41; 130]));
+                stores.promised(&Call::Put(1, 2, vec![0; frames]));
+                stores.promised(&Call::Put(0, 3, vec![0x31; 200]));
+                stores.promised(&Call::Delete(2));
+                assert_eq!(stores.promised(&Call::Put(law, 4, octets)), Told::ok(130, 0));
+                assert_eq!(stores.model.greetings[1].marks.len(), frames.div_ceil(64));
+                stores.saved_and_loaded();
+                for sample in
+                    [0, 1, all.samples / 2, all.samples - 1].into_iter().chain((0..9).map(|_| rng.below(all.samples)))
+                {
+                    assert_eq!(stores.call(&Call::Jump(4, sample as u64)), all.holding(sample));
+                }
+                let rows = stores.model.greetings.clone();
+                for damage in [
+                    "a wrong mark",
+                    "a mark too many",
+                    "a mark too few",
+                    "no marks",
+                    "a mark of 40 digits",
+                    "wrong samples",
+                ] {
+                    let Some(made) = damaged(damage, &rows, stores.model.size(), &mut rng) else { continue };
+                    not_loaded(damage, &made.text, made.by_lines, &mut stores, &mut rng);
+                    wrong += 1;
+                }
+                // The last mark, and the one in the middle.
+                for at in [rows[1].marks.len() - 1, rows[1].marks.len() / 2] {
+                    let mut others = rows.clone();
+                    others[1].marks[at].samples += 1;
+                    not_loaded(
+                        "a wrong mark",
+                        &whole_text_of(&others, stores.model.size()),
+                        false,
+                        &mut stores,
+                        &mut rng,
+                    );
+                    wrong += 1;
+                }
+                let early = stores.call(&Call::Load(early_text_of(&rows)));
+                assert_eq!(early.ending, if rows.iter().any(is_large) { TABLE } else { 0 });
+                stores.call(&Call::Delete(1));
+                stores.call(&Call::Put(law, 5, vec![0; 300]));
+                assert_eq!(stores.call(&Call::Get(4)), Told::ok(0, frames));
+                greetings += 1;
+            }
+        }
+        stores.close();
+        say(&format!(
+            "compared: store, {name}, many marks: {greetings} greetings, {wrong} wrong tables, {} calls\n",
+            stores.calls
+        ));
+    }
+}
+
+/// Two minutes of a hotel's guide, in both laws and in frames of two lengths: stored, saved, loaded, moved, and jumped into.
 #[test]
 fn two_minutes_stored() {
     for (name, keeper) in KEEPERS {
@@ -397,7 +472,10 @@ fn two_minutes_stored() {
             }
         }
         stores.close();
-        say(&format!("compared: store, {name}, two minutes: streams of {octets:?} octets, {jumps} jumps, {} calls\n", stores.calls));
+        say(&format!(
+            "compared: store, {name}, two minutes: streams of {octets:?} octets, {jumps} jumps, {} calls\n",
+            stores.calls
+        ));
     }
 }
 
@@ -416,5 +494,8 @@ fn first_lines_are_asked_for() {
         assert_eq!(asks_for_form(&rows, size), asked);
         assert_eq!(whole_text_of(&rows, size).starts_with(FORM), asked);
     }
-    assert_eq!([ending_name(BAD), ending_name(TABLE), ending_name(NOROOM), ending_name(BEYOND)], ["BAD", "TABLE", "NOROOM", "BEYOND"]);
+    assert_eq!(
+        [ending_name(BAD), ending_name(TABLE), ending_name(NOROOM), ending_name(BEYOND)],
+        ["BAD", "TABLE", "NOROOM", "BEYOND"]
+    );
 }

@@ -64,7 +64,7 @@ const FILLS: [u8; 2] = [0xA7, 0x58];
 /// Differences shown at most; they are all counted.
 const SHOWN: usize = 20;
 /// Octets of a text shown at most.
-const MOST_SHOWN: usize = 1_200;
+const MOST_SHOWN: usize = 600;
 
 /// What was put under a number: its law, its octets, and all its frames.
 pub(super) struct Kept {
