@@ -137,9 +137,9 @@ pub fn rows(length: usize) -> Vec<&'static Digits> {
 /// The row of a frame, if its length has one: the least, the greatest, and whether -1 comes decide.
 pub fn row_of(numbers: &[i32]) -> Option<&'static Digits> {
     let (least, greatest) = (*numbers.iter().min()?, *numbers.iter().max()?);
-    rows(numbers.len()).into_iter().find(|row| {
-        row.least() == least && row.greatest() == greatest && row.has_minus_one() == numbers.contains(&-1)
-    })
+    rows(numbers.len())
+        .into_iter()
+        .find(|row| row.least() == least && row.greatest() == greatest && row.has_minus_one() == numbers.contains(&-1))
 }
 
 /// How the samples of a frame stand to the row that its first octet says. A writer makes the first alone.

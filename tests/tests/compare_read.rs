@@ -70,9 +70,17 @@ fn all_inputs_of_up_to_two_octets() {
     assert_eq!(inputs.len(), 65_793);
     for given in shared(inputs) {
         for law in [0, 1, 2] {
-            for (set, room) in
-                [(255, 320), (127, 320), (255, 0), (255, 160), (0, 320), (0x55, 320), (0xAA, 239), (128, 320), (256, 320)]
-            {
+            for (set, room) in [
+                (255, 320),
+                (127, 320),
+                (255, 0),
+                (255, 160),
+                (0, 320),
+                (0x55, 320),
+                (0xAA, 239),
+                (128, 320),
+                (256, 320),
+            ] {
                 let got = pair.read(&Ask { given: given.clone(), law, set, room });
                 endings[got.ending as usize] += 1;
             }

@@ -8,7 +8,8 @@ use tests::forms::LENGTHS;
 use tests::frames::{even_frame, few_frame, located_frame, scattered, SINGLE};
 use tests::met::Met;
 use tests::{
-    ending, in_share, odd_set, say, share, Ask, Pair, Proved, Read, Second, Table, Write, ALL_TOOLS, LISTED_TOOLS, TOOLS,
+    ending, in_share, odd_set, say, share, Ask, Pair, Proved, Read, Second, Table, Write, ALL_TOOLS, LISTED_TOOLS,
+    TOOLS,
 };
 
 /// Written frames wanted in a cell.

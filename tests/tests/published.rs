@@ -169,7 +169,11 @@ fn every_sort_of_mismatch() {
     let whole = stream(&raw, 1, ALL_TOOLS, 160);
     assert_eq!(compare(&Proved, &Second, "x", &raw, &whole, 1).end, End::Equal);
     assert_eq!(compare(&Proved, &Second, "x", &[], &[], 1).end, End::Equal);
-    mismatch(&raw, &stream(&raw[..31_840], 1, ALL_TOOLS, 160), "the stream ends after 31840 samples, the raw file has 32000");
+    mismatch(
+        &raw,
+        &stream(&raw[..31_840], 1, ALL_TOOLS, 160),
+        "the stream ends after 31840 samples, the raw file has 32000",
+    );
     mismatch(&raw[..31_999], &whole, "the raw file ends after 31999 samples");
     mismatch(&raw, &whole[..whole.len() - 1], "SHORT at octet ");
     mismatch(&raw, &[&whole[..], &[0x46]].concat(), "PREFIX at octet ");

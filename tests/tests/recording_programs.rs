@@ -181,7 +181,8 @@ fn losses_told() {
         }
     }
     assert!([0, 1, 2, 3, LOST as usize].iter().all(|stop| stops[*stop] >= 20), "{stops:?}");
-    let told: Vec<String> = stops.iter().enumerate().filter(|(_, n)| **n > 0).map(|(at, n)| format!("{at}: {n}")).collect();
+    let told: Vec<String> =
+        stops.iter().enumerate().filter(|(_, n)| **n > 0).map(|(at, n)| format!("{at}: {n}")).collect();
     tell(&format!("losses told, runs by stop {{{}}}", told.join(", ")), &room);
 }
 
@@ -213,7 +214,11 @@ fn compared_and_as_masters() {
             let (option, ..) = law_words(law);
             for form in ["-w", "-l"] {
                 room.run("unpack", &format!("{form} {g} file of-file"), &[]).ends(stop);
-                room.run("unpack", &format!("{form} {option} sound of-sound"), &[]).ends(Stop::new(0, room.take("sound").len(), 0));
+                room.run("unpack", &format!("{form} {option} sound of-sound"), &[]).ends(Stop::new(
+                    0,
+                    room.take("sound").len(),
+                    0,
+                ));
                 same(form, &room.take("of-file"), &room.take("of-sound"));
             }
         }
@@ -234,14 +239,18 @@ fn headings() {
         room.put(&format!("a.{lc}"), &file);
         room.put(&format!("a.{other_lc}"), &file);
         room.put("a.xyz", &file);
-        for words in [own.to_string(), String::new(), format!("a.{lc} -"), format!("a.{other_lc} -"), "a.xyz -".into()] {
+        for words in [own.to_string(), String::new(), format!("a.{lc} -"), format!("a.{other_lc} -"), "a.xyz -".into()]
+        {
             room.run("unpack", &words, &file).ends(done).writes(&sound).says("frames=3 samples=200 octets=13 lost=0\n");
         }
         // Without OUTFILE the ending is that of the heading's law.
         room.run("unpack", &format!("a.{other_lc}"), &[]).ends(done);
         same("a name by the heading", &room.take(["a.alo", "a.muo"][law as usize]), &sound);
         for words in [other.to_string(), format!("{other} a.{lc} -"), format!("{other} -v -g a.{other_lc} kept")] {
-            room.run("unpack", &words, &file).ends(Stop::new(USAGE, 0, 0)).says("heading says the other law").writes(&[]);
+            room.run("unpack", &words, &file)
+                .ends(Stop::new(USAGE, 0, 0))
+                .says("heading says the other law")
+                .writes(&[]);
         }
         assert!(!room.has("kept"));
         let head = Stop::new(14, 0, 0);
@@ -269,7 +278,9 @@ fn headings() {
         // A second heading is no frame; the listing takes no heading.
         played(&mut room, &[&heading(law)[..], &file].concat(), UNLESS_SAID, "");
         assert_eq!(listing(&file), b"stop=12 at=0 tool=0 bit=0\n");
-        room.run("unpack", &format!("{own} -v"), &file[HEAD..]).ends(Stop::new(USAGE, 0, 0)).says("-v lists a recording");
+        room.run("unpack", &format!("{own} -v"), &file[HEAD..])
+            .ends(Stop::new(USAGE, 0, 0))
+            .says("-v lists a recording");
         room.run("unpack", &format!("{own} -g"), &file[HEAD..]).ends(done).writes(&sound);
     }
     tell("headings, laws and the order of refusals", &room);
@@ -305,7 +316,9 @@ fn the_longest_recordings() {
         room.run("pack", &format!("{option} -r -s1 -n320"), &long).ends(Stop::new(13, most, 0)).writes(&[]);
         // Without OUTFILE a recording goes nowhere but to standard output.
         room.put("a.ul8", &sound);
-        room.run("pack", &format!("{option} -r a.ul8"), &[]).ends(Stop::new(USAGE, 0, 0)).says("with -r OUTFILE must be said");
+        room.run("pack", &format!("{option} -r a.ul8"), &[])
+            .ends(Stop::new(USAGE, 0, 0))
+            .says("with -r OUTFILE must be said");
     }
     room.run("pack", "-u -r -v", &[]).ends(Stop::new(USAGE, 0, 0));
     room.run("unpack", "-u -r", &[]).ends(Stop::new(USAGE, 0, 0));

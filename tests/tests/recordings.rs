@@ -50,7 +50,8 @@ fn written_and_read_by_both() {
 #[test]
 fn two_minutes_written_and_read_by_both() {
     let mut pair = Pair::new(&Proved, &Second);
-    let frames: usize = two_minutes().iter().map(|recording| write_and_read(&mut pair, recording, 160, ALL_TOOLS)).sum();
+    let frames: usize =
+        two_minutes().iter().map(|recording| write_and_read(&mut pair, recording, 160, ALL_TOOLS)).sum();
     say(&format!("compared: recordings, two minutes in two laws: {frames} frames, {} calls\n", pair.calls));
     pair.close();
 }

@@ -81,7 +81,17 @@ fn make_run_fails_if_an_octet_is_changed() {
     let ended = make_run("make", None);
     assert!(ended.status.success(), "{}", text(&ended));
     let said = text(&ended);
-    for part in ["/pack ", "/listing", "/unpack ", "samples=40000", "stop=0 at=", "cmp ", "loss=0 at=0 samples=0 before=0", "stop=66 at=", "stop=1 at=4 tool=0 bit=8"] {
+    for part in [
+        "/pack ",
+        "/listing",
+        "/unpack ",
+        "samples=40000",
+        "stop=0 at=",
+        "cmp ",
+        "loss=0 at=0 samples=0 before=0",
+        "stop=66 at=",
+        "stop=1 at=4 tool=0 bit=8",
+    ] {
         assert!(said.contains(part), "{part}\n{said}");
     }
     let mut other = stream();

@@ -9,7 +9,8 @@ use tests::program::{listing, repository, run};
 use tests::recordings::{recordings, Recording};
 use tests::streams::Stream;
 use tests::tools::{
-    law_words, pack_wanted, plus_zero, same, unpack_wanted, verify_wanted, Room, Stop, DIFFERS, FILES, UNLESS_SAID, USAGE,
+    law_words, pack_wanted, plus_zero, same, unpack_wanted, verify_wanted, Room, Stop, DIFFERS, FILES, UNLESS_SAID,
+    USAGE,
 };
 use tests::{faults, say, Codec, Second, LISTED_TOOLS, MOST, MOST_LISTED};
 
