@@ -121,8 +121,11 @@ fn old_boxes() {
     ["read alike", "BAD"].iter().for_each(|column| table.never("larger", column));
     let mut all = profiles(&mut rng);
     // Blocks in which some stores lie in an old box's, and some do not.
-    all.extend([BLOCK + 1, 40_000, MOST_WITHOUT].map(|block| {
-        let pool = (0..20).map(|_| plain_frames(1 + rng.below(block / 3_000), &mut Prng::new(block as u64))).collect();
+    let last = [&[][..], &[0x02, 0x55, 0x55, 0x55, 0x55, 0x55]];
+    let blocks = [(BLOCK + 1, 0), (40_000, 0), (MOST_WITHOUT, 0), (BLOCK + 1, 1), (40_000, 1)];
+    all.extend(blocks.map(|(block, newer)| {
+        let frames = |_| plain_frames(1 + rng.below(block / 3_000), &mut Prng::new(block as u64));
+        let pool = (0..20).map(frames).map(|octets| [&octets[..], last[newer]].concat()).collect();
         Profile { block, numbers: 12, pool }
     }));
     all.extend(large_profiles(&mut rng).into_iter().take(3));
