@@ -5,7 +5,7 @@
 
 use second::gen::{all_kinds, make_frame, Kind, Miss, Often, Pattern, Prng, DIGIT_ROWS};
 use tests::forms::LENGTHS;
-use tests::frames::{even_frame, few_frame, located_frame, scattered, SINGLE};
+use tests::frames::{even_frame, few_frame, located_frame, near_tie_frame, scattered, SINGLE};
 use tests::met::Met;
 use tests::{
     ending, in_share, odd_set, say, share, Ask, Pair, Proved, Read, Second, Table, Write, ALL_TOOLS, LISTED_TOOLS,
@@ -143,13 +143,14 @@ fn every_s_method_and_tie() {
             break;
         }
         let (length, law) = (LENGTHS[turn % 5], turn as u32 / 5 % 2);
-        let frame = match turn / 10 % 10 {
+        let frame = match turn / 10 % 11 {
             0 => make_frame(*rng.pick(&kinds), length, law, &mut rng),
             1 => make_frame(Kind::TwoZeros(*rng.pick(Pattern::ALL)), length, law, &mut rng),
             2 => make_frame(Kind::TwoZeros(scattered(&mut rng)), length, law, &mut rng),
             3 => make_frame(*rng.pick(&SINGLE), length, law, &mut rng),
             4 | 5 => few_frame(length, law, &mut rng),
             6 => even_frame(length, law, &mut rng),
+            7 => near_tie_frame(length, law, &mut rng),
             _ => located_frame(length, law, &mut rng),
         };
         let any = odd_set(&mut rng);
