@@ -355,7 +355,7 @@ fn damaged_files() {
     table.needs("octets at random", "ok", share(20));
     // Few numbers of five samples are too great.
     table.needs("five samples", "refused", share(20));
-    for turn in 0..share(24_000) {
+    for turn in 0..share(36_000) {
         let (law, field) = ((turn % 2) as u32, fields[turn / 2 % fields.len()]);
         let stream = Stream::mixed(10 + rng.below(400), law, &mut rng);
         let turned = |rng: &mut Prng| (0..20).find_map(|_| stream.turned(field, rng));

@@ -16,7 +16,7 @@ const LAW: u32 = 12;
 /// What a cell of a table needs.
 const NEED: usize = share(1_000);
 /// Frames that all 128 sets are asked of.
-const FRAMES: usize = share(3_000);
+const FRAMES: usize = share(5_000);
 
 /// The odd sets.
 fn odd_sets() -> impl Iterator<Item = u32> {
