@@ -36,12 +36,12 @@ fn read_as(pair: &mut Pair, ask: &Ask, wanted: Read, samples: &[u8]) {
     }
 }
 
-/// A row and a length as a table names them.
+/// A row as a table names it.
 fn cell(row: &Digits) -> String {
     row.name()
 }
 
-/// The rows that have numbers of five samples, by what they are named.
+/// The names of rows of one kind.
 fn names<'a>(of: impl Fn(&&'a Digits) -> bool) -> Vec<String> {
     TABLE.iter().filter(of).map(cell).collect()
 }
@@ -85,7 +85,7 @@ fn read_number(pair: &mut Pair, row: &Digits, length: usize, place: usize, numbe
     if needed < ask.given.len() || !good {
         ask.given.truncate(needed);
         let wanted = if good { refused("SHORT", 0, 8 * needed) } else { whole };
-        // The octet that ends this number may end the next one too, if that has no bits of its own behind it.
+        // No octet has the end of a number and all of the next.
         read_as(pair, &ask, wanted, &[]);
     }
     ask.given.truncate(needed - 1);
