@@ -152,19 +152,19 @@ static void store(const uint8_t *stream, size_t length)
     measure(15, (const uint8_t *)early, sizeof early - 1);
 }
 
-/* The same over the greatest block: a greeting that fills it with as many marks as there can be, saved, loaded, jumped into; one more
- * for which all others close up; a text that is refused at its last mark. */
+/* The same over the greatest block: a greeting of pads and one frame that fills it, with as many marks as there can be, saved, loaded,
+ * jumped into; a text that is refused at its last mark; one more for which all others close up. */
 static void large_store(const uint8_t *stream, size_t length)
 {
     static uint8_t whole[G7110_MAX_BLOCK], text[G7110_MAX_TABLE];
     uint64_t saved[1];
     block_len = sizeof block;
     memset(table, 0, sizeof table);
-    memset(whole, 0x41, sizeof whole);
+    whole[sizeof whole - 1] = 0x41;
     number = 1;
     measure(11, whole, sizeof whole);
     measure(12, NULL, 0);
-    measure(19, NULL, 40 * (sizeof whole - 1));
+    measure(19, NULL, 39);
     measure(14, NULL, 0);
     if (g7110_store_save(block, block_len, table, sizeof table / sizeof *table, text, sizeof text, saved) != G7110_OK) exit(2);
     measure(15, text, (size_t)saved[0]);
