@@ -90,10 +90,8 @@ fn winner_of(s: States, n: usize) -> Best
     requires { ⌜ n ≤ 320 ⌝ }
     ensures { λ r. ⌜ r ≡ bestIn s n ⌝ }
 {
-    let first = Best {
-        tool: 1,
-        octets: n as u32 + 1,
-    };
+    let octets = n as u32 + 1;
+    let first = Best { tool: 1, octets };
     let fractional = s.fractional;
     let located = s.located;
     let rice = s.rice;

@@ -39,7 +39,7 @@ module _ (s : tie.Start) where
 
 write-plain-requires : tie.Need-write-plain-requires
 write-plain-requires c κs =
-    let s = c .before .before .before .before .before in
+    let s = c .before .before .before .before .before .before in
     let one = is-one s (c .before .if1 .taken) in
     let chosen = rw one at (last-chosen (s .pre .1 .0) (s .pre .1 .1)) in
     ((s .pre .0 .0, (omega arith, omega arith)), (plain-size (s .args .set) chosen (omega arith) (omega arith), chosen .small))
@@ -49,27 +49,27 @@ same-length c = search needs
 
 returns : tie.Need-returns
 returns c =
-    let s = c .before .before .before .before .before .before .before .before in
+    let s = c .before .before .before .before .before .before .before .before .before in
     let one = is-one s (c .before .before .before .before .if1 .taken) in
     writes-as (c .before .before .write-plain .ensures)
     (ap (fitting (length (s .args .out .now))) (plain-full (s .args .mask) (s .args .set) 1 (frame s) (sym (s .pre .1 .1 ∙ one)) (omega arith) (omega arith)))
 
 octets-for-requires : tie.Need-octets-for-requires
-octets-for-requires c κs = c .before .before .before .before .pre .1 .0 .chosen .small
+octets-for-requires c κs = c .before .before .before .before .before .pre .1 .0 .chosen .small
 
 refused-requires : tie.Need-refused-requires
 refused-requires c κs = search needs
 
 returns-2 : tie.Need-returns-2
 returns-2 c =
-    let s = c .before .before .before .before .before .before .before in
+    let s = c .before .before .before .before .before .before .before .before in
     form-refused (chosen s) (last-chosen (s .pre .1 .0) (s .pre .1 .1) .bits) (c .before .before .octets-for .ensures) (c .before .if2 .taken) (c .refused .ensures)
 
 put-fractional-requires : tie.Need-put-fractional-requires
 put-fractional-requires c κs =
-    let s = c .before .before .before .before .before .before .before in
+    let s = c .before .before .before .before .before .before .before .before in
     let eleven = is-eleven s (c .before .before .before .if1 .left) in
-    let octets = c .before .before .before .before .before .shared-slice-known .given in
+    let octets = c .before .before .before .before .before .before .shared-slice-known .given in
     let b : Below 256 (frame s) = below-take (s .args .n) (below-all (s .args .samples .now) (λ i. octets i .fits)) in
     let size = cells-length (s .pre .0 .0) in
     let l = last-chosen (s .pre .1 .0) (s .pre .1 .1) in
@@ -85,7 +85,7 @@ same-length-2 c = search needs
 
 returns-3 : tie.Need-returns-3
 returns-3 c =
-    let s = c .before .before .before .before .before .before .before .before .before .before .before in
+    let s = c .before .before .before .before .before .before .before .before .before .before .before .before in
     let eleven = is-eleven s (c .before .before .before .before .before .before .before .if1 .left) in
     let l = last-chosen (s .pre .1 .0) (s .pre .1 .1) in
     form-written (chosen s) (l .bits) (c .before .before .before .before .before .before .octets-for .ensures) (form-is s eleven) (c .before .before .before .before .before .if2 .left)

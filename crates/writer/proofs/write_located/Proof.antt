@@ -22,12 +22,12 @@ chosen s = full (s .args .mask) (s .args .set) (frame s)
 
 located-plan-requires : tie.Need-located-plan-requires
 located-plan-requires c κs =
-    let s = c .before .before .before .before .before in
+    let s = c .before .before .before .before .before .before in
     (s .pre .0, (s .pre .1 .0, ((s .pre .1 .1 .0, s .pre .1 .1 .1 .chosen), (refl, (refl, refl)))))
 
 write-last-requires : tie.Need-write-last-requires
 write-last-requires c κs =
-    let s = c .before .before .before .before .before .before .before .before .before in
+    let s = c .before .before .before .before .before .before .before .before .before .before in
     let p = c .before .before .before .located-plan .ensures in
     (s .pre .0, (s .pre .1 .1 .1, sym (p .chosen .tool) ∙ p .kind (c .before .if1 .taken)))
 
@@ -46,12 +46,12 @@ refused-requires c κs = search needs
 returns-2 : tie.Need-returns-2
 returns-2 c =
     let plan = c .before .before .before .before .before in
-    form-refused (chosen (plan .before .before .before .before .before .before)) (plan .located-plan .ensures .chosen .bits) (c .before .before .octets-for .ensures) (c .before .if2 .taken) (c .refused .ensures)
+    form-refused (chosen (plan .before .before .before .before .before .before .before)) (plan .located-plan .ensures .chosen .bits) (c .before .before .octets-for .ensures) (c .before .if2 .taken) (c .refused .ensures)
 
 put-located-requires : tie.Need-put-located-requires
 put-located-requires c κs =
     let plan = c .before .before .before .before .before .before .before .before in
-    let s = plan .before .before .before .before .before .before in
+    let s = plan .before .before .before .before .before .before .before in
     let p = plan .located-plan .ensures in
     let seven = c .before .before .before .before .before .before .if1 .left in
     let e = plan-form (s .args .n) (frame s) (plan .located-plan .result) _ _ _ (cells-length (s .pre .0 .0)) p seven in
@@ -66,7 +66,7 @@ same-length-2 c = search needs
 returns-3 : tie.Need-returns-3
 returns-3 c =
     let plan = c .before .before .before .before .before .before .before .before .before .before .before .before in
-    let s = plan .before .before .before .before .before .before in
+    let s = plan .before .before .before .before .before .before .before in
     let p = plan .located-plan .ensures in
     let seven = c .before .before .before .before .before .before .before .before .before .before .if1 .left in
     let e = plan-form (s .args .n) (frame s) (plan .located-plan .result) _ _ _ (cells-length (s .pre .0 .0)) p seven in
