@@ -335,7 +335,23 @@ pub fn source_of(fd: i32, most: usize, part: &mut [u8]) -> Source
         return counted(fd, -1, most, part);
     }
     let mut name = [
-        47u8, 116, 109, 112, 47, 103, 55, 49, 49, 48, 46, 88, 88, 88, 88, 88, 88,
+        47u8,
+        116,
+        109,
+        112,
+        47,
+        103,
+        55,
+        49,
+        49,
+        48,
+        46,
+        88,
+        88,
+        88,
+        88,
+        88,
+        88,
     ];
     let keep = os::create_temp(&mut name);
     if keep < 0 {

@@ -183,14 +183,7 @@ fn put_walked(table: &mut [u32], n: usize, i: usize, sound: Sound, octets: &[u8]
 }
 
 // The note of a greeting put in, i notes standing before it: what was taken of its walk, with its marks where they had room.
-pub fn put_taken(
-    table: &mut [u32],
-    n: usize,
-    i: usize,
-    sound: Sound,
-    octets: &[u8],
-    marks: &[u32],
-)
+pub fn put_taken(table: &mut [u32], n: usize, i: usize, sound: Sound, octets: &[u8], marks: &[u32])
     requires { ⌜ (n ≡ getD (now table) 97 0) × (n ≤ 31) × (i ≤ n) × Taken (sound .law) (now octets) (now marks) (sound .samples) (sound .marks) ⌝ }
     requires { ⌜ 194 + 2 * (marksHeld (headsOf (now table)) + sound .marks) ≤ length (now table) ⌝ }
     ensures { λ _. ⌜ now (table .exit) ≡ notesLaid (insertNote i (noteOf (sound .law) (now (octets .entry))) (notesOf (now (table .entry)))) (now (table .entry)) ⌝ }

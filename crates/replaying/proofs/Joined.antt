@@ -124,7 +124,7 @@ module _ (a b : List ℕ) (law set : ℕ) where
       (record { items = ap (λ (l : List Item). i ∷ l) (m .items); end = m .end; place = m .place; bit = m .bit })
 
 -- a whole reading keeps inside
-played-told : (w : List ℕ) (law set : ℕ) → (played w law set .place ≤ length w) × (length (played w law set .items) ≤ played w law set .place)
+pub played-told : (w : List ℕ) (law set : ℕ) → (played w law set .place ≤ length w) × (length (played w law set .items) ≤ played w law set .place)
     × (length (soundIn (played w law set .items)) ≤ 320 * length (played w law set .items))
     × (played w law set .end ≡ Done → played w law set .place ≡ length w)
 played-told w law set =

@@ -1,5 +1,5 @@
 // A recording's sound and losses, part by part (document 02, R-1): what `unpack` writes, compares and tells of it, and `pack` counts.
-//   next_part: the next items.      play: a whole recording, its sound used and its losses told.
+//   next_part: the next items.      play: the items of octets, their sound used and losses told.      play_file: a file, window by window.
 ghost use Prim.Native.Nat.{_+_, _*_, _^_, _≤_, _<_};
 ghost use mathlib.Core.Path.{_≡_};
 ghost use mathlib.Core.Bool.{cond};
@@ -8,9 +8,10 @@ ghost use Rattle.rules.specs.Walk.{longest};
 ghost use Rattle.sounds.specs.Uses.{UsesUpTo};
 ghost use Rattle.lines.specs.Puts.{Puts};
 ghost use Rattle.replaying.specs.Parts.{sureItems, goesOn, isLoss, lossCells, Answers, NextPart, Goes};
-ghost use Rattle.replaying.specs.Runs.{NextSound, TellsFile};
+ghost use Rattle.replaying.specs.Runs.{NextSound, TellsFile, Reachable, TellsOne};
 ghost use Rattle.replaying.specs.Kinds.{kindOf};
 ghost use Rattle.replaying.specs.Lines.{lossLine, Follows, NextItem, LossAt, Small, Sums};
+use console::Got;
 use playing::Heading;
 use playing::Played;
 use recording::Ending;
@@ -411,4 +412,115 @@ pub fn play(body: &[u8], law: u32, set: u32, way: Way, tells: u32, base: Base) -
         &mut cells,
         base,
     )
+}
+
+// The octets of a file's frames or items: the file, where they begin in it, and how many they are.
+pub struct Body {
+    pub fd: i32,
+    pub skip: usize,
+    pub size: usize,
+}
+
+// Another thing that may be wrong with a file: it can't be read.
+pub const UNREAD: u32 = 9;
+
+// A window has more octets than a part's items.
+pub const WINDOW: usize = 131072;
+
+// The octets of a window: those from a place on, as many as there are and as it holds.
+pub fn window_at(b: Body, at: usize, window: &mut [u8]) -> Got
+    requires { ⌜ (at ≤ b .size) × Reachable b ⌝ }
+    ensures { λ r. ⌜ (r .count ≤ length (now (window .exit))) × (at + r .count ≤ b .size) ⌝ }
+{
+    let left = b.size - at;
+    if left < window.len() {
+        return console::read_at(b.fd, b.skip + at, &mut window[..left]);
+    }
+    console::read_at(b.fd, b.skip + at, window)
+}
+
+// Whether another window follows: there are octets behind this one, which is full, and it ended clean or inside a frame (SHORT).
+pub fn goes_further(number: u32, count: usize, full: usize, left: usize) -> bool {
+    if count < full {
+        return false;
+    }
+    if left <= count {
+        return false;
+    }
+    number <= 1
+}
+
+// A file that can't be read further.
+fn unread(at: usize, items: usize, lost: usize, samples: usize) -> Total
+    ensures { λ r. ⌜ (r .wrong ≡ 9) × (r .lost ≡ lost) × (r .items ≡ items) × (r .at ≡ at) ⌝ }
+{
+    Total {
+        end: Ending::Done,
+        at,
+        bit: 0,
+        items,
+        lost,
+        samples,
+        wrong: UNREAD,
+    }
+}
+
+// A recording, window by window: each begins where an item does.
+fn windows(b: Body, law: u32, set: u32, way: Way, tells: u32, window: &mut [u8]) -> Total
+    requires { ⌜ Reachable b ⌝ }
+    ensures { λ r. ⌜ (r .wrong ≡ 0 → TellsOne law set r) ⌝ }
+    ensures within { λ r. ⌜ (r .lost ≤ r .items) × (r .at ≤ b .size) ⌝ }
+{
+    let mut at = 0;
+    let mut items = 0;
+    let mut lost = 0;
+    let mut samples = 0;
+    loop {
+        let got = window_at(b, at, window);
+        if got.failed {
+            return unread(at, items, lost, samples);
+        }
+        let n = got.count;
+        let t = play(
+            &window[..n],
+            law,
+            set,
+            way,
+            tells,
+            Base { at, items, samples },
+        );
+        let end = t.end;
+        let total = Total {
+            end,
+            at: at + t.at,
+            bit: t.bit,
+            items: items + t.items,
+            lost: lost + t.lost,
+            samples: samples + t.samples,
+            wrong: t.wrong,
+        };
+        if t.wrong != sounds::NOTHING {
+            return total;
+        }
+        if !goes_further(recording::number_of(end), n, window.len(), b.size - at) {
+            return total;
+        }
+        if t.at == 0 {
+            return unread(at, items, lost, samples);
+        }
+        at = total.at;
+        items = total.items;
+        lost = total.lost;
+        samples = total.samples;
+    }
+}
+
+// A whole recording, from a file: its sound is used, and its losses, or all its items, are told.
+pub fn play_file(b: Body, law: u32, set: u32, way: Way, tells: u32) -> Total
+    requires { ⌜ Reachable b ⌝ }
+    ensures { λ r. ⌜ (r .wrong ≡ 0 → TellsOne law set r) ⌝ }
+    ensures within { λ r. ⌜ (r .lost ≤ r .items) × (r .at ≤ b .size) ⌝ }
+{
+    let mut window = [0u8; WINDOW];
+    windows(b, law, set, way, tells, &mut window)
 }

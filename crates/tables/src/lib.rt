@@ -282,7 +282,12 @@ pub fn marks_are(text: &[u8], at: usize, marks: &[u32], m: usize) -> Next
     let mut i = at;
     let mut j = 0;
     while j < m {
-        match mark_is(text, i, rows::wide(marks[2 * j]), rows::wide(marks[2 * j + 1])) {
+        match mark_is(
+            text,
+            i,
+            rows::wide(marks[2 * j]),
+            rows::wide(marks[2 * j + 1]),
+        ) {
             Next::Astray => {
                 return Next::Astray;
             }
