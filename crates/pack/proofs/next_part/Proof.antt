@@ -141,8 +141,8 @@ returns-3 c =
     let f = c .before .before .before .before .before .before .before .before .before .before .before .before .before .before in
     let r : Run = record { packed = k .pack-on .result; filled = f .filled-up .result; more = c .may-go-on .result; wrong = 0; left = c .before .before .before .before .before .before .before .before .before .before .before .before .before .before .before .before .before .before .before .read-part .result .left } in
     let t =
-        part-taken (a .args .s) (a .args .run) (a .pre .0) (a .pre .1) (part f) (a .args .page .now) (page k) (octets k) (part-most f) (a .pre .3)
-        (k .pack-on .ensures) (count f) (omega (arith, part-length f)) r refl (c .may-go-on .ensures)
+    part-taken (a .args .s) (a .args .run) (a .pre .0) (a .pre .1) (part f) (a .args .page .now) (page k) (octets k) (part-most f) (a .pre .3)
+    (k .pack-on .ensures) (count f) (omega (arith, part-length f)) r refl (c .may-go-on .ensures)
     in (t .stands, t .less)
 
 pub next-part-spec : {M : Type 1} → statement M
