@@ -53,7 +53,8 @@ fn around_a_part_s_end() {
     for (turn, length) in LENGTHS.into_iter().enumerate() {
         for parts in 1..4 {
             let law = (turn + parts) as u32 % 2;
-            for samples in [parts * PART - 320, parts * PART - 40, parts * PART, parts * PART + 40, parts * PART + 320] {
+            for samples in [parts * PART - 320, parts * PART - 40, parts * PART, parts * PART + 40, parts * PART + 320]
+            {
                 let mut sound = rng.octets(samples);
                 sound[samples / 3..samples / 2].fill(plus_zero(law));
                 let (stop, made) = packed_and_back(&mut room, &sound, law, length);
