@@ -34,6 +34,9 @@
  *
  * VERSIONS
  *   G7110_VERSION goes up by one when a call is added, or a call or its report changes.
+ *   11  walks, files and mending take up to G7110_MAX_STREAM octets, and a store's block may be that large: both were 65,535 and
+ *       16,384. A saved table of a block above 65,535 octets begins with the line form=2; version 10 refuses it with G7110_TABLE.
+ *       No call and no report changes, and a table of a block of up to 16,384 octets is as it was.
  *   10  g7110_store_jump.
  *   9   g7110_store_put takes the law, before the number. A store's table has more numbers: the law, the samples and the marks of
  *       each greeting. g7110_store_save writes them; g7110_store_load takes its text and that of version 7. A program that was
@@ -207,7 +210,7 @@
  *
  *   Mend a greeting of 40,000 samples, and say what was lost:
  *
- *     uint8_t mended[G7110_MAX_STREAM];
+ *     static uint8_t mended[G7110_MAX_STREAM];
  *     uint64_t told[4];
  *     if (g7110_mend(damaged, damaged_len, 1, 40000, mended, sizeof mended, told) != G7110_OK) return 1;
  *     // the first told[0] octets of mended are a greeting of 40,000 samples; the last told[3] of them are plus zeros
@@ -222,12 +225,12 @@
 extern "C" {
 #endif
 
-#define G7110_VERSION 10
+#define G7110_VERSION 11
 
 #define G7110_MAX_SAMPLES 320 /* samples of a frame */
 #define G7110_MAX_WRITTEN 321 /* octets of a written frame */
 #define G7110_MAX_FRAME 402   /* octets of an accepted frame */
-#define G7110_MAX_STREAM 65535 /* octets of a walk */
+#define G7110_MAX_STREAM 1048576 /* octets of a walk */
 #define G7110_ALL_TOOLS 127
 #define G7110_STACK 8192       /* octets of stack, measured */
 #define G7110_WHY_TEXT 512     /* octets lent for the text of g7110_why */
@@ -235,13 +238,13 @@ extern "C" {
 #define G7110_SETTINGS_TEXT 80 /* octets lent for their text, which has at most 67 */
 #define G7110_NO_SETTINGS_BLOCK 16384 /* octets of the block of a box that has no settings */
 #define G7110_MOST_TOTAL 1000000      /* samples of a greeting that is mended */
-#define G7110_MAX_BLOCK 16384  /* octets of a store's block */
+#define G7110_MAX_BLOCK 1048576 /* octets of a store's block */
 #define G7110_MAX_GREETINGS 32 /* greetings of a store */
 #define G7110_MAX_NUMBER 65535 /* the greatest number of a greeting */
-#define G7110_MAX_CELLS 770    /* numbers of the table of the largest block */
-#define G7110_MAX_TABLE 7392   /* octets of the text of a table that calls left */
+#define G7110_MAX_CELLS 33026  /* numbers of the table of the largest block */
+#define G7110_MAX_TABLE 379687 /* octets of the text of a table that calls left */
 #define G7110_HEADING 10       /* octets of a file's heading */
-#define G7110_MAX_FILE 65545   /* octets of a file, its heading too */
+#define G7110_MAX_FILE 1048586 /* octets of a file, its heading too */
 #define G7110_LOSS 32768       /* what is added to a loss's length in a list of items */
 
 /* The refusals, by number. */
@@ -259,7 +262,7 @@ enum {
     G7110_LENGTH = 10, /* writer or conversion given other than 0, 40, 80, 160, 240, 320 samples; a list of items that is none */
     G7110_SET = 11,    /* set above 127, or even for a writer */
     G7110_LAW = 12,    /* law above 1 */
-    G7110_LONG = 13,   /* walk given more than 65,535 octets; a file with more behind its heading */
+    G7110_LONG = 13,   /* walk given more than 1,048,576 octets; a file with more behind its heading */
     G7110_HEAD = 14,   /* the first ten octets of a file are no heading: another letter or version, or fewer octets */
     G7110_NUMBER = 15, /* a greeting's number is 0 or above 65,535 */
     G7110_TAKEN = 16,  /* put: a greeting has the number */
@@ -344,7 +347,8 @@ uint32_t g7110_store_delete(const uint8_t *block, size_t block_len, uint32_t *ta
 uint32_t g7110_store_jump(const uint8_t *block, size_t block_len, const uint32_t *table, size_t table_len, uint32_t number,
                           uint64_t sample, uint64_t report[4]);
 
-/* Saves a store's table as text (document 02, R-6 and R-8): for each greeting in order of start the lines `prompt=`, `start=`,
+/* Saves a store's table as text (document 02, R-6, R-8 and R-11): the line `form=2` where the block has more than 65,535 octets, and
+ * only then, so that an older version refuses the text; then for each greeting in order of start the lines `prompt=`, `start=`,
  * `octets=`, `law=`, `samples=`, and for each of its marks a line `mark=` with the octets, a comma and the samples; decimal without
  * leading zeros, each line ended by octet 0A; of a table that calls left at most G7110_MAX_TABLE octets. The text stands at the start
  * of the lent octets; the rest stays as lent. Refused with G7110_TABLE where the table is not one that calls leave for this block,
@@ -353,8 +357,9 @@ uint32_t g7110_store_save(const uint8_t *block, size_t block_len, const uint32_t
                           uint8_t *out, size_t out_len, uint64_t report[1]);
 
 /* Loads a table's text, with its block, into the lent table, which is output: only its length is judged. The text is all in the
- * lines that save writes, or all in those of version 7, `prompt=`, `start=` and `octets=` alone: then each greeting is of law 1, as
- * the early boxes' were, with the samples and marks of its walk. Refused, each time over the whole text: with G7110_TABLE for other
+ * lines that save writes, with the line `form=2` first or without it, or all in those of version 7, `prompt=`, `start=` and `octets=`
+ * alone: then each greeting is of law 1, as the early boxes' were, with the samples and marks of its walk. Without the first line a
+ * start or a count of octets is at most 65,535. Refused, each time over the whole text: with G7110_TABLE for other
  * lines, a law above 1, a number out of range or used twice, greetings that overlap or pass the block's end; only then with
  * G7110_BAD for a greeting that is empty or that the walk refuses with set 127; only then with G7110_TABLE for samples or marks that
  * the walk does not give. A refused call leaves the table as lent. What save writes of a table that calls left, load takes;

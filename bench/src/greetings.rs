@@ -3,7 +3,7 @@
 use crate::frames::{by_kind, recordings, Batch};
 use crate::{table, written};
 
-/// Octets of a store's block, and so of the longest greeting.
+/// Octets of the block of a box without settings.
 pub const BLOCK: usize = 16_384;
 
 /// One row of a table: a stream, and what the walk finds in it.
@@ -20,6 +20,15 @@ impl Greeting {
         let walked = second::walk(&octets, law, crate::SET, &mut out);
         assert_eq!(walked.ending, 0);
         Greeting { name: name.into(), law, octets, samples: walked.samples }
+    }
+
+    /// Two minutes of a hotel's guide, in frames of 160 samples.
+    pub fn two_minutes() -> Greeting {
+        let path = concat!(env!("CARGO_MANIFEST_DIR"), "/../tests/data/recordings/long/hotel.ul8");
+        let sound = std::fs::read(path).expect("it is shipped");
+        let frames = sound.chunks_exact(160).map(<[u8]>::to_vec).collect();
+        let batch = Batch { name: String::new(), law: 1, frames };
+        Greeting::of("two minutes", 1, written(&batch).concat())
     }
 
     /// As many of the frames, over and over, as these octets hold.

@@ -4,13 +4,13 @@
 use crate::calls;
 use crate::greetings::{greetings, Greeting, BLOCK};
 use crate::store::{Both, NUMBER};
-use crate::table;
 use crate::time::best;
+use crate::{table, LONGEST};
 use std::hint::black_box;
 
-/// A store that holds one greeting.
+/// A store that holds one greeting, in a usual block or, if that is too small, in one that it fills.
 fn holding(octets: &[u8]) -> Both {
-    let mut both = Both::fresh();
+    let mut both = Both::of(octets.len().max(BLOCK));
     both.put(NUMBER, octets);
     both
 }
@@ -82,6 +82,23 @@ fn skipping(Greeting { name, octets, samples, .. }: &Greeting) {
     println!("| {name} | {read} | {jump:.0} | {each} |");
 }
 
+/// Longer greetings: jumps cost the same as in a usual block.
+fn long_tables() {
+    head("Longer greetings: a jump to the last of so many frames, 40 samples each", "frames");
+    for frames in [BLOCK, 65_536, LONGEST] {
+        let both = holding(&vec![0x41; frames]);
+        row(&frames.to_string(), frames - 1, &both, 40 * frames - 1, "-");
+    }
+    head("Longer greetings: a jump into two minutes, beside a walk to it", "second");
+    let two_minutes = Greeting::two_minutes();
+    let both = holding(&two_minutes.octets);
+    for second in [1, 30, 60, 90, 119] {
+        let sample = 8_000 * second;
+        let frame = both.second.jump(NUMBER, sample as u64).expect("it has two minutes").frame;
+        row(&second.to_string(), frame, &both, sample, "-");
+    }
+}
+
 pub fn tables() {
     near_the_end();
     growing();
@@ -90,4 +107,5 @@ pub fn tables() {
         "| greeting | frames read | jump, ns | a frame, ns | walk, a frame, ns | second, a frame, ns |",
     );
     greetings(BLOCK).iter().for_each(skipping);
+    long_tables();
 }

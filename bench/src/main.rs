@@ -8,6 +8,7 @@ mod calls;
 mod frames;
 mod greetings;
 mod jumps;
+mod long;
 mod mended;
 #[cfg(feature = "writer")]
 mod reasons;
@@ -22,8 +23,10 @@ use time::best;
 
 const SET: u32 = 127;
 const LENGTHS: [usize; 5] = [40, 80, 160, 240, 320];
-/// Octets of the longest stream.
+/// Octets of a long stream: the longest before R-11.
 const STREAM: usize = 65_535;
+/// Octets of the longest stream, and of the largest block.
+const LONGEST: usize = 1_048_576;
 
 /// A frame of the greatest size: 320 samples, S = 9, 320 empty runs.
 fn longest() -> Vec<u8> {
@@ -208,7 +211,7 @@ fn walking(batch: &Batch) {
 
 /// How a walk's cost grows: nanoseconds an octet of streams of one frame over and over.
 fn growth(name: &str, frame: &[u8]) {
-    for octets in [1_000, 4_000, 16_000, STREAM] {
+    for octets in [1_000, 4_000, 16_000, STREAM, LONGEST] {
         let stream = frame.repeat(octets / frame.len());
         let ([proved, second, copy, _], _) = walk_times(&stream, 1, &[]);
         row(&format!("{name} | {}", stream.len()), [proved, second, copy], stream.len() as f64);
@@ -247,6 +250,7 @@ const PARTS: &[(&str, fn())] = &[
     ("frames", frame_tables),
     ("linear", linear_tables),
     ("store", store::tables),
+    ("long", long::tables),
     ("mend", mended::tables),
     #[cfg(feature = "writer")]
     ("why", reasons::tables),
@@ -257,7 +261,7 @@ const PARTS: &[(&str, fn())] = &[
 fn main() {
     let asked: Vec<String> = std::env::args().skip(1).collect();
     if let Some(word) = asked.iter().find(|word| PARTS.iter().all(|(name, _)| name != word)) {
-        eprintln!("There is no part {word}: frames, linear, store, mend, why, file.");
+        eprintln!("There is no part {word}: frames, linear, store, long, mend, why, file.");
         std::process::exit(1);
     }
     println!("Best of several turns; ns a frame. Speed to second: the second program's time over the proved code's.");

@@ -8,7 +8,7 @@ use std::hint::black_box;
 /// Some of a greeting's octets, mended to the greeting's whole total.
 fn mending(what: &str, Greeting { name, law, samples, .. }: &Greeting, octets: &[u8]) {
     let total = *samples as u64;
-    let mut outs = [[0; g7110::MAX_STREAM]; 2];
+    let mut outs = [0, 1].map(|_| vec![0; g7110::MAX_STREAM]);
     let [one, other] = outs.each_mut();
     let mut out = vec![0; samples + 320];
     let times = best([

@@ -2,7 +2,8 @@
 //! the short calls. Jumps are in jumps.rs.
 //!
 //! A call that changes the table finds it as it was each time, and that is in the time: for a put, whose greeting is the last,
-//! the 194 cells before the marks are copied back, for a delete all 770.
+//! the 194 cells before the marks are copied back, for a delete all of them, 770 in a usual block. bench/src/long.rs has the same
+//! for the largest block.
 
 use crate::calls;
 use crate::greetings::{greetings, head, row, Greeting, BLOCK};
@@ -28,7 +29,12 @@ pub struct Both {
 
 impl Both {
     pub fn fresh() -> Both {
-        Both { block: vec![0; BLOCK], table: vec![0; g7110::store::cells(BLOCK)], second: Store::fresh(vec![0; BLOCK]) }
+        Both::of(BLOCK)
+    }
+
+    /// On a fresh block of so many octets.
+    pub fn of(size: usize) -> Both {
+        Both { block: vec![0; size], table: vec![0; g7110::store::cells(size)], second: Store::fresh(vec![0; size]) }
     }
 
     /// The octets that moved.
@@ -46,7 +52,7 @@ impl Both {
     }
 
     /// The same greeting so many times, numbered from 1.
-    fn fill(&mut self, count: u32, octets: &[u8]) {
+    pub fn fill(&mut self, count: u32, octets: &[u8]) {
         (1..=count).for_each(|number| {
             self.put(number, octets);
         });
@@ -54,18 +60,18 @@ impl Both {
 }
 
 /// The proved code's store, put back before each call.
-struct Proved {
+pub struct Proved {
     block: Vec<u8>,
     before: Vec<u32>,
     table: Vec<u32>,
 }
 
 impl Proved {
-    fn of(both: &Both) -> Proved {
+    pub fn of(both: &Both) -> Proved {
         Proved { block: both.block.clone(), before: both.table.clone(), table: both.table.clone() }
     }
 
-    fn put(&mut self, law: u32, octets: &[u8]) {
+    pub fn put(&mut self, law: u32, octets: &[u8]) {
         self.table[..BEFORE_MARKS].copy_from_slice(black_box(&self.before[..BEFORE_MARKS]));
         black_box(calls::proved_put(&mut self.block, &mut self.table, law, NUMBER, black_box(octets)));
     }
@@ -77,17 +83,17 @@ impl Proved {
 }
 
 /// The second program's, put back in the same way.
-struct Model {
+pub struct Model {
     store: Store,
     before: Vec<Row>,
 }
 
 impl Model {
-    fn of(both: &Both) -> Model {
+    pub fn of(both: &Both) -> Model {
         Model { store: both.second.clone(), before: both.second.greetings.clone() }
     }
 
-    fn put(&mut self, law: u32, octets: &[u8]) {
+    pub fn put(&mut self, law: u32, octets: &[u8]) {
         self.store.greetings.clone_from(black_box(&self.before));
         black_box(calls::second_put(&mut self.store, law, NUMBER, black_box(octets)));
     }
@@ -135,10 +141,10 @@ fn putting(both: &Both, of_r_6: f64, Greeting { name, law, octets, samples }: &G
 }
 
 /// A block that is full but for a gap before so many greetings and one behind them, both of one octet less than a put needs.
-fn apart(count: u32, gap: usize) -> Both {
-    let mut both = Both::fresh();
+fn apart(size: usize, count: u32, gap: usize) -> Both {
+    let mut both = Both::of(size);
     both.put(NUMBER, &vec![0; gap]);
-    let rest = BLOCK - 2 * gap;
+    let rest = size - 2 * gap;
     both.fill(count - 1, &vec![0; rest / count as usize]);
     both.put(count, &vec![0; rest - rest / count as usize * (count as usize - 1)]);
     both.delete(NUMBER);
@@ -146,12 +152,12 @@ fn apart(count: u32, gap: usize) -> Both {
 }
 
 /// A put that closes up, less the same put behind greetings that are together already; beside memmove of the octets.
-fn closing_up(count: u32, octets: &[u8]) {
+fn closing_up(size: usize, count: u32, octets: &[u8]) {
     let gap = octets.len() - 1;
-    let apart = apart(count, gap);
+    let apart = apart(size, count, gap);
     let mut together = apart.clone();
     let moved = together.put(NUMBER, octets);
-    assert_eq!(moved, BLOCK - 2 * gap);
+    assert_eq!(moved, size - 2 * gap);
     together.delete(NUMBER);
     let (mut one, mut other) = (Proved::of(&apart), Proved::of(&together));
     let (mut third, mut fourth) = (Model::of(&apart), Model::of(&together));
@@ -189,14 +195,16 @@ fn getting(name: &str, both: &Both, number: u32) {
     short(&format!("get, {name}"), times, "below 1,000");
 }
 
+/// All cells are copied back each time: of the largest block that is most of it.
 fn deleting(name: &str, both: &Both, number: u32) {
     let (mut proved, mut model) = (Proved::of(both), Model::of(both));
     let times = best([&mut || proved.delete(number), &mut || model.delete(number)]);
-    short(&format!("delete, {name}"), times, "below 1,000");
+    let wanted = if both.block.len() == BLOCK { "below 1,000" } else { "-" };
+    short(&format!("delete, {name}"), times, wanted);
 }
 
 fn saving(both: &Both) {
-    let mut outs = [[0; g7110::saved::MAX_TABLE]; 2];
+    let mut outs = [0, 1].map(|_| vec![0; g7110::saved::MAX_TABLE]);
     let [one, other] = outs.each_mut();
     let times = best([
         &mut || {
@@ -210,11 +218,11 @@ fn saving(both: &Both) {
 }
 
 /// Loading walks each greeting: the walk over them all stands beside it. The second program's block is copied.
-fn loading(greeting: &Greeting) {
-    let mut both = Both::fresh();
-    both.fill(32, &greeting.octets);
+pub fn loading(size: usize, greetings: u32, greeting: &Greeting) {
+    let mut both = Both::of(size);
+    both.fill(greetings, &greeting.octets);
     let (text, held) = (both.second.text(), both.second.held());
-    let mut out = vec![0; 32 * greeting.samples + 320];
+    let mut out = vec![0; greetings as usize * greeting.samples + 320];
     assert_eq!(g7110::saved::load(&text, &both.block, &mut both.table), Ok(()));
     let times = best([
         &mut || {
@@ -253,36 +261,38 @@ fn uncompressed(samples: usize, octets: usize) -> Vec<u8> {
     form
 }
 
-/// Moved by 1, by 256 so that 31 greetings have 512 octets each, and by 320.
-fn closings() {
+/// Moved by 1, by 256 so that 31 greetings of a usual block have 512 octets each, and by 320.
+pub fn closings(title: &str, size: usize) {
     table(
-        "The store: closing up, beside memmove of the octets moved",
+        title,
         "| greetings | moved by | octets moved | the whole put, ns | closing up, ns | memmove, ns | speed to memmove \
          | wanted | second, ns | speed to second |",
     );
     for count in [1, 8, 31] {
-        closing_up(count, &[0, 0]);
-        closing_up(count, &uncompressed(240, 257));
-        closing_up(count, &uncompressed(320, 321));
+        closing_up(size, count, &[0, 0]);
+        closing_up(size, count, &uncompressed(240, 257));
+        closing_up(size, count, &uncompressed(320, 321));
     }
 }
 
-pub fn tables() {
-    puts();
-    closings();
-    table(
-        "The store: short calls at 32 greetings of 512 octets",
-        "| call | proved, ns | wanted | second, ns | speed to second |",
-    );
-    let mut full = Both::fresh();
-    full.fill(32, &[0; 512]);
+/// At 32 greetings of pads that fill a block.
+pub fn short_calls(title: &str, size: usize) {
+    table(title, "| call | proved, ns | wanted | second, ns | speed to second |");
+    let mut full = Both::of(size);
+    full.fill(32, &vec![0; size / 32]);
     getting("first", &full, 1);
     getting("last", &full, 32);
     getting("absent", &full, NUMBER);
     deleting("first", &full, 1);
     deleting("last", &full, 32);
     saving(&full);
+}
+
+pub fn tables() {
+    puts();
+    closings("The store: closing up, beside memmove of the octets moved", BLOCK);
+    short_calls("The store: short calls at 32 greetings of 512 octets", BLOCK);
     head("The store: loading 32 greetings of at most 512 octets, beside the walk over them", "load");
-    greetings(512).iter().for_each(loading);
+    greetings(512).iter().for_each(|greeting| loading(BLOCK, 32, greeting));
     crate::jumps::tables();
 }

@@ -1,12 +1,13 @@
 //! The listing program's text.
 
 use crate::law::Law;
-use crate::read::{read_one, Frame};
+use crate::read::{check, read_one, Frame};
 use crate::refusal::Refusal;
-use crate::walk::check_stream;
 use crate::MOST_SAMPLES;
 
 const ALL_TOOLS: u32 = 127;
+/// The longest stream that is listed: fewer octets than a walk takes.
+const MOST_LISTED: usize = 65_535;
 
 /// The whole output for the whole standard input, the letter included.
 pub fn listing(input: &[u8]) -> Vec<u8> {
@@ -26,7 +27,10 @@ fn open(input: &[u8]) -> Result<(u32, Law, &[u8]), Refusal> {
         b'M' => 1,
         _ => return Err(Refusal::Law),
     };
-    let law = check_stream(stream, number, ALL_TOOLS)?;
+    let law = check(number, ALL_TOOLS)?;
+    if stream.len() > MOST_LISTED {
+        return Err(Refusal::Long);
+    }
     Ok((number, law, stream))
 }
 

@@ -40,6 +40,9 @@ pub struct Jump {
 /// Samples and marks of a greeting; none if the walk, room never short,
 /// refuses it, or if it is empty.
 pub fn walk_greeting(octets: &[u8], law: u32) -> Option<Walked> {
+    if octets.is_empty() || octets.len() > MOST_OCTETS {
+        return None;
+    }
     let mut walked = Walked::default();
     let mut at = 0;
     let mut frames = 0;
@@ -53,7 +56,7 @@ pub fn walk_greeting(octets: &[u8], law: u32) -> Option<Walked> {
         at += length;
         walked.samples += samples;
     }
-    (frames > 0 && octets.len() <= MOST_OCTETS).then_some(walked)
+    Some(walked)
 }
 
 /// The frame of a greeting that holds a sample. None where the marks, which

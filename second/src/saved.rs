@@ -1,4 +1,5 @@
-//! A store's table as lines (document 02, R-6 and R-8), written and read.
+//! A store's table as lines (document 02, R-6, R-8 and R-11), written and
+//! read.
 //!
 //! Reading has three steps over the whole table, one after the other: the
 //! lines and all that they alone can tell, with TABLE; the walk over each
@@ -9,6 +10,12 @@ use crate::store::{Greeting, Store, BAD, MOST_GREETINGS, MOST_NUMBER, ROOM, TABL
 
 /// The law of greetings in R-6's lines, which don't name it.
 const EARLY_LAW: u32 = 1;
+/// The first line of a table that an old box must not read.
+const FORM_2: &str = "form=2\n";
+/// The greatest start, octet count and block of a table without that line.
+const MOST_WITHOUT: usize = 65_535;
+/// The largest block of an old box, one from before R-11.
+const OLD_BLOCK: usize = 16_384;
 
 impl Store {
     /// Writes the table to the start of `out`; gives its octets.
@@ -18,9 +25,13 @@ impl Store {
         Ok(text.len())
     }
 
-    /// The table's lines, always R-8's.
+    /// The table's lines, always R-8's, behind R-11's first line where it is
+    /// asked for.
     pub fn text(&self) -> Vec<u8> {
         let mut text = String::new();
+        if self.asks_for_form_2() {
+            text += FORM_2;
+        }
         for Greeting { number, start, octets, law, samples, marks } in &self.greetings {
             text += &format!("prompt={number}\nstart={start}\noctets={octets}\nlaw={law}\nsamples={samples}\n");
             for mark in marks {
@@ -30,22 +41,42 @@ impl Store {
         text.into_bytes()
     }
 
+    /// Whether a start, an octet count or the block is more than a table
+    /// without `form=2` says.
+    fn asks_for_form_2(&self) -> bool {
+        let large = |greeting: &Greeting| greeting.start.max(greeting.octets) > MOST_WITHOUT;
+        self.size() > MOST_WITHOUT || self.greetings.iter().any(large)
+    }
+
     /// The store that a table and its block give.
     pub fn load(text: &[u8], block: Vec<u8>) -> Result<Store, u32> {
-        let mut store = Store::fresh(block);
+        let store = Store::fresh(block);
         let rows = parse(text, store.size()).ok_or(TABLE)?;
-        let mut all_true = true;
-        for row in rows {
-            let octets = &store.block[row.start..row.start + row.octets];
-            let law = row.said.as_ref().map_or(EARLY_LAW, |said| said.law);
-            let walked = walk_greeting(octets, law).ok_or(BAD)?;
-            all_true &= row.said.is_none_or(|said| said.is_what(&walked));
-            let Walked { samples, marks } = walked;
-            let Row { number, start, octets, .. } = row;
-            store.greetings.push(Greeting { number, start, octets, law, samples, marks });
-        }
-        all_true.then_some(store).ok_or(TABLE)
+        filled(store, rows)
     }
+}
+
+/// The store that an old box, one from before R-11, gives for a table and its
+/// block. To it `form=2` is no line of a table, so it refuses one that begins
+/// with it there.
+pub fn old_reads(text: &[u8], block: Vec<u8>) -> Result<Store, u32> {
+    let rows = parse_rows(text, block.len().min(OLD_BLOCK)).ok_or(TABLE)?;
+    filled(Store::fresh(block), rows)
+}
+
+/// A store of these greetings, if the walk gives what is said of them.
+fn filled(mut store: Store, rows: Vec<Row>) -> Result<Store, u32> {
+    let mut all_true = true;
+    for row in rows {
+        let octets = &store.block[row.start..row.start + row.octets];
+        let law = row.said.as_ref().map_or(EARLY_LAW, |said| said.law);
+        let walked = walk_greeting(octets, law).ok_or(BAD)?;
+        all_true &= row.said.is_none_or(|said| said.is_what(&walked));
+        let Walked { samples, marks } = walked;
+        let Row { number, start, octets, .. } = row;
+        store.greetings.push(Greeting { number, start, octets, law, samples, marks });
+    }
+    all_true.then_some(store).ok_or(TABLE)
 }
 
 /// A greeting's lines.
@@ -72,8 +103,18 @@ impl Said {
 }
 
 /// The greetings of a table that is good but for what their octets are, and
-/// for what the walk gives of them.
+/// for what the walk gives of them. Behind `form=2` all are in R-8's lines;
+/// without it no start and no octet count is large.
 fn parse(text: &[u8], size: usize) -> Option<Vec<Row>> {
+    let (rows, good): (Vec<Row>, fn(&Row) -> bool) = match text.strip_prefix(FORM_2.as_bytes()) {
+        Some(behind) => (parse_rows(behind, size)?, |row| row.said.is_some()),
+        None => (parse_rows(text, size)?, |row| row.start.max(row.octets) <= MOST_WITHOUT),
+    };
+    rows.iter().all(good).then_some(rows)
+}
+
+/// The same without R-11's first line, and with no word on large numbers.
+fn parse_rows(text: &[u8], size: usize) -> Option<Vec<Row>> {
     let mut rows: Vec<Row> = vec![];
     let mut rest = text;
     let mut end = 0;
@@ -91,12 +132,13 @@ fn parse(text: &[u8], size: usize) -> Option<Vec<Row>> {
         }
         end = start + octets;
         let number = number as u32;
-        if rows.iter().any(|row| row.number == number || row.said.is_some() != said.is_some()) {
+        let against = |row: &Row| row.number == number || row.said.is_some() != said.is_some();
+        if rows.len() == MOST_GREETINGS || rows.iter().any(against) {
             return None;
         }
         rows.push(Row { number, start: start as usize, octets: octets as usize, said });
     }
-    (rows.len() <= MOST_GREETINGS).then_some(rows)
+    Some(rows)
 }
 
 /// R-8's lines of a greeting: the law, the samples, then marks, as many as

@@ -22,8 +22,9 @@ const NOROOM: u32 = 20;
 const BEYOND: u32 = 21;
 pub(crate) const TABLE: u32 = 26;
 
-/// A block has at most so many octets; what is lent past them isn't used.
-pub const MOST_BLOCK: usize = 16_384;
+/// A block has at most so many octets; what is lent past them isn't
+/// used.
+pub const MOST_BLOCK: usize = 1_048_576;
 pub const MOST_GREETINGS: usize = 32;
 pub(crate) const MOST_NUMBER: u32 = 65_535;
 

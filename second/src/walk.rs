@@ -4,8 +4,8 @@ use crate::law::Law;
 use crate::read::{check, read_one, Frame};
 use crate::refusal::Refusal;
 
-/// The longest stream a walk takes.
-pub(crate) const MOST_OCTETS: usize = 65_535;
+/// The longest stream a walk takes (document 02, R-11).
+pub(crate) const MOST_OCTETS: usize = 1_048_576;
 
 #[derive(Clone, Copy, Debug, PartialEq, Eq)]
 pub struct WalkReport {
@@ -50,7 +50,7 @@ pub fn walk(octets: &[u8], law: u32, set: u32, out: &mut [u8]) -> WalkReport {
 }
 
 /// LAW and SET, then LONG.
-pub(crate) fn check_stream(octets: &[u8], law: u32, set: u32) -> Result<Law, Refusal> {
+fn check_stream(octets: &[u8], law: u32, set: u32) -> Result<Law, Refusal> {
     let law = check(law, set)?;
     if octets.len() > MOST_OCTETS {
         return Err(Refusal::Long);

@@ -321,7 +321,11 @@ fn cells() {
     assert_eq!(table::cells(64), 260);
     assert_eq!(table::cells(16_384), 770);
     assert_eq!(table::cells(16_385), 770);
-    assert_eq!(table::cells(u64::MAX), 770);
+    assert_eq!(table::cells(16_448), 772);
+    assert_eq!(table::cells(1_048_575), 33_024);
+    assert_eq!(table::cells(1_048_576), 33_026);
+    assert_eq!(table::cells(1_048_640), 33_026);
+    assert_eq!(table::cells(u64::MAX), 33_026);
     let mut store = fresh(200);
     store.put(A, 7, &[0x41; 65]).unwrap();
     store.put(MU, 65_535, &[0, 0x31]).unwrap();

@@ -16,7 +16,7 @@ const H: [u8; 10] = [0x23, 0x21, 0x47, 0x37, 0x31, 0x31, 0x30, 0x4D, 0x0A, 0x00]
 
 /// A file's report, items and samples, in room enough.
 fn read(octets: &[u8], set: u32) -> (FileReport, Vec<u16>, Vec<u8>) {
-    let (mut out, mut items) = (vec![0xA7; 30_000], vec![0xA7A7; 70_000]);
+    let (mut out, mut items) = (vec![0xA7; 30_000], vec![0xA7A7; octets.len()]);
     let report = read_file(octets, set, &mut out, &mut items);
     assert!(out[report.samples..].iter().all(|&octet| octet == 0xA7));
     assert!(items[report.items..].iter().all(|&item| item == 0xA7A7));
@@ -89,11 +89,11 @@ fn refusals_of_reading() {
         let report = read(octets, set).0;
         (report.ending, report.law, report.items, report.octets, report.samples, report.tool, report.bit)
     };
-    let long = [&H[..], &[0; 65_536]].concat();
+    let long = [&H[..], &vec![0; 1_048_577]].concat();
     assert_eq!(tell(&long, 128), (SET, 0, 0, 0, 0, 0, 0));
     assert_eq!(tell(&long[1..], 127), (HEAD, 0, 0, 0, 0, 0, 0));
     assert_eq!(tell(&long, 127), (LONG, 1, 0, 0, 0, 0, 0));
-    assert_eq!(tell(&long[..65_545], 127), (0, 1, 65_535, 65_535, 0, 0, 0));
+    assert_eq!(tell(&long[..1_048_586], 127), (0, 1, 1_048_576, 1_048_576, 0, 0, 0));
     // H twice: 23 21 is a frame.
     assert_eq!(tell(&[H, H].concat(), 127), (2, 1, 1, 2, 240, 0, 0));
     // As a walk: TOOL, SHORT, ALIGN with its bit.
@@ -130,7 +130,7 @@ fn writing() {
 
 #[test]
 fn refusals_of_writing() {
-    let long = vec![LOSS; 65_536];
+    let long = vec![LOSS; 1_048_577];
     assert_eq!(write_file(&[0], &[41], 2, 0, &mut []), Err(LAW));
     assert_eq!(write_file(&[0], &[41], 1, 0, &mut []), Err(SET));
     assert_eq!(write_file(&[0], &[41], 1, 129, &mut []), Err(SET));

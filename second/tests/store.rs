@@ -113,14 +113,14 @@ fn refusals_in_order() {
 /// is NOROOM.
 #[test]
 fn long_greetings() {
-    let mut store = fresh(MOST_BLOCK);
-    assert_eq!(store.put(MU, 1, &vec![0; 65_536]), Err(BAD));
-    assert_eq!(store.put(MU, 1, &vec![0; 65_535]), Err(NOROOM));
+    let mut store = fresh(16_384);
+    assert_eq!(store.put(MU, 1, &vec![0; 1_048_577]), Err(BAD));
+    assert_eq!(store.put(MU, 1, &vec![0; 1_048_576]), Err(NOROOM));
     assert_eq!(store.put(MU, 1, &vec![0; 16_385]), Err(NOROOM));
     assert_eq!(store.put(MU, 1, &vec![0; 16_384]), put(0, 0));
 }
 
-/// G4: a block is as long as what is lent, and at most 16,384 octets of it.
+/// G4: a block is as long as what is lent, and at most 1,048,576 octets of it.
 #[test]
 fn blocks_of_other_sizes() {
     let mut none = fresh(0);
@@ -128,7 +128,7 @@ fn blocks_of_other_sizes() {
     assert_eq!(Store::load(b"", vec![]), Ok(none));
     let mut large = fresh(MOST_BLOCK + 5);
     assert_eq!(large.size(), MOST_BLOCK);
-    assert_eq!(large.put(MU, 1, &vec![0; 16_384]), put(0, 0));
+    assert_eq!(large.put(MU, 1, &vec![0; 1_048_576]), put(0, 0));
     assert_eq!(large.put(MU, 2, &[0]), Err(NOROOM));
     assert_eq!(large.block[MOST_BLOCK..], [0xEE; 5]);
 }
@@ -163,7 +163,7 @@ fn tables() {
         b"prompt=1\nstart=0\noctets=1\n\0",
         b"\nprompt=1\nstart=0\noctets=1\n",
         b"prompt=1\r\nstart=0\r\noctets=1\r\n",
-        b"form=2\n",
+        b"form=1\n",
     ] {
         assert_eq!(load(text), Err(TABLE), "{}", text.escape_ascii());
     }

@@ -195,13 +195,37 @@ static int store(void)
     return 0;
 }
 
+/* Longer greetings: a block of more than 65,535 octets, whose table is saved behind a first line. Without that line a start or octet
+ * count above 65,535 is refused, and no number is ever shortened. */
+static int long_greetings(void)
+{
+    static const char form[] = "form=2\n";
+    static const char lines[] = "form=2\nprompt=7\nstart=70000\noctets=2\nlaw=1\nsamples=0\nmark=0,0\n";
+    static uint8_t block[70002], pads[70001], text[G7110_MAX_TABLE];
+    static uint32_t table[G7110_MAX_CELLS];
+    uint64_t told[2], octets[1], walked[5];
+    size_t cells = (size_t)g7110_store_cells(sizeof block);
+    CHECK(g7110_walk(block, sizeof block, 1, 0, NULL, 0, walked) == G7110_OK && walked[0] == 70002 && walked[1] == 70002);
+    CHECK(cells == 2444 && g7110_store_cells(UINT64_MAX) == G7110_MAX_CELLS);
+    CHECK(g7110_store_save(block, sizeof block, table, cells, text, sizeof text, octets) == G7110_OK);
+    CHECK(octets[0] == strlen(form) && memcmp(text, form, strlen(form)) == 0);
+    CHECK(g7110_store_load((const uint8_t *)lines, strlen(lines), block, sizeof block, table, cells) == G7110_OK);
+    CHECK(g7110_store_get(block, sizeof block, table, cells, 7, told) == G7110_OK && told[0] == 70000 && told[1] == 2);
+    CHECK(g7110_store_save(block, sizeof block, table, cells, text, sizeof text, octets) == G7110_OK);
+    CHECK(octets[0] == strlen(lines) && memcmp(text, lines, strlen(lines)) == 0);
+    CHECK(g7110_store_load((const uint8_t *)lines + 7, strlen(lines) - 7, block, sizeof block, table, cells) == G7110_TABLE);
+    CHECK(g7110_store_put(block, sizeof block, table, cells, 1, 8, pads, sizeof pads, told) == G7110_NOROOM && told[0] == 0);
+    CHECK(g7110_store_get(block, sizeof block, table, cells, 7, told) == G7110_OK && told[0] == 70000);
+    return 0;
+}
+
 int main(void)
 {
     uint8_t samples[160];
     size_t at;
     for (at = 0; at < sizeof samples; at++) samples[at] = at % 20 == 0 ? 0xFE : 0xFF;
     if (keep_and_get_back(samples) || nothing_lent() || walk_and_stop() || refused()) return 1;
-    if (to_linear_and_back(samples) || settings() || recording(samples) || store()) return 1;
+    if (to_linear_and_back(samples) || settings() || recording(samples) || store() || long_greetings()) return 1;
     printf("ok\n");
     return 0;
 }

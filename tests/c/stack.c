@@ -20,10 +20,11 @@ struct call {
     size_t length;
 };
 
-static uint8_t out[1 << 16];
+static uint8_t out[G7110_MAX_TABLE];
 static int16_t linear[320];
 static uint32_t state[G7110_SETTINGS];
 static uint8_t block[G7110_MAX_BLOCK];
+static size_t block_len = G7110_NO_SETTINGS_BLOCK;
 static uint32_t table[G7110_MAX_CELLS];
 static uint32_t number;
 static uint16_t items[STREAM];
@@ -43,15 +44,15 @@ static void *make(void *argument)
     if (call->which == 8) g7110_settings_read(state, state[0], out, report);
     if (call->which == 9) g7110_settings_wipe(state);
     if (call->which == 10) g7110_why(call->given, call->length, 1, G7110_ALL_TOOLS, out, report);
-    if (call->which == 11) g7110_store_put(block, sizeof block, table, sizeof table / sizeof *table, 1, number, call->given, call->length, report);
-    if (call->which == 12) g7110_store_get(block, sizeof block, table, sizeof table / sizeof *table, number, report);
-    if (call->which == 13) g7110_store_delete(block, sizeof block, table, sizeof table / sizeof *table, number);
-    if (call->which == 14) g7110_store_save(block, sizeof block, table, sizeof table / sizeof *table, out, sizeof out, report);
-    if (call->which == 15) g7110_store_load(call->given, call->length, block, sizeof block, table, sizeof table / sizeof *table);
+    if (call->which == 11) g7110_store_put(block, block_len, table, sizeof table / sizeof *table, 1, number, call->given, call->length, report);
+    if (call->which == 12) g7110_store_get(block, block_len, table, sizeof table / sizeof *table, number, report);
+    if (call->which == 13) g7110_store_delete(block, block_len, table, sizeof table / sizeof *table, number);
+    if (call->which == 14) g7110_store_save(block, block_len, table, sizeof table / sizeof *table, out, sizeof out, report);
+    if (call->which == 15) g7110_store_load(call->given, call->length, block, block_len, table, sizeof table / sizeof *table);
     if (call->which == 16) g7110_mend(call->given, call->length, 1, 40000, out, sizeof out, report);
     if (call->which == 17) g7110_file_read(call->given, call->length, G7110_ALL_TOOLS, out, sizeof out, items, STREAM, report);
     if (call->which == 18) g7110_file_write(call->given, call->length, items, listed, 1, G7110_ALL_TOOLS, out, sizeof out, report);
-    if (call->which == 19) g7110_store_jump(block, sizeof block, table, sizeof table / sizeof *table, number, call->length, report);
+    if (call->which == 19) g7110_store_jump(block, block_len, table, sizeof table / sizeof *table, number, call->length, report);
     return NULL;
 }
 
@@ -143,9 +144,34 @@ static void store(const uint8_t *stream, size_t length)
         for (sample = 0; sample < 2560; sample += 320) measure(19, NULL, sample);
     for (number = 41, sample = 0; sample <= 240000; sample += 23960) measure(19, NULL, sample);
     measure(14, NULL, 0);
-    if (g7110_store_save(block, sizeof block, table, sizeof table / sizeof *table, text, sizeof text, saved) != G7110_OK) return;
+    if (g7110_store_save(block, block_len, table, sizeof table / sizeof *table, text, sizeof text, saved) != G7110_OK) return;
     measure(15, text, (size_t)saved[0]);
     measure(15, (const uint8_t *)early, sizeof early - 1);
+}
+
+/* The same over the greatest block: a greeting of pads and one frame that fills it, with as many marks as there can be, saved, loaded,
+ * jumped into; a text that is refused at its last mark; one more for which all others close up. */
+static void large_store(const uint8_t *stream, size_t length)
+{
+    static uint8_t whole[G7110_MAX_BLOCK], text[G7110_MAX_TABLE];
+    uint64_t saved[1];
+    block_len = sizeof block;
+    memset(table, 0, sizeof table);
+    whole[sizeof whole - 1] = 0x41;
+    number = 1;
+    measure(11, whole, sizeof whole);
+    measure(12, NULL, 0);
+    measure(19, NULL, 39);
+    measure(14, NULL, 0);
+    if (g7110_store_save(block, block_len, table, sizeof table / sizeof *table, text, sizeof text, saved) != G7110_OK) exit(2);
+    measure(15, text, (size_t)saved[0]);
+    text[saved[0] - 2] ^= 1;
+    measure(15, text, (size_t)saved[0]);
+    measure(13, NULL, 0);
+    for (number = 1; number <= 2; number++) measure(11, whole, sizeof whole / 2 - length);
+    number = 1;
+    measure(13, NULL, 0);
+    for (number = 3; number <= 4; number++) measure(11, number == 3 ? stream : whole, number == 3 ? length : sizeof whole / 2);
 }
 
 /* Both calls over a file: one of every kind of frame and of losses, written, read, and read where its last frame is cut. */
@@ -199,6 +225,7 @@ int main(void)
     measure(16, stream, length);
     measure(16, stream, length - 1);
     store(stream, length);
+    large_store(stream, length);
     files();
     for (kind = 1; kind < CALLS; kind++) printf("stack: g7110_%s %lu octets\n", names[kind], over(kind));
     return 0;

@@ -3,7 +3,7 @@
 
 use crate::forms::{Located, Row};
 use crate::measure::numbers;
-use crate::{octets, Codec, Proved, Second, ENDINGS};
+use crate::{octets, Codec, Proved, Second, ENDINGS, MOST};
 use second::gen::{sample_of, Prng};
 
 pub const ROOM: u32 = 4;
@@ -15,8 +15,6 @@ pub const HEAD: u32 = 14;
 
 /// What is added to a loss's length in a list of items.
 pub const LOSS: u16 = 32_768;
-/// Octets of the longest stream behind a heading.
-pub const MOST: usize = 65_535;
 /// The mark of a lost frame whose length is not known.
 pub const LOST: u8 = 0x01;
 

@@ -4,13 +4,17 @@
 use crate::file::{file, Filed, LOSS, LOST};
 use crate::forms::LENGTHS;
 use crate::mend::Menders;
-use crate::store::{early_text_of, Call, Stores, BLOCK, SAVED};
+use crate::store::{early_text_of, Call, Stores, BLOCK};
+use crate::streams::plain_frames;
+use crate::vectors::Ask;
 use crate::why::Reasons;
-use crate::{Proved, Second};
+use crate::{Pair, Proved, Second, MOST, MOST_LISTED};
 use second::gen::{all_kinds, damage_somehow, make_frame, sample_of, Kind, Prng};
 
 /// Of so many rounds each kind of call has one.
 const ROUNDS: usize = 20;
+/// Of so many one is of a long stream.
+const LONG_ROUNDS: usize = 10_000;
 
 /// The calls of document 02, under way.
 pub struct Further {
@@ -20,6 +24,11 @@ pub struct Further {
     menders: Menders<'static>,
     stores: Stores<'static>,
     files: Filed<'static>,
+    /// Long streams have a generator of their own too.
+    long: Prng,
+    walks: Pair<'static>,
+    large: Stores<'static>,
+    rounds: usize,
 }
 
 impl Further {
@@ -32,6 +41,10 @@ impl Further {
             menders: Menders::new(&Proved, &Second),
             stores: Stores::new(&Proved, vec![0; BLOCK]),
             files: Filed::new(&Proved, &Second),
+            long: Prng::new(seed.rotate_left(32) ^ 11),
+            walks: Pair::new(&Proved, &Second),
+            large: Stores::new(&Proved, Vec::new()),
+            rounds: 0,
         }
     }
 
@@ -44,17 +57,21 @@ impl Further {
             3 => self.record(pool),
             _ => {}
         }
+        self.rounds += 1;
+        if self.rounds % LONG_ROUNDS == 0 {
+            self.lengthen(pool);
+        }
     }
 
     pub fn differences(&self) -> usize {
         let all =
             [&self.reasons.differences, &self.menders.differences, &self.stores.differences, &self.files.differences];
-        all.into_iter().sum()
+        all.into_iter().chain([&self.walks.differences, &self.large.differences]).sum()
     }
 
     pub fn shown(&self) -> Vec<String> {
         let all = [self.reasons.shown(), self.menders.shown(), self.stores.shown(), self.files.shown()];
-        all.concat()
+        [all.concat(), self.walks.shown().to_vec(), self.large.shown().to_vec()].concat()
     }
 
     /// How many calls there were, in words.
@@ -64,6 +81,10 @@ impl Further {
             format!("{} greetings mended", self.menders.calls),
             format!("{} calls of a store", self.stores.calls),
             format!("{} files written or read", self.files.calls),
+            format!(
+                "{} long streams walked, in a file, mended and kept, {} calls of a large store",
+                self.walks.calls, self.large.calls
+            ),
         ];
         all.join(", ")
     }
@@ -135,7 +156,7 @@ impl Further {
                 0..=5 => Call::Put(self.law(), number, self.octets(pool, 3)),
                 6 | 7 => Call::Delete(number),
                 8 => Call::Get(number),
-                9 => Call::Save(self.rng.below(SAVED)),
+                9 => Call::Save(self.rng.below(self.stores.room())),
                 10 => {
                     let text = self.text();
                     let damaged = !text.is_empty() && self.rng.flip();
@@ -148,8 +169,13 @@ impl Further {
         if self.rng.chance(1, 20) {
             let (at, bit) = (self.rng.below(self.stores.cells().len()), self.rng.below(32));
             if !self.stores.lend(|cells| cells[at] ^= 1 << bit) {
-                let calls =
-                    [Call::Get(1), Call::Put(1, 1, vec![0x41]), Call::Delete(1), Call::Save(SAVED), Call::Jump(1, 0)];
+                let calls = [
+                    Call::Get(1),
+                    Call::Put(1, 1, vec![0x41]),
+                    Call::Delete(1),
+                    Call::Save(self.stores.room()),
+                    Call::Jump(1, 0),
+                ];
                 calls.iter().for_each(|call| {
                     self.stores.call(call);
                 });
@@ -177,6 +203,32 @@ impl Further {
         let room = if self.rng.chance(1, 6) { self.rng.below(600) } else { 320 * octets.len() };
         let places = if self.rng.chance(1, 6) { self.rng.below(8) } else { octets.len() };
         self.files.held(&octets, set, room, places);
+    }
+
+    /// A stream of about as many octets as a walk takes, or took before R-11: walked, behind a heading, mended, and kept in a block of
+    /// about its size. One in two is damaged.
+    fn lengthen(&mut self, pool: &[Vec<u8>]) {
+        let rng = &mut self.long;
+        let octets = *rng.pick(&[MOST_LISTED, MOST]) + 3 - rng.below(6);
+        let mut stream = plain_frames(rng.below(octets / 321), rng);
+        stream.extend((0..rng.below(30)).flat_map(|_| rng.pick(pool).clone()));
+        stream.resize((stream.len() + rng.below(20_000)).min(octets), 0x41);
+        stream.resize(octets, 0x00);
+        if rng.flip() {
+            let at = rng.below(octets);
+            stream[at] ^= 1 << rng.below(8);
+        }
+        let (law, number, total) = (rng.below(2) as u32, 1 + rng.below(40) as u32, 40 * rng.below(25_001) as u64);
+        let (size, sample) = (octets + 3 - rng.below(6), rng.below(2_000_000) as u64);
+        let block = rng.octets(size);
+        self.walks.walk(&Ask { given: stream.clone(), law, set: 127, room: 2_000_000 });
+        self.files.read(&file(law, &stream), 127, 2_000_000, octets);
+        self.menders.call(&stream, law, total, octets + 3_200);
+        self.large.renew(block);
+        self.large.call(&Call::Put(law, number, stream));
+        self.large.call(&Call::Jump(number, sample));
+        self.large.saved_and_loaded();
+        self.large.call(&Call::Delete(number));
     }
 
     /// The file of a drawn list of frames, pads and losses; none where it is refused.

@@ -48,6 +48,10 @@ pub const ENDINGS: [&str; 14] = [
     "ok", "SHORT", "PREFIX", "TOOL", "ROOM", "CASE", "METHOD", "RUN", "PLACE", "ALIGN", "LENGTH", "SET", "LAW", "LONG",
 ];
 
+/// Octets of the longest stream that a walk takes (document 02, R-11), and of the longest that the listing program takes.
+pub const MOST: usize = 1_048_576;
+pub const MOST_LISTED: usize = 65_535;
+
 /// The number of an ending that is known here by name.
 pub fn ending(name: &str) -> Option<u32> {
     ENDINGS.iter().position(|known| *known == name).map(|at| at as u32)

@@ -1,12 +1,23 @@
 //! Lists of octets, and octets written as bits, as the vector files have them.
 
-/// `FE,FF*79` or `FF7F*20,00..27`: groups of hexadecimal octets, each repeated or not, and ranges.
+/// `FE,FF*79` or `FF7F*20,00..27`: groups of hexadecimal octets, each repeated or not, and ranges; `(30,FF*320)*204`: a list
+/// repeated.
 pub fn octets(text: &str) -> Result<Vec<u8>, String> {
     let mut list = Vec::new();
     if text.is_empty() {
         return Ok(list);
     }
-    for item in text.split(',') {
+    for item in items(text)? {
+        if let Some(rest) = item.strip_prefix('(') {
+            let faulty = format!("'{item}' is no list in brackets");
+            let (inner, behind) = rest.rsplit_once(')').ok_or(faulty.clone())?;
+            let (none, times) = repeated(behind)?;
+            if !none.is_empty() {
+                return Err(faulty);
+            }
+            list.extend(octets(inner)?.repeat(times));
+            continue;
+        }
         if let Some((from, to)) = item.split_once("..") {
             let (from, to) = (octet(from)?, octet(to)?);
             if from > to {
@@ -25,6 +36,29 @@ pub fn octets(text: &str) -> Result<Vec<u8>, String> {
         }
     }
     Ok(list)
+}
+
+/// The items of a list: what commas part that stand in no brackets.
+fn items(text: &str) -> Result<Vec<&str>, String> {
+    let (mut items, mut start, mut depth) = (Vec::new(), 0, 0);
+    for (at, octet) in text.bytes().enumerate() {
+        match octet {
+            b'(' => depth += 1,
+            b')' if depth == 0 => return Err(format!("'{text}' closes a bracket that it does not open")),
+            b')' => depth -= 1,
+            b',' if depth == 0 => {
+                items.push(&text[start..at]);
+                start = at + 1;
+            }
+            _ => {}
+        }
+    }
+    items.push(&text[start..]);
+    if depth == 0 {
+        Ok(items)
+    } else {
+        Err(format!("'{text}' leaves a bracket open"))
+    }
 }
 
 /// `10000110.11.1.000.1*80.00`: groups of bits, highest first, each repeated or not; whole octets in all.
@@ -71,6 +105,11 @@ mod tests {
         assert_eq!(octets(""), Ok(vec![]));
         assert_eq!(octets("FE,FF*3"), Ok(vec![0xFE, 0xFF, 0xFF, 0xFF]));
         assert_eq!(octets("FF7F*2,0E..10"), Ok(vec![0xFF, 0x7F, 0xFF, 0x7F, 0x0E, 0x0F, 0x10]));
+        assert_eq!(octets("(30,FE*2)*2,00"), Ok(vec![0x30, 0xFE, 0xFE, 0x30, 0xFE, 0xFE, 0x00]));
+        assert_eq!(octets("(01,(02*2,03)*2)"), Ok(vec![0x01, 0x02, 0x02, 0x03, 0x02, 0x02, 0x03]));
+        for wrong in ["(FF", "FF)", "(FF*)", "(FF)*", "(FF)2", "()FF", "(FF,)*2", "FF(00)", "(00)(00)"] {
+            assert!(octets(wrong).is_err(), "{wrong}");
+        }
         for wrong in ["F", "FFF", "G0", "FF*", "FF,", "10..0F", "+1", "FF 7F"] {
             assert!(octets(wrong).is_err(), "{wrong}");
         }

@@ -37,6 +37,22 @@ pub fn recordings() -> Vec<Recording> {
     paths.iter().filter_map(recording).collect()
 }
 
+/// The two minutes of a hotel (document 02, R-11), as shipped, under mu-law; and under A-law by document 02's conversions, brought
+/// from 14 bits to 13.
+pub fn two_minutes() -> [Recording; 2] {
+    let sound = std::fs::read(folder().join(TWO_MINUTES)).expect("it is shipped");
+    let to_a = |octet: &u8| {
+        let linear = second::linear::linear_of(*octet, 1).expect("a law");
+        second::linear::octet_of(linear >> 1, 0).expect("a law")
+    };
+    let other = sound.iter().map(to_a).collect();
+    let name = |ending: &str| format!("hotel.{ending}");
+    [Recording { name: name("ul8"), law: 1, sound }, Recording { name: name("al8"), law: 0, sound: other }]
+}
+
+/// Its name in [`folder`]. It is not among [`recordings`]: it is longer than all of them together.
+pub const TWO_MINUTES: &str = "long/hotel.ul8";
+
 /// The lengths of the frames of so many samples: each the largest that is at most `most` and at most what is left. Also
 /// gives how many samples at the end no length fits.
 pub fn cuts(samples: usize, most: usize) -> (Vec<usize>, usize) {

@@ -1,9 +1,10 @@
-//! A greeting store that fills its gaps (document 02, R-6), with marks and jumps: a back end asked call by call
-//! beside a model in plain vectors, the second program's. [`Keeps`] is a back end, [`Stores`] asks it, checks the whole block
+//! A greeting store that fills its gaps (document 02, R-6), with marks, jumps and large blocks: a back end
+//! asked call by call beside a model in plain vectors, the second program's. [`Keeps`] is a back end, [`Stores`] asks it, checks the whole block
 //! and the whole table, and each promise on its own answers. [`script`] reads tests/vectors/store.txt.
 
 mod damage;
 mod draw;
+mod first;
 mod frames;
 mod keeps;
 mod promises;
@@ -12,10 +13,11 @@ mod script;
 mod stores;
 
 pub use damage::{damaged, Damaged, DAMAGES};
-pub use draw::{change, profiles, short_frames, some_call, some_jump, some_store, Profile, PARTS};
+pub use draw::{change, large_profiles, profiles, short_frames, some_call, some_jump, some_store, Profile, PARTS};
+pub use first::{first_line, FIRST_LINES};
 pub use frames::{a_greeting, frames_of, Frames};
 pub use keeps::{Keeps, Told};
-pub use rows::{early_text_of, lowest_gap, rows_of, sane, text_of};
+pub use rows::{asks_for_form, early_text_of, is_large, lowest_gap, rows_of, sane, text_of, whole_text_of};
 pub use script::{script, Step};
 pub use stores::{Call, Stores};
 
@@ -48,12 +50,21 @@ pub fn ending_name(ending: u32) -> &'static str {
     ENDINGS.iter().find(|(_, number)| *number == ending).map_or("another", |(name, _)| name)
 }
 
-/// The greatest block, and the greatest number of greetings.
+/// The block of a box without settings, and the greatest number of greetings.
 pub const BLOCK: usize = 16_384;
 pub const GREETINGS: usize = 32;
-/// Room that any table is saved in, whatever its numbers say: 32 times the lines of where a greeting lies (13, 12 and 13 octets),
-/// its law (6) and samples (19), and a line of 27 octets for each of 288 marks.
-pub const SAVED: usize = 32 * 63 + 288 * 27;
+/// The greatest block.
+pub const MOST_BLOCK: usize = 1_048_576;
+/// The greatest start, octet count and block of a table without R-11's first line, and that line.
+pub const MOST_WITHOUT: usize = 65_535;
+pub const FORM: &[u8] = b"form=2\n";
+
+/// Room that any table of a block is saved in, whatever its numbers say: the first line (7 octets), 32 times the lines of where a
+/// greeting lies (13, 14 and 15), its law (6) and samples (19), and a line of 27 octets for each mark that the table has room for.
+pub const fn saved_room(block: usize) -> usize {
+    let size = if block < MOST_BLOCK { block } else { MOST_BLOCK };
+    7 + 32 * 67 + 27 * (size / 64 + 32)
+}
 
 /// Where parts of a table begin: how many greetings, and their rows; how many, and law, samples and marks of each; all marks.
 pub const ROWS: usize = 0;

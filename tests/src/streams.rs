@@ -56,6 +56,11 @@ impl Stream {
     }
 }
 
+/// So many frames of 320 samples as they are, 321 octets each: what a long stream is made of quickly.
+pub fn plain_frames(frames: usize, rng: &mut Prng) -> Vec<u8> {
+    (0..frames).flat_map(|_| [vec![0x30], rng.octets(320)].concat()).collect()
+}
+
 /// The kinds of place where a stream is damaged.
 pub const FIELDS: [&str; 13] = [
     "prefix",

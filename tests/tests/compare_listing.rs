@@ -115,7 +115,7 @@ fn long(listed: &mut Listed, rng: &mut Prng) {
     for first in [0x00, 0x41, 0x31, 0x22, 0x01] {
         for letter in *b"AM" {
             listed.check("65,535 octets", &with_letter(letter, &vec![first; 65_535]));
-            for more in [65_536, 65_537, 200_000] {
+            for more in [65_536, 65_537, 1_048_576, 1_048_577] {
                 listed.check("65,536 octets and more", &with_letter(letter, &vec![first; more]));
             }
         }

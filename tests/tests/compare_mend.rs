@@ -4,14 +4,12 @@
 use second::gen::Prng;
 use tests::mend::{filling, script, Mend, Menders, Mends, TOTAL};
 use tests::recordings::{packed, recordings};
-use tests::streams::{Stream, FIELDS};
-use tests::{say, share, shared, Proved, Second, Table};
+use tests::streams::{plain_frames, Stream, FIELDS};
+use tests::{say, share, shared, Proved, Second, Table, MOST, MOST_LISTED};
 
 const ROOM: u32 = 4;
 const LAW: u32 = 12;
 const LONG: u32 = 13;
-/// Octets of the longest greeting, and of the longest result.
-const MOST: usize = 65_535;
 /// What a cell of a table needs.
 const NEED: usize = share(1_000);
 /// What a cell needs where whole recordings are mended.
@@ -126,7 +124,6 @@ fn damaged(how: &str, stream: &[u8], other: &[u8], rng: &mut Prng) -> Vec<u8> {
         }
         _ => drop(octets.drain(at..(at + 1 + rng.below(5)).min(stream.len()))),
     }
-    octets.truncate(MOST - 3_200);
     octets
 }
 
@@ -194,17 +191,20 @@ fn every_total() {
     assert!(good == 103 && refused > 10_000, "{good}, {refused}");
 }
 
-/// Greetings and results of about 65,535 octets: which of the two is LONG, and that ROOM comes after.
+/// Greetings and results of about 1,048,576 octets: which of the two is LONG, and that ROOM comes after.
 #[test]
 fn around_the_longest() {
     let mut menders = Menders::new(&Proved, &Second);
     let mut rng = Prng::new(124);
     let (mut good, mut long) = (0, 0);
-    for turn in 0..share(400) {
+    // 2,800 frames of 320 samples as they are, 898,800 octets: what takes most octets fastest.
+    let plain = plain_frames(2_800, &mut rng);
+    for turn in 0..share(60) {
         // Frames, then pads up to the wanted octets, some with an end that is refused.
         let octets = MOST - rng.below(12);
-        let mut given = Stream::mixed(rng.below(400), 1, &mut rng).octets;
-        let samples = walked(&given);
+        let more = Stream::mixed(rng.below(400), 1, &mut rng);
+        let mut given = [&plain[..], &more.octets].concat();
+        let samples = 320 * 2_800 + more.samples();
         given.resize(octets, 0);
         if turn % 3 == 0 {
             *given.last_mut().unwrap() = 0x46;
@@ -214,7 +214,7 @@ fn around_the_longest() {
         let needs = kept + filling(total as usize - samples).len();
         if needs > MOST {
             menders.refused(&given, 1, total, 0, LONG);
-            menders.refused(&given, 1, total, 70_000, LONG);
+            menders.refused(&given, 1, total, MOST + 100, LONG);
             long += 2;
         } else {
             menders.refused(&given, 1, total, needs - 1, ROOM);
@@ -225,11 +225,7 @@ fn around_the_longest() {
     }
     menders.close();
     say(&format!("compared: mend, around the longest: {good} mended, {long} LONG\n"));
-    assert!(good > share(50) && long > share(50), "{good}, {long}");
-}
-
-fn walked(octets: &[u8]) -> usize {
-    second::walk(octets, 1, 127, &mut vec![0; 70_000]).samples
+    assert!(good > share(6) && long > share(6), "{good}, {long}");
 }
 
 /// Every room from none to more than enough.
@@ -282,9 +278,12 @@ enum Fault {
     WritesThenRefuses,
     PastTheReport,
     FilledByTotal,
+    OldLimit,
+    OneOctetMore,
+    OneOctetMoreMade,
 }
 
-const FAULTS: [Fault; 18] = [
+const FAULTS: [Fault; 21] = [
     Fault::PassingKept,
     Fault::PassingSkipped,
     Fault::PadsDropped,
@@ -303,6 +302,9 @@ const FAULTS: [Fault; 18] = [
     Fault::WritesThenRefuses,
     Fault::PastTheReport,
     Fault::FilledByTotal,
+    Fault::OldLimit,
+    Fault::OneOctetMore,
+    Fault::OneOctetMoreMade,
 ];
 
 struct Wrong(Fault);
@@ -314,6 +316,10 @@ impl Mends for Wrong {
             Fault::RoomBeforeLong if law < 2 && octets.len() > out.len() => return Mend::refused(ROOM),
             Fault::TotalBeforeLong if law < 2 && total % 40 != 0 => return Mend::refused(TOTAL),
             Fault::LawLast if octets.len() > MOST => return Mend::refused(LONG),
+            // "LONG, and with it demand 3, moves to the new limit".
+            Fault::OldLimit if law < 2 && octets.len() > MOST_LISTED => return Mend::refused(LONG),
+            Fault::OneOctetMore if octets.len() == MOST + 1 => given.truncate(MOST),
+            Fault::OneOctetMoreMade if octets.len() == MOST && total == 40 => return self.mend(octets, law, 0, out),
             Fault::MillionRefused if law < 2 && octets.len() <= MOST && total == 1_000_000 => {
                 return Mend::refused(TOTAL)
             }
@@ -365,21 +371,25 @@ impl Mends for Wrong {
 /// The comparison finds a back end that is wrong in one way.
 #[test]
 fn a_wrong_back_end_is_found() {
+    let lines = script(include_str!("../vectors/mend.txt")).unwrap();
     for fault in FAULTS {
         let wrong = Wrong(fault);
         let mut menders = Menders::new(&wrong, &Second);
         let mut rng = Prng::new(126);
-        for line in script(include_str!("../vectors/mend.txt")).unwrap() {
+        for line in &lines {
             menders.call(&line.given, line.law, line.total, line.room);
+            if menders.differences > 0 {
+                break;
+            }
         }
         for turn in 0..2_000 {
+            if menders.differences > 0 {
+                break;
+            }
             let stream = Stream::mixed(rng.below(300), 1, &mut rng);
             let given = damaged(DAMAGES[turn % 6], &[&stream.octets[..], &[0]].concat(), &[0x46, 0], &mut rng);
             let total = a_total(TOTALS[turn % 3], stream.samples().max(40), &mut rng).expect("samples");
             menders.call(&given, 1, total, if turn % 5 == 0 { rng.below(300) } else { 400 });
-            if menders.differences > 0 {
-                break;
-            }
         }
         assert!(menders.differences > 0, "{fault:?} was not found in {} calls", menders.calls);
     }

@@ -3,13 +3,13 @@
 
 use second::gen::{all_kinds, damage_somehow, make_frame, sample_of, Kind, Prng};
 use tests::file::{
-    erased, file, heading, script, Filed, Files, Holds, Line, Read, Write, HEAD, LAW, LENGTH, LONG, LOSS, LOST, MOST,
-    ROOM, SET,
+    erased, file, heading, script, Filed, Files, Holds, Line, Read, Write, HEAD, LAW, LENGTH, LONG, LOSS, LOST, ROOM,
+    SET,
 };
 use tests::forms::{rows, LENGTHS, ROWS};
 use tests::recordings::{cuts, recordings};
 use tests::streams::{Stream, FIELDS};
-use tests::{in_share, say, share, Codec, Proved, Second, Table};
+use tests::{in_share, say, share, Codec, Proved, Second, Table, MOST, MOST_LISTED};
 
 /// What a cell of a table needs.
 const NEED: usize = share(1_000);
@@ -426,38 +426,39 @@ fn every_room() {
     say(&format!("compared: file, every room: {} calls\n", filed.calls));
 }
 
-/// Files of about 65,535 octets behind the heading, read and written; LONG counts from the heading's end.
+/// Files of about 1,048,576 octets behind the heading, read and written; LONG counts from the heading's end.
 #[test]
 fn around_the_longest() {
     let mut filed = Filed::new(&Proved, &Second);
     let (mut good, mut long) = (0, 0);
-    for octets in MOST - 12..MOST + 14 {
-        for (law, octet) in [(0, 0x00), (1, LOST)] {
-            let given = file(law, &vec![octet; octets]);
-            let told = filed.held(&given, 127, 0, MOST + 20);
-            let items = vec![if octet == LOST { LOSS } else { 0 }; octets];
-            let wrote = filed.write(&[], &items, law, 1, 70_000);
-            let ending = if octets > MOST { LONG } else { 0 };
-            assert_eq!((told.ending, wrote.ending), (ending, ending), "{octets}");
-            assert_eq!(filed.write(&[], &items, law, 1, 0).ending, if octets > MOST { LONG } else { ROOM });
-            assert_eq!(wrote.octets, if octets > MOST { 0 } else { octets + 10 });
-            if octets > MOST {
-                assert_eq!(told, Read { ending: LONG, law, ..Read::default() });
-                assert_eq!(filed.held(&given[1..], 127, 0, 0).ending, HEAD);
-                assert_eq!(filed.held(&given, 128, 0, 0).ending, SET);
-                long += 2;
-            } else {
-                good += 2;
-            }
+    // Ten octets more is a whole heading. Of a tenth the longest and one octet more are tried.
+    let lengths = [MOST, MOST + 1, MOST - 1, MOST - 10, MOST + 10, MOST + 11];
+    for turn in 0..share(12) {
+        let (octets, (law, octet)) = (lengths[turn % 6], [(1, LOST), (0, 0x00)][(turn + turn / 6) % 2]);
+        let given = file(law, &vec![octet; octets]);
+        let told = filed.held(&given, 127, 0, MOST + 20);
+        let items = vec![if octet == LOST { LOSS } else { 0 }; octets];
+        let wrote = filed.write(&[], &items, law, 1, MOST + 100);
+        let ending = if octets > MOST { LONG } else { 0 };
+        assert_eq!((told.ending, wrote.ending), (ending, ending), "{octets}");
+        assert_eq!(filed.write(&[], &items, law, 1, 0).ending, if octets > MOST { LONG } else { ROOM });
+        assert_eq!(wrote.octets, if octets > MOST { 0 } else { octets + 10 });
+        if octets > MOST {
+            assert_eq!(told, Read { ending: LONG, law, ..Read::default() });
+            assert_eq!(filed.held(&given[1..], 127, 0, 0).ending, HEAD);
+            assert_eq!(filed.held(&given, 128, 0, 0).ending, SET);
+            long += 2;
+        } else {
+            good += 2;
         }
     }
-    // Frames of 320 as they are: 204 have 65,484 octets, and 51 marks more are just enough.
-    let samples: Vec<u8> = Prng::new(17).octets(204 * 320);
-    for marks in 49..54 {
-        let items = [vec![320; 204], vec![LOSS; marks]].concat();
-        let wrote = filed.write(&samples, &items, 1, 1, 70_000);
-        assert_eq!(wrote.ending, if marks > 51 { LONG } else { 0 }, "{marks}");
-        *if marks > 51 { &mut long } else { &mut good } += 1;
+    // Frames of 320 as they are: 3,266 have 1,048,386 octets, and 190 marks more are just enough.
+    let samples: Vec<u8> = Prng::new(17).octets(3_266 * 320);
+    for marks in [190, 191, 188, 189, 192].into_iter().take(share(5) + 1) {
+        let items = [vec![320; 3_266], vec![LOSS; marks]].concat();
+        let wrote = filed.write(&samples, &items, 1, 1, MOST + 100);
+        assert_eq!(wrote.ending, if marks > 190 { LONG } else { 0 }, "{marks}");
+        *if marks > 190 { &mut long } else { &mut good } += 1;
     }
     filed.close();
     say(&format!("compared: file, around the longest: {good} accepted, {long} LONG\n"));
@@ -541,9 +542,11 @@ enum Fault {
     WritesThenRefuses,
     ItemsPastTheReport,
     NoVersionWritten,
+    OldLimit,
+    OneOctetMore,
 }
 
-const FAULTS: [Fault; 29] = [
+const FAULTS: [Fault; 31] = [
     Fault::LossAsFrame,
     Fault::LossAsSilence,
     Fault::OneOtherIsALoss,
@@ -573,6 +576,8 @@ const FAULTS: [Fault; 29] = [
     Fault::WritesThenRefuses,
     Fault::ItemsPastTheReport,
     Fault::NoVersionWritten,
+    Fault::OldLimit,
+    Fault::OneOctetMore,
 ];
 
 struct Wrong(Fault);
@@ -587,6 +592,11 @@ impl Wrong {
             Fault::LongFromTheStart if set < 128 && named && octets.len() > MOST => {
                 return refused(LONG, u32::from(octets[7] == b'M'));
             }
+            // "LONG .. moves to the new limit".
+            Fault::OldLimit if set < 128 && named && octets.len() > MOST_LISTED + 10 => {
+                return refused(LONG, u32::from(octets[7] == b'M'));
+            }
+            Fault::OneOctetMore if octets.len() == MOST + 11 => given.truncate(MOST + 10),
             Fault::HeadBeforeSet if !named => return refused(HEAD, 0),
             Fault::LongBeforeHead if set < 128 && octets.len() > MOST + 10 && !named => return refused(LONG, 0),
             Fault::AnyVersion if octets.len() > 9 => given[9] = 0,
@@ -778,6 +788,9 @@ fn a_wrong_back_end_is_found() {
                 Line::Write { samples, items, law, set, room, .. } => {
                     vectors.write(samples, items, *law, *set, *room);
                 }
+            }
+            if vectors.differences > 0 {
+                break;
             }
         }
         drawn_files(&mut draws, &kinds);

@@ -3,15 +3,16 @@
 use second::gen::{damage_somehow, Prng};
 use tests::faults;
 use tests::forms::{pad, some_form, LENGTHS};
-use tests::streams::{Stream, FIELDS};
-use tests::{ending, say, share, shared, Ask, Pair, Proved, Second, Table, Walk, ENDINGS};
+use tests::streams::{plain_frames, Stream, FIELDS};
+use tests::{ending, say, share, shared, Ask, Pair, Proved, Second, Table, Walk, ENDINGS, MOST};
 
-/// The octets of the longest stream that a walk takes.
-const MOST: usize = 65_535;
+/// The octets of the longest stream before document 02's R-11: to here every length is tried, and each table has streams.
+const USUAL: usize = 65_535;
 /// Streams wanted in a cell.
 const WALKED: usize = share(1_000);
-/// Streams wanted of the longest, and of pads alone.
-const LONGEST: usize = share(20);
+/// Streams wanted of those up to 65,535 octets, of pads alone, and of the longest, which are few, and none of a tenth.
+const LONG: usize = share(20);
+const LONGEST: usize = share(30) / 10;
 /// Turns after which a cell that is still not full is taken to be one that can't be filled.
 const MOST_TURNS: usize = 1_000;
 
@@ -31,16 +32,15 @@ fn walk_as(pair: &mut Pair, ask: &Ask, wanted: Walk) {
 #[test]
 fn every_length() {
     let mut pair = Pair::new(&Proved, &Second);
-    let stream = Stream::plain(MOST, 1, &mut Prng::new(21));
+    let stream = Stream::plain(USUAL, 1, &mut Prng::new(21));
     let mut whole = ask(stream.octets.clone(), 1, stream.samples() + 100);
-    whole.given.resize(MOST + 2, 0x00);
+    whole.given.resize(USUAL + 2, 0x00);
     let mut ends = 0;
-    for length in shared((0..=MOST + 2).rev()) {
+    for length in shared((0..=USUAL + 2).rev()) {
         whole.given.truncate(length);
         let got = pair.walk(&whole);
         ends += usize::from(got.ending == 0);
-        let long = length > MOST;
-        if long != (got.ending == ending("LONG").unwrap()) || got.place > length {
+        if got.ending == ending("LONG").unwrap() || got.place > length {
             pair.differ("made", &whole, &format!("{got:?}"));
         }
     }
@@ -53,19 +53,86 @@ fn every_length() {
     pair.close();
 }
 
+/// What a stream that is kept whole is told as.
+fn kept(frames: usize, octets: usize, samples: usize) -> Walk {
+    Walk { ending: 0, tool: 0, frames, octets, samples, place: octets, bit: 0 }
+}
+
+/// What is told of a stream that is refused before any frame.
+fn refused(name: &str) -> Walk {
+    Walk { ending: ending(name).unwrap(), tool: 0, frames: 0, octets: 0, samples: 0, place: 0, bit: 0 }
+}
+
+/// Streams of 1,048,576 octets and of some fewer, kept whole or refused at their last frame; of one octet more and of some: LONG.
+#[test]
+fn around_the_longest() {
+    let mut pair = Pair::new(&Proved, &Second);
+    let mut rng = Prng::new(28);
+    let (mut good, mut ended, mut long) = (0, 0, 0);
+    for law in shared([1, 0]) {
+        let mixed = Stream::mixed(60_000, law, &mut rng);
+        let octets = [mixed.octets.clone(), plain_frames(3_000, &mut rng)].concat();
+        let (frames, samples) = (mixed.forms.len() + 3_000, mixed.samples() + 320 * 3_000);
+        for more in [-3, -1, 0, 1, 2, 64] {
+            let length = (MOST as isize + more) as usize;
+            // Frames, then pads; no room for the last frame; one that is not assigned; its first octet alone.
+            let mut asked = ask(octets.clone(), law, samples);
+            asked.given.resize(length, 0x00);
+            let before = length - 1;
+            let ends = kept(frames + before - octets.len(), before, samples);
+            let stops = |name: &str, bit: usize| Walk { ending: ending(name).unwrap(), bit, ..ends };
+            let all = kept(ends.frames + 1, length, samples);
+            for (last, whole) in [(0x00, all), (0x40, stops("ROOM", 0)), (0x46, stops("PREFIX", 0))] {
+                asked.given[before] = last;
+                walk_as(&mut pair, &asked, if length > MOST { refused("LONG") } else { whole });
+                *if length > MOST {
+                    &mut long
+                } else if whole.ending == 0 {
+                    &mut good
+                } else {
+                    &mut ended
+                } += 1;
+            }
+            asked.room += 320;
+            asked.given[before] = 0x40;
+            walk_as(&mut pair, &asked, if length > MOST { refused("LONG") } else { stops("SHORT", 8) });
+            *if length > MOST { &mut long } else { &mut ended } += 1;
+        }
+    }
+    // As many frames as there can be: pads, and 40 samples each.
+    for (first, samples) in shared([(0x00, 0), (0x42, 40)]) {
+        let mut asked = ask(vec![first; MOST + 1], 1, MOST * samples);
+        walk_as(&mut pair, &asked, refused("LONG"));
+        asked.given.pop();
+        walk_as(&mut pair, &asked, kept(MOST, MOST, MOST * samples));
+        (good, long) = (good + 1, long + 1);
+    }
+    say(&format!(
+        "compared: walk, around 1,048,576 octets: {good} kept whole, {ended} refused at the end, {long} LONG, {} calls\n",
+        pair.calls
+    ));
+    pair.close();
+}
+
 /// Streams of every sort of frame, of pads, and of both, from short to the longest: all kept.
 #[test]
 fn accepted_streams() {
     let mut pair = Pair::new(&Proved, &Second);
     let mut rng = Prng::new(22);
-    let columns = ["up to 100", "up to 2000", "up to 65535"];
+    let columns = ["up to 100", "up to 2000", "up to 65535", "up to 1048576"];
     let mut table = Table::new("streams kept whole, by octets", &["mixed", "padded", "pads"], &columns, WALKED);
-    columns.iter().for_each(|column| table.needs("pads", column, LONGEST));
+    columns.iter().for_each(|column| table.needs("pads", column, LONG));
     for row in ["mixed", "padded", "pads"] {
-        table.needs(row, columns[2], LONGEST);
-        for (column, most, times) in
-            [(columns[0], 100, WALKED), (columns[1], 2_000, WALKED), (columns[2], MOST, LONGEST)]
-        {
+        table.needs(row, columns[2], LONG);
+        // Pads alone stand in `around_the_longest`.
+        let longest = if row == "pads" { 0 } else { LONGEST };
+        table.needs(row, columns[3], longest);
+        for (column, most, times) in [
+            (columns[0], 100, WALKED),
+            (columns[1], 2_000, WALKED),
+            (columns[2], USUAL, LONG),
+            (columns[3], MOST, longest),
+        ] {
             for turn in 0..times {
                 let law = turn as u32 % 2;
                 let stream = Stream::of(most / 2 + rng.below(most / 2 + 1), || match row {
@@ -75,8 +142,7 @@ fn accepted_streams() {
                 });
                 let (octets, frames) = (stream.octets.len(), stream.forms.len());
                 let samples = stream.samples();
-                let wanted = Walk { ending: 0, tool: 0, frames, octets, samples, place: octets, bit: 0 };
-                walk_as(&mut pair, &ask(stream.octets, law, samples + rng.below(3)), wanted);
+                walk_as(&mut pair, &ask(stream.octets, law, samples + rng.below(3)), kept(frames, octets, samples));
                 if pair.output() != stream.forms.iter().flat_map(|form| form.samples.clone()).collect::<Vec<_>>() {
                     let said = ask(vec![], law, samples);
                     pair.differ("made", &said, "the samples are not those it was made of");
@@ -207,30 +273,21 @@ fn refused_before_any_frame() {
     let mut pair = Pair::new(&Proved, &Second);
     let mut rng = Prng::new(26);
     let mut table = Table::new("walks refused before any frame", &["LAW", "SET", "LONG"], &["calls"], WALKED);
-    let long = Stream::mixed(MOST, 1, &mut rng).octets;
+    let mut long = ask(Stream::mixed(USUAL, 1, &mut rng).octets, 0, 40);
     for turn in 0..WALKED {
         let most = rng.below(600);
         let good = ask(Stream::mixed(most, 1, &mut rng).octets, 1, 3_000);
-        let mut too_long = long.clone();
-        too_long.resize(MOST + 1 + rng.below(3), 0x41);
-        let refused = |name: &str| Walk {
-            ending: ending(name).unwrap(),
-            tool: 0,
-            frames: 0,
-            octets: 0,
-            samples: 0,
-            place: 0,
-            bit: 0,
-        };
-        let given = if turn % 8 == 0 { too_long.clone() } else { good.given.clone() };
-        let set = *rng.pick(&[127, 128, u32::MAX]);
-        let law = *rng.pick(&[2, 3, 0x8000_0000, u32::MAX]);
-        walk_as(&mut pair, &Ask { given: given.clone(), law, set, room: 3_000 }, refused("LAW"));
+        long.given.resize(MOST + 1 + rng.below(3), 0x41);
+        let asked = if turn % 8 == 0 { &mut long } else { &mut good.clone() };
+        asked.set = *rng.pick(&[127, 128, u32::MAX]);
+        asked.law = *rng.pick(&[2, 3, 0x8000_0000, u32::MAX]);
+        walk_as(&mut pair, asked, refused("LAW"));
         table.add("LAW", "calls");
-        let set = *rng.pick(&[128, 255, 0x8000_0000, u32::MAX]);
-        walk_as(&mut pair, &Ask { given, law: 1, set, room: 3_000 }, refused("SET"));
+        (asked.law, asked.set) = (1, *rng.pick(&[128, 255, 0x8000_0000, u32::MAX]));
+        walk_as(&mut pair, asked, refused("SET"));
         table.add("SET", "calls");
-        walk_as(&mut pair, &Ask { given: too_long, law: 0, set: turn as u32 % 128, room: 40 }, refused("LONG"));
+        (long.law, long.set) = (0, turn as u32 % 128);
+        walk_as(&mut pair, &long, refused("LONG"));
         table.add("LONG", "calls");
         for law in [0, 1] {
             pair.walk(&Ask { set: turn as u32 % 128, law, ..good.clone() });

@@ -39,7 +39,7 @@ fn small() -> Files {
 }
 
 /// What is planted: the start of the name of the check that must see it, a file, a text in it, and another for that.
-const PLANTED: [(&str, &str, &str, &str); 37] = [
+const PLANTED: [(&str, &str, &str, &str); 40] = [
     // Another statement, one that is only the start of what is proved, a field too many.
     ("statements", "docs/PROMISES.md", "n ≡ n", "n ≡ 0"),
     ("statements", "crates/promises/proofs/Back.antt", "→ n ≡ n", "→ n ≡ n → n ≡ n"),
@@ -75,10 +75,13 @@ const PLANTED: [(&str, &str, &str, &str); 37] = [
     ("refusals", "crates/rules/specs/Refusals.antt", "Short = 1", "Short = 2"),
     ("refusals", "wrapper/src/lib.rs", "Tool(_) => 3", "Tool(_) => 2"),
     ("limits", "include/g7110.h", "VERSION 1", "VERSION 2"),
-    ("limits", "crates/rules/specs/Walk.antt", "= 65535", "= 65536"),
+    ("limits", "crates/rules/specs/Walk.antt", "= 1048576", "= 65535"),
+    ("limits", "crates/rows/specs/Limits.antt", "= 1048576", "= 16384"),
     ("limits", "crates/promises/proofs/Bounded.antt", "402", "403"),
     ("limits", "crates/recording/specs/Items.antt", "= 32768", "= 32769"),
-    ("limits", "include/g7110.h", "MAX_FILE 65545", "MAX_FILE 65535"),
+    ("limits", "include/g7110.h", "MAX_FILE 1048586", "MAX_FILE 1048576"),
+    ("limits", "include/g7110.h", "MAX_CELLS 33026", "MAX_CELLS 770"),
+    ("limits", "include/g7110.h", "MAX_TABLE 379687", "MAX_TABLE 7392"),
     ("calls", "wrapper/src/raw.rs", "[u64; 4]", "[u64; 5]"),
     // Landings without a time, and a page that names a machine.
     ("landings", "docs/LANDINGS.md", "812 s", "BEFORE s"),

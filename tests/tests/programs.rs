@@ -6,8 +6,8 @@ use std::fs;
 use tests::forms::LENGTHS;
 use tests::mend::TOTAL;
 use tests::recordings::{packed, recordings, Recording};
-use tests::tools::{law_words, mend_wanted, plus_zero, same, why_wanted, Room, Stop, FILES, MOST, USAGE};
-use tests::{say, Second};
+use tests::tools::{law_words, mend_wanted, plus_zero, same, why_wanted, Room, Stop, FILES, USAGE};
+use tests::{say, Second, MOST, MOST_LISTED};
 
 fn room(name: &str) -> Room {
     Room::new(env!("CARGO_TARGET_TMPDIR"), &format!("programs-{name}"))
@@ -113,20 +113,24 @@ fn silence_explained() {
     tell("silence explained, and no sound", &room);
 }
 
-/// No limit but the file's: sounds far above 65,535 octets, and around them.
+/// No limit but the file's: sounds above 65,535 and above 1,048,576 octets, and around 65,535.
 #[test]
 fn long_sounds_explained() {
     let mut room = room("long");
     for (law, length, less) in [(0, 320, 0), (1, 240, 0), (0, 160, 40), (1, 40, 0)] {
         let mut sound = joined(law, usize::MAX);
         sound.truncate(sound.len() - less);
-        assert!(sound.len() > 2 * MOST);
+        assert!(sound.len() > 2 * MOST_LISTED);
         explained(&mut room, &sound, law, 127, length);
     }
-    for samples in [MOST - 15, MOST + 25, MOST + 26] {
+    for samples in [MOST_LISTED - 15, MOST_LISTED + 25, MOST_LISTED + 26] {
         explained(&mut room, &joined(1, usize::MAX)[..samples], 1, 95, 240);
     }
-    tell("sounds longer than 65,535 octets explained", &room);
+    let sound = joined(0, usize::MAX).repeat(6);
+    let most = MOST.next_multiple_of(40);
+    assert!(sound.len() > most);
+    explained(&mut room, &sound[..most], 0, 127, 320);
+    tell("sounds longer than 65,535 octets explained, one of more than 1,048,576", &room);
 }
 
 /// `-k#`: one frame alone; all of the sound is read and judged all the same.
@@ -333,6 +337,14 @@ fn totals_and_long_greetings() {
     refused(&mut room, "mend", 13, &["-t 39 long.lcm out", "-t 40 long.lcm kept", "-t 40 pads.lcm kept"]);
     room.run("mend", "-t 0 pads.lcm out", &[]).ends(Stop::new(0, MOST, 0));
     same("pads", &room.take("out"), &vec![0; MOST]);
+    // The longest that are mended, and those just above what the listing program takes.
+    let mut damaged = [&vec![0x81; 12_000][..], &vec![0; MOST - 12_000]].concat();
+    damaged[MOST - 1] = 0x46;
+    assert_eq!(mended(&mut room, &damaged, 1, 960_320).1.len(), MOST);
+    for octets in [MOST_LISTED, MOST_LISTED + 1] {
+        assert_eq!(mended(&mut room, &vec![0x41; octets - 1], 0, 40 * octets.min(25_000)).1.len(), octets.min(25_000));
+        assert_eq!(mended(&mut room, &[&vec![0; octets - 1][..], &[0x46]].concat(), 0, 40).1.len(), octets);
+    }
     tell("totals and long greetings refused", &room);
 }
 

@@ -4,11 +4,9 @@
 
 use std::process::Command;
 use tests::forms::LENGTHS;
-use tests::recordings::{cuts, folder, packed, recordings, Recording};
-use tests::{say, shared, Ask, Codec, Pair, Proved, Second, Table};
+use tests::recordings::{cuts, folder, packed, recordings, two_minutes, Recording, TWO_MINUTES};
+use tests::{say, shared, Ask, Codec, Pair, Proved, Second, Table, MOST};
 
-/// Octets of the longest stream.
-const MOST: usize = 65_535;
 /// A writer's sets: all tools, none but uncompressed, and each tool left out once or more.
 const SETS: [u32; 10] = [1, 3, 5, 9, 17, 31, 63, 65, 95, 127];
 
@@ -19,12 +17,14 @@ fn as_shipped() {
     let ended = Command::new("sha256sum").args(words).current_dir(folder()).output();
     let ended = ended.expect("sha256sum is in Debian's coreutils");
     assert!(ended.status.success(), "{}", String::from_utf8_lossy(&ended.stdout));
-    let names: Vec<String> = recordings().into_iter().map(|recording| recording.name).collect();
+    let mut names: Vec<String> = recordings().into_iter().map(|recording| recording.name).collect();
+    assert_eq!(names.len(), 12, "six sounds in two laws");
+    names.push(TWO_MINUTES.to_string());
+    names.sort();
     let listed = std::fs::read_to_string(folder().join("SHA256SUMS")).unwrap();
     let mut listed: Vec<&str> = listed.lines().filter_map(|line| line.split_whitespace().nth(1)).collect();
     listed.sort();
     assert_eq!(names, listed);
-    assert_eq!(names.len(), 12, "six sounds in two laws");
 }
 
 /// Every recording in frames of every length, with several sets: both write the same octets, and both read the sound.
@@ -43,6 +43,15 @@ fn written_and_read_by_both() {
         "compared: recordings, {frames} frames in {streams} streams, written, read and walked: {} calls\n",
         pair.calls
     ));
+    pair.close();
+}
+
+/// The two minutes too (document 02, R-11), in both laws.
+#[test]
+fn two_minutes_written_and_read_by_both() {
+    let mut pair = Pair::new(&Proved, &Second);
+    let frames: usize = two_minutes().iter().map(|recording| write_and_read(&mut pair, recording, 160, 127)).sum();
+    say(&format!("compared: recordings, two minutes in two laws: {frames} frames, {} calls\n", pair.calls));
     pair.close();
 }
 

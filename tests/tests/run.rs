@@ -6,8 +6,7 @@ use std::path::{Path, PathBuf};
 use std::process::{Command, Output};
 use tests::program::repository;
 use tests::recordings::{packed, recordings};
-use tests::tools::MOST;
-use tests::{say, Second};
+use tests::{say, Second, MOST};
 
 /// Changed octets that are tried.
 const PLACES: usize = 24;

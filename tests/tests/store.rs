@@ -7,7 +7,8 @@ use second::gen::{damage_somehow, Prng};
 use second::store::{Greeting, Mark, Store};
 use tests::store::{
     change, damaged, early_text_of, ending_name, profiles, script, some_call, some_store, text_of, Call, Keeps, Step,
-    Stores, Told, ABSENT, BAD, BEYOND, BLOCK, DAMAGES, FULL, LAW, NOROOM, NUMBER, PARTS, ROOM, SAVED, TABLE, TAKEN,
+    Stores, Told, ABSENT, BAD, BEYOND, BLOCK, DAMAGES, FORM, FULL, LAW, MOST_BLOCK, NOROOM, NUMBER, PARTS, ROOM, TABLE,
+    TAKEN,
 };
 use tests::{in_share, say, share, Proved, Second, Table};
 
@@ -51,7 +52,7 @@ fn run(step: &Step, stores: &mut Stores, part: &str) {
         Step::Part(_, block) => stores.renew(block.clone()),
         Step::Makes(call, told) => assert_eq!(stores.call(call), *told, "{part}: {call:?}"),
         Step::Saves(text) => {
-            stores.call(&Call::Save(SAVED));
+            stores.call(&Call::Save(stores.room()));
             assert_eq!(stores.text.escape_ascii().to_string(), text.escape_ascii().to_string(), "{part}");
         }
         Step::Block(block) => assert_eq!(stores.model.block, *block, "{part}"),
@@ -310,7 +311,7 @@ fn tables_and_blocks_that_do_not_belong_together() {
 }
 
 /// Every octet at every place of a saved table: put in, in the place of another; each left out; cut at every octet. In R-6's lines
-/// and in R-8's, where a greeting has two marks.
+/// and in R-8's, where a greeting has two marks; and of R-11's first line before those.
 #[test]
 fn every_octet_of_a_table() {
     let mut stores = Stores::new(&Proved, vec![0; 100]);
@@ -325,8 +326,10 @@ fn every_octet_of_a_table() {
         let told = stores.call(&Call::Load(text.to_vec()));
         endings[[0, TABLE, BAD].iter().position(|ending| *ending == told.ending).expect("an ending of load")] += 1;
     };
-    for text in [early_text_of(&rows), text_of(&rows)] {
-        for at in 0..=text.len() {
+    let (early, late) = (early_text_of(&rows), text_of(&rows));
+    let with_form = [FORM, &late].concat();
+    for (text, last) in [(&early, early.len()), (&late, late.len()), (&with_form, FORM.len() + 8)] {
+        for at in 0..=last {
             tried(&text[..at]);
             tried(&text[at..]);
             for octet in (0..=255).filter(|octet| in_share(usize::from(*octet) + at)) {
@@ -398,13 +401,18 @@ fn changed_numbers() {
 /// Tables that are too short or longer than needed; blocks of every size; what a table needs.
 #[test]
 fn sizes() {
+    for (size, needed) in [(0, 258), (63, 258), (64, 260), (16_384, 770), (16_385, 770), (16_448, 772)] {
+        assert_eq!(Proved.cells(size), needed, "{size}");
+    }
+    let most = MOST_BLOCK as u64;
     for (size, needed) in
-        [(0, 258), (63, 258), (64, 260), (BLOCK as u64, 770), (BLOCK as u64 + 1, 770), (u64::MAX, 770)]
+        [(most - 1, 33_024), (most, 33_026), (most + 1, 33_026), (most + 64, 33_026), (u64::MAX, 33_026)]
     {
         assert_eq!(Proved.cells(size), needed, "{size}");
     }
-    for size in (0..=BLOCK as u64 + 200).chain([65_536, u64::from(u32::MAX), 1 << 32, 1 << 63]) {
-        assert_eq!(Proved.cells(size), 194 + 2 * (size.min(16_384) / 64 + 32), "{size}");
+    let far = [65_535, 65_536, u64::from(u32::MAX), 1 << 32, 1 << 63];
+    for size in (0..=BLOCK as u64 + 200).chain(most - 200..most + 200).chain(far) {
+        assert_eq!(Proved.cells(size), 194 + 2 * (size.min(1_048_576) / 64 + 32), "{size}");
     }
     let needed = |size: usize| Proved.cells(size as u64) as usize;
     let mut calls = 0;

@@ -5,11 +5,11 @@ use second::gen::Prng;
 use second::store::{Greeting, Jump, Mark, Store};
 use second::table;
 use tests::store::{
-    change, damaged, early_text_of, lowest_gap, profiles, rows_of, script, some_call, text_of, Call, Keeps, Step,
-    Stores, Told, ABSENT, BAD, BEYOND, BLOCK, DAMAGES, FULL, GREETINGS, LAW, MARKS, MORE_ROWS, NOROOM, NUMBER, PARTS,
-    TABLE, TAKEN,
+    asks_for_form, change, damaged, early_text_of, is_large, lowest_gap, profiles, rows_of, script, some_call, text_of,
+    Call, Keeps, Step, Stores, Told, ABSENT, BAD, BEYOND, BLOCK, DAMAGES, FORM, FULL, GREETINGS, LAW, MARKS, MORE_ROWS,
+    MOST_BLOCK, MOST_WITHOUT, NOROOM, NUMBER, PARTS, ROOM, TABLE, TAKEN,
 };
-use tests::{say, Codec, Second};
+use tests::{say, Codec, Second, MOST};
 
 /// Makes an enum and the list of all that it has.
 macro_rules! faults {
@@ -94,6 +94,26 @@ faults!(
     MarksInTurn,
     JumpReportsWhenRefused,
     BadIsBeyond,
+    // Longer greetings.
+    FormByHeld,
+    FormAlways,
+    FormNever,
+    FormByNumbersAlone,
+    FormNotCounted,
+    SavedIn16Bits,
+    LoadedIn16Bits,
+    LargeWithoutForm,
+    LargeAfterBad,
+    LargeEndRefused,
+    FormNotNeededRefused,
+    FormLeftOutRefused,
+    FormAloneRefused,
+    FormWithEarlyLines,
+    FormTwice,
+    FormBehind,
+    AnyForm,
+    OldLong,
+    OldBlock,
 );
 
 struct Wrong(Fault);
@@ -130,7 +150,9 @@ impl Wrong {
                 Some(TAKEN)
             }
             Fault::NoRoomBeforeFull if full && short && put == Err(FULL) => Some(NOROOM),
-            Fault::LongIsNoRoom if octets.len() > 65_535 && free => Some(NOROOM),
+            Fault::LongIsNoRoom if octets.len() > MOST && free => Some(NOROOM),
+            Fault::OldLong if octets.len() > 65_535 && free => Some(BAD),
+            Fault::OldBlock if put.is_ok() && store.held() + octets.len() > BLOCK => Some(NOROOM),
             Fault::EmptyIsTaken if octets.is_empty() && free => Some(NUMBER),
             Fault::NoRoomByLargestGap if gap.is_none() && put.is_ok() => Some(NOROOM),
             Fault::ThirtyOne if rows.len() == 31 && put.is_ok() => Some(FULL),
@@ -290,6 +312,87 @@ impl Wrong {
             }
             _ => Err(told),
         }
+    }
+}
+
+/// First lines that are wrong, and numbers that they stand for.
+impl Wrong {
+    /// What is saved in the place of the right text.
+    fn saves(&self, store: &Store, out: &mut [u8]) -> Option<Told> {
+        let mut rows = store.greetings.clone();
+        let asked = asks_for_form(&rows, store.size());
+        let form = match self.0 {
+            Fault::FormByHeld => store.held() > MOST_WITHOUT,
+            Fault::FormAlways => true,
+            Fault::FormNever => false,
+            Fault::FormByNumbersAlone => rows.iter().any(is_large),
+            Fault::FormNotCounted | Fault::SavedIn16Bits => asked,
+            _ => return None,
+        };
+        if self.0 == Fault::SavedIn16Bits {
+            rows.iter_mut().for_each(|row| (row.start, row.octets) = (row.start & 0xFFFF, row.octets & 0xFFFF));
+        }
+        let first = if form { FORM } else { &[] };
+        let text = [first, &text_of(&rows)].concat();
+        let needs = text.len() - if self.0 == Fault::FormNotCounted { first.len() } else { 0 };
+        if out.len() < needs {
+            return Some(Told::refused(ROOM));
+        }
+        let written = text.len().min(out.len());
+        out[..written].copy_from_slice(&text[..written]);
+        Some(Told::ok(text.len(), 0))
+    }
+
+    /// The text that is read in the place of one, or how it ends.
+    fn first(&self, text: &[u8], block: &[u8]) -> Result<Vec<u8>, Told> {
+        let behind = text.strip_prefix(FORM);
+        let large = block.len() > MOST_WITHOUT;
+        let refused = Err(Told::refused(TABLE));
+        match (self.0, behind) {
+            (Fault::FormNotNeededRefused, Some(_)) if !large => return refused,
+            (Fault::FormLeftOutRefused, None) if large => return refused,
+            (Fault::FormAloneRefused, Some([])) => return refused,
+            (Fault::FormWithEarlyLines, Some(lines)) if !String::from_utf8_lossy(lines).contains("law=") => {
+                return Ok(lines.to_vec());
+            }
+            (Fault::FormTwice, Some(lines)) if lines.starts_with(FORM) => return Ok(lines.to_vec()),
+            (Fault::FormBehind, None) if text.ends_with(FORM) => return Ok(text[..text.len() - FORM.len()].to_vec()),
+            (Fault::AnyForm, None) if text.starts_with(b"form=") => {
+                let end = text.iter().position(|octet| *octet == b'\n').unwrap_or(text.len() - 1);
+                if end > 5 && text[5..end].iter().all(u8::is_ascii_digit) {
+                    return Ok([FORM, &text[end + 1..]].concat());
+                }
+            }
+            (Fault::LargeEndRefused, None) => {
+                if Store::load(text, block.to_vec())
+                    .is_ok_and(|store| store.greetings.iter().any(|row| row.start + row.octets > MOST_WITHOUT))
+                {
+                    return refused;
+                }
+            }
+            (Fault::LargeWithoutForm | Fault::LargeAfterBad, None) => {
+                let with = [FORM, text].concat();
+                match Store::load(&with, block.to_vec()) {
+                    Ok(_) if self.0 == Fault::LargeWithoutForm => return Ok(with),
+                    Err(BAD) if self.0 == Fault::LargeAfterBad => return Err(Told::refused(BAD)),
+                    _ => {}
+                }
+            }
+            (Fault::LoadedIn16Bits, Some(lines)) => {
+                let shortened = |line: &str| match line.split_once('=') {
+                    Some((key @ ("start" | "octets"), value)) => {
+                        value.parse::<u32>().map_or(format!("{line}\n"), |number| format!("{key}={}\n", number as u16))
+                    }
+                    _ => format!("{line}\n"),
+                };
+                if lines.ends_with(b"\n") {
+                    let lines: String = String::from_utf8_lossy(lines).lines().map(shortened).collect();
+                    return Ok([FORM, lines.as_bytes()].concat());
+                }
+            }
+            _ => {}
+        }
+        Ok(text.to_vec())
     }
 }
 
@@ -460,6 +563,9 @@ impl Keeps for Wrong {
     }
 
     fn save(&self, block: &[u8], lent: &[u32], out: &mut [u8]) -> Told {
+        if let Some(told) = opened(block, lent).and_then(|store| self.saves(&store, out)) {
+            return told;
+        }
         let mut told = Second.save(block, lent, out);
         if told.ending == 0 && told.report[0] > 0 {
             let text = told.report[0] as usize;
@@ -468,7 +574,8 @@ impl Keeps for Wrong {
                 Fault::ByNumber => {
                     let mut rows = rows();
                     rows.sort_by_key(|row| row.number);
-                    out[..text].copy_from_slice(&text_of(&rows));
+                    let lines = text_of(&rows);
+                    out[text - lines.len()..text].copy_from_slice(&lines);
                 }
                 Fault::SavesEarlyLines => {
                     let early = early_text_of(&rows());
@@ -483,7 +590,10 @@ impl Keeps for Wrong {
     }
 
     fn load(&self, text: &[u8], block: &[u8], lent: &mut [u32]) -> Told {
-        let mut given = text.to_vec();
+        let mut given = match self.first(text, block) {
+            Ok(given) => given,
+            Err(told) => return told,
+        };
         let mut lent_block = block.to_vec();
         match self.0 {
             Fault::NoLastEnd if !text.ends_with(b"\n") && !text.is_empty() => given.push(b'\n'),
@@ -491,8 +601,8 @@ impl Keeps for Wrong {
                 given = String::from_utf8_lossy(text).replace("=0", "=").replace("=\n", "=0\n").into_bytes();
                 given = String::from_utf8_lossy(&given).replace("=,", "=0,").into_bytes();
             }
-            Fault::EndPassedByOne if block.len() < BLOCK => lent_block.push(0),
-            Fault::LooksPastTheBlock if block.len() > BLOCK => lent_block.rotate_left(block.len() - BLOCK),
+            Fault::EndPassedByOne if block.len() < MOST_BLOCK => lent_block.push(0),
+            Fault::LooksPastTheBlock if block.len() > MOST_BLOCK => lent_block.rotate_left(block.len() - MOST_BLOCK),
             Fault::ComesRound => {
                 let wrapped = |line: &str| {
                     let (key, value) = line.split_once('=')?;
@@ -551,21 +661,27 @@ impl Keeps for Wrong {
     }
 }
 
-/// The vectors, on a back end that may be wrong: only what differs from the model counts.
-fn vectors(stores: &mut Stores) {
-    for step in script(include_str!("../vectors/store.txt")).unwrap() {
+/// The vectors, on a back end that may be wrong, up to the first that finds it: only what differs from the model counts.
+fn vectors(steps: &[Step], stores: &mut Stores) {
+    for step in steps {
         match step {
-            Step::Part(_, block) => stores.renew(block),
+            Step::Part(_, block) => stores.renew(block.clone()),
             Step::Makes(call, _) => {
-                stores.call(&call);
+                stores.call(call);
             }
             Step::Lends(at, cells) => {
-                stores.lend(|lent| lent[at..at + cells.len()].copy_from_slice(&cells));
+                stores.lend(|lent| lent[*at..at + cells.len()].copy_from_slice(cells));
             }
             Step::Writes(at, octets) => {
                 octets.iter().enumerate().for_each(|(more, octet)| stores.octet(at + more, *octet));
             }
-            Step::Saves(_) | Step::Block(_) | Step::Cells(..) => {}
+            Step::Saves(_) => {
+                stores.call(&Call::Save(stores.room()));
+            }
+            Step::Block(_) | Step::Cells(..) => {}
+        }
+        if stores.differences > 0 {
+            return;
         }
     }
 }
@@ -598,10 +714,11 @@ fn drawn(turn: usize, profiles: &[tests::store::Profile], stores: &mut Stores, r
 fn a_wrong_back_end_is_found() {
     let mut rng = Prng::new(606);
     let profiles = profiles(&mut rng);
+    let steps = script(include_str!("../vectors/store.txt")).unwrap();
     let keepers: [&dyn Keeps; 2] = [&Second, &Wrong(Fault::Nothing)];
     for keeper in keepers {
         let mut stores = Stores::new(keeper, Vec::new());
-        vectors(&mut stores);
+        vectors(&steps, &mut stores);
         (0..80).for_each(|turn| drawn(turn, &profiles, &mut stores, &mut rng));
         stores.close();
     }
@@ -609,7 +726,7 @@ fn a_wrong_back_end_is_found() {
     for fault in faults {
         let wrong = Wrong(*fault);
         let mut stores = Stores::new(&wrong, Vec::new());
-        vectors(&mut stores);
+        vectors(&steps, &mut stores);
         by_vectors += usize::from(stores.differences > 0);
         let mut turn = 0;
         while stores.differences == 0 && turn < 400 {

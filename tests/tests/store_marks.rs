@@ -5,7 +5,7 @@ use second::gen::Prng;
 use tests::forms::{any_form, some_form, LENGTHS};
 use tests::store::{
     early_text_of, ending_name, frames_of, profiles, rows_of, short_frames, some_store, Call, Frames, Keeps, Stores,
-    Told, BEYOND, BLOCK, MARKS, MORE_ROWS, SAVED, TABLE,
+    Told, BEYOND, BLOCK, MARKS, MORE_ROWS, TABLE,
 };
 use tests::{in_share, say, share, Proved, Second, Table};
 
@@ -308,7 +308,7 @@ fn false_marks() {
             }
             stores.call(&Call::Put(1, 9, vec![0x41; 70]));
             stores.call(&Call::Delete(1 + turn as u32 % 3));
-            stores.call(&Call::Save(SAVED));
+            stores.call(&Call::Save(stores.room()));
         }
         table.close();
         stores.close();
@@ -329,7 +329,7 @@ fn as_many_marks_as_fit() {
                 assert_eq!(judged, marks <= octets / 64 + 1, "{octets} octets, {marks} marks");
                 let told = stores.call(&Call::Jump(1, 0));
                 assert_eq!(told.ending == TABLE, !judged);
-                stores.call(&Call::Save(SAVED));
+                stores.call(&Call::Save(stores.room()));
             }
             stores.lend(|cells| cells[MORE_ROWS + 3] = octets.div_ceil(64) as u32);
         }
@@ -368,7 +368,7 @@ fn the_fullest_table() {
             (MARKS + 512..cells.len()).for_each(|at| cells[at] = 1_000_000 + at as u32);
         });
         assert!(judged && marks(&stores) == 288);
-        stores.call(&Call::Save(SAVED));
+        stores.call(&Call::Save(stores.room()));
         assert!(stores.text.ends_with(b"mark=1000768,1000769\n"));
         for number in [1, 32, 16, 2, 31] {
             (0..24).for_each(|part| {
@@ -376,7 +376,7 @@ fn the_fullest_table() {
             });
             stores.call(&Call::Delete(number));
             stores.call(&Call::Put(1, 100 + number, vec![0; 64]));
-            stores.call(&Call::Save(SAVED));
+            stores.call(&Call::Save(stores.room()));
         }
         stores.close();
         say(&format!("compared: store, {name}, the fullest table: {} calls\n", stores.calls));
@@ -395,7 +395,7 @@ fn early_tables() {
             some_store(rng.pick(&profiles), &mut stores, &mut rng);
             let rows = stores.model.greetings.clone();
             assert_eq!(stores.call(&Call::Load(early_text_of(&rows))), Told::ok(0, 0));
-            stores.call(&Call::Save(SAVED));
+            stores.call(&Call::Save(stores.room()));
             let now = rows_of(&stores.text).expect("it is saved in R-8's lines");
             for (row, before) in now.iter().zip(&rows) {
                 assert_eq!((row.law, row.samples, &row.marks), (1, before.samples, &before.marks));

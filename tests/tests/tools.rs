@@ -9,9 +9,9 @@ use tests::program::{listing, repository, run};
 use tests::recordings::{recordings, Recording};
 use tests::streams::Stream;
 use tests::tools::{
-    law_words, pack_wanted, plus_zero, same, unpack_wanted, verify_wanted, Room, Stop, DIFFERS, FILES, MOST, USAGE,
+    law_words, pack_wanted, plus_zero, same, unpack_wanted, verify_wanted, Room, Stop, DIFFERS, FILES, USAGE,
 };
-use tests::{faults, say, Codec, Second};
+use tests::{faults, say, Codec, Second, MOST, MOST_LISTED};
 
 fn room(name: &str) -> Room {
     Room::new(env!("CARGO_TARGET_TMPDIR"), name)
@@ -142,22 +142,49 @@ fn sound_of_a_stream_of(octets: usize, length: usize, law: u32, rng: &mut Prng) 
     sound
 }
 
+/// A sound whose stream has just so many octets, packed into a file and unpacked again. Gives the sound.
+fn just_as_many_octets(room: &mut Room, octets: usize, length: usize, law: u32, rng: &mut Prng) -> Vec<u8> {
+    let (_, raw, lc) = law_words(law);
+    let sound = sound_of_a_stream_of(octets, length, law, rng);
+    let whole = pack_wanted(&sound, law, 127, length, false);
+    assert_eq!((whole.stop.number, whole.stream.octets.len()), (0, octets));
+    room.put(&format!("whole.{raw}"), &sound);
+    let ran = room.run("pack", &format!("-n{length} whole.{raw}"), &[]);
+    ran.ends(whole.stop).sums(whole.stream.frames, sound.len(), octets);
+    same(&ran.line, &room.take(&format!("whole.{lc}")), &whole.stream.octets);
+    let ran = room.run("unpack", &format!("whole.{lc} back"), &[]);
+    ran.ends(Stop::new(0, octets, 0)).sums(whole.stream.frames, sound.len(), octets);
+    same(&ran.line, &room.take("back"), &sound);
+    sound
+}
+
+/// Streams of 65,535 octets, which are listed, and of 65,536, which are not.
+#[test]
+fn streams_that_are_just_listed() {
+    let (mut room, mut rng) = (room("listed"), Prng::new(58));
+    for (turn, length) in LENGTHS.into_iter().enumerate() {
+        let law = turn as u32 % 2;
+        for octets in [MOST_LISTED, MOST_LISTED + 1] {
+            let sound = just_as_many_octets(&mut room, octets, length, law, &mut rng);
+            let stream = room.take(&format!("whole.{}", law_words(law).2));
+            if octets > MOST_LISTED {
+                let input = [&[b"AM"[law as usize]], &stream[..]].concat();
+                assert_eq!(listing(&input), b"stop=13 at=0 tool=0 bit=0\n");
+            } else {
+                lists(law, &stream, pack_wanted(&sound, law, 127, length, false).stream.frames, sound.len());
+            }
+        }
+    }
+    tell("streams of 65,535 and 65,536 octets, and 10 listings", &room);
+}
+
 #[test]
 fn the_longest_streams() {
     let (mut room, mut rng) = (room("longest"), Prng::new(54));
-    for (turn, length) in LENGTHS.into_iter().enumerate() {
+    for (turn, length) in [320, 40].into_iter().enumerate() {
         let law = turn as u32 % 2;
         let (option, raw, lc) = law_words(law);
-        let sound = sound_of_a_stream_of(MOST, length, law, &mut rng);
-        let whole = pack_wanted(&sound, law, 127, length, false);
-        assert_eq!((whole.stop.number, whole.stream.octets.len()), (0, MOST));
-        room.put(&format!("whole.{raw}"), &sound);
-        let ran = room.run("pack", &format!("-n{length} whole.{raw}"), &[]);
-        ran.ends(whole.stop).sums(whole.stream.frames, sound.len(), MOST);
-        same(&ran.line, &room.take(&format!("whole.{lc}")), &whole.stream.octets);
-        let ran = room.run("unpack", &format!("whole.{lc} back"), &[]);
-        ran.ends(Stop::new(0, MOST, 0)).sums(whole.stream.frames, sound.len(), MOST);
-        same(&ran.line, &room.take("back"), &sound);
+        let sound = just_as_many_octets(&mut room, MOST, length, law, &mut rng);
         // One frame more, which would be one octet, or many, or a part of a frame that would be filled up.
         for (more, options) in [(length, ""), (40, ""), (1_000_000, ""), (7, "-f")] {
             let longer = [&sound[..], &vec![plus_zero(law); more]].concat();
@@ -179,24 +206,26 @@ fn the_longest_streams() {
     let ran = room.run("pack", "-u -n40", &zeros);
     ran.ends(Stop::new(0, zeros.len(), 0)).sums(MOST, zeros.len(), MOST).writes(&vec![0x41; MOST]);
     room.run("pack", "-u -n40", &[&zeros[..], &zeros[..40]].concat()).ends(Stop::new(13, zeros.len(), 0)).writes(&[]);
-    tell("streams of 65,535 octets and one frame more", &room);
+    tell("streams of 1,048,576 octets and one frame more", &room);
 }
 
-/// Unpack takes 65,535 octets and not one more; all that they can hold is written.
+/// Unpack takes 1,048,576 octets and not one more; all that they hold is written. What the longest frames make of so many octets is
+/// tried with fewer.
 #[test]
 fn the_longest_streams_unpacked() {
     let mut room = room("longest-unpacked");
-    for (first, samples) in [(0x00, 0), (0x41, 40), (0x31, 320)] {
-        let ran = room.run("unpack", "-u", &vec![first; MOST]);
-        ran.ends(Stop::new(0, MOST, 0)).sums(MOST, MOST * samples, MOST).writes(&vec![0xFF; MOST * samples]);
-        for more in [1, 2, 100_000] {
-            room.run("unpack", "-u", &vec![first; MOST + more]).ends(Stop::new(13, 0, 0)).writes(&[]);
-        }
+    let all = [(0x00, 0, MOST), (0x41, 40, MOST), (0x31, 320, MOST_LISTED), (0x31, 320, MOST_LISTED + 1)];
+    for (first, samples, octets) in all {
+        let ran = room.run("unpack", "-u", &vec![first; octets]);
+        ran.ends(Stop::new(0, octets, 0)).sums(octets, octets * samples, octets).writes(&vec![0xFF; octets * samples]);
+    }
+    for (first, more) in [(0x00, 1), (0x41, 2), (0x31, 1), (0x31, 100_000)] {
+        room.run("unpack", "-u", &vec![first; MOST + more]).ends(Stop::new(13, 0, 0)).writes(&[]);
     }
     room.put("long.lca", &vec![0x41; MOST + 1]);
     room.run("unpack", "long.lca", &[]).ends(Stop::new(13, 0, 0));
     assert!(!room.has("long.alo") || room.take("long.alo").is_empty());
-    tell("streams of 65,535 octets and more unpacked", &room);
+    tell("streams of 1,048,576 octets and more unpacked", &room);
 }
 
 // ---- streams that are refused

@@ -38,7 +38,7 @@ impl Law {
 }
 
 /// The header's version.
-pub const VERSION: u32 = 10;
+pub const VERSION: u32 = 11;
 /// Octets of stack that a call uses at most: measured, not proved.
 pub const STACK: usize = 8_192;
 /// Every carried tool. Tool t, 1 to 7, adds 2^(t-1) to a set; a writer's set is odd.
@@ -50,7 +50,7 @@ pub const MAX_WRITTEN: usize = 321;
 /// Octets of the longest accepted frame.
 pub const MAX_FRAME: usize = 402;
 /// Octets of the longest stream that a walk takes.
-pub const MAX_STREAM: usize = 65_535;
+pub const MAX_STREAM: usize = 1_048_576;
 
 /// Why a call was refused.
 #[derive(Clone, Copy, Debug, PartialEq, Eq)]
@@ -127,7 +127,7 @@ impl fmt::Display for Refusal {
             Refusal::Length => "a frame has 0, 40, 80, 160, 240 or 320 samples",
             Refusal::Set => "the tool set is above 127, or even for a writer",
             Refusal::Law => "the law is above 1",
-            Refusal::Long => "the stream has more than 65,535 octets",
+            Refusal::Long => "the stream has more than 1,048,576 octets",
         })
     }
 }

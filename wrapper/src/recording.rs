@@ -9,7 +9,7 @@ pub const LOSS: u16 = 32_768;
 /// Octets of the heading.
 pub const HEADING: usize = 10;
 /// Octets of the longest file, its heading too.
-pub const MAX_FILE: usize = 65_545;
+pub const MAX_FILE: usize = 1_048_586;
 
 /// Why a file was refused.
 #[derive(Clone, Copy, Debug, PartialEq, Eq)]

@@ -1,18 +1,18 @@
-//! A greeting store that fills its gaps: document 02, R-6, with marks and jumps, R-8 and R-9. Greetings in a lent block, with
-//! a lent table.
+//! A greeting store that fills its gaps: document 02, R-6, with marks and jumps, R-8 and R-9, and blocks as large as R-11 has
+//! them. Greetings in a lent block, with a lent table.
 
 use crate::{raw, Law};
 use std::fmt;
 
 /// Octets of the largest block; a longer one is used up to here.
-pub const MAX_BLOCK: usize = 16_384;
+pub const MAX_BLOCK: usize = 1_048_576;
 /// Greetings that a store keeps.
 pub const MAX_GREETINGS: usize = 32;
 /// The greatest number of a greeting; the least is 1.
 pub const MAX_NUMBER: u32 = 65_535;
 
-/// How many cells a table needs for the largest block: 194, and two for each of 288 marks.
-pub const MAX_CELLS: usize = 770;
+/// How many cells a table needs for the largest block: 194, and two for each of 16,416 marks.
+pub const MAX_CELLS: usize = 33_026;
 
 /// How many cells a table needs for a block of a size, at most [`MAX_CELLS`]. A fresh table is all 0.
 pub fn cells(size: usize) -> usize {

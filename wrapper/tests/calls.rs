@@ -5,7 +5,7 @@
 use g7110::settings;
 use g7110::{
     from_linear, read, to_linear, walk, why, write, Law, Read, Reasons, Refusal, Refused, State, Walk, Written,
-    ALL_TOOLS, MAX_SAMPLES, MAX_WRITTEN, WHY_TEXT,
+    ALL_TOOLS, MAX_SAMPLES, MAX_STREAM, MAX_WRITTEN, WHY_TEXT,
 };
 
 const PLUS: u8 = 0xFF;
@@ -83,7 +83,9 @@ fn every_refusal_has_its_number() {
     assert_eq!(write(&[PLUS; 41], Law::Mu, 127, &mut out), Err(Refusal::Length));
     assert_eq!(write(&[PLUS; 40], Law::Mu, 126, &mut out), Err(Refusal::Set));
     let long = Some(Refused { why: Refusal::Long, bit: 0 });
-    assert_eq!(walk(&vec![0; 65_536], Law::Mu, 127, &mut out).refused, long);
+    assert_eq!(walk(&vec![0; MAX_STREAM + 1], Law::Mu, 127, &mut out).refused, long);
+    let whole = Walk { frames: MAX_STREAM, octets: MAX_STREAM, samples: 0, refused: None };
+    assert_eq!(walk(&vec![0; MAX_STREAM], Law::Mu, 127, &mut out), whole);
     let mut report = [9; 5];
     assert_eq!(g7110::raw::read(&[0x41], 2, 127, &mut out, &mut report), Refusal::Law.number());
     assert_eq!(report, [0; 5], "a report is written in every case");
@@ -233,8 +235,10 @@ fn a_greeting_is_mended() {
     assert_eq!(mend(&[], Law::A, 39, &mut out), Err(Refusal::Total));
     assert_eq!(mend(&[], Law::A, 1_000_040, &mut out), Err(Refusal::Total));
     assert_eq!(mend(&[], Law::A, 400, &mut out), Err(Refusal::Frame(g7110::Refusal::Room)));
-    assert_eq!(mend(&[0; 65_535], Law::A, 40, &mut out), Err(Refusal::Frame(g7110::Refusal::Long)));
-    assert_eq!(mend(&[0; 65_536], Law::A, 39, &mut out), Err(Refusal::Frame(g7110::Refusal::Long)));
+    let pads = vec![0; MAX_STREAM + 1];
+    assert_eq!(mend(&pads[1..], Law::A, 40, &mut out), Err(Refusal::Frame(g7110::Refusal::Long)));
+    assert_eq!(mend(&pads, Law::A, 39, &mut out), Err(Refusal::Frame(g7110::Refusal::Long)));
+    assert_eq!(mend(&pads[1..], Law::A, 39, &mut out), Err(Refusal::Total));
     assert_eq!(out, [0xA7]);
 }
 
@@ -249,7 +253,7 @@ fn greetings_are_kept() {
     assert_eq!(put(&mut block, &mut table, Law::Mu, 8, &[0x41; 70]), Ok(Put { start: 2, moved: 0 }));
     assert_eq!(get(&block, &table, 8), Ok(Got { start: 2, octets: 70 }));
     assert_eq!(put(&mut block, &mut table, Law::A, 9, &[0x46]), Err(Refusal::Bad));
-    let mut text = [0; MAX_TABLE];
+    let mut text = vec![0; MAX_TABLE];
     let octets = save(&block, &table, &mut text).unwrap();
     let lines = "prompt=7\nstart=0\noctets=2\nlaw=0\nsamples=0\nmark=0,0\n\
                  prompt=8\nstart=2\noctets=70\nlaw=1\nsamples=2800\nmark=0,0\nmark=64,2560\n";
@@ -263,6 +267,35 @@ fn greetings_are_kept() {
     let mut report = [9; 2];
     let ending = g7110::raw::store_put(&mut block, &mut other, 2, 0, &[], &mut report);
     assert_eq!((ending, report), (g7110::Refusal::Law.number(), [0; 2]), "a report is written in every case");
+}
+
+/// A block of more than 65,535 octets, and a greeting of more: the table is saved with its first line, and loaded with it alone.
+#[test]
+fn longer_greetings_are_kept() {
+    use g7110::saved::{load, save, MAX_TABLE};
+    use g7110::store::{cells, get, put, Got, Put, Refusal, MAX_BLOCK};
+    let frame = [&[0x30][..], &[0x55; 320]].concat();
+    let greeting = frame.repeat(250);
+    let mut block = vec![0xEE; MAX_BLOCK + 1];
+    let mut table = vec![0; cells(block.len())];
+    let mut text = vec![0; MAX_TABLE];
+    assert_eq!(save(&block, &table, &mut text), Ok(7));
+    assert_eq!(text[..7], *b"form=2\n");
+    assert_eq!(put(&mut block, &mut table, Law::A, 1, &[0x41; 64]), Ok(Put { start: 0, moved: 0 }));
+    assert_eq!(put(&mut block, &mut table, Law::A, 2, &greeting), Ok(Put { start: 64, moved: 0 }));
+    assert_eq!(put(&mut block, &mut table, Law::A, 3, &vec![0; MAX_BLOCK + 1]), Err(Refusal::Bad));
+    assert_eq!(put(&mut block, &mut table, Law::A, 3, &vec![0; MAX_BLOCK - 80_313]), Err(Refusal::NoRoom));
+    let octets = save(&block, &table, &mut text).unwrap();
+    let lines = "prompt=1\nstart=0\noctets=64\nlaw=0\nsamples=2560\nmark=0,0\n\
+                 prompt=2\nstart=64\noctets=80250\nlaw=0\nsamples=80000\nmark=0,0\nmark=20544,20480\nmark=41088,40960\nmark=61632,61440\n";
+    assert_eq!(text[..octets], *["form=2\n", lines].concat().as_bytes());
+    let mut other = vec![u32::MAX; cells(block.len())];
+    assert_eq!(load(lines.as_bytes(), &block, &mut other), Err(Refusal::Table));
+    assert_eq!(load(&text[..octets], &block, &mut other), Ok(()));
+    assert_eq!(get(&block, &other, 2), Ok(Got { start: 64, octets: 80_250 }));
+    let early = b"form=2\nprompt=1\nstart=0\noctets=64\n";
+    assert_eq!(load(early, &block, &mut other), Err(Refusal::Table), "no early box wrote it");
+    assert_eq!(load(&early[7..], &block, &mut other), Ok(()));
 }
 
 /// A greeting jumped into; and what is refused.
@@ -342,19 +375,19 @@ fn a_recording_is_refused() {
     assert_eq!(Refusal::Head.number(), 14);
     let set = refused(Refusal::Frame(g7110::Refusal::Set), 0);
     assert_eq!(read(&file[..9], 128, &mut out, &mut list), nothing(None, set));
-    let long = [&file[..10], &[0; 65_536]].concat();
+    let long = [&file[..10], &vec![0; MAX_STREAM + 1]].concat();
     let too_long = refused(Refusal::Frame(g7110::Refusal::Long), 0);
     assert_eq!(read(&long, ALL_TOOLS, &mut out, &mut list), nothing(Some(Law::A), too_long));
     let no_place = refused(Refusal::Frame(g7110::Refusal::Room), 0);
     assert_eq!(read(file, ALL_TOOLS, &mut out, &mut []), nothing(Some(Law::A), no_place));
-    let mut file = [0xA7; 60];
+    let (mut file, marks) = ([0xA7; 60], vec![0; MAX_STREAM + 1]);
     for (samples, list, set, why) in [
         (&[PLUS; 41][..], &[41][..], 127, g7110::Refusal::Length),
         (&[PLUS; 41], &[40], 127, g7110::Refusal::Length),
         (&[PLUS; 39], &[40], 126, g7110::Refusal::Set),
         (&[PLUS; 39], &[40], 127, g7110::Refusal::Length),
         (&[], &[0; 51], 127, g7110::Refusal::Room),
-        (&[], &[0; 65_536], 127, g7110::Refusal::Long),
+        (&[], &marks, 127, g7110::Refusal::Long),
     ] {
         assert_eq!(write(samples, list, Law::A, set, &mut file), Err(Refusal::Frame(why)));
         assert_eq!(file, [0xA7; 60]);

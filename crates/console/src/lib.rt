@@ -1,6 +1,6 @@
 // What the bench tools read and say: their arguments, files, and the lines on standard error. No contract can say what is
 // read or written: what a line holds comes from crates `options`, `filenames`, `refusals` and `lines`.
-ghost use Prim.Native.Nat.{_≤_};
+ghost use Prim.Native.Nat.{_^_, _≤_, _<_};
 ghost use lib.ListN.{length};
 ghost use Rattle.io.specs.Counts.{Counts};
 use libc::STDERR_FILENO;
@@ -263,4 +263,124 @@ pub fn read_part(fd: i32, buf: &mut [u8]) -> Got
         count: done,
         failed: false,
     }
+}
+
+// A file that can be read from any place on, and how many octets it has.
+pub struct Source {
+    pub fd: i32,
+    pub size: usize,
+    pub failed: bool,
+}
+
+// One part more, kept in another file.
+fn count_part(fd: i32, keep: i32, part: &mut [u8]) -> Got
+    ensures { λ r. ⌜ r .count ≤ length (now (part .exit)) ⌝ }
+{
+    let got = read_part(fd, part);
+    let n = got.count;
+    if got.failed {
+        return Got {
+            count: 0,
+            failed: true,
+        };
+    }
+    let kept = io::write_all(keep, &part[..n]);
+    Got {
+        count: n,
+        failed: !kept,
+    }
+}
+
+// How many octets a file has, kept in another; no more parts are read once they are above `most`.
+fn counted(fd: i32, keep: i32, most: usize, part: &mut [u8]) -> Source
+    requires { ⌜ (1 ≤ length (now part)) × (length (now part) < 2 ^ 32) × (most < 2 ^ 32) ⌝ }
+{
+    let mut size = 0;
+    while size <= most {
+        let got = count_part(fd, keep, part);
+        size += got.count;
+        if got.failed {
+            return Source {
+                fd,
+                size,
+                failed: true,
+            };
+        }
+        if got.count < part.len() {
+            return Source {
+                fd,
+                size,
+                failed: false,
+            };
+        }
+    }
+    Source {
+        fd,
+        size,
+        failed: false,
+    }
+}
+
+// A file that has no name, to keep octets in: /tmp/g7110.XXXXXX, unlinked at once; below 0 where none can be made.
+pub fn nameless() -> i32 {
+    let mut name = [
+        47u8,
+        116,
+        109,
+        112,
+        47,
+        103,
+        55,
+        49,
+        49,
+        48,
+        46,
+        88,
+        88,
+        88,
+        88,
+        88,
+        88,
+    ];
+    let fd = os::create_temp(&mut name);
+    if fd < 0 {
+        return fd;
+    }
+    os::unlink(&name);
+    fd
+}
+
+// A file that was opened, to be read from any place on: its octets are first kept in a file that has no name. So a pipe can be read, and a
+// file may be written into itself.
+pub fn source_of(fd: i32, most: usize, part: &mut [u8]) -> Source
+    requires { ⌜ (1 ≤ length (now part)) × (length (now part) < 2 ^ 32) × (most < 2 ^ 32) ⌝ }
+{
+    let keep = nameless();
+    if keep < 0 {
+        return Source {
+            fd,
+            size: 0,
+            failed: true,
+        };
+    }
+    let s = counted(fd, keep, most, part);
+    Source {
+        fd: keep,
+        size: s.size,
+        failed: s.failed,
+    }
+}
+
+// Reads from a place on, until the octets lent are full, the file ends or a read fails.
+pub fn read_at(fd: i32, at: usize, buf: &mut [u8]) -> Got
+    requires { ⌜ at < 2 ^ 32 ⌝ }
+    ensures { λ r. ⌜ r .count ≤ length (now (buf .exit)) ⌝ }
+{
+    if libc::lseek(fd, at as i64, libc::SEEK_SET) < 0 {
+        return Got {
+            count: 0,
+            failed: true,
+        };
+    }
+    read_part(fd, buf)
 }

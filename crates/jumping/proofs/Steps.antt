@@ -9,7 +9,7 @@ use lib.ListN.{length, getD, take, drop}
 use lib.Seq.{getD-drop}
 use borrow.Author.Tests.{lt-ltb, le-ltb, le-leb, lt-leb, eq-eqb, ne-eqb}
 use Rattle.rows.specs.declared.Row.{Row}
-use Rattle.rows.specs.Limits.{sizeOf}
+use Rattle.rows.specs.Limits.{sizeOf, largestBlock, mostNumber}
 use Rattle.rows.specs.Rows.{greeting}
 use Rattle.rows.specs.Finding.{findFrom}
 use Rattle.rows.specs.Cells.{rowAt, rowsAt, rowsOf}
@@ -70,7 +70,7 @@ module _ (law samples m : ℕ) (xs cells : List ℕ) (sample : ℕ) where
         ) f
 
 -- a greeting of a table that calls leave, and its note: it lies inside the block, its marks inside the cells
-module _ {size : ℕ} {t : List ℕ} (k : Noted size t) (z : size ≤ 16384) {i : ℕ} (h : i < getD t 0 0) where
+module _ {size : ℕ} {t : List ℕ} (k : Noted size t) (z : size ≤ largestBlock) {i : ℕ} (h : i < getD t 0 0) where
   pub row-few : i < 32
   row-few = omega (arith, k .order .few)
 
@@ -114,11 +114,11 @@ module _ (b t : List ℕ) (x sample : ℕ) where
   among-low h = rw (lt-leb 1 x h)
 
   module _ (low : 1 ≤ x) where
-    pub among-high : 65535 < x → Refused Number ≡ jumpAmong b (rowsOf t) (notesOf t) x sample
+    pub among-high : mostNumber < x → Refused Number ≡ jumpAmong b (rowsOf t) (notesOf t) x sample
     unfolding jumpAmong
-    among-high h = rw (le-leb 1 x low, lt-leb x 65535 h)
+    among-high h = rw (le-leb 1 x low, lt-leb x mostNumber h)
 
-    module _ (high : x ≤ 65535) {n i : ℕ} (c : n ≡ getD t 0 0) (f : i ≡ findFrom x 0 (rowsAt t (n - 0) (1 + 3 * 0))) where
+    module _ (high : x ≤ mostNumber) {n i : ℕ} (c : n ≡ getD t 0 0) (f : i ≡ findFrom x 0 (rowsAt t (n - 0) (1 + 3 * 0))) where
       many : 0 + length (rowsOf t) ≡ n
       many = omega (arith, length-rows t (getD t 0 0) 1, c)
 
@@ -127,12 +127,12 @@ module _ (b t : List ℕ) (x sample : ℕ) where
 
       pub among-absent : n ≤ i → Refused Absent ≡ jumpAmong b (rowsOf t) (notesOf t) x sample
       unfolding jumpAmong
-      among-absent h = rw (le-leb 1 x low, le-leb x 65535 high, found-nowhere x 0 n (rowsOf t) place many h)
+      among-absent h = rw (le-leb 1 x low, le-leb x mostNumber high, found-nowhere x 0 n (rowsOf t) place many h)
 
       pub among-found : {a : Answer} → i < n → a ≡ jumpIn (greeting b (nth i (rowsOf t))) (nthNote i (notesOf t)) sample
           → a ≡ jumpAmong b (rowsOf t) (notesOf t) x sample
       unfolding jumpAmong
-      among-found h e = rw (le-leb 1 x low, le-leb x 65535 high, found-here x 0 n (rowsOf t) place many h, ← place) e
+      among-found h e = rw (le-leb 1 x low, le-leb x mostNumber high, found-here x 0 n (rowsOf t) place many h, ← place) e
 
 -- TABLE, or what follows
 module _ (b t : List ℕ) (x sample : ℕ) {size : ℕ} (z : size ≡ sizeOf b) {sane : Bool} (e : sane ≡ saneStore size t) where

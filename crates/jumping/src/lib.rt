@@ -3,6 +3,7 @@
 ghost use mathlib.Core.Path.{_≡_};
 ghost use Prim.Native.Nat.{_*_, _^_, _≤_, _<_};
 ghost use lib.ListN.{length, getD};
+ghost use Rattle.rows.specs.Limits.{largestBlock};
 ghost use Rattle.rows.specs.Rows.{greeting};
 ghost use Rattle.rows.specs.Cells.{rowsOf};
 ghost use Rattle.rows.specs.Changed.{nth};
@@ -122,7 +123,7 @@ fn within(octets: &[u8], law: u32, samples: usize, marks: &[u32], m: usize, samp
 
 // In the greeting at place i of a table, with its note.
 fn at_row(block: &[u8], table: &[u32], size: usize, i: usize, sample: usize) -> Answer
-    requires { ⌜ Noted size (now table) × (size ≤ length (now block)) × (size ≤ 16384) × (i < getD (now table) 0 0) ⌝ }
+    requires { ⌜ Noted size (now table) × (size ≤ length (now block)) × (size ≤ largestBlock) × (i < getD (now table) 0 0) ⌝ }
     ensures { λ r. ⌜ r ≡ jumpIn (greeting (now (block .entry)) (nth i (rowsOf (now (table .entry))))) (nthNote i (notesOf (now (table .entry)))) sample ⌝ }
 {
     let r = rows::row_at(table, 1 + 3 * i);
@@ -138,7 +139,7 @@ fn at_row(block: &[u8], table: &[u32], size: usize, i: usize, sample: usize) -> 
 
 // "Refusals, in order: NUMBER, ABSENT, BEYOND".
 fn among(block: &[u8], table: &[u32], size: usize, number: usize, sample: usize) -> Answer
-    requires { ⌜ Noted size (now table) × (size ≤ length (now block)) × (size ≤ 16384) ⌝ }
+    requires { ⌜ Noted size (now table) × (size ≤ length (now block)) × (size ≤ largestBlock) ⌝ }
     ensures { λ r. ⌜ r ≡ jumpAmong (now (block .entry)) (rowsOf (now (table .entry))) (notesOf (now (table .entry))) number sample ⌝ }
 {
     if number < 1 {

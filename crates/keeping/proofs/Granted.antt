@@ -15,7 +15,7 @@ use Rattle.rules.proofs.Tests.{and-left, and-right}
 use Rattle.rows.specs.declared.Row.{Row}
 use Rattle.rows.specs.declared.Gap.{Gap}
 use Rattle.rows.specs.declared.Gap.the-variants.{At, Nowhere}
-use Rattle.rows.specs.Limits.{sizeOf, isNumber}
+use Rattle.rows.specs.Limits.{mostNumber, sizeOf, isNumber}
 use Rattle.rows.specs.Rows.{rowOf, held, contents}
 use Rattle.rows.specs.Finding.{absent, findFrom, lowestGap}
 use Rattle.rows.specs.Cells.{rowsOf}
@@ -132,10 +132,10 @@ put-granted b t law x xs a e =
         record { sane = s′; lawful = l′; number = n′; fresh = f′; good = g′; few = omega arith; room = ltb-false _ _ r′; is = cc }
 
 pub low-number : (x : ℕ) → isNumber x ≡ true → 1 ≤ x
-low-number x e = leb-true 1 x (and-left (leb 1 x) (leb x 65535) e)
+low-number x e = leb-true 1 x (and-left (leb 1 x) (leb x mostNumber) e)
 
-pub high-number : (x : ℕ) → isNumber x ≡ true → x ≤ 65535
-high-number x e = leb-true x 65535 (and-right (leb 1 x) (leb x 65535) e)
+pub high-number : (x : ℕ) → isNumber x ≡ true → x ≤ mostNumber
+high-number x e = leb-true x mostNumber (and-right (leb 1 x) (leb x mostNumber) e)
 
 -- closing up leaves the second list as it fits
 pub matched-closed : (at : ℕ) (rows hs : List Row) → length rows ≡ length hs → matched rows hs ≡ true → matched (closedRows at rows) hs ≡ true

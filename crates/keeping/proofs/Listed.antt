@@ -83,12 +83,6 @@ true-listing b (r ∷ rows) (n ∷ notes) h =
     let s : sameNote n g ≡ true = subst (λ (m : Note). sameNote n m ≡ true) (h .0) (note-self n) in
     rw s (true-listing b rows notes (h .1))
 
-pub rows-listing : (rows : List Row) (notes : List Note) → length notes ≡ length rows → rowsListed (listing rows notes) ≡ rows
-unfolding rowsListed listing
-rows-listing [] notes l = refl
-rows-listing (r ∷ rows) [] l = absurd (omega arith)
-rows-listing (r ∷ rows) (n ∷ notes) l = ap (λ (x : List Row). r ∷ x) (rows-listing rows notes (omega arith))
-
 pub notes-listing : (rows : List Row) (notes : List Note) → length notes ≡ length rows → notesListed (listing rows notes) ≡ notes
 unfolding notesListed listing
 notes-listing [] [] l = refl

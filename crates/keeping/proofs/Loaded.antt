@@ -29,7 +29,8 @@ use Rattle.keyvalue.specs.Reading.{Read, whole, none, andThen}
 use Rattle.keyvalue.proofs.Exact.{through, got-value}
 use Rattle.keyvalue.proofs.Exact.{passed as went}
 use Rattle.tables.specs.Table.{tableIn}
-use Rattle.tables.specs.Noted.{Listed, listed, listedFrom, listedIn, rowsListed, notesListed}
+use Rattle.tables.specs.Noted.{Listed, listed, listedFrom, rowsListed, notesListed}
+use Rattle.tables.specs.Form.{formOf, formedIn}
 use Rattle.tables.proofs.Exact.{table-only}
 use Rattle.tables.proofs.Noting.{length-rows-listed}
 use Rattle.saved.specs.Saved.{anyBad, allTrue, early, loadIn, loadRead, loadOf}
@@ -76,15 +77,15 @@ module _ (text b t : List ℕ) (xs : List Listed) (c : storeCells (sizeOf b) ≤
       go true p true q false r false s = untrue (record { cells = c; lists = l; apart = p; once = q }) r s
       go true p true q false r true s = taken (record { cells = c; lists = l; apart = p; once = q }) r s
 
-no-lists : {text b : List ℕ} {A : Type 0} {xs : List Listed} → tableIn text ≡ none → listedIn text ≡ none → Lists text b xs → A
+no-lists : {text b : List ℕ} {A : Type 0} {xs : List Listed} → tableIn text ≡ none → formedIn text ≡ none → Lists text b xs → A
 no-lists e f (in-early g) = not-both e g
 no-lists e f (in-noted g h) = not-both f h
 
 pub load-judged : (text b t : List ℕ) → Judged text b t (loadOf text b t)
-load-judged text b t = go (ltb (length t) (storeCells (sizeOf b))) refl (tableIn text) refl (listedIn text) refl
+load-judged text b t = go (ltb (length t) (storeCells (sizeOf b))) refl (tableIn text) refl (formedIn text) refl
   where
     go : (s : Bool) → ltb (length t) (storeCells (sizeOf b)) ≡ s → (old : Read (List Row)) → tableIn text ≡ old
-        → (new : Read (List Listed)) → listedIn text ≡ new → Judged text b t (cond s (refused Table) (loadRead b (sizeOf b) old new))
+        → (new : Read (List Listed)) → formedIn text ≡ new → Judged text b t (cond s (refused Table) (loadRead b (sizeOf b) old new))
     go true p old q new r = unformed (λ xs f. let h = ltb-true (length t) (storeCells (sizeOf b)) p in absurd (omega (arith, f .cells)))
     go false p (whole rows i) q new r =
         judged-in text b t (early b rows) (ltb-false (length t) (storeCells (sizeOf b)) p) (in-early q)
@@ -92,7 +93,7 @@ load-judged text b t = go (ltb (length t) (storeCells (sizeOf b))) refl (tableIn
     go false p none q none r = unformed (λ xs f. no-lists q r (f .lists))
 
 -- and the other way
-read-as : {text b : List ℕ} {xs : List Listed} (size : ℕ) → Lists text b xs → loadRead b size (tableIn text) (listedIn text) ≡ loadIn b size xs
+pub read-as : {text b : List ℕ} {xs : List Listed} (size : ℕ) → Lists text b xs → loadRead b size (tableIn text) (formedIn text) ≡ loadIn b size xs
 read-as size (in-early e) = rw e
 read-as size (in-noted e f) = rw (e, f)
 
@@ -193,28 +194,28 @@ true-matched b lo size (r ∷ rows) (n ∷ notes) h f g w =
     (true-matched b (r .start + r .octets) size rows notes (k .1) f (g .1) (w .1)))
 
 -- at most 32
-few-from : (more : ℕ) (done : List Listed) (text : List ℕ) (i : ℕ) (xs : List Listed) (j : ℕ) → listedFrom more done text i ≡ whole xs j
-    → length xs ≤ length done + more
+few-from : (far more : ℕ) (done : List Listed) (text : List ℕ) (i : ℕ) (xs : List Listed) (j : ℕ)
+    → listedFrom far more done text i ≡ whole xs j → length xs ≤ length done + more
 unfolding listedFrom
-few-from zero done text i xs j e =
+few-from far zero done text i xs j e =
     let v = got-value (went (leb (length text) i) (whole done i) e .1) in
     let l = ap length v in
     omega arith
-few-from (suc more) done text i xs j e = go (leb (length text) i) e (λ r k. few-from more (done ++ (r ∷ [])) text k xs j)
+few-from far (suc more) done text i xs j e = go (leb (length text) i) e (λ r k. few-from far more (done ++ (r ∷ [])) text k xs j)
   where
-    go : (t : Bool) → cond t (whole done i) (andThen (listed text i) (λ r j. listedFrom more (done ++ (r ∷ [])) text j)) ≡ whole xs j
-        → ((r : Listed) (k : ℕ) → listedFrom more (done ++ (r ∷ [])) text k ≡ whole xs j → length xs ≤ length (done ++ (r ∷ [])) + more)
+    go : (t : Bool) → cond t (whole done i) (andThen (listed far text i) (λ r j. listedFrom far more (done ++ (r ∷ [])) text j)) ≡ whole xs j
+        → ((r : Listed) (k : ℕ) → listedFrom far more (done ++ (r ∷ [])) text k ≡ whole xs j → length xs ≤ length (done ++ (r ∷ [])) + more)
         → length xs ≤ length done + suc more
     go true e ih = let l = ap length (got-value e) in omega arith
     go false e ih =
-        let m = through (listed text i) _ e in
+        let m = through (listed far text i) _ e in
         omega (arith, ih (m .value) (m .place) (m .then), length-append done (m .value ∷ []))
 
 lists-few : {text b : List ℕ} {xs : List Listed} → Lists text b xs → length xs ≤ 32
 lists-few {text} {b} (in-early {rows = rows} {i = i} e) =
     let r = ap length (early-rows b rows) in
     omega (arith, length-rows-listed (early b rows), table-only text rows i e .few)
-lists-few {text} {b} (in-noted {xs = xs} {i = i} e f) = few-from 32 [] text 0 xs i f
+lists-few {text} {b} (in-noted {xs = xs} {i = i} e f) = few-from (formOf text .most) 32 [] text (formOf text .from) xs i f
 
 module _ (text b t : List ℕ) {a : After} (e : loadOf text b t ≡ leaves a) where
   took : Took text b t a

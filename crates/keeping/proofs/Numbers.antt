@@ -8,6 +8,7 @@ use lib.ListN.{length, take, drop, take-append-drop}
 use lib.Dec.{ltb, eqb}
 use borrow.Author.Tests.{le-ltb, ltb-false, eqb-true, eqb-false, ne-eqb}
 use Rattle.rows.specs.declared.Row.{Row}
+use Rattle.rows.specs.Limits.{mostNumber}
 use Rattle.rows.specs.Finding.{absent, findFrom}
 use Rattle.rows.specs.Sane.{numbered}
 use Rattle.rows.specs.Changed.{insertAt}
@@ -20,7 +21,7 @@ Fresh x (r ∷ rs) = (r .number ≡ x → ⊥) × Fresh x rs
 
 unfoldable pub Distinct : List Row → Type 0
 Distinct [] = Unit {0}
-Distinct (r ∷ rs) = (1 ≤ r .number) × (r .number ≤ 65535) × Fresh (r .number) rs × Distinct rs
+Distinct (r ∷ rs) = (1 ≤ r .number) × (r .number ≤ mostNumber) × Fresh (r .number) rs × Distinct rs
 
 pub fresh-of : (x : ℕ) (rows : List Row) → absent x rows ≡ true → Fresh x rows
 unfolding Fresh absent
@@ -39,7 +40,7 @@ unfolding numbered Distinct
 distinct-of [] e = tt
 distinct-of (r ∷ rows) e =
     let a = passed (ltb (r .number) 1) _ e in
-    let b = passed (ltb 65535 (r .number)) _ (a .1) in
+    let b = passed (ltb mostNumber (r .number)) _ (a .1) in
     let c = both (absent (r .number) rows) (numbered rows) (b .1) in
     (ltb-false _ _ (a .0), ltb-false _ _ (b .0), fresh-of (r .number) rows (c .0), distinct-of rows (c .1))
 
@@ -47,14 +48,14 @@ pub numbered-of : (rows : List Row) → Distinct rows → numbered rows ≡ true
 unfolding numbered Distinct
 numbered-of [] d = refl
 numbered-of (r ∷ rows) d =
-    rw (le-ltb (r .number) 1 (d .0), le-ltb 65535 (r .number) (d .1), absent-of (r .number) rows (d .2)) (numbered-of rows (d .3))
+    rw (le-ltb (r .number) 1 (d .0), le-ltb mostNumber (r .number) (d .1), absent-of (r .number) rows (d .2)) (numbered-of rows (d .3))
 
 fresh-insert : (x : ℕ) (a : List Row) (r : Row) (c : List Row) → (r .number ≡ x → ⊥) → Fresh x (a ++ c) → Fresh x (a ++ (r ∷ c))
 unfolding Fresh
 fresh-insert x [] r c n f = (n, f)
 fresh-insert x (y ∷ a) r c n f = (f .0, fresh-insert x a r c n (f .1))
 
-distinct-insert : (a : List Row) (r : Row) (c : List Row) → 1 ≤ r .number → r .number ≤ 65535 → Fresh (r .number) (a ++ c) → Distinct (a ++ c)
+distinct-insert : (a : List Row) (r : Row) (c : List Row) → 1 ≤ r .number → r .number ≤ mostNumber → Fresh (r .number) (a ++ c) → Distinct (a ++ c)
     → Distinct (a ++ (r ∷ c))
 unfolding Distinct Fresh
 distinct-insert [] r c l h f d = (l, h, f, d)
@@ -82,7 +83,7 @@ distinct-closed at [] d = tt
 distinct-closed at (r ∷ rows) d =
     (d .0, d .1, fresh-closed (r .number) (at + r .octets) rows (d .2), distinct-closed (at + r .octets) rows (d .3))
 
-pub inserted-distinct : (i : ℕ) (r : Row) (rows : List Row) → 1 ≤ r .number → r .number ≤ 65535 → Fresh (r .number) rows → Distinct rows
+pub inserted-distinct : (i : ℕ) (r : Row) (rows : List Row) → 1 ≤ r .number → r .number ≤ mostNumber → Fresh (r .number) rows → Distinct rows
     → Distinct (insertAt i r rows)
 inserted-distinct i r rows l h f d =
     let e = take-append-drop i rows in

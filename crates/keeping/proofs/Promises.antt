@@ -41,7 +41,8 @@ use Rattle.store.specs.Store.{Outcome, leaves, refused, After, fitted, putIn, g
 use Rattle.store.specs.Calls.{putOf, getOf, deleteOf, blockAfter, tableAfter}
 use Rattle.keyvalue.specs.Reading.{whole, none}
 use Rattle.tables.specs.Table.{tableIn}
-use Rattle.tables.specs.Noted.{Listed, listedIn, listing, listedText}
+use Rattle.tables.specs.Noted.{Listed, listing}
+use Rattle.tables.specs.Form.{savedText, formedIn}
 use Rattle.saved.specs.Saved.{saved, declined, saveIn, saveOf, early, loadOf}
 use Rattle.rows.proofs.Cells.{length-rows}
 use Rattle.keeping.specs.Told.{Call, putting, getting, deleting, saving, loading, Store, rowsIn, notesFor, see, seeAll, fresh}
@@ -432,10 +433,10 @@ found-tables x rows a e = go (isNumber x) (absent x rows) e
     go true true e = let z : _≡_ {A = ℕ} 0 1 = cc in absurd (omega arith)
     go true false e = let z : _≡_ {A = ℕ} 0 1 = cc in absurd (omega arith)
 
-save-tables : (xs : List Listed) (room : ℕ) → saveIn xs room ≡ declined Table → ⊥
-save-tables xs room e = go (ltb room (length (listedText xs))) e
+save-tables : (size : ℕ) (xs : List Listed) (room : ℕ) → saveIn size xs room ≡ declined Table → ⊥
+save-tables size xs room e = go (ltb room (length (savedText size xs))) e
   where
-    go : (q : Bool) → cond q (declined Room) (saved (listedText xs)) ≡ declined Table → ⊥
+    go : (q : Bool) → cond q (declined Room) (saved (savedText size xs)) ≡ declined Table → ⊥
     go true e = let z : _≡_ {A = ℕ} 0 1 = cc in absurd (omega arith)
     go false e = let z : _≡_ {A = ℕ} 0 1 = cc in absurd (omega arith)
 
@@ -449,34 +450,34 @@ never-table {size} {s} k =
       put = λ law x xs e. put-tables b (sizeOf b) rows notes law x xs (rw (k .sane) at e);
       get = λ x e. found-tables x rows (gotten b rows notes (nth (findFrom x 0 rows) rows)) (rw (k .sane) at e);
       delete = λ x e. found-tables x rows (without b rows notes (findFrom x 0 rows)) (rw (k .sane) at e);
-      save = λ room e. save-tables (listing rows notes) room (rw (k .sane) at e);
+      save = λ room e. save-tables (sizeOf b) (listing rows notes) room (rw (k .sane) at e);
     }
 
 -- SAVED AND LOADED: what save writes, load takes into any table that is long enough; greetings, laws, samples and marks are the same
 pub saved-loads : {size : ℕ} {s : Store} → Keeps size s → (t : List ℕ) → storeCells (sizeOf (s .block)) ≤ length t
-    → loadOf (listedText (listing (rowsIn s) (notesFor s))) (s .block) t
+    → loadOf (savedText (sizeOf (s .block)) (listing (rowsIn s) (notesFor s))) (s .block) t
     ≡ leaves (record { block = s .block; rows = rowsIn s; notes = notesFor s; first = 0; second = 0 })
 saved-loads {size} {s} k t h =
     let o = sane-rows (sizeOf (s .block)) (s .table) (k .sane) in
     load-of (s .block) t (rowsIn s) (notesFor s) h (omega (arith, length-rows (s .table) (getD (s .table) 0 0) 1, o .few)) (o .rises)
     (sane-distinct (sizeOf (s .block)) (s .table) (k .sane)) (sane-count (s .block) (s .table) (k .sane)) (k .good) (k .marks)
 
-saved-text : (xs : List Listed) (room : ℕ) (text : List ℕ) → saveIn xs room ≡ saved text → text ≡ listedText xs
-saved-text xs room text e = go (ltb room (length (listedText xs))) e
+pub saved-text : (size : ℕ) (xs : List Listed) (room : ℕ) (text : List ℕ) → saveIn size xs room ≡ saved text → text ≡ savedText size xs
+saved-text size xs room text e = go (ltb room (length (savedText size xs))) e
   where
-    go : (q : Bool) → cond q (declined Room) (saved (listedText xs)) ≡ saved text → text ≡ listedText xs
+    go : (q : Bool) → cond q (declined Room) (saved (savedText size xs)) ≡ saved text → text ≡ savedText size xs
     go true e = let z : _≡_ {A = ℕ} 0 1 = cc in absurd (omega arith)
     go false e = cc
 
 pub save-writes : {size : ℕ} {s : Store} → Keeps size s → (room : ℕ)
-    → saveOf (s .block) (s .table) room ≡ saveIn (listing (rowsIn s) (notesFor s)) room
+    → saveOf (s .block) (s .table) room ≡ saveIn (sizeOf (s .block)) (listing (rowsIn s) (notesFor s)) room
 save-writes k room = rw (k .sane)
 
 pub what-save-writes : {size : ℕ} {s : Store} → Keeps size s → (room : ℕ) (text : List ℕ) → saveOf (s .block) (s .table) room ≡ saved text
     → (t : List ℕ) → storeCells (sizeOf (s .block)) ≤ length t
     → loadOf text (s .block) t ≡ leaves (record { block = s .block; rows = rowsIn s; notes = notesFor s; first = 0; second = 0 })
 what-save-writes {size} {s} k room text e t h =
-    let w = saved-text (listing (rowsIn s) (notesFor s)) room text (sym (save-writes k room) ∙ e) in
+    let w = saved-text (sizeOf (s .block)) (listing (rowsIn s) (notesFor s)) room text (sym (save-writes k room) ∙ e) in
     rw w (saved-loads k t h)
 
 -- "A table all in R-6's lines is read by walking each greeting as law 1": its greetings, with what that walk gives
@@ -487,7 +488,7 @@ early-loads text b t rows i a e f =
     k .is ∙ ap (loaded b) (lists-one (k .formed .lists) (in-early e))
 
 -- one in R-8's lines: its greetings with the notes that it lists
-pub noted-loads : (text b t : List ℕ) (xs : List Listed) (i : ℕ) (a : After) → tableIn text ≡ none → listedIn text ≡ whole xs i
+pub noted-loads : (text b t : List ℕ) (xs : List Listed) (i : ℕ) (a : After) → tableIn text ≡ none → formedIn text ≡ whole xs i
     → loadOf text b t ≡ leaves a → a ≡ loaded b xs
 noted-loads text b t xs i a e g f =
     let k = load-took text b t a f in
@@ -495,7 +496,7 @@ noted-loads text b t xs i a e g f =
 
 -- R-6's lines, saved again, are R-8's lines
 pub early-saved : (text b t : List ℕ) (rows : List Row) (i : ℕ) (a : After) → tableIn text ≡ whole rows i → loadOf text b t ≡ leaves a → (room : ℕ)
-    → saveOf b (stored (a .rows) (a .notes) t) room ≡ saveIn (early b rows) room
+    → saveOf b (stored (a .rows) (a .notes) t) room ≡ saveIn (sizeOf b) (early b rows) room
 early-saved text b t rows i a e f room =
     let z = load-back text b t f in
     let q = early-loads text b t rows i a e f in

@@ -11,15 +11,16 @@ use Rattle.rows.specs.Sane.{rising, numbered}
 use Rattle.notes.specs.Sane.{storeCells}
 use Rattle.keyvalue.specs.Reading.{whole, none}
 use Rattle.tables.specs.Table.{tableIn}
-use Rattle.tables.specs.Noted.{Listed, listedIn, rowsListed, notesListed}
+use Rattle.tables.specs.Noted.{Listed, rowsListed, notesListed}
+use Rattle.tables.specs.Form.{formedIn}
 use Rattle.store.specs.declared.Refusal.the-variants.{Bad, Table}
 use Rattle.store.specs.Store.{Outcome, leaves, refused, After}
 use Rattle.saved.specs.Saved.{anyBad, allTrue, early}
 
--- the greetings that a text lists: all in R-6's lines, with what the walk by law 1 gives; or all in R-8's
+-- the greetings that a text lists: all in R-6's lines, with what the walk by law 1 gives; or all in R-8's, with R-11's first line or without it
 pub data Lists (text b : List ℕ) : List Listed → Type 0 where
   in-early : {rows : List Row} {i : ℕ} → tableIn text ≡ whole rows i → Lists text b (early b rows)
-  in-noted : {xs : List Listed} {i : ℕ} → tableIn text ≡ none → listedIn text ≡ whole xs i → Lists text b xs
+  in-noted : {xs : List Listed} {i : ℕ} → tableIn text ≡ none → formedIn text ≡ whole xs i → Lists text b xs
 
 -- nothing is TABLE before BAD: the lent cells are enough, the lines are of their form, the greetings are apart and inside, the numbers used once
 pub record Formed (text b t : List ℕ) (xs : List Listed) : Type 0 where

@@ -3,13 +3,15 @@
 -- (`taken-all`).
 use Prim.Native.Nat.{ℕ, suc, _+_, _*_, _-_, _≤_, _<_}
 use mathlib.Core.Path.{_≡_, refl, sym, ap, _∙_}
-use mathlib.Core.List.{List, [], _∷_, _++_, append-nil}
+use mathlib.Core.List.{List, [], _∷_, _++_, append-assoc, append-nil}
 use mathlib.Core.Bool.{Bool, true, false, cond}
 use native.Mathlib.Omega.{arith}
-use lib.ListN.{length, drop, set, length-append, length-set}
+use lib.ListN.{length, drop, set, length-append, drop-of-length-le}
+use lib.Seq.{drop-at}
 use lib.Dec.{ltb}
 use borrow.Author.Tests.{le-ltb, ltb-true, ltb-false}
 use Rattle.rules.specs.declared.Refusal.{Refusal}
+use Rattle.rules.specs.declared.Ending.{Ending}
 use Rattle.rules.specs.declared.Ending.the-variants.{Done, Refused}
 use Rattle.rules.specs.declared.WalkAnswer.{WalkAnswer}
 use Rattle.rules.specs.Tools.{mostLaw}
@@ -19,8 +21,8 @@ use Rattle.walk.specs.Counting.{Counts}
 use Rattle.greetings.specs.Bad.{isBad, walkOf, storeSet}
 use Rattle.greetings.proofs.Bad.{walk-of}
 use Rattle.marks.specs.declared.Tally.the-variants.{Wrong, Counted}
-use Rattle.marks.specs.Marks.{Mark, markOf, marksFrom, marksOf, mostMarks, markCells, noteOf}
-use Rattle.marks.specs.Taking.{countedOf, tallyOf, Takes}
+use Rattle.marks.specs.Marks.{Mark, markOf, marksFrom, marksOf, markCells, noteOf}
+use Rattle.marks.specs.Taking.{countedOf, tallyOf, Takes, Keeps}
 use Rattle.marks.proofs.Marked.{marks-append, marks-one, cells-more, length-cells, two-set}
 
 -- a greeting whose walk is refused, and one whose walk is not
@@ -34,7 +36,7 @@ good-done law xs h e = rw (le-ltb (length xs) 1 h, e)
 
 pub takes-wrong : (law : ℕ) (xs cells cells′ : List ℕ) → isBad law xs ≡ true → Takes law xs cells cells′ Wrong
 unfolding tallyOf
-takes-wrong law xs cells cells′ e = record { answer = rw e; lent = λ g. let z : _≡_ {A = Bool} true false = sym e ∙ g in cc }
+takes-wrong law xs cells cells′ e = record { answer = rw e; lent = λ g _. let z : _≡_ {A = Bool} true false = sym e ∙ g in cc }
 
 module _ (law : ℕ) (xs : List ℕ) where
   -- the walk of m times 64 frames
@@ -50,6 +52,10 @@ module _ (law : ℕ) (xs : List ℕ) where
     pub place : at ≡ parts m .place
     pub before : samples ≡ length (samplesKept (parts m .frames))
     pub count : length (marksOf (parts m .frames)) ≡ m
+
+  record Ahead (m : ℕ) : Type 0 where
+    rest : List Mark
+    all : noteOf law xs .marks ≡ marksOf (parts m .frames) ++ rest
 
   pub along-start : Along 0 0 0
   unfolding walkFrom samplesKept marksFrom
@@ -93,7 +99,7 @@ module _ (law : ℕ) (xs : List ℕ) where
             let back = ltb-false at (next at .place) e in
             absurd (omega (arith, next-told .full d (omega arith), next-told .some, next-told .place))
 
-        next-on : at < next at .place
+        pub next-on : at < next at .place
         next-on = on-by (ltb at (next at .place)) refl
 
         next-marks : (fs : List Delivered) → next at .frames ≡ fs → marksFrom (64 * m) samples fs ≡ markOf at samples ∷ []
@@ -152,25 +158,64 @@ module _ (law : ℕ) (xs : List ℕ) where
           (omega (arith, w .place))
           ∙ ap (λ (k : ℕ). stopped Done k 0) (sym (w .place)))
 
-  -- the marks taken stand at the start of the lent cells
+      -- the greeting's marks begin with those of what was walked
+      ahead : Ahead m
+      ahead =
+          let room = 320 * length xs - length (samplesKept (parts m .frames)) in
+          let rest = walkFrom (length xs + 1) xs law storeSet (parts m .place) room in
+          let e : walkOf law xs ≡ after (parts m .frames) rest =
+          whole (64 * m) ∙ walk-on xs law storeSet (64 * m) (length xs + 1) 0 (320 * length xs) (w .clean) in
+          record {
+            rest = marksFrom (0 + length (parts m .frames)) (0 + length (samplesKept (parts m .frames))) (rest .frames);
+            all = ap (λ (x : Walked). marksOf (x .frames)) e ∙ marks-append 0 0 (parts m .frames) (rest .frames);
+          }
+
+      -- of a greeting that is not BAD: the marks after those of what was walked
+      module _ (f : isBad law xs ≡ false) where
+        pub next-clean : at < length xs → next at .end ≡ Done
+        next-clean h = go (next at .end) refl
+          where
+            go : (e : Ending) → next at .end ≡ e → e ≡ Done
+            go Done q = refl
+            go (Refused r) q = let z : _≡_ {A = Bool} true false = sym (along-wrong h q) ∙ f in let k : _≡_ {A = ℕ} 0 1 = cc in absurd (omega arith)
+
+        pub marks-over : length xs ≤ at → drop m (noteOf law xs .marks) ≡ []
+        marks-over h =
+            let frames = ap (λ (x : Walked). x .frames) (along-all h) ∙ append-nil (parts m .frames) in
+            ap (λ (fs : List Delivered). drop m (marksOf fs)) frames
+            ∙ drop-of-length-le (marksOf (parts m .frames)) {i = m} (omega (arith, w .count))
+
+  -- of a greeting that is not BAD: the mark of the place where the walk stands
+  module _ {m at samples : ℕ} (w : Along m at samples) (l : law ≤ mostLaw) (g : length xs ≤ longest) (f : isBad law xs ≡ false) where
+    pub marks-here : at < length xs → drop m (noteOf law xs .marks) ≡ markOf at samples ∷ drop (m + 1) (noteOf law xs .marks)
+    marks-here h =
+        let d = next-clean w l g f h in
+        let a = ahead (along-turn w h d refl refl) l g in
+        let old = marksOf (parts m .frames) in
+        let mark = markOf at samples in
+        let all : noteOf law xs .marks ≡ (old ++ (mark ∷ [])) ++ a .rest =
+        a .all ∙ ap (λ (ms : List Mark). ms ++ a .rest) (marks-next w h d) in
+        let one = ap (λ (ms : List Mark). drop m ms) (all ∙ append-assoc old (mark ∷ []) (a .rest)) ∙ drop-at old (mark ∷ a .rest) m (w .count) in
+        let two = ap (λ (ms : List Mark). drop (m + 1) ms) all
+        ∙ drop-at (old ++ (mark ∷ [])) (a .rest) (m + 1) (length-append old (mark ∷ []) ∙ ap (λ (k : ℕ). k + 1) (w .count)) in
+        one ∙ ap (λ (ms : List Mark). mark ∷ ms) (sym two)
+
+  -- the marks taken stand at the start of the lent cells, where they have room there
   pub record Taking (cells₀ cells : List ℕ) (m at samples : ℕ) : Type 0 where
     pub along : Along m at samples
-    pub cells-are : cells ≡ markCells (marksOf (parts m .frames)) ++ drop (2 * m) cells₀
+    pub cells-are : 2 * m ≤ length cells₀ → cells ≡ markCells (marksOf (parts m .frames)) ++ drop (2 * m) cells₀
     pub size : length cells ≡ length cells₀
 
   pub taking-start : (cells : List ℕ) → Taking cells cells 0 0 0
   unfolding walkFrom marksFrom markCells
-  taking-start cells = record { along = along-start; cells-are = refl; size = refl }
+  taking-start cells = record { along = along-start; cells-are = λ _. refl; size = refl }
 
   module _ {cells₀ cells : List ℕ} {m at samples : ℕ} (t : Taking cells₀ cells m at samples) where
-    pub taking-room : 2 * mostMarks (length xs) ≤ length cells₀ → at < length xs → 2 * m + 2 ≤ length cells₀
-    taking-room g h = omega (arith, along-few (t .along) h)
-
     -- what is counted stays small
-    pub taking-few : at < length xs → length xs ≤ longest → m ≤ 1023
+    pub taking-few : at < length xs → length xs ≤ longest → 64 * m ≤ longest
     taking-few h g = omega (arith, along-few (t .along) h)
 
-    pub taking-heard : length xs ≤ longest → samples ≤ 20971200
+    pub taking-heard : length xs ≤ longest → samples ≤ 320 * longest
     taking-heard g = omega (arith, along-samples (t .along), along-inside (t .along))
 
     pub taking-more : {r : WalkAnswer} → Counts (next at) r → r .samples ≤ 20480
@@ -179,21 +224,23 @@ module _ (law : ℕ) (xs : List ℕ) where
     pub taking-on : {r : WalkAnswer} → Counts (next at) r → r .end ≡ Done → at < length xs → at < r .place
     taking-on c e h = omega (arith, c .place, next-on (t .along) h (sym (c .end) ∙ e))
 
-    pub taking-turn : (h : at < length xs) {r : WalkAnswer} → Counts (next at) r → r .end ≡ Done → 2 * m + 2 ≤ length cells₀
-        → Taking cells₀ (set (set cells (2 * m) at) (2 * m + 1) samples) (m + 1) (r .place) (samples + r .samples)
-    taking-turn h {r} c e g =
+    pub taking-turn : (h : at < length xs) {r : WalkAnswer} {cells′ : List ℕ} → Counts (next at) r → r .end ≡ Done → Keeps m at samples cells cells′
+        → length cells′ ≡ length cells → Taking cells₀ cells′ (m + 1) (r .place) (samples + r .samples)
+    taking-turn h {r} {cells′} c e kept same =
         let d = sym (c .end) ∙ e in
         let old = marksOf (parts m .frames) in
-        let two = two-set (markCells old) cells₀ (2 * m) at samples (length-cells old ∙ ap (λ (k : ℕ). 2 * k) (t .along .count)) g in
+        let front = length-cells old ∙ ap (λ (k : ℕ). 2 * k) (t .along .count) in
         let k : 2 * m + 2 ≡ 2 * (m + 1) = omega arith in
         record {
           along = along-turn (t .along) h d (c .place) (c .samples);
-          cells-are =
-              ap (λ (x : List ℕ). set (set x (2 * m) at) (2 * m + 1) samples) (t .cells-are) ∙ two
+          cells-are = λ g.
+              kept .says (omega (arith, t .size))
+              ∙ ap (λ (x : List ℕ). set (set x (2 * m) at) (2 * m + 1) samples) (t .cells-are (omega arith))
+              ∙ two-set (markCells old) cells₀ (2 * m) at samples front (omega arith)
               ∙ ap (λ (x : List ℕ). x ++ drop (2 * m + 2) cells₀)
               (sym (cells-more old (markOf at samples)) ∙ ap markCells (sym (marks-next (t .along) h d)))
               ∙ ap (λ (n : ℕ). markCells (marksOf (parts (m + 1) .frames)) ++ drop n cells₀) k;
-          size = length-set (set cells (2 * m) at) (2 * m + 1) samples ∙ length-set cells (2 * m) at ∙ t .size;
+          size = same ∙ t .size;
         }
 
     -- the call's answers

@@ -10,6 +10,7 @@ use lib.Dec.{ltb}
 use borrow.Author.Tests.{le-ltb, ltb-false, eq-eqb}
 use Rattle.rules.specs.Tools.{mostLaw}
 use Rattle.rows.specs.declared.Row.{Row}
+use Rattle.rows.specs.Limits.{largestBlock}
 use Rattle.rows.specs.Rows.{held}
 use Rattle.rows.specs.Changed.{insertAt}
 use Rattle.rows.specs.Sane.{rising, numbered, saneOf}
@@ -99,7 +100,7 @@ sane-old size t e = both (saneOf size t) _ (passed (ltb (length t) (storeCells s
 -- what is stored so is a table that calls leave
 module _ (size : ℕ) (rows : List Row) (notes : List Note) (t : List ℕ) (c : storeCells size ≤ length t) (few : length rows ≤ 32)
     (same : length notes ≡ length rows) where
-  pub sane-stored : size ≤ 16384 → held rows ≤ size → rising 1 0 size rows ≡ true → numbered rows ≡ true → matched rows (heads notes) ≡ true
+  pub sane-stored : size ≤ largestBlock → held rows ≤ size → rising 1 0 size rows ≡ true → numbered rows ≡ true → matched rows (heads notes) ≡ true
       → saneStore size (stored rows notes t) ≡ true
   unfolding saneStore saneOf
   sane-stored s h r n m =

@@ -10,17 +10,16 @@ use lib.Seq.{take-at, drop-at, drop-drop, length-take-le, getD-drop}
 use Rattle.rows.specs.declared.Row.{Row}
 use Rattle.rows.specs.Cells.{rowAt, rowsAt, rowsOf, cellsOf, laid}
 use Rattle.rows.specs.Changed.{nth, insertAt, removeAt}
-use Rattle.rows.specs.Rows.{rowOf}
 use Rattle.rows.proofs.Cells.{length-cells as length-row-cells, length-rows, take-rows, nth-rows}
 use Rattle.rows.proofs.Finding.{held-turn}
 use Rattle.rules.proofs.Lent.{from-on, back-on}
 use Rattle.marks.proofs.Marked.{length-cells}
-use Rattle.marks.specs.Marks.{Note}
+use Rattle.marks.specs.Marks.{Note, markCells}
 use Rattle.notes.specs.Notes.{insertNote, removeNote, nthNote}
-use Rattle.notes.specs.Cells.{heads, headsOf, notesOf, marksHeld, allCells, allLaid, anewFrom, notesLaid, stored}
+use Rattle.notes.specs.Cells.{headOf, heads, headsOf, notesOf, marksHeld, allCells, allLaid, anewFrom, notesLaid, stored}
 use Rattle.notes.specs.Changed.{opened, shut, noteIn}
 use Rattle.notes.proofs.Noting.{heads-notes, cells-notes, length-all, heads-take, nth-heads, length-heads, heads-insert, heads-remove}
-use Rattle.notes.proofs.Noting.{note-added, all-append, note-dropped, length-marks, cells-marks, nth-note}
+use Rattle.notes.proofs.Noting.{note-added, all-append, note-dropped, nth-note}
 
 -- a list of up to 32 lies in 97 cells
 pub laid-within : (rows : List Row) (t : List ℕ) → length rows ≤ 32 → drop 97 (laid rows t) ≡ drop 97 t
@@ -127,23 +126,21 @@ module _ (t : List ℕ) (n i : ℕ) (e : n ≡ getD t 97 0) (h : i ≤ n) (room 
       q ∙ ap (λ (x : List ℕ). take 194 t₁ ++ x) behind
       ∙ ap (λ (x : List ℕ). take 194 x ++ allLaid notes (drop 194 (anewFrom 97 (laid (heads notes)) t))) first
 
-  pub note-put : (law samples m : ℕ) (marks new : List ℕ) {at used : ℕ} {t₁ t₂ : List ℕ} → n ≤ 31 → 2 * m ≤ length marks → new ≡ take (2 * m) marks
+  pub note-put : (note : Note) (r : Row) (new : List ℕ) {at used : ℕ} {t₁ t₂ : List ℕ} → n ≤ 31 → r ≡ headOf note → new ≡ markCells (note .marks)
       → at ≡ 2 * marksHeld (rowsAt (drop 97 t) i 1) → used ≡ 2 * marksHeld (rowsAt (drop 97 t) n 1)
-      → t₁ ≡ anewFrom 97 (λ (u : List ℕ). laid (insertAt i (rowOf law samples m) (rowsOf u)) u) t
+      → t₁ ≡ anewFrom 97 (λ (u : List ℕ). laid (insertAt i r (rowsOf u)) u) t
       → t₂ ≡ anewFrom 194 (λ (u : List ℕ). opened u at used new) t₁
-      → t₂ ≡ notesLaid (insertNote i (noteIn law samples m marks) (notesOf t)) t
-  note-put law samples m marks new {at} {used} few long f a u p q =
-      let note = noteIn law samples m marks in
+      → t₂ ≡ notesLaid (insertNote i note (notesOf t)) t
+  note-put note r new {at} {used} few z f a u p q =
       let notes = notesOf t in
       let lengths : length (insertNote i note notes) ≤ 32 =
       omega (arith, length-append (take i notes) (note ∷ drop i notes), length-take i notes, length-drop i notes, length-notes)
       in
-      let hs : insertAt i (rowOf law samples m) (headsOf t) ≡ heads (insertNote i note notes) =
-      sym (heads-insert i note notes ∙ rw (heads-notes (headsOf t) (drop 194 t), length-marks m marks))
+      let hs : insertAt i r (headsOf t) ≡ heads (insertNote i note notes) =
+      sym (heads-insert i note notes ∙ rw (heads-notes (headsOf t) (drop 194 t), ← z))
       in
-      made (insertNote i note notes) (insertAt i (rowOf law samples m) (headsOf t)) (λ (x : List ℕ). opened x at used new) hs lengths p q
-      (note-added notes i note (drop 194 t) new (f ∙ sym (cells-marks m marks long)) (a ∙ marks-at) (u ∙ marks-end)
-      (ap (λ (k : ℕ). take k (drop 194 t)) u ∙ marks-are))
+      made (insertNote i note notes) (insertAt i r (headsOf t)) (λ (x : List ℕ). opened x at used new) hs lengths p q
+      (note-added notes i note (drop 194 t) new f (a ∙ marks-at) (u ∙ marks-end) (ap (λ (k : ℕ). take k (drop 194 t)) u ∙ marks-are))
 
   pub note-out : {at used by : ℕ} {t₁ t₂ : List ℕ} → n ≤ 32 → i < n → by ≡ 2 * rowAt (drop 97 t) (1 + 3 * i) .octets
       → at ≡ 2 * marksHeld (rowsAt (drop 97 t) i 1) → used ≡ 2 * marksHeld (rowsAt (drop 97 t) n 1)

@@ -1,8 +1,13 @@
--- Cells put in among those in use, and taken out: what stands past those in use stays as it was.
-use Prim.Native.Nat.{ℕ, _+_, _-_}
+-- Cells put in among those in use, and taken out: what stands past those in use stays as it was. What was taken of a greeting, to be put in.
+use Prim.Native.Nat.{ℕ, _+_, _*_, _-_, _≤_}
+use mathlib.Core.Path.{_≡_}
 use mathlib.Core.List.{List, _++_}
+use mathlib.Core.Bool.{false}
 use lib.ListN.{length, take, drop}
-use Rattle.marks.specs.Marks.{Note}
+use Rattle.rules.specs.Tools.{mostLaw}
+use Rattle.rules.specs.Walk.{longest}
+use Rattle.greetings.specs.Bad.{isBad}
+use Rattle.marks.specs.Marks.{Note, noteOf}
 use Rattle.notes.specs.Cells.{marksIn}
 
 -- put in at a place; those behind it, up to `used`, moved up
@@ -16,3 +21,16 @@ shut cells at used by = take at cells ++ (take (used - (at + by)) (drop (at + by
 -- a note whose marks stand in cells of their own
 abbrev pub noteIn : ℕ → ℕ → ℕ → List ℕ → Note
 noteIn law samples m cells = record { law = law; samples = samples; marks = marksIn m cells }
+
+-- a greeting that is not BAD: its samples, and how many marks it has
+pub record Heard (law : ℕ) (xs : List ℕ) (samples m : ℕ) : Type 0 where
+  pub fine : isBad law xs ≡ false
+  pub lawful : law ≤ mostLaw
+  pub short : length xs ≤ longest
+  pub samples-are : samples ≡ noteOf law xs .samples
+  pub count : m ≡ length (noteOf law xs .marks)
+
+-- and its marks, where they have room in the cells that were lent for them
+pub record Taken (law : ℕ) (xs cells : List ℕ) (samples m : ℕ) : Type 0 where
+  pub heard : Heard law xs samples m
+  pub marks-are : 2 * m ≤ length cells → marksIn m cells ≡ noteOf law xs .marks

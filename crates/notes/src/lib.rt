@@ -5,16 +5,24 @@ ghost use Prim.Native.Nat.{_+_, _*_, _-_, _^_, _≤_, _<_};
 ghost use lib.ListN.{length, getD, drop, take};
 ghost use Rattle.rows.specs.Cells.{rowAt, rowsAt};
 ghost use Rattle.rows.specs.Changed.{written};
+ghost use Rattle.marks.specs.Marks.{noteOf, markCells};
 ghost use Rattle.notes.specs.Notes.{insertNote, removeNote};
 ghost use Rattle.notes.specs.Cells.{headsOf, notesOf, marksHeld, notesLaid};
 ghost use Rattle.notes.specs.Sane.{storeCells, matched, saneStore};
-ghost use Rattle.notes.specs.Changed.{opened, shut, noteIn};
+ghost use Rattle.notes.specs.Changed.{opened, shut, noteIn, Heard, Taken};
 use rows::Row;
 
 // Where the second list begins, and where the marks do.
 pub const SECOND_LIST: usize = 97;
 
 pub const FIRST_MARK: usize = 194;
+
+// A greeting's law and samples, and how many marks it has.
+pub struct Sound {
+    pub law: u32,
+    pub samples: usize,
+    pub marks: usize,
+}
 
 // How many cells a table needs for a block of a size: both lists, and the marks of 32 greetings that fill it.
 pub fn store_cells(size: usize) -> usize
@@ -111,8 +119,19 @@ fn shut_over(cells: &mut [u32], at: usize, used: usize, by: usize)
     placing::lower(cells, at, by, used - (at + by));
 }
 
+// Cells put in for a greeting's marks, which are taken as its walk goes.
+fn open_walked(cells: &mut [u32], at: usize, used: usize, octets: &[u8], sound: Sound)
+    requires { ⌜ (at ≤ used) × (used + 2 * sound .marks ≤ length (now cells)) × Heard (sound .law) (now octets) (sound .samples) (sound .marks) ⌝ }
+    ensures { λ _. ⌜ now (cells .exit) ≡ opened (now (cells .entry)) at used (markCells (noteOf (sound .law) (now (octets .entry)) .marks)) ⌝ }
+{
+    let by = 2 * sound.marks;
+    placing::raise(cells, at, used, by);
+    let end = at + by;
+    marks::take(octets, sound.law, &mut cells[at..end]);
+}
+
 // The note of a greeting put in, i notes standing before it; its m marks stand in cells of their own.
-pub fn put_note(
+fn put_note(
     table: &mut [u32],
     n: usize,
     i: usize,
@@ -140,6 +159,48 @@ pub fn put_note(
         },
     );
     open_up(&mut table[FIRST_MARK..], at, used, &marks[..end]);
+}
+
+// The same of a greeting that has more marks than are kept apart: they go where they belong as it is walked once more.
+fn put_walked(table: &mut [u32], n: usize, i: usize, sound: Sound, octets: &[u8])
+    requires { ⌜ (n ≡ getD (now table) 97 0) × (n ≤ 31) × (i ≤ n) × Heard (sound .law) (now octets) (sound .samples) (sound .marks) ⌝ }
+    requires { ⌜ 194 + 2 * (marksHeld (headsOf (now table)) + sound .marks) ≤ length (now table) ⌝ }
+    ensures { λ _. ⌜ now (table .exit) ≡ notesLaid (insertNote i (noteOf (sound .law) (now (octets .entry))) (notesOf (now (table .entry)))) (now (table .entry)) ⌝ }
+{
+    let at = 2 * marks_before(table, i);
+    let used = 2 * marks_before(table, n);
+    placing::insert(
+        &mut table[SECOND_LIST..],
+        n,
+        i,
+        Row {
+            number: rows::wide(sound.law),
+            start: sound.samples,
+            octets: sound.marks,
+        },
+    );
+    open_walked(&mut table[FIRST_MARK..], at, used, octets, sound);
+}
+
+// The note of a greeting put in, i notes standing before it: what was taken of its walk, with its marks where they had room.
+pub fn put_taken(table: &mut [u32], n: usize, i: usize, sound: Sound, octets: &[u8], marks: &[u32])
+    requires { ⌜ (n ≡ getD (now table) 97 0) × (n ≤ 31) × (i ≤ n) × Taken (sound .law) (now octets) (now marks) (sound .samples) (sound .marks) ⌝ }
+    requires { ⌜ 194 + 2 * (marksHeld (headsOf (now table)) + sound .marks) ≤ length (now table) ⌝ }
+    ensures { λ _. ⌜ now (table .exit) ≡ notesLaid (insertNote i (noteOf (sound .law) (now (octets .entry))) (notesOf (now (table .entry)))) (now (table .entry)) ⌝ }
+{
+    if 2 * sound.marks <= marks.len() {
+        put_note(
+            table,
+            n,
+            i,
+            rows::wide(sound.law),
+            sound.samples,
+            marks,
+            sound.marks,
+        );
+        return;
+    }
+    put_walked(table, n, i, sound, octets);
 }
 
 // The note at i taken out; the marks behind it close up.

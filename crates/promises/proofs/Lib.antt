@@ -13,6 +13,7 @@ pub mod OldReader
 pub mod Stays
 pub mod Walks
 pub mod Refused
+pub mod Joined
 pub mod Nesting
 pub mod Lists
 pub mod Upgrade

@@ -6,17 +6,19 @@ use mathlib.Core.Bool.{true, false}
 use mathlib.Core.List.{List, [], _∷_, _++_, map}
 use lib.ListN.{length, getD, length-append}
 use Rattle.rules.specs.Calls.{atStart}
+use Rattle.rules.specs.Walk.{longest}
 use Rattle.recording.specs.Items.{Item, sound, lost, soundIn, cellOf}
 use Rattle.playing.proofs.Steps.{soundIn-append}
 use Rattle.playing.proofs.Parts.{items-told}
+use Rattle.replaying.specs.declared.Base.{Base}
 use Rattle.replaying.specs.declared.Part.{Part}
 use Rattle.replaying.specs.Parts.{sureItems, partOf, goesOn, lossesIn, NextPart, Goes}
 use Rattle.replaying.specs.Runs.{Before, none, one-more, NextSound, played, TellsFile}
-use Rattle.replaying.specs.Lines.{Follows, NextItem, LossAt}
+use Rattle.replaying.specs.Lines.{Follows, NextItem, LossAt, Small, Sums}
 use Rattle.replaying.proofs.Parted.{more-inside, items-held, losses-few}
 use Rattle.replaying.proofs.Whole.{whole-parts}
 
-losses-append : (a b : List Item) → lossesIn (a ++ b) ≡ lossesIn a + lossesIn b
+pub losses-append : (a b : List Item) → lossesIn (a ++ b) ≡ lossesIn a + lossesIn b
 unfolding lossesIn
 losses-append [] b = omega arith
 losses-append (i ∷ a) b = omega (arith, losses-append a b)
@@ -51,6 +53,14 @@ module _ (body : List ℕ) (law set : ℕ) where
 
     pub at-most : at ≤ length body
     at-most = before-kept (f .before) .inside
+
+    -- with what stands before the octets
+    pub sums : {b : Base} → length body ≤ longest → Small b → Sums b at number heard
+    sums l s = (
+      omega (arith, at-most, s .0),
+      omega (arith, at-most, number-most, s .1),
+      omega (arith, at-most, number-most, heard-most, s .2),
+    )
 
     -- one part more
     module _ {out out′ cells cells′ : List ℕ} {p : Part} (n : NextPart body law set at out out′ cells cells′ p) where

@@ -4,8 +4,11 @@ use mathlib.Core.Path.{_≡_}
 use mathlib.Core.Bool.{true}
 use mathlib.Core.List.{List, [], _∷_, _++_}
 use lib.ListN.{length}
+use Rattle.rules.specs.Walk.{longest}
+use Rattle.recording.specs.Remembered.{headingLength}
 use Rattle.recording.specs.Items.{Item, lost, Recorded, itemsFrom, soundIn}
 use Rattle.replaying.specs.declared.Part.{Part}
+use Rattle.replaying.specs.declared.Body.{Body}
 use Rattle.replaying.specs.declared.Total.{Total}
 use Rattle.replaying.specs.Parts.{partOf, goesOn, lossesIn, NextPart}
 
@@ -37,3 +40,12 @@ pub record TellsFile (body : List ℕ) (law set : ℕ) (t : Total) : Type 0 wher
   pub items : t .items ≡ length (played body law set .items)
   pub losses : t .lost ≡ lossesIn (played body law set .items)
   pub samples : t .samples ≡ length (soundIn (played body law set .items))
+
+-- the octets of a file: as many as a walk takes, behind a heading at most
+abbrev pub Reachable : Body → Type 0
+Reachable b = (b .size ≤ longest) × (b .skip ≤ headingLength)
+
+-- whatever was read: the totals of the items of one recording
+pub record TellsOne (law set : ℕ) (t : Total) : Type 0 where
+  pub body : List ℕ
+  pub tells : TellsFile body law set t

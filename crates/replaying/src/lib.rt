@@ -1,6 +1,6 @@
 // A recording's sound and losses, part by part (document 02, R-1): what `unpack` writes, compares and tells of it, and `pack` counts.
-//   next_part: the next items.      play: a whole recording, its sound used and its losses told.
-ghost use Prim.Native.Nat.{_+_, _*_, _≤_, _<_};
+//   next_part: the next items.      play: the items of octets, their sound used and losses told.      play_file: a file, window by window.
+ghost use Prim.Native.Nat.{_+_, _*_, _^_, _≤_, _<_};
 ghost use mathlib.Core.Path.{_≡_};
 ghost use mathlib.Core.Bool.{cond};
 ghost use lib.ListN.{length, take};
@@ -8,9 +8,10 @@ ghost use Rattle.rules.specs.Walk.{longest};
 ghost use Rattle.sounds.specs.Uses.{UsesUpTo};
 ghost use Rattle.lines.specs.Puts.{Puts};
 ghost use Rattle.replaying.specs.Parts.{sureItems, goesOn, isLoss, lossCells, Answers, NextPart, Goes};
-ghost use Rattle.replaying.specs.Runs.{NextSound, TellsFile};
+ghost use Rattle.replaying.specs.Runs.{NextSound, TellsFile, Reachable, TellsOne};
 ghost use Rattle.replaying.specs.Kinds.{kindOf};
-ghost use Rattle.replaying.specs.Lines.{lossLine, Follows, NextItem, LossAt};
+ghost use Rattle.replaying.specs.Lines.{lossLine, Follows, NextItem, LossAt, Sums, Behind};
+use console::Got;
 use playing::Heading;
 use playing::Played;
 use recording::Ending;
@@ -40,6 +41,13 @@ pub struct Total {
     pub lost: usize,
     pub samples: usize,
     pub wrong: u32,
+}
+
+// What stands before the octets that are played, where they are a part of a recording: octets, items and samples.
+pub struct Base {
+    pub at: usize,
+    pub items: usize,
+    pub samples: usize,
 }
 
 // What a file is: a stream, a recording of a law, or what begins as a recording and has no heading.
@@ -168,24 +176,39 @@ fn put_loss(number: usize, place: usize, samples: usize, heard: usize, out: &mut
 
 // Says a loss of `n` samples: item `number`, at a place of the recording, before sample `heard` of its sound. Law and set stand here for the
 // contract alone.
-fn say_loss(body: &[u8], law: u32, set: u32, at: usize, number: usize, heard: usize, n: usize)
-    requires { ⌜ LossAt (now body) law set at number heard n ⌝ }
+fn say_loss(
+    body: &[u8],
+    law: u32,
+    set: u32,
+    at: usize,
+    number: usize,
+    heard: usize,
+    n: usize,
+    base: Base,
+)
+    requires { ⌜ (LossAt (now body) law set at number heard n) × Sums base at number heard × Behind law set base ⌝ }
 {
     let mut text = [0u8; 160];
-    let to = put_loss(number, at, n, heard, &mut text);
+    let to = put_loss(
+        base.items + number,
+        base.at + at,
+        n,
+        base.samples + heard,
+        &mut text,
+    );
     console::say(&text[..to]);
 }
 
 // Says a frame, as the listing does.
-fn say_frame(body: &[u8], law: u32, set: u32, at: usize, number: usize)
-    requires { ⌜ at ≤ length (now body) ⌝ }
+fn say_frame(body: &[u8], law: u32, set: u32, at: usize, number: usize, base: Base)
+    requires { ⌜ (at ≤ length (now body)) × (base .at + at < 2 ^ 64) × (base .items + number < 2 ^ 64) ⌝ }
 {
     let mut samples = [0u8; 320];
     let r = walk::pass(body, law, set, at, 320, &mut samples);
     let mut text = [0u8; 160];
     let to = lines::frame_line(
-        number,
-        at,
+        base.items + number,
+        base.at + at,
         r.len,
         r.tool as usize,
         r.octets,
@@ -207,8 +230,9 @@ fn say_item(
     p: Part,
     cell: u16,
     tells: u32,
+    base: Base,
 )
-    requires { ⌜ (at ≤ length (now body)) × NextItem (now body) law set at number heard cell p ⌝ }
+    requires { ⌜ (at ≤ length (now body)) × (NextItem (now body) law set at number heard cell p) × Sums base at number heard × Behind law set base ⌝ }
 {
     if p.items == 0 {
         return;
@@ -222,11 +246,12 @@ fn say_item(
             number,
             heard,
             (cell - LOSS_FROM) as usize,
+            base,
         );
         return;
     }
     if tells == TELLS_ALL {
-        say_frame(body, law, set, at, number);
+        say_frame(body, law, set, at, number, base);
     }
 }
 
@@ -242,8 +267,9 @@ fn tell(
     tells: u32,
     page: &mut [u8],
     one: &mut [u16],
+    base: Base,
 )
-    requires { ⌜ (length (now body) ≤ longest) × Follows (now body) law set from first before × (length (now page) ≡ 320) × (length (now one) ≡ 1) ⌝ }
+    requires { ⌜ (length (now body) ≤ longest) × Follows (now body) law set from first before × (length (now page) ≡ 320) × (length (now one) ≡ 1) × Behind law set base ⌝ }
 {
     let mut at = from;
     let mut number = first;
@@ -251,7 +277,7 @@ fn tell(
     let mut left = items;
     while 0 < left {
         let p = next_part(body, law, set, at, page, one);
-        say_item(body, law, set, at, number, heard, p, one[0], tells);
+        say_item(body, law, set, at, number, heard, p, one[0], tells, base);
         if !p.more {
             return;
         }
@@ -272,8 +298,9 @@ fn tell_part(
     heard: usize,
     p: Part,
     tells: u32,
+    base: Base,
 )
-    requires { ⌜ (length (now body) ≤ longest) × Follows (now body) law set at number heard ⌝ }
+    requires { ⌜ (length (now body) ≤ longest) × Follows (now body) law set at number heard × Behind law set base ⌝ }
 {
     if tells == TELLS_NOTHING {
         return;
@@ -294,6 +321,7 @@ fn tell_part(
         tells,
         &mut page,
         &mut one,
+        base,
     );
 }
 
@@ -326,10 +354,11 @@ fn parts(
     page: &mut [u8],
     master: &mut [u8],
     cells: &mut [u16],
+    base: Base,
 ) -> Total
-    requires { ⌜ (length (now body) ≤ longest) × (320 ≤ length (now page)) × (length (now page) ≤ length (now master)) × (1 ≤ length (now cells)) ⌝ }
+    requires { ⌜ (length (now body) ≤ longest) × (320 ≤ length (now page)) × (length (now page) ≤ length (now master)) × (1 ≤ length (now cells)) × Behind law set base ⌝ }
     ensures { λ r. ⌜ (r .wrong ≡ 0 → TellsFile (now (body .entry)) law set r) ⌝ }
-    ensures within { λ r. ⌜ (r .lost ≤ r .items) × (r .at ≤ length (now (body .entry))) ⌝ }
+    ensures within { λ r. ⌜ (r .lost ≤ r .items) × (r .at ≤ length (now (body .entry))) × (r .items ≤ length (now (body .entry))) × (r .samples ≤ 320 * r .items) ⌝ }
 {
     let mut at = 0;
     let mut items = 0;
@@ -338,7 +367,7 @@ fn parts(
     loop {
         let p = next_part(body, law, set, at, page, cells);
         let u = use_part(body, law, set, at, p, way, page, master);
-        tell_part(body, law, set, at, items, samples, p, tells);
+        tell_part(body, law, set, at, items, samples, p, tells, base);
         let end = p.end;
         items += p.items;
         lost += p.lost;
@@ -362,11 +391,12 @@ fn parts(
     }
 }
 
-// A whole recording, after its heading: its sound is used, and its losses, or all its items, are told. The second page is for a master.
-pub fn play(body: &[u8], law: u32, set: u32, way: Way, tells: u32) -> Total
-    requires { ⌜ length (now body) ≤ longest ⌝ }
+// A recording after its heading, or a part of one behind its base: its sound is used, and its losses, or all its items, are told. The
+// second page is for a master.
+pub fn play(body: &[u8], law: u32, set: u32, way: Way, tells: u32, base: Base) -> Total
+    requires { ⌜ (length (now body) ≤ longest) × Behind law set base ⌝ }
     ensures { λ r. ⌜ (r .wrong ≡ 0 → TellsFile (now (body .entry)) law set r) ⌝ }
-    ensures within { λ r. ⌜ (r .lost ≤ r .items) × (r .at ≤ length (now (body .entry))) ⌝ }
+    ensures within { λ r. ⌜ (r .lost ≤ r .items) × (r .at ≤ length (now (body .entry))) × (r .items ≤ length (now (body .entry))) × (r .samples ≤ 320 * r .items) ⌝ }
 {
     let mut page = [0u8; 61440];
     let mut master = [0u8; 61440];
@@ -380,5 +410,117 @@ pub fn play(body: &[u8], law: u32, set: u32, way: Way, tells: u32) -> Total
         &mut page,
         &mut master,
         &mut cells,
+        base,
     )
+}
+
+// The octets of a file's frames or items: the file, where they begin in it, and how many they are.
+pub struct Body {
+    pub fd: i32,
+    pub skip: usize,
+    pub size: usize,
+}
+
+// Another thing that may be wrong with a file: it can't be read.
+pub const UNREAD: u32 = 9;
+
+// A window has more octets than a part's items.
+pub const WINDOW: usize = 131072;
+
+// The octets of a window: those from a place on, as many as there are and as it holds.
+pub fn window_at(b: Body, at: usize, window: &mut [u8]) -> Got
+    requires { ⌜ (at ≤ b .size) × Reachable b ⌝ }
+    ensures { λ r. ⌜ (r .count ≤ length (now (window .exit))) × (at + r .count ≤ b .size) ⌝ }
+{
+    let left = b.size - at;
+    if left < window.len() {
+        return console::read_at(b.fd, b.skip + at, &mut window[..left]);
+    }
+    console::read_at(b.fd, b.skip + at, window)
+}
+
+// Whether another window follows: there are octets behind this one, which is full, and it ended clean or inside a frame (SHORT).
+pub fn goes_further(number: u32, count: usize, full: usize, left: usize) -> bool {
+    if count < full {
+        return false;
+    }
+    if left <= count {
+        return false;
+    }
+    number <= 1
+}
+
+// A file that can't be read further.
+fn unread(at: usize, items: usize, lost: usize, samples: usize) -> Total
+    ensures { λ r. ⌜ (r .wrong ≡ 9) × (r .lost ≡ lost) × (r .items ≡ items) × (r .at ≡ at) ⌝ }
+{
+    Total {
+        end: Ending::Done,
+        at,
+        bit: 0,
+        items,
+        lost,
+        samples,
+        wrong: UNREAD,
+    }
+}
+
+// A recording, window by window: each begins where an item does.
+fn windows(b: Body, law: u32, set: u32, way: Way, tells: u32, window: &mut [u8]) -> Total
+    requires { ⌜ Reachable b ⌝ }
+    ensures { λ r. ⌜ (r .wrong ≡ 0 → TellsOne law set r) ⌝ }
+    ensures within { λ r. ⌜ (r .lost ≤ r .items) × (r .at ≤ b .size) ⌝ }
+{
+    let mut at = 0;
+    let mut items = 0;
+    let mut lost = 0;
+    let mut samples = 0;
+    loop {
+        let got = window_at(b, at, window);
+        if got.failed {
+            return unread(at, items, lost, samples);
+        }
+        let n = got.count;
+        let t = play(
+            &window[..n],
+            law,
+            set,
+            way,
+            tells,
+            Base { at, items, samples },
+        );
+        let end = t.end;
+        let total = Total {
+            end,
+            at: at + t.at,
+            bit: t.bit,
+            items: items + t.items,
+            lost: lost + t.lost,
+            samples: samples + t.samples,
+            wrong: t.wrong,
+        };
+        if t.wrong != sounds::NOTHING {
+            return total;
+        }
+        if !goes_further(recording::number_of(end), n, window.len(), b.size - at) {
+            return total;
+        }
+        if t.at == 0 {
+            return unread(at, items, lost, samples);
+        }
+        at = total.at;
+        items = total.items;
+        lost = total.lost;
+        samples = total.samples;
+    }
+}
+
+// A whole recording, from a file: its sound is used, and its losses, or all its items, are told.
+pub fn play_file(b: Body, law: u32, set: u32, way: Way, tells: u32) -> Total
+    requires { ⌜ Reachable b ⌝ }
+    ensures { λ r. ⌜ (r .wrong ≡ 0 → TellsOne law set r) ⌝ }
+    ensures within { λ r. ⌜ (r .lost ≤ r .items) × (r .at ≤ b .size) ⌝ }
+{
+    let mut window = [0u8; WINDOW];
+    windows(b, law, set, way, tells, &mut window)
 }

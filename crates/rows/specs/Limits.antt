@@ -5,9 +5,9 @@ use mathlib.Core.Bool.{Bool, _&&_}
 use lib.ListN.{length}
 use lib.Dec.{leb}
 
--- the greatest size of a block
+-- the greatest size of a block (R-11: "Walks take up to 1,048,576 octets and a store block may be that large")
 abbrev pub largestBlock : ℕ
-largestBlock = 16384
+largestBlock = 1048576
 
 -- the greatest number of greetings
 abbrev pub mostGreetings : ℕ
@@ -21,7 +21,7 @@ mostNumber = 65535
 abbrev pub isNumber : ℕ → Bool
 isNumber x = leb 1 x && leb x mostNumber
 
--- the size of a lent block: its octets, or 16,384 where they are more. What lies past the size is never touched.
+-- the size of a lent block: its octets, or the greatest size where they are more. What lies past the size is never touched.
 abbrev pub sizeOf : List ℕ → ℕ
 sizeOf b = min (length b) largestBlock
 

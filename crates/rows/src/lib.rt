@@ -9,9 +9,10 @@ ghost use Rattle.rows.specs.Finding.{findFrom, lowestGap};
 ghost use Rattle.rows.specs.Cells.{rowAt, rowsAt, rowsOf};
 ghost use Rattle.rows.specs.Sane.{rising, numbered, saneOf, Ordered};
 
-// "one block of 16,384 octets"; "up to 32, each with a number from 1 to 65,535".
-pub const LARGEST_BLOCK: usize = 16384;
+// The greatest size of a block: "Walks take up to 1,048,576 octets and a store block may be that large" (R-11).
+pub const LARGEST_BLOCK: usize = 1048576;
 
+// "up to 32, each with a number from 1 to 65,535".
 pub const MOST_GREETINGS: usize = 32;
 
 pub const MOST_NUMBER: usize = 65535;

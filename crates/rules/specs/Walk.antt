@@ -47,9 +47,9 @@ walkFrom (suc more) octets law set at room =
     (λ f. before (record { place = at; found = f }) (walkFrom more octets law set (at + octetsUsed f) (room - length (f .samples))))
     (λ w bit. stopped (Refused w) at bit))
 
--- "more than 65,535 octets"
+-- "more than" so many octets: document 02, R-11, "Walks take up to 1,048,576 octets"; "LONG, and with it demand 3, moves to the new limit"
 abbrev pub longest : ℕ
-longest = 65535
+longest = 1048576
 
 -- "Order: LAW, SET, then .. LONG"
 abbrev pub walkAsks : ℕ → ℕ → ℕ → List Asked

@@ -103,8 +103,8 @@ pub const MOST_LAW: u32 = 1;
 // "A tool set is a number from 0 to 127."
 pub const ALL_TOOLS: u32 = 127;
 
-// "walk given more than 65,535 octets" is LONG.
-pub const LONGEST: usize = 65535;
+// A walk given more octets is LONG. Document 02, R-11: "Walks take up to 1,048,576 octets".
+pub const LONGEST: usize = 1048576;
 
 // The listing program's own: "a stream of at most 65,535 octets; set 127".
 pub const MOST_LISTED: usize = 65535;

@@ -9,6 +9,7 @@ use lib.Dec.{eqb, leb, ltb}
 use borrow.Author.Tests.{ltb-false}
 use Rattle.rules.specs.Listing.{samplesWord}
 use Rattle.rows.specs.declared.Row.{Row}
+use Rattle.rows.specs.Limits.{largestBlock}
 use Rattle.rows.specs.Rows.{greeting}
 use Rattle.rows.specs.Sane.{rising}
 use Rattle.rows.proofs.Lists.{passed}
@@ -19,12 +20,12 @@ use Rattle.keyvalue.specs.Lines.{line}
 use Rattle.keyvalue.proofs.Exact.{through, got-value, got-place}
 use Rattle.tables.specs.declared.Next.{Next}
 use Rattle.tables.specs.declared.Next.the-variants.{To, Astray}
-use Rattle.tables.specs.Noted.{Listed, markWord, markLine, markLinesFrom, markLines, listed, listedFrom, listedIn, rowsListed}
-use Rattle.tables.specs.Passing.{headOf, headed, noted, nextOf, marksAre, noteIs}
+use Rattle.tables.specs.Noted.{Listed, markWord, markLine, markLinesFrom, markLines, listed, listedFrom, listedAt, rowsListed}
+use Rattle.tables.specs.Passing.{headOf, headed, noted, nextOf, markIs, noMark, marksAre, samplesIs, noteIs}
 use Rattle.tables.proofs.Lines.{listed-parts, noted-law}
 use Rattle.tables.proofs.Marks.{mark-goes}
 use Rattle.saved.specs.Saved.{anyBad, allTrue, sameMarks, sameNote}
-use Rattle.saved.specs.Steps.{greetingsOf, Sound}
+use Rattle.saved.specs.Steps.{greetingsOf, Fitting}
 use Rattle.saved.proofs.Bad.{part-same}
 
 abbrev to : Bool → ℕ → Next
@@ -38,7 +39,7 @@ record After (done all : List Mark) (text : List ℕ) (i j : ℕ) : Type 0 where
 
 no-more : {done all : List Mark} {text : List ℕ} {i j : ℕ} → begins markWord (drop i text) ≡ false → whole done i ≡ whole all j
     → After done all text i j
-unfolding marksAre sameMarks markLine
+unfolding marksAre markIs noMark sameMarks markLine
 no-more {done} {all} {text} {i} {j} h e = record { new = []; parts = sym (got-value e) ∙ sym (append-nil done); same = go }
   where
     p : i ≡ j
@@ -50,18 +51,19 @@ no-more {done} {all} {text} {i} {j} h e = record { new = []; parts = sym (got-va
 
 one-more : {done all : List Mark} {text : List ℕ} {i j k : ℕ} (q : Mark) → begins markWord (drop i text) ≡ true → markLine text i ≡ whole q k
     → After (done ++ (q ∷ [])) all text k j → After done all text i j
-unfolding marksAre sameMarks
+unfolding marksAre markIs noMark sameMarks
 one-more {done} {all} {text} {i} {j} {k} q h e a =
     record { new = q ∷ a .new; parts = a .parts ∙ append-assoc done (q ∷ []) (a .new); same = go }
   where
-    two : (s t u : Bool) (r : Read ℕ) → nextOf r ≡ to u j → nextOf (cond s (cond t r none) none) ≡ to (cond (s && t) u false) j
-    two true true u r p = p
-    two true false u r p = refl
-    two false t u r p = refl
+    two : (s t u : Bool) (ms : List Mark) → nextOf (marksAre ms text k) ≡ to u j
+        → nextOf (andThen {A = ℕ} (cond s (cond t (whole 0 k) none) none) (λ z i. marksAre ms text i)) ≡ to (cond (s && t) u false) j
+    two true true u ms p = p
+    two true false u ms p = refl
+    two false t u ms p = refl
 
     go : (ms : List Mark) → nextOf (marksAre ms text i) ≡ to (sameMarks (q ∷ a .new) ms) j
     go [] = rw h
-    go (m ∷ ms) = rw e (two (eqb (q .octets) (m .octets)) (eqb (q .samples) (m .samples)) (sameMarks (a .new) ms) (marksAre ms text k) (a .same ms))
+    go (m ∷ ms) = rw e (two (eqb (q .octets) (m .octets)) (eqb (q .samples) (m .samples)) (sameMarks (a .new) ms) ms (a .same ms))
 
 marks-after : (more : ℕ) (done : List Mark) (text : List ℕ) (i : ℕ) (all : List Mark) (j : ℕ) → length text < i + more
     → markLinesFrom more done text i ≡ whole all j → After done all text i j
@@ -92,13 +94,13 @@ marks-compared text i all ms j e =
 samples-compared : (text : List ℕ) (i : ℕ) (g : Note) (s p : ℕ) (ms : List Mark) (j : ℕ) → line samplesWord text i ≡ whole s p
     → markLines text p ≡ whole ms j
     → nextOf (noteIs (g .samples) (g .marks) text i) ≡ to (eqb s (g .samples) && sameMarks ms (g .marks)) j
-unfolding noteIs
-samples-compared text i g s p ms j e f =
-    rw e (two (eqb s (g .samples)) (sameMarks ms (g .marks)) (marksAre (g .marks) text p) (marks-compared text p ms (g .marks) j f))
+unfolding noteIs samplesIs
+samples-compared text i g s p ms j e f = rw e (two (eqb s (g .samples)) (sameMarks ms (g .marks)) (marks-compared text p ms (g .marks) j f))
   where
-    two : (s u : Bool) (r : Read ℕ) → nextOf r ≡ to u j → nextOf (cond s r none) ≡ to (s && u) j
-    two true u r p = p
-    two false u r p = refl
+    two : (s u : Bool) → nextOf (marksAre (g .marks) text p) ≡ to u j
+        → nextOf (andThen {A = ℕ} (cond s (whole 0 p) none) (λ z k. marksAre (g .marks) text k)) ≡ to (s && u) j
+    two true u q = q
+    two false u q = refl
 
 note-compared : (text : List ℕ) (law i : ℕ) (n g : Note) (j : ℕ) → noted law text i ≡ whole n j
     → nextOf (noteIs (g .samples) (g .marks) text i) ≡ to (sameNote n g) j
@@ -118,100 +120,102 @@ before-before : (a b : List Listed) (r : Read (List Listed)) → before a (befor
 before-before a b (whole xs j) = ap (λ (l : List Listed). whole l j) (sym (append-assoc a b xs))
 before-before a b none = refl
 
-listed-alone : (more : ℕ) (done : List Listed) (text : List ℕ) (i : ℕ) → listedFrom more done text i ≡ before done (listedFrom more [] text i)
+listed-alone : (far more : ℕ) (done : List Listed) (text : List ℕ) (i : ℕ)
+    → listedFrom far more done text i ≡ before done (listedFrom far more [] text i)
 unfolding listedFrom
-listed-alone zero done text i = go (leb (length text) i)
+listed-alone far zero done text i = go (leb (length text) i)
   where
     go : (t : Bool) → cond t (whole done i) none ≡ before done (cond t (whole [] i) none)
     go true = ap (λ (l : List Listed). whole l i) (sym (append-nil done))
     go false = refl
-listed-alone (suc more) done text i =
-    go (leb (length text) i) (listed text i) (λ x j. listed-alone more (done ++ (x ∷ [])) text j) (λ x j. listed-alone more (x ∷ []) text j)
+listed-alone far (suc more) done text i =
+    go (leb (length text) i) (listed far text i) (λ x j. listed-alone far more (done ++ (x ∷ [])) text j) (λ x j. listed-alone far more (x ∷ []) text j)
   where
     go : (t : Bool) (r : Read Listed)
-        → ((x : Listed) (j : ℕ) → listedFrom more (done ++ (x ∷ [])) text j ≡ before (done ++ (x ∷ [])) (listedFrom more [] text j))
-        → ((x : Listed) (j : ℕ) → listedFrom more (x ∷ []) text j ≡ before (x ∷ []) (listedFrom more [] text j))
-        → cond t (whole done i) (andThen r (λ x j. listedFrom more (done ++ (x ∷ [])) text j))
-        ≡ before done (cond t (whole [] i) (andThen r (λ x j. listedFrom more (x ∷ []) text j)))
+        → ((x : Listed) (j : ℕ) → listedFrom far more (done ++ (x ∷ [])) text j ≡ before (done ++ (x ∷ [])) (listedFrom far more [] text j))
+        → ((x : Listed) (j : ℕ) → listedFrom far more (x ∷ []) text j ≡ before (x ∷ []) (listedFrom far more [] text j))
+        → cond t (whole done i) (andThen r (λ x j. listedFrom far more (done ++ (x ∷ [])) text j))
+        ≡ before done (cond t (whole [] i) (andThen r (λ x j. listedFrom far more (x ∷ []) text j)))
     go true r p q = ap (λ (l : List Listed). whole l i) (sym (append-nil done))
-    go false (whole x j) p q = p x j ∙ sym (before-before done (x ∷ []) (listedFrom more [] text j)) ∙ ap (before done) (sym (q x j))
+    go false (whole x j) p q = p x j ∙ sym (before-before done (x ∷ []) (listedFrom far more [] text j)) ∙ ap (before done) (sym (q x j))
     go false none p q = refl
 
 -- where the comparing stands: the greetings that are left, still to be read and compared
-pub record Comparing (text b : List ℕ) (size left at : ℕ) (answer : Bool) : Type 0 where
+pub record Comparing (far : ℕ) (text b : List ℕ) (size left at : ℕ) (answer : Bool) : Type 0 where
   pub more : ℕ
   pub new : List Listed
   pub end : ℕ
   pub low : ℕ
-  pub reads : listedFrom more [] text at ≡ whole new end
+  pub reads : listedFrom far more [] text at ≡ whole new end
   pub count : length new ≡ left
   pub rises : rising 0 low size (rowsListed new) ≡ true
   pub fine : anyBad b new ≡ false
   pub all : allTrue b new ≡ answer
 
-pub comparing-first : {text b : List ℕ} {size n : ℕ} → Sound b size n (listedIn text)
-    → Comparing text b size (n - 0) 0 (allTrue b (greetingsOf (listedIn text)))
-comparing-first {text} {b} {size} {n} s = go (listedIn text) refl s
+pub comparing-first : (far from : ℕ) {text b : List ℕ} {size n : ℕ} → Fitting b size n (listedAt far from text)
+    → Comparing far text b size (n - 0) from (allTrue b (greetingsOf (listedAt far from text)))
+comparing-first far from {text} {b} {size} {n} s = go (listedAt far from text) refl s
   where
-    go : (r : Read (List Listed)) → listedIn text ≡ r → Sound b size n r → Comparing text b size (n - 0) 0 (allTrue b (greetingsOf r))
+    go : (r : Read (List Listed)) → listedAt far from text ≡ r → Fitting b size n r
+        → Comparing far text b size (n - 0) from (allTrue b (greetingsOf r))
     go (whole xs i) e s =
         record { more = 32; new = xs; end = i; low = 0; reads = e; count = omega (arith, s .count); rises = s .rises; fine = s .fine; all = refl }
     go none e s = let f = s .reads in let z : _≡_ {A = ℕ} 0 1 = cc in absurd (omega arith)
 
-pub comparing-end : {text b : List ℕ} {size left at : ℕ} {answer : Bool} → Comparing text b size left at answer → left ≡ 0 → true ≡ answer
+pub comparing-end : {far : ℕ} {text b : List ℕ} {size left at : ℕ} {answer : Bool} → Comparing far text b size left at answer → left ≡ 0 → true ≡ answer
 unfolding allTrue
-comparing-end {text} {b} {size} {left} {at} {answer} s h = go (s .new) (s .count ∙ h) (s .all)
+comparing-end {far} {text} {b} {size} {left} {at} {answer} s h = go (s .new) (s .count ∙ h) (s .all)
   where
     go : (new : List Listed) → length new ≡ 0 → allTrue b new ≡ answer → true ≡ answer
     go [] l e = e
     go (x ∷ new) l e = absurd (omega arith)
 
 -- a turn: the next greeting's lines, and those after it
-record Turn (text : List ℕ) (at : ℕ) (new : List Listed) (end : ℕ) : Type 0 where
+record Turn (far : ℕ) (text : List ℕ) (at : ℕ) (new : List Listed) (end : ℕ) : Type 0 where
   more : ℕ
   x : Listed
   rest : List Listed
   next : ℕ
   parts : new ≡ x ∷ rest
-  here : listed text at ≡ whole x next
-  reads : listedFrom more [] text next ≡ whole rest end
+  here : listed far text at ≡ whole x next
+  reads : listedFrom far more [] text next ≡ whole rest end
 
 no-turn : {A : Type 0} {xs : List Listed} {at end n : ℕ} → whole [] at ≡ whole xs end → length xs ≡ suc n → A
 no-turn {A} {xs} e l = let z : [] ≡ xs = got-value e in let m = ap length z in absurd (omega arith)
 
-turn : (more : ℕ) (text : List ℕ) (at : ℕ) (new : List Listed) (end n : ℕ) → listedFrom more [] text at ≡ whole new end → length new ≡ suc n
-    → Turn text at new end
+turn : (far more : ℕ) (text : List ℕ) (at : ℕ) (new : List Listed) (end n : ℕ) → listedFrom far more [] text at ≡ whole new end → length new ≡ suc n
+    → Turn far text at new end
 unfolding listedFrom
-turn zero text at new end n e l = go (leb (length text) at) e
+turn far zero text at new end n e l = go (leb (length text) at) e
   where
-    go : (t : Bool) → cond t (whole [] at) none ≡ whole new end → Turn text at new end
+    go : (t : Bool) → cond t (whole [] at) none ≡ whole new end → Turn far text at new end
     go true e = no-turn e l
     go false e = let z : _≡_ {A = ℕ} 0 1 = cc in absurd (omega arith)
-turn (suc more) text at new end n e l = go (leb (length text) at) e
+turn far (suc more) text at new end n e l = go (leb (length text) at) e
   where
-    last : (x : Listed) (j : ℕ) → listed text at ≡ whole x j → (r : Read (List Listed)) → listedFrom more [] text j ≡ r
+    last : (x : Listed) (j : ℕ) → listed far text at ≡ whole x j → (r : Read (List Listed)) → listedFrom far more [] text j ≡ r
         → before (x ∷ []) r ≡ whole new end
-        → Turn text at new end
+        → Turn far text at new end
     last x j h (whole rest i) f g =
         record { more = more; x = x; rest = rest; next = j; parts = sym (got-value g); here = h; reads = f ∙ ap (whole rest) (got-place g) }
     last x j h none f g = let z : _≡_ {A = ℕ} 0 1 = cc in absurd (omega arith)
 
-    go : (t : Bool) → cond t (whole [] at) (andThen (listed text at) (λ x j. listedFrom more (x ∷ []) text j)) ≡ whole new end → Turn text at new end
+    go : (t : Bool) → cond t (whole [] at) (andThen (listed far text at) (λ x j. listedFrom far more (x ∷ []) text j)) ≡ whole new end → Turn far text at new end
     go true e = no-turn e l
     go false e =
-        let m = through (listed text at) _ e in
-        last (m .value) (m .place) (m .first) (listedFrom more [] text (m .place)) refl
-        (sym (listed-alone more (m .value ∷ []) text (m .place)) ∙ m .then)
+        let m = through (listed far text at) _ e in
+        last (m .value) (m .place) (m .first) (listedFrom far more [] text (m .place)) refl
+        (sym (listed-alone far more (m .value ∷ []) text (m .place)) ∙ m .then)
 
 -- with the head that the code has read
-pub record HeadTurn (text b : List ℕ) (size left at : ℕ) (answer : Bool) (r : Row) (law place : ℕ) : Type 0 where
+pub record HeadTurn (far : ℕ) (text b : List ℕ) (size left at : ℕ) (answer : Bool) (r : Row) (law place : ℕ) : Type 0 where
   pub note : Note
   pub next : ℕ
   pub notes : noted law text place ≡ whole note next
   pub inside : r .start + r .octets ≤ size
   pub fine : isBad law (greeting b r) ≡ false
   pub wrong : sameNote note (noteOf law (greeting b r)) ≡ false → false ≡ answer
-  pub on : sameNote note (noteOf law (greeting b r)) ≡ true → Comparing text b size left next answer
+  pub on : sameNote note (noteOf law (greeting b r)) ≡ true → Comparing far text b size left next answer
 
 pub bad-split : (t u : Bool) → cond t true u ≡ false → (t ≡ false) × (u ≡ false)
 bad-split true u e = let z : _≡_ {A = ℕ} 0 1 = cc in absurd (omega arith)
@@ -220,12 +224,12 @@ bad-split false u e = (refl, e)
 abbrev listedOf : Row → Note → Listed
 listedOf r n = record { row = r; note = n }
 
-build : {text b : List ℕ} {size left at : ℕ} {answer : Bool} {r : Row} {law place : ℕ} (n : Note) (rest : List Listed) (j more end low : ℕ)
-    → n .law ≡ law → noted law text place ≡ whole n j → listedFrom more [] text j ≡ whole rest end → length rest ≡ left
+build : {far : ℕ} {text b : List ℕ} {size left at : ℕ} {answer : Bool} {r : Row} {law place : ℕ} (n : Note) (rest : List Listed) (j more end low : ℕ)
+    → n .law ≡ law → noted law text place ≡ whole n j → listedFrom far more [] text j ≡ whole rest end → length rest ≡ left
     → rising 0 low size (rowsListed (listedOf r n ∷ rest)) ≡ true → anyBad b (listedOf r n ∷ rest) ≡ false → allTrue b (listedOf r n ∷ rest) ≡ answer
-    → HeadTurn text b size left at answer r law place
+    → HeadTurn far text b size left at answer r law place
 unfolding rising rowsListed anyBad allTrue
-build {text} {b} {size} {left} {at} {answer} {r} {law} {place} n rest j more end low l e f c g h k =
+build {far} {text} {b} {size} {left} {at} {answer} {r} {law} {place} n rest j more end low l e f c g h k =
     let p = passed (ltb (r .start) low) _ g in
     let q = passed (ltb (r .octets) 0) _ (p .1) in
     let u = passed (ltb size (r .start + r .octets)) _ (q .1) in
@@ -252,18 +256,18 @@ build {text} {b} {size} {left} {at} {answer} {r} {law} {place} n rest j more end
       };
     }
 
-module _ {text b : List ℕ} {size left at : ℕ} {answer : Bool} {n : ℕ} (s : Comparing text b size left at answer) (l : left ≡ suc n) where
-  pub comparing-missing : none ≡ headed text at → false ≡ answer
+module _ {far : ℕ} {text b : List ℕ} {size left at : ℕ} {answer : Bool} {n : ℕ} (s : Comparing far text b size left at answer) (l : left ≡ suc n) where
+  pub comparing-missing : none ≡ headed far text at → false ≡ answer
   comparing-missing e =
-      let t = turn (s .more) text at (s .new) (s .end) n (s .reads) (s .count ∙ l) in
-      let g : none ≡ whole (t .x) (t .next) = sym (rw (listed-parts text at, ← e)) ∙ t .here in
+      let t = turn far (s .more) text at (s .new) (s .end) n (s .reads) (s .count ∙ l) in
+      let g : none ≡ whole (t .x) (t .next) = sym (rw (listed-parts text far at, ← e)) ∙ t .here in
       let z : _≡_ {A = ℕ} 0 1 = cc in
       absurd (omega arith)
 
-  pub comparing-turn : {r : Row} {law place : ℕ} → whole (headOf r law) place ≡ headed text at → HeadTurn text b size n at answer r law place
+  pub comparing-turn : {r : Row} {law place : ℕ} → whole (headOf r law) place ≡ headed far text at → HeadTurn far text b size n at answer r law place
   comparing-turn {r} {law} {place} e =
-      let t = turn (s .more) text at (s .new) (s .end) n (s .reads) (s .count ∙ l) in
-      let g : andThen (noted law text place) (λ n k. whole (listedOf r n) k) ≡ whole (t .x) (t .next) = sym (rw (listed-parts text at, ← e))
+      let t = turn far (s .more) text at (s .new) (s .end) n (s .reads) (s .count ∙ l) in
+      let g : andThen (noted law text place) (λ n k. whole (listedOf r n) k) ≡ whole (t .x) (t .next) = sym (rw (listed-parts text far at, ← e))
       ∙ t .here in
       let p = through (noted law text place) _ g in
       let x : listedOf r (p .value) ≡ t .x = got-value (p .then) in
@@ -274,11 +278,11 @@ module _ {text b : List ℕ} {size left at : ℕ} {answer : Bool} {n : ℕ} (s :
       (rw k (t .reads)) (omega (arith, s .count, c, l)) (rw (← m) (s .rises)) (rw (← m) (s .fine)) (rw (← m) (s .all))
 
 -- in the code's steps; `turn-lent` is the part of the block that the code lends
-module _ {text b : List ℕ} {size left at : ℕ} {answer : Bool} {r : Row} {law place : ℕ} (t : HeadTurn text b size left at answer r law place) where
+module _ {far : ℕ} {text b : List ℕ} {size left at : ℕ} {answer : Bool} {r : Row} {law place : ℕ} (t : HeadTurn far text b size left at answer r law place) where
   pub turn-lent : {from count : ℕ} → from ≡ r .start → count ≡ r .octets → take (from + count - from) (drop from b) ≡ greeting b r
   turn-lent e f = rw (e, f) (part-same b r)
 
-  pub turn-part : {xs : List ℕ} → xs ≡ greeting b r → size ≤ 16384 → (length xs ≤ 16384) × (isBad law xs ≡ false)
+  pub turn-part : {xs : List ℕ} → xs ≡ greeting b r → size ≤ largestBlock → (length xs ≤ largestBlock) × (isBad law xs ≡ false)
   turn-part q h = rw q (omega (arith, t .inside, length-take (r .octets) (drop (r .start) b)), t .fine)
 
   pub turn-astray : {xs : List ℕ} → xs ≡ greeting b r → Astray ≡ nextOf (noteIs (noteOf law xs .samples) (noteOf law xs .marks) text place)
@@ -292,11 +296,11 @@ module _ {text b : List ℕ} {size left at : ℕ} {answer : Bool} {r : Row} {law
       go false f g = t .wrong f
 
   pub turn-on : {xs : List ℕ} {j : ℕ} → xs ≡ greeting b r → To j ≡ nextOf (noteIs (noteOf law xs .samples) (noteOf law xs .marks) text place)
-      → Comparing text b size left j answer
+      → Comparing far text b size left j answer
   turn-on {xs} {j} q e =
       let g = noteOf law (greeting b r) in
       go (sameNote (t .note) g) refl ((rw q at e) ∙ note-compared text law place (t .note) g (t .next) (t .notes))
     where
-      go : (u : Bool) → sameNote (t .note) (noteOf law (greeting b r)) ≡ u → To j ≡ to u (t .next) → Comparing text b size left j answer
+      go : (u : Bool) → sameNote (t .note) (noteOf law (greeting b r)) ≡ u → To j ≡ to u (t .next) → Comparing far text b size left j answer
       go true f g = let z : j ≡ t .next = cc in rw z (t .on f)
       go false f g = let z : _≡_ {A = ℕ} 0 1 = cc in absurd (omega arith)

@@ -18,7 +18,7 @@ use Rattle.tables.specs.Noted.{Listed, rowsListed, notesListed}
 use Rattle.tables.proofs.Noting.{length-rows-listed}
 use Rattle.saved.specs.declared.Verdict.the-variants.{Stop, Fine}
 use Rattle.saved.specs.Saved.{anyBad, allTrue, loadIn}
-use Rattle.saved.specs.Steps.{badBy, judgedBy, greetingsOf, isWhole, Celled, Sound}
+use Rattle.saved.specs.Steps.{badBy, judgedBy, greetingsOf, isWhole, Celled, Fitting}
 use Rattle.saved.specs.Calls.{verdictOf}
 use Rattle.saved.proofs.Bad.{bad-celled}
 
@@ -97,6 +97,6 @@ module _ {b : List ℕ} {size : ℕ} {xs : List Listed} (p : Passes b size xs) w
   passes-false e = rw (p .rises, p .once, p .fine, e)
 
 pub sound : {b : List ℕ} {size n : ℕ} (found : Read (List Listed)) → isWhole found ≡ true → Passes b (sizeOf b) (greetingsOf found) → size ≡ sizeOf b
-    → n ≡ length (greetingsOf found) → Sound b size n found
+    → n ≡ length (greetingsOf found) → Fitting b size n found
 sound found e p z c =
     record { reads = e; count = c; inside = omega (arith, z); small = omega (arith, z); rises = rw z (p .rises); fine = p .fine }

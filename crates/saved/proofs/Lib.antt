@@ -6,6 +6,7 @@ pub mod Bad
 pub mod Compared
 pub mod Judging
 pub mod Small
+pub mod Walking
 pub mod Storing
 pub mod Loading
 pub mod Saving

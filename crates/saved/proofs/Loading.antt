@@ -1,6 +1,6 @@
 -- Loading in the code's steps: what is read stands in cells (`celled-noted`, `celled-early`), and what a text that is taken leaves.
 use Prim.Native.Nat.{ℕ, suc, _≤_, _<_}
-use mathlib.Core.Path.{_≡_, refl, sym, ap, _∙_}
+use mathlib.Core.Path.{_≡_, refl, sym, ap, subst, _∙_}
 use mathlib.Core.List.{List, [], _∷_, _++_}
 use mathlib.Core.Bool.{Bool, true, false, cond, not}
 use native.Mathlib.Omega.{arith}
@@ -24,7 +24,9 @@ use Rattle.keyvalue.specs.Reading.{Read, whole, none}
 use Rattle.tables.specs.declared.Count.{Count}
 use Rattle.tables.specs.declared.Count.the-variants.{Greetings, Wrong}
 use Rattle.tables.specs.Table.{tableIn}
-use Rattle.tables.specs.Noted.{Listed, listedIn, rowsListed, notesListed}
+use Rattle.tables.specs.Noted.{Listed, listedAt, rowsListed, notesListed}
+use Rattle.tables.specs.declared.Form.{Form}
+use Rattle.tables.specs.Form.{formOf}
 use Rattle.tables.specs.Fills.{Fills, FillsNoted, lawsListed}
 use Rattle.tables.proofs.Noting.{length-rows-listed}
 use Rattle.saved.specs.declared.Verdict.the-variants.{Stop, Fine}
@@ -187,9 +189,11 @@ module _ (text b t : List ℕ) {size cells : ℕ} (z : size ≡ sizeOf b) (k : c
   load-short h = refuses (loadOf text b t) t (rw (← z, ← k, lt-ltb (length t) cells h))
 
   module _ (h : cells ≤ length t) where
-    pub load-later : {x y t′ : List ℕ} {r : Answer} → Fills (tableIn text) x y Wrong → Takes (loadNoted b (sizeOf b) (listedIn text)) t t′ r
-        → Load text b t t′ r
-    load-later f g = rw (← z, ← k, le-ltb (length t) cells h, none-read (tableIn text) f) (rw (← z) at g)
+    pub load-later : {x y t′ : List ℕ} {r : Answer} {form : Form} → Fills (tableIn text) x y Wrong → form ≡ formOf text
+        → Takes (loadNoted b (sizeOf b) (listedAt (form .most) (form .from) text)) t t′ r → Load text b t t′ r
+    load-later {t′ = t′} {r} f e g =
+        let found = subst (λ (q : Form). Takes (loadNoted b (sizeOf b) (listedAt (q .most) (q .from) text)) t t′ r) e g in
+        rw (← z, ← k, le-ltb (length t) cells h, none-read (tableIn text) f) (rw (← z) at found)
 
     module _ {x : List ℕ} {n : ℕ} (e : Early b (tableIn text) x n) where
       pub load-stop : {w : Refusal} → Stop w ≡ judgedBy b (sizeOf b) (rowsAt x n 1) (replicate 32 1) → Load text b t t (Refused w)

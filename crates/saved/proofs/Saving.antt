@@ -1,21 +1,28 @@
 -- Saving in the code's steps.
 use Prim.Native.Nat.{ℕ, _≤_, _<_}
 use mathlib.Core.Path.{_≡_, refl, sym, ap, _∙_}
-use mathlib.Core.List.{List, _++_}
-use mathlib.Core.Bool.{Bool, true, false}
+use mathlib.Core.List.{List, [], _++_}
+use mathlib.Core.Bool.{Bool, true, false, cond}
 use native.Mathlib.Omega.{arith}
 use lib.ListN.{length, getD, drop, take-append-drop}
+use lib.Dec.{ltb}
 use borrow.Author.Tests.{lt-ltb, le-ltb}
 use Rattle.rows.specs.Limits.{sizeOf}
 use Rattle.rows.specs.Cells.{rowsAt, rowsOf}
+use Rattle.rows.proofs.Cells.{length-rows}
 use Rattle.lines.specs.Puts.{Puts}
 use Rattle.notes.specs.Cells.{notesOf, marksHeld, headsOf}
 use Rattle.notes.specs.Sane.{saneStore, Noted}
+use Rattle.notes.proofs.Noting.{heads-notes, length-heads}
 use Rattle.notes.proofs.Matched.{sane-noted, room-for}
 use Rattle.store.specs.declared.Refusal.{Refusal}
 use Rattle.store.specs.declared.Refusal.the-variants.{Room, Table}
 use Rattle.store.specs.declared.Answer.the-variants.{Done, Refused}
-use Rattle.tables.specs.Noted.{listing, listedText}
+use Rattle.tables.specs.Table.{mostPlace}
+use Rattle.tables.specs.Noted.{Listed, rowsListed, listing, listedText}
+use Rattle.tables.specs.Form.{formLine, needsForm, savedText, formBy}
+use Rattle.tables.proofs.Noting.{rows-listing}
+use Rattle.tables.proofs.Formed.{form-by-size}
 use Rattle.tables.specs.Held.{heldOf, TextIn}
 use Rattle.saved.specs.Saved.{Text, declined, saveOf}
 use Rattle.saved.specs.Calls.{Writes, Save}
@@ -59,17 +66,29 @@ module _ (b t out : List ℕ) {size : ℕ} {x : Bool} (z : size ≡ sizeOf b) (e
           let r = room-for noted (omega (arith, z)) in
           (omega (arith, c, noted .order .few), omega (arith, h, r))
 
-      text-as : listedText (heldOf t n) ≡ listedText (listing (rowsOf t) (notesOf t))
-      text-as = ap listedText (held-as t c (noted .count))
+      -- as many notes as greetings, all of them inside the block
+      same-rows : rowsListed (listing (rowsOf t) (notesOf t)) ≡ rowsOf t
+      same-rows =
+          let a = sym (length-heads (notesOf t)) ∙ ap length (heads-notes (headsOf t) (drop 194 t)) ∙ length-rows (drop 97 t) (getD (drop 97 t) 0 0) 1 in
+          rows-listing (rowsOf t) (notesOf t) (omega (arith, a, second t c (noted .count), length-rows t (getD t 0 0) 1, c))
 
-      module _ {octets : ℕ} (o : octets ≡ length (listedText (heldOf t n))) where
-        measured : octets ≡ length (listedText (listing (rowsOf t) (notesOf t)))
+      form-as : needsForm size (rowsListed (listing (rowsOf t) (notesOf t))) ≡ ltb mostPlace size
+      form-as = ap (needsForm size) same-rows ∙ form-by-size 1 0 size (rowsOf t) (noted .order .rises)
+
+      text-as : formBy size ++ listedText (heldOf t n) ≡ savedText size (listing (rowsOf t) (notesOf t))
+      text-as =
+          ap (λ (xs : List Listed). formBy size ++ listedText xs) (held-as t c (noted .count))
+          ∙ ap (λ (w : Bool). cond w formLine [] ++ listedText (listing (rowsOf t) (notesOf t))) (sym form-as)
+
+      module _ {octets : ℕ} (o : octets ≡ length (formBy size ++ listedText (heldOf t n))) where
+        measured : octets ≡ length (savedText size (listing (rowsOf t) (notesOf t)))
         measured = o ∙ ap length text-as
 
         pub save-room : length out < octets → Save b t out out (Refused Room)
         save-room h = declines (saveOf b t (length out)) out (rw (← z, ← e, f, ← measured, lt-ltb (length out) octets h))
 
-        pub save-text : {out′ : List ℕ} {r : ℕ} → octets ≤ length out → Puts out 0 (listedText (heldOf t n)) out′ r → Save b t out out′ (Done r 0)
+        pub save-text : {out′ : List ℕ} {r : ℕ} → octets ≤ length out → Puts out 0 (formBy size ++ listedText (heldOf t n)) out′ r
+            → Save b t out out′ (Done r 0)
         save-text h p =
             let s = puts-start (rw text-as at p) in
             rw (← z, ← e, f, ← measured, le-ltb (length out) octets h)

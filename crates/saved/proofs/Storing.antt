@@ -7,6 +7,7 @@ use native.Mathlib.Omega.{arith}
 use lib.ListN.{length, getD, drop, set, length-set, length-append, length-take}
 use lib.Seq.{drop-drop, getD-drop, take-length, drop-length}
 use Rattle.rows.specs.declared.Row.{Row}
+use Rattle.rows.specs.Limits.{largestBlock}
 use Rattle.rows.specs.Rows.{greeting, held}
 use Rattle.rows.specs.Cells.{rowAt, rowsAt}
 use Rattle.rows.proofs.Left.{left, left-all, left-step}
@@ -79,7 +80,7 @@ none-held b cells laws = omega arith
 
 module _ {b cells laws : List ℕ} {n size : ℕ} {t₀ : List ℕ} (k : AllNotes b cells laws n size t₀) where
   wide : 194 + 2 * (size / 64 + 32) ≤ length t₀
-  wide = let z : min size 16384 ≡ size = omega (arith, k .small) in rw z at (k .room)
+  wide = let z : min size largestBlock ≡ size = omega (arith, k .small) in rw z at (k .room)
 
   module _ {t : List ℕ} {i : ℕ} (s : Storing b cells laws n size t₀ t i) where
     -- the marks so far fit

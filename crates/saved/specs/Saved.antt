@@ -1,7 +1,7 @@
 -- Document 02, R-6: "The table is saved as key=value lines"; "Reading is refused with TABLE (26) for lines not of this form or order, a number out of
 -- range or used twice, more than 32 greetings, or greetings that overlap or pass the block's end, then with BAD"; "ROOM on saving".
 -- R-8: "A law above 1, or after BAD samples or marks that the walk doesn't give, is TABLE. A table all in R-6's lines is read by walking each
--- greeting as law 1, as all our early boxes were."
+-- greeting as law 1, as all our early boxes were." R-11: "Saved tables gain a first line `form=2`"; "The new reader takes tables with and without it".
 use Prim.Native.Nat.{ℕ}
 use mathlib.Core.List.{List, [], _∷_}
 use mathlib.Core.Bool.{Bool, true, false, cond, not, _&&_}
@@ -21,7 +21,8 @@ use Rattle.store.specs.declared.Refusal.the-variants.{Room, Bad, Table}
 use Rattle.store.specs.Store.{Outcome, leaves, refused}
 use Rattle.keyvalue.specs.Reading.{Read, whole, none}
 use Rattle.tables.specs.Table.{tableIn}
-use Rattle.tables.specs.Noted.{Listed, listedIn, rowsListed, notesListed, listing, listedText}
+use Rattle.tables.specs.Noted.{Listed, rowsListed, notesListed, listing}
+use Rattle.tables.specs.Form.{savedText, formedIn}
 
 -- what a saving writes, or why not
 pub data Text : Type 0 where
@@ -29,12 +30,12 @@ pub data Text : Type 0 where
   declined : Refusal → Text
 
 -- the lent table is judged first; then "ROOM on saving"
-abbrev pub saveIn : List Listed → ℕ → Text
-saveIn xs room = cond (ltb room (length (listedText xs))) (declined Room) (saved (listedText xs))
+abbrev pub saveIn : ℕ → List Listed → ℕ → Text
+saveIn size xs room = cond (ltb room (length (savedText size xs))) (declined Room) (saved (savedText size xs))
 
--- saving always writes R-8's lines
+-- saving always writes R-8's lines, after R-11's first line where that is needed
 abbrev pub saveOf : List ℕ → List ℕ → ℕ → Text
-saveOf b t room = cond (not (saneStore (sizeOf b) t)) (declined Table) (saveIn (listing (rowsOf t) (notesOf t)) room)
+saveOf b t room = cond (not (saneStore (sizeOf b) t)) (declined Table) (saveIn (sizeOf b) (listing (rowsOf t) (notesOf t)) room)
 
 -- "BAD", greeting by greeting, each walked by its own law; an empty one is
 unfoldable pub anyBad : List ℕ → List Listed → Bool
@@ -82,11 +83,11 @@ abbrev pub loadNoted : List ℕ → ℕ → Read (List Listed) → Outcome
 loadNoted b size (whole xs i) = loadIn b size xs
 loadNoted b size none = refused Table
 
--- "A table all in R-6's lines", or all in R-8's
+-- "A table all in R-6's lines", or all in R-8's, with R-11's first line or without it
 abbrev pub loadRead : List ℕ → ℕ → Read (List Row) → Read (List Listed) → Outcome
 loadRead b size (whole rows i) xs = loadIn b size (early b rows)
 loadRead b size none xs = loadNoted b size xs
 
 -- the lent table is output: only its length is judged
 abbrev pub loadOf : List ℕ → List ℕ → List ℕ → Outcome
-loadOf text b t = cond (ltb (length t) (storeCells (sizeOf b))) (refused Table) (loadRead b (sizeOf b) (tableIn text) (listedIn text))
+loadOf text b t = cond (ltb (length t) (storeCells (sizeOf b))) (refused Table) (loadRead b (sizeOf b) (tableIn text) (formedIn text))

@@ -5,6 +5,7 @@ use mathlib.Core.List.{List, [], _∷_, _++_}
 use mathlib.Core.Bool.{Bool, true, false, cond, not}
 use lib.ListN.{length, getD, drop}
 use Rattle.rows.specs.declared.Row.{Row}
+use Rattle.rows.specs.Limits.{largestBlock}
 use Rattle.rows.specs.Rows.{greeting}
 use Rattle.rows.specs.Cells.{rowsAt}
 use Rattle.rows.specs.Sane.{rising, numbered}
@@ -55,18 +56,18 @@ pub record Celled (xs : List Listed) (cells laws : List ℕ) (n : ℕ) : Type 0 
   pub laws-are : laws ≡ lawsListed xs ++ drop (length xs) laws
 
 -- a text whose greetings are apart, inside the block and not BAD: what samples and marks are judged of
-pub record Sound (b : List ℕ) (size n : ℕ) (found : Read (List Listed)) : Type 0 where
+pub record Fitting (b : List ℕ) (size n : ℕ) (found : Read (List Listed)) : Type 0 where
   pub reads : isWhole found ≡ true
   pub count : n ≡ length (greetingsOf found)
   pub inside : size ≤ length b
-  pub small : size ≤ 16384
+  pub small : size ≤ largestBlock
   pub rises : rising 0 0 size (rowsListed (greetingsOf found)) ≡ true
   pub fine : anyBad b (greetingsOf found) ≡ false
 
 -- a note behind those that a table holds; there is room for its marks
 pub record OneMore (law : ℕ) (xs t : List ℕ) (i : ℕ) : Type 0 where
   pub fine : isBad law xs ≡ false
-  pub small : length xs ≤ 16384
+  pub small : length xs ≤ largestBlock
   pub count : i ≡ getD t 97 0
   pub few : i ≤ 31
   pub room : 194 + 2 * (marksHeld (headsOf t) + mostMarks (length xs)) ≤ length t
@@ -77,7 +78,7 @@ pub record AllNotes (b cells laws : List ℕ) (n size : ℕ) (t : List ℕ) : Ty
   pub cells-room : 97 ≤ length cells
   pub laws-room : 32 ≤ length laws
   pub inside : size ≤ length b
-  pub small : size ≤ 16384
+  pub small : size ≤ largestBlock
   pub rises : rising 0 0 size (rowsAt cells n 1) ≡ true
   pub fine : badBy b (rowsAt cells n 1) laws ≡ false
   pub room : storeCells size ≤ length t

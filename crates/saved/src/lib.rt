@@ -1,25 +1,30 @@
-// A store's table saved as text, and loaded (document 02, R-6 and R-8). What each call answers and leaves stands in specs/Calls.
+// A store's table saved as text, and loaded (document 02, R-6, R-8 and R-11). What each call answers and leaves stands in specs/Calls.
 ghost use mathlib.Core.Path.{_≡_};
 ghost use mathlib.Core.Bool.{true, false};
 ghost use Prim.Native.Nat.{_+_, _*_, _^_, _≤_, _<_};
 ghost use lib.ListN.{length, getD};
-ghost use Rattle.rows.specs.Limits.{sizeOf};
+ghost use Rattle.rules.specs.Tools.{mostLaw};
+ghost use Rattle.rules.specs.Walk.{longest};
+ghost use Rattle.rows.specs.Limits.{largestBlock, sizeOf};
 ghost use Rattle.rows.specs.Cells.{rowsAt, laid};
 ghost use Rattle.rows.specs.Sane.{rising};
 ghost use Rattle.greetings.specs.Bad.{isBad};
 ghost use Rattle.marks.specs.Marks.{noteOf, mostMarks};
 ghost use Rattle.notes.specs.Notes.{insertNote};
 ghost use Rattle.notes.specs.Cells.{headsOf, marksHeld, notesOf, notesLaid, stored};
+ghost use Rattle.notes.specs.Changed.{Taken};
 ghost use Rattle.notes.specs.Sane.{storeCells};
-ghost use Rattle.tables.specs.Noted.{listedIn};
-ghost use Rattle.tables.specs.Passing.{nextOf, noteIs};
+ghost use Rattle.tables.specs.Noted.{listedAt};
+ghost use Rattle.tables.specs.Passing.{nextOf, marksAre, noteIs};
 ghost use Rattle.saved.specs.Saved.{allTrue, loadIn, loadNoted};
-ghost use Rattle.saved.specs.Steps.{badBy, notesBy, judgedBy, greetingsOf, isWhole, Celled, Sound, OneMore, AllNotes};
+ghost use Rattle.saved.specs.Steps.{badBy, notesBy, judgedBy, greetingsOf, isWhole, Celled, Fitting, OneMore, AllNotes};
 ghost use Rattle.saved.specs.Calls.{verdictOf, Save, Load, Takes};
 use marks::Tally;
+use notes::Sound;
 use store::Answer;
 use store::Refusal;
 use tables::Count;
+use tables::Form;
 use tables::Head;
 use tables::Next;
 
@@ -65,27 +70,82 @@ fn judge_rows(block: &[u8], cells: &[u32], laws: &[u32], n: usize) -> Verdict
     Verdict::Fine
 }
 
+// The marks that stand at a place of the text, beside those of a greeting that is walked once more.
+fn marks_walked(text: &[u8], place: usize, octets: &[u8], law: u32) -> Next
+    requires { ⌜ (law ≤ mostLaw) × (length (now octets) ≤ longest) × (isBad law (now octets) ≡ false) ⌝ }
+    ensures { λ r. ⌜ r ≡ nextOf (marksAre (noteOf law (now (octets .entry)) .marks) (now (text .entry)) place) ⌝ }
+{
+    let mut i = place;
+    let mut at = 0;
+    let mut samples = 0;
+    while at < octets.len() {
+        match tables::mark_is(text, i, at, samples) {
+            Next::Astray => {
+                return Next::Astray;
+            }
+            Next::To(next) => {
+                let walked = walk::walk_on(
+                    octets,
+                    law,
+                    rules::ALL_TOOLS,
+                    at,
+                    marks::FRAMES_APART,
+                    marks::ROOM,
+                );
+                i = next;
+                at = walked.place;
+                samples += walked.samples;
+            }
+        }
+    }
+    tables::no_mark(text, i)
+}
+
+// Beside those that were taken; a greeting that has more marks than stand there is walked once more.
+fn same_marks(text: &[u8], at: usize, octets: &[u8], sound: Sound, marks: &[u32]) -> Next
+    requires { ⌜ Taken (sound .law) (now octets) (now marks) (sound .samples) (sound .marks) ⌝ }
+    ensures { λ r. ⌜ r ≡ nextOf (marksAre (noteOf (sound .law) (now (octets .entry)) .marks) (now (text .entry)) at) ⌝ }
+{
+    if 2 * sound.marks <= marks.len() {
+        return tables::marks_are(text, at, marks, sound.marks);
+    }
+    marks_walked(text, at, octets, sound.law)
+}
+
 // The samples and marks that stand at a place of the text, beside those that the greeting's walk gives.
 fn same_note(text: &[u8], place: usize, octets: &[u8], law: u32) -> Next
-    requires { ⌜ (length (now octets) ≤ 16384) × (isBad law (now octets) ≡ false) ⌝ }
+    requires { ⌜ (length (now octets) ≤ largestBlock) × (isBad law (now octets) ≡ false) ⌝ }
     ensures { λ r. ⌜ r ≡ nextOf (noteIs (noteOf law (now (octets .entry)) .samples) (noteOf law (now (octets .entry)) .marks) (now (text .entry)) place) ⌝ }
 {
-    let mut cells = [0u32; 514];
+    let mut cells = [0u32; marks::KEPT_APART];
     match marks::take(octets, law, &mut cells) {
         Tally::Wrong => Next::Astray,
-        Tally::Counted(samples, m) => tables::note_is(text, place, samples, &cells, m),
+        Tally::Counted(samples, m) => match tables::samples_are(text, place, samples) {
+            Next::Astray => Next::Astray,
+            Next::To(at) => same_marks(
+                text,
+                at,
+                octets,
+                Sound {
+                    law: law,
+                    samples: samples,
+                    marks: m,
+                },
+                &cells,
+            ),
+        },
     }
 }
 
 // "samples or marks that the walk doesn't give", over the whole table.
-fn all_true(text: &[u8], block: &[u8], size: usize, n: usize) -> bool
-    requires { ⌜ Sound (now block) size n (listedIn (now text)) ⌝ }
-    ensures { λ r. ⌜ r ≡ allTrue (now (block .entry)) (greetingsOf (listedIn (now (text .entry)))) ⌝ }
+fn all_true(text: &[u8], form: Form, block: &[u8], size: usize, n: usize) -> bool
+    requires { ⌜ (form .most ≤ largestBlock) × Fitting (now block) size n (listedAt (form .most) (form .from) (now text)) ⌝ }
+    ensures { λ r. ⌜ r ≡ allTrue (now (block .entry)) (greetingsOf (listedAt (form .most) (form .from) (now (text .entry)))) ⌝ }
 {
-    let mut at = 0;
+    let mut at = form.from;
     let mut i = 0;
     while i < n {
-        match tables::head_at(text, at) {
+        match tables::head_at(text, at, form.most) {
             Head::Missing => {
                 return false;
             }
@@ -108,14 +168,21 @@ fn all_true(text: &[u8], block: &[u8], size: usize, n: usize) -> bool
 }
 
 // TABLE, then BAD, then TABLE for samples and marks.
-fn judge_noted(text: &[u8], block: &[u8], cells: &[u32], laws: &[u32], n: usize) -> Verdict
-    requires { ⌜ (isWhole (listedIn (now text)) ≡ true) × Celled (greetingsOf (listedIn (now text))) (now cells) (now laws) n ⌝ }
-    ensures { λ r. ⌜ r ≡ verdictOf (loadIn (now (block .entry)) (sizeOf (now (block .entry))) (greetingsOf (listedIn (now (text .entry))))) ⌝ }
+fn judge_noted(
+    text: &[u8],
+    form: Form,
+    block: &[u8],
+    cells: &[u32],
+    laws: &[u32],
+    n: usize,
+) -> Verdict
+    requires { ⌜ (form .most ≤ largestBlock) × (isWhole (listedAt (form .most) (form .from) (now text)) ≡ true) × Celled (greetingsOf (listedAt (form .most) (form .from) (now text))) (now cells) (now laws) n ⌝ }
+    ensures { λ r. ⌜ r ≡ verdictOf (loadIn (now (block .entry)) (sizeOf (now (block .entry))) (greetingsOf (listedAt (form .most) (form .from) (now (text .entry))))) ⌝ }
 {
     match judge_rows(block, cells, laws, n) {
         Verdict::Stop(why) => Verdict::Stop(why),
         Verdict::Fine => {
-            if all_true(text, block, rows::size_of(block.len()), n) {
+            if all_true(text, form, block, rows::size_of(block.len()), n) {
                 return Verdict::Fine;
             }
             Verdict::Stop(Refusal::Table)
@@ -128,11 +195,16 @@ fn store_note(octets: &[u8], law: u32, table: &mut [u32], i: usize)
     requires { ⌜ OneMore law (now octets) (now table) i ⌝ }
     ensures { λ _. ⌜ now (table .exit) ≡ notesLaid (insertNote i (noteOf law (now (octets .entry))) (notesOf (now (table .entry)))) (now (table .entry)) ⌝ }
 {
-    let mut cells = [0u32; 514];
+    let mut cells = [0u32; marks::KEPT_APART];
     match marks::take(octets, law, &mut cells) {
         Tally::Wrong => {}
         Tally::Counted(samples, m) => {
-            notes::put_note(table, i, i, rows::wide(law), samples, &cells, m);
+            let sound = Sound {
+                law: law,
+                samples: samples,
+                marks: m,
+            };
+            notes::put_taken(table, i, i, sound, octets, &cells);
         }
     }
 }
@@ -153,20 +225,20 @@ fn store_notes(block: &[u8], cells: &[u32], laws: &[u32], n: usize, size: usize,
     }
 }
 
-// A text of R-8's lines. It is judged before anything that is lent changes: its greetings go into cells of their own.
-fn load_noted(text: &[u8], block: &[u8], size: usize, table: &mut [u32]) -> Answer
-    requires { ⌜ (size ≡ sizeOf (now block)) × (storeCells size ≤ length (now table)) ⌝ }
-    ensures { λ r. ⌜ Takes (loadNoted (now (block .entry)) (sizeOf (now (block .entry))) (listedIn (now (text .entry)))) (now (table .entry)) (now (table .exit)) r ⌝ }
+// A text of R-8's lines, in a form. It is judged before anything that is lent changes: its greetings go into cells of their own.
+fn load_noted(text: &[u8], form: Form, block: &[u8], size: usize, table: &mut [u32]) -> Answer
+    requires { ⌜ (form .most ≤ largestBlock) × (size ≡ sizeOf (now block)) × (storeCells size ≤ length (now table)) ⌝ }
+    ensures { λ r. ⌜ Takes (loadNoted (now (block .entry)) (sizeOf (now (block .entry))) (listedAt (form .most) (form .from) (now (text .entry)))) (now (table .entry)) (now (table .exit)) r ⌝ }
 {
     let mut cells = [0u32; 97];
     let mut laws = [1u32; 32];
-    match tables::read_noted(text, &mut cells, &mut laws) {
+    match tables::read_noted(text, form, &mut cells, &mut laws) {
         Count::Wrong => Answer::Refused(Refusal::Table),
-        Count::Greetings(n) => match judge_noted(text, block, &cells, &laws, n) {
+        Count::Greetings(n) => match judge_noted(text, form, block, &cells, &laws, n) {
             Verdict::Stop(why) => Answer::Refused(why),
             Verdict::Fine => {
                 let mut again = [1u32; 32];
-                tables::read_noted(text, table, &mut again);
+                tables::read_noted(text, form, table, &mut again);
                 store_notes(block, &cells, &laws, n, size, table);
                 Answer::Done(0, 0)
             }
@@ -185,7 +257,7 @@ pub fn load(text: &[u8], block: &[u8], table: &mut [u32]) -> Answer
     let mut cells = [0u32; 97];
     let laws = [1u32; 32];
     match tables::read_rows(text, &mut cells) {
-        Count::Wrong => load_noted(text, block, size, table),
+        Count::Wrong => load_noted(text, tables::form_of(text), block, size, table),
         Count::Greetings(n) => match judge_rows(block, &cells, &laws, n) {
             Verdict::Stop(why) => Answer::Refused(why),
             Verdict::Fine => {
@@ -206,10 +278,10 @@ pub fn save(block: &[u8], table: &[u32], out: &mut [u8]) -> Answer
         return Answer::Refused(Refusal::Table);
     }
     let n = rows::wide(table[0]);
-    let octets = tables::text_octets(table, n);
+    let octets = tables::text_octets(table, n, size);
     if out.len() < octets {
         return Answer::Refused(Refusal::Room);
     }
-    let end = tables::put_text(table, n, out);
+    let end = tables::put_text(table, n, size, out);
     Answer::Done(end, 0)
 }

@@ -1,12 +1,11 @@
 -- Each call, from what its steps do: `put-taken`, `put-long`, `put-bad`, `put-full`, `put-no-room`, `put-fits`; `put-table`, `put-law`, `put-stop`,
 -- `put-goes-on`; `get-table`, `get-stop`, `get-absent`, `get-found`; `delete-table`, `delete-stop`, `delete-absent`, `delete-found`.
--- What was taken of a greeting is its note: `sound-taken`.
-use Prim.Native.Nat.{ℕ, _+_, _*_, _^_, _≤_, _<_}
+use Prim.Native.Nat.{ℕ, _+_, _*_, _≤_, _<_}
 use mathlib.Core.Path.{_≡_, refl, sym, ap, subst, _∙_}
-use mathlib.Core.List.{List, _++_}
+use mathlib.Core.List.{List}
 use mathlib.Core.Bool.{Bool, true, false, cond}
 use native.Mathlib.Omega.{arith}
-use lib.ListN.{length, getD, drop, length-append}
+use lib.ListN.{length, getD}
 use lib.Dec.{leb}
 use borrow.Author.Tests.{lt-ltb, le-ltb, le-leb, lt-leb}
 use Rattle.rows.specs.declared.Row.{Row}
@@ -18,11 +17,6 @@ use Rattle.notes.specs.Cells.{notesOf, notesLaid}
 use Rattle.notes.specs.Sane.{saneStore}
 use Rattle.rows.specs.Changed.{nth, removeAt}
 use Rattle.greetings.specs.Bad.{isBad}
-use Rattle.marks.specs.Marks.{noteOf, mostMarks, markCells}
-use Rattle.marks.specs.declared.Tally.{Tally}
-use Rattle.marks.specs.declared.Tally.the-variants.{Counted}
-use Rattle.marks.specs.Taking.{Takes}
-use Rattle.notes.specs.Changed.{noteIn}
 use Rattle.store.specs.declared.Refusal.{Refusal}
 use Rattle.store.specs.declared.Refusal.the-variants.{Law, Taken, Absent, Bad, Full, NoRoom, Table}
 use Rattle.store.specs.declared.Look.the-variants.{Stop}
@@ -34,12 +28,7 @@ use Rattle.store.specs.Looking.{lookOf, Looked, longOf}
 use Rattle.rows.proofs.Cells.{nth-rows}
 use Rattle.store.proofs.Looks.{look-stops, many, taken, free, on-table, off-table}
 use Rattle.store.proofs.Fitted.{rows-less}
-use Rattle.notes.proofs.Noting.{marks-back}
 use Rattle.notes.proofs.Stored.{stored-less}
-use Rattle.marks.proofs.Marked.{length-cells}
-use Rattle.marks.proofs.Taking.{taken-told}
-use Rattle.marks.proofs.Count.{note-few}
-use Rattle.marks.proofs.Bounds.{note-small}
 
 pub says-refused : {o : Outcome} {w : Refusal} (b t : List ℕ) → o ≡ refused w → Says o b t b t (Refused w)
 says-refused b t e = rw e (record { answer = refl; block = refl; table = refl })
@@ -62,30 +51,6 @@ module _ (n law : ℕ) (xs : List ℕ) where
   pub long-room : isBad law xs ≡ false → n < 32 → longOf n law xs ≡ NoRoom
   unfolding longOf
   long-room e h = rw (e, lt-leb 32 n h)
-
--- what was taken of a greeting that is not BAD is its note
-pub record Whole (law : ℕ) (xs cells : List ℕ) (samples m : ℕ) : Type 0 where
-  pub fine : isBad law xs ≡ false
-  pub heard : samples < 2 ^ 32
-  pub few : m ≤ mostMarks (length xs)
-  pub fits : 2 * m ≤ length cells
-  pub note : noteIn law samples m cells ≡ noteOf law xs
-
-pub sound-taken : {law w samples m : ℕ} {xs cells cells′ : List ℕ} {r : Tally} → Takes law xs cells cells′ r → r ≡ Counted samples m → w ≡ law
-    → length xs ≤ 16384 → Whole w xs cells′ samples m
-sound-taken {law} {w} {samples} {m} {xs} {cells} {cells′} t e f l =
-    let k = subst (λ (a : Tally). Takes law xs cells cells′ a) e t in
-    let told = taken-told law xs k in
-    let ms = noteOf law xs .marks in
-    let rest = drop (2 * length ms) cells in
-    let lent : cells′ ≡ markCells ms ++ rest = k .lent (told .0) in
-    rw f (record {
-      fine = told .0;
-      heard = omega (arith, told .1, note-small law xs .0);
-      few = omega (arith, told .2, note-few law xs);
-      fits = omega (arith, told .2, ap length lent, length-append (markCells ms) rest, length-cells ms);
-      note = rw (told .1, told .2, lent, marks-back ms rest);
-    })
 
 -- put, once the table, the law and the number were judged
 module _ (b t : List ℕ) (size law x : ℕ) (xs : List ℕ) {n i : ℕ} (k : Looked size t x n i) (l : law ≤ 1) where

@@ -7,12 +7,13 @@ use native.Mathlib.Omega.{arith}
 use lib.ListN.{length, take, drop, getD, length-append, length-drop, length-take}
 use Rattle.rows.specs.declared.Row.{Row}
 use Rattle.rows.specs.declared.Gap.the-variants.{At, Nowhere}
+use Rattle.rows.specs.Limits.{largestBlock}
 use Rattle.rows.specs.Rows.{rowOf, held}
 use Rattle.rows.specs.Finding.{lowestGap}
 use Rattle.rows.specs.Cells.{rowsOf, laid}
 use Rattle.rows.specs.Changed.{insertAt, removeAt, written}
 use Rattle.closing.specs.Closing.{closedRows, closedBlock, Closes}
-use Rattle.marks.specs.Marks.{Note, noteOf, mostMarks}
+use Rattle.marks.specs.Marks.{noteOf, mostMarks}
 use Rattle.notes.specs.Notes.{insertNote}
 use Rattle.notes.specs.Cells.{headsOf, notesOf, marksHeld, notesLaid, stored}
 use Rattle.notes.specs.Sane.{Noted}
@@ -72,7 +73,7 @@ module _ (t : List ℕ) (size x : ℕ) (xs : List ℕ) {n : ℕ} (k : Noted size
       let g = gap-fits (length xs) size 1 0 0 (rowsOf t) (k .order .rises) e in
       (omega (arith, g .among, length-rows t (getD t 0 0) 1, q), g .inside)
 
-  module _ (z : size ≤ 16384) (f : n ≤ 31) (room : held (rowsOf t) + length xs ≤ size) {m : ℕ} (few : m ≤ mostMarks (length xs)) where
+  module _ (z : size ≤ largestBlock) (f : n ≤ 31) (room : held (rowsOf t) + length xs ≤ size) {m : ℕ} (few : m ≤ mostMarks (length xs)) where
     asks : (rows : List Row) {t₁ : List ℕ} → length rows ≤ 32 → t₁ ≡ laid rows t → length t₁ ≡ length t → Asks t₁ n m
     asks rows s e l =
         let more = room-more k z (length xs) m (omega (arith, q)) room few in
@@ -93,19 +94,19 @@ module _ (t : List ℕ) (size x : ℕ) (xs : List ℕ) {n : ℕ} (k : Noted size
         let rows = insertAt n (rowOf x h (length xs)) (closedRows 0 (rowsOf t)) in
         asks rows (omega (arith, closed-new b t x xs c q h)) (closed-more b t x xs c q h g) l
 
-module _ (b t : List ℕ) (size law x : ℕ) (xs : List ℕ) {note : Note} (z : note ≡ noteOf law xs) (f : getD t 0 0 ≤ 31) where
+module _ (b t : List ℕ) (size law x : ℕ) (xs : List ℕ) (f : getD t 0 0 ≤ 31) where
   pub fit-gap : {i at : ℕ} {b′ t₁ t′ : List ℕ} → At i at ≡ lowestGap (length xs) size (rowsOf t) → i ≤ getD t 0 0 → b′ ≡ written b at xs
-      → t₁ ≡ laid (insertAt i (rowOf x at (length xs)) (rowsOf t)) t → t′ ≡ notesLaid (insertNote i note (notesOf t₁)) t₁
+      → t₁ ≡ laid (insertAt i (rowOf x at (length xs)) (rowsOf t)) t → t′ ≡ notesLaid (insertNote i (noteOf law xs) (notesOf t₁)) t₁
       → Says (leaves (fitted b (rowsOf t) (notesOf t) size law x xs)) b t b′ t′ (Done at 0)
   fit-gap {i} {at} e h p q g =
       let r = rowOf x at (length xs) in
       let rows = insertAt i r (rowsOf t) in
-      let s = stored-more rows t (rows-more t i r f h) q i note g ∙ ap (λ (m : Note). stored rows (insertNote i m (notesOf t)) t) z in
+      let s = stored-more rows t (rows-more t i r f h) q i (noteOf law xs) g in
       rw (← e) (record { answer = refl; block = p; table = s })
 
   pub fit-behind : {b₁ t₁ b′ t₂ t′ : List ℕ} {n h m : ℕ} → Nowhere ≡ lowestGap (length xs) size (rowsOf t) → Closes b t (rowsOf t) b₁ t₁ m
       → h ≡ held (rowsOf t) → n ≡ getD t 0 0 → b′ ≡ written b₁ h xs → t₂ ≡ laid (insertAt n (rowOf x h (length xs)) (rowsOf t₁)) t₁
-      → t′ ≡ notesLaid (insertNote n note (notesOf t₂)) t₂
+      → t′ ≡ notesLaid (insertNote n (noteOf law xs) (notesOf t₂)) t₂
       → Says (leaves (fitted b (rowsOf t) (notesOf t) size law x xs)) b t b′ t′ (Done h m)
   fit-behind {b₁} {t₁} {b′} {t₂} {t′} {n} {h} {m} e c p q k g v =
       let rows = rowsOf t in
@@ -115,8 +116,7 @@ module _ (b t : List ℕ) (size law x : ℕ) (xs : List ℕ) {note : Note} (z : 
       let l : n ≡ length rows = q ∙ sym (length-rows t (getD t 0 0) 1) in
       let new = insertAt n r done in
       let s : t′ ≡ stored new (insertNote n note-in (notesOf t)) t =
-      stored-more new t (omega (arith, closed-new b t x xs c q h, q)) (closed-more b t x xs c q h g) n note v
-      ∙ ap (λ (y : Note). stored new (insertNote n y (notesOf t)) t) z
+      stored-more new t (omega (arith, closed-new b t x xs c q h, q)) (closed-more b t x xs c q h g) n note-in v
       in
       let place : ℕ → List ℕ = λ (y : ℕ). stored (insertAt y r done) (insertNote y note-in (notesOf t)) t in
       let notes = insertNote (length rows) note-in (notesOf t) in

@@ -1,6 +1,6 @@
 -- What all calls judge after the table, NUMBER, in the code's steps; then how many greetings there are, and the number's place among them.
 -- Then a put in its steps: how a greeting longer than the block is refused, what is left to judge, and what is done where it fits.
-use Prim.Native.Nat.{ℕ, _*_, _^_, _≤_, _<_}
+use Prim.Native.Nat.{ℕ}
 use mathlib.Core.Path.{_≡_}
 use mathlib.Core.List.{List}
 use mathlib.Core.Bool.{true, cond, not}
@@ -12,7 +12,6 @@ use Rattle.rows.specs.Rows.{rowOf}
 use Rattle.rows.specs.Cells.{rowsOf, laid}
 use Rattle.rows.specs.Changed.{insertAt, written}
 use Rattle.greetings.specs.Bad.{isBad}
-use Rattle.marks.specs.Marks.{mostMarks}
 use Rattle.notes.specs.Cells.{notesOf}
 use Rattle.notes.specs.Sane.{saneStore, Noted}
 use Rattle.store.specs.declared.Refusal.{Refusal}
@@ -39,10 +38,6 @@ pub record Looked (size : ℕ) (t : List ℕ) (number n i : ℕ) : Type 0 where
 -- a greeting longer than the block, once it is neither TAKEN nor its number refused: it never fits
 unfoldable pub longOf : ℕ → ℕ → List ℕ → Refusal
 longOf n law xs = cond (isBad law xs) Bad (cond (leb mostGreetings n) Full NoRoom)
-
--- a greeting's law and samples, and its m marks in cells of their own, small enough for the table
-abbrev pub Small : ℕ → ℕ → ℕ → List ℕ → List ℕ → Type 0
-Small law samples m xs cells = (law ≤ 1) × (samples < 2 ^ 32) × (m ≤ mostMarks (length xs)) × (2 * m ≤ length cells)
 
 -- a put, once the table, the law and the number were judged
 abbrev pub PutsIn : ℕ → ℕ → ℕ → List ℕ → List ℕ → List ℕ → List ℕ → List ℕ → Answer → Type 0

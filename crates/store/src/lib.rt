@@ -4,16 +4,16 @@
 ghost use mathlib.Core.Path.{_≡_};
 ghost use Prim.Native.Nat.{_+_, _^_, _≤_, _<_};
 ghost use lib.ListN.{length, getD};
+ghost use Rattle.rules.specs.Tools.{mostLaw};
+ghost use Rattle.rows.specs.Limits.{largestBlock, mostNumber};
 ghost use Rattle.rows.specs.Rows.{held as heldBy};
 ghost use Rattle.rows.specs.Cells.{rowsOf};
-ghost use Rattle.marks.specs.Marks.{noteOf};
 ghost use Rattle.notes.specs.Sane.{Noted};
-ghost use Rattle.notes.specs.Changed.{noteIn};
+ghost use Rattle.notes.specs.Changed.{Taken};
 ghost use Rattle.store.specs.Calls.{refusalNumber, numberOf, firstOf, secondOf, Put, Get, Delete};
-ghost use Rattle.store.specs.Looking.{lookOf, Looked, longOf, Small, PutsIn, FitsIn, PlacedAt};
-ghost use mathlib.Core.Bool.{false};
-ghost use Rattle.greetings.specs.Bad.{isBad};
+ghost use Rattle.store.specs.Looking.{lookOf, Looked, longOf, PutsIn, FitsIn, PlacedAt};
 use marks::Tally;
+use notes::Sound;
 use rows::Gap;
 use rows::Row;
 
@@ -40,13 +40,6 @@ pub enum Answer {
 pub enum Look {
     Stop(Refusal),
     Found(usize, usize),
-}
-
-// A greeting's law and samples, and how many marks it has.
-pub struct Sound {
-    pub law: usize,
-    pub samples: usize,
-    pub marks: usize,
 }
 
 pub fn refusal_number(why: Refusal) -> u32
@@ -150,22 +143,21 @@ fn fit(
     sound: Sound,
     marks: &[u32],
 ) -> Answer
-    requires { ⌜ (n ≡ getD (now table) 0 0) × (n ≤ 31) × (number < 2 ^ 32) × (size ≤ length (now block)) × (size ≤ 16384) ⌝ }
+    requires { ⌜ (n ≡ getD (now table) 0 0) × (n ≤ 31) × (number < 2 ^ 32) × (size ≤ length (now block)) × (size ≤ largestBlock) ⌝ }
     requires { ⌜ Noted size (now table) × (behind ≡ heldBy (rowsOf (now table))) × (behind + length (now octets) ≤ size) ⌝ }
-    requires { ⌜ Small (sound .law) (sound .samples) (sound .marks) (now octets) (now marks) ⌝ }
-    requires { ⌜ noteIn (sound .law) (sound .samples) (sound .marks) (now marks) ≡ noteOf (sound .law) (now octets) ⌝ }
+    requires { ⌜ Taken (sound .law) (now octets) (now marks) (sound .samples) (sound .marks) ⌝ }
     ensures { λ r. ⌜ FitsIn size (sound .law) number (now (octets .entry)) (now (block .entry)) (now (table .entry)) (now (block .exit)) (now (table .exit)) r ⌝ }
 {
     match rows::lowest_gap(table, n, size, octets.len()) {
         Gap::At(i, at) => {
             place(block, table, n, i, at, number, octets);
-            notes::put_note(table, n, i, sound.law, sound.samples, marks, sound.marks);
+            notes::put_taken(table, n, i, sound, octets, marks);
             Answer::Done(at, 0)
         }
         Gap::Nowhere => {
             let moved = closing::close_up(block, table, size);
             place(block, table, n, n, behind, number, octets);
-            notes::put_note(table, n, n, sound.law, sound.samples, marks, sound.marks);
+            notes::put_taken(table, n, n, sound, octets, marks);
             Answer::Done(behind, moved)
         }
     }
@@ -196,10 +188,9 @@ fn put_sound(
     sound: Sound,
     marks: &[u32],
 ) -> Answer
-    requires { ⌜ Looked size (now table) number n i × (n ≤ i) × (isBad (sound .law) (now octets) ≡ false) ⌝ }
-    requires { ⌜ (size ≤ length (now block)) × (size ≤ 16384) × (number ≤ 65535) × (length (now octets) ≤ size) ⌝ }
-    requires { ⌜ Small (sound .law) (sound .samples) (sound .marks) (now octets) (now marks) ⌝ }
-    requires { ⌜ noteIn (sound .law) (sound .samples) (sound .marks) (now marks) ≡ noteOf (sound .law) (now octets) ⌝ }
+    requires { ⌜ Looked size (now table) number n i × (n ≤ i) ⌝ }
+    requires { ⌜ (size ≤ length (now block)) × (size ≤ largestBlock) × (number ≤ mostNumber) × (length (now octets) ≤ size) ⌝ }
+    requires { ⌜ Taken (sound .law) (now octets) (now marks) (sound .samples) (sound .marks) ⌝ }
     ensures { λ r. ⌜ PutsIn size (sound .law) number (now (octets .entry)) (now (block .entry)) (now (table .entry)) (now (block .exit)) (now (table .exit)) r ⌝ }
 {
     if rows::MOST_GREETINGS <= n {
@@ -212,7 +203,8 @@ fn put_sound(
     fit(block, table, n, size, number, octets, behind, sound, marks)
 }
 
-// What is left to judge of a put: TAKEN, BAD, FULL, NOROOM. The walk is made once, and its marks are taken as it goes; nothing is lent to it.
+// What is left to judge of a put: TAKEN, BAD, FULL, NOROOM. The walk is made once, and its marks are taken as it goes; a greeting that has
+// more marks than stand here is walked once more where it is put.
 fn put_among(
     block: &mut [u8],
     table: &mut [u32],
@@ -224,7 +216,7 @@ fn put_among(
     octets: &[u8],
 ) -> Answer
     requires { ⌜ Looked size (now table) number n i ⌝ }
-    requires { ⌜ (size ≤ length (now block)) × (size ≤ 16384) × (law ≤ 1) × (number ≤ 65535) ⌝ }
+    requires { ⌜ (size ≤ length (now block)) × (size ≤ largestBlock) × (law ≤ mostLaw) × (number ≤ mostNumber) ⌝ }
     ensures { λ r. ⌜ PutsIn size law number (now (octets .entry)) (now (block .entry)) (now (table .entry)) (now (block .exit)) (now (table .exit)) r ⌝ }
 {
     if i < n {
@@ -233,7 +225,7 @@ fn put_among(
     if size < octets.len() {
         return Answer::Refused(over_long(n, octets, law));
     }
-    let mut marks = [0u32; 514];
+    let mut marks = [0u32; marks::KEPT_APART];
     match marks::take(octets, law, &mut marks) {
         Tally::Wrong => Answer::Refused(Refusal::Bad),
         Tally::Counted(samples, m) => put_sound(
@@ -245,7 +237,7 @@ fn put_among(
             number,
             octets,
             Sound {
-                law: rows::wide(law),
+                law: law,
                 samples: samples,
                 marks: m,
             },

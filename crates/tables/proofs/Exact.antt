@@ -8,29 +8,30 @@ use lib.ListN.{length, drop, length-append, length-drop, drop-of-length-le}
 use lib.Dec.{leb}
 use borrow.Author.Tests.{le-leb, lt-leb, leb-true}
 use Rattle.rows.specs.declared.Row.{Row}
+use Rattle.rows.specs.Limits.{largestBlock, mostNumber}
 use Rattle.rows.specs.Rows.{rowOf}
-use Rattle.keyvalue.specs.Reading.{whole, none, andThen, begins}
-use Rattle.keyvalue.specs.Lines.{lineOf, line, ranged}
+use Rattle.keyvalue.specs.Reading.{whole, andThen}
+use Rattle.keyvalue.specs.Lines.{lineOf, ranged}
 use Rattle.keyvalue.proofs.Exact.{Back, back-bind, back-last, back-ranged, onward, Stands, chain, got-value, got-place, ranged-only, through, passed}
-use Rattle.tables.specs.Table.{promptWord, startWord, octetsWord, row, rowsFrom, tableIn, rowText, tableText}
+use Rattle.tables.specs.Table.{promptWord, startWord, octetsWord, mostPlace, row, rowsFrom, tableIn, rowText, tableText}
 
--- the numbers that lines can say
-pub record Sayable (r : Row) : Type 0 where
+-- the numbers that lines can say, starts and counts of octets up to so many
+pub record Sayable (far : ℕ) (r : Row) : Type 0 where
   pub least : 1 ≤ r .number
-  pub most : r .number ≤ 65535
-  pub start : r .start ≤ 65535
-  pub octets : r .octets ≤ 65535
+  pub most : r .number ≤ mostNumber
+  pub start : r .start ≤ far
+  pub octets : r .octets ≤ far
 
 abbrev pub Each : {A : Type 0} → (A → Type 0) → List A → Type 0
 Each p [] = Unit {0}
 Each p (x ∷ xs) = p x × Each p xs
 
-pub row-back : (r : Row) → Sayable r → Back row (rowText r) r
+pub row-back : (far : ℕ) → far ≤ largestBlock → (r : Row) → Sayable far r → Back (row far) (rowText r) r
 unfolding row rowText
-row-back r h =
-    back-bind (ranged promptWord 1 65535) _ (back-ranged promptWord 1 65535 (r .number) (omega (arith, h .most)) (h .least) (h .most))
-    (back-bind (ranged startWord 0 65535) _ (back-ranged startWord 0 65535 (r .start) (omega (arith, h .start)) (omega arith) (h .start))
-    (back-last (ranged octetsWord 0 65535) _ (back-ranged octetsWord 0 65535 (r .octets) (omega (arith, h .octets)) (omega arith) (h .octets))))
+row-back far l r h =
+    back-bind (ranged promptWord 1 mostNumber) _ (back-ranged promptWord 1 mostNumber (r .number) (omega (arith, h .most)) (h .least) (h .most))
+    (back-bind (ranged startWord 0 far) _ (back-ranged startWord 0 far (r .start) (omega (arith, h .start)) (omega arith) (h .start))
+    (back-last (ranged octetsWord 0 far) _ (back-ranged octetsWord 0 far (r .octets) (omega (arith, h .octets)) (omega arith) (h .octets))))
 
 pub row-some : (r : Row) (rest : List ℕ) → 1 ≤ length (rowText r ++ rest)
 unfolding rowText lineOf
@@ -42,7 +43,7 @@ unfolding rowsFrom
 ending zero done text at h = rw (le-leb (length text) at h)
 ending (suc more) done text at h = rw (le-leb (length text) at h)
 
-rows-back : (more : ℕ) (done rows : List Row) (text : List ℕ) (i : ℕ) → Each Sayable rows → length rows ≤ more → drop i text ≡ tableText rows
+rows-back : (more : ℕ) (done rows : List Row) (text : List ℕ) (i : ℕ) → Each (Sayable mostPlace) rows → length rows ≤ more → drop i text ≡ tableText rows
     → rowsFrom more done text i ≡ whole (done ++ rows) (i + length (tableText rows))
 unfolding tableText rowsFrom
 rows-back more done [] text i h l e =
@@ -54,33 +55,33 @@ rows-back (suc more) done (r ∷ rows) text i h l e =
     let n : i < length text = omega (arith, length-drop i text, ap length e, row-some r (tableText rows)) in
     let m : i + length (rowText r ++ tableText rows) ≡ i + length (rowText r) + length (tableText rows) =
     rw (length-append (rowText r) (tableText rows)) (omega arith) in
-    rw (lt-leb (length text) i n, row-back r (h .0) .reads text i (tableText rows) e, m)
+    rw (lt-leb (length text) i n, row-back mostPlace (omega arith) r (h .0) .reads text i (tableText rows) e, m)
     (rows-back more (done ++ (r ∷ [])) rows text (i + length (rowText r)) (h .1) (omega arith) (onward text (rowText r) (tableText rows) i e)
     ∙ ap (λ (l : List Row). whole l (i + length (rowText r) + length (tableText rows))) (append-assoc done (r ∷ []) rows))
 
 -- What is written is read.
-pub table-back : (rows : List Row) → Each Sayable rows → length rows ≤ 32 → tableIn (tableText rows) ≡ whole rows (length (tableText rows))
+pub table-back : (rows : List Row) → Each (Sayable mostPlace) rows → length rows ≤ 32 → tableIn (tableText rows) ≡ whole rows (length (tableText rows))
 table-back rows h l = rows-back 32 [] rows (tableText rows) 0 h l refl ∙ ap (whole rows) (omega arith)
 
-row-same : (text : List ℕ) (p s o i x y z : ℕ) → ranged promptWord 1 65535 text i ≡ whole p x → ranged startWord 0 65535 text x ≡ whole s y
-    → ranged octetsWord 0 65535 text y ≡ whole o z → (Sayable (rowOf p s o)) × (Stands text i (rowText (rowOf p s o)) z)
+row-same : (text : List ℕ) (p s o i x y z : ℕ) → ranged promptWord 1 mostNumber text i ≡ whole p x → ranged startWord 0 mostPlace text x ≡ whole s y
+    → ranged octetsWord 0 mostPlace text y ≡ whole o z → (Sayable mostPlace (rowOf p s o)) × (Stands text i (rowText (rowOf p s o)) z)
 unfolding rowText
 row-same text p s o i x y z a b c =
-    let q = ranged-only promptWord 1 65535 text i p x (omega arith) a in
-    let t = ranged-only startWord 0 65535 text x s y (omega arith) b in
-    let u = ranged-only octetsWord 0 65535 text y o z (omega arith) c in
+    let q = ranged-only promptWord 1 mostNumber text i p x (omega arith) a in
+    let t = ranged-only startWord 0 mostPlace text x s y (omega arith) b in
+    let u = ranged-only octetsWord 0 mostPlace text y o z (omega arith) c in
     (record { least = q .least; most = q .most; start = t .most; octets = u .most }, chain (q .says) (chain (t .says) (u .says)))
 
-row-as : {text : List ℕ} {r q : Row} {i j k : ℕ} → r ≡ q → j ≡ k → (Sayable r) × (Stands text i (rowText r) j)
-    → (Sayable q) × (Stands text i (rowText q) k)
+row-as : {text : List ℕ} {r q : Row} {i j k : ℕ} → r ≡ q → j ≡ k → (Sayable mostPlace r) × (Stands text i (rowText r) j)
+    → (Sayable mostPlace q) × (Stands text i (rowText q) k)
 row-as m n h = rw (← m, ← n) h
 
-row-only : (text : List ℕ) (i : ℕ) (r : Row) (j : ℕ) → row text i ≡ whole r j → (Sayable r) × (Stands text i (rowText r) j)
+row-only : (text : List ℕ) (i : ℕ) (r : Row) (j : ℕ) → row mostPlace text i ≡ whole r j → (Sayable mostPlace r) × (Stands text i (rowText r) j)
 unfolding row
 row-only text i r j e =
-    let a = through (ranged promptWord 1 65535 text i) _ e in
-    let b = through (ranged startWord 0 65535 text (a .place)) _ (a .then) in
-    let c = through (ranged octetsWord 0 65535 text (b .place)) _ (b .then) in
+    let a = through (ranged promptWord 1 mostNumber text i) _ e in
+    let b = through (ranged startWord 0 mostPlace text (a .place)) _ (a .then) in
+    let c = through (ranged octetsWord 0 mostPlace text (b .place)) _ (b .then) in
     row-as (got-value (c .then)) (got-place (c .then))
     (row-same text (a .value) (b .value) (c .value) i (a .place) (b .place) (c .place) (a .first) (b .first) (c .first))
 
@@ -89,7 +90,7 @@ record More (done : List Row) (text : List ℕ) (i more : ℕ) (rows : List Row)
   new : List Row
   all : rows ≡ done ++ new
   few : length new ≤ more
-  each : Each Sayable new
+  each : Each (Sayable mostPlace) new
   says : drop i text ≡ tableText new
 
 none-more : {done rows : List Row} {text : List ℕ} {i j more : ℕ} → length text ≤ i → whole done i ≡ whole rows j → More done text i more rows
@@ -97,7 +98,7 @@ unfolding tableText
 none-more {done} {rows} {text} {i} {j} h e =
     record { new = []; all = sym (got-value e) ∙ sym (append-nil done); few = omega arith; each = tt; says = drop-of-length-le text h }
 
-one-more : {done rows : List Row} {text : List ℕ} {i k more : ℕ} (r : Row) → row text i ≡ whole r k → More (done ++ (r ∷ [])) text k more rows
+one-more : {done rows : List Row} {text : List ℕ} {i k more : ℕ} (r : Row) → row mostPlace text i ≡ whole r k → More (done ++ (r ∷ [])) text k more rows
     → More done text i (suc more) rows
 unfolding tableText
 one-more {done} {rows} {text} {i} {k} r e m =
@@ -119,29 +120,21 @@ rows-only zero done text i rows j e =
 rows-only (suc more) done text i rows j e = go (leb (length text) i) refl e (λ r k. rows-only more (done ++ (r ∷ [])) text k rows j)
   where
     go : (t : Bool) → leb (length text) i ≡ t
-        → cond t (whole done i) (andThen (row text i) (λ r j. rowsFrom more (done ++ (r ∷ [])) text j)) ≡ whole rows j
+        → cond t (whole done i) (andThen (row mostPlace text i) (λ r j. rowsFrom more (done ++ (r ∷ [])) text j)) ≡ whole rows j
         → ((r : Row) (k : ℕ) → rowsFrom more (done ++ (r ∷ [])) text k ≡ whole rows j → More (done ++ (r ∷ [])) text k more rows)
         → More done text i (suc more) rows
     go true h e ih = none-more (leb-true (length text) i h) e
     go false h e ih =
-        let m = through (row text i) _ e in
+        let m = through (row mostPlace text i) _ e in
         one-more (m .value) (m .first) (ih (m .value) (m .place) (m .then))
 
 -- Nothing else is: at most 32 greetings, whose numbers lines can say, and the text is the one that is written of them.
 pub record Listed (text : List ℕ) (rows : List Row) : Type 0 where
   pub few : length rows ≤ 32
-  pub each : Each Sayable rows
+  pub each : Each (Sayable mostPlace) rows
   pub says : text ≡ tableText rows
 
 pub table-only : (text : List ℕ) (rows : List Row) (j : ℕ) → tableIn text ≡ whole rows j → Listed text rows
 table-only text rows j e =
     let m = rows-only 32 [] text 0 rows j e in
     subst (λ (l : List Row). Listed text l) (sym (m .all)) (record { few = m .few; each = m .each; says = m .says })
-
--- "The old table reader must refuse a form=2 table at its first line with TABLE" (R-11): form=2 and octet 0A
-abbrev pub formLine : List ℕ
-formLine = 0x66 ∷ 0x6F ∷ 0x72 ∷ 0x6D ∷ 0x3D ∷ 0x32 ∷ 0x0A ∷ []
-
-pub old-refuses : (rest : List ℕ) → tableIn (formLine ++ rest) ≡ none
-unfolding rowsFrom row ranged line begins
-old-refuses rest = rw (lt-leb (length (formLine ++ rest)) 0 (omega arith))

@@ -1,6 +1,7 @@
 -- Laws of the text of a store's table.
 --   Exact: a table of R-6's lines that is written is read back (`table-back`), and no other text is read so (`table-only`).
 --   Noted: R-8's lines that are written are read back (`noted-back`), and no text with a greeting is of both kinds.
+--   Formed: R-11's first line: read back, needed by the block's size, refused by older readers.
 --   Lines: a greeting's lines in the code's steps.     Marks: its samples and marks, passed over and compared.
 --   Reading, Noting: a text read into cells, of R-6's lines and of R-8's.     Writing: the text put, greeting by greeting.
 pub mod Lines
@@ -10,3 +11,4 @@ pub mod Reading
 pub mod Noting
 pub mod Noted
 pub mod Writing
+pub mod Formed

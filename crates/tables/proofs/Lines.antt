@@ -5,6 +5,7 @@ use mathlib.Core.List.{List}
 use native.Mathlib.Omega.{arith}
 use Rattle.rules.specs.Listing.{lawWord, samplesWord}
 use Rattle.rows.specs.declared.Row.{Row}
+use Rattle.rows.specs.Limits.{mostNumber}
 use Rattle.rows.specs.Rows.{rowOf}
 use Rattle.marks.specs.Marks.{Mark, Note}
 use Rattle.keyvalue.specs.Reading.{Read, whole, none, andThen}
@@ -15,37 +16,37 @@ use Rattle.tables.specs.Table.{promptWord, startWord, octetsWord, row}
 use Rattle.tables.specs.Noted.{Listed, markLines, listed}
 use Rattle.tables.specs.Passing.{headOf, headed, headIn, noted, nextOf}
 
-module _ (text : List ℕ) (at : ℕ) where
-  pub no-prompt : none ≡ ranged promptWord 1 65535 text at → none ≡ row text at
+module _ (far : ℕ) (text : List ℕ) (at : ℕ) where
+  pub no-prompt : none ≡ ranged promptWord 1 mostNumber text at → none ≡ row far text at
   unfolding row
   no-prompt e = sym (rw (← e))
 
-  module _ {n a : ℕ} (e : whole n a ≡ ranged promptWord 1 65535 text at) where
-    pub no-start : none ≡ ranged startWord 0 65535 text a → none ≡ row text at
+  module _ {n a : ℕ} (e : whole n a ≡ ranged promptWord 1 mostNumber text at) where
+    pub no-start : none ≡ ranged startWord 0 far text a → none ≡ row far text at
     unfolding row
     no-start f = sym (rw (← e, ← f))
 
-    module _ {s b : ℕ} (f : whole s b ≡ ranged startWord 0 65535 text a) where
-      pub no-octets : none ≡ ranged octetsWord 0 65535 text b → none ≡ row text at
+    module _ {s b : ℕ} (f : whole s b ≡ ranged startWord 0 far text a) where
+      pub no-octets : none ≡ ranged octetsWord 0 far text b → none ≡ row far text at
       unfolding row
       no-octets g = sym (rw (← e, ← f, ← g))
 
-      pub row-whole : {o c : ℕ} → whole o c ≡ ranged octetsWord 0 65535 text b → whole (rowOf n s o) c ≡ row text at
+      pub row-whole : {o c : ℕ} → whole o c ≡ ranged octetsWord 0 far text b → whole (rowOf n s o) c ≡ row far text at
       unfolding row
       row-whole g = sym (rw (← e, ← f, ← g))
 
 -- then the law
-module _ (text : List ℕ) (at : ℕ) where
-  pub head-no-row : none ≡ row text at → none ≡ headed text at
+module _ (far : ℕ) (text : List ℕ) (at : ℕ) where
+  pub head-no-row : none ≡ row far text at → none ≡ headed far text at
   unfolding headed
   head-no-row e = sym (rw (← e))
 
-  module _ {r : Row} {a : ℕ} (e : whole r a ≡ row text at) where
-    pub head-no-law : none ≡ ranged lawWord 0 1 text a → none ≡ headed text at
+  module _ {r : Row} {a : ℕ} (e : whole r a ≡ row far text at) where
+    pub head-no-law : none ≡ ranged lawWord 0 1 text a → none ≡ headed far text at
     unfolding headed
     head-no-law f = sym (rw (← e, ← f))
 
-    pub head-whole : {l b : ℕ} → whole l b ≡ ranged lawWord 0 1 text a → whole (headOf r l) b ≡ headed text at
+    pub head-whole : {l b : ℕ} → whole l b ≡ ranged lawWord 0 1 text a → whole (headOf r l) b ≡ headed far text at
     unfolding headed
     head-whole f = sym (rw (← e, ← f))
 
@@ -83,9 +84,10 @@ module _ (text : List ℕ) where
   row-then (whole r a) = law-then r (ranged lawWord 0 1 text a)
   row-then none = refl
 
-  pub listed-parts : (at : ℕ) → listed text at ≡ andThen (headed text at) (λ h j. andThen (noted (h .law) text j) (λ n k. whole (with (h .row) n) k))
+  pub listed-parts : (far at : ℕ)
+      → listed far text at ≡ andThen (headed far text at) (λ h j. andThen (noted (h .law) text j) (λ n k. whole (with (h .row) n) k))
   unfolding listed headed
-  listed-parts at = row-then (row text at)
+  listed-parts far at = row-then (row far text at)
 
   -- the law goes into the note
   pub noted-law : (law i : ℕ) {n : Note} {j : ℕ} → noted law text i ≡ whole n j → n .law ≡ law
@@ -95,20 +97,20 @@ module _ (text : List ℕ) where
       let b = through (markLines text (a .place)) _ (a .then) in
       ap (λ (n : Note). n .law) (sym (got-value (b .then)))
 
-  module _ (at : ℕ) where
-    pub listed-no-head : none ≡ headed text at → none ≡ headIn (listed text at)
-    listed-no-head e = sym (rw (listed-parts at, ← e))
+  module _ (far at : ℕ) where
+    pub listed-no-head : none ≡ headed far text at → none ≡ headIn (listed far text at)
+    listed-no-head e = sym (rw (listed-parts far at, ← e))
 
-    module _ {r : Row} {l a : ℕ} (e : whole (headOf r l) a ≡ headed text at) where
-      pub listed-astray : Astray ≡ nextOf (noted l text a) → none ≡ headIn (listed text at)
-      listed-astray f = sym (rw (listed-parts at, ← e) (go (noted l text a) f))
+    module _ {r : Row} {l a : ℕ} (e : whole (headOf r l) a ≡ headed far text at) where
+      pub listed-astray : Astray ≡ nextOf (noted l text a) → none ≡ headIn (listed far text at)
+      listed-astray f = sym (rw (listed-parts far at, ← e) (go (noted l text a) f))
         where
           go : (q : Read Note) → Astray ≡ nextOf q → headIn (andThen q (λ n k. whole (with r n) k)) ≡ none
           go (whole n k) f = let z : _≡_ {A = ℕ} 0 1 = cc in absurd (omega arith)
           go none f = refl
 
-      pub listed-whole : {b : ℕ} → To b ≡ nextOf (noted l text a) → whole (headOf r l) b ≡ headIn (listed text at)
-      listed-whole {b} f = sym (rw (listed-parts at, ← e) (go (noted l text a) f (λ n j g. noted-law l a g)))
+      pub listed-whole : {b : ℕ} → To b ≡ nextOf (noted l text a) → whole (headOf r l) b ≡ headIn (listed far text at)
+      listed-whole {b} f = sym (rw (listed-parts far at, ← e) (go (noted l text a) f (λ n j g. noted-law l a g)))
         where
           go : (q : Read Note) → To b ≡ nextOf q → ((n : Note) (j : ℕ) → q ≡ whole n j → n .law ≡ l)
               → headIn (andThen q (λ n k. whole (with r n) k)) ≡ whole (headOf r l) b

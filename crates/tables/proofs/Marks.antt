@@ -1,4 +1,5 @@
--- R-8's lines of samples and marks in the code's steps: passed over (Marking), and compared one by one with marks in cells (`are-turn`).
+-- R-8's lines of samples and marks in the code's steps: passed over (Marking), and compared one by one with given ones (`marks-on`) and with
+-- marks in cells (`are-turn`).
 use Prim.Native.Nat.{ℕ, suc, _+_, _*_, _-_, _≤_, _<_, min}
 use mathlib.Core.Path.{_≡_, refl, sym, ap, _∙_}
 use mathlib.Core.List.{List, [], _∷_, _++_}
@@ -17,7 +18,7 @@ use Rattle.keyvalue.proofs.Exact.{through, passed, got-value, got-place}
 use Rattle.tables.specs.declared.Next.{Next}
 use Rattle.tables.specs.declared.Next.the-variants.{To, Astray}
 use Rattle.tables.specs.Noted.{markWord, comma, markLine, markLinesFrom, markLines}
-use Rattle.tables.specs.Passing.{numberThen, heldMark, nextOf, noted, marksAre, noteIs}
+use Rattle.tables.specs.Passing.{numberThen, heldMark, nextOf, noted, markIs, noMark, marksAre, samplesIs, noteIs}
 
 -- a number as it is held, and as it was read
 record Number (r : Read ℕ) (n j : ℕ) : Type 0 where
@@ -267,75 +268,127 @@ marks-none cells m j h = let e : m - j ≡ 0 = omega arith in rw e
 pub marks-all : (cells : List ℕ) (m : ℕ) → marksIn m cells ≡ marksIn (m - 0) (drop (2 * 0) cells)
 marks-all cells m = let e : m - 0 ≡ m = omega arith in rw e
 
+-- a mark beside a given one
+module _ (text : List ℕ) (i o s : ℕ) where
+  pub is-unmarked : none ≡ heldMark (markLine text i) → Astray ≡ nextOf (markIs o s text i)
+  unfolding markIs
+  is-unmarked e = sym (rw (not-mark (markLine text i) e))
+
+  module _ (a : o < most) (b : s < most) {x n nxt : ℕ} (e : whole (markOf x n) nxt ≡ heldMark (markLine text i)) where
+    pub is-octets : (x ≡ o → ⊥) → Astray ≡ nextOf (markIs o s text i)
+    unfolding markIs
+    is-octets f =
+        let q = held-mark (markLine text i) e in
+        let d : q .real .octets ≡ o → ⊥ = λ z. f (q .octets ∙ omega arith) in
+        sym (rw (q .first, ne-eqb _ _ d))
+
+    module _ (f : x ≡ o) where
+      same-octets : held-mark (markLine text i) e .real .octets ≡ o
+      same-octets = let g = held-mark (markLine text i) e .octets in omega arith
+
+      pub is-samples : (n ≡ s → ⊥) → Astray ≡ nextOf (markIs o s text i)
+      unfolding markIs
+      is-samples g =
+          let q = held-mark (markLine text i) e in
+          let d : q .real .samples ≡ s → ⊥ = λ z. g (q .samples ∙ omega arith) in
+          sym (rw (q .first, eq-eqb _ _ same-octets, ne-eqb _ _ d))
+
+      pub is-mark : n ≡ s → To nxt ≡ nextOf (markIs o s text i)
+      unfolding markIs
+      is-mark g =
+          let q = held-mark (markLine text i) e in
+          let d : q .real .samples ≡ s = let u = q .samples in omega arith in
+          sym (rw (q .first, eq-eqb _ _ same-octets, eq-eqb _ _ d))
+
+-- no mark more
+module _ (text : List ℕ) (i : ℕ) where
+  pub is-more : begins markWord (drop i text) ≡ true → Astray ≡ nextOf (noMark text i)
+  unfolding noMark
+  is-more e = sym (rw e)
+
+  pub is-end : begins markWord (drop i text) ≡ false → To i ≡ nextOf (noMark text i)
+  unfolding noMark
+  is-end e = sym (rw e)
+
+-- what is compared in two steps
+then-astray : {A B : Type 0} (r : Read A) (f : A → ℕ → Read B) → Astray ≡ nextOf r → Astray ≡ nextOf (andThen r f)
+then-astray (whole a i) f e = let z : _≡_ {A = ℕ} 0 1 = cc in absurd (omega arith)
+then-astray none f e = refl
+
+then-on : (r : Read ℕ) (ms : List Mark) (text : List ℕ) {j : ℕ} → To j ≡ nextOf r
+    → nextOf (andThen r (λ z k. marksAre ms text k)) ≡ nextOf (marksAre ms text j)
+then-on (whole a i) ms text {j} e = let z : j ≡ i = cc in ap (λ (k : ℕ). nextOf (marksAre ms text k)) (sym z)
+then-on none ms text e = let z : _≡_ {A = ℕ} 0 1 = cc in absurd (omega arith)
+
+-- a mark, and those after it
+module _ (m : Mark) (ms : List Mark) (text : List ℕ) (i : ℕ) where
+  pub marks-astray : Astray ≡ nextOf (markIs (m .octets) (m .samples) text i) → Astray ≡ nextOf (marksAre (m ∷ ms) text i)
+  unfolding marksAre
+  marks-astray e = then-astray (markIs (m .octets) (m .samples) text i) (λ z j. marksAre ms text j) e
+
+  pub marks-on : {j : ℕ} → To j ≡ nextOf (markIs (m .octets) (m .samples) text i)
+      → nextOf (marksAre (m ∷ ms) text i) ≡ nextOf (marksAre ms text j)
+  unfolding marksAre
+  marks-on e = then-on (markIs (m .octets) (m .samples) text i) ms text e
+
+pub marks-done : (text : List ℕ) (i : ℕ) {r : Next} → r ≡ nextOf (noMark text i) → r ≡ nextOf (marksAre [] text i)
+unfolding marksAre
+marks-done text i e = e
+
+-- samples, and the marks after them
+module _ (samples : ℕ) (ms : List Mark) (text : List ℕ) (i : ℕ) where
+  pub note-astray : Astray ≡ nextOf (samplesIs samples text i) → Astray ≡ nextOf (noteIs samples ms text i)
+  unfolding noteIs
+  note-astray e = then-astray (samplesIs samples text i) (λ z j. marksAre ms text j) e
+
+  pub note-on : {j : ℕ} → To j ≡ nextOf (samplesIs samples text i) → nextOf (noteIs samples ms text i) ≡ nextOf (marksAre ms text j)
+  unfolding noteIs
+  note-on e = then-on (samplesIs samples text i) ms text e
+
 -- what is left to compare
 pub record Compares (text : List ℕ) (at : ℕ) (cells : List ℕ) (m i j : ℕ) : Type 0 where
-  pub says : marksAre (marksIn m cells) text at ≡ marksAre (marksIn (m - j) (drop (2 * j) cells)) text i
+  pub says : nextOf (marksAre (marksIn m cells) text at) ≡ nextOf (marksAre (marksIn (m - j) (drop (2 * j) cells)) text i)
 
 pub compares-first : (text : List ℕ) (at : ℕ) (cells : List ℕ) (m : ℕ) → Compares text at cells m at 0
-compares-first text at cells m = record { says = ap (λ (l : List Mark). marksAre l text at) (marks-all cells m) }
+compares-first text at cells m = record { says = ap (λ (l : List Mark). nextOf (marksAre l text at)) (marks-all cells m) }
 
 module _ {text cells : List ℕ} {at m i j : ℕ} (s : Compares text at cells m i j) where
-  module _ (h : m ≤ j) where
-    pub are-more : begins markWord (drop i text) ≡ true → Astray ≡ nextOf (marksAre (marksIn m cells) text at)
-    unfolding marksAre
-    are-more e = sym (rw (s .says, marks-none cells m j h, e))
+  pub are-end : m ≤ j → {r : Next} → r ≡ nextOf (noMark text i) → r ≡ nextOf (marksAre (marksIn m cells) text at)
+  are-end h e = marks-done text i e ∙ sym (s .says ∙ ap (λ (l : List Mark). nextOf (marksAre l text i)) (marks-none cells m j h))
 
-    pub are-end : begins markWord (drop i text) ≡ false → To i ≡ nextOf (marksAre (marksIn m cells) text at)
-    unfolding marksAre
-    are-end e = sym (rw (s .says, marks-none cells m j h, e))
+  module _ (h : j < m) {x y : ℕ} (f : x ≡ getD cells (2 * j) 0) (g : y ≡ getD cells (2 * j + 1) 0) where
+    abbrev more : List Mark
+    more = marksIn (m - (j + 1)) (drop (2 * (j + 1)) cells)
 
-  module _ (h : j < m) where
-    pub are-none : none ≡ heldMark (markLine text i) → Astray ≡ nextOf (marksAre (marksIn m cells) text at)
-    unfolding marksAre
-    are-none e = sym (rw (s .says, marks-step cells m j h, not-mark (markLine text i) e))
+    are-step : nextOf (marksAre (marksIn m cells) text at) ≡ nextOf (marksAre (markOf x y ∷ more) text i)
+    are-step =
+        s .says ∙ ap (λ (l : List Mark). nextOf (marksAre l text i))
+        (marks-step cells m j h ∙ ap (λ (k : ℕ). markOf k (getD cells (2 * j + 1) 0) ∷ more) (sym f) ∙ ap (λ (k : ℕ). markOf x k ∷ more) (sym g))
 
-    module _ (small : (k : ℕ) → k < 2 * m → getD cells k 0 < most) {o n nxt : ℕ} (e : whole (markOf o n) nxt ≡ heldMark (markLine text i)) where
-      pub are-octets : (o ≡ getD cells (2 * j) 0 → ⊥) → Astray ≡ nextOf (marksAre (marksIn m cells) text at)
-      unfolding marksAre
-      are-octets f =
-          let q = held-mark (markLine text i) e in
-          let c = small (2 * j) (omega arith) in
-          let d : q .real .octets ≡ getD cells (2 * j) 0 → ⊥ = λ x. f (q .octets ∙ omega arith) in
-          sym (rw (s .says, marks-step cells m j h, q .first, ne-eqb _ _ d))
+    pub are-astray : Astray ≡ nextOf (markIs x y text i) → Astray ≡ nextOf (marksAre (marksIn m cells) text at)
+    are-astray e = marks-astray (markOf x y) more text i e ∙ sym are-step
 
-      module _ (f : o ≡ getD cells (2 * j) 0) where
-        same-octets : held-mark (markLine text i) e .real .octets ≡ getD cells (2 * j) 0
-        same-octets = let c = small (2 * j) (omega arith) in let g = held-mark (markLine text i) e .octets in omega arith
+    pub are-turn : {nxt : ℕ} → To nxt ≡ nextOf (markIs x y text i) → Compares text at cells m nxt (j + 1)
+    are-turn e = record { says = are-step ∙ marks-on (markOf x y) more text i e }
 
-        pub are-samples : (n ≡ getD cells (2 * j + 1) 0 → ⊥) → Astray ≡ nextOf (marksAre (marksIn m cells) text at)
-        unfolding marksAre
-        are-samples g =
-            let q = held-mark (markLine text i) e in
-            let c = small (2 * j + 1) (omega arith) in
-            let d : q .real .samples ≡ getD cells (2 * j + 1) 0 → ⊥ = λ x. g (q .samples ∙ omega arith) in
-            sym (rw (s .says, marks-step cells m j h, q .first, eq-eqb _ _ same-octets, ne-eqb _ _ d))
-
-        pub are-turn : n ≡ getD cells (2 * j + 1) 0 → Compares text at cells m nxt (j + 1)
-        unfolding marksAre
-        are-turn g =
-            let q = held-mark (markLine text i) e in
-            let c = small (2 * j + 1) (omega arith) in
-            let d : q .real .samples ≡ getD cells (2 * j + 1) 0 = let u = q .samples in omega arith in
-            record { says = s .says ∙ rw (marks-step cells m j h, q .first, eq-eqb _ _ same-octets, eq-eqb _ _ d) }
-
--- samples compared first
-module _ (text : List ℕ) (at samples : ℕ) (ms : List Mark) where
-  pub is-none : none ≡ capped (line samplesWord text at) → Astray ≡ nextOf (noteIs samples ms text at)
-  unfolding noteIs
+-- samples beside given ones
+module _ (text : List ℕ) (at samples : ℕ) where
+  pub is-none : none ≡ capped (line samplesWord text at) → Astray ≡ nextOf (samplesIs samples text at)
+  unfolding samplesIs
   is-none e = sym (rw (no-number (line samplesWord text at) e))
 
   module _ {n a : ℕ} (small : samples < most) (e : whole n a ≡ capped (line samplesWord text at)) where
-    pub is-other : (n ≡ samples → ⊥) → Astray ≡ nextOf (noteIs samples ms text at)
-    unfolding noteIs
+    pub is-other : (n ≡ samples → ⊥) → Astray ≡ nextOf (samplesIs samples text at)
+    unfolding samplesIs
     is-other f =
         let h = number-held (line samplesWord text at) e in
         let d : h .real ≡ samples → ⊥ = λ x. f (h .held ∙ omega arith) in
         sym (rw (h .first, ne-eqb _ _ d))
 
-    pub is-same : {r : Next} → n ≡ samples → r ≡ nextOf (marksAre ms text a) → r ≡ nextOf (noteIs samples ms text at)
-    unfolding noteIs
-    is-same f g =
+    pub is-same : n ≡ samples → To a ≡ nextOf (samplesIs samples text at)
+    unfolding samplesIs
+    is-same f =
         let h = number-held (line samplesWord text at) e in
         let u = h .held in
         let d : h .real ≡ samples = omega arith in
-        rw (h .first, eq-eqb _ _ d) g
+        sym (rw (h .first, eq-eqb _ _ d))

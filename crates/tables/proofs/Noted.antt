@@ -8,13 +8,14 @@ use lib.ListN.{length, drop, length-append, length-drop}
 use borrow.Author.Tests.{lt-leb}
 use Rattle.rules.specs.Listing.{lineEnd, lawWord, samplesWord}
 use Rattle.rows.specs.declared.Row.{Row}
+use Rattle.rows.specs.Limits.{largestBlock}
 use Rattle.marks.specs.Marks.{Mark, Note, markOf}
 use Rattle.keyvalue.specs.Reading.{whole, none, give, begins}
 use Rattle.keyvalue.specs.Lines.{lineOf, line, ranged}
 use Rattle.keyvalue.proofs.Exact.{Back, back-give, back-after, back-number, back-line, back-ranged, onward}
-use Rattle.tables.specs.Table.{promptWord, row, rowsFrom, tableIn, rowText, tableText}
+use Rattle.tables.specs.Table.{promptWord, mostPlace, row, rowsFrom, tableIn, rowText, tableText}
 use Rattle.tables.specs.Noted.{Listed, markWord, comma, markLine, markLinesFrom, markLines}
-use Rattle.tables.specs.Noted.{listed, listedFrom, listedIn, markText, marksText, noteText, listedText}
+use Rattle.tables.specs.Noted.{listed, listedFrom, listedAt, listedIn, markText, marksText, noteText, listedText}
 use Rattle.tables.proofs.Exact.{Sayable, Each, row-back, row-some}
 use Rattle.tables.proofs.Noting.{noted-ending}
 
@@ -23,8 +24,8 @@ pub record SayableMark (m : Mark) : Type 0 where
   pub octets : m .octets < 10 ^ 20
   pub samples : m .samples < 10 ^ 20
 
-pub record SayableAll (x : Listed) : Type 0 where
-  pub row : Sayable (x .row)
+pub record SayableAll (far : ℕ) (x : Listed) : Type 0 where
+  pub row : Sayable far (x .row)
   pub law : x .note .law ≤ 1
   pub samples : x .note .samples < 10 ^ 20
   pub marks : Each SayableMark (x .note .marks)
@@ -81,7 +82,7 @@ marks-back ms text i rest h e f =
     marks-from (suc (length text)) [] ms text i rest h (omega (arith, l, length-drop i text, marks-some ms)) e f
 
 -- a greeting's lines, up to those of another
-module _ (x : Listed) (h : SayableAll x) (text : List ℕ) (i : ℕ) (rest : List ℕ)
+module _ (far : ℕ) (l : far ≤ largestBlock) (x : Listed) (h : SayableAll far x) (text : List ℕ) (i : ℕ) (rest : List ℕ)
     (e : drop i text ≡ rowText (x .row) ++ (noteText (x .note) ++ rest)) (f : begins markWord rest ≡ false) where
   abbrev n : Note
   n = x .note
@@ -115,24 +116,24 @@ module _ (x : Listed) (h : SayableAll x) (text : List ℕ) (i : ℕ) (rest : Lis
       let b = length-append (lineOf samplesWord (n .samples)) (marksText (n .marks)) in
       omega arith
 
-  listed-back : listed text i ≡ whole x (i + length (rowText (x .row)) + length (noteText n))
+  listed-back : listed far text i ≡ whole x (i + length (rowText (x .row)) + length (noteText n))
   unfolding listed
   listed-back =
-      let a = row-back (x .row) (h .row) .reads text i (noteText n ++ rest) e in
+      let a = row-back far l (x .row) (h .row) .reads text i (noteText n ++ rest) e in
       let b = back-ranged lawWord 0 1 (n .law) (omega (arith, h .law)) (omega arith) (h .law) .reads text i₁ _ after-row in
       let c = back-line samplesWord (n .samples) (h .samples) .reads text i₂ _ after-law in
       let d = marks-back (n .marks) text i₃ rest (h .marks) after-samples f in
       rw (a, b, c, d) (ap (whole x) end)
 
-listed-from : (more : ℕ) (done xs : List Listed) (text : List ℕ) (i : ℕ) → Each SayableAll xs → length xs ≤ more → drop i text ≡ listedText xs
-    → listedFrom more done text i ≡ whole (done ++ xs) (i + length (listedText xs))
+listed-from : (far : ℕ) → far ≤ largestBlock → (more : ℕ) (done xs : List Listed) (text : List ℕ) (i : ℕ) → Each (SayableAll far) xs
+    → length xs ≤ more → drop i text ≡ listedText xs → listedFrom far more done text i ≡ whole (done ++ xs) (i + length (listedText xs))
 unfolding listedText listedFrom
-listed-from more done [] text i h l e =
+listed-from far r more done [] text i h l e =
     let n : length text ≤ i = omega (arith, length-drop i text, ap length e) in
     let z : i + 0 ≡ i = omega arith in
-    rw (z, append-nil) (noted-ending more done text i n)
-listed-from zero done (x ∷ xs) text i h l e = absurd (omega arith)
-listed-from (suc more) done (x ∷ xs) text i h l e =
+    rw (z, append-nil) (noted-ending far more done text i n)
+listed-from far r zero done (x ∷ xs) text i h l e = absurd (omega arith)
+listed-from far r (suc more) done (x ∷ xs) text i h l e =
     let w = rowText (x .row) in
     let v = noteText (x .note) in
     let n : i < length text = omega (arith, length-drop i text, ap length e, row-some (x .row) (v ++ listedText xs)) in
@@ -141,18 +142,22 @@ listed-from (suc more) done (x ∷ xs) text i h l e =
     let m : i + length (w ++ (v ++ listedText xs)) ≡ i + length w + length v + length (listedText xs) = omega arith in
     let j = i + length w + length v in
     let o = onward text v (listedText xs) (i + length w) (onward text w (v ++ listedText xs) i e) in
-    rw (lt-leb (length text) i n, listed-back x (h .0) text i (listedText xs) e (others-begin xs), m)
-    (listed-from more (done ++ (x ∷ [])) xs text j (h .1) (omega arith) o
+    rw (lt-leb (length text) i n, listed-back far r x (h .0) text i (listedText xs) e (others-begin xs), m)
+    (listed-from far r more (done ++ (x ∷ [])) xs text j (h .1) (omega arith) o
     ∙ ap (λ (l : List Listed). whole l (j + length (listedText xs))) (append-assoc done (x ∷ []) xs))
 
--- What is written is read.
-pub noted-back : (xs : List Listed) → Each SayableAll xs → length xs ≤ 32 → listedIn (listedText xs) ≡ whole xs (length (listedText xs))
-noted-back xs h l = listed-from 32 [] xs (listedText xs) 0 h l refl ∙ ap (whole xs) (omega arith)
+-- What is written is read, from any place on.
+pub listed-back-at : (far : ℕ) → far ≤ largestBlock → (xs : List Listed) (text : List ℕ) (i : ℕ) → Each (SayableAll far) xs → length xs ≤ 32
+    → drop i text ≡ listedText xs → listedAt far i text ≡ whole xs (i + length (listedText xs))
+listed-back-at far r xs text i h l e = listed-from far r 32 [] xs text i h l e
+
+pub noted-back : (xs : List Listed) → Each (SayableAll mostPlace) xs → length xs ≤ 32 → listedIn (listedText xs) ≡ whole xs (length (listedText xs))
+noted-back xs h l = listed-back-at mostPlace (omega arith) xs (listedText xs) 0 h l refl ∙ ap (whole xs) (omega arith)
 
 -- after a row stands a line of another key
-row-not-here : (text : List ℕ) (i : ℕ) → begins promptWord (drop i text) ≡ false → row text i ≡ none
+pub row-not-here : (far : ℕ) (text : List ℕ) (i : ℕ) → begins promptWord (drop i text) ≡ false → row far text i ≡ none
 unfolding row ranged line
-row-not-here text i e = rw e
+row-not-here far text i e = rw e
 
 law-not-here : (text : List ℕ) (i : ℕ) → begins lawWord (drop i text) ≡ false → ranged lawWord 0 1 text i ≡ none
 unfolding ranged line
@@ -172,28 +177,31 @@ rows-begin [] = refl
 rows-begin (r ∷ rows) = refl
 
 -- R-8's lines with a greeting are none of R-6's.
-pub early-refuses : (x : Listed) (xs : List Listed) → Sayable (x .row) → tableIn (listedText (x ∷ xs)) ≡ none
+pub early-refuses : (x : Listed) (xs : List Listed) → Sayable mostPlace (x .row) → tableIn (listedText (x ∷ xs)) ≡ none
 unfolding listedText rowsFrom
 early-refuses x xs h =
     let w = rowText (x .row) in
     let rest = noteText (x .note) ++ listedText xs in
-    let a = row-back (x .row) h .reads (w ++ rest) 0 rest refl in
+    let a = row-back mostPlace (omega arith) (x .row) h .reads (w ++ rest) 0 rest refl in
     let l = length-append w rest in
     let v : length w < length (w ++ rest) = omega (arith, note-some (x .note) (listedText xs)) in
     let d = onward (w ++ rest) w rest 0 refl in
     let z : 0 + length w ≡ length w = omega arith in
-    let b : row (w ++ rest) (0 + length w) ≡ none =
-    row-not-here (w ++ rest) (0 + length w) (ap (begins promptWord) d ∙ note-begins (x .note) (listedText xs)) in
+    let b : row mostPlace (w ++ rest) (0 + length w) ≡ none =
+    row-not-here mostPlace (w ++ rest) (0 + length w) (ap (begins promptWord) d ∙ note-begins (x .note) (listedText xs)) in
     rw (lt-leb (length (w ++ rest)) 0 (omega arith), a, lt-leb (length (w ++ rest)) (0 + length w) (omega arith), b)
 
--- And the other way round.
-pub noted-refuses : (r : Row) (rows : List Row) → Sayable r → listedIn (tableText (r ∷ rows)) ≡ none
+-- And the other way round, from any place on.
+pub rows-refused : (far : ℕ) → far ≤ largestBlock → (r : Row) (rows : List Row) → Sayable far r → (text : List ℕ) (i : ℕ)
+    → drop i text ≡ tableText (r ∷ rows) → listedAt far i text ≡ none
 unfolding tableText listedFrom listed
-noted-refuses r rows h =
+rows-refused far s r rows h text i e =
     let w = rowText r in
     let rest = tableText rows in
-    let a = row-back r h .reads (w ++ rest) 0 rest refl in
-    let d = onward (w ++ rest) w rest 0 refl in
-    let b : ranged lawWord 0 1 (w ++ rest) (0 + length w) ≡ none =
-    law-not-here (w ++ rest) (0 + length w) (ap (begins lawWord) d ∙ rows-begin rows) in
-    rw (lt-leb (length (w ++ rest)) 0 (omega (arith, row-some r rest)), a, b)
+    let a = row-back far s r h .reads text i rest e in
+    let d = onward text w rest i e in
+    let b : ranged lawWord 0 1 text (i + length w) ≡ none = law-not-here text (i + length w) (ap (begins lawWord) d ∙ rows-begin rows) in
+    rw (lt-leb (length text) i (omega (arith, ap length e, length-drop i text, row-some r rest)), a, b)
+
+pub noted-refuses : (r : Row) (rows : List Row) → Sayable mostPlace r → listedIn (tableText (r ∷ rows)) ≡ none
+noted-refuses r rows h = rows-refused mostPlace (omega arith) r rows h (tableText (r ∷ rows)) 0 refl

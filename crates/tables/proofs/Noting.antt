@@ -8,10 +8,11 @@ use lib.ListN.{length, take, drop, set, length-append, take-append-drop}
 use lib.Seq.{take-suc-set, drop-set-lt, drop-drop}
 use borrow.Author.Tests.{le-leb, lt-leb}
 use Rattle.rows.specs.declared.Row.{Row}
+use Rattle.marks.specs.Marks.{Note}
 use Rattle.keyvalue.specs.Reading.{Read, whole, none, andThen}
 use Rattle.keyvalue.proofs.Exact.{got-value, got-place}
 use Rattle.tables.specs.declared.Count.the-variants.{Greetings, Wrong}
-use Rattle.tables.specs.Noted.{Listed, listed, listedFrom, listedIn, rowsListed}
+use Rattle.tables.specs.Noted.{Listed, listed, listedFrom, listedAt, rowsListed, listing}
 use Rattle.tables.specs.Fills.{PutsRow, FillsNoted, lawsListed}
 use Rattle.tables.specs.Passing.{Headed, headOf, headIn}
 use Rattle.tables.proofs.Reading.{Rowed, rowed-first, rowed-turn, rowed-laid, no-count}
@@ -31,25 +32,33 @@ unfolding rowsListed
 length-rows-listed [] = refl
 length-rows-listed (x ∷ xs) = ap suc (length-rows-listed xs)
 
+-- greetings with their notes are those greetings
+pub rows-listing : (rows : List Row) (notes : List Note) → length notes ≡ length rows → rowsListed (listing rows notes) ≡ rows
+unfolding rowsListed listing
+rows-listing [] notes l = refl
+rows-listing (r ∷ rows) [] l = absurd (omega arith)
+rows-listing (r ∷ rows) (n ∷ notes) l = ap (λ (x : List Row). r ∷ x) (rows-listing rows notes (omega arith))
+
 -- at the text's end the greetings are done
-pub noted-ending : (more : ℕ) (done : List Listed) (text : List ℕ) (at : ℕ) → length text ≤ at → listedFrom more done text at ≡ whole done at
+pub noted-ending : (far more : ℕ) (done : List Listed) (text : List ℕ) (at : ℕ) → length text ≤ at
+    → listedFrom far more done text at ≡ whole done at
 unfolding listedFrom
-noted-ending zero done text at h = rw (le-leb (length text) at h)
-noted-ending (suc more) done text at h = rw (le-leb (length text) at h)
+noted-ending far zero done text at h = rw (le-leb (length text) at h)
+noted-ending far (suc more) done text at h = rw (le-leb (length text) at h)
 
 -- where the reading stands
-pub record Noting (text cells₀ cells laws₀ laws : List ℕ) (k at : ℕ) : Type 0 where
+pub record Noting (far from : ℕ) (text cells₀ cells laws₀ laws : List ℕ) (k at : ℕ) : Type 0 where
   pub done : List Listed
   pub count : length done ≡ k
   pub few : k ≤ 32
-  pub left : listedIn text ≡ listedFrom (32 - k) done text at
+  pub left : listedAt far from text ≡ listedFrom far (32 - k) done text at
   pub rows : Rowed cells₀ cells (rowsListed done) k
   pub lawful : take k laws ≡ lawsListed done
   pub rest : drop k laws ≡ drop k laws₀
 
-pub noting-first : (text cells laws : List ℕ) → Noting text cells cells laws laws 0 0
+pub noting-first : (far from : ℕ) (text cells laws : List ℕ) → Noting far from text cells cells laws laws 0 from
 unfolding rowsListed lawsListed
-noting-first text cells laws =
+noting-first far from text cells laws =
     record { done = []; count = refl; few = omega arith; left = refl; rows = rowed-first cells; lawful = refl; rest = refl }
 
 wrong : {found : Read (List Listed)} → found ≡ none → (cells cells′ laws laws′ : List ℕ) → FillsNoted found cells cells′ laws laws′ Wrong
@@ -82,36 +91,36 @@ laws-turn : (laws₀ laws : List ℕ) (k law : ℕ) → k < length laws → drop
 laws-turn laws₀ laws k law h e =
     drop-set-lt (k + 1) laws k law (omega arith) ∙ sym (drop-drop 1 k laws) ∙ ap (drop 1) e ∙ drop-drop 1 k laws₀
 
-module _ {text cells₀ cells laws₀ laws : List ℕ} {k at : ℕ} (s : Noting text cells₀ cells laws₀ laws k at) where
-  pub noting-end : 97 ≤ length cells₀ → length text ≤ at → FillsNoted (listedIn text) cells₀ (set cells 0 k) laws₀ laws (Greetings k)
+module _ {far from : ℕ} {text cells₀ cells laws₀ laws : List ℕ} {k at : ℕ} (s : Noting far from text cells₀ cells laws₀ laws k at) where
+  pub noting-end : 97 ≤ length cells₀ → length text ≤ at → FillsNoted (listedAt far from text) cells₀ (set cells 0 k) laws₀ laws (Greetings k)
   noting-end l h =
-      let e : listedIn text ≡ whole (s .done) at = s .left ∙ noted-ending (32 - k) (s .done) text at h in
+      let e : listedAt far from text ≡ whole (s .done) at = s .left ∙ noted-ending far (32 - k) (s .done) text at h in
       let c = rowed-laid cells₀ (omega arith) (length-rows-listed (s .done) ∙ s .count) (s .rows) in
       let w : laws ≡ lawsListed (s .done) ++ drop (length (s .done)) laws₀ = sym (take-append-drop k laws) ∙ rw (s .lawful, s .rest, s .count) in
       rw e (record { count = ap Greetings (sym (s .count)); filled = (c, w); few = λ n q. let z : k ≡ n = cc in let f = s .few in omega arith })
 
-  pub noting-full : (cells′ laws′ : List ℕ) → at < length text → k ≡ 32 → FillsNoted (listedIn text) cells₀ cells′ laws₀ laws′ Wrong
+  pub noting-full : (cells′ laws′ : List ℕ) → at < length text → k ≡ 32 → FillsNoted (listedAt far from text) cells₀ cells′ laws₀ laws′ Wrong
   unfolding listedFrom
   noting-full cells′ laws′ h n =
       let z : 32 - k ≡ 0 = omega arith in
       wrong (s .left ∙ rw (z, lt-leb (length text) at h)) cells₀ cells′ laws₀ laws′
 
   module _ (h : at < length text) (n : k ≡ 32 → ⊥) where
-    step : listedFrom (32 - k) (s .done) text at ≡ andThen (listed text at) (λ r j. listedFrom (32 - (k + 1)) (s .done ++ (r ∷ [])) text j)
+    step : listedFrom far (32 - k) (s .done) text at ≡ andThen (listed far text at) (λ r j. listedFrom far (32 - (k + 1)) (s .done ++ (r ∷ [])) text j)
     unfolding listedFrom
     step = let f = s .few in let z : 32 - k ≡ suc (32 - (k + 1)) = omega arith in rw (z, lt-leb (length text) at h)
 
-    pub noting-none : (cells′ laws′ : List ℕ) → none ≡ headIn (listed text at) → FillsNoted (listedIn text) cells₀ cells′ laws₀ laws′ Wrong
-    noting-none cells′ laws′ e = wrong (s .left ∙ step ∙ rw (not-listed (listed text at) e)) cells₀ cells′ laws₀ laws′
+    pub noting-none : (cells′ laws′ : List ℕ) → none ≡ headIn (listed far text at) → FillsNoted (listedAt far from text) cells₀ cells′ laws₀ laws′ Wrong
+    noting-none cells′ laws′ e = wrong (s .left ∙ step ∙ rw (not-listed (listed far text at) e)) cells₀ cells′ laws₀ laws′
 
-    pub noting-turn : {cells′ : List ℕ} {r : Row} {law j : ℕ} → k < length laws → whole (headOf r law) j ≡ headIn (listed text at)
-        → PutsRow r (1 + 3 * k) cells cells′ → Noting text cells₀ cells′ laws₀ (set laws k law) (k + 1) j
+    pub noting-turn : {cells′ : List ℕ} {r : Row} {law j : ℕ} → k < length laws → whole (headOf r law) j ≡ headIn (listed far text at)
+        → PutsRow r (1 + 3 * k) cells cells′ → Noting far from text cells₀ cells′ laws₀ (set laws k law) (k + 1) j
     noting-turn {cells′} {r} {law} {j} l e p =
-        let q = kept (listed text at) e in
+        let q = kept (listed far text at) e in
         turn (q .real) (q .first) (q .row-is) (q .law-is)
       where
-        turn : (x : Listed) → listed text at ≡ whole x j → x .row ≡ r → x .note .law ≡ law
-            → Noting text cells₀ cells′ laws₀ (set laws k law) (k + 1) j
+        turn : (x : Listed) → listed far text at ≡ whole x j → x .row ≡ r → x .note .law ≡ law
+            → Noting far from text cells₀ cells′ laws₀ (set laws k law) (k + 1) j
         turn x f u v = record {
           done = s .done ++ (x ∷ []);
           count = length-append (s .done) (x ∷ []) ∙ ap (λ (n : ℕ). n + 1) (s .count);

@@ -10,7 +10,7 @@ use Rattle.rows.specs.declared.Row.{Row}
 use Rattle.rows.specs.Cells.{cellsOf, laid}
 use Rattle.keyvalue.specs.Reading.{Read, whole, none, andThen}
 use Rattle.tables.specs.declared.Count.the-variants.{Greetings, Wrong}
-use Rattle.tables.specs.Table.{row, rowsFrom, tableIn}
+use Rattle.tables.specs.Table.{mostPlace, row, rowsFrom, tableIn}
 use Rattle.tables.specs.Fills.{PutsRow, Fills}
 use Rattle.rows.proofs.Cells.{cells-snoc}
 use Rattle.tables.proofs.Exact.{ending}
@@ -109,14 +109,14 @@ module _ {text cells₀ cells : List ℕ} {k at : ℕ} (s : Stand text cells₀ 
       wrong (s .left ∙ rw (z, lt-leb (length text) at h)) cells₀ cells′
 
   module _ (h : at < length text) (n : k ≡ 32 → ⊥) where
-    step : rowsFrom (32 - k) (s .done) text at ≡ andThen (row text at) (λ r j. rowsFrom (32 - (k + 1)) (s .done ++ (r ∷ [])) text j)
+    step : rowsFrom (32 - k) (s .done) text at ≡ andThen (row mostPlace text at) (λ r j. rowsFrom (32 - (k + 1)) (s .done ++ (r ∷ [])) text j)
     unfolding rowsFrom
     step = let f = s .few in let z : 32 - k ≡ suc (32 - (k + 1)) = omega arith in rw (z, lt-leb (length text) at h)
 
-    pub stand-none : (cells′ : List ℕ) → none ≡ row text at → Fills (tableIn text) cells₀ cells′ Wrong
+    pub stand-none : (cells′ : List ℕ) → none ≡ row mostPlace text at → Fills (tableIn text) cells₀ cells′ Wrong
     stand-none cells′ e = wrong (s .left ∙ step ∙ rw (← e)) cells₀ cells′
 
-    pub stand-turn : {cells′ : List ℕ} {r : Row} {j : ℕ} → whole r j ≡ row text at → PutsRow r (1 + 3 * k) cells cells′
+    pub stand-turn : {cells′ : List ℕ} {r : Row} {j : ℕ} → whole r j ≡ row mostPlace text at → PutsRow r (1 + 3 * k) cells cells′
         → Stand text cells₀ cells′ (k + 1) j
     stand-turn {cells′} {r} {j} e p =
         record {

@@ -59,7 +59,7 @@ pub record Putting (all left out₀ : List ℕ) (at : ℕ) (out : List ℕ) (end
   pub parts : done ++ left ≡ all
   pub puts : Puts out₀ at done out end
 
-puts-none : (out : List ℕ) (at : ℕ) → Puts out at [] out at
+pub puts-none : (out : List ℕ) (at : ℕ) → Puts out at [] out at
 puts-none out at = record { says = sym (append-nil (take at out)); rest = refl; place = omega arith; size = refl }
 
 pub putting-first : {all left : List ℕ} (out : List ℕ) (at : ℕ) → left ≡ all → Putting all left out at out at
@@ -176,23 +176,24 @@ text-parts : (t hs ms : List ℕ) (n p i : ℕ) → i < n
 text-parts t hs ms n p i h =
     text-left t hs ms n p i h ∙ append-assoc (rowLaid t i) (noteLaid hs ms p i) (textLeft t hs ms n (p + 2 * getD hs (1 + 3 * i + 2) 0) (i + 1))
 
-module _ (t hs ms : List ℕ) (n p i : ℕ) {all out₀ out : List ℕ} {at : ℕ} (q : Putting all (textLeft t hs ms n p i) out₀ 0 out at) (h : i < n) where
-  abbrev more : List ℕ
-  more = textLeft t hs ms n (p + 2 * getD hs (1 + 3 * i + 2) 0) (i + 1)
+module _ (t hs ms : List ℕ) (n p i : ℕ) {all out₀ out : List ℕ} {start at : ℕ} (q : Putting all (textLeft t hs ms n p i) out₀ start out at) (h : i < n)
+  where
+    abbrev more : List ℕ
+    more = textLeft t hs ms n (p + 2 * getD hs (1 + 3 * i + 2) 0) (i + 1)
 
-  pub row-fits : length all ≤ length out₀ → at + length (rowLaid t i) ≤ length out
-  row-fits l = putting-fits q (rowLaid t i) (noteLaid hs ms p i ++ more) (text-parts t hs ms n p i h) (omega arith)
+    pub row-fits : start + length all ≤ length out₀ → at + length (rowLaid t i) ≤ length out
+    row-fits l = putting-fits q (rowLaid t i) (noteLaid hs ms p i ++ more) (text-parts t hs ms n p i h) (omega arith)
 
-  module _ {out′ : List ℕ} {a : ℕ} (r : Puts out at (rowLaid t i) out′ a) where
-    row-put : Putting all (noteLaid hs ms p i ++ more) out₀ 0 out′ a
-    row-put = putting-turn q (text-parts t hs ms n p i h) r
+    module _ {out′ : List ℕ} {a : ℕ} (r : Puts out at (rowLaid t i) out′ a) where
+      row-put : Putting all (noteLaid hs ms p i ++ more) out₀ start out′ a
+      row-put = putting-turn q (text-parts t hs ms n p i h) r
 
-    pub note-fits : length all ≤ length out₀ → a + length (notePart hs ms p i) ≤ length out′
-    note-fits l = rw (note-part hs ms p i) (putting-fits row-put (noteLaid hs ms p i) more refl (omega arith))
+      pub note-fits : start + length all ≤ length out₀ → a + length (notePart hs ms p i) ≤ length out′
+      note-fits l = rw (note-part hs ms p i) (putting-fits row-put (noteLaid hs ms p i) more refl (omega arith))
 
-    pub note-put : {out″ : List ℕ} {b m : ℕ} → Puts out′ a (notePart hs ms p i) out″ b → m ≡ getD hs (1 + 3 * i + 2) 0
-        → Putting all (textLeft t hs ms n (p + 2 * m) (i + 1)) out₀ 0 out″ b
-    note-put s e = rw e (putting-turn row-put refl (puts-as (note-part hs ms p i) s))
+      pub note-put : {out″ : List ℕ} {b m : ℕ} → Puts out′ a (notePart hs ms p i) out″ b → m ≡ getD hs (1 + 3 * i + 2) 0
+          → Putting all (textLeft t hs ms n (p + 2 * m) (i + 1)) out₀ start out″ b
+      note-put s e = rw e (putting-turn row-put refl (puts-as (note-part hs ms p i) s))
 
 -- the second list and the marks, as they are lent
 abbrev fromOn : List ℕ → ℕ → List ℕ

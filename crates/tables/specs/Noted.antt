@@ -13,7 +13,7 @@ use Rattle.rows.specs.Limits.{mostGreetings}
 use Rattle.keyvalue.specs.Reading.{Read, whole, Reader, andThen, _>>=_, give, begins, after, ended, number}
 use Rattle.keyvalue.specs.Lines.{lineOf, line, ranged}
 use Rattle.marks.specs.Marks.{Mark, Note, markOf}
-use Rattle.tables.specs.Table.{row, rowText}
+use Rattle.tables.specs.Table.{mostPlace, row, rowText}
 
 -- "mark=", and the comma; "law=" and "samples=" are the listing's words
 abbrev pub markWord : List ℕ
@@ -41,23 +41,27 @@ unfoldable pub markLines : Reader (List Mark)
 markLines text i = markLinesFrom (suc (length text)) [] text i
 
 -- a greeting's lines: R-6's three, and these
-unfoldable pub listed : Reader Listed
-listed = do
-  r ← row
+unfoldable pub listed : ℕ → Reader Listed
+listed most = do
+  r ← row most
   law ← ranged lawWord 0 mostLaw
   samples ← line samplesWord
   ms ← markLines
   give (record { row = r; note = record { law = law; samples = samples; marks = ms } })
 
 -- up to `more` greetings after those that are done, to the text's end
-unfoldable pub listedFrom : ℕ → List Listed → Reader (List Listed)
-listedFrom zero done text i = ended done text i
-listedFrom (suc more) done text i =
-    cond (leb (length text) i) (whole done i) (andThen (listed text i) (λ r j. listedFrom more (done ++ (r ∷ [])) text j))
+unfoldable pub listedFrom : ℕ → ℕ → List Listed → Reader (List Listed)
+listedFrom most zero done text i = ended done text i
+listedFrom most (suc more) done text i =
+    cond (leb (length text) i) (whole done i) (andThen (listed most text i) (λ r j. listedFrom most more (done ++ (r ∷ [])) text j))
+
+-- the greetings that a text lists from a place on, their starts and counts of octets up to so many
+abbrev pub listedAt : ℕ → ℕ → List ℕ → Read (List Listed)
+listedAt most from text = listedFrom most mostGreetings [] text from
 
 -- the greetings that a text of R-8's lines lists
 abbrev pub listedIn : List ℕ → Read (List Listed)
-listedIn text = listedFrom mostGreetings [] text 0
+listedIn text = listedAt mostPlace 0 text
 
 unfoldable pub rowsListed : List Listed → List Row
 rowsListed [] = []

@@ -29,9 +29,9 @@ pub record Headed : Type 0 where
 abbrev pub headOf : Row → ℕ → Headed
 headOf r law = record { row = r; law = law }
 
-unfoldable pub headed : Reader Headed
-headed = do
-  r ← row
+unfoldable pub headed : ℕ → Reader Headed
+headed most = do
+  r ← row most
   law ← ranged lawWord 0 mostLaw
   give (headOf r law)
 
@@ -68,12 +68,24 @@ abbrev pub nextOf : {A : Type 0} → Read A → Next
 nextOf (whole a i) = To i
 nextOf none = Astray
 
+-- this mark
+unfoldable pub markIs : ℕ → ℕ → Reader ℕ
+markIs octets samples text i =
+    andThen (markLine text i) (λ q j. cond (eqb (q .octets) octets) (cond (eqb (q .samples) samples) (whole 0 j) none) none)
+
+-- no mark
+unfoldable pub noMark : Reader ℕ
+noMark text i = cond (begins markWord (drop i text)) none (whole 0 i)
+
 -- these marks and no others, compared one by one
 unfoldable pub marksAre : List Mark → Reader ℕ
-marksAre [] text i = cond (begins markWord (drop i text)) none (whole 0 i)
-marksAre (m ∷ ms) text i =
-    andThen (markLine text i) (λ q j. cond (eqb (q .octets) (m .octets)) (cond (eqb (q .samples) (m .samples)) (marksAre ms text j) none) none)
+marksAre [] text i = noMark text i
+marksAre (m ∷ ms) text i = andThen (markIs (m .octets) (m .samples) text i) (λ z j. marksAre ms text j)
+
+-- these samples
+unfoldable pub samplesIs : ℕ → Reader ℕ
+samplesIs samples text i = andThen (line samplesWord text i) (λ s j. cond (eqb s samples) (whole 0 j) none)
 
 -- these samples and these marks
 unfoldable pub noteIs : ℕ → List Mark → Reader ℕ
-noteIs samples ms text i = andThen (line samplesWord text i) (λ s j. cond (eqb s samples) (marksAre ms text j) none)
+noteIs samples ms text i = andThen (samplesIs samples text i) (λ z j. marksAre ms text j)

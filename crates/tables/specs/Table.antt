@@ -22,22 +22,22 @@ startWord = 0x73 ∷ 0x74 ∷ 0x61 ∷ 0x72 ∷ 0x74 ∷ 0x3D ∷ []
 abbrev pub octetsWord : List ℕ
 octetsWord = 0x6F ∷ 0x63 ∷ 0x74 ∷ 0x65 ∷ 0x74 ∷ 0x73 ∷ 0x3D ∷ []
 
--- the greatest start or count of octets in such lines; no block has as many, so a larger one is TABLE by any reading
+-- the greatest start or count of octets in such lines: "a start or octet count above 65,535 is TABLE" (R-11; in R-6's blocks there was none)
 abbrev pub mostPlace : ℕ
 mostPlace = 65535
 
--- a greeting's three lines
-unfoldable pub row : Reader Row
-row = do
+-- a greeting's three lines; a start or a count of octets has so many at most
+unfoldable pub row : ℕ → Reader Row
+row most = do
   number ← ranged promptWord 1 mostNumber
-  start ← ranged startWord 0 mostPlace
-  octets ← ranged octetsWord 0 mostPlace
+  start ← ranged startWord 0 most
+  octets ← ranged octetsWord 0 most
   give (rowOf number start octets)
 
 -- up to `more` greetings after those that are done, to the text's end
 unfoldable pub rowsFrom : ℕ → List Row → Reader (List Row)
 rowsFrom zero done text i = ended done text i
-rowsFrom (suc more) done text i = cond (leb (length text) i) (whole done i) (andThen (row text i) (λ r j. rowsFrom more (done ++ (r ∷ [])) text j))
+rowsFrom (suc more) done text i = cond (leb (length text) i) (whole done i) (andThen (row mostPlace text i) (λ r j. rowsFrom more (done ++ (r ∷ [])) text j))
 
 -- the greetings that a text lists; an empty text lists none
 abbrev pub tableIn : List ℕ → Read (List Row)

@@ -1,16 +1,19 @@
-// The text of a store's table (document 02, R-6 and R-8): R-6's lines read, R-8's written, read and compared.
+// The text of a store's table (document 02, R-6, R-8 and R-11): R-6's lines read, R-8's written, read and compared, with R-11's first line.
 ghost use mathlib.Core.Path.{_≡_};
 ghost use Prim.Native.Nat.{ℕ, _+_, _*_, _-_, _^_, _≤_, _<_};
+ghost use mathlib.Core.List.{_++_};
 ghost use lib.ListN.{length, getD};
+ghost use Rattle.rows.specs.Limits.{largestBlock};
 ghost use Rattle.rows.specs.Rows.{rowOf};
 ghost use Rattle.rows.specs.Cells.{rowAt};
 ghost use Rattle.keyvalue.specs.Reading.{asRead, capped, most};
 ghost use Rattle.lines.specs.Puts.{Puts};
 ghost use Rattle.notes.specs.Cells.{marksIn};
 ghost use Rattle.tables.specs.Table.{row, tableIn, rowText};
-ghost use Rattle.tables.specs.Noted.{markLine, markLines, listed, listedIn, markText, marksText, noteText, listedText};
+ghost use Rattle.tables.specs.Noted.{markLine, markLines, listed, listedAt, markText, marksText, noteText, listedText};
+ghost use Rattle.tables.specs.Form.{formOf, formBy};
 ghost use Rattle.tables.specs.Fills.{asRow, PutsRow, Fills, FillsNoted};
-ghost use Rattle.tables.specs.Passing.{headed, noted, headIn, asHead, numberThen, heldMark, asMark, nextOf, noteIs, marksAre};
+ghost use Rattle.tables.specs.Passing.{headed, noted, headIn, asHead, numberThen, heldMark, asMark, nextOf, markIs, noMark, marksAre, samplesIs};
 ghost use Rattle.tables.specs.Held.{markAt, noteAt, heldIn, heldOf, NoteIn, AllIn, TextIn};
 use keyvalue::Told;
 
@@ -44,15 +47,41 @@ pub enum Next {
     Astray,
 }
 
-// "for each greeting `prompt`, `start`, `octets`".
-fn line_of(text: &[u8], at: usize) -> Line
-    ensures { λ r. ⌜ asRow r ≡ row (now (text .entry)) at ⌝ }
+// "without it, a start or octet count above 65,535 is TABLE"; with it, any that a block has may stand there.
+pub const MOST_PLACE: u32 = 65535;
+
+// Where a text's greetings begin, and the greatest start or count of octets that its lines may say.
+pub struct Form {
+    pub from: usize,
+    pub most: u32,
+}
+
+// "The new reader takes tables with and without it": the first line `form=2`.
+pub fn form_of(text: &[u8]) -> Form
+    ensures { λ r. ⌜ r ≡ formOf (now (text .entry)) ⌝ }
 {
-    match keyvalue::ranged_line(text, at, b"prompt=", 1, 65535) {
+    if keyvalue::has_word(text, 0, b"form=2\n") {
+        return Form {
+            from: 7,
+            most: rows::LARGEST_BLOCK as u32,
+        };
+    }
+    Form {
+        from: 0,
+        most: MOST_PLACE,
+    }
+}
+
+// "for each greeting `prompt`, `start`, `octets`".
+fn line_of(text: &[u8], at: usize, most: u32) -> Line
+    requires { ⌜ most ≤ largestBlock ⌝ }
+    ensures { λ r. ⌜ asRow r ≡ row most (now (text .entry)) at ⌝ }
+{
+    match keyvalue::ranged_line(text, at, b"prompt=", 1, rows::MOST_NUMBER as u32) {
         Told::Not => Line::Nothing,
-        Told::Got(number, a) => match keyvalue::ranged_line(text, a, b"start=", 0, 65535) {
+        Told::Got(number, a) => match keyvalue::ranged_line(text, a, b"start=", 0, most) {
             Told::Not => Line::Nothing,
-            Told::Got(start, b) => match keyvalue::ranged_line(text, b, b"octets=", 0, 65535) {
+            Told::Got(start, b) => match keyvalue::ranged_line(text, b, b"octets=", 0, most) {
                 Told::Not => Line::Nothing,
                 Told::Got(octets, c) => Line::Here(number, start, octets, c),
             },
@@ -81,7 +110,7 @@ pub fn read_rows(text: &[u8], cells: &mut [u32]) -> Count
         if k == 32 {
             return Count::Wrong;
         }
-        match line_of(text, at) {
+        match line_of(text, at, MOST_PLACE) {
             Line::Nothing => {
                 return Count::Wrong;
             }
@@ -97,10 +126,11 @@ pub fn read_rows(text: &[u8], cells: &mut [u32]) -> Count
 }
 
 // "prompt", "start", "octets", and "law": what of a greeting's lines the first pass keeps. "A law above 1 .. is TABLE".
-pub fn head_at(text: &[u8], at: usize) -> Head
-    ensures { λ r. ⌜ asHead r ≡ headed (now (text .entry)) at ⌝ }
+pub fn head_at(text: &[u8], at: usize, most: u32) -> Head
+    requires { ⌜ most ≤ largestBlock ⌝ }
+    ensures { λ r. ⌜ asHead r ≡ headed most (now (text .entry)) at ⌝ }
 {
-    match line_of(text, at) {
+    match line_of(text, at, most) {
         Line::Nothing => Head::Missing,
         Line::Here(number, start, octets, a) => match keyvalue::ranged_line(
             text,
@@ -175,10 +205,11 @@ fn note_past(text: &[u8], at: usize, law: u32) -> Next
 }
 
 // A greeting's lines, of which its row and its law are kept.
-fn listed_at(text: &[u8], at: usize) -> Head
-    ensures { λ r. ⌜ asHead r ≡ headIn (listed (now (text .entry)) at) ⌝ }
+fn listed_at(text: &[u8], at: usize, most: u32) -> Head
+    requires { ⌜ most ≤ largestBlock ⌝ }
+    ensures { λ r. ⌜ asHead r ≡ headIn (listed most (now (text .entry)) at) ⌝ }
 {
-    match head_at(text, at) {
+    match head_at(text, at, most) {
         Head::Missing => Head::Missing,
         Head::Begun(number, start, octets, law, a) => match note_past(text, a, law) {
             Next::Astray => Head::Missing,
@@ -187,18 +218,18 @@ fn listed_at(text: &[u8], at: usize) -> Head
     }
 }
 
-// The greetings that a text of R-8's lines lists, into a lent table, and their laws. What is refused leaves them in any state.
-pub fn read_noted(text: &[u8], cells: &mut [u32], laws: &mut [u32]) -> Count
-    requires { ⌜ (97 ≤ length (now cells)) × (32 ≤ length (now laws)) ⌝ }
-    ensures { λ r. ⌜ FillsNoted (listedIn (now (text .entry))) (now (cells .entry)) (now (cells .exit)) (now (laws .entry)) (now (laws .exit)) r ⌝ }
+// The greetings that a text of R-8's lines lists, in a form, into a lent table, and their laws. What is refused leaves them in any state.
+pub fn read_noted(text: &[u8], form: Form, cells: &mut [u32], laws: &mut [u32]) -> Count
+    requires { ⌜ (form .most ≤ largestBlock) × (97 ≤ length (now cells)) × (32 ≤ length (now laws)) ⌝ }
+    ensures { λ r. ⌜ FillsNoted (listedAt (form .most) (form .from) (now (text .entry))) (now (cells .entry)) (now (cells .exit)) (now (laws .entry)) (now (laws .exit)) r ⌝ }
 {
     let mut k = 0;
-    let mut at = 0;
+    let mut at = form.from;
     while at < text.len() {
         if k == 32 {
             return Count::Wrong;
         }
-        match listed_at(text, at) {
+        match listed_at(text, at, form.most) {
             Head::Missing => {
                 return Count::Wrong;
             }
@@ -214,40 +245,65 @@ pub fn read_noted(text: &[u8], cells: &mut [u32], laws: &mut [u32]) -> Count
     Count::Greetings(k)
 }
 
-// The marks of a text beside m marks in cells, one by one; the next place where they are the same. A cell of 4,294,967,295 would stand for more.
-fn marks_are(text: &[u8], at: usize, marks: &[u32], m: usize) -> Next
+// The mark of a text beside a given one; the next place where they are the same. 4,294,967,295 would stand for more.
+pub fn mark_is(text: &[u8], at: usize, octets: usize, samples: usize) -> Next
+    requires { ⌜ (octets < most) × (samples < most) ⌝ }
+    ensures { λ r. ⌜ r ≡ nextOf (markIs octets samples (now (text .entry)) at) ⌝ }
+{
+    match mark_at(text, at) {
+        Marked::Unmarked => Next::Astray,
+        Marked::There(o, s, next) => {
+            if rows::wide(o) != octets {
+                return Next::Astray;
+            }
+            if rows::wide(s) != samples {
+                return Next::Astray;
+            }
+            Next::To(next)
+        }
+    }
+}
+
+// No mark more.
+pub fn no_mark(text: &[u8], at: usize) -> Next
+    ensures { λ r. ⌜ r ≡ nextOf (noMark (now (text .entry)) at) ⌝ }
+{
+    if keyvalue::has_word(text, at, b"mark=") {
+        return Next::Astray;
+    }
+    Next::To(at)
+}
+
+// The marks of a text beside m marks in cells, one by one.
+pub fn marks_are(text: &[u8], at: usize, marks: &[u32], m: usize) -> Next
     requires { ⌜ (2 * m ≤ length (now marks)) × ((j : ℕ) → j < 2 * m → getD (now marks) j 0 < most) ⌝ }
     ensures { λ r. ⌜ r ≡ nextOf (marksAre (marksIn m (now (marks .entry))) (now (text .entry)) at) ⌝ }
 {
     let mut i = at;
     let mut j = 0;
     while j < m {
-        match mark_at(text, i) {
-            Marked::Unmarked => {
+        match mark_is(
+            text,
+            i,
+            rows::wide(marks[2 * j]),
+            rows::wide(marks[2 * j + 1]),
+        ) {
+            Next::Astray => {
                 return Next::Astray;
             }
-            Marked::There(octets, samples, next) => {
-                if octets != marks[2 * j] {
-                    return Next::Astray;
-                }
-                if samples != marks[2 * j + 1] {
-                    return Next::Astray;
-                }
+            Next::To(next) => {
                 i = next;
                 j += 1;
             }
         }
     }
-    if keyvalue::has_word(text, i, b"mark=") {
-        return Next::Astray;
-    }
-    Next::To(i)
+    no_mark(text, i)
 }
 
-// "samples or marks that the walk doesn't give": those of a text beside those that are given.
-pub fn note_is(text: &[u8], at: usize, samples: usize, marks: &[u32], m: usize) -> Next
-    requires { ⌜ (samples < most) × (2 * m ≤ length (now marks)) × ((j : ℕ) → j < 2 * m → getD (now marks) j 0 < most) ⌝ }
-    ensures { λ r. ⌜ r ≡ nextOf (noteIs samples (marksIn m (now (marks .entry))) (now (text .entry)) at) ⌝ }
+// "samples .. that the walk doesn't give": those of a text beside those that are given; the place of the marks.
+pub fn samples_are(text: &[u8], at: usize, samples: usize) -> Next
+    requires { ⌜ samples < most ⌝ }
+    ensures { λ r. ⌜ r ≡ nextOf (samplesIs samples (now (text .entry)) at) ⌝ }
 {
     match keyvalue::line_at(text, at, b"samples=") {
         Told::Not => Next::Astray,
@@ -255,7 +311,7 @@ pub fn note_is(text: &[u8], at: usize, samples: usize, marks: &[u32], m: usize) 
             if rows::wide(n) != samples {
                 return Next::Astray;
             }
-            marks_are(text, a, marks, m)
+            Next::To(a)
         }
     }
 }
@@ -355,6 +411,7 @@ fn put_note(heads: &[u32], k: usize, cells: &[u32], out: &mut [u8], at: usize) -
 fn octets_of(table: &[u32], heads: &[u32], marks: &[u32], n: usize) -> usize
     requires { ⌜ AllIn (now table) (now heads) (now marks) n ⌝ }
     ensures { λ r. ⌜ r ≡ length (listedText (heldIn (now (table .entry)) (now (heads .entry)) (now (marks .entry)) n)) ⌝ }
+    ensures most { λ r. ⌜ r ≤ 115964117079 * 32 ⌝ }
 {
     let mut sum = 0;
     let mut from = 0;
@@ -370,11 +427,18 @@ fn octets_of(table: &[u32], heads: &[u32], marks: &[u32], n: usize) -> usize
     sum
 }
 
-fn put_all(table: &[u32], heads: &[u32], marks: &[u32], n: usize, out: &mut [u8]) -> usize
-    requires { ⌜ (AllIn (now table) (now heads) (now marks) n) × (length (listedText (heldIn (now table) (now heads) (now marks) n)) ≤ length (now out)) ⌝ }
-    ensures { λ r. ⌜ Puts (now (out .entry)) 0 (listedText (heldIn (now (table .entry)) (now (heads .entry)) (now (marks .entry)) n)) (now (out .exit)) r ⌝ }
+fn put_all(
+    table: &[u32],
+    heads: &[u32],
+    marks: &[u32],
+    n: usize,
+    out: &mut [u8],
+    start: usize,
+) -> usize
+    requires { ⌜ (AllIn (now table) (now heads) (now marks) n) × (start + length (listedText (heldIn (now table) (now heads) (now marks) n)) ≤ length (now out)) ⌝ }
+    ensures { λ r. ⌜ Puts (now (out .entry)) start (listedText (heldIn (now (table .entry)) (now (heads .entry)) (now (marks .entry)) n)) (now (out .exit)) r ⌝ }
 {
-    let mut at = 0;
+    let mut at = start;
     let mut from = 0;
     let mut i = 0;
     while i < n {
@@ -387,18 +451,42 @@ fn put_all(table: &[u32], heads: &[u32], marks: &[u32], n: usize, out: &mut [u8]
     at
 }
 
-// How many octets the text of n greetings is.
-pub fn text_octets(table: &[u32], n: usize) -> usize
-    requires { ⌜ TextIn (now table) n ⌝ }
-    ensures { λ r. ⌜ r ≡ length (listedText (heldOf (now (table .entry)) n)) ⌝ }
+// "`form=2` when a start or octet count, or the block, exceeds 65,535": greetings lie inside the block, so its size tells.
+fn put_form(size: usize, out: &mut [u8]) -> usize
+    requires { ⌜ length (formBy size) ≤ length (now out) ⌝ }
+    ensures { λ r. ⌜ Puts (now (out .entry)) 0 (formBy size) (now (out .exit)) r ⌝ }
 {
-    octets_of(table, &table[97..], &table[194..], n)
+    if rows::wide(MOST_PLACE) < size {
+        return lines::put_word(b"form=2\n", out, 0);
+    }
+    0
+}
+
+// How many octets that line is.
+fn form_octets(size: usize) -> usize
+    ensures { λ r. ⌜ r ≡ length (formBy size) ⌝ }
+{
+    if rows::wide(MOST_PLACE) < size {
+        return 7;
+    }
+    0
+}
+
+// How many octets the text of n greetings in a block of a size is.
+pub fn text_octets(table: &[u32], n: usize, size: usize) -> usize
+    requires { ⌜ TextIn (now table) n ⌝ }
+    ensures { λ r. ⌜ r ≡ length (formBy size ++ listedText (heldOf (now (table .entry)) n)) ⌝ }
+{
+    let first = form_octets(size);
+    let rest = octets_of(table, &table[97..], &table[194..], n);
+    first + rest
 }
 
 // The text of n greetings, with room for just that; answers its octets. Saving always writes R-8's lines.
-pub fn put_text(table: &[u32], n: usize, out: &mut [u8]) -> usize
-    requires { ⌜ (TextIn (now table) n) × (length (listedText (heldOf (now table) n)) ≤ length (now out)) ⌝ }
-    ensures { λ r. ⌜ Puts (now (out .entry)) 0 (listedText (heldOf (now (table .entry)) n)) (now (out .exit)) r ⌝ }
+pub fn put_text(table: &[u32], n: usize, size: usize, out: &mut [u8]) -> usize
+    requires { ⌜ (TextIn (now table) n) × (length (formBy size ++ listedText (heldOf (now table) n)) ≤ length (now out)) ⌝ }
+    ensures { λ r. ⌜ Puts (now (out .entry)) 0 (formBy size ++ listedText (heldOf (now (table .entry)) n)) (now (out .exit)) r ⌝ }
 {
-    put_all(table, &table[97..], &table[194..], n, out)
+    let at = put_form(size, out);
+    put_all(table, &table[97..], &table[194..], n, out, at)
 }

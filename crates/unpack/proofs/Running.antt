@@ -1,4 +1,4 @@
--- Part after part: each keeps within the stream, and together they are its walk.
+-- Part after part: each keeps within the stream (`part-inside`), and together they are its walk.
 use Prim.Native.Nat.{ℕ, _+_, _*_, _≤_}
 use native.Mathlib.Omega.{arith}
 use native.Mathlib.Nat.{add-assoc}
@@ -8,11 +8,27 @@ use mathlib.Core.List.{List, [], _++_, append-assoc}
 use lib.ListN.{length, take, length-append}
 use lib.Seq.{length-take-le}
 use Rattle.rules.specs.declared.Ending.{Ending}
-use Rattle.rules.specs.Walk.{walkAll}
+use Rattle.rules.specs.declared.Ending.the-variants.{Done, Refused}
+use Rattle.rules.specs.Refusals.{verdict}
+use Rattle.rules.specs.Walk.{walkAsks, walkAll}
+use Rattle.rules.proofs.Walk.{walk-told}
 use Rattle.unpacking.specs.declared.Part.{Part}
-use Rattle.unpacking.specs.Parts.{NextPart, Goes}
+use Rattle.unpacking.specs.Parts.{sureFrames, NextPart, Goes}
+use Rattle.unpacking.proofs.Parted.{part-refused, part-allowed}
 use Rattle.unpacking.proofs.Whole.{Unpacked, last, part, Keeps, unpacked-whole}
 use Rattle.unpack.specs.Runs.{Before, none, one-more, NextSound, TellsWalk}
+
+-- a part from a place inside ends inside, with no more frames than octets are left
+pub part-inside : (stream : List ℕ) (law set at : ℕ) (out : List ℕ) {out′ : List ℕ} {p : Part} → NextPart stream law set at out out′ p → at ≤ length stream
+    → (p .at ≤ length stream) × (at + p .frames ≤ length stream)
+part-inside stream law set at out {p = p} n h = go (verdict (walkAsks law set (length stream))) refl
+  where
+    go : (v : Ending) → verdict (walkAsks law set (length stream)) ≡ v → (p .at ≤ length stream) × (at + p .frames ≤ length stream)
+    go Done e =
+        let t = rw (part-allowed stream law set at (length out) e) at n in
+        let d = walk-told stream law set (sureFrames (length out)) at (length out) in
+        (omega (arith, t .at, d .place, d .inside), omega (arith, t .frames, d .some, d .inside))
+    go (Refused why) e = let t = rw (part-refused stream law set at (length out) e) at n in (omega (arith, t .at), omega (arith, t .frames))
 
 -- the parts before, and those from there on, are all the parts
 all-parts : {stream : List ℕ} {law set : ℕ} {done sound : List ℕ} {count frames at place bit : ℕ} {end : Ending} → Before stream law set done count at

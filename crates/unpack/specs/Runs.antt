@@ -4,7 +4,8 @@ use mathlib.Core.Path.{_≡_}
 use mathlib.Core.Bool.{true}
 use mathlib.Core.List.{List, [], _++_}
 use lib.ListN.{length, take}
-use Rattle.rules.specs.Walk.{walkAll, samplesKept}
+use Rattle.rules.specs.Tools.{isLaw, isSet}
+use Rattle.rules.specs.Walk.{longest, walkAll, samplesKept}
 use Rattle.unpacking.specs.declared.Part.{Part}
 use Rattle.unpacking.specs.Parts.{NextPart}
 use Rattle.unpack.specs.declared.Total.{Total}
@@ -30,3 +31,12 @@ pub record TellsWalk (stream : List ℕ) (law set : ℕ) (t : Total) : Type 0 wh
   pub bit : t .bit ≡ walkAll stream law set (320 * length stream) .bit
   pub frames : t .frames ≡ length (walkAll stream law set (320 * length stream) .frames)
   pub samples : t .samples ≡ length (samplesKept (walkAll stream law set (320 * length stream) .frames))
+
+-- LAW, SET and LONG refuse nothing
+abbrev pub Allowed : ℕ → ℕ → ℕ → Type 0
+Allowed law set size = (isLaw law ≡ true) × (isSet set ≡ true) × (size ≤ longest)
+
+-- whatever was read: the totals of the walk of one stream
+pub record TellsOne (law set : ℕ) (t : Total) : Type 0 where
+  pub stream : List ℕ
+  pub tells : TellsWalk stream law set t

@@ -2,19 +2,23 @@
 // stands in crate `unpacking`, a recording in `replaying`, what the arguments mean in `options`, what is said in `console`.
 ghost use mathlib.Core.Path.{_≡_};
 ghost use mathlib.Core.Bool.{false};
-ghost use Prim.Native.Nat.{_≤_};
+ghost use Prim.Native.Nat.{_*_, _^_, _≤_, _<_};
 ghost use lib.ListN.{length};
 ghost use Rattle.rules.specs.declared.Ending.the-variants.{Done};
 ghost use Rattle.rules.specs.Walk.{longest};
-ghost use Rattle.recording.specs.Remembered.{heading, headed};
+ghost use Rattle.recording.specs.Remembered.{headingLength};
+ghost use Rattle.replaying.specs.Runs.{Reachable};
 ghost use Rattle.sounds.specs.Uses.{UsesUpTo};
-ghost use Rattle.unpack.specs.Runs.{NextSound, TellsWalk};
-use console::Got;
+ghost use Rattle.unpack.specs.Runs.{NextSound, TellsWalk, Allowed, TellsOne};
+use console::Source;
 use options::Flags;
 use options::Settings;
 use options::UNPACK;
 use recording::marking::HEADING;
+use replaying::Body;
 use replaying::Kind;
+use replaying::UNREAD;
+use replaying::WINDOW;
 use rules::Ending;
 use sounds::FAILED;
 use sounds::NOTHING;
@@ -69,6 +73,7 @@ fn use_part(
 fn parts(stream: &[u8], law: u32, set: u32, way: Way, page: &mut [u8], master: &mut [u8]) -> Total
     requires { ⌜ (length (now stream) ≤ longest) × (320 ≤ length (now page)) × (length (now page) ≤ length (now master)) ⌝ }
     ensures { λ r. ⌜ (r .wrong ≡ 0 → TellsWalk (now (stream .entry)) law set r) ⌝ }
+    ensures within { λ r. ⌜ (r .at ≤ length (now (stream .entry))) × (r .frames ≤ length (now (stream .entry))) × (r .samples ≤ 320 * r .frames) ⌝ }
 {
     let mut at = 0;
     let mut frames = 0;
@@ -97,14 +102,76 @@ fn parts(stream: &[u8], law: u32, set: u32, way: Way, page: &mut [u8], master: &
     }
 }
 
-// The second page is for the master.
-fn all_parts(stream: &[u8], law: u32, set: u32, way: Way) -> Total
-    requires { ⌜ length (now stream) ≤ longest ⌝ }
-    ensures { λ r. ⌜ (r .wrong ≡ 0 → TellsWalk (now (stream .entry)) law set r) ⌝ }
+// A stream that can't be read further.
+fn unread(at: usize, frames: usize, samples: usize) -> Total
+    ensures { λ r. ⌜ r .wrong ≡ 9 ⌝ }
 {
+    Total {
+        end: Ending::Done,
+        at,
+        bit: 0,
+        frames,
+        samples,
+        wrong: UNREAD,
+    }
+}
+
+// A stream, window by window: each begins where a frame does. The frames of a window are used part after part.
+fn windows(
+    b: Body,
+    law: u32,
+    set: u32,
+    way: Way,
+    window: &mut [u8],
+    page: &mut [u8],
+    master: &mut [u8],
+) -> Total
+    requires { ⌜ (Allowed law set (b .size)) × Reachable b × (320 ≤ length (now page)) × (length (now page) ≤ length (now master)) ⌝ }
+    ensures { λ r. ⌜ (r .wrong ≡ 0 → TellsOne law set r) ⌝ }
+{
+    let mut at = 0;
+    let mut frames = 0;
+    let mut samples = 0;
+    loop {
+        let got = replaying::window_at(b, at, window);
+        if got.failed {
+            return unread(at, frames, samples);
+        }
+        let n = got.count;
+        let t = parts(&window[..n], law, set, way, page, master);
+        let end = t.end;
+        let total = Total {
+            end,
+            at: at + t.at,
+            bit: t.bit,
+            frames: frames + t.frames,
+            samples: samples + t.samples,
+            wrong: t.wrong,
+        };
+        if t.wrong != NOTHING {
+            return total;
+        }
+        if !replaying::goes_further(rules::number_of(end), n, window.len(), b.size - at) {
+            return total;
+        }
+        if t.at == 0 {
+            return unread(at, frames, samples);
+        }
+        at = total.at;
+        frames = total.frames;
+        samples = total.samples;
+    }
+}
+
+// A window has room for more frames than a part has. The second page is for the master.
+fn all_parts(b: Body, law: u32, set: u32, way: Way) -> Total
+    requires { ⌜ (Allowed law set (b .size)) × Reachable b ⌝ }
+    ensures { λ r. ⌜ (r .wrong ≡ 0 → TellsOne law set r) ⌝ }
+{
+    let mut window = [0u8; WINDOW];
     let mut page = [0u8; 61440];
     let mut master = [0u8; 61440];
-    parts(stream, law, set, way, &mut page, &mut master)
+    windows(b, law, set, way, &mut window, &mut page, &mut master)
 }
 
 // A stream's totals as what came of it.
@@ -144,14 +211,14 @@ fn of_recording(t: replaying::Total) -> Outcome
 }
 
 // What came of the octets of a file's frames, by a law, written or compared.
-fn came_of(body: &[u8], law: u32, set: u32, records: bool, way: Way, tells: u32) -> Outcome
-    requires { ⌜ length (now body) ≤ longest ⌝ }
+fn came_of(b: Body, law: u32, set: u32, records: bool, way: Way, tells: u32) -> Outcome
+    requires { ⌜ (Allowed law set (b .size)) × Reachable b ⌝ }
 {
     if records {
-        let t = replaying::play(body, law, set, way, tells);
+        let t = replaying::play_file(b, law, set, way, tells);
         return of_recording(t);
     }
-    let t = all_parts(body, law, set, way);
+    let t = all_parts(b, law, set, way);
     of_stream(t)
 }
 
@@ -181,29 +248,29 @@ fn finish(o: Outcome, on: bool) {
     stop_well(o, on);
 }
 
-// Reads the file, and one octet more where it is too long; says what failed.
-fn read_file(name: &[u8], file: &mut [u8]) -> Got
-    ensures { λ r. ⌜ r .count ≤ length (now (file .exit)) ⌝ }
+// Opens the file, and finds out how many octets it has; says what failed.
+fn open_file(name: &[u8], part: &mut [u8]) -> Source
+    requires { ⌜ (1 ≤ length (now part)) × (length (now part) < 2 ^ 32) ⌝ }
 {
     let fd = console::open_in(name);
     if fd < 0 {
         console::failed(UNPACK, name, b"standard input");
-        return Got {
-            count: 0,
+        return Source {
+            fd,
+            size: 0,
             failed: true,
         };
     }
-    let got = console::read_part(fd, file);
-    if got.failed {
+    let source = console::source_of(fd, rules::LONGEST + HEADING, part);
+    if source.failed {
         console::failed(UNPACK, name, b"standard input");
     }
-    console::close(fd);
-    got
+    source
 }
 
 // A WAV file tells before its sound how long it is: the frames are read once for that.
-fn heading_written(body: &[u8], law: u32, set: u32, records: bool, way: Way) -> bool
-    requires { ⌜ length (now body) ≤ longest ⌝ }
+fn heading_written(b: Body, law: u32, set: u32, records: bool, way: Way) -> bool
+    requires { ⌜ (Allowed law set (b .size)) × Reachable b ⌝ }
 {
     if way.form != 2 {
         return true;
@@ -213,7 +280,10 @@ fn heading_written(body: &[u8], law: u32, set: u32, records: bool, way: Way) -> 
         fd: way.fd,
         form: sounds::COUNTED,
     };
-    let o = came_of(body, law, set, records, counted, replaying::TELLS_NOTHING);
+    let o = came_of(b, law, set, records, counted, replaying::TELLS_NOTHING);
+    if o.wrong != NOTHING {
+        return true;
+    }
     sounds::write_heading(way.fd, o.samples)
 }
 
@@ -225,9 +295,9 @@ fn tells_of(f: Flags) -> u32 {
     replaying::TELLS_LOSSES
 }
 
-// Writes the sound of a file to another.
-fn write_to(body: &[u8], law: u32, s: Settings, records: bool, name: &[u8])
-    requires { ⌜ length (now body) ≤ longest ⌝ }
+// Writes the sound of a file, whose name is `from`, to another.
+fn write_to(b: Body, law: u32, s: Settings, records: bool, from: &[u8], name: &[u8])
+    requires { ⌜ (Allowed law (s .set) (b .size)) × Reachable b ⌝ }
 {
     let f = s.flags;
     let fd = console::open_out(name);
@@ -240,11 +310,15 @@ fn write_to(body: &[u8], law: u32, s: Settings, records: bool, name: &[u8])
         fd,
         form: s.form,
     };
-    if !heading_written(body, law, s.set, records, way) {
+    if !heading_written(b, law, s.set, records, way) {
         console::failed(UNPACK, name, b"standard output");
         return;
     }
-    let o = came_of(body, law, s.set, records, way, tells_of(f));
+    let o = came_of(b, law, s.set, records, way, tells_of(f));
+    if o.wrong == UNREAD {
+        console::failed(UNPACK, from, b"standard input");
+        return;
+    }
     if o.wrong != NOTHING {
         console::failed(UNPACK, name, b"standard output");
         return;
@@ -282,9 +356,9 @@ fn conclude(o: Outcome, on: bool, fd: i32, name: &[u8]) {
     finish(o, on);
 }
 
-// Compares the sound of a file with a master.
-fn compare_with(body: &[u8], law: u32, s: Settings, records: bool, name: &[u8])
-    requires { ⌜ length (now body) ≤ longest ⌝ }
+// Compares the sound of a file, whose name is `from`, with a master.
+fn compare_with(b: Body, law: u32, s: Settings, records: bool, from: &[u8], name: &[u8])
+    requires { ⌜ (Allowed law (s .set) (b .size)) × Reachable b ⌝ }
 {
     let f = s.flags;
     let fd = console::open_in(name);
@@ -297,7 +371,11 @@ fn compare_with(body: &[u8], law: u32, s: Settings, records: bool, name: &[u8])
         fd,
         form: 0,
     };
-    let o = came_of(body, law, s.set, records, way, tells_of(f));
+    let o = came_of(b, law, s.set, records, way, tells_of(f));
+    if o.wrong == UNREAD {
+        console::failed(UNPACK, from, b"standard input");
+        return;
+    }
     conclude(o, f.on, fd, name);
 }
 
@@ -315,13 +393,13 @@ fn refuses(end: Ending) -> bool
 }
 
 // The octets of a file's frames, by their law, to the other file: OUTFILE or the master. `name` is INFILE.
-fn to_other(body: &[u8], law: u32, s: Settings, records: bool, name: &[u8])
-    requires { ⌜ length (now body) ≤ longest ⌝ }
+fn to_other(b: Body, law: u32, s: Settings, records: bool, name: &[u8])
+    requires { ⌜ (Allowed law (s .set) (b .size)) × Reachable b ⌝ }
 {
     let mut space = [0u8; 4095];
     if s.master != 0 {
         let n = console::file_name(s.master, &mut space);
-        compare_with(body, law, s, records, &space[..n]);
+        compare_with(b, law, s, records, name, &space[..n]);
         return;
     }
     let target = console::target_name(s, law, name, &mut space);
@@ -330,20 +408,22 @@ fn to_other(body: &[u8], law: u32, s: Settings, records: bool, name: &[u8])
         console::usage(UNPACK, b"OUTFILE's name would be too long");
         return;
     }
-    write_to(body, law, s, records, &space[..n]);
+    write_to(b, law, s, records, name, &space[..n]);
 }
 
 // The octets of a file's frames are judged before any of them is read.
-fn with_frames(body: &[u8], law: u32, s: Settings, records: bool, name: &[u8]) {
-    let e = rules::guard_stream(law, s.set, body.len());
+fn with_frames(b: Body, law: u32, s: Settings, records: bool, name: &[u8])
+    requires { ⌜ b .skip ≤ headingLength ⌝ }
+{
+    let e = rules::guard_stream(law, s.set, b.size);
     if refuses(e) {
         return;
     }
-    to_other(body, law, s, records, name);
+    to_other(b, law, s, records, name);
 }
 
 // A stream: an option or INFILE's ending tells its law.
-fn with_stream(s: Settings, name: &[u8], file: &[u8]) {
+fn with_stream(s: Settings, name: &[u8], fd: i32, size: usize) {
     let f = s.flags;
     if f.lists {
         console::usage(
@@ -357,45 +437,70 @@ fn with_stream(s: Settings, name: &[u8], file: &[u8]) {
         console::usage(UNPACK, b"the law is not known: say -u or -a");
         return;
     }
-    with_frames(file, law, s, false, name);
+    with_frames(Body { fd, skip: 0, size }, law, s, false, name);
 }
 
 // A recording: its heading tells the law, and an option may not say another. LONG counts from the heading's end.
-fn with_recording(s: Settings, law: u32, name: &[u8], file: &[u8])
-    requires { ⌜ headed (now file) ≡ heading law ⌝ }
+fn with_recording(s: Settings, law: u32, name: &[u8], fd: i32, size: usize)
+    requires { ⌜ headingLength ≤ size ⌝ }
 {
     if s.law != 2 && s.law != law {
         console::usage(UNPACK, b"the recording's heading says the other law");
         return;
     }
-    with_frames(&file[HEADING..], law, s, true, name);
+    let body = Body {
+        fd,
+        skip: HEADING,
+        size: size - HEADING,
+    };
+    with_frames(body, law, s, true, name);
 }
 
-// What the file is says what is done with it.
-fn with_file(s: Settings, name: &[u8], file: &[u8]) {
-    match replaying::kind_of(file) {
-        Kind::Stream => with_stream(s, name, file),
-        Kind::Recording(law) => with_recording(s, law, name, file),
-        Kind::Headless => {
-            console::say(b"unpack: a recording's heading is cut, or of another law or version\n");
-            console::refused(UNPACK, 14, 0, 0, 0);
+// What begins as a recording and has no heading.
+fn headless() {
+    console::say(b"unpack: a recording's heading is cut, or of another law or version\n");
+    console::refused(UNPACK, 14, 0, 0, 0);
+}
+
+// What the file is says what is done with it; its first octets tell.
+fn with_file(s: Settings, name: &[u8], fd: i32, size: usize, first: &[u8]) {
+    match replaying::kind_of(first) {
+        Kind::Stream => with_stream(s, name, fd, size),
+        Kind::Recording(law) => {
+            if size < HEADING {
+                headless();
+                return;
+            }
+            with_recording(s, law, name, fd, size);
         }
+        Kind::Headless => headless(),
     }
 }
 
-// Reads the file. SET comes before it.
+// The file's first octets.
+fn begin(s: Settings, name: &[u8], fd: i32, size: usize) {
+    let mut first = [0u8; 64];
+    let got = console::read_at(fd, 0, &mut first);
+    if got.failed {
+        console::failed(UNPACK, name, b"standard input");
+        return;
+    }
+    let n = got.count;
+    with_file(s, name, fd, size, &first[..n]);
+}
+
+// SET comes before the file.
 fn run(s: Settings, name: &[u8]) {
     let e = rules::guard(0, s.set);
     if refuses(e) {
         return;
     }
-    let mut file = [0u8; rules::LONGEST + HEADING + 1];
-    let got = read_file(name, &mut file);
-    if got.failed {
+    let mut part = [0u8; 61440];
+    let source = open_file(name, &mut part);
+    if source.failed {
         return;
     }
-    let n = got.count;
-    with_file(s, name, &file[..n]);
+    begin(s, name, source.fd, source.size);
 }
 
 // Whether -l or -w can't be met: a master that is compared is raw G.711, and no ending is known for another form.

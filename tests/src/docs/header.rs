@@ -69,14 +69,32 @@ pub fn limits(files: &Files) -> Held {
     held.also(one_more, || "header: a written frame has one octet more than samples".to_string());
     let with_heading = most("MAX_FILE") == most("MAX_STREAM") + most("HEADING");
     held.also(with_heading, || "header: a file has a heading and a stream".to_string());
+    let block = most("MAX_BLOCK");
+    let marks = block / 64 + most("MAX_GREETINGS");
+    held.also(most("MAX_CELLS") == 194 + 2 * marks, || {
+        format!("header: a table has 194 cells and two for each of {marks} marks")
+    });
+    let text = longest_table(most("MAX_GREETINGS"), marks, block, most("MAX_NUMBER"), most("MAX_SAMPLES"));
+    held.also(most("MAX_TABLE") == text, || format!("header: the text of a table has at most {text} octets"));
     held
 }
 
+/// Octets of the text of a table that calls left, at most: R-11's first line, lines with the greatest numbers for each greeting, and
+/// one for each mark. The greatest mark stands 64 frames, and so 64 octets, before the block's end.
+fn longest_table(greetings: u64, marks: u64, block: u64, number: u64, samples: u64) -> u64 {
+    let line = |text: String| text.len() as u64 + 1;
+    let lies = format!("prompt={number}\nstart={}\noctets={block}", block.saturating_sub(1));
+    let greeting = line(lies) + line(format!("law=1\nsamples={}", samples * block));
+    let last = block.saturating_sub(64);
+    line("form=2".into()) + greetings * greeting + marks * line(format!("mark={last},{}", samples * last))
+}
+
 /// A limit, and the words around it in the definition, the proof or the code that has it.
-const LIMITS: [(&str, &str, &str, &str); 6] = [
+const LIMITS: [(&str, &str, &str, &str); 7] = [
     ("MAX_SAMPLES", "crates/rules/src/lib.rt", "samples: [u8; ", "]"),
     ("MAX_FRAME", "crates/promises/proofs/Bounded.antt", "octetsUsed f ≤ ", ")"),
     ("MAX_STREAM", "crates/rules/specs/Walk.antt", "\nlongest = ", "\n"),
+    ("MAX_BLOCK", "crates/rows/specs/Limits.antt", "\nlargestBlock = ", "\n"),
     ("ALL_TOOLS", "crates/rules/specs/Tools.antt", "\nallTools = ", "\n"),
     ("HEADING", "crates/recording/specs/Remembered.antt", "\nheadingLength = ", "\n"),
     ("LOSS", "crates/recording/specs/Items.antt", "\nlossFrom = ", "\n"),

@@ -1,7 +1,7 @@
 //! Saved tables, damaged. None of these is taken: TABLE, for what the lines alone tell before BAD, for what only the walk
 //! tells after it.
 
-use super::text_of;
+use super::{asks_for_form, text_of, FORM};
 use second::gen::Prng;
 use second::store::{Greeting, Mark};
 
@@ -50,19 +50,21 @@ pub struct Damaged {
     pub by_lines: bool,
 }
 
-/// A table damaged in such a way; none where it can't be.
+/// A table damaged in such a way behind R-11's first line, if it has one; none where it can't be.
 pub fn damaged(how: &str, rows: &[Greeting], size: usize, rng: &mut Prng) -> Option<Damaged> {
+    let first = if asks_for_form(rows, size) { FORM } else { &[] };
     let at = rng.below(rows.len().max(1));
     if let Some(rows) = damaged_rows(how, rows, at, size, rng)? {
         let by_walk = ["a mark too many", "a mark too few", "no marks", "a wrong mark", "marks in another order"];
-        return Some(Damaged { text: text_of(&rows), by_lines: !by_walk.contains(&how) && how != "wrong samples" });
+        let text = [first, &text_of(&rows)].concat();
+        return Some(Damaged { text, by_lines: !by_walk.contains(&how) && how != "wrong samples" });
     }
     // The lines of one greeting, and those before and after them.
     let [before, own, after] = [&rows[..at], &rows[at..=at], &rows[at + 1..]].map(text_of);
     let own = String::from_utf8(own).ok()?;
     let mut lines: Vec<String> = own.split_inclusive('\n').map(String::from).collect();
     let by_lines = damage_lines(how, &mut lines, rng)?;
-    let mut text = [before, lines.concat().into_bytes(), after].concat();
+    let mut text = [first.to_vec(), before, lines.concat().into_bytes(), after].concat();
     if how == "mixed lines" {
         // It is mixed only if another greeting has R-8's lines.
         text = (rows.len() > 1).then_some(text)?;

@@ -1,6 +1,8 @@
 //! What lists of calls are drawn from.
 
-use super::{a_greeting, Call, Stores, BLOCK, MARKS, MORE_ROWS, SAVED};
+use super::{a_greeting, Call, Stores, BLOCK, MARKS, MORE_ROWS, MOST_BLOCK, MOST_WITHOUT};
+use crate::streams::plain_frames;
+use crate::MOST;
 use second::gen::{damage_somehow, Prng};
 
 /// What a list of calls draws from: the block, how many numbers, and greetings.
@@ -10,7 +12,7 @@ pub struct Profile {
     pub pool: Vec<Vec<u8>>,
 }
 
-/// Blocks with room for few greetings and for many, short ones and long ones; one longer than a store's.
+/// Blocks with room for few greetings and for many, short ones and long ones; one longer than a box has without settings.
 pub fn profiles(rng: &mut Prng) -> Vec<Profile> {
     let kinds = [
         (BLOCK, 40, 2_500),
@@ -23,6 +25,37 @@ pub fn profiles(rng: &mut Prng) -> Vec<Profile> {
     ];
     let pool = |most: usize, rng: &mut Prng| (0..120).map(|_| a_greeting_of(most, rng)).collect();
     kinds.map(|(block, numbers, most)| Profile { block, numbers, pool: pool(most, rng) }).into_iter().collect()
+}
+
+/// Large blocks, on both sides of 65,535 octets and up to the greatest; one longer than that. In some a greeting has more
+/// than 65,535 octets.
+pub fn large_profiles(rng: &mut Prng) -> Vec<Profile> {
+    let kinds = [
+        (MOST_WITHOUT, 24, 16_000),
+        (MOST_WITHOUT + 1, 24, 16_000),
+        (MOST_WITHOUT + 1_000, 8, 66_500),
+        (200_000, 12, 90_000),
+        (MOST_BLOCK, 16, 260_000),
+        (MOST_BLOCK + 300, 12, 600_000),
+    ];
+    let pool = |most: usize, rng: &mut Prng| (0..16).map(|_| a_long_greeting(1 + rng.below(most), rng)).collect();
+    kinds.map(|(block, numbers, most)| Profile { block, numbers, pool: pool(most, rng) }).into_iter().collect()
+}
+
+/// So many octets: frames of every tool, rows of frames of one octet and of pads, and many of 321 octets, as those take few marks.
+fn a_long_greeting(octets: usize, rng: &mut Prng) -> Vec<u8> {
+    let mut greeting = Vec::new();
+    while greeting.len() + 400 < octets {
+        let most = octets - greeting.len();
+        let part = match rng.below(4) {
+            0 => a_greeting(1 + rng.below(most.min(3_000)), rng),
+            1 => short_frames(1 + rng.below(most.min(3_000)), rng),
+            _ => plain_frames(1 + rng.below(most / 321), rng),
+        };
+        greeting.extend(part);
+    }
+    greeting.resize(octets, 0);
+    greeting
 }
 
 /// One in three has frames of one octet alone, and so many marks; pads come in rows.
@@ -70,7 +103,7 @@ fn some_octets(profile: &Profile, rng: &mut Prng) -> Vec<u8> {
         0 => Vec::new(),
         1 | 2 => damage_somehow(&greeting, rng),
         3 => vec![0; *rng.pick(&[profile.block, profile.block + 1, BLOCK, BLOCK + 1])],
-        4 if rng.chance(1, 20) => vec![0; 65_535 + rng.below(2)],
+        4 if rng.chance(1, 20) => vec![0; MOST + rng.below(2)],
         _ => greeting,
     }
 }
@@ -105,7 +138,7 @@ pub fn some_call(profile: &Profile, stores: &Stores, rng: &mut Prng) -> Call {
         15..=17 => Call::Get(a_number(profile, rng)),
         18 | 19 => {
             let saved = stores.model.text().len();
-            Call::Save(if rng.flip() { SAVED } else { (saved + 1).saturating_sub(rng.below(3)) })
+            Call::Save(if rng.flip() { stores.room() } else { (saved + 1).saturating_sub(rng.below(3)) })
         }
         _ => some_jump(profile, stores, rng),
     }

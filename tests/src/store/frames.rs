@@ -2,7 +2,7 @@
 
 use super::Told;
 use crate::streams::Stream;
-use crate::Codec;
+use crate::{Codec, MOST};
 use second::gen::Prng;
 use second::store::Mark;
 
@@ -27,7 +27,7 @@ pub fn frames_of(reader: &dyn Codec, octets: &[u8], law: u32) -> Option<Frames> 
         frames.octets += read.octets;
         frames.samples += read.samples;
     }
-    (!octets.is_empty() && octets.len() <= 65_535).then_some(frames)
+    (!octets.is_empty() && octets.len() <= MOST).then_some(frames)
 }
 
 impl Frames {

@@ -4,8 +4,8 @@
 
 use super::stores::Kept;
 use super::{
-    frames_of, lowest_gap, rows_of, sane, Call, Frames, Stores, Told, ABSENT, BAD, BEYOND, FULL, GREETINGS, LAW,
-    NOROOM, NUMBER, SAVED, TAKEN,
+    asks_for_form, frames_of, lowest_gap, rows_of, sane, Call, Frames, Stores, Told, ABSENT, BAD, BEYOND, FORM, FULL,
+    GREETINGS, LAW, NOROOM, NUMBER, TAKEN,
 };
 use second::store::Greeting;
 
@@ -34,7 +34,7 @@ impl Stores<'_> {
                 _ => {}
             }
         }
-        self.make(&Call::Save(SAVED));
+        self.make(&Call::Save(self.room()));
         match rows_of(&self.text) {
             Some(now) => self.check(&words, call, got, &rows, &block, now),
             None => self.differ(&words, "what is saved does not read back"),
@@ -82,6 +82,9 @@ impl Stores<'_> {
         let held: usize = now.iter().map(|row| row.octets).sum();
         if held != self.put - self.deleted || now.len() != self.kept.len() || !sane(&now, self.model.size()) {
             faults.push("held is not what was put less what was deleted".to_string());
+        }
+        if asks_for_form(&now, self.model.size()) != self.text.starts_with(FORM) {
+            faults.push("the first line form=2 is there and is not asked for, or the other way round".to_string());
         }
         let mut moved = 0;
         let mut written = vec![false; block.len()];

@@ -1,6 +1,6 @@
 //! A table's rows, as a list and as lines.
 
-use super::GREETINGS;
+use super::{FORM, GREETINGS, MOST_WITHOUT};
 use second::store::{Greeting, Mark};
 use std::collections::BTreeMap;
 
@@ -13,8 +13,10 @@ pub fn sane(greetings: &[Greeting], size: usize) -> bool {
     apart && inside && ranges && numbers.len() == greetings.len() && greetings.len() <= GREETINGS
 }
 
-/// The greetings that a saved table says: read loosely, then written again and held against it.
+/// The greetings that a saved table says, with R-11's first line or without it: read loosely, then written again and held
+/// against it.
 pub fn rows_of(text: &[u8]) -> Option<Vec<Greeting>> {
+    let text = text.strip_prefix(FORM).unwrap_or(text);
     let mut rows: Vec<Greeting> = Vec::new();
     for line in std::str::from_utf8(text).ok()?.lines() {
         let (key, value) = line.split_once('=')?;
@@ -36,6 +38,22 @@ pub fn rows_of(text: &[u8]) -> Option<Vec<Greeting>> {
         }
     }
     (text_of(&rows) == text).then_some(rows)
+}
+
+/// Whether a greeting's start or octet count is more than a table without R-11's first line says.
+pub fn is_large(row: &Greeting) -> bool {
+    row.start > MOST_WITHOUT || row.octets > MOST_WITHOUT
+}
+
+/// Whether a table is saved with R-11's first line.
+pub fn asks_for_form(rows: &[Greeting], size: usize) -> bool {
+    size > MOST_WITHOUT || rows.iter().any(is_large)
+}
+
+/// What is saved of such a list.
+pub fn whole_text_of(rows: &[Greeting], size: usize) -> Vec<u8> {
+    let first = if asks_for_form(rows, size) { FORM } else { &[] };
+    [first, &text_of(rows)].concat()
 }
 
 /// The lines of a list of greetings.

@@ -1,6 +1,6 @@
 //! A back end's block and table beside the model, call by call.
 
-use super::{text_of, Frames, Keeps, Told, SAVED, TABLE};
+use super::{saved_room, text_of, Frames, Keeps, Told, TABLE};
 use second::store::{Greeting, Store};
 use second::table;
 use std::collections::BTreeMap;
@@ -40,7 +40,7 @@ impl Call {
             Call::Get(number) => format!("get {number}"),
             Call::Delete(number) => format!("delete {number}"),
             Call::Save(room) => format!("save in {room} octets"),
-            Call::Load(text) => format!("load {}", text.escape_ascii()),
+            Call::Load(text) => format!("load {}", shortened(text)),
             Call::Jump(number, sample) => format!("jump {number} {sample}"),
         }
     }
@@ -51,12 +51,20 @@ impl Call {
     }
 }
 
+/// A text as it is shown.
+fn shortened(text: &[u8]) -> String {
+    let start = text[..text.len().min(MOST_SHOWN)].escape_ascii();
+    format!("{start} ({} octets)", text.len())
+}
+
 /// Numbers and octets before and after what is lent. They belong to the caller.
 const MARGIN: usize = 16;
 /// What lies there, and in the text that is lent, in turn.
 const FILLS: [u8; 2] = [0xA7, 0x58];
 /// Differences shown at most; they are all counted.
 const SHOWN: usize = 20;
+/// Octets of a text shown at most.
+const MOST_SHOWN: usize = 600;
 
 /// What was put under a number: its law, its octets, and all its frames.
 pub(super) struct Kept {
@@ -132,6 +140,11 @@ impl<'a> Stores<'a> {
         MARGIN..self.table.len() - MARGIN
     }
 
+    /// Room that the table is saved in, whatever its numbers say.
+    pub fn room(&self) -> usize {
+        saved_room(self.model.block.len())
+    }
+
     /// The table's numbers.
     pub fn cells(&self) -> &[u32] {
         &self.table[self.cells_lent()]
@@ -160,7 +173,7 @@ impl<'a> Stores<'a> {
     pub fn differ(&mut self, what: &str, fault: &str) {
         self.differences += 1;
         if self.shown.len() < SHOWN {
-            let kept = text_of(&self.model.greetings).escape_ascii().to_string();
+            let kept = shortened(&text_of(&self.model.greetings));
             self.shown.push(format!("{what}, block of {}, {kept}: {fault}", self.model.block.len()));
         }
     }
@@ -244,7 +257,7 @@ impl<'a> Stores<'a> {
         self.check_table(call);
         if matches!(call, Call::Save(_)) {
             if got.ending == 0 && self.text != self.model.text() {
-                self.differ(&call.words(), &format!("saved {}", self.text.escape_ascii()));
+                self.differ(&call.words(), &format!("saved {}", shortened(&self.text)));
             }
         } else if changed {
             self.check_saved(&call.words());
@@ -280,23 +293,23 @@ impl<'a> Stores<'a> {
 
     /// What is saved after a call that changed something.
     fn check_saved(&mut self, words: &str) {
-        let told = self.make(&Call::Save(SAVED));
+        let told = self.make(&Call::Save(self.room()));
         let wanted = self.model.text();
         if told != Told::ok(wanted.len(), 0) || self.text != wanted {
-            self.differ(words, &format!("then {told:?}, saved {}", self.text.escape_ascii()));
+            self.differ(words, &format!("then {told:?}, saved {}", shortened(&self.text)));
         }
     }
 
     /// Saves the table, loads it into other numbers with the same block, and goes on with those.
     pub fn saved_and_loaded(&mut self) {
-        self.make(&Call::Save(SAVED));
+        self.make(&Call::Save(self.room()));
         let text = std::mem::take(&mut self.text);
         let lent = self.cells_lent();
         self.table[lent].fill(0x1234_5678);
         if self.call(&Call::Load(text.clone())).ending != 0 {
             self.differ("a saved table", "it is not loaded");
         }
-        self.make(&Call::Save(SAVED));
+        self.make(&Call::Save(self.room()));
         if self.text != text {
             self.differ("a saved table", "it is not saved as it was loaded");
         }

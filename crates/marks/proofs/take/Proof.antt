@@ -2,7 +2,7 @@ use Prim.Native.Nat.{_*_, _-_}
 use native.Mathlib.Omega.{arith}
 use mathlib.Core.Path.{sym}
 use lib.ListN.{length, length-set}
-use Rattle.marks.proofs.Taking.{Taking, takes-wrong, taking-start, taking-room, taking-few, taking-heard, taking-more, taking-on}
+use Rattle.marks.proofs.Taking.{Taking, takes-wrong, taking-start, taking-few, taking-heard, taking-more, taking-on}
 use Rattle.marks.proofs.Taking.{taking-turn, taken-wrong, taken-all}
 use Rattle.greetings.proofs.Bad.{bad-empty}
 use borrow.Author.Needs.{needs}
@@ -28,45 +28,12 @@ returns c =
 loop-holds : tie.Need-loop-holds Inv-loop μ-loop
 loop-holds c = taking-start _ _ _
 
--- src/lib.rt:35:24
-cast-marks : tie.Need-cast-marks Inv-loop μ-loop
-cast-marks c = search needs
-
--- src/lib.rt:35:15
-mul-marks : tie.Need-mul-marks Inv-loop μ-loop
-mul-marks c = omega (arith, taking-few _ _ (c .before .loop .inv) (omega arith) (omega arith))
-
--- src/lib.rt:35:9
-mul-marks-2 : tie.Need-mul-marks-2 Inv-loop μ-loop
-mul-marks-2 c = omega (arith, taking-few _ _ (c .before .loop .inv) (omega arith) (omega arith))
-
--- src/lib.rt:35:9
-slice-write-marks : tie.Need-slice-write-marks Inv-loop μ-loop
-slice-write-marks c =
-    let room = taking-room _ _ (c .before .loop .inv) (omega arith) (omega arith) in omega (arith, c .before .loop .inv .size, room)
-
--- src/lib.rt:36:28
-cast-marks-2 : tie.Need-cast-marks-2 Inv-loop μ-loop
-cast-marks-2 c = omega (arith, taking-heard _ _ (c .before .loop .inv) (omega arith))
-
--- src/lib.rt:36:15
-mul-marks-3 : tie.Need-mul-marks-3 Inv-loop μ-loop
-mul-marks-3 c = omega (arith, taking-few _ _ (c .before .loop .inv) (omega arith) (omega arith))
-
--- src/lib.rt:36:15
-add-marks : tie.Need-add-marks Inv-loop μ-loop
-add-marks c = omega (arith, taking-few _ _ (c .before .loop .inv) (omega arith) (omega arith))
-
--- src/lib.rt:36:9
-mul-marks-4 : tie.Need-mul-marks-4 Inv-loop μ-loop
-mul-marks-4 c = omega (arith, taking-few _ _ (c .before .loop .inv) (omega arith) (omega arith))
-
--- src/lib.rt:36:9
-slice-write-marks-2 : tie.Need-slice-write-marks-2 Inv-loop μ-loop
-slice-write-marks-2 c =
-    let w = c .before .loop in
-    let room = taking-room _ _ (w .inv) (omega arith) (omega arith) in
-    omega (arith, w .inv .size, room, length-set (w .marks) (2 * w .m) (w .at))
+keep-requires : tie.Need-keep-requires Inv-loop μ-loop
+keep-requires c κs =
+    let t = c .before .before .loop .inv in
+    let few = taking-few _ _ t (omega arith) (omega arith) in
+    let heard = taking-heard _ _ t (omega arith) in
+    (omega (arith, few), omega arith, omega (arith, heard))
 
 -- src/lib.rt:37:13
 walk-on-requires : tie.Need-walk-on-requires Inv-loop μ-loop
@@ -84,7 +51,7 @@ same-length c = search needs
 returns-2 : tie.Need-returns-2 Inv-loop μ-loop
 returns-2 c =
     let walk-on = c .before .before in
-    let loop = walk-on .before .before in
+    let loop = walk-on .before .before .before .before .before .before in
     taken-wrong _ _ (loop .loop .inv) (omega arith) (omega arith) (omega arith) (walk-on .walk-on .ensures) (c .enum-told .given .1) _
 
 -- src/lib.rt:44:17
@@ -95,19 +62,19 @@ enum-told-2 c = search needs
 add-samples : tie.Need-add-samples Inv-loop μ-loop
 add-samples c =
     let walk-on = c .before .before .before in
-    let loop = walk-on .before .before in
+    let loop = walk-on .before .before .before .before .before .before in
     omega (arith, taking-heard _ _ (loop .loop .inv) (omega arith), taking-more _ _ (loop .loop .inv) (walk-on .walk-on .ensures))
 
 -- src/lib.rt:46:17
 add-m : tie.Need-add-m Inv-loop μ-loop
-add-m c = omega (arith, taking-few _ _ (c .before .before .before .before .before .loop .inv) (omega arith) (omega arith))
+add-m c = omega (arith, taking-few _ _ (c .before .before .before .before .before .before .before .before .before .loop .inv) (omega arith) (omega arith))
 
 -- src/lib.rt:34:5
 loop-less : tie.Need-loop-less Inv-loop μ-loop
 loop-less c =
     let enum-told2 = c .before in
     let walk-on = enum-told2 .before .before in
-    let loop = walk-on .before .before in
+    let loop = walk-on .before .before .before .before .before .before in
     omega (arith, taking-on _ _ (loop .loop .inv) (walk-on .walk-on .ensures) (enum-told2 .enum-told2 .given .1) (omega arith))
 
 -- src/lib.rt:34:5
@@ -115,9 +82,10 @@ loop-again : tie.Need-loop-again Inv-loop μ-loop
 loop-again c =
     let enum-told2 = c .before in
     let walk-on = enum-told2 .before .before in
-    let loop = walk-on .before .before in
-    taking-turn _ _ (loop .loop .inv) (omega arith) (walk-on .walk-on .ensures) (enum-told2 .enum-told2 .given .1)
-    (taking-room _ _ (loop .loop .inv) (omega arith) (omega arith))
+    let keep = walk-on .before .before .before in
+    let loop = keep .before .before .before in
+    taking-turn _ _ (loop .loop .inv) (omega arith) (walk-on .walk-on .ensures) (enum-told2 .enum-told2 .given .1) (keep .keep .ensures)
+    (keep .keep .kept .0)
 
 -- src/lib.rt:24:1
 same-length-2 : tie.Need-same-length-2 Inv-loop μ-loop
@@ -136,15 +104,7 @@ take-spec =
     μ-loop
     returns
     loop-holds
-    cast-marks
-    mul-marks
-    mul-marks-2
-    slice-write-marks
-    cast-marks-2
-    mul-marks-3
-    add-marks
-    mul-marks-4
-    slice-write-marks-2
+    keep-requires
     walk-on-requires
     enum-told
     same-length

@@ -9,7 +9,8 @@ use Rattle.rows.specs.Cells.{rowsOf, laid}
 use Rattle.rows.specs.Changed.{insertAt}
 use Rattle.rules.proofs.Lent.{from-on}
 use Rattle.notes.specs.Cells.{headsOf}
-use Rattle.notes.specs.Changed.{opened}
+use Rattle.notes.specs.Changed.{opened, noteIn}
+use Rattle.notes.proofs.Noting.{length-marks, cells-marks}
 use Rattle.notes.proofs.Stored.{part-made, part-length, heads-more, held-all, marks-order, note-put}
 use borrow.Author.Needs.{needs}
 use Rattle.notes.proofs.put_note.Statement.{statement}
@@ -109,8 +110,9 @@ returns c =
     let all = 2 * marks-before2 .marks-before2 .result in
     let once = take 97 t ++ (insert .insert .last .0 ++ drop (length t - 97) (drop 97 t)) in
     let made = part-made 97 (λ (u : List ℕ). laid (insertAt (s .i) r (rowsOf u)) u) t (insert .insert .ensures) refl in
-    note-put t (s .n) (s .i) (omega arith) (omega arith) (omega arith) (s .law) (s .samples) (s .m) (s .marks .now) new (omega arith) (omega arith)
-    refl
+    let marks = s .marks .now in
+    note-put t (s .n) (s .i) (omega arith) (omega arith) (omega arith) (noteIn (s .law) (s .samples) (s .m) marks) r new (omega arith)
+    (ap (λ (k : ℕ). rowOf (s .law) (s .samples) k) (sym (length-marks (s .m) marks))) (sym (cells-marks (s .m) marks (omega arith)))
     (ap (λ (x : ℕ). 2 * x) at) (ap (λ (x : ℕ). 2 * x) used) made
     (part-made 194 (λ (u : List ℕ). opened u front all new) once (open-up .open-up .ensures) refl)
 

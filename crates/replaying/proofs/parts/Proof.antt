@@ -11,11 +11,11 @@ use Rattle.replaying.proofs.parts.Statement.{statement}
 use Rattle.replaying.proofs.parts.Tie as tie
 
 abbrev Inv-loop : tie.InvT-loop
-Inv-loop body law set way tells page₀ master₀ cells₀ at₀ items₀ lost₀ samples₀ page master cells at items lost samples =
+Inv-loop body law set way tells page₀ master₀ cells₀ base at₀ items₀ lost₀ samples₀ page master cells at items lost samples =
     Going body law set (length page₀) (length cells₀) page cells at items lost samples × (length master ≡ length master₀)
 
 abbrev μ-loop : tie.MeasureT-loop
-μ-loop body law set way tells page₀ master₀ cells₀ at₀ items₀ lost₀ samples₀ page master cells at items lost samples = length body - at
+μ-loop body law set way tells page₀ master₀ cells₀ base at₀ items₀ lost₀ samples₀ page master cells at items lost samples = length body - at
 
 loop-holds : tie.Need-loop-holds Inv-loop μ-loop
 loop-holds c = (going-first _ _ _ _ _, refl)
@@ -37,7 +37,7 @@ use-part-requires c κs =
 tell-part-requires : tie.Need-tell-part-requires Inv-loop μ-loop
 tell-part-requires c κs =
     let d = c .before .before .before .before .before .before .before .before .before .before in
-    (d .before .before .before .before .before .before .before .pre .0, d .before .before .loop .inv .0 .follows)
+    let p = d .before .before .before .before .before .before .before .pre in (p .0, d .before .before .loop .inv .0 .follows, p .4)
 
 add-items : tie.Need-add-items Inv-loop μ-loop
 add-items c =
@@ -81,7 +81,16 @@ returns c =
     let d = c .before .before .before .before .before .before .before .before .before .before in
     let w = d .before .before .before .before .before .before .before .before .loop .inv .0 in
     let g = d .before .before .before .before .before .next-part .ensures .1 in
-    (λ e. absurd (c .if1 .taken e), (omega (arith, lost-most _ _ _ w, g .some), g .ends (at-most _ _ _ (w .follows))))
+    let f = w .follows in
+    let few = g .few (at-most _ _ _ f) in (
+      λ e. absurd (c .if1 .taken e),
+      (
+        omega (arith, lost-most _ _ _ w, g .some),
+        g .ends (at-most _ _ _ f),
+        omega (arith, number-most _ _ _ f, few),
+        omega (arith, heard-most _ _ _ f, g .held, c .before .before .before .before .before .before .before .before .use-part .ensures .most),
+      ),
+    )
 
 same-length-4 : tie.Need-same-length-4 Inv-loop μ-loop
 same-length-4 c =
@@ -105,7 +114,12 @@ returns-2 c =
     let n = d .before .before .before .before .before .before .before .next-part in
     let u = d .use-part .ensures .all in (
       (λ e. goes-whole _ _ _ (w .follows) (n .ensures .0) (not-true _ (c .if2 .taken)) (w .losses) (u e)),
-      (omega (arith, lost-most _ _ _ w, n .ensures .1 .some), n .ensures .1 .ends (at-most _ _ _ (w .follows))),
+      (
+        omega (arith, lost-most _ _ _ w, n .ensures .1 .some),
+        n .ensures .1 .ends (at-most _ _ _ (w .follows)),
+        omega (arith, number-most _ _ _ (w .follows), n .ensures .1 .few (at-most _ _ _ (w .follows))),
+        omega (arith, heard-most _ _ _ (w .follows), n .ensures .1 .held, d .use-part .ensures .most),
+      ),
     )
 
 loop-less : tie.Need-loop-less Inv-loop μ-loop

@@ -13,7 +13,8 @@ cast-say-loss : tie.Need-cast-say-loss
 cast-say-loss c = search needs
 
 say-loss-requires : tie.Need-say-loss-requires
-say-loss-requires c κs = item-lost _ _ _ (c .before .before .before .before .before .pre .1) (c .if2 .taken) .1
+say-loss-requires c κs =
+    let p = c .before .before .before .before .before .pre in (item-lost _ _ _ (p .1) (c .if2 .taken) .1, p .2, p .3)
 
 returns-2 : tie.Need-returns-2
 returns-2 c = search needs

@@ -4,16 +4,16 @@ use mathlib.Core.Path.{_≡_, refl, sym, _∙_}
 use borrow.Author.Tests.{not-false}
 use lib.ListN.{length}
 use Rattle.replaying.specs.Lines.{Follows, NextItem}
-use Rattle.replaying.proofs.Running.{number-most, heard-most, at-most, follows-on}
+use Rattle.replaying.proofs.Running.{number-most, heard-most, at-most, follows-on, sums}
 use Rattle.replaying.proofs.tell.Statement.{statement}
 use Rattle.replaying.proofs.tell.Tie as tie
 
 abbrev Inv-loop : tie.InvT-loop
-Inv-loop body law set from first before items tells page₀ one₀ at₀ number₀ heard₀ left₀ page one at number heard left =
+Inv-loop body law set from first before items tells page₀ one₀ base at₀ number₀ heard₀ left₀ page one at number heard left =
     Follows body law set at number heard × (length page ≡ 320) × (length one ≡ 1)
 
 abbrev μ-loop : tie.MeasureT-loop
-μ-loop body law set from first before items tells page₀ one₀ at₀ number₀ heard₀ left₀ page one at number heard left = left
+μ-loop body law set from first before items tells page₀ one₀ base at₀ number₀ heard₀ left₀ page one at number heard left = left
 
 loop-holds : tie.Need-loop-holds Inv-loop μ-loop
 loop-holds c = let a = c .before .before .before .pre in (a .1, a .2, a .3)
@@ -40,6 +40,9 @@ say-item-requires c κs =
         is = n .ensures .0;
         told = refl;
       },
+      sums _ _ _ (w .0) (c .before .before .before .before .before .before .before .before .before .before .before .before .before .pre .0)
+          (c .before .before .before .before .before .before .before .before .before .before .before .before .before .pre .4 .small),
+      c .before .before .before .before .before .before .before .before .before .before .before .before .before .pre .4,
     )
 
 same-length : tie.Need-same-length Inv-loop μ-loop

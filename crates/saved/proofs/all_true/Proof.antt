@@ -2,7 +2,7 @@
 use Prim.Native.Nat.{suc, _+_, _-_, _≤_}
 use mathlib.Core.Path.{_≡_, sym, ap, _∙_}
 use native.Mathlib.Omega.{arith}
-use Rattle.tables.specs.Noted.{listedIn}
+use Rattle.tables.specs.Noted.{listedAt}
 use Rattle.tables.specs.Passing.{asHead}
 use Rattle.saved.specs.Saved.{allTrue}
 use Rattle.saved.specs.Steps.{greetingsOf}
@@ -13,13 +13,14 @@ use Rattle.saved.proofs.all_true.Statement.{statement}
 use Rattle.saved.proofs.all_true.Tie as tie
 
 abbrev Inv-loop : tie.InvT-loop
-Inv-loop text block size n at₀ i₀ at i = (i ≤ n) × Comparing text block size (n - i) at (allTrue block (greetingsOf (listedIn text)))
+Inv-loop text form block size n at₀ i₀ at i = (i ≤ n)
+    × Comparing (form .most) text block size (n - i) at (allTrue block (greetingsOf (listedAt (form .most) (form .from) text)))
 
 abbrev μ-loop : tie.MeasureT-loop
-μ-loop text block size n at₀ i₀ at i = n - i
+μ-loop text form block size n at₀ i₀ at i = n - i
 
 loop-holds : tie.Need-loop-holds Inv-loop μ-loop
-loop-holds c = (omega arith, comparing-first (c .before .before .pre))
+loop-holds c = (omega arith, comparing-first _ _ (c .before .before .pre .1))
 
 head-at-requires : tie.Need-head-at-requires Inv-loop μ-loop
 head-at-requires c κs = search needs
@@ -50,7 +51,7 @@ add-end c =
     let s : a .n - l .loop .i ≡ suc (a .n - (l .loop .i + 1)) = omega arith in
     let h = c .before .before .before in
     let t = comparing-turn (l .loop .inv .1) s (sym (ap asHead (h .start .given .1)) ∙ h .before .before .head-at .ensures) in
-    omega (arith, t .inside, c .before .wide .ensures, c .wide2 .ensures, l .before .before .before .pre .small)
+    omega (arith, t .inside, c .before .wide .ensures, c .wide2 .ensures, l .before .before .before .pre .1 .small)
 
 sub-same-note : tie.Need-sub-same-note Inv-loop μ-loop
 sub-same-note c = search needs
@@ -62,7 +63,7 @@ part-same-note-start c =
     let s : a .n - l .loop .i ≡ suc (a .n - (l .loop .i + 1)) = omega arith in
     let h = c .before .before .before in
     let t = comparing-turn (l .loop .inv .1) s (sym (ap asHead (h .start .given .1)) ∙ h .before .before .head-at .ensures) in
-    omega (arith, t .inside, c .before .wide .ensures, c .wide2 .ensures, l .before .before .before .pre .inside)
+    omega (arith, t .inside, c .before .wide .ensures, c .wide2 .ensures, l .before .before .before .pre .1 .inside)
 
 part-same-note-end : tie.Need-part-same-note-end Inv-loop μ-loop
 part-same-note-end c =
@@ -71,7 +72,7 @@ part-same-note-end c =
     let s : a .n - l .loop .i ≡ suc (a .n - (l .loop .i + 1)) = omega arith in
     let h = c .before .before .before in
     let t = comparing-turn (l .loop .inv .1) s (sym (ap asHead (h .start .given .1)) ∙ h .before .before .head-at .ensures) in
-    omega (arith, t .inside, c .before .wide .ensures, c .wide2 .ensures, l .before .before .before .pre .inside)
+    omega (arith, t .inside, c .before .wide .ensures, c .wide2 .ensures, l .before .before .before .pre .1 .inside)
 
 same-note-requires : tie.Need-same-note-requires Inv-loop μ-loop
 same-note-requires c κs =
@@ -81,7 +82,7 @@ same-note-requires c κs =
     let h = c .before .before .before .before in
     let t = comparing-turn (l .loop .inv .1) s (sym (ap asHead (h .start .given .1)) ∙ h .before .before .head-at .ensures) in
     let q = turn-lent t (c .before .before .wide .ensures) (c .before .wide2 .ensures) in
-    turn-part t q (l .before .before .before .pre .small)
+    turn-part t q (l .before .before .before .pre .1 .small)
 
 enum-told-2 : tie.Need-enum-told-2 Inv-loop μ-loop
 enum-told-2 c = search needs

@@ -2,6 +2,7 @@
 use mathlib.Core.Path.{sym, _∙_}
 use native.Mathlib.Omega.{arith}
 use Rattle.rows.specs.Limits.{sizeOf}
+use Rattle.tables.proofs.Formed.{form-most}
 use Rattle.saved.proofs.Judging.{celled-fine}
 use Rattle.saved.proofs.Loading.{rows-as, celled-early, all-notes, load-short, load-later, load-stop, load-fine}
 use borrow.Author.Needs.{needs}
@@ -29,11 +30,15 @@ read-rows-requires c κs = search needs
 enum-told : tie.Need-enum-told
 enum-told c = search needs
 
+form-of-requires : tie.Need-form-of-requires
+form-of-requires c κs = search needs
+
 load-noted-requires : tie.Need-load-noted-requires
 load-noted-requires c κs =
-    let q7 = c .before .before .before .before .before .before .before in
-    let q8 = q7 .before in
-    (q8 .size-of .ensures, omega (arith, q7 .store-cells .ensures))
+    let q8 = c .before .before .before .before .before .before .before .before in
+    let q9 = q8 .before in
+    let s = q9 .before .before .before .before in
+    (form-most (s .args .text .now) (c .before .form-of .ensures), q9 .size-of .ensures, omega (arith, q8 .store-cells .ensures))
 
 enum-known-n : tie.Need-enum-known-n
 enum-known-n c = search needs
@@ -87,13 +92,13 @@ same-length c = search needs
 
 returns-2 : tie.Need-returns-2
 returns-2 c =
-    let q7 = c .before .before .before .before .before .before .before in
-    let q10 = q7 .before .before .before in
-    let q11 = q10 .before in
-    let q15 = q11 .before .before .before .before in
-    let a = q15 .args in
-    load-later (a .text .now) (a .block .now) (a .table .now) (q11 .size-of .ensures) (q10 .store-cells .ensures) (omega arith)
-    (rows-as (c .before .before .before .before .enum-told .given .1) (q7 .read-rows .ensures)) (c .before .before .load-noted .ensures)
+    let form = c .before .before .before .before in
+    let q8 = form .before .before .before .before in
+    let q11 = q8 .before .before .before in
+    let q12 = q11 .before in
+    let a = q12 .before .before .before .before .args in
+    load-later (a .text .now) (a .block .now) (a .table .now) (q12 .size-of .ensures) (q11 .store-cells .ensures) (omega arith)
+    (rows-as (form .before .enum-told .given .1) (q8 .read-rows .ensures)) (form .form-of .ensures) (c .before .before .load-noted .ensures)
 
 returns-3 : tie.Need-returns-3
 returns-3 c =
@@ -138,6 +143,7 @@ load-spec =
     slice-aggregate-read-rows
     read-rows-requires
     enum-told
+    form-of-requires
     load-noted-requires
     enum-known-n
     slice-aggregate-judge-rows

@@ -2,7 +2,7 @@
 use mathlib.Core.Path.{sym, _∙_}
 use native.Mathlib.Omega.{arith}
 use Rattle.rows.specs.Limits.{sizeOf}
-use Rattle.tables.specs.Noted.{listedIn}
+use Rattle.tables.specs.Noted.{listedAt}
 use Rattle.saved.proofs.Loading.{fills-as, celled-noted, accepts, all-notes, noted-wrong, noted-stop, noted-fine}
 use borrow.Author.Needs.{needs}
 use Rattle.saved.proofs.load_noted.Statement.{statement}
@@ -32,7 +32,8 @@ slice-aggregate-judge-noted-2 c = search needs
 judge-noted-requires : tie.Need-judge-noted-requires
 judge-noted-requires c κs =
     let q7 = c .before .before .before .before .before .before .before in
-    celled-noted _ (fills-as (c .before .before .before .n .given .1) (q7 .read-noted .ensures)) (omega arith) (omega arith)
+    let w = celled-noted _ (fills-as (c .before .before .before .n .given .1) (q7 .read-noted .ensures)) (omega arith) (omega arith) in
+    (omega arith, w .0, w .1)
 
 enum-known-why : tie.Need-enum-known-why
 enum-known-why c = search needs
@@ -47,7 +48,7 @@ read-noted-requires-2 : tie.Need-read-noted-requires-2
 read-noted-requires-2 c κs =
     let q9 = c .before .before .before .before .before .before .before .before .before in
     let q18 = q9 .before .before .before .before .before .before .before .before .before in
-    (omega (arith, q18 .pre .1), omega arith)
+    (omega arith, omega (arith, q18 .pre .2), omega arith)
 
 slice-aggregate-store-notes : tie.Need-slice-aggregate-store-notes
 slice-aggregate-store-notes c = search needs
@@ -65,9 +66,10 @@ store-notes-requires c κs =
     let q25 = q19 .before .before .before .before .before .before in
     let s = q25 in
     let b = s .args .block .now in
-    let w = celled-noted _ (fills-as (q15 .n .given .1) (q19 .read-noted .ensures)) (omega arith) (omega arith) in
+    let k = q19 .read-noted .kept .1 .1 in
+    let w = celled-noted _ (fills-as (q15 .n .given .1) (q19 .read-noted .ensures)) (omega (arith, k .0)) (omega (arith, k .1 .0)) in
     let a = accepts b (sizeOf b) _ (sym (q9 .enum-told2 .given .1) ∙ q11 .judge-noted .ensures) in
-    all-notes (w .1) (a .passes) (s .pre .0) (s .pre .0) (omega (arith, s .pre .1, q6 .read-noted2 .kept .1 .0))
+    all-notes (w .1) (a .passes) (s .pre .1) (s .pre .1) (omega (arith, s .pre .2, q6 .read-noted2 .kept .1 .1 .0))
 
 returns : tie.Need-returns
 returns c =
@@ -81,7 +83,7 @@ returns-2 c =
     let s = q17 in
     let b = s .args .block .now in
     let w = celled-noted _ (fills-as (q7 .n .given .1) (q11 .read-noted .ensures)) (omega arith) (omega arith) in
-    noted-stop b (sizeOf b) (listedIn (s .args .text .now)) _ (w .0)
+    noted-stop b (sizeOf b) (listedAt (s .args .form .most) (s .args .form .from) (s .args .text .now)) _ (w .0)
     (sym (c .before .why .given .1) ∙ c .before .before .before .judge-noted .ensures)
 
 same-length : tie.Need-same-length
@@ -99,7 +101,7 @@ returns-3 c =
     let b = s .args .block .now in
     let w = celled-noted _ (fills-as (q18 .n .given .1) (q22 .read-noted .ensures)) (omega arith) (omega arith) in
     let a = accepts b (sizeOf b) _ (sym (q12 .enum-told2 .given .1) ∙ q14 .judge-noted .ensures) in
-    noted-fine b (sizeOf b) (listedIn (s .args .text .now)) (w .0) (w .1) a (q9 .read-noted2 .ensures) (c .before .before .store-notes .ensures)
+    noted-fine b (sizeOf b) (listedAt (s .args .form .most) (s .args .form .from) (s .args .text .now)) (w .0) (w .1) a (q9 .read-noted2 .ensures) (c .before .before .store-notes .ensures)
 
 pub load-noted-spec : {M : Type 1} → statement M
 load-noted-spec =

@@ -1,6 +1,7 @@
 use Prim.Native.Nat.{_≤_}
 use mathlib.Core.Path.{sym, _∙_}
 use native.Mathlib.Omega.{arith}
+use Rattle.rows.specs.Limits.{largestBlock}
 use borrow.Author.Tests.{not-true, not-false}
 use Rattle.notes.proofs.Matched.{sane-noted, room-for}
 use Rattle.notes.proofs.Stored.{heads-kept, count-kept}
@@ -92,7 +93,7 @@ drop-note-requires c κs =
     in
     let few = rows-less (s .table .now) (n .n .given .0 .1 .0) (k .noted .order .few) in
     let gone = remove .remove .ensures in
-    let small : size-of .size-of .result ≤ 16384 = omega (arith, size-of .size-of .ensures) in (
+    let small : size-of .size-of .result ≤ largestBlock = omega (arith, size-of .size-of .ensures) in (
       (k .count ∙ sym (k .noted .count) ∙ sym (count-kept _ _ few gone), omega (arith, k .count, k .noted .order .few), omega arith),
       rw (heads-kept _ _ few gone) (omega (arith, room-for (k .noted) small, remove .remove .kept .0)),
     )

@@ -1,6 +1,7 @@
 -- The greeting's row, then its note (Fitted).
 use mathlib.Core.Path.{sym, _∙_}
 use native.Mathlib.Omega.{arith}
+use Rattle.notes.proofs.Taken.{heard-few}
 use Rattle.store.proofs.Fitted.{closed-count, gap-told, gap-asks, behind-asks, fit-gap, fit-behind}
 use borrow.Author.Needs.{needs}
 use Rattle.store.proofs.fit.Statement.{statement}
@@ -8,7 +9,7 @@ use Rattle.store.proofs.fit.Tie as tie
 use Rattle.store.proofs.fit.Reads as reads
 use Rattle.store.proofs.fit.Lts as lts
 use Rattle.closing.proofs.close_up.Reads as close-up-reads
-use Rattle.notes.proofs.put_note.Reads as put-note-reads
+use Rattle.notes.proofs.put_taken.Reads as put-taken-reads
 use Rattle.rows.proofs.lowest_gap.Reads as lowest-gap-reads
 use Rattle.store.proofs.place.Reads as place-reads
 
@@ -32,8 +33,8 @@ place-requires c κs =
       (omega (arith, g .1, p .0 .3), omega (arith, g .1, p .0 .4)),
     )
 
-put-note-requires : tie.Need-put-note-requires
-put-note-requires c κs =
+put-taken-requires : tie.Need-put-taken-requires
+put-taken-requires c κs =
     let place = c .before .before .before .before .before in
     let i = place .before .before .before .before in
     let gap = i .before .before in
@@ -42,12 +43,12 @@ put-note-requires c κs =
     let p = s .pre in
     let found = sym (i .i .given .1) ∙ gap .lowest-gap .ensures in
     let q = p .1 .0 in
-    let r = p .1 .1 .0 in
+    let r = p .1 .1 in
     let g = gap-told (a .table .now) (a .size) (a .number) (a .octets .now) (q .0) (p .0 .0) found in
     let k = gap-asks (a .table .now) (a .size) (a .number) (a .octets .now) (q .0) (p .0 .0) (p .0 .4) (p .0 .1) (omega (arith, q .1, q .2))
-    (r .2) found (place .place .ensures .1) (place .place .kept .1 .0)
+    (heard-few (r .heard)) found (place .place .ensures .1) (place .place .kept .1 .0)
     in
-    ((k .count, p .0 .1, g .0, r .3), (k .room, (omega (arith, r .0), r .1, omega (arith, r .2, q .2, p .0 .4))))
+    ((k .count, p .0 .1, g .0, r), k .room)
 
 enum-told : tie.Need-enum-told
 enum-told c = search needs
@@ -68,19 +69,20 @@ place-requires-2 c κs =
       (omega (arith, q .2, p .0 .3, up .kept .0), omega (arith, q .2, p .0 .4)),
     )
 
-put-note-requires-2 : tie.Need-put-note-requires-2
-put-note-requires-2 c κs =
+put-taken-requires-2 : tie.Need-put-taken-requires-2
+put-taken-requires-2 c κs =
     let place = c .before .before .before .before .before in
     let close = place .before .before .before .before .before .before .before in
     let s = close .before .before .before .before .before .before .before .before .before .before .before in
     let a = s .args in
     let p = s .pre in
     let q = p .1 .0 in
-    let r = p .1 .1 .0 in
+    let r = p .1 .1 in
     let k = behind-asks (a .table .now) (a .size) (a .number) (a .octets .now) (q .0) (p .0 .0) (p .0 .4) (p .0 .1) (omega (arith, q .1, q .2))
-    (r .2) (a .behind) (close .close-up .ensures) (place .place2 .ensures .1) (place .place2 .kept .1 .0 ∙ close .close-up .kept .1 .0)
+    (heard-few (r .heard)) (a .behind) (close .close-up .ensures) (place .place2 .ensures .1)
+    (place .place2 .kept .1 .0 ∙ close .close-up .kept .1 .0)
     in
-    ((k .count, p .0 .1, omega arith, r .3), (k .room, (omega (arith, r .0), r .1, omega (arith, r .2, q .2, p .0 .4))))
+    ((k .count, p .0 .1, omega arith, r), k .room)
 
 same-length : tie.Need-same-length
 same-length c = search needs
@@ -99,8 +101,8 @@ returns c =
     let p = s .pre in
     let found = sym (i .i .given .1) ∙ gap .lowest-gap .ensures in
     let g = gap-told (a .table .now) (a .size) (a .number) (a .octets .now) (p .1 .0 .0) (p .0 .0) found in
-    fit-gap (a .block .now) (a .table .now) (a .size) (a .sound .law) (a .number) (a .octets .now) (p .1 .1 .1) (omega (arith, p .0 .0, p .0 .1))
-    found (omega (arith, g .0, p .0 .0)) (place .place .ensures .0) (place .place .ensures .1) (note .put-note .ensures)
+    fit-gap (a .block .now) (a .table .now) (a .size) (a .sound .law) (a .number) (a .octets .now) (omega (arith, p .0 .0, p .0 .1))
+    found (omega (arith, g .0, p .0 .0)) (place .place .ensures .0) (place .place .ensures .1) (note .put-taken .ensures)
 
 same-length-3 : tie.Need-same-length-3
 same-length-3 c = search needs
@@ -118,8 +120,8 @@ returns-2 c =
     let a = s .args in
     let p = s .pre in
     let none = sym (told .enum-told .given .1) ∙ told .before .before .lowest-gap .ensures in
-    fit-behind (a .block .now) (a .table .now) (a .size) (a .sound .law) (a .number) (a .octets .now) (p .1 .1 .1) (omega (arith, p .0 .0, p .0 .1))
-    none (close .close-up .ensures) (p .1 .0 .1) (p .0 .0) (place .place2 .ensures .0) (place .place2 .ensures .1) (note .put-note2 .ensures)
+    fit-behind (a .block .now) (a .table .now) (a .size) (a .sound .law) (a .number) (a .octets .now) (omega (arith, p .0 .0, p .0 .1))
+    none (close .close-up .ensures) (p .1 .0 .1) (p .0 .0) (place .place2 .ensures .0) (place .place2 .ensures .1) (note .put-taken2 .ensures)
 
 pub fit-spec : {M : Type 1} → statement M
 fit-spec =
@@ -128,11 +130,11 @@ fit-spec =
     lowest-gap-requires
     enum-known-i
     place-requires
-    put-note-requires
+    put-taken-requires
     enum-told
     close-up-requires
     place-requires-2
-    put-note-requires-2
+    put-taken-requires-2
     same-length
     same-length-2
     returns

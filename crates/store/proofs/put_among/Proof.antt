@@ -1,14 +1,14 @@
 -- TAKEN, longer than the block, BAD; then what was taken of the walk is the greeting's note (Called).
 use native.Mathlib.Omega.{arith}
 use Rattle.marks.proofs.Taking.{taken-bad}
-use Rattle.store.proofs.Called.{put-taken, put-long, put-bad, sound-taken}
+use Rattle.notes.proofs.Taken.{taken}
+use Rattle.store.proofs.Called.{put-taken, put-long, put-bad}
 use borrow.Author.Needs.{needs}
 use Rattle.store.proofs.put_among.Statement.{statement}
 use Rattle.store.proofs.put_among.Tie as tie
 use Rattle.store.proofs.put_among.Reads as reads
 use Rattle.store.proofs.put_among.Lts as lts
 use Rattle.marks.proofs.take.Reads as take-reads
-use Rattle.rows.proofs.wide.Reads as wide-reads
 use Rattle.store.proofs.over_long.Reads as over-long-reads
 use Rattle.store.proofs.put_sound.Reads as put-sound-reads
 
@@ -42,23 +42,17 @@ enum-told c = search needs
 enum-known-samples : tie.Need-enum-known-samples
 enum-known-samples c = search needs
 
-wide-requires : tie.Need-wide-requires
-wide-requires c κs = search needs
-
 slice-aggregate-put-sound : tie.Need-slice-aggregate-put-sound
 slice-aggregate-put-sound c = search needs
 
 put-sound-requires : tie.Need-put-sound-requires
 put-sound-requires c κs =
-    let wide = c .before .wide .ensures in
-    let told = c .before .before .before .before .before in
-    let take = told .before .before .before .take .ensures in
-    let s = told .before .before .before .before .before .before .before .before .before .before in
+    let told = c .before .before .before .before in
+    let take = told .before .before .before in
+    let s = take .before .before .before .before .before .before .before in
     let p = s .pre in
-    let k = sound-taken take (told .samples .given .1) wide (omega arith) in (
-      (p .0, omega arith, k .fine),
-      ((p .1 .0, p .1 .1, p .1 .3, omega arith), ((omega (arith, wide), k .heard, k .few, k .fits), k .note)),
-    )
+    let k = taken (take .take .ensures) (told .samples .given .1) (omega arith) (omega arith) (take .take .kept .1 .1 .0) in
+    ((p .0, omega arith), ((p .1 .0, p .1 .1, p .1 .3, omega arith), k))
 
 returns-3 : tie.Need-returns-3
 returns-3 c =
@@ -76,9 +70,7 @@ same-length-2 : tie.Need-same-length-2
 same-length-2 c = search needs
 
 returns-4 : tie.Need-returns-4
-returns-4 c =
-    let put = c .before .before .before .before in
-    rw (put .before .before .wide .ensures) at (put .put-sound .ensures)
+returns-4 c = c .before .before .before .before .put-sound .ensures
 
 pub put-among-spec : {M : Type 1} → statement M
 put-among-spec =
@@ -91,7 +83,6 @@ put-among-spec =
     take-requires
     enum-told
     enum-known-samples
-    wide-requires
     slice-aggregate-put-sound
     put-sound-requires
     returns-3

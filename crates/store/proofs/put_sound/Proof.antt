@@ -14,8 +14,8 @@ returns c =
     let s = c .before .before .before .before .before in
     let a = s .args in
     let p = s .pre in
-    put-full (a .block .now) (a .table .now) (a .size) (a .sound .law) (a .number) (a .octets .now) (p .0 .0) (p .1 .1 .0 .0)
-    (p .0 .1) (p .0 .2) (omega arith)
+    put-full (a .block .now) (a .table .now) (a .size) (a .sound .law) (a .number) (a .octets .now) (p .0 .0) (p .1 .1 .heard .lawful)
+    (p .0 .1) (p .1 .1 .heard .fine) (omega arith)
 
 held-requires : tie.Need-held-requires
 held-requires c κs = search needs
@@ -32,8 +32,8 @@ returns-2 c =
     let s = c .before .before .before .before .before .before .before .before in
     let a = s .args in
     let p = s .pre in
-    put-no-room (a .block .now) (a .table .now) (a .size) (a .sound .law) (a .number) (a .octets .now) (p .0 .0) (p .1 .1 .0 .0)
-    (p .0 .1) (p .0 .2) (omega arith) (held .0) (omega (arith, held .1))
+    put-no-room (a .block .now) (a .table .now) (a .size) (a .sound .law) (a .number) (a .octets .now) (p .0 .0) (p .1 .1 .heard .lawful)
+    (p .0 .1) (p .1 .1 .heard .fine) (omega arith) (held .0) (omega (arith, held .1))
 
 fit-requires : tie.Need-fit-requires
 fit-requires c κs =
@@ -59,8 +59,8 @@ returns-3 c =
     let s = room .before .before .before .before .before .before .before .before in
     let a = s .args in
     let p = s .pre in
-    put-fits (a .block .now) (a .table .now) (a .size) (a .sound .law) (a .number) (a .octets .now) (p .0 .0) (p .1 .1 .0 .0)
-    (p .0 .1) (p .0 .2) (omega arith) (held .0) (omega (arith, held .1, room .if2 .left)) (fit .fit .ensures)
+    put-fits (a .block .now) (a .table .now) (a .size) (a .sound .law) (a .number) (a .octets .now) (p .0 .0) (p .1 .1 .heard .lawful)
+    (p .0 .1) (p .1 .1 .heard .fine) (omega arith) (held .0) (omega (arith, held .1, room .if2 .left)) (fit .fit .ensures)
 
 pub put-sound-spec : {M : Type 1} → statement M
 put-sound-spec =

@@ -29,19 +29,19 @@ enum-known-law : tie.Need-enum-known-law
 enum-known-law c = search needs
 
 returns : tie.Need-returns
-returns c = head-no-row _ _ (sym (ap asRow (c .enum-told .given .1)) ∙ c .before .before .line-of .ensures)
+returns c = head-no-row _ _ _ (sym (ap asRow (c .enum-told .given .1)) ∙ c .before .before .line-of .ensures)
 
 returns-2 : tie.Need-returns-2
 returns-2 c =
     let n = c .before .before .before .before .before in
-    head-no-law _ _ (sym (ap asRow (n .number .given .1)) ∙ n .before .before .line-of .ensures)
+    head-no-law _ _ _ (sym (ap asRow (n .number .given .1)) ∙ n .before .before .line-of .ensures)
     (told (c .enum-told2 .given .1) (c .before .before .ranged-line .ensures))
 
 returns-3 : tie.Need-returns-3
 returns-3 c =
     let l = c .before in
     let n = l .before .before .before .before .before in
-    head-whole _ _ (sym (ap asRow (n .number .given .1)) ∙ n .before .before .line-of .ensures)
+    head-whole _ _ _ (sym (ap asRow (n .number .given .1)) ∙ n .before .before .line-of .ensures)
     (told (l .law .given .1) (l .before .before .ranged-line .ensures))
 
 pub head-at-spec : {M : Type 1} → statement M

@@ -8,6 +8,9 @@ use Rattle.tables.proofs.line_of.Tie as tie
 slice-aggregate-ranged-line : tie.Need-slice-aggregate-ranged-line
 slice-aggregate-ranged-line c = search needs
 
+cast-ranged-line : tie.Need-cast-ranged-line
+cast-ranged-line c = search needs
+
 ranged-line-requires : tie.Need-ranged-line-requires
 ranged-line-requires c κs = search needs
 
@@ -43,19 +46,19 @@ enum-known-octets c = search needs
 
 returns : tie.Need-returns
 returns c =
-    no-prompt _ _ (told (c .enum-told .given .1) (c .before .before .ranged-line .ensures))
+    no-prompt _ _ _ (told (c .enum-told .given .1) (c .before .before .ranged-line .ensures))
 
 returns-2 : tie.Need-returns-2
 returns-2 c =
     let n = c .before .before .before .before .before in
-    no-start _ _ (told (n .number .given .1) (n .before .before .ranged-line .ensures))
+    no-start _ _ _ (told (n .number .given .1) (n .before .before .ranged-line .ensures))
     (told (c .enum-told2 .given .1) (c .before .before .ranged-line2 .ensures))
 
 returns-3 : tie.Need-returns-3
 returns-3 c =
     let s = c .before .before .before .before .before in
     let n = s .before .before .before .before .before in
-    no-octets _ _ (told (n .number .given .1) (n .before .before .ranged-line .ensures))
+    no-octets _ _ _ (told (n .number .given .1) (n .before .before .ranged-line .ensures))
     (told (s .start .given .1) (s .before .before .ranged-line2 .ensures))
     (told (c .enum-told3 .given .1) (c .before .before .ranged-line3 .ensures))
 
@@ -64,7 +67,7 @@ returns-4 c =
     let o = c .before in
     let s = o .before .before .before .before .before in
     let n = s .before .before .before .before .before in
-    row-whole _ _ (told (n .number .given .1) (n .before .before .ranged-line .ensures))
+    row-whole _ _ _ (told (n .number .given .1) (n .before .before .ranged-line .ensures))
     (told (s .start .given .1) (s .before .before .ranged-line2 .ensures))
     (told (o .octets .given .1) (o .before .before .ranged-line3 .ensures))
 
@@ -73,6 +76,7 @@ line-of-spec =
     tie.close
     (tie.spec
     slice-aggregate-ranged-line
+    cast-ranged-line
     ranged-line-requires
     enum-told
     enum-known-number

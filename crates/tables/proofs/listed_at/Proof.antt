@@ -25,18 +25,18 @@ enum-known-b : tie.Need-enum-known-b
 enum-known-b c = search needs
 
 returns : tie.Need-returns
-returns c = listed-no-head _ _ (sym (ap asHead (c .enum-told .given .1)) ∙ c .before .before .head-at .ensures)
+returns c = listed-no-head _ _ _ (sym (ap asHead (c .enum-told .given .1)) ∙ c .before .before .head-at .ensures)
 
 returns-2 : tie.Need-returns-2
 returns-2 c =
     let n = c .before .before .before .before in
-    listed-astray _ _ (sym (ap asHead (n .number .given .1)) ∙ n .before .before .head-at .ensures)
+    listed-astray _ _ _ (sym (ap asHead (n .number .given .1)) ∙ n .before .before .head-at .ensures)
     (sym (c .enum-told2 .given .1) ∙ c .before .before .note-past .ensures)
 
 returns-3 : tie.Need-returns-3
 returns-3 c =
     let n = c .before .before .before .before .before in
-    listed-whole _ _ (sym (ap asHead (n .number .given .1)) ∙ n .before .before .head-at .ensures)
+    listed-whole _ _ _ (sym (ap asHead (n .number .given .1)) ∙ n .before .before .head-at .ensures)
     (sym (c .before .b .given .1) ∙ c .before .before .before .note-past .ensures)
 
 pub listed-at-spec : {M : Type 1} → statement M

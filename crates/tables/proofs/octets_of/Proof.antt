@@ -91,7 +91,9 @@ returns : tie.Need-returns Inv-loop μ-loop
 returns c =
     let l = c .before in
     let a = l .before .before .before .before .args in
-    counting-end (l .loop .inv .2) (text-over (a .table .now) (a .heads .now) (a .marks .now) (a .n) (l .loop .from) (l .loop .i) (omega arith))
+    let s = l .loop .inv in
+    let all = text-over (a .table .now) (a .heads .now) (a .marks .now) (a .n) (l .loop .from) (l .loop .i) (omega arith) in
+    (counting-end (s .2) all, omega (arith, s .2 .few))
 
 pub octets-of-spec : {M : Type 1} → statement M
 octets-of-spec =

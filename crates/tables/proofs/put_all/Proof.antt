@@ -10,11 +10,11 @@ use Rattle.tables.proofs.put_all.Statement.{statement}
 use Rattle.tables.proofs.put_all.Tie as tie
 
 abbrev Inv-loop : tie.InvT-loop
-Inv-loop table heads marks n out₀ at₀ from₀ i₀ out at from i = (i ≤ n) × Within heads marks n from i
-    × Putting (listedText (heldIn table heads marks n)) (textLeft table heads marks n from i) out₀ 0 out at
+Inv-loop table heads marks n out₀ start at₀ from₀ i₀ out at from i = (i ≤ n) × Within heads marks n from i
+    × Putting (listedText (heldIn table heads marks n)) (textLeft table heads marks n from i) out₀ start out at
 
 abbrev μ-loop : tie.MeasureT-loop
-μ-loop table heads marks n out₀ at₀ from₀ i₀ out at from i = n - i
+μ-loop table heads marks n out₀ start at₀ from₀ i₀ out at from i = n - i
 
 loop-holds : tie.Need-loop-holds Inv-loop μ-loop
 loop-holds c = (omega arith, within-first _ _ _ (omega arith), putting-first _ _ (text-start _ _ _ _))

@@ -1,10 +1,19 @@
--- The second list and the marks are parts of the table.
+-- The first line, then the greetings: the second list and the marks are parts of the table.
 use native.Mathlib.Omega.{arith}
 use Rattle.tables.proofs.Writing.{parts-fit, parts-text}
-use Rattle.lines.proofs.Putting.{puts-as}
+use lib.ListN.{length-append}
+use Rattle.lines.proofs.Putting.{puts-as, puts-then}
+use Rattle.tables.specs.Noted.{listedText}
+use Rattle.tables.specs.Held.{heldOf}
+use Rattle.tables.specs.Form.{formBy}
 use borrow.Author.Needs.{needs}
 use Rattle.tables.proofs.put_text.Statement.{statement}
 use Rattle.tables.proofs.put_text.Tie as tie
+
+put-form-requires : tie.Need-put-form-requires
+put-form-requires c κs =
+    let s = c .before .before .before in
+    omega (arith, length-append (formBy (s .args .size)) (listedText (heldOf (s .args .table .now) (s .args .n))))
 
 sub-put-all : tie.Need-sub-put-all
 sub-put-all c = search needs
@@ -26,20 +35,29 @@ part-put-all-end-2 c = search needs
 
 put-all-requires : tie.Need-put-all-requires
 put-all-requires c κs =
-    let a = c .before .before .before .before .before .args in
-    (parts-fit (a .table .now) _ (omega arith) (omega arith), rw (parts-text (a .table .now) (a .n)) (omega arith))
+    let form = c .before .before .before .before .before in
+    let a = form .before .before .before .before .args in
+    let p = form .put-form .ensures in
+    let l = length-append (formBy (a .size)) (listedText (heldOf (a .table .now) (a .n))) in (
+      parts-fit (a .table .now) _ (omega arith) (omega arith),
+      rw (parts-text (a .table .now) (a .n)) (omega (arith, l, p .place, form .put-form .kept .1 .0)),
+    )
 
 same-length : tie.Need-same-length
 same-length c = search needs
 
 returns : tie.Need-returns
 returns c =
-    puts-as (parts-text (c .before .before .before .before .before .before .before .before .args .table .now) _) (c .before .before .put-all .ensures)
+    let all = c .before .before in
+    let form = all .before .before .before .before .before .before in
+    let a = form .before .before .before .before .args in
+    puts-then (form .put-form .ensures) (puts-as (parts-text (a .table .now) _) (all .put-all .ensures))
 
 pub put-text-spec : {M : Type 1} → statement M
 put-text-spec =
     tie.close
     (tie.spec
+    put-form-requires
     sub-put-all
     part-put-all-start
     part-put-all-end

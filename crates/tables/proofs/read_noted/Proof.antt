@@ -10,14 +10,14 @@ use Rattle.tables.proofs.read_noted.Statement.{statement}
 use Rattle.tables.proofs.read_noted.Tie as tie
 
 abbrev Inv-loop : tie.InvT-loop
-Inv-loop text cells₀ laws₀ k₀ at₀ cells laws k at =
-    (length cells ≡ length cells₀) × (length laws ≡ length laws₀) × Noting text cells₀ cells laws₀ laws k at
+Inv-loop text form cells₀ laws₀ k₀ at₀ cells laws k at =
+    (length cells ≡ length cells₀) × (length laws ≡ length laws₀) × Noting (form .most) (form .from) text cells₀ cells laws₀ laws k at
 
 abbrev μ-loop : tie.MeasureT-loop
-μ-loop text cells₀ laws₀ k₀ at₀ cells laws k at = 32 - k
+μ-loop text form cells₀ laws₀ k₀ at₀ cells laws k at = 32 - k
 
 loop-holds : tie.Need-loop-holds Inv-loop μ-loop
-loop-holds c = (refl, refl, noting-first _ _ _)
+loop-holds c = (refl, refl, noting-first _ _ _ _ _)
 
 same-length : tie.Need-same-length Inv-loop μ-loop
 same-length c = c .before .before .loop .inv .0

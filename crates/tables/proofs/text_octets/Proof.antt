@@ -1,11 +1,18 @@
--- The second list and the marks are parts of the table.
-use mathlib.Core.Path.{ap, _∙_}
+-- The first line, then the greetings: the second list and the marks are parts of the table.
+use mathlib.Core.Path.{ap}
 use native.Mathlib.Omega.{arith}
-use lib.ListN.{length}
+use lib.ListN.{length, length-append}
+use Rattle.tables.specs.Noted.{listedText}
+use Rattle.tables.specs.Held.{heldOf}
+use Rattle.tables.specs.Form.{formBy}
+use Rattle.tables.proofs.Formed.{form-few}
 use Rattle.tables.proofs.Writing.{parts-fit, parts-text}
 use borrow.Author.Needs.{needs}
 use Rattle.tables.proofs.text_octets.Statement.{statement}
 use Rattle.tables.proofs.text_octets.Tie as tie
+
+form-octets-requires : tie.Need-form-octets-requires
+form-octets-requires c κs = search needs
 
 sub-octets-of : tie.Need-sub-octets-of
 sub-octets-of c = search needs
@@ -26,15 +33,26 @@ part-octets-of-end-2 : tie.Need-part-octets-of-end-2
 part-octets-of-end-2 c = search needs
 
 octets-of-requires : tie.Need-octets-of-requires
-octets-of-requires c κs = parts-fit (c .before .before .before .args .table .now) _ (omega arith) (omega arith)
+octets-of-requires c κs = parts-fit (c .before .before .before .before .args .table .now) _ (omega arith) (omega arith)
+
+add-result : tie.Need-add-result
+add-result c =
+    let form = c .before .before .before in
+    omega (arith, c .octets-of .ensures .1, form .form-octets .ensures, form-few (form .before .before .args .size))
 
 returns : tie.Need-returns
-returns c = c .octets-of .ensures ∙ ap length (parts-text (c .before .before .before .before .args .table .now) _)
+returns c =
+    let form = c .before .before .before in
+    let a = form .before .before .args in
+    let l = length-append (formBy (a .size)) (listedText (heldOf (a .table .now) (a .n))) in
+    let m = ap length (parts-text (a .table .now) (a .n)) in
+    omega (arith, l, m, c .octets-of .ensures .0, form .form-octets .ensures)
 
 pub text-octets-spec : {M : Type 1} → statement M
 text-octets-spec =
     tie.close
     (tie.spec
+    form-octets-requires
     sub-octets-of
     part-octets-of-start
     part-octets-of-end
@@ -42,4 +60,5 @@ text-octets-spec =
     part-octets-of-start-2
     part-octets-of-end-2
     octets-of-requires
+    add-result
     returns)

@@ -2,11 +2,11 @@
 use borrow.Author.Needs.{needs}
 use borrow.Author.Tests.{not-true, not-false}
 use native.Mathlib.Omega.{arith}
-use Prim.Native.Nat.{_-_}
+use Prim.Native.Nat.{_+_, _*_, _-_, _≤_}
 use mathlib.Core.Path.{_≡_, refl, _∙_}
 use mathlib.Core.Bool.{true}
 use lib.ListN.{length}
-use Rattle.unpack.proofs.Running.{Going, going-first, next-sound, going-on, goes-whole}
+use Rattle.unpack.proofs.Running.{part-inside, Going, going-first, next-sound, going-on, goes-whole}
 use Rattle.unpack.proofs.parts.Statement.{statement}
 use Rattle.unpack.proofs.parts.Tie as tie
 
@@ -26,6 +26,17 @@ module _ (d : tie.After-use-part Inv-loop μ-loop) where
 
   same-master : length (d .use-part .last .1 .1 .1 .1 .1 .1 .1 .0) ≡ length (start .args .master .now)
   same-master = d .use-part .kept .1 .1 .1 .1 .1 .1 .1 .0 ∙ d .before .before .before .before .before .before .before .loop .inv .1
+
+  -- and the totals keep within the stream
+  within :
+      let p = d .before .before .before .before .before .next-part .result in
+      let n = d .before .before .before .before .before .before .before .loop in
+      (p .at ≤ length (start .args .stream .now)) × (n .frames + p .frames ≤ length (start .args .stream .now)) × (n .samples + d .use-part .result .good ≤ 320 * (n .frames + p .frames))
+  within =
+      let p = d .before .before .before .before .before .next-part in
+      let w = d .before .before .before .before .before .before .before .loop .inv .0 in
+      let i = part-inside _ _ _ _ _ (p .ensures .0) (w .inside) in
+      (i .0, omega (arith, i .1, w .few), omega (arith, d .use-part .ensures .most, p .ensures .1 .held, w .held))
 
 loop-holds : tie.Need-loop-holds Inv-loop μ-loop
 loop-holds c = (going-first _ _ _ _, refl)
@@ -58,7 +69,7 @@ same-length-2 : tie.Need-same-length-2 Inv-loop μ-loop
 same-length-2 c = same-master (c .before .before .before .before .before .before)
 
 returns : tie.Need-returns Inv-loop μ-loop
-returns c e = absurd (c .if1 .taken e)
+returns c = (λ e. absurd (c .if1 .taken e), within (c .before .before .before .before .before .before))
 
 same-length-3 : tie.Need-same-length-3 Inv-loop μ-loop
 same-length-3 c = same-page (c .before .before .before .before .before .before .before .before)
@@ -67,10 +78,12 @@ same-length-4 : tie.Need-same-length-4 Inv-loop μ-loop
 same-length-4 c = same-master (c .before .before .before .before .before .before .before .before)
 
 returns-2 : tie.Need-returns-2 Inv-loop μ-loop
-returns-2 c e =
+returns-2 c =
     let d = c .before .before .before .before .before .before .before .before in
-    let p = d .before .before .before .before .before .next-part in
-    goes-whole _ _ _ (d .before .before .before .before .before .before .before .loop .inv .0) (p .ensures .0) (p .ensures .1) (p .kept .1 .1 .1 .1 .0) (d .use-part .ensures .all e) (not-true _ (c .if2 .taken))
+    let p = d .before .before .before .before .before .next-part in (
+      λ e. goes-whole _ _ _ (d .before .before .before .before .before .before .before .loop .inv .0) (p .ensures .0) (p .ensures .1) (p .kept .1 .1 .1 .1 .0) (d .use-part .ensures .all e) (not-true _ (c .if2 .taken)),
+      within d,
+    )
 
 loop-less : tie.Need-loop-less Inv-loop μ-loop
 loop-less c =
