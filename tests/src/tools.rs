@@ -3,7 +3,7 @@
 
 use crate::program::{built, line, repository, run, words};
 use crate::recordings::{cuts, packed, Packed};
-use crate::{Codec, Second, ALL_TOOLS, ENDINGS, MOST};
+use crate::{Codec, Second, ALL_TOOLS, ENDINGS, LISTED_TOOLS, MOST};
 use std::path::{Path, PathBuf};
 use std::process::Command;
 
@@ -14,8 +14,9 @@ pub const DIFFERS: u32 = 65;
 pub const LOST: u32 = 66;
 pub const FILES: u32 = 74;
 
-/// The set of a tool that is not told one.
-pub const UNLESS_SAID: u32 = ALL_TOOLS;
+/// The sets of tools that are not told one: `pack` and `why` have what boxes of before R-14 read, `unpack` reads all.
+pub const PACKED_WITH: u32 = LISTED_TOOLS;
+pub const READ_WITH: u32 = ALL_TOOLS;
 
 /// The last line: `stop=N at=P tool=T`, and of `unpack` and `mend` ` bit=B` behind it.
 #[derive(Clone, Copy, Debug, PartialEq, Eq)]

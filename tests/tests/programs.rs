@@ -6,7 +6,9 @@ use std::fs;
 use tests::forms::LENGTHS;
 use tests::mend::TOTAL;
 use tests::recordings::{packed, recordings, Recording};
-use tests::tools::{law_words, mend_wanted, plus_zero, same, why_wanted, Room, Stop, FILES, UNLESS_SAID, USAGE};
+use tests::tools::{
+    law_words, mend_wanted, plus_zero, same, why_wanted, Room, Stop, FILES, PACKED_WITH, READ_WITH, USAGE,
+};
 use tests::{odd_set, say, Second, MOST, MOST_LISTED, TOOLS};
 
 fn room(name: &str) -> Room {
@@ -60,7 +62,7 @@ fn every_recording_explained() {
     for (turn, Recording { name, law, sound }) in recordings().into_iter().enumerate() {
         let length = [160, 80, 240, 40, 320][turn / 2 % 5];
         room.put(&name, &sound);
-        let wanted = why_wanted(&sound, law, UNLESS_SAID, length);
+        let wanted = why_wanted(&sound, law, PACKED_WITH, length);
         let words = if length == 160 { name } else { format!("-n{length} {name}") };
         room.run("why", &words, &[]).ends(wanted.stop).writes(wanted.frames.concat().as_bytes());
         winners.count(&wanted.frames);
@@ -122,7 +124,7 @@ fn long_sounds_explained() {
         let mut sound = joined(law, usize::MAX);
         sound.truncate(sound.len() - less);
         assert!(sound.len() > 2 * MOST_LISTED);
-        explained(&mut room, &sound, law, UNLESS_SAID, length);
+        explained(&mut room, &sound, law, PACKED_WITH, length);
     }
     for samples in [MOST_LISTED - 15, MOST_LISTED + 25, MOST_LISTED + 26] {
         explained(&mut room, &joined(1, usize::MAX)[..samples], 1, 95, 240);
@@ -130,7 +132,7 @@ fn long_sounds_explained() {
     let sound = joined(0, usize::MAX).repeat(6);
     let most = MOST.next_multiple_of(40);
     assert!(sound.len() > most);
-    explained(&mut room, &sound[..most], 0, UNLESS_SAID, 320);
+    explained(&mut room, &sound[..most], 0, PACKED_WITH, 320);
     tell("sounds longer than 65,535 octets explained, one of more than 1,048,576", &room);
 }
 
@@ -139,7 +141,7 @@ fn long_sounds_explained() {
 fn one_frame_explained() {
     let mut room = room("one");
     let sound = joined(1, usize::MAX);
-    let whole = why_wanted(&sound, 1, UNLESS_SAID, 240);
+    let whole = why_wanted(&sound, 1, PACKED_WITH, 240);
     let last = whole.frames.len() - 1;
     room.put("long.ul8", &sound);
     for at in [0, 1, 273, 274, 500, last] {
@@ -154,7 +156,7 @@ fn one_frame_explained() {
     room.run("why", "-u -n40 -k1", &sound[..40]).ends(Stop::new(USAGE, 40, 0)).writes(&[]);
     room.run("why", "-u -k0", &[]).ends(Stop::new(USAGE, 0, 0)).writes(&[]);
     // A sound that no length fits: the frame's lines, if it is there, and LENGTH.
-    let unfit = why_wanted(&sound[..90], 1, UNLESS_SAID, 40);
+    let unfit = why_wanted(&sound[..90], 1, PACKED_WITH, 40);
     for (at, lines) in [(0, &unfit.frames[0][..]), (1, &unfit.frames[1][..]), (2, "")] {
         let ran = room.run("why", &format!("-u -n40 -k{at}"), &sound[..90]);
         ran.ends(Stop::new(10, 80, 0)).writes(lines.as_bytes());
@@ -168,9 +170,9 @@ fn sounds_that_no_length_fits() {
     let mut room = room("unfit");
     let sound = joined(0, usize::MAX);
     for (samples, length, kept) in [(50, 40, 40), (39, 160, 0), (1, 40, 0), (441, 160, 440), (639, 320, 600)] {
-        let frames = explained(&mut room, &sound[..samples], 0, UNLESS_SAID, length);
+        let frames = explained(&mut room, &sound[..samples], 0, PACKED_WITH, length);
         assert_eq!(frames.is_empty(), kept == 0);
-        assert_eq!(why_wanted(&sound[..samples], 0, UNLESS_SAID, length).stop, Stop::new(10, kept, 0));
+        assert_eq!(why_wanted(&sound[..samples], 0, PACKED_WITH, length).stop, Stop::new(10, kept, 0));
     }
     explained(&mut room, &sound[..100_001], 0, 63, 320);
     tell("sounds that no length fits", &room);
@@ -235,7 +237,7 @@ fn mended(room: &mut Room, stream: &[u8], law: u32, total: usize) -> (u32, Vec<u
 fn greeting(recording: &Recording, length: usize, rng: &mut Prng) -> (Vec<u8>, usize) {
     let samples = 40 * (50 + rng.below(250));
     let at = rng.below(recording.sound.len() - samples);
-    let stream = packed(&Second, &recording.sound[at..at + samples], recording.law, UNLESS_SAID, length, MOST);
+    let stream = packed(&Second, &recording.sound[at..at + samples], recording.law, READ_WITH, length, MOST);
     (stream.octets, stream.samples)
 }
 
@@ -281,7 +283,7 @@ fn damaged_greetings() {
 fn undamaged_greetings() {
     let (mut room, mut rng) = (room("undamaged"), Prng::new(73));
     for recording in recordings().iter().filter(|one| one.name.starts_with("silence") || one.name.starts_with("hum")) {
-        let whole = packed(&Second, &recording.sound, recording.law, UNLESS_SAID, 160, MOST);
+        let whole = packed(&Second, &recording.sound, recording.law, READ_WITH, 160, MOST);
         let stream = [&whole.octets[..], &vec![0; rng.below(3)]].concat();
         let (walk, result) = mended(&mut room, &stream, recording.law, whole.samples);
         assert_eq!(walk, 0);

@@ -6,7 +6,7 @@ use second::recording::{heading, is_erased, read_file, write_file, LOSS};
 use tests::forms::LENGTHS;
 use tests::program::listing;
 use tests::recordings::{packed, recordings};
-use tests::tools::{law_words, same, Room, Stop, DIFFERS, LOST, UNLESS_SAID, USAGE};
+use tests::tools::{law_words, same, Room, Stop, DIFFERS, LOST, PACKED_WITH, READ_WITH, USAGE};
 use tests::{say, Codec, Second, MOST, MOST_LISTED};
 
 /// Octets of a heading.
@@ -125,7 +125,7 @@ fn packed_and_played() {
         let (length, law) = (LENGTHS[turn / 2 % 5], recording.law);
         let (option, ..) = law_words(law);
         let sound = &recording.sound[..recording.sound.len().min(40_000) / 320 * 320];
-        let stream = packed(&Second, sound, law, UNLESS_SAID, length, MOST);
+        let stream = packed(&Second, sound, law, PACKED_WITH, length, MOST);
         let file = [&heading(law)[..], &stream.octets].concat();
         room.put(&recording.name, sound);
         let ran = match turn % 2 {
@@ -135,12 +135,12 @@ fn packed_and_played() {
         let octets = if turn % 2 == 0 { ran.out.clone() } else { room.take("file") };
         same(&ran.line, &octets, &file);
         ran.ends(Stop::new(0, sound.len(), 0)).sums(stream.frames, sound.len(), file.len());
-        let back = wanted(&file, UNLESS_SAID, false);
+        let back = wanted(&file, READ_WITH, false);
         match back.lost {
             0 => assert!(!ran.err.contains("take them for lost"), "{}", ran.err),
             lost => drop(ran.says(&format!("take them for lost: {lost}\n"))),
         }
-        played(&mut room, &file, UNLESS_SAID, ["", "-v", "-g", "-g -v"][turn % 4]);
+        played(&mut room, &file, READ_WITH, ["", "-v", "-g", "-g -v"][turn % 4]);
     }
     tell("every recording packed with -r, and played", &room);
 }
@@ -165,19 +165,19 @@ fn losses_told() {
             for (turn, row) in rows.iter().enumerate() {
                 let whole: &[u8] = if turn == 0 { &[] } else { &samples };
                 let options = ["", "-v", "-g", "-v -g"][(turn + usize::from(length) / 40) % 4];
-                count(played(&mut room, &file_of(whole, row, law, UNLESS_SAID), UNLESS_SAID, options));
+                count(played(&mut room, &file_of(whole, row, law, READ_WITH), READ_WITH, options));
             }
         }
         for turn in 0..20 {
             let (samples, items) = drawn(law, 1 + rng.below(600), &mut rng);
-            let file = file_of(&samples, &items, law, UNLESS_SAID);
-            count(played(&mut room, &file, UNLESS_SAID, ["", "-v", "-g"][turn % 3]));
+            let file = file_of(&samples, &items, law, READ_WITH);
+            count(played(&mut room, &file, READ_WITH, ["", "-v", "-g"][turn % 3]));
             let body = damage_somehow(&file[HEAD..], &mut rng);
             let body = &body[..body.len().min(MOST)];
-            count(played(&mut room, &[&heading(law)[..], body].concat(), UNLESS_SAID, ["-v", "", "-g"][turn % 3]));
+            count(played(&mut room, &[&heading(law)[..], body].concat(), READ_WITH, ["-v", "", "-g"][turn % 3]));
             count(played(&mut room, &file, rng.below(256) as u32, ""));
-            count(played(&mut room, &file[..HEAD + rng.below(file.len() - HEAD)], UNLESS_SAID, ["", "-v"][turn % 2]));
-            count(played(&mut room, &[&file[..], &[0x46]].concat(), UNLESS_SAID, "-g"));
+            count(played(&mut room, &file[..HEAD + rng.below(file.len() - HEAD)], READ_WITH, ["", "-v"][turn % 2]));
+            count(played(&mut room, &[&file[..], &[0x46]].concat(), READ_WITH, "-g"));
         }
     }
     assert!([0, 1, 2, 3, LOST as usize].iter().all(|stop| stops[*stop] >= 20), "{stops:?}");
@@ -193,8 +193,8 @@ fn compared_and_as_masters() {
     for law in 0..2 {
         for (turn, on) in [false, true, false].into_iter().enumerate() {
             let (samples, items) = drawn(law, 30 + 300 * turn, &mut rng);
-            let file = file_of(&samples, &items, law, UNLESS_SAID);
-            let stop = wanted(&file, UNLESS_SAID, on).stop;
+            let file = file_of(&samples, &items, law, READ_WITH);
+            let stop = wanted(&file, READ_WITH, on).stop;
             let g = if on { "-g" } else { "" };
             room.put("file", &file);
             room.put("master", &samples);
@@ -210,7 +210,7 @@ fn compared_and_as_masters() {
             room.put("master", &[&samples[..], &[0]].concat());
             room.run("unpack", "-c master file", &[]).ends(Stop::new(DIFFERS, samples.len(), 0));
             // A WAV file and a linear master are those of the sound alone.
-            room.put("sound", &packed(&Second, &samples, law, UNLESS_SAID, 160, MOST).octets);
+            room.put("sound", &packed(&Second, &samples, law, READ_WITH, 160, MOST).octets);
             let (option, ..) = law_words(law);
             for form in ["-w", "-l"] {
                 room.run("unpack", &format!("{form} {g} file of-file"), &[]).ends(stop);
@@ -266,7 +266,7 @@ fn headings() {
         }
         // What does not begin as a heading is a stream, and its law must be told.
         for cut in 0..7 {
-            let stream = Second.walk(&file[..cut], law, UNLESS_SAID, &mut [0; 4_000]);
+            let stream = Second.walk(&file[..cut], law, READ_WITH, &mut [0; 4_000]);
             let stop = Stop { number: stream.ending, at: stream.place, tool: stream.tool, bit: stream.bit };
             room.run("unpack", own, &file[..cut]).ends(stop);
             room.run("unpack", "", &file[..cut]).ends(Stop::new(USAGE, 0, 0)).says("the law is not known");
@@ -276,7 +276,7 @@ fn headings() {
         room.run("unpack", "-s256", &file[..9]).ends(Stop::new(11, 0, 0));
         room.run("unpack", "-x -s128", &file).ends(Stop::new(USAGE, 0, 0));
         // A second heading is no frame; the listing takes no heading.
-        played(&mut room, &[&heading(law)[..], &file].concat(), UNLESS_SAID, "");
+        played(&mut room, &[&heading(law)[..], &file].concat(), READ_WITH, "");
         assert_eq!(listing(&file), b"stop=12 at=0 tool=0 bit=0\n");
         room.run("unpack", &format!("{own} -v"), &file[HEAD..])
             .ends(Stop::new(USAGE, 0, 0))
@@ -303,7 +303,7 @@ fn the_longest_recordings() {
             if octets > MOST {
                 room.run("unpack", "", &file).ends(Stop::new(13, 0, 0)).writes(&[]);
             } else {
-                played(&mut room, &file, UNLESS_SAID, ["", "-g"][law as usize]);
+                played(&mut room, &file, READ_WITH, ["", "-g"][law as usize]);
             }
         }
         let (option, ..) = law_words(law);

@@ -3,7 +3,7 @@
 use crate::{raw, Law, Refusal};
 use std::fmt;
 
-/// Octets that the lines are lent. They are at most 480 octets.
+/// Octets that the lines are lent. They are at most 508 octets.
 pub const WHY_TEXT: usize = 512;
 
 /// The tools that the lines name, in their order.
