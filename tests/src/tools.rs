@@ -216,6 +216,22 @@ pub fn unpack_wanted(stream: &[u8], law: u32, set: u32) -> UnpackWanted {
     UnpackWanted { stop, frames: got.frames, sound }
 }
 
+/// Octets that `unpack` reads at a time.
+pub const WINDOW: usize = 131_072;
+
+/// Where its windows begin in a stream, or in a recording's items: each with the last frame that begins in the one before,
+/// or at its end.
+pub fn windows(starts: &[usize], octets: usize) -> Vec<usize> {
+    let mut windows = vec![0];
+    loop {
+        let end = windows[windows.len() - 1] + WINDOW;
+        if octets <= end {
+            return windows;
+        }
+        windows.push(starts[starts.partition_point(|start| *start <= end) - 1]);
+    }
+}
+
 /// What `unpack -c` should say: where the sound and the master part, if that is in the frames kept; else how the stream
 /// ended; else whether the master goes on.
 pub fn verify_wanted(stream: &[u8], law: u32, set: u32, master: &[u8]) -> Stop {
