@@ -198,7 +198,7 @@ fn losses_behind_the_first_window() {
     let (mut room, mut rng) = (room("windows"), Prng::new(83));
     let (mut behind, mut across, mut stops) = (0, 0, [0; 70]);
     for law in 0..2 {
-        let loss = |length: u16| file_of(&[], &[LOSS + length], law, 127)[HEAD..].to_vec();
+        let loss = |length: u16| file_of(&[], &[LOSS + length], law, READ_WITH)[HEAD..].to_vec();
         for (turn, octets) in [WINDOW + 2, WINDOW + 700, 2 * WINDOW + 1_000, 400_000, MOST - 1, MOST].into_iter().enumerate() {
             // Frames as they are, then pads, then losses: one of two octets begins with the window's last octet, or just before or behind.
             let mut body = plain_frames(WINDOW / 321, &mut rng);
@@ -213,17 +213,17 @@ fn losses_behind_the_first_window() {
             }
             body.resize(octets.max(body.len()), 0x00);
             let file = [&heading(law)[..], &body].concat();
-            let all = wanted(&file, 127, false);
+            let all = wanted(&file, READ_WITH, false);
             behind += all.losses.lines().filter(|line| numbers(line)[1] >= WINDOW).count();
             let starts: Vec<usize> = all.items.lines().map(|line| numbers(line)[1]).collect();
             across += windows(&starts, body.len()).windows(2).filter(|two| two[1] < two[0] + WINDOW).count();
             for options in ["", "-g"] {
-                stops[played(&mut room, &file, 127, options).number as usize] += 1;
+                stops[played(&mut room, &file, READ_WITH, options).number as usize] += 1;
             }
-            stops[played(&mut room, &file[..file.len() - 1], 127, ["-v", ""][turn % 2]).number as usize] += 1;
+            stops[played(&mut room, &file[..file.len() - 1], READ_WITH, ["-v", ""][turn % 2]).number as usize] += 1;
             if octets < MOST - 1 {
                 for last in [&[0x46][..], &[0x30; 20]] {
-                    let stop = played(&mut room, &[&file[..], last].concat(), 127, "-g");
+                    let stop = played(&mut room, &[&file[..], last].concat(), READ_WITH, "-g");
                     assert_eq!(stop.at, body.len());
                     stops[stop.number as usize] += 1;
                 }
