@@ -166,6 +166,19 @@ impl Room {
             err: String::from_utf8_lossy(&ended.stderr).into_owned(),
         }
     }
+
+    /// Runs a tool with so many KiB of stack, by the system's limit and by the emulator's: its last line, if it came to its
+    /// end.
+    pub fn with_a_stack_of(&mut self, kib: usize, name: &str, args: &[&str]) -> Option<String> {
+        self.runs += 1;
+        let mut command = Command::new("sh");
+        command.args(["-c", &format!("ulimit -c 0 && ulimit -s {kib} && exec \"$@\""), "sh"]);
+        command.args(words(&built(name))).args(args).current_dir(&self.folder);
+        command.env("QEMU_STACK_SIZE", (1_024 * kib).to_string());
+        let ended = run(command, &[]);
+        let said = String::from_utf8_lossy(&ended.stderr).into_owned();
+        said.lines().last().filter(|_| ended.status.success()).map(str::to_string)
+    }
 }
 
 /// The letter of a law's option, and the ending of its raw files and streams.

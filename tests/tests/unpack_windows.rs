@@ -3,9 +3,7 @@
 //! program.
 
 use second::gen::Prng;
-use std::process::Command;
 use tests::faults::Fault;
-use tests::program::{built, run, words};
 use tests::streams::{plain_frames, Stream};
 use tests::tools::{law_words, plus_zero, same, unpack_wanted, verify_wanted, windows, Room, Stop, DIFFERS, WINDOW};
 use tests::{say, Codec, Second, MOST};
@@ -237,21 +235,12 @@ fn in_its_own_place() {
     tell(&format!("streams unpacked into their own files, {octets} octets of sound"), &room);
 }
 
-/// So many KiB of stack, by the system's limit and by the emulator's: whether the program came to its end.
-fn ends_with_a_stack_of(room: &Room, kib: usize, args: &[&str]) -> bool {
-    let mut command = Command::new("sh");
-    command.args(["-c", &format!("ulimit -c 0 && ulimit -s {kib} && exec \"$@\""), "sh"]);
-    command.args(words(&built("unpack"))).args(args).current_dir(&room.folder);
-    command.env("QEMU_STACK_SIZE", (1_024 * kib).to_string());
-    let ended = run(command, &[]);
-    ended.status.success() && String::from_utf8_lossy(&ended.stderr).ends_with("\nstop=0 at=1048576 tool=0 bit=0\n")
-}
-
 /// "less than 1 MiB of stack": 1,000 KiB are enough for the longest streams and recordings, and 200 are not, so the limit
 /// is one.
 #[test]
 fn a_small_stack() {
-    let (room, mut rng, mut runs) = (room("stack"), Prng::new(97), 0);
+    let (mut room, mut rng) = (room("stack"), Prng::new(97));
+    let last = Some(format!("stop=0 at={MOST} tool=0 bit=0"));
     let stream = filled(MOST, &mut rng);
     let sound = unpack_wanted(&stream, 1, 127).sound;
     room.put("a.lcm", &stream);
@@ -259,14 +248,12 @@ fn a_small_stack() {
     room.put("master", &sound);
     for name in ["a.lcm", "a.g7110"] {
         for args in [&[name, "out"][..], &["-w", name, "out"], &["-c", "master", name]] {
-            assert!(ends_with_a_stack_of(&room, 1_000, args), "{args:?}");
-            assert!(!ends_with_a_stack_of(&room, 200, args), "{args:?}: the limit is none");
-            runs += 2;
+            assert_eq!(room.with_a_stack_of(1_000, "unpack", args), last, "{args:?}");
+            assert_eq!(room.with_a_stack_of(200, "unpack", args), None, "{args:?}: the limit is none");
         }
-        assert!(ends_with_a_stack_of(&room, 1_000, &[name, "out"]));
+        assert_eq!(room.with_a_stack_of(1_000, "unpack", &[name, "out"]), last);
         same(name, &room.take("out"), &sound);
-        runs += 1;
     }
-    assert_eq!(runs, 14);
-    say(&format!("compared: unpack by windows, a stack of 1,000 KiB is enough, 200 is not: {runs} runs\n"));
+    assert_eq!(room.runs, 14);
+    tell("a stack of 1,000 KiB is enough, 200 is not", &room);
 }
