@@ -14,7 +14,7 @@ help:
 	@echo 'make run     proves and builds the tools, packs, lists and unpacks a recording, and lists the example stream'
 	@echo 'make test    the gate: every proof and every test; the last line counts them'
 	@echo 'make fuzz    proved code and second program on drawn inputs, for FUZZ_SECONDS=60, from FUZZ_SEED'
-	@echo 'make bench   the times of both, in one run, as tables for docs/BENCHMARKS.md; PARTS= of frames linear store long mend why file'
+	@echo 'make bench   the times of both, in one run, as tables for docs/BENCHMARKS.md; PARTS= of frames few linear store long mend why file'
 	@echo 'make vectors compares the published test signals in FOLDER= with both, file by file'
 	@echo 'make archive target/staticlib/libg7110.a, for C and Rust to link'
 	@echo 'make fmt     lays out every file of Rattle'

@@ -1,16 +1,20 @@
-/* g7110.h: G.711.0 frames of the seven carried tools, read, written and walked; frames of samples to linear values and back;
+/* g7110.h: G.711.0 frames of the eight carried tools, read, written and walked; frames of samples to linear values and back;
  * why a frame takes its tool; a box's settings, saved and put back; a damaged greeting, mended; a store of greetings that
  * fills its gaps; recordings from studios, read and written. This header is also the manual.
  *
- * Every answer below is proved equal to the project's definitions of documents 01 and 02 and of 001's section 6.8, for all inputs.
+ * Every answer below is proved equal to the project's definitions of documents 01 and 02 and of 001's sections 6.8, 7.11
+ * and 8.9, for all inputs.
  *
  * The archive libg7110.a is for x86-64 Linux alone.
  *
  * LAW         0 is A-law, 1 is mu-law. The law is not in the octets; the caller must know it. Above 1: G7110_LAW.
- * SET         A number from 0 to 127: tool t (1 to 7) adds 2^(t-1). A reader takes only frames whose tool is in its set;
- *             pads need no tool. A writer's set must hold tool 1, so it is odd. G7110_ALL_TOOLS is 127.
+ * SET         A number from 0 to 255: tool t (1 to 7) adds 2^(t-1), tool 11 adds 128. A reader takes only frames whose tool is
+ *             in its set; pads need no tool. A writer's set must hold tool 1, so it is odd. G7110_ALL_TOOLS is 255.
+ *             Versions before 12 lack tool 11: they refuse its frames with G7110_TOOL, and sets above 127 with G7110_SET. Write
+ *             with set 127 for a box that has one of them.
  * TOOLS       0 pad, 1 uncompressed, 2 constant plus zero, 3 constant minus zero, 4 constant, 5 binary,
- *             6 plus-minus zero Rice, 7 value-location. 8 to 13 are known by their first octet and refused with G7110_TOOL.
+ *             6 plus-minus zero Rice, 7 value-location, 11 fractional-bit (few values; its frames begin with 02 to 1F).
+ *             8, 9, 10, 12 and 13 are known by their first octet and refused with G7110_TOOL.
  * LENGTHS     A frame has 0, 40, 80, 160, 240 or 320 samples. A frame of 0 samples is a pad: one octet, 00.
  *
  * WHAT A CALL RETURNS
@@ -28,12 +32,16 @@
  *     G7110_SHORT             the first bit that is missing: 8 times the octets from the frame's start
  *     G7110_CASE, _METHOD     the first bit of the range case, of the method
  *     G7110_RUN               the first bit of the run's code
- *     G7110_PLACE             the first bit of the listed place; where no place is left, the end of the count bits
+ *     G7110_PLACE             the first bit of the listed place; where no place is left, the end of the count bits; in tool 11
+ *                             the first bit of the number of five samples
  *     G7110_ALIGN             the first filling bit that is 1
  *   0 for every other refusal, and for an accepted call. docs/RETURNS.md has an example of each.
  *
  * VERSIONS
  *   G7110_VERSION goes up by one when a call is added, or a call or its report changes.
+ *   12  tool 11, fractional-bit, and sets up to 255: G7110_ALL_TOOLS was 127. With a set up to 127 every call but g7110_why answers
+ *       as in version 11. g7110_why writes a ninth line, that of tool 11. Mending and the store take frames of tool 11, so version
+ *       11 refuses the saved table of such a greeting with G7110_BAD; a set line may say up to 255.
  *   11  walks, files and mending take up to G7110_MAX_STREAM octets, and a store's block may be that large: both were 65,535 and
  *       16,384. A saved table of a block above 65,535 octets begins with the line form=2; version 10 refuses it with G7110_TABLE.
  *       No call and no report changes, and a table of a block of up to 16,384 octets is as it was.
@@ -65,8 +73,8 @@
  *   the tests hold what it finds against this figure.
  *
  * WHY
- *   g7110_why tells why g7110_write takes the tool that it takes. Its text is eight lines, each ended by octet 0A: tools 1 to 7 in
- *   order, and the winner.
+ *   g7110_why tells why g7110_write takes the tool that it takes. Its text is nine lines, each ended by octet 0A: tools 1 to 7 in
+ *   order, tool 11, and the winner.
  *     tool=6 state=fits why=0 octets=2
  *     winner=6 by=octets
  *   state=out    the tool is not in the set.
@@ -74,10 +82,10 @@
  *                samples or more; 2 the row, that least and greatest are a row's and the length fits it; 3 the frequency of 0, that no
  *                value is more frequent. Every other tool has one, numbered 1. why= is 0 in the other states.
  *   state=fits   it applies: octets= is what its form needs. octets= is 0 in the other states.
- *   winner=      the tool that g7110_write reports: fewest octets, and on equal octets the first of 2, 3, 4, 5, 6, 7, 1.
+ *   winner=      the tool that g7110_write reports: fewest octets, and on equal octets the first of 2, 3, 4, 5, 6, 7, 11, 1.
  *   by=tie       another tool in the set needs as few octets as the winner; else by=octets.
  *   A frame of no samples: condition 1 of every tool in the set fails, and the winner is tool 0 by octets.
- *   The text has at most 480 octets. It stands at the start of the lent 512; the rest stays as lent. A refused call leaves
+ *   The text has at most 508 octets. It stands at the start of the lent 512; the rest stays as lent. A refused call leaves
  *   all of it as lent and reports 0.
  *
  * SETTINGS
@@ -87,7 +95,7 @@
  *   one number the first is meant; a new number is one more than the first of the 41, whatever the rows say.
  *   The text of settings is four lines in this order, each ended by octet 0A, and nothing after them:
  *     law=       0 or 1
- *     set=       0 to 127
+ *     set=       0 to 255
  *     block=     1 to 1048576, the octets of the box's block
  *     greeting=  0 to 65535, 0 for none
  *   A number is decimal, without sign, space or leading zero; one too large is refused, never wrapped.
@@ -107,7 +115,7 @@
  *
  * STORE
  *   A block of at most G7110_MAX_BLOCK octets keeps up to G7110_MAX_GREETINGS greetings, each with a number from 1 to
- *   G7110_MAX_NUMBER and 1 or more octets that the walk accepts with set 127. The caller lends the block and a table, and
+ *   G7110_MAX_NUMBER and 1 or more octets that the walk accepts with G7110_ALL_TOOLS. The caller lends the block and a table, and
  *   keeps both; the calls keep nothing. A longer block is used up to G7110_MAX_BLOCK; octets past that are never touched.
  *   The table has g7110_store_cells(size) numbers, 194 + 2 * (size / 64 + 32) of them; a fresh one is all 0:
  *     cells 0 to 96      how many greetings there are, then number, start and octets of each, in order of start
@@ -225,13 +233,13 @@
 extern "C" {
 #endif
 
-#define G7110_VERSION 11
+#define G7110_VERSION 12
 
 #define G7110_MAX_SAMPLES 320 /* samples of a frame */
 #define G7110_MAX_WRITTEN 321 /* octets of a written frame */
 #define G7110_MAX_FRAME 402   /* octets of an accepted frame */
 #define G7110_MAX_STREAM 1048576 /* octets of a walk */
-#define G7110_ALL_TOOLS 127
+#define G7110_ALL_TOOLS 255
 #define G7110_STACK 8192       /* octets of stack, measured */
 #define G7110_WHY_TEXT 512     /* octets lent for the text of g7110_why */
 #define G7110_SETTINGS 41      /* numbers of a box's settings */
@@ -252,22 +260,23 @@ enum {
     G7110_OK = 0,
     G7110_SHORT = 1,   /* octets end before the frame does; also one frame asked of no octets */
     G7110_PREFIX = 2,  /* first octet not assigned */
-    G7110_TOOL = 3,    /* the tool is 8 to 13, or 1 to 7 and not in the set; the number is given */
+    G7110_TOOL = 3,    /* the tool is 8, 9, 10, 12 or 13, or a carried one and not in the set; the number is given */
     G7110_ROOM = 4,    /* output has fewer octets left than the frame needs; no place left in the list of items */
     G7110_CASE = 5,    /* range case or flag not allowed */
     G7110_METHOD = 6,  /* method 110 */
     G7110_RUN = 7,     /* run longer than the places left */
-    G7110_PLACE = 8,   /* listed place not below D or not rising; also where no place is left to list (D = 0) */
+    G7110_PLACE = 8,   /* listed place not below D or not rising; also where no place is left to list (D = 0); in tool 11 five
+                          samples that are no digits */
     G7110_ALIGN = 9,   /* a filling bit isn't 0 */
     G7110_LENGTH = 10, /* writer or conversion given other than 0, 40, 80, 160, 240, 320 samples; a list of items that is none */
-    G7110_SET = 11,    /* set above 127, or even for a writer */
+    G7110_SET = 11,    /* set above 255, or even for a writer */
     G7110_LAW = 12,    /* law above 1 */
     G7110_LONG = 13,   /* walk given more than 1,048,576 octets; a file with more behind its heading */
     G7110_HEAD = 14,   /* the first ten octets of a file are no heading: another letter or version, or fewer octets */
     G7110_NUMBER = 15, /* a greeting's number is 0 or above 65,535 */
     G7110_TAKEN = 16,  /* put: a greeting has the number */
     G7110_ABSENT = 17, /* get, delete, jump: no greeting has the number */
-    G7110_BAD = 18,    /* the greeting is empty, or the walk refuses it with set 127 and room enough; jump: false marks */
+    G7110_BAD = 18,    /* the greeting is empty, or the walk refuses it with G7110_ALL_TOOLS and room enough; jump: false marks */
     G7110_FULL = 19,   /* the store has 32 greetings */
     G7110_NOROOM = 20, /* the octets held and the new ones exceed the block's size */
     G7110_BEYOND = 21, /* jump: the sample number isn't below the greeting's samples */
@@ -361,7 +370,7 @@ uint32_t g7110_store_save(const uint8_t *block, size_t block_len, const uint32_t
  * alone: then each greeting is of law 1, as the early boxes' were, with the samples and marks of its walk. Without the first line a
  * start or a count of octets is at most 65,535. Refused, each time over the whole text: with G7110_TABLE for other
  * lines, a law above 1, a number out of range or used twice, greetings that overlap or pass the block's end; only then with
- * G7110_BAD for a greeting that is empty or that the walk refuses with set 127; only then with G7110_TABLE for samples or marks that
+ * G7110_BAD for a greeting that is empty or that the walk refuses with G7110_ALL_TOOLS; only then with G7110_TABLE for samples or marks that
  * the walk does not give. A refused call leaves the table as lent. What save writes of a table that calls left, load takes;
  * docs/STORE.md says what to write first. */
 uint32_t g7110_store_load(const uint8_t *text, size_t text_len, const uint8_t *block, size_t block_len,

@@ -1,6 +1,7 @@
 //! The frames that are timed, by kind.
 
-use second::gen::{make_frame, Kind, Often, Pattern, Prng};
+use crate::{ALL_TOOLS, SET};
+use second::gen::{digit_rows, make_frame, Kind, Often, Pattern, Prng};
 use std::path::{Path, PathBuf};
 
 /// Frames of a kind.
@@ -10,6 +11,7 @@ pub const FRAMES: usize = 128;
 pub struct Batch {
     pub name: String,
     pub law: u32,
+    pub set: u32,
     pub frames: Vec<Vec<u8>>,
 }
 
@@ -47,7 +49,25 @@ pub fn by_kind(lengths: &[usize]) -> Vec<Batch> {
                 continue;
             }
             let frames = (0..FRAMES).map(|_| make_frame(kind, *length, 1, &mut rng)).collect();
-            batches.push(Batch { name: format!("{name} | {length}"), law: 1, frames });
+            batches.push(Batch { name: format!("{name} | {length}"), law: 1, set: SET, frames });
+        }
+    }
+    batches
+}
+
+/// Rows of tool 11 (document 02, R-14) by how many values they have; of five and six there are frames of 40 samples alone.
+const FEW: [(&str, usize); 5] =
+    [("two values", 0), ("three values", 3), ("four values", 1), ("five values", 7), ("six values", 9)];
+
+/// Frames that are written by tool 11, each value as often as another.
+pub fn few_values(lengths: &[usize]) -> Vec<Batch> {
+    let mut rng = Prng::new(4);
+    let mut batches = Vec::new();
+    for (name, row) in FEW {
+        for length in lengths.iter().filter(|length| row < digit_rows(**length).0) {
+            let kind = Kind::Digits { row, one_in: 1 };
+            let frames = (0..FRAMES).map(|_| make_frame(kind, *length, 1, &mut rng)).collect();
+            batches.push(Batch { name: format!("{name} | {length}"), law: 1, set: ALL_TOOLS, frames });
         }
     }
     batches
@@ -60,7 +80,7 @@ pub fn any_octets(lengths: &[usize]) -> Vec<Batch> {
     for (law, name) in ["A", "mu"].iter().enumerate() {
         for length in lengths {
             let frames = (0..FRAMES).map(|_| make_frame(Kind::RandomOctets, *length, law as u32, &mut rng)).collect();
-            batches.push(Batch { name: format!("{name} | {length}"), law: law as u32, frames });
+            batches.push(Batch { name: format!("{name} | {length}"), law: law as u32, set: SET, frames });
         }
     }
     batches
@@ -75,7 +95,7 @@ pub fn mixed() -> Batch {
             make_frame(KINDS[turn * 7 % KINDS.len()].1, length, 1, &mut rng)
         })
         .collect();
-    Batch { name: "mixed | all".into(), law: 1, frames }
+    Batch { name: "mixed | all".into(), law: 1, set: SET, frames }
 }
 
 /// The law that the name of a file of samples says.
@@ -97,7 +117,7 @@ pub fn recordings() -> Vec<Batch> {
         let octets = std::fs::read(path).ok()?;
         let frames: Vec<Vec<u8>> = octets.chunks_exact(160).map(<[u8]>::to_vec).collect();
         let name = format!("{} | 160", path.file_name()?.to_str()?);
-        (!frames.is_empty()).then_some(Batch { name, law: law_of(path)?, frames })
+        (!frames.is_empty()).then_some(Batch { name, law: law_of(path)?, set: SET, frames })
     };
     paths.iter().filter_map(batch).collect()
 }

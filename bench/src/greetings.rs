@@ -27,7 +27,7 @@ impl Greeting {
         let path = concat!(env!("CARGO_MANIFEST_DIR"), "/../tests/data/recordings/long/hotel.ul8");
         let sound = std::fs::read(path).expect("it is shipped");
         let frames = sound.chunks_exact(160).map(<[u8]>::to_vec).collect();
-        let batch = Batch { name: String::new(), law: 1, frames };
+        let batch = Batch { name: String::new(), law: 1, set: crate::SET, frames };
         Greeting::of("two minutes", 1, written(&batch).concat())
     }
 

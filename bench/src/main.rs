@@ -17,11 +17,13 @@ mod recorded;
 mod store;
 mod time;
 
-use frames::{any_octets, by_kind, mixed, recordings, Batch};
+use frames::{any_octets, by_kind, few_values, mixed, recordings, Batch};
 use std::hint::black_box;
 use time::best;
 
+/// The tools of the older rows, so that they stay what they were; and all, of the rows of tool 11.
 const SET: u32 = 127;
+const ALL_TOOLS: u32 = 255;
 const LENGTHS: [usize; 5] = [40, 80, 160, 240, 320];
 /// Octets of a long stream: the longest before R-11.
 const STREAM: usize = 65_535;
@@ -75,7 +77,7 @@ fn table(title: &str, columns: &str) {
 fn written(batch: &Batch) -> Vec<Vec<u8>> {
     let mut form = [0; 321];
     let write = |frame: &Vec<u8>| {
-        let wrote = second::write_frame(frame, batch.law, SET, &mut form);
+        let wrote = second::write_frame(frame, batch.law, batch.set, &mut form);
         assert_eq!(wrote.ending, 0);
         form[..wrote.octets].to_vec()
     };
@@ -96,10 +98,10 @@ fn reading(batch: &Batch) {
     let mut outs = [[0; 320]; 4];
     let [one, other, third, fourth] = outs.each_mut();
     let times = best([
-        &mut || each(&forms, |form| calls::proved_read(form, batch.law, SET, one)),
-        &mut || each(&forms, |form| calls::second_read(form, batch.law, SET, other)),
+        &mut || each(&forms, |form| calls::proved_read(form, batch.law, batch.set, one)),
+        &mut || each(&forms, |form| calls::second_read(form, batch.law, batch.set, other)),
         &mut || copy(&batch.frames, third),
-        &mut || each(besides, |form| calls::by_bits_read(form, batch.law, SET, fourth)),
+        &mut || each(besides, |form| calls::by_bits_read(form, batch.law, batch.set, fourth)),
     ]);
     row_beside(&batch.name, times, forms.len() as f64, batch.has_runs());
 }
@@ -109,8 +111,8 @@ fn writing(batch: &Batch) {
     let mut outs = [[0; 321]; 3];
     let [one, other, third] = outs.each_mut();
     let times = best([
-        &mut || each(&batch.frames, |frame| calls::proved_write(frame, batch.law, SET, one)),
-        &mut || each(&batch.frames, |frame| calls::second_write(frame, batch.law, SET, other)),
+        &mut || each(&batch.frames, |frame| calls::proved_write(frame, batch.law, batch.set, one)),
+        &mut || each(&batch.frames, |frame| calls::second_write(frame, batch.law, batch.set, other)),
         &mut || copy(&batch.frames, third),
     ]);
     row(&batch.name, times, batch.frames.len() as f64);
@@ -122,7 +124,7 @@ fn writing(batch: &Batch) {
     let mut outs = [[0; 321]; 2];
     let [one, third] = outs.each_mut();
     let [second, _, copied] = best([
-        &mut || each(&batch.frames, |frame| calls::second_write(frame, batch.law, SET, one)),
+        &mut || each(&batch.frames, |frame| calls::second_write(frame, batch.law, batch.set, one)),
         &mut || {},
         &mut || copy(&batch.frames, third),
     ]);
@@ -166,26 +168,26 @@ fn each<T>(inputs: &[Vec<T>], mut call: impl FnMut(&[T]) -> u32) {
 }
 
 /// Nanoseconds of one walk by each, of a copy of its samples, and of one by bits over the same or over no octets.
-fn walk_times(stream: &[u8], law: u32, by_bits: &[u8]) -> ([f64; 4], usize) {
+fn walk_times(stream: &[u8], (law, set): (u32, u32), by_bits: &[u8]) -> ([f64; 4], usize) {
     let mut one = vec![0; 320 * stream.len()];
-    let kept = second::walk(stream, law, SET, &mut one);
+    let kept = second::walk(stream, law, set, &mut one);
     assert_eq!(kept.ending, 0);
     one.truncate(kept.samples + 320);
     let (mut other, mut third, mut fourth) = (one.clone(), one.clone(), one.clone());
     let source = one[..kept.samples].to_vec();
     let times = best([
         &mut || {
-            black_box(calls::proved_walk(black_box(stream), law, SET, &mut one));
+            black_box(calls::proved_walk(black_box(stream), law, set, &mut one));
         },
         &mut || {
-            black_box(calls::second_walk(black_box(stream), law, SET, &mut other));
+            black_box(calls::second_walk(black_box(stream), law, set, &mut other));
         },
         &mut || {
             third[..source.len()].copy_from_slice(black_box(&source));
             black_box(&mut third);
         },
         &mut || {
-            black_box(calls::by_bits_walk(black_box(by_bits), law, SET, &mut fourth));
+            black_box(calls::by_bits_walk(black_box(by_bits), law, set, &mut fourth));
         },
     ]);
     (times, kept.frames)
@@ -205,7 +207,7 @@ fn stream(batch: &Batch) -> Vec<u8> {
 fn walking(batch: &Batch) {
     let stream = stream(batch);
     let by_bits = if batch.has_runs() { &stream[..] } else { &[] };
-    let (times, frames) = walk_times(&stream, batch.law, by_bits);
+    let (times, frames) = walk_times(&stream, (batch.law, batch.set), by_bits);
     row_beside(&batch.name, times, frames as f64, batch.has_runs());
 }
 
@@ -213,7 +215,7 @@ fn walking(batch: &Batch) {
 fn growth(name: &str, frame: &[u8]) {
     for octets in [1_000, 4_000, 16_000, STREAM, LONGEST] {
         let stream = frame.repeat(octets / frame.len());
-        let ([proved, second, copy, _], _) = walk_times(&stream, 1, &[]);
+        let ([proved, second, copy, _], _) = walk_times(&stream, (1, SET), &[]);
         row(&format!("{name} | {}", stream.len()), [proved, second, copy], stream.len() as f64);
     }
 }
@@ -237,6 +239,40 @@ fn frame_tables() {
     growth("the longest frames", &longest());
 }
 
+/// Tool 11: speed to second wanted to be 1.0 or more. Then what it costs to weigh it, in frames of the older rows.
+fn few_tables() {
+    let batches = few_values(&LENGTHS);
+    let first = |form: Vec<u8>| (0x02..=0x1F).contains(&form[0]);
+    assert!(batches.iter().flat_map(written).all(first), "each frame is of tool 11");
+    head("Tool 11: reading one frame", "kind | samples", "ns", BESIDE);
+    batches.iter().for_each(reading);
+    head("Tool 11: writing one frame", "kind | samples", "ns", ALONE);
+    batches.iter().for_each(writing);
+    head("Tool 11: walking, a frame", "kind | samples", "ns", BESIDE);
+    batches.iter().for_each(walking);
+    #[cfg(feature = "writer")]
+    weighing();
+}
+
+/// The older kinds of frame and the recordings written with all tools, beside writing them with those of before.
+#[cfg(feature = "writer")]
+fn weighing() {
+    let columns = "set 127, ns | set 255, ns | speed to set 127 | second, set 255, ns | speed to second";
+    table("Writing one frame with all tools", &format!("| kind | samples | {columns} |"));
+    for batch in all_batches(&[40, 160, 320]) {
+        let mut outs = [[0; 321]; 3];
+        let [one, other, third] = outs.each_mut();
+        let times = best([
+            &mut || each(&batch.frames, |frame| calls::proved_write(frame, batch.law, SET, one)),
+            &mut || each(&batch.frames, |frame| calls::proved_write(frame, batch.law, ALL_TOOLS, other)),
+            &mut || each(&batch.frames, |frame| calls::second_write(frame, batch.law, ALL_TOOLS, third)),
+        ]);
+        let [older, all, second] = times.map(|time| time / batch.frames.len() as f64);
+        let speeds = format!("{older:.1} | {all:.1} | {:.2} | {second:.1} | {:.2}", older / all, second / all);
+        println!("| {} | {speeds} |", batch.name);
+    }
+}
+
 fn linear_tables() {
     let batches = any_octets(&LENGTHS);
     head("Samples to linear values, a frame", "law | samples", "ns", ALONE);
@@ -248,6 +284,7 @@ fn linear_tables() {
 /// The parts of a run: those named on the command line, or all.
 const PARTS: &[(&str, fn())] = &[
     ("frames", frame_tables),
+    ("few", few_tables),
     ("linear", linear_tables),
     ("store", store::tables),
     ("long", long::tables),
@@ -261,7 +298,7 @@ const PARTS: &[(&str, fn())] = &[
 fn main() {
     let asked: Vec<String> = std::env::args().skip(1).collect();
     if let Some(word) = asked.iter().find(|word| PARTS.iter().all(|(name, _)| name != word)) {
-        eprintln!("There is no part {word}: frames, linear, store, long, mend, why, file.");
+        eprintln!("There is no part {word}: frames, few, linear, store, long, mend, why, file.");
         std::process::exit(1);
     }
     println!("Best of several turns; ns a frame. Speed to second: the second program's time over the proved code's.");

@@ -1,5 +1,6 @@
 //! What the first octet of a frame says.
 
+use crate::fractional;
 use crate::refusal::Refusal;
 
 /// Standing in a table entry for "6 or 8, the second octet decides".
@@ -83,7 +84,7 @@ const fn opening(octet: u8) -> Opening {
     let (samples, tool) = match octet {
         0x00 => (0, 0),
         0x01 => (0, UNASSIGNED),
-        0x02..=0x1F => (0, 11),
+        0x02..=0x1F => (fractional::samples_of(octet), 11),
         0x20..=0x2F => (240, tool_after_four_bits(octet & 0x0F)),
         0x30..=0x3F => (320, tool_after_four_bits(octet & 0x0F)),
         0x40..=0x7F => (40, tool_after_two_bits(40, octet & 0x3F)),
@@ -127,12 +128,17 @@ const fn tool_after_two_bits(samples: usize, rest: u8) -> u8 {
 mod tests {
     use super::*;
 
-    /// The list of document 01, range by range.
+    /// The list of document 01, range by range; tool 11's lengths as 001's
+    /// table 7-28 has them.
     fn listed(first: u8) -> (u16, u8) {
         const BOTH: u8 = UNDECIDED;
         let spans: &[(u8, u8, u16, u8)] = &[
             (0x00, 0x00, 0, 0),
-            (0x02, 0x1F, 0, 11),
+            (0x02, 0x0D, 40, 11),
+            (0x0E, 0x13, 80, 11),
+            (0x14, 0x17, 160, 11),
+            (0x18, 0x1B, 240, 11),
+            (0x1C, 0x1F, 320, 11),
             (0x20, 0x20, 240, 1),
             (0x21, 0x21, 240, 2),
             (0x22, 0x22, 240, 3),

@@ -208,6 +208,10 @@ pub enum Miss {
     NoRow,
     /// -2 to 1, which the shorter lengths don't allow.
     WideRange,
+    /// Numbers near zero whose least, greatest and -1 no row of tool 11 has.
+    NoDigits,
+    /// A row's frame of tool 11, and one sample of -1, or just past its ends.
+    DigitsAndOneMore,
 }
 
 impl Miss {
@@ -221,6 +225,8 @@ impl Miss {
         Miss::NoZero,
         Miss::NoRow,
         Miss::WideRange,
+        Miss::NoDigits,
+        Miss::DigitsAndOneMore,
     ];
 }
 
@@ -236,7 +242,39 @@ pub enum Kind {
     TwoZeros(Pattern),
     /// A range case, and how often 1, -1 and -2 come where the case has them.
     Range { case: usize, ones: Often, minus_ones: Often, minus_twos: Often },
+    /// A row of tool 11, from 0 to 11, also where the length doesn't have it;
+    /// its least, greatest and -1 come, and any other value one in so many
+    /// times, 0 the other times.
+    Digits { row: usize, one_in: usize },
     NearMiss(Miss),
+}
+
+/// The values of tool 11's rows, in the order of their prefixes.
+pub const DIGIT_ROWS: [&[i32]; 12] = [
+    &[0, 1],
+    &[-2, -1, 0, 1],
+    &[-2, 0],
+    &[-2, 0, 1],
+    &[-2, -1, 0],
+    &[-1, 0, 1],
+    &[-3, -2, 0, 1],
+    &[-2, -1, 0, 1, 2],
+    &[-2, 0, 1, 2],
+    &[-3, -2, -1, 0, 1, 2],
+    &[-3, -2, 0, 1, 2],
+    &[-4, -3, -2, 0, 1, 2],
+];
+
+/// How many of these rows a length has, and its first row's prefix.
+pub fn digit_rows(length: usize) -> (usize, u8) {
+    match length {
+        40 => (12, 2),
+        80 => (6, 14),
+        160 => (4, 20),
+        240 => (4, 24),
+        320 => (4, 28),
+        _ => panic!("no such frame length: {length}"),
+    }
 }
 
 /// Least and greatest of the four range cases.
@@ -269,6 +307,9 @@ pub fn all_kinds() -> Vec<Kind> {
             }
         }
     }
+    for row in 0..DIGIT_ROWS.len() {
+        kinds.extend([1, 3, 10, 40].map(|one_in| Kind::Digits { row, one_in }));
+    }
     kinds.extend(Miss::ALL.iter().map(|&miss| Kind::NearMiss(miss)));
     kinds
 }
@@ -293,8 +334,25 @@ pub fn make_frame(kind: Kind, length: usize, law: u32, rng: &mut Prng) -> Vec<u8
         Kind::Range { case, ones, minus_ones, minus_twos } => {
             samples_of(&range_numbers(case, [ones, minus_ones, minus_twos], length, rng), law)
         }
+        Kind::Digits { row, one_in } => samples_of(&digit_numbers(row, one_in, length, rng), law),
         Kind::NearMiss(miss) => samples_of(&near_miss(miss, length, rng), law),
     }
+}
+
+/// Numbers of a row of tool 11, told by its least, its greatest and -1.
+fn digit_numbers(row: usize, one_in: usize, length: usize, rng: &mut Prng) -> Vec<i32> {
+    let values = DIGIT_ROWS[row];
+    let mut numbers: Vec<i32> =
+        (0..length).map(|_| if rng.chance(1, one_in) { *rng.pick(values) } else { 0 }).collect();
+    let mut told = vec![values[0], values[values.len() - 1]];
+    if values.contains(&-1) {
+        told.push(-1);
+    }
+    let start = rng.below(length);
+    for (step, value) in told.into_iter().enumerate() {
+        numbers[(start + 7 * step) % length] = value;
+    }
+    numbers
 }
 
 /// Numbers of a range case. Its least and greatest always come, so the frame
@@ -393,6 +451,22 @@ fn near_miss(miss: Miss, length: usize, rng: &mut Prng) -> Vec<i32> {
             let (one, other) = *rng.pick(&[(-2, -1), (1, 2), (0, 2), (-3, 0), (-3, -2)]);
             let whole = 2 + rng.below(30);
             (0..length).map(|_| if rng.chance(1, whole) { other } else { one }).collect()
+        }
+        Miss::NoDigits => {
+            let (least, greatest) = *rng.pick(&[(-3, 1), (-4, 2), (-4, 1), (-3, 0), (-1, 2), (0, 2), (-2, 3), (-5, 2)]);
+            let values: Vec<i32> = (least..=greatest).collect();
+            let mut numbers: Vec<i32> = (0..length).map(|_| *rng.pick(&values)).collect();
+            for (step, value) in [least, greatest, -1].into_iter().filter(|value| values.contains(value)).enumerate() {
+                numbers[(somewhere + 7 * step) % length] = value;
+            }
+            numbers
+        }
+        Miss::DigitsAndOneMore => {
+            let row = rng.below(DIGIT_ROWS.len());
+            let mut numbers = digit_numbers(row, 2, length, rng);
+            let values = DIGIT_ROWS[row];
+            numbers[somewhere] = *rng.pick(&[-1, values[0] - 1, values[values.len() - 1] + 1]);
+            numbers
         }
         Miss::WideRange => {
             let often = [Often::OneIn(9), Often::OneIn(9), Often::OneIn(9)];
@@ -512,8 +586,8 @@ pub fn s_code_texts(length: usize) -> &'static [&'static str] {
     }
 }
 
-/// A good form of a tool, 0 to 7, chosen with no eye to its size. Nothing for
-/// tool 7 with 40 samples: there is no such form.
+/// A good form of a tool, 0 to 7 or 11, chosen with no eye to its size. Nothing
+/// for tool 7 with 40 samples: there is no such form.
 pub fn make_form(tool: u32, length: usize, law: u32, rng: &mut Prng) -> Option<MadeForm> {
     let (plus, minus) = (sample_of(0, law), sample_of(-1, law));
     Some(match tool {
@@ -539,8 +613,44 @@ pub fn make_form(tool: u32, length: usize, law: u32, rng: &mut Prng) -> Option<M
         }
         7 if length == 40 => return None,
         7 => value_location_form(length, law, rng),
+        11 => {
+            let row = rng.below(digit_rows(length).0);
+            // Some of its values at least, be they none that tell the row.
+            let values = DIGIT_ROWS[row];
+            let some = 1 + rng.below(values.len());
+            let from = rng.below(values.len());
+            let digits: Vec<usize> =
+                (0..length).map(|_| (from + rng.below(some)) % values.len()).collect();
+            digit_form(row, &digits, law)
+        }
         _ => panic!("not a carried tool: {tool}"),
     })
+}
+
+/// Tool 11 for the digits of a row, which need not have the row's ends.
+pub fn digit_form(row: usize, digits: &[usize], law: u32) -> MadeForm {
+    let values = DIGIT_ROWS[row];
+    let base = values.len();
+    let mut bits = BitString::default();
+    bits.number(usize::from(digit_rows(digits.len()).1) + row, 8);
+    let (five, width) = match base {
+        2 => (1, 1),
+        4 => (1, 2),
+        3 => (5, 8),
+        5 => (5, 12),
+        _ => (5, 13),
+    };
+    for group in digits.chunks(five) {
+        let mut number = 0;
+        let mut weight = 1;
+        for digit in group {
+            number += digit * weight;
+            weight *= base;
+        }
+        bits.number(number, width);
+    }
+    let samples = digits.iter().map(|&digit| sample_of(values[digit], law)).collect();
+    bits.into_form(samples, 11)
 }
 
 /// Any row at all: one kind only, patterns, and the patterns turned round.
@@ -707,7 +817,7 @@ fn put_any_value(bits: &mut BitString, places: usize, rng: &mut Prng) -> Vec<boo
 pub fn make_any_form(law: u32, rng: &mut Prng) -> MadeForm {
     loop {
         // The tools with most to go wrong come most often.
-        let tool = *rng.pick(&[0, 1, 2, 3, 4, 5, 6, 6, 6, 7, 7, 7, 7]);
+        let tool = *rng.pick(&[0, 1, 2, 3, 4, 5, 6, 6, 6, 7, 7, 7, 7, 11, 11]);
         let length = *rng.pick(&LENGTHS);
         if let Some(form) = make_form(tool, length, law, rng) {
             return form;

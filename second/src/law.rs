@@ -10,9 +10,9 @@
 //! | 1 | 01 |
 //! | -2 | 81 |
 //!
-//! So the low bit and the top bit say everything about a sample from -2 to 1,
-//! and no tool needs the signed number itself. That number is kept here for
-//! the tests, which check the table above against its definition.
+//! So the low bit and the top bit say everything about a sample from -2 to 1.
+//! Only tool 11 goes farther, to -4 and 2, and asks for the signed number: the
+//! code without its top bit, turned round below zero.
 
 use crate::refusal::Refusal;
 
@@ -41,11 +41,31 @@ impl Law {
     pub fn minus(self) -> u8 {
         self.plus ^ SIGN
     }
+
+    /// The sample of a signed number.
+    pub fn sample_of(self, number: i8) -> u8 {
+        let code = if number < 0 { SIGN | !number as u8 } else { number as u8 };
+        self.plus ^ code
+    }
 }
 
-/// A tool set as a reader takes it: any of the seven tools.
+/// The signed number of a sample's XOR code.
+#[inline]
+pub(crate) fn number_of(code: u8) -> i8 {
+    let number = (code & !SIGN) as i8;
+    if code & SIGN == 0 {
+        number
+    } else {
+        !number
+    }
+}
+
+/// All tools that are carried: 1 to 7, and tool 11 with 128.
+pub(crate) const ALL_TOOLS: u32 = 255;
+
+/// A tool set as a reader takes it: any of the eight tools.
 pub(crate) fn check_reader_set(set: u32) -> Result<(), Refusal> {
-    if set > 127 {
+    if set > ALL_TOOLS {
         Err(Refusal::Set)
     } else {
         Ok(())
@@ -54,18 +74,20 @@ pub(crate) fn check_reader_set(set: u32) -> Result<(), Refusal> {
 
 /// A writer's set must hold tool 1, the only one every frame can fall back on.
 pub(crate) fn check_writer_set(set: u32) -> Result<(), Refusal> {
-    if set > 127 || set & 1 == 0 {
+    if set > ALL_TOOLS || set & 1 == 0 {
         Err(Refusal::Set)
     } else {
         Ok(())
     }
 }
 
-/// Whether tool 0 to 13 may be used under a set of at most 127. The pad is
-/// bit 0 and always there; nothing above tool 7 ever is.
+/// Whether tool 0 to 13 may be used under a set of at most 255. The pad is
+/// always there; of those above tool 7 only tool 11 ever is.
 #[inline]
 pub(crate) fn holds(set: u32, tool: u8) -> bool {
-    (set << 1 | 1) >> tool & 1 == 1
+    // One bit for each tool: those of 1 to 7 move up by one, 128 to bit 11.
+    let tools = 1 | (set & 127) << 1 | (set & 128) << 4;
+    tools >> tool & 1 == 1
 }
 
 #[cfg(test)]
@@ -84,6 +106,8 @@ mod tests {
             let mut seen = [false; 256];
             for sample in 0..=255u8 {
                 let number = signed(law, sample);
+                assert_eq!(number_of(sample ^ law.plus), number);
+                assert_eq!(law.sample_of(number), sample);
                 seen[(i16::from(number) + 128) as usize] = true;
                 let code = sample ^ law.plus;
                 let expected = match number {
@@ -106,9 +130,14 @@ mod tests {
 
     #[test]
     fn sets_hold_their_tools() {
-        for set in 0..=127u32 {
+        for set in 0..=255u32 {
             for tool in 0..=13u8 {
-                let expected = tool == 0 || (tool <= 7 && (set >> (tool - 1)) & 1 == 1);
+                let expected = match tool {
+                    0 => true,
+                    1..=7 => set >> (tool - 1) & 1 == 1,
+                    11 => set >= 128,
+                    _ => false,
+                };
                 assert_eq!(holds(set, tool), expected);
             }
         }

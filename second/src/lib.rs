@@ -1,4 +1,4 @@
-//! G.711.0 frames, tools 0 to 7, for A-law and mu-law.
+//! G.711.0 frames, tools 0 to 7 and 11, for A-law and mu-law.
 //!
 //! * [`read_frame`] reads one frame at the start of some octets.
 //! * [`write_frame`] writes the chosen form of one frame.
@@ -20,6 +20,7 @@
 
 mod bits;
 mod first_octet;
+mod fractional;
 pub mod gen;
 mod law;
 pub mod linear;

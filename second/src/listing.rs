@@ -5,8 +5,9 @@ use crate::read::{check, read_one, Frame};
 use crate::refusal::Refusal;
 use crate::MOST_SAMPLES;
 
-const ALL_TOOLS: u32 = 127;
-/// The longest stream that is listed: fewer octets than a walk takes.
+/// The tools that are listed, and the longest stream: fewer of both than a
+/// walk takes.
+const LISTED_TOOLS: u32 = 127;
 const MOST_LISTED: usize = 65_535;
 
 /// The whole output for the whole standard input, the letter included.
@@ -27,7 +28,7 @@ fn open(input: &[u8]) -> Result<(u32, Law, &[u8]), Refusal> {
         b'M' => 1,
         _ => return Err(Refusal::Law),
     };
-    let law = check(number, ALL_TOOLS)?;
+    let law = check(number, LISTED_TOOLS)?;
     if stream.len() > MOST_LISTED {
         return Err(Refusal::Long);
     }
@@ -43,7 +44,7 @@ fn list_stream(text: &mut Text, number: u32, law: Law, stream: &[u8]) {
         if at == stream.len() {
             break Ok(());
         }
-        match read_one(&stream[at..], law, ALL_TOOLS, &mut room) {
+        match read_one(&stream[at..], law, LISTED_TOOLS, &mut room) {
             Ok(frame) => {
                 text.frame(frames, at, frame);
                 frames += 1;

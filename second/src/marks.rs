@@ -2,11 +2,11 @@
 //! mark for frames 0, 64, 128 and so on. And the jump to a sample from such a
 //! mark.
 
+use crate::law::ALL_TOOLS;
 use crate::read::read_frame;
 use crate::walk::MOST_OCTETS;
 use crate::MOST_SAMPLES;
 
-const ALL_TOOLS: u32 = 127;
 /// Frames from one mark to the next, pads counted.
 pub const FRAMES_A_MARK: usize = 64;
 
@@ -37,9 +37,9 @@ pub struct Jump {
     pub read: usize,
 }
 
-/// Samples and marks of a greeting; none if the walk, room never short,
-/// refuses it, or if it is empty.
-pub fn walk_greeting(octets: &[u8], law: u32) -> Option<Walked> {
+/// Samples and marks of a greeting; none if the walk with a set, room never
+/// short, refuses it, or if it is empty.
+pub fn walk_greeting(octets: &[u8], law: u32, set: u32) -> Option<Walked> {
     if octets.is_empty() || octets.len() > MOST_OCTETS {
         return None;
     }
@@ -47,7 +47,7 @@ pub fn walk_greeting(octets: &[u8], law: u32) -> Option<Walked> {
     let mut at = 0;
     let mut frames = 0;
     while at < octets.len() {
-        let (length, samples) = frame_at(octets, at, law)?;
+        let (length, samples) = frame_at(octets, at, law, set)?;
         // A mark stands for a frame that is there: it comes with its frame.
         if frames % FRAMES_A_MARK == 0 {
             walked.marks.push(Mark { octets: at, samples: walked.samples });
@@ -70,7 +70,7 @@ pub fn jump(octets: &[u8], law: u32, marks: &[Mark], sample: usize) -> Option<Ju
         return None;
     }
     for passed in 0..FRAMES_A_MARK {
-        let (length, samples) = frame_at(octets, place, law)?;
+        let (length, samples) = frame_at(octets, place, law, ALL_TOOLS)?;
         if sample < before + samples {
             let frame = FRAMES_A_MARK * at_mark + passed;
             return Some(Jump { frame, place, within: sample - before, read: passed + 1 });
@@ -98,7 +98,7 @@ fn mark_of(marks: &[Mark], sample: usize) -> usize {
 
 /// Octets and samples of the frame at a place of a greeting. No octets are
 /// left at its end, or past it, and so no frame.
-fn frame_at(octets: &[u8], place: usize, law: u32) -> Option<(usize, usize)> {
-    let frame = read_frame(octets.get(place..)?, law, ALL_TOOLS, &mut [0; MOST_SAMPLES]);
+fn frame_at(octets: &[u8], place: usize, law: u32, set: u32) -> Option<(usize, usize)> {
+    let frame = read_frame(octets.get(place..)?, law, set, &mut [0; MOST_SAMPLES]);
     (frame.ending == 0).then_some((frame.octets, frame.samples))
 }

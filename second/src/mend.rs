@@ -1,5 +1,6 @@
 //! Mending a damaged greeting (document 02, R-12).
 
+use crate::law::ALL_TOOLS;
 use crate::read::read_frame;
 use crate::walk::MOST_OCTETS;
 use crate::MOST_SAMPLES;
@@ -9,8 +10,6 @@ const LAW: u32 = 12;
 const LONG: u32 = 13;
 const TOTAL: u32 = 22;
 
-/// Every tool that is carried.
-const ALL_TOOLS: u32 = 127;
 const MOST_TOTAL: u64 = 1_000_000;
 
 /// Constant plus zero frames, the longest first: samples, and the one octet.

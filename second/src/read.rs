@@ -2,6 +2,7 @@
 
 use crate::bits::BitReader;
 use crate::first_octet::{decide, Opening};
+use crate::fractional;
 use crate::law::{check_reader_set, holds, Law, SIGN};
 use crate::planes::{eight_of, spread_to_top_bits, Plane};
 use crate::refusal::Refusal;
@@ -87,7 +88,8 @@ pub(crate) fn read_one(octets: &[u8], law: Law, set: u32, out: &mut [u8]) -> Res
         4 => read_constant(octets, frame)?,
         5 => read_binary(octets, law, frame)?,
         6 => read_rice(octets, opening, law, frame)?,
-        _ => read_value_location(octets, law, frame)?,
+        7 => read_value_location(octets, law, frame)?,
+        _ => fractional::read(octets, law, frame)?,
     };
     Ok(Frame { samples, bits, tool: opening.tool })
 }

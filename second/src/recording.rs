@@ -2,6 +2,7 @@
 //! marks for lost frames. The heading and the two marks stand here and nowhere
 //! else: they are remembered, and not taken from the RFC itself.
 
+use crate::law::ALL_TOOLS;
 use crate::read::{read_frame, ReadReport};
 use crate::walk::MOST_OCTETS;
 use crate::write::write_frame;
@@ -51,7 +52,7 @@ pub struct FileReport {
 /// a frame as its length, a loss as `LOSS` plus its length, 0 if not known.
 pub fn read_file(octets: &[u8], set: u32, out: &mut [u8], items: &mut [u16]) -> FileReport {
     let mut report = FileReport::default();
-    if set > 127 {
+    if set > ALL_TOOLS {
         return FileReport { ending: SET, ..report };
     }
     let Some(law) = (0..2).find(|&law| octets.starts_with(&heading(law))) else {
@@ -118,7 +119,7 @@ pub fn write_file(samples: &[u8], items: &[u16], law: u32, set: u32, out: &mut [
     if law > 1 {
         return Err(LAW);
     }
-    if set > 127 || set % 2 == 0 {
+    if set > ALL_TOOLS || set % 2 == 0 {
         return Err(SET);
     }
     if !items.iter().all(|&item| LENGTHS.contains(&(item % LOSS))) {

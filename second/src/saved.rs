@@ -5,6 +5,7 @@
 //! lines and all that they alone can tell, with TABLE; the walk over each
 //! greeting, with BAD; samples and marks beside what the walk gave, with TABLE.
 
+use crate::law::ALL_TOOLS;
 use crate::marks::{walk_greeting, Mark, Walked};
 use crate::store::{Greeting, Store, BAD, MOST_GREETINGS, MOST_NUMBER, ROOM, TABLE};
 
@@ -14,8 +15,9 @@ const EARLY_LAW: u32 = 1;
 const FORM_2: &str = "form=2\n";
 /// The greatest start, octet count and block of a table without that line.
 const MOST_WITHOUT: usize = 65_535;
-/// The largest block of an old box, one from before R-11.
+/// The largest block of an old box, one from before R-11, and its tools.
 const OLD_BLOCK: usize = 16_384;
+const OLD_TOOLS: u32 = 127;
 
 impl Store {
     /// Writes the table to the start of `out`; gives its octets.
@@ -52,7 +54,7 @@ impl Store {
     pub fn load(text: &[u8], block: Vec<u8>) -> Result<Store, u32> {
         let store = Store::fresh(block);
         let rows = parse(text, store.size()).ok_or(TABLE)?;
-        filled(store, rows)
+        filled(store, rows, ALL_TOOLS)
     }
 }
 
@@ -61,16 +63,17 @@ impl Store {
 /// with it there.
 pub fn old_reads(text: &[u8], block: Vec<u8>) -> Result<Store, u32> {
     let rows = parse_rows(text, block.len().min(OLD_BLOCK)).ok_or(TABLE)?;
-    filled(Store::fresh(block), rows)
+    filled(Store::fresh(block), rows, OLD_TOOLS)
 }
 
-/// A store of these greetings, if the walk gives what is said of them.
-fn filled(mut store: Store, rows: Vec<Row>) -> Result<Store, u32> {
+/// A store of these greetings, if the walk with a set gives what is said of
+/// them.
+fn filled(mut store: Store, rows: Vec<Row>, set: u32) -> Result<Store, u32> {
     let mut all_true = true;
     for row in rows {
         let octets = &store.block[row.start..row.start + row.octets];
         let law = row.said.as_ref().map_or(EARLY_LAW, |said| said.law);
-        let walked = walk_greeting(octets, law).ok_or(BAD)?;
+        let walked = walk_greeting(octets, law, set).ok_or(BAD)?;
         all_true &= row.said.is_none_or(|said| said.is_what(&walked));
         let Walked { samples, marks } = walked;
         let Row { number, start, octets, .. } = row;

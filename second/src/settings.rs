@@ -19,7 +19,7 @@ const SPENT: u32 = 25;
 
 /// The lines in their order, with the least and the greatest value of each.
 const LINES: [(&str, u32, u32); 4] =
-    [("law", 0, 1), ("set", 0, 127), ("block", 1, 1_048_576), ("greeting", 0, 65_535)];
+    [("law", 0, 1), ("set", 0, 255), ("block", 1, 1_048_576), ("greeting", 0, 65_535)];
 
 /// The values of a revision, in the order of the lines.
 type Values = [u32; 4];

@@ -7,6 +7,7 @@
 //! and takes them over at its end, so a refused call can't have changed
 //! anything, and octets that move are read from the block as it was.
 
+use crate::law::ALL_TOOLS;
 use crate::marks::{jump, walk_greeting};
 
 pub use crate::marks::{Jump, Mark};
@@ -84,7 +85,7 @@ impl Store {
         if self.find(number).is_some() {
             return Err(TAKEN);
         }
-        let walked = walk_greeting(octets, law).ok_or(BAD)?;
+        let walked = walk_greeting(octets, law, ALL_TOOLS).ok_or(BAD)?;
         if self.greetings.len() == MOST_GREETINGS {
             return Err(FULL);
         }

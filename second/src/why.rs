@@ -4,11 +4,11 @@
 //! each tool is asked in turn whether it applies and, if so, how many bits its
 //! form has, from a plain list of the frame's signed numbers.
 
-/// Tools 1 to 7.
-const TOOLS: usize = 7;
+/// The tools in the order of their lines; so also of their bits in a set.
+pub const TOOLS: [u8; 8] = [1, 2, 3, 4, 5, 6, 7, 11];
 
 /// Which of two tools with as many octets comes first.
-const TIE_ORDER: [u8; TOOLS] = [2, 3, 4, 5, 6, 7, 1];
+const TIE_ORDER: [u8; TOOLS.len()] = [2, 3, 4, 5, 6, 7, 11, 1];
 
 const LENGTH: u32 = 10;
 const SET: u32 = 11;
@@ -27,8 +27,8 @@ pub enum State {
 
 #[derive(Clone, Copy, Debug, PartialEq, Eq)]
 pub struct Why {
-    /// Of tools 1 to 7, in this order.
-    pub states: [State; TOOLS],
+    /// Of tools 1 to 7 and 11, in this order.
+    pub states: [State; TOOLS.len()],
     /// The tool that the writer takes; 0 for a frame of no samples.
     pub winner: u8,
     /// Whether another tool of the set needs as few octets.
@@ -40,17 +40,17 @@ pub fn why(samples: &[u8], law: u32, set: u32) -> Result<Why, u32> {
     if law > 1 {
         return Err(LAW);
     }
-    if set > 127 || set % 2 == 0 {
+    if set > 255 || set % 2 == 0 {
         return Err(SET);
     }
     if ![0, 40, 80, 160, 240, 320].contains(&samples.len()) {
         return Err(LENGTH);
     }
     let numbers: Vec<i32> = samples.iter().map(|&sample| signed(sample, law)).collect();
-    let mut states = [State::Out; TOOLS];
+    let mut states = [State::Out; TOOLS.len()];
     for (index, state) in states.iter_mut().enumerate() {
         if set >> index & 1 == 1 {
-            *state = match bits_by(index + 1, &numbers) {
+            *state = match bits_by(TOOLS[index], &numbers) {
                 Ok(bits) => State::Fits(bits.div_ceil(8)),
                 Err(condition) => State::No(condition),
             };
@@ -62,8 +62,7 @@ pub fn why(samples: &[u8], law: u32, set: u32) -> Result<Why, u32> {
 /// The lines of an answer.
 pub fn lines(why: &Why) -> Vec<u8> {
     let mut text = String::new();
-    for (index, state) in why.states.iter().enumerate() {
-        let tool = index + 1;
+    for (tool, state) in TOOLS.iter().zip(&why.states) {
         text += &match state {
             State::Out => format!("tool={tool} state=out why=0 octets=0\n"),
             State::No(condition) => format!("tool={tool} state=no why={condition} octets=0\n"),
@@ -76,8 +75,8 @@ pub fn lines(why: &Why) -> Vec<u8> {
 }
 
 /// Names the winner. Where no tool fits, the frame has no samples: a pad.
-fn judged(states: [State; TOOLS]) -> Why {
-    let octets_of = |tool: u8| match states[usize::from(tool) - 1] {
+fn judged(states: [State; TOOLS.len()]) -> Why {
+    let octets_of = |tool: u8| match states[TOOLS.iter().position(|&other| other == tool)?] {
         State::Fits(octets) => Some(octets),
         _ => None,
     };
@@ -102,7 +101,7 @@ fn signed(sample: u8, law: u32) -> i32 {
 
 /// The bits of a tool's form, or the first of its conditions that fails. A
 /// frame of no samples fails the first condition of every tool.
-fn bits_by(tool: usize, numbers: &[i32]) -> Result<usize, u8> {
+fn bits_by(tool: u8, numbers: &[i32]) -> Result<usize, u8> {
     let applies = |condition: bool| if condition && !numbers.is_empty() { Ok(()) } else { Err(1) };
     let all = |number: i32| numbers.iter().all(|&other| other == number);
     let two_zeros = || numbers.iter().all(|&number| number == 0 || number == -1);
@@ -113,7 +112,8 @@ fn bits_by(tool: usize, numbers: &[i32]) -> Result<usize, u8> {
         4 => applies(numbers.first().is_some_and(|&first| all(first))).map(|()| 16),
         5 => applies(two_zeros()).map(|()| 8 + numbers.len()),
         6 => applies(two_zeros()).map(|()| rice_bits(numbers)),
-        _ => value_location_bits(numbers),
+        7 => value_location_bits(numbers),
+        _ => fractional_bits(numbers).ok_or(1),
     }
 }
 
@@ -189,6 +189,42 @@ fn value_location_bits(numbers: &[i32]) -> Result<usize, u8> {
         left.retain(|&number| number != value);
     }
     Ok(bits)
+}
+
+/// The bits of tool 11's form, if there is a row for the frame.
+fn fractional_bits(numbers: &[i32]) -> Option<usize> {
+    let samples = numbers.len();
+    let (least, greatest) = (*numbers.iter().min()?, *numbers.iter().max()?);
+    // How many rows a length with this one has at least, and the row's base.
+    let (at_least, base) = match (least, greatest, numbers.contains(&-1)) {
+        (0, 1, false) => (4, 2),
+        (-2, 1, true) => (4, 4),
+        (-2, 0, false) => (4, 2),
+        (-2, 1, false) => (4, 3),
+        (-2, 0, true) => (6, 3),
+        (-1, 1, true) => (6, 3),
+        (-3, 1, false) => (12, 4),
+        (-2, 2, true) => (12, 5),
+        (-2, 2, false) => (12, 4),
+        (-3, 2, true) => (12, 6),
+        (-3, 2, false) => (12, 5),
+        (-4, 2, false) => (12, 6),
+        _ => return None,
+    };
+    let rows = match samples {
+        40 => 12,
+        80 => 6,
+        _ => 4,
+    };
+    // Table 7-27, by bits for every five samples.
+    let of_five = match base {
+        2 => 5,
+        3 => 8,
+        4 => 10,
+        5 => 12,
+        _ => 13,
+    };
+    (at_least <= rows).then_some(8 + samples / 5 * of_five)
 }
 
 /// The bits of one value behind its method, over the places still empty.

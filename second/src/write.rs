@@ -2,6 +2,7 @@
 
 use crate::bits::BitWriter;
 use crate::first_octet::{octet_for, rice_prefix};
+use crate::fractional::Fractional;
 use crate::law::{check_writer_set, holds, Law, SIGN};
 use crate::planes::{gather_low_bits, Plane};
 use crate::refusal::Refusal;
@@ -51,6 +52,8 @@ fn write_checked(samples: &[u8], law: u32, set: u32, out: &mut [u8]) -> Result<F
 }
 
 /// Takes the tools in an order that makes the first form found the chosen one.
+/// Only value-location and fractional bits are held against each other: either
+/// may be the shorter one, and on a tie value-location comes first.
 fn write_chosen(samples: &[u8], law: Law, set: u32, out: &mut [u8]) -> Result<Form, Refusal> {
     let spread = Spread::of(samples, law);
     if spread.equal {
@@ -61,12 +64,18 @@ fn write_chosen(samples: &[u8], law: Law, set: u32, out: &mut [u8]) -> Result<Fo
     if spread.is_two_zeros() {
         return write_two_zeros(samples, law, set, out);
     }
+    let fractional = if spread.is_in_rows() && holds(set, 11) { Fractional::measure(samples, law) } else { None };
     if spread.is_near_zero() && samples.len() >= 80 && holds(set, 7) {
         if let Some(form) = ValueLocation::encode(samples, law) {
-            return form.write(out);
+            if fractional.as_ref().is_none_or(|other| form.octets() <= other.octets()) {
+                return form.write(out);
+            }
         }
     }
-    write_uncompressed(samples, out)
+    match fractional {
+        Some(form) => write_fractional(&form, samples, law, out),
+        None => write_uncompressed(samples, out),
+    }
 }
 
 /// What all samples of a frame have in common.
@@ -99,6 +108,12 @@ impl Spread {
     #[inline]
     fn is_near_zero(&self) -> bool {
         self.codes & !(SIGN | 1) == 0
+    }
+
+    /// Within -4 to 3: no row of tool 11 goes farther.
+    #[inline]
+    fn is_in_rows(&self) -> bool {
+        self.codes & !(SIGN | 3) == 0
     }
 }
 
@@ -179,6 +194,13 @@ fn write_binary(samples: &[u8], out: &mut [u8]) -> Result<Form, Refusal> {
         *octet = gather_low_bits(turned >> SIGN.trailing_zeros());
     }
     Ok(Form { bits: 8 * form.len(), tool: 5 })
+}
+
+/// Never longer than the plain octets: at most 13 bits for five samples.
+fn write_fractional(form: &Fractional, samples: &[u8], law: Law, out: &mut [u8]) -> Result<Form, Refusal> {
+    let octets = lend(out, form.octets())?;
+    form.write(samples, law, octets);
+    Ok(Form { bits: 8 * octets.len(), tool: 11 })
 }
 
 /// The octets a form needs.
@@ -274,8 +296,12 @@ impl ValueLocation {
         Some(form)
     }
 
+    fn octets(&self) -> usize {
+        self.bits.div_ceil(8)
+    }
+
     fn write(&self, out: &mut [u8]) -> Result<Form, Refusal> {
-        let octets = self.bits.div_ceil(8);
+        let octets = self.octets();
         lend(out, octets)?.copy_from_slice(&self.octets[..octets]);
         Ok(Form { bits: self.bits, tool: 7 })
     }

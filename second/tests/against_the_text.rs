@@ -35,10 +35,12 @@ impl Tally {
 #[test]
 fn every_one_and_two_octets() {
     let mut tally = Tally::new();
-    for first in 0..=255u8 {
-        tally.compare(&[first], 1, 127, ROOM);
-        for second in 0..=255u8 {
-            tally.compare(&[first, second], 1, 127, ROOM);
+    for set in [127, 255] {
+        for first in 0..=255u8 {
+            tally.compare(&[first], 1, set, ROOM);
+            for second in 0..=255u8 {
+                tally.compare(&[first, second], 1, set, ROOM);
+            }
         }
     }
     tally.print("all of one and two octets");
@@ -47,10 +49,11 @@ fn every_one_and_two_octets() {
 #[test]
 fn every_three_octets_after_the_bit_tools() {
     let mut tally = Tally::new();
-    for first in [0x57u8, 0x5B, 0x86, 0x96, 0xC6, 0xDE, 0x25, 0x2A, 0x35, 0x3B] {
+    let digits = [0x05u8, 0x09, 0x0B];
+    for first in [0x57u8, 0x5B, 0x86, 0x96, 0xC6, 0xDE, 0x25, 0x2A, 0x35, 0x3B].into_iter().chain(digits) {
         for rest in 0..=0xFFFFu16 {
             let [second, third] = rest.to_be_bytes();
-            tally.compare(&[first, second, third], 0, 127, ROOM);
+            tally.compare(&[first, second, third], 0, 255, ROOM);
         }
     }
     tally.print("three octets");
@@ -60,7 +63,7 @@ fn every_three_octets_after_the_bit_tools() {
 fn good_forms_no_writer_would_choose() {
     let mut rng = Prng::new(101);
     let mut tally = Tally::new();
-    let mut by_tool = [0u64; 8];
+    let mut by_tool = [0u64; 12];
     for _ in 0..60_000 {
         let law = rng.below(2) as u32;
         let form = gen::make_any_form(law, &mut rng);
@@ -68,7 +71,7 @@ fn good_forms_no_writer_would_choose() {
         let after_it = rng.below(12);
         let mut octets = form.octets.clone();
         octets.extend(rng.octets(after_it));
-        let report = read_frame(&octets, law, 127, &mut out);
+        let report = read_frame(&octets, law, 255, &mut out);
         assert_eq!(report.ending, 0, "{form:02X?}");
         assert_eq!(report.tool, form.tool);
         assert_eq!(report.bits, form.bits);
@@ -76,10 +79,10 @@ fn good_forms_no_writer_would_choose() {
         assert_eq!(report.samples, form.samples.len());
         assert_eq!(&out[..report.samples], form.samples);
         assert!(out[report.samples..].iter().all(|&o| o == 0x33));
-        tally.compare(&octets, law, 127, ROOM);
+        tally.compare(&octets, law, 255, ROOM);
         by_tool[form.tool as usize] += 1;
     }
-    println!("good forms by tool 0 to 7: {by_tool:?}");
+    println!("good forms by tool 0 to 11: {by_tool:?}");
     tally.print("good forms");
 }
 
@@ -91,7 +94,7 @@ fn every_cut_of_good_forms() {
         let law = rng.below(2) as u32;
         let form = gen::make_any_form(law, &mut rng);
         for cut in 0..form.octets.len() {
-            tally.compare(&form.octets[..cut], law, 127, ROOM);
+            tally.compare(&form.octets[..cut], law, 255, ROOM);
         }
     }
     tally.print("cut forms");
@@ -108,7 +111,7 @@ fn damaged_forms() {
         if rng.chance(1, 3) && !octets.is_empty() {
             octets = gen::damage_somehow(&octets, &mut rng);
         }
-        tally.compare(&octets, law, 127, ROOM);
+        tally.compare(&octets, law, 255, ROOM);
     }
     tally.print("damaged forms");
 }
@@ -126,7 +129,7 @@ fn random_octets_after_every_first_octet() {
                 let octet = (0..8).fold(0, |o, _| o << 1 | u8::from(rng.chance(1, density)));
                 octets.push(octet);
             }
-            tally.compare(&octets, rng.below(2) as u32, 127, ROOM);
+            tally.compare(&octets, rng.below(2) as u32, 255, ROOM);
         }
     }
     tally.print("random octets");
@@ -145,9 +148,9 @@ fn any_set_room_and_law() {
             gen::damage_somehow(&form.octets, &mut rng)
         };
         let set = match rng.below(8) {
-            0 => 128 + rng.below(300) as u32,
+            0 => 256 + rng.below(600) as u32,
             1 => rng.next_u64() as u32,
-            _ => rng.below(128) as u32,
+            _ => rng.below(256) as u32,
         };
         let room = *rng.pick(&[0, 1, 39, 40, 41, 79, 80, 159, 160, 161, 239, 240, 319, 320, 321]);
         tally.compare(&octets, law, set, room);
@@ -170,12 +173,12 @@ fn compare_write(samples: &[u8], law: u32, set: u32) -> usize {
 fn writer_makes_the_shortest_form_of_the_text() {
     let mut rng = Prng::new(106);
     let kinds = gen::all_kinds();
-    let mut by_tool = [0u64; 8];
+    let mut by_tool = [0u64; 12];
     for &kind in &kinds {
         for length in gen::LENGTHS {
             for law in 0..2 {
                 let samples = gen::make_frame(kind, length, law, &mut rng);
-                for set in [127, 1 + 2 * rng.below(64) as u32, 1 + 2 * rng.below(64) as u32] {
+                for set in [127, 255, 1 + 2 * rng.below(128) as u32, 1 + 2 * rng.below(128) as u32] {
                     by_tool[compare_write(&samples, law, set)] += 1;
                 }
             }
@@ -183,22 +186,23 @@ fn writer_makes_the_shortest_form_of_the_text() {
     }
     let patterns = gen::Pattern::ALL;
     for round in 0..60_000 {
-        let kind = match round % 3 {
+        let kind = match round % 4 {
             0 => gen::Kind::NearMiss(*rng.pick(gen::Miss::ALL)),
+            1 => *rng.pick(&kinds),
             _ => gen::Kind::TwoZeros(*rng.pick(patterns)),
         };
         let length = *rng.pick(&gen::LENGTHS);
         let law = rng.below(2) as u32;
         let samples = gen::make_frame(kind, length, law, &mut rng);
-        let set = if rng.flip() { 127 } else { 1 + 2 * rng.below(64) as u32 };
+        let set = if rng.flip() { *rng.pick(&[127, 255]) } else { 1 + 2 * rng.below(128) as u32 };
         by_tool[compare_write(&samples, law, set)] += 1;
     }
     let written: u64 = by_tool.iter().sum();
     let methods: Vec<u64> =
         slow::METHODS.iter().map(|m| m.load(std::sync::atomic::Ordering::Relaxed)).collect();
-    println!("forms compared: {written}, by tool 0 to 7: {by_tool:?}");
+    println!("forms compared: {written}, by tool 0 to 11: {by_tool:?}");
     println!("tool 7 methods called for, 000 to 111: {methods:?}");
-    assert!(by_tool[1..].iter().all(|&count| count > 0));
+    assert!([1, 2, 3, 4, 5, 6, 7, 11].iter().all(|&tool| by_tool[tool] > 0));
     assert!((0..8).all(|method| (methods[method] > 0) == (method != 6)));
 }
 
@@ -211,7 +215,7 @@ fn writer_room_is_exactly_the_form() {
         let length = *rng.pick(&gen::LENGTHS);
         let law = rng.below(2) as u32;
         let samples = gen::make_frame(kind, length, law, &mut rng);
-        let set = 1 + 2 * rng.below(64) as u32;
+        let set = 1 + 2 * rng.below(128) as u32;
         let mut out = vec![0; 330];
         let needed = write_frame(&samples, law, set, &mut out).octets;
         for room in [0, 1, 2, needed - 1, needed, needed + 1, length, length + 1, length + 2] {

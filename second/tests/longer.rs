@@ -223,8 +223,9 @@ fn b9_other_first_lines() {
     let mixed = ["form=2\n", &lines, "prompt=2\nstart=10\noctets=1\n"].concat();
     assert_eq!(load(mixed.as_bytes(), 20), TABLE);
     // All of R-6's and R-8's own faults are still found behind it.
-    for after in ["prompt=0\nstart=0\noctets=1\nlaw=1\nsamples=0\nmark=0,0\n", "prompt=1\nstart=0\noctets=1\nlaw=2\nsamples=0\nmark=0,0\n"] {
-        assert_eq!(Store::load(("form=2\n".to_string() + after).as_bytes(), vec![0x46]), Err(TABLE));
+    for (prompt, law) in [(0, 1), (1, 2), (65_536, 0)] {
+        let text = format!("form=2\nprompt={prompt}\nstart=0\noctets=1\nlaw={law}\nsamples=0\nmark=0,0\n");
+        assert_eq!(Store::load(text.as_bytes(), vec![0x46]), Err(TABLE));
     }
     let wrong = "form=2\nprompt=1\nstart=0\noctets=1\nlaw=1\nsamples=1\nmark=0,0\n";
     assert_eq!(Store::load(wrong.as_bytes(), vec![0x46]), Err(BAD));
@@ -238,6 +239,7 @@ fn b10_old_boxes() {
     let old = |text: &[u8], size: usize| old_reads(text, vec![0; size]).err().unwrap_or(0);
     assert_eq!(old(b"form=2\n", 16_384), TABLE);
     let mut rng = Prng::new(1110);
+    let mut by_old = [0; 2];
     for _ in 0..2_000 {
         let store = drawn(&mut rng);
         let text = store.text();
@@ -258,9 +260,16 @@ fn b10_old_boxes() {
         }
         assert_eq!(line, text.starts_with(b"form=2\n"));
         if !line && store.size() <= 16_384 {
-            assert_eq!(old_reads(&text, store.block.clone()), Ok(store));
+            // Tool 11 came later: a greeting that has it is BAD there.
+            let octets = |g: &Greeting| store.block[g.start..g.start + g.octets].to_vec();
+            let known = |g: &Greeting| walk(&octets(g), MU, 127, &mut [0; 2_000]).ending == 0;
+            let wanted = if store.greetings.iter().all(known) { Ok(store.clone()) } else { Err(BAD) };
+            assert!(old_reads(&text, store.block.clone()) == wanted);
+            by_old[usize::from(wanted.is_ok())] += 1;
         }
     }
+    println!("tables refused and taken by an old box: {by_old:?}");
+    assert!(by_old.iter().all(|&count| count > 50));
     assert_eq!(old(late(16_383, 1).as_bytes(), 20_000), 0);
     assert_eq!(old(late(16_384, 1).as_bytes(), 20_000), TABLE);
     assert_eq!(old(early(0, 16_384).as_bytes(), 16_384), 0);

@@ -301,7 +301,7 @@ fn every_sample_of_drawn_greetings() {
         greetings += 1;
         let (mut at, mut frame, mut sample) = (0, 0, 0);
         while at < octets.len() {
-            let read = read_frame(&octets[at..], law, 127, &mut [0; 320]);
+            let read = read_frame(&octets[at..], law, 255, &mut [0; 320]);
             for within in 0..read.samples {
                 assert_eq!(store.jump(9, sample), jumped(frame, at, within, frame % 64 + 1));
                 sample += 1;

@@ -92,16 +92,16 @@ fn promises_on_damaged_streams() {
         let (result, [frames, octets, filled]) = mended(&given, asked);
         assert_eq!(result[..octets], given[..octets]);
         let mut samples = vec![0; 20_000];
-        let walked = walk(&result, law, 127, &mut samples);
+        let walked = walk(&result, law, 255, &mut samples);
         assert_eq!((walked.ending, walked.samples as u64), (0, asked));
         let again = mended(&result, asked);
         assert_eq!((again.0, again.1[2]), (result.clone(), 0));
         // Nothing more could be kept.
-        let of_given = walk(&given, law, 127, &mut samples);
+        let of_given = walk(&given, law, 255, &mut samples);
         assert!(frames <= of_given.frames && octets <= of_given.octets);
         if octets < of_given.octets {
-            let next = walk(&given[octets..], law, 127, &mut samples[..320]);
-            let first = second::read_frame(&given[octets..], law, 127, &mut [0; 320]);
+            let next = walk(&given[octets..], law, 255, &mut samples[..320]);
+            let first = second::read_frame(&given[octets..], law, 255, &mut [0; 320]);
             assert!(next.frames > 0 && first.samples > filled);
         }
     }

@@ -89,7 +89,7 @@ fn r6_a_clean_walk_has_its_place_at_the_end() {
 #[test]
 fn r7_law_and_set_refuse_a_walk_over_no_octets() {
     assert_eq!(walk(&[], 2, 127, &mut []).ending, LAW);
-    assert_eq!(walk(&[], 1, 128, &mut []).ending, SET);
+    assert_eq!(walk(&[], 1, 256, &mut []).ending, SET);
     assert_eq!(walk(&[], 1, 127, &mut []).ending, 0);
 }
 

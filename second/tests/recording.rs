@@ -90,7 +90,7 @@ fn refusals_of_reading() {
         (report.ending, report.law, report.items, report.octets, report.samples, report.tool, report.bit)
     };
     let long = [&H[..], &vec![0; 1_048_577]].concat();
-    assert_eq!(tell(&long, 128), (SET, 0, 0, 0, 0, 0, 0));
+    assert_eq!(tell(&long, 256), (SET, 0, 0, 0, 0, 0, 0));
     assert_eq!(tell(&long[1..], 127), (HEAD, 0, 0, 0, 0, 0, 0));
     assert_eq!(tell(&long, 127), (LONG, 1, 0, 0, 0, 0, 0));
     assert_eq!(tell(&long[..1_048_586], 127), (0, 1, 1_048_576, 1_048_576, 0, 0, 0));
@@ -133,7 +133,8 @@ fn refusals_of_writing() {
     let long = vec![LOSS; 1_048_577];
     assert_eq!(write_file(&[0], &[41], 2, 0, &mut []), Err(LAW));
     assert_eq!(write_file(&[0], &[41], 1, 0, &mut []), Err(SET));
-    assert_eq!(write_file(&[0], &[41], 1, 129, &mut []), Err(SET));
+    assert_eq!(write_file(&[0], &[41], 1, 128, &mut []), Err(SET));
+    assert_eq!(write_file(&[0], &[41], 1, 257, &mut []), Err(SET));
     for items in [&[41][..], &[1], &[321], &[LOSS + 41], &[LOSS + 1], &[u16::MAX], &[LOSS + 321], &[40, 41]] {
         assert_eq!(write_file(&[0; 40], items, 1, 127, &mut []), Err(LENGTH), "{items:?}");
     }
@@ -154,7 +155,7 @@ fn written_reads_back() {
     let mut rng = Prng::new(1);
     for _ in 0..3_000 {
         let law = rng.below(2) as u32;
-        let set = 2 * rng.below(64) as u32 + 1;
+        let set = 2 * rng.below(128) as u32 + 1;
         let (mut list, mut wanted, mut given, mut kept) = (vec![], vec![], vec![], vec![]);
         for _ in 0..rng.below(12) {
             let length = *rng.pick(&LENGTHS) as u16;
@@ -192,16 +193,16 @@ fn written_reads_back() {
         // Without the octet 01 the rest is document 01's stream.
         let body = &file[10..];
         if !list.contains(&LOSS) {
-            let walked = walk(body, law, 127, &mut vec![0; 10_000]);
+            let walked = walk(body, law, 255, &mut vec![0; 10_000]);
             assert_eq!((walked.ending, walked.frames), (0, list.len()));
         }
         // Damaged: the items before the refused one are those of its start.
         let bad = damage_somehow(&file, &mut rng);
-        let (report, items, _) = read(&bad, 127);
+        let (report, items, _) = read(&bad, 255);
         if report.ending != 0 && report.ending != HEAD {
-            let kept = read(&bad[..10 + report.octets], 127);
+            let kept = read(&bad[..10 + report.octets], 255);
             assert_eq!((kept.0.ending, kept.1), (0, items));
-            let next = read_frame(&bad[10 + report.octets..], report.law, 127, &mut [0; 320]);
+            let next = read_frame(&bad[10 + report.octets..], report.law, 255, &mut [0; 320]);
             assert_eq!((next.ending, next.tool, next.bit), (report.ending, report.tool, report.bit));
         }
     }

@@ -36,11 +36,11 @@ fn writes(length: usize, law: u32, set: u32, room: usize, ending: u32) {
 fn reader_law_set_then_the_frame() {
     for octets in [&[][..], &[0x46], &[0x28], &[0x28, 0], &[0x41], &[0x00], &[0x40]] {
         for law in [2, 3, 127, 128, u32::MAX] {
-            for set in [0, 127, 128, u32::MAX] {
+            for set in [0, 127, 255, 256, u32::MAX] {
                 reads(octets, law, set, 0, LAW, 0);
             }
         }
-        for set in [128, 129, 255, 256, u32::MAX] {
+        for set in [256, 257, 511, 512, u32::MAX] {
             reads(octets, 0, set, 0, SET, 0);
             reads(octets, 1, set, 320, SET, 0);
         }
@@ -81,11 +81,11 @@ fn reader_law_set_then_the_frame() {
 #[test]
 fn writer_law_set_length_room() {
     for length in [0, 1, 39, 40, 41, 320, 400] {
-        for set in [0, 1, 127, 128] {
+        for set in [0, 1, 255, 256] {
             writes(length, 2, set, 0, LAW);
             writes(length, u32::MAX, set, 400, LAW);
         }
-        for set in [0, 2, 64, 126, 128, 129, 255, u32::MAX] {
+        for set in [0, 2, 64, 126, 128, 254, 256, 257, 511, u32::MAX] {
             writes(length, 0, set, 0, SET);
             writes(length, 1, set, 400, SET);
         }
@@ -217,10 +217,10 @@ fn walk_law_set_long() {
     let long = vec![0; 1_048_577];
     let mut out = [LENT; 40];
     for octets in [&[][..], &[0x41], &[0x46], &long] {
-        for set in [0, 127, 128] {
+        for set in [0, 255, 256] {
             assert_eq!(walk(octets, 2, set, &mut out), nothing(LAW));
         }
-        assert_eq!(walk(octets, 1, 128, &mut out), nothing(SET));
+        assert_eq!(walk(octets, 1, 256, &mut out), nothing(SET));
         assert_eq!(walk(octets, 0, u32::MAX, &mut out), nothing(SET));
     }
     assert_eq!(walk(&long, 1, 127, &mut out), nothing(LONG));
@@ -240,7 +240,7 @@ fn every_refusal_leaves_the_room_as_lent() {
         let octets = gen::damage_somehow(&form.octets, &mut rng);
         let room = rng.below(400);
         let mut out = vec![LENT; room];
-        let report = read_frame(&octets, law, rng.below(128) as u32 | 0x60, &mut out);
+        let report = read_frame(&octets, law, rng.below(256) as u32 | 0x60, &mut out);
         by_ending[report.ending as usize] += 1;
         if report.ending != 0 {
             assert_eq!((report.samples, report.octets, report.bits), (0, 0, 0));

@@ -13,7 +13,8 @@ fn round_trip(samples: &[u8], law: u32, set: u32, rng: &mut Prng) -> u32 {
     assert_eq!(written.octets, written.bits.div_ceil(8));
     assert!((1..=length + 1).contains(&written.octets));
     assert!(form[written.octets..].iter().all(|&o| o == 0xEE));
-    assert!(written.tool == 0 || set >> (written.tool - 1) & 1 == 1);
+    let bit = if written.tool == 11 { 8 } else { written.tool };
+    assert!(bit == 0 || set >> (bit - 1) & 1 == 1);
 
     let behind = rng.below(form.len() - written.octets + 1);
     for octet in &mut form[written.octets..written.octets + behind] {
@@ -33,27 +34,27 @@ fn round_trip(samples: &[u8], law: u32, set: u32, rng: &mut Prng) -> u32 {
 fn every_kind_length_law_and_odd_set() {
     let mut rng = Prng::new(201);
     let kinds = gen::all_kinds();
-    let mut by_tool = [0u64; 8];
+    let mut by_tool = [0u64; 12];
     for &kind in &kinds {
         for length in gen::LENGTHS {
             for law in 0..2 {
                 let samples = gen::make_frame(kind, length, law, &mut rng);
-                for set in (1..128).step_by(2) {
+                for set in (1..256).step_by(2) {
                     by_tool[round_trip(&samples, law, set, &mut rng) as usize] += 1;
                 }
             }
         }
     }
     let total: u64 = by_tool.iter().sum();
-    println!("kinds: {}, round trips: {total}, by tool 0 to 7: {by_tool:?}", kinds.len());
-    assert!(by_tool[1..].iter().all(|&count| count > 300));
+    println!("kinds: {}, round trips: {total}, by tool 0 to 11: {by_tool:?}", kinds.len());
+    assert!([1, 2, 3, 4, 5, 6, 7, 11].iter().all(|&tool| by_tool[tool] > 300));
 }
 
 #[test]
 fn many_frames_of_every_kind() {
     let mut rng = Prng::new(202);
     let kinds = gen::all_kinds();
-    let mut by_tool = [0u64; 8];
+    let mut by_tool = [0u64; 12];
     for _ in 0..600_000 {
         let kind = if rng.flip() {
             *rng.pick(&kinds)
@@ -63,10 +64,10 @@ fn many_frames_of_every_kind() {
         let length = *rng.pick(&gen::LENGTHS);
         let law = rng.below(2) as u32;
         let samples = gen::make_frame(kind, length, law, &mut rng);
-        let set = if rng.flip() { 127 } else { 1 + 2 * rng.below(64) as u32 };
+        let set = if rng.flip() { *rng.pick(&[127, 255]) } else { 1 + 2 * rng.below(128) as u32 };
         by_tool[round_trip(&samples, law, set, &mut rng) as usize] += 1;
     }
-    println!("round trips by tool 0 to 7: {by_tool:?}");
+    println!("round trips by tool 0 to 11: {by_tool:?}");
 }
 
 #[test]
@@ -76,7 +77,7 @@ fn every_constant_frame() {
     for length in gen::LENGTHS {
         for law in 0..2 {
             for octet in 0..=255u8 {
-                for set in [127, 1, 9, 33, 49, 17, 65, 3, 5, 121] {
+                for set in [127, 255, 1, 129, 9, 33, 49, 17, 65, 3, 5, 121] {
                     round_trip(&vec![octet; length], law, set, &mut rng);
                     count += 1;
                 }
@@ -114,7 +115,7 @@ fn one_odd_sample_at_every_place() {
 #[test]
 fn no_samples_are_one_octet() {
     let mut rng = Prng::new(205);
-    for set in (1..128).step_by(2) {
+    for set in (1..256).step_by(2) {
         for law in 0..2 {
             assert_eq!(round_trip(&[], law, set, &mut rng), 0);
         }

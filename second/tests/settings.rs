@@ -21,7 +21,7 @@ fn any_values(rng: &mut Prng) -> [u64; 4] {
         1 => greatest as u64,
         _ => (least + rng.below(greatest - least + 1)) as u64,
     };
-    [edge(rng, 0, 1), edge(rng, 0, 127), edge(rng, 1, 1_048_576), edge(rng, 0, 65_535)]
+    [edge(rng, 0, 1), edge(rng, 0, 255), edge(rng, 1, 1_048_576), edge(rng, 0, 65_535)]
 }
 
 /// Everything that was saved, by number, and where the last wipe was.
@@ -129,7 +129,7 @@ fn is_good(text: &[u8]) -> bool {
     let [law, set, block, greeting] = values;
     text_of(values) == text.as_bytes()
         && law <= 1
-        && set <= 127
+        && set <= 255
         && (1..=1_048_576).contains(&block)
         && greeting <= 65_535
 }
@@ -250,7 +250,7 @@ fn the_readings_of_the_text() {
     ] {
         assert!(!try_save(text.as_bytes()), "{text:?}");
     }
-    for text in [T, &T.replace("set=127", "set=126"), &T.replace("set=127", "set=0")] {
+    for text in [T, &T.replace("set=127", "set=126"), &T.replace("set=127", "set=0"), &T.replace("127", "255")] {
         assert!(try_save(text.as_bytes()), "{text:?}");
     }
 }

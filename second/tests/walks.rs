@@ -42,7 +42,7 @@ fn good_streams() {
         let (octets, samples) = stream(frames, law, &mut rng);
         let more = rng.below(3);
         let mut out = vec![0x42; samples.len() + more];
-        let report = walk(&octets, law, 127, &mut out);
+        let report = walk(&octets, law, 255, &mut out);
         let expected = WalkReport {
             ending: 0,
             frames,
@@ -72,7 +72,7 @@ fn damaged_streams_and_short_rooms() {
             octets = gen::damage_somehow(&octets, &mut rng);
         }
         let room = if rng.flip() { samples.len() + 700 } else { rng.below(samples.len() + 1) };
-        let set = if rng.chance(3, 4) { 127 } else { rng.below(128) as u32 };
+        let set = if rng.chance(3, 4) { 255 } else { rng.below(256) as u32 };
         let lent: Vec<u8> = (0..room).map(|i| (i * 91 + 5) as u8).collect();
         let (mut ours, mut theirs) = (lent.clone(), lent);
         let report = walk(&octets, law, set, &mut ours);
@@ -92,7 +92,7 @@ fn written_streams_come_back() {
     let mut frames_written = 0;
     for _ in 0..300 {
         let law = rng.below(2) as u32;
-        let set = 1 + 2 * rng.below(64) as u32;
+        let set = 1 + 2 * rng.below(128) as u32;
         let (mut octets, mut samples) = (vec![], vec![]);
         let frames = rng.below(60);
         for _ in 0..frames {

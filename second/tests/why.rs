@@ -2,7 +2,7 @@
 //! writer's own choice on every kind of frame.
 
 use second::gen::{all_kinds, make_frame, sample_of, Prng, LENGTHS};
-use second::why::{lines, why, State};
+use second::why::{lines, why, State, TOOLS};
 use second::write_frame;
 
 const MU: u32 = 1;
@@ -17,10 +17,15 @@ fn said(samples: &[u8], set: u32) -> String {
     String::from_utf8(lines(&why(samples, MU, set).unwrap())).unwrap()
 }
 
-/// The whole text from short words: `out`, `no1`, or the octets.
+/// The whole text from short words: `out`, `no1`, or the octets. Tool 11 is
+/// out; `text_with` has a word for it.
 fn text(words: [&str; 7], winner: u8, by: &str) -> String {
+    text_with(words, "out", winner, by)
+}
+
+fn text_with(words: [&str; 7], last: &str, winner: u8, by: &str) -> String {
     let mut text = String::new();
-    for (tool, word) in (1..).zip(words) {
+    for (tool, word) in (1..8).chain([11]).zip(words.into_iter().chain([last])) {
         let rest = match word.strip_prefix("no") {
             Some(condition) => format!("state=no why={condition} octets=0"),
             None if word == "out" => "state=out why=0 octets=0".to_string(),
@@ -73,6 +78,30 @@ fn value_location() {
     assert_eq!(said(&samples, 127), text(["81", "no1", "no1", "no1", "no1", "no1", "12"], 7, "octets"));
 }
 
+/// Tool 11: 6 octets for a row of two values at N = 40, where value-location
+/// has none; and its one condition.
+#[test]
+fn fractional_bits() {
+    let two = frame(&[(39, 0), (1, 1)]);
+    assert_eq!(said(&two, 255), text_with(["41", "no1", "no1", "no1", "no1", "no1", "no1"], "6", 11, "octets"));
+    assert_eq!(said(&two, 129), text_with(["41", "out", "out", "out", "out", "out", "out"], "6", 11, "octets"));
+    assert_eq!(said(&two, 127), text_with(["41", "no1", "no1", "no1", "no1", "no1", "no1"], "out", 1, "octets"));
+    let far = frame(&[(39, 0), (1, 3)]);
+    assert_eq!(said(&far, 255), text_with(["41", "no1", "no1", "no1", "no1", "no1", "no1"], "no1", 1, "octets"));
+    assert!(said(&two, 255).contains("tool=7 state=no why=1 octets=0\ntool=11 state=fits why=0 octets=6\nwinner=11 "));
+    // 80 samples, 0 and 1 by turns: 11 + 3 + 80 bits by value-location, 8 + 80 by tool 11.
+    let turns = frame(&[(1, 0), (1, 1)]).repeat(40);
+    assert_eq!(said(&turns, 255), text_with(["81", "no1", "no1", "no1", "no1", "no1", "12"], "11", 11, "octets"));
+    // 37 of 80 by turns, then 6 of 0: runs of 1 are 74 bits, the last run of 6
+    // has 5, so value-location has 11 + 3 + 79 = 93 bits, 12 octets.
+    // 33 by turns, then 14 of 0: 66 + 9 bits, so 89, 12 octets. 32 by turns and
+    // 16: 64 + 10, so 88 bits, 11 octets: as many as tool 11, which comes later.
+    let tie = [frame(&[(1, 0), (1, 1)]).repeat(32), frame(&[(16, 0)])].concat();
+    assert_eq!(said(&tie, 255), text_with(["81", "no1", "no1", "no1", "no1", "no1", "11"], "11", 7, "tie"));
+    assert_eq!(said(&[], 255), text_with(["no1"; 7], "no1", 0, "octets"));
+    assert_eq!(said(&[], 133), text_with(["no1", "out", "no1", "out", "out", "out", "out"], "no1", 0, "octets"));
+}
+
 /// Y1: which condition of value-location fails, and which first.
 #[test]
 fn conditions_of_value_location() {
@@ -121,7 +150,7 @@ fn refusals() {
     assert_eq!(why(&[0; 39], 2, 0), Err(12));
     assert_eq!(why(&[0; 40], u32::MAX, 127), Err(12));
     assert_eq!(why(&[0; 39], 1, 0), Err(11));
-    for set in [2, 126, 128, 129, 255, u32::MAX] {
+    for set in [2, 126, 128, 254, 256, 257, 511, u32::MAX] {
         assert_eq!(why(&[0; 40], 1, set), Err(11), "{set}");
     }
     for length in [1, 39, 41, 120, 200, 319, 321, 640] {
@@ -133,8 +162,8 @@ fn refusals() {
 #[test]
 fn the_longest_text() {
     let samples = [frame(&[(160, 0)]), frame(&[(160, -1)])].concat();
-    let longest = said(&samples, 127).len();
-    assert!(longest <= 7 * 35 + 19 && said(&samples, 127).ends_with('\n'));
+    let longest = said(&samples, 255).len();
+    assert!(longest <= 7 * 35 + 36 + 20 && said(&samples, 255).ends_with('\n'));
 }
 
 /// The winner is what the writer writes; a tool that fits needs what it needs
@@ -146,15 +175,16 @@ fn the_winner_is_what_the_writer_writes() {
         for length in LENGTHS {
             for law in 0..2 {
                 let samples = make_frame(kind, length, law, &mut rng);
-                let set = 2 * rng.below(64) as u32 + 1;
-                for set in [127, set, 1] {
+                let set = 2 * rng.below(128) as u32 + 1;
+                for set in [127, 255, set, 1] {
                     let found = why(&samples, law, set).unwrap();
                     let wrote = write_frame(&samples, law, set, &mut [0; 321]);
                     assert_eq!(u32::from(found.winner), wrote.tool, "{kind:?} {length} {law} {set}");
-                    let winner = found.states[usize::from(found.winner) - 1];
+                    let place = TOOLS.iter().position(|&tool| tool == found.winner).unwrap();
+                    let winner = found.states[place];
                     assert_eq!(winner, State::Fits(wrote.octets), "{kind:?} {length} {law} {set}");
                 }
-                for (index, state) in why(&samples, law, 127).unwrap().states.into_iter().enumerate() {
+                for (index, state) in why(&samples, law, 255).unwrap().states.into_iter().enumerate() {
                     let wrote = write_frame(&samples, law, 1 | 1 << index, &mut [0; 321]);
                     match state {
                         State::Fits(octets) => assert_eq!(wrote.octets, octets),

@@ -93,6 +93,26 @@ static int refused(void)
     return 0;
 }
 
+/* A frame of few values, by tool 11, which sets up to 127 lack: 40 samples, 0 and 1 in turn, are a bit each. */
+static int few_values(void)
+{
+    static const uint8_t wanted[6] = {0x02, 0x55, 0x55, 0x55, 0x55, 0x55}, no_digits[3] = {0x05, 0x79, 0xF3};
+    uint8_t samples[40], kept[G7110_MAX_WRITTEN], sound[40];
+    uint64_t wrote[3], got[5];
+    size_t at;
+    for (at = 0; at < sizeof samples; at++) samples[at] = at % 2 == 0 ? 0xFF : 0xFE;
+    CHECK(G7110_ALL_TOOLS == 255);
+    CHECK(g7110_write(samples, sizeof samples, 1, G7110_ALL_TOOLS, kept, sizeof kept, wrote) == G7110_OK);
+    CHECK(wrote[0] == 6 && wrote[1] == 48 && wrote[2] == 11 && memcmp(kept, wanted, sizeof wanted) == 0);
+    CHECK(g7110_read(kept, 6, 1, 128, sound, sizeof sound, got) == G7110_OK && got[3] == 11);
+    CHECK(memcmp(sound, samples, sizeof samples) == 0);
+    CHECK(g7110_read(kept, 6, 1, 127, sound, sizeof sound, got) == G7110_TOOL && got[3] == 11 && got[4] == 0);
+    CHECK(g7110_write(samples, sizeof samples, 1, 127, kept, sizeof kept, wrote) == G7110_OK && wrote[2] == 1);
+    CHECK(g7110_read(no_digits, 3, 1, 128, sound, sizeof sound, got) == G7110_PLACE && got[4] == 16);
+    CHECK(g7110_read(no_digits, 3, 1, 256, sound, sizeof sound, got) == G7110_SET);
+    return 0;
+}
+
 /* The octets of a box's block: those of its newest settings, or 16,384 where it has none. docs/STORE.md shows it. */
 static uint32_t block_octets(const uint32_t state[G7110_SETTINGS])
 {
@@ -109,7 +129,7 @@ static uint32_t block_octets(const uint32_t state[G7110_SETTINGS])
 /* A box's settings: saved, put back, and wiped for the next tenant. */
 static int settings(void)
 {
-    static const char first[] = "law=1\nset=127\nblock=16384\ngreeting=0\n";
+    static const char first[] = "law=1\nset=255\nblock=16384\ngreeting=0\n";
     static const char other[] = "law=1\nset=1\nblock=65536\ngreeting=7\n";
     uint32_t state[G7110_SETTINGS] = {0};
     uint8_t text[G7110_SETTINGS_TEXT];
@@ -224,7 +244,7 @@ int main(void)
     uint8_t samples[160];
     size_t at;
     for (at = 0; at < sizeof samples; at++) samples[at] = at % 20 == 0 ? 0xFE : 0xFF;
-    if (keep_and_get_back(samples) || nothing_lent() || walk_and_stop() || refused()) return 1;
+    if (keep_and_get_back(samples) || nothing_lent() || walk_and_stop() || refused() || few_values()) return 1;
     if (to_linear_and_back(samples) || settings() || recording(samples) || store() || long_greetings()) return 1;
     printf("ok\n");
     return 0;

@@ -8,7 +8,8 @@
 #include <stdlib.h>
 #include <string.h>
 
-enum { STACK = 1 << 20, PAINT = 0xC5, STREAM = 4000 };
+/* OLD_TOOLS is the set without tool 11, so that frames of few values are read by the other tools too. */
+enum { STACK = 1 << 20, PAINT = 0xC5, STREAM = 4000, KINDS = 10, OLD_TOOLS = 127 };
 
 /* Kinds of call, none among them. */
 enum { CALLS = 20 };
@@ -103,6 +104,8 @@ static void frame(uint8_t *samples, int kind)
         if (kind == 5) samples[at] = (uint8_t)drawn;
         if (kind == 6) samples[at] = 0x7F;
         if (kind == 7) samples[at] = 0x12;
+        if (kind == 8 && drawn % 2 == 0) samples[at] = 0xFE;
+        if (kind == 9 && drawn % 3 > 0) samples[at] = drawn % 3 == 1 ? 0xFE : 0x7E;
     }
 }
 
@@ -115,7 +118,7 @@ static unsigned long over(int which)
 /* Each call over settings: on few revisions and on eight, and a text that is refused. */
 static void settings(void)
 {
-    static const char text[] = "law=1\nset=127\nblock=1048576\ngreeting=65535\n";
+    static const char text[] = "law=1\nset=255\nblock=1048576\ngreeting=65535\n";
     int turn;
     for (turn = 0; turn < 12; turn++) {
         measure(6, (const uint8_t *)text, sizeof text - 1 - (turn == 5));
@@ -141,7 +144,7 @@ static void store(const uint8_t *stream, size_t length)
     for (number = 1; number <= 41; number++) measure(12, NULL, 0);
     /* Into frames of every kind; and from marks, up to 64 frames, in the last greeting, and past its end. */
     for (number = 1; number <= 7; number += 2)
-        for (sample = 0; sample < 2560; sample += 320) measure(19, NULL, sample);
+        for (sample = 0; sample < 320 * KINDS; sample += 320) measure(19, NULL, sample);
     for (number = 41, sample = 0; sample <= 240000; sample += 23960) measure(19, NULL, sample);
     measure(14, NULL, 0);
     if (g7110_store_save(block, block_len, table, sizeof table / sizeof *table, text, sizeof text, saved) != G7110_OK) return;
@@ -178,10 +181,10 @@ static void large_store(const uint8_t *stream, size_t length)
 static void files(void)
 {
     static const uint16_t losses[4] = {G7110_LOSS, G7110_LOSS + 320, 0, G7110_LOSS + 40};
-    static uint8_t samples[8 * 320], file[STREAM];
+    static uint8_t samples[KINDS * 320], file[STREAM];
     uint64_t wrote[1];
     int kind;
-    for (kind = 0; kind < 8; kind++) {
+    for (kind = 0; kind < KINDS; kind++) {
         frame(samples + 320 * kind, kind);
         items[listed++] = losses[kind % 4];
         items[listed++] = 320;
@@ -208,13 +211,14 @@ int main(void)
     measure(0, NULL, 0);
     greatest[0] = 0;
     measure(0, NULL, 0);
-    for (kind = 0; kind < 8; kind++) {
+    for (kind = 0; kind < KINDS; kind++) {
         frame(samples, kind);
         measure(2, samples, 320);
         measure(10, samples, 320);
         measure(4, samples, 320);
         measure(5, samples, 320);
-        if (g7110_write(samples, 320, 1, G7110_ALL_TOOLS, form, sizeof form, wrote) != G7110_OK) return 1;
+        if (g7110_write(samples, 320, 1, kind < 8 ? OLD_TOOLS : G7110_ALL_TOOLS, form, sizeof form, wrote) != G7110_OK) return 1;
+        if (kind >= 8 && wrote[2] != 11) return 1;
         for (cut = 0; cut < 2; cut++) measure(1, form, (size_t)wrote[0] - (size_t)cut);
         memcpy(stream + length, form, (size_t)wrote[0]);
         length += (size_t)wrote[0];

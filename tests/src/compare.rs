@@ -2,7 +2,7 @@
 //! Beside each vector its neighbours are run: calls whose answers follow from the vector's by the rules of document 01.
 
 use crate::vectors::{Ask, Call, First, Settled, Vector};
-use crate::{ending, Codec, Read, Walk, Write, ENDINGS};
+use crate::{ending, set_of, Codec, Read, Walk, Write, ALL_TOOLS, ENDINGS, LISTED_TOOLS};
 use std::fmt::{Debug, Display};
 use std::panic::{catch_unwind, AssertUnwindSafe};
 
@@ -197,7 +197,8 @@ impl Bench<'_> {
     /// Of an accepted frame every cut is SHORT at the cut, what follows changes nothing, N - 1 octets of room are too few, the
     /// set needs its tool, a walk over its octets has one frame, and under the other law it has the same signed
     /// numbers (tools 1 and 4: the same samples). A refusal that is not SHORT stands whatever follows and under
-    /// either law, and a walk that starts there is refused in the same words at place 0.
+    /// either law, and a walk that starts there is refused in the same words at place 0. Tool 11 in the set changes no
+    /// answer but its own.
     fn beside_read(&mut self, ask: &Ask, wanted: Read, samples: &[u8]) {
         if ask.law <= 1 {
             let mask = if has_samples(wanted.tool) { 0 } else { MASKS };
@@ -207,6 +208,10 @@ impl Bench<'_> {
         let more = Ask { given: [&ask.given[..], &[0x01, 0x86, 0xFF, 0x00]].concat(), ..ask.clone() };
         if wanted.ending != ending("SHORT").unwrap() {
             self.read("with more octets", &more, wanted, samples);
+        }
+        if ask.set <= LISTED_TOOLS && wanted.tool != 11 {
+            let set = ask.set | set_of(11);
+            self.read("with tool 11 in the set", &Ask { set, ..ask.clone() }, wanted, samples);
         }
         if ask.given.is_empty() {
             return;
@@ -227,7 +232,7 @@ impl Bench<'_> {
         self.walk("as a walk", &alone, walk, samples);
         if wanted.tool > 0 {
             self.read("in less room", &Ask { room: samples.len() - 1, ..ask.clone() }, refused("ROOM", 0), &[]);
-            let set = ask.set & !(1 << (wanted.tool - 1));
+            let set = ask.set & !set_of(wanted.tool);
             self.read("without its tool", &Ask { set, ..ask.clone() }, refused("TOOL", wanted.tool), &[]);
         }
     }
@@ -256,7 +261,7 @@ impl Bench<'_> {
         self.write("in less room", &Ask { room: octets.len() - 1, ..ask.clone() }, room, &[]);
     }
 
-    /// With set 0 a first octet shows its tool, and with set 127 a carried one shows its length by ROOM.
+    /// With set 0 a first octet shows its tool, with all others too; and with its own alone a carried one shows its length by ROOM.
     fn first(&mut self, ask: &Ask, settled: Settled) {
         let empty = Read { ending: 0, tool: 0, samples: 0, octets: 1, bits: 8, bit: 0 };
         match settled {
@@ -264,11 +269,13 @@ impl Bench<'_> {
             Settled::Unassigned => self.read("unassigned", ask, refused("PREFIX", 0), &[]),
             Settled::Tool(tool) => {
                 self.read("not carried", ask, refused("TOOL", tool), &[]);
-                self.read("not carried, set 127", &Ask { set: 127, ..ask.clone() }, refused("TOOL", tool), &[]);
+                self.read("not carried, all tools", &Ask { set: ALL_TOOLS, ..ask.clone() }, refused("TOOL", tool), &[]);
             }
             Settled::Carried { tool, length } => {
                 self.read("not in the set", ask, refused("TOOL", tool), &[]);
-                let set = 1 << (tool - 1);
+                let set = set_of(tool);
+                let others = Ask { set: ALL_TOOLS & !set, ..ask.clone() };
+                self.read("all others in the set", &others, refused("TOOL", tool), &[]);
                 let less = Ask { set, room: length - 1, ..ask.clone() };
                 self.read("in less room", &less, refused("ROOM", 0), &[]);
                 let mut out = vec![0; length];

@@ -1,6 +1,7 @@
 //! Faulty frames, each made to be refused at one place: a form that is right up to there, then the fault, then
 //! anything. What is cut off before the fault is SHORT; what follows it changes nothing.
 
+use crate::digits;
 use crate::ending;
 use crate::forms::{any_form, place_width, rice_start, rows, s_codes, Bits, Field, Form, Located, Row, LENGTHS};
 use second::gen::Prng;
@@ -33,7 +34,7 @@ impl Faulty {
     }
 }
 
-/// The ways in which a body of tool 6 or 7 is refused, SHORT left out. The number is the value, 1 to 3, of tool 7.
+/// The ways in which a body of tool 6, 7 or 11 is refused, SHORT left out. The number is the value, 1 to 3, of tool 7.
 #[derive(Clone, Copy, Debug, PartialEq, Eq)]
 pub enum Fault {
     RiceZeros,
@@ -49,6 +50,8 @@ pub enum Fault {
     NoneLeft(usize),
     OneLeft(usize),
     ValueFilling,
+    /// Five samples of tool 11 whose number is too great for so many values: 3, 5 or 6.
+    Fives(usize),
 }
 
 /// Every fault, in the order in which they are listed.
@@ -67,6 +70,7 @@ pub fn all() -> Vec<Fault> {
         all.extend((1..=3).map(fault));
     }
     all.push(Fault::ValueFilling);
+    all.extend([3, 5, 6].map(Fault::Fives));
     all
 }
 
@@ -95,13 +99,15 @@ impl Fault {
             Fault::NoneLeft(value) => format!("value {value}, a list where no place is left"),
             Fault::OneLeft(value) => format!("value {value}, a list too long for the place left"),
             Fault::ValueFilling => "tool 7, filling".into(),
+            Fault::Fives(values) => format!("tool 11, five samples of {values} values"),
         }
     }
 
     /// Whether a frame of this length can have it. The first value has all places left.
     pub fn possible(self, length: usize) -> bool {
         match self {
-            Fault::RiceZeros | Fault::RiceLong | Fault::RiceFilling => true,
+            Fault::RiceZeros | Fault::RiceLong | Fault::RiceFilling | Fault::Fives(3) => true,
+            Fault::Fives(_) => length == 40,
             Fault::NoneLeft(1) | Fault::OneLeft(1) => false,
             Fault::Method(3)
             | Fault::ValueZeros(3)
@@ -121,6 +127,7 @@ impl Fault {
             Fault::RiceFilling => filling(&any_form(6, length, 1, rng)?, rng),
             Fault::ValueFilling => filling(&any_form(7, length, 1, rng)?, rng),
             Fault::Case => Some(wrong_case(length, rng)),
+            Fault::Fives(values) => too_great(values, length, rng),
             Fault::Method(value)
             | Fault::ValueZeros(value)
             | Fault::ValueLong(value)
@@ -187,7 +194,7 @@ fn endless(bits: &mut Bits, length: usize) {
 }
 
 /// The octets of bits that end at a fault, the rest of the last octet being anything. The refusal gives the first bit of
-/// what is at fault: the run's code, the listed place, the range case or the method.
+/// what is at fault: the run's code, the listed place, the range case, the method or the number of five samples.
 fn with_any_filling(bits: &Bits, rng: &mut Prng) -> Made {
     let judged = bits.len();
     let mut octets = bits.octets();
@@ -220,6 +227,21 @@ fn wrong_case(length: usize, rng: &mut Prng) -> Made {
             return with_any_filling(&located.bits, rng);
         }
     }
+}
+
+/// Five samples whose number no digits make, after others that are good.
+fn too_great(values: usize, length: usize, rng: &mut Prng) -> Option<Made> {
+    let able: Vec<_> = digits::rows(length).into_iter().filter(|row| row.base() == values).collect();
+    let row = *able.get(rng.below(able.len().max(1)))?;
+    let (mut bits, width) = (row.start(length)?, row.width()?);
+    let good = rng.below(length / 5);
+    for at in 0..=good {
+        let (least, limit) = if at < good { (0, row.numbers()) } else { (row.numbers(), 1 << width) };
+        let number = if rng.chance(1, 3) { least } else { least + rng.below(limit - least) };
+        bits.field(Field::Fives(at));
+        bits.number(number, width);
+    }
+    Some(with_any_filling(&bits, rng))
 }
 
 /// Some good runs, short enough that a place is left; gives the places left.
@@ -331,6 +353,9 @@ pub fn short_place(tool: u32, field: Field) -> String {
         Field::Count => "tool 7, count".into(),
         Field::Place(0) => "tool 7, a first place".into(),
         Field::Place(_) => "tool 7, a later place".into(),
+        Field::Digits => "tool 11, bits of samples".into(),
+        Field::Fives(0) => "tool 11, first five samples".into(),
+        Field::Fives(_) => "tool 11, later five samples".into(),
         Field::Filling => panic!("no frame is cut in its filling"),
     }
 }
@@ -358,6 +383,9 @@ pub fn short_places() -> Vec<(String, &'static [usize])> {
         (7, Field::Count, from_80),
         (7, Field::Place(0), from_80),
         (7, Field::Place(1), from_80),
+        (11, Field::Digits, ALL),
+        (11, Field::Fives(0), ALL),
+        (11, Field::Fives(1), ALL),
     ];
     fields.iter().map(|(tool, field, lengths)| (short_place(*tool, *field), *lengths)).collect()
 }

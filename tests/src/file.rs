@@ -1,9 +1,10 @@
 //! The storage file of studios (document 02, R-1): two back ends asked the same, and each answer held against the frames
 //! as the proved reader reads them one by one. [`script`] reads tests/vectors/file.txt.
 
+use crate::digits::Digits;
 use crate::forms::{Located, Row};
 use crate::measure::numbers;
-use crate::{octets, Codec, Proved, Second, ENDINGS, MOST};
+use crate::{octets, Codec, Proved, Second, ALL_TOOLS, ENDINGS, MOST};
 use second::gen::{sample_of, Prng};
 
 pub const ROOM: u32 = 4;
@@ -244,7 +245,7 @@ impl<'a> Filed<'a> {
 pub fn expected(octets: &[u8], set: u32, room: usize, places: usize) -> (Read, Vec<u16>, Vec<u8>) {
     let (mut items, mut sound, mut at) = (Vec::new(), Vec::new(), 0);
     let none = |ending: u32, law: u32| (Read { ending, law, ..Read::default() }, Vec::new(), Vec::new());
-    if set > 127 {
+    if set > ALL_TOOLS {
         return none(SET, 0);
     }
     let Some(law) = (0..2).find(|law| octets.starts_with(&heading(*law))) else { return none(HEAD, 0) };
@@ -336,12 +337,13 @@ fn plain(length: usize) -> u8 {
     }
 }
 
-/// The forms that can hold an erasure frame: tools 1 and 4, and the rows of tool 7.
+/// The forms that can hold an erasure frame: tools 1 and 4, the rows of tool 7, and those of tool 11.
 #[derive(Clone, Copy, Debug)]
 pub enum Holds {
     Plain,
     Constant,
     Row(Row),
+    Digits(&'static Digits),
 }
 
 impl Holds {
@@ -351,6 +353,7 @@ impl Holds {
             Holds::Plain => format!("{what} by tool 1"),
             Holds::Constant => format!("{what} by tool 4"),
             Holds::Row(row) => format!("{what} by tool 7, case {} flag {}", row.case, row.flag),
+            Holds::Digits(row) => format!("{what} by tool 11, {}", row.name()),
         }
     }
 
@@ -366,6 +369,7 @@ impl Holds {
                 [plain(length)].into_iter().chain(samples).collect()
             }
             Holds::Constant => vec![plain(length) + 3, sample_of(number, law)],
+            Holds::Digits(row) => row.form(&numbers, law).expect("the length has the row").octets(),
             Holds::Row(row) => {
                 let mut located = Located::start(length, row.case, row.flag);
                 for (at, value) in row.values.iter().enumerate() {

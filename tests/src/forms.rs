@@ -1,6 +1,7 @@
 //! Forms of frames put together bit by bit, each with the fields it is made of and the samples it stands for. They are
 //! chosen with no eye to their size: a writer would make few of them. Nothing here is shared with a reader or a writer.
 
+use crate::digits::some_digits;
 use second::gen::{sample_of, Pattern, Prng};
 
 pub const LENGTHS: [usize; 5] = [40, 80, 160, 240, 320];
@@ -21,6 +22,9 @@ pub enum Field {
     Row,
     Count,
     Place(usize),
+    /// Samples of tool 11 with bits of their own; and its numbers, of five samples each, from 0.
+    Digits,
+    Fives(usize),
     Filling,
 }
 
@@ -364,6 +368,7 @@ pub fn any_form(tool: u32, length: usize, law: u32, rng: &mut Prng) -> Option<Fo
             numbers = located.numbers;
             located.bits
         }
+        11 => return Some(some_digits(length, law, rng)),
         _ => panic!("tool {tool} is not carried"),
     };
     Some(Form { bits, tool, samples: samples(&numbers, law) })
@@ -435,8 +440,17 @@ pub struct Fills {
 
 /// A form of any tool and length.
 pub fn some_form(law: u32, rng: &mut Prng) -> Form {
+    form_of(&[0, 1, 2, 3, 4, 5, 6, 6, 6, 7, 7, 7, 7, 11, 11, 11], law, rng)
+}
+
+/// A form of any tool that the listing program takes.
+pub fn listed_form(law: u32, rng: &mut Prng) -> Form {
+    form_of(&[0, 1, 2, 3, 4, 5, 6, 6, 6, 7, 7, 7, 7], law, rng)
+}
+
+fn form_of(tools: &[u32], law: u32, rng: &mut Prng) -> Form {
     loop {
-        let tool = *rng.pick(&[0, 1, 2, 3, 4, 5, 6, 6, 6, 7, 7, 7, 7]);
+        let tool = *rng.pick(tools);
         let length = *rng.pick(&LENGTHS);
         if let Some(form) = any_form(tool, length, law, rng) {
             return form;

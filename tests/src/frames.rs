@@ -62,6 +62,12 @@ pub fn few_frame(length: usize, law: u32, rng: &mut Prng) -> Vec<u8> {
     make_frame(kind, length, law, rng)
 }
 
+/// A frame of 0 and 1 for which value-location and tool 11 (document 02, R-14) need about as many octets.
+pub fn near_tie_frame(length: usize, law: u32, rng: &mut Prng) -> Vec<u8> {
+    let part = 26 + rng.below(12);
+    (0..length).map(|_| sample_of(i32::from(rng.chance(part, 100)), law)).collect()
+}
+
 /// The two zeros, the rarer one as often as suits one S or another.
 pub fn scattered(rng: &mut Prng) -> Pattern {
     let most = 4 << rng.below(6);

@@ -8,7 +8,7 @@ use crate::store::{early_text_of, Call, Stores, BLOCK};
 use crate::streams::plain_frames;
 use crate::vectors::Ask;
 use crate::why::Reasons;
-use crate::{Pair, Proved, Second, MOST, MOST_LISTED};
+use crate::{odd_set, Pair, Proved, Second, ALL_TOOLS, MOST, MOST_LISTED};
 use second::gen::{all_kinds, damage_somehow, make_frame, sample_of, Kind, Prng};
 
 /// Of so many rounds each kind of call has one.
@@ -100,8 +100,8 @@ impl Further {
     fn set(&mut self) -> u32 {
         match self.rng.below(60) {
             0 => self.rng.next_u64() as u32,
-            1..=30 => 2 * self.rng.below(64) as u32 + 1,
-            _ => 127,
+            1..=30 => odd_set(&mut self.rng),
+            _ => ALL_TOOLS,
         }
     }
 
@@ -199,7 +199,7 @@ impl Further {
         if !octets.is_empty() && self.rng.chance(1, 4) {
             octets = damage_somehow(&octets, &mut self.rng);
         }
-        let set = if self.rng.chance(1, 3) { self.rng.below(130) as u32 } else { self.set() };
+        let set = if self.rng.chance(1, 3) { self.rng.below(260) as u32 } else { self.set() };
         let room = if self.rng.chance(1, 6) { self.rng.below(600) } else { 320 * octets.len() };
         let places = if self.rng.chance(1, 6) { self.rng.below(8) } else { octets.len() };
         self.files.held(&octets, set, room, places);
@@ -221,8 +221,8 @@ impl Further {
         let (law, number, total) = (rng.below(2) as u32, 1 + rng.below(40) as u32, 40 * rng.below(25_001) as u64);
         let (size, sample) = (octets + 3 - rng.below(6), rng.below(2_000_000) as u64);
         let block = rng.octets(size);
-        self.walks.walk(&Ask { given: stream.clone(), law, set: 127, room: 2_000_000 });
-        self.files.read(&file(law, &stream), 127, 2_000_000, octets);
+        self.walks.walk(&Ask { given: stream.clone(), law, set: ALL_TOOLS, room: 2_000_000 });
+        self.files.read(&file(law, &stream), ALL_TOOLS, 2_000_000, octets);
         self.menders.call(&stream, law, total, octets + 3_200);
         self.large.renew(block);
         self.large.call(&Call::Put(law, number, stream));

@@ -7,7 +7,7 @@ use crate::pair::asked;
 use crate::settings::{some_call, some_cells, Keepers, State, CELLS, FRESH};
 use crate::streams::Stream;
 use crate::vectors::Ask;
-use crate::{Codec, Pair, Proved, Second};
+use crate::{Codec, Pair, Proved, Second, ALL_TOOLS};
 use second::gen::{all_kinds, damage_somehow, make_frame, Kind, Prng};
 use std::fs;
 use std::path::{Path, PathBuf};
@@ -208,8 +208,8 @@ impl<'a> Fuzz<'a> {
     fn set(&mut self) -> u32 {
         match self.rng.below(100) {
             0 => self.rng.next_u64() as u32,
-            1..=40 => self.rng.below(128) as u32,
-            _ => 127,
+            1..=40 => self.rng.below(256) as u32,
+            _ => ALL_TOOLS,
         }
     }
 

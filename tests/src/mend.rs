@@ -1,7 +1,7 @@
 //! A damaged greeting mended (document 02, R-12): two back ends asked the same, and each promise held against the walk.
 //! [`script`] reads tests/vectors/mend.txt.
 
-use crate::{octets, Codec, Proved, Second};
+use crate::{octets, Codec, Proved, Second, ALL_TOOLS};
 
 /// The call of include/g7110.h.
 mod raw {
@@ -173,17 +173,17 @@ impl<'a> Menders<'a> {
         if kept > given.len() || given[..kept] != result[..kept] || result.len() != done.octets {
             return Some("what is kept is not the start of what was given".into());
         }
-        let walked = Proved.walk(result, law, 127, &mut self.samples);
+        let walked = Proved.walk(result, law, ALL_TOOLS, &mut self.samples);
         if (walked.ending, walked.samples as u64) != (0, total) {
             return Some(format!("the result is walked as {walked:?}"));
         }
-        let walked = Proved.walk(&given[..kept], law, 127, &mut self.samples);
+        let walked = Proved.walk(&given[..kept], law, ALL_TOOLS, &mut self.samples);
         let missing = total as usize - walked.samples.min(total as usize);
         if (walked.ending, walked.frames) != (0, done.frames_kept) || missing != done.samples_filled {
             return Some(format!("{done:?}, and what is kept is walked as {walked:?}"));
         }
         if kept < given.len() {
-            let next = Proved.read(&given[kept..], law, 127, &mut self.samples);
+            let next = Proved.read(&given[kept..], law, ALL_TOOLS, &mut self.samples);
             if next.ending == 0 && next.samples <= missing {
                 return Some("the next frame could be kept".into());
             }

@@ -1,8 +1,9 @@
 //! What written frames have met, in tables: every S, method, tie, last sample, and number of times that a value comes.
 
+use crate::digits::row_of;
 use crate::forms::{Row, LENGTHS, ROWS};
 use crate::measure::{methods_of, numbers, s_of, values, zeros};
-use crate::{share, Table, Write};
+use crate::{set_of, share, Table, Write};
 
 /// Written frames wanted in a cell.
 const NEED: usize = share(1_000);
@@ -17,7 +18,7 @@ pub struct Met {
     times: Table,
 }
 
-const TIES: [&str; 8] = [
+const TIES: [&str; 9] = [
     "constant and Rice: octets",
     "binary and Rice: octets",
     "plus and minus: commoner",
@@ -26,6 +27,7 @@ const TIES: [&str; 8] = [
     "a value's runs: S",
     "L and D",
     "L and the list",
+    "values and tool 11: octets",
 ];
 
 fn row_name(row: Row, value: usize) -> String {
@@ -78,14 +80,20 @@ impl Met {
         let numbers = numbers(frame, law);
         match wrote.tool {
             6 => self.s.add(s_of(form, frame.len()), frame.len()),
-            7 => self.note_values(form, &numbers),
+            7 => {
+                self.note_values(form, &numbers);
+                let other = row_of(&numbers).filter(|_| set & set_of(11) > 0);
+                if other.is_some_and(|row| row.octets(frame.len()) == wrote.octets) {
+                    self.ties.add(TIES[8], "frames");
+                }
+            }
             _ => {}
         }
         if let Some(zeros) = zeros(&numbers) {
             if wrote.tool == 5 || wrote.tool == 6 {
                 self.ends.add(wrote.tool, ["plus", "minus"][usize::from(*numbers.last().unwrap() == -1)]);
             }
-            let has = |tool: u32| set >> (tool - 1) & 1 == 1;
+            let has = |tool: u32| set & set_of(tool) > 0;
             let tie = |ties: &mut Table, name: usize, holds: bool| {
                 if holds {
                     ties.add(TIES[name], "frames");

@@ -6,11 +6,11 @@
 //! stream is not compared.
 
 use crate::recordings::law_of;
-use crate::{ending, Ask, Codec, Pair, ENDINGS};
+use crate::{ending, Ask, Codec, Pair, ALL_TOOLS, ENDINGS};
 use std::fmt;
 use std::path::{Path, PathBuf};
 
-const SET: u32 = 127;
+const SET: u32 = ALL_TOOLS;
 /// More octets than a frame needs to be read or refused.
 const MOST_FRAME: usize = 1_024;
 

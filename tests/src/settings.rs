@@ -18,7 +18,7 @@ const REFUSALS: [(&str, u32); 3] = [("LINE", LINE), ("GONE", GONE), ("SPENT", SP
 
 /// The keys of the lines, with the least and the greatest value of each.
 pub const LINES: [(&str, u32, u32); 4] =
-    [("law", 0, 1), ("set", 0, 127), ("block", 1, 1_048_576), ("greeting", 0, 65_535)];
+    [("law", 0, 1), ("set", 0, 255), ("block", 1, 1_048_576), ("greeting", 0, 65_535)];
 
 /// What a call answers: its number, and its report.
 #[derive(Clone, Copy, Debug, PartialEq, Eq)]

@@ -1,6 +1,6 @@
 //! Streams of frames, whole and damaged.
 
-use crate::forms::{plain_form, some_form, Field, Form};
+use crate::forms::{listed_form, plain_form, some_form, Field, Form};
 use second::gen::Prng;
 
 /// Frames one after another, with the place where each starts.
@@ -29,6 +29,11 @@ impl Stream {
     /// Frames of every tool and length, in turn; some are pads.
     pub fn mixed(most: usize, law: u32, rng: &mut Prng) -> Stream {
         Stream::of(most, || some_form(law, rng))
+    }
+
+    /// The same without tool 11: frames that the listing program takes.
+    pub fn listed(most: usize, law: u32, rng: &mut Prng) -> Stream {
+        Stream::of(most, || listed_form(law, rng))
     }
 
     /// Mostly frames of 320 samples as they are, and so the octets that are walked fastest.
@@ -62,7 +67,7 @@ pub fn plain_frames(frames: usize, rng: &mut Prng) -> Vec<u8> {
 }
 
 /// The kinds of place where a stream is damaged.
-pub const FIELDS: [&str; 13] = [
+pub const FIELDS: [&str; 15] = [
     "prefix",
     "samples",
     "constant",
@@ -75,6 +80,8 @@ pub const FIELDS: [&str; 13] = [
     "D bits",
     "count",
     "place",
+    "digits",
+    "five samples",
     "filling",
 ];
 
@@ -92,6 +99,8 @@ pub fn field_name(field: Field) -> &'static str {
         Field::Row => FIELDS[9],
         Field::Count => FIELDS[10],
         Field::Place(_) => FIELDS[11],
-        Field::Filling => FIELDS[12],
+        Field::Digits => FIELDS[12],
+        Field::Fives(_) => FIELDS[13],
+        Field::Filling => FIELDS[14],
     }
 }

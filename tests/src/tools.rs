@@ -3,7 +3,7 @@
 
 use crate::program::{built, line, repository, run, words};
 use crate::recordings::{cuts, packed, Packed};
-use crate::{Codec, Second, ENDINGS, MOST};
+use crate::{Codec, Second, ALL_TOOLS, ENDINGS, LISTED_TOOLS, MOST};
 use std::path::{Path, PathBuf};
 use std::process::Command;
 
@@ -13,6 +13,10 @@ pub const USAGE: u32 = 64;
 pub const DIFFERS: u32 = 65;
 pub const LOST: u32 = 66;
 pub const FILES: u32 = 74;
+
+/// The sets of tools that are not told one: `pack` and `why` have what boxes of before R-14 read, `unpack` reads all.
+pub const PACKED_WITH: u32 = LISTED_TOOLS;
+pub const READ_WITH: u32 = ALL_TOOLS;
 
 /// The last line: `stop=N at=P tool=T`, and of `unpack` and `mend` ` bit=B` behind it.
 #[derive(Clone, Copy, Debug, PartialEq, Eq)]
@@ -287,7 +291,7 @@ pub fn mend_wanted(stream: &[u8], law: u32, total: usize) -> MendWanted {
     let mut result = vec![0; MOST];
     let done = second::mend::mend(stream, law, total as u64, &mut result).expect("stream and total are right");
     result.truncate(done.octets);
-    let walk = Second.walk(stream, law, 127, &mut vec![0; total]);
+    let walk = Second.walk(stream, law, ALL_TOOLS, &mut vec![0; total]);
     assert_eq!((walk.frames, walk.place), (done.frames_kept, done.octets_kept), "the walk keeps what is kept");
     let stopped = match walk.ending {
         0 => String::new(),

@@ -2,7 +2,7 @@
 //! [`script`] reads tests/vectors/why.txt.
 
 use crate::settings::Told;
-use crate::{ending, octets, Codec, Proved, Second};
+use crate::{ending, octets, set_of, Codec, Proved, Second, TOOLS};
 
 /// Octets lent for the lines.
 pub const LENT: usize = 512;
@@ -73,16 +73,22 @@ pub struct Said {
 impl Said {
     /// The lines, written out here once more.
     pub fn text(&self) -> String {
-        let line = |(at, state): (usize, &State)| {
+        let line = |(tool, state): (u32, &State)| {
             let (state, why, octets) = match state {
                 State::Out => ("out", 0, 0),
                 State::No(why) => ("no", *why, 0),
                 State::Fits(octets) => ("fits", 0, *octets),
             };
-            format!("tool={} state={state} why={why} octets={octets}\n", at + 1)
+            format!("tool={tool} state={state} why={why} octets={octets}\n")
         };
-        let tools: String = self.states.iter().enumerate().map(line).collect();
+        let tools: String = TOOLS.into_iter().zip(&self.states).map(line).collect();
         format!("{tools}winner={} by={}\n", self.winner, if self.tie { "tie" } else { "octets" })
+    }
+
+    /// What is said of a tool.
+    pub fn state(&self, tool: usize) -> Option<State> {
+        let at = TOOLS.iter().position(|known| *known as usize == tool)?;
+        self.states.get(at).copied()
     }
 
     /// The answer that lines say: read loosely, then written again and held against them.
@@ -99,7 +105,7 @@ impl Said {
         };
         let states: Option<Vec<State>> = tools.iter().map(state).collect();
         let said = Said { states: states?, winner: last.first()?.parse().ok()?, tie: last.get(1)? == "tie" };
-        (said.states.len() == 7 && said.text() == text).then_some(said)
+        (said.states.len() == TOOLS.len() && said.text() == text).then_some(said)
     }
 }
 
@@ -197,28 +203,28 @@ fn wrote(samples: &[u8], law: u32, set: u32) -> (usize, usize) {
 /// has the octets that a set of it and tool 1 writes, and one that does not never writes; a tie is one of the winner.
 fn against_the_writer(said: &Said, samples: &[u8], law: u32, set: u32) -> Option<String> {
     if samples.is_empty() {
-        let none = |at: usize| if set >> at & 1 == 1 { State::No(1) } else { State::Out };
-        let wanted = Said { states: (0..7).map(none).collect(), winner: 0, tie: false };
+        let none = |tool: u32| if set & set_of(tool) > 0 { State::No(1) } else { State::Out };
+        let wanted = Said { states: TOOLS.map(none).to_vec(), winner: 0, tie: false };
         return (*said != wanted).then(|| "no samples fail condition 1".to_string());
     }
-    for (at, state) in said.states.iter().enumerate() {
-        let held = set >> at & 1 == 1;
+    for (tool, state) in TOOLS.into_iter().zip(&said.states) {
+        let held = set & set_of(tool) > 0;
         if held == (*state == State::Out) {
-            return Some(format!("tool {}: {state:?}", at + 1));
+            return Some(format!("tool {tool}: {state:?}"));
         }
-        let alone = wrote(samples, law, 1 | 1 << at);
-        let wins = alone.0 == at + 1;
+        let alone = wrote(samples, law, 1 | set_of(tool));
+        let wins = alone.0 == tool as usize;
         match state {
-            State::Fits(octets) if (at + 1, *octets) != alone => {
-                return Some(format!("tool {}: {state:?}, and {alone:?} is written", at + 1));
+            State::Fits(octets) if (tool as usize, *octets) != alone => {
+                return Some(format!("tool {tool}: {state:?}, and {alone:?} is written"));
             }
-            State::No(_) if wins => return Some(format!("tool {} doesn't fit, and is written", at + 1)),
+            State::No(_) if wins => return Some(format!("tool {tool} doesn't fit, and is written")),
             _ => {}
         }
     }
     let (tool, octets) = wrote(samples, law, set);
     let as_few = said.states.iter().filter(|state| **state == State::Fits(octets)).count();
-    if said.winner != tool || said.states[tool - 1] != State::Fits(octets) || said.tie != (as_few > 1) {
+    if said.winner != tool || said.state(tool) != Some(State::Fits(octets)) || said.tie != (as_few > 1) {
         return Some(format!("{said:?}, and the writer writes tool {tool} in {octets} octets"));
     }
     None
@@ -234,7 +240,7 @@ pub struct Line {
     pub wanted: Result<Said, u32>,
 }
 
-/// The lines of a file of vectors: `why NAME samples=.. law=1 set=127 -> ok STATES winner=W by=B`, where each of the seven states
+/// The lines of a file of vectors: `why NAME samples=.. law=1 set=127 -> ok STATES winner=W by=B`, where each of the eight states
 /// is `out`, `noC` or octets; or `-> REFUSAL`.
 pub fn script(text: &str) -> Result<Vec<Line>, String> {
     let lines = text.lines().filter(|line| !line.is_empty() && !line.starts_with('#'));
@@ -257,7 +263,7 @@ fn read_line(line: &str) -> Option<Line> {
     let words: Vec<&str> = wanted.split_whitespace().collect();
     line.wanted = match words[..] {
         [refusal] => Err(ending(refusal).filter(|number| *number != 0)?),
-        ["ok", ref states @ .., winner, by] if states.len() == 7 => {
+        ["ok", ref states @ .., winner, by] if states.len() == TOOLS.len() => {
             let state = |word: &&str| match (*word, word.strip_prefix("no")) {
                 ("out", _) => Some(State::Out),
                 (_, Some(why)) => why.parse().ok().map(State::No),

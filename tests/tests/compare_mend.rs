@@ -5,7 +5,7 @@ use second::gen::Prng;
 use tests::mend::{filling, script, Mend, Menders, Mends, TOTAL};
 use tests::recordings::{packed, recordings};
 use tests::streams::{plain_frames, Stream, FIELDS};
-use tests::{say, share, shared, Proved, Second, Table, MOST, MOST_LISTED};
+use tests::{say, share, shared, Codec, Proved, Second, Table, ALL_TOOLS, LISTED_TOOLS, MOST, MOST_LISTED};
 
 const ROOM: u32 = 4;
 const LAW: u32 = 12;
@@ -136,7 +136,7 @@ fn damaged_recordings() {
     let mut streams = Vec::new();
     for recording in recordings() {
         for length in tests::forms::LENGTHS {
-            let packed = packed(&Second, &recording.sound, recording.law, 127, length, 30_000);
+            let packed = packed(&Second, &recording.sound, recording.law, ALL_TOOLS, length, 30_000);
             streams.push((recording.law, packed));
         }
     }
@@ -281,9 +281,10 @@ enum Fault {
     OldLimit,
     OneOctetMore,
     OneOctetMoreMade,
+    OldTools,
 }
 
-const FAULTS: [Fault; 21] = [
+const FAULTS: [Fault; 22] = [
     Fault::PassingKept,
     Fault::PassingSkipped,
     Fault::PadsDropped,
@@ -305,6 +306,7 @@ const FAULTS: [Fault; 21] = [
     Fault::OldLimit,
     Fault::OneOctetMore,
     Fault::OneOctetMoreMade,
+    Fault::OldTools,
 ];
 
 struct Wrong(Fault);
@@ -324,6 +326,11 @@ impl Mends for Wrong {
                 return Mend::refused(TOTAL)
             }
             Fault::MoreThanAMillion if total == 1_000_040 => return self.mend(octets, law, 1_000_000, out),
+            // The mend goes to set 255.
+            Fault::OldTools if law < 2 => {
+                let walked = Codec::walk(&Second, octets, law, LISTED_TOOLS, &mut vec![0; 320 * octets.len()]);
+                given.truncate(if walked.tool == 11 { walked.place } else { given.len() });
+            }
             Fault::TotalOf32Bits => return Second.mend(octets, law, total & 0xFFFF_FFFF, out),
             Fault::WritesThenRefuses => {
                 let kept = octets.len().min(out.len()).min(1);
@@ -338,7 +345,7 @@ impl Mends for Wrong {
             return done;
         }
         let (kept, end) = (done.octets_kept, done.octets);
-        let next = second::read_frame(&given[kept..], law, 127, &mut [0; 320]);
+        let next = second::read_frame(&given[kept..], law, ALL_TOOLS, &mut [0; 320]);
         match self.0 {
             Fault::PassingKept | Fault::PassingSkipped if next.ending == 0 && next.samples > 0 => {
                 let fits = self.0 as u8 == Fault::PassingSkipped as u8;

@@ -5,11 +5,10 @@ use second::gen::{damage_somehow, Prng};
 use std::collections::BTreeMap;
 use tests::faults::{self, short_place, short_places, Fault};
 use tests::forms::{any_form, some_form, Form, LENGTHS};
-use tests::{ending, say, share, shared, Ask, Pair, Proved, Read, Second, Table, ENDINGS};
+use tests::{ending, say, set_of, share, shared, Ask, Pair, Proved, Read, Second, Table, ALL_TOOLS, ENDINGS, TOOLS};
 
-const ALL_TOOLS: u32 = 127;
 /// Numbers that are neither a law nor a set.
-const OUT_OF_RANGE: [u32; 8] = [128, 129, 255, 256, 0x7FFF_FFFF, 0x8000_0000, 0x8000_0001, u32::MAX];
+const OUT_OF_RANGE: [u32; 8] = [256, 257, 383, 511, 0x7FFF_FFFF, 0x8000_0000, 0x8000_0001, u32::MAX];
 /// Accepted frames wanted of each tool and length.
 const ACCEPTED: usize = share(10_000);
 /// Refused frames wanted of each place that refuses.
@@ -71,7 +70,17 @@ fn all_inputs_of_up_to_two_octets() {
     assert_eq!(inputs.len(), 65_793);
     for given in shared(inputs) {
         for law in [0, 1, 2] {
-            for (set, room) in [(127, 320), (127, 0), (127, 160), (0, 320), (0x55, 320), (0x2A, 239), (128, 320)] {
+            for (set, room) in [
+                (255, 320),
+                (127, 320),
+                (255, 0),
+                (255, 160),
+                (0, 320),
+                (0x55, 320),
+                (0xAA, 239),
+                (128, 320),
+                (256, 320),
+            ] {
                 let got = pair.read(&Ask { given: given.clone(), law, set, room });
                 endings[got.ending as usize] += 1;
             }
@@ -105,15 +114,14 @@ fn all_three_octets_that_begin_tools_6_and_7() {
 fn accepted_frames() {
     let mut pair = pair();
     let mut rng = Prng::new(1);
-    let tools: Vec<u32> = (1..=7).collect();
-    let mut table = Table::new("frames read, by tool and length", &tools, &LENGTHS, ACCEPTED);
+    let mut table = Table::new("frames read, by tool and length", &TOOLS, &LENGTHS, ACCEPTED);
     table.never(7, 40);
-    for tool in tools {
+    for tool in TOOLS {
         for length in LENGTHS {
             for turn in 0..ACCEPTED {
                 let law = turn as u32 % 2;
                 let Some(form) = any_form(tool, length, law, &mut rng) else { break };
-                let set = turn as u32 / 2 % 128 | 1 << (tool - 1);
+                let set = turn as u32 / 2 % 256 | set_of(tool);
                 let room = *rng.pick(&[length, length, length + 1, length + 40, 320.max(length), 700]);
                 let mut given = form.octets();
                 if turn % 3 > 0 {
@@ -179,7 +187,7 @@ fn cut_in_every_field() {
         if table.faults().is_empty() {
             break;
         }
-        for (tool, times) in [(1, 5), (4, 5), (5, 5), (6, 20), (7, 200)] {
+        for (tool, times) in [(1, 5), (4, 5), (5, 5), (6, 20), (7, 200), (11, 20)] {
             for length in LENGTHS {
                 for _ in 0..times {
                     let law = rng.below(2) as u32;
@@ -218,14 +226,14 @@ fn refused_before_the_body() {
     let unassigned: Vec<u8> = [0x01, 0x46, 0x47, 0x85, 0x87, 0xC5, 0xC7].into_iter().chain(0x88..=0x8F).collect();
     rows.extend(unassigned.iter().map(|octet| format!("PREFIX {octet:02X}")));
     rows.extend((1..=13).map(|tool| format!("TOOL {tool}")));
-    rows.extend((1..=7).map(|tool| format!("ROOM tool {tool}")));
+    rows.extend(TOOLS.map(|tool| format!("ROOM tool {tool}")));
     let mut table = Table::new("refused before the body", &rows, &["calls"], REFUSED);
     for turn in 0..REFUSED {
         let behind = rng.octets(turn % 7);
         let form = some_form(1, &mut rng);
         let mut good = ask([form.octets(), behind.clone()].concat());
         good.law = turn as u32 % 2;
-        let set = turn as u32 % 128;
+        let set = turn as u32 % 256;
 
         let law = *rng.pick(&[2, 3, 4].into_iter().chain(OUT_OF_RANGE).collect::<Vec<_>>());
         let bad_set = *rng.pick(&OUT_OF_RANGE);
@@ -247,13 +255,13 @@ fn refused_before_the_body() {
     for tool in 1..=13 {
         for turn in 0..REFUSED {
             let given = opening(tool, &mut rng);
-            let set = if tool > 7 { turn as u32 % 128 } else { turn as u32 % 128 & !(1 << (tool - 1)) };
+            let set = turn as u32 % 256 & !set_of(tool);
             let ask = Ask { given, law: turn as u32 % 2, set, room: rng.below(400) };
             read_as(&mut pair, &ask, refused("TOOL", tool), &[]);
             table.add(format!("TOOL {tool}"), "calls");
         }
     }
-    for tool in 1..=7 {
+    for tool in TOOLS {
         for turn in 0..REFUSED {
             let law = turn as u32 % 2;
             let length = if tool == 7 { LENGTHS[1 + turn % 4] } else { LENGTHS[turn % 5] };
@@ -263,7 +271,7 @@ fn refused_before_the_body() {
             // ROOM stands before every check of a body: a cut or a fault in it changes nothing.
             let decided = 2.min(given.len());
             given.truncate(*rng.pick(&[decided, given.len()]));
-            let set = 1 << (tool - 1) | rng.below(128) as u32;
+            let set = set_of(tool) | rng.below(256) as u32;
             read_as(&mut pair, &Ask { given, law, set, room }, refused("ROOM", 0), &[]);
             table.add(format!("ROOM tool {tool}"), "calls");
         }
@@ -296,18 +304,18 @@ fn opening(tool: u32, rng: &mut Prng) -> Vec<u8> {
     [first, rng.octets(more)].concat()
 }
 
-/// Every set from 0 to 127 with every tool, pads too; and every room from 0 to N + 40 with every tool and length.
+/// Every set from 0 to 255 with every tool, pads too; and every room from 0 to N + 40 with every tool and length.
 #[test]
 fn every_set_and_every_room() {
     let mut pair = pair();
     let mut rng = Prng::new(5);
-    for tool in 0..=7 {
+    for tool in [0].into_iter().chain(TOOLS) {
         for length in LENGTHS {
             let Some(form) = any_form(tool, length, 1, &mut rng) else { continue };
-            for set in 0..=130 {
+            for set in 0..=258 {
                 let wanted = match set {
-                    128.. => refused("SET", 0),
-                    _ if tool == 0 || set >> (tool - 1) & 1 == 1 => accepted(&form),
+                    256.. => refused("SET", 0),
+                    _ if tool == 0 || set & set_of(tool) > 0 => accepted(&form),
                     _ => refused("TOOL", tool),
                 };
                 let samples = if wanted.ending == 0 { &form.samples[..] } else { &[] };
@@ -340,7 +348,7 @@ fn damaged_and_random() {
             1 => {
                 let long = rng.below(400);
                 let mut octets = rng.octets(1 + long);
-                octets[0] = *rng.pick(&[0x86, 0xC6, 0x25, 0x35, 0x56, 0x9A, 0xD6, 0x29]);
+                octets[0] = *rng.pick(&[0x86, 0xC6, 0x25, 0x35, 0x56, 0x9A, 0xD6, 0x29, 0x05, 0x09, 0x0B, 0x1F]);
                 octets
             }
             _ => damage_somehow(&some_form(law, &mut rng).octets(), &mut rng),

@@ -2,6 +2,7 @@
 //! and both against the frames of a file as the proved reader and writer have them one by one.
 
 use second::gen::{all_kinds, damage_somehow, make_frame, sample_of, Kind, Prng};
+use tests::digits::TABLE;
 use tests::file::{
     erased, file, heading, script, Filed, Files, Holds, Line, Read, Write, HEAD, LAW, LENGTH, LONG, LOSS, LOST, ROOM,
     SET,
@@ -9,7 +10,7 @@ use tests::file::{
 use tests::forms::{rows, LENGTHS, ROWS};
 use tests::recordings::{cuts, recordings};
 use tests::streams::{Stream, FIELDS};
-use tests::{in_share, say, share, Codec, Proved, Second, Table, MOST, MOST_LISTED};
+use tests::{in_share, odd_set, say, share, Codec, Proved, Second, Table, ALL_TOOLS, LISTED_TOOLS, MOST, MOST_LISTED};
 
 /// What a cell of a table needs.
 const NEED: usize = share(1_000);
@@ -67,12 +68,12 @@ fn headings() {
     let mut rng = Prng::new(11);
     let (mut head, mut good) = (0, 0);
     let mut tried = |filed: &mut Filed, octets: &[u8]| {
-        for set in [127, 0, 1, 128, u32::MAX] {
+        for set in [ALL_TOOLS, 0, 1, 127, 256, u32::MAX] {
             let told = filed.held(octets, set, 2_000, 40);
             head += usize::from(told.ending == HEAD);
             good += usize::from(told.ending == 0);
-            if set > 127 && told != (Read { ending: SET, ..Read::default() }) {
-                filed.differ("a set above 127", &format!("{told:?}"));
+            if set > ALL_TOOLS && told != (Read { ending: SET, ..Read::default() }) {
+                filed.differ("a set above 255", &format!("{told:?}"));
             }
         }
     };
@@ -111,6 +112,7 @@ fn holders() -> Vec<(Holds, i32)> {
     for number in SECONDS {
         all.extend([(Holds::Plain, number), (Holds::Constant, number)]);
         all.extend(ROWS.iter().filter(|row| row.values.contains(&number)).map(|row| (Holds::Row(*row), number)));
+        all.extend(TABLE.iter().filter(|row| row.values.contains(&number)).map(|row| (Holds::Digits(row), number)));
     }
     all
 }
@@ -119,6 +121,7 @@ fn holders() -> Vec<(Holds, i32)> {
 fn possible(holds: Holds, length: usize) -> bool {
     match holds {
         Holds::Row(row) => rows(length).iter().any(|other| (other.case, other.flag) == (row.case, row.flag)),
+        Holds::Digits(row) => row.first(length).is_some(),
         _ => true,
     }
 }
@@ -144,9 +147,10 @@ fn erasure_frames() {
                 let form = holds.form(number, length, law, None, &mut rng);
                 check_item(&mut filed, &form, law, LOSS + length as u16, &mut rng);
                 losses.add(&name, length);
-                // One sample is another: any in tools 1 and 4, the octet of the other sign among them, in tool 7 one that the row has.
+                // One sample is another: any in tools 1 and 4, the octet of the other sign among them, in tools 7 and 11 one that the row has.
                 let others: Vec<i32> = match holds {
                     Holds::Row(row) => row.values.iter().copied().chain([0]).filter(|value| *value != number).collect(),
+                    Holds::Digits(row) => row.values.iter().copied().filter(|value| *value != number).collect(),
                     Holds::Plain => vec![-1 - number, 0, -1, 2, -3, 127, -128],
                     Holds::Constant => vec![0, -1, 2, -3, 127, -128],
                 };
@@ -180,7 +184,7 @@ fn erasure_frames() {
 fn check_item(filed: &mut Filed, form: &[u8], law: u32, item: u16, rng: &mut Prng) {
     let before = *rng.pick(&[&[][..], &[0x41], &[0x00], &[LOST]]);
     let octets = file(law, &[before, form].concat());
-    let told = filed.held(&octets, 127, 400, 3);
+    let told = filed.held(&octets, ALL_TOOLS, 400, 3);
     if told.ending != 0 || filed.items.last() != Some(&item) {
         let items = filed.items.clone();
         filed.differ(&format!("item {item}, law {law}"), &format!("{told:?}, {items:?}: {octets:02X?}"));
@@ -213,7 +217,7 @@ fn lists_read_back() {
     let mut rng = Prng::new(13);
     let (mut nested, mut tool) = (0, 0);
     for turn in 0..LISTS {
-        let (law, set) = ((turn % 2) as u32, 2 * rng.below(64) as u32 + 1);
+        let (law, set) = ((turn % 2) as u32, odd_set(&mut rng));
         let (mut items, mut samples) = (Vec::new(), Vec::new());
         let draw = |items: &mut Vec<u16>, samples: &mut Vec<u8>, rng: &mut Prng| match rng.below(8) {
             0 => items.push(0),
@@ -240,13 +244,13 @@ fn lists_read_back() {
         table.add(place, length);
 
         // Every reader whose set holds all of the writer's reads the same; a smaller one may lack a tool.
-        let larger = set | rng.below(128) as u32;
+        let larger = set | rng.below(256) as u32;
         let told = filed.held(&octets, larger, samples.len() + 320, items.len());
         nested += usize::from(told.ending == 0);
         if told.ending != 0 {
             filed.differ("a larger set", &format!("{told:?}: {octets:02X?}"));
         }
-        let told = filed.held(&octets, set & rng.below(128) as u32, samples.len() + 320, items.len());
+        let told = filed.held(&octets, set & rng.below(256) as u32, samples.len() + 320, items.len());
         tool += usize::from(told.ending == 3);
         beside_the_walk(&mut filed, &octets, law, set);
     }
@@ -323,11 +327,11 @@ fn recordings_with_losses() {
                 at += cut;
             }
             losses += items.iter().filter(|item| **item >= LOSS).count();
-            std::fs::write(&path, filed.round(&samples, &items, recording.law, 127)).unwrap();
+            std::fs::write(&path, filed.round(&samples, &items, recording.law, ALL_TOOLS)).unwrap();
             let octets = std::fs::read(&path).unwrap();
-            let told = filed.held(&octets, 127, samples.len() + 320, items.len());
+            let told = filed.held(&octets, ALL_TOOLS, samples.len() + 320, items.len());
             assert_eq!((told.ending, told.law, told.octets + 10), (0, recording.law, octets.len()));
-            beside_the_walk(&mut filed, &octets, recording.law, 127);
+            beside_the_walk(&mut filed, &octets, recording.law, ALL_TOOLS);
             table.add(gap, length);
         }
     }
@@ -345,11 +349,13 @@ fn damaged_files() {
     let mut fields: Vec<&str> = FIELDS.to_vec();
     fields.extend(["none", "in any way", "octets at random"]);
     let mut table = Table::new("file, damaged by field and ending", &fields, &["ok", "refused"], share(50));
-    ["samples", "constant", "binary"].iter().for_each(|field| table.never(field, "refused"));
+    ["samples", "constant", "binary", "digits"].iter().for_each(|field| table.never(field, "refused"));
     ["code of S", "zeros", "method", "count", "filling"].iter().for_each(|field| table.needs(field, "ok", 0));
     table.never("none", "refused");
     table.needs("octets at random", "ok", share(20));
-    for turn in 0..share(24_000) {
+    // Few numbers of five samples are too great.
+    table.needs("five samples", "refused", share(20));
+    for turn in 0..share(36_000) {
         let (law, field) = ((turn % 2) as u32, fields[turn / 2 % fields.len()]);
         let stream = Stream::mixed(10 + rng.below(400), law, &mut rng);
         let turned = |rng: &mut Prng| (0..20).find_map(|_| stream.turned(field, rng));
@@ -374,10 +380,10 @@ fn damaged_files() {
             }
             _ => octets,
         };
-        let told = filed.held(&octets, 127, stream.samples() + 10_000, stream.forms.len() + 400);
+        let told = filed.held(&octets, ALL_TOOLS, stream.samples() + 10_000, stream.forms.len() + 400);
         table.add(field, if told.ending == 0 { "ok" } else { "refused" });
         if told.ending != HEAD {
-            beside_the_walk(&mut filed, &octets, told.law, 127);
+            beside_the_walk(&mut filed, &octets, told.law, ALL_TOOLS);
         }
     }
     table.close();
@@ -401,21 +407,21 @@ fn every_room() {
             body.extend(rng.pick(&[form, vec![LOST], vec![0x43, sample_of(1, law)], vec![0]]));
         }
         let octets = file(law, &body);
-        let all = filed.held(&octets, 127, 100_000, 2_000);
+        let all = filed.held(&octets, ALL_TOOLS, 100_000, 2_000);
         assert_eq!(all.ending, 0, "the file is good");
         for room in (0..all.samples + 330).step_by(1 + all.samples / 400) {
-            let told = filed.held(&octets, 127, room, 2_000);
+            let told = filed.held(&octets, ALL_TOOLS, room, 2_000);
             table.add("samples", if told.ending == ROOM { "ROOM" } else { "enough" });
         }
         for places in 0..all.items + 40 {
-            let told = filed.held(&octets, 127, 100_000, places);
+            let told = filed.held(&octets, ALL_TOOLS, 100_000, places);
             assert_eq!(told.ending == ROOM, places < all.items);
             table.add("items", if told.ending == ROOM { "ROOM" } else { "enough" });
         }
         let (items, samples) = (filed.items.clone(), filed.out.clone());
-        let whole = filed.round(&samples, &items, law, 127);
+        let whole = filed.round(&samples, &items, law, ALL_TOOLS);
         for room in 0..whole.len() + 40 {
-            let told = filed.write(&samples, &items, law, 127, room);
+            let told = filed.write(&samples, &items, law, ALL_TOOLS, room);
             let wanted = if room < whole.len() { (ROOM, 0) } else { (0, whole.len()) };
             assert_eq!((told.ending, told.octets), wanted);
             table.add("octets", if told.ending == ROOM { "ROOM" } else { "enough" });
@@ -436,7 +442,7 @@ fn around_the_longest() {
     for turn in 0..share(12) {
         let (octets, (law, octet)) = (lengths[turn % 6], [(1, LOST), (0, 0x00)][(turn + turn / 6) % 2]);
         let given = file(law, &vec![octet; octets]);
-        let told = filed.held(&given, 127, 0, MOST + 20);
+        let told = filed.held(&given, ALL_TOOLS, 0, MOST + 20);
         let items = vec![if octet == LOST { LOSS } else { 0 }; octets];
         let wrote = filed.write(&[], &items, law, 1, MOST + 100);
         let ending = if octets > MOST { LONG } else { 0 };
@@ -445,8 +451,8 @@ fn around_the_longest() {
         assert_eq!(wrote.octets, if octets > MOST { 0 } else { octets + 10 });
         if octets > MOST {
             assert_eq!(told, Read { ending: LONG, law, ..Read::default() });
-            assert_eq!(filed.held(&given[1..], 127, 0, 0).ending, HEAD);
-            assert_eq!(filed.held(&given, 128, 0, 0).ending, SET);
+            assert_eq!(filed.held(&given[1..], ALL_TOOLS, 0, 0).ending, HEAD);
+            assert_eq!(filed.held(&given, 256, 0, 0).ending, SET);
             long += 2;
         } else {
             good += 2;
@@ -472,7 +478,7 @@ fn refusals_of_writing() {
     let good = |item: u16| LENGTHS.iter().any(|length| *length == usize::from(item % LOSS)) || item % LOSS == 0;
     for item in (0..=u16::MAX).filter(|item| in_share(usize::from(*item))) {
         let samples = vec![0x55; if item < LOSS { usize::from(item) } else { 0 }];
-        let told = filed.write(&samples, &[item], u32::from(item) % 2, 127, 400);
+        let told = filed.write(&samples, &[item], u32::from(item) % 2, ALL_TOOLS, 400);
         assert_eq!(told.ending, if good(item) { 0 } else { LENGTH }, "{item}");
         refused[0] += usize::from(!good(item));
     }
@@ -489,9 +495,9 @@ fn refusals_of_writing() {
         };
         let samples = rng.octets(given);
         for law in [0, 1, 2, u32::MAX] {
-            for set in [127, 1, 126, 129, 0] {
+            for set in [ALL_TOOLS, 127, 1, 126, 254, 257, 0] {
                 let told = filed.write(&samples, &items, law, set, 3_000);
-                let wanted = match (law > 1, set > 127 || set % 2 == 0, given == right) {
+                let wanted = match (law > 1, set > ALL_TOOLS || set % 2 == 0, given == right) {
                     (true, ..) => LAW,
                     (_, true, _) => SET,
                     (_, _, false) => LENGTH,
@@ -544,9 +550,12 @@ enum Fault {
     NoVersionWritten,
     OldLimit,
     OneOctetMore,
+    OldSets,
+    Tool11NeverLost,
+    Tool11WithSet127,
 }
 
-const FAULTS: [Fault; 31] = [
+const FAULTS: [Fault; 34] = [
     Fault::LossAsFrame,
     Fault::LossAsSilence,
     Fault::OneOtherIsALoss,
@@ -578,6 +587,9 @@ const FAULTS: [Fault; 31] = [
     Fault::NoVersionWritten,
     Fault::OldLimit,
     Fault::OneOctetMore,
+    Fault::OldSets,
+    Fault::Tool11NeverLost,
+    Fault::Tool11WithSet127,
 ];
 
 struct Wrong(Fault);
@@ -589,16 +601,17 @@ impl Wrong {
         let named = octets.starts_with(&heading(0)) || octets.starts_with(&heading(1));
         let refused = |ending: u32, law: u32| Err(Read { ending, law, ..Read::default() });
         match self.0 {
-            Fault::LongFromTheStart if set < 128 && named && octets.len() > MOST => {
+            Fault::LongFromTheStart if set <= ALL_TOOLS && named && octets.len() > MOST => {
                 return refused(LONG, u32::from(octets[7] == b'M'));
             }
             // "LONG .. moves to the new limit".
-            Fault::OldLimit if set < 128 && named && octets.len() > MOST_LISTED + 10 => {
+            Fault::OldLimit if set <= ALL_TOOLS && named && octets.len() > MOST_LISTED + 10 => {
                 return refused(LONG, u32::from(octets[7] == b'M'));
             }
             Fault::OneOctetMore if octets.len() == MOST + 11 => given.truncate(MOST + 10),
             Fault::HeadBeforeSet if !named => return refused(HEAD, 0),
-            Fault::LongBeforeHead if set < 128 && octets.len() > MOST + 10 && !named => return refused(LONG, 0),
+            Fault::OldSets if set > LISTED_TOOLS => return refused(SET, 0),
+            Fault::LongBeforeHead if set <= ALL_TOOLS && octets.len() > MOST + 10 && !named => return refused(LONG, 0),
             Fault::AnyVersion if octets.len() > 9 => given[9] = 0,
             Fault::SmallLetters if octets.len() > 9 => given[..10].make_ascii_uppercase(),
             Fault::ShortHeading if octets.len() == 9 && octets[..] == heading(1)[..9] => given.push(0),
@@ -611,7 +624,7 @@ impl Wrong {
     fn wider(&self, octets: &[u8], set: u32, out: &mut [u8], items: &mut [u16]) -> Option<Read> {
         let fill = out.first().copied().unwrap_or(0);
         let mut more = vec![fill; out.len() + if self.0 == Fault::LossWithoutRoom { 320 } else { 0 }];
-        let set = if self.0 == Fault::LossWithoutTool && set < 128 { set | 8 } else { set };
+        let set = if self.0 == Fault::LossWithoutTool && set <= ALL_TOOLS { set | 8 } else { set };
         let mut list = items.to_vec();
         let read = Second.read_file(octets, set, &mut more, &mut list);
         if read.ending != 0 || read.samples > out.len() {
@@ -642,11 +655,12 @@ impl Wrong {
             return;
         }
         let mut frame = [0; 320];
-        let read = second::read_frame(&octets[10..], told.law, 127, &mut frame);
+        let read = second::read_frame(&octets[10..], told.law, ALL_TOOLS, &mut frame);
         let frame = &frame[..read.samples];
         let other = match self.0 {
             Fault::OnlyPlus => frame.first() == Some(&sample_of(-2, told.law)),
             Fault::OtherLaw => erased(frame, 1 - told.law),
+            Fault::Tool11NeverLost => read.tool == 11,
             _ => read.tool != 4,
         };
         if other && erased(frame, told.law) != (self.0 == Fault::OtherLaw) {
@@ -673,6 +687,7 @@ impl Wrong {
 
 impl Files for Wrong {
     fn read_file(&self, octets: &[u8], set: u32, out: &mut [u8], items: &mut [u16]) -> Read {
+        let set = if self.0 == Fault::Tool11WithSet127 && set == LISTED_TOOLS { ALL_TOOLS } else { set };
         let given = match self.taken(octets, set) {
             Ok(given) => given,
             Err(refused) => return refused,
@@ -692,7 +707,9 @@ impl Files for Wrong {
                 self.loss_kept(&mut told, out, items)
             }
             Fault::OneOtherIsALoss | Fault::MixedIsALoss => self.frames_lost(told, out, items),
-            Fault::OnlyPlus | Fault::OtherLaw | Fault::OnlyConstant => self.one_frame(told, octets, items),
+            Fault::OnlyPlus | Fault::OtherLaw | Fault::OnlyConstant | Fault::Tool11NeverLost => {
+                self.one_frame(told, octets, items)
+            }
             Fault::PadIsALoss => turn(0, LOSS),
             Fault::MarkIsAPad => turn(LOSS, 0),
             Fault::ItemLookedAt if told.ending == ROOM && told.items == list => {
@@ -719,7 +736,7 @@ impl Files for Wrong {
             }
             Fault::LossOf41 => list.iter_mut().filter(|item| **item == LOSS + 41).for_each(|item| *item = LOSS + 40),
             Fault::LengthBeforeSet if law < 2 && items.contains(&41) => return Write { ending: LENGTH, octets: 0 },
-            Fault::RoomBeforeLong if law < 2 && set % 2 == 1 && set < 128 && items.len() > room => {
+            Fault::RoomBeforeLong if law < 2 && set % 2 == 1 && set <= ALL_TOOLS && items.len() > room => {
                 return Write { ending: ROOM, octets: 0 };
             }
             Fault::WritesThenRefuses if law < 2 && room >= 10 => out[..10].copy_from_slice(&heading(law)),
@@ -757,13 +774,13 @@ fn drawn_files(filed: &mut Filed, kinds: &[Kind]) {
                 }
             }
         }
-        filed.write(&samples, &items, law, 127, 1_200);
+        filed.write(&samples, &items, law, ALL_TOOLS, 1_200);
         let octets = std::mem::take(&mut filed.out);
-        let set = if turn % 9 == 0 { rng.below(256) as u32 } else { 127 };
+        let set = if turn % 9 == 0 { rng.below(300) as u32 } else { ALL_TOOLS };
         filed.read(&octets, set, samples.len() + rng.below(330), items.len() + rng.below(2));
         if octets.len() > 10 {
             let damaged = damage_somehow(&octets, &mut rng);
-            filed.read(&damaged, 127, 1_000, 2);
+            filed.read(&damaged, ALL_TOOLS, 1_000, 2);
         }
         if filed.differences > 0 {
             return;

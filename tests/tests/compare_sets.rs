@@ -1,4 +1,4 @@
-//! A larger tool set never costs room: every frame written with all 64 odd sets, through the static library and by the second
+//! A larger tool set never costs room: every frame written with all 128 odd sets, through the static library and by the second
 //! program, and every pair of them, one within the other, compared.
 
 #![cfg(feature = "writer")]
@@ -6,8 +6,9 @@
 use second::gen::{make_frame, Kind, Miss, Often, Pattern, Prng};
 use std::iter::repeat_with;
 use tests::forms::LENGTHS;
-use tests::frames::{even_frame, few_frame, located_frame};
-use tests::{say, share, Ask, Codec, Pair, Proved, Read, Second, Table, Walk, Write};
+use tests::frames::{even_frame, few_frame, located_frame, near_tie_frame};
+use tests::wrong::Wrong;
+use tests::{say, set_of, share, Ask, Codec, Pair, Proved, Read, Second, Table, Walk, Write, ALL_TOOLS, TOOLS};
 
 /// The greatest form.
 const MOST: usize = 321;
@@ -19,16 +20,16 @@ const PAIRS: usize = share(1_000);
 const LISTS: usize = share(500);
 const LONGEST: usize = 60;
 
-/// All 64 odd sets.
+/// All 128 odd sets.
 fn sets() -> impl Iterator<Item = u32> {
-    (1..128).step_by(2)
+    (1..=ALL_TOOLS).step_by(2)
 }
 
-/// Every pair of odd sets of which the first lies within the second: tool 1 is in both, and each of the other six is in
+/// Every pair of odd sets of which the first lies within the second: tool 1 is in both, and each of the other seven is in
 /// both, in the second alone, or in neither.
 fn pairs() -> Vec<(u32, u32)> {
     let pairs: Vec<_> = sets().flat_map(|b| sets().filter(move |a| a & !b == 0).map(move |a| (a, b))).collect();
-    assert_eq!(pairs.len(), 3usize.pow(6));
+    assert_eq!(pairs.len(), 3usize.pow(7));
     pairs
 }
 
@@ -44,11 +45,13 @@ fn frames(length: usize, law: u32, rng: &mut Prng) -> Vec<Vec<u8>> {
         kinds.push(Kind::Range { case, ones: few, minus_ones: few, minus_twos: few });
         kinds.push(Kind::Range { case, ones: many, minus_ones: many, minus_twos: many });
     }
-    kinds.push(Kind::NearMiss(Miss::ZeroAsCommon));
+    kinds.extend([Miss::ZeroAsCommon, Miss::DigitsAndOneMore].map(Kind::NearMiss));
+    kinds.extend([0, 1, 3].map(|row| Kind::Digits { row, one_in: 1 }));
+    kinds.push(Kind::Digits { row: 3 + rng.below(9), one_in: 2 });
     let mut frames = Vec::new();
     for _ in 0..FRAMES {
         frames.extend(kinds.iter().map(|kind| make_frame(*kind, length, law, rng)));
-        frames.extend([few_frame, even_frame, located_frame].map(|draw| draw(length, law, rng)));
+        frames.extend([few_frame, even_frame, located_frame, near_tie_frame].map(|draw| draw(length, law, rng)));
     }
     frames
 }
@@ -100,7 +103,7 @@ struct Shown {
 
 impl Shown {
     fn new() -> Shown {
-        let (more, tools): (Vec<u32>, Vec<u32>) = ((0..=6).collect(), (2..=7).collect());
+        let (more, tools): (Vec<u32>, Vec<u32>) = ((0..=7).collect(), TOOLS[1..].to_vec());
         let lengths: Vec<usize> = [0].into_iter().chain(LENGTHS).collect();
         let mut fewer = Table::new(
             "pairs of nested sets, by tools more",
@@ -109,13 +112,15 @@ impl Shown {
             PAIRS,
         );
         fewer.never(0, "fewer octets");
+        // One pair of sets, 1 and 255.
+        fewer.needs(7, "as many", share(400));
         more.iter().for_each(|more| fewer.never(more, "more octets"));
         let mut wins = Table::new("sets with one tool more: that tool wins, by length", &tools, &lengths, PAIRS);
         tools.iter().for_each(|tool| wins.never(tool, 0));
         wins.never(7, 40);
         let mut loses = Table::new("sets with one tool more: the form stays, by length", &tools, &lengths, PAIRS);
-        // One frame of no samples with each law, and 32 pairs of sets.
-        tools.iter().for_each(|tool| loses.needs(tool, 0, 64));
+        // One frame of no samples with each law, and 64 pairs of sets.
+        tools.iter().for_each(|tool| loses.needs(tool, 0, 128));
         Shown { fewer, wins, loses }
     }
 
@@ -142,7 +147,7 @@ impl Shown {
 
     /// A set with exactly one tool more: another form exactly where that tool wins.
     fn one_more(&mut self, pair: &mut Pair, written: &Written, a: u32, b: u32) {
-        let tool = (b & !a).trailing_zeros() + 1;
+        let tool = TOOLS[(b & !a).trailing_zeros() as usize];
         let wins = written.with(b).0.tool == tool;
         if (written.with(a).1 != written.with(b).1) != wins {
             let said = format!("tool {} with set {a}, {:?} with set {b}", written.with(a).0.tool, written.with(b).0);
@@ -224,7 +229,7 @@ fn sums_over_lists(pair: &mut Pair, all: &[Written], pairs: &[(u32, u32)], rng: 
 /// What was written of a list is walked back to its frames.
 fn walk_back(pair: &mut Pair, list: &[&Written], stream: Vec<u8>, law: u32) {
     let samples: Vec<u8> = list.iter().flat_map(|one| one.frame.clone()).collect();
-    let ask = Ask { given: stream, law, set: 127, room: samples.len() };
+    let ask = Ask { given: stream, law, set: ALL_TOOLS, room: samples.len() };
     let got = pair.walk(&ask);
     if (got.ending, got.frames, got.octets) != (0, list.len(), ask.given.len()) || pair.output() != samples {
         pair.differ("walk back", &ask, &format!("{got:?}"));
@@ -244,9 +249,9 @@ impl Codec for First {
     }
 
     fn write(&self, samples: &[u8], law: u32, set: u32, out: &mut [u8]) -> Write {
-        let alone = |tool: &u32| set & (1 << (tool - 1)) | 1;
+        let alone = |tool: &u32| set & set_of(*tool) | 1;
         let applies = |tool: &u32| Second.write(samples, law, alone(tool), &mut [0; MOST]).tool == *tool;
-        let first = (2..=7).find(applies).unwrap_or(1);
+        let first = TOOLS[1..].iter().copied().find(applies).unwrap_or(1);
         Second.write(samples, law, alone(&first), out)
     }
 
@@ -255,16 +260,22 @@ impl Codec for First {
     }
 }
 
-/// Such a writer is found out by what a larger set costs, though it agrees with itself.
+/// Such a writer is found out by what a larger set costs, though it agrees with itself; so is one that takes tool 11 wherever it
+/// applies.
 #[test]
 fn a_writer_that_takes_the_first_that_applies_is_found_out() {
-    let mut pair = Pair::new(&First, &First);
+    costs_room(&First);
+    costs_room(&Wrong("puts tool 11 before all others"));
+}
+
+fn costs_room(writer: &dyn Codec) {
+    let mut pair = Pair::new(writer, writer);
     let mut shown = Shown::new();
-    for frame in frames(160, 1, &mut Prng::new(62)).into_iter().take(20) {
+    for frame in frames(160, 1, &mut Prng::new(62)).into_iter().take(25) {
         let written = Written::of(&mut pair, frame, 1);
         pairs().iter().for_each(|two| shown.pair(&mut pair, &written, *two));
     }
-    let more: usize = (0..=6).map(|more| shown.fewer.count(more, "more octets")).sum();
+    let more: usize = (0..=7).map(|more| shown.fewer.count(more, "more octets")).sum();
     assert!(more > 0 && !shown.fewer.faults().is_empty(), "no larger set cost room");
     assert!(pair.differences >= more, "room for the smaller set's form was always enough");
 }

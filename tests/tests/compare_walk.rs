@@ -4,7 +4,7 @@ use second::gen::{damage_somehow, Prng};
 use tests::faults;
 use tests::forms::{pad, some_form, LENGTHS};
 use tests::streams::{plain_frames, Stream, FIELDS};
-use tests::{ending, say, share, shared, Ask, Pair, Proved, Second, Table, Walk, ENDINGS, MOST};
+use tests::{ending, say, share, shared, Ask, Pair, Proved, Second, Table, Walk, ALL_TOOLS, ENDINGS, MOST};
 
 /// The octets of the longest stream before document 02's R-11: to here every length is tried, and each table has streams.
 const USUAL: usize = 65_535;
@@ -14,10 +14,10 @@ const WALKED: usize = share(1_000);
 const LONG: usize = share(20);
 const LONGEST: usize = share(30) / 10;
 /// Turns after which a cell that is still not full is taken to be one that can't be filled.
-const MOST_TURNS: usize = 1_000;
+const MOST_TURNS: usize = 2_000;
 
 fn ask(given: Vec<u8>, law: u32, room: usize) -> Ask {
-    Ask { given, law, set: 127, room }
+    Ask { given, law, set: ALL_TOOLS, room }
 }
 
 /// Walks on both, and holds the answer against the one the stream was made for.
@@ -163,7 +163,7 @@ fn damaged_streams() {
     let columns = ["kept whole", "refused"];
     let mut table = Table::new("streams with one bit turned, by place", &FIELDS, &columns, WALKED);
     // No bit of these can be refused: any value of theirs is a sample.
-    ["samples", "constant", "binary"].iter().for_each(|field| table.never(field, "refused"));
+    ["samples", "constant", "binary", "digits"].iter().for_each(|field| table.never(field, "refused"));
     // A filling bit that is not 0 is always refused.
     table.never("filling", "kept whole");
     // After these most frames don't end where the next one starts.
@@ -227,14 +227,14 @@ const REFUSALS: [&str; 9] = ["SHORT", "PREFIX", "TOOL", "ROOM", "CASE", "METHOD"
 fn refused_octets(name: &str, law: u32, rng: &mut Prng) -> Option<(Vec<u8>, usize)> {
     match name {
         "PREFIX" => Some((vec![*rng.pick(&[0x01, 0x46, 0x85, 0xC7, 0x8A]), rng.octet()], 0)),
-        "TOOL" => Some((vec![*rng.pick(&[0x02, 0x1F, 0x45, 0x48, 0x60, 0xC8, 0xFF, 0x50, 0x91]), rng.octet()], 0)),
+        "TOOL" => Some((vec![*rng.pick(&[0x2C, 0x3F, 0x45, 0x48, 0x60, 0xC8, 0xFF, 0x50, 0x91]), rng.octet()], 0)),
         "SHORT" => {
             let mut octets = some_form(law, rng).octets();
             octets.pop();
             let bit = 8 * octets.len();
             (!octets.is_empty()).then_some((octets, bit))
         }
-        "ROOM" => Some((vec![*rng.pick(&[0x41, 0x40, 0x86, 0x31, 0x56]), 0x0F], 0)),
+        "ROOM" => Some((vec![*rng.pick(&[0x41, 0x40, 0x86, 0x31, 0x56, 0x02, 0x1F]), 0x0F], 0)),
         _ => {
             let faults: Vec<_> = faults::all().into_iter().filter(|fault| fault.refusal() == name).collect();
             let (fault, length) = (*rng.pick(&faults), *rng.pick(&LENGTHS));
@@ -267,7 +267,7 @@ fn every_room() {
     pair.close();
 }
 
-/// LAW, SET and LONG refuse before any frame, in that order; every set from 0 to 127 is taken.
+/// LAW, SET and LONG refuse before any frame, in that order; every set from 0 to 255 is taken.
 #[test]
 fn refused_before_any_frame() {
     let mut pair = Pair::new(&Proved, &Second);
@@ -279,18 +279,18 @@ fn refused_before_any_frame() {
         let good = ask(Stream::mixed(most, 1, &mut rng).octets, 1, 3_000);
         long.given.resize(MOST + 1 + rng.below(3), 0x41);
         let asked = if turn % 8 == 0 { &mut long } else { &mut good.clone() };
-        asked.set = *rng.pick(&[127, 128, u32::MAX]);
+        asked.set = *rng.pick(&[255, 256, u32::MAX]);
         asked.law = *rng.pick(&[2, 3, 0x8000_0000, u32::MAX]);
         walk_as(&mut pair, asked, refused("LAW"));
         table.add("LAW", "calls");
-        (asked.law, asked.set) = (1, *rng.pick(&[128, 255, 0x8000_0000, u32::MAX]));
+        (asked.law, asked.set) = (1, *rng.pick(&[256, 511, 0x8000_0000, u32::MAX]));
         walk_as(&mut pair, asked, refused("SET"));
         table.add("SET", "calls");
-        (long.law, long.set) = (0, turn as u32 % 128);
+        (long.law, long.set) = (0, turn as u32 % 256);
         walk_as(&mut pair, &long, refused("LONG"));
         table.add("LONG", "calls");
         for law in [0, 1] {
-            pair.walk(&Ask { set: turn as u32 % 128, law, ..good.clone() });
+            pair.walk(&Ask { set: turn as u32 % 256, law, ..good.clone() });
         }
     }
     table.close();

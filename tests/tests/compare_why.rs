@@ -2,11 +2,12 @@
 //! against what the proved writer writes.
 
 use second::gen::{all_kinds, make_frame, sample_of, Kind, Miss, Pattern, Prng, RANGES};
+use tests::digits::{self, some_numbers, Digits, TABLE};
 use tests::forms::LENGTHS;
-use tests::frames::{even_frame, few_frame, located_frame, scattered, SINGLE};
+use tests::frames::{even_frame, few_frame, located_frame, near_tie_frame, scattered, SINGLE};
 use tests::settings::Told;
 use tests::why::{script, Explains, Reasons, Said, State, LENT};
-use tests::{say, share, shared, vectors, Call, Proved, Second, Table};
+use tests::{odd_set, say, set_of, share, shared, vectors, Call, Proved, Second, Table, ALL_TOOLS, TOOLS};
 
 const ROOM: u32 = 4;
 const LENGTH: u32 = 10;
@@ -14,12 +15,12 @@ const SET: u32 = 11;
 const LAW: u32 = 12;
 /// What a cell of a table needs.
 const NEED: usize = share(1_000);
-/// Frames that all 64 sets are asked of.
-const FRAMES: usize = share(3_000);
+/// Frames that all 128 sets are asked of.
+const FRAMES: usize = share(5_000);
 
 /// The odd sets.
 fn odd_sets() -> impl Iterator<Item = u32> {
-    (0..64).map(|half| 2 * half + 1)
+    (1..=ALL_TOOLS).step_by(2)
 }
 
 /// Vectors worked out by hand, on the back ends side by side.
@@ -49,9 +50,9 @@ fn a_faulty_vector_is_refused() {
         "why x samples=FF*40",
         "whi x samples=FF*40 -> LAW",
         "why x samples=FF*40 -> ok",
-        "why x samples=FF*40 -> ok 41 1 no1 2 6 2 no1 winner=2",
-        "why x samples=FF*40 -> ok 41 1 no1 2 6 2 winner=2 by=octets",
-        "why x samples=FF*40 -> ok 41 1 no1 2 6 2 no1 winner=2 by=luck",
+        "why x samples=FF*40 -> ok 41 1 no1 2 6 2 no1 out winner=2",
+        "why x samples=FF*40 -> ok 41 1 no1 2 6 2 no1 winner=2 by=octets",
+        "why x samples=FF*40 -> ok 41 1 no1 2 6 2 no1 out winner=2 by=luck",
         "why x samples=FF*40 room=3 -> LAW",
         "why x samples=FF*40 -> fine",
     ] {
@@ -69,6 +70,7 @@ fn every_vector_of_writing() {
         include_str!("../vectors/unusual.txt"),
         include_str!("../vectors/faulty.txt"),
         include_str!("../vectors/open-points.txt"),
+        include_str!("../vectors/fractional.txt"),
     ] {
         for vector in vectors(text).unwrap() {
             let Call::Write(ask, wanted, _) = vector.call else { continue };
@@ -80,7 +82,7 @@ fn every_vector_of_writing() {
             let said = reasons.said(&ask.given, ask.law, ask.set).expect(&vector.name);
             if wanted.ending == 0 {
                 assert_eq!(said.winner, wanted.tool as usize, "{}", vector.name);
-                let octets = said.winner.checked_sub(1).map_or(State::Fits(1), |at| said.states[at]);
+                let octets = said.state(said.winner).unwrap_or(State::Fits(1));
                 assert_eq!(octets, State::Fits(wanted.octets), "{}", vector.name);
             }
             endings[0] += 1;
@@ -93,22 +95,24 @@ fn every_vector_of_writing() {
 
 /// A frame that one tool or another is for, or one that just is not.
 fn some_frame(length: usize, law: u32, kinds: &[Kind], rng: &mut Prng) -> Vec<u8> {
-    match rng.below(6) {
+    match rng.below(8) {
         0 => make_frame(*rng.pick(&SINGLE), length, law, rng),
         1 => make_frame(Kind::TwoZeros(scattered(rng)), length, law, rng),
         2 => located_frame(length, law, rng),
         3 => even_frame(length, law, rng),
         4 => few_frame(length, law, rng),
+        5 => near_tie_frame(length, law, rng),
+        6 => make_frame(Kind::Digits { row: rng.below(12), one_in: 1 + rng.below(4) }, length, law, rng),
         _ => make_frame(*rng.pick(kinds), length, law, rng),
     }
 }
 
-/// All 64 odd sets; who wins, and by what. Only constant and binary are ever met by another tool, Rice.
+/// All 128 odd sets; who wins, and by what. Only constant and binary are ever met by another tool, Rice, and value-location by tool 11.
 #[test]
 fn every_set() {
     let mut reasons = Reasons::new(&Proved, &Second);
-    let mut table = Table::new("why, all 64 sets, by winner", &[1, 2, 3, 4, 5, 6, 7], &["octets", "tie"], NEED);
-    [1, 2, 3, 6, 7].iter().for_each(|winner| table.never(winner, "tie"));
+    let mut table = Table::new("why, all 128 sets, by winner", &TOOLS, &["octets", "tie"], NEED);
+    [1, 2, 3, 6, 11].iter().for_each(|winner| table.never(winner, "tie"));
     // Rice has 2 octets in 40 equal zeros alone.
     table.needs(4, "tie", share(400));
     let kinds = all_kinds();
@@ -124,7 +128,7 @@ fn every_set() {
     }
     table.close();
     reasons.close();
-    say(&format!("compared: why, all 64 sets: {FRAMES} frames, {} calls\n", reasons.calls));
+    say(&format!("compared: why, all 128 sets: {FRAMES} frames, {} calls\n", reasons.calls));
 }
 
 /// Every kind of frame at every length and law, with all tools and with a set that is drawn.
@@ -136,8 +140,8 @@ fn every_kind_of_frame() {
         for length in LENGTHS {
             for law in 0..2 {
                 let samples = make_frame(kind, length, law, &mut rng);
-                reasons.said(&samples, law, 127);
-                reasons.said(&samples, law, 2 * rng.below(64) as u32 + 1);
+                reasons.said(&samples, law, ALL_TOOLS);
+                reasons.said(&samples, law, odd_set(&mut rng));
             }
         }
     }
@@ -150,7 +154,7 @@ fn samples_of(numbers: &[i32], law: u32) -> Vec<u8> {
 }
 
 /// Ways to fit a tool, or to fail one of its conditions.
-const WAYS: [(usize, &str, State); 20] = [
+const WAYS: [(usize, &str, State); 25] = [
     (1, "any frame", State::Fits(0)),
     (2, "all plus", State::Fits(1)),
     (2, "one other sample", State::No(1)),
@@ -171,6 +175,11 @@ const WAYS: [(usize, &str, State); 20] = [
     (7, "-2 and 1 in 80 or 160", State::No(2)),
     (7, "0 rare", State::No(3)),
     (7, "a row, 0 as frequent", State::Fits(0)),
+    (11, "a row", State::Fits(0)),
+    (11, "a row, 0 rare", State::Fits(0)),
+    (11, "no row of this length", State::No(1)),
+    (11, "no row at all", State::No(1)),
+    (11, "equal samples", State::No(1)),
 ];
 
 /// A frame made for a way; none where its length has none.
@@ -187,7 +196,8 @@ fn made(tool: usize, way: &str, length: usize, law: u32, rng: &mut Prng) -> Opti
         (_, "all minus") => samples_of(&vec![-1; length], law),
         (2, _) => one_other(vec![0; length], rng, &[-1, 1, -2, 127, -128]),
         (3, _) => one_other(vec![-1; length], rng, &[0, 1, -2, 127, -128]),
-        (4, "equal samples") => vec![rng.octet(); length],
+        (4 | 11, "equal samples") => vec![rng.octet(); length],
+        (11, way) => return digits_for(way, length, law, rng),
         (4, _) => {
             let octet = rng.octet();
             let mut samples = vec![octet; length];
@@ -230,6 +240,26 @@ fn made(tool: usize, way: &str, length: usize, law: u32, rng: &mut Prng) -> Opti
     })
 }
 
+/// A frame that a row of tool 11 is for, or just is not.
+fn digits_for(way: &str, length: usize, law: u32, rng: &mut Prng) -> Option<Vec<u8>> {
+    let there = |row: &&Digits| row.first(length).is_some() != (way == "no row of this length");
+    let able: Vec<&Digits> = TABLE.iter().filter(there).collect();
+    if way == "no row at all" {
+        return Some(make_frame(Kind::NearMiss(Miss::NoDigits), length, law, rng));
+    }
+    let row = *able.get(rng.below(able.len().max(1)))?;
+    let mut numbers = some_numbers(row, digits::WAYS[0], length, rng)?;
+    if way == "a row, 0 rare" {
+        let other = if row.greatest() > 0 { row.greatest() } else { row.least() };
+        numbers.iter_mut().filter(|number| **number == 0).for_each(|number| *number = other);
+        numbers[0] = row.least();
+        numbers[1] = row.greatest();
+    }
+    let known = digits::row_of(&numbers);
+    let wanted = way != "no row of this length";
+    (known.is_some() == wanted).then(|| samples_of(&numbers, law))
+}
+
 /// Whether least and greatest are a row's, and N fits it.
 fn row_of(samples: &[u8], law: u32, length: usize) -> bool {
     let numbers = tests::measure::numbers(samples, law);
@@ -253,9 +283,9 @@ fn every_condition_of_every_tool() {
                 }
                 let law = (turn % 2) as u32;
                 let Some(samples) = made(*tool, way, length, law, &mut rng) else { continue };
-                let set = 2 * rng.below(64) as u32 + 1 | 1 << (tool - 1);
+                let set = odd_set(&mut rng) | set_of(*tool as u32);
                 let Some(said) = reasons.said(&samples, law, set) else { continue };
-                let state = said.states[tool - 1];
+                let state = said.state(*tool).expect("the tool has a line");
                 // 0 stands for octets that are not known here.
                 if state != *wanted && !matches!((state, wanted), (State::Fits(_), State::Fits(0))) {
                     reasons.differ(&samples, law, set, &format!("{way}: {state:?}, wanted {wanted:?}"));
@@ -282,7 +312,7 @@ fn word(state: State) -> String {
     }
 }
 
-/// No samples, with all 64 sets; each refusal, in its order, at every length to 700.
+/// No samples, with all 128 sets; each refusal, in its order, at every length to 700.
 #[test]
 fn no_samples_and_refusals() {
     let mut reasons = Reasons::new(&Proved, &Second);
@@ -299,8 +329,8 @@ fn no_samples_and_refusals() {
         let samples = rng.octets(length);
         let frame = length == 0 || LENGTHS.contains(&length);
         for law in [0, 1, 2, 255, u32::MAX] {
-            for set in [1, 127, 0, 126, 128, 129, 255, u32::MAX] {
-                let ending = match (law > 1, set > 127 || set % 2 == 0, frame) {
+            for set in [1, 127, 129, 255, 0, 126, 128, 254, 256, 257, u32::MAX] {
+                let ending = match (law > 1, set > ALL_TOOLS || set % 2 == 0, frame) {
                     (true, ..) => LAW,
                     (_, true, _) => SET,
                     (_, _, false) => LENGTH,
@@ -337,9 +367,17 @@ enum Fault {
     EvenSet,
     TextOfARefusal,
     ReportOfARefusal,
+    NoLineOfTool11,
+    Tool11NamedEight,
+    Tool11WinsTies,
+    Tool11WithSet127,
+    Tool11SecondCondition,
+    Tool11WithoutItsFirstOctet,
+    NoRowOfZeroAndOne,
+    OldSets,
 }
 
-const FAULTS: [Fault; 17] = [
+const FAULTS: [Fault; 25] = [
     Fault::TieOfOthers,
     Fault::TieNeverTold,
     Fault::TieBelowOnly,
@@ -357,6 +395,14 @@ const FAULTS: [Fault; 17] = [
     Fault::EvenSet,
     Fault::TextOfARefusal,
     Fault::ReportOfARefusal,
+    Fault::NoLineOfTool11,
+    Fault::Tool11NamedEight,
+    Fault::Tool11WinsTies,
+    Fault::Tool11WithSet127,
+    Fault::Tool11SecondCondition,
+    Fault::Tool11WithoutItsFirstOctet,
+    Fault::NoRowOfZeroAndOne,
+    Fault::OldSets,
 ];
 
 struct Wrong(Fault);
@@ -398,6 +444,19 @@ impl Wrong {
             }
             Fault::WinnerByOrder if said.tie => said.winner = 6,
             Fault::NoSamplesFit if samples.is_empty() => said.states[0] = State::Fits(1),
+            Fault::Tool11WinsTies if said.tie && said.winner == 7 => said.winner = 11,
+            Fault::Tool11SecondCondition if said.states[7] == State::No(1) => said.states[7] = State::No(2),
+            Fault::Tool11WithoutItsFirstOctet => {
+                if let State::Fits(octets) = &mut said.states[7] {
+                    *octets -= 1;
+                }
+            }
+            Fault::NoRowOfZeroAndOne => {
+                let numbers = tests::measure::numbers(samples, law);
+                if said.states[7] != State::Out && numbers.iter().all(|number| [0, 1].contains(number)) {
+                    said.states[7] = State::No(1);
+                }
+            }
             _ => {}
         }
         said
@@ -410,8 +469,11 @@ impl Explains for Wrong {
             Fault::SetBeforeLaw if set % 2 == 0 => return Told::refused(SET),
             Fault::LengthBeforeSet if law < 2 && samples.len() % 40 != 0 => return Told::refused(LENGTH),
             Fault::EvenSet if set == 126 => return self.why(samples, law, 127, text),
+            Fault::Tool11WithSet127 if set == 127 => return self.why(samples, law, ALL_TOOLS, text),
+            Fault::OldSets if law < 2 && (128..256).contains(&set) => return Told::refused(SET),
             _ => {}
         }
+        let lent = text[LENT - 1];
         let mut told = Second.why(samples, law, set, text);
         if told.ending != 0 {
             match self.0 {
@@ -423,9 +485,15 @@ impl Explains for Wrong {
         }
         let mut said = Said::of(&text[..told.told as usize]).expect("the second program's lines");
         said = self.turned(said, samples, law);
-        let mut lines = said.text().into_bytes();
+        let said = said.text();
+        let mut lines = match self.0 {
+            Fault::NoLineOfTool11 => said.split_inclusive('\n').filter(|line| !line.starts_with("tool=11")).collect(),
+            Fault::Tool11NamedEight => said.replace("tool=11", "tool=8"),
+            _ => said,
+        }
+        .into_bytes();
+        text.fill(lent);
         if matches!(self.0, Fault::NoLastEnd) {
-            text[lines.len() - 1] = text[LENT - 1];
             lines.pop();
         }
         text[..lines.len()].copy_from_slice(&lines);
@@ -446,8 +514,8 @@ fn a_wrong_back_end_is_found() {
         let mut rng = Prng::new(105);
         for turn in 0..20_000 {
             let law = if turn % 50 == 0 { 2 } else { (turn % 2) as u32 };
-            let drawn = 2 * rng.below(64) as u32 + 1;
-            let set = if turn % 7 == 1 { *rng.pick(&[0, 126, 128, 129, u32::MAX]) } else { drawn };
+            let drawn = if turn % 7 == 2 { 127 } else { odd_set(&mut rng) };
+            let set = if turn % 7 == 1 { *rng.pick(&[0, 126, 128, 256, 257, u32::MAX]) } else { drawn };
             let mut samples = some_frame(LENGTHS[turn % 5], law.min(1), &kinds, &mut rng);
             match rng.below(40) {
                 0 => samples.clear(),

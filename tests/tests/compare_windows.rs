@@ -3,7 +3,7 @@
 
 use second::gen::Prng;
 use tests::windows::{draw, Asked, Cut, Zeros, CUTS, ZEROS};
-use tests::{ending, say, share, Ask, Pair, Proved, Read, Second, Table};
+use tests::{ending, say, share, Ask, Pair, Proved, Read, Second, Table, ALL_TOOLS};
 
 /// Codes wanted in a cell.
 const CODES: usize = share(500);
@@ -23,7 +23,7 @@ fn read_as(pair: &mut Pair, tool: u32, asked: Asked, law: u32) {
         Some(name) => Read { ending: ending(name).unwrap(), tool: 0, samples: 0, octets: 0, bits: 0, bit },
         None => Read { ending: 0, tool, samples: samples.len(), octets: bits.div_ceil(8), bits, bit },
     };
-    let ask = Ask { given: octets, law, set: 127, room: 320 };
+    let ask = Ask { given: octets, law, set: ALL_TOOLS, room: 320 };
     let got = pair.read(&ask);
     if got != wanted {
         pair.differ("made", &ask, &format!("{got:?}, made for {wanted:?}"));

@@ -3,18 +3,21 @@
 
 #![cfg(feature = "writer")]
 
-use second::gen::{all_kinds, make_frame, Kind, Miss, Often, Pattern, Prng};
+use second::gen::{all_kinds, make_frame, Kind, Miss, Often, Pattern, Prng, DIGIT_ROWS};
 use tests::forms::LENGTHS;
-use tests::frames::{even_frame, few_frame, located_frame, scattered, SINGLE};
+use tests::frames::{even_frame, few_frame, located_frame, near_tie_frame, scattered, SINGLE};
 use tests::met::Met;
-use tests::{ending, in_share, say, share, Ask, Pair, Proved, Read, Second, Table, Write};
+use tests::{
+    ending, in_share, odd_set, say, share, Ask, Pair, Proved, Read, Second, Table, Write, ALL_TOOLS, LISTED_TOOLS,
+    TOOLS,
+};
 
 /// Written frames wanted in a cell.
 const WRITTEN: usize = share(1_000);
 /// The greatest form.
 const MOST: usize = 321;
 /// Numbers that are no set of a writer.
-const NO_SETS: [u32; 9] = [0, 2, 126, 128, 129, 255, 0x8000_0001, 0x8000_0000, u32::MAX];
+const NO_SETS: [u32; 10] = [0, 2, 126, 128, 254, 256, 257, 0x8000_0001, 0x8000_0000, u32::MAX];
 const NO_LAWS: [u32; 5] = [2, 3, 256, 0x8000_0000, u32::MAX];
 /// Rounds of drawn frames after which a cell that is still not full is taken to be one that can't be filled.
 const MOST_ROUNDS: usize = 1_000_000;
@@ -55,6 +58,7 @@ fn kind_name(kind: Kind) -> String {
     match kind {
         Kind::TwoZeros(_) => "TwoZeros".into(),
         Kind::Range { case, .. } => format!("Range case {case}"),
+        Kind::Digits { row, .. } => format!("Digits {:?}", DIGIT_ROWS[row]),
         Kind::NearMiss(miss) => format!("{miss:?}"),
         other => format!("{other:?}"),
     }
@@ -70,7 +74,7 @@ fn every_kind_of_frame() {
     names.dedup();
     let columns: Vec<String> =
         LENGTHS.iter().flat_map(|length| [format!("{length} A"), format!("{length} mu")]).collect();
-    let mut table = Table::new("frames written, by kind, length and law", &names, &columns, 2);
+    let mut table = Table::new("frames written, by kind, length and law", &names, &columns, 3);
     for (turn, kind) in kinds.iter().enumerate() {
         // Of a tenth, too, no row may be empty.
         let first = turn == 0 || kind_name(kinds[turn - 1]) != kind_name(*kind);
@@ -80,8 +84,8 @@ fn every_kind_of_frame() {
         for length in LENGTHS {
             for law in [0, 1] {
                 let frame = make_frame(*kind, length, law, &mut rng);
-                let other = 2 * ((turn * 7 + length) as u32 % 64) + 1;
-                for set in [127, other] {
+                let other = 2 * ((turn * 7 + length) as u32 % 128) + 1;
+                for set in [ALL_TOOLS, LISTED_TOOLS, other] {
                     write_and_read_back(&mut pair, &frame, law, set);
                     table.add(kind_name(*kind), format!("{length} {}", ["A", "mu"][law as usize]));
                 }
@@ -93,7 +97,7 @@ fn every_kind_of_frame() {
     pair.close();
 }
 
-/// All 64 odd sets, with frames that each tool is for.
+/// All 128 odd sets, with frames that each tool is for.
 #[test]
 fn every_odd_set() {
     let mut pair = Pair::new(&Proved, &Second);
@@ -106,16 +110,16 @@ fn every_odd_set() {
         kinds.push(Kind::Range { case, ones: few, minus_ones: few, minus_twos: few });
         kinds.push(Kind::Range { case, ones: many, minus_ones: many, minus_twos: many });
     }
-    kinds.push(Kind::NearMiss(Miss::ZeroAsCommon));
-    let tools: Vec<u32> = (1..=7).collect();
-    let mut table = Table::new("frames written, by tool and length, over all odd sets", &tools, &LENGTHS, WRITTEN);
+    kinds.extend([Miss::ZeroAsCommon, Miss::DigitsAndOneMore].map(Kind::NearMiss));
+    kinds.extend([0, 1, 3, 5, 7, 11].map(|row| Kind::Digits { row, one_in: 1 }));
+    let mut table = Table::new("frames written, by tool and length, over all odd sets", &TOOLS, &LENGTHS, WRITTEN);
     table.never(7, 40);
     for kind in kinds {
         for length in LENGTHS {
             for law in [0, 1] {
                 for _ in 0..share(16) {
                     let frame = make_frame(kind, length, law, &mut rng);
-                    for set in (1..128).step_by(2) {
+                    for set in (1..=ALL_TOOLS).step_by(2) {
                         let (wrote, _) = write_and_read_back(&mut pair, &frame, law, set);
                         table.add(wrote.tool, length);
                     }
@@ -139,17 +143,18 @@ fn every_s_method_and_tie() {
             break;
         }
         let (length, law) = (LENGTHS[turn % 5], turn as u32 / 5 % 2);
-        let frame = match turn / 10 % 10 {
+        let frame = match turn / 10 % 11 {
             0 => make_frame(*rng.pick(&kinds), length, law, &mut rng),
             1 => make_frame(Kind::TwoZeros(*rng.pick(Pattern::ALL)), length, law, &mut rng),
             2 => make_frame(Kind::TwoZeros(scattered(&mut rng)), length, law, &mut rng),
             3 => make_frame(*rng.pick(&SINGLE), length, law, &mut rng),
             4 | 5 => few_frame(length, law, &mut rng),
             6 => even_frame(length, law, &mut rng),
+            7 => near_tie_frame(length, law, &mut rng),
             _ => located_frame(length, law, &mut rng),
         };
-        let any = 2 * rng.below(64) as u32 + 1;
-        let set = *rng.pick(&[127, 33 | 64, 1 | 8 | 32 | 64, 1 | 16 | 32 | 64, any]);
+        let any = odd_set(&mut rng);
+        let set = *rng.pick(&[ALL_TOOLS, LISTED_TOOLS, 33 | 64, 1 | 8 | 32 | 64, 1 | 16 | 32 | 64, any]);
         let (wrote, form) = write_and_read_back(&mut pair, &frame, law, set);
         met.note(wrote, &form, &frame, law, set);
     }
@@ -169,7 +174,7 @@ fn refused_in_order() {
     let lengths: Vec<usize> = (0..=700).chain([4_000, 65_535, 65_536, 65_576, 65_536 * 2 + 320]).collect();
     for length in lengths {
         let frame = if rng.flip() { rng.octets(length) } else { vec![0xFF; length] };
-        let good = Ask { given: frame, law: rng.below(2) as u32, set: 2 * rng.below(64) as u32 + 1, room: MOST };
+        let good = Ask { given: frame, law: rng.below(2) as u32, set: odd_set(&mut rng), room: MOST };
         let mut check = |row: &str, ask: Ask| {
             write_as(&mut pair, &ask, refused(row));
             table.add(row, "calls");
@@ -201,10 +206,11 @@ fn every_room() {
     let range = Kind::Range { case: 1, ones: few, minus_ones: few, minus_twos: few };
     let half = Kind::TwoZeros(Pattern::Half);
     let one = Kind::TwoZeros(Pattern::Exactly(1));
-    for kind in [Kind::RandomOctets, Kind::AllPlus, Kind::AllMinus, Kind::Constant, half, one, range] {
+    let digits = Kind::Digits { row: 3, one_in: 1 };
+    for kind in [Kind::RandomOctets, Kind::AllPlus, Kind::AllMinus, Kind::Constant, half, one, range, digits] {
         for length in [0].into_iter().chain(LENGTHS) {
             let frame = if length == 0 { vec![] } else { make_frame(kind, length, 1, &mut rng) };
-            let ask = Ask { given: frame, law: 1, set: 127, room: 330 };
+            let ask = Ask { given: frame, law: 1, set: ALL_TOOLS, room: 330 };
             let wrote = pair.write(&ask);
             for room in 0..330 {
                 let wanted = if room < wrote.octets { refused("ROOM") } else { wrote };

@@ -4,7 +4,7 @@
 use second::linear::{linear_of, octet_of};
 use tests::recordings::recordings;
 use tests::say;
-use tests::tools::{law_words, pack_wanted, same, Room, Stop, FILES, USAGE};
+use tests::tools::{law_words, pack_wanted, same, Room, Stop, FILES, PACKED_WITH, USAGE};
 
 fn room(name: &str) -> Room {
     Room::new(env!("CARGO_TARGET_TMPDIR"), &format!("masters-{name}"))
@@ -76,7 +76,7 @@ fn every_value() {
     let values: Vec<i16> = (0..=65_535_u16).map(|value| value as i16).chain([0; 24]).collect();
     for law in 0..2 {
         let sound = samples_of(&values, law);
-        let wanted = pack_wanted(&sound, law, 127, 160, false);
+        let wanted = pack_wanted(&sound, law, PACKED_WITH, 160, false);
         let (option, _, _) = law_words(law);
         for (form, master) in [("-l", octets_of(&values)), ("-w", wav(&values))] {
             let ran = room.run("pack", &format!("{option} {form}"), &master);
@@ -92,7 +92,7 @@ fn every_value() {
 fn every_recording_through_a_master() {
     let mut room = room("recordings");
     for recording in recordings() {
-        let stream = pack_wanted(&recording.sound, recording.law, 127, 160, true).stream.octets;
+        let stream = pack_wanted(&recording.sound, recording.law, PACKED_WITH, 160, true).stream.octets;
         let sound = room.run("unpack", law_words(recording.law).0, &stream).out;
         let (option, _, _) = law_words(recording.law);
         let values = values_of(&sound, recording.law);
@@ -103,7 +103,7 @@ fn every_recording_through_a_master() {
             let mut back = sound.clone();
             let minus = |octet: &mut u8| *octet = if recording.law == 1 && *octet == 0x7F { 0xFF } else { *octet };
             back.iter_mut().for_each(minus);
-            let wanted = pack_wanted(&back, recording.law, 127, 160, false);
+            let wanted = pack_wanted(&back, recording.law, PACKED_WITH, 160, false);
             let ran = room.run("pack", &format!("{option} {form}"), &master);
             ran.ends(wanted.stop).writes(&wanted.stream.octets);
         }
@@ -128,7 +128,7 @@ fn a_stream_that_is_refused() {
 fn other_chunks() {
     let mut room = room("chunks");
     let values: Vec<i16> = (0..160).map(|at| (at * 331 - 25_000) as i16).collect();
-    let wanted = pack_wanted(&samples_of(&values, 1), 1, 127, 160, false);
+    let wanted = pack_wanted(&samples_of(&values, 1), 1, PACKED_WITH, 160, false);
     let format = chunk(b"fmt ", &MASTER.octets());
     let long = chunk(b"fmt ", &[MASTER.octets(), vec![2, 0, 9, 9]].concat());
     let data = chunk(b"data", &octets_of(&values));

@@ -6,8 +6,10 @@ use std::fs;
 use tests::forms::LENGTHS;
 use tests::mend::TOTAL;
 use tests::recordings::{packed, recordings, Recording};
-use tests::tools::{law_words, mend_wanted, plus_zero, same, why_wanted, Room, Stop, FILES, USAGE};
-use tests::{say, Second, MOST, MOST_LISTED};
+use tests::tools::{
+    law_words, mend_wanted, plus_zero, same, why_wanted, Room, Stop, FILES, PACKED_WITH, READ_WITH, USAGE,
+};
+use tests::{odd_set, say, Second, MOST, MOST_LISTED, TOOLS};
 
 fn room(name: &str) -> Room {
     Room::new(env!("CARGO_TARGET_TMPDIR"), &format!("programs-{name}"))
@@ -29,7 +31,7 @@ fn joined(law: u32, most: usize) -> Vec<u8> {
 #[derive(Default)]
 struct Winners {
     frames: usize,
-    won: [usize; 8],
+    won: [usize; 12],
     tied: usize,
 }
 
@@ -60,7 +62,7 @@ fn every_recording_explained() {
     for (turn, Recording { name, law, sound }) in recordings().into_iter().enumerate() {
         let length = [160, 80, 240, 40, 320][turn / 2 % 5];
         room.put(&name, &sound);
-        let wanted = why_wanted(&sound, law, 127, length);
+        let wanted = why_wanted(&sound, law, PACKED_WITH, length);
         let words = if length == 160 { name } else { format!("-n{length} {name}") };
         room.run("why", &words, &[]).ends(wanted.stop).writes(wanted.frames.concat().as_bytes());
         winners.count(&wanted.frames);
@@ -78,14 +80,15 @@ fn mixed_sounds_explained() {
             let drawn = kinds.into_iter().flat_map(|kind| make_frame(kind, length, law, &mut rng));
             let mut sound: Vec<u8> = drawn.chain(joined(law, 1_200)).collect();
             sound.truncate(sound.len() / 40 * 40);
-            let some = 2 * rng.below(64) as u32 + 1;
-            for set in [127, some] {
+            let some = odd_set(&mut rng);
+            for set in [255, 127, some] {
                 winners.count(&explained(&mut room, &sound, law, set, length));
             }
         }
     }
-    assert!(winners.won[1..].iter().all(|won| *won >= 20) && winners.tied >= 20, "{:?}", winners.won);
-    let told = format!("{} frames, won by tool {:?}, {} by a tie", winners.frames, &winners.won[1..], winners.tied);
+    let won = TOOLS.map(|tool| winners.won[tool as usize]);
+    assert!(won.iter().all(|won| *won >= 20) && winners.tied >= 20, "{won:?}");
+    let told = format!("{} frames, won by tools 1 to 7 and 11 {won:?}, {} by a tie", winners.frames, winners.tied);
     tell(&format!("mixed sounds explained, {told}"), &room);
 }
 
@@ -96,7 +99,7 @@ fn silence_explained() {
     for law in 0..2 {
         let plus = plus_zero(law);
         let silence = [vec![plus; 200], vec![plus ^ 0x80; 120]].concat();
-        for (set, length) in [(127, 40), (17, 40), (1, 320), (121, 160)] {
+        for (set, length) in [(255, 40), (17, 40), (1, 320), (121, 160), (129, 40)] {
             explained(&mut room, &silence, law, set, length);
         }
     }
@@ -107,7 +110,7 @@ fn silence_explained() {
         5 => "tool=5 state=fits why=0 octets=6\n".into(),
         other => format!("tool={other} state=out why=0 octets=0\n"),
     };
-    let text = format!("frame=0 at=0\n{}winner=5 by=octets\n", (1..8).map(tools).collect::<String>());
+    let text = format!("frame=0 at=0\n{}winner=5 by=octets\n", [1, 2, 3, 4, 5, 6, 7, 11].map(tools).concat());
     ran.ends(Stop::new(0, 40, 0)).writes(text.as_bytes());
     room.run("why", "-a", &[]).ends(Stop::new(0, 0, 0)).writes(&[]);
     tell("silence explained, and no sound", &room);
@@ -121,7 +124,7 @@ fn long_sounds_explained() {
         let mut sound = joined(law, usize::MAX);
         sound.truncate(sound.len() - less);
         assert!(sound.len() > 2 * MOST_LISTED);
-        explained(&mut room, &sound, law, 127, length);
+        explained(&mut room, &sound, law, PACKED_WITH, length);
     }
     for samples in [MOST_LISTED - 15, MOST_LISTED + 25, MOST_LISTED + 26] {
         explained(&mut room, &joined(1, usize::MAX)[..samples], 1, 95, 240);
@@ -129,7 +132,7 @@ fn long_sounds_explained() {
     let sound = joined(0, usize::MAX).repeat(6);
     let most = MOST.next_multiple_of(40);
     assert!(sound.len() > most);
-    explained(&mut room, &sound[..most], 0, 127, 320);
+    explained(&mut room, &sound[..most], 0, PACKED_WITH, 320);
     tell("sounds longer than 65,535 octets explained, one of more than 1,048,576", &room);
 }
 
@@ -138,7 +141,7 @@ fn long_sounds_explained() {
 fn one_frame_explained() {
     let mut room = room("one");
     let sound = joined(1, usize::MAX);
-    let whole = why_wanted(&sound, 1, 127, 240);
+    let whole = why_wanted(&sound, 1, PACKED_WITH, 240);
     let last = whole.frames.len() - 1;
     room.put("long.ul8", &sound);
     for at in [0, 1, 273, 274, 500, last] {
@@ -153,7 +156,7 @@ fn one_frame_explained() {
     room.run("why", "-u -n40 -k1", &sound[..40]).ends(Stop::new(USAGE, 40, 0)).writes(&[]);
     room.run("why", "-u -k0", &[]).ends(Stop::new(USAGE, 0, 0)).writes(&[]);
     // A sound that no length fits: the frame's lines, if it is there, and LENGTH.
-    let unfit = why_wanted(&sound[..90], 1, 127, 40);
+    let unfit = why_wanted(&sound[..90], 1, PACKED_WITH, 40);
     for (at, lines) in [(0, &unfit.frames[0][..]), (1, &unfit.frames[1][..]), (2, "")] {
         let ran = room.run("why", &format!("-u -n40 -k{at}"), &sound[..90]);
         ran.ends(Stop::new(10, 80, 0)).writes(lines.as_bytes());
@@ -167,9 +170,9 @@ fn sounds_that_no_length_fits() {
     let mut room = room("unfit");
     let sound = joined(0, usize::MAX);
     for (samples, length, kept) in [(50, 40, 40), (39, 160, 0), (1, 40, 0), (441, 160, 440), (639, 320, 600)] {
-        let frames = explained(&mut room, &sound[..samples], 0, 127, length);
+        let frames = explained(&mut room, &sound[..samples], 0, PACKED_WITH, length);
         assert_eq!(frames.is_empty(), kept == 0);
-        assert_eq!(why_wanted(&sound[..samples], 0, 127, length).stop, Stop::new(10, kept, 0));
+        assert_eq!(why_wanted(&sound[..samples], 0, PACKED_WITH, length).stop, Stop::new(10, kept, 0));
     }
     explained(&mut room, &sound[..100_001], 0, 63, 320);
     tell("sounds that no length fits", &room);
@@ -204,7 +207,7 @@ fn why_called_wrongly() {
     let unknown = ["-x -u", "-l -u", "-w -u a.ul8", "-f a.ul8", "a.ul8 kept", "-u - -"];
     refused(&mut room, "why", USAGE, &unknown);
     refused(&mut room, "why", USAGE, &["", "-", "a.xyz", "-k -u", "-kx -u", "-k-1 a.ul8", "-n16o -u", "-s1x -u"]);
-    refused(&mut room, "why", 11, &["-u -s2", "-s128 a.ul8", "-s0 missing.ul8", "-n41 -s2 a.ul8"]);
+    refused(&mut room, "why", 11, &["-u -s2", "-s128 a.ul8", "-s257 a.ul8", "-s0 missing.ul8", "-n41 -s254 a.ul8"]);
     refused(&mut room, "why", 10, &["-u -n41", "-n0 a.ul8", "-n400 missing.ul8", "-n39 -k0 a.ul8"]);
     refused(&mut room, "why", FILES, &["missing.ul8", "folder.ul8", "-u missing/a"]);
     tell("why called wrongly, sets and lengths, trouble with files", &room);
@@ -234,7 +237,7 @@ fn mended(room: &mut Room, stream: &[u8], law: u32, total: usize) -> (u32, Vec<u
 fn greeting(recording: &Recording, length: usize, rng: &mut Prng) -> (Vec<u8>, usize) {
     let samples = 40 * (50 + rng.below(250));
     let at = rng.below(recording.sound.len() - samples);
-    let stream = packed(&Second, &recording.sound[at..at + samples], recording.law, 127, length, MOST);
+    let stream = packed(&Second, &recording.sound[at..at + samples], recording.law, READ_WITH, length, MOST);
     (stream.octets, stream.samples)
 }
 
@@ -280,7 +283,7 @@ fn damaged_greetings() {
 fn undamaged_greetings() {
     let (mut room, mut rng) = (room("undamaged"), Prng::new(73));
     for recording in recordings().iter().filter(|one| one.name.starts_with("silence") || one.name.starts_with("hum")) {
-        let whole = packed(&Second, &recording.sound, recording.law, 127, 160, MOST);
+        let whole = packed(&Second, &recording.sound, recording.law, READ_WITH, 160, MOST);
         let stream = [&whole.octets[..], &vec![0; rng.below(3)]].concat();
         let (walk, result) = mended(&mut room, &stream, recording.law, whole.samples);
         assert_eq!(walk, 0);

@@ -2,12 +2,15 @@
 
 #![cfg(feature = "writer")]
 
+use second::gen::Prng;
 use std::fs;
 use std::path::{Path, PathBuf};
+use tests::digits::{rows, some_numbers, WAYS};
+use tests::forms::LENGTHS;
 use tests::program::{beside, run};
 use tests::published::{compare, End};
 use tests::recordings::{folder, packed};
-use tests::{say, Codec, Proved, Read, Second, Walk, Write};
+use tests::{say, Codec, Proved, Read, Second, Walk, Write, ALL_TOOLS};
 
 /// What the runner said, and how it ended.
 struct Ran {
@@ -43,7 +46,23 @@ fn stream(sound: &[u8], law: u32, set: u32, length: usize) -> Vec<u8> {
     packed(&Second, sound, law, set, length, usize::MAX).octets
 }
 
-/// A folder of five pairs and two files alone. One stream is of another writer, one has a frame of tool 9.
+/// Every row of tool 11 at every length (document 02, R-14), as our writer makes it and as none does: raw and stream.
+fn few_values() -> (Vec<u8>, Vec<u8>) {
+    let (mut raw, mut stream, mut rng) = (Vec::new(), Vec::new(), Prng::new(149));
+    for length in LENGTHS {
+        for row in rows(length) {
+            for way in [WAYS[0], WAYS[1]] {
+                let numbers = some_numbers(row, way, length, &mut rng).expect("every row has such frames");
+                let form = row.form(&numbers, 1).expect("the length has the row");
+                stream.extend(form.octets());
+                raw.extend(form.samples);
+            }
+        }
+    }
+    (raw, stream)
+}
+
+/// A folder of six pairs and two files alone. One stream is of another writer, one has a frame of tool 9, one all rows of tool 11.
 fn made_up(name: &str) -> PathBuf {
     let root = Path::new(env!("CARGO_TARGET_TMPDIR")).join("published").join(name);
     let _ = fs::remove_dir_all(&root);
@@ -51,23 +70,26 @@ fn made_up(name: &str) -> PathBuf {
     let put = |file: &str, octets: &[u8]| fs::write(root.join(file), octets).unwrap();
     let greeting = sound("greeting.ul8");
     put("greeting.ul8", &greeting);
-    put("greeting.lcm", &stream(&greeting, 1, 127, 160));
+    put("greeting.lcm", &stream(&greeting, 1, ALL_TOOLS, 160));
     // Longer than a walk takes.
     let long = sound("music.al8").repeat(3);
     put("LONG.AL", &long);
-    put("LONG.LCA", &stream(&long, 0, 127, 240));
+    put("LONG.LCA", &stream(&long, 0, ALL_TOOLS, 240));
     let hum = sound("hum.ul8");
     put("more/hum.mu8", &hum);
     put("more/hum.lcm", &stream(&hum, 1, 31, 320));
     let message = sound("message.al8");
     put("more/still/message.al8", &message);
-    put("more/still/message.lca", &stream(&message, 0, 127, 80));
+    put("more/still/message.lca", &stream(&message, 0, ALL_TOOLS, 80));
     let noise = sound("noise.ul8");
-    let before = stream(&noise[..1600], 1, 127, 160);
+    let before = stream(&noise[..1600], 1, ALL_TOOLS, 160);
     put("noise.mu", &noise);
-    put("noise.lcm", &[&before[..], &[0xE1, 0x55, 0x12], &stream(&noise[1760..], 1, 127, 160)].concat());
+    put("noise.lcm", &[&before[..], &[0xE1, 0x55, 0x12], &stream(&noise[1760..], 1, ALL_TOOLS, 160)].concat());
+    let (few, packed) = few_values();
+    put("few.ul8", &few);
+    put("few.lcm", &packed);
     put("alone.ul8", &greeting);
-    put("more/greeting.lcm", &stream(&greeting, 1, 127, 160));
+    put("more/greeting.lcm", &stream(&greeting, 1, ALL_TOOLS, 160));
     put("readme.txt", b"no signal");
     root
 }
@@ -82,9 +104,11 @@ fn a_made_up_folder() {
     ran.has("more/hum.lcm", "equal; read 100 frames, 32000 samples, ");
     ran.has("more/still/message.lca", "equal; read 300 frames, 24000 samples, ");
     ran.has("noise.lcm", "TOOL, tool 9; read 10 frames, 1600 samples, ");
+    // 24 frames of 40 samples, 12 of 80, 8 of each other length.
+    ran.has("few.lcm", "equal; read 60 frames, 7680 samples, ");
     ran.has("alone.ul8", "alone");
     ran.has("more/greeting.lcm", "alone");
-    let sums = "vectors: 5 pairs, 4 equal, 1 with a tool that is not carried, 0 mismatches, 2 files alone\n";
+    let sums = "vectors: 6 pairs, 5 equal, 1 with a tool that is not carried, 0 mismatches, 2 files alone\n";
     assert!(ran.said.contains(sums), "{}", ran.said);
     let line = ran.line("more/hum.lcm");
     assert!(!line.contains(" 0 other"), "a writer without tools 6 and 7 writes other octets: {line}");
@@ -94,7 +118,7 @@ fn a_made_up_folder() {
 #[test]
 fn the_place_of_a_tool_that_is_not_carried() {
     let ran = vectors_of(&made_up("tool"));
-    let before = stream(&sound("noise.ul8")[..1600], 1, 127, 160).len();
+    let before = stream(&sound("noise.ul8")[..1600], 1, ALL_TOOLS, 160).len();
     ran.has("noise.lcm", &format!("equal up to octet {before}: TOOL, tool 9;"));
 }
 
@@ -115,7 +139,7 @@ fn a_planted_mismatch() {
     );
     ran.has("more/still/message.lca", "read 154 frames, 12320 samples, ");
     assert!(
-        ran.said.contains("vectors: 5 pairs, 3 equal, 1 with a tool that is not carried, 1 mismatches, "),
+        ran.said.contains("vectors: 6 pairs, 4 equal, 1 with a tool that is not carried, 1 mismatches, "),
         "{}",
         ran.said
     );
@@ -142,10 +166,14 @@ fn mismatch(raw: &[u8], stream: &[u8], wanted: &str) {
 #[test]
 fn every_sort_of_mismatch() {
     let raw = sound("hum.ul8");
-    let whole = stream(&raw, 1, 127, 160);
+    let whole = stream(&raw, 1, ALL_TOOLS, 160);
     assert_eq!(compare(&Proved, &Second, "x", &raw, &whole, 1).end, End::Equal);
     assert_eq!(compare(&Proved, &Second, "x", &[], &[], 1).end, End::Equal);
-    mismatch(&raw, &stream(&raw[..31_840], 1, 127, 160), "the stream ends after 31840 samples, the raw file has 32000");
+    mismatch(
+        &raw,
+        &stream(&raw[..31_840], 1, ALL_TOOLS, 160),
+        "the stream ends after 31840 samples, the raw file has 32000",
+    );
     mismatch(&raw[..31_999], &whole, "the raw file ends after 31999 samples");
     mismatch(&raw, &whole[..whole.len() - 1], "SHORT at octet ");
     mismatch(&raw, &[&whole[..], &[0x46]].concat(), "PREFIX at octet ");
@@ -190,6 +218,6 @@ impl Codec for Wrong {
 #[test]
 fn programs_that_differ() {
     let raw = sound("hum.ul8");
-    let end = compare(&Wrong, &Second, "x", &raw, &stream(&raw, 1, 127, 160), 1).end;
+    let end = compare(&Wrong, &Second, "x", &raw, &stream(&raw, 1, ALL_TOOLS, 160), 1).end;
     assert!(matches!(&end, End::Mismatch(why) if why.contains("the programs differ")), "{end:?}");
 }

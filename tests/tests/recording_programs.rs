@@ -7,7 +7,7 @@ use tests::forms::LENGTHS;
 use tests::program::listing;
 use tests::recordings::{packed, recordings};
 use tests::streams::plain_frames;
-use tests::tools::{law_words, same, windows, Room, Stop, DIFFERS, LOST, USAGE, WINDOW};
+use tests::tools::{law_words, same, windows, Room, Stop, DIFFERS, LOST, PACKED_WITH, READ_WITH, USAGE, WINDOW};
 use tests::{say, Codec, Second, MOST, MOST_LISTED};
 
 /// Octets of a heading.
@@ -126,7 +126,7 @@ fn packed_and_played() {
         let (length, law) = (LENGTHS[turn / 2 % 5], recording.law);
         let (option, ..) = law_words(law);
         let sound = &recording.sound[..recording.sound.len().min(40_000) / 320 * 320];
-        let stream = packed(&Second, sound, law, 127, length, MOST);
+        let stream = packed(&Second, sound, law, PACKED_WITH, length, MOST);
         let file = [&heading(law)[..], &stream.octets].concat();
         room.put(&recording.name, sound);
         let ran = match turn % 2 {
@@ -136,12 +136,12 @@ fn packed_and_played() {
         let octets = if turn % 2 == 0 { ran.out.clone() } else { room.take("file") };
         same(&ran.line, &octets, &file);
         ran.ends(Stop::new(0, sound.len(), 0)).sums(stream.frames, sound.len(), file.len());
-        let back = wanted(&file, 127, false);
+        let back = wanted(&file, READ_WITH, false);
         match back.lost {
             0 => assert!(!ran.err.contains("take them for lost"), "{}", ran.err),
             lost => drop(ran.says(&format!("take them for lost: {lost}\n"))),
         }
-        played(&mut room, &file, 127, ["", "-v", "-g", "-g -v"][turn % 4]);
+        played(&mut room, &file, READ_WITH, ["", "-v", "-g", "-g -v"][turn % 4]);
     }
     tell("every recording packed with -r, and played", &room);
 }
@@ -166,23 +166,24 @@ fn losses_told() {
             for (turn, row) in rows.iter().enumerate() {
                 let whole: &[u8] = if turn == 0 { &[] } else { &samples };
                 let options = ["", "-v", "-g", "-v -g"][(turn + usize::from(length) / 40) % 4];
-                count(played(&mut room, &file_of(whole, row, law, 127), 127, options));
+                count(played(&mut room, &file_of(whole, row, law, READ_WITH), READ_WITH, options));
             }
         }
         for turn in 0..20 {
             let (samples, items) = drawn(law, 1 + rng.below(600), &mut rng);
-            let file = file_of(&samples, &items, law, 127);
-            count(played(&mut room, &file, 127, ["", "-v", "-g"][turn % 3]));
+            let file = file_of(&samples, &items, law, READ_WITH);
+            count(played(&mut room, &file, READ_WITH, ["", "-v", "-g"][turn % 3]));
             let body = damage_somehow(&file[HEAD..], &mut rng);
             let body = &body[..body.len().min(MOST)];
-            count(played(&mut room, &[&heading(law)[..], body].concat(), 127, ["-v", "", "-g"][turn % 3]));
-            count(played(&mut room, &file, rng.below(128) as u32, ""));
-            count(played(&mut room, &file[..HEAD + rng.below(file.len() - HEAD)], 127, ["", "-v"][turn % 2]));
-            count(played(&mut room, &[&file[..], &[0x46]].concat(), 127, "-g"));
+            count(played(&mut room, &[&heading(law)[..], body].concat(), READ_WITH, ["-v", "", "-g"][turn % 3]));
+            count(played(&mut room, &file, rng.below(256) as u32, ""));
+            count(played(&mut room, &file[..HEAD + rng.below(file.len() - HEAD)], READ_WITH, ["", "-v"][turn % 2]));
+            count(played(&mut room, &[&file[..], &[0x46]].concat(), READ_WITH, "-g"));
         }
     }
     assert!([0, 1, 2, 3, LOST as usize].iter().all(|stop| stops[*stop] >= 20), "{stops:?}");
-    let told: Vec<String> = stops.iter().enumerate().filter(|(_, n)| **n > 0).map(|(at, n)| format!("{at}: {n}")).collect();
+    let told: Vec<String> =
+        stops.iter().enumerate().filter(|(_, n)| **n > 0).map(|(at, n)| format!("{at}: {n}")).collect();
     tell(&format!("losses told, runs by stop {{{}}}", told.join(", ")), &room);
 }
 
@@ -197,7 +198,7 @@ fn losses_behind_the_first_window() {
     let (mut room, mut rng) = (room("windows"), Prng::new(83));
     let (mut behind, mut across, mut stops) = (0, 0, [0; 70]);
     for law in 0..2 {
-        let loss = |length: u16| file_of(&[], &[LOSS + length], law, 127)[HEAD..].to_vec();
+        let loss = |length: u16| file_of(&[], &[LOSS + length], law, READ_WITH)[HEAD..].to_vec();
         for (turn, octets) in [WINDOW + 2, WINDOW + 700, 2 * WINDOW + 1_000, 400_000, MOST - 1, MOST].into_iter().enumerate() {
             // Frames as they are, then pads, then losses: one of two octets begins with the window's last octet, or just before or behind.
             let mut body = plain_frames(WINDOW / 321, &mut rng);
@@ -212,17 +213,17 @@ fn losses_behind_the_first_window() {
             }
             body.resize(octets.max(body.len()), 0x00);
             let file = [&heading(law)[..], &body].concat();
-            let all = wanted(&file, 127, false);
+            let all = wanted(&file, READ_WITH, false);
             behind += all.losses.lines().filter(|line| numbers(line)[1] >= WINDOW).count();
             let starts: Vec<usize> = all.items.lines().map(|line| numbers(line)[1]).collect();
             across += windows(&starts, body.len()).windows(2).filter(|two| two[1] < two[0] + WINDOW).count();
             for options in ["", "-g"] {
-                stops[played(&mut room, &file, 127, options).number as usize] += 1;
+                stops[played(&mut room, &file, READ_WITH, options).number as usize] += 1;
             }
-            stops[played(&mut room, &file[..file.len() - 1], 127, ["-v", ""][turn % 2]).number as usize] += 1;
+            stops[played(&mut room, &file[..file.len() - 1], READ_WITH, ["-v", ""][turn % 2]).number as usize] += 1;
             if octets < MOST - 1 {
                 for last in [&[0x46][..], &[0x30; 20]] {
-                    let stop = played(&mut room, &[&file[..], last].concat(), 127, "-g");
+                    let stop = played(&mut room, &[&file[..], last].concat(), READ_WITH, "-g");
                     assert_eq!(stop.at, body.len());
                     stops[stop.number as usize] += 1;
                 }
@@ -242,8 +243,8 @@ fn compared_and_as_masters() {
     for law in 0..2 {
         for (turn, on) in [false, true, false].into_iter().enumerate() {
             let (samples, items) = drawn(law, 30 + 300 * turn, &mut rng);
-            let file = file_of(&samples, &items, law, 127);
-            let stop = wanted(&file, 127, on).stop;
+            let file = file_of(&samples, &items, law, READ_WITH);
+            let stop = wanted(&file, READ_WITH, on).stop;
             let g = if on { "-g" } else { "" };
             room.put("file", &file);
             room.put("master", &samples);
@@ -259,11 +260,15 @@ fn compared_and_as_masters() {
             room.put("master", &[&samples[..], &[0]].concat());
             room.run("unpack", "-c master file", &[]).ends(Stop::new(DIFFERS, samples.len(), 0));
             // A WAV file and a linear master are those of the sound alone.
-            room.put("sound", &packed(&Second, &samples, law, 127, 160, MOST).octets);
+            room.put("sound", &packed(&Second, &samples, law, READ_WITH, 160, MOST).octets);
             let (option, ..) = law_words(law);
             for form in ["-w", "-l"] {
                 room.run("unpack", &format!("{form} {g} file of-file"), &[]).ends(stop);
-                room.run("unpack", &format!("{form} {option} sound of-sound"), &[]).ends(Stop::new(0, room.take("sound").len(), 0));
+                room.run("unpack", &format!("{form} {option} sound of-sound"), &[]).ends(Stop::new(
+                    0,
+                    room.take("sound").len(),
+                    0,
+                ));
                 same(form, &room.take("of-file"), &room.take("of-sound"));
             }
         }
@@ -284,14 +289,18 @@ fn headings() {
         room.put(&format!("a.{lc}"), &file);
         room.put(&format!("a.{other_lc}"), &file);
         room.put("a.xyz", &file);
-        for words in [own.to_string(), String::new(), format!("a.{lc} -"), format!("a.{other_lc} -"), "a.xyz -".into()] {
+        for words in [own.to_string(), String::new(), format!("a.{lc} -"), format!("a.{other_lc} -"), "a.xyz -".into()]
+        {
             room.run("unpack", &words, &file).ends(done).writes(&sound).says("frames=3 samples=200 octets=13 lost=0\n");
         }
         // Without OUTFILE the ending is that of the heading's law.
         room.run("unpack", &format!("a.{other_lc}"), &[]).ends(done);
         same("a name by the heading", &room.take(["a.alo", "a.muo"][law as usize]), &sound);
         for words in [other.to_string(), format!("{other} a.{lc} -"), format!("{other} -v -g a.{other_lc} kept")] {
-            room.run("unpack", &words, &file).ends(Stop::new(USAGE, 0, 0)).says("heading says the other law").writes(&[]);
+            room.run("unpack", &words, &file)
+                .ends(Stop::new(USAGE, 0, 0))
+                .says("heading says the other law")
+                .writes(&[]);
         }
         assert!(!room.has("kept"));
         let head = Stop::new(14, 0, 0);
@@ -307,19 +316,21 @@ fn headings() {
         }
         // What does not begin as a heading is a stream, and its law must be told.
         for cut in 0..7 {
-            let stream = Second.walk(&file[..cut], law, 127, &mut [0; 4_000]);
+            let stream = Second.walk(&file[..cut], law, READ_WITH, &mut [0; 4_000]);
             let stop = Stop { number: stream.ending, at: stream.place, tool: stream.tool, bit: stream.bit };
             room.run("unpack", own, &file[..cut]).ends(stop);
             room.run("unpack", "", &file[..cut]).ends(Stop::new(USAGE, 0, 0)).says("the law is not known");
         }
         // The order: usage, SET, files, then the file's own.
-        room.run("unpack", &format!("{other} -s128"), &file).ends(Stop::new(11, 0, 0));
-        room.run("unpack", "-s128", &file[..9]).ends(Stop::new(11, 0, 0));
-        room.run("unpack", "-x -s128", &file).ends(Stop::new(USAGE, 0, 0));
+        room.run("unpack", &format!("{other} -s256"), &file).ends(Stop::new(11, 0, 0));
+        room.run("unpack", "-s256", &file[..9]).ends(Stop::new(11, 0, 0));
+        room.run("unpack", "-x -s256", &file).ends(Stop::new(USAGE, 0, 0));
         // A second heading is no frame; the listing takes no heading.
-        played(&mut room, &[&heading(law)[..], &file].concat(), 127, "");
+        played(&mut room, &[&heading(law)[..], &file].concat(), READ_WITH, "");
         assert_eq!(listing(&file), b"stop=12 at=0 tool=0 bit=0\n");
-        room.run("unpack", &format!("{own} -v"), &file[HEAD..]).ends(Stop::new(USAGE, 0, 0)).says("-v lists a recording");
+        room.run("unpack", &format!("{own} -v"), &file[HEAD..])
+            .ends(Stop::new(USAGE, 0, 0))
+            .says("-v lists a recording");
         room.run("unpack", &format!("{own} -g"), &file[HEAD..]).ends(done).writes(&sound);
     }
     tell("headings, laws and the order of refusals", &room);
@@ -342,7 +353,7 @@ fn the_longest_recordings() {
             if octets > MOST {
                 room.run("unpack", "", &file).ends(Stop::new(13, 0, 0)).writes(&[]);
             } else {
-                played(&mut room, &file, 127, ["", "-g"][law as usize]);
+                played(&mut room, &file, READ_WITH, ["", "-g"][law as usize]);
             }
         }
         let (option, ..) = law_words(law);
@@ -355,7 +366,9 @@ fn the_longest_recordings() {
         room.run("pack", &format!("{option} -r -s1 -n320"), &long).ends(Stop::new(13, most, 0)).writes(&[]);
         // Without OUTFILE a recording goes nowhere but to standard output.
         room.put("a.ul8", &sound);
-        room.run("pack", &format!("{option} -r a.ul8"), &[]).ends(Stop::new(USAGE, 0, 0)).says("with -r OUTFILE must be said");
+        room.run("pack", &format!("{option} -r a.ul8"), &[])
+            .ends(Stop::new(USAGE, 0, 0))
+            .says("with -r OUTFILE must be said");
     }
     room.run("pack", "-u -r -v", &[]).ends(Stop::new(USAGE, 0, 0));
     room.run("unpack", "-u -r", &[]).ends(Stop::new(USAGE, 0, 0));

@@ -5,10 +5,10 @@
 use std::process::Command;
 use tests::forms::LENGTHS;
 use tests::recordings::{cuts, folder, packed, recordings, two_minutes, Recording, TWO_MINUTES};
-use tests::{say, shared, Ask, Codec, Pair, Proved, Second, Table, MOST};
+use tests::{say, shared, Ask, Codec, Pair, Proved, Second, Table, ALL_TOOLS, MOST, TOOLS};
 
 /// A writer's sets: all tools, none but uncompressed, and each tool left out once or more.
-const SETS: [u32; 10] = [1, 3, 5, 9, 17, 31, 63, 65, 95, 127];
+const SETS: [u32; 12] = [1, 3, 5, 9, 17, 31, 63, 65, 95, 127, 129, ALL_TOOLS];
 
 /// The files are those that were made.
 #[test]
@@ -50,7 +50,8 @@ fn written_and_read_by_both() {
 #[test]
 fn two_minutes_written_and_read_by_both() {
     let mut pair = Pair::new(&Proved, &Second);
-    let frames: usize = two_minutes().iter().map(|recording| write_and_read(&mut pair, recording, 160, 127)).sum();
+    let frames: usize =
+        two_minutes().iter().map(|recording| write_and_read(&mut pair, recording, 160, ALL_TOOLS)).sum();
     say(&format!("compared: recordings, two minutes in two laws: {frames} frames, {} calls\n", pair.calls));
     pair.close();
 }
@@ -90,16 +91,16 @@ fn write_and_read(pair: &mut Pair, recording: &Recording, length: usize, set: u3
 fn what_the_tools_save() {
     let recordings = recordings();
     let names: Vec<&str> = recordings.iter().map(|recording| recording.name.as_str()).collect();
-    let mut table = Table::new("recordings, frames of 160 samples by tool, set 127", &names, &[1, 2, 3, 4, 5, 6, 7], 0);
+    let mut table = Table::new("recordings, frames of 160 samples by tool, all tools", &names, &TOOLS, 0);
     for (name, tools) in USED {
-        for tool in 1..=7 {
+        for tool in TOOLS {
             match tools.contains(&tool) {
                 true => table.needs(name, tool, 1),
                 false => table.never(name, tool),
             }
         }
     }
-    let mut sizes = String::from("table: recordings, octets in frames of 160 samples, set 127\n");
+    let mut sizes = String::from("table: recordings, octets in frames of 160 samples, all tools\n");
     sizes += &format!("  {:<12}  {:>8}  {:>8}  {:>8}\n", "", "in", "out", "saved");
     let mut line = |name: &str, given: usize, kept: usize| {
         let saved = 100.0 * (1.0 - kept as f64 / given as f64);
@@ -108,7 +109,7 @@ fn what_the_tools_save() {
     let (mut given, mut kept) = (0, 0);
     for recording in &recordings {
         let Recording { name, law, sound } = recording;
-        let stream = packed(&Proved, sound, *law, 127, 160, MOST).octets;
+        let stream = packed(&Proved, sound, *law, ALL_TOOLS, 160, MOST).octets;
         tools_of(&stream, *law).iter().for_each(|tool| table.add(name, tool));
         line(name, sound.len(), stream.len());
         (given, kept) = (given + sound.len(), kept + stream.len());
@@ -116,7 +117,7 @@ fn what_the_tools_save() {
     line("all", given, kept);
     say(&sizes);
     table.close();
-    for tool in 1..=7 {
+    for tool in TOOLS {
         assert!(names.iter().any(|name| table.count(name, tool) > 0), "no frame of a recording is of tool {tool}");
     }
 }
@@ -124,15 +125,15 @@ fn what_the_tools_save() {
 /// The tools that each recording uses, and no others.
 const USED: [(&str, &[u32]); 12] = [
     ("greeting.al8", &[1, 2, 6, 7]),
-    ("greeting.ul8", &[1, 2]),
-    ("hum.al8", &[1, 2, 4, 5, 6, 7]),
-    ("hum.ul8", &[1, 2, 4, 5, 6, 7]),
+    ("greeting.ul8", &[1, 2, 11]),
+    ("hum.al8", &[2, 4, 5, 6, 7, 11]),
+    ("hum.ul8", &[2, 4, 5, 6, 7, 11]),
     ("message.al8", &[1, 6]),
-    ("message.ul8", &[1, 7]),
+    ("message.ul8", &[1, 7, 11]),
     ("music.al8", &[1, 2]),
     ("music.ul8", &[1, 2]),
-    ("noise.al8", &[1, 2, 6, 7]),
-    ("noise.ul8", &[1, 2, 7]),
+    ("noise.al8", &[1, 2, 6, 7, 11]),
+    ("noise.ul8", &[1, 2, 7, 11]),
     ("silence.al8", &[2, 3, 5, 6]),
     ("silence.ul8", &[2, 3, 5, 6]),
 ];
@@ -141,7 +142,7 @@ const USED: [(&str, &[u32]); 12] = [
 fn tools_of(stream: &[u8], law: u32) -> Vec<u32> {
     let (mut at, mut tools, mut out) = (0, Vec::new(), [0; 320]);
     while at < stream.len() {
-        let got = Proved.read(&stream[at..], law, 127, &mut out);
+        let got = Proved.read(&stream[at..], law, ALL_TOOLS, &mut out);
         assert_eq!(got.ending, 0);
         tools.push(got.tool);
         at += got.octets;

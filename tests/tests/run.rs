@@ -6,7 +6,7 @@ use std::path::{Path, PathBuf};
 use std::process::{Command, Output};
 use tests::program::repository;
 use tests::recordings::{packed, recordings};
-use tests::{say, Second, MOST};
+use tests::{say, Second, LISTED_TOOLS, MOST};
 
 /// Changed octets that are tried.
 const PLACES: usize = 24;
@@ -18,10 +18,10 @@ fn folder(name: &str) -> PathBuf {
     folder
 }
 
-/// The packed file of the recording that is shown.
+/// The packed file of the recording that is shown: it is listed too, so with the listing program's tools.
 fn stream() -> Vec<u8> {
     let shown = recordings().into_iter().find(|recording| recording.name == "greeting.ul8").unwrap();
-    packed(&Second, &shown.sound, shown.law, 127, 160, MOST).octets
+    packed(&Second, &shown.sound, shown.law, LISTED_TOOLS, 160, MOST).octets
 }
 
 /// A command for AFTER_PACK that puts these octets in the packed file's place.
@@ -81,7 +81,17 @@ fn make_run_fails_if_an_octet_is_changed() {
     let ended = make_run("make", None);
     assert!(ended.status.success(), "{}", text(&ended));
     let said = text(&ended);
-    for part in ["/pack ", "/listing", "/unpack ", "samples=40000", "stop=0 at=", "cmp ", "loss=0 at=0 samples=0 before=0", "stop=66 at=", "stop=1 at=4 tool=0 bit=8"] {
+    for part in [
+        "/pack ",
+        "/listing",
+        "/unpack ",
+        "samples=40000",
+        "stop=0 at=",
+        "cmp ",
+        "loss=0 at=0 samples=0 before=0",
+        "stop=66 at=",
+        "stop=1 at=4 tool=0 bit=8",
+    ] {
         assert!(said.contains(part), "{part}\n{said}");
     }
     let mut other = stream();

@@ -1,5 +1,6 @@
 //! The runner itself: back ends that are wrong in one way each, and every one must be found out.
 
+use tests::wrong::{Wrong, READING, WRITING};
 use tests::{check, vectors, Codec, Compared, Read, Second, Vector, Walk, Write, MOST, MOST_LISTED};
 
 /// The second program, spoilt.
@@ -39,7 +40,7 @@ impl Codec for Spoilt {
 
     fn write(&self, samples: &[u8], law: u32, set: u32, out: &mut [u8]) -> Write {
         if self.0 == "writes tool 1 always" {
-            return Second.write(samples, law, set & !126, out);
+            return Second.write(samples, law, set & !254, out);
         }
         let mut got = Second.write(samples, law, set, out);
         match self.0 {
@@ -78,6 +79,9 @@ impl Codec for Spoilt {
             return Second.listing(&input[..1 + MOST_LISTED]);
         }
         let mut text = Second.listing(input)?;
+        if self.0 == "lists tool 11 as if it were read" {
+            text = String::from_utf8(text).ok()?.replace("stop=3 at=1 tool=11", "stop=0 at=1 tool=0").into_bytes();
+        }
         if self.0 == "ends its last line with no 0A" {
             text.pop();
         }
@@ -91,6 +95,7 @@ fn all_vectors() -> Vec<Vector> {
         include_str!("../vectors/unusual.txt"),
         include_str!("../vectors/faulty.txt"),
         include_str!("../vectors/open-points.txt"),
+        include_str!("../vectors/fractional.txt"),
     ];
     files.iter().flat_map(|text| vectors(text).unwrap()).collect()
 }
@@ -141,9 +146,20 @@ fn every_spoilt_back_end_is_found_out() {
         "walks one octet more",
         "walks no more than is listed",
         "lists as much as it walks",
+        "lists tool 11 as if it were read",
     ] {
         assert!(!faults(&Spoilt(way), &vectors).is_empty(), "a back end that {way} was not found out");
     }
+}
+
+/// Those that are wrong about tool 11, by the vectors alone.
+#[test]
+fn every_wrong_tool_11_is_found_out() {
+    let vectors = all_vectors();
+    for way in READING.into_iter().chain(WRITING) {
+        assert!(!faults(&Wrong(way), &vectors).is_empty(), "a back end that {way} was not found out");
+    }
+    assert_eq!(faults(&Wrong("is as it should be"), &vectors), Vec::<String>::new());
 }
 
 #[test]

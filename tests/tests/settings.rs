@@ -212,7 +212,7 @@ fn check_left(keepers: &mut Keepers, before: &State, call: &Call, state: State, 
 /// Saves a text over something saved; LINE changes nothing, and what is taken reads back.
 fn try_text(keepers: &mut Keepers, text: &[u8], good: bool) {
     let mut history = History::new(0);
-    history.answer(&Call::Save(text_of([1, 127, 16_384, 0])));
+    history.answer(&Call::Save(text_of([1, 255, 16_384, 0])));
     let mut state = history.state();
     let call = Call::Save(text.to_vec());
     keepers.call_as(&mut state, &call, if good { Told { ending: 0, told: 2 } } else { Told::refused(LINE) });
@@ -258,7 +258,7 @@ fn every_octet_of_a_text() {
         try_text(keepers, text, good);
         taken[usize::from(good)] += 1;
     };
-    for values in [[1, 127, 16_384, 0], [0, 9, 1, 65_535], [1, 100, 1_048_576, 10]] {
+    for values in [[1, 255, 16_384, 0], [0, 9, 1, 65_535], [1, 100, 1_048_576, 10]] {
         let text = text_of(values);
         for at in 0..=text.len() {
             tried(&mut keepers, &text[..at]);
@@ -291,7 +291,7 @@ fn every_value() {
     for (line, ranges) in ranges.into_iter().enumerate() {
         let (_, least, greatest) = LINES[line];
         for value in ranges.into_iter().flatten().chain(far.iter().copied()) {
-            let mut values: [u128; 4] = [1, 127, 16_384, 0];
+            let mut values: [u128; 4] = [1, 255, 16_384, 0];
             values[line] = value;
             let inside = (u128::from(least)..=u128::from(greatest)).contains(&value);
             try_text(&mut keepers, &text_of(values), inside);
@@ -300,7 +300,7 @@ fn every_value() {
     }
     keepers.close();
     say(&format!("compared: settings, every value: {refused} refused, {good} taken\n"));
-    assert_eq!(good, 2 + 128 + 2_999 + 1_577 + 65_536);
+    assert_eq!(good, 2 + 256 + 2_999 + 1_577 + 65_536);
 }
 
 /// The second program, wrong in one way.
@@ -322,9 +322,11 @@ enum Fault {
     TextOfARefusal,
     ReportOfARefusal,
     RowsNotClosedUp,
+    SetTo127,
+    SetOneMore,
 }
 
-const FAULTS: [Fault; 16] = [
+const FAULTS: [Fault; 18] = [
     Fault::NumbersAgainAfterAWipe,
     Fault::WipeLeavesTheRows,
     Fault::NewestPushedOut,
@@ -341,6 +343,8 @@ const FAULTS: [Fault; 16] = [
     Fault::TextOfARefusal,
     Fault::ReportOfARefusal,
     Fault::RowsNotClosedUp,
+    Fault::SetTo127,
+    Fault::SetOneMore,
 ];
 
 struct Wrong(Fault);
@@ -376,6 +380,9 @@ impl Keeper for Wrong {
         match self.0 {
             Fault::SpentBeforeLine if state[0] == u32::MAX => return Told::refused(SPENT),
             Fault::BlockOneMore => given = String::from_utf8_lossy(text).replace("1048577", "1048576").into_bytes(),
+            // The set line goes to 255.
+            Fault::SetTo127 if values_of(text).is_some_and(|values| values[1] > 127) => return Told::refused(LINE),
+            Fault::SetOneMore => given = String::from_utf8_lossy(text).replace("set=256\n", "set=255\n").into_bytes(),
             Fault::LastEndLeftOut if !text.ends_with(b"\n") => given.push(b'\n'),
             _ => {}
         }

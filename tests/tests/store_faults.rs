@@ -9,7 +9,7 @@ use tests::store::{
     Call, Keeps, Step, Stores, Told, ABSENT, BAD, BEYOND, BLOCK, DAMAGES, FORM, FULL, GREETINGS, LAW, MARKS, MORE_ROWS,
     MOST_BLOCK, MOST_WITHOUT, NOROOM, NUMBER, PARTS, ROOM, TABLE, TAKEN,
 };
-use tests::{say, Codec, Second, MOST};
+use tests::{say, Codec, Second, ALL_TOOLS, LISTED_TOOLS, MOST};
 
 /// Makes an enum and the list of all that it has.
 macro_rules! faults {
@@ -114,6 +114,10 @@ faults!(
     AnyForm,
     OldLong,
     OldBlock,
+    // Fractional-bit frames.
+    OldToolsPut,
+    OldToolsLoaded,
+    OldToolsJumped,
 );
 
 struct Wrong(Fault);
@@ -152,6 +156,7 @@ impl Wrong {
             Fault::NoRoomBeforeFull if full && short && put == Err(FULL) => Some(NOROOM),
             Fault::LongIsNoRoom if octets.len() > MOST && free => Some(NOROOM),
             Fault::OldLong if octets.len() > 65_535 && free => Some(BAD),
+            Fault::OldToolsPut if free && needs_tool_11(octets) => Some(BAD),
             Fault::OldBlock if put.is_ok() && store.held() + octets.len() > BLOCK => Some(NOROOM),
             Fault::EmptyIsTaken if octets.is_empty() && free => Some(NUMBER),
             Fault::NoRoomByLargestGap if gap.is_none() && put.is_ok() => Some(NOROOM),
@@ -216,12 +221,17 @@ impl Wrong {
     }
 }
 
+/// Whether a walk with the older set stops at a frame of tool 11.
+fn needs_tool_11(octets: &[u8]) -> bool {
+    Codec::walk(&Second, octets, 1, LISTED_TOOLS, &mut vec![0; 320 * octets.len().min(MOST)]).tool == 11
+}
+
 /// Octets and samples of each frame of a good greeting.
 fn lengths(octets: &[u8]) -> Vec<(usize, usize)> {
     let mut lengths = Vec::new();
     let mut at = 0;
     while at < octets.len() {
-        let read = Codec::read(&Second, &octets[at..], 1, 127, &mut [0; 320]);
+        let read = Codec::read(&Second, &octets[at..], 1, ALL_TOOLS, &mut [0; 320]);
         assert_eq!(read.ending, 0);
         lengths.push((read.octets, read.samples));
         at += read.octets;
@@ -460,7 +470,8 @@ impl Wrong {
             return None;
         }
         for passed in 0..most {
-            let read = Codec::read(&Second, octets.get(place..)?, row.law, 127, &mut [0; 320]);
+            let set = if self.0 == Fault::OldToolsJumped { LISTED_TOOLS } else { ALL_TOOLS };
+            let read = Codec::read(&Second, octets.get(place..)?, row.law, set, &mut [0; 320]);
             if read.ending != 0 {
                 return None;
             }
@@ -642,6 +653,13 @@ impl Keeps for Wrong {
                 (0..lent[0] as usize).for_each(|row| lent[MORE_ROWS + 1 + 3 * row] = 0);
             }
             Fault::TableOf97 if told.ending == 0 => lent[MORE_ROWS] = 0,
+            Fault::OldToolsLoaded if told.ending == 0 => {
+                let store = opened(block, lent).expect("it was just loaded");
+                let needs = |row: &Greeting| needs_tool_11(&block[row.start..row.start + row.octets]);
+                if store.greetings.iter().any(needs) {
+                    told = Told::refused(BAD);
+                }
+            }
             _ => {}
         }
         told

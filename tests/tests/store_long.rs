@@ -11,7 +11,7 @@ use tests::store::{
     BLOCK, DAMAGES, FIRST_LINES, FORM, MARKS, MORE_ROWS, MOST_BLOCK, MOST_WITHOUT, NOROOM, TABLE,
 };
 use tests::streams::plain_frames;
-use tests::{say, share, Proved, Second, Table, MOST};
+use tests::{say, share, Codec, Proved, Second, Table, ALL_TOOLS, LISTED_TOOLS, MOST};
 
 const KEEPERS: [(&str, &dyn Keeps); 2] = [("proved", &Proved), ("second", &Second)];
 /// What a cell of a table of damaged texts needs.
@@ -74,20 +74,28 @@ fn counted(table: &mut Table, profile: &Profile, call: &Call, told: Told, stores
 }
 
 /// What the back end saves, read by a box from before R-11: never a shortened number. With form=2 it is TABLE, whatever follows that
-/// line; without it the store is the same where it lies in the old box's block, and else TABLE.
+/// line; without it the store is the same where it lies in the old box's block, and else TABLE. It has the older tools, so that a
+/// greeting with a frame of tool 11 is BAD to it.
 fn read_by_an_old_box(stores: &mut Stores) -> u32 {
     stores.call(&Call::Save(stores.room()));
-    let told = old_reads(&stores.text, stores.model.block.clone());
+    let model = &stores.model;
+    let told = old_reads(&stores.text, model.block.clone());
     let inside = |row: &Greeting| row.start + row.octets <= BLOCK;
-    let wanted = if stores.text.starts_with(FORM) || !stores.model.greetings.iter().all(inside) {
-        Err(TABLE)
-    } else {
-        Ok(stores.model.clone())
+    let newer = |row: &Greeting| needs_tool_11(&model.block[row.start..row.start + row.octets], row.law);
+    let wanted = match stores.text.starts_with(FORM) || !model.greetings.iter().all(inside) {
+        true => Err(TABLE),
+        false if model.greetings.iter().any(newer) => Err(BAD),
+        false => Ok(model.clone()),
     };
     if told != wanted {
         stores.differ("an old box", "it reads a saved table otherwise");
     }
     told.err().unwrap_or(0)
+}
+
+/// Whether a walk with the older set stops at a frame of tool 11.
+fn needs_tool_11(octets: &[u8], law: u32) -> bool {
+    Codec::walk(&Second, octets, law, LISTED_TOOLS, &mut vec![0; 320 * octets.len()]).tool == 11
 }
 
 #[test]
@@ -105,19 +113,28 @@ fn any_list_of_calls_of_the_second_program() {
 fn old_boxes() {
     let mut rng = Prng::new(1102);
     let mut stores = Stores::new(&Proved, Vec::new());
-    let columns = ["read alike", "TABLE"];
+    let columns = ["read alike", "TABLE", "BAD"];
     let rows = ["up to 16,384", "up to 65,535", "larger"];
     let mut table =
         Table::new("store, saved tables read by an old box, by octets of the block", &rows, &columns, share(20));
     table.never("up to 16,384", "TABLE");
-    table.never("larger", "read alike");
+    ["read alike", "BAD"].iter().for_each(|column| table.never("larger", column));
     let mut all = profiles(&mut rng);
     // Blocks in which some stores lie in an old box's, and some do not.
-    all.extend([BLOCK + 1, 40_000, MOST_WITHOUT].map(|block| {
-        let pool = (0..20).map(|_| plain_frames(1 + rng.below(block / 3_000), &mut Prng::new(block as u64))).collect();
+    let last = [&[][..], &[0x02, 0x55, 0x55, 0x55, 0x55, 0x55]];
+    let blocks = [(BLOCK + 1, 0), (40_000, 0), (MOST_WITHOUT, 0), (BLOCK + 1, 1), (40_000, 1)];
+    all.extend(blocks.map(|(block, newer)| {
+        let frames = |_| plain_frames(1 + rng.below(block / 3_000), &mut Prng::new(block as u64));
+        let pool = (0..20).map(frames).map(|octets| [&octets[..], last[newer]].concat()).collect();
         Profile { block, numbers: 12, pool }
     }));
     all.extend(large_profiles(&mut rng).into_iter().take(3));
+    // The same with greetings of the older tools alone.
+    let older = all.iter().map(|Profile { block, numbers, pool }| {
+        let listed = pool.iter().filter(|octets| !needs_tool_11(octets, 1)).cloned().chain([vec![0x41]]);
+        Profile { block: *block, numbers: *numbers, pool: listed.collect() }
+    });
+    let all: Vec<Profile> = older.collect::<Vec<_>>().into_iter().chain(all).collect();
     for turn in 0..share(400) {
         let profile = &all[turn % all.len()];
         some_store(profile, &mut stores, &mut rng);
@@ -127,7 +144,8 @@ fn old_boxes() {
             _ => rows[2],
         };
         let ending = read_by_an_old_box(&mut stores);
-        table.add(row, if ending == 0 { columns[0] } else { columns[1] });
+        let column = [0, TABLE, BAD].iter().position(|known| *known == ending).expect("an old box says no more");
+        table.add(row, columns[column]);
         let lines = text_of(&stores.model.greetings);
         let behind = &lines[..rng.below(lines.len() + 1)];
         for text in
@@ -444,7 +462,7 @@ fn two_minutes_stored() {
         for recording in two_minutes() {
             let lengths = if recording.law == 1 { [160, 40] } else { [320, 80] };
             for length in lengths {
-                let stream = packed(&Second, &recording.sound, recording.law, 127, length, MOST);
+                let stream = packed(&Second, &recording.sound, recording.law, ALL_TOOLS, length, MOST);
                 assert_eq!(stream.samples, 120 * 8_000, "all of it is packed");
                 assert!(stream.octets.len() > 8 * MOST_WITHOUT, "{} octets", stream.octets.len());
                 octets.push(stream.octets.len());

@@ -7,7 +7,7 @@ use tests::store::{
     early_text_of, ending_name, frames_of, profiles, rows_of, short_frames, some_store, Call, Frames, Keeps, Stores,
     Told, BEYOND, BLOCK, MARKS, MORE_ROWS, TABLE,
 };
-use tests::{in_share, say, share, Proved, Second, Table};
+use tests::{in_share, say, share, Proved, Second, Table, ALL_TOOLS, TOOLS};
 
 const KEEPERS: [(&str, &dyn Keeps); 2] = [("proved", &Proved), ("second", &Second)];
 
@@ -145,15 +145,14 @@ fn every_sample_with_all_tools() {
     for (name, keeper) in KEEPERS {
         let mut rng = Prng::new(802);
         let mut stores = Stores::new(keeper, Vec::new());
-        let tools = [1, 2, 3, 4, 5, 6, 7];
         let title = format!("store, {name}, samples jumped to, by tool and length of the frame");
-        let mut table = Table::new(&title, &tools, &LENGTHS, share(1_000));
+        let mut table = Table::new(&title, &TOOLS, &LENGTHS, share(1_000));
         table.never(7, 40);
         let (mut greetings, mut equal) = (0, 0);
         for turn in 0..share(30) {
             let law = turn as u32 % 2;
             let lengths = |tool: u32| LENGTHS.map(|length| (tool, length));
-            let mut kinds: Vec<(u32, usize)> = tools.into_iter().flat_map(lengths).chain([(0, 0); 60]).collect();
+            let mut kinds: Vec<(u32, usize)> = TOOLS.into_iter().flat_map(lengths).chain([(0, 0); 60]).collect();
             rng.shuffle(&mut kinds);
             let mut octets = Vec::new();
             for (tool, length) in kinds {
@@ -171,7 +170,7 @@ fn every_sample_with_all_tools() {
                 jump(&mut stores, 8, &all, sample);
             }
             for (at, (place, _)) in all.before.iter().enumerate() {
-                let read = keeper.reader().read(&octets[*place..], law, 127, &mut [0; 320]);
+                let read = keeper.reader().read(&octets[*place..], law, ALL_TOOLS, &mut [0; 320]);
                 let end = all.before.get(at + 1).map_or(octets.len(), |next| next.0);
                 assert_eq!(read.octets, end - place);
                 if read.tool != 0 {

@@ -9,9 +9,10 @@ use tests::program::{listing, repository, run};
 use tests::recordings::{recordings, Recording};
 use tests::streams::Stream;
 use tests::tools::{
-    law_words, pack_wanted, plus_zero, same, unpack_wanted, verify_wanted, Room, Stop, DIFFERS, FILES, USAGE,
+    law_words, pack_wanted, plus_zero, same, unpack_wanted, verify_wanted, Room, Stop, DIFFERS, FILES, PACKED_WITH,
+    READ_WITH, USAGE,
 };
-use tests::{faults, say, Codec, Second, MOST, MOST_LISTED};
+use tests::{faults, say, Codec, Second, LISTED_TOOLS, MOST, MOST_LISTED};
 
 fn room(name: &str) -> Room {
     Room::new(env!("CARGO_TARGET_TMPDIR"), name)
@@ -39,7 +40,7 @@ fn every_recording() {
     for recording in recordings() {
         room.put(&recording.name, &recording.sound);
         for length in LENGTHS {
-            let sets: &[u32] = if length == 160 { &[1, 31, 63, 95, 127] } else { &[1, 127] };
+            let sets: &[u32] = if length == 160 { &[1, 31, 63, 95, 127, 129, 255] } else { &[1, 127, 255] };
             sets.iter().for_each(|set| packed_and_back(&mut room, &recording, length, *set));
         }
     }
@@ -59,14 +60,44 @@ fn packed_and_back(room: &mut Room, recording: &Recording, length: usize, set: u
     same(&ran.line, &room.take("sound"), sound);
 }
 
-/// The listing of a packed stream: the second program's text, with the right sums.
+/// The listing of a packed stream: the second program's text, with the right sums. It keeps the older tools (document 02, R-14), and
+/// so it stops at the first frame of tool 11.
 fn lists(law: u32, stream: &[u8], frames: usize, samples: usize) {
+    let walked = Second.walk(stream, law, LISTED_TOOLS, &mut vec![0; samples]);
+    let (frames, samples, stop) = match walked.tool {
+        11 => (walked.frames, walked.samples, 3),
+        _ => (frames, samples, 0),
+    };
     let input = [&[b"AM"[law as usize]], stream].concat();
     let text = listing(&input);
     same("listing", &text, &Second.listing(&input).unwrap());
     let text = String::from_utf8(text).unwrap();
     assert_eq!(text.lines().filter(|line| line.starts_with("frame=")).count(), frames);
-    assert!(text.ends_with(&format!("\nstop=0 at={} tool=0 bit=0\nsamples={samples}\n", stream.len())), "{text}");
+    let (at, tool) = (if stop == 0 { stream.len() } else { walked.place }, walked.tool);
+    assert!(text.ends_with(&format!("\nstop={stop} at={at} tool={tool} bit=0\nsamples={samples}\n")), "{text}");
+}
+
+/// Tool 11 is written only where a set is said that has it, so that boxes that lack it read what is packed; it is read unless the set
+/// that is said lacks it (docs/DECISIONS.md, 14.11).
+#[test]
+fn few_values_where_they_are_asked_for() {
+    let mut room = room("few-values");
+    let sound: Vec<u8> = (0..40).map(|at| 0xFF - at % 2).collect();
+    let plain = [&[0x40], &sound[..]].concat();
+    let few = [0x02, 0x55, 0x55, 0x55, 0x55, 0x55];
+    let whole = Stop::new(0, 40, 0);
+    room.run("pack", "-u -n40", &sound).ends(whole).writes(&plain);
+    room.run("pack", "-u -n40 -s127", &sound).ends(whole).writes(&plain);
+    room.run("pack", "-u -n40 -s255", &sound).ends(whole).writes(&few);
+    room.run("pack", "-u -n40 -s129", &sound).ends(whole).writes(&few);
+    room.run("unpack", "-u", &plain).ends(Stop::new(0, 41, 0)).writes(&sound);
+    room.run("unpack", "-u", &few).ends(Stop::new(0, 6, 0)).writes(&sound);
+    room.run("unpack", "-u -s128", &few).ends(Stop::new(0, 6, 0)).writes(&sound);
+    room.run("unpack", "-u -s127", &few).ends(Stop::new(3, 0, 11)).writes(&[]);
+    let said = |out: &[u8], line: &str| assert!(String::from_utf8_lossy(out).contains(line), "{line}");
+    said(&room.run("why", "-u -n40", &sound).out, "tool=11 state=out why=0 octets=0\nwinner=1 by=octets\n");
+    said(&room.run("why", "-u -n40 -s255", &sound).out, "tool=11 state=fits why=0 octets=6\nwinner=11 by=octets\n");
+    tell("few values, packed and read with and without tool 11", &room);
 }
 
 /// Sounds of every multiple of 40 to 1,000 samples, so that the end is split in every way, through the standard streams.
@@ -77,7 +108,7 @@ fn every_end() {
         for (turn, length) in LENGTHS.into_iter().enumerate() {
             let law = (samples / 40 + turn) as u32 % 2;
             let sound = some_sound(&all, law, samples, &mut rng);
-            let wanted = pack_wanted(&sound, law, 127, length, false);
+            let wanted = pack_wanted(&sound, law, PACKED_WITH, length, false);
             let (frames, octets) = (wanted.stream.frames, &wanted.stream.octets);
             let (option, _, _) = law_words(law);
             let ran = room.run("pack", &format!("{option} -n{length}"), &sound);
@@ -97,7 +128,7 @@ fn every_sound_filled() {
     for samples in 0..=400 {
         let (law, length) = (samples as u32 % 2, LENGTHS[samples / 2 % 5]);
         let sound = some_sound(&all, law, samples, &mut rng);
-        let wanted = pack_wanted(&sound, law, 127, length, true);
+        let wanted = pack_wanted(&sound, law, PACKED_WITH, length, true);
         let (option, _, _) = law_words(law);
         let ran = room.run("pack", &format!("-f -n{length} {option}"), &sound);
         ran.ends(wanted.stop).writes(&wanted.stream.octets);
@@ -146,7 +177,7 @@ fn sound_of_a_stream_of(octets: usize, length: usize, law: u32, rng: &mut Prng) 
 fn just_as_many_octets(room: &mut Room, octets: usize, length: usize, law: u32, rng: &mut Prng) -> Vec<u8> {
     let (_, raw, lc) = law_words(law);
     let sound = sound_of_a_stream_of(octets, length, law, rng);
-    let whole = pack_wanted(&sound, law, 127, length, false);
+    let whole = pack_wanted(&sound, law, PACKED_WITH, length, false);
     assert_eq!((whole.stop.number, whole.stream.octets.len()), (0, octets));
     room.put(&format!("whole.{raw}"), &sound);
     let ran = room.run("pack", &format!("-n{length} whole.{raw}"), &[]);
@@ -171,7 +202,7 @@ fn streams_that_are_just_listed() {
                 let input = [&[b"AM"[law as usize]], &stream[..]].concat();
                 assert_eq!(listing(&input), b"stop=13 at=0 tool=0 bit=0\n");
             } else {
-                lists(law, &stream, pack_wanted(&sound, law, 127, length, false).stream.frames, sound.len());
+                lists(law, &stream, pack_wanted(&sound, law, PACKED_WITH, length, false).stream.frames, sound.len());
             }
         }
     }
@@ -188,7 +219,7 @@ fn the_longest_streams() {
         // One frame more, which would be one octet, or many, or a part of a frame that would be filled up.
         for (more, options) in [(length, ""), (40, ""), (1_000_000, ""), (7, "-f")] {
             let longer = [&sound[..], &vec![plus_zero(law); more]].concat();
-            let wanted = pack_wanted(&longer, law, 127, length, options == "-f");
+            let wanted = pack_wanted(&longer, law, PACKED_WITH, length, options == "-f");
             assert_eq!(wanted.stop, Stop::new(13, sound.len(), 0));
             room.put(&format!("longer.{raw}"), &longer);
             let ran = room.run("pack", &format!("{options} -n{length} longer.{raw}"), &[]);
@@ -198,7 +229,7 @@ fn the_longest_streams() {
         }
         // A longest frame that ends too late by one octet.
         let late = [&sound[..sound.len() - length], &rng.octets(length)].concat();
-        let wanted = pack_wanted(&late, law, 127, length, false);
+        let wanted = pack_wanted(&late, law, PACKED_WITH, length, false);
         assert_eq!(wanted.stop, Stop::new(13, sound.len() - length, 0));
         room.run("pack", &format!("-n{length} {option}"), &late).ends(wanted.stop).writes(&[]);
     }
@@ -256,24 +287,24 @@ fn faulty_streams() {
             let Some(made) = fault.possible(length).then(|| fault.make(length, &mut rng)).flatten() else { continue };
             let most = *rng.pick(&[0, 300, 1_500]);
             let before = Stream::mixed(most, law, &mut rng).octets;
-            numbers[unpacked(&mut room, &[before, made.octets].concat(), law, 127) as usize] += 1;
+            numbers[unpacked(&mut room, &[before, made.octets].concat(), law, READ_WITH) as usize] += 1;
         }
     }
-    // First octets that are not assigned or not carried, and frames that are cut.
+    // First octets that are not assigned or not carried, and frames that are cut; 02 and 1F begin tool 11.
     for first in [0x01, 0x46, 0x85, 0xC7, 0x02, 0x1F, 0x26, 0x45, 0x48, 0x60, 0xC8, 0xFF, 0x50, 0x91, 0x28] {
         let before = Stream::mixed(400, 1, &mut rng).octets;
-        numbers[unpacked(&mut room, &[&before[..], &[first, 0x00, 0x41]].concat(), 1, 127) as usize] += 1;
-        numbers[unpacked(&mut room, &[&before[..], &[first]].concat(), 0, 127) as usize] += 1;
+        numbers[unpacked(&mut room, &[&before[..], &[first, 0x00, 0x41]].concat(), 1, READ_WITH) as usize] += 1;
+        numbers[unpacked(&mut room, &[&before[..], &[first]].concat(), 0, READ_WITH) as usize] += 1;
     }
     // Cut anywhere, damaged in any way, and tools left out of the set.
     for turn in 0..60 {
         let (law, most) = (turn % 2, 100 + rng.below(2_000));
         let whole = Stream::mixed(most, law, &mut rng).octets;
-        numbers[unpacked(&mut room, &whole[..rng.below(whole.len())], law, 127) as usize] += 1;
-        numbers[unpacked(&mut room, &damage_somehow(&whole, &mut rng), law, 127) as usize] += 1;
-        numbers[unpacked(&mut room, &whole, law, rng.below(128) as u32) as usize] += 1;
+        numbers[unpacked(&mut room, &whole[..rng.below(whole.len())], law, READ_WITH) as usize] += 1;
+        numbers[unpacked(&mut room, &damage_somehow(&whole, &mut rng), law, READ_WITH) as usize] += 1;
+        numbers[unpacked(&mut room, &whole, law, rng.below(256) as u32) as usize] += 1;
         let frame = some_form(law, &mut rng).octets();
-        numbers[unpacked(&mut room, &frame[..frame.len() - 1], law, 127) as usize] += 1;
+        numbers[unpacked(&mut room, &frame[..frame.len() - 1], law, READ_WITH) as usize] += 1;
     }
     for number in [1, 2, 3, 5, 6, 7, 8, 9] {
         assert!(numbers[number] >= 4, "refusal {number} came {} times", numbers[number]);
@@ -293,7 +324,7 @@ fn faulty_streams_into_files() {
         let law = turn % 2;
         let before = Stream::mixed(900, law, &mut rng).octets;
         let stream = [&before[..], &[0x46]].concat();
-        let wanted = unpack_wanted(&stream, law, 127);
+        let wanted = unpack_wanted(&stream, law, READ_WITH);
         room.put("in", &stream);
         room.put("out", b"what stood here before");
         let ran = room.run("unpack", &format!("{} in out", law_words(law).0), &[]);
@@ -306,7 +337,7 @@ fn faulty_streams_into_files() {
 // ---- a greeting held against its master
 
 fn verified(room: &mut Room, stream: &[u8], law: u32, master: &[u8]) -> Stop {
-    let wanted = verify_wanted(stream, law, 127, master);
+    let wanted = verify_wanted(stream, law, READ_WITH, master);
     let (option, _, lc) = law_words(law);
     room.put(&format!("greeting.{lc}"), stream);
     room.put("master", master);
@@ -323,7 +354,7 @@ fn a_master() {
     for recording in recordings().iter().filter(|one| one.name.starts_with("greeting") || one.name.starts_with("hum")) {
         let Recording { name, law, sound } = recording;
         let mut room = room(&format!("master-{name}"));
-        let stream = pack_wanted(sound, *law, 127, 160, false).stream.octets;
+        let stream = pack_wanted(sound, *law, PACKED_WITH, 160, false).stream.octets;
         let last = sound.len() - 1;
         assert_eq!(verified(&mut room, &stream, *law, sound), Stop::new(0, stream.len(), 0));
         for place in [0, 1, 39, 159, 160, 161, 12_345, 16_383, 16_384, 20_000, last - 160, last - 1, last] {
@@ -371,14 +402,14 @@ fn names_of_files() {
         ("h.ul8", "-a h.ul8", 0, "h.lca"),
         ("i.j.al8", "i.j.al8", 0, "i.j.lca"),
         ("k.al8", "k.al8 other.name", 0, "other.name"),
-        ("l.al8", "-n40 -s127 l.al8", 0, "l.lca"),
+        ("l.al8", "-n40 -s255 l.al8", 0, "l.lca"),
     ];
     for (file, words, law, made) in packs {
         room.put(file, &sound(law));
         let length = if words.contains("-n40") { 40 } else { 160 };
         let ran = room.run("pack", words, &[]);
         ran.ends(Stop::new(0, 200, 0)).writes(&[]);
-        same(&ran.line, &room.take(made), &pack_wanted(&sound(law), law, 127, length, false).stream.octets);
+        same(&ran.line, &room.take(made), &pack_wanted(&sound(law), law, PACKED_WITH, length, false).stream.octets);
     }
     let unpacks = [
         ("m.lcm", "m.lcm", 1, "m.muo"),
@@ -386,7 +417,7 @@ fn names_of_files() {
         ("o.bin", "-u o.bin", 1, "o.bin.muo"),
         ("p", "-a p", 0, "p.alo"),
         ("q.lcm", "-a q.lcm", 0, "q.alo"),
-        ("r.lcm", "-s127 r.lcm other.sound", 1, "other.sound"),
+        ("r.lcm", "-s255 r.lcm other.sound", 1, "other.sound"),
     ];
     for (file, words, law, made) in unpacks {
         room.put(file, &[0x41, 0x00, 0xC1]);
@@ -425,7 +456,7 @@ fn options_in_any_order() {
         assert_eq!(ran.said("filled"), Some(wanted.filled), "{}\n{}", ran.line, ran.err);
     }
     room.put("master", &[0xD5; 40]);
-    for words in ["-a -s127 -c master", "-c master -a -s127", "-s2 -c master -a", "-s2 -a -c master -"] {
+    for words in ["-a -s255 -c master", "-c master -a -s127", "-s2 -c master -a", "-s130 -a -c master -"] {
         room.run("unpack", words, &[0x41]).ends(Stop::new(0, 1, 0)).writes(&[]);
     }
     tell("options in any order", &room);
@@ -500,10 +531,10 @@ fn called_wrongly() {
 #[test]
 fn sets_and_lengths() {
     let mut room = set_up("sets");
-    for number in ["0", "2", "64", "126", "128", "129", "255", "1000", "65535"] {
+    for number in ["0", "2", "64", "126", "128", "254", "256", "257", "1000", "65535"] {
         refused(&mut room, "pack", 11, &[&format!("-u -s{number}"), &format!("-s{number} a.ul8 kept")]);
     }
-    for number in ["128", "129", "255", "1000", "65535"] {
+    for number in ["256", "257", "511", "1000", "65535"] {
         refused(&mut room, "unpack", 11, &[&format!("-u -s{number}"), &format!("-s{number} a.lcm kept")]);
     }
     for number in
@@ -513,9 +544,9 @@ fn sets_and_lengths() {
     }
     // The order: usage, SET, LENGTH, then files.
     refused(&mut room, "pack", USAGE, &["-s2 -x -u", "-n41 -s2 a.xyz", "-s2 a.ul8 kept more"]);
-    refused(&mut room, "pack", 11, &["-n41 -s2 -u", "-s2 -n41 missing.ul8", "-s128 missing.ul8"]);
+    refused(&mut room, "pack", 11, &["-n41 -s2 -u", "-s2 -n41 missing.ul8", "-s128 missing.ul8", "-s257 missing.ul8"]);
     refused(&mut room, "pack", 10, &["-n41 missing.ul8", "-n41 -s1 a.ul8 missing/kept"]);
-    refused(&mut room, "unpack", 11, &["-s128 missing.lcm", "-s128 -c missing a.lcm", "-s128 a.lcm missing/kept"]);
+    refused(&mut room, "unpack", 11, &["-s256 missing.lcm", "-s256 -c missing a.lcm", "-s256 a.lcm missing/kept"]);
     tell("sets and lengths refused", &room);
 }
 

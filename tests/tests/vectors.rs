@@ -8,8 +8,8 @@ fn backs() -> Vec<Box<dyn Codec>> {
 }
 
 /// The files that a test below runs.
-const FILES: [&str; 6] =
-    ["usual.txt", "unusual.txt", "faulty.txt", "open-points.txt", "windows.txt", "first-octet.txt"];
+const FILES: [&str; 7] =
+    ["usual.txt", "unusual.txt", "faulty.txt", "open-points.txt", "windows.txt", "fractional.txt", "first-octet.txt"];
 
 /// The files that tests of their own run.
 const OTHERS: [&str; 5] = ["settings.txt", "why.txt", "mend.txt", "store.txt", "file.txt"];
@@ -68,6 +68,11 @@ fn windows() {
 }
 
 #[test]
+fn fractional() {
+    run("fractional.txt");
+}
+
+#[test]
 fn first_octet() {
     let firsts = firsts(&text("first-octet.txt")).unwrap_or_else(|fault| panic!("first-octet.txt: {fault}"));
     for codec in backs() {
@@ -91,7 +96,7 @@ fn no_file_is_left_out() {
 #[test]
 fn the_marked_cases_are_all_there() {
     let all: Vec<String> =
-        FILES[..5].iter().flat_map(|file| vectors(&text(file)).unwrap()).map(|vector| vector.name).collect();
+        FILES[..6].iter().flat_map(|file| vectors(&text(file)).unwrap()).map(|vector| vector.name).collect();
     for n in 1..=16 {
         assert!(all.contains(&format!("P{n}")), "P{n} is missing");
     }

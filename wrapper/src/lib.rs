@@ -1,4 +1,4 @@
-//! G.711.0 frames of the seven carried tools, read, written and walked by the proved code of libg7110.a; frames of samples
+//! G.711.0 frames of the eight carried tools, read, written and walked by the proved code of libg7110.a; frames of samples
 //! converted to linear values and back; [`why`] a frame takes its tool; a box's [`settings`], saved and put back; a damaged
 //! greeting, [`mending`] it; a [`store`] of greetings, its table [`saved`] and loaded; and a [`recording`] of a studio, whose lost
 //! frames are handed on as lost.
@@ -17,7 +17,7 @@ pub mod settings;
 pub mod store;
 
 #[cfg(feature = "writer")]
-pub use reasons::{why, Reasons, State, WHY_TEXT};
+pub use reasons::{why, Reasons, State, TOOLS, WHY_TEXT};
 
 use std::fmt;
 
@@ -38,11 +38,11 @@ impl Law {
 }
 
 /// The header's version.
-pub const VERSION: u32 = 11;
+pub const VERSION: u32 = 12;
 /// Octets of stack that a call uses at most: measured, not proved.
 pub const STACK: usize = 8_192;
-/// Every carried tool. Tool t, 1 to 7, adds 2^(t-1) to a set; a writer's set is odd.
-pub const ALL_TOOLS: u32 = 127;
+/// Every carried tool. Tool t, 1 to 7, adds 2^(t-1) to a set, tool 11 adds 128; a writer's set is odd.
+pub const ALL_TOOLS: u32 = 255;
 /// Samples of the longest frame.
 pub const MAX_SAMPLES: usize = 320;
 /// Octets of the longest written frame.
@@ -122,10 +122,10 @@ impl fmt::Display for Refusal {
             Refusal::Case => "the range case or its flag is not allowed",
             Refusal::Method => "there is no method 110",
             Refusal::Run => "a run is longer than the places left",
-            Refusal::Place => "a listed place is too great or does not rise",
+            Refusal::Place => "a listed place is too great or does not rise, or five samples of tool 11 are no digits",
             Refusal::Align => "a filling bit is not 0",
             Refusal::Length => "a frame has 0, 40, 80, 160, 240 or 320 samples",
-            Refusal::Set => "the tool set is above 127, or even for a writer",
+            Refusal::Set => "the tool set is above 255, or even for a writer",
             Refusal::Law => "the law is above 1",
             Refusal::Long => "the stream has more than 1,048,576 octets",
         })

@@ -3,8 +3,11 @@
 use crate::{raw, Law, Refusal};
 use std::fmt;
 
-/// Octets that the lines are lent. They are at most 480 octets.
+/// Octets that the lines are lent. They are at most 508 octets.
 pub const WHY_TEXT: usize = 512;
+
+/// The tools that the lines name, in their order.
+pub const TOOLS: [u32; 8] = [1, 2, 3, 4, 5, 6, 7, 11];
 
 /// What is said of one tool.
 #[derive(Clone, Copy, Debug, PartialEq, Eq)]
@@ -17,10 +20,10 @@ pub enum State {
     Fits(usize),
 }
 
-/// Why a frame takes its tool: the state of tools 1 to 7, the tool that the writer reports, and whether another one needs as few octets.
+/// Why a frame takes its tool: the states of [`TOOLS`], the tool that the writer reports, and whether another one needs as few octets.
 #[derive(Clone, Copy, Debug, PartialEq, Eq)]
 pub struct Reasons {
-    pub states: [State; 7],
+    pub states: [State; 8],
     pub winner: u32,
     pub tie: bool,
 }
@@ -34,9 +37,12 @@ impl Reasons {
     /// The answer that the lines say.
     pub fn of(text: &str) -> Option<Reasons> {
         let mut lines = text.lines();
-        let mut states = [State::Out; 7];
-        for state in &mut states {
+        let mut states = [State::Out; 8];
+        for (state, tool) in states.iter_mut().zip(TOOLS) {
             let line = lines.next()?;
+            if number(line, "tool=")? as u32 != tool {
+                return None;
+            }
             *state = match line.split(' ').find_map(|field| field.strip_prefix("state="))? {
                 "out" => State::Out,
                 "no" => State::No(number(line, "why=")? as u32),
@@ -48,12 +54,17 @@ impl Reasons {
         let tie = last.ends_with(" by=tie");
         Some(Reasons { states, winner: number(last, "winner=")? as u32, tie })
     }
+
+    /// What is said of a tool, if the lines name it.
+    pub fn state(&self, tool: u32) -> Option<State> {
+        TOOLS.iter().position(|named| *named == tool).map(|at| self.states[at])
+    }
 }
 
 impl fmt::Display for Reasons {
     /// The lines, as the call writes them.
     fn fmt(&self, f: &mut fmt::Formatter) -> fmt::Result {
-        for (tool, state) in (1..).zip(self.states) {
+        for (tool, state) in TOOLS.into_iter().zip(self.states) {
             let (word, why, octets) = match state {
                 State::Out => ("out", 0, 0),
                 State::No(why) => ("no", why, 0),

@@ -33,6 +33,22 @@ fn one_minus_zero_at_the_end() {
     assert_eq!(out, [0x56, 0x0F, 0xA7, 0xA7]);
 }
 
+/// Two values in turn, 40 times: tool 11 has a bit for each sample. Without it the frame stays as it is.
+#[test]
+fn a_frame_of_few_values() {
+    let samples: [u8; 40] = std::array::from_fn(|at| [PLUS, 0xFE][at % 2]);
+    let (mut out, mut sound) = ([0xA7; 42], [0; 40]);
+    assert_eq!(write(&samples, Law::Mu, ALL_TOOLS, &mut out), Ok(Written { octets: 6, bits: 48, tool: 11 }));
+    assert_eq!((&out[..6], out[6]), (&[0x02, 0x55, 0x55, 0x55, 0x55, 0x55][..], 0xA7));
+    let got = Read { samples: 40, octets: 6, bits: 48, tool: 11 };
+    assert_eq!(read(&out, Law::Mu, 128, &mut sound), Ok(got));
+    assert_eq!(sound, samples);
+    assert_eq!(write(&samples, Law::Mu, 127, &mut out), Ok(Written { octets: 41, bits: 328, tool: 1 }));
+    let reasons = why(&samples, Law::Mu, ALL_TOOLS).unwrap();
+    assert_eq!((reasons.winner, reasons.state(11), reasons.state(8)), (11, Some(State::Fits(6)), None));
+    assert_eq!(why(&samples, Law::Mu, 127).unwrap().state(11), Some(State::Out));
+}
+
 #[test]
 fn the_law_decides_the_samples() {
     let mut out = [0; 40];
@@ -64,7 +80,7 @@ fn nothing_is_lent() {
 #[test]
 fn every_refusal_has_its_number() {
     let mut out = [0xA7; 320];
-    let reads: [(&[u8], u32, Refusal, usize); 10] = [
+    let reads: [(&[u8], u32, Refusal, usize); 15] = [
         (&[0x28], 127, Refusal::Short, 8),
         (&[0x46], 127, Refusal::Prefix, 0),
         (&[0x28, 0x00], 127, Refusal::Tool(8), 0),
@@ -74,7 +90,12 @@ fn every_refusal_has_its_number() {
         (&[0x57, 0x19], 127, Refusal::Run, 9),
         (&[0x86, 0xFC, 0xFE], 127, Refusal::Place, 16),
         (&[0x86, 0xFC, 0x01], 127, Refusal::Align, 23),
-        (&[0x41], 128, Refusal::Set, 0),
+        (&[0x02, 0x55], 127, Refusal::Tool(11), 0),
+        (&[0x41], 128, Refusal::Tool(2), 0),
+        (&[0x05, 0x79, 0xF3], 128, Refusal::Place, 16),
+        (&[0x09, 0xFF], ALL_TOOLS, Refusal::Short, 16),
+        (&[0x2C], ALL_TOOLS, Refusal::Tool(9), 0),
+        (&[0x41], 256, Refusal::Set, 0),
     ];
     for (octets, set, why, bit) in reads {
         assert_eq!(read(octets, Law::Mu, set, &mut out), Err(Refused { why, bit }));
@@ -124,7 +145,7 @@ fn a_refused_conversion_writes_nothing() {
 #[test]
 fn why_six_octets() {
     use State::{Fits, Out};
-    let reasons = Reasons { states: [Fits(41), Out, Out, Out, Fits(6), Out, Out], winner: 5, tie: false };
+    let reasons = Reasons { states: [Fits(41), Out, Out, Out, Fits(6), Out, Out, Out], winner: 5, tie: false };
     assert_eq!(why(&[PLUS; 40], Law::Mu, 17), Ok(reasons));
     let (mut text, mut report) = ([0xA7; WHY_TEXT], [9]);
     assert_eq!(g7110::raw::why(&[PLUS; 40], 1, 17, &mut text, &mut report), 0);
@@ -138,14 +159,14 @@ fn why_six_octets() {
 fn why_the_writer_takes_its_tool() {
     let mixed: Vec<u8> = (0..240).map(|at| [PLUS, PLUS, MINUS, 0xFE, 0x7E][at % 31 % 5]).collect();
     for samples in [&[PLUS; 40][..], &[MINUS; 160], &[0x12; 80], &mixed, &mixed[..80], &mixed[..40]] {
-        for set in (1..128).step_by(2) {
+        for set in (1..=ALL_TOOLS).step_by(2) {
             let mut out = [0; MAX_WRITTEN];
             let wrote = write(samples, Law::Mu, set, &mut out).unwrap();
             let reasons = why(samples, Law::Mu, set).unwrap();
             assert_eq!(reasons.winner, wrote.tool);
-            assert_eq!(reasons.states[wrote.tool as usize - 1], State::Fits(wrote.octets));
-            for (state, tool) in reasons.states.iter().zip(0..) {
-                assert_eq!(*state == State::Out, set >> tool & 1 == 0);
+            assert_eq!(reasons.state(wrote.tool), Some(State::Fits(wrote.octets)));
+            for (state, at) in reasons.states.iter().zip(0..) {
+                assert_eq!(*state == State::Out, set >> at & 1 == 0);
             }
         }
     }
@@ -157,7 +178,7 @@ fn why_the_writer_takes_its_tool() {
 #[test]
 fn a_refused_why_says_nothing() {
     let (mut text, mut report) = ([0xA7; WHY_TEXT], [9]);
-    for (len, law, set, number) in [(41, 2, 126, 12), (41, 1, 126, 11), (41, 1, 255, 11), (41, 1, 127, 10)] {
+    for (len, law, set, number) in [(41, 2, 126, 12), (41, 1, 254, 11), (41, 1, 257, 11), (41, 1, 255, 10)] {
         assert_eq!(g7110::raw::why(&[PLUS; 320][..len], law, set, &mut text, &mut report), number);
         assert_eq!((report, text), ([0], [0xA7; WHY_TEXT]));
         report = [9];
@@ -187,7 +208,7 @@ fn from_several_threads() {
 /// The header's second example: other settings tried, the old ones put back, and all of it wiped.
 #[test]
 fn settings_put_back_and_wiped() {
-    let old = b"law=1\nset=127\nblock=16384\ngreeting=0\n";
+    let old = b"law=1\nset=255\nblock=16384\ngreeting=0\n";
     let mut state = settings::FRESH;
     let mut text = [0xA7; settings::SETTINGS_TEXT];
     assert_eq!(settings::read(&state, state[0], &mut text), Err(settings::Refusal::Gone));
@@ -212,6 +233,8 @@ fn settings_are_refused_and_unchanged() {
     let good = b"law=0\nset=0\nblock=1\ngreeting=0\n";
     assert_eq!(settings::save(&mut state, &good[..good.len() - 1]), Err(settings::Refusal::Line));
     assert_eq!(settings::save(&mut state, &[]), Err(settings::Refusal::Line));
+    let above = b"law=0\nset=256\nblock=1\ngreeting=0\n";
+    assert_eq!(settings::save(&mut state, above), Err(settings::Refusal::Line));
     assert_eq!(settings::save(&mut state, good), Err(settings::Refusal::Spent));
     assert_eq!(settings::back(&mut state, 0), Err(settings::Refusal::Gone));
     assert_eq!(state, lent);
@@ -231,6 +254,11 @@ fn a_greeting_is_mended() {
     let mut out = [0xA7; 8];
     assert_eq!(mend(&[0x41, 0x00, 0x41, 0x00], Law::A, 40, &mut out), Ok(Mended { octets: 2, frames: 2, kept: 2, filled: 0 }));
     assert_eq!(out, [0x41, 0x00, 0xA7, 0xA7, 0xA7, 0xA7, 0xA7, 0xA7]);
+    // A frame of tool 11 is kept, a cut one is not.
+    let mut out = [0xA7; 8];
+    let told = mend(&[0x02, 0x55, 0x55, 0x55, 0x55, 0x55, 0x05, 0x79], Law::Mu, 80, &mut out);
+    assert_eq!(told, Ok(Mended { octets: 7, frames: 1, kept: 6, filled: 40 }));
+    assert_eq!(out, [0x02, 0x55, 0x55, 0x55, 0x55, 0x55, 0x41, 0xA7]);
     let mut out = [0xA7; 1];
     assert_eq!(mend(&[], Law::A, 39, &mut out), Err(Refusal::Total));
     assert_eq!(mend(&[], Law::A, 1_000_040, &mut out), Err(Refusal::Total));
@@ -253,6 +281,9 @@ fn greetings_are_kept() {
     assert_eq!(put(&mut block, &mut table, Law::Mu, 8, &[0x41; 70]), Ok(Put { start: 2, moved: 0 }));
     assert_eq!(get(&block, &table, 8), Ok(Got { start: 2, octets: 70 }));
     assert_eq!(put(&mut block, &mut table, Law::A, 9, &[0x46]), Err(Refusal::Bad));
+    assert_eq!(put(&mut block, &mut table, Law::A, 9, &[0x02, 0x55, 0x55, 0x55, 0x55]), Err(Refusal::Bad));
+    assert_eq!(put(&mut block, &mut table, Law::A, 9, &[0x02, 0x55, 0x55, 0x55, 0x55, 0x55]), Ok(Put { start: 72, moved: 0 }));
+    assert_eq!(delete(&block, &mut table, 9), Ok(()));
     let mut text = vec![0; MAX_TABLE];
     let octets = save(&block, &table, &mut text).unwrap();
     let lines = "prompt=7\nstart=0\noctets=2\nlaw=0\nsamples=0\nmark=0,0\n\
@@ -374,7 +405,7 @@ fn a_recording_is_refused() {
     assert_eq!(read(&file.to_ascii_lowercase(), ALL_TOOLS, &mut out, &mut list), head);
     assert_eq!(Refusal::Head.number(), 14);
     let set = refused(Refusal::Frame(g7110::Refusal::Set), 0);
-    assert_eq!(read(&file[..9], 128, &mut out, &mut list), nothing(None, set));
+    assert_eq!(read(&file[..9], 256, &mut out, &mut list), nothing(None, set));
     let long = [&file[..10], &vec![0; MAX_STREAM + 1]].concat();
     let too_long = refused(Refusal::Frame(g7110::Refusal::Long), 0);
     assert_eq!(read(&long, ALL_TOOLS, &mut out, &mut list), nothing(Some(Law::A), too_long));

@@ -23,7 +23,7 @@ use Rattle.locating.proofs.Near.{zeros-unlocated}
 use Rattle.zeros.proofs.TwoZeros.{rice-applies, zeros-apply, rice-sum}
 use Rattle.offers.proofs.Choosing.{uncompressed-chosen, binary-bits}
 use Rattle.choice.proofs.Settling.{least-some, code-some, start-some, of-two, among, passed, won}
-use Rattle.offers.proofs.Offering.{rice-form}
+use Rattle.offers.proofs.Offering.{rice-form, zeros-unrowed}
 use Rattle.choice.proofs.Planning.{past}
 
 -- one run more
@@ -90,7 +90,8 @@ module _ (mask : ℕ) (s : List ℕ) {n plus minus : ℕ} (size : length s ≡ n
       let five = binary-bits mask s size in
       let P : ℕ → Type 0 = λ t. octetsOfForm mask s 5 ≤ octetsOfForm mask s t in
       let one : P (choose mask set s []) = rw (← (uncompressed-chosen mask s size set few .bits)) (omega (arith, five)) in
-      let rest : P (choose mask set s (7 ∷ [])) = rw (passed mask s set 7 [] (past set 7 (zeros-unlocated mask seven s zeros))) one in
+      let rest : P (choose mask set s (7 ∷ 11 ∷ []))
+      = rw (passed mask s set 7 _ (past set 7 (zeros-unlocated mask seven s zeros)), passed mask s set 11 _ (past set 11 (zeros-unrowed mask seven s zeros))) one in
       let six : P 6 = omega (arith, five, more, rice-form mask s, forties) in
       let last : choose mask set s measured ≡ 5 = won mask s set 5 _ on (among mask s set P 6 _ six rest) in
       record {

@@ -4,9 +4,11 @@ use mathlib.Core.Path.{_≡_, refl, sym, ap, _∙_}
 use mathlib.Core.List.{List, [], _∷_}
 use mathlib.Core.Bool.{Bool, true, false, _&&_}
 use native.Mathlib.Omega.{arith}
+use borrow.Author.Tests.{lt-leb}
 use lib.ListN.{length}
 use Rattle.rules.specs.Tools.{holds}
-use Rattle.rules.specs.Chooses.{applies, formOf, choose}
+use Rattle.rules.specs.Fractional.{rowCount, bodyBits}
+use Rattle.rules.specs.Chooses.{applies, formOf, choose, fractionalRow}
 use Rattle.rules.proofs.Tests.{and-left}
 use Rattle.look.specs.Looks.{twoZeros}
 use Rattle.offers.specs.declared.Choice.{Choice}
@@ -15,13 +17,13 @@ use Rattle.locating.specs.declared.Located.{Located}
 use Rattle.locating.specs.Rows.{LocatedIs}
 use Rattle.zeros.specs.Rice.{RiceFor}
 use Rattle.offers.specs.Ties.{BetterIs, ChosenIs}
-use Rattle.choice.specs.Plans.{measured, ZerosFor, locatedBy, LocatedFor}
+use Rattle.choice.specs.Plans.{measured, ZerosFor, locatedBy, LocatedFor, LastIs}
 use Rattle.look.proofs.Tests.{never, and-zero}
 use Rattle.locating.proofs.Near.{zeros-unlocated}
 use Rattle.zeros.proofs.TwoZeros.{rice-applies, zeros-apply}
 use Rattle.offers.proofs.Choosing.{choose-step, choose-past, chosen-offered, uncompressed-chosen, binary-bits}
 use Rattle.choice.proofs.Settling.{among, alone}
-use Rattle.offers.proofs.Offering.{rice-form, located-form}
+use Rattle.offers.proofs.Offering.{rice-form, located-form, fractional-form, row-applies, zeros-unrowed}
 
 pub past : (set t : ℕ) {a : Bool} → a ≡ false → (holds set t && a) ≡ false
 past set t e = rw e (and-zero (holds set t))
@@ -41,7 +43,7 @@ uncompressed-is mask set s size few e = rw e (uncompressed-chosen mask s size se
 pub zeros-as : {mask t u : ℕ} {s runs : List ℕ} {r : Zeros} → u ≡ t → ZerosFor mask t s r runs → ZerosFor mask u s r runs
 zeros-as e p = rw e p
 
-pub located-as : {mask t u : ℕ} {s a b c : List ℕ} {r : Located} → u ≡ t → LocatedFor mask t s r a b c → LocatedFor mask u s r a b c
+pub located-as : {mask t u last : ℕ} {s a b c : List ℕ} {r : Located} → u ≡ t → LocatedFor mask t last s r a b c → LocatedFor mask u last s r a b c
 located-as e p = rw e p
 
 -- a frame of the two zeros: uncompressed, then Rice, then binary
@@ -51,11 +53,12 @@ pub zeros-planned : {mask set n : ℕ} {s runs : List ℕ} {rice : Zeros} {one s
     → ZerosFor mask (choose mask set s measured) s (record { tool = five .tool; bits = five .bits; mark = rice .mark; s = rice .s; count = rice .count }) runs
 zeros-planned {mask} {set} {n} {s} {runs} {rice} {h₆ = h₆} {h₅ = h₅} seven zeros size few riced e₁ e₆ b₆ e₅ b₅ =
     let on : applies mask 6 s ≡ true = zeros-apply mask s ∙ zeros in
-    let c₇ = choose-past 7 (past set 7 (zeros-unlocated mask seven s zeros)) (uncompressed-is mask set s size few e₁) in
+    let c₁₁ = choose-past 11 (past set 11 (zeros-unrowed mask seven s zeros)) (uncompressed-is mask set s size few e₁) in
+    let c₇ = choose-past 7 (past set 7 (zeros-unlocated mask seven s zeros)) c₁₁ in
     let c₆ = choose-step c₇ 6 h₆ (rice .bits) (e₆ ∙ offers set 6 on) (λ h. riced .rice (sym e₆ ∙ h) .bits ∙ rice-form mask s) b₆ in
     let c₅ = choose-step c₆ 5 h₅ (8 + n) (e₅ ∙ offers set 5 (rice-applies mask s ∙ on)) (λ h. binary-bits mask s size) b₅ in
     let P : ℕ → Type 0 = λ t. (t ≡ 1 → ⊥) → (t ≡ 6 → ⊥) → t ≡ 5 in
-    let last : P (choose mask set s (7 ∷ [])) = rw (← (c₇ .tool), e₁) (λ x y. absurd (x refl)) in
+    let last : P (choose mask set s (7 ∷ 11 ∷ [])) = rw (← (c₇ .tool), e₁) (λ x y. absurd (x refl)) in
     let k : P (choose mask set s measured) = among mask s set P 5 _ (λ x y. refl) (among mask s set P 6 _ (λ x y. absurd (y refl)) last) in
     record {
       chosen = record { tool = c₅ .tool; bits = c₅ .bits; small = c₅ .small };
@@ -73,34 +76,41 @@ zeros-planned {mask} {set} {n} {s} {runs} {rice} {h₆ = h₆} {h₅ = h₅} sev
       kind = rw (c₅ .tool) k;
     }
 
--- a frame that has a 1 or a -2: uncompressed, then value-location
-module _ {mask : ℕ} (set : ℕ) {s : List ℕ} (zeros : twoZeros mask s ≡ false) where
-  no-zeros : {r : Choice} → ChosenIs mask set s (7 ∷ []) r → ChosenIs mask set s measured r
+short-off : (mask : ℕ) (s : List ℕ) → length s < 80 → applies mask 7 s ≡ false
+unfolding applies
+short-off mask s h = rw (lt-leb 80 (length s) h)
+
+-- a frame that has a 1 or a -2: the last of the order, then value-location
+module _ {mask : ℕ} (set : ℕ) {s : List ℕ} (zeros : twoZeros mask s ≡ false) {last : Choice} (known : ChosenIs mask set s (11 ∷ []) last) where
+  no-zeros : {r : Choice} → ChosenIs mask set s (7 ∷ 11 ∷ []) r → ChosenIs mask set s measured r
   no-zeros done =
       let off : applies mask 6 s ≡ false = zeros-apply mask s ∙ zeros in
       choose-past 5 (past set 5 (rice-applies mask s ∙ off)) (choose-past 6 (past set 6 off) done)
 
-  one-or-seven : {r : Choice} → ChosenIs mask set s (7 ∷ []) r → (r .tool ≡ 1 → ⊥) → r .tool ≡ 7
-  one-or-seven done =
-      let P : ℕ → Type 0 = λ t. (t ≡ 1 → ⊥) → t ≡ 7 in
-      rw (done .tool) (among mask s set P 7 [] (λ x. refl) (alone mask s set P (λ x. absurd (x refl))))
+  seven-or-last : {r : Choice} → ChosenIs mask set s (7 ∷ 11 ∷ []) r → (r .tool ≡ 7 → ⊥) → r .tool ≡ last .tool
+  seven-or-last done =
+      let P : ℕ → Type 0 = λ t. (t ≡ 7 → ⊥) → t ≡ last .tool in
+      rw (done .tool) (among mask s set P 7 (11 ∷ []) (λ x. absurd (x refl)) (λ x. sym (known .tool)))
 
-  pub not-located : {n : ℕ} {a b c : List ℕ} {r : Located} → length s ≡ n → n ≤ 320 → (holds set 7 && applies mask 7 s) ≡ false → r .tool ≡ 1 → r .bits ≡ 8 + 8 * n
-      → LocatedFor mask (choose mask set s measured) s r a b c
-  not-located {n} {r = r} size few off t b =
-      let done = no-zeros (choose-past 7 off (uncompressed-chosen mask s size set few)) in
+  pub not-located : {a b c : List ℕ} {r : Located} → (holds set 7 && applies mask 7 s) ≡ false → r .tool ≡ last .tool → r .bits ≡ last .bits
+      → LocatedFor mask (choose mask set s measured) (last .tool) s r a b c
+  not-located {r = r} off t b =
+      let done = no-zeros (choose-past 7 off known) in
       record {
-        chosen = record { tool = t ∙ done .tool; bits = b ∙ done .bits; small = omega arith };
+        chosen = record { tool = t ∙ done .tool; bits = b ∙ done .bits; small = rw b (done .small) };
         located = λ e. absurd (never (sym off ∙ chosen-offered mask set s measured 7 e (λ z. omega arith)));
-        kind = λ x. absurd (x t);
+        kind = λ x. t;
       }
 
-  pub located-for : {n : ℕ} {a b c : List ℕ} {w : Located} {one best : Choice} {r : Located} → length s ≡ n → n ≤ 320 → holds set 7 ≡ true → applies mask 7 s ≡ true
-      → LocatedIs mask s w a b c → one ≡ record { tool = 1; bits = 8 + 8 * n } → BetterIs one 7 true (w .bits) best → r ≡ locatedBy best w
-      → LocatedFor mask (choose mask set s measured) s r a b c
-  located-for {w = w} size few held on i e better told =
+  -- "N is 80 or more": a shorter frame is left to the last of the order
+  pub short-last : length s < 80 → last .tool ≡ choose mask set s measured
+  short-last h = no-zeros (choose-past 7 (past set 7 (short-off mask s h)) known) .tool
+
+  pub located-for : {a b c : List ℕ} {w : Located} {best : Choice} {r : Located} → holds set 7 ≡ true → applies mask 7 s ≡ true
+      → LocatedIs mask s w a b c → BetterIs last 7 true (w .bits) best → r ≡ locatedBy best w → LocatedFor mask (choose mask set s measured) (last .tool) s r a b c
+  located-for {w = w} held on i better told =
       let offered : true ≡ (holds set 7 && applies mask 7 s) = rw (held, on) in
-      let first′ = choose-step (uncompressed-is mask set s size few e) 7 true (w .bits) offered (λ h. i .bits ∙ located-form mask s) better in
+      let first′ = choose-step known 7 true (w .bits) offered (λ h. i .bits ∙ located-form mask s) better in
       let done = no-zeros first′ in
       rw told
       (record {
@@ -123,5 +133,29 @@ module _ {mask : ℕ} (set : ℕ) {s : List ℕ} (zeros : twoZeros mask s ≡ fa
               bits = done .bits ∙ ap (λ (t : ℕ). length (formOf mask t s)) e ∙ sym (located-form mask s);
               small = done .small;
             };
-        kind = one-or-seven first′;
+        kind = seven-or-last first′;
       })
+
+-- the last of the order
+module _ (mask set : ℕ) (s : List ℕ) {n : ℕ} {one : Choice} (size : length s ≡ n) (few : n ≤ 320) (first : one ≡ record { tool = 1; bits = 8 + 8 * n }) where
+  pub last-plain : (holds set 11 && applies mask 11 s) ≡ false → (k : ℕ) → LastIs mask set s (record { choice = one; row = k })
+  last-plain off k =
+      let t : one .tool ≡ 1 = ap (λ (c : Choice). c .tool) first in
+      record {
+        chosen = choose-past 11 off (uncompressed-is mask set s size few first);
+        row = λ e. absurd (omega (arith, e, t));
+        kind = λ x. t;
+      }
+
+  pub last-row : {k b : ℕ} {best : Choice} → holds set 11 ≡ true → k ≡ fractionalRow mask s → k < rowCount n → b ≡ 8 + bodyBits k n → BetterIs one 11 true b best
+      → LastIs mask set s (record { choice = best; row = k })
+  last-row {k} held row h e better =
+      let on = row-applies mask s size row h in
+      let offered : true ≡ (holds set 11 && applies mask 11 s) = rw (held, on) in
+      let done = choose-step (uncompressed-is mask set s size few first) 11 true _ offered (λ z. e ∙ fractional-form mask s size row) better in
+      let P : ℕ → Type 0 = λ t. (t ≡ 11 → ⊥) → t ≡ 1 in
+      record {
+        chosen = done;
+        row = λ z. (row, rw (← row, size) h);
+        kind = rw (done .tool) (among mask s set P 11 [] (λ x. absurd (x refl)) (alone mask s set P (λ x. refl)));
+      }

@@ -2,7 +2,7 @@
 use Prim.Native.Nat.{ℕ, zero, suc, _+_, _*_, _/_, _%_, _≤_, _<_}
 use mathlib.Core.Path.{_≡_, refl, sym, ap, _∙_}
 use mathlib.Core.List.{List, [], _∷_, map}
-use mathlib.Core.Bool.{Bool, true, false, cond, _&&_}
+use mathlib.Core.Bool.{Bool, true, false, cond, _&&_, _||_}
 use native.Mathlib.Omega.{arith}
 use borrow.Author.Tests.{eq-eqb, ne-eqb, eqb-true, le-leb, leb-false, ltb-false}
 use lib.ListN.{length, getD, length-append, length-map}
@@ -14,7 +14,8 @@ use Rattle.rules.specs.First.{isLong, baseOf, riceCode}
 use Rattle.rules.specs.Runs.{runsOf, riceForms}
 use Rattle.rules.specs.Zeros.{codesOf, codeOf, flagOf}
 use Rattle.rules.specs.Located.{caseOf}
-use Rattle.rules.specs.Chooses.{countOf, every, leastFrom, bestS, markOf, riceChoice, locatedForm, leastOf, greatestOf, rowOf, applies, formOf, octetsOfForm, choose, chosenTool}
+use Rattle.rules.specs.Chooses.{countOf, every, leastFrom, bestS, markOf, riceChoice, locatedForm, leastOf, greatestOf, rowOf, fractionalRow, fractionalForm, applies, formOf, octetsOfForm, choose, chosenTool}
+use Rattle.rules.specs.Fractional.{radix, groupOf, bitsFor}
 use Rattle.rules.proofs.Octets.{length-lowBits, length-bitsOf}
 use Rattle.measure.proofs.Rice.{length-riceForm}
 use Rattle.look.specs.declared.Spread.{Spread}
@@ -25,6 +26,7 @@ use Rattle.choice.specs.Plans.{measured, valueTool, Plain, Chosen}
 use Rattle.look.proofs.Tests.{never, and-zero}
 use Rattle.locating.proofs.Near.{located-near}
 use Rattle.zeros.proofs.TwoZeros.{rice-applies, rice-sum}
+use Rattle.offers.proofs.Offering.{fractional-form, far-unrowed}
 use Rattle.offers.proofs.Choosing.{uncompressed-bits, constant-bits, minus-bits, plus-bits}
 
 -- a Rice code has a one and S low bits, so that runs of anything at all have more bits than S
@@ -77,6 +79,18 @@ pub of-two : {A : Type 0} (P : A → Type 0) (a : Bool) {x y : A} → P x → P 
 of-two P true p q = p
 of-two P false p q = q
 
+-- whatever R' is
+bits-some : (r n : ℕ) → 5 ≤ n → 9 ≤ 8 + bitsFor r * (n / groupOf r)
+unfolding bitsFor groupOf
+bits-some r n h = go (eqb r 2) (eqb r 4) (eqb r 3) (eqb r 5)
+  where
+    go : (a b c d : Bool) → 9 ≤ 8 + cond a 1 (cond b 2 (cond c 8 (cond d 12 13))) * (n / cond (a || b) 1 5)
+    go true b c d = omega (arith, h)
+    go false true c d = omega (arith, h)
+    go false false true d = omega (arith, h)
+    go false false false true = omega (arith, h)
+    go false false false false = omega (arith, h)
+
 module _ (mask : ℕ) (s : List ℕ) where
   rice-long : 1 ≤ length s → 9 ≤ length (riceChoice mask s)
   rice-long some =
@@ -88,14 +102,15 @@ module _ (mask : ℕ) (s : List ℕ) where
 
   -- every form has a bit; those that are measured, and uncompressed, have more than an octet
   form-some : (t : ℕ) → 1 ≤ length (formOf mask t s)
-  unfolding formOf locatedForm riceChoice
+  unfolding formOf locatedForm fractionalForm riceChoice
   form-some t =
       let P : List ℕ → Type 0 = λ l. 1 ≤ length l in
       let six : 1 ≤ length (riceChoice mask s) =
       rw (length-append (riceCode (length s) (markOf mask s)) _) (omega (arith, start-some (length s) (markOf mask s))) in
       of-two P (eqb t 1) (rw (length-append, length-lowBits) (omega arith)) (of-two P (eqb t 2) (rw length-lowBits (omega arith))
       (of-two P (eqb t 3) (rw length-lowBits (omega arith)) (of-two P (eqb t 4) (rw (length-append, length-lowBits) (omega arith))
-      (of-two P (eqb t 5) (rw (length-append, length-lowBits) (omega arith)) (of-two P (eqb t 6) six (rw (length-append, length-lowBits) (omega arith)))))))
+      (of-two P (eqb t 5) (rw (length-append, length-lowBits) (omega arith)) (of-two P (eqb t 6) six
+      (of-two P (eqb t 11) (rw (length-append, length-lowBits) (omega arith)) (rw (length-append, length-lowBits) (omega arith))))))))
 
   pub among : (set : ℕ) (P : ℕ → Type 0) (t : ℕ) (ts : List ℕ) → P t → P (choose mask set s ts) → P (choose mask set s (t ∷ ts))
   unfolding choose
@@ -105,14 +120,19 @@ module _ (mask : ℕ) (s : List ℕ) where
   unfolding choose
   alone set P p = p
 
-  measured-long : (set : ℕ) → 1 ≤ length s → 9 ≤ length (formOf mask (choose mask set s measured) s)
+  -- five samples or more have a bit in tool 11's body
+  row-long : 5 ≤ length s → 9 ≤ length (formOf mask 11 s)
+  row-long some = rw (← (fractional-form mask s refl refl)) (bits-some (radix (fractionalRow mask s)) (length s) some)
+
+  measured-long : (set : ℕ) → 5 ≤ length s → 9 ≤ length (formOf mask (choose mask set s measured) s)
   unfolding formOf locatedForm
   measured-long set some =
       let P : ℕ → Type 0 = λ t. 9 ≤ length (formOf mask t s) in
       among set P 5 _ (rw (length-append, length-lowBits, length-map) (omega arith))
-      (among set P 6 _ (rice-long some)
+      (among set P 6 _ (rice-long (omega arith))
       (among set P 7 _ (rw (length-append, length-lowBits, length-append, length-lowBits) (omega arith))
-      (alone set P (rw (length-append, length-lowBits, length-bitsOf) (omega arith)))))
+      (among set P 11 _ (row-long some)
+      (alone set P (rw (length-append, length-lowBits, length-bitsOf) (omega arith))))))
 
   module _ (set : ℕ) where
     -- a tool that is not taken, and one that is
@@ -147,7 +167,7 @@ module _ (mask : ℕ) (s : List ℕ) where
           }
 
       module _ (three : (holds set 3 && applies mask 3 s) ≡ false) where
-        pub constant-settled : 1 ≤ length s → (holds set 4 && applies mask 4 s) ≡ true → Plain mask set s 4
+        pub constant-settled : 5 ≤ length s → (holds set 4 && applies mask 4 s) ≡ true → Plain mask set s 4
         constant-settled some e =
             record {
               settled = λ n. sym (passed 2 _ two ∙ passed 3 _ three ∙ won 4 _ e (omega (arith, constant-bits mask s refl, measured-long set some)));
@@ -155,19 +175,29 @@ module _ (mask : ℕ) (s : List ℕ) where
               most = omega arith;
             }
 
-        pub unsettled : (holds set 4 && applies mask 4 s) ≡ false → near (leastOf mask s) (greatestOf mask s) ≡ true → Plain mask set s 0
-        unsettled four n =
-            record { settled = λ n. absurd (n refl); left = λ z. record { later = passed 2 _ two ∙ passed 3 _ three ∙ passed 4 _ four; close = n }; most = omega arith }
+        -- where neither of the zeros' tools nor value-location applies, the last two of the order are left
+        module _ (four : (holds set 4 && applies mask 4 s) ≡ false) where
+          pub far-left : applies mask 6 s ≡ false → applies mask 7 s ≡ false → chosenTool mask set s ≡ choose mask set s (11 ∷ [])
+          far-left six seven =
+              let five : applies mask 5 s ≡ false = rice-applies mask s ∙ six in
+              let none : (t : ℕ) → applies mask t s ≡ false → (holds set t && applies mask t s) ≡ false = λ t e. rw e (and-zero (holds set t)) in
+              passed 2 _ two ∙ passed 3 _ three ∙ passed 4 _ four ∙ passed 5 _ (none 5 five) ∙ passed 6 _ (none 6 six) ∙ passed 7 _ (none 7 seven)
 
-        pub spread-settled : (holds set 4 && applies mask 4 s) ≡ false → applies mask 6 s ≡ false → applies mask 7 s ≡ false → Plain mask set s 1
-        spread-settled four six seven =
-            let five : applies mask 5 s ≡ false = rice-applies mask s ∙ six in
-            let none : (t : ℕ) → applies mask t s ≡ false → (holds set t && applies mask t s) ≡ false = λ t e. rw e (and-zero (holds set t)) in
-            record {
-              settled = λ n. sym (passed 2 _ two ∙ passed 3 _ three ∙ passed 4 _ four ∙ passed 5 _ (none 5 five) ∙ passed 6 _ (none 6 six) ∙ passed 7 _ (none 7 seven) ∙ last);
-              left = λ z. absurd (omega arith);
-              most = omega arith;
-            }
+          pub unsettled : (near (leastOf mask s) (greatestOf mask s) ≡ false → applies mask 6 s ≡ false) → Plain mask set s 0
+          unsettled six =
+              record {
+                settled = λ n. absurd (n refl);
+                left = λ z. record { later = passed 2 _ two ∙ passed 3 _ three ∙ passed 4 _ four; far = λ far. far-left (six far) (located-near mask s far) };
+                most = omega arith;
+              }
+
+          pub spread-settled : applies mask 6 s ≡ false → applies mask 7 s ≡ false → (holds set 11 && applies mask 11 s) ≡ false → Plain mask set s 1
+          spread-settled six seven eleven =
+              record {
+                settled = λ n. sym (far-left six seven ∙ passed 11 _ eleven ∙ last);
+                left = λ z. absurd (omega arith);
+                most = omega arith;
+              }
 
 -- a frame of one value
 head-passes : (p : ℕ → Bool) (x : ℕ) (s : List ℕ) → every p (x ∷ s) ≡ true → p x ≡ true
@@ -217,17 +247,26 @@ several {mask} {first} {s} {l} set some e t differ =
     none : (t y : ℕ) → (holds set t && every (λ x. eqb x y) s) ≡ false
     none n y = rw (none-value y first s some e (sym (t .same) ∙ ne-eqb (l .any) (l .all) differ)) (and-zero (holds set n))
 
--- what is said of it: its samples are near, or only uncompressed applies
-pub spread : {mask set first r : ℕ} {s : List ℕ} {l : Spread} → NoValue mask set s → SpreadIs mask first s l → r ≡ cond (ltb (l .any % 128) 2) 0 1 → Plain mask set s r
-spread {mask} {set} {first} {r} {s} {l} v t told = rw told (go (ltb (l .any % 128) 2) refl)
+-- what is said of it: its samples are near, or tool 11 may apply, or only uncompressed applies
+pub spread : {mask set first r : ℕ} {s : List ℕ} {l : Spread} → NoValue mask set s → SpreadIs mask first s l
+    → r ≡ cond (ltb (l .any % 128) 2) 0 (cond (ltb (l .any % 128) 4 && holds set 11) 0 1) → Plain mask set s r
+spread {mask} {set} {first} {r} {s} {l} v t told = rw told (go (ltb (l .any % 128) 2) refl (ltb (l .any % 128) 4) refl (holds set 11) refl)
   where
-    go : (b : Bool) → ltb (l .any % 128) 2 ≡ b → Plain mask set s (cond b 0 1)
-    go true h = unsettled mask s set (v .two) (v .three) (v .four) (sym (t .close) ∙ h)
-    go false h = spread-settled mask s set (v .two) (v .three) (v .four) (zeros-near t h) (located-near mask s (sym (t .close) ∙ h))
+    six : near (leastOf mask s) (greatestOf mask s) ≡ false → applies mask 6 s ≡ false
+    six far = zeros-near t (t .close ∙ far)
+
+    settled : near (leastOf mask s) (greatestOf mask s) ≡ false → (holds set 11 && applies mask 11 s) ≡ false → Plain mask set s 1
+    settled far eleven = spread-settled mask s set (v .two) (v .three) (v .four) (six far) (located-near mask s far) eleven
+
+    go : (a : Bool) → ltb (l .any % 128) 2 ≡ a → (b : Bool) → ltb (l .any % 128) 4 ≡ b → (h : Bool) → holds set 11 ≡ h → Plain mask set s (cond a 0 (cond (b && h) 0 1))
+    go true e b f h g = unsettled mask s set (v .two) (v .three) (v .four) six
+    go false e true f true g = unsettled mask s set (v .two) (v .three) (v .four) six
+    go false e true f false g = settled (sym (t .close) ∙ e) (ap (λ (h : Bool). h && applies mask 11 s) g)
+    go false e false f h g = settled (sym (t .close) ∙ e) (rw (far-unrowed mask s (sym (t .about) ∙ f)) (and-zero (holds set 11)))
 
 -- what is said of a frame of one value
 pub record OneValue (mask set first : ℕ) (s : List ℕ) : Type 0 where
-  pub some : 1 ≤ length s
+  pub some : 5 ≤ length s
   pub two : (holds set 2 && applies mask 2 s) ≡ (holds set 2 && eqb first (plusZero mask))
   pub three : (holds set 3 && applies mask 3 s) ≡ (holds set 3 && eqb first (minusZero mask))
   pub four : (holds set 4 && applies mask 4 s) ≡ holds set 4
@@ -236,14 +275,14 @@ and-true : (b : Bool) → (b && true) ≡ b
 and-true true = refl
 and-true false = refl
 
-pub one-of : {mask first : ℕ} {s : List ℕ} {l : Spread} (set : ℕ) → 1 ≤ length s → first ≡ getD s 0 0 → SpreadIs mask first s l → l .any ≡ l .all → OneValue mask set first s
+pub one-of : {mask first : ℕ} {s : List ℕ} {l : Spread} (set : ℕ) → 5 ≤ length s → first ≡ getD s 0 0 → SpreadIs mask first s l → l .any ≡ l .all → OneValue mask set first s
 unfolding applies
 one-of {mask} {first} {s} {l} set some e t equal =
     let all : every (λ x. eqb x first) s ≡ true = sym (t .same) ∙ eq-eqb (l .any) (l .all) equal in
     record {
       some = some;
-      two = ap (λ (b : Bool). holds set 2 && b) (one-value (plusZero mask) first s some e all);
-      three = ap (λ (b : Bool). holds set 3 && b) (one-value (minusZero mask) first s some e all);
+      two = ap (λ (b : Bool). holds set 2 && b) (one-value (plusZero mask) first s (omega arith) e all);
+      three = ap (λ (b : Bool). holds set 3 && b) (one-value (minusZero mask) first s (omega arith) e all);
       four = ap (λ (b : Bool). holds set 4 && b) (ap (λ (k : ℕ). every (λ x. eqb x k) s) (sym e) ∙ all) ∙ and-true (holds set 4);
     }
 

@@ -42,10 +42,17 @@ fn one_value_tool(x: u8, mask: u8, set: u32) -> u32
 }
 
 // Uncompressed where a sample is below -2 or above 1, else 0: with the mask taken off, the low bits of 0 and -1 are 0, those of 1 and -2 are 1.
-fn spread_tool(any: u8) -> u32
-    ensures { λ r. ⌜ r ≡ cond (ltb (any % 128) 2) 0 1 ⌝ }
+// Where the set holds tool 11, those of its rows are left too: they are below 4.
+fn spread_tool(any: u8, set: u32) -> u32
+    ensures { λ r. ⌜ r ≡ cond (ltb (any % 128) 2) 0 (cond (ltb (any % 128) 4 && tools.holds set 11) 0 1) ⌝ }
 {
-    if 2 <= any % 128 { 1 } else { 0 }
+    if any % 128 < 2 {
+        return 0;
+    }
+    if 4 <= any % 128 {
+        return 1;
+    }
+    if holds(set, 11) { 0 } else { 1 }
 }
 
 // The tool of a frame that the first look settles, else 0. A frame of one value takes one or two octets, and no other form is as short;
@@ -56,13 +63,13 @@ fn plain_tool(samples: &[u8], n: usize, l: Spread, mask: u8, set: u32) -> u32
     ensures { λ r. ⌜ Plain mask set (take n (now (samples .entry))) r ⌝ }
 {
     if l.any != l.all {
-        return spread_tool(l.any);
+        return spread_tool(l.any, set);
     }
     let tool = one_value_tool(samples[0], mask, set);
     if tool != 0 {
         return tool;
     }
-    spread_tool(l.any)
+    spread_tool(l.any, set)
 }
 
 // The bits of tools 1 to 4: the first octet, and with it the samples, or the one that all are.
@@ -79,11 +86,12 @@ fn whole_bits(tool: u32, n: usize) -> usize
     8
 }
 
-// The tool and the bits of its form; or tool 0 where a plan chooses, and then whether it is that of the two zeros.
+// The tool and the bits of its form; or tool 0 where a plan chooses, and then whether it is that of the two zeros, or of samples from -2 to 1.
 pub struct Settled {
     pub tool: u32,
     pub bits: usize,
     pub zeros: bool,
+    pub close: bool,
 }
 
 // The choice for a frame: it is looked at once. With the mask taken off, the low bits of both zeros are 0.
@@ -97,5 +105,6 @@ pub fn choose(samples: &[u8], n: usize, mask: u8, set: u32) -> Settled
         tool: tool,
         bits: whole_bits(tool, n),
         zeros: l.any % 128 == 0,
+        close: l.any % 128 < 2,
     }
 }

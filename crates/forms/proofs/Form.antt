@@ -24,7 +24,7 @@ use Rattle.pen.specs.Puts.{penBits, Able, Puts, Packed}
 use Rattle.look.specs.Rows.{rowBits, RowIs}
 use Rattle.rules.proofs.Words.{lowBits-join}
 use Rattle.pen.proofs.Putting.{drop-further}
-use Rattle.forms.specs.Forms.{wholeOctets, RiceReady, riceFormOf, valuesFormOf, locatedFormOf, planForm, zerosForm}
+use Rattle.forms.specs.Forms.{wholeOctets, RiceReady, riceFormOf, valuesFormOf, locatedFormOf, zerosForm}
 use Rattle.forms.proofs.Turns.{located-values}
 
 pub row-flag : (row flag : ℕ) (l : List ℕ) → flag < 2 → lowBits 3 (row * 2 + flag) ++ l ≡ lowBits 2 row ++ (lowBits 1 flag ++ l)
@@ -84,14 +84,6 @@ unfolding formOf
 located-seven mask s = refl
 
 module _ (n : ℕ) (s : List ℕ) (r : Located) (a b c : List ℕ) where
-  pub plan-whole : r .tool ≡ 1 → bitsOf (wholeOctets 1 s) ≡ planForm n s r a b c
-  unfolding planForm
-  plan-whole e = rw e
-
-  pub plan-located : (r .tool ≡ 1 → ⊥) → prefix 7 n ++ locatedFormOf r a b c ≡ planForm n s r a b c
-  unfolding planForm
-  plan-located e = rw (ne-eqb (r .tool) 1 e)
-
   pub located-form : {mask : ℕ} → length s ≡ n → LocatedIs mask s r a b c → prefix 7 n ++ locatedFormOf r a b c ≡ locatedForm mask s
   unfolding locatedForm
   located-form {mask} size p =

@@ -57,9 +57,9 @@ pub record LocatedReady (r : Located) (a b c : List ℕ) : Type 0 where
   pub flag : r .flag < 2
   pub values : ValuesReady r a b c
 
--- the planned form of n samples that have a 1 or a -2
-unfoldable pub planForm : ℕ → List ℕ → Located → List ℕ → List ℕ → List ℕ → List ℕ
-planForm n s r a b c = cond (eqb (r .tool) 1) (bitsOf (wholeOctets 1 s)) (prefix 7 n ++ locatedFormOf r a b c)
+-- the planned form of n samples by value-location
+abbrev pub planForm : ℕ → Located → List ℕ → List ℕ → List ℕ → List ℕ
+planForm n r a b c = prefix 7 n ++ locatedFormOf r a b c
 
 -- the planned form of n samples that are the two zeros; the row's flags are 1 at minus zero
 unfoldable pub zerosForm : ℕ → List ℕ → Zeros → List ℕ → List ℕ → List ℕ

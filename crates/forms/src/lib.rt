@@ -1,6 +1,7 @@
 // The forms of the tools, put out as planned: nothing is decided here.
 
 use codes::code_of;
+use grouping::put_body;
 use locating::Located;
 use locating::Way;
 use measure::width_of;
@@ -13,17 +14,21 @@ use pen::put_runs;
 use pen::put_zeros;
 use prefix::base_of;
 use prefix::octet_for;
+use ranges::first_code;
+use ranges::row_at;
 use zeros::Zeros;
 ghost use mathlib.Core.Path.{_≡_};
-ghost use mathlib.Core.Bool.{cond};
+ghost use mathlib.Core.Bool.{true, cond};
+ghost use mathlib.Core.List.{_++_, map};
 ghost use Prim.Native.Nat.{ℕ, _+_, _*_, _^_, _≤_, _<_};
 ghost use lib.ListN.{length, getD, take};
 ghost use lib.Dec.{eqb};
-ghost use Rattle.rules.specs.Bits.{bitsOf};
+ghost use Rattle.rules.specs.Bits.{lowBits, bitsOf};
+ghost use Rattle.rules.specs.Fractional.{radix, firstCode, placeIn, samplesAt, fractionalBody};
 ghost use Rattle.rules.specs.First.{riceCode};
 ghost use Rattle.rules.specs.Zeros as zeros;
 ghost use Rattle.pen.specs.Puts.{Able, Puts, Packed};
-ghost use Rattle.look.specs.Looks.{FrameIn};
+ghost use Rattle.look.specs.Looks.{isMask, FrameIn};
 ghost use Rattle.forms.specs.Ways.{placesBy, listedForm, marksForm, wayOf, WayPlanned};
 ghost use Rattle.forms.specs.Forms.{wholeOctets, Copied, RiceReady, riceFormOf, ValuesReady, valuesFormOf, LocatedReady, locatedFormOf, planForm, zerosForm, ZerosReady};
 
@@ -208,23 +213,19 @@ fn put_located_body(
     put_values(out, q, plan, a, b, c)
 }
 
-// The planned form of a frame that has a 1 or a -2, as octets. Their number comes back.
+// Value-location as planned, as octets. Their number comes back.
 pub fn put_located(
     out: &mut [u8],
-    samples: &[u8],
     n: usize,
     plan: Located,
     a: &[u16; 321],
     b: &[u16; 321],
     c: &[u16; 321],
 ) -> usize
-    requires { ⌜ (FrameIn (now samples) n) × ((plan .tool ≡ 1 → ⊥) → LocatedReady plan (now a) (now b) (now c)) ⌝ }
-    requires { ⌜ length (planForm n (take n (now samples)) plan (now a) (now b) (now c)) ≤ 8 * length (now out) ⌝ }
-    ensures { λ r. ⌜ Packed (planForm n (take n (now (samples .entry))) plan (now (a .entry)) (now (b .entry)) (now (c .entry))) (now (out .entry)) (now (out .exit)) r ⌝ }
+    requires { ⌜ LocatedReady plan (now a) (now b) (now c) ⌝ }
+    requires { ⌜ length (planForm n plan (now a) (now b) (now c)) ≤ 8 * length (now out) ⌝ }
+    ensures { λ r. ⌜ Packed (planForm n plan (now (a .entry)) (now (b .entry)) (now (c .entry))) (now (out .entry)) (now (out .exit)) r ⌝ }
 {
-    if plan.tool == 1 {
-        return put_whole(out, samples, n, 1);
-    }
     let p = fresh();
     let q = put_prefix(out, p, 7, n);
     let r = put_located_body(out, q, plan, a, b, c);
@@ -255,5 +256,19 @@ pub fn put_two_zeros(
     }
     let q = put_prefix(out, p, 5, n);
     let r = put_row(out, q, row, n / 40);
+    finish(out, r)
+}
+
+// The form of a frame that has row k, as octets: the first octet, and the body. Their number comes back.
+pub fn put_fractional(out: &mut [u8], samples: &[u8], n: usize, mask: u8, k: usize) -> usize
+    requires { ⌜ (FrameIn (now samples) n) × (isMask mask ≡ true) × (k < 12) ⌝ }
+    requires { ⌜ ((i : ℕ) → getD (map (placeIn (samplesAt mask k)) (take n (now samples))) i 0 < radix k) ⌝ }
+    requires { ⌜ length (lowBits 8 (firstCode n + k) ++ fractionalBody mask k (take n (now samples))) ≤ 8 * length (now out) ⌝ }
+    ensures { λ r. ⌜ Packed (lowBits 8 (firstCode n + k) ++ fractionalBody mask k (take n (now (samples .entry)))) (now (out .entry)) (now (out .exit)) r ⌝ }
+{
+    let p = fresh();
+    let q = put(out, p, 8, wide(first_code(n)) + k as u64);
+    let row = row_at(k);
+    let r = put_body(out, q, samples, n, mask, row);
     finish(out, r)
 }

@@ -21,10 +21,7 @@ use Rattle.rules.proofs.Counts.{count-le}
 use Rattle.look.proofs.Spreading.{alike, near-is, is-near}
 use Rattle.locating.specs.declared.Tally.{Tally}
 use Rattle.locating.specs.Rows.{leastBy, greatestBy, Tallied}
-use Rattle.look.proofs.Tests.{never, and-zero}
-
-pub law-for : (mask : ℕ) → isMask mask ≡ true → LawMask mask
-law-for mask h = or-cases (LawMask mask) (eqb mask 0x55) (eqb mask 0x7F) h (λ e. rw (eqb-true mask 0x55 e) (law-mask 0)) (λ e. rw (eqb-true mask 0x7F e) (law-mask 1))
+use Rattle.look.proofs.Tests.{never, and-zero, law-for}
 
 module _ {mask : ℕ} (law : LawMask mask) where
   -- samples of numbers in other places differ

@@ -14,7 +14,7 @@ use borrow.Author.Tests.{eq-eqb, eqb-true, eqb-false, ne-eqb, ltb-true, lt-ltb, 
 use Rattle.rules.specs.Samples.{signed, onLine, sampleOf, plusZero, minusZero}
 use Rattle.rules.specs.Chooses.{countOf, every, leastOf, greatestOf}
 use Rattle.rules.proofs.Tests.{and-left, and-right, or-cases}
-use Rattle.look.specs.Looks.{near, twoZeros, SpreadIs}
+use Rattle.look.specs.Looks.{nearBy, near, twoZeros, SpreadIs}
 use Rattle.rules.proofs.Counts.{count-le}
 use Rattle.look.proofs.Looking.{count-more, least-more, greatest-more}
 
@@ -89,39 +89,45 @@ or-none a b =
     eq-eqb (bitOr a b) 0 (ap₂ bitOr f g))
 
 -- near, as an order
+is-near-by : (k l g : ℕ) → 128 - k ≤ l → g ≤ 127 + k → nearBy k l g ≡ true
+is-near-by k l g a b = both (leb (128 - k) l) (leb g (127 + k)) (le-leb (128 - k) l a) (le-leb g (127 + k) b)
+
+pub near-by-is : (k l g : ℕ) → nearBy k l g ≡ true → (128 - k ≤ l) × (g ≤ 127 + k)
+near-by-is k l g e = (leb-true (128 - k) l (and-left (leb (128 - k) l) (leb g (127 + k)) e), leb-true g (127 + k) (and-right (leb (128 - k) l) (leb g (127 + k)) e))
+
 pub is-near : (l g : ℕ) → 126 ≤ l → g ≤ 129 → near l g ≡ true
-is-near l g a b = both (leb 126 l) (leb g 129) (le-leb 126 l a) (le-leb g 129 b)
+is-near l g a b = is-near-by 2 l g a b
 
 pub near-is : (l g : ℕ) → near l g ≡ true → (126 ≤ l) × (g ≤ 129)
-near-is l g e = (leb-true 126 l (and-left (leb 126 l) (leb g 129) e), leb-true g 129 (and-right (leb 126 l) (leb g 129) e))
+near-is l g e = near-by-is 2 l g e
 
-near-more : (l g p : ℕ) → near (min l p) (max g p) ≡ (near l g && near p p)
-near-more l g p =
-    alike (near (min l p) (max g p)) (near l g && near p p)
-    (λ e. let h = near-is (min l p) (max g p) e in
-    both (near l g) (near p p) (is-near l g (omega (arith, h .0)) (omega (arith, h .1))) (is-near p p (omega (arith, h .0)) (omega (arith, h .1))))
-    (λ e. let h = near-is l g (and-left (near l g) (near p p) e) in
-    let k = near-is p p (and-right (near l g) (near p p) e) in
-    is-near (min l p) (max g p) (omega (arith, h .0, k .0)) (omega (arith, h .1, k .1)))
+near-more : (k l g p : ℕ) → nearBy k (min l p) (max g p) ≡ (nearBy k l g && nearBy k p p)
+near-more k l g p =
+    alike (nearBy k (min l p) (max g p)) (nearBy k l g && nearBy k p p)
+    (λ e. let h = near-by-is k (min l p) (max g p) e in
+    both (nearBy k l g) (nearBy k p p) (is-near-by k l g (omega (arith, h .0)) (omega (arith, h .1))) (is-near-by k p p (omega (arith, h .0)) (omega (arith, h .1))))
+    (λ e. let h = near-by-is k l g (and-left (nearBy k l g) (nearBy k p p) e) in
+    let m = near-by-is k p p (and-right (nearBy k l g) (nearBy k p p) e) in
+    is-near-by k (min l p) (max g p) (omega (arith, h .0, m .0)) (omega (arith, h .1, m .1)))
 
 -- one sample
 module _ (mask x : ℕ) where
-  one-near : ltb (bitXor x mask % 128) 2 ≡ near (onLine (signed mask x)) (onLine (signed mask x))
+  one-near : (k : ℕ) → k ≤ 128 → ltb (bitXor x mask % 128) k ≡ nearBy k (onLine (signed mask x)) (onLine (signed mask x))
   unfolding signed
-  one-near = go (leb 128 x)
+  one-near k few = go (leb 128 x)
     where
-      go : (b : Bool) → ltb (bitXor x mask % 128) 2
-          ≡ near (onLine (cond b (pos (bitXor x mask % 128)) (negsuc (bitXor x mask % 128)))) (onLine (cond b (pos (bitXor x mask % 128)) (negsuc (bitXor x mask % 128))))
+      go : (b : Bool) → ltb (bitXor x mask % 128) k
+          ≡ nearBy k (onLine (cond b (pos (bitXor x mask % 128)) (negsuc (bitXor x mask % 128)))) (onLine (cond b (pos (bitXor x mask % 128)) (negsuc (bitXor x mask % 128))))
       go true =
-          let k = bitXor x mask % 128 in
-          alike (ltb k 2) (near (128 + k) (128 + k))
-          (λ e. is-near (128 + k) (128 + k) (omega arith) (omega (arith, ltb-true k 2 e)))
-          (λ e. lt-ltb k 2 (omega (arith, near-is (128 + k) (128 + k) e .1)))
+          let y = bitXor x mask % 128 in
+          alike (ltb y k) (nearBy k (128 + y) (128 + y))
+          (λ e. is-near-by k (128 + y) (128 + y) (omega arith) (omega (arith, ltb-true y k e)))
+          (λ e. lt-ltb y k (omega (arith, near-by-is k (128 + y) (128 + y) e .1)))
       go false =
-          let k = bitXor x mask % 128 in
-          alike (ltb k 2) (near (127 - k) (127 - k))
-          (λ e. is-near (127 - k) (127 - k) (omega (arith, ltb-true k 2 e)) (omega arith))
-          (λ e. lt-ltb k 2 (omega (arith, near-is (127 - k) (127 - k) e .0)))
+          let y = bitXor x mask % 128 in
+          alike (ltb y k) (nearBy k (127 - y) (127 - y))
+          (λ e. is-near-by k (127 - y) (127 - y) (omega (arith, ltb-true y k e)) (omega arith))
+          (λ e. lt-ltb y k (omega (arith, few, near-by-is k (127 - y) (127 - y) e .0)))
 
   module _ (seven : mask < 128) (octet : x < 256) where
     low : bitXor x mask % 128 ≡ bitXor (x % 128) mask
@@ -171,11 +177,12 @@ pub record SpreadTurn (s : List ℕ) (n mask any all i : ℕ) : Type 0 where
   pub some : 1 ≤ i → Around mask (getD s 0 0) (take i s) any all
   pub zeros : eqb (any % 128) 0 ≡ twoZeros mask (take i s)
   pub close : ltb (any % 128) 2 ≡ near (leastOf mask (take i s)) (greatestOf mask (take i s))
+  pub about : ltb (any % 128) 4 ≡ nearBy 4 (leastOf mask (take i s)) (greatestOf mask (take i s))
 
 pub spread-none : (s : List ℕ) (n mask : ℕ) → SpreadTurn s n mask 0 255 0
 unfolding countOf leastOf greatestOf
 spread-none s n mask =
-    record { within = omega arith; none = λ e. (refl, refl); some = λ h. absurd (omega arith); zeros = refl; close = refl }
+    record { within = omega arith; none = λ e. (refl, refl); some = λ h. absurd (omega arith); zeros = refl; close = refl; about = refl }
 
 -- one sample more, around the first
 around-more : (mask first x any all : ℕ) → bitXor first mask ≤ any → all ≤ bitXor first mask
@@ -231,14 +238,14 @@ module _ (s : List ℕ) (n mask any all i : ℕ) (seven : mask < 128) (h : i < l
       let p : ℕ → Bool = λ x. eqb x (plusZero mask) || eqb x (minusZero mask) in
       ap (λ (z : ℕ). eqb z 0) (or-low any y) ∙ or-none (any % 128) (y % 128) ∙ ap₂ (λ (a b : Bool). a && b) e (one-zero mask (getD s i 0) seven octet) ∙ sym (every-more p s i h)
 
-  close-next : ltb (any % 128) 2 ≡ near (leastOf mask (take i s)) (greatestOf mask (take i s))
-      → ltb (bitOr any y % 128) 2 ≡ near (leastOf mask (take (i + 1) s)) (greatestOf mask (take (i + 1) s))
-  close-next e =
+  near-next : (j : ℕ) → 2 ^ j ≤ 128 → ltb (any % 128) (2 ^ j) ≡ nearBy (2 ^ j) (leastOf mask (take i s)) (greatestOf mask (take i s))
+      → ltb (bitOr any y % 128) (2 ^ j) ≡ nearBy (2 ^ j) (leastOf mask (take (i + 1) s)) (greatestOf mask (take (i + 1) s))
+  near-next j few e =
       let p = onLine (signed mask (getD s i 0)) in
       let l = leastOf mask (take i s) in
       let g = greatestOf mask (take i s) in
-      ap (λ (z : ℕ). ltb z 2) (or-low any y) ∙ or-below 1 (any % 128) (y % 128) ∙ ap₂ (λ (a b : Bool). a && b) e (one-near mask (getD s i 0)) ∙ sym (near-more l g p)
-      ∙ ap₂ near (least-more s i h mask {n = l} {r = p} refl refl) (greatest-more s i h mask {n = g} {r = p} refl refl)
+      ap (λ (z : ℕ). ltb z (2 ^ j)) (or-low any y) ∙ or-below j (any % 128) (y % 128) ∙ ap₂ (λ (a b : Bool). a && b) e (one-near mask (getD s i 0) (2 ^ j) few) ∙ sym (near-more (2 ^ j) l g p)
+      ∙ ap₂ (nearBy (2 ^ j)) (least-more s i h mask {n = l} {r = p} refl refl) (greatest-more s i h mask {n = g} {r = p} refl refl)
 
   pub spread-turn : i < n → SpreadTurn s n mask any all i → SpreadTurn s n mask (bitOr any y) (bitAnd all y) (i + 1)
   spread-turn more t =
@@ -247,7 +254,8 @@ module _ (s : List ℕ) (n mask any all i : ℕ) (seven : mask < 128) (h : i < l
         none = λ e. absurd (omega arith);
         some = λ k. go (eqb i 0) refl;
         zeros = zeros-next (t .zeros);
-        close = close-next (t .close);
+        close = near-next 1 (omega arith) (t .close);
+        about = near-next 2 (omega arith) (t .about);
       }
     where
       go : (b : Bool) → eqb i 0 ≡ b → Around mask (getD s 0 0) (take (i + 1) s) (bitOr any y) (bitAnd all y)
@@ -256,4 +264,4 @@ module _ (s : List ℕ) (n mask any all i : ℕ) (seven : mask < 128) (h : i < l
 
 pub spread-done : {s : List ℕ} {n mask any all i : ℕ} → 1 ≤ n → i ≡ n → SpreadTurn s n mask any all i → SpreadIs mask (getD s 0 0) (take n s) (record { any = any; all = all })
 spread-done {s} {n} {mask} {any} {all} h e t =
-    rw (← e) (record { same = t .some (omega arith) .same; zeros = t .zeros; close = t .close })
+    rw (← e) (record { same = t .some (omega arith) .same; zeros = t .zeros; close = t .close; about = t .about })

@@ -10,6 +10,7 @@ use lib.Dec.{eqb}
 use Rattle.rules.specs.Samples.{maskOf}
 use Rattle.rules.specs.Tools.{isLength}
 use Rattle.rules.proofs.Tests.{or-cases, by-length}
+use Rattle.rules.proofs.Signed.{LawMask, law-mask}
 use Rattle.look.specs.Looks.{isMask, FrameIn}
 
 -- a test that fails
@@ -23,6 +24,10 @@ and-zero false = refl
 -- the masks have seven bits
 pub mask-seven : (mask : ℕ) → isMask mask ≡ true → mask < 128
 mask-seven mask h = or-cases (mask < 128) (eqb mask 0x55) (eqb mask 0x7F) h (λ e. omega (arith, eqb-true mask 0x55 e)) (λ e. omega (arith, eqb-true mask 0x7F e))
+
+-- each is a law's
+pub law-for : (mask : ℕ) → isMask mask ≡ true → LawMask mask
+law-for mask h = or-cases (LawMask mask) (eqb mask 0x55) (eqb mask 0x7F) h (λ e. rw (eqb-true mask 0x55 e) (law-mask 0)) (λ e. rw (eqb-true mask 0x7F e) (law-mask 1))
 
 pub is-mask : (law : ℕ) → isMask (maskOf law) ≡ true
 is-mask law = go (eqb law 0)

@@ -2,11 +2,12 @@
 
 ghost use mathlib.Core.Path.{_≡_};
 ghost use mathlib.Core.Bool.{cond};
-ghost use Prim.Native.Nat.{_+_, _*_, _^_, _≤_, _<_};
+ghost use Prim.Native.Nat.{_+_, _*_, _^_, _≤_, _<_, min, max};
 ghost use lib.ListN.{length, getD, take, drop};
 ghost use lib.Dec.{eqb};
 ghost use Rattle.look.specs.Rows.{Gathers, RowIs};
-ghost use Rattle.look.specs.Looks.{marksOf, SpreadIs, countIs};
+ghost use Rattle.rules.specs.Samples.{signed, onLine};
+ghost use Rattle.look.specs.Looks.{marksOf, SpreadIs, ExtentIs, countIs};
 
 // What the samples of a frame have in common, each with the law's mask taken off: the bits that any sets, and those that all set.
 pub struct Spread {
@@ -38,6 +39,52 @@ pub fn spread_of(samples: &[u8], n: usize, mask: u8) -> Spread
         i += 1;
     }
     Spread { any: any, all: all }
+}
+
+// The least and the greatest of a frame's samples, as places on the line of signed numbers, where 0 is at 128.
+pub struct Extent {
+    pub least: u8,
+    pub greatest: u8,
+}
+
+// A sample's place on that line.
+fn line_of(x: u8, mask: u8) -> u8
+    ensures { λ r. ⌜ r ≡ onLine (signed mask x) ⌝ }
+{
+    let y = (x ^ mask) % 128;
+    if 128 <= x { 128 + y } else { 127 - y }
+}
+
+fn lower(a: u8, b: u8) -> u8
+    ensures { λ r. ⌜ r ≡ min a b ⌝ }
+{
+    if a < b { a } else { b }
+}
+
+fn higher(a: u8, b: u8) -> u8
+    ensures { λ r. ⌜ r ≡ max a b ⌝ }
+{
+    if a < b { b } else { a }
+}
+
+// The least and the greatest of n samples, looked at once; sixteen to a register.
+pub fn extent_of(samples: &[u8], n: usize, mask: u8) -> Extent
+    requires { ⌜ n ≤ length (now samples) ⌝ }
+    ensures { λ r. ⌜ ExtentIs mask (take n (now (samples .entry))) r ⌝ }
+{
+    let mut least: u8 = 255;
+    let mut greatest: u8 = 0;
+    let mut i = 0;
+    while i < n {
+        let p = line_of(samples[i], mask);
+        least = lower(least, p);
+        greatest = higher(greatest, p);
+        i += 1;
+    }
+    Extent {
+        least: least,
+        greatest: greatest,
+    }
 }
 
 // How many of n samples are x. Counted in 16 bits, so that eight go to a register.

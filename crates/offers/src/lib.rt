@@ -11,12 +11,15 @@ use locating::tally_of;
 use look::count_of;
 use look::others;
 use look::spread_of;
+use ranges::row_count;
+use reducing::bits_of;
 use zeros::rice_of;
 ghost use mathlib.Core.Path.{_≡_};
 ghost use mathlib.Core.Bool.{true, false};
 ghost use Prim.Native.Nat.{_*_, _+_, _≤_, _<_};
 ghost use lib.ListN.{length, take};
 ghost use lib.Dec.{eqb};
+ghost use Rattle.rules.specs.Tools.{isTool};
 ghost use Rattle.rules.specs.Samples.{plusZero, minusZero};
 ghost use Rattle.rules.specs.Chooses.{every, leastOf, greatestOf};
 ghost use Rattle.look.specs.Looks.{countIs, near, twoZeros, isMask, FrameIn};
@@ -172,6 +175,21 @@ fn located_offer(samples: &[u8], n: usize, mask: u8) -> Offer
     near_offer(samples, n, mask)
 }
 
+// Fractional-bit (document 02, R-14): its one condition is that the frame has a row of table 7-28.
+fn fractional_offer(samples: &[u8], n: usize, mask: u8) -> Offer
+    requires { ⌜ (FrameIn (now samples) n) × (mask < 128) ⌝ }
+    ensures { λ r. ⌜ OfferIs mask 11 (take n (now (samples .entry))) r ⌝ }
+{
+    let k = reducing::row_of(samples, n, mask);
+    if row_count(n) <= k {
+        return fails(1);
+    }
+    Offer {
+        why: 0,
+        bits: bits_of(k, n),
+    }
+}
+
 // Tools 1 to 4: whole octets, by the value that all samples are to be.
 fn whole_offer(samples: &[u8], n: usize, mask: u8, tool: u32) -> Offer
     requires { ⌜ (FrameIn (now samples) n) × (mask < 128) ⌝ }
@@ -193,9 +211,12 @@ fn whole_offer(samples: &[u8], n: usize, mask: u8, tool: u32) -> Offer
 // A tool's offer for a frame, whatever the frame is and whatever the set holds.
 pub fn offer_of(samples: &[u8], n: usize, mask: u8, tool: u32) -> Offer
     requires { ⌜ (FrameIn (now samples) n) × (isMask mask ≡ true) ⌝ }
-    requires { ⌜ (1 ≤ tool) × (tool ≤ 7) ⌝ }
+    requires { ⌜ isTool tool ≡ true ⌝ }
     ensures { λ r. ⌜ OfferIs mask tool (take n (now (samples .entry))) r ⌝ }
 {
+    if tool == 11 {
+        return fractional_offer(samples, n, mask);
+    }
     if tool <= 4 {
         return whole_offer(samples, n, mask, tool);
     }

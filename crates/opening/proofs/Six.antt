@@ -38,14 +38,14 @@ module _ (s : List ℕ) (at : ℕ) (h : at / 8 < length s) where
 -- a frame of tool 6 or 8: the mark, then the tool
 module _ (s : List ℕ) (n m : ℕ) (e : m ≡ markAt n) (h : m / 8 < length s) where
   pub six-refused : {w : Refusal} {at : ℕ} → sixNotEight (bitsOf s) (m + 1) ≡ refuse w at
-      → (mask set room i : ℕ) → refuse w at ≡ afterFirst mask set room (sixOrEight n) (bitsOf s) i
+      → (mask set room o i : ℕ) → refuse w at ≡ afterFirst mask set room o (sixOrEight n) (bitsOf s) i
   unfolding afterFirst
-  six-refused q mask set room i = rw (← e, bit-there s m h, q)
+  six-refused q mask set room o i = rw (← e, bit-there s m h, q)
 
   pub six-decided : {t k : ℕ} (mark : ℕ) → mark ≡ getD (bitsOf s) m 0 → sixNotEight (bitsOf s) (m + 1) ≡ whole t k
-      → (mask set room i : ℕ) → withTool mask set room t n mark (bitsOf s) (m + 1) ≡ afterFirst mask set room (sixOrEight n) (bitsOf s) i
+      → (mask set room o i : ℕ) → withTool mask set room t n mark (bitsOf s) (m + 1) ≡ afterFirst mask set room o (sixOrEight n) (bitsOf s) i
   unfolding afterFirst
-  six-decided mark f q mask set room i = rw (f, ← e, bit-there s m h, q)
+  six-decided mark f q mask set room o i = rw (f, ← e, bit-there s m h, q)
 
 -- it is no tool before 6
 gives-six : Gives sixNotEight (λ t. 6 ≤ t)

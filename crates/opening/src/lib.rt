@@ -6,6 +6,8 @@ ghost use lib.ListN.{length};
 ghost use Rattle.rules.specs.Tools.{isLength};
 ghost use Rattle.rules.specs.Bits.{bitsOf};
 ghost use Rattle.rules.specs.First.{markAt, sixNotEight};
+ghost use Rattle.rules.specs.Fractional.{firstCode};
+ghost use Rattle.rules.specs.Frame.{rowIn};
 ghost use Rattle.bits.specs.Outcomes.{Reads};
 ghost use Rattle.opening.specs.Opening.{Opens, SixOrEight, Starts};
 use bits::Outcome;
@@ -13,7 +15,7 @@ use prefix::Begins;
 use rules::Ending;
 use rules::Refusal;
 
-// What a frame's first bits say: its tool and length, tool 6's mark, and the place where its body begins.
+// What a frame's first bits say: its tool and length, tool 6's mark or tool 11's row, and the place where its body begins.
 pub struct Head {
     pub tool: u32,
     pub len: usize,
@@ -71,6 +73,17 @@ fn six_or_eight(octets: &[u8], n: usize) -> Opening
     }
 }
 
+// Tool 11's row is told by the first octet (document 02, R-14); the others have nothing there.
+fn row_in(o: u8, t: u32, n: usize) -> usize
+    requires { ⌜ (t ≡ 11 → firstCode n ≤ o) ⌝ }
+    ensures { λ r. ⌜ r ≡ rowIn o t n ⌝ }
+{
+    if t != 11 {
+        return 0;
+    }
+    (o - ranges::first_code(n)) as usize
+}
+
 // What the first octet begins, and where it is tool 6 or 8, which of them.
 fn opening_of(octets: &[u8]) -> Opening
     ensures { λ r. ⌜ Opens (now (octets .entry)) r ⌝ }
@@ -89,7 +102,7 @@ fn opening_of(octets: &[u8]) -> Opening
         Begins::Tool(t, n) => Opening::Body(Head {
             tool: t,
             len: n,
-            mark: 0,
+            mark: row_in(first, t, n),
             at: 8,
         }),
         Begins::SixOrEight(n) => six_or_eight(octets, n),

@@ -303,10 +303,13 @@ pub fn first_octet(o: u8) -> Begins
     Begins::Tool(t, n)
 }
 
-// "Tool t (1 to 7) adds 2^(t-1)".
+// "Tool t (1 to 7) adds 2^(t-1)"; tool 11 adds 128 (document 02, R-14).
 pub fn holds(set: u32, t: u32) -> bool
     ensures { λ r. ⌜ r ≡ tools.holds set t ⌝ }
 {
+    if t == 11 {
+        return (set >> 7) % 2 == 1;
+    }
     if t < 1 {
         return false;
     }

@@ -22,21 +22,24 @@ use Rattle.rules.specs.Runs.{zerosFrom, rice, runsFrom}
 use Rattle.rules.specs.Zeros.{Tree, leaf, fork, treeOf, readTree, zeroOf}
 use Rattle.rules.specs.Located.{widthOf, listedFrom, listed, byMethod, emptyIn, lay, valuesInto, valuesOf, located}
 use Rattle.rules.specs.First.{First, unassigned, pad, tool, sixOrEight, firstOctet, markAt, sixNotEight}
-use Rattle.rules.specs.Frame.{Found, body, withTool, afterFirst, frame, readOne}
+use Rattle.rules.specs.Fractional.{radix, groupOf, bitsFor, bodyBits, digitsOf, groupsFrom, groupsAs, samplesAt, fractional}
+use Rattle.rules.specs.Frame.{Found, body, withTool, rowIn, afterFirst, frame, readOne}
 use Rattle.rules.specs.Walk.{Walked, stopped, walkAll, samplesKept}
 use Rattle.rules.proofs.Octets.{Below, none, bitsOf-below, length-bitsOf}
 use Rattle.rules.proofs.Tests.{and-left, and-right}
-use Rattle.rules.proofs.Gives.{Gives, gives-bit, gives-number, gives-zerosFrom, gives-rice, gives-runsFrom, gives-byMethod, gives-readTree, gives-bitsFrom}
+use Rattle.rules.proofs.Gives.{Gives, gives-bit, gives-number, gives-zerosFrom, gives-rice, gives-runsFrom, gives-byMethod, gives-readTree, gives-bitsFrom, gives-groupsFrom}
 use Rattle.rules.proofs.Accepted.{gives-body}
 use Rattle.rules.proofs.Laid.{empty-all, lay-count}
 use Rattle.rules.proofs.Each.{Each, nothing, next}
 use Rattle.rules.proofs.Signed.{LawMask, law-mask}
 use Rattle.rules.proofs.Room.{length-most}
 use Rattle.rules.proofs.Gives.{no-refusal}
-use Rattle.promises.proofs.Reach.{near-bit, near-more}
+use Rattle.promises.proofs.Reach.{near-bit, near-more, near-numberFrom}
+use Rattle.rules.proofs.Fractional.{body-bits-most}
+use Rattle.promises.proofs.Fractional.{near-groups}
 use Rattle.promises.proofs.Rows.{few-values}
 use Rattle.promises.proofs.Methods.{ones}
-use Rattle.promises.proofs.Bounded.{Costs, costs-near, near-numberFrom, near-bitsFrom, costs-rice, costs-runs, costs-method, width-most, depth, near-tree, tree-depth, tree-leaves, costs-six, costs-other, plain}
+use Rattle.promises.proofs.Bounded.{Costs, costs-near, near-bitsFrom, costs-rice, costs-runs, costs-method, width-most, depth, near-tree, tree-depth, tree-leaves, costs-six, costs-other, plain}
 use Rattle.promises.proofs.Further.{SixOrEight, six, eight, six-or-eight, bit-there, mark-first, nothing-short}
 use Rattle.promises.proofs.Refused.{refused-walk, Begins, walkable, unlawful, no-set, too-long, walk-begins}
 use Rattle.promises.proofs.Points.{same-refusal, same-bit, near-zeros}
@@ -226,6 +229,28 @@ asks-six mask n mark l =
     (pays (0 + 6) (n * 10 + n) 3526 (omega arith) (asks-runs 10 n s n n [] (omega arith))) (λ flags q.
     asks-give (0 + 6 + 10 * n) 3526 (map (zeroOf mask mark) flags)))
 
+-- tool 11: groups of w bits each
+asks-groups : (r g w : ℕ) (done : List ℕ) (k : ℕ) → Asks 0 (w * k) (groupsFrom r g w done k)
+unfolding groupsFrom
+asks-groups r g w done zero = asks-give 0 (w * 0) done
+asks-groups r g w done (suc k) =
+    let more = mul-suc w k in
+    asks-here 0 (w * suc k) (λ start. asks-number 0 w (w * suc k) (omega arith) (λ v h.
+    asks-cond (ltb v (r ^ g))
+    (λ t. pays (0 + w) (w * k) (w * suc k) (omega arith) (asks-groups r g w (done ++ digitsOf r g v) k))
+    (λ t. asks-fail (0 + w) (w * suc k) Place start (is-not Place (omega arith)))))
+
+asks-fractional : (mask k n : ℕ) → n ≤ 320 → Asks 0 3047 (fractional mask k n)
+unfolding groupsAs
+asks-fractional mask k n h =
+    let r = radix k in
+    let g = groupOf r in
+    let w = bitsFor r in
+    let most = body-bits-most k n h in
+    asks-then 0 3047 (λ digits. bodyBits k n) (gives-groupsFrom r g w [] (n / g)) (costs-near (bodyBits k n) (near-groups r g w [] (n / g)))
+    (pays 0 (bodyBits k n) 3047 (omega arith) (asks-groups r g w [] (n / g))) (λ digits q.
+    asks-give (0 + bodyBits k n) 3047 (map (λ d. getD (samplesAt mask k) d 0) digits))
+
 asks-other : {mask : ℕ} → LawMask mask → (t n mark : ℕ) → n ≤ 320 → (t ≡ 6 → ⊥) → Asks 0 3047 (body mask t n mark)
 unfolding body
 asks-other {mask} l t n mark h ne =
@@ -237,7 +262,8 @@ asks-other {mask} l t n mark h ne =
     asks-then 0 3047 (λ flags. n) (gives-bitsFrom [] n none) (costs-near n (near-bitsFrom [] n)) (pays 0 n 3047 (omega arith) (asks-bitsFrom [] n))
     (λ flags q. asks-give (0 + n) 3047 (map (zeroOf mask 0) flags))) (λ e.
     asks-cond (eqb t 6) (λ e. absurd (ne (eqb-true t 6 e))) (λ e.
-    asks-located l n h))))))
+    asks-cond (eqb t 11) (λ e. asks-fractional mask mark n h) (λ e.
+    asks-located l n h)))))))
 
 -- a body that asks for k at most and has c bits at most, and then its filling
 asks-withTool : {mask : ℕ} → LawMask mask → (set room t n mark c k : ℕ) → isLength n ≡ true → c + 7 ≤ k → Costs 0 (λ s. c) (body mask t n mark) → Asks 0 k (body mask t n mark)
@@ -263,17 +289,18 @@ asks-six-or-eight {mask} l set room n mark t len eight =
     asks-withTool l set room 8 n mark 2686 3526 len (omega arith) (costs-other l 8 n mark (length-most n len) (omega arith))
     (pays 0 3047 3526 (omega arith) (asks-other l 8 n mark (length-most n len) (omega arith)))
 
-after-asks : {mask : ℕ} → LawMask mask → (set room : ℕ) (first : First) → plain first ≡ true → {b : List ℕ} → Below 2 b → 8 ≤ length b
-    → (at : ℕ) → afterFirst mask set room first b 8 ≡ refuse Short at → at < 3533
+after-asks : {mask : ℕ} → LawMask mask → (set room o : ℕ) (first : First) → plain first ≡ true → {b : List ℕ} → Below 2 b → 8 ≤ length b
+    → (at : ℕ) → afterFirst mask set room o first b 8 ≡ refuse Short at → at < 3533
 unfolding afterFirst
-after-asks l set room unassigned p z h at e = absurd (is-not Prefix (omega arith) (same-refusal e))
-after-asks l set room pad p z h at e = no-refusal (sym e)
-after-asks {mask} l set room (tool t n) p {b} z h at e =
+after-asks l set room o unassigned p z h at e = absurd (is-not Prefix (omega arith) (same-refusal e))
+after-asks l set room o pad p z h at e = no-refusal (sym e)
+after-asks {mask} l set room o (tool t n) p {b} z h at e =
     let len = and-right (not (eqb t 6)) (isLength n) p in
     let ne = eqb-false t 6 (not-true (eqb t 6) (and-left (not (eqb t 6)) (isLength n) p)) in
     let small = length-most n len in
-    omega (arith, asks-withTool l set room t n 0 2686 3047 len (omega arith) (costs-other l t n 0 small ne) (asks-other l t n 0 small ne) .asks b z 8 h at e)
-after-asks {mask} l set room (sixOrEight n) p {b} z h at e =
+    let k = rowIn o t n in
+    omega (arith, asks-withTool l set room t n k 2686 3047 len (omega arith) (costs-other l t n k small ne) (asks-other l t n k small ne) .asks b z 8 h at e)
+after-asks {mask} l set room o (sixOrEight n) p {b} z h at e =
     let m = bit-there b [] (markAt n) (omega (arith, mark-first n)) in
     go (sixNotEight b (markAt n + 1)) refl (rw (m .0) at e)
   where
@@ -292,7 +319,7 @@ octets-ask law set room (o ∷ octets) at e = some (bitsOf (o ∷ octets)) (bits
   where
     some : (b : List ℕ) → Below 2 b → 8 ≤ length b → frame (maskOf law) set room b 0 ≡ refuse Short at → at < 3533
     some b z h d =
-        after-asks (law-mask law) set room (firstOctet (valueFrom 0 (take 8 b))) (first-of-bits b z h) z h at (sym (frame-after (maskOf law) set room b h) ∙ d)
+        after-asks (law-mask law) set room (valueFrom 0 (take 8 b)) (firstOctet (valueFrom 0 (take 8 b))) (first-of-bits b z h) z h at (sym (frame-after (maskOf law) set room b h) ∙ d)
 
 read-asks : (octets : List ℕ) (law set room at : ℕ) → readOne octets law set room ≡ refuse Short at → at < 3533
 unfolding readOne

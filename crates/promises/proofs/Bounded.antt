@@ -1,15 +1,15 @@
--- "An accepted one has at most 402 (320 empty runs with S = 9: 3,213 bits)."
+-- "An accepted one has at most 402 (320 empty runs with S = 9: 3,213 bits)." Tool 11 leaves that as it is: it has at most 81 (`bounded-eleven`).
 use Prim.Native.Nat.{ℕ, zero, suc, _+_, _*_, _-_, _^_, _/_, _≤_, _<_, max}
 use native.Mathlib.Omega.{arith}
 use native.Mathlib.Nat.{mul-le-mul, mul-le-mul-left, mul-suc, div-add-mod'}
 use lib.Pow.{pow-mono, shr-le, high}
-use mathlib.Core.Path.{_≡_, refl, ap, _∙_}
+use mathlib.Core.Path.{_≡_, refl, sym, ap, _∙_}
 use mathlib.Core.List.{List, [], _∷_, _++_, map, append-nil}
 use mathlib.Core.Bool.{Bool, true, false, cond, not, _&&_}
 use lib.ListN.{length, getD, replicate, length-append, length-replicate, length-map}
 use lib.IntN.{pos, negsuc}
 use lib.Dec.{eqb, leb, ltb}
-use borrow.Author.Tests.{le-leb, eq-eqb, ne-eqb, eqb-true, eqb-false, leb-true, ltb-false, not-true}
+use borrow.Author.Tests.{le-leb, eq-eqb, ne-eqb, eqb-true, eqb-false, leb-true, ltb-true, ltb-false, not-true}
 use Rattle.rules.specs.declared.Refusal.{Refusal}
 use Rattle.rules.specs.declared.Refusal.the-variants.{Run, Place, Method, Case, Tool, Room, Set, Law}
 use Rattle.rules.specs.Tools.{holds, isSet, isLaw, isLength}
@@ -19,7 +19,8 @@ use Rattle.rules.specs.Samples.{maskOf, sampleOf, plusZero, minusZero}
 use Rattle.rules.specs.Runs.{zerosFrom, rice, riceForm, runsFrom, runsOf, riceForms}
 use Rattle.rules.specs.Zeros.{Tree, leaf, fork, treeOf, readTree, zeroOf, flagOf, codesOf, codeOf, mostS, plusMinus, plusMinusForm}
 use Rattle.rules.specs.First.{baseOf, riceCode, First, unassigned, pad, tool, sixOrEight, rows, lookUp, firstOctet, markAt, sixNotEight}
-use Rattle.rules.specs.Frame.{Found, octetsUsed, body, withTool, afterFirst, frame, readOne}
+use Rattle.rules.specs.Fractional.{firstCode, rowCount, bodyBits}
+use Rattle.rules.specs.Frame.{Found, octetsUsed, body, withTool, rowIn, afterFirst, frame, readOne}
 use Rattle.rules.specs.Located.{widthFrom, widthOf, listedFrom, listed, byMethod, emptyIn, lay, valuesInto, valuesOf, located}
 use Rattle.rules.specs.Chooses.{countOf}
 use Rattle.rules.proofs.Octets.{Below, none, more, bitsOf-below, length-lowBits}
@@ -37,8 +38,11 @@ use Rattle.promises.proofs.Forms.{rice-restores, plusMinusForm-below}
 use Rattle.promises.proofs.Written.{read-bits}
 use Rattle.promises.proofs.Frame.{foundAt}
 use Rattle.rules.proofs.Room.{length-most}
+use Rattle.rules.proofs.Firsts.{isCode, asWritten, first-as-written}
 use Rattle.rules.proofs.Gives.{no-refusal, same-place, same-value}
-use Rattle.promises.proofs.Reach.{Near, near-fail, near-give, near-here, near-bit, near-then, near-cond, near-more}
+use Rattle.promises.proofs.Reach.{Near, near-fail, near-give, near-here, near-bit, near-then, near-cond, near-more, near-numberFrom}
+use Rattle.rules.proofs.Fractional.{body-bits-most}
+use Rattle.promises.proofs.Fractional.{near-fractional, fractional-most}
 
 -- A reading's cost by what it gives: from place i to j, with c saved up and k of the value left, j + c is at most i + k
 pub record Costs {A : Type 0} (c : ℕ) (k : A → ℕ) (p : Reader A) : Type 0 where
@@ -66,12 +70,7 @@ costs-then {A} {B} {Q} {p} {f} c k d l C L v g h s = record { goes = λ b z i m 
         let u = v .on z m e in
         omega (arith, g .goes b z i m a n e, h a (u .2) .goes b z n (u .1) r j q, s a r (u .2))
 
--- numbers
-pub near-numberFrom : (v n : ℕ) → Near n (numberFrom v n)
-unfolding numberFrom
-near-numberFrom v zero = near-give v
-near-numberFrom v (suc n) = near-more (1 + n) (suc n) (omega arith) (near-then 1 n near-bit (λ a. near-numberFrom (2 * v + a) n))
-
+-- bits and octets
 pub near-bitsFrom : (done : List ℕ) (n : ℕ) → Near n (bitsFrom done n)
 unfolding bitsFrom
 near-bitsFrom done zero = near-give done
@@ -287,7 +286,8 @@ costs-other {mask} l t n mark h ne =
     (λ e. costs-cond (eqb t 4) (λ e. cheap (8 + 0) (omega arith) (near-then 8 0 (near-numberFrom 0 8) (λ x. near-give (replicate n x))))
     (λ e. costs-cond (eqb t 5) (λ e. cheap (n + 0) (omega arith) (near-then n 0 (near-bitsFrom [] n) (λ flags. near-give (map (zeroOf mask 0) flags))))
     (λ e. costs-cond (eqb t 6) (λ e. absurd (ne (eqb-true t 6 e)))
-    (λ e. costs-located l n h))))))
+    (λ e. costs-cond (eqb t 11) (λ e. cheap (bodyBits mark n) (omega (arith, body-bits-most mark n h)) (near-fractional mask mark n))
+    (λ e. costs-located l n h)))))))
 
 -- a frame whose body begins at place i
 withTool-bits : (mask set room t n mark k : ℕ) {b : List ℕ} → Below 2 b → (i : ℕ) → i ≤ length b → Costs 0 (λ s. k) (body mask t n mark)
@@ -318,16 +318,16 @@ pub first-plain : (o : ℕ) → o < 256 → plain (firstOctet o) ≡ true
 unfolding firstOctet lookUp rows
 first-plain o h = allBelow-at (λ o. plain (firstOctet o)) 256 refl o h
 
-after-bits : {mask : ℕ} → LawMask mask → (set room : ℕ) (first : First) → plain first ≡ true → {b : List ℕ} → Below 2 b → 8 ≤ length b
-    → {f : Found} {j : ℕ} → afterFirst mask set room first b 8 ≡ whole f j → f .bits ≤ 3213
+after-bits : {mask : ℕ} → LawMask mask → (set room o : ℕ) (first : First) → plain first ≡ true → {b : List ℕ} → Below 2 b → 8 ≤ length b
+    → {f : Found} {j : ℕ} → afterFirst mask set room o first b 8 ≡ whole f j → f .bits ≤ 3213
 unfolding afterFirst
-after-bits l set room unassigned p z h e = no-refusal e
-after-bits l set room pad p z h {f} {j} e = let v : record { tool = 0; samples = []; bits = 8 } ≡ f = same-value e in rw (← v) (omega arith)
-after-bits {mask} l set room (tool t n) p z h e =
+after-bits l set room o unassigned p z h e = no-refusal e
+after-bits l set room o pad p z h {f} {j} e = let v : record { tool = 0; samples = []; bits = 8 } ≡ f = same-value e in rw (← v) (omega arith)
+after-bits {mask} l set room o (tool t n) p z h e =
     let len = and-right (not (eqb t 6)) (isLength n) p in
     let ne = eqb-false t 6 (not-true (eqb t 6) (and-left (not (eqb t 6)) (isLength n) p)) in
-    omega (arith, withTool-bits mask set room t n 0 2686 z 8 h (costs-other l t n 0 (length-most n len) ne) e)
-after-bits {mask} l set room (sixOrEight n) p {b} z h {f} {j} e = go (steps (bit b (markAt n)) _ e)
+    omega (arith, withTool-bits mask set room t n (rowIn o t n) 2686 z 8 h (costs-other l t n (rowIn o t n) (length-most n len) ne) e)
+after-bits {mask} l set room o (sixOrEight n) p {b} z h {f} {j} e = go (steps (bit b (markAt n)) _ e)
   where
     decide : (mark t k : ℕ) → SixOrEight t → withTool mask set room t n mark b (markAt n + 1) ≡ whole f j → f .bits ≤ 3213
     decide mark t k six d =
@@ -344,11 +344,11 @@ frame-bits : {mask : ℕ} → LawMask mask → (set room : ℕ) {b : List ℕ} �
 unfolding frame
 frame-bits {mask} l set room {b} z {f} {j} e = go (steps (number 8 b 0) _ e)
   where
-    go : Steps (number 8 b 0) (λ o k. afterFirst mask set room (firstOctet o) b k) f j → f .bits ≤ 3213
+    go : Steps (number 8 b 0) (λ o k. afterFirst mask set room o (firstOctet o) b k) f j → f .bits ≤ 3213
     go (through o k q d) =
         let g = gives-number 8 .on z (omega arith) q in
         let p : 8 ≡ k = number-next 0 8 b 0 q in
-        after-bits l set room (firstOctet o) (first-plain o (g .2)) z (omega (arith, g .1)) (rw (← p) at d)
+        after-bits l set room o (firstOctet o) (first-plain o (g .2)) z (omega (arith, g .1)) (rw (← p) at d)
 
 -- Bounded: "An accepted one has at most 402", 3,213 bits
 pub bounded : (octets : List ℕ) (law set room : ℕ) {f : Found} {j : ℕ} → readOne octets law set room ≡ whole f j → (f .bits ≤ 3213) × (octetsUsed f ≤ 402)
@@ -357,6 +357,75 @@ bounded octets law set room e =
     let p = not-refused (not (isLaw law)) Law 0 _ (bitsOf octets) 0 e in
     let q = not-refused (not (isSet set)) Set 0 _ (bitsOf octets) 0 (p .1) in
     let b = frame-bits (law-mask law) set room (bitsOf-below octets) (q .1) in
+    (b, omega arith)
+
+-- Tool 11: "worked out anew", it has at most 648 bits, 81 octets
+withTool-tool : (mask set room t n mark : ℕ) (b : List ℕ) (i : ℕ) {f : Found} {j : ℕ} → withTool mask set room t n mark b i ≡ whole f j → f .tool ≡ t
+unfolding withTool
+withTool-tool mask set room t n mark b i {f} {j} e =
+    let p = not-refused (not (holds set t)) (Tool t) 0 _ b i e in
+    let q = not-refused (ltb room n) Room 0 _ b i (p .1) in
+    go (steps (body mask t n mark b i) _ (q .1))
+  where
+    go : Steps (body mask t n mark b i) (λ s m. filled (record { tool = t; samples = s; bits = m }) (fillFor m) b m) f j → f .tool ≡ t
+    go (through s m d c) = ap (λ (x : Found). x .tool) (sym (filled-is (record { tool = t; samples = s; bits = m }) (fillFor m) b m c .0))
+
+row-bits : (mask set room n k : ℕ) → isLength n ≡ true → k < rowCount n → {b : List ℕ} → Below 2 b → 8 ≤ length b
+    → {f : Found} {j : ℕ} → withTool mask set room 11 n k b 8 ≡ whole f j → f .bits ≤ 648
+unfolding body
+row-bits mask set room n k len few {b} z h {f} {j} e =
+    let m = fractional-most n k len few in
+    let g : Costs 0 (λ s. 640) (body mask 11 n k) = costs-near 640 (near-more (bodyBits k n) 640 m (near-fractional mask k n)) in
+    omega (arith, withTool-bits mask set room 11 n k 640 z 8 h g e)
+
+row-told : (n o : ℕ) → isCode n o ≡ true → rowIn o 11 n < rowCount n
+row-told n o c =
+    let low = leb-true (firstCode n) o (and-left (leb (firstCode n) o) (ltb o (firstCode n + rowCount n)) c) in
+    let high = ltb-true o (firstCode n + rowCount n) (and-right (leb (firstCode n) o) (ltb o (firstCode n + rowCount n)) c) in
+    omega arith
+
+after-eleven : (mask set room o : ℕ) (first : First) → asWritten o first ≡ true → {b : List ℕ} → Below 2 b → 8 ≤ length b
+    → {f : Found} {j : ℕ} → afterFirst mask set room o first b 8 ≡ whole f j → f .tool ≡ 11 → f .bits ≤ 648
+unfolding afterFirst
+after-eleven mask set room o unassigned w z h e is = no-refusal e
+after-eleven mask set room o pad w z h {f} {j} e is =
+    let v : record { tool = 0; samples = []; bits = 8 } ≡ f = same-value e in
+    let t : 0 ≡ f .tool = ap (λ (x : Found). x .tool) v in
+    absurd (omega arith)
+after-eleven mask set room o (tool t n) w {b} z h {f} {j} e is =
+    let t-is : t ≡ 11 = sym (withTool-tool mask set room t n (rowIn o t n) b 8 e) ∙ is in
+    let d : withTool mask set room 11 n (rowIn o 11 n) b 8 ≡ whole f j = rw t-is at e in
+    let c : isLength n && isCode n o ≡ true = rw t-is at w in
+    row-bits mask set room n (rowIn o 11 n) (and-left (isLength n) (isCode n o) c) (row-told n o (and-right (isLength n) (isCode n o) c)) z h d
+after-eleven mask set room o (sixOrEight n) w {b} z h {f} {j} e is = go (steps (bit b (markAt n)) _ e)
+  where
+    decide : (mark t : ℕ) → SixOrEight t → withTool mask set room t n mark b (markAt n + 1) ≡ whole f j → f .bits ≤ 648
+    decide mark t six d = absurd (omega (arith, is, withTool-tool mask set room 6 n mark b (markAt n + 1) d))
+    decide mark t eight d = eight-out mask set room n mark b (markAt n + 1) d
+
+    decided : (mark m : ℕ) → Steps (sixNotEight b m) (λ t k. withTool mask set room t n mark b (markAt n + 1)) f j → f .bits ≤ 648
+    decided mark m (through t k q d) = decide mark t (six-or-eight b m t k q) d
+
+    go : Steps (bit b (markAt n)) (λ mark m. (sixNotEight >>= (λ t. from (markAt n + 1) (withTool mask set room t n mark))) b m) f j → f .bits ≤ 648
+    go (through mark m q d) = decided mark m (steps (sixNotEight b m) _ d)
+
+frame-eleven : (mask set room : ℕ) {b : List ℕ} → Below 2 b → {f : Found} {j : ℕ} → frame mask set room b 0 ≡ whole f j → f .tool ≡ 11 → f .bits ≤ 648
+unfolding frame
+frame-eleven mask set room {b} z {f} {j} e is = go (steps (number 8 b 0) _ e)
+  where
+    go : Steps (number 8 b 0) (λ o k. afterFirst mask set room o (firstOctet o) b k) f j → f .bits ≤ 648
+    go (through o k q d) =
+        let g = gives-number 8 .on z (omega arith) q in
+        let p : 8 ≡ k = number-next 0 8 b 0 q in
+        after-eleven mask set room o (firstOctet o) (first-as-written o (g .2)) z (omega (arith, g .1)) (rw (← p) at d) is
+
+pub bounded-eleven : (octets : List ℕ) (law set room : ℕ) {f : Found} {j : ℕ} → readOne octets law set room ≡ whole f j → f .tool ≡ 11
+    → (f .bits ≤ 648) × (octetsUsed f ≤ 81)
+unfolding readOne
+bounded-eleven octets law set room e is =
+    let p = not-refused (not (isLaw law)) Law 0 _ (bitsOf octets) 0 e in
+    let q = not-refused (not (isSet set)) Set 0 _ (bitsOf octets) 0 (p .1) in
+    let b = frame-eleven (maskOf law) set room (bitsOf-below octets) (q .1) is in
     (b, omega arith)
 
 -- It is reached: 320 of the rare zero, each an empty run, with S = 9

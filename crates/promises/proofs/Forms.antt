@@ -1,12 +1,12 @@
 -- The round trip of each tool's form, a law of its own, for every frame that the tool applies to; and that every form is bits.
-use Prim.Native.Nat.{ℕ, zero, suc, _-_, _^_, _/_, _≤_, _<_}
+use Prim.Native.Nat.{ℕ, zero, suc, _+_, _-_, _^_, _/_, _≤_, _<_}
 use native.Mathlib.Omega.{arith}
 use mathlib.Core.Path.{_≡_, refl}
 use mathlib.Core.List.{List, [], _∷_, _++_, map, append-nil}
 use mathlib.Core.Bool.{Bool, true, false, cond}
 use lib.ListN.{length, getD}
 use lib.Dec.{eqb, leb, ltb}
-use borrow.Author.Tests.{le-leb}
+use borrow.Author.Tests.{le-leb, ltb-true}
 use Rattle.rules.specs.Tools.{isTool, holds, isLength}
 use Rattle.rules.specs.Bits.{lowBits, bitsOf}
 use Rattle.rules.specs.First.{octetFor}
@@ -14,8 +14,9 @@ use Rattle.rules.specs.Samples.{plusZero, minusZero, sampleOf}
 use Rattle.rules.specs.Runs.{riceForm, riceForms, runsOf, runsForm}
 use Rattle.rules.specs.Zeros.{prefix, uncompressedForm, plusForm, minusForm, constantForm, binaryForm, plusMinusForm, flagOf, codesOf, mostS}
 use Rattle.rules.specs.Located.{valuesOf, widthOf}
+use Rattle.rules.specs.Fractional.{firstCode, rowCount, fractionalBody}
 use Rattle.rules.specs.Frame.{body, frame}
-use Rattle.rules.specs.Chooses.{countOf, markOf, bestS, riceBits, riceChoice, flagsFor, without, placesOf, numbersForm, methodOf, methodForm, valueForm, valuesForm, rowOf, locatedFlag, locatedForm, applies, formOf}
+use Rattle.rules.specs.Chooses.{countOf, markOf, bestS, riceBits, riceChoice, flagsFor, without, placesOf, numbersForm, methodOf, methodForm, valueForm, valuesForm, rowOf, locatedFlag, locatedForm, fractionalRow, fractionalApplies, fractionalForm, applies, formOf}
 use Rattle.rules.proofs.Octets.{Below, none, more, below-append, below-replicate, below-at, lowBits-below, bitsOf-below}
 use Rattle.rules.proofs.Signed.{LawMask}
 use Rattle.rules.proofs.Firsts.{hasOwn}
@@ -26,7 +27,8 @@ use Rattle.promises.proofs.Zeros.{isZero, flags-below, back-uncompresse
 use Rattle.promises.proofs.Methods.{leastS-range}
 use Rattle.promises.proofs.Located.{value-flags-below}
 use Rattle.promises.proofs.Rows.{Locates, locates, back-located}
-use Rattle.promises.proofs.Frame.{filledBits, foundAt, read-own, read-six, code-below, codeOf-below}
+use Rattle.promises.proofs.Fractional.{back-fractional, fractionalBody-below}
+use Rattle.promises.proofs.Frame.{filledBits, foundAt, read-own, read-row, read-six, code-below, codeOf-below}
 
 -- every form is bits
 riceForms-below : (s : ℕ) (vs : List ℕ) → Below 2 (riceForms s vs)
@@ -74,7 +76,7 @@ bestS-range : (mask : ℕ) (s : List ℕ) → isLength (length s) ≡ true → (
 bestS-range mask s l = leastS-range (riceBits mask (markOf mask s) s) (mostS (length s)) (mostS-some (length s) l)
 
 pub form-below : (mask t : ℕ) (s : List ℕ) → isLength (length s) ≡ true → Below 2 (formOf mask t s)
-unfolding formOf riceChoice locatedForm
+unfolding formOf riceChoice locatedForm fractionalForm
 form-below mask t s l =
     let r = bestS-range mask s l in
     below-cond (eqb t 1) (below-append (lowBits-below 8 (octetFor 1 (length s))) (bitsOf-below s))
@@ -83,8 +85,9 @@ form-below mask t s l =
     (below-cond (eqb t 4) (below-append (lowBits-below 8 (octetFor 4 (length s))) (lowBits-below 8 (getD s 0 0)))
     (below-cond (eqb t 5) (below-append (lowBits-below 8 (octetFor 5 (length s))) (flags-below mask 0 s))
     (below-cond (eqb t 6) (plusMinusForm-below mask (markOf mask s) (bestS mask (markOf mask s) s) s l (mark-small mask s) (r .0) (r .1))
+    (below-cond (eqb t 11) (below-append (lowBits-below 8 (firstCode (length s) + fractionalRow mask s)) (fractionalBody-below mask (fractionalRow mask s) s))
     (below-append (lowBits-below 8 (octetFor 7 (length s))) (below-append (lowBits-below 2 (rowOf mask s)) (below-append (lowBits-below 1 (locatedFlag mask s))
-    (valuesForm-below (map (sampleOf mask) (valuesOf (length s) (rowOf mask s) (locatedFlag mask s))) s)))))))))
+    (valuesForm-below (map (sampleOf mask) (valuesOf (length s) (rowOf mask s) (locatedFlag mask s))) s))))))))))
 
 -- the form of a frame, with its filling bits, is read as that frame by every reader that holds the tool and has the room, whatever follows
 pub record Restores (mask t : ℕ) (s form : List ℕ) : Type 0 where
@@ -150,6 +153,16 @@ located-restores {mask} law s l b a =
           post s l (le-leb 80 (length s) (a .long)) h r (back-located law s b a);
     }
 
+pub fractional-restores : {mask : ℕ} → LawMask mask → (s : List ℕ) → isLength (length s) ≡ true → Below 256 s → fractionalApplies mask s ≡ true
+    → Restores mask 11 s (fractionalForm mask s)
+unfolding body fractionalForm
+fractional-restores {mask} law s l b a =
+    record {
+      reads = λ set room post h r.
+          read-row mask set room (fractionalRow mask s) (length s) (fractionalBody mask (fractionalRow mask s) s) post s l
+          (ltb-true (fractionalRow mask s) (rowCount (length s)) a) h r (back-fractional law s l b a);
+    }
+
 -- every tool's form of every frame that it applies to
 pub form-restores : {mask : ℕ} → LawMask mask → (t : ℕ) (s : List ℕ) → isLength (length s) ≡ true → Below 256 s → isTool t ≡ true → applies mask t s ≡ true
     → Restores mask t s (formOf mask t s)
@@ -164,4 +177,5 @@ form-restores {mask} law t s l b h =
     (λ a. let r = bestS-range mask s l in
     rice-restores mask (markOf mask s) (bestS mask (markOf mask s) s) s l (mark-small mask s) (r .0) (r .1) (each-of (isZero mask) s a))
     (λ a. located-restores law s l b (locates mask s a))
+    (λ a. fractional-restores law s l b a)
     t h

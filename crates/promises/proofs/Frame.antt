@@ -8,15 +8,16 @@ use lib.ListN.{length, take, drop, replicate, length-append, length-replicate, t
 use lib.Seq.{take-append-add, length-take-le}
 use lib.Pow.{high}
 use lib.Dec.{ltb}
-use borrow.Author.Tests.{le-ltb, eq-eqb, ltb-true}
+use borrow.Author.Tests.{le-ltb, eq-eqb, ne-eqb, ltb-true}
 use Rattle.rules.specs.Tools.{holds, isLength}
 use Rattle.rules.specs.Bits.{lowBits, valueFrom, octetsFor, fillFor}
 use Rattle.rules.specs.Reading.{Read, whole, bit, number}
 use Rattle.rules.specs.First.{tool, sixOrEight, firstOctet, baseOf, octetFor, riceCode, lengthCode, isLong, markAt, sixNotEight}
 use Rattle.rules.specs.Zeros.{codesOf, codeOf, mostS}
-use Rattle.rules.specs.Frame.{Found, body, withTool, afterFirst, frame}
+use Rattle.rules.specs.Fractional.{firstCode, rowCount}
+use Rattle.rules.specs.Frame.{Found, body, withTool, rowIn, afterFirst, frame}
 use Rattle.rules.proofs.Octets.{Below, none, more, value-from, value-below, below-append, below-take, below-replicate}
-use Rattle.rules.proofs.Firsts.{hasOwn, own-low, first-of, first-of-six}
+use Rattle.rules.proofs.Firsts.{hasOwn, own-low, first-of, rows-few, row-first, first-of-six}
 use Rattle.rules.proofs.Codes.{bit-seam}
 use Rattle.rules.proofs.Tests.{allBelow, allBelow-at, by-length}
 use Rattle.rules.proofs.Each.{Each, nothing, next, all, each-all}
@@ -60,7 +61,28 @@ read-own mask set room t n b post s l own h r back =
     let e : ((lowBits 8 o ++ b) ++ fill) ++ post ≡ lowBits 8 o ++ (b ++ (fill ++ post)) = simp append-assoc in
     let first : number 8 (filledBits (lowBits 8 o ++ b) ++ post) 0 ≡ whole o (length (lowBits 8 o))
     = rw e (back-first (back-number 8 o (own-octet n t l own)) (b ++ (fill ++ post))) in
-    rw (first, first-of n t l own) (with-tool mask set room t n 0 (lowBits 8 o) b post s h r back)
+    rw (first, first-of n t l own, ne-eqb t 11 (λ e. omega (arith, own-low n t own))) (with-tool mask set room t n 0 (lowBits 8 o) b post s h r back)
+
+-- Tool 11: its first octet tells its row
+codes-small : (n k : ℕ) → isLength n ≡ true → k < rowCount n → firstCode n + k < 256
+unfolding firstCode rowCount
+codes-small n k l h =
+    omega (arith, h, rows-few n l, by-length (λ n. firstCode n ≤ 28) (omega arith) (omega arith) (omega arith) (omega arith) (omega arith) n l)
+
+row-of-code : (n k : ℕ) → rowIn (firstCode n + k) 11 n ≡ k
+row-of-code n k = omega arith
+
+pub read-row : (mask set room k n : ℕ) (b post s : List ℕ) → isLength n ≡ true → k < rowCount n → holds set 11 ≡ true → n ≤ room
+    → Back (body mask 11 n k) b s
+    → frame mask set room (filledBits (lowBits 8 (firstCode n + k) ++ b) ++ post) 0 ≡ foundAt 11 s (length (lowBits 8 (firstCode n + k) ++ b))
+unfolding frame afterFirst
+read-row mask set room k n b post s l few h r back =
+    let o = firstCode n + k in
+    let fill : List ℕ = replicate (fillFor (length (lowBits 8 o ++ b))) 0 in
+    let e : ((lowBits 8 o ++ b) ++ fill) ++ post ≡ lowBits 8 o ++ (b ++ (fill ++ post)) = simp append-assoc in
+    let first : number 8 (filledBits (lowBits 8 o ++ b) ++ post) 0 ≡ whole o (length (lowBits 8 o))
+    = rw e (back-first (back-number 8 o (codes-small n k l few)) (b ++ (fill ++ post))) in
+    rw (first, row-first n k l few, row-of-code n k) (with-tool mask set room 11 n k (lowBits 8 o) b post s h r back)
 
 -- Tool 6: the first octet has its code, and bits of what follows
 value-append : (u : ℕ) (a b : List ℕ) → valueFrom u (a ++ b) ≡ valueFrom (valueFrom u a) b

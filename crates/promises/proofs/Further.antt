@@ -1,6 +1,6 @@
 -- A reading looks no further than it goes: more bits after those that it had change nothing, unless it was SHORT.
 -- And SHORT is only said of a reading that would go past the end.
-use Prim.Native.Nat.{ℕ, zero, suc, _+_, _*_, _-_, _^_, _≤_, _<_}
+use Prim.Native.Nat.{ℕ, zero, suc, _+_, _*_, _-_, _^_, _/_, _≤_, _<_}
 use native.Mathlib.Omega.{arith}
 use native.Mathlib.Nat.{le-trans}
 use mathlib.Core.Path.{_≡_, refl, sym, _∙_}
@@ -19,7 +19,8 @@ use Rattle.rules.specs.Runs.{zerosFrom, rice, runsFrom}
 use Rattle.rules.specs.Zeros.{Tree, leaf, fork, treeOf, readTree, zeroOf}
 use Rattle.rules.specs.Located.{widthOf, listedFrom, listed, byMethod, emptyIn, lay, valuesInto, valuesOf, located}
 use Rattle.rules.specs.First.{First, unassigned, pad, tool, sixOrEight, firstOctet, markAt, sixNotEight}
-use Rattle.rules.specs.Frame.{Found, octetsUsed, body, withTool, afterFirst, frame, readOne}
+use Rattle.rules.specs.Fractional.{radix, groupOf, bitsFor, digitsOf, groupsFrom, groupsAs, samplesAt, fractional}
+use Rattle.rules.specs.Frame.{Found, octetsUsed, body, withTool, rowIn, afterFirst, frame, readOne}
 use Rattle.rules.proofs.Accepted.{Steps, through, steps, frame-accepts, read-accepts}
 use Rattle.rules.proofs.Octets.{length-bitsOf, bitsOf-append, bitsOf-below}
 use Rattle.rules.proofs.Signed.{law-mask}
@@ -160,6 +161,19 @@ firm-located mask n =
     firm-cond (eqb (length (valuesOf n c flag)) 0) (firm-fail Case start)
     (firm-valuesInto n (plusZero mask) (map (sampleOf mask) (valuesOf n c flag)) (replicate n (plusZero mask))))))
 
+pub firm-groups : (r g w : ℕ) (done : List ℕ) (m : ℕ) → Firm (groupsFrom r g w done m)
+unfolding groupsFrom
+firm-groups r g w done zero = firm-give done
+firm-groups r g w done (suc m) =
+    firm-bind firm-here (λ start. firm-bind (firm-numberFrom 0 w) (λ v.
+    firm-cond (ltb v (r ^ g)) (firm-groups r g w (done ++ digitsOf r g v) m) (firm-fail Place start)))
+
+firm-fractional : (mask k n : ℕ) → Firm (fractional mask k n)
+unfolding groupsAs
+firm-fractional mask k n =
+    let g = groupOf (radix k) in
+    firm-bind (firm-groups (radix k) g (bitsFor (radix k)) [] (n / g)) (λ digits. firm-give (map (λ d. getD (samplesAt mask k) d 0) digits))
+
 pub firm-body : (mask t n mark : ℕ) → Firm (body mask t n mark)
 unfolding body
 firm-body mask t n mark =
@@ -170,7 +184,8 @@ firm-body mask t n mark =
     (firm-cond (eqb t 5) (firm-bind (firm-bitsFrom [] n) (λ flags. firm-give (map (zeroOf mask 0) flags)))
     (firm-cond (eqb t 6)
     (firm-bind (firm-readTree (treeOf n)) (λ s. firm-bind (firm-runsFrom n s n n []) (λ flags. firm-give (map (zeroOf mask mark) flags))))
-    (firm-located mask n))))))
+    (firm-cond (eqb t 11) (firm-fractional mask mark n)
+    (firm-located mask n)))))))
 
 pub firm-withTool : (mask set room t n mark : ℕ) → Firm (withTool mask set room t n mark)
 unfolding withTool
@@ -270,12 +285,13 @@ six-goes mask set room n mark b c i = go (firm-six .goes b c i)
     go (same e) = rw e (on (sixNotEight b i))
 
 -- what the first octet begins
-after-goes : (mask set room : ℕ) (first : First) (b c : List ℕ) → 8 ≤ length b → Goes (length b) (afterFirst mask set room first b 8) (afterFirst mask set room first (b ++ c) 8)
+after-goes : (mask set room o : ℕ) (first : First) (b c : List ℕ) → 8 ≤ length b
+    → Goes (length b) (afterFirst mask set room o first b 8) (afterFirst mask set room o first (b ++ c) 8)
 unfolding afterFirst
-after-goes mask set room unassigned b c h = same refl
-after-goes mask set room pad b c h = same refl
-after-goes mask set room (tool t n) b c h = firm-withTool mask set room t n 0 .goes b c 8
-after-goes mask set room (sixOrEight n) b c h =
+after-goes mask set room o unassigned b c h = same refl
+after-goes mask set room o pad b c h = same refl
+after-goes mask set room o (tool t n) b c h = firm-withTool mask set room t n (rowIn o t n) .goes b c 8
+after-goes mask set room o (sixOrEight n) b c h =
     let m = bit-there b c (markAt n) (omega (arith, mark-first n)) in
     rw (m .0, m .1) (six-goes mask set room n (getD b (markAt n) 0) b c (markAt n + 1))
 
@@ -283,7 +299,7 @@ frame-goes : (mask set room : ℕ) (b c : List ℕ) → 8 ≤ length b → Goes 
 unfolding frame
 frame-goes mask set room b c h =
     let e : number 8 b 0 ≡ whole (valueFrom 0 (take 8 b)) 8 = rw (append-nil b) at (first-eight b [] h) in
-    rw (e, first-eight b c h) (after-goes mask set room (firstOctet (valueFrom 0 (take 8 b))) b c h)
+    rw (e, first-eight b c h) (after-goes mask set room (valueFrom 0 (take 8 b)) (firstOctet (valueFrom 0 (take 8 b))) b c h)
 
 -- of octets: none, or some
 pub nothing-short : (mask set room : ℕ) → frame mask set room (bitsOf []) 0 ≡ refuse Short 0

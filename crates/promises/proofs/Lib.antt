@@ -4,12 +4,14 @@ pub mod Zeros
 pub mod Methods
 pub mod Located
 pub mod Rows
+pub mod Fractional
 pub mod Frame
 pub mod Forms
 pub mod Written
 pub mod Reach
 pub mod Further
 pub mod OldReader
+pub mod Before
 pub mod Stays
 pub mod Walks
 pub mod Refused

@@ -1,6 +1,6 @@
 -- Where a refusal points: which bit it names, and how far past that bit the reading had looked. `Points W p` is built as readers are, step by step.
 -- Main statements: `points-body`, `points-withTool`.
-use Prim.Native.Nat.{ℕ, zero, suc, _+_, _*_, _-_, _^_, _≤_, _<_}
+use Prim.Native.Nat.{ℕ, zero, suc, _+_, _*_, _-_, _^_, _/_, _≤_, _<_}
 use native.Mathlib.Omega.{arith}
 use mathlib.Core.Path.{_≡_, refl, sym, subst, _∙_}
 use mathlib.Core.List.{List, [], _∷_, _++_, map}
@@ -17,6 +17,7 @@ use Rattle.rules.specs.Samples.{sampleOf, plusZero, minusZero}
 use Rattle.rules.specs.Runs.{zerosFrom, rice, runsFrom}
 use Rattle.rules.specs.Zeros.{Tree, leaf, fork, treeOf, readTree, zeroOf, plusMinus}
 use Rattle.rules.specs.Located.{widthOf, listedFrom, listed, byMethod, emptyIn, lay, valuesInto, valuesOf, located}
+use Rattle.rules.specs.Fractional.{radix, groupOf, bitsFor, digitsOf, groupsFrom, groupsAs, samplesAt, fractional}
 use Rattle.rules.specs.First.{sixNotEight}
 use Rattle.rules.specs.Frame.{body, withTool}
 use Rattle.rules.proofs.Accepted.{Steps, through, steps, number-next}
@@ -24,9 +25,9 @@ use Rattle.rules.proofs.Gives.{Leaves}
 use Rattle.rules.proofs.Laid.{empty-most, length-lay}
 use Rattle.rules.proofs.Room.{length-most}
 use Rattle.rules.proofs.Gives.{no-refusal, same-value}
-use Rattle.promises.proofs.Reach.{Far, far-bit, far-then, Near, near-give, near-fail, near-here, near-bit, near-then, near-cond, near-more}
-use Rattle.promises.proofs.Further.{Goes, short, same, Firm, firm-give, firm-bind, firm-cond, firm-here, firm-bit, firm-numberFrom, firm-bitsFrom, firm-zerosFrom, firm-rice, firm-runsFrom, firm-readTree, firm-byMethod, firm-body, far-firm}
-use Rattle.promises.proofs.Bounded.{near-numberFrom, width-most, tree-leaves}
+use Rattle.promises.proofs.Reach.{Far, far-bit, far-then, Near, near-give, near-fail, near-here, near-bit, near-then, near-cond, near-more, near-numberFrom}
+use Rattle.promises.proofs.Further.{Goes, short, same, Firm, firm-give, firm-bind, firm-cond, firm-here, firm-bit, firm-numberFrom, firm-bitsFrom, firm-zerosFrom, firm-rice, firm-runsFrom, firm-readTree, firm-byMethod, firm-groups, firm-body, far-firm}
+use Rattle.promises.proofs.Bounded.{width-most, tree-leaves}
 
 -- The bit that a refusal names, n bits being there. SHORT's is the first that is missing. Every other is one of those that are there, save that
 -- a listed place of no bits may stand at their end. What is judged by the prefix names bit 0, and so do the refusals from 10 on.
@@ -46,7 +47,7 @@ BitOf n Law at = at ≡ 0
 BitOf n Long at = at ≡ 0
 
 -- How many bits, from the one that it names on, a refusal hangs on at most: the range case and its flag, the method, a run's code (zeros up to
--- zero N + 1, or N zeros, a one and S bits), a listed place, one filling bit. What is judged by the prefix hangs on the prefix.
+-- zero N + 1, or N zeros, a one and S bits), a listed place or V, one filling bit. What is judged by the prefix hangs on the prefix.
 abbrev pub reach : Refusal → ℕ
 reach Short = 0
 reach Prefix = 8
@@ -55,7 +56,7 @@ reach Room = 8
 reach Case = 3
 reach Method = 3
 reach Run = 330
-reach Place = 9
+reach Place = 13
 reach Align = 1
 reach Length = 0
 reach Set = 0
@@ -308,6 +309,34 @@ points-located mask n h =
     (λ t. points-fail (start + 2 + 1) (start + 2 + 1) Case start (λ n g. omega arith) (omega arith))
     (λ t. points-values n z (map (sampleOf mask) (valuesOf n c flag)) (replicate n z) h (omega (arith, length-replicate n z))))))
 
+-- V, of w bits
+points-groups : {W : ℕ → Type 0} (r g w : ℕ) (done : List ℕ) (m : ℕ) → w ≤ 13 → Points W (groupsFrom r g w done m)
+unfolding groupsFrom
+points-groups r g w done zero h = points-give done
+points-groups r g w done (suc m) h =
+    points-here (λ start. points-go start start w w (firm-numberFrom 0 w) (far-number 0 w) (near-numberFrom 0 w) (points-numberFrom 0 w) (λ v.
+    points-cond (ltb v (r ^ g)) (λ t. points-groups r g w (done ++ digitsOf r g v) m h)
+    (λ t. points-fail (start + w) (start + w) Place start (λ n g. omega arith) (omega arith))))
+
+width-of-group : (r : ℕ) → bitsFor r ≤ 13
+unfolding bitsFor
+width-of-group r = go (eqb r 2) (eqb r 4) (eqb r 3) (eqb r 5)
+  where
+    go : (a b c d : Bool) → cond a 1 (cond b 2 (cond c 8 (cond d 12 13))) ≤ 13
+    go true b c d = omega arith
+    go false true c d = omega arith
+    go false false true d = omega arith
+    go false false false true = omega arith
+    go false false false false = omega arith
+
+points-fractional : {W : ℕ → Type 0} (mask k n : ℕ) → Points W (fractional mask k n)
+unfolding groupsAs
+points-fractional mask k n =
+    let r = radix k in
+    let g = groupOf r in
+    points-bind (firm-groups r g (bitsFor r) [] (n / g)) (points-groups r g (bitsFor r) [] (n / g) (width-of-group r)) (λ digits.
+    points-give (map (λ d. getD (samplesAt mask k) d 0) digits))
+
 -- what a tree gives is one of its leaves
 tree-gives : (P : ℕ → Type 0) (t : Tree) → Leaves P t → (b : List ℕ) (i s j : ℕ) → readTree t b i ≡ whole s j → P s
 unfolding readTree
@@ -340,7 +369,8 @@ points-body mask t n mark l =
     points-cond (eqb t 4) (λ e. points-bind (firm-numberFrom 0 8) (points-numberFrom 0 8) (λ x. points-give (replicate n x))) (λ e.
     points-cond (eqb t 5) (λ e. points-bind (firm-bitsFrom [] n) (points-bitsFrom [] n) (λ flags. points-give (map (zeroOf mask 0) flags))) (λ e.
     points-cond (eqb t 6) (λ e. points-plusMinus mask n mark l) (λ e.
-    points-located mask n (length-most n l)))))))
+    points-cond (eqb t 11) (λ e. points-fractional mask mark n) (λ e.
+    points-located mask n (length-most n l))))))))
 
 -- the tool is decided by the prefix, so within the first octet and the next
 pub points-withTool : (mask set room t n mark : ℕ) → isLength n ≡ true → Points (Between 1 8) (withTool mask set room t n mark)

@@ -1,5 +1,5 @@
 -- How far a reading goes, if it is whole: at least (`Far`) and at most (`Near`) so many places on.
-use Prim.Native.Nat.{ℕ, _+_, _≤_}
+use Prim.Native.Nat.{ℕ, zero, suc, _+_, _*_, _≤_}
 use native.Mathlib.Omega.{arith}
 use mathlib.Core.Path.{_≡_}
 use mathlib.Core.List.{List}
@@ -8,7 +8,7 @@ use lib.ListN.{length, getD}
 use lib.Dec.{ltb}
 use Rattle.rules.specs.declared.Refusal.{Refusal}
 use Rattle.rules.specs.declared.Refusal.the-variants.{Short}
-use Rattle.rules.specs.Reading.{Read, whole, refuse, Reader, _>>=_, give, fail, here, bit}
+use Rattle.rules.specs.Reading.{Read, whole, refuse, Reader, _>>=_, give, fail, here, bit, numberFrom}
 use Rattle.rules.proofs.Gives.{no-refusal, same-place, same-value}
 use Rattle.rules.proofs.Accepted.{Steps, through, steps}
 
@@ -65,3 +65,9 @@ near-cond k false g h = h
 
 pub near-more : {A : Type 0} (k l : ℕ) {p : Reader A} → k ≤ l → Near k p → Near l p
 near-more k l h g = record { goes = λ b i a j e. omega (arith, g .goes b i a j e) }
+
+-- a number is so many bits
+pub near-numberFrom : (v n : ℕ) → Near n (numberFrom v n)
+unfolding numberFrom
+near-numberFrom v zero = near-give v
+near-numberFrom v (suc n) = near-more (1 + n) (suc n) (omega arith) (near-then 1 n near-bit (λ a. near-numberFrom (2 * v + a) n))

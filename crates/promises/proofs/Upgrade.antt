@@ -9,7 +9,7 @@ use mathlib.Core.Bool.{Bool, true, false, cond, not, _&&_, _||_}
 use lib.ListN.{length, take, length-append}
 use lib.Dec.{eqb, leb}
 use borrow.Author.Tests.{le-ltb, ne-eqb, leb-true}
-use Rattle.rules.specs.Tools.{isTool, holds, Within, allTools, isSet, isWriterSet}
+use Rattle.rules.specs.Tools.{isTool, slotOf, holds, Within, allTools, isSet, isWriterSet}
 use Rattle.rules.specs.Bits.{octetsFor}
 use Rattle.rules.specs.Samples.{maskOf}
 use Rattle.rules.specs.Chooses.{applies, formOf, octetsOfForm, tieOrder, chosenTool, Written, chosen, wrote, writeOne}
@@ -149,9 +149,9 @@ one-more mask a t b s odd m lost = unless (eqb (length s) 0) _ _ _ t others lost
     others : (u ≡ t → ⊥) → form u ≡ form (chosenTool mask a s)
     others not-t = rw (same-tool mask a b s odd (m .within) (m .only u held not-t)) refl
 
--- "Tool t adds 2^(t-1)", where t was not in the set. One test of all sets and tools, computed.
+-- "Tool t (1 to 7) adds 2^(t-1)", and tool 11 adds 128, where t was not in the set. One test of all sets and tools, computed.
 asSum : ℕ → ℕ → ℕ → Bool
-asSum a t u = cond (holds a u || eqb u t) (holds (a + 2 ^ (t - 1)) u) (not (holds (a + 2 ^ (t - 1)) u))
+asSum a t u = cond (holds a u || eqb u t) (holds (a + 2 ^ slotOf t) u) (not (holds (a + 2 ^ slotOf t) u))
 
 abbrev sums : ℕ → ℕ → Bool
 sums a t = not (isTool t) || (holds a t || allBelow (asSum a t) pastTools)
@@ -163,13 +163,13 @@ all-sums = refl
 -- no set holds a tool past the last
 held-low : (set t : ℕ) → holds set t ≡ true → t < pastTools
 unfolding holds
-held-low set t e = tool-low t (and-left (isTool t) (eqb (set / 2 ^ (t - 1) % 2) 1) e)
+held-low set t e = tool-low t (and-left (isTool t) (eqb (set / 2 ^ slotOf t % 2) 1) e)
 
-pub one-added : (a t : ℕ) → isSet a ≡ true → isTool t ≡ true → holds a t ≡ false → OneMore a t (a + 2 ^ (t - 1))
+pub one-added : (a t : ℕ) → isSet a ≡ true → isTool t ≡ true → holds a t ≡ false → OneMore a t (a + 2 ^ slotOf t)
 unfolding asSum
 one-added a t small h out = record {
   within = record { also = λ u e. rw e at (at u (held-low a u e)) };
-  only = λ u e other. kept u (holds a u) refl (rw (ne-eqb u t other) at (at u (held-low (a + 2 ^ (t - 1)) u e))) e;
+  only = λ u e other. kept u (holds a u) refl (rw (ne-eqb u t other) at (at u (held-low (a + 2 ^ slotOf t) u e))) e;
 }
   where
     at : (u : ℕ) → u < pastTools → asSum a t u ≡ true
@@ -178,7 +178,7 @@ one-added a t small h out = record {
         let tool = implied (isTool t) (holds a t || allBelow (asSum a t) pastTools) (allBelow-at (sums a) pastTools set t (tool-low t h)) h in
         allBelow-at (asSum a t) pastTools (rw out at tool) u l
 
-    kept : (u : ℕ) (x : Bool) → holds a u ≡ x → cond (x || false) (holds (a + 2 ^ (t - 1)) u) (not (holds (a + 2 ^ (t - 1)) u)) ≡ true
-        → holds (a + 2 ^ (t - 1)) u ≡ true → holds a u ≡ true
+    kept : (u : ℕ) (x : Bool) → holds a u ≡ x → cond (x || false) (holds (a + 2 ^ slotOf t) u) (not (holds (a + 2 ^ slotOf t) u)) ≡ true
+        → holds (a + 2 ^ slotOf t) u ≡ true → holds a u ≡ true
     kept u true e f g = e
     kept u false e f g = absurd (let z = rw g at f in let n : _≡_ {A = ℕ} 0 1 = cc in omega arith)

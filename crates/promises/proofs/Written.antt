@@ -18,7 +18,8 @@ use Rattle.rules.specs.Frame.{frame, afterFirst, readOne}
 use Rattle.rules.specs.Runs.{runsForm}
 use Rattle.rules.specs.Zeros.{prefix, flagOf, codeOf}
 use Rattle.rules.specs.Located.{valuesOf}
-use Rattle.rules.specs.Chooses.{markOf, bestS, riceChoice, rowOf, locatedFlag, valuesForm, locatedForm, applies, formOf, octetsOfForm, tieOrder, chosenTool, Written, chosen, Write, wrote, declined, writeOne}
+use Rattle.rules.specs.Fractional.{firstCode, fractionalBody}
+use Rattle.rules.specs.Chooses.{markOf, bestS, riceChoice, rowOf, locatedFlag, valuesForm, locatedForm, fractionalRow, fractionalForm, applies, formOf, octetsOfForm, tieOrder, chosenTool, Written, chosen, Write, wrote, declined, writeOne}
 use Rattle.rules.proofs.Octets.{Below, below-take, length-lowBits, length-bitsOf, lowBits-below, bitsOf-append, bitsOf-pack, length-pack}
 use Rattle.rules.proofs.Signed.{law-mask}
 use Rattle.rules.proofs.Tests.{or-cases, by-length, tool-some}
@@ -170,7 +171,7 @@ code-some : (n mark : ℕ) → isLength n ≡ true → Some (riceCode n mark)
 code-some n mark l = rw (rice-code n l .last mark) (record { some = simp length-append (omega arith) })
 
 form-some : (mask t : ℕ) (s : List ℕ) → isLength (length s) ≡ true → Some (formOf mask t s)
-unfolding formOf riceChoice locatedForm
+unfolding formOf riceChoice locatedForm fractionalForm
 form-some mask t s l =
     let n = length s in
     some-cond (eqb t 1) (some-first (prefix 1 n) (bitsOf s) (prefix-some 1 n))
@@ -182,9 +183,12 @@ form-some mask t s l =
     (let mark = markOf mask s in
     let r = bestS mask mark s in
     some-first (riceCode n mark) (codeOf n r ++ runsForm r (map (flagOf mask mark) s)) (code-some n mark l))
+    (some-cond (eqb t 11)
+    (some-first (lowBits 8 (firstCode n + fractionalRow mask s)) (fractionalBody mask (fractionalRow mask s) s)
+    (record { some = omega (arith, length-lowBits 8 (firstCode n + fractionalRow mask s)) }))
     (some-first (prefix 7 n)
     (lowBits 2 (rowOf mask s) ++ (lowBits 1 (locatedFlag mask s) ++ valuesForm (map (sampleOf mask) (valuesOf n (rowOf mask s) (locatedFlag mask s))) s))
-    (prefix-some 7 n)))))))
+    (prefix-some 7 n))))))))
 
 uncompressed-octets : (mask : ℕ) (s : List ℕ) → octetsOfForm mask s 1 ≡ length s + 1
 unfolding formOf
@@ -234,7 +238,7 @@ written-chosen n samples law set room w h k e =
     rw (← (d .is), chosen-full (maskOf law) set s (rw (length-take-le n samples h) l))
     (record { form = refl; choice = chosen-first-least (maskOf law) set s (d .odd) })
 
--- and every frame of an allowed length is written, by either law and any odd set up to 127, given N + 1 octets of room
+-- and every frame of an allowed length is written, by either law and any odd set up to 255, given N + 1 octets of room
 pub writes : (n : ℕ) (samples : List ℕ) (law set room : ℕ) → n ≤ length samples → Below 256 samples → isLaw law ≡ true → isWriterSet set ≡ true
     → eqb n 0 || isLength n ≡ true → n + 1 ≤ room → writeOne n samples law set room ≡ wrote (chosen (maskOf law) set (take n samples))
 unfolding writeOne

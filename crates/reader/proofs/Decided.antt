@@ -1,9 +1,9 @@
 -- The tool is decided: TOOL, ROOM, the body as it was read, and the filling.
-use Prim.Native.Nat.{ℕ, _*_, _≤_, _<_}
-use mathlib.Core.Path.{_≡_, sym}
+use Prim.Native.Nat.{ℕ, _*_, _%_, _≤_, _<_}
+use mathlib.Core.Path.{_≡_, refl, sym}
 use mathlib.Core.List.{List}
-use mathlib.Core.Bool.{true, false}
-use lib.Dec.{lit≤}
+use mathlib.Core.Bool.{true, false, cond}
+use lib.Dec.{eqb, lit≤}
 use lib.ListN.{length}
 use borrow.Author.Tests.{lt-ltb, le-ltb, ne-eqb}
 use Rattle.rules.specs.declared.Refusal.{Refusal}
@@ -13,6 +13,7 @@ use Rattle.rules.specs.Bits.{bitsOf}
 use Rattle.rules.specs.Reading.{whole, refuse}
 use Rattle.rules.specs.Samples.{maskOf}
 use Rattle.rules.specs.Located.{located}
+use Rattle.rules.specs.Fractional.{fractional}
 use Rattle.rules.specs.Frame.{body, withTool}
 use Rattle.rules.proofs.Octets.{length-bitsOf, bitsOf-below}
 use Rattle.rules.proofs.Tests.{by-length}
@@ -51,10 +52,15 @@ pub body-size : (law t n mark : ℕ) → isLength n ≡ true → (s : List ℕ) 
 body-size law t n mark len s i h e =
     sym (gives-body (law-mask law) t n mark len .on (bitsOf-below s) (rw length-bitsOf h) e .2 .size)
 
--- the last of the tools
-pub last-body : (mask t n mark : ℕ) → (t ≡ 1 → ⊥) → (t ≡ 2 → ⊥) → (t ≡ 3 → ⊥) → (t ≡ 4 → ⊥) → (t ≡ 5 → ⊥) → (t ≡ 6 → ⊥) → body mask t n mark ≡ located mask n
+-- the last of the tools, 7 and 11
+pub last-body : (mask t n mark : ℕ) → (t ≡ 1 → ⊥) → (t ≡ 2 → ⊥) → (t ≡ 3 → ⊥) → (t ≡ 4 → ⊥) → (t ≡ 5 → ⊥) → (t ≡ 6 → ⊥)
+    → body mask t n mark ≡ cond (eqb t 11) (fractional mask mark n) (located mask n)
 unfolding body
 last-body mask t n mark a b c d e f = rw (ne-eqb t 1 a, ne-eqb t 2 b, ne-eqb t 3 c, ne-eqb t 4 d, ne-eqb t 5 e, ne-eqb t 6 f)
+
+-- the lengths are multiples of forty
+pub forties : (n : ℕ) → isLength n ≡ true → n % 40 ≡ 0
+forties n h = by-length (λ n. n % 40 ≡ 0) refl refl refl refl refl n h
 
 -- the lengths' range
 pub length-range : (n : ℕ) → isLength n ≡ true → (1 ≤ n) × (n ≤ 320)

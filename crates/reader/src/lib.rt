@@ -5,7 +5,11 @@ ghost use mathlib.Core.List.{List, [], _++_};
 ghost use lib.ListN.{length, take, drop};
 ghost use Rattle.rules.specs.Bits.{bitsOf, fillFor};
 ghost use Rattle.rules.specs.Reading.{whole, refuse, filled};
+ghost use mathlib.Core.Bool.{cond};
+ghost use lib.Dec.{eqb};
 ghost use Rattle.rules.specs.Samples.{maskOf};
+ghost use Rattle.rules.specs.Located.{located};
+ghost use Rattle.rules.specs.Fractional.{fractional};
 ghost use Rattle.rules.specs.Frame.{body, withTool, readOne};
 ghost use Rattle.rules.specs.Calls.{ReadFrame};
 ghost use Rattle.bodies.specs.Bodied.{FillsBody};
@@ -31,6 +35,17 @@ pub struct Report {
     pub bit: usize,
 }
 
+// Frames of few values about 0: fractional-bit (document 02, R-14), and value-location.
+fn few_values(octets: &[u8], mask: u8, h: Head, samples: &mut [u8; 320]) -> Outcome
+    requires { ⌜ (HeadFits h) × (mask < 128) × (mask % 2 ≡ 1) × (length (now samples) ≡ 320) ⌝ }
+    ensures { λ r. ⌜ FillsBody (cond (eqb (h .tool) 11) (fractional mask (h .mark) (h .len)) (located mask (h .len)) (bitsOf (now (octets .entry))) (h .at)) (2 ^ 41) (now (samples .entry)) (now (samples .exit)) r ⌝ }
+{
+    if h.tool == 11 {
+        return fractional::body(octets, h.at, h.len, h.mark, mask, samples);
+    }
+    located::located(octets, h.at, h.len, mask, samples)
+}
+
 // The body of a tool that the set holds, into the lent samples.
 fn body_of(octets: &[u8], mask: u8, h: Head, samples: &mut [u8; 320]) -> Outcome
     requires { ⌜ (HeadFits h) × (mask < 128) × (mask % 2 ≡ 1) × (length (now samples) ≡ 320) ⌝ }
@@ -46,7 +61,7 @@ fn body_of(octets: &[u8], mask: u8, h: Head, samples: &mut [u8; 320]) -> Outcome
         4 => bodies::constant(octets, at, n, samples),
         5 => bodies::binary(octets, at, n, mask, samples),
         6 => bodies::plus_minus(octets, at, n, h.mark as u8, mask, samples),
-        _ => located::located(octets, at, n, mask, samples),
+        _ => few_values(octets, mask, h, samples),
     }
 }
 

@@ -71,8 +71,8 @@ module _ (mask set : ℕ) (s : List ℕ) (some : 1 ≤ length s) where
   best-is : length s ≤ 320 → bestIn (statesOf mask set s) (length s) ≡ with (chosenTool mask set s)
   unfolding statesOf
   best-is few =
-      best-on 2 (3 ∷ 4 ∷ 5 ∷ 6 ∷ 7 ∷ []) _ (best-on 3 (4 ∷ 5 ∷ 6 ∷ 7 ∷ []) _ (best-on 4 (5 ∷ 6 ∷ 7 ∷ []) _
-      (best-on 5 (6 ∷ 7 ∷ []) _ (best-on 6 (7 ∷ []) _ (best-on 7 [] _ (from-one few))))))
+      best-on 2 (3 ∷ 4 ∷ 5 ∷ 6 ∷ 7 ∷ 11 ∷ []) _ (best-on 3 (4 ∷ 5 ∷ 6 ∷ 7 ∷ 11 ∷ []) _ (best-on 4 (5 ∷ 6 ∷ 7 ∷ 11 ∷ []) _
+      (best-on 5 (6 ∷ 7 ∷ 11 ∷ []) _ (best-on 6 (7 ∷ 11 ∷ []) _ (best-on 7 (11 ∷ []) _ (best-on 11 [] _ (from-one few)))))))
 
   -- the winner, with the octets that the writer writes
   best-written : length s ≤ 320 → bestIn (statesOf mask set s) (length s) ≡ record { tool = winnerOf mask set s; octets = octetsWritten mask set s }
@@ -104,4 +104,4 @@ pub empty-reasons-are : (mask set : ℕ) → reasonsOf mask set [] ≡ emptyReas
 unfolding reasonsOf statesOf chosen
 empty-reasons-are mask set =
     let tie : anyOf (alsoNeeds mask set []) tools ≡ false = no-tie mask set (anyOf (alsoNeeds mask set []) tools) refl in
-    rw (tie, empty-state mask set 1, empty-state mask set 2, empty-state mask set 3, empty-state mask set 4, empty-state mask set 5, empty-state mask set 6, empty-state mask set 7)
+    rw (tie, empty-state mask set 1, empty-state mask set 2, empty-state mask set 3, empty-state mask set 4, empty-state mask set 5, empty-state mask set 6, empty-state mask set 7, empty-state mask set 11)

@@ -23,8 +23,8 @@ bestBy best t (Fits octets) = cond (leb octets (best .octets)) (record { tool = 
 -- from uncompressed on, back through the tie order
 abbrev pub bestIn : States → ℕ → Best
 bestIn s n =
-    bestBy (bestBy (bestBy (bestBy (bestBy (bestBy (record { tool = 1; octets = n + 1 })
-    7 (s .located)) 6 (s .rice)) 5 (s .binary)) 4 (s .constant)) 3 (s .minus)) 2 (s .plus)
+    bestBy (bestBy (bestBy (bestBy (bestBy (bestBy (bestBy (record { tool = 1; octets = n + 1 })
+    11 (s .fractional)) 7 (s .located)) 6 (s .rice)) 5 (s .binary)) 4 (s .constant)) 3 (s .minus)) 2 (s .plus)
 
 -- another tool that needs as few
 abbrev pub alsoBy : Best → ℕ → State → Bool
@@ -38,7 +38,8 @@ tieIn s best =
     || (alsoBy best 4 (s .constant)
     || (alsoBy best 5 (s .binary)
     || (alsoBy best 6 (s .rice)
-    || (alsoBy best 7 (s .located) || false))))))
+    || (alsoBy best 7 (s .located)
+    || (alsoBy best 11 (s .fractional) || false)))))))
 
 -- "A frame of no samples fails condition 1 of every tool in the set, and its winner is tool 0 by octets."
 abbrev pub emptyState : ℕ → ℕ → State
@@ -55,6 +56,7 @@ emptyReasons set =
         binary = emptyState set 5;
         rice = emptyState set 6;
         located = emptyState set 7;
+        fractional = emptyState set 11;
       };
       winner = 0;
       tie = false;

@@ -15,6 +15,7 @@ use rules::Refusal;
 ghost use mathlib.Core.Path.{_≡_};
 ghost use mathlib.Core.Bool.{true, _||_};
 ghost use Prim.Native.Nat.{_≤_};
+ghost use Rattle.rules.specs.Tools.{isTool};
 ghost use lib.ListN.{length, take};
 ghost use Rattle.look.specs.Looks.{isMask, FrameIn};
 ghost use Rattle.reasons.specs.Why.{stateOf, statesOf, reasonsOf, whyOne};
@@ -23,7 +24,7 @@ ghost use Rattle.reasoning.specs.Best.{bestBy, bestIn, alsoBy, tieIn, em
 // "not in the set, doesn't apply with the first failing condition of document 01, or its octets".
 fn state_of(samples: &[u8], n: usize, mask: u8, set: u32, tool: u32) -> State
     requires { ⌜ (FrameIn (now samples) n) × (isMask mask ≡ true) ⌝ }
-    requires { ⌜ (1 ≤ tool) × (tool ≤ 7) ⌝ }
+    requires { ⌜ isTool tool ≡ true ⌝ }
     ensures { λ r. ⌜ r ≡ stateOf mask set (take n (now (samples .entry))) tool ⌝ }
 {
     if !holds(set, tool) {
@@ -37,7 +38,7 @@ fn state_of(samples: &[u8], n: usize, mask: u8, set: u32, tool: u32) -> State
     State::Fits(octets as u32)
 }
 
-// "list tools 1 to 7 in order".
+// "list tools 1 to 7 in order", and 11 after them (R-14).
 fn states_of(samples: &[u8], n: usize, mask: u8, set: u32) -> States
     requires { ⌜ (FrameIn (now samples) n) × (isMask mask ≡ true) ⌝ }
     ensures { λ r. ⌜ r ≡ statesOf mask set (take n (now (samples .entry))) ⌝ }
@@ -49,6 +50,7 @@ fn states_of(samples: &[u8], n: usize, mask: u8, set: u32) -> States
     let binary = state_of(samples, n, mask, set, 5);
     let rice = state_of(samples, n, mask, set, 6);
     let located = state_of(samples, n, mask, set, 7);
+    let fractional = state_of(samples, n, mask, set, 11);
     States {
         uncompressed,
         plus,
@@ -57,6 +59,7 @@ fn states_of(samples: &[u8], n: usize, mask: u8, set: u32) -> States
         binary,
         rice,
         located,
+        fractional,
     }
 }
 
@@ -87,17 +90,17 @@ fn winner_of(s: States, n: usize) -> Best
     requires { ⌜ n ≤ 320 ⌝ }
     ensures { λ r. ⌜ r ≡ bestIn s n ⌝ }
 {
-    let first = Best {
-        tool: 1,
-        octets: n as u32 + 1,
-    };
+    let octets = n as u32 + 1;
+    let first = Best { tool: 1, octets };
+    let fractional = s.fractional;
     let located = s.located;
     let rice = s.rice;
     let binary = s.binary;
     let constant = s.constant;
     let minus = s.minus;
     let plus = s.plus;
-    let seven = better_of(first, 7, located);
+    let eleven = better_of(first, 11, fractional);
+    let seven = better_of(eleven, 7, located);
     let six = better_of(seven, 6, rice);
     let five = better_of(six, 5, binary);
     let four = better_of(five, 4, constant);
@@ -140,7 +143,9 @@ fn tie_in(s: States, best: Best) -> bool
     let binary = s.binary;
     let rice = s.rice;
     let located = s.located;
-    let seven = or_needs(best, 7, located, false);
+    let fractional = s.fractional;
+    let eleven = or_needs(best, 11, fractional, false);
+    let seven = or_needs(best, 7, located, eleven);
     let six = or_needs(best, 6, rice, seven);
     let five = or_needs(best, 5, binary, six);
     let four = or_needs(best, 4, constant, five);
@@ -185,6 +190,7 @@ fn empty_reasons(set: u32) -> Reasons
     let binary = empty_state(set, 5);
     let rice = empty_state(set, 6);
     let located = empty_state(set, 7);
+    let fractional = empty_state(set, 11);
     let states = States {
         uncompressed,
         plus,
@@ -193,6 +199,7 @@ fn empty_reasons(set: u32) -> Reasons
         binary,
         rice,
         located,
+        fractional,
     };
     Reasons {
         states,

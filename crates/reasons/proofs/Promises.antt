@@ -1,7 +1,7 @@
 -- What an answer of R-10 promises, of the definitions alone.
 -- Main statements: `winner-written`, `fits-when`, `fits-only`, `out-when`, `out-only`, `no-only`, `alone-writes`, `tie-when`, `tie-only`,
 -- `empty-fails`, `as-writer`.
-use Prim.Native.Nat.{ℕ, zero, suc, _+_, _-_, _^_, _≤_, _<_}
+use Prim.Native.Nat.{ℕ, zero, suc, _+_, _-_, _^_, _/_, _%_, _≤_, _<_}
 use native.Mathlib.Omega.{arith}
 use mathlib.Core.Path.{_≡_, refl, sym, ap, _∙_}
 use mathlib.Core.List.{List, [], _∷_, _++_}
@@ -12,11 +12,11 @@ use lib.IntN.{pos, negsuc}
 use borrow.Author.Tests.{eq-eqb, ne-eqb, eqb-true, eqb-false, leb-true, le-ltb}
 use Rattle.rules.specs.declared.Refusal.{Refusal}
 use Rattle.rules.specs.declared.Refusal.the-variants.{Length, Set, Law, Room}
-use Rattle.rules.specs.Tools.{holds, isWriterSet, isLaw, isLength}
+use Rattle.rules.specs.Tools.{isTool, slotOf, holds, isWriterSet, isLaw, isLength}
 use Rattle.rules.specs.Bits.{octetsFor}
 use Rattle.rules.specs.Samples.{maskOf}
 use Rattle.rules.specs.Chooses.{applies, rowOf, zeroLeads, formOf, octetsOfForm, chosenTool, Written, chosen, Write, wrote, declined, writeOne}
-use Rattle.rules.proofs.Tests.{and-left, and-right, allBelow, allBelow-at}
+use Rattle.rules.proofs.Tests.{and-left, and-right, by-tool}
 use Rattle.rules.proofs.Each.{or-right}
 use Rattle.rules.proofs.Chosen.{usable, Usable, chosen-usable}
 use Rattle.reasons.specs.declared.State.{State}
@@ -200,19 +200,10 @@ any-in p t (u ∷ ts) m e = go (eqb u t) refl m (λ m. any-in p t ts m e)
     go false q m later = or-right (p u) (anyOf p ts) (later m)
 
 -- the tools are all that a set may hold
-all-tools : allBelow (λ t. eqb t 0 || anyOf (λ u. eqb u t) tools) 8 ≡ true
-unfolding anyOf
-all-tools = refl
-
-all-in : (t : ℕ) → 1 ≤ t → t ≤ 7 → anyOf (λ u. eqb u t) tools ≡ true
-all-in t low high = rw (ne-eqb t 0 (λ z. omega arith)) at (allBelow-at (λ t. eqb t 0 || anyOf (λ u. eqb u t) tools) 8 all-tools t (omega arith))
-
 among-tools : (set t : ℕ) → holds set t ≡ true → anyOf (λ u. eqb u t) tools ≡ true
-unfolding holds
+unfolding holds anyOf
 among-tools set t e =
-    let low = leb-true 1 t (and-left (leb 1 t) (leb t 7) (and-left (leb 1 t && leb t 7) _ e)) in
-    let high = leb-true t 7 (and-right (leb 1 t) (leb t 7) (and-left (leb 1 t && leb t 7) _ e)) in
-    all-in t low high
+    by-tool (λ t. anyOf (λ u. eqb u t) tools ≡ true) refl refl refl refl refl refl refl refl t (and-left (isTool t) (eqb (set / 2 ^ slotOf t % 2) 1) e)
 
 needs-fits : (state : State) (n : ℕ) → needs state n ≡ true → state ≡ Fits n
 needs-fits Out n e = let z : _≡_ {A = ℕ} 0 1 = cc in absurd (omega arith)

@@ -94,10 +94,19 @@ winner-back f winner false h =
     back-after winnerKey _ (back-number _ winner 32 h refl (back-after byKey _
     (back-else (byTie ++ lineEnd) (give (f winner true)) (after (byOctets ++ lineEnd) (give (f winner false))) (λ rest. refl) (back-after (byOctets ++ lineEnd) _ (back-give (f winner false))))))
 
-abbrev pub reasonsBy : State → State → State → State → State → State → State → ℕ → Bool → Reasons
-reasonsBy uncompressed plus minus constant binary rice located winner tie =
+abbrev pub reasonsBy : State → State → State → State → State → State → State → State → ℕ → Bool → Reasons
+reasonsBy uncompressed plus minus constant binary rice located fractional winner tie =
     record {
-      states = record { uncompressed = uncompressed; plus = plus; minus = minus; constant = constant; binary = binary; rice = rice; located = located };
+      states = record {
+        uncompressed = uncompressed;
+        plus = plus;
+        minus = minus;
+        constant = constant;
+        binary = binary;
+        rice = rice;
+        located = located;
+        fractional = fractional;
+      };
       winner = winner;
       tie = tie;
     }
@@ -111,7 +120,8 @@ linesIn = do
   binary ← toolIn 5
   rice ← toolIn 6
   located ← toolIn 7
-  winnerIn (reasonsBy uncompressed plus minus constant binary rice located)
+  fractional ← toolIn 11
+  winnerIn (reasonsBy uncompressed plus minus constant binary rice located fractional)
 
 pub record AllShort (r : Reasons) : Type 0 where
   pub uncompressed : Short (r .states .uncompressed)
@@ -121,6 +131,7 @@ pub record AllShort (r : Reasons) : Type 0 where
   pub binary : Short (r .states .binary)
   pub rice : Short (r .states .rice)
   pub located : Short (r .states .located)
+  pub fractional : Short (r .states .fractional)
   pub winner : r .winner < 4294967296
 
 pub lines-back : (r : Reasons) → AllShort r → Back linesIn (linesOf r) r
@@ -134,7 +145,9 @@ lines-back r h =
     (back-bind (toolIn 5) _ (tool-back 5 (r .states .binary) (h .binary))
     (back-bind (toolIn 6) _ (tool-back 6 (r .states .rice) (h .rice))
     (back-bind (toolIn 7) _ (tool-back 7 (r .states .located) (h .located))
-    (winner-back (reasonsBy (r .states .uncompressed) (r .states .plus) (r .states .minus) (r .states .constant) (r .states .binary) (r .states .rice) (r .states .located)) (r .winner) (r .tie) (omega (arith, h .winner))))))))))
+    (back-bind (toolIn 11) _ (tool-back 11 (r .states .fractional) (h .fractional))
+    (winner-back (reasonsBy (r .states .uncompressed) (r .states .plus) (r .states .minus) (r .states .constant) (r .states .binary) (r .states .rice) (r .states .located)
+    (r .states .fractional)) (r .winner) (r .tie) (omega (arith, h .winner)))))))))))
 
 -- no two answers have the same lines
 pub lines-one : (r q : Reasons) → AllShort r → AllShort q → linesOf r ≡ linesOf q → r ≡ q

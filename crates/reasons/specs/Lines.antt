@@ -56,12 +56,12 @@ byWord tie = cond tie byTie byOctets
 unfoldable pub winnerLine : ℕ → Bool → List ℕ
 winnerLine winner tie = field winnerKey winner ++ (byKey ++ (byWord tie ++ lineEnd))
 
--- "list tools 1 to 7 in order": the first four, and the others
+-- "list tools 1 to 7 in order", and 11 after them (R-14): the first four, and the others
 abbrev pub firstLines : States → List ℕ
 firstLines s = toolLine 1 (s .uncompressed) ++ (toolLine 2 (s .plus) ++ (toolLine 3 (s .minus) ++ toolLine 4 (s .constant)))
 
 abbrev pub laterLines : States → List ℕ
-laterLines s = toolLine 5 (s .binary) ++ (toolLine 6 (s .rice) ++ toolLine 7 (s .located))
+laterLines s = toolLine 5 (s .binary) ++ (toolLine 6 (s .rice) ++ (toolLine 7 (s .located) ++ toolLine 11 (s .fractional)))
 
 unfoldable pub linesOf : Reasons → List ℕ
 linesOf r = firstLines (r .states) ++ (laterLines (r .states) ++ winnerLine (r .winner) (r .tie))

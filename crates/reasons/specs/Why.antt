@@ -1,5 +1,6 @@
 -- Document 02, R-10: "For a frame, law and set, list tools 1 to 7 in order: not in the set, doesn't apply with the first failing condition
 -- of document 01, or its octets. Then name the winner, which is what the writer writes, and whether it won by octets or by the tie order."
+-- R-14: "R-10 with an eighth line", that of tool 11, after tool 7; it has one condition.
 -- Document 01's own words, what applies, the forms and the choice, stand in rules, specs/Chooses.
 use Prim.Native.Nat.{ℕ, _+_}
 use mathlib.Core.List.{List, [], _∷_}
@@ -64,7 +65,7 @@ anyOf p [] = false
 anyOf p (t ∷ ts) = p t || anyOf p ts
 
 abbrev pub tools : List ℕ
-tools = 1 ∷ 2 ∷ 3 ∷ 4 ∷ 5 ∷ 6 ∷ 7 ∷ []
+tools = 1 ∷ 2 ∷ 3 ∷ 4 ∷ 5 ∷ 6 ∷ 7 ∷ 11 ∷ []
 
 unfoldable pub statesOf : ℕ → ℕ → List ℕ → States
 statesOf mask set s =
@@ -76,6 +77,7 @@ statesOf mask set s =
       binary = stateOf mask set s 5;
       rice = stateOf mask set s 6;
       located = stateOf mask set s 7;
+      fractional = stateOf mask set s 11;
     }
 
 unfoldable pub reasonsOf : ℕ → ℕ → List ℕ → Reasons

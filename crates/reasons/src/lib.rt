@@ -16,7 +16,7 @@ pub enum State {
     Fits(u32),
 }
 
-// "list tools 1 to 7 in order": the state of each.
+// "list tools 1 to 7 in order", and 11 after them (R-14): the state of each.
 pub struct States {
     pub uncompressed: State,
     pub plus: State,
@@ -25,6 +25,7 @@ pub struct States {
     pub binary: State,
     pub rice: State,
     pub located: State,
+    pub fractional: State,
 }
 
 // "Then name the winner .., and whether it won by octets or by the tie order."
@@ -90,9 +91,9 @@ fn put_by(tie: bool, out: &mut [u8], at: usize) -> usize
 
 // "and last `winner=6 by=octets`".
 fn put_winner(winner: u32, tie: bool, out: &mut [u8], at: usize) -> usize
-    requires { ⌜ at + 70 ≤ length (now out) ⌝ }
+    requires { ⌜ at + 32 ≤ length (now out) ⌝ }
     ensures { λ r. ⌜ Puts (now (out .entry)) at (winnerLine winner tie) (now (out .exit)) r ⌝ }
-    ensures most { λ r. ⌜ r ≤ at + 60 ⌝ }
+    ensures most { λ r. ⌜ r ≤ at + 28 ⌝ }
 {
     let a = put_short(b"winner=", winner, out, at);
     let b = lines::put_word(b" by=", out, a);
@@ -116,25 +117,27 @@ fn put_first(s: States, out: &mut [u8], at: usize) -> usize
     put_tool(4, constant, out, c)
 }
 
-// The lines of tools 5 to 7.
+// The lines of tools 5 to 7, and 11.
 fn put_later(s: States, out: &mut [u8], at: usize) -> usize
     requires { ⌜ at + 250 ≤ length (now out) ⌝ }
     ensures { λ n. ⌜ Puts (now (out .entry)) at (laterLines s) (now (out .exit)) n ⌝ }
-    ensures most { λ n. ⌜ n ≤ at + 180 ⌝ }
+    ensures most { λ n. ⌜ n ≤ at + 240 ⌝ }
 {
     let binary = s.binary;
     let rice = s.rice;
     let located = s.located;
+    let fractional = s.fractional;
     let a = put_tool(5, binary, out, at);
     let b = put_tool(6, rice, out, a);
-    put_tool(7, located, out, b)
+    let c = put_tool(7, located, out, b);
+    put_tool(11, fractional, out, c)
 }
 
-// All lines from place `at` on, of which there are at most 480 octets.
+// All lines from place `at` on, of which there are at most 508 octets.
 pub fn put_reasons(r: Reasons, out: &mut [u8], at: usize) -> usize
     requires { ⌜ at + 512 ≤ length (now out) ⌝ }
     ensures { λ n. ⌜ Puts (now (out .entry)) at (linesOf r) (now (out .exit)) n ⌝ }
-    ensures most { λ n. ⌜ n ≤ at + 480 ⌝ }
+    ensures most { λ n. ⌜ n ≤ at + 508 ⌝ }
 {
     let s = r.states;
     let a = put_first(s, out, at);

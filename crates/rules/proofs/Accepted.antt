@@ -1,6 +1,6 @@
 -- An accepted frame (specs/Frame): its samples are as many as its length says and are octets, it fits the room, its tool is in the set,
 -- and it uses whole octets, at least one and no more than there are.
-use Prim.Native.Nat.{ℕ, zero, suc, _+_, _*_, _-_, _≤_, _<_, zero-le}
+use Prim.Native.Nat.{ℕ, zero, suc, _+_, _*_, _-_, _/_, _≤_, _<_, zero-le}
 use mathlib.Core.Path.{_≡_, refl, sym, ap, subst, _∙_}
 use mathlib.Core.Logic.{_⊎_, inl, inr}
 use mathlib.Core.List.{List, [], _∷_, _++_, map}
@@ -20,12 +20,15 @@ use Rattle.rules.specs.First.{First, unassigned, pad, tool, sixOrEight, 
 use Rattle.rules.specs.Samples.{maskOf, sampleOf, plusZero, minusZero}
 use Rattle.rules.specs.Zeros.{zeroOf, Tree, leaf, fork, treeOf}
 use Rattle.rules.specs.Located.{RangeCase, case0, case1, case2, case3, caseOf, rowValues, valuesOf, located}
-use Rattle.rules.specs.Frame.{Found, octetsUsed, body, withTool, afterFirst, frame, readOne}
-use Rattle.rules.proofs.Octets.{Below, none, more, Sized, below-replicate, bitsOf-below, length-bitsOf}
+use Rattle.rules.specs.Fractional.{table, valuesAt, radix, groupOf, bitsFor, groupsAs, samplesAt, fractional}
+use Rattle.rules.specs.Frame.{Found, octetsUsed, body, withTool, rowIn, afterFirst, frame, readOne}
+use Rattle.rules.proofs.Octets.{Below, none, more, Sized, below-at, below-replicate, bitsOf-below, length-bitsOf}
 use Rattle.rules.proofs.Tests.{and-left, and-right, or-cases}
 use Rattle.rules.proofs.Signed.{InRange, LawMask, law-mask}
 use Rattle.rules.proofs.Firsts.{asWritten, first-as-written}
-use Rattle.rules.proofs.Gives.{Gives, gives-give, gives-fail, gives-here, gives-bit, gives-bind, gives-cond, gives-as, gives-number, gives-bitsFrom, gives-octetsAfter, gives-runsFrom, Leaves, gives-readTree, gives-valuesInto}
+use Rattle.rules.proofs.Each.{below-map}
+use Rattle.rules.proofs.Fractional.{groups-whole}
+use Rattle.rules.proofs.Gives.{Gives, gives-give, gives-fail, gives-here, gives-bit, gives-bind, gives-cond, gives-as, gives-number, gives-bitsFrom, gives-octetsAfter, gives-runsFrom, Leaves, gives-readTree, gives-valuesInto, gives-groupsFrom}
 
 -- what holds of the four rows of range cases holds of every case
 pub by-case : (P : RangeCase → Type 0) → P case0 → P case1 → P case2 → P case3 → (c : ℕ) → P (caseOf c)
@@ -95,6 +98,49 @@ gives-located {mask} l n =
     (gives-valuesInto n (plusZero mask) (replicate n (plusZero mask)) (plus-below l)
     (octets-below l (valuesOf n c flag) (values-in-range n c flag)) (below-replicate n (plus-below l)))))))
 
+-- the rows of tool 11
+abbrev RowsInRange : List (List ℤ) → Type 0
+RowsInRange [] = Unit {0}
+RowsInRange (vs ∷ rows) = AllInRange vs × RowsInRange rows
+
+in-row : (rows : List (List ℤ)) → RowsInRange rows → (k : ℕ) → AllInRange (getD rows k [])
+in-row [] h k = tt
+in-row (vs ∷ rows) h zero = h .0
+in-row (vs ∷ rows) h (suc k) = in-row rows (h .1) k
+
+rows-in-range : RowsInRange table
+rows-in-range =
+    ((lit< tt, (lit< tt, tt)),
+    ((lit< tt, (lit< tt, (lit< tt, (lit< tt, tt)))),
+    ((lit< tt, (lit< tt, tt)),
+    ((lit< tt, (lit< tt, (lit< tt, tt))),
+    ((lit< tt, (lit< tt, (lit< tt, tt))),
+    ((lit< tt, (lit< tt, (lit< tt, tt))),
+    ((lit< tt, (lit< tt, (lit< tt, (lit< tt, tt)))),
+    ((lit< tt, (lit< tt, (lit< tt, (lit< tt, (lit< tt, tt))))),
+    ((lit< tt, (lit< tt, (lit< tt, (lit< tt, tt)))),
+    ((lit< tt, (lit< tt, (lit< tt, (lit< tt, (lit< tt, (lit< tt, tt)))))),
+    ((lit< tt, (lit< tt, (lit< tt, (lit< tt, (lit< tt, tt))))),
+    ((lit< tt, (lit< tt, (lit< tt, (lit< tt, (lit< tt, (lit< tt, tt)))))), tt))))))))))))
+
+pub row-in-range-at : (k : ℕ) → AllInRange (valuesAt k)
+unfolding valuesAt
+row-in-range-at k = in-row table rows-in-range k
+
+pub samplesAt-below : {mask : ℕ} → LawMask mask → (k : ℕ) → Below 256 (samplesAt mask k)
+unfolding samplesAt
+samplesAt-below l k = octets-below l (valuesAt k) (row-in-range-at k)
+
+gives-fractional : {mask : ℕ} → LawMask mask → (k n : ℕ) → isLength n ≡ true → Gives (fractional mask k n) (Sized 256 n)
+unfolding groupsAs
+gives-fractional {mask} l k n len =
+    let g = groupOf (radix k) in
+    gives-bind (gives-groupsFrom (radix k) g (bitsFor (radix k)) [] (n / g)) (λ digits e.
+    gives-give (map (λ d. getD (samplesAt mask k) d 0) digits) (record {
+      size = length-map digits (λ d. getD (samplesAt mask k) d 0) ∙ e ∙ zero-add (n / g * g) ∙ groups-whole (radix k) n len;
+      below = below-map (λ d. getD (samplesAt mask k) d 0) (below-at (samplesAt-below l k) (lit< tt)) digits;
+    }))
+
 pub gives-body : {mask : ℕ} → LawMask mask → (t n mark : ℕ) → isLength n ≡ true → Gives (body mask t n mark) (Sized 256 n)
 unfolding body
 gives-body {mask} l t n mark len =
@@ -107,7 +153,8 @@ gives-body {mask} l t n mark len =
     gives-cond (eqb t 6) (λ e. gives-bind (gives-readTree (λ s. Unit {0}) (treeOf n) (all-leaves (treeOf n))) (λ s u.
     gives-bind (gives-runsFrom n s n n [] (le-refl n) none) (λ flags f.
     gives-give (map (zeroOf mask mark) flags) (zeros-sized l mark n flags (f .size ∙ zero-add n))))) (λ e.
-    gives-located l n))))))
+    gives-cond (eqb t 11) (λ e. gives-fractional l mark n len) (λ e.
+    gives-located l n)))))))
   where
     all-leaves : (t : Tree) → Leaves (λ s. Unit {0}) t
     all-leaves (leaf s) = tt
@@ -215,7 +262,7 @@ number-next v (suc n) b i {x} {j} e = go (λ a k. number-next (2 * v + a) n b k)
     go later (through a k q e) = let r = later a k e in let p = bit-next b i q in omega arith
 
 afterFirst-accepts : {mask : ℕ} → LawMask mask → (set room o : ℕ) (first : First) → asWritten o first ≡ true → {b : List ℕ} → Below 2 b
-    → 8 ≤ length b → {f : Found} {j : ℕ} → afterFirst mask set room first b 8 ≡ whole f j → Accepts set room b f j
+    → 8 ≤ length b → {f : Found} {j : ℕ} → afterFirst mask set room o first b 8 ≡ whole f j → Accepts set room b f j
 unfolding afterFirst
 afterFirst-accepts l set room o unassigned w z h e = let z : _≡_ {A = ℕ} 0 1 = cc in absurd (omega arith)
 afterFirst-accepts l set room o pad w {b} z h {f} {j} e =
@@ -230,7 +277,7 @@ afterFirst-accepts l set room o pad w {b} z h {f} {j} e =
       below = none;
       held = inl refl;
     })
-afterFirst-accepts l set room o (tool t n) w z h e = withTool-accepts l set room t n 0 (and-left _ _ w) z 8 (lit≤ tt) h e
+afterFirst-accepts l set room o (tool t n) w z h e = withTool-accepts l set room t n (rowIn o t n) (and-left _ _ w) z 8 (lit≤ tt) h e
 afterFirst-accepts {mask} l set room o (sixOrEight n) w {b} z h {f} {j} e = go (steps (bit b (markAt n)) _ e)
   where
     six : (mark k : ℕ) → bit b (markAt n) ≡ whole mark k
@@ -246,7 +293,7 @@ pub frame-accepts : {mask : ℕ} → LawMask mask → (set room : ℕ) {b : List
 unfolding frame
 frame-accepts {mask} l set room {b} z {f} {j} e = go (steps (number 8 b 0) _ e)
   where
-    go : Steps (number 8 b 0) (λ o k. afterFirst mask set room (firstOctet o) b k) f j → Accepts set room b f j
+    go : Steps (number 8 b 0) (λ o k. afterFirst mask set room o (firstOctet o) b k) f j → Accepts set room b f j
     go (through o k q e) =
         let g = gives-number 8 .on z zero-le q in
         let p : 8 ≡ k = number-next 0 8 b 0 q in

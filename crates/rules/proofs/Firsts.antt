@@ -5,13 +5,19 @@ use Prim.Native.Nat.{ℕ, _+_, _-_, _/_, _%_, _^_, _≤_, _<_}
 use mathlib.Core.Path.{_≡_, refl, sym, ap, ap₂, _∙_}
 use mathlib.Core.List.{List, [], _∷_, _++_}
 use mathlib.Core.Bool.{Bool, true, false, Bool·beq, not, cond, _&&_, _||_, false≢true}
-use lib.Dec.{eqb, leb}
+use lib.Dec.{eqb, leb, ltb}
 use lib.ListN.{length}
-use borrow.Author.Tests.{eqb-true, leb-true}
+use borrow.Author.Tests.{eqb-true, leb-true, lt-ltb}
 use Rattle.rules.specs.Tools.{isLength}
 use Rattle.rules.specs.Bits.{lowBits, valueFrom}
+use Rattle.rules.specs.Fractional.{firstCode, rowCount}
 use Rattle.rules.specs.First.{First, unassigned, pad, tool, sixOrEight, rows, lookUp, firstOctet, baseOf, isLong, octetFor, riceCode}
 use Rattle.rules.proofs.Tests.{and-left, and-right, or-cases, implied, allBelow, allBelow-at, by-length}
+
+-- no length has more than twelve rows
+pub rows-few : (n : ℕ) → isLength n ≡ true → rowCount n ≤ 12
+unfolding rowCount
+rows-few n l = by-length (λ n. rowCount n ≤ 12) (omega arith) (omega arith) (omega arith) (omega arith) (omega arith) n l
 
 abbrev oneOf : List ℕ → ℕ → Bool
 oneOf [] o = false
@@ -39,15 +45,19 @@ prefix-exactly o h =
     beq-eq (isUnassigned (firstOctet o)) (isPrefix o) (allBelow-at (λ o. Bool·beq (isUnassigned (firstOctet o)) (isPrefix o)) 256 refl o h)
 
 -- A carried tool's first octet, and tool 6's length and three bits, are those that a writer gives it; and the length is one of the five.
+-- Tool 11's is one of the length's rows.
+abbrev pub isCode : ℕ → ℕ → Bool
+isCode n o = leb (firstCode n) o && ltb o (firstCode n + rowCount n)
+
 abbrev pub asWritten : ℕ → First → Bool
 asWritten o unassigned = true
 asWritten o pad = eqb o 0
-asWritten o (tool t n) = isLength n && (leb 8 t || eqb o (octetFor t n))
+asWritten o (tool t n) = isLength n && cond (eqb t 11) (isCode n o) (leb 8 t || eqb o (octetFor t n))
 asWritten o (sixOrEight n) =
     isLength n && eqb (o / 2 ^ (8 - length (riceCode n 0)) / 2) (valueFrom 0 (riceCode n 0) / 2)
 
 pub first-as-written : (o : ℕ) → o < 256 → asWritten o (firstOctet o) ≡ true
-unfolding firstOctet lookUp rows baseOf lowBits valueFrom
+unfolding firstOctet lookUp rows baseOf lowBits valueFrom firstCode rowCount
 first-as-written o h = allBelow-at (λ o. asWritten o (firstOctet o)) 256 refl o h
 
 -- And what a writer gives is read as that tool and length: tools 1 to 5, and 7 from 80 samples on.
@@ -82,6 +92,18 @@ first-of n t l e =
     begins-tool t n (firstOctet (octetFor t n))
     (implied (hasOwn n t) (beginsTool t n (firstOctet (octetFor t n)))
     (allBelow-at (own n) 8 (by-length (λ n. allBelow (own n) 8 ≡ true) refl refl refl refl refl n l) t (own-low n t e)) e)
+
+-- Tool 11: every row of a length
+abbrev rowBegins : ℕ → ℕ → Bool
+rowBegins n k = not (ltb k (rowCount n)) || beginsTool 11 n (firstOctet (firstCode n + k))
+
+pub row-first : (n k : ℕ) → isLength n ≡ true → k < rowCount n → firstOctet (firstCode n + k) ≡ tool 11 n
+unfolding firstOctet lookUp rows firstCode rowCount
+row-first n k l h =
+    begins-tool 11 n (firstOctet (firstCode n + k))
+    (implied (ltb k (rowCount n)) (beginsTool 11 n (firstOctet (firstCode n + k)))
+    (allBelow-at (rowBegins n) 12 (by-length (λ n. allBelow (rowBegins n) 12 ≡ true) refl refl refl refl refl n l) k (omega (arith, rows-few n l)))
+    (lt-ltb k (rowCount n) h))
 
 -- An octet that begins with tool 6's code of a length is tool 6 or 8 of that length.
 abbrev pub beginsRice : ℕ → ℕ → ℕ → Bool

@@ -5,7 +5,7 @@ use mathlib.Core.Path.{_≡_, refl, sym, ap, subst, _∙_}
 use mathlib.Core.List.{List, [], _∷_, _++_, map}
 use mathlib.Core.Bool.{Bool, true, false, cond, _&&_}
 use native.Mathlib.Omega.{arith}
-use native.Mathlib.Nat.{le-refl, lt-of-lt-of-le, mul-le-mul-right, pow-suc, mul-comm, mul-assoc, one-mul, add-zero, zero-add, add-mul}
+use native.Mathlib.Nat.{le-refl, zero-mul, suc-mul, lt-of-lt-of-le, mul-le-mul-right, pow-suc, mul-comm, mul-assoc, one-mul, add-zero, zero-add, add-mul}
 use lib.Dec.{eqb, leb, ltb, lit<}
 use lib.Arith.{digits-lt}
 use lib.Pow.{pow-pos}
@@ -17,8 +17,10 @@ use Rattle.rules.specs.Reading.{Read, whole, refuse, Reader, andThen, _>
 use Rattle.rules.specs.Runs.{zerosFrom, rice, runsFrom}
 use Rattle.rules.specs.Zeros.{Tree, leaf, fork, treeOf, readTree}
 use Rattle.rules.specs.Located.{widthOf, listedFrom, listed, byMethod, emptyIn, lay, valuesInto}
+use Rattle.rules.specs.Fractional.{digitsOf, groupsFrom}
 use Rattle.rules.proofs.Octets.{moved-up, Below, none, more, Sized, below-at, below-append, below-replicate}
 use Rattle.rules.proofs.Located.{lay-sized}
+use Rattle.rules.proofs.Fractional.{length-digits}
 use Rattle.rules.proofs.Tests.{and-left, and-right}
 
 pub record Gives {A : Type 0} (p : Reader A) (Q : A → Type 0) : Type 0 where
@@ -191,3 +193,13 @@ gives-valuesInto n z cells g (more {x = x} {l = xs} h t) c =
     let s = lay-sized z x flags 0 g h c in
     gives-as (λ l k. record { size = k .size ∙ s .size; below = k .below })
     (gives-valuesInto n z (lay z x flags 0 cells) g t (s .below)))))
+
+-- groups of digits
+pub gives-groupsFrom : (r g w : ℕ) (done : List ℕ) (count : ℕ) → Gives (groupsFrom r g w done count) (λ digits. length digits ≡ length done + count * g)
+unfolding groupsFrom
+gives-groupsFrom r g w done zero = gives-give done (omega (arith, zero-mul g))
+gives-groupsFrom r g w done (suc count) =
+    gives-bind gives-here (λ start u. gives-bind (gives-number w) (λ v h.
+    gives-cond (ltb v (r ^ g))
+    (λ t. gives-as (λ digits e. e ∙ simp (length-append, length-digits) (omega (arith, suc-mul count g))) (gives-groupsFrom r g w (done ++ digitsOf r g v) count))
+    (λ t. gives-fail Place start)))

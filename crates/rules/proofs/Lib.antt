@@ -8,6 +8,7 @@ pub mod Signed
 pub mod Firsts
 pub mod Codes
 pub mod Located
+pub mod Fractional
 pub mod Gives
 pub mod Accepted
 pub mod Named
@@ -18,3 +19,4 @@ pub mod Lent
 pub mod Walk
 pub mod Each
 pub mod Chosen
+pub mod FrameRow

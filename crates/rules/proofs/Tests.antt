@@ -59,9 +59,12 @@ by-length P a b c d e n h =
 pub not-length : (n : ℕ) → (n ≡ 40 → ⊥) → (n ≡ 80 → ⊥) → (n ≡ 160 → ⊥) → (n ≡ 240 → ⊥) → (n ≡ 320 → ⊥) → false ≡ isLength n
 not-length n a b c d e = rw (ne-eqb n 40 a, ne-eqb n 80 b, ne-eqb n 160 c, ne-eqb n 240 d, ne-eqb n 320 e)
 
--- what holds of the seven tools holds of every tool
-pub by-tool : (P : ℕ → Type 0) → P 1 → P 2 → P 3 → P 4 → P 5 → P 6 → P 7 → (t : ℕ) → isTool t ≡ true → P t
-by-tool P a b c d e f g t h = go t (leb-true 1 t (and-left (leb 1 t) (leb t 7) h)) (leb-true t 7 (and-right (leb 1 t) (leb t 7) h))
+-- what holds of the eight tools holds of every tool
+pub by-tool : (P : ℕ → Type 0) → P 1 → P 2 → P 3 → P 4 → P 5 → P 6 → P 7 → P 11 → (t : ℕ) → isTool t ≡ true → P t
+by-tool P a b c d e f g k t h =
+    or-cases (P t) (leb 1 t && leb t 7) (eqb t 11) h
+    (λ h. go t (leb-true 1 t (and-left (leb 1 t) (leb t 7) h)) (leb-true t 7 (and-right (leb 1 t) (leb t 7) h)))
+    (λ h. subst P (sym (eqb-true t 11 h)) k)
   where
     go : (t : ℕ) → 1 ≤ t → t ≤ 7 → P t
     go zero l k = absurd (omega arith)
@@ -76,11 +79,11 @@ by-tool P a b c d e f g t h = go t (leb-true 1 t (and-left (leb 1 t) (leb t 7) h
 
 -- 0, a pad's, is none
 pub tool-some : (t : ℕ) → isTool t ≡ true → 1 ≤ t
-tool-some t h = by-tool (λ t. 1 ≤ t) (lit≤ tt) (lit≤ tt) (lit≤ tt) (lit≤ tt) (lit≤ tt) (lit≤ tt) (lit≤ tt) t h
+tool-some t h = by-tool (λ t. 1 ≤ t) (lit≤ tt) (lit≤ tt) (lit≤ tt) (lit≤ tt) (lit≤ tt) (lit≤ tt) (lit≤ tt) (lit≤ tt) t h
 
 -- every tool is below this number, for tests that are computed
 abbrev pub pastTools : ℕ
-pastTools = 8
+pastTools = 12
 
 pub tool-low : (t : ℕ) → isTool t ≡ true → t < pastTools
-tool-low t h = by-tool (λ t. t < pastTools) (lit< tt) (lit< tt) (lit< tt) (lit< tt) (lit< tt) (lit< tt) (lit< tt) t h
+tool-low t h = by-tool (λ t. t < pastTools) (lit< tt) (lit< tt) (lit< tt) (lit< tt) (lit< tt) (lit< tt) (lit< tt) (lit< tt) t h

@@ -1,10 +1,11 @@
 -- Document 02, R-7: "Every refusal from 1 to 9 gives one bit, counted from 0 at the frame's start". One law for each of its cases:
 --   run-at, run-endless     "the first bit of the run's code (RUN)"
 --   beyond-at               ".. listed place (PLACE", with Named.rising-is-strict; "the end of the count bits where D is 0)": Located.full-listed
+--   group-at                ".. listed place (PLACE": of tool 11 it is the first bit of a V that is too large (the reading of R-14)
 --   case-at, method-at      ".. range case (CASE) or method (METHOD)"
 --   short-at, align-at      "the first missing bit (SHORT) or wrong filling bit (ALIGN)"
 --   prefix-at, tool-at, room-at     "0 for PREFIX, TOOL and ROOM"
-use Prim.Native.Nat.{ℕ, suc, _+_, _≤_, _<_}
+use Prim.Native.Nat.{ℕ, suc, _+_, _^_, _≤_, _<_}
 use mathlib.Core.Path.{_≡_, refl}
 use mathlib.Core.List.{List, _∷_}
 use mathlib.Core.Bool.{Bool, true, false, _&&_}
@@ -18,6 +19,7 @@ use Rattle.rules.specs.Reading.{Read, whole, refuse, give, fail, bit, nu
 use Rattle.rules.specs.First.{unassigned}
 use Rattle.rules.specs.Runs.{rice, runsFrom}
 use Rattle.rules.specs.Located.{valuesOf, listedFrom, byMethod, valuesInto, located}
+use Rattle.rules.specs.Fractional.{groupsFrom}
 use Rattle.rules.specs.Frame.{withTool, afterFirst}
 use Rattle.rules.proofs.Named.{zeros-end}
 
@@ -39,6 +41,11 @@ module _ (b : List ℕ) (i : ℕ) where
   pub beyond-at : (w d p count : ℕ) (done : List ℕ) {j : ℕ} → number w b i ≡ whole p j → d ≤ p → listedFrom w d done (suc count) b i ≡ refuse Place i
   unfolding listedFrom
   beyond-at w d p count done e h = rw (e, le-ltb p d h, and-false (leb (length done) p))
+
+  -- and V not below R'^g
+  pub group-at : (r g w v more : ℕ) (done : List ℕ) {j : ℕ} → number w b i ≡ whole v j → r ^ g ≤ v → groupsFrom r g w done (suc more) b i ≡ refuse Place i
+  unfolding groupsFrom
+  group-at r g w v more done e h = rw (e, le-ltb v (r ^ g) h)
 
   -- CASE: of range case, flag and N together
   pub case-at : (mask n c flag : ℕ) {j k : ℕ} → number 2 b i ≡ whole c j → number 1 b j ≡ whole flag k → length (valuesOf n c flag) ≡ 0
@@ -62,9 +69,9 @@ module _ (b : List ℕ) (i : ℕ) where
   align-at a n h z = rw (lt-ltb i (length b) h, ne-eqb (getD b i 0) 0 z)
 
   -- PREFIX, TOOL and ROOM
-  pub prefix-at : (mask set room : ℕ) → afterFirst mask set room unassigned b i ≡ refuse Prefix 0
+  pub prefix-at : (mask set room o : ℕ) → afterFirst mask set room o unassigned b i ≡ refuse Prefix 0
   unfolding afterFirst
-  prefix-at mask set room = refl
+  prefix-at mask set room o = refl
 
   pub tool-at : (mask set room t n mark : ℕ) → holds set t ≡ false → withTool mask set room t n mark b i ≡ refuse (Tool t) 0
   unfolding withTool

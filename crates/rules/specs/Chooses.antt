@@ -1,4 +1,4 @@
--- Document 01, "What the writer chooses". A frame is the list of its samples; N is their number.
+-- Document 01, "What the writer chooses", with tool 11 of document 02, R-14. A frame is the list of its samples; N is their number.
 use Prim.Native.Nat.{ℕ, zero, suc, _+_, _*_, _-_, min, max}
 use mathlib.Core.List.{List, [], _∷_, _++_, map}
 use mathlib.Core.Bool.{Bool, true, false, cond, not, _&&_, _||_}
@@ -14,6 +14,7 @@ use Rattle.rules.specs.Samples.{maskOf, signed, sampleOf, plusZero, minu
 use Rattle.rules.specs.Runs.{runsForm}
 use Rattle.rules.specs.Zeros.{prefix, uncompressedForm, plusForm, minusForm, constantForm, binaryForm, codeOf, mostS, flagOf, plusMinusForm}
 use Rattle.rules.specs.Located.{caseOf, valuesOf, widthOf}
+use Rattle.rules.specs.Fractional.{leastAt, greatestAt, minusAt, firstCode, rowCount, fractionalBody}
 
 -- how many samples pass a test, and whether all do
 unfoldable pub countOf : (ℕ → Bool) → List ℕ → ℕ
@@ -135,6 +136,32 @@ locatedForm mask s =
     ++ (lowBits 2 (rowOf mask s) ++ (lowBits 1 (locatedFlag mask s)
     ++ valuesForm (map (sampleOf mask) (valuesOf (length s) (rowOf mask s) (locatedFlag mask s))) s))
 
+-- R-14, by 001's 7.11.2 and table 7-28: a frame's row is told by its least, its greatest and whether -1 occurs
+abbrev pub minusOccurs : ℕ → List ℕ → Bool
+minusOccurs mask s = not (eqb (countOf (λ x. eqb x (minusZero mask)) s) 0)
+
+abbrev pub sameTest : Bool → Bool → Bool
+sameTest a b = cond a b (not b)
+
+abbrev pub isRowOf : ℕ → ℕ → Bool → ℕ → Bool
+isRowOf least greatest minus k = eqb least (leastAt k) && eqb greatest (greatestAt k) && sameTest minus (minusAt k)
+
+-- of the rows from k on, so many, the first that is the frame's; the number past the last where none is
+unfoldable pub rowFrom : ℕ → ℕ → Bool → ℕ → ℕ → ℕ
+rowFrom least greatest minus k zero = k
+rowFrom least greatest minus k (suc more) = cond (isRowOf least greatest minus k) k (rowFrom least greatest minus (k + 1) more)
+
+unfoldable pub fractionalRow : ℕ → List ℕ → ℕ
+fractionalRow mask s = rowFrom (leastOf mask s) (greatestOf mask s) (minusOccurs mask s) 0 (rowCount (length s))
+
+abbrev pub fractionalApplies : ℕ → List ℕ → Bool
+fractionalApplies mask s = ltb (fractionalRow mask s) (rowCount (length s))
+
+-- "8 bits" of prefix code, then the "codebits"
+unfoldable pub fractionalForm : ℕ → List ℕ → List ℕ
+fractionalForm mask s =
+    lowBits 8 (firstCode (length s) + fractionalRow mask s) ++ fractionalBody mask (fractionalRow mask s) s
+
 -- which tools apply
 unfoldable pub applies : ℕ → ℕ → List ℕ → Bool
 applies mask t s =
@@ -143,9 +170,10 @@ applies mask t s =
     (cond (eqb t 3) (every (λ x. eqb x (minusZero mask)) s)
     (cond (eqb t 4) (every (λ x. eqb x (getD s 0 0)) s)
     (cond (leb t 6) (every (λ x. eqb x (plusZero mask) || eqb x (minusZero mask)) s)
+    (cond (eqb t 11) (fractionalApplies mask s)
     (leb 80 (length s)
     && ltb (rowOf mask s) 4
-    && zeroLeads mask s (pos 1) && zeroLeads mask s (negsuc 0) && zeroLeads mask s (negsuc 1))))))
+    && zeroLeads mask s (pos 1) && zeroLeads mask s (negsuc 0) && zeroLeads mask s (negsuc 1)))))))
 
 -- a tool's form of a frame that it applies to
 unfoldable pub formOf : ℕ → ℕ → List ℕ → List ℕ
@@ -156,14 +184,16 @@ formOf mask t s =
     (cond (eqb t 4) (constantForm s)
     (cond (eqb t 5) (binaryForm mask s)
     (cond (eqb t 6) (riceChoice mask s)
-    (locatedForm mask s))))))
+    (cond (eqb t 11) (fractionalForm mask s)
+    (locatedForm mask s)))))))
 
 abbrev pub octetsOfForm : ℕ → List ℕ → ℕ → ℕ
 octetsOfForm mask s t = octetsFor (length (formOf mask t s))
 
--- "on equal octets the order plus, minus, constant, binary, Rice, value-location, uncompressed"; uncompressed is what `choose` ends on
+-- "on equal octets the order plus, minus, constant, binary, Rice, value-location, uncompressed"; R-14: tool 11 "stands just before uncompressed",
+-- which is what `choose` ends on
 abbrev pub tieOrder : List ℕ
-tieOrder = 2 ∷ 3 ∷ 4 ∷ 5 ∷ 6 ∷ 7 ∷ []
+tieOrder = 2 ∷ 3 ∷ 4 ∷ 5 ∷ 6 ∷ 7 ∷ 11 ∷ []
 
 -- of the tools before uncompressed that the set holds and that apply, and uncompressed, the first with fewest octets
 unfoldable pub choose : ℕ → ℕ → List ℕ → List ℕ → ℕ

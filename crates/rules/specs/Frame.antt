@@ -1,5 +1,5 @@
 -- Document 01, reading one frame: "in a frame PREFIX, tool decided, TOOL, ROOM, then body checks as the bits come, ALIGN last".
-use Prim.Native.Nat.{ℕ, _+_}
+use Prim.Native.Nat.{ℕ, _+_, _-_}
 use mathlib.Core.List.{List, []}
 use mathlib.Core.Bool.{cond, not}
 use lib.ListN.{length}
@@ -13,6 +13,7 @@ use Rattle.rules.specs.First.{First, unassigned, pad, tool, sixOrEight, 
 use Rattle.rules.specs.Samples.{maskOf, plusZero, minusZero}
 use Rattle.rules.specs.Zeros.{uncompressed, constantly, constant, binary, plusMinus}
 use Rattle.rules.specs.Located.{located}
+use Rattle.rules.specs.Fractional.{firstCode, fractional}
 
 -- an accepted frame: its tool, its samples (their number is its length), and its bits, prefix and body and nothing else
 pub record Found : Type 0 where
@@ -23,7 +24,7 @@ pub record Found : Type 0 where
 abbrev pub octetsUsed : Found → ℕ
 octetsUsed f = octetsFor (f .bits)
 
--- the body of tool t; the mark is tool 6's
+-- the body of tool t; the mark is tool 6's, or tool 11's row
 unfoldable pub body : ℕ → ℕ → ℕ → ℕ → Reader (List ℕ)
 body mask t n mark =
     cond (eqb t 1) (uncompressed n)
@@ -32,9 +33,10 @@ body mask t n mark =
     (cond (eqb t 4) (constant n)
     (cond (eqb t 5) (binary mask n)
     (cond (eqb t 6) (plusMinus mask n mark)
-    (located mask n))))))
+    (cond (eqb t 11) (fractional mask mark n)
+    (located mask n)))))))
 
--- the tool is decided: TOOL ("8 to 13, or 1 to 7 and not in the set"), ROOM, the body, ALIGN
+-- the tool is decided: TOOL ("8 to 13, or 1 to 7 and not in the set"; R-14: 11 only where it is not in the set), ROOM, the body, ALIGN
 unfoldable pub withTool : ℕ → ℕ → ℕ → ℕ → ℕ → ℕ → Reader Found
 withTool mask set room t n mark =
     cond (not (holds set t)) (fail (Tool t) 0)
@@ -43,12 +45,16 @@ withTool mask set room t n mark =
       bits ← here
       filled (record { tool = t; samples = samples; bits = bits }) (fillFor bits)))
 
--- what the first octet begins; "Pads need no tool", and "A pad reports 8 bits"
-unfoldable pub afterFirst : ℕ → ℕ → ℕ → First → Reader Found
-afterFirst mask set room unassigned = fail Prefix 0
-afterFirst mask set room pad = give (record { tool = 0; samples = []; bits = 8 })
-afterFirst mask set room (tool t n) = withTool mask set room t n 0
-afterFirst mask set room (sixOrEight n) =
+-- what first octet o says besides its tool and length: tool 11's row. The others have nothing there
+abbrev pub rowIn : ℕ → ℕ → ℕ → ℕ
+rowIn o t n = cond (eqb t 11) (o - firstCode n) 0
+
+-- what first octet o begins; "Pads need no tool", and "A pad reports 8 bits"
+unfoldable pub afterFirst : ℕ → ℕ → ℕ → ℕ → First → Reader Found
+afterFirst mask set room o unassigned = fail Prefix 0
+afterFirst mask set room o pad = give (record { tool = 0; samples = []; bits = 8 })
+afterFirst mask set room o (tool t n) = withTool mask set room t n (rowIn o t n)
+afterFirst mask set room o (sixOrEight n) =
     from (markAt n) (do
       mark ← bit
       t ← sixNotEight
@@ -57,7 +63,7 @@ afterFirst mask set room (sixOrEight n) =
 unfoldable pub frame : ℕ → ℕ → ℕ → Reader Found
 frame mask set room = do
   o ← number 8
-  afterFirst mask set room (firstOctet o)
+  afterFirst mask set room o (firstOctet o)
 
 -- one frame, `room` being the output's: "Order: LAW, SET", then the frame
 abbrev pub single : ℕ → ℕ → ℕ → Reader Found

@@ -100,8 +100,8 @@ pub fn tool_of(end: Ending) -> u32
 // "The law is 0 for A, 1 for mu."
 pub const MOST_LAW: u32 = 1;
 
-// "A tool set is a number from 0 to 127."
-pub const ALL_TOOLS: u32 = 127;
+// "A tool set is a number from 0 to 127"; document 02, R-14: "so sets run to 255".
+pub const ALL_TOOLS: u32 = 255;
 
 // A walk given more octets is LONG. Document 02, R-11: "Walks take up to 1,048,576 octets".
 pub const LONGEST: usize = 1048576;

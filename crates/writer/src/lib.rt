@@ -1,8 +1,11 @@
 // Writing one frame: the chosen form alone is put out.
 
+use choice::last::Last;
+use choice::last::last_of;
 use choice::near::located_plan;
 use choice::settle::choose;
 use choice::two_zeros::zeros_plan;
+use forms::put_fractional;
 use forms::put_located;
 use forms::put_two_zeros;
 use forms::put_whole;
@@ -18,17 +21,18 @@ use rules::guard_writer;
 use rules::is_length;
 ghost use mathlib.Core.Path.{_≡_};
 ghost use mathlib.Core.Bool.{true, false};
-ghost use Prim.Native.Nat.{_≤_};
+ghost use Prim.Native.Nat.{_*_, _≤_};
 ghost use lib.ListN.{length, take};
 ghost use Rattle.rules.specs.declared.Ending.the-variants.{Done};
 ghost use Rattle.rules.specs.Bits.{bitsOf};
 ghost use Rattle.rules.specs.Refusals.{verdict};
 ghost use Rattle.rules.specs.Tools.{writerAsks};
-ghost use Rattle.rules.specs.Chooses.{declined, writeOne};
+ghost use Rattle.rules.specs.Chooses.{declined, leastOf, greatestOf, chosenTool, formOf, writeOne};
 ghost use Rattle.rules.specs.Calls.{Writes, WriteFrame, WriteSamples};
-ghost use Rattle.look.specs.Looks.{twoZeros, isMask, FrameIn};
-ghost use Rattle.choice.specs.Plans.{Left};
+ghost use Rattle.look.specs.Looks.{near, twoZeros, isMask, FrameIn};
+ghost use Rattle.choice.specs.Plans.{Left, LastIs};
 ghost use Rattle.forms.specs.Forms.{wholeOctets};
+ghost use Rattle.pen.specs.Puts.{Packed};
 ghost use Rattle.writer.specs.Answers.{Tells, fitting, pad, full, plain};
 
 // A refusal: no octets, no bits, no tool.
@@ -95,20 +99,57 @@ fn write_zeros(out: &mut [u8], samples: &[u8], n: usize, mask: u8, set: u32) -> 
     wrote(octets, plan.bits, plan.tool)
 }
 
-// A frame from -2 to 1 that has a 1 or a -2, likewise.
-fn write_located(out: &mut [u8], samples: &[u8], n: usize, mask: u8, set: u32) -> WriteAnswer
+// The last of the tie order put out: fractional-bit, or uncompressed. Their number comes back; the answer is the caller's, so that it stays in
+// registers where nothing of this is called.
+fn put_last(out: &mut [u8], samples: &[u8], n: usize, mask: u8, set: u32, last: Last) -> usize
     requires { ⌜ (FrameIn (now samples) n) × (isMask mask ≡ true) ⌝ }
-    requires { ⌜ (Left mask set (take n (now samples))) × (twoZeros mask (take n (now samples)) ≡ false) ⌝ }
+    requires { ⌜ (LastIs mask set (take n (now samples)) last) × (length (formOf mask (last .choice .tool) (take n (now samples))) ≤ 8 * length (now out)) ⌝ }
+    ensures { λ r. ⌜ Packed (formOf mask (last .choice .tool) (take n (now (samples .entry)))) (now (out .entry)) (now (out .exit)) r ⌝ }
+{
+    let best = last.choice;
+    if best.tool != 11 {
+        return put_whole(out, samples, n, 1);
+    }
+    put_fractional(out, samples, n, mask, last.row)
+}
+
+// A frame that they are left for.
+fn write_last(out: &mut [u8], samples: &[u8], n: usize, mask: u8, set: u32, last: Last) -> WriteAnswer
+    requires { ⌜ (FrameIn (now samples) n) × (isMask mask ≡ true) ⌝ }
+    requires { ⌜ (LastIs mask set (take n (now samples)) last) × (chosenTool mask set (take n (now samples)) ≡ last .choice .tool) ⌝ }
     ensures { λ r. ⌜ Writes (fitting (length (now (out .entry))) (full mask set (take n (now (samples .entry))))) r (now (out .entry)) (now (out .exit)) ⌝ }
 {
+    let best = last.choice;
+    if out.len() < octets_for(best.bits) {
+        return refused(Refusal::Room);
+    }
+    let octets = put_last(out, samples, n, mask, set, last);
+    wrote(octets, best.bits, best.tool)
+}
+
+// A frame from -2 to 1 that has a 1 or a -2, likewise; what is last in the tie order is known. Value-location asks for 80 samples.
+fn write_located(out: &mut [u8], samples: &[u8], n: usize, mask: u8, set: u32, last: Last) -> WriteAnswer
+    requires { ⌜ (FrameIn (now samples) n) × (isMask mask ≡ true) ⌝ }
+    requires { ⌜ (Left mask set (take n (now samples))) × (twoZeros mask (take n (now samples)) ≡ false) ⌝ }
+    requires { ⌜ (near (leastOf mask (take n (now samples))) (greatestOf mask (take n (now samples))) ≡ true) × (LastIs mask set (take n (now samples)) last) ⌝ }
+    ensures { λ r. ⌜ Writes (fitting (length (now (out .entry))) (full mask set (take n (now (samples .entry))))) r (now (out .entry)) (now (out .exit)) ⌝ }
+{
+    if n < 80 {
+        return write_last(out, samples, n, mask, set, last);
+    }
     let mut a = [0u16; 321];
     let mut b = [0u16; 321];
     let mut c = [0u16; 321];
-    let plan = located_plan(samples, n, mask, set, &mut a, &mut b, &mut c);
+    let best = last.choice;
+    let plan = located_plan(samples, n, mask, set, best, &mut a, &mut b, &mut c);
     if out.len() < octets_for(plan.bits) {
         return refused(Refusal::Room);
     }
-    let octets = put_located(out, samples, n, plan, &a, &b, &c);
+    if plan.tool != 7 {
+        let few = put_last(out, samples, n, mask, set, last);
+        return wrote(few, plan.bits, plan.tool);
+    }
+    let octets = put_located(out, n, plan, &a, &b, &c);
     wrote(octets, plan.bits, plan.tool)
 }
 
@@ -124,7 +165,11 @@ fn write_chosen(out: &mut [u8], samples: &[u8], n: usize, mask: u8, set: u32) ->
     if chosen.zeros {
         return write_zeros(out, samples, n, mask, set);
     }
-    write_located(out, samples, n, mask, set)
+    let last = last_of(samples, n, mask, set);
+    if chosen.close {
+        return write_located(out, samples, n, mask, set, last);
+    }
+    write_last(out, samples, n, mask, set, last)
 }
 
 // After LAW and SET: LENGTH, and ROOM last.

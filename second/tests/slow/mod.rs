@@ -121,7 +121,7 @@ impl Bits<'_> {
 fn first_octet(octet: u8) -> Option<(usize, u32)> {
     Some(match octet {
         0x00 => (0, 0),
-        0x02..=0x1F => (0, 11),
+        0x02..=0x1F => (fractional_row(octet).0, 11),
         0x20..=0x3F => {
             let n = if octet < 0x30 { 240 } else { 320 };
             let tool = match octet % 16 {
@@ -153,6 +153,44 @@ fn first_octet(octet: u8) -> Option<(usize, u32)> {
         0xE0..=0xFF => (160, 9),
         _ => return None,
     })
+}
+
+/// Table 7-28 as it is printed: R', the distinctive values within the frame,
+/// the prefix codes for 40, 80, 160, 240 and 320 samples.
+pub const TABLE_7_28: [(usize, &[i32], &[u8]); 12] = [
+    (2, &[0, 1], &[2, 14, 20, 24, 28]),
+    (2, &[-2, 0], &[4, 16, 22, 26, 30]),
+    (3, &[-2, -1, 0], &[6, 18]),
+    (3, &[-1, 0, 1], &[7, 19]),
+    (3, &[-2, 0, 1], &[5, 17, 23, 27, 31]),
+    (4, &[-2, -1, 0, 1], &[3, 15, 21, 25, 29]),
+    (4, &[-3, -2, 0, 1], &[8]),
+    (4, &[-2, 0, 1, 2], &[10]),
+    (5, &[-2, -1, 0, 1, 2], &[9]),
+    (5, &[-3, -2, 0, 1, 2], &[12]),
+    (6, &[-3, -2, -1, 0, 1, 2], &[11]),
+    (6, &[-4, -3, -2, 0, 1, 2], &[13]),
+];
+
+/// N, R', X_min and the flag delta of -1 for a prefix of table 7-28. The flag
+/// is 1 where -1 lies inside the values' range and is not one of them.
+fn fractional_row(octet: u8) -> (usize, usize, i32, i32) {
+    for (reduced, values, prefixes) in TABLE_7_28 {
+        if let Some(at) = prefixes.iter().position(|&prefix| prefix == octet) {
+            let delta = i32::from(values[0] < -1 && !values.contains(&-1));
+            return (LENGTHS[at], reduced, values[0], delta);
+        }
+    }
+    panic!("not in table 7-28: {octet}");
+}
+
+/// Table 7-27: bits of each V.
+fn bits_of_v(reduced: usize) -> usize {
+    match reduced {
+        3 => 8,
+        5 => 12,
+        _ => 13,
+    }
 }
 
 pub fn s_codes(n: usize) -> Vec<&'static str> {
@@ -187,6 +225,16 @@ fn ceil_log2(d: usize) -> usize {
     width
 }
 
+/// Whether a set holds a tool: 2^(t - 1) for tools 1 to 7, 128 for tool 11.
+fn holds(set: u32, tool: u32) -> bool {
+    match tool {
+        0 => true,
+        1..=7 => (set / 2u32.pow(tool - 1)) % 2 == 1,
+        11 => set / 128 == 1,
+        _ => false,
+    }
+}
+
 /// A frame's samples, bits and tool.
 type Frame = (Vec<u8>, usize, u32);
 
@@ -203,7 +251,7 @@ fn frame(octets: &[u8], law: u32, set: u32, room: usize) -> Result<Frame, Refuse
         // The second bit matters only after a first bit of 0.
         tool = if bits.bit()? == 1 || bits.bit()? == 1 { 6 } else { 8 };
     }
-    if tool >= 8 || (tool >= 1 && (set / 2u32.pow(tool - 1)) % 2 == 0) {
+    if !holds(set, tool) {
         return Err((TOOL, tool, 0));
     }
     if room < n {
@@ -243,6 +291,48 @@ fn frame(octets: &[u8], law: u32, set: u32, room: usize) -> Result<Frame, Refuse
             };
             let row = bits.runs(s, n, n)?;
             row.iter().map(|&o| if o { other } else { common }).collect()
+        }
+        11 => {
+            let (_, reduced, least, delta) = fractional_row(octets[0]);
+            let base = reduced as i32;
+            let mut numbers: Vec<i32> = vec![];
+            if reduced == 2 {
+                // (8-23)
+                for _ in 0..n {
+                    numbers.push(if bits.bit()? == 0 { least } else { least + (1 + delta) });
+                }
+            } else {
+                if reduced == 4 {
+                    // (8-24)
+                    for _ in 0..n {
+                        numbers.push(bits.number(2)? as i32 + least);
+                    }
+                } else {
+                    // (8-26) and (8-27)
+                    for _ in 0..n / 5 {
+                        let first = bits.at;
+                        let v = bits.number(bits_of_v(reduced))? as i32;
+                        if v >= base.pow(5) {
+                            return Err((PLACE, 0, first));
+                        }
+                        let mut l = [0; 5];
+                        let mut w = v;
+                        for m in (1..=4).rev() {
+                            l[m] = w / base.pow(m as u32);
+                            w -= l[m] * base.pow(m as u32);
+                        }
+                        l[0] = w;
+                        numbers.extend(l.map(|l| l + least));
+                    }
+                }
+                // (8-25) and (8-28)
+                for x in &mut numbers {
+                    if *x >= -1 {
+                        *x += delta;
+                    }
+                }
+            }
+            numbers.iter().map(|&number| sample(number, law)).collect()
         }
         _ => {
             let range_case = bits.at;
@@ -304,7 +394,7 @@ pub fn read(octets: &[u8], law: u32, set: u32, out: &[u8]) -> (ReadReport, Vec<u
     if law > 1 {
         return (refused_read((LAW, 0, 0)), out.to_vec());
     }
-    if set > 127 {
+    if set > 255 {
         return (refused_read((SET, 0, 0)), out.to_vec());
     }
     match frame(octets, law, set, out.len()) {
@@ -455,6 +545,37 @@ fn value_location_form(numbers: &[i32]) -> Option<String> {
     Some(text)
 }
 
+/// Tool 11's form by (7-77) and (7-78), of the printed row whose least and
+/// greatest are the frame's, with -1 in it or not as in the frame.
+fn fractional_form(numbers: &[i32]) -> Option<String> {
+    let n = numbers.len();
+    let length = LENGTHS.iter().position(|&length| length == n).unwrap();
+    let x_min = *numbers.iter().min().unwrap();
+    let x_max = *numbers.iter().max().unwrap();
+    let minus_one = numbers.contains(&-1);
+    let is_row = |values: &[i32]| {
+        values.first() == Some(&x_min) && values.last() == Some(&x_max) && values.contains(&-1) == minus_one
+    };
+    let (reduced, _, prefixes) = TABLE_7_28.into_iter().find(|(_, values, _)| is_row(values))?;
+    let prefix = *prefixes.get(length)?;
+    let (_, _, _, delta) = fractional_row(prefix);
+    let l = |&x: &i32| (if x < -1 { x - x_min } else { x - x_min - delta }) as usize;
+    let digits: Vec<usize> = numbers.iter().map(l).collect();
+    let mut text = number_text(usize::from(prefix), 8);
+    match reduced {
+        2 => text.extend(digits.iter().map(|&l| number_text(l, 1))),
+        4 => text.extend(digits.iter().map(|&l| number_text(l, 2))),
+        _ => {
+            for block in digits.chunks(5) {
+                let term = |m: usize| block[m] * reduced.pow(m as u32);
+                let v = term(0) + term(1) + term(2) + term(3) + term(4);
+                text += &number_text(v, bits_of_v(reduced));
+            }
+        }
+    }
+    Some(text)
+}
+
 /// Every form the set's tools have for a frame, in the order of preference.
 pub fn all_forms(samples: &[u8], law: u32, set: u32) -> Vec<(u32, String)> {
     let n = samples.len();
@@ -479,9 +600,12 @@ pub fn all_forms(samples: &[u8], law: u32, set: u32) -> Vec<(u32, String)> {
     if let Some(form) = value_location_form(&numbers) {
         forms.push((7, form));
     }
+    if let Some(form) = fractional_form(&numbers) {
+        forms.push((11, form));
+    }
     let plain: String = samples.iter().map(|&s| number_text(s as usize, 8)).collect();
     forms.push((1, whole_prefix(1, n) + &plain));
-    forms.retain(|&(tool, _)| (set / 2u32.pow(tool - 1)) % 2 == 1);
+    forms.retain(|&(tool, _)| holds(set, tool));
     forms
 }
 
@@ -491,7 +615,7 @@ pub fn write(samples: &[u8], law: u32, set: u32, out: &[u8]) -> (WriteReport, Ve
     if law > 1 {
         return refused(LAW);
     }
-    if set > 127 || set % 2 == 0 {
+    if set > 255 || set % 2 == 0 {
         return refused(SET);
     }
     if ![0, 40, 80, 160, 240, 320].contains(&samples.len()) {

@@ -2,7 +2,7 @@
 
 use super::Told;
 use crate::streams::Stream;
-use crate::{Codec, MOST};
+use crate::{Codec, ALL_TOOLS, MOST};
 use second::gen::Prng;
 use second::store::Mark;
 
@@ -19,7 +19,7 @@ pub struct Frames {
 pub fn frames_of(reader: &dyn Codec, octets: &[u8], law: u32) -> Option<Frames> {
     let mut frames = Frames::default();
     while frames.octets < octets.len() {
-        let read = reader.read(&octets[frames.octets..], law, 127, &mut [0; 320]);
+        let read = reader.read(&octets[frames.octets..], law, ALL_TOOLS, &mut [0; 320]);
         if read.ending != 0 || read.octets == 0 {
             return None;
         }

@@ -6,7 +6,7 @@ use lib.ListN.{length, take}
 use lib.Seq.{length-take-le}
 use lib.Dec.{leb, ltb}
 use Rattle.look.proofs.Tests.{mask-seven}
-use Rattle.locating.proofs.Near.{law-for}
+use Rattle.look.proofs.Tests.{law-for}
 use Rattle.locating.proofs.Rows.{applied-is, turn-of, located-is, ways-small}
 use Rattle.locating.proofs.located_of.Statement.{statement}
 use Rattle.locating.proofs.located_of.Tie as tie

@@ -53,10 +53,10 @@ module _ (c : tie.After-first-octet) (b : Begins) (e : c .first-octet .result �
   begins : asFirst b ≡ firstOctet (getD octets 0 0)
   begins = sym (ap asFirst e) ∙ c .first-octet .ensures
 
-  says : (mask set room : ℕ) → afterFirst mask set room (asFirst b) (bitsOf octets) 8 ≡ frame mask set room (bitsOf octets) 0
+  says : (mask set room : ℕ) → afterFirst mask set room (getD octets 0 0) (asFirst b) (bitsOf octets) 8 ≡ frame mask set room (bitsOf octets) 0
   says = opened octets (omega arith) small (asFirst b) begins
 
-  known : LengthKnown (asFirst b)
+  known : LengthKnown (getD octets 0 0) (asFirst b)
   known = length-known (getD octets 0 0) small (asFirst b) begins
 
 six-or-eight-requires : tie.Need-six-or-eight-requires
@@ -70,18 +70,26 @@ returns-4 : tie.Need-returns-4
 unfolding afterFirst
 returns-4 c = record { says = says (c .before .before) Pad (c .enum-told2 .given .1); ranges = tt }
 
+row-in-requires : tie.Need-row-in-requires
+row-in-requires c κs =
+    let t = c .before .t in
+    known (c .before .before .before) (Tool (t .given .0 .0) (t .given .0 .1 .0)) (t .given .1) .2
+
 returns-5 : tie.Need-returns-5
 unfolding afterFirst
 returns-5 c =
+    let t = c .before .before .t in
+    let b = Tool (t .given .0 .0) (t .given .0 .1 .0) in
+    let k = known (c .before .before .before .before) b (t .given .1) in
     record {
-      says = says (c .before .before .before) (Tool (c .before .t .given .0 .0) (c .before .t .given .0 .1 .0)) (c .before .t .given .1);
-      ranges = (record { len = known (c .before .before .before) (Tool (c .before .t .given .0 .0) (c .before .t .given .0 .1 .0)) (c .before .t .given .1); mark = omega arith; at = omega arith; whole-octet = λ h. refl }, omega arith);
+      says = λ mask set room. rw (c .row-in .ensures) (says (c .before .before .before .before) b (t .given .1) mask set room);
+      ranges = (record { len = k .0; mark = rw (c .row-in .ensures) (k .1); at = omega arith; whole-octet = λ h. refl }, omega arith);
     }
 
 returns-6 : tie.Need-returns-6
 returns-6 c =
     record {
-      says = λ mask set room. c .six-or-eight .ensures .says mask set room 8 ∙ says (c .before .before .before .before) (SixOrEight (c .before .before .n .given .0 .0)) (c .before .before .n .given .1) mask set room;
+      says = λ mask set room. c .six-or-eight .ensures .says mask set room _ 8 ∙ says (c .before .before .before .before) (SixOrEight (c .before .before .n .given .0 .0)) (c .before .before .n .given .1) mask set room;
       ranges = c .six-or-eight .ensures .ranges;
     }
 
@@ -96,6 +104,7 @@ opening-of-spec =
     enum-told
     enum-told-2
     enum-known-t
+    row-in-requires
     enum-known-n
     six-or-eight-requires
     returns-3

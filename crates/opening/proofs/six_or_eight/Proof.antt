@@ -46,7 +46,7 @@ returns-2 c =
       ranges = (
         record {
           len = c .before .before .before .before .before .before .before .pre .0;
-          mark = c .before .before .before .before .bit-at .ensures .1;
+          mark = omega (arith, c .before .before .before .before .bit-at .ensures .1);
           at = omega arith;
           whole-octet = λ h. absurd (omega (arith, at-least-six (c .before .before .before .before .before .before .before .args .octets .now) _ (omega arith) (told (c .before .before .before .six-not-eight .ensures) (c .before .t .given .1) .says)));
         },

@@ -56,8 +56,8 @@ cast-plus-minus c = search needs
 plus-minus-requires : tie.Need-plus-minus-requires
 plus-minus-requires c κs = let s = c .before .before .before .before in (omega (arith, s .pre .0 .at), ranged s .1, s .pre .1, lent s)
 
-located-requires : tie.Need-located-requires
-located-requires c κs = let s = c .before .before .before in (omega (arith, s .pre .0 .at), ranged s .1, s .pre .1, s .pre .2, lent s)
+few-values-requires : tie.Need-few-values-requires
+few-values-requires c κs = c .before .before .before .pre
 
 returns : tie.Need-returns
 unfolding body
@@ -101,7 +101,7 @@ returns-7 c =
     let s = c .before .before .before .before in
     let last = last-body (s .args .mask) (s .args .h .tool) (s .args .h .len) (s .args .h .mark)
     (omega arith) (omega arith) (omega arith) (omega arith) (omega arith) (omega arith) in
-    fills-as (c .located .ensures) (ap (λ (r : Reader (List ℕ)). r (bitsOf (s .args .octets .now)) (s .args .h .at)) last) (omega (arith, s .pre .0 .at))
+    fills-as (c .few-values .ensures) (ap (λ (r : Reader (List ℕ)). r (bitsOf (s .args .octets .now)) (s .args .h .at)) last) (omega (arith, s .pre .0 .at))
 
 pub body-of-spec : {M : Type 1} → statement M
 body-of-spec =
@@ -116,7 +116,7 @@ body-of-spec =
     binary-requires
     cast-plus-minus
     plus-minus-requires
-    located-requires
+    few-values-requires
     returns
     returns-2
     returns-3

@@ -23,8 +23,19 @@ or-needs-requires-6 c κs = search needs
 or-needs-requires-7 : tie.Need-or-needs-requires-7
 or-needs-requires-7 c κs = search needs
 
+or-needs-requires-8 : tie.Need-or-needs-requires-8
+or-needs-requires-8 c κs = search needs
+
 returns : tie.Need-returns
-returns c = rw (c .or-needs7 .ensures, c .before .or-needs6 .ensures, c .before .before .or-needs5 .ensures, c .before .before .before .or-needs4 .ensures, c .before .before .before .before .or-needs3 .ensures, c .before .before .before .before .before .or-needs2 .ensures, c .before .before .before .before .before .before .or-needs .ensures)
+returns c =
+    rw (c .or-needs8 .ensures,
+    c .before .or-needs7 .ensures,
+    c .before .before .or-needs6 .ensures,
+    c .before .before .before .or-needs5 .ensures,
+    c .before .before .before .before .or-needs4 .ensures,
+    c .before .before .before .before .before .or-needs3 .ensures,
+    c .before .before .before .before .before .before .or-needs2 .ensures,
+    c .before .before .before .before .before .before .before .or-needs .ensures)
 
 pub tie-in-spec : {M : Type 1} → statement M
 tie-in-spec =
@@ -37,4 +48,5 @@ tie-in-spec =
     or-needs-requires-5
     or-needs-requires-6
     or-needs-requires-7
+    or-needs-requires-8
     returns)

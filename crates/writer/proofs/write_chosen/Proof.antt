@@ -7,12 +7,6 @@ use Rattle.writer.specs.Answers.{fitting}
 use Rattle.writer.proofs.Writing.{writes-as, plain-full, plain-size}
 use Rattle.writer.proofs.write_chosen.Statement.{statement}
 use Rattle.writer.proofs.write_chosen.Tie as tie
-use Rattle.writer.proofs.write_chosen.Reads as reads
-use Rattle.writer.proofs.write_chosen.Lts as lts
-use Rattle.choice.proofs.settle.choose.Reads as choose-reads
-use Rattle.writer.proofs.write_located.Reads as write-located-reads
-use Rattle.writer.proofs.write_plain.Reads as write-plain-reads
-use Rattle.writer.proofs.write_zeros.Reads as write-zeros-reads
 
 choose-requires : tie.Need-choose-requires
 choose-requires c κs = c .before .before .pre
@@ -48,17 +42,33 @@ same-length-2 c = search needs
 returns-2 : tie.Need-returns-2
 returns-2 c = search needs
 
+last-of-requires : tie.Need-last-of-requires
+last-of-requires c κs = c .before .before .before .before .before .before .pre
+
 write-located-requires : tie.Need-write-located-requires
 write-located-requires c κs =
-    let s = c .before .before .before .before .before .before .before in
-    let l = c .before .before .before .before .choose .ensures in
-    (s .pre, (l .left (c .before .before .if1 .left), sym (l .zeros) ∙ c .before .if2 .left))
+    let s = c .before .before .before .before .before .before .before .before .before in
+    let l = c .before .before .before .before .before .before .choose .ensures in
+    (s .pre, ((l .left (c .before .before .before .before .if1 .left), sym (l .zeros) ∙ c .before .before .before .if2 .left), (sym (l .close) ∙ c .before .if3 .taken, c .before .before .last-of .ensures)))
 
 same-length-3 : tie.Need-same-length-3
 same-length-3 c = search needs
 
 returns-3 : tie.Need-returns-3
-returns-3 c = search needs
+returns-3 c = c .before .before .write-located .ensures
+
+write-last-requires : tie.Need-write-last-requires
+write-last-requires c κs =
+    let s = c .before .before .before .before .before .before .before .before .before in
+    let l = c .before .before .before .before .before .before .choose .ensures in
+    let k = c .before .before .last-of .ensures in
+    (s .pre, (k, l .left (c .before .before .before .before .if1 .left) .far (sym (l .close) ∙ c .before .if3 .left) ∙ sym (k .chosen .tool)))
+
+same-length-4 : tie.Need-same-length-4
+same-length-4 c = search needs
+
+returns-4 : tie.Need-returns-4
+returns-4 c = c .before .before .write-last .ensures
 
 pub write-chosen-spec : {M : Type 1} → statement M
 write-chosen-spec =
@@ -71,6 +81,10 @@ write-chosen-spec =
     write-zeros-requires
     same-length-2
     returns-2
+    last-of-requires
     write-located-requires
     same-length-3
-    returns-3)
+    returns-3
+    write-last-requires
+    same-length-4
+    returns-4)

@@ -8,7 +8,6 @@ use borrow.Author.Tests.{not-true, not-false}
 use lib.ListN.{length, take}
 use lib.Seq.{length-take-le}
 use Rattle.rules.specs.Chooses.{applies}
-use Rattle.offers.specs.declared.Choice.{Choice}
 use Rattle.locating.proofs.Rows.{applied-is}
 use Rattle.choice.proofs.Planning.{past, located-as, not-located, located-for}
 use Rattle.choice.proofs.near.located_plan.Statement.{statement}
@@ -42,7 +41,7 @@ returns : tie.Need-returns
 returns c =
     let s = c .before .before .before .before in
     let off = ap (λ (h : Bool). h && applies (s .args .mask) 7 (frame s)) (sym (c .before .before .holds .ensures) ∙ not-true _ (c .before .if1 .taken)) in
-    located-as (s .pre .1 .0 .0 .later) (not-located (s .args .set) (s .pre .1 .0 .1) (size s) (s .pre .0 .0 .few) off (c .not-located .ensures .0) (c .not-located .ensures .1))
+    located-as (s .pre .1 .0 .0 .later) (not-located (s .args .set) (s .pre .1 .0 .1) (s .pre .1 .1 .0 .1) off (c .not-located .ensures .0) (c .not-located .ensures .1))
 
 tally-of-requires : tie.Need-tally-of-requires
 tally-of-requires c κs = search needs
@@ -61,7 +60,7 @@ returns-2 c =
     let s = c .before .before .before .before .before .before .before .before in
     let off = sym (applied-is (c .before .before .before .before .tally-of .ensures) (size s) (c .before .before .before .row-of .ensures .0) (c .before .before .located-applies .ensures)) ∙ not-true _ (c .before .if2 .taken) in
     located-as (s .pre .1 .0 .0 .later)
-    (not-located (s .args .set) (s .pre .1 .0 .1) (size s) (s .pre .0 .0 .few) (past (s .args .set) 7 off) (c .not-located2 .ensures .0) (c .not-located2 .ensures .1))
+    (not-located (s .args .set) (s .pre .1 .0 .1) (s .pre .1 .1 .0 .1) (past (s .args .set) 7 off) (c .not-located2 .ensures .0) (c .not-located2 .ensures .1))
 
 located-of-requires : tie.Need-located-of-requires
 located-of-requires c κs =
@@ -69,27 +68,25 @@ located-of-requires c κs =
     let t = c .before .before .before .before .before .before .tally-of .ensures in
     let found = c .before .before .before .before .before .row-of .ensures .0 in
     let on = sym (applied-is t (size s) found (c .before .before .before .before .located-applies .ensures)) ∙ not-false _ (c .before .before .before .if2 .left) in
-    (s .pre .0, ((t, on), (found, s .pre .1 .1)))
-
-uncompressed-of-requires : tie.Need-uncompressed-of-requires
-uncompressed-of-requires c κs =
-    c .before .before .before .before .before .before .before .before .before .before .before .pre .0 .0 .few
+    (s .pre .0, ((t, on), (found, s .pre .1 .1 .1)))
 
 better-requires : tie.Need-better-requires
 better-requires c κs =
-    (omega (arith, ap (λ (k : Choice). k .bits) (c .uncompressed-of .ensures), c .before .before .before .before .before .before .before .before .before .before .before .before .pre .0 .0 .few), c .before .located-of .ensures .small)
+    (c .before .before .before .before .before .before .before .before .before .before .before .pre .1 .1 .0 .1 .small, c .located-of .ensures .small)
 
 located-by-requires : tie.Need-located-by-requires
 located-by-requires c κs = search needs
 
 returns-3 : tie.Need-returns-3
 returns-3 c =
-    let s = c .before .before .before .before .before .before .before .before .before .before .before .before .before .before in
-    let t = c .before .before .before .before .before .before .before .before .before .before .tally-of .ensures in
-    let on = sym (applied-is t (size s) (c .before .before .before .before .before .before .before .before .before .row-of .ensures .0) (c .before .before .before .before .before .before .before .before .located-applies .ensures)) ∙ not-false _ (c .before .before .before .before .before .before .before .if2 .left) in
-    let held = sym (c .before .before .before .before .before .before .before .before .before .before .before .before .holds .ensures) ∙ not-false _ (c .before .before .before .before .before .before .before .before .before .before .before .if1 .left) in
+    let held = c .before .before .before .before .before .before .before .before .before .before in
+    let s = held .before .before .before in
+    let t = c .before .before .before .before .before .before .before .before .before .tally-of .ensures in
+    let on = sym (applied-is t (size s) (c .before .before .before .before .before .before .before .before .row-of .ensures .0) (c .before .before .before .before .before .before .before .located-applies .ensures))
+    ∙ not-false _ (c .before .before .before .before .before .before .if2 .left) in
+    let has = sym (held .before .holds .ensures) ∙ not-false _ (held .if1 .left) in
     located-as (s .pre .1 .0 .0 .later)
-    (located-for (s .args .set) (s .pre .1 .0 .1) (size s) (s .pre .0 .0 .few) held on (c .before .before .before .located-of .ensures) (c .before .before .uncompressed-of .ensures) (c .before .better .ensures) (c .located-by .ensures))
+    (located-for (s .args .set) (s .pre .1 .0 .1) (s .pre .1 .1 .0 .1) has on (c .before .before .located-of .ensures) (c .before .better .ensures) (c .located-by .ensures))
 
 pub located-plan-spec : {M : Type 1} → statement M
 located-plan-spec =
@@ -104,7 +101,6 @@ located-plan-spec =
     not-located-requires-2
     returns-2
     located-of-requires
-    uncompressed-of-requires
     better-requires
     located-by-requires
     returns-3)

@@ -16,13 +16,14 @@ whole-bits-requires c κs = search needs
 
 returns : tie.Need-returns
 returns c =
-    let s = c .before .before .before .before .before in
-    let p = c .before .before .plain-tool .ensures in
+    let s = c .before .before .before .before .before .before in
+    let p = c .before .before .before .plain-tool .ensures in
     let size = length-take-le (s .args .n) (s .args .samples .now) (s .pre .0 .long) in
     record {
-      chosen = settled-chosen p size (s .pre .0 .few) (c .before .whole-bits .ensures);
+      chosen = settled-chosen p size (s .pre .0 .few) (c .before .before .whole-bits .ensures);
       left = p .left;
-      zeros = c .before .before .before .spread-of .ensures .zeros;
+      zeros = c .before .before .before .before .spread-of .ensures .zeros;
+      close = c .before .before .before .before .spread-of .ensures .close;
       most = p .most;
     }
 

@@ -13,8 +13,8 @@ use Rattle.choice.proofs.settle.plain_tool.Lts as lts
 use Rattle.choice.proofs.settle.one_value_tool.Reads as one-value-tool-reads
 use Rattle.choice.proofs.settle.spread_tool.Reads as spread-tool-reads
 
-some : (s : tie.Start) → 1 ≤ length (take (s .args .n) (s .args .samples .now))
-some s = omega (arith, length-take-le (s .args .n) (s .args .samples .now) (s .pre .0 .0 .long), s .pre .0 .0 .some)
+some : (s : tie.Start) → 5 ≤ length (take (s .args .n) (s .args .samples .now))
+some s = omega (arith, length-take-le (s .args .n) (s .args .samples .now) (s .pre .0 .0 .long), s .pre .0 .0 .some, s .pre .0 .0 .whole)
 
 first : (s : tie.Start) → getD (s .args .samples .now) 0 0 ≡ getD (take (s .args .n) (s .args .samples .now)) 0 0
 first s = sym (getD-take (s .args .n) (s .args .samples .now) 0 0 (s .pre .0 .0 .some))
@@ -28,7 +28,7 @@ spread-tool-requires c κs = search needs
 returns : tie.Need-returns
 returns c =
     let s = c .before .before .before .before in
-    spread (several _ (some s) (first s) (s .pre .1) (c .before .if1 .taken)) (s .pre .1) (c .spread-tool .ensures)
+    spread (several _ (omega (arith, some s)) (first s) (s .pre .1) (c .before .if1 .taken)) (s .pre .1) (c .spread-tool .ensures)
 
 shared-slice-read-one-value-tool : tie.Need-shared-slice-read-one-value-tool
 shared-slice-read-one-value-tool c = search needs

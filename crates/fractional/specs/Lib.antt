@@ -1,0 +1,2 @@
+-- The samples of a row.
+pub mod Rows

@@ -1,0 +1,2 @@
+-- The digits of a frame.
+pub mod Digits

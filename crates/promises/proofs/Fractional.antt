@@ -1,0 +1,217 @@
+-- Tool 11: what it writes of a frame that has a row is read back (`back-fractional`); it has at most 80 octets of body, whole ones, and no filling bits
+-- (`fractional-most`, `fractional-filled`); its body is refused by SHORT or PLACE alone (`fractional-refused`), so a frame is never RUN nor ALIGN (`eleven-refused`).
+use Prim.Native.Nat.{ℕ, zero, suc, _+_, _*_, _^_, _/_, _%_, _≤_, _<_}
+use native.Mathlib.Omega.{arith}
+use native.Mathlib.Nat.{lt-of-lt-of-le, mul-suc}
+use mathlib.Core.Path.{_≡_, refl, sym, ap, _∙_}
+use mathlib.Core.Logic.{_⊎_, inl, inr}
+use mathlib.Core.List.{List, [], _∷_, _++_, map, append-assoc, append-nil}
+use mathlib.Core.Bool.{Bool, true, false, cond, not, _||_}
+use lib.ListN.{length, getD, take, drop, length-drop, take-append-drop, length-map}
+use lib.Seq.{length-take-le}
+use lib.Dec.{ltb, eqb, leb}
+use borrow.Author.Tests.{lt-ltb, ltb-true, leb-true, eqb-true}
+use Rattle.rules.specs.declared.Refusal.{Refusal}
+use Rattle.rules.specs.declared.Refusal.the-variants.{Short, Tool, Room, Run, Place, Align}
+use Rattle.rules.specs.Refusals.{refusalNumber}
+use Rattle.rules.specs.Tools.{holds, isLength}
+use Rattle.rules.specs.Bits.{lowBits, fillFor}
+use Rattle.rules.specs.Reading.{Read, whole, refuse, andThen, _>>=_, fail, here, bit, numberFrom, number, filled}
+use Rattle.rules.specs.Fractional.{valuesAt, rowCount, radix, groupOf, bitsFor, bodyBits, Packs, ofDigits, digitsOf, groupsFrom, groupsForm, placeIn, groupsAs, groupsFormAs, samplesAt, fractional, fractionalBody}
+use Rattle.rules.specs.Frame.{Found, body, withTool}
+use Rattle.rules.specs.Chooses.{fractionalRow, fractionalApplies}
+use Rattle.rules.proofs.Octets.{Below, below-take, below-drop, below-append, lowBits-below, none}
+use Rattle.rules.proofs.Tests.{implied, allBelow, allBelow-at, by-length}
+use Rattle.rules.proofs.Signed.{LawMask}
+use Rattle.rules.proofs.Room.{length-most}
+use Rattle.rules.proofs.Gives.{no-refusal, same-place}
+use Rattle.rules.proofs.Accepted.{Steps, through, steps, number-next}
+use Rattle.rules.proofs.Firsts.{rows-few}
+use Rattle.rules.proofs.Fractional.{digits-back, digits-fit, Among, places-back, places-below, radix-range, length-samplesAt, packs-of}
+use Rattle.rules.proofs.FrameRow.{row-low, row-among}
+use Rattle.promises.proofs.Back.{Back, back-give, back-bind, back-here, back-as, back-number}
+use Rattle.promises.proofs.Reach.{Near, near-give, near-fail, near-here, near-then, near-cond, near-more, near-numberFrom}
+
+-- Back
+back-groups : {r g w n : ℕ} → Packs r g w n → (k : ℕ) (done ds : List ℕ) → Below r ds → length ds ≡ k * g
+    → Back (groupsFrom r g w done k) (groupsForm r g w k ds) (done ++ ds)
+unfolding groupsFrom groupsForm
+back-groups p zero done [] b e = back-as (back-give done) refl refl (sym (append-nil done))
+back-groups p zero done (d ∷ ds) b e = absurd (omega arith)
+back-groups {r} {g} {w} p (suc k) done ds b e =
+    let l : length (take g ds) ≡ g = length-take-le g ds (omega arith) in
+    let v = ofDigits r (take g ds) in
+    let h : v < r ^ g = rw l at (digits-fit (below-take g b)) in
+    let d : digitsOf r g v ≡ take g ds = rw l at (digits-back (lt-of-lt-of-le (omega arith) (p .some)) (below-take g b)) in
+    let m : (done ++ take g ds) ++ drop g ds ≡ done ++ ds = append-assoc done (take g ds) (drop g ds) ∙ ap (λ (x : List ℕ). done ++ x) (take-append-drop g ds) in
+    let n : length (drop g ds) ≡ k * g = length-drop g ds ∙ omega arith in
+    back-here _ (λ i. back-bind (number w) _ (back-number w v (lt-of-lt-of-le h (p .fits)))
+    (rw (lt-ltb v (r ^ g) h, d) (back-as (back-groups p k (done ++ take g ds) (drop g ds) (below-drop g b) n) refl refl m)))
+
+back-groupsAs : (values : List ℕ) {g w : ℕ} (s : List ℕ) → Packs (length values) g w (length s)
+    → Among values s → Back (groupsAs values (length values) g w (length s)) (groupsFormAs values (length values) g w s) s
+unfolding groupsAs groupsFormAs
+back-groupsAs values {g} {w} s p a =
+    let digits = map (placeIn values) s in
+    let l : length digits ≡ length s / g * g = length-map s (placeIn values) ∙ sym (p .whole) in
+    back-as (back-bind _ _ (back-groups p (length s / g) [] digits (places-below values a) l) (back-give (map (λ d. getD values d 0) digits)))
+    refl (append-nil _) (places-back values a)
+
+-- the five lengths are multiples of forty
+pub forties : (n : ℕ) → isLength n ≡ true → n % 40 ≡ 0
+forties n l = by-length (λ n. n % 40 ≡ 0) refl refl refl refl refl n l
+
+pub back-fractional : {mask : ℕ} → LawMask mask → (s : List ℕ) → isLength (length s) ≡ true → Below 256 s → fractionalApplies mask s ≡ true
+    → Back (fractional mask (fractionalRow mask s) (length s)) (fractionalBody mask (fractionalRow mask s) s) s
+back-fractional {mask} law s l b a =
+    let k = fractionalRow mask s in
+    let h : k < rowCount (length s) = ltb-true k (rowCount (length s)) a in
+    let r = radix-range k (row-low mask s h) in
+    let e = length-samplesAt mask k in
+    rw e at (back-groupsAs (samplesAt mask k) {g = groupOf (radix k)} {w = bitsFor (radix k)} s
+    (rw e (packs-of (radix k) (length s) (r .0) (r .1) (length-most (length s) l) (forties (length s) l))) (row-among law s b h))
+
+-- every body is bits
+groupsForm-below : (r g w m : ℕ) (ds : List ℕ) → Below 2 (groupsForm r g w m ds)
+unfolding groupsForm
+groupsForm-below r g w zero ds = none
+groupsForm-below r g w (suc m) ds = below-append (lowBits-below w (ofDigits r (take g ds))) (groupsForm-below r g w m (drop g ds))
+
+pub fractionalBody-below : (mask k : ℕ) (s : List ℕ) → Below 2 (fractionalBody mask k s)
+unfolding groupsFormAs
+fractionalBody-below mask k s = groupsForm-below _ _ _ _ _
+
+-- how far it goes: w bits a group
+pub near-groups : (r g w : ℕ) (done : List ℕ) (m : ℕ) → Near (w * m) (groupsFrom r g w done m)
+unfolding groupsFrom
+near-groups r g w done zero = near-more 0 (w * 0) (omega arith) (near-give done)
+near-groups r g w done (suc m) =
+    near-more (0 + (w + w * m)) (w * suc m) (omega (arith, mul-suc w m))
+    (near-then 0 (w + w * m) near-here (λ start. near-then w (w * m) (near-numberFrom 0 w) (λ v.
+    near-cond (w * m) (ltb v (r ^ g)) (near-groups r g w (done ++ digitsOf r g v) m) (near-fail (w * m) Place start))))
+
+pub near-fractional : (mask k n : ℕ) → Near (bodyBits k n) (fractional mask k n)
+unfolding groupsAs
+near-fractional mask k n =
+    let g = groupOf (radix k) in
+    let most = bitsFor (radix k) * (n / g) in
+    near-more (most + 0) most (omega arith)
+    (near-then most 0 (near-groups (radix k) g (bitsFor (radix k)) [] (n / g)) (λ digits. near-give (map (λ d. getD (samplesAt mask k) d 0) digits)))
+
+-- of a row of the length: 640 at most, 80 octets, and whole ones
+abbrev rowWhole : ℕ → ℕ → Bool
+rowWhole n k = not (ltb k (rowCount n)) || leb (bodyBits k n) 640
+
+abbrev rowFills : ℕ → ℕ → Bool
+rowFills n k = not (ltb k (rowCount n)) || eqb (bodyBits k n % 8) 0
+
+pub fractional-most : (n k : ℕ) → isLength n ≡ true → k < rowCount n → bodyBits k n ≤ 640
+unfolding valuesAt rowCount groupOf bitsFor
+fractional-most n k l h =
+    leb-true (bodyBits k n) 640 (implied (ltb k (rowCount n)) (leb (bodyBits k n) 640)
+    (allBelow-at (rowWhole n) 12 (by-length (λ n. allBelow (rowWhole n) 12 ≡ true) refl refl refl refl refl n l) k (omega (arith, rows-few n l)))
+    (lt-ltb k (rowCount n) h))
+
+pub fractional-filled : (n k : ℕ) → isLength n ≡ true → k < rowCount n → fillFor (8 + bodyBits k n) ≡ 0
+unfolding valuesAt rowCount groupOf bitsFor
+fractional-filled n k l h =
+    let e : bodyBits k n % 8 ≡ 0 = eqb-true (bodyBits k n % 8) 0 (implied (ltb k (rowCount n)) (eqb (bodyBits k n % 8) 0)
+    (allBelow-at (rowFills n) 12 (by-length (λ n. allBelow (rowFills n) 12 ≡ true) refl refl refl refl refl n l) k (omega (arith, rows-few n l)))
+    (lt-ltb k (rowCount n) h)) in
+    omega arith
+
+-- it goes exactly so far
+groups-next : (r g w : ℕ) (done : List ℕ) (m : ℕ) (b : List ℕ) (i : ℕ) {ds : List ℕ} {j : ℕ} → groupsFrom r g w done m b i ≡ whole ds j → i + w * m ≡ j
+unfolding groupsFrom
+groups-next r g w done zero b i e = omega (arith, same-place e)
+groups-next r g w done (suc m) b i {ds} {j} e = go (λ v k. groups-next r g w (done ++ digitsOf r g v) m b k) (steps (numberFrom 0 w b i) _ e)
+  where
+    one : (v k : ℕ) (t : Bool) → i + w ≡ k → (groupsFrom r g w (done ++ digitsOf r g v) m b k ≡ whole ds j → k + w * m ≡ j)
+        → cond t (groupsFrom r g w (done ++ digitsOf r g v) m) (fail Place i) b k ≡ whole ds j → i + w * suc m ≡ j
+    one v k true q later d = omega (arith, later d, mul-suc w m)
+    one v k false q later d = no-refusal d
+
+    go : ((v k : ℕ) → groupsFrom r g w (done ++ digitsOf r g v) m b k ≡ whole ds j → k + w * m ≡ j)
+        → Steps (numberFrom 0 w b i) (λ v k. cond (ltb v (r ^ g)) (groupsFrom r g w (done ++ digitsOf r g v) m) (fail Place i) b k) ds j → i + w * suc m ≡ j
+    go later (through v k q d) = one v k (ltb v (r ^ g)) (number-next 0 w b i q) (later v k) d
+
+pub fractional-next : (mask k n : ℕ) (b : List ℕ) (i : ℕ) {s : List ℕ} {j : ℕ} → fractional mask k n b i ≡ whole s j → i + bodyBits k n ≡ j
+unfolding groupsAs
+fractional-next mask k n b i {s} {j} e =
+    go (steps (groupsFrom (radix k) (groupOf (radix k)) (bitsFor (radix k)) [] (n / groupOf (radix k)) b i) _ e)
+  where
+    go : Steps (groupsFrom (radix k) (groupOf (radix k)) (bitsFor (radix k)) [] (n / groupOf (radix k)) b i) (λ digits m. whole (map (λ d. getD (samplesAt mask k) d 0) digits) m) s j
+        → i + bodyBits k n ≡ j
+    go (through digits m q d) = groups-next (radix k) (groupOf (radix k)) (bitsFor (radix k)) [] (n / groupOf (radix k)) b i q ∙ same-place d
+
+-- No RUN arises in this body, nor any other refusal than SHORT and PLACE.
+abbrev pub ShortOrPlace : {A : Type 0} → Read A → Type 0
+ShortOrPlace (whole a j) = Unit {0}
+ShortOrPlace (refuse w at) = (w ≡ Short) ⊎ (w ≡ Place)
+
+short-then : {A B : Type 0} (m : Read A) (f : A → ℕ → Read B) → ShortOrPlace m → ((a : A) (j : ℕ) → ShortOrPlace (f a j)) → ShortOrPlace (andThen m f)
+short-then (whole a j) f h g = g a j
+short-then (refuse w at) f h g = h
+
+short-bit : (t : Bool) (v i : ℕ) → ShortOrPlace (cond t (whole v (i + 1)) (refuse Short i))
+short-bit true v i = tt
+short-bit false v i = inl refl
+
+short-number : (v n : ℕ) (b : List ℕ) (i : ℕ) → ShortOrPlace (numberFrom v n b i)
+unfolding numberFrom bit
+short-number v zero b i = tt
+short-number v (suc n) b i = short-then (bit b i) (λ a j. numberFrom (2 * v + a) n b j) (short-bit (ltb i (length b)) (getD b i 0) i) (λ a j. short-number (2 * v + a) n b j)
+
+short-groups : (r g w : ℕ) (done : List ℕ) (m : ℕ) (b : List ℕ) (i : ℕ) → ShortOrPlace (groupsFrom r g w done m b i)
+unfolding groupsFrom
+short-groups r g w done zero b i = tt
+short-groups r g w done (suc m) b i =
+    short-then (numberFrom 0 w b i) (λ v j. cond (ltb v (r ^ g)) (groupsFrom r g w (done ++ digitsOf r g v) m) (fail Place i) b j) (short-number 0 w b i)
+    (λ v j. one v j (ltb v (r ^ g)) (short-groups r g w (done ++ digitsOf r g v) m b j))
+  where
+    one : (v j : ℕ) (t : Bool) → ShortOrPlace (groupsFrom r g w (done ++ digitsOf r g v) m b j)
+        → ShortOrPlace (cond t (groupsFrom r g w (done ++ digitsOf r g v) m) (fail Place i) b j)
+    one v j true h = h
+    one v j false h = inr refl
+
+pub fractional-refused : (mask k n : ℕ) (b : List ℕ) (i : ℕ) → ShortOrPlace (fractional mask k n b i)
+unfolding groupsAs
+fractional-refused mask k n b i =
+    let g = groupOf (radix k) in
+    short-then (groupsFrom (radix k) g (bitsFor (radix k)) [] (n / g) b i) (λ digits j. whole (map (λ d. getD (samplesAt mask k) d 0) digits) j)
+    (short-groups (radix k) g (bitsFor (radix k)) [] (n / g) b i) (λ digits j. tt)
+
+-- So a frame of tool 11 is never RUN, and since its body fills whole octets, never ALIGN.
+abbrev pub NeitherRunNorAlign : Read Found → Type 0
+NeitherRunNorAlign (whole a j) = Unit {0}
+NeitherRunNorAlign (refuse w at) = (w ≡ Run → ⊥) × (w ≡ Align → ⊥)
+
+other-number : (w u : Refusal) → (refusalNumber w ≡ refusalNumber u → ⊥) → w ≡ u → ⊥
+other-number w u h e = h (ap refusalNumber e)
+
+neither : (w : Refusal) (at : ℕ) → (w ≡ Short) ⊎ (w ≡ Place) → NeitherRunNorAlign (refuse w at)
+neither w at (inl e) = rw e (other-number Short Run (omega arith), other-number Short Align (omega arith))
+neither w at (inr e) = rw e (other-number Place Run (omega arith), other-number Place Align (omega arith))
+
+none-left : (f : Found) (m : ℕ) → m ≡ 0 → (b : List ℕ) (j : ℕ) → NeitherRunNorAlign (filled f m b j)
+unfolding filled
+none-left f zero z b j = tt
+none-left f (suc m) z b j = absurd (omega arith)
+
+module _ (mask set room n k : ℕ) (len : isLength n ≡ true) (few : k < rowCount n) (b : List ℕ) where
+  body-then : (m : Read (List ℕ)) → fractional mask k n b 8 ≡ m → ShortOrPlace m
+      → NeitherRunNorAlign (andThen m (λ s j. filled (record { tool = 11; samples = s; bits = j }) (fillFor j) b j))
+  body-then (whole s j) e h =
+      let end : 8 + bodyBits k n ≡ j = fractional-next mask k n b 8 e in
+      none-left (record { tool = 11; samples = s; bits = j }) (fillFor j) (rw end at (fractional-filled n k len few)) b j
+  body-then (refuse w at) e h = neither w at h
+
+  judged : (x y : Bool) → NeitherRunNorAlign (cond (not x) (fail (Tool 11) 0) (cond y (fail Room 0)
+      (fractional mask k n >>= (λ s. here >>= (λ bits. filled (record { tool = 11; samples = s; bits = bits }) (fillFor bits))))) b 8)
+  judged false y = (other-number (Tool 11) Run (omega arith), other-number (Tool 11) Align (omega arith))
+  judged true true = (other-number Room Run (omega arith), other-number Room Align (omega arith))
+  judged true false = body-then (fractional mask k n b 8) refl (fractional-refused mask k n b 8)
+
+  pub eleven-refused : NeitherRunNorAlign (withTool mask set room 11 n k b 8)
+  unfolding withTool body
+  eleven-refused = judged (holds set 11) (ltb room n)

@@ -1,0 +1,19 @@
+use borrow.Author.Needs.{needs}
+use Rattle.ranges.proofs.Rows.{unpacked}
+use Rattle.ranges.proofs.row_at.Statement.{statement}
+use Rattle.ranges.proofs.row_at.Tie as tie
+
+packed-row-requires : tie.Need-packed-row-requires
+packed-row-requires c κs = search needs
+
+cast-e : tie.Need-cast-e
+cast-e c = search needs
+
+returns : tie.Need-returns
+returns c =
+    let e = c .packed-row .ensures in
+    let u = unpacked (c .before .args .k) (c .before .pre) in
+    record { radix = rw e (u .radix); low = rw e (u .low); below = rw e (u .below) }
+
+pub row-at-spec : {M : Type 1} → statement M
+row-at-spec = tie.close (tie.spec packed-row-requires cast-e returns)

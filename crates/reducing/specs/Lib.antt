@@ -1,0 +1,2 @@
+-- Rows by one number.
+pub mod Keys
