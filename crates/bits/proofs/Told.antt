@@ -24,7 +24,3 @@ module _ {found : Read ℕ} {most far : ℕ} {r : Outcome} (t : Reads found most
 
   pub refused : {w : Refusal} {at : ℕ} → r ≡ Refused w at → found ≡ refuse w at
   refused e = sym (t .says) ∙ ap asRead e
-
--- the same answer, told of an equal definition, and with more room
-pub reads-as : {found other : Read ℕ} {most near far : ℕ} {r : Outcome} → Reads other most near r → found ≡ other → near ≤ far → Reads found most far r
-reads-as t e k = record { says = t .says ∙ sym e; value = t .value; next = let n = t .next in omega arith }

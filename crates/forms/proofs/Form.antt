@@ -23,7 +23,7 @@ use Rattle.pen.specs.declared.Pen.{Pen}
 use Rattle.pen.specs.Puts.{penBits, Able, Puts, Packed}
 use Rattle.look.specs.Rows.{rowBits, RowIs}
 use Rattle.rules.proofs.Words.{lowBits-join}
-use Rattle.pen.proofs.Putting.{drop-further}
+use Rattle.rules.proofs.Lent.{drop-further}
 use Rattle.forms.specs.Forms.{wholeOctets, RiceReady, riceFormOf, valuesFormOf, locatedFormOf, zerosForm}
 use Rattle.forms.proofs.Turns.{located-values}
 

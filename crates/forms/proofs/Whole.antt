@@ -14,7 +14,7 @@ use Rattle.rules.specs.First.{octetFor}
 use Rattle.rules.specs.Chooses.{formOf}
 use Rattle.rules.proofs.Octets.{length-bitsOf, Below, below-all, below-take, octetsFrom-bitsOf}
 use Rattle.pen.specs.Puts.{Packed}
-use Rattle.pen.proofs.Putting.{drop-further}
+use Rattle.rules.proofs.Lent.{drop-further}
 use Rattle.forms.specs.Forms.{wholeOctets, Copied}
 
 -- octets are their bits, packed

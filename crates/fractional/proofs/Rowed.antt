@@ -65,13 +65,3 @@ body-as mask k n {values} {r} h e f bits at =
     let range = radix-range k h in
     rw (e, f) (groups-values (samplesAt mask k) (six mask (lowAt k) (belowAt k)) (radix k) (groupOf (radix k)) (bitsFor (radix k)) n (omega (arith, range .0))
     (λ d l. sample-told mask k d h l ∙ sym (six-at mask (lowAt k) (belowAt k) d (omega (arith, range .1)))) bits at)
-
--- a row's numbers
-abbrev rowSmall : ℕ → Bool
-rowSmall k = leb (belowAt k) (lowAt k) && leb (lowAt k) 4
-
-pub row-small : (k : ℕ) → k < 12 → (belowAt k ≤ lowAt k) × (lowAt k ≤ 4)
-unfolding valuesAt
-row-small k h =
-    let t = allBelow-at rowSmall 12 refl k h in
-    (leb-true _ _ (and-left (leb (belowAt k) (lowAt k)) (leb (lowAt k) 4) t), leb-true _ _ (and-right (leb (belowAt k) (lowAt k)) (leb (lowAt k) 4) t))

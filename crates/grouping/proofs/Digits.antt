@@ -14,7 +14,7 @@ use Rattle.rules.specs.Fractional.{valuesAt, radix, lowAt, belowAt, digitFor, v
 use Rattle.rules.proofs.Octets.{Below, none, more, below-all}
 use Rattle.rules.proofs.Tests.{and-left, and-right, allBelow-at}
 use Rattle.rules.proofs.Signed.{InRange, LawMask}
-use Rattle.rules.proofs.Fractional.{place-back, radix-range, length-samplesAt, sample-told}
+use Rattle.rules.proofs.Fractional.{place-back, radix-range, row-small, length-samplesAt, sample-told}
 use Rattle.ranges.specs.declared.Row.{Row}
 use Rattle.ranges.specs.Rows.{RowIs}
 use Rattle.grouping.specs.Digits.{digitIn, digitsIn, DigitsFit}
@@ -47,16 +47,6 @@ value-in-range low below d h k = go (ltb d below)
     go : (b : Bool) → InRange (cond b (negsuc (low - suc d)) (pos (d - below)))
     go true = omega arith
     go false = omega arith
-
--- a row's numbers
-abbrev rowSmall : ℕ → Bool
-rowSmall k = leb (belowAt k) (lowAt k) && leb (lowAt k) 4
-
-pub row-small : (k : ℕ) → k < 12 → (belowAt k ≤ lowAt k) × (lowAt k ≤ 4)
-unfolding valuesAt
-row-small k h =
-    let t = allBelow-at rowSmall 12 refl k h in
-    (leb-true _ _ (and-left (leb (belowAt k) (lowAt k)) (leb (lowAt k) 4) t), leb-true _ _ (and-right (leb (belowAt k) (lowAt k)) (leb (lowAt k) 4) t))
 
 pub digit-told : {mask : ℕ} → LawMask mask → (k x : ℕ) → k < 12 → placeIn (samplesAt mask k) x < radix k
     → placeIn (samplesAt mask k) x ≡ digitFor (lowAt k) (belowAt k) (signed mask x)

@@ -22,9 +22,6 @@ pub record Spelling (n : ℕ) (octets : List ℕ) (from rest : ℕ) : Type 0 whe
 put-digit : (o : List ℕ) (from d : ℕ) → from < length o → drop from (set o from d) ≡ d ∷ drop (suc from) o
 put-digit o from d h = rw (set-split o from d h, drop-at (take from o) (d ∷ drop (suc from) o) from (length-take-le from o (omega arith)))
 
-pub spelling-start : (n : ℕ) → n < 2 ^ 64 → Spelling n (replicate 20 0) 19 n
-spelling-start n h = record { size = refl; most = omega arith; left = omega arith; says = refl }
-
 -- ten or more has a digit before its last one
 pub spelling-room : (from rest : ℕ) → rest < 10 ^ suc from → 10 ≤ rest → 1 ≤ from
 spelling-room zero rest l h = absurd (omega arith)

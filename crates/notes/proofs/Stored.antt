@@ -34,9 +34,6 @@ laid-within rows t h =
     ∙ drop-drop more far t ∙ ap (λ (x : ℕ). drop x t) (sym f)
 
 -- the cells from place k on made anew
-pub anew-before : (k : ℕ) (f : List ℕ → List ℕ) (t : List ℕ) → k ≤ length t → take k (anewFrom k f t) ≡ take k t
-anew-before k f t h = take-at (take k t) (f (drop k t)) k (length-take-le k t h)
-
 pub anew-behind : (k : ℕ) (f : List ℕ → List ℕ) (t : List ℕ) → k ≤ length t → drop k (anewFrom k f t) ≡ f (drop k t)
 anew-behind k f t h = drop-at (take k t) (f (drop k t)) k (length-take-le k t h)
 

@@ -11,7 +11,7 @@ use Rattle.rules.proofs.Octets.{length-lowBits, length-bitsOf, bitsOf-append, B
 use Rattle.pen.specs.declared.Pen.{Pen}
 use Rattle.pen.specs.Puts.{penBits, Able, Puts, Flushes, Packed}
 use Rattle.rules.proofs.Words.{lowBits-split, lowBits-mod}
-use Rattle.pen.proofs.Putting.{drop-further}
+use Rattle.rules.proofs.Lent.{drop-further}
 use Rattle.look.proofs.Rows.{zero-bits}
 
 -- a turn of the loop

@@ -4,10 +4,11 @@ use mathlib.Core.Path.{_≡_, refl, sym, ap, _∙_}
 use mathlib.Core.List.{List, [], _++_, append-nil, append-assoc}
 use native.Mathlib.Omega.{arith}
 use lib.ListN.{length, take, drop, set, length-append}
-use lib.Seq.{sets-eq, take-at, drop-at, drop-drop, length-take-le}
+use lib.Seq.{sets-eq, take-at, drop-at, length-take-le}
 use lib.Pow.{pow-add, pow-mono, shl-exact}
 use lib.Arith.{digits-lt}
 use Rattle.rules.specs.Bits.{lowBits}
+use Rattle.rules.proofs.Lent.{drop-further}
 use Rattle.rules.proofs.Octets.{length-lowBits, bitsOf-append}
 use Rattle.pen.specs.declared.Pen.{Pen}
 use Rattle.pen.specs.Puts.{penBits, Able, Puts, Stores}
@@ -81,12 +82,6 @@ module _ (o : List ℕ) (p : Pen) (n v : ℕ) (able : Able o p n) (few : n ≤ 3
         held = few-left;
         word = omega arith;
       }
-
--- what is the same from a on is so from b on
-pub drop-further : (x y : List ℕ) (a b : ℕ) → a ≤ b → drop a x ≡ drop a y → drop b x ≡ drop b y
-drop-further x y a b h e =
-    let far : a + (b - a) ≡ b = omega arith in
-    rw far at (sym (drop-drop (b - a) a x) ∙ ap (drop (b - a)) e ∙ drop-drop (b - a) a y)
 
 -- one putting after another
 pub puts-then : {o o′ o″ : List ℕ} {p p′ p″ : Pen} {a b : List ℕ} → Puts o p a o′ p′ → Puts o′ p′ b o″ p″ → Puts o p (a ++ b) o″ p″

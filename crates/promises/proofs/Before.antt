@@ -219,9 +219,6 @@ same-chosen mask set s h =
     = none-last mask set s (eleven-out set h) orderBefore ∙ same-choice mask set s h plain in
     rw (t, same-form mask (chooseBefore mask set s orderBefore) s (not-eleven mask set s plain)) refl
 
-test-wrote : (t : Bool) (w : Refusal) (x y : Write) → x ≡ y → cond t (declined w) x ≡ cond t (declined w) y
-test-wrote t w x y e = rw e refl
-
 -- Writing: for all frames and laws, and every set that the old writer took
 pub writes-as-before : (n : ℕ) (samples : List ℕ) (law set room : ℕ) → setBefore set ≡ true → writeOne n samples law set room ≡ writeBefore n samples law set room
 unfolding writeOne writeBefore

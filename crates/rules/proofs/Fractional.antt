@@ -119,6 +119,16 @@ radix-range k h =
     let t = allBelow-at (λ k. leb 2 (radix k) && leb (radix k) 6) 12 refl k h in
     (leb-true 2 (radix k) (and-left (leb 2 (radix k)) (leb (radix k) 6) t), leb-true (radix k) 6 (and-right (leb 2 (radix k)) (leb (radix k) 6) t))
 
+-- how far a row goes below 0
+abbrev rowSmall : ℕ → Bool
+rowSmall k = leb (belowAt k) (lowAt k) && leb (lowAt k) 4
+
+pub row-small : (k : ℕ) → k < 12 → (belowAt k ≤ lowAt k) × (lowAt k ≤ 4)
+unfolding valuesAt
+row-small k h =
+    let t = allBelow-at rowSmall 12 refl k h in
+    (leb-true _ _ (and-left (leb (belowAt k) (lowAt k)) (leb (lowAt k) 4) t), leb-true _ _ (and-right (leb (belowAt k) (lowAt k)) (leb (lowAt k) 4) t))
+
 pub length-samplesAt : (mask k : ℕ) → length (samplesAt mask k) ≡ radix k
 unfolding samplesAt
 length-samplesAt mask k = length-map (valuesAt k) (sampleOf mask)

@@ -123,20 +123,33 @@ most-rows n = go (eqb n 40) (eqb n 80)
 pub row-low : (mask : ℕ) (s : List ℕ) → fractionalRow mask s < rowCount (length s) → fractionalRow mask s < 12
 row-low mask s h = omega (arith, most-rows (length s))
 
-pub row-among : {mask : ℕ} → LawMask mask → (s : List ℕ) → Below 256 s → fractionalRow mask s < rowCount (length s)
-    → Among (samplesAt mask (fractionalRow mask s)) s
-row-among {mask} l s b h =
+-- "by its least, its greatest and whether -1 occurs": the row that is found has them
+record Ends (mask : ℕ) (s : List ℕ) : Type 0 where
+  pub least : leastOf mask s ≡ leastAt (fractionalRow mask s)
+  pub greatest : greatestOf mask s ≡ greatestAt (fractionalRow mask s)
+  pub minus : sameTest (minusOccurs mask s) (minusAt (fractionalRow mask s)) ≡ true
+
+row-ends : (mask : ℕ) (s : List ℕ) → fractionalRow mask s < rowCount (length s) → Ends mask s
+row-ends mask s h =
     let k = fractionalRow mask s in
     let low : Bool = eqb (leastOf mask s) (leastAt k) in
     let high : Bool = eqb (greatestOf mask s) (greatestAt k) in
     let has : Bool = sameTest (minusOccurs mask s) (minusAt k) in
     let t : low && high && has ≡ true = found-row mask s h in
     let u : low && high ≡ true = and-left (low && high) has t in
-    let e : leastOf mask s ≡ leastAt k = eqb-true _ _ (and-left low high u) in
-    let f : greatestOf mask s ≡ greatestAt k = eqb-true _ _ (and-right low high u) in
-    let v : has ≡ true = and-right (low && high) has t in
-    among l k (row-low mask s h) b (omega arith) (omega arith)
-    (λ z. eqb-true _ _ (not-zero (eqb (countOf (λ x. eqb x (minusZero mask)) s) 0) (same-none (minusOccurs mask s) (minusAt k) v z)))
+    record {
+      least = eqb-true _ _ (and-left low high u);
+      greatest = eqb-true _ _ (and-right low high u);
+      minus = and-right (low && high) has t;
+    }
+
+pub row-among : {mask : ℕ} → LawMask mask → (s : List ℕ) → Below 256 s → fractionalRow mask s < rowCount (length s)
+    → Among (samplesAt mask (fractionalRow mask s)) s
+row-among {mask} l s b h =
+    let k = fractionalRow mask s in
+    let ends = row-ends mask s h in
+    among l k (row-low mask s h) b (omega (arith, ends .least)) (omega (arith, ends .greatest))
+    (λ z. eqb-true _ _ (not-zero (eqb (countOf (λ x. eqb x (minusZero mask)) s) 0) (same-none (minusOccurs mask s) (minusAt k) (ends .minus) z)))
 
 -- a frame that has a row lies within it: from -4 to 2, and past the two zeros
 pub record Rowed (mask : ℕ) (s : List ℕ) : Type 0 where
@@ -156,13 +169,9 @@ pub row-extent : (mask : ℕ) (s : List ℕ) → fractionalApplies mask s ≡ tr
 row-extent mask s a =
     let h = ltb-true (fractionalRow mask s) (rowCount (length s)) a in
     let k = fractionalRow mask s in
-    let low : Bool = eqb (leastOf mask s) (leastAt k) in
-    let high : Bool = eqb (greatestOf mask s) (greatestAt k) in
-    let has : Bool = sameTest (minusOccurs mask s) (minusAt k) in
-    let t : low && high && has ≡ true = found-row mask s h in
-    let u : low && high ≡ true = and-left (low && high) has t in
-    let e : leastOf mask s ≡ leastAt k = eqb-true _ _ (and-left low high u) in
-    let f : greatestOf mask s ≡ greatestAt k = eqb-true _ _ (and-right low high u) in
+    let ends = row-ends mask s h in
+    let e = ends .least in
+    let f = ends .greatest in
     let p : Bool = leb 124 (leastAt k) in
     let q : Bool = leb (greatestAt k) 130 in
     let r : Bool = ltb (leastAt k) (greatestAt k) in

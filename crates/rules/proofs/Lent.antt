@@ -16,6 +16,12 @@ from-on l at = take-all (length l - at) (drop at l) (omega (arith, length-drop a
 pub back-on : (l : List ℕ) (at : ℕ) (rest : List ℕ) → rest ++ drop (length l - at) (drop at l) ≡ rest
 back-on l at rest = rw (drop-of-length-le (drop at l) {i = length l - at} (omega (arith, length-drop at l)), append-nil rest)
 
+-- what is the same from a on is so from b on
+pub drop-further : (x y : List ℕ) (a b : ℕ) → a ≤ b → drop a x ≡ drop a y → drop b x ≡ drop b y
+drop-further x y a b h e =
+    let far : a + (b - a) ≡ b = omega arith in
+    rw far at (sym (drop-drop (b - a) a x) ∙ ap (drop (b - a)) e ∙ drop-drop (b - a) a y)
+
 pub record Lent (out₀ kept out : List ℕ) (to : ℕ) : Type 0 where
   pub size : to ≡ length kept
   pub is : out ≡ kept ++ drop to out₀

@@ -4,8 +4,9 @@ use mathlib.Core.Path.{_≡_, refl, sym, ap, _∙_}
 use mathlib.Core.List.{List, [], _∷_, _++_, append-assoc, append-nil}
 use native.Mathlib.Omega.{arith}
 use lib.ListN.{length, take, drop, set, length-set, length-append, take-append-drop}
-use lib.Seq.{take-suc-set, drop-set-lt, drop-drop}
+use lib.Seq.{take-suc-set, drop-set-lt}
 use borrow.Author.Tests.{lt-leb}
+use Rattle.rules.proofs.Lent.{drop-further}
 use Rattle.rows.specs.declared.Row.{Row}
 use Rattle.rows.specs.Cells.{cellsOf, laid}
 use Rattle.keyvalue.specs.Reading.{Read, whole, none, andThen}
@@ -40,10 +41,6 @@ three-rest l i a b c =
     ∙ drop-set-lt (i + 3) (set l i a) (i + 1) b (omega arith)
     ∙ drop-set-lt (i + 3) l i a (omega arith)
 
--- what is as lent from a place on is so from any later place on
-later : (a b : List ℕ) (m n : ℕ) → drop m a ≡ drop m b → drop (m + n) a ≡ drop (m + n) b
-later a b m n e = sym (drop-drop n m a) ∙ ap (drop n) e ∙ drop-drop n m b
-
 -- rows that are done stand in the cells behind the first
 pub record Rowed (cells₀ cells : List ℕ) (done : List Row) (k : ℕ) : Type 0 where
   pub filled : take (1 + 3 * k) cells ≡ take 1 cells₀ ++ cellsOf done
@@ -60,7 +57,7 @@ rowed-turn {cells₀} {cells} {cells′} {done} {k} {r} s p =
     record {
       filled =
           rw m (p .says ∙ rw (s .filled, cells-snoc done r) (append-assoc (take 1 cells₀) (cellsOf done) (r .number ∷ r .start ∷ r .octets ∷ [])));
-      rest = rw m (p .rest ∙ later cells cells₀ (1 + 3 * k) 3 (s .rest));
+      rest = rw m (p .rest ∙ drop-further cells cells₀ (1 + 3 * k) (1 + 3 * k + 3) (omega arith) (s .rest));
     }
 
 first-set : (x k : ℕ) (cells a b : List ℕ) → cells ≡ (x ∷ a) ++ b → set cells 0 k ≡ (k ∷ a) ++ b
