@@ -166,6 +166,19 @@ impl Room {
             err: String::from_utf8_lossy(&ended.stderr).into_owned(),
         }
     }
+
+    /// Runs a tool with so many KiB of stack, by the system's limit and by the emulator's: its last line, if it came to its
+    /// end.
+    pub fn with_a_stack_of(&mut self, kib: usize, name: &str, args: &[&str]) -> Option<String> {
+        self.runs += 1;
+        let mut command = Command::new("sh");
+        command.args(["-c", &format!("ulimit -c 0 && ulimit -s {kib} && exec \"$@\""), "sh"]);
+        command.args(words(&built(name))).args(args).current_dir(&self.folder);
+        command.env("QEMU_STACK_SIZE", (1_024 * kib).to_string());
+        let ended = run(command, &[]);
+        let said = String::from_utf8_lossy(&ended.stderr).into_owned();
+        said.lines().last().filter(|_| ended.status.success()).map(str::to_string)
+    }
 }
 
 /// The letter of a law's option, and the ending of its raw files and streams.
@@ -214,6 +227,22 @@ pub fn unpack_wanted(stream: &[u8], law: u32, set: u32) -> UnpackWanted {
     sound.truncate(got.samples);
     let stop = Stop { number: got.ending, at: got.place, tool: got.tool, bit: got.bit };
     UnpackWanted { stop, frames: got.frames, sound }
+}
+
+/// Octets that `unpack` reads at a time.
+pub const WINDOW: usize = 131_072;
+
+/// Where its windows begin in a stream, or in a recording's items: each with the last frame that begins in the one before,
+/// or at its end.
+pub fn windows(starts: &[usize], octets: usize) -> Vec<usize> {
+    let mut windows = vec![0];
+    loop {
+        let end = windows[windows.len() - 1] + WINDOW;
+        if octets <= end {
+            return windows;
+        }
+        windows.push(starts[starts.partition_point(|start| *start <= end) - 1]);
+    }
 }
 
 /// What `unpack -c` should say: where the sound and the master part, if that is in the frames kept; else how the stream

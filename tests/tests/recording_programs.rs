@@ -6,7 +6,8 @@ use second::recording::{heading, is_erased, read_file, write_file, LOSS};
 use tests::forms::LENGTHS;
 use tests::program::listing;
 use tests::recordings::{packed, recordings};
-use tests::tools::{law_words, same, Room, Stop, DIFFERS, LOST, PACKED_WITH, READ_WITH, USAGE};
+use tests::streams::plain_frames;
+use tests::tools::{law_words, same, windows, Room, Stop, DIFFERS, LOST, PACKED_WITH, READ_WITH, USAGE, WINDOW};
 use tests::{say, Codec, Second, MOST, MOST_LISTED};
 
 /// Octets of a heading.
@@ -184,6 +185,55 @@ fn losses_told() {
     let told: Vec<String> =
         stops.iter().enumerate().filter(|(_, n)| **n > 0).map(|(at, n)| format!("{at}: {n}")).collect();
     tell(&format!("losses told, runs by stop {{{}}}", told.join(", ")), &room);
+}
+
+/// The numbers of a line of a loss, or of a frame.
+fn numbers(line: &str) -> Vec<usize> {
+    line.split(' ').map(|field| field.split_once('=').and_then(|(_, number)| number.parse().ok()).expect("a number")).collect()
+}
+
+/// Losses at a window's end, across it and behind it: item, place and samples before it count from the recording's start (document 02, R-11).
+#[test]
+fn losses_behind_the_first_window() {
+    let (mut room, mut rng) = (room("windows"), Prng::new(83));
+    let (mut behind, mut across, mut stops) = (0, 0, [0; 70]);
+    for law in 0..2 {
+        let loss = |length: u16| file_of(&[], &[LOSS + length], law, READ_WITH)[HEAD..].to_vec();
+        for (turn, octets) in [WINDOW + 2, WINDOW + 700, 2 * WINDOW + 1_000, 400_000, MOST - 1, MOST].into_iter().enumerate() {
+            // Frames as they are, then pads, then losses: one of two octets begins with the window's last octet, or just before or behind.
+            let mut body = plain_frames(WINDOW / 321, &mut rng);
+            body.resize(WINDOW - 2 + turn % 3, 0x00);
+            body.extend(loss(160));
+            while body.len() + 321 <= octets {
+                body.extend(match rng.below(8) {
+                    0 => loss([0, 40, 80, 160, 240, 320][rng.below(6)]),
+                    1 => vec![0x00],
+                    _ => plain_frames(1, &mut rng),
+                });
+            }
+            body.resize(octets.max(body.len()), 0x00);
+            let file = [&heading(law)[..], &body].concat();
+            let all = wanted(&file, READ_WITH, false);
+            behind += all.losses.lines().filter(|line| numbers(line)[1] >= WINDOW).count();
+            let starts: Vec<usize> = all.items.lines().map(|line| numbers(line)[1]).collect();
+            across += windows(&starts, body.len()).windows(2).filter(|two| two[1] < two[0] + WINDOW).count();
+            for options in ["", "-g"] {
+                stops[played(&mut room, &file, READ_WITH, options).number as usize] += 1;
+            }
+            stops[played(&mut room, &file[..file.len() - 1], READ_WITH, ["-v", ""][turn % 2]).number as usize] += 1;
+            if octets < MOST - 1 {
+                for last in [&[0x46][..], &[0x30; 20]] {
+                    let stop = played(&mut room, &[&file[..], last].concat(), READ_WITH, "-g");
+                    assert_eq!(stop.at, body.len());
+                    stops[stop.number as usize] += 1;
+                }
+            }
+        }
+    }
+    assert!(behind >= 500 && across >= 30, "{behind} losses behind the first window, {across} items across a window's end");
+    assert_eq!((stops[0], stops[2]), (12, 8), "{stops:?}");
+    assert_eq!(stops.iter().sum::<usize>(), room.runs);
+    tell(&format!("losses behind the first window, {behind} of them, {across} items across a window's end"), &room);
 }
 
 /// `-c` holds the frames' sound against a master, and `-w` counts it: losses are no samples.

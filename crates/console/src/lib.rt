@@ -272,7 +272,7 @@ pub struct Source {
     pub failed: bool,
 }
 
-// One part more, kept in another file where there is one.
+// One part more, kept in another file.
 fn count_part(fd: i32, keep: i32, part: &mut [u8]) -> Got
     ensures { λ r. ⌜ r .count ≤ length (now (part .exit)) ⌝ }
 {
@@ -284,12 +284,6 @@ fn count_part(fd: i32, keep: i32, part: &mut [u8]) -> Got
             failed: true,
         };
     }
-    if keep < 0 {
-        return Got {
-            count: n,
-            failed: false,
-        };
-    }
     let kept = io::write_all(keep, &part[..n]);
     Got {
         count: n,
@@ -297,7 +291,7 @@ fn count_part(fd: i32, keep: i32, part: &mut [u8]) -> Got
     }
 }
 
-// How many octets a file has; no more parts are read once they are above `most`.
+// How many octets a file has, kept in another; no more parts are read once they are above `most`.
 fn counted(fd: i32, keep: i32, most: usize, part: &mut [u8]) -> Source
     requires { ⌜ (1 ≤ length (now part)) × (length (now part) < 2 ^ 32) × (most < 2 ^ 32) ⌝ }
 {
@@ -327,13 +321,8 @@ fn counted(fd: i32, keep: i32, most: usize, part: &mut [u8]) -> Source
     }
 }
 
-// A file that was opened, to be read from any place on. What can't be, as a pipe, is first kept in a file that has no name: /tmp/g7110.XXXXXX.
-pub fn source_of(fd: i32, most: usize, part: &mut [u8]) -> Source
-    requires { ⌜ (1 ≤ length (now part)) × (length (now part) < 2 ^ 32) × (most < 2 ^ 32) ⌝ }
-{
-    if libc::lseek(fd, 0, libc::SEEK_CUR) == 0 {
-        return counted(fd, -1, most, part);
-    }
+// A file that has no name, to keep octets in: /tmp/g7110.XXXXXX, unlinked at once; below 0 where none can be made.
+pub fn nameless() -> i32 {
     let mut name = [
         47u8,
         116,
@@ -353,7 +342,20 @@ pub fn source_of(fd: i32, most: usize, part: &mut [u8]) -> Source
         88,
         88,
     ];
-    let keep = os::create_temp(&mut name);
+    let fd = os::create_temp(&mut name);
+    if fd < 0 {
+        return fd;
+    }
+    os::unlink(&name);
+    fd
+}
+
+// A file that was opened, to be read from any place on: its octets are first kept in a file that has no name. So a pipe can be read, and a
+// file may be written into itself.
+pub fn source_of(fd: i32, most: usize, part: &mut [u8]) -> Source
+    requires { ⌜ (1 ≤ length (now part)) × (length (now part) < 2 ^ 32) × (most < 2 ^ 32) ⌝ }
+{
+    let keep = nameless();
     if keep < 0 {
         return Source {
             fd,
@@ -361,7 +363,6 @@ pub fn source_of(fd: i32, most: usize, part: &mut [u8]) -> Source
             failed: true,
         };
     }
-    os::unlink(&name);
     let s = counted(fd, keep, most, part);
     Source {
         fd: keep,

@@ -2,6 +2,8 @@
 
 use crate::given::length_in;
 use crate::given::samples_in;
+use choice::last::Last;
+use choice::last::last_of;
 use choice::near::located_plan;
 use choice::settle::choose;
 use choice::two_zeros::zeros_plan;
@@ -18,8 +20,9 @@ ghost use Prim.Native.Nat.{suc, _≤_};
 ghost use lib.ListN.{length, take, drop};
 ghost use Rattle.rules.specs.Samples.{maskOf};
 ghost use Rattle.rules.specs.Tools.{isWriterSet};
-ghost use Rattle.look.specs.Looks.{twoZeros, isMask, FrameIn};
-ghost use Rattle.choice.specs.Plans.{Left};
+ghost use Rattle.rules.specs.Chooses.{leastOf, greatestOf};
+ghost use Rattle.look.specs.Looks.{near, twoZeros, isMask, FrameIn};
+ghost use Rattle.choice.specs.Plans.{Left, LastIs};
 ghost use Rattle.recording.specs.Files.{entryOctets, sixLengths, givenBy};
 ghost use Rattle.filing.specs.Cells.{lengthIn, entryBy, mostFor, isGiven, octetsGiven};
 ghost use Rattle.filing.specs.Steps.{form, Quiet, ItemIn, Sizes, Measures, Settles};
@@ -36,16 +39,18 @@ fn zeros_octets(samples: &[u8], n: usize, mask: u8, set: u32) -> usize
     octets_for(plan.bits)
 }
 
-// A frame from -2 to 1 that has a 1 or a -2.
-fn located_octets(samples: &[u8], n: usize, mask: u8, set: u32) -> usize
+// A frame from -2 to 1 that has a 1 or a -2; what is last in the tie order is known.
+fn located_octets(samples: &[u8], n: usize, mask: u8, set: u32, last: Last) -> usize
     requires { ⌜ (FrameIn (now samples) n) × (isMask mask ≡ true) ⌝ }
     requires { ⌜ (Left mask set (take n (now samples))) × (twoZeros mask (take n (now samples)) ≡ false) ⌝ }
+    requires { ⌜ (near (leastOf mask (take n (now samples))) (greatestOf mask (take n (now samples))) ≡ true) × (LastIs mask set (take n (now samples)) last) ⌝ }
     ensures { λ r. ⌜ Sizes mask set (take n (now (samples .entry))) r ⌝ }
 {
     let mut a = [0u16; 321];
     let mut b = [0u16; 321];
     let mut c = [0u16; 321];
-    let plan = located_plan(samples, n, mask, set, &mut a, &mut b, &mut c);
+    let best = last.choice;
+    let plan = located_plan(samples, n, mask, set, best, &mut a, &mut b, &mut c);
     octets_for(plan.bits)
 }
 
@@ -61,7 +66,12 @@ fn some_octets(samples: &[u8], n: usize, mask: u8, set: u32) -> usize
     if chosen.zeros {
         return zeros_octets(samples, n, mask, set);
     }
-    located_octets(samples, n, mask, set)
+    let last = last_of(samples, n, mask, set);
+    if chosen.close {
+        return located_octets(samples, n, mask, set, last);
+    }
+    let best = last.choice;
+    octets_for(best.bits)
 }
 
 // The writer's chosen form of these samples: a pad is one octet.

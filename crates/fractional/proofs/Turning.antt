@@ -6,13 +6,13 @@ use native.Mathlib.Omega.{arith}
 use native.Mathlib.Nat.{zero-mul, suc-mul, zero-add}
 use borrow.Author.Tests.{lt-ltb, le-ltb}
 use lib.Pow.{pow-mono}
-use lib.ListN.{length, getD, length-map, length-append}
+use lib.ListN.{length, getD, set, length-map, length-append}
 use Rattle.rules.specs.declared.Refusal.{Refusal}
 use Rattle.rules.specs.declared.Refusal.the-variants.{Place}
 use Rattle.rules.specs.Reading.{whole, refuse, numberFrom}
 use Rattle.bits.specs.declared.Outcome.the-variants.{Got, Refused}
 use Rattle.runs.specs.Flagged.{Put}
-use Rattle.runs.proofs.Puts.{put-none, put-then}
+use Rattle.runs.proofs.Puts.{put-none, put-one, put-then, put-length}
 use Rattle.bodies.specs.Bodied.{FillsBody}
 use Rattle.bodies.proofs.Poured.{fills-put, fills-refused}
 use Rattle.rules.specs.Fractional.{digitsOf, groupsFrom, groupsAs}
@@ -102,3 +102,16 @@ module _ {values bits : List ℕ} {at r g w n : ℕ} {old new : List ℕ} {fille
 
 pub packs-small : {r g w n v : ℕ} → Packs r g w n → v < r ^ g → v < 8192
 packs-small {r} {g} {w} p h = let b = p .bits in let f = p .fits in let m : 2 ^ w ≤ 2 ^ 13 = pow-mono {j = 13} (omega arith) in omega arith
+
+-- Where R' is 4, a group is one sample of two bits
+pub packs-four : (n : ℕ) → n ≤ 320 → Packs 4 1 2 n
+packs-four n h =
+    record { some = omega arith; few = omega arith; group = omega arith; five = omega arith; bits = omega arith; fits = omega arith; whole = omega arith; room = h }
+
+pub laid-one : (values new : List ℕ) {filled v x : ℕ} → filled < length new → v < 4 → x ≡ getD values v 0
+    → Put new filled (map (λ d. getD values d 0) (digitsOf 4 1 v)) (set new filled x)
+unfolding digitsOf
+laid-one values new {filled} {v} {x} h k e = let m : v % 4 ≡ v = omega arith in rw (m, ← e) (put-one new filled x h)
+
+pub set-room : (new : List ℕ) (filled x : ℕ) → length new ≡ 320 → filled < 320 → length (set new filled x) ≡ 320
+set-room new filled x r h = let one = put-one new filled x (omega arith) in put-length one (omega arith) ∙ r

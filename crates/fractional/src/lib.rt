@@ -87,6 +87,28 @@ fn two_values(octets: &[u8], at: usize, n: usize, values: &[u8; 6], samples: &mu
     }
 }
 
+// "R' = 4": N numbers of two bits; each one picks one of the four values (8-24), (8-25).
+fn four_values(octets: &[u8], at: usize, n: usize, values: &[u8; 6], samples: &mut [u8; 320]) -> Outcome
+    requires { ⌜ (at ≤ 2 ^ 37) × (n ≤ 320) × (length (now samples) ≡ 320) × (length (now values) ≡ 6) ⌝ }
+    ensures { λ o. ⌜ FillsBody (groupsAs (now (values .entry)) 4 1 2 n (bitsOf (now (octets .entry))) at) (at + 4160) (now (samples .entry)) (now (samples .exit)) o ⌝ }
+{
+    let mut filled = 0;
+    let mut place = at;
+    while filled < n {
+        match bits::number(octets, place, 2) {
+            Outcome::Refused(why, bit) => {
+                return Outcome::Refused(why, bit);
+            }
+            Outcome::Got(v, next) => {
+                samples[filled] = values[v];
+                filled += 1;
+                place = next;
+            }
+        }
+    }
+    Outcome::Got(n, place)
+}
+
 // The samples of a row's digits. Those past its last one are never looked at.
 fn values_of(mask: u8, low: usize, below: usize) -> [u8; 6]
     requires { ⌜ (mask < 128) × (below ≤ low) × (low < 128) ⌝ }
@@ -117,7 +139,7 @@ fn by_radix(
     match r {
         2 => two_values(octets, at, n, values, samples),
         3 => groups(octets, at, n, 3, 5, 8, 243, values, samples),
-        4 => groups(octets, at, n, 4, 1, 2, 4, values, samples),
+        4 => four_values(octets, at, n, values, samples),
         5 => groups(octets, at, n, 5, 5, 12, 3125, values, samples),
         _ => groups(octets, at, n, 6, 5, 13, 7776, values, samples),
     }

@@ -25,13 +25,9 @@ module _ (mask x low below : ℕ) (few : low ≤ 4) where
   unfolding signed
   digit-up h k = (rw (le-leb 128 x h) refl, omega arith)
 
-  pub digit-none : x < 128 → low ≤ bitXor x mask % 128 → (0 ≡ digitFor low below (signed mask x)) × (_<_ 0 256)
+  pub digit-down : x < 128 → {d : ℕ} → d ≡ low - (bitXor x mask % 128 + 1) → (d ≡ digitFor low below (signed mask x)) × (d < 256)
   unfolding signed
-  digit-none h k = (rw (lt-leb 128 x h) (omega arith), omega arith)
-
-  pub digit-down : x < 128 → (low - 1 - bitXor x mask % 128 ≡ digitFor low below (signed mask x)) × (low - 1 - bitXor x mask % 128 < 256)
-  unfolding signed
-  digit-down h = (rw (lt-leb 128 x h) (omega arith), omega arith)
+  digit-down h e = (e ∙ rw (lt-leb 128 x h) (omega arith), omega arith)
 
 -- the digit of the value of a digit
 digit-back : (low below d : ℕ) → below ≤ low → digitFor low below (valueFor low below d) ≡ d

@@ -4,26 +4,35 @@ use pen::Pen;
 use pen::put;
 use ranges::Row;
 ghost use mathlib.Core.Path.{_≡_};
-ghost use Prim.Native.Nat.{_+_, _/_, _≤_, _<_};
+ghost use Prim.Native.Nat.{_+_, _-_, _/_, _≤_, _<_};
 ghost use lib.ListN.{length, take, drop};
 ghost use Rattle.rules.specs.Fractional.{groupOf, bitsFor, Packs, ofDigits, groupsForm};
 ghost use Rattle.look.specs.Looks.{FrameIn};
 ghost use Rattle.pen.specs.Puts.{Able, Puts};
 ghost use Rattle.grouping.specs.Digits.{digitIn, digitsIn, DigitsFit};
 
-// A sample's digit: (7-77).
+// The difference, 0 where b is more.
+fn less(a: usize, b: usize) -> usize
+    ensures { λ r. ⌜ r ≡ a - b ⌝ }
+{
+    if a < b {
+        return 0;
+    }
+    a - b
+}
+
+// A sample's digit: (7-77). Both signs are worked out, so that the compiler picks one and does not branch: signs come at random.
 fn digit_of(x: u8, mask: u8, row: Row) -> usize
     requires { ⌜ (row .below ≤ row .low) × (row .low ≤ 4) ⌝ }
     ensures { λ d. ⌜ (d ≡ digitIn mask row x) × (d < 256) ⌝ }
 {
     let y = ((x ^ mask) % 128) as usize;
+    let up = row.below + y;
+    let down = less(row.low, y + 1);
     if 128 <= x {
-        return row.below + y;
+        return up;
     }
-    if row.low <= y {
-        return 0;
-    }
-    row.low - 1 - y
+    down
 }
 
 // V of g samples from a place on, the first the lowest digit: (7-78).

@@ -1,13 +1,12 @@
 // The bench tool `mend`: a damaged greeting and its true total of samples to a greeting of that total. What is kept and what is filled stands in
-// crate `mending`. The result is whole before OUTFILE is opened, so a refused greeting leaves that file as it was.
+// crate `mending`. The result is whole before OUTFILE is opened, so a refused greeting leaves that file as it was. Greeting and result are held
+// whole, so the program needs some 2.1 MiB of stack.
 ghost use Prim.Native.Nat.{_≤_};
 ghost use lib.ListN.{length};
 use console::Got;
 use rules::Ending;
+use rules::LONGEST;
 use texts::Number;
-
-// The octets of a greeting, and of a result, that are kept.
-const HELD: usize = 65535;
 
 // What the arguments say: the law (2 where no option tells it), the total and whether it was told, the arguments of the two files (0 is none).
 // `wants` says that the next argument is the total, `wrong` that one is not known.
@@ -245,29 +244,23 @@ fn finish(octets: usize, frames: usize, kept: usize, filled: usize, stop: Ending
     console::stop(options::UNPACK, 0, octets, 0, 0);
 }
 
-// The room is that of the longest result that is kept, so ROOM is LONG here.
-fn number_for(number: u32) -> u32 {
-    if number == 4 {
-        return 13;
-    }
-    number
-}
-
-fn run(law: u32, total: u64, name: &[u8], other: &[u8]) {
-    let mut greeting = [0u8; HELD + 1];
-    let got = read_greeting(name, &mut greeting);
+// A greeting is read, mended and written.
+fn mend_in(
+    law: u32,
+    total: u64,
+    name: &[u8],
+    other: &[u8],
+    greeting: &mut [u8],
+    result: &mut [u8],
+) {
+    let got = read_greeting(name, greeting);
     if got.failed {
         return;
     }
     let n = got.count;
-    if HELD < n {
-        refused(13);
-        return;
-    }
-    let mut result = [0u8; HELD];
-    let a = mending::mend(&greeting[..n], law, total, &mut result);
+    let a = mending::mend(&greeting[..n], law, total, result);
     let end = a.end;
-    let number = number_for(mending::mend_number(end));
+    let number = mending::mend_number(end);
     if number != 0 {
         refused(number);
         return;
@@ -279,6 +272,24 @@ fn run(law: u32, total: u64, name: &[u8], other: &[u8]) {
     }
     let stop = a.stop;
     finish(k, a.frames, a.kept, a.filled, stop, a.bit);
+}
+
+// There is room for one octet more than a greeting may have, so that a longer one is LONG, and for the longest result, so that ROOM can't be.
+fn with_room(
+    law: u32,
+    total: u64,
+    name: &[u8],
+    other: &[u8],
+    greeting: &mut [u8; LONGEST + 1],
+    result: &mut [u8; LONGEST],
+) {
+    mend_in(law, total, name, other, greeting, result);
+}
+
+fn run(law: u32, total: u64, name: &[u8], other: &[u8]) {
+    let mut greeting = [0u8; LONGEST + 1];
+    let mut result = [0u8; LONGEST];
+    with_room(law, total, name, other, &mut greeting, &mut result);
 }
 
 fn main() {

@@ -17,7 +17,7 @@ use Rattle.rules.specs.Bits.{bitsOf, fillFor}
 use Rattle.rules.specs.Reading.{Read, whole, refuse, andThen, bit, number, filled}
 use Rattle.rules.specs.First.{First, unassigned, pad, tool, sixOrEight, firstOctet, markAt, sixNotEight}
 use Rattle.rules.specs.Samples.{maskOf}
-use Rattle.rules.specs.Frame.{Found, body, withTool, afterFirst, frame, readOne}
+use Rattle.rules.specs.Frame.{Found, body, withTool, rowIn, afterFirst, frame, readOne}
 use Rattle.rules.specs.Walk.{Delivered, Walked, samplesKept}
 use Rattle.rules.proofs.Octets.{Below, bitsOf-below}
 use Rattle.rules.proofs.Signed.{LawMask, law-mask}
@@ -45,11 +45,12 @@ module _ {mask : ℕ} (l : LawMask mask) (set room room′ : ℕ) {b : List ℕ}
           let w = filled-is (done s i′) (fillFor i′) b i′ e in
           omega (arith, g .2 .size, ap (λ (x : Found). length (x .samples)) (w .0))
 
-  first-in-room : (o : ℕ) (first : First) → asWritten o first ≡ true → 8 ≤ length b → afterFirst mask set room first b 8 ≡ whole f j → afterFirst mask set room′ first b 8 ≡ whole f j
+  first-in-room : (o : ℕ) (first : First) → asWritten o first ≡ true → 8 ≤ length b → afterFirst mask set room o first b 8 ≡ whole f j
+      → afterFirst mask set room′ o first b 8 ≡ whole f j
   unfolding afterFirst
   first-in-room o unassigned w h e = no-refusal e
   first-in-room o pad w h e = e
-  first-in-room o (tool t n) w h e = tool-in-room t n 0 8 (and-left (isLength n) _ w) h e
+  first-in-room o (tool t n) w h e = tool-in-room t n (rowIn o t n) 8 (and-left (isLength n) _ w) h e
   first-in-room o (sixOrEight n) w h e = marked (steps (bit b (markAt n)) _ e)
     where
       six : (mark i : ℕ) → bit b (markAt n) ≡ whole mark i → Steps (sixNotEight b i) (λ t j. withTool mask set room t n mark b (markAt n + 1)) f j
@@ -64,8 +65,8 @@ module _ {mask : ℕ} (l : LawMask mask) (set room room′ : ℕ) {b : List ℕ}
   unfolding frame
   frame-in-room e = go (steps (number 8 b 0) _ e)
     where
-      go : Steps (number 8 b 0) (λ o k. afterFirst mask set room (firstOctet o) b k) f j
-          → andThen (number 8 b 0) (λ o k. afterFirst mask set room′ (firstOctet o) b k) ≡ whole f j
+      go : Steps (number 8 b 0) (λ o k. afterFirst mask set room o (firstOctet o) b k) f j
+          → andThen (number 8 b 0) (λ o k. afterFirst mask set room′ o (firstOctet o) b k) ≡ whole f j
       go (through o k p e) =
           let g = gives-number 8 .on z zero-le p in
           let n : 8 ≡ k = number-next 0 8 b 0 p in

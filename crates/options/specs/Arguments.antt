@@ -61,7 +61,14 @@ argumentOf tool text =
     (cond (eqb (length text) 1 || not (eqb (getD text 0 0) 0x2D)) File
     (cond (eqb (length text) 2) (letterOf tool (getD text 1 0)) (numberedOf tool (getD text 1 0) (drop 2 text))))
 
--- before any argument: the frame length is 160 and the set has all tools unless said; no flag is; the sound is raw G.711 (0); files are
+-- the tools of before document 02, R-14, which boxes in the field have; and the set unless one is said: `unpack` reads with all tools
+abbrev pub fieldTools : ℕ
+fieldTools = 127
+
+unfoldable pub setAtFirst : ℕ → ℕ
+setAtFirst tool = cond (eqb tool unpack) allTools fieldTools
+
+-- before any argument: the frame length is 160 and the set the tool's own unless said; no flag is; the sound is raw G.711 (0); files are
 -- given by their arguments' numbers, 0 is none
 abbrev pub noFlags : Flags
 noFlags = record { fill = false; records = false; lists = false; on = false }
@@ -72,7 +79,7 @@ atFirst tool =
       tool = tool;
       law = unknown;
       length = 160;
-      set = allTools;
+      set = setAtFirst tool;
       flags = noFlags;
       form = 0;
       only = false;

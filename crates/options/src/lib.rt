@@ -1,7 +1,7 @@
 // The words of a command line: what an argument is, and the settings that the arguments make.
 ghost use mathlib.Core.Path.{_≡_};
 ghost use lib.ListN.{length};
-ghost use Rattle.options.specs.Arguments.{wantedBy, formOption, flagBy, letterOf, numberedOf, argumentOf, atFirst, withWrong, withFile};
+ghost use Rattle.options.specs.Arguments.{wantedBy, formOption, flagBy, letterOf, numberedOf, argumentOf, setAtFirst, atFirst, withWrong, withFile};
 ghost use Rattle.options.specs.Arguments.{withNumber, raised, withFlag, withArgument, stepOf, endOf, lawOf};
 use filenames::law_told;
 use texts::Number;
@@ -56,6 +56,19 @@ pub struct Settings {
     pub place: usize,
 }
 
+// The tools of before document 02, R-14: all but tool 11. What `pack` writes unless it is told otherwise, boxes in the field must read.
+pub const FIELD_TOOLS: u32 = 127;
+
+// The set unless one is said. A reader's larger set changes the answer of no other frame, so `unpack` has all tools.
+fn set_at_first(tool: u32) -> u32
+    ensures { λ r. ⌜ r ≡ setAtFirst tool ⌝ }
+{
+    if tool == UNPACK {
+        return rules::ALL_TOOLS;
+    }
+    FIELD_TOOLS
+}
+
 pub fn at_first(tool: u32) -> Settings
     ensures { λ r. ⌜ r ≡ atFirst tool ⌝ }
 {
@@ -63,7 +76,7 @@ pub fn at_first(tool: u32) -> Settings
         tool,
         law: 2,
         length: 160,
-        set: rules::ALL_TOOLS,
+        set: set_at_first(tool),
         flags: Flags {
             fill: false,
             records: false,

@@ -1,29 +1,40 @@
 // The bench tool `pack`: raw G.711 octets or a linear master in, a stream of frames or a recording out. What matters is in crates `cutting` and `packing`: here the sound is read in parts
-// of whole frames, the stream is kept, and it is written when all is well.
+// of whole frames, what each makes is kept in a file without a name, and that is written when all is well. So a stream of 1,048,576 octets takes no more memory than a short one.
 ghost use Prim.Native.Nat.{_+_, _≤_, _<_};
 ghost use mathlib.Core.Path.{_≡_};
 ghost use mathlib.Core.Bool.{true};
 ghost use lib.ListN.{length};
 ghost use Rattle.rules.specs.Walk.{longest};
 ghost use Rattle.cutting.specs.Parts.{partSize};
-ghost use Rattle.pack.specs.Runs.{FilledIf, WholeSound, Stands, stepsLeft};
+ghost use Rattle.replaying.specs.Runs.{Reachable};
+ghost use Rattle.pack.specs.Runs.{pageSize, FilledIf, NextOctets, WholeSound, Stands, StopsRun, stepsLeft};
 use options::PACK;
 use options::Settings;
 use packing::PackAnswer;
 use recording::marking::HEADING;
+use replaying::Body;
 use rules::Ending;
 use sounds::Way;
 
-// The octets of a stream that is kept until all of the sound was packed.
-const HELD: usize = 65535;
+// The octets of a page, which takes what a part of 61,440 samples makes: at most 41 octets for 40 samples.
+const PAGE: usize = 62976;
 
-// What was packed so far, how many octets were added to the last part, whether more sound may come, whether a read failed, and
-// how many octets the file should still have.
+// What can fail on the way: the sound can't be read, what it makes can't be kept or read again, or it can't be written.
+const WELL: u32 = 0;
+
+const UNREAD: u32 = 1;
+
+const UNKEPT: u32 = 2;
+
+const UNWRITTEN: u32 = 3;
+
+// What was packed so far, how many octets were added to the last part, whether more sound may come, what failed, and how many octets the file
+// should still have.
 struct Run {
     packed: PackAnswer,
     filled: usize,
     more: bool,
-    failed: bool,
+    wrong: u32,
     left: usize,
 }
 
@@ -39,46 +50,64 @@ fn filled_up(fill: bool, part: &mut [u8], count: usize, law: u32) -> usize
     0
 }
 
-// One part read and packed.
-fn next_part(fd: i32, run: Run, s: Settings, part: &mut [u8], out: &mut [u8]) -> Run
-    requires { ⌜ (Stands s (now out) run) × (run .more ≡ true) × (length (now out) ≤ longest) × (length (now part) ≡ partSize) ⌝ }
-    ensures stands { λ r. ⌜ Stands s (now (out .exit)) r ⌝ }
-    ensures less { λ r. ⌜ stepsLeft (length (now (out .entry))) r < stepsLeft (length (now (out .entry))) run ⌝ }
+// A run that can't go on.
+fn stopped(packed: PackAnswer, wrong: u32) -> Run
+    ensures { λ r. ⌜ StopsRun packed r ⌝ }
+{
+    Run {
+        packed,
+        filled: 0,
+        more: false,
+        wrong,
+        left: 0,
+    }
+}
+
+// The octets of a part, put behind those that are kept. The settings and both answers stand here for the contract alone.
+fn keep_part(keep: i32, s: Settings, before: PackAnswer, after: PackAnswer, octets: &[u8]) -> bool
+    requires { ⌜ NextOctets s before after (now octets) ⌝ }
+{
+    io::write_all(keep, octets)
+}
+
+// One part read, packed and kept.
+fn next_part(fd: i32, keep: i32, run: Run, s: Settings, part: &mut [u8], page: &mut [u8]) -> Run
+    requires { ⌜ (Stands s run) × (run .more ≡ true) × (length (now part) ≡ partSize) × (length (now page) ≡ pageSize) ⌝ }
+    ensures stands { λ r. ⌜ Stands s r ⌝ }
+    ensures less { λ r. ⌜ stepsLeft r < stepsLeft run ⌝ }
 {
     let packed = run.packed;
     let got = sounds::read_part(fd, s.form, s.law, run.left, part);
     if got.failed {
-        return Run {
-            packed,
-            filled: 0,
-            more: false,
-            failed: true,
-            left: 0,
-        };
+        return stopped(packed, UNREAD);
     }
     let count = got.count;
     let filled = filled_up(s.flags.fill, part, count, s.law);
     let end = count + filled;
-    let p = packing::pack_on(packed, &part[..end], s.law, s.set, s.length as usize, out);
+    let p = packing::pack_on(packed, &part[..end], s.law, s.set, s.length as usize, page);
+    let n = p.octets - packed.octets;
+    if !keep_part(keep, s, packed, p, &page[..n]) {
+        return stopped(packed, UNKEPT);
+    }
     let e = p.end;
     let more = cutting::may_go_on(e, count);
     Run {
         packed: p,
         filled,
         more,
-        failed: false,
+        wrong: WELL,
         left: got.left,
     }
 }
 
-// Part after part, until the sound ends, is refused or can't be read.
-fn all_parts(fd: i32, start: Run, s: Settings, part: &mut [u8], out: &mut [u8]) -> Run
-    requires { ⌜ (Stands s (now out) start) × (length (now out) ≤ longest) × (length (now part) ≡ partSize) ⌝ }
-    ensures { λ r. ⌜ Stands s (now (out .exit)) r ⌝ }
+// Part after part, until the sound ends, is refused or something fails.
+fn all_parts(fd: i32, keep: i32, start: Run, s: Settings, part: &mut [u8], page: &mut [u8]) -> Run
+    requires { ⌜ (Stands s start) × (length (now part) ≡ partSize) × (length (now page) ≡ pageSize) ⌝ }
+    ensures { λ r. ⌜ Stands s r ⌝ }
 {
     let mut run = start;
     while run.more {
-        let next = next_part(fd, run, s, part, out);
+        let next = next_part(fd, keep, run, s, part, page);
         run = next;
     }
     run
@@ -104,7 +133,7 @@ fn explain_sound(number: u32) {
         console::say(b"pack: no length fits the octets at the end; -f fills them up\n");
     }
     if number == 13 {
-        console::say_number(b"pack: the stream would be longer than ", HELD);
+        console::say_number(b"pack: the stream would be longer than ", rules::LONGEST);
         console::say(b" octets; the sound up to the place below fits\n");
     }
 }
@@ -118,16 +147,38 @@ fn heading_written(records: bool, law: u32, fd: i32) -> bool {
     true
 }
 
-// A frame that is all 0++ or all 0-- is a loss to every reader of recordings: how many there are is said, by reading the stream so.
-fn say_erased(stream: &[u8], law: u32)
-    requires { ⌜ length (now stream) ≤ longest ⌝ }
+// What is kept, put into a file page by page: WELL, UNKEPT or UNWRITTEN.
+fn copied(b: Body, fd: i32, page: &mut [u8]) -> u32
+    requires { ⌜ Reachable b ⌝ }
+{
+    let mut at = 0;
+    while at < b.size {
+        let got = replaying::window_at(b, at, page);
+        let n = got.count;
+        if got.failed {
+            return UNKEPT;
+        }
+        if n == 0 {
+            return UNKEPT;
+        }
+        if !io::write_all(fd, &page[..n]) {
+            return UNWRITTEN;
+        }
+        at += n;
+    }
+    WELL
+}
+
+// A frame that is all 0++ or all 0-- is a loss to every reader of recordings: how many there are is said, by reading what is kept so.
+fn say_erased(b: Body, law: u32)
+    requires { ⌜ Reachable b ⌝ }
 {
     let way = Way {
         compares: false,
         fd: 0,
         form: sounds::COUNTED,
     };
-    let t = replaying::play(stream, law, rules::ALL_TOOLS, way, replaying::TELLS_NOTHING);
+    let t = replaying::play_file(b, law, rules::ALL_TOOLS, way, replaying::TELLS_NOTHING);
     if t.lost != 0 {
         console::say_number(
             b"pack: frames that are all 0++ or all 0--, so that readers of recordings take them for lost: ",
@@ -138,16 +189,16 @@ fn say_erased(stream: &[u8], law: u32)
 }
 
 // What was done, of a stream or of a recording, whose octets count the heading.
-fn say_done(run: Run, s: Settings, stream: &[u8])
-    requires { ⌜ length (now stream) ≤ longest ⌝ }
+fn say_done(run: Run, s: Settings, b: Body)
+    requires { ⌜ Reachable b ⌝ }
 {
     let p = run.packed;
     let f = s.flags;
     if f.records {
-        say_erased(stream, s.law);
-        console::summary(p.frames, p.samples, stream.len() + HEADING);
+        say_erased(b, s.law);
+        console::summary(p.frames, p.samples, b.size + HEADING);
     } else {
-        console::summary(p.frames, p.samples, stream.len());
+        console::summary(p.frames, p.samples, b.size);
     }
     if f.fill {
         console::say_number(b"filled=", run.filled);
@@ -156,31 +207,39 @@ fn say_done(run: Run, s: Settings, stream: &[u8])
     console::stop(PACK, 0, p.samples, 0, 0);
 }
 
-// The stream of a whole sound is written, in a recording after its heading, and then what was done is said.
-fn write_stream(run: Run, s: Settings, name: &[u8], out: &[u8])
-    requires { ⌜ (WholeSound s (now out) run) × (run .packed .octets ≤ length (now out)) × (length (now out) ≤ longest) ⌝ }
+// What failed, and the last line.
+fn failed(wrong: u32, in_name: &[u8], out_name: &[u8]) {
+    if wrong == UNREAD {
+        console::failed(PACK, in_name, b"standard input");
+        return;
+    }
+    if wrong == UNKEPT {
+        console::failed(PACK, b"/tmp", b"/tmp");
+        return;
+    }
+    console::failed(PACK, out_name, b"standard output");
+}
+
+// The stream of a whole sound is written, in a recording after its heading.
+fn write_stream(run: Run, s: Settings, name: &[u8], b: Body, page: &mut [u8]) -> u32
+    requires { ⌜ (WholeSound s run) × (b .size ≡ run .packed .octets) × Reachable b ⌝ }
 {
     let fd = console::open_out(name);
     if fd < 0 {
-        console::failed(PACK, name, b"standard output");
-        return;
+        return UNWRITTEN;
     }
     let f = s.flags;
-    let p = run.packed;
-    let to = p.octets;
     if !heading_written(f.records, s.law, fd) {
-        console::failed(PACK, name, b"standard output");
-        return;
+        return UNWRITTEN;
     }
-    if !io::write_all(fd, &out[..to]) {
-        console::failed(PACK, name, b"standard output");
-        return;
+    let wrong = copied(b, fd, page);
+    if wrong != WELL {
+        return wrong;
     }
     if !console::close(fd) {
-        console::failed(PACK, name, b"standard output");
-        return;
+        return UNWRITTEN;
     }
-    say_done(run, s, &out[..to]);
+    WELL
 }
 
 // Whether a master ends before it should. A stream that is too long ends the reading too.
@@ -192,11 +251,11 @@ fn is_cut(left: usize, number: u32) -> bool {
 }
 
 // Nothing is written, and no file made, unless all of the sound was read and packed.
-fn finish(run: Run, s: Settings, in_name: &[u8], out_name: &[u8], out: &[u8])
-    requires { ⌜ (Stands s (now out) run) × (length (now out) ≤ longest) ⌝ }
+fn finish(run: Run, s: Settings, in_name: &[u8], out_name: &[u8], keep: i32, page: &mut [u8])
+    requires { ⌜ Stands s run ⌝ }
 {
-    if run.failed {
-        console::failed(PACK, in_name, b"standard input");
+    if run.wrong != WELL {
+        failed(run.wrong, in_name, out_name);
         return;
     }
     let p = run.packed;
@@ -212,14 +271,24 @@ fn finish(run: Run, s: Settings, in_name: &[u8], out_name: &[u8], out: &[u8])
         console::refused(PACK, number, p.samples, 0, 0);
         return;
     }
-    write_stream(run, s, out_name, out);
+    let b = Body {
+        fd: keep,
+        skip: 0,
+        size: p.octets,
+    };
+    let wrong = write_stream(run, s, out_name, b, page);
+    if wrong != WELL {
+        failed(wrong, in_name, out_name);
+        return;
+    }
+    say_done(run, s, b);
 }
 
 // The settings are judged by packing no sound, before any file is opened.
-fn pack_file(s: Settings, in_name: &[u8], out_name: &[u8], part: &mut [u8], out: &mut [u8])
-    requires { ⌜ (length (now out) ≤ longest) × (length (now part) ≡ partSize) ⌝ }
+fn pack_file(s: Settings, in_name: &[u8], out_name: &[u8], part: &mut [u8], page: &mut [u8])
+    requires { ⌜ (length (now part) ≡ partSize) × (length (now page) ≡ pageSize) ⌝ }
 {
-    let packed = packing::pack(b"", s.law, s.set, s.length as usize, out);
+    let packed = packing::pack(b"", s.law, s.set, s.length as usize, page);
     let e = packed.end;
     let number = rules::number_of(e);
     if number != 0 {
@@ -229,7 +298,7 @@ fn pack_file(s: Settings, in_name: &[u8], out_name: &[u8], part: &mut [u8], out:
     }
     let fd = console::open_in(in_name);
     if fd < 0 {
-        console::failed(PACK, in_name, b"standard input");
+        failed(UNREAD, in_name, out_name);
         return;
     }
     let o = sounds::open_sound(fd, s.form, part);
@@ -237,15 +306,20 @@ fn pack_file(s: Settings, in_name: &[u8], out_name: &[u8], part: &mut [u8], out:
         console::stop(PACK, 74, 0, 0, 0);
         return;
     }
+    let keep = console::nameless();
+    if keep < 0 {
+        failed(UNKEPT, in_name, out_name);
+        return;
+    }
     let start = Run {
         packed,
         filled: 0,
         more: true,
-        failed: false,
+        wrong: WELL,
         left: o.left,
     };
-    let run = all_parts(fd, start, s, part, out);
-    finish(run, s, in_name, out_name, out);
+    let run = all_parts(fd, keep, start, s, part, page);
+    finish(run, s, in_name, out_name, keep, page);
 }
 
 // The settings are whole: the name of what is written, and then the sound.
@@ -262,8 +336,8 @@ fn pack_named(s: Settings, in_name: &[u8], name: &mut [u8]) {
     }
     let n = t.len;
     let mut part = [0u8; 61440];
-    let mut out = [0u8; HELD];
-    pack_file(s, in_name, &name[..n], &mut part, &mut out);
+    let mut page = [0u8; PAGE];
+    pack_file(s, in_name, &name[..n], &mut part, &mut page);
 }
 
 // A law that no option tells is told by the ending of what is read.

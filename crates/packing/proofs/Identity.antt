@@ -90,7 +90,7 @@ pack-walk sound law set n room b e reader into i w h r =
       place = refl;
     })
 
--- the same by the contracts of the two calls: what `pack` left in a lent output of at most 65,535 octets, `walk` puts out as the sound
+-- the same by the contracts of the two calls: what `pack` left in a lent output of at most 1,048,576 octets, `walk` puts out as the sound
 pub record Returned (sound : List ℕ) (r : PackAnswer) (into into′ : List ℕ) (w : WalkAnswer) : Type 0 where
   pub end : w .end ≡ Done
   pub frames : w .frames ≡ r .frames

@@ -3,6 +3,7 @@ pub mod Part
 pub mod Way
 pub mod Ordered
 pub mod Whole
+pub mod Enough
 pub mod Identity
 pub mod Parts
 pub mod Onward

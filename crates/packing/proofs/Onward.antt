@@ -12,12 +12,13 @@ use Rattle.rules.specs.declared.Ending.{Ending}
 use Rattle.rules.specs.declared.Ending.the-variants.{Done, Refused}
 use Rattle.rules.specs.Tools.{isWriterSet}
 use Rattle.rules.specs.Samples.{maskOf}
+use Rattle.rules.specs.Walk.{longest}
 use Rattle.rules.proofs.Octets.{Below, below-take}
 use Rattle.promises.proofs.Written.{Frames, full, chosen-short}
 use Rattle.packing.specs.declared.PackAnswer.{PackAnswer}
 use Rattle.cutting.specs.Cuts.{nextLength, cuts, soundIn}
 use Rattle.packing.specs.Packing.{formOctets, streamOf}
-use Rattle.packing.specs.Parts.{packedOn, PacksAfter, PackOn}
+use Rattle.packing.specs.Parts.{packedOn, roomOn, PacksAfter, PackOn}
 use Rattle.cutting.proofs.Lengths.{next-fits}
 use Rattle.cutting.proofs.Cuts.{cuts-none, cuts-next}
 use Rattle.packing.proofs.Whole.{Bounds, pack-bounds, none-kept, not-done, well-packed}
@@ -42,38 +43,43 @@ cuts-some law set n s o b h = go (nextLength n (length s)) refl (eqb (nextLength
         rw (cuts-next n l s q some)
         (omega (arith, form-some law set o fs, length-append (formOctets law set first) (streamOf law set (cuts n (drop l s)))))
 
--- what a part adds
-pub record Adds (part room : ℕ) (done r : PackAnswer) : Type 0 where
+-- what a part adds: to the frames, the sound and the octets, which the page and the longest stream hold
+pub record Adds (part page : ℕ) (done r : PackAnswer) : Type 0 where
   pub frames : r .frames ≤ done .frames + part
   pub samples : r .samples ≤ done .samples + part
   pub grows : done .octets ≤ r .octets
-  pub octets : r .octets ≤ room
+  pub paged : r .octets - done .octets ≤ page
+  pub octets : r .octets ≤ longest
 
-pub on-adds : (part : List ℕ) (law set n : ℕ) (out out′ : List ℕ) {done r : PackAnswer} → done .octets ≤ length out
-    → PackOn done part law set n out out′ r → Adds (length part) (length out) done r
-on-adds part law set n out out′ {done} {r} h t = go (bounds (done .end))
+pub on-adds : (part : List ℕ) (law set n : ℕ) (page page′ : List ℕ) {done r : PackAnswer} → done .octets ≤ longest
+    → PackOn done part law set n page page′ r → Adds (length part) (length page) done r
+on-adds part law set n page page′ {done} {r} h t = go (bounds (done .end))
   where
-    bounds : (e : Ending) → Bounds (length part) (length part) (length out - done .octets) (packedOn e part law set n (length out - done .octets)) law set
-    bounds Done = pack-bounds part law set n (length out - done .octets)
-    bounds (Refused why) = none-kept law set (length out - done .octets) (length part) (length part) (Refused why)
+    room : ℕ
+    room = roomOn (done .octets) (length page)
 
-    go : Bounds (length part) (length part) (length out - done .octets) (packedOn (done .end) part law set n (length out - done .octets)) law set → Adds (length part) (length out) done r
+    bounds : (e : Ending) → Bounds (length part) (length part) room (packedOn e part law set n room) law set
+    bounds Done = pack-bounds part law set n room
+    bounds (Refused why) = none-kept law set room (length part) (length part) (Refused why)
+
+    go : Bounds (length part) (length part) room (packedOn (done .end) part law set n room) law set → Adds (length part) (length page) done r
     go b =
         record {
           frames = omega (arith, t .frames, b .frames-most);
           samples = omega (arith, t .samples, b .samples-most);
           grows = omega (arith, t .octets);
+          paged = omega (arith, t .octets, b .octets-most);
           octets = omega (arith, t .octets, b .octets-most);
         }
 
-pub on-takes-room : (part : List ℕ) (law set n : ℕ) (out out′ : List ℕ) {done r : PackAnswer} → Below 256 part → 1 ≤ length part
-    → PackOn done part law set n out out′ r → r .end ≡ Done → done .octets < r .octets
-on-takes-room part law set n out out′ {done} {r} b h t e = go (done .end) t
+pub on-takes-room : (part : List ℕ) (law set n : ℕ) (page page′ : List ℕ) {done r : PackAnswer} → Below 256 part → 1 ≤ length part
+    → PackOn done part law set n page page′ r → r .end ≡ Done → done .octets < r .octets
+on-takes-room part law set n page page′ {done} {r} b h t e = go (done .end) t
   where
-    go : (d : Ending) → PacksAfter done law set (packedOn d part law set n (length out - done .octets)) out out′ r → done .octets < r .octets
+    go : (d : Ending) → PacksAfter done law set (packedOn d part law set n (roomOn (done .octets) (length page))) page page′ r → done .octets < r .octets
     go (Refused why) t = not-done why (sym (t .end) ∙ e)
     go Done t =
-        let room = length out - done .octets in
+        let room = roomOn (done .octets) (length page) in
         let w = well-packed part law set n room (sym (t .end) ∙ e) in
         let all : 1 ≤ length (soundIn (cuts n part)) = rw (w .frames) at (rw (← (w .sound-whole)) at h) in
         omega (arith, t .octets, rw (← (w .frames)) at (cuts-some law set n part (w .odd) b all))

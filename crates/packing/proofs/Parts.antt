@@ -1,24 +1,31 @@
--- A sound may be packed in parts: where a part's length is a multiple of the frame length, packing it and then the rest is packing the whole.
-use Prim.Native.Nat.{ℕ, _*_, _-_, _≤_}
+-- A sound may be packed in parts: where a part's length is a multiple of the frame length, packing it and then the rest is packing the whole
+-- (pack-parts); and so, page after page into a file, is what `pack_on` makes of the parts (carried-on).
+use Prim.Native.Nat.{ℕ, _*_, _-_, _≤_, min}
 use native.Mathlib.Omega.{arith}
 use mathlib.Core.Path.{_≡_, refl, sym, ap, _∙_}
-use mathlib.Core.List.{List, [], _∷_, _++_, append-assoc}
+use mathlib.Core.List.{List, [], _∷_, _++_, append-nil}
 use mathlib.Core.Bool.{Bool, true, false, cond}
-use lib.ListN.{length, take, drop, length-append, length-drop, take-append-drop}
-use lib.Seq.{drop-drop, take-at, drop-at}
-use lib.Dec.{ltb}
+use lib.ListN.{length, take, drop, length-append}
+use lib.Seq.{drop-nil, take-at}
+use lib.Dec.{ltb, leb}
+use borrow.Author.Tests.{leb-true, leb-false}
 use Rattle.rules.specs.declared.Refusal.{Refusal}
 use Rattle.rules.specs.declared.Refusal.the-variants.{Room}
 use Rattle.rules.specs.declared.Ending.{Ending}
 use Rattle.rules.specs.declared.Ending.the-variants.{Done, Refused}
 use Rattle.rules.specs.Tools.{isLaw, isWriterSet, isLength}
+use Rattle.rules.specs.Calls.{atStart}
+use Rattle.rules.specs.Walk.{longest}
+use Rattle.rules.proofs.Octets.{Below}
 use Rattle.packing.specs.declared.PackAnswer.{PackAnswer}
 use Rattle.cutting.specs.Cuts.{cuts, soundIn, lastEnd, endOf}
-use Rattle.packing.specs.Packing.{formOctets, streamOf, Packed, halted, before, putAll, packAll, Packs, Pack}
-use Rattle.packing.specs.Parts.{packedOn, PacksAfter, PackOn}
-use Rattle.cutting.proofs.Cuts.{cuts-parts, cuts-multiple}
+use Rattle.packing.specs.Packing.{formOctets, streamOf, Packed, halted, before, putAll, packAll, Packs, Pack, PackFile}
+use Rattle.packing.specs.Parts.{packedOn, roomOn, PacksAfter, PackOn}
+use Rattle.cutting.proofs.Lengths.{next-none}
+use Rattle.cutting.proofs.Cuts.{cuts-none, cuts-parts, cuts-multiple}
 use Rattle.packing.proofs.Kept.{soundIn-append, streamOf-append, after}
-use Rattle.packing.proofs.Whole.{not-done, well-packed, pack-inside}
+use Rattle.packing.proofs.Whole.{not-done, well-packed}
+use Rattle.packing.proofs.Enough.{stream-most, put-enough}
 use Rattle.packing.proofs.Ordered.{packs-as, the-frames}
 
 -- frames put, and then others in the room that is left
@@ -68,6 +75,21 @@ module _ (x y : List ℕ) (law set n room : ℕ) where
   unfolding packAll
   same-no-length l o i = rw (l, o, i) refl
 
+-- a page that holds whatever a part can need: as good as all that is left
+page-enough : (b : List ℕ) (law set n page left : ℕ) → isLaw law ≡ true → isWriterSet set ≡ true → isLength n ≡ true → Below 256 b
+    → 41 * length b ≤ 40 * page → packAll b law set n (min page left) ≡ packAll b law set n left
+page-enough b law set n page left l o i c h = go (leb page left) refl
+  where
+    most : 40 * length (streamOf law set (cuts n b)) ≤ 41 * length b
+    most = stream-most law set n o c
+
+    go : (t : Bool) → leb page left ≡ t → packAll b law set n (min page left) ≡ packAll b law set n left
+    go true e =
+        sym (the-frames b law set n (min page left) l o i)
+        ∙ put-enough law set (min page left) left (cuts n b) (endOf n b) (omega (arith, most, h, leb-true page left e)) (omega arith)
+        ∙ the-frames b law set n left l o i
+    go false e = ap (packAll b law set n) (omega (arith, leb-false page left e))
+
 module _ (a b : List ℕ) (law set n k room : ℕ) (m : length a ≡ k * n) where
   end-multiple : isLength n ≡ true → endOf n a ≡ Done
   unfolding endOf lastEnd
@@ -114,51 +136,84 @@ module _ (a b : List ℕ) (law set n k room : ℕ) (m : length a ≡ k * n) wher
       go true l false o z i = same-no-set (a ++ b) a law set n room l o
       go false l y o z i = same-no-law (a ++ b) a law set n room l
 
+-- what a file has that had nothing: the stream
+pub file-is : {law set : ℕ} {p : Packed} {r : PackAnswer} {file : List ℕ} → Packs law set p r [] file → file ≡ streamOf law set (p .frames)
+file-is {law} {set} {p} f =
+    let s = streamOf law set (p .frames) in
+    f .lent ∙ ap (λ (x : List ℕ). s ++ x) (drop-nil (length s)) ∙ append-nil s
+
+file-of : (stream file : List ℕ) → file ≡ stream → file ≡ atStart stream []
+file-of stream file e = e ∙ sym (ap (λ (x : List ℕ). stream ++ x) (drop-nil (length stream)) ∙ append-nil stream)
+
+-- packing no sound, where that is not refused, leaves a file with nothing in it
+pub begun : (law set n : ℕ) (page page′ : List ℕ) {r : PackAnswer} → Pack [] law set n page page′ r → r .end ≡ Done → PackFile [] law set n [] r
+unfolding putAll streamOf
+begun law set n page page′ p e =
+    let room = length page in
+    let w = well-packed [] law set n room (sym (p .end) ∙ e) in
+    let none : cuts n [] ≡ [] = cuts-none n [] (next-none n 0 (omega arith)) in
+    let same : packAll [] law set n room ≡ packAll [] law set n longest
+    = sym (the-frames [] law set n room (w .lawful) (w .odd) (w .allowed)) ∙ rw none refl ∙ the-frames [] law set n longest (w .lawful) (w .odd) (w .allowed) in
+    let t = packs-as same p in
+    let empty = ap (streamOf law set) (ap (λ (p : Packed). p .frames) (sym same) ∙ w .frames ∙ none) in
+    record { end = t .end; frames = t .frames; samples = t .samples; octets = t .octets; lent = file-of _ [] (sym empty) }
+
+-- the octets that the page adds
+added : {law set : ℕ} {p : Packed} {done r : PackAnswer} {page page′ : List ℕ} → PacksAfter done law set p page page′ r
+    → take (r .octets - done .octets) page′ ≡ streamOf law set (p .frames)
+added {law} {set} {p} {done} {r} {page} t =
+    let s = streamOf law set (p .frames) in
+    ap (take (r .octets - done .octets)) (t .lent) ∙ take-at s (drop (length s) page) (r .octets - done .octets) (omega (arith, t .octets))
+
 -- an answer, and nothing after it
-stayed : {law set : ℕ} {p : Packed} {why : Refusal} {done r : PackAnswer} {out₀ out out′ : List ℕ}
-    → Packs law set p done out₀ out → done .end ≡ Refused why → PacksAfter done law set (halted (Refused why)) out out′ r → Packs law set p r out₀ out′
+stayed : {law set : ℕ} {p : Packed} {why : Refusal} {done r : PackAnswer} {file page page′ : List ℕ}
+    → Packs law set p done [] file → done .end ≡ Refused why → PacksAfter done law set (halted (Refused why)) page page′ r
+    → Packs law set p r [] (file ++ take (r .octets - done .octets) page′)
 unfolding soundIn streamOf
-stayed {done = done} {out = out} f q t =
+stayed {file = file} f q t =
     record {
       end = t .end ∙ sym q ∙ f .end;
       frames = omega (arith, t .frames, f .frames);
       samples = omega (arith, t .samples, f .samples);
       octets = omega (arith, t .octets, f .octets);
-      lent = t .lent ∙ take-append-drop (done .octets) out ∙ f .lent;
+      lent = ap (λ (x : List ℕ). file ++ x) (added t) ∙ append-nil file ∙ f .lent;
     }
 
--- an answer, and one after it, in the room that is left
-joined : {law set : ℕ} {p : Packed} (b : List ℕ) (n : ℕ) {done r : PackAnswer} {out₀ out out′ : List ℕ}
-    → Packs law set p done out₀ out → done .octets ≤ length out₀
-    → PacksAfter done law set (packAll b law set n (length out - done .octets)) out out′ r
-    → Packs law set (after (p .frames) (packAll b law set n (length out₀ - length (streamOf law set (p .frames))))) r out₀ out′
-joined {law} {set} {p} b n {done = done} {out₀ = out₀} {out = out} f fits t =
+-- an answer, and one after it
+joined : {law set : ℕ} {p d : Packed} {done r : PackAnswer} {file page page′ : List ℕ}
+    → Packs law set p done [] file → PacksAfter done law set d page page′ r
+    → Packs law set (after (p .frames) d) r [] (file ++ take (r .octets - done .octets) page′)
+joined {law} {set} {p} {d} {file = file} f t =
     let s = streamOf law set (p .frames) in
-    let size : length out ≡ length out₀
-    = ap length (f .lent) ∙ length-append s (drop (length s) out₀) ∙ omega (arith, length-drop (length s) out₀, f .octets, fits) in
-    let room : length out - done .octets ≡ length out₀ - length s = omega (arith, size, f .octets) in
-    let d : Packed = packAll b law set n (length out₀ - length s) in
-    let t′ = rw room at t in
-    let front : take (done .octets) out ≡ s = ap (take (done .octets)) (f .lent) ∙ take-at s (drop (length s) out₀) (done .octets) (sym (f .octets)) in
-    let back : drop (done .octets) out ≡ drop (length s) out₀ = ap (drop (done .octets)) (f .lent) ∙ drop-at s (drop (length s) out₀) (done .octets) (sym (f .octets)) in
+    let more = streamOf law set (d .frames) in
     let whole = streamOf-append law set (p .frames) (d .frames) in
-    let sizes = ap length whole ∙ length-append s (streamOf law set (d .frames)) in
     record {
-      end = t′ .end;
-      frames = omega (arith, t′ .frames, f .frames, length-append (p .frames) (d .frames));
-      samples = omega (arith, t′ .samples, f .samples, ap length (soundIn-append (p .frames) (d .frames)) ∙ length-append (soundIn (p .frames)) (soundIn (d .frames)));
-      octets = omega (arith, t′ .octets, f .octets, sizes);
-      lent = t′ .lent ∙ rw (front, back, drop-drop, sizes, whole, append-assoc) refl;
+      end = t .end;
+      frames = omega (arith, t .frames, f .frames, length-append (p .frames) (d .frames));
+      samples = omega (arith, t .samples, f .samples, ap length (soundIn-append (p .frames) (d .frames)) ∙ length-append (soundIn (p .frames)) (soundIn (d .frames)));
+      octets = omega (arith, t .octets, f .octets, ap length whole ∙ length-append s more);
+      lent =
+          file-of (streamOf law set (p .frames ++ d .frames)) _
+          (ap (λ (x : List ℕ). file ++ x) (added t) ∙ ap (λ (x : List ℕ). x ++ more) (file-is f) ∙ sym whole);
     }
 
--- the same by the contracts: what `pack_on` makes of a part, after what was packed of a sound of whole frames, is what `pack` makes of both
-pub carried-on : (a b : List ℕ) (law set n k : ℕ) (out₀ out out′ : List ℕ) {done r : PackAnswer} → length a ≡ k * n
-    → Pack a law set n out₀ out done → PackOn done b law set n out out′ r → Pack (a ++ b) law set n out₀ out′ r
-carried-on a b law set n k out₀ out out′ {done} {r} m f g = go (done .end) refl g
+-- the same by the contracts: what `pack_on` makes of a part on a page that is large enough, put behind what was packed of a sound of whole
+-- frames, is what packing both at once makes, and ROOM comes where the stream would be longer than the longest
+pub carried-on : (a b : List ℕ) (law set n k : ℕ) (file page page′ : List ℕ) {done r : PackAnswer} → length a ≡ k * n → Below 256 b
+    → 41 * length b ≤ 40 * length page → PackFile a law set n file done → PackOn done b law set n page page′ r
+    → PackFile (a ++ b) law set n (file ++ take (r .octets - done .octets) page′) r
+carried-on a b law set n k file page page′ {done} {r} m c h f g = go (done .end) refl g
   where
-    go : (e : Ending) → done .end ≡ e → PacksAfter done law set (packedOn e b law set n (length out - done .octets)) out out′ r → Pack (a ++ b) law set n out₀ out′ r
+    go : (e : Ending) → done .end ≡ e → PacksAfter done law set (packedOn e b law set n (roomOn (done .octets) (length page))) page page′ r
+        → PackFile (a ++ b) law set n (file ++ take (r .octets - done .octets) page′) r
     go (Refused why) q t =
-        let h : packAll a law set n (length out₀) .end ≡ Refused why = sym (f .end) ∙ q in
-        packs-as (sym (pack-stays a b law set n k (length out₀) m (λ e. not-done why (sym h ∙ e)))) (stayed f q t)
+        let h : packAll a law set n longest .end ≡ Refused why = sym (f .end) ∙ q in
+        packs-as (sym (pack-stays a b law set n k longest m (λ e. not-done why (sym h ∙ e)))) (stayed f q t)
     go Done q t =
-        packs-as (sym (pack-parts a b law set n k (length out₀) m (sym (f .end) ∙ q))) (joined b n f (pack-inside a law set n (length out₀) out₀ out f .octets) t)
+        let e : packAll a law set n longest .end ≡ Done = sym (f .end) ∙ q in
+        let w = well-packed a law set n longest e in
+        let left = longest - length (streamOf law set (packAll a law set n longest .frames)) in
+        let same : packAll b law set n (roomOn (done .octets) (length page)) ≡ packAll b law set n left
+        = ap (λ (x : ℕ). packAll b law set n (min (length page) (longest - x))) (f .octets) ∙ page-enough b law set n (length page) left (w .lawful) (w .odd) (w .allowed) c h in
+        let t′ = rw same at t in
+        packs-as (sym (pack-parts a b law set n k longest m e)) (joined f t′)

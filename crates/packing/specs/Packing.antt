@@ -12,6 +12,7 @@ use Rattle.rules.specs.Refusals.{judged}
 use Rattle.rules.specs.Tools.{writerAsks, isLength}
 use Rattle.rules.specs.Bits.{pack}
 use Rattle.rules.specs.Samples.{maskOf}
+use Rattle.rules.specs.Walk.{longest}
 use Rattle.rules.specs.Chooses.{chosen}
 use Rattle.rules.specs.Calls.{atStart}
 use Rattle.packing.specs.declared.PackAnswer.{PackAnswer}
@@ -63,3 +64,7 @@ pub record Packs (law set : ℕ) (p : Packed) (r : PackAnswer) (out out′ : Lis
 -- packing a sound; the output's length is the room
 abbrev pub Pack : List ℕ → ℕ → ℕ → ℕ → List ℕ → List ℕ → PackAnswer → Type 0
 Pack sound law set n out out′ r = Packs law set (packAll sound law set n (length out)) r out out′
+
+-- packing a sound into a file that has nothing yet: it takes the octets of the longest stream, and `file` is what it has then
+abbrev pub PackFile : List ℕ → ℕ → ℕ → ℕ → List ℕ → PackAnswer → Type 0
+PackFile sound law set n file r = Packs law set (packAll sound law set n longest) r [] file

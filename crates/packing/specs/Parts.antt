@@ -1,5 +1,5 @@
 -- A frame written on its way, packing that stops before any frame, and packing in parts.
-use Prim.Native.Nat.{ℕ, _+_, _-_}
+use Prim.Native.Nat.{ℕ, _+_, _-_, min}
 use mathlib.Core.Path.{_≡_}
 use mathlib.Core.List.{List, _++_}
 use lib.ListN.{length, take, drop}
@@ -9,6 +9,7 @@ use Rattle.rules.specs.declared.Ending.the-variants.{Done, Refused}
 use Rattle.rules.specs.declared.WriteAnswer.{WriteAnswer}
 use Rattle.rules.specs.Chooses.{writeOne}
 use Rattle.rules.specs.Calls.{atStart, Writes}
+use Rattle.rules.specs.Walk.{longest}
 use Rattle.packing.specs.declared.PackAnswer.{PackAnswer}
 use Rattle.cutting.specs.Cuts.{soundIn}
 use Rattle.packing.specs.Packing.{streamOf, Packed, halted, packAll}
@@ -30,13 +31,18 @@ abbrev pub packedOn : Ending → List ℕ → ℕ → ℕ → ℕ → ℕ → Pa
 packedOn (Refused why) part law set n room = halted (Refused why)
 packedOn Done part law set n room = packAll part law set n room
 
--- the next part of a sound, packed after what was packed so far, into the output from its octets on (p is `packedOn`)
-pub record PacksAfter (soFar : PackAnswer) (law set : ℕ) (p : Packed) (out out′ : List ℕ) (r : PackAnswer) : Type 0 where
+-- the room of the next part: the page's, but no more than the longest stream has left
+abbrev pub roomOn : ℕ → ℕ → ℕ
+roomOn octets page = min page (longest - octets)
+
+-- the next part of a sound, packed after what was packed so far: its octets stand at the page's start, the rest is as lent (p is `packedOn`)
+pub record PacksAfter (soFar : PackAnswer) (law set : ℕ) (p : Packed) (page page′ : List ℕ) (r : PackAnswer) : Type 0 where
   pub end : r .end ≡ p .end
   pub frames : r .frames ≡ soFar .frames + length (p .frames)
   pub samples : r .samples ≡ soFar .samples + length (soundIn (p .frames))
   pub octets : r .octets ≡ soFar .octets + length (streamOf law set (p .frames))
-  pub lent : out′ ≡ take (soFar .octets) out ++ atStart (streamOf law set (p .frames)) (drop (soFar .octets) out)
+  pub lent : page′ ≡ atStart (streamOf law set (p .frames)) page
 
 abbrev pub PackOn : PackAnswer → List ℕ → ℕ → ℕ → ℕ → List ℕ → List ℕ → PackAnswer → Type 0
-PackOn soFar part law set n out out′ r = PacksAfter soFar law set (packedOn (soFar .end) part law set n (length out - soFar .octets)) out out′ r
+PackOn soFar part law set n page page′ r =
+    PacksAfter soFar law set (packedOn (soFar .end) part law set n (roomOn (soFar .octets) (length page))) page page′ r

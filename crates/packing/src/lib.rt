@@ -1,15 +1,17 @@
-// A sound packed into a stream of frames, one after another.
+// A sound packed into a stream of frames, one after another: at once (pack), or part by part, page by page (pack_on).
 ghost use Prim.Native.Nat.{_+_, _-_, _^_, _≤_, _<_};
 ghost use mathlib.Core.Path.{_≡_};
 ghost use mathlib.Core.Bool.{true};
 ghost use lib.ListN.{length};
 ghost use Rattle.rules.specs.Tools.{isLaw, isWriterSet};
+ghost use Rattle.rules.specs.Walk.{longest};
 ghost use Rattle.cutting.specs.Cuts.{cuts, endOf};
 ghost use Rattle.packing.specs.Packing.{putAll, Packs, Pack};
-ghost use Rattle.packing.specs.Parts.{PutsFrame, StopsAtOnce, PackOn};
+ghost use Rattle.packing.specs.Parts.{PutsFrame, StopsAtOnce, roomOn, PackOn};
 use cutting::last_end;
 use cutting::next_length;
 use rules::Ending;
+use rules::LONGEST;
 use rules::Refusal;
 use rules::WriteAnswer;
 
@@ -99,29 +101,42 @@ pub fn pack(sound: &[u8], law: u32, set: u32, n: usize, out: &mut [u8]) -> PackA
     }
 }
 
-// The next part of a sound. Where the parts before it are whole frames, this is packing all of the sound at once (proofs/Parts).
+// The octets that the next part may have: those of the page, but no more than the longest stream has left.
+fn room_on(octets: usize, page: usize) -> usize
+    requires { ⌜ octets ≤ longest ⌝ }
+    ensures { λ r. ⌜ r ≡ roomOn octets page ⌝ }
+{
+    let left = LONGEST - octets;
+    if left < page {
+        return left;
+    }
+    page
+}
+
+// The next part of a sound, into a page whose octets then follow those packed so far; ROOM where the stream would be longer than the longest.
+// Where the parts before it are whole frames and the page is large enough, this is packing all of the sound at once (proofs/Parts).
 pub fn pack_on(
     done: PackAnswer,
     part: &[u8],
     law: u32,
     set: u32,
     n: usize,
-    out: &mut [u8],
+    page: &mut [u8],
 ) -> PackAnswer
-    requires { ⌜ (done .octets ≤ length (now out)) × (done .frames + length (now part) < 2 ^ 64) × (done .samples + length (now part) < 2 ^ 64) ⌝ }
-    ensures { λ r. ⌜ PackOn done (now (part .entry)) law set n (now (out .entry)) (now (out .exit)) r ⌝ }
+    requires { ⌜ (done .octets ≤ longest) × (done .frames + length (now part) < 2 ^ 64) × (done .samples + length (now part) < 2 ^ 64) ⌝ }
+    ensures { λ r. ⌜ PackOn done (now (part .entry)) law set n (now (page .entry)) (now (page .exit)) r ⌝ }
 {
     let e = done.end;
     let Ending::Done = e else {
         return done;
     };
-    let at = done.octets;
-    let p = pack(part, law, set, n, &mut out[at..]);
+    let room = room_on(done.octets, page.len());
+    let p = pack(part, law, set, n, &mut page[..room]);
     let end = p.end;
     PackAnswer {
         end,
         frames: done.frames + p.frames,
         samples: done.samples + p.samples,
-        octets: at + p.octets,
+        octets: done.octets + p.octets,
     }
 }

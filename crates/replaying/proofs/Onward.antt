@@ -14,7 +14,7 @@ use Rattle.replaying.specs.declared.Base.{Base}
 use Rattle.replaying.specs.declared.Total.{Total}
 use Rattle.replaying.specs.Parts.{lossesIn}
 use Rattle.replaying.specs.Runs.{played, TellsFile, TellsOne}
-use Rattle.replaying.specs.Lines.{Small}
+use Rattle.replaying.specs.Lines.{Small, Behind}
 use Rattle.replaying.proofs.Running.{losses-append}
 use Rattle.replaying.proofs.Joined.{items-joined, played-told}
 
@@ -65,8 +65,12 @@ module _ (law set : ℕ) where
     pub along-most : (items ≤ at) × (samples ≤ 320 * items)
     along-most = (omega (arith, a .count, a .long, told .0, told .1), omega (arith, a .count, a .sound, told .2))
 
-    pub along-base : at ≤ longest → Small (record { at = at; items = items; samples = samples })
+    along-base : at ≤ longest → Small (record { at = at; items = items; samples = samples })
     along-base h = (h, omega (arith, along-most .0), omega (arith, along-most .0, along-most .1))
+
+    pub along-behind : at ≤ longest → Behind law set (record { at = at; items = items; samples = samples })
+    along-behind h =
+        record { done = a .done; long = a .long; clean = a .clean; count = a .count; sound = a .sound; small = along-base h }
 
     -- the octets so far, and any others
     whole : (z : List ℕ) → take (played (a .done) law set .place) (a .done) ++ z ≡ a .done ++ z

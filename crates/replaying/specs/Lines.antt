@@ -5,11 +5,12 @@ use mathlib.Core.List.{List, [], _∷_, _++_}
 use lib.ListN.{length, getD}
 use Rattle.rules.specs.Walk.{longest}
 use Rattle.rules.specs.Listing.{lineEnd, atWord, samplesWord, field}
+use Rattle.recording.specs.declared.Ending.the-variants.{Done}
 use Rattle.recording.specs.Items.{Item, lost, soundIn}
 use Rattle.replaying.specs.declared.Base.{Base}
 use Rattle.replaying.specs.declared.Part.{Part}
 use Rattle.replaying.specs.Parts.{partOf, NextPart}
-use Rattle.replaying.specs.Runs.{Before}
+use Rattle.replaying.specs.Runs.{Before, played}
 
 -- "loss=I at=P samples=N before=S": the item's number, its octets' place, its samples (0: not known), and the samples of the frames before it
 abbrev pub lossWord : List ℕ
@@ -52,3 +53,12 @@ Small b = (b .at ≤ longest) × (b .items ≤ longest) × (b .samples ≤ 320 *
 
 abbrev pub Sums : Base → ℕ → ℕ → ℕ → Type 0
 Sums b at number heard = (b .at + at < 2 ^ 64) × (b .items + number < 2 ^ 64) × (b .samples + heard < 2 ^ 64)
+
+-- and it is counted right: octets whose items end with them, these items, and the samples of their frames
+pub record Behind (law set : ℕ) (b : Base) : Type 0 where
+  pub done : List ℕ
+  pub long : length done ≡ b .at
+  pub clean : played done law set .end ≡ Done
+  pub count : b .items ≡ length (played done law set .items)
+  pub sound : b .samples ≡ length (soundIn (played done law set .items))
+  pub small : Small b

@@ -10,7 +10,7 @@ ghost use Rattle.lines.specs.Puts.{Puts};
 ghost use Rattle.replaying.specs.Parts.{sureItems, goesOn, isLoss, lossCells, Answers, NextPart, Goes};
 ghost use Rattle.replaying.specs.Runs.{NextSound, TellsFile, Reachable, TellsOne};
 ghost use Rattle.replaying.specs.Kinds.{kindOf};
-ghost use Rattle.replaying.specs.Lines.{lossLine, Follows, NextItem, LossAt, Small, Sums};
+ghost use Rattle.replaying.specs.Lines.{lossLine, Follows, NextItem, LossAt, Sums, Behind};
 use console::Got;
 use playing::Heading;
 use playing::Played;
@@ -186,7 +186,7 @@ fn say_loss(
     n: usize,
     base: Base,
 )
-    requires { ⌜ (LossAt (now body) law set at number heard n) × Sums base at number heard ⌝ }
+    requires { ⌜ (LossAt (now body) law set at number heard n) × Sums base at number heard × Behind law set base ⌝ }
 {
     let mut text = [0u8; 160];
     let to = put_loss(
@@ -232,7 +232,7 @@ fn say_item(
     tells: u32,
     base: Base,
 )
-    requires { ⌜ (at ≤ length (now body)) × (NextItem (now body) law set at number heard cell p) × Sums base at number heard ⌝ }
+    requires { ⌜ (at ≤ length (now body)) × (NextItem (now body) law set at number heard cell p) × Sums base at number heard × Behind law set base ⌝ }
 {
     if p.items == 0 {
         return;
@@ -269,7 +269,7 @@ fn tell(
     one: &mut [u16],
     base: Base,
 )
-    requires { ⌜ (length (now body) ≤ longest) × Follows (now body) law set from first before × (length (now page) ≡ 320) × (length (now one) ≡ 1) × Small base ⌝ }
+    requires { ⌜ (length (now body) ≤ longest) × Follows (now body) law set from first before × (length (now page) ≡ 320) × (length (now one) ≡ 1) × Behind law set base ⌝ }
 {
     let mut at = from;
     let mut number = first;
@@ -300,7 +300,7 @@ fn tell_part(
     tells: u32,
     base: Base,
 )
-    requires { ⌜ (length (now body) ≤ longest) × Follows (now body) law set at number heard × Small base ⌝ }
+    requires { ⌜ (length (now body) ≤ longest) × Follows (now body) law set at number heard × Behind law set base ⌝ }
 {
     if tells == TELLS_NOTHING {
         return;
@@ -356,7 +356,7 @@ fn parts(
     cells: &mut [u16],
     base: Base,
 ) -> Total
-    requires { ⌜ (length (now body) ≤ longest) × (320 ≤ length (now page)) × (length (now page) ≤ length (now master)) × (1 ≤ length (now cells)) × Small base ⌝ }
+    requires { ⌜ (length (now body) ≤ longest) × (320 ≤ length (now page)) × (length (now page) ≤ length (now master)) × (1 ≤ length (now cells)) × Behind law set base ⌝ }
     ensures { λ r. ⌜ (r .wrong ≡ 0 → TellsFile (now (body .entry)) law set r) ⌝ }
     ensures within { λ r. ⌜ (r .lost ≤ r .items) × (r .at ≤ length (now (body .entry))) × (r .items ≤ length (now (body .entry))) × (r .samples ≤ 320 * r .items) ⌝ }
 {
@@ -394,7 +394,7 @@ fn parts(
 // A recording after its heading, or a part of one behind its base: its sound is used, and its losses, or all its items, are told. The
 // second page is for a master.
 pub fn play(body: &[u8], law: u32, set: u32, way: Way, tells: u32, base: Base) -> Total
-    requires { ⌜ (length (now body) ≤ longest) × Small base ⌝ }
+    requires { ⌜ (length (now body) ≤ longest) × Behind law set base ⌝ }
     ensures { λ r. ⌜ (r .wrong ≡ 0 → TellsFile (now (body .entry)) law set r) ⌝ }
     ensures within { λ r. ⌜ (r .lost ≤ r .items) × (r .at ≤ length (now (body .entry))) × (r .items ≤ length (now (body .entry))) × (r .samples ≤ 320 * r .items) ⌝ }
 {

@@ -165,7 +165,11 @@ fn settings_number(s: Settings) -> u32 {
 // Why the settings are refused.
 fn explain_settings(number: u32) {
     if number == 11 {
-        console::say(b"why: the tool set is an odd number of at most 127\n");
+        console::say_number(
+            b"why: the tool set is an odd number of at most ",
+            rules::ALL_TOOLS as usize,
+        );
+        console::say(b"\n");
     }
     if number == 10 {
         console::say(b"why: the frame length is 40, 80, 160, 240 or 320\n");

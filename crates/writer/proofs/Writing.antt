@@ -58,6 +58,9 @@ module _ (w : Written) {bits need : ℕ} (size : bits ≡ length (w .bits)) (oct
       → r ≡ record { end = Done; octets = n; bits = bits; tool = t } → Writes (fitting (length out) w) r out out′
   form-written e h p tool told = all-written w (omega arith) (rw e at p) size tool told
 
+pub packed-as : {form form′ out out′ : List ℕ} {n : ℕ} → Packed form out out′ n → form ≡ form′ → Packed form′ out out′ n
+packed-as p e = rw e at p
+
 -- one octet 00
 pub pad-packed : {out out′ : List ℕ} → out′ ≡ 0 ∷ drop 1 out → Packed (pad .bits) out out′ 1
 unfolding pack octetsFrom lowBits valueFrom

@@ -21,17 +21,18 @@ use rules::guard_writer;
 use rules::is_length;
 ghost use mathlib.Core.Path.{_≡_};
 ghost use mathlib.Core.Bool.{true, false};
-ghost use Prim.Native.Nat.{_≤_};
+ghost use Prim.Native.Nat.{_*_, _≤_};
 ghost use lib.ListN.{length, take};
 ghost use Rattle.rules.specs.declared.Ending.the-variants.{Done};
 ghost use Rattle.rules.specs.Bits.{bitsOf};
 ghost use Rattle.rules.specs.Refusals.{verdict};
 ghost use Rattle.rules.specs.Tools.{writerAsks};
-ghost use Rattle.rules.specs.Chooses.{declined, leastOf, greatestOf, chosenTool, writeOne};
+ghost use Rattle.rules.specs.Chooses.{declined, leastOf, greatestOf, chosenTool, formOf, writeOne};
 ghost use Rattle.rules.specs.Calls.{Writes, WriteFrame, WriteSamples};
 ghost use Rattle.look.specs.Looks.{near, twoZeros, isMask, FrameIn};
 ghost use Rattle.choice.specs.Plans.{Left, LastIs};
 ghost use Rattle.forms.specs.Forms.{wholeOctets};
+ghost use Rattle.pen.specs.Puts.{Packed};
 ghost use Rattle.writer.specs.Answers.{Tells, fitting, pad, full, plain};
 
 // A refusal: no octets, no bits, no tool.
@@ -98,21 +99,32 @@ fn write_zeros(out: &mut [u8], samples: &[u8], n: usize, mask: u8, set: u32) -> 
     wrote(octets, plan.bits, plan.tool)
 }
 
-// The last of the tie order: fractional-bit, or uncompressed.
+// The last of the tie order put out: fractional-bit, or uncompressed. Their number comes back; the answer is the caller's, so that it stays in
+// registers where nothing of this is called.
+fn put_last(out: &mut [u8], samples: &[u8], n: usize, mask: u8, set: u32, last: Last) -> usize
+    requires { ⌜ (FrameIn (now samples) n) × (isMask mask ≡ true) ⌝ }
+    requires { ⌜ (LastIs mask set (take n (now samples)) last) × (length (formOf mask (last .choice .tool) (take n (now samples))) ≤ 8 * length (now out)) ⌝ }
+    ensures { λ r. ⌜ Packed (formOf mask (last .choice .tool) (take n (now (samples .entry)))) (now (out .entry)) (now (out .exit)) r ⌝ }
+{
+    let best = last.choice;
+    if best.tool != 11 {
+        return put_whole(out, samples, n, 1);
+    }
+    put_fractional(out, samples, n, mask, last.row)
+}
+
+// A frame that they are left for.
 fn write_last(out: &mut [u8], samples: &[u8], n: usize, mask: u8, set: u32, last: Last) -> WriteAnswer
     requires { ⌜ (FrameIn (now samples) n) × (isMask mask ≡ true) ⌝ }
     requires { ⌜ (LastIs mask set (take n (now samples)) last) × (chosenTool mask set (take n (now samples)) ≡ last .choice .tool) ⌝ }
     ensures { λ r. ⌜ Writes (fitting (length (now (out .entry))) (full mask set (take n (now (samples .entry))))) r (now (out .entry)) (now (out .exit)) ⌝ }
 {
     let best = last.choice;
-    if best.tool != 11 {
-        return write_plain(out, samples, n, 1, best.bits);
-    }
     if out.len() < octets_for(best.bits) {
         return refused(Refusal::Room);
     }
-    let octets = put_fractional(out, samples, n, mask, last.row);
-    wrote(octets, best.bits, 11)
+    let octets = put_last(out, samples, n, mask, set, last);
+    wrote(octets, best.bits, best.tool)
 }
 
 // A frame from -2 to 1 that has a 1 or a -2, likewise; what is last in the tie order is known.
@@ -127,11 +139,12 @@ fn write_located(out: &mut [u8], samples: &[u8], n: usize, mask: u8, set: u32, l
     let mut c = [0u16; 321];
     let best = last.choice;
     let plan = located_plan(samples, n, mask, set, best, &mut a, &mut b, &mut c);
-    if plan.tool != 7 {
-        return write_last(out, samples, n, mask, set, last);
-    }
     if out.len() < octets_for(plan.bits) {
         return refused(Refusal::Room);
+    }
+    if plan.tool != 7 {
+        let few = put_last(out, samples, n, mask, set, last);
+        return wrote(few, plan.bits, plan.tool);
     }
     let octets = put_located(out, n, plan, &a, &b, &c);
     wrote(octets, plan.bits, plan.tool)

@@ -20,14 +20,6 @@ same-length c = search needs
 returns : tie.Need-returns
 returns c = search needs
 
--- src/lib.rt:288:9
-same-length-2 : tie.Need-same-length-2
-same-length-2 c = search needs
-
--- src/lib.rt:288:9
-returns-2 : tie.Need-returns-2
-returns-2 c = search needs
-
 -- src/lib.rt:293:36
 slice-reshare-prefix-write-all : tie.Need-slice-reshare-prefix-write-all
 slice-reshare-prefix-write-all c = search needs
@@ -35,19 +27,19 @@ slice-reshare-prefix-write-all c = search needs
 -- src/lib.rt:293:36
 slice-aggregate-write-all : tie.Need-slice-aggregate-write-all
 slice-aggregate-write-all c =
-    sym (length-take-le _ _ (c .before .before .before .before .before .read-part .ensures))
+    sym (length-take-le _ _ (c .before .before .before .before .read-part .ensures))
 
 -- src/lib.rt:293:9
 write-all-requires : tie.Need-write-all-requires
 write-all-requires c κs = search needs
 
 -- src/lib.rt:276:1
-same-length-3 : tie.Need-same-length-3
-same-length-3 c = search needs
+same-length-2 : tie.Need-same-length-2
+same-length-2 c = search needs
 
 -- src/lib.rt:276:1
-returns-3 : tie.Need-returns-3
-returns-3 c = search needs
+returns-2 : tie.Need-returns-2
+returns-2 c = search needs
 
 pub count-part-spec : {M : Type 1} → statement M
 count-part-spec =
@@ -56,10 +48,8 @@ count-part-spec =
     read-part-requires
     same-length
     returns
-    same-length-2
-    returns-2
     slice-reshare-prefix-write-all
     slice-aggregate-write-all
     write-all-requires
-    same-length-3
-    returns-3)
+    same-length-2
+    returns-2)

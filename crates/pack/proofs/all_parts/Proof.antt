@@ -2,15 +2,15 @@ use borrow.Author.Needs.{needs}
 use mathlib.Core.Path.{_≡_, _∙_}
 use lib.ListN.{length}
 use Rattle.cutting.specs.Parts.{partSize}
-use Rattle.pack.specs.Runs.{Stands, stepsLeft}
+use Rattle.pack.specs.Runs.{pageSize, Stands, stepsLeft}
 use Rattle.pack.proofs.all_parts.Statement.{statement}
 use Rattle.pack.proofs.all_parts.Tie as tie
 
 abbrev Inv-loop : tie.InvT-loop
-Inv-loop fd s part₀ out₀ run₀ part out run = Stands s out run × (length out ≡ length out₀) × (length part ≡ partSize)
+Inv-loop fd keep s part₀ page₀ run₀ part page run = Stands s run × (length part ≡ partSize) × (length page ≡ pageSize)
 
 abbrev μ-loop : tie.MeasureT-loop
-μ-loop fd s part₀ out₀ run₀ part out run = stepsLeft (length out₀) run
+μ-loop fd keep s part₀ page₀ run₀ part page run = stepsLeft run
 
 loop-holds : tie.Need-loop-holds Inv-loop μ-loop
 loop-holds c = search needs
@@ -19,14 +19,13 @@ next-part-requires : tie.Need-next-part-requires Inv-loop μ-loop
 next-part-requires c κs = search needs
 
 loop-less : tie.Need-loop-less Inv-loop μ-loop
-loop-less c =
-    let i = c .before .before .before .before .before .before .before .before .loop .inv in
-    rw (i .1) at (c .before .before .before .before .next-part .ensures .1)
+loop-less c = c .before .before .before .before .next-part .ensures .1
 
 loop-again : tie.Need-loop-again Inv-loop μ-loop
 loop-again c =
     let i = c .before .before .before .before .before .before .before .before .loop .inv in
-    (c .before .before .before .before .next-part .ensures .0, c .before .before .before .before .next-part .kept .1 .1 .1 .1 .0 ∙ i .1, c .before .before .before .before .next-part .kept .1 .1 .1 .0 ∙ i .2)
+    let n = c .before .before .before .before .next-part in
+    (n .ensures .0, n .kept .1 .1 .1 .1 .0 ∙ i .1, n .kept .1 .1 .1 .1 .1 .0 ∙ i .2)
 
 same-length : tie.Need-same-length Inv-loop μ-loop
 same-length c = search needs

@@ -1,12 +1,10 @@
-use mathlib.Core.Path.{sym, _∙_}
+use borrow.Author.Needs.{needs}
+use mathlib.Core.Path.{refl, sym, _∙_}
 use native.Mathlib.Omega.{arith}
 use Rattle.cutting.proofs.Numbers.{for-done}
-use borrow.Author.Needs.{needs}
+use Rattle.pack.proofs.Running.{kept-most}
 use Rattle.pack.proofs.finish.Statement.{statement}
 use Rattle.pack.proofs.finish.Tie as tie
-
-slice-aggregate-failed : tie.Need-slice-aggregate-failed
-slice-aggregate-failed c = search needs
 
 failed-requires : tie.Need-failed-requires
 failed-requires c κs = search needs
@@ -43,17 +41,31 @@ returns-3 c = search needs
 
 write-stream-requires : tie.Need-write-stream-requires
 write-stream-requires c κs =
-    let s = c .before .before .before .before .before .before .before .before .before in
-    (record { one = s .pre .0 .one; well = for-done (s .args .run .packed .end) (sym (c .before .before .before .number-for .ensures) ∙ omega arith) }, s .pre .0 .octets, s .pre .1)
+    let a = c .before .before .before .before .before .before .before .before .before .before .before in
+    (record { kept = a .pre .kept; one = a .pre .one; well = for-done (a .args .run .packed .end) (sym (c .before .before .before .before .number-for .ensures) ∙ omega arith) }, refl, (kept-most (a .pre .one), omega arith))
+
+failed-requires-2 : tie.Need-failed-requires-2
+failed-requires-2 c κs = search needs
+
+same-length : tie.Need-same-length
+same-length c = search needs
 
 returns-4 : tie.Need-returns-4
 returns-4 c = search needs
+
+say-done-requires : tie.Need-say-done-requires
+say-done-requires c κs = (kept-most (c .before .before .before .before .before .before .before .before .before .before .before .before .before .before .before .pre .one), omega arith)
+
+same-length-2 : tie.Need-same-length-2
+same-length-2 c = search needs
+
+returns-5 : tie.Need-returns-5
+returns-5 c = search needs
 
 pub finish-spec : {M : Type 1} → statement M
 finish-spec =
     tie.close
     (tie.spec
-    slice-aggregate-failed
     failed-requires
     returns
     number-for-requires
@@ -66,4 +78,9 @@ finish-spec =
     refused-requires
     returns-3
     write-stream-requires
-    returns-4)
+    failed-requires-2
+    same-length
+    returns-4
+    say-done-requires
+    same-length-2
+    returns-5)

@@ -1,10 +1,9 @@
+use borrow.Author.Needs.{needs}
 use mathlib.Core.Path.{sym, _∙_}
-use mathlib.Core.Bool.{true, false}
-use native.Mathlib.Omega.{arith}
+use mathlib.Core.Bool.{true}
+use Rattle.cutting.proofs.Numbers.{number-done}
 use Rattle.pack.specs.declared.Run.{Run}
 use Rattle.pack.proofs.Running.{stands-first}
-use Rattle.cutting.proofs.Numbers.{number-done}
-use borrow.Author.Needs.{needs}
 use Rattle.pack.proofs.pack_file.Statement.{statement}
 use Rattle.pack.proofs.pack_file.Tie as tie
 
@@ -35,9 +34,6 @@ returns c = search needs
 open-in-requires : tie.Need-open-in-requires
 open-in-requires c κs = search needs
 
-slice-aggregate-failed : tie.Need-slice-aggregate-failed
-slice-aggregate-failed c = search needs
-
 failed-requires : tie.Need-failed-requires
 failed-requires c κs = search needs
 
@@ -62,25 +58,11 @@ same-length-4 c = search needs
 returns-3 : tie.Need-returns-3
 returns-3 c = search needs
 
-all-parts-requires : tie.Need-all-parts-requires
-all-parts-requires c κs =
-    let s = c .before .before .before .before .before .before .before .before .before .before .before .before .before .before .before .before .before .before .before .before .before .before in
-    let p = c .before .before .before .before .before .before .before .before .before .before .before .before .before .before .pack in
-    let o = c .before .before .before .before .before .before .open-sound in
-    let k = p .kept .1 .1 .1 .1 .0 in
-    let start : Run = record { packed = p .result; filled = 0; more = true; failed = false; left = o .result .left } in
-    let n = c .before .before .before .before .before .before .before .before .before .before in
-    let well = number-done (p .result .end) (sym (n .before .number-of .ensures) ∙ n .if1 .left) in (
-      stands-first (s .args .s) (s .args .out .now) (p .last .1 .1 .1 .1 .0) start k (p .ensures) well,
-      omega (arith, k, s .pre .0),
-      o .kept .1 .1 .0 ∙ s .pre .1,
-    )
+nameless-requires : tie.Need-nameless-requires
+nameless-requires c κs = search needs
 
-finish-requires : tie.Need-finish-requires
-finish-requires c κs =
-    let a = c .before .before .before .before .before .all-parts in
-    let p = c .before .before .before .before .before .before .before .before .before .before .before .before .before .before .before .before .before .before .before .before .pack in
-    (a .ensures, omega (arith, a .kept .1 .1 .1 .1 .0, p .kept .1 .1 .1 .1 .0, c .before .before .before .before .before .before .before .before .before .before .before .before .before .before .before .before .before .before .before .before .before .before .before .before .before .before .before .before .pre .0))
+failed-requires-2 : tie.Need-failed-requires-2
+failed-requires-2 c κs = search needs
 
 same-length-5 : tie.Need-same-length-5
 same-length-5 c = search needs
@@ -90,6 +72,27 @@ same-length-6 c = search needs
 
 returns-4 : tie.Need-returns-4
 returns-4 c = search needs
+
+all-parts-requires : tie.Need-all-parts-requires
+all-parts-requires c κs =
+    let a = c .before .before .before .before .before .before .before .before .before .before .before .before .before .before .before .before .before .before .before .before .before .before .before .before in
+    let p = c .before .before .before .before .before .before .before .before .before .before .before .before .before .before .before .before .pack in
+    let o = c .before .before .before .before .before .before .before .before .open-sound in
+    let start : Run = record { packed = p .result; filled = 0; more = true; wrong = 0; left = o .result .left } in
+    let well = number-done (p .result .end) (sym (c .before .before .before .before .before .before .before .before .before .before .before .before .before .number-of .ensures) ∙ c .before .before .before .before .before .before .before .before .before .before .before .before .if1 .left) in
+    (stands-first (a .args .s) (a .args .page .now) (p .last .1 .1 .1 .1 .0) start (p .ensures) well, o .kept .1 .1 .0 ∙ a .pre .0, p .kept .1 .1 .1 .1 .0 ∙ a .pre .1)
+
+finish-requires : tie.Need-finish-requires
+finish-requires c κs = search needs
+
+same-length-7 : tie.Need-same-length-7
+same-length-7 c = search needs
+
+same-length-8 : tie.Need-same-length-8
+same-length-8 c = c .before .before .finish .kept .1 .1 .1 .1 .1 .0 ∙ c .before .before .before .before .before .before .before .before .all-parts .kept .1 .1 .1 .1 .1 .0 ∙ c .before .before .before .before .before .before .before .before .before .before .before .before .before .before .before .before .before .before .before .before .before .before .before .before .before .pack .kept .1 .1 .1 .1 .0
+
+returns-5 : tie.Need-returns-5
+returns-5 c = search needs
 
 pub pack-file-spec : {M : Type 1} → statement M
 pack-file-spec =
@@ -104,7 +107,6 @@ pack-file-spec =
     same-length
     returns
     open-in-requires
-    slice-aggregate-failed
     failed-requires
     same-length-2
     returns-2
@@ -113,8 +115,13 @@ pack-file-spec =
     same-length-3
     same-length-4
     returns-3
-    all-parts-requires
-    finish-requires
+    nameless-requires
+    failed-requires-2
     same-length-5
     same-length-6
-    returns-4)
+    returns-4
+    all-parts-requires
+    finish-requires
+    same-length-7
+    same-length-8
+    returns-5)

@@ -14,7 +14,7 @@ cast-say-loss c = search needs
 
 say-loss-requires : tie.Need-say-loss-requires
 say-loss-requires c κs =
-    let p = c .before .before .before .before .before .pre in (item-lost _ _ _ (p .1) (c .if2 .taken) .1, p .2)
+    let p = c .before .before .before .before .before .pre in (item-lost _ _ _ (p .1) (c .if2 .taken) .1, p .2, p .3)
 
 returns-2 : tie.Need-returns-2
 returns-2 c = search needs

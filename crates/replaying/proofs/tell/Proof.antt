@@ -41,7 +41,8 @@ say-item-requires c κs =
         told = refl;
       },
       sums _ _ _ (w .0) (c .before .before .before .before .before .before .before .before .before .before .before .before .before .pre .0)
-          (c .before .before .before .before .before .before .before .before .before .before .before .before .before .pre .4),
+          (c .before .before .before .before .before .before .before .before .before .before .before .before .before .pre .4 .small),
+      c .before .before .before .before .before .before .before .before .before .before .before .before .before .pre .4,
     )
 
 same-length : tie.Need-same-length Inv-loop μ-loop

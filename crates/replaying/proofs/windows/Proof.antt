@@ -4,7 +4,7 @@ use mathlib.Core.Path.{_≡_, refl, sym, _∙_}
 use native.Mathlib.Omega.{arith}
 use lib.ListN.{length}
 use lib.Seq.{length-take-le}
-use Rattle.replaying.proofs.Onward.{Along, along-first, along-most, along-base, along-turn, along-whole}
+use Rattle.replaying.proofs.Onward.{Along, along-first, along-most, along-behind, along-turn, along-whole}
 use borrow.Author.Needs.{needs}
 use Rattle.replaying.proofs.windows.Statement.{statement}
 use Rattle.replaying.proofs.windows.Tie as tie
@@ -61,7 +61,7 @@ play-requires c κs =
     let l = wa .before .before in
     let s = l .before .before in
     let e = length-take-le (wa .window-at .result .count) (wa .window-at .last .1 .1 .0) (wa .window-at .ensures .0) in
-    let base = along-base _ _ (l .loop .inv .0) (omega (arith, l .loop .inv .1, s .pre .0)) in
+    let base = along-behind _ _ (l .loop .inv .0) (omega (arith, l .loop .inv .1, s .pre .0)) in
     (omega (arith, e, wa .window-at .ensures .1, s .pre .0), base)
 
 -- src/lib.rt:498:17

@@ -1,0 +1,85 @@
+use borrow.Author.Needs.{needs}
+use Prim.Native.Nat.{ℕ, _+_}
+use mathlib.Core.Path.{_≡_, sym, ap, _∙_}
+use mathlib.Core.List.{List, _++_}
+use native.Mathlib.Omega.{arith}
+use lib.ListN.{length, take}
+use Rattle.rules.specs.Bits.{bitsOf, lowBits}
+use Rattle.rules.specs.Fractional.{firstCode, fractionalBody}
+use Rattle.rules.specs.Chooses.{formOf}
+use Rattle.rules.proofs.Octets.{Below, below-all, below-take, length-bitsOf}
+use Rattle.look.proofs.Tests.{law-for}
+use Rattle.forms.specs.Forms.{wholeOctets}
+use Rattle.forms.proofs.Form.{cells-length}
+use Rattle.forms.proofs.Whole.{whole-form, whole-length}
+use Rattle.writer.proofs.Planned.{row-form, row-few, row-digits}
+use Rattle.writer.proofs.Writing.{packed-as}
+use Rattle.writer.proofs.put_last.Statement.{statement}
+use Rattle.writer.proofs.put_last.Tie as tie
+
+-- the frame, and the form of what is last
+abbrev frame : tie.Start → List ℕ
+frame s = take (s .args .n) (s .args .samples .now)
+
+abbrev form : tie.Start → List ℕ
+form s = formOf (s .args .mask) (s .args .last .choice .tool) (frame s)
+
+module _ (s : tie.Start) where
+  is-eleven : s .args .last .choice .tool ≡ 11 → s .args .last .choice .tool ≡ 11
+  is-eleven e = e
+
+  plain-is : (s .args .last .choice .tool ≡ 11 → ⊥) → bitsOf (wholeOctets 1 (frame s)) ≡ form s
+  plain-is other =
+      whole-form (s .args .mask) 1 (frame s) (omega arith) (omega arith)
+      ∙ ap (λ (k : ℕ). formOf (s .args .mask) k (frame s)) (sym (s .pre .1 .0 .kind other))
+
+  few-is : s .args .last .choice .tool ≡ 11
+      → lowBits 8 (firstCode (s .args .n) + s .args .last .row) ++ fractionalBody (s .args .mask) (s .args .last .row) (frame s) ≡ form s
+  few-is e =
+      row-form (s .args .mask) (s .args .set) (s .args .n) (frame s) (s .args .last) (cells-length (s .pre .0 .0)) (s .pre .1 .0) e
+      ∙ ap (λ (k : ℕ). formOf (s .args .mask) k (frame s)) (sym e)
+
+put-whole-requires : tie.Need-put-whole-requires
+put-whole-requires c κs =
+    let s = c .before .before .before .before .before .before in
+    let e = ap length (plain-is s (c .before .if1 .taken)) in
+    let size = whole-length 1 (frame s) (cells-length (s .pre .0 .0)) in
+    ((omega arith, omega arith), (s .pre .0 .0, omega (arith, e, size, length-bitsOf (wholeOctets 1 (frame s)), s .pre .1 .1)))
+
+same-length : tie.Need-same-length
+same-length c = search needs
+
+returns : tie.Need-returns
+returns c =
+    let s = c .before .before .before .before .before .before .before .before .before in
+    packed-as (c .before .before .put-whole .ensures) (plain-is s (c .before .before .before .before .if1 .taken))
+
+put-fractional-requires : tie.Need-put-fractional-requires
+put-fractional-requires c κs =
+    let s = c .before .before .before .before .before .before in
+    let eleven = is-eleven s (c .before .if1 .left) in
+    let octets = c .before .before .before .before .shared-slice-known .given in
+    let b : Below 256 (frame s) = below-take (s .args .n) (below-all (s .args .samples .now) (λ i. octets i .fits)) in
+    let size = cells-length (s .pre .0 .0) in
+    ((s .pre .0 .0, s .pre .0 .1, row-few (s .args .mask) (s .args .set) (s .args .n) (frame s) (s .args .last) size (s .pre .1 .0) eleven),
+    (row-digits (s .args .mask) (s .args .set) (s .args .n) (frame s) (s .args .last) size (s .pre .1 .0) eleven (law-for (s .args .mask) (s .pre .0 .1)) b,
+    rw (few-is s eleven) (s .pre .1 .1)))
+
+same-length-2 : tie.Need-same-length-2
+same-length-2 c = search needs
+
+returns-2 : tie.Need-returns-2
+returns-2 c =
+    let s = c .before .before .before .before .before .before .before .before .before in
+    packed-as (c .before .before .put-fractional .ensures) (few-is s (is-eleven s (c .before .before .before .before .if1 .left)))
+
+pub put-last-spec : {M : Type 1} → statement M
+put-last-spec =
+    tie.close
+    (tie.spec
+    put-whole-requires
+    same-length
+    returns
+    put-fractional-requires
+    same-length-2
+    returns-2)
