@@ -22,10 +22,6 @@ played-none : (law set : ℕ) → played [] law set .items ≡ []
 unfolding itemsFrom
 played-none law set = refl
 
-played-place : (law set : ℕ) → played [] law set .place ≡ 0
-unfolding itemsFrom
-played-place law set = refl
-
 played-clean : (law set : ℕ) → played [] law set .end ≡ Done
 unfolding itemsFrom
 played-clean law set = refl
