@@ -4,6 +4,7 @@ use mathlib.Core.Path.{_≡_, refl, sym, ap, _∙_}
 use mathlib.Core.List.{List, [], _∷_}
 use mathlib.Core.Bool.{Bool, true, false, _&&_}
 use native.Mathlib.Omega.{arith}
+use borrow.Author.Tests.{lt-leb}
 use lib.ListN.{length}
 use Rattle.rules.specs.Tools.{holds}
 use Rattle.rules.specs.Fractional.{rowCount, bodyBits}
@@ -75,6 +76,10 @@ zeros-planned {mask} {set} {n} {s} {runs} {rice} {h₆ = h₆} {h₅ = h₅} sev
       kind = rw (c₅ .tool) k;
     }
 
+short-off : (mask : ℕ) (s : List ℕ) → length s < 80 → applies mask 7 s ≡ false
+unfolding applies
+short-off mask s h = rw (lt-leb 80 (length s) h)
+
 -- a frame that has a 1 or a -2: the last of the order, then value-location
 module _ {mask : ℕ} (set : ℕ) {s : List ℕ} (zeros : twoZeros mask s ≡ false) {last : Choice} (known : ChosenIs mask set s (11 ∷ []) last) where
   no-zeros : {r : Choice} → ChosenIs mask set s (7 ∷ 11 ∷ []) r → ChosenIs mask set s measured r
@@ -96,6 +101,10 @@ module _ {mask : ℕ} (set : ℕ) {s : List ℕ} (zeros : twoZeros mask s ≡ fa
         located = λ e. absurd (never (sym off ∙ chosen-offered mask set s measured 7 e (λ z. omega arith)));
         kind = λ x. t;
       }
+
+  -- "N is 80 or more": a shorter frame is left to the last of the order
+  pub short-last : length s < 80 → last .tool ≡ choose mask set s measured
+  short-last h = no-zeros (choose-past 7 (past set 7 (short-off mask s h)) known) .tool
 
   pub located-for : {a b c : List ℕ} {w : Located} {best : Choice} {r : Located} → holds set 7 ≡ true → applies mask 7 s ≡ true
       → LocatedIs mask s w a b c → BetterIs last 7 true (w .bits) best → r ≡ locatedBy best w → LocatedFor mask (choose mask set s measured) (last .tool) s r a b c

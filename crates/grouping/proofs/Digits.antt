@@ -20,14 +20,14 @@ use Rattle.ranges.specs.Rows.{RowIs}
 use Rattle.grouping.specs.Digits.{digitIn, digitsIn, DigitsFit}
 
 -- (7-77), as the code has it
-module _ (mask x low below : ℕ) (few : low ≤ 4) where
-  pub digit-up : 128 ≤ x → below ≤ low → (below + bitXor x mask % 128 ≡ digitFor low below (signed mask x)) × (below + bitXor x mask % 128 < 256)
+module _ (mask x low below : ℕ) where
+  pub digit-up : 128 ≤ x → below + bitXor x mask % 128 ≡ digitFor low below (signed mask x)
   unfolding signed
-  digit-up h k = (rw (le-leb 128 x h) refl, omega arith)
+  digit-up h = rw (le-leb 128 x h) refl
 
-  pub digit-down : x < 128 → {d : ℕ} → d ≡ low - (bitXor x mask % 128 + 1) → (d ≡ digitFor low below (signed mask x)) × (d < 256)
+  pub digit-down : x < 128 → {d : ℕ} → d ≡ low - (bitXor x mask % 128 + 1) → d ≡ digitFor low below (signed mask x)
   unfolding signed
-  digit-down h e = (e ∙ rw (lt-leb 128 x h) (omega arith), omega arith)
+  digit-down h e = e ∙ rw (lt-leb 128 x h) (omega arith)
 
 -- the digit of the value of a digit
 digit-back : (low below d : ℕ) → below ≤ low → digitFor low below (valueFor low below d) ≡ d

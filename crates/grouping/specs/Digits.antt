@@ -12,6 +12,10 @@ digitIn mask row x = digitFor (row .low) (row .below) (signed mask x)
 abbrev pub digitsIn : ℕ → Row → List ℕ → List ℕ
 digitsIn mask row s = map (digitIn mask row) s
 
+-- a digit, as it is
+abbrev pub same : ℕ → ℕ
+same d = d
+
 pub record DigitsFit (mask : ℕ) (row : Row) (s : List ℕ) : Type 0 where
   pub some : 2 ≤ row .radix
   pub few : row .radix ≤ 6

@@ -1,0 +1,86 @@
+-- The digits laid one by one (Frames of crate linear).
+use borrow.Author.Needs.{needs}
+use Prim.Native.Nat.{ℕ, _-_, _≤_}
+use mathlib.Core.Path.{_≡_, refl, sym, ap, _∙_}
+use mathlib.Core.List.{List, map}
+use native.Mathlib.Omega.{arith}
+use lib.ListN.{length, getD, set, take, drop, length-map}
+use lib.Seq.{paste, paste-zero, take-at, length-take-le, getD-take}
+use Rattle.rules.specs.Samples.{signed}
+use Rattle.rules.specs.Fractional.{digitFor}
+use Rattle.linear.proofs.Frames.{turn, kept, whole}
+use Rattle.grouping.proofs.digits_of.Statement.{statement}
+use Rattle.grouping.proofs.digits_of.Tie as tie
+
+abbrev digit : ℕ → ℕ → ℕ → ℕ → ℕ
+digit mask low below x = digitFor low below (signed mask x)
+
+abbrev Inv-loop : tie.InvT-loop
+Inv-loop samples n mask digits₀ low below i₀ digits i = (i ≤ n) × (digits ≡ paste digits₀ 0 (map (digit mask low below) (take n samples)) i)
+
+abbrev μ-loop : tie.MeasureT-loop
+μ-loop samples n mask digits₀ low below i₀ digits i = n - i
+
+cast-low : tie.Need-cast-low Inv-loop μ-loop
+cast-low c = search needs
+
+cast-below : tie.Need-cast-below Inv-loop μ-loop
+cast-below c = search needs
+
+loop-holds : tie.Need-loop-holds Inv-loop μ-loop
+loop-holds c =
+    let a = c .before .before .before .args in
+    (omega arith, paste-zero (a .digits .now) 0 (map (digit (a .mask) (a .row .low) (a .row .below)) (take (a .n) (a .samples .now))))
+
+shared-slice-read-digit-of : tie.Need-shared-slice-read-digit-of Inv-loop μ-loop
+shared-slice-read-digit-of c = search needs
+
+digit-of-requires : tie.Need-digit-of-requires Inv-loop μ-loop
+digit-of-requires c κs = search needs
+
+element-write-digits : tie.Need-element-write-digits Inv-loop μ-loop
+element-write-digits c = search needs
+
+add-i : tie.Need-add-i Inv-loop μ-loop
+add-i c = search needs
+
+loop-less : tie.Need-loop-less Inv-loop μ-loop
+loop-less c = search needs
+
+loop-again : tie.Need-loop-again Inv-loop μ-loop
+loop-again c =
+    let a = c .before .before .before .before .before .before .before .args in
+    let l = c .before .before .before .loop in
+    let f = digit (a .mask) (a .row .low) (a .row .below) in
+    let size = length-take-le (a .n) (a .samples .now) (omega arith) in
+    let at = ap f (sym (getD-take (a .n) (a .samples .now) (l .i) 0 (omega arith))) in
+    (omega arith, ap (λ (d : List ℕ). set d (l .i) (c .digit-of .result)) (l .inv .1)
+    ∙ turn f (take (a .n) (a .samples .now)) (a .digits .now) (l .i) 0 (c .digit-of .result) (omega arith) (omega arith) (c .digit-of .ensures ∙ at))
+
+returns : tie.Need-returns Inv-loop μ-loop
+returns c =
+    let a = c .before .before .before .before .before .args in
+    let l = c .before .loop in
+    let f = digit (a .mask) (a .row .low) (a .row .below) in
+    let s = take (a .n) (a .samples .now) in
+    let size : length s ≡ a .n = length-take-le (a .n) (a .samples .now) (omega arith) in
+    let all = l .inv .1 ∙ whole f s (a .digits .now) (l .i) (omega (arith, l .inv .0)) in
+    (ap (take (a .n)) all ∙ take-at (map f s) (drop (length s) (a .digits .now)) (a .n) (length-map s f ∙ size),
+    ap length (l .inv .1) ∙ kept f s (a .digits .now) (l .i) (omega (arith, l .inv .0)) (omega arith) ∙ omega arith)
+
+pub digits-of-spec : {M : Type 1} → statement M
+digits-of-spec =
+    tie.close
+    (tie.spec
+    Inv-loop
+    μ-loop
+    cast-low
+    cast-below
+    loop-holds
+    shared-slice-read-digit-of
+    digit-of-requires
+    element-write-digits
+    add-i
+    loop-less
+    loop-again
+    returns)
