@@ -6,7 +6,7 @@ use second::gen::Prng;
 use second::recording::{heading, is_erased};
 use tests::forms::LENGTHS;
 use tests::recordings::two_minutes;
-use tests::tools::{law_words, pack_wanted, plus_zero, same, Room, Stop, FILES, WINDOW};
+use tests::tools::{law_words, pack_wanted, plus_zero, same, Room, Stop, FILES, PACKED_WITH, WINDOW};
 use tests::{say, MOST};
 
 /// The samples of a part.
@@ -23,7 +23,7 @@ fn tell(what: &str, room: &Room) {
 /// One sound from a file and from a pipe, octet for octet as the second program packs it, and back. What is refused leaves
 /// OUTFILE as it was. Gives how it ended and the octets of its stream.
 fn packed_and_back(room: &mut Room, sound: &[u8], law: u32, length: usize) -> (Stop, usize) {
-    let wanted = pack_wanted(sound, law, 127, length, false);
+    let wanted = pack_wanted(sound, law, PACKED_WITH, length, false);
     let (option, raw, _) = law_words(law);
     let octets = wanted.stream.octets.len();
     room.put(&format!("in.{raw}"), sound);
@@ -125,7 +125,7 @@ fn two_minutes_packed() {
         for at in [0, 320_000, 960_000 - 160] {
             sound[at..at + 160].fill(erased);
         }
-        let stream = pack_wanted(&sound, law, 127, 160, false).stream;
+        let stream = pack_wanted(&sound, law, PACKED_WITH, 160, false).stream;
         assert!(stream.octets.len() > 4 * WINDOW);
         lost += sound.chunks(160).filter(|frame| is_erased(frame, law)).count();
         let said = format!("take them for lost: {}\n", sound.chunks(160).filter(|frame| is_erased(frame, law)).count());
@@ -162,7 +162,7 @@ fn a_small_stack() {
     let (mut room, mut rng) = (room("stack"), Prng::new(104));
     let sound = just_21_parts(1, &mut rng);
     let last = Some(format!("stop=0 at={} tool=0", sound.len()));
-    let stream = pack_wanted(&sound, 1, 127, 40, false).stream.octets;
+    let stream = pack_wanted(&sound, 1, PACKED_WITH, 40, false).stream.octets;
     room.put("a.ul8", &sound);
     for args in [&["-n40", "a.ul8", "out"][..], &["-r", "-n40", "a.ul8", "out"]] {
         assert_eq!(room.with_a_stack_of(1_000, "pack", args), last, "{args:?}");

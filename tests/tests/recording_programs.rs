@@ -322,9 +322,9 @@ fn headings() {
             room.run("unpack", "", &file[..cut]).ends(Stop::new(USAGE, 0, 0)).says("the law is not known");
         }
         // The order: usage, SET, files, then the file's own.
-        room.run("unpack", &format!("{other} -s128"), &file).ends(Stop::new(11, 0, 0));
+        room.run("unpack", &format!("{other} -s256"), &file).ends(Stop::new(11, 0, 0));
         room.run("unpack", "-s256", &file[..9]).ends(Stop::new(11, 0, 0));
-        room.run("unpack", "-x -s128", &file).ends(Stop::new(USAGE, 0, 0));
+        room.run("unpack", "-x -s256", &file).ends(Stop::new(USAGE, 0, 0));
         // A second heading is no frame; the listing takes no heading.
         played(&mut room, &[&heading(law)[..], &file].concat(), READ_WITH, "");
         assert_eq!(listing(&file), b"stop=12 at=0 tool=0 bit=0\n");

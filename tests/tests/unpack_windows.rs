@@ -5,7 +5,9 @@
 use second::gen::Prng;
 use tests::faults::Fault;
 use tests::streams::{plain_frames, Stream};
-use tests::tools::{law_words, plus_zero, same, unpack_wanted, verify_wanted, windows, Room, Stop, DIFFERS, WINDOW};
+use tests::tools::{
+    law_words, plus_zero, same, unpack_wanted, verify_wanted, windows, Room, Stop, DIFFERS, READ_WITH, WINDOW,
+};
 use tests::{say, Codec, Second, MOST};
 
 fn room(name: &str) -> Room {
@@ -28,7 +30,7 @@ fn starts(stream: &[u8], law: u32) -> Vec<usize> {
     let (mut at, mut starts) = (0, Vec::new());
     while at < stream.len() {
         starts.push(at);
-        let read = Second.read(&stream[at..stream.len().min(at + 1_000)], law, 127, &mut [0; 320]);
+        let read = Second.read(&stream[at..stream.len().min(at + 1_000)], law, READ_WITH, &mut [0; 320]);
         if read.ending > 0 {
             break;
         }
@@ -39,7 +41,7 @@ fn starts(stream: &[u8], law: u32) -> Vec<usize> {
 
 /// One stream from a file and from a pipe: its sound, its totals, and how it ends.
 fn unpacked(room: &mut Room, stream: &[u8], law: u32) -> Stop {
-    let wanted = unpack_wanted(stream, law, 127);
+    let wanted = unpack_wanted(stream, law, READ_WITH);
     let (option, _, lc) = law_words(law);
     room.put(&format!("in.{lc}"), stream);
     room.put("out", &[0xA7; 400]);
@@ -165,10 +167,10 @@ fn a_master_of_several_windows() {
     for law in 0..2 {
         let (option, _, lc) = law_words(law);
         let stream = [Stream::plain(2 * WINDOW, law, &mut rng).octets, vec![0x41; 30_000]].concat();
-        let sound = unpack_wanted(&stream, law, 127).sound;
+        let sound = unpack_wanted(&stream, law, READ_WITH).sound;
         room.put(&format!("greeting.{lc}"), &stream);
         let mut held = |room: &mut Room, master: &[u8], wanted: Stop| {
-            assert_eq!(verify_wanted(&stream, law, 127, master), wanted);
+            assert_eq!(verify_wanted(&stream, law, READ_WITH, master), wanted);
             room.put("master", master);
             room.run("unpack", &format!("-c master greeting.{lc}"), &[]).ends(wanted).writes(&[]);
             room.run("unpack", &format!("{option} -c master"), &stream).ends(wanted).writes(&[]);
@@ -194,7 +196,7 @@ fn linear_masters_of_several_windows() {
     let (mut room, mut rng, mut values) = (room("linear"), Prng::new(95), 0);
     for law in 0..2 {
         let stream = Stream::plain(300_000, law, &mut rng).octets;
-        let sound = unpack_wanted(&stream, law, 127).sound;
+        let sound = unpack_wanted(&stream, law, READ_WITH).sound;
         let shift = [3, 2][law as usize];
         let master: Vec<u8> = sound
             .iter()
@@ -224,7 +226,7 @@ fn in_its_own_place() {
     let (mut room, mut rng, mut octets) = (room("in-place"), Prng::new(96), 0);
     for (law, size) in [(0, 900), (1, WINDOW + 5), (0, 400_000), (1, MOST)] {
         let stream = filled(size, &mut rng);
-        let wanted = unpack_wanted(&stream, law, 127);
+        let wanted = unpack_wanted(&stream, law, READ_WITH);
         room.put("own", &stream);
         let ran = room.run("unpack", &format!("{} own own", law_words(law).0), &[]);
         ran.ends(Stop::new(0, size, 0)).sums(wanted.frames, wanted.sound.len(), size).writes(&[]);
@@ -242,7 +244,7 @@ fn a_small_stack() {
     let (mut room, mut rng) = (room("stack"), Prng::new(97));
     let last = Some(format!("stop=0 at={MOST} tool=0 bit=0"));
     let stream = filled(MOST, &mut rng);
-    let sound = unpack_wanted(&stream, 1, 127).sound;
+    let sound = unpack_wanted(&stream, 1, READ_WITH).sound;
     room.put("a.lcm", &stream);
     room.put("a.g7110", &[&second::recording::heading(1)[..], &stream].concat());
     room.put("master", &sound);

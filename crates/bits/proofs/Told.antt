@@ -1,7 +1,6 @@
 -- What a reader's answer tells a caller, once it is known which of the two it is.
 use Prim.Native.Nat.{ℕ, _≤_}
 use mathlib.Core.Path.{_≡_, sym, _∙_, ap}
-use native.Mathlib.Omega.{arith}
 use Rattle.rules.specs.declared.Refusal.{Refusal}
 use Rattle.rules.specs.Reading.{Read, whole, refuse}
 use Rattle.bits.specs.declared.Outcome.{Outcome}

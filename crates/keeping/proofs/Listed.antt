@@ -1,12 +1,11 @@
 -- Greetings with their notes as lines list them: what "none is bad" and "samples and marks that the walk gives" say of them (`listed-good`,
 -- `listed-true`), and back for those that a table holds (`good-listing`, `true-listing`).
 use Prim.Native.Nat.{ℕ, suc}
-use mathlib.Core.Path.{_≡_, refl, sym, ap, subst, _∙_}
+use mathlib.Core.Path.{_≡_, refl, ap, subst}
 use mathlib.Core.List.{List, [], _∷_}
 use mathlib.Core.Bool.{Bool, true, false, cond}
 use native.Mathlib.Omega.{arith}
 use lib.ListN.{length}
-use lib.Dec.{eqb}
 use borrow.Author.Tests.{eq-eqb}
 use Rattle.rows.specs.declared.Row.{Row}
 use Rattle.rows.specs.Rows.{greeting, contents}

@@ -1,11 +1,11 @@
 -- The digits of a number, found from the last one: `rest` is still to be spelled, its last digit at place `from` of 20 octets.
 use Prim.Native.Nat.{ℕ, zero, suc, _+_, _*_, _-_, _^_, _/_, _%_, _≤_, _<_}
-use mathlib.Core.Path.{_≡_, refl, sym, ap, _∙_}
+use mathlib.Core.Path.{_≡_, sym, ap, _∙_}
 use mathlib.Core.List.{List, [], _∷_}
 use native.Mathlib.Omega.{arith}
 use mathlib.Core.Bool.{Bool, true, false, cond}
 use lib.Dec.{ltb}
-use lib.ListN.{length, take, drop, set, replicate, length-set, length-drop}
+use lib.ListN.{length, take, drop, set, length-set, length-drop}
 use native.Mathlib.Nat.{pow-suc}
 use lib.Seq.{set-split, drop-at, length-take-le, take-all}
 use borrow.Author.Tests.{lt-ltb, le-ltb}

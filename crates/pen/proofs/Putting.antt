@@ -16,13 +16,15 @@ use Rattle.rules.proofs.Words.{lowBits-split, lowBits-mod, lowBits-join}
 use Rattle.pen.proofs.Words.{octetsOf, bitsOf-word}
 
 pub stored : (o : List ℕ) (at w : ℕ) → at + 4 ≤ length o
-    → Stores o at w (set (set (set (set o at (w / 2 ^ 24 % 256)) (at + 1) (w / 2 ^ 16 % 256)) (at + 2) (w / 2 ^ 8 % 256)) (at + 3) (w % 256))
+    → Stores o at w (set (set (set (set o at (w / 2 ^ 24 % 256)) (at + 1) (w / 2 ^ 16 % 256)) (at + 2) (w / 2 ^ 8 % 256))
+    (at + 3) (w % 256))
 stored o at w h =
     let e = sets-eq (octetsOf w) o at h in
     let i₁ : at + 1 ≡ suc at = omega arith in
     let i₂ : at + 2 ≡ suc (suc at) = omega arith in
     let i₃ : at + 3 ≡ suc (suc (suc at)) = omega arith in
-    let k : length (take at o ++ octetsOf w) ≡ at + 4 = length-append (take at o) (octetsOf w) ∙ ap (λ (n : ℕ). n + 4) (length-take-le at o (omega arith)) in
+    let k : length (take at o ++ octetsOf w) ≡ at + 4 = length-append (take at o) (octetsOf w)
+    ∙ ap (λ (n : ℕ). n + 4) (length-take-le at o (omega arith)) in
     record {
       says = rw (i₁, i₂, i₃, e, take-at (take at o ++ octetsOf w) (drop (at + 4) o) (at + 4) k, bitsOf-append, bitsOf-word);
       rest = rw (i₁, i₂, i₃, e, drop-at (take at o ++ octetsOf w) (drop (at + 4) o) (at + 4) k);
@@ -108,6 +110,7 @@ puts-as {o} {o′} {p} {p′} f e = rw e at f
 pub able-as : {o : List ℕ} {p : Pen} {m k : ℕ} → Able o p m → k ≤ m → Able o p k
 able-as a h = record { held = a .held; word = a .word; room = omega (arith, a .room) }
 
-pub able-then : {o o′ bits : List ℕ} {p p′ : Pen} {m : ℕ} (k : ℕ) → Able o p m → Puts o p bits o′ p′ → length o′ ≡ length o → length bits + k ≤ m → Able o′ p′ k
+pub able-then : {o o′ bits : List ℕ} {p p′ : Pen} {m : ℕ} (k : ℕ) → Able o p m → Puts o p bits o′ p′ → length o′ ≡ length o
+    → length bits + k ≤ m → Able o′ p′ k
 able-then k a put size h =
     record { held = put .held; word = put .word; room = omega (arith, a .room, put .place) }

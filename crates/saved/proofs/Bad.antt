@@ -1,4 +1,5 @@
--- Greetings in cells judged one by one, in the code's steps; and that they are the greetings of the text (`bad-celled`, `notes-celled`); notes that are compared (`note-same`).
+-- Greetings in cells judged one by one, in the code's steps; and that they are the greetings of the text (`bad-celled`, `notes-celled`);
+-- notes that are compared (`note-same`).
 use Prim.Native.Nat.{ℕ, zero, suc, _+_, _*_, _-_, _≤_, _<_}
 use mathlib.Core.Path.{_≡_, refl, sym, ap, _∙_}
 use mathlib.Core.List.{List, [], _∷_, _++_}
@@ -93,7 +94,8 @@ notes-celled b [] rest e = refl
 notes-celled b (x ∷ xs) rest e =
     let g = noteOf (x .note .law) (greeting b (x .row)) in
     let o = both (sameNote (x .note) g) (allTrue b xs) e in
-    ap (λ (n : Note). n ∷ notesListed xs) (note-same (x .note) g refl (o .0)) ∙ ap (λ (l : List Note). g ∷ l) (notes-celled b xs rest (o .1))
+    ap (λ (n : Note). n ∷ notesListed xs) (note-same (x .note) g refl (o .0))
+    ∙ ap (λ (l : List Note). g ∷ l) (notes-celled b xs rest (o .1))
 
 -- R-6's lines: law 1, and what that walk gives
 pub rows-early : (b : List ℕ) (rows : List Row) → rowsListed (early b rows) ≡ rows

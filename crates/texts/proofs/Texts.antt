@@ -58,12 +58,16 @@ module _ (first second out : List ℕ) where
 
   pub lay-parts : (o p : List ℕ) → o ≡ take (length first) first ++ drop (length first) out
       → p ≡ take (length second) second ++ drop (length second) (take (length o - length first) (drop (length first) o))
-      → take (length first) o ++ (p ++ drop (length o - length first) (drop (length first) o)) ≡ first ++ (second ++ drop (length first + length second) out)
+      → take (length first) o ++ (p ++ drop (length o - length first) (drop (length first) o)) ≡ first
+      ++ (second ++ drop (length first + length second) out)
   lay-parts o p e f =
       let q : o ≡ first ++ drop (length first) out = e ∙ ap (λ (l : List ℕ). l ++ drop (length first) out) (take-length first) in
-      let front : take (length first) o ≡ first = ap (take (length first)) q ∙ take-at first (drop (length first) out) (length first) refl in
-      let back : drop (length first) o ≡ drop (length first) out = ap (drop (length first)) q ∙ drop-at first (drop (length first) out) (length first) refl in
-      let none : drop (length o - length first) (drop (length first) o) ≡ [] = drop-of-length-le (drop (length first) o) {i = length o - length first} (omega (arith, length-drop (length first) o)) in
+      let front : take (length first) o ≡ first = ap (take (length first)) q
+      ∙ take-at first (drop (length first) out) (length first) refl in
+      let back : drop (length first) o ≡ drop (length first) out = ap (drop (length first)) q
+      ∙ drop-at first (drop (length first) out) (length first) refl in
+      let none : drop (length o - length first) (drop (length first) o) ≡ [] = drop-of-length-le (drop (length first) o)
+      {i = length o - length first} (omega (arith, length-drop (length first) o)) in
       rw (none, append-nil, f, from-on o (length first), take-length, front, back, drop-drop)
 
   pub lay-whole : {n : ℕ} {after : List ℕ} → length first + length second ≤ length out → n ≡ length first + length second
@@ -73,7 +77,8 @@ module _ (first second out : List ℕ) where
       let t : length text ≤ length out = omega (arith, k) in
       record {
         count = rw (le-leb (length text) (length out) t) (e ∙ sym k);
-        lent = rw (le-leb (length text) (length out) t) (l ∙ sym (append-assoc first second (drop n out)) ∙ ap (λ (m : ℕ). text ++ drop m out) (e ∙ sym k));
+        lent = rw (le-leb (length text) (length out) t)
+            (l ∙ sym (append-assoc first second (drop n out)) ∙ ap (λ (m : ℕ). text ++ drop m out) (e ∙ sym k));
       }
 
   pub lay-none : length out < length first + length second → Laid text out out 0
