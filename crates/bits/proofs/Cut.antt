@@ -1,13 +1,13 @@
 -- A number whose bits are not all there is SHORT at the first that is missing.
 use Prim.Native.Nat.{ℕ, zero, suc, _+_, _*_, _-_, _/_, _≤_, _<_, max}
-use mathlib.Core.Path.{_≡_, _∙_, ap}
+use mathlib.Core.Path.{_≡_}
 use mathlib.Core.List.{List}
 use native.Mathlib.Omega.{arith}
 use native.Mathlib.Decide.{decLe}
-use lib.ListN.{length, getD}
+use lib.ListN.{length}
 use Rattle.rules.specs.declared.Refusal.the-variants.{Short}
 use Rattle.rules.specs.Bits.{bitsOf}
-use Rattle.rules.specs.Reading.{Read, whole, refuse, bit, numberFrom}
+use Rattle.rules.specs.Reading.{refuse, numberFrom}
 use Rattle.bits.proofs.OneBit.{bit-there, bit-missing}
 
 cut-step : (s : List ℕ) (v n at : ℕ) → length s < (at + suc n + 7) / 8 → Dec (length s ≤ at / 8)

@@ -1,15 +1,16 @@
--- A word of bits from a place on: opened over octets (holds-opened), moved on (holds-on), and the Rice code at its start (rice-held, fits-run).
-use Prim.Native.Nat.{ℕ, zero, suc, _+_, _*_, _-_, _^_, _/_, _%_, _≤_, _<_}
-use mathlib.Core.Path.{_≡_, refl, sym, _∙_, ap}
+-- A word of bits from a place on: opened over octets (holds-opened), moved on (holds-on), and the Rice code at its start (rice-held,
+-- fits-run).
+use Prim.Native.Nat.{ℕ, suc, _+_, _*_, _-_, _^_, _/_, _%_, _≤_, _<_}
+use mathlib.Core.Path.{_≡_, sym, _∙_, ap}
 use mathlib.Core.List.{List}
 use native.Mathlib.Omega.{arith}
-use native.Mathlib.Nat.{mul-le-mul, mod-lt, mod-eq-of-lt, add-zero, sub-zero, div-lt-iff-lt-mul, le-div-iff-mul-le, pow-suc}
+use native.Mathlib.Nat.{mul-le-mul, mod-lt, mod-eq-of-lt, add-zero, sub-zero, le-div-iff-mul-le, pow-suc}
 use lib.ListN.{length, getD}
 use lib.Arith.{digits-mod}
 use lib.Count.{leadingZeros}
-use lib.Pow.{pow-mono, pow-pos, pow-add, shr-lt, shl-shr, shr-shr, field, mod-mod-pow}
+use lib.Pow.{pow-pos, pow-add, shr-lt, shl-shr, shr-shr, field, mod-mod-pow}
 use Rattle.rules.specs.Bits.{bitsOf}
-use Rattle.rules.specs.Reading.{Read, whole, refuse, numberFrom}
+use Rattle.rules.specs.Reading.{whole}
 use Rattle.rules.specs.Runs.{zerosFrom, rice}
 use Rattle.bits.specs.Windows.{Ahead, Holds, runIn}
 use Rattle.bits.proofs.Leading.{Lead, lead, lead-zero, lead-one}
@@ -24,15 +25,25 @@ shift-bit w j i h =
     let r = 64 - suc (j + i) in
     let e : 64 ≡ i + 1 + a = omega arith in
     let g : a ≡ j + r = omega arith in
-    let f : w * 2 ^ j % 2 ^ 64 / 2 ^ a ≡ w * 2 ^ j / 2 ^ a % 2 ^ (i + 1) = ap (λ (x : ℕ). w * 2 ^ j % 2 ^ x / 2 ^ a) e ∙ field (w * 2 ^ j) (i + 1) a in
-    let d : w * 2 ^ j / 2 ^ a ≡ w / 2 ^ r = ap (λ (x : ℕ). w * 2 ^ j / 2 ^ x) g ∙ sym (shr-shr (w * 2 ^ j) j r) ∙ ap (λ (x : ℕ). x / 2 ^ r) (shl-shr w j) in
+    let f : w * 2 ^ j % 2 ^ 64 / 2 ^ a ≡ w * 2 ^ j / 2 ^ a % 2 ^ (i + 1) = ap (λ (x : ℕ). w * 2 ^ j % 2 ^ x / 2 ^ a) e
+    ∙ field (w * 2 ^ j) (i + 1) a in
+    let d : w * 2 ^ j / 2 ^ a ≡ w / 2 ^ r = ap (λ (x : ℕ). w * 2 ^ j / 2 ^ x) g ∙ sym (shr-shr (w * 2 ^ j) j r)
+    ∙ ap (λ (x : ℕ). x / 2 ^ r) (shl-shr w j) in
     ap (λ (x : ℕ). x % 2) f ∙ mod-mod-pow (w * 2 ^ j / 2 ^ a) i 1 ∙ ap (λ (x : ℕ). x % 2) d
 
 pub holds-none : (s : List ℕ) (at n : ℕ) {w good : ℕ} → w ≡ 0 → good ≡ 0 → Holds s at n w good
-holds-none s at n {w} {good} z e = record { same = λ j h. absurd (omega arith); there = omega arith; small = omega arith; few = omega arith; long = λ h. absurd (omega arith) }
+holds-none s at n {w} {good} z e =
+    record {
+      same = λ j h. absurd (omega arith);
+      there = omega arith;
+      small = omega arith;
+      few = omega arith;
+      long = λ h. absurd (omega arith);
+    }
 
 -- eight octets, shifted up to a place among them
-pub holds-opened : (s : List ℕ) (at n from skip : ℕ) {w good : ℕ} → Ahead 64 (bitsOf s) (8 * from) w → at ≡ 8 * from + skip → skip < 64 → good ≤ 64 - skip
+pub holds-opened : (s : List ℕ) (at n from skip : ℕ) {w good : ℕ} → Ahead 64 (bitsOf s) (8 * from) w → at ≡ 8 * from + skip
+    → skip < 64 → good ≤ 64 - skip
     → good ≤ 8 * length s - at → 32 ≤ n → Holds s at n (w * 2 ^ skip % 2 ^ 64) good
 holds-opened s at n from skip {w} {good} a e h g t b =
     record {
@@ -45,7 +56,8 @@ holds-opened s at n from skip {w} {good} a e h g t b =
       long = λ l. b;
     }
 
-pub holds-on : (s : List ℕ) (at n size : ℕ) {w good : ℕ} → Holds s at n w good → size ≤ good → size < 64 → Holds s (at + size) n (w * 2 ^ size % 2 ^ 64) (good - size)
+pub holds-on : (s : List ℕ) (at n size : ℕ) {w good : ℕ} → Holds s at n w good → size ≤ good → size < 64
+    → Holds s (at + size) n (w * 2 ^ size % 2 ^ 64) (good - size)
 holds-on s at n size {w} {good} t h k =
     let a = t .there in
     let b = t .few in
@@ -65,7 +77,8 @@ lead-word w b h =
     let z = leadingZeros 32 (w / 2 ^ 32) in
     let l = lead 32 (w / 2 ^ 32) (omega arith) in
     let e : 2 ^ (64 - z) ≡ 2 ^ (32 - z) * 2 ^ 32 = let f : 64 - z ≡ 32 - z + 32 = omega arith in rw f (pow-add 2 (32 - z) 32) in
-    let g : 2 ^ (64 - suc z) ≡ 2 ^ (32 - suc z) * 2 ^ 32 = let f : 64 - suc z ≡ 32 - suc z + 32 = omega arith in rw f (pow-add 2 (32 - suc z) 32) in
+    let g : 2 ^ (64 - suc z) ≡ 2 ^ (32 - suc z) * 2 ^ 32 = let f : 64 - suc z ≡ 32 - suc z + 32 = omega arith in
+    rw f (pow-add 2 (32 - suc z) 32) in
     record { below = omega (arith, l .below); most = omega arith; above = λ k. omega (arith, l .above h) }
 
 -- what stands from the one on
@@ -83,7 +96,8 @@ from-one {w} {z} s l h m =
     record { least = le-div-iff-mul-le (pow-pos k) .1 a; most = rw (← (pow-suc 2 s)) (shr-lt (suc s) k (rw e at (l .below))) }
 
 -- the run of a code that stands whole at the word's start
-pub rice-held : (o : List ℕ) (at n s : ℕ) {w good z : ℕ} → Holds o at n w good → z ≡ leadingZeros 32 (w / 2 ^ 32) → z < 32 → s ≤ 9 → z + (s + 1) ≤ good
+pub rice-held : (o : List ℕ) (at n s : ℕ) {w good z : ℕ} → Holds o at n w good → z ≡ leadingZeros 32 (w / 2 ^ 32) → z < 32
+    → s ≤ 9 → z + (s + 1) ≤ good
     → rice n s (bitsOf o) at ≡ whole (runIn w z s) (at + (z + (s + 1)))
 unfolding rice
 rice-held o at n s {w} {good} {z} t c h m g =
@@ -113,7 +127,8 @@ rice-held o at n s {w} {good} {z} t c h m g =
       same = λ j k.
           let e : 64 - (z + (s + 1)) + (s - suc j) ≡ 64 - suc (z + 1 + j) = omega arith in
           let f : at + (z + 1 + j) ≡ at + z + 1 + j = omega arith in
-          cut-bit w (64 - (z + (s + 1))) s j k ∙ ap (λ (y : ℕ). w / 2 ^ y % 2) e ∙ t .same (z + 1 + j) (omega arith) ∙ ap (λ (y : ℕ). getD b y 0) f;
+          cut-bit w (64 - (z + (s + 1))) s j k ∙ ap (λ (y : ℕ). w / 2 ^ y % 2) e ∙ t .same (z + 1 + j) (omega arith)
+          ∙ ap (λ (y : ℕ). getD b y 0) f;
       small = mod-lt x (pow-pos s);
     }
     in

@@ -1,10 +1,10 @@
 -- The leading zeros of a number, and its bits: those before the first one are 0, and the next is 1 (lead-zero, lead-one).
-use Prim.Native.Nat.{ℕ, zero, suc, _+_, _*_, _-_, _^_, _/_, _%_, _≤_, _<_}
-use mathlib.Core.Path.{_≡_, refl, sym, _∙_, ap}
+use Prim.Native.Nat.{ℕ, suc, _+_, _*_, _-_, _^_, _/_, _%_, _≤_, _<_}
+use mathlib.Core.Path.{_≡_}
 use native.Mathlib.Omega.{arith}
-use native.Mathlib.Nat.{div-eq-of-lt, div-lt-iff-lt-mul, le-div-iff-mul-le, pow-suc}
+use native.Mathlib.Nat.{div-eq-of-lt, le-div-iff-mul-le, pow-suc}
 use lib.Count.{leadingZeros, leading-length, leading-le}
-use lib.Pow.{pow-mono, pow-pos, pow-add, shr-lt}
+use lib.Pow.{pow-mono, pow-pos, shr-lt}
 
 -- w has m bits, and z of them are zeros before its first one, if it has any
 pub record Lead (m w z : ℕ) : Type 0 where

@@ -7,7 +7,7 @@ use lib.ListN.{length, getD}
 use borrow.Author.Tests.{lt-ltb, le-ltb}
 use Rattle.rules.specs.declared.Refusal.the-variants.{Short}
 use Rattle.rules.specs.Bits.{bitsOf}
-use Rattle.rules.specs.Reading.{Read, whole, refuse, bit}
+use Rattle.rules.specs.Reading.{whole, refuse, bit}
 use Rattle.rules.proofs.Octets.{length-bitsOf}
 
 pub bit-there : (s : List ℕ) (at : ℕ) → at / 8 < length s → bit (bitsOf s) at ≡ whole (getD (bitsOf s) at 0) (at + 1)

@@ -1,5 +1,5 @@
 -- Shifts by at most 32 places of a one, and by at most 9 of a quotient, lose nothing.
-use Prim.Native.Nat.{ℕ, _+_, _*_, _-_, _^_, _%_, _≤_, _<_}
+use Prim.Native.Nat.{ℕ, _+_, _*_, _-_, _^_, _%_, _≤_}
 use mathlib.Core.Path.{_≡_}
 use native.Mathlib.Omega.{arith}
 use native.Mathlib.Nat.{mul-le-mul, mod-eq-of-lt, mod-lt}
@@ -9,7 +9,8 @@ pub power-small : (s : ℕ) → s ≤ 9 → 2 ^ s ≤ 512
 power-small s m = pow-mono {j = 9} m
 
 pub power-whole : (n : ℕ) → n ≤ 32 → 1 * 2 ^ n % 2 ^ 64 ≡ 2 ^ n
-power-whole n m = let b : 2 ^ n ≤ 2 ^ 32 = pow-mono {j = 32} m in let e : 1 * 2 ^ n ≡ 2 ^ n = omega arith in rw e (mod-eq-of-lt (omega arith))
+power-whole n m = let b : 2 ^ n ≤ 2 ^ 32 = pow-mono {j = 32} m in let e : 1 * 2 ^ n ≡ 2 ^ n = omega arith in
+    rw e (mod-eq-of-lt (omega arith))
 
 pub low-small : (v n : ℕ) → v % 2 ^ n ≤ 2 ^ n - 1
 low-small v n = omega (arith, mod-lt v (pow-pos n))

@@ -1,7 +1,6 @@
 -- What a reader's answer tells a caller, once it is known which of the two it is.
 use Prim.Native.Nat.{ℕ, _≤_}
 use mathlib.Core.Path.{_≡_, sym, _∙_, ap}
-use native.Mathlib.Omega.{arith}
 use Rattle.rules.specs.declared.Refusal.{Refusal}
 use Rattle.rules.specs.Reading.{Read, whole, refuse}
 use Rattle.bits.specs.declared.Outcome.{Outcome}
@@ -24,7 +23,3 @@ module _ {found : Read ℕ} {most far : ℕ} {r : Outcome} (t : Reads found most
 
   pub refused : {w : Refusal} {at : ℕ} → r ≡ Refused w at → found ≡ refuse w at
   refused e = sym (t .says) ∙ ap asRead e
-
--- the same answer, told of an equal definition, and with more room
-pub reads-as : {found other : Read ℕ} {most near far : ℕ} {r : Outcome} → Reads other most near r → found ≡ other → near ≤ far → Reads found most far r
-reads-as t e k = record { says = t .says ∙ sym e; value = t .value; next = let n = t .next in omega arith }

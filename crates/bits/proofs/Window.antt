@@ -12,7 +12,7 @@ use lib.Seq.{drop-cons, take-at, length-take-le, getD-take, getD-drop, ext-getD}
 use lib.Dec.{lit<}
 use lib.Pow.{pow-pos, pow-add, shr-shr, field, mod-mod-pow}
 use Rattle.rules.specs.Bits.{lowBits, bitsOf, valueFrom}
-use Rattle.rules.specs.Reading.{Read, whole, refuse, bit, numberFrom}
+use Rattle.rules.specs.Reading.{whole, numberFrom}
 use Rattle.rules.proofs.Words.{lowBits-join}
 use Rattle.rules.proofs.Octets.{Below, none, more, length-lowBits, length-bitsOf, lowBits-at, bitsOf-at, bitsOf-drop, value-lowBits}
 use Rattle.bits.specs.Windows.{Ahead}
@@ -111,7 +111,8 @@ ahead-five s i p q r t u octet =
     let f : _ = zero-add (getD s (i + 0) 0) ∙ ap (λ (k : ℕ). getD s k 0) (add-zero i) in
     rw (p, q, r, t, u) (rw f at (ahead-octets s i 5 octet))
 
-pub ahead-eight : (s : List ℕ) (i : ℕ) {a b c d e f g h : ℕ} → a ≡ getD s i 0 → b ≡ getD s (i + 1) 0 → c ≡ getD s (i + 2) 0 → d ≡ getD s (i + 3) 0
+pub ahead-eight : (s : List ℕ) (i : ℕ) {a b c d e f g h : ℕ} → a ≡ getD s i 0 → b ≡ getD s (i + 1) 0 → c ≡ getD s (i + 2) 0
+    → d ≡ getD s (i + 3) 0
     → e ≡ getD s (i + 4) 0 → f ≡ getD s (i + 5) 0 → g ≡ getD s (i + 6) 0 → h ≡ getD s (i + 7) 0 → ((k : ℕ) → getD s k 0 < 256)
     → Ahead 64 (bitsOf s) (8 * i) (256 * (256 * (256 * (256 * (256 * (256 * (256 * a + b) + c) + d) + e) + f) + g) + h)
 unfolding sideBySide octetsAt
@@ -124,11 +125,13 @@ pub cut-bit : (w k n j : ℕ) → j < n → w / 2 ^ k % 2 ^ n / 2 ^ (n - suc j) 
 cut-bit w k n j h =
     let a = n - suc j in
     let e : n ≡ j + 1 + a = omega arith in
-    let f : w / 2 ^ k % 2 ^ n / 2 ^ a ≡ w / 2 ^ k / 2 ^ a % 2 ^ (j + 1) = ap (λ (x : ℕ). w / 2 ^ k % 2 ^ x / 2 ^ a) e ∙ field (w / 2 ^ k) (j + 1) a in
+    let f : w / 2 ^ k % 2 ^ n / 2 ^ a ≡ w / 2 ^ k / 2 ^ a % 2 ^ (j + 1) = ap (λ (x : ℕ). w / 2 ^ k % 2 ^ x / 2 ^ a) e
+    ∙ field (w / 2 ^ k) (j + 1) a in
     ap (λ (x : ℕ). x % 2) f ∙ mod-mod-pow (w / 2 ^ k / 2 ^ a) j 1 ∙ ap (λ (x : ℕ). x % 2) (shr-shr w k a)
 
 -- n bits from the r-th of a window on
-pub ahead-part : {m : ℕ} {bits : List ℕ} {at w : ℕ} (r n : ℕ) → Ahead m bits at w → r + n ≤ m → Ahead n bits (at + r) (w / 2 ^ (m - (r + n)) % 2 ^ n)
+pub ahead-part : {m : ℕ} {bits : List ℕ} {at w : ℕ} (r n : ℕ) → Ahead m bits at w → r + n ≤ m
+    → Ahead n bits (at + r) (w / 2 ^ (m - (r + n)) % 2 ^ n)
 ahead-part {m} {bits} {at} {w} r n t h =
     record {
       same = λ j l.
@@ -139,7 +142,8 @@ ahead-part {m} {bits} {at} {w} r n t h =
     }
 
 -- the number of n bits that are all there is the window of them
-pub number-ahead : (s : List ℕ) (at n v : ℕ) → Ahead n (bitsOf s) at v → at + n ≤ 8 * length s → numberFrom 0 n (bitsOf s) at ≡ whole v (at + n)
+pub number-ahead : (s : List ℕ) (at n v : ℕ) → Ahead n (bitsOf s) at v → at + n ≤ 8 * length s
+    → numberFrom 0 n (bitsOf s) at ≡ whole v (at + n)
 number-ahead s at n v t h =
     let b = bitsOf s in
     let l : length (take n (drop at b)) ≡ n = length-take-le n (drop at b) (rw (length-drop, length-bitsOf) (omega arith)) in
@@ -161,6 +165,7 @@ number-octet s at r h b =
     let d : drop at (bitsOf s) ≡ lowBits 8 x ++ bitsOf (drop (suc (at / 8)) s) =
     ap (λ (i : ℕ). drop i (bitsOf s)) e ∙ sym (bitsOf-drop (at / 8) s) ∙ ap bitsOf (drop-cons s (at / 8) 0 h)
     in
-    let t : take 8 (drop at (bitsOf s)) ≡ lowBits 8 x = ap (λ (l : List ℕ). take 8 l) d ∙ take-at (lowBits 8 x) (bitsOf (drop (suc (at / 8)) s)) 8 (length-lowBits 8 x) in
+    let t : take 8 (drop at (bitsOf s)) ≡ lowBits 8 x = ap (λ (l : List ℕ). take 8 l) d
+    ∙ take-at (lowBits 8 x) (bitsOf (drop (suc (at / 8)) s)) 8 (length-lowBits 8 x) in
     number-there s 0 8 at (omega arith) ∙ ap (λ (l : List ℕ). whole (valueFrom 0 l) (at + 8)) t
     ∙ ap (λ (v : ℕ). whole v (at + 8)) (value-lowBits 0 8 x ∙ omega arith)

@@ -1,6 +1,6 @@
 -- The zeros of a code that begins at `at`, after k of them are read: one more, several more (zeros-skip), and how they end.
 use Prim.Native.Nat.{ℕ, zero, suc, _+_, _*_, _-_, _/_, _≤_, _<_, max}
-use mathlib.Core.Path.{_≡_, refl, sym, _∙_, ap}
+use mathlib.Core.Path.{_≡_, sym, _∙_, ap}
 use mathlib.Core.List.{List}
 use native.Mathlib.Omega.{arith}
 use native.Mathlib.Nat.{add-zero}
@@ -9,7 +9,7 @@ use lib.ListN.{length, getD, List·getD-eq-default}
 use borrow.Author.Tests.{eq-eqb, ne-eqb}
 use Rattle.rules.specs.declared.Refusal.the-variants.{Short, Run}
 use Rattle.rules.specs.Bits.{bitsOf}
-use Rattle.rules.specs.Reading.{Read, whole, refuse, bit}
+use Rattle.rules.specs.Reading.{whole, refuse}
 use Rattle.rules.specs.Runs.{zerosFrom}
 use Rattle.rules.proofs.Octets.{length-bitsOf}
 use Rattle.bits.specs.Windows.{Ahead}
@@ -39,7 +39,8 @@ module _ (s : List ℕ) (at n k : ℕ) where
         rw (e, bit-there s (at + k) m, ne-eqb _ 1 o, f)
 
 -- j zeros more, all there
-pub zeros-skip : (s : List ℕ) (at n k j : ℕ) → k + j ≤ n + 1 → at + (k + j) ≤ 8 * length s → ((i : ℕ) → i < j → getD (bitsOf s) (at + k + i) 0 ≡ 0)
+pub zeros-skip : (s : List ℕ) (at n k j : ℕ) → k + j ≤ n + 1 → at + (k + j) ≤ 8 * length s
+    → ((i : ℕ) → i < j → getD (bitsOf s) (at + k + i) 0 ≡ 0)
     → zerosFrom at k (n + 1 - k) (bitsOf s) (at + k) ≡ zerosFrom at (k + j) (n + 1 - (k + j)) (bitsOf s) (at + (k + j))
 zeros-skip s at n k zero h m z = rw (add-zero k)
 zeros-skip s at n k (suc j) h m z =
@@ -82,7 +83,8 @@ module _ (s : List ℕ) (at n k : ℕ) {w z : ℕ} (a : Ahead 32 (bitsOf s) (at 
     pub window-run : k ≤ n → n < k + z → zerosFrom at k (n + 1 - k) (bitsOf s) (at + k) ≡ refuse Run at
     window-run m p =
         let t = one-there s (at + (k + z)) one-after in
-        zeros-skip s at n k (n + 1 - k) (omega arith) (omega arith) (λ i g. none-before i (omega arith)) ∙ zeros-run s at n (k + (n + 1 - k)) (omega arith)
+        zeros-skip s at n k (n + 1 - k) (omega arith) (omega arith) (λ i g. none-before i (omega arith))
+        ∙ zeros-run s at n (k + (n + 1 - k)) (omega arith)
 
   -- no one in the window
   module _ (h : 32 ≤ z) (m : k ≤ n) where
@@ -105,7 +107,8 @@ module _ (s : List ℕ) (at n k : ℕ) {w z : ℕ} (a : Ahead 32 (bitsOf s) (at 
 
     pub window-all-run : n < k + 32 → (at + n) / 8 < length s → zerosFrom at k (n + 1 - k) (bitsOf s) (at + k) ≡ refuse Run at
     window-all-run p t =
-        zeros-skip s at n k (n + 1 - k) (omega arith) (omega arith) (λ i g. none-before i (omega arith)) ∙ zeros-run s at n (k + (n + 1 - k)) (omega arith)
+        zeros-skip s at n k (n + 1 - k) (omega arith) (omega arith) (λ i g. none-before i (omega arith))
+        ∙ zeros-run s at n (k + (n + 1 - k)) (omega arith)
 
     pub window-more : k + 32 ≤ n → (at + k + 31) / 8 < length s
         → zerosFrom at k (n + 1 - k) (bitsOf s) (at + k) ≡ zerosFrom at (k + 32) (n + 1 - (k + 32)) (bitsOf s) (at + (k + 32))

@@ -46,7 +46,8 @@ module _ {l old : List ℕ} {i : ℕ} {new : List ℕ} (p : Poured l old i new) 
       rw (e, s) (record { end = refl; next = k; samples = (p .so-far ∙ rw (t, q), p .fits) })
 
 -- a list put in at the start
-pub fills-put : {l old new : List ℕ} → Put old 0 l new → {found : Read (List ℕ)} {far n next : ℕ} → found ≡ whole l next → length l ≡ n → n ≤ 320 → next ≤ far
+pub fills-put : {l old new : List ℕ} → Put old 0 l new → {found : Read (List ℕ)} {far n next : ℕ} → found ≡ whole l next
+    → length l ≡ n → n ≤ 320 → next ≤ far
     → FillsBody found far old new (Got n next)
 fills-put {l} {old} p {next = next} e s h k =
     rw e (record { end = ap (λ (x : ℕ). Got x next) (sym s); next = k; samples = (p .made ∙ rw zero-add, rw s h) })
@@ -56,10 +57,12 @@ pub fills-refused : {found : Read (List ℕ)} {far : ℕ} {old new : List ℕ} {
     → FillsBody found far old new (Refused w at)
 fills-refused e h = rw e (record { end = refl; next = zero-le; samples = h })
 
-pub fills-as : {found other : Read (List ℕ)} {near far : ℕ} {old new : List ℕ} {r : Outcome} → FillsBody other near old new r → found ≡ other → near ≤ far
+pub fills-as : {found other : Read (List ℕ)} {near far : ℕ} {old new : List ℕ} {r : Outcome} → FillsBody other near old new r
+    → found ≡ other → near ≤ far
     → FillsBody found far old new r
 fills-as {far = far} {old = old} {new = new} {r = r} t e k =
-    subst (λ (m : Read (List ℕ)). FillsBody m far old new r) (sym e) (record { end = t .end; next = let n = t .next in omega arith; samples = t .samples })
+    subst (λ (m : Read (List ℕ)). FillsBody m far old new r) (sym e)
+    (record { end = t .end; next = let n = t .next in omega arith; samples = t .samples })
 
 -- n octets from one on
 pub part-length : (s : List ℕ) (from n : ℕ) → from + n ≤ length s → length (take n (drop from s)) ≡ n

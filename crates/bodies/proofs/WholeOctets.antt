@@ -25,7 +25,8 @@ module _ (s : List ℕ) (b : (i : ℕ) → getD s i 0 < 256) where
       rw (number-octet s at z (omega arith) (b (at / 8)), drop-cons s (at / 8) 0 (omega arith)) (rw (e, f, append-assoc) at m)
 
   cut-step : (n : ℕ) (done : List ℕ) (at : ℕ) → at % 8 ≡ 0 → length s < at / 8 + suc n → Dec (length s ≤ at / 8)
-      → ((done : List ℕ) (at : ℕ) → 0 < n → at % 8 ≡ 0 → length s < at / 8 + n → octetsAfter done n (bitsOf s) at ≡ refuse Short (max at (8 * length s)))
+      → ((done : List ℕ) (at : ℕ) → 0 < n → at % 8 ≡ 0 → length s < at / 8 + n
+      → octetsAfter done n (bitsOf s) at ≡ refuse Short (max at (8 * length s)))
       → octetsAfter done (suc n) (bitsOf s) at ≡ refuse Short (max at (8 * length s))
   unfolding octetsAfter
   cut-step n done at z h (yes p) more = rw (number-cut s 0 8 at (omega arith) (omega arith))

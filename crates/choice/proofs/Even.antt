@@ -31,7 +31,8 @@ forms-more : (S v : ℕ) (vs : List ℕ) → length (riceForms S (v ∷ vs)) ≡
 unfolding riceForms
 forms-more S v vs = rw (length-append, length-riceForm)
 
--- Runs of the places that are not z, c common ones being open before them. With S = 1 a run v has 2 + v / 2 bits, and twice that is v + 3 or more.
+-- Runs of the places that are not z, c common ones being open before them. With S = 1 a run v has 2 + v / 2 bits, and twice that is v + 3
+-- or more.
 halves : (z : ℕ) (s : List ℕ) (c : ℕ) → c + 3 * length s ≤ 2 * length (riceForms 1 (runsOf c (marksOf z 0 1 s))) + 2 * countIs z s
 unfolding runsOf countOf
 halves z [] zero = omega arith
@@ -54,7 +55,8 @@ threes S z two (x ∷ s) c = step (eqb x z) (threes S z two s)
     step true h = rw (runs-common c (marksOf z 0 1 s)) (omega (arith, h (c + 1)))
     step false h = rw (runs-other c 0 (marksOf z 0 1 s), forms-more S c (runsOf 0 (marksOf z 0 1 s))) (omega (arith, h 0))
 
-module _ (mask : ℕ) (s : List ℕ) {n plus minus : ℕ} (size : length s ≡ n) (forties : n % 40 ≡ 0) (is-plus : plus ≡ countIs (plusZero mask) s)
+module _ (mask : ℕ) (s : List ℕ) {n plus minus : ℕ} (size : length s ≡ n) (forties : n % 40 ≡ 0)
+    (is-plus : plus ≡ countIs (plusZero mask) s)
     (is-minus : minus ≡ countIs (minusZero mask) s) (all : plus + minus ≡ n) where
   -- where neither zero is much more than half, Rice has more bits than there are samples
   half : (mark : ℕ) → minus < plus + 14 → plus < minus + 14 → 2 * countIs (zeroOf mask mark 0) s < n + 14
@@ -78,7 +80,8 @@ module _ (mask : ℕ) (s : List ℕ) {n plus minus : ℕ} (size : length s ≡ n
 
   -- so binary is taken
   pub binary-settled : (set : ℕ) {runs : List ℕ} {r : Zeros} {t : Bool} → mask < 128 → twoZeros mask s ≡ true → n ≤ 320
-      → t ≡ (holds set 5 && ltb minus (plus + 14) && ltb plus (minus + 14)) → t ≡ true → r .tool ≡ 5 → r .bits ≡ 8 + n → ZerosFor mask (choose mask set s measured) s r runs
+      → t ≡ (holds set 5 && ltb minus (plus + 14) && ltb plus (minus + 14)) → t ≡ true → r .tool ≡ 5 → r .bits ≡ 8 + n
+      → ZerosFor mask (choose mask set s measured) s r runs
   binary-settled set {runs} {r} seven zeros few told taken tool bits =
       let h = holds set 5 in
       let p = ltb minus (plus + 14) in
@@ -91,11 +94,19 @@ module _ (mask : ℕ) (s : List ℕ) {n plus minus : ℕ} (size : length s ≡ n
       let P : ℕ → Type 0 = λ t. octetsOfForm mask s 5 ≤ octetsOfForm mask s t in
       let one : P (choose mask set s []) = rw (← (uncompressed-chosen mask s size set few .bits)) (omega (arith, five)) in
       let rest : P (choose mask set s (7 ∷ 11 ∷ []))
-      = rw (passed mask s set 7 _ (past set 7 (zeros-unlocated mask seven s zeros)), passed mask s set 11 _ (past set 11 (zeros-unrowed mask seven s zeros))) one in
+      = rw (
+        passed mask s set 7 _ (past set 7 (zeros-unlocated mask seven s zeros)),
+        passed mask s set 11 _
+            (past set 11 (zeros-unrowed mask seven s zeros)),
+      ) one in
       let six : P 6 = omega (arith, five, more, rice-form mask s, forties) in
       let last : choose mask set s measured ≡ 5 = won mask s set 5 _ on (among mask s set P 6 _ six rest) in
       record {
-        chosen = record { tool = tool ∙ sym last; bits = bits ∙ five ∙ ap (λ (t : ℕ). length (formOf mask t s)) (sym last); small = omega (arith, bits) };
+        chosen = record {
+          tool = tool ∙ sym last;
+          bits = bits ∙ five ∙ ap (λ (t : ℕ). length (formOf mask t s)) (sym last);
+          small = omega (arith, bits);
+        };
         rice = λ e. absurd (omega (arith, e, last));
         kind = λ x y. tool;
       }

@@ -36,21 +36,25 @@ offers set t e = rw e (sym (both (holds set t)))
     both false = refl
 
 -- uncompressed, from which each choice goes on
-uncompressed-is : (mask set : ℕ) (s : List ℕ) {n : ℕ} {first : Choice} → length s ≡ n → n ≤ 320 → first ≡ record { tool = 1; bits = 8 + 8 * n } → ChosenIs mask set s [] first
+uncompressed-is : (mask set : ℕ) (s : List ℕ) {n : ℕ} {first : Choice} → length s ≡ n → n ≤ 320
+    → first ≡ record { tool = 1; bits = 8 + 8 * n } → ChosenIs mask set s [] first
 uncompressed-is mask set s size few e = rw e (uncompressed-chosen mask s size set few)
 
 -- a plan for another name of its tool
 pub zeros-as : {mask t u : ℕ} {s runs : List ℕ} {r : Zeros} → u ≡ t → ZerosFor mask t s r runs → ZerosFor mask u s r runs
 zeros-as e p = rw e p
 
-pub located-as : {mask t u last : ℕ} {s a b c : List ℕ} {r : Located} → u ≡ t → LocatedFor mask t last s r a b c → LocatedFor mask u last s r a b c
+pub located-as : {mask t u last : ℕ} {s a b c : List ℕ} {r : Located} → u ≡ t → LocatedFor mask t last s r a b c
+    → LocatedFor mask u last s r a b c
 located-as e p = rw e p
 
 -- a frame of the two zeros: uncompressed, then Rice, then binary
-pub zeros-planned : {mask set n : ℕ} {s runs : List ℕ} {rice : Zeros} {one six five : Choice} {h₆ h₅ : Bool} → mask < 128 → twoZeros mask s ≡ true → length s ≡ n → n ≤ 320
+pub zeros-planned : {mask set n : ℕ} {s runs : List ℕ} {rice : Zeros} {one six five : Choice} {h₆ h₅ : Bool} → mask < 128
+    → twoZeros mask s ≡ true → length s ≡ n → n ≤ 320
     → RiceFor mask set s rice runs → one ≡ record { tool = 1; bits = 8 + 8 * n } → h₆ ≡ holds set 6 → BetterIs one 6 h₆ (rice .bits) six
     → h₅ ≡ holds set 5 → BetterIs six 5 h₅ (8 + n) five
-    → ZerosFor mask (choose mask set s measured) s (record { tool = five .tool; bits = five .bits; mark = rice .mark; s = rice .s; count = rice .count }) runs
+    → ZerosFor mask (choose mask set s measured) s
+    (record { tool = five .tool; bits = five .bits; mark = rice .mark; s = rice .s; count = rice .count }) runs
 zeros-planned {mask} {set} {n} {s} {runs} {rice} {h₆ = h₆} {h₅ = h₅} seven zeros size few riced e₁ e₆ b₆ e₅ b₅ =
     let on : applies mask 6 s ≡ true = zeros-apply mask s ∙ zeros in
     let c₁₁ = choose-past 11 (past set 11 (zeros-unrowed mask seven s zeros)) (uncompressed-is mask set s size few e₁) in
@@ -81,7 +85,8 @@ unfolding applies
 short-off mask s h = rw (lt-leb 80 (length s) h)
 
 -- a frame that has a 1 or a -2: the last of the order, then value-location
-module _ {mask : ℕ} (set : ℕ) {s : List ℕ} (zeros : twoZeros mask s ≡ false) {last : Choice} (known : ChosenIs mask set s (11 ∷ []) last) where
+module _ {mask : ℕ} (set : ℕ) {s : List ℕ} (zeros : twoZeros mask s ≡ false) {last : Choice}
+    (known : ChosenIs mask set s (11 ∷ []) last) where
   no-zeros : {r : Choice} → ChosenIs mask set s (7 ∷ 11 ∷ []) r → ChosenIs mask set s measured r
   no-zeros done =
       let off : applies mask 6 s ≡ false = zeros-apply mask s ∙ zeros in
@@ -107,7 +112,8 @@ module _ {mask : ℕ} (set : ℕ) {s : List ℕ} (zeros : twoZeros mask s ≡ fa
   short-last h = no-zeros (choose-past 7 (past set 7 (short-off mask s h)) known) .tool
 
   pub located-for : {a b c : List ℕ} {w : Located} {best : Choice} {r : Located} → holds set 7 ≡ true → applies mask 7 s ≡ true
-      → LocatedIs mask s w a b c → BetterIs last 7 true (w .bits) best → r ≡ locatedBy best w → LocatedFor mask (choose mask set s measured) (last .tool) s r a b c
+      → LocatedIs mask s w a b c → BetterIs last 7 true (w .bits) best → r ≡ locatedBy best w
+      → LocatedFor mask (choose mask set s measured) (last .tool) s r a b c
   located-for {w = w} held on i better told =
       let offered : true ≡ (holds set 7 && applies mask 7 s) = rw (held, on) in
       let first′ = choose-step known 7 true (w .bits) offered (λ h. i .bits ∙ located-form mask s) better in
@@ -137,7 +143,8 @@ module _ {mask : ℕ} (set : ℕ) {s : List ℕ} (zeros : twoZeros mask s ≡ fa
       })
 
 -- the last of the order
-module _ (mask set : ℕ) (s : List ℕ) {n : ℕ} {one : Choice} (size : length s ≡ n) (few : n ≤ 320) (first : one ≡ record { tool = 1; bits = 8 + 8 * n }) where
+module _ (mask set : ℕ) (s : List ℕ) {n : ℕ} {one : Choice} (size : length s ≡ n) (few : n ≤ 320)
+    (first : one ≡ record { tool = 1; bits = 8 + 8 * n }) where
   pub last-plain : (holds set 11 && applies mask 11 s) ≡ false → (k : ℕ) → LastIs mask set s (record { choice = one; row = k })
   last-plain off k =
       let t : one .tool ≡ 1 = ap (λ (c : Choice). c .tool) first in
@@ -147,12 +154,14 @@ module _ (mask set : ℕ) (s : List ℕ) {n : ℕ} {one : Choice} (size : length
         kind = λ x. t;
       }
 
-  pub last-row : {k b : ℕ} {best : Choice} → holds set 11 ≡ true → k ≡ fractionalRow mask s → k < rowCount n → b ≡ 8 + bodyBits k n → BetterIs one 11 true b best
+  pub last-row : {k b : ℕ} {best : Choice} → holds set 11 ≡ true → k ≡ fractionalRow mask s → k < rowCount n → b ≡ 8 + bodyBits k n
+      → BetterIs one 11 true b best
       → LastIs mask set s (record { choice = best; row = k })
   last-row {k} held row h e better =
       let on = row-applies mask s size row h in
       let offered : true ≡ (holds set 11 && applies mask 11 s) = rw (held, on) in
-      let done = choose-step (uncompressed-is mask set s size few first) 11 true _ offered (λ z. e ∙ fractional-form mask s size row) better in
+      let done = choose-step (uncompressed-is mask set s size few first) 11 true _ offered
+      (λ z. e ∙ fractional-form mask s size row) better in
       let P : ℕ → Type 0 = λ t. (t ≡ 11 → ⊥) → t ≡ 1 in
       record {
         chosen = done;

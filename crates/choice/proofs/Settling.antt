@@ -4,7 +4,7 @@ use mathlib.Core.Path.{_≡_, refl, sym, ap, _∙_}
 use mathlib.Core.List.{List, [], _∷_, map}
 use mathlib.Core.Bool.{Bool, true, false, cond, _&&_, _||_}
 use native.Mathlib.Omega.{arith}
-use borrow.Author.Tests.{eq-eqb, ne-eqb, eqb-true, le-leb, leb-false, ltb-false}
+use borrow.Author.Tests.{eq-eqb, ne-eqb, eqb-true, le-leb, ltb-false}
 use lib.ListN.{length, getD, length-append, length-map}
 use lib.Dec.{eqb, leb, ltb}
 use Rattle.rules.specs.Bits.{lowBits}
@@ -13,8 +13,8 @@ use Rattle.rules.specs.Samples.{plusZero, minusZero}
 use Rattle.rules.specs.First.{isLong, baseOf, riceCode}
 use Rattle.rules.specs.Runs.{runsOf, riceForms}
 use Rattle.rules.specs.Zeros.{codesOf, codeOf, flagOf}
-use Rattle.rules.specs.Located.{caseOf}
-use Rattle.rules.specs.Chooses.{countOf, every, leastFrom, bestS, markOf, riceChoice, locatedForm, leastOf, greatestOf, rowOf, fractionalRow, fractionalForm, applies, formOf, octetsOfForm, choose, chosenTool}
+use Rattle.rules.specs.Chooses.{countOf, every, leastFrom, bestS, markOf, riceChoice, locatedForm, leastOf}
+use Rattle.rules.specs.Chooses.{greatestOf, fractionalRow, fractionalForm, applies, formOf, octetsOfForm, choose, chosenTool}
 use Rattle.rules.specs.Fractional.{radix, groupOf, bitsFor}
 use Rattle.rules.proofs.Octets.{length-lowBits, length-bitsOf}
 use Rattle.measure.proofs.Rice.{length-riceForm}
@@ -44,7 +44,8 @@ runs-some s c (suc f ∷ flags) h = rw (runs-other c f flags) (one-run s c (runs
 pub least-some : (f : ℕ → ℕ) (best k more : ℕ) → 1 ≤ best → 1 ≤ k → 1 ≤ leastFrom f best k more
 unfolding leastFrom
 least-some f best k zero h g = h
-least-some f best k (suc more) h g = least-some f (cond (ltb (f k) (f best)) k best) (k + 1) more (either (ltb (f k) (f best))) (omega arith)
+least-some f best k (suc more) h g = least-some f (cond (ltb (f k) (f best)) k best) (k + 1) more (either (ltb (f k) (f best)))
+    (omega arith)
   where
     either : (b : Bool) → 1 ≤ cond b k best
     either true = g
@@ -69,9 +70,12 @@ code-some n (suc (suc zero)) h = go (eqb n 40) refl (eqb n 80) refl
 code-some n (suc (suc (suc s))) h = omega arith
 
 pub start-some : (n mark : ℕ) → 5 ≤ length (riceCode n mark)
-start-some n mark = rw length-append (go (isLong n) (lowBits 4 (baseOf n / 16)) (lowBits 2 (baseOf n / 64)) (length-lowBits 4 (baseOf n / 16)) (length-lowBits 2 (baseOf n / 64)))
+start-some n mark = rw length-append
+    (go (isLong n) (lowBits 4 (baseOf n / 16)) (lowBits 2 (baseOf n / 64)) (length-lowBits 4 (baseOf n / 16))
+    (length-lowBits 2 (baseOf n / 64)))
   where
-    go : (b : Bool) (u v : List ℕ) → length u ≡ 4 → length v ≡ 2 → 5 ≤ length (cond b u v) + length (cond b (1 ∷ 0 ∷ mark ∷ []) (0 ∷ 1 ∷ mark ∷ []))
+    go : (b : Bool) (u v : List ℕ) → length u ≡ 4 → length v ≡ 2
+        → 5 ≤ length (cond b u v) + length (cond b (1 ∷ 0 ∷ mark ∷ []) (0 ∷ 1 ∷ mark ∷ []))
     go true u v e f = omega arith
     go false u v e f = omega arith
 
@@ -114,7 +118,8 @@ module _ (mask : ℕ) (s : List ℕ) where
 
   pub among : (set : ℕ) (P : ℕ → Type 0) (t : ℕ) (ts : List ℕ) → P t → P (choose mask set s ts) → P (choose mask set s (t ∷ ts))
   unfolding choose
-  among set P t ts p q = of-two P (holds set t && applies mask t s && leb (octetsOfForm mask s t) (octetsOfForm mask s (choose mask set s ts))) p q
+  among set P t ts p q =
+      of-two P (holds set t && applies mask t s && leb (octetsOfForm mask s t) (octetsOfForm mask s (choose mask set s ts))) p q
 
   pub alone : (set : ℕ) (P : ℕ → Type 0) → P 1 → P (choose mask set s [])
   unfolding choose
@@ -144,7 +149,8 @@ module _ (mask : ℕ) (s : List ℕ) where
     unfolding choose
     last = refl
 
-    pub won : (t : ℕ) (ts : List ℕ) → (holds set t && applies mask t s) ≡ true → octetsOfForm mask s t ≤ octetsOfForm mask s (choose mask set s ts)
+    pub won : (t : ℕ) (ts : List ℕ) → (holds set t && applies mask t s) ≡ true
+        → octetsOfForm mask s t ≤ octetsOfForm mask s (choose mask set s ts)
         → choose mask set s (t ∷ ts) ≡ t
     unfolding choose
     won t ts e h = rw (e, le-leb (octetsOfForm mask s t) (octetsOfForm mask s (choose mask set s ts)) h)
@@ -161,7 +167,8 @@ module _ (mask : ℕ) (s : List ℕ) where
       pub minus-settled : (holds set 3 && applies mask 3 s) ≡ true → Plain mask set s 3
       minus-settled e =
           record {
-            settled = λ n. sym (passed 2 _ two ∙ won 3 _ e (omega (arith, minus-bits mask s refl, form-some (choose mask set s (4 ∷ measured)))));
+            settled = λ n. sym (passed 2 _ two
+                ∙ won 3 _ e (omega (arith, minus-bits mask s refl, form-some (choose mask set s (4 ∷ measured)))));
             left = λ z. absurd (omega arith);
             most = omega arith;
           }
@@ -170,7 +177,8 @@ module _ (mask : ℕ) (s : List ℕ) where
         pub constant-settled : 5 ≤ length s → (holds set 4 && applies mask 4 s) ≡ true → Plain mask set s 4
         constant-settled some e =
             record {
-              settled = λ n. sym (passed 2 _ two ∙ passed 3 _ three ∙ won 4 _ e (omega (arith, constant-bits mask s refl, measured-long set some)));
+              settled = λ n. sym (passed 2 _ two ∙ passed 3 _ three
+                  ∙ won 4 _ e (omega (arith, constant-bits mask s refl, measured-long set some)));
               left = λ z. absurd (omega arith);
               most = omega arith;
             }
@@ -180,18 +188,24 @@ module _ (mask : ℕ) (s : List ℕ) where
           pub far-left : applies mask 6 s ≡ false → applies mask 7 s ≡ false → chosenTool mask set s ≡ choose mask set s (11 ∷ [])
           far-left six seven =
               let five : applies mask 5 s ≡ false = rice-applies mask s ∙ six in
-              let none : (t : ℕ) → applies mask t s ≡ false → (holds set t && applies mask t s) ≡ false = λ t e. rw e (and-zero (holds set t)) in
-              passed 2 _ two ∙ passed 3 _ three ∙ passed 4 _ four ∙ passed 5 _ (none 5 five) ∙ passed 6 _ (none 6 six) ∙ passed 7 _ (none 7 seven)
+              let none : (t : ℕ) → applies mask t s ≡ false → (holds set t && applies mask t s) ≡ false =
+              λ t e. rw e (and-zero (holds set t)) in
+              passed 2 _ two ∙ passed 3 _ three ∙ passed 4 _ four ∙ passed 5 _ (none 5 five) ∙ passed 6 _ (none 6 six)
+              ∙ passed 7 _ (none 7 seven)
 
           pub unsettled : (near (leastOf mask s) (greatestOf mask s) ≡ false → applies mask 6 s ≡ false) → Plain mask set s 0
           unsettled six =
               record {
                 settled = λ n. absurd (n refl);
-                left = λ z. record { later = passed 2 _ two ∙ passed 3 _ three ∙ passed 4 _ four; far = λ far. far-left (six far) (located-near mask s far) };
+                left = λ z. record {
+                  later = passed 2 _ two ∙ passed 3 _ three ∙ passed 4 _ four;
+                  far = λ far. far-left (six far) (located-near mask s far);
+                };
                 most = omega arith;
               }
 
-          pub spread-settled : applies mask 6 s ≡ false → applies mask 7 s ≡ false → (holds set 11 && applies mask 11 s) ≡ false → Plain mask set s 1
+          pub spread-settled : applies mask 6 s ≡ false → applies mask 7 s ≡ false → (holds set 11 && applies mask 11 s) ≡ false
+              → Plain mask set s 1
           spread-settled six seven eleven =
               record {
                 settled = λ n. sym (far-left six seven ∙ passed 11 _ eleven ∙ last);
@@ -208,7 +222,8 @@ head-passes p x s h = step (p x) refl (eqb-true _ _ h)
     step true e f = e
     step false e f = absurd (omega (arith, rw e at f, count-le p s))
 
-pub one-value : (y first : ℕ) (s : List ℕ) → 1 ≤ length s → first ≡ getD s 0 0 → every (λ x. eqb x first) s ≡ true → every (λ x. eqb x y) s ≡ eqb first y
+pub one-value : (y first : ℕ) (s : List ℕ) → 1 ≤ length s → first ≡ getD s 0 0 → every (λ x. eqb x first) s ≡ true
+    → every (λ x. eqb x y) s ≡ eqb first y
 one-value y first [] h e a = absurd (omega arith)
 one-value y first (x ∷ s) h e a = go (eqb x y) refl (every (λ z. eqb z y) (x ∷ s)) refl
   where
@@ -218,7 +233,8 @@ one-value y first (x ∷ s) h e a = go (eqb x y) refl (every (λ z. eqb z y) (x 
     go false f false g = g ∙ sym (ap (λ (k : ℕ). eqb k y) e ∙ f)
 
 -- and one of several
-pub none-value : (y first : ℕ) (s : List ℕ) → 1 ≤ length s → first ≡ getD s 0 0 → every (λ x. eqb x first) s ≡ false → every (λ x. eqb x y) s ≡ false
+pub none-value : (y first : ℕ) (s : List ℕ) → 1 ≤ length s → first ≡ getD s 0 0 → every (λ x. eqb x first) s ≡ false
+    → every (λ x. eqb x y) s ≡ false
 none-value y first [] h e a = absurd (omega arith)
 none-value y first (x ∷ s) h e a = go (every (λ z. eqb z y) (x ∷ s)) refl
   where
@@ -239,7 +255,8 @@ pub record NoValue (mask set : ℕ) (s : List ℕ) : Type 0 where
   pub four : (holds set 4 && applies mask 4 s) ≡ false
 
 -- one whose samples are not all equal
-pub several : {mask first : ℕ} {s : List ℕ} {l : Spread} (set : ℕ) → 1 ≤ length s → first ≡ getD s 0 0 → SpreadIs mask first s l → (l .any ≡ l .all → ⊥) → NoValue mask set s
+pub several : {mask first : ℕ} {s : List ℕ} {l : Spread} (set : ℕ) → 1 ≤ length s → first ≡ getD s 0 0 → SpreadIs mask first s l
+    → (l .any ≡ l .all → ⊥) → NoValue mask set s
 unfolding applies
 several {mask} {first} {s} {l} set some e t differ =
     record { two = none 2 (plusZero mask); three = none 3 (minusZero mask); four = none 4 (getD s 0 0) }
@@ -258,7 +275,8 @@ spread {mask} {set} {first} {r} {s} {l} v t told = rw told (go (ltb (l .any % 12
     settled : near (leastOf mask s) (greatestOf mask s) ≡ false → (holds set 11 && applies mask 11 s) ≡ false → Plain mask set s 1
     settled far eleven = spread-settled mask s set (v .two) (v .three) (v .four) (six far) (located-near mask s far) eleven
 
-    go : (a : Bool) → ltb (l .any % 128) 2 ≡ a → (b : Bool) → ltb (l .any % 128) 4 ≡ b → (h : Bool) → holds set 11 ≡ h → Plain mask set s (cond a 0 (cond (b && h) 0 1))
+    go : (a : Bool) → ltb (l .any % 128) 2 ≡ a → (b : Bool) → ltb (l .any % 128) 4 ≡ b → (h : Bool) → holds set 11 ≡ h
+        → Plain mask set s (cond a 0 (cond (b && h) 0 1))
     go true e b f h g = unsettled mask s set (v .two) (v .three) (v .four) six
     go false e true f true g = unsettled mask s set (v .two) (v .three) (v .four) six
     go false e true f false g = settled (sym (t .close) ∙ e) (ap (λ (h : Bool). h && applies mask 11 s) g)
@@ -275,7 +293,8 @@ and-true : (b : Bool) → (b && true) ≡ b
 and-true true = refl
 and-true false = refl
 
-pub one-of : {mask first : ℕ} {s : List ℕ} {l : Spread} (set : ℕ) → 5 ≤ length s → first ≡ getD s 0 0 → SpreadIs mask first s l → l .any ≡ l .all → OneValue mask set first s
+pub one-of : {mask first : ℕ} {s : List ℕ} {l : Spread} (set : ℕ) → 5 ≤ length s → first ≡ getD s 0 0 → SpreadIs mask first s l
+    → l .any ≡ l .all → OneValue mask set first s
 unfolding applies
 one-of {mask} {first} {s} {l} set some e t equal =
     let all : every (λ x. eqb x first) s ≡ true = sym (t .same) ∙ eq-eqb (l .any) (l .all) equal in
@@ -289,9 +308,11 @@ one-of {mask} {first} {s} {l} set some e t equal =
 module _ {mask set first r : ℕ} {s : List ℕ} (o : OneValue mask set first s) (told : r ≡ valueTool mask set first) where
   pub value-settled : (r ≡ 0 → ⊥) → Plain mask set s r
   value-settled held =
-      rw told (go (holds set 2 && eqb first (plusZero mask)) (holds set 3 && eqb first (minusZero mask)) (holds set 4) (o .two) (o .three) (o .four) (λ z. held (told ∙ z)))
+      rw told (go (holds set 2 && eqb first (plusZero mask)) (holds set 3 && eqb first (minusZero mask)) (holds set 4)
+      (o .two) (o .three) (o .four) (λ z. held (told ∙ z)))
     where
-      go : (a b c : Bool) → (holds set 2 && applies mask 2 s) ≡ a → (holds set 3 && applies mask 3 s) ≡ b → (holds set 4 && applies mask 4 s) ≡ c
+      go : (a b c : Bool) → (holds set 2 && applies mask 2 s) ≡ a → (holds set 3 && applies mask 3 s) ≡ b
+          → (holds set 4 && applies mask 4 s) ≡ c
           → (_≡_ {A = ℕ} (cond a 2 (cond b 3 (cond c 4 0))) 0 → ⊥) → Plain mask set s (cond a 2 (cond b 3 (cond c 4 0)))
       go true b c e f g n = plus-settled mask s set e
       go false true c e f g n = minus-settled mask s set e f
@@ -300,9 +321,11 @@ module _ {mask set first r : ℕ} {s : List ℕ} (o : OneValue mask set first s)
 
   pub value-lacks : r ≡ 0 → NoValue mask set s
   value-lacks zero′ =
-      go (holds set 2 && eqb first (plusZero mask)) (holds set 3 && eqb first (minusZero mask)) (holds set 4) (o .two) (o .three) (o .four) (sym told ∙ zero′)
+      go (holds set 2 && eqb first (plusZero mask)) (holds set 3 && eqb first (minusZero mask)) (holds set 4) (o .two)
+      (o .three) (o .four) (sym told ∙ zero′)
     where
-      go : (a b c : Bool) → (holds set 2 && applies mask 2 s) ≡ a → (holds set 3 && applies mask 3 s) ≡ b → (holds set 4 && applies mask 4 s) ≡ c
+      go : (a b c : Bool) → (holds set 2 && applies mask 2 s) ≡ a → (holds set 3 && applies mask 3 s) ≡ b
+          → (holds set 4 && applies mask 4 s) ≡ c
           → _≡_ {A = ℕ} (cond a 2 (cond b 3 (cond c 4 0))) 0 → NoValue mask set s
       go true b c e f g z = absurd (omega (arith, z))
       go false true c e f g z = absurd (omega (arith, z))
@@ -314,7 +337,8 @@ pub for-zero : (set t first : ℕ) {y z : ℕ} {r : Bool} → r ≡ (holds set t
 for-zero set t first e f = sym (e ∙ ap (λ (k : ℕ). holds set t && eqb first k) f)
 
 -- the bits of a tool that is settled
-whole-bits : (mask t : ℕ) (s : List ℕ) {n : ℕ} → length s ≡ n → 1 ≤ t → t ≤ 4 → cond (eqb t 1) (8 + 8 * n) (cond (eqb t 4) 16 8) ≡ length (formOf mask t s)
+whole-bits : (mask t : ℕ) (s : List ℕ) {n : ℕ} → length s ≡ n → 1 ≤ t → t ≤ 4
+    → cond (eqb t 1) (8 + 8 * n) (cond (eqb t 4) 16 8) ≡ length (formOf mask t s)
 whole-bits mask zero s size h k = absurd (omega arith)
 whole-bits mask (suc zero) s size h k = uncompressed-bits mask s size
 whole-bits mask (suc (suc zero)) s size h k = plus-bits mask s size
@@ -325,7 +349,8 @@ whole-bits mask (suc (suc (suc (suc (suc t))))) s size h k = absurd (omega arith
 whole-few : (t n : ℕ) → n ≤ 320 → cond (eqb t 1) (8 + 8 * n) (cond (eqb t 4) 16 8) ≤ 1000000000
 whole-few t n h = of-two (λ b. b ≤ 1000000000) (eqb t 1) (omega arith) (of-two (λ b. b ≤ 1000000000) (eqb t 4) (omega arith) (omega arith))
 
-pub settled-chosen : {mask set t b n : ℕ} {s : List ℕ} → Plain mask set s t → length s ≡ n → n ≤ 320 → b ≡ cond (eqb t 1) (8 + 8 * n) (cond (eqb t 4) 16 8) → (t ≡ 0 → ⊥)
+pub settled-chosen : {mask set t b n : ℕ} {s : List ℕ} → Plain mask set s t → length s ≡ n → n ≤ 320
+    → b ≡ cond (eqb t 1) (8 + 8 * n) (cond (eqb t 4) 16 8) → (t ≡ 0 → ⊥)
     → Chosen mask (chosenTool mask set s) s t b
 settled-chosen {mask} {set} {t} {b} {n} {s} p size few told some =
     let e = p .settled some in

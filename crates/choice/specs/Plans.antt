@@ -25,9 +25,11 @@ measured = 5 ∷ 6 ∷ 7 ∷ 11 ∷ []
 
 -- the tool of a frame of one value, or 0 where the set lacks it
 abbrev pub valueTool : ℕ → ℕ → ℕ → ℕ
-valueTool mask set x = cond (holds set 2 && eqb x (plusZero mask)) 2 (cond (holds set 3 && eqb x (minusZero mask)) 3 (cond (holds set 4) 4 0))
+valueTool mask set x = cond (holds set 2 && eqb x (plusZero mask)) 2
+    (cond (holds set 3 && eqb x (minusZero mask)) 3 (cond (holds set 4) 4 0))
 
--- a frame that the look leaves: the choice lies among the tools that are measured. And one with a sample below -2 or above 1: among the last two
+-- a frame that the look leaves: the choice lies among the tools that are measured. And one with a sample below -2 or above 1: among the
+-- last two
 pub record Left (mask set : ℕ) (s : List ℕ) : Type 0 where
   pub later : chosenTool mask set s ≡ choose mask set s measured
   pub far : near (leastOf mask s) (greatestOf mask s) ≡ false → chosenTool mask set s ≡ choose mask set s (11 ∷ [])
@@ -61,7 +63,16 @@ pub record ZerosFor (mask t : ℕ) (s : List ℕ) (r : Zeros) (runs : List ℕ) 
 -- a choice, with what value-location writes
 abbrev pub locatedBy : Choice → Located → Located
 locatedBy best w =
-    record { tool = best .tool; bits = best .bits; row = w .row; flag = w .flag; count = w .count; first = w .first; second = w .second; third = w .third }
+    record {
+      tool = best .tool;
+      bits = best .bits;
+      row = w .row;
+      flag = w .flag;
+      count = w .count;
+      first = w .first;
+      second = w .second;
+      third = w .third;
+    }
 
 -- tool t as it is written of a frame from -2 to 1 that has a 1 or a -2: value-location, or the last of the tie order
 pub record LocatedFor (mask t last : ℕ) (s : List ℕ) (r : Located) (a b c : List ℕ) : Type 0 where

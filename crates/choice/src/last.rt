@@ -9,8 +9,8 @@ use reducing::bits_of;
 use reducing::row_of;
 ghost use mathlib.Core.Path.{_≡_};
 ghost use mathlib.Core.Bool.{true};
-ghost use Prim.Native.Nat.{_≤_, _<_};
-ghost use lib.ListN.{length, take};
+ghost use Prim.Native.Nat.{_<_};
+ghost use lib.ListN.{take};
 ghost use Rattle.look.specs.Looks.{isMask, FrameIn};
 ghost use Rattle.choice.specs.Plans.{LastIs};
 

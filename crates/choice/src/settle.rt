@@ -8,7 +8,7 @@ use prefix::holds;
 ghost use mathlib.Core.Path.{_≡_};
 ghost use mathlib.Core.Bool.{true, cond, _&&_};
 ghost use Prim.Native.Nat.{_+_, _*_, _%_, _≤_, _<_};
-ghost use lib.ListN.{length, getD, take};
+ghost use lib.ListN.{getD, take};
 ghost use lib.Dec.{eqb, ltb};
 ghost use Rattle.rules.specs.Tools as tools;
 ghost use Rattle.look.specs.Looks.{SpreadIs, isMask, FrameIn};

@@ -1,5 +1,5 @@
 -- Closing up, row by row: one `-snoc` law for each definition, then `close-none`, `close-turn`, `close-all`.
-use Prim.Native.Nat.{ℕ, zero, suc, _+_, _*_, _≤_, _<_}
+use Prim.Native.Nat.{ℕ, suc, _+_, _*_, _≤_, _<_}
 use mathlib.Core.Path.{_≡_, refl, sym, ap, _∙_}
 use mathlib.Core.List.{List, [], _∷_, _++_, append-assoc, append-nil}
 use mathlib.Core.Bool.{Bool, true, false, cond}
@@ -11,7 +11,7 @@ use lib.Dec.{eqb}
 use Rattle.rows.specs.declared.Row.{Row}
 use Rattle.rows.specs.Rows.{held, greeting}
 use Rattle.rows.specs.Cells.{rowAt, rowsAt, rowsOf, cellsOf, laid}
-use Rattle.rows.specs.Sane.{rising, Ordered}
+use Rattle.rows.specs.Sane.{Ordered}
 use Rattle.closing.specs.Closing.{movedTo, closedRows, bodies, closedBlock, movedOne, movedFrom, Closes}
 use Rattle.rows.proofs.Lists.{same-drop}
 use Rattle.rows.proofs.Cells.{row-same, rows-snoc, length-rows, held-snoc, cells-snoc, length-cells, drop-three, set-second}
@@ -140,7 +140,8 @@ module _ {size : ℕ} {b₀ t₀ : List ℕ} (o : Ordered size t₀) (fits : siz
           )
 
       close-turn₀ : Closing size b₀ t₀ (i + 1) (paste b to (drop (getD t₀ (1 + 3 * i + 1) 0) b) (getD t₀ (1 + 3 * i + 2) 0))
-          (set t (1 + 3 * i + 1) to) (to + getD t₀ (1 + 3 * i + 2) 0) (m + movedOne (getD t₀ (1 + 3 * i + 1) 0) to (getD t₀ (1 + 3 * i + 2) 0))
+          (set t (1 + 3 * i + 1) to) (to + getD t₀ (1 + 3 * i + 2) 0)
+          (m + movedOne (getD t₀ (1 + 3 * i + 1) 0) to (getD t₀ (1 + 3 * i + 2) 0))
       close-turn₀ =
           let k = 1 + 3 * i in
           let done = rowsAt t₀ i 1 in

@@ -1,4 +1,5 @@
--- Document 02, R-6: "all greetings first close up from 0 in their order. Octets moved, reported, are the summed lengths of those whose start changed."
+-- Document 02, R-6: "all greetings first close up from 0 in their order. Octets moved, reported, are the summed lengths of those whose
+-- start changed."
 use Prim.Native.Nat.{ℕ, _+_}
 use mathlib.Core.Path.{_≡_}
 use mathlib.Core.List.{List, [], _∷_, _++_}

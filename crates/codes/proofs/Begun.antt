@@ -1,8 +1,8 @@
 -- The S that a window begins with is what the paper's tree finds on its bits (found-number).
 use Prim.Native.Nat.{ℕ, suc, _+_, _-_, _^_, _/_, _%_, _≤_, _<_}
-use mathlib.Core.Path.{_≡_, refl, sym, ap, subst, _∙_}
+use mathlib.Core.Path.{_≡_, refl, sym, ap, _∙_}
 use mathlib.Core.List.{List, []}
-use mathlib.Core.Bool.{Bool, true, _&&_}
+use mathlib.Core.Bool.{Bool, true}
 use native.Mathlib.Omega.{arith}
 use native.Mathlib.Decide.{ℕ-discrete}
 use lib.ListN.{length, getD, take}
@@ -12,17 +12,18 @@ use lib.Pow.{shr-shr, shr-lt}
 use borrow.Author.Tests.{ltb-true, leb-true, ne-eqb}
 use Rattle.rules.specs.Bits.{lowBits}
 use Rattle.rules.specs.Reading.{whole, andThen, numberFrom}
-use Rattle.rules.specs.Zeros.{Tree, treeOf, readTree, codesOf, codeOf}
+use Rattle.rules.specs.Zeros.{Tree, treeOf, readTree, codesOf}
 use Rattle.rules.proofs.Codes.{leads, lead-number}
 use Rattle.rules.proofs.Octets.{length-lowBits, lowBits-at}
-use Rattle.rules.proofs.Tests.{and-left, and-right, allBelow, allBelow-at}
+use Rattle.rules.proofs.Tests.{allBelow, allBelow-at}
 use Rattle.codes.specs.declared.Table.{Table}
 use Rattle.codes.specs.declared.Found.{Found}
 use Rattle.codes.specs.Codes.{sFrom, sIn, TableIs, FoundIs}
 use Rattle.codes.proofs.Coded.{digitAt, lengths-are}
 
 -- a test that the codes and the tree of 40, 80 and 160 pass on each number of six bits is passed by those of every length
-by-six : (f : List (List ℕ) → Tree → ℕ → Bool) → allBelow (f (codesOf 40) (treeOf 40)) 64 ≡ true → allBelow (f (codesOf 80) (treeOf 80)) 64 ≡ true
+by-six : (f : List (List ℕ) → Tree → ℕ → Bool) → allBelow (f (codesOf 40) (treeOf 40)) 64 ≡ true
+    → allBelow (f (codesOf 80) (treeOf 80)) 64 ≡ true
     → allBelow (f (codesOf 160) (treeOf 160)) 64 ≡ true → (n w : ℕ) → w < 64 → f (codesOf n) (treeOf n) w ≡ true
 unfolding codesOf treeOf
 by-six f a b c n w h = allBelow-at (f (codesOf n) (treeOf n)) 64 (go (ℕ-discrete n 40) (ℕ-discrete n 80)) w h

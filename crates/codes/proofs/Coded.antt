@@ -62,7 +62,8 @@ abbrev pub digitAt : List ℕ → ℕ → ℕ
 digitAt found w = getD found (w / 16) 0 / 2 ^ (4 * (w % 16)) % 16
 
 -- a table, by three tests that compute
-pub table-told : (m k : ℕ) {n : ℕ} (bs vs found : List ℕ) → codesOf n ≡ codesOf m → coded bs vs ≡ codesOf m ++ replicate k [] → within (2 ∷ bs) (0 ∷ vs) ≡ true
+pub table-told : (m k : ℕ) {n : ℕ} (bs vs found : List ℕ) → codesOf n ≡ codesOf m → coded bs vs ≡ codesOf m ++ replicate k []
+    → within (2 ∷ bs) (0 ∷ vs) ≡ true
     → 2 ≡ getD bs 0 0 → length bs ≡ 9 → length vs ≡ 9 → allBelow (λ w. eqb (digitAt found w) (sIn m w)) 64 ≡ true → length found ≡ 4
     → TableIs n (record { bits = 2 ∷ bs; values = 0 ∷ vs; found = found })
 unfolding sIn

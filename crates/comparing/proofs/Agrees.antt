@@ -53,7 +53,8 @@ agree-next [] b h k e = omega arith
 agree-next (x ∷ a) [] h k e = omega arith
 agree-next (x ∷ a) (y ∷ b) h k e = go (eqb x y) refl (agree-next a b) h k e
   where
-    go : (t : Bool) → eqb x y ≡ t → (agreeing a b < length a → agreeing a b < length b → getD a (agreeing a b) 0 ≡ getD b (agreeing a b) 0 → ⊥)
+    go : (t : Bool) → eqb x y ≡ t
+        → (agreeing a b < length a → agreeing a b < length b → getD a (agreeing a b) 0 ≡ getD b (agreeing a b) 0 → ⊥)
         → cond t (suc (agreeing a b)) 0 < suc (length a) → cond t (suc (agreeing a b)) 0 < suc (length b)
         → getD (x ∷ a) (cond t (suc (agreeing a b)) 0) 0 ≡ getD (y ∷ b) (cond t (suc (agreeing a b)) 0) 0 → ⊥
     go true p rest h k e = rest (omega arith) (omega arith) e

@@ -39,7 +39,8 @@ unfolding cuts cutsFrom
 cuts-next n l s e h =
     enough (length s) (suc (length s)) n s (omega arith) (omega arith)
     ∙ rw (e, ne-eqb l 0 (omega arith))
-    (ap (λ (x : List (List ℕ)). take l s ∷ x) (enough (length s) (length (drop l s)) n (drop l s) (omega (arith, length-drop l s)) (omega arith)))
+    (ap (λ (x : List (List ℕ)). take l s ∷ x)
+    (enough (length s) (length (drop l s)) n (drop l s) (omega (arith, length-drop l s)) (omega arith)))
 
 -- what the cuts hold is the start of the sound
 start-from : (a n : ℕ) (s : List ℕ) → soundIn (cutsFrom a n s) ≡ take (length (soundIn (cutsFrom a n s))) s
@@ -51,7 +52,8 @@ start-from (suc a) n s =
   where
     go : (l : ℕ) → l ≡ nextLength n (length s) → (t : Bool) → eqb l 0 ≡ t
         → soundIn (cutsFrom a n (drop l s)) ≡ take (length (soundIn (cutsFrom a n (drop l s)))) (drop l s)
-        → soundIn (cond t [] (take l s ∷ cutsFrom a n (drop l s))) ≡ take (length (soundIn (cond t [] (take l s ∷ cutsFrom a n (drop l s))))) s
+        → soundIn (cond t [] (take l s ∷ cutsFrom a n (drop l s))) ≡ take
+        (length (soundIn (cond t [] (take l s ∷ cutsFrom a n (drop l s))))) s
     go l q true e ih = refl
     go l q false e ih =
         let z = eqb-false l 0 e in

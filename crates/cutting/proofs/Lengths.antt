@@ -3,7 +3,7 @@ use Prim.Native.Nat.{ℕ, min, _≤_, _<_}
 use native.Mathlib.Omega.{arith}
 use mathlib.Core.Path.{_≡_, refl, sym, ap, _∙_}
 use mathlib.Core.Bool.{Bool, true, false, cond}
-use lib.Dec.{eqb, leb}
+use lib.Dec.{leb}
 use borrow.Author.Tests.{le-leb, lt-leb, ne-eqb, eq-eqb, leb-true, leb-false}
 use Rattle.rules.specs.declared.Refusal.the-variants.{Length}
 use Rattle.rules.specs.declared.Ending.the-variants.{Done, Refused}
@@ -34,7 +34,14 @@ module _ (m : ℕ) where
 
   pub up-none : m < 40 → 0 ≡ largestUpTo m
   unfolding largestUpTo
-  up-none g = rw (lt-leb 320 m (omega arith), lt-leb 240 m (omega arith), lt-leb 160 m (omega arith), lt-leb 80 m (omega arith), lt-leb 40 m g)
+  up-none g = rw (
+    lt-leb 320 m (omega arith),
+    lt-leb 240 m (omega arith),
+    lt-leb 160 m (omega arith),
+    lt-leb 80 m
+        (omega arith),
+    lt-leb 40 m g,
+  )
 
 -- a length that fits, or none
 pub data Largest (m : ℕ) : ℕ → Type 0 where

@@ -68,7 +68,15 @@ by-frame c cells samples h = rw (length-frame c h, taken-frame c h, entry-frame 
 by-loss : (c : ℕ) (cells samples : List ℕ) → lossFrom ≤ c → givenBy (c ∷ cells) samples ≡ onward c cells samples
 unfolding givenBy
 by-loss c cells samples h =
-    rw (no-six c h, length-loss c h, taken-loss c h, entry-loss c h samples, le-leb lossFrom c h, le-ltb (length samples) 0 (omega arith)) refl
+    rw (
+      no-six c h,
+      length-loss c h,
+      taken-loss c h,
+      entry-loss c h samples,
+      le-leb lossFrom c h,
+      le-ltb (length samples)
+          0 (omega arith),
+    ) refl
 
 given-by : (c : ℕ) (cells samples : List ℕ) → givenBy (c ∷ cells) samples ≡ onward c cells samples
 given-by c cells samples = go (ltb c lossFrom) refl
@@ -110,7 +118,8 @@ module _ (c : ℕ) (cells samples : List ℕ) where
     where
       go : (b : Bool) → sixLengths (lengthIn c) ≡ b → (d : Bool) → ltb (length samples) (taken c) ≡ d → Next
       go false e d f = let n = no-item e in let z : _≡_ {A = ℕ} 0 1 = cc in absurd (omega arith)
-      go true e true f = let n = no-samples e (ltb-true (length samples) (taken c) f) in let z : _≡_ {A = ℕ} 0 1 = cc in absurd (omega arith)
+      go true e true f = let n = no-samples e (ltb-true (length samples) (taken c) f) in let z : _≡_ {A = ℕ} 0 1 = cc in
+          absurd (omega arith)
       go true e false f =
           let h = ltb-false (length samples) (taken c) f in
           let on = sym (given-on e h) ∙ g in
@@ -128,7 +137,8 @@ none-left (x ∷ samples) = sym (ne-eqb (length (x ∷ samples)) 0 (omega arith)
 
 -- the octets of an item, and then those of the rest
 pub octets-next : (mask set c : ℕ) (cells samples : List ℕ) → Next c cells samples
-    → octetsGiven mask set (c ∷ cells) samples ≡ entryOctets mask set (entryBy c samples) ++ octetsGiven mask set cells (drop (taken c) samples)
+    → octetsGiven mask set (c ∷ cells) samples ≡ entryOctets mask set (entryBy c samples) ++ octetsGiven mask set cells
+    (drop (taken c) samples)
 unfolding octetsGiven entriesOctets
 octets-next mask set c cells samples n = rw (n .is) refl
 

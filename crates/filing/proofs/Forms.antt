@@ -78,7 +78,8 @@ module _ (mask set c n : ℕ) (e : n ≡ lengthIn c) where
     pub frame-for : For mask set c (drop from samples) (take (from + n - from) (drop from samples))
     frame-for =
         let k : from + n - from ≡ c = omega (arith, e, length-frame c h) in
-        let size : length (take c (drop from samples)) ≡ c = length-take-le c (drop from samples) (omega (arith, taken-frame c h, i .inside)) in
+        let size : length (take c (drop from samples)) ≡ c = length-take-le c (drop from samples)
+        (omega (arith, taken-frame c h, i .inside)) in
         rw k (record { six = rw size (rw (length-frame c h) at (i .allowed)); octets = item-frame mask set c (drop from samples) h })
 
   module _ {samples : List ℕ} (i : ItemIn samples c) {quiet : List ℕ} (q : Quiet mask quiet) where
@@ -105,7 +106,8 @@ pub item-most : (law set c : ℕ) (samples : List ℕ) → isWriterSet set ≡ t
     → length (entryOctets (maskOf law) set (entryBy c samples)) ≤ suc (lengthIn c)
 item-most law set c samples o b i = go (ltb c lossFrom) refl (ℕ-discrete (lengthIn c) 0)
   where
-    go : (t : Bool) → ltb c lossFrom ≡ t → Dec (lengthIn c ≡ 0) → length (entryOctets (maskOf law) set (entryBy c samples)) ≤ suc (lengthIn c)
+    go : (t : Bool) → ltb c lossFrom ≡ t → Dec (lengthIn c ≡ 0)
+        → length (entryOctets (maskOf law) set (entryBy c samples)) ≤ suc (lengthIn c)
     go true e d =
         let h = ltb-true c lossFrom e in
         let inside : c ≤ length samples = omega (arith, taken-frame c h, i .inside) in

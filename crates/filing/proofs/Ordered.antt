@@ -1,8 +1,8 @@
--- "LAW, SET, LENGTH .., LONG, ROOM (heading and all)": the refusals in their order (`file-refused`, `not-given`, `too-long`, `no-room`), and a
--- file that is written (`file-written`).
+-- "LAW, SET, LENGTH .., LONG, ROOM (heading and all)": the refusals in their order (`file-refused`, `not-given`, `too-long`, `no-room`),
+-- and a file that is written (`file-written`).
 use Prim.Native.Nat.{ℕ, _+_, _≤_, _<_}
 use native.Mathlib.Omega.{arith}
-use mathlib.Core.Path.{_≡_, refl, sym, subst, _∙_}
+use mathlib.Core.Path.{_≡_, refl, sym, subst}
 use mathlib.Core.List.{List, _++_}
 use mathlib.Core.Bool.{true, false}
 use lib.ListN.{length}
@@ -38,9 +38,11 @@ module _ (samples cells : List ℕ) (law set room : ℕ) where
   pub file-refused : {why : rules.Refusal} → verdict (writerAsks law set) ≡ asked.Refused why
       → declined (Frame why) ≡ writeFile samples cells law set room
   unfolding writeFile
-  file-refused e = sym (verdict-refused (λ why. declined (Frame why)) (fileGiven law set (givenBy cells samples) room) (writerAsks law set) e)
+  file-refused e = sym
+      (verdict-refused (λ why. declined (Frame why)) (fileGiven law set (givenBy cells samples) room) (writerAsks law set) e)
 
-  pub file-given : verdict (writerAsks law set) ≡ asked.Done → fileGiven law set (givenBy cells samples) room ≡ writeFile samples cells law set room
+  pub file-given : verdict (writerAsks law set) ≡ asked.Done → fileGiven law set (givenBy cells samples) room ≡ writeFile
+      samples cells law set room
   unfolding writeFile
   file-given e = sym (verdict-done (λ why. declined (Frame why)) (fileGiven law set (givenBy cells samples) room) (writerAsks law set) e)
 

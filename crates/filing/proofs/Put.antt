@@ -37,7 +37,8 @@ puts-on out x at h =
 
 module _ (s : List ℕ) (law set : ℕ) (l : isLaw law ≡ true) (o : isWriterSet set ≡ true) (six : sixLengths (length s) ≡ true) where
   -- only ROOM is left to refuse
-  all-written : (room : ℕ) → length (form (maskOf law) set s) ≤ room → writeOne (length s) s law set room ≡ wrote (chosen (maskOf law) set s)
+  all-written : (room : ℕ) → length (form (maskOf law) set s) ≤ room
+      → writeOne (length s) s law set room ≡ wrote (chosen (maskOf law) set s)
   unfolding writeOne form
   all-written room h =
       let bits = chosen (maskOf law) set s .bits in

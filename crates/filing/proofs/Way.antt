@@ -46,7 +46,8 @@ module _ (cells samples : List ℕ) where
     -- no number is left
     pub judge-done : length cells ≤ i → eqb (length samples) from ≡ isGiven (givenBy cells samples)
     judge-done h =
-        rw (j .same, drop-of-length-le cells h, none-left (drop from samples), length-drop from samples) (all-used (length samples) from (j .inside))
+        rw (j .same, drop-of-length-le cells h, none-left (drop from samples), length-drop from samples)
+        (all-used (length samples) from (j .inside))
 
     module _ (h : i < length cells) where
       abbrev c : ℕ
@@ -58,7 +59,8 @@ module _ (cells samples : List ℕ) where
       module _ (e : sixLengths (lengthIn c) ≡ true) where
         pub judge-no-samples : length samples - from < taken c → false ≡ isGiven (givenBy cells samples)
         judge-no-samples k =
-            rw (j .same, drop-next cells i h) (no-samples c (drop (i + 1) cells) (drop from samples) e (omega (arith, length-drop from samples)))
+            rw (j .same, drop-next cells i h)
+            (no-samples c (drop (i + 1) cells) (drop from samples) e (omega (arith, length-drop from samples)))
 
         pub judge-turn : taken c ≤ length samples - from → Judging (i + 1) (from + taken c)
         judge-turn k =
@@ -66,7 +68,8 @@ module _ (cells samples : List ℕ) where
             record {
               most = omega arith;
               inside = omega (arith, j .inside);
-              same = j .same ∙ rw (drop-next cells i h) (on ∙ ap (λ s. isGiven (givenBy (drop (i + 1) cells) s)) (drop-drop (taken c) from samples));
+              same = j .same ∙ rw (drop-next cells i h)
+                  (on ∙ ap (λ s. isGiven (givenBy (drop (i + 1) cells) s)) (drop-drop (taken c) from samples));
             }
 
   -- entries are given by what is left
@@ -160,7 +163,8 @@ module _ (cells samples : List ℕ) where
           }
 
       module _ {out : List ℕ} {i from to : ℕ} (w : Writing out i from to) where
-        pub write-room : at + length (octetsGiven mask set cells samples) ≤ length out₀ → i < length cells → to + length (item i from) ≤ length out
+        pub write-room : at + length (octetsGiven mask set cells samples) ≤ length out₀ → i < length cells
+            → to + length (item i from) ≤ length out
         write-room h k =
             let rest = left (i + 1) (from + taken (getD cells i 0)) in
             omega (
@@ -202,7 +206,8 @@ octets-most law set o (c ∷ cells) samples b g =
       octets-most law set o cells (drop (taken c) samples) (below-drop (taken c) b) (n .on),
     )
 
-most-next : (cells : List ℕ) (i : ℕ) → i < length cells → mostFor (drop i cells) ≡ suc (lengthIn (getD cells i 0)) + mostFor (drop (i + 1) cells)
+most-next : (cells : List ℕ) (i : ℕ) → i < length cells → mostFor (drop i cells) ≡ suc (lengthIn (getD cells i 0)) + mostFor
+    (drop (i + 1) cells)
 unfolding mostFor
 most-next cells i h = rw (drop-next cells i h) refl
 

@@ -23,6 +23,7 @@ unfolding countOf without
 without-count x [] = refl
 without-count x (y ∷ l) = rw (without-cons x y l (eqb y x) refl) (step (eqb y x) (without-count x l))
   where
-    step : (b : Bool) → countIs x l + length (without x l) ≡ length l → cond b 1 0 + countIs x l + length (cond b (without x l) (y ∷ without x l)) ≡ suc (length l)
+    step : (b : Bool) → countIs x l + length (without x l) ≡ length l
+        → cond b 1 0 + countIs x l + length (cond b (without x l) (y ∷ without x l)) ≡ suc (length l)
     step true h = omega arith
     step false h = omega arith

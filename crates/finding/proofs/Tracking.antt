@@ -25,7 +25,8 @@ use Rattle.finding.proofs.Finding.{runs-common, runs-other}
 pub top-below : (m j w : ℕ) → 2 ^ j ≤ w → w < 2 ^ m → j < m
 top-below m j w lo hi = lt-of-not-le (λ (h : m ≤ j). let p : 2 ^ m ≤ 2 ^ j = pow-mono h in absurd (omega arith))
 
-pub top-flags : (m j w : ℕ) → 2 ^ j ≤ w → w < 2 ^ (j + 1) → w < 2 ^ m → lowBits m w ≡ replicate (m - (j + 1)) 0 ++ (1 ∷ lowBits j (w - 2 ^ j))
+pub top-flags : (m j w : ℕ) → 2 ^ j ≤ w → w < 2 ^ (j + 1) → w < 2 ^ m
+    → lowBits m w ≡ replicate (m - (j + 1)) 0 ++ (1 ∷ lowBits j (w - 2 ^ j))
 unfolding lowBits
 top-flags m j w lo hi fits =
     let below = top-below m j w lo fits in
@@ -56,7 +57,8 @@ module _ {done runs : List ℕ} {t : Track} {p : ℕ} (k : TrackIs done runs t p
       let e : p + z - t .start ≡ p - t .start + z = omega (arith, k .behind) in
       record {
         says = λ rest.
-            rw (e, append-assoc) (ap (λ (l : List ℕ). take (t .count) runs ++ l) (sym (runs-zeros z (p - t .start) rest)) ∙ k .says (replicate z 0 ++ rest));
+            rw (e, append-assoc)
+            (ap (λ (l : List ℕ). take (t .count) runs ++ l) (sym (runs-zeros z (p - t .start) rest)) ∙ k .says (replicate z 0 ++ rest));
         size = k .size;
         few = k .few;
         behind = omega (arith, k .behind);
@@ -95,7 +97,8 @@ module _ {done runs : List ℕ} {t : Track} {p : ℕ} (k : TrackIs done runs t p
       at : t .count < length runs
       at = omega (arith, k .size, k .few, k .behind, most)
 
-      ends : (v : ℕ) → take (t .count) runs ++ runsOf v [] ≡ runsOf 0 done → RunsAre done (cond (eqb v 0) (t .count) (t .count + 1)) (set runs (t .count) v)
+      ends : (v : ℕ) → take (t .count) runs ++ runsOf v [] ≡ runsOf 0 done
+          → RunsAre done (cond (eqb v 0) (t .count) (t .count + 1)) (set runs (t .count) v)
       ends zero e =
           record {
             says = take-set-le (t .count) runs (t .count) 0 (omega arith) ∙ sym (append-nil _) ∙ e;
@@ -119,7 +122,8 @@ pub record InWord (flags runs : List ℕ) (t : Track) (w end : ℕ) : Type 0 whe
   pub fits : w < 2 ^ left
   pub within : left ≤ 40
 
-pub in-first : (row runs : List ℕ) (t : Track) (i : ℕ) → i < length row → getD row i 0 < 2 ^ 40 → TrackIs (rowBits (take i row)) runs t (40 * i)
+pub in-first : (row runs : List ℕ) (t : Track) (i : ℕ) → i < length row → getD row i 0 < 2 ^ 40
+    → TrackIs (rowBits (take i row)) runs t (40 * i)
     → InWord (rowBits (take (i + 1) row)) runs t (getD row i 0) (40 * (i + 1))
 unfolding rowBits
 in-first row runs t i h small k =
@@ -134,7 +138,8 @@ in-first row runs t i h small k =
     }
 
 module _ {flags runs : List ℕ} {t : Track} {w end : ℕ} (n : InWord flags runs t w end) where
-  pub in-one : (j p : ℕ) {r : Track} {runs′ : List ℕ} → 40 ≤ end → end ≤ 320 → 2 ^ j ≤ w → w < 2 ^ (j + 1) → p + (j + 1) ≡ end → Closes t p runs r runs′
+  pub in-one : (j p : ℕ) {r : Track} {runs′ : List ℕ} → 40 ≤ end → end ≤ 320 → 2 ^ j ≤ w → w < 2 ^ (j + 1) → p + (j + 1) ≡ end
+      → Closes t p runs r runs′
       → InWord flags runs′ r (w - 2 ^ j) end
   in-one j p {r} {runs′} low most lo hi e c =
       let z = n .left - (j + 1) in
@@ -177,6 +182,7 @@ top-leads w some fits =
     (omega (arith, t .1), rw e at (t .2), rw s at (t .3))
 
 -- before the first word
-pub row-track-none : (row runs : List ℕ) (t : Track) → t .count ≡ 0 → t .start ≡ 0 → length runs ≡ 321 → TrackIs (rowBits (take 0 row)) runs t (40 * 0)
+pub row-track-none : (row runs : List ℕ) (t : Track) → t .count ≡ 0 → t .start ≡ 0 → length runs ≡ 321
+    → TrackIs (rowBits (take 0 row)) runs t (40 * 0)
 unfolding rowBits
 row-track-none row runs t ec es size = track-none runs t ec es size

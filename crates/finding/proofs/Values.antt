@@ -106,11 +106,13 @@ module _ {x y z p : ℕ} {l a b c : List ℕ} {t : Tracks} (k : TracksAre x y z 
         third = rw wy (track-skip (k .third) uc us);
       }
 
-  tracks-third : (v : ℕ) {u : Track} {c′ : List ℕ} → eqb v x ≡ false → eqb v y ≡ false → eqb v z ≡ true → p < 320 → Closes (t .third) p c u c′
+  tracks-third : (v : ℕ) {u : Track} {c′ : List ℕ} → eqb v x ≡ false → eqb v y ≡ false → eqb v z ≡ true → p < 320
+      → Closes (t .third) p c u c′
       → TracksAre x y z (l ++ (v ∷ [])) (p + 1) (record { first = t .first; second = t .second; third = u }) a b c′
   tracks-third v ex ey ez small close =
       let wx = without-passed x v 1 l ex in
-      let wy : without y (without x (l ++ (v ∷ []))) ≡ without y (without x l) ++ (v ∷ []) = ap (without y) wx ∙ without-passed y v 1 (without x l) ey in
+      let wy : without y (without x (l ++ (v ∷ []))) ≡ without y (without x l) ++ (v ∷ []) = ap (without y) wx
+      ∙ without-passed y v 1 (without x l) ey in
       record {
         first = passed x l (k .first) v 1 ex;
         second = rw wx (passed y (without x l) (k .second) v 1 ey);
@@ -118,7 +120,8 @@ module _ {x y z p : ℕ} {l a b c : List ℕ} {t : Tracks} (k : TracksAre x y z 
       }
 
 -- the same as the code has it, with the sample at a place
-module _ (s : List ℕ) {x y z i : ℕ} {a b c : List ℕ} {t : Tracks} (h : i < length s) (small : i < 320) (k : TracksAre x y z (take i s) i t a b c) where
+module _ (s : List ℕ) {x y z i : ℕ} {a b c : List ℕ} {t : Tracks} (h : i < length s) (small : i < 320)
+    (k : TracksAre x y z (take i s) i t a b c) where
   next : take (i + 1) s ≡ take i s ++ (getD s i 0 ∷ [])
   next = rw add-one (take-suc s i 0 h)
 
@@ -171,15 +174,18 @@ pub record InSamples (plus x y z : ℕ) (s : List ℕ) (t : Tracks) (a b c : Lis
   pub fits : w < 2 ^ left
   pub within : left ≤ 40
 
-pub samples-first : (plus x y z : ℕ) (s : List ℕ) (t : Tracks) (a b c : List ℕ) (i w : ℕ) → Gathers (marksOf plus 0 1 (take 40 (drop (40 * i) s))) 40 w
+pub samples-first : (plus x y z : ℕ) (s : List ℕ) (t : Tracks) (a b c : List ℕ) (i w : ℕ)
+    → Gathers (marksOf plus 0 1 (take 40 (drop (40 * i) s))) 40 w
     → TracksAre x y z (take (40 * i) s) (40 * i) t a b c → InSamples plus x y z s t a b c w (40 * (i + 1))
 samples-first plus x y z s t a b c i w g k =
     let e : 40 * (i + 1) - 40 ≡ 40 * i = omega arith in
     record { left = 40; says = rw e (g .says); tracks = rw e k; fits = g .fits; within = omega arith }
 
-module _ {plus x y z w end : ℕ} {s a b c : List ℕ} {t : Tracks} (apart : Apart plus x y z) (low : 40 ≤ end) (n : InSamples plus x y z s t a b c w end) where
+module _ {plus x y z w end : ℕ} {s a b c : List ℕ} {t : Tracks} (apart : Apart plus x y z) (low : 40 ≤ end)
+    (n : InSamples plus x y z s t a b c w end) where
   -- the common value so many times more, and the tracks after it
-  stretched : (m : ℕ) → take m (drop (end - n .left) s) ≡ replicate m plus → TracksAre x y z (take (end - n .left + m) s) (end - n .left + m) t a b c
+  stretched : (m : ℕ) → take m (drop (end - n .left) s) ≡ replicate m plus
+      → TracksAre x y z (take (end - n .left + m) s) (end - n .left + m) t a b c
   stretched m e =
       rw (take-add (end - n .left) m s, e)
       (tracks-passed (n .tracks) plus m
@@ -247,5 +253,7 @@ tracks-none x y z {t} {a} {b} {c} f s u sa sb sc =
     }
 
 pub tracks-end : {x y z p : ℕ} {l a b c a′ b′ c′ : List ℕ} {t : Tracks} {r : Found} → TracksAre x y z l p t a b c → p ≤ 320
-    → Ends (t .first) p a (r .first) a′ → Ends (t .second) p b (r .second) b′ → Ends (t .third) p c (r .third) c′ → FoundIs x y z l r a′ b′ c′
-tracks-end k most f s u = record { first = track-end (k .first) f most; second = track-end (k .second) s most; third = track-end (k .third) u most }
+    → Ends (t .first) p a (r .first) a′ → Ends (t .second) p b (r .second) b′ → Ends (t .third) p c (r .third) c′
+    → FoundIs x y z l r a′ b′ c′
+tracks-end k most f s u =
+    record { first = track-end (k .first) f most; second = track-end (k .second) s most; third = track-end (k .third) u most }

@@ -23,7 +23,7 @@ use Rattle.pen.specs.declared.Pen.{Pen}
 use Rattle.pen.specs.Puts.{penBits, Able, Puts, Packed}
 use Rattle.look.specs.Rows.{rowBits, RowIs}
 use Rattle.rules.proofs.Words.{lowBits-join}
-use Rattle.pen.proofs.Putting.{drop-further}
+use Rattle.rules.proofs.Lent.{drop-further}
 use Rattle.forms.specs.Forms.{wholeOctets, RiceReady, riceFormOf, valuesFormOf, locatedFormOf, zerosForm}
 use Rattle.forms.proofs.Turns.{located-values}
 
@@ -38,7 +38,8 @@ pub cells-length : {samples : List ℕ} {n : ℕ} → FrameIn samples n → leng
 cells-length {samples} {n} f = length-take-le n samples (f .long)
 
 -- Rice as planned
-pub rice-ready : {mask n : ℕ} {samples runs : List ℕ} {r : Zeros} → FrameIn samples n → RiceIs mask (take n samples) r runs → RiceReady n r runs
+pub rice-ready : {mask n : ℕ} {samples runs : List ℕ} {r : Zeros} → FrameIn samples n → RiceIs mask (take n samples) r runs
+    → RiceReady n r runs
 rice-ready {mask} {n} {samples} f i =
     record {
       mark = rw (i .mark) (bit-of (ltb (countIs (plusZero mask) (take n samples)) (countIs (minusZero mask) (take n samples))));
@@ -73,7 +74,8 @@ module _ (n : ℕ) (s : List ℕ) (r : Zeros) (row runs : List ℕ) where
       ∙ ap (λ (S : ℕ). form (length s) (markOf mask s) S rs) (i .best)
       ∙ ap (form (length s) (markOf mask s) (bestS mask (markOf mask s) s)) (i .found .says)
 
-  pub binary-form : (mask : ℕ) → length s ≡ n → RowIs (map (flagOf mask 0) s) (n / 40) row → prefix 5 n ++ rowBits (take (n / 40) row) ≡ formOf mask 5 s
+  pub binary-form : (mask : ℕ) → length s ≡ n → RowIs (map (flagOf mask 0) s) (n / 40) row
+      → prefix 5 n ++ rowBits (take (n / 40) row) ≡ formOf mask 5 s
   unfolding formOf
   binary-form mask size words =
       ap (λ (l : List ℕ). prefix 5 n ++ l) (words .says) ∙ ap (λ (k : ℕ). prefix 5 k ++ map (flagOf mask 0) s) (sym size)
@@ -109,7 +111,8 @@ none-put o p f = rw (f .held, f .at)
 pub fresh-able : {o : List ℕ} {p : Pen} {n : ℕ} → Fresh p → n ≤ 8 * length o → Able o p n
 fresh-able f h = record { held = omega (arith, f .held); word = omega (arith, f .word); room = omega (arith, f .held, f .at) }
 
-pub packed : {o form o′ o″ : List ℕ} {p p′ : Pen} {n : ℕ} → Fresh p → Puts o p form o′ p′ → Packed (penBits o′ p′) o′ o″ n → Packed form o o″ n
+pub packed : {o form o′ o″ : List ℕ} {p p′ : Pen} {n : ℕ} → Fresh p → Puts o p form o′ p′ → Packed (penBits o′ p′) o′ o″ n
+    → Packed form o o″ n
 packed {o} {form} {o′} {o″} {p} {p′} {n} f put pack′ =
     let e : penBits o′ p′ ≡ form = put .says ∙ ap (λ (l : List ℕ). l ++ form) (none-put o p f) in
     let size = rw e at (pack′ .size) in

@@ -11,7 +11,8 @@ use Rattle.rules.proofs.Octets.{length-lowBits}
 use Rattle.rules.proofs.Words.{lowBits-join}
 
 -- the mark's three bits
-marked : (k mark : ℕ) → mark < 2 → (a b : ℕ) → lowBits 3 (k + 0) ≡ a ∷ b ∷ 0 ∷ [] → lowBits 3 (k + 1) ≡ a ∷ b ∷ 1 ∷ [] → lowBits 3 (k + mark) ≡ a ∷ b ∷ mark ∷ []
+marked : (k mark : ℕ) → mark < 2 → (a b : ℕ) → lowBits 3 (k + 0) ≡ a ∷ b ∷ 0 ∷ [] → lowBits 3 (k + 1) ≡ a ∷ b ∷ 1 ∷ []
+    → lowBits 3 (k + mark) ≡ a ∷ b ∷ mark ∷ []
 marked k zero h a b e f = e
 marked k (suc zero) h a b e f = f
 marked k (suc (suc m)) h a b e f = absurd (omega arith)

@@ -24,7 +24,8 @@ module _ (r : Located) (a b c : List ℕ) where
   unfolding valuesFormOf
   values-two e = rw e (ap (λ (l : List ℕ). wayOf (r .first) a ++ l) (sym (append-nil _)))
 
-  pub values-three : (r .count ≡ 1 → ⊥) → (r .count ≡ 2 → ⊥) → wayOf (r .first) a ++ (wayOf (r .second) b ++ wayOf (r .third) c) ≡ valuesFormOf r a b c
+  pub values-three : (r .count ≡ 1 → ⊥) → (r .count ≡ 2 → ⊥)
+      → wayOf (r .first) a ++ (wayOf (r .second) b ++ wayOf (r .third) c) ≡ valuesFormOf r a b c
   unfolding valuesFormOf
   values-three n m = rw (ne-eqb (r .count) 1 n, ne-eqb (r .count) 2 m)
 
@@ -48,7 +49,8 @@ way-is : {flags runs : List ℕ} {w : Way} → WayOf flags w runs → wayOf w ru
 way-is o = way-form (sym (o .found .says)) (o .flagged) (o .way .method)
 
 way-planned : {flags runs : List ℕ} {w : Way} → WayOf flags w runs → WayPlanned w runs
-way-planned o = record { few = o .found .few; size = o .found .size; ready = way-ready (sym (o .found .says)) (o .flagged) (o .way .method) }
+way-planned o = record
+    { few = o .found .few; size = o .found .size; ready = way-ready (sym (o .found .says)) (o .flagged) (o .way .method) }
 
 module _ {mask : ℕ} {s : List ℕ} {r : Located} {a b c : List ℕ} (p : LocatedIs mask s r a b c) where
   pub located-ready : LocatedReady r a b c
@@ -78,5 +80,6 @@ module _ {mask : ℕ} {s : List ℕ} {r : Located} {a b c : List ℕ} (p : Locat
       go (suc (suc (suc zero))) e h l =
           let one : r .count ≡ 1 → ⊥ = λ k. absurd (omega arith) in
           let two : r .count ≡ 2 → ⊥ = λ k. absurd (omega arith) in
-          sym (values-three r a b c one two) ∙ rw (way-is (p .first), way-is (p .second (omega arith)), way-is (p .third (omega arith)), append-nil)
+          sym (values-three r a b c one two)
+          ∙ rw (way-is (p .first), way-is (p .second (omega arith)), way-is (p .third (omega arith)), append-nil)
       go (suc (suc (suc (suc k)))) e h l = absurd (omega arith)

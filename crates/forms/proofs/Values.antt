@@ -51,7 +51,8 @@ module _ (flags : List ℕ) {m : ℕ} (method : m ≡ methodOf flags) where
   unfolding methodForm
   value-plain h = let e : methodForm m flags ≡ flags = rw h in sym (value-by e ∙ ap (λ (k : ℕ). lowBits 3 k ++ flags) h)
 
-  pub value-runs : (m ≡ 0 → ⊥) → m ≤ 4 → {v s : ℕ} {runs : List ℕ} → v ≡ m → s ≡ m → runs ≡ runsOf 0 flags → lowBits 3 v ++ riceForms s runs ≡ valueForm flags
+  pub value-runs : (m ≡ 0 → ⊥) → m ≤ 4 → {v s : ℕ} {runs : List ℕ} → v ≡ m → s ≡ m → runs ≡ runsOf 0 flags
+      → lowBits 3 v ++ riceForms s runs ≡ valueForm flags
   unfolding methodForm
   value-runs n h e f g =
       let form : methodForm m flags ≡ runsForm m flags = rw (ne-eqb m 0 n, le-leb m 4 h) in
@@ -61,17 +62,20 @@ module _ (flags : List ℕ) {m : ℕ} (method : m ≡ methodOf flags) where
     pub listed : Listed m count
     unfolding methodOf
     listed =
-        go (eqb count 0) (ltb (length flags) (fewestRunBits flags)) (leb count 4) (ltb (count * widthOf (length flags) + 2) (fewestRunBits flags))
+        go (eqb count 0) (ltb (length flags) (fewestRunBits flags)) (leb count 4)
+        (ltb (count * widthOf (length flags) + 2) (fewestRunBits flags))
         (eqb-false count 0) (leb-true count 4) (runS-low flags) (rw (← ones) at method)
       where
-        go : (a b c d : Bool) → (a ≡ false → count ≡ 0 → ⊥) → (c ≡ true → count ≤ 4) → {s : ℕ} → s ≤ 4 → m ≡ cond a 5 (cond b 0 (cond (c && d) 7 s)) → Listed m count
+        go : (a b c d : Bool) → (a ≡ false → count ≡ 0 → ⊥) → (c ≡ true → count ≤ 4) → {s : ℕ} → s ≤ 4
+            → m ≡ cond a 5 (cond b 0 (cond (c && d) 7 s)) → Listed m count
         go true b c d f g low e = absurd (n e)
         go false true c d f g low e = absurd (omega arith)
         go false false true true f g low e = let k = f refl in record { seven = e; some = omega arith; few = g refl }
         go false false true false f g low e = absurd (omega arith)
         go false false false d f g low e = absurd (omega arith)
 
-    pub value-listed : {w : ℕ} → w ≡ widthOf (length flags) → lowBits 5 (28 + count - 1) ++ numbersForm w (placesOf 0 flags) ≡ valueForm flags
+    pub value-listed : {w : ℕ} → w ≡ widthOf (length flags)
+        → lowBits 5 (28 + count - 1) ++ numbersForm w (placesOf 0 flags) ≡ valueForm flags
     unfolding methodForm
     value-listed {w} we =
         let l = listed in

@@ -7,7 +7,8 @@ use native.Mathlib.Omega.{arith}
 use native.Mathlib.Numerals.{add-one}
 use native.Mathlib.Nat.{zero-add}
 use borrow.Author.Tests.{ne-eqb, le-leb, lt-leb, eqb-true, eqb-false, leb-true, leb-false}
-use lib.ListN.{length, getD, take, drop, replicate, length-append, length-replicate, replicate-append-replicate, List·getD-eq-default, drop-of-length-le}
+use lib.ListN.{length, getD, take, drop, replicate}
+use lib.ListN.{length-append, length-replicate, replicate-append-replicate, List·getD-eq-default, drop-of-length-le}
 use lib.Seq.{drop-cons, length-take-le, getD-take, take-take}
 use lib.Dec.{eqb, leb}
 use Rattle.rules.specs.Bits.{lowBits}
@@ -102,8 +103,12 @@ module _ {flags runs : List ℕ} {d count m : ℕ} (e : runsOf 0 flags ≡ runs)
   unfolding wayForm
   way-form = go (eqb m 5) (eqb m 0) (leb m 4) (eqb-true m 5) (eqb-false m 5) (eqb-true m 0) (eqb-false m 0) (leb-true m 4) (leb-false m 4)
     where
-      go : (a b c : Bool) → (a ≡ true → m ≡ 5) → (a ≡ false → m ≡ 5 → ⊥) → (b ≡ true → m ≡ 0) → (b ≡ false → m ≡ 0 → ⊥) → (c ≡ true → m ≤ 4) → (c ≡ false → 4 < m)
-          → cond a (lowBits 3 5) (cond b (lowBits 3 0 ++ marksForm count runs) (cond c (lowBits 3 m ++ riceForms m runs) (lowBits 5 (28 + count - 1) ++ listedForm (widthOf d) count runs))) ≡ valueForm flags
+      go : (a b c : Bool) → (a ≡ true → m ≡ 5) → (a ≡ false → m ≡ 5 → ⊥) → (b ≡ true → m ≡ 0) → (b ≡ false → m ≡ 0 → ⊥)
+          → (c ≡ true → m ≤ 4) → (c ≡ false → 4 < m)
+          → cond a (lowBits 3 5)
+          (cond b (lowBits 3 0 ++ marksForm count runs)
+          (cond c (lowBits 3 m ++ riceForms m runs) (lowBits 5 (28 + count - 1) ++ listedForm (widthOf d) count runs)))
+          ≡ valueForm flags
       go true b c h h′ k k′ l l′ = value-absent flags method (h refl)
       go false true c h h′ k k′ l l′ = ap (λ (x : List ℕ). lowBits 3 0 ++ x) marks ∙ value-plain flags method (k refl)
       go false false true h h′ k k′ l l′ = value-runs flags method (k′ refl) (l refl) refl refl (sym e)
@@ -147,17 +152,20 @@ module _ (m d count : ℕ) (runs : List ℕ) where
       rw (ne-eqb m 5 n, ne-eqb m 0 none, lt-leb m 4 h, e, f)
 
 -- so many runs are found
-pub way-within : {m d count found : ℕ} (runs : List ℕ) → found ≤ 321 → length runs ≡ 321 → WayReady m d count (take found runs) → count ≤ found
+pub way-within : {m d count found : ℕ} (runs : List ℕ) → found ≤ 321 → length runs ≡ 321 → WayReady m d count (take found runs)
+    → count ≤ found
 way-within {found = found} runs h long r = omega (arith, r .within, length-take-le found runs (omega arith))
 
 -- the runs that end, and what is open
 module _ (count found : ℕ) (runs : List ℕ) (within : count ≤ found) where
   pub marks-closed : found ≤ count → found ≤ length runs → riceForms 0 (take count runs) ≡ marksForm count (take found runs)
   marks-closed h long =
-      let z : getD (take found runs) count 0 ≡ 0 = List·getD-eq-default (take found runs) 0 (omega (arith, length-take-le found runs long)) in
+      let z : getD (take found runs) count 0 ≡ 0 = List·getD-eq-default (take found runs) 0
+      (omega (arith, length-take-le found runs long)) in
       rw (take-take count found runs within, z, append-nil)
 
-  pub marks-open : {v : ℕ} → count < found → v ≡ getD runs count 0 → riceForms 0 (take count runs) ++ replicate v 0 ≡ marksForm count (take found runs)
+  pub marks-open : {v : ℕ} → count < found → v ≡ getD runs count 0
+      → riceForms 0 (take count runs) ++ replicate v 0 ≡ marksForm count (take found runs)
   marks-open h e = rw (take-take count found runs within, getD-take found runs count 0 h, e)
 
   pub marks-length : length (riceForms 0 (take count runs)) + getD (take found runs) count 0 ≡ length (marksForm count (take found runs))
@@ -172,10 +180,12 @@ pub record ListedTurn (o : List ℕ) (p : Pen) (w : ℕ) (l o′ : List ℕ) (p�
   pub small : at ≤ 2 ^ w
   pub size : length o′ ≡ length o
 
-pub listed-start : {o : List ℕ} {p : Pen} {m : ℕ} (w : ℕ) (l : List ℕ) → Able o p m → ((i : ℕ) → getD (placesBy 0 l) i 0 < 2 ^ w) → ListedTurn o p w l o p 0 0
+pub listed-start : {o : List ℕ} {p : Pen} {m : ℕ} (w : ℕ) (l : List ℕ) → Able o p m → ((i : ℕ) → getD (placesBy 0 l) i 0 < 2 ^ w)
+    → ListedTurn o p w l o p 0 0
 listed-start w l a f = record { done = []; puts = puts-none (a .held) (a .word); rest = refl; fits = f; small = omega arith; size = refl }
 
-module _ {o o′ : List ℕ} {p p′ : Pen} {at j v : ℕ} (w count : ℕ) (runs : List ℕ) (t : ListedTurn o p w (take count runs) o′ p′ at j) (h : j < count)
+module _ {o o′ : List ℕ} {p p′ : Pen} {at j v : ℕ} (w count : ℕ) (runs : List ℕ) (t : ListedTurn o p w (take count runs) o′ p′ at j)
+    (h : j < count)
     (long : count ≤ length runs) (e : v ≡ getD runs j 0) where
   next : drop j (take count runs) ≡ v ∷ drop (j + 1) (take count runs)
   next = rw (drop-cons (take count runs) j 0 (omega (arith, length-take-le count runs long)), getD-take count runs j 0 h, ← e, add-one j)
@@ -187,7 +197,8 @@ module _ {o o′ : List ℕ} {p p′ : Pen} {at j v : ℕ} (w count : ℕ) (runs
   pub listed-fits : at + v < 2 ^ w
   listed-fits = rw later at (t .fits 0)
 
-  parts : t .done ++ (lowBits w (at + v) ++ numbersForm w (placesBy (at + v + 1) (drop (j + 1) (take count runs)))) ≡ numbersForm w (placesBy 0 (take count runs))
+  parts : t .done ++ (lowBits w (at + v) ++ numbersForm w (placesBy (at + v + 1) (drop (j + 1) (take count runs)))) ≡ numbersForm
+      w (placesBy 0 (take count runs))
   unfolding numbersForm
   parts = rw later at (t .rest)
 
@@ -197,7 +208,8 @@ module _ {o o′ : List ℕ} {p p′ : Pen} {at j v : ℕ} (w count : ℕ) (runs
       let n = length-append (lowBits w (at + v)) (numbersForm w (placesBy (at + v + 1) (drop (j + 1) (take count runs)))) in
       able-then w a (t .puts) (t .size) (omega (arith, k, n, length-lowBits w (at + v)))
 
-  pub listed-then : {o″ : List ℕ} {p″ : Pen} → Puts o′ p′ (lowBits w (at + v)) o″ p″ → length o″ ≡ length o′ → ListedTurn o p w (take count runs) o″ p″ (at + v + 1) (j + 1)
+  pub listed-then : {o″ : List ℕ} {p″ : Pen} → Puts o′ p′ (lowBits w (at + v)) o″ p″ → length o″ ≡ length o′
+      → ListedTurn o p w (take count runs) o″ p″ (at + v + 1) (j + 1)
   listed-then put size =
       record {
         done = t .done ++ lowBits w (at + v);
@@ -208,7 +220,8 @@ module _ {o o′ : List ℕ} {p p′ : Pen} {at j v : ℕ} (w count : ℕ) (runs
         size = size ∙ t .size;
       }
 
-pub listed-done : {o o′ : List ℕ} {p p′ : Pen} {at j : ℕ} (w : ℕ) (l : List ℕ) → ListedTurn o p w l o′ p′ at j → length l ≤ j → Puts o p (numbersForm w (placesBy 0 l)) o′ p′
+pub listed-done : {o o′ : List ℕ} {p p′ : Pen} {at j : ℕ} (w : ℕ) (l : List ℕ) → ListedTurn o p w l o′ p′ at j → length l ≤ j
+    → Puts o p (numbersForm w (placesBy 0 l)) o′ p′
 unfolding placesBy numbersForm
 listed-done {j = j} w l t h =
     let e : drop j l ≡ [] = drop-of-length-le l h in

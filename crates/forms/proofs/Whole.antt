@@ -14,7 +14,7 @@ use Rattle.rules.specs.First.{octetFor}
 use Rattle.rules.specs.Chooses.{formOf}
 use Rattle.rules.proofs.Octets.{length-bitsOf, Below, below-all, below-take, octetsFrom-bitsOf}
 use Rattle.pen.specs.Puts.{Packed}
-use Rattle.pen.proofs.Putting.{drop-further}
+use Rattle.rules.proofs.Lent.{drop-further}
 use Rattle.forms.specs.Forms.{wholeOctets, Copied}
 
 -- octets are their bits, packed
@@ -28,26 +28,30 @@ pack-whole {l} b =
     ap (λ (k : ℕ). octetsFrom k (bitsOf l ++ replicate fill 0)) n ∙ ap (λ (k : ℕ). octetsFrom (length l) (bitsOf l ++ replicate k 0)) z
     ∙ ap (octetsFrom (length l)) (append-nil (bitsOf l)) ∙ octetsFrom-bitsOf b
 
-pub whole-packed : {o o′ : List ℕ} {n : ℕ} (l : List ℕ) → ((i : ℕ) → getD o′ i 0 < 256) → n ≡ length l → take n o′ ≡ l → drop n o′ ≡ drop n o
+pub whole-packed : {o o′ : List ℕ} {n : ℕ} (l : List ℕ) → ((i : ℕ) → getD o′ i 0 < 256) → n ≡ length l → take n o′ ≡ l
+    → drop n o′ ≡ drop n o
     → Packed (bitsOf l) o o′ n
 whole-packed {o} {o′} {n} l octets size same rest =
     let k = length-bitsOf l in
     let b : Below 256 l = rw same at (below-take n (below-all o′ octets)) in
     record {
       size = omega arith;
-      lent = sym (take-append-drop n o′) ∙ ap (λ (x : List ℕ). x ++ drop n o′) (same ∙ sym (pack-whole b)) ∙ ap (λ (x : List ℕ). pack (bitsOf l) ++ x) rest;
+      lent = sym (take-append-drop n o′) ∙ ap (λ (x : List ℕ). x ++ drop n o′) (same ∙ sym (pack-whole b))
+          ∙ ap (λ (x : List ℕ). pack (bitsOf l) ++ x) rest;
     }
 
 -- a copy behind the first octet, one sample more
 pub copy-none : (s o : List ℕ) → Copied (take 0 s) 0 o o
 copy-none s o = record { says = sym (append-nil _); rest = refl; size = refl }
 
-pub copy-turn : (s o o′ : List ℕ) (i : ℕ) → Copied (take i s) i o o′ → i < length s → 1 + i < length o → Copied (take (i + 1) s) (i + 1) o (set o′ (1 + i) (getD s i 0))
+pub copy-turn : (s o o′ : List ℕ) (i : ℕ) → Copied (take i s) i o o′ → i < length s → 1 + i < length o
+    → Copied (take (i + 1) s) (i + 1) o (set o′ (1 + i) (getD s i 0))
 copy-turn s o o′ i t h room =
     let e : 1 + (i + 1) ≡ suc (1 + i) = omega arith in
     record {
       says = rw (e, take-suc-set o′ (1 + i) (getD s i 0) (omega (arith, t .size)), t .says, add-one i, take-suc s i 0 h, append-assoc);
-      rest = drop-set-lt (1 + (i + 1)) o′ (1 + i) (getD s i 0) (omega arith) ∙ drop-further o′ o (1 + i) (1 + (i + 1)) (omega arith) (t .rest);
+      rest = drop-set-lt (1 + (i + 1)) o′ (1 + i) (getD s i 0) (omega arith)
+          ∙ drop-further o′ o (1 + i) (1 + (i + 1)) (omega arith) (t .rest);
       size = length-set o′ (1 + i) (getD s i 0) ∙ t .size;
     }
 
@@ -92,7 +96,8 @@ set-first [] x h = absurd (omega arith)
 set-first (y ∷ l) x h = refl
 
 module _ {o : List ℕ} {x n : ℕ} (s : List ℕ) (size : length s ≡ n) where
-  pub whole-samples : {o′ : List ℕ} → x ≡ octetFor 1 n → 0 < length o → Copied s n (set o 0 x) o′ → ((i : ℕ) → getD o′ i 0 < 256) → Packed (bitsOf (wholeOctets 1 s)) o o′ (1 + n)
+  pub whole-samples : {o′ : List ℕ} → x ≡ octetFor 1 n → 0 < length o → Copied s n (set o 0 x) o′ → ((i : ℕ) → getD o′ i 0 < 256)
+      → Packed (bitsOf (wholeOctets 1 s)) o o′ (1 + n)
   unfolding wholeOctets
   whole-samples {o′} e h c octets =
       let first : take 1 (set o 0 x) ≡ octetFor 1 (length s) ∷ [] = rw (set-first o x h, e, size) in

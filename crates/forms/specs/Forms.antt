@@ -1,5 +1,5 @@
 -- The pieces of a form.
-use Prim.Native.Nat.{ℕ, _+_, _^_, _/_, _%_, _≤_, _<_}
+use Prim.Native.Nat.{ℕ, _+_, _^_, _/_, _≤_, _<_}
 use mathlib.Core.Path.{_≡_}
 use mathlib.Core.List.{List, [], _∷_, _++_}
 use mathlib.Core.Bool.{cond}
@@ -64,7 +64,8 @@ planForm n r a b c = prefix 7 n ++ locatedFormOf r a b c
 -- the planned form of n samples that are the two zeros; the row's flags are 1 at minus zero
 unfoldable pub zerosForm : ℕ → List ℕ → Zeros → List ℕ → List ℕ → List ℕ
 zerosForm n s r row runs =
-    cond (eqb (r .tool) 1) (bitsOf (wholeOctets 1 s)) (cond (eqb (r .tool) 6) (riceFormOf n r runs) (prefix 5 n ++ rowBits (take (n / 40) row)))
+    cond (eqb (r .tool) 1) (bitsOf (wholeOctets 1 s))
+    (cond (eqb (r .tool) 6) (riceFormOf n r runs) (prefix 5 n ++ rowBits (take (n / 40) row)))
 
 pub record ZerosReady (samples : List ℕ) (n : ℕ) (plan : Zeros) (row runs : List ℕ) : Type 0 where
   pub sized : FrameIn samples n

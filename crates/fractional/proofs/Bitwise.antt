@@ -1,6 +1,6 @@
 -- Where R' is 2, a group is a bit.
 use Prim.Native.Nat.{ℕ, zero, suc, _+_, _*_, _^_, _/_, _%_, _<_}
-use mathlib.Core.Path.{_≡_, refl, subst, ap, _∙_}
+use mathlib.Core.Path.{_≡_, refl, subst}
 use mathlib.Core.List.{List, [], _∷_, _++_, map}
 use mathlib.Core.Bool.{Bool, true, false, cond}
 use native.Mathlib.Omega.{arith}
@@ -29,7 +29,8 @@ groups-bits {b} z done (suc m) i = go (bit b i) (λ a j e. bit-small z i e) (λ 
   where
     go : (r : Read ℕ) → ((a j : ℕ) → r ≡ whole a j → a < 2)
         → ((a j : ℕ) → groupsFrom 2 1 1 (done ++ (a ∷ [])) m b j ≡ bitsFrom (done ++ (a ∷ [])) m b j)
-        → andThen (andThen r (λ a j. whole (2 * 0 + a) j)) (λ v j. cond (ltb v (2 ^ 1)) (groupsFrom 2 1 1 (done ++ (v % 2 ∷ [])) m) (fail Place i) b j)
+        → andThen (andThen r (λ a j. whole (2 * 0 + a) j))
+        (λ v j. cond (ltb v (2 ^ 1)) (groupsFrom 2 1 1 (done ++ (v % 2 ∷ [])) m) (fail Place i) b j)
         ≡ andThen r (λ a j. bitsFrom (done ++ (a ∷ [])) m b j)
     go (whole zero j) small later = later 0 j
     go (whole (suc zero) j) small later = later 1 j
@@ -44,7 +45,8 @@ module _ (values s : List ℕ) (n at : ℕ) where
       let k : n / 1 ≡ n = omega arith in
       rw (k, groups-bits (bitsOf-below s) [] n at, e)
 
-  pub bits-refused : {w : Refusal} {bit : ℕ} → bitsFrom [] n (bitsOf s) at ≡ refuse w bit → groupsAs values 2 1 1 n (bitsOf s) at ≡ refuse w bit
+  pub bits-refused : {w : Refusal} {bit : ℕ} → bitsFrom [] n (bitsOf s) at ≡ refuse w bit
+      → groupsAs values 2 1 1 n (bitsOf s) at ≡ refuse w bit
   unfolding groupsAs
   bits-refused e =
       let k : n / 1 ≡ n = omega arith in

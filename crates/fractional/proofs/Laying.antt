@@ -1,10 +1,10 @@
 -- The digits of a number laid as samples, one by one.
-use Prim.Native.Nat.{ℕ, zero, suc, _+_, _*_, _-_, _^_, _/_, _%_, _≤_, _<_}
-use mathlib.Core.Path.{_≡_, refl, sym, ap, ap₂, _∙_}
+use Prim.Native.Nat.{ℕ, suc, _+_, _*_, _-_, _/_, _%_, _≤_, _<_}
+use mathlib.Core.Path.{_≡_, refl, sym, ap, _∙_}
 use mathlib.Core.List.{List, [], _∷_, _++_, map, map-append, append-assoc, append-nil}
 use native.Mathlib.Omega.{arith}
 use native.Mathlib.Nat.{mod-lt, mod-def, mul-div-le, div-le-self}
-use lib.ListN.{length, getD, set, take, drop, length-map, length-append}
+use lib.ListN.{length, getD, set, length-map, length-append}
 use Rattle.runs.specs.Flagged.{Put}
 use Rattle.runs.proofs.Puts.{put-none, put-one, put-then, put-length}
 use Rattle.rules.specs.Fractional.{digitsOf}
@@ -33,7 +33,15 @@ pub record Laying (values : List ℕ) (r g v : ℕ) (old : List ℕ) (from j lef
 
 pub laying-none : (values : List ℕ) (r g v : ℕ) (old : List ℕ) (from : ℕ) → length old ≡ 320 → Laying values r g v old from 0 v old
 laying-none values r g v old from h =
-    record { done = []; says = ap (λ (k : ℕ). digitsOf r k v) (omega arith); size = refl; put = put-none old from; room = h; within = omega arith; small = omega arith }
+    record {
+      done = [];
+      says = ap (λ (k : ℕ). digitsOf r k v) (omega arith);
+      size = refl;
+      put = put-none old from;
+      room = h;
+      within = omega arith;
+      small = omega arith;
+    }
 
 module _ {values : List ℕ} {r g v : ℕ} {old : List ℕ} {from j left : ℕ} {new : List ℕ} (t : Laying values r g v old from j left new) where
   pub laying-turn : {q x : ℕ} → length old ≡ 320 → from + g ≤ 320 → j < g → q ≡ left / r → x ≡ getD values (left - r * q) 0

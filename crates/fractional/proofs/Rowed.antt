@@ -1,18 +1,17 @@
 -- Digits read are below R', so an array that agrees with the row's samples below R' serves as well.
-use Prim.Native.Nat.{ℕ, zero, suc, _+_, _*_, _-_, _^_, _/_, _%_, _≤_, _<_}
+use Prim.Native.Nat.{ℕ, zero, suc, _+_, _-_, _^_, _/_, _<_}
 use mathlib.Core.Path.{_≡_, refl, sym, ap, ap₂, _∙_}
 use mathlib.Core.List.{List, [], _∷_, _++_, map}
-use mathlib.Core.Bool.{Bool, true, false, cond, _&&_}
+use mathlib.Core.Bool.{Bool, true, false, cond}
 use native.Mathlib.Omega.{arith}
-use borrow.Author.Tests.{leb-true}
-use lib.Dec.{leb, ltb}
-use lib.ListN.{length, getD}
+use lib.Dec.{ltb}
+use lib.ListN.{getD}
 use Rattle.rules.specs.declared.Refusal.the-variants.{Place}
 use Rattle.rules.specs.Samples.{sampleOf}
 use Rattle.rules.specs.Reading.{Read, whole, refuse, andThen, fail, numberFrom}
 use Rattle.rules.proofs.Octets.{Below, none, more, below-append}
-use Rattle.rules.proofs.Tests.{and-left, and-right, allBelow, allBelow-at}
-use Rattle.rules.specs.Fractional.{valuesAt, radix, lowAt, belowAt, valueFor, groupOf, bitsFor, digitsOf, groupsFrom, groupsAs, groupsOf, samplesAt, fractional}
+use Rattle.rules.specs.Fractional.{radix, lowAt, belowAt, valueFor, groupOf, bitsFor}
+use Rattle.rules.specs.Fractional.{digitsOf, groupsFrom, groupsAs, groupsOf, samplesAt, fractional}
 use Rattle.fractional.specs.Rows.{six}
 use Rattle.rules.proofs.Fractional.{digits-below, radix-range, sample-told}
 
@@ -25,10 +24,12 @@ picked : (r g w m start : ℕ) (done : List ℕ) (bits : List ℕ) (b : Bool) (j
 picked r g w m start done bits true j h = h
 picked r g w m start done bits false j h = tt
 
-groups-below : (r g w : ℕ) → 0 < r → (m : ℕ) (done : List ℕ) → Below r done → (bits : List ℕ) (i : ℕ) → DigitsOf r (groupsFrom r g w done m bits i)
+groups-below : (r g w : ℕ) → 0 < r → (m : ℕ) (done : List ℕ) → Below r done → (bits : List ℕ) (i : ℕ)
+    → DigitsOf r (groupsFrom r g w done m bits i)
 unfolding groupsFrom
 groups-below r g w h zero done b bits i = b
-groups-below r g w h (suc m) done b bits i = go (numberFrom 0 w bits i) (λ v j. groups-below r g w h m (done ++ digitsOf r g v) (below-append b (digits-below r g v h)) bits j)
+groups-below r g w h (suc m) done b bits i =
+    go (numberFrom 0 w bits i) (λ v j. groups-below r g w h m (done ++ digitsOf r g v) (below-append b (digits-below r g v h)) bits j)
   where
     go : (n : Read ℕ) → ((v j : ℕ) → DigitsOf r (groupsFrom r g w (done ++ digitsOf r g v) m bits j))
         → DigitsOf r (andThen n (λ v j. cond (ltb v (r ^ g)) (groupsFrom r g w (done ++ digitsOf r g v) m) (fail Place i) bits j))
@@ -59,19 +60,11 @@ six-at mask low below (suc (suc (suc (suc zero)))) h = refl
 six-at mask low below (suc (suc (suc (suc (suc zero))))) h = refl
 six-at mask low below (suc (suc (suc (suc (suc (suc d)))))) h = absurd (omega arith)
 
-pub body-as : (mask k n : ℕ) {values : List ℕ} {r : ℕ} → k < 12 → values ≡ six mask (lowAt k) (belowAt k) → r ≡ radix k → (bits : List ℕ) (at : ℕ)
+pub body-as : (mask k n : ℕ) {values : List ℕ} {r : ℕ} → k < 12 → values ≡ six mask (lowAt k) (belowAt k) → r ≡ radix k
+    → (bits : List ℕ) (at : ℕ)
     → fractional mask k n bits at ≡ groupsOf values r n bits at
 body-as mask k n {values} {r} h e f bits at =
     let range = radix-range k h in
-    rw (e, f) (groups-values (samplesAt mask k) (six mask (lowAt k) (belowAt k)) (radix k) (groupOf (radix k)) (bitsFor (radix k)) n (omega (arith, range .0))
+    rw (e, f) (groups-values (samplesAt mask k) (six mask (lowAt k) (belowAt k)) (radix k) (groupOf (radix k))
+    (bitsFor (radix k)) n (omega (arith, range .0))
     (λ d l. sample-told mask k d h l ∙ sym (six-at mask (lowAt k) (belowAt k) d (omega (arith, range .1)))) bits at)
-
--- a row's numbers
-abbrev rowSmall : ℕ → Bool
-rowSmall k = leb (belowAt k) (lowAt k) && leb (lowAt k) 4
-
-pub row-small : (k : ℕ) → k < 12 → (belowAt k ≤ lowAt k) × (lowAt k ≤ 4)
-unfolding valuesAt
-row-small k h =
-    let t = allBelow-at rowSmall 12 refl k h in
-    (leb-true _ _ (and-left (leb (belowAt k) (lowAt k)) (leb (lowAt k) 4) t), leb-true _ _ (and-right (leb (belowAt k) (lowAt k)) (leb (lowAt k) 4) t))

@@ -77,7 +77,13 @@ fn groups(
 }
 
 // "R' = 2": N bits, read by windows; each one picks one of the two values (8-23).
-fn two_values(octets: &[u8], at: usize, n: usize, values: &[u8; 6], samples: &mut [u8; 320]) -> Outcome
+fn two_values(
+    octets: &[u8],
+    at: usize,
+    n: usize,
+    values: &[u8; 6],
+    samples: &mut [u8; 320],
+) -> Outcome
     requires { ⌜ (at ≤ 2 ^ 37) × (n ≤ 320) × (length (now samples) ≡ 320) × (length (now values) ≡ 6) ⌝ }
     ensures { λ o. ⌜ FillsBody (groupsAs (now (values .entry)) 2 1 1 n (bitsOf (now (octets .entry))) at) (at + 4160) (now (samples .entry)) (now (samples .exit)) o ⌝ }
 {
@@ -88,7 +94,13 @@ fn two_values(octets: &[u8], at: usize, n: usize, values: &[u8; 6], samples: &mu
 }
 
 // "R' = 4": N numbers of two bits; each one picks one of the four values (8-24), (8-25).
-fn four_values(octets: &[u8], at: usize, n: usize, values: &[u8; 6], samples: &mut [u8; 320]) -> Outcome
+fn four_values(
+    octets: &[u8],
+    at: usize,
+    n: usize,
+    values: &[u8; 6],
+    samples: &mut [u8; 320],
+) -> Outcome
     requires { ⌜ (at ≤ 2 ^ 37) × (n ≤ 320) × (length (now samples) ≡ 320) × (length (now values) ≡ 6) ⌝ }
     ensures { λ o. ⌜ FillsBody (groupsAs (now (values .entry)) 4 1 2 n (bitsOf (now (octets .entry))) at) (at + 4160) (now (samples .entry)) (now (samples .exit)) o ⌝ }
 {

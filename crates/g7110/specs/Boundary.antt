@@ -20,10 +20,12 @@ pub record ReadReported (found : Read Found) (out out′ five : List ℕ) (r : �
   pub report : five ≡ length (readSamples found) ∷ readOctets found ∷ readBits found ∷ readTool found ∷ readBit found ∷ []
   pub lent : out′ ≡ atStart (readSamples found) out
 
--- the number; frames, octets and samples kept, the tool that is named and the refusal's bit; the samples at the start of the output, the rest as lent
+-- the number; frames, octets and samples kept, the tool that is named and the refusal's bit; the samples at the start of the output, the
+-- rest as lent
 pub record WalkReported (walked : Walked) (out out′ five : List ℕ) (r : ℕ) : Type 0 where
   pub number : r ≡ numberOf (walked .end)
-  pub report : five ≡ length (walked .frames) ∷ octetsKept (walked .frames) ∷ length (samplesKept (walked .frames)) ∷ toolNamed (walked .end) ∷ walked .bit ∷ []
+  pub report : five ≡ length (walked .frames) ∷ octetsKept (walked .frames) ∷ length (samplesKept (walked .frames)) ∷ toolNamed
+      (walked .end) ∷ walked .bit ∷ []
   pub lent : out′ ≡ atStart (samplesKept (walked .frames)) out
 
 -- the number; octets, bits and tool; the octets at the start of the output, the rest as lent

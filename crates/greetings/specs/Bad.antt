@@ -1,4 +1,5 @@
--- Document 02, R-6: "1 or more octets that the walk accepts with set 127"; "BAD if the walk, room never short, refuses or the greeting is empty".
+-- Document 02, R-6: "1 or more octets that the walk accepts with set 127"; "BAD if the walk, room never short, refuses or the greeting is
+-- empty".
 use Prim.Native.Nat.{ℕ, _*_}
 use mathlib.Core.List.{List}
 use mathlib.Core.Bool.{Bool, true, false, cond, not}

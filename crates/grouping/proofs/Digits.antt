@@ -1,23 +1,23 @@
 -- The digit of a sample by (7-77) is its place among the row's values: `digit-told`.
-use Prim.Native.Nat.{ℕ, zero, suc, _+_, _-_, _/_, _%_, _≤_, _<_}
+use Prim.Native.Nat.{ℕ, suc, _+_, _-_, _/_, _%_, _≤_, _<_}
 use mathlib.Core.Path.{_≡_, refl, sym, ap, ap₂, _∙_}
 use mathlib.Core.List.{List, [], _∷_, map}
-use mathlib.Core.Bool.{Bool, true, false, cond, _&&_}
+use mathlib.Core.Bool.{Bool, true, false, cond}
 use native.Mathlib.Omega.{arith}
-use borrow.Author.Tests.{ltb-true, ltb-false, leb-true, le-leb, lt-leb}
+use borrow.Author.Tests.{ltb-true, ltb-false, le-leb, lt-leb}
 use lib.Bits.{bitXor}
-use lib.Dec.{leb, ltb}
-use lib.IntN.{ℤ, pos, negsuc}
+use lib.Dec.{ltb}
+use lib.IntN.{pos, negsuc}
 use lib.ListN.{length, getD}
 use Rattle.rules.specs.Samples.{signed, sampleOf}
-use Rattle.rules.specs.Fractional.{valuesAt, radix, lowAt, belowAt, digitFor, valueFor, groupOf, bitsFor, groupsForm, groupsFormAs, placeIn, samplesAt, fractionalBody}
-use Rattle.rules.proofs.Octets.{Below, none, more, below-all}
-use Rattle.rules.proofs.Tests.{and-left, and-right, allBelow-at}
+use Rattle.rules.specs.Fractional.{radix, lowAt, belowAt, digitFor, valueFor, groupOf}
+use Rattle.rules.specs.Fractional.{bitsFor, groupsForm, groupsFormAs, placeIn, samplesAt, fractionalBody}
+use Rattle.rules.proofs.Octets.{Below, more, below-all}
 use Rattle.rules.proofs.Signed.{InRange, LawMask}
-use Rattle.rules.proofs.Fractional.{place-back, radix-range, length-samplesAt, sample-told}
+use Rattle.rules.proofs.Fractional.{place-back, radix-range, row-small, length-samplesAt, sample-told}
 use Rattle.ranges.specs.declared.Row.{Row}
 use Rattle.ranges.specs.Rows.{RowIs}
-use Rattle.grouping.specs.Digits.{digitIn, digitsIn, DigitsFit}
+use Rattle.grouping.specs.Digits.{digitsIn, DigitsFit}
 
 -- (7-77), as the code has it
 module _ (mask x low below : ℕ) where
@@ -44,16 +44,6 @@ value-in-range low below d h k = go (ltb d below)
     go true = omega arith
     go false = omega arith
 
--- a row's numbers
-abbrev rowSmall : ℕ → Bool
-rowSmall k = leb (belowAt k) (lowAt k) && leb (lowAt k) 4
-
-pub row-small : (k : ℕ) → k < 12 → (belowAt k ≤ lowAt k) × (lowAt k ≤ 4)
-unfolding valuesAt
-row-small k h =
-    let t = allBelow-at rowSmall 12 refl k h in
-    (leb-true _ _ (and-left (leb (belowAt k) (lowAt k)) (leb (lowAt k) 4) t), leb-true _ _ (and-right (leb (belowAt k) (lowAt k)) (leb (lowAt k) 4) t))
-
 pub digit-told : {mask : ℕ} → LawMask mask → (k x : ℕ) → k < 12 → placeIn (samplesAt mask k) x < radix k
     → placeIn (samplesAt mask k) x ≡ digitFor (lowAt k) (belowAt k) (signed mask x)
 digit-told {mask} l k x h p =
@@ -64,7 +54,8 @@ digit-told {mask} l k x h p =
     let few = radix-range k h in
     let x-is : x ≡ sampleOf mask (valueFor low below d)
     = sym (place-back (samplesAt mask k) x (rw (length-samplesAt mask k) p)) ∙ sample-told mask k d h p in
-    let v : signed mask x ≡ valueFor low below d = ap (signed mask) x-is ∙ l .forth (valueFor low below d) (value-in-range low below d (small .1) (omega (arith, few .1))) in
+    let v : signed mask x ≡ valueFor low below d = ap (signed mask) x-is
+    ∙ l .forth (valueFor low below d) (value-in-range low below d (small .1) (omega (arith, few .1))) in
     sym (ap (digitFor low below) v ∙ digit-back low below d (small .0))
 
 -- so of all samples of a frame
@@ -72,10 +63,12 @@ map-told : {r : ℕ} (f g : ℕ → ℕ) → ((x : ℕ) → f x < r → f x ≡ 
 map-told f g e [] b = refl
 map-told f g e (x ∷ s) (more h b) = ap₂ _∷_ (e x h) (map-told f g e s b)
 
-pub digits-told : {mask : ℕ} → LawMask mask → (k : ℕ) → k < 12 → {row : Row} → RowIs k row → (s : List ℕ) → Below (radix k) (map (placeIn (samplesAt mask k)) s)
+pub digits-told : {mask : ℕ} → LawMask mask → (k : ℕ) → k < 12 → {row : Row} → RowIs k row → (s : List ℕ)
+    → Below (radix k) (map (placeIn (samplesAt mask k)) s)
     → map (placeIn (samplesAt mask k)) s ≡ digitsIn mask row s
 digits-told {mask} l k h {row} is s b =
-    rw (is .low, is .below) (map-told (placeIn (samplesAt mask k)) (λ x. digitFor (lowAt k) (belowAt k) (signed mask x)) (λ x p. digit-told l k x h p) s b)
+    rw (is .low, is .below)
+    (map-told (placeIn (samplesAt mask k)) (λ x. digitFor (lowAt k) (belowAt k) (signed mask x)) (λ x p. digit-told l k x h p) s b)
 
 -- so they fit the row, and make its body
 module _ {mask : ℕ} (l : LawMask mask) (k : ℕ) (h : k < 12) {row : Row} (is : RowIs k row) (s : List ℕ)
@@ -96,6 +89,7 @@ module _ {mask : ℕ} (l : LawMask mask) (k : ℕ) (h : k < 12) {row : Row} (is 
       }
 
   pub body-told : {n : ℕ} → length s ≡ n
-      → groupsForm (row .radix) (groupOf (row .radix)) (bitsFor (row .radix)) (n / groupOf (row .radix)) (digitsIn mask row s) ≡ fractionalBody mask k s
+      → groupsForm (row .radix) (groupOf (row .radix)) (bitsFor (row .radix)) (n / groupOf (row .radix))
+      (digitsIn mask row s) ≡ fractionalBody mask k s
   unfolding groupsFormAs
   body-told size = rw (← told, is .radix, ← size) refl

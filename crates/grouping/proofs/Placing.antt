@@ -1,15 +1,13 @@
 -- The number of a group's digits, and groups put one after another. f gives a sample its digit.
-use Prim.Native.Nat.{ℕ, zero, suc, _+_, _*_, _-_, _^_, _/_, _%_, _≤_, _<_}
+use Prim.Native.Nat.{ℕ, zero, suc, _+_, _*_, _-_, _^_, _/_, _≤_, _<_}
 use mathlib.Core.Path.{_≡_, refl, sym, ap, ap₂, _∙_}
 use mathlib.Core.List.{List, [], _∷_, _++_, map, append-assoc, append-nil}
-use mathlib.Core.Bool.{Bool, true, false, cond}
 use native.Mathlib.Omega.{arith}
 use native.Mathlib.Nat.{zero-mul, suc-mul, zero-add, pow-le-pow-left, pow-le-pow-right, lt-of-lt-of-le, le-trans}
-use borrow.Author.Tests.{eq-eqb, ne-eqb}
-use lib.ListN.{length, getD, take, drop, length-map, length-append, length-take, length-drop}
+use lib.ListN.{length, getD, take, drop, length-map, length-append, length-drop}
 use lib.Seq.{drop-cons, drop-drop, getD-take, getD-drop, length-take-le}
 use Rattle.rules.specs.Bits.{lowBits}
-use Rattle.rules.proofs.Octets.{Below, none, more, below-all, below-take, below-drop, length-lowBits}
+use Rattle.rules.proofs.Octets.{Below, more, below-all, below-take, below-drop, length-lowBits}
 use Rattle.pen.specs.declared.Pen.{Pen}
 use Rattle.pen.specs.Puts.{Able, Puts}
 use Rattle.pen.proofs.Putting.{puts-none, puts-then, puts-as, able-then}
@@ -29,11 +27,13 @@ digits-fit-all {r} ds j b h k l =
     let c : r ^ 5 ≤ 6 ^ 5 = pow-le-pow-left k 5 in
     lt-of-lt-of-le (digits-fit (below-drop j b)) (le-trans a c)
 
-pub digits-turn : (r : ℕ) (ds : List ℕ) (j : ℕ) → 0 < j → j ≤ length ds → r * ofDigits r (drop j ds) + getD ds (j - 1) 0 ≡ ofDigits r (drop (j - 1) ds)
+pub digits-turn : (r : ℕ) (ds : List ℕ) (j : ℕ) → 0 < j → j ≤ length ds
+    → r * ofDigits r (drop j ds) + getD ds (j - 1) 0 ≡ ofDigits r (drop (j - 1) ds)
 unfolding ofDigits
 digits-turn r ds j h k =
     let e : suc (j - 1) ≡ j = omega arith in
-    let q : drop (j - 1) ds ≡ getD ds (j - 1) 0 ∷ drop j ds = drop-cons ds (j - 1) 0 (omega arith) ∙ ap (λ (i : ℕ). getD ds (j - 1) 0 ∷ drop i ds) e in
+    let q : drop (j - 1) ds ≡ getD ds (j - 1) 0 ∷ drop j ds = drop-cons ds (j - 1) 0 (omega arith)
+    ∙ ap (λ (i : ℕ). getD ds (j - 1) 0 ∷ drop i ds) e in
     rw q (omega arith)
 
 getD-mapped : (f : ℕ → ℕ) (l : List ℕ) (i : ℕ) → i < length l → getD (map f l) i 0 ≡ f (getD l i 0)
@@ -41,8 +41,10 @@ getD-mapped f [] i h = absurd (omega arith)
 getD-mapped f (x ∷ l) zero h = refl
 getD-mapped f (x ∷ l) (suc i) h = getD-mapped f l i (omega arith)
 
-pub group-at : (f : ℕ → ℕ) (s : List ℕ) (from g j : ℕ) → j < g → from + g ≤ length s → getD (take g (drop from (map f s))) j 0 ≡ f (getD s (from + j) 0)
-group-at f s from g j h k = getD-take g (drop from (map f s)) j 0 h ∙ getD-drop from (map f s) j 0 ∙ getD-mapped f s (from + j) (omega arith)
+pub group-at : (f : ℕ → ℕ) (s : List ℕ) (from g j : ℕ) → j < g → from + g ≤ length s
+    → getD (take g (drop from (map f s))) j 0 ≡ f (getD s (from + j) 0)
+group-at f s from g j h k = getD-take g (drop from (map f s)) j 0 h ∙ getD-drop from (map f s) j 0
+    ∙ getD-mapped f s (from + j) (omega arith)
 
 pub length-group : (f : ℕ → ℕ) (s : List ℕ) (from g : ℕ) → from + g ≤ length s → length (take g (drop from (map f s))) ≡ g
 length-group f s from g h = length-take-le g (drop from (map f s)) (rw (length-drop from (map f s), length-map s f) (omega arith))
@@ -54,7 +56,8 @@ digits-end r ds {j} e = rw (drop-end j ds (omega arith))
 -- one digit more, the group's next lower
 pub group-turn : (f : ℕ → ℕ) (s : List ℕ) (from r g j v : ℕ) → from + g ≤ length s → g ≤ 5 → 2 ≤ r → r ≤ 6 → Below r (map f s)
     → v ≡ ofDigits r (drop j (take g (drop from (map f s)))) → 0 < j → j ≤ g
-    → (r * v + f (getD s (from + (j - 1)) 0) ≡ ofDigits r (drop (j - 1) (take g (drop from (map f s))))) × (r * v + f (getD s (from + (j - 1)) 0) < 7776)
+    → (r * v + f (getD s (from + (j - 1)) 0) ≡ ofDigits r (drop (j - 1) (take g (drop from (map f s)))))
+    × (r * v + f (getD s (from + (j - 1)) 0) < 7776)
 group-turn f s from r g j v h k a c b e z y =
     let ds = take g (drop from (map f s)) in
     let l = length-group f s from g h in
@@ -63,15 +66,19 @@ group-turn f s from r g j v h k a c b e z y =
     (t, rw t (digits-fit-all ds (j - 1) (below-take g (below-drop from b)) a c (rw l k)))
 
 -- the same of the first n of some samples
-pub length-group-in : (f : ℕ → ℕ) (samples : List ℕ) (n from g : ℕ) → n ≤ length samples → from + g ≤ n → length (take g (drop from (map f (take n samples)))) ≡ g
+pub length-group-in : (f : ℕ → ℕ) (samples : List ℕ) (n from g : ℕ) → n ≤ length samples → from + g ≤ n
+    → length (take g (drop from (map f (take n samples)))) ≡ g
 length-group-in f samples n from g k h = length-group f (take n samples) from g (rw (length-take-le n samples k) h)
 
 pub group-turn-in : (f : ℕ → ℕ) (samples : List ℕ) (n from r g j v : ℕ) → n ≤ length samples → from + g ≤ n → g ≤ 5 → 2 ≤ r → r ≤ 6
-    → ((i : ℕ) → getD (map f (take n samples)) i 0 < r) → v ≡ ofDigits r (drop j (take g (drop from (map f (take n samples))))) → 0 < j → j ≤ g
-    → (r * v + f (getD samples (from + (j - 1)) 0) ≡ ofDigits r (drop (j - 1) (take g (drop from (map f (take n samples)))))) × (r * v + f (getD samples (from + (j - 1)) 0) < 7776)
+    → ((i : ℕ) → getD (map f (take n samples)) i 0 < r) → v ≡ ofDigits r (drop j (take g (drop from (map f (take n samples)))))
+    → 0 < j → j ≤ g
+    → (r * v + f (getD samples (from + (j - 1)) 0) ≡ ofDigits r (drop (j - 1) (take g (drop from (map f (take n samples))))))
+    × (r * v + f (getD samples (from + (j - 1)) 0) < 7776)
 group-turn-in f samples n from r g j v k h five some few each e z y =
     rw (getD-take n samples (from + (j - 1)) 0 (omega arith)) at
-    (group-turn f (take n samples) from r g j v (rw (length-take-le n samples k) h) five some few (below-all (map f (take n samples)) each) e z y)
+    (group-turn f (take n samples) from r g j v (rw (length-take-le n samples k) h) five some few
+    (below-all (map f (take n samples)) each) e z y)
 
 -- groups put
 pub record Putting (f : ℕ → ℕ) (s : List ℕ) (r g w n : ℕ) (o : List ℕ) (p : Pen) (o′ : List ℕ) (p′ : Pen) (from : ℕ) : Type 0 where
@@ -82,23 +89,28 @@ pub record Putting (f : ℕ → ℕ) (s : List ℕ) (r g w n : ℕ) (o : List �
   pub puts : Puts o p done o′ p′
   pub size : length o′ ≡ length o
 
-pub putting-none : (f : ℕ → ℕ) (s : List ℕ) {r g w n m : ℕ} {o : List ℕ} {p : Pen} → Packs r g w n → length s ≡ n → Able o p m → Putting f s r g w n o p o p 0
+pub putting-none : (f : ℕ → ℕ) (s : List ℕ) {r g w n m : ℕ} {o : List ℕ} {p : Pen} → Packs r g w n → length s ≡ n → Able o p m
+    → Putting f s r g w n o p o p 0
 putting-none f s {r} {g} {w} {n} q e a =
     record { done = []; more = n / g; says = refl; left = zero-add _ ∙ q .whole; puts = puts-none (a .held) (a .word); size = refl }
 
 module _ (f : ℕ → ℕ) (s : List ℕ) (r g w n from : ℕ) {o o′ : List ℕ} {p p′ : Pen} (q : Packs r g w n) where
-  able-at : (m : ℕ) (done : List ℕ) → done ++ groupsForm r g w m (drop from (map f s)) ≡ groupsForm r g w (n / g) (map f s) → from + m * g ≡ n
+  able-at : (m : ℕ) (done : List ℕ) → done ++ groupsForm r g w m (drop from (map f s)) ≡ groupsForm r g w (n / g) (map f s)
+      → from + m * g ≡ n
       → Puts o p done o′ p′ → length o′ ≡ length o → Able o p (length (groupsForm r g w (n / g) (map f s))) → from < n → Able o′ p′ w
   unfolding groupsForm
   able-at zero done says left puts size a h = absurd (omega (arith, zero-mul g))
   able-at (suc m) done says left puts size a h =
       let v = ofDigits r (take g (drop from (map f s))) in
       let rest = groupsForm r g w m (drop g (drop from (map f s))) in
-      let l : length (groupsForm r g w (n / g) (map f s)) ≡ length done + (w + length rest) = ap length (sym says) ∙ simp (length-append, length-lowBits) in
+      let l : length (groupsForm r g w (n / g) (map f s)) ≡ length done + (w + length rest) = ap length (sym says)
+      ∙ simp (length-append, length-lowBits) in
       able-then w a puts size (omega arith)
 
-  turned : (m : ℕ) (done : List ℕ) → done ++ groupsForm r g w m (drop from (map f s)) ≡ groupsForm r g w (n / g) (map f s) → from + m * g ≡ n
-      → Puts o p done o′ p′ → length o′ ≡ length o → from < n → {v : ℕ} {o″ : List ℕ} {p″ : Pen} → v ≡ ofDigits r (take g (drop from (map f s)))
+  turned : (m : ℕ) (done : List ℕ) → done ++ groupsForm r g w m (drop from (map f s)) ≡ groupsForm r g w (n / g) (map f s)
+      → from + m * g ≡ n
+      → Puts o p done o′ p′ → length o′ ≡ length o → from < n → {v : ℕ} {o″ : List ℕ} {p″ : Pen}
+      → v ≡ ofDigits r (take g (drop from (map f s)))
       → Puts o′ p′ (lowBits w v) o″ p″ → length o″ ≡ length o′ → Putting f s r g w n o p o″ p″ (from + g)
   unfolding groupsForm
   turned zero done says left puts size h e put k = absurd (omega (arith, zero-mul g))
@@ -109,7 +121,8 @@ module _ (f : ℕ → ℕ) (s : List ℕ) (r g w n from : ℕ) {o o′ : List �
       record {
         done = done ++ lowBits w v;
         more = m;
-        says = rw (e, ← d) (append-assoc done (lowBits w (ofDigits r (take g (drop from ds)))) (groupsForm r g w m (drop g (drop from ds))) ∙ says);
+        says = rw (e, ← d) (append-assoc done (lowBits w (ofDigits r (take g (drop from ds))))
+            (groupsForm r g w m (drop g (drop from ds))) ∙ says);
         left = omega arith;
         puts = puts-then puts put;
         size = k ∙ size;
@@ -121,7 +134,8 @@ module _ (f : ℕ → ℕ) (s : List ℕ) (r g w n from : ℕ) {o o′ : List �
   ended zero done says left puts h = puts-as puts (sym (append-nil done) ∙ says)
   ended (suc m) done says left puts h = absurd (omega (arith, suc-mul m g, q .group))
 
-module _ {f : ℕ → ℕ} {s : List ℕ} {r g w n from : ℕ} {o o′ : List ℕ} {p p′ : Pen} (q : Packs r g w n) (t : Putting f s r g w n o p o′ p′ from) where
+module _ {f : ℕ → ℕ} {s : List ℕ} {r g w n from : ℕ} {o o′ : List ℕ} {p p′ : Pen} (q : Packs r g w n)
+    (t : Putting f s r g w n o p o′ p′ from) where
   pub putting-able : Able o p (length (groupsForm r g w (n / g) (map f s))) → from < n → Able o′ p′ w
   putting-able a h = able-at f s r g w n from q (t .more) (t .done) (t .says) (t .left) (t .puts) (t .size) a h
 

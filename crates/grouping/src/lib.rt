@@ -11,7 +11,7 @@ ghost use Rattle.rules.specs.Samples.{signed};
 ghost use Rattle.rules.specs.Fractional.{digitFor, groupOf, bitsFor, Packs, ofDigits, groupsForm};
 ghost use Rattle.look.specs.Looks.{FrameIn};
 ghost use Rattle.pen.specs.Puts.{Able, Puts};
-ghost use Rattle.grouping.specs.Digits.{digitIn, digitsIn, same, DigitsFit};
+ghost use Rattle.grouping.specs.Digits.{digitsIn, same, DigitsFit};
 
 // The difference, 0 where b is more.
 fn less(a: u8, b: u8) -> u8

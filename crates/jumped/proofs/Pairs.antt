@@ -90,7 +90,8 @@ module _ {size : ℕ} {s : Store} (k : Keeps size s) (x : ℕ) (e : absent x (ro
       let a = subst (λ (ks : List Kept). Along p ks notes) contents-are h in
       let b = subst (Along p (contents (s .block) front ++ (kept (row .number) octets ∷ contents (s .block) back))) notes-are a in
       first-pair p (kept (row .number) octets) mine (contents (s .block) back) (drop (i + 1) notes)
-      (along-apart p (contents (s .block) front) (take i notes) (kept (row .number) octets ∷ contents (s .block) back) (mine ∷ drop (i + 1) notes)
+      (along-apart p (contents (s .block) front) (take i notes) (kept (row .number) octets ∷ contents (s .block) back)
+      (mine ∷ drop (i + 1) notes)
       fronts b .1)
 
   true-note : mine ≡ noteOf (mine .law) octets
@@ -110,7 +111,8 @@ module _ {size : ℕ} {s : Store} (k : Keeps size s) (x : ℕ) (e : absent x (ro
   pub stands : Stands s x
   stands =
       let c = contents-are ∙ ap (λ (n : ℕ). contents (s .block) front ++ (kept n octets ∷ contents (s .block) back)) (found .number) in
-      let u = under-put x front row back (take i notes) mine (drop (i + 1) notes) (omega (arith, length-contents (s .block) front, fronts)) others
+      let u = under-put x front row back (take i notes) mine (drop (i + 1) notes)
+      (omega (arith, length-contents (s .block) front, fronts)) others
       (found .number) in
       record {
         there = record {

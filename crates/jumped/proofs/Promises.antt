@@ -1,7 +1,8 @@
 -- Document 02, R-9, over every store that calls have left (`Keeps`, `all-kept` of keeping), any number and any sample number.
---   `jump-tells`, `all-jumps`: what a jump answers, and when: the result is the one that a whole walk gives, and every sample below the walk's samples
---   has one; of a store after any list of calls from a fresh block.
---   `beyond-only`, `there-one`: BEYOND only where the sample is not below the walk's samples; there is one greeting of a number, with one law.
+--   `jump-tells`, `all-jumps`: what a jump answers, and when: the result is the one that a whole walk gives, and every sample below the
+--   walk's samples has one; of a store after any list of calls from a fresh block.
+--   `beyond-only`, `there-one`: BEYOND only where the sample is not below the walk's samples; there is one greeting of a number, with one
+--   law.
 --   `never-table`, `never-bad`: TABLE and BAD do not arise from calls alone.
 use Prim.Native.Nat.{ℕ, _≤_, _<_}
 use mathlib.Core.Path.{_≡_, refl, sym, ap, subst, _∙_}

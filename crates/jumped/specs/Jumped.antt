@@ -1,5 +1,5 @@
--- Document 02, R-9, of every store that calls have left: "The result is the one that a whole walk gives." "Refusals, in order: NUMBER, ABSENT, BEYOND
--- (21) if the sample number isn't below the greeting's samples." TABLE and BAD are not among them.
+-- Document 02, R-9, of every store that calls have left: "The result is the one that a whole walk gives." "Refusals, in order: NUMBER,
+-- ABSENT, BEYOND (21) if the sample number isn't below the greeting's samples." TABLE and BAD are not among them.
 use Prim.Native.Nat.{ℕ, _≤_, _<_}
 use mathlib.Core.Path.{_≡_}
 use mathlib.Core.List.{List}
@@ -17,7 +17,8 @@ use Rattle.jumping.specs.Whole.{Named}
 use Rattle.keeping.specs.Told.{Store, rowsIn, notesFor}
 use Rattle.keeping.specs.Kept.{here, lookUp, noted, noteUnder}
 
--- the greeting of a number, as the store keeps it: its octets, which the walk by its law accepts, and its note, which is what that walk gives
+-- the greeting of a number, as the store keeps it: its octets, which the walk by its law accepts, and its note, which is what that walk
+-- gives
 pub record There (s : Store) (x : ℕ) : Type 0 where
   pub law : ℕ
   pub octets : List ℕ
@@ -37,4 +38,5 @@ pub data Jumped (s : Store) (x sample : ℕ) : Answer → Type 0 where
   unnumbered : isNumber x ≡ false → Jumped s x sample (Refused Number)
   unheld : isNumber x ≡ true → absent x (rowsIn s) ≡ true → Jumped s x sample (Refused Absent)
   beyond : isNumber x ≡ true → (g : There s x) → samplesIn g ≤ sample → Jumped s x sample (Refused Beyond)
-  within : isNumber x ≡ true → (g : There s x) → sample < samplesIn g → {r : Answer} → Named (g .law) (g .octets) sample r → Jumped s x sample r
+  within : isNumber x ≡ true → (g : There s x) → sample < samplesIn g → {r : Answer} → Named (g .law) (g .octets) sample r
+      → Jumped s x sample r

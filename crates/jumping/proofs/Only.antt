@@ -1,6 +1,6 @@
--- Nothing else fits: the contract determines the answer, for all inputs, refused ones too (`only-jump`); and the paper's number, with the four numbers
--- told, determines the answer (`answers-one-to-one`). At most 64 frames are read, whatever the cells say (`read-few`), counted from the mark up to and
--- including the one named (`read-from-mark`).
+-- Nothing else fits: the contract determines the answer, for all inputs, refused ones too (`only-jump`); and the paper's number, with the
+-- four numbers told, determines the answer (`answers-one-to-one`). At most 64 frames are read, whatever the cells say (`read-few`), counted
+-- from the mark up to and including the one named (`read-from-mark`).
 use Prim.Native.Nat.{ℕ, _+_, _*_, _%_, _≤_}
 use mathlib.Core.Path.{_≡_, refl, sym, ap₂, subst, _∙_}
 use mathlib.Core.List.{List}

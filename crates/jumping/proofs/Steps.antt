@@ -1,5 +1,5 @@
--- The steps of a jump, in the code's order: `from-behind`, `from-on`; `in-beyond`, `in-none`, `in-from`; `row-at`; `among-low`, `among-high`,
--- `among-absent`, `among-found`; `jump-table`, `jump-on`.
+-- The steps of a jump, in the code's order: `from-behind`, `from-on`; `in-beyond`, `in-none`, `in-from`; `row-at`; `among-low`,
+-- `among-high`, `among-absent`, `among-found`; `jump-table`, `jump-on`.
 use Prim.Native.Nat.{ℕ, _+_, _*_, _-_, _≤_, _<_}
 use mathlib.Core.Path.{_≡_, refl, sym, ap, _∙_}
 use mathlib.Core.List.{List}
@@ -56,7 +56,8 @@ module _ (law samples m : ℕ) (xs cells : List ℕ) (sample : ℕ) where
     in-none g = rw (lt-leb samples sample h, eq-eqb (length (marksIn m cells)) 0 (omega (arith, length-marks m cells)))
 
     pub in-from : 1 ≤ m → {k at before : ℕ} {r : Answer} → k ≡ lastMark (marksIn m cells) sample → k < m → at ≡ getD cells (2 * k) 0
-        → before ≡ getD cells (2 * k + 1) 0 → r ≡ jumpFrom law xs k (markOf at before) sample → r ≡ jumpIn xs (noteIn law samples m cells) sample
+        → before ≡ getD cells (2 * k + 1) 0 → r ≡ jumpFrom law xs k (markOf at before) sample
+        → r ≡ jumpIn xs (noteIn law samples m cells) sample
     unfolding jumpIn
     in-from g {k} e l a b f =
         rw (
@@ -84,7 +85,8 @@ module _ {size : ℕ} {t : List ℕ} (k : Noted size t) (z : size ≤ largestBlo
       omega (arith, e, marks-next t n i (sym (k .count)) h room, held-all t n i (sym (k .count)) (omega arith) room, room)
 
   -- in the greeting at place i
-  pub row-at : (b : List ℕ) (sample : ℕ) {r g : Row} {law first : ℕ} {a : Answer} → r ≡ rowAt t (1 + 3 * i) → g ≡ rowAt (drop 97 t) (1 + 3 * i)
+  pub row-at : (b : List ℕ) (sample : ℕ) {r g : Row} {law first : ℕ} {a : Answer} → r ≡ rowAt t (1 + 3 * i)
+      → g ≡ rowAt (drop 97 t) (1 + 3 * i)
       → law ≡ getD t (98 + 3 * i) 0 → first ≡ 194 + 2 * marksHeld (rowsAt (drop 97 t) i 1)
       → a ≡ jumpIn (take (r .start + r .octets - r .start) (drop (r .start) b))
       (noteIn law (g .start) (g .octets) (take (length t - first) (drop first t))) sample
@@ -102,7 +104,8 @@ module _ {size : ℕ} {t : List ℕ} (k : Noted size t) (z : size ≤ largestBlo
       ∙ ap (λ (x : ℕ). noteIn (g .number) (g .start) (g .octets) (drop x t)) (sym f)
       ∙ ap (λ (x : ℕ). noteIn x (g .start) (g .octets) (drop first t)) (sym lawful)
       in
-      e ∙ ap (λ (x : ℕ). jumpIn (take x (drop (r .start) b)) (noteIn law (g .start) (g .octets) (take (length t - first) (drop first t))) sample) o
+      e ∙ ap (λ (x : ℕ). jumpIn (take x (drop (r .start) b))
+      (noteIn law (g .start) (g .octets) (take (length t - first) (drop first t))) sample) o
       ∙ ap (λ (x : List ℕ). jumpIn (greeting b r) (noteIn law (g .start) (g .octets) x) sample) (part-on t first)
       ∙ ap (λ (x : Row). jumpIn (greeting b x) (noteIn law (g .start) (g .octets) (drop first t)) sample) (sym row)
       ∙ ap (λ (x : Note). jumpIn (greeting b (nth i (rowsOf t))) x sample) (sym note)

@@ -1,5 +1,6 @@
--- "The result is the one that a whole walk gives": in a greeting that is not BAD, with the note that the walk gives, a jump names the frame that the
--- whole walk gives (`jump-walks`). The mark that it begins at is the last one at or before the sample, fewer than 64 frames before the frame named.
+-- "The result is the one that a whole walk gives": in a greeting that is not BAD, with the note that the walk gives, a jump names the frame
+-- that the whole walk gives (`jump-walks`). The mark that it begins at is the last one at or before the sample, fewer than 64 frames before
+-- the frame named.
 use Prim.Native.Nat.{ℕ, _+_, _*_, _-_, _/_, _≤_, _<_}
 use mathlib.Core.Path.{_≡_, refl, sym, ap, subst, _∙_}
 use mathlib.Core.List.{List, [], _∷_, _++_, append-assoc, append-nil}

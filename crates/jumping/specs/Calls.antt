@@ -26,7 +26,8 @@ abbrev pub numberOf : Answer → ℕ
 numberOf (Done frame place inside read) = 0
 numberOf (Refused w) = refusalNumber w
 
--- what an accepted call tells: "the frame .., its octet place and the sample's place in the frame", and "the frames read"; a refused one reports zeros
+-- what an accepted call tells: "the frame .., its octet place and the sample's place in the frame", and "the frames read"; a refused one
+-- reports zeros
 abbrev pub toldBy : ℕ → ℕ → ℕ → ℕ → Told
 toldBy frame place inside read = record { frame = frame; place = place; inside = inside; read = read }
 

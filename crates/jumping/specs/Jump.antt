@@ -1,5 +1,6 @@
--- Document 02, R-9: "from the last mark at or before it and fewer than 64 frames after that mark"; "The answer counts the frames read, from that mark
--- up to and including the one named." "Refusals, in order: NUMBER, ABSENT, BEYOND (21) if the sample number isn't below the greeting's samples."
+-- Document 02, R-9: "from the last mark at or before it and fewer than 64 frames after that mark"; "The answer counts the frames read, from
+-- that mark up to and including the one named." "Refusals, in order: NUMBER, ABSENT, BEYOND (21) if the sample number isn't below the
+-- greeting's samples."
 use Prim.Native.Nat.{ℕ, _+_, _*_, _%_}
 use mathlib.Core.List.{List}
 use mathlib.Core.Bool.{cond, not}

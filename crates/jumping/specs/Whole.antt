@@ -1,6 +1,6 @@
--- Document 02, R-9: "name the frame that holds it, its octet place and the sample's place in the frame, from the last mark at or before it and fewer
--- than 64 frames after that mark. The result is the one that a whole walk gives. The answer counts the frames read, from that mark up to and including
--- the one named."
+-- Document 02, R-9: "name the frame that holds it, its octet place and the sample's place in the frame, from the last mark at or before it
+-- and fewer than 64 frames after that mark. The result is the one that a whole walk gives. The answer counts the frames read, from that
+-- mark up to and including the one named."
 use Prim.Native.Nat.{ℕ, _+_, _/_, _%_}
 use mathlib.Core.Path.{_≡_}
 use mathlib.Core.List.{List}

@@ -1,5 +1,6 @@
--- Greetings and their notes, side by side: put together and taken apart (`along-join`, `along-apart`), with one put in (`along-inserted`), with one
--- taken out (`along-removed`). `True` is so pair by pair (`true-along`, `along-true`). A note by its greeting's number: `under-put`, `under-other`.
+-- Greetings and their notes, side by side: put together and taken apart (`along-join`, `along-apart`), with one put in (`along-inserted`),
+-- with one taken out (`along-removed`). `True` is so pair by pair (`true-along`, `along-true`). A note by its greeting's number:
+-- `under-put`, `under-other`.
 use Prim.Native.Nat.{ℕ, suc, _+_}
 use mathlib.Core.Path.{_≡_, refl, sym, ap, _∙_}
 use mathlib.Core.List.{List, [], _∷_, _++_}
@@ -113,7 +114,8 @@ unfolding noteUnder
 under-other x [] r c [] n q l f = rw (ne-eqb (r .number) x f)
 under-other x [] r c (o ∷ m) n q l f = absurd (omega arith)
 under-other x (y ∷ a) r c [] n q l f = absurd (omega arith)
-under-other x (y ∷ a) r c (o ∷ m) n q l f = ap (λ (k : Known). cond (eqb (y .number) x) (noted o) k) (under-other x a r c m n q (omega arith) f)
+under-other x (y ∷ a) r c (o ∷ m) n q l f = ap (λ (k : Known). cond (eqb (y .number) x) (noted o) k)
+    (under-other x a r c m n q (omega arith) f)
 
 pub under-none : (x : ℕ) (rows : List Row) (notes : List Note) → Fresh x rows → noteUnder x rows notes ≡ unknown
 unfolding noteUnder Fresh

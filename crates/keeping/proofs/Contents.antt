@@ -1,4 +1,5 @@
--- What is read: after closing up the same (`closing-reads`); after a writing what was written, and the greetings below and above it the same.
+-- What is read: after closing up the same (`closing-reads`); after a writing what was written, and the greetings below and above it the
+-- same.
 use Prim.Native.Nat.{ℕ, _+_, _≤_}
 use mathlib.Core.Path.{_≡_, refl, sym, ap, _∙_}
 use mathlib.Core.List.{List, [], _∷_, _++_, append-assoc}
@@ -50,7 +51,8 @@ closed-reads b p rest (r ∷ rows) at lo size e h f =
     ap (λ (x : List ℕ). contents x (closedRows (at + r .octets) rows)) (sym (append-assoc p g more))
     ∙ closed-reads b (p ++ g) rest rows (at + r .octets) (r .start + r .octets) size (omega (arith, length-append p g)) (n .1) f
     in
-    ap (λ (x : List ℕ). record { number = r .number; octets = take (r .octets) (drop at x) } ∷ contents x (closedRows (at + r .octets) rows)) w
+    ap (λ (x : List ℕ). record { number = r .number; octets = take (r .octets) (drop at x) } ∷ contents x
+    (closedRows (at + r .octets) rows)) w
     ∙ ap (λ (x : List ℕ). kept (r .number) x ∷ contents (p ++ (g ++ more)) (closedRows (at + r .octets) rows)) hd
     ∙ ap (λ (x : List Kept). kept (r .number) g ∷ x) tl
 

@@ -1,35 +1,34 @@
 -- Document 02, R-11, the promises of its tables.
---   `form-exactly`, `form-by-block`: a saved table begins with `form=2` exactly when a start, a count of octets or the block exceeds 65,535.
+--   `form-exactly`, `form-by-block`: a saved table begins with `form=2` exactly when a start, a count of octets or the block exceeds
+--   65,535.
 --   `same-store`: with the line and without it a table gives the same store, where both are allowed.
 --   `old-first-line`, `old-refuses`: the older reader refuses every text that begins so, at its first line, with TABLE.
 --   `old-alike`, `old-takes`: it reads every other text as the new one does, so also what is saved of a block of up to 16,384 octets.
 use Prim.Native.Nat.{ℕ, _≤_}
 use mathlib.Core.Path.{_≡_, refl, sym, ap, _∙_}
 use mathlib.Core.List.{List, [], _∷_, _++_}
-use mathlib.Core.Bool.{Bool, true, false, cond, not}
+use mathlib.Core.Bool.{Bool, true, false, cond}
 use native.Mathlib.Omega.{arith}
 use lib.ListN.{length}
 use lib.Dec.{ltb}
-use borrow.Author.Tests.{le-ltb, lt-ltb, ltb-true, ltb-false}
-use Rattle.rows.specs.declared.Row.{Row}
+use borrow.Author.Tests.{le-ltb}
 use Rattle.rows.specs.Limits.{largestBlock, mostNumber, sizeOf}
 use Rattle.rows.specs.Cells.{rowsOf}
 use Rattle.notes.specs.Cells.{notesOf}
 use Rattle.notes.specs.Sane.{storeCells, saneStore}
 use Rattle.store.specs.declared.Refusal.the-variants.{Table}
 use Rattle.store.specs.Store.{Outcome, refused}
-use Rattle.keyvalue.specs.Reading.{Read, whole, none, begins}
+use Rattle.keyvalue.specs.Reading.{none, begins}
 use Rattle.keyvalue.specs.Lines.{ranged}
-use Rattle.tables.specs.Table.{promptWord, mostPlace, tableIn}
+use Rattle.tables.specs.Table.{promptWord, mostPlace}
 use Rattle.tables.specs.Noted.{Listed, rowsListed, listing, listedText}
-use Rattle.tables.specs.Form.{formLine, needsForm, savedText, formedIn}
+use Rattle.tables.specs.Form.{formLine, needsForm, savedText}
 use Rattle.tables.proofs.Exact.{Sayable, Each}
 use Rattle.tables.proofs.Noted.{SayableAll}
 use Rattle.tables.proofs.Noting.{rows-listing}
 use Rattle.tables.proofs.Formed.{unformed, listed-begins, form-by-size, old-line, old-rows, old-noted}
-use Rattle.saved.specs.Saved.{saved, declined, saveIn, saveOf, loadIn, loadRead, loadOf}
+use Rattle.saved.specs.Saved.{saved, declined, saveOf, loadOf}
 use Rattle.saved.specs.Old.{oldBlock, oldSizeOf, oldCells, oldLoadOf}
-use Rattle.keeping.specs.Loading.{Lists}
 use Rattle.keeping.proofs.Granted.{sane-rows, sane-count}
 use Rattle.keeping.proofs.Loaded.{read-as}
 use Rattle.keeping.proofs.Sayable.{said-lists, formed-lists}
@@ -73,7 +72,8 @@ same-store b t xs h l =
     each-wider [] g = tt
     each-wider (y ∷ ys) g =
         let r = g .0 .row in
-        let row : Sayable largestBlock (y .row) = record { least = r .least; most = r .most; start = omega (arith, r .start); octets = omega (arith, r .octets) } in
+        let row : Sayable largestBlock (y .row) =
+        record { least = r .least; most = r .most; start = omega (arith, r .start); octets = omega (arith, r .octets) } in
         (record { row = row; law = g .0 .law; samples = g .0 .samples; marks = g .0 .marks }, each-wider ys (g .1))
 
 -- "THE OLD TABLE READER MUST REFUSE A form=2 TABLE AT ITS FIRST LINE WITH TABLE"

@@ -1,4 +1,5 @@
--- A gap that is found: the greetings before it rise below it, those behind it rise above it (`gap-split`). It is the lowest: `lowest-gap`, `no-gap`.
+-- A gap that is found: the greetings before it rise below it, those behind it rise above it (`gap-split`). It is the lowest: `lowest-gap`,
+-- `no-gap`.
 use Prim.Native.Nat.{ℕ, suc, _+_, _≤_, _<_}
 use mathlib.Core.Path.{_≡_, refl, ap, _∙_}
 use mathlib.Core.List.{List, [], _∷_, _++_}
@@ -33,7 +34,8 @@ split-here : {want size lo i : ℕ} {rows : List Row} {j s : ℕ} → j ≡ i �
 split-here {want} {size} {lo} {i} {rows} e f g h =
     rw (e, f) (record { k = 0; index = omega arith; over = omega arith; inside = g; below = rising-nil 1 lo lo; above = h })
 
-split-later : {want size lo i : ℕ} {r : Row} {rows : List Row} {j s : ℕ} → Next 1 lo size r → Split want size (r .start + r .octets) (i + 1) rows j s
+split-later : {want size lo i : ℕ} {r : Row} {rows : List Row} {j s : ℕ} → Next 1 lo size r
+    → Split want size (r .start + r .octets) (i + 1) rows j s
     → Split want size lo i (r ∷ rows) j s
 split-later {want} {size} {lo} {i} {r} {rows} {j} {s} n p =
     record {
@@ -58,7 +60,8 @@ gap-cases want size lo i rows {j} {s} k false t g f e =
 no-split : {want size lo i : ℕ} {rows : List Row} {j s : ℕ} → At j s ≡ Nowhere → Split want size lo i rows j s
 no-split e = let z : _≡_ {A = ℕ} 0 1 = cc in absurd (omega arith)
 
-pub gap-split : (want size lo i : ℕ) (rows : List Row) {j s : ℕ} → lo ≤ size → rising 1 lo size rows ≡ true → At j s ≡ gapFrom want size lo i rows
+pub gap-split : (want size lo i : ℕ) (rows : List Row) {j s : ℕ} → lo ≤ size → rising 1 lo size rows ≡ true
+    → At j s ≡ gapFrom want size lo i rows
     → Split want size lo i rows j s
 unfolding gapFrom
 gap-split want size lo i [] g h e =
@@ -67,11 +70,16 @@ gap-split want size lo i (r ∷ rows) g h e =
     let n = rising-head 1 lo size r rows h in
     let m = n .0 in
     gap-cases want size lo i (r ∷ rows) (r .start) (ltb (r .start) (lo + want)) refl
-    (λ q. (omega (arith, m .inside), rising-cons 1 (lo + want) size r rows (record { above = q; some = m .some; inside = m .inside }) (n .1)))
+    (λ q. (
+      omega (arith, m .inside),
+      rising-cons 1 (lo + want) size r rows
+          (record { above = q; some = m .some; inside = m .inside }) (n .1),
+    ))
     (λ q. split-later m (gap-split want size (r .start + r .octets) (i + 1) rows (m .inside) (n .1) q)) e
 
 -- put in a gap: the new greeting reads as given, every other as before; the rows still rise
-module _ (b xs : List ℕ) (size x : ℕ) (rows : List Row) (j s : ℕ) (f : size ≤ length b) (o : 1 ≤ length xs) (h : rising 1 0 size rows ≡ true)
+module _ (b xs : List ℕ) (size x : ℕ) (rows : List Row) (j s : ℕ) (f : size ≤ length b) (o : 1 ≤ length xs)
+    (h : rising 1 0 size rows ≡ true)
     (e : At j s ≡ lowestGap (length xs) size rows) where
   gap : Split (length xs) size 0 0 rows j s
   gap = gap-split (length xs) size 0 0 rows (omega arith) h e
@@ -85,7 +93,8 @@ module _ (b xs : List ℕ) (size x : ℕ) (rows : List Row) (j s : ℕ) (f : siz
   pub gap-rises : rising 1 0 size (insertAt j (rowOf x s (length xs)) rows) ≡ true
   gap-rises =
       rw at-k
-      (rising-join (take (gap .k) rows) (rowOf x s (length xs)) (drop (gap .k) rows) 0 size o (gap .over) (gap .inside) (gap .below) (gap .above))
+      (rising-join (take (gap .k) rows) (rowOf x s (length xs)) (drop (gap .k) rows) 0 size o (gap .over) (gap .inside)
+      (gap .below) (gap .above))
 
   pub gap-reads : contents (written b s xs) (insertAt j (rowOf x s (length xs)) rows)
       ≡ contents b (take j rows) ++ (kept x xs ∷ contents b (drop j rows))
@@ -150,7 +159,8 @@ unfolding Clear
 clear-append s want [] c x y = y
 clear-append s want (r ∷ a) c x y = (x .0, clear-append s want a c (x .1) y)
 
-pub split-clear : {want size j s : ℕ} (rows : List Row) (p : Split want size 0 0 rows j s) → Clear s want (take (p .k) rows ++ drop (p .k) rows)
+pub split-clear : {want size j s : ℕ} (rows : List Row) (p : Split want size 0 0 rows j s)
+    → Clear s want (take (p .k) rows ++ drop (p .k) rows)
 split-clear {want} {size} {j} {s} rows p =
     clear-append s want (take (p .k) rows) (drop (p .k) rows) (below-clear s want 0 (take (p .k) rows) (p .below))
     (above-clear s want (s + want) size (drop (p .k) rows) (omega arith) (p .above))

@@ -1,5 +1,6 @@
--- What an accepted put, delete or get tells (`Granted`, `Gone`, `Got`), and the table that it leaves: sane (`put-sane`, `delete-sane`), with the new
--- greeting and every other one as it was (`put-reads`), each with its note (`put-back`, `delete-back`: what is stored is read), and what it holds.
+-- What an accepted put, delete or get tells (`Granted`, `Gone`, `Got`), and the table that it leaves: sane (`put-sane`, `delete-sane`),
+-- with the new greeting and every other one as it was (`put-reads`), each with its note (`put-back`, `delete-back`: what is stored is
+-- read), and what it holds.
 use Prim.Native.Nat.{ℕ, suc, _+_, _≤_}
 use mathlib.Core.Path.{_≡_, refl, sym, ap, subst, _∙_}
 use mathlib.Core.List.{List, [], _∷_, _++_}
@@ -40,9 +41,11 @@ use Rattle.store.specs.Calls.{putOf, getOf, deleteOf}
 use Rattle.rows.proofs.Lists.{passed, both}
 use Rattle.rows.proofs.Cells.{length-rows}
 use Rattle.closing.proofs.Closed.{length-closed}
-use Rattle.keeping.proofs.Rising.{rising-nil, rising-join, rising-remove, closing-rises, held-append, held-cons, held-closed, held-inserted}
+use Rattle.keeping.proofs.Rising.{rising-nil, rising-join, rising-remove, closing-rises}
+use Rattle.keeping.proofs.Rising.{held-append, held-cons, held-closed, held-inserted}
 use Rattle.keeping.proofs.Rising.{held-within}
-use Rattle.keeping.proofs.Numbers.{Fresh, Distinct, fresh-of, distinct-of, numbered-of, fresh-closed, distinct-closed, inserted-distinct}
+use Rattle.keeping.proofs.Numbers.{Fresh, Distinct, fresh-of, distinct-of}
+use Rattle.keeping.proofs.Numbers.{numbered-of, fresh-closed, distinct-closed, inserted-distinct}
 use Rattle.keeping.proofs.Numbers.{distinct-remove, FoundAt, find-split}
 use Rattle.keeping.proofs.Contents.{kept, contents-append, contents-cons, contents-nil, closing-reads, closed-length}
 use Rattle.keeping.proofs.Contents.{length-written, below-reads, own-part}
@@ -74,7 +77,8 @@ pub stored-sane : (b : List ℕ) (rows : List Row) (notes : List Note) (t : List
     → rising 1 0 (sizeOf b) rows ≡ true → Distinct rows → length notes ≡ length rows → matched rows (heads notes) ≡ true
     → saneStore (sizeOf b) (stored rows notes t) ≡ true
 stored-sane b rows notes t c f h d l m =
-    sane-stored (sizeOf b) rows notes t c f l (omega arith) (omega (arith, held-within rows 0 (sizeOf b) h (omega arith))) h (numbered-of rows d) m
+    sane-stored (sizeOf b) rows notes t c f l (omega arith) (omega (arith, held-within rows 0 (sizeOf b) h (omega arith)))
+    h (numbered-of rows d) m
 
 -- what is stored is what the table then holds
 pub record Stored (rows : List Row) (notes : List Note) (t : List ℕ) : Type 0 where
@@ -114,10 +118,12 @@ put-granted b t law x xs a e =
     go (saneStore (sizeOf b) t) refl (isLaw law) refl (isNumber x) refl (absent x (rowsOf t)) refl (isBad law xs) refl
     (leb 32 (length (rowsOf t))) refl (ltb (sizeOf b) (held (rowsOf t) + length xs)) refl e
   where
-    go : (s : Bool) → saneStore (sizeOf b) t ≡ s → (l : Bool) → isLaw law ≡ l → (n : Bool) → isNumber x ≡ n → (f : Bool) → absent x (rowsOf t) ≡ f
+    go : (s : Bool) → saneStore (sizeOf b) t ≡ s → (l : Bool) → isLaw law ≡ l → (n : Bool) → isNumber x ≡ n → (f : Bool)
+        → absent x (rowsOf t) ≡ f
         → (g : Bool) → isBad law xs ≡ g
         → (q : Bool) → leb 32 (length (rowsOf t)) ≡ q → (r : Bool) → ltb (sizeOf b) (held (rowsOf t) + length xs) ≡ r
-        → cond (not s) (refused Table) (cond (not l) (refused Law) (cond (not n) (refused Number) (cond (not f) (refused taken) (cond g (refused Bad)
+        → cond (not s) (refused Table)
+        (cond (not l) (refused Law) (cond (not n) (refused Number) (cond (not f) (refused taken) (cond g (refused Bad)
         (cond q (refused Full) (cond r (refused NoRoom) (leaves (fitted b (rowsOf t) (notesOf t) (sizeOf b) law x xs)))))))) ≡ leaves a
         → Granted b t law x xs a
     go false s′ l l′ n n′ f f′ g g′ q q′ r r′ e = no-outcome e
@@ -138,7 +144,8 @@ pub high-number : (x : ℕ) → isNumber x ≡ true → x ≤ mostNumber
 high-number x e = leb-true x mostNumber (and-right (leb 1 x) (leb x mostNumber) e)
 
 -- closing up leaves the second list as it fits
-pub matched-closed : (at : ℕ) (rows hs : List Row) → length rows ≡ length hs → matched rows hs ≡ true → matched (closedRows at rows) hs ≡ true
+pub matched-closed : (at : ℕ) (rows hs : List Row) → length rows ≡ length hs → matched rows hs ≡ true
+    → matched (closedRows at rows) hs ≡ true
 unfolding closedRows
 matched-closed at [] hs l e = matched-nil hs
 matched-closed at (r ∷ rows) [] l e = absurd (omega arith)
@@ -166,7 +173,8 @@ module _ (size : ℕ) (rows : List Row) (r : Row) (h : rising 1 0 size rows ≡ 
       let d : drop (length rows) (closedRows 0 rows) ≡ [] = drop-of-length-le (closedRows 0 rows) {i = length rows} (omega arith) in
       rw (take-all (length rows) (closedRows 0 rows) (omega arith), d)
 
-  pub behind-rises : 1 ≤ r .octets → r .start ≡ held rows → r .start + r .octets ≤ size → rising 1 0 size (closedRows 0 rows ++ (r ∷ [])) ≡ true
+  pub behind-rises : 1 ≤ r .octets → r .start ≡ held rows → r .start + r .octets ≤ size
+      → rising 1 0 size (closedRows 0 rows ++ (r ∷ [])) ≡ true
   behind-rises o s g =
       let c = rw zero-add at (closing-rises rows 0 0 size h) in
       rising-join (closedRows 0 rows) r [] 0 size o (omega arith) g (rw s c) (rising-nil 1 (r .start + r .octets) size)
@@ -206,12 +214,14 @@ module _ (b t : List ℕ) (law x : ℕ) (xs : List ℕ) {a : After} (e : putOf b
   abbrev after : Gap → After
   after p = putAt b (rowsOf t) (notesOf t) law x xs p
 
-  sane-in : (p : Gap) → p ≡ lowestGap (length xs) (sizeOf b) (rowsOf t) → saneStore (sizeOf b) (stored (after p .rows) (after p .notes) t) ≡ true
+  sane-in : (p : Gap) → p ≡ lowestGap (length xs) (sizeOf b) (rowsOf t)
+      → saneStore (sizeOf b) (stored (after p .rows) (after p .notes) t) ≡ true
   sane-in (At i s) q =
       let rows = rowsOf t in
       let new = rowOf x s (length xs) in
       let n = granted .number in
-      stored-sane b (insertAt i new rows) (insertNote i (noteOf law xs) (notesOf t)) t cells (omega (arith, length-inserted i new rows, granted .few))
+      stored-sane b (insertAt i new rows) (insertNote i (noteOf law xs) (notesOf t)) t cells
+      (omega (arith, length-inserted i new rows, granted .few))
       (gap-rises b xs (sizeOf b) x rows i s (omega arith) some (ordered .rises) q)
       (inserted-distinct i new rows (low-number x n) (high-number x n) put-fresh distinct)
       (inserted-same i new rows (noteOf law xs) (notesOf t) same)
@@ -223,11 +233,13 @@ module _ (b t : List ℕ) (law x : ℕ) (xs : List ℕ) {a : After} (e : putOf b
       let c = closedRows 0 rows in
       let l = length-closed 0 rows in
       let k : length (notesOf t) ≡ length c = same ∙ sym l in
-      let m = matched-closed 0 rows (heads (notesOf t)) (sym same ∙ sym (length-heads (notesOf t))) (sane-matched (sizeOf b) t (granted .sane)) in
+      let m = matched-closed 0 rows (heads (notesOf t)) (sym same ∙ sym (length-heads (notesOf t)))
+      (sane-matched (sizeOf b) t (granted .sane)) in
       stored-sane b (insertAt (length rows) new c) (insertNote (length rows) (noteOf law xs) (notesOf t)) t cells
       (omega (arith, length-inserted (length rows) new c, l, granted .few))
       (rw (behind-all (sizeOf b) rows new (ordered .rises)) (behind-rises (sizeOf b) rows new (ordered .rises) some refl (granted .room)))
-      (inserted-distinct (length rows) new c (low-number x n) (high-number x n) (fresh-closed x 0 rows put-fresh) (distinct-closed 0 rows distinct))
+      (inserted-distinct (length rows) new c (low-number x n) (high-number x n) (fresh-closed x 0 rows put-fresh)
+      (distinct-closed 0 rows distinct))
       (inserted-same (length rows) new c (noteOf law xs) (notesOf t) k)
       (matched-inserted (length rows) c (notesOf t) k m new (noteOf law xs) (fits (held rows)))
 
@@ -253,7 +265,8 @@ module _ (b t : List ℕ) (law x : ℕ) (xs : List ℕ) {a : After} (e : putOf b
       rw (granted .is) (stored-back b (after p .rows) (after p .notes) t cells (q .0) (q .1))
 
   length-in : (p : Gap) → p ≡ lowestGap (length xs) (sizeOf b) (rowsOf t) → length (after p .block) ≡ length b
-  length-in (At i s) q = length-written b s xs (omega (arith, gap-inside b xs (sizeOf b) x (rowsOf t) i s (omega arith) some (ordered .rises) q))
+  length-in (At i s) q =
+      length-written b s xs (omega (arith, gap-inside b xs (sizeOf b) x (rowsOf t) i s (omega arith) some (ordered .rises) q))
   length-in Nowhere q =
       let c = closed-length b (rowsOf t) (sizeOf b) (ordered .rises) (omega arith) in
       length-written (closedBlock b (rowsOf t)) (held (rowsOf t)) xs (omega (arith, c, granted .room)) ∙ c
@@ -271,7 +284,8 @@ module _ (b t : List ℕ) (law x : ℕ) (xs : List ℕ) {a : After} (e : putOf b
   put-held = rw (granted .is) (held-in (lowestGap (length xs) (sizeOf b) (rowsOf t)))
 
   reads-in : (p : Gap) → p ≡ lowestGap (length xs) (sizeOf b) (rowsOf t) → ReadsNew b t law x xs (after p)
-  reads-in (At i s) q = record { place = i; is = gap-reads b xs (sizeOf b) x (rowsOf t) i s (omega arith) some (ordered .rises) q; notes = refl }
+  reads-in (At i s) q =
+      record { place = i; is = gap-reads b xs (sizeOf b) x (rowsOf t) i s (omega arith) some (ordered .rises) q; notes = refl }
   reads-in Nowhere q =
       let rows = rowsOf t in
       let done = closedRows 0 rows in
@@ -282,7 +296,8 @@ module _ (b t : List ℕ) (law x : ℕ) (xs : List ℕ) {a : After} (e : putOf b
       let h = rw zero-add at (closing-rises rows 0 0 (sizeOf b) (ordered .rises)) in
       let tr = take-all n rows (omega arith) in
       let dr : drop n rows ≡ [] = drop-of-length-le rows {i = n} (omega arith) in
-      let big : held rows + length xs ≤ length b₁ = omega (arith, granted .room, closed-length b rows (sizeOf b) (ordered .rises) (omega arith)) in
+      let big : held rows + length xs ≤ length b₁ =
+      omega (arith, granted .room, closed-length b rows (sizeOf b) (ordered .rises) (omega arith)) in
       let c : contents w (done ++ (r ∷ [])) ≡ contents b rows ++ (kept x xs ∷ contents b []) =
       contents-append w done (r ∷ [])
       ∙ rw (
@@ -370,7 +385,8 @@ module _ (b t : List ℕ) (x : ℕ) {a : After} (e : deleteOf b t x ≡ leaves a
       let n = ap length (f .is) ∙ length-append (f .before) (f .row ∷ f .behind) in
       let s : suc at-gone ≡ at-gone + 1 = omega arith in
       let d : drop at-gone (notesOf t) ≡ nthNote at-gone (notesOf t) ∷ drop (at-gone + 1) (notesOf t) =
-      drop-cons (notesOf t) at-gone noNote (omega (arith, same-gone)) ∙ ap (λ (k : ℕ). nthNote at-gone (notesOf t) ∷ drop k (notesOf t)) s in
+      drop-cons (notesOf t) at-gone noNote (omega (arith, same-gone))
+      ∙ ap (λ (k : ℕ). nthNote at-gone (notesOf t) ∷ drop k (notesOf t)) s in
       sym (take-append-drop at-gone (notesOf t)) ∙ ap (λ (l : List Note). take at-gone (notesOf t) ++ l) d
 
   pub delete-taken : length (take at-gone (notesOf t)) ≡ length (gone .found .before)

@@ -1,50 +1,27 @@
 -- Greetings with their notes as lines list them: what "none is bad" and "samples and marks that the walk gives" say of them (`listed-good`,
 -- `listed-true`), and back for those that a table holds (`good-listing`, `true-listing`).
 use Prim.Native.Nat.{ℕ, suc}
-use mathlib.Core.Path.{_≡_, refl, sym, ap, subst, _∙_}
+use mathlib.Core.Path.{_≡_, refl, ap, subst}
 use mathlib.Core.List.{List, [], _∷_}
 use mathlib.Core.Bool.{Bool, true, false, cond}
 use native.Mathlib.Omega.{arith}
 use lib.ListN.{length}
-use lib.Dec.{eqb}
-use borrow.Author.Tests.{eq-eqb, eqb-true}
-use Rattle.rules.proofs.Tests.{and-left, and-right}
+use borrow.Author.Tests.{eq-eqb}
 use Rattle.rows.specs.declared.Row.{Row}
 use Rattle.rows.specs.Rows.{greeting, contents}
 use Rattle.greetings.specs.Bad.{isBad}
 use Rattle.marks.specs.Marks.{Mark, Note, noteOf}
 use Rattle.notes.specs.Notes.{True}
 use Rattle.tables.specs.Noted.{Listed, rowsListed, notesListed, listing}
-use Rattle.saved.specs.Saved.{anyBad, sameMark, sameMarks, sameNote, allTrue, earlyLaw, early}
+use Rattle.saved.specs.Saved.{anyBad, sameMarks, sameNote, allTrue, earlyLaw, early}
 use Rattle.keeping.specs.Kept.{Along, Good}
 use Rattle.rows.proofs.Lists.{both}
-
--- "samples and marks": compared, they are the same
-mark-same : (m q : Mark) → sameMark m q ≡ true → m ≡ q
-mark-same m q e =
-    let a = eqb-true (m .octets) (q .octets) (and-left (eqb (m .octets) (q .octets)) (eqb (m .samples) (q .samples)) e) in
-    let b = eqb-true (m .samples) (q .samples) (and-right (eqb (m .octets) (q .octets)) (eqb (m .samples) (q .samples)) e) in
-    rw (a, b)
-
-marks-same : (ms qs : List Mark) → sameMarks ms qs ≡ true → ms ≡ qs
-unfolding sameMarks
-marks-same [] [] e = refl
-marks-same [] (q ∷ qs) e = let z : _≡_ {A = ℕ} 0 1 = cc in absurd (omega arith)
-marks-same (m ∷ ms) [] e = let z : _≡_ {A = ℕ} 0 1 = cc in absurd (omega arith)
-marks-same (m ∷ ms) (q ∷ qs) e =
-    let p = both (sameMark m q) (sameMarks ms qs) e in
-    rw (mark-same m q (p .0), marks-same ms qs (p .1))
+use Rattle.saved.proofs.Bad.{note-same}
 
 marks-self : (ms : List Mark) → sameMarks ms ms ≡ true
 unfolding sameMarks
 marks-self [] = refl
 marks-self (m ∷ ms) = rw (eq-eqb (m .octets) (m .octets) refl, eq-eqb (m .samples) (m .samples) refl) (marks-self ms)
-
-note-same : (law : ℕ) (n g : Note) → n .law ≡ law → g .law ≡ law → sameNote n g ≡ true → n ≡ g
-note-same law n g l k e =
-    let a = eqb-true (n .samples) (g .samples) (and-left (eqb (n .samples) (g .samples)) (sameMarks (n .marks) (g .marks)) e) in
-    let b = marks-same (n .marks) (g .marks) (and-right (eqb (n .samples) (g .samples)) (sameMarks (n .marks) (g .marks)) e) in
-    rw (l ∙ sym k, a, b)
 
 note-self : (n : Note) → sameNote n n ≡ true
 note-self n = rw (eq-eqb (n .samples) (n .samples) refl) (marks-self (n .marks))
@@ -65,7 +42,7 @@ unfolding allTrue rowsListed notesListed contents True
 listed-true b [] e = tt
 listed-true b (x ∷ xs) e =
     let p = both (sameNote (x .note) (noteOf (x .note .law) (greeting b (x .row)))) (allTrue b xs) e in
-    (note-same (x .note .law) (x .note) (noteOf (x .note .law) (greeting b (x .row))) refl refl (p .0), listed-true b xs (p .1))
+    (note-same (x .note) (noteOf (x .note .law) (greeting b (x .row))) refl (p .0), listed-true b xs (p .1))
 
 -- and back
 pub good-listing : (b : List ℕ) (rows : List Row) (notes : List Note) → Good (contents b rows) notes → anyBad b (listing rows notes) ≡ false

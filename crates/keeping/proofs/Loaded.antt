@@ -1,5 +1,6 @@
--- Loading (R-6, R-8): the order TABLE, BAD, TABLE (`load-judged`, `load-bad-only`; and each the other way: `load-table-when`, `load-bad-when`,
--- `load-untrue-when`, `load-taken-when`); what a loading that is accepted tells (`Took`), and the table that it leaves (`load-sane`, `load-true`).
+-- Loading (R-6, R-8): the order TABLE, BAD, TABLE (`load-judged`, `load-bad-only`; and each the other way: `load-table-when`,
+-- `load-bad-when`, `load-untrue-when`, `load-taken-when`); what a loading that is accepted tells (`Took`), and the table that it leaves
+-- (`load-sane`, `load-true`).
 use Prim.Native.Nat.{ℕ, zero, suc, _+_, _≤_}
 use mathlib.Core.Path.{_≡_, refl, sym, ap, subst, _∙_}
 use mathlib.Core.List.{List, [], _∷_, _++_}
@@ -93,7 +94,8 @@ load-judged text b t = go (ltb (length t) (storeCells (sizeOf b))) refl (tableIn
     go false p none q none r = unformed (λ xs f. no-lists q r (f .lists))
 
 -- and the other way
-pub read-as : {text b : List ℕ} {xs : List Listed} (size : ℕ) → Lists text b xs → loadRead b size (tableIn text) (formedIn text) ≡ loadIn b size xs
+pub read-as : {text b : List ℕ} {xs : List Listed} (size : ℕ) → Lists text b xs
+    → loadRead b size (tableIn text) (formedIn text) ≡ loadIn b size xs
 read-as size (in-early e) = rw e
 read-as size (in-noted e f) = rw (e, f)
 
@@ -203,7 +205,8 @@ few-from far zero done text i xs j e =
     omega arith
 few-from far (suc more) done text i xs j e = go (leb (length text) i) e (λ r k. few-from far more (done ++ (r ∷ [])) text k xs j)
   where
-    go : (t : Bool) → cond t (whole done i) (andThen (listed far text i) (λ r j. listedFrom far more (done ++ (r ∷ [])) text j)) ≡ whole xs j
+    go : (t : Bool) → cond t (whole done i) (andThen (listed far text i) (λ r j. listedFrom far more (done ++ (r ∷ [])) text j))
+        ≡ whole xs j
         → ((r : Listed) (k : ℕ) → listedFrom far more (done ++ (r ∷ [])) text k ≡ whole xs j → length xs ≤ length (done ++ (r ∷ [])) + more)
         → length xs ≤ length done + suc more
     go true e ih = let l = ap length (got-value e) in omega arith

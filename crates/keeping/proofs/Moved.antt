@@ -29,7 +29,8 @@ unfolding startOf Fresh
 start-at [] r post f = rw (eq-eqb (r .number) (r .number) refl)
 start-at (y ∷ pre) r post f = rw (ne-eqb (y .number) (r .number) (f .0)) (start-at pre r post (f .1))
 
-start-past : (y : ℕ) (pre : List Row) (r : Row) (post : List Row) → (r .number ≡ y → ⊥) → startOf y (pre ++ (r ∷ post)) ≡ startOf y (pre ++ post)
+start-past : (y : ℕ) (pre : List Row) (r : Row) (post : List Row) → (r .number ≡ y → ⊥)
+    → startOf y (pre ++ (r ∷ post)) ≡ startOf y (pre ++ post)
 unfolding startOf
 start-past y [] r post n = rw (ne-eqb (r .number) y n)
 start-past y (z ∷ pre) r post n = ap (λ (s : ℕ). cond (eqb (z .number) y) (z .start) s) (start-past y pre r post n)
@@ -84,7 +85,8 @@ module _ (b t : List ℕ) (law x : ℕ) (xs : List ℕ) {a : After} (e : putOf b
   distinct : Distinct (rowsOf t)
   distinct = sane-distinct (sizeOf b) t (put-granted b t law x xs a e .sane)
 
-  moved-in : (g : Gap) → putAt b (rowsOf t) (notesOf t) law x xs g .second ≡ changed (rowsOf t) (putAt b (rowsOf t) (notesOf t) law x xs g .rows)
+  moved-in : (g : Gap) → putAt b (rowsOf t) (notesOf t) law x xs g .second ≡ changed (rowsOf t)
+      (putAt b (rowsOf t) (notesOf t) law x xs g .rows)
   moved-in (At i s) =
       let rows = rowsOf t in
       let new = rowOf x s (length xs) in

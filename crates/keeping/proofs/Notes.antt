@@ -1,6 +1,6 @@
 -- R-8: "Every put and move keeps marks true to what the walk gives", by number: a new greeting's note is what the walk by its law gives
--- (`put-notes-new`); every other greeting's note is what it was, law, samples and marks, moved or not (`put-notes-others`, `delete-notes-others`).
--- So over any list of calls, until it is deleted or a table is loaded: `note-stays`, `put-note-stays`.
+-- (`put-notes-new`); every other greeting's note is what it was, law, samples and marks, moved or not (`put-notes-others`,
+-- `delete-notes-others`). So over any list of calls, until it is deleted or a table is loaded: `note-stays`, `put-note-stays`.
 use Prim.Native.Nat.{ℕ, _+_}
 use mathlib.Core.Path.{_≡_, refl, sym, ap, subst, _∙_}
 use mathlib.Core.List.{List, [], _∷_, _++_}
@@ -30,7 +30,8 @@ use Rattle.keeping.proofs.Granted.{put-granted, put-fresh, sane-count, 
 use Rattle.keeping.proofs.Granted.{put-back, delete-back, delete-gone, delete-rows, delete-notes, delete-parts, delete-taken}
 
 -- one put in among others
-module _ (x i : ℕ) (rows : List Row) (notes : List Note) (new : Row) (n : Note) (e : new .number ≡ x) (same : length notes ≡ length rows) where
+module _ (x i : ℕ) (rows : List Row) (notes : List Note) (new : Row) (n : Note) (e : new .number ≡ x)
+    (same : length notes ≡ length rows) where
   taken-same : length (take i rows) ≡ length (take i notes)
   taken-same = omega (arith, length-take i rows, length-take i notes)
 
@@ -96,7 +97,8 @@ module _ (b t : List ℕ) (x : ℕ) {a : After} (e : deleteOf b t x ≡ leaves a
       let d = sane-distinct (sizeOf b) t (delete-gone b t x a e .sane) in
       let f = distinct-behind (found .before) (found .row) (found .behind) (rw (found .is) at d) in
       let g = rw (found .number) at f in
-      left-notes x ∙ under-none x (found .before ++ found .behind) (before ++ behind) (fresh-join x (found .before) (found .behind) (g .0) (g .1))
+      left-notes x ∙ under-none x (found .before ++ found .behind) (before ++ behind)
+      (fresh-join x (found .before) (found .behind) (g .0) (g .1))
 
   pub delete-notes-others : (y : ℕ) → (x ≡ y → ⊥) → noteUnder y (a .rows) (a .notes) ≡ noteUnder y (rowsOf t) (notesOf t)
   delete-notes-others y n =

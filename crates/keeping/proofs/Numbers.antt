@@ -1,4 +1,5 @@
--- Numbers from 1 to 65,535, each used once: `Distinct`, with one put in, with one taken out, closed up. A number found among them (`find-split`).
+-- Numbers from 1 to 65,535, each used once: `Distinct`, with one put in, with one taken out, closed up. A number found among them
+-- (`find-split`).
 use Prim.Native.Nat.{ℕ, _+_, _≤_}
 use mathlib.Core.Path.{_≡_, refl, sym, ap, _∙_}
 use mathlib.Core.List.{List, [], _∷_, _++_}
@@ -55,7 +56,8 @@ unfolding Fresh
 fresh-insert x [] r c n f = (n, f)
 fresh-insert x (y ∷ a) r c n f = (f .0, fresh-insert x a r c n (f .1))
 
-distinct-insert : (a : List Row) (r : Row) (c : List Row) → 1 ≤ r .number → r .number ≤ mostNumber → Fresh (r .number) (a ++ c) → Distinct (a ++ c)
+distinct-insert : (a : List Row) (r : Row) (c : List Row) → 1 ≤ r .number → r .number ≤ mostNumber → Fresh (r .number) (a ++ c)
+    → Distinct (a ++ c)
     → Distinct (a ++ (r ∷ c))
 unfolding Distinct Fresh
 distinct-insert [] r c l h f d = (l, h, f, d)
@@ -83,7 +85,8 @@ distinct-closed at [] d = tt
 distinct-closed at (r ∷ rows) d =
     (d .0, d .1, fresh-closed (r .number) (at + r .octets) rows (d .2), distinct-closed (at + r .octets) rows (d .3))
 
-pub inserted-distinct : (i : ℕ) (r : Row) (rows : List Row) → 1 ≤ r .number → r .number ≤ mostNumber → Fresh (r .number) rows → Distinct rows
+pub inserted-distinct : (i : ℕ) (r : Row) (rows : List Row) → 1 ≤ r .number → r .number ≤ mostNumber → Fresh (r .number) rows
+    → Distinct rows
     → Distinct (insertAt i r rows)
 inserted-distinct i r rows l h f d =
     let e = take-append-drop i rows in
@@ -146,5 +149,6 @@ find-split x i [] e = let z : _≡_ {A = ℕ} 0 1 = cc in absurd (omega arith)
 find-split x i (r ∷ rows) e = go (eqb (r .number) x) refl (find-split x (i + 1) rows)
   where
     go : (t : Bool) → eqb (r .number) x ≡ t → (absent x rows ≡ false → FoundAt x (i + 1) rows) → FoundAt x i (r ∷ rows)
-    go true p ih = record { before = []; row = r; behind = rows; is = refl; place = find-here x i r rows p; number = eqb-true (r .number) x p }
+    go true p ih = record
+        { before = []; row = r; behind = rows; is = refl; place = find-here x i r rows p; number = eqb-true (r .number) x p }
     go false p ih = found-later p (ih (sym (absent-on x r rows p) ∙ e))

@@ -1,5 +1,5 @@
--- Document 02, R-6 and R-8, over any list of calls from a fresh block (`Keeps`, `all-kept`). From R-8 on a put has a law, and with each greeting goes
--- its note; R-6's promises are about the same greetings as before.
+-- Document 02, R-6 and R-8, over any list of calls from a fresh block (`Keeps`, `all-kept`). From R-8 on a put has a law, and with each
+-- greeting goes its note; R-6's promises are about the same greetings as before.
 --   `held-total`: octets held equal all octets put less all octets deleted; after a loading its greetings count as first puts.
 --   `all-sane`, `never-table`: every call leaves a table that calls leave, so TABLE does not arise from calls alone.
 --   `marks-true`, `notes-count`: law, samples and marks of each greeting are what the walk gives; as many notes as greetings.
@@ -55,7 +55,8 @@ use Rattle.keeping.proofs.Rising.{held-within}
 use Rattle.keeping.proofs.Contents.{kept, contents-append, contents-cons}
 use Rattle.keeping.proofs.Gaps.{Bounds, gap-lowest, gap-split, split-clear}
 use Rattle.keeping.proofs.Granted.{put-granted, put-sane, put-back, put-length, put-held, put-reads, put-fresh, good-some}
-use Rattle.keeping.proofs.Granted.{sane-rows, sane-distinct, sane-count, Stored, delete-parts, delete-taken, delete-notes, delete-back}
+use Rattle.keeping.proofs.Granted.{sane-rows, sane-distinct, sane-count, Stored}
+use Rattle.keeping.proofs.Granted.{delete-parts, delete-taken, delete-notes, delete-back}
 use Rattle.keeping.proofs.Granted.{delete-gone, delete-block, delete-rows, delete-held, delete-sane, get-got, get-of}
 use Rattle.keeping.proofs.Looked.{fresh-missing, look-put, look-other, look-none, contents-split}
 use Rattle.keeping.proofs.Loaded.{lists-one, load-took, load-good, load-true, load-back, load-sane}
@@ -118,7 +119,8 @@ module _ (b t : List ℕ) (x : ℕ) {a : After} (e : deleteOf b t x ≡ leaves a
       rw (left-contents, whole-contents)
       (sym (look-other y (found .row .number) (greeting b (found .row)) (contents b (found .before)) (contents b (found .behind)) m))
 
-  delete-along : (p : Kept → Note → Type 0) → Along p (contents b (rowsOf t)) (notesOf t) → Along p (contents (a .block) (a .rows)) (a .notes)
+  delete-along : (p : Kept → Note → Type 0) → Along p (contents b (rowsOf t)) (notesOf t)
+      → Along p (contents (a .block) (a .rows)) (a .notes)
   delete-along p h =
       let k = kept (found .row .number) (greeting b (found .row)) in
       let n = nthNote (length (found .before)) (notesOf t) in
@@ -148,7 +150,8 @@ get-reads b t x a e =
     ∙ ap (λ (m : ℕ). contents b (f .before) ++ (kept m o ∷ contents b (f .behind))) (f .number) in
     let q : take (a .second) (drop (a .first) b) ≡ o =
     ap (λ (k : ℕ). take k (drop (a .first) b)) (g .octets) ∙ ap (λ (k : ℕ). take (f .row .octets) (drop k b)) (g .start) in
-    ap (lookUp x) w ∙ look-put x o (contents b (f .before)) (contents b (f .behind)) (fresh-missing x b (f .before) (n .0)) ∙ ap here (sym q)
+    ap (lookUp x) w ∙ look-put x o (contents b (f .before)) (contents b (f .behind)) (fresh-missing x b (f .before) (n .0))
+    ∙ ap here (sym q)
 
 here-same : {o p : List ℕ} → here o ≡ here p → o ≡ p
 here-same e = cc
@@ -183,7 +186,8 @@ get-after-put b t law x xs a e =
     go true p n = not-missing (sym (fresh-missing x (a .block) there (fresh-of x there p)) ∙ n)
 
 pub walk-after-put : (b t : List ℕ) (law x : ℕ) (xs : List ℕ) (a : After) → (e : putOf b t law x xs ≡ leaves a) → (by set room : ℕ)
-    → walkAll (take (get-after-put b t law x xs a e .got .second) (drop (get-after-put b t law x xs a e .got .first) (a .block))) by set room
+    → walkAll (take (get-after-put b t law x xs a e .got .second)
+    (drop (get-after-put b t law x xs a e .got .first) (a .block))) by set room
     ≡ walkAll xs by set room
 walk-after-put b t law x xs a e by set room = ap (λ (o : List ℕ). walkAll o by set room) (get-after-put b t law x xs a e .octets)
 
@@ -210,11 +214,14 @@ noroom-only b t law x xs e =
     go (saneStore (sizeOf b) t) refl (isLaw law) refl (isNumber x) refl (absent x (rowsOf t)) refl (isBad law xs) refl
     (leb 32 (length (rowsOf t))) refl (ltb (sizeOf b) (held (rowsOf t) + length xs)) refl e
   where
-    go : (s : Bool) → saneStore (sizeOf b) t ≡ s → (l : Bool) → isLaw law ≡ l → (n : Bool) → isNumber x ≡ n → (f : Bool) → absent x (rowsOf t) ≡ f
+    go : (s : Bool) → saneStore (sizeOf b) t ≡ s → (l : Bool) → isLaw law ≡ l → (n : Bool) → isNumber x ≡ n → (f : Bool)
+        → absent x (rowsOf t) ≡ f
         → (g : Bool) → isBad law xs ≡ g
         → (q : Bool) → leb 32 (length (rowsOf t)) ≡ q → (r : Bool) → ltb (sizeOf b) (held (rowsOf t) + length xs) ≡ r
-        → cond (not s) (refused Table) (cond (not l) (refused Law) (cond (not n) (refused Number) (cond (not f) (refused Taken) (cond g (refused Bad)
-        (cond q (refused Full) (cond r (refused NoRoom) (leaves (fitted b (rowsOf t) (notesOf t) (sizeOf b) law x xs)))))))) ≡ refused NoRoom
+        → cond (not s) (refused Table)
+        (cond (not l) (refused Law) (cond (not n) (refused Number) (cond (not f) (refused Taken) (cond g (refused Bad)
+        (cond q (refused Full) (cond r (refused NoRoom) (leaves (fitted b (rowsOf t) (notesOf t) (sizeOf b) law x xs))))))))
+        ≡ refused NoRoom
         → Unrefused b t law x xs × (sizeOf b < held (rowsOf t) + length xs)
     go false s′ l l′ n n′ f f′ g g′ q q′ r r′ e = let z : _≡_ {A = ℕ} 0 1 = cc in absurd (omega arith)
     go true s′ false l′ n n′ f f′ g g′ q q′ r r′ e = let z : _≡_ {A = ℕ} 0 1 = cc in absurd (omega arith)
@@ -252,7 +259,8 @@ pub record Keeps (size : ℕ) (s : Store) : Type 0 where
   pub total : held (rowsIn s) + s .deleted ≡ s .put
 
 -- a pair by pair of what an accepted call leaves, read from its table
-along-back : (b t : List ℕ) (rows : List Row) (notes : List Note) (p : Kept → Note → Type 0) → Stored rows notes t → Along p (contents b rows) notes
+along-back : (b t : List ℕ) (rows : List Row) (notes : List Note) (p : Kept → Note → Type 0) → Stored rows notes t
+    → Along p (contents b rows) notes
     → Along p (contents b (rowsOf (stored rows notes t))) (notesOf (stored rows notes t))
 along-back b t rows notes p z h = rw (z .rows-are, z .notes-are) h
 
@@ -332,7 +340,8 @@ keeps-load size s text k (leaves a) e =
       total = rw (z .rows-are) (omega arith);
     }
 
-keeps-same : (size : ℕ) (s : Store) → Keeps size s → Keeps size (record { block = s .block; table = s .table; put = s .put; deleted = s .deleted })
+keeps-same : (size : ℕ) (s : Store) → Keeps size s
+    → Keeps size (record { block = s .block; table = s .table; put = s .put; deleted = s .deleted })
 keeps-same size s k = record { sane = k .sane; long = k .long; good = k .good; marks = k .marks; total = k .total }
 
 -- every call keeps it so
@@ -413,7 +422,8 @@ put-tables b size rows notes law x xs e =
     go (isLaw law) (isNumber x) (absent x rows) (isBad law xs) (leb 32 (length rows)) (ltb size (held rows + length xs)) e
   where
     go : (l n f g q r : Bool)
-        → cond (not l) (refused Law) (cond (not n) (refused Number) (cond (not f) (refused Taken) (cond g (refused Bad) (cond q (refused Full)
+        → cond (not l) (refused Law)
+        (cond (not n) (refused Number) (cond (not f) (refused Taken) (cond g (refused Bad) (cond q (refused Full)
         (cond r (refused NoRoom) (leaves (fitted b rows notes size law x xs))))))) ≡ refused Table → ⊥
     go false n f g q r e = let z : _≡_ {A = ℕ} 0 1 = cc in absurd (omega arith)
     go true false f g q r e = let z : _≡_ {A = ℕ} 0 1 = cc in absurd (omega arith)
@@ -424,7 +434,8 @@ put-tables b size rows notes law x xs e =
     go true true true false false false e = let z : _≡_ {A = ℕ} 0 1 = cc in absurd (omega arith)
 
 -- NUMBER, ABSENT or the greeting
-found-tables : (x : ℕ) (rows : List Row) (a : After) → cond (not (isNumber x)) (refused Number) (cond (absent x rows) (refused Absent) (leaves a))
+found-tables : (x : ℕ) (rows : List Row) (a : After)
+    → cond (not (isNumber x)) (refused Number) (cond (absent x rows) (refused Absent) (leaves a))
     ≡ refused Table → ⊥
 found-tables x rows a e = go (isNumber x) (absent x rows) e
   where
@@ -495,7 +506,8 @@ noted-loads text b t xs i a e g f =
     k .is ∙ ap (loaded b) (lists-one (k .formed .lists) (in-noted e g))
 
 -- R-6's lines, saved again, are R-8's lines
-pub early-saved : (text b t : List ℕ) (rows : List Row) (i : ℕ) (a : After) → tableIn text ≡ whole rows i → loadOf text b t ≡ leaves a → (room : ℕ)
+pub early-saved : (text b t : List ℕ) (rows : List Row) (i : ℕ) (a : After) → tableIn text ≡ whole rows i → loadOf text b t ≡ leaves a
+    → (room : ℕ)
     → saveOf b (stored (a .rows) (a .notes) t) room ≡ saveIn (sizeOf b) (early b rows) room
 early-saved text b t rows i a e f room =
     let z = load-back text b t f in

@@ -39,7 +39,8 @@ rising-any lo size (r ∷ rows) e =
     rising-cons 0 lo size r rows (record { above = q .above; some = omega arith; inside = q .inside })
     (rising-any (r .start + r .octets) size rows (n .1))
 
-pub rising-remove : (a : List Row) (r : Row) (c : List Row) (lo size : ℕ) → rising 1 lo size (a ++ (r ∷ c)) ≡ true → rising 1 lo size (a ++ c) ≡ true
+pub rising-remove : (a : List Row) (r : Row) (c : List Row) (lo size : ℕ) → rising 1 lo size (a ++ (r ∷ c)) ≡ true
+    → rising 1 lo size (a ++ c) ≡ true
 rising-remove [] r c lo size e =
     let n = rising-head 1 lo size r c e in
     let q = n .0 in
@@ -59,7 +60,8 @@ rising-join (x ∷ a) r c lo size o l g h f =
     (rising-join a r c (x .start + x .octets) size o (m .inside) g (n .1) f)
 
 -- closed up they rise, and end where what they hold ends
-pub closing-rises : (rows : List Row) (at lo size : ℕ) → rising 1 lo size rows ≡ true → rising 1 at (at + held rows) (closedRows at rows) ≡ true
+pub closing-rises : (rows : List Row) (at lo size : ℕ) → rising 1 lo size rows ≡ true
+    → rising 1 at (at + held rows) (closedRows at rows) ≡ true
 unfolding held closedRows
 closing-rises [] at lo size h = rising-nil 1 at (at + 0)
 closing-rises (r ∷ rows) at lo size h =

@@ -35,7 +35,8 @@ use Rattle.keeping.proofs.Listed.{good-listing, true-listing, notes-lis
 use Rattle.keeping.proofs.Loaded.{lawful, load-taken-when}
 
 -- the numbers of greetings that rise, where no start and no count of octets exceeds 65,535
-each-sayable : (lo size : ℕ) (rows : List Row) → anyFar rows ≡ false → rising 1 lo size rows ≡ true → Distinct rows → Each (Sayable mostPlace) rows
+each-sayable : (lo size : ℕ) (rows : List Row) → anyFar rows ≡ false → rising 1 lo size rows ≡ true → Distinct rows
+    → Each (Sayable mostPlace) rows
 unfolding Distinct anyFar
 each-sayable lo size [] s h d = tt
 each-sayable lo size (r ∷ rows) s h d =
@@ -56,7 +57,8 @@ unfolding Small
 marks-sayable o s [] a b h = tt
 marks-sayable o s (m ∷ ms) a b h = (record { octets = omega (arith, h .0); samples = omega (arith, h .1) }, marks-sayable o s ms a b (h .2))
 
-listing-sayable : (far : ℕ) → far ≤ largestBlock → (b : List ℕ) (lo size : ℕ) (rows : List Row) (notes : List Note) → size ≤ far → size ≤ length b
+listing-sayable : (far : ℕ) → far ≤ largestBlock → (b : List ℕ) (lo size : ℕ) (rows : List Row) (notes : List Note)
+    → size ≤ far → size ≤ length b
     → rising 1 lo size rows ≡ true → Distinct rows → Good (contents b rows) notes → True (contents b rows) notes
     → Each (SayableAll far) (listing rows notes)
 unfolding Distinct contents Along True listing
@@ -83,7 +85,8 @@ unfolding early listedText tableText
 said-lists b [] h l = in-early {rows = []} (table-back [] tt (omega arith))
 said-lists b (x ∷ xs) h l = in-noted (early-refuses x xs (h .0 .row)) (unformed-back (x ∷ xs) h l)
 
-pub formed-lists : (b : List ℕ) (xs : List Listed) → Each (SayableAll largestBlock) xs → length xs ≤ 32 → Lists (formLine ++ listedText xs) b xs
+pub formed-lists : (b : List ℕ) (xs : List Listed) → Each (SayableAll largestBlock) xs → length xs ≤ 32
+    → Lists (formLine ++ listedText xs) b xs
 formed-lists b xs h l = in-noted (old-rows (listedText xs)) (formed-back xs h l)
 
 -- as it is saved
@@ -95,7 +98,8 @@ saved-lists b size rows notes z i f l h d g w = go (needsForm size (rowsListed (
     few : length (listing rows notes) ≤ 32
     few = omega (arith, length-listing rows notes l)
 
-    go : (t : Bool) → needsForm size (rowsListed (listing rows notes)) ≡ t → Lists (cond t formLine [] ++ listedText (listing rows notes)) b (listing rows notes)
+    go : (t : Bool) → needsForm size (rowsListed (listing rows notes)) ≡ t
+        → Lists (cond t formLine [] ++ listedText (listing rows notes)) b (listing rows notes)
     go true e = formed-lists b (listing rows notes) (listing-sayable largestBlock (omega arith) b 0 size rows notes z i h d g w) few
     go false e =
         let small = ltb-false mostPlace size (bad-split (anyFar (rowsListed (listing rows notes))) _ e .1) in
@@ -103,13 +107,16 @@ saved-lists b size rows notes z i f l h d g w = go (needsForm size (rowsListed (
 
 -- what save writes, load takes into any table that is long enough, and it is the same
 pub load-of : (b t : List ℕ) (rows : List Row) (notes : List Note) → storeCells (sizeOf b) ≤ length t → length rows ≤ 32
-    → rising 1 0 (sizeOf b) rows ≡ true → Distinct rows → length notes ≡ length rows → Good (contents b rows) notes → True (contents b rows) notes
-    → loadOf (savedText (sizeOf b) (listing rows notes)) b t ≡ leaves (record { block = b; rows = rows; notes = notes; first = 0; second = 0 })
+    → rising 1 0 (sizeOf b) rows ≡ true → Distinct rows → length notes ≡ length rows → Good (contents b rows) notes
+    → True (contents b rows) notes
+    → loadOf (savedText (sizeOf b) (listing rows notes)) b t ≡ leaves
+    (record { block = b; rows = rows; notes = notes; first = 0; second = 0 })
 load-of b t rows notes c f h d l g w =
     let e = rows-listing rows notes l in
     let k = notes-listing rows notes l in
     let m = saved-lists b (sizeOf b) rows notes (omega arith) (omega arith) f l h d g w in
-    load-taken-when {t = t} (record { cells = c; lists = m; apart = rw e (rising-any 0 (sizeOf b) rows h); once = rw e (numbered-of rows d) })
+    load-taken-when {t = t}
+    (record { cells = c; lists = m; apart = rw e (rising-any 0 (sizeOf b) rows h); once = rw e (numbered-of rows d) })
     (good-listing b rows notes g) (true-listing b rows notes w)
     ∙ rw (e, k)
 

@@ -43,7 +43,8 @@ module _ (b : List ℕ) (r : Row) (at p : ℕ) (more : List ℕ) (inside : r .st
   here h (yes e) s =
       let i : r .start + (p - at) ≡ p = omega arith in
       List·getD-append (greeting b r) more 0 (p - at) (omega (arith, lg))
-      ∙ getD-take (r .octets) (drop (r .start) b) (p - at) 0 (omega arith) ∙ getD-drop (r .start) b (p - at) 0 ∙ ap (λ (x : ℕ). getD b x 0) i
+      ∙ getD-take (r .octets) (drop (r .start) b) (p - at) 0 (omega arith) ∙ getD-drop (r .start) b (p - at) 0
+      ∙ ap (λ (x : ℕ). getD b x 0) i
 
   cases : Dec (p < at + r .octets) → ((r .start ≡ at → ⊥) → at ≤ p → p < at + r .octets → ⊥)
       → (at + r .octets ≤ p → getD more (p - (at + r .octets)) 0 ≡ getD b p 0) → getD (greeting b r ++ more) (p - at) 0 ≡ getD b p 0
@@ -76,7 +77,8 @@ closing-spares b rows p size h f s = rw (sub-zero, zero-add) at (stays b rows 0 
 low-spares : (b xs : List ℕ) (at p : ℕ) → at + length xs ≤ length b → p < at → getD (written b at xs) p 0 ≡ getD b p 0
 unfolding written
 low-spares b xs at p h l =
-    List·getD-append (take at b) (xs ++ drop (at + length xs) b) 0 p (omega (arith, length-take-le at b (omega arith))) ∙ getD-take at b p 0 l
+    List·getD-append (take at b) (xs ++ drop (at + length xs) b) 0 p (omega (arith, length-take-le at b (omega arith)))
+    ∙ getD-take at b p 0 l
 
 pub writing-spares : (b xs : List ℕ) (at p : ℕ) → at + length xs ≤ length b → (at ≤ p → p < at + length xs → ⊥)
     → getD (written b at xs) p 0 ≡ getD b p 0
@@ -105,7 +107,8 @@ module _ (b t : List ℕ) (law x : ℕ) (xs : List ℕ) {a : After} (e : putOf b
       ∙ closing-spares b (rowsOf t) p (sizeOf b) (o .rises) (omega arith) k
 
   -- outside the new greeting's place, and what closing up writes where no gap holds it
-  pub put-stays : (p : ℕ) → (a .first ≤ p → p < a .first + length xs → ⊥) → Passed p (lowestGap (length xs) (sizeOf b) (rowsOf t)) (rowsOf t)
+  pub put-stays : (p : ℕ) → (a .first ≤ p → p < a .first + length xs → ⊥)
+      → Passed p (lowestGap (length xs) (sizeOf b) (rowsOf t)) (rowsOf t)
       → getD (a .block) p 0 ≡ getD b p 0
   put-stays p out k =
       let i = put-granted b t law x xs a e .is in

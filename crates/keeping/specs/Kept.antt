@@ -1,5 +1,5 @@
--- What the promises speak of: what a store reads under a number, and its note (R-8); places that are clear; greetings whose start changed; places
--- that closing up writes.
+-- What the promises speak of: what a store reads under a number, and its note (R-8); places that are clear; greetings whose start changed;
+-- places that closing up writes.
 use Prim.Native.Nat.{ℕ, _+_, _≤_, _<_}
 use mathlib.Core.Path.{_≡_}
 use mathlib.Core.List.{List, [], _∷_}

@@ -1,5 +1,6 @@
--- Document 02, R-6 and R-8, reading a table: TABLE "for lines not of this form or order, a number out of range or used twice, more than 32 greetings,
--- or greetings that overlap or pass the block's end, then .. BAD"; "after BAD samples or marks that the walk doesn't give, is TABLE".
+-- Document 02, R-6 and R-8, reading a table: TABLE "for lines not of this form or order, a number out of range or used twice, more than 32
+-- greetings, or greetings that overlap or pass the block's end, then .. BAD"; "after BAD samples or marks that the walk doesn't give, is
+-- TABLE".
 use Prim.Native.Nat.{ℕ, _≤_}
 use mathlib.Core.Path.{_≡_}
 use mathlib.Core.List.{List}
@@ -17,12 +18,14 @@ use Rattle.store.specs.declared.Refusal.the-variants.{Bad, Table}
 use Rattle.store.specs.Store.{Outcome, leaves, refused, After}
 use Rattle.saved.specs.Saved.{anyBad, allTrue, early}
 
--- the greetings that a text lists: all in R-6's lines, with what the walk by law 1 gives; or all in R-8's, with R-11's first line or without it
+-- the greetings that a text lists: all in R-6's lines, with what the walk by law 1 gives; or all in R-8's, with R-11's first line or
+-- without it
 pub data Lists (text b : List ℕ) : List Listed → Type 0 where
   in-early : {rows : List Row} {i : ℕ} → tableIn text ≡ whole rows i → Lists text b (early b rows)
   in-noted : {xs : List Listed} {i : ℕ} → tableIn text ≡ none → formedIn text ≡ whole xs i → Lists text b xs
 
--- nothing is TABLE before BAD: the lent cells are enough, the lines are of their form, the greetings are apart and inside, the numbers used once
+-- nothing is TABLE before BAD: the lent cells are enough, the lines are of their form, the greetings are apart and inside, the numbers used
+-- once
 pub record Formed (text b t : List ℕ) (xs : List Listed) : Type 0 where
   pub cells : storeCells (sizeOf b) ≤ length t
   pub lists : Lists text b xs

@@ -1,5 +1,5 @@
--- Document 02, R-6 and R-8: a list of calls from a fresh block; "Octets held equal all octets put less all octets deleted since the block was fresh";
--- after a loading "the held total then counts them as first puts".
+-- Document 02, R-6 and R-8: a list of calls from a fresh block; "Octets held equal all octets put less all octets deleted since the block
+-- was fresh"; after a loading "the held total then counts them as first puts".
 use Prim.Native.Nat.{ℕ, _+_}
 use mathlib.Core.Path.{_≡_}
 use mathlib.Core.List.{List, [], _∷_}

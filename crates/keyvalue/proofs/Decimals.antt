@@ -2,14 +2,14 @@
 use Prim.Native.Nat.{ℕ, zero, suc, _+_, _*_, _-_, _^_, _/_, _%_, _≤_, _<_}
 use mathlib.Core.Path.{_≡_, refl, sym, ap, _∙_}
 use mathlib.Core.List.{List, [], _∷_, _++_, append-nil}
-use mathlib.Core.Bool.{Bool, true, false, cond, _&&_}
+use mathlib.Core.Bool.{Bool, true, false, cond}
 use native.Mathlib.Omega.{arith}
 use native.Mathlib.Nat.{pow-suc, pow-le-pow-right}
-use lib.ListN.{length, getD, drop, length-append}
-use lib.Dec.{eqb, leb, ltb}
-use borrow.Author.Tests.{lt-ltb, le-ltb, ltb-true, ltb-false, le-leb, lt-leb, eq-eqb, ne-eqb, eqb-true, eqb-false}
+use lib.ListN.{length, length-append}
+use lib.Dec.{eqb, ltb}
+use borrow.Author.Tests.{lt-ltb, le-ltb, ltb-true, ltb-false, le-leb, ne-eqb, eqb-true, eqb-false}
 use Rattle.rules.specs.Listing.{digitsFrom, decimal}
-use Rattle.keyvalue.specs.Reading.{Read, whole, none, isDigit, digitsOn, decimalOn}
+use Rattle.keyvalue.specs.Reading.{whole, none, isDigit, digitsOn, decimalOn}
 use Rattle.keyvalue.proofs.Numbers.{digit-range}
 
 pub is-digit : (x : ℕ) → 48 ≤ x → x ≤ 57 → isDigit x ≡ true
@@ -81,7 +81,8 @@ digits-before (suc more) n a b = go (ltb n 10) (digits-before more (n / 10) ((48
     go true e = refl
     go false e = e
 
-pub decimal-back : (n i : ℕ) (rest : List ℕ) → n < 10 ^ 20 → noDigit rest → decimalOn i (decimal n ++ rest) ≡ whole n (i + length (decimal n))
+pub decimal-back : (n i : ℕ) (rest : List ℕ) → n < 10 ^ 20 → noDigit rest
+    → decimalOn i (decimal n ++ rest) ≡ whole n (i + length (decimal n))
 unfolding digitsFrom decimalOn
 decimal-back zero i rest h e = refl
 decimal-back (suc n) i rest h e =
@@ -159,14 +160,17 @@ few k n a b = go (ltb k 20) refl
     go true e = ltb-true k 20 e
     go false e = absurd (omega (arith, pow-le-pow-right {n = 10} (omega arith) {i = 20} {j = k} (ltb-false k 20 e)))
 
-first-digit : (x i : ℕ) (text : List ℕ) (n j : ℕ) → 49 ≤ x → x ≤ 57 → n < 10 ^ 20 → Digits (x - 48) (i + 1) text n j → Written i (x ∷ text) n j
+first-digit : (x i : ℕ) (text : List ℕ) (n j : ℕ) → 49 ≤ x → x ≤ 57 → n < 10 ^ 20 → Digits (x - 48) (i + 1) text n j
+    → Written i (x ∷ text) n j
 unfolding digitsFrom
 first-digit x i text n j a b h r =
-    let l : 10 ^ length (r .digits) ≤ n = let z : 0 + length (r .digits) ≡ length (r .digits) = omega arith in rw z at (r .large 0 (omega arith)) in
+    let l : 10 ^ length (r .digits) ≤ n = let z : 0 + length (r .digits) ≡ length (r .digits) = omega arith in
+    rw z at (r .large 0 (omega arith)) in
     let k = few (length (r .digits)) n l h in
     let z : length (r .digits) + suc (19 - length (r .digits)) ≡ 20 = omega arith in
     let y : 48 + (x - 48) ≡ x = omega arith in
-    let e : decimal n ≡ x ∷ r .digits = rw z at (r .shift (suc (19 - length (r .digits))) []) ∙ rw (lt-ltb (x - 48) 10 (omega arith), y, append-nil) in
+    let e : decimal n ≡ x ∷ r .digits = rw z at (r .shift (suc (19 - length (r .digits))) [])
+    ∙ rw (lt-ltb (x - 48) 10 (omega arith), y, append-nil) in
     record { rest = r .rest; parts = rw e (ap (λ (l : List ℕ). x ∷ l) (r .parts)); place = rw e (omega (arith, r .place)) }
 
 pub decimal-only : (i : ℕ) (text : List ℕ) (n j : ℕ) → n < 10 ^ 20 → decimalOn i text ≡ whole n j → Written i text n j
@@ -174,7 +178,8 @@ unfolding decimalOn digitsFrom
 decimal-only i [] n j h e = let z : _≡_ {A = ℕ} 0 1 = cc in absurd (omega arith)
 decimal-only i (x ∷ text) n j h e = go (eqb x 48) refl (isDigit x) refl e
   where
-    go : (s : Bool) → eqb x 48 ≡ s → (t : Bool) → isDigit x ≡ t → cond s (whole 0 (i + 1)) (cond t (digitsOn (x - 48) (i + 1) text) none) ≡ whole n j
+    go : (s : Bool) → eqb x 48 ≡ s → (t : Bool) → isDigit x ≡ t
+        → cond s (whole 0 (i + 1)) (cond t (digitsOn (x - 48) (i + 1) text) none) ≡ whole n j
         → Written i (x ∷ text) n j
     go true p t q e =
         let a : 0 ≡ n = cc in

@@ -1,18 +1,18 @@
 -- Reading undoes writing (Back), and nothing else reads so: the few laws of which every text's are made.
-use Prim.Native.Nat.{ℕ, zero, suc, _+_, _*_, _-_, _^_, _≤_, _<_}
+use Prim.Native.Nat.{ℕ, _+_, _-_, _^_, _≤_, _<_}
 use mathlib.Core.Path.{_≡_, refl, sym, ap, _∙_}
 use mathlib.Core.List.{List, [], _∷_, _++_, append-assoc, append-nil}
-use mathlib.Core.Bool.{Bool, true, false, cond, _&&_}
+use mathlib.Core.Bool.{Bool, true, false, cond}
 use native.Mathlib.Omega.{arith}
 use lib.ListN.{length, drop, length-append, drop-of-length-le}
 use lib.Seq.{drop-drop, drop-at}
 use lib.Dec.{eqb, leb}
 use borrow.Author.Tests.{eq-eqb, eqb-true, le-leb, leb-true}
-use Rattle.rules.specs.Listing.{digitsFrom, decimal, lineEnd}
+use Rattle.rules.specs.Listing.{decimal, lineEnd}
 use Rattle.rules.proofs.Tests.{and-left, and-right}
 use Rattle.keyvalue.specs.Reading.{Read, whole, none, Reader, andThen, _>>=_, give, ended, begins, after, isDigit, number}
 use Rattle.keyvalue.specs.Lines.{lineOf, line, ranged, isWithin}
-use Rattle.keyvalue.proofs.Decimals.{noDigit, decimal-back, decimal-only, Written}
+use Rattle.keyvalue.proofs.Decimals.{decimal-back, decimal-only}
 
 -- what follows a text that stands at a place
 pub onward : (text w rest : List ℕ) (i : ℕ) → drop i text ≡ w ++ rest → drop (i + length w) text ≡ rest
@@ -25,7 +25,8 @@ pub record Back {A : Type 0} (p : Reader A) (w : List ℕ) (v : A) : Type 0 wher
 pub back-give : {A : Type 0} (v : A) → Back (give v) [] v
 back-give v = record { reads = λ text i rest e. ap (whole v) (omega arith) }
 
-pub back-bind : {A B : Type 0} (p : Reader A) (f : A → Reader B) {a b : List ℕ} {v : A} {w : B} → Back p a v → Back (f v) b w → Back (p >>= f) (a ++ b) w
+pub back-bind : {A B : Type 0} (p : Reader A) (f : A → Reader B) {a b : List ℕ} {v : A} {w : B} → Back p a v → Back (f v) b w
+    → Back (p >>= f) (a ++ b) w
 back-bind p f {a} {b} {v} {w} pa fb = record {
   reads = λ text i rest e.
       let e′ : drop i text ≡ a ++ (b ++ rest) = e ∙ append-assoc a b rest in
@@ -63,14 +64,16 @@ unfolding number
 back-number f n x {w} {v} h d b = record {
   reads = λ text i rest e.
       let e′ : drop i text ≡ decimal n ++ (x ∷ (w ++ rest)) = e ∙ append-assoc (decimal n) (x ∷ w) rest in
-      let m : i + length (decimal n ++ (x ∷ w)) ≡ i + length (decimal n) + length (x ∷ w) = rw (length-append (decimal n) (x ∷ w)) (omega arith) in
+      let m : i + length (decimal n ++ (x ∷ w)) ≡ i + length (decimal n) + length (x ∷ w) =
+      rw (length-append (decimal n) (x ∷ w)) (omega arith) in
       let r : number text i ≡ whole n (i + length (decimal n)) = rw e′ (decimal-back n i (x ∷ (w ++ rest)) h d) in
       rw (r, m) (b .reads text (i + length (decimal n)) rest (onward text (decimal n) (x ∷ (w ++ rest)) i e′));
 }
 
 pub back-line : (key : List ℕ) (n : ℕ) → n < 10 ^ 20 → Back (line key) (lineOf key n) n
 unfolding line lineOf
-back-line key n h = rw (append-assoc key (decimal n) lineEnd) (back-after key _ (back-number _ n 10 h refl (back-after lineEnd (give n) (back-give n))))
+back-line key n h = rw (append-assoc key (decimal n) lineEnd)
+    (back-after key _ (back-number _ n 10 h refl (back-after lineEnd (give n) (back-give n))))
 
 pub back-ranged : (key : List ℕ) (low high n : ℕ) → n < 10 ^ 20 → low ≤ n → n ≤ high → Back (ranged key low high) (lineOf key n) n
 unfolding ranged
@@ -115,13 +118,15 @@ pub record Stands (text : List ℕ) (i : ℕ) (w : List ℕ) (j : ℕ) : Type 0 
 
 -- one text after another
 pub chain : {text a b : List ℕ} {i j k : ℕ} → Stands text i a j → Stands text j b k → Stands text i (a ++ b) k
-chain {text} {a} {b} {i} {j} {k} e f = record { says = e .says ∙ ap (λ (l : List ℕ). a ++ l) (f .says) ∙ sym (append-assoc a b (drop k text)) }
+chain {text} {a} {b} {i} {j} {k} e f =
+    record { says = e .says ∙ ap (λ (l : List ℕ). a ++ l) (f .says) ∙ sym (append-assoc a b (drop k text)) }
 
 pub stands-alone : {text w : List ℕ} {j : ℕ} → Stands text 0 w j → length text ≤ j → text ≡ w
 stands-alone {text} {w} {j} e h = e .says ∙ rw (drop-of-length-le text h, append-nil)
 
 pub word-only : (word text : List ℕ) (i : ℕ) → begins word (drop i text) ≡ true → Stands text i word (i + length word)
-word-only word text i e = record { says = begins-only word (drop i text) e ∙ ap (λ (l : List ℕ). word ++ l) (drop-drop (length word) i text) }
+word-only word text i e =
+    record { says = begins-only word (drop i text) e ∙ ap (λ (l : List ℕ). word ++ l) (drop-drop (length word) i text) }
 
 pub number-only : (text : List ℕ) (i n j : ℕ) → n < 10 ^ 20 → number text i ≡ whole n j → Stands text i (decimal n) j
 unfolding number
@@ -156,4 +161,8 @@ ranged-only key low high text i n j h e =
     let b : m .place ≡ j = cc in
     let p = leb-true low (m .value) (and-left (leb low (m .value)) (leb (m .value) high) (o .0)) in
     let q = leb-true (m .value) high (and-right (leb low (m .value)) (leb (m .value) high) (o .0)) in
-    record { least = omega arith; most = omega arith; says = rw (a, b) at (line-only key text i (m .value) (m .place) (omega arith) (m .first)) }
+    record {
+      least = omega arith;
+      most = omega arith;
+      says = rw (a, b) at (line-only key text i (m .value) (m .place) (omega arith) (m .first));
+    }

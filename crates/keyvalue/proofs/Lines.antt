@@ -1,6 +1,6 @@
 -- A line as the code reads it: its number as the code holds it.
-use Prim.Native.Nat.{ℕ, zero, suc, _+_, _-_, _^_, _≤_, _<_, min}
-use mathlib.Core.Path.{_≡_, refl, sym, ap, _∙_}
+use Prim.Native.Nat.{ℕ, _+_, _-_, _^_, _≤_, _<_, min}
+use mathlib.Core.Path.{_≡_, refl, sym, _∙_}
 use mathlib.Core.List.{List, [], _∷_}
 use mathlib.Core.Bool.{Bool, true, false, cond, _&&_}
 use native.Mathlib.Omega.{arith}
@@ -54,9 +54,11 @@ ranged-held key low high text at h = go (line key text at)
     held : (m j : ℕ) (t : Bool) → leb m high ≡ t
         → cond (leb low m && t) (whole m j) none ≡ cond (leb low (min m most) && leb (min m most) high) (whole (min m most) j) none
     held m j true e = let q = leb-true m high e in let z : min m most ≡ m = omega arith in rw (z, e)
-    held m j false e = let q = leb-false m high e in rw (lt-leb (min m most) high (omega arith), and-false (leb low m), and-false (leb low (min m most)))
+    held m j false e = let q = leb-false m high e in
+        rw (lt-leb (min m most) high (omega arith), and-false (leb low m), and-false (leb low (min m most)))
 
-    go : (r : Read ℕ) → andThen r (λ n j. cond (isWithin low high n) (whole n j) none) ≡ andThen (capped r) (λ n j. cond (isWithin low high n) (whole n j) none)
+    go : (r : Read ℕ) → andThen r (λ n j. cond (isWithin low high n) (whole n j) none) ≡ andThen (capped r)
+        (λ n j. cond (isWithin low high n) (whole n j) none)
     go (whole m j) = held m j (leb m high) refl
     go none = refl
 

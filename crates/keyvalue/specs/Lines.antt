@@ -1,6 +1,6 @@
 -- A line `key=decimal` and octet 0A: as it is written, and as it is read. A key's word ends in '='.
 use Prim.Native.Nat.{ℕ}
-use mathlib.Core.List.{List, [], _∷_, _++_}
+use mathlib.Core.List.{List, _++_}
 use mathlib.Core.Bool.{Bool, cond, _&&_}
 use lib.Dec.{leb}
 use Rattle.rules.specs.Listing.{field, lineEnd}

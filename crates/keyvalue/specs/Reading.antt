@@ -1,9 +1,9 @@
 -- What it is to read a text of octets: from all of it and a place, a value and the next place, or not of this form.
 -- Then a word, and a number: "decimal without leading zeros".
-use Prim.Native.Nat.{ℕ, zero, suc, _+_, _*_, _-_, min}
-use mathlib.Core.List.{List, [], _∷_, _++_}
+use Prim.Native.Nat.{ℕ, _+_, _*_, _-_, min}
+use mathlib.Core.List.{List, [], _∷_}
 use mathlib.Core.Bool.{Bool, true, false, cond, _&&_}
-use lib.ListN.{length, getD, drop}
+use lib.ListN.{length, drop}
 use lib.Dec.{eqb, leb}
 use Rattle.keyvalue.specs.declared.Told.{Told}
 use Rattle.keyvalue.specs.declared.Told.the-variants.{Got, Not}

@@ -1,5 +1,5 @@
 -- `-1 - v`, which takes y to -y - 1 and -y - 1 to y, and the sign of a number of 8 bits, as the code has them.
-use Prim.Native.Nat.{ℕ, zero, suc, _+_, _-_, _<_}
+use Prim.Native.Nat.{ℕ, zero, suc, _-_, _<_}
 use mathlib.Core.Path.{_≡_, refl, sym, ap, _∙_}
 use mathlib.Core.Bool.{true, false}
 use lib.IntN.{ℤ, pos, negsuc, _-ℤ_}

@@ -1,13 +1,13 @@
 -- Values are clipped exactly outside the law's range: inside, m is the value's size with the bias; outside it is the clip,
 -- and the octet is that of the range's end.
-use Prim.Native.Nat.{ℕ, _+_, _-_, _≤_, _<_, min}
-use mathlib.Core.Path.{_≡_, sym, ap, _∙_}
+use Prim.Native.Nat.{ℕ, _+_, _-_, _≤_, _<_}
+use mathlib.Core.Path.{_≡_, sym, _∙_}
 use native.Mathlib.Omega.{arith}
 use lib.IntN.{ℤ, pos, negsuc}
 use lib.Signed.{mag}
 use Rattle.linear.specs.declared.Constants.{Constants}
 use Rattle.linear.specs.Equations.{mFor, fromPCM}
-use Rattle.linear.specs.Constants.{constantsOf, mOf, codeOf, shrink, octetOf}
+use Rattle.linear.specs.Constants.{constantsOf, mOf, shrink, octetOf}
 use Rattle.linear.proofs.Paper.{m-for-is, from-is}
 
 -- inside the range, to the number

@@ -1,38 +1,18 @@
--- A frame converted one by one: what stands in the lent list after i of them, and at the end.
-use Prim.Native.Nat.{ℕ, zero, suc, _+_, _-_, _≤_, _<_}
-use native.Mathlib.Nat.{zero-add}
-use native.Mathlib.Numerals.{add-one}
+-- A frame that is converted or refused: what the answer says (converted, refused).
+use Prim.Native.Nat.{ℕ, _+_, _-_, _≤_}
 use mathlib.Core.Path.{_≡_, refl, sym, ap, _∙_}
 use mathlib.Core.Bool.{Bool, true, false, cond, _||_}
-use mathlib.Core.List.{List, [], _∷_, _++_, map}
+use mathlib.Core.List.{List, _++_, map}
 use native.Mathlib.Omega.{arith}
 use lib.Dec.{eqb, leb}
-use lib.ListN.{length, take, drop, getD, set, length-map, List·getD-map}
-use lib.Seq.{paste, paste-suc, length-paste, take-all}
-use borrow.Author.Tests.{leb-true, ne-eqb, eq-eqb, lt-leb, le-leb}
+use lib.ListN.{length, drop, length-map}
+use borrow.Author.Tests.{leb-true, ne-eqb}
 use Rattle.rules.specs.declared.Ending.{Ending}
 use Rattle.rules.specs.declared.Ending.the-variants.{Done, Refused}
 use Rattle.rules.specs.Tools.{isLaw, isLength}
 use Rattle.rules.specs.declared.Refusal.{Refusal}
 use Rattle.rules.specs.declared.Refusal.the-variants.{Room, Length, Law}
 use Rattle.linear.specs.Calls.{judged, after, Converts}
-
-pub turn : {A B : Type 0} (f : A → B) (s : List A) (d : List B) (i : ℕ) (a : A) (v : B) → i < length s → length s ≤ length d → v ≡ f (getD s i a)
-    → set (paste d 0 (map f s) i) i v ≡ paste d 0 (map f s) (i + 1)
-turn f s d i a v h g e =
-    let n = length-map s f in
-    let z = paste-suc d 0 (map f s) i (f a) (omega arith) (omega arith) in
-    ap (λ k. set (paste d 0 (map f s) i) k v) (sym (zero-add i))
-    ∙ ap (λ w. set (paste d 0 (map f s) i) (0 + i) w) (e ∙ sym (List·getD-map f s i a)) ∙ z ∙ ap (paste d 0 (map f s)) (sym (add-one i))
-
-pub kept : {A B : Type 0} (f : A → B) (s : List A) (d : List B) (i : ℕ) → i ≤ length s → length s ≤ length d
-    → length (paste d 0 (map f s) i) ≡ length d
-kept f s d i h g = let n = length-map s f in length-paste d 0 (map f s) i (omega arith) (omega arith)
-
-pub whole : {A B : Type 0} (f : A → B) (s : List A) (d : List B) (i : ℕ) → i ≡ length s → paste d 0 (map f s) i ≡ map f s ++ drop (length s) d
-whole f s d i e =
-    let n = length-map s f in
-    ap (λ k. take i (map f s) ++ drop k d) (zero-add i ∙ e) ∙ ap (λ t. t ++ drop (length s) d) (take-all i (map f s) (omega arith))
 
 pub no-frame : (n : ℕ) → (n ≡ 0 → ⊥) → (n ≡ 40 → ⊥) → (n ≡ 80 → ⊥) → (n ≡ 160 → ⊥) → (n ≡ 240 → ⊥) → (n ≡ 320 → ⊥)
     → false ≡ (eqb n 0 || isLength n)

@@ -1,8 +1,8 @@
 -- ⌈log2 (k + 1)⌉ is the number of binary digits of k.
-use Prim.Native.Nat.{ℕ, zero, suc, _+_, _-_, _*_, _/_, _%_, _^_, _≤_, _<_}
+use Prim.Native.Nat.{ℕ, zero, suc, _+_, _-_, _*_, _^_, _≤_, _<_}
 use native.Mathlib.Nat.{pow-suc}
 use native.Mathlib.Numerals.{add-one}
-use mathlib.Core.Path.{_≡_, refl, sym, ap, _∙_, subst}
+use mathlib.Core.Path.{_≡_, refl, sym, _∙_, subst}
 use mathlib.Core.Bool.{Bool, true, false, cond}
 use native.Mathlib.Omega.{arith}
 use lib.Dec.{leb}
@@ -27,7 +27,8 @@ least (suc more) k e h g =
     let z : e + suc more ≡ e + 1 + more = omega arith in
     by-test (Digits k) (leb (k + 1) (2 ^ e)) e (leastFrom more (k + 1) (e + 1))
     (λ t. let u = leb-true (k + 1) (2 ^ e) t in record { above = omega arith; below = g })
-    (λ t. let u = leb-false (k + 1) (2 ^ e) t in least more k (e + 1) (subst (λ (n : ℕ). k < 2 ^ n) z h) (rw (add-one e, pow-suc 2 e) (omega arith)))
+    (λ t. let u = leb-false (k + 1) (2 ^ e) t in
+    least more k (e + 1) (subst (λ (n : ℕ). k < 2 ^ n) z h) (rw (add-one e, pow-suc 2 e) (omega arith)))
 
 below-power : (n : ℕ) → n < 2 ^ n
 below-power zero = omega arith

@@ -1,24 +1,22 @@
--- "The returned value differs by at most 2^e from the given one": one proof over the constants, by the segment. The bound is reached for every e,
--- and one step below the range it fails.
-use Prim.Native.Nat.{ℕ, zero, suc, _+_, _-_, _*_, _/_, _^_, _≤_, _<_, min}
+-- "The returned value differs by at most 2^e from the given one": one proof over the constants, by the segment. The bound is reached for
+-- every e, and one step below the range it fails.
+use Prim.Native.Nat.{ℕ, zero, suc, _+_, _-_, _*_, _/_, _^_, _≤_}
 use native.Mathlib.Nat.{pow-suc, mul-div-cancel}
 use native.Mathlib.Numerals.{add-one}
-use mathlib.Core.Path.{_≡_, refl, sym, ap, _∙_}
+use mathlib.Core.Path.{_≡_, refl, ap, _∙_}
 use mathlib.Core.Bool.{Bool, true, false, cond}
 use native.Mathlib.Omega.{arith}
 use lib.Dec.{ltb, leb→le}
-use lib.IntN.{ℤ, pos, negsuc, negℤ, natAbs, _+ℤ_, _-ℤ_}
+use lib.IntN.{ℤ, pos, negsuc, negℤ, natAbs, _-ℤ_}
 use lib.Signed.{mag, _≤ℤ_}
-use lib.Bits.{bitXor, bitAnd}
 use lib.Pow.{pow-pos, pow-mono}
 use borrow.Author.Tests.{ltb-true, ltb-false}
-use Rattle.rules.specs.Samples.{signed, sampleOf}
 use Rattle.linear.specs.declared.Constants.{Constants}
 use Rattle.linear.specs.Equations.{leastFrom, ceilLog2, eOf, eFor, toPCM, fromPCM, A→PCM, μ→PCM, PCM→A, PCM→μ}
 use Rattle.linear.specs.Constants.{constantsOf, mOf, codeOf, shrink, octetOf, levelOf, grow, linearOf}
 use Rattle.linear.proofs.Logs.{Digits, digits-unique}
-use Rattle.linear.proofs.Segments.{Cell, cell, e-digits, Close, level-close, level-high}
-use Rattle.linear.proofs.Sound.{Sound, sound, Code, code-in, back}
+use Rattle.linear.proofs.Segments.{e-digits, level-close, level-high}
+use Rattle.linear.proofs.Sound.{Sound, sound, code-in, back}
 use Rattle.linear.proofs.Paper.{e-for-is, there-and-back}
 
 -- distances
@@ -61,7 +59,8 @@ pub near : {l : Constants} → Sound l → (x : ℤ) → mag x + l .bias ≤ l .
 near {l} s x h = rw (back s x) (near-grown s x h)
 
 -- by 001's equations
-near-paper : (law : ℕ) (x : ℤ) → mag x + constantsOf law .bias ≤ constantsOf law .top → natAbs (toPCM law (fromPCM law x) -ℤ x) ≤ 2 ^ eFor law x
+near-paper : (law : ℕ) (x : ℤ) → mag x + constantsOf law .bias ≤ constantsOf law .top
+    → natAbs (toPCM law (fromPCM law x) -ℤ x) ≤ 2 ^ eFor law x
 near-paper law x h = rw (there-and-back law x, e-for-is law x) (near (sound law) x h)
 
 -- a number from -k - 1 to k

@@ -1,16 +1,16 @@
 -- One sample each way, in the code's expressions.
-use Prim.Native.Nat.{ℕ, zero, suc, _+_, _-_, _*_, _/_, _%_, _^_, _≤_, _<_, min}
-use mathlib.Core.Path.{_≡_, refl, sym, ap, _∙_, subst}
-use mathlib.Core.Bool.{Bool, true, false, cond, _&&_}
+use Prim.Native.Nat.{ℕ, _+_, _-_, _*_, _/_, _%_, _^_, _≤_, _<_}
+use mathlib.Core.Path.{_≡_, refl}
+use mathlib.Core.Bool.{_&&_}
 use native.Mathlib.Omega.{arith}
 use native.Mathlib.Nat.{mod-eq-of-lt, mul-comm}
-use lib.Dec.{eqb, leb, ltb}
+use lib.Dec.{leb}
 use lib.IntN.{ℤ, pos, negsuc, negℤ}
 use lib.Signed.{mag}
 use lib.Bits.{bitXor}
 use borrow.Author.Tests.{leb-true, ne-eqb, le-leb, lt-leb}
 use Rattle.rules.specs.Samples.{signed, sampleOf}
-use Rattle.rules.proofs.Tests.{allBelow, allBelow-at, and-left, and-right}
+use Rattle.rules.proofs.Tests.{allBelow-at, and-left, and-right}
 use Rattle.linear.specs.declared.Constants.{Constants}
 use Rattle.linear.specs.Equations.{eOf, toPCM, fromPCM}
 use Rattle.linear.specs.Constants.{constantsOf, mOf, codeOf, shrink, octetOf, levelOf, grow, linearOf}
@@ -52,12 +52,14 @@ pub octet-above : {l : Constants} (law : ℕ) {x : ℤ} {n m k : ℕ} → l ≡ 
 unfolding octetOf shrink sampleOf
 octet-above law {x} e i f g = rw (from-is law x, g, f, i, e)
 
-pub linear-above : {l : Constants} (law : ℕ) {o v : ℕ} → l ≡ constantsOf law → o < 256 → 128 ≤ o → v ≡ levelOf (bitXor o (l .mask) % 128 + l .step)
+pub linear-above : {l : Constants} (law : ℕ) {o v : ℕ} → l ≡ constantsOf law → o < 256 → 128 ≤ o
+    → v ≡ levelOf (bitXor o (l .mask) % 128 + l .step)
     → pos (v - l .bias) ≡ toPCM law o
 unfolding linearOf grow signed
 linear-above law {o} e b h f = rw (to-is law o b, f, e, le-leb 128 o h)
 
-pub linear-below : {l : Constants} (law : ℕ) {o v : ℕ} → l ≡ constantsOf law → o < 256 → o < 128 → v ≡ levelOf (bitXor o (l .mask) % 128 + l .step)
+pub linear-below : {l : Constants} (law : ℕ) {o v : ℕ} → l ≡ constantsOf law → o < 256 → o < 128
+    → v ≡ levelOf (bitXor o (l .mask) % 128 + l .step)
     → negℤ (pos (v - l .bias)) ≡ toPCM law o
 unfolding linearOf grow signed
 linear-below law {o} e b h f = rw (to-is law o b, f, e, lt-leb 128 o h)

@@ -1,8 +1,8 @@
 -- The conversion to octets keeps the order: a greater linear value never has a smaller signed number.
-use Prim.Native.Nat.{ℕ, zero, suc, _+_, _-_, _*_, _/_, _^_, _≤_, _<_, min}
+use Prim.Native.Nat.{ℕ, suc, _+_, _-_, _*_, _/_, _^_, _≤_, _<_}
 use native.Mathlib.Nat.{pow-suc, mul-le-mul-left}
 use native.Mathlib.Decide.{ℕ-discrete}
-use mathlib.Core.Path.{_≡_, refl, sym, ap, _∙_, subst}
+use mathlib.Core.Path.{_≡_, sym, subst}
 use native.Mathlib.Omega.{arith}
 use lib.Pow.{pow-mono}
 use lib.Dec.{T, le→leb, leb→le}
@@ -11,7 +11,7 @@ use lib.Signed.{leZ, _≤ℤ_}
 use Rattle.rules.specs.Samples.{maskOf, signed}
 use Rattle.linear.specs.declared.Constants.{Constants}
 use Rattle.linear.specs.Equations.{eOf, fromPCM}
-use Rattle.linear.specs.Constants.{constantsOf, mOf, codeOf, shrink, octetOf}
+use Rattle.linear.specs.Constants.{mOf, codeOf, shrink, octetOf}
 use Rattle.linear.proofs.Segments.{Cell, cell, e-digits}
 use Rattle.linear.proofs.Sound.{Sound, sound, mask-is, signed-octet}
 use Rattle.linear.proofs.Paper.{from-is}
@@ -52,7 +52,8 @@ module _ (m m′ e e′ q q′ : ℕ) (t : Cell m e q) (t′ : Cell m′ e′ q�
 code-rises : (m m′ : ℕ) → m ≤ m′ → codeOf m ≤ codeOf m′
 unfolding codeOf
 code-rises m m′ h =
-    rising m m′ (eOf m) (eOf m′) (m / 2 ^ (eOf m + 1)) (m′ / 2 ^ (eOf m′ + 1)) (cell m (eOf m) (e-digits m)) (cell m′ (eOf m′) (e-digits m′)) h
+    rising m m′ (eOf m) (eOf m′) (m / 2 ^ (eOf m + 1)) (m′ / 2 ^ (eOf m′ + 1)) (cell m (eOf m) (e-digits m))
+    (cell m′ (eOf m′) (e-digits m′)) h
 
 m-rises : (l : Constants) (n n′ : ℕ) → n ≤ n′ → mOf l n ≤ mOf l n′
 unfolding mOf

@@ -1,20 +1,20 @@
 -- The definitions over the constants are 001's equations: (6-2) and (6-4) of every octet, (6-6) and (6-8) of every number.
-use Prim.Native.Nat.{ℕ, zero, suc, _+_, _-_, _*_, _/_, _%_, _^_, _≤_, _<_, min}
+use Prim.Native.Nat.{ℕ, zero, suc, _+_, _-_, _*_, _/_, _^_, _≤_, _<_, min}
 use mathlib.Core.Path.{_≡_, refl, sym, ap, _∙_}
 use mathlib.Core.Bool.{Bool, true, false, cond}
 use native.Mathlib.Omega.{arith}
 use native.Mathlib.Numerals.{add-one}
-use lib.Dec.{eqb, leb, ltb}
-use lib.Bits.{bitXor, bitAnd, xor-lt}
+use lib.Dec.{eqb, leb}
+use lib.Bits.{bitXor, xor-lt}
 use lib.IntN.{ℤ, pos, negsuc, negℤ, natAbs, _+ℤ_, _-ℤ_, _*ℤ_}
-use lib.Signed.{mag, leZ, nonNeg}
+use lib.Signed.{mag, nonNeg}
 use borrow.Author.Tests.{eqb-true, leb-true, leb-false, lt-ltb, le-ltb}
 use Rattle.rules.specs.Samples.{signed, sampleOf}
-use Rattle.rules.proofs.Tests.{allBelow, allBelow-at}
+use Rattle.rules.proofs.Tests.{allBelow-at}
 use Rattle.linear.specs.declared.Constants.{Constants}
 use Rattle.linear.specs.Equations.{A→PCM, μ→PCM, PCM→A, PCM→μ, toPCM, fromPCM, minZ, maxZ, m-A, m-μ, y-A, y-μ, eOf, mFor, eFor}
 use Rattle.linear.specs.Constants.{constantsA, constantsMu, constantsOf, mOf, codeOf, shrink, octetOf, levelOf, grow, linearOf}
-use Rattle.linear.proofs.Sound.{Sound, sound, Code, code-in, octet-small}
+use Rattle.linear.proofs.Sound.{Sound, sound, code-in, octet-small}
 
 -- linear values in a test: the size, with the sign as its lowest bit
 abbrev key : ℤ → ℕ
@@ -76,7 +76,8 @@ m-A-is (pos n) =
     ap (λ (k : ℕ). natAbs (minZ (pos k) (pos 4095))) z ∙ ap natAbs (m-is constantsA (pos n))
 m-A-is (negsuc n) =
     let z : n ≡ n + 0 = omega arith in
-    ap (λ (k : ℤ). natAbs (negℤ (maxZ k (negℤ (pos 4096))) -ℤ pos 1)) (ap negsuc z ∙ sym (less n 0)) ∙ ap natAbs (m-is constantsA (negsuc n))
+    ap (λ (k : ℤ). natAbs (negℤ (maxZ k (negℤ (pos 4096))) -ℤ pos 1)) (ap negsuc z ∙ sym (less n 0))
+    ∙ ap natAbs (m-is constantsA (negsuc n))
 
 m-μ-is : (x : ℤ) → m-μ x ≡ mOf constantsMu (mag x)
 m-μ-is (pos n) = ap natAbs (m-is constantsMu (pos n))

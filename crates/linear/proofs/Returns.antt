@@ -1,22 +1,22 @@
 -- Octets return. Over the constants: an octet returns to itself, or, where its linear value is 0, as plus zero.
 -- So all 256 of A return to themselves, and all of mu but 7F, which returns as FF; and so do frames.
-use Prim.Native.Nat.{ℕ, zero, suc, _+_, _-_, _*_, _≤_, _<_, min}
+use Prim.Native.Nat.{ℕ, zero, suc, _+_, _-_, _<_}
 use mathlib.Core.Path.{_≡_, refl, sym, ap, _∙_}
 use mathlib.Core.Bool.{Bool, true, false, cond}
-use mathlib.Core.List.{List, [], _∷_, map}
+use mathlib.Core.List.{List, map}
 use native.Mathlib.Omega.{arith}
-use lib.Dec.{eqb, ltb}
+use lib.Dec.{eqb}
 use lib.IntN.{ℤ, pos, negsuc, negℤ}
-use borrow.Author.Tests.{eqb-true, eqb-false}
+use borrow.Author.Tests.{eqb-true}
 use Rattle.rules.specs.Samples.{signed, sampleOf, plusZero}
 use Rattle.rules.proofs.Octets.{Below, none, more}
 use Rattle.rules.proofs.Signed.{InRange, signed-range}
-use Rattle.rules.proofs.Tests.{allBelow, allBelow-at}
+use Rattle.rules.proofs.Tests.{allBelow-at}
 use Rattle.linear.specs.declared.Constants.{Constants}
 use Rattle.linear.specs.Equations.{leastFrom, ceilLog2, eOf, toPCM, fromPCM}
-use Rattle.linear.specs.Constants.{constantsA, constantsMu, constantsOf, mOf, codeOf, shrink, octetOf, levelOf, grow, linearOf}
+use Rattle.linear.specs.Constants.{constantsA, constantsMu, mOf, codeOf, shrink, octetOf, levelOf, grow, linearOf}
 use Rattle.linear.proofs.Sound.{Sound, sound}
-use Rattle.linear.proofs.One.{Level, level-range}
+use Rattle.linear.proofs.One.{level-range}
 use Rattle.linear.proofs.Paper.{back-and-there}
 
 -- a level, and the number below it, have the code that the level is of

@@ -2,15 +2,15 @@
 use Prim.Native.Nat.{ℕ, zero, suc, _+_, _-_, _*_, _/_, _^_, _≤_, _<_, min}
 use native.Mathlib.Nat.{pow-suc}
 use native.Mathlib.Numerals.{add-one}
-use mathlib.Core.Path.{_≡_, refl, sym, ap, _∙_}
+use mathlib.Core.Path.{_≡_, refl, ap}
 use mathlib.Core.Bool.{Bool, true, false, cond}
 use native.Mathlib.Omega.{arith}
 use native.Mathlib.Decide.{ℕ-discrete}
 use lib.Dec.{eqb, leb}
-use lib.IntN.{ℤ, pos, negsuc, negℤ}
+use lib.IntN.{ℤ, pos, negsuc}
 use lib.Pow.{pow-mono}
 use borrow.Author.Tests.{leb-true}
-use Rattle.rules.specs.Samples.{maskOf, signed, sampleOf}
+use Rattle.rules.specs.Samples.{maskOf, signed}
 use Rattle.rules.proofs.Tests.{allBelow, allBelow-at}
 use Rattle.rules.proofs.Signed.{LawMask, law-mask, InRange}
 use Rattle.linear.specs.declared.Constants.{Constants}
@@ -34,7 +34,8 @@ pub record Sound (l : Constants) : Type 0 where
   pub full : 34 * 2 ^ most ≤ l .top
   pub levels : (y : ℕ) → y < 128 → levelOf (y + l .step) ≤ l .top
 
-reaches : (l : Constants) → allBelow (λ y. leb (levelOf (y + l .step)) (l .top)) 128 ≡ true → (y : ℕ) → y < 128 → levelOf (y + l .step) ≤ l .top
+reaches : (l : Constants) → allBelow (λ y. leb (levelOf (y + l .step)) (l .top)) 128 ≡ true → (y : ℕ) → y < 128
+    → levelOf (y + l .step) ≤ l .top
 reaches l t y h = leb-true _ _ (allBelow-at (λ y. leb (levelOf (y + l .step)) (l .top)) 128 t y h)
 
 pub sound : (law : ℕ) → Sound (constantsOf law)

@@ -9,7 +9,6 @@ use lib.ListN.{length, drop}
 use Rattle.rules.specs.declared.Ending.{Ending}
 use Rattle.rules.specs.declared.Ending.the-variants.{Done, Refused}
 use Rattle.rules.specs.declared.Refusal.the-variants.{Room, Length, Law}
-use Rattle.rules.specs.Refusals.{numberOf}
 use Rattle.rules.specs.Tools.{isLaw, isLength}
 use Rattle.linear.specs.Equations.{toPCM, fromPCM}
 

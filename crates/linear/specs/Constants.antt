@@ -4,7 +4,6 @@ use Prim.Native.Nat.{ℕ, _+_, _-_, _*_, _/_, _%_, _^_, min}
 use mathlib.Core.Bool.{cond}
 use lib.Dec.{eqb}
 use lib.IntN.{ℤ, pos, negsuc, negℤ}
-use lib.Signed.{mag}
 use Rattle.rules.specs.Samples.{signed, sampleOf}
 use Rattle.linear.specs.declared.Constants.{Constants}
 use Rattle.linear.specs.Equations.{eOf}

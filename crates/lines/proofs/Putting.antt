@@ -1,4 +1,5 @@
--- Text put at a place (specs/Puts): a word that is copied (puts-word), one text after another (puts-then), and a text at the start (puts-first).
+-- Text put at a place (specs/Puts): a word that is copied (puts-word), one text after another (puts-then), and a text at the start
+-- (puts-first).
 use Prim.Native.Nat.{ℕ, _+_, _-_, _≤_}
 use mathlib.Core.Path.{_≡_, refl, sym, ap, _∙_}
 use mathlib.Core.List.{List, _++_, append-assoc}

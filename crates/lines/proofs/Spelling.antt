@@ -1,11 +1,11 @@
 -- The digits of a number, found from the last one: `rest` is still to be spelled, its last digit at place `from` of 20 octets.
 use Prim.Native.Nat.{ℕ, zero, suc, _+_, _*_, _-_, _^_, _/_, _%_, _≤_, _<_}
-use mathlib.Core.Path.{_≡_, refl, sym, ap, _∙_}
+use mathlib.Core.Path.{_≡_, sym, ap, _∙_}
 use mathlib.Core.List.{List, [], _∷_}
 use native.Mathlib.Omega.{arith}
 use mathlib.Core.Bool.{Bool, true, false, cond}
 use lib.Dec.{ltb}
-use lib.ListN.{length, take, drop, set, replicate, length-set, length-drop}
+use lib.ListN.{length, take, drop, set, length-set, length-drop}
 use native.Mathlib.Nat.{pow-suc}
 use lib.Seq.{set-split, drop-at, length-take-le, take-all}
 use borrow.Author.Tests.{lt-ltb, le-ltb}
@@ -21,9 +21,6 @@ pub record Spelling (n : ℕ) (octets : List ℕ) (from rest : ℕ) : Type 0 whe
 -- a digit put at a place, with the digits after it
 put-digit : (o : List ℕ) (from d : ℕ) → from < length o → drop from (set o from d) ≡ d ∷ drop (suc from) o
 put-digit o from d h = rw (set-split o from d h, drop-at (take from o) (d ∷ drop (suc from) o) from (length-take-le from o (omega arith)))
-
-pub spelling-start : (n : ℕ) → n < 2 ^ 64 → Spelling n (replicate 20 0) 19 n
-spelling-start n h = record { size = refl; most = omega arith; left = omega arith; says = refl }
 
 -- ten or more has a digit before its last one
 pub spelling-room : (from rest : ℕ) → rest < 10 ^ suc from → 10 ≤ rest → 1 ≤ from

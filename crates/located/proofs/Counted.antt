@@ -19,7 +19,8 @@ unfolding lay
 lay-kinds z x flags p zero h = rw (drop-of-length-le flags {i = p} (omega arith))
 lay-kinds z x flags p (suc k) h =
     let e : drop p flags ≡ getD flags p 0 ∷ drop (p + 1) flags = rw (add-one p) (drop-cons flags p 0 (omega arith)) in
-    rw (eq-eqb z z refl) (ap (λ (l : List ℕ). kindOf z x (getD flags p 0) ∷ l) (lay-kinds z x flags (p + 1) k (omega arith)) ∙ sym (ap (kinds z x) e))
+    rw (eq-eqb z z refl) (ap (λ (l : List ℕ). kindOf z x (getD flags p 0) ∷ l) (lay-kinds z x flags (p + 1) k (omega arith))
+    ∙ sym (ap (kinds z x) e))
 
 pub lay-first : (z x n : ℕ) (flags : List ℕ) → length flags ≡ n → lay z x flags 0 (replicate n z) ≡ kinds z x flags
 lay-first z x n flags h = lay-kinds z x flags 0 n (omega arith)

@@ -6,7 +6,7 @@ use mathlib.Core.Bool.{false}
 use native.Mathlib.Omega.{arith}
 use native.Mathlib.Numerals.{add-one}
 use lib.Dec.{eqb}
-use lib.ListN.{length, getD, take, drop, replicate, length-append, length-drop, length-replicate, take-append-drop, drop-of-length-le}
+use lib.ListN.{length, getD, take, drop, replicate, length-append, length-drop, take-append-drop, drop-of-length-le}
 use lib.Seq.{take-at, drop-at, drop-cons, getD-take, length-take-le}
 use Rattle.rules.specs.declared.Refusal.{Refusal}
 use Rattle.rules.specs.Bits.{bitsOf}
@@ -18,7 +18,7 @@ use Rattle.bits.specs.declared.Outcome.the-variants.{Got, Refused}
 use Rattle.runs.specs.Flagged.{kinds}
 use Rattle.runs.proofs.Answer.{Marks-as}
 use Rattle.runs.proofs.Puts.{length-kinds}
-use Rattle.bodies.specs.Bodied.{endOf, Leaves, FillsBody}
+use Rattle.bodies.specs.Bodied.{FillsBody}
 use Rattle.located.specs.Valued.{flagsOf, fillIn, Lays, LaysCells, Apart}
 use Rattle.located.proofs.Counted.{lay-first, fill-lay}
 use Rattle.located.proofs.OneValue.{values-step}
@@ -28,13 +28,15 @@ apart-at z [] a i h = absurd (omega arith)
 apart-at z (x ∷ xs) a zero h = a .0
 apart-at z (x ∷ xs) a (suc i) h = apart-at z xs (a .1) i (omega arith)
 
-pub value-apart : (z count : ℕ) (xs : List ℕ) → Apart z (take count xs) → count ≤ length xs → (i : ℕ) → i < count → eqb (getD xs i 0) z ≡ false
+pub value-apart : (z count : ℕ) (xs : List ℕ) → Apart z (take count xs) → count ≤ length xs → (i : ℕ) → i < count
+    → eqb (getD xs i 0) z ≡ false
 value-apart z count xs a k i h =
     let t = length-take-le count xs k in
     rw (getD-take count xs i 0 h) at (apart-at z (take count xs) a i (omega arith))
 
 -- the value that is next, and those after it
-next-value : (xs : List ℕ) (count done : ℕ) → done < count → count ≤ length xs → drop done (take count xs) ≡ getD xs done 0 ∷ drop (done + 1) (take count xs)
+next-value : (xs : List ℕ) (count done : ℕ) → done < count → count ≤ length xs
+    → drop done (take count xs) ≡ getD xs done 0 ∷ drop (done + 1) (take count xs)
 next-value xs count done h k =
     let t = length-take-le count xs k in
     drop-cons (take count xs) done 0 (omega arith) ∙ rw (getD-take count xs done 0 h, add-one done)
@@ -43,12 +45,14 @@ module _ {found : Read (List ℕ)} {n far : ℕ} {old new : List ℕ} where
   pub lays-refused : {w : Refusal} {b : ℕ} → found ≡ refuse w b → length new ≡ 320 → LaysCells found n far old new (Refused w b)
   lays-refused e room = rw e (record { end = refl; next = zero-le; cells = tt; room = room })
 
-  lays-got : {cells : List ℕ} {next : ℕ} → found ≡ whole cells next → length cells ≡ n → new ≡ cells ++ drop n old → length new ≡ 320 → next ≤ far
+  lays-got : {cells : List ℕ} {next : ℕ} → found ≡ whole cells next → length cells ≡ n → new ≡ cells ++ drop n old
+      → length new ≡ 320 → next ≤ far
       → LaysCells found n far old new (Got n next)
   lays-got e l m room k = rw e (record { end = refl; next = k; cells = (l, m); room = room })
 
 -- the same answer, told of an equal definition and of other cells past the n, with more room
-lays-as : {found equal : Read (List ℕ)} {n near far : ℕ} {old mid new : List ℕ} {r : Outcome} → LaysCells equal n near mid new r → found ≡ equal → drop n mid ≡ drop n old → near ≤ far
+lays-as : {found equal : Read (List ℕ)} {n near far : ℕ} {old mid new : List ℕ} {r : Outcome} → LaysCells equal n near mid new r
+    → found ≡ equal → drop n mid ≡ drop n old → near ≤ far
     → LaysCells found n far old new r
 lays-as {equal = equal} {n = n} {old = old} {mid = mid} {new = new} t e d k =
     rw e (record { end = t .end; next = let x = t .next in omega arith; cells = go equal (t .cells); room = t .room })
@@ -58,7 +62,8 @@ lays-as {equal = equal} {n = n} {old = old} {mid = mid} {new = new} t e d k =
     go (refuse w at) u = tt
 
 -- the samples of the body
-pub lays-body : {found equal : Read (List ℕ)} {n near far : ℕ} {old new : List ℕ} {r : Outcome} → LaysCells equal n near old new r → found ≡ equal → n ≤ 320 → near ≤ far
+pub lays-body : {found equal : Read (List ℕ)} {n near far : ℕ} {old new : List ℕ} {r : Outcome} → LaysCells equal n near old new r
+    → found ≡ equal → n ≤ 320 → near ≤ far
     → FillsBody found far old new r
 lays-body {equal = equal} {n = n} {near = near} {far = far} {old = old} {new = new} {r = r} t e h k = rw e (go equal t)
   where
@@ -74,12 +79,14 @@ lays-body {equal = equal} {n = n} {near = near} {far = far} {old = old} {new = n
 
 -- the first value: its cells are its flags' kinds
 pub record First-as (s : List ℕ) (at n z : ℕ) (xs : List ℕ) (count : ℕ) (old cells : List ℕ) (ones next : ℕ) : Type 0 where
-  pub says : valuesInto n z (take count xs) (replicate n z) (bitsOf s) at ≡ valuesInto n z (drop 1 (take count xs)) (take n cells) (bitsOf s) next
+  pub says : valuesInto n z (take count xs) (replicate n z) (bitsOf s) at ≡ valuesInto n z (drop 1 (take count xs))
+      (take n cells) (bitsOf s) next
   pub left : n - ones ≡ emptyIn z (take n cells)
   pub few : ones ≤ n
   pub rest : drop n cells ≡ drop n old
 
-module _ (s : List ℕ) (at n z : ℕ) (xs : List ℕ) (count : ℕ) (some : 0 < count) (k : count ≤ length xs) (apart : eqb (getD xs 0 0) z ≡ false) where
+module _ (s : List ℕ) (at n z : ℕ) (xs : List ℕ) (count : ℕ) (some : 0 < count) (k : count ≤ length xs)
+    (apart : eqb (getD xs 0 0) z ≡ false) where
   first-step : {r : Read (List ℕ)} → flagsOf n n (bitsOf s) at ≡ r
       → valuesInto n z (take count xs) (replicate n z) (bitsOf s) at
       ≡ andThen r (λ flags j. valuesInto n z (drop 1 (take count xs)) (lay z (getD xs 0 0) flags 0 (replicate n z)) (bitsOf s) j)
@@ -87,7 +94,8 @@ module _ (s : List ℕ) (at n z : ℕ) (xs : List ℕ) (count : ℕ) (some : 0 <
       ap (λ (l : List ℕ). valuesInto n z l (replicate n z) (bitsOf s) at) (next-value xs count 0 some k)
       ∙ values-step s n z (getD xs 0 0) (drop 1 (take count xs)) (replicate n z) at ∙ rw (empty-all z n, e)
 
-  pub first-refused : {w : Refusal} {b : ℕ} → flagsOf n n (bitsOf s) at ≡ refuse w b → valuesInto n z (take count xs) (replicate n z) (bitsOf s) at ≡ refuse w b
+  pub first-refused : {w : Refusal} {b : ℕ} → flagsOf n n (bitsOf s) at ≡ refuse w b
+      → valuesInto n z (take count xs) (replicate n z) (bitsOf s) at ≡ refuse w b
   first-refused e = first-step e
 
   pub first-told : {far ones next : ℕ} {old cells : List ℕ} → Marks-as (flagsOf n n (bitsOf s) at) n far z (getD xs 0 0) old cells ones next
@@ -110,14 +118,16 @@ module _ (s : List ℕ) (at n z : ℕ) (xs : List ℕ) (count : ℕ) (some : 0 <
         rest = ap (λ (c : List ℕ). drop n c) (m .made) ∙ drop-at (kinds z x flags) (drop n old) n l;
       }
 
-pub first-lays : {s : List ℕ} {at n z : ℕ} {xs : List ℕ} {count : ℕ} {old cells new : List ℕ} {ones next near far : ℕ} {r : Outcome} → First-as s at n z xs count old cells ones next
+pub first-lays : {s : List ℕ} {at n z : ℕ} {xs : List ℕ} {count : ℕ} {old cells new : List ℕ} {ones next near far : ℕ} {r : Outcome}
+    → First-as s at n z xs count old cells ones next
     → LaysCells (valuesInto n z (drop 1 (take count xs)) (take n cells) (bitsOf s) next) n near cells new r → near ≤ far
     → LaysCells (valuesInto n z (take count xs) (replicate n z) (bitsOf s) at) n far old new r
 first-lays f t k = lays-as t (f .says) (f .rest) k
 
 -- the values before `done` of the first `count` of xs are laid
 pub record InTurn (s : List ℕ) (at n z : ℕ) (xs : List ℕ) (count : ℕ) (old cells marks : List ℕ) (left place done : ℕ) : Type 0 where
-  pub so-far : valuesInto n z (drop 1 (take count xs)) (take n old) (bitsOf s) at ≡ valuesInto n z (drop done (take count xs)) (take n cells) (bitsOf s) place
+  pub so-far : valuesInto n z (drop 1 (take count xs)) (take n old) (bitsOf s) at ≡ valuesInto n z (drop done (take count xs))
+      (take n cells) (bitsOf s) place
   pub empty : left ≡ emptyIn z (take n cells)
   pub few : left ≤ n
   pub rest : drop n cells ≡ drop n old
@@ -127,10 +137,21 @@ pub record InTurn (s : List ℕ) (at n z : ℕ) (xs : List ℕ) (count : ℕ) (o
   pub turns : done ≤ count
   pub near : place + 105603 ≤ at + 105603 * done
 
-pub in-turn-none : (s : List ℕ) (at n z : ℕ) (xs : List ℕ) (count left : ℕ) (old marks : List ℕ) → 0 < count → left ≡ emptyIn z (take n old) → left ≤ n → length old ≡ 320 → length marks ≡ 320
+pub in-turn-none : (s : List ℕ) (at n z : ℕ) (xs : List ℕ) (count left : ℕ) (old marks : List ℕ) → 0 < count
+    → left ≡ emptyIn z (take n old) → left ≤ n → length old ≡ 320 → length marks ≡ 320
     → InTurn s at n z xs count old old marks left at 1
 in-turn-none s at n z xs count left old marks c e f l m =
-    record { so-far = refl; empty = e; few = f; rest = refl; room = l; wide = m; one = omega arith; turns = omega arith; near = omega arith }
+    record {
+      so-far = refl;
+      empty = e;
+      few = f;
+      rest = refl;
+      room = l;
+      wide = m;
+      one = omega arith;
+      turns = omega arith;
+      near = omega arith;
+    }
 
 module _ {s : List ℕ} {at n z : ℕ} {xs : List ℕ} {count : ℕ} {old cells marks : List ℕ} {left place done : ℕ} (fits : n ≤ 320)
     (g : InTurn s at n z xs count old cells marks left place done) where
@@ -144,12 +165,14 @@ module _ {s : List ℕ} {at n z : ℕ} {xs : List ℕ} {count : ℕ} {old cells 
       let t = length-take-le count xs k in
       let d : drop done (take count xs) ≡ [] = drop-of-length-le (take count xs) {i = done} (omega arith) in
       let e : valuesInto n z (drop 1 (take count xs)) (take n old) (bitsOf s) at ≡ whole (take n cells) place = g .so-far ∙ rw d in
-      lays-got e cells-length (rw (← g .rest) (sym (take-append-drop n cells))) (g .room) (let x = g .near in let y = g .turns in omega arith)
+      lays-got e cells-length (rw (← g .rest) (sym (take-append-drop n cells))) (g .room)
+      (let x = g .near in let y = g .turns in omega arith)
 
   module _ (h : done < count) (k : count ≤ length xs) (apart : eqb (getD xs done 0) z ≡ false) where
     turn-step : {r : Read (List ℕ)} → flagsOf n left (bitsOf s) place ≡ r
         → valuesInto n z (drop 1 (take count xs)) (take n old) (bitsOf s) at
-        ≡ andThen r (λ flags j. valuesInto n z (drop (done + 1) (take count xs)) (lay z (getD xs done 0) flags 0 (take n cells)) (bitsOf s) j)
+        ≡ andThen r (λ flags j. valuesInto n z (drop (done + 1) (take count xs)) (lay z (getD xs done 0) flags 0 (take n cells))
+        (bitsOf s) j)
     turn-step e =
         g .so-far ∙ ap (λ (l : List ℕ). valuesInto n z l (take n cells) (bitsOf s) place) (next-value xs count done h k)
         ∙ values-step s n z (getD xs done 0) (drop (done + 1) (take count xs)) (take n cells) place ∙ rw (← g .empty, e)
@@ -158,7 +181,8 @@ module _ {s : List ℕ} {at n z : ℕ} {xs : List ℕ} {count : ℕ} {old cells 
         → LaysCells (valuesInto n z (drop 1 (take count xs)) (take n old) (bitsOf s) at) n far old cells (Refused w b)
     in-turn-refused e = lays-refused (turn-step e) (g .room)
 
-    module _ {after : List ℕ} {far ones next : ℕ} (m : Marks-as (flagsOf n left (bitsOf s) place) left far z (getD xs done 0) marks after ones next) where
+    module _ {after : List ℕ} {far ones next : ℕ}
+        (m : Marks-as (flagsOf n left (bitsOf s) place) left far z (getD xs done 0) marks after ones next) where
       counted : emptyIn z (lay z (getD xs done 0) (m .flags) 0 (take n cells)) + ones ≡ left
       counted =
           let e = g .empty in
@@ -180,10 +204,12 @@ module _ {s : List ℕ} {at n z : ℕ} {xs : List ℕ} {count : ℕ} {old cells 
           let q = m .size in
           let l : length (lay z x (m .flags) 0 (take n cells)) ≡ n = length-lay z x (m .flags) 0 (take n cells) ∙ cells-length in
           let v : fillIn z after 0 (take n cells) ≡ lay z x (m .flags) 0 (take n cells) =
-          ap (λ (a : List ℕ). fillIn z a 0 (take n cells)) (m .made) ∙ fill-lay z x (m .flags) (drop left marks) 0 (take n cells) (omega arith)
+          ap (λ (a : List ℕ). fillIn z a 0 (take n cells)) (m .made)
+          ∙ fill-lay z x (m .flags) (drop left marks) 0 (take n cells) (omega arith)
           in
           let w : new ≡ lay z x (m .flags) 0 (take n cells) ++ drop n cells = e ∙ ap (λ (a : List ℕ). a ++ drop n cells) v in
-          let t : take n new ≡ lay z x (m .flags) 0 (take n cells) = ap (λ (a : List ℕ). take n a) w ∙ take-at (lay z x (m .flags) 0 (take n cells)) (drop n cells) n l in
+          let t : take n new ≡ lay z x (m .flags) 0 (take n cells) = ap (λ (a : List ℕ). take n a) w
+          ∙ take-at (lay z x (m .flags) 0 (take n cells)) (drop n cells) n l in
           record {
             so-far = rw t (turn-step (m .says));
             empty = rw t (omega arith);

@@ -59,7 +59,8 @@ module _ {z : ℕ} {marks old : List ℕ} {n i p : ℕ} {new : List ℕ} (g : La
       let w = g .within in
       let l = made-length in
       let e : i ≡ n = omega arith in
-      let t : take n (fillIn z marks 0 (take n old)) ≡ fillIn z marks 0 (take n old) = take-all n (fillIn z marks 0 (take n old)) (omega arith) in
+      let t : take n (fillIn z marks 0 (take n old)) ≡ fillIn z marks 0 (take n old) =
+      take-all n (fillIn z marks 0 (take n old)) (omega arith) in
       rw e at (g .made) ∙ ap (λ (k : List ℕ). k ++ drop n old) t
 
   module _ (h : i < n) where
@@ -97,7 +98,8 @@ module _ {z : ℕ} {marks old : List ℕ} {n i p : ℕ} {new : List ℕ} (g : La
         rw (g .made, old-split) (set-at (take i (fillIn z marks 0 (take n old))) (getD old i 0) (drop (suc i) old) v i done-length)
         in
         let j : take (suc i) (fillIn z marks 0 (take n old)) ≡ take i (fillIn z marks 0 (take n old)) ++ (v ∷ []) =
-        take-suc (fillIn z marks 0 (take n old)) i 0 (omega arith) ∙ ap (λ (a : ℕ). take i (fillIn z marks 0 (take n old)) ++ (a ∷ [])) (sym s)
+        take-suc (fillIn z marks 0 (take n old)) i 0 (omega arith)
+        ∙ ap (λ (a : ℕ). take i (fillIn z marks 0 (take n old)) ++ (a ∷ [])) (sym s)
         in
         record {
           made = rw (add-one i, j) (m ∙ simp append-assoc);

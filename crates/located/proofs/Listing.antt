@@ -1,6 +1,6 @@
 -- A turn of the loop over listed places.
 use Prim.Native.Nat.{ℕ, suc, _+_, _*_, _-_, _≤_, _<_}
-use mathlib.Core.Path.{_≡_, refl, sym, ap, _∙_}
+use mathlib.Core.Path.{_≡_, refl, ap, _∙_}
 use mathlib.Core.List.{List, [], _∷_, _++_}
 use mathlib.Core.Bool.{true, false, _&&_}
 use native.Mathlib.Omega.{arith}
@@ -30,7 +30,8 @@ pub record Listing (bits : List ℕ) (at d w count common other : ℕ) (old cell
   pub turns : read ≤ count
   pub near : place ≤ at + 9 * read
 
-pub listing-none : (bits : List ℕ) (at : ℕ) {d : ℕ} (w count : ℕ) {common : ℕ} (other : ℕ) {old cells : List ℕ} → Put old 0 (replicate d common) cells → d ≤ 320 → length old ≡ 320
+pub listing-none : (bits : List ℕ) (at : ℕ) {d : ℕ} (w count : ℕ) {common : ℕ} (other : ℕ) {old cells : List ℕ}
+    → Put old 0 (replicate d common) cells → d ≤ 320 → length old ≡ 320
     → Listing bits at d w count common other cells cells 0 at 0
 unfolding countOf
 listing-none bits at w count other p f b =
@@ -57,7 +58,8 @@ module _ {bits : List ℕ} {at d w count common other : ℕ} {old cells : List �
       → MarksCells (listedFrom w d [] count bits at) d (at + 36) common other old cells (Refused r b)
   refusal e = marks-refused (marking-room (f .marking)) (f .so-far ∙ e)
 
-  pub listing-all : count ≤ read → count ≤ 4 → MarksCells (listedFrom w d [] count bits at) d (at + 36) common other old cells (Got count place)
+  pub listing-all : count ≤ read → count ≤ 4 → MarksCells (listedFrom w d [] count bits at) d (at + 36) common other old
+      cells (Got count place)
   unfolding listedFrom
   listing-all h m =
       let t = f .turns in
@@ -78,7 +80,8 @@ module _ {bits : List ℕ} {at d w count common other : ℕ} {old cells : List �
 
     module _ {p next : ℕ} (e : numberFrom 0 w bits place ≡ whole p next) where
       -- "rising, each below D"
-      pub listing-falls : (leb least p && ltb p d) ≡ false → MarksCells (listedFrom w d [] count bits at) d (at + 36) common other old cells (Refused Place place)
+      pub listing-falls : (leb least p && ltb p d) ≡ false → MarksCells (listedFrom w d [] count bits at) d (at + 36)
+          common other old cells (Refused Place place)
       unfolding listedFrom
       listing-falls l = refusal (rw (left, e, ap (λ (i : ℕ). leb i p && ltb p d) (f .size) ∙ l))
 

@@ -1,6 +1,6 @@
 -- What each method reads, and one value: its method and its flags.
 use Prim.Native.Nat.{ℕ, _+_, _≤_, _<_}
-use mathlib.Core.Path.{_≡_, refl, sym, _∙_}
+use mathlib.Core.Path.{_≡_, refl}
 use mathlib.Core.List.{List, []}
 use native.Mathlib.Omega.{arith}
 use lib.ListN.{length, replicate}
@@ -11,13 +11,14 @@ use Rattle.rules.specs.Runs.{runsFrom}
 use Rattle.rules.specs.Located.{listed, byMethod}
 use Rattle.rules.specs.Chooses.{countOf}
 use Rattle.bits.specs.declared.Outcome.{Outcome}
-use Rattle.bits.specs.declared.Outcome.the-variants.{Got, Refused}
+use Rattle.bits.specs.declared.Outcome.the-variants.{Got}
 use Rattle.runs.specs.Flagged.{Put, MarksCells}
 use Rattle.runs.proofs.Marking.{marking-none, marking-all, marks-filled}
 use Rattle.located.specs.Valued.{flagsOf}
 
 -- the same answer, told of an equal definition, and with more room
-pub marks-as : {found equal : Read (List ℕ)} {d near far common other : ℕ} {old new : List ℕ} {r : Outcome} → MarksCells equal d near common other old new r → found ≡ equal → near ≤ far
+pub marks-as : {found equal : Read (List ℕ)} {d near far common other : ℕ} {old new : List ℕ} {r : Outcome}
+    → MarksCells equal d near common other old new r → found ≡ equal → near ≤ far
     → MarksCells found d far common other old new r
 marks-as t e k = rw e (record { end = t .end; next = let n = t .next in omega arith; cells = t .cells; room = t .room })
 
@@ -34,7 +35,8 @@ module _ (n d start m : ℕ) (bits : List ℕ) (at : ℕ) where
       → MarksCells (byMethod n d start m bits at) d (at + 105600) common other old new (Got 0 at)
   unfolding byMethod countOf
   method-none h k other b p =
-      marks-filled (marking-all (marking-none other p k b) d (omega arith) (rw (ne-eqb m 0 (λ e. omega arith), lt-leb m 4 (omega arith), eq-eqb m 5 h)) refl (omega arith)) p
+      marks-filled (marking-all (marking-none other p k b) d (omega arith)
+      (rw (ne-eqb m 0 (λ e. omega arith), lt-leb m 4 (omega arith), eq-eqb m 5 h)) refl (omega arith)) p
 
   pub method-unknown : m ≡ 6 → byMethod n d start m bits at ≡ refuse Method start
   unfolding byMethod
@@ -42,9 +44,16 @@ module _ (n d start m : ℕ) (bits : List ℕ) (at : ℕ) where
 
   pub method-listed : 6 < m → byMethod n d start m bits at ≡ listed d bits at
   unfolding byMethod
-  method-listed h = rw (ne-eqb m 0 (λ e. omega arith), lt-leb m 4 (omega arith), ne-eqb m 5 (λ e. omega arith), ne-eqb m 6 (λ e. omega arith))
+  method-listed h = rw (
+    ne-eqb m 0 (λ e. omega arith),
+    lt-leb m 4 (omega arith),
+    ne-eqb m 5 (λ e. omega arith),
+    ne-eqb m
+        6 (λ e. omega arith),
+  )
 
 -- a value's method is read, and then its flags
-pub method-read : (bits : List ℕ) (at n d : ℕ) {m first : ℕ} → numberFrom 0 3 bits at ≡ whole m first → flagsOf n d bits at ≡ byMethod n d at m bits first
+pub method-read : (bits : List ℕ) (at n d : ℕ) {m first : ℕ} → numberFrom 0 3 bits at ≡ whole m first
+    → flagsOf n d bits at ≡ byMethod n d at m bits first
 unfolding flagsOf
 method-read bits at n d e = rw e

@@ -12,7 +12,10 @@ pub values-step : (s : List ℕ) (n z x : ℕ) (xs cells : List ℕ) (at : ℕ) 
 unfolding valuesInto flagsOf
 values-step s n z x xs cells at = go (numberFrom 0 3 (bitsOf s) at)
   where
-    go : (r : Read ℕ) → andThen r (λ m i. andThen (byMethod n (emptyIn z cells) at m (bitsOf s) i) (λ flags j. valuesInto n z xs (lay z x flags 0 cells) (bitsOf s) j))
-        ≡ andThen (andThen r (λ m i. byMethod n (emptyIn z cells) at m (bitsOf s) i)) (λ flags j. valuesInto n z xs (lay z x flags 0 cells) (bitsOf s) j)
+    go : (r : Read ℕ) → andThen r
+        (λ m i. andThen (byMethod n (emptyIn z cells) at m (bitsOf s) i)
+        (λ flags j. valuesInto n z xs (lay z x flags 0 cells) (bitsOf s) j))
+        ≡ andThen (andThen r (λ m i. byMethod n (emptyIn z cells) at m (bitsOf s) i))
+        (λ flags j. valuesInto n z xs (lay z x flags 0 cells) (bitsOf s) j)
     go (whole m i) = refl
     go (refuse w b) = refl

@@ -11,7 +11,7 @@ use lib.ListN.{length, take, replicate, length-map}
 use borrow.Author.Tests.{eq-eqb, ne-eqb, le-leb, lt-leb}
 use Rattle.rules.specs.declared.Refusal.the-variants.{Case}
 use Rattle.rules.specs.Reading.{whole, refuse, numberFrom}
-use Rattle.rules.specs.Samples.{sampleOf, plusZero}
+use Rattle.rules.specs.Samples.{sampleOf}
 use Rattle.rules.specs.Located.{RangeCase, case0, case1, case2, case3, caseOf, rowValues, valuesOf, valuesInto, located}
 use Rattle.rules.proofs.Signed.{plus-zero}
 use Rattle.rules.proofs.Accepted.{by-case}
@@ -34,7 +34,8 @@ three mask h =
     record { one = rw e (omega arith); minus = xor-zero-l mask; less = e }
 
 -- none of them is plus zero
-row-apart : (mask : ℕ) (r : RangeCase) → Apart (128 + mask) (map (sampleOf mask) (r .flag1)) → Apart (128 + mask) (map (sampleOf mask) (r .flag0)) → (n flag : ℕ)
+row-apart : (mask : ℕ) (r : RangeCase) → Apart (128 + mask) (map (sampleOf mask) (r .flag1))
+    → Apart (128 + mask) (map (sampleOf mask) (r .flag0)) → (n flag : ℕ)
     → Apart (128 + mask) (map (sampleOf mask) (rowValues r n flag))
 row-apart mask r p q n flag = go (leb (r .from) n) (eqb flag 1)
   where
@@ -91,16 +92,19 @@ module _ (n c flag : ℕ) where
   -- no row has a frame of fewer than 80
   pub no-row : n < 80 → valuesOf n c flag ≡ []
   no-row h = by-case (λ r. caseOf c ≡ r → valuesOf n c flag ≡ [])
-      (λ e. too-short case0 e (omega arith)) (λ e. too-short case1 e (omega arith)) (λ e. too-short case2 e (omega arith)) (λ e. too-short case3 e (omega arith)) c refl
+      (λ e. too-short case0 e (omega arith)) (λ e. too-short case1 e (omega arith)) (λ e. too-short case2 e (omega arith))
+      (λ e. too-short case3 e (omega arith)) c refl
 
-pub row-as : (mask : ℕ) {values vs : List ℤ} {xs : List ℕ} {r : Row} → values ≡ vs → map (sampleOf mask) vs ≡ xs → RowOf xs r → RowOf (map (sampleOf mask) values) r
+pub row-as : (mask : ℕ) {values vs : List ℤ} {xs : List ℕ} {r : Row} → values ≡ vs → map (sampleOf mask) vs ≡ xs → RowOf xs r
+    → RowOf (map (sampleOf mask) values) r
 row-as mask e f t = rw (e, f) t
 
 pub apart-as : (z : ℕ) {xs : List ℕ} {r : Row} → RowOf xs r → Apart z xs → Apart z (take (r .count) (r .octets))
 apart-as z t a = subst (λ (l : List ℕ). Apart z l) (sym (t .values)) a
 
 -- "range case (2 bits), flag (1 bit), then the values": CASE where there are none
-module _ (mask n : ℕ) (bits : List ℕ) (at : ℕ) {c second flag first : ℕ} (e : numberFrom 0 2 bits at ≡ whole c second) (f : numberFrom 0 1 bits second ≡ whole flag first)
+module _ (mask n : ℕ) (bits : List ℕ) (at : ℕ) {c second flag first : ℕ} (e : numberFrom 0 2 bits at ≡ whole c second)
+    (f : numberFrom 0 1 bits second ≡ whole flag first)
     {r : Row} (t : RowOf (map (sampleOf mask) (valuesOf n c flag)) r) where
   size : r .count ≡ length (valuesOf n c flag)
   size = t .size ∙ length-map (valuesOf n c flag) (sampleOf mask)

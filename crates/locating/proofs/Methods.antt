@@ -82,17 +82,20 @@ module _ {flags : List ℕ} {count : ℕ} (ones : count ≡ countOf (λ f. eqb f
     by-runs fit {m} e n =
         let k : m ≡ methodOf flags = e ∙ n in
         let form : length (methodForm m flags) ≡ r .bits =
-        rw (e, ne-eqb (r .s) 0 (λ z. omega (arith, f .from)), le-leb (r .s) 4 (f .to)) (ap (λ (s : ℕ). length (runsForm s flags)) (f .s) ∙ sym (f .bits)) in
+        rw (e, ne-eqb (r .s) 0 (λ z. omega (arith, f .from)), le-leb (r .s) 4 (f .to))
+        (ap (λ (s : ℕ). length (runsForm s flags)) (f .s) ∙ sym (f .bits)) in
         record { method = k; bits = rw (value-length flags k, form); most = omega (arith, f .to); small = omega arith }
 
     pub way-often : r .bits ≤ d → {m : ℕ} → m ≡ r .s → 4 < count → WayIs flags (by m (3 + r .bits))
     way-often fit e h = by-runs fit e (rw (le-ltb d (r .bits) fit, lt-leb count 4 h) at (method-is (widthOf d) refl))
 
-    pub way-runs : r .bits ≤ d → {m w : ℕ} → m ≡ r .s → count ≤ 4 → w ≡ widthOf d → r .bits ≤ count * w + 2 → WayIs flags (by m (3 + r .bits))
+    pub way-runs : r .bits ≤ d → {m w : ℕ} → m ≡ r .s → count ≤ 4 → w ≡ widthOf d → r .bits ≤ count * w + 2
+        → WayIs flags (by m (3 + r .bits))
     way-runs fit {w = w} e h we short =
         by-runs fit e (rw (le-ltb d (r .bits) fit, le-leb count 4 h, le-ltb (count * w + 2) (r .bits) short) at (method-is w we))
 
-    pub way-listed : Below 2 flags → r .bits ≤ d → (w : ℕ) → count ≤ 4 → w ≡ widthOf d → count * w + 2 < r .bits → WayIs flags (by 7 (3 + (count * w + 2)))
+    pub way-listed : Below 2 flags → r .bits ≤ d → (w : ℕ) → count ≤ 4 → w ≡ widthOf d → count * w + 2 < r .bits
+        → WayIs flags (by 7 (3 + (count * w + 2)))
     unfolding methodForm
     way-listed below fit w h we long =
         let m : 7 ≡ methodOf flags =

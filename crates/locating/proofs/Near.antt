@@ -1,4 +1,5 @@
--- Laws of samples from -2 to 1: each is told by its place on the line, and their counts tell the least, the greatest, and what is above and below 0.
+-- Laws of samples from -2 to 1: each is told by its place on the line, and their counts tell the least, the greatest, and what is above and
+-- below 0.
 use Prim.Native.Nat.{ℕ, suc, _+_, _-_, _≤_, _<_, min, max}
 use mathlib.Core.Path.{_≡_, refl, sym, ap, _∙_}
 use mathlib.Core.List.{List, [], _∷_}
@@ -14,8 +15,8 @@ use Rattle.rules.specs.Samples.{signed, sampleOf, plusZero, minusZero, onLine}
 use Rattle.rules.specs.Located.{caseOf}
 use Rattle.rules.specs.Chooses.{countOf, leastOf, greatestOf, above, below, rowOf, applies}
 use Rattle.rules.proofs.Octets.{Below, none, more}
-use Rattle.rules.proofs.Signed.{InRange, LawMask, law-mask, signed-range, told-by-line, sampleOf-one-to-one}
-use Rattle.rules.proofs.Tests.{and-left, and-right, allBelow-at, or-cases}
+use Rattle.rules.proofs.Signed.{InRange, LawMask, signed-range, told-by-line, sampleOf-one-to-one}
+use Rattle.rules.proofs.Tests.{and-left, and-right, allBelow-at}
 use Rattle.look.specs.Looks.{countIs, near, twoZeros, isMask}
 use Rattle.rules.proofs.Counts.{count-le}
 use Rattle.look.proofs.Spreading.{alike, near-is, is-near}
@@ -85,8 +86,10 @@ module _ {l g u w k a b c d : ℕ} (t : Sums l g u w k a b c d) where
   next-two : Next 126
   next-two =
       record {
-        least = rw (t .least, at-some 255 126 a, zero-add b, zero-add c, zero-add d) (drop-min 126 (at 255 126 a) _ (omega (arith, at-in 255 126 a .0)));
-        greatest = rw (t .greatest, at-some 0 126 a, zero-add b, zero-add c, zero-add d) (drop-max 126 (at 0 126 a) _ (omega (arith, at-in 0 126 a .1)));
+        least = rw (t .least, at-some 255 126 a, zero-add b, zero-add c, zero-add d)
+            (drop-min 126 (at 255 126 a) _ (omega (arith, at-in 255 126 a .0)));
+        greatest = rw (t .greatest, at-some 0 126 a, zero-add b, zero-add c, zero-add d)
+            (drop-max 126 (at 0 126 a) _ (omega (arith, at-in 0 126 a .1)));
         up = omega (arith, t .up);
         down = omega (arith, t .down);
         all = omega (arith, t .all);
@@ -157,12 +160,24 @@ Tells mask s =
 near-tells : {mask : ℕ} → LawMask mask → {s : List ℕ} → Below 256 s → near (leastOf mask s) (greatestOf mask s) ≡ true → Tells mask s
 unfolding countOf leastOf greatestOf
 near-tells law none h =
-    record { least = rw (at-none 255 126, at-none 255 127, at-none 255 128, at-none 255 129); greatest = rw (at-none 0 126, at-none 0 127, at-none 0 128, at-none 0 129); up = refl; down = refl; all = refl }
+    record {
+      least = rw (at-none 255 126, at-none 255 127, at-none 255 128, at-none 255 129);
+      greatest =
+          rw (at-none 0 126, at-none 0 127, at-none 0 128, at-none 0 129);
+      up = refl;
+      down = refl;
+      all = refl;
+    }
 near-tells {mask} law (more {x = x} {l = s} o t) h =
     let n = near-is (min (onLine (signed mask x)) (leastOf mask s)) (max (onLine (signed mask x)) (greatestOf mask s)) h in
     let i = near-tells law t (is-near (leastOf mask s) (greatestOf mask s) (omega (arith, n .0)) (omega (arith, n .1))) in
     let j = next i (onLine (signed mask x)) (omega (arith, n .0)) (omega (arith, n .1)) in
-    rw (told law (negsuc 1) (omega arith) x o, told law (negsuc 0) (omega arith) x o, told law (pos 0) (omega arith) x o, told law (pos 1) (omega arith) x o) j
+    rw (
+      told law (negsuc 1) (omega arith) x o,
+      told law (negsuc 0) (omega arith) x o,
+      told law (pos 0) (omega arith) x o,
+      told law (pos 1) (omega arith) x o,
+    ) j
 
 -- the least and the greatest of some samples
 from : (b : Bool) (k : ℕ) → k ≤ 255 → k ≤ cond b 255 k
@@ -205,7 +220,8 @@ pub count-fits : {n r : ℕ} (x : ℕ) (samples : List ℕ) → n ≤ length sam
 count-fits {n} x samples long e = omega (arith, count-le (λ y. eqb y x) (take n samples), length-take-le n samples long)
 
 -- what is none of the three is 0
-pub tallied : {mask : ℕ} {s : List ℕ} {t : Tally} → isMask mask ≡ true → Below 256 s → near (leastOf mask s) (greatestOf mask s) ≡ true → {n : ℕ} → length s ≡ n → 1 ≤ n
+pub tallied : {mask : ℕ} {s : List ℕ} {t : Tally} → isMask mask ≡ true → Below 256 s → near (leastOf mask s) (greatestOf mask s) ≡ true
+    → {n : ℕ} → length s ≡ n → 1 ≤ n
     → t .one ≡ countIs (sampleOf mask (pos 1)) s → t .minus ≡ countIs (minusZero mask) s → t .twos ≡ countIs (sampleOf mask (negsuc 1)) s
     → t .plus ≡ n - (t .one + t .minus + t .twos) → Tallied mask s t
 tallied {mask} {s} {t} m o h size some e₁ e₂ e₃ e₄ =
@@ -248,10 +264,12 @@ pub zeros-near : (mask : ℕ) → mask < 128 → (s : List ℕ) → countOf (λ 
 unfolding countOf leastOf greatestOf
 zeros-near mask m [] h = (omega arith, omega arith)
 zeros-near mask m (x ∷ s) h =
-    step (eqb x (plusZero mask)) (eqb x (minusZero mask)) refl refl h (count-le (λ x. eqb x (plusZero mask) || eqb x (minusZero mask)) s) (zeros-near mask m s) (zero-places mask m)
+    step (eqb x (plusZero mask)) (eqb x (minusZero mask)) refl refl h (count-le (λ x. eqb x (plusZero mask) || eqb x (minusZero mask)) s)
+    (zeros-near mask m s) (zero-places mask m)
   where
     step : (a b : Bool) → eqb x (plusZero mask) ≡ a → eqb x (minusZero mask) ≡ b
-        → cond (eqb x (plusZero mask) || eqb x (minusZero mask)) 1 0 + countOf (λ x. eqb x (plusZero mask) || eqb x (minusZero mask)) s ≡ suc (length s)
+        → cond (eqb x (plusZero mask) || eqb x (minusZero mask)) 1 0 + countOf (λ x. eqb x (plusZero mask) || eqb x (minusZero mask))
+        s ≡ suc (length s)
         → countOf (λ x. eqb x (plusZero mask) || eqb x (minusZero mask)) s ≤ length s
         → (countOf (λ x. eqb x (plusZero mask) || eqb x (minusZero mask)) s ≡ length s → (127 ≤ leastOf mask s) × (greatestOf mask s ≤ 128))
         → (onLine (signed mask (plusZero mask)) ≡ 128) × (onLine (signed mask (minusZero mask)) ≡ 127)
@@ -272,7 +290,12 @@ unfolding applies rowOf caseOf
 zeros-unlocated mask m s e =
     let i = zeros-near mask m s (eqb-true _ _ e) in
     let four : rowOf mask s ≡ 4 =
-    rw (ne-eqb (leastOf mask s) 126 (λ z. omega (arith, i .0)), ne-eqb (greatestOf mask s) 129 (λ z. omega (arith, i .1)), and-zero (eqb (leastOf mask s) 127), and-zero (eqb (leastOf mask s) 128)) in
+    rw (
+      ne-eqb (leastOf mask s) 126 (λ z. omega (arith, i .0)),
+      ne-eqb (greatestOf mask s) 129 (λ z. omega (arith, i .1)),
+      and-zero (eqb (leastOf mask s) 127),
+      and-zero (eqb (leastOf mask s) 128),
+    ) in
     rw (four, and-zero (leb 80 (length s)))
 
 -- a row is near
@@ -283,10 +306,22 @@ row-near mask s far = go (leb 126 (leastOf mask s)) refl (leb (greatestOf mask s
     go : (a : Bool) → leb 126 (leastOf mask s) ≡ a → (b : Bool) → leb (greatestOf mask s) 129 ≡ b → rowOf mask s ≡ 4
     go false e b f =
         let h = leb-false 126 (leastOf mask s) e in
-        rw (ne-eqb (leastOf mask s) 126 (λ z. omega arith), ne-eqb (leastOf mask s) 127 (λ z. omega arith), ne-eqb (leastOf mask s) 128 (λ z. omega arith))
+        rw (
+          ne-eqb (leastOf mask s) 126 (λ z. omega arith),
+          ne-eqb (leastOf mask s) 127 (λ z. omega arith),
+          ne-eqb
+              (leastOf mask s) 128 (λ z. omega arith),
+        )
     go true e false f =
         let h = leb-false (greatestOf mask s) 129 f in
-        rw (ne-eqb (greatestOf mask s) 129 (λ z. omega arith), ne-eqb (greatestOf mask s) 128 (λ z. omega arith), and-zero (eqb (leastOf mask s) 126), and-zero (eqb (leastOf mask s) 127), and-zero (eqb (leastOf mask s) 128))
+        rw (
+          ne-eqb (greatestOf mask s) 129 (λ z. omega arith),
+          ne-eqb (greatestOf mask s) 128 (λ z. omega arith),
+          and-zero
+              (eqb (leastOf mask s) 126),
+          and-zero (eqb (leastOf mask s) 127),
+          and-zero (eqb (leastOf mask s) 128),
+        )
     go true e true f = absurd (never (sym (rw (e, f) at far)))
 
 pub located-near : (mask : ℕ) (s : List ℕ) → near (leastOf mask s) (greatestOf mask s) ≡ false → applies mask 7 s ≡ false

@@ -18,9 +18,9 @@ use Rattle.locating.specs.declared.Tally.{Tally}
 use Rattle.locating.specs.declared.Value.{Value}
 use Rattle.locating.specs.declared.Values.{Values}
 use Rattle.locating.specs.declared.Ways.{Ways}
-use Rattle.locating.specs.declared.Located.{Located}
 use Rattle.locating.specs.Ways.{ValueIs, InTurn, WaysAre}
-use Rattle.locating.specs.Rows.{leastBy, greatestBy, rowBy, Tallied, samplesOf, only, two, three, valuesBy, oneIn, minusIn, twosIn, valuesFor, valuesIn, LocatedIs}
+use Rattle.locating.specs.Rows.{leastBy, greatestBy, rowBy, Tallied, samplesOf, only, two, three}
+use Rattle.locating.specs.Rows.{valuesBy, oneIn, minusIn, twosIn, valuesFor, valuesIn, LocatedIs}
 use Rattle.look.proofs.Tests.{never}
 use Rattle.locating.proofs.Near.{apart}
 
@@ -30,7 +30,8 @@ unfolding rowOf
 rows-fit mask s h = go (isRow mask s 0) (isRow mask s 1) (isRow mask s 2) (isRow mask s 3) (fits 0) (fits 1) (fits 2) (fits 3) h
   where
     fits : (c : ℕ) → isRow mask s c ≡ true → leb (caseOf c .from) (length s) ≡ true
-    fits c e = and-right (eqb (leastOf mask s) (onLine (caseOf c .least)) && eqb (greatestOf mask s) (onLine (caseOf c .greatest))) (leb (caseOf c .from) (length s)) e
+    fits c e = and-right (eqb (leastOf mask s) (onLine (caseOf c .least)) && eqb (greatestOf mask s) (onLine (caseOf c .greatest)))
+        (leb (caseOf c .from) (length s)) e
 
     go : (a b c d : Bool) → (a ≡ true → leb (caseOf 0 .from) (length s) ≡ true) → (b ≡ true → leb (caseOf 1 .from) (length s) ≡ true)
         → (c ≡ true → leb (caseOf 2 .from) (length s) ≡ true) → (d ≡ true → leb (caseOf 3 .from) (length s) ≡ true)
@@ -46,7 +47,8 @@ rows-fit mask s h = go (isRow mask s 0) (isRow mask s 1) (isRow mask s 2) (isRow
 row-two : (least greatest n : ℕ) → rowBy least greatest n ≡ 2 → (least ≡ 126) × (greatest ≡ 128)
 unfolding rowBy
 row-two l g n h =
-    let e = go (eqb l 126 && eqb g 129 && leb 240 n) (eqb l 127 && eqb g 129 && leb 80 n) (eqb l 126 && eqb g 128 && leb 80 n) (eqb l 128 && eqb g 129 && leb 80 n) h in
+    let e = go (eqb l 126 && eqb g 129 && leb 240 n) (eqb l 127 && eqb g 129 && leb 80 n) (eqb l 126 && eqb g 128 && leb 80 n)
+    (eqb l 128 && eqb g 129 && leb 80 n) h in
     let f = and-left (eqb l 126 && eqb g 128) (leb 80 n) e in
     (eqb-true l 126 (and-left (eqb l 126) (eqb g 128) f), eqb-true g 128 (and-right (eqb l 126) (eqb g 128) f))
   where
@@ -60,7 +62,8 @@ row-two l g n h =
 row-three : (least greatest n : ℕ) → rowBy least greatest n ≡ 3 → least ≡ 128
 unfolding rowBy
 row-three l g n h =
-    let e = go (eqb l 126 && eqb g 129 && leb 240 n) (eqb l 127 && eqb g 129 && leb 80 n) (eqb l 126 && eqb g 128 && leb 80 n) (eqb l 128 && eqb g 129 && leb 80 n) h in
+    let e = go (eqb l 126 && eqb g 129 && leb 240 n) (eqb l 127 && eqb g 129 && leb 80 n) (eqb l 126 && eqb g 128 && leb 80 n)
+    (eqb l 128 && eqb g 129 && leb 80 n) h in
     eqb-true l 128 (and-left (eqb l 128) (eqb g 129) (and-left (eqb l 128 && eqb g 129) (leb 80 n) e))
   where
     go : (a b c d : Bool) → _≡_ {A = ℕ} (cond a 0 (cond b 1 (cond c 2 (cond d 3 4)))) 3 → d ≡ true
@@ -83,7 +86,8 @@ least-zero : (twos minus plus : ℕ) → leastBy twos minus plus ≡ 128 → (tw
 unfolding leastBy
 least-zero twos minus plus h = go (eqb twos 0) refl (eqb minus 0) refl h
   where
-    go : (a : Bool) → eqb twos 0 ≡ a → (b : Bool) → eqb minus 0 ≡ b → _≡_ {A = ℕ} (cond a (cond b (cond (eqb plus 0) 129 128) 127) 126) 128 → (twos ≡ 0) × (minus ≡ 0)
+    go : (a : Bool) → eqb twos 0 ≡ a → (b : Bool) → eqb minus 0 ≡ b → _≡_ {A = ℕ} (cond a (cond b (cond (eqb plus 0) 129 128) 127) 126) 128
+        → (twos ≡ 0) × (minus ≡ 0)
     go true e true f h = (eqb-true twos 0 e, eqb-true minus 0 f)
     go true e false f h = absurd (omega arith)
     go false e b f h = absurd (omega arith)
@@ -114,7 +118,8 @@ module _ {plus : ℕ} {s : List ℕ} where
         room = omega arith;
       }
 
-  two-turn : {x y : Value} → ValueIs plus s x → ValueIs plus s y → (y .sample ≡ x .sample → ⊥) → x .times + y .times ≤ length s → InTurn plus s (two x y)
+  two-turn : {x y : Value} → ValueIs plus s x → ValueIs plus s y → (y .sample ≡ x .sample → ⊥) → x .times + y .times ≤ length s
+      → InTurn plus s (two x y)
   two-turn i j ne h =
       record {
         some = omega arith;
@@ -130,7 +135,8 @@ module _ {plus : ℕ} {s : List ℕ} where
         room = h;
       }
 
-  three-turn : {x y z : Value} → ValueIs plus s x → ValueIs plus s y → ValueIs plus s z → (y .sample ≡ x .sample → ⊥) → (z .sample ≡ x .sample → ⊥)
+  three-turn : {x y z : Value} → ValueIs plus s x → ValueIs plus s y → ValueIs plus s z → (y .sample ≡ x .sample → ⊥)
+      → (z .sample ≡ x .sample → ⊥)
       → (z .sample ≡ y .sample → ⊥) → x .times + y .times ≤ length s → InTurn plus s (three x y z)
   three-turn i j k n₁ n₂ n₃ h =
       record {
@@ -153,12 +159,16 @@ pub ways-sum : {s a b c : List ℕ} {v : Values} {w : Ways} → 1 ≤ v .count �
 unfolding valuesForm
 ways-sum {s} {v = v} {w = w} some few i = go (v .count) refl
   where
-    go : (k : ℕ) → v .count ≡ k → w .first .bits + w .second .bits + w .third .bits ≡ length (valuesForm (take k (v .first .sample ∷ v .second .sample ∷ v .third .sample ∷ [])) s)
+    go : (k : ℕ) → v .count ≡ k → w .first .bits + w .second .bits + w .third .bits ≡ length
+        (valuesForm (take k (v .first .sample ∷ v .second .sample ∷ v .third .sample ∷ [])) s)
     go zero e = absurd (omega arith)
     go (suc zero) e = rw length-append (omega (arith, i .first .way .bits, i .no-second (omega arith), i .no-third (omega arith)))
-    go (suc (suc zero)) e = rw (length-append, length-append) (omega (arith, i .first .way .bits, i .second (omega arith) .way .bits, i .no-third (omega arith)))
+    go (suc (suc zero)) e =
+        rw (length-append, length-append)
+        (omega (arith, i .first .way .bits, i .second (omega arith) .way .bits, i .no-third (omega arith)))
     go (suc (suc (suc zero))) e =
-        rw (length-append, length-append, length-append) (omega (arith, i .first .way .bits, i .second (omega arith) .way .bits, i .third (omega arith) .way .bits))
+        rw (length-append, length-append, length-append)
+        (omega (arith, i .first .way .bits, i .second (omega arith) .way .bits, i .third (omega arith) .way .bits))
     go (suc (suc (suc (suc k)))) e = absurd (omega arith)
 
 pub ways-small : {s a b c : List ℕ} {v : Values} {w : Ways} → WaysAre s v w a b c
@@ -174,7 +184,8 @@ ways-small {v = v} {w = w} i = (i .first .way .small, (second (leb 2 (v .count))
     third false e = omega (arith, i .no-third (leb-false 3 (v .count) e))
 
 -- and of all that value-location writes
-located-length : (mask : ℕ) {s a b c : List ℕ} {v : Values} {w : Ways} → 1 ≤ v .count → v .count ≤ 3 → samplesOf v ≡ valuesIn mask s → WaysAre s v w a b c
+located-length : (mask : ℕ) {s a b c : List ℕ} {v : Values} {w : Ways} → 1 ≤ v .count → v .count ≤ 3 → samplesOf v ≡ valuesIn mask s
+    → WaysAre s v w a b c
     → 11 + (w .first .bits + w .second .bits + w .third .bits) ≡ length (locatedForm mask s)
 unfolding locatedForm
 located-length mask some few says ways =
@@ -205,7 +216,8 @@ said mask t (suc (suc (suc (suc row)))) flag h f g = absurd (omega arith)
 
 -- values that were ordered are those of the tally
 pub values-told : {x y z : ℕ} {r : Values} (mask row flag : ℕ) (t : Tally)
-    → r ≡ valuesBy row flag (record { sample = x; times = t .one }) (record { sample = y; times = t .minus }) (record { sample = z; times = t .twos })
+    → r ≡ valuesBy row flag (record { sample = x; times = t .one }) (record { sample = y; times = t .minus })
+    (record { sample = z; times = t .twos })
     → x ≡ sampleOf mask (pos 1) → y ≡ minusZero mask → z ≡ sampleOf mask (negsuc 1) → r ≡ valuesFor mask t row flag
 values-told mask row flag t e f g h = e ∙ rw (f, g, h)
 
@@ -247,12 +259,14 @@ module _ {mask : ℕ} {s : List ℕ} {t : Tally} (tally : Tallied mask s t) wher
         go false false true true = two-turn one-is minus-is minus-one (omega (arith, tally .all))
         go false false true false = two-turn minus-is one-is (λ e. minus-one (sym e)) (omega (arith, tally .all))
         go false false false true = three-turn one-is minus-is twos-are minus-one twos-one twos-minus (omega (arith, tally .all))
-        go false false false false = three-turn minus-is one-is twos-are (λ e. minus-one (sym e)) twos-minus twos-one (omega (arith, tally .all))
+        go false false false false = three-turn minus-is one-is twos-are (λ e. minus-one (sym e)) twos-minus twos-one
+            (omega (arith, tally .all))
 
     pub turn-of : {plus : ℕ} {v : Values} (row flag : ℕ) → plus ≡ plusZero mask → v ≡ valuesFor mask t row flag → InTurn plus s v
     turn-of row flag e f = rw (e, f) (in-turn row flag)
 
-  module _ {n : ℕ} (size : length s ≡ n) {row : ℕ} (found : row ≡ rowBy (leastBy (t .twos) (t .minus) (t .plus)) (greatestBy (t .one) (t .plus) (t .minus)) n) where
+  module _ {n : ℕ} (size : length s ≡ n) {row : ℕ}
+      (found : row ≡ rowBy (leastBy (t .twos) (t .minus) (t .plus)) (greatestBy (t .one) (t .plus) (t .minus)) n) where
     pub row-is : row ≡ rowOf mask s
     unfolding rowBy rowOf caseOf
     row-is = found ∙ rw (tally .least, tally .greatest, ← size)
@@ -275,7 +289,8 @@ module _ {mask : ℕ} {s : List ℕ} {t : Tally} (tally : Tallied mask s t) wher
         let i = least-zero _ _ _ (row-three _ _ n (sym found ∙ e)) in
         ap (λ (b : Bool). cond {A = ℕ} b 1 0) (le-leb (t .minus + t .twos) (t .one) (omega (arith, i .0, i .1)))
 
-    module _ {a : Bool} (tested : a ≡ (leb 80 n && ltb row 4 && leb (t .one) (t .plus) && leb (t .minus) (t .plus) && leb (t .twos) (t .plus))) where
+    module _ {a : Bool} (tested : a
+        ≡ (leb 80 n && ltb row 4 && leb (t .one) (t .plus) && leb (t .minus) (t .plus) && leb (t .twos) (t .plus))) where
       pub applied-is : a ≡ applies mask 7 s
       unfolding applies
       applied-is = tested ∙ rw (row-is, tally .one, tally .plus, tally .minus, tally .twos, ← size)
@@ -284,7 +299,8 @@ module _ {mask : ℕ} {s : List ℕ} {t : Tally} (tally : Tallied mask s t) wher
       row-low e =
           ltb-true row 4
           (and-right (leb 80 n) (ltb row 4)
-          (and-left _ (leb (t .one) (t .plus)) (and-left _ (leb (t .minus) (t .plus)) (and-left _ (leb (t .twos) (t .plus)) (sym tested ∙ e)))))
+          (and-left _ (leb (t .one) (t .plus))
+          (and-left _ (leb (t .minus) (t .plus)) (and-left _ (leb (t .twos) (t .plus)) (sym tested ∙ e)))))
 
       -- the values, in the flag's order
       pub values-say : {flag : ℕ} → a ≡ true → flag ≡ cond (leb (t .minus + t .twos) (t .one)) 1 0
@@ -296,9 +312,20 @@ module _ {mask : ℕ} {s : List ℕ} {t : Tally} (tally : Tallied mask s t) wher
           ∙ rw (row-is, f ∙ flag-is, fit)
 
       -- and all that is written
-      pub located-is : {flag bits plus : ℕ} {x y z : List ℕ} {v : Values} {w : Ways} → a ≡ true → flag ≡ cond (leb (t .minus + t .twos) (t .one)) 1 0 → flag < 2
-          → v ≡ valuesFor mask t row flag → InTurn plus s v → WaysAre s v w x y z → bits ≡ 11 + (w .first .bits + w .second .bits + w .third .bits)
-          → LocatedIs mask s (record { tool = 7; bits = bits; row = row; flag = flag; count = v .count; first = w .first; second = w .second; third = w .third }) x y z
+      pub located-is : {flag bits plus : ℕ} {x y z : List ℕ} {v : Values} {w : Ways} → a ≡ true
+          → flag ≡ cond (leb (t .minus + t .twos) (t .one)) 1 0 → flag < 2
+          → v ≡ valuesFor mask t row flag → InTurn plus s v → WaysAre s v w x y z
+          → bits ≡ 11 + (w .first .bits + w .second .bits + w .third .bits)
+          → LocatedIs mask s (record {
+            tool = 7;
+            bits = bits;
+            row = row;
+            flag = flag;
+            count = v .count;
+            first = w .first;
+            second = w .second;
+            third = w .third;
+          }) x y z
       located-is {v = v} on f mark told turn ways sum =
           let says : samplesOf v ≡ valuesIn mask s = ap samplesOf told ∙ values-say on f in
           let k = ways-small ways in

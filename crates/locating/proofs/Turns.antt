@@ -54,7 +54,8 @@ flagged : {d count : ℕ} (x : ℕ) (s : List ℕ) → length s ≡ d → d ≤ 
 flagged x s size most e =
     record { size = length-map s (λ y. cond (eqb y x) 1 0) ∙ size; most = most; bits = flags-small x s; ones = e ∙ sym (flags-count x s) }
 
-way-with : {flags runs : List ℕ} {d count found : ℕ} {w : Way} → RunsAre flags found runs → FlagsAre flags d count → WayFor runs found d count w → WayOf flags w runs
+way-with : {flags runs : List ℕ} {d count found : ℕ} {w : Way} → RunsAre flags found runs → FlagsAre flags d count
+    → WayFor runs found d count w → WayOf flags w runs
 way-with {flags} {runs} r f w =
     record {
       way = w .way flags (sym (r .says)) f;
@@ -63,7 +64,8 @@ way-with {flags} {runs} r f w =
     }
 
 -- what is found in whole words is found in the samples
-pub found-whole : {x y z n : ℕ} {a b c : List ℕ} {r : Found} (samples : List ℕ) (k : ℕ) → 40 * k ≡ n → FoundIs x y z (take (40 * k) samples) r a b c → FoundIs x y z (take n samples) r a b c
+pub found-whole : {x y z n : ℕ} {a b c : List ℕ} {r : Found} (samples : List ℕ) (k : ℕ) → 40 * k ≡ n
+    → FoundIs x y z (take (40 * k) samples) r a b c → FoundIs x y z (take n samples) r a b c
 found-whole samples k e f = rw (ap (λ (m : ℕ). take m samples) e) at f
 
 module _ {plus n : ℕ} {s a b c : List ℕ} {v : Values} {found : Found} (size : length s ≡ n) (few : n ≤ 320) (t : InTurn plus s v)
@@ -90,7 +92,8 @@ module _ {plus n : ℕ} {s a b c : List ℕ} {v : Values} {found : Found} (size 
   ways-are w₁ w₂ w₃ =
       record {
         first = way-with (f .first) (flagged (v .first .sample) s size few (t .first .times)) w₁;
-        second = λ h. way-with (f .second) (flagged (v .second .sample) left left-size (omega arith) (second-count h)) (w₂ .yes (le-leb 2 (v .count) h));
+        second = λ h. way-with (f .second) (flagged (v .second .sample) left left-size (omega arith) (second-count h))
+            (w₂ .yes (le-leb 2 (v .count) h));
         third = λ h.
             let g : 2 ≤ v .count = omega arith in
             let k : v .third .times ≡ countIs (v .third .sample) last =

@@ -30,8 +30,10 @@ module _ (s : List ℕ) (i : ℕ) (h′ : i < length s) where
   pub count-more : (p : ℕ → Bool) {n r : ℕ} → n ≡ countOf p (take i s) → r ≡ cond (p (getD s i 0)) 1 0 → n + r ≡ countOf p (take (i + 1) s)
   count-more p e f = rw (e, f, add-one i, take-suc s i 0 h′) (sym (count-snoc p (take i s) (getD s i 0)))
 
-  pub least-more : (mask : ℕ) {n r : ℕ} → n ≡ leastOf mask (take i s) → r ≡ onLine (signed mask (getD s i 0)) → min n r ≡ leastOf mask (take (i + 1) s)
+  pub least-more : (mask : ℕ) {n r : ℕ} → n ≡ leastOf mask (take i s) → r ≡ onLine (signed mask (getD s i 0))
+      → min n r ≡ leastOf mask (take (i + 1) s)
   least-more mask e f = rw (e, f, add-one i, take-suc s i 0 h′) (sym (least-snoc mask (take i s) (getD s i 0)))
 
-  pub greatest-more : (mask : ℕ) {n r : ℕ} → n ≡ greatestOf mask (take i s) → r ≡ onLine (signed mask (getD s i 0)) → max n r ≡ greatestOf mask (take (i + 1) s)
+  pub greatest-more : (mask : ℕ) {n r : ℕ} → n ≡ greatestOf mask (take i s) → r ≡ onLine (signed mask (getD s i 0))
+      → max n r ≡ greatestOf mask (take (i + 1) s)
   greatest-more mask e f = rw (e, f, add-one i, take-suc s i 0 h′) (sym (greatest-snoc mask (take i s) (getD s i 0)))

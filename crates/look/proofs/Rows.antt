@@ -69,7 +69,8 @@ small-set : (row : List ℕ) (i w : ℕ) → i < length row → w < 2 ^ 40 → (
 small-set row i w h small all j (yes e) = rw (e, getD-set-same row i w 0 h) small
 small-set row i w h small all j (no e) = rw (getD-set-other row i j w 0 e) (all j)
 
-pub row-one : (flags more row : List ℕ) (i w : ℕ) → RowIs flags i row → i < 8 → Gathers more 40 w → RowIs (flags ++ more) (i + 1) (set row i w)
+pub row-one : (flags more row : List ℕ) (i w : ℕ) → RowIs flags i row → i < 8 → Gathers more 40 w
+    → RowIs (flags ++ more) (i + 1) (set row i w)
 unfolding rowBits
 row-one flags more row i w t h g =
     let inr : i < length row = omega (arith, t .size) in

@@ -5,7 +5,8 @@ use mathlib.Core.List.{List}
 use mathlib.Core.Bool.{Bool, true, false, cond, _&&_, _||_}
 use native.Mathlib.Omega.{arith}
 use lib.Arith.{bin-ind}
-use lib.Bits.{bitOr, bitAnd, bitXor, differ, xor-step, xor-mod, xor-lt, xor-self, xor-zero-r, or-add-and, or-lt, or-mod, or-self, and-le-l, and-le-r, and-comm, and-mask, and-self}
+use lib.Bits.{bitOr, bitAnd, bitXor, differ, xor-step, xor-mod, xor-lt, xor-self, xor-zero-r}
+use lib.Bits.{or-add-and, or-lt, or-mod, or-self, and-le-l, and-le-r, and-comm, and-mask, and-self}
 use lib.Dec.{eqb, leb, ltb}
 use lib.IntN.{pos, negsuc}
 use lib.ListN.{length, getD, take}
@@ -56,7 +57,8 @@ xor-back = bin-ind (λ (b : ℕ). (a : ℕ) → bitXor (bitXor a b) b ≡ a) (λ
         let high : w / 2 ≡ h = omega (arith, e, k) in
         let low : w % 2 ≡ d = omega (arith, e, k) in
         let top : bitXor (w / 2) (b / 2) ≡ a / 2 = ap (λ (z : ℕ). bitXor z (b / 2)) high ∙ ih (a / 2) in
-        let last : differ (w % 2) (b % 2) ≡ a % 2 = ap (λ (z : ℕ). differ z (b % 2)) low ∙ digit-back (a % 2) (b % 2) (omega arith) (omega arith) in
+        let last : differ (w % 2) (b % 2) ≡ a % 2 = ap (λ (z : ℕ). differ z (b % 2)) low
+        ∙ digit-back (a % 2) (b % 2) (omega arith) (omega arith) in
         xor-step w b ∙ ap₂ (λ (p q : ℕ). p * 2 + q) top last ∙ omega arith
 
 pub xor-one-to-one : (mask x y : ℕ) → bitXor x mask ≡ bitXor y mask → x ≡ y
@@ -76,8 +78,11 @@ or-below : (k a b : ℕ) → ltb (bitOr a b) (2 ^ k) ≡ (ltb a (2 ^ k) && ltb b
 or-below k a b =
     alike (ltb (bitOr a b) (2 ^ k)) (ltb a (2 ^ k) && ltb b (2 ^ k))
     (λ e. let h = ltb-true (bitOr a b) (2 ^ k) e in
-    both (ltb a (2 ^ k)) (ltb b (2 ^ k)) (lt-ltb a (2 ^ k) (omega (arith, h, or-left a b))) (lt-ltb b (2 ^ k) (omega (arith, h, or-right a b))))
-    (λ e. lt-ltb (bitOr a b) (2 ^ k) (or-lt k a b (ltb-true a (2 ^ k) (and-left (ltb a (2 ^ k)) (ltb b (2 ^ k)) e)) (ltb-true b (2 ^ k) (and-right (ltb a (2 ^ k)) (ltb b (2 ^ k)) e))))
+    both (ltb a (2 ^ k)) (ltb b (2 ^ k)) (lt-ltb a (2 ^ k) (omega (arith, h, or-left a b)))
+    (lt-ltb b (2 ^ k) (omega (arith, h, or-right a b))))
+    (λ e. lt-ltb (bitOr a b) (2 ^ k)
+    (or-lt k a b (ltb-true a (2 ^ k) (and-left (ltb a (2 ^ k)) (ltb b (2 ^ k)) e))
+    (ltb-true b (2 ^ k) (and-right (ltb a (2 ^ k)) (ltb b (2 ^ k)) e))))
 
 or-none : (a b : ℕ) → eqb (bitOr a b) 0 ≡ (eqb a 0 && eqb b 0)
 or-none a b =
@@ -93,7 +98,11 @@ is-near-by : (k l g : ℕ) → 128 - k ≤ l → g ≤ 127 + k → nearBy k l g 
 is-near-by k l g a b = both (leb (128 - k) l) (leb g (127 + k)) (le-leb (128 - k) l a) (le-leb g (127 + k) b)
 
 pub near-by-is : (k l g : ℕ) → nearBy k l g ≡ true → (128 - k ≤ l) × (g ≤ 127 + k)
-near-by-is k l g e = (leb-true (128 - k) l (and-left (leb (128 - k) l) (leb g (127 + k)) e), leb-true g (127 + k) (and-right (leb (128 - k) l) (leb g (127 + k)) e))
+near-by-is k l g e = (
+  leb-true (128 - k) l (and-left (leb (128 - k) l) (leb g (127 + k)) e),
+  leb-true g (127 + k)
+      (and-right (leb (128 - k) l) (leb g (127 + k)) e),
+)
 
 pub is-near : (l g : ℕ) → 126 ≤ l → g ≤ 129 → near l g ≡ true
 is-near l g a b = is-near-by 2 l g a b
@@ -105,7 +114,8 @@ near-more : (k l g p : ℕ) → nearBy k (min l p) (max g p) ≡ (nearBy k l g &
 near-more k l g p =
     alike (nearBy k (min l p) (max g p)) (nearBy k l g && nearBy k p p)
     (λ e. let h = near-by-is k (min l p) (max g p) e in
-    both (nearBy k l g) (nearBy k p p) (is-near-by k l g (omega (arith, h .0)) (omega (arith, h .1))) (is-near-by k p p (omega (arith, h .0)) (omega (arith, h .1))))
+    both (nearBy k l g) (nearBy k p p) (is-near-by k l g (omega (arith, h .0)) (omega (arith, h .1)))
+    (is-near-by k p p (omega (arith, h .0)) (omega (arith, h .1))))
     (λ e. let h = near-by-is k l g (and-left (nearBy k l g) (nearBy k p p) e) in
     let m = near-by-is k p p (and-right (nearBy k l g) (nearBy k p p) e) in
     is-near-by k (min l p) (max g p) (omega (arith, h .0, m .0)) (omega (arith, h .1, m .1)))
@@ -117,7 +127,8 @@ module _ (mask x : ℕ) where
   one-near k few = go (leb 128 x)
     where
       go : (b : Bool) → ltb (bitXor x mask % 128) k
-          ≡ nearBy k (onLine (cond b (pos (bitXor x mask % 128)) (negsuc (bitXor x mask % 128)))) (onLine (cond b (pos (bitXor x mask % 128)) (negsuc (bitXor x mask % 128))))
+          ≡ nearBy k (onLine (cond b (pos (bitXor x mask % 128)) (negsuc (bitXor x mask % 128))))
+          (onLine (cond b (pos (bitXor x mask % 128)) (negsuc (bitXor x mask % 128))))
       go true =
           let y = bitXor x mask % 128 in
           alike (ltb y k) (nearBy k (128 + y) (128 + y))
@@ -139,7 +150,8 @@ module _ (mask x : ℕ) where
         alike (eqb (bitXor x mask % 128) 0) (eqb x (128 + mask) || eqb x mask)
         (λ e. there (eqb x (128 + mask)) refl (eqb-true (bitXor x mask % 128) 0 e))
         (λ e. eq-eqb (bitXor x mask % 128) 0
-        (back (or-cases (x % 128 ≡ mask) (eqb x (128 + mask)) (eqb x mask) e (λ f. omega (arith, eqb-true x (128 + mask) f)) (λ f. omega (arith, eqb-true x mask f)))))
+        (back (or-cases (x % 128 ≡ mask) (eqb x (128 + mask)) (eqb x mask) e (λ f. omega (arith, eqb-true x (128 + mask) f))
+        (λ f. omega (arith, eqb-true x mask f)))))
       where
         back : x % 128 ≡ mask → bitXor x mask % 128 ≡ 0
         back e = low ∙ ap (λ (z : ℕ). bitXor z mask) e ∙ xor-self mask
@@ -156,9 +168,11 @@ every-more p s i h =
     let c = countOf p (take i s) in
     let n = length-take-le i s (omega arith) in
     let k = length-take-le (i + 1) s (omega arith) in
-    rw (n, k, ← (count-more s i h p {n = c} {r = cond (p (getD s i 0)) 1 0} refl refl)) (step (eqb c i) (p (getD s i 0)) refl (rw n at (count-le p (take i s))))
+    rw (n, k, ← (count-more s i h p {n = c} {r = cond (p (getD s i 0)) 1 0} refl refl))
+    (step (eqb c i) (p (getD s i 0)) refl (rw n at (count-le p (take i s))))
   where
-    step : (a b : Bool) → eqb (countOf p (take i s)) i ≡ a → countOf p (take i s) ≤ i → eqb (countOf p (take i s) + cond b 1 0) (i + 1) ≡ (a && b)
+    step : (a b : Bool) → eqb (countOf p (take i s)) i ≡ a → countOf p (take i s) ≤ i
+        → eqb (countOf p (take i s) + cond b 1 0) (i + 1) ≡ (a && b)
     step true true e le = let c = countOf p (take i s) in eq-eqb (c + 1) (i + 1) (omega (arith, eqb-true c i e))
     step false true e le = let c = countOf p (take i s) in ne-eqb (c + 1) (i + 1) (λ z. eqb-false c i e (omega (arith, z)))
     step true false e le = ne-eqb (countOf p (take i s) + 0) (i + 1) (λ z. omega (arith, z, le))
@@ -192,7 +206,8 @@ around-more mask first x any all over under =
     (λ e. let z = eqb-true (bitOr any y) (bitAnd all y) e in
     both (eqb any all) (eqb x first)
     (eq-eqb any all (omega (arith, z, or-left any y, and-le-l all y, over, under)))
-    (eq-eqb x first (xor-one-to-one mask x first (omega (arith, z, or-left any y, or-right any y, and-le-l all y, and-le-r all y, over, under)))))
+    (eq-eqb x first (xor-one-to-one mask x first
+    (omega (arith, z, or-left any y, or-right any y, and-le-l all y, and-le-r all y, over, under)))))
     (λ e. let f = eqb-true any all (and-left (eqb any all) (eqb x first) e) in
     let g = eqb-true x first (and-right (eqb any all) (eqb x first) e) in
     let v : y ≡ bitXor first mask = ap (λ (z : ℕ). bitXor z mask) g in
@@ -221,7 +236,8 @@ module _ (s : List ℕ) (n mask any all i : ℕ) (seven : mask < 128) (h : i < l
       record {
         over = omega (arith, a, is);
         under = omega (arith, b, is);
-        same = eq-eqb (bitOr any y) (bitAnd all y) (a ∙ sym b) ∙ sym (every-more p s i h ∙ both (every p (take i s)) (p (getD s i 0)) empty own);
+        same = eq-eqb (bitOr any y) (bitAnd all y) (a ∙ sym b)
+            ∙ sym (every-more p s i h ∙ both (every p (take i s)) (p (getD s i 0)) empty own);
       }
 
   around-next : Around mask (getD s 0 0) (take i s) any all → Around mask (getD s 0 0) (take (i + 1) s) (bitOr any y) (bitAnd all y)
@@ -230,13 +246,15 @@ module _ (s : List ℕ) (n mask any all i : ℕ) (seven : mask < 128) (h : i < l
       record {
         over = omega (arith, t .over, or-left any y);
         under = omega (arith, t .under, and-le-l all y);
-        same = around-more mask (getD s 0 0) (getD s i 0) any all (t .over) (t .under) ∙ ap (λ (b : Bool). b && p (getD s i 0)) (t .same) ∙ sym (every-more p s i h);
+        same = around-more mask (getD s 0 0) (getD s i 0) any all (t .over) (t .under) ∙ ap (λ (b : Bool). b && p (getD s i 0)) (t .same)
+            ∙ sym (every-more p s i h);
       }
 
   zeros-next : eqb (any % 128) 0 ≡ twoZeros mask (take i s) → eqb (bitOr any y % 128) 0 ≡ twoZeros mask (take (i + 1) s)
   zeros-next e =
       let p : ℕ → Bool = λ x. eqb x (plusZero mask) || eqb x (minusZero mask) in
-      ap (λ (z : ℕ). eqb z 0) (or-low any y) ∙ or-none (any % 128) (y % 128) ∙ ap₂ (λ (a b : Bool). a && b) e (one-zero mask (getD s i 0) seven octet) ∙ sym (every-more p s i h)
+      ap (λ (z : ℕ). eqb z 0) (or-low any y) ∙ or-none (any % 128) (y % 128)
+      ∙ ap₂ (λ (a b : Bool). a && b) e (one-zero mask (getD s i 0) seven octet) ∙ sym (every-more p s i h)
 
   near-next : (j : ℕ) → 2 ^ j ≤ 128 → ltb (any % 128) (2 ^ j) ≡ nearBy (2 ^ j) (leastOf mask (take i s)) (greatestOf mask (take i s))
       → ltb (bitOr any y % 128) (2 ^ j) ≡ nearBy (2 ^ j) (leastOf mask (take (i + 1) s)) (greatestOf mask (take (i + 1) s))
@@ -244,7 +262,8 @@ module _ (s : List ℕ) (n mask any all i : ℕ) (seven : mask < 128) (h : i < l
       let p = onLine (signed mask (getD s i 0)) in
       let l = leastOf mask (take i s) in
       let g = greatestOf mask (take i s) in
-      ap (λ (z : ℕ). ltb z (2 ^ j)) (or-low any y) ∙ or-below j (any % 128) (y % 128) ∙ ap₂ (λ (a b : Bool). a && b) e (one-near mask (getD s i 0) (2 ^ j) few) ∙ sym (near-more (2 ^ j) l g p)
+      ap (λ (z : ℕ). ltb z (2 ^ j)) (or-low any y) ∙ or-below j (any % 128) (y % 128)
+      ∙ ap₂ (λ (a b : Bool). a && b) e (one-near mask (getD s i 0) (2 ^ j) few) ∙ sym (near-more (2 ^ j) l g p)
       ∙ ap₂ (nearBy (2 ^ j)) (least-more s i h mask {n = l} {r = p} refl refl) (greatest-more s i h mask {n = g} {r = p} refl refl)
 
   pub spread-turn : i < n → SpreadTurn s n mask any all i → SpreadTurn s n mask (bitOr any y) (bitAnd all y) (i + 1)
@@ -262,6 +281,7 @@ module _ (s : List ℕ) (n mask any all i : ℕ) (seven : mask < 128) (h : i < l
       go true e = let z = eqb-true i 0 e in around-first z (t .none z .0) (t .none z .1)
       go false e = around-next (t .some (let f = eqb-false i 0 e in omega (arith, f)))
 
-pub spread-done : {s : List ℕ} {n mask any all i : ℕ} → 1 ≤ n → i ≡ n → SpreadTurn s n mask any all i → SpreadIs mask (getD s 0 0) (take n s) (record { any = any; all = all })
+pub spread-done : {s : List ℕ} {n mask any all i : ℕ} → 1 ≤ n → i ≡ n → SpreadTurn s n mask any all i
+    → SpreadIs mask (getD s 0 0) (take n s) (record { any = any; all = all })
 spread-done {s} {n} {mask} {any} {all} h e t =
     rw (← e) (record { same = t .some (omega arith) .same; zeros = t .zeros; close = t .close; about = t .about })

@@ -23,11 +23,13 @@ and-zero false = refl
 
 -- the masks have seven bits
 pub mask-seven : (mask : ℕ) → isMask mask ≡ true → mask < 128
-mask-seven mask h = or-cases (mask < 128) (eqb mask 0x55) (eqb mask 0x7F) h (λ e. omega (arith, eqb-true mask 0x55 e)) (λ e. omega (arith, eqb-true mask 0x7F e))
+mask-seven mask h = or-cases (mask < 128) (eqb mask 0x55) (eqb mask 0x7F) h (λ e. omega (arith, eqb-true mask 0x55 e))
+    (λ e. omega (arith, eqb-true mask 0x7F e))
 
 -- each is a law's
 pub law-for : (mask : ℕ) → isMask mask ≡ true → LawMask mask
-law-for mask h = or-cases (LawMask mask) (eqb mask 0x55) (eqb mask 0x7F) h (λ e. rw (eqb-true mask 0x55 e) (law-mask 0)) (λ e. rw (eqb-true mask 0x7F e) (law-mask 1))
+law-for mask h = or-cases (LawMask mask) (eqb mask 0x55) (eqb mask 0x7F) h (λ e. rw (eqb-true mask 0x55 e) (law-mask 0))
+    (λ e. rw (eqb-true mask 0x7F e) (law-mask 1))
 
 pub is-mask : (law : ℕ) → isMask (maskOf law) ≡ true
 is-mask law = go (eqb law 0)

@@ -22,7 +22,8 @@ unfoldable Places : ℕ → List Delivered → Type 0
 Places o [] = Unit {0}
 Places o (f ∷ fs) = (f .place ≤ o) × Places o fs
 
-marks-small : (i before : ℕ) (fs : List Delivered) (o s : ℕ) → Places o fs → before + length (samplesKept fs) ≤ s → Small o s (marksFrom i before fs)
+marks-small : (i before : ℕ) (fs : List Delivered) (o s : ℕ) → Places o fs → before + length (samplesKept fs) ≤ s
+    → Small o s (marksFrom i before fs)
 unfolding marksFrom samplesKept Small Places
 marks-small i before [] o s h g = tt
 marks-small i before (f ∷ fs) o s h g =
@@ -42,7 +43,8 @@ module _ (octets : List ℕ) (law set : ℕ) where
   places-of (refused h e) = tt
   places-of {n = suc n} {at} {room} (delivers h e t) = (omega arith, places-of t)
 
-pub note-small : (law : ℕ) (xs : List ℕ) → (noteOf law xs .samples ≤ 320 * length xs) × Small (length xs) (320 * length xs) (noteOf law xs .marks)
+pub note-small : (law : ℕ) (xs : List ℕ) → (noteOf law xs .samples ≤ 320 * length xs) × Small (length xs) (320 * length xs)
+    (noteOf law xs .marks)
 unfolding marksFrom samplesKept Small
 note-small law xs = go (decLt mostLaw law) (decLt longest (length xs))
   where

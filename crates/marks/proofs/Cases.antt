@@ -23,7 +23,8 @@ unfolding lowBits bitsOf bit numberFrom filled rows lookUp firstOctet baseOf sam
 sixty-five-pads = refl
 
 -- 64 frames of 40 samples and a pad
-pub samples-before : noteOf 1 (replicate 64 0x41 ++ (0x00 ∷ [])) ≡ record { law = 1; samples = 2560; marks = markOf 0 0 ∷ markOf 64 2560 ∷ [] }
+pub samples-before : noteOf 1 (replicate 64 0x41 ++ (0x00 ∷ [])) ≡ record
+    { law = 1; samples = 2560; marks = markOf 0 0 ∷ markOf 64 2560 ∷ [] }
 unfolding lowBits bitsOf bit numberFrom filled rows lookUp firstOctet baseOf sampleOf holds body withTool afterFirst frame readOne
     walkFrom walkAll samplesKept marksFrom
 samples-before = refl

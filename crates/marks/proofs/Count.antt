@@ -1,5 +1,5 @@
--- How many marks there are: one for each 64 frames begun (`marks-count`); so no more than a greeting's octets can have (`note-few`), and up to
--- exactly 64 frames one alone (`one-of-64`).
+-- How many marks there are: one for each 64 frames begun (`marks-count`); so no more than a greeting's octets can have (`note-few`), and up
+-- to exactly 64 frames one alone (`one-of-64`).
 use Prim.Native.Nat.{ℕ, suc, _+_, _*_, _/_, _%_, _≤_, _<_}
 use mathlib.Core.Path.{_≡_, refl, sym, ap, _∙_}
 use mathlib.Core.List.{List, [], _∷_}
@@ -64,7 +64,8 @@ note-few law xs =
     omega (arith, marks-count (walkOf law xs .frames))
 
 -- a mark stands for a frame that there is: up to exactly 64 frames the one of frame 0 alone
-one-mark : (at : ℕ) (fs : List Delivered) → 1 ≤ length fs → length fs ≤ 64 → ((f : Delivered) (r : List Delivered) → fs ≡ f ∷ r → f .place ≡ at)
+one-mark : (at : ℕ) (fs : List Delivered) → 1 ≤ length fs → length fs ≤ 64
+    → ((f : Delivered) (r : List Delivered) → fs ≡ f ∷ r → f .place ≡ at)
     → marksOf fs ≡ markOf at 0 ∷ []
 one-mark at [] h g p = absurd (omega arith)
 one-mark at (f ∷ fs) h g p = marks-one 0 0 at f fs refl (p f fs refl) (omega arith)

@@ -1,6 +1,6 @@
--- A greeting's walk, 64 frames at a time. What is done after m times is the walk of 64 * m frames: `along-start`, `along-turn`. It stops at a
--- refused frame, which makes the greeting BAD (`taken-wrong`), or at the greeting's end, with the marks and the samples that the whole walk gives
--- (`taken-all`).
+-- A greeting's walk, 64 frames at a time. What is done after m times is the walk of 64 * m frames: `along-start`, `along-turn`. It stops at
+-- a refused frame, which makes the greeting BAD (`taken-wrong`), or at the greeting's end, with the marks and the samples that the whole
+-- walk gives (`taken-all`).
 use Prim.Native.Nat.{ℕ, suc, _+_, _*_, _-_, _≤_, _<_}
 use mathlib.Core.Path.{_≡_, refl, sym, ap, _∙_}
 use mathlib.Core.List.{List, [], _∷_, _++_, append-assoc, append-nil}
@@ -140,7 +140,8 @@ module _ (law : ℕ) (xs : List ℕ) where
     module _ (l : law ≤ mostLaw) (g : length xs ≤ longest) where
       whole : (n : ℕ) → walkOf law xs ≡ walkFrom (n + (length xs + 1)) xs law storeSet 0 (320 * length xs)
       whole n =
-          walk-of law xs l g ∙ walk-fuel xs law storeSet (length xs + 1) (n + (length xs + 1)) 0 (320 * length xs) (omega arith) (omega arith)
+          walk-of law xs l g ∙ walk-fuel xs law storeSet (length xs + 1) (n + (length xs + 1)) 0 (320 * length xs)
+          (omega arith) (omega arith)
 
       -- a frame that is refused
       pub along-wrong : (h : at < length xs) {r : Refusal} → next at .end ≡ Refused r → isBad law xs ≡ true
@@ -177,7 +178,8 @@ module _ (law : ℕ) (xs : List ℕ) where
           where
             go : (e : Ending) → next at .end ≡ e → e ≡ Done
             go Done q = refl
-            go (Refused r) q = let z : _≡_ {A = Bool} true false = sym (along-wrong h q) ∙ f in let k : _≡_ {A = ℕ} 0 1 = cc in absurd (omega arith)
+            go (Refused r) q = let z : _≡_ {A = Bool} true false = sym (along-wrong h q) ∙ f in let k : _≡_ {A = ℕ} 0 1 = cc in
+                absurd (omega arith)
 
         pub marks-over : length xs ≤ at → drop m (noteOf law xs .marks) ≡ []
         marks-over h =
@@ -195,7 +197,8 @@ module _ (law : ℕ) (xs : List ℕ) where
         let mark = markOf at samples in
         let all : noteOf law xs .marks ≡ (old ++ (mark ∷ [])) ++ a .rest =
         a .all ∙ ap (λ (ms : List Mark). ms ++ a .rest) (marks-next w h d) in
-        let one = ap (λ (ms : List Mark). drop m ms) (all ∙ append-assoc old (mark ∷ []) (a .rest)) ∙ drop-at old (mark ∷ a .rest) m (w .count) in
+        let one = ap (λ (ms : List Mark). drop m ms) (all ∙ append-assoc old (mark ∷ []) (a .rest))
+        ∙ drop-at old (mark ∷ a .rest) m (w .count) in
         let two = ap (λ (ms : List Mark). drop (m + 1) ms) all
         ∙ drop-at (old ++ (mark ∷ [])) (a .rest) (m + 1) (length-append old (mark ∷ []) ∙ ap (λ (k : ℕ). k + 1) (w .count)) in
         one ∙ ap (λ (ms : List Mark). mark ∷ ms) (sym two)
@@ -224,7 +227,8 @@ module _ (law : ℕ) (xs : List ℕ) where
     pub taking-on : {r : WalkAnswer} → Counts (next at) r → r .end ≡ Done → at < length xs → at < r .place
     taking-on c e h = omega (arith, c .place, next-on (t .along) h (sym (c .end) ∙ e))
 
-    pub taking-turn : (h : at < length xs) {r : WalkAnswer} {cells′ : List ℕ} → Counts (next at) r → r .end ≡ Done → Keeps m at samples cells cells′
+    pub taking-turn : (h : at < length xs) {r : WalkAnswer} {cells′ : List ℕ} → Counts (next at) r → r .end ≡ Done
+        → Keeps m at samples cells cells′
         → length cells′ ≡ length cells → Taking cells₀ cells′ (m + 1) (r .place) (samples + r .samples)
     taking-turn h {r} {cells′} c e kept same =
         let d = sym (c .end) ∙ e in
@@ -245,7 +249,8 @@ module _ (law : ℕ) (xs : List ℕ) where
 
     -- the call's answers
     module _ (l : law ≤ mostLaw) (g : length xs ≤ longest) where
-      pub taken-wrong : (h : at < length xs) {r : WalkAnswer} {why : Refusal} → Counts (next at) r → r .end ≡ Refused why → (cells′ : List ℕ)
+      pub taken-wrong : (h : at < length xs) {r : WalkAnswer} {why : Refusal} → Counts (next at) r → r .end ≡ Refused why
+          → (cells′ : List ℕ)
           → Takes law xs cells₀ cells′ Wrong
       taken-wrong h c e cells′ = takes-wrong law xs cells₀ cells′ (along-wrong (t .along) l g h (sym (c .end) ∙ e))
 

@@ -1,5 +1,5 @@
--- Document 02, R-8: "Add to each stored greeting its law, its total samples, and a mark for frames 0, 64, 128 and so on, pads counted: octets and
--- samples before it."
+-- Document 02, R-8: "Add to each stored greeting its law, its total samples, and a mark for frames 0, 64, 128 and so on, pads counted:
+-- octets and samples before it."
 use Prim.Native.Nat.{ℕ, _+_, _/_, _%_}
 use mathlib.Core.List.{List, [], _∷_}
 use mathlib.Core.Bool.{Bool, cond}
@@ -29,8 +29,8 @@ markOf octets samples = record { octets = octets; samples = samples }
 abbrev pub isMarked : ℕ → Bool
 isMarked i = eqb (i % framesApart) 0
 
--- of the frames that the walk delivers, pads among them: the first of these is frame i, and so many samples stand before it.
--- A mark is the frame's place and the samples before it; so it stands for a frame that there is: after exactly 64 frames there is no second one.
+-- of the frames that the walk delivers, pads among them: the first of these is frame i, and so many samples stand before it. A mark is the
+-- frame's place and the samples before it; so it stands for a frame that there is: after exactly 64 frames there is no second one.
 unfoldable pub marksFrom : ℕ → ℕ → List Delivered → List Mark
 marksFrom i before [] = []
 marksFrom i before (f ∷ fs) =

@@ -16,8 +16,8 @@ countedOf n = Counted (n .samples) (length (n .marks))
 unfoldable pub tallyOf : ℕ → List ℕ → Tally
 tallyOf law xs = cond (isBad law xs) Wrong (countedOf (noteOf law xs))
 
--- the marks stand at the start of the lent cells, the rest as lent. Where they have no room there, or it is BAD, the cells are left in any state:
--- a greeting's marks are counted, however many there are
+-- the marks stand at the start of the lent cells, the rest as lent. Where they have no room there, or it is BAD, the cells are left in any
+-- state: a greeting's marks are counted, however many there are
 pub record Takes (law : ℕ) (xs cells cells′ : List ℕ) (r : Tally) : Type 0 where
   pub answer : r ≡ tallyOf law xs
   pub lent :

@@ -1,6 +1,5 @@
 // Marks inside a greeting (document 02, R-8): its samples and its marks, taken as its walk goes.
 // What they are stands in specs/Marks.
-ghost use mathlib.Core.Path.{_≡_};
 ghost use Prim.Native.Nat.{_^_, _≤_, _<_};
 ghost use lib.ListN.{length};
 ghost use Rattle.rules.specs.Tools.{mostLaw};

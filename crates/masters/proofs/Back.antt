@@ -1,17 +1,17 @@
 -- A recording through a master and back: octet for octet, but for 7F of mu, which returns as FF.
-use Prim.Native.Nat.{ℕ, zero, suc, _+_, _-_, _*_, _/_, _%_, _≤_, _<_}
-use mathlib.Core.Path.{_≡_, refl, sym, ap, _∙_}
+use Prim.Native.Nat.{ℕ, suc, _+_, _-_, _*_, _/_, _<_}
+use mathlib.Core.Path.{_≡_, refl, ap, _∙_}
 use mathlib.Core.Bool.{Bool, true, false, cond}
-use mathlib.Core.List.{List, [], _∷_, map}
+use mathlib.Core.List.{List, map}
 use native.Mathlib.Omega.{arith}
 use lib.Dec.{eqb}
-use lib.IntN.{ℤ, pos, negsuc, negℤ, natAbs, _*ℤ_}
+use lib.IntN.{ℤ, pos, negsuc, _*ℤ_}
 use lib.Signed.{mag, shrZ}
 use borrow.Author.Tests.{lt-ltb, le-ltb}
 use Rattle.rules.proofs.Octets.{Below, none, more}
 use Rattle.linear.specs.Equations.{toPCM, fromPCM}
 use Rattle.linear.proofs.Returns.{a-returns, mu-returns, minusAsPlus}
-use Rattle.masters.specs.Masters.{unitOf, valueOf, lowOf, highOf, valuesOf, pairsOf, sampleFor, valueFor, soundOf, masterOf}
+use Rattle.masters.specs.Masters.{unitOf, valueOf, lowOf, highOf, valuesOf, pairsOf, valueFor, soundOf, masterOf}
 use Rattle.masters.proofs.Values.{mag-value}
 
 -- a value of 16 bits from its octets

@@ -1,15 +1,13 @@
 -- Octets in pairs: lengths and elements; a list laid into a lent one, element by element; and a value from its octets.
-use Prim.Native.Nat.{ℕ, zero, suc, _+_, _-_, _*_, _/_, _%_, _≤_, _<_, min}
+use Prim.Native.Nat.{ℕ, zero, suc, _+_, _-_, _*_, _/_, _≤_, _<_}
 use native.Mathlib.Nat.{zero-add}
 use native.Mathlib.Numerals.{add-one}
-use mathlib.Core.Path.{_≡_, refl, sym, ap, _∙_, subst}
-use mathlib.Core.Bool.{cond}
+use mathlib.Core.Path.{_≡_, refl, sym, ap, _∙_}
 use mathlib.Core.List.{List, [], _∷_, _++_, map}
 use native.Mathlib.Omega.{arith}
-use lib.IntN.{ℤ, pos, negsuc}
+use lib.IntN.{ℤ, pos}
 use lib.ListN.{length, take, drop, getD, set, length-map, List·getD-map}
 use lib.Seq.{paste, paste-suc, length-paste}
-use borrow.Author.Tests.{lt-ltb, le-ltb}
 use Rattle.masters.specs.declared.Pair.{Pair}
 use Rattle.masters.specs.Masters.{valueOf, lowOf, highOf, valuesOf, pairsOf, sampleFor, valueFor, soundOf, masterOf, Splits}
 

@@ -1,20 +1,18 @@
 -- One value and its octets, in the code's expressions.
 use Prim.Native.Nat.{ℕ, zero, suc, _+_, _-_, _*_, _/_, _%_, _≤_, _<_}
-use mathlib.Core.Path.{_≡_, refl, sym, ap, _∙_}
+use mathlib.Core.Path.{_≡_, refl, ap, _∙_}
 use mathlib.Core.Bool.{Bool, true, false, cond}
 use native.Mathlib.Omega.{arith}
 use lib.Dec.{eqb, ltb}
-use lib.Bits.{bitXor, bitAnd}
 use lib.IntN.{ℤ, pos, negsuc, negℤ, natAbs, _*ℤ_}
 use lib.Signed.{mag, shrZ, mag-shr}
 use mir.Syntax.{w16}
 use mir.Val.{SFits, toZ, ofZ}
 use mir.Facts.{toZ-ofZ}
 use borrow.Author.Tests.{eq-eqb, ne-eqb, lt-ltb, le-ltb, ltb-true}
-use Rattle.rules.proofs.Tests.{allBelow, allBelow-at}
-use Rattle.linear.specs.Equations.{A→PCM, μ→PCM, toPCM, fromPCM}
+use Rattle.rules.proofs.Tests.{allBelow-at}
+use Rattle.linear.specs.Equations.{A→PCM, μ→PCM, toPCM}
 use Rattle.linear.proofs.Signs.{Below, Above}
-use Rattle.masters.specs.declared.Pair.{Pair}
 use Rattle.masters.specs.Masters.{unitOf, valueOf, lowOf, highOf, valueFor, Splits}
 
 pub unit-a : (law : ℕ) → law ≡ 0 → 8 ≡ unitOf law
@@ -41,7 +39,8 @@ unfolding lowOf highOf
 splits-above b e = record { low = rw (e, b .is); high = rw (e, b .is) }
 
 -- a shift
-pub shifted : (law : ℕ) {v : ℤ} {k : ℕ} → SFits w16 v → k ≡ unitOf law → toZ w16 (ofZ w16 (shrZ (toZ w16 (ofZ w16 v)) k)) ≡ shrZ v (unitOf law)
+pub shifted : (law : ℕ) {v : ℤ} {k : ℕ} → SFits w16 v → k ≡ unitOf law
+    → toZ w16 (ofZ w16 (shrZ (toZ w16 (ofZ w16 v)) k)) ≡ shrZ v (unitOf law)
 shifted law {v} {k} f e =
     ap (λ (z : ℤ). toZ w16 (ofZ w16 (shrZ z k))) (toZ-ofZ f)
     ∙ toZ-ofZ {w = w16} (record { sfits = omega (arith, mag-shr v k, f .sfits) })
@@ -79,8 +78,10 @@ pub record Raised (law o : ℕ) (z : ℤ) : Type 0 where
   pub fits : SFits w16 z
   pub is : toZ w16 (ofZ w16 z) ≡ valueFor law o
 
-pub raised : (law o : ℕ) {r : ℤ} {k : ℕ} → SFits w16 r → r ≡ toPCM law o → k ≡ unitOf law → o < 256 → Raised law o (toZ w16 (ofZ w16 r) *ℤ pos k)
+pub raised : (law o : ℕ) {r : ℤ} {k : ℕ} → SFits w16 r → r ≡ toPCM law o → k ≡ unitOf law → o < 256
+    → Raised law o (toZ w16 (ofZ w16 r) *ℤ pos k)
 raised law o {r} {k} f e g h =
-    let z : toZ w16 (ofZ w16 r) *ℤ pos k ≡ valueFor law o = ap (λ (v : ℤ). v *ℤ pos k) (toZ-ofZ f ∙ e) ∙ ap (λ (n : ℕ). toPCM law o *ℤ pos n) g in
+    let z : toZ w16 (ofZ w16 r) *ℤ pos k ≡ valueFor law o = ap (λ (v : ℤ). v *ℤ pos k) (toZ-ofZ f ∙ e)
+    ∙ ap (λ (n : ℕ). toPCM law o *ℤ pos n) g in
     let t : SFits w16 (valueFor law o) = record { sfits = mag-value law o h } in
     rw z (record { fits = t; is = toZ-ofZ t })

@@ -1,10 +1,8 @@
 // Masters of signed 16-bit values, low octet first, as samples of a law, and back.
-ghost use Prim.Native.Nat.{_+_, _*_, _/_, _≤_, _<_, min};
+ghost use Prim.Native.Nat.{_+_, _*_, _/_, _<_, min};
 ghost use mathlib.Core.Path.{_≡_};
-ghost use mathlib.Core.List.{_++_};
-ghost use lib.ListN.{length, take, drop};
 ghost use lib.Signed.{shrZ};
-ghost use Rattle.masters.specs.Masters.{unitOf, valueOf, lowOf, highOf, sampleFor, valueFor, soundOf, masterOf, Splits, Sounds, Masters};
+ghost use Rattle.masters.specs.Masters.{unitOf, valueOf, sampleFor, valueFor, Splits, Sounds, Masters};
 
 // A value's two octets.
 pub struct Pair {

@@ -25,7 +25,8 @@ unfolding riceForms
 forms-append s [] b = refl
 forms-append s (v ∷ a) b = rw (forms-append s a b, append-assoc)
 
-pub forms-suc : (s : ℕ) (l : List ℕ) (j : ℕ) → j < length l → riceForms s (take (j + 1) l) ≡ riceForms s (take j l) ++ riceForm s (getD l j 0)
+pub forms-suc : (s : ℕ) (l : List ℕ) (j : ℕ) → j < length l
+    → riceForms s (take (j + 1) l) ≡ riceForms s (take j l) ++ riceForm s (getD l j 0)
 unfolding riceForms
 forms-suc s l j h = rw (add-one, take-suc l j 0, forms-append, append-nil)
 

@@ -21,7 +21,8 @@ use Rattle.measure.specs.declared.Least.{Least}
 use Rattle.measure.specs.Measures.{bitsWith, LeastIs}
 
 -- the zeros of one run more; with each run go its one and its S low bits
-pub bits-turn : (s : ℕ) (runs : List ℕ) (j zeros r : ℕ) → j < length runs → zeros + j * (1 + s) ≡ length (riceForms s (take j runs)) → r ≡ getD runs j 0 / 2 ^ s
+pub bits-turn : (s : ℕ) (runs : List ℕ) (j zeros r : ℕ) → j < length runs → zeros + j * (1 + s) ≡ length (riceForms s (take j runs))
+    → r ≡ getD runs j 0 / 2 ^ s
     → zeros + r + (j + 1) * (1 + s) ≡ length (riceForms s (take (j + 1) runs))
 unfolding riceForm
 bits-turn s runs j zeros r h e b =
@@ -93,19 +94,23 @@ forms-least s [] = rw (zero-mul (1 + s)) (omega arith)
 forms-least s (v ∷ runs) = rw (suc-mul (length runs) (1 + s), length-append, length-riceForm) (omega (arith, forms-least s runs))
 
 -- so where they reach a number of bits, no larger S needs fewer
-pub no-fewer : (extra runs : List ℕ) (count k : ℕ) {b : ℕ} → count ≤ length runs → b ≤ count * (1 + k) → (j : ℕ) → k ≤ j → b ≤ bitsWith extra (take count runs) j
+pub no-fewer : (extra runs : List ℕ) (count k : ℕ) {b : ℕ} → count ≤ length runs → b ≤ count * (1 + k) → (j : ℕ) → k ≤ j
+    → b ≤ bitsWith extra (take count runs) j
 no-fewer extra runs count k long h j g =
     let more : count * (1 + k) ≤ count * (1 + j) = mul-le-mul {n₂ = count} {m₂ = 1 + j} (omega arith) (omega arith) in
-    let all : count * (1 + j) ≤ length (riceForms j (take count runs)) = rw (length-take-le count runs long) at (forms-least j (take count runs)) in
+    let all : count * (1 + j) ≤ length (riceForms j (take count runs)) =
+    rw (length-take-le count runs long) at (forms-least j (take count runs)) in
     omega arith
 
 -- and the search ends with what it has
 least-kept : (f : ℕ → ℕ) (best k more : ℕ) → ((j : ℕ) → k ≤ j → f best ≤ f j) → leastFrom f best k more ≡ best
 unfolding leastFrom
 least-kept f best k zero h = refl
-least-kept f best k (suc more) h = rw (le-ltb (f k) (f best) (h k (omega arith))) (least-kept f best (k + 1) more (λ j g. h j (omega arith)))
+least-kept f best k (suc more) h = rw (le-ltb (f k) (f best) (h k (omega arith)))
+    (least-kept f best (k + 1) more (λ j g. h j (omega arith)))
 
-pub least-stop : {f : ℕ → ℕ} {most : ℕ} {best : Least} (k : ℕ) → Leasting f most best k → ((j : ℕ) → k ≤ j → best .bits ≤ f j) → LeastIs f most best
+pub least-stop : {f : ℕ → ℕ} {most : ℕ} {best : Least} (k : ℕ) → Leasting f most best k → ((j : ℕ) → k ≤ j → best .bits ≤ f j)
+    → LeastIs f most best
 least-stop {f} {most} {best} k t h =
     let kept = least-kept f (best .s) k (most + 1 - k) (λ j g. rw (t .bits) at (h j g)) in
     record { s = sym kept ∙ t .says; bits = t .bits; from = t .from; to = omega (arith, t .to, t .within); small = t .small }

@@ -4,19 +4,19 @@ use native.Mathlib.Omega.{arith}
 use native.Mathlib.Nat.{mul-suc}
 use mathlib.Core.Path.{_≡_, refl, sym, ap, subst, _∙_}
 use mathlib.Core.List.{List, [], _∷_, _++_, append-assoc, append-nil}
-use mathlib.Core.Bool.{Bool, true}
+use mathlib.Core.Bool.{true}
 use lib.ListN.{length, drop, replicate, length-append, length-replicate, replicate-append-replicate}
 use lib.Seq.{drop-append-seam}
 use lib.Dec.{eqb, lit<}
 use lib.IntN.{pos}
 use borrow.Author.Tests.{eq-eqb}
 use Rattle.rules.specs.declared.Ending.the-variants.{Done}
-use Rattle.rules.specs.Tools.{allTools, holds, isSet, isLaw, isLength}
+use Rattle.rules.specs.Tools.{allTools, holds, isLaw, isLength}
 use Rattle.rules.specs.Bits.{lowBits, octetsFrom, valueFrom, pack}
 use Rattle.rules.specs.First.{baseOf, octetFor}
 use Rattle.rules.specs.Samples.{maskOf, plusZero}
 use Rattle.rules.specs.Reading.{whole}
-use Rattle.rules.specs.Frame.{Found, octetsUsed, readOne}
+use Rattle.rules.specs.Frame.{Found, readOne}
 use Rattle.rules.specs.Chooses.{countOf, applies, formOf}
 use Rattle.rules.specs.Walk.{Delivered, samplesKept}
 use Rattle.rules.proofs.Octets.{below-replicate, length-lowBits}
@@ -64,7 +64,8 @@ pub data PlusFrames : List ℕ → ℕ → Type 0 where
   none : PlusFrames [] 0
   one : (n : ℕ) {left : ℕ} {octets : List ℕ} → isLength n ≡ true → PlusFrames octets left → PlusFrames (octetFor 2 n ∷ octets) (n + left)
 
-many : (k n : ℕ) {left : ℕ} {octets : List ℕ} → isLength n ≡ true → PlusFrames octets left → PlusFrames (replicate k (octetFor 2 n) ++ octets) (n * k + left)
+many : (k n : ℕ) {left : ℕ} {octets : List ℕ} → isLength n ≡ true → PlusFrames octets left
+    → PlusFrames (replicate k (octetFor 2 n) ++ octets) (n * k + left)
 many zero n {left} l p = let e : n * 0 + left ≡ left = omega arith in rw e p
 many (suc k) n {left} l p = let e : n * suc k + left ≡ n + (n * k + left) = mul-step in rw e (one n l (many k n l p))
   where
@@ -87,17 +88,20 @@ filling-plus left h =
     let b40 : b % 40 ≡ 0 = omega (arith, a40) in
     let c40 : c % 40 ≡ 0 = omega (arith, b40) in
     let e : d % 40 ≡ 0 = omega (arith, c40) in
-    next 320 left refl (next 240 a refl (next 160 b refl (next 80 c refl (next 40 d refl (rw e none) (omega arith)) (omega arith)) (omega arith))
+    next 320 left refl (next 240 a refl
+    (next 160 b refl (next 80 c refl (next 40 d refl (rw e none) (omega arith)) (omega arith)) (omega arith))
     (omega arith)) (omega arith)
 
 -- walked behind what stands before them
 pub record FilledUp (before octets : List ℕ) (law room left : ℕ) : Type 0 where
   pub frames : List Delivered
-  pub walks : WalkOf (before ++ octets) law allTools (length before) room (record { frames = frames; end = Done; place = length (before ++ octets); bit = 0 })
+  pub walks : WalkOf (before ++ octets) law allTools (length before) room
+      (record { frames = frames; end = Done; place = length (before ++ octets); bit = 0 })
   pub samples : samplesKept frames ≡ replicate left (plusZero (maskOf law))
   pub count : length frames ≡ length octets
 
-pub plus-walks : (law : ℕ) → isLaw law ≡ true → {octets : List ℕ} {left : ℕ} → PlusFrames octets left → (before : List ℕ) (room : ℕ) → left ≤ room
+pub plus-walks : (law : ℕ) → isLaw law ≡ true → {octets : List ℕ} {left : ℕ} → PlusFrames octets left → (before : List ℕ) (room : ℕ)
+    → left ≤ room
     → FilledUp before octets law room left
 unfolding samplesKept
 plus-walks law i none before room r =
@@ -113,7 +117,8 @@ plus-walks law i (one n {left = left} {octets = octets} l p) before room r =
     let size : length (f .samples) ≡ n = length-replicate n (plusZero (maskOf law)) in
     let rest = plus-walks law i p (before ++ (o ∷ [])) (room - n) (omega arith) in
     let here : drop (length before) (before ++ (o ∷ octets)) ≡ o ∷ octets = drop-append-seam before (o ∷ octets) in
-    let read : readOne (drop (length before) (before ++ (o ∷ octets))) law allTools room ≡ whole f 8 = rw here (plus-read law n room octets i l
+    let read : readOne (drop (length before) (before ++ (o ∷ octets))) law allTools room ≡ whole f 8 =
+    rw here (plus-read law n room octets i l
     (omega arith)) in
     let on : length (before ++ (o ∷ [])) ≡ length before + 1 = length-append before (o ∷ []) in
     let walk : WalkOf (before ++ (o ∷ octets)) law allTools (length before + 1) (room - length (f .samples))

@@ -1,18 +1,16 @@
 -- Streams joined: a walk that ends clean has gone through all its octets (`clean`), and over those octets and more it delivers the same
 -- frames first, and then goes on (`joined`). What a walk keeps is a stream of its own (`kept-walks`).
-use Prim.Native.Nat.{ℕ, suc, _+_, _-_, _≤_, _<_}
+use Prim.Native.Nat.{ℕ, _+_, _-_, _≤_}
 use native.Mathlib.Omega.{arith}
-use mathlib.Core.Path.{_≡_, refl, sym, ap, subst, _∙_}
-use mathlib.Core.List.{List, [], _∷_, _++_}
+use mathlib.Core.Path.{_≡_, refl, sym, _∙_}
+use mathlib.Core.List.{List, _++_}
 use lib.ListN.{length, take, drop, length-append}
 use lib.Seq.{drop-append-le, take-all}
-use Rattle.rules.specs.declared.Refusal.{Refusal}
-use Rattle.rules.specs.declared.Refusal.the-variants.{Short}
 use Rattle.rules.specs.declared.Ending.{Ending}
 use Rattle.rules.specs.declared.Ending.the-variants.{Done, Refused}
-use Rattle.rules.specs.Reading.{whole, refuse}
-use Rattle.rules.specs.Frame.{octetsUsed, readOne}
-use Rattle.rules.specs.Walk.{Delivered, Walked, before, walkAll, octetsKept, samplesKept}
+use Rattle.rules.specs.Reading.{whole}
+use Rattle.rules.specs.Frame.{readOne}
+use Rattle.rules.specs.Walk.{Walked, walkAll, octetsKept, samplesKept}
 use Rattle.rules.proofs.Walk.{after}
 use Rattle.rules.proofs.Gives.{no-refusal}
 use Rattle.promises.proofs.Further.{looks-no-further}
@@ -25,7 +23,8 @@ pub record Clean (octets : List ℕ) (at : ℕ) (w : Walked) : Type 0 where
   pub place : w .place ≡ length octets
   pub bit : w .bit ≡ 0
 
-pub clean : {octets : List ℕ} {law set at room : ℕ} {w : Walked} → WalkOf octets law set at room w → at ≤ length octets → w .end ≡ Done → Clean octets at w
+pub clean : {octets : List ℕ} {law set at room : ℕ} {w : Walked} → WalkOf octets law set at room w → at ≤ length octets
+    → w .end ≡ Done → Clean octets at w
 unfolding octetsKept
 clean (ended h) l e = record { used = omega arith; place = omega arith; bit = refl }
 clean (refused h d) l e = let z : _≡_ {A = ℕ} 0 1 = cc in absurd (omega arith)
@@ -33,7 +32,8 @@ clean {octets} {law} {set} {at} {room} (delivers h d t) l e =
     let i = clean t (uses octets law set at room h d .1) e in
     record { used = omega (arith, i .used); place = i .place; bit = i .bit }
 
-pub joined : {p : List ℕ} {law set at room : ℕ} {w : Walked} (q : List ℕ) {v : Walked} → WalkOf p law set at room w → at ≤ length p → w .end ≡ Done
+pub joined : {p : List ℕ} {law set at room : ℕ} {w : Walked} (q : List ℕ) {v : Walked} → WalkOf p law set at room w
+    → at ≤ length p → w .end ≡ Done
     → WalkOf (p ++ q) law set (length p) (room - length (samplesKept (w .frames))) v → WalkOf (p ++ q) law set at room (after (w .frames) v)
 unfolding samplesKept
 joined {p} {law} {set} {at} {room} q {v} (ended h) l e on =
@@ -49,7 +49,8 @@ joined {p} {law} {set} {at} {room} q {v} (delivers {f = f} {j = j} {rest = w} h 
     = omega (arith, length-append (f .samples) (samplesKept (w .frames))) in
     delivers {at = at} (omega (arith, length-append p q)) same (joined q t (uses p law set at room h d .1) e (rw m at on))
 
-walked-is : (w : Walked) {e : Ending} {p b : ℕ} → w .end ≡ e → w .place ≡ p → w .bit ≡ b → w ≡ record { frames = w .frames; end = e; place = p; bit = b }
+walked-is : (w : Walked) {e : Ending} {p b : ℕ} → w .end ≡ e → w .place ≡ p → w .bit ≡ b
+    → w ≡ record { frames = w .frames; end = e; place = p; bit = b }
 walked-is w h k l = rw (← h, ← k, ← l) refl
 
 -- what a walk keeps, as a stream of its own

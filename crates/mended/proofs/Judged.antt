@@ -1,8 +1,9 @@
 -- "Refusals, in order: LAW, LONG for the greeting, TOTAL (22) .., LONG for the result, ROOM; a refusal writes nothing": each case of a call
--- with all that is then so (`judged`), what is so of a mended greeting (`made`), a refusal (`refused-mend`), and no second answer (`only-mend`).
+-- with all that is then so (`judged`), what is so of a mended greeting (`made`), a refusal (`refused-mend`), and no second answer
+-- (`only-mend`).
 use Prim.Native.Nat.{ℕ, _≤_, _<_}
 use native.Mathlib.Omega.{arith}
-use mathlib.Core.Path.{_≡_, refl, sym, ap, _∙_}
+use mathlib.Core.Path.{_≡_, refl, sym, _∙_}
 use mathlib.Core.List.{List}
 use mathlib.Core.Bool.{Bool, true, false, cond, not}
 use lib.ListN.{length}
@@ -41,9 +42,11 @@ module _ (octets : List ℕ) (law total room : ℕ) where
 
   pub judged : Judged (mendOf octets law total room)
   unfolding mendOf inRoom
-  judged = go (isLaw law) (leb (length octets) longest) (isTotal total) (leb (length result) longest) (ltb room (length result)) refl refl refl refl refl
+  judged = go (isLaw law) (leb (length octets) longest) (isTotal total) (leb (length result) longest) (ltb room (length result))
+      refl refl refl refl refl
     where
-      go : (a b c d e : Bool) → isLaw law ≡ a → leb (length octets) longest ≡ b → isTotal total ≡ c → leb (length result) longest ≡ d → ltb room (length result) ≡ e
+      go : (a b c d e : Bool) → isLaw law ≡ a → leb (length octets) longest ≡ b → isTotal total ≡ c → leb (length result) longest ≡ d
+          → ltb room (length result) ≡ e
           → Judged (cond (not a) (declines (Frame Law)) (cond (not b) (declines (Frame Long)) (cond (not c) (declines Total)
           (cond (not d) (declines (Frame Long)) (cond e (declines (Frame Room)) (mends (mended octets law total)))))))
       go false b c d e p q r s t = unlawful p
@@ -52,9 +55,11 @@ module _ (octets : List ℕ) (law total room : ℕ) where
       go true true true false e p q r s t =
           result-long (record { lawful = p; short = leb-true (length octets) longest q; whole = r }) (leb-false (length result) longest s)
       go true true true true true p q r s t =
-          no-room (record { lawful = p; short = leb-true (length octets) longest q; whole = r }) (leb-true (length result) longest s) (ltb-true room (length result) t)
+          no-room (record { lawful = p; short = leb-true (length octets) longest q; whole = r }) (leb-true (length result) longest s)
+          (ltb-true room (length result) t)
       go true true true true false p q r s t =
-          well (record { lawful = p; short = leb-true (length octets) longest q; whole = r }) (leb-true (length result) longest s) (ltb-false room (length result) t)
+          well (record { lawful = p; short = leb-true (length octets) longest q; whole = r }) (leb-true (length result) longest s)
+          (ltb-false room (length result) t)
 
   -- a mended greeting
   pub record Made (m : Mended) : Type 0 where
@@ -77,9 +82,17 @@ module _ (octets : List ℕ) (law total room : ℕ) where
           record { may = p; is = same; short = rw (← same) q; fits = rw (← same) r }
 
   -- and the other way
-  pub mends-made : Mendable octets law total → length result ≤ longest → length result ≤ room → mendOf octets law total room ≡ mends (mended octets law total)
+  pub mends-made : Mendable octets law total → length result ≤ longest → length result ≤ room
+      → mendOf octets law total room ≡ mends (mended octets law total)
   unfolding mendOf inRoom
-  mends-made m s f = rw (m .lawful, le-leb (length octets) longest (m .short), m .whole, le-leb (length result) longest s, le-ltb room (length result) f) refl
+  mends-made m s f = rw (
+    m .lawful,
+    le-leb (length octets) longest (m .short),
+    m .whole,
+    le-leb (length result) longest
+        s,
+    le-ltb room (length result) f,
+  ) refl
 
 -- "a refusal writes nothing", and tells nothing but itself
 pub record Unmended (why : MendRefusal) (r : MendAnswer) (out out′ : List ℕ) : Type 0 where
@@ -91,12 +104,21 @@ pub refused-mend : (octets : List ℕ) (law total : ℕ) (out out′ : List ℕ)
 refused-mend octets law total out out′ r why e c =
     let d : Mends (declines why) r out out′ = rw e at c in
     record {
-      tells = record { end = d .end; octets = d .octets; frames = d .frames; kept = d .kept; filled = d .filled; stop = d .stop; bit = d .bit };
+      tells = record {
+        end = d .end;
+        octets = d .octets;
+        frames = d .frames;
+        kept = d .kept;
+        filled = d .filled;
+        stop = d .stop;
+        bit = d .bit;
+      };
       lent = d .lent;
     }
 
 -- No second answer fits
-same-answer : (r s : MendAnswer) → r .end ≡ s .end → r .octets ≡ s .octets → r .frames ≡ s .frames → r .kept ≡ s .kept → r .filled ≡ s .filled
+same-answer : (r s : MendAnswer) → r .end ≡ s .end → r .octets ≡ s .octets → r .frames ≡ s .frames → r .kept ≡ s .kept
+    → r .filled ≡ s .filled
     → r .stop ≡ s .stop → r .bit ≡ s .bit → r ≡ s
 same-answer r s e o f k l t b = λ i. record { end = e i; octets = o i; frames = f i; kept = k i; filled = l i; stop = t i; bit = b i }
 

@@ -1,35 +1,36 @@
--- R-12's promises. What is kept is a beginning of the greeting that ends between frames, the longest that the walk accepts and that does not
--- pass the total (`kept`). The result is accepted and holds exactly the total (`holds-total`). "An undamaged greeting of the right total comes
--- back unchanged" (`undamaged`), "and mending twice changes nothing more" (`twice`).
-use Prim.Native.Nat.{ℕ, zero, suc, _+_, _-_, _%_, _≤_, _<_}
+-- R-12's promises. What is kept is a beginning of the greeting that ends between frames, the longest that the walk accepts and that does
+-- not pass the total (`kept`). The result is accepted and holds exactly the total (`holds-total`). "An undamaged greeting of the right
+-- total comes back unchanged" (`undamaged`), "and mending twice changes nothing more" (`twice`).
+use Prim.Native.Nat.{ℕ, suc, _+_, _-_, _%_, _≤_}
 use native.Mathlib.Omega.{arith}
-use mathlib.Core.Path.{_≡_, refl, sym, ap, subst, _∙_}
-use mathlib.Core.List.{List, [], _∷_, _++_, append-nil}
-use mathlib.Core.Bool.{Bool, true, false, _||_}
+use mathlib.Core.Path.{_≡_, refl, ap, subst, _∙_}
+use mathlib.Core.List.{List, [], _++_, append-nil}
+use mathlib.Core.Bool.{true, _||_}
 use lib.ListN.{length, take, drop, replicate, length-append, length-replicate, take-append-drop}
 use lib.Seq.{length-take-le, take-all}
 use lib.Dec.{eqb, leb}
 use borrow.Author.Tests.{eqb-true}
 use Rattle.rules.specs.declared.Ending.the-variants.{Done}
-use Rattle.rules.specs.Tools.{allTools, isLaw, isSet, isLength}
+use Rattle.rules.specs.Tools.{allTools, isLength}
 use Rattle.rules.specs.Samples.{maskOf, plusZero}
-use Rattle.rules.specs.Walk.{Delivered, Walked, walkFrom, longest, walkAll, octetsKept, samplesKept}
-use Rattle.rules.proofs.Walk.{octetsKept-append, samplesKept-append, after}
+use Rattle.rules.specs.Walk.{Walked, walkFrom, longest, walkAll, octetsKept, samplesKept}
+use Rattle.rules.proofs.Walk.{octetsKept-append, samplesKept-append}
 use Rattle.rules.proofs.Accepted.{read-accepts}
 use Rattle.rules.proofs.Tests.{or-cases, by-length, and-left}
 use Rattle.promises.proofs.Walks.{WalkOf, ended, refused, delivers, walk-of, walk-only, Walkable, walk-all, walk-all-of, walk-all-only}
 use Rattle.promises.proofs.Refused.{Begins, walkable, unlawful, no-set, too-long, walk-begins}
-use Rattle.mending.specs.Mend.{fillBy, walkUpTo, filling, filledAfter, Mended, mendedBy, mended, mostTotal, isTotal, Mend, mends, declines, mendOf}
+use Rattle.mending.specs.Mend.{fillBy, walkUpTo, filling, filledAfter, Mended, mendedBy, mended, mostTotal, isTotal, mends, mendOf}
 use Rattle.mending.proofs.Kept.{walk-within}
 use Rattle.mended.proofs.Rooms.{StartsWith, more, walk-in-room, more-room}
 use Rattle.mended.proofs.Joined.{clean, joined, KeepsOwn, kept-walks}
-use Rattle.mended.proofs.Filled.{FilledUp, filling-walks}
-use Rattle.mended.proofs.Judged.{Mendable, Made, made, mends-made}
+use Rattle.mended.proofs.Filled.{filling-walks}
+use Rattle.mended.proofs.Judged.{Mendable, made, mends-made}
 
 -- the samples of whole frames are a multiple of 40
 forty-of : (n : ℕ) → (eqb n 0 || isLength n) ≡ true → n % 40 ≡ 0
 forty-of n h =
-    or-cases (n % 40 ≡ 0) (eqb n 0) (isLength n) h (λ z. rw (eqb-true n 0 z) refl) (λ l. by-length (λ n. n % 40 ≡ 0) refl refl refl refl refl n l)
+    or-cases (n % 40 ≡ 0) (eqb n 0) (isLength n) h (λ z. rw (eqb-true n 0 z) refl)
+    (λ l. by-length (λ n. n % 40 ≡ 0) refl refl refl refl refl n l)
 
 forty : {octets : List ℕ} {law set at room : ℕ} {w : Walked} → WalkOf octets law set at room w → length (samplesKept (w .frames)) % 40 ≡ 0
 unfolding samplesKept
@@ -39,8 +40,8 @@ forty {octets} {law} {set} {at} {room} (delivers {f = f} {rest = w} h e t) =
     let a = forty-of (length (f .samples)) (read-accepts _ law set room e .size) in
     omega (arith, forty t, a, length-append (f .samples) (samplesKept (w .frames)))
 
--- "The result is accepted and holds exactly the total", v being the walk over it: its frames are those kept and then the filling, its samples
--- those kept and then plus zeros
+-- "The result is accepted and holds exactly the total", v being the walk over it: its frames are those kept and then the filling, its
+-- samples those kept and then plus zeros
 pub record HoldsTotal (law total : ℕ) (m : Mended) (v : Walked) : Type 0 where
   pub end : v .end ≡ Done
   pub place : v .place ≡ length (m .octets)
@@ -94,7 +95,14 @@ module _ {octets : List ℕ} {law total : ℕ} (may : Mendable octets law total)
       )) in
       let all = joined q (walk-in-room total o e s) (omega arith) e rest in
       let same = walk-only (rw (take-append-drop c octets) at all) (suc (length octets)) (omega arith) in
-      omega (arith, clean o (omega arith) e .used, l, ap (λ (x : Walked). octetsKept (x .frames)) same, octetsKept-append (v .frames) (behind .frames))
+      omega (
+        arith,
+        clean o (omega arith) e .used,
+        l,
+        ap (λ (x : Walked). octetsKept (x .frames)) same,
+        octetsKept-append
+            (v .frames) (behind .frames),
+      )
 
   left-forty : filledAfter w total % 40 ≡ 0
   left-forty =
@@ -111,10 +119,12 @@ module _ {octets : List ℕ} {law total : ℕ} (may : Mendable octets law total)
       let left = filledAfter w total in
       let p = take k octets in
       let l : length p ≡ k = length-take-le k octets (own .inside) in
-      let o = walk-all-of p law allTools total (record { lawful = may .lawful; small = refl; short = omega (arith, own .inside, may .short) }) in
+      let o = walk-all-of p law allTools total
+      (record { lawful = may .lawful; small = refl; short = omega (arith, own .inside, may .short) }) in
       let o′ = walk-in-room room (rw (own .walks) at o) refl (omega (arith, fits)) in
       let f = filling-walks law left (may .lawful) left-forty p (room - s) (omega (arith, fits)) in
-      let all = walk-all-only (record { lawful = may .lawful; small = refl; short = short }) (joined (filling left) o′ (omega arith) refl (f .walks)) in
+      let all = walk-all-only (record { lawful = may .lawful; small = refl; short = short })
+      (joined (filling left) o′ (omega arith) refl (f .walks)) in
       let samples = samplesKept-append (w .frames) (f .frames) ∙ ap (λ (x : List ℕ). samplesKept (w .frames) ++ x) (f .samples) in
       rw all (record {
         end = refl;
@@ -134,7 +144,8 @@ module _ {octets : List ℕ} {law total : ℕ} (may : Mendable octets law total)
         walks = own .walks;
         fits = omega (arith, fits);
         most = most;
-        same = λ room h. more-room (walk-of (suc (length octets)) octets law allTools 0 total (omega arith)) h (walk-all-of octets law allTools room begins);
+        same = λ room h. more-room (walk-of (suc (length octets)) octets law allTools 0 total (omega arith)) h
+            (walk-all-of octets law allTools room begins);
       }
 
 module _ (octets : List ℕ) (law total room : ℕ) {m : Mended} (e : mendOf octets law total room ≡ mends m) where
@@ -144,7 +155,8 @@ module _ (octets : List ℕ) (law total room : ℕ) {m : Mended} (e : mendOf oct
   pub holds-total : (into : ℕ) → total ≤ into → HoldsTotal law total m (walkAll (m .octets) law allTools into)
   holds-total into h =
       let d = made octets law total room e in
-      subst (λ (x : Mended). HoldsTotal law total x (walkAll (x .octets) law allTools into)) (d .is) (result-walks (d .may) (rw (d .is) (d .short)) into h)
+      subst (λ (x : Mended). HoldsTotal law total x (walkAll (x .octets) law allTools into)) (d .is)
+      (result-walks (d .may) (rw (d .is) (d .short)) into h)
 
 -- a walk that ends clean was allowed to begin
 begun : (octets : List ℕ) (law room : ℕ) → walkAll octets law allTools room .end ≡ Done → Walkable octets law allTools
@@ -181,7 +193,8 @@ pub undamaged : (octets : List ℕ) (law total into room : ℕ) → isTotal tota
     → mendOf octets law total room ≡ mends (unchanged octets (walkAll octets law allTools into))
 undamaged octets law total into room t e s r =
     let v = walkAll octets law allTools into in
-    let may : Mendable octets law total = record { lawful = begun octets law into e .lawful; short = begun octets law into e .short; whole = t } in
+    let may : Mendable octets law total =
+    record { lawful = begun octets law into e .lawful; short = begun octets law into e .short; whole = t } in
     let o = walk-all-of octets law allTools into (begun octets law into e) in
     let same : walkUpTo octets law total ≡ v = walk-only (walk-in-room total o e (omega (arith, s))) (suc (length octets)) (omega arith) in
     let c = clean o (omega arith) e in

@@ -3,8 +3,8 @@
 use Prim.Native.Nat.{ℕ, _+_, _-_, _≤_, zero-le}
 use native.Mathlib.Omega.{arith}
 use mathlib.Core.Path.{_≡_, refl, sym, ap, _∙_}
-use mathlib.Core.List.{List, [], _∷_, _++_}
-use mathlib.Core.Bool.{true, cond, not}
+use mathlib.Core.List.{List, _∷_, _++_}
+use mathlib.Core.Bool.{true, not}
 use lib.ListN.{length, length-append}
 use lib.Dec.{ltb}
 use borrow.Author.Tests.{le-ltb}
@@ -14,9 +14,8 @@ use Rattle.rules.specs.Tools.{holds, isSet, isLaw, isLength}
 use Rattle.rules.proofs.Tests.{and-left}
 use Rattle.rules.proofs.Firsts.{asWritten, first-as-written}
 use Rattle.rules.specs.Bits.{bitsOf, fillFor}
-use Rattle.rules.specs.Reading.{Read, whole, refuse, andThen, bit, number, filled}
+use Rattle.rules.specs.Reading.{whole, andThen, bit, number, filled}
 use Rattle.rules.specs.First.{First, unassigned, pad, tool, sixOrEight, firstOctet, markAt, sixNotEight}
-use Rattle.rules.specs.Samples.{maskOf}
 use Rattle.rules.specs.Frame.{Found, body, withTool, rowIn, afterFirst, frame, readOne}
 use Rattle.rules.specs.Walk.{Delivered, Walked, samplesKept}
 use Rattle.rules.proofs.Octets.{Below, bitsOf-below}
@@ -27,8 +26,10 @@ use Rattle.rules.proofs.Gives.{no-refusal, same-value}
 use Rattle.promises.proofs.Further.{mark-first}
 use Rattle.promises.proofs.Walks.{WalkOf, ended, refused, delivers}
 
-module _ {mask : ℕ} (l : LawMask mask) (set room room′ : ℕ) {b : List ℕ} (z : Below 2 b) {f : Found} {j : ℕ} (k : length (f .samples) ≤ room′) where
-  tool-in-room : (t n mark i : ℕ) → isLength n ≡ true → i ≤ length b → withTool mask set room t n mark b i ≡ whole f j → withTool mask set room′ t n mark b i ≡ whole f j
+module _ {mask : ℕ} (l : LawMask mask) (set room room′ : ℕ) {b : List ℕ} (z : Below 2 b) {f : Found} {j : ℕ}
+    (k : length (f .samples) ≤ room′) where
+  tool-in-room : (t n mark i : ℕ) → isLength n ≡ true → i ≤ length b → withTool mask set room t n mark b i ≡ whole f j
+      → withTool mask set room′ t n mark b i ≡ whole f j
   unfolding withTool
   tool-in-room t n mark i sized h e =
       let p = not-refused (not (holds set t)) (Tool t) 0 _ b i e in
@@ -53,12 +54,16 @@ module _ {mask : ℕ} (l : LawMask mask) (set room room′ : ℕ) {b : List ℕ}
   first-in-room o (tool t n) w h e = tool-in-room t n (rowIn o t n) 8 (and-left (isLength n) _ w) h e
   first-in-room o (sixOrEight n) w h e = marked (steps (bit b (markAt n)) _ e)
     where
-      six : (mark i : ℕ) → bit b (markAt n) ≡ whole mark i → Steps (sixNotEight b i) (λ t j. withTool mask set room t n mark b (markAt n + 1)) f j
-          → andThen (bit b (markAt n)) (λ mark i. andThen (sixNotEight b i) (λ t j. withTool mask set room′ t n mark b (markAt n + 1))) ≡ whole f j
-      six mark i p (through t x q e) = rw (p, q) (tool-in-room t n mark (markAt n + 1) (and-left (isLength n) _ w) (omega (arith, mark-first n)) e)
+      six : (mark i : ℕ) → bit b (markAt n) ≡ whole mark i
+          → Steps (sixNotEight b i) (λ t j. withTool mask set room t n mark b (markAt n + 1)) f j
+          → andThen (bit b (markAt n))
+          (λ mark i. andThen (sixNotEight b i) (λ t j. withTool mask set room′ t n mark b (markAt n + 1))) ≡ whole f j
+      six mark i p (through t x q e) =
+          rw (p, q) (tool-in-room t n mark (markAt n + 1) (and-left (isLength n) _ w) (omega (arith, mark-first n)) e)
 
       marked : Steps (bit b (markAt n)) (λ mark i. andThen (sixNotEight b i) (λ t j. withTool mask set room t n mark b (markAt n + 1))) f j
-          → andThen (bit b (markAt n)) (λ mark i. andThen (sixNotEight b i) (λ t j. withTool mask set room′ t n mark b (markAt n + 1))) ≡ whole f j
+          → andThen (bit b (markAt n))
+          (λ mark i. andThen (sixNotEight b i) (λ t j. withTool mask set room′ t n mark b (markAt n + 1))) ≡ whole f j
       marked (through mark i p e) = six mark i p (steps (sixNotEight b i) _ e)
 
   frame-in-room : frame mask set room b 0 ≡ whole f j → frame mask set room′ b 0 ≡ whole f j
@@ -72,7 +77,8 @@ module _ {mask : ℕ} (l : LawMask mask) (set room room′ : ℕ) {b : List ℕ}
           let n : 8 ≡ k = number-next 0 8 b 0 p in
           rw (p, ← n) (first-in-room o (firstOctet o) (first-as-written o (g .2)) (omega (arith, g .1)) (rw (← n) at e))
 
-pub read-in-room : (octets : List ℕ) (law set room room′ : ℕ) {f : Found} {j : ℕ} → readOne octets law set room ≡ whole f j → length (f .samples) ≤ room′
+pub read-in-room : (octets : List ℕ) (law set room room′ : ℕ) {f : Found} {j : ℕ} → readOne octets law set room ≡ whole f j
+    → length (f .samples) ≤ room′
     → readOne octets law set room′ ≡ whole f j
 unfolding readOne
 read-in-room octets law set room room′ e k =

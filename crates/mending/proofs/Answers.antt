@@ -1,5 +1,5 @@
--- An answer of the code is the definition's: a refusal (`declined-as`), and a greeting that is mended (`mended-as`); its octets are inside the
--- output (`answer-inside`).
+-- An answer of the code is the definition's: a refusal (`declined-as`), and a greeting that is mended (`mended-as`); its octets are inside
+-- the output (`answer-inside`).
 use Prim.Native.Nat.{ℕ, suc, _+_, _-_, _≤_}
 use native.Mathlib.Omega.{arith}
 use mathlib.Core.Path.{_≡_, refl, sym, ap, subst, _∙_}
@@ -23,9 +23,19 @@ use Rattle.mending.proofs.Kept.{walk-within}
 pub declined-as : {why : MendRefusal} {r : MendAnswer} {m : Mend} → Declines why r → declines why ≡ m → (out : List ℕ) → Mends m r out out
 declined-as {r = r} d e out =
     subst (λ (m : Mend). Mends m r out out) e
-    (record { end = d .end; octets = d .octets; frames = d .frames; kept = d .kept; filled = d .filled; stop = d .stop; bit = d .bit; lent = refl })
+    (record {
+      end = d .end;
+      octets = d .octets;
+      frames = d .frames;
+      kept = d .kept;
+      filled = d .filled;
+      stop = d .stop;
+      bit = d .bit;
+      lent = refl;
+    })
 
-module _ (octets : List ℕ) (law total : ℕ) {r : WalkAnswer} (counted : Counts (walkFrom (length octets + 1) octets law allTools 0 total) r) where
+module _ (octets : List ℕ) (law total : ℕ) {r : WalkAnswer}
+    (counted : Counts (walkFrom (length octets + 1) octets law allTools 0 total) r) where
   c : Counts (walkUpTo octets law total) r
   c = let e : length octets + 1 ≡ suc (length octets) = omega arith in rw e at counted
 
@@ -50,12 +60,28 @@ module _ (octets : List ℕ) (law total : ℕ) {r : WalkAnswer} (counted : Count
 
   pub mended-as : {m : Mend} → mends (mended octets law total) ≡ m → {out o out′ : List ℕ} {to n : ℕ}
       → Puts out 0 (take (r .octets) octets) o to → Puts o to (filling (total - r .samples)) out′ n
-      → Mends m (record { end = Done; octets = n; frames = r .frames; kept = r .octets; filled = total - r .samples; stop = r .end; bit = r .bit }) out out′
+      → Mends m (record {
+        end = Done;
+        octets = n;
+        frames = r .frames;
+        kept = r .octets;
+        filled = total - r .samples;
+        stop = r .end;
+        bit = r .bit;
+      }) out out′
   unfolding mended
   mended-as e {out} {o} {out′} {to} {n} p q =
       let all = puts-then p q in
       subst (λ (m : Mend). Mends m
-      (record { end = Done; octets = n; frames = r .frames; kept = r .octets; filled = total - r .samples; stop = r .end; bit = r .bit }) out out′) e
+      (record {
+        end = Done;
+        octets = n;
+        frames = r .frames;
+        kept = r .octets;
+        filled = total - r .samples;
+        stop = r .end;
+        bit = r .bit;
+      }) out out′) e
       (record {
         end = refl;
         octets = omega (arith, all .place, ap length result-is);

@@ -2,8 +2,8 @@
 -- and how many octets they are (`filling-length`, `filling-few`).
 use Prim.Native.Nat.{ℕ, _+_, _*_, _/_, _%_, _≤_}
 use native.Mathlib.Omega.{arith}
-use mathlib.Core.Path.{_≡_, refl, sym, ap, _∙_}
-use mathlib.Core.List.{List, [], _++_, append-nil}
+use mathlib.Core.Path.{_≡_, sym, ap, _∙_}
+use mathlib.Core.List.{List, _++_, append-nil}
 use lib.ListN.{length, replicate, length-append, length-replicate}
 use Rattle.rules.specs.First.{baseOf}
 use Rattle.rules.proofs.Lent.{Filling}
@@ -34,12 +34,14 @@ abbrev pub by40 : ℕ → ℕ
 by40 left = left % 320 % 240 % 160 % 80 / 40
 
 pub filling-is : (left : ℕ)
-    → replicate (by320 left) 0x31 ++ (replicate (by240 left) 0x21 ++ (replicate (by160 left) 0xC1 ++ (replicate (by80 left) 0x81 ++ replicate
+    → replicate (by320 left)
+    0x31 ++ (replicate (by240 left) 0x21 ++ (replicate (by160 left) 0xC1 ++ (replicate (by80 left) 0x81 ++ replicate
     (by40 left) 0x41)))
     ≡ filling left
 unfolding fillBy baseOf
 filling-is left =
-    ap (λ (x : List ℕ). replicate (by320 left) 0x31 ++ (replicate (by240 left) 0x21 ++ (replicate (by160 left) 0xC1 ++ (replicate (by80 left) 0x81 ++ x))))
+    ap (λ (x : List ℕ). replicate (by320 left)
+    0x31 ++ (replicate (by240 left) 0x21 ++ (replicate (by160 left) 0xC1 ++ (replicate (by80 left) 0x81 ++ x))))
     (sym (append-nil (replicate (by40 left) 0x41)))
 
 pub filling-length : (left : ℕ) → length (filling left) ≡ by320 left + by240 left + by160 left + by80 left + by40 left
@@ -48,7 +50,8 @@ filling-length left =
     ∙ simp (length-append, length-replicate) (omega arith)
 
 -- each frame fills 40 samples or more
-few : (l r s t u v a b c d e : ℕ) → l ≡ 320 * a + r → r ≡ 240 * b + s → s ≡ 160 * c + t → t ≡ 80 * d + u → u ≡ 40 * e + v → 40 * (a + b + c + d + e) ≤ l
+few : (l r s t u v a b c d e : ℕ) → l ≡ 320 * a + r → r ≡ 240 * b + s → s ≡ 160 * c + t → t ≡ 80 * d + u → u ≡ 40 * e + v
+    → 40 * (a + b + c + d + e) ≤ l
 few l r s t u v a b c d e g h i j k = omega arith
 
 pub filling-few : (left : ℕ) → 40 * length (filling left) ≤ left
@@ -58,14 +61,17 @@ filling-few left =
     let t = s % 160 in
     let u = t % 80 in
     rw (filling-length left)
-    (few left r s t u (u % 40) (left / 320) (r / 240) (s / 160) (t / 80) (u / 40) (omega arith) (omega arith) (omega arith) (omega arith) (omega arith))
+    (few left r s t u (u % 40) (left / 320) (r / 240) (s / 160) (t / 80) (u / 40) (omega arith) (omega arith) (omega arith)
+    (omega arith) (omega arith))
 
 -- the room that is left behind them
-pub room-on : {o o′ : List ℕ} {at next : ℕ} (count octet more : ℕ) → Puts o at (replicate count octet) o′ next → at + (count + more) ≤ length o
+pub room-on : {o o′ : List ℕ} {at next : ℕ} (count octet more : ℕ) → Puts o at (replicate count octet) o′ next
+    → at + (count + more) ≤ length o
     → next + more ≤ length o′
 room-on count octet more p h = omega (arith, p .place, p .size, length-replicate count octet)
 
-pub room-first : (left at room : ℕ) → at + length (filling left) ≤ room → at + (by320 left + (by240 left + (by160 left + (by80 left + by40 left)))) ≤ room
+pub room-first : (left at room : ℕ) → at + length (filling left) ≤ room
+    → at + (by320 left + (by240 left + (by160 left + (by80 left + by40 left)))) ≤ room
 room-first left at room h = omega (arith, filling-length left)
 
 -- one length after another

@@ -1,12 +1,11 @@
 -- What a walk keeps is within its octets and its room (`walk-within`).
-use Prim.Native.Nat.{ℕ, zero, suc, _+_, _-_, _≤_, _<_}
+use Prim.Native.Nat.{ℕ, zero, suc, _+_, _-_, _≤_}
 use native.Mathlib.Omega.{arith}
 use mathlib.Core.Path.{_≡_, refl}
 use mathlib.Core.List.{List}
 use mathlib.Core.Bool.{Bool, true, false, cond}
 use lib.ListN.{length, drop, length-append, length-drop}
 use lib.Dec.{leb}
-use borrow.Author.Tests.{leb-false}
 use Rattle.rules.specs.declared.Refusal.{Refusal}
 use Rattle.rules.specs.declared.Ending.the-variants.{Done, Refused}
 use Rattle.rules.specs.Reading.{Read, whole, refuse}
@@ -18,7 +17,8 @@ pub record Within (size at room : ℕ) (w : Walked) : Type 0 where
   pub octets : at + octetsKept (w .frames) ≤ size
   pub samples : length (samplesKept (w .frames)) ≤ room
 
-pub walk-within : (fuel : ℕ) (octets : List ℕ) (law set at room : ℕ) → at ≤ length octets → Within (length octets) at room (walkFrom fuel octets law set at room)
+pub walk-within : (fuel : ℕ) (octets : List ℕ) (law set at room : ℕ) → at ≤ length octets
+    → Within (length octets) at room (walkFrom fuel octets law set at room)
 unfolding walkFrom octetsKept samplesKept
 walk-within zero octets law set at room h = record { octets = omega arith; samples = omega arith }
 walk-within (suc fuel) octets law set at room h =
@@ -34,7 +34,8 @@ walk-within (suc fuel) octets law set at room h =
     stop w bit = stopped (Refused w) at bit
 
     Later : Type 0
-    Later = (f : Found) → at + octetsUsed f ≤ length octets → Within (length octets) (at + octetsUsed f) (room - length (f .samples)) (rest f)
+    Later = (f : Found) → at + octetsUsed f ≤ length octets
+        → Within (length octets) (at + octetsUsed f) (room - length (f .samples)) (rest f)
 
     none : (w : Refusal) (bit : ℕ) → Within (length octets) at room (stop w bit)
     none w bit = record { octets = omega arith; samples = omega arith }

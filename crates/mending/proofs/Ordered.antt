@@ -28,7 +28,13 @@ module _ (octets : List ℕ) (law total room : ℕ) where
       module _ (t : isTotal total ≡ true) where
         pub result-long : longest < length (mended octets law total .octets) → declines (Frame Long) ≡ mendOf octets law total room
         unfolding mendOf inRoom
-        result-long h = rw (le-leb law 1 g, le-leb (length octets) longest l, t, lt-leb (length (mended octets law total .octets)) longest h)
+        result-long h = rw (
+          le-leb law 1 g,
+          le-leb (length octets) longest l,
+          t,
+          lt-leb
+              (length (mended octets law total .octets)) longest h,
+        )
 
         module _ (s : length (mended octets law total .octets) ≤ longest) where
           pub no-room : room < length (mended octets law total .octets) → declines (Frame Room) ≡ mendOf octets law total room

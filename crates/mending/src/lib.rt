@@ -3,7 +3,6 @@
 ghost use Prim.Native.Nat.{_+_, _/_, _≤_};
 ghost use mathlib.Core.Path.{_≡_};
 ghost use lib.ListN.{length, replicate};
-ghost use Rattle.rules.specs.First.{octetFor};
 ghost use Rattle.lines.specs.Puts.{Puts};
 ghost use Rattle.mending.specs.Mend.{isTotal, filling};
 ghost use Rattle.mending.specs.Calls.{mendRefusalNumber, mendNumberOf, Declines, MendGreeting};

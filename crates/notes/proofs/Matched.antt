@@ -1,6 +1,6 @@
--- Tables that calls leave, in the code's order: `matched-end`, `matched-law`, `matched-many`, `matched-turn`; `sane-short`, `sane-not`, `sane-other`,
--- `sane-rest`; `sane-noted` (what calls' steps rest on). `marks-fit`: the marks of all greetings are at most their octets / 64 and one for each,
--- so there is always room for them (`room-for`, `room-more`).
+-- Tables that calls leave, in the code's order: `matched-end`, `matched-law`, `matched-many`, `matched-turn`; `sane-short`, `sane-not`,
+-- `sane-other`, `sane-rest`; `sane-noted` (what calls' steps rest on). `marks-fit`: the marks of all greetings are at most their octets /
+-- 64 and one for each, so there is always room for them (`room-for`, `room-more`).
 use Prim.Native.Nat.{ℕ, zero, suc, _+_, _*_, _≤_, _<_}
 use mathlib.Core.Path.{_≡_, refl, sym, ap, subst, _∙_}
 use mathlib.Core.List.{List, [], _∷_}
@@ -31,7 +31,8 @@ head-is t i =
     let a : 97 + (1 + 3 * i) ≡ 98 + 3 * i = omega arith in
     let b : 97 + (1 + 3 * i + 1) ≡ 98 + 3 * i + 1 = omega arith in
     let c : 97 + (1 + 3 * i + 2) ≡ 98 + 3 * i + 2 = omega arith in
-    let cell : (j k : ℕ) → 97 + j ≡ k → getD t k 0 ≡ getD (drop 97 t) j 0 = λ j k e. sym (getD-drop 97 t j 0 ∙ ap (λ (x : ℕ). getD t x 0) e) in
+    let cell : (j k : ℕ) → 97 + j ≡ k → getD t k 0 ≡ getD (drop 97 t) j 0 =
+    λ j k e. sym (getD-drop 97 t j 0 ∙ ap (λ (x : ℕ). getD t x 0) e) in
     row-is (drop 97 t) (1 + 3 * i) (cell _ _ a) (cell _ _ b) (cell _ _ c)
 
 -- greetings and their second list, in the code's order
@@ -106,7 +107,8 @@ held-inside : (size : ℕ) (t : List ℕ) (n : ℕ) → Ordered size t → n ≡
 held-inside size t zero o e = held-none size t
 held-inside size t (suc i) o e =
     let next = row-next (suc i) i {r = rowAt t (1 + 3 * i)} o e refl (omega arith) in
-    let sum : held (rowsAt t i 1) + rowAt t (1 + 3 * i) .octets ≡ held (rowsAt t (i + 1) 1) = held-turn t (suc i) i refl (omega arith) refl in
+    let sum : held (rowsAt t i 1) + rowAt t (1 + 3 * i) .octets ≡ held (rowsAt t (i + 1) 1) =
+    held-turn t (suc i) i refl (omega arith) refl in
     subst (λ (k : ℕ). held (rowsAt t k 1) ≤ size) (add-one i) (omega (arith, sum, next .above, next .inside))
 
 -- there is room for the marks of such a table, and for those of a greeting that fits besides

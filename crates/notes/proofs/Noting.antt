@@ -1,5 +1,5 @@
--- Notes and the cells that they lie in: `heads-notes`, `cells-notes` (the cells of notes are those they are read from), `notes-back` (laid, they read
--- back), `nth-note` (one of them); a note put in (`note-added`) and taken out (`note-dropped`).
+-- Notes and the cells that they lie in: `heads-notes`, `cells-notes` (the cells of notes are those they are read from), `notes-back` (laid,
+-- they read back), `nth-note` (one of them); a note put in (`note-added`) and taken out (`note-dropped`).
 use Prim.Native.Nat.{ℕ, zero, suc, _+_, _*_, _-_, _≤_, _<_}
 use mathlib.Core.Path.{_≡_, refl, sym, ap, _∙_}
 use mathlib.Core.List.{List, [], _∷_, _++_, append-assoc}
@@ -48,7 +48,8 @@ unfolding heads notesIn
 heads-notes [] cells = refl
 heads-notes (h ∷ hs) cells = rw (length-marks (h .octets) cells, heads-notes hs (drop (2 * h .octets) cells))
 
-pub cells-notes : (hs : List Row) (cells : List ℕ) → 2 * marksHeld hs ≤ length cells → allCells (notesIn hs cells) ≡ take (2 * marksHeld hs) cells
+pub cells-notes : (hs : List Row) (cells : List ℕ) → 2 * marksHeld hs ≤ length cells
+    → allCells (notesIn hs cells) ≡ take (2 * marksHeld hs) cells
 unfolding notesIn held allCells
 cells-notes [] cells h = refl
 cells-notes (r ∷ hs) cells h =
@@ -124,7 +125,8 @@ unfolding heads
 heads-cons n notes = refl
 
 pub heads-insert : (i : ℕ) (n : Note) (notes : List Note) → heads (insertNote i n notes) ≡ insertAt i (headOf n) (heads notes)
-heads-insert i n notes = rw (heads-append (take i notes) (n ∷ drop i notes), heads-cons n (drop i notes), heads-take i notes, heads-drop i notes)
+heads-insert i n notes =
+    rw (heads-append (take i notes) (n ∷ drop i notes), heads-cons n (drop i notes), heads-take i notes, heads-drop i notes)
 
 pub heads-remove : (i : ℕ) (notes : List Note) → heads (removeNote i notes) ≡ removeAt i (heads notes)
 heads-remove i notes = rw (heads-append (take i notes) (drop (i + 1) notes), heads-take i notes, heads-drop (i + 1) notes)
@@ -154,7 +156,8 @@ note-added notes i n cells new {at} {used} m a u w =
     sym (take-append-drop used cells) ∙ ap (λ (x : List ℕ). x ++ drop used cells) (w ∙ s) ∙ append-assoc front back (drop used cells)
     in
     let t₁ : take at cells ≡ front = ap (λ (x : List ℕ). take at x) c ∙ take-at front (back ++ drop used cells) at (sym a) in
-    let d₁ : drop at cells ≡ back ++ drop used cells = ap (λ (x : List ℕ). drop at x) c ∙ drop-at front (back ++ drop used cells) at (sym a) in
+    let d₁ : drop at cells ≡ back ++ drop used cells = ap (λ (x : List ℕ). drop at x) c
+    ∙ drop-at front (back ++ drop used cells) at (sym a) in
     let t₂ : take (used - at) (drop at cells) ≡ back =
     ap (λ (x : List ℕ). take (used - at) x) d₁ ∙ take-at back (drop used cells) (used - at) (omega arith)
     in
@@ -163,11 +166,13 @@ note-added notes i n cells new {at} {used} m a u w =
     all-append (take i notes) (n ∷ drop i notes)
     ∙ ap (λ (x : List ℕ). front ++ x) (all-cons n (drop i notes) ∙ ap (λ (x : List ℕ). x ++ back) (sym m))
     in
-    let k : length (allCells all) ≡ used + length new = ap length f ∙ length-append front (new ++ back) ∙ omega (arith, length-append new back) in
+    let k : length (allCells all) ≡ used + length new = ap length f ∙ length-append front (new ++ back)
+    ∙ omega (arith, length-append new back) in
     rw (t₁, t₂, k, f) (simp append-assoc)
 
 -- and with one less
-pub note-dropped : (notes : List Note) (i : ℕ) (cells : List ℕ) {at used by : ℕ} → i < length notes → by ≡ length (markCells (nthNote i notes .marks))
+pub note-dropped : (notes : List Note) (i : ℕ) (cells : List ℕ) {at used by : ℕ} → i < length notes
+    → by ≡ length (markCells (nthNote i notes .marks))
     → at ≡ length (allCells (take i notes)) → used ≡ length (allCells notes) → take used cells ≡ allCells notes
     → shut cells at used by ≡ allLaid (removeNote i notes) cells
 unfolding shut

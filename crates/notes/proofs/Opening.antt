@@ -33,4 +33,5 @@ unfolding shut
 shut-is cells at used by h p =
     let far : at + (used - (at + by)) ≡ used - by = omega arith in
     let moved = take (used - (at + by)) (drop (at + by) cells) in
-    p ∙ append-assoc (take at cells) moved (drop (at + (used - (at + by))) cells) ∙ ap (λ (x : ℕ). take at cells ++ (moved ++ drop x cells)) far
+    p ∙ append-assoc (take at cells) moved (drop (at + (used - (at + by))) cells)
+    ∙ ap (λ (x : ℕ). take at cells ++ (moved ++ drop x cells)) far

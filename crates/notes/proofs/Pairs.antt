@@ -55,7 +55,8 @@ matched-join (r ∷ a) (h ∷ p) c q l e f =
     let m = matched-head r h a p e in
     matched-cons r h (a ++ c) (p ++ q) (m .0) (matched-join a p c q (omega arith) (m .1) f)
 
-pub matched-apart : (a p c q : List Row) → length a ≡ length p → matched (a ++ c) (p ++ q) ≡ true → (matched a p ≡ true) × (matched c q ≡ true)
+pub matched-apart : (a p c q : List Row) → length a ≡ length p → matched (a ++ c) (p ++ q) ≡ true
+    → (matched a p ≡ true) × (matched c q ≡ true)
 matched-apart [] [] c q l e = (matched-nil [], e)
 matched-apart [] (h ∷ p) c q l e = absurd (omega arith)
 matched-apart (r ∷ a) [] c q l e = absurd (omega arith)
@@ -84,7 +85,8 @@ module _ (i : ℕ) (rows : List Row) (notes : List Note) (same : length notes �
       (matched-cons r (headOf n) (drop i rows) (heads (drop i notes)) f (split .1)))
 
 -- a greeting taken out with its note
-module _ (before : List Row) (r : Row) (behind : List Row) (a : List Note) (n : Note) (c : List Note) (same : length a ≡ length before) where
+module _ (before : List Row) (r : Row) (behind : List Row) (a : List Note) (n : Note) (c : List Note)
+    (same : length a ≡ length before) where
   pub matched-removed : matched (before ++ (r ∷ behind)) (heads (a ++ (n ∷ c))) ≡ true → matched (before ++ behind) (heads (a ++ c)) ≡ true
   matched-removed e =
       let l : length before ≡ length (heads a) = sym same ∙ sym (length-heads a) in
@@ -100,7 +102,8 @@ sane-old size t e = both (saneOf size t) _ (passed (ltb (length t) (storeCells s
 -- what is stored so is a table that calls leave
 module _ (size : ℕ) (rows : List Row) (notes : List Note) (t : List ℕ) (c : storeCells size ≤ length t) (few : length rows ≤ 32)
     (same : length notes ≡ length rows) where
-  pub sane-stored : size ≤ largestBlock → held rows ≤ size → rising 1 0 size rows ≡ true → numbered rows ≡ true → matched rows (heads notes) ≡ true
+  pub sane-stored : size ≤ largestBlock → held rows ≤ size → rising 1 0 size rows ≡ true → numbered rows ≡ true
+      → matched rows (heads notes) ≡ true
       → saneStore size (stored rows notes t) ≡ true
   unfolding saneStore saneOf
   sane-stored s h r n m =
@@ -108,7 +111,8 @@ module _ (size : ℕ) (rows : List Row) (notes : List Note) (t : List ℕ) (c : 
       let w : 194 ≤ length t = omega arith in
       let f = marks-fit rows (heads notes) (length-heads notes ∙ same) m in
       let k : length (stored rows notes t) ≡ length t = length-stored rows notes t few g w (omega arith) in
-      let l₁ : ltb (length (stored rows notes t)) (storeCells size) ≡ false = le-ltb (length (stored rows notes t)) (storeCells size) (omega arith) in
+      let l₁ : ltb (length (stored rows notes t)) (storeCells size) ≡ false = le-ltb (length (stored rows notes t))
+      (storeCells size) (omega arith) in
       let l₂ : ltb (length (stored rows notes t)) 97 ≡ false = le-ltb (length (stored rows notes t)) 97 (omega arith) in
       rw (
         l₁,

@@ -6,7 +6,7 @@ use mathlib.Core.Path.{_≡_, refl, sym, ap, _∙_}
 use mathlib.Core.List.{List, _∷_, _++_}
 use native.Mathlib.Omega.{arith}
 use lib.ListN.{length, getD, take, drop, length-append, length-take, length-drop, take-append-drop}
-use lib.Seq.{take-at, drop-at, drop-drop, length-take-le, getD-drop}
+use lib.Seq.{drop-at, drop-drop, length-take-le, getD-drop}
 use Rattle.rows.specs.declared.Row.{Row}
 use Rattle.rows.specs.Cells.{rowAt, rowsAt, rowsOf, cellsOf, laid}
 use Rattle.rows.specs.Changed.{nth, insertAt, removeAt}
@@ -18,7 +18,8 @@ use Rattle.marks.specs.Marks.{Note, markCells}
 use Rattle.notes.specs.Notes.{insertNote, removeNote, nthNote}
 use Rattle.notes.specs.Cells.{headOf, heads, headsOf, notesOf, marksHeld, allCells, allLaid, anewFrom, notesLaid, stored}
 use Rattle.notes.specs.Changed.{opened, shut, noteIn}
-use Rattle.notes.proofs.Noting.{heads-notes, cells-notes, length-all, heads-take, nth-heads, length-heads, heads-insert, heads-remove}
+use Rattle.notes.proofs.Noting.{heads-notes, cells-notes, length-all, heads-take}
+use Rattle.notes.proofs.Noting.{nth-heads, length-heads, heads-insert, heads-remove}
 use Rattle.notes.proofs.Noting.{note-added, all-append, note-dropped, nth-note}
 
 -- a list of up to 32 lies in 97 cells
@@ -34,9 +35,6 @@ laid-within rows t h =
     ∙ drop-drop more far t ∙ ap (λ (x : ℕ). drop x t) (sym f)
 
 -- the cells from place k on made anew
-pub anew-before : (k : ℕ) (f : List ℕ → List ℕ) (t : List ℕ) → k ≤ length t → take k (anewFrom k f t) ≡ take k t
-anew-before k f t h = take-at (take k t) (f (drop k t)) k (length-take-le k t h)
-
 pub anew-behind : (k : ℕ) (f : List ℕ → List ℕ) (t : List ℕ) → k ≤ length t → drop k (anewFrom k f t) ≡ f (drop k t)
 anew-behind k f t h = drop-at (take k t) (f (drop k t)) k (length-take-le k t h)
 
@@ -50,7 +48,8 @@ marks-behind hs t h g =
 pub notes-kept : (rows : List Row) (t : List ℕ) → length rows ≤ 32 → notesOf (laid rows t) ≡ notesOf t
 notes-kept rows t h =
     let d = laid-within rows t h in
-    let e : drop 194 (laid rows t) ≡ drop 194 t = sym (drop-drop 97 97 (laid rows t)) ∙ ap (λ (x : List ℕ). drop 97 x) d ∙ drop-drop 97 97 t in
+    let e : drop 194 (laid rows t) ≡ drop 194 t = sym (drop-drop 97 97 (laid rows t)) ∙ ap (λ (x : List ℕ). drop 97 x) d
+    ∙ drop-drop 97 97 t in
     rw (d, e)
 
 -- a part that is lent from place k on
@@ -74,7 +73,8 @@ module _ (t : List ℕ) (n i : ℕ) (e : n ≡ getD t 97 0) (h : i ≤ n) (room 
   pub marks-at : 2 * marksHeld (rowsAt (drop 97 t) i 1) ≡ length (allCells (take i (notesOf t)))
   marks-at =
       let first : heads (take i (notesOf t)) ≡ rowsAt (drop 97 t) i 1 =
-      heads-take i (notesOf t) ∙ ap (λ (x : List Row). take i x) (heads-notes (headsOf t) (drop 194 t) ∙ all-heads) ∙ take-rows (drop 97 t) n 1 i h
+      heads-take i (notesOf t) ∙ ap (λ (x : List Row). take i x) (heads-notes (headsOf t) (drop 194 t) ∙ all-heads)
+      ∙ take-rows (drop 97 t) n 1 i h
       in
       sym (length-all (take i (notesOf t)) ∙ ap (λ (x : List Row). 2 * marksHeld x) first)
 
@@ -95,12 +95,20 @@ module _ (t : List ℕ) (n i : ℕ) (e : n ≡ getD t 97 0) (h : i ≤ n) (room 
   pub part-length : (hs : List Row) {t₁ : List ℕ} → length hs ≤ 32 → t₁ ≡ anewFrom 97 (laid hs) t
       → length (take (length t₁ - 194) (drop 194 t₁)) ≡ length t - 194
   part-length hs {t₁} few p =
-      ap length (from-on t₁ 194) ∙ ap (λ (x : List ℕ). length (drop 194 x)) p ∙ ap length (marks-behind hs t few (omega arith)) ∙ length-drop 194 t
+      ap length (from-on t₁ 194) ∙ ap (λ (x : List ℕ). length (drop 194 x)) p ∙ ap length (marks-behind hs t few (omega arith))
+      ∙ length-drop 194 t
 
   pub heads-more : (r : Row) → n ≤ 31 → length (insertAt i r (headsOf t)) ≤ 32
   heads-more r few =
       let hs = headsOf t in
-      omega (arith, length-append (take i hs) (r ∷ drop i hs), length-take i hs, length-drop i hs, ap length all-heads, length-rows (drop 97 t) n 1)
+      omega (
+        arith,
+        length-append (take i hs) (r ∷ drop i hs),
+        length-take i hs,
+        length-drop i hs,
+        ap length all-heads,
+        length-rows (drop 97 t) n 1,
+      )
 
   pub heads-less : n ≤ 32 → length (removeAt i (headsOf t)) ≤ 32
   heads-less few =
@@ -126,7 +134,8 @@ module _ (t : List ℕ) (n i : ℕ) (e : n ≡ getD t 97 0) (h : i ≤ n) (room 
       q ∙ ap (λ (x : List ℕ). take 194 t₁ ++ x) behind
       ∙ ap (λ (x : List ℕ). take 194 x ++ allLaid notes (drop 194 (anewFrom 97 (laid (heads notes)) t))) first
 
-  pub note-put : (note : Note) (r : Row) (new : List ℕ) {at used : ℕ} {t₁ t₂ : List ℕ} → n ≤ 31 → r ≡ headOf note → new ≡ markCells (note .marks)
+  pub note-put : (note : Note) (r : Row) (new : List ℕ) {at used : ℕ} {t₁ t₂ : List ℕ} → n ≤ 31 → r ≡ headOf note
+      → new ≡ markCells (note .marks)
       → at ≡ 2 * marksHeld (rowsAt (drop 97 t) i 1) → used ≡ 2 * marksHeld (rowsAt (drop 97 t) n 1)
       → t₁ ≡ anewFrom 97 (λ (u : List ℕ). laid (insertAt i r (rowsOf u)) u) t
       → t₂ ≡ anewFrom 194 (λ (u : List ℕ). opened u at used new) t₁

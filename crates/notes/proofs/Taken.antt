@@ -1,5 +1,5 @@
--- What was taken of a greeting's walk (`taken`): small enough for the table (`heard-small`, `heard-few`). It is the greeting's note (`taken-note`).
--- Marks taken into cells that were raised are put in there (`walked-is`).
+-- What was taken of a greeting's walk (`taken`): small enough for the table (`heard-small`, `heard-few`). It is the greeting's note
+-- (`taken-note`). Marks taken into cells that were raised are put in there (`walked-is`).
 use Prim.Native.Nat.{ℕ, _+_, _*_, _-_, _≤_}
 use mathlib.Core.Path.{_≡_, ap, subst, _∙_}
 use mathlib.Core.List.{List, _++_, append-nil}
@@ -48,7 +48,8 @@ module _ {law samples m : ℕ} {xs : List ℕ} (h : Heard law xs samples m) wher
   heard-head e = rw (e, h .samples-are, h .count)
 
   pub walked-is : (cells : List ℕ) (at used by : ℕ) {c₁ c₂ ys : List ℕ} {r : Tally} → at ≤ used → used + by ≤ length cells → by ≡ 2 * m
-      → length c₁ ≡ length cells → c₁ ≡ paste cells (at + by) (drop at cells) (used - at) → Takes law xs (take (at + by - at) (drop at c₁)) ys r
+      → length c₁ ≡ length cells → c₁ ≡ paste cells (at + by) (drop at cells) (used - at)
+      → Takes law xs (take (at + by - at) (drop at c₁)) ys r
       → c₂ ≡ take at c₁ ++ (ys ++ drop (at + by - at) (drop at c₁)) → c₂ ≡ opened cells at used (markCells (noteOf law xs .marks))
   unfolding written
   walked-is cells at used by {c₁} {c₂} {ys} o room e same p t q =

@@ -1,5 +1,6 @@
--- How the notes lie in a lent table. R-6's 97 cells stay as they are. Cells 97 to 193 are a second list of the same shape: how many there are, as
--- cell 0 says, then law, samples and the number of marks of each. From cell 194 on stand the marks of all, one after another, two cells each.
+-- How the notes lie in a lent table. R-6's 97 cells stay as they are. Cells 97 to 193 are a second list of the same shape: how many there
+-- are, as cell 0 says, then law, samples and the number of marks of each. From cell 194 on stand the marks of all, one after another, two
+-- cells each.
 use Prim.Native.Nat.{ℕ, zero, suc, _*_}
 use mathlib.Core.List.{List, [], _∷_, _++_}
 use lib.ListN.{length, getD, take, drop}

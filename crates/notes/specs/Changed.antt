@@ -1,4 +1,5 @@
--- Cells put in among those in use, and taken out: what stands past those in use stays as it was. What was taken of a greeting, to be put in.
+-- Cells put in among those in use, and taken out: what stands past those in use stays as it was. What was taken of a greeting, to be put
+-- in.
 use Prim.Native.Nat.{ℕ, _+_, _*_, _-_, _≤_}
 use mathlib.Core.Path.{_≡_}
 use mathlib.Core.List.{List, _++_}

@@ -1,5 +1,5 @@
--- What calls leave (R-8), besides what R-6 says: as many notes as greetings, laws up to 1, and of each greeting no more marks than its octets can
--- have; so a put always has room for its marks. Any other lent table is TABLE. What the samples and the marks say is not judged.
+-- What calls leave (R-8), besides what R-6 says: as many notes as greetings, laws up to 1, and of each greeting no more marks than its
+-- octets can have; so a put always has room for its marks. Any other lent table is TABLE. What the samples and the marks say is not judged.
 use Prim.Native.Nat.{ℕ, _+_, _*_, _/_, _≤_, min}
 use mathlib.Core.Path.{_≡_}
 use mathlib.Core.List.{List, [], _∷_}

@@ -19,12 +19,14 @@ use Rattle.offers.specs.Ties.{taken, BetterIs, ChosenIs}
 pub better-not : {best : Choice} {t : ℕ} {a : Bool} {b : ℕ} → best .bits ≤ 1000000000 → taken best a b ≡ false → BetterIs best t a b best
 better-not h e = record { tool = rw e; size = rw e; small = h }
 
-pub better-yes : {best : Choice} {t : ℕ} {a : Bool} {b : ℕ} → b ≤ 1000000000 → taken best a b ≡ true → BetterIs best t a b (record { tool = t; bits = b })
+pub better-yes : {best : Choice} {t : ℕ} {a : Bool} {b : ℕ} → b ≤ 1000000000 → taken best a b ≡ true
+    → BetterIs best t a b (record { tool = t; bits = b })
 better-yes h e = record { tool = rw e; size = rw e; small = h }
 
 -- one tool more
 module _ {mask set : ℕ} {s ts : List ℕ} {best r : Choice} (done : ChosenIs mask set s ts best) where
-  pub choose-step : (t : ℕ) (a : Bool) (b : ℕ) → a ≡ (holds set t && applies mask t s) → (a ≡ true → b ≡ length (formOf mask t s)) → BetterIs best t a b r
+  pub choose-step : (t : ℕ) (a : Bool) (b : ℕ) → a ≡ (holds set t && applies mask t s) → (a ≡ true → b ≡ length (formOf mask t s))
+      → BetterIs best t a b r
       → ChosenIs mask set s (t ∷ ts) r
   unfolding choose
   choose-step t true b e f better =
@@ -34,7 +36,8 @@ module _ {mask set : ℕ} {s ts : List ℕ} {best r : Choice} (done : ChosenIs m
         tool = better .tool ∙ rw (test, done .tool);
         bits =
             better .size
-            ∙ rw (test, f refl, done .bits) (cond-of (λ u. length (formOf mask u s)) (holds set t && applies mask t s && q) t (choose mask set s ts));
+            ∙ rw (test, f refl, done .bits)
+            (cond-of (λ u. length (formOf mask u s)) (holds set t && applies mask t s && q) t (choose mask set s ts));
         small = better .small;
       }
   choose-step t false b e f better =
@@ -43,11 +46,13 @@ module _ {mask set : ℕ} {s ts : List ℕ} {best r : Choice} (done : ChosenIs m
       record { tool = better .tool ∙ rw (none, done .tool); bits = better .size ∙ rw (none, done .bits); small = better .small }
 
 -- a tool that the set lacks or that does not apply
-pub choose-past : {mask set : ℕ} {s ts : List ℕ} {r : Choice} (t : ℕ) → (holds set t && applies mask t s) ≡ false → ChosenIs mask set s ts r → ChosenIs mask set s (t ∷ ts) r
+pub choose-past : {mask set : ℕ} {s ts : List ℕ} {r : Choice} (t : ℕ) → (holds set t && applies mask t s) ≡ false
+    → ChosenIs mask set s ts r → ChosenIs mask set s (t ∷ ts) r
 choose-past t e done = choose-step done t false 0 (sym e) (λ h. absurd (never h)) (better-not (done .small) refl)
 
 -- a tool that was chosen is held and applies
-pub chosen-offered : (mask set : ℕ) (s ts : List ℕ) (t : ℕ) → choose mask set s ts ≡ t → (1 ≡ t → ⊥) → (holds set t && applies mask t s) ≡ true
+pub chosen-offered : (mask set : ℕ) (s ts : List ℕ) (t : ℕ) → choose mask set s ts ≡ t → (1 ≡ t → ⊥)
+    → (holds set t && applies mask t s) ≡ true
 unfolding choose
 chosen-offered mask set s [] t e ne = absurd (ne e)
 chosen-offered mask set s (u ∷ ts) t e ne =

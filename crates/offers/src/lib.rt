@@ -15,15 +15,14 @@ use ranges::row_count;
 use reducing::bits_of;
 use zeros::rice_of;
 ghost use mathlib.Core.Path.{_≡_};
-ghost use mathlib.Core.Bool.{true, false};
+ghost use mathlib.Core.Bool.{true};
 ghost use Prim.Native.Nat.{_*_, _+_, _≤_, _<_};
-ghost use lib.ListN.{length, take};
+ghost use lib.ListN.{take};
 ghost use lib.Dec.{eqb};
 ghost use Rattle.rules.specs.Tools.{isTool};
 ghost use Rattle.rules.specs.Samples.{plusZero, minusZero};
 ghost use Rattle.rules.specs.Chooses.{every, leastOf, greatestOf};
-ghost use Rattle.look.specs.Looks.{countIs, near, twoZeros, isMask, FrameIn};
-ghost use Rattle.locating.specs.Rows.{Tallied};
+ghost use Rattle.look.specs.Looks.{countIs, near, isMask, FrameIn};
 ghost use Rattle.offers.specs.Offers.{offerIf, OfferIs};
 ghost use Rattle.offers.specs.Ties.{BetterIs};
 

@@ -50,7 +50,8 @@ row-known o t n false e q = lit< tt
 row-known o t n true e q =
     let c : isLength n && isCode n o ≡ true = rw (eqb-true t 11 e) at q in
     let few = rows-few n (and-left (isLength n) (isCode n o) c) in
-    let high = ltb-true o (firstCode n + rowCount n) (and-right (leb (firstCode n) o) (ltb o (firstCode n + rowCount n)) (and-right (isLength n) (isCode n o) c)) in
+    let high = ltb-true o (firstCode n + rowCount n)
+    (and-right (leb (firstCode n) o) (ltb o (firstCode n + rowCount n)) (and-right (isLength n) (isCode n o) c)) in
     omega arith
 
 -- where an octet begins a frame, the length is one of the five, and its row one of the twelve

@@ -43,7 +43,8 @@ module _ (s : List ℕ) (n m : ℕ) (e : m ≡ markAt n) (h : m / 8 < length s) 
   six-refused q mask set room o i = rw (← e, bit-there s m h, q)
 
   pub six-decided : {t k : ℕ} (mark : ℕ) → mark ≡ getD (bitsOf s) m 0 → sixNotEight (bitsOf s) (m + 1) ≡ whole t k
-      → (mask set room o i : ℕ) → withTool mask set room t n mark (bitsOf s) (m + 1) ≡ afterFirst mask set room o (sixOrEight n) (bitsOf s) i
+      → (mask set room o i : ℕ) → withTool mask set room t n mark (bitsOf s) (m + 1) ≡ afterFirst mask set room o
+      (sixOrEight n) (bitsOf s) i
   unfolding afterFirst
   six-decided mark f q mask set room o i = rw (f, ← e, bit-there s m h, q)
 

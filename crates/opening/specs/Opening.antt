@@ -8,7 +8,6 @@ use Rattle.rules.specs.Tools.{isLength}
 use Rattle.rules.specs.Bits.{bitsOf}
 use Rattle.rules.specs.Reading.{Read, whole, refuse}
 use Rattle.rules.specs.First.{sixOrEight}
-use Rattle.rules.specs.Fractional.{rowCount}
 use Rattle.rules.specs.Samples.{maskOf}
 use Rattle.rules.specs.Frame.{Found, withTool, afterFirst, frame, readOne}
 use Rattle.opening.specs.declared.Head.{Head}
@@ -35,7 +34,8 @@ Ranges octets (Body h) = (HeadFits h) × (1 ≤ length octets)
 
 -- the opening of a frame of 6 or 8, its length known
 pub record SixOrEight (octets : List ℕ) (n : ℕ) (r : Opening) : Type 0 where
-  pub says : (mask set room o i : ℕ) → afterOpening mask set room r (bitsOf octets) ≡ afterFirst mask set room o (sixOrEight n) (bitsOf octets) i
+  pub says : (mask set room o i : ℕ) → afterOpening mask set room r (bitsOf octets) ≡ afterFirst mask set room o (sixOrEight n)
+      (bitsOf octets) i
   pub ranges : Ranges octets r
 
 pub record Opens (octets : List ℕ) (r : Opening) : Type 0 where

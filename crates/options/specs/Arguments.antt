@@ -93,7 +93,8 @@ atFirst tool =
     }
 
 -- settings by their fields in turn
-abbrev settings : (tool law n set : ℕ) (flags : Flags) (form : ℕ) (only : Bool) (frame infile outfile master wants wrong place : ℕ) → Settings
+abbrev settings : (tool law n set : ℕ) (flags : Flags) (form : ℕ) (only : Bool)
+    (frame infile outfile master wants wrong place : ℕ) → Settings
 settings tool law n set flags form only frame infile outfile master wants wrong place =
     record {
       tool = tool;
@@ -112,7 +113,8 @@ settings tool law n set flags form only frame infile outfile master wants wrong 
       place = place;
     }
 
--- what is wrong with argument i: an option that is not known (1), no number (2), a file too many (3), a word that is missing (4), too long (5)
+-- what is wrong with argument i: an option that is not known (1), no number (2), a file too many (3), a word that is missing (4), too long
+-- (5)
 abbrev pub withWrong : Settings → ℕ → ℕ → Settings
 withWrong s why i =
     settings (s .tool) (s .law) (s .length) (s .set) (s .flags) (s .form) (s .only) (s .frame)

@@ -40,7 +40,8 @@ steps-end : (run r : Run) → run .more ≡ true → r .more ≡ false → run .
 unfolding stepsLeft
 steps-end run r m e g = rw (m, e) (omega arith)
 
-steps-on : (run r : Run) → run .more ≡ true → run .packed .octets < r .packed .octets → r .packed .octets ≤ longest → stepsLeft r < stepsLeft run
+steps-on : (run r : Run) → run .more ≡ true → run .packed .octets < r .packed .octets → r .packed .octets ≤ longest
+    → stepsLeft r < stepsLeft run
 unfolding stepsLeft
 steps-on run r m g h = go (r .more)
   where
@@ -66,7 +67,13 @@ run-stopped s run r w m p =
     record {
       stands = record {
         kept = w .kept;
-        one = record { sound = o .sound; is = rw (p .same) (o .is); allowed = o .allowed; parts = o .parts; whole = λ t. never (sym e ∙ t) };
+        one = record {
+          sound = o .sound;
+          is = rw (p .same) (o .is);
+          allowed = o .allowed;
+          parts = o .parts;
+          whole = λ t. never (sym e ∙ t);
+        };
         frames = λ t. never (sym e ∙ t);
         samples = λ t. never (sym e ∙ t);
       };
@@ -74,7 +81,8 @@ run-stopped s run r w m p =
     }
 
 -- a part that was packed after what stands
-module _ (s : Settings) (run : Run) (w : Stands s run) (m : run .more ≡ true) (part page page′ : List ℕ) (b : Below 256 part) (h : length part ≤ partSize)
+module _ (s : Settings) (run : Run) (w : Stands s run) (m : run .more ≡ true) (part page page′ : List ℕ) (b : Below 256 part)
+    (h : length part ≤ partSize)
     (k : length page ≡ pageSize) {p : PackAnswer} (t : PackOn (run .packed) part (s .law) (s .set) (s .length) page page′ p) where
   pub part-adds : Adds (length part) (length page) (run .packed) p
   part-adds = on-adds part (s .law) (s .set) (s .length) page page′ (kept-most (w .one)) t

@@ -20,4 +20,5 @@ pub written-walks-back : (s : Settings) (run : Run) (w : WholeSound s run) → B
 written-walks-back s run w b reader into i h r =
     let o = w .one in
     let most = pack-bounds (o .sound) (s .law) (s .set) (s .length) longest .octets-most in
-    rw (file-is (o .is), o .is .frames) (pack-walk (o .sound) (s .law) (s .set) (s .length) longest b (sym (o .is .end) ∙ w .well) reader into i h (omega (arith, most)) r)
+    rw (file-is (o .is), o .is .frames)
+    (pack-walk (o .sound) (s .law) (s .set) (s .length) longest b (sym (o .is .end) ∙ w .well) reader into i h (omega (arith, most)) r)

@@ -4,7 +4,6 @@ ghost use Prim.Native.Nat.{_+_, _≤_, _<_};
 ghost use mathlib.Core.Path.{_≡_};
 ghost use mathlib.Core.Bool.{true};
 ghost use lib.ListN.{length};
-ghost use Rattle.rules.specs.Walk.{longest};
 ghost use Rattle.cutting.specs.Parts.{partSize};
 ghost use Rattle.replaying.specs.Runs.{Reachable};
 ghost use Rattle.pack.specs.Runs.{pageSize, FilledIf, NextOctets, WholeSound, Stands, StopsRun, stepsLeft};

@@ -2,7 +2,7 @@
 -- more room than a part can need gives the same (put-enough).
 use Prim.Native.Nat.{ℕ, zero, suc, _+_, _*_, _-_, _≤_}
 use native.Mathlib.Omega.{arith}
-use mathlib.Core.Path.{_≡_, refl, ap, _∙_}
+use mathlib.Core.Path.{_≡_, refl, ap}
 use mathlib.Core.List.{List, [], _∷_}
 use mathlib.Core.Bool.{Bool, true, false, cond}
 use lib.ListN.{length, take, drop, length-append, length-drop}
@@ -10,13 +10,13 @@ use lib.Seq.{length-take-le}
 use lib.Dec.{eqb}
 use borrow.Author.Tests.{eqb-false, le-ltb}
 use Rattle.rules.specs.declared.Ending.{Ending}
-use Rattle.rules.specs.Tools.{isLength, isWriterSet}
+use Rattle.rules.specs.Tools.{isWriterSet}
 use Rattle.rules.specs.Samples.{maskOf}
 use Rattle.rules.proofs.Tests.{by-length}
 use Rattle.rules.proofs.Octets.{Below, below-take, below-drop}
 use Rattle.promises.proofs.Written.{Frames, full, chosen-short}
 use Rattle.cutting.specs.Cuts.{nextLength, cutsFrom, cuts}
-use Rattle.packing.specs.Packing.{formOctets, streamOf, Packed, before, putAll}
+use Rattle.packing.specs.Packing.{formOctets, streamOf, before, putAll}
 use Rattle.cutting.proofs.Lengths.{next-fits}
 
 -- a frame has at most one octet more than samples, and 40 samples at least
@@ -24,7 +24,8 @@ form-most : (law set : ℕ) {s : List ℕ} → isWriterSet set ≡ true → Fram
 unfolding formOctets
 form-most law set o f = chosen-short (maskOf law) set o f .most
 
-most-from : (a law set n : ℕ) {s : List ℕ} → isWriterSet set ≡ true → Below 256 s → 40 * length (streamOf law set (cutsFrom a n s)) ≤ 41 * length s
+most-from : (a law set n : ℕ) {s : List ℕ} → isWriterSet set ≡ true → Below 256 s
+    → 40 * length (streamOf law set (cutsFrom a n s)) ≤ 41 * length s
 unfolding cutsFrom streamOf
 most-from zero law set n o b = omega arith
 most-from (suc a) law set n {s} o b =
@@ -45,7 +46,8 @@ most-from (suc a) law set n {s} o b =
         let rest = streamOf law set (cutsFrom a n (drop l s)) in
         omega (arith, ih, some, size, f .within, length-drop l s, form-most law set o fs, length-append (formOctets law set first) rest)
 
-pub stream-most : (law set n : ℕ) {s : List ℕ} → isWriterSet set ≡ true → Below 256 s → 40 * length (streamOf law set (cuts n s)) ≤ 41 * length s
+pub stream-most : (law set n : ℕ) {s : List ℕ} → isWriterSet set ≡ true → Below 256 s
+    → 40 * length (streamOf law set (cuts n s)) ≤ 41 * length s
 unfolding cuts
 stream-most law set n {s} o b = most-from (length s) law set n o b
 

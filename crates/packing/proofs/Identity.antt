@@ -16,7 +16,8 @@ use Rattle.rules.specs.Walk.{Walked, longest, walkAll, octetsKept, samplesKept}
 use Rattle.rules.specs.Calls.{atStart, Walks, Walk}
 use Rattle.rules.proofs.Octets.{Below, below-take, below-drop}
 use Rattle.promises.proofs.Written.{full}
-use Rattle.promises.proofs.Lists.{Part, frameOf, frames, All, last, then, stream, samplesAll, deliveries, lists-walked, deliveries-samples, deliveries-octets}
+use Rattle.promises.proofs.Lists.{Part, frameOf, frames, All, last, then}
+use Rattle.promises.proofs.Lists.{stream, samplesAll, deliveries, lists-walked, deliveries-samples, deliveries-octets}
 use Rattle.packing.specs.declared.PackAnswer.{PackAnswer}
 use Rattle.cutting.specs.Cuts.{nextLength, cutsFrom, cuts, soundIn}
 use Rattle.packing.specs.Packing.{formOctets, streamOf, packAll, Pack}
@@ -44,7 +45,8 @@ delivered mask at set [] = refl
 delivered mask at set (s ∷ fs) = ap suc (delivered mask _ set fs)
 
 -- every cut is a frame that a writer takes
-cuts-may : (a n set reader : ℕ) {s : List ℕ} → isWriterSet set ≡ true → Within set reader → Below 256 s → All reader (partsOf set (cutsFrom a n s))
+cuts-may : (a n set reader : ℕ) {s : List ℕ} → isWriterSet set ≡ true → Within set reader → Below 256 s
+    → All reader (partsOf set (cutsFrom a n s))
 unfolding cutsFrom partsOf
 cuts-may zero n set reader o w b = last
 cuts-may (suc a) n set reader {s} o w b =
@@ -105,7 +107,8 @@ pub packed-walked : (sound : List ℕ) (law set n : ℕ) (out out′ : List ℕ)
 packed-walked sound law set n out out′ r b m c e reader into into′ w i h s d =
     let p = packAll sound law set n (length out) in
     let str = streamOf law set (p .frames) in
-    let o : take (r .octets) out′ ≡ str = ap (take (r .octets)) (c .lent) ∙ take-at str (drop (length str) out) (r .octets) (sym (c .octets)) in
+    let o : take (r .octets) out′ ≡ str = ap (take (r .octets)) (c .lent)
+    ∙ take-at str (drop (length str) out) (r .octets) (sym (c .octets)) in
     let g = pack-walk sound law set n (length out) b (sym (c .end) ∙ e) reader (length into) i h
     (omega (arith, pack-bounds sound law set n (length out) .octets-most)) s in
     let d′ : Walks (walkAll str law reader (length into)) w into into′ = rw o at d in

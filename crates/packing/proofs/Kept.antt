@@ -20,9 +20,11 @@ pub soundIn-more : (a : List (List ℕ)) (s : List ℕ) → soundIn (a ++ (s ∷
 unfolding soundIn
 soundIn-more a s = soundIn-append a (s ∷ []) ∙ ap (λ (x : List ℕ). soundIn a ++ x) (append-nil s)
 
-pub streamOf-more : (law set : ℕ) (a : List (List ℕ)) (s : List ℕ) → streamOf law set (a ++ (s ∷ [])) ≡ streamOf law set a ++ formOctets law set s
+pub streamOf-more : (law set : ℕ) (a : List (List ℕ)) (s : List ℕ)
+    → streamOf law set (a ++ (s ∷ [])) ≡ streamOf law set a ++ formOctets law set s
 unfolding streamOf
-streamOf-more law set a s = streamOf-append law set a (s ∷ []) ∙ ap (λ (x : List ℕ). streamOf law set a ++ x) (append-nil (formOctets law set s))
+streamOf-more law set a s = streamOf-append law set a (s ∷ [])
+    ∙ ap (λ (x : List ℕ). streamOf law set a ++ x) (append-nil (formOctets law set s))
 
 -- frames, and then the rest
 abbrev pub after : List (List ℕ) → Packed → Packed

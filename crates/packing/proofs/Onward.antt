@@ -1,4 +1,5 @@
--- A part packed after others keeps within the sound and the room; and where it was packed well it takes room, so that packing part after part ends.
+-- A part packed after others keeps within the sound and the room; and where it was packed well it takes room, so that packing part after
+-- part ends.
 use Prim.Native.Nat.{ℕ, _+_, _-_, _≤_, _<_}
 use native.Mathlib.Omega.{arith}
 use mathlib.Core.Path.{_≡_, refl, sym, ap, _∙_}
@@ -28,7 +29,8 @@ form-some : (law set : ℕ) {s : List ℕ} → isWriterSet set ≡ true → Fram
 unfolding formOctets
 form-some law set o f = chosen-short (maskOf law) set o f .some
 
-cuts-some : (law set n : ℕ) (s : List ℕ) → isWriterSet set ≡ true → Below 256 s → 1 ≤ length (soundIn (cuts n s)) → 1 ≤ length (streamOf law set (cuts n s))
+cuts-some : (law set n : ℕ) (s : List ℕ) → isWriterSet set ≡ true → Below 256 s → 1 ≤ length (soundIn (cuts n s))
+    → 1 ≤ length (streamOf law set (cuts n s))
 unfolding soundIn streamOf
 cuts-some law set n s o b h = go (nextLength n (length s)) refl (eqb (nextLength n (length s)) 0) refl
   where
@@ -62,7 +64,8 @@ on-adds part law set n page page′ {done} {r} h t = go (bounds (done .end))
     bounds Done = pack-bounds part law set n room
     bounds (Refused why) = none-kept law set room (length part) (length part) (Refused why)
 
-    go : Bounds (length part) (length part) room (packedOn (done .end) part law set n room) law set → Adds (length part) (length page) done r
+    go : Bounds (length part) (length part) room (packedOn (done .end) part law set n room) law set
+        → Adds (length part) (length page) done r
     go b =
         record {
           frames = omega (arith, t .frames, b .frames-most);
@@ -76,7 +79,8 @@ pub on-takes-room : (part : List ℕ) (law set n : ℕ) (page page′ : List ℕ
     → PackOn done part law set n page page′ r → r .end ≡ Done → done .octets < r .octets
 on-takes-room part law set n page page′ {done} {r} b h t e = go (done .end) t
   where
-    go : (d : Ending) → PacksAfter done law set (packedOn d part law set n (roomOn (done .octets) (length page))) page page′ r → done .octets < r .octets
+    go : (d : Ending) → PacksAfter done law set (packedOn d part law set n (roomOn (done .octets) (length page))) page page′ r
+        → done .octets < r .octets
     go (Refused why) t = not-done why (sym (t .end) ∙ e)
     go Done t =
         let room = roomOn (done .octets) (length page) in

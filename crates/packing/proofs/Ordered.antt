@@ -15,14 +15,16 @@ use Rattle.packing.specs.Packing.{streamOf, Packed, halted, putAll, pack
 use Rattle.packing.specs.Parts.{StopsAtOnce}
 
 -- no frame is packed, and the output is as lent
-pub stops : {why : Refusal} {r : PackAnswer} → StopsAtOnce why r → (law set : ℕ) (p : Packed) → halted (Refused why) ≡ p → (out : List ℕ) → Packs law set p r out out
+pub stops : {why : Refusal} {r : PackAnswer} → StopsAtOnce why r → (law set : ℕ) (p : Packed) → halted (Refused why) ≡ p
+    → (out : List ℕ) → Packs law set p r out out
 unfolding soundIn streamOf
 stops {why} {r} s law set p e out =
     subst (λ (p : Packed). Packs law set p r out out) e
     (record { end = s .end; frames = s .frames; samples = s .samples; octets = s .octets; lent = refl })
 
 -- an answer is one of an equal packing
-pub packs-as : {law set : ℕ} {p q : Packed} {r : PackAnswer} {out out′ : List ℕ} → p ≡ q → Packs law set p r out out′ → Packs law set q r out out′
+pub packs-as : {law set : ℕ} {p q : Packed} {r : PackAnswer} {out out′ : List ℕ} → p ≡ q → Packs law set p r out out′
+    → Packs law set q r out out′
 packs-as {law} {set} {r = r} {out = out} {out′ = out′} e t = subst (λ (p : Packed). Packs law set p r out out′) e t
 
 module _ (sound : List ℕ) (law set n room : ℕ) where

@@ -19,13 +19,19 @@ use Rattle.packing.specs.Parts.{PutsFrame, packedOn, roomOn, PacksAfter,
 use Rattle.packing.proofs.Whole.{pack-bounds}
 
 pub frame-put : (sound : List ℕ) (from to law set at : ℕ) (out last : List ℕ) {r : WriteAnswer} → from ≤ to → to ≤ length sound
-    → Writes (writeOne (length (take (to - from) (drop from sound))) (take (to - from) (drop from sound)) law set (length (take (length out - at) (drop at out)))) r
+    → Writes (writeOne (length (take (to - from) (drop from sound))) (take (to - from) (drop from sound)) law set
+    (length (take (length out - at) (drop at out)))) r
     (take (length out - at) (drop at out)) last
     → PutsFrame sound from (to - from) law set at out (take at out ++ (last ++ drop (length out - at) (drop at out))) r
 frame-put sound from to law set at out last f t h =
     record {
       rest = last;
-      writes = rw (from-on out at, length-drop at out, length-take-le (to - from) (drop from sound) (omega (arith, length-drop from sound))) at h;
+      writes = rw (
+        from-on out at,
+        length-drop at out,
+        length-take-le (to - from) (drop from sound)
+            (omega (arith, length-drop from sound)),
+      ) at h;
       lent = ap (λ (x : List ℕ). take at out ++ x) (back-on out at last);
     }
 
@@ -43,7 +49,8 @@ front-lent s page k h l =
     let t : List ℕ = take k page in
     append-assoc s (drop (length s) t) (drop k page)
     ∙ ap (λ (x : List ℕ). s ++ x)
-    (sym (drop-append-le (length s) t (drop k page) (omega (arith, length-take-le k page h))) ∙ ap (drop (length s)) (take-append-drop k page))
+    (sym (drop-append-le (length s) t (drop k page) (omega (arith, length-take-le k page h)))
+    ∙ ap (drop (length s)) (take-append-drop k page))
 
 -- a part packed into as much of the page as the longest stream has left
 pub part-packed : (done : PackAnswer) (part : List ℕ) (law set n room : ℕ) (page rest : List ℕ) {p : PackAnswer} → done .end ≡ Done

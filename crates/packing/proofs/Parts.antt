@@ -1,5 +1,5 @@
--- A sound may be packed in parts: where a part's length is a multiple of the frame length, packing it and then the rest is packing the whole
--- (pack-parts); and so, page after page into a file, is what `pack_on` makes of the parts (carried-on).
+-- A sound may be packed in parts: where a part's length is a multiple of the frame length, packing it and then the rest is packing the
+-- whole (pack-parts); and so, page after page into a file, is what `pack_on` makes of the parts (carried-on).
 use Prim.Native.Nat.{ℕ, _*_, _-_, _≤_, min}
 use native.Mathlib.Omega.{arith}
 use mathlib.Core.Path.{_≡_, refl, sym, ap, _∙_}
@@ -33,10 +33,12 @@ put-parts : (law set room : ℕ) (x y : List (List ℕ)) (end : Ending) → putA
     → putAll law set room (x ++ y) end ≡ after x (putAll law set (room - length (streamOf law set x)) y end)
 unfolding putAll streamOf
 put-parts law set room [] y end e = let z : room - 0 ≡ room = omega arith in rw z refl
-put-parts law set room (s ∷ x) y end e = go (length (formOctets law set s)) refl (ltb room (length (formOctets law set s))) (put-parts law set (room - length (formOctets law set s)) x y end) e
+put-parts law set room (s ∷ x) y end e = go (length (formOctets law set s)) refl (ltb room (length (formOctets law set s)))
+    (put-parts law set (room - length (formOctets law set s)) x y end) e
   where
     go : (u : ℕ) → length (formOctets law set s) ≡ u → (b : Bool)
-        → (putAll law set (room - u) x Done .end ≡ Done → putAll law set (room - u) (x ++ y) end ≡ after x (putAll law set (room - u - length (streamOf law set x)) y end))
+        → (putAll law set (room - u) x Done .end ≡ Done
+        → putAll law set (room - u) (x ++ y) end ≡ after x (putAll law set (room - u - length (streamOf law set x)) y end))
         → cond b (halted (Refused Room)) (before s (putAll law set (room - u) x Done)) .end ≡ Done
         → cond b (halted (Refused Room)) (before s (putAll law set (room - u) (x ++ y) end))
         ≡ after (s ∷ x) (putAll law set (room - length (formOctets law set s ++ streamOf law set x)) y end)
@@ -51,7 +53,8 @@ put-stays : (law set room : ℕ) (x y : List (List ℕ)) (end : Ending) → (put
     → putAll law set room (x ++ y) end ≡ putAll law set room x Done
 unfolding putAll
 put-stays law set room [] y end h = absurd (h refl)
-put-stays law set room (s ∷ x) y end h = go (length (formOctets law set s)) (ltb room (length (formOctets law set s))) (put-stays law set (room - length (formOctets law set s)) x y end) h
+put-stays law set room (s ∷ x) y end h = go (length (formOctets law set s)) (ltb room (length (formOctets law set s)))
+    (put-stays law set (room - length (formOctets law set s)) x y end) h
   where
     go : (u : ℕ) (b : Bool)
         → ((putAll law set (room - u) x Done .end ≡ Done → ⊥) → putAll law set (room - u) (x ++ y) end ≡ putAll law set (room - u) x Done)
@@ -98,8 +101,16 @@ module _ (a b : List ℕ) (law set n k room : ℕ) (m : length a ≡ k * n) wher
   end-parts : isLength n ≡ true → endOf n (a ++ b) ≡ endOf n b
   unfolding endOf
   end-parts i =
-      let c : soundIn (cuts n (a ++ b)) ≡ soundIn (cuts n a) ++ soundIn (cuts n b) = ap soundIn (cuts-parts n k a b i m) ∙ soundIn-append (cuts n a) (cuts n b) in
-      ap lastEnd (omega (arith, ap length c, length-append (soundIn (cuts n a)) (soundIn (cuts n b)), ap length (cuts-multiple n k a i m), length-append a b))
+      let c : soundIn (cuts n (a ++ b)) ≡ soundIn (cuts n a) ++ soundIn (cuts n b) = ap soundIn (cuts-parts n k a b i m)
+      ∙ soundIn-append (cuts n a) (cuts n b) in
+      ap lastEnd (omega (
+        arith,
+        ap length c,
+        length-append (soundIn (cuts n a)) (soundIn (cuts n b)),
+        ap length
+            (cuts-multiple n k a i m),
+        length-append a b,
+      ))
 
   -- all tests passed, it is the putting of the parts' cuts
   whole-is : isLaw law ≡ true → isWriterSet set ≡ true → isLength n ≡ true
@@ -122,16 +133,19 @@ module _ (a b : List ℕ) (law set n k room : ℕ) (m : length a ≡ k * n) wher
       let left = room - length (streamOf law set (cuts n a)) in
       rw (w .frames)
       (whole-is (w .lawful) (w .odd) (w .allowed)
-      ∙ put-parts law set room (cuts n a) (cuts n b) (endOf n b) (ap (λ (p : Packed). p .end) (sym (first-is (w .lawful) (w .odd) (w .allowed))) ∙ e)
+      ∙ put-parts law set room (cuts n a) (cuts n b) (endOf n b)
+      (ap (λ (p : Packed). p .end) (sym (first-is (w .lawful) (w .odd) (w .allowed))) ∙ e)
       ∙ ap (after (cuts n a)) (the-frames b law set n left (w .lawful) (w .odd) (w .allowed)))
 
   -- a part that was refused: nothing after it matters
   pub pack-stays : (packAll a law set n room .end ≡ Done → ⊥) → packAll (a ++ b) law set n room ≡ packAll a law set n room
   pack-stays h = go (isLaw law) refl (isWriterSet set) refl (isLength n) refl
     where
-      go : (x : Bool) → isLaw law ≡ x → (y : Bool) → isWriterSet set ≡ y → (z : Bool) → isLength n ≡ z → packAll (a ++ b) law set n room ≡ packAll a law set n room
+      go : (x : Bool) → isLaw law ≡ x → (y : Bool) → isWriterSet set ≡ y → (z : Bool) → isLength n ≡ z
+          → packAll (a ++ b) law set n room ≡ packAll a law set n room
       go true l true o true i =
-          whole-is l o i ∙ put-stays law set room (cuts n a) (cuts n b) (endOf n b) (λ e. h (ap (λ (p : Packed). p .end) (first-is l o i) ∙ e)) ∙ sym (first-is l o i)
+          whole-is l o i ∙ put-stays law set room (cuts n a) (cuts n b) (endOf n b)
+          (λ e. h (ap (λ (p : Packed). p .end) (first-is l o i) ∙ e)) ∙ sym (first-is l o i)
       go true l true o false i = same-no-length (a ++ b) a law set n room l o i
       go true l false o z i = same-no-set (a ++ b) a law set n room l o
       go false l y o z i = same-no-law (a ++ b) a law set n room l
@@ -146,14 +160,16 @@ file-of : (stream file : List ℕ) → file ≡ stream → file ≡ atStart stre
 file-of stream file e = e ∙ sym (ap (λ (x : List ℕ). stream ++ x) (drop-nil (length stream)) ∙ append-nil stream)
 
 -- packing no sound, where that is not refused, leaves a file with nothing in it
-pub begun : (law set n : ℕ) (page page′ : List ℕ) {r : PackAnswer} → Pack [] law set n page page′ r → r .end ≡ Done → PackFile [] law set n [] r
+pub begun : (law set n : ℕ) (page page′ : List ℕ) {r : PackAnswer} → Pack [] law set n page page′ r → r .end ≡ Done
+    → PackFile [] law set n [] r
 unfolding putAll streamOf
 begun law set n page page′ p e =
     let room = length page in
     let w = well-packed [] law set n room (sym (p .end) ∙ e) in
     let none : cuts n [] ≡ [] = cuts-none n [] (next-none n 0 (omega arith)) in
     let same : packAll [] law set n room ≡ packAll [] law set n longest
-    = sym (the-frames [] law set n room (w .lawful) (w .odd) (w .allowed)) ∙ rw none refl ∙ the-frames [] law set n longest (w .lawful) (w .odd) (w .allowed) in
+    = sym (the-frames [] law set n room (w .lawful) (w .odd) (w .allowed)) ∙ rw none refl
+    ∙ the-frames [] law set n longest (w .lawful) (w .odd) (w .allowed) in
     let t = packs-as same p in
     let empty = ap (streamOf law set) (ap (λ (p : Packed). p .frames) (sym same) ∙ w .frames ∙ none) in
     record { end = t .end; frames = t .frames; samples = t .samples; octets = t .octets; lent = file-of _ [] (sym empty) }
@@ -190,7 +206,13 @@ joined {law} {set} {p} {d} {file = file} f t =
     record {
       end = t .end;
       frames = omega (arith, t .frames, f .frames, length-append (p .frames) (d .frames));
-      samples = omega (arith, t .samples, f .samples, ap length (soundIn-append (p .frames) (d .frames)) ∙ length-append (soundIn (p .frames)) (soundIn (d .frames)));
+      samples = omega (
+        arith,
+        t .samples,
+        f .samples,
+        ap length (soundIn-append (p .frames) (d .frames))
+            ∙ length-append (soundIn (p .frames)) (soundIn (d .frames)),
+      );
       octets = omega (arith, t .octets, f .octets, ap length whole ∙ length-append s more);
       lent =
           file-of (streamOf law set (p .frames ++ d .frames)) _
@@ -214,6 +236,7 @@ carried-on a b law set n k file page page′ {done} {r} m c h f g = go (done .en
         let w = well-packed a law set n longest e in
         let left = longest - length (streamOf law set (packAll a law set n longest .frames)) in
         let same : packAll b law set n (roomOn (done .octets) (length page)) ≡ packAll b law set n left
-        = ap (λ (x : ℕ). packAll b law set n (min (length page) (longest - x))) (f .octets) ∙ page-enough b law set n (length page) left (w .lawful) (w .odd) (w .allowed) c h in
+        = ap (λ (x : ℕ). packAll b law set n (min (length page) (longest - x))) (f .octets)
+        ∙ page-enough b law set n (length page) left (w .lawful) (w .odd) (w .allowed) c h in
         let t′ = rw same at t in
         packs-as (sym (pack-parts a b law set n k longest m e)) (joined f t′)

@@ -95,7 +95,8 @@ module _ (sound : List ℕ) (law set n : ℕ) (out₀ : List ℕ) where
       → putAll law set (length out₀ - at) (cuts n (drop from sound)) (endOf n sound) ≡ halted e
       → Packs law set packed (record { end = e; frames = count; samples = from; octets = at }) out₀ out
   pack-stop {out} {from} {at} {count} w e q =
-      subst (λ (x : Packed). Packs law set x (record { end = e; frames = count; samples = from; octets = at }) out₀ out) (sym (w .is-whole ∙ ap (after (w .done)) q)) (record {
+      subst (λ (x : Packed). Packs law set x (record { end = e; frames = count; samples = from; octets = at }) out₀ out)
+      (sym (w .is-whole ∙ ap (after (w .done)) q)) (record {
         end = refl;
         frames = rw append-nil (w .frames);
         samples = rw append-nil (w .samples);
@@ -111,11 +112,13 @@ module _ (sound : List ℕ) (law set n : ℕ) (out₀ : List ℕ) where
     pack-done h {e} l =
         let left : length (drop from sound) ≡ length sound - from = length-drop from sound in
         let none : cuts n (drop from sound) ≡ [] = cuts-none n (drop from sound) (rw left h) in
-        let all : soundIn (cuts n sound) ≡ soundIn (w .done) = ap soundIn (w .all-cuts ∙ ap (λ (x : List (List ℕ)). w .done ++ x) none ∙ append-nil (w .done)) in
+        let all : soundIn (cuts n sound) ≡ soundIn (w .done) =
+        ap soundIn (w .all-cuts ∙ ap (λ (x : List (List ℕ)). w .done ++ x) none ∙ append-nil (w .done)) in
         let size : length (soundIn (cuts n sound)) ≡ from = ap length all ∙ sym (w .samples) in
         pack-stop w e (rw none (rw (size, l) refl))
 
-    module _ (i : isLaw law ≡ true) (o : isWriterSet set ≡ true) {l to : ℕ} (h : l ≡ nextLength n (length sound - from)) (some : 1 ≤ l) (e : to ≡ from + l) where
+    module _ (i : isLaw law ≡ true) (o : isWriterSet set ≡ true) {l to : ℕ} (h : l ≡ nextLength n (length sound - from))
+        (some : 1 ≤ l) (e : to ≡ from + l) where
       fits : Fits (length sound - from) l
       fits = next-fits n (length sound - from) l h some
 
@@ -135,7 +138,8 @@ module _ (sound : List ℕ) (law set n : ℕ) (out₀ : List ℕ) where
           → rest ≡ drop at out → out′ ≡ take at out ++ rest
           → Packs law set packed (record { end = Refused Room; frames = count; samples = from; octets = at }) out₀ out′
       no-room {out′} {rest} k f g =
-          subst (λ (x : List ℕ). Packs law set packed (record { end = Refused Room; frames = count; samples = from; octets = at }) out₀ x) (sym (lent-same (w .kept) g f))
+          subst (λ (x : List ℕ). Packs law set packed (record { end = Refused Room; frames = count; samples = from; octets = at }) out₀ x)
+          (sym (lent-same (w .kept) g f))
           (pack-stop w (Refused Room)
           (ap (λ (x : List (List ℕ)). putAll law set (length out₀ - at) x (endOf n sound)) next-cut
           ∙ put-no-room law set (length out₀ - at) s (cuts n (drop to sound)) (endOf n sound) k))
@@ -145,14 +149,16 @@ module _ (sound : List ℕ) (law set n : ℕ) (out₀ : List ℕ) where
           → rest ≡ atStart (formOctets law set s) (drop at out) → out′ ≡ take at out ++ rest
           → Packing out′ to (at + used) (count + 1)
       put {out′} {rest} used k u er g =
-          let on = put-on law set (length out₀ - at) (length out₀ - (at + used)) s (cuts n (drop to sound)) (endOf n sound) k (omega arith) in
+          let on = put-on law set (length out₀ - at) (length out₀ - (at + used)) s (cuts n (drop to sound)) (endOf n sound)
+          k (omega arith) in
           record {
             done = w .done ++ (s ∷ []);
             is-whole =
                 w .is-whole
                 ∙ ap (λ (x : List (List ℕ)). after (w .done) (putAll law set (length out₀ - at) x (endOf n sound))) next-cut
                 ∙ ap (after (w .done)) on ∙ after-before (w .done) s _;
-            all-cuts = w .all-cuts ∙ ap (λ (x : List (List ℕ)). w .done ++ x) next-cut ∙ sym (append-assoc (w .done) (s ∷ []) (cuts n (drop to sound)));
+            all-cuts = w .all-cuts ∙ ap (λ (x : List (List ℕ)). w .done ++ x) next-cut
+                ∙ sym (append-assoc (w .done) (s ∷ []) (cuts n (drop to sound)));
             frames = omega (arith, w .frames, length-append (w .done) (s ∷ []));
             samples = omega (arith, e, w .samples, s-length, ap length (soundIn-more (w .done) s) ∙ length-append (soundIn (w .done)) s);
             kept = rw streamOf-more (lent-more (w .kept) g (formOctets law set s) u (omega (arith, k, u)) er);
@@ -162,7 +168,9 @@ module _ (sound : List ℕ) (law set n : ℕ) (out₀ : List ℕ) where
 
       -- as the written frame's answer says
       module _ {out′ : List ℕ} {r : WriteAnswer} (p : PutsFrame sound from (to - from) law set at out out′ r) where
-        written-here : Writes (cond (ltb (length out₀ - at) (length (formOctets law set s))) (declined Room) (wrote (chosen (maskOf law) set s))) r (drop at out) (p .rest)
+        written-here : Writes
+            (cond (ltb (length out₀ - at) (length (formOctets law set s))) (declined Room) (wrote (chosen (maskOf law) set s)))
+            r (drop at out) (p .rest)
         written-here =
             let d : to - from ≡ l = omega (arith, e) in
             rw (d, lent-length (w .kept), write-is law set l (length out₀ - at) s i o (fits .allowed) s-length) at (p .writes)
@@ -174,7 +182,8 @@ module _ (sound : List ℕ) (law set n : ℕ) (out₀ : List ℕ) where
                 → Writes (cond b (declined Room) (wrote (chosen (maskOf law) set s))) r (drop at out) (p .rest)
                 → Packing out′ to (at + r .octets) (count + 1)
             go true f t = let d = t .end in let z : _≡_ {A = ℕ} 0 1 = cc in absurd (omega arith)
-            go false f t = put (r .octets) (ltb-false (length out₀ - at) (length (formOctets law set s)) f) (t .octets ∙ sym (form-length law set s)) (t .lent ∙ form-lent law set s (drop at out)) (p .lent)
+            go false f t = put (r .octets) (ltb-false (length out₀ - at) (length (formOctets law set s)) f)
+                (t .octets ∙ sym (form-length law set s)) (t .lent ∙ form-lent law set s (drop at out)) (p .lent)
 
         pub pack-refused : (why : Refusal) → r .end ≡ Refused why
             → Packs law set packed (record { end = Refused why; frames = count; samples = from; octets = at }) out₀ out′
@@ -186,5 +195,6 @@ module _ (sound : List ℕ) (law set n : ℕ) (out₀ : List ℕ) where
             go true f t =
                 let d = t .end in
                 let same : Room ≡ why = cc in
-                rw (← same) (no-room (ltb-true (length out₀ - at) (length (formOctets law set s)) f) (t .lent ∙ nothing-lent (drop at out)) (p .lent))
+                rw (← same) (no-room (ltb-true (length out₀ - at) (length (formOctets law set s)) f)
+                (t .lent ∙ nothing-lent (drop at out)) (p .lent))
             go false f t = let d = t .end in let z : _≡_ {A = ℕ} 0 1 = cc in absurd (omega arith)

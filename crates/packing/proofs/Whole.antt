@@ -35,7 +35,8 @@ put-bounds law set room (s ∷ frames) end =
     go (ltb room (length (formOctets law set s))) refl (put-bounds law set (room - length (formOctets law set s)) frames end)
   where
     go : (b : Bool) → ltb room (length (formOctets law set s)) ≡ b
-        → Bounds (length frames) (length (soundIn frames)) (room - length (formOctets law set s)) (putAll law set (room - length (formOctets law set s)) frames end) law set
+        → Bounds (length frames) (length (soundIn frames)) (room - length (formOctets law set s))
+        (putAll law set (room - length (formOctets law set s)) frames end) law set
         → Bounds (suc (length frames)) (length (s ++ soundIn frames)) room
         (cond b (halted (Refused Room)) (before s (putAll law set (room - length (formOctets law set s)) frames end))) law set
     go true e h = none-kept law set room (suc (length frames)) (length (s ++ soundIn frames)) (Refused Room)
@@ -44,7 +45,13 @@ put-bounds law set room (s ∷ frames) end =
         record {
           frames-most = omega (arith, h .frames-most);
           samples-most = omega (arith, h .samples-most, length-append s (soundIn rest), length-append s (soundIn frames));
-          octets-most = omega (arith, h .octets-most, ltb-false room (length (formOctets law set s)) e, length-append (formOctets law set s) (streamOf law set rest));
+          octets-most = omega (
+            arith,
+            h .octets-most,
+            ltb-false room (length (formOctets law set s)) e,
+            length-append
+                (formOctets law set s) (streamOf law set rest),
+          );
         }
 
 guarded : (P : Packed → Type 0) (b : Bool) {x y : Packed} → P x → P y → P (cond b x y)
@@ -74,13 +81,15 @@ put-done : (law set room : ℕ) (frames : List (List ℕ)) (end : Ending) → pu
     → (putAll law set room frames end .frames ≡ frames) × (end ≡ Done)
 unfolding putAll
 put-done law set room [] end e = (refl, e)
-put-done law set room (s ∷ frames) end e = go (ltb room (length (formOctets law set s))) (put-done law set (room - length (formOctets law set s)) frames end) e
+put-done law set room (s ∷ frames) end e = go (ltb room (length (formOctets law set s)))
+    (put-done law set (room - length (formOctets law set s)) frames end) e
   where
     go : (b : Bool)
         → (putAll law set (room - length (formOctets law set s)) frames end .end ≡ Done
         → (putAll law set (room - length (formOctets law set s)) frames end .frames ≡ frames) × (end ≡ Done))
         → cond b (halted (Refused Room)) (before s (putAll law set (room - length (formOctets law set s)) frames end)) .end ≡ Done
-        → (cond b (halted (Refused Room)) (before s (putAll law set (room - length (formOctets law set s)) frames end)) .frames ≡ s ∷ frames) × (end ≡ Done)
+        → (cond b (halted (Refused Room)) (before s (putAll law set (room - length (formOctets law set s)) frames end))
+        .frames ≡ s ∷ frames) × (end ≡ Done)
     go true ih e = not-done Room e
     go false ih e = let h = ih e in (ap (λ (x : List (List ℕ)). s ∷ x) (h .0), h .1)
 
@@ -92,7 +101,8 @@ pub record WellPacked (sound : List ℕ) (law set n : ℕ) (p : Packed) : Type 0
   pub frames : p .frames ≡ cuts n sound
   pub sound-whole : soundIn (p .frames) ≡ sound
 
-guard : (b : Bool) (why : Refusal) (y : Packed) → cond b (halted (Refused why)) y .end ≡ Done → (b ≡ false) × (y .end ≡ Done) × (cond b (halted (Refused why)) y ≡ y)
+guard : (b : Bool) (why : Refusal) (y : Packed) → cond b (halted (Refused why)) y .end ≡ Done
+    → (b ≡ false) × (y .end ≡ Done) × (cond b (halted (Refused why)) y ≡ y)
 guard true why y e = not-done why e
 guard false why y e = (refl, e, refl)
 
@@ -104,7 +114,8 @@ last-done left e = go (eqb left 0) refl e
     go true q e = eqb-true left 0 q
     go false q e = not-done Length e
 
-pub well-packed : (sound : List ℕ) (law set n room : ℕ) → packAll sound law set n room .end ≡ Done → WellPacked sound law set n (packAll sound law set n room)
+pub well-packed : (sound : List ℕ) (law set n room : ℕ) → packAll sound law set n room .end ≡ Done
+    → WellPacked sound law set n (packAll sound law set n room)
 unfolding packAll endOf
 well-packed sound law set n room e =
     let put = putAll law set room (cuts n sound) (endOf n sound) in
@@ -130,8 +141,13 @@ pub record Inside (sound room : ℕ) (r : PackAnswer) : Type 0 where
   pub samples : r .samples ≤ sound
   pub octets : r .octets ≤ room
 
-pub pack-inside : (sound : List ℕ) (law set n room : ℕ) (out out′ : List ℕ) {r : PackAnswer} → Packs law set (packAll sound law set n room) r out out′
+pub pack-inside : (sound : List ℕ) (law set n room : ℕ) (out out′ : List ℕ) {r : PackAnswer}
+    → Packs law set (packAll sound law set n room) r out out′
     → Inside (length sound) room r
 pack-inside sound law set n room out out′ p =
     let b = pack-bounds sound law set n room in
-    record { frames = omega (arith, p .frames, b .frames-most); samples = omega (arith, p .samples, b .samples-most); octets = omega (arith, p .octets, b .octets-most) }
+    record {
+      frames = omega (arith, p .frames, b .frames-most);
+      samples = omega (arith, p .samples, b .samples-most);
+      octets = omega (arith, p .octets, b .octets-most);
+    }

@@ -35,7 +35,8 @@ packedOn Done part law set n room = packAll part law set n room
 abbrev pub roomOn : ℕ → ℕ → ℕ
 roomOn octets page = min page (longest - octets)
 
--- the next part of a sound, packed after what was packed so far: its octets stand at the page's start, the rest is as lent (p is `packedOn`)
+-- the next part of a sound, packed after what was packed so far: its octets stand at the page's start, the rest is as lent (p is
+-- `packedOn`)
 pub record PacksAfter (soFar : PackAnswer) (law set : ℕ) (p : Packed) (page page′ : List ℕ) (r : PackAnswer) : Type 0 where
   pub end : r .end ≡ p .end
   pub frames : r .frames ≡ soFar .frames + length (p .frames)

@@ -21,7 +21,8 @@ use Rattle.pages.specs.declared.Opened.{Opened}
 use Rattle.pages.specs.Pages.{linesOf, walkLeft, linesLeft, Opens, Stops, OpensInput}
 
 -- a refusal is all of the listing
-pub opens-stopped : (stream : List ℕ) {whole : List ℕ} {number : ℕ} {out out′ : List ℕ} {r : Opened} → Stops number out r out′ → whole ≡ stopLine number 0 0 0
+pub opens-stopped : (stream : List ℕ) {whole : List ℕ} {number : ℕ} {out out′ : List ℕ} {r : Opened} → Stops number out r out′
+    → whole ≡ stopLine number 0 0 0
     → Opens whole stream out r out′
 unfolding linesLeft
 opens-stopped stream {whole} {number} t e =
@@ -43,7 +44,8 @@ stream-listed : (law : ℕ) (stream : List ℕ) → law ≤ mostLaw → length s
     → listStream law stream ≡ lawLine law ++ linesOf 0 0 (walkLeft stream law 0)
 unfolding listStream
 stream-listed law stream h l =
-    let met : verdict (walkAsks law listedTools (length stream)) ≡ Done = rw (le-leb law mostLaw h, le-leb (length stream) longest (omega arith)) in
+    let met : verdict (walkAsks law listedTools (length stream)) ≡ Done =
+    rw (le-leb law mostLaw h, le-leb (length stream) longest (omega arith)) in
     rw (le-leb (length stream) mostListed l, walk-allowed stream law listedTools (320 * length stream) met, zero-add)
 
 -- the law's line, and the stream's first place
@@ -61,14 +63,16 @@ opens-stream stream {r = r} b h l p m =
       text = lawLine (r .law);
       puts = p;
       says = stream-listed (r .law) stream h l ∙ rw (b .goes, b .frames, b .at, b .samples);
-      stands = λ g. record { short = l; inside = omega (arith, b .at); frames = omega (arith, b .at, b .frames); samples = omega (arith, b .samples) };
+      stands = λ g. record
+          { short = l; inside = omega (arith, b .at); frames = omega (arith, b .at, b .frames); samples = omega (arith, b .samples) };
       most = m;
     }
 
 -- an input by its first octet
 by-letter : (input : List ℕ) → 0 < length input
     → listing input
-    ≡ cond (eqb (getD input 0 0) 0x41) (listStream 0 (drop 1 input)) (cond (eqb (getD input 0 0) 0x4D) (listStream 1 (drop 1 input)) (stopLine 12 0 0 0))
+    ≡ cond (eqb (getD input 0 0) 0x41) (listStream 0 (drop 1 input))
+    (cond (eqb (getD input 0 0) 0x4D) (listStream 1 (drop 1 input)) (stopLine 12 0 0 0))
 unfolding listing
 by-letter [] h = absurd (omega arith)
 by-letter (x ∷ l) h = refl
@@ -96,5 +100,6 @@ module _ (input : List ℕ) (h : 0 < length input) where
       record { opens = rw e (rw (take-all n (drop 1 input) k) at t); some = λ g. h }
 
 -- no law's letter
-pub stops-input : (input : List ℕ) {out out′ : List ℕ} {r : Opened} → listing input ≡ stopLine 12 0 0 0 → Stops 12 out r out′ → OpensInput input out r out′
+pub stops-input : (input : List ℕ) {out out′ : List ℕ} {r : Opened} → listing input ≡ stopLine 12 0 0 0 → Stops 12 out r out′
+    → OpensInput input out r out′
 stops-input input e t = record { opens = opens-stopped (drop 1 input) t e; some = λ g. absurd (false≢true (sym g ∙ t .ended)) }

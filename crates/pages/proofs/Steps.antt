@@ -1,6 +1,6 @@
 -- A step of the listing: the last two lines, or a frame's line.
 use Prim.Native.Nat.{ℕ, suc, _+_, _*_, _-_, _≤_, _<_}
-use mathlib.Core.Path.{_≡_, refl, sym, ap, _∙_}
+use mathlib.Core.Path.{_≡_, refl, ap, _∙_}
 use mathlib.Core.List.{List, _++_, append-assoc, append-nil}
 use mathlib.Core.Bool.{false}
 use native.Mathlib.Omega.{arith}
@@ -54,7 +54,8 @@ module _ (stream : List ℕ) (law : ℕ) where
       let s = read-most (drop at stream) law listedTools 320 e in
       let next = at + octetsUsed f in
       let left = room - length (f .samples) in
-      walk-one stream law listedTools (suc n) n at room refl h next left f (read-room (drop at stream) law listedTools room (omega arith) ∙ e) refl refl
+      walk-one stream law listedTools (suc n) n at room refl h next left f
+      (read-room (drop at stream) law listedTools room (omega arith) ∙ e) refl refl
       ∙ ap (before (record { place = at; found = f }))
       (walk-fuel stream law listedTools n (suc n) next left (omega arith) (omega arith)
       ∙ walk-roomy stream law listedTools (suc n) next left room (omega (arith, u .0, s)) (omega (arith, u .0, s)))
@@ -64,17 +65,21 @@ module _ (stream : List ℕ) (law : ℕ) where
     pub left-end : length stream ≤ s .at → linesLeft stream law s ≡ stopLine 0 (s .at) 0 0 ++ samplesLine (s .samples)
     unfolding linesLeft
     left-end h =
-        rw g (ap (λ (w : Walked). linesOf (s .frames) (s .samples) w) (walk-ended stream law listedTools (suc (length stream)) (s .at) (320 * length stream) h)
+        rw g (ap (λ (w : Walked). linesOf (s .frames) (s .samples) w)
+        (walk-ended stream law listedTools (suc (length stream)) (s .at) (320 * length stream) h)
         ∙ of-end (s .frames) (s .samples) (s .at) 0 Done)
 
     module _ (h : s .at < length stream) {r : Report} (t : Tells (readOne (drop (s .at) stream) law listedTools 320) r) where
-      pub left-refused : {w : Refusal} → r .end ≡ Refused w → linesLeft stream law s ≡ stopLine (refusalNumber w) (s .at) (r .tool) (r .bit) ++ samplesLine (s .samples)
+      pub left-refused : {w : Refusal} → r .end ≡ Refused w → linesLeft stream law s ≡ stopLine (refusalNumber w) (s .at)
+          (r .tool) (r .bit) ++ samplesLine (s .samples)
       unfolding linesLeft
       left-refused {w} e =
           let n = length stream in
           let q = refused t e in
-          let off = walk-off stream law listedTools (suc n) n (s .at) (320 * n) refl h (r .bit) w (read-room (drop (s .at) stream) law listedTools (320 * n) (omega arith) ∙ q) in
-          rw (g, t .tool ∙ ap (λ (x : Read Found). readTool x) q) (ap (λ (w : Walked). linesOf (s .frames) (s .samples) w) off ∙ of-end (s .frames) (s .samples) (s .at) (r .bit) (Refused w))
+          let off = walk-off stream law listedTools (suc n) n (s .at) (320 * n) refl h (r .bit) w
+          (read-room (drop (s .at) stream) law listedTools (320 * n) (omega arith) ∙ q) in
+          rw (g, t .tool ∙ ap (λ (x : Read Found). readTool x) q)
+          (ap (λ (w : Walked). linesOf (s .frames) (s .samples) w) off ∙ of-end (s .frames) (s .samples) (s .at) (r .bit) (Refused w))
 
       pub left-frame : r .end ≡ Done
           → linesLeft stream law s
@@ -95,7 +100,8 @@ Nearer stream law s out to s′ out′ to′ = Lists stream law s out to s′ ou
 -- the last two lines
 pub step-last : (stream : List ℕ) (law : ℕ) {number tool bit : ℕ} {s : Stand} {out out′ : List ℕ} {to : ℕ} {r : Page}
     → Ends number tool bit s out to r out′ → Stands stream s → s .ended ≡ false → to + 320 ≤ length out
-    → linesLeft stream law s ≡ stopLine number (s .at) tool bit ++ samplesLine (s .samples) → Nearer stream law s out to (r .stand) out′ (r .to)
+    → linesLeft stream law s ≡ stopLine number (s .at) tool bit ++ samplesLine (s .samples)
+    → Nearer stream law s out to (r .stand) out′ (r .to)
 unfolding linesLeft stepsLeft
 step-last stream law {number} {tool} {bit} {s} t a n h e = (
   record {

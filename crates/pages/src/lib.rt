@@ -3,7 +3,7 @@
 ghost use mathlib.Core.Path.{_≡_};
 ghost use Prim.Native.Nat.{_+_, _^_, _≤_, _<_};
 ghost use mathlib.Core.Bool.{false};
-ghost use lib.ListN.{length, drop};
+ghost use lib.ListN.{length};
 ghost use Rattle.rules.specs.Tools.{mostLaw};
 ghost use Rattle.rules.specs.Listing.{listStream, mostListed};
 ghost use Rattle.pages.specs.Pages.{Stands, Lists, Ends, ListsFrame, Opens, Stops, OpensInput, stepsLeft};

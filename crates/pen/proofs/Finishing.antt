@@ -7,11 +7,12 @@ use native.Mathlib.Numerals.{add-one}
 use lib.ListN.{length, getD, take, drop, set, replicate, length-append, length-set, take-append-drop}
 use lib.Seq.{take-suc-set, drop-set-lt, length-take-le}
 use Rattle.rules.specs.Bits.{lowBits, bitsOf, octetsFor, fillFor, pack}
-use Rattle.rules.proofs.Octets.{length-lowBits, length-bitsOf, bitsOf-append, Below, below-append, below-all, below-take, bitsOf-below, lowBits-below, pack-below, bitsOf-pack, told-by-bits}
+use Rattle.rules.proofs.Octets.{length-lowBits, length-bitsOf, bitsOf-append, Below, below-append, below-all}
+use Rattle.rules.proofs.Octets.{below-take, bitsOf-below, lowBits-below, pack-below, bitsOf-pack, told-by-bits}
 use Rattle.pen.specs.declared.Pen.{Pen}
 use Rattle.pen.specs.Puts.{penBits, Able, Puts, Flushes, Packed}
 use Rattle.rules.proofs.Words.{lowBits-split, lowBits-mod}
-use Rattle.pen.proofs.Putting.{drop-further}
+use Rattle.rules.proofs.Lent.{drop-further}
 use Rattle.look.proofs.Rows.{zero-bits}
 
 -- a turn of the loop
@@ -31,7 +32,8 @@ flush-turn {o} {o′} {word} held at t h room =
     let x = word / 2 ^ left % 256 in
     let e : held ≡ 8 + left = omega (arith, t .whole) in
     let cut : lowBits held word ≡ lowBits 8 x ++ lowBits left word =
-    ap (λ (k : ℕ). lowBits k word) e ∙ lowBits-split 8 left word ∙ ap (λ (l : List ℕ). l ++ lowBits left word) (sym (lowBits-mod 8 0 (word / 2 ^ left))) in
+    ap (λ (k : ℕ). lowBits k word) e ∙ lowBits-split 8 left word
+    ∙ ap (λ (l : List ℕ). l ++ lowBits left word) (sym (lowBits-mod 8 0 (word / 2 ^ left))) in
     record {
       says = rw (add-one, take-suc-set o′ at x room, bitsOf-append, append-nil, append-assoc, ← cut) (t .says);
       rest = drop-set-lt (at + 1) o′ at x (omega arith) ∙ drop-further o′ o at (at + 1) (omega arith) (t .rest);
@@ -68,4 +70,8 @@ finished {o} {o₁} {o₂} {p} {q} {n} fill able e put flush octets =
     let whole : take n o₂ ≡ pack b =
     told-by-bits (below-take n (below-all o₂ octets)) (pack-below (penBits-below o p)) (bits ∙ sym (bitsOf-pack (penBits-below o p))) in
     let past : drop n o₂ ≡ drop n o = flush .rest ∙ drop-further o₁ o (q .at) n (omega (arith, flush .size)) (put .rest) in
-    record { size = s; lent = sym (take-append-drop n o₂) ∙ ap (λ (l : List ℕ). l ++ drop n o₂) whole ∙ ap (λ (l : List ℕ). pack b ++ l) past }
+    record {
+      size = s;
+      lent = sym (take-append-drop n o₂) ∙ ap (λ (l : List ℕ). l ++ drop n o₂) whole
+          ∙ ap (λ (l : List ℕ). pack b ++ l) past;
+    }

@@ -4,10 +4,11 @@ use mathlib.Core.Path.{_≡_, refl, sym, ap, _∙_}
 use mathlib.Core.List.{List, [], _++_, append-nil, append-assoc}
 use native.Mathlib.Omega.{arith}
 use lib.ListN.{length, take, drop, set, length-append}
-use lib.Seq.{sets-eq, take-at, drop-at, drop-drop, length-take-le}
+use lib.Seq.{sets-eq, take-at, drop-at, length-take-le}
 use lib.Pow.{pow-add, pow-mono, shl-exact}
 use lib.Arith.{digits-lt}
 use Rattle.rules.specs.Bits.{lowBits}
+use Rattle.rules.proofs.Lent.{drop-further}
 use Rattle.rules.proofs.Octets.{length-lowBits, bitsOf-append}
 use Rattle.pen.specs.declared.Pen.{Pen}
 use Rattle.pen.specs.Puts.{penBits, Able, Puts, Stores}
@@ -15,13 +16,15 @@ use Rattle.rules.proofs.Words.{lowBits-split, lowBits-mod, lowBits-join}
 use Rattle.pen.proofs.Words.{octetsOf, bitsOf-word}
 
 pub stored : (o : List ℕ) (at w : ℕ) → at + 4 ≤ length o
-    → Stores o at w (set (set (set (set o at (w / 2 ^ 24 % 256)) (at + 1) (w / 2 ^ 16 % 256)) (at + 2) (w / 2 ^ 8 % 256)) (at + 3) (w % 256))
+    → Stores o at w (set (set (set (set o at (w / 2 ^ 24 % 256)) (at + 1) (w / 2 ^ 16 % 256)) (at + 2) (w / 2 ^ 8 % 256))
+    (at + 3) (w % 256))
 stored o at w h =
     let e = sets-eq (octetsOf w) o at h in
     let i₁ : at + 1 ≡ suc at = omega arith in
     let i₂ : at + 2 ≡ suc (suc at) = omega arith in
     let i₃ : at + 3 ≡ suc (suc (suc at)) = omega arith in
-    let k : length (take at o ++ octetsOf w) ≡ at + 4 = length-append (take at o) (octetsOf w) ∙ ap (λ (n : ℕ). n + 4) (length-take-le at o (omega arith)) in
+    let k : length (take at o ++ octetsOf w) ≡ at + 4 = length-append (take at o) (octetsOf w)
+    ∙ ap (λ (n : ℕ). n + 4) (length-take-le at o (omega arith)) in
     record {
       says = rw (i₁, i₂, i₃, e, take-at (take at o ++ octetsOf w) (drop (at + 4) o) (at + 4) k, bitsOf-append, bitsOf-word);
       rest = rw (i₁, i₂, i₃, e, drop-at (take at o ++ octetsOf w) (drop (at + 4) o) (at + 4) k);
@@ -82,12 +85,6 @@ module _ (o : List ℕ) (p : Pen) (n v : ℕ) (able : Able o p n) (few : n ≤ 3
         word = omega arith;
       }
 
--- what is the same from a on is so from b on
-pub drop-further : (x y : List ℕ) (a b : ℕ) → a ≤ b → drop a x ≡ drop a y → drop b x ≡ drop b y
-drop-further x y a b h e =
-    let far : a + (b - a) ≡ b = omega arith in
-    rw far at (sym (drop-drop (b - a) a x) ∙ ap (drop (b - a)) e ∙ drop-drop (b - a) a y)
-
 -- one putting after another
 pub puts-then : {o o′ o″ : List ℕ} {p p′ p″ : Pen} {a b : List ℕ} → Puts o p a o′ p′ → Puts o′ p′ b o″ p″ → Puts o p (a ++ b) o″ p″
 puts-then {o} {o′} {o″} {p} {p′} {p″} {a} {b} f g =
@@ -113,6 +110,7 @@ puts-as {o} {o′} {p} {p′} f e = rw e at f
 pub able-as : {o : List ℕ} {p : Pen} {m k : ℕ} → Able o p m → k ≤ m → Able o p k
 able-as a h = record { held = a .held; word = a .word; room = omega (arith, a .room) }
 
-pub able-then : {o o′ bits : List ℕ} {p p′ : Pen} {m : ℕ} (k : ℕ) → Able o p m → Puts o p bits o′ p′ → length o′ ≡ length o → length bits + k ≤ m → Able o′ p′ k
+pub able-then : {o o′ bits : List ℕ} {p p′ : Pen} {m : ℕ} (k : ℕ) → Able o p m → Puts o p bits o′ p′ → length o′ ≡ length o
+    → length bits + k ≤ m → Able o′ p′ k
 able-then k a put size h =
     record { held = put .held; word = put .word; room = omega (arith, a .room, put .place) }

@@ -33,7 +33,8 @@ module _ {o o′ : List ℕ} {v : ℕ} {p p′ : Pen} {zeros : ℕ} (turn : Zero
   zeros-able able n few =
       able-then n able (turn .puts) (turn .size) (omega (arith, turn .left, length-replicate {A = ℕ} (v - zeros) 0))
 
-  pub zeros-then : (n : ℕ) → n ≤ zeros → {o″ : List ℕ} {p″ : Pen} → Puts o′ p′ (lowBits n 0) o″ p″ → length o″ ≡ length o′ → ZerosTurn o v p o″ p″ (zeros - n)
+  pub zeros-then : (n : ℕ) → n ≤ zeros → {o″ : List ℕ} {p″ : Pen} → Puts o′ p′ (lowBits n 0) o″ p″ → length o″ ≡ length o′
+      → ZerosTurn o v p o″ p″ (zeros - n)
   zeros-then n few put size =
       let e : v - zeros + n ≡ v - (zeros - n) = omega (arith, turn .left) in
       let f : replicate (v - zeros) 0 ++ lowBits n 0 ≡ replicate (v - (zeros - n)) 0 =
@@ -60,11 +61,13 @@ rice-end : (k s v : ℕ) {one : ℕ} → one ≡ 2 ^ s → lowBits (k + 1 + s) (
 unfolding lowBits
 rice-end k s v e =
     let a : 2 ^ s + v % 2 ^ s ≡ 1 * 2 ^ s + v % 2 ^ s = omega arith in
-    let b : lowBits (k + 1) 1 ≡ replicate k 0 ++ (1 ∷ []) = lowBits-join k 1 0 1 (lit< tt) ∙ ap (λ (l : List ℕ). l ++ (1 ∷ [])) (zero-bits k) in
+    let b : lowBits (k + 1) 1 ≡ replicate k 0 ++ (1 ∷ []) = lowBits-join k 1 0 1 (lit< tt)
+    ∙ ap (λ (l : List ℕ). l ++ (1 ∷ [])) (zero-bits k) in
     let d : lowBits s (v % 2 ^ s) ≡ lowBits s v = rw zero-add at (lowBits-mod s 0 v) in
     rw (e, a, lowBits-join (k + 1) s 1 (v % 2 ^ s) (mod-lt v (pow-pos s)), b, d, append-assoc)
 
-pub rice-short : (s v : ℕ) {o o′ : List ℕ} {p p′ : Pen} {one : ℕ} → one ≡ 2 ^ s → Puts o p (lowBits (v / 2 ^ s + 1 + s) (one + v % one)) o′ p′
+pub rice-short : (s v : ℕ) {o o′ : List ℕ} {p p′ : Pen} {one : ℕ} → one ≡ 2 ^ s
+    → Puts o p (lowBits (v / 2 ^ s + 1 + s) (one + v % one)) o′ p′
     → Puts o p (riceForm s v) o′ p′
 unfolding riceForm
 rice-short s v e put = puts-as put (rice-end (v / 2 ^ s) s v e)
@@ -80,7 +83,8 @@ pub record RunsTurn (o : List ℕ) (p : Pen) (s : ℕ) (runs o′ : List ℕ) (p
   pub within : j ≤ count
   pub size : length o′ ≡ length o
 
-module _ {o o′ runs : List ℕ} {p p′ : Pen} {s count j : ℕ} (turn : RunsTurn o p s runs o′ p′ count j) (h : j < count) (long : count ≤ length runs) where
+module _ {o o′ runs : List ℕ} {p p′ : Pen} {s count j : ℕ} (turn : RunsTurn o p s runs o′ p′ count j) (h : j < count)
+    (long : count ≤ length runs) where
   pub runs-able : Able o p (length (riceForms s (take count runs))) → {v : ℕ} → v ≡ getD runs j 0 → Able o′ p′ (length (riceForm s v))
   runs-able able e =
       let a = forms-le s runs (j + 1) count (omega arith) in

@@ -1,7 +1,7 @@
 -- A row put in (`inserted`) and taken out (`removed`): the cells are then those of the list so changed.
 use Prim.Native.Nat.{ℕ, _+_, _*_, _-_, _≤_, _<_}
 use mathlib.Core.Path.{_≡_, sym, ap, _∙_}
-use mathlib.Core.List.{List, [], _∷_, _++_, append-assoc}
+use mathlib.Core.List.{List, _∷_, _++_, append-assoc}
 use native.Mathlib.Omega.{arith}
 use lib.ListN.{length, take, drop, getD, set, length-append, length-drop}
 use lib.Seq.{paste, drop-at, take-add, length-take-le, take-append-le, take-take, length-paste-head, drop-cons}

@@ -43,7 +43,8 @@ raise-turn {t} {t′} {by} {at} {n} {j} {m} r e h g =
     in
     let s : j + by ≡ suc (m + by) = omega arith in
     let q : t′ ≡ p ++ (getD t (m + by) 0 ∷ x) =
-    a ∙ ap (λ (k : ℕ). take k t ++ x) s ∙ ap (λ (l : List ℕ). l ++ x) (take-suc t (m + by) 0 (omega arith)) ∙ append-snoc p (getD t (m + by) 0) x
+    a ∙ ap (λ (k : ℕ). take k t ++ x) s ∙ ap (λ (l : List ℕ). l ++ x) (take-suc t (m + by) 0 (omega arith))
+    ∙ append-snoc p (getD t (m + by) 0) x
     in
     let w : n - m ≡ suc (n - j) = omega arith in
     let y : suc m ≡ j = omega arith in

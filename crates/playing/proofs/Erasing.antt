@@ -1,5 +1,5 @@
--- Whether a frame is an erasure frame, by its first sample: `erased-plus`, `erased-minus`, `erased-other`; all are one where none is another:
--- `others-none`.
+-- Whether a frame is an erasure frame, by its first sample: `erased-plus`, `erased-minus`, `erased-other`; all are one where none is
+-- another: `others-none`.
 use Prim.Native.Nat.{ℕ, zero, suc, _-_, _≤_, _<_}
 use native.Mathlib.Omega.{arith}
 use mathlib.Core.Path.{_≡_, refl, sym, _∙_}

@@ -39,7 +39,8 @@ module _ (octets : List ℕ) (law set : ℕ) where
     full : {n at room : ℕ} → at < length octets → Reads (suc n) at room 0 (stopped (Refused (Frame rules.Room)) at 0)
     refused : {n at room places : ℕ} {w : rule.Refusal} {bit : ℕ} → at < length octets → itemStep octets law set at room ≡ stops w bit
         → Reads (suc n) at room (suc places) (stopped (Refused (Frame w)) at bit)
-    delivers : {n at room places : ℕ} {i : Item} {used : ℕ} {rest : Recorded} → at < length octets → itemStep octets law set at room ≡ takes i used
+    delivers : {n at room places : ℕ} {i : Item} {used : ℕ} {rest : Recorded} → at < length octets
+        → itemStep octets law set at room ≡ takes i used
         → Reads n (at + used) (room - length (soundOf i)) places rest → Reads (suc n) at room (suc places) (before i rest)
 
   pub reads : (n at room places : ℕ) → Reads n at room places (itemsFrom n octets law set at room places)
@@ -48,7 +49,8 @@ module _ (octets : List ℕ) (law set : ℕ) where
     where
       Later : Type 0
       Later = (i : Item) (used places : ℕ)
-          → Reads n (at + used) (room - length (soundOf i)) places (itemsFrom n octets law set (at + used) (room - length (soundOf i)) places)
+          → Reads n (at + used) (room - length (soundOf i)) places
+          (itemsFrom n octets law set (at + used) (room - length (soundOf i)) places)
 
       one : (places : ℕ) (s : Step) → itemStep octets law set at room ≡ s → at < length octets → Later
           → Reads (suc n) at room (suc places) (byStep s at (restFrom octets law set n at room (suc places)))
@@ -98,7 +100,8 @@ module _ (octets : List ℕ) (law set : ℕ) where
   reads-only {n = suc n} {at} {room} {places = suc places} (refused {w = w} {bit = bit} l e) =
       items-off octets law set (suc n) n at room (suc places) refl l (omega arith) w bit e
   reads-only {n = suc n} {at} {room} {places = suc places} (delivers {i = i} {used = used} l e t) =
-      items-one octets law set (suc n) n at room (suc places) refl l (omega arith) i used (room - length (soundOf i)) places e refl (omega arith)
+      items-one octets law set (suc n) n at room (suc places) refl l (omega arith) i used (room - length (soundOf i))
+      places e refl (omega arith)
       ∙ ap (before i) (reads-only t)
 
   -- what is true of every reading
@@ -118,7 +121,8 @@ module _ (octets : List ℕ) (law set : ℕ) where
   not-refused : {A : Type 0} {r : Refusal} → Refused r ≡ Done → A
   not-refused e = let z : _≡_ {A = ℕ} 0 1 = cc in absurd (omega arith)
 
-  told-none : (n at room places : ℕ) → (0 < n → length octets ≤ at) → (at < length octets → 0 ≡ n) → Told n at room places (stopped Done at 0)
+  told-none : (n at room places : ℕ) → (0 < n → length octets ≤ at) → (at < length octets → 0 ≡ n)
+      → Told n at room places (stopped Done at 0)
   unfolding soundIn
   told-none n at room places h g =
       record {
@@ -191,7 +195,8 @@ module _ (octets : List ℕ) (law set : ℕ) where
   parts {m = suc m} {at} {room} {places = suc places} (refused {w = w} {bit = bit} h e) n =
       items-off octets law set (suc m + n) (m + n) at room (suc places) (omega arith) h (omega arith) w bit e
   parts {m = suc m} {at} {room} {places = suc places} (delivers {i = i} {used = used} {rest = r} h e t) n =
-      items-one octets law set (suc m + n) (m + n) at room (suc places) (omega arith) h (omega arith) i used (room - length (soundOf i)) places e
+      items-one octets law set (suc m + n) (m + n) at room (suc places) (omega arith) h (omega arith) i used
+      (room - length (soundOf i)) places e
       refl (omega arith)
       ∙ ap (before i) (parts t n)
       ∙ go (r .end)
@@ -236,7 +241,8 @@ module _ (octets : List ℕ) (law set : ℕ) where
   fuel {m = suc m} {at} {room} {places = suc places} (refused {w = w} {bit = bit} l e) h n =
       items-off octets law set (suc m + n) (m + n) at room (suc places) (omega arith) l (omega arith) w bit e
   fuel {m = suc m} {at} {room} {places = suc places} (delivers {i = i} {used = used} l e t) h n =
-      items-one octets law set (suc m + n) (m + n) at room (suc places) (omega arith) l (omega arith) i used (room - length (soundOf i)) places e
+      items-one octets law set (suc m + n) (m + n) at room (suc places) (omega arith) l (omega arith) i used
+      (room - length (soundOf i)) places e
       refl (omega arith)
       ∙ ap (before i) (fuel t (omega (arith, fits l e .0)) n)
 
@@ -250,7 +256,8 @@ module _ (octets : List ℕ) (law set : ℕ) where
   abbrev pub Roomy : ℕ → ℕ → ℕ → ℕ → Type 0
   Roomy n at room places = (320 * min n (length octets - at) ≤ room) × (min n (length octets - at) ≤ places)
 
-  roomy : {n at room places : ℕ} {r : Recorded} → Reads n at room places r → (more others : ℕ) → Roomy n at room places → Roomy n at more others
+  roomy : {n at room places : ℕ} {r : Recorded} → Reads n at room places r → (more others : ℕ) → Roomy n at room places
+      → Roomy n at more others
       → itemsFrom n octets law set at more others ≡ r
   roomy {at = at} last more others h k = items-last octets law set 0 at more others refl
   roomy {n} {at} (ended l) more others h k = items-ended octets law set n at more others l

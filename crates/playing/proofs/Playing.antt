@@ -1,6 +1,6 @@
--- A reading on its way: the items done, put before the reading of the rest, are the whole reading; their sound stands at the output's start,
--- and they as numbers at that of the cells.
--- `play-start`, `play-turn`; where it stops: `play-last`, `play-ended`, `play-full`, `play-refused`.
+-- A reading on its way: the items done, put before the reading of the rest, are the whole reading; their sound stands at the output's
+-- start, and they as numbers at that of the cells. `play-start`, `play-turn`; where it stops: `play-last`, `play-ended`, `play-full`,
+-- `play-refused`.
 use Prim.Native.Nat.{ℕ, _+_, _-_, _≤_, _<_}
 use native.Mathlib.Omega.{arith}
 use native.Mathlib.Numerals.{add-one}
@@ -58,7 +58,8 @@ module _ (octets : List ℕ) (law set′ fuel from : ℕ) (out₀ cells₀ : Lis
 
   module _ {out cells buffer : List ℕ} {at to count : ℕ} (w : Playing out cells buffer at to count) where
     -- where it stops, with no item left
-    play-stop : (e : Ending) (bit : ℕ) → itemsFrom (fuel - count) octets law set′ at (length out₀ - to) (length cells₀ - count) ≡ stopped e at bit
+    play-stop : (e : Ending) (bit : ℕ) → itemsFrom (fuel - count) octets law set′ at (length out₀ - to)
+        (length cells₀ - count) ≡ stopped e at bit
         → Plays whole (playedOf e count at to bit) out₀ out cells₀ cells
     play-stop e bit q =
         subst (λ (x : Recorded). Plays x (playedOf e count at to bit) out₀ out cells₀ cells) (sym (w .is-whole ∙ ap (after (w .done)) q))
@@ -116,7 +117,8 @@ module _ (octets : List ℕ) (law set′ fuel from : ℕ) (out₀ cells₀ : Lis
             → Playing out′ (set cells count (r .cell)) buffer′ (at + r .octets) (to + r .len) (count + 1)
         play-turn {out′} put =
             let i = one .item in
-            let next = items-one octets law set′ (fuel - count) (fuel - (count + 1)) at (length out₀ - to) (length cells₀ - count) (omega arith) h
+            let next = items-one octets law set′ (fuel - count) (fuel - (count + 1)) at (length out₀ - to) (length cells₀ - count)
+            (omega arith) h
             (omega (arith, lent-length (w .told))) i (r .octets) (length out₀ - (to + r .len)) (length cells₀ - (count + 1)) (one .is)
             (omega (arith, one .len)) (omega arith) in
             record {

@@ -82,7 +82,8 @@ module _ (octets : List ℕ) (law set : ℕ) where
         go : (b : Bool) → cond b (before (lost 0) (itemsFrom n octets law set (at + 1) room (places - 1)))
             (afterRead (readOne (drop at octets) law set room) at (λ f. before (itemOf (maskOf law) f)
             (itemsFrom n octets law set (at + octetsUsed f) (room - roomTaken (maskOf law) f) (places - 1))))
-            ≡ byStep (cond b (takes (lost 0) 1) (frameStep (maskOf law) (readOne (drop at octets) law set room))) at (restFrom n at room places)
+            ≡ byStep (cond b (takes (lost 0) 1) (frameStep (maskOf law) (readOne (drop at octets) law set room)))
+            at (restFrom n at room places)
         go true = let z : room - 0 ≡ room = omega arith in rw z
         go false = one (readOne (drop at octets) law set room)
 

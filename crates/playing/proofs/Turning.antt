@@ -26,7 +26,8 @@ abbrev pub turnOf : Report → Turn
 turnOf r = record { end = r .end; octets = r .octets; len = r .len; cell = r .len; bit = r .bit }
 
 -- a frame that is no erasure frame
-pub frame-sound : (mask : ℕ) {found : Read Found} {r : Report} {buffer : List ℕ} → Fills found r buffer → erased mask (take (r .len) buffer) ≡ false
+pub frame-sound : (mask : ℕ) {found : Read Found} {r : Report} {buffer : List ℕ} → Fills found r buffer
+    → erased mask (take (r .len) buffer) ≡ false
     → Turned (frameStep mask found) (turnOf r) buffer
 frame-sound mask {found = whole f i} f′ e =
     let t = f′ .tells in
@@ -41,7 +42,8 @@ frame-sound mask {found = refuse w at} f′ e =
     record { tells = record { end = t .end; octets = t .octets; len = t .len; cell = t .len; bit = t .bit }; sound = refl; size = f′ .size }
 
 -- an erasure frame: a loss
-pub frame-lost : (mask : ℕ) {found : Read Found} {r : Report} {buffer : List ℕ} → Fills found r buffer → erased mask (take (r .len) buffer) ≡ true
+pub frame-lost : (mask : ℕ) {found : Read Found} {r : Report} {buffer : List ℕ} → Fills found r buffer
+    → erased mask (take (r .len) buffer) ≡ true
     → {t : Turn} → Tells (takes (lost (r .len)) (r .octets)) t → Turned (frameStep mask found) t buffer
 unfolding erased
 frame-lost mask {found = whole f i} f′ e {t} l =

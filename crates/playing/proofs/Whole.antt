@@ -85,7 +85,8 @@ module _ (octets : List ℕ) where
 pub reads-none : (why : Refusal) (law : ℕ) (out cells : List ℕ)
     → Reads (nothing why law) (record { end = Refused why; law = law; items = 0; octets = 0; samples = 0; bit = 0 }) out out cells cells
 unfolding soundIn
-reads-none why law out cells = record { end = refl; law = refl; items = refl; octets = refl; samples = refl; bit = refl; lent = refl; told = refl }
+reads-none why law out cells =
+    record { end = refl; law = refl; items = refl; octets = refl; samples = refl; bit = refl; lent = refl; told = refl }
 
 -- the items after the heading, as a file's
 abbrev pub fileOf : ℕ → Played → FileRead

@@ -6,7 +6,7 @@ use Prim.Native.Nat.{ℕ, zero, suc, _+_, _*_, _/_, _<_}
 use lib.ListN.{getD}
 use lib.Dec.{eqb}
 use borrow.Author.Tests.{eqb-true}
-use Rattle.rules.specs.First.{First, unassigned, pad, tool, sixOrEight, rows, lookUp, firstOctet}
+use Rattle.rules.specs.First.{First, unassigned, pad, tool, sixOrEight, firstOctet}
 use Rattle.prefix.specs.Answers.{entryTells}
 use Rattle.rules.proofs.Tests.{and-left, and-right, allBelow, allBelow-at}
 

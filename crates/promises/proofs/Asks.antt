@@ -16,7 +16,8 @@ use Rattle.rules.specs.declared.Ending.the-variants.{Refused}
 use Rattle.rules.specs.Refusals.{refusalNumber}
 use Rattle.rules.specs.Tools.{holds, isLength, isLaw, isSet}
 use Rattle.rules.specs.Bits.{bitsOf, valueFrom, fillFor}
-use Rattle.rules.specs.Reading.{Read, whole, refuse, Reader, andThen, _>>=_, give, fail, here, bit, numberFrom, number, bitsFrom, octetsAfter, filled}
+use Rattle.rules.specs.Reading.{Read, whole, refuse, Reader, andThen, _>>=_, give, fail}
+use Rattle.rules.specs.Reading.{here, bit, numberFrom, number, bitsFrom, octetsAfter, filled}
 use Rattle.rules.specs.Samples.{maskOf, sampleOf, plusZero, minusZero}
 use Rattle.rules.specs.Runs.{zerosFrom, rice, runsFrom}
 use Rattle.rules.specs.Zeros.{Tree, leaf, fork, treeOf, readTree, zeroOf}
@@ -27,7 +28,8 @@ use Rattle.rules.specs.Frame.{Found, body, withTool, rowIn, afterFirst, frame, 
 use Rattle.rules.specs.Walk.{Walked, stopped, walkAll, samplesKept}
 use Rattle.rules.proofs.Octets.{Below, none, bitsOf-below, length-bitsOf}
 use Rattle.rules.proofs.Tests.{and-left, and-right}
-use Rattle.rules.proofs.Gives.{Gives, gives-bit, gives-number, gives-zerosFrom, gives-rice, gives-runsFrom, gives-byMethod, gives-readTree, gives-bitsFrom, gives-groupsFrom}
+use Rattle.rules.proofs.Gives.{Gives, gives-bit, gives-number, gives-zerosFrom, gives-rice}
+use Rattle.rules.proofs.Gives.{gives-runsFrom, gives-byMethod, gives-readTree, gives-bitsFrom, gives-groupsFrom}
 use Rattle.rules.proofs.Accepted.{gives-body}
 use Rattle.rules.proofs.Laid.{empty-all, lay-count}
 use Rattle.rules.proofs.Each.{Each, nothing, next}
@@ -39,7 +41,8 @@ use Rattle.rules.proofs.Fractional.{body-bits-most}
 use Rattle.promises.proofs.Fractional.{near-groups}
 use Rattle.promises.proofs.Rows.{few-values}
 use Rattle.promises.proofs.Methods.{ones}
-use Rattle.promises.proofs.Bounded.{Costs, costs-near, near-bitsFrom, costs-rice, costs-runs, costs-method, width-most, depth, near-tree, tree-depth, tree-leaves, costs-six, costs-other, plain}
+use Rattle.promises.proofs.Bounded.{Costs, costs-near, near-bitsFrom, costs-rice, costs-runs, costs-method, width-most}
+use Rattle.promises.proofs.Bounded.{depth, near-tree, tree-depth, tree-leaves, costs-six, costs-other, plain}
 use Rattle.promises.proofs.Further.{SixOrEight, six, eight, six-or-eight, bit-there, mark-first, nothing-short}
 use Rattle.promises.proofs.Refused.{refused-walk, Begins, walkable, unlawful, no-set, too-long, walk-begins}
 use Rattle.promises.proofs.Points.{same-refusal, same-bit, near-zeros}
@@ -74,11 +77,13 @@ asks-here c k g = record { asks = λ b z i h at e. g i .asks b z i h at e }
 pays : {A : Type 0} {p : Reader A} (c k l : ℕ) → c + k ≤ l → Asks 0 k p → Asks c l p
 pays c k l h g = record { asks = λ b z i m at e. omega (arith, g .asks b z i m at e) }
 
-asks-then : {A B : Type 0} {Q : A → Type 0} {p : Reader A} {f : A → Reader B} (c k : ℕ) (cost : A → ℕ) → Gives p Q → Costs 0 cost p → Asks c k p
+asks-then : {A B : Type 0} {Q : A → Type 0} {p : Reader A} {f : A → Reader B} (c k : ℕ) (cost : A → ℕ) → Gives p Q
+    → Costs 0 cost p → Asks c k p
     → ((a : A) → Q a → Asks (c + cost a) k (f a)) → Asks c k (p >>= f)
 asks-then {A} {B} {Q} {p} {f} c k cost v g s h = record { asks = λ b z i m at e. go b z i m at (p b i) refl e }
   where
-    go : (b : List ℕ) → Below 2 b → (i : ℕ) → i ≤ length b → (at : ℕ) (r : Read A) → p b i ≡ r → andThen r (λ a j. f a b j) ≡ refuse Short at → at + c < i + k
+    go : (b : List ℕ) → Below 2 b → (i : ℕ) → i ≤ length b → (at : ℕ) (r : Read A) → p b i ≡ r
+        → andThen r (λ a j. f a b j) ≡ refuse Short at → at + c < i + k
     go b z i m at (whole a j) q e =
         let u = v .on z m q in
         omega (arith, g .goes b z i m a j q, h a (u .2) .asks b z j (u .1) at e)
@@ -87,7 +92,8 @@ asks-then {A} {B} {Q} {p} {f} c k cost v g s h = record { asks = λ b z i m at e
 -- numbers, flags, octets
 asks-bits : {A : Type 0} {f : ℕ → Reader A} (k : ℕ) → ((a : ℕ) → Asks 0 k (f a)) → Asks 0 (suc k) (bit >>= f)
 asks-bits k g =
-    asks-then 0 (suc k) (λ a. 1) gives-bit (costs-near 1 near-bit) (pays 0 1 (suc k) (omega arith) asks-bit) (λ a h. pays (0 + 1) k (suc k) (omega arith) (g a))
+    asks-then 0 (suc k) (λ a. 1) gives-bit (costs-near 1 near-bit) (pays 0 1 (suc k) (omega arith) asks-bit)
+    (λ a h. pays (0 + 1) k (suc k) (omega arith) (g a))
 
 asks-numberFrom : (v n : ℕ) → Asks 0 n (numberFrom v n)
 unfolding numberFrom
@@ -100,14 +106,16 @@ asks-bitsFrom done zero = asks-give 0 0 done
 asks-bitsFrom done (suc n) = asks-bits n (λ a. asks-bitsFrom (done ++ (a ∷ [])) n)
 
 -- a number of w bits, and then what asks for k
-asks-number : {A : Type 0} {f : ℕ → Reader A} (c w k : ℕ) → c + w ≤ k → ((x : ℕ) → x < 2 ^ w → Asks (c + w) k (f x)) → Asks c k (number w >>= f)
+asks-number : {A : Type 0} {f : ℕ → Reader A} (c w k : ℕ) → c + w ≤ k → ((x : ℕ) → x < 2 ^ w → Asks (c + w) k (f x))
+    → Asks c k (number w >>= f)
 asks-number c w k h g = asks-then c k (λ x. w) (gives-number w) (costs-near w (near-numberFrom 0 w)) (pays c w k h (asks-numberFrom 0 w)) g
 
 asks-octetsAfter : (done : List ℕ) (n : ℕ) → Asks 0 (8 * n) (octetsAfter done n)
 unfolding octetsAfter
 asks-octetsAfter done zero = asks-give 0 (8 * 0) done
 asks-octetsAfter done (suc n) =
-    asks-number 0 8 (8 * suc n) (omega arith) (λ x h. pays (0 + 8) (8 * n) (8 * suc n) (omega arith) (asks-octetsAfter (done ++ (x ∷ [])) n))
+    asks-number 0 8 (8 * suc n) (omega arith)
+    (λ x h. pays (0 + 8) (8 * n) (8 * suc n) (omega arith) (asks-octetsAfter (done ++ (x ∷ [])) n))
 
 is-not : (w : Refusal) → (refusalNumber w ≡ 1 → ⊥) → w ≡ Short → ⊥
 is-not w h e = h (ap refusalNumber e)
@@ -116,7 +124,8 @@ asks-filled : {A : Type 0} (a : A) (n : ℕ) → Asks 0 n (filled a n)
 unfolding filled
 asks-filled a zero = asks-give 0 0 a
 asks-filled a (suc n) =
-    asks-here 0 (suc n) (λ at. asks-bits n (λ f. asks-cond (eqb f 0) (λ t. asks-filled a n) (λ t. asks-fail 0 n Align at (is-not Align (omega arith)))))
+    asks-here 0 (suc n) (λ at. asks-bits n
+    (λ f. asks-cond (eqb f 0) (λ t. asks-filled a n) (λ t. asks-fail 0 n Align at (is-not Align (omega arith)))))
 
 -- a Rice code: zeros up to zero N + 1, or fewer, a one and S bits
 asks-zeros : (start k left : ℕ) → Asks 0 left (zerosFrom start k left)
@@ -136,7 +145,15 @@ asks-rice n s =
 run-cost : (c s v left : ℕ) → s + 1 ≤ c → v < left → v / 2 ^ s + 1 + s + (left - (v + 1)) * c ≤ left * c
 run-cost c s v left h k =
     let e : (v + 1 + (left - (v + 1))) * c ≡ left * c = ap (λ x. x * c) (omega arith) in
-    omega (arith, add-mul (v + 1) (left - (v + 1)) c, add-mul v 1 c, one-mul c, mul-one v, (let l : 1 ≤ c = omega arith in mul-le-mul-left v l), shr-le v s)
+    omega (
+      arith,
+      add-mul (v + 1) (left - (v + 1)) c,
+      add-mul v 1 c,
+      one-mul c,
+      mul-one v,
+      (let l : 1 ≤ c = omega arith in mul-le-mul-left v l),
+      shr-le v s,
+    )
 
 asks-runs : (c n s fuel left : ℕ) (done : List ℕ) → s + 1 ≤ c → Asks 0 (left * c + n) (runsFrom n s fuel left done)
 unfolding runsFrom
@@ -147,7 +164,8 @@ asks-runs c n s (suc fuel) left done h =
     let some = eqb-false left 0 t in
     let room : c ≤ left * c = (let l : 1 ≤ left = omega arith in rw (one-mul c) at (mul-le-mul-right c l)) in
     asks-here 0 most (λ start.
-    asks-then 0 most (λ v. v / 2 ^ s + 1 + s) (gives-rice n s) (costs-rice n s) (pays 0 (n + 1 + s) most (omega arith) (asks-rice n s)) (λ v q.
+    asks-then 0 most (λ v. v / 2 ^ s + 1 + s) (gives-rice n s) (costs-rice n s)
+    (pays 0 (n + 1 + s) most (omega arith) (asks-rice n s)) (λ v q.
     let spent = 0 + (v / 2 ^ s + 1 + s) in
     asks-cond (ltb left v) (λ t. asks-fail spent most Run start (is-not Run (omega arith))) (λ t.
     asks-cond (eqb v left) (λ e. asks-give spent most (done ++ replicate v 0)) (λ e.
@@ -259,14 +277,16 @@ asks-other {mask} l t n mark h ne =
     asks-cond (eqb t 3) (λ e. asks-give 0 3047 (replicate n (minusZero mask))) (λ e.
     asks-cond (eqb t 4) (λ e. asks-number 0 8 3047 (omega arith) (λ x q. asks-give (0 + 8) 3047 (replicate n x))) (λ e.
     asks-cond (eqb t 5) (λ e.
-    asks-then 0 3047 (λ flags. n) (gives-bitsFrom [] n none) (costs-near n (near-bitsFrom [] n)) (pays 0 n 3047 (omega arith) (asks-bitsFrom [] n))
+    asks-then 0 3047 (λ flags. n) (gives-bitsFrom [] n none) (costs-near n (near-bitsFrom [] n))
+    (pays 0 n 3047 (omega arith) (asks-bitsFrom [] n))
     (λ flags q. asks-give (0 + n) 3047 (map (zeroOf mask 0) flags))) (λ e.
     asks-cond (eqb t 6) (λ e. absurd (ne (eqb-true t 6 e))) (λ e.
     asks-cond (eqb t 11) (λ e. asks-fractional mask mark n h) (λ e.
     asks-located l n h)))))))
 
 -- a body that asks for k at most and has c bits at most, and then its filling
-asks-withTool : {mask : ℕ} → LawMask mask → (set room t n mark c k : ℕ) → isLength n ≡ true → c + 7 ≤ k → Costs 0 (λ s. c) (body mask t n mark) → Asks 0 k (body mask t n mark)
+asks-withTool : {mask : ℕ} → LawMask mask → (set room t n mark c k : ℕ) → isLength n ≡ true → c + 7 ≤ k
+    → Costs 0 (λ s. c) (body mask t n mark) → Asks 0 k (body mask t n mark)
     → Asks 0 k (withTool mask set room t n mark)
 unfolding withTool
 asks-withTool {mask} l set room t n mark c k len h g s =
@@ -279,12 +299,15 @@ asks-withTool {mask} l set room t n mark c k len h g s =
 asks-sixNotEight : Asks 0 2 sixNotEight
 unfolding sixNotEight
 asks-sixNotEight =
-    asks-bits 1 (λ a. asks-cond (eqb a 1) (λ t. asks-give 0 1 6) (λ t. asks-bits 0 (λ c. asks-cond (eqb c 1) (λ t. asks-give 0 0 6) (λ t. asks-give 0 0 8))))
+    asks-bits 1 (λ a. asks-cond (eqb a 1) (λ t. asks-give 0 1 6)
+    (λ t. asks-bits 0 (λ c. asks-cond (eqb c 1) (λ t. asks-give 0 0 6) (λ t. asks-give 0 0 8))))
 
 -- the tool is 6 or 8, and 8 is in no set
-asks-six-or-eight : {mask : ℕ} → LawMask mask → (set room n mark t : ℕ) → isLength n ≡ true → SixOrEight t → Asks 0 3526 (withTool mask set room t n mark)
+asks-six-or-eight : {mask : ℕ} → LawMask mask → (set room n mark t : ℕ) → isLength n ≡ true → SixOrEight t
+    → Asks 0 3526 (withTool mask set room t n mark)
 asks-six-or-eight {mask} l set room n mark t len six =
-    asks-withTool l set room 6 n mark (6 + 10 * n) 3526 len (omega (arith, length-most n len)) (costs-six mask n mark len) (asks-six mask n mark len)
+    asks-withTool l set room 6 n mark (6 + 10 * n) 3526 len (omega (arith, length-most n len)) (costs-six mask n mark len)
+    (asks-six mask n mark len)
 asks-six-or-eight {mask} l set room n mark t len eight =
     asks-withTool l set room 8 n mark 2686 3526 len (omega arith) (costs-other l 8 n mark (length-most n len) (omega arith))
     (pays 0 3047 3526 (omega arith) (asks-other l 8 n mark (length-most n len) (omega arith)))
@@ -299,7 +322,11 @@ after-asks {mask} l set room o (tool t n) p {b} z h at e =
     let ne = eqb-false t 6 (not-true (eqb t 6) (and-left (not (eqb t 6)) (isLength n) p)) in
     let small = length-most n len in
     let k = rowIn o t n in
-    omega (arith, asks-withTool l set room t n k 2686 3047 len (omega arith) (costs-other l t n k small ne) (asks-other l t n k small ne) .asks b z 8 h at e)
+    omega (
+      arith,
+      asks-withTool l set room t n k 2686 3047 len (omega arith) (costs-other l t n k small ne)
+          (asks-other l t n k small ne) .asks b z 8 h at e,
+    )
 after-asks {mask} l set room o (sixOrEight n) p {b} z h at e =
     let m = bit-there b [] (markAt n) (omega (arith, mark-first n)) in
     go (sixNotEight b (markAt n + 1)) refl (rw (m .0) at e)
@@ -311,15 +338,22 @@ after-asks {mask} l set room o (sixOrEight n) p {b} z h at e =
         let a = asks-six-or-eight l set room n (getD b (markAt n) 0) t p (six-or-eight b (markAt n + 1) t k q) in
         omega (arith, mark-first n, a .asks b z (markAt n + 1) i at d)
     go (refuse w x) q d =
-        omega (arith, mark-first n, asks-sixNotEight .asks b z (markAt n + 1) (omega (arith, mark-first n)) at (q ∙ rw (same-refusal d, same-bit d) refl))
+        omega (
+          arith,
+          mark-first n,
+          asks-sixNotEight .asks b z (markAt n + 1) (omega (arith, mark-first n))
+              at (q ∙ rw (same-refusal d, same-bit d) refl),
+        )
 
 octets-ask : (law set room : ℕ) (octets : List ℕ) (at : ℕ) → frame (maskOf law) set room (bitsOf octets) 0 ≡ refuse Short at → at < 3533
 octets-ask law set room [] at e = omega (arith, same-bit (sym (nothing-short (maskOf law) set room) ∙ e))
-octets-ask law set room (o ∷ octets) at e = some (bitsOf (o ∷ octets)) (bitsOf-below (o ∷ octets)) (omega (arith, length-bitsOf (o ∷ octets))) e
+octets-ask law set room (o ∷ octets) at e = some (bitsOf (o ∷ octets)) (bitsOf-below (o ∷ octets))
+    (omega (arith, length-bitsOf (o ∷ octets))) e
   where
     some : (b : List ℕ) → Below 2 b → 8 ≤ length b → frame (maskOf law) set room b 0 ≡ refuse Short at → at < 3533
     some b z h d =
-        after-asks (law-mask law) set room (valueFrom 0 (take 8 b)) (firstOctet (valueFrom 0 (take 8 b))) (first-of-bits b z h) z h at (sym (frame-after (maskOf law) set room b h) ∙ d)
+        after-asks (law-mask law) set room (valueFrom 0 (take 8 b)) (firstOctet (valueFrom 0 (take 8 b))) (first-of-bits b z h)
+        z h at (sym (frame-after (maskOf law) set room b h) ∙ d)
 
 read-asks : (octets : List ℕ) (law set room at : ℕ) → readOne octets law set room ≡ refuse Short at → at < 3533
 unfolding readOne
@@ -349,7 +383,12 @@ walk-short-octets octets law set room e = go (walk-begins octets law set room)
     go : Begins octets law set v → length octets ≤ v .place + 441
     go (walkable t) =
         let r = refused-walk octets law set room Short t e in
-        omega (arith, length-drop (v .place) octets, short-octets (drop (v .place) octets) law set (room - length (samplesKept (v .frames))) (v .bit) (r .rest))
+        omega (
+          arith,
+          length-drop (v .place) octets,
+          short-octets (drop (v .place) octets) law set (room - length (samplesKept (v .frames)))
+              (v .bit) (r .rest),
+        )
     go (unlawful l d) = never-so Law (is-not Law (omega arith)) d
     go (no-set l d) = never-so Set (is-not Set (omega arith)) d
     go (too-long l d) = never-so Long (is-not Long (omega arith)) d

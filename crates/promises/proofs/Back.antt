@@ -18,7 +18,8 @@ pub record Back {A : Type 0} (p : Reader A) (bits : List ℕ) (v : A) : Type 0 w
 pub back-give : {A : Type 0} (v : A) → Back (give v) [] v
 back-give v = record { reads = λ pre post. ap (whole v) (omega arith) }
 
-pub back-bind : {A B : Type 0} (p : Reader A) (f : A → Reader B) {a b : List ℕ} {v : A} {w : B} → Back p a v → Back (f v) b w → Back (p >>= f) (a ++ b) w
+pub back-bind : {A B : Type 0} (p : Reader A) (f : A → Reader B) {a b : List ℕ} {v : A} {w : B} → Back p a v → Back (f v) b w
+    → Back (p >>= f) (a ++ b) w
 back-bind p f {a} {b} {v} {w} pa fb = record {
   reads = λ pre post.
       let e : pre ++ ((a ++ b) ++ post) ≡ pre ++ (a ++ (b ++ post)) = simp append-assoc in

@@ -2,24 +2,26 @@
 -- What was there before stands here in full: the tool sets, the bodies, what applies, the forms, the order.
 use Prim.Native.Nat.{ℕ, _+_, _-_, _^_, _/_, _%_, _≤_}
 use native.Mathlib.Omega.{arith}
-use mathlib.Core.Path.{_≡_, refl, sym, ap, _∙_}
+use mathlib.Core.Path.{_≡_, refl, ap, _∙_}
 use mathlib.Core.List.{List, [], _∷_, _++_}
 use mathlib.Core.Bool.{Bool, true, false, cond, not, _&&_, _||_}
 use lib.ListN.{length, getD, take}
 use lib.Dec.{eqb, leb, ltb}
 use lib.IntN.{pos, negsuc}
-use borrow.Author.Tests.{eqb-true, leb-true, le-leb, ne-eqb, lt-leb}
+use borrow.Author.Tests.{eqb-true, leb-true, le-leb, ne-eqb}
 use Rattle.rules.specs.declared.Refusal.{Refusal}
 use Rattle.rules.specs.declared.Refusal.the-variants.{Prefix, Tool, Room, Law, Set, Length}
-use Rattle.rules.specs.Tools.{holds, isLaw, isSet, isWriterSet, isLength}
+use Rattle.rules.specs.Tools.{holds, isLaw, isLength}
 use Rattle.rules.specs.Bits.{lowBits, bitsOf, octetsFor, fillFor}
 use Rattle.rules.specs.Reading.{Read, Reader, andThen, _>>=_, give, fail, here, from, bit, number, filled, whole, refuse}
 use Rattle.rules.specs.First.{First, unassigned, pad, tool, sixOrEight, firstOctet, markAt, sixNotEight}
 use Rattle.rules.specs.Samples.{maskOf, plusZero, minusZero}
-use Rattle.rules.specs.Zeros.{uncompressed, constantly, constant, binary, plusMinus, uncompressedForm, plusForm, minusForm, constantForm, binaryForm}
+use Rattle.rules.specs.Zeros.{uncompressed, constantly, constant, binary, plusMinus}
+use Rattle.rules.specs.Zeros.{uncompressedForm, plusForm, minusForm, constantForm, binaryForm}
 use Rattle.rules.specs.Located.{located}
 use Rattle.rules.specs.Frame.{Found, body, withTool, rowIn, afterFirst, frame, readOne}
-use Rattle.rules.specs.Chooses.{every, riceChoice, rowOf, zeroLeads, locatedForm, applies, formOf, octetsOfForm, tieOrder, choose, chosenTool, Written, chosen, Write, wrote, declined, writeOne}
+use Rattle.rules.specs.Chooses.{every, riceChoice, rowOf, zeroLeads, locatedForm, applies, formOf, choose}
+use Rattle.rules.specs.Chooses.{chosenTool, Written, chosen, Write, wrote, declined, writeOne}
 
 -- "Tool t (1 to 7) adds 2^(t-1)"; "A tool set is a number from 0 to 127"
 abbrev heldBefore : ℕ → ℕ → Bool
@@ -105,7 +107,8 @@ then-same : {A B : Type 0} (m : Read A) (f g : A → ℕ → Read B) → ((a : A
 then-same (whole a j) f g h = h a j
 then-same (refuse w at) f g h = refl
 
-same-after : (mask set room o : ℕ) (first : First) → set ≤ 127 → (b : List ℕ) (i : ℕ) → afterFirst mask set room o first b i ≡ afterBefore mask set room first b i
+same-after : (mask set room o : ℕ) (first : First) → set ≤ 127 → (b : List ℕ) (i : ℕ)
+    → afterFirst mask set room o first b i ≡ afterBefore mask set room first b i
 unfolding afterFirst afterBefore
 same-after mask set room o unassigned h b i = refl
 same-after mask set room o pad h b i = refl
@@ -120,7 +123,8 @@ test-same true w p q b e = refl
 test-same false w p q b e = e
 
 -- Reading: for all octets and laws, and every set that the old reader took
-pub reads-as-before : (octets : List ℕ) (law set room : ℕ) → setBefore set ≡ true → readOne octets law set room ≡ readBefore octets law set room
+pub reads-as-before : (octets : List ℕ) (law set room : ℕ) → setBefore set ≡ true
+    → readOne octets law set room ≡ readBefore octets law set room
 unfolding readOne readBefore frame
 reads-as-before octets law set room s =
     let h = leb-true set 127 s in
@@ -197,13 +201,21 @@ unfolding chooseBefore
 not-eleven mask set s done = refl
 not-eleven mask set s (and {t = t} {ts = ts} e n) =
     let best = chooseBefore mask set s ts in
-    picked (heldBefore set t && appliesBefore mask t s && leb (octetsBefore mask s t) (octetsBefore mask s best)) t best e (not-eleven mask set s n)
+    picked (heldBefore set t && appliesBefore mask t s && leb (octetsBefore mask s t) (octetsBefore mask s best)) t best
+    e (not-eleven mask set s n)
 
 same-choice : (mask set : ℕ) (s : List ℕ) → set ≤ 127 → {ts : List ℕ} → NoEleven ts → choose mask set s ts ≡ chooseBefore mask set s ts
 unfolding choose chooseBefore
 same-choice mask set s h done = refl
 same-choice mask set s h (and {t = t} {ts = ts} e n) =
-    rw (same-choice mask set s h n, same-held set t h, same-applies mask t s e, same-form mask t s e, same-form mask (chooseBefore mask set s ts) s (not-eleven mask set s n)) refl
+    rw (
+      same-choice mask set s h n,
+      same-held set t h,
+      same-applies mask t s e,
+      same-form mask t s e,
+      same-form mask
+          (chooseBefore mask set s ts) s (not-eleven mask set s n),
+    ) refl
 
 -- tool 11 stands last of those before uncompressed, and is not held
 none-last : (mask set : ℕ) (s : List ℕ) → holds set 11 ≡ false → (ts : List ℕ) → choose mask set s (ts ++ (11 ∷ [])) ≡ choose mask set s ts
@@ -219,11 +231,9 @@ same-chosen mask set s h =
     = none-last mask set s (eleven-out set h) orderBefore ∙ same-choice mask set s h plain in
     rw (t, same-form mask (chooseBefore mask set s orderBefore) s (not-eleven mask set s plain)) refl
 
-test-wrote : (t : Bool) (w : Refusal) (x y : Write) → x ≡ y → cond t (declined w) x ≡ cond t (declined w) y
-test-wrote t w x y e = rw e refl
-
 -- Writing: for all frames and laws, and every set that the old writer took
-pub writes-as-before : (n : ℕ) (samples : List ℕ) (law set room : ℕ) → setBefore set ≡ true → writeOne n samples law set room ≡ writeBefore n samples law set room
+pub writes-as-before : (n : ℕ) (samples : List ℕ) (law set room : ℕ) → setBefore set ≡ true
+    → writeOne n samples law set room ≡ writeBefore n samples law set room
 unfolding writeOne writeBefore
 writes-as-before n samples law set room s =
     let h = leb-true set 127 s in

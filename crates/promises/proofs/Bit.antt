@@ -1,6 +1,6 @@
--- R-7: which bit a refusal names, so that a cut is told from a flipped bit.
--- Main statements: `read-bit`, `short-bit`, `walk-bit`, `walk-short` (where the bit stands); `stays-refused`, `hangs-on` (what a refusal hangs on);
--- `cut-short`, `walk-cut` (what a cut makes of an accepted frame, and of a stream).
+-- R-7: which bit a refusal names, so that a cut is told from a flipped bit. Main statements: `read-bit`, `short-bit`, `walk-bit`,
+-- `walk-short` (where the bit stands); `stays-refused`, `hangs-on` (what a refusal hangs on); `cut-short`, `walk-cut` (what a cut makes of
+-- an accepted frame, and of a stream).
 use Prim.Native.Nat.{ℕ, _+_, _*_, _-_, _≤_, _<_}
 use native.Mathlib.Omega.{arith}
 use mathlib.Core.Path.{_≡_, refl, sym, ap, subst, _∙_}
@@ -45,11 +45,13 @@ turned : {A : Type 0} (n i : ℕ) (m : Read ℕ) (f : ℕ → Read A) → Says n
 turned n i (whole t k) f s h = h t
 turned n i (refuse w at) f s h = (s .0, omega arith)
 
-after-says : (mask set room o : ℕ) (first : First) → plain first ≡ true → (b : List ℕ) → 8 ≤ length b → Says (length b) 0 (afterFirst mask set room o first b 8)
+after-says : (mask set room o : ℕ) (first : First) → plain first ≡ true → (b : List ℕ) → 8 ≤ length b
+    → Says (length b) 0 (afterFirst mask set room o first b 8)
 unfolding afterFirst
 after-says mask set room o unassigned p b h = ((refl, omega arith), omega arith)
 after-says mask set room o pad p b h = (omega arith, h)
-after-says mask set room o (tool t n) p b h = tool-says mask set room b n (rowIn o t n) 8 t (plain-length t n p) (omega arith) (omega arith) h
+after-says mask set room o (tool t n) p b h = tool-says mask set room b n (rowIn o t n) 8 t (plain-length t n p) (omega arith)
+    (omega arith) h
 after-says mask set room o (sixOrEight n) p b h =
     let i = markAt n in
     let mark = getD b i 0 in
@@ -70,14 +72,17 @@ frame-after mask set room b h =
 
 frame-says : (mask set room : ℕ) {b : List ℕ} → Below 2 b → 8 ≤ length b → Says (length b) 0 (frame mask set room b 0)
 frame-says mask set room {b} z h =
-    rw (frame-after mask set room b h) (after-says mask set room (valueFrom 0 (take 8 b)) (firstOctet (valueFrom 0 (take 8 b))) (first-of-bits b z h) b h)
+    rw (frame-after mask set room b h)
+    (after-says mask set room (valueFrom 0 (take 8 b)) (firstOctet (valueFrom 0 (take 8 b))) (first-of-bits b z h) b h)
 
 octets-say : (law set room : ℕ) (octets : List ℕ) → Says (8 * length octets) 0 (frame (maskOf law) set room (bitsOf octets) 0)
 octets-say law set room [] = rw (nothing-short (maskOf law) set room) (refl, omega arith)
 octets-say law set room (o ∷ octets) =
-    rw (← (length-bitsOf (o ∷ octets))) (frame-says (maskOf law) set room (bitsOf-below (o ∷ octets)) (omega (arith, length-bitsOf (o ∷ octets))))
+    rw (← (length-bitsOf (o ∷ octets)))
+    (frame-says (maskOf law) set room (bitsOf-below (o ∷ octets)) (omega (arith, length-bitsOf (o ∷ octets))))
 
-test-says : {A : Type 0} (n : ℕ) (t : Bool) (w : Refusal) (p : Reader A) (b : List ℕ) → BitOf n w 0 → Says n 0 (p b 0) → Says n 0 (cond t (fail w 0) p b 0)
+test-says : {A : Type 0} (n : ℕ) (t : Bool) (w : Refusal) (p : Reader A) (b : List ℕ) → BitOf n w 0 → Says n 0 (p b 0)
+    → Says n 0 (cond t (fail w 0) p b 0)
 test-says n true w p b h s = (h, omega arith)
 test-says n false w p b h s = s
 
@@ -89,7 +94,8 @@ read-says octets law set room =
     (test-says (8 * length octets) (not (isSet set)) Set p (bitsOf octets) refl (octets-say law set room octets))
 
 -- Where the bit of a refused frame stands
-pub read-bit : (octets : List ℕ) (law set room : ℕ) (w : Refusal) (at : ℕ) → readOne octets law set room ≡ refuse w at → BitOf (8 * length octets) w at
+pub read-bit : (octets : List ℕ) (law set room : ℕ) (w : Refusal) (at : ℕ)
+    → readOne octets law set room ≡ refuse w at → BitOf (8 * length octets) w at
 read-bit octets law set room w at e = (subst (λ (m : Read Found). Says (8 * length octets) 0 m) e (read-says octets law set room)) .0
 
 -- so SHORT's is exactly 8 times the octets that were there
@@ -115,7 +121,8 @@ walk-bit octets law set room w e = go (walk-begins octets law set room)
     go : Begins octets law set v → BitOf (8 * (length octets - v .place)) w (v .bit)
     go (walkable t) =
         let r = refused-walk octets law set room w t e in
-        rw (← (length-drop (v .place) octets)) (read-bit (drop (v .place) octets) law set (room - length (samplesKept (v .frames))) w (v .bit) (r .rest))
+        rw (← (length-drop (v .place) octets))
+        (read-bit (drop (v .place) octets) law set (room - length (samplesKept (v .frames))) w (v .bit) (r .rest))
     go (unlawful l d) = stops Law d (λ n. refl)
     go (no-set l d) = stops Set d (λ n. refl)
     go (too-long l d) = stops Long d (λ n. refl)
@@ -176,7 +183,8 @@ after-past : (mask set room o : ℕ) (first : First) → plain first ≡ true �
 unfolding afterFirst
 after-past mask set room o unassigned p b c h = λ k w at e d other. absurd (other (sym (same-refusal d) ∙ same-refusal e))
 after-past mask set room o pad p b c h = λ k w at e d other. no-refusal (sym e)
-after-past mask set room o (tool t n) p b c h = points-withTool mask set room t n (rowIn o t n) (plain-length t n p) .past b c 8 (omega arith, omega arith) (omega arith)
+after-past mask set room o (tool t n) p b c h = points-withTool mask set room t n (rowIn o t n) (plain-length t n p) .past
+    b c 8 (omega arith, omega arith) (omega arith)
 after-past mask set room o (sixOrEight n) p b c h =
     let i = markAt n in
     let mark = getD b i 0 in
@@ -185,7 +193,8 @@ after-past mask set room o (sixOrEight n) p b c h =
     (six-past (length b) (sixNotEight b (i + 1)) (sixNotEight (b ++ c) (i + 1))
     (λ t. withTool mask set room t n mark b (i + 1)) (λ t. withTool mask set room t n mark (b ++ c) (i + 1))
     (both-there b c (i + 1) (omega (arith, mark-first n)))
-    (λ t. points-withTool mask set room t n mark p .past b c (i + 1) (omega arith, omega (arith, mark-first n)) (omega (arith, mark-first n))))
+    (λ t. points-withTool mask set room t n mark p .past b c (i + 1) (omega arith, omega (arith, mark-first n))
+    (omega (arith, mark-first n))))
 
 frame-past : (mask set room : ℕ) {b : List ℕ} → Below 2 b → (c : List ℕ) → 16 ≤ length b
     → Past (length b) (frame mask set room b 0) (frame mask set room (b ++ c) 0)
@@ -193,7 +202,8 @@ unfolding frame
 frame-past mask set room {b} z c h =
     let k : 8 ≤ length b = omega arith in
     let e : number 8 b 0 ≡ whole (valueFrom 0 (take 8 b)) 8 = rw (append-nil b) at (first-eight b [] k) in
-    rw (e, first-eight b c k) (after-past mask set room (valueFrom 0 (take 8 b)) (firstOctet (valueFrom 0 (take 8 b))) (first-of-bits b z k) b c h)
+    rw (e, first-eight b c k)
+    (after-past mask set room (valueFrom 0 (take 8 b)) (firstOctet (valueFrom 0 (take 8 b))) (first-of-bits b z k) b c h)
 
 test-past : {A : Type 0} (n : ℕ) (t : Bool) (u : Refusal) (p : Reader A) (b c : List ℕ) → Past n (p b 0) (p c 0)
     → Past n (cond t (fail u 0) p b 0) (cond t (fail u 0) p c 0)
@@ -228,7 +238,8 @@ cut-apart x y law set room {f} {j} e h = go (read-goes x y law set room)
         let a = read-accepts x law set room (sym d ∙ e) in
         absurd (omega (arith, a .octets, a .inside, length-bitsOf x))
 
-pub cut-short : (octets : List ℕ) (law set room : ℕ) {f : Found} {j : ℕ} → readOne octets law set room ≡ whole f j → (k : ℕ) → k < octetsUsed f
+pub cut-short : (octets : List ℕ) (law set room : ℕ) {f : Found} {j : ℕ} → readOne octets law set room ≡ whole f j → (k : ℕ)
+    → k < octetsUsed f
     → readOne (take k octets) law set room ≡ refuse Short (8 * k)
 cut-short octets law set room {f} {j} e k h =
     let a = read-accepts octets law set room e in
@@ -239,8 +250,10 @@ cut-short octets law set room {f} {j} e k h =
 -- A stream cut after c octets, at or before the place where its walk w ended: the walk v of what is left delivers the same frames as far as
 -- they are whole. Between two frames it ends clean; inside one it ends there with SHORT, and the bit is the first that is gone.
 pub data Cut (c : ℕ) (w v : Walked) : Type 0 where
-  between : (done rest : List Delivered) → w .frames ≡ done ++ rest → v ≡ record { frames = done; end = Done; place = c; bit = 0 } → Cut c w v
-  inside : (done rest : List Delivered) (f : Delivered) → w .frames ≡ done ++ (f ∷ rest) → f .place < c → c < f .place + octetsUsed (f .found)
+  between : (done rest : List Delivered) → w .frames ≡ done ++ rest
+      → v ≡ record { frames = done; end = Done; place = c; bit = 0 } → Cut c w v
+  inside : (done rest : List Delivered) (f : Delivered) → w .frames ≡ done ++ (f ∷ rest) → f .place < c
+      → c < f .place + octetsUsed (f .found)
       → v ≡ record { frames = done; end = Refused Short; place = f .place; bit = 8 * (c - f .place) } → Cut c w v
 
 data CutFrom (octets : List ℕ) (law set at room c : ℕ) (w : Walked) : Type 0 where
@@ -268,10 +281,12 @@ cut-before : (f : Delivered) (c : ℕ) {w v : Walked} → Cut c w v → Cut c (b
 cut-before f c (between done rest e d) = between (f ∷ done) rest (ap (λ l. f ∷ l) e) (ap (before f) d)
 cut-before f c (inside done rest g e h k d) = inside (f ∷ done) rest g (ap (λ l. f ∷ l) e) h k (ap (before f) d)
 
-cut-from : {octets : List ℕ} {law set at room : ℕ} {w : Walked} → WalkOf octets law set at room w → (c : ℕ) → at ≤ c → c ≤ w .place → c ≤ length octets
+cut-from : {octets : List ℕ} {law set at room : ℕ} {w : Walked} → WalkOf octets law set at room w → (c : ℕ) → at ≤ c
+    → c ≤ w .place → c ≤ length octets
     → CutFrom octets law set at room c w
 cut-from {octets} {law} {set} {at} {room} (ended h) c x y l = clean octets law set at room c (stopped Done at 0) (omega arith) l
-cut-from {octets} {law} {set} {at} {room} (refused {w = r} {bit = b} h e) c x y l = clean octets law set at room c (stopped (Refused r) at b) (omega arith) l
+cut-from {octets} {law} {set} {at} {room} (refused {w = r} {bit = b} h e) c x y l =
+    clean octets law set at room c (stopped (Refused r) at b) (omega arith) l
 cut-from {octets} {law} {set} {at} {room} (delivers {f = f} {j = j} {rest = rest} h e t) c x y l =
     go (leb c at) refl (leb (at + octetsUsed f) c) refl (λ k. cut-from t c k y l)
   where
@@ -281,7 +296,8 @@ cut-from {octets} {law} {set} {at} {room} (delivers {f = f} {j = j} {rest = rest
     later : at + octetsUsed f ≤ c → CutFrom octets law set (at + octetsUsed f) (room - length (f .samples)) c rest → Here
     later k (walks v o d) =
         walks (before (record { place = at; found = f }) v)
-        (delivers {at = at} (omega (arith, length-take-le c octets l, uses octets law set at room h e)) (cut-at octets law set at c room k l e) o)
+        (delivers {at = at} (omega (arith, length-take-le c octets l, uses octets law set at room h e))
+        (cut-at octets law set at c room k l e) o)
         (cut-before (record { place = at; found = f }) c d)
 
     go : (p : Bool) → leb c at ≡ p → (q : Bool) → leb (at + octetsUsed f) c ≡ q
@@ -291,7 +307,8 @@ cut-from {octets} {law} {set} {at} {room} (delivers {f = f} {j = j} {rest = rest
     go false p false r next = torn octets law set at room c rest (leb-false c at p) (leb-false (at + octetsUsed f) c r) l e
 
 -- a walk ends within its octets
-ends-within : {octets : List ℕ} {law set at room : ℕ} {w : Walked} → at ≤ length octets → WalkOf octets law set at room w → w .place ≤ length octets
+ends-within : {octets : List ℕ} {law set at room : ℕ} {w : Walked} → at ≤ length octets → WalkOf octets law set at room w
+    → w .place ≤ length octets
 ends-within l (ended h) = l
 ends-within l (refused h e) = l
 ends-within {octets} {law} {set} {at} {room} l (delivers h e t) = ends-within (uses octets law set at room h e .1) t
@@ -306,6 +323,8 @@ walk-cut octets law set room t c h = go (cut-from o c (omega arith) h l)
     l : c ≤ length octets
     l = omega (arith, ends-within (omega arith) o)
 
-    go : CutFrom octets law set 0 room c (walkAll octets law set room) → Cut c (walkAll octets law set room) (walkAll (take c octets) law set room)
+    go : CutFrom octets law set 0 room c (walkAll octets law set room)
+        → Cut c (walkAll octets law set room) (walkAll (take c octets) law set room)
     go (walks v d x) =
-        rw (walk-all-only (record { lawful = t .lawful; small = t .small; short = omega (arith, l, length-take-le c octets l, t .short) }) d) x
+        rw (walk-all-only (record
+        { lawful = t .lawful; small = t .small; short = omega (arith, l, length-take-le c octets l, t .short) }) d) x

@@ -1,4 +1,5 @@
--- "An accepted one has at most 402 (320 empty runs with S = 9: 3,213 bits)." Tool 11 leaves that as it is: it has at most 81 (`bounded-eleven`).
+-- "An accepted one has at most 402 (320 empty runs with S = 9: 3,213 bits)." Tool 11 leaves that as it is: it has at most 81
+-- (`bounded-eleven`).
 use Prim.Native.Nat.{ℕ, zero, suc, _+_, _*_, _-_, _^_, _/_, _≤_, _<_, max}
 use native.Mathlib.Omega.{arith}
 use native.Mathlib.Nat.{mul-le-mul, mul-le-mul-left, mul-suc, div-add-mod'}
@@ -6,7 +7,7 @@ use lib.Pow.{pow-mono, shr-le, high}
 use mathlib.Core.Path.{_≡_, refl, sym, ap, _∙_}
 use mathlib.Core.List.{List, [], _∷_, _++_, map, append-nil}
 use mathlib.Core.Bool.{Bool, true, false, cond, not, _&&_}
-use lib.ListN.{length, getD, replicate, length-append, length-replicate, length-map}
+use lib.ListN.{length, replicate, length-append, length-replicate, length-map}
 use lib.IntN.{pos, negsuc}
 use lib.Dec.{eqb, leb, ltb}
 use borrow.Author.Tests.{le-leb, eq-eqb, ne-eqb, eqb-true, eqb-false, leb-true, ltb-true, ltb-false, not-true}
@@ -14,7 +15,7 @@ use Rattle.rules.specs.declared.Refusal.{Refusal}
 use Rattle.rules.specs.declared.Refusal.the-variants.{Run, Place, Method, Case, Tool, Room, Set, Law}
 use Rattle.rules.specs.Tools.{holds, isSet, isLaw, isLength}
 use Rattle.rules.specs.Bits.{lowBits, bitsOf, fillFor, pack}
-use Rattle.rules.specs.Reading.{whole, Reader, _>>=_, give, fail, here, from, bit, numberFrom, number, bitsFrom, octetsAfter, filled}
+use Rattle.rules.specs.Reading.{whole, Reader, _>>=_, give, fail, here, from, bit, number, bitsFrom, octetsAfter, filled}
 use Rattle.rules.specs.Samples.{maskOf, sampleOf, plusZero, minusZero}
 use Rattle.rules.specs.Runs.{zerosFrom, rice, riceForm, runsFrom, runsOf, riceForms}
 use Rattle.rules.specs.Zeros.{Tree, leaf, fork, treeOf, readTree, zeroOf, flagOf, codesOf, codeOf, mostS, plusMinus, plusMinusForm}
@@ -26,7 +27,8 @@ use Rattle.rules.specs.Chooses.{countOf}
 use Rattle.rules.proofs.Octets.{Below, none, more, bitsOf-below, length-lowBits}
 use Rattle.rules.proofs.Laid.{empty-all, lay-count}
 use Rattle.rules.proofs.Signed.{LawMask, sampleOf-one-to-one, law-mask}
-use Rattle.rules.proofs.Gives.{Gives, gives-bit, gives-number, gives-zerosFrom, gives-rice, gives-runsFrom, gives-byMethod, gives-readTree, Leaves}
+use Rattle.rules.proofs.Gives.{Gives, gives-bit, gives-number, gives-zerosFrom, gives-rice}
+use Rattle.rules.proofs.Gives.{gives-runsFrom, gives-byMethod, gives-readTree, Leaves}
 use Rattle.rules.proofs.Accepted.{Steps, through, steps, not-refused, filled-is, number-next}
 use Rattle.rules.proofs.Tests.{and-left, and-right, allBelow-at, by-length}
 use Rattle.rules.proofs.Each.{or-right, Each, nothing, next}
@@ -57,12 +59,15 @@ costs-give c k a h = record { goes = λ b z i l v j e. rw (← (same-value e), �
 costs-fail : {A : Type 0} (c : ℕ) (k : A → ℕ) (w : Refusal) (at : ℕ) → Costs c k (fail w at)
 costs-fail c k w at = record { goes = λ b z i l v j e. no-refusal e }
 
-costs-cond : {A : Type 0} {c : ℕ} {k : A → ℕ} {p q : Reader A} (t : Bool) → (t ≡ true → Costs c k p) → (t ≡ false → Costs c k q) → Costs c k (cond t p q)
+costs-cond : {A : Type 0} {c : ℕ} {k : A → ℕ} {p q : Reader A} (t : Bool) → (t ≡ true → Costs c k p) → (t ≡ false → Costs c k q)
+    → Costs c k (cond t p q)
 costs-cond true g h = g refl
 costs-cond false g h = h refl
 
-costs-then : {A B : Type 0} {Q : A → Type 0} {p : Reader A} {f : A → Reader B} (c : ℕ) (k : A → ℕ) (d : A → ℕ) (l : A → B → ℕ) (C : ℕ) (L : B → ℕ)
-    → Gives p Q → Costs c k p → ((a : A) → Q a → Costs (d a) (l a) (f a)) → ((a : A) (r : B) → Q a → k a + l a r + C ≤ c + d a + L r) → Costs C L (p >>= f)
+costs-then : {A B : Type 0} {Q : A → Type 0} {p : Reader A} {f : A → Reader B} (c : ℕ) (k : A → ℕ) (d : A → ℕ) (l : A → B → ℕ)
+    (C : ℕ) (L : B → ℕ)
+    → Gives p Q → Costs c k p → ((a : A) → Q a → Costs (d a) (l a) (f a)) → ((a : A) (r : B) → Q a → k a + l a r + C ≤ c + d a + L r)
+    → Costs C L (p >>= f)
 costs-then {A} {B} {Q} {p} {f} c k d l C L v g h s = record { goes = λ b z i m a j e. go b z i m a j (steps (p b i) (λ a m. f a b m) e) }
   where
     go : (b : List ℕ) → Below 2 b → (i : ℕ) → i ≤ length b → (r : B) (j : ℕ) → Steps (p b i) (λ a m. f a b m) r j → j + C ≤ i + L r
@@ -99,8 +104,10 @@ pub costs-rice : (n s : ℕ) → Costs 0 (λ v. v / 2 ^ s + 1 + s) (rice n s)
 unfolding rice
 costs-rice n s =
     costs-here 0 (λ v. v / 2 ^ s + 1 + s) (λ start.
-    costs-then 0 (λ k. k + 1) (λ k. k) (λ k v. v / 2 ^ s + s) 0 (λ v. v / 2 ^ s + 1 + s) (gives-zerosFrom start 0 (n + 1)) (costs-zerosFrom start 0 (n + 1))
-    (λ k h. costs-then 0 (λ low. s) (λ low. k) (λ low v. v / 2 ^ s) k (λ v. v / 2 ^ s + s) (gives-number s) (costs-near s (near-numberFrom 0 s))
+    costs-then 0 (λ k. k + 1) (λ k. k) (λ k v. v / 2 ^ s + s) 0 (λ v. v / 2 ^ s + 1 + s) (gives-zerosFrom start 0 (n + 1))
+    (costs-zerosFrom start 0 (n + 1))
+    (λ k h. costs-then 0 (λ low. s) (λ low. k) (λ low v. v / 2 ^ s) k (λ v. v / 2 ^ s + s) (gives-number s)
+    (costs-near s (near-numberFrom 0 s))
     (λ low l. costs-give k (λ v. v / 2 ^ s) (k * 2 ^ s + low) (omega (arith, high k s l)))
     (λ low v l. omega arith))
     (λ k v h. omega arith))
@@ -125,7 +132,8 @@ costs-runs n s zero left done h = costs-give 0 (λ flags. 10 * left) done (omega
 costs-runs n s (suc fuel) left done h =
     costs-cond (eqb left 0) (λ t. costs-give 0 (λ flags. 10 * left) done (omega arith))
     (λ t. costs-here 0 (λ flags. 10 * left) (λ start.
-    costs-then 0 (λ v. v / 2 ^ s + 1 + s) (λ v. v / 2 ^ s + 1 + s) (λ v flags. 10 * left) 0 (λ flags. 10 * left) (gives-rice n s) (costs-rice n s)
+    costs-then 0 (λ v. v / 2 ^ s + 1 + s) (λ v. v / 2 ^ s + 1 + s) (λ v flags. 10 * left) 0 (λ flags. 10 * left)
+    (gives-rice n s) (costs-rice n s)
     (λ v q. costs-cond (ltb left v) (λ c. costs-fail (v / 2 ^ s + 1 + s) (λ flags. 10 * left) Run start) (λ c.
     let o = ltb-false left v c in
     let some = eqb-false left 0 t in
@@ -155,23 +163,28 @@ costs-as : {A : Type 0} {p : Reader A} (c d : ℕ) (k l : A → ℕ) → ((a : A
 costs-as c d k l h g = record { goes = λ b z i m a j e. omega (arith, g .goes b z i m a j e, h a) }
 
 -- the same with S at most 4, by the places marked: a bit a place, and five for each that is marked
-costs-marked : (n s fuel left : ℕ) (done : List ℕ) → s ≤ 4 → Costs (5 * ones done) (λ flags. left + 5 * ones flags + 5) (runsFrom n s fuel left done)
+costs-marked : (n s fuel left : ℕ) (done : List ℕ) → s ≤ 4 → Costs (5 * ones done) (λ flags. left + 5 * ones flags + 5)
+    (runsFrom n s fuel left done)
 unfolding runsFrom
 costs-marked n s zero left done h = costs-give (5 * ones done) (λ flags. left + 5 * ones flags + 5) done (omega arith)
 costs-marked n s (suc fuel) left done h =
     costs-cond (eqb left 0) (λ t. costs-give (5 * ones done) (λ flags. left + 5 * ones flags + 5) done (omega arith))
     (λ t. costs-here (5 * ones done) (λ flags. left + 5 * ones flags + 5) (λ start.
-    costs-then 0 (λ v. v / 2 ^ s + 1 + s) (λ v. 5 * ones done + (v / 2 ^ s + 1 + s)) (λ v flags. left + 5 * ones flags + 5) (5 * ones done) (λ flags. left + 5 * ones flags + 5)
+    costs-then 0 (λ v. v / 2 ^ s + 1 + s) (λ v. 5 * ones done + (v / 2 ^ s + 1 + s)) (λ v flags. left + 5 * ones flags + 5)
+    (5 * ones done) (λ flags. left + 5 * ones flags + 5)
     (gives-rice n s) (costs-rice n s)
-    (λ v q. costs-cond (ltb left v) (λ c. costs-fail (5 * ones done + (v / 2 ^ s + 1 + s)) (λ flags. left + 5 * ones flags + 5) Run start) (λ c.
+    (λ v q. costs-cond (ltb left v)
+    (λ c. costs-fail (5 * ones done + (v / 2 ^ s + 1 + s)) (λ flags. left + 5 * ones flags + 5) Run start) (λ c.
     let o = ltb-false left v c in
     costs-cond (eqb v left)
     (λ e. costs-give (5 * ones done + (v / 2 ^ s + 1 + s)) (λ flags. left + 5 * ones flags + 5) (done ++ replicate v 0)
     (omega (arith, ones-append done (replicate v 0), ones-zeros v, shr-le v s)))
     (λ e. let ne = eqb-false v left e in
     let done′ = done ++ (replicate v 0 ++ (1 ∷ [])) in
-    let more : ones done′ ≡ ones done + 1 = omega (arith, ones-append done (replicate v 0 ++ (1 ∷ [])), ones-append (replicate v 0) (1 ∷ []), ones-zeros v, ones-one) in
-    costs-as (5 * ones done′) (5 * ones done + (v / 2 ^ s + 1 + s)) (λ flags. left - (v + 1) + 5 * ones flags + 5) (λ flags. left + 5 * ones flags + 5)
+    let more : ones done′ ≡ ones done + 1 =
+    omega (arith, ones-append done (replicate v 0 ++ (1 ∷ [])), ones-append (replicate v 0) (1 ∷ []), ones-zeros v, ones-one) in
+    costs-as (5 * ones done′) (5 * ones done + (v / 2 ^ s + 1 + s)) (λ flags. left - (v + 1) + 5 * ones flags + 5)
+    (λ flags. left + 5 * ones flags + 5)
     (λ flags. omega (arith, shr-le v s))
     (costs-marked n s fuel (left - (v + 1)) done′ h))))
     (λ v r q. omega arith)))
@@ -184,7 +197,8 @@ width-most w (suc m) d zero h =
     let e : w + 0 ≡ w = omega arith in
     let f : d ≤ 2 ^ w = rw e at h in
     rw (le-leb d (2 ^ w) f) (omega arith)
-width-most w (suc m) d (suc r) h = step (leb d (2 ^ w)) (let e : w + suc r ≡ w + 1 + r = omega arith in width-most (w + 1) m d r (rw e at h))
+width-most w (suc m) d (suc r) h =
+    step (leb d (2 ^ w)) (let e : w + suc r ≡ w + 1 + r = omega arith in width-most (w + 1) m d r (rw e at h))
   where
     step : (b : Bool) → widthFrom (w + 1) m d ≤ w + 1 + r → cond b w (widthFrom (w + 1) m d) ≤ w + suc r
     step true g = omega arith
@@ -196,20 +210,25 @@ near-listedFrom w d done zero = near-more 0 (w * 0) (omega arith) (near-give (do
 near-listedFrom w d done (suc k) =
     near-more (0 + (w + w * k)) (w * suc k) (omega (arith, mul-suc w k))
     (near-then 0 (w + w * k) near-here (λ start. near-then w (w * k) (near-numberFrom 0 w) (λ p.
-    near-cond (w * k) (leb (length done) p && ltb p d) (near-listedFrom w d (done ++ (replicate (p - length done) 0 ++ (1 ∷ []))) k) (near-fail (w * k) Place start))))
+    near-cond (w * k) (leb (length done) p && ltb p d) (near-listedFrom w d (done ++ (replicate (p - length done) 0 ++ (1 ∷ []))) k)
+    (near-fail (w * k) Place start))))
 
 -- the flags of a value, in a frame of 320 or less
 pub costs-method : (n d start m : ℕ) → d ≤ 320 → Costs 0 (λ flags. 38 + d + 5 * ones flags) (byMethod n d start m)
 unfolding byMethod listed
 costs-method n d start m h =
-    costs-cond (eqb m 0) (λ t. costs-as 0 0 (λ flags. d) (λ flags. 38 + d + 5 * ones flags) (λ flags. omega arith) (costs-near d (near-bitsFrom [] d)))
+    costs-cond (eqb m 0)
+    (λ t. costs-as 0 0 (λ flags. d) (λ flags. 38 + d + 5 * ones flags) (λ flags. omega arith) (costs-near d (near-bitsFrom [] d)))
     (λ t. costs-cond (leb m 4)
-    (λ t. costs-as (5 * ones []) 0 (λ flags. d + 5 * ones flags + 5) (λ flags. 38 + d + 5 * ones flags) (λ flags. omega arith) (costs-marked n m d d [] (leb-true m 4 t)))
+    (λ t. costs-as (5 * ones []) 0 (λ flags. d + 5 * ones flags + 5) (λ flags. 38 + d + 5 * ones flags) (λ flags. omega arith)
+    (costs-marked n m d d [] (leb-true m 4 t)))
     (λ t. costs-cond (eqb m 5) (λ t. costs-give 0 (λ flags. 38 + d + 5 * ones flags) (replicate d 0) (omega arith))
     (λ t. costs-cond (eqb m 6) (λ t. costs-fail 0 (λ flags. 38 + d + 5 * ones flags) Method start)
-    (λ t. costs-then 0 (λ less. 2) (λ less. 0) (λ less flags. 36) 0 (λ flags. 38 + d + 5 * ones flags) (gives-number 2) (costs-near 2 (near-numberFrom 0 2))
+    (λ t. costs-then 0 (λ less. 2) (λ less. 0) (λ less flags. 36) 0 (λ flags. 38 + d + 5 * ones flags) (gives-number 2)
+    (costs-near 2 (near-numberFrom 0 2))
     (λ less q. let w = width-most 0 d d 9 (omega arith) in
-    costs-near 36 (near-more (widthOf d * (less + 1)) 36 (mul-le-mul {n₂ = 9} {m₂ = 4} w (omega arith)) (near-listedFrom (widthOf d) d [] (less + 1))))
+    costs-near 36 (near-more (widthOf d * (less + 1)) 36 (mul-le-mul {n₂ = 9} {m₂ = 4} w (omega arith))
+    (near-listedFrom (widthOf d) d [] (less + 1))))
     (λ less flags q. omega arith)))))
 
 -- the values of a frame of 320 or less: what is marked for one is no longer empty for the next
@@ -222,7 +241,8 @@ costs-values n z cells (next {x = x} {s = xs} g t) h =
     let total = suc (length xs) * 361 + 5 * d in
     costs-here 0 (λ r. total) (λ start.
     costs-then 0 (λ m. 3) (λ m. 3) (λ m r. total) 0 (λ r. total) (gives-number 3) (costs-near 3 (near-numberFrom 0 3))
-    (λ m q. costs-then 0 (λ flags. 38 + d + 5 * ones flags) (λ flags. 41 + d + 5 * ones flags) (λ flags r. total) 3 (λ r. total) (gives-byMethod n d start m) (costs-method n d start m h)
+    (λ m q. costs-then 0 (λ flags. 38 + d + 5 * ones flags) (λ flags. 41 + d + 5 * ones flags) (λ flags r. total) 3
+    (λ r. total) (gives-byMethod n d start m) (costs-method n d start m h)
     (λ flags f. let left = lay-count z x flags cells (not-true (eqb x z) g) (f .size) in
     paid (41 + d + 5 * ones flags) (length xs * 361 + 5 * emptyIn z (lay z x flags 0 cells)) total (omega arith)
     (costs-values n z (lay z x flags 0 cells) t (omega arith)))
@@ -237,9 +257,11 @@ costs-located {mask} l n h =
     (λ c p. costs-then 0 (λ flag. 1) (λ flag. 3) (λ flag s. 2686) 2 (λ s. 2686) (gives-number 1) (costs-near 1 (near-numberFrom 0 1))
     (λ flag q. let v = few-values n c flag p q in
     let e = empty-all (plusZero mask) n in
-    let k : length (map (sampleOf mask) (valuesOf n c flag)) ≡ length (valuesOf n c flag) = length-map (valuesOf n c flag) (sampleOf mask) in
+    let k : length (map (sampleOf mask) (valuesOf n c flag)) ≡ length (valuesOf n c flag) =
+    length-map (valuesOf n c flag) (sampleOf mask) in
     costs-cond (eqb (length (valuesOf n c flag)) 0) (λ t. costs-fail 3 (λ s. 2686) Case start)
-    (λ t. paid 3 (length (map (sampleOf mask) (valuesOf n c flag)) * 361 + 5 * emptyIn (plusZero mask) (replicate n (plusZero mask))) 2686 (omega (arith, v .few))
+    (λ t. paid 3 (length (map (sampleOf mask) (valuesOf n c flag)) * 361 + 5 * emptyIn (plusZero mask) (replicate n (plusZero mask)))
+    2686 (omega (arith, v .few))
     (costs-values n (plusZero mask) (replicate n (plusZero mask)) (v .apart l) (omega arith))))
     (λ flag s q. omega arith))
     (λ c s p. omega arith))
@@ -254,7 +276,8 @@ unfolding readTree depth
 near-tree (leaf s) = near-give s
 near-tree (fork z o) =
     near-then 1 (max (depth z) (depth o)) near-bit (λ a. near-cond (max (depth z) (depth o)) (eqb a 1)
-    (near-more (depth o) (max (depth z) (depth o)) (omega arith) (near-tree o)) (near-more (depth z) (max (depth z) (depth o)) (omega arith) (near-tree z)))
+    (near-more (depth o) (max (depth z) (depth o)) (omega arith) (near-tree o))
+    (near-more (depth z) (max (depth z) (depth o)) (omega arith) (near-tree z)))
 
 pub tree-depth : (n : ℕ) → isLength n ≡ true → leb (depth (treeOf n)) 6 ≡ true
 unfolding treeOf depth
@@ -268,7 +291,8 @@ costs-plusMinus : (mask n mark : ℕ) → isLength n ≡ true → Costs 0 (λ s.
 costs-plusMinus mask n mark l =
     costs-then 0 (λ r. 6) (λ r. 0) (λ r s. 10 * n) 0 (λ s. 6 + 10 * n) (gives-readTree (λ s. s ≤ 9) (treeOf n) (tree-leaves n l))
     (costs-near 6 (near-more (depth (treeOf n)) 6 (leb-true (depth (treeOf n)) 6 (tree-depth n l)) (near-tree (treeOf n))))
-    (λ r h. costs-then 0 (λ flags. 10 * n) (λ flags. 0) (λ flags s. 0) 0 (λ s. 10 * n) (gives-runsFrom n r n n [] (omega arith) none) (costs-runs n r n n [] h)
+    (λ r h. costs-then 0 (λ flags. 10 * n) (λ flags. 0) (λ flags s. 0) 0 (λ s. 10 * n) (gives-runsFrom n r n n [] (omega arith) none)
+    (costs-runs n r n n [] h)
     (λ flags q. costs-give 0 (λ s. 0) (map (zeroOf mask mark) flags) (omega arith))
     (λ flags s q. omega arith))
     (λ r s h. omega arith)
@@ -284,7 +308,8 @@ costs-other {mask} l t n mark h ne =
     (λ e. costs-cond (eqb t 2) (λ e. cheap 0 (omega arith) (near-give (replicate n (plusZero mask))))
     (λ e. costs-cond (eqb t 3) (λ e. cheap 0 (omega arith) (near-give (replicate n (minusZero mask))))
     (λ e. costs-cond (eqb t 4) (λ e. cheap (8 + 0) (omega arith) (near-then 8 0 (near-numberFrom 0 8) (λ x. near-give (replicate n x))))
-    (λ e. costs-cond (eqb t 5) (λ e. cheap (n + 0) (omega arith) (near-then n 0 (near-bitsFrom [] n) (λ flags. near-give (map (zeroOf mask 0) flags))))
+    (λ e. costs-cond (eqb t 5)
+    (λ e. cheap (n + 0) (omega arith) (near-then n 0 (near-bitsFrom [] n) (λ flags. near-give (map (zeroOf mask 0) flags))))
     (λ e. costs-cond (eqb t 6) (λ e. absurd (ne (eqb-true t 6 e)))
     (λ e. costs-cond (eqb t 11) (λ e. cheap (bodyBits mark n) (omega (arith, body-bits-most mark n h)) (near-fractional mask mark n))
     (λ e. costs-located l n h)))))))
@@ -322,7 +347,8 @@ after-bits : {mask : ℕ} → LawMask mask → (set room o : ℕ) (first : First
     → {f : Found} {j : ℕ} → afterFirst mask set room o first b 8 ≡ whole f j → f .bits ≤ 3213
 unfolding afterFirst
 after-bits l set room o unassigned p z h e = no-refusal e
-after-bits l set room o pad p z h {f} {j} e = let v : record { tool = 0; samples = []; bits = 8 } ≡ f = same-value e in rw (← v) (omega arith)
+after-bits l set room o pad p z h {f} {j} e = let v : record { tool = 0; samples = []; bits = 8 } ≡ f = same-value e in
+    rw (← v) (omega arith)
 after-bits {mask} l set room o (tool t n) p z h e =
     let len = and-right (not (eqb t 6)) (isLength n) p in
     let ne = eqb-false t 6 (not-true (eqb t 6) (and-left (not (eqb t 6)) (isLength n) p)) in
@@ -331,16 +357,24 @@ after-bits {mask} l set room o (sixOrEight n) p {b} z h {f} {j} e = go (steps (b
   where
     decide : (mark t k : ℕ) → SixOrEight t → withTool mask set room t n mark b (markAt n + 1) ≡ whole f j → f .bits ≤ 3213
     decide mark t k six d =
-        omega (arith, mark-first n, length-most n p, withTool-bits mask set room 6 n mark (6 + 10 * n) z (markAt n + 1) (omega (arith, mark-first n)) (costs-six mask n mark p) d)
+        omega (
+          arith,
+          mark-first n,
+          length-most n p,
+          withTool-bits mask set room 6 n mark (6 + 10 * n) z (markAt n + 1)
+              (omega (arith, mark-first n)) (costs-six mask n mark p) d,
+        )
     decide mark t k eight d = eight-out mask set room n mark b (markAt n + 1) d
 
     decided : (mark m : ℕ) → Steps (sixNotEight b m) (λ t k. withTool mask set room t n mark b (markAt n + 1)) f j → f .bits ≤ 3213
     decided mark m (through t k q d) = decide mark t k (six-or-eight b m t k q) d
 
-    go : Steps (bit b (markAt n)) (λ mark m. (sixNotEight >>= (λ t. from (markAt n + 1) (withTool mask set room t n mark))) b m) f j → f .bits ≤ 3213
+    go : Steps (bit b (markAt n)) (λ mark m. (sixNotEight >>= (λ t. from (markAt n + 1) (withTool mask set room t n mark))) b m) f j
+        → f .bits ≤ 3213
     go (through mark m q d) = decided mark m (steps (sixNotEight b m) _ d)
 
-frame-bits : {mask : ℕ} → LawMask mask → (set room : ℕ) {b : List ℕ} → Below 2 b → {f : Found} {j : ℕ} → frame mask set room b 0 ≡ whole f j → f .bits ≤ 3213
+frame-bits : {mask : ℕ} → LawMask mask → (set room : ℕ) {b : List ℕ} → Below 2 b → {f : Found} {j : ℕ}
+    → frame mask set room b 0 ≡ whole f j → f .bits ≤ 3213
 unfolding frame
 frame-bits {mask} l set room {b} z {f} {j} e = go (steps (number 8 b 0) _ e)
   where
@@ -351,7 +385,8 @@ frame-bits {mask} l set room {b} z {f} {j} e = go (steps (number 8 b 0) _ e)
         after-bits l set room o (firstOctet o) (first-plain o (g .2)) z (omega (arith, g .1)) (rw (← p) at d)
 
 -- Bounded: "An accepted one has at most 402", 3,213 bits
-pub bounded : (octets : List ℕ) (law set room : ℕ) {f : Found} {j : ℕ} → readOne octets law set room ≡ whole f j → (f .bits ≤ 3213) × (octetsUsed f ≤ 402)
+pub bounded : (octets : List ℕ) (law set room : ℕ) {f : Found} {j : ℕ} → readOne octets law set room ≡ whole f j
+    → (f .bits ≤ 3213) × (octetsUsed f ≤ 402)
 unfolding readOne
 bounded octets law set room e =
     let p = not-refused (not (isLaw law)) Law 0 _ (bitsOf octets) 0 e in
@@ -360,7 +395,8 @@ bounded octets law set room e =
     (b, omega arith)
 
 -- Tool 11: "worked out anew", it has at most 648 bits, 81 octets
-withTool-tool : (mask set room t n mark : ℕ) (b : List ℕ) (i : ℕ) {f : Found} {j : ℕ} → withTool mask set room t n mark b i ≡ whole f j → f .tool ≡ t
+withTool-tool : (mask set room t n mark : ℕ) (b : List ℕ) (i : ℕ) {f : Found} {j : ℕ} → withTool mask set room t n mark b i ≡ whole f j
+    → f .tool ≡ t
 unfolding withTool
 withTool-tool mask set room t n mark b i {f} {j} e =
     let p = not-refused (not (holds set t)) (Tool t) 0 _ b i e in
@@ -396,7 +432,8 @@ after-eleven mask set room o (tool t n) w {b} z h {f} {j} e is =
     let t-is : t ≡ 11 = sym (withTool-tool mask set room t n (rowIn o t n) b 8 e) ∙ is in
     let d : withTool mask set room 11 n (rowIn o 11 n) b 8 ≡ whole f j = rw t-is at e in
     let c : isLength n && isCode n o ≡ true = rw t-is at w in
-    row-bits mask set room n (rowIn o 11 n) (and-left (isLength n) (isCode n o) c) (row-told n o (and-right (isLength n) (isCode n o) c)) z h d
+    row-bits mask set room n (rowIn o 11 n) (and-left (isLength n) (isCode n o) c)
+    (row-told n o (and-right (isLength n) (isCode n o) c)) z h d
 after-eleven mask set room o (sixOrEight n) w {b} z h {f} {j} e is = go (steps (bit b (markAt n)) _ e)
   where
     decide : (mark t : ℕ) → SixOrEight t → withTool mask set room t n mark b (markAt n + 1) ≡ whole f j → f .bits ≤ 648
@@ -406,10 +443,12 @@ after-eleven mask set room o (sixOrEight n) w {b} z h {f} {j} e is = go (steps (
     decided : (mark m : ℕ) → Steps (sixNotEight b m) (λ t k. withTool mask set room t n mark b (markAt n + 1)) f j → f .bits ≤ 648
     decided mark m (through t k q d) = decide mark t (six-or-eight b m t k q) d
 
-    go : Steps (bit b (markAt n)) (λ mark m. (sixNotEight >>= (λ t. from (markAt n + 1) (withTool mask set room t n mark))) b m) f j → f .bits ≤ 648
+    go : Steps (bit b (markAt n)) (λ mark m. (sixNotEight >>= (λ t. from (markAt n + 1) (withTool mask set room t n mark))) b m) f j
+        → f .bits ≤ 648
     go (through mark m q d) = decided mark m (steps (sixNotEight b m) _ d)
 
-frame-eleven : (mask set room : ℕ) {b : List ℕ} → Below 2 b → {f : Found} {j : ℕ} → frame mask set room b 0 ≡ whole f j → f .tool ≡ 11 → f .bits ≤ 648
+frame-eleven : (mask set room : ℕ) {b : List ℕ} → Below 2 b → {f : Found} {j : ℕ} → frame mask set room b 0 ≡ whole f j
+    → f .tool ≡ 11 → f .bits ≤ 648
 unfolding frame
 frame-eleven mask set room {b} z {f} {j} e is = go (steps (number 8 b 0) _ e)
   where
@@ -450,7 +489,8 @@ each-replicate p (suc n) x h = next h (each-replicate p n x h)
 zeros-differ : {mask : ℕ} → LawMask mask → eqb (minusZero mask) (plusZero mask) ≡ false
 zeros-differ {mask} l =
     ne-eqb (minusZero mask) (plusZero mask)
-    (λ e. let d : negsuc 0 ≡ pos 0 = sampleOf-one-to-one l (negsuc 0) (pos 0) (omega arith) (omega arith) e in let z : _≡_ {A = ℕ} 0 1 = cc in omega arith)
+    (λ e. let d : negsuc 0 ≡ pos 0 = sampleOf-one-to-one l (negsuc 0) (pos 0) (omega arith) (omega arith) e in
+    let z : _≡_ {A = ℕ} 0 1 = cc in omega arith)
 
 -- n of the rare zero, written with the mark for the other
 unfoldable pub rareFrame : ℕ → ℕ → List ℕ
@@ -468,9 +508,11 @@ rare-flags {mask} l n =
 
 rare-zeros : (mask n : ℕ) → Each (isZero mask) (rareFrame mask n)
 unfolding rareFrame
-rare-zeros mask n = each-replicate (isZero mask) n (minusZero mask) (rw (eq-eqb (minusZero mask) (minusZero mask) refl) (or-right (eqb (minusZero mask) (plusZero mask)) true refl))
+rare-zeros mask n = each-replicate (isZero mask) n (minusZero mask)
+    (rw (eq-eqb (minusZero mask) (minusZero mask) refl) (or-right (eqb (minusZero mask) (plusZero mask)) true refl))
 
-rare-bits : {mask : ℕ} → LawMask mask → (n : ℕ) → length (plusMinusForm mask 0 9 (rareFrame mask n)) ≡ length (riceCode n 0) + (length (codeOf n 9) + 10 * n)
+rare-bits : {mask : ℕ} → LawMask mask → (n : ℕ) → length (plusMinusForm mask 0 9 (rareFrame mask n)) ≡ length
+    (riceCode n 0) + (length (codeOf n 9) + 10 * n)
 rare-bits {mask} l n =
     rw (rare-length mask n, rare-flags l n, runs-of-rare n)
     (length-append (riceCode n 0) (codeOf n 9 ++ riceForms 9 (replicate n 0)) ∙ ap (λ k. length (riceCode n 0) + k)
@@ -502,5 +544,6 @@ longest-read law i =
     let most = nine mask in
     let e : readOne (pack form ++ []) law 127 320 ≡ foundAt 6 s (length form)
     = read-bits law 127 320 [] i refl (plusMinusForm-below mask 0 9 s l (omega arith) (omega arith) most)
-    ∙ rice-restores mask 0 9 s l (omega arith) (omega arith) most (rare-zeros mask 320) .reads 127 320 (bitsOf []) six-held (omega (arith, rare-length mask 320)) in
+    ∙ rice-restores mask 0 9 s l (omega arith) (omega arith) most (rare-zeros mask 320) .reads 127 320 (bitsOf []) six-held
+    (omega (arith, rare-length mask 320)) in
     rw (append-nil (pack form), longest-bits law) at e

@@ -66,13 +66,15 @@ pub record Same {A : Type 0} (r s : A) (out out′ : List ℕ) : Type 0 where
   pub answer : r ≡ s
   pub lent : out ≡ out′
 
-same-read : (r s : ReadAnswer) → r .end ≡ s .end → r .frame ≡ s .frame → r .octets ≡ s .octets → r .bits ≡ s .bits → r .tool ≡ s .tool → r .bit ≡ s .bit → r ≡ s
+same-read : (r s : ReadAnswer) → r .end ≡ s .end → r .frame ≡ s .frame → r .octets ≡ s .octets → r .bits ≡ s .bits
+    → r .tool ≡ s .tool → r .bit ≡ s .bit → r ≡ s
 same-read r s e f o b t w = λ i. record { end = e i; frame = f i; octets = o i; bits = b i; tool = t i; bit = w i }
 
 same-write : (r s : WriteAnswer) → r .end ≡ s .end → r .octets ≡ s .octets → r .bits ≡ s .bits → r .tool ≡ s .tool → r ≡ s
 same-write r s e o b t = λ i. record { end = e i; octets = o i; bits = b i; tool = t i }
 
-same-walk : (r s : WalkAnswer) → r .end ≡ s .end → r .frames ≡ s .frames → r .octets ≡ s .octets → r .samples ≡ s .samples → r .place ≡ s .place → r .bit ≡ s .bit → r ≡ s
+same-walk : (r s : WalkAnswer) → r .end ≡ s .end → r .frames ≡ s .frames → r .octets ≡ s .octets → r .samples ≡ s .samples
+    → r .place ≡ s .place → r .bit ≡ s .bit → r ≡ s
 same-walk r s e f o x p w = λ i. record { end = e i; frames = f i; octets = o i; samples = x i; place = p i; bit = w i }
 
 -- Reading one frame (`ReadFrame` is `Reads` of the definition's reading)
@@ -80,13 +82,15 @@ pub only-read : {found : Read Found} {r s : ReadAnswer} {out o₁ o₂ : List �
 only-read {r = r} {s = s} a b =
     record {
       answer =
-          same-read r s (a .end ∙ sym (b .end)) (frame-only (a .frame) (b .frame)) (a .octets ∙ sym (b .octets)) (a .bits ∙ sym (b .bits)) (a .tool ∙ sym (b .tool))
+          same-read r s (a .end ∙ sym (b .end)) (frame-only (a .frame) (b .frame)) (a .octets ∙ sym (b .octets))
+          (a .bits ∙ sym (b .bits)) (a .tool ∙ sym (b .tool))
           (a .bit ∙ sym (b .bit));
       lent = a .lent ∙ sym (b .lent);
     }
 
 -- Writing one frame (`WriteFrame` and `WriteSamples` are `Writes` of the definition's writing)
-pub only-write : {written : Write} {r s : WriteAnswer} {out o₁ o₂ : List ℕ} → Writes written r out o₁ → Writes written s out o₂ → Same r s o₁ o₂
+pub only-write : {written : Write} {r s : WriteAnswer} {out o₁ o₂ : List ℕ} → Writes written r out o₁ → Writes written s out o₂
+    → Same r s o₁ o₂
 only-write {r = r} {s = s} a b =
     record {
       answer = same-write r s (a .end ∙ sym (b .end)) (a .octets ∙ sym (b .octets)) (a .bits ∙ sym (b .bits)) (a .tool ∙ sym (b .tool));
@@ -98,7 +102,8 @@ pub only-walk : {walked : Walked} {r s : WalkAnswer} {out o₁ o₂ : List ℕ} 
 only-walk {r = r} {s = s} a b =
     record {
       answer =
-          same-walk r s (a .end ∙ sym (b .end)) (a .frames ∙ sym (b .frames)) (a .octets ∙ sym (b .octets)) (a .samples ∙ sym (b .samples)) (a .place ∙ sym (b .place))
+          same-walk r s (a .end ∙ sym (b .end)) (a .frames ∙ sym (b .frames)) (a .octets ∙ sym (b .octets))
+          (a .samples ∙ sym (b .samples)) (a .place ∙ sym (b .place))
           (a .bit ∙ sym (b .bit));
       lent = a .lent ∙ sym (b .lent);
     }

@@ -1,5 +1,6 @@
--- Tool 11: what it writes of a frame that has a row is read back (`back-fractional`); it has at most 80 octets of body, whole ones, and no filling bits
--- (`fractional-most`, `fractional-filled`); its body is refused by SHORT or PLACE alone (`fractional-refused`), so a frame is never RUN nor ALIGN (`eleven-refused`).
+-- Tool 11: what it writes of a frame that has a row is read back (`back-fractional`); it has at most 80 octets of body, whole ones, and no
+-- filling bits (`fractional-most`, `fractional-filled`); its body is refused by SHORT or PLACE alone (`fractional-refused`), so a frame is
+-- never RUN nor ALIGN (`eleven-refused`).
 use Prim.Native.Nat.{ℕ, zero, suc, _+_, _*_, _^_, _/_, _%_, _≤_, _<_}
 use native.Mathlib.Omega.{arith}
 use native.Mathlib.Nat.{lt-of-lt-of-le, mul-suc}
@@ -15,9 +16,10 @@ use Rattle.rules.specs.declared.Refusal.{Refusal}
 use Rattle.rules.specs.declared.Refusal.the-variants.{Short, Tool, Room, Run, Place, Align}
 use Rattle.rules.specs.Refusals.{refusalNumber}
 use Rattle.rules.specs.Tools.{holds, isLength}
-use Rattle.rules.specs.Bits.{lowBits, fillFor}
+use Rattle.rules.specs.Bits.{fillFor}
 use Rattle.rules.specs.Reading.{Read, whole, refuse, andThen, _>>=_, fail, here, bit, numberFrom, number, filled}
-use Rattle.rules.specs.Fractional.{valuesAt, rowCount, radix, groupOf, bitsFor, bodyBits, Packs, ofDigits, digitsOf, groupsFrom, groupsForm, placeIn, groupsAs, groupsFormAs, samplesAt, fractional, fractionalBody}
+use Rattle.rules.specs.Fractional.{valuesAt, rowCount, radix, groupOf, bitsFor, bodyBits, Packs, ofDigits, digitsOf}
+use Rattle.rules.specs.Fractional.{groupsFrom, groupsForm, placeIn, groupsAs, groupsFormAs, samplesAt, fractional, fractionalBody}
 use Rattle.rules.specs.Frame.{Found, body, withTool}
 use Rattle.rules.specs.Chooses.{fractionalRow, fractionalApplies}
 use Rattle.rules.proofs.Octets.{Below, below-take, below-drop, below-append, lowBits-below, none}
@@ -43,7 +45,8 @@ back-groups {r} {g} {w} p (suc k) done ds b e =
     let v = ofDigits r (take g ds) in
     let h : v < r ^ g = rw l at (digits-fit (below-take g b)) in
     let d : digitsOf r g v ≡ take g ds = rw l at (digits-back (lt-of-lt-of-le (omega arith) (p .some)) (below-take g b)) in
-    let m : (done ++ take g ds) ++ drop g ds ≡ done ++ ds = append-assoc done (take g ds) (drop g ds) ∙ ap (λ (x : List ℕ). done ++ x) (take-append-drop g ds) in
+    let m : (done ++ take g ds) ++ drop g ds ≡ done ++ ds = append-assoc done (take g ds) (drop g ds)
+    ∙ ap (λ (x : List ℕ). done ++ x) (take-append-drop g ds) in
     let n : length (drop g ds) ≡ k * g = length-drop g ds ∙ omega arith in
     back-here _ (λ i. back-bind (number w) _ (back-number w v (lt-of-lt-of-le h (p .fits)))
     (rw (lt-ltb v (r ^ g) h, d) (back-as (back-groups p k (done ++ take g ds) (drop g ds) (below-drop g b) n) refl refl m)))
@@ -54,7 +57,8 @@ unfolding groupsAs groupsFormAs
 back-groupsAs values {g} {w} s p a =
     let digits = map (placeIn values) s in
     let l : length digits ≡ length s / g * g = length-map s (placeIn values) ∙ sym (p .whole) in
-    back-as (back-bind _ _ (back-groups p (length s / g) [] digits (places-below values a) l) (back-give (map (λ d. getD values d 0) digits)))
+    back-as (back-bind _ _ (back-groups p (length s / g) [] digits (places-below values a) l)
+    (back-give (map (λ d. getD values d 0) digits)))
     refl (append-nil _) (places-back values a)
 
 -- the five lengths are multiples of forty
@@ -96,7 +100,8 @@ near-fractional mask k n =
     let g = groupOf (radix k) in
     let most = bitsFor (radix k) * (n / g) in
     near-more (most + 0) most (omega arith)
-    (near-then most 0 (near-groups (radix k) g (bitsFor (radix k)) [] (n / g)) (λ digits. near-give (map (λ d. getD (samplesAt mask k) d 0) digits)))
+    (near-then most 0 (near-groups (radix k) g (bitsFor (radix k)) [] (n / g))
+    (λ digits. near-give (map (λ d. getD (samplesAt mask k) d 0) digits)))
 
 -- of a row of the length: 640 at most, 80 octets, and whole ones
 abbrev rowWhole : ℕ → ℕ → Bool
@@ -109,22 +114,26 @@ pub fractional-most : (n k : ℕ) → isLength n ≡ true → k < rowCount n →
 unfolding valuesAt rowCount groupOf bitsFor
 fractional-most n k l h =
     leb-true (bodyBits k n) 640 (implied (ltb k (rowCount n)) (leb (bodyBits k n) 640)
-    (allBelow-at (rowWhole n) 12 (by-length (λ n. allBelow (rowWhole n) 12 ≡ true) refl refl refl refl refl n l) k (omega (arith, rows-few n l)))
+    (allBelow-at (rowWhole n) 12 (by-length (λ n. allBelow (rowWhole n) 12 ≡ true) refl refl refl refl refl n l) k
+    (omega (arith, rows-few n l)))
     (lt-ltb k (rowCount n) h))
 
 pub fractional-filled : (n k : ℕ) → isLength n ≡ true → k < rowCount n → fillFor (8 + bodyBits k n) ≡ 0
 unfolding valuesAt rowCount groupOf bitsFor
 fractional-filled n k l h =
     let e : bodyBits k n % 8 ≡ 0 = eqb-true (bodyBits k n % 8) 0 (implied (ltb k (rowCount n)) (eqb (bodyBits k n % 8) 0)
-    (allBelow-at (rowFills n) 12 (by-length (λ n. allBelow (rowFills n) 12 ≡ true) refl refl refl refl refl n l) k (omega (arith, rows-few n l)))
+    (allBelow-at (rowFills n) 12 (by-length (λ n. allBelow (rowFills n) 12 ≡ true) refl refl refl refl refl n l) k
+    (omega (arith, rows-few n l)))
     (lt-ltb k (rowCount n) h)) in
     omega arith
 
 -- it goes exactly so far
-groups-next : (r g w : ℕ) (done : List ℕ) (m : ℕ) (b : List ℕ) (i : ℕ) {ds : List ℕ} {j : ℕ} → groupsFrom r g w done m b i ≡ whole ds j → i + w * m ≡ j
+groups-next : (r g w : ℕ) (done : List ℕ) (m : ℕ) (b : List ℕ) (i : ℕ) {ds : List ℕ} {j : ℕ} → groupsFrom r g w done m b i ≡ whole ds j
+    → i + w * m ≡ j
 unfolding groupsFrom
 groups-next r g w done zero b i e = omega (arith, same-place e)
-groups-next r g w done (suc m) b i {ds} {j} e = go (λ v k. groups-next r g w (done ++ digitsOf r g v) m b k) (steps (numberFrom 0 w b i) _ e)
+groups-next r g w done (suc m) b i {ds} {j} e = go (λ v k. groups-next r g w (done ++ digitsOf r g v) m b k)
+    (steps (numberFrom 0 w b i) _ e)
   where
     one : (v k : ℕ) (t : Bool) → i + w ≡ k → (groupsFrom r g w (done ++ digitsOf r g v) m b k ≡ whole ds j → k + w * m ≡ j)
         → cond t (groupsFrom r g w (done ++ digitsOf r g v) m) (fail Place i) b k ≡ whole ds j → i + w * suc m ≡ j
@@ -132,7 +141,8 @@ groups-next r g w done (suc m) b i {ds} {j} e = go (λ v k. groups-next r g w (d
     one v k false q later d = no-refusal d
 
     go : ((v k : ℕ) → groupsFrom r g w (done ++ digitsOf r g v) m b k ≡ whole ds j → k + w * m ≡ j)
-        → Steps (numberFrom 0 w b i) (λ v k. cond (ltb v (r ^ g)) (groupsFrom r g w (done ++ digitsOf r g v) m) (fail Place i) b k) ds j → i + w * suc m ≡ j
+        → Steps (numberFrom 0 w b i) (λ v k. cond (ltb v (r ^ g)) (groupsFrom r g w (done ++ digitsOf r g v) m) (fail Place i) b k) ds j
+        → i + w * suc m ≡ j
     go later (through v k q d) = one v k (ltb v (r ^ g)) (number-next 0 w b i q) (later v k) d
 
 pub fractional-next : (mask k n : ℕ) (b : List ℕ) (i : ℕ) {s : List ℕ} {j : ℕ} → fractional mask k n b i ≡ whole s j → i + bodyBits k n ≡ j
@@ -140,16 +150,19 @@ unfolding groupsAs
 fractional-next mask k n b i {s} {j} e =
     go (steps (groupsFrom (radix k) (groupOf (radix k)) (bitsFor (radix k)) [] (n / groupOf (radix k)) b i) _ e)
   where
-    go : Steps (groupsFrom (radix k) (groupOf (radix k)) (bitsFor (radix k)) [] (n / groupOf (radix k)) b i) (λ digits m. whole (map (λ d. getD (samplesAt mask k) d 0) digits) m) s j
+    go : Steps (groupsFrom (radix k) (groupOf (radix k)) (bitsFor (radix k)) [] (n / groupOf (radix k)) b i)
+        (λ digits m. whole (map (λ d. getD (samplesAt mask k) d 0) digits) m) s j
         → i + bodyBits k n ≡ j
-    go (through digits m q d) = groups-next (radix k) (groupOf (radix k)) (bitsFor (radix k)) [] (n / groupOf (radix k)) b i q ∙ same-place d
+    go (through digits m q d) = groups-next (radix k) (groupOf (radix k)) (bitsFor (radix k)) [] (n / groupOf (radix k)) b i q
+        ∙ same-place d
 
 -- No RUN arises in this body, nor any other refusal than SHORT and PLACE.
 abbrev pub ShortOrPlace : {A : Type 0} → Read A → Type 0
 ShortOrPlace (whole a j) = Unit {0}
 ShortOrPlace (refuse w at) = (w ≡ Short) ⊎ (w ≡ Place)
 
-short-then : {A B : Type 0} (m : Read A) (f : A → ℕ → Read B) → ShortOrPlace m → ((a : A) (j : ℕ) → ShortOrPlace (f a j)) → ShortOrPlace (andThen m f)
+short-then : {A B : Type 0} (m : Read A) (f : A → ℕ → Read B) → ShortOrPlace m → ((a : A) (j : ℕ) → ShortOrPlace (f a j))
+    → ShortOrPlace (andThen m f)
 short-then (whole a j) f h g = g a j
 short-then (refuse w at) f h g = h
 
@@ -160,13 +173,15 @@ short-bit false v i = inl refl
 short-number : (v n : ℕ) (b : List ℕ) (i : ℕ) → ShortOrPlace (numberFrom v n b i)
 unfolding numberFrom bit
 short-number v zero b i = tt
-short-number v (suc n) b i = short-then (bit b i) (λ a j. numberFrom (2 * v + a) n b j) (short-bit (ltb i (length b)) (getD b i 0) i) (λ a j. short-number (2 * v + a) n b j)
+short-number v (suc n) b i = short-then (bit b i) (λ a j. numberFrom (2 * v + a) n b j) (short-bit (ltb i (length b)) (getD b i 0) i)
+    (λ a j. short-number (2 * v + a) n b j)
 
 short-groups : (r g w : ℕ) (done : List ℕ) (m : ℕ) (b : List ℕ) (i : ℕ) → ShortOrPlace (groupsFrom r g w done m b i)
 unfolding groupsFrom
 short-groups r g w done zero b i = tt
 short-groups r g w done (suc m) b i =
-    short-then (numberFrom 0 w b i) (λ v j. cond (ltb v (r ^ g)) (groupsFrom r g w (done ++ digitsOf r g v) m) (fail Place i) b j) (short-number 0 w b i)
+    short-then (numberFrom 0 w b i) (λ v j. cond (ltb v (r ^ g)) (groupsFrom r g w (done ++ digitsOf r g v) m) (fail Place i) b j)
+    (short-number 0 w b i)
     (λ v j. one v j (ltb v (r ^ g)) (short-groups r g w (done ++ digitsOf r g v) m b j))
   where
     one : (v j : ℕ) (t : Bool) → ShortOrPlace (groupsFrom r g w (done ++ digitsOf r g v) m b j)
@@ -178,7 +193,8 @@ pub fractional-refused : (mask k n : ℕ) (b : List ℕ) (i : ℕ) → ShortOrPl
 unfolding groupsAs
 fractional-refused mask k n b i =
     let g = groupOf (radix k) in
-    short-then (groupsFrom (radix k) g (bitsFor (radix k)) [] (n / g) b i) (λ digits j. whole (map (λ d. getD (samplesAt mask k) d 0) digits) j)
+    short-then (groupsFrom (radix k) g (bitsFor (radix k)) [] (n / g) b i)
+    (λ digits j. whole (map (λ d. getD (samplesAt mask k) d 0) digits) j)
     (short-groups (radix k) g (bitsFor (radix k)) [] (n / g) b i) (λ digits j. tt)
 
 -- So a frame of tool 11 is never RUN, and since its body fills whole octets, never ALIGN.

@@ -39,8 +39,10 @@ with-tool mask set room t n mark pre b post s h r back =
     let fill : List ℕ = replicate (fillFor (length (pre ++ b))) 0 in
     let e : (((pre ++ b) ++ fill) ++ post) ≡ pre ++ (b ++ (fill ++ post)) = simp append-assoc in
     let l : length pre + length b ≡ length (pre ++ b) = sym (length-append pre b) in
-    let f = back-filled {A = Found} (record { tool = t; samples = s; bits = length (pre ++ b) }) (fillFor (length (pre ++ b))) .reads (pre ++ b) post in
-    let end : length (pre ++ b) + length fill ≡ 8 * octetsFor (length (pre ++ b)) = omega (arith, length-replicate {A = ℕ} (fillFor (length (pre ++ b))) 0) in
+    let f = back-filled {A = Found} (record { tool = t; samples = s; bits = length (pre ++ b) }) (fillFor (length (pre ++ b)))
+    .reads (pre ++ b) post in
+    let end : length (pre ++ b) + length fill ≡ 8 * octetsFor (length (pre ++ b)) =
+    omega (arith, length-replicate {A = ℕ} (fillFor (length (pre ++ b))) 0) in
     rw (h, le-ltb room n r, e, back .reads pre (fill ++ post), l)
     ((rw (append-assoc pre b (fill ++ post)) at f) ∙ ap (whole (record { tool = t; samples = s; bits = length (pre ++ b) })) end)
 
@@ -49,7 +51,8 @@ own-octet : (n t : ℕ) → isLength n ≡ true → hasOwn n t ≡ true → octe
 unfolding baseOf
 own-octet n t l own =
     ltb-true (octetFor t n) 256
-    (allBelow-at (λ t. ltb (octetFor t n) 256) 8 (by-length (λ n. allBelow (λ t. ltb (octetFor t n) 256) 8 ≡ true) refl refl refl refl refl n l) t (own-low n t own))
+    (allBelow-at (λ t. ltb (octetFor t n) 256) 8
+    (by-length (λ n. allBelow (λ t. ltb (octetFor t n) 256) 8 ≡ true) refl refl refl refl refl n l) t (own-low n t own))
 
 pub read-own : (mask set room t n : ℕ) (b post s : List ℕ) → isLength n ≡ true → hasOwn n t ≡ true → holds set t ≡ true → n ≤ room
     → Back (body mask t n 0) b s
@@ -61,20 +64,28 @@ read-own mask set room t n b post s l own h r back =
     let e : ((lowBits 8 o ++ b) ++ fill) ++ post ≡ lowBits 8 o ++ (b ++ (fill ++ post)) = simp append-assoc in
     let first : number 8 (filledBits (lowBits 8 o ++ b) ++ post) 0 ≡ whole o (length (lowBits 8 o))
     = rw e (back-first (back-number 8 o (own-octet n t l own)) (b ++ (fill ++ post))) in
-    rw (first, first-of n t l own, ne-eqb t 11 (λ e. omega (arith, own-low n t own))) (with-tool mask set room t n 0 (lowBits 8 o) b post s h r back)
+    rw (first, first-of n t l own, ne-eqb t 11 (λ e. omega (arith, own-low n t own)))
+    (with-tool mask set room t n 0 (lowBits 8 o) b post s h r back)
 
 -- Tool 11: its first octet tells its row
 codes-small : (n k : ℕ) → isLength n ≡ true → k < rowCount n → firstCode n + k < 256
 unfolding firstCode rowCount
 codes-small n k l h =
-    omega (arith, h, rows-few n l, by-length (λ n. firstCode n ≤ 28) (omega arith) (omega arith) (omega arith) (omega arith) (omega arith) n l)
+    omega (
+      arith,
+      h,
+      rows-few n l,
+      by-length (λ n. firstCode n ≤ 28) (omega arith) (omega arith) (omega arith) (omega arith)
+          (omega arith) n l,
+    )
 
 row-of-code : (n k : ℕ) → rowIn (firstCode n + k) 11 n ≡ k
 row-of-code n k = omega arith
 
 pub read-row : (mask set room k n : ℕ) (b post s : List ℕ) → isLength n ≡ true → k < rowCount n → holds set 11 ≡ true → n ≤ room
     → Back (body mask 11 n k) b s
-    → frame mask set room (filledBits (lowBits 8 (firstCode n + k) ++ b) ++ post) 0 ≡ foundAt 11 s (length (lowBits 8 (firstCode n + k) ++ b))
+    → frame mask set room (filledBits (lowBits 8 (firstCode n + k) ++ b) ++ post) 0 ≡ foundAt 11 s
+    (length (lowBits 8 (firstCode n + k) ++ b))
 unfolding frame afterFirst
 read-row mask set room k n b post s l few h r back =
     let o = firstCode n + k in
@@ -93,7 +104,8 @@ value-append u (x ∷ a) b = value-append (2 * u + x) a b
 pub first-eight : (bits post : List ℕ) → 8 ≤ length bits → number 8 (bits ++ post) 0 ≡ whole (valueFrom 0 (take 8 bits)) 8
 first-eight bits post h =
     let l : length (take 8 bits) ≡ 8 = length-take-le 8 bits h in
-    let e : bits ++ post ≡ take 8 bits ++ (drop 8 bits ++ post) = rw (← (append-assoc (take 8 bits) (drop 8 bits) post), take-append-drop 8 bits) refl in
+    let e : bits ++ post ≡ take 8 bits ++ (drop 8 bits ++ post) =
+    rw (← (append-assoc (take 8 bits) (drop 8 bits) post), take-append-drop 8 bits) refl in
     rw e (rw l at (back-first (back-value 0 (take 8 bits)) (drop 8 bits ++ post)))
 
 pub value-small : {l : List ℕ} (k : ℕ) → Below 2 l → length l ≡ k → valueFrom 0 l < 2 ^ k
@@ -179,7 +191,8 @@ six-code n s l h k =
     (by-length (λ n. allBelow (λ k. startsSix (codeOf n (k + 1))) (mostS n) ≡ true) refl refl refl refl refl n l) (s - 1) (omega arith)))
 
 -- the tool is decided
-decided : {code : List ℕ} → NotEight code → (front rest : List ℕ) → (j : ℕ) × (sixNotEight (front ++ (code ++ rest)) (length front) ≡ whole 6 j)
+decided : {code : List ℕ} → NotEight code → (front rest : List ℕ)
+    → (j : ℕ) × (sixNotEight (front ++ (code ++ rest)) (length front) ≡ whole 6 j)
 unfolding sixNotEight
 decided (one {b = b}) front rest =
     let t : Back sixNotEight (1 ∷ []) 6 = back-bit _ 1 (back-give 6) in (length front + 1, t .reads front (b ++ rest))
@@ -187,7 +200,8 @@ decided (zeroOne {b = b}) front rest =
     let t : Back sixNotEight (0 ∷ (1 ∷ [])) 6 = back-bit _ 0 (back-bit _ 1 (back-give 6)) in (length front + 2, t .reads front (b ++ rest))
 
 six-steps : (mask set room n mark o j : ℕ) (w : List ℕ) (r : Read Found) → number 8 w 0 ≡ whole o 8 → firstOctet o ≡ sixOrEight n
-    → bit w (markAt n) ≡ whole mark (markAt n + 1) → sixNotEight w (markAt n + 1) ≡ whole 6 j → withTool mask set room 6 n mark w (markAt n + 1) ≡ r
+    → bit w (markAt n) ≡ whole mark (markAt n + 1) → sixNotEight w (markAt n + 1) ≡ whole 6 j
+    → withTool mask set room 6 n mark w (markAt n + 1) ≡ r
     → frame mask set room w 0 ≡ r
 unfolding frame afterFirst
 six-steps mask set room n mark o j w r e f g h t = rw (e, f, g, h) t
@@ -200,7 +214,8 @@ six-frame : (mask set room n mark : ℕ) (front code b post s : List ℕ) → No
     → Below 2 (front ++ (mark ∷ [])) → Below 2 (code ++ b)
     → ((o : ℕ) → o < 256 → o / 2 ^ (8 - length (front ++ (mark ∷ []))) ≡ valueFrom 0 (front ++ (mark ∷ [])) → firstOctet o ≡ sixOrEight n)
     → holds set 6 ≡ true → n ≤ room → Back (body mask 6 n mark) (code ++ b) s
-    → frame mask set room (filledBits ((front ++ (mark ∷ [])) ++ (code ++ b)) ++ post) 0 ≡ foundAt 6 s (length ((front ++ (mark ∷ [])) ++ (code ++ b)))
+    → frame mask set room (filledBits ((front ++ (mark ∷ [])) ++ (code ++ b)) ++ post) 0 ≡ foundAt 6 s
+    (length ((front ++ (mark ∷ [])) ++ (code ++ b)))
 six-frame mask set room n mark front code b post s d e f c low g h k back =
     let pre = front ++ (mark ∷ []) in
     let body = code ++ b in
@@ -212,7 +227,8 @@ six-frame mask set room n mark front code b post s d e f c low g h k back =
     let start : w ≡ (pre ++ (body ++ fill)) ++ post = simp append-assoc in
     let size = an-octet pre body (omega arith) in
     let six = decided d pre (b ++ (fill ++ post)) in
-    let eight = begins pre (body ++ fill) (8 - length pre) (omega arith) c (below-append low (below-replicate (fillFor (length (pre ++ body))) {x = 0} (omega arith))) (omega arith) in
+    let eight = begins pre (body ++ fill) (8 - length pre) (omega arith) c
+    (below-append low (below-replicate (fillFor (length (pre ++ body))) {x = 0} (omega arith))) (omega arith) in
     six-steps mask set room n mark (valueFrom 0 (take 8 (pre ++ (body ++ fill)))) (six .0) w (foundAt 6 s (length (pre ++ body)))
     (rw start (first-eight (pre ++ (body ++ fill)) post (omega (arith, length-append pre (body ++ fill)))))
     (g (valueFrom 0 (take 8 (pre ++ (body ++ fill)))) (eight .1) (eight .0))
@@ -220,11 +236,15 @@ six-frame mask set room n mark front code b post s d e f c low g h k back =
     (rw (on, ← lp) (six .1))
     (rw (← lp) (with-tool mask set room 6 n mark pre body post s h k back))
 
-pub read-six : (mask set room n mark r : ℕ) (b post s : List ℕ) → isLength n ≡ true → mark < 2 → 1 ≤ r → r ≤ mostS n → Below 2 (codeOf n r ++ b)
+pub read-six : (mask set room n mark r : ℕ) (b post s : List ℕ) → isLength n ≡ true → mark < 2 → 1 ≤ r → r ≤ mostS n
+    → Below 2 (codeOf n r ++ b)
     → holds set 6 ≡ true → n ≤ room → Back (body mask 6 n mark) (codeOf n r ++ b) s
-    → frame mask set room (filledBits (riceCode n mark ++ (codeOf n r ++ b)) ++ post) 0 ≡ foundAt 6 s (length (riceCode n mark ++ (codeOf n r ++ b)))
+    → frame mask set room (filledBits (riceCode n mark ++ (codeOf n r ++ b)) ++ post) 0 ≡ foundAt 6 s
+    (length (riceCode n mark ++ (codeOf n r ++ b)))
 read-six mask set room n mark r b post s l m p q low h k back =
     let c = rice-code n l in
     let e = c .last mark in
-    rw e (six-frame mask set room n mark (riceFront n) (codeOf n r) b post s (six-code n r l p q) (c .place) (c .short) (rw e at (code-below n mark l m)) low
-    (λ o g f. first-of-six n mark o l m g (eq-eqb (o / 2 ^ (8 - length (riceCode n mark))) (valueFrom 0 (riceCode n mark)) (rw (← e) at f))) h k back)
+    rw e (six-frame mask set room n mark (riceFront n) (codeOf n r) b post s (six-code n r l p q) (c .place) (c .short)
+    (rw e at (code-below n mark l m)) low
+    (λ o g f. first-of-six n mark o l m g
+    (eq-eqb (o / 2 ^ (8 - length (riceCode n mark))) (valueFrom 0 (riceCode n mark)) (rw (← e) at f))) h k back)

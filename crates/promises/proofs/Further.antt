@@ -13,7 +13,8 @@ use Rattle.rules.specs.declared.Refusal.{Refusal}
 use Rattle.rules.specs.declared.Refusal.the-variants.{Short, Align, Run, Place, Method, Case, Tool, Room, Set, Law}
 use Rattle.rules.specs.Tools.{holds, isSet, isLaw}
 use Rattle.rules.specs.Bits.{bitsOf, valueFrom, fillFor}
-use Rattle.rules.specs.Reading.{Read, whole, refuse, Reader, andThen, _>>=_, give, fail, here, bit, numberFrom, number, bitsFrom, octetsAfter, filled}
+use Rattle.rules.specs.Reading.{Read, whole, refuse, Reader, andThen, _>>=_, give, fail}
+use Rattle.rules.specs.Reading.{here, bit, numberFrom, number, bitsFrom, octetsAfter, filled}
 use Rattle.rules.specs.Samples.{maskOf, sampleOf, plusZero, minusZero}
 use Rattle.rules.specs.Runs.{zerosFrom, rice, runsFrom}
 use Rattle.rules.specs.Zeros.{Tree, leaf, fork, treeOf, readTree, zeroOf}
@@ -27,7 +28,8 @@ use Rattle.rules.proofs.Signed.{law-mask}
 use Rattle.rules.proofs.Each.{pick-below}
 use Rattle.promises.proofs.Frame.{first-eight}
 use Rattle.rules.proofs.Gives.{no-refusal, same-place, same-value}
-use Rattle.promises.proofs.Reach.{Far, far-bit, far-then, far-cond, far-fail, Near, near-give, near-bit, near-then, near-cond, near-more}
+use Rattle.promises.proofs.Reach.{Far, far-bit, far-then, far-cond, far-fail, Near}
+use Rattle.promises.proofs.Reach.{near-give, near-bit, near-then, near-cond, near-more}
 
 -- a reading m of bits of which there are n, and m′, the same with more bits after them
 pub data Goes {A : Type 0} (n : ℕ) (m m′ : Read A) : Type 0 where
@@ -52,11 +54,13 @@ bit-on n v i true h e = omega (arith, same-place e)
 bit-on n v i false h e = no-refusal e
 
 bit-goes : (b c : List ℕ) (i : ℕ) (t : Bool) → ltb i (length b) ≡ t
-    → Goes (length b) (cond t (whole (getD b i 0) (i + 1)) (refuse Short i)) (cond (ltb i (length (b ++ c))) (whole (getD (b ++ c) i 0) (i + 1)) (refuse Short i))
+    → Goes (length b) (cond t (whole (getD b i 0) (i + 1)) (refuse Short i))
+    (cond (ltb i (length (b ++ c))) (whole (getD (b ++ c) i 0) (i + 1)) (refuse Short i))
 bit-goes b c i true e =
     let h = ltb-true i (length b) e in
     same (rw (lt-ltb i (length (b ++ c)) (omega (arith, length-append b c)), List·getD-append b c 0 i h) refl)
-bit-goes b c i false e = short i refl (λ a j f. bit-on (length b) (getD (b ++ c) i 0) i (ltb i (length (b ++ c))) (ltb-false i (length b) e) f)
+bit-goes b c i false e =
+    short i refl (λ a j f. bit-on (length b) (getD (b ++ c) i 0) i (ltb i (length (b ++ c))) (ltb-false i (length b) e) f)
 
 pub firm-bit : Firm bit
 unfolding bit
@@ -83,7 +87,8 @@ firm-bind {A} {B} {p} {f} g h = record {
     go : (b c : List ℕ) (i : ℕ) → Goes (length b) (p b i) (p (b ++ c) i)
         → Goes (length b) (andThen (p b i) (λ a l. f a b l)) (andThen (p (b ++ c) i) (λ a l. f a (b ++ c) l))
     go b c i (short at e past) =
-        short at (rw e refl) (λ a j d. bind-onward g h (b ++ c) i (suc (length b)) a j past (steps (p (b ++ c) i) (λ a l. f a (b ++ c) l) d))
+        short at (rw e refl)
+        (λ a j d. bind-onward g h (b ++ c) i (suc (length b)) a j past (steps (p (b ++ c) i) (λ a l. f a (b ++ c) l) d))
     go b c i (same e) = rw e (bind-goes h b c (p b i))
 
 pub firm-cond : {A : Type 0} {p q : Reader A} (t : Bool) → Firm p → Firm q → Firm (cond t p q)
@@ -119,7 +124,8 @@ firm-zerosFrom start k (suc left) = firm-bind firm-bit (λ a. firm-cond (eqb a 1
 pub firm-rice : (n s : ℕ) → Firm (rice n s)
 unfolding rice
 firm-rice n s =
-    firm-bind firm-here (λ start. firm-bind (firm-zerosFrom start 0 (n + 1)) (λ k. firm-bind (firm-numberFrom 0 s) (λ low. firm-give (k * 2 ^ s + low))))
+    firm-bind firm-here (λ start. firm-bind (firm-zerosFrom start 0 (n + 1))
+    (λ k. firm-bind (firm-numberFrom 0 s) (λ low. firm-give (k * 2 ^ s + low))))
 
 pub firm-runsFrom : (n s fuel left : ℕ) (done : List ℕ) → Firm (runsFrom n s fuel left done)
 unfolding runsFrom
@@ -144,7 +150,8 @@ firm-listedFrom w d done (suc k) =
 pub firm-byMethod : (n d start m : ℕ) → Firm (byMethod n d start m)
 unfolding byMethod listed
 firm-byMethod n d start m =
-    firm-cond (eqb m 0) (firm-bitsFrom [] d) (firm-cond (leb m 4) (firm-runsFrom n m d d []) (firm-cond (eqb m 5) (firm-give (replicate d 0))
+    firm-cond (eqb m 0) (firm-bitsFrom [] d)
+    (firm-cond (leb m 4) (firm-runsFrom n m d d []) (firm-cond (eqb m 5) (firm-give (replicate d 0))
     (firm-cond (eqb m 6) (firm-fail Method start) (firm-bind (firm-numberFrom 0 2) (λ less. firm-listedFrom (widthOf d) d [] (less + 1))))))
 
 pub firm-valuesInto : (n z : ℕ) (xs cells : List ℕ) → Firm (valuesInto n z xs cells)
@@ -191,7 +198,8 @@ pub firm-withTool : (mask set room t n mark : ℕ) → Firm (withTool mask set r
 unfolding withTool
 firm-withTool mask set room t n mark =
     firm-cond (not (holds set t)) (firm-fail (Tool t) 0) (firm-cond (ltb room n) (firm-fail Room 0)
-    (firm-bind (firm-body mask t n mark) (λ s. firm-bind firm-here (λ bits. firm-filled (record { tool = t; samples = s; bits = bits }) (fillFor bits)))))
+    (firm-bind (firm-body mask t n mark)
+    (λ s. firm-bind firm-here (λ bits. firm-filled (record { tool = t; samples = s; bits = bits }) (fillFor bits)))))
 
 pub far-firm : {A : Type 0} {p : Reader A} → Firm p → Far 0 p
 far-firm g = record { goes = λ b i a j e. omega (arith, g .onward b i a j e) }
@@ -213,17 +221,20 @@ far-six : (mask set room n mark : ℕ) → Far 2 (withTool mask set room 6 n mar
 unfolding withTool body
 far-six mask set room n mark =
     far-cond 2 (not (holds set 6)) (far-fail 2 (Tool 6) 0) (far-cond 2 (ltb room n) (far-fail 2 Room 0)
-    (far-then 2 0 (far-then 2 0 (far-tree n) (λ s. far-firm (firm-bind (firm-runsFrom n s n n []) (λ flags. firm-give (map (zeroOf mask mark) flags)))))
+    (far-then 2 0 (far-then 2 0 (far-tree n)
+    (λ s. far-firm (firm-bind (firm-runsFrom n s n n []) (λ flags. firm-give (map (zeroOf mask mark) flags)))))
     (λ s. far-firm (firm-bind firm-here (λ bits. firm-filled (record { tool = 6; samples = s; bits = bits }) (fillFor bits))))))
 
 -- tool 8 is in no set
-pub eight-out : (mask set room n mark : ℕ) (b : List ℕ) (i : ℕ) {f : Found} {j : ℕ} {X : Type 0} → withTool mask set room 8 n mark b i ≡ whole f j → X
+pub eight-out : (mask set room n mark : ℕ) (b : List ℕ) (i : ℕ) {f : Found} {j : ℕ} {X : Type 0}
+    → withTool mask set room 8 n mark b i ≡ whole f j → X
 unfolding withTool holds
 eight-out mask set room n mark b i e = no-refusal e
 
 pub firm-six : Firm sixNotEight
 unfolding sixNotEight
-firm-six = firm-bind firm-bit (λ a. firm-cond (eqb a 1) (firm-give 6) (firm-bind firm-bit (λ b. firm-cond (eqb b 1) (firm-give 6) (firm-give 8))))
+firm-six = firm-bind firm-bit
+    (λ a. firm-cond (eqb a 1) (firm-give 6) (firm-bind firm-bit (λ b. firm-cond (eqb b 1) (firm-give 6) (firm-give 8))))
 
 -- the tool is 6 or 8, decided by two bits at most
 pub data SixOrEight : ℕ → Type 0 where
@@ -250,38 +261,49 @@ six-or-eight b i t k e = go (steps (bit b i) (λ a l. cond (eqb a 1) (give 6) (b
 
 near-six : Near 2 sixNotEight
 unfolding sixNotEight
-near-six = near-then 1 1 near-bit (λ a. near-cond 1 (eqb a 1) (near-more 0 1 (omega arith) (near-give 6)) (near-then 1 0 near-bit (λ b. near-cond 0 (eqb b 1) (near-give 6) (near-give 8))))
+near-six = near-then 1 1 near-bit
+    (λ a. near-cond 1 (eqb a 1) (near-more 0 1 (omega arith) (near-give 6))
+    (near-then 1 0 near-bit (λ b. near-cond 0 (eqb b 1) (near-give 6) (near-give 8))))
 
 -- where a tool 6 or 8 is accepted, the bits that decided it are within it
 six-within : (mask set room n mark : ℕ) (b : List ℕ) (i : ℕ) {t k : ℕ} → sixNotEight b i ≡ whole t k → SixOrEight t → {f : Found} {j : ℕ}
     → withTool mask set room t n mark b i ≡ whole f j → k ≤ j
-six-within mask set room n mark b i {t} {k} e six {f} {j} d = omega (arith, near-six .goes b i t k e, far-six mask set room n mark .goes b i f j d)
+six-within mask set room n mark b i {t} {k} e six {f} {j} d =
+    omega (arith, near-six .goes b i t k e, far-six mask set room n mark .goes b i f j d)
 six-within mask set room n mark b i e eight d = eight-out mask set room n mark b i d
 
 -- a bit that is there is the same with more after it
-pub bit-there : (b c : List ℕ) (i : ℕ) → i < length b → (bit b i ≡ whole (getD b i 0) (i + 1)) × (bit (b ++ c) i ≡ whole (getD b i 0) (i + 1))
+pub bit-there : (b c : List ℕ) (i : ℕ) → i < length b
+    → (bit b i ≡ whole (getD b i 0) (i + 1)) × (bit (b ++ c) i ≡ whole (getD b i 0) (i + 1))
 unfolding bit
-bit-there b c i h = (rw (lt-ltb i (length b) h) refl, rw (lt-ltb i (length (b ++ c)) (omega (arith, length-append b c)), List·getD-append b c 0 i h) refl)
+bit-there b c i h = (
+  rw (lt-ltb i (length b) h) refl,
+  rw (lt-ltb i (length (b ++ c)) (omega (arith, length-append b c)), List·getD-append b c 0 i h) refl,
+)
 
 pub mark-first : (n : ℕ) → markAt n < 7
 mark-first n = pick-below (leb 240 n) 6 4 (omega arith) (omega arith)
 
 -- once the mark is read
 six-goes : (mask set room n mark : ℕ) (b c : List ℕ) (i : ℕ)
-    → Goes (length b) (andThen (sixNotEight b i) (λ t k. withTool mask set room t n mark b i)) (andThen (sixNotEight (b ++ c) i) (λ t k. withTool mask set room t n mark (b ++ c) i))
+    → Goes (length b) (andThen (sixNotEight b i) (λ t k. withTool mask set room t n mark b i))
+    (andThen (sixNotEight (b ++ c) i) (λ t k. withTool mask set room t n mark (b ++ c) i))
 six-goes mask set room n mark b c i = go (firm-six .goes b c i)
   where
     late : {f : Found} {j : ℕ} → ((t k : ℕ) → sixNotEight (b ++ c) i ≡ whole t k → length b < k)
         → Steps (sixNotEight (b ++ c) i) (λ t k. withTool mask set room t n mark (b ++ c) i) f j → length b < j
     late past (through t k e d) = le-trans (past t k e) (six-within mask set room n mark (b ++ c) i e (six-or-eight (b ++ c) i t k e) d)
 
-    on : (m : Read ℕ) → Goes (length b) (andThen m (λ t k. withTool mask set room t n mark b i)) (andThen m (λ t k. withTool mask set room t n mark (b ++ c) i))
+    on : (m : Read ℕ) → Goes (length b) (andThen m (λ t k. withTool mask set room t n mark b i))
+        (andThen m (λ t k. withTool mask set room t n mark (b ++ c) i))
     on (whole t k) = firm-withTool mask set room t n mark .goes b c i
     on (refuse w at) = same refl
 
     go : Goes (length b) (sixNotEight b i) (sixNotEight (b ++ c) i)
-        → Goes (length b) (andThen (sixNotEight b i) (λ t k. withTool mask set room t n mark b i)) (andThen (sixNotEight (b ++ c) i) (λ t k. withTool mask set room t n mark (b ++ c) i))
-    go (short at e past) = short at (rw e refl) (λ f j d. late past (steps (sixNotEight (b ++ c) i) (λ t k. withTool mask set room t n mark (b ++ c) i) d))
+        → Goes (length b) (andThen (sixNotEight b i) (λ t k. withTool mask set room t n mark b i))
+        (andThen (sixNotEight (b ++ c) i) (λ t k. withTool mask set room t n mark (b ++ c) i))
+    go (short at e past) =
+        short at (rw e refl) (λ f j d. late past (steps (sixNotEight (b ++ c) i) (λ t k. withTool mask set room t n mark (b ++ c) i) d))
     go (same e) = rw e (on (sixNotEight b i))
 
 -- what the first octet begins
@@ -306,13 +328,17 @@ pub nothing-short : (mask set room : ℕ) → frame mask set room (bitsOf []) 0 
 unfolding frame numberFrom bit bitsOf
 nothing-short mask set room = refl
 
-octets-go : (law set room : ℕ) (x y : List ℕ) → Goes (8 * length x) (frame (maskOf law) set room (bitsOf x) 0) (frame (maskOf law) set room (bitsOf (x ++ y)) 0)
+octets-go : (law set room : ℕ) (x y : List ℕ) → Goes (8 * length x) (frame (maskOf law) set room (bitsOf x) 0)
+    (frame (maskOf law) set room (bitsOf (x ++ y)) 0)
 octets-go law set room [] y =
-    short 0 (nothing-short (maskOf law) set room) (λ f j e. let a = frame-accepts (law-mask law) set room (bitsOf-below y) e in omega (arith, a .octets, a .some))
+    short 0 (nothing-short (maskOf law) set room)
+    (λ f j e. let a = frame-accepts (law-mask law) set room (bitsOf-below y) e in omega (arith, a .octets, a .some))
 octets-go law set room (o ∷ x) y =
-    rw (← (length-bitsOf (o ∷ x)), bitsOf-append (o ∷ x) y) (frame-goes (maskOf law) set room (bitsOf (o ∷ x)) (bitsOf y) (omega (arith, length-bitsOf (o ∷ x))))
+    rw (← (length-bitsOf (o ∷ x)), bitsOf-append (o ∷ x) y)
+    (frame-goes (maskOf law) set room (bitsOf (o ∷ x)) (bitsOf y) (omega (arith, length-bitsOf (o ∷ x))))
 
-goes-test : {A : Type 0} (n : ℕ) (t : Bool) (w : Refusal) (p : Reader A) (b c : List ℕ) → Goes n (p b 0) (p c 0) → Goes n (cond t (fail w 0) p b 0) (cond t (fail w 0) p c 0)
+goes-test : {A : Type 0} (n : ℕ) (t : Bool) (w : Refusal) (p : Reader A) (b c : List ℕ) → Goes n (p b 0) (p c 0)
+    → Goes n (cond t (fail w 0) p b 0) (cond t (fail w 0) p c 0)
 goes-test n true w p b c g = same refl
 goes-test n false w p b c g = g
 
@@ -324,15 +350,18 @@ read-goes x y law set room =
     (goes-test (8 * length x) (not (isSet set)) Set p (bitsOf x) (bitsOf (x ++ y)) (octets-go law set room x y))
 
 -- Looks no further: what is not SHORT stays, whatever follows
-pub looks-no-further : (x y : List ℕ) (law set room : ℕ) → ((at : ℕ) → readOne x law set room ≡ refuse Short at → ⊥) → readOne (x ++ y) law set room ≡ readOne x law set room
+pub looks-no-further : (x y : List ℕ) (law set room : ℕ) → ((at : ℕ) → readOne x law set room ≡ refuse Short at → ⊥)
+    → readOne (x ++ y) law set room ≡ readOne x law set room
 looks-no-further x y law set room h = go (read-goes x y law set room)
   where
-    go : Goes (8 * length x) (readOne x law set room) (readOne (x ++ y) law set room) → readOne (x ++ y) law set room ≡ readOne x law set room
+    go : Goes (8 * length x) (readOne x law set room) (readOne (x ++ y) law set room)
+        → readOne (x ++ y) law set room ≡ readOne x law set room
     go (short at e past) = absurd (h at e)
     go (same e) = e
 
 -- and a frame is read from its own octets alone
-pub cut : (x y : List ℕ) (law set room : ℕ) {f : Found} {j : ℕ} → readOne (x ++ y) law set room ≡ whole f j → octetsUsed f ≤ length x → readOne x law set room ≡ whole f j
+pub cut : (x y : List ℕ) (law set room : ℕ) {f : Found} {j : ℕ} → readOne (x ++ y) law set room ≡ whole f j
+    → octetsUsed f ≤ length x → readOne x law set room ≡ whole f j
 cut x y law set room {f} {j} e h = go (read-goes x y law set room)
   where
     go : Goes (8 * length x) (readOne x law set room) (readOne (x ++ y) law set room) → readOne x law set room ≡ whole f j

@@ -1,5 +1,5 @@
--- Octets one after another: where the first are walked clean, the walk goes on with the second as by themselves (`joined`). Octets cut where their
--- walk ended are walked clean (`cut-clean`). So a stream can be walked part by part, each part cut where a frame ends.
+-- Octets one after another: where the first are walked clean, the walk goes on with the second as by themselves (`joined`). Octets cut
+-- where their walk ended are walked clean (`cut-clean`). So a stream can be walked part by part, each part cut where a frame ends.
 use Prim.Native.Nat.{ℕ, suc, _+_, _*_, _-_, _≤_, _<_}
 use native.Mathlib.Omega.{arith}
 use mathlib.Core.Path.{_≡_, refl, sym, ap, _∙_}
@@ -12,7 +12,8 @@ use Rattle.rules.specs.declared.Ending.the-variants.{Done, Refused}
 use Rattle.rules.specs.Reading.{refuse}
 use Rattle.rules.specs.Frame.{octetsUsed, readOne}
 use Rattle.rules.specs.Walk.{Walked, walkFrom, walkAll, samplesKept}
-use Rattle.rules.proofs.Walk.{after, samplesKept-append, Walks, last, ended, refused, delivers, walks, walk-last, walk-ended, walk-off, walk-one}
+use Rattle.rules.proofs.Walk.{after, samplesKept-append, Walks, last, ended, refused}
+use Rattle.rules.proofs.Walk.{delivers, walks, walk-last, walk-ended, walk-off, walk-one}
 use Rattle.rules.proofs.Walk.{walk-told, walk-on, walk-fuel, walk-roomy, walks-only}
 use Rattle.promises.proofs.Further.{looks-no-further}
 use Rattle.promises.proofs.Walks.{Walkable, walk-all}
@@ -40,7 +41,8 @@ module _ (a b : List ℕ) (law set : ℕ) where
   ahead (refused h r) e = let z : _≡_ {A = ℕ} 0 1 = cc in absurd (omega arith)
   ahead {at = at} {room} (delivers {f = f} {j = j} h r t) e =
       let d : drop at (a ++ b) ≡ drop at a ++ b = drop-append-le at a b (omega arith) in
-      let no : (i : ℕ) → readOne (drop at a) law set room ≡ refuse Short i → ⊥ = λ i s. let z : _≡_ {A = ℕ} 0 1 = cc in absurd (omega arith) in
+      let no : (i : ℕ) → readOne (drop at a) law set room ≡ refuse Short i → ⊥ = λ i s. let z : _≡_ {A = ℕ} 0 1 = cc in
+      absurd (omega arith) in
       let same = ap (λ (x : List ℕ). readOne x law set room) d ∙ looks-no-further (drop at a) b law set room no ∙ r in
       let inside : at < length (a ++ b) = omega (arith, length-append a b) in
       delivers inside same (ahead t e)
@@ -49,7 +51,8 @@ module _ (a b : List ℕ) (law set : ℕ) where
   shift : {n q room : ℕ} {w : Walked} → Walks b law set n q room w → Moved (length a) w (walkFrom n (a ++ b) law set (length a + q) room)
   unfolding samplesKept
   shift {q = q} {room} last =
-      moved-as (walk-last (a ++ b) law set 0 (length a + q) room refl) (record { end = refl; place = refl; bit = refl; frames = refl; samples = refl })
+      moved-as (walk-last (a ++ b) law set 0 (length a + q) room refl)
+      (record { end = refl; place = refl; bit = refl; frames = refl; samples = refl })
   shift {n} {q} {room} (ended h) =
       moved-as (walk-ended (a ++ b) law set n (length a + q) room (omega (arith, length-append a b)))
       (record { end = refl; place = refl; bit = refl; frames = refl; samples = refl })
@@ -83,7 +86,8 @@ pub record Joined (a b : List ℕ) (law set : ℕ) (w : Walked) : Type 0 where
   pub frames : length (w .frames) ≡ length (walkOf a law set .frames) + length (walkOf b law set .frames)
   pub samples : samplesKept (w .frames) ≡ samplesKept (walkOf a law set .frames) ++ samplesKept (walkOf b law set .frames)
 
-pub joined : (a b : List ℕ) (law set : ℕ) → Walkable (a ++ b) law set → walkOf a law set .end ≡ Done → Joined a b law set (walkOf (a ++ b) law set)
+pub joined : (a b : List ℕ) (law set : ℕ) → Walkable (a ++ b) law set → walkOf a law set .end ≡ Done
+    → Joined a b law set (walkOf (a ++ b) law set)
 joined a b law set h e =
     let l = length-append a b in
     let room = 320 * length (a ++ b) in
@@ -163,10 +167,12 @@ cut-clean w law set h = go (walkOf w law set .end) refl
     go (Refused r) e =
         let x = take (walkOf w law set .place) w in
         let k = refused-walk w law set (320 * length w) r h e .kept in
-        let ok : Walkable x law set = record { lawful = h .lawful; small = h .small; short = omega (arith, long, walk-place w law set h, h .short) } in
+        let ok : Walkable x law set =
+        record { lawful = h .lawful; small = h .small; short = omega (arith, long, walk-place w law set h, h .short) } in
         let room : walkOf x law set ≡ walkAll x law set (320 * length w) =
         walk-all x law set (320 * length x) ok
-        ∙ walk-roomy x law set (suc (length x)) 0 (320 * length x) (320 * length w) (omega arith) (omega (arith, long, walk-place w law set h))
+        ∙ walk-roomy x law set (suc (length x)) 0 (320 * length x) (320 * length w) (omega arith)
+        (omega (arith, long, walk-place w law set h))
         ∙ sym (walk-all x law set (320 * length w) ok) in
         record {
           size = long;

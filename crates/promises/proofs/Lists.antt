@@ -67,8 +67,10 @@ deliveries mask at [] = []
 deliveries mask at (p ∷ ps) = record { place = at; found = foundIn mask p } ∷ deliveries mask (at + length (octetsOf mask p)) ps
 
 -- a part at the start of octets
-part-back : (law reader room : ℕ) {p : Part} → isLaw law ≡ true → isSet reader ≡ true → May reader p → (more : List ℕ) → length (samplesIn p) ≤ room
-    → readOne (octetsOf (maskOf law) p ++ more) law reader room ≡ whole (foundIn (maskOf law) p) (8 * octetsFor (length (writtenFor (maskOf law) p .bits)))
+part-back : (law reader room : ℕ) {p : Part} → isLaw law ≡ true → isSet reader ≡ true → May reader p → (more : List ℕ)
+    → length (samplesIn p) ≤ room
+    → readOne (octetsOf (maskOf law) p ++ more) law reader room ≡ whole (foundIn (maskOf law) p)
+    (8 * octetsFor (length (writtenFor (maskOf law) p .bits)))
 part-back law reader room i e pads more r = pad-back law reader room more i e
 part-back law reader room i e (frames {set = set} o w f) more r =
     chosen-back law set i o f reader room more e (λ h. w .also (chosen (maskOf law) set _ .tool) (tool-held (maskOf law) set o f h)) r
@@ -94,11 +96,13 @@ walk-parts law reader i e pre at room (then {p = p} {ps = ps} m t) q r =
     let size = length-append (samplesIn p) (samplesAll ps) in
     let here : drop at (pre ++ (o ++ rest)) ≡ o ++ rest = rw q (drop-append-seam pre (o ++ rest)) in
     let place : at + length (o ++ rest) ≡ at + length o + length rest = omega (arith, length-append o rest) in
-    let on = walk-parts law reader i e (pre ++ o) (at + length o) (room - length (samplesIn p)) t (omega (arith, length-append pre o)) (omega arith) in
+    let on = walk-parts law reader i e (pre ++ o) (at + length o) (room - length (samplesIn p)) t (omega (arith, length-append pre o))
+    (omega arith) in
     let on′ : WalkOf (pre ++ (o ++ rest)) law reader (at + octetsUsed (foundIn mask p)) (room - length (samplesIn p))
     (record { frames = deliveries mask (at + length o) ps; end = Done; place = at + length o + length rest; bit = 0 })
     = rw used (rw (append-assoc pre o rest) at on) in
-    let first : readOne (drop at (pre ++ (o ++ rest))) law reader room ≡ whole (foundIn mask p) (8 * octetsFor (length (writtenFor mask p .bits)))
+    let first : readOne (drop at (pre ++ (o ++ rest))) law reader room ≡ whole (foundIn mask p)
+    (8 * octetsFor (length (writtenFor mask p .bits)))
     = rw here (part-back law reader room i e m rest (omega arith)) in
     rw place (delivers {at = at} (omega (arith, length-append pre (o ++ rest), length-append o rest)) first on′)
 

@@ -43,7 +43,8 @@ unfolding lay
 lay-on z x f flags p [] = refl
 lay-on z x f flags p (y ∷ cells) = step (eqb y z) (lay-on z x f flags (p + 1) cells) (lay-on z x f flags p cells)
   where
-    step : (b : Bool) → lay z x (f ∷ flags) (suc (p + 1)) cells ≡ lay z x flags (p + 1) cells → lay z x (f ∷ flags) (suc p) cells ≡ lay z x flags p cells
+    step : (b : Bool) → lay z x (f ∷ flags) (suc (p + 1)) cells ≡ lay z x flags (p + 1) cells
+        → lay z x (f ∷ flags) (suc p) cells ≡ lay z x flags p cells
         → cond b (cond (eqb (getD flags p 0) 1) x z) y ∷ lay z x (f ∷ flags) (cond b (suc p + 1) (suc p)) cells
         ≡ cond b (cond (eqb (getD flags p 0) 1) x z) y ∷ lay z x flags (cond b (p + 1) p) cells
     step true e g = let n : suc p + 1 ≡ suc (p + 1) = omega arith in rw (n, e)
@@ -55,7 +56,8 @@ lay-first : {z : ℕ} (x a : ℕ) {left cells s : List ℕ} (b : Bool) → eqb a
 lay-first x a true e h t = let g : a ≡ x = eqb-true a x e in rw g (full h t)
 lay-first x a false e h t = empty t
 
-fills-lay : {z : ℕ} (x : ℕ) {left cells s : List ℕ} → eqb x z ≡ false → Fills z left cells s → Fills z (without x left) (lay z x (flagsFor x left) 0 cells) s
+fills-lay : {z : ℕ} (x : ℕ) {left cells s : List ℕ} → eqb x z ≡ false → Fills z left cells s
+    → Fills z (without x left) (lay z x (flagsFor x left) 0 cells) s
 unfolding lay without
 fills-lay x h filled = filled
 fills-lay {z} x h (empty {a = a} {left = left} {cells = cells} t) =
@@ -68,7 +70,8 @@ among [] y = false
 among (x ∷ xs) y = eqb y x || among xs y
 
 -- what is left once a value is out
-each-without : (z x : ℕ) (xs : List ℕ) {left : List ℕ} → Each (λ y. eqb y z || (eqb y x || among xs y)) left → Each (λ y. eqb y z || among xs y) (without x left)
+each-without : (z x : ℕ) (xs : List ℕ) {left : List ℕ} → Each (λ y. eqb y z || (eqb y x || among xs y)) left
+    → Each (λ y. eqb y z || among xs y) (without x left)
 unfolding without
 each-without z x xs nothing = nothing
 each-without z x xs (next {x = y} {s = left} h t) = step (eqb y x) h (each-without z x xs t)
@@ -86,7 +89,8 @@ unfolding without
 without-le x [] = omega arith
 without-le x (y ∷ left) = step (eqb y x) (without-le x left)
   where
-    step : (b : Bool) → length (without x left) ≤ length left → length {A = ℕ} (elim b [ true ↦ without x left | false ↦ y ∷ without x left ]) ≤ suc (length left)
+    step : (b : Bool) → length (without x left) ≤ length left
+        → length {A = ℕ} (elim b [ true ↦ without x left | false ↦ y ∷ without x left ]) ≤ suc (length left)
     step true h = omega arith
     step false h = omega arith
 
@@ -105,7 +109,8 @@ value-step n z x xs flags cells {b} low e l t =
 pub back-values : (n z : ℕ) (xs : List ℕ) {left cells s : List ℕ} → Each (λ x. not (eqb x z)) xs → Fills z left cells s
     → Each (λ y. eqb y z || among xs y) left → length left ≤ n → Back (valuesInto n z xs cells) (valuesForm xs left) s
 unfolding valuesInto valuesForm among
-back-values n z [] {left} {cells} nothing f e l = back-as (back-give cells) refl refl (fills-end f (each-map (λ y g. or-false (eqb y z) g) e))
+back-values n z [] {left} {cells} nothing f e l = back-as (back-give cells) refl refl
+    (fills-end f (each-map (λ y g. or-false (eqb y z) g) e))
 back-values n z (x ∷ xs) {left} {cells} (next d ds) f e l =
     let i : length (flagsFor x left) ≡ length left = length-map left (λ y. cond (eqb y x) 1 0) in
     value-step n z x xs (flagsFor x left) cells (value-flags-below x left) (i ∙ sym (fills-empty f)) (omega arith)

@@ -50,7 +50,8 @@ listed-step w d k c done h n t =
     (rw (le-leb (length done) (length done + c) (omega arith), lt-ltb (length done + c) d h, e) t))
 
 -- the places after those of `done`, of which the last c are not marked
-back-listedFrom : (w d k c q : ℕ) (done flags : List ℕ) → Below 2 flags → q ≡ length done + c → d ≡ q + length flags → d ≤ 2 ^ w → k ≡ ones flags
+back-listedFrom : (w d k c q : ℕ) (done flags : List ℕ) → Below 2 flags → q ≡ length done + c → d ≡ q + length flags
+    → d ≤ 2 ^ w → k ≡ ones flags
     → Back (listedFrom w d done k) (numbersForm w (placesOf q flags)) (done ++ (replicate c 0 ++ flags))
 unfolding listedFrom numbersForm placesOf countOf
 back-listedFrom w d zero c q done [] b i e h k =
@@ -63,7 +64,8 @@ back-listedFrom w d (suc k) c q done (suc zero ∷ flags) (more m b) i e h f =
     let done′ = done ++ (replicate c 0 ++ (1 ∷ [])) in
     let l : length done′ ≡ length done + (c + 1) = simp (length-append, length-replicate) in
     rw i (listed-step w d k c done (omega arith) h
-    (back-as (back-listedFrom w d k 0 (length done + c + 1) done′ flags b (omega arith) (omega arith) h (omega arith)) refl refl (simp append-assoc)))
+    (back-as (back-listedFrom w d k 0 (length done + c + 1) done′ flags b (omega arith) (omega arith) h (omega arith))
+    refl refl (simp append-assoc)))
 back-listedFrom w d k c q done (suc (suc x) ∷ flags) (more m b) i e h f = absurd (omega arith)
 
 -- "111, two bits for count less one", then the places
@@ -72,7 +74,8 @@ pub back-listed : (flags : List ℕ) → Below 2 flags → 1 ≤ ones flags → 
 unfolding listed
 back-listed flags b h k =
     back-bind _ _ (back-number 2 (ones flags - 1) (omega arith))
-    (back-listedFrom (widthOf (length flags)) (length flags) (ones flags - 1 + 1) 0 0 [] flags b refl (omega arith) (width-enough (length flags)) (omega arith))
+    (back-listedFrom (widthOf (length flags)) (length flags) (ones flags - 1 + 1) 0 0 [] flags b refl (omega arith)
+    (width-enough (length flags)) (omega arith))
 
 -- no flag is 1
 no-ones : {flags : List ℕ} → Below 2 flags → ones flags ≡ 0 → replicate (length flags) 0 ≡ flags
@@ -135,8 +138,13 @@ fits-chosen flags =
     second false b h k = last b h k
 
     first : (c : Bool) → (c ≡ true → ones flags ≡ 0) → (c ≡ false → ones flags ≡ 0 → ⊥)
-        → Fits flags (cond c 5 (cond (ltb (length flags) (fewestRunBits flags)) 0 (cond (leb (ones flags) 4 && ltb (ones flags * widthOf (length flags) + 2) (fewestRunBits flags)) 7 (runS flags))))
+        → Fits flags (cond c 5
+        (cond (ltb (length flags) (fewestRunBits flags)) 0
+        (cond (leb (ones flags) 4 && ltb (ones flags * widthOf (length flags) + 2) (fewestRunBits flags)) 7 (runS flags))))
     first true h k = absent (h refl)
     first false h k =
-        second (ltb (length flags) (fewestRunBits flags)) (leb (ones flags) 4 && ltb (ones flags * widthOf (length flags) + 2) (fewestRunBits flags))
-        (λ e. leb-true (ones flags) 4 (and-left (leb (ones flags) 4) (ltb (ones flags * widthOf (length flags) + 2) (fewestRunBits flags)) e)) (let g = k refl in omega arith)
+        second (ltb (length flags) (fewestRunBits flags))
+        (leb (ones flags) 4 && ltb (ones flags * widthOf (length flags) + 2) (fewestRunBits flags))
+        (λ e. leb-true (ones flags) 4
+        (and-left (leb (ones flags) 4) (ltb (ones flags * widthOf (length flags) + 2) (fewestRunBits flags)) e))
+        (let g = k refl in omega arith)

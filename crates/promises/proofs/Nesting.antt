@@ -31,13 +31,18 @@ test-nests : (a b t : ℕ) (h : Bool) (p : Reader Found) (bits : List ℕ) (i : 
 test-nests a b t true p bits i e w = alike (rw (w e) refl)
 test-nests a b t false p bits i e w = ends t refl e
 
-withTool-nests : (mask a b room t n mark : ℕ) → Within a b → (bits : List ℕ) (i : ℕ) → Nests a (withTool mask a room t n mark bits i) (withTool mask b room t n mark bits i)
+withTool-nests : (mask a b room t n mark : ℕ) → Within a b → (bits : List ℕ) (i : ℕ)
+    → Nests a (withTool mask a room t n mark bits i) (withTool mask b room t n mark bits i)
 unfolding withTool
 withTool-nests mask a b room t n mark w bits i =
-    test-nests a b t (holds a t) (cond (ltb room n) (fail Room 0) (body mask t n mark >>= (λ samples. here >>= (λ bits. filled (record { tool = t; samples = samples; bits = bits }) (fillFor bits)))))
+    test-nests a b t (holds a t)
+    (cond (ltb room n) (fail Room 0)
+    (body mask t n mark >>=
+    (λ samples. here >>= (λ bits. filled (record { tool = t; samples = samples; bits = bits }) (fillFor bits)))))
     bits i refl (w .also t)
 
-then-nests : {A : Type 0} (a : ℕ) (m : Read A) {f g : A → ℕ → Read Found} → ((x : A) (j : ℕ) → Nests a (f x j) (g x j)) → Nests a (andThen m f) (andThen m g)
+then-nests : {A : Type 0} (a : ℕ) (m : Read A) {f g : A → ℕ → Read Found} → ((x : A) (j : ℕ) → Nests a (f x j) (g x j))
+    → Nests a (andThen m f) (andThen m g)
 then-nests a (whole x j) h = h x j
 then-nests a (refuse w at) h = alike refl
 
@@ -48,21 +53,25 @@ afterFirst-nests mask a b room w o unassigned bits i = alike refl
 afterFirst-nests mask a b room w o pad bits i = alike refl
 afterFirst-nests mask a b room w o (tool t n) bits i = withTool-nests mask a b room t n (rowIn o t n) w bits i
 afterFirst-nests mask a b room w o (sixOrEight n) bits i =
-    then-nests a (bit bits (markAt n)) (λ mark j. then-nests a (sixNotEight bits j) (λ t k. withTool-nests mask a b room t n mark w bits (markAt n + 1)))
+    then-nests a (bit bits (markAt n))
+    (λ mark j. then-nests a (sixNotEight bits j) (λ t k. withTool-nests mask a b room t n mark w bits (markAt n + 1)))
 
 frame-nests : (mask a b room : ℕ) → Within a b → (bits : List ℕ) (i : ℕ) → Nests a (frame mask a room bits i) (frame mask b room bits i)
 unfolding frame
 frame-nests mask a b room w bits i = then-nests a (number 8 bits i) (λ o j. afterFirst-nests mask a b room w o (firstOctet o) bits j)
 
-tests-nest : (a : ℕ) (t : Bool) (w : Refusal) (p q : Reader Found) (bits : List ℕ) → Nests a (p bits 0) (q bits 0) → Nests a (cond t (fail w 0) p bits 0) (cond t (fail w 0) q bits 0)
+tests-nest : (a : ℕ) (t : Bool) (w : Refusal) (p q : Reader Found) (bits : List ℕ) → Nests a (p bits 0) (q bits 0)
+    → Nests a (cond t (fail w 0) p bits 0) (cond t (fail w 0) q bits 0)
 tests-nest a true w p q bits h = alike refl
 tests-nest a false w p q bits h = h
 
 -- Demand 3, of single reads: sets at most 255, a within b; same law, octets and room
-pub read-nests : (octets : List ℕ) (law a b room : ℕ) → isSet a ≡ true → isSet b ≡ true → Within a b → Nests a (readOne octets law a room) (readOne octets law b room)
+pub read-nests : (octets : List ℕ) (law a b room : ℕ) → isSet a ≡ true → isSet b ≡ true → Within a b
+    → Nests a (readOne octets law a room) (readOne octets law b room)
 unfolding readOne
 read-nests octets law a b room s t w =
-    rw (s, t) (tests-nest a (not (isLaw law)) Law (frame (maskOf law) a room) (frame (maskOf law) b room) (bitsOf octets) (frame-nests (maskOf law) a b room w (bitsOf octets) 0))
+    rw (s, t) (tests-nest a (not (isLaw law)) Law (frame (maskOf law) a room) (frame (maskOf law) b room) (bitsOf octets)
+    (frame-nests (maskOf law) a b room w (bitsOf octets) 0))
 
 -- the smaller's frames are the larger's before the place where the smaller ended
 pub record Extends (w v : Walked) : Type 0 where
@@ -72,7 +81,8 @@ pub record Extends (w v : Walked) : Type 0 where
   pub late : Each (λ f. leb (w .place) (f .place)) rest
 
 -- the frames of a walk stand where it began, or behind
-places-from : {octets : List ℕ} {law set at room : ℕ} {w : Walked} (p : ℕ) → p ≤ at → WalkOf octets law set at room w → Each (λ f. leb p (f .place)) (w .frames)
+places-from : {octets : List ℕ} {law set at room : ℕ} {w : Walked} (p : ℕ) → p ≤ at → WalkOf octets law set at room w
+    → Each (λ f. leb p (f .place)) (w .frames)
 places-from p h (ended l) = nothing
 places-from p h (refused l e) = nothing
 places-from {octets} {law} {set} {at} {room} p h (delivers l e t) =
@@ -103,12 +113,14 @@ frame-before a at used f {w} {v} h k (ends t e n x) =
       late = x .late;
     })
 
-walk-nests : (octets : List ℕ) (law a b : ℕ) → isSet a ≡ true → isSet b ≡ true → Within a b → {at room : ℕ} {w : Walked} → WalkOf octets law a at room w
+walk-nests : (octets : List ℕ) (law a b : ℕ) → isSet a ≡ true → isSet b ≡ true → Within a b → {at room : ℕ} {w : Walked}
+    → WalkOf octets law a at room w
     → (fuel : ℕ) → length octets < at + fuel → WalksNest a w (walkFrom fuel octets law b at room)
 walk-nests octets law a b s t n {at} {room} (ended h) fuel l = alike (sym (walk-only {set = b} {room = room} (ended {at = at} h) fuel l))
 walk-nests octets law a b s t n {at} {room} (refused {w = w} {bit = bit} h e) fuel l = go (read-nests (drop at octets) law a b room s t n)
   where
-    go : Nests a (readOne (drop at octets) law a room) (readOne (drop at octets) law b room) → WalksNest a (stopped (Refused w) at bit) (walkFrom fuel octets law b at room)
+    go : Nests a (readOne (drop at octets) law a room) (readOne (drop at octets) law b room)
+        → WalksNest a (stopped (Refused w) at bit) (walkFrom fuel octets law b at room)
     go (alike d) = alike (sym (walk-only {set = b} {room = room} (refused {at = at} h (sym d ∙ e)) fuel l))
     go (ends x d y) =
         ends x (ap Refused (same-refusal (sym e ∙ d))) y (record {
@@ -123,11 +135,13 @@ walk-nests octets law a b s t n {at} {room} (delivers {f = f} {j = j} {rest = w}
     rw (walk-next fuel octets law b at room h (other (read-nests (drop at octets) law a b room s t n)))
     (frame-before a at (octetsUsed f) f (omega arith) (end-from k) (walk-nests octets law a b s t n k fuel (omega arith)))
   where
-    other : Nests a (readOne (drop at octets) law a room) (readOne (drop at octets) law b room) → readOne (drop at octets) law b room ≡ whole f j
+    other : Nests a (readOne (drop at octets) law a room) (readOne (drop at octets) law b room)
+        → readOne (drop at octets) law b room ≡ whole f j
     other (alike d) = sym d ∙ e
     other (ends x d y) = no-refusal (sym d ∙ e)
 
-test-walks : (a : ℕ) (t : Bool) (r : Refusal) (w v : Walked) → WalksNest a w v → WalksNest a (cond t (stopped (Refused r) 0 0) w) (cond t (stopped (Refused r) 0 0) v)
+test-walks : (a : ℕ) (t : Bool) (r : Refusal) (w v : Walked) → WalksNest a w v
+    → WalksNest a (cond t (stopped (Refused r) 0 0) w) (cond t (stopped (Refused r) 0 0) v)
 test-walks a true r w v h = alike refl
 test-walks a false r w v h = h
 
@@ -141,4 +155,6 @@ walks-nest octets law a b room s t n =
     let v = walkFrom (suc (length octets)) octets law b 0 room in
     let long = not (leb (length octets) longest) in
     rw (s, t) (test-walks a (not (isLaw law)) Law (cond long (stopped (Refused Long) 0 0) w) (cond long (stopped (Refused Long) 0 0) v)
-    (test-walks a long Long w v (walk-nests octets law a b s t n (walk-of (suc (length octets)) octets law a 0 room (omega arith)) (suc (length octets)) (omega arith))))
+    (test-walks a long Long w v
+    (walk-nests octets law a b s t n (walk-of (suc (length octets)) octets law a 0 room (omega arith)) (suc (length octets))
+    (omega arith))))

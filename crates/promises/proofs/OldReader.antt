@@ -11,7 +11,7 @@ use lib.ListN.{length, getD, replicate}
 use lib.Dec.{eqb, leb, ltb}
 use borrow.Author.Tests.{le-ltb, eqb-true, leb-true}
 use Rattle.rules.specs.declared.Refusal.{Refusal}
-use Rattle.rules.specs.declared.Refusal.the-variants.{Short, Align, Case, Method, Place, Tool, Room, Law, Set}
+use Rattle.rules.specs.declared.Refusal.the-variants.{Short, Align, Case, Method, Place, Law, Set}
 use Rattle.rules.specs.Tools.{holds, isLaw, isSet}
 use Rattle.rules.specs.Bits.{bitsOf, fillFor}
 use Rattle.rules.specs.Reading.{Read, whole, refuse, Reader, andThen, _>>=_, give, fail, here, bit, numberFrom, number, bitsFrom, filled}
@@ -141,7 +141,8 @@ past-values n z (x ∷ xs) cells e =
     past-values n z xs (lay z x flags 0 cells) (ap (emptyIn z) (full-means-none z x flags 0 cells e) ∙ e))))
 
 -- the same steps before
-then-parts : {A B : Type 0} {P : B → Type 0} (m : Read A) {f g : A → ℕ → Read B} → ((a : A) (j : ℕ) → Parts P (f a j) (g a j)) → Parts P (andThen m f) (andThen m g)
+then-parts : {A B : Type 0} {P : B → Type 0} (m : Read A) {f g : A → ℕ → Read B} → ((a : A) (j : ℕ) → Parts P (f a j) (g a j))
+    → Parts P (andThen m f) (andThen m g)
 then-parts (whole a j) h = h a j
 then-parts (refuse w at) h = alike refl
 
@@ -161,14 +162,17 @@ parts-then {A} {B} {P} {Q} {old} {new} f h (goes-on at e r) = goes-on at (rw e) 
     go (refuse w k) r = r
 
 -- the values in turn
-values-part : (n z : ℕ) (xs cells b : List ℕ) (i : ℕ) → Parts (λ c. emptyIn z c ≡ 0) (oldValues n z xs cells b i) (valuesInto n z xs cells b i)
+values-part : (n z : ℕ) (xs cells b : List ℕ) (i : ℕ) → Parts (λ c. emptyIn z c ≡ 0) (oldValues n z xs cells b i)
+    (valuesInto n z xs cells b i)
 unfolding oldValues valuesInto
 values-part n z [] cells b i = alike refl
 values-part n z (x ∷ xs) cells b i =
     then-parts (numberFrom 0 3 b i) (λ m j. then-parts (byMethod n (emptyIn z cells) i m b j) (λ flags k.
-    go (lay z x flags 0 cells) k (eqb (emptyIn z (lay z x flags 0 cells)) 0) (eqb-true _ 0) (values-part n z xs (lay z x flags 0 cells) b k)))
+    go (lay z x flags 0 cells) k (eqb (emptyIn z (lay z x flags 0 cells)) 0) (eqb-true _ 0)
+    (values-part n z xs (lay z x flags 0 cells) b k)))
   where
-    go : (c : List ℕ) (k : ℕ) (t : Bool) → (t ≡ true → emptyIn z c ≡ 0) → Parts (λ c. emptyIn z c ≡ 0) (oldValues n z xs c b k) (valuesInto n z xs c b k)
+    go : (c : List ℕ) (k : ℕ) (t : Bool) → (t ≡ true → emptyIn z c ≡ 0)
+        → Parts (λ c. emptyIn z c ≡ 0) (oldValues n z xs c b k) (valuesInto n z xs c b k)
         → Parts (λ c. emptyIn z c ≡ 0) (cond t (fail Place k) (oldValues n z xs c) b k) (valuesInto n z xs c b k)
     go c k true e h = goes-on k refl (past-values n z xs c (e refl) .on b k (le-refl k))
     go c k false e h = h
@@ -185,12 +189,14 @@ pub record NoZero (mask : ℕ) (f : Found) : Type 0 where
   pub seven : f .tool ≡ 7
   pub full : emptyIn (plusZero mask) (f .samples) ≡ 0
 
-with-seven : (mask set room n mark : ℕ) (b : List ℕ) (i : ℕ) → holds set 7 ≡ true → n ≤ room → withTool mask set room 7 n mark b i ≡ finish 7 (located mask n) b i
+with-seven : (mask set room n mark : ℕ) (b : List ℕ) (i : ℕ) → holds set 7 ≡ true → n ≤ room
+    → withTool mask set room 7 n mark b i ≡ finish 7 (located mask n) b i
 unfolding withTool body
 with-seven mask set room n mark b i h r = rw (h, le-ltb room n r)
 
 tool-part : (mask set room t n mark : ℕ) (h : Bool) → eqb t 7 && (holds set 7 && leb n room) ≡ h → (b : List ℕ) (i : ℕ)
-    → Parts (NoZero mask) (cond h (finish 7 (oldLocated mask n)) (withTool mask set room t n mark) b i) (withTool mask set room t n mark b i)
+    → Parts (NoZero mask) (cond h (finish 7 (oldLocated mask n)) (withTool mask set room t n mark) b i)
+    (withTool mask set room t n mark b i)
 tool-part mask set room t n mark false e b i = alike refl
 tool-part mask set room t n mark true e b i =
     let seven = eqb-true t 7 (and-left (eqb t 7) (holds set 7 && leb n room) e) in
@@ -198,7 +204,8 @@ tool-part mask set room t n mark true e b i =
     let fits = leb-true n room (and-right (holds set 7) (leb n room) (and-right (eqb t 7) (holds set 7 && leb n room) e)) in
     rw (seven, with-seven mask set room n mark b i held fits)
     (parts-then (λ s j. filled (record { tool = 7; samples = s; bits = j }) (fillFor j) b j)
-    (λ s j k q l. past-filled {k = k} {P = NoZero mask} (record { tool = 7; samples = s; bits = j }) (fillFor j) (record { seven = refl; full = q }) .on b j l)
+    (λ s j k q l. past-filled {k = k} {P = NoZero mask} (record { tool = 7; samples = s; bits = j }) (fillFor j)
+    (record { seven = refl; full = q }) .on b j l)
     (located-part mask n b i))
 
 after-part : (mask set room o : ℕ) (first : First) (b : List ℕ) (i : ℕ)
@@ -210,7 +217,8 @@ after-part mask set room o (tool t n) b i = tool-part mask set room t n (rowIn o
 after-part mask set room o (sixOrEight n) b i = alike refl
 
 -- An old reader, beside the mended one: for all octets, laws, sets and rooms
-pub old-reader : (octets : List ℕ) (law set room : ℕ) → Parts (NoZero (maskOf law)) (oldRead octets law set room) (readOne octets law set room)
+pub old-reader : (octets : List ℕ) (law set room : ℕ) → Parts (NoZero (maskOf law)) (oldRead octets law set room)
+    (readOne octets law set room)
 unfolding oldRead readOne frame
 old-reader octets law set room =
     let b = bitsOf octets in

@@ -1,5 +1,5 @@
--- Where a refusal points: which bit it names, and how far past that bit the reading had looked. `Points W p` is built as readers are, step by step.
--- Main statements: `points-body`, `points-withTool`.
+-- Where a refusal points: which bit it names, and how far past that bit the reading had looked. `Points W p` is built as readers are, step
+-- by step. Main statements: `points-body`, `points-withTool`.
 use Prim.Native.Nat.{ℕ, zero, suc, _+_, _*_, _-_, _^_, _/_, _≤_, _<_}
 use native.Mathlib.Omega.{arith}
 use mathlib.Core.Path.{_≡_, refl, sym, subst, _∙_}
@@ -12,7 +12,8 @@ use Rattle.rules.specs.declared.Refusal.{Refusal}
 use Rattle.rules.specs.declared.Refusal.the-variants.{Short, Prefix, Tool, Room, Case, Method, Run, Place, Align, Length, Set, Law, Long}
 use Rattle.rules.specs.Tools.{holds, isLength}
 use Rattle.rules.specs.Bits.{fillFor}
-use Rattle.rules.specs.Reading.{Read, whole, refuse, Reader, andThen, _>>=_, give, fail, here, bit, numberFrom, bitsFrom, octetsAfter, filled}
+use Rattle.rules.specs.Reading.{Read, whole, refuse, Reader, andThen, _>>=_, give}
+use Rattle.rules.specs.Reading.{fail, here, bit, numberFrom, bitsFrom, octetsAfter, filled}
 use Rattle.rules.specs.Samples.{sampleOf, plusZero, minusZero}
 use Rattle.rules.specs.Runs.{zerosFrom, rice, runsFrom}
 use Rattle.rules.specs.Zeros.{Tree, leaf, fork, treeOf, readTree, zeroOf, plusMinus}
@@ -25,12 +26,15 @@ use Rattle.rules.proofs.Gives.{Leaves}
 use Rattle.rules.proofs.Laid.{empty-most, length-lay}
 use Rattle.rules.proofs.Room.{length-most}
 use Rattle.rules.proofs.Gives.{no-refusal, same-value}
-use Rattle.promises.proofs.Reach.{Far, far-bit, far-then, Near, near-give, near-fail, near-here, near-bit, near-then, near-cond, near-more, near-numberFrom}
-use Rattle.promises.proofs.Further.{Goes, short, same, Firm, firm-give, firm-bind, firm-cond, firm-here, firm-bit, firm-numberFrom, firm-bitsFrom, firm-zerosFrom, firm-rice, firm-runsFrom, firm-readTree, firm-byMethod, firm-groups, firm-body, far-firm}
+use Rattle.promises.proofs.Reach.{Far, far-bit, far-then, Near, near-give, near-fail}
+use Rattle.promises.proofs.Reach.{near-here, near-bit, near-then, near-cond, near-more, near-numberFrom}
+use Rattle.promises.proofs.Further.{Goes, short, same, Firm, firm-give, firm-bind, firm-cond, firm-here, firm-bit, firm-numberFrom}
+use Rattle.promises.proofs.Further.{firm-bitsFrom, firm-zerosFrom, firm-rice, firm-runsFrom, firm-readTree}
+use Rattle.promises.proofs.Further.{firm-byMethod, firm-groups, firm-body, far-firm}
 use Rattle.promises.proofs.Bounded.{width-most, tree-leaves}
 
--- The bit that a refusal names, n bits being there. SHORT's is the first that is missing. Every other is one of those that are there, save that
--- a listed place of no bits may stand at their end. What is judged by the prefix names bit 0, and so do the refusals from 10 on.
+-- The bit that a refusal names, n bits being there. SHORT's is the first that is missing. Every other is one of those that are there, save
+-- that a listed place of no bits may stand at their end. What is judged by the prefix names bit 0, and so do the refusals from 10 on.
 abbrev pub BitOf : ℕ → Refusal → ℕ → Type 0
 BitOf n Short at = at ≡ n
 BitOf n Prefix at = (at ≡ 0) × (at < n)
@@ -46,8 +50,8 @@ BitOf n Set at = at ≡ 0
 BitOf n Law at = at ≡ 0
 BitOf n Long at = at ≡ 0
 
--- How many bits, from the one that it names on, a refusal hangs on at most: the range case and its flag, the method, a run's code (zeros up to
--- zero N + 1, or N zeros, a one and S bits), a listed place or V, one filling bit. What is judged by the prefix hangs on the prefix.
+-- How many bits, from the one that it names on, a refusal hangs on at most: the range case and its flag, the method, a run's code (zeros up
+-- to zero N + 1, or N zeros, a one and S bits), a listed place or V, one filling bit. What is judged by the prefix hangs on the prefix.
 abbrev pub reach : Refusal → ℕ
 reach Short = 0
 reach Prefix = 8
@@ -68,7 +72,8 @@ abbrev pub Says : {A : Type 0} → ℕ → ℕ → Read A → Type 0
 Says n i (whole a j) = (i ≤ j) × (j ≤ n)
 Says n i (refuse w at) = BitOf n w at × (i ≤ at + reach w)
 
--- a reading m of n bits, and m′, the same with more bits after them: where m is SHORT and m′ another refusal, that one hangs on a bit past the n
+-- a reading m of n bits, and m′, the same with more bits after them: where m is SHORT and m′ another refusal, that one hangs on a bit past
+-- the n
 abbrev pub Past : {A : Type 0} → ℕ → Read A → Read A → Type 0
 Past n m m′ = (at : ℕ) (w : Refusal) (at′ : ℕ) → m ≡ refuse Short at → m′ ≡ refuse w at′ → (w ≡ Short → ⊥) → n < at′ + reach w
 
@@ -98,7 +103,8 @@ pub earlier : {A : Type 0} (n i j : ℕ) (m : Read A) → i ≤ j → Says n j m
 earlier n i j (whole a k) h s = (omega (arith, s .0), s .1)
 earlier n i j (refuse w at) h s = (s .0, omega (arith, s .1))
 
-then-says : {A B : Type 0} (n i : ℕ) (m : Read A) (f : A → ℕ → Read B) → Says n i m → ((a : A) (j : ℕ) → m ≡ whole a j → i ≤ j → j ≤ n → Says n j (f a j))
+then-says : {A B : Type 0} (n i : ℕ) (m : Read A) (f : A → ℕ → Read B) → Says n i m
+    → ((a : A) (j : ℕ) → m ≡ whole a j → i ≤ j → j ≤ n → Says n j (f a j))
     → Says n i (andThen m f)
 then-says n i (whole a j) f s h = earlier n i j (f a j) (s .0) (h a j refl (s .0) (s .1))
 then-says n i (refuse w at) f s h = s
@@ -145,7 +151,8 @@ points-bit = record {
   past = λ b c i v k at w at′ d d′ other. absurd (other (bit-short (getD (b ++ c) i 0) i (ltb i (length (b ++ c))) d′));
 }
 
-pub points-cond : {A : Type 0} {W : ℕ → Type 0} {p q : Reader A} (t : Bool) → (t ≡ true → Points W p) → (t ≡ false → Points W q) → Points W (cond t p q)
+pub points-cond : {A : Type 0} {W : ℕ → Type 0} {p q : Reader A} (t : Bool) → (t ≡ true → Points W p) → (t ≡ false → Points W q)
+    → Points W (cond t p q)
 points-cond true g h = g refl
 points-cond false g h = h refl
 
@@ -170,7 +177,8 @@ points-then {A} {B} {W} Then {p} {f} firm g q h = record { says = says; past = p
     says : (b : List ℕ) (i : ℕ) → W i → i ≤ length b → Says (length b) i (andThen (p b i) (λ a j. f a b j))
     says b i v k = then-says (length b) i (p b i) (λ a j. f a b j) (g .says b i v k) (λ a j e x y. h a .says b j (q b i a j v e) y)
 
-    past : (b c : List ℕ) (i : ℕ) → W i → i ≤ length b → Past (length b) (andThen (p b i) (λ a j. f a b j)) (andThen (p (b ++ c) i) (λ a j. f a (b ++ c) j))
+    past : (b c : List ℕ) (i : ℕ) → W i → i ≤ length b
+        → Past (length b) (andThen (p b i) (λ a j. f a b j)) (andThen (p (b ++ c) i) (λ a j. f a (b ++ c) j))
     past b c i v k =
         then-past (length b) (p b i) (p (b ++ c) i) (λ a j. f a b j) (λ a j. f a (b ++ c) j) (firm .goes b c i) (g .past b c i v k)
         (λ a j e. h a .past b c j (q b i a j v e) (inside b i v k a j e))
@@ -178,7 +186,8 @@ points-then {A} {B} {W} Then {p} {f} firm g q h = record { says = says; past = p
         (h a .says (b ++ c) j (q (b ++ c) i a j v e) (inside (b ++ c) i v (longer b c i k) a j e)) w at d)
 
 -- a step after which all begins anew; and one that goes on by at least k places and at most l
-pub points-bind : {A B : Type 0} {W : ℕ → Type 0} {p : Reader A} {f : A → Reader B} → Firm p → Points W p → ((a : A) → Points Any (f a)) → Points W (p >>= f)
+pub points-bind : {A B : Type 0} {W : ℕ → Type 0} {p : Reader A} {f : A → Reader B} → Firm p → Points W p
+    → ((a : A) → Points Any (f a)) → Points W (p >>= f)
 points-bind firm g h = points-then (λ a. Any) firm g (λ b i a j v e. tt) h
 
 pub points-go : {A B : Type 0} (lo hi k l : ℕ) {p : Reader A} {f : A → Reader B} → Firm p → Far k p → Near l p → Points (Between lo hi) p
@@ -225,7 +234,8 @@ points-zeros lo hi start k (suc left) h l =
 points-rice : {W : ℕ → Type 0} (n s : ℕ) → n ≤ 320 → Points W (rice n s)
 unfolding rice
 points-rice n s h =
-    points-here (λ start. points-bind (firm-zerosFrom start 0 (n + 1)) (points-zeros start start start 0 (n + 1) (omega arith) (omega arith)) (λ k.
+    points-here (λ start. points-bind (firm-zerosFrom start 0 (n + 1))
+    (points-zeros start start start 0 (n + 1) (omega arith) (omega arith)) (λ k.
     points-bind (firm-numberFrom 0 s) (points-numberFrom 0 s) (λ low. points-give (k * 2 ^ s + low))))
 
 pub near-zeros : (start k left : ℕ) → Near left (zerosFrom start k left)
@@ -245,7 +255,8 @@ near-rice n s =
 far-zeros : (start k left : ℕ) → 1 ≤ left → Far 1 (zerosFrom start k left)
 unfolding zerosFrom
 far-zeros start k zero h = absurd (omega arith)
-far-zeros start k (suc left) h = far-then 1 0 far-bit (λ a. far-firm (firm-cond (eqb a 1) (firm-give k) (firm-zerosFrom start (k + 1) left)))
+far-zeros start k (suc left) h =
+    far-then 1 0 far-bit (λ a. far-firm (firm-cond (eqb a 1) (firm-give k) (firm-zerosFrom start (k + 1) left)))
 
 far-rice : (n s : ℕ) → Far (0 + (1 + 0)) (rice n s)
 unfolding rice
@@ -273,7 +284,8 @@ points-listed : {W : ℕ → Type 0} (w d : ℕ) (done : List ℕ) (k : ℕ) →
 unfolding listedFrom
 points-listed w d done zero h = points-give (done ++ replicate (d - length done) 0)
 points-listed w d done (suc k) h =
-    points-here (λ start. points-go start start w w (firm-numberFrom 0 w) (far-number 0 w) (near-numberFrom 0 w) (points-numberFrom 0 w) (λ p.
+    points-here (λ start. points-go start start w w (firm-numberFrom 0 w) (far-number 0 w) (near-numberFrom 0 w)
+    (points-numberFrom 0 w) (λ p.
     points-cond (leb (length done) p && ltb p d)
     (λ t. points-listed w d (done ++ (replicate (p - length done) 0 ++ (1 ∷ []))) k h)
     (λ t. points-fail (start + w) (start + w) Place start (λ n g. omega arith) (omega arith))))
@@ -286,14 +298,16 @@ points-method lo hi n d start m h k l r =
     points-cond (leb m 4) (λ t. points-runs n m d d [] h (omega (arith, leb-true m 4 t))) (λ t.
     points-cond (eqb m 5) (λ t. points-give (replicate d 0)) (λ t.
     points-cond (eqb m 6) (λ t. points-fail lo hi Method start (λ n g. omega arith) r) (λ t.
-    points-bind (firm-numberFrom 0 2) (points-numberFrom 0 2) (λ less. points-listed (widthOf d) d [] (less + 1) (width-most 0 d d 9 (omega arith)))))))
+    points-bind (firm-numberFrom 0 2) (points-numberFrom 0 2)
+    (λ less. points-listed (widthOf d) d [] (less + 1) (width-most 0 d d 9 (omega arith)))))))
 
 points-values : {W : ℕ → Type 0} (n z : ℕ) (xs cells : List ℕ) → n ≤ 320 → length cells ≤ 320 → Points W (valuesInto n z xs cells)
 unfolding valuesInto
 points-values n z [] cells h k = points-give cells
 points-values n z (x ∷ xs) cells h k =
     let d = emptyIn z cells in
-    points-here (λ start. points-go start start 3 3 (firm-numberFrom 0 3) (far-number 0 3) (near-numberFrom 0 3) (points-numberFrom 0 3) (λ m.
+    points-here (λ start. points-go start start 3 3 (firm-numberFrom 0 3) (far-number 0 3) (near-numberFrom 0 3)
+    (points-numberFrom 0 3) (λ m.
     let places = points-method (start + 3) (start + 3) n d start m h (omega (arith, empty-most z cells)) (omega arith) (omega arith) in
     points-bind (firm-byMethod n d start m) places (λ flags.
     points-values n z xs (lay z x flags 0 cells) h (omega (arith, length-lay z x flags 0 cells)))))
@@ -303,7 +317,8 @@ points-located : {W : ℕ → Type 0} (mask n : ℕ) → n ≤ 320 → Points W 
 unfolding located
 points-located mask n h =
     let z = plusZero mask in
-    points-here (λ start. points-go start start 2 2 (firm-numberFrom 0 2) (far-number 0 2) (near-numberFrom 0 2) (points-numberFrom 0 2) (λ c.
+    points-here (λ start. points-go start start 2 2 (firm-numberFrom 0 2) (far-number 0 2) (near-numberFrom 0 2)
+    (points-numberFrom 0 2) (λ c.
     points-go (start + 2) (start + 2) 1 1 (firm-numberFrom 0 1) (far-number 0 1) (near-numberFrom 0 1) (points-numberFrom 0 1) (λ flag.
     points-cond (eqb (length (valuesOf n c flag)) 0)
     (λ t. points-fail (start + 2 + 1) (start + 2 + 1) Case start (λ n g. omega arith) (omega arith))
@@ -314,7 +329,8 @@ points-groups : {W : ℕ → Type 0} (r g w : ℕ) (done : List ℕ) (m : ℕ) �
 unfolding groupsFrom
 points-groups r g w done zero h = points-give done
 points-groups r g w done (suc m) h =
-    points-here (λ start. points-go start start w w (firm-numberFrom 0 w) (far-number 0 w) (near-numberFrom 0 w) (points-numberFrom 0 w) (λ v.
+    points-here (λ start. points-go start start w w (firm-numberFrom 0 w) (far-number 0 w) (near-numberFrom 0 w)
+    (points-numberFrom 0 w) (λ v.
     points-cond (ltb v (r ^ g)) (λ t. points-groups r g w (done ++ digitsOf r g v) m h)
     (λ t. points-fail (start + w) (start + w) Place start (λ n g. omega arith) (omega arith))))
 
@@ -358,7 +374,8 @@ points-plusMinus mask n mark l =
     (λ s. record { says = λ b i v k. rest s v .says b i tt k; past = λ b c i v k. rest s v .past b c i tt k })
   where
     rest : (s : ℕ) → s ≤ 9 → Points Any (runsFrom n s n n [] >>= (λ flags. give (map (zeroOf mask mark) flags)))
-    rest s v = points-bind (firm-runsFrom n s n n []) (points-runs n s n n [] (length-most n l) v) (λ flags. points-give (map (zeroOf mask mark) flags))
+    rest s v = points-bind (firm-runsFrom n s n n []) (points-runs n s n n [] (length-most n l) v)
+        (λ flags. points-give (map (zeroOf mask mark) flags))
 
 pub points-body : {W : ℕ → Type 0} (mask t n mark : ℕ) → isLength n ≡ true → Points W (body mask t n mark)
 unfolding body
@@ -367,7 +384,8 @@ points-body mask t n mark l =
     points-cond (eqb t 2) (λ e. points-give (replicate n (plusZero mask))) (λ e.
     points-cond (eqb t 3) (λ e. points-give (replicate n (minusZero mask))) (λ e.
     points-cond (eqb t 4) (λ e. points-bind (firm-numberFrom 0 8) (points-numberFrom 0 8) (λ x. points-give (replicate n x))) (λ e.
-    points-cond (eqb t 5) (λ e. points-bind (firm-bitsFrom [] n) (points-bitsFrom [] n) (λ flags. points-give (map (zeroOf mask 0) flags))) (λ e.
+    points-cond (eqb t 5)
+    (λ e. points-bind (firm-bitsFrom [] n) (points-bitsFrom [] n) (λ flags. points-give (map (zeroOf mask 0) flags))) (λ e.
     points-cond (eqb t 6) (λ e. points-plusMinus mask n mark l) (λ e.
     points-cond (eqb t 11) (λ e. points-fractional mask mark n) (λ e.
     points-located mask n (length-most n l))))))))

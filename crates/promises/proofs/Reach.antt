@@ -8,8 +8,8 @@ use lib.ListN.{length, getD}
 use lib.Dec.{ltb}
 use Rattle.rules.specs.declared.Refusal.{Refusal}
 use Rattle.rules.specs.declared.Refusal.the-variants.{Short}
-use Rattle.rules.specs.Reading.{Read, whole, refuse, Reader, _>>=_, give, fail, here, bit, numberFrom}
-use Rattle.rules.proofs.Gives.{no-refusal, same-place, same-value}
+use Rattle.rules.specs.Reading.{whole, refuse, Reader, _>>=_, give, fail, here, bit, numberFrom}
+use Rattle.rules.proofs.Gives.{no-refusal, same-place}
 use Rattle.rules.proofs.Accepted.{Steps, through, steps}
 
 -- one bit is one place

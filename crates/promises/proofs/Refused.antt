@@ -44,7 +44,8 @@ cut-at octets law set at p room {f} h k e =
     = ap (drop at) (sym (take-append-drop p octets)) ∙ drop-append-le at (take p octets) (drop p octets) (omega arith) in
     cut (drop at (take p octets)) (drop p octets) law set room (rw s at e) (omega (arith, length-drop at (take p octets)))
 
-broken : {octets : List ℕ} {law set at room : ℕ} {w : Walked} (r : Refusal) → WalkOf octets law set at room w → w .end ≡ Refused r → Broken octets law set at room r w
+broken : {octets : List ℕ} {law set at room : ℕ} {w : Walked} (r : Refusal) → WalkOf octets law set at room w → w .end ≡ Refused r
+    → Broken octets law set at room r w
 unfolding octetsKept samplesKept
 broken r (ended h) e = let z : _≡_ {A = ℕ} 0 1 = cc in absurd (omega arith)
 broken {octets} {law} {set} {at} {room} r (refused {w = w} {bit = bit} h d) e =
@@ -66,7 +67,8 @@ broken {octets} {law} {set} {at} {room} r (delivers {f = f} {rest = w} h d t) e 
     record {
       from = omega (arith, i .from);
       inside = i .inside;
-      kept = delivers {at = at} (omega (arith, length-take-le p octets (omega (arith, i .inside)), i .from)) (cut-at octets law set at p room (i .from) (omega (arith, i .inside)) d) (i .kept);
+      kept = delivers {at = at} (omega (arith, length-take-le p octets (omega (arith, i .inside)), i .from))
+          (cut-at octets law set at p room (i .from) (omega (arith, i .inside)) d) (i .kept);
       rest = rw m (i .rest);
       octets-kept = omega (arith, i .octets-kept);
     }
@@ -78,7 +80,8 @@ pub record RefusedAt (octets : List ℕ) (law set room : ℕ) (r : Refusal) (w :
   pub rest : readOne (drop (w .place) octets) law set (room - length (samplesKept (w .frames))) ≡ refuse r (w .bit)
   pub used : octetsKept (w .frames) ≡ w .place
 
-pub refused-walk : (octets : List ℕ) (law set room : ℕ) (r : Refusal) → Walkable octets law set → walkAll octets law set room .end ≡ Refused r
+pub refused-walk : (octets : List ℕ) (law set room : ℕ) (r : Refusal) → Walkable octets law set
+    → walkAll octets law set room .end ≡ Refused r
     → RefusedAt octets law set room r (walkAll octets law set room)
 refused-walk octets law set room r t e =
     let w = walkAll octets law set room in
@@ -126,7 +129,16 @@ pub refused-read : (octets : List ℕ) (law set : ℕ) (out out′ : List ℕ) (
     → readOne octets law set (length out) ≡ refuse w at → ReadFrame octets law set out out′ r → Nothing w at r out out′
 refused-read octets law set out out′ r w at e c =
     let d : Reads (refuse w at) r out out′ = rw e at c in
-    record { end = d .end; len = d .frame .len; samples = d .frame .samples; octets = d .octets; bits = d .bits; tool = d .tool; bit = d .bit; lent = d .lent }
+    record {
+      end = d .end;
+      len = d .frame .len;
+      samples = d .frame .samples;
+      octets = d .octets;
+      bits = d .bits;
+      tool = d .tool;
+      bit = d .bit;
+      lent = d .lent;
+    }
 
 pub record NothingWritten (w : Refusal) (r : WriteAnswer) (out out′ : List ℕ) : Type 0 where
   pub end : r .end ≡ Refused w

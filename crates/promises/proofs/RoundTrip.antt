@@ -41,7 +41,8 @@ well-written (declined w) e = let z : _≡_ {A = ℕ} 0 1 = cc in absurd (omega 
 
 pub restored : (f : Frame) (law set : ℕ) (out out′ : List ℕ) (w : WriteAnswer) → f .len ≤ length (f .samples) → Below 256 (f .samples)
     → WriteFrame f law set out out′ w → w .end ≡ Done
-    → (reader : ℕ) (more into into′ : List ℕ) (r : ReadAnswer) → isSet reader ≡ true → (1 ≤ w .tool → holds reader (w .tool) ≡ true) → f .len ≤ length into
+    → (reader : ℕ) (more into into′ : List ℕ) (r : ReadAnswer) → isSet reader ≡ true → (1 ≤ w .tool → holds reader (w .tool) ≡ true)
+    → f .len ≤ length into
     → ReadFrame (take (w .octets) out′ ++ more) law reader into into′ r → Restored f w into into′ r
 restored f law set out out′ w h b c e reader more into into′ r i held room d =
     go (well-written (writeOne (f .len) (f .samples) law set (length out)) (sym (c .end) ∙ e))
@@ -52,7 +53,8 @@ restored f law set out out′ w h b c e reader more into into′ r i held room d
         let t : w .tool ≡ v .tool = c′ .tool in
         let n : w .octets ≡ octetsFor (length (v .bits)) = c′ .octets in
         let l = length-pack (v .bits) in
-        let o : take (w .octets) out′ ≡ pack (v .bits) = rw (c′ .lent) (take-at (pack (v .bits)) (drop (length (pack (v .bits))) out) (w .octets) (l ∙ sym n)) in
+        let o : take (w .octets) out′ ≡ pack (v .bits) =
+        rw (c′ .lent) (take-at (pack (v .bits)) (drop (length (pack (v .bits))) out) (w .octets) (l ∙ sym n)) in
         let k = back (f .len) (f .samples) law set (length out) v h b q reader (length into) more i (rw t at held) room in
         let d′ : Reads (foundAt (v .tool) (take (f .len) (f .samples)) (length (v .bits))) r into into′ = rw (o, k) at d in
         record {
@@ -67,7 +69,8 @@ restored f law set out out′ w h b c e reader more into into′ r i held room d
 -- by the writer's own set, from the written octets alone
 pub returned : (f : Frame) (law set : ℕ) (out out′ : List ℕ) (w : WriteAnswer) → length (f .samples) ≡ 320 → Below 256 (f .samples)
     → WriteFrame f law set out out′ w → w .end ≡ Done
-    → (into into′ : List ℕ) (r : ReadAnswer) → f .len ≤ length into → ReadFrame (take (w .octets) out′) law set into into′ r → Restored f w into into′ r
+    → (into into′ : List ℕ) (r : ReadAnswer) → f .len ≤ length into → ReadFrame (take (w .octets) out′) law set into into′ r
+    → Restored f w into into′ r
 returned f law set out out′ w s b c e into into′ r room d =
     go (well-written (writeOne (f .len) (f .samples) law set (length out)) (sym (c .end) ∙ e))
   where

@@ -50,7 +50,8 @@ value-not-zero (negsuc y) e g = let z : _≡_ {A = ℕ} 0 1 = cc in omega arith
 not-zeros : {mask : ℕ} → LawMask mask → {vs : List ℤ} → Each isValue vs → Each (λ x. not (eqb x (plusZero mask))) (map (sampleOf mask) vs)
 not-zeros l nothing = nothing
 not-zeros {mask} l (next {x = v} h t) =
-    next (ap not (ne-eqb (sampleOf mask v) (plusZero mask) (λ e. value-not-zero v h (sampleOf-one-to-one l v (pos 0) (value-in-range v h) (omega arith) e))))
+    next (ap not (ne-eqb (sampleOf mask v) (plusZero mask)
+    (λ e. value-not-zero v h (sampleOf-one-to-one l v (pos 0) (value-in-range v h) (omega arith) e))))
     (not-zeros l t)
 
 -- a sample whose place on the line is a value's is that value's
@@ -140,7 +141,8 @@ pub the-row : (mask : ℕ) (s : List ℕ) → rowOf mask s < 4 → IsRow mask s 
 unfolding rowOf
 the-row mask s h =
     first-of-four (IsRow mask s) (isRow mask s 0) (isRow mask s 1) (isRow mask s 2) (isRow mask s 3)
-    (row-test mask s 0 (omega arith)) (row-test mask s 1 (omega arith)) (row-test mask s 2 (omega arith)) (row-test mask s 3 (omega arith)) h
+    (row-test mask s 0 (omega arith)) (row-test mask s 1 (omega arith)) (row-test mask s 2 (omega arith))
+    (row-test mask s 3 (omega arith)) h
 
 -- what holds of every octet between least and greatest holds of every sample
 between : (mask low high : ℕ) (P : ℕ → Bool) {s : List ℕ} → Below 256 s → low ≤ leastOf mask s → greatestOf mask s ≤ high
@@ -204,13 +206,18 @@ all-covered {mask} law s c b r =
     let vs = values c flag in
     let low = onLine (caseOf c .least) in
     let high = onLine (caseOf c .greatest) in
-    between mask low high (λ x. eqb x (plusZero mask) || among (map (sampleOf mask) vs) x) b (omega (arith, r .least)) (omega (arith, r .greatest))
+    between mask low high (λ x. eqb x (plusZero mask) || among (map (sampleOf mask) vs) x) b (omega (arith, r .least))
+    (omega (arith, r .greatest))
     (λ x h p q.
     or-map (eqb (line mask x) 128) (among (map onLine vs) (line mask x)) (eqb x (plusZero mask)) (among (map (sampleOf mask) vs) x)
     (λ e. eq-eqb x (plusZero mask) (told law x h (pos 0) (omega arith) (eqb-true (line mask x) 128 e)))
-    (λ e. among-values law x h (each-all isValue vs (two-at (λ c flag. all isValue (values c flag)) rows-values c flag (r .small) (flag-small mask s))) e)
-    (implied (not (eqb (length vs) 0) && (leb low (line mask x) && leb (line mask x) high)) (eqb (line mask x) 128 || among (map onLine vs) (line mask x))
-    (allBelow-at (λ l. covers c flag l) 256 (two-at (λ c flag. allBelow (λ l. covers c flag l) 256) rows-cover c flag (r .small) (flag-small mask s)) (line mask x) (on-line (signed mask x) (signed-range mask x)))
+    (λ e. among-values law x h
+    (each-all isValue vs (two-at (λ c flag. all isValue (values c flag)) rows-values c flag (r .small) (flag-small mask s))) e)
+    (implied (not (eqb (length vs) 0) && (leb low (line mask x) && leb (line mask x) high))
+    (eqb (line mask x) 128 || among (map onLine vs) (line mask x))
+    (allBelow-at (λ l. covers c flag l) 256
+    (two-at (λ c flag. allBelow (λ l. covers c flag l) 256) rows-cover c flag (r .small) (flag-small mask s))
+    (line mask x) (on-line (signed mask x) (signed-range mask x)))
     (rw (flag-fits mask s c r, le-leb low (line mask x) p, le-leb (line mask x) high q) refl)))
 
 -- "value-location if N is 80 or more, least and greatest are a row's, N fits it, and no value is more frequent than 0"
@@ -241,7 +248,8 @@ locates mask s e =
     }
 
 -- "no value is more frequent than 0", so some sample is 0
-zero-led : (mask x : ℕ) (s : List ℕ) (v : ℤ) → x ≡ sampleOf mask v → zeroLeads mask (x ∷ s) v ≡ true → 1 ≤ countOf (λ y. eqb y (plusZero mask)) (x ∷ s)
+zero-led : (mask x : ℕ) (s : List ℕ) (v : ℤ) → x ≡ sampleOf mask v → zeroLeads mask (x ∷ s) v ≡ true
+    → 1 ≤ countOf (λ y. eqb y (plusZero mask)) (x ∷ s)
 unfolding countOf
 zero-led mask x s v e h =
     let o : 1 ≤ countOf (λ y. eqb y (sampleOf mask v)) (x ∷ s) = rw (eq-eqb x (sampleOf mask v) e) (omega arith) in
@@ -258,13 +266,15 @@ zero-beside {mask} l x s h a b p (no c) (yes e) f = zero-led mask x s (negsuc 0)
 zero-beside {mask} l x s h a b p (no c) (no d) (yes e) = zero-first (plusZero mask) x s (told l x h (pos 0) (omega arith) e)
 zero-beside {mask} l x s h a b p (no c) (no d) (no e) = zero-led mask x s (pos 1) (told l x h (pos 1) (omega arith) (omega arith)) (p .one)
 
-zero-in-row : {mask : ℕ} → LawMask mask → {s : List ℕ} → Below 256 s → Locates mask s → (c : ℕ) → IsRow mask s c → 1 ≤ countOf (λ y. eqb y (plusZero mask)) s
+zero-in-row : {mask : ℕ} → LawMask mask → {s : List ℕ} → Below 256 s → Locates mask s → (c : ℕ) → IsRow mask s c
+    → 1 ≤ countOf (λ y. eqb y (plusZero mask)) s
 unfolding leastOf greatestOf
 zero-in-row law none a c r = absurd (omega (arith, a .long))
 zero-in-row {mask} law (more {x = x} {l = s} h t) a c r =
     let low = leb 126 (onLine (caseOf c .least)) in
     let high = leb (onLine (caseOf c .greatest)) 129 in
-    let narrow = allBelow-at (λ c. leb 126 (onLine (caseOf c .least)) && leb (onLine (caseOf c .greatest)) 129) 4 rows-narrow c (r .small) in
+    let narrow = allBelow-at (λ c. leb 126 (onLine (caseOf c .least)) && leb (onLine (caseOf c .greatest)) 129) 4 rows-narrow
+    c (r .small) in
     let low′ = leb-true 126 (onLine (caseOf c .least)) (and-left low high narrow) in
     let high′ = leb-true (onLine (caseOf c .greatest)) 129 (and-right low high narrow) in
     zero-beside law x s h (omega (arith, r .least)) (omega (arith, r .greatest)) a
@@ -285,7 +295,8 @@ row-apart {mask} law s a =
     let flag = locatedFlag mask s in
     let r = the-row mask s (a .row) in
     rw (row-values mask s c flag r)
-    (not-zeros law (each-all isValue (values c flag) (two-at (λ c flag. all isValue (values c flag)) rows-values c flag (r .small) (flag-small mask s))))
+    (not-zeros law (each-all isValue (values c flag)
+    (two-at (λ c flag. all isValue (values c flag)) rows-values c flag (r .small) (flag-small mask s))))
 
 -- Tool 7: "range case (2 bits), flag (1 bit), then the values below in turn"
 pub back-located : {mask : ℕ} → LawMask mask → (s : List ℕ) → Below 256 s → Locates mask s
@@ -301,10 +312,15 @@ back-located {mask} law s b a =
     let r = the-row mask s (a .row) in
     let e : valuesOf n c flag ≡ values c flag = row-values mask s c flag r in
     let some : eqb (length (values c flag)) 0 ≡ false = not-true (eqb (length (values c flag)) 0) (flag-fits mask s c r) in
-    let apart = not-zeros law (each-all isValue (values c flag) (two-at (λ c flag. all isValue (values c flag)) rows-values c flag (r .small) (flag-small mask s))) in
-    let on : (start : ℕ) → Back (cond (eqb (length (valuesOf n c flag)) 0) (fail Case start) (valuesInto n z (map (sampleOf mask) (valuesOf n c flag)) (replicate n z)))
+    let apart = not-zeros law
+    (each-all isValue (values c flag)
+    (two-at (λ c flag. all isValue (values c flag)) rows-values c flag (r .small) (flag-small mask s))) in
+    let on : (start : ℕ)
+    → Back (cond (eqb (length (valuesOf n c flag)) 0) (fail Case start)
+    (valuesInto n z (map (sampleOf mask) (valuesOf n c flag)) (replicate n z)))
     (valuesForm (map (sampleOf mask) (valuesOf n c flag)) s) s
-    = λ start. rw (e, some) (back-values n z (map (sampleOf mask) (values c flag)) apart (fills-start z s) (all-covered law s c b r) (omega arith)) in
+    = λ start. rw (e, some)
+    (back-values n z (map (sampleOf mask) (values c flag)) apart (fills-start z s) (all-covered law s c b r) (omega arith)) in
     back-here _ (λ start. back-bind _ _ (back-number 2 c (r .small)) (back-bind _ _ (back-number 1 flag (flag-small mask s)) (on start)))
 
 -- whatever the row and the flag: three values at most, and none is 0

@@ -62,14 +62,16 @@ unfolding runsOf riceForms
 back-runsFrom n s fuel zero left done [] b e hf hn = rw (append-nil done) (runs-none n s fuel left done (omega arith))
 back-runsFrom n s zero (suc c) left done [] b e hf hn = absurd (not-suc-le-zero {n = c} (omega arith))
 back-runsFrom n s (suc fuel) (suc c) left done [] b e hf hn =
-    rw (append-nil {A = ℕ} (replicate c 0), append-nil (riceForm s (suc c))) (runs-last n s fuel left (suc c) done (omega arith) (omega arith) (omega arith))
+    rw (append-nil {A = ℕ} (replicate c 0), append-nil (riceForm s (suc c)))
+    (runs-last n s fuel left (suc c) done (omega arith) (omega arith) (omega arith))
 back-runsFrom n s fuel c left done (zero ∷ flags) (more h b) e hf hn =
     rw (← (replicate-snoc c 0 flags)) (back-runsFrom n s fuel (c + 1) left done flags b (omega arith) hf hn)
 back-runsFrom n s zero c left done (suc f ∷ flags) (more h b) e hf hn = absurd (not-suc-le-zero {n = c} (omega arith))
 back-runsFrom n s (suc fuel) c left done (suc f ∷ flags) (more h b) e hf hn =
     let z : f ≡ 0 = omega arith in
     rw (z) (runs-step n s fuel left c done (omega arith) (omega arith)
-    (back-as (back-runsFrom n s fuel 0 (left - (c + 1)) (done ++ (replicate c 0 ++ (1 ∷ []))) flags b (omega arith) (omega arith) (omega arith))
+    (back-as (back-runsFrom n s fuel 0 (left - (c + 1)) (done ++ (replicate c 0 ++ (1 ∷ []))) flags b (omega arith)
+    (omega arith) (omega arith))
     refl refl (simp append-assoc)))
 
 -- runs over the places of a frame of n

@@ -1,22 +1,19 @@
 -- Document 02, R-4: "the writer's output stays". Its definitions (specs/Chooses) ask nothing of what is left, and did not move.
 -- Nor need they: value-location applies only where 0 is at least as frequent as any value, so what is left is never none (`never-none`),
 -- and an old reader reads back what is written (`old-reads-written`).
-use Prim.Native.Nat.{ℕ, zero, suc, _+_, _*_, _≤_}
+use Prim.Native.Nat.{ℕ, zero, suc, _+_, _≤_}
 use native.Mathlib.Omega.{arith}
-use mathlib.Core.Path.{_≡_, refl, sym, _∙_}
+use mathlib.Core.Path.{_≡_, refl, _∙_}
 use mathlib.Core.List.{List, [], _∷_, _++_, map}
 use mathlib.Core.Bool.{Bool, true, false, cond, not}
 use lib.ListN.{length, take}
-use lib.Seq.{length-take-le}
 use lib.Dec.{eqb}
-use lib.IntN.{ℤ}
-use borrow.Author.Tests.{ne-eqb, eqb-true, eqb-false, not-true}
+use borrow.Author.Tests.{eqb-true, not-true}
 use Rattle.rules.specs.Tools.{holds, isSet, isWriterSet}
-use Rattle.rules.specs.Bits.{lowBits, octetsFor, pack}
+use Rattle.rules.specs.Bits.{pack}
 use Rattle.rules.specs.Samples.{maskOf, sampleOf, plusZero}
-use Rattle.rules.specs.Reading.{Read, whole, refuse}
 use Rattle.rules.specs.Located.{emptyIn, valuesOf}
-use Rattle.rules.specs.Frame.{Found, readOne}
+use Rattle.rules.specs.Frame.{readOne}
 use Rattle.rules.specs.Chooses.{countOf, without, rowOf, locatedFlag, applies, chosenTool, Written, chosen, wrote, writeOne}
 use Rattle.rules.proofs.Octets.{Below}
 use Rattle.rules.proofs.Signed.{LawMask, law-mask}
@@ -25,7 +22,7 @@ use Rattle.promises.proofs.Frame.{foundAt}
 use Rattle.promises.proofs.Rows.{locates, zero-occurs, row-apart}
 use Rattle.rules.proofs.Chosen.{chosen-usable}
 use Rattle.promises.proofs.Written.{Frames, pad, full, frames-of, wrote-by, chosen-pad, chosen-full, back}
-use Rattle.promises.proofs.OldReader.{oldRead, Reached, Parts, alike, goes-on, NoZero, old-reader}
+use Rattle.promises.proofs.OldReader.{oldRead, Parts, alike, goes-on, NoZero, old-reader}
 
 -- what is left of a frame once these values are out
 unfoldable pub leftAfter : List ℕ → List ℕ → List ℕ
@@ -39,7 +36,8 @@ zeros-stay z x [] h = refl
 zeros-stay z x (y ∷ left) h = step (eqb y x) (eqb-true y x) (zeros-stay z x left h)
   where
     step : (b : Bool) → (b ≡ true → y ≡ x) → countOf (λ y. eqb y z) (without x left) ≡ countOf (λ y. eqb y z) left
-        → countOf (λ y. eqb y z) (elim b [ true ↦ without x left | false ↦ y ∷ without x left ]) ≡ cond (eqb y z) 1 0 + countOf (λ y. eqb y z) left
+        → countOf (λ y. eqb y z) (elim b [ true ↦ without x left | false ↦ y ∷ without x left ]) ≡ cond (eqb y z) 1
+        0 + countOf (λ y. eqb y z) left
     step true e g = rw (e refl, not-true (eqb x z) h) (omega arith)
     step false e g = rw g
 
@@ -52,7 +50,8 @@ count-most z (y ∷ s) = step (eqb y z) (count-most z s)
     step true h = omega arith
     step false h = omega arith
 
-left-some : (z : ℕ) {xs : List ℕ} → Each (λ x. not (eqb x z)) xs → (k : ℕ) (left : List ℕ) → 1 ≤ countOf (λ y. eqb y z) left → 1 ≤ length (leftAfter (take k xs) left)
+left-some : (z : ℕ) {xs : List ℕ} → Each (λ x. not (eqb x z)) xs → (k : ℕ) (left : List ℕ) → 1 ≤ countOf (λ y. eqb y z) left
+    → 1 ≤ length (leftAfter (take k xs) left)
 unfolding leftAfter
 left-some z nothing zero left h = omega (arith, count-most z left)
 left-some z nothing (suc k) left h = omega (arith, count-most z left)
@@ -73,7 +72,8 @@ empty-zeros z [] = refl
 empty-zeros z (y ∷ s) = rw (empty-zeros z s)
 
 -- a frame that is written with tool 7 has a zero
-written-zero : (law set : ℕ) {s : List ℕ} → isWriterSet set ≡ true → Frames s → NoZero (maskOf law) (record { tool = chosen (maskOf law) set s .tool; samples = s; bits = 0 }) → ⊥
+written-zero : (law set : ℕ) {s : List ℕ} → isWriterSet set ≡ true → Frames s
+    → NoZero (maskOf law) (record { tool = chosen (maskOf law) set s .tool; samples = s; bits = 0 }) → ⊥
 written-zero law set o pad z = let e = z .seven in omega (arith, (rw (chosen-pad (maskOf law) set) at e))
 written-zero law set {s} o (full l b) z =
     let mask = maskOf law in

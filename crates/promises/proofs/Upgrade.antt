@@ -5,9 +5,9 @@ use Prim.Native.Nat.{ℕ, suc, _+_, _-_, _^_, _/_, _%_, _≤_, _<_, min}
 use native.Mathlib.Omega.{arith}
 use mathlib.Core.Path.{_≡_, refl}
 use mathlib.Core.List.{List, [], _∷_, map}
-use mathlib.Core.Bool.{Bool, true, false, cond, not, _&&_, _||_}
+use mathlib.Core.Bool.{Bool, true, false, cond, not, _||_}
 use lib.ListN.{length, take, length-append}
-use lib.Dec.{eqb, leb}
+use lib.Dec.{eqb}
 use borrow.Author.Tests.{le-ltb, ne-eqb, leb-true}
 use Rattle.rules.specs.Tools.{isTool, slotOf, holds, Within, allTools, isSet, isWriterSet}
 use Rattle.rules.specs.Bits.{octetsFor}
@@ -47,7 +47,8 @@ upgrade mask a b s odd w =
     either (eqb (length s) 0) _ _ _ (wider-least (also-usable mask a b s odd w) (smaller mask a b s odd w) (larger mask a b s odd w))
 
 -- and it is the same form where the tool that wins was in the smaller set already
-same-tool : (mask a b : ℕ) (s : List ℕ) → isWriterSet a ≡ true → Within a b → holds a (chosenTool mask b s) ≡ true → chosenTool mask b s ≡ chosenTool mask a s
+same-tool : (mask a b : ℕ) (s : List ℕ) → isWriterSet a ≡ true → Within a b → holds a (chosenTool mask b s) ≡ true
+    → chosenTool mask b s ≡ chosenTool mask a s
 same-tool mask a b s odd w held =
     let t = chosenTool mask b s in
     let f = larger mask a b s odd w in
@@ -55,7 +56,8 @@ same-tool mask a b s odd w held =
     let same = first-of-fewer (also-usable mask a b s odd w) (rw (held, fits) refl) f in
     one-first-least (usable mask a s) (octetsOfForm mask s) same (smaller mask a b s odd w)
 
-pub same-form : (mask a b : ℕ) (s : List ℕ) → isWriterSet a ≡ true → Within a b → holds a (chosenTool mask b s) ≡ true → chosen mask b s ≡ chosen mask a s
+pub same-form : (mask a b : ℕ) (s : List ℕ) → isWriterSet a ≡ true → Within a b → holds a (chosenTool mask b s) ≡ true
+    → chosen mask b s ≡ chosen mask a s
 unfolding chosen
 same-form mask a b s odd w held = rw (same-tool mask a b s odd w held) refl
 
@@ -80,7 +82,8 @@ octetsIn mask p = octetsFor (length (writtenFor mask p .bits))
 pub stream-total : (mask : ℕ) (ps : List Part) → length (stream mask ps) ≡ total (octetsIn mask) ps
 unfolding stream total
 stream-total mask [] = refl
-stream-total mask (p ∷ ps) = omega (arith, length-append (octetsOf mask p) (stream mask ps), length-pack (writtenFor mask p .bits), stream-total mask ps)
+stream-total mask (p ∷ ps) =
+    omega (arith, length-append (octetsOf mask p) (stream mask ps), length-pack (writtenFor mask p .bits), stream-total mask ps)
 
 upgrade-part : (mask : ℕ) {p q : Part} → Upgraded p q → octetsIn mask q ≤ octetsIn mask p
 upgrade-part mask pads = omega arith
@@ -105,8 +108,10 @@ unfolding total
 total-frames mask set [] = refl
 total-frames mask set (s ∷ ss) = omega (arith, total-frames mask set ss)
 
-pub upgrade-sum : (mask a b : ℕ) (ss : List (List ℕ)) → isWriterSet a ≡ true → Within a b → total (octetsWith mask b) ss ≤ total (octetsWith mask a) ss
-upgrade-sum mask a b ss odd w = omega (arith, upgrade-total mask (all-upgraded a b odd w ss), total-frames mask a ss, total-frames mask b ss)
+pub upgrade-sum : (mask a b : ℕ) (ss : List (List ℕ)) → isWriterSet a ≡ true → Within a b
+    → total (octetsWith mask b) ss ≤ total (octetsWith mask a) ss
+upgrade-sum mask a b ss odd w =
+    omega (arith, upgrade-total mask (all-upgraded a b odd w ss), total-frames mask a ss, total-frames mask b ss)
 
 -- What a bench hand asks next. Where the smaller set's write has room, the larger set's has: it is written, not refused.
 pub room-enough : (n : ℕ) (samples : List ℕ) (law a b room : ℕ) (w : Written) → isWriterSet b ≡ true → Within a b
@@ -129,11 +134,13 @@ pub record OneMore (a t b : ℕ) : Type 0 where
   pub within : Within a b
   pub only : (u : ℕ) → holds b u ≡ true → (u ≡ t → ⊥) → holds a u ≡ true
 
-unless : (none : Bool) (pad x y : Written) (t : ℕ) → ((x .tool ≡ t → ⊥) → x ≡ y) → (cond none pad x .tool ≡ t → ⊥) → cond none pad x ≡ cond none pad y
+unless : (none : Bool) (pad x y : Written) (t : ℕ) → ((x .tool ≡ t → ⊥) → x ≡ y) → (cond none pad x .tool ≡ t → ⊥)
+    → cond none pad x ≡ cond none pad y
 unless true pad x y t h lost = refl
 unless false pad x y t h lost = h lost
 
-pub one-more : (mask a t b : ℕ) (s : List ℕ) → isWriterSet a ≡ true → OneMore a t b → (chosen mask b s .tool ≡ t → ⊥) → chosen mask b s ≡ chosen mask a s
+pub one-more : (mask a t b : ℕ) (s : List ℕ) → isWriterSet a ≡ true → OneMore a t b → (chosen mask b s .tool ≡ t → ⊥)
+    → chosen mask b s ≡ chosen mask a s
 unfolding chosen
 one-more mask a t b s odd m lost = unless (eqb (length s) 0) _ _ _ t others lost
   where
@@ -175,7 +182,8 @@ one-added a t small h out = record {
     at : (u : ℕ) → u < pastTools → asSum a t u ≡ true
     at u l =
         let set = allBelow-at (λ a. allBelow (sums a) pastTools) (suc allTools) all-sums a (omega (arith, leb-true a allTools small)) in
-        let tool = implied (isTool t) (holds a t || allBelow (asSum a t) pastTools) (allBelow-at (sums a) pastTools set t (tool-low t h)) h in
+        let tool = implied (isTool t) (holds a t || allBelow (asSum a t) pastTools)
+        (allBelow-at (sums a) pastTools set t (tool-low t h)) h in
         allBelow-at (asSum a t) pastTools (rw out at tool) u l
 
     kept : (u : ℕ) (x : Bool) → holds a u ≡ x → cond (x || false) (holds (a + 2 ^ slotOf t) u) (not (holds (a + 2 ^ slotOf t) u)) ≡ true

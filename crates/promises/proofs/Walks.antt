@@ -25,14 +25,16 @@ pub data WalkOf (octets : List ℕ) (law set : ℕ) : ℕ → ℕ → Walked →
       → WalkOf octets law set at room (before (record { place = at; found = f }) rest)
 
 -- a frame uses an octet or more, and no more than there are
-pub uses : (octets : List ℕ) (law set at room : ℕ) {f : Found} {j : ℕ} → at < length octets → readOne (drop at octets) law set room ≡ whole f j
+pub uses : (octets : List ℕ) (law set at room : ℕ) {f : Found} {j : ℕ} → at < length octets
+    → readOne (drop at octets) law set room ≡ whole f j
     → (at < at + octetsUsed f) × (at + octetsUsed f ≤ length octets)
 uses octets law set at room h e =
     let u = read-uses (drop at octets) law set room e in
     (omega (arith, u .0), omega (arith, u .1, length-drop at octets))
 
 -- the definition, with enough fuel, is such a walk
-pub walk-of : (fuel : ℕ) (octets : List ℕ) (law set at room : ℕ) → length octets < at + fuel → WalkOf octets law set at room (walkFrom fuel octets law set at room)
+pub walk-of : (fuel : ℕ) (octets : List ℕ) (law set at room : ℕ) → length octets < at + fuel
+    → WalkOf octets law set at room (walkFrom fuel octets law set at room)
 unfolding walkFrom
 walk-of zero octets law set at room h = ended {at = at} (omega arith)
 walk-of (suc fuel) octets law set at room h =
@@ -45,25 +47,30 @@ walk-of (suc fuel) octets law set at room h =
     stop w bit = stopped (Refused w) at bit
 
     Later : Type 0
-    Later = (f : Found) → at < at + octetsUsed f → WalkOf octets law set (at + octetsUsed f) (room - length (f .samples)) (walkFrom fuel octets law set (at + octetsUsed f) (room - length (f .samples)))
+    Later = (f : Found) → at < at + octetsUsed f → WalkOf octets law set (at + octetsUsed f) (room - length (f .samples))
+        (walkFrom fuel octets law set (at + octetsUsed f) (room - length (f .samples)))
 
-    one : (m : Read Found) → readOne (drop at octets) law set room ≡ m → at < length octets → Later → WalkOf octets law set at room (onward m next stop)
+    one : (m : Read Found) → readOne (drop at octets) law set room ≡ m → at < length octets → Later
+        → WalkOf octets law set at room (onward m next stop)
     one (whole f j) e l later = delivers l e (later f (uses octets law set at room l e .0))
     one (refuse w bit) e l later = refused l e
 
-    start : (b : Bool) → leb (length octets) at ≡ b → Later → WalkOf octets law set at room (cond b (stopped Done at 0) (onward (readOne (drop at octets) law set room) next stop))
+    start : (b : Bool) → leb (length octets) at ≡ b → Later
+        → WalkOf octets law set at room (cond b (stopped Done at 0) (onward (readOne (drop at octets) law set room) next stop))
     start true e later = ended (leb-true (length octets) at e)
     start false e later = one (readOne (drop at octets) law set room) refl (leb-false (length octets) at e) later
 
 -- one step of the definition
-pub walk-next : (fuel : ℕ) (octets : List ℕ) (law set at room : ℕ) {f : Found} {j : ℕ} → at < length octets → readOne (drop at octets) law set room ≡ whole f j
+pub walk-next : (fuel : ℕ) (octets : List ℕ) (law set at room : ℕ) {f : Found} {j : ℕ} → at < length octets
+    → readOne (drop at octets) law set room ≡ whole f j
     → walkFrom (suc fuel) octets law set at room
     ≡ before (record { place = at; found = f }) (walkFrom fuel octets law set (at + octetsUsed f) (room - length (f .samples)))
 unfolding walkFrom
 walk-next fuel octets law set at room h e = rw (lt-leb (length octets) at h, e) refl
 
 -- and such a walk is the definition, with enough fuel
-pub walk-only : {octets : List ℕ} {law set at room : ℕ} {w : Walked} → WalkOf octets law set at room w → (fuel : ℕ) → length octets < at + fuel
+pub walk-only : {octets : List ℕ} {law set at room : ℕ} {w : Walked} → WalkOf octets law set at room w → (fuel : ℕ)
+    → length octets < at + fuel
     → walkFrom fuel octets law set at room ≡ w
 unfolding walkFrom
 walk-only (ended h) zero l = refl
@@ -81,12 +88,15 @@ pub record Walkable (octets : List ℕ) (law set : ℕ) : Type 0 where
   pub small : isSet set ≡ true
   pub short : length octets ≤ longest
 
-pub walk-all : (octets : List ℕ) (law set room : ℕ) → Walkable octets law set → walkAll octets law set room ≡ walkFrom (suc (length octets)) octets law set 0 room
+pub walk-all : (octets : List ℕ) (law set room : ℕ) → Walkable octets law set
+    → walkAll octets law set room ≡ walkFrom (suc (length octets)) octets law set 0 room
 unfolding walkAll
 walk-all octets law set room t = rw (t .lawful, t .small, le-leb (length octets) longest (t .short)) refl
 
-pub walk-all-of : (octets : List ℕ) (law set room : ℕ) → Walkable octets law set → WalkOf octets law set 0 room (walkAll octets law set room)
+pub walk-all-of : (octets : List ℕ) (law set room : ℕ) → Walkable octets law set
+    → WalkOf octets law set 0 room (walkAll octets law set room)
 walk-all-of octets law set room t = rw (walk-all octets law set room t) (walk-of (suc (length octets)) octets law set 0 room (omega arith))
 
-pub walk-all-only : {octets : List ℕ} {law set room : ℕ} {w : Walked} → Walkable octets law set → WalkOf octets law set 0 room w → walkAll octets law set room ≡ w
+pub walk-all-only : {octets : List ℕ} {law set room : ℕ} {w : Walked} → Walkable octets law set → WalkOf octets law set 0 room w
+    → walkAll octets law set room ≡ w
 walk-all-only {octets} {law} {set} {room} t h = walk-all octets law set room t ∙ walk-only h (suc (length octets)) (omega arith)

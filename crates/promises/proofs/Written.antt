@@ -19,7 +19,9 @@ use Rattle.rules.specs.Runs.{runsForm}
 use Rattle.rules.specs.Zeros.{prefix, flagOf, codeOf}
 use Rattle.rules.specs.Located.{valuesOf}
 use Rattle.rules.specs.Fractional.{firstCode, fractionalBody}
-use Rattle.rules.specs.Chooses.{markOf, bestS, riceChoice, rowOf, locatedFlag, valuesForm, locatedForm, fractionalRow, fractionalForm, applies, formOf, octetsOfForm, tieOrder, chosenTool, Written, chosen, Write, wrote, declined, writeOne}
+use Rattle.rules.specs.Chooses.{markOf, bestS, riceChoice, rowOf, locatedFlag}
+use Rattle.rules.specs.Chooses.{valuesForm, locatedForm, fractionalRow, fractionalForm, applies}
+use Rattle.rules.specs.Chooses.{formOf, octetsOfForm, tieOrder, chosenTool, Written, chosen, Write, wrote, declined, writeOne}
 use Rattle.rules.proofs.Octets.{Below, below-take, length-lowBits, length-bitsOf, lowBits-below, bitsOf-append, bitsOf-pack, length-pack}
 use Rattle.rules.proofs.Signed.{law-mask}
 use Rattle.rules.proofs.Tests.{or-cases, by-length, tool-some}
@@ -44,7 +46,8 @@ guard false r y e = (refl, e)
 same : (v w : Written) → wrote v ≡ wrote w → v ≡ w
 same v w e = cc
 
-pub wrote-by : (n : ℕ) (samples : List ℕ) (law set room : ℕ) (w : Written) → writeOne n samples law set room ≡ wrote w → Wrote n samples law set room w
+pub wrote-by : (n : ℕ) (samples : List ℕ) (law set room : ℕ) (w : Written) → writeOne n samples law set room ≡ wrote w
+    → Wrote n samples law set room w
 unfolding writeOne
 wrote-by n samples law set room w e =
     let v = chosen (maskOf law) set (take n samples) in
@@ -93,7 +96,8 @@ unfolding readOne
 read-bits law set room {b} more l s low = rw (l, s, bitsOf-append (pack b) more, bitsOf-pack low) refl
 
 -- a tool's form, by any reader that holds the tool
-pub form-back : (law t : ℕ) (s : List ℕ) → isLaw law ≡ true → isLength (length s) ≡ true → Below 256 s → isTool t ≡ true → applies (maskOf law) t s ≡ true
+pub form-back : (law t : ℕ) (s : List ℕ) → isLaw law ≡ true → isLength (length s) ≡ true → Below 256 s → isTool t ≡ true
+    → applies (maskOf law) t s ≡ true
     → (set room : ℕ) (more : List ℕ) → isSet set ≡ true → holds set t ≡ true → length s ≤ room
     → readOne (pack (formOf (maskOf law) t s) ++ more) law set room ≡ foundAt t s (length (formOf (maskOf law) t s))
 form-back law t s i l b h a set room more e held r =
@@ -101,7 +105,8 @@ form-back law t s i l b h a set room more e held r =
     ∙ form-restores (law-mask law) t s l b h a .reads set room (bitsOf more) held r
 
 -- "Zero samples give one octet 00."
-pad-frame : (mask set room : ℕ) (post : List ℕ) → frame mask set room (filledBits (lowBits 8 0) ++ post) 0 ≡ foundAt 0 [] (length (lowBits 8 0))
+pad-frame : (mask set room : ℕ) (post : List ℕ) → frame mask set room (filledBits (lowBits 8 0) ++ post) 0 ≡ foundAt 0 []
+    (length (lowBits 8 0))
 unfolding frame afterFirst firstOctet lookUp rows
 pad-frame mask set room post =
     let l : length (lowBits 8 0) ≡ 8 = length-lowBits 8 0 in
@@ -114,7 +119,8 @@ pad-back law set room more i e = read-bits law set room more i e (lowBits-below 
 
 -- what is chosen for a frame, by any reader that holds the tool used; a pad's tool, 0, need not be held
 pub chosen-back : (law set : ℕ) {s : List ℕ} → isLaw law ≡ true → isWriterSet set ≡ true → Frames s
-    → (reader room : ℕ) (more : List ℕ) → isSet reader ≡ true → (1 ≤ chosen (maskOf law) set s .tool → holds reader (chosen (maskOf law) set s .tool) ≡ true)
+    → (reader room : ℕ) (more : List ℕ) → isSet reader ≡ true
+    → (1 ≤ chosen (maskOf law) set s .tool → holds reader (chosen (maskOf law) set s .tool) ≡ true)
     → length s ≤ room
     → readOne (pack (chosen (maskOf law) set s .bits) ++ more) law reader room
     ≡ foundAt (chosen (maskOf law) set s .tool) s (length (chosen (maskOf law) set s .bits))
@@ -139,7 +145,8 @@ back n samples law set room w h b e reader room′ more i held r =
     rw c at (chosen-back law set (d .lawful) (d .odd) f reader room′ more i (rw (← c) at held) (omega (arith, length-take-le n samples h)))
 
 -- so also by any reader whose set holds the writer's
-pub tool-held : (mask set : ℕ) {s : List ℕ} → isWriterSet set ≡ true → Frames s → 1 ≤ chosen mask set s .tool → holds set (chosen mask set s .tool) ≡ true
+pub tool-held : (mask set : ℕ) {s : List ℕ} → isWriterSet set ≡ true → Frames s → 1 ≤ chosen mask set s .tool
+    → holds set (chosen mask set s .tool) ≡ true
 tool-held mask set o pad h = absurd (omega (arith, (rw (chosen-pad mask set) at h)))
 tool-held mask set {s} o (full l b) h = rw (chosen-full mask set s l) (chosen-usable mask set s o .held)
 
@@ -187,7 +194,8 @@ form-some mask t s l =
     (some-first (lowBits 8 (firstCode n + fractionalRow mask s)) (fractionalBody mask (fractionalRow mask s) s)
     (record { some = omega (arith, length-lowBits 8 (firstCode n + fractionalRow mask s)) }))
     (some-first (prefix 7 n)
-    (lowBits 2 (rowOf mask s) ++ (lowBits 1 (locatedFlag mask s) ++ valuesForm (map (sampleOf mask) (valuesOf n (rowOf mask s) (locatedFlag mask s))) s))
+    (lowBits 2 (rowOf mask s)
+    ++ (lowBits 1 (locatedFlag mask s) ++ valuesForm (map (sampleOf mask) (valuesOf n (rowOf mask s) (locatedFlag mask s))) s))
     (prefix-some 7 n))))))))
 
 uncompressed-octets : (mask : ℕ) (s : List ℕ) → octetsOfForm mask s 1 ≡ length s + 1
@@ -216,7 +224,12 @@ chosen-short mask set {s} o (full l b) =
     let m = each-at tieOrder 1 [] (chosen-least mask set s o) in
     let m′ = leb-true (octetsOfForm mask s t) (octetsOfForm mask s 1) (rw (one-usable mask set s o) at m) in
     rw (chosen-full mask set s l)
-    (record { some = omega (arith, form-some mask t s l .some); most = omega (arith, uncompressed-octets mask s); octets = k; fill = bitsOf-pack (form-below mask t s l) })
+    (record {
+      some = omega (arith, form-some mask t s l .some);
+      most = omega (arith, uncompressed-octets mask s);
+      octets = k;
+      fill = bitsOf-pack (form-below mask t s l);
+    })
 
 pub short-enough : (n : ℕ) (samples : List ℕ) (law set room : ℕ) (w : Written) → n ≤ length samples → Below 256 samples
     → writeOne n samples law set room ≡ wrote w → ShortEnough n (w .bits)
@@ -224,7 +237,8 @@ short-enough n samples law set room w h b e =
     let d = wrote-by n samples law set room w e in
     rw (length-take-le n samples h, d .is) at (chosen-short (maskOf law) set (d .odd) (frames-of n samples h b (d .allowed)))
 
--- The choice: what is written is one of the set's forms that apply, none of them is shorter, and of the equally short it is the first in the order
+-- The choice: what is written is one of the set's forms that apply, none of them is shorter, and of the equally short it is the first in
+-- the order
 pub record IsChosen (mask set : ℕ) (s : List ℕ) (w : Written) : Type 0 where
   pub form : w .bits ≡ formOf mask (w .tool) s
   pub choice : FirstLeast (usable mask set s) (octetsOfForm mask s) order (w .tool)
@@ -234,12 +248,14 @@ pub written-chosen : (n : ℕ) (samples : List ℕ) (law set room : ℕ) (w : Wr
 written-chosen n samples law set room w h k e =
     let d = wrote-by n samples law set room w e in
     let s = take n samples in
-    let l : isLength n ≡ true = or-cases (isLength n ≡ true) (eqb n 0) (isLength n) (d .allowed) (λ z. absurd (omega (arith, eqb-true n 0 z))) (λ l. l) in
+    let l : isLength n ≡ true = or-cases (isLength n ≡ true) (eqb n 0) (isLength n) (d .allowed)
+    (λ z. absurd (omega (arith, eqb-true n 0 z))) (λ l. l) in
     rw (← (d .is), chosen-full (maskOf law) set s (rw (length-take-le n samples h) l))
     (record { form = refl; choice = chosen-first-least (maskOf law) set s (d .odd) })
 
 -- and every frame of an allowed length is written, by either law and any odd set up to 255, given N + 1 octets of room
-pub writes : (n : ℕ) (samples : List ℕ) (law set room : ℕ) → n ≤ length samples → Below 256 samples → isLaw law ≡ true → isWriterSet set ≡ true
+pub writes : (n : ℕ) (samples : List ℕ) (law set room : ℕ) → n ≤ length samples → Below 256 samples → isLaw law ≡ true
+    → isWriterSet set ≡ true
     → eqb n 0 || isLength n ≡ true → n + 1 ≤ room → writeOne n samples law set room ≡ wrote (chosen (maskOf law) set (take n samples))
 unfolding writeOne
 writes n samples law set room h b i o a r =

@@ -59,7 +59,8 @@ zero-back mask zero x h e =
     split (eqb x (plusZero mask)) (eqb x (minusZero mask)) e (λ p. rw p (sym (eqb-true x (plusZero mask) p)))
     (λ p q. rw p (sym (eqb-true x (minusZero mask) q)))
 zero-back mask (suc zero) x h e =
-    split (eqb x (minusZero mask)) (eqb x (plusZero mask)) (swap (eqb x (plusZero mask)) (eqb x (minusZero mask)) e) (λ p. rw p (sym (eqb-true x (minusZero mask) p)))
+    split (eqb x (minusZero mask)) (eqb x (plusZero mask)) (swap (eqb x (plusZero mask)) (eqb x (minusZero mask)) e)
+    (λ p. rw p (sym (eqb-true x (minusZero mask) p)))
     (λ p q. rw p (sym (eqb-true x (plusZero mask) q)))
 zero-back mask (suc (suc m)) x h e = absurd (omega arith)
 
@@ -75,14 +76,17 @@ pub back-binary : (mask : ℕ) (s : List ℕ) → Each (isZero mask) s → Back 
 back-binary mask s h =
     let flags = map (flagOf mask 0) s in
     let e : length flags ≡ length s = length-map s (flagOf mask 0) in
-    back-as (back-bind _ _ (rw e at (back-flags flags)) (back-give (map (zeroOf mask 0) flags))) refl (append-nil flags) (zeros-back mask 0 (omega arith) h)
+    back-as (back-bind _ _ (rw e at (back-flags flags)) (back-give (map (zeroOf mask 0) flags))) refl (append-nil flags)
+    (zeros-back mask 0 (omega arith) h)
 
 -- "Tool 6: code of S, then runs over N."
-pub back-plusMinus : (mask mark r : ℕ) (s : List ℕ) → isLength (length s) ≡ true → mark < 2 → Each (isZero mask) s → 1 ≤ r → r ≤ mostS (length s)
+pub back-plusMinus : (mask mark r : ℕ) (s : List ℕ) → isLength (length s) ≡ true → mark < 2 → Each (isZero mask) s → 1 ≤ r
+    → r ≤ mostS (length s)
     → Back (plusMinus mask (length s) mark) (codeOf (length s) r ++ runsForm r (map (flagOf mask mark) s)) s
 back-plusMinus mask mark r s l m h a b =
     let flags = map (flagOf mask mark) s in
     let e : length flags ≡ length s = length-map s (flagOf mask mark) in
     back-bind _ _ (back-code (length s) r l a b)
-    (back-as (back-bind _ _ (rw e at (back-runs (length s) r flags (flags-below mask mark s) (omega arith))) (back-give (map (zeroOf mask mark) flags)))
+    (back-as (back-bind _ _ (rw e at (back-runs (length s) r flags (flags-below mask mark s) (omega arith)))
+    (back-give (map (zeroOf mask mark) flags)))
     refl (append-nil (runsForm r flags)) (zeros-back mask mark m h))

@@ -4,7 +4,6 @@ use mathlib.Core.List.{List, [], _++_}
 use Prim.Native.Nat.{ℕ, _≤_}
 use native.Mathlib.Omega.{arith}
 use lib.ListN.{length, take, drop, length-take}
-use Rattle.rules.specs.declared.Refusal.{Refusal}
 use Rattle.rules.specs.Bits.{bitsOf, fillFor}
 use Rattle.rules.specs.Samples.{maskOf}
 use Rattle.rules.specs.Reading.{Read, whole, refuse, andThen, filled}
@@ -31,23 +30,31 @@ pub fills-as : {m n : Read Found} {r : Report} {buffer : List ℕ} → m ≡ n �
 fills-as {r = r} {buffer = buffer} e t = subst (λ (m : Read Found). Fills m r buffer) e t
 
 -- a frame with no samples, or a refused one: the frame buffer holds none of its samples
-pub fills-none : {m n : Read Found} {r : Report} {buffer : List ℕ} → m ≡ n → readSamples m ≡ [] → length buffer ≡ 320 → Tells m r → Fills n r buffer
+pub fills-none : {m n : Read Found} {r : Report} {buffer : List ℕ} → m ≡ n → readSamples m ≡ [] → length buffer ≡ 320
+    → Tells m r → Fills n r buffer
 fills-none {m} {r = r} {buffer = buffer} e z l t = fills-as e (record { tells = t; samples = rw z; size = l })
 
 -- the filling bits are read, and the samples are a whole body's, or none
 abbrev Has : List ℕ → Read Found → Type 0
 Has buffer m = take (length (readSamples m)) buffer ≡ readSamples m
 
-has-body : (buffer : List ℕ) (f : Found) → take (length (f .samples)) buffer ≡ f .samples → (m : Read ℕ) → Has buffer (andThen m (λ x j. whole f j))
+has-body : (buffer : List ℕ) (f : Found) → take (length (f .samples)) buffer ≡ f .samples → (m : Read ℕ)
+    → Has buffer (andThen m (λ x j. whole f j))
 has-body buffer f l (whole x j) = l
 has-body buffer f l (refuse w at) = refl
 
-pub fills-finish : (t n : ℕ) (s b : List ℕ) {found : Read Found} {r : Report} {buffer : List ℕ} → finish t s n b ≡ found → Tells (finish t s n b) r
+pub fills-finish : (t n : ℕ) (s b : List ℕ) {found : Read Found} {r : Report} {buffer : List ℕ} → finish t s n b ≡ found
+    → Tells (finish t s n b) r
     → take (length s) buffer ≡ s → length buffer ≡ 320 → Fills found r buffer
 fills-finish t n s b {buffer = buffer} e h l k =
     let f : Found = record { tool = t; samples = s; bits = n } in
     fills-as e
-    (record { tells = h; samples = subst (Has buffer) (sym (filled-as {B = ℕ} f 0 (fillFor n) b n)) (has-body buffer f l (filled 0 (fillFor n) b n)); size = k })
+    (record {
+      tells = h;
+      samples = subst (Has buffer) (sym (filled-as {B = ℕ} f 0 (fillFor n) b n))
+          (has-body buffer f l (filled 0 (fillFor n) b n));
+      size = k;
+    })
 
 -- no samples: the output is as lent
 pub into-none : {m n : Read Found} {r : Report} {out : List ℕ} → m ≡ n → readSamples m ≡ [] → Tells m r → ReadsInto n r out out

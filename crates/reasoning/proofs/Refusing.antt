@@ -1,8 +1,8 @@
 -- The refusals in the code's steps: LAW and SET by the writer's guard, then LENGTH.
 use Prim.Native.Nat.{ℕ, _%_, _≤_}
 use native.Mathlib.Omega.{arith}
-use mathlib.Core.Path.{_≡_, refl, sym, ap, _∙_}
-use mathlib.Core.List.{List, []}
+use mathlib.Core.Path.{_≡_, refl, sym}
+use mathlib.Core.List.{List}
 use mathlib.Core.Bool.{Bool, true, false, cond, not, _||_}
 use lib.ListN.{length, take}
 use lib.Dec.{eqb}
@@ -42,7 +42,8 @@ mask-is law = go (eqb law 0)
 
 pub frame-in : (n : ℕ) (samples : List ℕ) → isLength n ≡ true → (n ≤ 320 → n ≤ length samples) → FrameIn samples n
 frame-in n samples h long =
-    let sized = by-length (λ k. (1 ≤ k) × ((k ≤ 320) × (k % 40 ≡ 0))) (omega arith) (omega arith) (omega arith) (omega arith) (omega arith) n h in
+    let sized = by-length (λ k. (1 ≤ k) × ((k ≤ 320) × (k % 40 ≡ 0))) (omega arith) (omega arith) (omega arith) (omega arith)
+    (omega arith) n h in
     record { some = sized .0; few = sized .1 .0; long = long (sized .1 .0); whole = sized .1 .1 }
 
 -- LENGTH, or not
@@ -60,5 +61,6 @@ module _ (n : ℕ) (samples : List ℕ) (mask set : ℕ) where
   pub allowed-not : (n ≡ 0 → ⊥) → isLength n ≡ false → Refused Length ≡ whyAllowed n (take n samples) mask set
   allowed-not e f = no-length (eqb n 0) (isLength n) (Refused Length) _ (ne-eqb n 0 e) f
 
-  pub allowed-told : {r : Reasons} → isLength n ≡ true → r ≡ reasonsOf mask set (take n samples) → Told r ≡ whyAllowed n (take n samples) mask set
+  pub allowed-told : {r : Reasons} → isLength n ≡ true → r ≡ reasonsOf mask set (take n samples)
+      → Told r ≡ whyAllowed n (take n samples) mask set
   allowed-told {r} e f = rw f (is-one (eqb n 0) (isLength n) (Refused Length) (Told (reasonsOf mask set (take n samples))) e)

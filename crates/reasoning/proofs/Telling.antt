@@ -10,11 +10,10 @@ use lib.IntN.{pos, negsuc}
 use borrow.Author.Tests.{eq-eqb, ne-eqb, eqb-true}
 use Rattle.rules.specs.Tools.{holds}
 use Rattle.rules.specs.Bits.{octetsFor}
-use Rattle.rules.specs.Chooses.{applies, rowOf, zeroLeads, formOf, octetsOfForm}
+use Rattle.rules.specs.Chooses.{applies, rowOf, zeroLeads, formOf}
 use Rattle.offers.specs.declared.Offer.{Offer}
 use Rattle.offers.specs.Offers as offers
 use Rattle.offers.specs.Offers.{OfferIs}
-use Rattle.reasons.specs.declared.State.{State}
 use Rattle.reasons.specs.declared.State.the-variants.{Out, No, Fits}
 use Rattle.reasons.specs.Why.{locatedConditions, conditions, firstFailing, failing, stateOf}
 use Rattle.reasons.proofs.Promises.{failing-applies, fits-when, out-when}
@@ -34,9 +33,11 @@ unfolding firstFailing
 of-one false = refl
 of-one true = refl
 
-of-seven : (mask : ℕ) (s : List ℕ) → cond (applies mask 7 s) 0 (cond (leb 80 (length s)) (cond (ltb (rowOf mask s) 4) 3 2) 1) ≡ firstFailing 1 (locatedConditions mask s)
+of-seven : (mask : ℕ) (s : List ℕ) → cond (applies mask 7 s) 0 (cond (leb 80 (length s)) (cond (ltb (rowOf mask s) 4) 3 2) 1) ≡ firstFailing
+    1 (locatedConditions mask s)
 unfolding applies
-of-seven mask s = of-three (leb 80 (length s)) (ltb (rowOf mask s) 4) (zeroLeads mask s (pos 1)) (zeroLeads mask s (negsuc 0)) (zeroLeads mask s (negsuc 1))
+of-seven mask s = of-three (leb 80 (length s)) (ltb (rowOf mask s) 4) (zeroLeads mask s (pos 1)) (zeroLeads mask s (negsuc 0))
+    (zeroLeads mask s (negsuc 1))
 
 of-tool : (mask : ℕ) (s : List ℕ) (t : ℕ) (b : Bool) → 1 ≤ length s → eqb t 7 ≡ b
     → cond (applies mask t s) 0 (cond b (cond (leb 80 (length s)) (cond (ltb (rowOf mask s) 4) 3 2) 1) 1)

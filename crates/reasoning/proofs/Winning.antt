@@ -14,7 +14,6 @@ use Rattle.offers.proofs.Choosing.{uncompressed-chosen}
 use Rattle.reasons.specs.declared.State.{State}
 use Rattle.reasons.specs.declared.State.the-variants.{Out, No, Fits}
 use Rattle.reasons.specs.declared.States.{States}
-use Rattle.reasons.specs.declared.Reasons.{Reasons}
 use Rattle.reasons.specs.Why.{failing, stateOf, winnerOf, needs, octetsWritten, alsoNeeds, anyOf, tools, statesOf, reasonsOf}
 use Rattle.reasons.proofs.Promises.{failing-applies, empty-fails, fits-only, chosen-some, tie-only}
 use Rattle.reasoning.specs.declared.Best.{Best}
@@ -31,7 +30,8 @@ module _ (best : Best) (t : ℕ) where
   pub best-more : {state : State} (octets : ℕ) → state ≡ Fits octets → best .octets < octets → best ≡ bestBy best t state
   best-more octets e h = rw (e, lt-leb octets (best .octets) h)
 
-  pub best-not-more : {state : State} (octets : ℕ) → state ≡ Fits octets → octets ≤ best .octets → record { tool = t; octets = octets } ≡ bestBy best t state
+  pub best-not-more : {state : State} (octets : ℕ) → state ≡ Fits octets → octets ≤ best .octets
+      → record { tool = t; octets = octets } ≡ bestBy best t state
   best-not-more octets e h = rw (e, le-leb octets (best .octets) h)
 
   pub also-same : (state : State) → t ≡ best .tool → false ≡ alsoBy best t state
@@ -58,9 +58,11 @@ module _ (mask set : ℕ) (s : List ℕ) (some : 1 ≤ length s) where
   best-step true true f t c e = rw e (one-of (leb (octetsOfForm mask s t) (octetsOfForm mask s c)) t c)
 
   -- one tool more of the tie order
-  best-on : (t : ℕ) (ts : List ℕ) (b : Best) → b ≡ with (choose mask set s ts) → bestBy b t (stateOf mask set s t) ≡ with (choose mask set s (t ∷ ts))
+  best-on : (t : ℕ) (ts : List ℕ) (b : Best) → b ≡ with (choose mask set s ts)
+      → bestBy b t (stateOf mask set s t) ≡ with (choose mask set s (t ∷ ts))
   unfolding choose stateOf
-  best-on t ts b e = rw e (best-step (holds set t) (applies mask t s) (failing mask s t) t (choose mask set s ts) (failing-applies mask s t some))
+  best-on t ts b e = rw e
+      (best-step (holds set t) (applies mask t s) (failing mask s t) t (choose mask set s ts) (failing-applies mask s t some))
 
   from-one : length s ≤ 320 → record { tool = 1; octets = length s + 1 } ≡ with (choose mask set s [])
   unfolding choose
@@ -75,19 +77,24 @@ module _ (mask set : ℕ) (s : List ℕ) (some : 1 ≤ length s) where
       (best-on 5 (6 ∷ 7 ∷ 11 ∷ []) _ (best-on 6 (7 ∷ 11 ∷ []) _ (best-on 7 (11 ∷ []) _ (best-on 11 [] _ (from-one few)))))))
 
   -- the winner, with the octets that the writer writes
-  best-written : length s ≤ 320 → bestIn (statesOf mask set s) (length s) ≡ record { tool = winnerOf mask set s; octets = octetsWritten mask set s }
+  best-written : length s ≤ 320
+      → bestIn (statesOf mask set s) (length s) ≡ record { tool = winnerOf mask set s; octets = octetsWritten mask set s }
   best-written few =
-      best-is few ∙ sym (ap (λ (w : Written). record { tool = w .tool; octets = octetsFor (length (w .bits)) }) (chosen-some mask set s some))
+      best-is few ∙ sym (ap (λ (w : Written). record { tool = w .tool; octets = octetsFor (length (w .bits)) })
+      (chosen-some mask set s some))
 
-  tie-is : tieIn (statesOf mask set s) (record { tool = winnerOf mask set s; octets = octetsWritten mask set s }) ≡ anyOf (alsoNeeds mask set s) tools
+  tie-is : tieIn (statesOf mask set s) (record { tool = winnerOf mask set s; octets = octetsWritten mask set s }) ≡ anyOf
+      (alsoNeeds mask set s) tools
   unfolding anyOf alsoNeeds statesOf
   tie-is = refl
 
-  pub reasons-are : {states : States} {best : Best} {tie : Bool} {n : ℕ} → length s ≡ n → n ≤ 320 → states ≡ statesOf mask set s → best ≡ bestIn states n
+  pub reasons-are : {states : States} {best : Best} {tie : Bool} {n : ℕ} → length s ≡ n → n ≤ 320 → states ≡ statesOf mask set s
+      → best ≡ bestIn states n
       → tie ≡ tieIn states best → record { states = states; winner = best .tool; tie = tie } ≡ reasonsOf mask set s
   unfolding reasonsOf
   reasons-are {states} {best} {tie} {n} l few e f g =
-      let b : best ≡ record { tool = winnerOf mask set s; octets = octetsWritten mask set s } = f ∙ rw (e, ← l) (best-written (omega arith)) in
+      let b : best ≡ record { tool = winnerOf mask set s; octets = octetsWritten mask set s } = f
+      ∙ rw (e, ← l) (best-written (omega arith)) in
       let t : tie ≡ anyOf (alsoNeeds mask set s) tools = g ∙ rw (b, e) tie-is in
       rw (t, b, e)
 
@@ -104,4 +111,15 @@ pub empty-reasons-are : (mask set : ℕ) → reasonsOf mask set [] ≡ emptyReas
 unfolding reasonsOf statesOf chosen
 empty-reasons-are mask set =
     let tie : anyOf (alsoNeeds mask set []) tools ≡ false = no-tie mask set (anyOf (alsoNeeds mask set []) tools) refl in
-    rw (tie, empty-state mask set 1, empty-state mask set 2, empty-state mask set 3, empty-state mask set 4, empty-state mask set 5, empty-state mask set 6, empty-state mask set 7, empty-state mask set 11)
+    rw (
+      tie,
+      empty-state mask set 1,
+      empty-state mask set 2,
+      empty-state mask set 3,
+      empty-state mask set 4,
+      empty-state
+          mask set 5,
+      empty-state mask set 6,
+      empty-state mask set 7,
+      empty-state mask set 11,
+    )

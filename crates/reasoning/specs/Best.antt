@@ -1,4 +1,5 @@
--- The winner and by what it won, from the states alone: what the steps of the code give. proofs/Winning holds them against reasons, specs/Why.
+-- The winner and by what it won, from the states alone: what the steps of the code give. proofs/Winning holds them against reasons,
+-- specs/Why.
 use Prim.Native.Nat.{ℕ, _+_}
 use mathlib.Core.List.{List}
 use mathlib.Core.Bool.{Bool, false, cond, not, _&&_, _||_}

@@ -1,7 +1,7 @@
 -- What an answer of R-10 promises, of the definitions alone.
 -- Main statements: `winner-written`, `fits-when`, `fits-only`, `out-when`, `out-only`, `no-only`, `alone-writes`, `tie-when`, `tie-only`,
 -- `empty-fails`, `as-writer`.
-use Prim.Native.Nat.{ℕ, zero, suc, _+_, _-_, _^_, _/_, _%_, _≤_, _<_}
+use Prim.Native.Nat.{ℕ, suc, _+_, _-_, _^_, _/_, _%_, _≤_}
 use native.Mathlib.Omega.{arith}
 use mathlib.Core.Path.{_≡_, refl, sym, ap, _∙_}
 use mathlib.Core.List.{List, [], _∷_, _++_}
@@ -9,22 +9,23 @@ use mathlib.Core.Bool.{Bool, true, false, cond, not, _&&_, _||_}
 use lib.ListN.{length, take, replicate}
 use lib.Dec.{eqb, leb, ltb}
 use lib.IntN.{pos, negsuc}
-use borrow.Author.Tests.{eq-eqb, ne-eqb, eqb-true, eqb-false, leb-true, le-ltb}
-use Rattle.rules.specs.declared.Refusal.{Refusal}
-use Rattle.rules.specs.declared.Refusal.the-variants.{Length, Set, Law, Room}
+use borrow.Author.Tests.{eq-eqb, ne-eqb, eqb-true, eqb-false, le-ltb}
+use Rattle.rules.specs.declared.Refusal.the-variants.{Length, Set, Law}
 use Rattle.rules.specs.Tools.{isTool, slotOf, holds, isWriterSet, isLaw, isLength}
 use Rattle.rules.specs.Bits.{octetsFor}
 use Rattle.rules.specs.Samples.{maskOf}
-use Rattle.rules.specs.Chooses.{applies, rowOf, zeroLeads, formOf, octetsOfForm, chosenTool, Written, chosen, Write, wrote, declined, writeOne}
+use Rattle.rules.specs.Chooses.{applies, rowOf, zeroLeads, formOf, octetsOfForm, chosenTool}
+use Rattle.rules.specs.Chooses.{Written, chosen, Write, wrote, declined, writeOne}
 use Rattle.rules.proofs.Tests.{and-left, and-right, by-tool}
 use Rattle.rules.proofs.Each.{or-right}
-use Rattle.rules.proofs.Chosen.{usable, Usable, chosen-usable}
+use Rattle.rules.proofs.Chosen.{chosen-usable}
 use Rattle.reasons.specs.declared.State.{State}
 use Rattle.reasons.specs.declared.State.the-variants.{Out, No, Fits}
 use Rattle.reasons.specs.declared.Reasons.{Reasons}
 use Rattle.reasons.specs.declared.Why.{Why}
 use Rattle.reasons.specs.declared.Why.the-variants.{Told, Refused}
-use Rattle.reasons.specs.Why.{locatedConditions, conditions, firstFailing, failing, stateOf, winnerOf, needs, octetsWritten, alsoNeeds, anyOf, tools, reasonsOf, whyOne}
+use Rattle.reasons.specs.Why.{locatedConditions, conditions, firstFailing, failing, stateOf, winnerOf, needs}
+use Rattle.reasons.specs.Why.{octetsWritten, alsoNeeds, anyOf, tools, reasonsOf, whyOne}
 
 -- no condition fails exactly where the tool applies
 all-five : (a b c d e : Bool) → eqb (firstFailing 1 (a ∷ b ∷ (c && d && e) ∷ [])) 0 ≡ (a && b && c && d && e)
@@ -43,7 +44,8 @@ just-one true = refl
 
 seven : (mask : ℕ) (s : List ℕ) → eqb (firstFailing 1 (locatedConditions mask s)) 0 ≡ applies mask 7 s
 unfolding applies
-seven mask s = all-five (leb 80 (length s)) (ltb (rowOf mask s) 4) (zeroLeads mask s (pos 1)) (zeroLeads mask s (negsuc 0)) (zeroLeads mask s (negsuc 1))
+seven mask s = all-five (leb 80 (length s)) (ltb (rowOf mask s) 4) (zeroLeads mask s (pos 1)) (zeroLeads mask s (negsuc 0))
+    (zeroLeads mask s (negsuc 1))
 
 by-seven : (mask : ℕ) (s : List ℕ) (t : ℕ) (b : Bool) → 1 ≤ length s → eqb t 7 ≡ b
     → eqb (firstFailing 1 (cond b (locatedConditions mask s) ((not (eqb (length s) 0) && applies mask t s) ∷ []))) 0 ≡ applies mask t s
@@ -129,15 +131,22 @@ unfolding firstFailing
 first-false k m [] e q = absurd (omega (arith, e))
 first-false k m (true ∷ cs) e q =
     let f = first-false (k + 1) m cs e q in
-    record { before = suc (f .before); after = f .after; stands = ap (λ (l : List Bool). true ∷ l) (f .stands); place = omega (arith, f .place) }
+    record {
+      before = suc (f .before);
+      after = f .after;
+      stands = ap (λ (l : List Bool). true ∷ l) (f .stands);
+      place = omega (arith, f .place);
+    }
 first-false k m (false ∷ cs) e q = record { before = 0; after = cs; stands = refl; place = omega (arith, e) }
 
-pub no-only : (mask set : ℕ) (s : List ℕ) (t m : ℕ) → stateOf mask set s t ≡ No m → (holds set t ≡ true) × (FirstFalse 1 (conditions mask s t) m)
+pub no-only : (mask set : ℕ) (s : List ℕ) (t m : ℕ) → stateOf mask set s t ≡ No m
+    → (holds set t ≡ true) × (FirstFalse 1 (conditions mask s t) m)
 unfolding stateOf
 no-only mask set s t m e = go (holds set t) (eqb (failing mask s t) 0) refl e
   where
     go : (h b : Bool) → eqb (failing mask s t) 0 ≡ b
-        → cond (not h) Out (cond b (Fits (octetsOfForm mask s t)) (No (failing mask s t))) ≡ No m → (h ≡ true) × (FirstFalse 1 (conditions mask s t) m)
+        → cond (not h) Out (cond b (Fits (octetsOfForm mask s t)) (No (failing mask s t))) ≡ No m
+        → (h ≡ true) × (FirstFalse 1 (conditions mask s t) m)
     go false b q e = let z : _≡_ {A = ℕ} 0 1 = cc in absurd (omega arith)
     go true true q e = let z : _≡_ {A = ℕ} 0 1 = cc in absurd (omega arith)
     go true false q e =
@@ -203,7 +212,8 @@ any-in p t (u ∷ ts) m e = go (eqb u t) refl m (λ m. any-in p t ts m e)
 among-tools : (set t : ℕ) → holds set t ≡ true → anyOf (λ u. eqb u t) tools ≡ true
 unfolding holds anyOf
 among-tools set t e =
-    by-tool (λ t. anyOf (λ u. eqb u t) tools ≡ true) refl refl refl refl refl refl refl refl t (and-left (isTool t) (eqb (set / 2 ^ slotOf t % 2) 1) e)
+    by-tool (λ t. anyOf (λ u. eqb u t) tools ≡ true) refl refl refl refl refl refl refl refl t
+    (and-left (isTool t) (eqb (set / 2 ^ slotOf t % 2) 1) e)
 
 needs-fits : (state : State) (n : ℕ) → needs state n ≡ true → state ≡ Fits n
 needs-fits Out n e = let z : _≡_ {A = ℕ} 0 1 = cc in absurd (omega arith)

@@ -1,17 +1,18 @@
 -- The lines read back as the answer: `lines-back`; so no two answers have the same lines: `lines-one`.
-use Prim.Native.Nat.{ℕ, _+_, _^_, _≤_, _<_}
+use Prim.Native.Nat.{ℕ, _+_, _^_, _<_}
 use native.Mathlib.Omega.{arith}
-use mathlib.Core.Path.{_≡_, refl, sym, ap, _∙_}
-use mathlib.Core.List.{List, [], _∷_, _++_, append-assoc}
+use mathlib.Core.Path.{_≡_, refl, sym, _∙_}
+use mathlib.Core.List.{List, [], _++_, append-assoc}
 use mathlib.Core.Bool.{Bool, true, false, cond}
 use lib.ListN.{length, drop}
-use Rattle.rules.specs.Listing.{decimal, field, lineEnd, octetsWord}
-use Rattle.keyvalue.specs.Reading.{Read, whole, none, Reader, andThen, _>>=_, give, begins, after, number}
-use Rattle.keyvalue.proofs.Exact.{Back, back-give, back-bind, back-last, back-after, back-number, passed, got-value}
+use Rattle.rules.specs.Listing.{field, lineEnd, octetsWord}
+use Rattle.keyvalue.specs.Reading.{Reader, _>>=_, give, begins, after, number}
+use Rattle.keyvalue.proofs.Exact.{Back, back-give, back-bind, back-after, back-number, passed, got-value}
 use Rattle.reasons.specs.declared.State.{State}
 use Rattle.reasons.specs.declared.State.the-variants.{Out, No, Fits}
 use Rattle.reasons.specs.declared.Reasons.{Reasons}
-use Rattle.reasons.specs.Lines.{toolKey, stateKey, whyKey, winnerKey, byKey, outWord, noWord, fitsWord, byOctets, byTie, fieldsLine, toolLine, byWord, winnerLine, linesOf}
+use Rattle.reasons.specs.Lines.{toolKey, stateKey, whyKey, winnerKey, byKey, outWord, noWord}
+use Rattle.reasons.specs.Lines.{fitsWord, byOctets, byTie, fieldsLine, toolLine, winnerLine, linesOf}
 
 -- a word and then p, or else q
 abbrev pub wordOr : {A : Type 0} → List ℕ → Reader A → Reader A → Reader A
@@ -24,7 +25,8 @@ back-word word p q {w} {v} b = record {
       rw (k .0) (k .1);
 }
 
-back-else : {A : Type 0} (word : List ℕ) (p q : Reader A) {w : List ℕ} {v : A} → ((rest : List ℕ) → begins word (w ++ rest) ≡ false) → Back q w v
+back-else : {A : Type 0} (word : List ℕ) (p q : Reader A) {w : List ℕ} {v : A} → ((rest : List ℕ) → begins word (w ++ rest) ≡ false)
+    → Back q w v
     → Back (wordOr word p q) w v
 back-else word p q {w} {v} not-word b = record { reads = λ text i rest e. rw (e, not-word rest) (b .reads text i rest e) }
 
@@ -35,7 +37,8 @@ tailIn f = after whyKey (number >>= λ why. after octetsWord (number >>= λ octe
 tail-back : (f : ℕ → ℕ → State) (why octets : ℕ) → why < 10 ^ 20 → octets < 10 ^ 20
     → Back (tailIn f) (field whyKey why ++ (field octetsWord octets ++ lineEnd)) (f why octets)
 tail-back f why octets h k =
-    back-after whyKey _ (back-number _ why 32 h refl (back-after octetsWord _ (back-number _ octets 10 k refl (back-after lineEnd _ (back-give (f why octets))))))
+    back-after whyKey _ (back-number _ why 32 h refl
+    (back-after octetsWord _ (back-number _ octets 10 k refl (back-after lineEnd _ (back-give (f why octets))))))
 
 -- "state out, no or fits"
 abbrev outIn : Reader State
@@ -63,12 +66,14 @@ rest (Fits octets) = fitsWord ++ (field whyKey 0 ++ (field octetsWord octets ++ 
 
 state-back : (state : State) → Short state → Back stateIn (rest state) state
 unfolding begins
-state-back Out h = back-word outWord outIn (wordOr noWord noIn (after fitsWord fitsIn)) (tail-back (λ why octets. Out) 0 0 (omega arith) (omega arith))
+state-back Out h = back-word outWord outIn (wordOr noWord noIn (after fitsWord fitsIn))
+    (tail-back (λ why octets. Out) 0 0 (omega arith) (omega arith))
 state-back (No why) h =
     back-else outWord outIn (wordOr noWord noIn (after fitsWord fitsIn)) (λ rest. refl)
     (back-word noWord noIn (after fitsWord fitsIn) (tail-back (λ why octets. No why) why 0 (omega arith) (omega arith)))
 state-back (Fits octets) h =
-    back-else outWord outIn (wordOr noWord noIn (after fitsWord fitsIn)) (λ rest. refl) (back-else noWord noIn (after fitsWord fitsIn) (λ rest. refl)
+    back-else outWord outIn (wordOr noWord noIn (after fitsWord fitsIn)) (λ rest. refl)
+    (back-else noWord noIn (after fitsWord fitsIn) (λ rest. refl)
     (back-after fitsWord fitsIn (tail-back (λ why octets. Fits octets) 0 octets (omega arith) (omega arith))))
 
 -- a tool's line
@@ -86,13 +91,18 @@ abbrev pub winnerIn : {A : Type 0} → (ℕ → Bool → A) → Reader A
 winnerIn f = after winnerKey (number >>= λ winner.
     after byKey (wordOr (byTie ++ lineEnd) (give (f winner true)) (after (byOctets ++ lineEnd) (give (f winner false)))))
 
-winner-back : {A : Type 0} (f : ℕ → Bool → A) (winner : ℕ) (tie : Bool) → winner < 10 ^ 20 → Back (winnerIn f) (winnerLine winner tie) (f winner tie)
+winner-back : {A : Type 0} (f : ℕ → Bool → A) (winner : ℕ) (tie : Bool) → winner < 10 ^ 20
+    → Back (winnerIn f) (winnerLine winner tie) (f winner tie)
 unfolding winnerLine begins
 winner-back f winner true h =
-    back-after winnerKey _ (back-number _ winner 32 h refl (back-after byKey _ (back-word (byTie ++ lineEnd) (give (f winner true)) (after (byOctets ++ lineEnd) (give (f winner false))) (back-give (f winner true)))))
+    back-after winnerKey _
+    (back-number _ winner 32 h refl
+    (back-after byKey _ (back-word (byTie ++ lineEnd) (give (f winner true)) (after (byOctets ++ lineEnd) (give (f winner false)))
+    (back-give (f winner true)))))
 winner-back f winner false h =
     back-after winnerKey _ (back-number _ winner 32 h refl (back-after byKey _
-    (back-else (byTie ++ lineEnd) (give (f winner true)) (after (byOctets ++ lineEnd) (give (f winner false))) (λ rest. refl) (back-after (byOctets ++ lineEnd) _ (back-give (f winner false))))))
+    (back-else (byTie ++ lineEnd) (give (f winner true)) (after (byOctets ++ lineEnd) (give (f winner false))) (λ rest. refl)
+    (back-after (byOctets ++ lineEnd) _ (back-give (f winner false))))))
 
 abbrev pub reasonsBy : State → State → State → State → State → State → State → State → ℕ → Bool → Reasons
 reasonsBy uncompressed plus minus constant binary rice located fractional winner tie =
@@ -146,7 +156,8 @@ lines-back r h =
     (back-bind (toolIn 6) _ (tool-back 6 (r .states .rice) (h .rice))
     (back-bind (toolIn 7) _ (tool-back 7 (r .states .located) (h .located))
     (back-bind (toolIn 11) _ (tool-back 11 (r .states .fractional) (h .fractional))
-    (winner-back (reasonsBy (r .states .uncompressed) (r .states .plus) (r .states .minus) (r .states .constant) (r .states .binary) (r .states .rice) (r .states .located)
+    (winner-back (reasonsBy (r .states .uncompressed) (r .states .plus) (r .states .minus) (r .states .constant)
+    (r .states .binary) (r .states .rice) (r .states .located)
     (r .states .fractional)) (r .winner) (r .tie) (omega (arith, h .winner)))))))))))
 
 -- no two answers have the same lines

@@ -1,5 +1,5 @@
--- Document 02, R-10: "Lines are like `tool=6 state=fits why=0 octets=2` (state out, no or fits; why 0 except for no, octets 0 except for fits)
--- and last `winner=6 by=octets`, or by=tie". Every line ends in octet 0A.
+-- Document 02, R-10: "Lines are like `tool=6 state=fits why=0 octets=2` (state out, no or fits; why 0 except for no, octets 0 except for
+-- fits) and last `winner=6 by=octets`, or by=tie". Every line ends in octet 0A.
 use Prim.Native.Nat.{ℕ}
 use mathlib.Core.List.{List, [], _∷_, _++_}
 use mathlib.Core.Bool.{Bool, cond}

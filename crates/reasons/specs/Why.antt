@@ -4,7 +4,7 @@
 -- Document 01's own words, what applies, the forms and the choice, stand in rules, specs/Chooses.
 use Prim.Native.Nat.{ℕ, _+_}
 use mathlib.Core.List.{List, [], _∷_}
-use mathlib.Core.Bool.{Bool, true, false, cond, not, _&&_, _||_}
+use mathlib.Core.Bool.{Bool, false, cond, not, _&&_, _||_}
 use lib.ListN.{length, take}
 use lib.Dec.{eqb, leb, ltb}
 use lib.IntN.{pos, negsuc}
@@ -13,7 +13,7 @@ use Rattle.rules.specs.Refusals.{judged}
 use Rattle.rules.specs.Tools.{holds, isLength, writerAsks}
 use Rattle.rules.specs.Bits.{octetsFor}
 use Rattle.rules.specs.Samples.{maskOf}
-use Rattle.rules.specs.Chooses.{applies, rowOf, zeroLeads, octetsOfForm, Written, chosen}
+use Rattle.rules.specs.Chooses.{applies, rowOf, zeroLeads, octetsOfForm, chosen}
 use Rattle.reasons.specs.declared.State.{State}
 use Rattle.reasons.specs.declared.State.the-variants.{Out, No, Fits}
 use Rattle.reasons.specs.declared.States.{States}

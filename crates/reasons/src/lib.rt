@@ -1,8 +1,6 @@
 // Why the writer takes the tool that it takes (document 02, R-10): the answer as a struct, and its lines.
-ghost use Prim.Native.Nat.{_+_, _≤_, _<_};
-ghost use mathlib.Core.List.{_++_};
-ghost use lib.ListN.{length, drop};
-ghost use mathlib.Core.Path.{_≡_};
+ghost use Prim.Native.Nat.{_+_, _≤_};
+ghost use lib.ListN.{length};
 ghost use Rattle.rules.specs.Listing.{field};
 ghost use Rattle.lines.specs.Puts.{Puts};
 ghost use Rattle.reasons.specs.Lines.{fieldsLine, toolLine, byWord, winnerLine, firstLines, laterLines, linesOf};

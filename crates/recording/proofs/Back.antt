@@ -5,10 +5,10 @@ use Prim.Native.Nat.{ℕ, zero, suc, _+_, _*_, _-_, _≤_, _<_}
 use native.Mathlib.Omega.{arith}
 use mathlib.Core.Path.{_≡_, refl, sym, ap, _∙_}
 use mathlib.Core.List.{List, [], _∷_, _++_, map, append-assoc}
-use mathlib.Core.Bool.{Bool, true, false, cond, not}
+use mathlib.Core.Bool.{Bool, true, false, cond}
 use lib.ListN.{length, getD, drop, replicate, length-append, length-replicate}
-use lib.Seq.{drop-append-seam, getD-append-add}
-use lib.Dec.{eqb, lit<}
+use lib.Seq.{drop-append-seam}
+use lib.Dec.{lit<}
 use lib.IntN.{pos}
 use borrow.Author.Tests.{ne-eqb, lt-leb, le-leb, leb-true}
 use Rattle.keyvalue.specs.Reading.{begins}
@@ -25,7 +25,7 @@ use Rattle.rules.proofs.Tests.{by-length}
 use Rattle.promises.proofs.Written.{Frames, full, chosen-back, chosen-short, tool-held}
 use Rattle.recording.specs.declared.Ending.the-variants.{Done}
 use Rattle.recording.specs.Remembered.{heading, headed, headingOf, lostOctet, plusPlus, erased}
-use Rattle.recording.specs.Items.{Item, sound, lost, Recorded, stopped, before, itemOf, roomTaken, itemsFrom, File, readFile}
+use Rattle.recording.specs.Items.{Item, sound, lost, before, itemOf, roomTaken, itemsFrom, readFile}
 use Rattle.recording.specs.Files.{Entry, frame, loss, entryOctets, entriesOctets}
 use Rattle.recording.proofs.Marks.{never-lost, erased-loss}
 
@@ -69,7 +69,8 @@ roomForAll (p ∷ ps) = roomFor (p .entry) + roomForAll ps
 
 -- what a writer takes: a frame, or a loss of one of the lengths, with a set that is within the reader's
 pub data May (reader : ℕ) : Piece → Type 0 where
-  frames : {set : ℕ} {s : List ℕ} → isWriterSet set ≡ true → Within set reader → Frames s → May reader (record { set = set; entry = frame s })
+  frames : {set : ℕ} {s : List ℕ} → isWriterSet set ≡ true → Within set reader → Frames s
+      → May reader (record { set = set; entry = frame s })
   unknown : {set : ℕ} → May reader (record { set = set; entry = loss 0 })
   losses : {set n : ℕ} → isWriterSet set ≡ true → Within set reader → isLength n ≡ true → May reader (record { set = set; entry = loss n })
 
@@ -92,22 +93,26 @@ unfolding itemsFrom
 frame-at octets law set at room {f} l s h e u k = record {
   some = u;
   inside = k;
-  steps = λ fuel places p. rw (lt-leb (length octets) at h, ne-eqb places 0 (omega arith), never-lost octets law set at room l s h e, e) refl;
+  steps = λ fuel places p.
+      rw (lt-leb (length octets) at h, ne-eqb places 0 (omega arith), never-lost octets law set at room l s h e, e) refl;
 }
 
 -- the octet 01
-pub lost-at : (octets : List ℕ) (law set at room : ℕ) → at < length octets → getD octets at 0 ≡ lostOctet → ItemAt octets law set at room (lost 0) 1 0
+pub lost-at : (octets : List ℕ) (law set at room : ℕ) → at < length octets → getD octets at 0 ≡ lostOctet
+    → ItemAt octets law set at room (lost 0) 1 0
 unfolding itemsFrom
 lost-at octets law set at room h e = record {
   some = omega arith;
   inside = omega arith;
-  steps = λ fuel places p. let z : room - 0 ≡ room = omega arith in rw (z, lt-leb (length octets) at h, ne-eqb places 0 (omega arith), e) refl;
+  steps = λ fuel places p. let z : room - 0 ≡ room = omega arith in
+      rw (z, lt-leb (length octets) at h, ne-eqb places 0 (omega arith), e) refl;
 }
 
 -- samples written with a set, after `pre`
 written-at : (law set reader room : ℕ) (pre more : List ℕ) {s : List ℕ} → isLaw law ≡ true → isSet reader ≡ true
     → isWriterSet set ≡ true → Within set reader → Frames s → length s ≤ room
-    → ItemAt (pre ++ (pack (chosen (maskOf law) set s .bits) ++ more)) law reader (length pre) room (itemOf (maskOf law) (foundFor (maskOf law) set s))
+    → ItemAt (pre ++ (pack (chosen (maskOf law) set s .bits) ++ more)) law reader (length pre) room
+    (itemOf (maskOf law) (foundFor (maskOf law) set s))
     (length (pack (chosen (maskOf law) set s .bits))) (roomTaken (maskOf law) (foundFor (maskOf law) set s))
 written-at law set reader room pre more {s} l e o w f r =
     let mask = maskOf law in
@@ -117,21 +122,25 @@ written-at law set reader room pre more {s} l e o w f r =
     let size = length-append pre (o′ ++ more) in
     let size′ = length-append o′ more in
     let used : octetsUsed (foundFor mask set s) ≡ length o′ = sym (length-pack (chosen mask set s .bits)) in
-    let first : readOne (drop (length pre) all) law reader room ≡ whole (foundFor mask set s) (8 * octetsFor (length (chosen mask set s .bits)))
+    let first : readOne (drop (length pre) all) law reader room ≡ whole (foundFor mask set s)
+    (8 * octetsFor (length (chosen mask set s .bits)))
     = rw (drop-append-seam pre (o′ ++ more))
     (chosen-back law set l o f reader room more e (λ h. w .also (chosen mask set s .tool) (tool-held mask set o f h)) r) in
     rw used at (frame-at all law reader (length pre) room l e (omega arith) first (omega arith) (omega arith))
 
 loss-frames : (law n : ℕ) → isLength n ≡ true → Frames (replicate n (plusPlus (maskOf law)))
 loss-frames law n h =
-    full {s = replicate n (plusPlus (maskOf law))} (rw (length-replicate n (plusPlus (maskOf law))) h) (below-replicate n (law-mask law .octet (pos 1) (lit< tt)))
+    full {s = replicate n (plusPlus (maskOf law))} (rw (length-replicate n (plusPlus (maskOf law))) h)
+    (below-replicate n (law-mask law .octet (pos 1) (lit< tt)))
 
 some-samples : (n : ℕ) → isLength n ≡ true → 1 ≤ n
 some-samples n l = by-length (λ n. 1 ≤ n) (omega arith) (omega arith) (omega arith) (omega arith) (omega arith) n l
 
 -- a piece that stands in a file, after `pre`
-piece-at : (law reader room : ℕ) (pre more : List ℕ) {p : Piece} → isLaw law ≡ true → isSet reader ≡ true → May reader p → roomFor (p .entry) ≤ room
-    → ItemAt (pre ++ (pieceOctets (maskOf law) p ++ more)) law reader (length pre) room (pieceRead (maskOf law) p) (length (pieceOctets (maskOf law) p))
+piece-at : (law reader room : ℕ) (pre more : List ℕ) {p : Piece} → isLaw law ≡ true → isSet reader ≡ true → May reader p
+    → roomFor (p .entry) ≤ room
+    → ItemAt (pre ++ (pieceOctets (maskOf law) p ++ more)) law reader (length pre) room (pieceRead (maskOf law) p)
+    (length (pieceOctets (maskOf law) p))
     (roomTakenBy (maskOf law) (p .entry))
 piece-at law reader room pre more l e (frames {set = set} o w f) r = written-at law set reader room pre more l e o w f r
 piece-at law reader room pre more l e (unknown {set = set}) r =
@@ -163,7 +172,8 @@ taken-le mask (frame s) = go (erased mask s)
     go true = omega arith
     go false = omega arith
 
-items-back : (law reader : ℕ) → isLaw law ≡ true → isSet reader ≡ true → (pre : List ℕ) (fuel at room places : ℕ) {ps : List Piece} → All reader ps
+items-back : (law reader : ℕ) → isLaw law ≡ true → isSet reader ≡ true → (pre : List ℕ) (fuel at room places : ℕ) {ps : List Piece}
+    → All reader ps
     → at ≡ length pre → length (piecesOctets (maskOf law) ps) < fuel → roomForAll ps ≤ room → length ps ≤ places
     → itemsFrom fuel (pre ++ piecesOctets (maskOf law) ps) law reader at room places
     ≡ record { items = piecesRead (maskOf law) ps; end = Done; place = at + length (piecesOctets (maskOf law) ps); bit = 0 }
@@ -179,7 +189,8 @@ items-back law reader l e pre (suc fuel) at room places (then {p = p} {ps = ps} 
     let i = piece-at law reader room pre rest l e m (omega arith) in
     let size = length-append o rest in
     let some = i .some in
-    let on = items-back law reader l e (pre ++ o) fuel (at + length o) (room - roomTakenBy mask (p .entry)) (places - 1) t (omega (arith, length-append pre o))
+    let on = items-back law reader l e (pre ++ o) fuel (at + length o) (room - roomTakenBy mask (p .entry)) (places - 1)
+    t (omega (arith, length-append pre o))
     (omega arith) (omega (arith, taken-le mask (p .entry))) (omega arith) in
     let place : at + length (o ++ rest) ≡ at + length o + length rest = omega arith in
     rw (place) (rw (← q) at (i .steps fuel places (omega arith)) ∙ ap (before (pieceRead mask p)) (rw (append-assoc pre o rest) at on))
@@ -196,14 +207,18 @@ begins-heading (suc (suc law)) more l = absurd (omega (arith, leb-true (suc (suc
 pub file-back : (law reader room places : ℕ) (ps : List Piece) → isLaw law ≡ true → isSet reader ≡ true → All reader ps
     → length (piecesOctets (maskOf law) ps) ≤ longest → roomForAll ps ≤ room → length ps ≤ places
     → readFile (headingOf law ++ piecesOctets (maskOf law) ps) reader room places
-    ≡ record { law = law; read = record { items = piecesRead (maskOf law) ps; end = Done; place = length (piecesOctets (maskOf law) ps); bit = 0 } }
+    ≡ record {
+      law = law;
+      read = record { items = piecesRead (maskOf law) ps; end = Done; place = length (piecesOctets (maskOf law) ps); bit = 0 };
+    }
 unfolding readFile
 file-back law reader room places ps l e a h r k =
     let more = piecesOctets (maskOf law) ps in
     let size : length (headingOf law ++ more) - 10 ≡ length more = omega arith in
     let z : 0 + length more ≡ length more = omega arith in
     rw (e, begins-heading law more l, size, le-leb (length more) longest h)
-    (ap (λ read. record { law = law; read = read }) (rw z at (items-back law reader l e [] (suc (length more)) 0 room places a refl (omega arith) r k)))
+    (ap (λ read. record { law = law; read = read })
+    (rw z at (items-back law reader l e [] (suc (length more)) 0 room places a refl (omega arith) r k)))
 
 -- what one call writes: all its entries with one set
 abbrev pub pieceWith : ℕ → Entry → Piece

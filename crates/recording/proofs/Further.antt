@@ -1,6 +1,6 @@
 -- "looks no further": what is not SHORT stays, whatever follows.
 --   items-further: of items.       files-further: of a whole file.
-use Prim.Native.Nat.{ℕ, zero, suc, _+_, _-_, _≤_, _<_}
+use Prim.Native.Nat.{ℕ, zero, suc, _+_, _-_, _≤_}
 use native.Mathlib.Omega.{arith}
 use mathlib.Core.Path.{_≡_, refl, sym, ap, _∙_}
 use mathlib.Core.List.{List, [], _∷_, _++_}
@@ -43,7 +43,8 @@ clean-test w true b′ at g h s = never-done s
 clean-test w false b′ at g h s = rw (g refl) (h refl s)
 
 -- a test that both make
-same-test : (w : refusal.Refusal) (b : Bool) (x : Recorded) {u v : Recorded} → (Stands w u → v ≡ u) → Stands w (cond b x u) → cond b x v ≡ cond b x u
+same-test : (w : refusal.Refusal) (b : Bool) (x : Recorded) {u v : Recorded} → (Stands w u → v ≡ u) → Stands w (cond b x u)
+    → cond b x v ≡ cond b x u
 same-test w true x h s = refl
 same-test w false x h s = h s
 
@@ -133,7 +134,8 @@ after-heading octets more set room places w h n law s =
     let long : leb (length (octets ++ more) - headingLength) longest ≡ true = le-leb (length (octets ++ more) - headingLength) longest n in
     rw (long, short, drop-append-le headingLength octets more h)
     (ap (λ read. record { law = law; read = read })
-    (items-further (suc (length octets - headingLength)) (suc (length (octets ++ more) - headingLength)) (drop headingLength octets) more law set 0
+    (items-further (suc (length octets - headingLength)) (suc (length (octets ++ more) - headingLength)) (drop headingLength octets)
+    more law set 0
     room places w (omega arith) (rw short at s)))
 
 -- of a whole file, whose heading is there and which does not become LONG

@@ -1,22 +1,20 @@
 -- "HEAD (14) for a wrong or cut heading": exactly where the first ten octets are neither heading (`head-is`, `head-only`), for every set
 -- that is one; "after SET": another set is told first (`set-first`).
-use Prim.Native.Nat.{ℕ, zero, suc, _-_}
+use Prim.Native.Nat.{ℕ, _-_}
 use native.Mathlib.Omega.{arith}
-use mathlib.Core.Path.{_≡_, refl, sym, ap, _∙_}
-use mathlib.Core.List.{List, [], _∷_, _++_}
-use mathlib.Core.Bool.{Bool, true, false, cond, not, _&&_}
-use lib.ListN.{length, take, drop}
-use lib.Dec.{eqb, leb}
+use mathlib.Core.Path.{_≡_, refl, sym}
+use mathlib.Core.List.{List, [], _∷_}
+use mathlib.Core.Bool.{Bool, true, false, cond}
+use lib.ListN.{length, take}
+use lib.Dec.{eqb}
 use borrow.Author.Tests.{eq-eqb, eqb-true}
 use Rattle.rules.specs.Tools.{isSet}
 use Rattle.rules.specs.declared.Refusal.the-variants as rules
-use Rattle.rules.specs.Walk.{longest}
 use Rattle.rules.proofs.Tests.{and-left, and-right}
 use Rattle.keyvalue.specs.Reading.{begins}
 use Rattle.recording.specs.declared.Refusal.the-variants.{Head, Frame}
-use Rattle.recording.specs.declared.Ending.the-variants.{Refused}
 use Rattle.recording.specs.Remembered.{heading, noHeading, headingOf, headingLength, headed}
-use Rattle.recording.specs.Items.{itemsFrom, nothing, byHeading, readFile}
+use Rattle.recording.specs.Items.{nothing, readFile}
 
 -- a text begins with a word exactly where its first octets are the word
 begins-is : (word text : List ℕ) → take (length word) text ≡ word → begins word text ≡ true

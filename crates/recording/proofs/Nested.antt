@@ -1,8 +1,8 @@
 -- Demand 3 of files: of two readers, one's tools within the other's, the smaller delivers the same items and ends alike, unless it meets a
 -- frame whose tool it lacks: there it stops, and the larger has every item before that place the same (`files-nest`).
 use Prim.Native.Nat.{ℕ, zero, suc, _+_, _-_}
-use mathlib.Core.Path.{_≡_, refl, ap, _∙_}
-use mathlib.Core.List.{List, [], _∷_, _++_}
+use mathlib.Core.Path.{_≡_, refl, ap}
+use mathlib.Core.List.{List, _∷_, _++_}
 use mathlib.Core.Bool.{Bool, true, false, cond, not}
 use lib.ListN.{length, getD, drop}
 use lib.Dec.{eqb, leb}
@@ -16,19 +16,22 @@ use Rattle.rules.specs.Walk.{longest}
 use Rattle.recording.specs.declared.Refusal.the-variants.{Head, Frame}
 use Rattle.recording.specs.declared.Ending.the-variants.{Done, Refused}
 use Rattle.recording.specs.Remembered.{Headed, heading, noHeading, headed, headingLength, lostOctet}
-use Rattle.recording.specs.Items.{Item, lost, Recorded, stopped, before, itemOf, roomTaken, afterRead, itemsFrom, File, nothing, byHeading, readFile}
+use Rattle.recording.specs.Items.{Item, lost, Recorded, stopped, before, itemOf, roomTaken}
+use Rattle.recording.specs.Items.{afterRead, itemsFrom, File, nothing, byHeading, readFile}
 
 -- the reading by the smaller set, beside that by the larger
 pub data Nest (small : ℕ) (w v : Recorded) : Type 0 where
   alike : w ≡ v → Nest small w v
-  ends : (t : ℕ) (rest : List Item) → w .end ≡ Refused (Frame (rules.Tool t)) → holds small t ≡ false → v .items ≡ w .items ++ rest → Nest small w v
+  ends : (t : ℕ) (rest : List Item) → w .end ≡ Refused (Frame (rules.Tool t)) → holds small t ≡ false → v .items ≡ w .items ++ rest
+      → Nest small w v
 
 item-before : (small : ℕ) (i : Item) {w v : Recorded} → Nest small w v → Nest small (before i w) (before i v)
 item-before small i (alike e) = alike (ap (before i) e)
 item-before small i (ends t rest e h k) = ends t rest e h (ap (λ l. i ∷ l) k)
 
 -- after one frame, read by both
-after-nest : (small at : ℕ) (m m′ : Read Found) (next next′ : Found → Recorded) → nesting.Nests small m m′ → ((f : Found) → Nest small (next f) (next′ f))
+after-nest : (small at : ℕ) (m m′ : Read Found) (next next′ : Found → Recorded) → nesting.Nests small m m′
+    → ((f : Found) → Nest small (next f) (next′ f))
     → Nest small (afterRead m at next) (afterRead m′ at next′)
 after-nest small at m m′ next next′ (nesting.alike e) h = rw (← e) (each m)
   where
@@ -85,4 +88,8 @@ unfolding readFile
 files-nest octets a b room places s t n =
     rw (s, t) (heading-nest a (headed octets) (nothing Head 0) (λ law.
     test-files a (not (leb (length octets - headingLength) longest)) (nothing (Frame rules.Long) law)
-    (record { law = refl {a = law}; read = items-nest (suc (length octets - headingLength)) (drop headingLength octets) law a b 0 room places s t n })))
+    (record {
+      law = refl {a = law};
+      read = items-nest (suc (length octets - headingLength)) (drop headingLength octets)
+          law a b 0 room places s t n;
+    })))

@@ -4,8 +4,8 @@
 use Prim.Native.Nat.{ℕ, zero, suc, _+_, _*_, _-_, _≤_, _<_}
 use native.Mathlib.Omega.{arith}
 use mathlib.Core.Path.{_≡_, refl, sym, ap, _∙_}
-use mathlib.Core.List.{List, [], _∷_, map}
-use mathlib.Core.Bool.{Bool, true, false, cond, _||_}
+use mathlib.Core.List.{List, map}
+use mathlib.Core.Bool.{Bool, true, false, cond}
 use lib.ListN.{length, getD, drop}
 use lib.Dec.{eqb, leb}
 use borrow.Author.Tests.{ne-eqb, eqb-true, leb-false}
@@ -61,9 +61,11 @@ taken-most : (mask : ℕ) (s : List ℕ) (b : Bool) → length s ≤ 320 → con
 taken-most mask s true h = omega arith
 taken-most mask s false h = h
 
-samples-most : (octets : List ℕ) (law set room : ℕ) {f : Found} {j : ℕ} → readOne octets law set room ≡ whole f j → length (f .samples) ≤ 320
+samples-most : (octets : List ℕ) (law set room : ℕ) {f : Found} {j : ℕ} → readOne octets law set room ≡ whole f j
+    → length (f .samples) ≤ 320
 samples-most octets law set room {f} e =
-    or-cases (length (f .samples) ≤ 320) (eqb (length (f .samples)) 0) (isLength (length (f .samples))) (read-accepts octets law set room e .size)
+    or-cases (length (f .samples) ≤ 320) (eqb (length (f .samples)) 0) (isLength (length (f .samples)))
+    (read-accepts octets law set room e .size)
     (λ z. omega (arith, eqb-true (length (f .samples)) 0 z)) (λ l. length-most (length (f .samples)) l)
 
 pub items-of-walk : (fuel : ℕ) (octets : List ℕ) (law set at room room′ places : ℕ) → isLaw law ≡ true → isSet set ≡ true
@@ -78,7 +80,8 @@ items-of-walk (suc fuel) octets law set at room room′ places l s r r′ p n =
   where
     Later : Type 0
     Later = (f : Found) → at < at + octetsUsed f
-        → Enough octets (at + octetsUsed f) (room - length (f .samples)) → Enough octets (at + octetsUsed f) (room′ - roomTaken (maskOf law) f)
+        → Enough octets (at + octetsUsed f) (room - length (f .samples))
+        → Enough octets (at + octetsUsed f) (room′ - roomTaken (maskOf law) f)
         → length octets - (at + octetsUsed f) ≤ places - 1
         → (getD octets (walk.walkFrom fuel octets law set (at + octetsUsed f) (room - length (f .samples)) .place) 0 ≡ lostOctet → ⊥)
         → itemsFrom fuel octets law set (at + octetsUsed f) (room′ - roomTaken (maskOf law) f) (places - 1)
@@ -86,7 +89,8 @@ items-of-walk (suc fuel) octets law set at room room′ places l s r r′ p n =
 
     one : (m : Read Found) → readOne (drop at octets) law set room ≡ m → readOne (drop at octets) law set room′ ≡ m → at < length octets
         → (getD octets (walk.onward m (walkNext fuel octets law set at room) (walkStop at) .place) 0 ≡ lostOctet → ⊥) → Later
-        → cond (eqb (getD octets at 0) lostOctet) (afterLost fuel octets law set at room′ places) (afterRead m at (itemNext fuel octets law set at room′ places))
+        → cond (eqb (getD octets at 0) lostOctet) (afterLost fuel octets law set at room′ places)
+        (afterRead m at (itemNext fuel octets law set at room′ places))
         ≡ recordedOf (maskOf law) (walk.onward m (walkNext fuel octets law set at room) (walkStop at))
     one (whole f j) e e′ h n later =
         let u = uses octets law set at room h e in
@@ -97,7 +101,8 @@ items-of-walk (suc fuel) octets law set at room room′ places l s r r′ p n =
     one (refuse w bit) e e′ h n later = rw (ne-eqb (getD octets at 0) lostOctet n) refl
 
     start : (b : Bool) → leb (length octets) at ≡ b
-        → (getD octets (cond b (walk.stopped rules.Done at 0) (walk.onward (readOne (drop at octets) law set room) (walkNext fuel octets law set at room) (walkStop at)) .place) 0
+        → (getD octets (cond b (walk.stopped rules.Done at 0)
+        (walk.onward (readOne (drop at octets) law set room) (walkNext fuel octets law set at room) (walkStop at)) .place) 0
         ≡ lostOctet → ⊥) → Later
         → cond b (stopped Done at 0) (cond (eqb places 0) (stopped (Refused (Frame ruleRoom.Room)) at 0)
         (cond (eqb (getD octets at 0) lostOctet) (afterLost fuel octets law set at room′ places)

@@ -59,7 +59,8 @@ pub data Filed : Type 0 where
 
 abbrev pub sized : List ℕ → ℕ → ℕ → Filed
 sized octets after room =
-    cond (not (leb after longest)) (declined (Frame rules.Long)) (cond (ltb room (length octets)) (declined (Frame rules.Room)) (filed octets))
+    cond (not (leb after longest)) (declined (Frame rules.Long))
+    (cond (ltb room (length octets)) (declined (Frame rules.Room)) (filed octets))
 
 abbrev pub fileGiven : ℕ → ℕ → Given → ℕ → Filed
 fileGiven law set wrong room = declined (Frame rules.Length)

@@ -1,5 +1,5 @@
--- Document 02, R-1: a file read. "heading with version and law, frames, and the RFC's mark for a lost frame"; "A lost frame is handed on
--- as lost, never as silence"; "LONG count[s] from the end of the heading"; "HEAD (14) for a wrong or cut heading, after SET and before LONG".
+-- Document 02, R-1: a file read. "heading with version and law, frames, and the RFC's mark for a lost frame"; "A lost frame is handed on as
+-- lost, never as silence"; "LONG count[s] from the end of the heading"; "HEAD (14) for a wrong or cut heading, after SET and before LONG".
 use Prim.Native.Nat.{ℕ, zero, suc, _+_, _-_}
 use mathlib.Core.List.{List, [], _∷_, _++_}
 use mathlib.Core.Bool.{cond, not}

@@ -1,13 +1,13 @@
 -- A row is told by its key.
-use Prim.Native.Nat.{ℕ, zero, suc, _+_, _*_, _-_, _≤_, _<_}
+use Prim.Native.Nat.{ℕ, suc, _+_, _*_, _-_, _≤_, _<_}
 use mathlib.Core.Path.{_≡_, refl, sym, ap, _∙_}
 use mathlib.Core.List.{List, [], _∷_}
-use mathlib.Core.Bool.{Bool, true, false, cond, not, _&&_}
+use mathlib.Core.Bool.{Bool, true, false, cond, _&&_}
 use native.Mathlib.Omega.{arith}
 use borrow.Author.Tests.{eqb-true, eq-eqb, ltb-true}
 use lib.Dec.{eqb, ltb}
 use lib.ListN.{getD}
-use Rattle.rules.proofs.Tests.{and-left, and-right, allBelow, allBelow-at}
+use Rattle.rules.proofs.Tests.{and-left, and-right, allBelow-at}
 use Rattle.rules.specs.Fractional.{valuesAt, leastAt, greatestAt, minusAt}
 use Rattle.rules.specs.Chooses.{sameTest, isRowOf, rowFrom}
 use Rattle.reducing.specs.Keys.{keyOf, rowKey}
@@ -23,7 +23,8 @@ greatest-small : (k : ℕ) → k < 12 → greatestAt k < 256
 unfolding valuesAt
 greatest-small k h = ltb-true (greatestAt k) 256 (allBelow-at (λ k. ltb (greatestAt k) 256) 12 refl k h)
 
-told : (l g : ℕ) (m : Bool) (l′ g′ : ℕ) (m′ : Bool) → g < 256 → g′ < 256 → keyOf l g m ≡ keyOf l′ g′ m′ → eqb l l′ && eqb g g′ && sameTest m m′ ≡ true
+told : (l g : ℕ) (m : Bool) (l′ g′ : ℕ) (m′ : Bool) → g < 256 → g′ < 256 → keyOf l g m ≡ keyOf l′ g′ m′
+    → eqb l l′ && eqb g g′ && sameTest m m′ ≡ true
 told l g true l′ g′ true h k e = let x : l ≡ l′ = omega arith in let y : g ≡ g′ = omega arith in rw (eq-eqb l l′ x, eq-eqb g g′ y)
 told l g false l′ g′ false h k e = let x : l ≡ l′ = omega arith in let y : g ≡ g′ = omega arith in rw (eq-eqb l l′ x, eq-eqb g g′ y)
 told l g true l′ g′ false h k e = absurd (let x : 512 * l + 2 * g + 1 ≡ 512 * l′ + 2 * g′ + 0 = e in omega arith)
@@ -34,7 +35,8 @@ same-is true b e = sym e
 same-is false true e = e
 same-is false false e = refl
 
-untold : (l g : ℕ) (m : Bool) (l′ g′ : ℕ) (m′ : Bool) (b : Bool) → eqb l l′ && eqb g g′ && sameTest m m′ ≡ b → (keyOf l g m ≡ keyOf l′ g′ m′ → ⊥) → b ≡ false
+untold : (l g : ℕ) (m : Bool) (l′ g′ : ℕ) (m′ : Bool) (b : Bool) → eqb l l′ && eqb g g′ && sameTest m m′ ≡ b
+    → (keyOf l g m ≡ keyOf l′ g′ m′ → ⊥) → b ≡ false
 untold l g m l′ g′ m′ false e n = refl
 untold l g m l′ g′ m′ true e n =
     let u = and-left (eqb l l′ && eqb g g′) (sameTest m m′) e in

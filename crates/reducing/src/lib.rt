@@ -8,14 +8,27 @@ use ranges::row_count;
 ghost use mathlib.Core.Path.{_≡_};
 ghost use mathlib.Core.Bool.{cond};
 ghost use Prim.Native.Nat.{_+_, _*_, _/_, _≤_, _<_};
-ghost use lib.ListN.{length, take};
+ghost use lib.ListN.{take};
 ghost use Rattle.rules.specs.Fractional.{groupOf, bitsFor, bodyBits};
 ghost use Rattle.rules.specs.Chooses.{rowFrom, fractionalRow};
 ghost use Rattle.look.specs.Looks.{FrameIn};
 ghost use Rattle.reducing.specs.Keys.{rowKey};
 
 // Each row's least, greatest and whether -1 is one of its values, as one number: 512 times the least, twice the greatest, and 1 for -1.
-const KEYS: [u32; 12] = [65794, 64771, 64768, 64770, 64769, 65283, 64258, 64773, 64772, 64261, 64260, 63748];
+const KEYS: [u32; 12] = [
+    65794,
+    64771,
+    64768,
+    64770,
+    64769,
+    65283,
+    64258,
+    64773,
+    64772,
+    64261,
+    64260,
+    63748,
+];
 
 fn key_at(k: usize) -> u32
     requires { ⌜ k < 12 ⌝ }

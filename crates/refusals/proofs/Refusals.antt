@@ -23,5 +23,6 @@ unfolding refusalName refusalNames
 no-name zero m = refl
 no-name (suc n) m = List·getD-eq-default refusalNames [] (beyond 14 (suc n) m (omega arith))
 
-pub name-laid : {word octets out out′ : List ℕ} {len r : ℕ} → Named word octets len → Laid (take len octets ++ []) out out′ r → Laid word out out′ r
+pub name-laid : {word octets out out′ : List ℕ} {len r : ℕ} → Named word octets len → Laid (take len octets ++ []) out out′ r
+    → Laid word out out′ r
 name-laid {octets = octets} {len = len} n t = laid-as (append-nil (take len octets) ∙ n .says) t

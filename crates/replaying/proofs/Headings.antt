@@ -6,7 +6,6 @@ use mathlib.Core.List.{List}
 use mathlib.Core.Bool.{Bool, true, false, cond}
 use Rattle.keyvalue.specs.Reading.{begins}
 use Rattle.recording.specs.Remembered.{Headed, heading, noHeading, headed}
-use Rattle.replaying.specs.declared.Kind.{Kind}
 use Rattle.replaying.specs.declared.Kind.the-variants.{Stream, Recording, Headless}
 use Rattle.replaying.specs.Kinds.{headingStart, kindBy, kindOf}
 
@@ -21,6 +20,7 @@ recording-headed octets {law} e = go (headed octets) refl e
     other true e = let z : _≡_ {A = ℕ} 0 1 = cc in absurd (omega arith)
     other false e = let z : _≡_ {A = ℕ} 0 1 = cc in absurd (omega arith)
 
-    go : (h : Headed) → headed octets ≡ h → kindBy h (cond (begins headingStart octets) Headless Stream) ≡ Recording law → headed octets ≡ heading law
+    go : (h : Headed) → headed octets ≡ h → kindBy h (cond (begins headingStart octets) Headless Stream) ≡ Recording law
+        → headed octets ≡ heading law
     go (heading l) q e = q ∙ ap heading (same e)
     go noHeading q e = other (begins headingStart octets) e

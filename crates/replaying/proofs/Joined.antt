@@ -1,12 +1,12 @@
--- Octets one after another: where the items of the first end clean, the items of the second follow as by themselves (`items-joined`). Octets cut
--- where their items ended are clean (`items-cut`). So a recording can be played part by part, each part cut where an item ends.
+-- Octets one after another: where the items of the first end clean, the items of the second follow as by themselves (`items-joined`).
+-- Octets cut where their items ended are clean (`items-cut`). So a recording can be played part by part, each part cut where an item ends.
 use Prim.Native.Nat.{ℕ, suc, _+_, _*_, _-_, _≤_, _<_}
 use native.Mathlib.Omega.{arith}
-use mathlib.Core.Path.{_≡_, refl, sym, ap, subst, _∙_}
-use mathlib.Core.List.{List, [], _∷_, _++_}
+use mathlib.Core.Path.{_≡_, refl, sym, ap, _∙_}
+use mathlib.Core.List.{List, _∷_, _++_}
 use mathlib.Core.Bool.{Bool, true, false, cond}
 use lib.ListN.{length, getD, take, drop, length-append, take-append-drop, List·getD-append}
-use lib.Seq.{drop-drop, drop-at, drop-append-le, length-take-le, take-length, getD-drop}
+use lib.Seq.{drop-drop, drop-at, drop-append-le, length-take-le, getD-drop}
 use lib.Dec.{eqb}
 use Rattle.rules.specs.declared.Refusal.the-variants.{Short}
 use Rattle.rules.specs.Samples.{maskOf}
@@ -14,12 +14,13 @@ use Rattle.rules.specs.Reading.{Read, whole, refuse}
 use Rattle.rules.specs.Frame.{Found, octetsUsed, readOne}
 use Rattle.promises.proofs.Further.{looks-no-further}
 use Rattle.promises.proofs.Refused.{cut-at}
-use Rattle.recording.specs.declared.Ending.the-variants.{Done, Refused}
+use Rattle.recording.specs.declared.Ending.the-variants.{Done}
 use Rattle.recording.specs.Remembered.{lostOctet}
-use Rattle.recording.specs.Items.{Item, lost, itemOf, Recorded, stopped, before, itemsFrom, soundOf, soundIn}
-use Rattle.playing.specs.Turns.{Step, takes, stops, frameStep, itemStep}
-use Rattle.playing.proofs.Steps.{after, soundIn-append, items-last, items-ended, items-full, items-off, items-one}
-use Rattle.playing.proofs.Parts.{Reads, last, ended, full, refused, delivers, reads, reads-only, items-told, items-on, items-fuel, items-roomy}
+use Rattle.recording.specs.Items.{Item, lost, Recorded, before, itemsFrom, soundOf, soundIn}
+use Rattle.playing.specs.Turns.{takes, frameStep, itemStep}
+use Rattle.playing.proofs.Steps.{after, items-last, items-ended, items-full, items-off, items-one}
+use Rattle.playing.proofs.Parts.{Reads, last, ended, full, refused, delivers}
+use Rattle.playing.proofs.Parts.{reads, reads-only, items-told, items-on, items-fuel, items-roomy}
 use Rattle.replaying.specs.Runs.{played}
 
 same-used : {i k : Item} {m n : ℕ} → takes i m ≡ takes k n → m ≡ n
@@ -43,9 +44,11 @@ step-stays w law set p at room z {i} {used} h e k q = go (eqb (getD w at 0) lost
     one (whole f j) r g =
         let u : octetsUsed f ≡ used = same-used g in
         let c = cut-at w law set at p room (omega (arith, u)) q r in
-        let no : (n : ℕ) → readOne (drop at (take p w)) law set room ≡ refuse Short n → ⊥ = λ n s. let y : _≡_ {A = ℕ} 0 1 = cc in absurd (omega arith) in
+        let no : (n : ℕ) → readOne (drop at (take p w)) law set room ≡ refuse Short n → ⊥ = λ n s. let y : _≡_ {A = ℕ} 0 1 = cc in
+        absurd (omega arith) in
         let d = drop-append-le at (take p w) z (omega (arith, long)) in
-        ap (frameStep (maskOf law)) (ap (λ (l : List ℕ). readOne l law set room) d ∙ looks-no-further (drop at (take p w)) z law set room no ∙ c) ∙ g
+        ap (frameStep (maskOf law))
+        (ap (λ (l : List ℕ). readOne l law set room) d ∙ looks-no-further (drop at (take p w)) z law set room no ∙ c) ∙ g
     one (refuse v bit) r g = let y : _≡_ {A = ℕ} 0 1 = cc in absurd (omega arith)
 
     go : (b : Bool) → eqb (getD w at 0) lostOctet ≡ b
@@ -59,7 +62,8 @@ abbrev upTo : Recorded → Recorded
 upTo r = record { items = r .items; end = Done; place = r .place; bit = 0 }
 
 -- they are read again, whatever follows
-ahead : (w : List ℕ) (law set : ℕ) (z : List ℕ) {n at room places : ℕ} {r : Recorded} → Reads w law set n at room places r → r .place ≤ length w
+ahead : (w : List ℕ) (law set : ℕ) (z : List ℕ) {n at room places : ℕ} {r : Recorded} → Reads w law set n at room places r
+    → r .place ≤ length w
     → at + length (r .items) ≤ r .place → Reads (take (r .place) w ++ z) law set (length (r .items)) at room places (upTo r)
 ahead w law set z last q s = last
 ahead w law set z (ended h) q s = last
@@ -70,7 +74,8 @@ ahead w law set z {n = suc n} {at} {room} {places = suc places} (delivers {i = i
     let inside : at < length (take (r .place) w ++ z) = omega (arith, length-append (take (r .place) w) z, length-take-le (r .place) w q) in
     delivers inside (step-stays w law set (r .place) at room z (omega arith) e (omega (arith, told)) q) (ahead w law set z t q told)
   where
-    items-told-of : (w : List ℕ) (law set : ℕ) {n at room places : ℕ} {r : Recorded} → Reads w law set n at room places r → at + length (r .items) ≤ r .place
+    items-told-of : (w : List ℕ) (law set : ℕ) {n at room places : ℕ} {r : Recorded} → Reads w law set n at room places r
+        → at + length (r .items) ≤ r .place
     items-told-of w law set {n} {at} {room} {places} {r} t =
         let d = items-told w law set n at room places in
         let o = reads-only w law set t in
@@ -102,7 +107,8 @@ module _ (a b : List ℕ) (law set : ℕ) where
   shift : {n q room places : ℕ} {r : Recorded} → Reads b law set n q room places r
       → Moved (length a) r (itemsFrom n (a ++ b) law set (length a + q) room places)
   shift {q = q} {room} {places} last =
-      moved-as (items-last (a ++ b) law set 0 (length a + q) room places refl) (record { items = refl; end = refl; place = refl; bit = refl })
+      moved-as (items-last (a ++ b) law set 0 (length a + q) room places refl)
+      (record { items = refl; end = refl; place = refl; bit = refl })
   shift {n} {q} {room} {places} (ended h) =
       moved-as (items-ended (a ++ b) law set n (length a + q) room places (omega (arith, length-append a b)))
       (record { items = refl; end = refl; place = refl; bit = refl })
@@ -124,7 +130,8 @@ module _ (a b : List ℕ) (law set : ℕ) where
       (record { items = ap (λ (l : List Item). i ∷ l) (m .items); end = m .end; place = m .place; bit = m .bit })
 
 -- a whole reading keeps inside
-pub played-told : (w : List ℕ) (law set : ℕ) → (played w law set .place ≤ length w) × (length (played w law set .items) ≤ played w law set .place)
+pub played-told : (w : List ℕ) (law set : ℕ)
+    → (played w law set .place ≤ length w) × (length (played w law set .items) ≤ played w law set .place)
     × (length (soundIn (played w law set .items)) ≤ 320 * length (played w law set .items))
     × (played w law set .end ≡ Done → played w law set .place ≡ length w)
 played-told w law set =
@@ -145,11 +152,13 @@ begun w law set z =
     let long : length (take (r .place) w) ≡ r .place = length-take-le (r .place) w (told .0) in
     let l = length-append (take (r .place) w) z in
     let n = length (r .items) in
-    let same = reads-only x law set (ahead w law set z (reads w law set (suc (length w)) 0 (320 * length w) (length w)) (told .0) (omega (arith, told .1))) in
+    let same = reads-only x law set
+    (ahead w law set z (reads w law set (suc (length w)) 0 (320 * length w) (length w)) (told .0) (omega (arith, told .1))) in
     record {
       first =
           items-roomy x law set n 0 (320 * length x) (length x) (320 * length w) (length w)
-          (omega (arith, told .1, l, long), omega (arith, told .1, l, long)) (omega (arith, told .0, told .1), omega (arith, told .0, told .1)) ∙ same;
+          (omega (arith, told .1, l, long), omega (arith, told .1, l, long))
+          (omega (arith, told .0, told .1), omega (arith, told .0, told .1)) ∙ same;
     }
 
 pub record Joined (w : List ℕ) (law set : ℕ) (z : List ℕ) (r : Recorded) : Type 0 where
@@ -176,7 +185,8 @@ items-joined w law set z =
     let all : played x law set ≡ after (r .items) (itemsFrom m x law set (length a + 0) room places) =
     items-fuel x law set m (n + m) 0 (320 * length x) (length x) (omega arith) (omega arith)
     ∙ items-on x law set n m 0 (320 * length x) (length x) (ap (λ (v : Recorded). v .end) firstly)
-    ∙ ap (λ (v : Recorded). after (v .items) (itemsFrom m x law set (v .place) (320 * length x - length (soundIn (v .items))) (length x - length (v .items))))
+    ∙ ap (λ (v : Recorded). after (v .items)
+    (itemsFrom m x law set (v .place) (320 * length x - length (soundIn (v .items))) (length x - length (v .items))))
     firstly
     ∙ ap (λ (k : ℕ). after (r .items) (itemsFrom m x law set k room places)) (omega (arith, long)) in
     let rest : itemsFrom m z law set 0 room places ≡ played z law set =

@@ -1,8 +1,8 @@
 -- A recording window by window: the octets so far, cut where an item ends, and then those of the next window (`along-first`, `along-turn`,
 -- `along-whole`).
-use Prim.Native.Nat.{ℕ, _+_, _*_, _≤_, _<_}
+use Prim.Native.Nat.{ℕ, _+_, _*_, _≤_}
 use native.Mathlib.Omega.{arith}
-use mathlib.Core.Path.{_≡_, refl, sym, ap, subst, _∙_}
+use mathlib.Core.Path.{_≡_, refl, sym, ap, _∙_}
 use mathlib.Core.List.{List, [], _++_, append-nil}
 use lib.ListN.{length, take, length-append}
 use lib.Seq.{take-length, length-take-le}
@@ -10,7 +10,6 @@ use Rattle.rules.specs.Walk.{longest}
 use Rattle.recording.specs.declared.Ending.the-variants.{Done}
 use Rattle.recording.specs.Items.{Item, itemsFrom, soundIn}
 use Rattle.playing.proofs.Steps.{soundIn-append}
-use Rattle.replaying.specs.declared.Base.{Base}
 use Rattle.replaying.specs.declared.Total.{Total}
 use Rattle.replaying.specs.Parts.{lossesIn}
 use Rattle.replaying.specs.Runs.{played, TellsFile, TellsOne}
@@ -21,10 +20,6 @@ use Rattle.replaying.proofs.Joined.{items-joined, played-told}
 played-none : (law set : ℕ) → played [] law set .items ≡ []
 unfolding itemsFrom
 played-none law set = refl
-
-played-place : (law set : ℕ) → played [] law set .place ≡ 0
-unfolding itemsFrom
-played-place law set = refl
 
 played-clean : (law set : ℕ) → played [] law set .end ≡ Done
 unfolding itemsFrom
@@ -57,7 +52,8 @@ module _ (law set : ℕ) where
   along-first = record { done = []; long = refl; clean = refl; count = refl; losses = refl; sound = refl }
 
   module _ {at items lost samples : ℕ} (a : Along at items lost samples) where
-    told : (played (a .done) law set .place ≤ length (a .done)) × (length (played (a .done) law set .items) ≤ played (a .done) law set .place)
+    told : (played (a .done) law set .place ≤ length (a .done))
+        × (length (played (a .done) law set .items) ≤ played (a .done) law set .place)
         × (length (soundIn (played (a .done) law set .items)) ≤ 320 * length (played (a .done) law set .items))
         × (played (a .done) law set .end ≡ Done → played (a .done) law set .place ≡ length (a .done))
     told = played-told (a .done) law set
@@ -103,7 +99,14 @@ module _ (law set : ℕ) where
           items = omega (arith, f .items, a .count, ap length is, length-append old new);
           losses = omega (arith, f .losses, a .losses, ap lossesIn is, losses-append old new);
           samples =
-              omega (arith, f .samples, a .sound, ap (λ (l : List Item). length (soundIn l)) is, ap length (soundIn-append old new), length-append (soundIn old) (soundIn new));
+              omega (
+                arith,
+                f .samples,
+                a .sound,
+                ap (λ (l : List Item). length (soundIn l)) is,
+                ap length (soundIn-append old new),
+                length-append (soundIn old) (soundIn new),
+              );
         }
 
     -- with the octets of the last window: one recording
@@ -111,14 +114,24 @@ module _ (law set : ℕ) where
     along-whole w f wrong = record { body = a .done ++ w; tells = join w f wrong }
 
     -- and with those up to where the window's items ended
-    pub along-turn : (w : List ℕ) {t : Total} → TellsFile w law set t → Along (at + t .at) (items + t .items) (lost + t .lost) (samples + t .samples)
+    pub along-turn : (w : List ℕ) {t : Total} → TellsFile w law set t
+        → Along (at + t .at) (items + t .items) (lost + t .lost) (samples + t .samples)
     along-turn w {t} f =
         let x = take (played w law set .place) w in
         let long : length x ≡ played w law set .place = length-take-le (played w law set .place) w (played-told w law set .0) in
         let is = cut-items w law set in
         let clean = cut-clean w law set in
         let here : played x law set .place ≡ length x = played-told x law set .3 clean in
-        let g : TellsFile x law set (record { end = Done; at = t .at; bit = played x law set .bit; items = t .items; lost = t .lost; samples = t .samples; wrong = 0 }) =
+        let g : TellsFile x law set
+        (record {
+          end = Done;
+          at = t .at;
+          bit = played x law set .bit;
+          items = t .items;
+          lost = t .lost;
+          samples = t .samples;
+          wrong = 0;
+        }) =
         record {
           end = sym clean;
           at = f .at ∙ sym long ∙ sym here;

@@ -1,12 +1,12 @@
 -- What was played, as a part, and what a caller goes by.
-use Prim.Native.Nat.{ℕ, _+_, _*_, _/_, _≤_, _<_}
+use Prim.Native.Nat.{ℕ, _+_, _*_, _≤_, _<_}
 use mathlib.Core.Path.{_≡_, refl, sym, ap, subst, _∙_}
-use mathlib.Core.List.{List, [], _∷_, _++_, map}
+use mathlib.Core.List.{List, [], _∷_, map}
 use mathlib.Core.Bool.{Bool, true, false, cond, false≢true}
 use native.Mathlib.Omega.{arith}
 use lib.ListN.{length, getD, take, drop, length-append, length-map}
 use lib.Seq.{take-at}
-use lib.Dec.{eqb, leb}
+use lib.Dec.{eqb}
 use borrow.Author.Tests.{le-leb, lt-leb, ltb-true}
 use Rattle.rules.specs.Samples.{maskOf}
 use Rattle.rules.specs.Reading.{Read, whole, refuse}
@@ -22,7 +22,7 @@ use Rattle.playing.proofs.Parts.{Reads, last, ended, full, refused, delivers, r
 use Rattle.playing.specs.declared.Played.{Played}
 use Rattle.playing.specs.Plays.{Plays}
 use Rattle.replaying.specs.declared.Part.{Part}
-use Rattle.replaying.specs.Parts.{sureItems, partOf, goesOn, lossOf, lossesIn, isLoss, lossCells, Parts, NextPart, Goes, Answers}
+use Rattle.replaying.specs.Parts.{sureItems, partOf, goesOn, lossOf, lossesIn, isLoss, lossCells, NextPart, Goes, Answers}
 
 -- more is to come only of a part that ended clean before the end
 pub more-inside : (end : Ending) (place size : ℕ) → goesOn end place size ≡ true → (end ≡ Done) × (place < size)
@@ -50,7 +50,8 @@ module _ (octets : List ℕ) (law set : ℕ) where
   step-most : (at room : ℕ) → Most (itemStep octets law set at room)
   step-most at room = go (eqb (getD octets at 0) lostOctet) (readOne (drop at octets) law set room) refl
     where
-      go : (b : Bool) (m : Read Found) → readOne (drop at octets) law set room ≡ m → Most (cond b (takes (lost 0) 1) (frameStep (maskOf law) m))
+      go : (b : Bool) (m : Read Found) → readOne (drop at octets) law set room ≡ m
+          → Most (cond b (takes (lost 0) 1) (frameStep (maskOf law) m))
       go true m e = omega arith
       go false (whole f j) e = sound-most (maskOf law) f (read-most (drop at octets) law set room e)
       go false (refuse w bit) e = omega arith
@@ -58,7 +59,8 @@ module _ (octets : List ℕ) (law set : ℕ) where
   item-most : (at room : ℕ) {i : Item} {used : ℕ} → itemStep octets law set at room ≡ takes i used → length (soundOf i) ≤ 320
   item-most at room e = subst Most e (step-most at room)
 
-  reads-held : {n at room places : ℕ} {r : Recorded} → Reads octets law set n at room places r → length (soundIn (r .items)) ≤ 320 * length (r .items)
+  reads-held : {n at room places : ℕ} {r : Recorded} → Reads octets law set n at room places r
+      → length (soundIn (r .items)) ≤ 320 * length (r .items)
   unfolding soundIn
   reads-held last = omega arith
   reads-held (ended h) = omega arith
@@ -68,10 +70,12 @@ module _ (octets : List ℕ) (law set : ℕ) where
       omega (arith, item-most at room e, reads-held t, length-append (soundOf i) (soundIn (r .items)))
 
   pub items-held : (n at room places : ℕ)
-      → length (soundIn (itemsFrom n octets law set at room places .items)) ≤ 320 * length (itemsFrom n octets law set at room places .items)
+      → length (soundIn (itemsFrom n octets law set at room places .items)) ≤ 320 * length
+      (itemsFrom n octets law set at room places .items)
   items-held n at room places = reads-held (reads octets law set n at room places)
 
-  reads-losses : {n at room places : ℕ} {r : Recorded} → Reads octets law set n at room places r → lossCells (map cellOf (r .items)) ≡ lossesIn (r .items)
+  reads-losses : {n at room places : ℕ} {r : Recorded} → Reads octets law set n at room places r
+      → lossCells (map cellOf (r .items)) ≡ lossesIn (r .items)
   unfolding countOf lossesIn
   reads-losses last = refl
   reads-losses (ended h) = refl
@@ -86,18 +90,26 @@ losses-few (sound f ∷ is) = omega (arith, losses-few is)
 losses-few (lost n ∷ is) = omega (arith, losses-few is)
 
 -- the cells of the items played
-cells-told : {w : Recorded} {p : Played} {out out′ cells cells′ : List ℕ} → Plays w p out out′ cells cells′ → take (p .items) cells′ ≡ map cellOf (w .items)
+cells-told : {w : Recorded} {p : Played} {out out′ cells cells′ : List ℕ} → Plays w p out out′ cells cells′
+    → take (p .items) cells′ ≡ map cellOf (w .items)
 cells-told {w} {p} {cells = cells} t =
-    rw (t .told) (take-at (map cellOf (w .items)) (drop (length (map cellOf (w .items))) cells) (p .items) (length-map (w .items) cellOf ∙ sym (t .items)))
+    rw (t .told) (take-at (map cellOf (w .items)) (drop (length (map cellOf (w .items))) cells) (p .items)
+    (length-map (w .items) cellOf ∙ sym (t .items)))
 
 module _ (octets : List ℕ) (law set at : ℕ) (out cells : List ℕ) where
   abbrev part : Recorded
   part = partOf octets law set at (length out) (length cells)
 
   pub items-fit : {p : Played} {out′ cells′ : List ℕ} → Plays part p out out′ cells cells′ → p .items ≤ length cells
-  items-fit t = omega (arith, t .items, items-told octets law set (sureItems (length out) (length cells)) at (length out) (length cells) .few)
+  items-fit t = omega (
+    arith,
+    t .items,
+    items-told octets law set (sureItems (length out) (length cells)) at (length out)
+        (length cells) .few,
+  )
 
-  pub part-told : {p : Played} {r : Part} {n : ℕ} {out′ cells′ : List ℕ} → Plays part p out out′ cells cells′ → n ≡ lossCells (take (p .items) cells′)
+  pub part-told : {p : Played} {r : Part} {n : ℕ} {out′ cells′ : List ℕ} → Plays part p out out′ cells cells′
+      → n ≡ lossCells (take (p .items) cells′)
       → Answers p n (length octets) r → NextPart octets law set at out out′ cells cells′ r
   part-told t l a =
       record {

@@ -12,8 +12,8 @@ use Rattle.playing.proofs.Steps.{soundIn-append}
 use Rattle.playing.proofs.Parts.{items-told}
 use Rattle.replaying.specs.declared.Base.{Base}
 use Rattle.replaying.specs.declared.Part.{Part}
-use Rattle.replaying.specs.Parts.{sureItems, partOf, goesOn, lossesIn, NextPart, Goes}
-use Rattle.replaying.specs.Runs.{Before, none, one-more, NextSound, played, TellsFile}
+use Rattle.replaying.specs.Parts.{sureItems, partOf, lossesIn, NextPart}
+use Rattle.replaying.specs.Runs.{Before, none, one-more, NextSound, TellsFile}
 use Rattle.replaying.specs.Lines.{Follows, NextItem, LossAt, Small, Sums}
 use Rattle.replaying.proofs.Parted.{more-inside, items-held, losses-few}
 use Rattle.replaying.proofs.Whole.{whole-parts}
@@ -40,7 +40,15 @@ module _ (body : List ℕ) (law set : ℕ) where
       let l = length-append done (w .items) in
       record {
         few = omega (arith, l, k .few, d .some);
-        held = omega (arith, l, k .held, items-held body law set (sureItems room places) at room places, ap length (soundIn-append done (w .items)), length-append (soundIn done) (soundIn (w .items)));
+        held = omega (
+          arith,
+          l,
+          k .held,
+          items-held body law set (sureItems room places) at room places,
+          ap length
+              (soundIn-append done (w .items)),
+          length-append (soundIn done) (soundIn (w .items)),
+        );
         inside = omega (arith, more-inside (w .end) (w .place) (length body) m .1);
       }
 
@@ -73,7 +81,14 @@ module _ (body : List ℕ) (law set : ℕ) where
             done = f .done ++ next;
             before = rw (n .at) (one-more (f .before) (length out) (length cells) (sym (n .more) ∙ m));
             count = omega (arith, f .count, n .items, length-append (f .done) next);
-            sound = omega (arith, f .sound, n .samples, ap length (soundIn-append (f .done) next), length-append (soundIn (f .done)) (soundIn next));
+            sound = omega (
+              arith,
+              f .sound,
+              n .samples,
+              ap length (soundIn-append (f .done) next),
+              length-append
+                  (soundIn (f .done)) (soundIn next),
+            );
           }
 
       pub next-sound : NextSound body law set at out′ p
@@ -82,7 +97,16 @@ module _ (body : List ℕ) (law set : ℕ) where
       -- the last part: the totals are the recording's
       pub goes-whole : p .more ≡ false → {lost wrong good : ℕ} → lost ≡ lossesIn (f .done) → good ≡ p .samples
           → TellsFile body law set
-          (record { end = p .end; at = p .at; bit = p .bit; items = number + p .items; lost = lost + p .lost; samples = heard + good; wrong = wrong })
+          (record {
+            end = p .end;
+            at = p .at;
+            bit = p .bit;
+            items = number + p .items;
+            lost = lost + p .lost;
+            samples =
+                heard + good;
+            wrong = wrong;
+          })
       goes-whole m e u =
           let w = whole-parts body law set (f .before) (length out) (length cells) (sym (n .more) ∙ m) in
           record {
@@ -92,7 +116,15 @@ module _ (body : List ℕ) (law set : ℕ) where
             items = omega (arith, f .count, n .items, length-append (f .done) next) ∙ sym (ap (λ r. length (r .items)) w);
             losses = omega (arith, e, n .losses, losses-append (f .done) next) ∙ sym (ap (λ r. lossesIn (r .items)) w);
             samples =
-                omega (arith, u, f .sound, n .samples, ap length (soundIn-append (f .done) next), length-append (soundIn (f .done)) (soundIn next))
+                omega (
+                  arith,
+                  u,
+                  f .sound,
+                  n .samples,
+                  ap length (soundIn-append (f .done) next),
+                  length-append
+                      (soundIn (f .done)) (soundIn next),
+                )
                 ∙ sym (ap (λ r. length (soundIn (r .items))) w);
           }
 
@@ -105,7 +137,8 @@ one-loss (sound f ∷ []) cells lent h l e = absurd (l refl)
 one-loss (lost n ∷ []) cells lent h l e = let d : 32768 + n - 32768 ≡ n = omega arith in rw (e, d) (omega arith, refl)
 one-loss (i ∷ k ∷ is) cells lent h l e = absurd (omega arith)
 
-pub item-lost : (body : List ℕ) (law set : ℕ) {at number heard cell : ℕ} {p : Part} → NextItem body law set at number heard cell p → (p .lost ≡ 0 → ⊥)
+pub item-lost : (body : List ℕ) (law set : ℕ) {at number heard cell : ℕ} {p : Part} → NextItem body law set at number heard cell p
+    → (p .lost ≡ 0 → ⊥)
     → (32768 ≤ cell) × LossAt body law set at number heard (cell - 32768)
 item-lost body law set {at} {p = p} n l =
     let w = partOf body law set at (length (n .page)) (length (n .lent)) in
@@ -125,14 +158,22 @@ module _ (body : List ℕ) (law set : ℕ) where
   pub going-first : (page cells : List ℕ) → Going (length page) (length cells) page cells 0 0 0 0
   unfolding lossesIn soundIn
   going-first page cells =
-      record { follows = record { done = []; before = none; count = refl; sound = refl }; losses = refl; page-size = refl; cells-size = refl }
+      record {
+        follows = record { done = []; before = none; count = refl; sound = refl };
+        losses = refl;
+        page-size = refl;
+        cells-size = refl;
+      }
 
-  pub lost-most : {size places : ℕ} {page cells : List ℕ} {at items lost samples : ℕ} → Going size places page cells at items lost samples → lost ≤ items
+  pub lost-most : {size places : ℕ} {page cells : List ℕ} {at items lost samples : ℕ} → Going size places page cells at items lost samples
+      → lost ≤ items
   lost-most w = omega (arith, w .losses, w .follows .count, losses-few (w .follows .done))
 
-  pub going-on : {size places : ℕ} {page page′ cells cells′ : List ℕ} {at items lost samples : ℕ} (w : Going size places page cells at items lost samples)
+  pub going-on : {size places : ℕ} {page page′ cells cells′ : List ℕ} {at items lost samples : ℕ}
+      (w : Going size places page cells at items lost samples)
       → {p : Part} (n : NextPart body law set at page page′ cells cells′ p) → length page′ ≡ length page → length cells′ ≡ length cells
-      → {good : ℕ} → good ≡ p .samples → p .more ≡ true → Going size places page′ cells′ (p .at) (items + p .items) (lost + p .lost) (samples + good)
+      → {good : ℕ} → good ≡ p .samples → p .more ≡ true → Going size places page′ cells′ (p .at) (items + p .items)
+      (lost + p .lost) (samples + good)
   going-on w n l k u m =
       rw u
       (record {

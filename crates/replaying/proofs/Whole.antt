@@ -1,7 +1,7 @@
 -- The parts, one after another until there is no more, are the whole recording and nothing else.
-use Prim.Native.Nat.{ℕ, suc, _+_, _*_, _/_, _-_, _≤_, _<_, min}
+use Prim.Native.Nat.{ℕ, suc, _+_, _*_, _-_}
 use mathlib.Core.Path.{_≡_, refl, sym, ap, _∙_}
-use mathlib.Core.List.{List, [], _++_, append-assoc, append-nil}
+use mathlib.Core.List.{List, _++_, append-assoc, append-nil}
 use mathlib.Core.Bool.{true, false}
 use native.Mathlib.Omega.{arith}
 use lib.ListN.{length}
@@ -16,7 +16,8 @@ use Rattle.replaying.proofs.Parted.{more-inside, items-held}
 use Rattle.replaying.specs.Runs.{Before, none, one-more, played}
 
 after-after : (a b : List Item) (r : Recorded) → after a (after b r) ≡ after (a ++ b) r
-after-after a b r = ap (λ (l : List Item). record { items = l; end = r .end; place = r .place; bit = r .bit }) (sym (append-assoc a b (r .items)))
+after-after a b r = ap (λ (l : List Item). record { items = l; end = r .end; place = r .place; bit = r .bit })
+    (sym (append-assoc a b (r .items)))
 
 module _ (body : List ℕ) (law set : ℕ) where
   -- all from a place on
@@ -31,18 +32,22 @@ module _ (body : List ℕ) (law set : ℕ) where
     by-parts =
         let d = items-told body law set (sureItems room places) at room places in
         let e = items-held body law set (sureItems room places) at room places in
-        items-fuel body law set (suc (length body)) (sureItems room places + suc (length body)) at (320 * length body) (length body) (omega arith) (omega arith)
+        items-fuel body law set (suc (length body)) (sureItems room places + suc (length body)) at (320 * length body)
+        (length body) (omega arith) (omega arith)
         ∙ items-parts body law set (sureItems room places) (suc (length body)) at (320 * length body) (length body)
         ∙ ap (λ (r : Recorded). byEnd (r .end) (onFrom body law set (suc (length body)) (320 * length body) (length body) r) r)
-        (items-roomy body law set (sureItems room places) at (320 * length body) (length body) room places (omega arith, omega arith) (omega arith, omega arith))
+        (items-roomy body law set (sureItems room places) at (320 * length body) (length body) room places (omega arith, omega arith)
+        (omega arith, omega arith))
         ∙ ap (λ (r : Recorded). byEnd (part .end) (after (part .items) r) part)
-        (items-roomy body law set (suc (length body)) (part .place) (320 * length body - length (soundIn (part .items))) (length body - length (part .items))
+        (items-roomy body law set (suc (length body)) (part .place) (320 * length body - length (soundIn (part .items)))
+        (length body - length (part .items))
         (320 * length body) (length body) (omega (arith, d .some, e), omega (arith, d .some)) (omega arith, omega arith))
 
     -- more comes: the recording goes on where the part ended
     pub part-then : goesOn (part .end) (part .place) (length body) ≡ true → restOf at ≡ after (part .items) (restOf (part .place))
     part-then e =
-        by-parts ∙ ap (λ (end : Ending). byEnd end (after (part .items) (restOf (part .place))) part) (more-inside (part .end) (part .place) (length body) e .0)
+        by-parts ∙ ap (λ (end : Ending). byEnd end (after (part .items) (restOf (part .place))) part)
+        (more-inside (part .end) (part .place) (length body) e .0)
 
     -- no more comes: the part is all the rest
     pub last-part : goesOn (part .end) (part .place) (length body) ≡ false → restOf at ≡ part
@@ -51,7 +56,9 @@ module _ (body : List ℕ) (law set : ℕ) where
         ended : (r : Recorded) (end : Ending) → r .end ≡ end → goesOn end (r .place) (length body) ≡ false → (r .end ≡ Done → r .bit ≡ 0)
             → byEnd end (after (r .items) (restOf (r .place))) r ≡ r
         ended r Done q e clean =
-            ap (after (r .items)) (items-ended body law set (suc (length body)) (r .place) (320 * length body) (length body) (ltb-false (r .place) (length body) e))
+            ap (after (r .items))
+            (items-ended body law set (suc (length body)) (r .place) (320 * length body) (length body)
+            (ltb-false (r .place) (length body) e))
             ∙ rw (append-nil, ← q, ← (clean q))
         ended r (Refused w) q e clean = refl
 

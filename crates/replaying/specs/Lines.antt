@@ -12,7 +12,8 @@ use Rattle.replaying.specs.declared.Part.{Part}
 use Rattle.replaying.specs.Parts.{partOf, NextPart}
 use Rattle.replaying.specs.Runs.{Before, played}
 
--- "loss=I at=P samples=N before=S": the item's number, its octets' place, its samples (0: not known), and the samples of the frames before it
+-- "loss=I at=P samples=N before=S": the item's number, its octets' place, its samples (0: not known), and the samples of the frames before
+-- it
 abbrev pub lossWord : List ℕ
 lossWord = 0x6C ∷ 0x6F ∷ 0x73 ∷ 0x73 ∷ 0x3D ∷ []
 

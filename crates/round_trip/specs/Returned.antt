@@ -1,4 +1,5 @@
--- What a round trip does: the two calls by their contracts, and, where the writer accepted the frame and the room is enough, the frame restored.
+-- What a round trip does: the two calls by their contracts, and, where the writer accepted the frame and the room is enough, the frame
+-- restored.
 use Prim.Native.Nat.{ℕ, _≤_}
 use mathlib.Core.Path.{_≡_}
 use mathlib.Core.List.{List}

@@ -1,5 +1,5 @@
--- Rows and the cells that they lie in: `rows-snoc`, `cells-rows` (the cells of rows are those they are read from), `rows-laid` (laid, they read back),
--- `laid-again` (laid over fewer, as if laid at once).
+-- Rows and the cells that they lie in: `rows-snoc`, `cells-rows` (the cells of rows are those they are read from), `rows-laid` (laid, they
+-- read back), `laid-again` (laid over fewer, as if laid at once).
 use Prim.Native.Nat.{ℕ, zero, suc, _+_, _*_, _-_, _≤_, _<_}
 use mathlib.Core.Path.{_≡_, refl, sym, ap, _∙_}
 use mathlib.Core.List.{List, [], _∷_, _++_, append-assoc}
@@ -108,7 +108,8 @@ cells-rows t (suc n) k h =
     rw (e, drop-three t k (omega arith), cells-rows t n (k + 3) (omega arith))
 
 -- rows laid are the rows read
-rows-from : (p : List ℕ) (rows : List Row) (rest : List ℕ) (k : ℕ) → length p ≡ k → rowsAt (p ++ (cellsOf rows ++ rest)) (length rows) k ≡ rows
+rows-from : (p : List ℕ) (rows : List Row) (rest : List ℕ) (k : ℕ) → length p ≡ k
+    → rowsAt (p ++ (cellsOf rows ++ rest)) (length rows) k ≡ rows
 unfolding rowsAt
 rows-from p [] rest k e = refl
 rows-from p (r ∷ rows) rest k e =

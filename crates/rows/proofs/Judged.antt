@@ -1,4 +1,5 @@
--- Tables that calls leave: `sane-ordered` (what calls' steps rest on), `row-next` (row i of such a table), and the tests in the code's order.
+-- Tables that calls leave: `sane-ordered` (what calls' steps rest on), `row-next` (row i of such a table), and the tests in the code's
+-- order.
 use Prim.Native.Nat.{ℕ, _+_, _*_, _≤_, _<_}
 use mathlib.Core.Path.{_≡_}
 use mathlib.Core.List.{List}
@@ -9,7 +10,6 @@ use lib.ListN.{length, getD}
 use lib.Dec.{ltb}
 use borrow.Author.Tests.{lt-ltb, le-ltb, ltb-false}
 use Rattle.rows.specs.declared.Row.{Row}
-use Rattle.rows.specs.Limits.{cellsFor, mostNumber}
 use Rattle.rows.specs.Rows.{held}
 use Rattle.rows.specs.Finding.{findFrom}
 use Rattle.rows.specs.Cells.{rowAt, rowsAt, rowsOf}
@@ -57,7 +57,8 @@ module _ (size : ℕ) (t : List ℕ) where
     unfolding saneOf
     sane-many f = rw (le-ltb (length t) 97 h, ← e, lt-ltb 32 n f)
 
-    pub sane-rest : {a b : Bool} → n ≤ 32 → a ≡ rising 1 0 size (rowsAt t n 1) → b ≡ cond a (numbered (rowsAt t n 1)) false → b ≡ saneOf size t
+    pub sane-rest : {a b : Bool} → n ≤ 32 → a ≡ rising 1 0 size (rowsAt t n 1) → b ≡ cond a (numbered (rowsAt t n 1)) false
+        → b ≡ saneOf size t
     unfolding saneOf
     sane-rest f p q = rw (le-ltb (length t) 97 h, ← e, le-ltb 32 n f, ← p) q
 

@@ -1,8 +1,9 @@
--- Greetings in order of start, apart and inside: `rising-head` (the first, and the rest), `rising-next` (row i of a table), and the loop that judges them.
+-- Greetings in order of start, apart and inside: `rising-head` (the first, and the rest), `rising-next` (row i of a table), and the loop
+-- that judges them.
 use Prim.Native.Nat.{ℕ, zero, suc, _+_, _*_, _≤_, _<_}
 use mathlib.Core.Path.{_≡_}
 use mathlib.Core.List.{List, _∷_}
-use mathlib.Core.Bool.{Bool, true, false}
+use mathlib.Core.Bool.{true, false}
 use native.Mathlib.Omega.{arith}
 use native.Mathlib.Nat.{not-suc-le-zero}
 use lib.ListN.{getD}

@@ -1,7 +1,8 @@
--- How the list of greetings lies in a lent table: cell 0 is how many there are, then number, start and octets of each. A fresh table is all 0.
+-- How the list of greetings lies in a lent table: cell 0 is how many there are, then number, start and octets of each. A fresh table is all
+-- 0.
 use Prim.Native.Nat.{ℕ, zero, suc, _+_, _*_}
 use mathlib.Core.List.{List, [], _∷_, _++_}
-use lib.ListN.{length, getD, take, drop}
+use lib.ListN.{length, getD, drop}
 use Rattle.rows.specs.declared.Row.{Row}
 
 -- the three cells from place k on

@@ -1,5 +1,5 @@
 -- Document 02, R-6: "Boxes have one block of 16,384 octets for greetings. Keep up to 32, each with a number from 1 to 65,535".
-use Prim.Native.Nat.{ℕ, _+_, _*_, min}
+use Prim.Native.Nat.{ℕ, min}
 use mathlib.Core.List.{List}
 use mathlib.Core.Bool.{Bool, _&&_}
 use lib.ListN.{length}

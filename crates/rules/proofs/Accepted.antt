@@ -1,34 +1,36 @@
 -- An accepted frame (specs/Frame): its samples are as many as its length says and are octets, it fits the room, its tool is in the set,
 -- and it uses whole octets, at least one and no more than there are.
 use Prim.Native.Nat.{ℕ, zero, suc, _+_, _*_, _-_, _/_, _≤_, _<_, zero-le}
-use mathlib.Core.Path.{_≡_, refl, sym, ap, subst, _∙_}
+use mathlib.Core.Path.{_≡_, refl, sym, subst, _∙_}
 use mathlib.Core.Logic.{_⊎_, inl, inr}
-use mathlib.Core.List.{List, [], _∷_, _++_, map}
-use mathlib.Core.Bool.{Bool, true, false, cond, not, _&&_, _||_, false≢true}
+use mathlib.Core.List.{List, [], _∷_, map}
+use mathlib.Core.Bool.{Bool, true, false, cond, not, _||_}
 use native.Mathlib.Omega.{arith}
 use native.Mathlib.Nat.{le-refl, zero-add}
 use lib.Dec.{eqb, leb, ltb, lit<, lit≤}
 use lib.IntN.{ℤ, pos, negsuc}
 use lib.ListN.{length, getD, replicate, length-replicate, length-map}
-use borrow.Author.Tests.{ltb-true, ltb-false, not-true, not-false}
+use borrow.Author.Tests.{ltb-true, ltb-false, not-false}
 use Rattle.rules.specs.declared.Refusal.{Refusal}
 use Rattle.rules.specs.declared.Refusal.the-variants.{Short, Align, Tool, Room, Case, Law, Set}
 use Rattle.rules.specs.Tools.{holds, isLength, isLaw, isSet}
-use Rattle.rules.specs.Bits.{bitsOf, octetsFor, fillFor}
-use Rattle.rules.specs.Reading.{Read, whole, refuse, Reader, andThen, _>>=_, give, fail, here, from, bit, numberFrom, number, filled}
-use Rattle.rules.specs.First.{First, unassigned, pad, tool, sixOrEight, firstOctet, markAt, isLong, sixNotEight, octetFor, riceCode}
-use Rattle.rules.specs.Samples.{maskOf, sampleOf, plusZero, minusZero}
+use Rattle.rules.specs.Bits.{bitsOf, fillFor}
+use Rattle.rules.specs.Reading.{Read, whole, refuse, Reader, andThen, _>>=_, give, fail, from, bit, numberFrom, number, filled}
+use Rattle.rules.specs.First.{First, unassigned, pad, tool, sixOrEight, firstOctet, markAt, sixNotEight}
+use Rattle.rules.specs.Samples.{sampleOf, plusZero, minusZero}
 use Rattle.rules.specs.Zeros.{zeroOf, Tree, leaf, fork, treeOf}
 use Rattle.rules.specs.Located.{RangeCase, case0, case1, case2, case3, caseOf, rowValues, valuesOf, located}
 use Rattle.rules.specs.Fractional.{table, valuesAt, radix, groupOf, bitsFor, groupsAs, samplesAt, fractional}
 use Rattle.rules.specs.Frame.{Found, octetsUsed, body, withTool, rowIn, afterFirst, frame, readOne}
 use Rattle.rules.proofs.Octets.{Below, none, more, Sized, below-at, below-replicate, bitsOf-below, length-bitsOf}
-use Rattle.rules.proofs.Tests.{and-left, and-right, or-cases}
+use Rattle.rules.proofs.Tests.{and-left}
 use Rattle.rules.proofs.Signed.{InRange, LawMask, law-mask}
 use Rattle.rules.proofs.Firsts.{asWritten, first-as-written}
 use Rattle.rules.proofs.Each.{below-map}
 use Rattle.rules.proofs.Fractional.{groups-whole}
-use Rattle.rules.proofs.Gives.{Gives, gives-give, gives-fail, gives-here, gives-bit, gives-bind, gives-cond, gives-as, gives-number, gives-bitsFrom, gives-octetsAfter, gives-runsFrom, Leaves, gives-readTree, gives-valuesInto, gives-groupsFrom}
+use Rattle.rules.proofs.Gives.{Gives, gives-give, gives-fail, gives-here, gives-bit, gives-bind, gives-cond, gives-as}
+use Rattle.rules.proofs.Gives.{gives-number, gives-bitsFrom, gives-octetsAfter, gives-runsFrom}
+use Rattle.rules.proofs.Gives.{Leaves, gives-readTree, gives-valuesInto, gives-groupsFrom}
 
 -- what holds of the four rows of range cases holds of every case
 pub by-case : (P : RangeCase → Type 0) → P case0 → P case1 → P case2 → P case3 → (c : ℕ) → P (caseOf c)
@@ -109,19 +111,40 @@ in-row (vs ∷ rows) h zero = h .0
 in-row (vs ∷ rows) h (suc k) = in-row rows (h .1) k
 
 rows-in-range : RowsInRange table
-rows-in-range =
-    ((lit< tt, (lit< tt, tt)),
-    ((lit< tt, (lit< tt, (lit< tt, (lit< tt, tt)))),
-    ((lit< tt, (lit< tt, tt)),
-    ((lit< tt, (lit< tt, (lit< tt, tt))),
-    ((lit< tt, (lit< tt, (lit< tt, tt))),
-    ((lit< tt, (lit< tt, (lit< tt, tt))),
-    ((lit< tt, (lit< tt, (lit< tt, (lit< tt, tt)))),
-    ((lit< tt, (lit< tt, (lit< tt, (lit< tt, (lit< tt, tt))))),
-    ((lit< tt, (lit< tt, (lit< tt, (lit< tt, tt)))),
-    ((lit< tt, (lit< tt, (lit< tt, (lit< tt, (lit< tt, (lit< tt, tt)))))),
-    ((lit< tt, (lit< tt, (lit< tt, (lit< tt, (lit< tt, tt))))),
-    ((lit< tt, (lit< tt, (lit< tt, (lit< tt, (lit< tt, (lit< tt, tt)))))), tt))))))))))))
+rows-in-range = (
+  (lit< tt, (lit< tt, tt)),
+  (
+    (lit< tt, (lit< tt, (lit< tt, (lit< tt, tt)))),
+    (
+      (lit< tt, (lit< tt, tt)),
+      (
+        (lit< tt, (lit< tt, (lit< tt, tt))),
+        (
+          (lit< tt, (lit< tt, (lit< tt, tt))),
+          (
+            (lit< tt, (lit< tt, (lit< tt, tt))),
+            (
+              (lit< tt, (lit< tt, (lit< tt, (lit< tt, tt)))),
+              (
+                (lit< tt, (lit< tt, (lit< tt, (lit< tt, (lit< tt, tt))))),
+                (
+                  (lit< tt, (lit< tt, (lit< tt, (lit< tt, tt)))),
+                  (
+                    (lit< tt, (lit< tt, (lit< tt, (lit< tt, (lit< tt, (lit< tt, tt)))))),
+                    (
+                      (lit< tt, (lit< tt, (lit< tt, (lit< tt, (lit< tt, tt))))),
+                      ((lit< tt, (lit< tt, (lit< tt, (lit< tt, (lit< tt, (lit< tt, tt)))))), tt),
+                    ),
+                  ),
+                ),
+              ),
+            ),
+          ),
+        ),
+      ),
+    ),
+  ),
+)
 
 pub row-in-range-at : (k : ℕ) → AllInRange (valuesAt k)
 unfolding valuesAt
@@ -144,7 +167,8 @@ gives-fractional {mask} l k n len =
 pub gives-body : {mask : ℕ} → LawMask mask → (t n mark : ℕ) → isLength n ≡ true → Gives (body mask t n mark) (Sized 256 n)
 unfolding body
 gives-body {mask} l t n mark len =
-    gives-cond (eqb t 1) (λ e. gives-as (λ s k. record { size = k .size ∙ zero-add n; below = k .below }) (gives-octetsAfter [] n none)) (λ e.
+    gives-cond (eqb t 1)
+    (λ e. gives-as (λ s k. record { size = k .size ∙ zero-add n; below = k .below }) (gives-octetsAfter [] n none)) (λ e.
     gives-cond (eqb t 2) (λ e. gives-constantly n (plusZero mask) (plus-below l)) (λ e.
     gives-cond (eqb t 3) (λ e. gives-constantly n (minusZero mask) (minus-below l)) (λ e.
     gives-cond (eqb t 4) (λ e. gives-bind (gives-number 8) (λ x h. gives-constantly n x h)) (λ e.
@@ -258,7 +282,8 @@ unfolding numberFrom
 number-next v zero b i {x} {j} e = let p : i ≡ j = cc in omega arith
 number-next v (suc n) b i {x} {j} e = go (λ a k. number-next (2 * v + a) n b k) (steps (bit b i) _ e)
   where
-    go : ((a k : ℕ) → numberFrom (2 * v + a) n b k ≡ whole x j → k + n ≡ j) → Steps (bit b i) (λ a k. numberFrom (2 * v + a) n b k) x j → i + suc n ≡ j
+    go : ((a k : ℕ) → numberFrom (2 * v + a) n b k ≡ whole x j → k + n ≡ j) → Steps (bit b i) (λ a k. numberFrom (2 * v + a) n b k) x j
+        → i + suc n ≡ j
     go later (through a k q e) = let r = later a k e in let p = bit-next b i q in omega arith
 
 afterFirst-accepts : {mask : ℕ} → LawMask mask → (set room o : ℕ) (first : First) → asWritten o first ≡ true → {b : List ℕ} → Below 2 b
@@ -286,10 +311,12 @@ afterFirst-accepts {mask} l set room o (sixOrEight n) w {b} z h {f} {j} e = go (
         withTool-accepts l set room t n mark (and-left _ _ w) z (markAt n + 1) (omega arith)
         (omega (arith, bit-next b (markAt n) q, bit-inside b (markAt n) q)) e
 
-    go : Steps (bit b (markAt n)) (λ mark k. (sixNotEight >>= (λ t. from (markAt n + 1) (withTool mask set room t n mark))) b k) f j → Accepts set room b f j
+    go : Steps (bit b (markAt n)) (λ mark k. (sixNotEight >>= (λ t. from (markAt n + 1) (withTool mask set room t n mark))) b k) f j
+        → Accepts set room b f j
     go (through mark k q e) = six mark k q (steps (sixNotEight b k) _ e)
 
-pub frame-accepts : {mask : ℕ} → LawMask mask → (set room : ℕ) {b : List ℕ} → Below 2 b → {f : Found} {j : ℕ} → frame mask set room b 0 ≡ whole f j → Accepts set room b f j
+pub frame-accepts : {mask : ℕ} → LawMask mask → (set room : ℕ) {b : List ℕ} → Below 2 b → {f : Found} {j : ℕ}
+    → frame mask set room b 0 ≡ whole f j → Accepts set room b f j
 unfolding frame
 frame-accepts {mask} l set room {b} z {f} {j} e = go (steps (number 8 b 0) _ e)
   where
@@ -300,7 +327,8 @@ frame-accepts {mask} l set room {b} z {f} {j} e = go (steps (number 8 b 0) _ e)
         afterFirst-accepts l set room o (firstOctet o) (first-as-written o (g .2)) z (omega arith) (rw (← p) at e)
 
 -- an accepted frame, of octets
-pub read-accepts : (octets : List ℕ) (law set room : ℕ) {f : Found} {j : ℕ} → readOne octets law set room ≡ whole f j → Accepts set room (bitsOf octets) f j
+pub read-accepts : (octets : List ℕ) (law set room : ℕ) {f : Found} {j : ℕ} → readOne octets law set room ≡ whole f j
+    → Accepts set room (bitsOf octets) f j
 unfolding readOne
 read-accepts octets law set room {f} {j} e =
     let p = not-refused (not (isLaw law)) Law 0 _ (bitsOf octets) 0 e in

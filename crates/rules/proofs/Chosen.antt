@@ -35,7 +35,8 @@ none-less : {usable : ℕ → Bool} {size : ℕ → ℕ} {order : List ℕ} {t :
 none-less {usable} {size} {order} {t} m h f =
     rw (f .stands)
     (each-append (each-map (λ u e. or-leb (not (usable u)) m (size t) (size u) h e) (f .earlier))
-    (next (or-right (not (usable t)) (leb m (size t)) (le-leb m (size t) h)) (each-map (λ u e. or-leb′ (not (usable u)) m (size t) (size u) h e) (f .later))))
+    (next (or-right (not (usable t)) (leb m (size t)) (le-leb m (size t) h))
+    (each-map (λ u e. or-leb′ (not (usable u)) m (size t) (size u) h e) (f .later))))
 
 -- "fewest octets"
 pub least : {usable : ℕ → Bool} {size : ℕ → ℕ} {order : List ℕ} {t : ℕ} → FirstLeast usable size order t
@@ -80,7 +81,8 @@ module _ (can : ℕ → Bool) (size : ℕ → ℕ) where
       let there = rw k at (each-at before u after all) in
       absurd (omega (arith, ltb-true (size u) (size t) less, leb-true (size t) (size u) there))
 
-  same-place : {t u : ℕ} (before before′ after after′ : List ℕ) → before ++ (t ∷ after) ≡ before′ ++ (u ∷ after′) → can t ≡ true → can u ≡ true
+  same-place : {t u : ℕ} (before before′ after after′ : List ℕ) → before ++ (t ∷ after) ≡ before′ ++ (u ∷ after′)
+      → can t ≡ true → can u ≡ true
       → Each (Less t) before → Each (NoMore t) after → Each (Less u) before′ → Each (NoMore u) after′ → t ≡ u
   same-place [] [] after after′ e h k a b c d = cc
   same-place {t} {u} [] (x ∷ before′) after after′ e h k a b (next c c′) d =
@@ -97,16 +99,25 @@ module _ (can : ℕ → Bool) (size : ℕ → ℕ) where
 
   pub one-first-least : {order : List ℕ} {t u : ℕ} → FirstLeast can size order t → FirstLeast can size order u → t ≡ u
   one-first-least f g =
-      same-place (f .before) (g .before) (f .after) (g .after) (sym (f .stands) ∙ g .stands) (f .ok) (g .ok) (f .earlier) (f .later) (g .earlier) (g .later)
+      same-place (f .before) (g .before) (f .after) (g .after) (sym (f .stands) ∙ g .stands) (f .ok) (g .ok) (f .earlier)
+      (f .later) (g .earlier) (g .later)
 
 -- a tool that the set holds and that applies
 abbrev pub usable : ℕ → ℕ → List ℕ → ℕ → Bool
 usable mask set s t = holds set t && applies mask t s
 
-step : (can : ℕ → Bool) (size : ℕ → ℕ) (t c : ℕ) (order : List ℕ) (a b : Bool) → can t ≡ a → leb (size t) (size c) ≡ b → FirstLeast can size order c
+step : (can : ℕ → Bool) (size : ℕ → ℕ) (t c : ℕ) (order : List ℕ) (a b : Bool) → can t ≡ a → leb (size t) (size c) ≡ b
+    → FirstLeast can size order c
     → FirstLeast can size (t ∷ order) (cond (a && b) t c)
 step can size t c order true true e g f =
-    record { before = []; after = order; stands = refl; ok = e; earlier = nothing; later = none-less (size t) (leb-true (size t) (size c) g) f }
+    record {
+      before = [];
+      after = order;
+      stands = refl;
+      ok = e;
+      earlier = nothing;
+      later = none-less (size t) (leb-true (size t) (size c) g) f;
+    }
 step can size t c order true false e g f =
     record {
       before = t ∷ f .before;
@@ -133,7 +144,8 @@ choose-least mask set s [] h = record { before = []; after = []; stands = refl; 
 choose-least mask set s (t ∷ ts) h =
     let best = choose mask set s ts in
     let test = leb (octetsOfForm mask s t) (octetsOfForm mask s best) in
-    step (usable mask set s) (octetsOfForm mask s) t best (ts ++ (1 ∷ [])) (usable mask set s t) test refl refl (choose-least mask set s ts h)
+    step (usable mask set s) (octetsOfForm mask s) t best (ts ++ (1 ∷ [])) (usable mask set s t) test refl refl
+    (choose-least mask set s ts h)
 
 -- the order plus, minus, constant, binary, Rice, value-location, uncompressed
 abbrev pub order : List ℕ

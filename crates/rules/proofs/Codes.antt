@@ -1,7 +1,7 @@
--- The code of S (specs/Zeros): every code of the table is read back as its S, for all five lengths (code-read); and a code that stands at a place,
--- a bit that is missing counting 0, is read as a number of so many bits is, or SHORT (lead-number).
+-- The code of S (specs/Zeros): every code of the table is read back as its S, for all five lengths (code-read); and a code that stands at a
+-- place, a bit that is missing counting 0, is read as a number of so many bits is, or SHORT (lead-number).
 use Prim.Native.Nat.{ℕ, zero, suc, _+_, _*_, _-_, _≤_, _<_}
-use mathlib.Core.Path.{_≡_, refl, sym, ap, _∙_}
+use mathlib.Core.Path.{_≡_, refl, _∙_}
 use mathlib.Core.List.{List, [], _∷_, _++_}
 use mathlib.Core.Bool.{Bool, true, false, cond, false≢true}
 use native.Mathlib.Omega.{arith}
@@ -12,7 +12,7 @@ use lib.Seq.{getD-append-seam, getD-append-add}
 use borrow.Author.Tests.{eqb-true, lt-ltb}
 use Rattle.rules.specs.declared.Refusal.the-variants.{Short}
 use Rattle.rules.specs.Tools.{isLength}
-use Rattle.rules.specs.Reading.{Read, whole, refuse, Reader, _>>=_, andThen, give, bit, numberFrom}
+use Rattle.rules.specs.Reading.{Read, whole, refuse, _>>=_, andThen, bit, numberFrom}
 use Rattle.rules.specs.Zeros.{Tree, leaf, fork, treeOf, readTree, codesOf, codeOf, mostS}
 use Rattle.rules.proofs.Tests.{allBelow, allBelow-at, by-length}
 
@@ -63,7 +63,8 @@ lead-number (fork z o) (a ∷ code) s h v bits i e =
     go (suc (suc a)) h m = absurd (false≢true h)
 
 -- so many bits that are there
-number-passed : (s v n : ℕ) (bits : List ℕ) (i : ℕ) → i + n ≤ length bits → andThen (numberFrom v n bits i) (λ x j. whole s j) ≡ whole s (i + n)
+number-passed : (s v n : ℕ) (bits : List ℕ) (i : ℕ) → i + n ≤ length bits
+    → andThen (numberFrom v n bits i) (λ x j. whole s j) ≡ whole s (i + n)
 unfolding numberFrom bit
 number-passed s v zero bits i h = rw (add-zero i)
 number-passed s v (suc n) bits i h =
@@ -86,5 +87,6 @@ pub code-read : (n s : ℕ) → isLength n ≡ true → 1 ≤ s → s ≤ mostS 
 unfolding treeOf codesOf
 code-read n s l h g front rest =
     let e : s - 1 + 1 ≡ s = omega arith in
-    let t = allBelow-at (codeLeads n) (mostS n) (by-length (λ n. allBelow (codeLeads n) (mostS n) ≡ true) refl refl refl refl refl n l) (s - 1) (omega arith) in
+    let t = allBelow-at (codeLeads n) (mostS n) (by-length (λ n. allBelow (codeLeads n) (mostS n) ≡ true) refl refl refl refl refl n l)
+    (s - 1) (omega arith) in
     lead-read (treeOf n) (codeOf n s) s (rw e at t) front rest

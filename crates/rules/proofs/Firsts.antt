@@ -1,9 +1,9 @@
 -- The first octets (specs/First): which are not assigned, and which begin each carried tool and length.
 -- Each rule is one test over all 256.
 use native.Mathlib.Omega.{arith}
-use Prim.Native.Nat.{ℕ, _+_, _-_, _/_, _%_, _^_, _≤_, _<_}
-use mathlib.Core.Path.{_≡_, refl, sym, ap, ap₂, _∙_}
-use mathlib.Core.List.{List, [], _∷_, _++_}
+use Prim.Native.Nat.{ℕ, _+_, _-_, _/_, _^_, _≤_, _<_}
+use mathlib.Core.Path.{_≡_, refl, sym, ap, ap₂}
+use mathlib.Core.List.{List, [], _∷_}
 use mathlib.Core.Bool.{Bool, true, false, Bool·beq, not, cond, _&&_, _||_, false≢true}
 use lib.Dec.{eqb, leb, ltb}
 use lib.ListN.{length}
@@ -11,7 +11,7 @@ use borrow.Author.Tests.{eqb-true, leb-true, lt-ltb}
 use Rattle.rules.specs.Tools.{isLength}
 use Rattle.rules.specs.Bits.{lowBits, valueFrom}
 use Rattle.rules.specs.Fractional.{firstCode, rowCount}
-use Rattle.rules.specs.First.{First, unassigned, pad, tool, sixOrEight, rows, lookUp, firstOctet, baseOf, isLong, octetFor, riceCode}
+use Rattle.rules.specs.First.{First, unassigned, pad, tool, sixOrEight, rows, lookUp, firstOctet, baseOf, octetFor, riceCode}
 use Rattle.rules.proofs.Tests.{and-left, and-right, or-cases, implied, allBelow, allBelow-at, by-length}
 
 -- no length has more than twelve rows
@@ -102,7 +102,8 @@ unfolding firstOctet lookUp rows firstCode rowCount
 row-first n k l h =
     begins-tool 11 n (firstOctet (firstCode n + k))
     (implied (ltb k (rowCount n)) (beginsTool 11 n (firstOctet (firstCode n + k)))
-    (allBelow-at (rowBegins n) 12 (by-length (λ n. allBelow (rowBegins n) 12 ≡ true) refl refl refl refl refl n l) k (omega (arith, rows-few n l)))
+    (allBelow-at (rowBegins n) 12 (by-length (λ n. allBelow (rowBegins n) 12 ≡ true) refl refl refl refl refl n l) k
+    (omega (arith, rows-few n l)))
     (lt-ltb k (rowCount n) h))
 
 -- An octet that begins with tool 6's code of a length is tool 6 or 8 of that length.

@@ -6,10 +6,12 @@
 --   packs-of                      every R' of the table fits its bits, and every length is whole groups
 use Prim.Native.Nat.{ℕ, zero, suc, _+_, _*_, _-_, _^_, _/_, _%_, _≤_, _<_}
 use mathlib.Core.Path.{_≡_, refl, sym, ap, ap₂, subst, _∙_}
-use mathlib.Core.List.{List, [], _∷_, _++_, map}
+use mathlib.Core.List.{List, [], _∷_, map}
 use mathlib.Core.Bool.{Bool, true, false, cond, _&&_, _||_}
 use native.Mathlib.Omega.{arith}
-use native.Mathlib.Nat.{mod-lt, mod-eq-of-lt, mod-add-div, div-eq-of-lt, add-mul-div-left, add-mul-mod-self-left, div-lt-iff-lt-mul, pow-zero, pow-suc, mul-comm, zero-mul, suc-mul, mul-suc, zero-add, add-zero}
+use native.Mathlib.Nat.{mod-lt, mod-eq-of-lt, mod-add-div, div-eq-of-lt}
+use native.Mathlib.Nat.{add-mul-div-left, add-mul-mod-self-left, div-lt-iff-lt-mul, pow-zero}
+use native.Mathlib.Nat.{pow-suc, mul-comm, zero-mul, suc-mul, mul-suc, zero-add, add-zero}
 use native.Mathlib.Decide.{ℕ-discrete}
 use borrow.Author.Tests.{eqb-true, leb-true}
 use lib.Arith.{digits-lt}
@@ -18,7 +20,10 @@ use lib.IntN.{ℤ}
 use lib.ListN.{length, getD, take, drop, length-map, length-append}
 use Rattle.rules.specs.Tools.{isLength}
 use Rattle.rules.specs.Samples.{sampleOf, onLine}
-use Rattle.rules.specs.Fractional.{valuesAt, firstCode, rowCount, radix, leastAt, greatestAt, lowAt, belowAt, valueFor, groupOf, bitsFor, bodyBits, Packs, ofDigits, digitsOf, placeIn, groupsForm, groupsFormAs, samplesAt, fractionalBody, Printed, table728}
+use Rattle.rules.specs.Fractional.{valuesAt, firstCode, rowCount, radix, leastAt, greatestAt}
+use Rattle.rules.specs.Fractional.{lowAt, belowAt, valueFor, groupOf, bitsFor}
+use Rattle.rules.specs.Fractional.{bodyBits, Packs, ofDigits, digitsOf, placeIn, groupsForm}
+use Rattle.rules.specs.Fractional.{groupsFormAs, samplesAt, fractionalBody, Printed, table728}
 use Rattle.rules.specs.Bits.{lowBits}
 use Rattle.rules.proofs.Octets.{Below, none, more, length-lowBits}
 use Rattle.rules.proofs.Tests.{and-left, and-right, allBelow-at, by-length}
@@ -83,7 +88,8 @@ pub places-below : (values : List ℕ) {s : List ℕ} → Among values s → Bel
 places-below values done = none
 places-below values (and h t) = more h (places-below values t)
 
--- Table 7-28 as it is printed: R is the greatest less the least and one, R' the number of values, and each code the length's first one and the row's place
+-- Table 7-28 as it is printed: R is the greatest less the least and one, R' the number of values, and each code the length's first one and
+-- the row's place
 abbrev sameValues : List ℤ → List ℤ → Bool
 sameValues [] [] = true
 sameValues [] (w ∷ ws) = false
@@ -116,8 +122,24 @@ as-printed = refl
 pub radix-range : (k : ℕ) → k < 12 → (2 ≤ radix k) × (radix k ≤ 6)
 unfolding valuesAt
 radix-range k h =
-    let t = allBelow-at (λ k. leb 2 (radix k) && leb (radix k) 6) 12 refl k h in
-    (leb-true 2 (radix k) (and-left (leb 2 (radix k)) (leb (radix k) 6) t), leb-true (radix k) 6 (and-right (leb 2 (radix k)) (leb (radix k) 6) t))
+    let t = allBelow-at (λ k. leb 2 (radix k) && leb (radix k) 6) 12 refl k h in (
+      leb-true 2 (radix k) (and-left (leb 2 (radix k)) (leb (radix k) 6) t),
+      leb-true (radix k) 6
+          (and-right (leb 2 (radix k)) (leb (radix k) 6) t),
+    )
+
+-- how far a row goes below 0
+abbrev rowSmall : ℕ → Bool
+rowSmall k = leb (belowAt k) (lowAt k) && leb (lowAt k) 4
+
+pub row-small : (k : ℕ) → k < 12 → (belowAt k ≤ lowAt k) × (lowAt k ≤ 4)
+unfolding valuesAt
+row-small k h =
+    let t = allBelow-at rowSmall 12 refl k h in (
+      leb-true _ _ (and-left (leb (belowAt k) (lowAt k)) (leb (lowAt k) 4) t),
+      leb-true _ _
+          (and-right (leb (belowAt k) (lowAt k)) (leb (lowAt k) 4) t),
+    )
 
 pub length-samplesAt : (mask k : ℕ) → length (samplesAt mask k) ≡ radix k
 unfolding samplesAt
@@ -151,14 +173,16 @@ unfolding counted
 counted-at f low below i zero d h = absurd (omega arith)
 counted-at f low below i (suc n) zero h = ap (λ (m : ℕ). f (valueFor low below m)) (sym (add-zero i))
 counted-at f low below i (suc n) (suc d) h =
-    counted-at f low below (i + 1) n d (omega arith) ∙ ap (λ (m : ℕ). f (valueFor low below m)) (let e : i + 1 + d ≡ i + suc d = omega arith in e)
+    counted-at f low below (i + 1) n d (omega arith)
+    ∙ ap (λ (m : ℕ). f (valueFor low below m)) (let e : i + 1 + d ≡ i + suc d = omega arith in e)
 
 -- so of its samples
 pub sample-told : (mask k d : ℕ) → k < 12 → d < radix k → getD (samplesAt mask k) d 0 ≡ sampleOf mask (valueFor (lowAt k) (belowAt k) d)
 unfolding samplesAt
 sample-told mask k d h l =
     ap (λ (vs : List ℤ). getD (map (sampleOf mask) vs) d 0) (values-told k h)
-    ∙ counted-at (sampleOf mask) (lowAt k) (belowAt k) 0 (radix k) d l ∙ ap (λ (n : ℕ). sampleOf mask (valueFor (lowAt k) (belowAt k) n)) (zero-add d)
+    ∙ counted-at (sampleOf mask) (lowAt k) (belowAt k) 0 (radix k) d l
+    ∙ ap (λ (n : ℕ). sampleOf mask (valueFor (lowAt k) (belowAt k) n)) (zero-add d)
 
 -- every R' of the table packs
 pub packs-of : (r n : ℕ) → 2 ≤ r → r ≤ 6 → n ≤ 320 → n % 40 ≡ 0 → Packs r (groupOf r) (bitsFor r) n
@@ -187,11 +211,13 @@ length-groups : (r g w m : ℕ) (ds : List ℕ) → length (groupsForm r g w m d
 unfolding groupsForm
 length-groups r g w zero ds = omega arith
 length-groups r g w (suc m) ds =
-    length-append (lowBits w (ofDigits r (take g ds))) (groupsForm r g w m (drop g ds)) ∙ omega (arith, length-lowBits w (ofDigits r (take g ds)), length-groups r g w m (drop g ds), mul-suc w m)
+    length-append (lowBits w (ofDigits r (take g ds))) (groupsForm r g w m (drop g ds))
+    ∙ omega (arith, length-lowBits w (ofDigits r (take g ds)), length-groups r g w m (drop g ds), mul-suc w m)
 
 pub length-body : (mask k : ℕ) (s : List ℕ) → length (fractionalBody mask k s) ≡ bodyBits k (length s)
 unfolding groupsFormAs
-length-body mask k s = length-groups (radix k) (groupOf (radix k)) (bitsFor (radix k)) (length s / groupOf (radix k)) (map (placeIn (samplesAt mask k)) s)
+length-body mask k s = length-groups (radix k) (groupOf (radix k)) (bitsFor (radix k)) (length s / groupOf (radix k))
+    (map (placeIn (samplesAt mask k)) s)
 
 -- of whatever row: 832 bits at most
 pub body-bits-most : (k n : ℕ) → n ≤ 320 → bodyBits k n ≤ 832

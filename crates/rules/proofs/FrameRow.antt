@@ -1,5 +1,6 @@
--- The row of a frame (specs/Chooses, tool 11): a frame that has a row is made of the row's values (`row-among`), and lies within it (`row-extent`).
-use Prim.Native.Nat.{ℕ, zero, suc, _+_, _≤_, _<_, min, max}
+-- The row of a frame (specs/Chooses, tool 11): a frame that has a row is made of the row's values (`row-among`), and lies within it
+-- (`row-extent`).
+use Prim.Native.Nat.{ℕ, zero, suc, _+_, _≤_, _<_}
 use mathlib.Core.Path.{_≡_, refl, sym, ap, _∙_}
 use mathlib.Core.Logic.{_⊎_, inl, inr}
 use mathlib.Core.List.{List, [], _∷_, map}
@@ -11,7 +12,8 @@ use lib.IntN.{ℤ, pos, negsuc}
 use lib.ListN.{length}
 use Rattle.rules.specs.Samples.{signed, sampleOf, minusZero, onLine}
 use Rattle.rules.specs.Fractional.{valuesAt, rowCount, leastAt, greatestAt, minusAt, placeIn, samplesAt}
-use Rattle.rules.specs.Chooses.{countOf, leastOf, greatestOf, minusOccurs, sameTest, isRowOf, rowFrom, fractionalRow, fractionalApplies}
+use Rattle.rules.specs.Chooses.{countOf, leastOf, greatestOf, minusOccurs, sameTest}
+use Rattle.rules.specs.Chooses.{isRowOf, rowFrom, fractionalRow, fractionalApplies}
 use Rattle.rules.proofs.Octets.{Below, none, more}
 use Rattle.rules.proofs.Tests.{and-left, and-right, or-cases, allBelow, allBelow-at}
 use Rattle.rules.proofs.Signed.{InRange, LawMask, signed-range, told-by-line}
@@ -61,11 +63,13 @@ unfolding placeIn
 place-of l [] h x small e = absurd (false≢true e)
 place-of {mask} l (v ∷ vs) h x small e = go (eqb x (sampleOf mask v)) refl (λ t. place-of l vs (h .1) x small t)
   where
-    go : (b : Bool) → eqb x (sampleOf mask v) ≡ b → (oneOf vs (lineOf mask x) ≡ true → placeIn (map (sampleOf mask) vs) x < length (map (sampleOf mask) vs))
+    go : (b : Bool) → eqb x (sampleOf mask v) ≡ b
+        → (oneOf vs (lineOf mask x) ≡ true → placeIn (map (sampleOf mask) vs) x < length (map (sampleOf mask) vs))
         → cond b 0 (suc (placeIn (map (sampleOf mask) vs) x)) < suc (length (map (sampleOf mask) vs))
     go true q later = omega arith
     go false q later =
-        or-cases (suc (placeIn (map (sampleOf mask) vs) x) < suc (length (map (sampleOf mask) vs))) (eqb (lineOf mask x) (onLine v)) (oneOf vs (lineOf mask x)) e
+        or-cases (suc (placeIn (map (sampleOf mask) vs) x) < suc (length (map (sampleOf mask) vs))) (eqb (lineOf mask x) (onLine v))
+        (oneOf vs (lineOf mask x)) e
         (λ t. absurd (eqb-false x (sampleOf mask v) q
         (sym (l .back x small) ∙ ap (sampleOf mask) (told-by-line (signed mask x) v (signed-range mask x) (h .0) (eqb-true _ _ t)))))
         (λ t. omega (arith, later t))
@@ -88,7 +92,8 @@ minus-fits : (m q : Bool) → (m ≡ false → q ≡ false) → m || not q ≡ t
 minus-fits true q f = refl
 minus-fits false q f = rw (f refl)
 
-among : {mask : ℕ} → LawMask mask → (k : ℕ) → k < 12 → {s : List ℕ} → Below 256 s → leastAt k ≤ leastOf mask s → greatestOf mask s ≤ greatestAt k
+among : {mask : ℕ} → LawMask mask → (k : ℕ) → k < 12 → {s : List ℕ} → Below 256 s → leastAt k ≤ leastOf mask s
+    → greatestOf mask s ≤ greatestAt k
     → (minusAt k ≡ false → countOf (λ x. eqb x (minusZero mask)) s ≡ 0) → Among (samplesAt mask k) s
 unfolding leastOf greatestOf countOf samplesAt
 among l k i none e f c = done
@@ -99,7 +104,8 @@ among {mask} l k i (more {x = x} {l = s} h b) e f c =
     let d : leb y (greatestAt k) ≡ true = le-leb y (greatestAt k) (omega arith) in
     let q : minusAt k || not (eqb y 127) ≡ true
     = minus-fits (minusAt k) (eqb y 127) (λ z. not-minus l x h (head-none (eqb x (minusZero mask)) rest (c z))) in
-    let t = allBelow-at (rowHolds k) 256 (allBelow-at (λ k. allBelow (rowHolds k) 256) 12 rows-hold k i) y (line-small (signed mask x) (signed-range mask x)) in
+    let t = allBelow-at (rowHolds k) 256 (allBelow-at (λ k. allBelow (rowHolds k) 256) 12 rows-hold k i) y
+    (line-small (signed mask x) (signed-range mask x)) in
     and (place-of l (valuesAt k) (row-in-range-at k) x h (rw (a, d, q) at t))
     (among l k i b (omega arith) (omega arith) (λ z. tail-none (eqb x (minusZero mask)) rest (c z)))
 
@@ -123,20 +129,34 @@ most-rows n = go (eqb n 40) (eqb n 80)
 pub row-low : (mask : ℕ) (s : List ℕ) → fractionalRow mask s < rowCount (length s) → fractionalRow mask s < 12
 row-low mask s h = omega (arith, most-rows (length s))
 
-pub row-among : {mask : ℕ} → LawMask mask → (s : List ℕ) → Below 256 s → fractionalRow mask s < rowCount (length s)
-    → Among (samplesAt mask (fractionalRow mask s)) s
-row-among {mask} l s b h =
+-- "by its least, its greatest and whether -1 occurs": the row that is found has them
+record Ends (mask : ℕ) (s : List ℕ) : Type 0 where
+  pub least : leastOf mask s ≡ leastAt (fractionalRow mask s)
+  pub greatest : greatestOf mask s ≡ greatestAt (fractionalRow mask s)
+  pub minus : sameTest (minusOccurs mask s) (minusAt (fractionalRow mask s)) ≡ true
+
+row-ends : (mask : ℕ) (s : List ℕ) → fractionalRow mask s < rowCount (length s) → Ends mask s
+row-ends mask s h =
     let k = fractionalRow mask s in
     let low : Bool = eqb (leastOf mask s) (leastAt k) in
     let high : Bool = eqb (greatestOf mask s) (greatestAt k) in
     let has : Bool = sameTest (minusOccurs mask s) (minusAt k) in
     let t : low && high && has ≡ true = found-row mask s h in
     let u : low && high ≡ true = and-left (low && high) has t in
-    let e : leastOf mask s ≡ leastAt k = eqb-true _ _ (and-left low high u) in
-    let f : greatestOf mask s ≡ greatestAt k = eqb-true _ _ (and-right low high u) in
-    let v : has ≡ true = and-right (low && high) has t in
-    among l k (row-low mask s h) b (omega arith) (omega arith)
-    (λ z. eqb-true _ _ (not-zero (eqb (countOf (λ x. eqb x (minusZero mask)) s) 0) (same-none (minusOccurs mask s) (minusAt k) v z)))
+    record {
+      least = eqb-true _ _ (and-left low high u);
+      greatest = eqb-true _ _ (and-right low high u);
+      minus = and-right (low && high) has t;
+    }
+
+pub row-among : {mask : ℕ} → LawMask mask → (s : List ℕ) → Below 256 s → fractionalRow mask s < rowCount (length s)
+    → Among (samplesAt mask (fractionalRow mask s)) s
+row-among {mask} l s b h =
+    let k = fractionalRow mask s in
+    let ends = row-ends mask s h in
+    among l k (row-low mask s h) b (omega (arith, ends .least)) (omega (arith, ends .greatest))
+    (λ z. eqb-true _ _ (not-zero (eqb (countOf (λ x. eqb x (minusZero mask)) s) 0)
+    (same-none (minusOccurs mask s) (minusAt k) (ends .minus) z)))
 
 -- a frame that has a row lies within it: from -4 to 2, and past the two zeros
 pub record Rowed (mask : ℕ) (s : List ℕ) : Type 0 where
@@ -146,7 +166,8 @@ pub record Rowed (mask : ℕ) (s : List ℕ) : Type 0 where
   pub wide : leastOf mask s < 127 ⊎ 128 < greatestOf mask s
 
 abbrev rowWide : ℕ → Bool
-rowWide k = leb 124 (leastAt k) && leb (greatestAt k) 130 && ltb (leastAt k) (greatestAt k) && (ltb (leastAt k) 127 || ltb 128 (greatestAt k))
+rowWide k = leb 124 (leastAt k) && leb (greatestAt k) 130 && ltb (leastAt k)
+    (greatestAt k) && (ltb (leastAt k) 127 || ltb 128 (greatestAt k))
 
 rows-wide : allBelow rowWide 12 ≡ true
 unfolding valuesAt
@@ -156,13 +177,9 @@ pub row-extent : (mask : ℕ) (s : List ℕ) → fractionalApplies mask s ≡ tr
 row-extent mask s a =
     let h = ltb-true (fractionalRow mask s) (rowCount (length s)) a in
     let k = fractionalRow mask s in
-    let low : Bool = eqb (leastOf mask s) (leastAt k) in
-    let high : Bool = eqb (greatestOf mask s) (greatestAt k) in
-    let has : Bool = sameTest (minusOccurs mask s) (minusAt k) in
-    let t : low && high && has ≡ true = found-row mask s h in
-    let u : low && high ≡ true = and-left (low && high) has t in
-    let e : leastOf mask s ≡ leastAt k = eqb-true _ _ (and-left low high u) in
-    let f : greatestOf mask s ≡ greatestAt k = eqb-true _ _ (and-right low high u) in
+    let ends = row-ends mask s h in
+    let e = ends .least in
+    let f = ends .greatest in
     let p : Bool = leb 124 (leastAt k) in
     let q : Bool = leb (greatestAt k) 130 in
     let r : Bool = ltb (leastAt k) (greatestAt k) in
@@ -174,6 +191,7 @@ row-extent mask s a =
       low = omega (arith, leb-true 124 (leastAt k) (and-left p q pq));
       high = omega (arith, leb-true (greatestAt k) 130 (and-right p q pq));
       apart = omega (arith, ltb-true (leastAt k) (greatestAt k) (and-right (p && q) r pqr));
-      wide = or-cases (leastOf mask s < 127 ⊎ 128 < greatestOf mask s) (ltb (leastAt k) 127) (ltb 128 (greatestAt k)) (and-right (p && q && r) v w)
+      wide = or-cases (leastOf mask s < 127 ⊎ 128 < greatestOf mask s) (ltb (leastAt k) 127) (ltb 128 (greatestAt k))
+          (and-right (p && q && r) v w)
           (λ x. inl (omega (arith, ltb-true (leastAt k) 127 x))) (λ x. inr (omega (arith, ltb-true 128 (greatestAt k) x)));
     }

@@ -1,21 +1,21 @@
 -- What an inner reader gives: its next place is not before the last one and not past the end, and its value has its range.
 -- `Gives p Q` is built as readers are, step by step.
 use Prim.Native.Nat.{ℕ, zero, suc, _+_, _*_, _-_, _^_, _≤_, _<_, zero-le}
-use mathlib.Core.Path.{_≡_, refl, sym, ap, subst, _∙_}
-use mathlib.Core.List.{List, [], _∷_, _++_, map}
+use mathlib.Core.Path.{_≡_, refl, sym, subst, _∙_}
+use mathlib.Core.List.{List, [], _∷_, _++_}
 use mathlib.Core.Bool.{Bool, true, false, cond, _&&_}
 use native.Mathlib.Omega.{arith}
-use native.Mathlib.Nat.{le-refl, zero-mul, suc-mul, lt-of-lt-of-le, mul-le-mul-right, pow-suc, mul-comm, mul-assoc, one-mul, add-zero, zero-add, add-mul}
+use native.Mathlib.Nat.{le-refl, zero-mul, suc-mul, lt-of-lt-of-le, mul-le-mul-right, pow-suc, one-mul, add-zero, zero-add, add-mul}
 use lib.Dec.{eqb, leb, ltb, lit<}
 use lib.Arith.{digits-lt}
-use lib.Pow.{pow-pos}
 use lib.ListN.{length, getD, replicate, length-append, length-replicate}
 use borrow.Author.Tests.{ltb-true, ltb-false, leb-true, eqb-true, eqb-false}
 use Rattle.rules.specs.declared.Refusal.{Refusal}
-use Rattle.rules.specs.declared.Refusal.the-variants.{Short, Run, Align, Method, Place, Case}
-use Rattle.rules.specs.Reading.{Read, whole, refuse, Reader, andThen, _>>=_, give, fail, here, bit, numberFrom, number, bitsFrom, octetsAfter, filled}
+use Rattle.rules.specs.declared.Refusal.the-variants.{Short, Run, Method, Place}
+use Rattle.rules.specs.Reading.{Read, whole, refuse, Reader, andThen, _>>=_, give}
+use Rattle.rules.specs.Reading.{fail, here, bit, numberFrom, number, bitsFrom, octetsAfter}
 use Rattle.rules.specs.Runs.{zerosFrom, rice, runsFrom}
-use Rattle.rules.specs.Zeros.{Tree, leaf, fork, treeOf, readTree}
+use Rattle.rules.specs.Zeros.{Tree, leaf, fork, readTree}
 use Rattle.rules.specs.Located.{widthOf, listedFrom, listed, byMethod, emptyIn, lay, valuesInto}
 use Rattle.rules.specs.Fractional.{digitsOf, groupsFrom}
 use Rattle.rules.proofs.Octets.{moved-up, Below, none, more, Sized, below-at, below-append, below-replicate}
@@ -71,7 +71,8 @@ gives-bind {A} {B} {p} {Q} {f} {R} g k = record { on = λ {b} {i} {a} {j} z h e.
         (omega arith, t .1, t .2)
     go b i c j z h (refuse w at) q e = no-refusal e
 
-pub gives-cond : {A : Type 0} {p q : Reader A} {Q : A → Type 0} (t : Bool) → (t ≡ true → Gives p Q) → (t ≡ false → Gives q Q) → Gives (cond t p q) Q
+pub gives-cond : {A : Type 0} {p q : Reader A} {Q : A → Type 0} (t : Bool) → (t ≡ true → Gives p Q) → (t ≡ false → Gives q Q)
+    → Gives (cond t p q) Q
 gives-cond true g h = g refl
 gives-cond false g h = h refl
 
@@ -156,7 +157,8 @@ gives-readTree P (fork z o) h =
     gives-bind gives-bit (λ a l. gives-cond (eqb a 1) (λ t. gives-readTree P o (h .1)) (λ t. gives-readTree P z (h .0)))
 
 -- places that are listed
-pub gives-listedFrom : (w d : ℕ) (done : List ℕ) (count : ℕ) → length done ≤ d → Below 2 done → Gives (listedFrom w d done count) (Sized 2 d)
+pub gives-listedFrom : (w d : ℕ) (done : List ℕ) (count : ℕ) → length done ≤ d → Below 2 done
+    → Gives (listedFrom w d done count) (Sized 2 d)
 unfolding listedFrom
 gives-listedFrom w d done zero h l =
     gives-give (done ++ replicate (d - length done) 0) (record {
@@ -177,8 +179,10 @@ pub gives-byMethod : (n d start m : ℕ) → Gives (byMethod n d start m) (Sized
 unfolding byMethod listed
 gives-byMethod n d start m =
     gives-cond (eqb m 0) (λ t. gives-as (λ l s. record { size = s .size ∙ zero-add d; below = s .below }) (gives-bitsFrom [] d none)) (λ t.
-    gives-cond (leb m 4) (λ t. gives-as (λ l s. record { size = s .size ∙ zero-add d; below = s .below }) (gives-runsFrom n m d d [] (le-refl d) none)) (λ t.
-    gives-cond (eqb m 5) (λ t. gives-give (replicate d 0) (record { size = length-replicate d 0; below = below-replicate d {x = 0} (lit< tt) })) (λ t.
+    gives-cond (leb m 4)
+    (λ t. gives-as (λ l s. record { size = s .size ∙ zero-add d; below = s .below }) (gives-runsFrom n m d d [] (le-refl d) none)) (λ t.
+    gives-cond (eqb m 5)
+    (λ t. gives-give (replicate d 0) (record { size = length-replicate d 0; below = below-replicate d {x = 0} (lit< tt) })) (λ t.
     gives-cond (eqb m 6) (λ t. gives-fail Method start) (λ t.
     gives-bind (gives-number 2) (λ less h. gives-listedFrom (widthOf d) d [] (less + 1) zero-le none)))))
 
@@ -195,11 +199,13 @@ gives-valuesInto n z cells g (more {x = x} {l = xs} h t) c =
     (gives-valuesInto n z (lay z x flags 0 cells) g t (s .below)))))
 
 -- groups of digits
-pub gives-groupsFrom : (r g w : ℕ) (done : List ℕ) (count : ℕ) → Gives (groupsFrom r g w done count) (λ digits. length digits ≡ length done + count * g)
+pub gives-groupsFrom : (r g w : ℕ) (done : List ℕ) (count : ℕ)
+    → Gives (groupsFrom r g w done count) (λ digits. length digits ≡ length done + count * g)
 unfolding groupsFrom
 gives-groupsFrom r g w done zero = gives-give done (omega (arith, zero-mul g))
 gives-groupsFrom r g w done (suc count) =
     gives-bind gives-here (λ start u. gives-bind (gives-number w) (λ v h.
     gives-cond (ltb v (r ^ g))
-    (λ t. gives-as (λ digits e. e ∙ simp (length-append, length-digits) (omega (arith, suc-mul count g))) (gives-groupsFrom r g w (done ++ digitsOf r g v) count))
+    (λ t. gives-as (λ digits e. e ∙ simp (length-append, length-digits) (omega (arith, suc-mul count g)))
+    (gives-groupsFrom r g w (done ++ digitsOf r g v) count))
     (λ t. gives-fail Place start)))

@@ -1,5 +1,5 @@
--- What a guard's verdict says of every call that asks the same: `verdict-refused`, `verdict-done`; and that all is so where nothing refuses: `all-met`.
--- Of the three calls: `read-refused`, `read-allowed`, `walk-refused`, `walk-allowed`, `write-refused`, `write-allowed`.
+-- What a guard's verdict says of every call that asks the same: `verdict-refused`, `verdict-done`; and that all is so where nothing
+-- refuses: `all-met`. Of the three calls: `read-refused`, `read-allowed`, `walk-refused`, `walk-allowed`, `write-refused`, `write-allowed`.
 use Prim.Native.Nat.{ℕ, suc}
 use mathlib.Core.Path.{_≡_, refl, sym, ap, subst}
 use mathlib.Core.List.{List, [], _∷_}
@@ -16,8 +16,8 @@ use Rattle.rules.specs.Bits.{bitsOf, octetsFor}
 use Rattle.rules.specs.Samples.{maskOf}
 use Rattle.rules.specs.Reading.{Reader, refuse, fail}
 use Rattle.rules.specs.Frame.{Found, frame, readOne}
-use Rattle.rules.specs.Chooses.{Write, wrote, declined, chosen, writeOne}
-use Rattle.rules.specs.Walk.{Walked, stopped, walkFrom, walkAsks, walkAll}
+use Rattle.rules.specs.Chooses.{wrote, declined, chosen, writeOne}
+use Rattle.rules.specs.Walk.{stopped, walkFrom, walkAsks, walkAll}
 
 abbrev IsDone : Ending → Type 0
 IsDone Done = Unit {0}
@@ -31,8 +31,10 @@ pub not-done : {why : Refusal} → Refused why ≡ Done → ⊥
 not-done e = subst IsDone (sym e) tt
 
 module _ {A : Type 0} (refused : Refusal → A) (next : A) where
-  one-refused : (met : Bool) (rest : List Asked) (first : Refusal) {why : Refusal} → (verdict rest ≡ Refused why → judged rest refused next ≡ refused why)
-      → cond (not met) (Refused first) (verdict rest) ≡ Refused why → cond (not met) (refused first) (judged rest refused next) ≡ refused why
+  one-refused : (met : Bool) (rest : List Asked) (first : Refusal) {why : Refusal}
+      → (verdict rest ≡ Refused why → judged rest refused next ≡ refused why)
+      → cond (not met) (Refused first) (verdict rest) ≡ Refused why
+      → cond (not met) (refused first) (judged rest refused next) ≡ refused why
   one-refused true rest first ih e = ih e
   one-refused false rest first {why} ih e = ap (λ (end : Ending). refused (refusal why end)) e
 
@@ -54,7 +56,8 @@ abbrev pub AllMet : List Asked → Type 0
 AllMet [] = Unit {0}
 AllMet (a ∷ asked) = (a .met ≡ true) × AllMet asked
 
-one-met : (met : Bool) (rest : List Asked) (first : Refusal) → (verdict rest ≡ Done → AllMet rest) → cond (not met) (Refused first) (verdict rest) ≡ Done → (met ≡ true) × AllMet rest
+one-met : (met : Bool) (rest : List Asked) (first : Refusal) → (verdict rest ≡ Done → AllMet rest)
+    → cond (not met) (Refused first) (verdict rest) ≡ Done → (met ≡ true) × AllMet rest
 one-met true rest first ih e = (refl, ih e)
 one-met false rest first ih e = absurd (not-done e)
 
@@ -66,18 +69,21 @@ module _ (octets : List ℕ) (law set room : ℕ) where
   pub read-refused : {why : Refusal} → verdict (readerAsks law set) ≡ Refused why → readOne octets law set room ≡ refuse why 0
   unfolding readOne
   read-refused e =
-      ap (λ (r : Reader Found). r (bitsOf octets) 0) (verdict-refused (λ why. fail why 0) (frame (maskOf law) set room) (readerAsks law set) e)
+      ap (λ (r : Reader Found). r (bitsOf octets) 0)
+      (verdict-refused (λ why. fail why 0) (frame (maskOf law) set room) (readerAsks law set) e)
 
   pub read-allowed : verdict (readerAsks law set) ≡ Done → readOne octets law set room ≡ frame (maskOf law) set room (bitsOf octets) 0
   unfolding readOne
   read-allowed e =
       ap (λ (r : Reader Found). r (bitsOf octets) 0) (verdict-done (λ why. fail why 0) (frame (maskOf law) set room) (readerAsks law set) e)
 
-  pub walk-refused : {why : Refusal} → verdict (walkAsks law set (length octets)) ≡ Refused why → walkAll octets law set room ≡ stopped (Refused why) 0 0
+  pub walk-refused : {why : Refusal} → verdict (walkAsks law set (length octets)) ≡ Refused why
+      → walkAll octets law set room ≡ stopped (Refused why) 0 0
   unfolding walkAll
   walk-refused e = verdict-refused (λ why. stopped (Refused why) 0 0) _ (walkAsks law set (length octets)) e
 
-  pub walk-allowed : verdict (walkAsks law set (length octets)) ≡ Done → walkAll octets law set room ≡ walkFrom (suc (length octets)) octets law set 0 room
+  pub walk-allowed : verdict (walkAsks law set (length octets)) ≡ Done
+      → walkAll octets law set room ≡ walkFrom (suc (length octets)) octets law set 0 room
   unfolding walkAll
   walk-allowed e = verdict-done (λ why. stopped (Refused why) 0 0) _ (walkAsks law set (length octets)) e
 

@@ -43,14 +43,17 @@ lay-from z x flags p [] h e = rw (drop-of-length-le flags {i = p} (omega arith))
 lay-from z x flags p (y ∷ cells) h e = go (eqb y z) refl e (lay-from z x flags (p + 1) cells h) (lay-from z x flags p cells h)
   where
     go : (b : Bool) → eqb y z ≡ b → length flags ≡ p + (cond b 1 0 + emptyIn z cells)
-        → (length flags ≡ p + 1 + emptyIn z cells → emptyIn z (lay z x flags (p + 1) cells) + countOf (λ f. eqb f 1) (drop (p + 1) flags) ≡ emptyIn z cells)
+        → (length flags ≡ p + 1 + emptyIn z cells → emptyIn z (lay z x flags (p + 1) cells) + countOf (λ f. eqb f 1)
+        (drop (p + 1) flags) ≡ emptyIn z cells)
         → (length flags ≡ p + emptyIn z cells → emptyIn z (lay z x flags p cells) + countOf (λ f. eqb f 1) (drop p flags) ≡ emptyIn z cells)
-        → emptyIn z (cond b (cond (eqb (getD flags p 0) 1) x z) y ∷ lay z x flags (cond b (p + 1) p) cells) + countOf (λ f. eqb f 1) (drop p flags) ≡ cond b 1 0 + emptyIn z cells
+        → emptyIn z (cond b (cond (eqb (getD flags p 0) 1) x z) y ∷ lay z x flags (cond b (p + 1) p) cells) + countOf
+        (λ f. eqb f 1) (drop p flags) ≡ cond b 1 0 + emptyIn z cells
     go true q k i j =
         let s = i (omega arith) in
         let o = one-cell z x (eqb (getD flags p 0) 1) h in
         let l : p < length flags = omega arith in
-        let t : countOf (λ f. eqb f 1) (drop p flags) ≡ cond (eqb (getD flags p 0) 1) 1 0 + countOf (λ f. eqb f 1) (drop (p + 1) flags) = rw (drop-cons flags p 0 l, add-one p) in
+        let t : countOf (λ f. eqb f 1) (drop p flags) ≡ cond (eqb (getD flags p 0) 1) 1 0 + countOf (λ f. eqb f 1) (drop (p + 1) flags) =
+        rw (drop-cons flags p 0 l, add-one p) in
         omega arith
     go false q k i j = let s = j (omega arith) in rw q (omega arith)
 

@@ -1,11 +1,13 @@
--- A lent output that is filled from its start on: what is kept so far, and then the rest as lent (Lent); and one that is filled with an octet
--- from a place on (Filling).
+-- A lent output that is filled from its start on: what is kept so far, and then the rest as lent (Lent); and one that is filled with an
+-- octet from a place on (Filling), or with what a list is mapped to (mapped-turn, mapped-whole).
 use Prim.Native.Nat.{ℕ, suc, _+_, _-_, _≤_, _<_}
 use mathlib.Core.Path.{_≡_, refl, sym, ap, _∙_}
-use mathlib.Core.List.{List, [], _++_, append-assoc, append-nil}
+use mathlib.Core.List.{List, [], _++_, map, append-assoc, append-nil}
 use native.Mathlib.Omega.{arith}
+use native.Mathlib.Nat.{zero-add}
+use native.Mathlib.Numerals.{add-one}
 use lib.ListN.{length, take, drop, set, replicate, length-append, length-drop, length-replicate, take-append-drop, drop-of-length-le}
-use lib.ListN.{getD-replicate}
+use lib.ListN.{getD, getD-replicate, length-map, List·getD-map}
 use lib.Seq.{take-at, drop-at, drop-drop, take-all, paste, paste-zero, paste-suc, length-paste}
 use Rattle.rules.specs.Calls.{atStart}
 
@@ -15,6 +17,12 @@ from-on l at = take-all (length l - at) (drop at l) (omega (arith, length-drop a
 
 pub back-on : (l : List ℕ) (at : ℕ) (rest : List ℕ) → rest ++ drop (length l - at) (drop at l) ≡ rest
 back-on l at rest = rw (drop-of-length-le (drop at l) {i = length l - at} (omega (arith, length-drop at l)), append-nil rest)
+
+-- what is the same from a on is so from b on
+pub drop-further : (x y : List ℕ) (a b : ℕ) → a ≤ b → drop a x ≡ drop a y → drop b x ≡ drop b y
+drop-further x y a b h e =
+    let far : a + (b - a) ≡ b = omega arith in
+    rw far at (sym (drop-drop (b - a) a x) ∙ ap (drop (b - a)) e ∙ drop-drop (b - a) a y)
 
 pub record Lent (out₀ kept out : List ℕ) (to : ℕ) : Type 0 where
   pub size : to ≡ length kept
@@ -62,7 +70,8 @@ pub record Filling (out₀ : List ℕ) (at count octet : ℕ) (out : List ℕ) (
 pub fill-start : (out₀ : List ℕ) (at count octet : ℕ) → Filling out₀ at count octet out₀ 0
 fill-start out₀ at count octet = record { is = paste-zero out₀ at (replicate count octet); most = omega arith }
 
-module _ {out₀ : List ℕ} {at count octet : ℕ} (h : at + count ≤ length out₀) {out : List ℕ} {i : ℕ} (f : Filling out₀ at count octet out i) where
+module _ {out₀ : List ℕ} {at count octet : ℕ} (h : at + count ≤ length out₀) {out : List ℕ} {i : ℕ}
+    (f : Filling out₀ at count octet out i) where
   pub fill-length : length out ≡ length out₀
   fill-length =
       ap length (f .is)
@@ -80,3 +89,23 @@ module _ {out₀ : List ℕ} {at count octet : ℕ} (h : at + count ≤ length o
             ∙ ap (paste out₀ at z) (sym s);
         most = omega arith;
       }
+
+-- a lent list that is filled from its start on with f of each element of another: after i of them, and at the end
+pub mapped-turn : {A B : Type 0} (f : A → B) (s : List A) (d : List B) (i : ℕ) (a : A) (v : B) → i < length s → length s ≤ length d
+    → v ≡ f (getD s i a)
+    → set (paste d 0 (map f s) i) i v ≡ paste d 0 (map f s) (i + 1)
+mapped-turn f s d i a v h g e =
+    let n = length-map s f in
+    let z = paste-suc d 0 (map f s) i (f a) (omega arith) (omega arith) in
+    ap (λ k. set (paste d 0 (map f s) i) k v) (sym (zero-add i))
+    ∙ ap (λ w. set (paste d 0 (map f s) i) (0 + i) w) (e ∙ sym (List·getD-map f s i a)) ∙ z ∙ ap (paste d 0 (map f s)) (sym (add-one i))
+
+pub mapped-kept : {A B : Type 0} (f : A → B) (s : List A) (d : List B) (i : ℕ) → i ≤ length s → length s ≤ length d
+    → length (paste d 0 (map f s) i) ≡ length d
+mapped-kept f s d i h g = let n = length-map s f in length-paste d 0 (map f s) i (omega arith) (omega arith)
+
+pub mapped-whole : {A B : Type 0} (f : A → B) (s : List A) (d : List B) (i : ℕ) → i ≡ length s
+    → paste d 0 (map f s) i ≡ map f s ++ drop (length s) d
+mapped-whole f s d i e =
+    let n = length-map s f in
+    ap (λ k. take i (map f s) ++ drop k d) (zero-add i ∙ e) ∙ ap (λ t. t ++ drop (length s) d) (take-all i (map f s) (omega arith))

@@ -14,14 +14,15 @@ use lib.Dec.{eqb}
 use lib.ListN.{length, getD}
 use Rattle.rules.specs.declared.Refusal.{Refusal}
 use Rattle.rules.specs.declared.Refusal.the-variants.{Method, Place}
-use Rattle.rules.specs.Reading.{Read, whole, refuse, numberFrom, number, bitsFrom}
+use Rattle.rules.specs.Reading.{whole, refuse, numberFrom, number, bitsFrom}
 use Rattle.rules.specs.Runs.{runsFrom}
 use Rattle.rules.specs.Located.{widthFrom, listedFrom, listed, byMethod, emptyIn, lay, valuesInto}
 use Rattle.rules.proofs.Octets.{Below, none, more, Sized}
 
 -- a value, and then the next one, whatever it leaves
 pub value-goes-on : (n z x : ℕ) (xs cells b : List ℕ) (i : ℕ) {m j : ℕ} {flags : List ℕ} {k : ℕ} → number 3 b i ≡ whole m j
-    → byMethod n (emptyIn z cells) i m b j ≡ whole flags k → valuesInto n z (x ∷ xs) cells b i ≡ valuesInto n z xs (lay z x flags 0 cells) b k
+    → byMethod n (emptyIn z cells) i m b j ≡ whole flags k → valuesInto n z (x ∷ xs) cells b i ≡ valuesInto n z xs
+    (lay z x flags 0 cells) b k
 unfolding valuesInto
 value-goes-on n z x xs cells b i e f = rw (e, f)
 
@@ -53,7 +54,8 @@ unfolding byMethod listed listedFrom widthFrom numberFrom
 full-listed n start b i {less} e = rw (e, add-one less)
 
 -- cut inside the two bits
-pub full-cut : (n start : ℕ) (b : List ℕ) (i : ℕ) {w : Refusal} {at : ℕ} → number 2 b i ≡ refuse w at → byMethod n 0 start 7 b i ≡ refuse w at
+pub full-cut : (n start : ℕ) (b : List ℕ) (i : ℕ) {w : Refusal} {at : ℕ}
+    → number 2 b i ≡ refuse w at → byMethod n 0 start 7 b i ≡ refuse w at
 unfolding byMethod listed
 full-cut n start b i e = rw e
 
@@ -67,7 +69,8 @@ pub last-listed : (n start : ℕ) (b : List ℕ) (i : ℕ) {j : ℕ} → number 
 unfolding byMethod listed listedFrom widthFrom numberFrom
 last-listed n start b i e = rw e
 
-pub last-listed-twice : (n start : ℕ) (b : List ℕ) (i : ℕ) {less j : ℕ} → number 2 b i ≡ whole (suc less) j → byMethod n 1 start 7 b i ≡ refuse Place j
+pub last-listed-twice : (n start : ℕ) (b : List ℕ) (i : ℕ) {less j : ℕ} → number 2 b i ≡ whole (suc less) j
+    → byMethod n 1 start 7 b i ≡ refuse Place j
 unfolding byMethod listed listedFrom widthFrom numberFrom
 last-listed-twice n start b i {less} e = rw (e, add-one (suc less))
 

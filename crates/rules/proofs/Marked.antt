@@ -9,11 +9,17 @@ use Rattle.rules.specs.Runs.{zerosFrom, rice, riceForm, runsFrom, runsOf
 use Rattle.rules.specs.Zeros.{codesOf, treeOf, readTree}
 use Rattle.rules.specs.Located.{caseOf, valuesOf, widthFrom, listedFrom, listed, byMethod, emptyIn, lay, valuesInto, located}
 use Rattle.rules.specs.Frame.{body, withTool, afterFirst, frame, readOne}
-use Rattle.rules.specs.Chooses.{countOf, leastFrom, riceChoice, without, placesOf, numbersForm, methodOf, methodForm, valueForm, valuesForm, leastOf, greatestOf, rowOf, locatedForm, applies, formOf, choose, chosen, writeOne}
+use Rattle.rules.specs.Chooses.{countOf, leastFrom, riceChoice, without, placesOf}
+use Rattle.rules.specs.Chooses.{numbersForm, methodOf, methodForm, valueForm, valuesForm}
+use Rattle.rules.specs.Chooses.{leastOf, greatestOf, rowOf, locatedForm, applies, formOf, choose, chosen, writeOne}
 use Rattle.rules.specs.Marked.{All, marked}
 
 pub marked-cases : All marked
-unfolding lowBits bitsOf valueFrom octetsFrom pack bit numberFrom bitsFrom octetsAfter filled rows lookUp firstOctet baseOf sixNotEight signed sampleOf holds zerosFrom rice riceForm runsFrom runsOf riceForms codesOf treeOf readTree caseOf valuesOf widthFrom listedFrom listed byMethod emptyIn lay valuesInto located body withTool afterFirst frame readOne countOf leastFrom riceChoice without placesOf numbersForm methodOf methodForm valueForm valuesForm leastOf greatestOf rowOf locatedForm applies formOf choose chosen writeOne
+unfolding lowBits bitsOf valueFrom octetsFrom pack bit numberFrom bitsFrom octetsAfter filled rows lookUp firstOctet baseOf
+    sixNotEight signed sampleOf holds zerosFrom rice riceForm runsFrom runsOf riceForms codesOf treeOf readTree caseOf
+    valuesOf widthFrom listedFrom listed byMethod emptyIn lay valuesInto located body withTool afterFirst frame readOne
+    countOf leastFrom riceChoice without placesOf numbersForm methodOf methodForm valueForm valuesForm leastOf
+    greatestOf rowOf locatedForm applies formOf choose chosen writeOne
 marked-cases = (
   refl,
   (

@@ -1,34 +1,36 @@
 -- What the marked cases do not pin, each as a law for all frames.
 use Prim.Native.Nat.{ℕ, zero, suc, _+_, _*_, _-_, _≤_, _<_}
-use mathlib.Core.Path.{_≡_, refl, sym, ap, _∙_}
+use mathlib.Core.Path.{_≡_, refl, ap}
 use mathlib.Core.List.{List, [], _∷_, _++_}
 use mathlib.Core.Bool.{Bool, true, false, cond, _&&_}
 use native.Mathlib.Omega.{arith}
 use native.Mathlib.Nat.{add-zero, add-assoc}
-use lib.Dec.{eqb, leb, ltb, lit<, lit≤}
-use lib.IntN.{ℤ, pos, negsuc}
-use lib.ListN.{length, getD, replicate}
+use lib.Dec.{eqb, leb}
+use lib.ListN.{length, getD}
 use borrow.Author.Tests.{le-ltb, lt-ltb, le-leb, lt-leb, eq-eqb, ne-eqb}
-use Rattle.rules.specs.declared.Refusal.the-variants.{Short, Run, Place}
-use Rattle.rules.specs.Reading.{Read, whole, refuse, Reader, andThen, _>>=_, bit, number}
+use Rattle.rules.specs.declared.Refusal.the-variants.{Run, Place}
+use Rattle.rules.specs.Reading.{whole, refuse, _>>=_, bit, number}
 use Rattle.rules.specs.Samples.{plusZero, minusZero}
-use Rattle.rules.specs.Runs.{zerosFrom, runsOf, runsForm, riceForms}
+use Rattle.rules.specs.Runs.{zerosFrom, runsOf}
 use Rattle.rules.specs.Located.{widthOf, listedFrom, lay}
 use Rattle.rules.proofs.Octets.{Below, none, more}
 use Rattle.rules.specs.Chooses.{countOf, markOf, runS, fewestRunBits, methodOf, above, below, locatedFlag}
 
 -- "The commoner zero, plus on a tie": on equal counts the mark is plus
-pub tie-marks-plus : (mask : ℕ) (s : List ℕ) → countOf (λ x. eqb x (plusZero mask)) s ≡ countOf (λ x. eqb x (minusZero mask)) s → markOf mask s ≡ 0
+pub tie-marks-plus : (mask : ℕ) (s : List ℕ) → countOf (λ x. eqb x (plusZero mask)) s ≡ countOf (λ x. eqb x (minusZero mask)) s
+    → markOf mask s ≡ 0
 tie-marks-plus mask s e =
     let h : countOf (λ x. eqb x (minusZero mask)) s ≤ countOf (λ x. eqb x (plusZero mask)) s = omega arith in
     ap (λ (t : Bool). cond t 1 0) (le-ltb (countOf (λ x. eqb x (plusZero mask)) s) (countOf (λ x. eqb x (minusZero mask)) s) h)
 
 -- A place is counted among those still empty: a cell that has its value takes no flag, an empty one takes the next.
-pub filled-cell-takes-no-flag : (z x : ℕ) (flags : List ℕ) (p y : ℕ) (cells : List ℕ) → (y ≡ z → ⊥) → lay z x flags p (y ∷ cells) ≡ y ∷ lay z x flags p cells
+pub filled-cell-takes-no-flag : (z x : ℕ) (flags : List ℕ) (p y : ℕ) (cells : List ℕ) → (y ≡ z → ⊥)
+    → lay z x flags p (y ∷ cells) ≡ y ∷ lay z x flags p cells
 unfolding lay
 filled-cell-takes-no-flag z x flags p y cells h = rw (ne-eqb y z h)
 
-pub empty-cell-takes-a-flag : (z x : ℕ) (flags : List ℕ) (p : ℕ) (cells : List ℕ) → lay z x flags p (z ∷ cells) ≡ cond (eqb (getD flags p 0) 1) x z ∷ lay z x flags (p + 1) cells
+pub empty-cell-takes-a-flag : (z x : ℕ) (flags : List ℕ) (p : ℕ) (cells : List ℕ)
+    → lay z x flags p (z ∷ cells) ≡ cond (eqb (getD flags p 0) 1) x z ∷ lay z x flags (p + 1) cells
 unfolding lay
 empty-cell-takes-a-flag z x flags p cells = rw (eq-eqb z z refl)
 
@@ -37,7 +39,8 @@ pub equal-bits-are-runs : (flags : List ℕ) → 0 < countOf (λ f. eqb f 1) fla
     → fewestRunBits flags ≤ countOf (λ f. eqb f 1) flags * widthOf (length flags) + 2 → methodOf flags ≡ runS flags
 unfolding methodOf
 equal-bits-are-runs flags h l m =
-    rw (ne-eqb (countOf (λ f. eqb f 1) flags) 0 (λ e. omega arith), le-ltb (length flags) (fewestRunBits flags) l, le-ltb _ _ m) (go (leb (countOf (λ f. eqb f 1) flags) 4))
+    rw (ne-eqb (countOf (λ f. eqb f 1) flags) 0 (λ e. omega arith), le-ltb (length flags) (fewestRunBits flags) l, le-ltb _ _ m)
+    (go (leb (countOf (λ f. eqb f 1) flags) 4))
   where
     go : (t : Bool) → cond (t && false) 7 (runS flags) ≡ runS flags
     go true = refl
@@ -54,7 +57,8 @@ unfolding listedFrom
 rising-is-strict w d done count b i p j e h = rw (e, lt-leb (length done) p h)
 
 -- "ends .. at zero N + 1, which is RUN": so many zeros, and whatever follows
-pub zeros-end : (start k n : ℕ) (b : List ℕ) (i : ℕ) → i + n ≤ length b → ((j : ℕ) → j < n → getD b (i + j) 0 ≡ 0) → zerosFrom start k n b i ≡ refuse Run start
+pub zeros-end : (start k n : ℕ) (b : List ℕ) (i : ℕ) → i + n ≤ length b → ((j : ℕ) → j < n → getD b (i + j) 0 ≡ 0)
+    → zerosFrom start k n b i ≡ refuse Run start
 unfolding zerosFrom bit
 zeros-end start k zero b i h z = refl
 zeros-end start k (suc n) b i h z =

@@ -6,7 +6,8 @@ use native.Mathlib.Omega.{arith}
 use native.Mathlib.Nat.{not-suc-le-zero, le-of-suc-le-suc, add-mul, mul-assoc, mul-comm, pow-suc, zero-add, lt-of-lt-of-le}
 use native.Mathlib.Numerals.{one-add}
 use native.Mathlib.Decide.{decLt}
-use lib.ListN.{length, getD, take, drop, replicate, length-append, length-replicate, length-take, length-drop, take-append-drop, List·getD-append}
+use lib.ListN.{length, getD, take, drop, replicate, length-append}
+use lib.ListN.{length-replicate, length-take, length-drop, take-append-drop, List·getD-append}
 use lib.Seq.{take-at, drop-at, drop-nil, drop-append-add, getD-append-add}
 use lib.Dec.{lit<}
 use lib.Pow.{pow-mono, mod-pow-add, high}
@@ -155,7 +156,8 @@ pub lowBits-value : (v : ℕ) {l : List ℕ} → Below 2 l → lowBits (length l
 unfolding lowBits valueFrom
 lowBits-value v none = refl
 lowBits-value v (more {x = a} {l = l} h t) =
-    let e : valueFrom (2 * v + a) l / 2 ^ length l ≡ 2 * v + a = rw (value-from (2 * v + a) l) (high (2 * v + a) (length l) (value-below t)) in
+    let e : valueFrom (2 * v + a) l / 2 ^ length l ≡ 2 * v + a =
+    rw (value-from (2 * v + a) l) (high (2 * v + a) (length l) (value-below t)) in
     let f : (2 * v + a) % 2 ≡ a = omega arith in
     rw (e, f, lowBits-value (2 * v + a) t)
 
@@ -167,7 +169,8 @@ bitsOf-octetsFrom zero (more a t) h = absurd (omega arith)
 bitsOf-octetsFrom (suc n) {l} b h =
     let k : length (take 8 l) ≡ 8 = simp length-take (omega arith) in
     let d : length (drop 8 l) ≡ 8 * n = simp length-drop (omega arith) in
-    let e : lowBits 8 (valueFrom 0 (take 8 l)) ≡ take 8 l = ap (λ (j : ℕ). lowBits j (valueFrom 0 (take 8 l))) (sym k) ∙ lowBits-value 0 (below-take 8 b) in
+    let e : lowBits 8 (valueFrom 0 (take 8 l)) ≡ take 8 l = ap (λ (j : ℕ). lowBits j (valueFrom 0 (take 8 l))) (sym k)
+    ∙ lowBits-value 0 (below-take 8 b) in
     rw (e, bitsOf-octetsFrom n (below-drop 8 b) d) (take-append-drop 8 l)
 
 pub length-octetsFrom : (n : ℕ) (l : List ℕ) → length (octetsFrom n l) ≡ n

@@ -29,19 +29,22 @@ alike (whole a i) f g h = h a i refl
 alike (refuse w at) f g h = refl
 
 module _ (mask set room : ℕ) (enough : 320 ≤ room) where
-  with-tool : (t n mark : ℕ) → isLength n ≡ true → (b : List ℕ) (i : ℕ) → withTool mask set room t n mark b i ≡ withTool mask set 320 t n mark b i
+  with-tool : (t n mark : ℕ) → isLength n ≡ true → (b : List ℕ) (i : ℕ)
+      → withTool mask set room t n mark b i ≡ withTool mask set 320 t n mark b i
   unfolding withTool
   with-tool t n mark l b i =
       let m = length-most n l in
       rw (le-ltb room n (omega arith), le-ltb 320 n m)
 
-  after-first : (o : ℕ) (first : First) → asWritten o first ≡ true → (b : List ℕ) (i : ℕ) → afterFirst mask set room o first b i ≡ afterFirst mask set 320 o first b i
+  after-first : (o : ℕ) (first : First) → asWritten o first ≡ true → (b : List ℕ) (i : ℕ)
+      → afterFirst mask set room o first b i ≡ afterFirst mask set 320 o first b i
   unfolding afterFirst
   after-first o unassigned w b i = refl
   after-first o pad w b i = refl
   after-first o (tool t n) w b i = with-tool t n (rowIn o t n) (and-left (isLength n) _ w) b i
   after-first o (sixOrEight n) w b i =
-      alike (bit b (markAt n)) _ _ (λ mark k p. alike (sixNotEight b k) _ _ (λ t j q. with-tool t n mark (and-left (isLength n) _ w) b (markAt n + 1)))
+      alike (bit b (markAt n)) _ _
+      (λ mark k p. alike (sixNotEight b k) _ _ (λ t j q. with-tool t n mark (and-left (isLength n) _ w) b (markAt n + 1)))
 
   one-frame : {b : List ℕ} → Below 2 b → frame mask set room b 0 ≡ frame mask set 320 b 0
   unfolding frame
@@ -64,7 +67,9 @@ read-room octets law set room h =
     (one-frame (maskOf law) set room h (bitsOf-below octets)) (not (isLaw law)) (not (isSet set))
 
 -- an accepted frame has at most 320 samples
-pub read-most : (octets : List ℕ) (law set room : ℕ) {f : Found} {j : ℕ} → readOne octets law set room ≡ whole f j → length (f .samples) ≤ 320
+pub read-most : (octets : List ℕ) (law set room : ℕ) {f : Found} {j : ℕ} → readOne octets law set room ≡ whole f j
+    → length (f .samples) ≤ 320
 read-most octets law set room {f} e =
     let n = length (f .samples) in
-    or-cases (n ≤ 320) (eqb n 0) (isLength n) (read-accepts octets law set room e .size) (λ z. omega (arith, eqb-true n 0 z)) (λ l. length-most n l)
+    or-cases (n ≤ 320) (eqb n 0) (isLength n) (read-accepts octets law set room e .size) (λ z. omega (arith, eqb-true n 0 z))
+    (λ l. length-most n l)

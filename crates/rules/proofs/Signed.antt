@@ -1,6 +1,7 @@
--- The map of samples to signed numbers (specs/Samples): its inverse undoes it, so it is one to one. One statement over the mask, met by both laws.
-use Prim.Native.Nat.{ℕ, zero, suc, _+_, _-_, _%_, _≤_, _<_, suc-le-suc}
-use mathlib.Core.Path.{_≡_, refl, sym, ap, _∙_, subst}
+-- The map of samples to signed numbers (specs/Samples): its inverse undoes it, so it is one to one. One statement over the mask, met by
+-- both laws.
+use Prim.Native.Nat.{ℕ, _+_, _-_, _%_, _<_, suc-le-suc}
+use mathlib.Core.Path.{_≡_, refl, sym, ap, _∙_}
 use mathlib.Core.Bool.{Bool, true, false, cond, _&&_}
 use native.Mathlib.Omega.{arith}
 use lib.Dec.{eqb, leb}
@@ -56,8 +57,11 @@ law-of : {mask : ℕ} → Passes mask → LawMask mask
 law-of {mask} t =
     record {
       back = λ x h. eqb-true _ _ (allBelow-at (comesBack mask) 256 (t .octets) x h);
-      forth = λ v h. told-by-line (signed mask (sampleOf mask v)) v (signed-range mask (sampleOf mask v)) h (eqb-true _ _ (and-left (eqb (onLine (signed mask (sampleOf mask v))) (onLine v)) (leb (sampleOf mask v) 255) (there t v h)));
-      octet = λ v h. suc-le-suc (leb-true (sampleOf mask v) 255 (and-right (eqb (onLine (signed mask (sampleOf mask v))) (onLine v)) (leb (sampleOf mask v) 255) (there t v h)));
+      forth = λ v h. told-by-line (signed mask (sampleOf mask v)) v (signed-range mask (sampleOf mask v)) h
+          (eqb-true _ _ (and-left (eqb (onLine (signed mask (sampleOf mask v))) (onLine v)) (leb (sampleOf mask v) 255) (there t v h)));
+      octet = λ v h. suc-le-suc
+          (leb-true (sampleOf mask v) 255
+          (and-right (eqb (onLine (signed mask (sampleOf mask v))) (onLine v)) (leb (sampleOf mask v) 255) (there t v h)));
     }
 
 -- both laws' masks

@@ -31,7 +31,8 @@ abbrev pub allBelow : (ℕ → Bool) → ℕ → Bool
 allBelow f zero = true
 allBelow f (suc n) = f n && allBelow f n
 
-all-at : (f : ℕ → Bool) (n k : ℕ) → (allBelow f n ≡ true → k < n → f k ≡ true) → f n ≡ true → allBelow f n ≡ true → k < suc n → Dec (k ≡ n) → f k ≡ true
+all-at : (f : ℕ → Bool) (n k : ℕ) → (allBelow f n ≡ true → k < n → f k ≡ true) → f n ≡ true → allBelow f n ≡ true → k < suc n
+    → Dec (k ≡ n) → f k ≡ true
 all-at f n k ih here below h (yes e) = subst (λ (m : ℕ). f m ≡ true) (sym e) here
 all-at f n k ih here below h (no e) = ih below (omega arith)
 

@@ -1,7 +1,7 @@
--- The laws of a walk (specs/Walk) from any place on, of so many frames at most.
--- Main statements: `walk-parts` (a walk is its parts one after another; a refused one keeps what came before, and more frames allowed change
--- nothing), `walk-told` (its place, octets, samples and frames), `walk-from-any`, `walk-each` (each frame's place, and the reading there),
--- `walk-fuel` (frames allowed above the octets left do not matter), `walk-roomy` (room is never short with 320 samples for each frame).
+-- The laws of a walk (specs/Walk) from any place on, of so many frames at most. Main statements: `walk-parts` (a walk is its parts one
+-- after another; a refused one keeps what came before, and more frames allowed change nothing), `walk-told` (its place, octets, samples and
+-- frames), `walk-from-any`, `walk-each` (each frame's place, and the reading there), `walk-fuel` (frames allowed above the octets left do
+-- not matter), `walk-roomy` (room is never short with 320 samples for each frame).
 use Prim.Native.Nat.{ℕ, zero, suc, _+_, _*_, _-_, _≤_, _<_, min}
 use mathlib.Core.Path.{_≡_, refl, sym, ap, _∙_}
 use mathlib.Core.List.{List, [], _∷_, _++_, append-assoc, append-nil}
@@ -46,7 +46,8 @@ after done w = record { frames = done ++ w .frames; end = w .end; place = w .pla
 
 pub after-before : (done : List Delivered) (f : Delivered) (w : Walked) → after done (before f w) ≡ after (done ++ (f ∷ [])) w
 after-before done f w =
-    ap (λ (l : List Delivered). record { frames = l; end = w .end; place = w .place; bit = w .bit }) (sym (append-assoc done (f ∷ []) (w .frames)))
+    ap (λ (l : List Delivered). record { frames = l; end = w .end; place = w .place; bit = w .bit })
+    (sym (append-assoc done (f ∷ []) (w .frames)))
 
 -- by how a walk ended: `more` after a clean end, `kept` after a refusal
 abbrev pub byEnd : Ending → Walked → Walked → Walked
@@ -83,7 +84,8 @@ module _ (octets : List ℕ) (law set : ℕ) where
     refused : {n at room : ℕ} {w : Refusal} {bit : ℕ} → at < length octets → readOne (drop at octets) law set room ≡ refuse w bit
         → Walks (suc n) at room (stopped (Refused w) at bit)
     delivers : {n at room : ℕ} {f : Found} {j : ℕ} {rest : Walked} → at < length octets → readOne (drop at octets) law set room ≡ whole f j
-        → Walks n (at + octetsUsed f) (room - length (f .samples)) rest → Walks (suc n) at room (before (record { place = at; found = f }) rest)
+        → Walks n (at + octetsUsed f) (room - length (f .samples)) rest
+        → Walks (suc n) at room (before (record { place = at; found = f }) rest)
 
   pub walks : (n at room : ℕ) → Walks n at room (walkFrom n octets law set at room)
   unfolding walkFrom
@@ -97,9 +99,11 @@ module _ (octets : List ℕ) (law set : ℕ) where
       stop w bit = stopped (Refused w) at bit
 
       Later : Type 0
-      Later = (f : Found) → Walks n (at + octetsUsed f) (room - length (f .samples)) (walkFrom n octets law set (at + octetsUsed f) (room - length (f .samples)))
+      Later = (f : Found) → Walks n (at + octetsUsed f) (room - length (f .samples))
+          (walkFrom n octets law set (at + octetsUsed f) (room - length (f .samples)))
 
-      one : (m : Read Found) → readOne (drop at octets) law set room ≡ m → at < length octets → Later → Walks (suc n) at room (onward m next stop)
+      one : (m : Read Found) → readOne (drop at octets) law set room ≡ m → at < length octets → Later
+          → Walks (suc n) at room (onward m next stop)
       one (whole f j) e l later = delivers l e (later f)
       one (refuse w bit) e l later = refused l e
 
@@ -122,7 +126,8 @@ module _ (octets : List ℕ) (law set : ℕ) where
     pub clean : w .end ≡ Done → w .bit ≡ 0
     -- it was refused: the frame at its place is, with the room left
     pub refusal : {r : Refusal} → w .end ≡ Refused r
-        → (w .place < length octets) × (length (w .frames) < n) × (readOne (drop (w .place) octets) law set (room - length (samplesKept (w .frames))) ≡ refuse r (w .bit))
+        → (w .place < length octets) × (length (w .frames) < n)
+        × (readOne (drop (w .place) octets) law set (room - length (samplesKept (w .frames))) ≡ refuse r (w .bit))
 
   -- Done is no refusal
   not-refused : {A : Type 0} {r : Refusal} → Done ≡ Refused r → A
@@ -171,7 +176,8 @@ module _ (octets : List ℕ) (law set : ℕ) where
       let d = length-drop at octets in
       let a = read-accepts (drop at octets) law set room e in
       let s = length-append (f .samples) (samplesKept (w .frames)) in
-      let m : room - length (f .samples ++ samplesKept (w .frames)) ≡ room - length (f .samples) - length (samplesKept (w .frames)) = omega (arith, s) in
+      let m : room - length (f .samples ++ samplesKept (w .frames)) ≡ room - length (f .samples) - length (samplesKept (w .frames)) =
+      omega (arith, s) in
       record {
         place = omega (arith, i .place);
         inside = omega (arith, u .1, i .inside);
@@ -192,7 +198,8 @@ module _ (octets : List ℕ) (law set : ℕ) where
   abbrev pub onFrom : ℕ → ℕ → Walked → Walked
   onFrom n room w = after (w .frames) (walkFrom n octets law set (w .place) (room - length (samplesKept (w .frames))))
 
-  parts : {m at room : ℕ} {w : Walked} → Walks m at room w → (n : ℕ) → walkFrom (m + n) octets law set at room ≡ byEnd (w .end) (onFrom n room w) w
+  parts : {m at room : ℕ} {w : Walked} → Walks m at room w → (n : ℕ)
+      → walkFrom (m + n) octets law set at room ≡ byEnd (w .end) (onFrom n room w) w
   unfolding samplesKept
   parts {m} {at} {room} last n = let e : room - 0 ≡ room = omega arith in let z : 0 + n ≡ n = omega arith in rw (e, z)
   parts {m} {at} {room} (ended h) n = walk-ended (m + n) at room h ∙ sym (walk-ended n at (room - 0) h)
@@ -208,24 +215,28 @@ module _ (octets : List ℕ) (law set : ℕ) where
       left : room - length (f .samples ++ samplesKept (w .frames)) ≡ room - length (f .samples) - length (samplesKept (w .frames))
       left = omega (arith, length-append (f .samples) (samplesKept (w .frames)))
 
-      go : (end : Ending) → before d (byEnd end (onFrom n (room - length (f .samples)) w) w) ≡ byEnd end (onFrom n room (before d w)) (before d w)
+      go : (end : Ending) → before d (byEnd end (onFrom n (room - length (f .samples)) w) w) ≡ byEnd end (onFrom n room (before d w))
+          (before d w)
       go Done = rw left
       go (Refused r) = refl
 
   -- a walk of m + n frames is one of m frames and, where that ended clean, one of n frames from its place on, with the room left
   pub walk-parts : (m n at room : ℕ)
       → walkFrom (m + n) octets law set at room
-      ≡ byEnd (walkFrom m octets law set at room .end) (onFrom n room (walkFrom m octets law set at room)) (walkFrom m octets law set at room)
+      ≡ byEnd (walkFrom m octets law set at room .end) (onFrom n room (walkFrom m octets law set at room))
+      (walkFrom m octets law set at room)
   walk-parts m n at room = parts (walks m at room) n
 
   pub walk-on : (m n at room : ℕ) → walkFrom m octets law set at room .end ≡ Done
       → walkFrom (m + n) octets law set at room ≡ onFrom n room (walkFrom m octets law set at room)
-  walk-on m n at room e = walk-parts m n at room ∙ ap (λ (end : Ending). byEnd end (onFrom n room (walkFrom m octets law set at room)) (walkFrom m octets law set at room)) e
+  walk-on m n at room e = walk-parts m n at room
+      ∙ ap (λ (end : Ending). byEnd end (onFrom n room (walkFrom m octets law set at room)) (walkFrom m octets law set at room)) e
 
   -- more frames allowed do not change a refused walk
   pub walk-kept : (m n at room : ℕ) {r : Refusal} → walkFrom m octets law set at room .end ≡ Refused r
       → walkFrom (m + n) octets law set at room ≡ walkFrom m octets law set at room
-  walk-kept m n at room e = walk-parts m n at room ∙ ap (λ (end : Ending). byEnd end (onFrom n room (walkFrom m octets law set at room)) (walkFrom m octets law set at room)) e
+  walk-kept m n at room e = walk-parts m n at room
+      ∙ ap (λ (end : Ending). byEnd end (onFrom n room (walkFrom m octets law set at room)) (walkFrom m octets law set at room)) e
 
   -- frames allowed above the octets left do not matter
   fuel : {m at room : ℕ} {w : Walked} → Walks m at room w → length octets ≤ at + m → (n : ℕ) → walkFrom (m + n) octets law set at room ≡ w
@@ -236,23 +247,28 @@ module _ (octets : List ℕ) (law set : ℕ) where
       walk-one (suc m + n) (m + n) at room (omega arith) l (at + octetsUsed f) (room - length (f .samples)) f e refl refl
       ∙ ap (before (record { place = at; found = f })) (fuel t (omega (arith, read-uses (drop at octets) law set room e .0)) n)
 
-  pub walk-fuel : (m n at room : ℕ) → length octets ≤ at + m → length octets ≤ at + n → walkFrom m octets law set at room ≡ walkFrom n octets law set at room
-  walk-fuel m n at room h k = sym (fuel (walks m at room) h n) ∙ ap (λ (k : ℕ). walkFrom k octets law set at room) (add-comm m n) ∙ fuel (walks n at room) k m
+  pub walk-fuel : (m n at room : ℕ) → length octets ≤ at + m → length octets ≤ at + n
+      → walkFrom m octets law set at room ≡ walkFrom n octets law set at room
+  walk-fuel m n at room h k = sym (fuel (walks m at room) h n) ∙ ap (λ (k : ℕ). walkFrom k octets law set at room) (add-comm m n)
+      ∙ fuel (walks n at room) k m
 
   -- 320 samples of room are enough for each frame allowed, and for each octet left
-  roomy : {n at room : ℕ} {w : Walked} → Walks n at room w → (more : ℕ) → 320 * min n (length octets - at) ≤ room → 320 * min n (length octets - at) ≤ more
+  roomy : {n at room : ℕ} {w : Walked} → Walks n at room w → (more : ℕ) → 320 * min n (length octets - at) ≤ room
+      → 320 * min n (length octets - at) ≤ more
       → walkFrom n octets law set at more ≡ w
   roomy {at = at} last more h k = walk-last 0 at more refl
   roomy {n} {at} (ended l) more h k = walk-ended n at more l
   roomy {n = suc n} {at} {room} (refused {w = w} {bit = bit} l e) more h k =
-      walk-off (suc n) n at more refl l bit w (read-room (drop at octets) law set more (omega arith) ∙ sym (read-room (drop at octets) law set room (omega arith)) ∙ e)
+      walk-off (suc n) n at more refl l bit w
+      (read-room (drop at octets) law set more (omega arith) ∙ sym (read-room (drop at octets) law set room (omega arith)) ∙ e)
   roomy {n = suc n} {at} {room} (delivers {f = f} {j} l e t) more h k =
       let u = read-uses (drop at octets) law set room e in
       let s = read-most (drop at octets) law set room e in
       let d = length-drop at octets in
       let e′ = read-room (drop at octets) law set more (omega arith) ∙ sym (read-room (drop at octets) law set room (omega arith)) ∙ e in
       walk-one (suc n) n at more refl l (at + octetsUsed f) (more - length (f .samples)) f e′ refl refl
-      ∙ ap (before (record { place = at; found = f })) (roomy t (more - length (f .samples)) (omega (arith, u .0, u .1)) (omega (arith, u .0, u .1)))
+      ∙ ap (before (record { place = at; found = f }))
+      (roomy t (more - length (f .samples)) (omega (arith, u .0, u .1)) (omega (arith, u .0, u .1)))
 
   pub walk-roomy : (n at room more : ℕ) → 320 * min n (length octets - at) ≤ room → 320 * min n (length octets - at) ≤ more
       → walkFrom n octets law set at room ≡ walkFrom n octets law set at more
@@ -291,7 +307,8 @@ module _ (octets : List ℕ) (law set : ℕ) where
       rw (← same, u, v, m) (ap (before (record { place = at; found = f })) (from-any t a b rest))
 
   pub walk-from-any : (n at room : ℕ) (a b : List Delivered) → walkFrom n octets law set at room .frames ≡ a ++ b
-      → walkFrom n octets law set at room ≡ after a (walkFrom (n - length a) octets law set (at + octetsKept a) (room - length (samplesKept a)))
+      → walkFrom n octets law set at room ≡ after a
+      (walkFrom (n - length a) octets law set (at + octetsKept a) (room - length (samplesKept a)))
   walk-from-any n at room a b e = from-any (walks n at room) a b e
 
   -- a frame stands where the frames before it end, and is read there with the room that they left
@@ -301,7 +318,8 @@ module _ (octets : List ℕ) (law set : ℕ) where
     pub next : ℕ
     pub reads : readOne (drop (d .place) octets) law set (room - length (samplesKept a)) ≡ whole (d .found) next
 
-  each : {n at room : ℕ} {w : Walked} → Walks n at room w → (a : List Delivered) (d : Delivered) (b : List Delivered) → w .frames ≡ a ++ (d ∷ b) → Stands at room a d
+  each : {n at room : ℕ} {w : Walked} → Walks n at room w → (a : List Delivered) (d : Delivered) (b : List Delivered)
+      → w .frames ≡ a ++ (d ∷ b) → Stands at room a d
   unfolding octetsKept samplesKept
   each last a d b e = no-frame a d b e
   each (ended l) a d b e = no-frame a d b e
@@ -318,5 +336,6 @@ module _ (octets : List ℕ) (law set : ℕ) where
       = omega (arith, length-append (f .samples) (samplesKept a)) in
       rw (← same) (record { place = omega (arith, s .place); inside = s .inside; next = s .next; reads = rw m (s .reads) })
 
-  pub walk-each : (n at room : ℕ) (a : List Delivered) (d : Delivered) (b : List Delivered) → walkFrom n octets law set at room .frames ≡ a ++ (d ∷ b) → Stands at room a d
+  pub walk-each : (n at room : ℕ) (a : List Delivered) (d : Delivered) (b : List Delivered)
+      → walkFrom n octets law set at room .frames ≡ a ++ (d ∷ b) → Stands at room a d
   walk-each n at room a d b e = each (walks n at room) a d b e

@@ -1,7 +1,8 @@
 -- Document 02, R-7: "Every refusal from 1 to 9 gives one bit, counted from 0 at the frame's start". One law for each of its cases:
 --   run-at, run-endless     "the first bit of the run's code (RUN)"
---   beyond-at               ".. listed place (PLACE", with Named.rising-is-strict; "the end of the count bits where D is 0)": Located.full-listed
---   group-at                ".. listed place (PLACE": of tool 11 it is the first bit of a V that is too large (the reading of R-14)
+--   beyond-at               ".. listed place (PLACE", with Named.rising-is-strict; "the end of the count bits where D is 0)":
+--   Located.full-listed group-at                ".. listed place (PLACE": of tool 11 it is the first bit of a V that is too large (the
+--   reading of R-14)
 --   case-at, method-at      ".. range case (CASE) or method (METHOD)"
 --   short-at, align-at      "the first missing bit (SHORT) or wrong filling bit (ALIGN)"
 --   prefix-at, tool-at, room-at     "0 for PREFIX, TOOL and ROOM"
@@ -15,7 +16,7 @@ use lib.ListN.{length, getD}
 use borrow.Author.Tests.{lt-ltb, le-ltb, eq-eqb, ne-eqb}
 use Rattle.rules.specs.declared.Refusal.the-variants.{Short, Prefix, Tool, Room, Case, Method, Run, Place, Align}
 use Rattle.rules.specs.Tools.{holds}
-use Rattle.rules.specs.Reading.{Read, whole, refuse, give, fail, bit, number, filled}
+use Rattle.rules.specs.Reading.{whole, refuse, bit, number, filled}
 use Rattle.rules.specs.First.{unassigned}
 use Rattle.rules.specs.Runs.{rice, runsFrom}
 use Rattle.rules.specs.Located.{valuesOf, listedFrom, byMethod, valuesInto, located}
@@ -29,7 +30,8 @@ and-false false = refl
 
 module _ (b : List ℕ) (i : ℕ) where
   -- RUN: a run that is too long, and zeros without end
-  pub run-at : (n s more left v : ℕ) (done : List ℕ) {j : ℕ} → 0 < left → rice n s b i ≡ whole v j → left < v → runsFrom n s (suc more) left done b i ≡ refuse Run i
+  pub run-at : (n s more left v : ℕ) (done : List ℕ) {j : ℕ} → 0 < left → rice n s b i ≡ whole v j → left < v
+      → runsFrom n s (suc more) left done b i ≡ refuse Run i
   unfolding runsFrom
   run-at n s more left v done o e h = rw (ne-eqb left 0 (λ z. omega arith), e, lt-ltb left v h)
 
@@ -38,12 +40,14 @@ module _ (b : List ℕ) (i : ℕ) where
   run-endless n s h z = rw (zeros-end i 0 (n + 1) b i h z)
 
   -- PLACE: not below D
-  pub beyond-at : (w d p count : ℕ) (done : List ℕ) {j : ℕ} → number w b i ≡ whole p j → d ≤ p → listedFrom w d done (suc count) b i ≡ refuse Place i
+  pub beyond-at : (w d p count : ℕ) (done : List ℕ) {j : ℕ} → number w b i ≡ whole p j → d ≤ p
+      → listedFrom w d done (suc count) b i ≡ refuse Place i
   unfolding listedFrom
   beyond-at w d p count done e h = rw (e, le-ltb p d h, and-false (leb (length done) p))
 
   -- and V not below R'^g
-  pub group-at : (r g w v more : ℕ) (done : List ℕ) {j : ℕ} → number w b i ≡ whole v j → r ^ g ≤ v → groupsFrom r g w done (suc more) b i ≡ refuse Place i
+  pub group-at : (r g w v more : ℕ) (done : List ℕ) {j : ℕ} → number w b i ≡ whole v j → r ^ g ≤ v
+      → groupsFrom r g w done (suc more) b i ≡ refuse Place i
   unfolding groupsFrom
   group-at r g w v more done e h = rw (e, le-ltb v (r ^ g) h)
 

@@ -17,7 +17,8 @@ use Rattle.rules.specs.Frame.{Found, octetsUsed, readOne}
 use Rattle.rules.specs.Chooses.{Write, wrote, declined, writeOne}
 use Rattle.rules.specs.Walk.{Walked, walkAll, octetsKept, samplesKept}
 
--- what a reading reports: "A refused single call writes nothing and reports 0 samples, 0 octets used, 0 bits and tool 0, save that TOOL gives the tool."
+-- what a reading reports: "A refused single call writes nothing and reports 0 samples, 0 octets used, 0 bits and tool 0, save that TOOL
+-- gives the tool."
 abbrev pub readEnd : Read Found → Ending
 readEnd (whole f i) = Done
 readEnd (refuse w at) = Refused w

@@ -12,7 +12,8 @@ use Rattle.rules.specs.Tools.{holds, writerAsks, isLength}
 use Rattle.rules.specs.Bits.{lowBits, octetsFor}
 use Rattle.rules.specs.Samples.{maskOf, signed, sampleOf, plusZero, minusZero, onLine}
 use Rattle.rules.specs.Runs.{runsForm}
-use Rattle.rules.specs.Zeros.{prefix, uncompressedForm, plusForm, minusForm, constantForm, binaryForm, codeOf, mostS, flagOf, plusMinusForm}
+use Rattle.rules.specs.Zeros.{prefix, uncompressedForm, plusForm, minusForm, constantForm}
+use Rattle.rules.specs.Zeros.{binaryForm, codeOf, mostS, flagOf, plusMinusForm}
 use Rattle.rules.specs.Located.{caseOf, valuesOf, widthOf}
 use Rattle.rules.specs.Fractional.{leastAt, greatestAt, minusAt, firstCode, rowCount, fractionalBody}
 
@@ -190,8 +191,8 @@ formOf mask t s =
 abbrev pub octetsOfForm : ℕ → List ℕ → ℕ → ℕ
 octetsOfForm mask s t = octetsFor (length (formOf mask t s))
 
--- "on equal octets the order plus, minus, constant, binary, Rice, value-location, uncompressed"; R-14: tool 11 "stands just before uncompressed",
--- which is what `choose` ends on
+-- "on equal octets the order plus, minus, constant, binary, Rice, value-location, uncompressed"; R-14: tool 11 "stands just before
+-- uncompressed", which is what `choose` ends on
 abbrev pub tieOrder : List ℕ
 tieOrder = 2 ∷ 3 ∷ 4 ∷ 5 ∷ 6 ∷ 7 ∷ 11 ∷ []
 

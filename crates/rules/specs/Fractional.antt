@@ -1,9 +1,9 @@
--- Document 02, R-14: tool 11 (fractional-bit), by sections 7.11 and 8.9 of 001: table 7-28, the digits, and the body, as it is read and as it is written.
--- The row of a frame hangs on its least and greatest, and stands in Chooses.
+-- Document 02, R-14: tool 11 (fractional-bit), by sections 7.11 and 8.9 of 001: table 7-28, the digits, and the body, as it is read and as
+-- it is written. The row of a frame hangs on its least and greatest, and stands in Chooses.
 use Prim.Native.Nat.{ℕ, zero, suc, _+_, _*_, _-_, _^_, _/_, _%_, _≤_}
 use mathlib.Core.Path.{_≡_}
 use mathlib.Core.List.{List, [], _∷_, _++_, map}
-use mathlib.Core.Bool.{Bool, true, false, cond, _||_}
+use mathlib.Core.Bool.{Bool, false, cond, _||_}
 use lib.ListN.{length, getD, take, drop}
 use lib.Dec.{eqb, ltb}
 use lib.IntN.{ℤ, pos, negsuc}
@@ -56,16 +56,16 @@ hasMinusOne (v ∷ vs) = eqb (onLine v) (onLine (negsuc 0)) || hasMinusOne vs
 abbrev pub minusAt : ℕ → Bool
 minusAt k = hasMinusOne (valuesAt k)
 
--- What 8.9 determines of a row besides R': how far its least is below 0 (X_min), and how many of its values are below 0, one less where -1 is left
--- out (the flag of 7-75). Of {0, 1} none are, whatever the flag: "the table decides"
+-- What 8.9 determines of a row besides R': how far its least is below 0 (X_min), and how many of its values are below 0, one less where -1
+-- is left out (the flag of 7-75). Of {0, 1} none are, whatever the flag: "the table decides"
 abbrev pub lowAt : ℕ → ℕ
 lowAt k = 128 - leastAt k
 
 abbrev pub belowAt : ℕ → ℕ
 belowAt k = lowAt k - cond (minusAt k) 0 1
 
--- (7-77): the digit of a value; (8-23) to (8-28): the value of a digit. That these are the places of the table's values, from the least up, is proved
--- (proofs/Fractional, `values-told`)
+-- (7-77): the digit of a value; (8-23) to (8-28): the value of a digit. That these are the places of the table's values, from the least up,
+-- is proved (proofs/Fractional, `values-told`)
 abbrev pub digitFor : ℕ → ℕ → ℤ → ℕ
 digitFor low below (pos y) = below + y
 digitFor low below (negsuc y) = low - suc y
@@ -73,8 +73,8 @@ digitFor low below (negsuc y) = low - suc y
 abbrev pub valueFor : ℕ → ℕ → ℕ → ℤ
 valueFor low below d = cond (ltb d below) (negsuc (low - suc d)) (pos (d - below))
 
--- Table 7-27: so many samples are coded together, and in so many bits. Where R' is 2 or 4 each one by itself, in 1 or 2 bits; else M = 5 of them
--- as one V, in 8, 12 or 13.
+-- Table 7-27: so many samples are coded together, and in so many bits. Where R' is 2 or 4 each one by itself, in 1 or 2 bits; else M = 5 of
+-- them as one V, in 8, 12 or 13.
 unfoldable pub groupOf : ℕ → ℕ
 groupOf r = cond (eqb r 2 || eqb r 4) 1 5
 
@@ -147,8 +147,8 @@ fractional mask k n = groupsOf (samplesAt mask k) (radix k) n
 abbrev pub fractionalBody : ℕ → ℕ → List ℕ → List ℕ
 fractionalBody mask k s = groupsFormOf (samplesAt mask k) (radix k) s
 
--- Table 7-28 as it is printed: R, R', the values, and the prefix codes of 40, 80, 160, 240 and 320, as many as the row has. That `table`, `firstCode`
--- and `rowCount` say the same is proved (proofs/Fractional, `as-printed`).
+-- Table 7-28 as it is printed: R, R', the values, and the prefix codes of 40, 80, 160, 240 and 320, as many as the row has. That `table`,
+-- `firstCode` and `rowCount` say the same is proved (proofs/Fractional, `as-printed`).
 pub record Printed : Type 0 where
   pub range : ℕ
   pub reduced : ℕ

@@ -2,7 +2,6 @@
 use Prim.Native.Nat.{ℕ, _+_, _-_}
 use mathlib.Core.List.{List, []}
 use mathlib.Core.Bool.{cond, not}
-use lib.ListN.{length}
 use lib.Dec.{eqb, ltb}
 use Rattle.rules.specs.declared.Refusal.the-variants.{Prefix, Tool, Room}
 use Rattle.rules.specs.Refusals.{judged}

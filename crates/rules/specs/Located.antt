@@ -1,5 +1,6 @@
--- Document 01, "Tool 7" (value-location), as mended by document 02, R-4: its table, and how it is read. Its form hangs on what the writer chooses, and stands in Chooses.
--- The cells of a frame are its samples: all begin as plus zero, and a cell that still is plus zero is empty.
+-- Document 01, "Tool 7" (value-location), as mended by document 02, R-4: its table, and how it is read. Its form hangs on what the writer
+-- chooses, and stands in Chooses. The cells of a frame are its samples: all begin as plus zero, and a cell that still is plus zero is
+-- empty.
 use Prim.Native.Nat.{ℕ, zero, suc, _+_, _-_, _^_}
 use mathlib.Core.List.{List, [], _∷_, _++_, map}
 use mathlib.Core.Bool.{cond, _&&_}
@@ -20,7 +21,13 @@ pub record RangeCase : Type 0 where
   pub flag0 : List ℤ
 
 abbrev pub case0 : RangeCase
-case0 = record { least = negsuc 1; greatest = pos 1; from = 240; flag1 = pos 1 ∷ negsuc 0 ∷ negsuc 1 ∷ []; flag0 = negsuc 0 ∷ pos 1 ∷ negsuc 1 ∷ [] }
+case0 = record {
+  least = negsuc 1;
+  greatest = pos 1;
+  from = 240;
+  flag1 = pos 1 ∷ negsuc 0 ∷ negsuc 1 ∷ [];
+  flag0 = negsuc 0 ∷ pos 1 ∷ negsuc 1 ∷ [];
+}
 
 abbrev pub case1 : RangeCase
 case1 = record { least = negsuc 0; greatest = pos 1; from = 80; flag1 = pos 1 ∷ negsuc 0 ∷ []; flag0 = negsuc 0 ∷ pos 1 ∷ [] }

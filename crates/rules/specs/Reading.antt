@@ -1,6 +1,6 @@
--- What it is to read: from all the bits and a place, a value and the next place, or a refusal and its bit.
--- The order of the steps is the order of the refusals. The bit is that of document 02, R-7: counted from 0 at the frame's start, the first bit
--- of what was wrong (proofs/WhichBit).
+-- What it is to read: from all the bits and a place, a value and the next place, or a refusal and its bit. The order of the steps is the
+-- order of the refusals. The bit is that of document 02, R-7: counted from 0 at the frame's start, the first bit of what was wrong
+-- (proofs/WhichBit).
 use Prim.Native.Nat.{ℕ, zero, suc, _+_, _*_}
 use mathlib.Core.List.{List, [], _∷_, _++_}
 use mathlib.Core.Bool.{cond}

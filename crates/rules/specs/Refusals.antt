@@ -1,9 +1,11 @@
--- Document 01, "Numbered refusals": for each case of the answers' enums the paper's number, and the tool that it gives; and what it is to ask in order.
+-- Document 01, "Numbered refusals": for each case of the answers' enums the paper's number, and the tool that it gives; and what it is to
+-- ask in order.
 use Prim.Native.Nat.{ℕ}
 use mathlib.Core.List.{List, [], _∷_}
 use mathlib.Core.Bool.{Bool, cond, not}
 use Rattle.rules.specs.declared.Refusal.{Refusal}
-use Rattle.rules.specs.declared.Refusal.the-variants.{Short, Prefix, Tool, Room, Case, Method, Run, Place, Align, Length, Set, Law, Long}
+use Rattle.rules.specs.declared.Refusal.the-variants.{Short, Prefix, Tool, Room, Case, Method, Run}
+use Rattle.rules.specs.declared.Refusal.the-variants.{Place, Align, Length, Set, Law, Long}
 use Rattle.rules.specs.declared.Ending.{Ending}
 use Rattle.rules.specs.declared.Ending.the-variants.{Done, Refused}
 

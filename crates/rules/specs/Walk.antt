@@ -38,7 +38,8 @@ onward (whole f i) next stop = next f
 onward (refuse w at) next stop = stop w at
 
 -- frame after frame from place `at` on. The first number is a bound in frames: where no more are allowed, the walk ends Done at its place,
--- and can be taken up again there (proofs/Walk, `walk-parts`). Each frame has an octet, so one more than the octets is never short (`walk-fuel`).
+-- and can be taken up again there (proofs/Walk, `walk-parts`). Each frame has an octet, so one more than the octets is never short
+-- (`walk-fuel`).
 unfoldable pub walkFrom : ℕ → List ℕ → ℕ → ℕ → ℕ → ℕ → Walked
 walkFrom zero octets law set at room = stopped Done at 0
 walkFrom (suc more) octets law set at room =

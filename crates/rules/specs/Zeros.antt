@@ -40,8 +40,8 @@ constant n = do
 abbrev pub constantForm : List ℕ → List ℕ
 constantForm s = prefix 4 (length s) ++ lowBits 8 (getD s 0 0)
 
--- The zero of a flag: flag 0 is the common kind, which is plus where the mark is 0 and minus where it is 1. So flag and mark are equal at plus.
--- And the flag of a zero.
+-- The zero of a flag: flag 0 is the common kind, which is plus where the mark is 0 and minus where it is 1. So flag and mark are equal at
+-- plus. And the flag of a zero.
 abbrev pub zeroOf : ℕ → ℕ → ℕ → ℕ
 zeroOf mask mark f = cond (eqb f mark) (plusZero mask) (minusZero mask)
 

@@ -4,22 +4,24 @@ use mathlib.Core.Path.{_≡_, refl, sym, ap, _∙_}
 use mathlib.Core.List.{List, _++_}
 use native.Mathlib.Omega.{arith}
 use lib.Dec.{lit<}
-use lib.ListN.{length, getD, drop, length-append, length-drop}
+use lib.ListN.{length, drop, length-append, length-drop}
 use Rattle.rules.specs.declared.Refusal.{Refusal}
 use Rattle.rules.specs.Reading.{Read, whole, refuse}
 use Rattle.rules.proofs.Octets.{Below, below-at, below-all}
 use Rattle.bits.specs.declared.Outcome.{Outcome}
 use Rattle.bits.specs.declared.Outcome.the-variants.{Got, Refused}
 use Rattle.bits.specs.Outcomes.{nextOf}
-use Rattle.runs.specs.Flagged.{marked, kinds, flagsEnd, MarksCells}
+use Rattle.runs.specs.Flagged.{marked, kinds, MarksCells}
 use Rattle.runs.proofs.Puts.{length-kinds}
 
 module _ {found : Read (List ℕ)} {d far common other : ℕ} {old new : List ℕ} where
-  pub marks-refused : {w : Refusal} {at : ℕ} → length new ≡ 320 → found ≡ refuse w at → MarksCells found d far common other old new (Refused w at)
+  pub marks-refused : {w : Refusal} {at : ℕ} → length new ≡ 320
+      → found ≡ refuse w at → MarksCells found d far common other old new (Refused w at)
   marks-refused room e = rw e (record { end = refl; next = zero-le; cells = tt; room = room })
 
   pub marks-got : {flags : List ℕ} {count next : ℕ} → found ≡ whole flags next → marked flags ≡ count → length flags ≡ d → Below 2 flags
-      → new ≡ kinds common other flags ++ drop d old → d ≤ 320 → length old ≡ 320 → next ≤ far → MarksCells found d far common other old new (Got count next)
+      → new ≡ kinds common other flags ++ drop d old → d ≤ 320 → length old ≡ 320 → next ≤ far
+      → MarksCells found d far common other old new (Got count next)
   marks-got {flags} {count} {next} e c l b m k o n =
       let s = length-kinds common other flags in
       rw e
@@ -63,7 +65,8 @@ module _ {d far common other : ℕ} {old new : List ℕ} {r : Outcome} where
       let z : _≡_ {A = ℕ} 0 1 = cc in
       absurd (omega arith)
 
-  told-refused : (found : Read (List ℕ)) → MarksCells found d far common other old new r → {w : Refusal} {b : ℕ} → r ≡ Refused w b → found ≡ refuse w b
+  told-refused : (found : Read (List ℕ)) → MarksCells found d far common other old new r → {w : Refusal} {b : ℕ}
+      → r ≡ Refused w b → found ≡ refuse w b
   told-refused (whole flags at) t {w} {b} e =
       let g : Got (marked flags) at ≡ Refused w b = sym (t .end) ∙ e in
       let z : _≡_ {A = ℕ} 0 1 = cc in

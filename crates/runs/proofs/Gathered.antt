@@ -1,7 +1,7 @@
 -- A turn of the loop over windows: the first `filled` of d flags are read, and `count` of them are 1.
-use Prim.Native.Nat.{ℕ, zero, suc, _+_, _*_, _-_, _^_, _%_, _≤_, _<_, min}
+use Prim.Native.Nat.{ℕ, _+_, _-_, _^_, _≤_, _<_, min}
 use mathlib.Core.Path.{_≡_, refl, sym, ap, _∙_}
-use mathlib.Core.List.{List, [], _∷_, _++_}
+use mathlib.Core.List.{List, [], _++_}
 use native.Mathlib.Omega.{arith}
 use native.Mathlib.Nat.{sub-zero, mod-eq-of-lt}
 use lib.Count.{ones, ones-le}
@@ -9,7 +9,7 @@ use lib.ListN.{length, length-append}
 use lib.Pow.{pow-pos, pow-mono}
 use Rattle.rules.specs.declared.Refusal.{Refusal}
 use Rattle.rules.specs.Bits.{lowBits}
-use Rattle.rules.specs.Reading.{Read, whole, refuse, numberFrom, bitsFrom}
+use Rattle.rules.specs.Reading.{whole, refuse, numberFrom, bitsFrom}
 use Rattle.rules.specs.Chooses.{countOf}
 use Rattle.rules.proofs.Octets.{Below, none, below-append, lowBits-below, length-lowBits}
 use Rattle.bits.specs.declared.Outcome.the-variants.{Got, Refused}
@@ -33,7 +33,8 @@ pub record Gathered (bits : List ℕ) (at d common other : ℕ) (old cells : Lis
   pub few : count ≤ filled
   pub near : place ≤ at + filled
 
-pub gathered-none : (bits : List ℕ) (at d common other : ℕ) (old : List ℕ) → d ≤ 320 → length old ≡ 320 → Gathered bits at d common other old old 0 0 at
+pub gathered-none : (bits : List ℕ) (at d common other : ℕ) (old : List ℕ) → d ≤ 320 → length old ≡ 320
+    → Gathered bits at d common other old old 0 0 at
 unfolding countOf
 gathered-none bits at d common other old f b =
     record {
@@ -71,7 +72,8 @@ module _ {bits : List ℕ} {at d common other : ℕ} {old cells : List ℕ} {fil
       let s = g .size in
       let e : d - filled ≡ 0 = omega arith in
       let l : length (kinds common other (g .done)) ≡ d = length-kinds common other (g .done) ∙ omega arith in
-      marks-got (g .so-far ∙ rw e) (g .ones) (omega arith) (g .below) (put-first (g .put) l) (g .fits) (g .before) (let n = g .near in omega arith)
+      marks-got (g .so-far ∙ rw e) (g .ones) (omega arith) (g .below) (put-first (g .put) l) (g .fits) (g .before)
+      (let n = g .near in omega arith)
 
   module _ {n : ℕ} (w : n ≡ min (d - filled) 32) where
     split : d - filled ≡ n + (d - (filled + n))
@@ -82,8 +84,10 @@ module _ {bits : List ℕ} {at d common other : ℕ} {old cells : List ℕ} {fil
     gathered-refused e =
         marks-refused (g .room) (g .so-far ∙ rw split (window-refused bits n (d - (filled + n)) place 0 e (g .done)))
 
-    pub gathered-turn : Below 2 bits → {v next : ℕ} {new : List ℕ} → numberFrom 0 n bits place ≡ whole v next → v ≤ 2 ^ n - 1 → next ≤ place + n
-        → Put cells filled (kinds common other (lowBits n v)) new → Gathered bits at d common other old new (filled + n) (count + ones v) next
+    pub gathered-turn : Below 2 bits → {v next : ℕ} {new : List ℕ} → numberFrom 0 n bits place ≡ whole v next → v ≤ 2 ^ n - 1
+        → next ≤ place + n
+        → Put cells filled (kinds common other (lowBits n v)) new → Gathered bits at d common other old new (filled + n)
+        (count + ones v) next
     gathered-turn b {v} {next} {new} e s f l =
         let z = g .within in
         let t = g .few in

@@ -1,15 +1,14 @@
 -- Laws of cells that are marked up to a place (specs/Reached).
-use Prim.Native.Nat.{ℕ, zero, suc, _+_, _-_, _≤_, _<_}
-use mathlib.Core.Path.{_≡_, refl, sym, ap, _∙_}
-use mathlib.Core.List.{List, [], _∷_, _++_, append-assoc, append-nil}
+use Prim.Native.Nat.{ℕ, suc, _+_, _-_, _≤_, _<_}
+use mathlib.Core.Path.{_≡_, sym, ap, _∙_}
+use mathlib.Core.List.{List, [], _∷_, _++_, append-assoc}
 use native.Mathlib.Omega.{arith}
 use native.Mathlib.Nat.{sub-zero}
 use lib.Dec.{lit<}
 use lib.ListN.{length, drop, set, replicate, length-append, length-drop, length-replicate, replicate-append-replicate}
 use lib.Seq.{set-at, drop-at}
 use Rattle.rules.specs.Reading.{Read, whole, refuse}
-use Rattle.rules.proofs.Octets.{Below, none, more, below-at, below-all, below-append, below-replicate}
-use Rattle.rules.specs.Chooses.{countOf}
+use Rattle.rules.proofs.Octets.{none, more, below-at, below-all, below-append, below-replicate}
 use Rattle.bits.specs.declared.Outcome.{Outcome}
 use Rattle.bits.specs.declared.Outcome.the-variants.{Got}
 use Rattle.runs.specs.Flagged.{marked, kinds, Put, Marks, MarksCells}
@@ -25,9 +24,11 @@ filled-rest d common {old} p =
     ap (λ (t : List ℕ). drop d t) (put-first p l) ∙ drop-at (replicate d common) (drop d old) d l
 
 -- only what is past the d cells matters of those lent
-pub marks-filled : {found : Read (List ℕ)} {d far common other : ℕ} {old mid new : List ℕ} {r : Outcome} → MarksCells found d far common other mid new r
+pub marks-filled : {found : Read (List ℕ)} {d far common other : ℕ} {old mid new : List ℕ} {r : Outcome}
+    → MarksCells found d far common other mid new r
     → Put old 0 (replicate d common) mid → MarksCells found d far common other old new r
-marks-filled {found} {d} {far} {common} {other} {old} {mid} {new} {r} t p = record { end = t .end; next = t .next; cells = go found (t .cells); room = t .room }
+marks-filled {found} {d} {far} {common} {other} {old} {mid} {new} {r} t p =
+    record { end = t .end; next = t .next; cells = go found (t .cells); room = t .room }
   where
     go : (f : Read (List ℕ)) → Marks d common other f mid new → Marks d common other f old new
     go (whole flags next) (l, b, m) = (l, b, m ∙ ap (λ (k : List ℕ). kinds common other flags ++ k) (filled-rest d common p))
@@ -55,17 +56,23 @@ module _ {d common other : ℕ} {old new done : List ℕ} (g : Marking d common 
       ap length (g .made) ∙ simp (length-append, length-replicate, length-drop) (omega arith)
 
   -- v more places of the common kind, and one of the other
-  pub marking-mark : (v : ℕ) → length done + v < d → Marking d common other old (set new (length done + v) other) (done ++ (replicate v 0 ++ (1 ∷ [])))
+  pub marking-mark : (v : ℕ) → length done + v < d → Marking d common other old (set new (length done + v) other)
+      (done ++ (replicate v 0 ++ (1 ∷ [])))
   marking-mark v h =
       let s = length-kinds common other done in
       let m = d - (length done + v + 1) in
       let l : length (done ++ (replicate v 0 ++ (1 ∷ []))) ≡ length done + v + 1 = simp (length-append, length-replicate) (omega arith) in
-      let k : length (kinds common other done ++ replicate v common) ≡ length done + v = simp (length-append, length-replicate) (omega arith) in
+      let k : length (kinds common other done ++ replicate v common) ≡ length done + v =
+      simp (length-append, length-replicate) (omega arith) in
       let f : replicate (d - length done) common ≡ replicate v common ++ replicate (suc m) common =
       let e : d - length done ≡ v + suc m = omega arith in rw e (sym (replicate-append-replicate v (suc m) common))
       in
       let r : kinds common other (done ++ (replicate v 0 ++ (1 ∷ []))) ≡ kinds common other done ++ (replicate v common ++ (other ∷ [])) =
-      rw (kinds-append common other done (replicate v 0 ++ (1 ∷ [])), kinds-append common other (replicate v 0) (1 ∷ []), kinds-common common other v)
+      rw (
+        kinds-append common other done (replicate v 0 ++ (1 ∷ [])),
+        kinds-append common other (replicate v 0) (1 ∷ []),
+        kinds-common common other v,
+      )
       in
       record {
         made =
@@ -79,7 +86,8 @@ module _ {d common other : ℕ} {old new done : List ℕ} (g : Marking d common 
               set-at (kinds common other done ++ replicate v common) common (replicate m common ++ drop d old) other (length done + v) k,
             )
             (simp append-assoc);
-        below = below-at (below-append (below-all done (g .below)) (below-append (below-replicate v {x = 0} (lit< tt)) (more (lit< tt) none))) (lit< tt);
+        below = below-at (below-append (below-all done (g .below))
+            (below-append (below-replicate v {x = 0} (lit< tt)) (more (lit< tt) none))) (lit< tt);
         within = omega arith;
         fits = g .fits;
         before = g .before;
@@ -95,5 +103,6 @@ module _ {d common other : ℕ} {old new done : List ℕ} (g : Marking d common 
       let r : kinds common other (done ++ replicate v 0) ≡ kinds common other done ++ replicate v common =
       kinds-append common other done (replicate v 0) ∙ ap (λ (t : List ℕ). kinds common other done ++ t) (kinds-common common other v)
       in
-      marks-got e o (simp (length-append, length-replicate) (omega arith)) (below-append (below-all done (g .below)) (below-replicate v {x = 0} (lit< tt)))
+      marks-got e o (simp (length-append, length-replicate) (omega arith))
+      (below-append (below-all done (g .below)) (below-replicate v {x = 0} (lit< tt)))
       (g .made ∙ rw (k, r) (sym (append-assoc (kinds common other done) (replicate v common) (drop d old)))) (g .fits) (g .before) n

@@ -1,7 +1,7 @@
 -- The n low bits of v in parts, the highest first, put into cells from a place on.
-use Prim.Native.Nat.{ℕ, zero, suc, _+_, _*_, _-_, _^_, _/_, _%_, _≤_, _<_}
+use Prim.Native.Nat.{ℕ, _+_, _-_, _^_, _/_, _%_, _≤_, _<_}
 use mathlib.Core.Path.{_≡_, refl, sym, ap, _∙_}
-use mathlib.Core.List.{List, [], _∷_, _++_}
+use mathlib.Core.List.{List, _++_}
 use native.Mathlib.Omega.{arith}
 use native.Mathlib.Nat.{div-one}
 use lib.ListN.{length, set}
@@ -13,7 +13,8 @@ use Rattle.runs.proofs.Puts.{put-none, put-one, put-then, put-length, l
 use Rattle.rules.proofs.Words.{lowBits-split, lowBits-mod}
 
 -- the first j of n bits, and the next k
-pub next-bits : (n v j k : ℕ) → j + k ≤ n → lowBits j (v / 2 ^ (n - j)) ++ lowBits k (v / 2 ^ (n - (j + k))) ≡ lowBits (j + k) (v / 2 ^ (n - (j + k)))
+pub next-bits : (n v j k : ℕ) → j + k ≤ n → lowBits j (v / 2 ^ (n - j)) ++ lowBits k (v / 2 ^ (n - (j + k))) ≡ lowBits
+    (j + k) (v / 2 ^ (n - (j + k)))
 next-bits n v j k h =
     let w = v / 2 ^ (n - (j + k)) in
     let e : n - (j + k) + k ≡ n - j = omega arith in
@@ -32,7 +33,8 @@ pub record Spreading (common other : ℕ) (old : List ℕ) (from n v j : ℕ) (n
   pub before : length old ≡ 320
   pub room : length new ≡ 320
 
-pub spreading-none : (common other : ℕ) (old : List ℕ) (from n v : ℕ) → from + n ≤ 320 → length old ≡ 320 → Spreading common other old from n v 0 old
+pub spreading-none : (common other : ℕ) (old : List ℕ) (from n v : ℕ) → from + n ≤ 320 → length old ≡ 320
+    → Spreading common other old from n v 0 old
 unfolding lowBits
 spreading-none common other old from n v f h = record { put = put-none old from; within = omega arith; fits = f; before = h; room = h }
 
@@ -51,7 +53,8 @@ module _ {common other : ℕ} {old new : List ℕ} {from n v j : ℕ} (g : Sprea
       let t = length-kinds common other (lowBits k (v / 2 ^ (n - (j + k)))) ∙ length-lowBits k (v / 2 ^ (n - (j + k))) in
       let o : length xs ≡ k = ap length e ∙ t in
       let c : kinds common other (lowBits j (v / 2 ^ (n - j))) ++ xs ≡ kinds common other (lowBits (j + k) (v / 2 ^ (n - (j + k)))) =
-      rw e (sym (kinds-append common other (lowBits j (v / 2 ^ (n - j))) (lowBits k (v / 2 ^ (n - (j + k))))) ∙ ap (kinds common other) (next-bits n v j k h))
+      rw e (sym (kinds-append common other (lowBits j (v / 2 ^ (n - j))) (lowBits k (v / 2 ^ (n - (j + k)))))
+      ∙ ap (kinds common other) (next-bits n v j k h))
       in
       record {
         put = put-then (g .put) (omega arith) (omega arith) p c;
@@ -61,7 +64,8 @@ module _ {common other : ℕ} {old new : List ℕ} {from n v j : ℕ} (g : Sprea
         room = put-length p (omega arith) ∙ g .room;
       }
 
-  pub spreading-one : {x : ℕ} → j < n → x ≡ kindOf common other (v / 2 ^ (n - (j + 1)) % 2) → Spreading common other old from n v (j + 1) (set new (from + j) x)
+  pub spreading-one : {x : ℕ} → j < n → x ≡ kindOf common other (v / 2 ^ (n - (j + 1)) % 2)
+      → Spreading common other old from n v (j + 1) (set new (from + j) x)
   unfolding lowBits
   spreading-one {x} h e =
       let f = g .fits in
@@ -84,7 +88,8 @@ module _ {common other : ℕ} {old new : List ℕ} {from n v j : ℕ} (g : Sprea
       rw (z, div-one v) at p
 
 -- the rest, at most eight
-pub spreading-rest : {common other : ℕ} {old new after : List ℕ} {from n v j x : ℕ} → Spreading common other old from n v j new → n - j ≤ 8 → x ≡ v % 256
+pub spreading-rest : {common other : ℕ} {old new after : List ℕ} {from n v j x : ℕ} → Spreading common other old from n v j new
+    → n - j ≤ 8 → x ≡ v % 256
     → Put new (from + j) (kinds common other (lowBits (n - j) x)) after → Put old from (kinds common other (lowBits n v)) after
 spreading-rest {common} {other} {old} {new} {after} {from} {n} {v} {j} {x} g h e p =
     let w = g .within in
@@ -94,9 +99,12 @@ spreading-rest {common} {other} {old} {new} {after} {from} {n} {v} {j} {x} g h e
     spreading-all (spreading-turn g k (omega arith) (ap (kinds common other) f) refl p) (omega arith)
 
 -- a whole window, in four
-pub spreading-whole : (common other : ℕ) {old a b c d : List ℕ} (from v : ℕ) → Put old from (kinds common other (lowBits 8 (v / 2 ^ 24 % 256))) a
-    → Put a (from + 8) (kinds common other (lowBits 8 (v / 2 ^ 16 % 256))) b → Put b (from + 16) (kinds common other (lowBits 8 (v / 2 ^ 8 % 256))) c
-    → Put c (from + 24) (kinds common other (lowBits 8 (v % 256))) d → from + 32 ≤ 320 → length old ≡ 320 → Put old from (kinds common other (lowBits 32 v)) d
+pub spreading-whole : (common other : ℕ) {old a b c d : List ℕ} (from v : ℕ)
+    → Put old from (kinds common other (lowBits 8 (v / 2 ^ 24 % 256))) a
+    → Put a (from + 8) (kinds common other (lowBits 8 (v / 2 ^ 16 % 256))) b
+    → Put b (from + 16) (kinds common other (lowBits 8 (v / 2 ^ 8 % 256))) c
+    → Put c (from + 24) (kinds common other (lowBits 8 (v % 256))) d → from + 32 ≤ 320 → length old ≡ 320
+    → Put old from (kinds common other (lowBits 32 v)) d
 spreading-whole common other {old} from v p q r s f b =
     let none = spreading-none common other old from 32 v f b in
     let one = spreading-eight none (omega arith) refl (omega arith) p in

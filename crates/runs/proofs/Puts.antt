@@ -1,11 +1,12 @@
 -- Cells put in from a place on: none, one, and one part after another.
 use Prim.Native.Nat.{ℕ, zero, suc, _+_, _-_, _≤_, _<_}
 use mathlib.Core.Path.{_≡_, refl, sym, ap, _∙_}
-use mathlib.Core.List.{List, [], _∷_, _++_, append-assoc, append-nil, map}
+use mathlib.Core.List.{List, [], _∷_, _++_, append-assoc}
 use native.Mathlib.Omega.{arith}
 use native.Mathlib.Nat.{add-zero, zero-add}
 use native.Mathlib.Numerals.{add-one}
-use lib.ListN.{length, take, drop, set, replicate, length-append, length-take, length-drop, length-replicate, replicate-append-replicate, take-append-drop}
+use lib.ListN.{length, take, drop, set, replicate}
+use lib.ListN.{length-append, length-drop, length-replicate, replicate-append-replicate, take-append-drop}
 use lib.Seq.{length-take-le, take-at, drop-at, drop-drop, set-split}
 use Rattle.runs.specs.Flagged.{kindOf, kinds, Put}
 
@@ -31,7 +32,8 @@ module _ {old xs new : List ℕ} {from : ℕ} (p : Put old from xs new) (h : fro
   pub put-then : {i : ℕ} {ys both after : List ℕ} → from + length xs ≡ i → Put new i ys after → xs ++ ys ≡ both → Put old from both after
   put-then {i} {ys} {both} {after} e q s =
       let f = front ∙ e in
-      let t : take i new ≡ take from old ++ xs = ap (λ (l : List ℕ). take i l) split ∙ take-at (take from old ++ xs) (drop (from + length xs) old) i f in
+      let t : take i new ≡ take from old ++ xs = ap (λ (l : List ℕ). take i l) split
+      ∙ take-at (take from old ++ xs) (drop (from + length xs) old) i f in
       let d : drop i new ≡ drop (from + length xs) old =
       ap (λ (l : List ℕ). drop i l) split ∙ drop-at (take from old ++ xs) (drop (from + length xs) old) i f in
       let k : length both ≡ length xs + length ys = ap length (sym s) ∙ length-append xs ys in
@@ -68,7 +70,8 @@ pub record Filling (old : List ℕ) (n x i : ℕ) (new : List ℕ) : Type 0 wher
 pub filling-none : (old : List ℕ) (n x : ℕ) → length old ≡ 320 → Filling old n x 0 old
 filling-none old n x h = record { put = put-none old 0; within = omega arith; room = h }
 
-pub filling-turn : {old new : List ℕ} {n x i : ℕ} → Filling old n x i new → length old ≡ 320 → n ≤ 320 → i < n → Filling old n x (i + 1) (set new i x)
+pub filling-turn : {old new : List ℕ} {n x i : ℕ} → Filling old n x i new → length old ≡ 320 → n ≤ 320 → i < n
+    → Filling old n x (i + 1) (set new i x)
 filling-turn {old} {new} {n} {x} {i} g b f h =
     let r = g .room in
     let s = length-replicate i x in

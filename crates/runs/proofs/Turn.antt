@@ -15,9 +15,9 @@ use Rattle.rules.specs.Reading.{Read, Reader, whole, refuse, andThen, give, fai
 use Rattle.rules.specs.Runs.{rice, runsFrom}
 use Rattle.rules.specs.Chooses.{countOf}
 use Rattle.bits.specs.declared.Outcome.the-variants.{Got, Refused}
-use Rattle.runs.specs.Flagged.{oneRun, marked, Put, MarksCells}
+use Rattle.runs.specs.Flagged.{oneRun, Put, MarksCells}
 use Rattle.runs.specs.declared.Stretch.{Stretch}
-use Rattle.runs.specs.Reached.{Marking, Filled, endOf}
+use Rattle.runs.specs.Reached.{Filled, endOf}
 use Rattle.runs.proofs.Answer.{marks-refused}
 use Rattle.runs.proofs.Ones.{marked-run}
 use Rattle.runs.proofs.Marking.{marking-none, marking-room, marking-mark, marking-all}
@@ -104,7 +104,8 @@ module _ {bits : List ℕ} {at n s d common other : ℕ} {old cells : List ℕ} 
     runs-refused e = marks-refused (marking-room (f .marking)) (stepped e)
 
     module _ {v next : ℕ} (e : oneRun n s (d - filled) bits place ≡ whole v next) where
-      pub runs-closed : v ≡ d - filled → next ≤ place + 330 → MarksCells (runsFrom n s d d [] bits at) d (at + 330 * d) common other old cells (Got count next)
+      pub runs-closed : v ≡ d - filled → next ≤ place + 330 → MarksCells (runsFrom n s d d [] bits at) d (at + 330 * d)
+          common other old cells (Got count next)
       runs-closed l b =
           let w = f .within in
           let y = f .fuel in
@@ -136,7 +137,8 @@ pub runs-ended : {bits : List ℕ} {at n s d common other : ℕ} {old cells : Li
     → MarksCells (runsFrom n s d d [] bits at) d (at + 330 * d) common other old cells (endOf d t)
 runs-ended {bits} {at} {n} {s} {d} {common} {other} {old} {cells} t f (p, q, e) z = go (decLe d (t .filled)) (decLe (t .past) d)
   where
-    go : Dec (d ≤ t .filled) → Dec (t .past ≤ d) → MarksCells (runsFrom n s d d [] bits at) d (at + 330 * d) common other old cells (endOf d t)
+    go : Dec (d ≤ t .filled) → Dec (t .past ≤ d) → MarksCells (runsFrom n s d d [] bits at) d (at + 330 * d) common other
+        old cells (endOf d t)
     go (yes h) k = rw (le-leb d (t .filled) h) (runs-filled f h)
     go (no h) (no k) =
         rw (lt-leb d (t .filled) (omega arith), lt-ltb d (t .past) (omega arith))

@@ -1,5 +1,5 @@
 -- Flags that are read bit by bit are read by windows: n of them are the n low bits of a number.
-use Prim.Native.Nat.{ℕ, zero, suc, _+_, _*_, _-_, _^_, _/_, _%_, _≤_, _<_}
+use Prim.Native.Nat.{ℕ, zero, suc, _+_, _*_, _-_, _^_, _/_, _%_, _<_}
 use mathlib.Core.Path.{_≡_, refl, sym, ap, subst, _∙_}
 use mathlib.Core.List.{List, [], _∷_, _++_, append-assoc, append-nil}
 use mathlib.Core.Bool.{Bool, true, false, cond}
@@ -63,7 +63,8 @@ window-step bits b n m i u v next (whole a j) q e more =
       flags = λ done. rw (suc-add, q, f) (w .flags (done ++ (a ∷ [])) ∙ rw append-assoc);
     }
 
-pub window-got : (bits : List ℕ) → Below 2 bits → (n m i u : ℕ) {v next : ℕ} → numberFrom u n bits i ≡ whole v next → Window bits n m i u v next
+pub window-got : (bits : List ℕ) → Below 2 bits → (n m i u : ℕ) {v next : ℕ} → numberFrom u n bits i ≡ whole v next
+    → Window bits n m i u v next
 unfolding numberFrom lowBits
 window-got bits b zero m i u {v} {next} e =
     let p : u ≡ v = cc in

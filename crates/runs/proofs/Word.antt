@@ -1,22 +1,24 @@
--- The loop over the codes in one word: some are read, and the word holds the bits after them (In-word). A turn reads one more (in-word-turn),
--- and the loop ends at one that reaches the end of the places (in-word-last) or that the word does not hold whole (in-word-ends).
-use Prim.Native.Nat.{ℕ, suc, _+_, _*_, _-_, _^_, _/_, _%_, _≤_, _<_}
-use mathlib.Core.Path.{_≡_, refl, sym, ap, _∙_}
+-- The loop over the codes in one word: some are read, and the word holds the bits after them (In-word). A turn reads one more
+-- (in-word-turn), and the loop ends at one that reaches the end of the places (in-word-last) or that the word does not hold whole
+-- (in-word-ends).
+use Prim.Native.Nat.{ℕ, _+_, _*_, _-_, _^_, _/_, _%_, _≤_, _<_}
+use mathlib.Core.Path.{_≡_, sym, ap, _∙_}
 use mathlib.Core.List.{List}
 use native.Mathlib.Omega.{arith}
 use lib.Count.{leadingZeros}
 use lib.ListN.{length, set, length-set}
 use Rattle.rules.specs.Bits.{bitsOf}
-use Rattle.rules.specs.Reading.{Read, whole}
+use Rattle.rules.specs.Reading.{whole}
 use Rattle.rules.specs.Runs.{rice}
 use Rattle.bits.specs.Windows.{Holds, runIn}
 use Rattle.bits.proofs.InWord.{holds-on, rice-held}
 use Rattle.runs.specs.declared.Stretch.{Stretch}
-use Rattle.runs.specs.Reached.{Filled, Goes-on, Reads-several}
+use Rattle.runs.specs.Reached.{Goes-on, Reads-several}
 use Rattle.runs.proofs.Turn.{run-fits, runs-turn}
 
 -- `good` of the word's `all` bits are left
-pub record In-word (octets : List ℕ) (at n s d other : ℕ) (old : List ℕ) (before marks all : ℕ) (new : List ℕ) (word good filled count : ℕ) : Type 0 where
+pub record In-word (octets : List ℕ) (at n s d other : ℕ) (old : List ℕ) (before marks all : ℕ) (new : List ℕ)
+    (word good filled count : ℕ) : Type 0 where
   pub goes : Goes-on (bitsOf octets) n s d other old before marks at new filled count (at + (all - good))
   pub holds : Holds octets (at + (all - good)) n word good
   pub left : good ≤ all
@@ -43,10 +45,12 @@ module _ {octets : List ℕ} {at n s d other : ℕ} {old : List ℕ} {before mar
   module _ {zeros v : ℕ} (c : zeros ≡ leadingZeros 32 (word / 2 ^ 32)) (h : zeros < 32) (m : s ≤ 9)
       (g : zeros + (s + 1) ≤ good) (e : v ≡ runIn word zeros s) where
     code : rice n s (bitsOf octets) (at + (all - good)) ≡ whole v (at + (all - good) + (zeros + (s + 1)))
-    code = rice-held octets (at + (all - good)) n s (i .holds) c h m g ∙ ap (λ (x : ℕ). whole x (at + (all - good) + (zeros + (s + 1)))) (sym e)
+    code = rice-held octets (at + (all - good)) n s (i .holds) c h m g
+        ∙ ap (λ (x : ℕ). whole x (at + (all - good) + (zeros + (s + 1)))) (sym e)
 
     -- a run that reaches the end
-    pub in-word-last : (r : Stretch) → r .filled ≡ filled → r .count ≡ count → r .place ≡ at + (all - good) → r .past ≡ filled + v → r .size ≡ zeros + (s + 1)
+    pub in-word-last : (r : Stretch) → r .filled ≡ filled → r .count ≡ count → r .place ≡ at + (all - good) → r .past ≡ filled + v
+        → r .size ≡ zeros + (s + 1)
         → d ≤ filled + v → Reads-several octets n s d other old before marks at new r
     in-word-last r f k p q z l =
         let w : filled + v - filled ≡ v = omega arith in
@@ -71,7 +75,10 @@ module _ {octets : List ℕ} {at n s d other : ℕ} {old : List ℕ} {before mar
         let q : filled + (v + 1) ≡ filled + v + 1 = omega arith in
         let t = run-fits (bitsOf octets) n s (d - filled) (at + (all - good)) code (omega arith) in
         record {
-          goes = record { on = λ f. rw (q, p) at (runs-turn (i .goes .on f) (omega arith) t (omega arith) (λ z. omega arith) (omega arith)) };
+          goes = record {
+            on =
+                λ f. rw (q, p) at (runs-turn (i .goes .on f) (omega arith) t (omega arith) (λ z. omega arith) (omega arith));
+          };
           holds = rw p at (holds-on octets (at + (all - good)) n size (i .holds) g (omega arith));
           left = omega arith;
           within = omega arith;

@@ -42,7 +42,8 @@ flagsEnd (refuse w at) = Refused w at
 
 -- the first d cells are those of d flags of 0 and 1, the others as lent; a refused reading may leave any cells
 abbrev pub Marks : ℕ → ℕ → ℕ → Read (List ℕ) → List ℕ → List ℕ → Type 0
-Marks d common other (whole flags next) old new = (length flags ≡ d) × ((i : ℕ) → getD flags i 0 < 2) × (new ≡ kinds common other flags ++ drop d old)
+Marks d common other (whole flags next) old new =
+    (length flags ≡ d) × ((i : ℕ) → getD flags i 0 < 2) × (new ≡ kinds common other flags ++ drop d old)
 Marks d common other (refuse w at) old new = Unit {0}
 
 -- the answer is the definition's, and the next place at most `far`; the cells are marked

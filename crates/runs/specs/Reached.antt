@@ -34,18 +34,22 @@ pub record Filled (bits : List ℕ) (at n s d common other : ℕ) (old cells : L
   pub near : place ≤ at + 330 * count
 
 -- whatever was filled before, so much is filled now
-pub record Goes-on (bits : List ℕ) (n s d other : ℕ) (old : List ℕ) (filled count place : ℕ) (new : List ℕ) (filled′ count′ place′ : ℕ) : Type 0 where
+pub record Goes-on (bits : List ℕ) (n s d other : ℕ) (old : List ℕ) (filled count place : ℕ) (new : List ℕ)
+    (filled′ count′ place′ : ℕ) : Type 0 where
   pub on : {at common : ℕ} {lent : List ℕ} → Filled bits at n s d common other lent old filled count place
       → Filled bits at n s d common other lent new filled′ count′ place′
 
 -- some runs more, each but one short of the end; of one that reaches it, `past` is where, and `size` its bits
-pub record Reads-several (octets : List ℕ) (n s d other : ℕ) (old : List ℕ) (filled count place : ℕ) (new : List ℕ) (r : Stretch) : Type 0 where
+pub record Reads-several (octets : List ℕ) (n s d other : ℕ) (old : List ℕ) (filled count place : ℕ) (new : List ℕ)
+    (r : Stretch) : Type 0 where
   pub goes : Goes-on (bitsOf octets) n s d other old filled count place new (r .filled) (r .count) (r .place)
-  pub last : 0 < r .size → (d ≤ r .past) × (r .filled ≤ r .past) × (rice n s (bitsOf octets) (r .place) ≡ whole (r .past - r .filled) (r .place + r .size))
+  pub last : 0 < r .size
+      → (d ≤ r .past) × (r .filled ≤ r .past) × (rice n s (bitsOf octets) (r .place) ≡ whole (r .past - r .filled) (r .place + r .size))
   pub small : r .size ≤ 41
   pub from : filled ≤ r .filled
   pub room : length new ≡ 320
 
 -- the answer there: all places are filled, the run is too long, or "the closing sample is imagined"
 abbrev pub endOf : ℕ → Stretch → Outcome
-endOf d t = cond (leb d (t .filled)) (Got (t .count) (t .place)) (cond (ltb d (t .past)) (Refused Run (t .place)) (Got (t .count) (t .place + t .size)))
+endOf d t = cond (leb d (t .filled)) (Got (t .count) (t .place))
+    (cond (ltb d (t .past)) (Refused Run (t .place)) (Got (t .count) (t .place + t .size)))

@@ -1,7 +1,7 @@
 // D flags of a value or a frame, 0 the common kind and 1 the other, as runs or bit by bit: each marks a lent cell by its kind.
 ghost use mathlib.Core.Path.{_≡_};
 ghost use mathlib.Core.List.{[]};
-ghost use Prim.Native.Nat.{_+_, _*_, _-_, _^_, _/_, _≤_, _<_, min};
+ghost use Prim.Native.Nat.{_+_, _*_, _-_, _^_, _≤_, _<_, min};
 ghost use lib.ListN.{length, replicate};
 ghost use Rattle.rules.specs.Bits.{lowBits, bitsOf};
 ghost use Rattle.rules.specs.Reading.{bitsFrom};

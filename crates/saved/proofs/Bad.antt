@@ -1,4 +1,5 @@
--- Greetings in cells judged one by one, in the code's steps; and that they are the greetings of the text (`bad-celled`, `notes-celled`).
+-- Greetings in cells judged one by one, in the code's steps; and that they are the greetings of the text (`bad-celled`, `notes-celled`);
+-- notes that are compared (`note-same`).
 use Prim.Native.Nat.{ℕ, zero, suc, _+_, _*_, _-_, _≤_, _<_}
 use mathlib.Core.Path.{_≡_, refl, sym, ap, _∙_}
 use mathlib.Core.List.{List, [], _∷_, _++_}
@@ -61,6 +62,7 @@ unfolding anyBad badBy rowsListed lawsListed
 bad-celled b [] rest = refl
 bad-celled b (x ∷ xs) rest = ap (λ (t : Bool). cond (isBad (x .note .law) (greeting b (x .row))) true t) (bad-celled b xs rest)
 
+-- "samples and marks": compared, they are the same
 marks-same : (ms qs : List Mark) → sameMarks ms qs ≡ true → ms ≡ qs
 unfolding sameMarks
 marks-same [] [] e = refl
@@ -76,7 +78,7 @@ marks-same (m ∷ ms) (q ∷ qs) e =
     mark-cons a b c =
         ap (λ (k : ℕ). markOf k (m .samples) ∷ ms) a ∙ ap (λ (k : ℕ). markOf (q .octets) k ∷ ms) b ∙ ap (λ (l : List Mark). q ∷ l) c
 
-note-same : (n g : Note) → n .law ≡ g .law → sameNote n g ≡ true → n ≡ g
+pub note-same : (n g : Note) → n .law ≡ g .law → sameNote n g ≡ true → n ≡ g
 note-same n g l e =
     let a = eqb-true (n .samples) (g .samples) (and-left (eqb (n .samples) (g .samples)) (sameMarks (n .marks) (g .marks)) e) in
     let b = marks-same (n .marks) (g .marks) (and-right (eqb (n .samples) (g .samples)) (sameMarks (n .marks) (g .marks)) e) in
@@ -92,18 +94,14 @@ notes-celled b [] rest e = refl
 notes-celled b (x ∷ xs) rest e =
     let g = noteOf (x .note .law) (greeting b (x .row)) in
     let o = both (sameNote (x .note) g) (allTrue b xs) e in
-    ap (λ (n : Note). n ∷ notesListed xs) (note-same (x .note) g refl (o .0)) ∙ ap (λ (l : List Note). g ∷ l) (notes-celled b xs rest (o .1))
+    ap (λ (n : Note). n ∷ notesListed xs) (note-same (x .note) g refl (o .0))
+    ∙ ap (λ (l : List Note). g ∷ l) (notes-celled b xs rest (o .1))
 
 -- R-6's lines: law 1, and what that walk gives
 pub rows-early : (b : List ℕ) (rows : List Row) → rowsListed (early b rows) ≡ rows
 unfolding rowsListed early
 rows-early b [] = refl
 rows-early b (r ∷ rows) = ap (λ (l : List Row). r ∷ l) (rows-early b rows)
-
-pub length-early : (b : List ℕ) (rows : List Row) → length (early b rows) ≡ length rows
-unfolding early
-length-early b [] = refl
-length-early b (r ∷ rows) = ap suc (length-early b rows)
 
 pub laws-early : (b : List ℕ) (rows : List Row) (k : ℕ) → length rows ≤ k
     → replicate k 1 ≡ lawsListed (early b rows) ++ drop (length (early b rows)) (replicate k 1)

@@ -49,7 +49,8 @@ no-more {done} {all} {text} {i} {j} h e = record { new = []; parts = sym (got-va
     go [] = rw h (ap To p)
     go (m ∷ ms) = rw h
 
-one-more : {done all : List Mark} {text : List ℕ} {i j k : ℕ} (q : Mark) → begins markWord (drop i text) ≡ true → markLine text i ≡ whole q k
+one-more : {done all : List Mark} {text : List ℕ} {i j k : ℕ} (q : Mark) → begins markWord (drop i text) ≡ true
+    → markLine text i ≡ whole q k
     → After (done ++ (q ∷ [])) all text k j → After done all text i j
 unfolding marksAre markIs noMark sameMarks
 one-more {done} {all} {text} {i} {j} {k} q h e a =
@@ -129,7 +130,8 @@ listed-alone far zero done text i = go (leb (length text) i)
     go true = ap (λ (l : List Listed). whole l i) (sym (append-nil done))
     go false = refl
 listed-alone far (suc more) done text i =
-    go (leb (length text) i) (listed far text i) (λ x j. listed-alone far more (done ++ (x ∷ [])) text j) (λ x j. listed-alone far more (x ∷ []) text j)
+    go (leb (length text) i) (listed far text i) (λ x j. listed-alone far more (done ++ (x ∷ [])) text j)
+    (λ x j. listed-alone far more (x ∷ []) text j)
   where
     go : (t : Bool) (r : Read Listed)
         → ((x : Listed) (j : ℕ) → listedFrom far more (done ++ (x ∷ [])) text j ≡ before (done ++ (x ∷ [])) (listedFrom far more [] text j))
@@ -159,10 +161,21 @@ comparing-first far from {text} {b} {size} {n} s = go (listedAt far from text) r
     go : (r : Read (List Listed)) → listedAt far from text ≡ r → Fitting b size n r
         → Comparing far text b size (n - 0) from (allTrue b (greetingsOf r))
     go (whole xs i) e s =
-        record { more = 32; new = xs; end = i; low = 0; reads = e; count = omega (arith, s .count); rises = s .rises; fine = s .fine; all = refl }
+        record {
+          more = 32;
+          new = xs;
+          end = i;
+          low = 0;
+          reads = e;
+          count = omega (arith, s .count);
+          rises = s .rises;
+          fine = s .fine;
+          all = refl;
+        }
     go none e s = let f = s .reads in let z : _≡_ {A = ℕ} 0 1 = cc in absurd (omega arith)
 
-pub comparing-end : {far : ℕ} {text b : List ℕ} {size left at : ℕ} {answer : Bool} → Comparing far text b size left at answer → left ≡ 0 → true ≡ answer
+pub comparing-end : {far : ℕ} {text b : List ℕ} {size left at : ℕ} {answer : Bool} → Comparing far text b size left at answer
+    → left ≡ 0 → true ≡ answer
 unfolding allTrue
 comparing-end {far} {text} {b} {size} {left} {at} {answer} s h = go (s .new) (s .count ∙ h) (s .all)
   where
@@ -183,7 +196,8 @@ record Turn (far : ℕ) (text : List ℕ) (at : ℕ) (new : List Listed) (end : 
 no-turn : {A : Type 0} {xs : List Listed} {at end n : ℕ} → whole [] at ≡ whole xs end → length xs ≡ suc n → A
 no-turn {A} {xs} e l = let z : [] ≡ xs = got-value e in let m = ap length z in absurd (omega arith)
 
-turn : (far more : ℕ) (text : List ℕ) (at : ℕ) (new : List Listed) (end n : ℕ) → listedFrom far more [] text at ≡ whole new end → length new ≡ suc n
+turn : (far more : ℕ) (text : List ℕ) (at : ℕ) (new : List Listed) (end n : ℕ) → listedFrom far more [] text at ≡ whole new end
+    → length new ≡ suc n
     → Turn far text at new end
 unfolding listedFrom
 turn far zero text at new end n e l = go (leb (length text) at) e
@@ -200,7 +214,8 @@ turn far (suc more) text at new end n e l = go (leb (length text) at) e
         record { more = more; x = x; rest = rest; next = j; parts = sym (got-value g); here = h; reads = f ∙ ap (whole rest) (got-place g) }
     last x j h none f g = let z : _≡_ {A = ℕ} 0 1 = cc in absurd (omega arith)
 
-    go : (t : Bool) → cond t (whole [] at) (andThen (listed far text at) (λ x j. listedFrom far more (x ∷ []) text j)) ≡ whole new end → Turn far text at new end
+    go : (t : Bool) → cond t (whole [] at) (andThen (listed far text at) (λ x j. listedFrom far more (x ∷ []) text j)) ≡ whole new end
+        → Turn far text at new end
     go true e = no-turn e l
     go false e =
         let m = through (listed far text at) _ e in
@@ -224,9 +239,11 @@ bad-split false u e = (refl, e)
 abbrev listedOf : Row → Note → Listed
 listedOf r n = record { row = r; note = n }
 
-build : {far : ℕ} {text b : List ℕ} {size left at : ℕ} {answer : Bool} {r : Row} {law place : ℕ} (n : Note) (rest : List Listed) (j more end low : ℕ)
+build : {far : ℕ} {text b : List ℕ} {size left at : ℕ} {answer : Bool} {r : Row} {law place : ℕ} (n : Note) (rest : List Listed)
+    (j more end low : ℕ)
     → n .law ≡ law → noted law text place ≡ whole n j → listedFrom far more [] text j ≡ whole rest end → length rest ≡ left
-    → rising 0 low size (rowsListed (listedOf r n ∷ rest)) ≡ true → anyBad b (listedOf r n ∷ rest) ≡ false → allTrue b (listedOf r n ∷ rest) ≡ answer
+    → rising 0 low size (rowsListed (listedOf r n ∷ rest)) ≡ true → anyBad b (listedOf r n ∷ rest) ≡ false
+    → allTrue b (listedOf r n ∷ rest) ≡ answer
     → HeadTurn far text b size left at answer r law place
 unfolding rising rowsListed anyBad allTrue
 build {far} {text} {b} {size} {left} {at} {answer} {r} {law} {place} n rest j more end low l e f c g h k =
@@ -256,7 +273,8 @@ build {far} {text} {b} {size} {left} {at} {answer} {r} {law} {place} n rest j mo
       };
     }
 
-module _ {far : ℕ} {text b : List ℕ} {size left at : ℕ} {answer : Bool} {n : ℕ} (s : Comparing far text b size left at answer) (l : left ≡ suc n) where
+module _ {far : ℕ} {text b : List ℕ} {size left at : ℕ} {answer : Bool} {n : ℕ} (s : Comparing far text b size left at answer)
+    (l : left ≡ suc n) where
   pub comparing-missing : none ≡ headed far text at → false ≡ answer
   comparing-missing e =
       let t = turn far (s .more) text at (s .new) (s .end) n (s .reads) (s .count ∙ l) in
@@ -264,10 +282,12 @@ module _ {far : ℕ} {text b : List ℕ} {size left at : ℕ} {answer : Bool} {n
       let z : _≡_ {A = ℕ} 0 1 = cc in
       absurd (omega arith)
 
-  pub comparing-turn : {r : Row} {law place : ℕ} → whole (headOf r law) place ≡ headed far text at → HeadTurn far text b size n at answer r law place
+  pub comparing-turn : {r : Row} {law place : ℕ} → whole (headOf r law) place ≡ headed far text at → HeadTurn far text b
+      size n at answer r law place
   comparing-turn {r} {law} {place} e =
       let t = turn far (s .more) text at (s .new) (s .end) n (s .reads) (s .count ∙ l) in
-      let g : andThen (noted law text place) (λ n k. whole (listedOf r n) k) ≡ whole (t .x) (t .next) = sym (rw (listed-parts text far at, ← e))
+      let g : andThen (noted law text place) (λ n k. whole (listedOf r n) k) ≡ whole (t .x) (t .next) =
+      sym (rw (listed-parts text far at, ← e))
       ∙ t .here in
       let p = through (noted law text place) _ g in
       let x : listedOf r (p .value) ≡ t .x = got-value (p .then) in
@@ -278,7 +298,8 @@ module _ {far : ℕ} {text b : List ℕ} {size left at : ℕ} {answer : Bool} {n
       (rw k (t .reads)) (omega (arith, s .count, c, l)) (rw (← m) (s .rises)) (rw (← m) (s .fine)) (rw (← m) (s .all))
 
 -- in the code's steps; `turn-lent` is the part of the block that the code lends
-module _ {far : ℕ} {text b : List ℕ} {size left at : ℕ} {answer : Bool} {r : Row} {law place : ℕ} (t : HeadTurn far text b size left at answer r law place) where
+module _ {far : ℕ} {text b : List ℕ} {size left at : ℕ} {answer : Bool} {r : Row} {law place : ℕ}
+    (t : HeadTurn far text b size left at answer r law place) where
   pub turn-lent : {from count : ℕ} → from ≡ r .start → count ≡ r .octets → take (from + count - from) (drop from b) ≡ greeting b r
   turn-lent e f = rw (e, f) (part-same b r)
 
@@ -295,7 +316,8 @@ module _ {far : ℕ} {text b : List ℕ} {size left at : ℕ} {answer : Bool} {r
       go true f g = let z : _≡_ {A = ℕ} 0 1 = cc in absurd (omega arith)
       go false f g = t .wrong f
 
-  pub turn-on : {xs : List ℕ} {j : ℕ} → xs ≡ greeting b r → To j ≡ nextOf (noteIs (noteOf law xs .samples) (noteOf law xs .marks) text place)
+  pub turn-on : {xs : List ℕ} {j : ℕ} → xs ≡ greeting b r
+      → To j ≡ nextOf (noteIs (noteOf law xs .samples) (noteOf law xs .marks) text place)
       → Comparing far text b size left j answer
   turn-on {xs} {j} q e =
       let g = noteOf law (greeting b r) in

@@ -60,7 +60,8 @@ pub record Passes (b : List ℕ) (size : ℕ) (xs : List Listed) : Type 0 where
   pub fine : anyBad b xs ≡ false
 
 module _ {xs : List Listed} {cells laws : List ℕ} {n : ℕ} (c : Celled xs cells laws n) where
-  pub celled-stop : (b : List ℕ) (size : ℕ) {w : Refusal} → Stop w ≡ judgedBy b size (rowsAt cells n 1) laws → Stop w ≡ verdictOf (loadIn b size xs)
+  pub celled-stop : (b : List ℕ) (size : ℕ) {w : Refusal} → Stop w ≡ judgedBy b size (rowsAt cells n 1) laws
+      → Stop w ≡ verdictOf (loadIn b size xs)
   unfolding loadIn
   celled-stop b size {w} e =
       go (rising 0 0 size (rowsListed xs)) (numbered (rowsListed xs)) (anyBad b xs) (not (allTrue b xs)) (e ∙ judged-celled b size c)
@@ -96,7 +97,8 @@ module _ {b : List ℕ} {size : ℕ} {xs : List Listed} (p : Passes b size xs) w
   unfolding loadIn
   passes-false e = rw (p .rises, p .once, p .fine, e)
 
-pub sound : {b : List ℕ} {size n : ℕ} (found : Read (List Listed)) → isWhole found ≡ true → Passes b (sizeOf b) (greetingsOf found) → size ≡ sizeOf b
+pub sound : {b : List ℕ} {size n : ℕ} (found : Read (List Listed)) → isWhole found ≡ true → Passes b (sizeOf b) (greetingsOf found)
+    → size ≡ sizeOf b
     → n ≡ length (greetingsOf found) → Fitting b size n found
 sound found e p z c =
     record { reads = e; count = c; inside = omega (arith, z); small = omega (arith, z); rises = rw z (p .rises); fine = p .fine }

@@ -41,16 +41,19 @@ unfolding lawsListed
 length-laws [] = refl
 length-laws (x ∷ xs) = ap suc (length-laws xs)
 
-rows-read : (rows : List Row) (cells₀ : List ℕ) {cells : List ℕ} {n : ℕ} → n ≡ length rows → cells ≡ laid rows cells₀ → rowsAt cells n 1 ≡ rows
+rows-read : (rows : List Row) (cells₀ : List ℕ) {cells : List ℕ} {n : ℕ} → n ≡ length rows → cells ≡ laid rows cells₀
+    → rowsAt cells n 1 ≡ rows
 rows-read rows cells₀ {cells} {n} e f =
     let m : n ≡ getD (laid rows cells₀) 0 0 = e ∙ sym (count-laid rows cells₀) in
     ap (λ (c : List ℕ). rowsAt c n 1) f ∙ ap (λ (j : ℕ). rowsAt (laid rows cells₀) j 1) m ∙ rows-laid rows cells₀
 
 -- the greetings of R-8's lines, as they were read into cells
-pub fills-as : {found : Read (List Listed)} {a b c d : List ℕ} {r q : Count} → r ≡ q → FillsNoted found a b c d r → FillsNoted found a b c d q
+pub fills-as : {found : Read (List Listed)} {a b c d : List ℕ} {r q : Count} → r ≡ q → FillsNoted found a b c d r
+    → FillsNoted found a b c d q
 fills-as e f = rw (← e) f
 
-pub celled-noted : (found : Read (List Listed)) {cells₀ cells laws₀ laws : List ℕ} {n : ℕ} → FillsNoted found cells₀ cells laws₀ laws (Greetings n)
+pub celled-noted : (found : Read (List Listed)) {cells₀ cells laws₀ laws : List ℕ} {n : ℕ}
+    → FillsNoted found cells₀ cells laws₀ laws (Greetings n)
     → 97 ≤ length cells → 32 ≤ length laws → (isWhole found ≡ true) × Celled (greetingsOf found) cells laws n
 celled-noted none f a b = let e = f .count in let z : _≡_ {A = ℕ} 0 1 = cc in absurd (omega arith)
 celled-noted (whole xs i) {cells₀} {cells} {laws₀} {laws} {n} f a b =
@@ -78,7 +81,8 @@ pub record Early (b : List ℕ) (found : Read (List Row)) (cells : List ℕ) (n 
   pub reads : found ≡ whole rows end
   pub celled : Celled (early b rows) cells (replicate 32 1) n
 
-pub celled-early : (b : List ℕ) (found : Read (List Row)) {cells₀ cells : List ℕ} {n : ℕ} → Fills found cells₀ cells (Greetings n) → 97 ≤ length cells
+pub celled-early : (b : List ℕ) (found : Read (List Row)) {cells₀ cells : List ℕ} {n : ℕ} → Fills found cells₀ cells (Greetings n)
+    → 97 ≤ length cells
     → Early b found cells n
 celled-early b none f a = let e = f .count in let z : _≡_ {A = ℕ} 0 1 = cc in absurd (omega arith)
 celled-early b (whole rows i) {cells₀} {cells} {n} f a =
@@ -113,13 +117,15 @@ module _ {b : List ℕ} {size : ℕ} {xs : List Listed} {cells laws : List ℕ} 
         room = r;
       }
 
-  pub takes-all : {t t₁ t₂ : List ℕ} → allTrue b xs ≡ true → t₁ ≡ laid (rowsListed xs) t → t₂ ≡ notesLaid (notesBy b (rowsAt cells n 1) laws) t₁
+  pub takes-all : {t t₁ t₂ : List ℕ} → allTrue b xs ≡ true → t₁ ≡ laid (rowsListed xs) t
+      → t₂ ≡ notesLaid (notesBy b (rowsAt cells n 1) laws) t₁
       → Takes (loadIn b size xs) t t₂ (Done 0 0)
   takes-all {t} {t₁} {t₂} e f g =
       let m : notesBy b (rowsAt cells n 1) laws ≡ notesListed xs =
       ap (λ (l : List Row). notesBy b l laws) (c .rows-are) ∙ ap (notesBy b (rowsListed xs)) (c .laws-are)
       ∙ sym (notes-celled b xs (drop (length xs) laws) e) in
-      rw (passes-true p e) (record { answer = refl; table = g ∙ ap (λ (l : List Note). notesLaid l t₁) m ∙ ap (notesLaid (notesListed xs)) f })
+      rw (passes-true p e)
+      (record { answer = refl; table = g ∙ ap (λ (l : List Note). notesLaid l t₁) m ∙ ap (notesLaid (notesListed xs)) f })
 
 -- a verdict, as an outcome
 stopped : (o : Outcome) {w : Refusal} → Stop w ≡ verdictOf o → o ≡ refused w
@@ -149,7 +155,8 @@ accepts b size xs e =
     go true true false true p q r s e = record { passes = record { rises = p; once = q; fine = r }; all = s }
 
 -- R-8's lines
-noted-is : (b : List ℕ) (size : ℕ) (found : Read (List Listed)) → isWhole found ≡ true → loadNoted b size found ≡ loadIn b size (greetingsOf found)
+noted-is : (b : List ℕ) (size : ℕ) (found : Read (List Listed)) → isWhole found ≡ true
+    → loadNoted b size found ≡ loadIn b size (greetingsOf found)
 noted-is b size (whole xs i) e = refl
 noted-is b size none e = let z : _≡_ {A = ℕ} 0 1 = cc in absurd (omega arith)
 
@@ -202,7 +209,8 @@ module _ (text b t : List ℕ) {size cells : ℕ} (z : size ≡ sizeOf b) (k : c
           let g = celled-stop (e .celled) b (sizeOf b) f in
           refuses (loadOf text b t) t (rw (← z, ← k, le-ltb (length t) cells h, e .reads) (rw (← z) at (stopped o g)))
 
-      pub load-fine : {t₁ t₂ : List ℕ} {q : Count} → Fine ≡ judgedBy b (sizeOf b) (rowsAt x n 1) (replicate 32 1) → Fills (tableIn text) t t₁ q
+      pub load-fine : {t₁ t₂ : List ℕ} {q : Count} → Fine ≡ judgedBy b (sizeOf b) (rowsAt x n 1) (replicate 32 1)
+          → Fills (tableIn text) t t₁ q
           → t₂ ≡ notesLaid (notesBy b (rowsAt x n 1) (replicate 32 1)) t₁ → Load text b t t₂ (Done 0 0)
       load-fine {t₁} {t₂} f g s =
           let p = celled-fine (e .celled) b (sizeOf b) f in

@@ -69,7 +69,8 @@ module _ (b t out : List ℕ) {size : ℕ} {x : Bool} (z : size ≡ sizeOf b) (e
       -- as many notes as greetings, all of them inside the block
       same-rows : rowsListed (listing (rowsOf t) (notesOf t)) ≡ rowsOf t
       same-rows =
-          let a = sym (length-heads (notesOf t)) ∙ ap length (heads-notes (headsOf t) (drop 194 t)) ∙ length-rows (drop 97 t) (getD (drop 97 t) 0 0) 1 in
+          let a = sym (length-heads (notesOf t)) ∙ ap length (heads-notes (headsOf t) (drop 194 t))
+          ∙ length-rows (drop 97 t) (getD (drop 97 t) 0 0) 1 in
           rows-listing (rowsOf t) (notesOf t) (omega (arith, a, second t c (noted .count), length-rows t (getD t 0 0) 1, c))
 
       form-as : needsForm size (rowsListed (listing (rowsOf t) (notesOf t))) ≡ ltb mostPlace size

@@ -55,14 +55,17 @@ taken-cells {law} {samples} {m} {xs} {cells} t h j l =
     let ms = noteOf law xs .marks in
     let k = t .heard in
     let front : take (2 * m) cells ≡ markCells ms = sym (cells-marks m cells h) ∙ ap markCells (t .marks-are h) in
-    let all : cells ≡ markCells ms ++ drop (2 * m) cells = sym (take-append-drop (2 * m) cells) ∙ ap (λ (x : List ℕ). x ++ drop (2 * m) cells) front in
+    let all : cells ≡ markCells ms ++ drop (2 * m) cells = sym (take-append-drop (2 * m) cells)
+    ∙ ap (λ (x : List ℕ). x ++ drop (2 * m) cells) front in
     let s = note-small law xs .1 in
-    let c = cell-small 4294967295 ms (drop (2 * m) cells) (length xs) (320 * length xs) s (omega (arith, k .short)) (omega (arith, k .short)) j
+    let c = cell-small 4294967295 ms (drop (2 * m) cells) (length xs) (320 * length xs) s (omega (arith, k .short))
+    (omega (arith, k .short)) j
     (omega (arith, k .count)) in
     subst (λ (x : List ℕ). getD x j 0 < 4294967295) (sym all) c
 
 -- a greeting that is not BAD is counted
-pub tally-wrong : {law : ℕ} {xs cells cells′ : List ℕ} {r : Tally} → Takes law xs cells cells′ r → isBad law xs ≡ false → {A : Type 0} → r ≡ Wrong → A
+pub tally-wrong : {law : ℕ} {xs cells cells′ : List ℕ} {r : Tally} → Takes law xs cells cells′ r → isBad law xs ≡ false
+    → {A : Type 0} → r ≡ Wrong → A
 tally-wrong {law} {xs} t f e =
     let b = taken-bad law xs (rw e at t) in
     let z : _≡_ {A = Bool} true false = sym b ∙ f in

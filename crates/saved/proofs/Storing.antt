@@ -30,7 +30,8 @@ notes-snoc : (b : List ℕ) (rows : List Row) (r : Row) (laws : List ℕ)
 unfolding notesBy
 notes-snoc b [] r laws = refl
 notes-snoc b (x ∷ rows) r laws =
-    let e : getD (drop 1 laws) (length rows) 0 ≡ getD laws (suc (length rows)) 0 = getD-drop 1 laws (length rows) 0 ∙ ap (λ (k : ℕ). getD laws k 0)
+    let e : getD (drop 1 laws) (length rows) 0 ≡ getD laws (suc (length rows)) 0 = getD-drop 1 laws (length rows) 0
+    ∙ ap (λ (k : ℕ). getD laws k 0)
     (omega arith) in
     ap (λ (l : List Note). noteOf (getD laws 0 0) (greeting b x) ∷ l)
     (notes-snoc b rows r (drop 1 laws) ∙ ap (λ (k : ℕ). notesBy b rows (drop 1 laws) ++ (noteOf k (greeting b r) ∷ [])) e)
@@ -99,7 +100,8 @@ module _ {b cells laws : List ℕ} {n size : ℕ} {t₀ : List ℕ} (k : AllNote
 
       pub storing-length : length t ≡ length t₀
       storing-length =
-          ap length (s .is) ∙ length-of t₀ (omega (arith, wide)) (by b cells laws i) (omega (arith, length-i b cells laws i, k .few)) before-end
+          ap length (s .is) ∙ length-of t₀ (omega (arith, wide)) (by b cells laws i)
+          (omega (arith, length-i b cells laws i, k .few)) before-end
 
       bad-here : isBad (getD laws i 0) (greeting b r) ≡ false
       unfolding badBy
@@ -182,7 +184,8 @@ module _ {b cells laws : List ℕ} {n size : ℕ} {t : List ℕ} (k : AllNotes b
   storing-first =
       record {
         among = omega arith;
-        is = none-laid t start ∙ sym (over-none [] (omega arith)) ∙ ap (λ (l : List Note). notesLaid l (set t 97 0)) (sym (by-none b cells laws));
+        is = none-laid t start ∙ sym (over-none [] (omega arith))
+            ∙ ap (λ (l : List Note). notesLaid l (set t 97 0)) (sym (by-none b cells laws));
         fine = rw (← (left-all cells n)) (k .fine);
         few = none-held b cells laws;
       }

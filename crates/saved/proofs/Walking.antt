@@ -12,7 +12,8 @@ use Rattle.walk.specs.Counting.{Counts}
 use Rattle.rules.proofs.Walk.{walk-told}
 use Rattle.greetings.specs.Bad.{isBad, storeSet}
 use Rattle.marks.specs.Marks.{Mark, markOf, noteOf}
-use Rattle.marks.proofs.Taking.{Along, next, along-start, along-turn, along-inside, along-samples, next-clean, next-on, marks-here, marks-over}
+use Rattle.marks.proofs.Taking.{Along, next, along-start, along-turn, along-inside}
+use Rattle.marks.proofs.Taking.{along-samples, next-clean, next-on, marks-here, marks-over}
 use Rattle.tables.specs.declared.Next.{Next}
 use Rattle.tables.specs.declared.Next.the-variants.{To, Astray}
 use Rattle.tables.specs.Passing.{nextOf, markIs, noMark, marksAre}

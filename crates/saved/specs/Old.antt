@@ -1,5 +1,5 @@
--- Document 02, R-11: "The old table reader must refuse a form=2 table at its first line with TABLE, never show a shortened number." This is the
--- reader as it stood before R-11: its definition is kept for what is promised of it (crates/keeping).
+-- Document 02, R-11: "The old table reader must refuse a form=2 table at its first line with TABLE, never show a shortened number." This is
+-- the reader as it stood before R-11: its definition is kept for what is promised of it (crates/keeping).
 use Prim.Native.Nat.{ℕ, _+_, _*_, _/_, min}
 use mathlib.Core.List.{List}
 use mathlib.Core.Bool.{cond}
@@ -26,4 +26,5 @@ oldCells size = firstMark + 2 * (min size oldBlock / framesApart + mostGreetings
 
 -- R-6's lines or R-8's, starts and counts of octets up to 65,535
 abbrev pub oldLoadOf : List ℕ → List ℕ → List ℕ → Outcome
-oldLoadOf text b t = cond (ltb (length t) (oldCells (oldSizeOf b))) (refused Table) (loadRead b (oldSizeOf b) (tableIn text) (listedIn text))
+oldLoadOf text b t = cond (ltb (length t) (oldCells (oldSizeOf b))) (refused Table)
+    (loadRead b (oldSizeOf b) (tableIn text) (listedIn text))

@@ -1,7 +1,8 @@
--- Document 02, R-6: "The table is saved as key=value lines"; "Reading is refused with TABLE (26) for lines not of this form or order, a number out of
--- range or used twice, more than 32 greetings, or greetings that overlap or pass the block's end, then with BAD"; "ROOM on saving".
--- R-8: "A law above 1, or after BAD samples or marks that the walk doesn't give, is TABLE. A table all in R-6's lines is read by walking each
--- greeting as law 1, as all our early boxes were." R-11: "Saved tables gain a first line `form=2`"; "The new reader takes tables with and without it".
+-- Document 02, R-6: "The table is saved as key=value lines"; "Reading is refused with TABLE (26) for lines not of this form or order, a
+-- number out of range or used twice, more than 32 greetings, or greetings that overlap or pass the block's end, then with BAD"; "ROOM on
+-- saving". R-8: "A law above 1, or after BAD samples or marks that the walk doesn't give, is TABLE. A table all in R-6's lines is read by
+-- walking each greeting as law 1, as all our early boxes were." R-11: "Saved tables gain a first line `form=2`"; "The new reader takes
+-- tables with and without it".
 use Prim.Native.Nat.{ℕ}
 use mathlib.Core.List.{List, [], _∷_}
 use mathlib.Core.Bool.{Bool, true, false, cond, not, _&&_}
@@ -59,8 +60,8 @@ unfoldable pub allTrue : List ℕ → List Listed → Bool
 allTrue b [] = true
 allTrue b (x ∷ xs) = cond (sameNote (x .note) (noteOf (x .note .law) (greeting b (x .row)))) (allTrue b xs) false
 
--- "greetings that overlap or pass the block's end", a number "used twice", over all of them; then BAD; then samples and marks, over all of them.
--- Else the table holds these greetings.
+-- "greetings that overlap or pass the block's end", a number "used twice", over all of them; then BAD; then samples and marks, over all of
+-- them. Else the table holds these greetings.
 unfoldable pub loadIn : List ℕ → ℕ → List Listed → Outcome
 loadIn b size xs =
     cond (not (rising 0 0 size (rowsListed xs))) (refused Table)

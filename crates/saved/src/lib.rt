@@ -1,17 +1,17 @@
 // A store's table saved as text, and loaded (document 02, R-6, R-8 and R-11). What each call answers and leaves stands in specs/Calls.
 ghost use mathlib.Core.Path.{_≡_};
 ghost use mathlib.Core.Bool.{true, false};
-ghost use Prim.Native.Nat.{_+_, _*_, _^_, _≤_, _<_};
-ghost use lib.ListN.{length, getD};
+ghost use Prim.Native.Nat.{_+_, _*_, _≤_, _<_};
+ghost use lib.ListN.{length};
 ghost use Rattle.rules.specs.Tools.{mostLaw};
 ghost use Rattle.rules.specs.Walk.{longest};
 ghost use Rattle.rows.specs.Limits.{largestBlock, sizeOf};
-ghost use Rattle.rows.specs.Cells.{rowsAt, laid};
+ghost use Rattle.rows.specs.Cells.{rowsAt};
 ghost use Rattle.rows.specs.Sane.{rising};
 ghost use Rattle.greetings.specs.Bad.{isBad};
-ghost use Rattle.marks.specs.Marks.{noteOf, mostMarks};
+ghost use Rattle.marks.specs.Marks.{noteOf};
 ghost use Rattle.notes.specs.Notes.{insertNote};
-ghost use Rattle.notes.specs.Cells.{headsOf, marksHeld, notesOf, notesLaid, stored};
+ghost use Rattle.notes.specs.Cells.{notesOf, notesLaid};
 ghost use Rattle.notes.specs.Changed.{Taken};
 ghost use Rattle.notes.specs.Sane.{storeCells};
 ghost use Rattle.tables.specs.Noted.{listedAt};

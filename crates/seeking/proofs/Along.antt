@@ -1,5 +1,5 @@
--- Seeking on its way: what is sought among the frames left is what is sought among all. `seek-start`, `seek-turn`; where it stops: `seek-found`,
--- `seek-refused`, `seek-ended`, `seek-last`.
+-- Seeking on its way: what is sought among the frames left is what is sought among all. `seek-start`, `seek-turn`; where it stops:
+-- `seek-found`, `seek-refused`, `seek-ended`, `seek-last`.
 use Prim.Native.Nat.{ℕ, _+_, _-_, _≤_, _<_}
 use mathlib.Core.Path.{_≡_, refl, sym, ap, _∙_}
 use mathlib.Core.List.{List, [], _∷_}
@@ -71,7 +71,8 @@ module _ (octets : List ℕ) (law from first before sample : ℕ) where
 
     module _ (g : n < 64) (h : at < length octets) {r : Report} (t : Tells (readOne (drop at octets) law storeSet left) r) where
       pub seek-refused : (why : Refusal) → r .end ≡ Refused why → Nowhere ≡ sought
-      seek-refused why e = stop (walk-off octets law storeSet (64 - n) (64 - (n + 1)) at left (omega arith) h (r .bit) why (refused t e)) refl
+      seek-refused why e =
+          stop (walk-off octets law storeSet (64 - n) (64 - (n + 1)) at left (omega arith) h (r .bit) why (refused t e)) refl
 
       module _ (e : r .end ≡ Done) where
         pub seek-bounds : Bounds (drop at octets) left r
@@ -88,7 +89,8 @@ module _ (octets : List ℕ) (law from first before sample : ℕ) where
             let a = accepted t e in
             w .same
             ∙ ap (λ (x : Walked). seek sample (first + n) passed (x .frames))
-            (walk-one octets law storeSet (64 - n) (64 - (n + 1)) at left (omega arith) h (at + r .octets) (left - r .len) (a .frame) (a .is)
+            (walk-one octets law storeSet (64 - n) (64 - (n + 1)) at left (omega arith) h (at + r .octets) (left - r .len)
+            (a .frame) (a .is)
             (omega (arith, a .tells .octets)) (omega (arith, a .tells .len)))
 
         pub seek-found : sample < passed + r .len → At (first + n) at (sample - passed) ≡ sought

@@ -100,7 +100,8 @@ module _ (ms : List Mark) (sample : ℕ) where
       by true e =
           record {
             same =
-                here ∙ ap (λ (t : Bool). cond t (lastFrom (high - (low + 1)) ms sample mid high) (lastFrom (high - (low + 1)) ms sample low mid)) e
+                here ∙ ap (λ (t : Bool). cond t (lastFrom (high - (low + 1)) ms sample mid high)
+                (lastFrom (high - (low + 1)) ms sample low mid)) e
                 ∙ enough (high - (low + 1)) (high - mid) mid high (omega arith) (omega arith);
             some = omega arith;
             inside = omega arith;
@@ -109,7 +110,8 @@ module _ (ms : List Mark) (sample : ℕ) where
       by false e =
           record {
             same =
-                here ∙ ap (λ (t : Bool). cond t (lastFrom (high - (low + 1)) ms sample mid high) (lastFrom (high - (low + 1)) ms sample low mid)) e
+                here ∙ ap (λ (t : Bool). cond t (lastFrom (high - (low + 1)) ms sample mid high)
+                (lastFrom (high - (low + 1)) ms sample low mid)) e
                 ∙ enough (high - (low + 1)) (mid - low) low mid (omega arith) (omega arith);
             some = omega arith;
             inside = omega arith;

@@ -1,5 +1,5 @@
--- What halving finds is a mark at or before the sample, and the next one, if there is one, is behind it (`last-mark-is`); for rising marks it is
--- the last one at or before the sample (`last-mark-only`).
+-- What halving finds is a mark at or before the sample, and the next one, if there is one, is behind it (`last-mark-is`); for rising marks
+-- it is the last one at or before the sample (`last-mark-only`).
 use Prim.Native.Nat.{ℕ, zero, suc, _+_, _≤_, _<_}
 use mathlib.Core.Path.{_≡_, refl, sym, subst}
 use mathlib.Core.List.{List}
@@ -67,7 +67,8 @@ module _ (ms : List Mark) (sample : ℕ) where
       by true e later = rw (last-one ms sample (suc more) low high (leb-true high (low + 1) e)) (single w (leb-true high (low + 1) e))
       by false e later =
           let l = leb-false high (low + 1) e in
-          subst (λ (r : ℕ). LastAt ms sample r) (sym (last-step ms sample more low high l)) (half (leb (nthMark mid ms .samples) sample) refl l later)
+          subst (λ (r : ℕ). LastAt ms sample r) (sym (last-step ms sample more low high l))
+          (half (leb (nthMark mid ms .samples) sample) refl l later)
 
   pub last-mark-is : 1 ≤ length ms → nthMark 0 ms .samples ≤ sample → LastAt ms sample (lastMark ms sample)
   last-mark-is h b =

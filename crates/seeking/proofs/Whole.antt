@@ -1,6 +1,6 @@
--- What is sought among frames after others: frames that end at or before the sample are passed (`seek-skip`), and frames behind the one that holds it
--- do not matter (`seek-within`). A sample that the frames have is found, in the frame that holds it (`seek-finds`), and in no other (`holds-only`);
--- the frame is one of those given (`seek-near`).
+-- What is sought among frames after others: frames that end at or before the sample are passed (`seek-skip`), and frames behind the one
+-- that holds it do not matter (`seek-within`). A sample that the frames have is found, in the frame that holds it (`seek-finds`), and in no
+-- other (`holds-only`); the frame is one of those given (`seek-near`).
 use Prim.Native.Nat.{ℕ, suc, _+_, _-_, _≤_, _<_}
 use mathlib.Core.Path.{_≡_, refl, sym, ap, subst, _∙_}
 use mathlib.Core.List.{List, [], _∷_, _++_}
@@ -22,7 +22,8 @@ seek-skip sample i before [] b h = let e : i + 0 ≡ i = omega arith in let f : 
 seek-skip sample i before (f ∷ a) b h =
     let s = length-append (f .found .samples) (samplesKept a) in
     let e : i + 1 + length a ≡ i + suc (length a) = omega arith in
-    let g : before + length (f .found .samples) + length (samplesKept a) ≡ before + length (f .found .samples ++ samplesKept a) = omega (arith, s) in
+    let g : before + length (f .found .samples) + length (samplesKept a) ≡ before + length (f .found .samples ++ samplesKept a) =
+    omega (arith, s) in
     seek-past sample i before f (a ++ b) (omega (arith, s))
     ∙ seek-skip sample (i + 1) (before + length (f .found .samples)) a b (omega (arith, s))
     ∙ ap (λ (k : ℕ). seek sample k (before + length (f .found .samples) + length (samplesKept a)) b) e
@@ -64,7 +65,15 @@ unfolding samplesKept
 seen-here sample i before f fs l h =
     let e : i + 0 ≡ i = omega arith in
     let g : before + 0 ≡ before = omega arith in
-    record { passed = []; frame = f; rest = fs; are = refl; low = omega arith; high = omega arith; is = rw (e, g) (seek-here sample i before f fs h) }
+    record {
+      passed = [];
+      frame = f;
+      rest = fs;
+      are = refl;
+      low = omega arith;
+      high = omega arith;
+      is = rw (e, g) (seek-here sample i before f fs h);
+    }
 
 seen-on : (sample i before : ℕ) (f : Delivered) (fs : List Delivered) → before + length (f .found .samples) ≤ sample
     → Seen sample (i + 1) (before + length (f .found .samples)) fs → Seen sample i before (f ∷ fs)
@@ -72,7 +81,8 @@ unfolding samplesKept
 seen-on sample i before f fs l s =
     let k = length-append (f .found .samples) (samplesKept (s .passed)) in
     let e : i + 1 + length (s .passed) ≡ i + suc (length (s .passed)) = omega arith in
-    let g : before + length (f .found .samples) + length (samplesKept (s .passed)) ≡ before + length (f .found .samples ++ samplesKept (s .passed))
+    let g : before + length (f .found .samples) + length (samplesKept (s .passed)) ≡ before + length
+    (f .found .samples ++ samplesKept (s .passed))
     = omega (arith, k) in
     record {
       passed = f ∷ s .passed;

@@ -1,4 +1,5 @@
--- Document 02, R-9: "name the frame that holds it, its octet place and the sample's place in the frame, from the last mark at or before it".
+-- Document 02, R-9: "name the frame that holds it, its octet place and the sample's place in the frame, from the last mark at or before
+-- it".
 use Prim.Native.Nat.{ℕ, zero, suc, _+_, _-_, _/_, _≤_, _<_}
 use mathlib.Core.Path.{_≡_}
 use mathlib.Core.List.{List, [], _∷_, _++_}

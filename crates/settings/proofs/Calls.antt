@@ -1,9 +1,9 @@
 -- The contracts of the calls (specs/Calls) in the code's steps.
-use Prim.Native.Nat.{ℕ, _+_, _≤_}
-use mathlib.Core.Path.{_≡_, refl, sym, ap, _∙_}
-use mathlib.Core.List.{List, [], _++_}
+use Prim.Native.Nat.{ℕ, _+_}
+use mathlib.Core.Path.{_≡_, sym, ap, _∙_}
+use mathlib.Core.List.{List, _++_}
 use native.Mathlib.Omega.{arith}
-use lib.ListN.{length, take, drop, take-append-drop}
+use lib.ListN.{length, drop, take-append-drop}
 use Rattle.rules.specs.Listing.{lawWord}
 use Rattle.lines.specs.Puts.{Puts}
 use Rattle.lines.proofs.Putting.{puts-then}
@@ -32,13 +32,15 @@ module _ (b : Box) (cells : List ℕ) where
   pub save-line : {g : Given} → g ≡ Bad → Adds (saveIn b g) cells cells (Refused Line)
   save-line e = record { answer = rw e; state = rw e }
 
-  pub save-adds : {g : Given} (v : Settings) {cells′ : List ℕ} {r : Answer} → g ≡ Is v → Adds (addTo b v) cells cells′ r → Adds (saveIn b g) cells cells′ r
+  pub save-adds : {g : Given} (v : Settings) {cells′ : List ℕ} {r : Answer} → g ≡ Is v → Adds (addTo b v) cells cells′ r
+      → Adds (saveIn b g) cells cells′ r
   save-adds v e a = rw e a
 
   pub back-gone : {k : Kept} → k ≡ Nowhere → Adds (backTo b k) cells cells (Refused Gone)
   back-gone e = record { answer = rw e; state = rw e }
 
-  pub back-adds : {k : Kept} (v : Settings) {cells′ : List ℕ} {r : Answer} → k ≡ Under v → Adds (addTo b v) cells cells′ r → Adds (backTo b k) cells cells′ r
+  pub back-adds : {k : Kept} (v : Settings) {cells′ : List ℕ} {r : Answer} → k ≡ Under v → Adds (addTo b v) cells cells′ r
+      → Adds (backTo b k) cells cells′ r
   back-adds v e a = rw e a
 
 -- a revision's text, or none
@@ -46,7 +48,8 @@ module _ (text : List ℕ) where
   pub read-gone : {k : Kept} → k ≡ Nowhere → Prints k text text (Refused Gone)
   read-gone e = record { answer = rw e; lent = rw e }
 
-  pub read-text : {k : Kept} (v : Settings) {text′ : List ℕ} {n : ℕ} → k ≡ Under v → Puts text 0 (settingsText v) text′ n → Prints k text text′ (Done n)
+  pub read-text : {k : Kept} (v : Settings) {text′ : List ℕ} {n : ℕ} → k ≡ Under v → Puts text 0 (settingsText v) text′ n
+      → Prints k text text′ (Done n)
   read-text v {text′} {n} e p =
       let l : n ≡ length (settingsText v) = p .place ∙ omega arith in
       record {

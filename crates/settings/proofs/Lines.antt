@@ -1,22 +1,21 @@
 -- The text of settings in the code's steps; what is written is read, and nothing else.
-use Prim.Native.Nat.{ℕ, _+_, _≤_, _<_, _^_}
-use mathlib.Core.Path.{_≡_, refl, sym, ap, _∙_}
-use mathlib.Core.List.{List, [], _∷_, _++_, append-assoc, append-nil}
-use mathlib.Core.Bool.{Bool, true, false, cond, _&&_}
+use Prim.Native.Nat.{ℕ, _≤_, _<_}
+use mathlib.Core.Path.{_≡_, sym, ap, _∙_}
+use mathlib.Core.List.{List}
 use native.Mathlib.Omega.{arith}
-use lib.ListN.{length, drop, length-drop, drop-of-length-le}
+use lib.ListN.{length}
 use lib.Dec.{leb}
 use borrow.Author.Tests.{le-leb, lt-leb, leb-true}
 use Rattle.rules.specs.Tools.{mostLaw, allTools}
 use Rattle.rules.specs.Listing.{lawWord}
 use Rattle.settings.specs.declared.Settings.{Settings}
-use Rattle.settings.specs.declared.Given.{Given}
 use Rattle.settings.specs.declared.Given.the-variants.{Is, Bad}
-use Rattle.keyvalue.specs.Reading.{Read, whole, none, Reader, _>>=_, ended}
-use Rattle.keyvalue.specs.Lines.{lineOf, ranged}
-use Rattle.settings.specs.Lines.{setWord, blockWord, greetingWord, mostBlock, mostGreeting, fourLines, settings, settingsText, given, settingsIn}
+use Rattle.keyvalue.specs.Reading.{Read, whole, none, _>>=_}
+use Rattle.keyvalue.specs.Lines.{ranged}
+use Rattle.settings.specs.Lines.{setWord, blockWord, greetingWord, mostBlock, mostGreeting}
+use Rattle.settings.specs.Lines.{fourLines, settings, settingsText, given, settingsIn}
 use Rattle.keyvalue.proofs.Exact.{Back, back-bind, back-last, back-alone, back-ranged, Stands, chain, stands-alone, got-value, got-place}
-use Rattle.keyvalue.proofs.Exact.{InRange, ranged-only, Through, through, passed}
+use Rattle.keyvalue.proofs.Exact.{ranged-only, through, passed}
 
 module _ (text : List ℕ) where
   pub no-law : none ≡ ranged lawWord 0 mostLaw text 0 → Bad ≡ settingsIn text
@@ -62,7 +61,8 @@ four-back s h =
     back-bind (ranged lawWord 0 mostLaw) _ (back-ranged lawWord 0 mostLaw (s .law) (omega arith) (omega arith) (h .law))
     (back-bind (ranged setWord 0 allTools) _ (back-ranged setWord 0 allTools (s .set) (omega arith) (omega arith) (h .set))
     (back-bind (ranged blockWord 1 mostBlock) _ (back-ranged blockWord 1 mostBlock (s .block) (omega arith) (h .least) (h .most))
-    (back-last (ranged greetingWord 0 mostGreeting) _ (back-ranged greetingWord 0 mostGreeting (s .greeting) (omega arith) (omega arith) (h .greeting)))))
+    (back-last (ranged greetingWord 0 mostGreeting) _
+    (back-ranged greetingWord 0 mostGreeting (s .greeting) (omega arith) (omega arith) (h .greeting)))))
 
 -- what is written is read back
 pub settings-back : (s : Settings) → Sound s → settingsIn (settingsText s) ≡ Is s

@@ -4,14 +4,14 @@
 --   `saved-reads`: what is saved is read under its new number;   `text-back`: the text saved is the text read;
 --   `spent-is`, `done-is`: SPENT exactly when the number would pass 4,294,967,295;
 --   `wipe-empties`: after a wipe every number of the revisions is 0.
-use Prim.Native.Nat.{ℕ, zero, suc, _+_, _*_, _-_, _≤_, _<_}
+use Prim.Native.Nat.{ℕ, zero, suc, _+_, _*_, _-_, _≤_}
 use mathlib.Core.Path.{_≡_, refl, sym, ap, _∙_}
 use mathlib.Core.List.{List, [], _∷_, _++_, append-assoc, append-nil}
 use mathlib.Core.Bool.{Bool, true, false, cond}
 use native.Mathlib.Omega.{arith}
-use lib.ListN.{length, getD, drop, replicate, length-append, length-drop, length-replicate}
-use lib.Seq.{drop-at, getD-drop, drop-drop, drop-append-le, drop-nil}
-use lib.Dec.{eqb, ltb}
+use lib.ListN.{length, getD, drop, replicate, length-append, length-drop}
+use lib.Seq.{drop-at, getD-drop, drop-drop, drop-append-le}
+use lib.Dec.{ltb}
 use borrow.Author.Tests.{eq-eqb, ne-eqb}
 use Rattle.settings.specs.declared.Settings.{Settings}
 use Rattle.settings.specs.declared.Given.{Given}
@@ -21,12 +21,12 @@ use Rattle.settings.specs.declared.Kept.{Kept}
 use Rattle.settings.specs.declared.Kept.the-variants.{Under, Nowhere}
 use Rattle.settings.specs.Lines.{settingsIn, settingsText}
 use Rattle.settings.specs.declared.Refusal.the-variants.{Spent}
-use Rattle.settings.specs.Revisions.{Box, Outcome, done, refused, lastEight, added, addTo, mostNumber, saveIn, lookUp, backTo, wiped}
+use Rattle.settings.specs.Revisions.{Box, Outcome, done, refused, lastEight, added, addTo, mostNumber, lookUp, backTo, wiped}
 use Rattle.settings.specs.State.{rowAt, rowsAt, keptOf, boxOf, cellsOf, laid}
 use Rattle.settings.specs.Calls.{cellsAfter}
-use Rattle.settings.specs.Told.{Call, saving, goingBack, wiping, cellsOn, wanted, valuesGiven, newOf, Seen, see, seeAll, fresh}
+use Rattle.settings.specs.Told.{Call, saving, goingBack, wiping, newOf, Seen, see, seeAll, fresh}
 use Rattle.settings.proofs.Lines.{settings-only}
-use Rattle.settings.proofs.State.{kept-cons, cells-length, zeros-drop}
+use Rattle.settings.proofs.State.{kept-cons}
 
 abbrev last : Box → ℕ
 last b = b .last
@@ -39,7 +39,8 @@ pub data Counted : ℕ → List Revision → Type 0 where
   none : {k : ℕ} → Counted k []
   more : {k : ℕ} {r : Revision} {rs : List Revision} → r .number ≡ k → Counted (k + 1) rs → Counted k (r ∷ rs)
 
-counted-snoc : {k : ℕ} {rs : List Revision} → Counted k rs → (v : Settings) → Counted k (rs ++ (record { number = k + length rs; values = v } ∷ []))
+counted-snoc : {k : ℕ} {rs : List Revision} → Counted k rs → (v : Settings)
+    → Counted k (rs ++ (record { number = k + length rs; values = v } ∷ []))
 counted-snoc {k} none v = let e : k + 0 ≡ k = omega arith in more e none
 counted-snoc {k} (more {rs = rs} e c) v =
     let h : k + 1 + length rs ≡ k + suc (length rs) = omega arith in
@@ -173,7 +174,8 @@ module _ {s : Seen} (t : KeptTrue s) where
   box-true : boxOf (s .cells) ≡ record { last = length (s .all); revisions = lastEight (s .since) }
   box-true =
       ap boxOf (t .cells)
-      ∙ box-laid (record { last = length (s .all); revisions = lastEight (s .since) }) (counted-kept (omega arith) kept-counted) (eight-few (s .since))
+      ∙ box-laid (record { last = length (s .all); revisions = lastEight (s .since) }) (counted-kept (omega arith) kept-counted)
+      (eight-few (s .since))
 
   -- values are added
   abbrev new : Settings → Revision

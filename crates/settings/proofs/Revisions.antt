@@ -1,14 +1,13 @@
 -- Laws of looking up a revision (specs/Revisions, lookUp): among the kept ones as among all rows, but for number 0, which is none.
 -- And adding in the code's steps: `is-spent`, `is-added`.
-use Prim.Native.Nat.{ℕ, zero, suc, _+_, _-_, _≤_, _<_}
-use mathlib.Core.Path.{_≡_, refl, sym, ap, _∙_}
+use Prim.Native.Nat.{ℕ, _+_, _-_, _≤_, _<_}
+use mathlib.Core.Path.{_≡_, refl, sym, _∙_}
 use mathlib.Core.List.{List, [], _∷_}
 use mathlib.Core.Bool.{Bool, true, false, cond}
 use native.Mathlib.Omega.{arith}
-use lib.Dec.{eqb, ltb}
-use borrow.Author.Tests.{lt-ltb, le-ltb, eq-eqb, ne-eqb, eqb-true, eqb-false}
+use lib.Dec.{eqb}
+use borrow.Author.Tests.{lt-ltb, le-ltb, eq-eqb, ne-eqb, eqb-true}
 use Rattle.settings.specs.declared.Revision.{Revision}
-use Rattle.settings.specs.declared.Kept.{Kept}
 use Rattle.settings.specs.declared.Kept.the-variants.{Under, Nowhere}
 use Rattle.settings.specs.declared.Settings.{Settings}
 use Rattle.settings.specs.declared.Answer.the-variants.{Done, Refused}
@@ -46,7 +45,8 @@ module _ (cells : List ℕ) (n k : ℕ) where
   unfolding lookUp
   looked-here h e = rw (rows-next cells k h, eq-eqb _ _ e)
 
-  pub looked-on : k < 8 → (rowAt cells k .number ≡ n → ⊥) → lookUp n (rowsAt cells (8 - k) k) ≡ lookUp n (rowsAt cells (8 - (k + 1)) (k + 1))
+  pub looked-on : k < 8 → (rowAt cells k .number ≡ n → ⊥)
+      → lookUp n (rowsAt cells (8 - k) k) ≡ lookUp n (rowsAt cells (8 - (k + 1)) (k + 1))
   unfolding lookUp
   looked-on h e = rw (rows-next cells k h, ne-eqb _ _ e)
 

@@ -5,21 +5,21 @@ use mathlib.Core.Path.{_≡_, refl, sym, ap, _∙_}
 use mathlib.Core.List.{List, [], _∷_, _++_, append-assoc, append-nil}
 use mathlib.Core.Bool.{Bool, true, false, cond}
 use native.Mathlib.Omega.{arith}
-use native.Mathlib.Nat.{add-zero}
-use lib.ListN.{length, getD, take, drop, set, replicate, length-append, length-replicate, length-drop, take-append-drop, drop-of-length-le}
-use lib.Seq.{paste, paste-zero, paste-suc, getD-drop, sets-eq, drop-nil, take-at, drop-at, drop-drop}
-use lib.Seq.{drop-append-add, take-append-add, take-append-le, drop-append-le, length-take-le, take-all}
+use lib.ListN.{length, getD, take, drop, set, replicate, length-append, length-replicate, length-drop, take-append-drop}
+use lib.Seq.{paste, paste-zero, paste-suc, getD-drop, sets-eq, drop-nil, take-at}
+use lib.Seq.{drop-append-add, take-append-add, drop-append-le}
 use lib.Dec.{eqb}
-use borrow.Author.Tests.{eq-eqb, ne-eqb, eqb-true, eqb-false}
+use borrow.Author.Tests.{eq-eqb, ne-eqb}
 use Rattle.settings.specs.declared.Settings.{Settings}
 use Rattle.settings.specs.declared.Revision.{Revision}
-use Rattle.settings.specs.Revisions.{Box, lastEight, added}
+use Rattle.settings.specs.Revisions.{lastEight, added}
 use Rattle.settings.specs.State.{rowAt, rowsAt, keptOf, boxOf, cellsOf, laid}
 use Rattle.settings.specs.Gathers.{KeepsRow, Gathers}
 
 -- five numbers stored one after another
 pub five-put : (l : List ℕ) (i : ℕ) (r : Revision) → i + 5 ≤ length l
-    → set (set (set (set (set l i (r .number)) (i + 1) (r .values .law)) (i + 2) (r .values .set)) (i + 3) (r .values .block)) (i + 4) (r .values .greeting)
+    → set (set (set (set (set l i (r .number)) (i + 1) (r .values .law)) (i + 2) (r .values .set)) (i + 3) (r .values .block))
+    (i + 4) (r .values .greeting)
     ≡ take i l ++ (cellsOf (r ∷ []) ++ drop (i + 5) l)
 unfolding cellsOf
 five-put l i r h =
@@ -133,12 +133,14 @@ gathering-turn {cells} {rows} {rows′} {k} {i} {n} g h p =
     record {
       kept = g .kept ++ one;
       all = append-assoc (g .kept) one (keptOf (rowsAt cells (8 - (i + 1)) (i + 1)))
-          ∙ ap (λ (l : List Revision). g .kept ++ l) (sym (kept-cons r (rowsAt cells (8 - (i + 1)) (i + 1))) ∙ ap keptOf (sym (rows-next cells i h)))
+          ∙ ap (λ (l : List Revision). g .kept ++ l)
+          (sym (kept-cons r (rowsAt cells (8 - (i + 1)) (i + 1))) ∙ ap keptOf (sym (rows-next cells i h)))
           ∙ g .all;
       count = omega (arith, g .count, length-append (g .kept) one);
       few = omega (arith, g .few);
       most = omega arith;
-      says = p .says ∙ rw (head, tail, cells-append (g .kept) one) (sym (append-assoc (cellsOf (g .kept)) (cellsOf one) (replicate (45 - 5 * n) 0)));
+      says = p .says ∙ rw (head, tail, cells-append (g .kept) one)
+          (sym (append-assoc (cellsOf (g .kept)) (cellsOf one) (replicate (45 - 5 * n) 0)));
     }
 
 pub gathering-end : {cells rows : List ℕ} {k i : ℕ} → Gathering cells rows k i → 8 ≤ i → Gathers (keptOf (rowsAt cells 8 0)) rows k
@@ -174,7 +176,8 @@ module _ {revisions : List Revision} {rows rows′ : List ℕ} {k : ℕ} (new : 
       ∙ drop-append-add (cellsOf revisions) (replicate (45 - 5 * k) 0) 5
       ∙ zeros-drop 5 (45 - 5 * k) (omega (arith, g .few))
       ∙ ap (λ (j : ℕ). replicate j 0) y in
-      p ∙ rw (head, tail, cells-append revisions (new ∷ [])) (sym (append-assoc (cellsOf revisions) (cellsOf (new ∷ [])) (replicate (40 - 5 * k) 0)))
+      p ∙ rw (head, tail, cells-append revisions (new ∷ []))
+      (sym (append-assoc (cellsOf revisions) (cellsOf (new ∷ [])) (replicate (40 - 5 * k) 0)))
 
   pub rows-size : length rows′ ≡ 45
   rows-size =
@@ -196,7 +199,8 @@ module _ {revisions : List Revision} {rows rows′ : List ℕ} {k : ℕ} (new : 
       ap (take 40) left
       ∙ ap (λ (j : ℕ). take j (cellsOf (lastEight all) ++ replicate (40 - 5 * k) 0)) q
       ∙ take-append-add (cellsOf (lastEight all)) (replicate (40 - 5 * k) 0) (40 - 5 * length (lastEight all))
-      ∙ ap (λ (l : List ℕ). cellsOf (lastEight all) ++ l) (zeros-take (40 - 5 * length (lastEight all)) (40 - 5 * k) (omega (arith, all-length)))
+      ∙ ap (λ (l : List ℕ). cellsOf (lastEight all) ++ l)
+      (zeros-take (40 - 5 * length (lastEight all)) (40 - 5 * k) (omega (arith, all-length)))
 
 -- the rows that stay, copied behind the number
 pub record Copying (rows first next : List ℕ) (from i : ℕ) : Type 0 where
@@ -206,8 +210,10 @@ pub record Copying (rows first next : List ℕ) (from i : ℕ) : Type 0 where
   pub whole : length first ≡ 41
   pub says : next ≡ paste first 1 (drop from rows) i
 
-pub copying-start : {rows first : List ℕ} {from k : ℕ} → length rows ≡ 45 → length first ≡ 41 → k ≤ 8 → from ≡ 5 * (k + 1 - 8) → Copying rows first first from 0
-copying-start {rows} {first} {from} s w f e = record { most = omega arith; near = omega arith; size = s; whole = w; says = paste-zero first 1 (drop from rows) }
+pub copying-start : {rows first : List ℕ} {from k : ℕ} → length rows ≡ 45 → length first ≡ 41 → k ≤ 8 → from ≡ 5 * (k + 1 - 8)
+    → Copying rows first first from 0
+copying-start {rows} {first} {from} s w f e =
+    record { most = omega arith; near = omega arith; size = s; whole = w; says = paste-zero first 1 (drop from rows) }
 
 pub copying-turn : {rows first next : List ℕ} {from i : ℕ} → Copying rows first next from i → i < 40
     → Copying rows first (set next (i + 1) (getD rows (from + i) 0)) from (i + 1)

@@ -10,7 +10,7 @@ use Rattle.settings.specs.declared.Kept.the-variants.{Under, Nowhere}
 use Rattle.settings.specs.declared.Refusal.{Refusal}
 use Rattle.settings.specs.declared.Refusal.the-variants.{Line, Gone, Spent}
 use Rattle.settings.specs.Lines.{settingsIn, settingsText}
-use Rattle.settings.specs.Revisions.{Box, Outcome, done, refused, saveIn, lookUp, backTo, wiped}
+use Rattle.settings.specs.Revisions.{Outcome, done, refused, saveIn, lookUp, backTo, wiped}
 use Rattle.settings.specs.State.{boxOf, laid}
 
 -- the paper's number of a refusal; an accepted call has 0

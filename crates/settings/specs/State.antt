@@ -11,7 +11,8 @@ use Rattle.settings.specs.Revisions.{Box}
 
 -- the four values from a place on
 abbrev pub valuesAt : List ℕ → ℕ → Settings
-valuesAt cells i = record { law = getD cells i 0; set = getD cells (i + 1) 0; block = getD cells (i + 2) 0; greeting = getD cells (i + 3) 0 }
+valuesAt cells i = record
+    { law = getD cells i 0; set = getD cells (i + 1) 0; block = getD cells (i + 2) 0; greeting = getD cells (i + 3) 0 }
 
 -- row k: a number and its four values
 abbrev pub rowAt : List ℕ → ℕ → Revision

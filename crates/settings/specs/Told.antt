@@ -4,7 +4,6 @@ use mathlib.Core.List.{List, [], _∷_, _++_}
 use mathlib.Core.Bool.{cond}
 use lib.ListN.{replicate}
 use lib.Dec.{ltb}
-use Rattle.settings.specs.declared.Settings.{Settings}
 use Rattle.settings.specs.declared.Given.{Given}
 use Rattle.settings.specs.declared.Given.the-variants.{Is, Bad}
 use Rattle.settings.specs.declared.Revision.{Revision}

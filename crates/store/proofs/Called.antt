@@ -1,5 +1,6 @@
--- Each call, from what its steps do: `put-taken`, `put-long`, `put-bad`, `put-full`, `put-no-room`, `put-fits`; `put-table`, `put-law`, `put-stop`,
--- `put-goes-on`; `get-table`, `get-stop`, `get-absent`, `get-found`; `delete-table`, `delete-stop`, `delete-absent`, `delete-found`.
+-- Each call, from what its steps do: `put-taken`, `put-long`, `put-bad`, `put-full`, `put-no-room`, `put-fits`; `put-table`, `put-law`,
+-- `put-stop`, `put-goes-on`; `get-table`, `get-stop`, `get-absent`, `get-found`; `delete-table`, `delete-stop`, `delete-absent`,
+-- `delete-found`.
 use Prim.Native.Nat.{ℕ, _+_, _*_, _≤_, _<_}
 use mathlib.Core.Path.{_≡_, refl, sym, ap, subst, _∙_}
 use mathlib.Core.List.{List}
@@ -122,7 +123,8 @@ module _ (b t : List ℕ) {size : ℕ} (z : size ≡ sizeOf b) {sane : Bool} (e 
     unfolding putIn
     put-stop law x xs l g = says-refused b t (on _ ∙ rw (le-leb law 1 l) (look-stops t x _ g))
 
-    pub put-goes-on : (law x : ℕ) (xs : List ℕ) {b′ t′ : List ℕ} {r : Answer} → Says (putIn b size (rowsOf t) (notesOf t) law x xs) b t b′ t′ r
+    pub put-goes-on : (law x : ℕ) (xs : List ℕ) {b′ t′ : List ℕ} {r : Answer}
+        → Says (putIn b size (rowsOf t) (notesOf t) law x xs) b t b′ t′ r
         → Put law x xs b t b′ t′ r
     put-goes-on law x xs {b′} {t′} {r} s =
         let whole : putOf b t law x xs ≡ putIn b size (rowsOf t) (notesOf t) law x xs =

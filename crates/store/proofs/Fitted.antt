@@ -1,5 +1,5 @@
--- A greeting in the lowest gap (`fit-gap`), or behind all that closed up (`fit-behind`), its note among the notes; and that there is room for its row
--- (`gap-told`, `closed-count`) and for its note (`gap-asks`, `behind-asks`).
+-- A greeting in the lowest gap (`fit-gap`), or behind all that closed up (`fit-behind`), its note among the notes; and that there is room
+-- for its row (`gap-told`, `closed-count`) and for its note (`gap-asks`, `behind-asks`).
 use Prim.Native.Nat.{ℕ, _+_, _*_, _≤_}
 use mathlib.Core.Path.{_≡_, refl, sym, ap, _∙_}
 use mathlib.Core.List.{List, _∷_}
@@ -31,19 +31,28 @@ length-inserted n r rows h = omega (arith, length-append (take n rows) (r ∷ dr
 
 -- of the greetings of a table
 pub rows-more : (t : List ℕ) (i : ℕ) (r : Row) → getD t 0 0 ≤ 31 → i ≤ getD t 0 0 → length (insertAt i r (rowsOf t)) ≤ 32
-rows-more t i r f g = omega (arith, length-inserted i r (rowsOf t) (omega (arith, length-rows t (getD t 0 0) 1)), length-rows t (getD t 0 0) 1)
+rows-more t i r f g =
+    omega (arith, length-inserted i r (rowsOf t) (omega (arith, length-rows t (getD t 0 0) 1)), length-rows t (getD t 0 0) 1)
 
 pub rows-less : (t : List ℕ) (i : ℕ) → getD t 0 0 ≤ 32 → length (removeAt i (rowsOf t)) ≤ 32
 rows-less t i f =
     let rows = rowsOf t in
-    omega (arith, length-append (take i rows) (drop (i + 1) rows), length-take i rows, length-drop (i + 1) rows, length-rows t (getD t 0 0) 1)
+    omega (
+      arith,
+      length-append (take i rows) (drop (i + 1) rows),
+      length-take i rows,
+      length-drop (i + 1) rows,
+      length-rows
+          t (getD t 0 0) 1,
+    )
 
 -- the table of greetings, closed up and then with the new one
 module _ (b t : List ℕ) (x : ℕ) (xs : List ℕ) {b₁ t₁ : List ℕ} {n m : ℕ} (c : Closes b t (rowsOf t) b₁ t₁ m) (q : n ≡ getD t 0 0) where
   pub closed-count : n ≡ getD t₁ 0 0
   closed-count =
       let rows = rowsOf t in
-      q ∙ sym (ap (λ (y : List ℕ). getD y 0 0) (c .table) ∙ count-laid (closedRows 0 rows) t ∙ length-closed 0 rows ∙ length-rows t (getD t 0 0) 1)
+      q ∙ sym (ap (λ (y : List ℕ). getD y 0 0) (c .table) ∙ count-laid (closedRows 0 rows) t ∙ length-closed 0 rows
+      ∙ length-rows t (getD t 0 0) 1)
 
   closed-new : (h : ℕ) → length (insertAt n (rowOf x h (length xs)) (closedRows 0 (rowsOf t))) ≡ n + 1
   closed-new h =
@@ -73,7 +82,8 @@ module _ (t : List ℕ) (size x : ℕ) (xs : List ℕ) {n : ℕ} (k : Noted size
       let g = gap-fits (length xs) size 1 0 0 (rowsOf t) (k .order .rises) e in
       (omega (arith, g .among, length-rows t (getD t 0 0) 1, q), g .inside)
 
-  module _ (z : size ≤ largestBlock) (f : n ≤ 31) (room : held (rowsOf t) + length xs ≤ size) {m : ℕ} (few : m ≤ mostMarks (length xs)) where
+  module _ (z : size ≤ largestBlock) (f : n ≤ 31) (room : held (rowsOf t) + length xs ≤ size) {m : ℕ}
+      (few : m ≤ mostMarks (length xs)) where
     asks : (rows : List Row) {t₁ : List ℕ} → length rows ≤ 32 → t₁ ≡ laid rows t → length t₁ ≡ length t → Asks t₁ n m
     asks rows s e l =
         let more = room-more k z (length xs) m (omega (arith, q)) room few in

@@ -1,5 +1,5 @@
--- What all calls judge, in the code's order: `look-low`, `look-high`, `look-found`; and what follows where a call goes on: `look-told`, `taken`,
--- `free`.
+-- What all calls judge, in the code's order: `look-low`, `look-high`, `look-found`; and what follows where a call goes on: `look-told`,
+-- `taken`, `free`.
 use Prim.Native.Nat.{ℕ, _+_, _*_, _-_, _≤_, _<_}
 use mathlib.Core.Path.{_≡_, refl, sym, ap, _∙_}
 use mathlib.Core.List.{List}

@@ -1,5 +1,5 @@
--- Document 02, R-6: "Put, get (start and octets), delete; a refused one changes nothing." Over a block of a size, the list of its greetings and
--- their notes (R-8): "Every put and move keeps marks true to what the walk gives."
+-- Document 02, R-6: "Put, get (start and octets), delete; a refused one changes nothing." Over a block of a size, the list of its greetings
+-- and their notes (R-8): "Every put and move keeps marks true to what the walk gives."
 use Prim.Native.Nat.{ℕ, _+_}
 use mathlib.Core.List.{List}
 use mathlib.Core.Bool.{cond, not}
@@ -43,7 +43,8 @@ putInto b rows notes law number xs i at =
       second = 0;
     }
 
--- "if none does, all greetings first close up from 0 in their order": behind them then. Marks count from a greeting's start, so a move changes none.
+-- "if none does, all greetings first close up from 0 in their order": behind them then. Marks count from a greeting's start, so a move
+-- changes none.
 abbrev pub putBehind : List ℕ → List Row → List Note → ℕ → ℕ → List ℕ → After
 putBehind b rows notes law number xs =
     record {

@@ -12,7 +12,8 @@ use Rattle.rows.specs.Limits.{largestBlock, mostNumber}
 use Rattle.rows.specs.Rows.{rowOf}
 use Rattle.keyvalue.specs.Reading.{whole, andThen}
 use Rattle.keyvalue.specs.Lines.{lineOf, ranged}
-use Rattle.keyvalue.proofs.Exact.{Back, back-bind, back-last, back-ranged, onward, Stands, chain, got-value, got-place, ranged-only, through, passed}
+use Rattle.keyvalue.proofs.Exact.{Back, back-bind, back-last, back-ranged, onward, Stands}
+use Rattle.keyvalue.proofs.Exact.{chain, got-value, got-place, ranged-only, through, passed}
 use Rattle.tables.specs.Table.{promptWord, startWord, octetsWord, mostPlace, row, rowsFrom, tableIn, rowText, tableText}
 
 -- the numbers that lines can say, starts and counts of octets up to so many
@@ -29,7 +30,8 @@ Each p (x ∷ xs) = p x × Each p xs
 pub row-back : (far : ℕ) → far ≤ largestBlock → (r : Row) → Sayable far r → Back (row far) (rowText r) r
 unfolding row rowText
 row-back far l r h =
-    back-bind (ranged promptWord 1 mostNumber) _ (back-ranged promptWord 1 mostNumber (r .number) (omega (arith, h .most)) (h .least) (h .most))
+    back-bind (ranged promptWord 1 mostNumber) _
+    (back-ranged promptWord 1 mostNumber (r .number) (omega (arith, h .most)) (h .least) (h .most))
     (back-bind (ranged startWord 0 far) _ (back-ranged startWord 0 far (r .start) (omega (arith, h .start)) (omega arith) (h .start))
     (back-last (ranged octetsWord 0 far) _ (back-ranged octetsWord 0 far (r .octets) (omega (arith, h .octets)) (omega arith) (h .octets))))
 
@@ -43,7 +45,8 @@ unfolding rowsFrom
 ending zero done text at h = rw (le-leb (length text) at h)
 ending (suc more) done text at h = rw (le-leb (length text) at h)
 
-rows-back : (more : ℕ) (done rows : List Row) (text : List ℕ) (i : ℕ) → Each (Sayable mostPlace) rows → length rows ≤ more → drop i text ≡ tableText rows
+rows-back : (more : ℕ) (done rows : List Row) (text : List ℕ) (i : ℕ) → Each (Sayable mostPlace) rows → length rows ≤ more
+    → drop i text ≡ tableText rows
     → rowsFrom more done text i ≡ whole (done ++ rows) (i + length (tableText rows))
 unfolding tableText rowsFrom
 rows-back more done [] text i h l e =
@@ -56,14 +59,17 @@ rows-back (suc more) done (r ∷ rows) text i h l e =
     let m : i + length (rowText r ++ tableText rows) ≡ i + length (rowText r) + length (tableText rows) =
     rw (length-append (rowText r) (tableText rows)) (omega arith) in
     rw (lt-leb (length text) i n, row-back mostPlace (omega arith) r (h .0) .reads text i (tableText rows) e, m)
-    (rows-back more (done ++ (r ∷ [])) rows text (i + length (rowText r)) (h .1) (omega arith) (onward text (rowText r) (tableText rows) i e)
+    (rows-back more (done ++ (r ∷ [])) rows text (i + length (rowText r)) (h .1) (omega arith)
+    (onward text (rowText r) (tableText rows) i e)
     ∙ ap (λ (l : List Row). whole l (i + length (rowText r) + length (tableText rows))) (append-assoc done (r ∷ []) rows))
 
 -- What is written is read.
-pub table-back : (rows : List Row) → Each (Sayable mostPlace) rows → length rows ≤ 32 → tableIn (tableText rows) ≡ whole rows (length (tableText rows))
+pub table-back : (rows : List Row) → Each (Sayable mostPlace) rows → length rows ≤ 32
+    → tableIn (tableText rows) ≡ whole rows (length (tableText rows))
 table-back rows h l = rows-back 32 [] rows (tableText rows) 0 h l refl ∙ ap (whole rows) (omega arith)
 
-row-same : (text : List ℕ) (p s o i x y z : ℕ) → ranged promptWord 1 mostNumber text i ≡ whole p x → ranged startWord 0 mostPlace text x ≡ whole s y
+row-same : (text : List ℕ) (p s o i x y z : ℕ) → ranged promptWord 1 mostNumber text i ≡ whole p x
+    → ranged startWord 0 mostPlace text x ≡ whole s y
     → ranged octetsWord 0 mostPlace text y ≡ whole o z → (Sayable mostPlace (rowOf p s o)) × (Stands text i (rowText (rowOf p s o)) z)
 unfolding rowText
 row-same text p s o i x y z a b c =
@@ -76,7 +82,8 @@ row-as : {text : List ℕ} {r q : Row} {i j k : ℕ} → r ≡ q → j ≡ k →
     → (Sayable mostPlace q) × (Stands text i (rowText q) k)
 row-as m n h = rw (← m, ← n) h
 
-row-only : (text : List ℕ) (i : ℕ) (r : Row) (j : ℕ) → row mostPlace text i ≡ whole r j → (Sayable mostPlace r) × (Stands text i (rowText r) j)
+row-only : (text : List ℕ) (i : ℕ) (r : Row) (j : ℕ) → row mostPlace text i ≡ whole r j
+    → (Sayable mostPlace r) × (Stands text i (rowText r) j)
 unfolding row
 row-only text i r j e =
     let a = through (ranged promptWord 1 mostNumber text i) _ e in
@@ -93,12 +100,14 @@ record More (done : List Row) (text : List ℕ) (i more : ℕ) (rows : List Row)
   each : Each (Sayable mostPlace) new
   says : drop i text ≡ tableText new
 
-none-more : {done rows : List Row} {text : List ℕ} {i j more : ℕ} → length text ≤ i → whole done i ≡ whole rows j → More done text i more rows
+none-more : {done rows : List Row} {text : List ℕ} {i j more : ℕ} → length text ≤ i → whole done i ≡ whole rows j
+    → More done text i more rows
 unfolding tableText
 none-more {done} {rows} {text} {i} {j} h e =
     record { new = []; all = sym (got-value e) ∙ sym (append-nil done); few = omega arith; each = tt; says = drop-of-length-le text h }
 
-one-more : {done rows : List Row} {text : List ℕ} {i k more : ℕ} (r : Row) → row mostPlace text i ≡ whole r k → More (done ++ (r ∷ [])) text k more rows
+one-more : {done rows : List Row} {text : List ℕ} {i k more : ℕ} (r : Row) → row mostPlace text i ≡ whole r k
+    → More (done ++ (r ∷ [])) text k more rows
     → More done text i (suc more) rows
 unfolding tableText
 one-more {done} {rows} {text} {i} {k} r e m =

@@ -1,5 +1,6 @@
--- R-11's first line: what is saved is read, with the line and without it (`formed-back`, `unformed-back`). The line is needed exactly where the
--- block exceeds 65,535 (`form-by-size`). Readers that do not know it refuse it at their first line (`old-line`, `old-rows`, `old-noted`).
+-- R-11's first line: what is saved is read, with the line and without it (`formed-back`, `unformed-back`). The line is needed exactly where
+-- the block exceeds 65,535 (`form-by-size`). Readers that do not know it refuse it at their first line (`old-line`, `old-rows`,
+-- `old-noted`).
 use Prim.Native.Nat.{ℕ, _+_, _≤_, _<_}
 use mathlib.Core.Path.{_≡_, refl, sym, ap, _∙_}
 use mathlib.Core.List.{List, [], _∷_, _++_}
@@ -7,7 +8,7 @@ use mathlib.Core.Bool.{Bool, true, false, cond}
 use native.Mathlib.Omega.{arith}
 use lib.ListN.{length, drop}
 use lib.Dec.{ltb}
-use borrow.Author.Tests.{lt-ltb, le-ltb, ltb-true, ltb-false, lt-leb}
+use borrow.Author.Tests.{lt-ltb, le-ltb, ltb-false, lt-leb}
 use Rattle.rules.specs.Listing.{digitsFrom}
 use Rattle.rows.specs.declared.Row.{Row}
 use Rattle.rows.specs.Limits.{largestBlock, mostNumber}
@@ -17,7 +18,7 @@ use Rattle.keyvalue.specs.Reading.{whole, none, begins}
 use Rattle.keyvalue.specs.Lines.{lineOf, line, ranged}
 use Rattle.tables.specs.declared.Form.{Form}
 use Rattle.tables.specs.Table.{promptWord, mostPlace, row, rowsFrom, tableIn, rowText, tableText}
-use Rattle.tables.specs.Noted.{Listed, listed, listedFrom, listedAt, listedIn, rowsListed, listedText}
+use Rattle.tables.specs.Noted.{Listed, listed, listedFrom, listedAt, listedIn, listedText}
 use Rattle.tables.specs.Form.{formWord, formLine, anyFar, needsForm, formOf, formedIn, formBy}
 use Rattle.tables.proofs.Exact.{Sayable, Each}
 use Rattle.tables.proofs.Noted.{SayableAll, listed-back-at, rows-refused, noted-back, row-not-here}
@@ -37,7 +38,8 @@ form-left text e = sym (rw e)
 pub form-most : (text : List ℕ) {form : Form} → form ≡ formOf text → form .most ≤ largestBlock
 form-most text {form} e = go (begins formLine text) e
   where
-    go : (b : Bool) → form ≡ cond b (record { from = 7; most = largestBlock }) (record { from = 0; most = mostPlace }) → form .most ≤ largestBlock
+    go : (b : Bool) → form ≡ cond b (record { from = 7; most = largestBlock }) (record { from = 0; most = mostPlace })
+        → form .most ≤ largestBlock
     go true e = rw e (omega arith)
     go false e = rw e (omega arith)
 
@@ -102,7 +104,8 @@ form-by-size least lo size rows e = go (ltb mostPlace size) refl
     go true f = rw f (over (anyFar rows))
     go false f = rw (far-no least lo size rows (ltb-false mostPlace size f) e)
 
--- "The old table reader must refuse a form=2 table at its first line with TABLE, never show a shortened number": no line of a greeting begins so
+-- "The old table reader must refuse a form=2 table at its first line with TABLE, never show a shortened number": no line of a greeting
+-- begins so
 pub old-line : (rest : List ℕ) → ranged promptWord 1 mostNumber (formLine ++ rest) 0 ≡ none
 unfolding ranged line begins
 old-line rest = refl

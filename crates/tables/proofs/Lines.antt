@@ -58,7 +58,8 @@ abbrev with : Row → Note → Listed
 with r n = record { row = r; note = n }
 
 marks-last : (r : Row) (l s : ℕ) (q : Read (List Mark))
-    → andThen q (λ ms d. whole (with r (noteOn l s ms)) d) ≡ andThen (andThen q (λ ms d. whole (noteOn l s ms) d)) (λ n k. whole (with r n) k)
+    → andThen q (λ ms d. whole (with r (noteOn l s ms)) d) ≡ andThen (andThen q (λ ms d. whole (noteOn l s ms) d))
+    (λ n k. whole (with r n) k)
 marks-last r l s (whole ms d) = refl
 marks-last r l s none = refl
 

@@ -1,5 +1,5 @@
--- R-8's lines of samples and marks in the code's steps: passed over (Marking), and compared one by one with given ones (`marks-on`) and with
--- marks in cells (`are-turn`).
+-- R-8's lines of samples and marks in the code's steps: passed over (Marking), and compared one by one with given ones (`marks-on`) and
+-- with marks in cells (`are-turn`).
 use Prim.Native.Nat.{ℕ, suc, _+_, _*_, _-_, _≤_, _<_, min}
 use mathlib.Core.Path.{_≡_, refl, sym, ap, _∙_}
 use mathlib.Core.List.{List, [], _∷_, _++_}
@@ -70,7 +70,8 @@ mark-parts : (text : List ℕ) (at : ℕ) → markLine text at
 unfolding markLine numberThen
 mark-parts text at = ap (λ (r : Read Mark). cond (begins markWord (drop at text)) r none) (first (number text (at + 5)))
   where
-    last : (o s j : ℕ) (t : Bool) → cond t (whole (markOf o s) (j + 1)) none ≡ andThen (cond t (whole s (j + 1)) none) (λ s b. whole (markOf o s) b)
+    last : (o s j : ℕ) (t : Bool) → cond t (whole (markOf o s) (j + 1)) none ≡ andThen (cond t (whole s (j + 1)) none)
+        (λ s b. whole (markOf o s) b)
     last o s j true = refl
     last o s j false = refl
 
@@ -82,7 +83,8 @@ mark-parts text at = ap (λ (r : Read Mark). cond (begins markWord (drop at text
     second : (o j : ℕ) (t : Bool)
         → cond t (andThen (number text (j + 1)) (λ s k. cond (begins lineEnd (drop k text)) (whole (markOf o s) (k + 1)) none)) none
         ≡ andThen (cond t (whole o (j + 1)) none)
-        (λ o a. andThen (andThen (number text a) (λ s k. cond (begins lineEnd (drop k text)) (whole s (k + 1)) none)) (λ s b. whole (markOf o s) b))
+        (λ o a. andThen (andThen (number text a) (λ s k. cond (begins lineEnd (drop k text)) (whole s (k + 1)) none))
+        (λ s b. whole (markOf o s) b))
     second o j true = third o (number text (j + 1))
     second o j false = refl
 
@@ -90,7 +92,8 @@ mark-parts text at = ap (λ (r : Read Mark). cond (begins markWord (drop at text
         → andThen r (λ o j. cond (begins comma (drop j text))
         (andThen (number text (j + 1)) (λ s k. cond (begins lineEnd (drop k text)) (whole (markOf o s) (k + 1)) none)) none)
         ≡ andThen (andThen r (λ o j. cond (begins comma (drop j text)) (whole o (j + 1)) none))
-        (λ o a. andThen (andThen (number text a) (λ s k. cond (begins lineEnd (drop k text)) (whole s (k + 1)) none)) (λ s b. whole (markOf o s) b))
+        (λ o a. andThen (andThen (number text a) (λ s k. cond (begins lineEnd (drop k text)) (whole s (k + 1)) none))
+        (λ s b. whole (markOf o s) b))
     first (whole o j) = second o j (begins comma (drop j text))
     first none = refl
 
@@ -99,7 +102,8 @@ mark-held : (text : List ℕ) (at : ℕ) → heldMark (markLine text at)
     (λ o a. andThen (capped (numberThen lineEnd text a)) (λ s b. whole (markOf o s) b))) none
 mark-held text at = ap heldMark (mark-parts text at) ∙ first (begins markWord (drop at text)) (numberThen comma text (at + 5))
   where
-    third : (o : ℕ) (r : Read ℕ) → heldMark (andThen r (λ s b. whole (markOf o s) b)) ≡ andThen (capped r) (λ s b. whole (markOf (min o most) s) b)
+    third : (o : ℕ) (r : Read ℕ) → heldMark (andThen r (λ s b. whole (markOf o s) b)) ≡ andThen (capped r)
+        (λ s b. whole (markOf (min o most) s) b)
     third o (whole s b) = refl
     third o none = refl
 
@@ -140,7 +144,8 @@ number-goes : (text : List ℕ) (i n j : ℕ) → number text i ≡ whole n j �
 unfolding number decimalOn
 number-goes text i n j e = go (drop i text) e
   where
-    pick : (x : ℕ) (rest : List ℕ) (s t : Bool) → cond s (whole 0 (i + 1)) (cond t (digitsOn (x - 48) (i + 1) rest) none) ≡ whole n j → i < j
+    pick : (x : ℕ) (rest : List ℕ) (s t : Bool)
+        → cond s (whole 0 (i + 1)) (cond t (digitsOn (x - 48) (i + 1) rest) none) ≡ whole n j → i < j
     pick x rest true t e = let z = got-place e in omega arith
     pick x rest false true e = omega (arith, digits-go (x - 48) (i + 1) rest n j e)
     pick x rest false false e = let z : _≡_ {A = ℕ} 0 1 = cc in absurd (omega arith)
@@ -163,7 +168,12 @@ mark-goes text i m j e =
     let a = through (numberThen comma text (i + 5)) _ (k .1) in
     let b = through (numberThen lineEnd text (a .place)) _ (a .then) in
     let z = got-place (b .then) in
-    omega (arith, then-goes comma text (i + 5) (a .value) (a .place) (a .first), then-goes lineEnd text (a .place) (b .value) (b .place) (b .first))
+    omega (
+      arith,
+      then-goes comma text (i + 5) (a .value) (a .place) (a .first),
+      then-goes lineEnd text (a .place) (b .value)
+          (b .place) (b .first),
+    )
 
 -- a mark as it is held, and as it was read
 record HeldMark (r : Read Mark) (o s j : ℕ) : Type 0 where
@@ -204,7 +214,8 @@ marking-first text at =
 module _ {text : List ℕ} {at i : ℕ} (s : Marking text at i) where
   step : markLinesFrom (suc (length text) - length (s .done)) (s .done) text i
       ≡ cond (begins markWord (drop i text))
-      (andThen (markLine text i) (λ m j. markLinesFrom (suc (length text) - (length (s .done) + 1)) (s .done ++ (m ∷ [])) text j)) (whole (s .done) i)
+      (andThen (markLine text i) (λ m j. markLinesFrom (suc (length text) - (length (s .done) + 1)) (s .done ++ (m ∷ [])) text j))
+      (whole (s .done) i)
   unfolding markLinesFrom
   step =
       let f = s .few in
@@ -363,7 +374,8 @@ module _ {text cells : List ℕ} {at m i j : ℕ} (s : Compares text at cells m 
     are-step : nextOf (marksAre (marksIn m cells) text at) ≡ nextOf (marksAre (markOf x y ∷ more) text i)
     are-step =
         s .says ∙ ap (λ (l : List Mark). nextOf (marksAre l text i))
-        (marks-step cells m j h ∙ ap (λ (k : ℕ). markOf k (getD cells (2 * j + 1) 0) ∷ more) (sym f) ∙ ap (λ (k : ℕ). markOf x k ∷ more) (sym g))
+        (marks-step cells m j h ∙ ap (λ (k : ℕ). markOf k (getD cells (2 * j + 1) 0) ∷ more) (sym f)
+        ∙ ap (λ (k : ℕ). markOf x k ∷ more) (sym g))
 
     pub are-astray : Astray ≡ nextOf (markIs x y text i) → Astray ≡ nextOf (marksAre (marksIn m cells) text at)
     are-astray e = marks-astray (markOf x y) more text i e ∙ sym are-step

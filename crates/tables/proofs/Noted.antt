@@ -1,4 +1,5 @@
--- R-8's lines: what is written is read back (`noted-back`). No text with a greeting is of both kinds of lines: `early-refuses`, `noted-refuses`.
+-- R-8's lines: what is written is read back (`noted-back`). No text with a greeting is of both kinds of lines: `early-refuses`,
+-- `noted-refuses`.
 use Prim.Native.Nat.{ℕ, zero, suc, _+_, _^_, _≤_, _<_}
 use mathlib.Core.Path.{_≡_, refl, ap, _∙_}
 use mathlib.Core.List.{List, [], _∷_, _++_, append-assoc, append-nil}
@@ -151,7 +152,8 @@ pub listed-back-at : (far : ℕ) → far ≤ largestBlock → (xs : List Listed)
     → drop i text ≡ listedText xs → listedAt far i text ≡ whole xs (i + length (listedText xs))
 listed-back-at far r xs text i h l e = listed-from far r 32 [] xs text i h l e
 
-pub noted-back : (xs : List Listed) → Each (SayableAll mostPlace) xs → length xs ≤ 32 → listedIn (listedText xs) ≡ whole xs (length (listedText xs))
+pub noted-back : (xs : List Listed) → Each (SayableAll mostPlace) xs → length xs ≤ 32
+    → listedIn (listedText xs) ≡ whole xs (length (listedText xs))
 noted-back xs h l = listed-back-at mostPlace (omega arith) xs (listedText xs) 0 h l refl ∙ ap (whole xs) (omega arith)
 
 -- after a row stands a line of another key

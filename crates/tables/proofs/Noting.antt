@@ -87,30 +87,41 @@ not-listed : (r : Read Listed) → none ≡ headIn r → r ≡ none
 not-listed (whole x i) e = let z : _≡_ {A = ℕ} 0 1 = cc in absurd (omega arith)
 not-listed none e = refl
 
-laws-turn : (laws₀ laws : List ℕ) (k law : ℕ) → k < length laws → drop k laws ≡ drop k laws₀ → drop (k + 1) (set laws k law) ≡ drop (k + 1) laws₀
+laws-turn : (laws₀ laws : List ℕ) (k law : ℕ) → k < length laws → drop k laws ≡ drop k laws₀
+    → drop (k + 1) (set laws k law) ≡ drop (k + 1) laws₀
 laws-turn laws₀ laws k law h e =
     drop-set-lt (k + 1) laws k law (omega arith) ∙ sym (drop-drop 1 k laws) ∙ ap (drop 1) e ∙ drop-drop 1 k laws₀
 
 module _ {far from : ℕ} {text cells₀ cells laws₀ laws : List ℕ} {k at : ℕ} (s : Noting far from text cells₀ cells laws₀ laws k at) where
-  pub noting-end : 97 ≤ length cells₀ → length text ≤ at → FillsNoted (listedAt far from text) cells₀ (set cells 0 k) laws₀ laws (Greetings k)
+  pub noting-end : 97 ≤ length cells₀ → length text ≤ at → FillsNoted (listedAt far from text) cells₀ (set cells 0 k)
+      laws₀ laws (Greetings k)
   noting-end l h =
       let e : listedAt far from text ≡ whole (s .done) at = s .left ∙ noted-ending far (32 - k) (s .done) text at h in
       let c = rowed-laid cells₀ (omega arith) (length-rows-listed (s .done) ∙ s .count) (s .rows) in
-      let w : laws ≡ lawsListed (s .done) ++ drop (length (s .done)) laws₀ = sym (take-append-drop k laws) ∙ rw (s .lawful, s .rest, s .count) in
-      rw e (record { count = ap Greetings (sym (s .count)); filled = (c, w); few = λ n q. let z : k ≡ n = cc in let f = s .few in omega arith })
+      let w : laws ≡ lawsListed (s .done) ++ drop (length (s .done)) laws₀ = sym (take-append-drop k laws)
+      ∙ rw (s .lawful, s .rest, s .count) in
+      rw e (record {
+        count = ap Greetings (sym (s .count));
+        filled = (c, w);
+        few = λ n q. let z : k ≡ n = cc in
+            let f = s .few in omega arith;
+      })
 
-  pub noting-full : (cells′ laws′ : List ℕ) → at < length text → k ≡ 32 → FillsNoted (listedAt far from text) cells₀ cells′ laws₀ laws′ Wrong
+  pub noting-full : (cells′ laws′ : List ℕ) → at < length text → k ≡ 32
+      → FillsNoted (listedAt far from text) cells₀ cells′ laws₀ laws′ Wrong
   unfolding listedFrom
   noting-full cells′ laws′ h n =
       let z : 32 - k ≡ 0 = omega arith in
       wrong (s .left ∙ rw (z, lt-leb (length text) at h)) cells₀ cells′ laws₀ laws′
 
   module _ (h : at < length text) (n : k ≡ 32 → ⊥) where
-    step : listedFrom far (32 - k) (s .done) text at ≡ andThen (listed far text at) (λ r j. listedFrom far (32 - (k + 1)) (s .done ++ (r ∷ [])) text j)
+    step : listedFrom far (32 - k) (s .done) text at ≡ andThen (listed far text at)
+        (λ r j. listedFrom far (32 - (k + 1)) (s .done ++ (r ∷ [])) text j)
     unfolding listedFrom
     step = let f = s .few in let z : 32 - k ≡ suc (32 - (k + 1)) = omega arith in rw (z, lt-leb (length text) at h)
 
-    pub noting-none : (cells′ laws′ : List ℕ) → none ≡ headIn (listed far text at) → FillsNoted (listedAt far from text) cells₀ cells′ laws₀ laws′ Wrong
+    pub noting-none : (cells′ laws′ : List ℕ) → none ≡ headIn (listed far text at)
+        → FillsNoted (listedAt far from text) cells₀ cells′ laws₀ laws′ Wrong
     noting-none cells′ laws′ e = wrong (s .left ∙ step ∙ rw (not-listed (listed far text at) e)) cells₀ cells′ laws₀ laws′
 
     pub noting-turn : {cells′ : List ℕ} {r : Row} {law j : ℕ} → k < length laws → whole (headOf r law) j ≡ headIn (listed far text at)

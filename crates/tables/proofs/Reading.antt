@@ -4,8 +4,9 @@ use mathlib.Core.Path.{_≡_, refl, sym, ap, _∙_}
 use mathlib.Core.List.{List, [], _∷_, _++_, append-assoc, append-nil}
 use native.Mathlib.Omega.{arith}
 use lib.ListN.{length, take, drop, set, length-set, length-append, take-append-drop}
-use lib.Seq.{take-suc-set, drop-set-lt, drop-drop}
+use lib.Seq.{take-suc-set, drop-set-lt}
 use borrow.Author.Tests.{lt-leb}
+use Rattle.rules.proofs.Lent.{drop-further}
 use Rattle.rows.specs.declared.Row.{Row}
 use Rattle.rows.specs.Cells.{cellsOf, laid}
 use Rattle.keyvalue.specs.Reading.{Read, whole, none, andThen}
@@ -40,10 +41,6 @@ three-rest l i a b c =
     ∙ drop-set-lt (i + 3) (set l i a) (i + 1) b (omega arith)
     ∙ drop-set-lt (i + 3) l i a (omega arith)
 
--- what is as lent from a place on is so from any later place on
-later : (a b : List ℕ) (m n : ℕ) → drop m a ≡ drop m b → drop (m + n) a ≡ drop (m + n) b
-later a b m n e = sym (drop-drop n m a) ∙ ap (drop n) e ∙ drop-drop n m b
-
 -- rows that are done stand in the cells behind the first
 pub record Rowed (cells₀ cells : List ℕ) (done : List Row) (k : ℕ) : Type 0 where
   pub filled : take (1 + 3 * k) cells ≡ take 1 cells₀ ++ cellsOf done
@@ -53,21 +50,24 @@ pub rowed-first : (cells : List ℕ) → Rowed cells cells [] 0
 unfolding cellsOf
 rowed-first cells = record { filled = sym (append-nil (take 1 cells)); rest = refl }
 
-pub rowed-turn : {cells₀ cells cells′ : List ℕ} {done : List Row} {k : ℕ} {r : Row} → Rowed cells₀ cells done k → PutsRow r (1 + 3 * k) cells cells′
+pub rowed-turn : {cells₀ cells cells′ : List ℕ} {done : List Row} {k : ℕ} {r : Row} → Rowed cells₀ cells done k
+    → PutsRow r (1 + 3 * k) cells cells′
     → Rowed cells₀ cells′ (done ++ (r ∷ [])) (k + 1)
 rowed-turn {cells₀} {cells} {cells′} {done} {k} {r} s p =
     let m : 1 + 3 * (k + 1) ≡ 1 + 3 * k + 3 = omega arith in
     record {
       filled =
-          rw m (p .says ∙ rw (s .filled, cells-snoc done r) (append-assoc (take 1 cells₀) (cellsOf done) (r .number ∷ r .start ∷ r .octets ∷ [])));
-      rest = rw m (p .rest ∙ later cells cells₀ (1 + 3 * k) 3 (s .rest));
+          rw m (p .says ∙ rw (s .filled, cells-snoc done r)
+          (append-assoc (take 1 cells₀) (cellsOf done) (r .number ∷ r .start ∷ r .octets ∷ [])));
+      rest = rw m (p .rest ∙ drop-further cells cells₀ (1 + 3 * k) (1 + 3 * k + 3) (omega arith) (s .rest));
     }
 
 first-set : (x k : ℕ) (cells a b : List ℕ) → cells ≡ (x ∷ a) ++ b → set cells 0 k ≡ (k ∷ a) ++ b
 first-set x k cells a b e = ap (λ (l : List ℕ). set l 0 k) e
 
 -- the count goes into the first cell
-pub rowed-laid : {cells : List ℕ} {done : List Row} {k : ℕ} (cells₀ : List ℕ) → 1 ≤ length cells₀ → length done ≡ k → Rowed cells₀ cells done k
+pub rowed-laid : {cells : List ℕ} {done : List Row} {k : ℕ} (cells₀ : List ℕ) → 1 ≤ length cells₀ → length done ≡ k
+    → Rowed cells₀ cells done k
     → set cells 0 k ≡ laid done cells₀
 unfolding laid
 rowed-laid [] l n s = absurd (omega arith)
@@ -109,7 +109,8 @@ module _ {text cells₀ cells : List ℕ} {k at : ℕ} (s : Stand text cells₀ 
       wrong (s .left ∙ rw (z, lt-leb (length text) at h)) cells₀ cells′
 
   module _ (h : at < length text) (n : k ≡ 32 → ⊥) where
-    step : rowsFrom (32 - k) (s .done) text at ≡ andThen (row mostPlace text at) (λ r j. rowsFrom (32 - (k + 1)) (s .done ++ (r ∷ [])) text j)
+    step : rowsFrom (32 - k) (s .done) text at ≡ andThen (row mostPlace text at)
+        (λ r j. rowsFrom (32 - (k + 1)) (s .done ++ (r ∷ [])) text j)
     unfolding rowsFrom
     step = let f = s .few in let z : 32 - k ≡ suc (32 - (k + 1)) = omega arith in rw (z, lt-leb (length text) at h)
 

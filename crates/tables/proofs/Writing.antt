@@ -1,5 +1,5 @@
--- The text of greetings, one after another: what is left of it at a mark (`marks-left`) and at a greeting (`text-left`), counted (Counting) and
--- put (Putting).
+-- The text of greetings, one after another: what is left of it at a mark (`marks-left`) and at a greeting (`text-left`), counted (Counting)
+-- and put (Putting).
 use Prim.Native.Nat.{ℕ, _+_, _*_, _-_, _≤_, _<_}
 use mathlib.Core.Path.{_≡_, refl, sym, ap, _∙_}
 use mathlib.Core.List.{List, [], _++_, append-assoc, append-nil}
@@ -23,7 +23,8 @@ use Rattle.tables.specs.Held.{noteAt, heldIn, heldOf, AllIn}
 use Rattle.tables.proofs.Marks.{marks-step, marks-none, marks-all}
 
 pub row-length : (r : Row)
-    → length (rowText r) ≡ length (lineOf promptWord (r .number)) + length (lineOf startWord (r .start)) + length (lineOf octetsWord (r .octets))
+    → length (rowText r) ≡ length (lineOf promptWord (r .number)) + length (lineOf startWord (r .start)) + length
+    (lineOf octetsWord (r .octets))
 unfolding rowText
 row-length r = rw (length-append, length-append) (omega arith)
 
@@ -160,7 +161,8 @@ note-part : (hs ms : List ℕ) (p i : ℕ) → notePart hs ms p i ≡ noteLaid h
 note-part hs ms p i = ap (λ (l : List ℕ). noteText (noteAt hs (1 + 3 * i) l)) (from-on ms p)
 
 -- a greeting counted
-pub octets-turn : (t hs ms : List ℕ) (n p i : ℕ) {all : List ℕ} {sum row note m : ℕ} → Counting all (textLeft t hs ms n p i) sum (115964117079 * i)
+pub octets-turn : (t hs ms : List ℕ) (n p i : ℕ) {all : List ℕ} {sum row note m : ℕ}
+    → Counting all (textLeft t hs ms n p i) sum (115964117079 * i)
     → i < n
     → row ≡ length (rowLaid t i) → row ≤ 53 → note ≡ length (notePart hs ms p i) → note ≤ 115964117026 → m ≡ getD hs (1 + 3 * i + 2) 0
     → Counting all (textLeft t hs ms n (p + 2 * m) (i + 1)) (sum + (row + note)) (115964117079 * (i + 1))
@@ -174,9 +176,11 @@ octets-turn t hs ms n p i {all} {sum} {row} {note} {m} c h e a f b g =
 text-parts : (t hs ms : List ℕ) (n p i : ℕ) → i < n
     → textLeft t hs ms n p i ≡ rowLaid t i ++ (noteLaid hs ms p i ++ textLeft t hs ms n (p + 2 * getD hs (1 + 3 * i + 2) 0) (i + 1))
 text-parts t hs ms n p i h =
-    text-left t hs ms n p i h ∙ append-assoc (rowLaid t i) (noteLaid hs ms p i) (textLeft t hs ms n (p + 2 * getD hs (1 + 3 * i + 2) 0) (i + 1))
+    text-left t hs ms n p i h
+    ∙ append-assoc (rowLaid t i) (noteLaid hs ms p i) (textLeft t hs ms n (p + 2 * getD hs (1 + 3 * i + 2) 0) (i + 1))
 
-module _ (t hs ms : List ℕ) (n p i : ℕ) {all out₀ out : List ℕ} {start at : ℕ} (q : Putting all (textLeft t hs ms n p i) out₀ start out at) (h : i < n)
+module _ (t hs ms : List ℕ) (n p i : ℕ) {all out₀ out : List ℕ} {start at : ℕ}
+    (q : Putting all (textLeft t hs ms n p i) out₀ start out at) (h : i < n)
   where
     abbrev more : List ℕ
     more = textLeft t hs ms n (p + 2 * getD hs (1 + 3 * i + 2) 0) (i + 1)
@@ -202,6 +206,7 @@ fromOn l k = take (length l - k) (drop k l)
 pub parts-text : (t : List ℕ) (n : ℕ) → listedText (heldIn t (fromOn t 97) (fromOn t 194) n) ≡ listedText (heldOf t n)
 parts-text t n = rw (from-on t 97, from-on t 194)
 
-pub parts-fit : (t : List ℕ) (n : ℕ) → n ≤ 32 → 194 + 2 * marksHeld (rowsAt (drop 97 t) n 1) ≤ length t → AllIn t (fromOn t 97) (fromOn t 194) n
+pub parts-fit : (t : List ℕ) (n : ℕ) → n ≤ 32 → 194 + 2 * marksHeld (rowsAt (drop 97 t) n 1) ≤ length t
+    → AllIn t (fromOn t 97) (fromOn t 194) n
 parts-fit t n a b =
     rw (from-on t 97, from-on t 194) (a, omega arith, omega (arith, length-drop 97 t), omega (arith, length-drop 194 t))

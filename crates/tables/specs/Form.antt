@@ -1,5 +1,5 @@
--- Document 02, R-11: "Saved tables gain a first line `form=2` when a start or octet count, or the block, exceeds 65,535, and only then. The new
--- reader takes tables with and without it; without it, a start or octet count above 65,535 is TABLE."
+-- Document 02, R-11: "Saved tables gain a first line `form=2` when a start or octet count, or the block, exceeds 65,535, and only then. The
+-- new reader takes tables with and without it; without it, a start or octet count above 65,535 is TABLE."
 use Prim.Native.Nat.{ℕ}
 use mathlib.Core.List.{List, [], _∷_, _++_}
 use mathlib.Core.Bool.{Bool, true, false, cond}
@@ -40,6 +40,7 @@ formOf text = cond (begins formLine text) (record { from = length formLine; most
 abbrev pub formedIn : List ℕ → Read (List Listed)
 formedIn text = listedAt (formOf text .most) (formOf text .from) text
 
--- in the code's steps: all greetings lie inside the block, so its size alone tells whether the line is needed (proofs/Formed, `form-by-size`)
+-- in the code's steps: all greetings lie inside the block, so its size alone tells whether the line is needed (proofs/Formed,
+-- `form-by-size`)
 abbrev pub formBy : ℕ → List ℕ
 formBy size = cond (ltb mostPlace size) formLine []

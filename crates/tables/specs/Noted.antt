@@ -1,6 +1,6 @@
--- Document 02, R-8: "Lines `law`, `samples` and one `mark` per mark, as octets, a comma and samples, follow `octets`." A greeting's numbers of
--- samples and marks are of any number of digits: whether they are what the walk gives is judged when the whole table is read.
--- "A law above 1 .. is TABLE".
+-- Document 02, R-8: "Lines `law`, `samples` and one `mark` per mark, as octets, a comma and samples, follow `octets`." A greeting's numbers
+-- of samples and marks are of any number of digits: whether they are what the walk gives is judged when the whole table is read. "A law
+-- above 1 .. is TABLE".
 use Prim.Native.Nat.{ℕ, zero, suc}
 use mathlib.Core.List.{List, [], _∷_, _++_}
 use mathlib.Core.Bool.{cond}
@@ -31,7 +31,8 @@ pub record Listed : Type 0 where
 unfoldable pub markLine : Reader Mark
 markLine = after markWord (number >>= λ o. after comma (number >>= λ s. after lineEnd (give (markOf o s))))
 
--- the marks that follow, after those that are done; each has an octet of text, so the first number, one more than the octets, is never short
+-- the marks that follow, after those that are done; each has an octet of text, so the first number, one more than the octets, is never
+-- short
 unfoldable pub markLinesFrom : ℕ → List Mark → Reader (List Mark)
 markLinesFrom zero done text i = whole done i
 markLinesFrom (suc more) done text i =

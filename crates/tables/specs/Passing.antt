@@ -1,5 +1,5 @@
--- R-8's lines in the code's steps: a greeting's row and law, then its samples and marks; passed over first, and compared when the whole table is
--- read.
+-- R-8's lines in the code's steps: a greeting's row and law, then its samples and marks; passed over first, and compared when the whole
+-- table is read.
 use Prim.Native.Nat.{ℕ, min}
 use mathlib.Core.List.{List, [], _∷_}
 use mathlib.Core.Bool.{cond}

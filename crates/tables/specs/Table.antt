@@ -1,6 +1,6 @@
--- Document 02, R-6: "The table is saved as key=value lines, decimal without leading zeros, each ended by octet 0A: for each greeting `prompt`,
--- `start`, `octets`, in order of start." "Reading is refused with TABLE (26) for lines not of this form or order, a number out of range .., more
--- than 32 greetings".
+-- Document 02, R-6: "The table is saved as key=value lines, decimal without leading zeros, each ended by octet 0A: for each greeting
+-- `prompt`, `start`, `octets`, in order of start." "Reading is refused with TABLE (26) for lines not of this form or order, a number out of
+-- range .., more than 32 greetings".
 use Prim.Native.Nat.{ℕ, zero, suc}
 use mathlib.Core.List.{List, [], _∷_, _++_}
 use mathlib.Core.Bool.{cond}
@@ -22,7 +22,8 @@ startWord = 0x73 ∷ 0x74 ∷ 0x61 ∷ 0x72 ∷ 0x74 ∷ 0x3D ∷ []
 abbrev pub octetsWord : List ℕ
 octetsWord = 0x6F ∷ 0x63 ∷ 0x74 ∷ 0x65 ∷ 0x74 ∷ 0x73 ∷ 0x3D ∷ []
 
--- the greatest start or count of octets in such lines: "a start or octet count above 65,535 is TABLE" (R-11; in R-6's blocks there was none)
+-- the greatest start or count of octets in such lines: "a start or octet count above 65,535 is TABLE" (R-11; in R-6's blocks there was
+-- none)
 abbrev pub mostPlace : ℕ
 mostPlace = 65535
 
@@ -37,7 +38,8 @@ row most = do
 -- up to `more` greetings after those that are done, to the text's end
 unfoldable pub rowsFrom : ℕ → List Row → Reader (List Row)
 rowsFrom zero done text i = ended done text i
-rowsFrom (suc more) done text i = cond (leb (length text) i) (whole done i) (andThen (row mostPlace text i) (λ r j. rowsFrom more (done ++ (r ∷ [])) text j))
+rowsFrom (suc more) done text i = cond (leb (length text) i) (whole done i)
+    (andThen (row mostPlace text i) (λ r j. rowsFrom more (done ++ (r ∷ [])) text j))
 
 -- the greetings that a text lists; an empty text lists none
 abbrev pub tableIn : List ℕ → Read (List Row)

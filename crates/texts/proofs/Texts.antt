@@ -6,9 +6,10 @@ use mathlib.Core.Bool.{Bool, true, false, cond, _&&_}
 use native.Mathlib.Omega.{arith}
 use native.Mathlib.Numerals.{add-one}
 use lib.ListN.{length, getD, take, drop, length-append, length-drop, drop-of-length-le}
-use lib.Seq.{drop-cons, take-length, take-all, take-at, drop-at, drop-drop}
+use lib.Seq.{drop-cons, take-length, take-at, drop-at, drop-drop}
 use lib.Dec.{eqb, leb}
 use borrow.Author.Tests.{eq-eqb, ne-eqb, eqb-true, le-leb, lt-leb, leb-true}
+use Rattle.rules.proofs.Lent.{from-on}
 use Rattle.texts.specs.Texts.{same, Laid}
 
 -- texts of different lengths differ
@@ -50,10 +51,6 @@ same-equal (x ∷ a) (y ∷ b) e = go (eqb x y) refl (same-equal a b) e
     go true p rest q = rw (eqb-true x y p, rest q)
     go false p rest q = let z : _≡_ {A = ℕ} 0 1 = cc in absurd (omega arith)
 
--- a part that goes to the end is all that is left
-pub part-left : (l : List ℕ) (at : ℕ) → take (length l - at) (drop at l) ≡ drop at l
-part-left l at = take-all (length l - at) (drop at l) (omega (arith, length-drop at l))
-
 -- two parts of a text are laid one after the other
 module _ (first second out : List ℕ) where
   abbrev text : List ℕ
@@ -61,13 +58,17 @@ module _ (first second out : List ℕ) where
 
   pub lay-parts : (o p : List ℕ) → o ≡ take (length first) first ++ drop (length first) out
       → p ≡ take (length second) second ++ drop (length second) (take (length o - length first) (drop (length first) o))
-      → take (length first) o ++ (p ++ drop (length o - length first) (drop (length first) o)) ≡ first ++ (second ++ drop (length first + length second) out)
+      → take (length first) o ++ (p ++ drop (length o - length first) (drop (length first) o)) ≡ first
+      ++ (second ++ drop (length first + length second) out)
   lay-parts o p e f =
       let q : o ≡ first ++ drop (length first) out = e ∙ ap (λ (l : List ℕ). l ++ drop (length first) out) (take-length first) in
-      let front : take (length first) o ≡ first = ap (take (length first)) q ∙ take-at first (drop (length first) out) (length first) refl in
-      let back : drop (length first) o ≡ drop (length first) out = ap (drop (length first)) q ∙ drop-at first (drop (length first) out) (length first) refl in
-      let none : drop (length o - length first) (drop (length first) o) ≡ [] = drop-of-length-le (drop (length first) o) {i = length o - length first} (omega (arith, length-drop (length first) o)) in
-      rw (none, append-nil, f, part-left o (length first), take-length, front, back, drop-drop)
+      let front : take (length first) o ≡ first = ap (take (length first)) q
+      ∙ take-at first (drop (length first) out) (length first) refl in
+      let back : drop (length first) o ≡ drop (length first) out = ap (drop (length first)) q
+      ∙ drop-at first (drop (length first) out) (length first) refl in
+      let none : drop (length o - length first) (drop (length first) o) ≡ [] = drop-of-length-le (drop (length first) o)
+      {i = length o - length first} (omega (arith, length-drop (length first) o)) in
+      rw (none, append-nil, f, from-on o (length first), take-length, front, back, drop-drop)
 
   pub lay-whole : {n : ℕ} {after : List ℕ} → length first + length second ≤ length out → n ≡ length first + length second
       → after ≡ first ++ (second ++ drop n out) → Laid text out after n
@@ -76,7 +77,8 @@ module _ (first second out : List ℕ) where
       let t : length text ≤ length out = omega (arith, k) in
       record {
         count = rw (le-leb (length text) (length out) t) (e ∙ sym k);
-        lent = rw (le-leb (length text) (length out) t) (l ∙ sym (append-assoc first second (drop n out)) ∙ ap (λ (m : ℕ). text ++ drop m out) (e ∙ sym k));
+        lent = rw (le-leb (length text) (length out) t)
+            (l ∙ sym (append-assoc first second (drop n out)) ∙ ap (λ (m : ℕ). text ++ drop m out) (e ∙ sym k));
       }
 
   pub lay-none : length out < length first + length second → Laid text out out 0

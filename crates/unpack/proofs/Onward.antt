@@ -1,6 +1,6 @@
 -- A stream window by window: the octets so far, cut where a frame ends, and then those of the next window (`along-first`, `along-turn`,
 -- `along-whole`).
-use Prim.Native.Nat.{ℕ, suc, _+_, _*_, _≤_, _<_}
+use Prim.Native.Nat.{ℕ, suc, _+_, _*_, _≤_}
 use native.Mathlib.Omega.{arith}
 use mathlib.Core.Path.{_≡_, refl, sym, ap, _∙_}
 use mathlib.Core.Bool.{true}
@@ -8,7 +8,7 @@ use mathlib.Core.List.{List, [], _++_}
 use lib.ListN.{length, take, length-append}
 use Rattle.rules.specs.declared.Ending.the-variants.{Done}
 use Rattle.rules.specs.Tools.{isLaw, isSet}
-use Rattle.rules.specs.Walk.{Delivered, Walked, longest, walkFrom, walkAll, samplesKept}
+use Rattle.rules.specs.Walk.{Delivered, Walked, longest, walkFrom, samplesKept}
 use Rattle.rules.proofs.Walk.{walk-told}
 use Rattle.promises.proofs.Walks.{Walkable, walk-all}
 use Rattle.promises.proofs.Joined.{walkOf, joined, cut-clean, walk-place}
@@ -17,7 +17,8 @@ use Rattle.unpack.specs.Runs.{TellsWalk, TellsOne}
 
 -- a whole walk keeps inside
 walk-most : (w : List ℕ) (law set : ℕ) → Walkable w law set → (length (walkOf w law set .frames) ≤ length w)
-    × (length (samplesKept (walkOf w law set .frames)) ≤ 320 * length (walkOf w law set .frames)) × (walkOf w law set .end ≡ Done → walkOf w law set .place ≡ length w)
+    × (length (samplesKept (walkOf w law set .frames)) ≤ 320 * length (walkOf w law set .frames))
+    × (walkOf w law set .end ≡ Done → walkOf w law set .place ≡ length w)
 walk-most w law set h =
     let e = walk-all w law set (320 * length w) h in
     let t = walk-told w law set (suc (length w)) 0 (320 * length w) in
@@ -26,10 +27,19 @@ walk-most w law set h =
     let p = ap (λ (v : Walked). v .place) e in (
       omega (arith, f, t .some, t .inside),
       omega (arith, f, g, t .held),
-      λ d. omega (arith, p, t .place, t .inside, t .some, t .whole (sym (ap (λ (v : Walked). v .end) e) ∙ d) (omega (arith, t .some, t .inside))),
+      λ d. omega (
+        arith,
+        p,
+        t .place,
+        t .inside,
+        t .some,
+        t .whole (sym (ap (λ (v : Walked). v .end) e) ∙ d)
+            (omega (arith, t .some, t .inside)),
+      ),
     )
 
-none-clean : (law set : ℕ) → isLaw law ≡ true → isSet set ≡ true → (walkOf [] law set .end ≡ Done) × (length (walkOf [] law set .frames) ≡ 0)
+none-clean : (law set : ℕ) → isLaw law ≡ true → isSet set ≡ true
+    → (walkOf [] law set .end ≡ Done) × (length (walkOf [] law set .frames) ≡ 0)
     × (length (samplesKept (walkOf [] law set .frames)) ≡ 0)
 unfolding walkFrom samplesKept
 none-clean law set l s =
@@ -61,7 +71,8 @@ module _ (law set : ℕ) (l : isLaw law ≡ true) (s : isSet set ≡ true) where
     total t wrong =
         record { end = t .end; at = at + t .at; bit = t .bit; frames = frames + t .frames; samples = samples + t .samples; wrong = wrong }
 
-    join : (z : List ℕ) {t : Total} → at + length z ≤ longest → TellsWalk z law set t → (wrong : ℕ) → TellsWalk (a .done ++ z) law set (total t wrong)
+    join : (z : List ℕ) {t : Total} → at + length z ≤ longest → TellsWalk z law set t → (wrong : ℕ)
+        → TellsWalk (a .done ++ z) law set (total t wrong)
     join z {t} h f wrong =
         let j = joined (a .done) z law set (able (a .done ++ z) (omega (arith, a .long, length-append (a .done) z))) (a .clean) in
         let old = walkOf (a .done) law set .frames in
@@ -75,11 +86,13 @@ module _ (law set : ℕ) (l : isLaw law ≡ true) (s : isSet set ≡ true) where
         }
 
     -- with the octets of the last window: one stream
-    pub along-whole : (w : List ℕ) {t : Total} → at + length w ≤ longest → TellsWalk w law set t → (wrong : ℕ) → TellsOne law set (total t wrong)
+    pub along-whole : (w : List ℕ) {t : Total} → at + length w ≤ longest → TellsWalk w law set t → (wrong : ℕ)
+        → TellsOne law set (total t wrong)
     along-whole w h f wrong = record { stream = a .done ++ w; tells = join w h f wrong }
 
     -- and with those up to where the window's frames ended
-    pub along-turn : (w : List ℕ) {t : Total} → at + length w ≤ longest → TellsWalk w law set t → Along law set (at + t .at) (frames + t .frames) (samples + t .samples)
+    pub along-turn : (w : List ℕ) {t : Total} → at + length w ≤ longest → TellsWalk w law set t
+        → Along law set (at + t .at) (frames + t .frames) (samples + t .samples)
     along-turn w {t} h f =
         let p = walkOf w law set .place in
         let x = take p w in
@@ -87,7 +100,8 @@ module _ (law set : ℕ) (l : isLaw law ≡ true) (s : isSet set ≡ true) where
         let c = cut-clean w law set ok in
         let inside = walk-place w law set ok in
         let here = walk-most x law set (able x (omega (arith, c .size, inside))) .2 (c .clean) in
-        let g : TellsWalk x law set (record { end = Done; at = t .at; bit = walkOf x law set .bit; frames = t .frames; samples = t .samples; wrong = 0 }) =
+        let g : TellsWalk x law set
+        (record { end = Done; at = t .at; bit = walkOf x law set .bit; frames = t .frames; samples = t .samples; wrong = 0 }) =
         record {
           end = sym (c .clean);
           at = f .at ∙ sym (c .size) ∙ sym here;

@@ -13,7 +13,8 @@ use Rattle.unpack.specs.declared.Total.{Total}
 -- the parts of a stream from its start on, each with more to come: their sound, their frames, and the place where the last one ended
 pub data Before (stream : List ℕ) (law set : ℕ) : List ℕ → ℕ → ℕ → Type 0 where
   none : Before stream law set [] 0 0
-  one-more : {sound : List ℕ} {frames at : ℕ} {out out′ : List ℕ} {r : Part} → Before stream law set sound frames at → NextPart stream law set at out out′ r → r .more ≡ true
+  one-more : {sound : List ℕ} {frames at : ℕ} {out out′ : List ℕ} {r : Part}
+      → Before stream law set sound frames at → NextPart stream law set at out out′ r → r .more ≡ true
       → Before stream law set (sound ++ take (r .samples) out′) (frames + r .frames) (r .at)
 
 -- what may be written: the page's sound is the stream's next part, after the parts before it

@@ -1,5 +1,5 @@
 -- A part by the guard's verdict, and what a caller goes by.
-use Prim.Native.Nat.{ℕ, _+_, _*_, _-_, _≤_, _<_}
+use Prim.Native.Nat.{ℕ, _-_, _<_}
 use mathlib.Core.Path.{_≡_, refl, sym, _∙_}
 use mathlib.Core.List.{List}
 use mathlib.Core.Bool.{true, false, false≢true}
@@ -14,16 +14,18 @@ use Rattle.rules.specs.Refusals.{verdict}
 use Rattle.rules.specs.Walk.{Walked, stopped, walkFrom, walkAsks, samplesKept}
 use Rattle.rules.specs.Calls.{Walks}
 use Rattle.rules.proofs.Guards.{verdict-refused, verdict-done}
-use Rattle.rules.proofs.Walk.{Told, walk-told}
+use Rattle.rules.proofs.Walk.{walk-told}
 use Rattle.unpacking.specs.declared.Part.{Part}
 use Rattle.unpacking.specs.Parts.{sureFrames, goesOn, partOf, Parts, Goes, Answers}
 
 module _ (octets : List ℕ) (law set at room : ℕ) where
-  pub part-refused : {why : Refusal} → verdict (walkAsks law set (length octets)) ≡ Refused why → partOf octets law set at room ≡ stopped (Refused why) 0 0
+  pub part-refused : {why : Refusal} → verdict (walkAsks law set (length octets)) ≡ Refused why
+      → partOf octets law set at room ≡ stopped (Refused why) 0 0
   unfolding partOf
   part-refused e = verdict-refused (λ why. stopped (Refused why) 0 0) _ (walkAsks law set (length octets)) e
 
-  pub part-allowed : verdict (walkAsks law set (length octets)) ≡ Done → partOf octets law set at room ≡ walkFrom (sureFrames room) octets law set at room
+  pub part-allowed : verdict (walkAsks law set (length octets)) ≡ Done
+      → partOf octets law set at room ≡ walkFrom (sureFrames room) octets law set at room
   unfolding partOf
   part-allowed e = verdict-done (λ why. stopped (Refused why) 0 0) _ (walkAsks law set (length octets)) e
 
@@ -47,7 +49,8 @@ goes-none octets at why out =
     }
 
 -- a walk's answer as a part
-pub parts-of : {size : ℕ} {w : Walked} {a : WalkAnswer} {r : Part} {out out′ : List ℕ} → Walks w a out out′ → Answers a size r → Parts size w r out out′
+pub parts-of : {size : ℕ} {w : Walked} {a : WalkAnswer} {r : Part} {out out′ : List ℕ} → Walks w a out out′ → Answers a size r
+    → Parts size w r out out′
 parts-of t a =
     record {
       end = a .end ∙ t .end;
@@ -69,7 +72,8 @@ pub goes-of : (octets : List ℕ) (law set at : ℕ) (out : List ℕ) {r : Part}
 goes-of octets law set at out {r} t =
     let d = walk-told octets law set (sureFrames (length out)) at (length out) in
     let w = walkFrom (sureFrames (length out)) octets law set at (length out) in
-    let on : r .more ≡ true → (w .end ≡ Done) × (w .place < length octets) = λ m. more-inside (w .end) (w .place) (length octets) (sym (t .more) ∙ m) in
+    let on : r .more ≡ true → (w .end ≡ Done) × (w .place < length octets) = λ m. more-inside (w .end) (w .place)
+    (length octets) (sym (t .more) ∙ m) in
     record {
       fits = omega (arith, t .samples, d .fits);
       held = omega (arith, t .samples, t .frames, d .held);

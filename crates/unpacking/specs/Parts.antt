@@ -1,4 +1,5 @@
--- A stream unpacked in parts (document 01, "Walk and listing"): a part is the walk from a place on, of as many frames as the output is sure to hold.
+-- A stream unpacked in parts (document 01, "Walk and listing"): a part is the walk from a place on, of as many frames as the output is sure
+-- to hold.
 use Prim.Native.Nat.{ℕ, _+_, _*_, _/_, _≤_, _<_}
 use mathlib.Core.Path.{_≡_}
 use mathlib.Core.List.{List}

@@ -19,7 +19,8 @@ use Rattle.walk.proofs.Told.{Bounds, accepted, refused, read-bounds}
 
 -- what a walk answers that stopped at `at`
 abbrev pub answerOf : Ending → ℕ → ℕ → ℕ → ℕ → ℕ → WalkAnswer
-answerOf end frames octets samples place bit = record { end = end; frames = frames; octets = octets; samples = samples; place = place; bit = bit }
+answerOf end frames octets samples place bit =
+    record { end = end; frames = frames; octets = octets; samples = samples; place = place; bit = bit }
 
 module _ (octets : List ℕ) (law set fuel from room : ℕ) where
   abbrev pub walked : Walked
@@ -51,7 +52,8 @@ module _ (octets : List ℕ) (law set fuel from room : ℕ) where
     along-stop : (e : Ending) (bit : ℕ) → walkFrom (fuel - count) octets law set at left ≡ stopped e at bit
         → (walked .frames ≡ done) × Counts walked (answerOf e count (at - from) samples at bit)
     along-stop e bit q =
-        subst (λ (x : Walked). (x .frames ≡ done) × Counts x (answerOf e count (at - from) samples at bit)) (sym (w .is-whole ∙ ap (after done) q)) (
+        subst (λ (x : Walked). (x .frames ≡ done) × Counts x (answerOf e count (at - from) samples at bit))
+        (sym (w .is-whole ∙ ap (after done) q)) (
           append-nil done,
           record {
             end = refl;
@@ -69,10 +71,12 @@ module _ (octets : List ℕ) (law set fuel from room : ℕ) where
     pub along-last : fuel ≤ count → (walked .frames ≡ done) × Counts walked (answerOf Done count (at - from) samples at 0)
     along-last h = along-stop Done 0 (walk-last octets law set (fuel - count) at left (omega arith))
 
-    pub along-refused : count < fuel → at < length octets → {r : Report} → Tells (readOne (drop at octets) law set left) r → (why : Refusal) → r .end ≡ Refused why
+    pub along-refused : count < fuel → at < length octets → {r : Report} → Tells (readOne (drop at octets) law set left) r
+        → (why : Refusal) → r .end ≡ Refused why
         → (walked .frames ≡ done) × Counts walked (answerOf (Refused why) count (at - from) samples at (r .bit))
     along-refused g h {r} t why e =
-        along-stop (Refused why) (r .bit) (walk-off octets law set (fuel - count) (fuel - (count + 1)) at left (omega arith) h (r .bit) why (refused t e))
+        along-stop (Refused why) (r .bit)
+        (walk-off octets law set (fuel - count) (fuel - (count + 1)) at left (omega arith) h (r .bit) why (refused t e))
 
   -- with a frame buffer that serves every frame
   pub record Passing (buffer : List ℕ) (at left count : ℕ) : Type 0 where
@@ -81,7 +85,8 @@ module _ (octets : List ℕ) (law set fuel from room : ℕ) where
     pub size : length buffer ≡ 320
 
   -- a frame that is read there and accepted
-  module _ {done : List Delivered} {at left count : ℕ} (w : Along done at left count) (g : count < fuel) (h : at < length octets) {r : Report}
+  module _ {done : List Delivered} {at left count : ℕ} (w : Along done at left count) (g : count < fuel) (h : at < length octets)
+      {r : Report}
       (t : Tells (readOne (drop at octets) law set left) r) (e : r .end ≡ Done) where
     abbrev pub passed : Delivered
     passed = record { place = at; found = accepted t e .frame }
@@ -92,12 +97,14 @@ module _ (octets : List ℕ) (law set fuel from room : ℕ) where
     pub along-turn : {left′ : ℕ} → left′ ≡ left - r .len → Along (done ++ (passed ∷ [])) (at + r .octets) left′ (count + 1)
     along-turn {left′} m =
         let a = accepted t e in
-        let next = walk-one octets law set (fuel - count) (fuel - (count + 1)) at left (omega arith) h (at + r .octets) left′ (a .frame) (a .is) (omega (arith, a .tells .octets)) (omega (arith, a .tells .len)) in
+        let next = walk-one octets law set (fuel - count) (fuel - (count + 1)) at left (omega arith) h (at + r .octets)
+        left′ (a .frame) (a .is) (omega (arith, a .tells .octets)) (omega (arith, a .tells .len)) in
         record {
           is-whole = w .is-whole ∙ ap (after done) next ∙ after-before done passed _;
           frames = omega (arith, w .frames, length-append done (passed ∷ []));
           octets-kept = omega (arith, w .octets-kept, a .tells .octets, octetsKept-more done passed);
-          samples-kept = rw samplesKept-more (omega (arith, w .samples-kept, a .tells .len, along-bounds .fits, length-append (samplesKept done) (a .frame .samples)));
+          samples-kept = rw samplesKept-more
+              (omega (arith, w .samples-kept, a .tells .len, along-bounds .fits, length-append (samplesKept done) (a .frame .samples)));
           few = omega arith;
           each = omega (arith, w .each, along-bounds .some);
         }

@@ -1,5 +1,5 @@
 -- A walk on its way that keeps its samples: it goes along (Along), and the samples of the frames passed stand at the output's start.
-use Prim.Native.Nat.{ℕ, _+_, _-_, _≤_, _<_}
+use Prim.Native.Nat.{ℕ, _+_, _-_, _<_}
 use mathlib.Core.Path.{_≡_, refl, sym, ap, subst, _∙_}
 use mathlib.Core.List.{List, []}
 use native.Mathlib.Omega.{arith}
@@ -41,10 +41,19 @@ module _ (octets : List ℕ) (law set fuel from : ℕ) (out₀ : List ℕ) where
     keep-size = omega (arith, w .kept .room)
 
     -- what is counted is kept
-    pub keeps : {r : WalkAnswer} → (walked octets law set fuel from (length out₀) .frames ≡ w .done) × Counts (walked octets law set fuel from (length out₀)) r
+    pub keeps : {r : WalkAnswer} → (walked octets law set fuel from (length out₀) .frames ≡ w .done) × Counts
+        (walked octets law set fuel from (length out₀)) r
         → Walks (walked octets law set fuel from (length out₀)) r out₀ out
     keeps (f, c) =
-        record { end = c .end; frames = c .frames; octets = c .octets; samples = c .samples; place = c .place; bit = c .bit; lent = rw f (lent-at-start (w .kept)) }
+        record {
+          end = c .end;
+          frames = c .frames;
+          octets = c .octets;
+          samples = c .samples;
+          place = c .place;
+          bit = c .bit;
+          lent = rw f (lent-at-start (w .kept));
+        }
 
     -- a step, as its answer says
     module _ (g : count < fuel) (h : at < length octets) {out′ : List ℕ} {r : Report} (s : Steps octets law set at to out out′ r) where
@@ -55,8 +64,10 @@ module _ (octets : List ℕ) (law set fuel from : ℕ) (out₀ : List ℕ) where
       pub keep-refused : (why : Refusal) → r .end ≡ Refused why
           → Walks (walked octets law set fuel from (length out₀)) (answerOf (Refused why) count (at - from) to at (r .bit)) out₀ out′
       keep-refused why e =
-          let same = lent-same (w .kept) (s .lent) (reads .lent ∙ ap (λ (x : Read Found). atStart (readSamples x) (drop to out)) (refused (reads .tells) e)) in
-          subst (λ (x : List ℕ). Walks (walked octets law set fuel from (length out₀)) (answerOf (Refused why) count (at - from) to at (r .bit)) out₀ x) (sym same)
+          let same = lent-same (w .kept) (s .lent)
+          (reads .lent ∙ ap (λ (x : Read Found). atStart (readSamples x) (drop to out)) (refused (reads .tells) e)) in
+          subst (λ (x : List ℕ). Walks (walked octets law set fuel from (length out₀))
+          (answerOf (Refused why) count (at - from) to at (r .bit)) out₀ x) (sym same)
           (keeps (along-refused octets law set fuel from (length out₀) (w .along) keep-size g h (reads .tells) why e))
 
       -- a frame that is accepted

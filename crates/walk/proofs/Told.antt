@@ -37,9 +37,14 @@ pub record Bounds (octets : List ℕ) (room : ℕ) (r : Report) : Type 0 where
   pub inside : r .octets ≤ length octets
   pub fits : r .len ≤ room
 
-pub read-bounds : (octets : List ℕ) (law set room : ℕ) {r : Report} → Tells (readOne octets law set room) r → r .end ≡ Done → Bounds octets room r
+pub read-bounds : (octets : List ℕ) (law set room : ℕ) {r : Report} → Tells (readOne octets law set room) r → r .end ≡ Done
+    → Bounds octets room r
 read-bounds octets law set room t e =
     let a = accepted t e in
     let u = read-uses octets law set room (a .is) in
     let f = read-accepts octets law set room (a .is) .fits in
-    record { some = omega (arith, a .tells .octets, u .0); inside = omega (arith, a .tells .octets, u .1); fits = omega (arith, a .tells .len, f) }
+    record {
+      some = omega (arith, a .tells .octets, u .0);
+      inside = omega (arith, a .tells .octets, u .1);
+      fits = omega (arith, a .tells .len, f);
+    }

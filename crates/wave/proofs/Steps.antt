@@ -1,18 +1,17 @@
 -- A heading in the code's expressions: one law for each way out of a function, and for each turn of the loop.
-use Prim.Native.Nat.{ℕ, zero, suc, _+_, _-_, _*_, _%_, _≤_, _<_}
-use mathlib.Core.Path.{_≡_, refl, sym, ap, _∙_}
-use mathlib.Core.Bool.{Bool, true, false, cond, _&&_}
+use Prim.Native.Nat.{ℕ, zero, suc, _+_, _-_, _≤_, _<_}
+use mathlib.Core.Path.{_≡_}
+use mathlib.Core.Bool.{Bool, true, false}
 use mathlib.Core.List.{List}
 use native.Mathlib.Omega.{arith}
-use lib.Dec.{eqb, ltb}
 use lib.ListN.{length}
 use borrow.Author.Tests.{eq-eqb, ne-eqb, lt-ltb, le-ltb}
 use Rattle.wave.specs.declared.Heading.{Heading}
-use Rattle.wave.specs.declared.Heading.the-variants.{More, Sound, Refused}
+use Rattle.wave.specs.declared.Heading.the-variants.{More, Refused}
 use Rattle.wave.specs.declared.Wrong.the-variants.{NotWave, Format, Channels, Rate, Bits, ShortFormat, ManyChunks}
 use Rattle.wave.specs.declared.Step.{Step}
 use Rattle.wave.specs.declared.Step.the-variants.{On, Ends}
-use Rattle.wave.specs.Headings.{halfAt, wordAt, formatAt, formatIn, soundOf, after, stepAt, onward, chunksFrom, headingOf}
+use Rattle.wave.specs.Headings.{halfAt, wordAt, formatAt, formatIn, soundOf, stepAt, onward, chunksFrom, headingOf}
 use Rattle.wave.specs.Headings.{riffName, waveName, formatName, dataName}
 
 module _ (l : List ℕ) (at size : ℕ) where
@@ -20,7 +19,8 @@ module _ (l : List ℕ) (at size : ℕ) where
   unfolding formatAt
   other-format e n = rw (← e, ne-eqb _ 1 n)
 
-  pub other-channels : {f n : ℕ} → f ≡ halfAt l at → f ≡ 1 → n ≡ halfAt l (at + 2) → (n ≡ 1 → ⊥) → Ends (Refused (Channels n)) ≡ formatAt l at size
+  pub other-channels : {f n : ℕ} → f ≡ halfAt l at → f ≡ 1 → n ≡ halfAt l (at + 2) → (n ≡ 1 → ⊥)
+      → Ends (Refused (Channels n)) ≡ formatAt l at size
   unfolding formatAt
   other-channels e i f n = rw (← e, eq-eqb _ 1 i, ← f, ne-eqb _ 1 n)
 
@@ -56,12 +56,14 @@ module _ (l : List ℕ) (at : ℕ) (seen : Bool) where
   unfolding stepAt
   step-more h = rw (lt-ltb (length l) (at + 8) h)
 
-  pub step-sound : {n size : ℕ} {h : Heading} → at + 8 ≤ length l → n ≡ wordAt l at → size ≡ wordAt l (at + 4) → n ≡ dataName → h ≡ soundOf seen size
+  pub step-sound : {n size : ℕ} {h : Heading} → at + 8 ≤ length l → n ≡ wordAt l at → size ≡ wordAt l (at + 4) → n ≡ dataName
+      → h ≡ soundOf seen size
       → Ends h ≡ stepAt l at seen
   unfolding stepAt
   step-sound g e f i k = rw (le-ltb (length l) (at + 8) g, ← e, eq-eqb _ dataName i, ← f, k)
 
-  pub step-format : {n size : ℕ} {r : Step} → at + 8 ≤ length l → n ≡ wordAt l at → size ≡ wordAt l (at + 4) → (n ≡ dataName → ⊥) → n ≡ formatName
+  pub step-format : {n size : ℕ} {r : Step} → at + 8 ≤ length l → n ≡ wordAt l at → size ≡ wordAt l (at + 4) → (n ≡ dataName → ⊥)
+      → n ≡ formatName
       → r ≡ formatIn l at size → r ≡ stepAt l at seen
   unfolding stepAt
   step-format g e f i j k = rw (le-ltb (length l) (at + 8) g, ← e, ne-eqb _ dataName i, eq-eqb _ formatName j, ← f) k
@@ -89,11 +91,13 @@ pub no-riff : (l : List ℕ) {w : ℕ} → 12 ≤ length l → w ≡ wordAt l 0 
 unfolding headingOf
 no-riff l h e n = rw (le-ltb (length l) 12 h, ← e, ne-eqb _ riffName n)
 
-pub no-wave : (l : List ℕ) {w v : ℕ} → 12 ≤ length l → w ≡ wordAt l 0 → w ≡ riffName → v ≡ wordAt l 8 → (v ≡ waveName → ⊥) → Refused NotWave ≡ headingOf l
+pub no-wave : (l : List ℕ) {w v : ℕ} → 12 ≤ length l → w ≡ wordAt l 0 → w ≡ riffName → v ≡ wordAt l 8 → (v ≡ waveName → ⊥)
+    → Refused NotWave ≡ headingOf l
 unfolding headingOf
 no-wave l h e i f n = rw (le-ltb (length l) 12 h, ← e, eq-eqb _ riffName i, ← f, ne-eqb _ waveName n)
 
-pub begins : (l : List ℕ) {w v : ℕ} → 12 ≤ length l → w ≡ wordAt l 0 → w ≡ riffName → v ≡ wordAt l 8 → v ≡ waveName → headingOf l ≡ chunksFrom 32 l 12 false
+pub begins : (l : List ℕ) {w v : ℕ} → 12 ≤ length l → w ≡ wordAt l 0 → w ≡ riffName → v ≡ wordAt l 8 → v ≡ waveName
+    → headingOf l ≡ chunksFrom 32 l 12 false
 unfolding headingOf
 begins l h e i f j = rw (le-ltb (length l) 12 h, ← e, eq-eqb _ riffName i, ← f, eq-eqb _ waveName j)
 

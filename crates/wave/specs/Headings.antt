@@ -2,7 +2,7 @@
 -- Numbers have their low octet first. The format is PCM (1), 1 channel, 8,000 Hz, 16 bits. Other chunks are skipped.
 use Prim.Native.Nat.{ℕ, zero, suc, _+_, _-_, _*_, _/_, _%_}
 use mathlib.Core.Bool.{Bool, true, false, cond, _&&_}
-use mathlib.Core.List.{List, [], _∷_, _++_}
+use mathlib.Core.List.{List, [], _∷_}
 use lib.Dec.{eqb, ltb}
 use lib.ListN.{length, getD}
 use Rattle.wave.specs.declared.Heading.{Heading}

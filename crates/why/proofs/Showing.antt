@@ -20,5 +20,6 @@ unfolding headLine
 head-put k place p q r l m = (puts-then p (puts-then q r), omega (arith, r .place))
 
 pub shown : (frame : List ℕ) (k place law set : ℕ) {n : ℕ} {why : Why} (r : Reasons) {text text′ : List ℕ}
-    → why ≡ whyOne (length frame) frame law set → why ≡ Told r → Puts text 0 (frameText k place r) text′ n → Shows frame k place law set (take n text′)
+    → why ≡ whyOne (length frame) frame law set → why ≡ Told r → Puts text 0 (frameText k place r) text′ n
+    → Shows frame k place law set (take n text′)
 shown frame k place law set r e f p = record { reasons = r; why = sym e ∙ f; says = p .says }

@@ -1,6 +1,6 @@
 // The bench tool `why`: raw G.711 octets in; for each frame that `pack` cuts them into, why the writer takes its tool. What matters is in crates
 // `reasoning` and `reasons`: here the sound is read in parts of whole frames, and each frame's lines are written as it comes.
-ghost use Prim.Native.Nat.{_+_, _*_, _≤_, _<_};
+ghost use Prim.Native.Nat.{_+_, _≤_, _<_};
 ghost use mathlib.Core.Path.{_≡_};
 ghost use lib.ListN.{length};
 ghost use Rattle.lines.specs.Puts.{Puts};

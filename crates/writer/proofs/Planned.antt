@@ -25,13 +25,18 @@ use Rattle.forms.proofs.Form.{zeros-whole, zeros-rice, zeros-binary, rice-form,
 
 -- a frame of the two zeros
 module _ (n : ℕ) (s : List ℕ) (r : Zeros) (row runs : List ℕ) where
-  pub zeros-form : {mask t : ℕ} → length s ≡ n → RowIs (map (flagOf mask 0) s) (n / 40) row → ZerosFor mask t s r runs → zerosForm n s r row runs ≡ formOf mask t s
-  zeros-form {mask} {t} size words p = go (ℕ-discrete (r .tool) 1) (ℕ-discrete (r .tool) 6) ∙ ap (λ (k : ℕ). formOf mask k s) (p .chosen .tool)
+  pub zeros-form : {mask t : ℕ} → length s ≡ n → RowIs (map (flagOf mask 0) s) (n / 40) row → ZerosFor mask t s r runs
+      → zerosForm n s r row runs ≡ formOf mask t s
+  zeros-form {mask} {t} size words p = go (ℕ-discrete (r .tool) 1) (ℕ-discrete (r .tool) 6)
+      ∙ ap (λ (k : ℕ). formOf mask k s) (p .chosen .tool)
     where
       go : Dec (r .tool ≡ 1) → Dec (r .tool ≡ 6) → zerosForm n s r row runs ≡ formOf mask (r .tool) s
-      go (yes e) d = sym (zeros-whole n s r row runs e) ∙ whole-form mask 1 s (omega arith) (omega arith) ∙ ap (λ (k : ℕ). formOf mask k s) (sym e)
-      go (no e) (yes f) = sym (zeros-rice n s r row runs f) ∙ rice-form n s r row runs size (p .rice (sym (p .chosen .tool) ∙ f)) ∙ ap (λ (k : ℕ). formOf mask k s) (sym f)
-      go (no e) (no f) = sym (zeros-binary n s r row runs e f) ∙ binary-form n s r row runs mask size words ∙ ap (λ (k : ℕ). formOf mask k s) (sym (p .kind e f))
+      go (yes e) d = sym (zeros-whole n s r row runs e) ∙ whole-form mask 1 s (omega arith) (omega arith)
+          ∙ ap (λ (k : ℕ). formOf mask k s) (sym e)
+      go (no e) (yes f) = sym (zeros-rice n s r row runs f) ∙ rice-form n s r row runs size (p .rice (sym (p .chosen .tool) ∙ f))
+          ∙ ap (λ (k : ℕ). formOf mask k s) (sym f)
+      go (no e) (no f) = sym (zeros-binary n s r row runs e f) ∙ binary-form n s r row runs mask size words
+          ∙ ap (λ (k : ℕ). formOf mask k s) (sym (p .kind e f))
 
 -- value-location, where it was chosen
 module _ (n : ℕ) (s : List ℕ) (r : Located) (a b c : List ℕ) where
@@ -51,7 +56,8 @@ last-chosen {mask} {set} {s} p e =
     }
 
 -- fractional-bit, where it was chosen
-module _ (mask set n : ℕ) (s : List ℕ) (last : Last) (size : length s ≡ n) (p : LastIs mask set s last) (eleven : last .choice .tool ≡ 11) where
+module _ (mask set n : ℕ) (s : List ℕ) (last : Last) (size : length s ≡ n) (p : LastIs mask set s last)
+    (eleven : last .choice .tool ≡ 11) where
   pub row-form : lowBits 8 (firstCode n + last .row) ++ fractionalBody mask (last .row) s ≡ formOf mask 11 s
   unfolding formOf fractionalForm
   row-form = rw (p .row eleven .0, ← size) refl

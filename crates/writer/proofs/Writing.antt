@@ -34,12 +34,15 @@ refused-writes t = record { end = t .end; octets = t .octets; bits = t .bits; to
 pub writes-as : {v w : Write} {r : WriteAnswer} {out out′ : List ℕ} → Writes v r out out′ → v ≡ w → Writes w r out out′
 writes-as {v} {w} {r} {out} {out′} h e = rw e at h
 
-pub no-room : (w : Written) {r : WriteAnswer} {out : List ℕ} → length out < octetsFor (length (w .bits)) → Tells (declined Room) r → Writes (fitting (length out) w) r out out
+pub no-room : (w : Written) {r : WriteAnswer} {out : List ℕ} → length out < octetsFor (length (w .bits)) → Tells (declined Room) r
+    → Writes (fitting (length out) w) r out out
 unfolding fitting
 no-room w {r} {out} h t = rw (lt-ltb (length out) (octetsFor (length (w .bits))) h) (refused-writes t)
 
-pub all-written : (w : Written) {r : WriteAnswer} {out out′ : List ℕ} {n b t : ℕ} → octetsFor (length (w .bits)) ≤ length out → Packed (w .bits) out out′ n
-    → b ≡ length (w .bits) → t ≡ w .tool → r ≡ record { end = Done; octets = n; bits = b; tool = t } → Writes (fitting (length out) w) r out out′
+pub all-written : (w : Written) {r : WriteAnswer} {out out′ : List ℕ} {n b t : ℕ} → octetsFor (length (w .bits)) ≤ length out
+    → Packed (w .bits) out out′ n
+    → b ≡ length (w .bits) → t ≡ w .tool → r ≡ record { end = Done; octets = n; bits = b; tool = t }
+    → Writes (fitting (length out) w) r out out′
 unfolding fitting
 all-written w {r} {out} {out′} {n} h p size tool told =
     let k : n ≡ length (pack (w .bits)) = p .size ∙ sym (length-pack (w .bits)) in
@@ -48,13 +51,15 @@ all-written w {r} {out} {out′} {n} h p size tool told =
 
 -- the same of a form by its bits: where the octets for them are no more than the room, it fits and is written
 module _ (w : Written) {bits need : ℕ} (size : bits ≡ length (w .bits)) (octets : need ≡ octetsFor bits) where
-  pub form-refused : {r : WriteAnswer} {out : List ℕ} → length out < need → Tells (declined Room) r → Writes (fitting (length out) w) r out out
+  pub form-refused : {r : WriteAnswer} {out : List ℕ} → length out < need → Tells (declined Room) r
+      → Writes (fitting (length out) w) r out out
   form-refused h t = no-room w (omega arith) t
 
   pub form-fits : {form : List ℕ} {room : ℕ} → form ≡ w .bits → need ≤ room → length form ≤ 8 * room
   form-fits e h = rw e (omega arith)
 
-  pub form-written : {form out out′ : List ℕ} {n t : ℕ} {r : WriteAnswer} → form ≡ w .bits → need ≤ length out → Packed form out out′ n → t ≡ w .tool
+  pub form-written : {form out out′ : List ℕ} {n t : ℕ} {r : WriteAnswer} → form ≡ w .bits → need ≤ length out
+      → Packed form out out′ n → t ≡ w .tool
       → r ≡ record { end = Done; octets = n; bits = bits; tool = t } → Writes (fitting (length out) w) r out out′
   form-written e h p tool told = all-written w (omega arith) (rw e at p) size tool told
 
@@ -77,9 +82,11 @@ set-first (x ∷ l) n = refl
 -- a form that is settled, and one that is measured, are the chosen form
 pub plain-full : (mask set t : ℕ) (s : List ℕ) → t ≡ chosenTool mask set s → 1 ≤ t → t ≤ 4 → plain t s ≡ full mask set s
 plain-full mask set t s e some most =
-    ap (λ (b : List ℕ). record { tool = t; bits = b }) (whole-form mask t s some most) ∙ ap (λ (k : ℕ). record { tool = k; bits = formOf mask k s }) e
+    ap (λ (b : List ℕ). record { tool = t; bits = b }) (whole-form mask t s some most)
+    ∙ ap (λ (k : ℕ). record { tool = k; bits = formOf mask k s }) e
 
-pub plain-size : {mask t b : ℕ} {s : List ℕ} (set : ℕ) → Chosen mask (chosenTool mask set s) s t b → 1 ≤ t → t ≤ 4 → b ≡ length (bitsOf (wholeOctets t s))
+pub plain-size : {mask t b : ℕ} {s : List ℕ} (set : ℕ) → Chosen mask (chosenTool mask set s) s t b → 1 ≤ t → t ≤ 4
+    → b ≡ length (bitsOf (wholeOctets t s))
 plain-size {mask} {t} {s = s} set c some most =
     c .bits ∙ ap (λ (k : ℕ). length (formOf mask k s)) (sym (c .tool)) ∙ ap length (sym (whole-form mask t s some most))
 
@@ -93,7 +100,8 @@ module _ (n : ℕ) (samples : List ℕ) (law set room : ℕ) (lawful : verdict (
     pub write-length : isLength n ≡ false → declined Length ≡ writeOne n samples law set room
     write-length h = sym (write-allowed n samples law set room lawful ∙ rw (ne-eqb n 0 some, h))
 
-    pub write-full : isLength n ≡ true → n ≤ length samples → fitting room (full (maskOf law) set (take n samples)) ≡ writeOne n samples law set room
+    pub write-full : isLength n ≡ true → n ≤ length samples → fitting room (full (maskOf law) set (take n samples)) ≡ writeOne
+        n samples law set room
     unfolding fitting chosen
     write-full h k =
         let none : eqb (length (take n samples)) 0 ≡ false = ne-eqb _ 0 (λ e. some (sym (length-take-le n samples k) ∙ e)) in

@@ -114,7 +114,14 @@ fn put_last(out: &mut [u8], samples: &[u8], n: usize, mask: u8, set: u32, last: 
 }
 
 // A frame that they are left for.
-fn write_last(out: &mut [u8], samples: &[u8], n: usize, mask: u8, set: u32, last: Last) -> WriteAnswer
+fn write_last(
+    out: &mut [u8],
+    samples: &[u8],
+    n: usize,
+    mask: u8,
+    set: u32,
+    last: Last,
+) -> WriteAnswer
     requires { ⌜ (FrameIn (now samples) n) × (isMask mask ≡ true) ⌝ }
     requires { ⌜ (LastIs mask set (take n (now samples)) last) × (chosenTool mask set (take n (now samples)) ≡ last .choice .tool) ⌝ }
     ensures { λ r. ⌜ Writes (fitting (length (now (out .entry))) (full mask set (take n (now (samples .entry))))) r (now (out .entry)) (now (out .exit)) ⌝ }
@@ -128,7 +135,14 @@ fn write_last(out: &mut [u8], samples: &[u8], n: usize, mask: u8, set: u32, last
 }
 
 // A frame from -2 to 1 that has a 1 or a -2, likewise; what is last in the tie order is known. Value-location asks for 80 samples.
-fn write_located(out: &mut [u8], samples: &[u8], n: usize, mask: u8, set: u32, last: Last) -> WriteAnswer
+fn write_located(
+    out: &mut [u8],
+    samples: &[u8],
+    n: usize,
+    mask: u8,
+    set: u32,
+    last: Last,
+) -> WriteAnswer
     requires { ⌜ (FrameIn (now samples) n) × (isMask mask ≡ true) ⌝ }
     requires { ⌜ (Left mask set (take n (now samples))) × (twoZeros mask (take n (now samples)) ≡ false) ⌝ }
     requires { ⌜ (near (leastOf mask (take n (now samples))) (greatestOf mask (take n (now samples))) ≡ true) × (LastIs mask set (take n (now samples)) last) ⌝ }

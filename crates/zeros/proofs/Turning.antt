@@ -44,7 +44,8 @@ turn-more n w h ih (no p) =
     let q : w - 2 ^ n < 2 ^ n = omega (arith, pow-suc 2 n) in
     let e : w ≡ 1 * 2 ^ n + (w - 2 ^ n) = omega arith in
     let f : 2 ^ suc n - 1 - w ≡ 0 * 2 ^ n + (2 ^ n - 1 - (w - 2 ^ n)) = omega (arith, pow-suc 2 n) in
-    ap (lowBits (suc n)) f ∙ with-top n 0 (2 ^ n - 1 - (w - 2 ^ n)) (omega arith) (omega arith) ∙ ap (λ (l : List ℕ). 0 ∷ l) (ih (w - 2 ^ n) q)
+    ap (lowBits (suc n)) f ∙ with-top n 0 (2 ^ n - 1 - (w - 2 ^ n)) (omega arith) (omega arith)
+    ∙ ap (λ (l : List ℕ). 0 ∷ l) (ih (w - 2 ^ n) q)
     ∙ ap (turnsOf true) (sym (ap (lowBits (suc n)) e ∙ with-top n 1 (w - 2 ^ n) (omega arith) q))
 
 turn-bits : (n w : ℕ) → w < 2 ^ n → lowBits n (2 ^ n - 1 - w) ≡ turnsOf true (lowBits n w)
@@ -68,7 +69,8 @@ pub row-start : (t : Bool) (row : List ℕ) → RowIs (turnsOf t (rowBits (take 
 unfolding rowBits
 row-start t row = row-none
 
-pub row-turn : (t : Bool) (row r : List ℕ) (i w : ℕ) → i < length row → i < 8 → RowIs (turnsOf t (rowBits (take i row))) i r → Gathers (turnsOf t (lowBits 40 (getD row i 0))) 40 w
+pub row-turn : (t : Bool) (row r : List ℕ) (i w : ℕ) → i < length row → i < 8 → RowIs (turnsOf t (rowBits (take i row))) i r
+    → Gathers (turnsOf t (lowBits 40 (getD row i 0))) 40 w
     → RowIs (turnsOf t (rowBits (take (i + 1) row))) (i + 1) (set r i w)
 unfolding rowBits
 row-turn t row r i w h few done g =
@@ -78,20 +80,23 @@ row-turn t row r i w h few done g =
     rw e (row-one (turnsOf t (rowBits (take i row))) (turnsOf t (lowBits 40 (getD row i 0))) r i w done few g)
 
 -- the row of the flags of plus zero is that of binary
-pub row-flags : (mask : ℕ) {n x : ℕ} {samples row : List ℕ} → FrameIn samples n → x ≡ plusZero mask → RowIs (marksOf x 0 1 (take (40 * (n / 40)) samples)) (n / 40) row
+pub row-flags : (mask : ℕ) {n x : ℕ} {samples row : List ℕ} → FrameIn samples n → x ≡ plusZero mask
+    → RowIs (marksOf x 0 1 (take (40 * (n / 40)) samples)) (n / 40) row
     → RowIs (map (flagOf mask 0) (take n samples)) (n / 40) row
 row-flags mask {n} {x} {samples} f e words =
     let whole : 40 * (n / 40) ≡ n = omega (arith, f .whole) in
     rw (ap (λ (k : ℕ). marksOf x 0 1 (take k samples)) whole ∙ ap (λ (z : ℕ). marksOf z 0 1 (take n samples)) e) at words
 
 -- where all samples are p or q, those that are not q are those that are p
-marks-turned : (p q : ℕ) → (p ≡ q → ⊥) → (s : List ℕ) → countOf (λ x. eqb x p || eqb x q) s ≡ length s → turnsOf true (marksOf p 0 1 s) ≡ marksOf q 0 1 s
+marks-turned : (p q : ℕ) → (p ≡ q → ⊥) → (s : List ℕ) → countOf (λ x. eqb x p || eqb x q) s ≡ length s
+    → turnsOf true (marksOf p 0 1 s) ≡ marksOf q 0 1 s
 unfolding countOf
 marks-turned p q ne [] h = refl
 marks-turned p q ne (x ∷ s) h = step (eqb x p) (eqb x q) refl refl h (count-le (λ x. eqb x p || eqb x q) s) (marks-turned p q ne s)
   where
     step : (a b : Bool) → eqb x p ≡ a → eqb x q ≡ b → cond (a || b) 1 0 + countOf (λ x. eqb x p || eqb x q) s ≡ suc (length s)
-        → countOf (λ x. eqb x p || eqb x q) s ≤ length s → (countOf (λ x. eqb x p || eqb x q) s ≡ length s → turnsOf true (marksOf p 0 1 s) ≡ marksOf q 0 1 s)
+        → countOf (λ x. eqb x p || eqb x q) s ≤ length s
+        → (countOf (λ x. eqb x p || eqb x q) s ≡ length s → turnsOf true (marksOf p 0 1 s) ≡ marksOf q 0 1 s)
         → (1 - cond a 0 1) ∷ turnsOf true (marksOf p 0 1 s) ≡ cond b 0 1 ∷ marksOf q 0 1 s
     step true true e f c le ih = absurd (ne (sym (eqb-true x p e) ∙ eqb-true x q f))
     step true false e f c le ih = ap (λ (l : List ℕ). 1 ∷ l) (ih (omega arith))
@@ -103,15 +108,20 @@ pub zero-turned : (mask mark : ℕ) (s : List ℕ) {zero′ : ℕ} → twoZeros 
     → turnsOf (eqb zero′ (minusZero mask)) (marksOf (plusZero mask) 0 1 s) ≡ marksOf zero′ 0 1 s
 zero-turned mask mark s {zero′} zeros told = rw told (go (eqb 0 mark))
   where
-    go : (b : Bool) → turnsOf (eqb (cond b (plusZero mask) (minusZero mask)) (minusZero mask)) (marksOf (plusZero mask) 0 1 s) ≡ marksOf (cond b (plusZero mask) (minusZero mask)) 0 1 s
+    go : (b : Bool) → turnsOf (eqb (cond b (plusZero mask) (minusZero mask)) (minusZero mask)) (marksOf (plusZero mask) 0 1 s) ≡ marksOf
+        (cond b (plusZero mask) (minusZero mask)) 0 1 s
     go true = rw (ne-eqb (plusZero mask) (minusZero mask) (two-zeros mask)) (turns-none (marksOf (plusZero mask) 0 1 s))
-    go false = rw (eq-eqb (minusZero mask) (minusZero mask) refl) (marks-turned (plusZero mask) (minusZero mask) (two-zeros mask) s (eqb-true _ _ zeros))
+    go false = rw (eq-eqb (minusZero mask) (minusZero mask) refl)
+        (marks-turned (plusZero mask) (minusZero mask) (two-zeros mask) s (eqb-true _ _ zeros))
 
 -- and so their runs
-pub turned-runs : (mask mark : ℕ) (s : List ℕ) {k count minus′ zero′ : ℕ} {row flags runs : List ℕ} → twoZeros mask s ≡ true → zero′ ≡ zeroOf mask mark 0 → minus′ ≡ minusZero mask
-    → RowIs (marksOf (plusZero mask) 0 1 s) k row → RowIs (turnsOf (eqb zero′ minus′) (rowBits (take k row))) k flags → RunsAre (rowBits (take k flags)) count runs
+pub turned-runs : (mask mark : ℕ) (s : List ℕ) {k count minus′ zero′ : ℕ} {row flags runs : List ℕ} → twoZeros mask s ≡ true
+    → zero′ ≡ zeroOf mask mark 0 → minus′ ≡ minusZero mask
+    → RowIs (marksOf (plusZero mask) 0 1 s) k row → RowIs (turnsOf (eqb zero′ minus′) (rowBits (take k row))) k flags
+    → RunsAre (rowBits (take k flags)) count runs
     → RunsAre (marksOf zero′ 0 1 s) count runs
 turned-runs mask mark s {minus′ = minus′} {zero′ = zero′} zeros told is-minus row flags found =
-    let e = flags .says ∙ ap (turnsOf (eqb zero′ minus′)) (row .says) ∙ ap (λ (m : ℕ). turnsOf (eqb zero′ m) (marksOf (plusZero mask) 0 1 s)) is-minus
+    let e = flags .says ∙ ap (turnsOf (eqb zero′ minus′)) (row .says)
+    ∙ ap (λ (m : ℕ). turnsOf (eqb zero′ m) (marksOf (plusZero mask) 0 1 s)) is-minus
     ∙ zero-turned mask mark s zeros told in
     rw e at found

@@ -40,7 +40,8 @@ unfolding sampleOf
 two-zeros mask e = omega arith
 
 -- so a frame is of the two zeros where their counts make up its length
-pub zeros-counted : (mask : ℕ) (s : List ℕ) {n plus minus : ℕ} → length s ≡ n → plus ≡ countIs (plusZero mask) s → minus ≡ countIs (minusZero mask) s
+pub zeros-counted : (mask : ℕ) (s : List ℕ) {n plus minus : ℕ} → length s ≡ n → plus ≡ countIs (plusZero mask) s
+    → minus ≡ countIs (minusZero mask) s
     → eqb (plus + minus) n ≡ twoZeros mask s
 zeros-counted mask s size p m = rw (p, m, ← size, either (plusZero mask) (minusZero mask) (two-zeros mask) s)
 
@@ -57,9 +58,15 @@ pub no-rice : {mask set : ℕ} {s runs : List ℕ} {r : Zeros} → holds set 6 �
 no-rice e z = record { rice = λ h. absurd (never (sym e ∙ h)); small = omega arith }
 
 -- all that is not minus zero is plus zero
-pub plus-left : (mask : ℕ) (s : List ℕ) {n minus : ℕ} → twoZeros mask s ≡ true → length s ≡ n → minus ≡ countIs (minusZero mask) s → n - minus ≡ countIs (plusZero mask) s
+pub plus-left : (mask : ℕ) (s : List ℕ) {n minus : ℕ} → twoZeros mask s ≡ true → length s ≡ n → minus ≡ countIs (minusZero mask) s
+    → n - minus ≡ countIs (plusZero mask) s
 plus-left mask s zeros size is-minus =
-    omega (arith, eqb-true (countOf (λ x. eqb x (plusZero mask) || eqb x (minusZero mask)) s) (length s) zeros, is-minus, either (plusZero mask) (minusZero mask) (two-zeros mask) s)
+    omega (
+      arith,
+      eqb-true (countOf (λ x. eqb x (plusZero mask) || eqb x (minusZero mask)) s) (length s) zeros,
+      is-minus,
+      either (plusZero mask) (minusZero mask) (two-zeros mask) s,
+    )
 
 module _ (mask : ℕ) (s : List ℕ) where
   -- the bits of Rice: those before the code of S, the code, and the runs
@@ -73,12 +80,15 @@ module _ (mask : ℕ) (s : List ℕ) where
       let runs = runsForm S (map (flagOf mask (markOf mask s)) s) in
       length-append first′ (code ++ runs) ∙ ap (λ (k : ℕ). length first′ + k) (length-append code runs)
 
-  module _ {n plus minus : ℕ} (size : length s ≡ n) (is-plus : plus ≡ countIs (plusZero mask) s) (is-minus : minus ≡ countIs (minusZero mask) s) where
+  module _ {n plus minus : ℕ} (size : length s ≡ n) (is-plus : plus ≡ countIs (plusZero mask) s)
+      (is-minus : minus ≡ countIs (minusZero mask) s) where
     pub rice-for : {set mark zero′ most start count : ℕ} {runs extra : List ℕ} {least : Least} → mark ≡ cond (ltb plus minus) 1 0
-        → zero′ ≡ zeroOf mask (cond (ltb plus minus) 1 0) 0 → RunsAre (marksOf zero′ 0 1 s) count runs → CodesAre n extra → most ≡ mostS n → most ≤ 9
+        → zero′ ≡ zeroOf mask (cond (ltb plus minus) 1 0) 0 → RunsAre (marksOf zero′ 0 1 s) count runs → CodesAre n extra
+        → most ≡ mostS n → most ≤ 9
         → LeastIs (bitsWith extra (take count runs)) most least → StartIs n start
         → RiceFor mask set s (record { tool = 6; bits = start + least .bits; mark = mark; s = least .s; count = count }) runs
-    rice-for {mark = mark} {zero′ = zero′} {most = most} {start = start} {count = count} {runs = runs} {extra = extra} {least = least} marked zeroed found codes top few best begun =
+    rice-for {mark = mark} {zero′ = zero′} {most = most} {start = start} {count = count} {runs = runs} {extra = extra}
+        {least = least} marked zeroed found codes top few best begun =
         let told : cond (ltb plus minus) 1 0 ≡ markOf mask s = rw (is-plus, is-minus) in
         let m : mark ≡ markOf mask s = marked ∙ told in
         let fs = map (flagOf mask (markOf mask s)) s in
@@ -86,10 +96,12 @@ module _ (mask : ℕ) (s : List ℕ) where
         let r : RunsAre fs count runs = rw f at found in
         let g : bitsWith extra (take count runs) ≡ riceBits mask (markOf mask s) s =
         λ i S.
-        ap₂ _+_ (codes .says S ∙ ap (λ (k : ℕ). length (codeOf k S)) (sym size)) (ap (λ (rs : List ℕ). length (riceForms S rs)) (r .says)) i in
+        ap₂ _+_ (codes .says S ∙ ap (λ (k : ℕ). length (codeOf k S)) (sym size))
+        (ap (λ (rs : List ℕ). length (riceForms S rs)) (r .says)) i in
         let weigh = riceBits mask (markOf mask s) s in
         let b : least .s ≡ bestS mask (markOf mask s) s =
-        best .s ∙ ap (λ (h : ℕ → ℕ). leastFrom h 1 2 (most - 1)) g ∙ ap (λ (k : ℕ). leastFrom weigh 1 2 (k - 1)) (top ∙ ap mostS (sym size)) in
+        best .s ∙ ap (λ (h : ℕ → ℕ). leastFrom h 1 2 (most - 1)) g
+        ∙ ap (λ (k : ℕ). leastFrom weigh 1 2 (k - 1)) (top ∙ ap mostS (sym size)) in
         record {
           rice = λ h.
               record {

@@ -52,7 +52,8 @@ returns-3 : tie.Need-returns-3
 returns-3 c =
     let g = c .before .before .before .before .args in
     let from = length (g .octets .now) - 8 in
-    holds-opened _ (g .at) _ from (g .at - 8 * from) (c .whole-word .ensures) (omega arith) (omega arith) (omega arith) (omega arith) (omega arith)
+    holds-opened _ (g .at) _ from (g .at - 8 * from) (c .whole-word .ensures) (omega arith) (omega arith) (omega arith)
+    (omega arith) (omega arith)
 
 pub hold-last-spec : {M : Type 1} → statement M
 hold-last-spec =

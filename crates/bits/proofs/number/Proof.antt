@@ -26,7 +26,11 @@ missing-requires c κs = search needs
 
 returns-2 : tie.Need-returns-2
 returns-2 c =
-    record { says = rw (c .missing .ensures) (sym (number-cut _ 0 _ _ (omega arith) (omega arith))); value = omega arith; next = omega arith }
+    record {
+      says = rw (c .missing .ensures) (sym (number-cut _ 0 _ _ (omega arith) (omega arith)));
+      value = omega arith;
+      next = omega arith;
+    }
 
 window-at-requires : tie.Need-window-at-requires
 window-at-requires c κs = search needs

@@ -66,7 +66,8 @@ returns c =
     let k = c .before .before .before .before .before .before .before .before .before in
     let p = k .before .args in
     rw (c .eight .ensures)
-    (ahead-eight (p .octets .now) (p .i) (a .ensures) (b .ensures) (d .ensures) (e .ensures) (f .ensures) (g .ensures) (h .ensures) (i .ensures)
+    (ahead-eight (p .octets .now) (p .i) (a .ensures) (b .ensures) (d .ensures) (e .ensures) (f .ensures) (g .ensures)
+    (h .ensures) (i .ensures)
     (λ j. omega (arith, k .shared-slice-known .given j)))
 
 pub part-word-spec : {M : Type 1} → statement M

@@ -1,7 +1,7 @@
 -- The zeros, then the low bits; neither the shift nor the sum loses anything (Shift).
 use borrow.Author.Needs.{needs}
 use native.Mathlib.Omega.{arith}
-use mathlib.Core.Path.{sym, _∙_}
+use mathlib.Core.Path.{sym}
 use Rattle.rules.specs.Runs.{rice}
 use Rattle.bits.proofs.Told.{told, refused}
 use Rattle.bits.proofs.Shift.{fits-rice}
@@ -33,7 +33,8 @@ shl-t17 c = search needs
 
 add-t18 : tie.Need-add-t18
 add-t18 c =
-    let k = told (c .before .before .before .before .before .before .before .zeros .ensures) (c .before .before .before .before .before .k .given .1) in
+    let k = told (c .before .before .before .before .before .before .before .zeros .ensures)
+    (c .before .before .before .before .before .k .given .1) in
     let low = told (c .before .before .before .number .ensures) (c .before .low .given .1) in
     let s = c .before .before .before .before .before .before .before .before .before .args .s in
     let f = fits-rice s (k .value) (low .value) (omega arith) (omega arith) in
@@ -42,12 +43,17 @@ add-t18 c =
 returns : tie.Need-returns
 unfolding rice
 returns c =
-    record { says = sym (rw (refused (c .before .before .before .zeros .ensures) (c .before .why .given .1))); value = omega arith; next = omega arith }
+    record {
+      says = sym (rw (refused (c .before .before .before .zeros .ensures) (c .before .why .given .1)));
+      value = omega arith;
+      next = omega arith;
+    }
 
 returns-2 : tie.Need-returns-2
 unfolding rice
 returns-2 c =
-    let k = told (c .before .before .before .before .before .before .before .zeros .ensures) (c .before .before .before .before .before .k .given .1) in
+    let k = told (c .before .before .before .before .before .before .before .zeros .ensures)
+    (c .before .before .before .before .before .k .given .1) in
     record {
       says = sym (rw (k .says, refused (c .before .before .before .number .ensures) (c .before .why2 .given .1)));
       value = omega arith;
@@ -58,7 +64,8 @@ returns-3 : tie.Need-returns-3
 unfolding rice
 returns-3 c =
     let s = c .before .before .before .before .before .before .before .before .before .args .s in
-    let k = told (c .before .before .before .before .before .before .before .zeros .ensures) (c .before .before .before .before .before .k .given .1) in
+    let k = told (c .before .before .before .before .before .before .before .zeros .ensures)
+    (c .before .before .before .before .before .k .given .1) in
     let low = told (c .before .before .before .number .ensures) (c .before .low .given .1) in
     let f = fits-rice s (k .value) (low .value) (omega arith) (omega arith) in
     record {

@@ -49,7 +49,8 @@ returns c =
     let k = c .before .before .before .before .before .before .before in
     let g = k .before .args in
     rw (c .five .ensures)
-    (ahead-five (g .octets .now) (g .i) (a .ensures) (b .ensures) (d .ensures) (e .ensures) (f .ensures) (λ j. omega (arith, k .shared-slice-known .given j)))
+    (ahead-five (g .octets .now) (g .i) (a .ensures) (b .ensures) (d .ensures) (e .ensures) (f .ensures)
+    (λ j. omega (arith, k .shared-slice-known .given j)))
 
 shared-slice-read-five : tie.Need-shared-slice-read-five
 shared-slice-read-five c = search needs

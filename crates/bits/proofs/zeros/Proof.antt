@@ -1,7 +1,7 @@
 -- Each turn reads a window (ZeroRun); the measure is what is left of the N + 1.
 use borrow.Author.Needs.{needs}
 use Prim.Native.Nat.{_+_, _-_, _≤_}
-use mathlib.Core.Path.{_≡_, refl, sym, _∙_}
+use mathlib.Core.Path.{_≡_, sym, _∙_}
 use native.Mathlib.Omega.{arith}
 use native.Mathlib.Nat.{add-zero, sub-zero}
 use lib.Count.{leading-le}
@@ -75,13 +75,21 @@ returns : tie.Need-returns Inv-loop μ-loop
 returns c =
     let i = c .before .before .before .loop .inv in
     let a = c .before .before .next-bits .ensures in
-    record { says = sym (i .1 ∙ window-run _ _ _ _ a (lead 32 _ (a .small)) (omega arith) (omega arith) (omega arith)); value = omega arith; next = omega arith }
+    record {
+      says = sym (i .1 ∙ window-run _ _ _ _ a (lead 32 _ (a .small)) (omega arith) (omega arith) (omega arith));
+      value = omega arith;
+      next = omega arith;
+    }
 
 returns-2 : tie.Need-returns-2 Inv-loop μ-loop
 returns-2 c =
     let i = c .before .before .before .loop .inv in
     let a = c .before .before .next-bits .ensures in
-    record { says = sym (i .1 ∙ window-one _ _ _ _ a (lead 32 _ (a .small)) (omega arith) (omega arith)); value = omega arith; next = omega arith }
+    record {
+      says = sym (i .1 ∙ window-one _ _ _ _ a (lead 32 _ (a .small)) (omega arith) (omega arith));
+      value = omega arith;
+      next = omega arith;
+    }
 
 returns-3 : tie.Need-returns-3 Inv-loop μ-loop
 returns-3 c =
@@ -89,7 +97,8 @@ returns-3 c =
     let a = c .before .before .before .before .next-bits .ensures in
     let l = c .before .before .least .ensures in
     record {
-      says = rw (c .missing .ensures) (sym (i .1 ∙ window-short _ _ _ _ a (lead 32 _ (a .small)) (omega arith) (omega arith) (omega arith) (omega arith)));
+      says = rw (c .missing .ensures)
+          (sym (i .1 ∙ window-short _ _ _ _ a (lead 32 _ (a .small)) (omega arith) (omega arith) (omega arith) (omega arith)));
       value = omega arith;
       next = omega arith;
     }

@@ -28,7 +28,12 @@ returns c =
     let ahead = c .before .before .before .before .next-bits .ensures in
     let f = c .before .before .before .s-in .ensures in
     record {
-      says = rw (c .missing .ensures, found-number f (ahead .small) _ (a .at) (ahead .same), number-cut (a .octets .now) 0 _ (a .at) (f .some) (omega arith));
+      says = rw (
+        c .missing .ensures,
+        found-number f (ahead .small) _ (a .at) (ahead .same),
+        number-cut (a .octets .now)
+            0 _ (a .at) (f .some) (omega arith),
+      );
       value = omega arith;
       next = omega arith;
     }

@@ -53,7 +53,8 @@ returns-3 c =
     let k = c .before .before .before .before .before .before in
     let s = told (k .before .before .code-of-s .ensures) (k .s .given .1) in
     let m = marks-told (c .before .before .before .runs .ensures) (c .before .next .given .1) in
-    zeros-filled (zeroOf (a .mask) (a .mark)) m (k .before .before .before .before .zero-of .ensures) (k .before .before .before .zero-of2 .ensures)
+    zeros-filled (zeroOf (a .mask) (a .mark)) m (k .before .before .before .before .zero-of .ensures)
+    (k .before .before .before .zero-of2 .ensures)
     (λ flags e. rw (s .says, e)) (omega arith) (omega arith)
 
 pub plus-minus-spec : {M : Type 1} → statement M

@@ -37,7 +37,8 @@ loop-less : tie.Need-loop-less Inv-loop μ-loop
 loop-less c = search needs
 
 loop-again : tie.Need-loop-again Inv-loop μ-loop
-loop-again c = shift-on 64 (c .before .before .before .before .before .loop .inv) (c .before .before .hop .ensures) (omega arith) (omega arith) (omega arith)
+loop-again c = shift-on 64 (c .before .before .before .before .before .loop .inv) (c .before .before .hop .ensures)
+    (omega arith) (omega arith) (omega arith)
 
 same-length : tie.Need-same-length Inv-loop μ-loop
 same-length c = search needs

@@ -30,7 +30,8 @@ returns : tie.Need-returns
 returns c =
     let s = c .before .before .before .before .before .before .before .before .before .args in
     let hops = c .before .before .before .before .before .before .hops in
-    shift-rest (s .block .now) (s .from) (s .to) (s .n) (hops .result) (hops .ensures .0) (hops .kept .0) (omega arith) (omega arith) (omega arith)
+    shift-rest (s .block .now) (s .from) (s .to) (s .n) (hops .result) (hops .ensures .0) (hops .kept .0) (omega arith)
+    (omega arith) (omega arith)
     (c .before .before .nudge .ensures)
 
 pub shift-spec : {M : Type 1} → statement M

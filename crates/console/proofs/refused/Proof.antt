@@ -1,8 +1,7 @@
 use borrow.Author.Needs.{needs}
 use Rattle.texts.proofs.Texts.{laid-fits}
 use lib.Seq.{length-take-le}
-use native.Mathlib.Omega.{arith}
-use mathlib.Core.Path.{_≡_, refl, sym, ap, _∙_}
+use mathlib.Core.Path.{sym}
 use Rattle.console.proofs.refused.Statement.{statement}
 use Rattle.console.proofs.refused.Tie as tie
 
@@ -22,10 +21,14 @@ say-requires : tie.Need-say-requires
 say-requires c κs = search needs
 
 array-share-prefix-name : tie.Need-array-share-prefix-name
-array-share-prefix-name c = laid-fits (c .before .before .before .before .refusal-name .ensures) (c .before .before .before .before .refusal-name .kept .1 .0)
+array-share-prefix-name c = laid-fits (c .before .before .before .before .refusal-name .ensures)
+    (c .before .before .before .before .refusal-name .kept .1 .0)
 
 slice-aggregate-write-all : tie.Need-slice-aggregate-write-all
-slice-aggregate-write-all c = sym (length-take-le _ _ (laid-fits (c .before .before .before .before .before .refusal-name .ensures) (c .before .before .before .before .before .refusal-name .kept .1 .0)))
+slice-aggregate-write-all c =
+    sym (length-take-le _ _
+    (laid-fits (c .before .before .before .before .before .refusal-name .ensures)
+    (c .before .before .before .before .before .refusal-name .kept .1 .0)))
 
 write-all-requires : tie.Need-write-all-requires
 write-all-requires c κs = search needs

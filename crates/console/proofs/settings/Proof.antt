@@ -1,6 +1,5 @@
 use borrow.Author.Needs.{needs}
 use Prim.Native.Nat.{_≤_, _-_}
-use native.Mathlib.Omega.{arith}
 use Rattle.console.proofs.settings.Statement.{statement}
 use Rattle.console.proofs.settings.Tie as tie
 

@@ -1,7 +1,7 @@
 use borrow.Author.Needs.{needs}
 use lib.Seq.{length-take-le}
 use native.Mathlib.Omega.{arith}
-use mathlib.Core.Path.{_≡_, refl, sym, ap, _∙_}
+use mathlib.Core.Path.{sym}
 use Rattle.console.proofs.stop_packing.Statement.{statement}
 use Rattle.console.proofs.stop_packing.Tie as tie
 
@@ -15,7 +15,8 @@ array-share-prefix-text : tie.Need-array-share-prefix-text
 array-share-prefix-text c = search needs
 
 slice-aggregate-write-all : tie.Need-slice-aggregate-write-all
-slice-aggregate-write-all c = sym (length-take-le _ _ (omega (arith, c .before .before .pack-line .ensures .1, c .before .before .pack-line .ensures .0 .size)))
+slice-aggregate-write-all c =
+    sym (length-take-le _ _ (omega (arith, c .before .before .pack-line .ensures .1, c .before .before .pack-line .ensures .0 .size)))
 
 write-all-requires : tie.Need-write-all-requires
 write-all-requires c κs = search needs

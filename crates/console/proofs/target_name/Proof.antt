@@ -1,7 +1,7 @@
 use borrow.Author.Needs.{needs}
 use Rattle.texts.proofs.Texts.{laid-fits}
 use lib.Seq.{length-take-le}
-use mathlib.Core.Path.{_≡_, refl, sym, ap, _∙_}
+use mathlib.Core.Path.{sym}
 use Rattle.console.proofs.target_name.Statement.{statement}
 use Rattle.console.proofs.target_name.Tie as tie
 

@@ -26,7 +26,8 @@ sub-more : tie.Need-sub-more Inv-loop μ-loop
 sub-more c = search needs
 
 loop-holds : tie.Need-loop-holds Inv-loop μ-loop
-loop-holds c = let s = c .before .before .before in fill-start (s .args .sound .now) (s .args .len) (toFill (s .args .len)) (c .plus-zero .result)
+loop-holds c = let s = c .before .before .before in
+    fill-start (s .args .sound .now) (s .args .len) (toFill (s .args .len)) (c .plus-zero .result)
 
 add-sound : tie.Need-add-sound Inv-loop μ-loop
 add-sound c = search needs

@@ -12,7 +12,8 @@ returns : tie.Need-returns
 returns c = room-is-long (c .before .before .args .end) (sym (c .before .number-of .ensures) ∙ omega arith)
 
 returns-2 : tie.Need-returns-2
-returns-2 c = c .before .number-of .ensures ∙ others-stay (c .before .before .args .end) (λ z. absurd (omega (arith, c .before .number-of .ensures, z)))
+returns-2 c = c .before .number-of .ensures
+    ∙ others-stay (c .before .before .args .end) (λ z. absurd (omega (arith, c .before .number-of .ensures, z)))
 
 pub number-for-spec : {M : Type 1} → statement M
 number-for-spec = tie.close (tie.spec number-of-requires returns returns-2)

@@ -9,7 +9,8 @@ use Rattle.filenames.proofs.ending_at.Statement.{statement}
 use Rattle.filenames.proofs.ending_at.Tie as tie
 
 abbrev Inv-loop : tie.InvT-loop
-Inv-loop name none place₀ i₀ place i = (none ≡ length name) × (i ≤ length name) × (place ≤ length name) × (endingAt name ≡ placeFrom none place i (drop i name))
+Inv-loop name none place₀ i₀ place i =
+    (none ≡ length name) × (i ≤ length name) × (place ≤ length name) × (endingAt name ≡ placeFrom none place i (drop i name))
 
 abbrev μ-loop : tie.MeasureT-loop
 μ-loop name none place₀ i₀ place i = length name - i

@@ -36,7 +36,15 @@ unfolding lawOfSound
 returns-3 c =
     let at2 = c .before .before .before in
     let at1 = at2 .before .before .before in
-    rw (← (at1 .before .is-same .ensures), at1 .if1 .left, ← (at2 .before .is-same2 .ensures), at2 .if2 .left, ← (c .before .is-same3 .ensures), c .if3 .taken)
+    rw (
+      ← (at1 .before .is-same .ensures),
+      at1 .if1 .left,
+      ← (at2 .before .is-same2 .ensures),
+      at2 .if2 .left,
+      ←
+          (c .before .is-same3 .ensures),
+      c .if3 .taken,
+    )
 
 slice-aggregate-is-same-4 : tie.Need-slice-aggregate-is-same-4
 slice-aggregate-is-same-4 c = search needs

@@ -22,11 +22,23 @@ is-same-requires-2 c κs = search needs
 returns-2 : tie.Need-returns-2
 unfolding lawOfStream
 returns-2 c =
-    rw (← (c .before .before .before .before .is-same .ensures), c .before .before .before .if1 .left, ← (c .before .is-same2 .ensures), c .if2 .taken)
+    rw (
+      ← (c .before .before .before .before .is-same .ensures),
+      c .before .before .before .if1 .left,
+      ←
+          (c .before .is-same2 .ensures),
+      c .if2 .taken,
+    )
 
 returns-3 : tie.Need-returns-3
 unfolding lawOfStream
-returns-3 c = rw (← (c .before .before .before .before .is-same .ensures), c .before .before .before .if1 .left, ← (c .before .is-same2 .ensures), c .if2 .left)
+returns-3 c = rw (
+  ← (c .before .before .before .before .is-same .ensures),
+  c .before .before .before .if1 .left,
+  ←
+      (c .before .is-same2 .ensures),
+  c .if2 .left,
+)
 
 pub law-of-stream-spec : {M : Type 1} → statement M
 law-of-stream-spec =

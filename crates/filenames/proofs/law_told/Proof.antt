@@ -1,5 +1,5 @@
 use borrow.Author.Needs.{needs}
-use Rattle.texts.proofs.Texts.{part-left}
+use Rattle.rules.proofs.Lent.{from-on}
 use lib.ListN.{drop}
 use Prim.Native.Nat.{ℕ}
 use Rattle.filenames.specs.Names.{lawTold, lawOfSound, lawOfStream}
@@ -28,7 +28,7 @@ returns c =
     let a = c .before .before .before .before .before .args in
     let e = c .before .before .before .ending-at in
     rw (c .before .before .if1 .taken) (c .law-of-sound .ensures
-    ∙ ap lawOfSound (part-left (a .name .now) (e .result) ∙ ap (λ (n : ℕ). drop n (a .name .now)) (e .ensures .0)))
+    ∙ ap lawOfSound (from-on (a .name .now) (e .result) ∙ ap (λ (n : ℕ). drop n (a .name .now)) (e .ensures .0)))
 
 sub-law-of-stream : tie.Need-sub-law-of-stream
 sub-law-of-stream c = search needs
@@ -48,7 +48,7 @@ returns-2 c =
     let a = c .before .before .before .before .before .args in
     let e = c .before .before .before .ending-at in
     rw (c .before .before .if1 .left) (c .law-of-stream .ensures
-    ∙ ap lawOfStream (part-left (a .name .now) (e .result) ∙ ap (λ (n : ℕ). drop n (a .name .now)) (e .ensures .0)))
+    ∙ ap lawOfStream (from-on (a .name .now) (e .result) ∙ ap (λ (n : ℕ). drop n (a .name .now)) (e .ensures .0)))
 
 pub law-told-spec : {M : Type 1} → statement M
 law-told-spec =

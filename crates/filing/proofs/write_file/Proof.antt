@@ -57,7 +57,8 @@ returns-2 c =
     let t = c .before .before .before .before in
     let a = t .before .before .before .before .args in
     let e = sym (t .guard-writer .ensures) ∙ c .before .before .why .given .1 in
-    declined-as (c .refused .ensures) (file-refused (a .samples .now) (a .cells .now) (a .law) (a .set) (length (a .out .now)) e) (a .out .now)
+    declined-as (c .refused .ensures) (file-refused (a .samples .now) (a .cells .now) (a .law) (a .set) (length (a .out .now)) e)
+    (a .out .now)
 
 same-length : tie.Need-same-length
 same-length c = search needs
@@ -67,7 +68,8 @@ returns-3 c =
     let t = c .before .before .before .before .before .before in
     let a = t .before .before .before .before .before .before .args in
     let e = sym (t .before .before .guard-writer .ensures) ∙ t .enum-told .given .1 in
-    written-as (file-given (a .samples .now) (a .cells .now) (a .law) (a .set) (length (a .out .now)) e) (c .before .before .write-given .ensures)
+    written-as (file-given (a .samples .now) (a .cells .now) (a .law) (a .set) (length (a .out .now)) e)
+    (c .before .before .write-given .ensures)
 
 pub write-file-spec : {M : Type 1} → statement M
 write-file-spec =

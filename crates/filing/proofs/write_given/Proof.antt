@@ -81,7 +81,8 @@ put-items-requires c κs =
     let s = t .before .before .before .before .before .before .before in
     let m = t .octets-to-judge .ensures in
     let p = rw (w .before .before .before .heading-of .ensures) at (w .put-word .ensures) in
-    let quiet = ap (λ x. replicate 320 x) (t .before .before .plus-plus .ensures ∙ ap plusPlus (t .before .before .before .mask-of .ensures)) in
+    let quiet = ap (λ x. replicate 320 x)
+    (t .before .before .plus-plus .ensures ∙ ap plusPlus (t .before .before .before .mask-of .ensures)) in
     (s .pre .1, ((s .pre .0, quiet), omega (arith, m .room-for (omega arith) (omega arith), p .place, p .size)))
 
 same-length : tie.Need-same-length
@@ -95,7 +96,8 @@ returns-3 c =
     let a = s .args in
     let m = t .octets-to-judge .ensures in
     let p = rw (w .before .before .before .heading-of .ensures) at (w .put-word .ensures) in
-    file-written (a .samples .now) (a .cells .now) (a .law) (a .set) (s .pre .1) (m .short (omega arith)) (m .room-for (omega arith) (omega arith)) p
+    file-written (a .samples .now) (a .cells .now) (a .law) (a .set) (s .pre .1) (m .short (omega arith))
+    (m .room-for (omega arith) (omega arith)) p
     (c .before .before .put-items .ensures)
 
 pub write-given-spec : {M : Type 1} → statement M

@@ -30,13 +30,18 @@ no-runs-requires-3 c κs = search needs
 
 loop-holds : tie.Need-loop-holds Inv-loop μ-loop
 loop-holds c =
-    let s = c .before .before .before .before in
-    (omega arith, tracks-none (s .args .x) (s .args .y) (s .args .z) (c .before .before .no-runs .ensures) (c .before .no-runs2 .ensures) (c .no-runs3 .ensures) (s .pre .1 .1 .0) (s .pre .1 .1 .1 .0) (s .pre .1 .1 .1 .1))
+    let s = c .before .before .before .before in (
+      omega arith,
+      tracks-none (s .args .x) (s .args .y) (s .args .z) (c .before .before .no-runs .ensures)
+          (c .before .no-runs2 .ensures) (c .no-runs3 .ensures) (s .pre .1 .1 .0) (s .pre .1 .1 .1 .0) (s .pre .1 .1 .1 .1),
+    )
 
 word-found-requires : tie.Need-word-found-requires Inv-loop μ-loop
 word-found-requires c κs =
-    let s = c .before .before .before .before .before .before .before .before .before in
-    ((omega arith, (omega arith, record { first = s .pre .1 .0 .0; second = s .pre .1 .0 .1 .0; third = s .pre .1 .0 .1 .1 })), c .before .before .before .before .loop .inv .1)
+    let s = c .before .before .before .before .before .before .before .before .before in (
+      (omega arith, (omega arith, record { first = s .pre .1 .0 .0; second = s .pre .1 .0 .1 .0; third = s .pre .1 .0 .1 .1 })),
+      c .before .before .before .before .loop .inv .1,
+    )
 
 add-i : tie.Need-add-i Inv-loop μ-loop
 add-i c = search needs
@@ -76,7 +81,8 @@ returns c =
     let l = c .before .before .before .before .before .before .before .before .before .before .loop in
     let s = c .before .before .before .before .before .before .before .before .before .before .before .before .before .before .before in
     let e : l .i ≡ s .args .k = omega arith in
-    tracks-end (rw e at (l .inv .1)) (omega arith) (c .before .before .before .before .close-last .ensures) (c .before .before .close-last2 .ensures) (c .close-last3 .ensures)
+    tracks-end (rw e at (l .inv .1)) (omega arith) (c .before .before .before .before .close-last .ensures)
+    (c .before .before .close-last2 .ensures) (c .close-last3 .ensures)
 
 pub found-in-spec : {M : Type 1} → statement M
 found-in-spec =

@@ -22,7 +22,8 @@ skip-requires-2 c κs = search needs
 returns : tie.Need-returns
 returns c =
     let s = c .before .before .before .before .before .before .before .before .before .before in
-    mark-first (s .args .samples .now) (s .pre .0 .1) (s .pre .0 .0) (s .pre .1) (c .before .before .before .before .if1 .taken) (c .before .before .close .ensures) (c .before .skip .ensures) (c .skip2 .ensures)
+    mark-first (s .args .samples .now) (s .pre .0 .1) (s .pre .0 .0) (s .pre .1) (c .before .before .before .before .if1 .taken)
+    (c .before .before .close .ensures) (c .before .skip .ensures) (c .skip2 .ensures)
 
 close-requires-2 : tie.Need-close-requires-2
 close-requires-2 c κs = search needs
@@ -33,7 +34,8 @@ skip-requires-3 c κs = search needs
 returns-2 : tie.Need-returns-2
 returns-2 c =
     let s = c .before .before .before .before .before .before .before .before .before .before in
-    mark-second (s .args .samples .now) (s .pre .0 .1) (s .pre .0 .0) (s .pre .1) (c .before .before .before .before .if1 .left) (c .before .before .before .if2 .taken) (c .before .close2 .ensures) (c .skip3 .ensures)
+    mark-second (s .args .samples .now) (s .pre .0 .1) (s .pre .0 .0) (s .pre .1) (c .before .before .before .before .if1 .left)
+    (c .before .before .before .if2 .taken) (c .before .close2 .ensures) (c .skip3 .ensures)
 
 close-requires-3 : tie.Need-close-requires-3
 close-requires-3 c κs = search needs
@@ -41,12 +43,14 @@ close-requires-3 c κs = search needs
 returns-3 : tie.Need-returns-3
 returns-3 c =
     let s = c .before .before .before .before .before .before .before .before .before .before in
-    mark-third (s .args .samples .now) (s .pre .0 .1) (s .pre .0 .0) (s .pre .1) (c .before .before .before .before .if1 .left) (c .before .before .before .if2 .left) (c .before .before .if3 .taken) (c .close3 .ensures)
+    mark-third (s .args .samples .now) (s .pre .0 .1) (s .pre .0 .0) (s .pre .1) (c .before .before .before .before .if1 .left)
+    (c .before .before .before .if2 .left) (c .before .before .if3 .taken) (c .close3 .ensures)
 
 returns-4 : tie.Need-returns-4
 returns-4 c =
     let s = c .before .before .before .before .before .before .before .before in
-    mark-none (s .args .samples .now) (s .pre .0 .1) (s .pre .0 .0) (s .pre .1) (c .before .before .if1 .left) (c .before .if2 .left) (c .if3 .left)
+    mark-none (s .args .samples .now) (s .pre .0 .1) (s .pre .0 .0) (s .pre .1) (c .before .before .if1 .left)
+    (c .before .if2 .left) (c .if3 .left)
 
 pub mark-spec : {M : Type 1} → statement M
 mark-spec =

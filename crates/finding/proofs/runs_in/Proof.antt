@@ -25,8 +25,11 @@ no-runs-requires c κs = search needs
 
 loop-holds : tie.Need-loop-holds Inv-loop μ-loop
 loop-holds c =
-    let s = c .before in
-    (omega arith, row-track-none (s .args .row .now) (s .args .runs .now) _ (c .no-runs .ensures .0) (c .no-runs .ensures .1) (s .pre .0 .1 .1))
+    let s = c .before in (
+      omega arith,
+      row-track-none (s .args .row .now) (s .args .runs .now) _ (c .no-runs .ensures .0) (c .no-runs .ensures .1)
+          (s .pre .0 .1 .1),
+    )
 
 word-runs-requires : tie.Need-word-runs-requires Inv-loop μ-loop
 word-runs-requires c κs =

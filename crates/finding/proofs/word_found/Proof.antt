@@ -27,7 +27,8 @@ word-at-requires c κs = search needs
 loop-holds : tie.Need-loop-holds Inv-loop μ-loop
 loop-holds c =
     let s = c .before .before in
-    samples-first (s .args .plus) (s .args .x) (s .args .y) (s .args .z) (s .args .samples .now) (s .args .t) (s .args .a .now) (s .args .b .now) (s .args .c .now) (s .args .i) (c .word-at .result) (c .word-at .ensures) (s .pre .1)
+    samples-first (s .args .plus) (s .args .x) (s .args .y) (s .args .z) (s .args .samples .now) (s .args .t) (s .args .a .now)
+    (s .args .b .now) (s .args .c .now) (s .args .i) (c .word-at .result) (c .word-at .ensures) (s .pre .1)
 
 top-of-requires : tie.Need-top-of-requires Inv-loop μ-loop
 top-of-requires c κs = search needs
@@ -49,8 +50,11 @@ mark-requires c κs =
     let s = c .before .before .before .before .before .before .before .before in
     let l = c .before .before .before .before .before .loop in
     let top = c .before .before .before .top-of in
-    let h = samples-place (s .pre .0 .1 .1) (omega arith) (l .inv) (top .result) (top .ensures .0) in
-    ((omega arith, omega arith), samples-here (s .pre .0 .1 .1) (omega arith) (l .inv) (top .result) _ (top .ensures .0) (top .ensures .1 .0) (omega (arith, h)))
+    let h = samples-place (s .pre .0 .1 .1) (omega arith) (l .inv) (top .result) (top .ensures .0) in (
+      (omega arith, omega arith),
+      samples-here (s .pre .0 .1 .1) (omega arith) (l .inv) (top .result) _ (top .ensures .0)
+          (top .ensures .1 .0) (omega (arith, h)),
+    )
 
 shl-w : tie.Need-shl-w Inv-loop μ-loop
 shl-w c = search needs
@@ -59,7 +63,8 @@ sub-w : tie.Need-sub-w Inv-loop μ-loop
 sub-w c = let top = c .before .before .before .before .top-of in rw (one-at _ (top .ensures .1 .1)) (top .ensures .0)
 
 loop-less : tie.Need-loop-less Inv-loop μ-loop
-loop-less c = let top = c .before .before .before .before .top-of in rw (one-at _ (top .ensures .1 .1)) (omega (arith, top .ensures .0, pow-pos (top .result)))
+loop-less c = let top = c .before .before .before .before .top-of in
+    rw (one-at _ (top .ensures .1 .1)) (omega (arith, top .ensures .0, pow-pos (top .result)))
 
 loop-again : tie.Need-loop-again Inv-loop μ-loop
 loop-again c =
@@ -67,7 +72,9 @@ loop-again c =
     let l = c .before .before .before .before .before .before .loop in
     let top = c .before .before .before .before .top-of in
     let h = samples-place (s .pre .0 .1 .1) (omega arith) (l .inv) (top .result) (top .ensures .0) in
-    rw (one-at _ (top .ensures .1 .1)) (samples-next (s .pre .0 .1 .1) (omega arith) (l .inv) (top .result) _ (top .ensures .0) (top .ensures .1 .0) (omega (arith, h)) (s .pre .0 .1 .0) (c .mark .ensures))
+    rw (one-at _ (top .ensures .1 .1))
+    (samples-next (s .pre .0 .1 .1) (omega arith) (l .inv) (top .result) _ (top .ensures .0) (top .ensures .1 .0)
+    (omega (arith, h)) (s .pre .0 .1 .0) (c .mark .ensures))
 
 returns : tie.Need-returns Inv-loop μ-loop
 returns c = samples-last (c .before .before .before .before .pre .0 .1 .1) (omega arith) (c .before .loop .inv) (omega arith)

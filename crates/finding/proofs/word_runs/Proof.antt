@@ -25,7 +25,8 @@ element-copy-out-w : tie.Need-element-copy-out-w Inv-loop μ-loop
 element-copy-out-w c = search needs
 
 loop-holds : tie.Need-loop-holds Inv-loop μ-loop
-loop-holds c = let s = c .before in in-first (s .args .row .now) (s .args .runs .now) (s .args .t) (s .args .i) (omega arith) (s .pre .0 .1 .1) (s .pre .1)
+loop-holds c = let s = c .before in in-first (s .args .row .now) (s .args .runs .now) (s .args .t) (s .args .i) (omega arith)
+    (s .pre .0 .1 .1) (s .pre .1)
 
 top-of-requires : tie.Need-top-of-requires Inv-loop μ-loop
 top-of-requires c κs = search needs
@@ -52,14 +53,17 @@ sub-w : tie.Need-sub-w Inv-loop μ-loop
 sub-w c = rw (one-at _ (c .before .before .top-of .ensures .1 .1)) (c .before .before .top-of .ensures .0)
 
 loop-less : tie.Need-loop-less Inv-loop μ-loop
-loop-less c = let h = c .before .before .top-of .ensures in rw (one-at _ (h .1 .1)) (omega (arith, h .0, pow-pos (c .before .before .top-of .result)))
+loop-less c = let h = c .before .before .top-of .ensures in
+    rw (one-at _ (h .1 .1)) (omega (arith, h .0, pow-pos (c .before .before .top-of .result)))
 
 loop-again : tie.Need-loop-again Inv-loop μ-loop
 loop-again c =
     let n = c .before .before .before .before .loop .inv in
     let h = c .before .before .top-of .ensures in
     let p = in-place n _ (omega arith) (h .0) in
-    rw (one-at _ (h .1 .1)) (in-one n (c .before .before .top-of .result) _ (omega arith) (omega arith) (h .0) (h .1 .0) (omega (arith, p .0)) (c .close .ensures))
+    rw (one-at _ (h .1 .1))
+    (in-one n (c .before .before .top-of .result) _ (omega arith) (omega arith) (h .0) (h .1 .0) (omega (arith, p .0))
+    (c .close .ensures))
 
 returns : tie.Need-returns Inv-loop μ-loop
 returns c = in-last (c .before .loop .inv) (omega arith) (omega arith)

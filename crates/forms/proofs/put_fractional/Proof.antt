@@ -1,6 +1,6 @@
 use borrow.Author.Needs.{needs}
-use Prim.Native.Nat.{ℕ, _+_, _*_, _/_, _≤_, _<_}
-use mathlib.Core.Path.{_≡_, sym, ap, ap₂, _∙_}
+use Prim.Native.Nat.{ℕ, _+_, _/_, _≤_}
+use mathlib.Core.Path.{_≡_, ap, ap₂, _∙_}
 use mathlib.Core.List.{List, _++_}
 use mathlib.Core.Bool.{Bool, true, false, cond}
 use native.Mathlib.Omega.{arith}
@@ -55,8 +55,10 @@ add-put c = search needs
 put-requires : tie.Need-put-requires
 put-requires c κs =
     let s = c .before .before .before .before .before .before in
-    let f = fresh-is (c .before .before .before .fresh .ensures) in
-    (fresh-able f (omega (arith, s .pre .1 .1, sizes s)), (omega arith, omega (arith, c .wide .ensures .0, c .before .first-code .ensures, first-small (s .args .n), s .pre .0 .2)))
+    let f = fresh-is (c .before .before .before .fresh .ensures) in (
+      fresh-able f (omega (arith, s .pre .1 .1, sizes s)),
+      (omega arith, omega (arith, c .wide .ensures .0, c .before .first-code .ensures, first-small (s .args .n), s .pre .0 .2)),
+    )
 
 row-at-requires : tie.Need-row-at-requires
 row-at-requires c κs = c .before .before .before .before .before .before .before .before .before .pre .0 .2
@@ -73,23 +75,32 @@ module _ (c : tie.After-row-at) where
   new = fresh-is (c .before .before .before .before .before .before .before .fresh .ensures)
 
   code-is : c .before .before .before .before .wide .result + start .args .k ≡ code start
-  code-is = ap (λ (x : ℕ). x + start .args .k) (c .before .before .before .before .wide .ensures .0 ∙ c .before .before .before .before .before .first-code .ensures)
+  code-is = ap (λ (x : ℕ). x + start .args .k)
+      (c .before .before .before .before .wide .ensures .0 ∙ c .before .before .before .before .before .first-code .ensures)
 
   fit : DigitsFit (start .args .mask) row (take (start .args .n) (start .args .samples .now))
-  fit = digits-fit-row (law-for (start .args .mask) (start .pre .0 .1)) (start .args .k) (start .pre .0 .2) (c .row-at .ensures) (take (start .args .n) (start .args .samples .now)) (start .pre .1 .0)
+  fit = digits-fit-row (law-for (start .args .mask) (start .pre .0 .1)) (start .args .k) (start .pre .0 .2) (c .row-at .ensures)
+      (take (start .args .n) (start .args .samples .now)) (start .pre .1 .0)
 
-  body-is : groupsForm (row .radix) (groupOf (row .radix)) (bitsFor (row .radix)) (start .args .n / groupOf (row .radix)) (digitsIn (start .args .mask) row (take (start .args .n) (start .args .samples .now))) ≡ body start
+  body-is : groupsForm (row .radix) (groupOf (row .radix)) (bitsFor (row .radix)) (start .args .n / groupOf (row .radix))
+      (digitsIn (start .args .mask) row (take (start .args .n) (start .args .samples .now))) ≡ body start
   body-is =
-      body-told (law-for (start .args .mask) (start .pre .0 .1)) (start .args .k) (start .pre .0 .2) (c .row-at .ensures) (take (start .args .n) (start .args .samples .now)) (start .pre .1 .0)
+      body-told (law-for (start .args .mask) (start .pre .0 .1)) (start .args .k) (start .pre .0 .2) (c .row-at .ensures)
+      (take (start .args .n) (start .args .samples .now)) (start .pre .1 .0)
       (cells-length (start .pre .0 .0))
 
 put-body-requires : tie.Need-put-body-requires
 put-body-requires c κs =
     let r = c .before in
     let s = start r in
-    let put = r .before .before .before .put in
-    (s .pre .0 .0, (fit r, able-then _ (fresh-able (new r) (s .pre .1 .1)) (put .ensures) (put .kept .0)
-    (omega (arith, sizes s, ap length (body-is r), length-lowBits 8 (r .before .before .before .before .wide .result + s .args .k)))))
+    let put = r .before .before .before .put in (
+      s .pre .0 .0,
+      (
+        fit r,
+        able-then _ (fresh-able (new r) (s .pre .1 .1)) (put .ensures) (put .kept .0)
+            (omega (arith, sizes s, ap length (body-is r), length-lowBits 8 (r .before .before .before .before .wide .result + s .args .k))),
+      ),
+    )
 
 finish-requires : tie.Need-finish-requires
 finish-requires c κs =
@@ -106,7 +117,8 @@ same-length c = search needs
 returns : tie.Need-returns
 returns c =
     let r = c .before .before .before .before .before .before .before .before in
-    packed (new r) (puts-as (puts-then (r .before .before .before .put .ensures) (c .before .before .before .before .before .before .put-body .ensures))
+    packed (new r) (puts-as
+    (puts-then (r .before .before .before .put .ensures) (c .before .before .before .before .before .before .put-body .ensures))
     (ap₂ _++_ (ap (lowBits 8) (code-is r)) (body-is r))) (c .before .before .finish .ensures)
 
 pub put-fractional-spec : {M : Type 1} → statement M

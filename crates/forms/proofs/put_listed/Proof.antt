@@ -19,7 +19,8 @@ abbrev μ-loop : tie.MeasureT-loop
 μ-loop out₀ runs count w q₀ at₀ j₀ out q at j = count - j
 
 loop-holds : tie.Need-loop-holds Inv-loop μ-loop
-loop-holds c = listed-start (c .before .args .w) (take (c .before .args .count) (c .before .args .runs .now)) (c .before .pre .1 .1) (c .before .pre .1 .0)
+loop-holds c = listed-start (c .before .args .w) (take (c .before .args .count) (c .before .args .runs .now))
+    (c .before .pre .1 .1) (c .before .pre .1 .0)
 
 mul-long : tie.Need-mul-long Inv-loop μ-loop
 mul-long c = search needs
@@ -42,14 +43,26 @@ put-requires c κs =
     let l = c .before .before .before .before .loop in
     let h = c .before .before .before .loop-test .taken in
     let long : s .args .count ≤ length (s .args .runs .now) = omega (arith, s .pre .0 .1 .0, s .pre .0 .1 .1) in
-    let able = listed-able (s .args .w) (s .args .count) (s .args .runs .now) (l .inv) h long (c .before .long .ensures .0) (s .pre .1 .1) in
-    (able, (omega (arith, s .pre .0 .0), listed-fits (s .args .w) (s .args .count) (s .args .runs .now) (l .inv) h long (c .before .long .ensures .0)))
+    let able = listed-able (s .args .w) (s .args .count) (s .args .runs .now) (l .inv) h long (c .before .long .ensures .0)
+    (s .pre .1 .1) in (
+      able,
+      (
+        omega (arith, s .pre .0 .0),
+        listed-fits (s .args .w) (s .args .count) (s .args .runs .now) (l .inv) h long
+            (c .before .long .ensures .0),
+      ),
+    )
 
 add-at : tie.Need-add-at Inv-loop μ-loop
 add-at c =
     let s = c .before .before .before .before .before .before .before .before .before in
     let few : 2 ^ (s .args .w) ≤ 2 ^ 9 = pow-mono {j = 9} (s .pre .0 .0) in
-    omega (arith, c .before .before .before .before .before .before .before .loop .inv .small, c .before .before .before .before .long .ensures .1)
+    omega (
+      arith,
+      c .before .before .before .before .before .before .before .loop .inv .small,
+      c .before .before .before
+          .before .long .ensures .1,
+    )
 
 add-j : tie.Need-add-j Inv-loop μ-loop
 add-j c = search needs
@@ -63,7 +76,8 @@ loop-again c =
     let l = c .before .before .before .before .before .before .before .loop in
     let h = c .before .before .before .before .before .before .loop-test .taken in
     let put = c .before .before .put in
-    listed-then (s .args .w) (s .args .count) (s .args .runs .now) (l .inv) h (omega (arith, s .pre .0 .1 .0, s .pre .0 .1 .1)) (c .before .before .before .before .long .ensures .0) (put .ensures) (put .kept .0)
+    listed-then (s .args .w) (s .args .count) (s .args .runs .now) (l .inv) h (omega (arith, s .pre .0 .1 .0, s .pre .0 .1 .1))
+    (c .before .before .before .before .long .ensures .0) (put .ensures) (put .kept .0)
 
 same-length : tie.Need-same-length Inv-loop μ-loop
 same-length c = search needs
@@ -72,7 +86,8 @@ returns : tie.Need-returns Inv-loop μ-loop
 returns c =
     let s = c .before .before .before in
     let l = take (s .args .count) (s .args .runs .now) in
-    listed-done (s .args .w) l (c .before .loop .inv) (omega (arith, length-take-le (s .args .count) (s .args .runs .now) (omega (arith, s .pre .0 .1 .0, s .pre .0 .1 .1))))
+    listed-done (s .args .w) l (c .before .loop .inv)
+    (omega (arith, length-take-le (s .args .count) (s .args .runs .now) (omega (arith, s .pre .0 .1 .0, s .pre .0 .1 .1))))
 
 pub put-listed-spec : {M : Type 1} → statement M
 put-listed-spec =

@@ -32,8 +32,11 @@ put-located-body-requires : tie.Need-put-located-body-requires
 put-located-body-requires c κs =
     let s = c .before .before .before .before .before .before .before in
     let f = fresh-is (c .before .before .before .before .before .fresh .ensures) in
-    let put = c .before .before .before .put-prefix in
-    (s .pre .0, able-then _ (fresh-able f (s .pre .1)) (put .ensures) (put .kept .0) (omega (arith, length-lowBits 8 (octetFor 7 (s .args .n)), sizes s)))
+    let put = c .before .before .before .put-prefix in (
+      s .pre .0,
+      able-then _ (fresh-able f (s .pre .1)) (put .ensures) (put .kept .0)
+          (omega (arith, length-lowBits 8 (octetFor 7 (s .args .n)), sizes s)),
+    )
 
 finish-requires : tie.Need-finish-requires
 finish-requires c κs =
@@ -49,7 +52,8 @@ same-length c = search needs
 returns : tie.Need-returns
 returns c =
     let f = fresh-is (c .before .before .before .before .before .before .before .before .before .before .before .before .fresh .ensures) in
-    packed f (puts-then (c .before .before .before .before .before .before .before .before .before .before .put-prefix .ensures) (c .before .before .before .before .before .before .put-located-body .ensures))
+    packed f (puts-then (c .before .before .before .before .before .before .before .before .before .before .put-prefix .ensures)
+    (c .before .before .before .before .before .before .put-located-body .ensures))
     (c .before .before .finish .ensures)
 
 pub put-located-spec : {M : Type 1} → statement M

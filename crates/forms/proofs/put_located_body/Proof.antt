@@ -22,15 +22,24 @@ add-put c = search needs
 put-requires : tie.Need-put-requires
 put-requires c κs =
     let s = c .before .before in
-    let k = number-then 3 (s .args .plan .row * 2 + s .args .plan .flag) (valuesFormOf (s .args .plan) (s .args .a .now) (s .args .b .now) (s .args .c .now)) (row-flag (s .args .plan .row) (s .args .plan .flag) (valuesFormOf (s .args .plan) (s .args .a .now) (s .args .b .now) (s .args .c .now)) (s .pre .0 .flag)) in
+    let k = number-then 3 (s .args .plan .row * 2 + s .args .plan .flag)
+    (valuesFormOf (s .args .plan) (s .args .a .now) (s .args .b .now) (s .args .c .now))
+    (row-flag (s .args .plan .row) (s .args .plan .flag)
+    (valuesFormOf (s .args .plan) (s .args .a .now) (s .args .b .now) (s .args .c .now)) (s .pre .0 .flag)) in
     (able-as (s .pre .1) (omega (arith, k)), (omega arith, omega (arith, s .pre .0 .row, s .pre .0 .flag)))
 
 put-values-requires : tie.Need-put-values-requires
 put-values-requires c κs =
     let s = c .before .before .before .before .before .before in
-    let k = number-then 3 (s .args .plan .row * 2 + s .args .plan .flag) (valuesFormOf (s .args .plan) (s .args .a .now) (s .args .b .now) (s .args .c .now)) (row-flag (s .args .plan .row) (s .args .plan .flag) (valuesFormOf (s .args .plan) (s .args .a .now) (s .args .b .now) (s .args .c .now)) (s .pre .0 .flag)) in
-    let put = c .before .before .before .put in
-    (s .pre .0 .values, able-then _ (s .pre .1) (put .ensures) (put .kept .0) (omega (arith, k, length-lowBits 3 (s .args .plan .row * 2 + s .args .plan .flag))))
+    let k = number-then 3 (s .args .plan .row * 2 + s .args .plan .flag)
+    (valuesFormOf (s .args .plan) (s .args .a .now) (s .args .b .now) (s .args .c .now))
+    (row-flag (s .args .plan .row) (s .args .plan .flag)
+    (valuesFormOf (s .args .plan) (s .args .a .now) (s .args .b .now) (s .args .c .now)) (s .pre .0 .flag)) in
+    let put = c .before .before .before .put in (
+      s .pre .0 .values,
+      able-then _ (s .pre .1) (put .ensures) (put .kept .0)
+          (omega (arith, k, length-lowBits 3 (s .args .plan .row * 2 + s .args .plan .flag))),
+    )
 
 same-length : tie.Need-same-length
 same-length c = search needs
@@ -38,7 +47,9 @@ same-length c = search needs
 returns : tie.Need-returns
 returns c =
     let s = c .before .before .before .before .before .before .before .before .before in
-    puts-as (puts-then (c .before .before .before .before .before .before .put .ensures) (c .before .before .put-values .ensures)) (row-flag (s .args .plan .row) (s .args .plan .flag) (valuesFormOf (s .args .plan) (s .args .a .now) (s .args .b .now) (s .args .c .now)) (s .pre .0 .flag))
+    puts-as (puts-then (c .before .before .before .before .before .before .put .ensures) (c .before .before .put-values .ensures))
+    (row-flag (s .args .plan .row) (s .args .plan .flag)
+    (valuesFormOf (s .args .plan) (s .args .a .now) (s .args .b .now) (s .args .c .now)) (s .pre .0 .flag))
 
 pub put-located-body-spec : {M : Type 1} → statement M
 put-located-body-spec =

@@ -42,8 +42,10 @@ same-length c = search needs
 returns : tie.Need-returns
 returns c =
     let s = c .before .before .before .before .before .before .before .before .before .before .before .before in
-    let e = marks-open (s .args .count) (s .args .found) (s .args .runs .now) (s .pre .0 .0) (c .before .before .before .before .before .before .if1 .taken) (c .before .before .before .long .ensures .0) in
-    puts-as (puts-then (c .before .before .before .before .before .before .before .before .before .put-runs .ensures) (c .before .before .put-zeros .ensures)) e
+    let e = marks-open (s .args .count) (s .args .found) (s .args .runs .now) (s .pre .0 .0)
+    (c .before .before .before .before .before .before .if1 .taken) (c .before .before .before .long .ensures .0) in
+    puts-as (puts-then (c .before .before .before .before .before .before .before .before .before .put-runs .ensures)
+    (c .before .before .put-zeros .ensures)) e
 
 same-length-2 : tie.Need-same-length-2
 same-length-2 c = search needs

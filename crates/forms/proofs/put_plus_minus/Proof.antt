@@ -33,8 +33,11 @@ put-requires c κs =
     let r = s .args .r in
     let n = s .args .n in
     let l = length-three (riceCode n (r .mark)) (codeOf n (r .s)) (riceForms (r .s) (take (r .count) (s .args .runs .now))) in
-    let k = c .before .code-of .ensures in
-    (able-then _ (s .pre .1) (c .before .before .before .before .put-start .ensures) (c .before .before .before .before .put-start .kept .0) (omega (arith, bits-length _ _ (k .says))), (omega (arith, k .few), k .fits))
+    let k = c .before .code-of .ensures in (
+      able-then _ (s .pre .1) (c .before .before .before .before .put-start .ensures) (c .before .before .before .before .put-start .kept .0)
+          (omega (arith, bits-length _ _ (k .says))),
+      (omega (arith, k .few), k .fits),
+    )
 
 put-runs-requires : tie.Need-put-runs-requires
 put-runs-requires c κs =
@@ -43,14 +46,22 @@ put-runs-requires c κs =
     let n = s .args .n in
     let l = length-three (riceCode n (r .mark)) (codeOf n (r .s)) (riceForms (r .s) (take (r .count) (s .args .runs .now))) in
     let k = c .before .before .before .before .before .code-of .ensures in
-    let q = s .pre .0 in
-    ((omega (arith, q .most), (q .few, omega (arith, q .few, q .size))), able-then _ (s .pre .1) (puts-then (c .before .before .before .before .before .before .before .before .put-start .ensures) (c .before .before .before .put .ensures)) (c .before .before .before .put .kept .0 ∙ c .before .before .before .before .before .before .before .before .put-start .kept .0) (rw length-append (omega (arith, ap length (k .says)))))
+    let q = s .pre .0 in (
+      (omega (arith, q .most), (q .few, omega (arith, q .few, q .size))),
+      able-then _ (s .pre .1)
+          (puts-then (c .before .before .before .before .before .before .before .before .put-start .ensures)
+          (c .before .before .before .put .ensures))
+          (c .before .before .before .put .kept .0 ∙ c .before .before .before .before .before .before .before
+          .before .put-start .kept .0) (rw length-append (omega (arith, ap length (k .says)))),
+    )
 
 same-length : tie.Need-same-length
 same-length c = search needs
 
 returns : tie.Need-returns
-returns c = puts-then (c .before .before .before .before .before .before .before .before .before .before .before .put-start .ensures) (puts-then (puts-as (c .before .before .before .before .before .before .put .ensures) (c .before .before .before .before .before .before .before .before .code-of .ensures .says)) (c .before .before .put-runs .ensures))
+returns c = puts-then (c .before .before .before .before .before .before .before .before .before .before .before .put-start .ensures)
+    (puts-then (puts-as (c .before .before .before .before .before .before .put .ensures)
+    (c .before .before .before .before .before .before .before .before .code-of .ensures .says)) (c .before .before .put-runs .ensures))
 
 pub put-plus-minus-spec : {M : Type 1} → statement M
 put-plus-minus-spec =

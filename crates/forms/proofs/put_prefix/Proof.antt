@@ -23,7 +23,8 @@ same-length : tie.Need-same-length
 same-length c = search needs
 
 returns : tie.Need-returns
-returns c = puts-as (c .before .before .put .ensures) (ap (lowBits 8) (c .before .before .before .wide .ensures .0 ∙ c .before .before .before .before .octet-for .ensures))
+returns c = puts-as (c .before .before .put .ensures)
+    (ap (lowBits 8) (c .before .before .before .wide .ensures .0 ∙ c .before .before .before .before .octet-for .ensures))
 
 pub put-prefix-spec : {M : Type 1} → statement M
 put-prefix-spec =

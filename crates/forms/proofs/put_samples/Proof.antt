@@ -37,8 +37,11 @@ loop-less c = omega (arith, c .before .loop-test .taken)
 loop-again : tie.Need-loop-again Inv-loop μ-loop
 loop-again c =
     let s = c .before .before .before in
-    let l = c .before .before .loop in
-    (omega (arith, c .before .loop-test .taken), copy-turn (s .args .samples .now) (s .args .out .now) (l .out) (l .i) (l .inv .1) (omega (arith, c .before .loop-test .taken, s .pre .0)) (omega (arith, c .before .loop-test .taken, s .pre .1)))
+    let l = c .before .before .loop in (
+      omega (arith, c .before .loop-test .taken),
+      copy-turn (s .args .samples .now) (s .args .out .now) (l .out) (l .i)
+          (l .inv .1) (omega (arith, c .before .loop-test .taken, s .pre .0)) (omega (arith, c .before .loop-test .taken, s .pre .1)),
+    )
 
 same-length : tie.Need-same-length Inv-loop μ-loop
 same-length c = c .before .loop .inv .1 .size

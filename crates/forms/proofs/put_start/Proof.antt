@@ -28,14 +28,22 @@ add-put-2 c = search needs
 
 put-requires : tie.Need-put-requires
 put-requires c κs =
-    let e = (let s = c .before .before .before .before .before in start-long (s .args .n) (s .args .mark) (s .pre .0) (c .before .if1 .taken) (c .before .before .wide .ensures .0 ∙ c .before .before .before .base-of .ensures)) in
-    (able-as (c .before .before .before .before .before .pre .1) (omega (arith, bits-length 7 _ e)), (omega arith, omega (arith, c .before .before .wide .ensures .1, c .before .before .before .before .before .pre .0)))
+    let e = (let s = c .before .before .before .before .before in
+    start-long (s .args .n) (s .args .mark) (s .pre .0) (c .before .if1 .taken)
+    (c .before .before .wide .ensures .0 ∙ c .before .before .before .base-of .ensures)) in (
+      able-as (c .before .before .before .before .before .pre .1) (omega (arith, bits-length 7 _ e)),
+      (omega arith, omega (arith, c .before .before .wide .ensures .1, c .before .before .before .before .before .pre .0)),
+    )
 
 same-length : tie.Need-same-length
 same-length c = search needs
 
 returns : tie.Need-returns
-returns c = puts-as (c .before .before .put .ensures) (let s = c .before .before .before .before .before .before .before .before in start-long (s .args .n) (s .args .mark) (s .pre .0) (c .before .before .before .before .if1 .taken) (c .before .before .before .before .before .wide .ensures .0 ∙ c .before .before .before .before .before .before .base-of .ensures))
+returns c = puts-as (c .before .before .put .ensures)
+    (let s = c .before .before .before .before .before .before .before .before in
+    start-long (s .args .n) (s .args .mark) (s .pre .0) (c .before .before .before .before .if1 .taken)
+    (c .before .before .before .before .before .wide .ensures .0
+    ∙ c .before .before .before .before .before .before .base-of .ensures))
 
 mul-put-2 : tie.Need-mul-put-2
 mul-put-2 c = search needs
@@ -48,14 +56,22 @@ add-put-4 c = search needs
 
 put-requires-2 : tie.Need-put-requires-2
 put-requires-2 c κs =
-    let e = (let s = c .before .before .before .before .before in start-short (s .args .n) (s .args .mark) (s .pre .0) (c .before .if1 .left) (c .before .before .wide .ensures .0 ∙ c .before .before .before .base-of .ensures)) in
-    (able-as (c .before .before .before .before .before .pre .1) (omega (arith, bits-length 5 _ e)), (omega arith, omega (arith, c .before .before .wide .ensures .1, c .before .before .before .before .before .pre .0)))
+    let e = (let s = c .before .before .before .before .before in
+    start-short (s .args .n) (s .args .mark) (s .pre .0) (c .before .if1 .left)
+    (c .before .before .wide .ensures .0 ∙ c .before .before .before .base-of .ensures)) in (
+      able-as (c .before .before .before .before .before .pre .1) (omega (arith, bits-length 5 _ e)),
+      (omega arith, omega (arith, c .before .before .wide .ensures .1, c .before .before .before .before .before .pre .0)),
+    )
 
 same-length-2 : tie.Need-same-length-2
 same-length-2 c = search needs
 
 returns-2 : tie.Need-returns-2
-returns-2 c = puts-as (c .before .before .put2 .ensures) (let s = c .before .before .before .before .before .before .before .before in start-short (s .args .n) (s .args .mark) (s .pre .0) (c .before .before .before .before .if1 .left) (c .before .before .before .before .before .wide .ensures .0 ∙ c .before .before .before .before .before .before .base-of .ensures))
+returns-2 c = puts-as (c .before .before .put2 .ensures)
+    (let s = c .before .before .before .before .before .before .before .before in
+    start-short (s .args .n) (s .args .mark) (s .pre .0) (c .before .before .before .before .if1 .left)
+    (c .before .before .before .before .before .wide .ensures .0
+    ∙ c .before .before .before .before .before .before .base-of .ensures))
 
 pub put-start-spec : {M : Type 1} → statement M
 put-start-spec =

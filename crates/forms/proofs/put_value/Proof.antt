@@ -23,8 +23,16 @@ use Rattle.forms.proofs.wide.Reads as wide-reads
 
 put-requires : tie.Need-put-requires
 put-requires c κs =
-    let s = c .before .before .before in
-    (able-as (s .pre .1) (omega (arith, bits-length 3 5 (way-absent (s .args .w .method) (s .args .w .d) (s .args .w .count) (take (s .args .w .runs) (s .args .runs .now)) (c .before .if1 .taken)))), (omega arith, omega arith))
+    let s = c .before .before .before in (
+      able-as (s .pre .1)
+          (omega (
+            arith,
+            bits-length 3 5
+                (way-absent (s .args .w .method) (s .args .w .d) (s .args .w .count) (take (s .args .w .runs) (s .args .runs .now))
+                (c .before .if1 .taken)),
+          )),
+      (omega arith, omega arith),
+    )
 
 same-length : tie.Need-same-length
 same-length c = search needs
@@ -32,20 +40,35 @@ same-length c = search needs
 returns : tie.Need-returns
 returns c =
     let s = c .before .before .before .before .before .before in
-    puts-as (c .before .before .put .ensures) (way-absent (s .args .w .method) (s .args .w .d) (s .args .w .count) (take (s .args .w .runs) (s .args .runs .now)) (c .before .before .before .before .if1 .taken))
+    puts-as (c .before .before .put .ensures)
+    (way-absent (s .args .w .method) (s .args .w .d) (s .args .w .count) (take (s .args .w .runs) (s .args .runs .now))
+    (c .before .before .before .before .if1 .taken))
 
 put-requires-2 : tie.Need-put-requires-2
 put-requires-2 c κs =
-    let s = c .before .before .before .before in
-    (able-as (s .pre .1) (omega (arith, number-then 3 0 _ (way-marks (s .args .w .method) (s .args .w .d) (s .args .w .count) (take (s .args .w .runs) (s .args .runs .now)) (c .before .if2 .taken)))), (omega arith, omega arith))
+    let s = c .before .before .before .before in (
+      able-as (s .pre .1)
+          (omega (
+            arith,
+            number-then 3 0 _
+                (way-marks (s .args .w .method) (s .args .w .d) (s .args .w .count) (take (s .args .w .runs) (s .args .runs .now))
+                (c .before .if2 .taken)),
+          )),
+      (omega arith, omega arith),
+    )
 
 put-marks-requires : tie.Need-put-marks-requires
 put-marks-requires c κs =
     let s = c .before .before .before .before .before .before .before .before in
     let put = c .before .before .before .put2 in
     let within = way-within (s .args .runs .now) (s .pre .0 .few) (s .pre .0 .size) (s .pre .0 .ready) in
-    let k = number-then 3 0 _ (way-marks (s .args .w .method) (s .args .w .d) (s .args .w .count) (take (s .args .w .runs) (s .args .runs .now)) (c .before .before .before .before .before .if2 .taken)) in
-    ((within, (s .pre .0 .few, s .pre .0 .size)), able-then _ (s .pre .1) (put .ensures) (put .kept .0) (omega (arith, k, length-lowBits 3 0)))
+    let k = number-then 3 0 _
+    (way-marks (s .args .w .method) (s .args .w .d) (s .args .w .count) (take (s .args .w .runs) (s .args .runs .now))
+    (c .before .before .before .before .before .if2 .taken)) in (
+      (within, (s .pre .0 .few, s .pre .0 .size)),
+      able-then _ (s .pre .1) (put .ensures) (put .kept .0)
+          (omega (arith, k, length-lowBits 3 0)),
+    )
 
 same-length-2 : tie.Need-same-length-2
 same-length-2 c = search needs
@@ -53,7 +76,9 @@ same-length-2 c = search needs
 returns-2 : tie.Need-returns-2
 returns-2 c =
     let s = c .before .before .before .before .before .before .before .before .before .before .before in
-    puts-as (puts-then (c .before .before .before .before .before .before .put2 .ensures) (c .before .before .put-marks .ensures)) (way-marks (s .args .w .method) (s .args .w .d) (s .args .w .count) (take (s .args .w .runs) (s .args .runs .now)) (c .before .before .before .before .before .before .before .before .if2 .taken))
+    puts-as (puts-then (c .before .before .before .before .before .before .put2 .ensures) (c .before .before .put-marks .ensures))
+    (way-marks (s .args .w .method) (s .args .w .d) (s .args .w .count) (take (s .args .w .runs) (s .args .runs .now))
+    (c .before .before .before .before .before .before .before .before .if2 .taken))
 
 wide-requires : tie.Need-wide-requires
 wide-requires c κs = search needs
@@ -61,7 +86,9 @@ wide-requires c κs = search needs
 put-requires-3 : tie.Need-put-requires-3
 put-requires-3 c κs =
     let s = c .before .before .before .before .before .before in
-    let k = number-then 3 _ _ (way-runs (s .args .w .method) (s .args .w .d) (s .args .w .count) (take (s .args .w .runs) (s .args .runs .now)) (c .before .before .before .if2 .left) (c .before .before .if3 .taken) refl refl) in
+    let k = number-then 3 _ _
+    (way-runs (s .args .w .method) (s .args .w .d) (s .args .w .count) (take (s .args .w .runs) (s .args .runs .now))
+    (c .before .before .before .if2 .left) (c .before .before .if3 .taken) refl refl) in
     (able-as (s .pre .1) (omega (arith, k)), (omega arith, omega (arith, c .wide .ensures .0, c .before .before .if3 .taken)))
 
 sized-requires : tie.Need-sized-requires
@@ -72,8 +99,17 @@ put-runs-requires c κs =
     let s = c .before .before .before .before .before .before .before .before .before .before .before in
     let put = c .before .before .before .before .put3 in
     let v = c .before .before .before .before .before .wide in
-    let k = number-then 3 _ _ (way-runs (s .args .w .method) (s .args .w .d) (s .args .w .count) (take (s .args .w .runs) (s .args .runs .now)) (c .before .before .before .before .before .before .before .before .if2 .left) (c .before .before .before .before .before .before .before .if3 .taken) (v .ensures .0) (c .sized .ensures)) in
-    ((omega (arith, c .sized .ensures, c .before .before .before .before .before .before .before .if3 .taken), (s .pre .0 .few, omega (arith, s .pre .0 .few, s .pre .0 .size))), able-then _ (s .pre .1) (put .ensures) (put .kept .0) (omega (arith, k, length-lowBits 3 (v .result))))
+    let k = number-then 3 _ _
+    (way-runs (s .args .w .method) (s .args .w .d) (s .args .w .count) (take (s .args .w .runs) (s .args .runs .now))
+    (c .before .before .before .before .before .before .before .before .if2 .left)
+    (c .before .before .before .before .before .before .before .if3 .taken) (v .ensures .0) (c .sized .ensures)) in (
+      (
+        omega (arith, c .sized .ensures, c .before .before .before .before .before .before .before .if3 .taken),
+        (s .pre .0 .few, omega (arith, s .pre .0 .few, s .pre .0 .size)),
+      ),
+      able-then _ (s .pre .1) (put .ensures)
+          (put .kept .0) (omega (arith, k, length-lowBits 3 (v .result))),
+    )
 
 same-length-3 : tie.Need-same-length-3
 same-length-3 c = search needs
@@ -83,7 +119,10 @@ returns-3 c =
     let s = c .before .before .before .before .before .before .before .before .before .before .before .before .before .before in
     let v = c .before .before .before .before .before .before .before .before .wide in
     puts-as (puts-then (c .before .before .before .before .before .before .before .put3 .ensures) (c .before .before .put-runs .ensures))
-    (way-runs (s .args .w .method) (s .args .w .d) (s .args .w .count) (take (s .args .w .runs) (s .args .runs .now)) (c .before .before .before .before .before .before .before .before .before .before .before .if2 .left) (c .before .before .before .before .before .before .before .before .before .before .if3 .taken) (v .ensures .0) (c .before .before .before .sized .ensures))
+    (way-runs (s .args .w .method) (s .args .w .d) (s .args .w .count) (take (s .args .w .runs) (s .args .runs .now))
+    (c .before .before .before .before .before .before .before .before .before .before .before .if2 .left)
+    (c .before .before .before .before .before .before .before .before .before .before .if3 .taken) (v .ensures .0)
+    (c .before .before .before .sized .ensures))
 
 add-put : tie.Need-add-put
 add-put c =
@@ -98,7 +137,9 @@ put-requires-4 : tie.Need-put-requires-4
 put-requires-4 c κs =
     let s = c .before .before .before .before .before in
     let l = s .pre .0 .ready .listed (c .before .before .before .if1 .left) (c .before .if3 .left) in
-    let k = number-then 5 _ _ (way-listed (s .args .w .method) (s .args .w .d) (s .args .w .count) (take (s .args .w .runs) (s .args .runs .now)) (c .before .before .before .if1 .left) (c .before .if3 .left) refl refl) in
+    let k = number-then 5 _ _
+    (way-listed (s .args .w .method) (s .args .w .d) (s .args .w .count) (take (s .args .w .runs) (s .args .runs .now))
+    (c .before .before .before .if1 .left) (c .before .if3 .left) refl refl) in
     (able-as (s .pre .1) (omega (arith, k)), (omega arith, omega (arith, l .few, l .some)))
 
 width-of-requires : tie.Need-width-of-requires
@@ -111,9 +152,19 @@ put-listed-requires c κs =
     let w = c .width-of .ensures in
     let within = way-within (s .args .runs .now) (s .pre .0 .few) (s .pre .0 .size) (s .pre .0 .ready) in
     let e = sym (take-take (s .args .w .count) (s .args .w .runs) (s .args .runs .now) within) in
-    let l = s .pre .0 .ready .listed (c .before .before .before .before .before .before .before .before .if1 .left) (c .before .before .before .before .before .before .if3 .left) in
-    let k = number-then 5 _ _ (way-listed (s .args .w .method) (s .args .w .d) (s .args .w .count) (take (s .args .w .runs) (s .args .runs .now)) (c .before .before .before .before .before .before .before .before .if1 .left) (c .before .before .before .before .before .before .if3 .left) (w .0) e) in
-    ((w .1 .0, (omega (arith, l .few), s .pre .0 .size)), (λ i. rw e (omega (arith, l .places i, w .1 .1)), able-then _ (s .pre .1) (put .ensures) (put .kept .0) (omega (arith, k, length-lowBits 5 (28 + s .args .w .count - 1)))))
+    let l = s .pre .0 .ready .listed (c .before .before .before .before .before .before .before .before .if1 .left)
+    (c .before .before .before .before .before .before .if3 .left) in
+    let k = number-then 5 _ _
+    (way-listed (s .args .w .method) (s .args .w .d) (s .args .w .count) (take (s .args .w .runs) (s .args .runs .now))
+    (c .before .before .before .before .before .before .before .before .if1 .left)
+    (c .before .before .before .before .before .before .if3 .left) (w .0) e) in (
+      (w .1 .0, (omega (arith, l .few), s .pre .0 .size)),
+      (
+        λ i. rw e (omega (arith, l .places i, w .1 .1)),
+        able-then _ (s .pre .1) (put .ensures) (put .kept .0)
+            (omega (arith, k, length-lowBits 5 (28 + s .args .w .count - 1))),
+      ),
+    )
 
 same-length-4 : tie.Need-same-length-4
 same-length-4 c = search needs
@@ -124,7 +175,10 @@ returns-4 c =
     let within = way-within (s .args .runs .now) (s .pre .0 .few) (s .pre .0 .size) (s .pre .0 .ready) in
     let e = sym (take-take (s .args .w .count) (s .args .w .runs) (s .args .runs .now) within) in
     puts-as (puts-then (c .before .before .before .before .before .before .before .put4 .ensures) (c .before .before .put-listed .ensures))
-    (way-listed (s .args .w .method) (s .args .w .d) (s .args .w .count) (take (s .args .w .runs) (s .args .runs .now)) (c .before .before .before .before .before .before .before .before .before .before .before .if1 .left) (c .before .before .before .before .before .before .before .before .before .if3 .left) (c .before .before .before .width-of .ensures .0) e)
+    (way-listed (s .args .w .method) (s .args .w .d) (s .args .w .count) (take (s .args .w .runs) (s .args .runs .now))
+    (c .before .before .before .before .before .before .before .before .before .before .before .if1 .left)
+    (c .before .before .before .before .before .before .before .before .before .if3 .left)
+    (c .before .before .before .width-of .ensures .0) e)
 
 pub put-value-spec : {M : Type 1} → statement M
 put-value-spec =

@@ -31,12 +31,19 @@ add-result c = search needs
 same-length : tie.Need-same-length
 same-length c =
     let s = c .before .before .before .before .before .before .before .before in
-    c .before .before .put-samples .ensures .size ∙ length-set (s .args .out .now) 0 (c .before .before .before .before .before .octet-for .result)
+    c .before .before .put-samples .ensures .size
+    ∙ length-set (s .args .out .now) 0 (c .before .before .before .before .before .octet-for .result)
 
 returns : tie.Need-returns
 returns c =
     let s = c .before .before .before .before .before .before .before .before in
-    rw (c .before .before .before .before .if1 .taken) (whole-samples (take (s .args .n) (s .args .samples .now)) (length-take-le (s .args .n) (s .args .samples .now) (s .pre .1 .0 .long)) (c .before .before .before .before .before .octet-for .ensures ∙ ap (λ (t : ℕ). octetFor t (s .args .n)) (c .before .before .before .before .if1 .taken)) (omega (arith, octets-some (s .args .tool) (s .args .n), s .pre .1 .1)) (c .before .before .put-samples .ensures) (λ i. c .slice-known2 .given i .fits))
+    rw (c .before .before .before .before .if1 .taken)
+    (whole-samples (take (s .args .n) (s .args .samples .now))
+    (length-take-le (s .args .n) (s .args .samples .now) (s .pre .1 .0 .long))
+    (c .before .before .before .before .before .octet-for .ensures
+    ∙ ap (λ (t : ℕ). octetFor t (s .args .n)) (c .before .before .before .before .if1 .taken))
+    (omega (arith, octets-some (s .args .tool) (s .args .n), s .pre .1 .1)) (c .before .before .put-samples .ensures)
+    (λ i. c .slice-known2 .given i .fits))
 
 shared-slice-read-out : tie.Need-shared-slice-read-out
 shared-slice-read-out c = search needs
@@ -54,7 +61,14 @@ returns-2 : tie.Need-returns-2
 returns-2 c =
     let s = c .before .before .before .before .before .before in
     let room : 2 ≤ length (s .args .out .now) = rw (c .before .if2 .taken) at (s .pre .1 .1) in
-    rw (c .before .if2 .taken) (whole-two (take (s .args .n) (s .args .samples .now)) (length-take-le (s .args .n) (s .args .samples .now) (s .pre .1 .0 .long)) (sym (getD-take (s .args .n) (s .args .samples .now) 0 0 (s .pre .1 .0 .some))) (c .before .before .before .octet-for .ensures ∙ ap (λ (t : ℕ). octetFor t (s .args .n)) (c .before .if2 .taken)) (omega arith) (set-octets (set (s .args .out .now) 0 (c .before .before .before .octet-for .result)) 1 (getD (s .args .samples .now) 0 0) (c .before .before .before .before .shared-slice-known .given 0 .fits) (set-octets (s .args .out .now) 0 (c .before .before .before .octet-for .result) (search needs) (λ i. c .before .before .before .before .before .slice-known .given i .fits))))
+    rw (c .before .if2 .taken)
+    (whole-two (take (s .args .n) (s .args .samples .now)) (length-take-le (s .args .n) (s .args .samples .now) (s .pre .1 .0 .long))
+    (sym (getD-take (s .args .n) (s .args .samples .now) 0 0 (s .pre .1 .0 .some)))
+    (c .before .before .before .octet-for .ensures ∙ ap (λ (t : ℕ). octetFor t (s .args .n)) (c .before .if2 .taken))
+    (omega arith) (set-octets (set (s .args .out .now) 0 (c .before .before .before .octet-for .result))
+    1 (getD (s .args .samples .now) 0 0) (c .before .before .before .before .shared-slice-known .given 0 .fits)
+    (set-octets (s .args .out .now) 0 (c .before .before .before .octet-for .result) (search needs)
+    (λ i. c .before .before .before .before .before .slice-known .given i .fits))))
 
 same-length-3 : tie.Need-same-length-3
 same-length-3 c = search needs
@@ -62,7 +76,11 @@ same-length-3 c = search needs
 returns-3 : tie.Need-returns-3
 returns-3 c =
     let s = c .before .before .before .before .before in
-    whole-one (take (s .args .n) (s .args .samples .now)) (length-take-le (s .args .n) (s .args .samples .now) (s .pre .1 .0 .long)) (s .args .tool) (c .before .if1 .left) (c .if2 .left) (c .before .before .octet-for .ensures) (omega (arith, octets-some (s .args .tool) (s .args .n), s .pre .1 .1)) (set-octets (s .args .out .now) 0 (c .before .before .octet-for .result) (search needs) (λ i. c .before .before .before .before .slice-known .given i .fits))
+    whole-one (take (s .args .n) (s .args .samples .now)) (length-take-le (s .args .n) (s .args .samples .now) (s .pre .1 .0 .long))
+    (s .args .tool) (c .before .if1 .left) (c .if2 .left) (c .before .before .octet-for .ensures)
+    (omega (arith, octets-some (s .args .tool) (s .args .n), s .pre .1 .1))
+    (set-octets (s .args .out .now) 0 (c .before .before .octet-for .result) (search needs)
+    (λ i. c .before .before .before .before .slice-known .given i .fits))
 
 pub put-whole-spec : {M : Type 1} → statement M
 put-whole-spec =

@@ -4,12 +4,14 @@ use mathlib.Core.Path.{refl}
 use native.Mathlib.Omega.{arith}
 use Rattle.rules.specs.Bits.{bitsOf}
 use Rattle.bits.proofs.Told.{told, refused}
-use Rattle.fractional.proofs.Turning.{Filling, filling-none, filling-turn, filling-refused, filling-all, packs-four, laid-one, set-room}
+use Rattle.fractional.proofs.Turning.{Filling, filling-none, filling-turn, filling-refused}
+use Rattle.fractional.proofs.Turning.{filling-all, packs-four, laid-one, set-room}
 use Rattle.fractional.proofs.four_values.Statement.{statement}
 use Rattle.fractional.proofs.four_values.Tie as tie
 
 abbrev Inv-loop : tie.InvT-loop
-Inv-loop octets at n values samples₀ filled₀ place₀ samples filled place = Filling values (bitsOf octets) at 4 1 2 n samples₀ samples filled place
+Inv-loop octets at n values samples₀ filled₀ place₀ samples filled place = Filling values (bitsOf octets) at 4 1 2 n
+    samples₀ samples filled place
 
 abbrev μ-loop : tie.MeasureT-loop
 μ-loop octets at n values samples₀ filled₀ place₀ samples filled place = n - filled

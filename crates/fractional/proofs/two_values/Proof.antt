@@ -29,7 +29,8 @@ returns : tie.Need-returns
 returns c =
     let s = c .before .before .before .before .before .before .before .before in
     let e = marks-told-refused (c .before .before .before .straight .ensures) (c .before .why .given .1) in
-    fills-refused (bits-refused (s .args .values .now) (s .args .octets .now) (s .args .n) (s .args .at) e) (c .before .before .before .straight .ensures .room)
+    fills-refused (bits-refused (s .args .values .now) (s .args .octets .now) (s .args .n) (s .args .at) e)
+    (c .before .before .before .straight .ensures .room)
 
 returns-2 : tie.Need-returns-2
 returns-2 c =

@@ -28,7 +28,8 @@ returns c =
     let t = c .before .before .before .before .get .ensures in
     record {
       ending = c .number-of .ensures ∙ ap numberOf t;
-      report = then (c .before .before .before .first-of .ensures ∙ ap firstOf t) (then (c .before .before .second-of .ensures ∙ ap secondOf t) refl);
+      report = then (c .before .before .before .first-of .ensures ∙ ap firstOf t)
+          (then (c .before .before .second-of .ensures ∙ ap secondOf t) refl);
     }
 
 pub g7110-store-get-spec : {M : Type 1} → statement M

@@ -35,7 +35,8 @@ returns c =
     record {
       number = c .number-of .ensures ∙ ap numberOf (t .answer);
       report =
-          then (c .before .before .before .first-of .ensures ∙ ap firstOf (t .answer)) (then (c .before .before .second-of .ensures ∙ ap secondOf (t .answer)) refl);
+          then (c .before .before .before .first-of .ensures ∙ ap firstOf (t .answer))
+          (then (c .before .before .second-of .ensures ∙ ap secondOf (t .answer)) refl);
       block = t .block;
       table = t .table;
     }

@@ -25,7 +25,8 @@ returns c =
     let t = c .before .before .before .before .before .walk .ensures in
     record {
       number = c .number-of .ensures ∙ ap numberOf (t .end);
-      report = then (t .frames) (then (t .octets) (then (t .samples) (then (c .before .before .tool-of .ensures ∙ ap toolNamed (t .end)) (then (t .bit) refl))));
+      report = then (t .frames)
+          (then (t .octets) (then (t .samples) (then (c .before .before .tool-of .ensures ∙ ap toolNamed (t .end)) (then (t .bit) refl))));
       lent = t .lent;
     }
 

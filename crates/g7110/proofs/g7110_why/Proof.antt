@@ -26,7 +26,8 @@ returns c =
 
 returns-2 : tie.Need-returns-2
 returns-2 c =
-    let w = sym (c .before .before .before .before .before .before .why-samples .ensures) ∙ c .before .before .before .before .r .given .1 in
+    let w = sym (c .before .before .before .before .before .before .why-samples .ensures)
+    ∙ c .before .before .before .before .r .given .1 in
     why-told _ w (c .before .text-of .ensures)
 
 pub g7110-why-spec : {M : Type 1} → statement M

@@ -20,7 +20,11 @@ same-length c = search needs
 returns : tie.Need-returns
 returns c =
     let t = c .before .before .before .before .before .write-samples .ensures in
-    record { number = c .number-of .ensures ∙ ap numberOf (t .end); report = then (t .octets) (then (t .bits) (then (t .tool) refl)); lent = t .lent }
+    record {
+      number = c .number-of .ensures ∙ ap numberOf (t .end);
+      report = then (t .octets) (then (t .bits) (then (t .tool) refl));
+      lent = t .lent;
+    }
 
 pub g7110-write-spec : {M : Type 1} → statement M
 g7110-write-spec =

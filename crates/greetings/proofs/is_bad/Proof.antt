@@ -15,7 +15,8 @@ returns-2 : tie.Need-returns-2
 returns-2 c = let s = c .before .before .before in bad-law (s .args .law) (s .args .octets .now) (omega arith) (omega arith)
 
 returns-3 : tie.Need-returns-3
-returns-3 c = let s = c .before .before .before .before in bad-long (s .args .law) (s .args .octets .now) (omega arith) (omega arith) (omega arith)
+returns-3 c = let s = c .before .before .before .before in
+    bad-long (s .args .law) (s .args .octets .now) (omega arith) (omega arith) (omega arith)
 
 add-walk-on : tie.Need-add-walk-on
 add-walk-on c = search needs

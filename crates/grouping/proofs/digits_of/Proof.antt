@@ -1,14 +1,14 @@
--- The digits laid one by one (Frames of crate linear).
+-- The digits laid one by one.
 use borrow.Author.Needs.{needs}
 use Prim.Native.Nat.{ℕ, _-_, _≤_}
-use mathlib.Core.Path.{_≡_, refl, sym, ap, _∙_}
+use mathlib.Core.Path.{_≡_, sym, ap, _∙_}
 use mathlib.Core.List.{List, map}
 use native.Mathlib.Omega.{arith}
-use lib.ListN.{length, getD, set, take, drop, length-map}
+use lib.ListN.{length, set, take, drop, length-map}
 use lib.Seq.{paste, paste-zero, take-at, length-take-le, getD-take}
 use Rattle.rules.specs.Samples.{signed}
 use Rattle.rules.specs.Fractional.{digitFor}
-use Rattle.linear.proofs.Frames.{turn, kept, whole}
+use Rattle.rules.proofs.Lent.{mapped-turn, mapped-kept, mapped-whole}
 use Rattle.grouping.proofs.digits_of.Statement.{statement}
 use Rattle.grouping.proofs.digits_of.Tie as tie
 
@@ -53,9 +53,12 @@ loop-again c =
     let l = c .before .before .before .loop in
     let f = digit (a .mask) (a .row .low) (a .row .below) in
     let size = length-take-le (a .n) (a .samples .now) (omega arith) in
-    let at = ap f (sym (getD-take (a .n) (a .samples .now) (l .i) 0 (omega arith))) in
-    (omega arith, ap (λ (d : List ℕ). set d (l .i) (c .digit-of .result)) (l .inv .1)
-    ∙ turn f (take (a .n) (a .samples .now)) (a .digits .now) (l .i) 0 (c .digit-of .result) (omega arith) (omega arith) (c .digit-of .ensures ∙ at))
+    let at = ap f (sym (getD-take (a .n) (a .samples .now) (l .i) 0 (omega arith))) in (
+      omega arith,
+      ap (λ (d : List ℕ). set d (l .i) (c .digit-of .result)) (l .inv .1)
+          ∙ mapped-turn f (take (a .n) (a .samples .now)) (a .digits .now) (l .i) 0 (c .digit-of .result) (omega arith) (omega arith)
+          (c .digit-of .ensures ∙ at),
+    )
 
 returns : tie.Need-returns Inv-loop μ-loop
 returns c =
@@ -64,9 +67,10 @@ returns c =
     let f = digit (a .mask) (a .row .low) (a .row .below) in
     let s = take (a .n) (a .samples .now) in
     let size : length s ≡ a .n = length-take-le (a .n) (a .samples .now) (omega arith) in
-    let all = l .inv .1 ∙ whole f s (a .digits .now) (l .i) (omega (arith, l .inv .0)) in
-    (ap (take (a .n)) all ∙ take-at (map f s) (drop (length s) (a .digits .now)) (a .n) (length-map s f ∙ size),
-    ap length (l .inv .1) ∙ kept f s (a .digits .now) (l .i) (omega (arith, l .inv .0)) (omega arith) ∙ omega arith)
+    let all = l .inv .1 ∙ mapped-whole f s (a .digits .now) (l .i) (omega (arith, l .inv .0)) in (
+      ap (take (a .n)) all ∙ take-at (map f s) (drop (length s) (a .digits .now)) (a .n) (length-map s f ∙ size),
+      ap length (l .inv .1) ∙ mapped-kept f s (a .digits .now) (l .i) (omega (arith, l .inv .0)) (omega arith) ∙ omega arith,
+    )
 
 pub digits-of-spec : {M : Type 1} → statement M
 digits-of-spec =

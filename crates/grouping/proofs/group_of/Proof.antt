@@ -2,7 +2,7 @@ use borrow.Author.Needs.{needs}
 use Prim.Native.Nat.{ℕ, _+_, _*_, _-_, _≤_, _<_}
 use mathlib.Core.Path.{_≡_, sym}
 use native.Mathlib.Omega.{arith}
-use lib.ListN.{length, getD, take, drop}
+use lib.ListN.{getD, take, drop}
 use Rattle.rules.specs.Fractional.{ofDigits}
 use mathlib.Core.List.{map}
 use Rattle.grouping.specs.Digits.{same}
@@ -18,8 +18,11 @@ abbrev μ-loop : tie.MeasureT-loop
 
 loop-holds : tie.Need-loop-holds Inv-loop μ-loop
 loop-holds c =
-    let s = c in
-    (digits-end _ _ (sym (length-group-in same (s .args .digits .now) (s .args .n) (s .args .from) (s .args .g) (omega arith) (omega arith))), omega arith)
+    let s = c in (
+      digits-end _ _ (sym
+          (length-group-in same (s .args .digits .now) (s .args .n) (s .args .from) (s .args .g) (omega arith) (omega arith))),
+      omega arith,
+    )
 
 sub-j : tie.Need-sub-j Inv-loop μ-loop
 sub-j c = search needs
@@ -29,8 +32,11 @@ module _ (s : tie.Start Inv-loop μ-loop) where
   abbrev next : ℕ → ℕ → ℕ
   next j v = s .args .r * v + getD (s .args .digits .now) (s .args .from + (j - 1)) 0
 
-  turn : (j v : ℕ) → v ≡ ofDigits (s .args .r) (drop j (take (s .args .g) (drop (s .args .from) (map same (take (s .args .n) (s .args .digits .now)))))) → 0 < j → j ≤ s .args .g
-      → (next j v ≡ ofDigits (s .args .r) (drop (j - 1) (take (s .args .g) (drop (s .args .from) (map same (take (s .args .n) (s .args .digits .now))))))) × (next j v < 7776)
+  turn : (j v : ℕ) → v ≡ ofDigits (s .args .r)
+      (drop j (take (s .args .g) (drop (s .args .from) (map same (take (s .args .n) (s .args .digits .now)))))) → 0 < j → j ≤ s .args .g
+      → (next j v ≡ ofDigits (s .args .r)
+      (drop (j - 1) (take (s .args .g) (drop (s .args .from) (map same (take (s .args .n) (s .args .digits .now)))))))
+      × (next j v < 7776)
   turn j v e h k =
       group-turn-in same (s .args .digits .now) (s .args .n) (s .args .from) (s .args .r) (s .args .g) j v
       (omega arith) (omega arith) (omega arith) (omega arith) (omega arith) (s .pre .1) e h k

@@ -1,6 +1,6 @@
 use borrow.Author.Needs.{needs}
-use Prim.Native.Nat.{ℕ, _/_, _≤_, _<_}
-use mathlib.Core.Path.{_≡_, refl, sym, ap, subst, _∙_}
+use Prim.Native.Nat.{ℕ, _/_, _<_}
+use mathlib.Core.Path.{_≡_, refl, sym, subst, _∙_}
 use mathlib.Core.List.{List, map, map-id}
 use native.Mathlib.Omega.{arith}
 use lib.ListN.{length, getD, take}
@@ -62,45 +62,50 @@ unfolding groupOf bitsFor
 put-groups-requires c κs =
     let s = c .before .before .before .before .before .before .before in
     let d = c .before .before .before .digits-of in
-    let e : s .args .row .radix ≡ 2 = c .before .before .match .keys1 in
-    ((packs s e refl refl _ (d .ensures .0), omega (arith, d .ensures .1, s .pre .0 .few), d .ensures .1),
-    (each s {g = 1} {w = 1} e refl refl _ (d .ensures .0), able s e refl refl _ (d .ensures .0)))
+    let e : s .args .row .radix ≡ 2 = c .before .before .match .keys1 in (
+      (packs s e refl refl _ (d .ensures .0), omega (arith, d .ensures .1, s .pre .0 .few), d .ensures .1),
+      (each s {g = 1} {w = 1} e refl refl _ (d .ensures .0), able s e refl refl _ (d .ensures .0)),
+    )
 
 put-groups-requires-2 : tie.Need-put-groups-requires-2
 unfolding groupOf bitsFor
 put-groups-requires-2 c κs =
     let s = c .before .before .before .before .before .before .before in
     let d = c .before .before .before .digits-of in
-    let e : s .args .row .radix ≡ 3 = c .before .before .match .keys2 in
-    ((packs s e refl refl _ (d .ensures .0), omega (arith, d .ensures .1, s .pre .0 .few), d .ensures .1),
-    (each s {g = 5} {w = 8} e refl refl _ (d .ensures .0), able s e refl refl _ (d .ensures .0)))
+    let e : s .args .row .radix ≡ 3 = c .before .before .match .keys2 in (
+      (packs s e refl refl _ (d .ensures .0), omega (arith, d .ensures .1, s .pre .0 .few), d .ensures .1),
+      (each s {g = 5} {w = 8} e refl refl _ (d .ensures .0), able s e refl refl _ (d .ensures .0)),
+    )
 
 put-groups-requires-3 : tie.Need-put-groups-requires-3
 unfolding groupOf bitsFor
 put-groups-requires-3 c κs =
     let s = c .before .before .before .before .before .before .before in
     let d = c .before .before .before .digits-of in
-    let e : s .args .row .radix ≡ 4 = c .before .before .match .keys3 in
-    ((packs s e refl refl _ (d .ensures .0), omega (arith, d .ensures .1, s .pre .0 .few), d .ensures .1),
-    (each s {g = 1} {w = 2} e refl refl _ (d .ensures .0), able s e refl refl _ (d .ensures .0)))
+    let e : s .args .row .radix ≡ 4 = c .before .before .match .keys3 in (
+      (packs s e refl refl _ (d .ensures .0), omega (arith, d .ensures .1, s .pre .0 .few), d .ensures .1),
+      (each s {g = 1} {w = 2} e refl refl _ (d .ensures .0), able s e refl refl _ (d .ensures .0)),
+    )
 
 put-groups-requires-4 : tie.Need-put-groups-requires-4
 unfolding groupOf bitsFor
 put-groups-requires-4 c κs =
     let s = c .before .before .before .before .before .before .before in
     let d = c .before .before .before .digits-of in
-    let e : s .args .row .radix ≡ 5 = c .before .before .match .keys4 in
-    ((packs s e refl refl _ (d .ensures .0), omega (arith, d .ensures .1, s .pre .0 .few), d .ensures .1),
-    (each s {g = 5} {w = 12} e refl refl _ (d .ensures .0), able s e refl refl _ (d .ensures .0)))
+    let e : s .args .row .radix ≡ 5 = c .before .before .match .keys4 in (
+      (packs s e refl refl _ (d .ensures .0), omega (arith, d .ensures .1, s .pre .0 .few), d .ensures .1),
+      (each s {g = 5} {w = 12} e refl refl _ (d .ensures .0), able s e refl refl _ (d .ensures .0)),
+    )
 
 put-groups-requires-5 : tie.Need-put-groups-requires-5
 unfolding groupOf bitsFor
 put-groups-requires-5 c κs =
     let s = c .before .before .before .before .before .before .before in
     let d = c .before .before .before .digits-of in
-    let e : s .args .row .radix ≡ 6 = omega arith in
-    ((packs s e refl refl _ (d .ensures .0), omega (arith, d .ensures .1, s .pre .0 .few), d .ensures .1),
-    (each s {g = 5} {w = 13} e refl refl _ (d .ensures .0), able s e refl refl _ (d .ensures .0)))
+    let e : s .args .row .radix ≡ 6 = omega arith in (
+      (packs s e refl refl _ (d .ensures .0), omega (arith, d .ensures .1, s .pre .0 .few), d .ensures .1),
+      (each s {g = 5} {w = 13} e refl refl _ (d .ensures .0), able s e refl refl _ (d .ensures .0)),
+    )
 
 same-length : tie.Need-same-length
 same-length c = search needs

@@ -1,4 +1,3 @@
-use borrow.Author.Needs.{needs}
 use Prim.Native.Nat.{_-_}
 use mathlib.Core.List.{map}
 use native.Mathlib.Omega.{arith}
@@ -18,7 +17,8 @@ abbrev μ-loop : tie.MeasureT-loop
 μ-loop out₀ digits n g w r q₀ from₀ out q from = n - from
 
 loop-holds : tie.Need-loop-holds Inv-loop μ-loop
-loop-holds c = let s = c .before in putting-none _ _ (s .pre .0 .0) (length-take-le (s .args .n) (s .args .digits .now) (s .pre .0 .1)) (s .pre .1 .1)
+loop-holds c = let s = c .before in
+    putting-none _ _ (s .pre .0 .0) (length-take-le (s .args .n) (s .args .digits .now) (s .pre .0 .1)) (s .pre .1 .1)
 
 group-of-requires : tie.Need-group-of-requires Inv-loop μ-loop
 group-of-requires c κs =
@@ -52,7 +52,8 @@ loop-less c = omega (arith, c .before .before .before .before .before .before .b
 loop-again : tie.Need-loop-again Inv-loop μ-loop
 loop-again c =
     let s = c .before .before .before .before .before .before .before .before in
-    putting-turn (s .pre .0 .0) (c .before .before .before .before .before .before .loop .inv) (omega arith) (c .before .before .before .before .group-of .ensures)
+    putting-turn (s .pre .0 .0) (c .before .before .before .before .before .before .loop .inv) (omega arith)
+    (c .before .before .before .before .group-of .ensures)
     (c .before .before .put .ensures) (c .before .before .put .kept .0)
 
 same-length : tie.Need-same-length Inv-loop μ-loop

@@ -33,7 +33,8 @@ returns-3 c =
     let find = c .before in
     let wide = find .before in
     let s = wide .before .before .before .before .before .before .args in
-    among-absent (s .block .now) (s .table .now) (s .number) (s .sample) (omega arith) (omega arith) (wide .wide .ensures) (find .find .ensures .0)
+    among-absent (s .block .now) (s .table .now) (s .number) (s .sample) (omega arith) (omega arith) (wide .wide .ensures)
+    (find .find .ensures .0)
     (omega arith)
 
 at-row-requires : tie.Need-at-row-requires
@@ -44,7 +45,8 @@ returns-4 c =
     let find = c .before .before in
     let wide = find .before in
     let s = wide .before .before .before .before .before .before .args in
-    among-found (s .block .now) (s .table .now) (s .number) (s .sample) (omega arith) (omega arith) (wide .wide .ensures) (find .find .ensures .0)
+    among-found (s .block .now) (s .table .now) (s .number) (s .sample) (omega arith) (omega arith) (wide .wide .ensures)
+    (find .find .ensures .0)
     (omega arith) (c .at-row .ensures)
 
 pub among-spec : {M : Type 1} → statement M

@@ -24,7 +24,8 @@ returns c =
     let sane = c .before in
     let size-of = sane .before in
     let s = size-of .before .before .before .args in
-    jump-table (s .block .now) (s .table .now) (s .number) (s .sample) (size-of .size-of .ensures) (sane .sane .ensures) (not-true _ (c .if1 .taken))
+    jump-table (s .block .now) (s .table .now) (s .number) (s .sample) (size-of .size-of .ensures) (sane .sane .ensures)
+    (not-true _ (c .if1 .taken))
 
 wide-requires : tie.Need-wide-requires
 wide-requires c κs = search needs
@@ -44,7 +45,8 @@ returns-2 c =
     let sane = if1 .before in
     let size-of = sane .before in
     let s = size-of .before .before .before .args in
-    jump-on (s .block .now) (s .table .now) (s .number) (s .sample) (size-of .size-of .ensures) (sane .sane .ensures) (not-false _ (if1 .if1 .left))
+    jump-on (s .block .now) (s .table .now) (s .number) (s .sample) (size-of .size-of .ensures) (sane .sane .ensures)
+    (not-false _ (if1 .if1 .left))
     (rw (wide .wide .ensures) at (c .among .ensures))
 
 pub jump-spec : {M : Type 1} → statement M

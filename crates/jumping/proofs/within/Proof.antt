@@ -54,7 +54,8 @@ from-mark-requires c κs =
 returns-3 : tie.Need-returns-3
 returns-3 c =
     let last = c .before .before .before .before .before .last-mark .ensures in
-    in-from _ _ _ _ _ _ (omega arith) (omega arith) (last .0) (last .1) (c .before .before .before .wide .ensures) (c .before .wide2 .ensures)
+    in-from _ _ _ _ _ _ (omega arith) (omega arith) (last .0) (last .1) (c .before .before .before .wide .ensures)
+    (c .before .wide2 .ensures)
     (c .from-mark .ensures)
 
 pub within-spec : {M : Type 1} → statement M

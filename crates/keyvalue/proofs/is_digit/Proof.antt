@@ -1,5 +1,4 @@
 use borrow.Author.Tests.{le-leb, lt-leb}
-use borrow.Author.Needs.{needs}
 use Rattle.keyvalue.proofs.is_digit.Statement.{statement}
 use Rattle.keyvalue.proofs.is_digit.Tie as tie
 

@@ -1,6 +1,5 @@
 use Rattle.rules.specs.Listing.{lineEnd}
-use Prim.Native.Nat.{_+_}
-use mathlib.Core.Path.{_≡_, refl, sym, ap, _∙_}
+use mathlib.Core.Path.{sym, _∙_}
 use native.Mathlib.Omega.{arith}
 use borrow.Author.Tests.{not-true, not-false}
 use Rattle.keyvalue.proofs.Numbers.{told}
@@ -39,14 +38,19 @@ returns-2 : tie.Need-returns-2
 returns-2 c =
     let n = c .before .before .before .before in
     let k = n .before .before .before in
-    line-no-end _ _ _ (sym (k .before .has-word .ensures) ∙ not-false _ (k .if1 .left)) (told (n .n .given .1) (n .before .before .number-at .ensures))
+    line-no-end _ _ _ (sym (k .before .has-word .ensures) ∙ not-false _ (k .if1 .left))
+    (told (n .n .given .1) (n .before .before .number-at .ensures))
     (sym (c .before .has-word2 .ensures) ∙ not-true _ (c .if2 .taken))
 
 add-t17 : tie.Need-add-t17
 add-t17 c =
     let n = c .before .before .before .before in
     let a = n .before .before .before .before .before .before .before .args in
-    omega (arith, word-fits lineEnd (a .text .now) (n .n .given .0 .1 .0) (sym (c .before .has-word2 .ensures) ∙ not-false _ (c .if2 .left)))
+    omega (
+      arith,
+      word-fits lineEnd (a .text .now) (n .n .given .0 .1 .0)
+          (sym (c .before .has-word2 .ensures) ∙ not-false _ (c .if2 .left)),
+    )
 
 returns-3 : tie.Need-returns-3
 returns-3 c =
@@ -58,7 +62,8 @@ returns-4 : tie.Need-returns-4
 returns-4 c =
     let n = c .before .before .before .before in
     let k = n .before .before .before in
-    line-whole _ _ _ (sym (k .before .has-word .ensures) ∙ not-false _ (k .if1 .left)) (told (n .n .given .1) (n .before .before .number-at .ensures))
+    line-whole _ _ _ (sym (k .before .has-word .ensures) ∙ not-false _ (k .if1 .left))
+    (told (n .n .given .1) (n .before .before .number-at .ensures))
     (sym (c .before .has-word2 .ensures) ∙ not-false _ (c .if2 .left))
 
 pub line-at-spec : {M : Type 1} → statement M

@@ -17,8 +17,11 @@ add-result-2 c = omega (arith, decimal-few 9 (c .before .before .args .n) (omega
 
 returns : tie.Need-returns
 returns c =
-    let a = c .before .before .args in
-    (omega (arith, line-length (a .key .now) (a .n)), omega (arith, line-length (a .key .now) (a .n), line-few (a .key .now) (a .n) (omega arith)))
+    let a = c .before .before .args in (
+      omega (arith, line-length (a .key .now) (a .n)),
+      omega
+          (arith, line-length (a .key .now) (a .n), line-few (a .key .now) (a .n) (omega arith)),
+    )
 
 pub line-octets-spec : {M : Type 1} → statement M
 line-octets-spec = tie.close (tie.spec digits-requires add-result add-result-2 returns)

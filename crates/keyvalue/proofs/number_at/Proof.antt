@@ -5,7 +5,8 @@ use mathlib.Core.Path.{_≡_, sym, _∙_}
 use native.Mathlib.Omega.{arith}
 use lib.ListN.{length, drop}
 use Rattle.keyvalue.specs.Reading.{digitsOn, number, most, capped}
-use Rattle.keyvalue.proofs.Numbers.{digit-range, digits-end, digits-stop, digits-step, number-past, number-zero, number-not, number-start}
+use Rattle.keyvalue.proofs.Numbers.{digit-range, digits-end, digits-stop, digits-step}
+use Rattle.keyvalue.proofs.Numbers.{number-past, number-zero, number-not, number-start}
 use Rattle.keyvalue.proofs.number_at.Statement.{statement}
 use Rattle.keyvalue.proofs.number_at.Tie as tie
 
@@ -31,7 +32,8 @@ is-digit-requires : tie.Need-is-digit-requires Inv-loop μ-loop
 is-digit-requires c κs = search needs
 
 returns-3 : tie.Need-returns-3 Inv-loop μ-loop
-returns-3 c = sym (number-not _ _ (omega arith) (c .before .before .if2 .left) (sym (c .before .is-digit .ensures) ∙ not-true _ (c .if3 .taken)))
+returns-3 c = sym (number-not _ _ (omega arith) (c .before .before .if2 .left)
+    (sym (c .before .is-digit .ensures) ∙ not-true _ (c .if3 .taken)))
 
 more-requires : tie.Need-more-requires Inv-loop μ-loop
 more-requires c κs = digit-range _ (sym (c .before .is-digit .ensures) ∙ not-false _ (c .if3 .left))

@@ -1,4 +1,3 @@
-use Prim.Native.Nat.{_+_}
 use native.Mathlib.Omega.{arith}
 use Rattle.keyvalue.proofs.Numbers.{told}
 use Rattle.keyvalue.proofs.Lines.{ranged-none, ranged-low, ranged-high, ranged-whole}
@@ -16,7 +15,8 @@ enum-known-n : tie.Need-enum-known-n
 enum-known-n c = search needs
 
 returns : tie.Need-returns
-returns c = ranged-low _ _ _ _ _ (omega arith) (told (c .before .before .n .given .1) (c .before .before .before .before .line-at .ensures)) (omega arith)
+returns c = ranged-low _ _ _ _ _ (omega arith) (told (c .before .before .n .given .1) (c .before .before .before .before .line-at .ensures))
+    (omega arith)
 
 returns-2 : tie.Need-returns-2
 returns-2 c =

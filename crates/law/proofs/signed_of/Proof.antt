@@ -2,7 +2,7 @@ use Prim.Native.Nat.{ℕ, _<_, _%_}
 use lib.Bits.{bitXor}
 use borrow.Author.Tests.{le-leb, lt-leb}
 use native.Mathlib.Omega.{arith}
-use mathlib.Core.Path.{_≡_, _∙_}
+use mathlib.Core.Path.{_≡_}
 use mir.Syntax.{w8}
 use mir.Val.{toZ}
 use mir.Facts.{toZ-pos, toZ-ofZ}

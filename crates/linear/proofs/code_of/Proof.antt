@@ -1,6 +1,4 @@
 use native.Mathlib.Omega.{arith}
-use mathlib.Core.Path.{_≡_, sym, ap, _∙_}
-use Rattle.linear.specs.Equations.{eOf}
 use Rattle.linear.specs.Constants.{codeOf}
 use Rattle.linear.proofs.One.{code-small}
 use borrow.Author.Needs.{needs}

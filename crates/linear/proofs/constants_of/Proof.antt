@@ -1,5 +1,4 @@
 use borrow.Author.Tests.{eq-eqb, ne-eqb}
-use borrow.Author.Needs.{needs}
 use Rattle.linear.proofs.constants_of.Statement.{statement}
 use Rattle.linear.proofs.constants_of.Tie as tie
 use Rattle.linear.proofs.constants_of.Reads as reads

@@ -1,4 +1,4 @@
-use mathlib.Core.Path.{_≡_, sym, _∙_}
+use mathlib.Core.Path.{sym, _∙_}
 use lib.ListN.{length}
 use Rattle.linear.specs.Equations.{fromPCM}
 use Rattle.linear.proofs.Frames.{done-room, converted, refused}
@@ -34,7 +34,8 @@ same-length c = search needs
 returns-2 : tie.Need-returns-2
 returns-2 c =
     let a = c .before .before .before .before .before .before .before .before .args in
-    let e = sym (c .before .before .before .before .enum-told .given .1) ∙ c .before .before .before .before .before .before .judge .ensures in
+    let e = sym (c .before .before .before .before .enum-told .given .1)
+    ∙ c .before .before .before .before .before .before .judge .ensures in
     converted (fromPCM (a .law)) (a .law) (a .linear .now) (a .out .now) e (c .before .before .fill-octets .ensures)
 
 pub from-linear-spec : {M : Type 1} → statement M

@@ -1,6 +1,5 @@
 use native.Mathlib.Omega.{arith}
 use Rattle.linear.proofs.Frames.{no-frame}
-use borrow.Author.Needs.{needs}
 use Rattle.linear.proofs.is_frame.Statement.{statement}
 use Rattle.linear.proofs.is_frame.Tie as tie
 use Rattle.linear.proofs.is_frame.Reads as reads

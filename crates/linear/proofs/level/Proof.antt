@@ -1,5 +1,5 @@
 use native.Mathlib.Omega.{arith}
-use mathlib.Core.Path.{_≡_, sym, ap, _∙_}
+use mathlib.Core.Path.{sym}
 use Rattle.linear.proofs.Segments.{level-low}
 use Rattle.linear.proofs.One.{level-shifted}
 use borrow.Author.Needs.{needs}

@@ -1,6 +1,6 @@
 use native.Mathlib.Omega.{arith}
-use mathlib.Core.Path.{_≡_, sym, ap, _∙_}
-use Prim.Native.Nat.{ℕ, _+_, _-_, _%_, _<_, _≤_}
+use mathlib.Core.Path.{_∙_}
+use Prim.Native.Nat.{ℕ, _+_, _-_, _%_}
 use lib.Bits.{bitXor}
 use mir.Syntax.{w16}
 use mir.Facts.{toZ-pos}
@@ -20,7 +20,8 @@ small c = sound-as (c .before .before .before .args .law) (c .before .before .co
 
 -- the level of the octet's code
 abbrev code : (c : tie.After-struct-known3) → ℕ
-code c = bitXor (c .before .before .before .before .before .args .octet) (c .before .before .before .before .constants-of .result .mask) % 128
+code c = bitXor (c .before .before .before .before .before .args .octet)
+    (c .before .before .before .before .constants-of .result .mask) % 128
     + c .before .before .before .before .constants-of .result .step
 
 range : (c : tie.After-struct-known3) → Level (code c) (c .before .level .result)

@@ -1,6 +1,5 @@
 use native.Mathlib.Omega.{arith}
-use mathlib.Core.Path.{_≡_, sym, ap, _∙_}
-use lib.Signed.{mag}
+use mathlib.Core.Path.{ap, _∙_}
 use mir.Syntax.{w16}
 use Prim.Native.Nat.{_+_, min}
 use Rattle.linear.specs.Constants.{mOf}

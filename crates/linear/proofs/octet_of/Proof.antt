@@ -1,11 +1,11 @@
 use native.Mathlib.Omega.{arith}
-use mathlib.Core.Path.{_≡_, sym, ap, _∙_}
+use mathlib.Core.Path.{_≡_, ap, _∙_}
 use lib.Bits.{xor-lt}
 use mir.Facts.{toZ-ofZ}
 use lib.Signed.{mag}
 use mir.Syntax.{w16}
 use Prim.Native.Nat.{_-_}
-use Rattle.linear.specs.Constants.{constantsOf, mOf}
+use Rattle.linear.specs.Constants.{mOf}
 use Rattle.linear.proofs.Signs.{Below, below, Above, above}
 use Rattle.linear.proofs.Sound.{Code, sound-as, m-top}
 use Rattle.linear.proofs.One.{code-fits, octet-below, octet-above}

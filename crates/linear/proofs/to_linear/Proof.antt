@@ -1,4 +1,4 @@
-use mathlib.Core.Path.{_≡_, sym, _∙_}
+use mathlib.Core.Path.{sym, _∙_}
 use lib.ListN.{length}
 use Rattle.linear.specs.Equations.{toPCM}
 use Rattle.linear.proofs.Frames.{done-room, converted, refused}

@@ -43,8 +43,11 @@ loop-less c = search needs
 loop-again : tie.Need-loop-again Inv-loop μ-loop
 loop-again c =
     let a = c .before .before .before .args in
-    let i = c .before .before .loop .i in
-    (omega arith, rw (c .before .before .loop .inv .1, add-one) (paste-suc (a .out .now) (a .at) (a .word .now) i 0 (omega arith) (omega arith)))
+    let i = c .before .before .loop .i in (
+      omega arith,
+      rw (c .before .before .loop .inv .1, add-one)
+          (paste-suc (a .out .now) (a .at) (a .word .now) i 0 (omega arith) (omega arith)),
+    )
 
 add-result : tie.Need-add-result Inv-loop μ-loop
 add-result c = search needs

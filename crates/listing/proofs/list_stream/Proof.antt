@@ -25,7 +25,8 @@ slice-reshare-prefix-write-all : tie.Need-slice-reshare-prefix-write-all Inv-loo
 slice-reshare-prefix-write-all c = search needs
 
 slice-aggregate-write-all : tie.Need-slice-aggregate-write-all Inv-loop μ-loop
-slice-aggregate-write-all c = let l = c .before .before .before .next-page .ensures .0 in sym (length-take-le _ _ (omega (arith, l .size, l .puts .size)))
+slice-aggregate-write-all c = let l = c .before .before .before .next-page .ensures .0 in
+    sym (length-take-le _ _ (omega (arith, l .size, l .puts .size)))
 
 write-all-requires : tie.Need-write-all-requires Inv-loop μ-loop
 write-all-requires c κs = search needs

@@ -38,7 +38,9 @@ returns : tie.Need-returns Inv-loop μ-loop
 returns c =
     let a = c .before .before .before .before .before .before .before .before .before .args in
     in-turn-refused (omega arith) (c .before .before .before .before .before .before .before .loop .inv) (omega arith) (omega arith)
-    (value-apart (a .plus) (a .count) (a .xs .now) (c .before .before .before .before .before .before .before .before .before .pre .4) (omega arith) (c .before .before .before .before .before .before .before .loop .done) (omega arith)) (marks-told-refused (c .before .before .before .value .ensures) (c .before .why .given .1))
+    (value-apart (a .plus) (a .count) (a .xs .now) (c .before .before .before .before .before .before .before .before .before .pre .4)
+    (omega arith) (c .before .before .before .before .before .before .before .loop .done) (omega arith))
+    (marks-told-refused (c .before .before .before .value .ensures) (c .before .why .given .1))
 
 enum-known-ones : tie.Need-enum-known-ones Inv-loop μ-loop
 enum-known-ones c = search needs
@@ -49,8 +51,14 @@ lay-requires c κs = search needs
 sub-empty : tie.Need-sub-empty Inv-loop μ-loop
 sub-empty c =
     let a = c .before .before .before .before .before .before .before .before .before .before .before .before .args in
-    let m = marks-told (c .before .before .before .before .before .before .value .ensures) (c .before .before .before .before .ones .given .1) in
-    in-turn-ones (omega arith) (c .before .before .before .before .before .before .before .before .before .before .loop .inv) (omega arith) (omega arith) (value-apart (a .plus) (a .count) (a .xs .now) (c .before .before .before .before .before .before .before .before .before .before .before .before .pre .4) (omega arith) (c .before .before .before .before .before .before .before .before .before .before .loop .done) (omega arith)) m
+    let m = marks-told (c .before .before .before .before .before .before .value .ensures)
+    (c .before .before .before .before .ones .given .1) in
+    in-turn-ones (omega arith) (c .before .before .before .before .before .before .before .before .before .before .loop .inv)
+    (omega arith) (omega arith)
+    (value-apart (a .plus) (a .count) (a .xs .now)
+    (c .before .before .before .before .before .before .before .before .before .before .before .before .pre .4)
+    (omega arith) (c .before .before .before .before .before .before .before .before .before .before .loop .done)
+    (omega arith)) m
 
 add-done : tie.Need-add-done Inv-loop μ-loop
 add-done c = search needs
@@ -61,9 +69,14 @@ loop-less c = search needs
 loop-again : tie.Need-loop-again Inv-loop μ-loop
 loop-again c =
     let a = c .before .before .before .before .before .before .before .before .before .before .before .before .args in
-    let m = marks-told (c .before .before .before .before .before .before .value .ensures) (c .before .before .before .before .ones .given .1) in
-    in-turn-next (omega arith) (c .before .before .before .before .before .before .before .before .before .before .loop .inv) (omega arith) (omega arith)
-    (value-apart (a .plus) (a .count) (a .xs .now) (c .before .before .before .before .before .before .before .before .before .before .before .before .pre .4) (omega arith) (c .before .before .before .before .before .before .before .before .before .before .loop .done) (omega arith)) m (c .lay .ensures) (m .next)
+    let m = marks-told (c .before .before .before .before .before .before .value .ensures)
+    (c .before .before .before .before .ones .given .1) in
+    in-turn-next (omega arith) (c .before .before .before .before .before .before .before .before .before .before .loop .inv)
+    (omega arith) (omega arith)
+    (value-apart (a .plus) (a .count) (a .xs .now)
+    (c .before .before .before .before .before .before .before .before .before .before .before .before .pre .4)
+    (omega arith) (c .before .before .before .before .before .before .before .before .before .before .loop .done) (omega arith))
+    m (c .lay .ensures) (m .next)
 
 returns-2 : tie.Need-returns-2 Inv-loop μ-loop
 returns-2 c = in-turn-all (omega arith) (c .before .loop .inv) (omega arith) (omega arith) (omega arith)

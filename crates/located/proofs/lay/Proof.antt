@@ -40,7 +40,8 @@ loop-less : tie.Need-loop-less Inv-loop μ-loop
 loop-less c = search needs
 
 loop-again : tie.Need-loop-again Inv-loop μ-loop
-loop-again c = laying-turn (c .before .before .before .before .before .loop .inv) (omega arith) (c .before .cell .ensures) (c .uses .ensures .0) (c .uses .ensures .1)
+loop-again c = laying-turn (c .before .before .before .before .before .loop .inv) (omega arith) (c .before .cell .ensures)
+    (c .uses .ensures .0) (c .uses .ensures .1)
 
 returns : tie.Need-returns Inv-loop μ-loop
 returns c = laying-all (c .before .loop .inv) (omega arith)

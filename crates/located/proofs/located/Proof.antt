@@ -34,7 +34,8 @@ row-of-requires c κs = search needs
 
 returns : tie.Need-returns
 returns c =
-    let s = told (c .before .before .before .before .before .before .before .before .before .number .ensures) (c .before .before .before .before .before .before .before .case .given .1) in
+    let s = told (c .before .before .before .before .before .before .before .before .before .number .ensures)
+    (c .before .before .before .before .before .before .before .case .given .1) in
     let f = told (c .before .before .before .before .before .number2 .ensures) (c .before .before .before .flag .given .1) in
     fills-refused (no-values _ _ _ _ (s .says) (f .says) (c .before .row-of .ensures) (c .if1 .taken)) (omega arith)
 
@@ -43,8 +44,10 @@ add-values c = search needs
 
 values-requires : tie.Need-values-requires
 values-requires c κs =
-    let s = told (c .before .before .before .before .before .before .before .before .before .before .before .before .number .ensures) (c .before .before .before .before .before .before .before .before .before .before .case .given .1) in
-    let f = told (c .before .before .before .before .before .before .before .before .number2 .ensures) (c .before .before .before .before .before .before .flag .given .1) in
+    let s = told (c .before .before .before .before .before .before .before .before .before .before .before .before .number .ensures)
+    (c .before .before .before .before .before .before .before .before .before .before .case .given .1) in
+    let f = told (c .before .before .before .before .before .before .before .before .number2 .ensures)
+    (c .before .before .before .before .before .before .flag .given .1) in
     let r = c .before .before .before .before .row-of .ensures in
     (omega arith, omega arith, omega arith, r .few, apart-as _ r (values-apart _ (omega arith) (omega arith) _ _ _), r .room, omega arith)
 
@@ -55,14 +58,19 @@ returns-2 c = fills-refused (rw (refused (c .before .before .before .number .ens
 returns-3 : tie.Need-returns-3
 unfolding located
 returns-3 c =
-    let s = told (c .before .before .before .before .before .before .before .number .ensures) (c .before .before .before .before .before .case .given .1) in
+    let s = told (c .before .before .before .before .before .before .before .number .ensures)
+    (c .before .before .before .before .before .case .given .1) in
     fills-refused (rw (s .says, refused (c .before .before .before .number2 .ensures) (c .before .why2 .given .1))) (omega arith)
 
 returns-4 : tie.Need-returns-4
 returns-4 c =
-    let s = told (c .before .before .before .before .before .before .before .before .before .before .before .before .before .number .ensures) (c .before .before .before .before .before .before .before .before .before .before .before .case .given .1) in
-    let f = told (c .before .before .before .before .before .before .before .before .before .number2 .ensures) (c .before .before .before .before .before .before .before .flag .given .1) in
-    lays-body (c .values .ensures) (some-values _ _ _ _ (s .says) (f .says) (c .before .before .before .before .before .row-of .ensures) (c .before .before .before .before .if1 .left)) (omega arith) (omega arith)
+    let s = told (c .before .before .before .before .before .before .before .before .before .before .before .before .before
+    .number .ensures) (c .before .before .before .before .before .before .before .before .before .before .before .case .given .1) in
+    let f = told (c .before .before .before .before .before .before .before .before .before .number2 .ensures)
+    (c .before .before .before .before .before .before .before .flag .given .1) in
+    lays-body (c .values .ensures)
+    (some-values _ _ _ _ (s .says) (f .says) (c .before .before .before .before .before .row-of .ensures)
+    (c .before .before .before .before .if1 .left)) (omega arith) (omega arith)
 
 pub located-spec : {M : Type 1} → statement M
 located-spec =

@@ -33,7 +33,8 @@ enum-known-why c = search needs
 returns : tie.Need-returns Inv-loop μ-loop
 returns c =
     marks-filled
-    (listing-refused (c .before .before .before .before .before .loop .inv) (omega arith) (refused (c .before .before .before .number .ensures) (c .before .why .given .1)))
+    (listing-refused (c .before .before .before .before .before .loop .inv) (omega arith)
+    (refused (c .before .before .before .number .ensures) (c .before .why .given .1)))
     (c .before .before .before .before .before .before .fill .ensures)
 
 enum-known-p : tie.Need-enum-known-p Inv-loop μ-loop
@@ -45,16 +46,20 @@ rises-requires c κs = search needs
 returns-2 : tie.Need-returns-2 Inv-loop μ-loop
 returns-2 c =
     let p = told (c .before .before .before .before .before .number .ensures) (c .before .before .before .p .given .1) in
-    marks-filled (listing-falls (c .before .before .before .before .before .before .before .loop .inv) (omega arith) (p .says) (sym (c .before .rises .ensures) ∙ not-true _ (c .if1 .taken))) (c .before .before .before .before .before .before .before .before .fill .ensures)
+    marks-filled (listing-falls (c .before .before .before .before .before .before .before .loop .inv) (omega arith)
+    (p .says) (sym (c .before .rises .ensures) ∙ not-true _ (c .if1 .taken)))
+    (c .before .before .before .before .before .before .before .before .fill .ensures)
 
 element-write-cells : tie.Need-element-write-cells Inv-loop μ-loop
 element-write-cells c =
-    let b = listing-below (c .before .before .before .before .before .before .before .loop .inv) (sym (c .before .rises .ensures) ∙ not-false _ (c .if1 .left)) in
+    let b = listing-below (c .before .before .before .before .before .before .before .loop .inv)
+    (sym (c .before .rises .ensures) ∙ not-false _ (c .if1 .left)) in
     omega (arith, b .0, b .1)
 
 add-least : tie.Need-add-least Inv-loop μ-loop
 add-least c =
-    let b = listing-below (c .before .before .before .before .before .before .before .loop .inv) (sym (c .before .rises .ensures) ∙ not-false _ (c .if1 .left)) in
+    let b = listing-below (c .before .before .before .before .before .before .before .loop .inv)
+    (sym (c .before .rises .ensures) ∙ not-false _ (c .if1 .left)) in
     omega (arith, b .0, b .1)
 
 add-read : tie.Need-add-read Inv-loop μ-loop
@@ -66,7 +71,8 @@ loop-less c = search needs
 loop-again : tie.Need-loop-again Inv-loop μ-loop
 loop-again c =
     let p = told (c .before .before .before .before .before .number .ensures) (c .before .before .before .p .given .1) in
-    listing-turn (c .before .before .before .before .before .before .before .loop .inv) (omega arith) (p .says) (sym (c .before .rises .ensures) ∙ not-false _ (c .if1 .left)) (p .next) (omega arith)
+    listing-turn (c .before .before .before .before .before .before .before .loop .inv) (omega arith) (p .says)
+    (sym (c .before .rises .ensures) ∙ not-false _ (c .if1 .left)) (p .next) (omega arith)
 
 returns-3 : tie.Need-returns-3 Inv-loop μ-loop
 returns-3 c = marks-filled (listing-all (c .before .loop .inv) (omega arith) (omega arith)) (c .before .before .fill .ensures)

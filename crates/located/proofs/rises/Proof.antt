@@ -1,6 +1,5 @@
 -- The test of the definition.
 use borrow.Author.Tests.{le-leb, lt-leb}
-use native.Mathlib.Omega.{arith}
 use Rattle.located.proofs.rises.Statement.{statement}
 use Rattle.located.proofs.rises.Tie as tie
 

@@ -29,7 +29,8 @@ returns-2 : tie.Need-returns-2
 returns-2 c =
     let a = c .before .before .before .before .args in
     let t = three (a .mask) (omega arith) in
-    row-as (a .mask) (too-short (a .n) (a .case) (a .flag) case0 (is-case0 (a .n) (a .case) (a .flag) (omega arith)) (omega arith)) refl (c .no-row2 .ensures)
+    row-as (a .mask) (too-short (a .n) (a .case) (a .flag) case0 (is-case0 (a .n) (a .case) (a .flag) (omega arith)) (omega arith))
+    refl (c .no-row2 .ensures)
 
 some-requires : tie.Need-some-requires
 some-requires c κs = search needs
@@ -38,7 +39,8 @@ returns-3 : tie.Need-returns-3
 returns-3 c =
     let a = c .before .before .before .before .before .args in
     let t = three (a .mask) (omega arith) in
-    row-as (a .mask) (with-flag (a .n) (a .case) (a .flag) case0 (is-case0 (a .n) (a .case) (a .flag) (omega arith)) (omega arith) (omega arith)) (rw (t .one, t .minus, t .less)) (c .some .ensures)
+    row-as (a .mask) (with-flag (a .n) (a .case) (a .flag) case0 (is-case0 (a .n) (a .case) (a .flag) (omega arith))
+    (omega arith) (omega arith)) (rw (t .one, t .minus, t .less)) (c .some .ensures)
 
 some-requires-2 : tie.Need-some-requires-2
 some-requires-2 c κs = search needs
@@ -47,7 +49,8 @@ returns-4 : tie.Need-returns-4
 returns-4 c =
     let a = c .before .before .before .before .before .args in
     let t = three (a .mask) (omega arith) in
-    row-as (a .mask) (without-flag (a .n) (a .case) (a .flag) case0 (is-case0 (a .n) (a .case) (a .flag) (omega arith)) (omega arith) (λ e. omega arith)) (rw (t .one, t .minus, t .less)) (c .some2 .ensures)
+    row-as (a .mask) (without-flag (a .n) (a .case) (a .flag) case0 (is-case0 (a .n) (a .case) (a .flag) (omega arith))
+    (omega arith) (λ e. omega arith)) (rw (t .one, t .minus, t .less)) (c .some2 .ensures)
 
 some-requires-3 : tie.Need-some-requires-3
 some-requires-3 c κs = search needs
@@ -56,7 +59,8 @@ returns-5 : tie.Need-returns-5
 returns-5 c =
     let a = c .before .before .before .before .before .args in
     let t = three (a .mask) (omega arith) in
-    row-as (a .mask) (with-flag (a .n) (a .case) (a .flag) case1 (is-case1 (a .n) (a .case) (a .flag) (omega arith)) (omega arith) (omega arith)) (rw (t .one, t .minus)) (c .some3 .ensures)
+    row-as (a .mask) (with-flag (a .n) (a .case) (a .flag) case1 (is-case1 (a .n) (a .case) (a .flag) (omega arith))
+    (omega arith) (omega arith)) (rw (t .one, t .minus)) (c .some3 .ensures)
 
 some-requires-4 : tie.Need-some-requires-4
 some-requires-4 c κs = search needs
@@ -65,7 +69,8 @@ returns-6 : tie.Need-returns-6
 returns-6 c =
     let a = c .before .before .before .before .before .args in
     let t = three (a .mask) (omega arith) in
-    row-as (a .mask) (without-flag (a .n) (a .case) (a .flag) case1 (is-case1 (a .n) (a .case) (a .flag) (omega arith)) (omega arith) (λ e. omega arith)) (rw (t .one, t .minus)) (c .some4 .ensures)
+    row-as (a .mask) (without-flag (a .n) (a .case) (a .flag) case1 (is-case1 (a .n) (a .case) (a .flag) (omega arith))
+    (omega arith) (λ e. omega arith)) (rw (t .one, t .minus)) (c .some4 .ensures)
 
 no-row-requires-3 : tie.Need-no-row-requires-3
 no-row-requires-3 c κs = search needs
@@ -74,7 +79,8 @@ returns-7 : tie.Need-returns-7
 returns-7 c =
     let a = c .before .before .before .before .before .before .args in
     let t = three (a .mask) (omega arith) in
-    row-as (a .mask) (with-flag (a .n) (a .case) (a .flag) case2 (is-case2 (a .n) (a .case) (a .flag) (omega arith)) (omega arith) (omega arith)) refl (c .no-row3 .ensures)
+    row-as (a .mask) (with-flag (a .n) (a .case) (a .flag) case2 (is-case2 (a .n) (a .case) (a .flag) (omega arith))
+    (omega arith) (omega arith)) refl (c .no-row3 .ensures)
 
 some-requires-5 : tie.Need-some-requires-5
 some-requires-5 c κs = search needs
@@ -83,7 +89,8 @@ returns-8 : tie.Need-returns-8
 returns-8 c =
     let a = c .before .before .before .before .before .before .args in
     let t = three (a .mask) (omega arith) in
-    row-as (a .mask) (without-flag (a .n) (a .case) (a .flag) case2 (is-case2 (a .n) (a .case) (a .flag) (omega arith)) (omega arith) (λ e. omega arith)) (rw (t .minus, t .less)) (c .some5 .ensures)
+    row-as (a .mask) (without-flag (a .n) (a .case) (a .flag) case2 (is-case2 (a .n) (a .case) (a .flag) (omega arith))
+    (omega arith) (λ e. omega arith)) (rw (t .minus, t .less)) (c .some5 .ensures)
 
 some-requires-6 : tie.Need-some-requires-6
 some-requires-6 c κs = search needs
@@ -92,7 +99,8 @@ returns-9 : tie.Need-returns-9
 returns-9 c =
     let a = c .before .before .before .before .before .before .args in
     let t = three (a .mask) (omega arith) in
-    row-as (a .mask) (with-flag (a .n) (a .case) (a .flag) case3 (is-case3 (a .n) (a .case) (a .flag) (omega arith)) (omega arith) (omega arith)) (rw (t .one)) (c .some6 .ensures)
+    row-as (a .mask) (with-flag (a .n) (a .case) (a .flag) case3 (is-case3 (a .n) (a .case) (a .flag) (omega arith))
+    (omega arith) (omega arith)) (rw (t .one)) (c .some6 .ensures)
 
 no-row-requires-4 : tie.Need-no-row-requires-4
 no-row-requires-4 c κs = search needs
@@ -101,7 +109,8 @@ returns-10 : tie.Need-returns-10
 returns-10 c =
     let a = c .before .before .before .before .before .before .args in
     let t = three (a .mask) (omega arith) in
-    row-as (a .mask) (without-flag (a .n) (a .case) (a .flag) case3 (is-case3 (a .n) (a .case) (a .flag) (omega arith)) (omega arith) (λ e. omega arith)) refl (c .no-row4 .ensures)
+    row-as (a .mask) (without-flag (a .n) (a .case) (a .flag) case3 (is-case3 (a .n) (a .case) (a .flag) (omega arith))
+    (omega arith) (λ e. omega arith)) refl (c .no-row4 .ensures)
 
 pub row-of-spec : {M : Type 1} → statement M
 row-of-spec =

@@ -23,7 +23,8 @@ sub-later c =
     let a = c .before .before .before .before .before .before .before .args in
     let p = c .before .before .before .before .before .before .before .pre in
     let m = marks-told (c .before .before .before .value .ensures) (c .before .ones .given .1) in
-    let f = first-told (a .octets .now) (a .at) (a .n) (a .plus) (a .xs .now) (a .count) (omega arith) (omega arith) (value-apart (a .plus) (a .count) (a .xs .now) (p .4) (omega arith) 0 (omega arith)) m in
+    let f = first-told (a .octets .now) (a .at) (a .n) (a .plus) (a .xs .now) (a .count) (omega arith) (omega arith)
+    (value-apart (a .plus) (a .count) (a .xs .now) (p .4) (omega arith) 0 (omega arith)) m in
     f .few
 
 later-requires : tie.Need-later-requires
@@ -31,7 +32,8 @@ later-requires c κs =
     let a = c .before .before .before .before .before .before .before .before .args in
     let p = c .before .before .before .before .before .before .before .before .pre in
     let m = marks-told (c .before .before .before .before .value .ensures) (c .before .before .ones .given .1) in
-    let f = first-told (a .octets .now) (a .at) (a .n) (a .plus) (a .xs .now) (a .count) (omega arith) (omega arith) (value-apart (a .plus) (a .count) (a .xs .now) (p .4) (omega arith) 0 (omega arith)) m in
+    let f = first-told (a .octets .now) (a .at) (a .n) (a .plus) (a .xs .now) (a .count) (omega arith) (omega arith)
+    (value-apart (a .plus) (a .count) (a .xs .now) (p .4) (omega arith) 0 (omega arith)) m in
     (omega (arith, m .next), omega arith, omega arith, omega arith, p .4, omega arith, m .room, f .left, omega arith)
 
 returns : tie.Need-returns
@@ -40,7 +42,8 @@ returns c =
     let p = c .before .before .before .before .before .before .before .pre in
     let v = c .before .before .before .value .ensures in
     lays-refused
-    (first-refused (a .octets .now) (a .at) (a .n) (a .plus) (a .xs .now) (a .count) (omega arith) (omega arith) (value-apart (a .plus) (a .count) (a .xs .now) (p .4) (omega arith) 0 (omega arith))
+    (first-refused (a .octets .now) (a .at) (a .n) (a .plus) (a .xs .now) (a .count) (omega arith) (omega arith)
+    (value-apart (a .plus) (a .count) (a .xs .now) (p .4) (omega arith) 0 (omega arith))
     (marks-told-refused v (c .before .why .given .1)))
     (v .room)
 
@@ -49,7 +52,8 @@ returns-2 c =
     let a = c .before .before .before .before .before .before .before .before .before .args in
     let p = c .before .before .before .before .before .before .before .before .before .pre in
     let m = marks-told (c .before .before .before .before .before .value .ensures) (c .before .before .before .ones .given .1) in
-    let f = first-told (a .octets .now) (a .at) (a .n) (a .plus) (a .xs .now) (a .count) (omega arith) (omega arith) (value-apart (a .plus) (a .count) (a .xs .now) (p .4) (omega arith) 0 (omega arith)) m in
+    let f = first-told (a .octets .now) (a .at) (a .n) (a .plus) (a .xs .now) (a .count) (omega arith) (omega arith)
+    (value-apart (a .plus) (a .count) (a .xs .now) (p .4) (omega arith) 0 (omega arith)) m in
     first-lays f (c .later .ensures) (omega (arith, m .next))
 
 pub values-spec : {M : Type 1} → statement M

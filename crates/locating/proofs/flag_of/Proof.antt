@@ -8,10 +8,12 @@ use Rattle.locating.proofs.flag_of.Reads as reads
 use Rattle.locating.proofs.flag_of.Lts as lts
 
 returns : tie.Need-returns
-returns c = let s = c .before .args in (ap (λ (t : Bool). cond t 1 0) (sym (le-leb (s .below) (s .above) (omega (arith, c .if1 .taken)))), omega arith)
+returns c = let s = c .before .args in
+    (ap (λ (t : Bool). cond t 1 0) (sym (le-leb (s .below) (s .above) (omega (arith, c .if1 .taken)))), omega arith)
 
 returns-2 : tie.Need-returns-2
-returns-2 c = let s = c .before .args in (ap (λ (t : Bool). cond t 1 0) (sym (lt-leb (s .below) (s .above) (omega (arith, c .if1 .left)))), omega arith)
+returns-2 c = let s = c .before .args in
+    (ap (λ (t : Bool). cond t 1 0) (sym (lt-leb (s .below) (s .above) (omega (arith, c .if1 .left)))), omega arith)
 
 pub flag-of-spec : {M : Type 1} → statement M
 flag-of-spec = tie.close (tie.spec returns returns-2)

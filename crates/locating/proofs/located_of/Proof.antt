@@ -23,7 +23,9 @@ size : (s : tie.Start) → length (take (s .args .n) (s .args .samples .now)) �
 size s = length-take-le (s .args .n) (s .args .samples .now) (s .pre .0 .0 .long)
 
 -- its tally is one that value-location applies to
-tested : (s : tie.Start) → true ≡ (leb 80 (s .args .n) && ltb (s .args .row) 4 && leb (s .args .t .one) (s .args .t .plus) && leb (s .args .t .minus) (s .args .t .plus)
+tested : (s : tie.Start)
+    → true ≡ (leb 80 (s .args .n) && ltb (s .args .row) 4 && leb (s .args .t .one) (s .args .t .plus) && leb (s .args .t .minus)
+    (s .args .t .plus)
     && leb (s .args .t .twos) (s .args .t .plus))
 tested s = sym (applied-is (s .pre .1 .0 .0) (size s) (s .pre .1 .1 .0) refl ∙ s .pre .1 .0 .1)
 
@@ -46,7 +48,9 @@ ways-of-requires : tie.Need-ways-of-requires
 ways-of-requires c κs =
     let s = c .before .before .before .before .before .before .before .before in
     let f = s .pre .0 .0 in
-    let turn = turn-of (s .pre .1 .0 .0) (law-for (s .args .mask) (s .pre .0 .1)) (s .args .row) (c .before .before .before .before .before .flag-of .result) (c .before .before .before .plus-zero .ensures) (c .before .before .before .before .values-of .ensures) in
+    let turn = turn-of (s .pre .1 .0 .0) (law-for (s .args .mask) (s .pre .0 .1)) (s .args .row)
+    (c .before .before .before .before .before .flag-of .result) (c .before .before .before .plus-zero .ensures)
+    (c .before .before .before .before .values-of .ensures) in
     ((f .few, (f .long, f .whole)), (turn, s .pre .1 .1 .1))
 
 located-bits-requires : tie.Need-located-bits-requires
@@ -58,8 +62,10 @@ returns c =
     let s = c .before .before .before .before .before .before .before .before .before .before .before .before .before in
     let flag = c .before .before .before .before .before .before .before .before .before .before .flag-of in
     let told = c .before .before .before .before .before .before .before .before .before .values-of .ensures in
-    let turn = turn-of (s .pre .1 .0 .0) (law-for (s .args .mask) (s .pre .0 .1)) (s .args .row) (flag .result) (c .before .before .before .before .before .before .before .before .plus-zero .ensures) told in
-    located-is (s .pre .1 .0 .0) (size s) (s .pre .1 .1 .0) (tested s) refl (flag .ensures .0) (flag .ensures .1) told turn (c .before .before .before .before .ways-of .ensures) (c .before .before .before .located-bits .ensures)
+    let turn = turn-of (s .pre .1 .0 .0) (law-for (s .args .mask) (s .pre .0 .1)) (s .args .row) (flag .result)
+    (c .before .before .before .before .before .before .before .before .plus-zero .ensures) told in
+    located-is (s .pre .1 .0 .0) (size s) (s .pre .1 .1 .0) (tested s) refl (flag .ensures .0) (flag .ensures .1) told
+    turn (c .before .before .before .before .ways-of .ensures) (c .before .before .before .located-bits .ensures)
 
 pub located-of-spec : {M : Type 1} → statement M
 located-of-spec =

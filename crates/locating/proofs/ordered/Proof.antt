@@ -29,28 +29,52 @@ two-requires-2 c κs = search needs
 
 returns-3 : tie.Need-returns-3
 unfolding valuesBy
-returns-3 c = c .two2 .ensures ∙ rw (ne-eqb _ _ (c .before .before .before .before .if1 .left), ne-eqb _ _ (c .before .before .before .if2 .left), eq-eqb _ _ (c .before .before .if3 .taken), eq-eqb _ _ (c .before .if4 .taken))
+returns-3 c = c .two2 .ensures
+    ∙ rw (
+      ne-eqb _ _ (c .before .before .before .before .if1 .left),
+      ne-eqb _ _ (c .before .before .before .if2 .left),
+      eq-eqb _ _ (c .before .before .if3 .taken),
+      eq-eqb _ _ (c .before .if4 .taken),
+    )
 
 two-requires-3 : tie.Need-two-requires-3
 two-requires-3 c κs = search needs
 
 returns-4 : tie.Need-returns-4
 unfolding valuesBy
-returns-4 c = c .two3 .ensures ∙ rw (ne-eqb _ _ (c .before .before .before .before .if1 .left), ne-eqb _ _ (c .before .before .before .if2 .left), eq-eqb _ _ (c .before .before .if3 .taken), ne-eqb _ _ (c .before .if4 .left))
+returns-4 c = c .two3 .ensures
+    ∙ rw (
+      ne-eqb _ _ (c .before .before .before .before .if1 .left),
+      ne-eqb _ _ (c .before .before .before .if2 .left),
+      eq-eqb _ _ (c .before .before .if3 .taken),
+      ne-eqb _ _ (c .before .if4 .left),
+    )
 
 three-requires : tie.Need-three-requires
 three-requires c κs = search needs
 
 returns-5 : tie.Need-returns-5
 unfolding valuesBy
-returns-5 c = c .three .ensures ∙ rw (ne-eqb _ _ (c .before .before .before .before .if1 .left), ne-eqb _ _ (c .before .before .before .if2 .left), ne-eqb _ _ (c .before .before .if3 .left), eq-eqb _ _ (c .before .if5 .taken))
+returns-5 c = c .three .ensures
+    ∙ rw (
+      ne-eqb _ _ (c .before .before .before .before .if1 .left),
+      ne-eqb _ _ (c .before .before .before .if2 .left),
+      ne-eqb _ _ (c .before .before .if3 .left),
+      eq-eqb _ _ (c .before .if5 .taken),
+    )
 
 three-requires-2 : tie.Need-three-requires-2
 three-requires-2 c κs = search needs
 
 returns-6 : tie.Need-returns-6
 unfolding valuesBy
-returns-6 c = c .three2 .ensures ∙ rw (ne-eqb _ _ (c .before .before .before .before .if1 .left), ne-eqb _ _ (c .before .before .before .if2 .left), ne-eqb _ _ (c .before .before .if3 .left), ne-eqb _ _ (c .before .if5 .left))
+returns-6 c = c .three2 .ensures
+    ∙ rw (
+      ne-eqb _ _ (c .before .before .before .before .if1 .left),
+      ne-eqb _ _ (c .before .before .before .if2 .left),
+      ne-eqb _ _ (c .before .before .if3 .left),
+      ne-eqb _ _ (c .before .if5 .left),
+    )
 
 pub ordered-spec : {M : Type 1} → statement M
 ordered-spec =

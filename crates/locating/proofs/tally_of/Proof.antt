@@ -42,8 +42,10 @@ sub-t10 : tie.Need-sub-t10
 sub-t10 c =
     let s = c .before .before .before .before .before .before .before in
     let f = take (s .args .n) (s .args .samples .now) in
-    let o = below-take (s .args .n) (below-all (s .args .samples .now) (λ i. c .before .before .before .before .before .before .shared-slice-known .given i .fits)) in
-    let e₁ = counted f (c .before .before .before .before .count-of .ensures .0) (c .before .before .before .before .before .sample-of .ensures) in
+    let o = below-take (s .args .n)
+    (below-all (s .args .samples .now) (λ i. c .before .before .before .before .before .before .shared-slice-known .given i .fits)) in
+    let e₁ = counted f (c .before .before .before .before .count-of .ensures .0)
+    (c .before .before .before .before .before .sample-of .ensures) in
     let e₂ = counted f (c .before .before .count-of2 .ensures .0) (c .before .before .before .minus-zero .ensures) in
     let e₃ = counted f (c .count-of3 .ensures .0) (c .before .sample-of2 .ensures) in
     let size = length-take-le (s .args .n) (s .args .samples .now) (s .pre .0 .1 .1 .0) in
@@ -53,8 +55,10 @@ returns : tie.Need-returns
 returns c =
     let s = c .before .before .before .before .before .before .before in
     let f = take (s .args .n) (s .args .samples .now) in
-    let o = below-take (s .args .n) (below-all (s .args .samples .now) (λ i. c .before .before .before .before .before .before .shared-slice-known .given i .fits)) in
-    let e₁ = counted f (c .before .before .before .before .count-of .ensures .0) (c .before .before .before .before .before .sample-of .ensures) in
+    let o = below-take (s .args .n)
+    (below-all (s .args .samples .now) (λ i. c .before .before .before .before .before .before .shared-slice-known .given i .fits)) in
+    let e₁ = counted f (c .before .before .before .before .count-of .ensures .0)
+    (c .before .before .before .before .before .sample-of .ensures) in
     let e₂ = counted f (c .before .before .count-of2 .ensures .0) (c .before .before .before .minus-zero .ensures) in
     let e₃ = counted f (c .count-of3 .ensures .0) (c .before .sample-of2 .ensures) in
     let size = length-take-le (s .args .n) (s .args .samples .now) (s .pre .0 .1 .1 .0) in

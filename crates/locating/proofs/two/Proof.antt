@@ -12,7 +12,8 @@ again-requires : tie.Need-again-requires
 again-requires c κs = search needs
 
 returns : tie.Need-returns
-returns c = let s = c .before .args in let f : Value → Values = λ z. record { first = s .x; second = s .y; third = z; count = 2 } in ap f (c .again .ensures)
+returns c = let s = c .before .args in let f : Value → Values = λ z. record { first = s .x; second = s .y; third = z; count = 2 } in
+    ap f (c .again .ensures)
 
 pub two-spec : {M : Type 1} → statement M
 two-spec = tie.close (tie.spec again-requires returns)

@@ -23,7 +23,8 @@ ordered-requires c κs = search needs
 returns : tie.Need-returns
 returns c =
     let s = c .before .before .before .before .args in
-    values-told (s .mask) (s .row) (s .flag) (s .t) (c .ordered .ensures) (c .before .before .before .sample-of .ensures) (c .before .before .minus-zero .ensures) (c .before .sample-of2 .ensures)
+    values-told (s .mask) (s .row) (s .flag) (s .t) (c .ordered .ensures) (c .before .before .before .sample-of .ensures)
+    (c .before .before .minus-zero .ensures) (c .before .sample-of2 .ensures)
 
 pub values-of-spec : {M : Type 1} → statement M
 values-of-spec =

@@ -14,7 +14,10 @@ way-by-requires : tie.Need-way-by-requires
 way-by-requires c κs = search needs
 
 returns : tie.Need-returns
-returns c = record { yes = λ h. absurd (never (sym (not-true _ (c .before .if1 .taken)) ∙ h)); no = λ h. ap (λ (w : Way). w .bits) (c .way-by .ensures) }
+returns c = record {
+  yes = λ h. absurd (never (sym (not-true _ (c .before .if1 .taken)) ∙ h));
+  no = λ h. ap (λ (w : Way). w .bits) (c .way-by .ensures);
+}
 
 way-of-requires : tie.Need-way-of-requires
 way-of-requires c κs = search needs

@@ -28,7 +28,9 @@ way-by-requires-2 : tie.Need-way-by-requires-2
 way-by-requires-2 c κs = search needs
 
 returns-2 : tie.Need-returns-2
-returns-2 c = way-told (λ flags e f. way-binary (f .ones) (c .before .before .before .before .before .if1 .left) (fewest (sym e) (c .before .before .before .least-s .ensures)) _ (f .size) (f .most) (c .before .if2 .taken)) (c .way-by2 .ensures)
+returns-2 c = way-told
+    (λ flags e f. way-binary (f .ones) (c .before .before .before .before .before .if1 .left)
+    (fewest (sym e) (c .before .before .before .least-s .ensures)) _ (f .size) (f .most) (c .before .if2 .taken)) (c .way-by2 .ensures)
 
 narrow-requires : tie.Need-narrow-requires
 narrow-requires c κs = search needs
@@ -40,19 +42,36 @@ way-by-requires-3 : tie.Need-way-by-requires-3
 way-by-requires-3 c κs = search needs
 
 returns-3 : tie.Need-returns-3
-returns-3 c = way-told (λ flags e f. way-often (f .ones) (c .before .before .before .before .before .before .before .before .if1 .left) (fewest (sym e) (c .before .before .before .before .before .before .least-s .ensures)) _ (f .size) (f .most) (c .before .before .before .before .if2 .left) (c .before .before .before .narrow .ensures) (c .if3 .taken)) (c .before .way-by3 .ensures)
+returns-3 c = way-told
+    (λ flags e f. way-often (f .ones) (c .before .before .before .before .before .before .before .before .if1 .left)
+    (fewest (sym e) (c .before .before .before .before .before .before .least-s .ensures)) _ (f .size) (f .most)
+    (c .before .before .before .before .if2 .left) (c .before .before .before .narrow .ensures) (c .if3 .taken))
+    (c .before .way-by3 .ensures)
 
 width-of-requires : tie.Need-width-of-requires
 width-of-requires c κs = search needs
 
 mul-listed : tie.Need-mul-listed
-mul-listed c = omega (arith, listed-small {n = c .before .before .before .before .before .before .before .before .before .before .args .count} (c .before .if3 .left) (c .width-of .ensures .1 .0))
+mul-listed c = omega (
+  arith,
+  listed-small {n = c .before .before .before .before .before .before .before .before .before .before .args .count}
+      (c .before .if3 .left) (c .width-of .ensures .1 .0),
+)
 
 add-listed : tie.Need-add-listed
-add-listed c = omega (arith, listed-small {n = c .before .before .before .before .before .before .before .before .before .before .args .count} (c .before .if3 .left) (c .width-of .ensures .1 .0))
+add-listed c = omega (
+  arith,
+  listed-small {n = c .before .before .before .before .before .before .before .before .before .before .args .count}
+      (c .before .if3 .left) (c .width-of .ensures .1 .0),
+)
 
 returns-4 : tie.Need-returns-4
-returns-4 c = way-told (λ flags e f. way-runs (f .ones) (c .before .before .before .before .before .before .before .before .before .before .before .if1 .left) (fewest (sym e) (c .before .before .before .before .before .before .before .before .before .least-s .ensures)) _ (f .size) (f .most) (c .before .before .before .before .before .before .before .if2 .left) (c .before .before .before .before .before .before .narrow .ensures) (c .before .before .before .if3 .left) (c .before .before .width-of .ensures .0) (c .if4 .taken)) (c .before .before .before .before .way-by3 .ensures)
+returns-4 c = way-told
+    (λ flags e f. way-runs (f .ones) (c .before .before .before .before .before .before .before .before .before .before .before .if1 .left)
+    (fewest (sym e) (c .before .before .before .before .before .before .before .before .before .least-s .ensures)) _
+    (f .size) (f .most) (c .before .before .before .before .before .before .before .if2 .left)
+    (c .before .before .before .before .before .before .narrow .ensures) (c .before .before .before .if3 .left)
+    (c .before .before .width-of .ensures .0) (c .if4 .taken)) (c .before .before .before .before .way-by3 .ensures)
 
 add-way-by-3 : tie.Need-add-way-by-3
 add-way-by-3 c = search needs
@@ -61,7 +80,14 @@ way-by-requires-4 : tie.Need-way-by-requires-4
 way-by-requires-4 c κs = search needs
 
 returns-5 : tie.Need-returns-5
-returns-5 c = way-told (λ flags e f. way-listed (f .ones) (c .before .before .before .before .before .before .before .before .before .before .before .before .if1 .left) (fewest (sym e) (c .before .before .before .before .before .before .before .before .before .before .least-s .ensures)) _ (f .size) (f .most) (below-all flags (f .bits)) (c .before .before .before .before .before .before .before .before .if2 .left) _ (c .before .before .before .before .if3 .left) (c .before .before .before .width-of .ensures .0) (c .before .if4 .left)) (c .way-by4 .ensures)
+returns-5 c = way-told
+    (λ flags e f. way-listed (f .ones)
+    (c .before .before .before .before .before .before .before .before .before .before .before .before .if1 .left)
+    (fewest (sym e) (c .before .before .before .before .before .before .before .before .before .before .least-s .ensures))
+    _ (f .size) (f .most) (below-all flags (f .bits))
+    (c .before .before .before .before .before .before .before .before .if2 .left) _
+    (c .before .before .before .before .if3 .left) (c .before .before .before .width-of .ensures .0)
+    (c .before .if4 .left)) (c .way-by4 .ensures)
 
 pub way-of-spec : {M : Type 1} → statement M
 way-of-spec =

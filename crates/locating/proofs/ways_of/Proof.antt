@@ -38,16 +38,22 @@ way-if-requires c κs =
 
 way-if-requires-2 : tie.Need-way-if-requires-2
 way-if-requires-2 c κs =
-    let s = c .before .before .before .before .before .before .before .before .before .before .before .before .before .before .before .before .before in
+    let s = c .before .before .before .before .before .before .before .before .before .before .before .before .before
+    .before .before .before .before in
     let size = length-take-le (s .args .n) (s .args .samples .now) (s .pre .0 .1 .0) in
     let f = c .before .before .before .before .before .before .before .before .before .found-in .ensures in
     (f .third .few, (omega (arith, f .third .few, f .third .size), omega (arith, s .pre .0 .0)))
 
 returns : tie.Need-returns
 returns c =
-    let s = c .before .before .before .before .before .before .before .before .before .before .before .before .before .before .before .before .before .before in
+    let s = c .before .before .before .before .before .before .before .before .before .before .before .before .before
+    .before .before .before .before .before in
     let size = length-take-le (s .args .n) (s .args .samples .now) (s .pre .0 .1 .0) in
-    ways-are size (s .pre .0 .0) (s .pre .1 .0) (found-whole {n = s .args .n} (s .args .samples .now) (s .args .n / 40) (omega (arith, s .pre .0 .1 .1)) (c .before .before .before .before .before .before .before .before .before .before .found-in .ensures)) (c .before .before .before .before .before .before .way-of .ensures) (c .before .before .before .way-if .ensures) (c .way-if2 .ensures)
+    ways-are size (s .pre .0 .0) (s .pre .1 .0)
+    (found-whole {n = s .args .n} (s .args .samples .now) (s .args .n / 40) (omega (arith, s .pre .0 .1 .1))
+    (c .before .before .before .before .before .before .before .before .before .before .found-in .ensures))
+    (c .before .before .before .before .before .before .way-of .ensures) (c .before .before .before .way-if .ensures)
+    (c .way-if2 .ensures)
 
 pub ways-of-spec : {M : Type 1} → statement M
 ways-of-spec =

@@ -33,7 +33,14 @@ same-requires c κs = search needs
 
 -- src/lib.rt:248:9
 add-count : tie.Need-add-count Inv-loop μ-loop
-add-count c = omega (arith, c .before .before .before .loop .inv .1 .0, c .same .ensures .1, c .before .before .loop-test .taken, c .before .before .before .before .before .pre .0)
+add-count c = omega (
+  arith,
+  c .before .before .before .loop .inv .1 .0,
+  c .same .ensures .1,
+  c .before .before .loop-test
+      .taken,
+  c .before .before .before .before .before .pre .0,
+)
 
 -- src/lib.rt:249:9
 add-i : tie.Need-add-i Inv-loop μ-loop
@@ -48,8 +55,14 @@ loop-again : tie.Need-loop-again Inv-loop μ-loop
 loop-again c =
     let s = c .before .before .before .before .before .args .samples .now in
     let l = c .before .before .before .loop in
-    let k = c .before .before .loop-test .taken in
-    (omega (arith, k), (omega (arith, l .inv .1 .0, c .same .ensures .1), count-more s (l .i) (omega (arith, k, c .before .before .before .before .before .pre .1)) _ (l .inv .1 .1) (c .same .ensures .0)))
+    let k = c .before .before .loop-test .taken in (
+      omega (arith, k),
+      (
+        omega (arith, l .inv .1 .0, c .same .ensures .1),
+        count-more s (l .i)
+            (omega (arith, k, c .before .before .before .before .before .pre .1)) _ (l .inv .1 .1) (c .same .ensures .0),
+      ),
+    )
 
 -- src/lib.rt:251:5
 cast-result : tie.Need-cast-result Inv-loop μ-loop
@@ -58,8 +71,11 @@ cast-result c = omega (arith, c .before .loop .inv .0, c .before .loop .inv .1 .
 -- src/lib.rt:241:1
 returns : tie.Need-returns Inv-loop μ-loop
 returns c =
-    let e : c .before .loop .i ≡ c .before .before .before .args .n = omega (arith, c .before .loop .inv .0, c .loop-test .left) in
-    (rw e at (c .before .loop .inv .1 .1), omega (arith, c .before .loop .inv .0, c .before .loop .inv .1 .0, c .before .before .before .pre .0))
+    let e : c .before .loop .i ≡ c .before .before .before .args .n = omega (arith, c .before .loop .inv .0, c .loop-test .left) in (
+      rw e at (c .before .loop .inv .1 .1),
+      omega
+          (arith, c .before .loop .inv .0, c .before .loop .inv .1 .0, c .before .before .before .pre .0),
+    )
 
 pub count-of-spec : {M : Type 1} → statement M
 count-of-spec =

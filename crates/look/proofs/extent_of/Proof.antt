@@ -34,7 +34,8 @@ loop-less c = search needs
 
 loop-again : tie.Need-loop-again Inv-loop μ-loop
 loop-again c =
-    extent-turn (c .before .before .before .before .before .loop .inv) (omega arith) (c .before .before .before .before .before .before .before .pre)
+    extent-turn (c .before .before .before .before .before .loop .inv) (omega arith)
+    (c .before .before .before .before .before .before .before .pre)
     (c .before .before .line-of .ensures) (c .before .lower .ensures) (c .higher .ensures)
 
 returns : tie.Need-returns Inv-loop μ-loop

@@ -42,8 +42,11 @@ loop-less c = search needs
 loop-again : tie.Need-loop-again Inv-loop μ-loop
 loop-again c =
     let s = c .before .before .before .before in
-    let l = c .before .before .loop in
-    (omega arith, row-again (s .args .x) (s .args .samples .now) (l .row) (s .args .k) (l .i) _ (omega arith) (omega arith) (l .inv .1) (c .word-at .ensures))
+    let l = c .before .before .loop in (
+      omega arith,
+      row-again (s .args .x) (s .args .samples .now) (l .row) (s .args .k) (l .i) _ (omega arith) (omega arith)
+          (l .inv .1) (c .word-at .ensures),
+    )
 
 returns : tie.Need-returns Inv-loop μ-loop
 returns c = let e : c .before .loop .i ≡ c .before .before .before .args .k = omega arith in rw e at (c .before .loop .inv .1)

@@ -31,11 +31,15 @@ loop-less c = search needs
 
 -- src/lib.rt:228:5
 loop-again : tie.Need-loop-again Inv-loop μ-loop
-loop-again c = spread-turn (c .before .before .before .args .samples .now) (c .before .before .before .args .n) (c .before .before .before .args .mask) (c .before .before .loop .any) (c .before .before .loop .all) (c .before .before .loop .i) (c .before .before .before .pre .1) (omega (arith, c .before .loop-test .taken, c .before .before .before .pre .0 .1)) (c .shared-slice-known .given (c .before .before .loop .i) .fits) (c .before .loop-test .taken) (c .before .before .loop .inv)
+loop-again c = spread-turn (c .before .before .before .args .samples .now) (c .before .before .before .args .n)
+    (c .before .before .before .args .mask) (c .before .before .loop .any) (c .before .before .loop .all) (c .before .before .loop .i)
+    (c .before .before .before .pre .1) (omega (arith, c .before .loop-test .taken, c .before .before .before .pre .0 .1))
+    (c .shared-slice-known .given (c .before .before .loop .i) .fits) (c .before .loop-test .taken) (c .before .before .loop .inv)
 
 -- src/lib.rt:220:1
 returns : tie.Need-returns Inv-loop μ-loop
-returns c = spread-done (c .before .before .pre .0 .0) (omega (arith, c .before .loop .inv .within, c .loop-test .left)) (c .before .loop .inv)
+returns c = spread-done (c .before .before .pre .0 .0) (omega (arith, c .before .loop .inv .within, c .loop-test .left))
+    (c .before .loop .inv)
 
 pub spread-of-spec : {M : Type 1} → statement M
 spread-of-spec =

@@ -45,8 +45,11 @@ loop-less c = search needs
 loop-again : tie.Need-loop-again Inv-loop μ-loop
 loop-again c =
     let s = c .before .before .before .before .before in
-    let l = c .before .before .before .loop in
-    (omega arith, word-again (s .args .x) (s .args .samples .now) (s .args .from) (l .j) (l .v) _ (omega arith) (l .inv .1) (c .unlike .ensures .0) (c .unlike .ensures .1))
+    let l = c .before .before .before .loop in (
+      omega arith,
+      word-again (s .args .x) (s .args .samples .now) (s .args .from) (l .j) (l .v) _ (omega arith) (l .inv .1)
+          (c .unlike .ensures .0) (c .unlike .ensures .1),
+    )
 
 returns : tie.Need-returns Inv-loop μ-loop
 returns c = let e : c .before .loop .j ≡ 40 = omega arith in rw e at (c .before .loop .inv .1)

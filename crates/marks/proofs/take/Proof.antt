@@ -1,7 +1,7 @@
-use Prim.Native.Nat.{_*_, _-_}
+use Prim.Native.Nat.{_-_}
 use native.Mathlib.Omega.{arith}
 use mathlib.Core.Path.{sym}
-use lib.ListN.{length, length-set}
+use lib.ListN.{length}
 use Rattle.marks.proofs.Taking.{Taking, takes-wrong, taking-start, taking-few, taking-heard, taking-more, taking-on}
 use Rattle.marks.proofs.Taking.{taking-turn, taken-wrong, taken-all}
 use Rattle.greetings.proofs.Bad.{bad-empty}
@@ -67,7 +67,11 @@ add-samples c =
 
 -- src/lib.rt:46:17
 add-m : tie.Need-add-m Inv-loop μ-loop
-add-m c = omega (arith, taking-few _ _ (c .before .before .before .before .before .before .before .before .before .loop .inv) (omega arith) (omega arith))
+add-m c = omega (
+  arith,
+  taking-few _ _ (c .before .before .before .before .before .before .before .before .before .loop .inv)
+      (omega arith) (omega arith),
+)
 
 -- src/lib.rt:34:5
 loop-less : tie.Need-loop-less Inv-loop μ-loop

@@ -1,6 +1,4 @@
-use native.Mathlib.Omega.{arith}
 use Rattle.masters.proofs.Values.{shifted, unit-a, unit-mu}
-use borrow.Author.Needs.{needs}
 use Rattle.masters.proofs.scaled.Statement.{statement}
 use Rattle.masters.proofs.scaled.Tie as tie
 

@@ -16,7 +16,8 @@ mul-result c =
 returns : tie.Need-returns
 returns c =
     let a = c .before .before .args in
-    raised (a .law) (a .octet) (record { sfits = c .before .linear-of .ok }) (c .before .linear-of .ensures) (unit-a (a .law) (c .if1 .taken)) (omega arith) .is
+    raised (a .law) (a .octet) (record { sfits = c .before .linear-of .ok }) (c .before .linear-of .ensures)
+    (unit-a (a .law) (c .if1 .taken)) (omega arith) .is
 
 mul-result-2 : tie.Need-mul-result-2
 mul-result-2 c =
@@ -27,7 +28,8 @@ mul-result-2 c =
 returns-2 : tie.Need-returns-2
 returns-2 c =
     let a = c .before .before .args in
-    raised (a .law) (a .octet) (record { sfits = c .before .linear-of .ok }) (c .before .linear-of .ensures) (unit-mu (a .law) (c .if1 .left)) (omega arith) .is
+    raised (a .law) (a .octet) (record { sfits = c .before .linear-of .ok }) (c .before .linear-of .ensures)
+    (unit-mu (a .law) (c .if1 .left)) (omega arith) .is
 
 pub value-for-spec : {M : Type 1} → statement M
 value-for-spec = tie.close (tie.spec linear-of-requires mul-result returns mul-result-2 returns-2)

@@ -33,7 +33,8 @@ add-t13 : tie.Need-add-t13 Inv-loop μ-loop
 add-t13 c = search needs
 
 loop-holds : tie.Need-loop-holds Inv-loop μ-loop
-loop-holds c = least-start _ _ _ (omega arith) (ap₂ _+_ (c .before .octet .ensures .0) (c .run-bits .ensures .0)) (omega (arith, c .before .octet .ensures .1, c .run-bits .ensures .1))
+loop-holds c = least-start _ _ _ (omega arith) (ap₂ _+_ (c .before .octet .ensures .0) (c .run-bits .ensures .0))
+    (omega (arith, c .before .octet .ensures .1, c .run-bits .ensures .1))
 
 add-if1 : tie.Need-add-if1 Inv-loop μ-loop
 add-if1 c = search needs
@@ -41,7 +42,8 @@ add-if1 c = search needs
 mul-if1 : tie.Need-mul-if1 Inv-loop μ-loop
 mul-if1 c =
     let s = c .before .before .before .before .before in
-    let few = mul-le-mul {m₁ = 1 + c .before .loop .k} {n₂ = 321} {m₂ = 10} (s .pre .0 .0) (omega (arith, c .loop-test .taken, s .pre .1 .1)) in
+    let few = mul-le-mul {m₁ = 1 + c .before .loop .k} {n₂ = 321} {m₂ = 10} (s .pre .0 .0)
+    (omega (arith, c .loop-test .taken, s .pre .1 .1)) in
     omega arith
 
 returns : tie.Need-returns Inv-loop μ-loop
@@ -72,7 +74,12 @@ loop-less : tie.Need-loop-less Inv-loop μ-loop
 loop-less c = search needs
 
 loop-again : tie.Need-loop-again Inv-loop μ-loop
-loop-again c = least-turn (c .before .before .before .before .before .before .before .loop .k) _ (c .before .before .before .before .before .before .before .loop .inv) (c .before .before .before .before .before .before .loop-test .taken) (ap₂ _+_ (c .before .before .octet2 .ensures .0) (c .before .run-bits2 .ensures .0)) (omega (arith, c .before .before .octet2 .ensures .1, c .before .run-bits2 .ensures .1)) (c .lesser .ensures .0) (c .lesser .ensures .1)
+loop-again c = least-turn (c .before .before .before .before .before .before .before .loop .k) _
+    (c .before .before .before .before .before .before .before .loop .inv)
+    (c .before .before .before .before .before .before .loop-test .taken)
+    (ap₂ _+_ (c .before .before .octet2 .ensures .0) (c .before .run-bits2 .ensures .0))
+    (omega (arith, c .before .before .octet2 .ensures .1, c .before .run-bits2 .ensures .1)) (c .lesser .ensures .0)
+    (c .lesser .ensures .1)
 
 returns-2 : tie.Need-returns-2 Inv-loop μ-loop
 returns-2 c = least-done _ (c .before .loop .inv) (c .loop-test .left)

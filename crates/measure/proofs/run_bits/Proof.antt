@@ -42,8 +42,14 @@ loop-less c = search needs
 loop-again : tie.Need-loop-again Inv-loop μ-loop
 loop-again c =
     let s = c .before .before .before .before in
-    let l = c .before .before .before .loop in
-    (omega arith, (bits-turn (s .args .s) (s .args .runs .now) (l .j) (l .zeros) _ (omega arith) (l .inv .1 .0) (c .zeros-of .ensures .0), omega (arith, c .zeros-of .ensures .1)))
+    let l = c .before .before .before .loop in (
+      omega arith,
+      (
+        bits-turn (s .args .s) (s .args .runs .now) (l .j) (l .zeros) _ (omega arith) (l .inv .1 .0)
+            (c .zeros-of .ensures .0),
+        omega (arith, c .zeros-of .ensures .1),
+      ),
+    )
 
 cast-result : tie.Need-cast-result Inv-loop μ-loop
 cast-result c = search needs
@@ -53,17 +59,20 @@ add-result c = search needs
 
 mul-result : tie.Need-mul-result Inv-loop μ-loop
 mul-result c =
-    let few = mul-le-mul {m₁ = 1 + c .before .before .args .s} {n₂ = 321} {m₂ = 16} (c .before .before .pre .1 .0) (omega (arith, c .before .before .pre .0)) in
+    let few = mul-le-mul {m₁ = 1 + c .before .before .args .s} {n₂ = 321} {m₂ = 16} (c .before .before .pre .1 .0)
+    (omega (arith, c .before .before .pre .0)) in
     omega arith
 
 add-result-2 : tie.Need-add-result-2 Inv-loop μ-loop
 add-result-2 c =
-    let few = mul-le-mul {m₁ = 1 + c .before .before .args .s} {n₂ = 321} {m₂ = 16} (c .before .before .pre .1 .0) (omega (arith, c .before .before .pre .0)) in
+    let few = mul-le-mul {m₁ = 1 + c .before .before .args .s} {n₂ = 321} {m₂ = 16} (c .before .before .pre .1 .0)
+    (omega (arith, c .before .before .pre .0)) in
     omega arith
 
 returns : tie.Need-returns Inv-loop μ-loop
 returns c =
-    let few = mul-le-mul {m₁ = 1 + c .before .before .args .s} {n₂ = 321} {m₂ = 16} (c .before .before .pre .1 .0) (omega (arith, c .before .before .pre .0)) in
+    let few = mul-le-mul {m₁ = 1 + c .before .before .args .s} {n₂ = 321} {m₂ = 16} (c .before .before .pre .1 .0)
+    (omega (arith, c .before .before .pre .0)) in
     let e : c .before .loop .j ≡ c .before .before .args .count = omega arith in
     (rw e at (c .before .loop .inv .1 .0), omega arith)
 

@@ -33,7 +33,8 @@ loop-less : tie.Need-loop-less Inv-loop μ-loop
 loop-less c = let h = width-small _ _ (tested c) (c .before .before .pre) in omega arith
 
 loop-again : tie.Need-loop-again Inv-loop μ-loop
-loop-again c = let h = width-small _ _ (tested c) (c .before .before .pre) in (width-turn _ _ (tested c) (c .before .loop .inv .0), omega arith)
+loop-again c = let h = width-small _ _ (tested c) (c .before .before .pre) in
+    (width-turn _ _ (tested c) (c .before .loop .inv .0), omega arith)
 
 returns : tie.Need-returns Inv-loop μ-loop
 returns c =

@@ -1,6 +1,5 @@
 use borrow.Author.Needs.{needs}
 use Prim.Native.Nat.{_≤_, _-_}
-use native.Mathlib.Omega.{arith}
 use Rattle.mend.proofs.arguments.Statement.{statement}
 use Rattle.mend.proofs.arguments.Tie as tie
 

@@ -42,7 +42,8 @@ returns-2 : tie.Need-returns-2
 returns-2 c = search needs
 
 slice-reshare-prefix-write-result : tie.Need-slice-reshare-prefix-write-result
-slice-reshare-prefix-write-result c = let m = c .before .before .before .before .mend in omega (arith, answer-inside (m .ensures), m .kept .1 .1 .1 .0)
+slice-reshare-prefix-write-result c = let m = c .before .before .before .before .mend in
+    omega (arith, answer-inside (m .ensures), m .kept .1 .1 .1 .0)
 
 slice-aggregate-write-result : tie.Need-slice-aggregate-write-result
 slice-aggregate-write-result c = sym (length-take-le _ _ (answer-inside (c .before .before .before .before .before .mend .ensures)))

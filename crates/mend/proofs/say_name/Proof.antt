@@ -15,7 +15,8 @@ array-share-prefix-name : tie.Need-array-share-prefix-name
 array-share-prefix-name c = laid-fits (c .before .refusal-name .ensures) (c .before .refusal-name .kept .1 .0)
 
 slice-aggregate-say : tie.Need-slice-aggregate-say
-slice-aggregate-say c = sym (length-take-le _ _ (laid-fits (c .before .before .refusal-name .ensures) (c .before .before .refusal-name .kept .1 .0)))
+slice-aggregate-say c =
+    sym (length-take-le _ _ (laid-fits (c .before .before .refusal-name .ensures) (c .before .before .refusal-name .kept .1 .0)))
 
 say-requires : tie.Need-say-requires
 say-requires c κs = search needs

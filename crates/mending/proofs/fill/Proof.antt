@@ -26,8 +26,10 @@ put-frames-requires-3 c κs =
     omega (
       arith,
       room-on (by240 left) 0x21 (by160 left + (by80 left + (by40 left)))
-          (c .before .before .before .put-frames2 .ensures) (room-on (by320 left) 0x31 (by240 left + (by160 left + (by80 left + (by40 left))))
-          (c .before .before .before .before .before .before .before .put-frames .ensures) (room-first left (s .args .at) (length (s .args .out .now)) (s .pre))),
+          (c .before .before .before .put-frames2 .ensures)
+          (room-on (by320 left) 0x31 (by240 left + (by160 left + (by80 left + (by40 left))))
+          (c .before .before .before .before .before .before .before .put-frames .ensures)
+          (room-first left (s .args .at) (length (s .args .out .now)) (s .pre))),
     )
 
 put-frames-requires-4 : tie.Need-put-frames-requires-4
@@ -38,24 +40,30 @@ put-frames-requires-4 c κs =
       arith,
       room-on (by160 left) 0xC1 (by80 left + (by40 left))
           (c .before .before .before .put-frames3 .ensures) (room-on (by240 left) 0x21 (by160 left + (by80 left + (by40 left)))
-          (c .before .before .before .before .before .before .before .put-frames2 .ensures) (room-on (by320 left) 0x31 (by240 left + (by160 left + (by80 left +
+          (c .before .before .before .before .before .before .before .put-frames2 .ensures)
+          (room-on (by320 left) 0x31 (by240 left + (by160 left + (by80 left +
           (by40 left))))
-          (c .before .before .before .before .before .before .before .before .before .before .before .put-frames .ensures) (room-first left (s .args .at)
+          (c .before .before .before .before .before .before .before .before .before .before .before .put-frames .ensures)
+          (room-first left (s .args .at)
           (length (s .args .out .now)) (s .pre)))),
     )
 
 put-frames-requires-5 : tie.Need-put-frames-requires-5
 put-frames-requires-5 c κs =
-    let s = c .before .before .before .before .before .before .before .before .before .before .before .before .before .before .before .before .before .before in
+    let s = c .before .before .before .before .before .before .before .before .before .before .before .before .before
+    .before .before .before .before .before in
     let left = s .args .left in
     omega (
       arith,
       room-on (by80 left) 0x81 (by40 left)
           (c .before .before .before .put-frames4 .ensures) (room-on (by160 left) 0xC1 (by80 left + (by40 left))
-          (c .before .before .before .before .before .before .before .put-frames3 .ensures) (room-on (by240 left) 0x21 (by160 left + (by80 left + (by40 left)))
-          (c .before .before .before .before .before .before .before .before .before .before .before .put-frames2 .ensures) (room-on (by320 left) 0x31
+          (c .before .before .before .before .before .before .before .put-frames3 .ensures)
+          (room-on (by240 left) 0x21 (by160 left + (by80 left + (by40 left)))
+          (c .before .before .before .before .before .before .before .before .before .before .before .put-frames2 .ensures)
+          (room-on (by320 left) 0x31
           (by240 left + (by160 left + (by80 left + (by40 left))))
-          (c .before .before .before .before .before .before .before .before .before .before .before .before .before .before .before .put-frames .ensures)
+          (c .before .before .before .before .before .before .before .before .before .before .before .before .before
+          .before .before .put-frames .ensures)
           (room-first left (s .args .at) (length (s .args .out .now)) (s .pre))))),
     )
 
@@ -64,9 +72,12 @@ same-length c = search needs
 
 returns : tie.Need-returns
 returns c =
-    fills (c .before .before .before .before .before .before .before .before .before .before .before .before .before .before .before .before .before .before .before .before .before .args .left)
-    (c .before .before .before .before .before .before .before .before .before .before .before .before .before .before .before .before .before .before .put-frames .ensures)
-    (c .before .before .before .before .before .before .before .before .before .before .before .before .before .before .put-frames2 .ensures)
+    fills (c .before .before .before .before .before .before .before .before .before .before .before .before .before
+    .before .before .before .before .before .before .before .before .args .left)
+    (c .before .before .before .before .before .before .before .before .before .before .before .before .before .before
+    .before .before .before .before .put-frames .ensures)
+    (c .before .before .before .before .before .before .before .before .before .before .before .before .before .before
+    .put-frames2 .ensures)
     (c .before .before .before .before .before .before .before .before .before .before .put-frames3 .ensures)
     (c .before .before .before .before .before .before .put-frames4 .ensures)
     (c .before .before .put-frames5 .ensures)

@@ -25,7 +25,8 @@ declined-requires-2 c κs = search needs
 returns-2 : tie.Need-returns-2
 returns-2 c =
     let a = c .before .before .before .before .before .args in
-    declined-as (c .declined2 .ensures) (too-long (a .octets .now) (a .law) (a .total) (length (a .out .now)) (omega arith) (omega arith)) (a .out .now)
+    declined-as (c .declined2 .ensures) (too-long (a .octets .now) (a .law) (a .total) (length (a .out .now)) (omega arith) (omega arith))
+    (a .out .now)
 
 is-total-requires : tie.Need-is-total-requires
 is-total-requires c κs = search needs
@@ -36,7 +37,8 @@ declined-requires-3 c κs = search needs
 returns-3 : tie.Need-returns-3
 returns-3 c =
     let a = c .before .before .before .before .before .before .before .args in
-    declined-as (c .declined3 .ensures) (no-total (a .octets .now) (a .law) (a .total) (length (a .out .now)) (omega arith) (omega arith) (sym
+    declined-as (c .declined3 .ensures)
+    (no-total (a .octets .now) (a .law) (a .total) (length (a .out .now)) (omega arith) (omega arith) (sym
     (c .before .before .is-total .ensures) ∙ not-true _ (c .before .if3 .taken))) (a .out .now)
 
 add-walk-on : tie.Need-add-walk-on
@@ -46,7 +48,8 @@ walk-on-requires : tie.Need-walk-on-requires
 walk-on-requires c κs = search needs
 
 sub-filled : tie.Need-sub-filled
-sub-filled c = let a = c .before .before .before .before .before .before .before .before .args in kept-samples (a .octets .now) (a .law) (a .total) (c .before .walk-on .ensures)
+sub-filled c = let a = c .before .before .before .before .before .before .before .before .args in
+    kept-samples (a .octets .now) (a .law) (a .total) (c .before .walk-on .ensures)
 
 fill-octets-requires : tie.Need-fill-octets-requires
 fill-octets-requires c κs = search needs
@@ -68,8 +71,10 @@ declined-requires-4 c κs = search needs
 returns-4 : tie.Need-returns-4
 returns-4 c =
     let a = c .before .before .before .before .before .before .before .before .before .before .before .args in
-    declined-as (c .declined4 .ensures) (result-long (a .octets .now) (a .law) (a .total) (length (a .out .now)) (omega arith) (omega arith) (sym
-    (c .before .before .before .before .before .before .is-total .ensures) ∙ not-false _ (c .before .before .before .before .before .if3 .left))
+    declined-as (c .declined4 .ensures)
+    (result-long (a .octets .now) (a .law) (a .total) (length (a .out .now)) (omega arith) (omega arith) (sym
+    (c .before .before .before .before .before .before .is-total .ensures)
+    ∙ not-false _ (c .before .before .before .before .before .if3 .left))
     (omega (
       arith,
       result-length (a .octets .now) (a .law) (a .total) (c .before .before .before .before .walk-on .ensures) _
@@ -82,7 +87,8 @@ declined-requires-5 c κs = search needs
 returns-5 : tie.Need-returns-5
 returns-5 c =
     let a = c .before .before .before .before .before .before .before .before .before .before .before .before .args in
-    declined-as (c .declined5 .ensures) (no-room (a .octets .now) (a .law) (a .total) (length (a .out .now)) (omega arith) (omega arith) (sym
+    declined-as (c .declined5 .ensures)
+    (no-room (a .octets .now) (a .law) (a .total) (length (a .out .now)) (omega arith) (omega arith) (sym
     (c .before .before .before .before .before .before .before .is-total .ensures) ∙ not-false _
     (c .before .before .before .before .before .before .if3 .left))
     (omega (
@@ -98,7 +104,8 @@ returns-5 c =
 slice-aggregate-put-word : tie.Need-slice-aggregate-put-word
 slice-aggregate-put-word c =
     let a = c .before .before .before .before .before .before .before .before .before .before .before .before .args in
-    sym (length-take-le _ (a .octets .now) (kept-inside (a .octets .now) (a .law) (a .total) (c .before .before .before .before .before .walk-on .ensures)))
+    sym (length-take-le _ (a .octets .now)
+    (kept-inside (a .octets .now) (a .law) (a .total) (c .before .before .before .before .before .walk-on .ensures)))
 
 put-word-requires : tie.Need-put-word-requires
 put-word-requires c κs =
@@ -108,7 +115,8 @@ put-word-requires c κs =
 
 fill-requires : tie.Need-fill-requires
 fill-requires c κs =
-    let a = c .before .before .before .before .before .before .before .before .before .before .before .before .before .before .before .before .before .args in
+    let a = c .before .before .before .before .before .before .before .before .before .before .before .before .before
+    .before .before .before .before .args in
     let i = kept-inside (a .octets .now) (a .law) (a .total)
     (c .before .before .before .before .before .before .before .before .before .before .walk-on .ensures) in
     let p = c .before .before .before .put-word .ensures in
@@ -126,11 +134,15 @@ same-length c = search needs
 
 returns-6 : tie.Need-returns-6
 returns-6 c =
-    let a = c .before .before .before .before .before .before .before .before .before .before .before .before .before .before .before .before .before .before .before .before .args in
+    let a = c .before .before .before .before .before .before .before .before .before .before .before .before .before
+    .before .before .before .before .before .before .before .args in
     mended-as (a .octets .now) (a .law) (a .total)
     (c .before .before .before .before .before .before .before .before .before .before .before .before .before .walk-on .ensures)
     (mends-it (a .octets .now) (a .law) (a .total) (length (a .out .now)) (omega arith) (omega arith) (sym
-    (c .before .before .before .before .before .before .before .before .before .before .before .before .before .before .before .is-total .ensures) ∙ not-false _ (c .before .before .before .before .before .before .before .before .before .before .before .before .before .before .if3 .left))
+    (c .before .before .before .before .before .before .before .before .before .before .before .before .before .before
+    .before .is-total .ensures)
+    ∙ not-false _ (c .before .before .before .before .before .before .before .before .before .before .before
+    .before .before .before .if3 .left))
     (omega (
       arith,
       result-length (a .octets .now) (a .law) (a .total)

@@ -15,7 +15,8 @@ use Rattle.notes.proofs.head_at.Reads as head-at-reads
 use Rattle.rows.proofs.row_at.Reads as row-at-reads
 
 abbrev Inv-loop : tie.InvT-loop
-Inv-loop table n i₀ i = (matched (rowsAt table n 1) (rowsAt (drop 97 table) n 1) ≡ matched (left table n i) (left (drop 97 table) n i)) × (i ≤ n)
+Inv-loop table n i₀ i =
+    (matched (rowsAt table n 1) (rowsAt (drop 97 table) n 1) ≡ matched (left table n i) (left (drop 97 table) n i)) × (i ≤ n)
 
 abbrev μ-loop : tie.MeasureT-loop
 μ-loop table n i₀ i = n - i
@@ -44,7 +45,8 @@ returns c =
     let loop = row-at .before .before in
     let s = loop .before .before .args in
     let w = loop .loop in
-    matched-law (s .table .now) (drop 97 (s .table .now)) (s .n) (w .i) (row-at .row-at .ensures .0) (head-at .head-at .ensures .0) (omega arith)
+    matched-law (s .table .now) (drop 97 (s .table .now)) (s .n) (w .i) (row-at .row-at .ensures .0) (head-at .head-at .ensures .0)
+    (omega arith)
     (omega arith)
     ∙ sym (w .inv .0)
 
@@ -58,7 +60,8 @@ returns-2 c =
     let loop = row-at .before .before in
     let s = loop .before .before .args in
     let w = loop .loop in
-    matched-many (s .table .now) (drop 97 (s .table .now)) (s .n) (w .i) (row-at .row-at .ensures .0) (head-at .head-at .ensures .0) (omega arith)
+    matched-many (s .table .now) (drop 97 (s .table .now)) (s .n) (w .i) (row-at .row-at .ensures .0) (head-at .head-at .ensures .0)
+    (omega arith)
     (omega arith)
     (omega arith) ∙ sym (w .inv .0)
 
@@ -75,7 +78,8 @@ loop-again c =
     let loop = row-at .before .before in
     let s = loop .before .before .args in
     let w = loop .loop in (
-      w .inv .0 ∙ matched-turn (s .table .now) (drop 97 (s .table .now)) (s .n) (w .i) (row-at .row-at .ensures .0) (head-at .head-at .ensures .0)
+      w .inv .0 ∙ matched-turn (s .table .now) (drop 97 (s .table .now)) (s .n) (w .i) (row-at .row-at .ensures .0)
+          (head-at .head-at .ensures .0)
           (omega arith)
           (omega arith) (omega arith),
       omega arith,

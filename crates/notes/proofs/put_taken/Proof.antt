@@ -42,7 +42,8 @@ returns c =
     let s = put .before .before .before .before .before .before .before .before in
     let t = s .args .table .now in
     put .put-note .ensures
-    ∙ ap (λ (x : Note). notesLaid (insertNote (s .args .i) x (notesOf t)) t) (taken-note (s .pre .0 .3) (omega arith) (put .before .wide .ensures))
+    ∙ ap (λ (x : Note). notesLaid (insertNote (s .args .i) x (notesOf t)) t)
+    (taken-note (s .pre .0 .3) (omega arith) (put .before .wide .ensures))
 
 -- src/lib.rt:210:5
 put-walked-requires : tie.Need-put-walked-requires

@@ -61,7 +61,8 @@ returns-3 c =
     let sane = if2 .before in
     let store-cells = sane .before .before in
     let s = store-cells .before .before .args in
-    sane-rest (s .size) (s .table .now) (omega (arith, store-cells .store-cells .ensures)) (sane .sane .ensures) (not-false _ (if2 .if2 .left))
+    sane-rest (s .size) (s .table .now) (omega (arith, store-cells .store-cells .ensures)) (sane .sane .ensures)
+    (not-false _ (if2 .if2 .left))
     (wide .wide .ensures) (wide2 .wide2 .ensures) (if3 .if3 .taken) (c .fits2 .ensures)
 
 returns-4 : tie.Need-returns-4
@@ -72,7 +73,8 @@ returns-4 c =
     let sane = if2 .before in
     let store-cells = sane .before .before in
     let s = store-cells .before .before .args in
-    sane-other (s .size) (s .table .now) (omega (arith, store-cells .store-cells .ensures)) (sane .sane .ensures) (not-false _ (if2 .if2 .left))
+    sane-other (s .size) (s .table .now) (omega (arith, store-cells .store-cells .ensures)) (sane .sane .ensures)
+    (not-false _ (if2 .if2 .left))
     (wide .wide .ensures) (wide2 .wide2 .ensures) (c .if3 .left)
 
 pub sane-spec : {M : Type 1} → statement M

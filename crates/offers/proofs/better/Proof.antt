@@ -20,12 +20,22 @@ add-if2-2 c = search needs
 returns-2 : tie.Need-returns-2
 returns-2 c =
     let s = c .before .before .before in
-    better-not (s .pre .0) (rw (not-false (s .args .offered) (c .before .before .if1 .left), lt-leb (octetsFor (s .args .bits)) (octetsFor (s .args .best .bits)) (omega (arith, c .if2 .taken))))
+    better-not (s .pre .0)
+    (rw (
+      not-false (s .args .offered) (c .before .before .if1 .left),
+      lt-leb (octetsFor (s .args .bits))
+          (octetsFor (s .args .best .bits)) (omega (arith, c .if2 .taken)),
+    ))
 
 returns-3 : tie.Need-returns-3
 returns-3 c =
     let s = c .before .before .before in
-    better-yes (s .pre .1) (rw (not-false (s .args .offered) (c .before .before .if1 .left), le-leb (octetsFor (s .args .bits)) (octetsFor (s .args .best .bits)) (omega (arith, c .if2 .left))))
+    better-yes (s .pre .1)
+    (rw (
+      not-false (s .args .offered) (c .before .before .if1 .left),
+      le-leb (octetsFor (s .args .bits))
+          (octetsFor (s .args .best .bits)) (omega (arith, c .if2 .left)),
+    ))
 
 pub better-spec : {M : Type 1} → statement M
 better-spec = tie.close (tie.spec returns add-if2 add-if2-2 returns-2 returns-3)

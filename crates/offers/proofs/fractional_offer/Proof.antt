@@ -19,7 +19,8 @@ fails-requires c κs = search needs
 returns : tie.Need-returns
 returns c =
     let s = c .before .before .before .before .before in
-    no-row-offer (s .args .mask) (take (s .args .n) (s .args .samples .now)) (length-take-le (s .args .n) (s .args .samples .now) (s .pre .0 .long))
+    no-row-offer (s .args .mask) (take (s .args .n) (s .args .samples .now))
+    (length-take-le (s .args .n) (s .args .samples .now) (s .pre .0 .long))
     (c .before .before .before .row-of .ensures) (omega (arith, c .before .before .row-count .ensures .0)) (c .fails .ensures)
 
 bits-of-requires : tie.Need-bits-of-requires
@@ -28,8 +29,10 @@ bits-of-requires c κs = search needs
 returns-2 : tie.Need-returns-2
 returns-2 c =
     let s = c .before .before .before .before .before in
-    fractional-offer (s .args .mask) (take (s .args .n) (s .args .samples .now)) (length-take-le (s .args .n) (s .args .samples .now) (s .pre .0 .long))
-    (c .before .before .before .row-of .ensures) (omega (arith, c .before .before .row-count .ensures .0)) (c .bits-of .ensures .0) (c .bits-of .ensures .1) refl
+    fractional-offer (s .args .mask) (take (s .args .n) (s .args .samples .now))
+    (length-take-le (s .args .n) (s .args .samples .now) (s .pre .0 .long))
+    (c .before .before .before .row-of .ensures) (omega (arith, c .before .before .row-count .ensures .0)) (c .bits-of .ensures .0)
+    (c .bits-of .ensures .1) refl
 
 pub fractional-offer-spec : {M : Type 1} → statement M
 fractional-offer-spec =

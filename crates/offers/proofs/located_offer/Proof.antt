@@ -7,7 +7,6 @@ use Prim.Native.Nat.{ℕ}
 use mathlib.Core.List.{List}
 use lib.ListN.{length, take}
 use lib.Seq.{length-take-le}
-use native.Mathlib.Omega.{arith}
 use Rattle.offers.proofs.located_offer.Statement.{statement}
 use Rattle.offers.proofs.located_offer.Tie as tie
 use Rattle.offers.proofs.located_offer.Reads as reads
@@ -39,12 +38,16 @@ fails-requires-2 c κs = search needs
 returns-2 : tie.Need-returns-2
 returns-2 c =
     let s = c .before .before .before .before .before .before in
-    far-offer (s .args .mask) (frame s) (size s) (c .before .before .before .before .if1 .left) (sym (c .before .before .before .spread-of .ensures .close) ∙ le-ltb _ 2 (c .before .if2 .taken)) (c .fails2 .ensures)
+    far-offer (s .args .mask) (frame s) (size s) (c .before .before .before .before .if1 .left)
+    (sym (c .before .before .before .spread-of .ensures .close) ∙ le-ltb _ 2 (c .before .if2 .taken)) (c .fails2 .ensures)
 
 near-offer-requires : tie.Need-near-offer-requires
 near-offer-requires c κs =
-    let s = c .before .before .before .before .before in
-    ((s .pre .0, (s .pre .1, c .before .before .before .if1 .left)), sym (c .before .before .spread-of .ensures .close) ∙ lt-ltb _ 2 (c .if2 .left))
+    let s = c .before .before .before .before .before in (
+      (s .pre .0, (s .pre .1, c .before .before .before .if1 .left)),
+      sym (c .before .before .spread-of .ensures .close)
+          ∙ lt-ltb _ 2 (c .if2 .left),
+    )
 
 returns-3 : tie.Need-returns-3
 returns-3 c = search needs

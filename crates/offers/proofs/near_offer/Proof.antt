@@ -52,21 +52,25 @@ returns-2 c =
     let t = c .before .before .before .before .before .tally-of .ensures in
     let found = c .before .before .before .before .row-of .ensures .0 in
     let off = sym (applied-is t (size s) found (c .before .before .located-applies .ensures)) ∙ not-true _ (c .before .if2 .taken) in
-    rare-offer (s .args .mask) (frame s) (size s) (s .pre .0 .1 .1) (omega (arith, row-is t (size s) found, c .before .before .before .if1 .left)) off (c .fails2 .ensures)
+    rare-offer (s .args .mask) (frame s) (size s) (s .pre .0 .1 .1)
+    (omega (arith, row-is t (size s) found, c .before .before .before .if1 .left)) off (c .fails2 .ensures)
 
 located-of-requires : tie.Need-located-of-requires
 located-of-requires c κs =
     let s = c .before .before .before .before .before .before .before .before .before in
     let t = c .before .before .before .before .before .before .before .tally-of .ensures in
     let found = c .before .before .before .before .before .before .row-of .ensures .0 in
-    let on = sym (applied-is t (size s) found (c .before .before .before .before .located-applies .ensures)) ∙ not-false _ (c .before .before .before .if2 .left) in
+    let on = sym (applied-is t (size s) found (c .before .before .before .before .located-applies .ensures))
+    ∙ not-false _ (c .before .before .before .if2 .left) in
     ((s .pre .0 .0, s .pre .0 .1 .0), ((t, on), (found, (refl, (refl, refl)))))
 
 returns-3 : tie.Need-returns-3
 returns-3 c =
     let s = c .before .before .before .before .before .before .before .before .before .before in
     let t = c .before .before .before .before .before .before .before .before .tally-of .ensures in
-    let on = sym (applied-is t (size s) (c .before .before .before .before .before .before .before .row-of .ensures .0) (c .before .before .before .before .before .located-applies .ensures)) ∙ not-false _ (c .before .before .before .before .if2 .left) in
+    let on = sym (applied-is t (size s) (c .before .before .before .before .before .before .before .row-of .ensures .0)
+    (c .before .before .before .before .before .located-applies .ensures))
+    ∙ not-false _ (c .before .before .before .before .if2 .left) in
     let l = c .located-of .ensures in
     met (s .args .mask) 7 (frame s) on (l .bits ∙ located-form (s .args .mask) (frame s)) (l .small) refl
 

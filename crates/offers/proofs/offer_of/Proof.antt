@@ -41,7 +41,8 @@ located-offer-requires c κs = search needs
 returns-5 : tie.Need-returns-5
 returns-5 c =
     let t = low (c .before .before .before .before) in
-    offer-as {t = 7} (omega (arith, t .0, t .1, c .before .before .before .if2 .left, c .before .before .if3 .left, c .before .if4 .left)) (c .located-offer .ensures)
+    offer-as {t = 7} (omega (arith, t .0, t .1, c .before .before .before .if2 .left, c .before .before .if3 .left, c .before .if4 .left))
+    (c .located-offer .ensures)
 
 pub offer-of-spec : {M : Type 1} → statement M
 offer-of-spec =

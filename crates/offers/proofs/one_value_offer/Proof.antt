@@ -4,7 +4,6 @@ use Prim.Native.Nat.{ℕ}
 use mathlib.Core.List.{List}
 use lib.ListN.{length, take}
 use lib.Seq.{length-take-le}
-use native.Mathlib.Omega.{arith}
 use Rattle.offers.proofs.one_value_offer.Statement.{statement}
 use Rattle.offers.proofs.one_value_offer.Tie as tie
 use Rattle.offers.proofs.one_value_offer.Reads as reads

@@ -57,8 +57,10 @@ returns-2 c =
     let s = c .before .before .before .before .before .before .before .before .before in
     let m = s .args .mask in
     let z = c .before .before .before .before .before .before .before .zeros-in .ensures .0 in
-    let zeros = sym (zeros-counted m (frame s) (size s) (z .0) (z .1)) ∙ eq-eqb _ _ (c .before .before .before .before .before .if1 .left) in
-    let row = row-flags m (s .pre .0) (c .before .before .before .before .plus-zero .ensures) (c .before .before .before .others .ensures) in
+    let zeros = sym (zeros-counted m (frame s) (size s) (z .0) (z .1))
+    ∙ eq-eqb _ _ (c .before .before .before .before .before .if1 .left) in
+    let row = row-flags m (s .pre .0) (c .before .before .before .before .plus-zero .ensures)
+    (c .before .before .before .others .ensures) in
     let r = c .rice-of .ensures (frame s) (record { size = size s; zeros = zeros; plus = z .0; minus = z .1; row = row }) in
     met m 6 (frame s) (zeros-apply m (frame s) ∙ zeros) (r .rice (rice-held m (frame s)) .bits ∙ rice-form m (frame s)) (r .small) refl
 

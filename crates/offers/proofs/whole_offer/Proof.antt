@@ -34,7 +34,8 @@ offer-if-requires c κs = search needs
 
 returns : tie.Need-returns
 returns c =
-    let s = c .before .before .before in offer-as (c .before .if1 .taken) (uncompressed-offer (s .args .mask) (frame s) (size s) (s .pre .0 .0 .few) (c .offer-if .ensures))
+    let s = c .before .before .before in
+    offer-as (c .before .if1 .taken) (uncompressed-offer (s .args .mask) (frame s) (size s) (s .pre .0 .0 .few) (c .offer-if .ensures))
 
 plus-zero-requires : tie.Need-plus-zero-requires
 plus-zero-requires c κs = search needs
@@ -44,7 +45,9 @@ one-value-offer-requires c κs = search needs
 
 returns-2 : tie.Need-returns-2
 returns-2 c =
-    let s = c .before .before .before .before .before in offer-as (c .before .before .if2 .taken) (plus-offer (s .args .mask) (frame s) (c .before .plus-zero .ensures) (c .one-value-offer .ensures))
+    let s = c .before .before .before .before .before in
+    offer-as (c .before .before .if2 .taken)
+    (plus-offer (s .args .mask) (frame s) (c .before .plus-zero .ensures) (c .one-value-offer .ensures))
 
 minus-zero-requires : tie.Need-minus-zero-requires
 minus-zero-requires c κs = search needs
@@ -54,7 +57,9 @@ one-value-offer-requires-2 c κs = search needs
 
 returns-3 : tie.Need-returns-3
 returns-3 c =
-    let s = c .before .before .before .before .before .before in offer-as (c .before .before .if3 .taken) (minus-offer (s .args .mask) (frame s) (c .before .minus-zero .ensures) (c .one-value-offer2 .ensures))
+    let s = c .before .before .before .before .before .before in
+    offer-as (c .before .before .if3 .taken)
+    (minus-offer (s .args .mask) (frame s) (c .before .minus-zero .ensures) (c .one-value-offer2 .ensures))
 
 shared-slice-read-one-value-offer : tie.Need-shared-slice-read-one-value-offer
 shared-slice-read-one-value-offer c = search needs
@@ -66,7 +71,14 @@ returns-4 : tie.Need-returns-4
 returns-4 c =
     let s = c .before .before .before .before .before .before in
     let first = sym (getD-take (s .args .n) (s .args .samples .now) 0 0 (s .pre .0 .0 .some)) in
-    offer-as {t = 4} (omega (arith, s .pre .1, c .before .before .before .before .if1 .left, c .before .before .before .if2 .left, c .before .before .if3 .left)) (constant-offer (s .args .mask) (frame s) first (c .one-value-offer3 .ensures))
+    offer-as {t = 4} (omega (
+      arith,
+      s .pre .1,
+      c .before .before .before .before .if1 .left,
+      c .before .before .before .if2 .left,
+      c .before
+          .before .if3 .left,
+    )) (constant-offer (s .args .mask) (frame s) first (c .one-value-offer3 .ensures))
 
 pub whole-offer-spec : {M : Type 1} → statement M
 whole-offer-spec =

@@ -53,14 +53,16 @@ module _ (c : tie.After-first-octet) (b : Begins) (e : c .first-octet .result �
   begins : asFirst b ≡ firstOctet (getD octets 0 0)
   begins = sym (ap asFirst e) ∙ c .first-octet .ensures
 
-  says : (mask set room : ℕ) → afterFirst mask set room (getD octets 0 0) (asFirst b) (bitsOf octets) 8 ≡ frame mask set room (bitsOf octets) 0
+  says : (mask set room : ℕ) → afterFirst mask set room (getD octets 0 0) (asFirst b) (bitsOf octets) 8 ≡ frame mask set
+      room (bitsOf octets) 0
   says = opened octets (omega arith) small (asFirst b) begins
 
   known : LengthKnown (getD octets 0 0) (asFirst b)
   known = length-known (getD octets 0 0) small (asFirst b) begins
 
 six-or-eight-requires : tie.Need-six-or-eight-requires
-six-or-eight-requires c κs = (known (c .before .before .before) (SixOrEight (c .before .n .given .0 .0)) (c .before .n .given .1), omega arith)
+six-or-eight-requires c κs =
+    (known (c .before .before .before) (SixOrEight (c .before .n .given .0 .0)) (c .before .n .given .1), omega arith)
 
 returns-3 : tie.Need-returns-3
 unfolding afterFirst
@@ -89,7 +91,9 @@ returns-5 c =
 returns-6 : tie.Need-returns-6
 returns-6 c =
     record {
-      says = λ mask set room. c .six-or-eight .ensures .says mask set room _ 8 ∙ says (c .before .before .before .before) (SixOrEight (c .before .before .n .given .0 .0)) (c .before .before .n .given .1) mask set room;
+      says = λ mask set room. c .six-or-eight .ensures .says mask set room _ 8
+          ∙ says (c .before .before .before .before) (SixOrEight (c .before .before .n .given .0 .0)) (c .before .before .n .given .1)
+          mask set room;
       ranges = c .six-or-eight .ensures .ranges;
     }
 

@@ -30,7 +30,8 @@ returns-2 c =
     let a = c .before .before .before .before .before .args in
     let e = sym (c .before .before .before .guard .ensures) ∙ c .before .enum-told .given .1 in
     record {
-      says = λ room. c .opening-of .ensures .says (maskOf (a .law)) (a .set) room ∙ sym (read-allowed (a .octets .now) (a .law) (a .set) room e);
+      says = λ room. c .opening-of .ensures .says (maskOf (a .law)) (a .set) room
+          ∙ sym (read-allowed (a .octets .now) (a .law) (a .set) room e);
       ranges = c .opening-of .ensures .ranges;
     }
 

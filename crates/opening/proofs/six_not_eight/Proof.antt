@@ -12,13 +12,24 @@ add-t6 : tie.Need-add-t6
 add-t6 c = search needs
 
 returns : tie.Need-returns
-returns c = record { says = sym (six-at-once (c .before .before .before .args .octets .now) (c .before .before .before .args .at) (omega arith) (sym (c .before .bit-at .ensures .0) ∙ c .if1 .taken)); value = omega arith; next = omega arith }
+returns c = record {
+  says =
+      sym (six-at-once (c .before .before .before .args .octets .now) (c .before .before .before .args .at) (omega arith)
+      (sym (c .before .bit-at .ensures .0) ∙ c .if1 .taken));
+  value = omega arith;
+  next = omega arith;
+}
 
 add-second : tie.Need-add-second
 add-second c = search needs
 
 returns-2 : tie.Need-returns-2
-returns-2 c = record { says = sym (second-missing (c .before .before .before .before .args .octets .now) (c .before .before .before .before .args .at) (omega arith) (λ e. c .before .if1 .left (c .before .before .bit-at .ensures .0 ∙ e)) (omega arith)); value = omega arith; next = omega arith }
+returns-2 c = record {
+  says = sym (second-missing (c .before .before .before .before .args .octets .now) (c .before .before .before .before .args .at)
+      (omega arith) (λ e. c .before .if1 .left (c .before .before .bit-at .ensures .0 ∙ e)) (omega arith));
+  value = omega arith;
+  next = omega arith;
+}
 
 bit-at-requires-2 : tie.Need-bit-at-requires-2
 bit-at-requires-2 c κs = search needs
@@ -28,7 +39,9 @@ add-t9 c = search needs
 
 returns-3 : tie.Need-returns-3
 returns-3 c = record {
-  says = sym (six-by-second (c .before .before .before .before .before .before .args .octets .now) (c .before .before .before .before .before .before .args .at) (omega arith) (λ e. c .before .before .before .if1 .left (c .before .before .before .before .bit-at .ensures .0 ∙ e)) (omega arith)
+  says = sym (six-by-second (c .before .before .before .before .before .before .args .octets .now)
+      (c .before .before .before .before .before .before .args .at) (omega arith)
+      (λ e. c .before .before .before .if1 .left (c .before .before .before .before .bit-at .ensures .0 ∙ e)) (omega arith)
       (sym (c .before .bit-at2 .ensures .0) ∙ c .if3 .taken));
   value = omega arith;
   next = omega arith;
@@ -39,7 +52,9 @@ add-t7 c = search needs
 
 returns-4 : tie.Need-returns-4
 returns-4 c = record {
-  says = sym (eight (c .before .before .before .before .before .before .args .octets .now) (c .before .before .before .before .before .before .args .at) (omega arith) (λ e. c .before .before .before .if1 .left (c .before .before .before .before .bit-at .ensures .0 ∙ e)) (omega arith)
+  says = sym (eight (c .before .before .before .before .before .before .args .octets .now)
+      (c .before .before .before .before .before .before .args .at) (omega arith)
+      (λ e. c .before .before .before .if1 .left (c .before .before .before .before .bit-at .ensures .0 ∙ e)) (omega arith)
       (λ e. c .if3 .left (c .before .bit-at2 .ensures .0 ∙ e)));
   value = omega arith;
   next = omega arith;

@@ -32,7 +32,9 @@ add-t12 c = search needs
 returns : tie.Need-returns
 returns c =
     record {
-      says = six-refused (c .before .before .before .before .before .before .before .args .octets .now) (c .before .before .before .before .before .before .before .args .n) _ (c .before .before .before .before .before .mark-at .ensures .0) (omega arith)
+      says = six-refused (c .before .before .before .before .before .before .before .args .octets .now)
+          (c .before .before .before .before .before .before .before .args .n) _
+          (c .before .before .before .before .before .mark-at .ensures .0) (omega arith)
           (refused (c .before .before .before .six-not-eight .ensures) (c .before .why .given .1));
       ranges = tt;
     }
@@ -40,7 +42,9 @@ returns c =
 returns-2 : tie.Need-returns-2
 returns-2 c =
     record {
-      says = six-decided (c .before .before .before .before .before .before .before .args .octets .now) (c .before .before .before .before .before .before .before .args .n) _ (c .before .before .before .before .before .mark-at .ensures .0) (omega arith)
+      says = six-decided (c .before .before .before .before .before .before .before .args .octets .now)
+          (c .before .before .before .before .before .before .before .args .n) _
+          (c .before .before .before .before .before .mark-at .ensures .0) (omega arith)
           _ (c .before .before .before .before .bit-at .ensures .0)
           (told (c .before .before .before .six-not-eight .ensures) (c .before .t .given .1) .says);
       ranges = (
@@ -48,7 +52,12 @@ returns-2 c =
           len = c .before .before .before .before .before .before .before .pre .0;
           mark = omega (arith, c .before .before .before .before .bit-at .ensures .1);
           at = omega arith;
-          whole-octet = λ h. absurd (omega (arith, at-least-six (c .before .before .before .before .before .before .before .args .octets .now) _ (omega arith) (told (c .before .before .before .six-not-eight .ensures) (c .before .t .given .1) .says)));
+          whole-octet = λ h. absurd
+              (omega (
+                arith,
+                at-least-six (c .before .before .before .before .before .before .before .args .octets .now)
+                    _ (omega arith) (told (c .before .before .before .six-not-eight .ensures) (c .before .t .given .1) .says),
+              ));
         },
         omega arith,
       );

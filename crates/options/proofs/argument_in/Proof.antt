@@ -1,5 +1,5 @@
 use borrow.Author.Needs.{needs}
-use Rattle.texts.proofs.Texts.{part-left}
+use Rattle.rules.proofs.Lent.{from-on}
 use lib.ListN.{getD}
 use Rattle.options.specs.Arguments.{argumentOf, numberedOf}
 use mathlib.Core.Path.{ap, _∙_}
@@ -58,7 +58,7 @@ returns-5 c =
     rw (ne-eqb _ _ (c .before .before .before .before .before .before .before .if1 .left))
     (rw (ne-eqb _ _ (c .before .before .before .before .before .before .if2 .left))
     (rw (eq-eqb _ _ (c .before .before .before .before .if3 .left), ne-eqb _ _ (c .before .before .before .if4 .left))
-    (c .numbered-option .ensures ∙ ap (numberedOf (a .tool) (getD (a .text .now) 1 0)) (part-left (a .text .now) 2))))
+    (c .numbered-option .ensures ∙ ap (numberedOf (a .tool) (getD (a .text .now) 1 0)) (from-on (a .text .now) 2))))
 
 pub argument-in-spec : {M : Type 1} → statement M
 argument-in-spec =

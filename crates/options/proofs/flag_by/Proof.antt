@@ -1,6 +1,5 @@
 use Rattle.options.specs.Arguments.{flagBy}
 use borrow.Author.Tests.{eq-eqb, ne-eqb}
-use borrow.Author.Needs.{needs}
 use Rattle.options.proofs.flag_by.Statement.{statement}
 use Rattle.options.proofs.flag_by.Tie as tie
 

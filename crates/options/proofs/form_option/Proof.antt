@@ -1,5 +1,4 @@
 use borrow.Author.Tests.{eq-eqb, ne-eqb}
-use borrow.Author.Needs.{needs}
 use Rattle.options.proofs.form_option.Statement.{statement}
 use Rattle.options.proofs.form_option.Tie as tie
 

@@ -1,5 +1,4 @@
 use borrow.Author.Tests.{eq-eqb, ne-eqb}
-use borrow.Author.Needs.{needs}
 use Rattle.options.specs.Arguments.{setAtFirst}
 use Rattle.options.proofs.set_at_first.Statement.{statement}
 use Rattle.options.proofs.set_at_first.Tie as tie

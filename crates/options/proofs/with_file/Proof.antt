@@ -17,7 +17,11 @@ returns-2 c = rw (ne-eqb _ _ (c .before .before .before .if1 .left), eq-eqb _ _ 
 
 returns-3 : tie.Need-returns-3
 unfolding withFile
-returns-3 c = rw (ne-eqb _ _ (c .before .before .before .before .if1 .left), ne-eqb _ _ (c .before .before .if2 .left), eq-eqb _ _ (c .if3 .taken))
+returns-3 c = rw (
+  ne-eqb _ _ (c .before .before .before .before .if1 .left),
+  ne-eqb _ _ (c .before .before .if2 .left),
+  eq-eqb _ _ (c .if3 .taken),
+)
 
 with-wrong-requires-2 : tie.Need-with-wrong-requires-2
 with-wrong-requires-2 c κs = search needs

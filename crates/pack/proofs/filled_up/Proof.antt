@@ -11,7 +11,11 @@ same-length : tie.Need-same-length
 same-length c = search needs
 
 returns : tie.Need-returns
-returns c = (rw (c .before .before .before .before .if1 .taken) (c .before .before .fill-up .ensures), omega (arith, c .before .before .fill-up .ensures .added))
+returns c = (
+  rw (c .before .before .before .before .if1 .taken) (c .before .before .fill-up .ensures),
+  omega
+      (arith, c .before .before .fill-up .ensures .added),
+)
 
 returns-2 : tie.Need-returns-2
 returns-2 c = (rw (c .if1 .left) (refl, refl), omega arith)

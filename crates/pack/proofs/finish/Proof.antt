@@ -41,8 +41,15 @@ returns-3 c = search needs
 
 write-stream-requires : tie.Need-write-stream-requires
 write-stream-requires c κs =
-    let a = c .before .before .before .before .before .before .before .before .before .before .before in
-    (record { kept = a .pre .kept; one = a .pre .one; well = for-done (a .args .run .packed .end) (sym (c .before .before .before .before .number-for .ensures) ∙ omega arith) }, refl, (kept-most (a .pre .one), omega arith))
+    let a = c .before .before .before .before .before .before .before .before .before .before .before in (
+      record {
+        kept = a .pre .kept;
+        one = a .pre .one;
+        well = for-done (a .args .run .packed .end) (sym (c .before .before .before .before .number-for .ensures) ∙ omega arith);
+      },
+      refl,
+      (kept-most (a .pre .one), omega arith),
+    )
 
 failed-requires-2 : tie.Need-failed-requires-2
 failed-requires-2 c κs = search needs
@@ -54,7 +61,11 @@ returns-4 : tie.Need-returns-4
 returns-4 c = search needs
 
 say-done-requires : tie.Need-say-done-requires
-say-done-requires c κs = (kept-most (c .before .before .before .before .before .before .before .before .before .before .before .before .before .before .before .pre .one), omega arith)
+say-done-requires c κs = (
+  kept-most (c .before .before .before .before .before .before .before .before .before .before .before .before .before
+      .before .before .pre .one),
+  omega arith,
+)
 
 same-length-2 : tie.Need-same-length-2
 same-length-2 c = search needs

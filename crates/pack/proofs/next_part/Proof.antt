@@ -27,7 +27,9 @@ module _ (c : tie.After-filled-up) where
 
   part-length : length part ≡ size
   part-length =
-      let a : length (c .filled-up .last .1 .0) ≡ partSize = c .filled-up .kept .1 .0 ∙ c .before .before .before .before .before .read-part .kept .1 .1 .1 .1 .0 ∙ c .before .before .before .before .before .before .before .before .before .before .pre .2 in
+      let a : length (c .filled-up .last .1 .0) ≡ partSize = c .filled-up .kept .1 .0
+      ∙ c .before .before .before .before .before .read-part .kept .1 .1 .1 .1 .0
+      ∙ c .before .before .before .before .before .before .before .before .before .before .pre .2 in
       length-take-le size (c .filled-up .last .1 .0) (omega (arith, a, c .filled-up .ensures .1))
 
   part-most : length part ≤ partSize
@@ -42,22 +44,26 @@ module _ (c : tie.After-pack-on) where
   read = c .before .before .before .before .before .before
 
   octets : Below 256 (part read)
-  octets = below-take (size read) (below-all (read .filled-up .last .1 .0) (λ i. c .before .before .before .before .slice-known4 .given i .fits))
+  octets = below-take (size read)
+      (below-all (read .filled-up .last .1 .0) (λ i. c .before .before .before .before .slice-known4 .given i .fits))
 
   abbrev page : List ℕ
   page = c .pack-on .last .1 .1 .1 .1 .1 .0
 
   adds : Adds (length (part read)) (length (start .args .page .now)) (start .args .run .packed) (c .pack-on .result)
   adds =
-      part-adds (start .args .s) (start .args .run) (start .pre .0) (start .pre .1) (part read) (start .args .page .now) page octets (part-most read)
+      part-adds (start .args .s) (start .args .run) (start .pre .0) (start .pre .1) (part read) (start .args .page .now)
+      page octets (part-most read)
       (start .pre .3) (c .pack-on .ensures)
 
   paged : c .pack-on .result .octets - start .args .run .packed .octets ≤ length page
   paged = omega (arith, adds .paged, c .pack-on .kept .1 .1 .1 .1 .1 .0)
 
-  next : NextOctets (start .args .s) (start .args .run .packed) (c .pack-on .result) (take (c .pack-on .result .octets - start .args .run .packed .octets) page)
+  next : NextOctets (start .args .s) (start .args .run .packed) (c .pack-on .result)
+      (take (c .pack-on .result .octets - start .args .run .packed .octets) page)
   next =
-      next-octets (start .args .s) (start .args .run) (start .pre .0) (start .pre .1) (part read) (start .args .page .now) page octets (part-most read)
+      next-octets (start .args .s) (start .args .run) (start .pre .0) (start .pre .1) (part read) (start .args .page .now)
+      page octets (part-most read)
       (start .pre .3) (c .pack-on .ensures)
 
 read-part-requires : tie.Need-read-part-requires
@@ -114,14 +120,17 @@ stopped-requires-2 : tie.Need-stopped-requires-2
 stopped-requires-2 c κs = search needs
 
 same-length-2 : tie.Need-same-length-2
-same-length-2 c = c .before .before .before .before .before .before .before .before .before .before .before .before .before .before .filled-up .kept .1 .0 ∙ c .before .before .before .before .before .before .before .before .before .before .before .before .before .before .before .before .before .before .before .read-part .kept .1 .1 .1 .1 .0
+same-length-2 c = c .before .before .before .before .before .before .before .before .before .before .before .before .before
+    .before .filled-up .kept .1 .0 ∙ c .before .before .before .before .before .before .before .before .before .before
+    .before .before .before .before .before .before .before .before .before .read-part .kept .1 .1 .1 .1 .0
 
 same-length-3 : tie.Need-same-length-3
 same-length-3 c = search needs
 
 returns-2 : tie.Need-returns-2
 returns-2 c =
-    let a = c .before .before .before .before .before .before .before .before .before .before .before .before .before .before .before .before .before .before .before .before .before .before .before .before in
+    let a = c .before .before .before .before .before .before .before .before .before .before .before .before .before
+    .before .before .before .before .before .before .before .before .before .before .before in
     let t = run-stopped (a .args .s) (a .args .run) (c .stopped2 .result) (a .pre .0) (a .pre .1) (c .stopped2 .ensures) in
     (t .stands, t .less)
 
@@ -136,12 +145,21 @@ same-length-5 c = search needs
 
 returns-3 : tie.Need-returns-3
 returns-3 c =
-    let a = c .before .before .before .before .before .before .before .before .before .before .before .before .before .before .before .before .before .before .before .before .before .before .before .before in
+    let a = c .before .before .before .before .before .before .before .before .before .before .before .before .before
+    .before .before .before .before .before .before .before .before .before .before .before in
     let k = c .before .before .before .before .before .before .before .before in
     let f = c .before .before .before .before .before .before .before .before .before .before .before .before .before .before in
-    let r : Run = record { packed = k .pack-on .result; filled = f .filled-up .result; more = c .may-go-on .result; wrong = 0; left = c .before .before .before .before .before .before .before .before .before .before .before .before .before .before .before .before .before .before .before .read-part .result .left } in
+    let r : Run = record {
+      packed = k .pack-on .result;
+      filled = f .filled-up .result;
+      more = c .may-go-on .result;
+      wrong = 0;
+      left = c .before .before .before .before .before .before .before .before .before .before .before .before
+          .before .before .before .before .before .before .before .read-part .result .left;
+    } in
     let t =
-    part-taken (a .args .s) (a .args .run) (a .pre .0) (a .pre .1) (part f) (a .args .page .now) (page k) (octets k) (part-most f) (a .pre .3)
+    part-taken (a .args .s) (a .args .run) (a .pre .0) (a .pre .1) (part f) (a .args .page .now) (page k) (octets k)
+    (part-most f) (a .pre .3)
     (k .pack-on .ensures) (count f) (omega (arith, part-length f)) r refl (c .may-go-on .ensures)
     in (t .stands, t .less)
 

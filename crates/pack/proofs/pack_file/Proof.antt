@@ -75,12 +75,20 @@ returns-4 c = search needs
 
 all-parts-requires : tie.Need-all-parts-requires
 all-parts-requires c κs =
-    let a = c .before .before .before .before .before .before .before .before .before .before .before .before .before .before .before .before .before .before .before .before .before .before .before .before in
-    let p = c .before .before .before .before .before .before .before .before .before .before .before .before .before .before .before .before .pack in
+    let a = c .before .before .before .before .before .before .before .before .before .before .before .before .before
+    .before .before .before .before .before .before .before .before .before .before .before in
+    let p = c .before .before .before .before .before .before .before .before .before .before .before .before .before
+    .before .before .before .pack in
     let o = c .before .before .before .before .before .before .before .before .open-sound in
     let start : Run = record { packed = p .result; filled = 0; more = true; wrong = 0; left = o .result .left } in
-    let well = number-done (p .result .end) (sym (c .before .before .before .before .before .before .before .before .before .before .before .before .before .number-of .ensures) ∙ c .before .before .before .before .before .before .before .before .before .before .before .before .if1 .left) in
-    (stands-first (a .args .s) (a .args .page .now) (p .last .1 .1 .1 .1 .0) start (p .ensures) well, o .kept .1 .1 .0 ∙ a .pre .0, p .kept .1 .1 .1 .1 .0 ∙ a .pre .1)
+    let well = number-done (p .result .end)
+    (sym (c .before .before .before .before .before .before .before .before .before .before .before .before .before .number-of .ensures)
+    ∙ c .before .before .before .before .before .before .before .before .before .before .before .before .if1 .left) in (
+      stands-first (a .args .s) (a .args .page .now) (p .last .1 .1 .1 .1 .0) start (p .ensures) well,
+      o .kept .1 .1 .0
+          ∙ a .pre .0,
+      p .kept .1 .1 .1 .1 .0 ∙ a .pre .1,
+    )
 
 finish-requires : tie.Need-finish-requires
 finish-requires c κs = search needs
@@ -89,7 +97,10 @@ same-length-7 : tie.Need-same-length-7
 same-length-7 c = search needs
 
 same-length-8 : tie.Need-same-length-8
-same-length-8 c = c .before .before .finish .kept .1 .1 .1 .1 .1 .0 ∙ c .before .before .before .before .before .before .before .before .all-parts .kept .1 .1 .1 .1 .1 .0 ∙ c .before .before .before .before .before .before .before .before .before .before .before .before .before .before .before .before .before .before .before .before .before .before .before .before .before .pack .kept .1 .1 .1 .1 .0
+same-length-8 c = c .before .before .finish .kept .1 .1 .1 .1 .1 .0
+    ∙ c .before .before .before .before .before .before .before .before .all-parts .kept .1 .1 .1 .1 .1 .0
+    ∙ c .before .before .before .before .before .before .before .before .before .before .before .before .before .before
+    .before .before .before .before .before .before .before .before .before .before .before .pack .kept .1 .1 .1 .1 .0
 
 returns-5 : tie.Need-returns-5
 returns-5 c = search needs

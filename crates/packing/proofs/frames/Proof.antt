@@ -23,21 +23,51 @@ module _ (c : tie.Else1 Inv-frames μ-frames) where
   some : 1 ≤ c .before .next-length .result
   some = omega arith
 
-  fits : Fits (length (c .before .before .before .before .before .args .sound .now) - c .before .before .frames .from) (c .before .next-length .result)
-  fits = next-fits (c .before .before .before .before .before .args .n) _ (c .before .next-length .result) (c .before .next-length .ensures) some
+  fits : Fits (length (c .before .before .before .before .before .args .sound .now) - c .before .before .frames .from)
+      (c .before .next-length .result)
+  fits = next-fits (c .before .before .before .before .before .args .n) _ (c .before .next-length .result)
+      (c .before .next-length .ensures) some
 
 -- a frame that was put
 module _ (c : tie.After-put-frame Inv-frames μ-frames) where
   turned : c .put-frame .result .end ≡ Done
-      → Packing (c .before .before .before .before .before .before .before .args .sound .now) (c .before .before .before .before .before .before .before .args .law) (c .before .before .before .before .before .before .before .args .set) (c .before .before .before .before .before .before .before .args .n) (c .before .before .before .before .before .before .before .args .out .now) (c .put-frame .last .1 .1 .1 .1 .1 .0) (c .before .before .before .before .frames .from + c .before .before .before .next-length .result) (c .before .before .before .before .frames .at + c .put-frame .result .octets) (c .before .before .before .before .frames .count + 1)
-  turned e = pack-turn _ _ _ _ _ (c .before .before .before .before .frames .inv) (c .before .before .before .before .before .before .before .pre .0) (c .before .before .before .before .before .before .before .pre .1) (c .before .before .before .next-length .ensures) (some (c .before .before)) refl (c .put-frame .ensures) e
+      → Packing (c .before .before .before .before .before .before .before .args .sound .now)
+      (c .before .before .before .before .before .before .before .args .law)
+      (c .before .before .before .before .before .before .before .args .set)
+      (c .before .before .before .before .before .before .before .args .n)
+      (c .before .before .before .before .before .before .before .args .out .now) (c .put-frame .last .1 .1 .1 .1 .1 .0)
+      (c .before .before .before .before .frames .from + c .before .before .before .next-length .result)
+      (c .before .before .before .before .frames .at + c .put-frame .result .octets)
+      (c .before .before .before .before .frames .count + 1)
+  turned e = pack-turn _ _ _ _ _ (c .before .before .before .before .frames .inv)
+      (c .before .before .before .before .before .before .before .pre .0)
+      (c .before .before .before .before .before .before .before .pre .1) (c .before .before .before .next-length .ensures)
+      (some (c .before .before)) refl (c .put-frame .ensures) e
 
   refused : (why : Refusal) → c .put-frame .result .end ≡ Refused why
-      → Packs (c .before .before .before .before .before .before .before .args .law) (c .before .before .before .before .before .before .before .args .set) (packed (c .before .before .before .before .before .before .before .args .sound .now) (c .before .before .before .before .before .before .before .args .law) (c .before .before .before .before .before .before .before .args .set) (c .before .before .before .before .before .before .before .args .n) (c .before .before .before .before .before .before .before .args .out .now)) (record { end = Refused why; frames = c .before .before .before .before .frames .count; samples = c .before .before .before .before .frames .from; octets = c .before .before .before .before .frames .at }) (c .before .before .before .before .before .before .before .args .out .now) (c .put-frame .last .1 .1 .1 .1 .1 .0)
-  refused why e = pack-refused _ _ _ _ _ (c .before .before .before .before .frames .inv) (c .before .before .before .before .before .before .before .pre .0) (c .before .before .before .before .before .before .before .pre .1) (c .before .before .before .next-length .ensures) (some (c .before .before)) refl (c .put-frame .ensures) why e
+      → Packs (c .before .before .before .before .before .before .before .args .law)
+      (c .before .before .before .before .before .before .before .args .set)
+      (packed (c .before .before .before .before .before .before .before .args .sound .now)
+      (c .before .before .before .before .before .before .before .args .law)
+      (c .before .before .before .before .before .before .before .args .set)
+      (c .before .before .before .before .before .before .before .args .n)
+      (c .before .before .before .before .before .before .before .args .out .now))
+      (record {
+        end = Refused why;
+        frames = c .before .before .before .before .frames .count;
+        samples = c .before .before .before .before .frames .from;
+        octets = c .before .before .before .before .frames .at;
+      })
+      (c .before .before .before .before .before .before .before .args .out .now)
+      (c .put-frame .last .1 .1 .1 .1 .1 .0)
+  refused why e = pack-refused _ _ _ _ _ (c .before .before .before .before .frames .inv)
+      (c .before .before .before .before .before .before .before .pre .0)
+      (c .before .before .before .before .before .before .before .pre .1) (c .before .before .before .next-length .ensures)
+      (some (c .before .before)) refl (c .put-frame .ensures) why e
 
 frames-holds : tie.Need-frames-holds Inv-frames μ-frames
-frames-holds c = pack-start (c .before .before .args .sound .now) (c .before .before .args .law) (c .before .before .args .set) (c .before .before .args .n) (c .before .before .args .out .now)
+frames-holds c = pack-start (c .before .before .args .sound .now) (c .before .before .args .law) (c .before .before .args .set)
+    (c .before .before .args .n) (c .before .before .args .out .now)
 
 sub-left : tie.Need-sub-left Inv-frames μ-frames
 sub-left c = search needs
@@ -70,7 +100,12 @@ add-count : tie.Need-add-count Inv-frames μ-frames
 add-count c = search needs
 
 frames-less : tie.Need-frames-less Inv-frames μ-frames
-frames-less c = omega (arith, fits (c .before .before .before .before .before .before .before) .within, fits (c .before .before .before .before .before .before .before) .some)
+frames-less c = omega (
+  arith,
+  fits (c .before .before .before .before .before .before .before) .within,
+  fits
+      (c .before .before .before .before .before .before .before) .some,
+)
 
 frames-again : tie.Need-frames-again Inv-frames μ-frames
 frames-again c = turned (c .before .before .before .before .before) (c .before .enum-told .given .1)
@@ -79,10 +114,12 @@ same-length : tie.Need-same-length Inv-frames μ-frames
 same-length c = lent-length (c .before .before .before .frames .inv .kept)
 
 returns : tie.Need-returns Inv-frames μ-frames
-returns c = pack-done _ _ _ _ _ (c .before .before .before .frames .inv) (sym (c .before .before .next-length .ensures) ∙ c .before .if1 .taken) (c .last-end .ensures)
+returns c = pack-done _ _ _ _ _ (c .before .before .before .frames .inv)
+    (sym (c .before .before .next-length .ensures) ∙ c .before .if1 .taken) (c .last-end .ensures)
 
 same-length-2 : tie.Need-same-length-2 Inv-frames μ-frames
-same-length-2 c = c .before .before .before .before .before .put-frame .kept .1 .1 .1 .1 .1 .0 ∙ lent-length (c .before .before .before .before .before .before .before .before .before .frames .inv .kept)
+same-length-2 c = c .before .before .before .before .before .put-frame .kept .1 .1 .1 .1 .1 .0
+    ∙ lent-length (c .before .before .before .before .before .before .before .before .before .frames .inv .kept)
 
 returns-2 : tie.Need-returns-2 Inv-frames μ-frames
 returns-2 c = refused (c .before .before .before .before .before) (c .before .e .given .0 .0) (c .before .e .given .1)

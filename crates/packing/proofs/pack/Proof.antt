@@ -1,14 +1,9 @@
 use borrow.Author.Needs.{needs}
-use mathlib.Core.Path.{_≡_, sym, _∙_}
-use mathlib.Core.List.{List}
-use mathlib.Core.Bool.{true, false}
-use Prim.Native.Nat.{ℕ}
+use mathlib.Core.Path.{sym, _∙_}
 use borrow.Author.Tests.{not-true, not-false}
 use lib.ListN.{length}
-use Rattle.rules.specs.declared.Ending.the-variants.{Done}
-use Rattle.rules.specs.Refusals.{verdict}
-use Rattle.rules.specs.Tools.{isLength, writerAsks}
-use Rattle.rules.proofs.Guards.{AllMet, all-met}
+use Rattle.rules.specs.Tools.{writerAsks}
+use Rattle.rules.proofs.Guards.{all-met}
 use Rattle.packing.proofs.Ordered.{stops, packs-as, refuses, no-length, the-frames}
 use Rattle.packing.proofs.pack.Statement.{statement}
 use Rattle.packing.proofs.pack.Tie as tie
@@ -55,7 +50,8 @@ returns-2 : tie.Need-returns-2
 returns-2 c =
     let a = c .before .before .before .before .before .before .before .args in
     let e = sym (c .before .before .before .before .guard-writer .ensures) ∙ c .before .before .why .given .1 in
-    stops (c .stopped .ensures) (a .law) (a .set) _ (refuses (a .sound .now) (a .law) (a .set) (a .n) (length (a .out .now)) e) (a .out .now)
+    stops (c .stopped .ensures) (a .law) (a .set) _ (refuses (a .sound .now) (a .law) (a .set) (a .n) (length (a .out .now)) e)
+    (a .out .now)
 
 same-length : tie.Need-same-length
 same-length c = search needs

@@ -25,7 +25,8 @@ module _ (c : tie.After-pack) where
   fits = omega (arith, c .before .before .room-on .ensures)
 
   inside : Inside (length (start .args .part .now)) (c .before .before .room-on .result) (c .pack .result)
-  inside = part-inside (start .args .part .now) (start .args .law) (start .args .set) (start .args .n) (start .args .page .now) (c .before .before .room-on .result) fits (c .pack .ensures)
+  inside = part-inside (start .args .part .now) (start .args .law) (start .args .set) (start .args .n) (start .args .page .now)
+      (c .before .before .room-on .result) fits (c .pack .ensures)
 
 enum-told : tie.Need-enum-told
 enum-told c = search needs
@@ -36,7 +37,8 @@ enum-told-2 c = search needs
 returns : tie.Need-returns
 returns c =
     let s = c .before .before .before .before in
-    stays-refused (s .args .done) (s .args .part .now) (s .args .law) (s .args .set) (s .args .n) (s .args .page .now) (c .enum-told2 .given .0 .0) (c .enum-told2 .given .1)
+    stays-refused (s .args .done) (s .args .part .now) (s .args .law) (s .args .set) (s .args .n) (s .args .page .now)
+    (c .enum-told2 .given .0 .0) (c .enum-told2 .given .1)
 
 room-on-requires : tie.Need-room-on-requires
 room-on-requires c κs = search needs
@@ -51,13 +53,30 @@ pack-requires : tie.Need-pack-requires
 pack-requires c κs = search needs
 
 add-t11 : tie.Need-add-t11
-add-t11 c = omega (arith, inside (c .before .before .before .before) .frames, c .before .before .before .before .before .before .before .before .before .before .before .pre .1)
+add-t11 c = omega (
+  arith,
+  inside (c .before .before .before .before) .frames,
+  c .before .before .before .before .before
+      .before .before .before .before .before .before .pre .1,
+)
 
 add-t14 : tie.Need-add-t14
-add-t14 c = omega (arith, inside (c .before .before .before .before .before .before) .samples, c .before .before .before .before .before .before .before .before .before .before .before .before .before .pre .2)
+add-t14 c = omega (
+  arith,
+  inside (c .before .before .before .before .before .before) .samples,
+  c .before .before .before
+      .before .before .before .before .before .before .before .before .before .before .pre .2,
+)
 
 add-t15 : tie.Need-add-t15
-add-t15 c = omega (arith, inside (c .before .before .before .before .before .before .before .before) .octets, c .before .before .before .before .before .before .before .before .before .before .room-on .ensures, c .before .before .before .before .before .before .before .before .before .before .before .before .before .before .before .pre .0)
+add-t15 c = omega (
+  arith,
+  inside (c .before .before .before .before .before .before .before .before) .octets,
+  c .before
+      .before .before .before .before .before .before .before .before .before .room-on .ensures,
+  c .before .before .before
+      .before .before .before .before .before .before .before .before .before .before .before .before .pre .0,
+)
 
 same-length : tie.Need-same-length
 same-length c = search needs
@@ -66,7 +85,11 @@ returns-2 : tie.Need-returns-2
 returns-2 c =
     let s = c .before .before .before .before .before .before .before .before .before .before .before .before .before .before .before in
     let p = c .before .before .before .before .before .before .before .before .pack in
-    part-packed (s .args .done) (s .args .part .now) (s .args .law) (s .args .set) (s .args .n) (c .before .before .before .before .before .before .before .before .before .before .room-on .result) (s .args .page .now) (p .last .1 .1 .1 .1 .0) (c .before .before .before .before .before .before .before .before .before .before .before .enum-told .given .1) (c .before .before .before .before .before .before .before .before .before .before .room-on .ensures) (p .ensures)
+    part-packed (s .args .done) (s .args .part .now) (s .args .law) (s .args .set) (s .args .n)
+    (c .before .before .before .before .before .before .before .before .before .before .room-on .result) (s .args .page .now)
+    (p .last .1 .1 .1 .1 .0)
+    (c .before .before .before .before .before .before .before .before .before .before .before .enum-told .given .1)
+    (c .before .before .before .before .before .before .before .before .before .before .room-on .ensures) (p .ensures)
 
 pub pack-on-spec : {M : Type 1} → statement M
 pack-on-spec =

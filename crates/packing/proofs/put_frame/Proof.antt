@@ -30,7 +30,8 @@ same-length c = search needs
 returns : tie.Need-returns
 returns c =
     let s = c .before .before .before .before .before .before .before in
-    frame-put (s .args .sound .now) (s .args .from) (s .args .to) (s .args .law) (s .args .set) (s .args .at) (s .args .out .now) (c .before .before .write-samples .last .1 .1 .1 .0) (s .pre .0) (s .pre .1) (c .before .before .write-samples .ensures)
+    frame-put (s .args .sound .now) (s .args .from) (s .args .to) (s .args .law) (s .args .set) (s .args .at) (s .args .out .now)
+    (c .before .before .write-samples .last .1 .1 .1 .0) (s .pre .0) (s .pre .1) (c .before .before .write-samples .ensures)
 
 pub put-frame-spec : {M : Type 1} → statement M
 put-frame-spec =

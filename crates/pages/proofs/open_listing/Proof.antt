@@ -37,7 +37,8 @@ same-length-2 c = search needs
 returns-2 : tie.Need-returns-2
 returns-2 c =
     let input = c .before .before .before .before .before .before .before .before .before .before .args .input .now in
-    opens-input input (omega arith) 0 (length input - 1) (omega arith) (input-a input (omega arith) (c .before .before .before .before .before .if2 .taken)) (c .before .before .open-stream .ensures)
+    opens-input input (omega arith) 0 (length input - 1) (omega arith)
+    (input-a input (omega arith) (c .before .before .before .before .before .if2 .taken)) (c .before .before .open-stream .ensures)
 
 sub-open-stream-2 : tie.Need-sub-open-stream-2
 sub-open-stream-2 c = search needs
@@ -57,7 +58,8 @@ same-length-3 c = search needs
 returns-3 : tie.Need-returns-3
 returns-3 c =
     let input = c .before .before .before .before .before .before .before .before .before .before .before .args .input .now in
-    opens-input input (omega arith) 1 (length input - 1) (omega arith) (input-m input (omega arith) (c .before .before .before .before .before .if3 .taken)) (c .before .before .open-stream2 .ensures)
+    opens-input input (omega arith) 1 (length input - 1) (omega arith)
+    (input-m input (omega arith) (c .before .before .before .before .before .if3 .taken)) (c .before .before .open-stream2 .ensures)
 
 refused-requires-2 : tie.Need-refused-requires-2
 refused-requires-2 c κs = search needs
@@ -68,7 +70,8 @@ same-length-4 c = search needs
 returns-4 : tie.Need-returns-4
 returns-4 c =
     let input = c .before .before .before .before .before .before .before .before .before .before .args .input .now in
-    stops-input input (input-other input (omega arith) (c .before .before .before .before .before .if2 .left) (c .before .before .before .before .if3 .left)) (c .before .before .refused2 .ensures)
+    stops-input input (input-other input (omega arith) (c .before .before .before .before .before .if2 .left)
+    (c .before .before .before .before .if3 .left)) (c .before .before .refused2 .ensures)
 
 pub open-listing-spec : {M : Type 1} → statement M
 open-listing-spec =

@@ -16,7 +16,8 @@ same-length c = search needs
 returns : tie.Need-returns
 returns c =
     let a = c .before .before .before .before .before .before .before in
-    let n = step-last (a .args .stream .now) (a .args .law) (c .before .before .last .ensures) (a .pre .0) (a .pre .1) (a .pre .2) (left-end (a .args .stream .now) (a .args .law) (a .args .s) (a .pre .1) (omega arith)) in
+    let n = step-last (a .args .stream .now) (a .args .law) (c .before .before .last .ensures) (a .pre .0) (a .pre .1)
+    (a .pre .2) (left-end (a .args .stream .now) (a .args .law) (a .args .s) (a .pre .1) (omega arith)) in
     (n .0, (n .1, a .pre .3))
 
 pass-requires : tie.Need-pass-requires
@@ -45,8 +46,13 @@ list-frame-requires c κs =
     let a = c .before .before .before .before .before .before .before .before in
     let b = read-bounds _ _ _ _ (c .before .before .before .pass .ensures .tells) (c .before .enum-told .given .1) in
     let p = a .pre .0 in
-    let n = length-drop (a .args .s .at) (a .args .stream .now) in
-    (omega (arith, p .frames, p .inside, p .short), omega (arith, b .inside, p .short), omega (arith, b .fits, p .samples, p .frames, p .inside, p .short), a .pre .2)
+    let n = length-drop (a .args .s .at) (a .args .stream .now) in (
+      omega (arith, p .frames, p .inside, p .short),
+      omega (arith, b .inside, p .short),
+      omega
+          (arith, b .fits, p .samples, p .frames, p .inside, p .short),
+      a .pre .2,
+    )
 
 same-length-2 : tie.Need-same-length-2
 same-length-2 c = search needs
@@ -56,7 +62,9 @@ returns-2 c =
     let a = c .before .before .before .before .before .before .before .before .before .before .before .before .before .before in
     let r = c .before .before .before .before .before .before .before .before .before .pass .ensures in
     let n = step-last (a .args .stream .now) (a .args .law) (c .before .before .last2 .ensures) (a .pre .0) (a .pre .1) (a .pre .2)
-    (rw (c .before .before .before .before .before .refusal-number .ensures) (left-refused (a .args .stream .now) (a .args .law) (a .args .s) (a .pre .1) (omega arith) (r .tells) (c .before .before .before .before .before .before .before .end .given .1))) in
+    (rw (c .before .before .before .before .before .refusal-number .ensures)
+    (left-refused (a .args .stream .now) (a .args .law) (a .args .s) (a .pre .1) (omega arith) (r .tells)
+    (c .before .before .before .before .before .before .before .end .given .1))) in
     (n .0, (n .1, r .size))
 
 same-length-3 : tie.Need-same-length-3
@@ -66,7 +74,9 @@ returns-3 : tie.Need-returns-3
 returns-3 c =
     let a = c .before .before .before .before .before .before .before .before .before .before .before in
     let r = c .before .before .before .before .before .before .pass .ensures in
-    let n = step-frame (a .args .stream .now) (a .args .law) (c .before .before .list-frame .ensures) (a .pre .0) (a .pre .1) (a .pre .2) (c .before .before .before .before .before .before .before .before .if1 .left) (r .tells) (c .before .before .before .before .enum-told .given .1) in
+    let n = step-frame (a .args .stream .now) (a .args .law) (c .before .before .list-frame .ensures) (a .pre .0) (a .pre .1)
+    (a .pre .2) (c .before .before .before .before .before .before .before .before .if1 .left) (r .tells)
+    (c .before .before .before .before .enum-told .given .1) in
     (n .0, (n .1, r .size))
 
 pub step-spec : {M : Type 1} → statement M

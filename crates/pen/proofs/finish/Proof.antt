@@ -24,14 +24,18 @@ flush-requires : tie.Need-flush-requires
 flush-requires c κs =
     let e = c .before .before .before .put .ensures in
     let a = c .before .before .before .before .before .before .before .pre in
-    let n = length-lowBits ((8 - c .before .before .before .before .before .before .before .args .p .held % 8) % 8) 0 in
-    (record { held = e .held; word = e .word; room = omega (arith, e .place, n, a .room, c .before .before .before .put .kept .0) }, omega (arith, e .place, n))
+    let n = length-lowBits ((8 - c .before .before .before .before .before .before .before .args .p .held % 8) % 8) 0 in (
+      record { held = e .held; word = e .word; room = omega (arith, e .place, n, a .room, c .before .before .before .put .kept .0) },
+      omega (arith, e .place, n),
+    )
 
 same-length : tie.Need-same-length
 same-length c = search needs
 
 returns : tie.Need-returns
-returns c = finished _ (c .before .before .before .before .before .before .before .before .before .before .pre) refl (c .before .before .before .before .before .before .put .ensures) (c .before .before .flush .ensures) (λ i. c .slice-known3 .given i .fits)
+returns c = finished _ (c .before .before .before .before .before .before .before .before .before .before .pre) refl
+    (c .before .before .before .before .before .before .put .ensures) (c .before .before .flush .ensures)
+    (λ i. c .slice-known3 .given i .fits)
 
 pub finish-spec : {M : Type 1} → statement M
 finish-spec = tie.close (tie.spec sub-fill put-requires flush-requires same-length returns)

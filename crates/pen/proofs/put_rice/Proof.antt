@@ -36,8 +36,10 @@ add-put-2 c = search needs
 
 put-requires : tie.Need-put-requires
 put-requires c κs =
-    let s = c .before .before .before in
-    (able-as (s .pre .1) (omega (arith, length-riceForm (s .args .s) (s .args .v))), (omega arith, rice-fits _ _ _ (one-shifted _ (s .pre .0))))
+    let s = c .before .before .before in (
+      able-as (s .pre .1) (omega (arith, length-riceForm (s .args .s) (s .args .v))),
+      (omega arith, rice-fits _ _ _ (one-shifted _ (s .pre .0))),
+    )
 
 same-length : tie.Need-same-length
 same-length c = search needs
@@ -59,8 +61,10 @@ put-requires-2 : tie.Need-put-requires-2
 put-requires-2 c κs =
     let s = c .before .before .before .before .before .before .before in
     let z = c .before .before .before .put-zeros in
-    let k = length-replicate {A = ℕ} (s .args .v / 2 ^ s .args .s) 0 in
-    (able-then _ (s .pre .1) (z .ensures) (z .kept .0) (omega (arith, length-riceForm (s .args .s) (s .args .v))), (omega arith, rice-fits 0 _ _ (one-shifted _ (s .pre .0))))
+    let k = length-replicate {A = ℕ} (s .args .v / 2 ^ s .args .s) 0 in (
+      able-then _ (s .pre .1) (z .ensures) (z .kept .0) (omega (arith, length-riceForm (s .args .s) (s .args .v))),
+      (omega arith, rice-fits 0 _ _ (one-shifted _ (s .pre .0))),
+    )
 
 same-length-2 : tie.Need-same-length-2
 same-length-2 c = search needs
@@ -68,7 +72,8 @@ same-length-2 c = search needs
 returns-2 : tie.Need-returns-2
 returns-2 c =
     let s = c .before .before .before .before .before .before .before .before .before .before in
-    rice-long (s .args .s) (s .args .v) (one-shifted _ (s .pre .0)) (c .before .before .before .before .before .before .put-zeros .ensures) (c .before .before .put2 .ensures)
+    rice-long (s .args .s) (s .args .v) (one-shifted _ (s .pre .0)) (c .before .before .before .before .before .before .put-zeros .ensures)
+    (c .before .before .put2 .ensures)
 
 pub put-rice-spec : {M : Type 1} → statement M
 put-rice-spec =

@@ -30,15 +30,20 @@ element-copy-out-w c = search needs
 put-requires : tie.Need-put-requires Inv-loop μ-loop
 put-requires c κs =
     let s = c .before .before .before .before .before in
-    let l = c .before .before .before .loop in
-    (row-able (l .inv) (omega arith) (omega (arith, s .pre .0 .0, s .pre .0 .1)) (s .pre .1 .1) 8 (omega arith), (omega arith, omega (arith, s .pre .1 .0 (l .i))))
+    let l = c .before .before .before .loop in (
+      row-able (l .inv) (omega arith) (omega (arith, s .pre .0 .0, s .pre .0 .1)) (s .pre .1 .1) 8 (omega arith),
+      (omega arith, omega (arith, s .pre .1 .0 (l .i))),
+    )
 
 put-requires-2 : tie.Need-put-requires-2 Inv-loop μ-loop
 put-requires-2 c κs =
     let s = c .before .before .before .before .before .before .before .before .before in
     let l = c .before .before .before .before .before .before .before .loop in
-    let able = row-able (l .inv) (omega arith) (omega (arith, s .pre .0 .0, s .pre .0 .1)) (s .pre .1 .1) 40 (omega arith) in
-    (able-then 32 able (c .before .before .before .put .ensures) (c .before .before .before .put .kept .0) (omega (arith, length-lowBits 8 (getD (s .args .row .now) (l .i) 0 / 4294967296))), (omega arith, omega arith))
+    let able = row-able (l .inv) (omega arith) (omega (arith, s .pre .0 .0, s .pre .0 .1)) (s .pre .1 .1) 40 (omega arith) in (
+      able-then 32 able (c .before .before .before .put .ensures) (c .before .before .before .put .kept .0)
+          (omega (arith, length-lowBits 8 (getD (s .args .row .now) (l .i) 0 / 4294967296))),
+      (omega arith, omega arith),
+    )
 
 add-i : tie.Need-add-i Inv-loop μ-loop
 add-i c = search needs
@@ -52,7 +57,8 @@ loop-again c =
     let l = c .before .before .before .before .before .before .before .before .before .before .loop in
     let high = c .before .before .before .before .before .before .put in
     let low = c .before .before .put2 in
-    row-then (l .inv) (c .before .before .before .before .before .before .before .before .before .loop-test .taken) (omega (arith, s .pre .0 .0, s .pre .0 .1)) refl (high .ensures) (low .ensures) (high .kept .0) (low .kept .0)
+    row-then (l .inv) (c .before .before .before .before .before .before .before .before .before .loop-test .taken)
+    (omega (arith, s .pre .0 .0, s .pre .0 .1)) refl (high .ensures) (low .ensures) (high .kept .0) (low .kept .0)
 
 same-length : tie.Need-same-length Inv-loop μ-loop
 same-length c = search needs

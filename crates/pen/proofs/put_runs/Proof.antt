@@ -17,7 +17,8 @@ abbrev μ-loop : tie.MeasureT-loop
 μ-loop out₀ s runs count q₀ j₀ out q j = count - j
 
 loop-holds : tie.Need-loop-holds Inv-loop μ-loop
-loop-holds c = record { puts = runs-none (c .before .args .s) (c .before .args .runs .now) (c .before .pre .1); within = omega arith; size = refl }
+loop-holds c = record
+    { puts = runs-none (c .before .args .s) (c .before .args .runs .now) (c .before .pre .1); within = omega arith; size = refl }
 
 mul-wide : tie.Need-mul-wide Inv-loop μ-loop
 mul-wide c = search needs
@@ -29,7 +30,12 @@ wide-requires : tie.Need-wide-requires Inv-loop μ-loop
 wide-requires c κs = search needs
 
 put-rice-requires : tie.Need-put-rice-requires Inv-loop μ-loop
-put-rice-requires c κs = (c .before .before .before .before .before .before .pre .0 .0, runs-able (c .before .before .before .before .loop .inv) (c .before .before .before .loop-test .taken) (c .before .before .before .before .before .before .pre .0 .1 .1) (c .before .before .before .before .before .before .pre .1) (c .wide .ensures))
+put-rice-requires c κs = (
+  c .before .before .before .before .before .before .pre .0 .0,
+  runs-able (c .before .before .before .before .loop .inv)
+      (c .before .before .before .loop-test .taken) (c .before .before .before .before .before .before .pre .0 .1 .1)
+      (c .before .before .before .before .before .before .pre .1) (c .wide .ensures),
+)
 
 add-j : tie.Need-add-j Inv-loop μ-loop
 add-j c = search needs
@@ -38,7 +44,10 @@ loop-less : tie.Need-loop-less Inv-loop μ-loop
 loop-less c = search needs
 
 loop-again : tie.Need-loop-again Inv-loop μ-loop
-loop-again c = runs-then (c .before .before .before .before .before .before .before .loop .inv) (c .before .before .before .before .before .before .loop-test .taken) (c .before .before .before .before .before .before .before .before .before .pre .0 .1 .1) (c .before .before .before .wide .ensures) (c .before .before .put-rice .ensures) (c .before .before .put-rice .kept .0)
+loop-again c = runs-then (c .before .before .before .before .before .before .before .loop .inv)
+    (c .before .before .before .before .before .before .loop-test .taken)
+    (c .before .before .before .before .before .before .before .before .before .pre .0 .1 .1) (c .before .before .before .wide .ensures)
+    (c .before .before .put-rice .ensures) (c .before .before .put-rice .kept .0)
 
 same-length : tie.Need-same-length Inv-loop μ-loop
 same-length c = c .before .loop .inv .size

@@ -27,16 +27,19 @@ loop-less : tie.Need-loop-less Inv-loop μ-loop
 loop-less c = search needs
 
 loop-again : tie.Need-loop-again Inv-loop μ-loop
-loop-again c = zeros-then (c .before .before .before .before .before .loop .inv) 32 (omega arith) (c .before .before .put .ensures) (c .before .before .put .kept .0)
+loop-again c = zeros-then (c .before .before .before .before .before .loop .inv) 32 (omega arith) (c .before .before .put .ensures)
+    (c .before .before .put .kept .0)
 
 put-requires-2 : tie.Need-put-requires-2 Inv-loop μ-loop
-put-requires-2 c κs = (zeros-able (c .before .before .loop .inv) (c .before .before .before .before .pre) _ (omega arith), (omega arith, pow-pos _))
+put-requires-2 c κs =
+    (zeros-able (c .before .before .loop .inv) (c .before .before .before .before .pre) _ (omega arith), (omega arith, pow-pos _))
 
 same-length : tie.Need-same-length Inv-loop μ-loop
 same-length c = search needs
 
 returns : tie.Need-returns Inv-loop μ-loop
-returns c = zeros-done (c .before .before .before .before .before .loop .inv) (c .before .before .put2 .ensures) (c .before .before .put2 .kept .0)
+returns c = zeros-done (c .before .before .before .before .before .loop .inv) (c .before .before .put2 .ensures)
+    (c .before .before .put2 .kept .0)
 
 pub put-zeros-spec : {M : Type 1} → statement M
 put-zeros-spec =

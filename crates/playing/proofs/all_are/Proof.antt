@@ -1,6 +1,5 @@
 -- No more are x than there are, so none is another where as many are (Erasing).
 use borrow.Author.Needs.{needs}
-use mathlib.Core.Path.{_∙_}
 use native.Mathlib.Omega.{arith}
 use Rattle.playing.proofs.Erasing.{others-none}
 use Rattle.playing.proofs.all_are.Statement.{statement}

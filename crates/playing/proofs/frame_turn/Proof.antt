@@ -18,7 +18,8 @@ lost-turn-requires c κs = let f = c .before .before .before .before .pass .ensu
 
 returns : tie.Need-returns
 returns c =
-    frame-lost _ (c .before .before .before .before .before .pass .ensures) (sym (c .before .before .is-erased .ensures) ∙ c .before .if1 .taken)
+    frame-lost _ (c .before .before .before .before .before .pass .ensures)
+    (sym (c .before .before .is-erased .ensures) ∙ c .before .if1 .taken)
     (c .lost-turn .ensures)
 
 cast-t13 : tie.Need-cast-t13
@@ -26,7 +27,8 @@ cast-t13 c = let f = c .before .before .before .before .before .pass .ensures in
 
 returns-2 : tie.Need-returns-2
 returns-2 c =
-    frame-sound _ (c .before .before .before .before .before .pass .ensures) (sym (c .before .before .is-erased .ensures) ∙ c .before .if1 .left)
+    frame-sound _ (c .before .before .before .before .before .pass .ensures)
+    (sym (c .before .before .is-erased .ensures) ∙ c .before .if1 .left)
 
 pub frame-turn-spec : {M : Type 1} → statement M
 frame-turn-spec =

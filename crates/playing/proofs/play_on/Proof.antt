@@ -67,7 +67,8 @@ same-length-6 c = lent-length (c .before .before .before .before .loop .inv .tol
 returns-3 : tie.Need-returns-3 Inv-loop μ-loop
 returns-3 c =
     rw (c .so-far3 .ensures)
-    (play-full _ _ _ _ _ _ _ (c .before .before .before .before .loop .inv) (c .before .before .before .if1 .left) (c .before .before .if2 .left)
+    (play-full _ _ _ _ _ _ _ (c .before .before .before .before .loop .inv) (c .before .before .before .if1 .left)
+    (c .before .before .if2 .left)
     (c .before .if3 .taken))
 
 sub-item-at : tie.Need-sub-item-at Inv-loop μ-loop
@@ -134,7 +135,11 @@ add-count : tie.Need-add-count Inv-loop μ-loop
 add-count c = search needs
 
 loop-less : tie.Need-loop-less Inv-loop μ-loop
-loop-less c = omega (arith, c .before .before .before .before .before .before .before .before .before .before .before .before .before .if1 .left)
+loop-less c = omega (
+  arith,
+  c .before .before .before .before .before .before .before .before .before .before .before
+      .before .before .if1 .left,
+)
 
 loop-again : tie.Need-loop-again Inv-loop μ-loop
 loop-again c =

@@ -29,8 +29,14 @@ module _ (s : tie.Start) where
 
 uncompressed-requires : tie.Need-uncompressed-requires
 uncompressed-requires c κs =
-    let s = c .before .before .before in
-    (omega (arith, s .pre .0 .at), omega (arith, s .pre .0 .whole-octet (omega (arith, c .before .match .keys1))), ranged s .0, ranged s .1, lent s)
+    let s = c .before .before .before in (
+      omega (arith, s .pre .0 .at),
+      omega (arith, s .pre .0 .whole-octet (omega (arith, c .before .match .keys1))),
+      ranged
+          s .0,
+      ranged s .1,
+      lent s,
+    )
 
 plus-zero-requires : tie.Need-plus-zero-requires
 plus-zero-requires c κs = search needs
@@ -69,13 +75,19 @@ returns-2 : tie.Need-returns-2
 unfolding body
 returns-2 c =
     let s = c .before .before .before .before .before in
-    fills-as (c .filled .ensures) (of-tool s 2 (c .before .before .before .match .keys2) ∙ ap (λ (x : ℕ). whole (replicate (s .args .h .len) x) (s .args .h .at)) (sym (c .before .before .plus-zero .ensures))) (omega (arith, s .pre .0 .at))
+    fills-as (c .filled .ensures)
+    (of-tool s 2 (c .before .before .before .match .keys2)
+    ∙ ap (λ (x : ℕ). whole (replicate (s .args .h .len) x) (s .args .h .at)) (sym (c .before .before .plus-zero .ensures)))
+    (omega (arith, s .pre .0 .at))
 
 returns-3 : tie.Need-returns-3
 unfolding body
 returns-3 c =
     let s = c .before .before .before .before .before in
-    fills-as (c .filled2 .ensures) (of-tool s 3 (c .before .before .before .match .keys3) ∙ ap (λ (x : ℕ). whole (replicate (s .args .h .len) x) (s .args .h .at)) (sym (c .before .before .minus-zero .ensures))) (omega (arith, s .pre .0 .at))
+    fills-as (c .filled2 .ensures)
+    (of-tool s 3 (c .before .before .before .match .keys3)
+    ∙ ap (λ (x : ℕ). whole (replicate (s .args .h .len) x) (s .args .h .at)) (sym (c .before .before .minus-zero .ensures)))
+    (omega (arith, s .pre .0 .at))
 
 returns-4 : tie.Need-returns-4
 unfolding body
@@ -101,7 +113,8 @@ returns-7 c =
     let s = c .before .before .before .before in
     let last = last-body (s .args .mask) (s .args .h .tool) (s .args .h .len) (s .args .h .mark)
     (omega arith) (omega arith) (omega arith) (omega arith) (omega arith) (omega arith) in
-    fills-as (c .few-values .ensures) (ap (λ (r : Reader (List ℕ)). r (bitsOf (s .args .octets .now)) (s .args .h .at)) last) (omega (arith, s .pre .0 .at))
+    fills-as (c .few-values .ensures) (ap (λ (r : Reader (List ℕ)). r (bitsOf (s .args .octets .now)) (s .args .h .at)) last)
+    (omega (arith, s .pre .0 .at))
 
 pub body-of-spec : {M : Type 1} → statement M
 body-of-spec =

@@ -1,10 +1,8 @@
-use borrow.Author.Needs.{needs}
 use Prim.Native.Nat.{ℕ, _≤_}
 use mathlib.Core.Path.{ap}
 use mathlib.Core.Bool.{Bool, cond}
 use mathlib.Core.List.{List}
 use native.Mathlib.Omega.{arith}
-use lib.Dec.{eqb}
 use borrow.Author.Tests.{eq-eqb, ne-eqb}
 use Rattle.rules.specs.Bits.{bitsOf}
 use Rattle.rules.specs.Reading.{Reader}
@@ -31,16 +29,21 @@ body-requires c κs =
 returns : tie.Need-returns
 returns c =
     let s = c .before .before .before .before .before in
-    fills-as (c .body .ensures) (ap (λ (b : Bool). either s b (bitsOf (s .args .octets .now)) (s .args .h .at)) (eq-eqb (s .args .h .tool) 11 (c .before .before .if1 .taken)))
+    fills-as (c .body .ensures)
+    (ap (λ (b : Bool). either s b (bitsOf (s .args .octets .now)) (s .args .h .at))
+    (eq-eqb (s .args .h .tool) 11 (c .before .before .if1 .taken)))
     (omega (arith, s .pre .0 .at))
 
 located-requires : tie.Need-located-requires
-located-requires c κs = let s = c .before .before .before .before in (omega (arith, s .pre .0 .at), ranged s .1, s .pre .1, s .pre .2, s .pre .3)
+located-requires c κs = let s = c .before .before .before .before in
+    (omega (arith, s .pre .0 .at), ranged s .1, s .pre .1, s .pre .2, s .pre .3)
 
 returns-2 : tie.Need-returns-2
 returns-2 c =
     let s = c .before .before .before .before .before in
-    fills-as (c .located .ensures) (ap (λ (b : Bool). either s b (bitsOf (s .args .octets .now)) (s .args .h .at)) (ne-eqb (s .args .h .tool) 11 (c .before .before .if1 .left)))
+    fills-as (c .located .ensures)
+    (ap (λ (b : Bool). either s b (bitsOf (s .args .octets .now)) (s .args .h .at))
+    (ne-eqb (s .args .h .tool) 11 (c .before .before .if1 .left)))
     (omega (arith, s .pre .0 .at))
 
 pub few-values-spec : {M : Type 1} → statement M

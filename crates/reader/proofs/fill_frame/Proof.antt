@@ -29,13 +29,16 @@ with-tool-requires c κs =
     (r .0, r .1, c .before .before .before .before .before .before .pre)
 
 returns : tie.Need-returns
-returns c = fills-none (opened (c .before .before .before .before .opens .ensures) (c .before .before .why .given .1) _) refl (c .before .before .before .before .before .before .pre) (c .refused .ensures)
+returns c = fills-none (opened (c .before .before .before .before .opens .ensures) (c .before .before .why .given .1) _)
+    refl (c .before .before .before .before .before .before .pre) (c .refused .ensures)
 
 returns-2 : tie.Need-returns-2
-returns-2 c = fills-none (opened (c .before .before .before .opens .ensures) (c .before .enum-told .given .1) _) refl (c .before .before .before .before .before .pre) (c .pad .ensures)
+returns-2 c = fills-none (opened (c .before .before .before .opens .ensures) (c .before .enum-told .given .1) _) refl
+    (c .before .before .before .before .before .pre) (c .pad .ensures)
 
 returns-3 : tie.Need-returns-3
-returns-3 c = fills-as (opened (c .before .before .before .before .before .opens .ensures) (c .before .before .before .h .given .1) _) (c .with-tool .ensures)
+returns-3 c = fills-as (opened (c .before .before .before .before .before .opens .ensures) (c .before .before .before .h .given .1) _)
+    (c .with-tool .ensures)
 
 pub fill-frame-spec : {M : Type 1} → statement M
 fill-frame-spec =

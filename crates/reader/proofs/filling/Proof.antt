@@ -25,7 +25,9 @@ bit-at-requires c κs = search needs
 returns : tie.Need-returns Inv-loop μ-loop
 returns c =
     sym (c .before .before .before .loop .inv .2
-    ∙ filled-wrong (c .before .before .before .before .before .args .octets .now) (8 * octetsFor (c .before .before .before .before .before .args .end)) (c .before .before .before .loop .at) (omega arith) (omega arith)
+    ∙ filled-wrong (c .before .before .before .before .before .args .octets .now)
+    (8 * octetsFor (c .before .before .before .before .before .args .end)) (c .before .before .before .loop .at)
+    (omega arith) (omega arith)
     (λ z. omega (arith, c .before .bit-at .ensures .0)))
 
 add-at : tie.Need-add-at Inv-loop μ-loop
@@ -39,14 +41,17 @@ loop-again c = (
   omega arith,
   omega arith,
   c .before .before .before .loop .inv .2
-      ∙ filled-turn (c .before .before .before .before .before .args .octets .now) (8 * octetsFor (c .before .before .before .before .before .args .end)) (c .before .before .before .loop .at) (omega arith) (omega arith)
+      ∙ filled-turn (c .before .before .before .before .before .args .octets .now)
+      (8 * octetsFor (c .before .before .before .before .before .args .end)) (c .before .before .before .loop .at)
+      (omega arith) (omega arith)
       (omega (arith, c .before .bit-at .ensures .0)),
 )
 
 returns-2 : tie.Need-returns-2 Inv-loop μ-loop
 returns-2 c =
     sym (c .before .loop .inv .2
-    ∙ filled-done (c .before .before .before .args .octets .now) (8 * octetsFor (c .before .before .before .args .end)) (c .before .loop .at) (omega arith))
+    ∙ filled-done (c .before .before .before .args .octets .now) (8 * octetsFor (c .before .before .before .args .end))
+    (c .before .loop .at) (omega arith))
 
 pub filling-spec : {M : Type 1} → statement M
 filling-spec =

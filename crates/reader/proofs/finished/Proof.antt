@@ -29,9 +29,11 @@ add-t10 c = search needs
 
 -- what the filling was read as, o, tells what is finished
 ended : (c : tie.After-filling) (o : Outcome) → c .filling .result ≡ o → (s : List ℕ)
-    → andThen (asRead o) (λ x j. whole (record { tool = c .before .before .args .tool; samples = s; bits = c .before .before .args .bits }) j)
+    → andThen (asRead o)
+    (λ x j. whole (record { tool = c .before .before .args .tool; samples = s; bits = c .before .before .args .bits }) j)
     ≡ finish (c .before .before .args .tool) s (c .before .before .args .bits) (bitsOf (c .before .before .args .octets .now))
-ended c o e s = filled-by _ (fillFor (c .before .before .args .bits)) (bitsOf (c .before .before .args .octets .now)) (c .before .before .args .bits) (asRead o) (sym (ap asRead e) ∙ c .filling .ensures)
+ended c o e s = filled-by _ (fillFor (c .before .before .args .bits)) (bitsOf (c .before .before .args .octets .now))
+    (c .before .before .args .bits) (asRead o) (sym (ap asRead e) ∙ c .filling .ensures)
 
 returns : tie.Need-returns
 returns c =

@@ -35,7 +35,8 @@ loop-again c = (
   omega arith,
   simp length-set (omega arith),
   rw (c .before .before .loop .inv .2)
-      (poured-turn (c .before .before .before .args .samples .now) (c .before .before .before .args .out .now) (c .before .before .loop .i) (omega arith) (omega arith)),
+      (poured-turn (c .before .before .before .args .samples .now) (c .before .before .before .args .out .now)
+      (c .before .before .loop .i) (omega arith) (omega arith)),
 )
 
 same-length : tie.Need-same-length Inv-loop μ-loop

@@ -16,8 +16,11 @@ slice-aggregate-put-out c = refl
 put-out-requires : tie.Need-put-out-requires
 put-out-requires c κs =
     let t = c .before .before .before .before .read-into .ensures in
-    let s = c .before .before .before .before .before .before .before .before in
-    (omega (arith, t .tells .len, out-has t), omega (arith, t .tells .len, samples-fit (s .args .octets .now) (s .args .law) (s .args .set) (length (s .args .out .now)) .0))
+    let s = c .before .before .before .before .before .before .before .before in (
+      omega (arith, t .tells .len, out-has t),
+      omega
+          (arith, t .tells .len, samples-fit (s .args .octets .now) (s .args .law) (s .args .set) (length (s .args .out .now)) .0),
+    )
 
 same-length : tie.Need-same-length
 same-length c = search needs
@@ -28,7 +31,8 @@ returns c =
     let s = c .before .before .before .before .before .before .before .before .before .before in
     record {
       end = t .tells .end;
-      frame = frame-of t (samples-fit (s .args .octets .now) (s .args .law) (s .args .set) (length (s .args .out .now)) .0) (c .before .put-out .ensures);
+      frame = frame-of t (samples-fit (s .args .octets .now) (s .args .law) (s .args .set) (length (s .args .out .now)) .0)
+          (c .before .put-out .ensures);
       octets = t .tells .octets;
       bits = t .tells .bits;
       tool = t .tells .tool;

@@ -34,8 +34,14 @@ with-tool-requires c κs =
     (r .0, r .1, refl)
 
 -- the body's samples are in the frame buffer
-fills : (c : tie.After-with-tool) → Fills (readOne (c .before .before .before .before .before .before .before .before .args .octets .now) (c .before .before .before .before .before .before .before .before .args .law) (c .before .before .before .before .before .before .before .before .args .set) (length (c .before .before .before .before .before .before .before .before .args .out .now))) (c .with-tool .result) (c .with-tool .last .1 .1 .1 .1 .1 .0)
-fills c = fills-as (opened (c .before .before .before .before .before .opens .ensures) (c .before .before .before .h .given .1) _) (c .with-tool .ensures)
+fills : (c : tie.After-with-tool)
+    → Fills (readOne (c .before .before .before .before .before .before .before .before .args .octets .now)
+    (c .before .before .before .before .before .before .before .before .args .law)
+    (c .before .before .before .before .before .before .before .before .args .set)
+    (length (c .before .before .before .before .before .before .before .before .args .out .now)))
+    (c .with-tool .result) (c .with-tool .last .1 .1 .1 .1 .1 .0)
+fills c = fills-as (opened (c .before .before .before .before .before .opens .ensures) (c .before .before .before .h .given .1) _)
+    (c .with-tool .ensures)
 
 slice-aggregate-put-out : tie.Need-slice-aggregate-put-out
 slice-aggregate-put-out c = sym (fills (c .before) .size)
@@ -43,11 +49,15 @@ slice-aggregate-put-out c = sym (fills (c .before) .size)
 put-out-requires : tie.Need-put-out-requires
 put-out-requires c κs =
     let s = c .before .before .before .before .before .before .before .before .before .before in
-    let f = fills (c .before .before) in
-    (buffer-has f, omega (arith, f .tells .len, samples-fit (s .args .octets .now) (s .args .law) (s .args .set) (length (s .args .out .now)) .1))
+    let f = fills (c .before .before) in (
+      buffer-has f,
+      omega
+          (arith, f .tells .len, samples-fit (s .args .octets .now) (s .args .law) (s .args .set) (length (s .args .out .now)) .1),
+    )
 
 returns : tie.Need-returns
-returns c = into-none (opened (c .before .before .before .before .opens .ensures) (c .before .before .why .given .1) _) refl (c .refused .ensures)
+returns c = into-none (opened (c .before .before .before .before .opens .ensures) (c .before .before .why .given .1) _)
+    refl (c .refused .ensures)
 
 returns-2 : tie.Need-returns-2
 returns-2 c = into-none (opened (c .before .before .before .opens .ensures) (c .before .enum-told .given .1) _) refl (c .pad .ensures)

@@ -29,7 +29,8 @@ refused-requires : tie.Need-refused-requires
 refused-requires c κs = search needs
 
 returns : tie.Need-returns
-returns c = fills-none (no-tool _ _ _ _ _ _ _ _ (sym (c .before .before .holds .ensures) ∙ not-true _ (c .before .if1 .taken))) refl (c .before .before .before .before .pre .2) (c .refused .ensures)
+returns c = fills-none (no-tool _ _ _ _ _ _ _ _ (sym (c .before .before .holds .ensures) ∙ not-true _ (c .before .if1 .taken)))
+    refl (c .before .before .before .before .pre .2) (c .refused .ensures)
 
 refused-requires-2 : tie.Need-refused-requires-2
 refused-requires-2 c κs = search needs
@@ -38,7 +39,8 @@ held : (c : tie.Else1) → holds (c .before .before .before .args .set) (c .befo
 held c = sym (c .before .holds .ensures) ∙ not-false _ (c .if1 .left)
 
 returns-2 : tie.Need-returns-2
-returns-2 c = fills-none (no-room _ _ _ _ _ _ _ _ (held (c .before .before .before)) (c .before .if2 .taken)) refl (c .before .before .before .before .before .before .pre .2) (c .refused2 .ensures)
+returns-2 c = fills-none (no-room _ _ _ _ _ _ _ _ (held (c .before .before .before)) (c .before .if2 .taken)) refl
+    (c .before .before .before .before .before .before .pre .2) (c .refused2 .ensures)
 
 mask-of-requires : tie.Need-mask-of-requires
 mask-of-requires c κs = search needs
@@ -54,7 +56,8 @@ module _ (c : tie.After-body-of) where
   s = c .before .before .before .before .before .before .before .before
 
   abbrev found : Read (List ℕ)
-  found = body (maskOf (s .args .law)) (s .args .h .tool) (s .args .h .len) (s .args .h .mark) (bitsOf (s .args .octets .now)) (s .args .h .at)
+  found = body (maskOf (s .args .law)) (s .args .h .tool) (s .args .h .len) (s .args .h .mark) (bitsOf (s .args .octets .now))
+      (s .args .h .at)
 
   fills : FillsBody found (2 ^ 41) (s .args .samples .now) (c .body-of .last .1 .1 .1 .0) (c .body-of .result)
   fills = rw (c .before .before .mask-of .ensures) at (c .body-of .ensures)
@@ -62,7 +65,8 @@ module _ (c : tie.After-body-of) where
   -- read whole, it ends within the octets
   within : {len bits : ℕ} → c .body-of .result ≡ Got len bits → (bits ≤ 8 * length (s .args .octets .now)) × (bits ≤ 2 ^ 41)
   within e = (
-    body-within (s .args .law) (s .args .h .tool) (s .args .h .len) (s .args .h .mark) (s .pre .0 .len) (s .args .octets .now) (s .args .h .at)
+    body-within (s .args .law) (s .args .h .tool) (s .args .h .len) (s .args .h .mark) (s .pre .0 .len) (s .args .octets .now)
+        (s .args .h .at)
         (omega (arith, s .pre .0 .at, s .pre .1))
         (body-whole fills e .says),
     omega (arith, rw (ap nextOf e) at (fills .next)),
@@ -70,7 +74,8 @@ module _ (c : tie.After-body-of) where
 
   -- and it has the frame's length
   sized : {len bits : ℕ} (e : c .body-of .result ≡ Got len bits) → s .args .h .len ≡ length (body-whole fills e .s)
-  sized e = body-size (s .args .law) (s .args .h .tool) (s .args .h .len) (s .args .h .mark) (s .pre .0 .len) (s .args .octets .now) (s .args .h .at)
+  sized e = body-size (s .args .law) (s .args .h .tool) (s .args .h .len) (s .args .h .mark) (s .pre .0 .len)
+      (s .args .octets .now) (s .args .h .at)
       (omega (arith, s .pre .0 .at, s .pre .1))
       (body-whole fills e .says)
 
@@ -96,7 +101,12 @@ returns-3 c =
 returns-4 : tie.Need-returns-4
 returns-4 c =
     let w = body-whole (fills (c .before .before .before .before)) (c .before .before .bits .given .1) in
-    fills-finish _ _ _ _ (with-body _ _ _ _ _ _ _ _ (held (c .before .before .before .before .before .before .before .before .before)) (omega arith) (w .says)) (c .finished .ensures (w .s) (sized (c .before .before .before .before) (c .before .before .bits .given .1))) (w .samples) (body-length (fills (c .before .before .before .before)) (c .before .before .before .before .before .before .before .before .before .before .before .before .pre .2))
+    fills-finish _ _ _ _
+    (with-body _ _ _ _ _ _ _ _ (held (c .before .before .before .before .before .before .before .before .before))
+    (omega arith) (w .says))
+    (c .finished .ensures (w .s) (sized (c .before .before .before .before) (c .before .before .bits .given .1)))
+    (w .samples) (body-length (fills (c .before .before .before .before))
+    (c .before .before .before .before .before .before .before .before .before .before .before .before .pre .2))
 
 pub with-tool-spec : {M : Type 1} → statement M
 with-tool-spec =

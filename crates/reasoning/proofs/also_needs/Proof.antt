@@ -16,13 +16,17 @@ enum-known-state : tie.Need-enum-known-state
 enum-known-state c = search needs
 
 returns-2 : tie.Need-returns-2
-returns-2 c = let s = c .before .before .before .before in also-other (s .args .best) (s .args .tool) (s .args .state) (c .before .before .if1 .left) (rw (c .enum-told .given .1))
+returns-2 c = let s = c .before .before .before .before in
+    also-other (s .args .best) (s .args .tool) (s .args .state) (c .before .before .if1 .left) (rw (c .enum-told .given .1))
 
 returns-3 : tie.Need-returns-3
-returns-3 c = let s = c .before .before .before .before in also-other (s .args .best) (s .args .tool) (s .args .state) (c .before .before .if1 .left) (rw (c .enum-told2 .given .1))
+returns-3 c = let s = c .before .before .before .before in
+    also-other (s .args .best) (s .args .tool) (s .args .state) (c .before .before .if1 .left) (rw (c .enum-told2 .given .1))
 
 returns-4 : tie.Need-returns-4
-returns-4 c = let s = c .before .before .before .before .before .before in also-other (s .args .best) (s .args .tool) (s .args .state) (c .before .before .before .before .if1 .left) (rw (c .before .before .state .given .1))
+returns-4 c = let s = c .before .before .before .before .before .before in
+    also-other (s .args .best) (s .args .tool) (s .args .state) (c .before .before .before .before .if1 .left)
+    (rw (c .before .before .state .given .1))
 
 pub also-needs-spec : {M : Type 1} → statement M
 also-needs-spec =

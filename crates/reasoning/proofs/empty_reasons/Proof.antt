@@ -28,14 +28,16 @@ empty-state-requires-8 c κs = search needs
 
 returns : tie.Need-returns
 returns c =
-    rw (c .before .before .before .before .before .before .before .empty-state .ensures,
-    c .before .before .before .before .before .before .empty-state2 .ensures,
-    c .before .before .before .before .before .empty-state3 .ensures,
-    c .before .before .before .before .empty-state4 .ensures,
-    c .before .before .before .empty-state5 .ensures,
-    c .before .before .empty-state6 .ensures,
-    c .before .empty-state7 .ensures,
-    c .empty-state8 .ensures)
+    rw (
+      c .before .before .before .before .before .before .before .empty-state .ensures,
+      c .before .before .before .before .before .before .empty-state2 .ensures,
+      c .before .before .before .before .before .empty-state3 .ensures,
+      c .before .before .before .before .empty-state4 .ensures,
+      c .before .before .before .empty-state5 .ensures,
+      c .before .before .empty-state6 .ensures,
+      c .before .empty-state7 .ensures,
+      c .empty-state8 .ensures,
+    )
 
 pub empty-reasons-spec : {M : Type 1} → statement M
 empty-reasons-spec =

@@ -18,7 +18,8 @@ returns : tie.Need-returns
 returns c =
     let s = c .before .before .before .before in
     let l = length-take-le (s .args .n) (s .args .samples .now) (s .pre .0 .long) in
-    reasons-are _ _ (take (s .args .n) (s .args .samples .now)) (rw l (s .pre .0 .some)) l (s .pre .0 .few) (c .before .before .states-of .ensures) (c .before .winner-of .ensures) (c .tie-in .ensures)
+    reasons-are _ _ (take (s .args .n) (s .args .samples .now)) (rw l (s .pre .0 .some)) l (s .pre .0 .few)
+    (c .before .before .states-of .ensures) (c .before .winner-of .ensures) (c .tie-in .ensures)
 
 pub reasons-of-spec : {M : Type 1} → statement M
 reasons-of-spec =

@@ -3,7 +3,7 @@ use lib.ListN.{length, take}
 use Rattle.reasoning.proofs.Telling.{state-out, state-no, state-fits}
 use lib.Seq.{length-take-le}
 use borrow.Author.Tests.{not-true, not-false}
-use mathlib.Core.Path.{sym, ap, _∙_}
+use mathlib.Core.Path.{sym, _∙_}
 use borrow.Author.Needs.{needs}
 use Rattle.reasoning.proofs.state_of.Statement.{statement}
 use Rattle.reasoning.proofs.state_of.Tie as tie
@@ -16,13 +16,16 @@ holds-requires : tie.Need-holds-requires
 holds-requires c κs = search needs
 
 returns : tie.Need-returns
-returns c = state-out _ _ _ _ (some (c .before .before .before)) (sym (c .before .holds .ensures) ∙ not-true (c .before .holds .result) (c .if1 .taken))
+returns c = state-out _ _ _ _ (some (c .before .before .before))
+    (sym (c .before .holds .ensures) ∙ not-true (c .before .holds .result) (c .if1 .taken))
 
 offer-of-requires : tie.Need-offer-of-requires
 offer-of-requires c κs = search needs
 
 returns-2 : tie.Need-returns-2
-returns-2 c = state-no _ _ _ _ (some (c .before .before .before .before .before .before)) (c .before .before .offer-of .result) (sym (c .before .before .before .before .holds .ensures) ∙ not-false (c .before .before .before .before .holds .result) (c .before .before .before .if1 .left)) (c .before .before .offer-of .ensures) (c .if2 .taken)
+returns-2 c = state-no _ _ _ _ (some (c .before .before .before .before .before .before)) (c .before .before .offer-of .result)
+    (sym (c .before .before .before .before .holds .ensures) ∙ not-false (c .before .before .before .before .holds .result)
+    (c .before .before .before .if1 .left)) (c .before .before .offer-of .ensures) (c .if2 .taken)
 
 octets-for-requires : tie.Need-octets-for-requires
 octets-for-requires c κs = search needs

@@ -30,14 +30,16 @@ state-of-requires-8 c κs = search needs
 returns : tie.Need-returns
 unfolding statesOf
 returns c =
-    rw (c .before .before .before .before .before .before .before .state-of .ensures,
-    c .before .before .before .before .before .before .state-of2 .ensures,
-    c .before .before .before .before .before .state-of3 .ensures,
-    c .before .before .before .before .state-of4 .ensures,
-    c .before .before .before .state-of5 .ensures,
-    c .before .before .state-of6 .ensures,
-    c .before .state-of7 .ensures,
-    c .state-of8 .ensures)
+    rw (
+      c .before .before .before .before .before .before .before .state-of .ensures,
+      c .before .before .before .before .before .before .state-of2 .ensures,
+      c .before .before .before .before .before .state-of3 .ensures,
+      c .before .before .before .before .state-of4 .ensures,
+      c .before .before .before .state-of5 .ensures,
+      c .before .before .state-of6 .ensures,
+      c .before .state-of7 .ensures,
+      c .state-of8 .ensures,
+    )
 
 pub states-of-spec : {M : Type 1} → statement M
 states-of-spec =

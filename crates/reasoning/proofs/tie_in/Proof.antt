@@ -28,14 +28,16 @@ or-needs-requires-8 c κs = search needs
 
 returns : tie.Need-returns
 returns c =
-    rw (c .or-needs8 .ensures,
-    c .before .or-needs7 .ensures,
-    c .before .before .or-needs6 .ensures,
-    c .before .before .before .or-needs5 .ensures,
-    c .before .before .before .before .or-needs4 .ensures,
-    c .before .before .before .before .before .or-needs3 .ensures,
-    c .before .before .before .before .before .before .or-needs2 .ensures,
-    c .before .before .before .before .before .before .before .or-needs .ensures)
+    rw (
+      c .or-needs8 .ensures,
+      c .before .or-needs7 .ensures,
+      c .before .before .or-needs6 .ensures,
+      c .before .before .before .or-needs5 .ensures,
+      c .before .before .before .before .or-needs4 .ensures,
+      c .before .before .before .before .before .or-needs3 .ensures,
+      c .before .before .before .before .before .before .or-needs2 .ensures,
+      c .before .before .before .before .before .before .before .or-needs .ensures,
+    )
 
 pub tie-in-spec : {M : Type 1} → statement M
 tie-in-spec =

@@ -1,6 +1,6 @@
 use Rattle.reasoning.proofs.Refusing.{allowed-none, allowed-not, allowed-told, frame-in}
 use borrow.Author.Tests.{not-true, not-false}
-use mathlib.Core.Path.{sym, ap, _∙_}
+use mathlib.Core.Path.{sym, _∙_}
 use borrow.Author.Needs.{needs}
 use Rattle.reasoning.proofs.why_allowed.Statement.{statement}
 use Rattle.reasoning.proofs.why_allowed.Tie as tie
@@ -15,10 +15,15 @@ is-length-requires : tie.Need-is-length-requires
 is-length-requires c κs = search needs
 
 returns-2 : tie.Need-returns-2
-returns-2 c = allowed-not _ (c .before .before .before .before .args .samples .now) _ _ (c .before .before .if1 .left) (sym (c .before .is-length .ensures) ∙ not-true (c .before .is-length .result) (c .if2 .taken))
+returns-2 c = allowed-not _ (c .before .before .before .before .args .samples .now) _ _ (c .before .before .if1 .left)
+    (sym (c .before .is-length .ensures) ∙ not-true (c .before .is-length .result) (c .if2 .taken))
 
 reasons-of-requires : tie.Need-reasons-of-requires
-reasons-of-requires c κs = (frame-in _ _ (sym (c .before .is-length .ensures) ∙ not-false (c .before .is-length .result) (c .if2 .left)) (c .before .before .before .before .pre .0), c .before .before .before .before .pre .1)
+reasons-of-requires c κs = (
+  frame-in _ _ (sym (c .before .is-length .ensures) ∙ not-false (c .before .is-length .result) (c .if2 .left))
+      (c .before .before .before .before .pre .0),
+  c .before .before .before .before .pre .1,
+)
 
 returns-3 : tie.Need-returns-3
 returns-3 c =

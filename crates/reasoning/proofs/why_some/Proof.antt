@@ -20,7 +20,11 @@ mask-of-requires : tie.Need-mask-of-requires
 mask-of-requires c κs = search needs
 
 why-allowed-requires : tie.Need-why-allowed-requires
-why-allowed-requires c κs = (c .before .before .before .before .before .pre, rw (c .mask-of .ensures) (mask-is (c .before .before .before .before .before .args .law)))
+why-allowed-requires c κs = (
+  c .before .before .before .before .before .pre,
+  rw (c .mask-of .ensures)
+      (mask-is (c .before .before .before .before .before .args .law)),
+)
 
 returns : tie.Need-returns
 returns c = why-refused _ _ _ _ (sym (c .before .before .before .guard-writer .ensures) ∙ c .before .guarded .given .1)

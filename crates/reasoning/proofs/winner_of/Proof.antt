@@ -31,13 +31,15 @@ better-of-requires-7 c κs = search needs
 
 returns : tie.Need-returns
 returns c =
-    rw (c .better-of7 .ensures,
-    c .before .better-of6 .ensures,
-    c .before .before .better-of5 .ensures,
-    c .before .before .before .better-of4 .ensures,
-    c .before .before .before .before .better-of3 .ensures,
-    c .before .before .before .before .before .better-of2 .ensures,
-    c .before .before .before .before .before .before .better-of .ensures)
+    rw (
+      c .better-of7 .ensures,
+      c .before .better-of6 .ensures,
+      c .before .before .better-of5 .ensures,
+      c .before .before .before .better-of4 .ensures,
+      c .before .before .before .before .better-of3 .ensures,
+      c .before .before .before .before .before .better-of2 .ensures,
+      c .before .before .before .before .before .before .better-of .ensures,
+    )
 
 pub winner-of-spec : {M : Type 1} → statement M
 winner-of-spec =

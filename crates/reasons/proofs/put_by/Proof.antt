@@ -13,7 +13,11 @@ same-length : tie.Need-same-length
 same-length c = search needs
 
 returns : tie.Need-returns
-returns c = (rw (c .before .before .before .before .before .if1 .taken) (c .before .before .put-word .ensures), omega (arith, c .before .before .put-word .ensures .place))
+returns c = (
+  rw (c .before .before .before .before .before .if1 .taken) (c .before .before .put-word .ensures),
+  omega
+      (arith, c .before .before .put-word .ensures .place),
+)
 
 slice-aggregate-put-word-2 : tie.Need-slice-aggregate-put-word-2
 slice-aggregate-put-word-2 c = search needs
@@ -25,7 +29,11 @@ same-length-2 : tie.Need-same-length-2
 same-length-2 c = search needs
 
 returns-2 : tie.Need-returns-2
-returns-2 c = (rw (c .before .before .before .before .before .if1 .left) (c .before .before .put-word2 .ensures), omega (arith, c .before .before .put-word2 .ensures .place))
+returns-2 c = (
+  rw (c .before .before .before .before .before .if1 .left) (c .before .before .put-word2 .ensures),
+  omega
+      (arith, c .before .before .put-word2 .ensures .place),
+)
 
 pub put-by-spec : {M : Type 1} → statement M
 put-by-spec =

@@ -1,5 +1,4 @@
 use Rattle.reasons.proofs.Lines.{fields-put}
-use native.Mathlib.Omega.{arith}
 use borrow.Author.Needs.{needs}
 use Rattle.reasons.proofs.put_fields.Statement.{statement}
 use Rattle.reasons.proofs.put_fields.Tie as tie
@@ -42,14 +41,17 @@ same-length c = search needs
 
 returns : tie.Need-returns
 returns c =
-    let p = c .before .before .before .before .before .before .before .before .before .before .before .before .before .before .before .before .before .before .before .before .before .before .before .before .before .before .put-short .ensures in
+    let p = c .before .before .before .before .before .before .before .before .before .before .before .before .before
+    .before .before .before .before .before .before .before .before .before .before .before .before .before .put-short .ensures in
     let s = c .before .before .before .before .before .before .before .before .before .before .before .before .put-short2 .ensures in
     let t = c .before .before .before .before .before .before .before .put-short3 .ensures in
     let ended = c .before .before in
-    let word = ended .before .before .before .before .before .before .before .before .before .before .before .before .before .before .before in
+    let word = ended .before .before .before .before .before .before .before .before .before .before .before .before
+    .before .before .before in
     let state = word .before .before .before .before in
     let start = state .before .before .before .before .before .before .before .before .before .before in
-    fields-put _ _ _ _ (p .0) (state .put-word .ensures) (word .put-word2 .ensures) (s .0) (t .0) (ended .put-word3 .ensures) (start .pre .0) (p .1) (s .1) (t .1)
+    fields-put _ _ _ _ (p .0) (state .put-word .ensures) (word .put-word2 .ensures) (s .0) (t .0) (ended .put-word3 .ensures)
+    (start .pre .0) (p .1) (s .1) (t .1)
 
 pub put-fields-spec : {M : Type 1} → statement M
 put-fields-spec =

@@ -17,7 +17,11 @@ same-length : tie.Need-same-length
 same-length c = search needs
 
 returns : tie.Need-returns
-returns c = (lines-put _ (c .before .before .before .before .before .before .before .before .before .before .put-first .ensures .0) (c .before .before .before .before .before .before .put-later .ensures .0) (c .before .before .put-winner .ensures .0), omega arith)
+returns c = (
+  lines-put _ (c .before .before .before .before .before .before .before .before .before .before .put-first .ensures .0)
+      (c .before .before .before .before .before .before .put-later .ensures .0) (c .before .before .put-winner .ensures .0),
+  omega arith,
+)
 
 pub put-reasons-spec : {M : Type 1} → statement M
 put-reasons-spec =

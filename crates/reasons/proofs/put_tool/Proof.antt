@@ -40,13 +40,19 @@ same-length-2 : tie.Need-same-length-2
 same-length-2 c = search needs
 
 returns-2 : tie.Need-returns-2
-returns-2 c = (rw (c .before .before .before .before .before .before .state .given .1) (c .before .before .put-fields2 .ensures .0), omega arith)
+returns-2 c = (
+  rw (c .before .before .before .before .before .before .state .given .1) (c .before .before .put-fields2 .ensures .0),
+  omega arith,
+)
 
 same-length-3 : tie.Need-same-length-3
 same-length-3 c = search needs
 
 returns-3 : tie.Need-returns-3
-returns-3 c = (rw (c .before .before .before .before .before .before .state2 .given .1) (c .before .before .put-fields3 .ensures .0), omega arith)
+returns-3 c = (
+  rw (c .before .before .before .before .before .before .state2 .given .1) (c .before .before .put-fields3 .ensures .0),
+  omega arith,
+)
 
 pub put-tool-spec : {M : Type 1} → statement M
 put-tool-spec =

@@ -1,8 +1,7 @@
 use borrow.Author.Needs.{needs}
-use Prim.Native.Nat.{_-_, _+_, _*_}
-use mathlib.Core.Path.{_≡_, sym, _∙_}
+use Prim.Native.Nat.{_-_}
+use mathlib.Core.Path.{sym, _∙_}
 use native.Mathlib.Omega.{arith}
-use Rattle.reducing.specs.Keys.{keyOf}
 use Rattle.reducing.proofs.Keyed.{Finding, finding-none, finding-hit, finding-miss, finding-end, key-told}
 use Rattle.reducing.proofs.find_row.Statement.{statement}
 use Rattle.reducing.proofs.find_row.Tie as tie
@@ -43,7 +42,10 @@ key-at-requires c κs = search needs
 returns : tie.Need-returns Inv-loop μ-loop
 returns c =
     let s = c .before .before .before .before .before .before .before in
-    finding-hit (c .before .before .before .loop .inv) (omega arith) (s .pre) (omega arith) (sym (c .before .key-at .ensures) ∙ c .if1 .taken ∙ key-told _ _ _ (s .args .least) (s .args .greatest) (s .args .minus) (c .before .before .before .before .before .before .wide .ensures .0) (c .before .before .before .before .before .wide2 .ensures .0) (c .before .before .before .before .flag .ensures .0))
+    finding-hit (c .before .before .before .loop .inv) (omega arith) (s .pre) (omega arith)
+    (sym (c .before .key-at .ensures) ∙ c .if1 .taken ∙ key-told _ _ _ (s .args .least) (s .args .greatest) (s .args .minus)
+    (c .before .before .before .before .before .before .wide .ensures .0)
+    (c .before .before .before .before .before .wide2 .ensures .0) (c .before .before .before .before .flag .ensures .0))
 
 add-k : tie.Need-add-k Inv-loop μ-loop
 add-k c = search needs
@@ -54,7 +56,11 @@ loop-less c = search needs
 loop-again : tie.Need-loop-again Inv-loop μ-loop
 loop-again c =
     let s = c .before .before .before .before .before .before .before in
-    finding-miss (c .before .before .before .loop .inv) (omega arith) (s .pre) (omega arith) (λ z. c .if1 .left (c .before .key-at .ensures ∙ z ∙ sym (key-told _ _ _ (s .args .least) (s .args .greatest) (s .args .minus) (c .before .before .before .before .before .before .wide .ensures .0) (c .before .before .before .before .before .wide2 .ensures .0) (c .before .before .before .before .flag .ensures .0))))
+    finding-miss (c .before .before .before .loop .inv) (omega arith) (s .pre) (omega arith)
+    (λ z. c .if1 .left (c .before .key-at .ensures ∙ z
+    ∙ sym (key-told _ _ _ (s .args .least) (s .args .greatest) (s .args .minus)
+    (c .before .before .before .before .before .before .wide .ensures .0)
+    (c .before .before .before .before .before .wide2 .ensures .0) (c .before .before .before .before .flag .ensures .0))))
 
 returns-2 : tie.Need-returns-2 Inv-loop μ-loop
 returns-2 c =

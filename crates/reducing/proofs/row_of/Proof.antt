@@ -26,7 +26,8 @@ returns c =
     let s = c .before .before .before .before .before .before in
     c .find-row .ensures
     ∙ row-told (s .args .mask) (take (s .args .n) (s .args .samples .now)) (c .before .before .before .before .extent-of .ensures)
-    (length-take-le (s .args .n) (s .args .samples .now) (s .pre .0 .long)) (c .before .before .before .minus-zero .ensures) (c .before .before .count-of .ensures .0)
+    (length-take-le (s .args .n) (s .args .samples .now) (s .pre .0 .long)) (c .before .before .before .minus-zero .ensures)
+    (c .before .before .count-of .ensures .0)
     (c .before .row-count .ensures .0)
 
 pub row-of-spec : {M : Type 1} → statement M

@@ -139,7 +139,11 @@ returns-15 : tie.Need-returns-15
 unfolding refusalName refusalNames
 returns-15 c =
     rw (c .named15 .ensures .0, c .named15 .ensures .1)
-    (record { says = sym (no-name (c .before .before .before .before .args .number) (c .before .before .before .match .rest)); most = omega arith; size = refl })
+    (record {
+      says = sym (no-name (c .before .before .before .before .args .number) (c .before .before .before .match .rest));
+      most = omega arith;
+      size = refl;
+    })
 
 pub name-of-spec : {M : Type 1} → statement M
 name-of-spec =

@@ -13,7 +13,8 @@ array-share-prefix-octets : tie.Need-array-share-prefix-octets
 array-share-prefix-octets c = search needs
 
 slice-aggregate-lay : tie.Need-slice-aggregate-lay
-slice-aggregate-lay c = sym (length-take-le _ _ (omega (arith, c .before .before .name-of .ensures .most, c .before .before .name-of .ensures .size)))
+slice-aggregate-lay c =
+    sym (length-take-le _ _ (omega (arith, c .before .before .name-of .ensures .most, c .before .before .name-of .ensures .size)))
 
 slice-aggregate-lay-2 : tie.Need-slice-aggregate-lay-2
 slice-aggregate-lay-2 c = search needs

@@ -1,5 +1,4 @@
 use native.Mathlib.Omega.{arith}
-use mathlib.Core.Path.{refl}
 use borrow.Author.Tests.{le-leb, lt-leb}
 use Rattle.replaying.proofs.is_loss.Statement.{statement}
 use Rattle.replaying.proofs.is_loss.Tie as tie

@@ -1,5 +1,5 @@
 use borrow.Author.Needs.{needs}
-use mathlib.Core.Path.{_≡_, refl, sym, ap, _∙_}
+use mathlib.Core.Path.{_≡_, sym, ap, _∙_}
 use Rattle.recording.specs.Remembered.{headed}
 use Rattle.playing.specs.declared.Heading.{Heading}
 use Rattle.playing.specs.Plays.{asHeaded}
@@ -28,7 +28,10 @@ has-word-requires c κs = search needs
 
 returns : tie.Need-returns
 unfolding kindOf
-returns c = rw (is-headed (c .before .before .before .before .before) (c .before .before .before .enum-told .given .1), sym (c .before .has-word .ensures) ∙ c .if1 .taken)
+returns c = rw (
+  is-headed (c .before .before .before .before .before) (c .before .before .before .enum-told .given .1),
+  sym (c .before .has-word .ensures) ∙ c .if1 .taken,
+)
 
 returns-2 : tie.Need-returns-2
 unfolding kindOf
@@ -36,7 +39,10 @@ returns-2 c = rw (is-headed (c .before .before .before) (c .before .law .given .
 
 returns-3 : tie.Need-returns-3
 unfolding kindOf
-returns-3 c = rw (is-headed (c .before .before .before .before .before) (c .before .before .before .enum-told .given .1), sym (c .before .has-word .ensures) ∙ c .if1 .left)
+returns-3 c = rw (
+  is-headed (c .before .before .before .before .before) (c .before .before .before .enum-told .given .1),
+  sym (c .before .has-word .ensures) ∙ c .if1 .left,
+)
 
 pub kind-of-spec : {M : Type 1} → statement M
 kind-of-spec =

@@ -12,8 +12,10 @@ module _ (d : tie.After-play-on) where
   abbrev start : tie.Start
   start = d .before .before .before .before .before .before .before
 
-  plays : Plays (partOf (start .args .body .now) (start .args .law) (start .args .set) (start .args .at) (length (start .args .out .now)) (length (start .args .cells .now)))
-      (d .play-on .result) (start .args .out .now) (d .play-on .last .1 .1 .1 .1 .1 .0) (start .args .cells .now) (d .play-on .last .1 .1 .1 .1 .1 .1 .0)
+  plays : Plays (partOf (start .args .body .now) (start .args .law) (start .args .set) (start .args .at)
+      (length (start .args .out .now)) (length (start .args .cells .now)))
+      (d .play-on .result) (start .args .out .now) (d .play-on .last .1 .1 .1 .1 .1 .0) (start .args .cells .now)
+      (d .play-on .last .1 .1 .1 .1 .1 .1 .0)
   plays = rw (d .before .before .before .sure-items .ensures) at (d .play-on .ensures)
 
 sure-items-requires : tie.Need-sure-items-requires

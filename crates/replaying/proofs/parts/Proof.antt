@@ -2,11 +2,12 @@
 use borrow.Author.Needs.{needs}
 use borrow.Author.Tests.{not-true, not-false}
 use native.Mathlib.Omega.{arith}
-use Prim.Native.Nat.{_-_, _+_, _≤_}
+use Prim.Native.Nat.{_-_}
 use mathlib.Core.Path.{_≡_, refl, _∙_}
 use mathlib.Core.Bool.{true}
 use lib.ListN.{length}
-use Rattle.replaying.proofs.Running.{Going, going-first, going-on, goes-whole, next-sound, number-most, heard-most, at-most, lost-most}
+use Rattle.replaying.proofs.Running.{Going, going-first, going-on, goes-whole, next-sound}
+use Rattle.replaying.proofs.Running.{number-most, heard-most, at-most, lost-most}
 use Rattle.replaying.proofs.parts.Statement.{statement}
 use Rattle.replaying.proofs.parts.Tie as tie
 
@@ -44,14 +45,28 @@ add-items c =
     let d = c .before .before .before .before .before .before .before .before .before .before in
     let f = d .before .before .before .before .loop .inv .0 .follows in
     let g = d .before .next-part .ensures .1 in
-    omega (arith, number-most _ _ _ f, g .few (at-most _ _ _ f), d .before .before .before .before .before .before .before .before .before .pre .0)
+    omega (
+      arith,
+      number-most _ _ _ f,
+      g .few (at-most _ _ _ f),
+      d .before .before .before .before .before .before .before
+          .before .before .pre .0,
+    )
 
 add-lost : tie.Need-add-lost Inv-loop μ-loop
 add-lost c =
     let d = c .before .before .before .before .before .before .before .before .before .before in
     let w = d .before .before .before .before .before .loop .inv .0 in
     let g = d .before .before .next-part .ensures .1 in
-    omega (arith, lost-most _ _ _ w, number-most _ _ _ (w .follows), g .some, g .few (at-most _ _ _ (w .follows)), d .before .before .before .before .before .before .before .before .before .before .pre .0)
+    omega (
+      arith,
+      lost-most _ _ _ w,
+      number-most _ _ _ (w .follows),
+      g .some,
+      g .few (at-most _ _ _ (w .follows)),
+      d
+          .before .before .before .before .before .before .before .before .before .before .pre .0,
+    )
 
 add-samples : tie.Need-add-samples Inv-loop μ-loop
 add-samples c =
@@ -59,22 +74,34 @@ add-samples c =
     let f = d .before .before .before .before .before .before .loop .inv .0 .follows in
     let g = d .before .before .before .next-part .ensures .1 in
     let u = c .before .before .before .before .before .before .use-part .ensures .most in
-    omega (arith, u, g .held, g .few (at-most _ _ _ f), number-most _ _ _ f, heard-most _ _ _ f, d .before .before .before .before .before .before .before .before .before .before .before .pre .0)
+    omega (
+      arith,
+      u,
+      g .held,
+      g .few (at-most _ _ _ f),
+      number-most _ _ _ f,
+      heard-most _ _ _ f,
+      d .before .before .before
+          .before .before .before .before .before .before .before .before .pre .0,
+    )
 
 same-length : tie.Need-same-length Inv-loop μ-loop
 same-length c =
     let d = c .before .before .before .before .before .before .before .before .before .before in
-    d .before .before .before .before .before .next-part .kept .1 .1 .1 .1 .0 ∙ d .before .before .before .before .before .before .before .before .loop .inv .0 .page-size
+    d .before .before .before .before .before .next-part .kept .1 .1 .1 .1 .0
+    ∙ d .before .before .before .before .before .before .before .before .loop .inv .0 .page-size
 
 same-length-2 : tie.Need-same-length-2 Inv-loop μ-loop
 same-length-2 c =
     let d = c .before .before .before .before .before .before .before .before .before .before in
-    c .before .before .before .before .before .before .before .before .use-part .kept .1 .1 .1 .1 .1 .1 .1 .0 ∙ d .before .before .before .before .before .before .before .before .loop .inv .1
+    c .before .before .before .before .before .before .before .before .use-part .kept .1 .1 .1 .1 .1 .1 .1 .0
+    ∙ d .before .before .before .before .before .before .before .before .loop .inv .1
 
 same-length-3 : tie.Need-same-length-3 Inv-loop μ-loop
 same-length-3 c =
     let d = c .before .before .before .before .before .before .before .before .before .before in
-    d .before .before .before .before .before .next-part .kept .1 .1 .1 .1 .1 .0 ∙ d .before .before .before .before .before .before .before .before .loop .inv .0 .cells-size
+    d .before .before .before .before .before .next-part .kept .1 .1 .1 .1 .1 .0
+    ∙ d .before .before .before .before .before .before .before .before .loop .inv .0 .cells-size
 
 returns : tie.Need-returns Inv-loop μ-loop
 returns c =
@@ -88,24 +115,33 @@ returns c =
         omega (arith, lost-most _ _ _ w, g .some),
         g .ends (at-most _ _ _ f),
         omega (arith, number-most _ _ _ f, few),
-        omega (arith, heard-most _ _ _ f, g .held, c .before .before .before .before .before .before .before .before .use-part .ensures .most),
+        omega (
+          arith,
+          heard-most _ _ _ f,
+          g .held,
+          c .before .before .before .before .before .before .before .before
+              .use-part .ensures .most,
+        ),
       ),
     )
 
 same-length-4 : tie.Need-same-length-4 Inv-loop μ-loop
 same-length-4 c =
     let d = c .before .before .before .before .before .before .before .before .before .before in
-    d .before .before .before .before .before .before .before .next-part .kept .1 .1 .1 .1 .0 ∙ d .before .before .before .before .before .before .before .before .before .before .loop .inv .0 .page-size
+    d .before .before .before .before .before .before .before .next-part .kept .1 .1 .1 .1 .0
+    ∙ d .before .before .before .before .before .before .before .before .before .before .loop .inv .0 .page-size
 
 same-length-5 : tie.Need-same-length-5 Inv-loop μ-loop
 same-length-5 c =
     let d = c .before .before .before .before .before .before .before .before .before .before in
-    d .use-part .kept .1 .1 .1 .1 .1 .1 .1 .0 ∙ d .before .before .before .before .before .before .before .before .before .before .loop .inv .1
+    d .use-part .kept .1 .1 .1 .1 .1 .1 .1 .0 ∙ d .before .before .before .before .before .before .before .before .before
+    .before .loop .inv .1
 
 same-length-6 : tie.Need-same-length-6 Inv-loop μ-loop
 same-length-6 c =
     let d = c .before .before .before .before .before .before .before .before .before .before in
-    d .before .before .before .before .before .before .before .next-part .kept .1 .1 .1 .1 .1 .0 ∙ d .before .before .before .before .before .before .before .before .before .before .loop .inv .0 .cells-size
+    d .before .before .before .before .before .before .before .next-part .kept .1 .1 .1 .1 .1 .0
+    ∙ d .before .before .before .before .before .before .before .before .before .before .loop .inv .0 .cells-size
 
 returns-2 : tie.Need-returns-2 Inv-loop μ-loop
 returns-2 c =
@@ -128,7 +164,8 @@ loop-less c =
     let w = d .before .before .before .before .before .before .before .before .before .before .loop .inv .0 in
     let n = d .before .before .before .before .before .before .before .next-part in
     let g = n .ensures .1 in
-    let a = d .before .before .before .before .before .before .before .before .before .before .before .before .before .before .before .pre in
+    let a = d .before .before .before .before .before .before .before .before .before .before .before .before .before
+    .before .before .pre in
     let more : n .result .more ≡ true = not-false _ (c .if2 .left) in
     omega (arith, g .nearer (omega (arith, w .page-size, a .1)) (omega (arith, w .cells-size, a .3)) more, g .inside more)
 

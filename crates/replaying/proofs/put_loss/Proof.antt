@@ -47,8 +47,11 @@ returns c =
     let place = d .before .before .before .before .before .before .before .put-field2 .ensures in
     let samples = d .before .before .put-field3 .ensures in
     let heard = c .before .before .before .before .before .before .before .put-field4 .ensures in
-    let end = c .before .before .put-word .ensures in
-    (puts-then (loss .0) (puts-then (place .0) (puts-then (samples .0) (puts-then (heard .0) end))), omega (arith, loss .1, place .1, samples .1, heard .1, end .place))
+    let end = c .before .before .put-word .ensures in (
+      puts-then (loss .0) (puts-then (place .0) (puts-then (samples .0) (puts-then (heard .0) end))),
+      omega
+          (arith, loss .1, place .1, samples .1, heard .1, end .place),
+    )
 
 pub put-loss-spec : {M : Type 1} → statement M
 put-loss-spec =

@@ -3,7 +3,7 @@ use native.Mathlib.Omega.{arith}
 use mathlib.Core.Path.{_≡_, refl, sym, _∙_}
 use borrow.Author.Tests.{not-false}
 use lib.ListN.{length}
-use Rattle.replaying.specs.Lines.{Follows, NextItem}
+use Rattle.replaying.specs.Lines.{Follows}
 use Rattle.replaying.proofs.Running.{number-most, heard-most, at-most, follows-on, sums}
 use Rattle.replaying.proofs.tell.Statement.{statement}
 use Rattle.replaying.proofs.tell.Tie as tie
@@ -22,7 +22,13 @@ next-part-requires : tie.Need-next-part-requires Inv-loop μ-loop
 next-part-requires c κs = search needs
 
 slice-read-say-item : tie.Need-slice-read-say-item Inv-loop μ-loop
-slice-read-say-item c = omega (arith, c .before .before .before .before .before .next-part .kept .1 .1 .1 .1 .1 .0, c .before .before .before .before .before .before .before .before .before .loop .inv .2)
+slice-read-say-item c =
+    omega (
+      arith,
+      c .before .before .before .before .before .next-part .kept .1 .1 .1 .1 .1 .0,
+      c .before .before .before
+          .before .before .before .before .before .before .loop .inv .2,
+    )
 
 say-item-requires : tie.Need-say-item-requires Inv-loop μ-loop
 say-item-requires c κs =
@@ -48,12 +54,14 @@ say-item-requires c κs =
 same-length : tie.Need-same-length Inv-loop μ-loop
 same-length c =
     let d = c .before .before .before .before .before .before .before .before .before .before in
-    c .before .before .before .before .before .before .before .before .next-part .kept .1 .1 .1 .1 .0 ∙ d .before .before .loop .inv .1 ∙ sym (d .before .before .before .before .before .before .pre .2)
+    c .before .before .before .before .before .before .before .before .next-part .kept .1 .1 .1 .1 .0 ∙ d .before .before .loop .inv .1
+    ∙ sym (d .before .before .before .before .before .before .pre .2)
 
 same-length-2 : tie.Need-same-length-2 Inv-loop μ-loop
 same-length-2 c =
     let d = c .before .before .before .before .before .before .before .before .before .before in
-    c .before .before .before .before .before .before .before .before .next-part .kept .1 .1 .1 .1 .1 .0 ∙ d .before .before .loop .inv .2 ∙ sym (d .before .before .before .before .before .before .pre .3)
+    c .before .before .before .before .before .before .before .before .next-part .kept .1 .1 .1 .1 .1 .0
+    ∙ d .before .before .loop .inv .2 ∙ sym (d .before .before .before .before .before .before .pre .3)
 
 returns : tie.Need-returns Inv-loop μ-loop
 returns c = search needs
@@ -63,14 +71,30 @@ add-number c =
     let d = c .before .before .before .before .before .before .before .before .before .before in
     let w = d .before .before .before .loop .inv .0 in
     let g = c .before .before .before .before .before .before .before .before .before .next-part .ensures .1 in
-    omega (arith, number-most _ _ _ w, g .few (at-most _ _ _ w), at-most _ _ _ w, d .before .before .before .before .before .before .before .pre .0)
+    omega (
+      arith,
+      number-most _ _ _ w,
+      g .few (at-most _ _ _ w),
+      at-most _ _ _ w,
+      d .before .before .before .before .before
+          .before .before .pre .0,
+    )
 
 add-heard : tie.Need-add-heard Inv-loop μ-loop
 add-heard c =
     let d = c .before .before .before .before .before .before .before .before .before .before in
     let w = d .before .before .before .before .loop .inv .0 in
     let g = d .next-part .ensures .1 in
-    omega (arith, number-most _ _ _ w, heard-most _ _ _ w, g .few (at-most _ _ _ w), g .held, at-most _ _ _ w, d .before .before .before .before .before .before .before .before .pre .0)
+    omega (
+      arith,
+      number-most _ _ _ w,
+      heard-most _ _ _ w,
+      g .few (at-most _ _ _ w),
+      g .held,
+      at-most _ _ _ w,
+      d .before
+          .before .before .before .before .before .before .before .pre .0,
+    )
 
 sub-left : tie.Need-sub-left Inv-loop μ-loop
 sub-left c = search needs

@@ -42,8 +42,11 @@ returns c =
     let s = c .before .before .before .before .before .before .before .before .before in
     let a = s .args in
     let left = a .b .size - a .at in
-    let e = length-take-le left (a .window .now) (omega arith) in
-    (omega (arith, r .ensures, length-append (r .last .1 .1 .0) (drop left (a .window .now))), omega (arith, r .ensures, r .kept .1 .1 .0, e))
+    let e = length-take-le left (a .window .now) (omega arith) in (
+      omega (arith, r .ensures, length-append (r .last .1 .1 .0) (drop left (a .window .now))),
+      omega
+          (arith, r .ensures, r .kept .1 .1 .0, e),
+    )
 
 -- src/lib.rt:438:28
 add-read-at-2 : tie.Need-add-read-at-2

@@ -123,7 +123,8 @@ add-goes-further-2 c =
 -- src/lib.rt:506:13
 same-length-2 : tie.Need-same-length-2 Inv-loop μ-loop
 same-length-2 c =
-    let wa = c .before .before .before .before .before .before .before .before .before .before .before in wa .window-at .kept .1 .1 .0 ∙ wa .before .before .loop .inv .2
+    let wa = c .before .before .before .before .before .before .before .before .before .before .before in
+    wa .window-at .kept .1 .1 .0 ∙ wa .before .before .loop .inv .2
 
 -- src/lib.rt:506:13
 returns-2 : tie.Need-returns-2 Inv-loop μ-loop
@@ -145,7 +146,8 @@ number-of-requires c κs = search needs
 
 -- src/lib.rt:508:70
 sub-goes-further : tie.Need-sub-goes-further Inv-loop μ-loop
-sub-goes-further c = let i = c .before .before .before .before .before .before .before .before .before .before .before .before .before .before .before .loop .inv in i .1
+sub-goes-further c = let i = c .before .before .before .before .before .before .before .before .before .before .before
+    .before .before .before .before .loop .inv in i .1
 
 -- src/lib.rt:508:13
 goes-further-requires : tie.Need-goes-further-requires Inv-loop μ-loop
@@ -154,7 +156,8 @@ goes-further-requires c κs = search needs
 -- src/lib.rt:509:13
 same-length-3 : tie.Need-same-length-3 Inv-loop μ-loop
 same-length-3 c =
-    let wa = c .before .before .before .before .before .before .before .before .before .before .before .before .before .before .before in wa .window-at .kept .1 .1 .0 ∙ wa .before .before .loop .inv .2
+    let wa = c .before .before .before .before .before .before .before .before .before .before .before .before .before .before .before in
+    wa .window-at .kept .1 .1 .0 ∙ wa .before .before .loop .inv .2
 
 -- src/lib.rt:509:13
 returns-3 : tie.Need-returns-3 Inv-loop μ-loop
@@ -177,12 +180,14 @@ unread-requires-2 c κs = search needs
 -- src/lib.rt:512:13
 same-length-4 : tie.Need-same-length-4 Inv-loop μ-loop
 same-length-4 c =
-    let wa = c .before .before .before .before .before .before .before .before .before .before .before .before .before .before .before .before .before .before in wa .window-at .kept .1 .1 .0 ∙ wa .before .before .loop .inv .2
+    let wa = c .before .before .before .before .before .before .before .before .before .before .before .before .before
+    .before .before .before .before .before in wa .window-at .kept .1 .1 .0 ∙ wa .before .before .loop .inv .2
 
 -- src/lib.rt:512:13
 returns-4 : tie.Need-returns-4 Inv-loop μ-loop
 returns-4 c =
-    let i = c .before .before .before .before .before .before .before .before .before .before .before .before .before .before .before .before .before .before .before .before .loop .inv in
+    let i = c .before .before .before .before .before .before .before .before .before .before .before .before .before
+    .before .before .before .before .before .before .before .loop .inv in
     let u = c .unread2 .ensures in
     (λ z. let y = u .0 in absurd (omega arith), (omega (arith, u .1, u .2, i .3), omega (arith, u .3, i .1)))
 

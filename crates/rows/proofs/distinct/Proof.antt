@@ -1,5 +1,5 @@
-use Prim.Native.Nat.{ℕ, _+_, _*_, _-_, _≤_, _<_}
-use mathlib.Core.Path.{_≡_, refl, sym, ap, _∙_}
+use Prim.Native.Nat.{_-_, _≤_}
+use mathlib.Core.Path.{_≡_, sym, ap, _∙_}
 use mathlib.Core.List.{List}
 use native.Mathlib.Omega.{arith}
 use Rattle.rows.specs.declared.Row.{Row}
@@ -43,7 +43,8 @@ returns-2 : tie.Need-returns-2 Inv-loop μ-loop
 returns-2 c =
     let s = c .before .before .before .before .before .before .before .before .args in
     let l = c .before .before .before .before .before .before .loop in
-    numbered-high (s .table .now) (s .n) (l .i) (c .before .before .before .before .row-at .ensures .0) (omega arith) (omega arith) (omega arith) ∙ sym (l .inv .0)
+    numbered-high (s .table .now) (s .n) (l .i) (c .before .before .before .before .row-at .ensures .0) (omega arith)
+    (omega arith) (omega arith) ∙ sym (l .inv .0)
 
 add-find : tie.Need-add-find Inv-loop μ-loop
 add-find c = search needs
@@ -55,7 +56,8 @@ returns-3 : tie.Need-returns-3 Inv-loop μ-loop
 returns-3 c =
     let s = c .before .before .before .before .before .before .before .before .before .before .args in
     let l = c .before .before .before .before .before .before .before .before .loop in
-    numbered-again (s .table .now) (s .n) (l .i) (c .before .before .before .before .before .before .row-at .ensures .0) (omega arith) (c .before .find .ensures .0) (omega arith) (omega arith) (omega arith) ∙ sym (l .inv .0)
+    numbered-again (s .table .now) (s .n) (l .i) (c .before .before .before .before .before .before .row-at .ensures .0)
+    (omega arith) (c .before .find .ensures .0) (omega arith) (omega arith) (omega arith) ∙ sym (l .inv .0)
 
 add-i : tie.Need-add-i Inv-loop μ-loop
 add-i c = search needs

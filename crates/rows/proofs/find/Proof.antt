@@ -1,5 +1,5 @@
-use Prim.Native.Nat.{ℕ, _+_, _*_, _-_, _≤_, _<_}
-use mathlib.Core.Path.{_≡_, refl, sym, ap, _∙_}
+use Prim.Native.Nat.{_-_, _≤_}
+use mathlib.Core.Path.{_≡_, sym, _∙_}
 use native.Mathlib.Omega.{arith}
 use Rattle.rows.specs.Finding.{findFrom}
 use Rattle.rows.proofs.Left.{left}
@@ -32,8 +32,11 @@ row-at-requires c κs = search needs
 returns : tie.Need-returns Inv-loop μ-loop
 returns c =
     let s = c .before .before .before .before .before .before .args in
-    let l = c .before .before .before .before .loop in
-    (find-hit (s .table .now) (s .n) (l .i) (c .before .before .row-at .ensures .0) (omega arith) (s .number) (omega arith) ∙ sym (l .inv .0), omega arith)
+    let l = c .before .before .before .before .loop in (
+      find-hit (s .table .now) (s .n) (l .i) (c .before .before .row-at .ensures .0) (omega arith) (s .number) (omega arith)
+          ∙ sym (l .inv .0),
+      omega arith,
+    )
 
 add-i : tie.Need-add-i Inv-loop μ-loop
 add-i c = search needs
@@ -44,8 +47,11 @@ loop-less c = search needs
 loop-again : tie.Need-loop-again Inv-loop μ-loop
 loop-again c =
     let s = c .before .before .before .before .before .before .args in
-    let l = c .before .before .before .before .loop in
-    (l .inv .0 ∙ find-miss (s .table .now) (s .n) (l .i) (c .before .before .row-at .ensures .0) (omega arith) (s .number) (λ e. omega arith), omega arith)
+    let l = c .before .before .before .before .loop in (
+      l .inv .0 ∙ find-miss (s .table .now) (s .n) (l .i) (c .before .before .row-at .ensures .0) (omega arith) (s .number)
+          (λ e. omega arith),
+      omega arith,
+    )
 
 returns-2 : tie.Need-returns-2 Inv-loop μ-loop
 returns-2 c =

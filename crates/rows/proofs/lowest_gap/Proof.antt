@@ -1,5 +1,5 @@
-use Prim.Native.Nat.{ℕ, _+_, _*_, _-_, _≤_, _<_}
-use mathlib.Core.Path.{_≡_, refl, sym, ap, _∙_}
+use Prim.Native.Nat.{ℕ, _-_, _≤_}
+use mathlib.Core.Path.{_≡_, sym, ap, _∙_}
 use mathlib.Core.List.{List}
 use native.Mathlib.Omega.{arith}
 use Rattle.rows.specs.declared.Row.{Row}
@@ -16,7 +16,8 @@ use Rattle.rows.proofs.lowest_gap.Lts as lts
 use Rattle.rows.proofs.row_at.Reads as row-at-reads
 
 abbrev Inv-loop : tie.InvT-loop
-Inv-loop table n size want at₀ i₀ at i = (lowestGap want size (rowsOf table) ≡ gapFrom want size at i (left table n i)) × (i ≤ n) × (at ≤ size)
+Inv-loop table n size want at₀ i₀ at i =
+    (lowestGap want size (rowsOf table) ≡ gapFrom want size at i (left table n i)) × (i ≤ n) × (at ≤ size)
 
 abbrev μ-loop : tie.MeasureT-loop
 μ-loop table n size want at₀ i₀ at i = n - i
@@ -43,7 +44,8 @@ returns : tie.Need-returns Inv-loop μ-loop
 returns c =
     let s = c .before .before .before .before .before .before .args in
     let l = c .before .before .before .before .loop in
-    gap-here (s .table .now) (s .n) (l .i) (c .before .before .row-at .ensures .0) (omega arith) (s .want) (s .size) (l .at) (omega arith) ∙ sym (l .inv .0)
+    gap-here (s .table .now) (s .n) (l .i) (c .before .before .row-at .ensures .0) (omega arith) (s .want) (s .size) (l .at) (omega arith)
+    ∙ sym (l .inv .0)
 
 add-at : tie.Need-add-at Inv-loop μ-loop
 add-at c = search needs

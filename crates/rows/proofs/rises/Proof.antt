@@ -1,5 +1,5 @@
-use Prim.Native.Nat.{ℕ, _+_, _*_, _-_, _≤_, _<_}
-use mathlib.Core.Path.{_≡_, refl, sym, ap, _∙_}
+use Prim.Native.Nat.{_-_, _≤_}
+use mathlib.Core.Path.{_≡_, sym, ap, _∙_}
 use mathlib.Core.List.{List}
 use native.Mathlib.Omega.{arith}
 use Rattle.rows.specs.declared.Row.{Row}
@@ -38,13 +38,15 @@ returns : tie.Need-returns Inv-loop μ-loop
 returns c =
     let s = c .before .before .before .before .before .before .args in
     let l = c .before .before .before .before .loop in
-    rising-low (s .table .now) (s .n) (l .i) (s .least) (s .size) (l .at) (c .before .before .row-at .ensures .0) (omega arith) (omega arith) ∙ sym (l .inv .0)
+    rising-low (s .table .now) (s .n) (l .i) (s .least) (s .size) (l .at) (c .before .before .row-at .ensures .0)
+    (omega arith) (omega arith) ∙ sym (l .inv .0)
 
 returns-2 : tie.Need-returns-2 Inv-loop μ-loop
 returns-2 c =
     let s = c .before .before .before .before .before .before .before .before .args in
     let l = c .before .before .before .before .before .before .loop in
-    rising-few (s .table .now) (s .n) (l .i) (s .least) (s .size) (l .at) (c .before .before .before .before .row-at .ensures .0) (omega arith) (omega arith) (omega arith) ∙ sym (l .inv .0)
+    rising-few (s .table .now) (s .n) (l .i) (s .least) (s .size) (l .at) (c .before .before .before .before .row-at .ensures .0)
+    (omega arith) (omega arith) (omega arith) ∙ sym (l .inv .0)
 
 add-end : tie.Need-add-end Inv-loop μ-loop
 add-end c = search needs
@@ -53,7 +55,9 @@ returns-3 : tie.Need-returns-3 Inv-loop μ-loop
 returns-3 c =
     let s = c .before .before .before .before .before .before .before .before .before .before .args in
     let l = c .before .before .before .before .before .before .before .before .loop in
-    rising-out (s .table .now) (s .n) (l .i) (s .least) (s .size) (l .at) (c .before .before .before .before .before .before .row-at .ensures .0) (omega arith) (omega arith) (omega arith) (omega arith) ∙ sym (l .inv .0)
+    rising-out (s .table .now) (s .n) (l .i) (s .least) (s .size) (l .at)
+    (c .before .before .before .before .before .before .row-at .ensures .0) (omega arith) (omega arith) (omega arith) (omega arith)
+    ∙ sym (l .inv .0)
 
 add-i : tie.Need-add-i Inv-loop μ-loop
 add-i c = search needs
@@ -66,7 +70,8 @@ loop-again c =
     let s = c .before .before .before .before .before .before .before .before .before .before .args in
     let l = c .before .before .before .before .before .before .before .before .loop in
     let r = c .before .before .before .before .before .before .row-at .ensures .0 in (
-      l .inv .0 ∙ rising-turn (s .table .now) (s .n) (l .i) (s .least) (s .size) (l .at) r (omega arith) (omega arith) (omega arith) (omega arith),
+      l .inv .0 ∙ rising-turn (s .table .now) (s .n) (l .i) (s .least) (s .size) (l .at) r (omega arith) (omega arith)
+          (omega arith) (omega arith),
       omega arith,
     )
 

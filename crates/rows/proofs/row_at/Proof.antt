@@ -44,7 +44,8 @@ wide-requires-3 c κs = search needs
 returns : tie.Need-returns
 returns c =
     let s = c .before .before .before .before .before .before .before in (
-      row-is (s .args .table .now) (s .args .k) (c .before .before .before .before .wide .ensures) (c .before .before .wide2 .ensures) (c .wide3 .ensures),
+      row-is (s .args .table .now) (s .args .k) (c .before .before .before .before .wide .ensures) (c .before .before .wide2 .ensures)
+          (c .wide3 .ensures),
       omega (arith, c .before .before .wide2 .ensures, c .before .shared-slice-known4 .given (s .args .k + 1)),
       omega (arith, c .wide3 .ensures, c .before .shared-slice-known4 .given (s .args .k + 2)),
     )

@@ -19,7 +19,8 @@ wide-requires : tie.Need-wide-requires
 wide-requires c κs = search needs
 
 returns-2 : tie.Need-returns-2
-returns-2 c = let s = c .before .before .before .before .before .args in sane-many (s .size) (s .table .now) (omega arith) (c .before .wide .ensures) (omega arith)
+returns-2 c = let s = c .before .before .before .before .before .args in
+    sane-many (s .size) (s .table .now) (omega arith) (c .before .wide .ensures) (omega arith)
 
 rises-requires : tie.Need-rises-requires
 rises-requires c κs = search needs
@@ -30,13 +31,15 @@ distinct-requires c κs = search needs
 returns-3 : tie.Need-returns-3
 returns-3 c =
     let s = c .before .before .before .before .before .before .before .before .args in
-    sane-rest (s .size) (s .table .now) (omega arith) (c .before .before .before .before .wide .ensures) (omega arith) (c .before .before .rises .ensures)
+    sane-rest (s .size) (s .table .now) (omega arith) (c .before .before .before .before .wide .ensures) (omega arith)
+    (c .before .before .rises .ensures)
     (rw (c .before .if3 .taken) (c .distinct .ensures))
 
 returns-4 : tie.Need-returns-4
 returns-4 c =
     let s = c .before .before .before .before .before .before .before .args in
-    sane-rest (s .size) (s .table .now) (omega arith) (c .before .before .before .wide .ensures) (omega arith) (c .before .rises .ensures) (rw (c .if3 .left))
+    sane-rest (s .size) (s .table .now) (omega arith) (c .before .before .before .wide .ensures) (omega arith)
+    (c .before .rises .ensures) (rw (c .if3 .left))
 
 pub sane-spec : {M : Type 1} → statement M
 sane-spec =

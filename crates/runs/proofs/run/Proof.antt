@@ -28,7 +28,11 @@ returns c =
 returns-2 : tie.Need-returns-2
 unfolding oneRun
 returns-2 c =
-    record { says = sym (rw (refused (c .before .before .before .rice .ensures) (c .before .why .given .1))); value = omega arith; next = omega arith }
+    record {
+      says = sym (rw (refused (c .before .before .before .rice .ensures) (c .before .why .given .1)));
+      value = omega arith;
+      next = omega arith;
+    }
 
 returns-3 : tie.Need-returns-3
 returns-3 c =

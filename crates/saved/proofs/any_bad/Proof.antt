@@ -83,7 +83,8 @@ loop-again c =
     let l = q7 in
     let a = l .before .before .before .before .args in
     let r = q5 .row-at .ensures .0 in
-    let o = bad-on (a .block .now) (a .cells .now) (a .laws .now) (a .n) (l .loop .i) r (omega arith) (c .before .is-bad .ensures) (c .if1 .left) in
+    let o = bad-on (a .block .now) (a .cells .now) (a .laws .now) (a .n) (l .loop .i) r (omega arith) (c .before .is-bad .ensures)
+    (c .if1 .left) in
     (omega arith, sym o ∙ l .loop .inv .1)
 
 returns-2 : tie.Need-returns-2 Inv-loop μ-loop

@@ -22,7 +22,8 @@ distinct-requires c κs = search needs
 returns-2 : tie.Need-returns-2
 returns-2 c =
     let i = c .before .before in
-    not-once _ _ _ (i .before .before .size-of .ensures) (i .before .rises .ensures) (not-false _ (i .if1 .left)) (c .before .distinct .ensures)
+    not-once _ _ _ (i .before .before .size-of .ensures) (i .before .rises .ensures) (not-false _ (i .if1 .left))
+    (c .before .distinct .ensures)
     (not-true _ (c .if2 .taken))
 
 any-bad-requires : tie.Need-any-bad-requires
@@ -35,14 +36,16 @@ returns-3 : tie.Need-returns-3
 returns-3 c =
     let d = c .before .before in
     let i = d .before .before in
-    is-bad _ _ _ (i .before .before .size-of .ensures) (i .before .rises .ensures) (not-false _ (i .if1 .left)) (d .before .distinct .ensures)
+    is-bad _ _ _ (i .before .before .size-of .ensures) (i .before .rises .ensures) (not-false _ (i .if1 .left))
+    (d .before .distinct .ensures)
     (not-false _ (d .if2 .left)) (c .before .any-bad .ensures) (c .if3 .taken)
 
 returns-4 : tie.Need-returns-4
 returns-4 c =
     let d = c .before .before in
     let i = d .before .before in
-    is-fine _ _ _ (i .before .before .size-of .ensures) (i .before .rises .ensures) (not-false _ (i .if1 .left)) (d .before .distinct .ensures)
+    is-fine _ _ _ (i .before .before .size-of .ensures) (i .before .rises .ensures) (not-false _ (i .if1 .left))
+    (d .before .distinct .ensures)
     (not-false _ (d .if2 .left)) (c .before .any-bad .ensures) (c .if3 .left)
 
 pub judge-rows-spec : {M : Type 1} → statement M

@@ -101,7 +101,8 @@ returns-3 c =
     let b = s .args .block .now in
     let w = celled-noted _ (fills-as (q18 .n .given .1) (q22 .read-noted .ensures)) (omega arith) (omega arith) in
     let a = accepts b (sizeOf b) _ (sym (q12 .enum-told2 .given .1) ∙ q14 .judge-noted .ensures) in
-    noted-fine b (sizeOf b) (listedAt (s .args .form .most) (s .args .form .from) (s .args .text .now)) (w .0) (w .1) a (q9 .read-noted2 .ensures) (c .before .before .store-notes .ensures)
+    noted-fine b (sizeOf b) (listedAt (s .args .form .most) (s .args .form .from) (s .args .text .now)) (w .0) (w .1) a
+    (q9 .read-noted2 .ensures) (c .before .before .store-notes .ensures)
 
 pub load-noted-spec : {M : Type 1} → statement M
 load-noted-spec =

@@ -3,7 +3,8 @@ use Prim.Native.Nat.{_-_}
 use mathlib.Core.Path.{sym, _∙_}
 use native.Mathlib.Omega.{arith}
 use lib.ListN.{length}
-use Rattle.saved.proofs.Walking.{Walking, walking-first, walking-small, walking-more, walking-astray, walking-on, walking-turn, walking-end}
+use Rattle.saved.proofs.Walking.{Walking, walking-first, walking-small, walking-more}
+use Rattle.saved.proofs.Walking.{walking-astray, walking-on, walking-turn, walking-end}
 use borrow.Author.Needs.{needs}
 use Rattle.saved.proofs.marks_walked.Statement.{statement}
 use Rattle.saved.proofs.marks_walked.Tie as tie

@@ -37,7 +37,8 @@ samples-are-requires : tie.Need-samples-are-requires
 samples-are-requires c κs =
     let take = c .before .before .before .before in
     let p = take .before .before .before .before .pre in
-    let t = taken (take .take .ensures) (c .before .samples .given .1) (fine-law _ _ (p .1)) (omega (arith, p .0)) (take .take .kept .1 .1 .0) in
+    let t = taken (take .take .ensures) (c .before .samples .given .1) (fine-law _ _ (p .1)) (omega (arith, p .0))
+    (take .take .kept .1 .1 .0) in
     omega (arith, heard-small (t .heard))
 
 -- src/lib.rt:124:29

@@ -31,7 +31,8 @@ module _ (c : tie.After-pass Inv-loop μ-loop) (e : c .pass .result .end ≡ Don
   bounds : Bounds (drop (c .before .before .before .before .loop .place)
       (c .before .before .before .before .before .before .args .octets .now)) (c .before .before .before .before .loop .left)
       (c .pass .result)
-  bounds = seek-bounds _ _ _ _ _ _ (c .before .before .before .before .loop .inv) (omega arith) (here (c .before .before)) (c .pass .ensures .tells) e
+  bounds = seek-bounds _ _ _ _ _ _ (c .before .before .before .before .loop .inv) (omega arith) (here (c .before .before))
+      (c .pass .ensures .tells) e
 
   inside : c .before .before .before .before .loop .place + c .pass .result .octets
       ≤ length (c .before .before .before .before .before .before .args .octets .now)
@@ -85,7 +86,12 @@ sub-left c = bounds (c .before .before .before .before .before .before) (c .befo
 add-passed : tie.Need-add-passed Inv-loop μ-loop
 add-passed c =
     let s = c .before .before .before .before .before .before .before in
-    omega (arith, bounds s (c .before .before .before .before .before .enum-told2 .given .1) .fits, s .before .before .before .before .loop .inv .room)
+    omega (
+      arith,
+      bounds s (c .before .before .before .before .before .enum-told2 .given .1) .fits,
+      s .before .before
+          .before .before .loop .inv .room,
+    )
 
 add-n : tie.Need-add-n Inv-loop μ-loop
 add-n c = search needs

@@ -20,7 +20,8 @@ returns : tie.Need-returns
 returns c = back-gone _ _ (sym (c .before .before .look-up .ensures) ∙ c .enum-told .given .1)
 
 returns-2 : tie.Need-returns-2
-returns-2 c = back-adds _ _ _ (sym (c .before .before .before .before .before .look-up .ensures) ∙ c .before .before .before .v .given .1) (c .add .ensures)
+returns-2 c = back-adds _ _ _ (sym (c .before .before .before .before .before .look-up .ensures) ∙ c .before .before .before .v .given .1)
+    (c .add .ensures)
 
 pub back-spec : {M : Type 1} → statement M
 back-spec =

@@ -29,7 +29,8 @@ row-at-requires : tie.Need-row-at-requires Inv-loop μ-loop
 row-at-requires c κs = search needs
 
 returns-2 : tie.Need-returns-2 Inv-loop μ-loop
-returns-2 c = sym (kept-looked _ (c .before .before .before .before .before .before .if1 .left) _ ∙ c .before .before .before .before .before .loop .inv .1
+returns-2 c = sym (kept-looked _ (c .before .before .before .before .before .before .if1 .left) _
+    ∙ c .before .before .before .before .before .loop .inv .1
     ∙ looked-here _ _ _ (omega arith) (ap number (sym (c .before .before .before .row-at .ensures)) ∙ c .before .if2 .taken)
     ∙ ap (λ (r : Revision). Under (r .values)) (sym (c .before .before .before .row-at .ensures)))
 

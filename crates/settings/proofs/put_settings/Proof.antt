@@ -48,7 +48,14 @@ put-line-requires-4 c κs =
     let b = c .before .before .before .before in
     let t = b .before .before .before .before .before in
     let l = t .before .before .before .before .before in
-    omega (arith, l .put-line .ensures .1, t .put-line2 .ensures .1, b .put-line3 .ensures .1, last-line (l .before .before .before .before))
+    omega (
+      arith,
+      l .put-line .ensures .1,
+      t .put-line2 .ensures .1,
+      b .put-line3 .ensures .1,
+      last-line
+          (l .before .before .before .before),
+    )
 
 same-length : tie.Need-same-length
 same-length c = search needs

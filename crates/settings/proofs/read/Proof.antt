@@ -1,5 +1,4 @@
 use mathlib.Core.Path.{sym, _∙_}
-use native.Mathlib.Omega.{arith}
 use Rattle.settings.proofs.Calls.{read-gone, read-text}
 use borrow.Author.Needs.{needs}
 use Rattle.settings.proofs.read.Statement.{statement}

@@ -20,7 +20,8 @@ returns : tie.Need-returns
 returns c = save-line _ _ (sym (c .before .before .settings-in .ensures) ∙ c .enum-told .given .1)
 
 returns-2 : tie.Need-returns-2
-returns-2 c = save-adds _ _ _ (sym (c .before .before .before .before .before .settings-in .ensures) ∙ c .before .before .before .v .given .1) (c .add .ensures)
+returns-2 c = save-adds _ _ _
+    (sym (c .before .before .before .before .before .settings-in .ensures) ∙ c .before .before .before .v .given .1) (c .add .ensures)
 
 pub save-spec : {M : Type 1} → statement M
 save-spec =

@@ -70,13 +70,15 @@ returns-2 c = no-law _ (told (c .enum-told .given .1) (c .before .before .ranged
 returns-3 : tie.Need-returns-3
 returns-3 c =
     let l = c .before .before .before .before .before in
-    no-set _ (told (l .law .given .1) (l .before .before .ranged-line .ensures)) (told (c .enum-told2 .given .1) (c .before .before .ranged-line2 .ensures))
+    no-set _ (told (l .law .given .1) (l .before .before .ranged-line .ensures))
+    (told (c .enum-told2 .given .1) (c .before .before .ranged-line2 .ensures))
 
 returns-4 : tie.Need-returns-4
 returns-4 c =
     let s = c .before .before .before .before .before in
     let l = s .before .before .before .before .before in
-    no-block _ (told (l .law .given .1) (l .before .before .ranged-line .ensures)) (told (s .set .given .1) (s .before .before .ranged-line2 .ensures))
+    no-block _ (told (l .law .given .1) (l .before .before .ranged-line .ensures))
+    (told (s .set .given .1) (s .before .before .ranged-line2 .ensures))
     (told (c .enum-told3 .given .1) (c .before .before .ranged-line3 .ensures))
 
 returns-5 : tie.Need-returns-5
@@ -84,8 +86,10 @@ returns-5 c =
     let b = c .before .before .before .before .before in
     let s = b .before .before .before .before .before in
     let l = s .before .before .before .before .before in
-    no-greeting _ (told (l .law .given .1) (l .before .before .ranged-line .ensures)) (told (s .set .given .1) (s .before .before .ranged-line2 .ensures))
-    (told (b .block .given .1) (b .before .before .ranged-line3 .ensures)) (told (c .enum-told4 .given .1) (c .before .before .ranged-line4 .ensures))
+    no-greeting _ (told (l .law .given .1) (l .before .before .ranged-line .ensures))
+    (told (s .set .given .1) (s .before .before .ranged-line2 .ensures))
+    (told (b .block .given .1) (b .before .before .ranged-line3 .ensures))
+    (told (c .enum-told4 .given .1) (c .before .before .ranged-line4 .ensures))
 
 returns-6 : tie.Need-returns-6
 returns-6 c =

@@ -73,7 +73,8 @@ loop-again c = copying-turn (c .before .loop .inv) (omega arith)
 
 returns : tie.Need-returns Inv-loop μ-loop
 returns c =
-    laid-added _ _ (c .before .before .before .before .before .before .before .before .gather .ensures) (c .before .before .before .before .put-row .ensures)
+    laid-added _ _ (c .before .before .before .before .before .before .before .before .gather .ensures)
+    (c .before .before .before .before .put-row .ensures)
     (c .before .before .first-kept .ensures) (c .before .loop .inv) (omega arith)
 
 pub with-added-spec : {M : Type 1} → statement M

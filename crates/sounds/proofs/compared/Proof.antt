@@ -22,10 +22,26 @@ returns : tie.Need-returns
 returns c = search needs
 
 slice-reshare-prefix-agree : tie.Need-slice-reshare-prefix-agree
-slice-reshare-prefix-agree c = omega (arith, length-append (c .before .before .before .read-part .last .1 .0) (drop (length (c .before .before .before .before .before .before .before .args .sound .now)) (c .before .before .before .before .before .before .before .args .master .now)), c .before .before .before .read-part .ensures)
+slice-reshare-prefix-agree c =
+    omega (
+      arith,
+      length-append (c .before .before .before .read-part .last .1 .0)
+          (drop (length (c .before .before .before .before .before .before .before .args .sound .now))
+          (c .before .before .before .before .before .before .before .args .master .now)),
+      c .before .before .before .read-part .ensures,
+    )
 
 slice-aggregate-agree : tie.Need-slice-aggregate-agree
-slice-aggregate-agree c = sym (length-take-le _ _ (omega (arith, length-append (c .before .before .before .before .read-part .last .1 .0) (drop (length (c .before .before .before .before .before .before .before .before .args .sound .now)) (c .before .before .before .before .before .before .before .before .args .master .now)), c .before .before .before .before .read-part .ensures)))
+slice-aggregate-agree c =
+    sym (length-take-le _ _
+    (omega (
+      arith,
+      length-append (c .before .before .before .before .read-part .last .1 .0)
+          (drop (length (c .before .before .before .before .before .before .before .before .args .sound .now))
+          (c .before .before .before .before .before .before .before .before .args .master .now)),
+      c .before .before
+          .before .before .read-part .ensures,
+    )))
 
 agree-requires : tie.Need-agree-requires
 agree-requires c κs = search needs

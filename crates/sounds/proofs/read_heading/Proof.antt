@@ -70,7 +70,16 @@ returns-3 c = search needs
 loop-less : tie.Need-loop-less Inv-loop μ-loop
 loop-less c =
     let m = c .before .before .before .more-octets in
-    omega (arith, m .ensures .0 (c .if1 .left), m .ensures .1, m .kept .1 .1 .1 .0, c .before .before .before .before .before .before .before .before .before .before .loop .inv .0, c .before .before .before .before .before .before .before .before .before .before .loop .inv .1)
+    omega (
+      arith,
+      m .ensures .0 (c .if1 .left),
+      m .ensures .1,
+      m .kept .1 .1 .1 .0,
+      c .before .before .before .before
+          .before .before .before .before .before .before .loop .inv .0,
+      c .before .before .before .before .before .before
+          .before .before .before .before .loop .inv .1,
+    )
 
 loop-again : tie.Need-loop-again Inv-loop μ-loop
 loop-again c =

@@ -63,7 +63,8 @@ returns-2 c =
     let k = look-told _ _ _ (sym (sane .sane .ensures) ∙ not-false _ (if1 .if1 .left))
     (rw (wide .wide .ensures) at (sym (n .n .given .1) ∙ judge .judge .ensures))
     in
-    delete-absent (s .block .now) (s .table .now) (size-of .size-of .ensures) (sane .sane .ensures) (not-false _ (if1 .if1 .left)) (s .number)
+    delete-absent (s .block .now) (s .table .now) (size-of .size-of .ensures) (sane .sane .ensures)
+    (not-false _ (if1 .if1 .left)) (s .number)
     k (omega arith)
 
 remove-requires : tie.Need-remove-requires
@@ -131,7 +132,8 @@ returns-4 c =
     let k = look-told _ _ _ (sym (sane .sane .ensures) ∙ not-false _ (if1 .if1 .left))
     (rw (wide .wide .ensures) at (sym (n .n .given .1) ∙ judge .judge .ensures))
     in
-    delete-found (s .block .now) (s .table .now) (size-of .size-of .ensures) (sane .sane .ensures) (not-false _ (if1 .if1 .left)) (s .number)
+    delete-found (s .block .now) (s .table .now) (size-of .size-of .ensures) (sane .sane .ensures)
+    (not-false _ (if1 .if1 .left)) (s .number)
     k (omega arith) (remove .remove .ensures)
     (drop-note .drop-note .ensures)
 

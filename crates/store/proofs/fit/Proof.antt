@@ -78,7 +78,8 @@ put-taken-requires-2 c κs =
     let p = s .pre in
     let q = p .1 .0 in
     let r = p .1 .1 in
-    let k = behind-asks (a .table .now) (a .size) (a .number) (a .octets .now) (q .0) (p .0 .0) (p .0 .4) (p .0 .1) (omega (arith, q .1, q .2))
+    let k = behind-asks (a .table .now) (a .size) (a .number) (a .octets .now) (q .0) (p .0 .0) (p .0 .4) (p .0 .1)
+    (omega (arith, q .1, q .2))
     (heard-few (r .heard)) (a .behind) (close .close-up .ensures) (place .place2 .ensures .1)
     (place .place2 .kept .1 .0 ∙ close .close-up .kept .1 .0)
     in
@@ -121,7 +122,8 @@ returns-2 c =
     let p = s .pre in
     let none = sym (told .enum-told .given .1) ∙ told .before .before .lowest-gap .ensures in
     fit-behind (a .block .now) (a .table .now) (a .size) (a .sound .law) (a .number) (a .octets .now) (omega (arith, p .0 .0, p .0 .1))
-    none (close .close-up .ensures) (p .1 .0 .1) (p .0 .0) (place .place2 .ensures .0) (place .place2 .ensures .1) (note .put-taken2 .ensures)
+    none (close .close-up .ensures) (p .1 .0 .1) (p .0 .0) (place .place2 .ensures .0) (place .place2 .ensures .1)
+    (note .put-taken2 .ensures)
 
 pub fit-spec : {M : Type 1} → statement M
 fit-spec =

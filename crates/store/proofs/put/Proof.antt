@@ -29,7 +29,8 @@ returns c =
     let sane = c .before in
     let size-of = sane .before .before in
     let s = size-of .before .before .before .before .args in
-    put-table (s .block .now) (s .table .now) (size-of .size-of .ensures) (sane .sane .ensures) (not-true _ (c .if1 .taken)) (s .law) (s .number)
+    put-table (s .block .now) (s .table .now) (size-of .size-of .ensures) (sane .sane .ensures) (not-true _ (c .if1 .taken))
+    (s .law) (s .number)
     (s .octets .now)
 
 same-length-2 : tie.Need-same-length-2
@@ -41,14 +42,16 @@ returns-2 c =
     let sane = if1 .before in
     let size-of = sane .before .before in
     let s = size-of .before .before .before .before .args in
-    put-law (s .block .now) (s .table .now) (size-of .size-of .ensures) (sane .sane .ensures) (not-false _ (if1 .if1 .left)) (s .law) (s .number)
+    put-law (s .block .now) (s .table .now) (size-of .size-of .ensures) (sane .sane .ensures) (not-false _ (if1 .if1 .left))
+    (s .law) (s .number)
     (s .octets .now) (omega arith)
 
 wide-requires : tie.Need-wide-requires
 wide-requires c κs = search needs
 
 judge-requires : tie.Need-judge-requires
-judge-requires c κs = sane-noted _ _ (sym (c .before .before .before .before .sane .ensures) ∙ not-false _ (c .before .before .before .if1 .left))
+judge-requires c κs =
+    sane-noted _ _ (sym (c .before .before .before .before .sane .ensures) ∙ not-false _ (c .before .before .before .if1 .left))
 
 enum-known-why : tie.Need-enum-known-why
 enum-known-why c = search needs
@@ -80,7 +83,8 @@ returns-3 c =
     let size-of = sane .before .before in
     let s = size-of .before .before .before .before .args in
     let stop = sym (why .why .given .1) ∙ judge .judge .ensures in
-    put-stop (s .block .now) (s .table .now) (size-of .size-of .ensures) (sane .sane .ensures) (not-false _ (if1 .if1 .left)) (s .law) (s .number)
+    put-stop (s .block .now) (s .table .now) (size-of .size-of .ensures) (sane .sane .ensures) (not-false _ (if1 .if1 .left))
+    (s .law) (s .number)
     (s .octets .now) (omega arith)
     (rw (wide .wide .ensures) at stop)
 

@@ -41,21 +41,24 @@ line-octets-requires c κs = search needs
 add-result : tie.Need-add-result
 add-result c =
     let a = c .before .before .before .before .before .before .before .args in
-    let e = c .before .before .before .digits .ensures ∙ ap (λ (n : ℕ). length (decimal n)) (c .before .before .before .before .wide .ensures) in
+    let e = c .before .before .before .digits .ensures
+    ∙ ap (λ (n : ℕ). length (decimal n)) (c .before .before .before .before .wide .ensures) in
     let r = c .before .before .before .before .before .shared-slice-known2 .given (a .k) in
     omega (arith, e, decimal-few 9 (getD (a .cells .now) (a .k) 0) (omega (arith, r)))
 
 add-result-2 : tie.Need-add-result-2
 add-result-2 c =
     let a = c .before .before .before .before .before .before .before .args in
-    let e = c .before .before .before .digits .ensures ∙ ap (λ (n : ℕ). length (decimal n)) (c .before .before .before .before .wide .ensures) in
+    let e = c .before .before .before .digits .ensures
+    ∙ ap (λ (n : ℕ). length (decimal n)) (c .before .before .before .before .wide .ensures) in
     let r = c .before .before .before .before .before .shared-slice-known2 .given (a .k) in
     omega (arith, e, c .line-octets .ensures .1, decimal-few 9 (getD (a .cells .now) (a .k) 0) (omega (arith, r)))
 
 returns : tie.Need-returns
 returns c =
     let a = c .before .before .before .before .before .before .before .args in
-    let e = c .before .before .before .digits .ensures ∙ ap (λ (n : ℕ). length (decimal n)) (c .before .before .before .before .wide .ensures) in
+    let e = c .before .before .before .digits .ensures
+    ∙ ap (λ (n : ℕ). length (decimal n)) (c .before .before .before .before .wide .ensures) in
     let r = c .before .before .before .before .before .shared-slice-known2 .given (a .k) in
     let f = decimal-few 9 (getD (a .cells .now) (a .k) 0) (omega (arith, r)) in
     let o = c .line-octets .ensures in

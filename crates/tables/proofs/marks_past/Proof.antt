@@ -47,7 +47,12 @@ loop-less c =
     let l = i .before .before .before in
     let e = sym (i .before .has-word .ensures) ∙ i .if1 .taken in
     let f = word-fits markWord (l .before .before .args .text .now) (l .loop .i) e in
-    omega (arith, f, marking-less (l .loop .inv) e (sym (ap asMark (c .before .next .given .1)) ∙ c .before .before .before .mark-at .ensures))
+    omega (
+      arith,
+      f,
+      marking-less (l .loop .inv) e
+          (sym (ap asMark (c .before .next .given .1)) ∙ c .before .before .before .mark-at .ensures),
+    )
 
 loop-again : tie.Need-loop-again Inv-loop μ-loop
 loop-again c =
@@ -55,7 +60,8 @@ loop-again c =
     let l = i .before .before .before in
     let e = sym (i .before .has-word .ensures) ∙ i .if1 .taken in
     let f = word-fits markWord (l .before .before .args .text .now) (l .loop .i) e in
-    marking-turn (l .loop .inv) e (omega (arith, f)) (sym (ap asMark (c .before .next .given .1)) ∙ c .before .before .before .mark-at .ensures)
+    marking-turn (l .loop .inv) e (omega (arith, f))
+    (sym (ap asMark (c .before .next .given .1)) ∙ c .before .before .before .mark-at .ensures)
 
 returns-2 : tie.Need-returns-2 Inv-loop μ-loop
 returns-2 c = marking-end (c .before .before .before .loop .inv) (sym (c .before .has-word .ensures) ∙ c .if1 .left)

@@ -58,7 +58,12 @@ marks-octets-requires c κs =
 
 add-result : tie.Need-add-result
 add-result c =
-    omega (arith, c .before .before .before .line-octets2 .ensures .1, c .before .before .before .before .before .before .line-octets .ensures .1)
+    omega (
+      arith,
+      c .before .before .before .line-octets2 .ensures .1,
+      c .before .before .before .before .before .before
+          .line-octets .ensures .1,
+    )
 
 add-result-2 : tie.Need-add-result-2
 add-result-2 c =

@@ -48,7 +48,13 @@ add-sum c = omega (arith, c .note-octets .ensures .1, c .before .before .row-oct
 
 add-sum-2 : tie.Need-add-sum-2 Inv-loop μ-loop
 add-sum-2 c =
-    omega (arith, c .note-octets .ensures .1, c .before .before .row-octets .ensures .1, c .before .before .before .before .loop .inv .2 .few)
+    omega (
+      arith,
+      c .note-octets .ensures .1,
+      c .before .before .row-octets .ensures .1,
+      c .before .before .before .before
+          .loop .inv .2 .few,
+    )
 
 add-wide : tie.Need-add-wide Inv-loop μ-loop
 add-wide c = search needs

@@ -112,7 +112,8 @@ returns : tie.Need-returns Inv-loop μ-loop
 returns c =
     let l = c .before in
     let a = l .before .before .before .before .before .args in
-    putting-end (l .loop .inv .2) (text-over (a .table .now) (a .heads .now) (a .marks .now) (a .n) (l .loop .from) (l .loop .i) (omega arith))
+    putting-end (l .loop .inv .2)
+    (text-over (a .table .now) (a .heads .now) (a .marks .now) (a .n) (l .loop .from) (l .loop .i) (omega arith))
 
 pub put-all-spec : {M : Type 1} → statement M
 put-all-spec =

@@ -23,7 +23,8 @@ shared-slice-read-put-line c = search needs
 
 put-line-requires : tie.Need-put-line-requires
 put-line-requires c κs =
-    let a = c .before .before .before .before .before .before .args in omega (arith, note-length (noteAt (a .heads .now) (a .k) (a .cells .now)))
+    let a = c .before .before .before .before .before .before .args in
+    omega (arith, note-length (noteAt (a .heads .now) (a .k) (a .cells .now)))
 
 slice-aggregate-put-line-2 : tie.Need-slice-aggregate-put-line-2
 slice-aggregate-put-line-2 c = search needs

@@ -35,7 +35,8 @@ returns : tie.Need-returns
 returns c =
     let n = c .before .before .before in
     let s = n .before .before .before .before .before in
-    is-other _ _ _ (s .pre) (told (n .n .given .1) (n .before .before .line-at .ensures)) (λ e. c .if1 .taken (c .before .wide .ensures ∙ e))
+    is-other _ _ _ (s .pre) (told (n .n .given .1) (n .before .before .line-at .ensures))
+    (λ e. c .if1 .taken (c .before .wide .ensures ∙ e))
 
 -- src/lib.rt:299:1
 returns-2 : tie.Need-returns-2

@@ -6,10 +6,12 @@ use Rattle.texts.proofs.lay.Statement.{statement}
 use Rattle.texts.proofs.lay.Tie as tie
 
 returns : tie.Need-returns
-returns c = lay-none (c .before .before .before .before .args .first .now) (c .before .before .before .before .args .second .now) (c .before .before .before .before .args .out .now) (omega arith)
+returns c = lay-none (c .before .before .before .before .args .first .now) (c .before .before .before .before .args .second .now)
+    (c .before .before .before .before .args .out .now) (omega arith)
 
 returns-2 : tie.Need-returns-2
-returns-2 c = lay-none (c .before .before .before .before .before .args .first .now) (c .before .before .before .before .before .args .second .now) (c .before .before .before .before .before .args .out .now) (omega arith)
+returns-2 c = lay-none (c .before .before .before .before .before .args .first .now)
+    (c .before .before .before .before .before .args .second .now) (c .before .before .before .before .before .args .out .now) (omega arith)
 
 copy-requires : tie.Need-copy-requires
 copy-requires c κs = search needs
@@ -33,8 +35,16 @@ same-length : tie.Need-same-length
 same-length c = search needs
 
 returns-3 : tie.Need-returns-3
-returns-3 c = lay-whole (c .before .before .before .before .before .before .before .before .before .before .before .before .before .args .first .now) (c .before .before .before .before .before .before .before .before .before .before .before .before .before .args .second .now) (c .before .before .before .before .before .before .before .before .before .before .before .before .before .args .out .now) (omega arith) refl
-    (lay-parts (c .before .before .before .before .before .before .before .before .before .before .before .before .before .args .first .now) (c .before .before .before .before .before .before .before .before .before .before .before .before .before .args .second .now) (c .before .before .before .before .before .before .before .before .before .before .before .before .before .args .out .now) (c .before .before .before .before .before .before .copy .last .1 .0) (c .before .before .copy2 .last .1 .0) (c .before .before .before .before .before .before .copy .ensures .1) (c .before .before .copy2 .ensures .1))
+returns-3 c = lay-whole
+    (c .before .before .before .before .before .before .before .before .before .before .before .before .before .args .first .now)
+    (c .before .before .before .before .before .before .before .before .before .before .before .before .before .args .second .now)
+    (c .before .before .before .before .before .before .before .before .before .before .before .before .before .args .out .now)
+    (omega arith) refl
+    (lay-parts (c .before .before .before .before .before .before .before .before .before .before .before .before .before .args .first .now)
+    (c .before .before .before .before .before .before .before .before .before .before .before .before .before .args .second .now)
+    (c .before .before .before .before .before .before .before .before .before .before .before .before .before .args .out .now)
+    (c .before .before .before .before .before .before .copy .last .1 .0) (c .before .before .copy2 .last .1 .0)
+    (c .before .before .before .before .before .before .copy .ensures .1) (c .before .before .copy2 .ensures .1))
 
 pub lay-spec : {M : Type 1} → statement M
 lay-spec =

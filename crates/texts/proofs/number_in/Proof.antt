@@ -1,5 +1,6 @@
 use borrow.Author.Needs.{needs}
-use Rattle.texts.proofs.Digits.{none-of-none, none-of-many, number-start, number-step, number-low, number-high, number-end, digits-few, digits-more}
+use Rattle.texts.proofs.Digits.{none-of-none, none-of-many, number-start, number-step, number-low}
+use Rattle.texts.proofs.Digits.{number-high, number-end, digits-few, digits-more}
 use Rattle.texts.specs.Numbers.{numberFrom, numberIn}
 use lib.ListN.{length, drop}
 use native.Mathlib.Omega.{arith}
@@ -27,10 +28,14 @@ shared-slice-read-x : tie.Need-shared-slice-read-x Inv-loop μ-loop
 shared-slice-read-x c = search needs
 
 returns-3 : tie.Need-returns-3 Inv-loop μ-loop
-returns-3 c = sym (c .before .before .before .loop .inv .3 ∙ number-low (c .before .before .before .before .before .before .args .text .now) (c .before .before .before .loop .v) (c .before .before .before .loop .i) (omega arith) (omega arith))
+returns-3 c = sym (c .before .before .before .loop .inv .3
+    ∙ number-low (c .before .before .before .before .before .before .args .text .now) (c .before .before .before .loop .v)
+    (c .before .before .before .loop .i) (omega arith) (omega arith))
 
 returns-4 : tie.Need-returns-4 Inv-loop μ-loop
-returns-4 c = sym (c .before .before .before .before .loop .inv .3 ∙ number-high (c .before .before .before .before .before .before .before .args .text .now) (c .before .before .before .before .loop .v) (c .before .before .before .before .loop .i) (omega arith) (omega arith))
+returns-4 c = sym (c .before .before .before .before .loop .inv .3
+    ∙ number-high (c .before .before .before .before .before .before .before .args .text .now) (c .before .before .before .before .loop .v)
+    (c .before .before .before .before .loop .i) (omega arith) (omega arith))
 
 mul-v : tie.Need-mul-v Inv-loop μ-loop
 mul-v c = omega (arith, digits-few _ _ (c .before .before .before .before .loop .inv .2) (omega arith))
@@ -48,10 +53,19 @@ loop-less : tie.Need-loop-less Inv-loop μ-loop
 loop-less c = search needs
 
 loop-again : tie.Need-loop-again Inv-loop μ-loop
-loop-again c = (omega arith, omega arith, digits-more _ _ _ (c .before .before .before .before .loop .inv .2) (omega arith), c .before .before .before .before .loop .inv .3 ∙ number-step (c .before .before .before .before .before .before .before .args .text .now) (c .before .before .before .before .loop .v) (c .before .before .before .before .loop .i) (omega arith) (omega arith) (omega arith))
+loop-again c = (
+  omega arith,
+  omega arith,
+  digits-more _ _ _ (c .before .before .before .before .loop .inv .2) (omega arith),
+  c .before .before .before .before .loop .inv .3
+      ∙ number-step (c .before .before .before .before .before .before .before .args .text .now)
+      (c .before .before .before .before .loop .v) (c .before .before .before .before .loop .i) (omega arith)
+      (omega arith) (omega arith),
+)
 
 returns-5 : tie.Need-returns-5 Inv-loop μ-loop
-returns-5 c = sym (c .before .loop .inv .3 ∙ number-end (c .before .before .before .before .args .text .now) (c .before .loop .v) (c .before .loop .i) (omega arith))
+returns-5 c = sym (c .before .loop .inv .3 ∙ number-end (c .before .before .before .before .args .text .now) (c .before .loop .v)
+    (c .before .loop .i) (omega arith))
 
 pub number-in-spec : {M : Type 1} → statement M
 number-in-spec =

@@ -11,7 +11,8 @@ use Rattle.unpack.proofs.parts.Statement.{statement}
 use Rattle.unpack.proofs.parts.Tie as tie
 
 abbrev Inv-loop : tie.InvT-loop
-Inv-loop stream law set way page₀ master₀ at₀ frames₀ samples₀ page master at frames samples = Going stream law set (length page₀) page at frames samples × (length master ≡ length master₀)
+Inv-loop stream law set way page₀ master₀ at₀ frames₀ samples₀ page master at frames samples =
+    Going stream law set (length page₀) page at frames samples × (length master ≡ length master₀)
 
 abbrev μ-loop : tie.MeasureT-loop
 μ-loop stream law set way page₀ master₀ at₀ frames₀ samples₀ page master at frames samples = length stream - at
@@ -22,7 +23,8 @@ module _ (d : tie.After-use-part Inv-loop μ-loop) where
   start = d .before .before .before .before .before .before .before .before .before .before .before
 
   same-page : length (d .before .before .before .before .before .next-part .last .1 .1 .1 .1 .0) ≡ length (start .args .page .now)
-  same-page = d .before .before .before .before .before .next-part .kept .1 .1 .1 .1 .0 ∙ d .before .before .before .before .before .before .before .loop .inv .0 .page-size
+  same-page = d .before .before .before .before .before .next-part .kept .1 .1 .1 .1 .0
+      ∙ d .before .before .before .before .before .before .before .loop .inv .0 .page-size
 
   same-master : length (d .use-part .last .1 .1 .1 .1 .1 .1 .1 .0) ≡ length (start .args .master .now)
   same-master = d .use-part .kept .1 .1 .1 .1 .1 .1 .1 .0 ∙ d .before .before .before .before .before .before .before .loop .inv .1
@@ -31,7 +33,8 @@ module _ (d : tie.After-use-part Inv-loop μ-loop) where
   within :
       let p = d .before .before .before .before .before .next-part .result in
       let n = d .before .before .before .before .before .before .before .loop in
-      (p .at ≤ length (start .args .stream .now)) × (n .frames + p .frames ≤ length (start .args .stream .now)) × (n .samples + d .use-part .result .good ≤ 320 * (n .frames + p .frames))
+      (p .at ≤ length (start .args .stream .now)) × (n .frames + p .frames ≤ length (start .args .stream .now))
+      × (n .samples + d .use-part .result .good ≤ 320 * (n .frames + p .frames))
   within =
       let p = d .before .before .before .before .before .next-part in
       let w = d .before .before .before .before .before .before .before .loop .inv .0 in
@@ -48,19 +51,38 @@ use-part-requires : tie.Need-use-part-requires Inv-loop μ-loop
 use-part-requires c κs =
     let w = c .before .before .before .before .before .before .loop .inv in
     let p = c .before .before .before .before .next-part in
-    let l = p .kept .1 .1 .1 .1 .0 in
-    (next-sound _ _ _ (w .0) (p .ensures .0), omega (arith, p .ensures .1 .fits, l), omega (arith, l, w .0 .page-size, w .1, c .before .before .before .before .before .before .before .before .before .before .pre .2))
+    let l = p .kept .1 .1 .1 .1 .0 in (
+      next-sound _ _ _ (w .0) (p .ensures .0),
+      omega (arith, p .ensures .1 .fits, l),
+      omega
+          (arith, l, w .0 .page-size, w .1, c .before .before .before .before .before .before .before .before .before .before .pre .2),
+    )
 
 add-frames : tie.Need-add-frames Inv-loop μ-loop
 add-frames c =
     let w = c .before .before .before .before .before .before .before .before .before .before .loop .inv .0 in
-    omega (arith, c .before .before .before .before .before .before .before .before .next-part .ensures .1 .few, w .inside, w .few, c .before .before .before .before .before .before .before .before .before .before .before .before .before .before .pre .0)
+    omega (
+      arith,
+      c .before .before .before .before .before .before .before .before .next-part .ensures .1 .few,
+      w .inside,
+      w .few,
+      c .before .before .before .before .before .before .before .before .before .before .before .before .before .before .pre .0,
+    )
 
 add-samples : tie.Need-add-samples Inv-loop μ-loop
 add-samples c =
     let w = c .before .before .before .before .before .before .before .before .before .before .before .loop .inv .0 in
     let g = c .before .before .before .before .before .before .before .before .before .next-part .ensures .1 in
-    omega (arith, c .before .before .before .before .use-part .ensures .most, g .held, g .few, w .inside, w .few, w .held, c .before .before .before .before .before .before .before .before .before .before .before .before .before .before .before .pre .0)
+    omega (
+      arith,
+      c .before .before .before .before .use-part .ensures .most,
+      g .held,
+      g .few,
+      w .inside,
+      w .few,
+      w .held,
+      c .before .before .before .before .before .before .before .before .before .before .before .before .before .before .before .pre .0,
+    )
 
 same-length : tie.Need-same-length Inv-loop μ-loop
 same-length c = same-page (c .before .before .before .before .before .before)
@@ -81,7 +103,8 @@ returns-2 : tie.Need-returns-2 Inv-loop μ-loop
 returns-2 c =
     let d = c .before .before .before .before .before .before .before .before in
     let p = d .before .before .before .before .before .next-part in (
-      λ e. goes-whole _ _ _ (d .before .before .before .before .before .before .before .loop .inv .0) (p .ensures .0) (p .ensures .1) (p .kept .1 .1 .1 .1 .0) (d .use-part .ensures .all e) (not-true _ (c .if2 .taken)),
+      λ e. goes-whole _ _ _ (d .before .before .before .before .before .before .before .loop .inv .0) (p .ensures .0)
+          (p .ensures .1) (p .kept .1 .1 .1 .1 .0) (d .use-part .ensures .all e) (not-true _ (c .if2 .taken)),
       within d,
     )
 
@@ -91,13 +114,24 @@ loop-less c =
     let p = d .before .before .before .before .before .next-part in
     let g = p .ensures .1 in
     let more : p .result .more ≡ true = not-false _ (c .if2 .left) in
-    omega (arith, g .nearer (omega (arith, d .before .before .before .before .before .before .before .loop .inv .0 .page-size, d .before .before .before .before .before .before .before .before .before .before .before .pre .1)) more, g .inside more)
+    omega (
+      arith,
+      g .nearer
+          (omega (
+            arith,
+            d .before .before .before .before .before .before .before .loop .inv .0 .page-size,
+            d .before
+                .before .before .before .before .before .before .before .before .before .before .pre .1,
+          )) more,
+      g .inside more,
+    )
 
 loop-again : tie.Need-loop-again Inv-loop μ-loop
 loop-again c =
     let d = c .before .before .before .before .before .before .before .before in
     let p = d .before .before .before .before .before .next-part in (
-      going-on _ _ _ (d .before .before .before .before .before .before .before .loop .inv .0) (p .ensures .0) (p .ensures .1) (p .kept .1 .1 .1 .1 .0) (d .use-part .ensures .all (c .before .before .if1 .left)) (not-false _ (c .if2 .left)),
+      going-on _ _ _ (d .before .before .before .before .before .before .before .loop .inv .0) (p .ensures .0) (p .ensures .1)
+          (p .kept .1 .1 .1 .1 .0) (d .use-part .ensures .all (c .before .before .if1 .left)) (not-false _ (c .if2 .left)),
       same-master d,
     )
 

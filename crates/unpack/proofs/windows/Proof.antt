@@ -5,7 +5,6 @@ use native.Mathlib.Omega.{arith}
 use mathlib.Core.List.{List}
 use lib.ListN.{length, take}
 use lib.Seq.{length-take-le}
-use Rattle.rules.specs.Walk.{longest}
 use Rattle.unpack.proofs.Onward.{Along, along-first, along-most, along-turn, along-whole}
 use borrow.Author.Needs.{needs}
 use Rattle.unpack.proofs.windows.Statement.{statement}
@@ -20,7 +19,8 @@ use Rattle.unpack.proofs.unread.Reads as unread-reads
 
 abbrev Inv-loop : tie.InvT-loop
 Inv-loop b law set way window₀ page₀ master₀ at₀ frames₀ samples₀ window page master at frames samples =
-    Along law set at frames samples × (at ≤ b .size) × (length window ≡ length window₀) × (length page ≡ length page₀) × (length master ≡ length master₀)
+    Along law set at frames samples × (at ≤ b .size) × (length window ≡ length window₀) × (length page ≡ length page₀)
+    × (length master ≡ length master₀)
 
 abbrev μ-loop : tie.MeasureT-loop
 μ-loop b law set way window₀ page₀ master₀ at₀ frames₀ samples₀ window page master at frames samples = b .size - at
@@ -83,8 +83,12 @@ slice-aggregate-parts c = sym (long (c .before .before .before .before))
 parts-requires : tie.Need-parts-requires Inv-loop μ-loop
 parts-requires c κs =
     let i = c .before .before .before .before .before .before .before .before .loop .inv in
-    let p = c .before .before .before .before .before .before .before .before .before .before .before .before .pre in
-    (omega (arith, inside (c .before .before .before .before .before .before), p .0 .2), omega (arith, i .3, p .2), omega (arith, i .3, i .4, p .3))
+    let p = c .before .before .before .before .before .before .before .before .before .before .before .before .pre in (
+      omega (arith, inside (c .before .before .before .before .before .before), p .0 .2),
+      omega (arith, i .3, p .2),
+      omega
+          (arith, i .3, i .4, p .3),
+    )
 
 add-t25 : tie.Need-add-t25 Inv-loop μ-loop
 add-t25 c =
@@ -114,7 +118,8 @@ add-goes-further-2 c =
     omega (arith, inside (read d), p .2, t .1, t .2, m .0, m .1, l .inv .1)
 
 same-length-4 : tie.Need-same-length-4 Inv-loop μ-loop
-same-length-4 c = same-window (c .before .before .before .before .before .before .before .before .before .before .before .before .before .before .before .before)
+same-length-4 c = same-window
+    (c .before .before .before .before .before .before .before .before .before .before .before .before .before .before .before .before)
 
 same-length-5 : tie.Need-same-length-5 Inv-loop μ-loop
 same-length-5 c = same-page (c .before .before .before .before .before .before .before .before .before)
@@ -129,13 +134,16 @@ number-of-requires : tie.Need-number-of-requires Inv-loop μ-loop
 number-of-requires c κs = search needs
 
 sub-goes-further : tie.Need-sub-goes-further Inv-loop μ-loop
-sub-goes-further c = c .before .before .before .before .before .before .before .before .before .before .before .before .before .before .before .before .before .before .before .before .loop .inv .1
+sub-goes-further c = c .before .before .before .before .before .before .before .before .before .before .before .before
+    .before .before .before .before .before .before .before .before .loop .inv .1
 
 goes-further-requires : tie.Need-goes-further-requires Inv-loop μ-loop
 goes-further-requires c κs = search needs
 
 same-length-7 : tie.Need-same-length-7 Inv-loop μ-loop
-same-length-7 c = same-window (c .before .before .before .before .before .before .before .before .before .before .before .before .before .before .before .before .before .before .before .before)
+same-length-7 c = same-window
+    (c .before .before .before .before .before .before .before .before .before .before .before .before .before .before
+    .before .before .before .before .before .before)
 
 same-length-8 : tie.Need-same-length-8 Inv-loop μ-loop
 same-length-8 c = same-page (c .before .before .before .before .before .before .before .before .before .before .before .before .before)
@@ -147,19 +155,24 @@ returns-3 : tie.Need-returns-3 Inv-loop μ-loop
 returns-3 c =
     let d = c .before .before .before .before .before .before .before .before .before .before .before .before .before in
     let p = opened (read d) .pre .0 in
-    λ z. along-whole _ _ (p .0) (p .1) (read d .before .before .loop .inv .0) (seen (read d)) (omega (arith, inside (read d), p .2)) (d .parts .ensures .0 z) _
+    λ z. along-whole _ _ (p .0) (p .1) (read d .before .before .loop .inv .0) (seen (read d)) (omega (arith, inside (read d), p .2))
+    (d .parts .ensures .0 z) _
 
 unread-requires-2 : tie.Need-unread-requires-2 Inv-loop μ-loop
 unread-requires-2 c κs = search needs
 
 same-length-10 : tie.Need-same-length-10 Inv-loop μ-loop
-same-length-10 c = same-window (c .before .before .before .before .before .before .before .before .before .before .before .before .before .before .before .before .before .before .before .before .before .before .before)
+same-length-10 c = same-window
+    (c .before .before .before .before .before .before .before .before .before .before .before .before .before .before
+    .before .before .before .before .before .before .before .before .before)
 
 same-length-11 : tie.Need-same-length-11 Inv-loop μ-loop
-same-length-11 c = same-page (c .before .before .before .before .before .before .before .before .before .before .before .before .before .before .before .before)
+same-length-11 c = same-page
+    (c .before .before .before .before .before .before .before .before .before .before .before .before .before .before .before .before)
 
 same-length-12 : tie.Need-same-length-12 Inv-loop μ-loop
-same-length-12 c = same-master (c .before .before .before .before .before .before .before .before .before .before .before .before .before .before .before .before)
+same-length-12 c = same-master
+    (c .before .before .before .before .before .before .before .before .before .before .before .before .before .before .before .before)
 
 returns-4 : tie.Need-returns-4 Inv-loop μ-loop
 returns-4 c = λ z. let y = c .unread2 .ensures in absurd (omega arith)
@@ -173,7 +186,8 @@ loop-again : tie.Need-loop-again Inv-loop μ-loop
 loop-again c =
     let d = c .before .before .before .before .before .before .before .before .before .before .before .before .before .before .before in
     let p = opened (read d) .pre .0 in
-    let t = along-turn _ _ (p .0) (p .1) (read d .before .before .loop .inv .0) (seen (read d)) (omega (arith, inside (read d), p .2)) (d .parts .ensures .0 (c .before .before .before .before .before .before .if2 .left)) in
+    let t = along-turn _ _ (p .0) (p .1) (read d .before .before .loop .inv .0) (seen (read d)) (omega (arith, inside (read d), p .2))
+    (d .parts .ensures .0 (c .before .before .before .before .before .before .if2 .left)) in
     (t, omega (arith, inside (read d), d .parts .ensures .1 .0), same-window (read d), same-page d, same-master d)
 
 pub windows-spec : {M : Type 1} → statement M

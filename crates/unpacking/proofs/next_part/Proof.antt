@@ -28,7 +28,8 @@ returns : tie.Need-returns
 returns c =
     let a = c .before .before .before .before .before .before .before .args in
     let e = sym (c .before .before .before .before .guard-stream .ensures) ∙ c .before .before .why .given .1 in
-    rw (c .stopped .ensures, part-refused (a .stream .now) (a .law) (a .set) (a .at) (length (a .out .now)) e) (parts-none _ _ _, goes-none _ _ _ _)
+    rw (c .stopped .ensures, part-refused (a .stream .now) (a .law) (a .set) (a .at) (length (a .out .now)) e)
+    (parts-none _ _ _, goes-none _ _ _ _)
 
 same-length : tie.Need-same-length
 same-length c = search needs
@@ -36,9 +37,13 @@ same-length c = search needs
 returns-2 : tie.Need-returns-2
 returns-2 c =
     let a = c .before .before .before .before .before .before .before .before .before .before .args in
-    let e = sym (c .before .before .before .before .before .before .before .guard-stream .ensures) ∙ c .before .before .before .before .before .enum-told .given .1 in
-    let p = parts-of (c .before .before .before .keep-on .ensures) (c .part-of .ensures) in
-    (rw (part-allowed (a .stream .now) (a .law) (a .set) (a .at) (length (a .out .now)) e) p, goes-of (a .stream .now) (a .law) (a .set) (a .at) (a .out .now) p)
+    let e = sym (c .before .before .before .before .before .before .before .guard-stream .ensures)
+    ∙ c .before .before .before .before .before .enum-told .given .1 in
+    let p = parts-of (c .before .before .before .keep-on .ensures) (c .part-of .ensures) in (
+      rw (part-allowed (a .stream .now) (a .law) (a .set) (a .at) (length (a .out .now)) e) p,
+      goes-of (a .stream .now)
+          (a .law) (a .set) (a .at) (a .out .now) p,
+    )
 
 pub next-part-spec : {M : Type 1} → statement M
 next-part-spec =

@@ -1,7 +1,7 @@
 -- Each turn keeps one frame (Keeping); the measure is how many frames more are allowed.
 use borrow.Author.Needs.{needs}
-use Prim.Native.Nat.{_+_, _-_, _≤_, _<_}
-use mathlib.Core.Path.{_≡_, refl, _∙_}
+use Prim.Native.Nat.{_+_, _-_, _≤_}
+use mathlib.Core.Path.{_≡_, _∙_}
 use native.Mathlib.Omega.{arith}
 use native.Mathlib.Nat.{le-of-lt}
 use lib.ListN.{length, drop, length-drop}
@@ -22,19 +22,24 @@ abbrev μ-frames : tie.MeasureT-frames
 
 -- a frame that was kept
 module _ (c : tie.After-step Inv-frames μ-frames) (e : c .step .result .end ≡ Done) where
-  bounds : Bounds (drop (c .before .before .before .before .frames .place) (c .before .before .before .before .before .before .before .args .octets .now))
-      (length (c .before .before .before .before .before .before .before .args .out .now) - c .before .before .before .before .frames .to) (c .step .result)
+  bounds : Bounds (drop (c .before .before .before .before .frames .place)
+      (c .before .before .before .before .before .before .before .args .octets .now))
+      (length (c .before .before .before .before .before .before .before .args .out .now) - c .before .before .before .before .frames .to)
+      (c .step .result)
   bounds =
-      keep-bounds _ _ _ _ _ _ (c .before .before .before .before .frames .inv .0) (c .before .before .before .if1 .left) (c .before .before .if2 .left)
+      keep-bounds _ _ _ _ _ _ (c .before .before .before .before .frames .inv .0) (c .before .before .before .if1 .left)
+      (c .before .before .if2 .left)
       (c .step .ensures) e
 
-  inside : c .before .before .before .before .frames .place + c .step .result .octets ≤ length (c .before .before .before .before .before .before .before .args .octets .now)
+  inside : c .before .before .before .before .frames .place + c .step .result .octets ≤ length
+      (c .before .before .before .before .before .before .before .args .octets .now)
   inside =
       omega (
         arith,
         bounds .inside,
         c .before .before .if2 .left,
-        length-drop (c .before .before .before .before .frames .place) (c .before .before .before .before .before .before .before .args .octets .now),
+        length-drop (c .before .before .before .before .frames .place)
+            (c .before .before .before .before .before .before .before .args .octets .now),
       )
 
 frames-holds : tie.Need-frames-holds Inv-frames μ-frames
@@ -85,7 +90,8 @@ frames-less c = omega (arith, c .before .before .before .before .before .before 
 frames-again : tie.Need-frames-again Inv-frames μ-frames
 frames-again c =
     let s = c .before .before .before .before .before .before .before in (
-      keep-turn _ _ _ _ _ _ (s .before .before .before .before .frames .inv .0) (s .before .before .before .if1 .left) (s .before .before .if2 .left)
+      keep-turn _ _ _ _ _ _ (s .before .before .before .before .frames .inv .0) (s .before .before .before .if1 .left)
+          (s .before .before .if2 .left)
           (s .step .ensures) (c .before .before .before .enum-told .given .1),
       omega (arith, s .before .before .before .before .frames .inv .1),
     )
@@ -96,7 +102,8 @@ same-length c = lent-length (c .before .frames .inv .0 .kept)
 returns : tie.Need-returns Inv-frames μ-frames
 returns c =
     let w = c .before .frames .inv .0 in
-    let u : c .before .frames .used ≡ c .before .frames .place - c .before .before .before .before .args .at = omega (arith, c .before .frames .inv .1) in
+    let u : c .before .frames .used ≡ c .before .frames .place - c .before .before .before .before .args .at =
+    omega (arith, c .before .frames .inv .1) in
     rw u (keeps _ _ _ _ _ _ w (along-last _ _ _ _ _ _ (w .along) (keep-size _ _ _ _ _ _ w) (c .if1 .taken)))
 
 same-length-2 : tie.Need-same-length-2 Inv-frames μ-frames
@@ -118,9 +125,11 @@ returns-3 : tie.Need-returns-3 Inv-frames μ-frames
 returns-3 c =
     let s = c .before .before .before .before .before in
     let e = c .before .e in
-    let u : s .before .before .before .before .frames .used ≡ s .before .before .before .before .frames .place - s .before .before .before .before .before .before .before .args .at
+    let u : s .before .before .before .before .frames .used ≡ s .before .before .before .before .frames .place - s .before
+    .before .before .before .before .before .before .args .at
     = omega (arith, s .before .before .before .before .frames .inv .1) in
-    rw u (keep-refused _ _ _ _ _ _ (s .before .before .before .before .frames .inv .0) (s .before .before .before .if1 .left) (s .before .before .if2 .left)
+    rw u (keep-refused _ _ _ _ _ _ (s .before .before .before .before .frames .inv .0) (s .before .before .before .if1 .left)
+    (s .before .before .if2 .left)
     (s .step .ensures) (e .given .0 .0) (e .given .1))
 
 pub keep-on-spec : {M : Type 1} → statement M

@@ -29,7 +29,13 @@ same-length c = search needs
 
 returns : tie.Need-returns
 returns c =
-    step-made (c .before .before .before .before .before .before .before .args .octets .now) (c .before .before .before .before .before .before .before .args .law) (c .before .before .before .before .before .before .before .args .set) (c .before .before .before .before .before .before .before .args .at) (c .before .before .before .before .before .before .before .args .to) (c .before .before .before .before .before .before .before .args .out .now) (c .before .before .read-into .last .1 .1 .1 .0) (c .before .before .read-into .ensures)
+    step-made (c .before .before .before .before .before .before .before .args .octets .now)
+    (c .before .before .before .before .before .before .before .args .law)
+    (c .before .before .before .before .before .before .before .args .set)
+    (c .before .before .before .before .before .before .before .args .at)
+    (c .before .before .before .before .before .before .before .args .to)
+    (c .before .before .before .before .before .before .before .args .out .now)
+    (c .before .before .read-into .last .1 .1 .1 .0) (c .before .before .read-into .ensures)
 
 pub step-spec : {M : Type 1} → statement M
 step-spec =

@@ -28,7 +28,11 @@ keep-on-requires c κs = search needs
 returns : tie.Need-returns
 returns c =
     let a = c .before .before .before .before .before .before .before .args in
-    rw (c .answer .ensures, walk-refused (a .octets .now) (a .law) (a .set) (length (a .out .now)) (sym (c .before .before .before .before .guard-stream .ensures) ∙ c .before .before .why .given .1)) (walks-none _ _)
+    rw (
+      c .answer .ensures,
+      walk-refused (a .octets .now) (a .law) (a .set) (length (a .out .now))
+          (sym (c .before .before .before .before .guard-stream .ensures) ∙ c .before .before .why .given .1),
+    ) (walks-none _ _)
 
 same-length : tie.Need-same-length
 same-length c = search needs
@@ -37,8 +41,13 @@ returns-2 : tie.Need-returns-2
 returns-2 c =
     let a = c .before .before .before .before .before .before .before .before .before .args in
     let n = length (a .octets .now) in
-    let g = sym (c .before .before .before .before .before .before .guard-stream .ensures) ∙ c .before .before .before .before .enum-told .given .1 in
-    rw (walk-allowed (a .octets .now) (a .law) (a .set) (length (a .out .now)) g, walk-fuel (a .octets .now) (a .law) (a .set) (suc n) n 0 (length (a .out .now)) (omega arith) (omega arith))
+    let g = sym (c .before .before .before .before .before .before .guard-stream .ensures)
+    ∙ c .before .before .before .before .enum-told .given .1 in
+    rw (
+      walk-allowed (a .octets .now) (a .law) (a .set) (length (a .out .now)) g,
+      walk-fuel (a .octets .now) (a .law)
+          (a .set) (suc n) n 0 (length (a .out .now)) (omega arith) (omega arith),
+    )
     (c .before .before .keep-on .ensures)
 
 pub walk-spec : {M : Type 1} → statement M

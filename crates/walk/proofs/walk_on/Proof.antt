@@ -14,7 +14,8 @@ use Rattle.walk.proofs.walk_on.Statement.{statement}
 use Rattle.walk.proofs.walk_on.Tie as tie
 
 abbrev Inv-loop : tie.InvT-loop
-Inv-loop octets law set at frames room samples₀ place₀ left₀ passed₀ samples place left passed = Passing octets law set frames at room samples place left passed
+Inv-loop octets law set at frames room samples₀ place₀ left₀ passed₀ samples place left passed =
+    Passing octets law set frames at room samples place left passed
 
 abbrev μ-loop : tie.MeasureT-loop
 μ-loop octets law set at frames room samples₀ place₀ left₀ passed₀ samples place left passed = frames - passed
@@ -25,11 +26,21 @@ here c = ltb-true _ _ (c .if1 .taken)
 
 -- a frame that was passed
 module _ (c : tie.After-pass Inv-loop μ-loop) (e : c .pass .result .end ≡ Done) where
-  bounds : Bounds (drop (c .before .before .before .before .loop .place) (c .before .before .before .before .before .before .args .octets .now)) (c .before .before .before .before .loop .left) (c .pass .result)
-  bounds = along-bounds _ _ _ _ _ _ (c .before .before .before .before .loop .inv .along) (omega arith) (here (c .before .before)) (c .pass .ensures .tells) e
+  bounds : Bounds (drop (c .before .before .before .before .loop .place)
+      (c .before .before .before .before .before .before .args .octets .now)) (c .before .before .before .before .loop .left)
+      (c .pass .result)
+  bounds = along-bounds _ _ _ _ _ _ (c .before .before .before .before .loop .inv .along) (omega arith) (here (c .before .before))
+      (c .pass .ensures .tells) e
 
-  inside : c .before .before .before .before .loop .place + c .pass .result .octets ≤ length (c .before .before .before .before .before .before .args .octets .now)
-  inside = omega (arith, bounds .inside, here (c .before .before), length-drop (c .before .before .before .before .loop .place) (c .before .before .before .before .before .before .args .octets .now))
+  inside : c .before .before .before .before .loop .place + c .pass .result .octets ≤ length
+      (c .before .before .before .before .before .before .args .octets .now)
+  inside = omega (
+    arith,
+    bounds .inside,
+    here (c .before .before),
+    length-drop (c .before .before .before .before .loop .place)
+        (c .before .before .before .before .before .before .args .octets .now),
+  )
 
 loop-holds : tie.Need-loop-holds Inv-loop μ-loop
 loop-holds c = record { done = _; along = along-start _ _ _ _ _ _; size = refl }
@@ -53,13 +64,19 @@ returns : tie.Need-returns Inv-loop μ-loop
 returns c =
     let s = c .before .before .before .before in
     rw (c .answer .ensures)
-    (along-refused _ _ _ _ _ _ (s .before .before .before .before .loop .inv .along) refl (omega arith) (here (s .before .before)) (s .pass .ensures .tells) (c .before .before .e .given .0 .0) (c .before .before .e .given .1) .1)
+    (along-refused _ _ _ _ _ _ (s .before .before .before .before .loop .inv .along) refl (omega arith) (here (s .before .before))
+    (s .pass .ensures .tells) (c .before .before .e .given .0 .0) (c .before .before .e .given .1) .1)
 
 enum-told : tie.Need-enum-told Inv-loop μ-loop
 enum-told c = search needs
 
 add-place : tie.Need-add-place Inv-loop μ-loop
-add-place c = omega (arith, inside (c .before .before .before) (c .before .enum-told .given .1), c .before .before .before .before .before .before .before .before .before .good)
+add-place c = omega (
+  arith,
+  inside (c .before .before .before) (c .before .enum-told .given .1),
+  c .before .before .before
+      .before .before .before .before .before .before .good,
+)
 
 sub-left : tie.Need-sub-left Inv-loop μ-loop
 sub-left c = bounds (c .before .before .before .before) (c .before .before .enum-told .given .1) .fits
@@ -76,7 +93,8 @@ loop-again c =
     let w = s .before .before .before .before .loop .inv .along in
     record {
       done = _;
-      along = along-turn _ _ _ _ _ _ w (omega arith) (here (s .before .before)) (s .pass .ensures .tells) (c .before .before .enum-told .given .1) refl;
+      along = along-turn _ _ _ _ _ _ w (omega arith) (here (s .before .before)) (s .pass .ensures .tells)
+          (c .before .before .enum-told .given .1) refl;
       size = s .pass .ensures .size;
     }
 
@@ -92,7 +110,9 @@ answer-requires-2 c κs = search needs
 returns-2 : tie.Need-returns-2 Inv-loop μ-loop
 returns-2 c =
     let w = c .before .before .loop .inv .along in
-    rw (c .answer2 .ensures) (⊎-elim (λ t. along-ended _ _ _ _ _ _ w refl (ltb-false _ _ (t .1 .left))) (λ t. along-last _ _ _ _ _ _ w refl (t .left)) (c .before .loop-test .came) .1)
+    rw (c .answer2 .ensures)
+    (⊎-elim (λ t. along-ended _ _ _ _ _ _ w refl (ltb-false _ _ (t .1 .left))) (λ t. along-last _ _ _ _ _ _ w refl (t .left))
+    (c .before .loop-test .came) .1)
 
 pub walk-on-spec : {M : Type 1} → statement M
 walk-on-spec =

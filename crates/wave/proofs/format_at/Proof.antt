@@ -1,4 +1,3 @@
-use native.Mathlib.Omega.{arith}
 use Rattle.wave.proofs.Steps.{other-format, other-channels, other-rate, other-bits, the-format}
 use borrow.Author.Needs.{needs}
 use Rattle.wave.proofs.format_at.Statement.{statement}

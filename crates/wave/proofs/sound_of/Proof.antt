@@ -1,7 +1,5 @@
-use native.Mathlib.Omega.{arith}
-use borrow.Author.Tests.{eq-eqb, ne-eqb, lt-ltb, le-ltb}
-use Rattle.wave.specs.Headings.{halfAt, wordAt, formatAt, formatIn, soundOf, stepAt, after, headingOf, chunksFrom, onward}
-use borrow.Author.Needs.{needs}
+use borrow.Author.Tests.{eq-eqb, ne-eqb}
+use Rattle.wave.specs.Headings.{soundOf}
 use Rattle.wave.proofs.sound_of.Statement.{statement}
 use Rattle.wave.proofs.sound_of.Tie as tie
 

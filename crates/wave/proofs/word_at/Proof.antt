@@ -1,4 +1,3 @@
-use native.Mathlib.Omega.{arith}
 use Rattle.wave.specs.Headings.{wordAt}
 use borrow.Author.Needs.{needs}
 use Rattle.wave.proofs.word_at.Statement.{statement}

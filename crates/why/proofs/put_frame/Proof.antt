@@ -14,8 +14,10 @@ same-length : tie.Need-same-length
 same-length c = search needs
 
 returns : tie.Need-returns
-returns c =
-    (puts-then (c .before .before .before .before .before .before .put-head .ensures .0) (c .before .before .put-reasons .ensures .0), omega arith)
+returns c = (
+  puts-then (c .before .before .before .before .before .before .put-head .ensures .0) (c .before .before .put-reasons .ensures .0),
+  omega arith,
+)
 
 pub put-frame-spec : {M : Type 1} → statement M
 put-frame-spec = tie.close (tie.spec put-head-requires put-reasons-requires same-length returns)

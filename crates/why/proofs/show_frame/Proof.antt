@@ -31,7 +31,8 @@ slice-aggregate-write-frame c =
 write-frame-requires : tie.Need-write-frame-requires
 write-frame-requires c κs =
     let told = c .before .before .before .before in
-    shown _ _ _ _ _ _ (told .before .before .before .why-samples .ensures) (told .before .r .given .1) (c .before .before .put-frame .ensures .0)
+    shown _ _ _ _ _ _ (told .before .before .before .why-samples .ensures) (told .before .r .given .1)
+    (c .before .before .put-frame .ensures .0)
 
 returns : tie.Need-returns
 returns c = search needs

@@ -60,10 +60,14 @@ put-fractional-requires c κs =
     let eleven = is-eleven s (c .before .if1 .left) in
     let octets = c .before .before .before .before .shared-slice-known .given in
     let b : Below 256 (frame s) = below-take (s .args .n) (below-all (s .args .samples .now) (λ i. octets i .fits)) in
-    let size = cells-length (s .pre .0 .0) in
-    ((s .pre .0 .0, s .pre .0 .1, row-few (s .args .mask) (s .args .set) (s .args .n) (frame s) (s .args .last) size (s .pre .1 .0) eleven),
-    (row-digits (s .args .mask) (s .args .set) (s .args .n) (frame s) (s .args .last) size (s .pre .1 .0) eleven (law-for (s .args .mask) (s .pre .0 .1)) b,
-    rw (few-is s eleven) (s .pre .1 .1)))
+    let size = cells-length (s .pre .0 .0) in (
+      (s .pre .0 .0, s .pre .0 .1, row-few (s .args .mask) (s .args .set) (s .args .n) (frame s) (s .args .last) size (s .pre .1 .0) eleven),
+      (
+        row-digits (s .args .mask) (s .args .set) (s .args .n) (frame s) (s .args .last) size (s .pre .1 .0) eleven
+            (law-for (s .args .mask) (s .pre .0 .1)) b,
+        rw (few-is s eleven) (s .pre .1 .1),
+      ),
+    )
 
 same-length-2 : tie.Need-same-length-2
 same-length-2 c = search needs

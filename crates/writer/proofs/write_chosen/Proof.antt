@@ -28,7 +28,10 @@ returns c =
     let l = c .before .before .before .before .before .before .choose in
     let some : 1 ≤ l .result .tool = omega (arith, c .before .before .before .before .if1 .taken) in
     let chosen = l .ensures .chosen (c .before .before .before .before .if1 .taken) in
-    writes-as (c .before .before .write-plain .ensures) (ap (fitting (length (s .args .out .now))) (plain-full (s .args .mask) (s .args .set) (l .result .tool) (take (s .args .n) (s .args .samples .now)) (chosen .tool) some (l .ensures .most)))
+    writes-as (c .before .before .write-plain .ensures)
+    (ap (fitting (length (s .args .out .now)))
+    (plain-full (s .args .mask) (s .args .set) (l .result .tool) (take (s .args .n) (s .args .samples .now))
+    (chosen .tool) some (l .ensures .most)))
 
 write-zeros-requires : tie.Need-write-zeros-requires
 write-zeros-requires c κs =
@@ -48,8 +51,13 @@ last-of-requires c κs = c .before .before .before .before .before .before .pre
 write-located-requires : tie.Need-write-located-requires
 write-located-requires c κs =
     let s = c .before .before .before .before .before .before .before .before .before in
-    let l = c .before .before .before .before .before .before .choose .ensures in
-    (s .pre, ((l .left (c .before .before .before .before .if1 .left), sym (l .zeros) ∙ c .before .before .before .if2 .left), (sym (l .close) ∙ c .before .if3 .taken, c .before .before .last-of .ensures)))
+    let l = c .before .before .before .before .before .before .choose .ensures in (
+      s .pre,
+      (
+        (l .left (c .before .before .before .before .if1 .left), sym (l .zeros) ∙ c .before .before .before .if2 .left),
+        (sym (l .close) ∙ c .before .if3 .taken, c .before .before .last-of .ensures),
+      ),
+    )
 
 same-length-3 : tie.Need-same-length-3
 same-length-3 c = search needs
@@ -61,8 +69,14 @@ write-last-requires : tie.Need-write-last-requires
 write-last-requires c κs =
     let s = c .before .before .before .before .before .before .before .before .before in
     let l = c .before .before .before .before .before .before .choose .ensures in
-    let k = c .before .before .last-of .ensures in
-    (s .pre, (k, l .left (c .before .before .before .before .if1 .left) .far (sym (l .close) ∙ c .before .if3 .left) ∙ sym (k .chosen .tool)))
+    let k = c .before .before .last-of .ensures in (
+      s .pre,
+      (
+        k,
+        l .left (c .before .before .before .before .if1 .left) .far (sym (l .close) ∙ c .before .if3 .left)
+            ∙ sym (k .chosen .tool),
+      ),
+    )
 
 same-length-4 : tie.Need-same-length-4
 same-length-4 c = search needs

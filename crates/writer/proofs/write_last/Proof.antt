@@ -2,7 +2,6 @@ use borrow.Author.Needs.{needs}
 use Prim.Native.Nat.{ℕ}
 use mathlib.Core.Path.{_≡_, sym, ap}
 use mathlib.Core.List.{List}
-use native.Mathlib.Omega.{arith}
 use lib.ListN.{take}
 use Rattle.rules.specs.Chooses.{Written, formOf}
 use Rattle.writer.specs.Answers.{full}
@@ -30,7 +29,8 @@ refused-requires c κs = search needs
 returns : tie.Need-returns
 returns c =
     let s = c .before .before .before .before .before .before in
-    form-refused (chosen s) (last-chosen (s .pre .1 .0) (s .pre .1 .1) .bits) (c .before .before .octets-for .ensures) (c .before .if1 .taken) (c .refused .ensures)
+    form-refused (chosen s) (last-chosen (s .pre .1 .0) (s .pre .1 .1) .bits) (c .before .before .octets-for .ensures)
+    (c .before .if1 .taken) (c .refused .ensures)
 
 put-last-requires : tie.Need-put-last-requires
 put-last-requires c κs =
@@ -48,7 +48,8 @@ returns-2 : tie.Need-returns-2
 returns-2 c =
     let s = c .before .before .before .before .before .before .before .before .before .before in
     let l = last-chosen (s .pre .1 .0) (s .pre .1 .1) in
-    form-written (chosen s) (l .bits) (c .before .before .before .before .before .before .octets-for .ensures) (form-is s) (c .before .before .before .before .before .if1 .left)
+    form-written (chosen s) (l .bits) (c .before .before .before .before .before .before .octets-for .ensures) (form-is s)
+    (c .before .before .before .before .before .if1 .left)
     (c .before .before .before .put-last .ensures) (sym (s .pre .1 .1)) (c .wrote .ensures)
 
 pub write-last-spec : {M : Type 1} → statement M

@@ -1,7 +1,6 @@
 use borrow.Author.Needs.{needs}
 use Prim.Native.Nat.{ℕ}
-use mathlib.Core.Path.{_≡_, sym, ap, _∙_}
-use mathlib.Core.Bool.{true}
+use mathlib.Core.Path.{sym, ap, _∙_}
 use borrow.Author.Tests.{not-true, not-false}
 use lib.ListN.{length, take}
 use Rattle.look.proofs.Tests.{is-mask, frame-in}
@@ -26,7 +25,9 @@ same-length c = search needs
 returns : tie.Need-returns
 returns c =
     let s = c .before .before .before .before .before .before .before in
-    writes-as (c .before .before .write-pad .ensures) (write-pad (s .args .n) (s .args .samples .now) (s .args .law) (s .args .set) (length (s .args .out .now)) (s .pre .0) (c .before .before .before .before .if1 .taken))
+    writes-as (c .before .before .write-pad .ensures)
+    (write-pad (s .args .n) (s .args .samples .now) (s .args .law) (s .args .set) (length (s .args .out .now))
+    (s .pre .0) (c .before .before .before .before .if1 .taken))
 
 is-length-requires : tie.Need-is-length-requires
 is-length-requires c κs = search needs
@@ -38,7 +39,9 @@ returns-2 : tie.Need-returns-2
 returns-2 c =
     let s = c .before .before .before .before .before .before in
     let off = sym (c .before .before .is-length .ensures) ∙ not-true _ (c .before .if2 .taken) in
-    writes-as (refused-writes (c .refused .ensures)) (write-length (s .args .n) (s .args .samples .now) (s .args .law) (s .args .set) (length (s .args .out .now)) (s .pre .0) (c .before .before .before .if1 .left) off)
+    writes-as (refused-writes (c .refused .ensures))
+    (write-length (s .args .n) (s .args .samples .now) (s .args .law) (s .args .set) (length (s .args .out .now))
+    (s .pre .0) (c .before .before .before .if1 .left) off)
 
 mask-of-requires : tie.Need-mask-of-requires
 mask-of-requires c κs = search needs
@@ -58,10 +61,13 @@ returns-3 c =
     let room = length (s .args .out .now) in
     let f = take (s .args .n) (s .args .samples .now) in
     let mask = c .before .before .before .mask-of in
-    let on = sym (c .before .before .before .before .before .before .is-length .ensures) ∙ not-false _ (c .before .before .before .before .before .if2 .left) in
+    let on = sym (c .before .before .before .before .before .before .is-length .ensures)
+    ∙ not-false _ (c .before .before .before .before .before .if2 .left) in
     writes-as {v = fitting room (full (mask .result) (s .args .set) f)} (c .before .before .write-chosen .ensures)
     (ap (λ (m : ℕ). fitting room (full m (s .args .set) f)) (mask .ensures)
-    ∙ write-full (s .args .n) (s .args .samples .now) (s .args .law) (s .args .set) room (s .pre .0) (c .before .before .before .before .before .before .before .if1 .left) on (frame-in {samples = s .args .samples .now} on (s .pre .1) .long))
+    ∙ write-full (s .args .n) (s .args .samples .now) (s .args .law) (s .args .set) room (s .pre .0)
+    (c .before .before .before .before .before .before .before .if1 .left) on
+    (frame-in {samples = s .args .samples .now} on (s .pre .1) .long))
 
 pub write-lawful-spec : {M : Type 1} → statement M
 write-lawful-spec =

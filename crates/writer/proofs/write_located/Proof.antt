@@ -52,14 +52,22 @@ refused-requires c κs = search needs
 
 returns-2 : tie.Need-returns-2
 returns-2 c =
-    form-refused (chosen (c .before .before .before .before .before .before .before .before .before .before .before)) (c .before .before .before .located-plan .ensures .chosen .bits) (c .before .before .octets-for .ensures) (c .before .if2 .taken) (c .refused .ensures)
+    form-refused (chosen (c .before .before .before .before .before .before .before .before .before .before .before))
+    (c .before .before .before .located-plan .ensures .chosen .bits) (c .before .before .octets-for .ensures)
+    (c .before .if2 .taken) (c .refused .ensures)
 
 put-last-requires : tie.Need-put-last-requires
 put-last-requires c κs =
     let s = c .before .before .before .before .before .before .before .before .before .before .before .before .before in
     let p = c .before .before .before .before .before .located-plan .ensures in
-    let e = last-form s (sym (p .chosen .tool) ∙ p .kind (c .before .if3 .taken)) in
-    (s .pre .0, (s .pre .1 .1 .1, form-fits (chosen s) (p .chosen .bits) (c .before .before .before .before .octets-for .ensures) e (c .before .before .before .if2 .left)))
+    let e = last-form s (sym (p .chosen .tool) ∙ p .kind (c .before .if3 .taken)) in (
+      s .pre .0,
+      (
+        s .pre .1 .1 .1,
+        form-fits (chosen s) (p .chosen .bits) (c .before .before .before .before .octets-for .ensures)
+            e (c .before .before .before .if2 .left),
+      ),
+    )
 
 wrote-requires : tie.Need-wrote-requires
 wrote-requires c κs = search needs
@@ -69,20 +77,27 @@ same-length-2 c = search needs
 
 returns-3 : tie.Need-returns-3
 returns-3 c =
-    let s = c .before .before .before .before .before .before .before .before .before .before .before .before .before .before .before .before .before in
+    let s = c .before .before .before .before .before .before .before .before .before .before .before .before .before
+    .before .before .before .before in
     let p = c .before .before .before .before .before .before .before .before .before .located-plan .ensures in
     let e = last-form s (sym (p .chosen .tool) ∙ p .kind (c .before .before .before .before .before .if3 .taken)) in
-    form-written (chosen s) (p .chosen .bits) (c .before .before .before .before .before .before .before .before .octets-for .ensures) e (c .before .before .before .before .before .before .before .if2 .left)
+    form-written (chosen s) (p .chosen .bits) (c .before .before .before .before .before .before .before .before .octets-for .ensures)
+    e (c .before .before .before .before .before .before .before .if2 .left)
     (c .before .before .before .put-last .ensures) (p .chosen .tool) (c .wrote .ensures)
 
 put-located-requires : tie.Need-put-located-requires
 put-located-requires c κs =
     let plan = c .before .before .before .before .before .before .before .before in
-    let s = c .before .before .before .before .before .before .before .before .before .before .before .before .before .before .before .before in
+    let s = c .before .before .before .before .before .before .before .before .before .before .before .before .before
+    .before .before .before in
     let p = plan .located-plan .ensures in
     let seven = c .before .before .before .before .if3 .left in
-    let e = plan-form (s .args .n) (frame s) (plan .located-plan .result) _ _ _ (cells-length (s .pre .0 .0)) p seven in
-    (located-ready (p .located (sym (p .chosen .tool) ∙ seven)), form-fits (chosen s) (p .chosen .bits) (c .before .before .before .before .before .before .before .octets-for .ensures) e (c .before .before .before .before .before .before .if2 .left))
+    let e = plan-form (s .args .n) (frame s) (plan .located-plan .result) _ _ _ (cells-length (s .pre .0 .0)) p seven in (
+      located-ready (p .located (sym (p .chosen .tool) ∙ seven)),
+      form-fits (chosen s) (p .chosen .bits)
+          (c .before .before .before .before .before .before .before .octets-for .ensures) e
+          (c .before .before .before .before .before .before .if2 .left),
+    )
 
 wrote-requires-2 : tie.Need-wrote-requires-2
 wrote-requires-2 c κs = search needs
@@ -93,11 +108,14 @@ same-length-3 c = search needs
 returns-4 : tie.Need-returns-4
 returns-4 c =
     let plan = c .before .before .before .before .before .before .before .before .before .before .before .before in
-    let s = c .before .before .before .before .before .before .before .before .before .before .before .before .before .before .before .before .before .before .before .before in
+    let s = c .before .before .before .before .before .before .before .before .before .before .before .before .before
+    .before .before .before .before .before .before .before in
     let p = plan .located-plan .ensures in
     let seven = c .before .before .before .before .before .before .before .before .if3 .left in
     let e = plan-form (s .args .n) (frame s) (plan .located-plan .result) _ _ _ (cells-length (s .pre .0 .0)) p seven in
-    form-written (chosen s) (p .chosen .bits) (c .before .before .before .before .before .before .before .before .before .before .before .octets-for .ensures) e (c .before .before .before .before .before .before .before .before .before .before .if2 .left)
+    form-written (chosen s) (p .chosen .bits)
+    (c .before .before .before .before .before .before .before .before .before .before .before .octets-for .ensures)
+    e (c .before .before .before .before .before .before .before .before .before .before .if2 .left)
     (c .before .before .before .put-located .ensures) (p .chosen .tool) (c .wrote2 .ensures)
 
 pub write-located-spec : {M : Type 1} → statement M

@@ -27,7 +27,9 @@ same-length : tie.Need-same-length
 same-length c = search needs
 
 returns-2 : tie.Need-returns-2
-returns-2 c = all-written pad (omega (arith, pad-size, c .before .if1 .left)) (pad-packed (set-first (c .before .before .before .args .out .now) (c .before .if1 .left))) (sym (length-lowBits 8 0)) refl (c .wrote .ensures)
+returns-2 c = all-written pad (omega (arith, pad-size, c .before .if1 .left))
+    (pad-packed (set-first (c .before .before .before .args .out .now) (c .before .if1 .left))) (sym (length-lowBits 8 0))
+    refl (c .wrote .ensures)
 
 pub write-pad-spec : {M : Type 1} → statement M
 write-pad-spec =

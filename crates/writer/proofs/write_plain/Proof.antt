@@ -1,5 +1,5 @@
 use borrow.Author.Needs.{needs}
-use Prim.Native.Nat.{ℕ, _+_, _*_}
+use Prim.Native.Nat.{ℕ, _+_}
 use mathlib.Core.Path.{_≡_, refl}
 use mathlib.Core.List.{List}
 use mathlib.Core.Bool.{cond}
@@ -7,7 +7,6 @@ use native.Mathlib.Omega.{arith}
 use lib.ListN.{length, take}
 use lib.Seq.{length-take-le}
 use lib.Dec.{eqb}
-use Rattle.rules.specs.Bits.{bitsOf}
 use Rattle.rules.proofs.Octets.{length-bitsOf}
 use Rattle.forms.specs.Forms.{wholeOctets}
 use Rattle.forms.proofs.Whole.{whole-length}
@@ -27,7 +26,8 @@ abbrev whole : tie.Start → List ℕ
 whole s = wholeOctets (s .args .tool) (take (s .args .n) (s .args .samples .now))
 
 size : (s : tie.Start) → length (whole s) ≡ cond (eqb (s .args .tool) 1) (1 + s .args .n) (cond (eqb (s .args .tool) 4) 2 1)
-size s = whole-length (s .args .tool) (take (s .args .n) (s .args .samples .now)) (length-take-le (s .args .n) (s .args .samples .now) (s .pre .0 .0 .long))
+size s = whole-length (s .args .tool) (take (s .args .n) (s .args .samples .now))
+    (length-take-le (s .args .n) (s .args .samples .now) (s .pre .0 .0 .long))
 
 octets-for-requires : tie.Need-octets-for-requires
 octets-for-requires c κs = search needs
@@ -38,12 +38,19 @@ refused-requires c κs = search needs
 returns : tie.Need-returns
 returns c =
     let s = c .before .before .before .before .before in
-    form-refused (plain (s .args .tool) (take (s .args .n) (s .args .samples .now))) (s .pre .1 .0) (c .before .before .octets-for .ensures) (c .before .if1 .taken) (c .refused .ensures)
+    form-refused (plain (s .args .tool) (take (s .args .n) (s .args .samples .now))) (s .pre .1 .0) (c .before .before .octets-for .ensures)
+    (c .before .if1 .taken) (c .refused .ensures)
 
 put-whole-requires : tie.Need-put-whole-requires
 put-whole-requires c κs =
-    let s = c .before .before .before .before .before in
-    (s .pre .0 .1, (s .pre .0 .0, omega (arith, length-bitsOf (whole s), size s, s .pre .1 .0, c .before .before .octets-for .ensures, c .before .if1 .left)))
+    let s = c .before .before .before .before .before in (
+      s .pre .0 .1,
+      (
+        s .pre .0 .0,
+        omega
+            (arith, length-bitsOf (whole s), size s, s .pre .1 .0, c .before .before .octets-for .ensures, c .before .if1 .left),
+      ),
+    )
 
 wrote-requires : tie.Need-wrote-requires
 wrote-requires c κs = search needs
@@ -54,7 +61,9 @@ same-length c = search needs
 returns-2 : tie.Need-returns-2
 returns-2 c =
     let s = c .before .before .before .before .before .before .before .before .before in
-    form-written (plain (s .args .tool) (take (s .args .n) (s .args .samples .now))) (s .pre .1 .0) (c .before .before .before .before .before .before .octets-for .ensures) refl (c .before .before .before .before .before .if1 .left) (c .before .before .before .put-whole .ensures) refl (c .wrote .ensures)
+    form-written (plain (s .args .tool) (take (s .args .n) (s .args .samples .now))) (s .pre .1 .0)
+    (c .before .before .before .before .before .before .octets-for .ensures) refl (c .before .before .before .before .before .if1 .left)
+    (c .before .before .before .put-whole .ensures) refl (c .wrote .ensures)
 
 pub write-plain-spec : {M : Type 1} → statement M
 write-plain-spec =

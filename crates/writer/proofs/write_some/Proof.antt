@@ -24,14 +24,18 @@ enum-told : tie.Need-enum-told
 enum-told c = search needs
 
 write-lawful-requires : tie.Need-write-lawful-requires
-write-lawful-requires c κs =
-    (sym (c .before .before .before .guard-writer .ensures) ∙ c .before .enum-told .given .1, c .before .before .before .before .before .before .pre)
+write-lawful-requires c κs = (
+  sym (c .before .before .before .guard-writer .ensures) ∙ c .before .enum-told .given .1,
+  c .before .before .before
+      .before .before .before .pre,
+)
 
 returns : tie.Need-returns
 returns c =
     let s = c .before .before .before .before .before .before .before in
     let e = sym (c .before .before .before .before .guard-writer .ensures) ∙ c .before .before .why .given .1 in
-    writes-as (refused-writes (c .refused .ensures)) (sym (write-refused (s .args .n) (s .args .samples .now) (s .args .law) (s .args .set) (length (s .args .out .now)) e))
+    writes-as (refused-writes (c .refused .ensures))
+    (sym (write-refused (s .args .n) (s .args .samples .now) (s .args .law) (s .args .set) (length (s .args .out .now)) e))
 
 same-length : tie.Need-same-length
 same-length c = search needs

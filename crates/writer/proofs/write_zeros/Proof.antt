@@ -38,7 +38,8 @@ others-requires c κs = search needs
 zeros-plan-requires : tie.Need-zeros-plan-requires
 zeros-plan-requires c κs =
     let s = c .before .before .before .before .before .before in
-    let words = row-flags (s .args .mask) (s .pre .0 .0) (c .before .before .before .plus-zero .ensures) (c .before .before .others .ensures) in
+    let words = row-flags (s .args .mask) (s .pre .0 .0) (c .before .before .before .plus-zero .ensures)
+    (c .before .before .others .ensures) in
     (s .pre .0, (s .pre .1, (words, refl)))
 
 octets-for-requires : tie.Need-octets-for-requires
@@ -50,18 +51,23 @@ refused-requires c κs = search needs
 returns : tie.Need-returns
 returns c =
     let s = c .before .before .before .before .before .before .before .before .before .before in
-    form-refused (chosen s) (c .before .before .before .zeros-plan .ensures .chosen .bits) (c .before .before .octets-for .ensures) (c .before .if1 .taken) (c .refused .ensures)
+    form-refused (chosen s) (c .before .before .before .zeros-plan .ensures .chosen .bits) (c .before .before .octets-for .ensures)
+    (c .before .if1 .taken) (c .refused .ensures)
 
 put-two-zeros-requires : tie.Need-put-two-zeros-requires
 put-two-zeros-requires c κs =
     let s = c .before .before .before .before .before .before .before .before .before .before .before .before in
     let f = s .pre .0 .0 in
     let others = c .before .before .before .before .before .before .before .before .others in
-    let words = row-flags (s .args .mask) f (c .before .before .before .before .before .before .before .before .before .plus-zero .ensures) (others .ensures) in
+    let words = row-flags (s .args .mask) f (c .before .before .before .before .before .before .before .before .before .plus-zero .ensures)
+    (others .ensures) in
     let plan = c .before .before .before .before .before .zeros-plan in
     let p = plan .ensures in
-    let e = zeros-form (s .args .n) (frame s) (plan .result) (others .result) _ (cells-length f) words p in
-    (record { sized = f; rice = λ k. rice-ready f (p .rice (sym (p .chosen .tool) ∙ k)); size = words .size; small = words .small }, form-fits (chosen s) (p .chosen .bits) (c .before .before .before .before .octets-for .ensures) e (c .before .before .before .if1 .left))
+    let e = zeros-form (s .args .n) (frame s) (plan .result) (others .result) _ (cells-length f) words p in (
+      record { sized = f; rice = λ k. rice-ready f (p .rice (sym (p .chosen .tool) ∙ k)); size = words .size; small = words .small },
+      form-fits (chosen s) (p .chosen .bits) (c .before .before .before .before .octets-for .ensures) e
+          (c .before .before .before .if1 .left),
+    )
 
 wrote-requires : tie.Need-wrote-requires
 wrote-requires c κs = search needs
@@ -71,14 +77,19 @@ same-length c = search needs
 
 returns-2 : tie.Need-returns-2
 returns-2 c =
-    let s = c .before .before .before .before .before .before .before .before .before .before .before .before .before .before .before .before in
+    let s = c .before .before .before .before .before .before .before .before .before .before .before .before .before
+    .before .before .before in
     let f = s .pre .0 .0 in
     let others = c .before .before .before .before .before .before .before .before .before .before .before .before .others in
-    let words = row-flags (s .args .mask) f (c .before .before .before .before .before .before .before .before .before .before .before .before .before .plus-zero .ensures) (others .ensures) in
+    let words = row-flags (s .args .mask) f
+    (c .before .before .before .before .before .before .before .before .before .before .before .before .before .plus-zero .ensures)
+    (others .ensures) in
     let plan = c .before .before .before .before .before .before .before .before .before .zeros-plan in
     let p = plan .ensures in
     let e = zeros-form (s .args .n) (frame s) (plan .result) (others .result) _ (cells-length f) words p in
-    form-written (chosen s) (p .chosen .bits) (c .before .before .before .before .before .before .before .before .octets-for .ensures) e (c .before .before .before .before .before .before .before .if1 .left) (c .before .before .before .put-two-zeros .ensures) (p .chosen .tool) (c .wrote .ensures)
+    form-written (chosen s) (p .chosen .bits) (c .before .before .before .before .before .before .before .before .octets-for .ensures)
+    e (c .before .before .before .before .before .before .before .if1 .left) (c .before .before .before .put-two-zeros .ensures)
+    (p .chosen .tool) (c .wrote .ensures)
 
 pub write-zeros-spec : {M : Type 1} → statement M
 write-zeros-spec =

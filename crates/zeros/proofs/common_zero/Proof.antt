@@ -12,13 +12,15 @@ plus-zero-requires : tie.Need-plus-zero-requires
 plus-zero-requires c κs = search needs
 
 returns : tie.Need-returns
-returns c = let s = c .before .before .args in rw (le-ltb (s .plus) (s .minus) (omega (arith, c .before .if1 .taken))) (c .plus-zero .ensures)
+returns c = let s = c .before .before .args in
+    rw (le-ltb (s .plus) (s .minus) (omega (arith, c .before .if1 .taken))) (c .plus-zero .ensures)
 
 minus-zero-requires : tie.Need-minus-zero-requires
 minus-zero-requires c κs = search needs
 
 returns-2 : tie.Need-returns-2
-returns-2 c = let s = c .before .before .args in rw (lt-ltb (s .plus) (s .minus) (omega (arith, c .before .if1 .left))) (c .minus-zero .ensures)
+returns-2 c = let s = c .before .before .args in
+    rw (lt-ltb (s .plus) (s .minus) (omega (arith, c .before .if1 .left))) (c .minus-zero .ensures)
 
 pub common-zero-spec : {M : Type 1} → statement M
 common-zero-spec = tie.close (tie.spec plus-zero-requires returns minus-zero-requires returns-2)

@@ -57,7 +57,30 @@ add-t24 : tie.Need-add-t24
 add-t24 c = search needs
 
 returns-2 : tie.Need-returns-2
-returns-2 c = λ s z. rice-for (c .before .before .before .before .before .before .before .before .before .before .before .before .before .before .before .before .args .mask) s (z .size) (z .plus) (z .minus) (c .before .before .before .before .before .before .before .before .before .before .before .before .before .mark-of .ensures .0) (c .before .before .before .before .before .before .before .before .before .before .before .before .common-zero .ensures) (turned-runs (c .before .before .before .before .before .before .before .before .before .before .before .before .before .before .before .before .args .mask) (cond (ltb (c .before .before .before .before .before .before .before .before .before .before .before .before .before .before .before .before .args .plus) (c .before .before .before .before .before .before .before .before .before .before .before .before .before .before .before .before .args .minus)) 1 0) s (z .zeros) (c .before .before .before .before .before .before .before .before .before .before .before .before .common-zero .ensures) (c .before .before .before .before .before .before .before .before .before .before .before .minus-zero .ensures) (z .row) (c .before .before .before .before .before .before .before .before .before .before .turned-row .ensures) (c .before .before .before .before .before .before .before .runs-in .ensures)) (c .before .before .before .before .before .before .lengths-of .ensures) (c .before .before .before .most-s .ensures .0) (c .before .before .before .most-s .ensures .1 .1) (c .before .before .least-s .ensures) (c .before .start-bits .ensures)
+returns-2 c = λ s z. rice-for
+    (c .before .before .before .before .before .before .before .before .before .before .before .before .before .before
+    .before .before .args .mask) s (z .size) (z .plus) (z .minus)
+    (c .before .before .before .before .before .before .before .before .before .before .before .before .before .mark-of .ensures .0)
+    (c .before .before .before .before .before .before .before .before .before .before .before .before .common-zero .ensures)
+    (turned-runs (c .before .before .before .before .before .before .before .before .before .before .before
+    .before .before .before .before .before .args .mask)
+    (cond (ltb (c .before .before .before .before .before .before .before .before .before .before
+    .before .before .before .before .before .before .args .plus)
+    (c .before .before .before .before .before .before .before .before .before .before
+    .before .before .before .before .before .before .args .minus)) 1 0)
+    s (z .zeros) (c .before .before .before .before .before .before .before .before
+    .before .before .before .before .common-zero .ensures)
+    (c .before .before .before .before .before .before .before .before .before
+    .before .before .minus-zero .ensures) (z .row)
+    (c .before .before .before .before .before .before .before .before
+    .before .before .turned-row .ensures)
+    (c .before .before .before .before .before .before .before
+    .runs-in .ensures)) (c .before .before .before .before
+    .before .before .lengths-of .ensures)
+    (c .before .before .before .most-s .ensures .0)
+    (c .before .before .before .most-s .ensures .1 .1)
+    (c .before .before .least-s .ensures)
+    (c .before .start-bits .ensures)
 
 pub rice-of-spec : {M : Type 1} → statement M
 rice-of-spec =

@@ -45,8 +45,11 @@ loop-less c = search needs
 loop-again : tie.Need-loop-again Inv-loop μ-loop
 loop-again c =
     let s = c .before .before .before .before in
-    let l = c .before .before .before .loop in
-    (omega arith, row-turn (s .args .turn) (s .args .row .now) (l .flags) (l .i) _ (omega (arith, s .pre .0 .1)) (omega arith) (l .inv .1) (c .turned .ensures))
+    let l = c .before .before .before .loop in (
+      omega arith,
+      row-turn (s .args .turn) (s .args .row .now) (l .flags) (l .i) _ (omega (arith, s .pre .0 .1)) (omega arith)
+          (l .inv .1) (c .turned .ensures),
+    )
 
 returns : tie.Need-returns Inv-loop μ-loop
 returns c = let e : c .before .loop .i ≡ c .before .before .args .k = omega arith in rw e at (c .before .loop .inv .1)

@@ -43,23 +43,34 @@ row-count-requires c κs = search needs
 returns-2 : tie.Need-returns-2
 returns-2 c =
     let s = c .before .before .before .before .before .before .before in
-    let none = row-unmet (s .args .mask) (frame s) (size s) (c .before .before .row-of .ensures) (omega (arith, c .before .row-count .ensures .0)) in
-    last-plain (s .args .mask) (s .args .set) (frame s) (size s) (s .pre .0 .few) (c .before .before .before .before .before .uncompressed-of .ensures) (past (s .args .set) 11 none) 0
+    let none = row-unmet (s .args .mask) (frame s) (size s) (c .before .before .row-of .ensures)
+    (omega (arith, c .before .row-count .ensures .0)) in
+    last-plain (s .args .mask) (s .args .set) (frame s) (size s) (s .pre .0 .few)
+    (c .before .before .before .before .before .uncompressed-of .ensures) (past (s .args .set) 11 none) 0
 
 bits-of-requires : tie.Need-bits-of-requires
 bits-of-requires c κs = search needs
 
 better-requires : tie.Need-better-requires
 better-requires c κs =
-    let s = c .before .before .before .before .before .before .before .before in
-    (omega (arith, ap (λ (k : Choice). k .bits) (c .before .before .before .before .before .before .uncompressed-of .ensures), s .pre .0 .few), omega (arith, c .bits-of .ensures .1))
+    let s = c .before .before .before .before .before .before .before .before in (
+      omega (
+        arith,
+        ap (λ (k : Choice). k .bits) (c .before .before .before .before .before .before .uncompressed-of .ensures),
+        s .pre .0 .few,
+      ),
+      omega (arith, c .bits-of .ensures .1),
+    )
 
 returns-3 : tie.Need-returns-3
 returns-3 c =
     let s = c .before .before .before .before .before .before .before .before .before in
-    let held = sym (c .before .before .before .before .before .before .holds .ensures) ∙ not-false _ (c .before .before .before .before .before .if1 .left) in
-    last-row (s .args .mask) (s .args .set) (frame s) (size s) (s .pre .0 .few) (c .before .before .before .before .before .before .before .uncompressed-of .ensures) held
-    (c .before .before .before .before .row-of .ensures) (omega (arith, c .before .before .before .row-count .ensures .0)) (c .before .bits-of .ensures .0) (c .better .ensures)
+    let held = sym (c .before .before .before .before .before .before .holds .ensures)
+    ∙ not-false _ (c .before .before .before .before .before .if1 .left) in
+    last-row (s .args .mask) (s .args .set) (frame s) (size s) (s .pre .0 .few)
+    (c .before .before .before .before .before .before .before .uncompressed-of .ensures) held
+    (c .before .before .before .before .row-of .ensures) (omega (arith, c .before .before .before .row-count .ensures .0))
+    (c .before .bits-of .ensures .0) (c .better .ensures)
 
 pub last-of-spec : {M : Type 1} → statement M
 last-of-spec =

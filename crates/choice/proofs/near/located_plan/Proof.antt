@@ -3,7 +3,6 @@ use Prim.Native.Nat.{ℕ}
 use mathlib.Core.Path.{_≡_, sym, ap, _∙_}
 use mathlib.Core.List.{List}
 use mathlib.Core.Bool.{Bool, _&&_}
-use native.Mathlib.Omega.{arith}
 use borrow.Author.Tests.{not-true, not-false}
 use lib.ListN.{length, take}
 use lib.Seq.{length-take-le}
@@ -40,8 +39,10 @@ not-located-requires c κs = search needs
 returns : tie.Need-returns
 returns c =
     let s = c .before .before .before .before in
-    let off = ap (λ (h : Bool). h && applies (s .args .mask) 7 (frame s)) (sym (c .before .before .holds .ensures) ∙ not-true _ (c .before .if1 .taken)) in
-    located-as (s .pre .1 .0 .0 .later) (not-located (s .args .set) (s .pre .1 .0 .1) (s .pre .1 .1 .0 .1) off (c .not-located .ensures .0) (c .not-located .ensures .1))
+    let off = ap (λ (h : Bool). h && applies (s .args .mask) 7 (frame s))
+    (sym (c .before .before .holds .ensures) ∙ not-true _ (c .before .if1 .taken)) in
+    located-as (s .pre .1 .0 .0 .later)
+    (not-located (s .args .set) (s .pre .1 .0 .1) (s .pre .1 .1 .0 .1) off (c .not-located .ensures .0) (c .not-located .ensures .1))
 
 tally-of-requires : tie.Need-tally-of-requires
 tally-of-requires c κs = search needs
@@ -58,21 +59,27 @@ not-located-requires-2 c κs = search needs
 returns-2 : tie.Need-returns-2
 returns-2 c =
     let s = c .before .before .before .before .before .before .before .before in
-    let off = sym (applied-is (c .before .before .before .before .tally-of .ensures) (size s) (c .before .before .before .row-of .ensures .0) (c .before .before .located-applies .ensures)) ∙ not-true _ (c .before .if2 .taken) in
+    let off = sym (applied-is (c .before .before .before .before .tally-of .ensures) (size s)
+    (c .before .before .before .row-of .ensures .0) (c .before .before .located-applies .ensures))
+    ∙ not-true _ (c .before .if2 .taken) in
     located-as (s .pre .1 .0 .0 .later)
-    (not-located (s .args .set) (s .pre .1 .0 .1) (s .pre .1 .1 .0 .1) (past (s .args .set) 7 off) (c .not-located2 .ensures .0) (c .not-located2 .ensures .1))
+    (not-located (s .args .set) (s .pre .1 .0 .1) (s .pre .1 .1 .0 .1) (past (s .args .set) 7 off) (c .not-located2 .ensures .0)
+    (c .not-located2 .ensures .1))
 
 located-of-requires : tie.Need-located-of-requires
 located-of-requires c κs =
     let s = c .before .before .before .before .before .before .before .before .before .before in
     let t = c .before .before .before .before .before .before .tally-of .ensures in
     let found = c .before .before .before .before .before .row-of .ensures .0 in
-    let on = sym (applied-is t (size s) found (c .before .before .before .before .located-applies .ensures)) ∙ not-false _ (c .before .before .before .if2 .left) in
+    let on = sym (applied-is t (size s) found (c .before .before .before .before .located-applies .ensures))
+    ∙ not-false _ (c .before .before .before .if2 .left) in
     (s .pre .0, ((t, on), (found, s .pre .1 .1 .1)))
 
 better-requires : tie.Need-better-requires
-better-requires c κs =
-    (c .before .before .before .before .before .before .before .before .before .before .before .pre .1 .1 .0 .1 .small, c .located-of .ensures .small)
+better-requires c κs = (
+  c .before .before .before .before .before .before .before .before .before .before .before .pre .1 .1 .0 .1 .small,
+  c .located-of .ensures .small,
+)
 
 located-by-requires : tie.Need-located-by-requires
 located-by-requires c κs = search needs
@@ -82,11 +89,13 @@ returns-3 c =
     let held = c .before .before .before .before .before .before .before .before .before .before in
     let s = held .before .before .before in
     let t = c .before .before .before .before .before .before .before .before .before .tally-of .ensures in
-    let on = sym (applied-is t (size s) (c .before .before .before .before .before .before .before .before .row-of .ensures .0) (c .before .before .before .before .before .before .before .located-applies .ensures))
+    let on = sym (applied-is t (size s) (c .before .before .before .before .before .before .before .before .row-of .ensures .0)
+    (c .before .before .before .before .before .before .before .located-applies .ensures))
     ∙ not-false _ (c .before .before .before .before .before .before .if2 .left) in
     let has = sym (held .before .holds .ensures) ∙ not-false _ (held .if1 .left) in
     located-as (s .pre .1 .0 .0 .later)
-    (located-for (s .args .set) (s .pre .1 .0 .1) (s .pre .1 .1 .0 .1) has on (c .before .before .located-of .ensures) (c .before .better .ensures) (c .located-by .ensures))
+    (located-for (s .args .set) (s .pre .1 .0 .1) (s .pre .1 .1 .0 .1) has on (c .before .before .located-of .ensures)
+    (c .before .better .ensures) (c .located-by .ensures))
 
 pub located-plan-spec : {M : Type 1} → statement M
 located-plan-spec =

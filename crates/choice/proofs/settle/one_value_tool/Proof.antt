@@ -14,10 +14,14 @@ use Rattle.law.proofs.minus_zero.Reads as minus-zero-reads
 use Rattle.law.proofs.plus_zero.Reads as plus-zero-reads
 use Rattle.prefix.proofs.holds.Reads as holds-reads
 
-plus : (c : tie.After-is-for) → (holds (c .before .before .args .set) 2 && eqb (c .before .before .args .x) (plusZero (c .before .before .args .mask))) ≡ c .is-for .result
+plus : (c : tie.After-is-for)
+    → (holds (c .before .before .args .set) 2 && eqb (c .before .before .args .x) (plusZero (c .before .before .args .mask))) ≡ c
+    .is-for .result
 plus c = for-zero _ 2 _ (c .is-for .ensures) (c .before .plus-zero .ensures)
 
-minus : (c : tie.After-is-for2) → (holds (c .before .before .before .before .before .args .set) 3 && eqb (c .before .before .before .before .before .args .x) (minusZero (c .before .before .before .before .before .args .mask))) ≡ c .is-for2 .result
+minus : (c : tie.After-is-for2)
+    → (holds (c .before .before .before .before .before .args .set) 3 && eqb (c .before .before .before .before .before .args .x)
+    (minusZero (c .before .before .before .before .before .args .mask))) ≡ c .is-for2 .result
 minus c = for-zero _ 3 _ (c .is-for2 .ensures) (c .before .minus-zero .ensures)
 
 plus-zero-requires : tie.Need-plus-zero-requires
@@ -42,10 +46,22 @@ holds-requires : tie.Need-holds-requires
 holds-requires c κs = search needs
 
 returns-3 : tie.Need-returns-3
-returns-3 c = rw (plus (c .before .before .before .before .before .before) ∙ c .before .before .before .before .before .if1 .left, minus (c .before .before .before) ∙ c .before .before .if2 .left, sym (c .before .holds .ensures) ∙ c .if3 .taken)
+returns-3 c = rw (
+  plus (c .before .before .before .before .before .before)
+      ∙ c .before .before .before .before .before .if1 .left,
+  minus (c .before .before .before)
+      ∙ c .before .before .if2 .left,
+  sym (c .before .holds .ensures) ∙ c .if3 .taken,
+)
 
 returns-4 : tie.Need-returns-4
-returns-4 c = rw (plus (c .before .before .before .before .before .before) ∙ c .before .before .before .before .before .if1 .left, minus (c .before .before .before) ∙ c .before .before .if2 .left, sym (c .before .holds .ensures) ∙ c .if3 .left)
+returns-4 c = rw (
+  plus (c .before .before .before .before .before .before)
+      ∙ c .before .before .before .before .before .if1 .left,
+  minus (c .before .before .before)
+      ∙ c .before .before .if2 .left,
+  sym (c .before .holds .ensures) ∙ c .if3 .left,
+)
 
 pub one-value-tool-spec : {M : Type 1} → statement M
 one-value-tool-spec =

@@ -19,7 +19,8 @@ some s = omega (arith, length-take-le (s .args .n) (s .args .samples .now) (s .p
 first : (s : tie.Start) → getD (s .args .samples .now) 0 0 ≡ getD (take (s .args .n) (s .args .samples .now)) 0 0
 first s = sym (getD-take (s .args .n) (s .args .samples .now) 0 0 (s .pre .0 .0 .some))
 
-one : (s : tie.Start) → s .args .l .any ≡ s .args .l .all → OneValue (s .args .mask) (s .args .set) (getD (s .args .samples .now) 0 0) (take (s .args .n) (s .args .samples .now))
+one : (s : tie.Start) → s .args .l .any ≡ s .args .l .all
+    → OneValue (s .args .mask) (s .args .set) (getD (s .args .samples .now) 0 0) (take (s .args .n) (s .args .samples .now))
 one s = one-of (s .args .set) (some s) (first s) (s .pre .1)
 
 spread-tool-requires : tie.Need-spread-tool-requires
@@ -47,7 +48,8 @@ spread-tool-requires-2 c κs = search needs
 returns-3 : tie.Need-returns-3
 returns-3 c =
     let s = c .before .before .before .before .before .before .before in
-    spread (value-lacks (one s (c .before .before .before .before .if1 .left)) (c .before .before .one-value-tool .ensures) (c .before .if2 .left)) (s .pre .1) (c .spread-tool2 .ensures)
+    spread (value-lacks (one s (c .before .before .before .before .if1 .left)) (c .before .before .one-value-tool .ensures)
+    (c .before .if2 .left)) (s .pre .1) (c .spread-tool2 .ensures)
 
 pub plain-tool-spec : {M : Type 1} → statement M
 plain-tool-spec =

@@ -28,7 +28,8 @@ count-of-requires : tie.Need-count-of-requires
 count-of-requires c κs = search needs
 
 sub-plus : tie.Need-sub-plus
-sub-plus c = let s = c .before .before .before in count-fits (c .before .minus-zero .result) (s .args .samples .now) (s .pre .0 .0 .long) (c .count-of .ensures .0)
+sub-plus c = let s = c .before .before .before in
+    count-fits (c .before .minus-zero .result) (s .args .samples .now) (s .pre .0 .0 .long) (c .count-of .ensures .0)
 
 add-binary-bits : tie.Need-add-binary-bits
 add-binary-bits c = search needs
@@ -42,12 +43,17 @@ returns c =
     let l = take (s .args .n) (s .args .samples .now) in
     let size = length-take-le (s .args .n) (s .args .samples .now) (s .pre .0 .0 .long) in
     let m = counted l (c .before .before .count-of .ensures .0) (c .before .before .before .minus-zero .ensures) in
-    let fits = count-fits (c .before .before .before .minus-zero .result) (s .args .samples .now) (s .pre .0 .0 .long) (c .before .before .count-of .ensures .0) in
-    zeros-as (s .pre .1 .0 .0 .later) (binary-settled (s .args .mask) l size (s .pre .0 .0 .whole) (plus-left (s .args .mask) l (s .pre .1 .0 .1) size m) m (omega (arith, fits)) (s .args .set) (mask-seven _ (s .pre .0 .1)) (s .pre .1 .0 .1) (s .pre .0 .0 .few) (c .before .binary-at-once .ensures) (c .if1 .taken) refl refl)
+    let fits = count-fits (c .before .before .before .minus-zero .result) (s .args .samples .now) (s .pre .0 .0 .long)
+    (c .before .before .count-of .ensures .0) in
+    zeros-as (s .pre .1 .0 .0 .later)
+    (binary-settled (s .args .mask) l size (s .pre .0 .0 .whole) (plus-left (s .args .mask) l (s .pre .1 .0 .1) size m)
+    m (omega (arith, fits)) (s .args .set) (mask-seven _ (s .pre .0 .1)) (s .pre .1 .0 .1) (s .pre .0 .0 .few)
+    (c .before .binary-at-once .ensures) (c .if1 .taken) refl refl)
 
 rice-of-requires : tie.Need-rice-of-requires
 rice-of-requires c κs =
-    let s = c .before .before .before .before .before .before in ((s .pre .0 .0 .few, (mask-seven _ (s .pre .0 .1), s .pre .1 .1 .0 .size)), (s .pre .1 .1 .0 .small, s .pre .1 .1 .1))
+    let s = c .before .before .before .before .before .before in
+    ((s .pre .0 .0 .few, (mask-seven _ (s .pre .0 .1), s .pre .1 .1 .0 .size)), (s .pre .1 .1 .0 .small, s .pre .1 .1 .1))
 
 uncompressed-of-requires : tie.Need-uncompressed-of-requires
 uncompressed-of-requires c κs = search needs
@@ -60,8 +66,22 @@ better-requires c κs =
     let s = c .before .before .before .before .before .before .before .before .before in
     let l = take (s .args .n) (s .args .samples .now) in
     let size = length-take-le (s .args .n) (s .args .samples .now) (s .pre .0 .0 .long) in
-    let m = counted l (c .before .before .before .before .before .before .count-of .ensures .0) (c .before .before .before .before .before .before .before .minus-zero .ensures) in
-    (omega (arith, ap (λ (k : Choice). k .bits) (c .before .uncompressed-of .ensures), s .pre .0 .0 .few), omega (arith, c .before .before .rice-of .ensures l (record { size = size; zeros = s .pre .1 .0 .1; plus = plus-left (s .args .mask) l (s .pre .1 .0 .1) size m; minus = m; row = s .pre .1 .1 .0 }) .small, s .pre .0 .0 .few))
+    let m = counted l (c .before .before .before .before .before .before .count-of .ensures .0)
+    (c .before .before .before .before .before .before .before .minus-zero .ensures) in (
+      omega (arith, ap (λ (k : Choice). k .bits) (c .before .uncompressed-of .ensures), s .pre .0 .0 .few),
+      omega (
+        arith,
+        c .before .before .rice-of .ensures l
+            (record {
+              size = size;
+              zeros = s .pre .1 .0 .1;
+              plus = plus-left (s .args .mask) l (s .pre .1 .0 .1) size m;
+              minus = m;
+              row = s .pre .1 .1 .0;
+            }) .small,
+        s .pre .0 .0 .few,
+      ),
+    )
 
 holds-requires-2 : tie.Need-holds-requires-2
 holds-requires-2 c κs = search needs
@@ -71,8 +91,22 @@ better-requires-2 c κs =
     let s = c .before .before .before .before .before .before .before .before .before .before .before in
     let l = take (s .args .n) (s .args .samples .now) in
     let size = length-take-le (s .args .n) (s .args .samples .now) (s .pre .0 .0 .long) in
-    let m = counted l (c .before .before .before .before .before .before .before .before .count-of .ensures .0) (c .before .before .before .before .before .before .before .before .before .minus-zero .ensures) in
-    (c .before .better .ensures .small, omega (arith, c .before .before .before .before .rice-of .ensures l (record { size = size; zeros = s .pre .1 .0 .1; plus = plus-left (s .args .mask) l (s .pre .1 .0 .1) size m; minus = m; row = s .pre .1 .1 .0 }) .small, s .pre .0 .0 .few))
+    let m = counted l (c .before .before .before .before .before .before .before .before .count-of .ensures .0)
+    (c .before .before .before .before .before .before .before .before .before .minus-zero .ensures) in (
+      c .before .better .ensures .small,
+      omega (
+        arith,
+        c .before .before .before .before .rice-of .ensures l
+            (record {
+              size = size;
+              zeros = s .pre .1 .0 .1;
+              plus = plus-left (s .args .mask) l (s .pre .1 .0 .1) size m;
+              minus = m;
+              row = s .pre .1 .1 .0;
+            }) .small,
+        s .pre .0 .0 .few,
+      ),
+    )
 
 returns-2 : tie.Need-returns-2
 returns-2 c =
@@ -87,8 +121,10 @@ returns-2 c =
     let zeros = s .pre .1 .0 .1 in
     zeros-as (s .pre .1 .0 .0 .later)
     (zeros-planned (mask-seven _ (s .pre .0 .1)) zeros size (s .pre .0 .0 .few)
-    (rice .rice-of .ensures l (record { size = size; zeros = zeros; plus = plus-left (s .args .mask) l zeros size m; minus = m; row = s .pre .1 .1 .0 }))
-    (plain .uncompressed-of .ensures) (six .before .holds .ensures) (six .better .ensures) (c .before .holds2 .ensures) (c .better2 .ensures))
+    (rice .rice-of .ensures l
+    (record { size = size; zeros = zeros; plus = plus-left (s .args .mask) l zeros size m; minus = m; row = s .pre .1 .1 .0 }))
+    (plain .uncompressed-of .ensures) (six .before .holds .ensures) (six .better .ensures) (c .before .holds2 .ensures)
+    (c .better2 .ensures))
 
 pub zeros-plan-spec : {M : Type 1} → statement M
 zeros-plan-spec =

@@ -20,7 +20,8 @@ abbrev μ-loop : tie.MeasureT-loop
 loop-holds : tie.Need-loop-holds Inv-loop μ-loop
 loop-holds c =
     let s = c .before .before .before .before in
-    write-start (s .args .cells .now) (s .args .samples .now) (maskOf (s .args .law)) (s .args .set) (s .args .out .now) (s .args .at) (s .pre .0)
+    write-start (s .args .cells .now) (s .args .samples .now) (maskOf (s .args .law)) (s .args .set) (s .args .out .now)
+    (s .args .at) (s .pre .0)
 
 mul-c : tie.Need-mul-c Inv-loop μ-loop
 mul-c c = search needs

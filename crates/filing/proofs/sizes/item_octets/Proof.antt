@@ -57,8 +57,10 @@ returns c =
 returns-2 : tie.Need-returns-2
 returns-2 c =
     let s = c .before .before .before .before .before in
-    let n = c .before .before .length-in in
-    (ap length (sym (item-lost (s .args .mask) (s .args .set) (s .args .c) _ (omega arith) (sym (n .ensures) ∙ c .if2 .taken))), omega arith)
+    let n = c .before .before .length-in in (
+      ap length (sym (item-lost (s .args .mask) (s .args .set) (s .args .c) _ (omega arith) (sym (n .ensures) ∙ c .if2 .taken))),
+      omega arith,
+    )
 
 slice-aggregate-form-octets : tie.Need-slice-aggregate-form-octets
 slice-aggregate-form-octets c =

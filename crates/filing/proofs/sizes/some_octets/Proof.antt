@@ -39,9 +39,13 @@ last-of-requires c κs = c .before .before .before .before .before .pre
 located-octets-requires : tie.Need-located-octets-requires
 located-octets-requires c κs =
     let l = c .before .before .before .before .before .choose .ensures in
-    let s = c .before .before .before .before .before .before .before in
-    (s .pre, ((l .left (c .before .before .before .if1 .left), sym (l .zeros) ∙ c .before .before .if2 .left),
-    (sym (l .close) ∙ c .if3 .taken, c .before .last-of .ensures)))
+    let s = c .before .before .before .before .before .before .before in (
+      s .pre,
+      (
+        (l .left (c .before .before .before .if1 .left), sym (l .zeros) ∙ c .before .before .if2 .left),
+        (sym (l .close) ∙ c .if3 .taken, c .before .last-of .ensures),
+      ),
+    )
 
 returns-3 : tie.Need-returns-3
 returns-3 c = search needs

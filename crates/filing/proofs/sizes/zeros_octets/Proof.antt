@@ -20,7 +20,8 @@ others-requires c κs = search needs
 zeros-plan-requires : tie.Need-zeros-plan-requires
 zeros-plan-requires c κs =
     let s = c .before .before .before .before .before in
-    let words = row-flags (s .args .mask) (s .pre .0 .0) (c .before .before .before .plus-zero .ensures) (c .before .before .others .ensures) in
+    let words = row-flags (s .args .mask) (s .pre .0 .0) (c .before .before .before .plus-zero .ensures)
+    (c .before .before .others .ensures) in
     (s .pre .0, (s .pre .1, (words, refl)))
 
 octets-for-requires : tie.Need-octets-for-requires
