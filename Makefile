@@ -8,11 +8,12 @@ RUN_WITH ?= $(if $(filter x86_64,$(MACHINE)),,tools/x86-64)
 BIN ?= target/bin
 export CARGO_TARGET_DIR := $(CURDIR)/target/cargo
 
-.PHONY: help run test archive vectors linked fuzz bench fmt clean
+.PHONY: help run test faults archive vectors linked fuzz bench fmt clean
 
 help:
 	@echo 'make run     proves and builds the tools, packs, lists and unpacks a recording, and lists the example stream'
 	@echo 'make test    the gate: every proof and every test; the last line counts them'
+	@echo 'make faults  tries every edit that the prover must refuse, or those of CRATES= some crates, and the fact that each names'
 	@echo 'make fuzz    proved code and second program on drawn inputs, for FUZZ_SECONDS=60, from FUZZ_SEED'
 	@echo 'make bench   the times of both, in one run, as tables for docs/BENCHMARKS.md; PARTS= of frames few linear store long mend why file'
 	@echo 'make vectors compares the published test signals in FOLDER= with both, file by file'
@@ -34,6 +35,10 @@ run:
 
 test:
 	@bash .ci/run
+
+# CRATES='store tables': their edits alone.
+faults:
+	@RT='$(RT)' tools/faults $(CRATES)
 
 # rt builds nothing that is built already.
 archive:

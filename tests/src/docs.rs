@@ -5,13 +5,15 @@ mod edits;
 mod header;
 mod names;
 mod pages;
+mod proofs;
 mod rooms;
 mod statements;
 
-pub use edits::{edits, first_errors};
+pub use edits::{edit_heads, edits, facts, LOGS, MOST};
 pub use header::{limits, refusals, reports};
 pub use names::names;
 pub use pages::{landings, pages};
+pub use proofs::proofs;
 pub use rooms::rooms;
 pub use statements::statements;
 
@@ -28,8 +30,10 @@ impl Files {
     pub fn read(root: &Path) -> Files {
         let mut files = Files(BTreeMap::new());
         files.add(root, root, &|path| !path.starts_with("target") && !path.starts_with(".git"));
-        let tried = root.join("target/must-fail");
-        files.add(root, &tried, &|path| path.components().count() <= 4 || path.ends_with(".log"));
+        for tried in LOGS {
+            let label = Path::new(tried).components().count() + 2;
+            files.add(root, &root.join(tried), &|path| path.components().count() <= label || path.ends_with(".log"));
+        }
         files
     }
 
@@ -85,11 +89,13 @@ pub struct Held {
     pub faults: Vec<String>,
     /// What could not be held, since there was nothing to hold it against.
     pub left_out: usize,
+    /// What need not be there to be held against: logs of edits that the gate does not try.
+    pub not_tried: usize,
 }
 
 impl Held {
     fn new(what: &'static str) -> Held {
-        Held { what, count: 0, faults: Vec::new(), left_out: 0 }
+        Held { what, count: 0, faults: Vec::new(), left_out: 0, not_tried: 0 }
     }
 
     /// One thing more that is held.
@@ -108,7 +114,7 @@ impl Held {
 
 /// Every check, in the order of this page.
 pub fn all(files: &Files) -> Vec<Held> {
-    let checks = [statements, names, edits, first_errors, rooms, refusals, limits, reports, landings, pages];
+    let checks = [statements, names, edits, edit_heads, facts, rooms, refusals, limits, reports, landings, pages, proofs];
     checks.iter().map(|check| check(files)).collect()
 }
 

@@ -1,29 +1,31 @@
 //! The docs against the files that they speak of: statements, names, edits and their errors, rooms, the header's
 //! numbers, the landings. Then the checks themselves, on a small repository with one thing wrong at a time.
 
-use tests::docs::{all, Files, Held};
+use tests::docs::{all, Files, Held, LOGS, MOST};
 use tests::program::repository;
 use tests::say;
 
-/// The gate sets this: it has tried every edit, so every log must be there.
+/// The gate sets this: it has tried every edit of must-fail, so the log of each must be there.
 const TRIED: &str = "EDITS_TRIED";
 
 #[test]
 fn the_docs_are_true() {
     let files = Files::read(&repository());
     let held = all(&files);
-    for Held { what, count, left_out, .. } in &held {
+    for Held { what, count, left_out, not_tried, .. } in &held {
         say(&format!("compared: docs, {what}: {count} held\n"));
-        if *left_out > 0 {
-            say(&format!("compared: docs, {what}: {left_out} left out: rt must-fail has left no log of them\n"));
+        for (missing, by) in [(left_out, "rt must-fail"), (not_tried, "make faults")] {
+            if *missing > 0 {
+                say(&format!("compared: docs, {what}: {missing} left out: {by} has left no log of them\n"));
+            }
         }
     }
     let faults = faults(&held);
     assert!(faults.is_empty(), "{} differences\n{}", faults.len(), faults.join("\n"));
-    for Held { what, count, left_out, .. } in held {
+    for Held { what, count, left_out, not_tried, .. } in held {
         // The landings come with the first request.
         let none_yet = what == "landings" && !files.has("docs/LANDINGS.md");
-        assert!(count + left_out > 0 || none_yet, "{what}: nothing was held");
+        assert!(count + left_out + not_tried > 0 || none_yet, "{what}: nothing was held");
         assert!(left_out == 0 || std::env::var_os(TRIED).is_none(), "{what}: {left_out} logs are missing");
     }
 }
@@ -39,7 +41,7 @@ fn small() -> Files {
 }
 
 /// What is planted: the start of the name of the check that must see it, a file, a text in it, and another for that.
-const PLANTED: [(&str, &str, &str, &str); 40] = [
+const PLANTED: [(&str, &str, &str, &str); 61] = [
     // Another statement, one that is only the start of what is proved, a field too many.
     ("statements", "docs/PROMISES.md", "n ≡ n", "n ≡ 0"),
     ("statements", "crates/promises/proofs/Back.antt", "→ n ≡ n", "→ n ≡ n → n ≡ n"),
@@ -54,17 +56,35 @@ const PLANTED: [(&str, &str, &str, &str); 40] = [
     ("names", "docs/CONTRACTS.md", "rules: `read`", "rules: `write`"),
     ("names", "crates/rules/specs/Walk.antt", "longest :", "longer :"),
     ("names", "crates/rules/src/lib.rt", "fn read", "fn reads"),
-    // Edits: not kept, not named, named twice, of another crate, not kept and named in PAPER.
-    ("must-fail", "docs/CONTRACTS.md", "`too_long`", "`too_wide`"),
-    ("must-fail", "docs/CONTRACTS.md", "| g7110, `too_short` |", "| `too_short` |"),
-    ("must-fail", "docs/CONTRACTS.md", "| g7110, `too_short` |", "| rules, `too_long` |"),
-    ("must-fail", "docs/PAPER.md", "`too_long`", "`too_wide`"),
-    // First errors: of another law, another file, another need, another function, and for the shape alone.
-    ("errors of the edits", "docs/CONTRACTS.md", "Back, `back`", "Back, `other`"),
-    ("errors of the edits", "docs/CONTRACTS.md", "Back, `back`", "Other, `back`"),
-    ("errors of the edits", "docs/CONTRACTS.md", "`returns-2`", "`returns`"),
-    ("errors of the edits", "docs/CONTRACTS.md", "`g7110_read`, ", ""),
-    ("errors of the edits", "target/must-fail/rules/too_long/.log", "the two types differ", "tie has no `Need-returns`"),
+    // Edits: not kept, not named, named twice, in the other folder, of another crate, of none, twins; not kept and named
+    // in PAPER, the first and a later one.
+    ("edits as", "docs/CONTRACTS.md", "`too_long`", "`too_wide`"),
+    ("edits as", "docs/CONTRACTS.md", "; g7110, `too_short`.", "."),
+    ("edits as", "docs/CONTRACTS.md", "`too_short`.", "`too_short`, `too_short`."),
+    ("edits as", "docs/CONTRACTS.md", "`too_short`. Others: ", "`too_short`, "),
+    ("edits as", "docs/CONTRACTS.md", "; g7110, `too_short`", ", `too_short`"),
+    ("edits as", "docs/CONTRACTS.md", "; g7110, `too_short`", "; `too_short`"),
+    ("edits as", "crates/rules/faults/too_long.edit", "", "One octet more."),
+    ("edits as", "docs/PAPER.md", "`too_long`", "`too_wide`"),
+    ("edits as", "docs/PAPER.md", "g7110, `too_narrow`", "g7110, `too_wide`"),
+    ("edits as", "docs/PAPER.md", "g7110, `too_narrow`", "rules, `too_narrow`"),
+    // Their heads: nothing wrong, no fact, two, a fact that is none, one that has more after it, another folder.
+    ("heads", "crates/rules/must-fail/too_long.edit", "One octet more.\n", ""),
+    ("heads", "crates/rules/must-fail/too_long.edit", "fails: Back, `back`\n", ""),
+    ("heads", "crates/rules/must-fail/too_long.edit", "file: ", "fails: Back, `back`\nfile: "),
+    ("heads", "crates/g7110/must-fail/too_short.edit", "`g7110_read`, ", ""),
+    ("heads", "crates/g7110/must-fail/too_short.edit", "`returns-2`", "`returns-2`: 0 against 1"),
+    ("heads", "crates/rules/edits/too_wide.edit", "", "One column more.\nfails: Back, `back`\n"),
+    // The facts: of another law, another file, another need, another function, of the spec, of a note; for the shape
+    // alone; by the other log.
+    ("facts", "crates/rules/must-fail/too_long.edit", "Back, `back`", "Back, `other`"),
+    ("facts", "crates/rules/must-fail/too_long.edit", "Back, `back`", "Other, `back`"),
+    ("facts", "crates/g7110/must-fail/too_short.edit", "`returns-2`", "`returns`"),
+    ("facts", "crates/g7110/must-fail/too_short.edit", "`g7110_read`", "`g7110_walk`"),
+    ("facts", "crates/g7110/faults/too_narrow.edit", "`g7110_read-spec`", "`returns`"),
+    ("facts", "crates/g7110/faults/too_flat.edit", "`returns-3`", "`returns-4`"),
+    ("facts", "target/must-fail/rules/too_long/.log", "the two types differ", "tie has no `Need-returns`"),
+    ("facts", "target/faults/target/must-fail/g7110/too_short/.log", "g7110_read", "g7110_walk"),
     // Rooms: a crate that is not listed, one that is not there, one above what it stands on, another room.
     ("rooms", "README.md", "crates/rules, crates/promises", "crates/rules"),
     ("rooms", "README.md", "crates/g7110", "crates/g7110, crates/bits"),
@@ -87,6 +107,13 @@ const PLANTED: [(&str, &str, &str, &str); 40] = [
     ("landings", "docs/LANDINGS.md", "812 s", "BEFORE s"),
     ("landings", "docs/landings/R-01.md", "1,020 s", "more"),
     ("lines", "docs/PAPER.md", "Reading.", "Reading /home/someone."),
+    // Proofs: an alias, a name and an operator that nothing reads, a let, a position, a long way without a name.
+    ("proofs", "crates/promises/proofs/read/Proof.antt", "Tie as tie", "Tie as tie\nuse Rattle.rules.proofs.read.Reads as reads"),
+    ("proofs", "crates/promises/proofs/read/Proof.antt", "{ℕ, ", "{ℕ, suc, "),
+    ("proofs", "crates/promises/proofs/read/Proof.antt", "1 + 1", "1"),
+    ("proofs", "crates/promises/proofs/read/Proof.antt", "s .known n", "s .known 2"),
+    ("proofs", "crates/promises/proofs/read/Proof.antt", "returns : ", "-- src/lib.rt:47:5\nreturns : "),
+    ("proofs", "crates/promises/proofs/read/Proof.antt", "start c in", "c .before .before .before .before .before .before in"),
 ];
 
 #[test]
@@ -104,10 +131,30 @@ fn each_difference_is_found() {
     say(&format!("compared: docs, planted differences: {}, each found\n", PLANTED.len()));
 }
 
+/// The gate's are left out; those that it does not try were not tried.
 #[test]
 fn a_log_that_is_missing_is_told() {
+    for (path, wanted) in [("rules/too_long", (1, 0)), ("g7110/too_narrow", (0, 1))] {
+        let mut files = small();
+        LOGS.iter().for_each(|place| files.put(&format!("{place}/{path}/.log"), String::new()));
+        let held = all(&files);
+        assert!(faults(&held).is_empty());
+        let missing: (usize, usize) = held.iter().fold((0, 0), |(l, n), held| (l + held.left_out, n + held.not_tried));
+        assert_eq!(missing, wanted, "{path}");
+    }
+}
+
+/// As many edits as the gate may have, and one more.
+#[test]
+fn too_many_edits_are_told() {
     let mut files = small();
-    files.put("target/must-fail/rules/too_long/.log", String::new());
-    let left_out: usize = all(&files).iter().map(|held| held.left_out).sum();
-    assert_eq!(left_out, 1);
+    for number in 2..=MOST {
+        let none = faults(&all(&files));
+        assert!(none.is_empty(), "{number} edits\n{}", none.join("\n"));
+        let one_more = "One more.\nfails: Back, `back`\n".to_string();
+        files.put(&format!("crates/rules/must-fail/more_{number}.edit"), one_more);
+        let named = format!("`too_long`,\n  `more_{number}`");
+        files.put("docs/CONTRACTS.md", files.text("docs/CONTRACTS.md").replacen("`too_long`", &named, 1));
+    }
+    assert_eq!(faults(&all(&files)).len(), 1);
 }

@@ -43,8 +43,7 @@ holds-none s at n {w} {good} z e =
 
 -- eight octets, shifted up to a place among them
 pub holds-opened : (s : List ℕ) (at n from skip : ℕ) {w good : ℕ} → Ahead 64 (bitsOf s) (8 * from) w → at ≡ 8 * from + skip
-    → skip < 64 → good ≤ 64 - skip
-    → good ≤ 8 * length s - at → 32 ≤ n → Holds s at n (w * 2 ^ skip % 2 ^ 64) good
+    → skip < 64 → good ≤ 64 - skip → good ≤ 8 * length s - at → 32 ≤ n → Holds s at n (w * 2 ^ skip % 2 ^ 64) good
 holds-opened s at n from skip {w} {good} a e h g t b =
     record {
       same = λ j l.
@@ -97,8 +96,7 @@ from-one {w} {z} s l h m =
 
 -- the run of a code that stands whole at the word's start
 pub rice-held : (o : List ℕ) (at n s : ℕ) {w good z : ℕ} → Holds o at n w good → z ≡ leadingZeros 32 (w / 2 ^ 32) → z < 32
-    → s ≤ 9 → z + (s + 1) ≤ good
-    → rice n s (bitsOf o) at ≡ whole (runIn w z s) (at + (z + (s + 1)))
+    → s ≤ 9 → z + (s + 1) ≤ good → rice n s (bitsOf o) at ≡ whole (runIn w z s) (at + (z + (s + 1)))
 unfolding rice
 rice-held o at n s {w} {good} {z} t c h m g =
     let b = bitsOf o in

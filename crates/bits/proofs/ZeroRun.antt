@@ -1,5 +1,5 @@
 -- The zeros of a code that begins at `at`, after k of them are read: one more, several more (zeros-skip), and how they end.
-use Prim.Native.Nat.{ℕ, zero, suc, _+_, _*_, _-_, _/_, _≤_, _<_, max}
+use Prim.Native.Nat.{ℕ, zero, suc, _+_, _*_, _-_, _/_, _≤_, _<_, max, zero-le}
 use mathlib.Core.Path.{_≡_, sym, _∙_, ap}
 use mathlib.Core.List.{List}
 use native.Mathlib.Omega.{arith}
@@ -12,6 +12,9 @@ use Rattle.rules.specs.Bits.{bitsOf}
 use Rattle.rules.specs.Reading.{whole, refuse}
 use Rattle.rules.specs.Runs.{zerosFrom}
 use Rattle.rules.proofs.Octets.{length-bitsOf}
+use Rattle.bits.specs.declared.Outcome.{Outcome}
+use Rattle.bits.specs.declared.Outcome.the-variants.{Got, Refused}
+use Rattle.bits.specs.Outcomes.{Reads}
 use Rattle.bits.specs.Windows.{Ahead}
 use Rattle.bits.proofs.Leading.{Lead, lead-zero, lead-one}
 use Rattle.bits.proofs.OneBit.{bit-there, bit-missing}
@@ -62,8 +65,15 @@ one-there s i o = go (decLe (8 * length s) i)
         let q : _≡_ {A = ℕ} 0 1 = sym (List·getD-eq-default (bitsOf s) 0 {n = i} l) ∙ o in
         absurd (omega arith)
 
--- what a window of 32 bits tells of the zeros, z of them being counted in it
-module _ (s : List ℕ) (at n k : ℕ) {w z : ℕ} (a : Ahead 32 (bitsOf s) (at + k) w) (l : Lead 32 w z) where
+-- what a window of 32 bits tells of the zeros, z of them being counted in it, once k are read
+module _ (s : List ℕ) (at n k : ℕ) {w z : ℕ} (a : Ahead 32 (bitsOf s) (at + k) w) (l : Lead 32 w z)
+    (so-far : zerosFrom at 0 (n + 1) (bitsOf s) at ≡ zerosFrom at k (n + 1 - k) (bitsOf s) (at + k)) where
+  abbrev Zeros-read : Outcome → Type 0
+  Zeros-read r = Reads (zerosFrom at 0 (n + 1) (bitsOf s) at) n (at + n + 1) r
+
+  run-read : zerosFrom at k (n + 1 - k) (bitsOf s) (at + k) ≡ refuse Run at → Zeros-read (Refused Run at)
+  run-read e = record { says = sym (so-far ∙ e); value = zero-le; next = zero-le }
+
   none-before : (i : ℕ) → i < z → getD (bitsOf s) (at + k + i) 0 ≡ 0
   none-before i h = let m = l .most in sym (a .same i (omega arith)) ∙ lead-zero l i h
 
@@ -73,43 +83,44 @@ module _ (s : List ℕ) (at n k : ℕ) {w z : ℕ} (a : Ahead 32 (bitsOf s) (at 
         let e : at + k + z ≡ at + (k + z) = omega arith in
         ap (λ (i : ℕ). getD (bitsOf s) i 0) (sym e) ∙ sym (a .same z h) ∙ lead-one l h
 
-    pub window-one : k + z ≤ n → zerosFrom at k (n + 1 - k) (bitsOf s) (at + k) ≡ whole (k + z) (at + k + z + 1)
+    pub window-one : k + z ≤ n → Zeros-read (Got (k + z) (at + k + z + 1))
     window-one m =
         let e : at + (k + z) ≡ at + k + z = omega arith in
         let t = one-there s (at + (k + z)) one-after in
-        zeros-skip s at n k z (omega arith) (omega arith) none-before ∙ zeros-one s at n (k + z) m (omega arith) one-after
-        ∙ ap (λ (x : ℕ). whole (k + z) (x + 1)) e
+        let one = zeros-skip s at n k z (omega arith) (omega arith) none-before ∙ zeros-one s at n (k + z) m (omega arith) one-after
+        ∙ ap (λ (x : ℕ). whole (k + z) (x + 1)) e in
+        record { says = sym (so-far ∙ one); value = m; next = omega arith }
 
-    pub window-run : k ≤ n → n < k + z → zerosFrom at k (n + 1 - k) (bitsOf s) (at + k) ≡ refuse Run at
+    pub window-run : k ≤ n → n < k + z → Zeros-read (Refused Run at)
     window-run m p =
         let t = one-there s (at + (k + z)) one-after in
-        zeros-skip s at n k (n + 1 - k) (omega arith) (omega arith) (λ i g. none-before i (omega arith))
-        ∙ zeros-run s at n (k + (n + 1 - k)) (omega arith)
+        run-read (zeros-skip s at n k (n + 1 - k) (omega arith) (omega arith) (λ i g. none-before i (omega arith))
+        ∙ zeros-run s at n (k + (n + 1 - k)) (omega arith))
 
   -- no one in the window
   module _ (h : 32 ≤ z) (m : k ≤ n) where
-    pub window-short : length s ≤ (at + k + (n - k)) / 8 → length s ≤ (at + k + 31) / 8
-        → zerosFrom at k (n + 1 - k) (bitsOf s) (at + k) ≡ refuse Short (max (at + k) (8 * length s))
-    window-short p q =
-        go (decLe (at + k) (8 * length s))
+    pub window-short : {end : ℕ} → end ≡ max (at + k) (8 * length s) → length s ≤ (at + k + (n - k)) / 8 → length s ≤ (at + k + 31) / 8
+        → Zeros-read (Refused Short end)
+    window-short {end} x p q =
+        record { says = sym (so-far ∙ go (decLe (at + k) (8 * length s))); value = zero-le; next = zero-le }
       where
         j : ℕ
         j = 8 * length s - (at + k)
 
-        go : Dec (at + k ≤ 8 * length s) → zerosFrom at k (n + 1 - k) (bitsOf s) (at + k) ≡ refuse Short (max (at + k) (8 * length s))
+        go : Dec (at + k ≤ 8 * length s) → zerosFrom at k (n + 1 - k) (bitsOf s) (at + k) ≡ refuse Short end
         go (no r) =
-            let e : max (at + k) (8 * length s) ≡ at + k = omega arith in
+            let e : end ≡ at + k = omega arith in
             zeros-short s at n k m (omega arith) ∙ ap (λ (x : ℕ). refuse Short x) (sym e)
         go (yes r) =
-            let e : max (at + k) (8 * length s) ≡ at + (k + j) = omega arith in
+            let e : end ≡ at + (k + j) = omega arith in
             zeros-skip s at n k j (omega arith) (omega arith) (λ i g. none-before i (omega arith))
             ∙ zeros-short s at n (k + j) (omega arith) (omega arith) ∙ ap (λ (x : ℕ). refuse Short x) (sym e)
 
-    pub window-all-run : n < k + 32 → (at + n) / 8 < length s → zerosFrom at k (n + 1 - k) (bitsOf s) (at + k) ≡ refuse Run at
+    pub window-all-run : n < k + 32 → (at + n) / 8 < length s → Zeros-read (Refused Run at)
     window-all-run p t =
-        zeros-skip s at n k (n + 1 - k) (omega arith) (omega arith) (λ i g. none-before i (omega arith))
-        ∙ zeros-run s at n (k + (n + 1 - k)) (omega arith)
+        run-read (zeros-skip s at n k (n + 1 - k) (omega arith) (omega arith) (λ i g. none-before i (omega arith))
+        ∙ zeros-run s at n (k + (n + 1 - k)) (omega arith))
 
     pub window-more : k + 32 ≤ n → (at + k + 31) / 8 < length s
-        → zerosFrom at k (n + 1 - k) (bitsOf s) (at + k) ≡ zerosFrom at (k + 32) (n + 1 - (k + 32)) (bitsOf s) (at + (k + 32))
-    window-more p t = zeros-skip s at n k 32 (omega arith) (omega arith) (λ i g. none-before i (omega arith))
+        → zerosFrom at 0 (n + 1) (bitsOf s) at ≡ zerosFrom at (k + 32) (n + 1 - (k + 32)) (bitsOf s) (at + (k + 32))
+    window-more p t = so-far ∙ zeros-skip s at n k 32 (omega arith) (omega arith) (λ i g. none-before i (omega arith))

@@ -1,5 +1,5 @@
 -- Lent samples that are being overwritten with those of a list in turn: i of the list, then what was lent.
-use Prim.Native.Nat.{ℕ, suc, _+_, _-_, _≤_, _<_, zero-le}
+use Prim.Native.Nat.{ℕ, suc, _+_, _≤_, _<_, zero-le}
 use mathlib.Core.Path.{_≡_, refl, sym, ap, subst, _∙_}
 use mathlib.Core.List.{List, _++_}
 use native.Mathlib.Omega.{arith}
@@ -47,8 +47,7 @@ module _ {l old : List ℕ} {i : ℕ} {new : List ℕ} (p : Poured l old i new) 
 
 -- a list put in at the start
 pub fills-put : {l old new : List ℕ} → Put old 0 l new → {found : Read (List ℕ)} {far n next : ℕ} → found ≡ whole l next
-    → length l ≡ n → n ≤ 320 → next ≤ far
-    → FillsBody found far old new (Got n next)
+    → length l ≡ n → n ≤ 320 → next ≤ far → FillsBody found far old new (Got n next)
 fills-put {l} {old} p {next = next} e s h k =
     rw e (record { end = ap (λ (x : ℕ). Got x next) (sym s); next = k; samples = (p .made ∙ rw zero-add, rw s h) })
 
@@ -58,8 +57,7 @@ pub fills-refused : {found : Read (List ℕ)} {far : ℕ} {old new : List ℕ} {
 fills-refused e h = rw e (record { end = refl; next = zero-le; samples = h })
 
 pub fills-as : {found other : Read (List ℕ)} {near far : ℕ} {old new : List ℕ} {r : Outcome} → FillsBody other near old new r
-    → found ≡ other → near ≤ far
-    → FillsBody found far old new r
+    → found ≡ other → near ≤ far → FillsBody found far old new r
 fills-as {far = far} {old = old} {new = new} {r = r} t e k =
     subst (λ (m : Read (List ℕ)). FillsBody m far old new r) (sym e)
     (record { end = t .end; next = let n = t .next in omega arith; samples = t .samples })

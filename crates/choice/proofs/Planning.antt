@@ -52,8 +52,7 @@ located-as e p = rw e p
 pub zeros-planned : {mask set n : ℕ} {s runs : List ℕ} {rice : Zeros} {one six five : Choice} {h₆ h₅ : Bool} → mask < 128
     → twoZeros mask s ≡ true → length s ≡ n → n ≤ 320
     → RiceFor mask set s rice runs → one ≡ record { tool = 1; bits = 8 + 8 * n } → h₆ ≡ holds set 6 → BetterIs one 6 h₆ (rice .bits) six
-    → h₅ ≡ holds set 5 → BetterIs six 5 h₅ (8 + n) five
-    → ZerosFor mask (choose mask set s measured) s
+    → h₅ ≡ holds set 5 → BetterIs six 5 h₅ (8 + n) five → ZerosFor mask (choose mask set s measured) s
     (record { tool = five .tool; bits = five .bits; mark = rice .mark; s = rice .s; count = rice .count }) runs
 zeros-planned {mask} {set} {n} {s} {runs} {rice} {h₆ = h₆} {h₅ = h₅} seven zeros size few riced e₁ e₆ b₆ e₅ b₅ =
     let on : applies mask 6 s ≡ true = zeros-apply mask s ∙ zeros in
@@ -155,8 +154,7 @@ module _ (mask set : ℕ) (s : List ℕ) {n : ℕ} {one : Choice} (size : length
       }
 
   pub last-row : {k b : ℕ} {best : Choice} → holds set 11 ≡ true → k ≡ fractionalRow mask s → k < rowCount n → b ≡ 8 + bodyBits k n
-      → BetterIs one 11 true b best
-      → LastIs mask set s (record { choice = best; row = k })
+      → BetterIs one 11 true b best → LastIs mask set s (record { choice = best; row = k })
   last-row {k} held row h e better =
       let on = row-applies mask s size row h in
       let offered : true ≡ (holds set 11 && applies mask 11 s) = rw (held, on) in

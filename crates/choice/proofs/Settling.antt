@@ -150,8 +150,7 @@ module _ (mask : ℕ) (s : List ℕ) where
     last = refl
 
     pub won : (t : ℕ) (ts : List ℕ) → (holds set t && applies mask t s) ≡ true
-        → octetsOfForm mask s t ≤ octetsOfForm mask s (choose mask set s ts)
-        → choose mask set s (t ∷ ts) ≡ t
+        → octetsOfForm mask s t ≤ octetsOfForm mask s (choose mask set s ts) → choose mask set s (t ∷ ts) ≡ t
     unfolding choose
     won t ts e h = rw (e, le-leb (octetsOfForm mask s t) (octetsOfForm mask s (choose mask set s ts)) h)
 
@@ -325,8 +324,7 @@ module _ {mask set first r : ℕ} {s : List ℕ} (o : OneValue mask set first s)
       (o .three) (o .four) (sym told ∙ zero′)
     where
       go : (a b c : Bool) → (holds set 2 && applies mask 2 s) ≡ a → (holds set 3 && applies mask 3 s) ≡ b
-          → (holds set 4 && applies mask 4 s) ≡ c
-          → _≡_ {A = ℕ} (cond a 2 (cond b 3 (cond c 4 0))) 0 → NoValue mask set s
+          → (holds set 4 && applies mask 4 s) ≡ c → _≡_ {A = ℕ} (cond a 2 (cond b 3 (cond c 4 0))) 0 → NoValue mask set s
       go true b c e f g z = absurd (omega (arith, z))
       go false true c e f g z = absurd (omega (arith, z))
       go false false true e f g z = absurd (omega (arith, z))
@@ -350,8 +348,7 @@ whole-few : (t n : ℕ) → n ≤ 320 → cond (eqb t 1) (8 + 8 * n) (cond (eqb 
 whole-few t n h = of-two (λ b. b ≤ 1000000000) (eqb t 1) (omega arith) (of-two (λ b. b ≤ 1000000000) (eqb t 4) (omega arith) (omega arith))
 
 pub settled-chosen : {mask set t b n : ℕ} {s : List ℕ} → Plain mask set s t → length s ≡ n → n ≤ 320
-    → b ≡ cond (eqb t 1) (8 + 8 * n) (cond (eqb t 4) 16 8) → (t ≡ 0 → ⊥)
-    → Chosen mask (chosenTool mask set s) s t b
+    → b ≡ cond (eqb t 1) (8 + 8 * n) (cond (eqb t 4) 16 8) → (t ≡ 0 → ⊥) → Chosen mask (chosenTool mask set s) s t b
 settled-chosen {mask} {set} {t} {b} {n} {s} p size few told some =
     let e = p .settled some in
     record {

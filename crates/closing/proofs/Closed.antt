@@ -167,6 +167,5 @@ module _ {size : ℕ} {b₀ t₀ : List ℕ} (o : Ordered size t₀) (fits : siz
           }
 
       pub close-turn : {b′ : List ℕ} {r : Row} {d : ℕ} → r ≡ rowAt t (1 + 3 * i) → b′ ≡ paste b to (drop (r .start) b) (r .octets)
-          → d ≡ movedOne (r .start) to (r .octets)
-          → Closing size b₀ t₀ (i + 1) b′ (set t (1 + 3 * i + 1) to) (to + r .octets) (m + d)
+          → d ≡ movedOne (r .start) to (r .octets) → Closing size b₀ t₀ (i + 1) b′ (set t (1 + 3 * i + 1) to) (to + r .octets) (m + d)
       close-turn e f g = rw (f, g, e ∙ row-here) close-turn₀

@@ -15,8 +15,7 @@ unfolding written
 lifted chunk xs e = ap (λ (l : List ℕ). xs ++ l) (drop-of-length-le chunk {i = 0 + length xs} (omega arith)) ∙ append-nil xs
 
 pub hop-all : {chunk xs b′ : List ℕ} (b chunk₀ : List ℕ) (from to k : ℕ) → from + k ≤ length b → length chunk₀ ≡ k
-    → xs ≡ take k (drop from b)
-    → chunk ≡ written chunk₀ 0 xs → b′ ≡ written b to chunk → b′ ≡ paste b to (drop from b) k
+    → xs ≡ take k (drop from b) → chunk ≡ written chunk₀ 0 xs → b′ ≡ written b to chunk → b′ ≡ paste b to (drop from b) k
 unfolding written
 hop-all {chunk} {xs} b chunk₀ from to k h l x c e =
     let src = take k (drop from b) in
@@ -27,8 +26,7 @@ hop-all {chunk} {xs} b chunk₀ from to k h l x c e =
 
 -- k octets more
 pub shift-on : {b b′ b″ : List ℕ} {from to n i : ℕ} (k : ℕ) → Shifting b from to n i b′
-    → b″ ≡ paste b′ (to + i) (drop (from + i) b′) k → to ≤ from
-    → from + n ≤ length b → i + k ≤ n → Shifting b from to n (i + k) b″
+    → b″ ≡ paste b′ (to + i) (drop (from + i) b′) k → to ≤ from → from + n ≤ length b → i + k ≤ n → Shifting b from to n (i + k) b″
 shift-on {b} {b′} {b″} {from} {to} {n} {i} k s m h f g =
     let src = drop from b in
     let l = length-drop from b in

@@ -37,8 +37,7 @@ cuts-none n s e = enough (length s) (suc (length s)) n s (omega arith) (omega ar
 pub cuts-next : (n l : ℕ) (s : List ℕ) → nextLength n (length s) ≡ l → 1 ≤ l → cuts n s ≡ take l s ∷ cuts n (drop l s)
 unfolding cuts cutsFrom
 cuts-next n l s e h =
-    enough (length s) (suc (length s)) n s (omega arith) (omega arith)
-    ∙ rw (e, ne-eqb l 0 (omega arith))
+    enough (length s) (suc (length s)) n s (omega arith) (omega arith) ∙ rw (e, ne-eqb l 0 (omega arith))
     (ap (λ (x : List (List ℕ)). take l s ∷ x)
     (enough (length s) (length (drop l s)) n (drop l s) (omega (arith, length-drop l s)) (omega arith)))
 
@@ -119,5 +118,4 @@ cuts-multiple n (suc k) a i e =
     let whole : n ≤ length a = omega (arith, e) in
     let rest : length (drop n a) ≡ k * n = length-drop n a ∙ omega (arith, e) in
     ap soundIn (cuts-next n n a (next-whole n (length a) i whole) m)
-    ∙ ap (λ (x : List ℕ). take n a ++ x) (cuts-multiple n k (drop n a) i rest)
-    ∙ take-append-drop n a
+    ∙ ap (λ (x : List ℕ). take n a ++ x) (cuts-multiple n k (drop n a) i rest) ∙ take-append-drop n a

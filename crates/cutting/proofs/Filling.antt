@@ -17,9 +17,7 @@ fill-done {sound₀} {len = len} {more = more} {plus = plus} {i = i} f g e p =
     record {
       added = e;
       lent =
-          f .is ∙ ap (paste sound₀ len z) n
-          ∙ ap (λ (x : List ℕ). take len sound₀ ++ x ++ drop (len + more) sound₀)
-          (take-all more z (omega (arith, length-replicate more plus)))
-          ∙ append-assoc (take len sound₀) z (drop (len + more) sound₀)
+          f .is ∙ ap (paste sound₀ len z) n ∙ ap (λ (x : List ℕ). take len sound₀ ++ x ++ drop (len + more) sound₀)
+          (take-all more z (omega (arith, length-replicate more plus))) ∙ append-assoc (take len sound₀) z (drop (len + more) sound₀)
           ∙ rw (e, p) refl;
     }

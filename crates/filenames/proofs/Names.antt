@@ -30,7 +30,6 @@ module _ (packs : Bool) (law : ℕ) (name : List ℕ) where
   name-appended e t l = rw (eq-eqb _ _ t, l)
 
   pub name-replaced : (at : ℕ) (e : List ℕ) → (lawTold packs name ≡ 2 → ⊥) → at ≡ endingAt name → 4 ≡ length e
-      → e ≡ 0x2E ∷ newEnding packs law
-      → take at name ++ take 3 (drop 1 e) ≡ newName packs law name
+      → e ≡ 0x2E ∷ newEnding packs law → take at name ++ take 3 (drop 1 e) ≡ newName packs law name
   unfolding newName
   name-replaced at e t p n l = rw (ne-eqb _ _ t, take-all 3 (drop 1 e) (omega (arith, length-drop 1 e)), p, l)

@@ -51,8 +51,7 @@ pub not-given : (law set room : ℕ) (g : Given) → isGiven g ≡ false → dec
 not-given law set room wrong e = refl
 not-given law set room (given es) e = let z : _≡_ {A = ℕ} 0 1 = cc in absurd (omega arith)
 
-all-sized : (law set room : ℕ) (g : Given) → isGiven g ≡ true
-    → fileGiven law set g room
+all-sized : (law set room : ℕ) (g : Given) → isGiven g ≡ true → fileGiven law set g room
     ≡ sized (headingOf law ++ entriesOctets (maskOf law) set (entriesOf g)) (length (entriesOctets (maskOf law) set (entriesOf g))) room
 all-sized law set room wrong e = let z : _≡_ {A = ℕ} 0 1 = cc in absurd (omega arith)
 all-sized law set room (given es) e = refl

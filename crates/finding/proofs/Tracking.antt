@@ -123,8 +123,7 @@ pub record InWord (flags runs : List ℕ) (t : Track) (w end : ℕ) : Type 0 whe
   pub within : left ≤ 40
 
 pub in-first : (row runs : List ℕ) (t : Track) (i : ℕ) → i < length row → getD row i 0 < 2 ^ 40
-    → TrackIs (rowBits (take i row)) runs t (40 * i)
-    → InWord (rowBits (take (i + 1) row)) runs t (getD row i 0) (40 * (i + 1))
+    → TrackIs (rowBits (take i row)) runs t (40 * i) → InWord (rowBits (take (i + 1) row)) runs t (getD row i 0) (40 * (i + 1))
 unfolding rowBits
 in-first row runs t i h small k =
     let e : 40 * (i + 1) - 40 ≡ 40 * i = omega arith in
@@ -139,8 +138,7 @@ in-first row runs t i h small k =
 
 module _ {flags runs : List ℕ} {t : Track} {w end : ℕ} (n : InWord flags runs t w end) where
   pub in-one : (j p : ℕ) {r : Track} {runs′ : List ℕ} → 40 ≤ end → end ≤ 320 → 2 ^ j ≤ w → w < 2 ^ (j + 1) → p + (j + 1) ≡ end
-      → Closes t p runs r runs′
-      → InWord flags runs′ r (w - 2 ^ j) end
+      → Closes t p runs r runs′ → InWord flags runs′ r (w - 2 ^ j) end
   in-one j p {r} {runs′} low most lo hi e c =
       let z = n .left - (j + 1) in
       let below = top-below (n .left) j w lo (n .fits) in

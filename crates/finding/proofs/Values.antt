@@ -27,8 +27,7 @@ without-append : (x : ℕ) (l m : List ℕ) → without x (l ++ m) ≡ without x
 unfolding without
 without-append x [] m = refl
 without-append x (y ∷ l) m =
-    without-cons x y (l ++ m) (eqb y x) refl
-    ∙ step (eqb y x) (without-append x l m)
+    without-cons x y (l ++ m) (eqb y x) refl ∙ step (eqb y x) (without-append x l m)
     ∙ ap (λ (k : List ℕ). k ++ without x m) (sym (without-cons x y l (eqb y x) refl))
   where
     step : (b : Bool) → without x (l ++ m) ≡ without x l ++ without x m

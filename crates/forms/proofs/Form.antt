@@ -69,8 +69,7 @@ module _ (n : ℕ) (s : List ℕ) (r : Zeros) (row runs : List ℕ) where
   rice-form {mask} size i =
       let form : ℕ → ℕ → ℕ → List ℕ → List ℕ = λ n mark S runs. riceCode n mark ++ (codeOf n S ++ riceForms S runs) in
       let rs = take (r .count) runs in
-      ap (λ (k : ℕ). form k (r .mark) (r .s) rs) (sym size)
-      ∙ ap (λ (m : ℕ). form (length s) m (r .s) rs) (i .mark)
+      ap (λ (k : ℕ). form k (r .mark) (r .s) rs) (sym size) ∙ ap (λ (m : ℕ). form (length s) m (r .s) rs) (i .mark)
       ∙ ap (λ (S : ℕ). form (length s) (markOf mask s) S rs) (i .best)
       ∙ ap (form (length s) (markOf mask s) (bestS mask (markOf mask s) s)) (i .found .says)
 

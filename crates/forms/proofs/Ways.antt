@@ -104,8 +104,7 @@ module _ {flags runs : List ℕ} {d count m : ℕ} (e : runsOf 0 flags ≡ runs)
   way-form = go (eqb m 5) (eqb m 0) (leb m 4) (eqb-true m 5) (eqb-false m 5) (eqb-true m 0) (eqb-false m 0) (leb-true m 4) (leb-false m 4)
     where
       go : (a b c : Bool) → (a ≡ true → m ≡ 5) → (a ≡ false → m ≡ 5 → ⊥) → (b ≡ true → m ≡ 0) → (b ≡ false → m ≡ 0 → ⊥)
-          → (c ≡ true → m ≤ 4) → (c ≡ false → 4 < m)
-          → cond a (lowBits 3 5)
+          → (c ≡ true → m ≤ 4) → (c ≡ false → 4 < m) → cond a (lowBits 3 5)
           (cond b (lowBits 3 0 ++ marksForm count runs)
           (cond c (lowBits 3 m ++ riceForms m runs) (lowBits 5 (28 + count - 1) ++ listedForm (widthOf d) count runs)))
           ≡ valueForm flags

@@ -29,8 +29,7 @@ pack-whole {l} b =
     ∙ ap (octetsFrom (length l)) (append-nil (bitsOf l)) ∙ octetsFrom-bitsOf b
 
 pub whole-packed : {o o′ : List ℕ} {n : ℕ} (l : List ℕ) → ((i : ℕ) → getD o′ i 0 < 256) → n ≡ length l → take n o′ ≡ l
-    → drop n o′ ≡ drop n o
-    → Packed (bitsOf l) o o′ n
+    → drop n o′ ≡ drop n o → Packed (bitsOf l) o o′ n
 whole-packed {o} {o′} {n} l octets size same rest =
     let k = length-bitsOf l in
     let b : Below 256 l = rw same at (below-take n (below-all o′ octets)) in

@@ -1,5 +1,5 @@
 -- Digits read are below R', so an array that agrees with the row's samples below R' serves as well.
-use Prim.Native.Nat.{ℕ, zero, suc, _+_, _-_, _^_, _/_, _<_}
+use Prim.Native.Nat.{ℕ, zero, suc, _^_, _/_, _<_}
 use mathlib.Core.Path.{_≡_, refl, sym, ap, ap₂, _∙_}
 use mathlib.Core.List.{List, [], _∷_, _++_, map}
 use mathlib.Core.Bool.{Bool, true, false, cond}
@@ -61,8 +61,7 @@ six-at mask low below (suc (suc (suc (suc (suc zero))))) h = refl
 six-at mask low below (suc (suc (suc (suc (suc (suc d)))))) h = absurd (omega arith)
 
 pub body-as : (mask k n : ℕ) {values : List ℕ} {r : ℕ} → k < 12 → values ≡ six mask (lowAt k) (belowAt k) → r ≡ radix k
-    → (bits : List ℕ) (at : ℕ)
-    → fractional mask k n bits at ≡ groupsOf values r n bits at
+    → (bits : List ℕ) (at : ℕ) → fractional mask k n bits at ≡ groupsOf values r n bits at
 body-as mask k n {values} {r} h e f bits at =
     let range = radix-range k h in
     rw (e, f) (groups-values (samplesAt mask k) (six mask (lowAt k) (belowAt k)) (radix k) (groupOf (radix k))

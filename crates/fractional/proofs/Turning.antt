@@ -1,5 +1,5 @@
 -- Groups read one after another: what is done, and what is left of the reading.
-use Prim.Native.Nat.{ℕ, zero, suc, _+_, _*_, _-_, _^_, _/_, _%_, _≤_, _<_}
+use Prim.Native.Nat.{ℕ, zero, suc, _+_, _*_, _^_, _/_, _%_, _≤_, _<_}
 use mathlib.Core.Path.{_≡_, refl, sym, _∙_}
 use mathlib.Core.List.{List, [], _++_, map, map-append}
 use native.Mathlib.Omega.{arith}
@@ -15,8 +15,7 @@ use Rattle.runs.specs.Flagged.{Put}
 use Rattle.runs.proofs.Puts.{put-none, put-one, put-then, put-length}
 use Rattle.bodies.specs.Bodied.{FillsBody}
 use Rattle.bodies.proofs.Poured.{fills-put, fills-refused}
-use Rattle.rules.specs.Fractional.{digitsOf, groupsFrom, groupsAs}
-use Rattle.rules.specs.Fractional.{Packs}
+use Rattle.rules.specs.Fractional.{digitsOf, groupsFrom, groupsAs, Packs}
 use Rattle.rules.proofs.Fractional.{length-digits}
 
 pub record Filling (values bits : List ℕ) (at r g w n : ℕ) (old new : List ℕ) (filled place : ℕ) : Type 0 where
@@ -59,16 +58,14 @@ module _ (values bits : List ℕ) (at r g w n filled place : ℕ) where
   placed-at (suc m) done says left h {v} {next} e f = let s = rw (e, le-ltb v (r ^ g) f) at says in rw s
 
   all-at : (more : ℕ) (done : List ℕ) → groupsFrom r g w [] (n / g) bits at ≡ groupsFrom r g w done more bits place
-      → filled + more * g ≡ n → n ≤ filled → 1 ≤ g
-      → groupsAs values r g w n bits at ≡ whole (map (λ d. getD values d 0) done) place
+      → filled + more * g ≡ n → n ≤ filled → 1 ≤ g → groupsAs values r g w n bits at ≡ whole (map (λ d. getD values d 0) done) place
   unfolding groupsFrom groupsAs
   all-at zero done says left h o = rw says
   all-at (suc m) done says left h o = absurd (omega (arith, suc-mul m g, o))
 
 module _ {values bits : List ℕ} {at r g w n : ℕ} {old new : List ℕ} {filled place : ℕ} (p : Packs r g w n) (k : length old ≡ 320) where
   turned : (more : ℕ) (done : List ℕ) → groupsFrom r g w [] (n / g) bits at ≡ groupsFrom r g w done more bits place
-      → length done ≡ filled → filled + more * g ≡ n
-      → Put old 0 (map (λ d. getD values d 0) done) new → place ≤ at + 13 * filled
+      → length done ≡ filled → filled + more * g ≡ n → Put old 0 (map (λ d. getD values d 0) done) new → place ≤ at + 13 * filled
       → filled < n → {v next : ℕ} → numberFrom 0 w bits place ≡ whole v next → v < r ^ g → next ≤ place + w
       → {after : List ℕ} → Put new filled (map (λ d. getD values d 0) (digitsOf r g v)) after → length after ≡ 320
       → Filling values bits at r g w n old after (filled + g) next
@@ -97,8 +94,7 @@ module _ {values bits : List ℕ} {at r g w n : ℕ} {old new : List ℕ} {fille
   filling-turn t h e f o q room = turned (t .more) (t .done) (t .says) (t .size) (t .left) (t .put) (t .near) h e f o q room
 
   pub filling-refused : Filling values bits at r g w n old new filled place → filled < n → {why : Refusal} {b far : ℕ}
-      → numberFrom 0 w bits place ≡ refuse why b
-      → FillsBody (groupsAs values r g w n bits at) far old new (Refused why b)
+      → numberFrom 0 w bits place ≡ refuse why b → FillsBody (groupsAs values r g w n bits at) far old new (Refused why b)
   filling-refused t h e =
       fills-refused (refused-at values bits at r g w n filled place (t .more) (t .done) (t .says) (t .left) h e) (t .room)
 

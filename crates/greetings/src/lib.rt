@@ -1,4 +1,4 @@
-// What may be a greeting (document 02, R-6): "1 or more octets that the walk accepts with set 127".
+// What may be a greeting (document 02, R-6): "1 or more octets that the walk accepts"; with all tools, since R-14 set 255.
 ghost use mathlib.Core.Path.{_≡_};
 ghost use Rattle.greetings.specs.Bad.{isDone, isBad};
 use rules::Ending;

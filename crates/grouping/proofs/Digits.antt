@@ -64,8 +64,7 @@ map-told f g e [] b = refl
 map-told f g e (x ∷ s) (more h b) = ap₂ _∷_ (e x h) (map-told f g e s b)
 
 pub digits-told : {mask : ℕ} → LawMask mask → (k : ℕ) → k < 12 → {row : Row} → RowIs k row → (s : List ℕ)
-    → Below (radix k) (map (placeIn (samplesAt mask k)) s)
-    → map (placeIn (samplesAt mask k)) s ≡ digitsIn mask row s
+    → Below (radix k) (map (placeIn (samplesAt mask k)) s) → map (placeIn (samplesAt mask k)) s ≡ digitsIn mask row s
 digits-told {mask} l k h {row} is s b =
     rw (is .low, is .below)
     (map-told (placeIn (samplesAt mask k)) (λ x. digitFor (lowAt k) (belowAt k) (signed mask x)) (λ x p. digit-told l k x h p) s b)

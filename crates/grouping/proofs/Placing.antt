@@ -108,8 +108,7 @@ module _ (f : ℕ → ℕ) (s : List ℕ) (r g w n from : ℕ) {o o′ : List �
       able-then w a puts size (omega arith)
 
   turned : (m : ℕ) (done : List ℕ) → done ++ groupsForm r g w m (drop from (map f s)) ≡ groupsForm r g w (n / g) (map f s)
-      → from + m * g ≡ n
-      → Puts o p done o′ p′ → length o′ ≡ length o → from < n → {v : ℕ} {o″ : List ℕ} {p″ : Pen}
+      → from + m * g ≡ n → Puts o p done o′ p′ → length o′ ≡ length o → from < n → {v : ℕ} {o″ : List ℕ} {p″ : Pen}
       → v ≡ ofDigits r (take g (drop from (map f s)))
       → Puts o′ p′ (lowBits w v) o″ p″ → length o″ ≡ length o′ → Putting f s r g w n o p o″ p″ (from + g)
   unfolding groupsForm

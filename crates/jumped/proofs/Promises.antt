@@ -23,8 +23,8 @@ use Rattle.jumping.specs.Jump.{jumpIn, jumpAmong}
 use Rattle.jumping.specs.Whole.{Named}
 use Rattle.jumping.proofs.Whole.{jump-named}
 use Rattle.keeping.specs.Told.{Call, Store, rowsIn, seeAll, fresh}
-use Rattle.keeping.specs.Kept.{here, noted}
-use Rattle.keeping.proofs.Promises.{Keeps, all-kept}
+use Rattle.keeping.specs.Kept.{noted}
+use Rattle.keeping.proofs.Promises.{Keeps, all-kept, here-same}
 use Rattle.jumped.specs.Jumped.{There, samplesIn, jumpInto, Jumped, unnumbered, unheld, beyond, within}
 use Rattle.jumped.proofs.Pairs.{Stands, stands}
 
@@ -77,15 +77,12 @@ pub all-jumps : (b : List ℕ) (cells : ℕ) (cs : List Call) → storeCells (si
 all-jumps b cells cs h x sample = jump-tells (all-kept b cells cs h) x sample
 
 -- one greeting of a number, with one law
-same-octets : {o p : List ℕ} → here o ≡ here p → o ≡ p
-same-octets e = cc
-
 same-note : {m n : Note} → noted m ≡ noted n → m ≡ n
 same-note e = cc
 
 pub there-one : {s : Store} {x : ℕ} (g h : There s x) → (g .law ≡ h .law) × (g .octets ≡ h .octets)
 there-one g h =
-    (ap (λ (n : Note). n .law) (same-note (sym (g .knows) ∙ h .knows)), same-octets (sym (g .reads) ∙ h .reads))
+    (ap (λ (n : Note). n .law) (same-note (sym (g .knows) ∙ h .knows)), here-same (sym (g .reads) ∙ h .reads))
 
 -- no other answer
 not-done : {w : Refusal} {a b c d : ℕ} {A : Type 0} → Done a b c d ≡ Refused w → A

@@ -86,8 +86,7 @@ module _ {size : ℕ} {t : List ℕ} (k : Noted size t) (z : size ≤ largestBlo
 
   -- in the greeting at place i
   pub row-at : (b : List ℕ) (sample : ℕ) {r g : Row} {law first : ℕ} {a : Answer} → r ≡ rowAt t (1 + 3 * i)
-      → g ≡ rowAt (drop 97 t) (1 + 3 * i)
-      → law ≡ getD t (98 + 3 * i) 0 → first ≡ 194 + 2 * marksHeld (rowsAt (drop 97 t) i 1)
+      → g ≡ rowAt (drop 97 t) (1 + 3 * i) → law ≡ getD t (98 + 3 * i) 0 → first ≡ 194 + 2 * marksHeld (rowsAt (drop 97 t) i 1)
       → a ≡ jumpIn (take (r .start + r .octets - r .start) (drop (r .start) b))
       (noteIn law (g .start) (g .octets) (take (length t - first) (drop first t))) sample
       → a ≡ jumpIn (greeting b (nth i (rowsOf t))) (nthNote i (notesOf t)) sample

@@ -127,8 +127,7 @@ module _ (law : ℕ) (xs : List ℕ) (good : isBad law xs ≡ false) where
 
     before-next : before (k + 1) ≡ before k + length (samplesKept here)
     before-next =
-        ap (λ (x : List Delivered). length (samplesKept x)) then
-        ∙ ap length (samplesKept-append (parts law xs k .frames) here)
+        ap (λ (x : List Delivered). length (samplesKept x)) then ∙ ap length (samplesKept-append (parts law xs k .frames) here)
         ∙ length-append (samplesKept (parts law xs k .frames)) (samplesKept here)
 
     abbrev more-marks : List Mark
@@ -144,8 +143,7 @@ module _ (law : ℕ) (xs : List ℕ) (good : isBad law xs ≡ false) where
     mark-is =
         let p = marksOf (parts law xs k .frames) in
         let e : k ≡ length p + 0 = omega (arith, along .count) in
-        ap (nthMark k) marks-are
-        ∙ ap (λ (j : ℕ). nthMark j (p ++ (markOf (at k) (before k) ∷ more-marks))) e
+        ap (nthMark k) marks-are ∙ ap (λ (j : ℕ). nthMark j (p ++ (markOf (at k) (before k) ∷ more-marks))) e
         ∙ getD-append-add p (markOf (at k) (before k) ∷ more-marks) 0 (markOf 0 0)
 
     pub mark-there : k < length marks

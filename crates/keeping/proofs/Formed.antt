@@ -2,7 +2,7 @@
 --   `form-exactly`, `form-by-block`: a saved table begins with `form=2` exactly when a start, a count of octets or the block exceeds
 --   65,535.
 --   `same-store`: with the line and without it a table gives the same store, where both are allowed.
---   `old-first-line`, `old-refuses`: the older reader refuses every text that begins so, at its first line, with TABLE.
+--   `old-refuses`: the older reader refuses every text that begins so, at its first line, with TABLE.
 --   `old-alike`, `old-takes`: it reads every other text as the new one does, so also what is saved of a block of up to 16,384 octets.
 use Prim.Native.Nat.{ℕ, _≤_}
 use mathlib.Core.Path.{_≡_, refl, sym, ap, _∙_}
@@ -12,21 +12,20 @@ use native.Mathlib.Omega.{arith}
 use lib.ListN.{length}
 use lib.Dec.{ltb}
 use borrow.Author.Tests.{le-ltb}
-use Rattle.rows.specs.Limits.{largestBlock, mostNumber, sizeOf}
+use Rattle.rows.specs.Limits.{largestBlock, sizeOf}
 use Rattle.rows.specs.Cells.{rowsOf}
 use Rattle.notes.specs.Cells.{notesOf}
 use Rattle.notes.specs.Sane.{storeCells, saneStore}
 use Rattle.store.specs.declared.Refusal.the-variants.{Table}
 use Rattle.store.specs.Store.{Outcome, refused}
-use Rattle.keyvalue.specs.Reading.{none, begins}
-use Rattle.keyvalue.specs.Lines.{ranged}
-use Rattle.tables.specs.Table.{promptWord, mostPlace}
+use Rattle.keyvalue.specs.Reading.{begins}
+use Rattle.tables.specs.Table.{mostPlace}
 use Rattle.tables.specs.Noted.{Listed, rowsListed, listing, listedText}
 use Rattle.tables.specs.Form.{formLine, needsForm, savedText}
 use Rattle.tables.proofs.Exact.{Sayable, Each}
 use Rattle.tables.proofs.Noted.{SayableAll}
 use Rattle.tables.proofs.Noting.{rows-listing}
-use Rattle.tables.proofs.Formed.{unformed, listed-begins, form-by-size, old-line, old-rows, old-noted}
+use Rattle.tables.proofs.Formed.{unformed, listed-begins, form-by-size, old-rows, old-noted}
 use Rattle.saved.specs.Saved.{saved, declined, saveOf, loadOf}
 use Rattle.saved.specs.Old.{oldBlock, oldSizeOf, oldCells, oldLoadOf}
 use Rattle.keeping.proofs.Granted.{sane-rows, sane-count}
@@ -77,9 +76,6 @@ same-store b t xs h l =
         (record { row = row; law = g .0 .law; samples = g .0 .samples; marks = g .0 .marks }, each-wider ys (g .1))
 
 -- "THE OLD TABLE READER MUST REFUSE A form=2 TABLE AT ITS FIRST LINE WITH TABLE"
-pub old-first-line : (rest : List ℕ) → ranged promptWord 1 mostNumber (formLine ++ rest) 0 ≡ none
-old-first-line rest = old-line rest
-
 either : (s : Bool) {A : Type 0} (x : A) → cond s x x ≡ x
 either true x = refl
 either false x = refl

@@ -35,8 +35,7 @@ split-here {want} {size} {lo} {i} {rows} e f g h =
     rw (e, f) (record { k = 0; index = omega arith; over = omega arith; inside = g; below = rising-nil 1 lo lo; above = h })
 
 split-later : {want size lo i : ℕ} {r : Row} {rows : List Row} {j s : ℕ} → Next 1 lo size r
-    → Split want size (r .start + r .octets) (i + 1) rows j s
-    → Split want size lo i (r ∷ rows) j s
+    → Split want size (r .start + r .octets) (i + 1) rows j s → Split want size lo i (r ∷ rows) j s
 split-later {want} {size} {lo} {i} {r} {rows} {j} {s} n p =
     record {
       k = suc (p .k);
@@ -61,8 +60,7 @@ no-split : {want size lo i : ℕ} {rows : List Row} {j s : ℕ} → At j s ≡ N
 no-split e = let z : _≡_ {A = ℕ} 0 1 = cc in absurd (omega arith)
 
 pub gap-split : (want size lo i : ℕ) (rows : List Row) {j s : ℕ} → lo ≤ size → rising 1 lo size rows ≡ true
-    → At j s ≡ gapFrom want size lo i rows
-    → Split want size lo i rows j s
+    → At j s ≡ gapFrom want size lo i rows → Split want size lo i rows j s
 unfolding gapFrom
 gap-split want size lo i [] g h e =
     gap-cases want size lo i [] size (ltb size (lo + want)) refl (λ q. (q, rising-nil 1 (lo + want) size)) no-split e
@@ -104,8 +102,7 @@ module _ (b xs : List ℕ) (size x : ℕ) (rows : List Row) (j s : ℕ) (f : siz
       let l : s + length xs ≤ length b = omega (arith, g .inside) in
       let r = rowOf x s (length xs) in
       rw at-k (contents-append w (take (g .k) rows) (r ∷ drop (g .k) rows)
-      ∙ ap (λ (y : List Kept). contents w (take (g .k) rows) ++ y) (contents-cons w r (drop (g .k) rows))
-      ∙ rw (
+      ∙ ap (λ (y : List Kept). contents w (take (g .k) rows) ++ y) (contents-cons w r (drop (g .k) rows)) ∙ rw (
         below-reads b xs s l (take (g .k) rows) 0 (g .below),
         above-reads b xs s l (drop (g .k) rows) (s + length xs) size (omega arith) (g .above),
         own-part b xs s l,

@@ -42,8 +42,7 @@ use Rattle.rows.proofs.Lists.{passed, both}
 use Rattle.rows.proofs.Cells.{length-rows}
 use Rattle.closing.proofs.Closed.{length-closed}
 use Rattle.keeping.proofs.Rising.{rising-nil, rising-join, rising-remove, closing-rises}
-use Rattle.keeping.proofs.Rising.{held-append, held-cons, held-closed, held-inserted}
-use Rattle.keeping.proofs.Rising.{held-within}
+use Rattle.keeping.proofs.Rising.{held-append, held-cons, held-closed, held-inserted, held-within}
 use Rattle.keeping.proofs.Numbers.{Fresh, Distinct, fresh-of, distinct-of}
 use Rattle.keeping.proofs.Numbers.{numbered-of, fresh-closed, distinct-closed, inserted-distinct}
 use Rattle.keeping.proofs.Numbers.{distinct-remove, FoundAt, find-split}
@@ -51,7 +50,7 @@ use Rattle.keeping.proofs.Contents.{kept, contents-append, contents-con
 use Rattle.keeping.proofs.Contents.{length-written, below-reads, own-part}
 use Rattle.keeping.proofs.Gaps.{gap-inside, gap-rises, gap-reads}
 
-no-outcome : {A : Type 0} {w : Refusal} {a : After} → refused w ≡ leaves a → A
+pub no-outcome : {A : Type 0} {w : Refusal} {a : After} → refused w ≡ leaves a → A
 no-outcome e = let z : _≡_ {A = ℕ} 0 1 = cc in absurd (omega arith)
 
 -- a table that calls leave
@@ -119,8 +118,7 @@ put-granted b t law x xs a e =
     (leb 32 (length (rowsOf t))) refl (ltb (sizeOf b) (held (rowsOf t) + length xs)) refl e
   where
     go : (s : Bool) → saneStore (sizeOf b) t ≡ s → (l : Bool) → isLaw law ≡ l → (n : Bool) → isNumber x ≡ n → (f : Bool)
-        → absent x (rowsOf t) ≡ f
-        → (g : Bool) → isBad law xs ≡ g
+        → absent x (rowsOf t) ≡ f → (g : Bool) → isBad law xs ≡ g
         → (q : Bool) → leb 32 (length (rowsOf t)) ≡ q → (r : Bool) → ltb (sizeOf b) (held (rowsOf t) + length xs) ≡ r
         → cond (not s) (refused Table)
         (cond (not l) (refused Law) (cond (not n) (refused Number) (cond (not f) (refused taken) (cond g (refused Bad)
@@ -299,8 +297,7 @@ module _ (b t : List ℕ) (law x : ℕ) (xs : List ℕ) {a : After} (e : putOf b
       let big : held rows + length xs ≤ length b₁ =
       omega (arith, granted .room, closed-length b rows (sizeOf b) (ordered .rises) (omega arith)) in
       let c : contents w (done ++ (r ∷ [])) ≡ contents b rows ++ (kept x xs ∷ contents b []) =
-      contents-append w done (r ∷ [])
-      ∙ rw (
+      contents-append w done (r ∷ []) ∙ rw (
         contents-cons w r [],
         below-reads b₁ xs (held rows) big done 0 h,
         closing-reads b rows (sizeOf b) (ordered .rises) (omega arith),
@@ -325,8 +322,7 @@ delete-gone b t x a e = go (saneStore (sizeOf b) t) refl (isNumber x) refl (abse
   where
     go : (s : Bool) → saneStore (sizeOf b) t ≡ s → (n : Bool) → isNumber x ≡ n → (f : Bool) → absent x (rowsOf t) ≡ f
         → cond (not s) (refused Table) (cond (not n) (refused Number) (cond f (refused Absent)
-        (leaves (without b (rowsOf t) (notesOf t) (findFrom x 0 (rowsOf t)))))) ≡ leaves a
-        → Gone b t x a
+        (leaves (without b (rowsOf t) (notesOf t) (findFrom x 0 (rowsOf t)))))) ≡ leaves a → Gone b t x a
     go false s′ n n′ f f′ e = no-outcome e
     go true s′ false n′ f f′ e = no-outcome e
     go true s′ true n′ true f′ e = no-outcome e
@@ -450,8 +446,7 @@ get-got b t x a e = go (saneStore (sizeOf b) t) refl (isNumber x) (absent x (row
   where
     go : (s : Bool) → saneStore (sizeOf b) t ≡ s → (n : Bool) → (f : Bool) → absent x (rowsOf t) ≡ f
         → cond (not s) (refused Table) (cond (not n) (refused Number) (cond f (refused Absent)
-        (leaves (gotten b (rowsOf t) (notesOf t) (nth (findFrom x 0 (rowsOf t)) (rowsOf t)))))) ≡ leaves a
-        → Got b t x a
+        (leaves (gotten b (rowsOf t) (notesOf t) (nth (findFrom x 0 (rowsOf t)) (rowsOf t)))))) ≡ leaves a → Got b t x a
     go false s′ n f f′ e = no-outcome e
     go true s′ false f f′ e = no-outcome e
     go true s′ true true f′ e = no-outcome e

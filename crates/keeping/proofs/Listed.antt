@@ -10,18 +10,13 @@ use borrow.Author.Tests.{eq-eqb}
 use Rattle.rows.specs.declared.Row.{Row}
 use Rattle.rows.specs.Rows.{greeting, contents}
 use Rattle.greetings.specs.Bad.{isBad}
-use Rattle.marks.specs.Marks.{Mark, Note, noteOf}
+use Rattle.marks.specs.Marks.{Note, noteOf}
 use Rattle.notes.specs.Notes.{True}
 use Rattle.tables.specs.Noted.{Listed, rowsListed, notesListed, listing}
-use Rattle.saved.specs.Saved.{anyBad, sameMarks, sameNote, allTrue, earlyLaw, early}
+use Rattle.saved.specs.Saved.{anyBad, sameNote, allTrue}
 use Rattle.keeping.specs.Kept.{Along, Good}
 use Rattle.rows.proofs.Lists.{both}
-use Rattle.saved.proofs.Bad.{note-same}
-
-marks-self : (ms : List Mark) → sameMarks ms ms ≡ true
-unfolding sameMarks
-marks-self [] = refl
-marks-self (m ∷ ms) = rw (eq-eqb (m .octets) (m .octets) refl, eq-eqb (m .samples) (m .samples) refl) (marks-self ms)
+use Rattle.saved.proofs.Bad.{note-same, marks-self}
 
 note-self : (n : Note) → sameNote n n ≡ true
 note-self n = rw (eq-eqb (n .samples) (n .samples) refl) (marks-self (n .marks))
@@ -83,14 +78,3 @@ pub notes-listed : (xs : List Listed) → length (notesListed xs) ≡ length xs
 unfolding notesListed
 notes-listed [] = refl
 notes-listed (x ∷ xs) = ap suc (notes-listed xs)
-
--- R-6's lines: their greetings, and what the walk by law 1 gives
-pub early-rows : (b : List ℕ) (rows : List Row) → rowsListed (early b rows) ≡ rows
-unfolding rowsListed early
-early-rows b [] = refl
-early-rows b (r ∷ rows) = ap (λ (x : List Row). r ∷ x) (early-rows b rows)
-
-pub early-true : (b : List ℕ) (rows : List Row) → allTrue b (early b rows) ≡ true
-unfolding allTrue early
-early-true b [] = refl
-early-true b (r ∷ rows) = rw (note-self (noteOf earlyLaw (greeting b r))) (early-true b rows)

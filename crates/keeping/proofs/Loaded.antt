@@ -23,7 +23,6 @@ use Rattle.notes.specs.Cells.{headOf, heads, stored}
 use Rattle.notes.specs.Sane.{storeCells, matched, saneStore}
 use Rattle.notes.proofs.Noting.{heads-cons}
 use Rattle.notes.proofs.Pairs.{matched-nil, matched-cons}
-use Rattle.store.specs.declared.Refusal.{Refusal}
 use Rattle.store.specs.declared.Refusal.the-variants.{Bad, Table}
 use Rattle.store.specs.Store.{Outcome, leaves, refused, After}
 use Rattle.keyvalue.specs.Reading.{Read, whole, none, andThen}
@@ -35,14 +34,15 @@ use Rattle.tables.specs.Form.{formOf, formedIn}
 use Rattle.tables.proofs.Exact.{table-only}
 use Rattle.tables.proofs.Noting.{length-rows-listed}
 use Rattle.saved.specs.Saved.{anyBad, allTrue, early, loadIn, loadRead, loadOf}
+use Rattle.saved.proofs.Bad.{rows-early}
 use Rattle.rows.proofs.Rising.{rising-head}
 use Rattle.keeping.specs.Kept.{Good, Along}
 use Rattle.keeping.specs.Loading.{Lists, in-early, in-noted, Formed, loaded, Judged, unformed, bad, untrue, taken}
 use Rattle.keeping.proofs.Rising.{rising-nil, rising-cons}
 use Rattle.keeping.proofs.Numbers.{distinct-of}
 use Rattle.keeping.proofs.Contents.{length-greeting}
-use Rattle.keeping.proofs.Granted.{Stored, stored-back, stored-sane, good-some}
-use Rattle.keeping.proofs.Listed.{listed-good, listed-true, notes-listed, early-rows}
+use Rattle.keeping.proofs.Granted.{Stored, stored-back, stored-sane, good-some, no-outcome}
+use Rattle.keeping.proofs.Listed.{listed-good, listed-true, notes-listed}
 
 -- a text lists one list of greetings
 not-both : {A B : Type 0} {r : Read B} {x : B} {i : ℕ} → r ≡ none → r ≡ whole x i → A
@@ -147,9 +147,6 @@ pub record Took (text b t : List ℕ) (a : After) : Type 0 where
   pub true-marks : allTrue b xs ≡ true
   pub is : a ≡ loaded b xs
 
-no-outcome : {A : Type 0} {w : Refusal} {a : After} → refused w ≡ leaves a → A
-no-outcome e = let z : _≡_ {A = ℕ} 0 1 = cc in absurd (omega arith)
-
 pub load-took : (text b t : List ℕ) (a : After) → loadOf text b t ≡ leaves a → Took text b t a
 load-took text b t a e = go (loadOf text b t) (load-judged text b t) e
   where
@@ -216,7 +213,7 @@ few-from far (suc more) done text i xs j e = go (leb (length text) i) e (λ r k.
 
 lists-few : {text b : List ℕ} {xs : List Listed} → Lists text b xs → length xs ≤ 32
 lists-few {text} {b} (in-early {rows = rows} {i = i} e) =
-    let r = ap length (early-rows b rows) in
+    let r = ap length (rows-early b rows) in
     omega (arith, length-rows-listed (early b rows), table-only text rows i e .few)
 lists-few {text} {b} (in-noted {xs = xs} {i = i} e f) = few-from (formOf text .most) 32 [] text (formOf text .from) xs i f
 

@@ -104,8 +104,7 @@ module _ (b t : List ℕ) (x : ℕ) {a : After} (e : deleteOf b t x ≡ leaves a
   delete-notes-others y n =
       let m : found .row .number ≡ y → ⊥ = λ q. n (sym (found .number) ∙ q) in
       let o = nthNote (length (found .before)) (notesOf t) in
-      left-notes y
-      ∙ sym (under-other y (found .before) (found .row) (found .behind) before o behind (sym (delete-taken b t x e)) m)
+      left-notes y ∙ sym (under-other y (found .before) (found .row) (found .behind) before o behind (sym (delete-taken b t x e)) m)
       ∙ sym (ap (λ (l : List Row). noteUnder y l (before ++ (o ∷ behind))) (found .is))
       ∙ sym (ap (noteUnder y (rowsOf t)) (delete-parts b t x e))
 

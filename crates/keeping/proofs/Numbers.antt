@@ -57,8 +57,7 @@ fresh-insert x [] r c n f = (n, f)
 fresh-insert x (y ∷ a) r c n f = (f .0, fresh-insert x a r c n (f .1))
 
 distinct-insert : (a : List Row) (r : Row) (c : List Row) → 1 ≤ r .number → r .number ≤ mostNumber → Fresh (r .number) (a ++ c)
-    → Distinct (a ++ c)
-    → Distinct (a ++ (r ∷ c))
+    → Distinct (a ++ c) → Distinct (a ++ (r ∷ c))
 unfolding Distinct Fresh
 distinct-insert [] r c l h f d = (l, h, f, d)
 distinct-insert (y ∷ a) r c l h f d =
@@ -86,8 +85,7 @@ distinct-closed at (r ∷ rows) d =
     (d .0, d .1, fresh-closed (r .number) (at + r .octets) rows (d .2), distinct-closed (at + r .octets) rows (d .3))
 
 pub inserted-distinct : (i : ℕ) (r : Row) (rows : List Row) → 1 ≤ r .number → r .number ≤ mostNumber → Fresh (r .number) rows
-    → Distinct rows
-    → Distinct (insertAt i r rows)
+    → Distinct rows → Distinct (insertAt i r rows)
 inserted-distinct i r rows l h f d =
     let e = take-append-drop i rows in
     distinct-insert (take i rows) r (drop i rows) l h (rw e f) (rw e d)

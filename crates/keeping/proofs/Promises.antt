@@ -153,7 +153,7 @@ get-reads b t x a e =
     ap (lookUp x) w ∙ look-put x o (contents b (f .before)) (contents b (f .behind)) (fresh-missing x b (f .before) (n .0))
     ∙ ap here (sym q)
 
-here-same : {o p : List ℕ} → here o ≡ here p → o ≡ p
+pub here-same : {o p : List ℕ} → here o ≡ here p → o ≡ p
 here-same e = cc
 
 not-missing : {o : List ℕ} {A : Type 0} → missing ≡ here o → A
@@ -215,14 +215,12 @@ noroom-only b t law x xs e =
     (leb 32 (length (rowsOf t))) refl (ltb (sizeOf b) (held (rowsOf t) + length xs)) refl e
   where
     go : (s : Bool) → saneStore (sizeOf b) t ≡ s → (l : Bool) → isLaw law ≡ l → (n : Bool) → isNumber x ≡ n → (f : Bool)
-        → absent x (rowsOf t) ≡ f
-        → (g : Bool) → isBad law xs ≡ g
+        → absent x (rowsOf t) ≡ f → (g : Bool) → isBad law xs ≡ g
         → (q : Bool) → leb 32 (length (rowsOf t)) ≡ q → (r : Bool) → ltb (sizeOf b) (held (rowsOf t) + length xs) ≡ r
         → cond (not s) (refused Table)
         (cond (not l) (refused Law) (cond (not n) (refused Number) (cond (not f) (refused Taken) (cond g (refused Bad)
         (cond q (refused Full) (cond r (refused NoRoom) (leaves (fitted b (rowsOf t) (notesOf t) (sizeOf b) law x xs))))))))
-        ≡ refused NoRoom
-        → Unrefused b t law x xs × (sizeOf b < held (rowsOf t) + length xs)
+        ≡ refused NoRoom → Unrefused b t law x xs × (sizeOf b < held (rowsOf t) + length xs)
     go false s′ l l′ n n′ f f′ g g′ q q′ r r′ e = let z : _≡_ {A = ℕ} 0 1 = cc in absurd (omega arith)
     go true s′ false l′ n n′ f f′ g g′ q q′ r r′ e = let z : _≡_ {A = ℕ} 0 1 = cc in absurd (omega arith)
     go true s′ true l′ false n′ f f′ g g′ q q′ r r′ e = let z : _≡_ {A = ℕ} 0 1 = cc in absurd (omega arith)
@@ -260,8 +258,7 @@ pub record Keeps (size : ℕ) (s : Store) : Type 0 where
 
 -- a pair by pair of what an accepted call leaves, read from its table
 along-back : (b t : List ℕ) (rows : List Row) (notes : List Note) (p : Kept → Note → Type 0) → Stored rows notes t
-    → Along p (contents b rows) notes
-    → Along p (contents b (rowsOf (stored rows notes t))) (notesOf (stored rows notes t))
+    → Along p (contents b rows) notes → Along p (contents b (rowsOf (stored rows notes t))) (notesOf (stored rows notes t))
 along-back b t rows notes p z h = rw (z .rows-are, z .notes-are) h
 
 true-back : (b t : List ℕ) (rows : List Row) (notes : List Note) → Stored rows notes t → True (contents b rows) notes
@@ -421,8 +418,7 @@ unfolding putIn
 put-tables b size rows notes law x xs e =
     go (isLaw law) (isNumber x) (absent x rows) (isBad law xs) (leb 32 (length rows)) (ltb size (held rows + length xs)) e
   where
-    go : (l n f g q r : Bool)
-        → cond (not l) (refused Law)
+    go : (l n f g q r : Bool) → cond (not l) (refused Law)
         (cond (not n) (refused Number) (cond (not f) (refused Taken) (cond g (refused Bad) (cond q (refused Full)
         (cond r (refused NoRoom) (leaves (fitted b rows notes size law x xs))))))) ≡ refused Table → ⊥
     go false n f g q r e = let z : _≡_ {A = ℕ} 0 1 = cc in absurd (omega arith)
@@ -507,8 +503,7 @@ noted-loads text b t xs i a e g f =
 
 -- R-6's lines, saved again, are R-8's lines
 pub early-saved : (text b t : List ℕ) (rows : List Row) (i : ℕ) (a : After) → tableIn text ≡ whole rows i → loadOf text b t ≡ leaves a
-    → (room : ℕ)
-    → saveOf b (stored (a .rows) (a .notes) t) room ≡ saveIn (sizeOf b) (early b rows) room
+    → (room : ℕ) → saveOf b (stored (a .rows) (a .notes) t) room ≡ saveIn (sizeOf b) (early b rows) room
 early-saved text b t rows i a e f room =
     let z = load-back text b t f in
     let q = early-loads text b t rows i a e f in

@@ -26,12 +26,13 @@ use Rattle.tables.proofs.Formed.{formed-back, unformed-back, old-rows}
 use Rattle.saved.proofs.Compared.{bad-split}
 use Rattle.store.specs.Store.{leaves}
 use Rattle.saved.specs.Saved.{anyBad, early, loadOf}
+use Rattle.saved.proofs.Bad.{rows-early, true-early}
 use Rattle.keeping.specs.Kept.{Along, Good}
 use Rattle.keeping.specs.Loading.{Lists, in-early, in-noted, loaded}
 use Rattle.keeping.proofs.Rising.{rising-any}
 use Rattle.keeping.proofs.Numbers.{Distinct, numbered-of}
 use Rattle.keeping.proofs.Contents.{length-greeting}
-use Rattle.keeping.proofs.Listed.{good-listing, true-listing, notes-listing, length-listing, early-rows, early-true}
+use Rattle.keeping.proofs.Listed.{good-listing, true-listing, notes-listing, length-listing}
 use Rattle.keeping.proofs.Loaded.{lawful, load-taken-when}
 
 -- the numbers of greetings that rise, where no start and no count of octets exceeds 65,535
@@ -108,8 +109,7 @@ saved-lists b size rows notes z i f l h d g w = go (needsForm size (rowsListed (
 -- what save writes, load takes into any table that is long enough, and it is the same
 pub load-of : (b t : List ℕ) (rows : List Row) (notes : List Note) → storeCells (sizeOf b) ≤ length t → length rows ≤ 32
     → rising 1 0 (sizeOf b) rows ≡ true → Distinct rows → length notes ≡ length rows → Good (contents b rows) notes
-    → True (contents b rows) notes
-    → loadOf (savedText (sizeOf b) (listing rows notes)) b t ≡ leaves
+    → True (contents b rows) notes → loadOf (savedText (sizeOf b) (listing rows notes)) b t ≡ leaves
     (record { block = b; rows = rows; notes = notes; first = 0; second = 0 })
 load-of b t rows notes c f h d l g w =
     let e = rows-listing rows notes l in
@@ -117,18 +117,17 @@ load-of b t rows notes c f h d l g w =
     let m = saved-lists b (sizeOf b) rows notes (omega arith) (omega arith) f l h d g w in
     load-taken-when {t = t}
     (record { cells = c; lists = m; apart = rw e (rising-any 0 (sizeOf b) rows h); once = rw e (numbered-of rows d) })
-    (good-listing b rows notes g) (true-listing b rows notes w)
-    ∙ rw (e, k)
+    (good-listing b rows notes g) (true-listing b rows notes w) ∙ rw (e, k)
 
 -- R-6's text of greetings that the walk by law 1 accepts, in lines that can say them: taken, with what that walk gives
 pub early-of : (b t : List ℕ) (rows : List Row) → storeCells (sizeOf b) ≤ length t → length rows ≤ 32 → rising 1 0 (sizeOf b) rows ≡ true
     → Distinct rows → anyFar rows ≡ false → anyBad b (early b rows) ≡ false → loadOf (tableText rows) b t ≡ leaves (loaded b (early b rows))
 early-of b t rows c f h d z g =
-    let e = early-rows b rows in
+    let e = rows-early b rows in
     let s = each-sayable 0 (sizeOf b) rows z h d in
     load-taken-when {t = t} (record {
       cells = c;
       lists = in-early (table-back rows s f);
       apart = rw e (rising-any 0 (sizeOf b) rows h);
       once = rw e (numbered-of rows d);
-    }) g (early-true b rows)
+    }) g (true-early b rows)

@@ -92,8 +92,7 @@ writing-spares b xs at p h out = go (decLt p at) (decLt p (at + length xs))
 module _ (b t : List ℕ) (law x : ℕ) (xs : List ℕ) {a : After} (e : putOf b t law x xs ≡ leaves a) where
   stays-in : (g : Gap) → g ≡ lowestGap (length xs) (sizeOf b) (rowsOf t) → (p : ℕ)
       → (putAt b (rowsOf t) (notesOf t) law x xs g .first ≤ p → p < putAt b (rowsOf t) (notesOf t) law x xs g .first + length xs → ⊥)
-      → Passed p g (rowsOf t)
-      → getD (putAt b (rowsOf t) (notesOf t) law x xs g .block) p 0 ≡ getD b p 0
+      → Passed p g (rowsOf t) → getD (putAt b (rowsOf t) (notesOf t) law x xs g .block) p 0 ≡ getD b p 0
   stays-in (At i s) q p out k =
       let f = put-granted b t law x xs a e in
       let o = sane-rows (sizeOf b) t (f .sane) in
@@ -108,8 +107,7 @@ module _ (b t : List ℕ) (law x : ℕ) (xs : List ℕ) {a : After} (e : putOf b
 
   -- outside the new greeting's place, and what closing up writes where no gap holds it
   pub put-stays : (p : ℕ) → (a .first ≤ p → p < a .first + length xs → ⊥)
-      → Passed p (lowestGap (length xs) (sizeOf b) (rowsOf t)) (rowsOf t)
-      → getD (a .block) p 0 ≡ getD b p 0
+      → Passed p (lowestGap (length xs) (sizeOf b) (rowsOf t)) (rowsOf t) → getD (a .block) p 0 ≡ getD b p 0
   put-stays p out k =
       let i = put-granted b t law x xs a e .is in
       rw i (stays-in (lowestGap (length xs) (sizeOf b) (rowsOf t)) refl p (λ l h. out (rw i l) (rw i h)) k)

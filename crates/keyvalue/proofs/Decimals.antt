@@ -88,8 +88,7 @@ decimal-back zero i rest h e = refl
 decimal-back (suc n) i rest h e =
     let l : length (digitsFrom 20 (suc n) rest) ≡ length (decimal (suc n)) + length rest =
     ap length (sym (digits-before 20 (suc n) [] rest)) ∙ length-append (decimal (suc n)) rest in
-    ap (decimalOn i) (digits-before 20 (suc n) [] rest)
-    ∙ digits-back 20 (suc n) (length (decimal (suc n))) i rest (omega arith) h l
+    ap (decimalOn i) (digits-before 20 (suc n) [] rest) ∙ digits-back 20 (suc n) (length (decimal (suc n))) i rest (omega arith) h l
     ∙ digits-over (suc n) (i + length (decimal (suc n))) rest e
 
 -- What was read as a number: its digits, and how they are written.
@@ -179,8 +178,7 @@ decimal-only i [] n j h e = let z : _≡_ {A = ℕ} 0 1 = cc in absurd (omega ar
 decimal-only i (x ∷ text) n j h e = go (eqb x 48) refl (isDigit x) refl e
   where
     go : (s : Bool) → eqb x 48 ≡ s → (t : Bool) → isDigit x ≡ t
-        → cond s (whole 0 (i + 1)) (cond t (digitsOn (x - 48) (i + 1) text) none) ≡ whole n j
-        → Written i (x ∷ text) n j
+        → cond s (whole 0 (i + 1)) (cond t (digitsOn (x - 48) (i + 1) text) none) ≡ whole n j → Written i (x ∷ text) n j
     go true p t q e =
         let a : 0 ≡ n = cc in
         let b : i + 1 ≡ j = cc in

@@ -26,8 +26,7 @@ unfolding digitsOn
 digits-capped v i [] = ap (λ (n : ℕ). whole n i) (omega arith)
 digits-capped v i (x ∷ text) =
     go (isDigit x)
-    (digits-capped (10 * v + (x - 48)) (i + 1) text
-    ∙ ap (λ (n : ℕ). capped (digitsOn n (i + 1) text)) (omega arith)
+    (digits-capped (10 * v + (x - 48)) (i + 1) text ∙ ap (λ (n : ℕ). capped (digitsOn n (i + 1) text)) (omega arith)
     ∙ sym (digits-capped (10 * min v most + (x - 48)) (i + 1) text))
   where
     go : (b : Bool) → capped (digitsOn (10 * v + (x - 48)) (i + 1) text) ≡ capped (digitsOn (10 * min v most + (x - 48)) (i + 1) text)

@@ -1,5 +1,5 @@
 -- `-1 - v`, which takes y to -y - 1 and -y - 1 to y, and the sign of a number of 8 bits, as the code has them.
-use Prim.Native.Nat.{ℕ, zero, suc, _-_, _<_}
+use Prim.Native.Nat.{ℕ, _<_}
 use mathlib.Core.Path.{_≡_, refl, sym, ap, _∙_}
 use mathlib.Core.Bool.{true, false}
 use lib.IntN.{ℤ, pos, negsuc, _-ℤ_}
@@ -7,15 +7,9 @@ use lib.Signed.{ltZ}
 use mir.Syntax.{w8}
 use mir.Val.{SFits, toZ, ofZ}
 use mir.Facts.{toZ-ofZ, toZ-pos}
-use borrow.Author.Tests.{lt-leb, ltb-true}
+use borrow.Author.Tests.{ltb-true}
 use native.Mathlib.Omega.{arith}
-
-pub turned-pos : (y : ℕ) → negsuc 0 -ℤ pos y ≡ negsuc y
-turned-pos zero = refl
-turned-pos (suc y) = ap negsuc (omega arith)
-
-pub turned-neg : (y : ℕ) → negsuc 0 -ℤ negsuc y ≡ pos y
-turned-neg y = rw (lt-leb (suc (suc y)) 1 (omega arith)) (ap pos (omega arith))
+use Rattle.rules.proofs.Signed.{turned-neg}
 
 -- v is -y - 1, and turned it is y
 pub record Below (v : ℤ) : Type 0 where

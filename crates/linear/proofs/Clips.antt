@@ -1,6 +1,6 @@
 -- Values are clipped exactly outside the law's range: inside, m is the value's size with the bias; outside it is the clip,
 -- and the octet is that of the range's end.
-use Prim.Native.Nat.{ℕ, _+_, _-_, _≤_, _<_}
+use Prim.Native.Nat.{ℕ, _+_, _≤_, _<_}
 use mathlib.Core.Path.{_≡_, sym, _∙_}
 use native.Mathlib.Omega.{arith}
 use lib.IntN.{ℤ, pos, negsuc}

@@ -53,14 +53,12 @@ unfolding octetOf shrink sampleOf
 octet-above law {x} e i f g = rw (from-is law x, g, f, i, e)
 
 pub linear-above : {l : Constants} (law : ℕ) {o v : ℕ} → l ≡ constantsOf law → o < 256 → 128 ≤ o
-    → v ≡ levelOf (bitXor o (l .mask) % 128 + l .step)
-    → pos (v - l .bias) ≡ toPCM law o
+    → v ≡ levelOf (bitXor o (l .mask) % 128 + l .step) → pos (v - l .bias) ≡ toPCM law o
 unfolding linearOf grow signed
 linear-above law {o} e b h f = rw (to-is law o b, f, e, le-leb 128 o h)
 
 pub linear-below : {l : Constants} (law : ℕ) {o v : ℕ} → l ≡ constantsOf law → o < 256 → o < 128
-    → v ≡ levelOf (bitXor o (l .mask) % 128 + l .step)
-    → negℤ (pos (v - l .bias)) ≡ toPCM law o
+    → v ≡ levelOf (bitXor o (l .mask) % 128 + l .step) → negℤ (pos (v - l .bias)) ≡ toPCM law o
 unfolding linearOf grow signed
 linear-below law {o} e b h f = rw (to-is law o b, f, e, lt-leb 128 o h)
 

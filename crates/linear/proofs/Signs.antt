@@ -1,5 +1,5 @@
 -- Signed numbers of any width as the code has them: `x < 0`, `-1 - x`, `0 - v`.
-use Prim.Native.Nat.{ℕ, zero, suc, _+_, _-_, _<_, _^_}
+use Prim.Native.Nat.{ℕ, zero, suc, _<_, _^_}
 use mathlib.Core.Path.{_≡_, refl, sym, ap, _∙_}
 use mathlib.Core.Bool.{true, false}
 use lib.IntN.{ℤ, pos, negsuc, negℤ, natAbs, _-ℤ_, +ℤ-idl}
@@ -7,11 +7,9 @@ use lib.Signed.{ltZ, mag}
 use mir.Syntax.{Width}
 use mir.Val.{SFits, toZ, ofZ, hbits}
 use mir.Facts.{toZ-ofZ, toZ-pos}
-use borrow.Author.Tests.{lt-leb, ltb-true}
+use borrow.Author.Tests.{ltb-true}
 use native.Mathlib.Omega.{arith}
-
-turned-neg : (y : ℕ) → negsuc 0 -ℤ negsuc y ≡ pos y
-turned-neg y = rw (lt-leb (suc (suc y)) 1 (omega arith)) (ap pos (omega arith))
+use Rattle.rules.proofs.Signed.{turned-pos, turned-neg}
 
 -- v is -y - 1, and turned it is y
 pub record Below (w : Width) (v : ℤ) : Type 0 where
@@ -67,10 +65,6 @@ minus w v h =
     record { fits = rw e f; is = rw e (toZ-ofZ f) }
 
 -- -1 - v, for v of the lower half
-turned-pos : (y : ℕ) → negsuc 0 -ℤ pos y ≡ negsuc y
-turned-pos zero = refl
-turned-pos (suc y) = ap negsuc (omega arith)
-
 pub record Turned (w : Width) (v : ℕ) : Type 0 where
   pub fits : SFits w (negsuc 0 -ℤ toZ w v)
   pub is : toZ w (ofZ w (negsuc 0 -ℤ toZ w v)) ≡ negsuc v

@@ -46,14 +46,12 @@ module _ {found : Read (List ℕ)} {n far : ℕ} {old new : List ℕ} where
   lays-refused e room = rw e (record { end = refl; next = zero-le; cells = tt; room = room })
 
   lays-got : {cells : List ℕ} {next : ℕ} → found ≡ whole cells next → length cells ≡ n → new ≡ cells ++ drop n old
-      → length new ≡ 320 → next ≤ far
-      → LaysCells found n far old new (Got n next)
+      → length new ≡ 320 → next ≤ far → LaysCells found n far old new (Got n next)
   lays-got e l m room k = rw e (record { end = refl; next = k; cells = (l, m); room = room })
 
 -- the same answer, told of an equal definition and of other cells past the n, with more room
 lays-as : {found equal : Read (List ℕ)} {n near far : ℕ} {old mid new : List ℕ} {r : Outcome} → LaysCells equal n near mid new r
-    → found ≡ equal → drop n mid ≡ drop n old → near ≤ far
-    → LaysCells found n far old new r
+    → found ≡ equal → drop n mid ≡ drop n old → near ≤ far → LaysCells found n far old new r
 lays-as {equal = equal} {n = n} {old = old} {mid = mid} {new = new} t e d k =
     rw e (record { end = t .end; next = let x = t .next in omega arith; cells = go equal (t .cells); room = t .room })
   where
@@ -63,8 +61,7 @@ lays-as {equal = equal} {n = n} {old = old} {mid = mid} {new = new} t e d k =
 
 -- the samples of the body
 pub lays-body : {found equal : Read (List ℕ)} {n near far : ℕ} {old new : List ℕ} {r : Outcome} → LaysCells equal n near old new r
-    → found ≡ equal → n ≤ 320 → near ≤ far
-    → FillsBody found far old new r
+    → found ≡ equal → n ≤ 320 → near ≤ far → FillsBody found far old new r
 lays-body {equal = equal} {n = n} {near = near} {far = far} {old = old} {new = new} {r = r} t e h k = rw e (go equal t)
   where
     go : (f : Read (List ℕ)) → LaysCells f n near old new r → FillsBody f far old new r
@@ -87,8 +84,7 @@ pub record First-as (s : List ℕ) (at n z : ℕ) (xs : List ℕ) (count : ℕ) 
 
 module _ (s : List ℕ) (at n z : ℕ) (xs : List ℕ) (count : ℕ) (some : 0 < count) (k : count ≤ length xs)
     (apart : eqb (getD xs 0 0) z ≡ false) where
-  first-step : {r : Read (List ℕ)} → flagsOf n n (bitsOf s) at ≡ r
-      → valuesInto n z (take count xs) (replicate n z) (bitsOf s) at
+  first-step : {r : Read (List ℕ)} → flagsOf n n (bitsOf s) at ≡ r → valuesInto n z (take count xs) (replicate n z) (bitsOf s) at
       ≡ andThen r (λ flags j. valuesInto n z (drop 1 (take count xs)) (lay z (getD xs 0 0) flags 0 (replicate n z)) (bitsOf s) j)
   first-step e =
       ap (λ (l : List ℕ). valuesInto n z l (replicate n z) (bitsOf s) at) (next-value xs count 0 some k)

@@ -31,8 +31,7 @@ pub record Listing (bits : List ℕ) (at d w count common other : ℕ) (old cell
   pub near : place ≤ at + 9 * read
 
 pub listing-none : (bits : List ℕ) (at : ℕ) {d : ℕ} (w count : ℕ) {common : ℕ} (other : ℕ) {old cells : List ℕ}
-    → Put old 0 (replicate d common) cells → d ≤ 320 → length old ≡ 320
-    → Listing bits at d w count common other cells cells 0 at 0
+    → Put old 0 (replicate d common) cells → d ≤ 320 → length old ≡ 320 → Listing bits at d w count common other cells cells 0 at 0
 unfolding countOf
 listing-none bits at w count other p f b =
     record {

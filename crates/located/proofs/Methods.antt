@@ -8,7 +8,7 @@ use borrow.Author.Tests.{eq-eqb, ne-eqb, le-leb, lt-leb}
 use Rattle.rules.specs.declared.Refusal.the-variants.{Method}
 use Rattle.rules.specs.Reading.{Read, whole, refuse, numberFrom, bitsFrom}
 use Rattle.rules.specs.Runs.{runsFrom}
-use Rattle.rules.specs.Located.{listed, byMethod}
+use Rattle.rules.specs.Located.{widthOf, listedFrom, listed, byMethod}
 use Rattle.rules.specs.Chooses.{countOf}
 use Rattle.bits.specs.declared.Outcome.{Outcome}
 use Rattle.bits.specs.declared.Outcome.the-variants.{Got}
@@ -18,8 +18,7 @@ use Rattle.located.specs.Valued.{flagsOf}
 
 -- the same answer, told of an equal definition, and with more room
 pub marks-as : {found equal : Read (List ℕ)} {d near far common other : ℕ} {old new : List ℕ} {r : Outcome}
-    → MarksCells equal d near common other old new r → found ≡ equal → near ≤ far
-    → MarksCells found d far common other old new r
+    → MarksCells equal d near common other old new r → found ≡ equal → near ≤ far → MarksCells found d far common other old new r
 marks-as t e k = rw e (record { end = t .end; next = let n = t .next in omega arith; cells = t .cells; room = t .room })
 
 module _ (n d start m : ℕ) (bits : List ℕ) (at : ℕ) where
@@ -44,16 +43,19 @@ module _ (n d start m : ℕ) (bits : List ℕ) (at : ℕ) where
 
   pub method-listed : 6 < m → byMethod n d start m bits at ≡ listed d bits at
   unfolding byMethod
-  method-listed h = rw (
-    ne-eqb m 0 (λ e. omega arith),
-    lt-leb m 4 (omega arith),
-    ne-eqb m 5 (λ e. omega arith),
-    ne-eqb m
-        6 (λ e. omega arith),
-  )
+  method-listed h =
+      rw (ne-eqb m 0 (λ e. omega arith), lt-leb m 4 (omega arith), ne-eqb m 5 (λ e. omega arith), ne-eqb m 6 (λ e. omega arith))
 
--- a value's method is read, and then its flags
-pub method-read : (bits : List ℕ) (at n d : ℕ) {m first : ℕ} → numberFrom 0 3 bits at ≡ whole m first
-    → flagsOf n d bits at ≡ byMethod n d at m bits first
+-- a value's method is read, and then its flags; a list's length, and then its places
+pub method-read : (bits : List ℕ) (at n d : ℕ) {m first near far common other : ℕ} {old new : List ℕ} {r : Outcome}
+    → numberFrom 0 3 bits at ≡ whole m first → MarksCells (byMethod n d at m bits first) d near common other old new r → near ≤ far
+    → MarksCells (flagsOf n d bits at) d far common other old new r
 unfolding flagsOf
-method-read bits at n d e = rw e
+method-read bits at n d e t k = marks-as t (rw e) k
+
+pub list-read : (bits : List ℕ) (at d : ℕ) {less first width near far common other : ℕ} {old new : List ℕ} {r : Outcome}
+    → numberFrom 0 2 bits at ≡ whole less first → width ≡ widthOf d
+    → MarksCells (listedFrom width d [] (less + 1) bits first) d near common other old new r → near ≤ far
+    → MarksCells (listed d bits at) d far common other old new r
+unfolding listed
+list-read bits at d e w t k = marks-as t (rw (e, w)) k

@@ -15,8 +15,11 @@ use Rattle.rules.specs.Samples.{sampleOf}
 use Rattle.rules.specs.Located.{RangeCase, case0, case1, case2, case3, caseOf, rowValues, valuesOf, valuesInto, located}
 use Rattle.rules.proofs.Signed.{plus-zero}
 use Rattle.rules.proofs.Accepted.{by-case}
+use Rattle.bits.specs.declared.Outcome.{Outcome}
+use Rattle.bodies.specs.Bodied.{FillsBody}
 use Rattle.located.specs.declared.Row.{Row}
-use Rattle.located.specs.Valued.{Apart, RowOf}
+use Rattle.located.specs.Valued.{Apart, RowOf, LaysCells}
+use Rattle.located.proofs.InTurn.{lays-body}
 
 xor-odd : (mask : ℕ) → mask % 2 ≡ 1 → bitXor 1 mask ≡ mask - 1
 xor-odd mask h = xor-step 1 mask ∙ rw h (omega (arith, xor-zero-l (mask / 2)))
@@ -58,24 +61,25 @@ values-apart mask h l n c flag =
     (row-apart mask case3 (a, tt) tt n flag)
     c
 
+-- the case by its number
+pub is-case0 : (c : ℕ) → c ≡ 0 → caseOf c ≡ case0
+unfolding caseOf
+is-case0 c h = rw (eq-eqb c 0 h)
+
+pub is-case1 : (c : ℕ) → c ≡ 1 → caseOf c ≡ case1
+unfolding caseOf
+is-case1 c h = rw (ne-eqb c 0 (λ e. omega arith), eq-eqb c 1 h)
+
+pub is-case2 : (c : ℕ) → c ≡ 2 → caseOf c ≡ case2
+unfolding caseOf
+is-case2 c h = rw (ne-eqb c 0 (λ e. omega arith), ne-eqb c 1 (λ e. omega arith), eq-eqb c 2 h)
+
+pub is-case3 : (c : ℕ) → 2 < c → caseOf c ≡ case3
+unfolding caseOf
+is-case3 c h = rw (ne-eqb c 0 (λ e. omega arith), ne-eqb c 1 (λ e. omega arith), ne-eqb c 2 (λ e. omega arith))
+
 -- the values of a row, by its case
 module _ (n c flag : ℕ) where
-  pub is-case0 : c ≡ 0 → caseOf c ≡ case0
-  unfolding caseOf
-  is-case0 h = rw (eq-eqb c 0 h)
-
-  pub is-case1 : c ≡ 1 → caseOf c ≡ case1
-  unfolding caseOf
-  is-case1 h = rw (ne-eqb c 0 (λ e. omega arith), eq-eqb c 1 h)
-
-  pub is-case2 : c ≡ 2 → caseOf c ≡ case2
-  unfolding caseOf
-  is-case2 h = rw (ne-eqb c 0 (λ e. omega arith), ne-eqb c 1 (λ e. omega arith), eq-eqb c 2 h)
-
-  pub is-case3 : 2 < c → caseOf c ≡ case3
-  unfolding caseOf
-  is-case3 h = rw (ne-eqb c 0 (λ e. omega arith), ne-eqb c 1 (λ e. omega arith), ne-eqb c 2 (λ e. omega arith))
-
   module _ (r : RangeCase) (e : caseOf c ≡ r) where
     pub too-short : n < r .from → valuesOf n c flag ≡ []
     unfolding valuesOf
@@ -113,7 +117,9 @@ module _ (mask n : ℕ) (bits : List ℕ) (at : ℕ) {c second flag first : ℕ}
   unfolding located
   no-values h = let s = size in rw (e, f, eq-eqb (length (valuesOf n c flag)) 0 (omega arith))
 
-  pub some-values : (r .count ≡ 0 → ⊥)
-      → located mask n bits at ≡ valuesInto n (128 + mask) (take (r .count) (r .octets)) (replicate n (128 + mask)) bits first
+  pub some-filled : (r .count ≡ 0 → ⊥) → {near far : ℕ} {old new : List ℕ} {o : Outcome}
+      → LaysCells (valuesInto n (128 + mask) (take (r .count) (r .octets)) (replicate n (128 + mask)) bits first) n near old new o
+      → n ≤ 320 → near ≤ far → FillsBody (located mask n bits at) far old new o
   unfolding located
-  some-values h = rw (e, f, ne-eqb (length (valuesOf n c flag)) 0 (λ z. h (size ∙ z)), plus-zero mask, t .values)
+  some-filled h l k m =
+      lays-body l (rw (e, f, ne-eqb (length (valuesOf n c flag)) 0 (λ z. h (size ∙ z)), plus-zero mask, t .values)) k m

@@ -269,8 +269,7 @@ zeros-near mask m (x ∷ s) h =
   where
     step : (a b : Bool) → eqb x (plusZero mask) ≡ a → eqb x (minusZero mask) ≡ b
         → cond (eqb x (plusZero mask) || eqb x (minusZero mask)) 1 0 + countOf (λ x. eqb x (plusZero mask) || eqb x (minusZero mask))
-        s ≡ suc (length s)
-        → countOf (λ x. eqb x (plusZero mask) || eqb x (minusZero mask)) s ≤ length s
+        s ≡ suc (length s) → countOf (λ x. eqb x (plusZero mask) || eqb x (minusZero mask)) s ≤ length s
         → (countOf (λ x. eqb x (plusZero mask) || eqb x (minusZero mask)) s ≡ length s → (127 ≤ leastOf mask s) × (greatestOf mask s ≤ 128))
         → (onLine (signed mask (plusZero mask)) ≡ 128) × (onLine (signed mask (minusZero mask)) ≡ 127)
         → (127 ≤ min (onLine (signed mask x)) (leastOf mask s)) × (max (onLine (signed mask x)) (greatestOf mask s) ≤ 128)

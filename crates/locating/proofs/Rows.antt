@@ -136,8 +136,7 @@ module _ {plus : ℕ} {s : List ℕ} where
       }
 
   three-turn : {x y z : Value} → ValueIs plus s x → ValueIs plus s y → ValueIs plus s z → (y .sample ≡ x .sample → ⊥)
-      → (z .sample ≡ x .sample → ⊥)
-      → (z .sample ≡ y .sample → ⊥) → x .times + y .times ≤ length s → InTurn plus s (three x y z)
+      → (z .sample ≡ x .sample → ⊥) → (z .sample ≡ y .sample → ⊥) → x .times + y .times ≤ length s → InTurn plus s (three x y z)
   three-turn i j k n₁ n₂ n₃ h =
       record {
         some = omega arith;
@@ -185,8 +184,7 @@ ways-small {v = v} {w = w} i = (i .first .way .small, (second (leb 2 (v .count))
 
 -- and of all that value-location writes
 located-length : (mask : ℕ) {s a b c : List ℕ} {v : Values} {w : Ways} → 1 ≤ v .count → v .count ≤ 3 → samplesOf v ≡ valuesIn mask s
-    → WaysAre s v w a b c
-    → 11 + (w .first .bits + w .second .bits + w .third .bits) ≡ length (locatedForm mask s)
+    → WaysAre s v w a b c → 11 + (w .first .bits + w .second .bits + w .third .bits) ≡ length (locatedForm mask s)
 unfolding locatedForm
 located-length mask some few says ways =
     let e = ways-sum some few ways in
@@ -205,8 +203,7 @@ said mask t zero flag h f g = go (eqb flag 1)
     go false = refl
 said mask t (suc zero) flag h f g = go (eqb flag 1)
   where
-    go : (b : Bool)
-        → samplesOf (cond b (two (oneIn mask t) (minusIn mask t)) (two (minusIn mask t) (oneIn mask t)))
+    go : (b : Bool) → samplesOf (cond b (two (oneIn mask t) (minusIn mask t)) (two (minusIn mask t) (oneIn mask t)))
         ≡ map (sampleOf mask) (cond b (pos 1 ∷ negsuc 0 ∷ []) (negsuc 0 ∷ pos 1 ∷ []))
     go true = refl
     go false = refl
@@ -248,8 +245,7 @@ module _ {mask : ℕ} {s : List ℕ} {t : Tally} (tally : Tallied mask s t) wher
         twos-minus : sampleOf mask (negsuc 1) ≡ minusZero mask → ⊥
         twos-minus = apart law (negsuc 1) (negsuc 0) (omega arith) (omega arith) (λ z. omega arith)
 
-        go : (a b c d : Bool)
-            → InTurn (plusZero mask) s
+        go : (a b c d : Bool) → InTurn (plusZero mask) s
             (cond a (only (oneIn mask t))
             (cond b (two (minusIn mask t) (twosIn mask t))
             (cond c (cond d (two (oneIn mask t) (minusIn mask t)) (two (minusIn mask t) (oneIn mask t)))
@@ -308,15 +304,13 @@ module _ {mask : ℕ} {s : List ℕ} {t : Tally} (tally : Tallied mask s t) wher
       unfolding valuesBy valuesOf caseOf
       values-say {flag} e f =
           let fit : leb (caseOf (rowOf mask s) .from) (length s) ≡ true = rows-fit mask s (rw (← row-is) (lt-ltb row 4 (row-low e))) in
-          said mask t row flag (row-low e) (λ z. f ∙ flag-two z) (λ z. f ∙ flag-three z)
-          ∙ rw (row-is, f ∙ flag-is, fit)
+          said mask t row flag (row-low e) (λ z. f ∙ flag-two z) (λ z. f ∙ flag-three z) ∙ rw (row-is, f ∙ flag-is, fit)
 
       -- and all that is written
       pub located-is : {flag bits plus : ℕ} {x y z : List ℕ} {v : Values} {w : Ways} → a ≡ true
           → flag ≡ cond (leb (t .minus + t .twos) (t .one)) 1 0 → flag < 2
           → v ≡ valuesFor mask t row flag → InTurn plus s v → WaysAre s v w x y z
-          → bits ≡ 11 + (w .first .bits + w .second .bits + w .third .bits)
-          → LocatedIs mask s (record {
+          → bits ≡ 11 + (w .first .bits + w .second .bits + w .third .bits) → LocatedIs mask s (record {
             tool = 7;
             bits = bits;
             row = row;

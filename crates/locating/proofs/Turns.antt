@@ -97,8 +97,7 @@ module _ {plus n : ℕ} {s a b c : List ℕ} {v : Values} {found : Found} (size 
         third = λ h.
             let g : 2 ≤ v .count = omega arith in
             let k : v .third .times ≡ countIs (v .third .sample) last =
-            t .third h .times
-            ∙ sym (count-kept (v .first .sample) (v .third .sample) (t .third-new h) s)
+            t .third h .times ∙ sym (count-kept (v .first .sample) (v .third .sample) (t .third-new h) s)
             ∙ sym (count-kept (v .second .sample) (v .third .sample) (t .third-last h) left) in
             way-with (f .third) (flagged (v .third .sample) last (last-size g) (omega arith) k) (w₃ .yes (le-leb 3 (v .count) h));
         no-second = λ h. w₂ .no (lt-leb 2 (v .count) h);

@@ -65,8 +65,7 @@ note-few law xs =
 
 -- a mark stands for a frame that there is: up to exactly 64 frames the one of frame 0 alone
 one-mark : (at : ℕ) (fs : List Delivered) → 1 ≤ length fs → length fs ≤ 64
-    → ((f : Delivered) (r : List Delivered) → fs ≡ f ∷ r → f .place ≡ at)
-    → marksOf fs ≡ markOf at 0 ∷ []
+    → ((f : Delivered) (r : List Delivered) → fs ≡ f ∷ r → f .place ≡ at) → marksOf fs ≡ markOf at 0 ∷ []
 one-mark at [] h g p = absurd (omega arith)
 one-mark at (f ∷ fs) h g p = marks-one 0 0 at f fs refl (p f fs refl) (omega arith)
 

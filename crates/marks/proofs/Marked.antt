@@ -28,8 +28,7 @@ marks-append i before (f ∷ a) b =
     = omega (arith, length-append (f .found .samples) (samplesKept a)) in
     let rest = marksFrom (i + 1) (before + length (f .found .samples)) a in
     let later = marks-append (i + 1) (before + length (f .found .samples)) a b in
-    ap (step (isMarked i) (markOf (f .place) before)) (rw (e, g) at later)
-    ∙ step-append (isMarked i) (markOf (f .place) before) rest
+    ap (step (isMarked i) (markOf (f .place) before)) (rw (e, g) at later) ∙ step-append (isMarked i) (markOf (f .place) before) rest
     (marksFrom (i + suc (length a)) (before + length (f .found .samples ++ samplesKept a)) b)
 
 -- between two marked frames

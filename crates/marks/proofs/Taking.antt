@@ -84,8 +84,7 @@ module _ (law : ℕ) (xs : List ℕ) where
           let e : 64 * (m + 1) ≡ 64 * m + 64 = omega arith in
           let room = 320 * length xs - length (samplesKept (parts m .frames)) in
           ap (λ (k : ℕ). walkFrom k xs law storeSet 0 (320 * length xs)) e
-          ∙ walk-on xs law storeSet (64 * m) 64 0 (320 * length xs) (w .clean)
-          ∙ ap (λ (x : Walked). after (parts m .frames) x)
+          ∙ walk-on xs law storeSet (64 * m) 64 0 (320 * length xs) (w .clean) ∙ ap (λ (x : Walked). after (parts m .frames) x)
           (ap (λ (k : ℕ). walkFrom 64 xs law storeSet k room) (sym (w .place))
           ∙ walk-roomy xs law storeSet 64 at room 20480 (omega (arith, along-samples, w .before)) (omega arith))
 
@@ -156,8 +155,7 @@ module _ (law : ℕ) (xs : List ℕ) where
           whole (64 * m) ∙ walk-on xs law storeSet (64 * m) (length xs + 1) 0 (320 * length xs) (w .clean)
           ∙ ap (λ (x : Walked). after (parts m .frames) x)
           (walk-ended xs law storeSet (length xs + 1) (parts m .place) (320 * length xs - length (samplesKept (parts m .frames)))
-          (omega (arith, w .place))
-          ∙ ap (λ (k : ℕ). stopped Done k 0) (sym (w .place)))
+          (omega (arith, w .place)) ∙ ap (λ (k : ℕ). stopped Done k 0) (sym (w .place)))
 
       -- the greeting's marks begin with those of what was walked
       ahead : Ahead m
@@ -250,8 +248,7 @@ module _ (law : ℕ) (xs : List ℕ) where
     -- the call's answers
     module _ (l : law ≤ mostLaw) (g : length xs ≤ longest) where
       pub taken-wrong : (h : at < length xs) {r : WalkAnswer} {why : Refusal} → Counts (next at) r → r .end ≡ Refused why
-          → (cells′ : List ℕ)
-          → Takes law xs cells₀ cells′ Wrong
+          → (cells′ : List ℕ) → Takes law xs cells₀ cells′ Wrong
       taken-wrong h c e cells′ = takes-wrong law xs cells₀ cells′ (along-wrong (t .along) l g h (sym (c .end) ∙ e))
 
       pub taken-all : length xs ≤ at → 1 ≤ length xs → Takes law xs cells₀ cells (Counted samples m)

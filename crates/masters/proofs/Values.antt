@@ -43,8 +43,7 @@ pub shifted : (law : ℕ) {v : ℤ} {k : ℕ} → SFits w16 v → k ≡ unitOf l
     → toZ w16 (ofZ w16 (shrZ (toZ w16 (ofZ w16 v)) k)) ≡ shrZ v (unitOf law)
 shifted law {v} {k} f e =
     ap (λ (z : ℤ). toZ w16 (ofZ w16 (shrZ z k))) (toZ-ofZ f)
-    ∙ toZ-ofZ {w = w16} (record { sfits = omega (arith, mag-shr v k, f .sfits) })
-    ∙ ap (shrZ v) e
+    ∙ toZ-ofZ {w = w16} (record { sfits = omega (arith, mag-shr v k, f .sfits) }) ∙ ap (shrZ v) e
 
 -- no linear value leaves 16 bits
 a-loud : (o : ℕ) → o < 256 → natAbs (A→PCM o) * 8 < 32768

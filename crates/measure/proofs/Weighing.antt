@@ -22,8 +22,7 @@ use Rattle.measure.specs.Measures.{bitsWith, LeastIs}
 
 -- the zeros of one run more; with each run go its one and its S low bits
 pub bits-turn : (s : ℕ) (runs : List ℕ) (j zeros r : ℕ) → j < length runs → zeros + j * (1 + s) ≡ length (riceForms s (take j runs))
-    → r ≡ getD runs j 0 / 2 ^ s
-    → zeros + r + (j + 1) * (1 + s) ≡ length (riceForms s (take (j + 1) runs))
+    → r ≡ getD runs j 0 / 2 ^ s → zeros + r + (j + 1) * (1 + s) ≡ length (riceForms s (take (j + 1) runs))
 unfolding riceForm
 bits-turn s runs j zeros r h e b =
     let k : (j + 1) * (1 + s) ≡ j * (1 + s) + (1 + s) = rw (add-one j, suc-mul) (omega arith) in

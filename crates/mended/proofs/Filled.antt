@@ -1,5 +1,5 @@
 -- The filling, walked: constant plus zero frames, each of one octet, that hold exactly what was left (`filling-walks`).
-use Prim.Native.Nat.{ℕ, zero, suc, _+_, _*_, _-_, _/_, _%_, _≤_, _<_}
+use Prim.Native.Nat.{ℕ, zero, suc, _+_, _*_, _-_, _/_, _%_, _≤_}
 use native.Mathlib.Omega.{arith}
 use native.Mathlib.Nat.{mul-suc}
 use mathlib.Core.Path.{_≡_, refl, sym, ap, subst, _∙_}
@@ -7,17 +7,18 @@ use mathlib.Core.List.{List, [], _∷_, _++_, append-assoc, append-nil}
 use mathlib.Core.Bool.{true}
 use lib.ListN.{length, drop, replicate, length-append, length-replicate, replicate-append-replicate}
 use lib.Seq.{drop-append-seam}
-use lib.Dec.{eqb, lit<}
+use lib.Dec.{lit<}
 use lib.IntN.{pos}
 use borrow.Author.Tests.{eq-eqb}
 use Rattle.rules.specs.declared.Ending.the-variants.{Done}
+use Rattle.rules.proofs.Counts.{count-replicate}
 use Rattle.rules.specs.Tools.{allTools, holds, isLaw, isLength}
 use Rattle.rules.specs.Bits.{lowBits, octetsFrom, valueFrom, pack}
 use Rattle.rules.specs.First.{baseOf, octetFor}
 use Rattle.rules.specs.Samples.{maskOf, plusZero}
 use Rattle.rules.specs.Reading.{whole}
 use Rattle.rules.specs.Frame.{Found, readOne}
-use Rattle.rules.specs.Chooses.{countOf, applies, formOf}
+use Rattle.rules.specs.Chooses.{applies, formOf}
 use Rattle.rules.specs.Walk.{Delivered, samplesKept}
 use Rattle.rules.proofs.Octets.{below-replicate, length-lowBits}
 use Rattle.rules.proofs.Signed.{law-mask}
@@ -30,14 +31,9 @@ use Rattle.mending.specs.Mend.{fillBy, filling}
 abbrev pub plusFrame : ℕ → ℕ → Found
 plusFrame law n = record { tool = 2; samples = replicate n (plusZero (maskOf law)); bits = 8 }
 
-count-plus : (x n : ℕ) → countOf (λ y. eqb y x) (replicate n x) ≡ n
-unfolding countOf
-count-plus x zero = refl
-count-plus x (suc n) = rw (eq-eqb x x refl, count-plus x n) (omega arith)
-
 applies-plus : (mask n : ℕ) → applies mask 2 (replicate n (plusZero mask)) ≡ true
 unfolding applies
-applies-plus mask n = eq-eqb _ _ (count-plus (plusZero mask) n ∙ sym (length-replicate n (plusZero mask)))
+applies-plus mask n = eq-eqb _ _ (count-replicate (plusZero mask) n ∙ sym (length-replicate n (plusZero mask)))
 
 plus-octet : (n : ℕ) → isLength n ≡ true → pack (lowBits 8 (octetFor 2 n)) ≡ octetFor 2 n ∷ []
 unfolding lowBits octetsFrom valueFrom pack baseOf
@@ -101,8 +97,7 @@ pub record FilledUp (before octets : List ℕ) (law room left : ℕ) : Type 0 wh
   pub count : length frames ≡ length octets
 
 pub plus-walks : (law : ℕ) → isLaw law ≡ true → {octets : List ℕ} {left : ℕ} → PlusFrames octets left → (before : List ℕ) (room : ℕ)
-    → left ≤ room
-    → FilledUp before octets law room left
+    → left ≤ room → FilledUp before octets law room left
 unfolding samplesKept
 plus-walks law i none before room r =
     record {

@@ -10,7 +10,6 @@ use lib.ListN.{length}
 use lib.Dec.{leb, ltb}
 use borrow.Author.Tests.{leb-true, leb-false, ltb-true, ltb-false, le-leb, le-ltb}
 use Rattle.rules.specs.declared.Refusal.the-variants.{Room, Law, Long}
-use Rattle.rules.specs.declared.Ending.the-variants as walks
 use Rattle.rules.specs.Tools.{isLaw}
 use Rattle.rules.specs.Walk.{longest}
 use Rattle.promises.proofs.Fits.{Same}
@@ -118,8 +117,7 @@ refused-mend octets law total out out′ r why e c =
 
 -- No second answer fits
 same-answer : (r s : MendAnswer) → r .end ≡ s .end → r .octets ≡ s .octets → r .frames ≡ s .frames → r .kept ≡ s .kept
-    → r .filled ≡ s .filled
-    → r .stop ≡ s .stop → r .bit ≡ s .bit → r ≡ s
+    → r .filled ≡ s .filled → r .stop ≡ s .stop → r .bit ≡ s .bit → r ≡ s
 same-answer r s e o f k l t b = λ i. record { end = e i; octets = o i; frames = f i; kept = k i; filled = l i; stop = t i; bit = b i }
 
 pub only-mend : {m : Mend} {r s : MendAnswer} {out o₁ o₂ : List ℕ} → Mends m r out o₁ → Mends m s out o₂ → Same r s o₁ o₂

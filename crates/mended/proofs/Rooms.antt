@@ -20,9 +20,8 @@ use Rattle.rules.specs.Frame.{Found, body, withTool, rowIn, afterFirst, frame, 
 use Rattle.rules.specs.Walk.{Delivered, Walked, samplesKept}
 use Rattle.rules.proofs.Octets.{Below, bitsOf-below}
 use Rattle.rules.proofs.Signed.{LawMask, law-mask}
-use Rattle.rules.proofs.Gives.{gives-number}
+use Rattle.rules.proofs.Gives.{gives-number, no-refusal, same-value}
 use Rattle.rules.proofs.Accepted.{Steps, through, steps, not-refused, filled-is, gives-body, number-next, read-accepts}
-use Rattle.rules.proofs.Gives.{no-refusal, same-value}
 use Rattle.promises.proofs.Further.{mark-first}
 use Rattle.promises.proofs.Walks.{WalkOf, ended, refused, delivers}
 
@@ -55,8 +54,7 @@ module _ {mask : ℕ} (l : LawMask mask) (set room room′ : ℕ) {b : List ℕ}
   first-in-room o (sixOrEight n) w h e = marked (steps (bit b (markAt n)) _ e)
     where
       six : (mark i : ℕ) → bit b (markAt n) ≡ whole mark i
-          → Steps (sixNotEight b i) (λ t j. withTool mask set room t n mark b (markAt n + 1)) f j
-          → andThen (bit b (markAt n))
+          → Steps (sixNotEight b i) (λ t j. withTool mask set room t n mark b (markAt n + 1)) f j → andThen (bit b (markAt n))
           (λ mark i. andThen (sixNotEight b i) (λ t j. withTool mask set room′ t n mark b (markAt n + 1))) ≡ whole f j
       six mark i p (through t x q e) =
           rw (p, q) (tool-in-room t n mark (markAt n + 1) (and-left (isLength n) _ w) (omega (arith, mark-first n)) e)
@@ -78,8 +76,7 @@ module _ {mask : ℕ} (l : LawMask mask) (set room room′ : ℕ) {b : List ℕ}
           rw (p, ← n) (first-in-room o (firstOctet o) (first-as-written o (g .2)) (omega (arith, g .1)) (rw (← n) at e))
 
 pub read-in-room : (octets : List ℕ) (law set room room′ : ℕ) {f : Found} {j : ℕ} → readOne octets law set room ≡ whole f j
-    → length (f .samples) ≤ room′
-    → readOne octets law set room′ ≡ whole f j
+    → length (f .samples) ≤ room′ → readOne octets law set room′ ≡ whole f j
 unfolding readOne
 read-in-room octets law set room room′ e k =
     let p = not-refused (not (isLaw law)) Law 0 _ (bitsOf octets) 0 e in

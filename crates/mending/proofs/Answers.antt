@@ -59,8 +59,7 @@ module _ (octets : List ℕ) (law total : ℕ) {r : WalkAnswer}
       ∙ omega (arith, e, length-take-le (r .octets) octets kept-inside))
 
   pub mended-as : {m : Mend} → mends (mended octets law total) ≡ m → {out o out′ : List ℕ} {to n : ℕ}
-      → Puts out 0 (take (r .octets) octets) o to → Puts o to (filling (total - r .samples)) out′ n
-      → Mends m (record {
+      → Puts out 0 (take (r .octets) octets) o to → Puts o to (filling (total - r .samples)) out′ n → Mends m (record {
         end = Done;
         octets = n;
         frames = r .frames;

@@ -33,8 +33,7 @@ by80 left = left % 320 % 240 % 160 / 80
 abbrev pub by40 : ℕ → ℕ
 by40 left = left % 320 % 240 % 160 % 80 / 40
 
-pub filling-is : (left : ℕ)
-    → replicate (by320 left)
+pub filling-is : (left : ℕ) → replicate (by320 left)
     0x31 ++ (replicate (by240 left) 0x21 ++ (replicate (by160 left) 0xC1 ++ (replicate (by80 left) 0x81 ++ replicate
     (by40 left) 0x41)))
     ≡ filling left
@@ -46,8 +45,7 @@ filling-is left =
 
 pub filling-length : (left : ℕ) → length (filling left) ≡ by320 left + by240 left + by160 left + by80 left + by40 left
 filling-length left =
-    ap length (sym (filling-is left))
-    ∙ simp (length-append, length-replicate) (omega arith)
+    ap length (sym (filling-is left)) ∙ simp (length-append, length-replicate) (omega arith)
 
 -- each frame fills 40 samples or more
 few : (l r s t u v a b c d e : ℕ) → l ≡ 320 * a + r → r ≡ 240 * b + s → s ≡ 160 * c + t → t ≡ 80 * d + u → u ≡ 40 * e + v
@@ -66,8 +64,7 @@ filling-few left =
 
 -- the room that is left behind them
 pub room-on : {o o′ : List ℕ} {at next : ℕ} (count octet more : ℕ) → Puts o at (replicate count octet) o′ next
-    → at + (count + more) ≤ length o
-    → next + more ≤ length o′
+    → at + (count + more) ≤ length o → next + more ≤ length o′
 room-on count octet more p h = omega (arith, p .place, p .size, length-replicate count octet)
 
 pub room-first : (left at room : ℕ) → at + length (filling left) ≤ room

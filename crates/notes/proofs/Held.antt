@@ -73,8 +73,7 @@ laid-parts notes a b c h k l =
     let m : length (a ++ b′) ≡ 194 = omega (arith, length-append a b′, long-laid hs b (omega arith) l) in
     ap (anewFrom 194 (allLaid notes)) one
     ∙ ap (λ (x : List ℕ). x ++ allLaid notes (drop 194 ((a ++ b′) ++ c))) (take-at (a ++ b′) c 194 m)
-    ∙ ap (λ (x : List ℕ). (a ++ b′) ++ allLaid notes x) (drop-at (a ++ b′) c 194 m)
-    ∙ append-assoc a b′ (allLaid notes c)
+    ∙ ap (λ (x : List ℕ). (a ++ b′) ++ allLaid notes x) (drop-at (a ++ b′) c 194 m) ∙ append-assoc a b′ (allLaid notes c)
 
 all-again : (x y : List Note) (c : List ℕ) → length (allCells y) ≤ length (allCells x) → allLaid x (allLaid y c) ≡ allLaid x c
 all-again x y c h =

@@ -116,8 +116,7 @@ nth-note [] cells i h = absurd (omega arith)
 nth-note (r ∷ hs) cells zero h = refl
 nth-note (r ∷ hs) cells (suc i) h =
     let e : 2 * r .octets + 2 * marksHeld (take i hs) ≡ 2 * (r .octets + marksHeld (take i hs)) = omega arith in
-    nth-note hs (drop (2 * r .octets) cells) i (omega arith)
-    ∙ ap (noteIn (nth i hs .number) (nth i hs .start) (nth i hs .octets))
+    nth-note hs (drop (2 * r .octets) cells) i (omega arith) ∙ ap (noteIn (nth i hs .number) (nth i hs .start) (nth i hs .octets))
     (drop-drop (2 * marksHeld (take i hs)) (2 * r .octets) cells ∙ ap (λ (k : ℕ). drop k cells) e)
 
 pub heads-cons : (n : Note) (notes : List Note) → heads (n ∷ notes) ≡ headOf n ∷ heads notes

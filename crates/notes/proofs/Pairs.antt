@@ -103,8 +103,7 @@ sane-old size t e = both (saneOf size t) _ (passed (ltb (length t) (storeCells s
 module _ (size : ℕ) (rows : List Row) (notes : List Note) (t : List ℕ) (c : storeCells size ≤ length t) (few : length rows ≤ 32)
     (same : length notes ≡ length rows) where
   pub sane-stored : size ≤ largestBlock → held rows ≤ size → rising 1 0 size rows ≡ true → numbered rows ≡ true
-      → matched rows (heads notes) ≡ true
-      → saneStore size (stored rows notes t) ≡ true
+      → matched rows (heads notes) ≡ true → saneStore size (stored rows notes t) ≡ true
   unfolding saneStore saneOf
   sane-stored s h r n m =
       let g : length notes ≤ 32 = omega arith in

@@ -135,11 +135,9 @@ module _ (t : List ℕ) (n i : ℕ) (e : n ≡ getD t 97 0) (h : i ≤ n) (room 
       ∙ ap (λ (x : List ℕ). take 194 x ++ allLaid notes (drop 194 (anewFrom 97 (laid (heads notes)) t))) first
 
   pub note-put : (note : Note) (r : Row) (new : List ℕ) {at used : ℕ} {t₁ t₂ : List ℕ} → n ≤ 31 → r ≡ headOf note
-      → new ≡ markCells (note .marks)
-      → at ≡ 2 * marksHeld (rowsAt (drop 97 t) i 1) → used ≡ 2 * marksHeld (rowsAt (drop 97 t) n 1)
+      → new ≡ markCells (note .marks) → at ≡ 2 * marksHeld (rowsAt (drop 97 t) i 1) → used ≡ 2 * marksHeld (rowsAt (drop 97 t) n 1)
       → t₁ ≡ anewFrom 97 (λ (u : List ℕ). laid (insertAt i r (rowsOf u)) u) t
-      → t₂ ≡ anewFrom 194 (λ (u : List ℕ). opened u at used new) t₁
-      → t₂ ≡ notesLaid (insertNote i note (notesOf t)) t
+      → t₂ ≡ anewFrom 194 (λ (u : List ℕ). opened u at used new) t₁ → t₂ ≡ notesLaid (insertNote i note (notesOf t)) t
   note-put note r new {at} {used} few z f a u p q =
       let notes = notesOf t in
       let lengths : length (insertNote i note notes) ≤ 32 =
@@ -153,8 +151,7 @@ module _ (t : List ℕ) (n i : ℕ) (e : n ≡ getD t 97 0) (h : i ≤ n) (room 
 
   pub note-out : {at used by : ℕ} {t₁ t₂ : List ℕ} → n ≤ 32 → i < n → by ≡ 2 * rowAt (drop 97 t) (1 + 3 * i) .octets
       → at ≡ 2 * marksHeld (rowsAt (drop 97 t) i 1) → used ≡ 2 * marksHeld (rowsAt (drop 97 t) n 1)
-      → t₁ ≡ anewFrom 97 (λ (u : List ℕ). laid (removeAt i (rowsOf u)) u) t
-      → t₂ ≡ anewFrom 194 (λ (u : List ℕ). shut u at used by) t₁
+      → t₁ ≡ anewFrom 97 (λ (u : List ℕ). laid (removeAt i (rowsOf u)) u) t → t₂ ≡ anewFrom 194 (λ (u : List ℕ). shut u at used by) t₁
       → t₂ ≡ notesLaid (removeNote i (notesOf t)) t
   note-out {at} {used} {by} few inside b a u p q =
       let notes = notesOf t in
@@ -185,8 +182,7 @@ marks-next t n i e h room =
     omega (arith, o, sum)
 
 -- note i of a table: law, samples and how many marks in the second list, its marks behind those of the greetings before it
-pub note-at : (t : List ℕ) (n i : ℕ) → n ≡ getD t 97 0 → i < n
-    → nthNote i (notesOf t)
+pub note-at : (t : List ℕ) (n i : ℕ) → n ≡ getD t 97 0 → i < n → nthNote i (notesOf t)
     ≡ noteIn (rowAt (drop 97 t) (1 + 3 * i) .number) (rowAt (drop 97 t) (1 + 3 * i) .start) (rowAt (drop 97 t) (1 + 3 * i) .octets)
     (drop (194 + 2 * marksHeld (rowsAt (drop 97 t) i 1)) t)
 note-at t n i e h =

@@ -26,8 +26,7 @@ better-yes h e = record { tool = rw e; size = rw e; small = h }
 -- one tool more
 module _ {mask set : ℕ} {s ts : List ℕ} {best r : Choice} (done : ChosenIs mask set s ts best) where
   pub choose-step : (t : ℕ) (a : Bool) (b : ℕ) → a ≡ (holds set t && applies mask t s) → (a ≡ true → b ≡ length (formOf mask t s))
-      → BetterIs best t a b r
-      → ChosenIs mask set s (t ∷ ts) r
+      → BetterIs best t a b r → ChosenIs mask set s (t ∷ ts) r
   unfolding choose
   choose-step t true b e f better =
       let q = leb (octetsOfForm mask s t) (octetsOfForm mask s (choose mask set s ts)) in
@@ -35,8 +34,7 @@ module _ {mask set : ℕ} {s ts : List ℕ} {best r : Choice} (done : ChosenIs m
       record {
         tool = better .tool ∙ rw (test, done .tool);
         bits =
-            better .size
-            ∙ rw (test, f refl, done .bits)
+            better .size ∙ rw (test, f refl, done .bits)
             (cond-of (λ u. length (formOf mask u s)) (holds set t && applies mask t s && q) t (choose mask set s ts));
         small = better .small;
       }

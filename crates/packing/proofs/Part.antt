@@ -47,8 +47,7 @@ stays-refused done part law set n page why q =
 front-lent : (s page : List ℕ) (k : ℕ) → k ≤ length page → length s ≤ k → atStart s (take k page) ++ drop k page ≡ atStart s page
 front-lent s page k h l =
     let t : List ℕ = take k page in
-    append-assoc s (drop (length s) t) (drop k page)
-    ∙ ap (λ (x : List ℕ). s ++ x)
+    append-assoc s (drop (length s) t) (drop k page) ∙ ap (λ (x : List ℕ). s ++ x)
     (sym (drop-append-le (length s) t (drop k page) (omega (arith, length-take-le k page h)))
     ∙ ap (drop (length s)) (take-append-drop k page))
 

@@ -36,8 +36,7 @@ put-parts law set room [] y end e = let z : room - 0 ≡ room = omega arith in r
 put-parts law set room (s ∷ x) y end e = go (length (formOctets law set s)) refl (ltb room (length (formOctets law set s)))
     (put-parts law set (room - length (formOctets law set s)) x y end) e
   where
-    go : (u : ℕ) → length (formOctets law set s) ≡ u → (b : Bool)
-        → (putAll law set (room - u) x Done .end ≡ Done
+    go : (u : ℕ) → length (formOctets law set s) ≡ u → (b : Bool) → (putAll law set (room - u) x Done .end ≡ Done
         → putAll law set (room - u) (x ++ y) end ≡ after x (putAll law set (room - u - length (streamOf law set x)) y end))
         → cond b (halted (Refused Room)) (before s (putAll law set (room - u) x Done)) .end ≡ Done
         → cond b (halted (Refused Room)) (before s (putAll law set (room - u) (x ++ y) end))
@@ -125,15 +124,13 @@ module _ (a b : List ℕ) (law set n k room : ℕ) (m : length a ≡ k * n) wher
   first-is l o i = sym (the-frames a law set n room l o i) ∙ ap (putAll law set room (cuts n a)) (end-multiple i)
 
   -- a part that was packed well, and then the rest in the room that is left
-  pub pack-parts : packAll a law set n room .end ≡ Done
-      → packAll (a ++ b) law set n room
+  pub pack-parts : packAll a law set n room .end ≡ Done → packAll (a ++ b) law set n room
       ≡ after (packAll a law set n room .frames) (packAll b law set n (room - length (streamOf law set (packAll a law set n room .frames))))
   pack-parts e =
       let w = well-packed a law set n room e in
       let left = room - length (streamOf law set (cuts n a)) in
       rw (w .frames)
-      (whole-is (w .lawful) (w .odd) (w .allowed)
-      ∙ put-parts law set room (cuts n a) (cuts n b) (endOf n b)
+      (whole-is (w .lawful) (w .odd) (w .allowed) ∙ put-parts law set room (cuts n a) (cuts n b) (endOf n b)
       (ap (λ (p : Packed). p .end) (sym (first-is (w .lawful) (w .odd) (w .allowed))) ∙ e)
       ∙ ap (after (cuts n a)) (the-frames b law set n left (w .lawful) (w .odd) (w .allowed)))
 
@@ -210,8 +207,7 @@ joined {law} {set} {p} {d} {file = file} f t =
         arith,
         t .samples,
         f .samples,
-        ap length (soundIn-append (p .frames) (d .frames))
-            ∙ length-append (soundIn (p .frames)) (soundIn (d .frames)),
+        ap length (soundIn-append (p .frames) (d .frames)) ∙ length-append (soundIn (p .frames)) (soundIn (d .frames)),
       );
       octets = omega (arith, t .octets, f .octets, ap length whole ∙ length-append s more);
       lent =

@@ -146,8 +146,7 @@ module _ (sound : List ℕ) (law set n : ℕ) (out₀ : List ℕ) where
 
       -- a frame that is put
       put : {out′ rest : List ℕ} (used : ℕ) → length (formOctets law set s) ≤ length out₀ - at → used ≡ length (formOctets law set s)
-          → rest ≡ atStart (formOctets law set s) (drop at out) → out′ ≡ take at out ++ rest
-          → Packing out′ to (at + used) (count + 1)
+          → rest ≡ atStart (formOctets law set s) (drop at out) → out′ ≡ take at out ++ rest → Packing out′ to (at + used) (count + 1)
       put {out′} {rest} used k u er g =
           let on = put-on law set (length out₀ - at) (length out₀ - (at + used)) s (cuts n (drop to sound)) (endOf n sound)
           k (omega arith) in

@@ -84,8 +84,7 @@ put-done law set room [] end e = (refl, e)
 put-done law set room (s ∷ frames) end e = go (ltb room (length (formOctets law set s)))
     (put-done law set (room - length (formOctets law set s)) frames end) e
   where
-    go : (b : Bool)
-        → (putAll law set (room - length (formOctets law set s)) frames end .end ≡ Done
+    go : (b : Bool) → (putAll law set (room - length (formOctets law set s)) frames end .end ≡ Done
         → (putAll law set (room - length (formOctets law set s)) frames end .frames ≡ frames) × (end ≡ Done))
         → cond b (halted (Refused Room)) (before s (putAll law set (room - length (formOctets law set s)) frames end)) .end ≡ Done
         → (cond b (halted (Refused Room)) (before s (putAll law set (room - length (formOctets law set s)) frames end))
@@ -142,8 +141,7 @@ pub record Inside (sound room : ℕ) (r : PackAnswer) : Type 0 where
   pub octets : r .octets ≤ room
 
 pub pack-inside : (sound : List ℕ) (law set n room : ℕ) (out out′ : List ℕ) {r : PackAnswer}
-    → Packs law set (packAll sound law set n room) r out out′
-    → Inside (length sound) room r
+    → Packs law set (packAll sound law set n room) r out out′ → Inside (length sound) room r
 pack-inside sound law set n room out out′ p =
     let b = pack-bounds sound law set n room in
     record {

@@ -22,8 +22,7 @@ use Rattle.pages.specs.Pages.{linesOf, walkLeft, linesLeft, Opens, Stops
 
 -- a refusal is all of the listing
 pub opens-stopped : (stream : List ℕ) {whole : List ℕ} {number : ℕ} {out out′ : List ℕ} {r : Opened} → Stops number out r out′
-    → whole ≡ stopLine number 0 0 0
-    → Opens whole stream out r out′
+    → whole ≡ stopLine number 0 0 0 → Opens whole stream out r out′
 unfolding linesLeft
 opens-stopped stream {whole} {number} t e =
     record {
@@ -69,8 +68,7 @@ opens-stream stream {r = r} b h l p m =
     }
 
 -- an input by its first octet
-by-letter : (input : List ℕ) → 0 < length input
-    → listing input
+by-letter : (input : List ℕ) → 0 < length input → listing input
     ≡ cond (eqb (getD input 0 0) 0x41) (listStream 0 (drop 1 input))
     (cond (eqb (getD input 0 0) 0x4D) (listStream 1 (drop 1 input)) (stopLine 12 0 0 0))
 unfolding listing

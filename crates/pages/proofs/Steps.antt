@@ -31,8 +31,7 @@ unfolding frameLines samplesKept
 of-end k kept at bit end = rw add-zero
 
 -- a frame, and then the rest
-of-more : (k kept at : ℕ) (f : Found) (w : Walked)
-    → linesOf k kept (before (record { place = at; found = f }) w)
+of-more : (k kept at : ℕ) (f : Found) (w : Walked) → linesOf k kept (before (record { place = at; found = f }) w)
     ≡ frameLine k at (length (f .samples)) (f .tool) (octetsUsed f) (f .bits) ++ linesOf (k + 1) (kept + length (f .samples)) w
 unfolding frameLines samplesKept
 of-more k kept at f w = rw (length-append, ← add-assoc, append-assoc)
@@ -55,8 +54,7 @@ module _ (stream : List ℕ) (law : ℕ) where
       let next = at + octetsUsed f in
       let left = room - length (f .samples) in
       walk-one stream law listedTools (suc n) n at room refl h next left f
-      (read-room (drop at stream) law listedTools room (omega arith) ∙ e) refl refl
-      ∙ ap (before (record { place = at; found = f }))
+      (read-room (drop at stream) law listedTools room (omega arith) ∙ e) refl refl ∙ ap (before (record { place = at; found = f }))
       (walk-fuel stream law listedTools n (suc n) next left (omega arith) (omega arith)
       ∙ walk-roomy stream law listedTools (suc n) next left room (omega (arith, u .0, s)) (omega (arith, u .0, s)))
 
@@ -81,8 +79,7 @@ module _ (stream : List ℕ) (law : ℕ) where
           rw (g, t .tool ∙ ap (λ (x : Read Found). readTool x) q)
           (ap (λ (w : Walked). linesOf (s .frames) (s .samples) w) off ∙ of-end (s .frames) (s .samples) (s .at) (r .bit) (Refused w))
 
-      pub left-frame : r .end ≡ Done
-          → linesLeft stream law s
+      pub left-frame : r .end ≡ Done → linesLeft stream law s
           ≡ frameLine (s .frames) (s .at) (r .len) (r .tool) (r .octets) (r .bits)
           ++ linesOf (s .frames + 1) (s .samples + r .len) (walkLeft stream law (s .at + r .octets))
       unfolding linesLeft

@@ -23,9 +23,7 @@ written-left {stream} {law} (page {s′ = s′} {out′ = out′} {to = to} p w)
     ∙ ap (λ (t : List ℕ). take to out′ ++ t) (written-left w)
 
 pub written-whole : {input out out′ text : List ℕ} {r : Opened} → OpensInput input out r out′
-    → Written (drop 1 input) (r .law) (r .stand) text
-    → listing input ≡ take (r .to) out′ ++ text
+    → Written (drop 1 input) (r .law) (r .stand) text → listing input ≡ take (r .to) out′ ++ text
 written-whole {input} {text = text} {r} o w =
-    o .opens .says
-    ∙ ap (λ (t : List ℕ). o .opens .text ++ t) (written-left w)
+    o .opens .says ∙ ap (λ (t : List ℕ). o .opens .text ++ t) (written-left w)
     ∙ ap (λ (t : List ℕ). t ++ text) (sym (o .opens .puts .says))

@@ -72,6 +72,5 @@ finished {o} {o₁} {o₂} {p} {q} {n} fill able e put flush octets =
     let past : drop n o₂ ≡ drop n o = flush .rest ∙ drop-further o₁ o (q .at) n (omega (arith, flush .size)) (put .rest) in
     record {
       size = s;
-      lent = sym (take-append-drop n o₂) ∙ ap (λ (l : List ℕ). l ++ drop n o₂) whole
-          ∙ ap (λ (l : List ℕ). pack b ++ l) past;
+      lent = sym (take-append-drop n o₂) ∙ ap (λ (l : List ℕ). l ++ drop n o₂) whole ∙ ap (λ (l : List ℕ). pack b ++ l) past;
     }

@@ -27,6 +27,9 @@ zeros-start {v = v} able =
     let e : v - v ≡ 0 = omega arith in
     record { puts = rw e (puts-none (able .held) (able .word)); left = omega arith; size = refl }
 
+zeros-join : (k n : ℕ) {m : ℕ} → k + n ≡ m → replicate k 0 ++ lowBits n 0 ≡ replicate m 0
+zeros-join k n e = rw (zero-bits n, replicate-append-replicate {A = ℕ} k n 0, e)
+
 module _ {o o′ : List ℕ} {v : ℕ} {p p′ : Pen} {zeros : ℕ} (turn : ZerosTurn o v p o′ p′ zeros) where
   -- room for what is still to come
   pub zeros-able : Able o p v → (n : ℕ) → n ≤ zeros → Able o′ p′ n
@@ -36,9 +39,7 @@ module _ {o o′ : List ℕ} {v : ℕ} {p p′ : Pen} {zeros : ℕ} (turn : Zero
   pub zeros-then : (n : ℕ) → n ≤ zeros → {o″ : List ℕ} {p″ : Pen} → Puts o′ p′ (lowBits n 0) o″ p″ → length o″ ≡ length o′
       → ZerosTurn o v p o″ p″ (zeros - n)
   zeros-then n few put size =
-      let e : v - zeros + n ≡ v - (zeros - n) = omega (arith, turn .left) in
-      let f : replicate (v - zeros) 0 ++ lowBits n 0 ≡ replicate (v - (zeros - n)) 0 =
-      rw (zero-bits n) (replicate-append-replicate (v - zeros) n 0 ∙ ap (λ (k : ℕ). replicate k 0) e) in
+      let f = zeros-join (v - zeros) n {m = v - (zeros - n)} (omega (arith, turn .left)) in
       record { puts = puts-as (puts-then (turn .puts) put) f; left = omega (arith, turn .left); size = size ∙ turn .size }
 
   pub zeros-done : {o″ : List ℕ} {p″ : Pen} → Puts o′ p′ (lowBits zeros 0) o″ p″ → length o″ ≡ length o′ → Puts o p (replicate v 0) o″ p″
@@ -67,8 +68,7 @@ rice-end k s v e =
     rw (e, a, lowBits-join (k + 1) s 1 (v % 2 ^ s) (mod-lt v (pow-pos s)), b, d, append-assoc)
 
 pub rice-short : (s v : ℕ) {o o′ : List ℕ} {p p′ : Pen} {one : ℕ} → one ≡ 2 ^ s
-    → Puts o p (lowBits (v / 2 ^ s + 1 + s) (one + v % one)) o′ p′
-    → Puts o p (riceForm s v) o′ p′
+    → Puts o p (lowBits (v / 2 ^ s + 1 + s) (one + v % one)) o′ p′ → Puts o p (riceForm s v) o′ p′
 unfolding riceForm
 rice-short s v e put = puts-as put (rice-end (v / 2 ^ s) s v e)
 

@@ -38,8 +38,7 @@ module _ {o o′ row : List ℕ} {p p′ : Pen} {k i : ℕ} (turn : RowTurn o p 
       able-then n able (turn .puts) (turn .size) (omega (arith, length-rowBits (take i row), length-take-le i row (omega arith)))
 
   pub row-then : {w : ℕ} → w ≡ getD row i 0 → {o₁ o₂ : List ℕ} {p₁ p₂ : Pen} → Puts o′ p′ (lowBits 8 (w / 2 ^ 32)) o₁ p₁
-      → Puts o₁ p₁ (lowBits 32 (w % 2 ^ 32)) o₂ p₂
-      → length o₁ ≡ length o′ → length o₂ ≡ length o₁ → RowTurn o p row o₂ p₂ k (i + 1)
+      → Puts o₁ p₁ (lowBits 32 (w % 2 ^ 32)) o₂ p₂ → length o₁ ≡ length o′ → length o₂ ≡ length o₁ → RowTurn o p row o₂ p₂ k (i + 1)
   row-then {w} e high low size₁ size₂ =
       let f : lowBits 8 (w / 2 ^ 32) ++ lowBits 32 (w % 2 ^ 32) ≡ lowBits 40 (getD row i 0) = word-parts w ∙ ap (lowBits 40) e in
       record {

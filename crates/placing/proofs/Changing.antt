@@ -52,8 +52,7 @@ module _ (t : List ℕ) (n i : ℕ) (e : n ≡ getD t 0 0) where
       let joined = append-assoc (cellsOf a) (cellsOf (r ∷ z)) end ∙ ap (λ (x : List ℕ). cellsOf a ++ (x ++ end)) (cells-cons r z) in
       ap (λ (x : List ℕ). set x 0 (n + 1)) s ∙ sym (rw (ins, len, cells-append a (r ∷ z)) (ap (λ (x : List ℕ). (n + 1) ∷ x) joined))
 
-  pub removed : {t₁ : List ℕ} → 1 + 3 * n ≤ length t → i < n
-      → t₁ ≡ paste t (1 + 3 * i) (drop (1 + 3 * i + 3) t) (3 * (n - (i + 1)))
+  pub removed : {t₁ : List ℕ} → 1 + 3 * n ≤ length t → i < n → t₁ ≡ paste t (1 + 3 * i) (drop (1 + 3 * i + 3) t) (3 * (n - (i + 1)))
       → set t₁ 0 (n - 1) ≡ laid (removeAt i (rowsOf t)) t
   unfolding laid
   removed {t₁} h g p =

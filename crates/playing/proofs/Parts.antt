@@ -48,8 +48,7 @@ module _ (octets : List ℕ) (law set : ℕ) where
   reads (suc n) at room places = start (leb (length octets) at) refl places (λ i used. reads n (at + used) (room - length (soundOf i)))
     where
       Later : Type 0
-      Later = (i : Item) (used places : ℕ)
-          → Reads n (at + used) (room - length (soundOf i)) places
+      Later = (i : Item) (used places : ℕ) → Reads n (at + used) (room - length (soundOf i)) places
           (itemsFrom n octets law set (at + used) (room - length (soundOf i)) places)
 
       one : (places : ℕ) (s : Step) → itemStep octets law set at room ≡ s → at < length octets → Later
@@ -101,8 +100,7 @@ module _ (octets : List ℕ) (law set : ℕ) where
       items-off octets law set (suc n) n at room (suc places) refl l (omega arith) w bit e
   reads-only {n = suc n} {at} {room} {places = suc places} (delivers {i = i} {used = used} l e t) =
       items-one octets law set (suc n) n at room (suc places) refl l (omega arith) i used (room - length (soundOf i))
-      places e refl (omega arith)
-      ∙ ap (before i) (reads-only t)
+      places e refl (omega arith) ∙ ap (before i) (reads-only t)
 
   -- what is true of every reading
   pub record Told (n at room places : ℕ) (r : Recorded) : Type 0 where
@@ -197,9 +195,7 @@ module _ (octets : List ℕ) (law set : ℕ) where
   parts {m = suc m} {at} {room} {places = suc places} (delivers {i = i} {used = used} {rest = r} h e t) n =
       items-one octets law set (suc m + n) (m + n) at room (suc places) (omega arith) h (omega arith) i used
       (room - length (soundOf i)) places e
-      refl (omega arith)
-      ∙ ap (before i) (parts t n)
-      ∙ go (r .end)
+      refl (omega arith) ∙ ap (before i) (parts t n) ∙ go (r .end)
     where
       left : room - length (soundOf i ++ soundIn (r .items)) ≡ room - length (soundOf i) - length (soundIn (r .items))
       left = omega (arith, length-append (soundOf i) (soundIn (r .items)))
@@ -213,8 +209,7 @@ module _ (octets : List ℕ) (law set : ℕ) where
       go (Refused w) = refl
 
   -- a reading of m + n items is one of m items and, where that ended clean, one of n items from its place on, with the room and places left
-  pub items-parts : (m n at room places : ℕ)
-      → itemsFrom (m + n) octets law set at room places
+  pub items-parts : (m n at room places : ℕ) → itemsFrom (m + n) octets law set at room places
       ≡ byEnd (itemsFrom m octets law set at room places .end) (onFrom n room places (itemsFrom m octets law set at room places))
       (itemsFrom m octets law set at room places)
   items-parts m n at room places = parts (reads m at room places) n
@@ -243,8 +238,7 @@ module _ (octets : List ℕ) (law set : ℕ) where
   fuel {m = suc m} {at} {room} {places = suc places} (delivers {i = i} {used = used} l e t) h n =
       items-one octets law set (suc m + n) (m + n) at room (suc places) (omega arith) l (omega arith) i used
       (room - length (soundOf i)) places e
-      refl (omega arith)
-      ∙ ap (before i) (fuel t (omega (arith, fits l e .0)) n)
+      refl (omega arith) ∙ ap (before i) (fuel t (omega (arith, fits l e .0)) n)
 
   pub items-fuel : (m n at room places : ℕ) → length octets ≤ at + m → length octets ≤ at + n
       → itemsFrom m octets law set at room places ≡ itemsFrom n octets law set at room places
@@ -257,8 +251,7 @@ module _ (octets : List ℕ) (law set : ℕ) where
   Roomy n at room places = (320 * min n (length octets - at) ≤ room) × (min n (length octets - at) ≤ places)
 
   roomy : {n at room places : ℕ} {r : Recorded} → Reads n at room places r → (more others : ℕ) → Roomy n at room places
-      → Roomy n at more others
-      → itemsFrom n octets law set at more others ≡ r
+      → Roomy n at more others → itemsFrom n octets law set at more others ≡ r
   roomy {at = at} last more others h k = items-last octets law set 0 at more others refl
   roomy {n} {at} (ended l) more others h k = items-ended octets law set n at more others l
   roomy {n = suc n} {at} (full l) more others h k = absurd (omega (arith, h .1))
@@ -270,8 +263,7 @@ module _ (octets : List ℕ) (law set : ℕ) where
       let f = fits l e in
       let m = fits l least in
       items-one octets law set (suc n) n at more others refl l (omega (arith, k .1)) i used (more - length (soundOf i)) (others - 1)
-      (step-room at more (omega (arith, k .0)) ∙ least) refl refl
-      ∙ ap (before i) (roomy t (more - length (soundOf i)) (others - 1)
+      (step-room at more (omega (arith, k .0)) ∙ least) refl refl ∙ ap (before i) (roomy t (more - length (soundOf i)) (others - 1)
       (omega (arith, h .0, f .0, m .2), omega (arith, h .1, f .0)) (omega (arith, k .0, f .0, m .2), omega (arith, k .1, f .0)))
 
   pub items-roomy : (n at room places more others : ℕ) → Roomy n at room places → Roomy n at more others

@@ -59,8 +59,7 @@ module _ (octets : List ℕ) (law set′ fuel from : ℕ) (out₀ cells₀ : Lis
   module _ {out cells buffer : List ℕ} {at to count : ℕ} (w : Playing out cells buffer at to count) where
     -- where it stops, with no item left
     play-stop : (e : Ending) (bit : ℕ) → itemsFrom (fuel - count) octets law set′ at (length out₀ - to)
-        (length cells₀ - count) ≡ stopped e at bit
-        → Plays whole (playedOf e count at to bit) out₀ out cells₀ cells
+        (length cells₀ - count) ≡ stopped e at bit → Plays whole (playedOf e count at to bit) out₀ out cells₀ cells
     play-stop e bit q =
         subst (λ (x : Recorded). Plays x (playedOf e count at to bit) out₀ out cells₀ cells) (sym (w .is-whole ∙ ap (after (w .done)) q))
         (record {

@@ -66,8 +66,7 @@ module _ (octets : List ℕ) (law set : ℕ) where
     unfolding itemsFrom
     items-step p = rw (e, lt-leb (length octets) at h, ne-eqb places 0 (omega arith)) (go (eqb (getD octets at 0) lostOctet))
       where
-        judged : (f : Found) (b : Bool)
-            → before (cond b (lost (length (f .samples))) (sound f))
+        judged : (f : Found) (b : Bool) → before (cond b (lost (length (f .samples))) (sound f))
             (itemsFrom n octets law set (at + octetsUsed f) (room - cond b 0 (length (f .samples))) (places - 1))
             ≡ restFrom n at room places (cond b (lost (length (f .samples))) (sound f)) (octetsUsed f)
         judged f true = refl

@@ -27,8 +27,7 @@ turnOf r = record { end = r .end; octets = r .octets; len = r .len; cell = r .le
 
 -- a frame that is no erasure frame
 pub frame-sound : (mask : ℕ) {found : Read Found} {r : Report} {buffer : List ℕ} → Fills found r buffer
-    → erased mask (take (r .len) buffer) ≡ false
-    → Turned (frameStep mask found) (turnOf r) buffer
+    → erased mask (take (r .len) buffer) ≡ false → Turned (frameStep mask found) (turnOf r) buffer
 frame-sound mask {found = whole f i} f′ e =
     let t = f′ .tells in
     let e′ : erased mask (f .samples) ≡ false = rw (t .len, f′ .samples) at e in

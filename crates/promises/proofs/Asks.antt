@@ -27,15 +27,14 @@ use Rattle.rules.specs.Fractional.{radix, groupOf, bitsFor, bodyBits, digitsOf,
 use Rattle.rules.specs.Frame.{Found, body, withTool, rowIn, afterFirst, frame, readOne}
 use Rattle.rules.specs.Walk.{Walked, stopped, walkAll, samplesKept}
 use Rattle.rules.proofs.Octets.{Below, none, bitsOf-below, length-bitsOf}
+use Rattle.rules.proofs.Gives.{same-refusal, Gives, gives-bit, gives-number, gives-zerosFrom, gives-rice}
 use Rattle.rules.proofs.Tests.{and-left, and-right}
-use Rattle.rules.proofs.Gives.{Gives, gives-bit, gives-number, gives-zerosFrom, gives-rice}
-use Rattle.rules.proofs.Gives.{gives-runsFrom, gives-byMethod, gives-readTree, gives-bitsFrom, gives-groupsFrom}
+use Rattle.rules.proofs.Gives.{gives-runsFrom, gives-byMethod, gives-readTree, gives-bitsFrom, gives-groupsFrom, no-refusal}
 use Rattle.rules.proofs.Accepted.{gives-body}
 use Rattle.rules.proofs.Laid.{empty-all, lay-count}
 use Rattle.rules.proofs.Each.{Each, nothing, next}
 use Rattle.rules.proofs.Signed.{LawMask, law-mask}
 use Rattle.rules.proofs.Room.{length-most}
-use Rattle.rules.proofs.Gives.{no-refusal}
 use Rattle.promises.proofs.Reach.{near-bit, near-more, near-numberFrom}
 use Rattle.rules.proofs.Fractional.{body-bits-most}
 use Rattle.promises.proofs.Fractional.{near-groups}
@@ -45,7 +44,7 @@ use Rattle.promises.proofs.Bounded.{Costs, costs-near, near-bitsFrom, c
 use Rattle.promises.proofs.Bounded.{depth, near-tree, tree-depth, tree-leaves, costs-six, costs-other, plain}
 use Rattle.promises.proofs.Further.{SixOrEight, six, eight, six-or-eight, bit-there, mark-first, nothing-short}
 use Rattle.promises.proofs.Refused.{refused-walk, Begins, walkable, unlawful, no-set, too-long, walk-begins}
-use Rattle.promises.proofs.Points.{same-refusal, same-bit, near-zeros}
+use Rattle.promises.proofs.Points.{same-bit, near-zeros}
 use Rattle.promises.proofs.Bit.{first-of-bits, frame-after, short-bit, ended-by}
 
 -- SHORT at a place, with c saved up, comes within k places of where the reading began
@@ -78,8 +77,7 @@ pays : {A : Type 0} {p : Reader A} (c k l : ℕ) → c + k ≤ l → Asks 0 k p 
 pays c k l h g = record { asks = λ b z i m at e. omega (arith, g .asks b z i m at e) }
 
 asks-then : {A B : Type 0} {Q : A → Type 0} {p : Reader A} {f : A → Reader B} (c k : ℕ) (cost : A → ℕ) → Gives p Q
-    → Costs 0 cost p → Asks c k p
-    → ((a : A) → Q a → Asks (c + cost a) k (f a)) → Asks c k (p >>= f)
+    → Costs 0 cost p → Asks c k p → ((a : A) → Q a → Asks (c + cost a) k (f a)) → Asks c k (p >>= f)
 asks-then {A} {B} {Q} {p} {f} c k cost v g s h = record { asks = λ b z i m at e. go b z i m at (p b i) refl e }
   where
     go : (b : List ℕ) → Below 2 b → (i : ℕ) → i ≤ length b → (at : ℕ) (r : Read A) → p b i ≡ r
@@ -286,8 +284,7 @@ asks-other {mask} l t n mark h ne =
 
 -- a body that asks for k at most and has c bits at most, and then its filling
 asks-withTool : {mask : ℕ} → LawMask mask → (set room t n mark c k : ℕ) → isLength n ≡ true → c + 7 ≤ k
-    → Costs 0 (λ s. c) (body mask t n mark) → Asks 0 k (body mask t n mark)
-    → Asks 0 k (withTool mask set room t n mark)
+    → Costs 0 (λ s. c) (body mask t n mark) → Asks 0 k (body mask t n mark) → Asks 0 k (withTool mask set room t n mark)
 unfolding withTool
 asks-withTool {mask} l set room t n mark c k len h g s =
     asks-cond (not (holds set t)) (λ e. asks-fail 0 k (Tool t) 0 (is-not (Tool t) (omega arith))) (λ e.

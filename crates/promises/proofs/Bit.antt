@@ -21,15 +21,15 @@ use Rattle.rules.specs.First.{First, unassigned, pad, tool, sixOrEight, firstOc
 use Rattle.rules.specs.Frame.{Found, octetsUsed, withTool, rowIn, afterFirst, frame, readOne}
 use Rattle.rules.specs.Walk.{Delivered, Walked, stopped, before, walkAll, samplesKept}
 use Rattle.rules.proofs.Octets.{Below, length-bitsOf, bitsOf-append, bitsOf-below, below-take}
+use Rattle.rules.proofs.Gives.{same-refusal, no-refusal}
 use Rattle.rules.proofs.Accepted.{read-accepts}
 use Rattle.rules.proofs.Tests.{and-right}
 use Rattle.promises.proofs.Frame.{first-eight, value-small}
-use Rattle.rules.proofs.Gives.{no-refusal}
 use Rattle.promises.proofs.Further.{Goes, short, same, nothing-short, bit-there, mark-first, read-goes, looks-no-further}
 use Rattle.promises.proofs.Bounded.{plain, first-plain}
 use Rattle.promises.proofs.Walks.{WalkOf, ended, refused, delivers, uses, Walkable, walk-all-of, walk-all-only}
 use Rattle.promises.proofs.Refused.{cut-at, refused-walk, Begins, walkable, unlawful, no-set, too-long, walk-begins}
-use Rattle.promises.proofs.Points.{BitOf, reach, Says, Past, Between, earlier, same-refusal, points-withTool, points-sixNotEight}
+use Rattle.promises.proofs.Points.{BitOf, reach, Says, Past, Between, earlier, points-withTool, points-sixNotEight}
 
 -- the length that a first octet has
 plain-length : (t n : ℕ) → plain (tool t n) ≡ true → isLength n ≡ true
@@ -239,8 +239,7 @@ cut-apart x y law set room {f} {j} e h = go (read-goes x y law set room)
         absurd (omega (arith, a .octets, a .inside, length-bitsOf x))
 
 pub cut-short : (octets : List ℕ) (law set room : ℕ) {f : Found} {j : ℕ} → readOne octets law set room ≡ whole f j → (k : ℕ)
-    → k < octetsUsed f
-    → readOne (take k octets) law set room ≡ refuse Short (8 * k)
+    → k < octetsUsed f → readOne (take k octets) law set room ≡ refuse Short (8 * k)
 cut-short octets law set room {f} {j} e k h =
     let a = read-accepts octets law set room e in
     let l : length (take k octets) ≡ k = length-take-le k octets (omega (arith, a .octets, a .inside, length-bitsOf octets)) in
@@ -282,8 +281,7 @@ cut-before f c (between done rest e d) = between (f ∷ done) rest (ap (λ l. f 
 cut-before f c (inside done rest g e h k d) = inside (f ∷ done) rest g (ap (λ l. f ∷ l) e) h k (ap (before f) d)
 
 cut-from : {octets : List ℕ} {law set at room : ℕ} {w : Walked} → WalkOf octets law set at room w → (c : ℕ) → at ≤ c
-    → c ≤ w .place → c ≤ length octets
-    → CutFrom octets law set at room c w
+    → c ≤ w .place → c ≤ length octets → CutFrom octets law set at room c w
 cut-from {octets} {law} {set} {at} {room} (ended h) c x y l = clean octets law set at room c (stopped Done at 0) (omega arith) l
 cut-from {octets} {law} {set} {at} {room} (refused {w = r} {bit = b} h e) c x y l =
     clean octets law set at room c (stopped (Refused r) at b) (omega arith) l

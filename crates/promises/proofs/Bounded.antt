@@ -28,7 +28,7 @@ use Rattle.rules.proofs.Octets.{Below, none, more, bitsOf-below, length-lowBits
 use Rattle.rules.proofs.Laid.{empty-all, lay-count}
 use Rattle.rules.proofs.Signed.{LawMask, sampleOf-one-to-one, law-mask}
 use Rattle.rules.proofs.Gives.{Gives, gives-bit, gives-number, gives-zerosFrom, gives-rice}
-use Rattle.rules.proofs.Gives.{gives-runsFrom, gives-byMethod, gives-readTree, Leaves}
+use Rattle.rules.proofs.Gives.{gives-runsFrom, gives-byMethod, gives-readTree, Leaves, no-refusal, same-place, same-value}
 use Rattle.rules.proofs.Accepted.{Steps, through, steps, not-refused, filled-is, number-next}
 use Rattle.rules.proofs.Tests.{and-left, and-right, allBelow-at, by-length}
 use Rattle.rules.proofs.Each.{or-right, Each, nothing, next}
@@ -41,7 +41,6 @@ use Rattle.promises.proofs.Written.{read-bits}
 use Rattle.promises.proofs.Frame.{foundAt}
 use Rattle.rules.proofs.Room.{length-most}
 use Rattle.rules.proofs.Firsts.{isCode, asWritten, first-as-written}
-use Rattle.rules.proofs.Gives.{no-refusal, same-place, same-value}
 use Rattle.promises.proofs.Reach.{Near, near-fail, near-give, near-here, near-bit, near-then, near-cond, near-more, near-numberFrom}
 use Rattle.rules.proofs.Fractional.{body-bits-most}
 use Rattle.promises.proofs.Fractional.{near-fractional, fractional-most}

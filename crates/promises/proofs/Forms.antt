@@ -150,8 +150,7 @@ binary-restores mask s l e =
 
 -- of either mark and every S of the length
 pub rice-restores : (mask mark r : ℕ) (s : List ℕ) → isLength (length s) ≡ true → mark < 2 → 1 ≤ r → r ≤ mostS (length s)
-    → Each (isZero mask) s
-    → Restores mask 6 s (plusMinusForm mask mark r s)
+    → Each (isZero mask) s → Restores mask 6 s (plusMinusForm mask mark r s)
 unfolding body
 rice-restores mask mark r s l m p q e =
     let runs = runsForm r (map (flagOf mask mark) s) in
@@ -176,8 +175,7 @@ located-restores {mask} law s l b a =
     }
 
 pub fractional-restores : {mask : ℕ} → LawMask mask → (s : List ℕ) → isLength (length s) ≡ true → Below 256 s
-    → fractionalApplies mask s ≡ true
-    → Restores mask 11 s (fractionalForm mask s)
+    → fractionalApplies mask s ≡ true → Restores mask 11 s (fractionalForm mask s)
 unfolding body fractionalForm
 fractional-restores {mask} law s l b a =
     record {
@@ -188,8 +186,7 @@ fractional-restores {mask} law s l b a =
 
 -- every tool's form of every frame that it applies to
 pub form-restores : {mask : ℕ} → LawMask mask → (t : ℕ) (s : List ℕ) → isLength (length s) ≡ true → Below 256 s
-    → isTool t ≡ true → applies mask t s ≡ true
-    → Restores mask t s (formOf mask t s)
+    → isTool t ≡ true → applies mask t s ≡ true → Restores mask t s (formOf mask t s)
 unfolding formOf applies riceChoice
 form-restores {mask} law t s l b h =
     by-tool (λ t. applies mask t s ≡ true → Restores mask t s (formOf mask t s))

@@ -23,7 +23,7 @@ use Rattle.rules.specs.Fractional.{groupsFrom, groupsForm, placeIn, groupsAs, g
 use Rattle.rules.specs.Frame.{Found, body, withTool}
 use Rattle.rules.specs.Chooses.{fractionalRow, fractionalApplies}
 use Rattle.rules.proofs.Octets.{Below, below-take, below-drop, below-append, lowBits-below, none}
-use Rattle.rules.proofs.Tests.{implied, allBelow, allBelow-at, by-length}
+use Rattle.rules.proofs.Tests.{implied, allBelow, allBelow-at, by-length, forties}
 use Rattle.rules.proofs.Signed.{LawMask}
 use Rattle.rules.proofs.Room.{length-most}
 use Rattle.rules.proofs.Gives.{no-refusal, same-place}
@@ -62,9 +62,6 @@ back-groupsAs values {g} {w} s p a =
     refl (append-nil _) (places-back values a)
 
 -- the five lengths are multiples of forty
-pub forties : (n : ℕ) → isLength n ≡ true → n % 40 ≡ 0
-forties n l = by-length (λ n. n % 40 ≡ 0) refl refl refl refl refl n l
-
 pub back-fractional : {mask : ℕ} → LawMask mask → (s : List ℕ) → isLength (length s) ≡ true → Below 256 s → fractionalApplies mask s ≡ true
     → Back (fractional mask (fractionalRow mask s) (length s)) (fractionalBody mask (fractionalRow mask s) s) s
 back-fractional {mask} law s l b a =
@@ -151,8 +148,7 @@ fractional-next mask k n b i {s} {j} e =
     go (steps (groupsFrom (radix k) (groupOf (radix k)) (bitsFor (radix k)) [] (n / groupOf (radix k)) b i) _ e)
   where
     go : Steps (groupsFrom (radix k) (groupOf (radix k)) (bitsFor (radix k)) [] (n / groupOf (radix k)) b i)
-        (λ digits m. whole (map (λ d. getD (samplesAt mask k) d 0) digits) m) s j
-        → i + bodyBits k n ≡ j
+        (λ digits m. whole (map (λ d. getD (samplesAt mask k) d 0) digits) m) s j → i + bodyBits k n ≡ j
     go (through digits m q d) = groups-next (radix k) (groupOf (radix k)) (bitsFor (radix k)) [] (n / groupOf (radix k)) b i q
         ∙ same-place d
 

@@ -83,8 +83,7 @@ row-of-code : (n k : ℕ) → rowIn (firstCode n + k) 11 n ≡ k
 row-of-code n k = omega arith
 
 pub read-row : (mask set room k n : ℕ) (b post s : List ℕ) → isLength n ≡ true → k < rowCount n → holds set 11 ≡ true → n ≤ room
-    → Back (body mask 11 n k) b s
-    → frame mask set room (filledBits (lowBits 8 (firstCode n + k) ++ b) ++ post) 0 ≡ foundAt 11 s
+    → Back (body mask 11 n k) b s → frame mask set room (filledBits (lowBits 8 (firstCode n + k) ++ b) ++ post) 0 ≡ foundAt 11 s
     (length (lowBits 8 (firstCode n + k) ++ b))
 unfolding frame afterFirst
 read-row mask set room k n b post s l few h r back =
@@ -201,8 +200,7 @@ decided (zeroOne {b = b}) front rest =
 
 six-steps : (mask set room n mark o j : ℕ) (w : List ℕ) (r : Read Found) → number 8 w 0 ≡ whole o 8 → firstOctet o ≡ sixOrEight n
     → bit w (markAt n) ≡ whole mark (markAt n + 1) → sixNotEight w (markAt n + 1) ≡ whole 6 j
-    → withTool mask set room 6 n mark w (markAt n + 1) ≡ r
-    → frame mask set room w 0 ≡ r
+    → withTool mask set room 6 n mark w (markAt n + 1) ≡ r → frame mask set room w 0 ≡ r
 unfolding frame afterFirst
 six-steps mask set room n mark o j w r e f g h t = rw (e, f, g, h) t
 
@@ -237,8 +235,7 @@ six-frame mask set room n mark front code b post s d e f c low g h k back =
     (rw (← lp) (with-tool mask set room 6 n mark pre body post s h k back))
 
 pub read-six : (mask set room n mark r : ℕ) (b post s : List ℕ) → isLength n ≡ true → mark < 2 → 1 ≤ r → r ≤ mostS n
-    → Below 2 (codeOf n r ++ b)
-    → holds set 6 ≡ true → n ≤ room → Back (body mask 6 n mark) (codeOf n r ++ b) s
+    → Below 2 (codeOf n r ++ b) → holds set 6 ≡ true → n ≤ room → Back (body mask 6 n mark) (codeOf n r ++ b) s
     → frame mask set room (filledBits (riceCode n mark ++ (codeOf n r ++ b)) ++ post) 0 ≡ foundAt 6 s
     (length (riceCode n mark ++ (codeOf n r ++ b)))
 read-six mask set room n mark r b post s l m p q low h k back =

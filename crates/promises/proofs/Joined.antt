@@ -107,8 +107,7 @@ joined a b law set h e =
     let m = suc (length (a ++ b)) in
     let left = room - length (samplesKept (wa .frames)) in
     let all : walkOf (a ++ b) law set ≡ after (wa .frames) (walkFrom m (a ++ b) law set (length a + 0) left) =
-    walk-all (a ++ b) law set room h
-    ∙ walk-fuel (a ++ b) law set m (n + m) 0 room (omega arith) (omega arith)
+    walk-all (a ++ b) law set room h ∙ walk-fuel (a ++ b) law set m (n + m) 0 room (omega arith) (omega arith)
     ∙ walk-on (a ++ b) law set n m 0 room (ap (λ (w : Walked). w .end) firstly ∙ clean)
     ∙ ap (λ (w : Walked). after (w .frames) (walkFrom m (a ++ b) law set (w .place) (room - length (samplesKept (w .frames))))) firstly
     ∙ ap (λ (p : ℕ). after (wa .frames) (walkFrom m (a ++ b) law set p left)) (at ∙ omega arith) in
@@ -172,8 +171,7 @@ cut-clean w law set h = go (walkOf w law set .end) refl
         let room : walkOf x law set ≡ walkAll x law set (320 * length w) =
         walk-all x law set (320 * length x) ok
         ∙ walk-roomy x law set (suc (length x)) 0 (320 * length x) (320 * length w) (omega arith)
-        (omega (arith, long, walk-place w law set h))
-        ∙ sym (walk-all x law set (320 * length w) ok) in
+        (omega (arith, long, walk-place w law set h)) ∙ sym (walk-all x law set (320 * length w) ok) in
         record {
           size = long;
           clean = ap (λ (v : Walked). v .end) (room ∙ k);

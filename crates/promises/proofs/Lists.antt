@@ -68,8 +68,7 @@ deliveries mask at (p ∷ ps) = record { place = at; found = foundIn mask p } �
 
 -- a part at the start of octets
 part-back : (law reader room : ℕ) {p : Part} → isLaw law ≡ true → isSet reader ≡ true → May reader p → (more : List ℕ)
-    → length (samplesIn p) ≤ room
-    → readOne (octetsOf (maskOf law) p ++ more) law reader room ≡ whole (foundIn (maskOf law) p)
+    → length (samplesIn p) ≤ room → readOne (octetsOf (maskOf law) p ++ more) law reader room ≡ whole (foundIn (maskOf law) p)
     (8 * octetsFor (length (writtenFor (maskOf law) p .bits)))
 part-back law reader room i e pads more r = pad-back law reader room more i e
 part-back law reader room i e (frames {set = set} o w f) more r =
@@ -80,8 +79,7 @@ part-some mask reader pads = omega (arith, length-pack (lowBits 8 0), length-low
 part-some mask reader (frames {set = set} o w f) = chosen-short mask set o f .some
 
 walk-parts : (law reader : ℕ) → isLaw law ≡ true → isSet reader ≡ true → (pre : List ℕ) (at room : ℕ) {ps : List Part} → All reader ps
-    → at ≡ length pre → length (samplesAll ps) ≤ room
-    → WalkOf (pre ++ stream (maskOf law) ps) law reader at room
+    → at ≡ length pre → length (samplesAll ps) ≤ room → WalkOf (pre ++ stream (maskOf law) ps) law reader at room
     (record { frames = deliveries (maskOf law) at ps; end = Done; place = at + length (stream (maskOf law) ps); bit = 0 })
 unfolding stream samplesAll deliveries
 walk-parts law reader i e pre at room last q r =
@@ -108,8 +106,7 @@ walk-parts law reader i e pre at room (then {p = p} {ps = ps} m t) q r =
 
 -- Demand 3, of lists: "the frames come back in order, pads as frames of no samples, all octets used"
 pub lists-walked : (law reader room : ℕ) (ps : List Part) → isLaw law ≡ true → isSet reader ≡ true → All reader ps
-    → length (stream (maskOf law) ps) ≤ longest → length (samplesAll ps) ≤ room
-    → walkAll (stream (maskOf law) ps) law reader room
+    → length (stream (maskOf law) ps) ≤ longest → length (samplesAll ps) ≤ room → walkAll (stream (maskOf law) ps) law reader room
     ≡ record { frames = deliveries (maskOf law) 0 ps; end = Done; place = length (stream (maskOf law) ps); bit = 0 }
 lists-walked law reader room ps i e a h r =
     let z : 0 + length (stream (maskOf law) ps) ≡ length (stream (maskOf law) ps) = omega arith in

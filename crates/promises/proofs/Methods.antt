@@ -51,8 +51,7 @@ listed-step w d k c done h n t =
 
 -- the places after those of `done`, of which the last c are not marked
 back-listedFrom : (w d k c q : ℕ) (done flags : List ℕ) → Below 2 flags → q ≡ length done + c → d ≡ q + length flags
-    → d ≤ 2 ^ w → k ≡ ones flags
-    → Back (listedFrom w d done k) (numbersForm w (placesOf q flags)) (done ++ (replicate c 0 ++ flags))
+    → d ≤ 2 ^ w → k ≡ ones flags → Back (listedFrom w d done k) (numbersForm w (placesOf q flags)) (done ++ (replicate c 0 ++ flags))
 unfolding listedFrom numbersForm placesOf countOf
 back-listedFrom w d zero c q done [] b i e h k =
     let z : d - length done ≡ c = omega arith in rw (z, append-nil {A = ℕ} (replicate c 0)) (back-give (done ++ replicate c 0))
@@ -113,8 +112,7 @@ least-range f best k zero h g = (h, omega arith)
 least-range f best k (suc m) h g =
     step (ltb (f k) (f best)) (least-range f k (k + 1) m (omega arith) (omega arith)) (least-range f best (k + 1) m h (omega arith))
   where
-    step : (b : Bool)
-        → (1 ≤ leastFrom f k (k + 1) m) × (leastFrom f k (k + 1) m < k + 1 + m)
+    step : (b : Bool) → (1 ≤ leastFrom f k (k + 1) m) × (leastFrom f k (k + 1) m < k + 1 + m)
         → (1 ≤ leastFrom f best (k + 1) m) × (leastFrom f best (k + 1) m < k + 1 + m)
         → (1 ≤ leastFrom f (cond b k best) (k + 1) m) × (leastFrom f (cond b k best) (k + 1) m < k + suc m)
     step true p q = (p .0, omega arith)
@@ -137,8 +135,7 @@ fits-chosen flags =
     second true b h k = plain
     second false b h k = last b h k
 
-    first : (c : Bool) → (c ≡ true → ones flags ≡ 0) → (c ≡ false → ones flags ≡ 0 → ⊥)
-        → Fits flags (cond c 5
+    first : (c : Bool) → (c ≡ true → ones flags ≡ 0) → (c ≡ false → ones flags ≡ 0 → ⊥) → Fits flags (cond c 5
         (cond (ltb (length flags) (fewestRunBits flags)) 0
         (cond (leb (ones flags) 4 && ltb (ones flags * widthOf (length flags) + 2) (fewestRunBits flags)) 7 (runS flags))))
     first true h k = absent (h refl)

@@ -18,7 +18,7 @@ use Rattle.rules.specs.First.{First, unassigned, pad, tool, sixOrEight, firstOc
 use Rattle.rules.specs.Frame.{Found, octetsUsed, body, withTool, rowIn, afterFirst, frame, readOne}
 use Rattle.rules.specs.Walk.{Delivered, Walked, stopped, before, walkFrom, longest, walkAll}
 use Rattle.rules.proofs.Each.{Each, nothing, next}
-use Rattle.rules.proofs.Gives.{no-refusal}
+use Rattle.rules.proofs.Gives.{no-refusal, same-refusal}
 use Rattle.promises.proofs.Walks.{WalkOf, ended, refused, delivers, uses, walk-of, walk-next, walk-only}
 
 -- the reading by the smaller set, beside that by the larger
@@ -99,9 +99,6 @@ pub data WalksNest (small : ℕ) (w v : Walked) : Type 0 where
   alike : w ≡ v → WalksNest small w v
   ends : (t : ℕ) → w .end ≡ Refused (Tool t) → holds small t ≡ false → Extends w v → WalksNest small w v
 
-same-refusal : {A : Type 0} {w u : Refusal} {i j : ℕ} → _≡_ {A = Read A} (refuse w i) (refuse u j) → w ≡ u
-same-refusal e = cc
-
 frame-before : (a at used : ℕ) (f : Found) {w v : Walked} → 1 ≤ used → at + used ≤ w .place → WalksNest a w v
     → WalksNest a (before (record { place = at; found = f }) w) (before (record { place = at; found = f }) v)
 frame-before a at used f h k (alike e) = alike (ap (before (record { place = at; found = f })) e)
@@ -114,8 +111,7 @@ frame-before a at used f {w} {v} h k (ends t e n x) =
     })
 
 walk-nests : (octets : List ℕ) (law a b : ℕ) → isSet a ≡ true → isSet b ≡ true → Within a b → {at room : ℕ} {w : Walked}
-    → WalkOf octets law a at room w
-    → (fuel : ℕ) → length octets < at + fuel → WalksNest a w (walkFrom fuel octets law b at room)
+    → WalkOf octets law a at room w → (fuel : ℕ) → length octets < at + fuel → WalksNest a w (walkFrom fuel octets law b at room)
 walk-nests octets law a b s t n {at} {room} (ended h) fuel l = alike (sym (walk-only {set = b} {room = room} (ended {at = at} h) fuel l))
 walk-nests octets law a b s t n {at} {room} (refused {w = w} {bit = bit} h e) fuel l = go (read-nests (drop at octets) law a b room s t n)
   where

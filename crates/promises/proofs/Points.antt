@@ -22,10 +22,9 @@ use Rattle.rules.specs.Fractional.{radix, groupOf, bitsFor, digitsOf, groupsFro
 use Rattle.rules.specs.First.{sixNotEight}
 use Rattle.rules.specs.Frame.{body, withTool}
 use Rattle.rules.proofs.Accepted.{Steps, through, steps, number-next}
-use Rattle.rules.proofs.Gives.{Leaves}
+use Rattle.rules.proofs.Gives.{Leaves, no-refusal, same-refusal, same-value}
 use Rattle.rules.proofs.Laid.{empty-most, length-lay}
 use Rattle.rules.proofs.Room.{length-most}
-use Rattle.rules.proofs.Gives.{no-refusal, same-value}
 use Rattle.promises.proofs.Reach.{Far, far-bit, far-then, Near, near-give, near-fail}
 use Rattle.promises.proofs.Reach.{near-here, near-bit, near-then, near-cond, near-more, near-numberFrom}
 use Rattle.promises.proofs.Further.{Goes, short, same, Firm, firm-give, firm-bind, firm-cond, firm-here, firm-bit, firm-numberFrom}
@@ -93,9 +92,6 @@ pub anywhere : {A : Type 0} {W : ℕ → Type 0} {p : Reader A} → Points Any p
 anywhere g = record { says = λ b i v k. g .says b i tt k; past = λ b c i v k. g .past b c i tt k }
 
 -- one step after another
-pub same-refusal : {A : Type 0} {w u : Refusal} {i j : ℕ} → _≡_ {A = Read A} (refuse w i) (refuse u j) → w ≡ u
-same-refusal e = cc
-
 pub same-bit : {A : Type 0} {w u : Refusal} {i j : ℕ} → _≡_ {A = Read A} (refuse w i) (refuse u j) → i ≡ j
 same-bit e = cc
 
@@ -104,8 +100,7 @@ earlier n i j (whole a k) h s = (omega (arith, s .0), s .1)
 earlier n i j (refuse w at) h s = (s .0, omega (arith, s .1))
 
 then-says : {A B : Type 0} (n i : ℕ) (m : Read A) (f : A → ℕ → Read B) → Says n i m
-    → ((a : A) (j : ℕ) → m ≡ whole a j → i ≤ j → j ≤ n → Says n j (f a j))
-    → Says n i (andThen m f)
+    → ((a : A) (j : ℕ) → m ≡ whole a j → i ≤ j → j ≤ n → Says n j (f a j)) → Says n i (andThen m f)
 then-says n i (whole a j) f s h = earlier n i j (f a j) (s .0) (h a j refl (s .0) (s .1))
 then-says n i (refuse w at) f s h = s
 

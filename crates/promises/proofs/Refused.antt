@@ -81,8 +81,7 @@ pub record RefusedAt (octets : List ℕ) (law set room : ℕ) (r : Refusal) (w :
   pub used : octetsKept (w .frames) ≡ w .place
 
 pub refused-walk : (octets : List ℕ) (law set room : ℕ) (r : Refusal) → Walkable octets law set
-    → walkAll octets law set room .end ≡ Refused r
-    → RefusedAt octets law set room r (walkAll octets law set room)
+    → walkAll octets law set room .end ≡ Refused r → RefusedAt octets law set room r (walkAll octets law set room)
 refused-walk octets law set room r t e =
     let w = walkAll octets law set room in
     let b = broken r (walk-all-of octets law set room t) e in

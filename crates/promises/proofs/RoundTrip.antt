@@ -42,8 +42,7 @@ well-written (declined w) e = let z : _≡_ {A = ℕ} 0 1 = cc in absurd (omega 
 pub restored : (f : Frame) (law set : ℕ) (out out′ : List ℕ) (w : WriteAnswer) → f .len ≤ length (f .samples) → Below 256 (f .samples)
     → WriteFrame f law set out out′ w → w .end ≡ Done
     → (reader : ℕ) (more into into′ : List ℕ) (r : ReadAnswer) → isSet reader ≡ true → (1 ≤ w .tool → holds reader (w .tool) ≡ true)
-    → f .len ≤ length into
-    → ReadFrame (take (w .octets) out′ ++ more) law reader into into′ r → Restored f w into into′ r
+    → f .len ≤ length into → ReadFrame (take (w .octets) out′ ++ more) law reader into into′ r → Restored f w into into′ r
 restored f law set out out′ w h b c e reader more into into′ r i held room d =
     go (well-written (writeOne (f .len) (f .samples) law set (length out)) (sym (c .end) ∙ e))
   where

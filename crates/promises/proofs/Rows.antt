@@ -16,6 +16,7 @@ use Rattle.rules.specs.Samples.{signed, sampleOf, plusZero, onLine}
 use Rattle.rules.specs.Located.{valuesInto, located, caseOf, valuesOf}
 use Rattle.rules.specs.Chooses.{countOf, valuesForm, leastOf, greatestOf, above, below, locatedFlag, rowOf, isRow, zeroLeads, applies}
 use Rattle.rules.proofs.Octets.{Below, none, more}
+use Rattle.rules.proofs.FrameRow.{line-small}
 use Rattle.rules.proofs.Signed.{InRange, LawMask, signed-range, told-by-line, sampleOf-one-to-one}
 use Rattle.rules.proofs.Tests.{and-left, and-right, allBelow, allBelow-at}
 use Rattle.rules.proofs.Each.{pick-below, or-right, Each, nothing, next, all, each-all}
@@ -25,10 +26,6 @@ use Rattle.promises.proofs.Located.{among, fills-start, back-values}
 -- a sample's place on the line
 abbrev line : ℕ → ℕ → ℕ
 line mask x = onLine (signed mask x)
-
-on-line : (v : ℤ) → InRange v → onLine v < 256
-on-line (pos y) h = omega arith
-on-line (negsuc y) h = omega arith
 
 -- the values of a row and a flag
 abbrev values : ℕ → ℕ → List ℤ
@@ -217,7 +214,7 @@ all-covered {mask} law s c b r =
     (eqb (line mask x) 128 || among (map onLine vs) (line mask x))
     (allBelow-at (λ l. covers c flag l) 256
     (two-at (λ c flag. allBelow (λ l. covers c flag l) 256) rows-cover c flag (r .small) (flag-small mask s))
-    (line mask x) (on-line (signed mask x) (signed-range mask x)))
+    (line mask x) (line-small (signed mask x) (signed-range mask x)))
     (rw (flag-fits mask s c r, le-leb low (line mask x) p, le-leb (line mask x) high q) refl)))
 
 -- "value-location if N is 80 or more, least and greatest are a row's, N fits it, and no value is more frequent than 0"
@@ -299,8 +296,7 @@ row-apart {mask} law s a =
     (two-at (λ c flag. all isValue (values c flag)) rows-values c flag (r .small) (flag-small mask s))))
 
 -- Tool 7: "range case (2 bits), flag (1 bit), then the values below in turn"
-pub back-located : {mask : ℕ} → LawMask mask → (s : List ℕ) → Below 256 s → Locates mask s
-    → Back (located mask (length s))
+pub back-located : {mask : ℕ} → LawMask mask → (s : List ℕ) → Below 256 s → Locates mask s → Back (located mask (length s))
     (lowBits 2 (rowOf mask s) ++ (lowBits 1 (locatedFlag mask s)
     ++ valuesForm (map (sampleOf mask) (valuesOf (length s) (rowOf mask s) (locatedFlag mask s))) s)) s
 unfolding located
@@ -315,8 +311,7 @@ back-located {mask} law s b a =
     let apart = not-zeros law
     (each-all isValue (values c flag)
     (two-at (λ c flag. all isValue (values c flag)) rows-values c flag (r .small) (flag-small mask s))) in
-    let on : (start : ℕ)
-    → Back (cond (eqb (length (valuesOf n c flag)) 0) (fail Case start)
+    let on : (start : ℕ) → Back (cond (eqb (length (valuesOf n c flag)) 0) (fail Case start)
     (valuesInto n z (map (sampleOf mask) (valuesOf n c flag)) (replicate n z)))
     (valuesForm (map (sampleOf mask) (valuesOf n c flag)) s) s
     = λ start. rw (e, some)

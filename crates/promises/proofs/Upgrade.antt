@@ -1,7 +1,7 @@
 -- R-5, a bench upgrade never costs room: a writer with more tools never needs more octets, for a frame or for any list of them.
 -- Main statements: `upgrade` (a frame), `upgrade-stream` (a list, each frame with two sets of its own), `upgrade-sum` (a list, two sets
 -- for all); `room-enough`, `joined`, `one-more`.
-use Prim.Native.Nat.{ℕ, suc, _+_, _-_, _^_, _/_, _%_, _≤_, _<_, min}
+use Prim.Native.Nat.{ℕ, suc, _+_, _^_, _/_, _%_, _≤_, _<_, min}
 use native.Mathlib.Omega.{arith}
 use mathlib.Core.Path.{_≡_, refl}
 use mathlib.Core.List.{List, [], _∷_, map}

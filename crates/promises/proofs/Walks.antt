@@ -26,8 +26,7 @@ pub data WalkOf (octets : List ℕ) (law set : ℕ) : ℕ → ℕ → Walked →
 
 -- a frame uses an octet or more, and no more than there are
 pub uses : (octets : List ℕ) (law set at room : ℕ) {f : Found} {j : ℕ} → at < length octets
-    → readOne (drop at octets) law set room ≡ whole f j
-    → (at < at + octetsUsed f) × (at + octetsUsed f ≤ length octets)
+    → readOne (drop at octets) law set room ≡ whole f j → (at < at + octetsUsed f) × (at + octetsUsed f ≤ length octets)
 uses octets law set at room h e =
     let u = read-uses (drop at octets) law set room e in
     (omega (arith, u .0), omega (arith, u .1, length-drop at octets))
@@ -62,16 +61,14 @@ walk-of (suc fuel) octets law set at room h =
 
 -- one step of the definition
 pub walk-next : (fuel : ℕ) (octets : List ℕ) (law set at room : ℕ) {f : Found} {j : ℕ} → at < length octets
-    → readOne (drop at octets) law set room ≡ whole f j
-    → walkFrom (suc fuel) octets law set at room
+    → readOne (drop at octets) law set room ≡ whole f j → walkFrom (suc fuel) octets law set at room
     ≡ before (record { place = at; found = f }) (walkFrom fuel octets law set (at + octetsUsed f) (room - length (f .samples)))
 unfolding walkFrom
 walk-next fuel octets law set at room h e = rw (lt-leb (length octets) at h, e) refl
 
 -- and such a walk is the definition, with enough fuel
 pub walk-only : {octets : List ℕ} {law set at room : ℕ} {w : Walked} → WalkOf octets law set at room w → (fuel : ℕ)
-    → length octets < at + fuel
-    → walkFrom fuel octets law set at room ≡ w
+    → length octets < at + fuel → walkFrom fuel octets law set at room ≡ w
 unfolding walkFrom
 walk-only (ended h) zero l = refl
 walk-only {octets = octets} {at = at} (ended h) (suc fuel) l = rw (le-leb (length octets) at h) refl

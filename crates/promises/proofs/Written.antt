@@ -97,8 +97,7 @@ read-bits law set room {b} more l s low = rw (l, s, bitsOf-append (pack b) more,
 
 -- a tool's form, by any reader that holds the tool
 pub form-back : (law t : ℕ) (s : List ℕ) → isLaw law ≡ true → isLength (length s) ≡ true → Below 256 s → isTool t ≡ true
-    → applies (maskOf law) t s ≡ true
-    → (set room : ℕ) (more : List ℕ) → isSet set ≡ true → holds set t ≡ true → length s ≤ room
+    → applies (maskOf law) t s ≡ true → (set room : ℕ) (more : List ℕ) → isSet set ≡ true → holds set t ≡ true → length s ≤ room
     → readOne (pack (formOf (maskOf law) t s) ++ more) law set room ≡ foundAt t s (length (formOf (maskOf law) t s))
 form-back law t s i l b h a set room more e held r =
     read-bits law set room more i e (form-below (maskOf law) t s l)
@@ -120,8 +119,7 @@ pad-back law set room more i e = read-bits law set room more i e (lowBits-below 
 -- what is chosen for a frame, by any reader that holds the tool used; a pad's tool, 0, need not be held
 pub chosen-back : (law set : ℕ) {s : List ℕ} → isLaw law ≡ true → isWriterSet set ≡ true → Frames s
     → (reader room : ℕ) (more : List ℕ) → isSet reader ≡ true
-    → (1 ≤ chosen (maskOf law) set s .tool → holds reader (chosen (maskOf law) set s .tool) ≡ true)
-    → length s ≤ room
+    → (1 ≤ chosen (maskOf law) set s .tool → holds reader (chosen (maskOf law) set s .tool) ≡ true) → length s ≤ room
     → readOne (pack (chosen (maskOf law) set s .bits) ++ more) law reader room
     ≡ foundAt (chosen (maskOf law) set s .tool) s (length (chosen (maskOf law) set s .bits))
 chosen-back law set i o pad reader room more e h r = rw (chosen-pad (maskOf law) set) (pad-back law reader room more i e)

@@ -81,8 +81,7 @@ back-binary mask s h =
 
 -- "Tool 6: code of S, then runs over N."
 pub back-plusMinus : (mask mark r : ℕ) (s : List ℕ) → isLength (length s) ≡ true → mark < 2 → Each (isZero mask) s → 1 ≤ r
-    → r ≤ mostS (length s)
-    → Back (plusMinus mask (length s) mark) (codeOf (length s) r ++ runsForm r (map (flagOf mask mark) s)) s
+    → r ≤ mostS (length s) → Back (plusMinus mask (length s) mark) (codeOf (length s) r ++ runsForm r (map (flagOf mask mark) s)) s
 back-plusMinus mask mark r s l m h a b =
     let flags = map (flagOf mask mark) s in
     let e : length flags ≡ length s = length-map s (flagOf mask mark) in

@@ -1,6 +1,6 @@
 -- The tool is decided: TOOL, ROOM, the body as it was read, and the filling.
-use Prim.Native.Nat.{ℕ, _*_, _%_, _≤_, _<_}
-use mathlib.Core.Path.{_≡_, refl, sym}
+use Prim.Native.Nat.{ℕ, _*_, _≤_, _<_}
+use mathlib.Core.Path.{_≡_, sym}
 use mathlib.Core.List.{List}
 use mathlib.Core.Bool.{true, false, cond}
 use lib.Dec.{eqb, lit≤}
@@ -59,9 +59,6 @@ unfolding body
 last-body mask t n mark a b c d e f = rw (ne-eqb t 1 a, ne-eqb t 2 b, ne-eqb t 3 c, ne-eqb t 4 d, ne-eqb t 5 e, ne-eqb t 6 f)
 
 -- the lengths are multiples of forty
-pub forties : (n : ℕ) → isLength n ≡ true → n % 40 ≡ 0
-forties n h = by-length (λ n. n % 40 ≡ 0) refl refl refl refl refl n h
-
 -- the lengths' range
 pub length-range : (n : ℕ) → isLength n ≡ true → (1 ≤ n) × (n ≤ 320)
 length-range n h =

@@ -44,8 +44,7 @@ has-body buffer f l (whole x j) = l
 has-body buffer f l (refuse w at) = refl
 
 pub fills-finish : (t n : ℕ) (s b : List ℕ) {found : Read Found} {r : Report} {buffer : List ℕ} → finish t s n b ≡ found
-    → Tells (finish t s n b) r
-    → take (length s) buffer ≡ s → length buffer ≡ 320 → Fills found r buffer
+    → Tells (finish t s n b) r → take (length s) buffer ≡ s → length buffer ≡ 320 → Fills found r buffer
 fills-finish t n s b {buffer = buffer} e h l k =
     let f : Found = record { tool = t; samples = s; bits = n } in
     fills-as e

@@ -13,7 +13,7 @@ use Rattle.rules.specs.declared.Ending.the-variants as ending
 use Rattle.rules.specs.Refusals.{verdict}
 use Rattle.rules.specs.Tools.{isLength, writerAsks}
 use Rattle.rules.specs.Samples.{maskOf}
-use Rattle.look.specs.Looks.{isMask, FrameIn}
+use Rattle.look.specs.Looks.{FrameIn}
 use Rattle.rules.proofs.Tests.{by-length}
 use Rattle.rules.proofs.Guards.{verdict-refused, verdict-done}
 use Rattle.reasons.specs.declared.Reasons.{Reasons}
@@ -32,14 +32,7 @@ module _ (n : ℕ) (samples : List ℕ) (law set : ℕ) where
   unfolding whyOne
   why-done e = sym (verdict-done Refused _ (writerAsks law set) e)
 
--- the mask of a law, and the samples of a length
-pub mask-is : (law : ℕ) → isMask (maskOf law) ≡ true
-mask-is law = go (eqb law 0)
-  where
-    go : (b : Bool) → isMask (cond b 0x55 0x7F) ≡ true
-    go true = refl
-    go false = refl
-
+-- the samples of a length
 pub frame-in : (n : ℕ) (samples : List ℕ) → isLength n ≡ true → (n ≤ 320 → n ≤ length samples) → FrameIn samples n
 frame-in n samples h long =
     let sized = by-length (λ k. (1 ≤ k) × ((k ≤ 320) × (k % 40 ≡ 0))) (omega arith) (omega arith) (omega arith) (omega arith)

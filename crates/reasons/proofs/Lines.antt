@@ -16,8 +16,7 @@ use Rattle.reasons.specs.Calls.{Prints}
 pub fields-put : (tool why octets : ℕ) (word : List ℕ) {o o₁ o₂ o₃ o₄ o₅ o₆ : List ℕ} {at a b c d e f : ℕ}
     → Puts o at (field toolKey tool) o₁ a → Puts o₁ a stateKey o₂ b → Puts o₂ b word o₃ c → Puts o₃ c (field whyKey why) o₄ d
     → Puts o₄ d (field octetsWord octets) o₅ e → Puts o₅ e lineEnd o₆ f → length word ≤ 4 → a ≤ at + 5 + 10 → d ≤ c + 5 + 10
-    → e ≤ d + 8 + 10
-    → (Puts o at (fieldsLine tool word why octets) o₆ f) × (f ≤ at + 60)
+    → e ≤ d + 8 + 10 → (Puts o at (fieldsLine tool word why octets) o₆ f) × (f ≤ at + 60)
 unfolding fieldsLine
 fields-put tool why octets word p q r s t u short k l m =
     (puts-then p (puts-then q (puts-then r (puts-then s (puts-then t u)))), omega (arith, q .place, r .place, u .place))

@@ -1,7 +1,7 @@
 -- What an answer of R-10 promises, of the definitions alone.
 -- Main statements: `winner-written`, `fits-when`, `fits-only`, `out-when`, `out-only`, `no-only`, `alone-writes`, `tie-when`, `tie-only`,
 -- `empty-fails`, `as-writer`.
-use Prim.Native.Nat.{ℕ, suc, _+_, _-_, _^_, _/_, _%_, _≤_}
+use Prim.Native.Nat.{ℕ, suc, _+_, _^_, _/_, _%_, _≤_}
 use native.Mathlib.Omega.{arith}
 use mathlib.Core.Path.{_≡_, refl, sym, ap, _∙_}
 use mathlib.Core.List.{List, [], _∷_, _++_}
@@ -166,8 +166,7 @@ pub winner-written : (mask set : ℕ) (s : List ℕ) → isWriterSet set ≡ tru
 winner-written mask set s odd some =
     let u = chosen-usable mask set s odd in
     let is = chosen-some mask set s some in
-    ap (λ (w : Written). stateOf mask set s (w .tool)) is
-    ∙ fits-when mask set s (chosenTool mask set s) some (u .held) (u .fits)
+    ap (λ (w : Written). stateOf mask set s (w .tool)) is ∙ fits-when mask set s (chosenTool mask set s) some (u .held) (u .fits)
     ∙ sym (ap (λ (w : Written). Fits (octetsFor (length (w .bits)))) is)
 
 -- a tool's octets are those of the form that any set writes in which it wins: so the set of it and tool 1 alone

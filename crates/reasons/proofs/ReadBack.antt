@@ -26,8 +26,7 @@ back-word word p q {w} {v} b = record {
 }
 
 back-else : {A : Type 0} (word : List ℕ) (p q : Reader A) {w : List ℕ} {v : A} → ((rest : List ℕ) → begins word (w ++ rest) ≡ false)
-    → Back q w v
-    → Back (wordOr word p q) w v
+    → Back q w v → Back (wordOr word p q) w v
 back-else word p q {w} {v} not-word b = record { reads = λ text i rest e. rw (e, not-word rest) (b .reads text i rest e) }
 
 -- the end of a tool's line: its condition and its octets

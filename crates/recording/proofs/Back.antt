@@ -173,8 +173,7 @@ taken-le mask (frame s) = go (erased mask s)
     go false = omega arith
 
 items-back : (law reader : ℕ) → isLaw law ≡ true → isSet reader ≡ true → (pre : List ℕ) (fuel at room places : ℕ) {ps : List Piece}
-    → All reader ps
-    → at ≡ length pre → length (piecesOctets (maskOf law) ps) < fuel → roomForAll ps ≤ room → length ps ≤ places
+    → All reader ps → at ≡ length pre → length (piecesOctets (maskOf law) ps) < fuel → roomForAll ps ≤ room → length ps ≤ places
     → itemsFrom fuel (pre ++ piecesOctets (maskOf law) ps) law reader at room places
     ≡ record { items = piecesRead (maskOf law) ps; end = Done; place = at + length (piecesOctets (maskOf law) ps); bit = 0 }
 unfolding piecesOctets piecesRead roomForAll itemsFrom

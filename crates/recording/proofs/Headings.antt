@@ -1,6 +1,6 @@
 -- "HEAD (14) for a wrong or cut heading": exactly where the first ten octets are neither heading (`head-is`, `head-only`), for every set
 -- that is one; "after SET": another set is told first (`set-first`).
-use Prim.Native.Nat.{ℕ, _-_}
+use Prim.Native.Nat.{ℕ}
 use native.Mathlib.Omega.{arith}
 use mathlib.Core.Path.{_≡_, refl, sym}
 use mathlib.Core.List.{List, [], _∷_}

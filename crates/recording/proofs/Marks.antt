@@ -10,12 +10,12 @@ use lib.ListN.{length, getD, drop, replicate, length-replicate}
 use lib.Dec.{eqb}
 use borrow.Author.Tests.{eq-eqb, eqb-true, ne-eqb}
 use Rattle.rules.specs.declared.Refusal.the-variants.{Prefix}
+use Rattle.rules.proofs.Counts.{count-replicate}
 use Rattle.rules.specs.Tools.{isSet, isLaw}
 use Rattle.rules.specs.Bits.{bitsOf}
 use Rattle.rules.specs.Reading.{whole, refuse}
 use Rattle.rules.specs.First.{firstOctet, lookUp, rows}
 use Rattle.rules.specs.Frame.{Found, frame, afterFirst, readOne}
-use Rattle.rules.specs.Chooses.{countOf}
 use Rattle.promises.proofs.Back.{back-number, back-first}
 use Rattle.rules.proofs.Gives.{no-refusal}
 use Rattle.recording.specs.Remembered.{lostOctet, plusPlus, erased}
@@ -44,11 +44,6 @@ never-lost octets law set at room {f} {j} l s h e = go (eqb (getD octets at 0) l
         let why : readOne (drop at octets) law set room ≡ refuse Prefix 0 =
         rw first (lost-refused law set room (drop (suc at) octets) l s) in
         no-refusal (sym why ∙ e)
-
-count-replicate : (x n : ℕ) → countOf (λ y. eqb y x) (replicate n x) ≡ n
-unfolding countOf
-count-replicate x zero = refl
-count-replicate x (suc n) = rw (eq-eqb x x refl, count-replicate x n) (omega arith)
 
 -- a loss of n samples, as it is written, is an erasure frame
 pub erased-loss : (mask n : ℕ) → 1 ≤ n → erased mask (replicate n (plusPlus mask)) ≡ true

@@ -31,8 +31,7 @@ item-before small i (ends t rest e h k) = ends t rest e h (ap (λ l. i ∷ l) k)
 
 -- after one frame, read by both
 after-nest : (small at : ℕ) (m m′ : Read Found) (next next′ : Found → Recorded) → nesting.Nests small m m′
-    → ((f : Found) → Nest small (next f) (next′ f))
-    → Nest small (afterRead m at next) (afterRead m′ at next′)
+    → ((f : Found) → Nest small (next f) (next′ f)) → Nest small (afterRead m at next) (afterRead m′ at next′)
 after-nest small at m m′ next next′ (nesting.alike e) h = rw (← e) (each m)
   where
     each : (m : Read Found) → Nest small (afterRead m at next) (afterRead m at next′)

@@ -8,19 +8,17 @@ use mathlib.Core.List.{List, map}
 use mathlib.Core.Bool.{Bool, true, false, cond}
 use lib.ListN.{length, getD, drop}
 use lib.Dec.{eqb, leb}
-use borrow.Author.Tests.{ne-eqb, eqb-true, leb-false}
+use borrow.Author.Tests.{ne-eqb, leb-false}
 use Rattle.rules.specs.declared.Refusal.{Refusal}
 use Rattle.rules.specs.declared.Refusal.the-variants as ruleRoom
 use Rattle.rules.specs.declared.Ending as ending
 use Rattle.rules.specs.declared.Ending.the-variants as rules
-use Rattle.rules.specs.Tools.{isSet, isLaw, isLength}
+use Rattle.rules.specs.Tools.{isSet, isLaw}
 use Rattle.rules.specs.Samples.{maskOf}
 use Rattle.rules.specs.Reading.{Read, whole, refuse}
 use Rattle.rules.specs.Frame.{Found, octetsUsed, readOne}
 use Rattle.rules.specs.Walk as walk
-use Rattle.rules.proofs.Room.{length-most, read-room}
-use Rattle.rules.proofs.Accepted.{read-accepts}
-use Rattle.rules.proofs.Tests.{or-cases}
+use Rattle.rules.proofs.Room.{read-most, read-room}
 use Rattle.promises.proofs.Walks.{uses}
 use Rattle.recording.specs.declared.Refusal.the-variants.{Frame}
 use Rattle.recording.specs.declared.Ending.{Ending}
@@ -61,13 +59,6 @@ taken-most : (mask : ℕ) (s : List ℕ) (b : Bool) → length s ≤ 320 → con
 taken-most mask s true h = omega arith
 taken-most mask s false h = h
 
-samples-most : (octets : List ℕ) (law set room : ℕ) {f : Found} {j : ℕ} → readOne octets law set room ≡ whole f j
-    → length (f .samples) ≤ 320
-samples-most octets law set room {f} e =
-    or-cases (length (f .samples) ≤ 320) (eqb (length (f .samples)) 0) (isLength (length (f .samples)))
-    (read-accepts octets law set room e .size)
-    (λ z. omega (arith, eqb-true (length (f .samples)) 0 z)) (λ l. length-most (length (f .samples)) l)
-
 pub items-of-walk : (fuel : ℕ) (octets : List ℕ) (law set at room room′ places : ℕ) → isLaw law ≡ true → isSet set ≡ true
     → Enough octets at room → Enough octets at room′ → length octets - at ≤ places
     → (getD octets (walk.walkFrom fuel octets law set at room .place) 0 ≡ lostOctet → ⊥)
@@ -79,10 +70,8 @@ items-of-walk (suc fuel) octets law set at room room′ places l s r r′ p n =
     (room′ - roomTaken (maskOf law) f) (places - 1) l s)
   where
     Later : Type 0
-    Later = (f : Found) → at < at + octetsUsed f
-        → Enough octets (at + octetsUsed f) (room - length (f .samples))
-        → Enough octets (at + octetsUsed f) (room′ - roomTaken (maskOf law) f)
-        → length octets - (at + octetsUsed f) ≤ places - 1
+    Later = (f : Found) → at < at + octetsUsed f → Enough octets (at + octetsUsed f) (room - length (f .samples))
+        → Enough octets (at + octetsUsed f) (room′ - roomTaken (maskOf law) f) → length octets - (at + octetsUsed f) ≤ places - 1
         → (getD octets (walk.walkFrom fuel octets law set (at + octetsUsed f) (room - length (f .samples)) .place) 0 ≡ lostOctet → ⊥)
         → itemsFrom fuel octets law set (at + octetsUsed f) (room′ - roomTaken (maskOf law) f) (places - 1)
         ≡ recordedOf (maskOf law) (walk.walkFrom fuel octets law set (at + octetsUsed f) (room - length (f .samples)))
@@ -94,17 +83,15 @@ items-of-walk (suc fuel) octets law set at room room′ places l s r r′ p n =
         ≡ recordedOf (maskOf law) (walk.onward m (walkNext fuel octets law set at room) (walkStop at))
     one (whole f j) e e′ h n later =
         let u = uses octets law set at room h e in
-        let m = samples-most (drop at octets) law set room e in
+        let m = read-most (drop at octets) law set room e in
         let t = taken-most (maskOf law) (f .samples) (erased (maskOf law) (f .samples)) m in
         rw (never-lost octets law set at room l s h e)
         (ap (before (itemOf (maskOf law) f)) (later f (u .0) (omega arith) (omega arith) (omega arith) n))
     one (refuse w bit) e e′ h n later = rw (ne-eqb (getD octets at 0) lostOctet n) refl
 
-    start : (b : Bool) → leb (length octets) at ≡ b
-        → (getD octets (cond b (walk.stopped rules.Done at 0)
+    start : (b : Bool) → leb (length octets) at ≡ b → (getD octets (cond b (walk.stopped rules.Done at 0)
         (walk.onward (readOne (drop at octets) law set room) (walkNext fuel octets law set at room) (walkStop at)) .place) 0
-        ≡ lostOctet → ⊥) → Later
-        → cond b (stopped Done at 0) (cond (eqb places 0) (stopped (Refused (Frame ruleRoom.Room)) at 0)
+        ≡ lostOctet → ⊥) → Later → cond b (stopped Done at 0) (cond (eqb places 0) (stopped (Refused (Frame ruleRoom.Room)) at 0)
         (cond (eqb (getD octets at 0) lostOctet) (afterLost fuel octets law set at room′ places)
         (afterRead (readOne (drop at octets) law set room′) at (itemNext fuel octets law set at room′ places))))
         ≡ recordedOf (maskOf law) (cond b (walk.stopped rules.Done at 0)

@@ -12,7 +12,6 @@ use Rattle.look.specs.declared.Extent.{Extent}
 use Rattle.look.specs.Looks.{countIs, ExtentIs}
 
 pub row-told : (mask : ℕ) (s : List ℕ) {e : Extent} {n x count rows : ℕ} → ExtentIs mask s e → length s ≡ n → x ≡ minusZero mask
-    → count ≡ countIs x s → rows ≡ rowCount n
-    → rowFrom (e .least) (e .greatest) (not (eqb count 0)) 0 rows ≡ fractionalRow mask s
+    → count ≡ countIs x s → rows ≡ rowCount n → rowFrom (e .least) (e .greatest) (not (eqb count 0)) 0 rows ≡ fractionalRow mask s
 unfolding fractionalRow
 row-told mask s t size x count rows = rw (t .least, t .greatest, count, x, rows, ← size) refl

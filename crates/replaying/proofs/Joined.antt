@@ -187,8 +187,7 @@ items-joined w law set z =
     ∙ items-on x law set n m 0 (320 * length x) (length x) (ap (λ (v : Recorded). v .end) firstly)
     ∙ ap (λ (v : Recorded). after (v .items)
     (itemsFrom m x law set (v .place) (320 * length x - length (soundIn (v .items))) (length x - length (v .items))))
-    firstly
-    ∙ ap (λ (k : ℕ). after (r .items) (itemsFrom m x law set k room places)) (omega (arith, long)) in
+    firstly ∙ ap (λ (k : ℕ). after (r .items) (itemsFrom m x law set k room places)) (omega (arith, long)) in
     let rest : itemsFrom m z law set 0 room places ≡ played z law set =
     items-fuel z law set m (suc (length z)) 0 room places (omega (arith, l)) (omega arith)
     ∙ items-roomy z law set (suc (length z)) 0 room places (320 * length z) (length z)

@@ -69,8 +69,7 @@ module _ (octets : List ℕ) (law set : ℕ) where
   reads-held {at = at} {room} (delivers {i = i} {rest = r} h e t) =
       omega (arith, item-most at room e, reads-held t, length-append (soundOf i) (soundIn (r .items)))
 
-  pub items-held : (n at room places : ℕ)
-      → length (soundIn (itemsFrom n octets law set at room places .items)) ≤ 320 * length
+  pub items-held : (n at room places : ℕ) → length (soundIn (itemsFrom n octets law set at room places .items)) ≤ 320 * length
       (itemsFrom n octets law set at room places .items)
   items-held n at room places = reads-held (reads octets law set n at room places)
 
@@ -109,8 +108,7 @@ module _ (octets : List ℕ) (law set at : ℕ) (out cells : List ℕ) where
   )
 
   pub part-told : {p : Played} {r : Part} {n : ℕ} {out′ cells′ : List ℕ} → Plays part p out out′ cells cells′
-      → n ≡ lossCells (take (p .items) cells′)
-      → Answers p n (length octets) r → NextPart octets law set at out out′ cells cells′ r
+      → n ≡ lossCells (take (p .items) cells′) → Answers p n (length octets) r → NextPart octets law set at out out′ cells cells′ r
   part-told t l a =
       record {
         end = a .end ∙ t .end;

@@ -124,8 +124,7 @@ module _ (body : List ℕ) (law set : ℕ) where
                   ap length (soundIn-append (f .done) next),
                   length-append
                       (soundIn (f .done)) (soundIn next),
-                )
-                ∙ sym (ap (λ r. length (soundIn (r .items))) w);
+                ) ∙ sym (ap (λ r. length (soundIn (r .items))) w);
           }
 
 -- an item that is told: where it is a loss, it is the recording's item there
@@ -138,8 +137,7 @@ one-loss (lost n ∷ []) cells lent h l e = let d : 32768 + n - 32768 ≡ n = om
 one-loss (i ∷ k ∷ is) cells lent h l e = absurd (omega arith)
 
 pub item-lost : (body : List ℕ) (law set : ℕ) {at number heard cell : ℕ} {p : Part} → NextItem body law set at number heard cell p
-    → (p .lost ≡ 0 → ⊥)
-    → (32768 ≤ cell) × LossAt body law set at number heard (cell - 32768)
+    → (p .lost ≡ 0 → ⊥) → (32768 ≤ cell) × LossAt body law set at number heard (cell - 32768)
 item-lost body law set {at} {p = p} n l =
     let w = partOf body law set at (length (n .page)) (length (n .lent)) in
     let d = items-told body law set (sureItems (length (n .page)) (length (n .lent))) at (length (n .page)) (length (n .lent)) in

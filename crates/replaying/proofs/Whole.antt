@@ -37,8 +37,7 @@ module _ (body : List ℕ) (law set : ℕ) where
         ∙ items-parts body law set (sureItems room places) (suc (length body)) at (320 * length body) (length body)
         ∙ ap (λ (r : Recorded). byEnd (r .end) (onFrom body law set (suc (length body)) (320 * length body) (length body) r) r)
         (items-roomy body law set (sureItems room places) at (320 * length body) (length body) room places (omega arith, omega arith)
-        (omega arith, omega arith))
-        ∙ ap (λ (r : Recorded). byEnd (part .end) (after (part .items) r) part)
+        (omega arith, omega arith)) ∙ ap (λ (r : Recorded). byEnd (part .end) (after (part .items) r) part)
         (items-roomy body law set (suc (length body)) (part .place) (320 * length body - length (soundIn (part .items)))
         (length body - length (part .items))
         (320 * length body) (length body) (omega (arith, d .some, e), omega (arith, d .some)) (omega arith, omega arith))
@@ -58,8 +57,7 @@ module _ (body : List ℕ) (law set : ℕ) where
         ended r Done q e clean =
             ap (after (r .items))
             (items-ended body law set (suc (length body)) (r .place) (320 * length body) (length body)
-            (ltb-false (r .place) (length body) e))
-            ∙ rw (append-nil, ← q, ← (clean q))
+            (ltb-false (r .place) (length body) e)) ∙ rw (append-nil, ← q, ← (clean q))
         ended r (Refused w) q e clean = refl
 
         go : (r : Recorded) → goesOn (r .end) (r .place) (length body) ≡ false → (r .end ≡ Done → r .bit ≡ 0)
@@ -70,8 +68,7 @@ module _ (body : List ℕ) (law set : ℕ) where
   pub all-parts : {done : List Item} {at : ℕ} → Before body law set done at → restOf 0 ≡ after done (restOf at)
   all-parts none = refl
   all-parts (one-more {done = done} {at = at} b room places m) =
-      all-parts b
-      ∙ ap (after done) (part-then at room places m)
+      all-parts b ∙ ap (after done) (part-then at room places m)
       ∙ after-after done (partOf body law set at room places .items) (restOf (partOf body law set at room places .place))
 
   -- so with the last part they are the whole recording

@@ -93,8 +93,7 @@ drop-three t k h =
     let w = rw c at (drop-cons t (k + 2) 0 (omega arith)) in
     u ∙ ap (λ (x : List ℕ). getD t k 0 ∷ x) (v ∙ ap (λ (x : List ℕ). getD t (k + 1) 0 ∷ x) w)
 
-pub set-second : (p rest : List ℕ) (a b c v k : ℕ) → length p ≡ k
-    → set (p ++ (a ∷ b ∷ c ∷ rest)) (k + 1) v ≡ p ++ (a ∷ v ∷ c ∷ rest)
+pub set-second : (p rest : List ℕ) (a b c v k : ℕ) → length p ≡ k → set (p ++ (a ∷ b ∷ c ∷ rest)) (k + 1) v ≡ p ++ (a ∷ v ∷ c ∷ rest)
 set-second p rest a b c v k e =
     ap (λ (x : List ℕ). set x (k + 1) v) (sym (append-snoc p a (b ∷ c ∷ rest)))
     ∙ set-at (p ++ (a ∷ [])) b (c ∷ rest) v (k + 1) (omega (arith, length-append p (a ∷ []))) ∙ append-snoc p a (v ∷ c ∷ rest)

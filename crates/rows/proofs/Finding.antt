@@ -1,6 +1,6 @@
 -- A number among the greetings: `find-absent` (it is absent exactly where its place is past them). A gap that is found is inside, among the
 -- greetings: `gap-fits`. Then the loops that look and count.
-use Prim.Native.Nat.{ℕ, suc, _+_, _*_, _-_, _≤_, _<_}
+use Prim.Native.Nat.{ℕ, suc, _+_, _*_, _≤_, _<_}
 use mathlib.Core.Path.{_≡_, refl, ap, _∙_}
 use mathlib.Core.List.{List, [], _∷_}
 use mathlib.Core.Bool.{Bool, true, false, cond, not}
@@ -57,8 +57,7 @@ fits-more : {want size far far′ j s : ℕ} → far ≤ far′ → Fits want si
 fits-more h f = record { among = omega (arith, f .among); inside = f .inside }
 
 pub gap-fits : (want size least at i : ℕ) (rows : List Row) {j s : ℕ} → rising least at size rows ≡ true
-    → At j s ≡ gapFrom want size at i rows
-    → Fits want size (i + length rows) j s
+    → At j s ≡ gapFrom want size at i rows → Fits want size (i + length rows) j s
 unfolding gapFrom
 gap-fits want size least at i [] h e = gap-case at i size (ltb size (at + want)) refl (omega arith) (omega arith) no-gap e
 gap-fits want size least at i (r ∷ rows) h e =

@@ -3,7 +3,7 @@
 ghost use mathlib.Core.Path.{_≡_};
 ghost use Prim.Native.Nat.{_+_, _*_, _-_, _^_, _≤_, _<_, min};
 ghost use lib.ListN.{length, getD};
-ghost use Rattle.rows.specs.Limits.{largestBlock, cellsFor};
+ghost use Rattle.rows.specs.Limits.{largestBlock};
 ghost use Rattle.rows.specs.Rows.{held as heldBy};
 ghost use Rattle.rows.specs.Finding.{findFrom, lowestGap};
 ghost use Rattle.rows.specs.Cells.{rowAt, rowsAt, rowsOf};
@@ -38,13 +38,6 @@ pub fn size_of(len: usize) -> usize
         return len;
     }
     LARGEST_BLOCK
-}
-
-// How many cells a table needs: how many greetings there are, then three for each of 32.
-pub fn cells_for(size: u64) -> u64
-    ensures { λ r. ⌜ r ≡ cellsFor size ⌝ }
-{
-    97
 }
 
 pub fn wide(x: u32) -> usize

@@ -107,8 +107,7 @@ abbrev pub usable : ℕ → ℕ → List ℕ → ℕ → Bool
 usable mask set s t = holds set t && applies mask t s
 
 step : (can : ℕ → Bool) (size : ℕ → ℕ) (t c : ℕ) (order : List ℕ) (a b : Bool) → can t ≡ a → leb (size t) (size c) ≡ b
-    → FirstLeast can size order c
-    → FirstLeast can size (t ∷ order) (cond (a && b) t c)
+    → FirstLeast can size order c → FirstLeast can size (t ∷ order) (cond (a && b) t c)
 step can size t c order true true e g f =
     record {
       before = [];

@@ -12,7 +12,7 @@ use lib.Seq.{getD-append-seam, getD-append-add}
 use borrow.Author.Tests.{eqb-true, lt-ltb}
 use Rattle.rules.specs.declared.Refusal.the-variants.{Short}
 use Rattle.rules.specs.Tools.{isLength}
-use Rattle.rules.specs.Reading.{Read, whole, refuse, _>>=_, andThen, bit, numberFrom}
+use Rattle.rules.specs.Reading.{Read, whole, refuse, andThen, bit, numberFrom}
 use Rattle.rules.specs.Zeros.{Tree, leaf, fork, treeOf, readTree, codesOf, codeOf, mostS}
 use Rattle.rules.proofs.Tests.{allBelow, allBelow-at, by-length}
 

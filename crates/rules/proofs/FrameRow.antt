@@ -52,7 +52,7 @@ rows-hold : allBelow (λ k. allBelow (rowHolds k) 256) 12 ≡ true
 unfolding valuesAt
 rows-hold = refl
 
-line-small : (v : ℤ) → InRange v → onLine v < 256
+pub line-small : (v : ℤ) → InRange v → onLine v < 256
 line-small (pos y) h = omega arith
 line-small (negsuc y) h = omega arith
 

@@ -30,6 +30,9 @@ pub record Gives {A : Type 0} (p : Reader A) (Q : A → Type 0) : Type 0 where
 pub no-refusal : {A : Type 0} {X : Type 0} {w : Refusal} {at : ℕ} {a : A} {j : ℕ} → _≡_ {A = Read A} (refuse w at) (whole a j) → X
 no-refusal e = let z : _≡_ {A = ℕ} 0 1 = cc in absurd (omega arith)
 
+pub same-refusal : {A : Type 0} {w u : Refusal} {i j : ℕ} → _≡_ {A = Read A} (refuse w i) (refuse u j) → w ≡ u
+same-refusal e = cc
+
 pub same-value : {A : Type 0} {a c : A} {i j : ℕ} → _≡_ {A = Read A} (whole a i) (whole c j) → a ≡ c
 same-value e = cc
 

@@ -93,8 +93,7 @@ module _ (n : ℕ) (samples : List ℕ) (law set room : ℕ) where
   write-refused e = verdict-refused declined _ (writerAsks law set) e
 
   -- LENGTH and ROOM are left
-  pub write-allowed : verdict (writerAsks law set) ≡ Done
-      → writeOne n samples law set room
+  pub write-allowed : verdict (writerAsks law set) ≡ Done → writeOne n samples law set room
       ≡ cond (not (eqb n 0 || isLength n)) (declined Length)
       (cond (ltb room (octetsFor (length (chosen (maskOf law) set (take n samples) .bits)))) (declined Room)
       (wrote (chosen (maskOf law) set (take n samples))))

@@ -85,15 +85,13 @@ module _ {out₀ : List ℕ} {at count octet : ℕ} (h : at + count ≤ length o
         is =
             ap (λ (x : List ℕ). set x (at + i) octet) (f .is)
             ∙ ap (set (paste out₀ at z i) (at + i)) (sym (getD-replicate count i octet 0 g))
-            ∙ paste-suc out₀ at z i 0 (omega arith) (omega (arith, length-replicate count octet))
-            ∙ ap (paste out₀ at z) (sym s);
+            ∙ paste-suc out₀ at z i 0 (omega arith) (omega (arith, length-replicate count octet)) ∙ ap (paste out₀ at z) (sym s);
         most = omega arith;
       }
 
 -- a lent list that is filled from its start on with f of each element of another: after i of them, and at the end
 pub mapped-turn : {A B : Type 0} (f : A → B) (s : List A) (d : List B) (i : ℕ) (a : A) (v : B) → i < length s → length s ≤ length d
-    → v ≡ f (getD s i a)
-    → set (paste d 0 (map f s) i) i v ≡ paste d 0 (map f s) (i + 1)
+    → v ≡ f (getD s i a) → set (paste d 0 (map f s) i) i v ≡ paste d 0 (map f s) (i + 1)
 mapped-turn f s d i a v h g e =
     let n = length-map s f in
     let z = paste-suc d 0 (map f s) i (f a) (omega arith) (omega arith) in

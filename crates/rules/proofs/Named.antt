@@ -1,5 +1,5 @@
 -- What the marked cases do not pin, each as a law for all frames.
-use Prim.Native.Nat.{ℕ, zero, suc, _+_, _*_, _-_, _≤_, _<_}
+use Prim.Native.Nat.{ℕ, zero, suc, _+_, _*_, _≤_, _<_}
 use mathlib.Core.Path.{_≡_, refl, ap}
 use mathlib.Core.List.{List, [], _∷_, _++_}
 use mathlib.Core.Bool.{Bool, true, false, cond, _&&_}
@@ -9,7 +9,7 @@ use lib.Dec.{eqb, leb}
 use lib.ListN.{length, getD}
 use borrow.Author.Tests.{le-ltb, lt-ltb, le-leb, lt-leb, eq-eqb, ne-eqb}
 use Rattle.rules.specs.declared.Refusal.the-variants.{Run, Place}
-use Rattle.rules.specs.Reading.{whole, refuse, _>>=_, bit, number}
+use Rattle.rules.specs.Reading.{whole, refuse, bit, number}
 use Rattle.rules.specs.Samples.{plusZero, minusZero}
 use Rattle.rules.specs.Runs.{zerosFrom, runsOf}
 use Rattle.rules.specs.Located.{widthOf, listedFrom, lay}

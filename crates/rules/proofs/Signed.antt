@@ -1,13 +1,13 @@
 -- The map of samples to signed numbers (specs/Samples): its inverse undoes it, so it is one to one. One statement over the mask, met by
 -- both laws.
-use Prim.Native.Nat.{ℕ, _+_, _-_, _%_, _<_, suc-le-suc}
+use Prim.Native.Nat.{ℕ, zero, suc, _+_, _%_, _<_, suc-le-suc}
 use mathlib.Core.Path.{_≡_, refl, sym, ap, _∙_}
 use mathlib.Core.Bool.{Bool, true, false, cond, _&&_}
 use native.Mathlib.Omega.{arith}
 use lib.Dec.{eqb, leb}
-use lib.IntN.{ℤ, pos, negsuc}
+use lib.IntN.{ℤ, pos, negsuc, _-ℤ_}
 use lib.Bits.{bitXor, xor-zero-l}
-use borrow.Author.Tests.{eqb-true, leb-true}
+use borrow.Author.Tests.{eqb-true, leb-true, lt-leb}
 use Rattle.rules.specs.Samples.{maskOf, signed, sampleOf, plusZero, minusZero, onLine}
 use Rattle.rules.proofs.Tests.{and-left, and-right, allBelow, allBelow-at}
 
@@ -15,6 +15,14 @@ use Rattle.rules.proofs.Tests.{and-left, and-right, allBelow, allBelow-
 abbrev pub InRange : ℤ → Type 0
 InRange (pos y) = y < 128
 InRange (negsuc y) = y < 128
+
+-- `-1 - v` takes y to -y - 1, and back
+pub turned-pos : (y : ℕ) → negsuc 0 -ℤ pos y ≡ negsuc y
+turned-pos zero = refl
+turned-pos (suc y) = ap negsuc (omega arith)
+
+pub turned-neg : (y : ℕ) → negsuc 0 -ℤ negsuc y ≡ pos y
+turned-neg y = rw (lt-leb (suc (suc y)) 1 (omega arith)) (ap pos (omega arith))
 
 -- what holds of a law's mask
 pub record LawMask (mask : ℕ) : Type 0 where

@@ -1,6 +1,6 @@
 -- A rule of all numbers below n, by one test that is computed; what a test that joins two says of each;
 -- and what holds of every length (`by-length`) and of every tool (`by-tool`).
-use Prim.Native.Nat.{ℕ, zero, suc, _≤_, _<_}
+use Prim.Native.Nat.{ℕ, zero, suc, _≤_, _<_, _%_}
 use mathlib.Core.Path.{_≡_, refl, sym, subst}
 use mathlib.Core.Bool.{Bool, true, false, not, _&&_, _||_, false≢true}
 use native.Mathlib.Nat.{not-suc-le-zero}
@@ -56,6 +56,10 @@ by-length P a b c d e n h =
   where
     is : (m : ℕ) → P m → eqb n m ≡ true → P n
     is m p h = subst P (sym (eqb-true n m h)) p
+
+-- every length is so many times 40
+pub forties : (n : ℕ) → isLength n ≡ true → n % 40 ≡ 0
+forties n h = by-length (λ n. n % 40 ≡ 0) refl refl refl refl refl n h
 
 pub not-length : (n : ℕ) → (n ≡ 40 → ⊥) → (n ≡ 80 → ⊥) → (n ≡ 160 → ⊥) → (n ≡ 240 → ⊥) → (n ≡ 320 → ⊥) → false ≡ isLength n
 not-length n a b c d e = rw (ne-eqb n 40 a, ne-eqb n 80 b, ne-eqb n 160 c, ne-eqb n 240 d, ne-eqb n 320 e)

@@ -125,8 +125,7 @@ module _ (octets : List ℕ) (law set : ℕ) where
     pub full : w .end ≡ Done → w .place < length octets → length (w .frames) ≡ n
     pub clean : w .end ≡ Done → w .bit ≡ 0
     -- it was refused: the frame at its place is, with the room left
-    pub refusal : {r : Refusal} → w .end ≡ Refused r
-        → (w .place < length octets) × (length (w .frames) < n)
+    pub refusal : {r : Refusal} → w .end ≡ Refused r → (w .place < length octets) × (length (w .frames) < n)
         × (readOne (drop (w .place) octets) law set (room - length (samplesKept (w .frames))) ≡ refuse r (w .bit))
 
   -- Done is no refusal
@@ -206,8 +205,7 @@ module _ (octets : List ℕ) (law set : ℕ) where
   parts {m = suc m} {at} {room} (refused {w = w} {bit = bit} h e) n = walk-off (suc m + n) (m + n) at room (omega arith) h bit w e
   parts {m = suc m} {at} {room} (delivers {f = f} {rest = w} h e t) n =
       walk-one (suc m + n) (m + n) at room (omega arith) h (at + octetsUsed f) (room - length (f .samples)) f e refl refl
-      ∙ ap (before (record { place = at; found = f })) (parts t n)
-      ∙ go (w .end)
+      ∙ ap (before (record { place = at; found = f })) (parts t n) ∙ go (w .end)
     where
       d : Delivered
       d = record { place = at; found = f }
@@ -221,8 +219,7 @@ module _ (octets : List ℕ) (law set : ℕ) where
       go (Refused r) = refl
 
   -- a walk of m + n frames is one of m frames and, where that ended clean, one of n frames from its place on, with the room left
-  pub walk-parts : (m n at room : ℕ)
-      → walkFrom (m + n) octets law set at room
+  pub walk-parts : (m n at room : ℕ) → walkFrom (m + n) octets law set at room
       ≡ byEnd (walkFrom m octets law set at room .end) (onFrom n room (walkFrom m octets law set at room))
       (walkFrom m octets law set at room)
   walk-parts m n at room = parts (walks m at room) n
@@ -254,8 +251,7 @@ module _ (octets : List ℕ) (law set : ℕ) where
 
   -- 320 samples of room are enough for each frame allowed, and for each octet left
   roomy : {n at room : ℕ} {w : Walked} → Walks n at room w → (more : ℕ) → 320 * min n (length octets - at) ≤ room
-      → 320 * min n (length octets - at) ≤ more
-      → walkFrom n octets law set at more ≡ w
+      → 320 * min n (length octets - at) ≤ more → walkFrom n octets law set at more ≡ w
   roomy {at = at} last more h k = walk-last 0 at more refl
   roomy {n} {at} (ended l) more h k = walk-ended n at more l
   roomy {n = suc n} {at} {room} (refused {w = w} {bit = bit} l e) more h k =

@@ -1,5 +1,5 @@
 -- The answers of the readers of flags, made, and taken apart by a caller.
-use Prim.Native.Nat.{ℕ, _+_, _-_, _≤_, zero-le}
+use Prim.Native.Nat.{ℕ, _≤_, zero-le}
 use mathlib.Core.Path.{_≡_, refl, sym, ap, _∙_}
 use mathlib.Core.List.{List, _++_}
 use native.Mathlib.Omega.{arith}

@@ -74,8 +74,7 @@ module _ {common other : ℕ} {old new : List ℕ} {from n v j : ℕ} (g : Sprea
       spreading-turn 1 (omega arith) (rw (div-one w, e)) refl (put-one new (from + j) x (omega arith))
 
   pub spreading-eight : {x i : ℕ} {after : List ℕ} → j + 8 ≤ n → x ≡ v / 2 ^ (n - (j + 8)) % 256 → from + j ≡ i
-      → Put new i (kinds common other (lowBits 8 x)) after
-      → Spreading common other old from n v (j + 8) after
+      → Put new i (kinds common other (lowBits 8 x)) after → Spreading common other old from n v (j + 8) after
   spreading-eight {x} h e a p =
       spreading-turn 8 h (ap (kinds common other) (ap (λ (y : ℕ). lowBits 8 y) e ∙ low-bits 8 8 (v / 2 ^ (n - (j + 8))) (omega arith))) a p
 

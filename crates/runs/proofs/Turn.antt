@@ -37,27 +37,23 @@ abbrev runsOn : ℕ → ℕ → ℕ → ℕ → List ℕ → ℕ → Reader (Lis
 runsOn n s more left done v =
     cond (eqb v left) (give (done ++ replicate v 0)) (runsFrom n s more (left - (v + 1)) (done ++ (replicate v 0 ++ (1 ∷ []))))
 
-runs-step : (bits : List ℕ) (n s more left : ℕ) (done : List ℕ) (at : ℕ) → 0 < left
-    → runsFrom n s (suc more) left done bits at
+runs-step : (bits : List ℕ) (n s more left : ℕ) (done : List ℕ) (at : ℕ) → 0 < left → runsFrom n s (suc more) left done bits at
     ≡ andThen (oneRun n s left bits at) (λ v j. runsOn n s more left done v bits j)
 unfolding runsFrom oneRun
 runs-step bits n s more left done at h = rw (ne-eqb left 0 (λ z. omega arith)) (go (rice n s bits at))
   where
-    go2 : (v j : ℕ) (b : Bool)
-        → cond b (fail Run at) (runsOn n s more left done v) bits j
+    go2 : (v j : ℕ) (b : Bool) → cond b (fail Run at) (runsOn n s more left done v) bits j
         ≡ andThen (cond b (fail Run at) (give v) bits j) (λ v j. runsOn n s more left done v bits j)
     go2 v j true = refl
     go2 v j false = refl
 
-    go : (r : Read ℕ)
-        → andThen r (λ v j. cond (ltb left v) (fail Run at) (runsOn n s more left done v) bits j)
+    go : (r : Read ℕ) → andThen r (λ v j. cond (ltb left v) (fail Run at) (runsOn n s more left done v) bits j)
         ≡ andThen (andThen r (λ v j. cond (ltb left v) (fail Run at) (give v) bits j)) (λ v j. runsOn n s more left done v bits j)
     go (whole v j) = go2 v j (ltb left v)
     go (refuse w b) = refl
 
 pub filled-none : (bits : List ℕ) (at n s : ℕ) {d common : ℕ} (other : ℕ) {old cells : List ℕ}
-    → Put old 0 (replicate d common) cells → d ≤ 320 → length old ≡ 320
-    → Filled bits at n s d common other cells cells 0 0 at
+    → Put old 0 (replicate d common) cells → d ≤ 320 → length old ≡ 320 → Filled bits at n s d common other cells cells 0 0 at
 unfolding countOf
 filled-none bits at n s other p f b =
     record {
@@ -94,8 +90,7 @@ module _ {bits : List ℕ} {at n s d common other : ℕ} {old cells : List ℕ} 
     fuel-left : d - count ≡ suc (d - (count + 1))
     fuel-left = let w = f .fuel in omega arith
 
-    stepped : {r : Read ℕ} → oneRun n s (d - filled) bits place ≡ r
-        → runsFrom n s d d [] bits at
+    stepped : {r : Read ℕ} → oneRun n s (d - filled) bits place ≡ r → runsFrom n s d d [] bits at
         ≡ andThen r (λ v j. runsOn n s (d - (count + 1)) (d - filled) (f .done) v bits j)
     stepped e = f .so-far ∙ rw (fuel-left, ← e) (runs-step bits n s (d - (count + 1)) (d - filled) (f .done) place (omega arith))
 

@@ -50,8 +50,7 @@ module _ {octets : List ℕ} {at n s d other : ℕ} {old : List ℕ} {before mar
 
     -- a run that reaches the end
     pub in-word-last : (r : Stretch) → r .filled ≡ filled → r .count ≡ count → r .place ≡ at + (all - good) → r .past ≡ filled + v
-        → r .size ≡ zeros + (s + 1)
-        → d ≤ filled + v → Reads-several octets n s d other old before marks at new r
+        → r .size ≡ zeros + (s + 1) → d ≤ filled + v → Reads-several octets n s d other old before marks at new r
     in-word-last r f k p q z l =
         let w : filled + v - filled ≡ v = omega arith in
         record {
@@ -63,8 +62,7 @@ module _ {octets : List ℕ} {at n s d other : ℕ} {old : List ℕ} {before mar
         }
 
     -- one that does not
-    pub in-word-turn : filled + v < d
-        → In-word octets at n s d other old before marks all (set new (filled + v) other)
+    pub in-word-turn : filled + v < d → In-word octets at n s d other old before marks all (set new (filled + v) other)
         (word * 2 ^ (zeros + (s + 1)) % 2 ^ 64) (good - (zeros + (s + 1))) (filled + v + 1) (count + 1)
     in-word-turn l =
         let size = zeros + (s + 1) in

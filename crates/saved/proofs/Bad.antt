@@ -110,7 +110,7 @@ laws-early b [] k h = refl
 laws-early b (r ∷ rows) zero h = absurd (omega arith)
 laws-early b (r ∷ rows) (suc k) h = ap (λ (l : List ℕ). 1 ∷ l) (laws-early b rows k (omega arith))
 
-marks-self : (ms : List Mark) → sameMarks ms ms ≡ true
+pub marks-self : (ms : List Mark) → sameMarks ms ms ≡ true
 unfolding sameMarks
 marks-self [] = refl
 marks-self (m ∷ ms) = rw (eq-eqb (m .octets) (m .octets) refl, eq-eqb (m .samples) (m .samples) refl) (marks-self ms)

@@ -50,8 +50,7 @@ no-more {done} {all} {text} {i} {j} h e = record { new = []; parts = sym (got-va
     go (m ∷ ms) = rw h
 
 one-more : {done all : List Mark} {text : List ℕ} {i j k : ℕ} (q : Mark) → begins markWord (drop i text) ≡ true
-    → markLine text i ≡ whole q k
-    → After (done ++ (q ∷ [])) all text k j → After done all text i j
+    → markLine text i ≡ whole q k → After (done ++ (q ∷ [])) all text k j → After done all text i j
 unfolding marksAre markIs noMark sameMarks
 one-more {done} {all} {text} {i} {j} {k} q h e a =
     record { new = q ∷ a .new; parts = a .parts ∙ append-assoc done (q ∷ []) (a .new); same = go }
@@ -76,8 +75,7 @@ marks-after (suc more) done text i all j h e =
     go : (t : Bool) → begins markWord (drop i text) ≡ t
         → cond t (andThen (markLine text i) (λ m j. markLinesFrom more (done ++ (m ∷ [])) text j)) (whole done i) ≡ whole all j
         → ((q : Mark) (k : ℕ) → length text < k + more → markLinesFrom more (done ++ (q ∷ [])) text k ≡ whole all j
-        → After (done ++ (q ∷ [])) all text k j)
-        → After done all text i j
+        → After (done ++ (q ∷ [])) all text k j) → After done all text i j
     go true p e ih =
         let m = through (markLine text i) _ e in
         let g = mark-goes text i (m .value) (m .place) (m .first) in
@@ -197,8 +195,7 @@ no-turn : {A : Type 0} {xs : List Listed} {at end n : ℕ} → whole [] at ≡ w
 no-turn {A} {xs} e l = let z : [] ≡ xs = got-value e in let m = ap length z in absurd (omega arith)
 
 turn : (far more : ℕ) (text : List ℕ) (at : ℕ) (new : List Listed) (end n : ℕ) → listedFrom far more [] text at ≡ whole new end
-    → length new ≡ suc n
-    → Turn far text at new end
+    → length new ≡ suc n → Turn far text at new end
 unfolding listedFrom
 turn far zero text at new end n e l = go (leb (length text) at) e
   where
@@ -208,8 +205,7 @@ turn far zero text at new end n e l = go (leb (length text) at) e
 turn far (suc more) text at new end n e l = go (leb (length text) at) e
   where
     last : (x : Listed) (j : ℕ) → listed far text at ≡ whole x j → (r : Read (List Listed)) → listedFrom far more [] text j ≡ r
-        → before (x ∷ []) r ≡ whole new end
-        → Turn far text at new end
+        → before (x ∷ []) r ≡ whole new end → Turn far text at new end
     last x j h (whole rest i) f g =
         record { more = more; x = x; rest = rest; next = j; parts = sym (got-value g); here = h; reads = f ∙ ap (whole rest) (got-place g) }
     last x j h none f g = let z : _≡_ {A = ℕ} 0 1 = cc in absurd (omega arith)
@@ -243,8 +239,7 @@ build : {far : ℕ} {text b : List ℕ} {size left at : ℕ} {answer : Bool} {r 
     (j more end low : ℕ)
     → n .law ≡ law → noted law text place ≡ whole n j → listedFrom far more [] text j ≡ whole rest end → length rest ≡ left
     → rising 0 low size (rowsListed (listedOf r n ∷ rest)) ≡ true → anyBad b (listedOf r n ∷ rest) ≡ false
-    → allTrue b (listedOf r n ∷ rest) ≡ answer
-    → HeadTurn far text b size left at answer r law place
+    → allTrue b (listedOf r n ∷ rest) ≡ answer → HeadTurn far text b size left at answer r law place
 unfolding rising rowsListed anyBad allTrue
 build {far} {text} {b} {size} {left} {at} {answer} {r} {law} {place} n rest j more end low l e f c g h k =
     let p = passed (ltb (r .start) low) _ g in
@@ -287,8 +282,7 @@ module _ {far : ℕ} {text b : List ℕ} {size left at : ℕ} {answer : Bool} {n
   comparing-turn {r} {law} {place} e =
       let t = turn far (s .more) text at (s .new) (s .end) n (s .reads) (s .count ∙ l) in
       let g : andThen (noted law text place) (λ n k. whole (listedOf r n) k) ≡ whole (t .x) (t .next) =
-      sym (rw (listed-parts text far at, ← e))
-      ∙ t .here in
+      sym (rw (listed-parts text far at, ← e)) ∙ t .here in
       let p = through (noted law text place) _ g in
       let x : listedOf r (p .value) ≡ t .x = got-value (p .then) in
       let k : p .place ≡ t .next = got-place (p .then) in
@@ -317,8 +311,7 @@ module _ {far : ℕ} {text b : List ℕ} {size left at : ℕ} {answer : Bool} {r
       go false f g = t .wrong f
 
   pub turn-on : {xs : List ℕ} {j : ℕ} → xs ≡ greeting b r
-      → To j ≡ nextOf (noteIs (noteOf law xs .samples) (noteOf law xs .marks) text place)
-      → Comparing far text b size left j answer
+      → To j ≡ nextOf (noteIs (noteOf law xs .samples) (noteOf law xs .marks) text place) → Comparing far text b size left j answer
   turn-on {xs} {j} q e =
       let g = noteOf law (greeting b r) in
       go (sameNote (t .note) g) refl ((rw q at e) ∙ note-compared text law place (t .note) g (t .next) (t .notes))

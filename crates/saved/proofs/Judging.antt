@@ -98,7 +98,6 @@ module _ {b : List ℕ} {size : ℕ} {xs : List Listed} (p : Passes b size xs) w
   passes-false e = rw (p .rises, p .once, p .fine, e)
 
 pub sound : {b : List ℕ} {size n : ℕ} (found : Read (List Listed)) → isWhole found ≡ true → Passes b (sizeOf b) (greetingsOf found)
-    → size ≡ sizeOf b
-    → n ≡ length (greetingsOf found) → Fitting b size n found
+    → size ≡ sizeOf b → n ≡ length (greetingsOf found) → Fitting b size n found
 sound found e p z c =
     record { reads = e; count = c; inside = omega (arith, z); small = omega (arith, z); rises = rw z (p .rises); fine = p .fine }

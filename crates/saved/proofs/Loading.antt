@@ -82,8 +82,7 @@ pub record Early (b : List ℕ) (found : Read (List Row)) (cells : List ℕ) (n 
   pub celled : Celled (early b rows) cells (replicate 32 1) n
 
 pub celled-early : (b : List ℕ) (found : Read (List Row)) {cells₀ cells : List ℕ} {n : ℕ} → Fills found cells₀ cells (Greetings n)
-    → 97 ≤ length cells
-    → Early b found cells n
+    → 97 ≤ length cells → Early b found cells n
 celled-early b none f a = let e = f .count in let z : _≡_ {A = ℕ} 0 1 = cc in absurd (omega arith)
 celled-early b (whole rows i) {cells₀} {cells} {n} f a =
     let e = f .count in
@@ -118,8 +117,7 @@ module _ {b : List ℕ} {size : ℕ} {xs : List Listed} {cells laws : List ℕ} 
       }
 
   pub takes-all : {t t₁ t₂ : List ℕ} → allTrue b xs ≡ true → t₁ ≡ laid (rowsListed xs) t
-      → t₂ ≡ notesLaid (notesBy b (rowsAt cells n 1) laws) t₁
-      → Takes (loadIn b size xs) t t₂ (Done 0 0)
+      → t₂ ≡ notesLaid (notesBy b (rowsAt cells n 1) laws) t₁ → Takes (loadIn b size xs) t t₂ (Done 0 0)
   takes-all {t} {t₁} {t₂} e f g =
       let m : notesBy b (rowsAt cells n 1) laws ≡ notesListed xs =
       ap (λ (l : List Row). notesBy b l laws) (c .rows-are) ∙ ap (notesBy b (rowsListed xs)) (c .laws-are)
@@ -146,8 +144,7 @@ accepts b size xs e =
   where
     go : (x y u v : Bool) → rising 0 0 size (rowsListed xs) ≡ x → numbered (rowsListed xs) ≡ y → anyBad b xs ≡ u → allTrue b xs ≡ v
         → Fine ≡ verdictOf (cond (not x) (refused Table) (cond (not y) (refused Table) (cond u (refused Bad) (cond (not v) (refused Table)
-        (leaves (record { block = b; rows = rowsListed xs; notes = notesListed xs; first = 0; second = 0 }))))))
-        → Accepts b size xs
+        (leaves (record { block = b; rows = rowsListed xs; notes = notesListed xs; first = 0; second = 0 })))))) → Accepts b size xs
     go false y u v p q r s e = let z : _≡_ {A = ℕ} 0 1 = cc in absurd (omega arith)
     go true false u v p q r s e = let z : _≡_ {A = ℕ} 0 1 = cc in absurd (omega arith)
     go true true true v p q r s e = let z : _≡_ {A = ℕ} 0 1 = cc in absurd (omega arith)
@@ -210,8 +207,7 @@ module _ (text b t : List ℕ) {size cells : ℕ} (z : size ≡ sizeOf b) (k : c
           refuses (loadOf text b t) t (rw (← z, ← k, le-ltb (length t) cells h, e .reads) (rw (← z) at (stopped o g)))
 
       pub load-fine : {t₁ t₂ : List ℕ} {q : Count} → Fine ≡ judgedBy b (sizeOf b) (rowsAt x n 1) (replicate 32 1)
-          → Fills (tableIn text) t t₁ q
-          → t₂ ≡ notesLaid (notesBy b (rowsAt x n 1) (replicate 32 1)) t₁ → Load text b t t₂ (Done 0 0)
+          → Fills (tableIn text) t t₁ q → t₂ ≡ notesLaid (notesBy b (rowsAt x n 1) (replicate 32 1)) t₁ → Load text b t t₂ (Done 0 0)
       load-fine {t₁} {t₂} f g s =
           let p = celled-fine (e .celled) b (sizeOf b) f in
           let l = rows-twice (tableIn text) (e .reads) g ∙ ap (λ (r : List Row). laid r t) (sym (rows-early b (e .rows))) in

@@ -87,8 +87,7 @@ module _ (octets : List ℕ) (law from first before sample : ℕ) where
         one : sought ≡ seek sample (first + n) passed (frame ∷ rest)
         one =
             let a = accepted t e in
-            w .same
-            ∙ ap (λ (x : Walked). seek sample (first + n) passed (x .frames))
+            w .same ∙ ap (λ (x : Walked). seek sample (first + n) passed (x .frames))
             (walk-one octets law storeSet (64 - n) (64 - (n + 1)) at left (omega arith) h (at + r .octets) (left - r .len)
             (a .frame) (a .is)
             (omega (arith, a .tells .octets)) (omega (arith, a .tells .len)))

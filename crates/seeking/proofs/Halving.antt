@@ -46,8 +46,7 @@ module _ (ms : List Mark) (sample : ℕ) where
   last-one (suc more) low high h = rw (le-leb high (low + 1) h)
 
   -- two or more are left
-  pub last-step : (more low high : ℕ) → low + 1 < high
-      → lastFrom (suc more) ms sample low high
+  pub last-step : (more low high : ℕ) → low + 1 < high → lastFrom (suc more) ms sample low high
       ≡ cond (leb (nthMark (middle low high) ms .samples) sample) (lastFrom more ms sample (middle low high) high)
       (lastFrom more ms sample low (middle low high))
   unfolding lastFrom
@@ -70,8 +69,7 @@ module _ (ms : List Mark) (sample : ℕ) where
           ∙ ap (λ (x : ℕ). cond (leb (nthMark (middle low high) ms .samples) sample) x (lastFrom a ms sample low (middle low high)))
           (later (middle low high) high (omega arith) (omega arith))
           ∙ ap (λ (x : ℕ). cond (leb (nthMark (middle low high) ms .samples) sample) (lastFrom b ms sample (middle low high) high) x)
-          (later low (middle low high) (omega arith) (omega arith))
-          ∙ sym (last-step b low high l)
+          (later low (middle low high) (omega arith) (omega arith)) ∙ sym (last-step b low high l)
 
   -- a halving: the half is not empty and smaller, and what is found in it is what was sought
   pub record Halved (low high : ℕ) (r : Span) : Type 0 where

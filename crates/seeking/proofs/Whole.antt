@@ -144,11 +144,9 @@ holds-only sample fs {frame} {place} {inside} h =
     let k = length (samplesKept (h .before)) in
     let e : sample - (0 + k) ≡ inside = omega (arith, h .sum) in
     let f : 0 + length (h .before) ≡ frame = omega (arith, h .count) in
-    ap (seek sample 0 0) (h .are)
-    ∙ seek-skip sample 0 0 (h .before) (h .named ∷ h .behind) (omega (arith, h .sum))
+    ap (seek sample 0 0) (h .are) ∙ seek-skip sample 0 0 (h .before) (h .named ∷ h .behind) (omega (arith, h .sum))
     ∙ seek-here sample (0 + length (h .before)) (0 + k) (h .named) (h .behind) (omega (arith, h .sum, h .within))
-    ∙ ap (λ (x : ℕ). At x (h .named .place) (sample - (0 + k))) f
-    ∙ ap (λ (x : ℕ). At frame (h .named .place) x) e
+    ∙ ap (λ (x : ℕ). At x (h .named .place) (sample - (0 + k))) f ∙ ap (λ (x : ℕ). At frame (h .named .place) x) e
     ∙ ap (λ (x : ℕ). At frame x inside) (sym (h .octets))
 
 -- the frame is one of those given

@@ -10,41 +10,45 @@ use Rattle.rules.specs.Tools.{mostLaw, allTools}
 use Rattle.rules.specs.Listing.{lawWord}
 use Rattle.settings.specs.declared.Settings.{Settings}
 use Rattle.settings.specs.declared.Given.the-variants.{Is, Bad}
-use Rattle.keyvalue.specs.Reading.{Read, whole, none, _>>=_}
+use Rattle.keyvalue.specs.declared.Told.{Told}
+use Rattle.keyvalue.specs.declared.Told.the-variants.{Got, Not}
+use Rattle.keyvalue.specs.Reading.{Read, whole, none, asRead}
 use Rattle.keyvalue.specs.Lines.{ranged}
 use Rattle.settings.specs.Lines.{setWord, blockWord, greetingWord, mostBlock, mostGreeting}
 use Rattle.settings.specs.Lines.{fourLines, settings, settingsText, given, settingsIn}
+use Rattle.keyvalue.proofs.Numbers.{told}
 use Rattle.keyvalue.proofs.Exact.{Back, back-bind, back-last, back-alone, back-ranged, Stands, chain, stands-alone, got-value, got-place}
 use Rattle.keyvalue.proofs.Exact.{ranged-only, through, passed}
 
+-- what each call of keyvalue told is taken apart once: the line is there, or the text is bad
 module _ (text : List ℕ) where
-  pub no-law : none ≡ ranged lawWord 0 mostLaw text 0 → Bad ≡ settingsIn text
+  pub no-law : {t : Told} → t ≡ Not → asRead t ≡ ranged lawWord 0 mostLaw text 0 → Bad ≡ settingsIn text
   unfolding settings fourLines
-  no-law e = sym (rw (← e))
+  no-law m e = sym (rw (← told m e))
 
-  module _ {law a : ℕ} (e : whole law a ≡ ranged lawWord 0 mostLaw text 0) where
-    pub no-set : none ≡ ranged setWord 0 allTools text a → Bad ≡ settingsIn text
+  module _ {t : Told} {law a : ℕ} (m : t ≡ Got law a) (e : asRead t ≡ ranged lawWord 0 mostLaw text 0) where
+    pub no-set : {u : Told} → u ≡ Not → asRead u ≡ ranged setWord 0 allTools text a → Bad ≡ settingsIn text
     unfolding settings fourLines
-    no-set f = sym (rw (← e, ← f))
+    no-set n f = sym (rw (← told m e, ← told n f))
 
-    module _ {set b : ℕ} (f : whole set b ≡ ranged setWord 0 allTools text a) where
-      pub no-block : none ≡ ranged blockWord 1 mostBlock text b → Bad ≡ settingsIn text
+    module _ {u : Told} {set b : ℕ} (n : u ≡ Got set b) (f : asRead u ≡ ranged setWord 0 allTools text a) where
+      pub no-block : {v : Told} → v ≡ Not → asRead v ≡ ranged blockWord 1 mostBlock text b → Bad ≡ settingsIn text
       unfolding settings fourLines
-      no-block g = sym (rw (← e, ← f, ← g))
+      no-block o g = sym (rw (← told m e, ← told n f, ← told o g))
 
-      module _ {block c : ℕ} (g : whole block c ≡ ranged blockWord 1 mostBlock text b) where
-        pub no-greeting : none ≡ ranged greetingWord 0 mostGreeting text c → Bad ≡ settingsIn text
+      module _ {v : Told} {block c : ℕ} (o : v ≡ Got block c) (g : asRead v ≡ ranged blockWord 1 mostBlock text b) where
+        pub no-greeting : {w : Told} → w ≡ Not → asRead w ≡ ranged greetingWord 0 mostGreeting text c → Bad ≡ settingsIn text
         unfolding settings fourLines
-        no-greeting h = sym (rw (← e, ← f, ← g, ← h))
+        no-greeting p h = sym (rw (← told m e, ← told n f, ← told o g, ← told p h))
 
-        module _ {greeting d : ℕ} (h : whole greeting d ≡ ranged greetingWord 0 mostGreeting text c) where
+        module _ {w : Told} {greeting d : ℕ} (p : w ≡ Got greeting d) (h : asRead w ≡ ranged greetingWord 0 mostGreeting text c) where
           pub more-after : d < length text → Bad ≡ settingsIn text
           unfolding settings fourLines
-          more-after l = sym (rw (← e, ← f, ← g, ← h, lt-leb (length text) d l))
+          more-after l = sym (rw (← told m e, ← told n f, ← told o g, ← told p h, lt-leb (length text) d l))
 
           pub all-read : length text ≤ d → Is (record { law = law; set = set; block = block; greeting = greeting }) ≡ settingsIn text
           unfolding settings fourLines
-          all-read l = sym (rw (← e, ← f, ← g, ← h, le-leb (length text) d l))
+          all-read l = sym (rw (← told m e, ← told n f, ← told o g, ← told p h, le-leb (length text) d l))
 
 -- the values that a box takes
 pub record Sound (s : Settings) : Type 0 where

@@ -122,8 +122,7 @@ rows-laid cells (r ∷ rs) (suc n) k m e h =
     let p : 5 * (k + 1) + 1 ≡ 5 * k + 1 + 5 = omega arith in
     let b : drop (5 * (k + 1) + 1) cells ≡ cellsOf rs ++ replicate m 0 =
     ap (λ (i : ℕ). drop i cells) p ∙ sym (drop-drop 5 (5 * k + 1) cells) ∙ ap (drop 5) e in
-    kept-cons (rowAt cells k) (rowsAt cells n (k + 1))
-    ∙ rw (a, rows-laid cells rs n (k + 1) m b (omega arith)) (sym (kept-cons r rs))
+    kept-cons (rowAt cells k) (rowsAt cells n (k + 1)) ∙ rw (a, rows-laid cells rs n (k + 1) m b (omega arith)) (sym (kept-cons r rs))
 
 pub box-laid : (b : Box) → keptOf (b .revisions) ≡ b .revisions → length (b .revisions) ≤ 8 → boxOf (laid b) ≡ b
 box-laid b e h =
@@ -191,16 +190,13 @@ module _ {s : Seen} (t : KeptTrue s) where
       ≡ laid (record { last = length (x .all); revisions = lastEight (x .since) }) = rw (l, n) in
       record {
         cells =
-            c
-            ∙ ap (λ (b : Box). laid (added b v)) box-true
+            c ∙ ap (λ (b : Box). laid (added b v)) box-true
             ∙ ap (λ (r : List Revision). laid (record { last = length (s .all) + 1; revisions = r })) (eight-more (s .since) (new v))
             ∙ g;
         numbers = rw (a, h) (counted-snoc (t .numbers) v);
         before = t .before;
         part =
-            a
-            ∙ ap (λ (r : List Revision). r ++ (new v ∷ [])) (t .part)
-            ∙ append-assoc (t .before) (s .since) (new v ∷ [])
+            a ∙ ap (λ (r : List Revision). r ++ (new v ∷ [])) (t .part) ∙ append-assoc (t .before) (s .since) (new v ∷ [])
             ∙ ap (λ (r : List Revision). t .before ++ r) (sym n);
       }
 

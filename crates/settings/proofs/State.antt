@@ -6,8 +6,7 @@ use mathlib.Core.List.{List, [], _∷_, _++_, append-assoc, append-nil}
 use mathlib.Core.Bool.{Bool, true, false, cond}
 use native.Mathlib.Omega.{arith}
 use lib.ListN.{length, getD, take, drop, set, replicate, length-append, length-replicate, length-drop, take-append-drop}
-use lib.Seq.{paste, paste-zero, paste-suc, getD-drop, sets-eq, drop-nil, take-at}
-use lib.Seq.{drop-append-add, take-append-add, drop-append-le}
+use lib.Seq.{paste, paste-zero, paste-suc, getD-drop, sets-eq, drop-nil, take-at, drop-append-add, take-append-add, drop-append-le}
 use lib.Dec.{eqb}
 use borrow.Author.Tests.{eq-eqb, ne-eqb}
 use Rattle.settings.specs.declared.Settings.{Settings}
@@ -125,17 +124,13 @@ gathering-turn {cells} {rows} {rows′} {k} {i} {n} g h p =
     let z : 5 * n ≡ length (cellsOf (g .kept)) + 5 * length one = omega (arith, g .count) in
     let y : 45 - 5 * k - 5 * length one ≡ 45 - 5 * n = omega (arith, g .count) in
     let tail : drop (5 * n) rows ≡ replicate (45 - 5 * n) 0 =
-    ap (drop (5 * n)) (g .says)
-    ∙ ap (λ (j : ℕ). drop j (cellsOf (g .kept) ++ replicate (45 - 5 * k) 0)) z
+    ap (drop (5 * n)) (g .says) ∙ ap (λ (j : ℕ). drop j (cellsOf (g .kept) ++ replicate (45 - 5 * k) 0)) z
     ∙ drop-append-add (cellsOf (g .kept)) (replicate (45 - 5 * k) 0) (5 * length one)
-    ∙ zeros-drop (5 * length one) (45 - 5 * k) (omega (arith, g .few))
-    ∙ ap (λ (j : ℕ). replicate j 0) y in
+    ∙ zeros-drop (5 * length one) (45 - 5 * k) (omega (arith, g .few)) ∙ ap (λ (j : ℕ). replicate j 0) y in
     record {
       kept = g .kept ++ one;
-      all = append-assoc (g .kept) one (keptOf (rowsAt cells (8 - (i + 1)) (i + 1)))
-          ∙ ap (λ (l : List Revision). g .kept ++ l)
-          (sym (kept-cons r (rowsAt cells (8 - (i + 1)) (i + 1))) ∙ ap keptOf (sym (rows-next cells i h)))
-          ∙ g .all;
+      all = append-assoc (g .kept) one (keptOf (rowsAt cells (8 - (i + 1)) (i + 1))) ∙ ap (λ (l : List Revision). g .kept ++ l)
+          (sym (kept-cons r (rowsAt cells (8 - (i + 1)) (i + 1))) ∙ ap keptOf (sym (rows-next cells i h))) ∙ g .all;
       count = omega (arith, g .count, length-append (g .kept) one);
       few = omega (arith, g .few);
       most = omega arith;
@@ -171,10 +166,8 @@ module _ {revisions : List Revision} {rows rows′ : List ℕ} {k : ℕ} (new : 
       let z : 5 * k + 5 ≡ length (cellsOf revisions) + 5 = omega (arith, g .count) in
       let y : 45 - 5 * k - 5 ≡ 40 - 5 * k = omega arith in
       let tail : drop (5 * k + 5) rows ≡ replicate (40 - 5 * k) 0 =
-      ap (drop (5 * k + 5)) (g .says)
-      ∙ ap (λ (j : ℕ). drop j (cellsOf revisions ++ replicate (45 - 5 * k) 0)) z
-      ∙ drop-append-add (cellsOf revisions) (replicate (45 - 5 * k) 0) 5
-      ∙ zeros-drop 5 (45 - 5 * k) (omega (arith, g .few))
+      ap (drop (5 * k + 5)) (g .says) ∙ ap (λ (j : ℕ). drop j (cellsOf revisions ++ replicate (45 - 5 * k) 0)) z
+      ∙ drop-append-add (cellsOf revisions) (replicate (45 - 5 * k) 0) 5 ∙ zeros-drop 5 (45 - 5 * k) (omega (arith, g .few))
       ∙ ap (λ (j : ℕ). replicate j 0) y in
       p ∙ rw (head, tail, cells-append revisions (new ∷ []))
       (sym (append-assoc (cellsOf revisions) (cellsOf (new ∷ [])) (replicate (40 - 5 * k) 0)))
@@ -193,11 +186,9 @@ module _ {revisions : List Revision} {rows rows′ : List ℕ} {k : ℕ} (new : 
       let q : 40 ≡ length (cellsOf (lastEight all)) + (40 - 5 * length (lastEight all)) =
       omega (arith, cells-length (lastEight all), all-length, g .few) in
       let left : drop from rows′ ≡ cellsOf (lastEight all) ++ replicate (40 - 5 * k) 0 =
-      ap (drop from) rows-all
-      ∙ drop-append-le from (cellsOf all) (replicate (40 - 5 * k) 0) (omega (arith, all-length, g .few))
+      ap (drop from) rows-all ∙ drop-append-le from (cellsOf all) (replicate (40 - 5 * k) 0) (omega (arith, all-length, g .few))
       ∙ ap (λ (l : List ℕ). l ++ replicate (40 - 5 * k) 0) (ap (λ (j : ℕ). drop j (cellsOf all)) m ∙ cells-drop (length all - 8) all) in
-      ap (take 40) left
-      ∙ ap (λ (j : ℕ). take j (cellsOf (lastEight all) ++ replicate (40 - 5 * k) 0)) q
+      ap (take 40) left ∙ ap (λ (j : ℕ). take j (cellsOf (lastEight all) ++ replicate (40 - 5 * k) 0)) q
       ∙ take-append-add (cellsOf (lastEight all)) (replicate (40 - 5 * k) 0) (40 - 5 * length (lastEight all))
       ∙ ap (λ (l : List ℕ). cellsOf (lastEight all) ++ l)
       (zeros-take (40 - 5 * length (lastEight all)) (40 - 5 * k) (omega (arith, all-length)))
@@ -243,7 +234,5 @@ unfolding added
 laid-added cells v {rows} {rows′} {next} {k} {from} {i} g p e c h =
     let n : i ≡ 40 = omega (arith, c .most) in
     let s = eight-stay (record { number = getD cells 0 0 + 1; values = v }) g p e in
-    c .says
-    ∙ ap (λ (j : ℕ). paste (set (replicate 41 0) 0 (getD cells 0 0 + 1)) 1 (drop from rows′) j) n
-    ∙ append-nil ((getD cells 0 0 + 1) ∷ take 40 (drop from rows′))
-    ∙ ap (λ (l : List ℕ). (getD cells 0 0 + 1) ∷ l) s
+    c .says ∙ ap (λ (j : ℕ). paste (set (replicate 41 0) 0 (getD cells 0 0 + 1)) 1 (drop from rows′) j) n
+    ∙ append-nil ((getD cells 0 0 + 1) ∷ take 40 (drop from rows′)) ∙ ap (λ (l : List ℕ). (getD cells 0 0 + 1) ∷ l) s

@@ -124,8 +124,7 @@ module _ (b t : List ℕ) {size : ℕ} (z : size ≡ sizeOf b) {sane : Bool} (e 
     put-stop law x xs l g = says-refused b t (on _ ∙ rw (le-leb law 1 l) (look-stops t x _ g))
 
     pub put-goes-on : (law x : ℕ) (xs : List ℕ) {b′ t′ : List ℕ} {r : Answer}
-        → Says (putIn b size (rowsOf t) (notesOf t) law x xs) b t b′ t′ r
-        → Put law x xs b t b′ t′ r
+        → Says (putIn b size (rowsOf t) (notesOf t) law x xs) b t b′ t′ r → Put law x xs b t b′ t′ r
     put-goes-on law x xs {b′} {t′} {r} s =
         let whole : putOf b t law x xs ≡ putIn b size (rowsOf t) (notesOf t) law x xs =
         on (putIn b (sizeOf b) (rowsOf t) (notesOf t) law x xs) ∙ ap (λ (y : ℕ). putIn b y (rowsOf t) (notesOf t) law x xs) (sym z)

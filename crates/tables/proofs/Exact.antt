@@ -46,8 +46,7 @@ ending zero done text at h = rw (le-leb (length text) at h)
 ending (suc more) done text at h = rw (le-leb (length text) at h)
 
 rows-back : (more : ℕ) (done rows : List Row) (text : List ℕ) (i : ℕ) → Each (Sayable mostPlace) rows → length rows ≤ more
-    → drop i text ≡ tableText rows
-    → rowsFrom more done text i ≡ whole (done ++ rows) (i + length (tableText rows))
+    → drop i text ≡ tableText rows → rowsFrom more done text i ≡ whole (done ++ rows) (i + length (tableText rows))
 unfolding tableText rowsFrom
 rows-back more done [] text i h l e =
     let n : length text ≤ i = omega (arith, length-drop i text, ap length e) in
@@ -107,8 +106,7 @@ none-more {done} {rows} {text} {i} {j} h e =
     record { new = []; all = sym (got-value e) ∙ sym (append-nil done); few = omega arith; each = tt; says = drop-of-length-le text h }
 
 one-more : {done rows : List Row} {text : List ℕ} {i k more : ℕ} (r : Row) → row mostPlace text i ≡ whole r k
-    → More (done ++ (r ∷ [])) text k more rows
-    → More done text i (suc more) rows
+    → More (done ++ (r ∷ [])) text k more rows → More done text i (suc more) rows
 unfolding tableText
 one-more {done} {rows} {text} {i} {k} r e m =
     let f = row-only text i r k e in

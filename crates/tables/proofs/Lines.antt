@@ -77,8 +77,7 @@ module _ (text : List ℕ) where
   law-then r (whole l b) = samples-then r l (line samplesWord text b)
   law-then r none = refl
 
-  row-then : (q : Read Row)
-      → andThen q (λ r a. andThen (ranged lawWord 0 1 text a)
+  row-then : (q : Read Row) → andThen q (λ r a. andThen (ranged lawWord 0 1 text a)
       (λ l b. andThen (line samplesWord text b) (λ s c. andThen (markLines text c) (λ ms d. whole (with r (noteOn l s ms)) d))))
       ≡ andThen (andThen q (λ r a. andThen (ranged lawWord 0 1 text a) (λ l b. whole (headOf r l) b)))
       (λ h j. andThen (noted (h .law) text j) (λ n k. whole (with (h .row) n) k))

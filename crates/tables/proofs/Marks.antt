@@ -88,8 +88,7 @@ mark-parts text at = ap (λ (r : Read Mark). cond (begins markWord (drop at text
     second o j true = third o (number text (j + 1))
     second o j false = refl
 
-    first : (r : Read ℕ)
-        → andThen r (λ o j. cond (begins comma (drop j text))
+    first : (r : Read ℕ) → andThen r (λ o j. cond (begins comma (drop j text))
         (andThen (number text (j + 1)) (λ s k. cond (begins lineEnd (drop k text)) (whole (markOf o s) (k + 1)) none)) none)
         ≡ andThen (andThen r (λ o j. cond (begins comma (drop j text)) (whole o (j + 1)) none))
         (λ o a. andThen (andThen (number text a) (λ s k. cond (begins lineEnd (drop k text)) (whole s (k + 1)) none))

@@ -27,18 +27,14 @@ three-cells l i a b c h =
     let l₂ = set l₁ (i + 1) b in
     let n₁ = length-set l i a in
     let n₂ = length-set l₁ (i + 1) b in
-    ap (λ (n : ℕ). take n (set l₂ (i + 2) c)) x
-    ∙ take-suc-set l₂ (i + 2) c (omega arith)
-    ∙ ap (λ (n : ℕ). take n l₂ ++ (c ∷ [])) y
+    ap (λ (n : ℕ). take n (set l₂ (i + 2) c)) x ∙ take-suc-set l₂ (i + 2) c (omega arith) ∙ ap (λ (n : ℕ). take n l₂ ++ (c ∷ [])) y
     ∙ ap (λ (t : List ℕ). t ++ (c ∷ [])) (take-suc-set l₁ (i + 1) b (omega arith))
     ∙ ap (λ (n : ℕ). (take n l₁ ++ (b ∷ [])) ++ (c ∷ [])) z
-    ∙ ap (λ (t : List ℕ). (t ++ (b ∷ [])) ++ (c ∷ [])) (take-suc-set l i a (omega arith))
-    ∙ simp append-assoc
+    ∙ ap (λ (t : List ℕ). (t ++ (b ∷ [])) ++ (c ∷ [])) (take-suc-set l i a (omega arith)) ∙ simp append-assoc
 
 pub three-rest : (l : List ℕ) (i a b c : ℕ) → drop (i + 3) (set (set (set l i a) (i + 1) b) (i + 2) c) ≡ drop (i + 3) l
 three-rest l i a b c =
-    drop-set-lt (i + 3) (set (set l i a) (i + 1) b) (i + 2) c (omega arith)
-    ∙ drop-set-lt (i + 3) (set l i a) (i + 1) b (omega arith)
+    drop-set-lt (i + 3) (set (set l i a) (i + 1) b) (i + 2) c (omega arith) ∙ drop-set-lt (i + 3) (set l i a) (i + 1) b (omega arith)
     ∙ drop-set-lt (i + 3) l i a (omega arith)
 
 -- rows that are done stand in the cells behind the first
@@ -51,8 +47,7 @@ unfolding cellsOf
 rowed-first cells = record { filled = sym (append-nil (take 1 cells)); rest = refl }
 
 pub rowed-turn : {cells₀ cells cells′ : List ℕ} {done : List Row} {k : ℕ} {r : Row} → Rowed cells₀ cells done k
-    → PutsRow r (1 + 3 * k) cells cells′
-    → Rowed cells₀ cells′ (done ++ (r ∷ [])) (k + 1)
+    → PutsRow r (1 + 3 * k) cells cells′ → Rowed cells₀ cells′ (done ++ (r ∷ [])) (k + 1)
 rowed-turn {cells₀} {cells} {cells′} {done} {k} {r} s p =
     let m : 1 + 3 * (k + 1) ≡ 1 + 3 * k + 3 = omega arith in
     record {
@@ -67,8 +62,7 @@ first-set x k cells a b e = ap (λ (l : List ℕ). set l 0 k) e
 
 -- the count goes into the first cell
 pub rowed-laid : {cells : List ℕ} {done : List Row} {k : ℕ} (cells₀ : List ℕ) → 1 ≤ length cells₀ → length done ≡ k
-    → Rowed cells₀ cells done k
-    → set cells 0 k ≡ laid done cells₀
+    → Rowed cells₀ cells done k → set cells 0 k ≡ laid done cells₀
 unfolding laid
 rowed-laid [] l n s = absurd (omega arith)
 rowed-laid {cells} {done} {k} (x ∷ t) l n s =

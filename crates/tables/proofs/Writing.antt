@@ -46,8 +46,7 @@ pub counting-first : {all left : List ℕ} {most : ℕ} → left ≡ all → Cou
 counting-first e = record { few = omega arith; says = omega (arith, ap length e) }
 
 pub counting-turn : {all left rest : List ℕ} {sum most : ℕ} (w : List ℕ) {more n : ℕ} → Counting all left sum most → left ≡ w ++ rest
-    → more ≡ length w
-    → more ≤ n → {most′ : ℕ} → most + n ≤ most′ → Counting all rest (sum + more) most′
+    → more ≡ length w → more ≤ n → {most′ : ℕ} → most + n ≤ most′ → Counting all rest (sum + more) most′
 counting-turn {all} {left} {rest} {sum} {most} w {more} {n} c e f h k =
     let l = ap length e ∙ length-append w rest in
     record { few = omega (arith, c .few); says = omega (arith, c .says, l) }
@@ -162,8 +161,7 @@ note-part hs ms p i = ap (λ (l : List ℕ). noteText (noteAt hs (1 + 3 * i) l))
 
 -- a greeting counted
 pub octets-turn : (t hs ms : List ℕ) (n p i : ℕ) {all : List ℕ} {sum row note m : ℕ}
-    → Counting all (textLeft t hs ms n p i) sum (115964117079 * i)
-    → i < n
+    → Counting all (textLeft t hs ms n p i) sum (115964117079 * i) → i < n
     → row ≡ length (rowLaid t i) → row ≤ 53 → note ≡ length (notePart hs ms p i) → note ≤ 115964117026 → m ≡ getD hs (1 + 3 * i + 2) 0
     → Counting all (textLeft t hs ms n (p + 2 * m) (i + 1)) (sum + (row + note)) (115964117079 * (i + 1))
 octets-turn t hs ms n p i {all} {sum} {row} {note} {m} c h e a f b g =

@@ -20,8 +20,7 @@ use Rattle.unpack.specs.Runs.{Before, none, one-more, NextSound, TellsWa
 
 -- a part from a place inside ends inside, with no more frames than octets are left
 pub part-inside : (stream : List ℕ) (law set at : ℕ) (out : List ℕ) {out′ : List ℕ} {p : Part} → NextPart stream law set at out out′ p
-    → at ≤ length stream
-    → (p .at ≤ length stream) × (at + p .frames ≤ length stream)
+    → at ≤ length stream → (p .at ≤ length stream) × (at + p .frames ≤ length stream)
 part-inside stream law set at out {p = p} n h = go (verdict (walkAsks law set (length stream))) refl
   where
     go : (v : Ending) → verdict (walkAsks law set (length stream)) ≡ v → (p .at ≤ length stream) × (at + p .frames ≤ length stream)
@@ -86,8 +85,7 @@ module _ (stream : List ℕ) (law set : ℕ) where
             page-size = l ∙ w .page-size;
           }
 
-      pub goes-whole : p .more ≡ false → {wrong : ℕ}
-          → TellsWalk stream law set
+      pub goes-whole : p .more ≡ false → {wrong : ℕ} → TellsWalk stream law set
           (record { end = p .end; at = p .at; bit = p .bit; frames = frames + p .frames; samples = samples + good; wrong = wrong })
       goes-whole m =
           let k = last-keeps next-sound m in
@@ -97,6 +95,5 @@ module _ (stream : List ℕ) (law set : ℕ) where
             bit = k .bit-is;
             frames = k .frames-are;
             samples =
-                omega (arith, w .kept, u, part-size, length-append (w .sound) (take (p .samples) page′))
-                ∙ ap length (k .sound-is);
+                omega (arith, w .kept, u, part-size, length-append (w .sound) (take (p .samples) page′)) ∙ ap length (k .sound-is);
           }

@@ -23,8 +23,7 @@ pub data Unpacked (stream : List ℕ) (law set : ℕ) : ℕ → List ℕ → ℕ
   last : {at : ℕ} {out out′ : List ℕ} {r : Part} → NextPart stream law set at out out′ r → r .more ≡ false
       → Unpacked stream law set at (take (r .samples) out′) (r .frames) (r .end) (r .at) (r .bit)
   part : {at : ℕ} {out out′ : List ℕ} {r : Part} {sound : List ℕ} {frames : ℕ} {end : Ending} {place bit : ℕ}
-      → NextPart stream law set at out out′ r → r .more ≡ true
-      → Unpacked stream law set (r .at) sound frames end place bit
+      → NextPart stream law set at out out′ r → r .more ≡ true → Unpacked stream law set (r .at) sound frames end place bit
       → Unpacked stream law set at (take (r .samples) out′ ++ sound) (r .frames + frames) end place bit
 
 -- that is what a walk keeps
@@ -49,8 +48,7 @@ module _ (octets : List ℕ) (law set : ℕ) where
 
     by-parts : walkFrom n octets law set at room ≡ byEnd (part-walk .end) (onFrom octets law set n room part-walk) part-walk
     by-parts =
-        walk-fuel octets law set n (m + n) at room h (omega arith)
-        ∙ walk-parts octets law set m n at room
+        walk-fuel octets law set n (m + n) at room h (omega arith) ∙ walk-parts octets law set m n at room
         ∙ ap (λ (w : Walked). byEnd (w .end) (onFrom octets law set n room w) w)
         (walk-roomy octets law set m at room space (omega arith) (omega arith))
 
@@ -76,14 +74,12 @@ module _ (octets : List ℕ) (law set : ℕ) where
     part-then e = go part-walk by-parts e
       where
         on : (w : Walked) (end : Ending) → w .end ≡ end → {v : Walked} → v ≡ byEnd end (onFrom octets law set n room w) w
-            → goesOn end (w .place) (length octets) ≡ true
-            → (v ≡ onFrom octets law set n room w) × (w .place < length octets)
+            → goesOn end (w .place) (length octets) ≡ true → (v ≡ onFrom octets law set n room w) × (w .place < length octets)
         on w Done q d e = (d, ltb-true (w .place) (length octets) e)
         on w (Refused r) q d e = absurd (false≢true e)
 
         go : (w : Walked) {v : Walked} → v ≡ byEnd (w .end) (onFrom octets law set n room w) w
-            → goesOn (w .end) (w .place) (length octets) ≡ true
-            → (v ≡ onFrom octets law set n room w) × (w .place < length octets)
+            → goesOn (w .end) (w .place) (length octets) ≡ true → (v ≡ onFrom octets law set n room w) × (w .place < length octets)
         go w d e = on w (w .end) refl d e
 
   -- where nothing refuses, the parts from a place on are the walk from there

@@ -42,8 +42,7 @@ module _ (octets : List ℕ) (law set fuel from : ℕ) (out₀ : List ℕ) where
 
     -- what is counted is kept
     pub keeps : {r : WalkAnswer} → (walked octets law set fuel from (length out₀) .frames ≡ w .done) × Counts
-        (walked octets law set fuel from (length out₀)) r
-        → Walks (walked octets law set fuel from (length out₀)) r out₀ out
+        (walked octets law set fuel from (length out₀)) r → Walks (walked octets law set fuel from (length out₀)) r out₀ out
     keeps (f, c) =
         record {
           end = c .end;

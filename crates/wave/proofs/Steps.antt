@@ -57,14 +57,12 @@ module _ (l : List ℕ) (at : ℕ) (seen : Bool) where
   step-more h = rw (lt-ltb (length l) (at + 8) h)
 
   pub step-sound : {n size : ℕ} {h : Heading} → at + 8 ≤ length l → n ≡ wordAt l at → size ≡ wordAt l (at + 4) → n ≡ dataName
-      → h ≡ soundOf seen size
-      → Ends h ≡ stepAt l at seen
+      → h ≡ soundOf seen size → Ends h ≡ stepAt l at seen
   unfolding stepAt
   step-sound g e f i k = rw (le-ltb (length l) (at + 8) g, ← e, eq-eqb _ dataName i, ← f, k)
 
   pub step-format : {n size : ℕ} {r : Step} → at + 8 ≤ length l → n ≡ wordAt l at → size ≡ wordAt l (at + 4) → (n ≡ dataName → ⊥)
-      → n ≡ formatName
-      → r ≡ formatIn l at size → r ≡ stepAt l at seen
+      → n ≡ formatName → r ≡ formatIn l at size → r ≡ stepAt l at seen
   unfolding stepAt
   step-format g e f i j k = rw (le-ltb (length l) (at + 8) g, ← e, ne-eqb _ dataName i, eq-eqb _ formatName j, ← f) k
 

@@ -40,8 +40,7 @@ unfolding fitting
 no-room w {r} {out} h t = rw (lt-ltb (length out) (octetsFor (length (w .bits))) h) (refused-writes t)
 
 pub all-written : (w : Written) {r : WriteAnswer} {out out′ : List ℕ} {n b t : ℕ} → octetsFor (length (w .bits)) ≤ length out
-    → Packed (w .bits) out out′ n
-    → b ≡ length (w .bits) → t ≡ w .tool → r ≡ record { end = Done; octets = n; bits = b; tool = t }
+    → Packed (w .bits) out out′ n → b ≡ length (w .bits) → t ≡ w .tool → r ≡ record { end = Done; octets = n; bits = b; tool = t }
     → Writes (fitting (length out) w) r out out′
 unfolding fitting
 all-written w {r} {out} {out′} {n} h p size tool told =

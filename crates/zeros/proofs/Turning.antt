@@ -32,21 +32,19 @@ with-top n b r small h =
     let e : suc n ≡ 1 + n = omega arith in
     ap (λ (k : ℕ). lowBits k (b * 2 ^ n + r)) e ∙ (rw m at (lowBits-join 1 n b r h))
 
--- all its flags turned
+-- all its flags turned, the highest and the rest
+turned-top : (n b r : ℕ) {w v : ℕ} → b < 2 → r < 2 ^ n → w ≡ b * 2 ^ n + r → v ≡ (1 - b) * 2 ^ n + (2 ^ n - 1 - r)
+    → lowBits n (2 ^ n - 1 - r) ≡ turnsOf true (lowBits n r) → lowBits (suc n) v ≡ turnsOf true (lowBits (suc n) w)
+turned-top n b r small h e f ih =
+    rw (e, f, with-top n (1 - b) (2 ^ n - 1 - r) (omega arith) (omega arith), with-top n b r small h)
+    (ap (λ (l : List ℕ). (1 - b) ∷ l) ih)
+
 turn-more : (n w : ℕ) → w < 2 ^ suc n → ((w : ℕ) → w < 2 ^ n → lowBits n (2 ^ n - 1 - w) ≡ turnsOf true (lowBits n w)) → Dec (w < 2 ^ n)
     → lowBits (suc n) (2 ^ suc n - 1 - w) ≡ turnsOf true (lowBits (suc n) w)
-turn-more n w h ih (yes p) =
-    let e : w ≡ 0 * 2 ^ n + w = omega arith in
-    let f : 2 ^ suc n - 1 - w ≡ 1 * 2 ^ n + (2 ^ n - 1 - w) = omega (arith, pow-suc 2 n) in
-    ap (lowBits (suc n)) f ∙ with-top n 1 (2 ^ n - 1 - w) (omega arith) (omega arith) ∙ ap (λ (l : List ℕ). 1 ∷ l) (ih w p)
-    ∙ ap (turnsOf true) (sym (ap (lowBits (suc n)) e ∙ with-top n 0 w (omega arith) p))
+turn-more n w h ih (yes p) = turned-top n 0 w (omega arith) p (omega arith) (omega (arith, pow-suc 2 n)) (ih w p)
 turn-more n w h ih (no p) =
     let q : w - 2 ^ n < 2 ^ n = omega (arith, pow-suc 2 n) in
-    let e : w ≡ 1 * 2 ^ n + (w - 2 ^ n) = omega arith in
-    let f : 2 ^ suc n - 1 - w ≡ 0 * 2 ^ n + (2 ^ n - 1 - (w - 2 ^ n)) = omega (arith, pow-suc 2 n) in
-    ap (lowBits (suc n)) f ∙ with-top n 0 (2 ^ n - 1 - (w - 2 ^ n)) (omega arith) (omega arith)
-    ∙ ap (λ (l : List ℕ). 0 ∷ l) (ih (w - 2 ^ n) q)
-    ∙ ap (turnsOf true) (sym (ap (lowBits (suc n)) e ∙ with-top n 1 (w - 2 ^ n) (omega arith) q))
+    turned-top n 1 (w - 2 ^ n) (omega arith) q (omega arith) (omega (arith, pow-suc 2 n)) (ih (w - 2 ^ n) q)
 
 turn-bits : (n w : ℕ) → w < 2 ^ n → lowBits n (2 ^ n - 1 - w) ≡ turnsOf true (lowBits n w)
 unfolding lowBits
@@ -70,8 +68,7 @@ unfolding rowBits
 row-start t row = row-none
 
 pub row-turn : (t : Bool) (row r : List ℕ) (i w : ℕ) → i < length row → i < 8 → RowIs (turnsOf t (rowBits (take i row))) i r
-    → Gathers (turnsOf t (lowBits 40 (getD row i 0))) 40 w
-    → RowIs (turnsOf t (rowBits (take (i + 1) row))) (i + 1) (set r i w)
+    → Gathers (turnsOf t (lowBits 40 (getD row i 0))) 40 w → RowIs (turnsOf t (rowBits (take (i + 1) row))) (i + 1) (set r i w)
 unfolding rowBits
 row-turn t row r i w h few done g =
     let f : ℕ → ℕ = λ b. cond t (1 - b) b in
@@ -81,8 +78,7 @@ row-turn t row r i w h few done g =
 
 -- the row of the flags of plus zero is that of binary
 pub row-flags : (mask : ℕ) {n x : ℕ} {samples row : List ℕ} → FrameIn samples n → x ≡ plusZero mask
-    → RowIs (marksOf x 0 1 (take (40 * (n / 40)) samples)) (n / 40) row
-    → RowIs (map (flagOf mask 0) (take n samples)) (n / 40) row
+    → RowIs (marksOf x 0 1 (take (40 * (n / 40)) samples)) (n / 40) row → RowIs (map (flagOf mask 0) (take n samples)) (n / 40) row
 row-flags mask {n} {x} {samples} f e words =
     let whole : 40 * (n / 40) ≡ n = omega (arith, f .whole) in
     rw (ap (λ (k : ℕ). marksOf x 0 1 (take k samples)) whole ∙ ap (λ (z : ℕ). marksOf z 0 1 (take n samples)) e) at words
@@ -118,10 +114,8 @@ zero-turned mask mark s {zero′} zeros told = rw told (go (eqb 0 mark))
 pub turned-runs : (mask mark : ℕ) (s : List ℕ) {k count minus′ zero′ : ℕ} {row flags runs : List ℕ} → twoZeros mask s ≡ true
     → zero′ ≡ zeroOf mask mark 0 → minus′ ≡ minusZero mask
     → RowIs (marksOf (plusZero mask) 0 1 s) k row → RowIs (turnsOf (eqb zero′ minus′) (rowBits (take k row))) k flags
-    → RunsAre (rowBits (take k flags)) count runs
-    → RunsAre (marksOf zero′ 0 1 s) count runs
+    → RunsAre (rowBits (take k flags)) count runs → RunsAre (marksOf zero′ 0 1 s) count runs
 turned-runs mask mark s {minus′ = minus′} {zero′ = zero′} zeros told is-minus row flags found =
     let e = flags .says ∙ ap (turnsOf (eqb zero′ minus′)) (row .says)
-    ∙ ap (λ (m : ℕ). turnsOf (eqb zero′ m) (marksOf (plusZero mask) 0 1 s)) is-minus
-    ∙ zero-turned mask mark s zeros told in
+    ∙ ap (λ (m : ℕ). turnsOf (eqb zero′ m) (marksOf (plusZero mask) 0 1 s)) is-minus ∙ zero-turned mask mark s zeros told in
     rw e at found

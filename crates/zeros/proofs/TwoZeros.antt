@@ -41,8 +41,7 @@ two-zeros mask e = omega arith
 
 -- so a frame is of the two zeros where their counts make up its length
 pub zeros-counted : (mask : ℕ) (s : List ℕ) {n plus minus : ℕ} → length s ≡ n → plus ≡ countIs (plusZero mask) s
-    → minus ≡ countIs (minusZero mask) s
-    → eqb (plus + minus) n ≡ twoZeros mask s
+    → minus ≡ countIs (minusZero mask) s → eqb (plus + minus) n ≡ twoZeros mask s
 zeros-counted mask s size p m = rw (p, m, ← size, either (plusZero mask) (minusZero mask) (two-zeros mask) s)
 
 -- where binary applies Rice does: to frames of the two zeros
@@ -84,8 +83,7 @@ module _ (mask : ℕ) (s : List ℕ) where
       (is-minus : minus ≡ countIs (minusZero mask) s) where
     pub rice-for : {set mark zero′ most start count : ℕ} {runs extra : List ℕ} {least : Least} → mark ≡ cond (ltb plus minus) 1 0
         → zero′ ≡ zeroOf mask (cond (ltb plus minus) 1 0) 0 → RunsAre (marksOf zero′ 0 1 s) count runs → CodesAre n extra
-        → most ≡ mostS n → most ≤ 9
-        → LeastIs (bitsWith extra (take count runs)) most least → StartIs n start
+        → most ≡ mostS n → most ≤ 9 → LeastIs (bitsWith extra (take count runs)) most least → StartIs n start
         → RiceFor mask set s (record { tool = 6; bits = start + least .bits; mark = mark; s = least .s; count = count }) runs
     rice-for {mark = mark} {zero′ = zero′} {most = most} {start = start} {count = count} {runs = runs} {extra = extra}
         {least = least} marked zeroed found codes top few best begun =
@@ -113,8 +111,7 @@ module _ (mask : ℕ) (s : List ℕ) where
                 found = r;
                 bits =
                     ap₂ _+_ (begun .says (markOf mask s) ∙ ap (λ (k : ℕ). length (riceCode k (markOf mask s))) (sym size))
-                    (best .bits ∙ ap (λ (h : ℕ → ℕ). h (least .s)) g ∙ ap weigh b)
-                    ∙ sym rice-sum;
+                    (best .bits ∙ ap (λ (h : ℕ → ℕ). h (least .s)) g ∙ ap weigh b) ∙ sym rice-sum;
               };
           small = omega (arith, best .small, begun .small);
         }

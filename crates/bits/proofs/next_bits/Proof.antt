@@ -7,18 +7,6 @@ use Rattle.bits.proofs.Window.{ahead-part}
 use Rattle.bits.proofs.next_bits.Statement.{statement}
 use Rattle.bits.proofs.next_bits.Tie as tie
 
-window-at-requires : tie.Need-window-at-requires
-window-at-requires c κs = search needs
-
-sub-result : tie.Need-sub-result
-sub-result c = search needs
-
-shr-result : tie.Need-shr-result
-shr-result c = search needs
-
-cast-result : tie.Need-cast-result
-cast-result c = search needs
-
 returns : tie.Need-returns
 returns c =
     let at = c .before .before .args .at in
@@ -27,4 +15,4 @@ returns c =
     rw (e, f) at (ahead-part (at % 8) 32 (c .window-at .ensures) (omega arith))
 
 pub next-bits-spec : {M : Type 1} → statement M
-next-bits-spec = tie.close (tie.spec window-at-requires sub-result shr-result cast-result returns)
+next-bits-spec = tie.close (tie.spec (λ c κs. search needs) (λ c. search needs) (λ c. search needs) (λ c. search needs) returns)

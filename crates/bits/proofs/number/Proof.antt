@@ -15,15 +15,6 @@ returns : tie.Need-returns
 unfolding numberFrom
 returns c = record { says = rw (c .if1 .taken); value = omega arith; next = omega arith }
 
-add-end : tie.Need-add-end
-add-end c = search needs
-
-add-if2 : tie.Need-add-if2
-add-if2 c = search needs
-
-missing-requires : tie.Need-missing-requires
-missing-requires c κs = search needs
-
 returns-2 : tie.Need-returns-2
 returns-2 c =
     record {
@@ -31,21 +22,6 @@ returns-2 c =
       value = omega arith;
       next = omega arith;
     }
-
-window-at-requires : tie.Need-window-at-requires
-window-at-requires c κs = search needs
-
-add-past : tie.Need-add-past
-add-past c = search needs
-
-sub-past : tie.Need-sub-past
-sub-past c = search needs
-
-shr-t10 : tie.Need-shr-t10
-shr-t10 c = search needs
-
-shl-t8 : tie.Need-shl-t8
-shl-t8 c = search needs
 
 rem-t9 : tie.Need-rem-t9
 rem-t9 c =
@@ -65,18 +41,5 @@ returns-3 c =
     }
 
 pub number-spec : {M : Type 1} → statement M
-number-spec =
-    tie.close
-    (tie.spec
-    returns
-    add-end
-    add-if2
-    missing-requires
-    returns-2
-    window-at-requires
-    add-past
-    sub-past
-    shr-t10
-    shl-t8
-    rem-t9
-    returns-3)
+number-spec = tie.close (tie.spec returns (λ c. search needs) (λ c. search needs) (λ c κs. search needs) returns-2
+    (λ c κs. search needs) (λ c. search needs) (λ c. search needs) (λ c. search needs) (λ c. search needs) rem-t9 returns-3)

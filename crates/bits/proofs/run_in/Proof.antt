@@ -6,24 +6,6 @@ use Rattle.bits.proofs.InWord.{fits-run}
 use Rattle.bits.proofs.run_in.Statement.{statement}
 use Rattle.bits.proofs.run_in.Tie as tie
 
-shl-result : tie.Need-shl-result
-shl-result c = search needs
-
-add-result : tie.Need-add-result
-add-result c = search needs
-
-add-result-2 : tie.Need-add-result-2
-add-result-2 c = search needs
-
-sub-result : tie.Need-sub-result
-sub-result c = search needs
-
-shr-result : tie.Need-shr-result
-shr-result c = search needs
-
-shl-result-2 : tie.Need-shl-result-2
-shl-result-2 c = search needs
-
 sub-result-2 : tie.Need-sub-result-2
 sub-result-2 c =
     let a = c .args in
@@ -43,15 +25,5 @@ returns c =
     rw (f .zeros, f .one) (refl, f .small)
 
 pub run-in-spec : {M : Type 1} → statement M
-run-in-spec =
-    tie.close
-    (tie.spec
-    shl-result
-    add-result
-    add-result-2
-    sub-result
-    shr-result
-    shl-result-2
-    sub-result-2
-    add-result-3
-    returns)
+run-in-spec = tie.close (tie.spec (λ c. search needs) (λ c. search needs) (λ c. search needs) (λ c. search needs)
+    (λ c. search needs) (λ c. search needs) sub-result-2 add-result-3 returns)

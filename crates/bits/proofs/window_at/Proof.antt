@@ -6,113 +6,27 @@ use Rattle.bits.proofs.Window.{ahead-five}
 use Rattle.bits.proofs.window_at.Statement.{statement}
 use Rattle.bits.proofs.window_at.Tie as tie
 
-add-if1 : tie.Need-add-if1
-add-if1 c = search needs
-
-octet-at-requires : tie.Need-octet-at-requires
-octet-at-requires c κs = search needs
-
-add-octet-at : tie.Need-add-octet-at
-add-octet-at c = search needs
-
-octet-at-requires-2 : tie.Need-octet-at-requires-2
-octet-at-requires-2 c κs = search needs
-
-add-octet-at-2 : tie.Need-add-octet-at-2
-add-octet-at-2 c = search needs
-
-octet-at-requires-3 : tie.Need-octet-at-requires-3
-octet-at-requires-3 c κs = search needs
-
-add-octet-at-3 : tie.Need-add-octet-at-3
-add-octet-at-3 c = search needs
-
-octet-at-requires-4 : tie.Need-octet-at-requires-4
-octet-at-requires-4 c κs = search needs
-
-add-octet-at-4 : tie.Need-add-octet-at-4
-add-octet-at-4 c = search needs
-
-octet-at-requires-5 : tie.Need-octet-at-requires-5
-octet-at-requires-5 c κs = search needs
-
-five-requires : tie.Need-five-requires
-five-requires c κs = search needs
-
 returns : tie.Need-returns
 returns c =
-    let a = c .before .before .before .before .before .octet-at in
-    let b = c .before .before .before .before .octet-at2 in
-    let d = c .before .before .before .octet-at3 in
-    let e = c .before .before .octet-at4 in
-    let f = c .before .octet-at5 in
-    let k = c .before .before .before .before .before .before .before in
+    let o = c .before .before .before .before .before in
+    let k = o .before .before in
     let g = k .before .args in
     rw (c .five .ensures)
-    (ahead-five (g .octets .now) (g .i) (a .ensures) (b .ensures) (d .ensures) (e .ensures) (f .ensures)
+    (ahead-five (g .octets .now) (g .i) (o .octet-at .ensures) (c .before .before .before .before .octet-at2 .ensures)
+    (c .before .before .before .octet-at3 .ensures) (c .before .before .octet-at4 .ensures) (c .before .octet-at5 .ensures)
     (λ j. omega (arith, k .shared-slice-known .given j)))
-
-shared-slice-read-five : tie.Need-shared-slice-read-five
-shared-slice-read-five c = search needs
-
-add-five : tie.Need-add-five
-add-five c = search needs
-
-shared-slice-read-five-2 : tie.Need-shared-slice-read-five-2
-shared-slice-read-five-2 c = search needs
-
-add-five-2 : tie.Need-add-five-2
-add-five-2 c = search needs
-
-shared-slice-read-five-3 : tie.Need-shared-slice-read-five-3
-shared-slice-read-five-3 c = search needs
-
-add-five-3 : tie.Need-add-five-3
-add-five-3 c = search needs
-
-shared-slice-read-five-4 : tie.Need-shared-slice-read-five-4
-shared-slice-read-five-4 c = search needs
-
-add-five-4 : tie.Need-add-five-4
-add-five-4 c = search needs
-
-shared-slice-read-five-5 : tie.Need-shared-slice-read-five-5
-shared-slice-read-five-5 c = search needs
-
-five-requires-2 : tie.Need-five-requires-2
-five-requires-2 c κs = search needs
 
 returns-2 : tie.Need-returns-2
 returns-2 c =
-    let k = c .before .before .before .before .before .before .before in
+    let e = c .before .before .before .before .before in
+    let k = e .before .before in
     let g = k .before .args in
     rw (c .five2 .ensures)
     (ahead-five (g .octets .now) (g .i) refl refl refl refl refl (λ j. omega (arith, k .shared-slice-known .given j)))
 
 pub window-at-spec : {M : Type 1} → statement M
-window-at-spec =
-    tie.close
-    (tie.spec
-    add-if1
-    octet-at-requires
-    add-octet-at
-    octet-at-requires-2
-    add-octet-at-2
-    octet-at-requires-3
-    add-octet-at-3
-    octet-at-requires-4
-    add-octet-at-4
-    octet-at-requires-5
-    five-requires
-    returns
-    shared-slice-read-five
-    add-five
-    shared-slice-read-five-2
-    add-five-2
-    shared-slice-read-five-3
-    add-five-3
-    shared-slice-read-five-4
-    add-five-4
-    shared-slice-read-five-5
-    five-requires-2
-    returns-2)
+window-at-spec = tie.close (tie.spec (λ c. search needs) (λ c κs. search needs) (λ c. search needs) (λ c κs. search needs)
+    (λ c. search needs) (λ c κs. search needs) (λ c. search needs) (λ c κs. search needs) (λ c. search needs)
+    (λ c κs. search needs) (λ c κs. search needs) returns (λ c. search needs) (λ c. search needs) (λ c. search needs)
+    (λ c. search needs) (λ c. search needs) (λ c. search needs) (λ c. search needs) (λ c. search needs) (λ c. search needs)
+    (λ c κs. search needs) returns-2)

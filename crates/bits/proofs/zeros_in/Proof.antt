@@ -7,9 +7,6 @@ use lib.Count.{leading-le}
 use Rattle.bits.proofs.zeros_in.Statement.{statement}
 use Rattle.bits.proofs.zeros_in.Tie as tie
 
-cast-result : tie.Need-cast-result
-cast-result c = search needs
-
 cast-result-2 : tie.Need-cast-result-2
 cast-result-2 c = omega (arith, leading-le 32 (c .args .word / 2 ^ 32))
 
@@ -17,4 +14,4 @@ returns : tie.Need-returns
 returns c = (refl, leading-le 32 (c .args .word / 2 ^ 32))
 
 pub zeros-in-spec : {M : Type 1} → statement M
-zeros-in-spec = tie.close (tie.spec cast-result cast-result-2 returns)
+zeros-in-spec = tie.close (tie.spec (λ c. search needs) cast-result-2 returns)

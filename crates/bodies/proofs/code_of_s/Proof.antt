@@ -7,24 +7,13 @@ use Rattle.codes.proofs.Begun.{found-number}
 use Rattle.bodies.proofs.code_of_s.Statement.{statement}
 use Rattle.bodies.proofs.code_of_s.Tie as tie
 
-next-bits-requires : tie.Need-next-bits-requires
-next-bits-requires c κs = search needs
-
-s-in-requires : tie.Need-s-in-requires
-s-in-requires c κs = search needs
-
-add-end : tie.Need-add-end
-add-end c = search needs
-
-add-if1 : tie.Need-add-if1
-add-if1 c = search needs
-
-missing-requires : tie.Need-missing-requires
-missing-requires c κs = search needs
+module _ (c : tie.After-missing) where
+  abbrev start : tie.Start
+  start = c .before .before .before .before .before .before
 
 returns : tie.Need-returns
 returns c =
-    let a = c .before .before .before .before .before .before .args in
+    let a = (start c) .args in
     let ahead = c .before .before .before .before .next-bits .ensures in
     let f = c .before .before .before .s-in .ensures in
     record {
@@ -51,6 +40,5 @@ returns-2 c =
     }
 
 pub code-of-s-spec : {M : Type 1} → statement M
-code-of-s-spec =
-    tie.close
-    (tie.spec next-bits-requires s-in-requires add-end add-if1 missing-requires returns returns-2)
+code-of-s-spec = tie.close (tie.spec (λ c κs. search needs) (λ c κs. search needs) (λ c. search needs) (λ c. search needs)
+    (λ c κs. search needs) returns returns-2)

@@ -6,22 +6,10 @@ use Rattle.bodies.proofs.Poured.{fills-refused, fills-as}
 use Rattle.bodies.proofs.constant.Statement.{statement}
 use Rattle.bodies.proofs.constant.Tie as tie
 
-number-requires : tie.Need-number-requires
-number-requires c κs = search needs
-
-enum-known-why : tie.Need-enum-known-why
-enum-known-why c = search needs
-
-enum-known-sample : tie.Need-enum-known-sample
-enum-known-sample c = search needs
-
 cast-filled : tie.Need-cast-filled
 cast-filled c =
     let v = told (c .before .before .before .number .ensures) (c .before .sample .given .1) in
     omega arith
-
-filled-requires : tie.Need-filled-requires
-filled-requires c κs = search needs
 
 returns : tie.Need-returns
 returns c =
@@ -34,13 +22,5 @@ returns-2 c =
     fills-as (c .filled .ensures) (rw (v .says)) (v .next)
 
 pub constant-spec : {M : Type 1} → statement M
-constant-spec =
-    tie.close
-    (tie.spec
-    number-requires
-    enum-known-why
-    enum-known-sample
-    cast-filled
-    filled-requires
-    returns
-    returns-2)
+constant-spec = tie.close (tie.spec (λ c κs. search needs) (λ c. search needs) (λ c. search needs) cast-filled
+    (λ c κs. search needs) returns returns-2)

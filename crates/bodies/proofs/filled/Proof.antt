@@ -7,13 +7,10 @@ use Rattle.bodies.proofs.Poured.{fills-put}
 use Rattle.bodies.proofs.filled.Statement.{statement}
 use Rattle.bodies.proofs.filled.Tie as tie
 
-fill-requires : tie.Need-fill-requires
-fill-requires c κs = search needs
-
 returns : tie.Need-returns
 returns c =
     let a = c .before .before .args in
     fills-put (c .fill .ensures) refl (length-replicate (a .n) (a .sample)) (c .before .before .pre .0) (le-refl (a .at))
 
 pub filled-spec : {M : Type 1} → statement M
-filled-spec = tie.close (tie.spec fill-requires returns)
+filled-spec = tie.close (tie.spec (λ c κs. search needs) returns)

@@ -21,12 +21,6 @@ abbrev μ-loop : tie.MeasureT-loop
 sizes : (s : tie.After-shared-slice-known Inv-loop μ-loop) → (i : ℕ) → getD (s .before .args .octets .now) i 0 < 256
 sizes s i = s .shared-slice-known .given i .fits
 
-add-if1 : tie.Need-add-if1 Inv-loop μ-loop
-add-if1 c = search needs
-
-missing-requires : tie.Need-missing-requires Inv-loop μ-loop
-missing-requires c κs = search needs
-
 returns : tie.Need-returns Inv-loop μ-loop
 returns c =
     let a = c .before .before .before in
@@ -40,21 +34,6 @@ loop-holds c =
     let l = part-length (a .args .octets .now) (a .args .at / 8) (a .args .n) (omega arith) in
     poured-none _ (a .args .samples .now) (rw l (omega arith)) (a .pre .4)
 
-add-samples : tie.Need-add-samples Inv-loop μ-loop
-add-samples c = search needs
-
-shared-slice-read-samples : tie.Need-shared-slice-read-samples Inv-loop μ-loop
-shared-slice-read-samples c = search needs
-
-element-write-samples : tie.Need-element-write-samples Inv-loop μ-loop
-element-write-samples c = search needs
-
-add-i : tie.Need-add-i Inv-loop μ-loop
-add-i c = search needs
-
-loop-less : tie.Need-loop-less Inv-loop μ-loop
-loop-less c = search needs
-
 loop-again : tie.Need-loop-again Inv-loop μ-loop
 loop-again c =
     let a = c .before .before .before .before .before in
@@ -63,12 +42,6 @@ loop-again c =
     poured-next (c .before .before .loop .inv) (rw l (omega arith))
     (sym (getD-take (a .args .n) (drop (a .args .at / 8) (a .args .octets .now)) i 0 (omega arith)
     ∙ getD-drop (a .args .at / 8) (a .args .octets .now) i 0))
-
-mul-t7 : tie.Need-mul-t7 Inv-loop μ-loop
-mul-t7 c = search needs
-
-add-t8 : tie.Need-add-t8 Inv-loop μ-loop
-add-t8 c = search needs
 
 returns-2 : tie.Need-returns-2 Inv-loop μ-loop
 returns-2 c =
@@ -80,21 +53,6 @@ returns-2 c =
     (omega arith)
 
 pub uncompressed-spec : {M : Type 1} → statement M
-uncompressed-spec =
-    tie.close
-    (tie.spec
-    Inv-loop
-    μ-loop
-    add-if1
-    missing-requires
-    returns
-    loop-holds
-    add-samples
-    shared-slice-read-samples
-    element-write-samples
-    add-i
-    loop-less
-    loop-again
-    mul-t7
-    add-t8
-    returns-2)
+uncompressed-spec = tie.close (tie.spec Inv-loop μ-loop (λ c. search needs) (λ c κs. search needs) returns loop-holds
+    (λ c. search needs) (λ c. search needs) (λ c. search needs) (λ c. search needs) (λ c. search needs) loop-again
+    (λ c. search needs) (λ c. search needs) returns-2)

@@ -4,9 +4,6 @@ use Rattle.rules.proofs.Signed.{plus-zero, minus-zero}
 use Rattle.bodies.proofs.zero_of.Statement.{statement}
 use Rattle.bodies.proofs.zero_of.Tie as tie
 
-add-result : tie.Need-add-result
-add-result c = search needs
-
 returns : tie.Need-returns
 returns c = rw (eq-eqb _ _ (c .if1 .taken), plus-zero)
 
@@ -14,4 +11,4 @@ returns-2 : tie.Need-returns-2
 returns-2 c = rw (ne-eqb _ _ (c .if1 .left), minus-zero)
 
 pub zero-of-spec : {M : Type 1} → statement M
-zero-of-spec = tie.close (tie.spec add-result returns returns-2)
+zero-of-spec = tie.close (tie.spec (λ c. search needs) returns returns-2)

@@ -9,11 +9,6 @@ use Rattle.closing.proofs.Closed.{Closing, close-none, close-all, close
 use borrow.Author.Needs.{needs}
 use Rattle.closing.proofs.close_up.Statement.{statement}
 use Rattle.closing.proofs.close_up.Tie as tie
-use Rattle.closing.proofs.close_up.Reads as reads
-use Rattle.closing.proofs.close_up.Lts as lts
-use Rattle.closing.proofs.settle.Reads as settle-reads
-use Rattle.rows.proofs.row_at.Reads as row-at-reads
-use Rattle.rows.proofs.wide.Reads as wide-reads
 
 abbrev Inv-loop : tie.InvT-loop
 Inv-loop block₀ table₀ size n to₀ moved₀ i₀ block table to moved i = Closing size block₀ table₀ i block table to moved
@@ -45,24 +40,23 @@ module _ (c : tie.After-slice-known4 Inv-loop μ-loop) where
       close-turn (s .0) (s .1 .0) (turn .before .loop .inv) (here turn)
       (c .before .before .before .before .row-at .ensures .0) (settled .0) (settled .1)
 
-slice-read-wide : tie.Need-slice-read-wide Inv-loop μ-loop
-slice-read-wide c = search needs
-
-wide-requires : tie.Need-wide-requires Inv-loop μ-loop
-wide-requires c κs = search needs
-
 loop-holds : tie.Need-loop-holds Inv-loop μ-loop
 loop-holds c = close-none (c .before .before .before .before .pre .0) (c .before .before .before .before .pre .1 .0)
 
-mul-k : tie.Need-mul-k Inv-loop μ-loop
-mul-k c = search needs
+module _ (c : tie.After-slice-known4 Inv-loop μ-loop) where
+  abbrev start-of-slice-known4 : tie.Start Inv-loop μ-loop
+  start-of-slice-known4 = c .before .before .before .before .before .before .before .before .before .before .before .before
 
-add-k : tie.Need-add-k Inv-loop μ-loop
-add-k c = search needs
+  abbrev loop : tie.In-loop Inv-loop μ-loop
+  loop = c .before .before .before .before .before .before
+
+module _ (c : tie.At-loop Inv-loop μ-loop) where
+  abbrev start-of-loop : tie.Start Inv-loop μ-loop
+  start-of-loop = c .before .before .before .before .before
 
 row-at-requires : tie.Need-row-at-requires Inv-loop μ-loop
 row-at-requires c κs =
-    let o = c .before .before .before .before .before .before .before .pre .0 in
+    let o = (start-of-loop (c .before .before)) .pre .0 in
     omega (arith, o .cells, o .few, here (c .before), c .before .before .loop .inv .table-size)
 
 settle-requires : tie.Need-settle-requires Inv-loop μ-loop
@@ -72,38 +66,29 @@ settle-requires c κs =
 
 cast-table : tie.Need-cast-table Inv-loop μ-loop
 cast-table c =
-    let low = c .before .before .before .before .before .before .before .before .before .before .before .before .pre .1 .1 in
-    omega (arith, c .before .before .before .before .before .before .before .loop .inv .inside, low)
-
-add-table : tie.Need-add-table Inv-loop μ-loop
-add-table c = search needs
-
-mul-table : tie.Need-mul-table Inv-loop μ-loop
-mul-table c = search needs
+    let low = (start-of-slice-known4 c) .pre .1 .1 in
+    omega (arith, (loop c) .before .loop .inv .inside, low)
 
 slice-write-table : tie.Need-slice-write-table Inv-loop μ-loop
 slice-write-table c =
-    let o = c .before .before .before .before .before .before .before .before .before .before .before .before .pre .0 in
-    let turn = c .before .before .before .before .before .before in
+    let o = (start-of-slice-known4 c) .pre .0 in
+    let turn = loop c in
     omega (arith, o .cells, o .few, here turn, turn .before .loop .inv .table-size)
 
 add-moved : tie.Need-add-moved Inv-loop μ-loop
 add-moved c =
     let t = turned c in
-    let low = c .before .before .before .before .before .before .before .before .before .before .before .before .pre .1 .1 in
+    let low = (start-of-slice-known4 c) .pre .1 .1 in
     omega (arith, t .few, t .inside, low)
 
 add-to : tie.Need-add-to Inv-loop μ-loop
 add-to c =
     let t = turned (c .before) in
-    let low = c .before .before .before .before .before .before .before .before .before .before .before .before .before .pre .1 .1 in
+    let low = (start-of-slice-known4 (c .before)) .pre .1 .1 in
     omega (arith, t .inside, low)
 
-add-i : tie.Need-add-i Inv-loop μ-loop
-add-i c = search needs
-
 loop-less : tie.Need-loop-less Inv-loop μ-loop
-loop-less c = let turn = c .before .before .before .before .before .before .before in omega (arith, here turn, turn .loop-test .taken)
+loop-less c = let turn = loop (c .before) in omega (arith, here turn, turn .loop-test .taken)
 
 loop-again : tie.Need-loop-again Inv-loop μ-loop
 loop-again c = turned (c .before)
@@ -116,31 +101,10 @@ same-length-2 c = c .before .loop .inv .table-size
 
 returns : tie.Need-returns Inv-loop μ-loop
 returns c =
-    let s = c .before .before .before .before .before .before .pre in
+    let s = (start-of-loop (c .before)) .pre in
     close-all (s .0) (s .1 .0) (c .before .loop .inv) (omega (arith, c .before .before .wide .ensures, c .loop-test .left))
 
 pub close-up-spec : {M : Type 1} → statement M
-close-up-spec =
-    tie.close
-    (tie.spec
-    Inv-loop
-    μ-loop
-    slice-read-wide
-    wide-requires
-    loop-holds
-    mul-k
-    add-k
-    row-at-requires
-    settle-requires
-    cast-table
-    add-table
-    mul-table
-    slice-write-table
-    add-moved
-    add-to
-    add-i
-    loop-less
-    loop-again
-    same-length
-    same-length-2
-    returns)
+close-up-spec = tie.close (tie.spec Inv-loop μ-loop (λ c. search needs) (λ c κs. search needs) loop-holds (λ c. search needs)
+    (λ c. search needs) row-at-requires settle-requires cast-table (λ c. search needs) (λ c. search needs) slice-write-table
+    add-moved add-to (λ c. search needs) loop-less loop-again same-length same-length-2 returns)

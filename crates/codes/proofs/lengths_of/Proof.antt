@@ -3,11 +3,8 @@ use Rattle.codes.proofs.Coded.{lengths-are}
 use Rattle.codes.proofs.lengths_of.Statement.{statement}
 use Rattle.codes.proofs.lengths_of.Tie as tie
 
-table-of-requires : tie.Need-table-of-requires
-table-of-requires c κs = search needs
-
 returns : tie.Need-returns
 returns c = lengths-are (c .before .table-of .ensures)
 
 pub lengths-of-spec : {M : Type 1} → statement M
-lengths-of-spec = tie.close (tie.spec table-of-requires returns)
+lengths-of-spec = tie.close (tie.spec (λ c κs. search needs) returns)

@@ -3,8 +3,6 @@ use borrow.Author.Tests.{ne-eqb}
 use Rattle.rules.specs.Zeros.{codesOf}
 use Rattle.codes.proofs.most_s.Statement.{statement}
 use Rattle.codes.proofs.most_s.Tie as tie
-use Rattle.codes.proofs.most_s.Reads as reads
-use Rattle.codes.proofs.most_s.Lts as lts
 
 returns : tie.Need-returns
 unfolding codesOf

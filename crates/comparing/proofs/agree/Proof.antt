@@ -24,27 +24,19 @@ returns c =
     let l = c .before .before .loop in
     (sym (l .inv .2 ∙ agree-second (s .a .now) (s .b .now) (l .i) (c .if1 .taken)), (omega arith, omega arith))
 
-shared-slice-read-if2 : tie.Need-shared-slice-read-if2 Inv-loop μ-loop
-shared-slice-read-if2 c = search needs
-
-shared-slice-read-if2-2 : tie.Need-shared-slice-read-if2-2 Inv-loop μ-loop
-shared-slice-read-if2-2 c = search needs
+module _ (c : tie.After-shared-slice-known2 Inv-loop μ-loop) where
+  abbrev start : tie.Start Inv-loop μ-loop
+  start = c .before .before .before .before .before
 
 returns-2 : tie.Need-returns-2 Inv-loop μ-loop
 returns-2 c =
-    let s = c .before .before .before .before .before .before .args in
+    let s = (start (c .before)) .args in
     let l = c .before .before .before .before .before .loop in
     (sym (l .inv .2 ∙ agree-differ (s .a .now) (s .b .now) (l .i) (omega arith) (omega arith) (c .if2 .taken)), (omega arith, omega arith))
 
-add-i : tie.Need-add-i Inv-loop μ-loop
-add-i c = search needs
-
-loop-less : tie.Need-loop-less Inv-loop μ-loop
-loop-less c = search needs
-
 loop-again : tie.Need-loop-again Inv-loop μ-loop
 loop-again c =
-    let s = c .before .before .before .before .before .before .args in
+    let s = (start (c .before)) .args in
     let l = c .before .before .before .before .before .loop in
     (omega arith, omega arith, l .inv .2 ∙ agree-step (s .a .now) (s .b .now) (l .i) (omega arith) (omega arith) (c .if2 .left))
 
@@ -55,17 +47,5 @@ returns-3 c =
     (sym (l .inv .2 ∙ agree-first (s .a .now) (s .b .now) (l .i) (c .loop-test .left)), (omega arith, omega arith))
 
 pub agree-spec : {M : Type 1} → statement M
-agree-spec =
-    tie.close
-    (tie.spec
-    Inv-loop
-    μ-loop
-    loop-holds
-    returns
-    shared-slice-read-if2
-    shared-slice-read-if2-2
-    returns-2
-    add-i
-    loop-less
-    loop-again
-    returns-3)
+agree-spec = tie.close (tie.spec Inv-loop μ-loop loop-holds returns (λ c. search needs) (λ c. search needs) returns-2
+    (λ c. search needs) (λ c. search needs) loop-again returns-3)

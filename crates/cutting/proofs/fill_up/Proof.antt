@@ -16,30 +16,15 @@ Inv-loop sound₀ len law plus more i₀ sound i = Filling sound₀ len more plu
 abbrev μ-loop : tie.MeasureT-loop
 μ-loop sound₀ len law plus more i₀ sound i = more - i
 
-mask-of-requires : tie.Need-mask-of-requires Inv-loop μ-loop
-mask-of-requires c κs = search needs
-
 plus-zero-requires : tie.Need-plus-zero-requires Inv-loop μ-loop
 plus-zero-requires c κs = rw (c .mask-of .ensures) (mask-small (c .before .before .args .law))
-
-sub-more : tie.Need-sub-more Inv-loop μ-loop
-sub-more c = search needs
 
 loop-holds : tie.Need-loop-holds Inv-loop μ-loop
 loop-holds c = let s = c .before .before .before in
     fill-start (s .args .sound .now) (s .args .len) (toFill (s .args .len)) (c .plus-zero .result)
 
-add-sound : tie.Need-add-sound Inv-loop μ-loop
-add-sound c = search needs
-
 slice-write-sound : tie.Need-slice-write-sound Inv-loop μ-loop
 slice-write-sound c = omega (arith, fill-length (c .before .before .before .before .before .pre) (c .before .loop .inv))
-
-add-i : tie.Need-add-i Inv-loop μ-loop
-add-i c = search needs
-
-loop-less : tie.Need-loop-less Inv-loop μ-loop
-loop-less c = search needs
 
 loop-again : tie.Need-loop-again Inv-loop μ-loop
 loop-again c = fill-turn (c .before .before .before .before .before .pre) (c .before .loop .inv) (omega arith)
@@ -53,19 +38,5 @@ returns c =
     (c .before .before .plus-zero .ensures ∙ ap plusZero (c .before .before .before .mask-of .ensures))
 
 pub fill-up-spec : {M : Type 1} → statement M
-fill-up-spec =
-    tie.close
-    (tie.spec
-    Inv-loop
-    μ-loop
-    mask-of-requires
-    plus-zero-requires
-    sub-more
-    loop-holds
-    add-sound
-    slice-write-sound
-    add-i
-    loop-less
-    loop-again
-    same-length
-    returns)
+fill-up-spec = tie.close (tie.spec Inv-loop μ-loop (λ c κs. search needs) plus-zero-requires (λ c. search needs) loop-holds
+    (λ c. search needs) slice-write-sound (λ c. search needs) (λ c. search needs) loop-again same-length returns)

@@ -5,18 +5,11 @@ use Rattle.cutting.proofs.Lengths.{next-if-short, next-if-long}
 use Rattle.cutting.proofs.next_length.Statement.{statement}
 use Rattle.cutting.proofs.next_length.Tie as tie
 
-largest-up-to-requires : tie.Need-largest-up-to-requires
-largest-up-to-requires c κs = search needs
-
 returns : tie.Need-returns
 returns c = c .largest-up-to .ensures ∙ next-if-short (c .before .before .args .n) (c .before .before .args .left) (omega arith)
-
-largest-up-to-requires-2 : tie.Need-largest-up-to-requires-2
-largest-up-to-requires-2 c κs = search needs
 
 returns-2 : tie.Need-returns-2
 returns-2 c = c .largest-up-to2 .ensures ∙ next-if-long (c .before .before .args .n) (c .before .before .args .left) (omega arith)
 
 pub next-length-spec : {M : Type 1} → statement M
-next-length-spec =
-    tie.close (tie.spec largest-up-to-requires returns largest-up-to-requires-2 returns-2)
+next-length-spec = tie.close (tie.spec (λ c κs. search needs) returns (λ c κs. search needs) returns-2)

@@ -5,9 +5,6 @@ use Rattle.cutting.proofs.Numbers.{room-is-long, others-stay}
 use Rattle.cutting.proofs.number_for.Statement.{statement}
 use Rattle.cutting.proofs.number_for.Tie as tie
 
-number-of-requires : tie.Need-number-of-requires
-number-of-requires c κs = search needs
-
 returns : tie.Need-returns
 returns c = room-is-long (c .before .before .args .end) (sym (c .before .number-of .ensures) ∙ omega arith)
 
@@ -16,4 +13,4 @@ returns-2 c = c .before .number-of .ensures
     ∙ others-stay (c .before .before .args .end) (λ z. absurd (omega (arith, c .before .number-of .ensures, z)))
 
 pub number-for-spec : {M : Type 1} → statement M
-number-for-spec = tie.close (tie.spec number-of-requires returns returns-2)
+number-for-spec = tie.close (tie.spec (λ c κs. search needs) returns returns-2)

@@ -19,18 +19,6 @@ loop-holds : tie.Need-loop-holds Inv-loop μ-loop
 unfolding endingAt
 loop-holds c = (omega arith, omega arith, omega arith, refl)
 
-shared-slice-read-place-after : tie.Need-shared-slice-read-place-after Inv-loop μ-loop
-shared-slice-read-place-after c = search needs
-
-place-after-requires : tie.Need-place-after-requires Inv-loop μ-loop
-place-after-requires c κs = search needs
-
-add-i : tie.Need-add-i Inv-loop μ-loop
-add-i c = search needs
-
-loop-less : tie.Need-loop-less Inv-loop μ-loop
-loop-less c = search needs
-
 loop-again : tie.Need-loop-again Inv-loop μ-loop
 loop-again c =
     let name = c .before .before .before .before .before .args .name .now in
@@ -49,15 +37,5 @@ returns c =
     (sym (l .inv .3 ∙ place-end name (length name) (l .place) (l .i) (omega arith)), omega arith)
 
 pub ending-at-spec : {M : Type 1} → statement M
-ending-at-spec =
-    tie.close
-    (tie.spec
-    Inv-loop
-    μ-loop
-    loop-holds
-    shared-slice-read-place-after
-    place-after-requires
-    add-i
-    loop-less
-    loop-again
-    returns)
+ending-at-spec = tie.close (tie.spec Inv-loop μ-loop loop-holds (λ c. search needs) (λ c κs. search needs) (λ c. search needs)
+    (λ c. search needs) loop-again returns)

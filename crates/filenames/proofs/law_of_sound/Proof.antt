@@ -3,33 +3,15 @@ use Rattle.filenames.specs.Names.{lawOfSound}
 use Rattle.filenames.proofs.law_of_sound.Statement.{statement}
 use Rattle.filenames.proofs.law_of_sound.Tie as tie
 
-slice-aggregate-is-same : tie.Need-slice-aggregate-is-same
-slice-aggregate-is-same c = search needs
-
-is-same-requires : tie.Need-is-same-requires
-is-same-requires c κs = search needs
-
 returns : tie.Need-returns
 unfolding lawOfSound
 returns c = rw (← (c .before .is-same .ensures), c .if1 .taken)
-
-slice-aggregate-is-same-2 : tie.Need-slice-aggregate-is-same-2
-slice-aggregate-is-same-2 c = search needs
-
-is-same-requires-2 : tie.Need-is-same-requires-2
-is-same-requires-2 c κs = search needs
 
 returns-2 : tie.Need-returns-2
 unfolding lawOfSound
 returns-2 c =
     let at1 = c .before .before .before in
     rw (← (at1 .before .is-same .ensures), at1 .if1 .left, ← (c .before .is-same2 .ensures), c .if2 .taken)
-
-slice-aggregate-is-same-3 : tie.Need-slice-aggregate-is-same-3
-slice-aggregate-is-same-3 c = search needs
-
-is-same-requires-3 : tie.Need-is-same-requires-3
-is-same-requires-3 c κs = search needs
 
 returns-3 : tie.Need-returns-3
 unfolding lawOfSound
@@ -46,12 +28,6 @@ returns-3 c =
       c .if3 .taken,
     )
 
-slice-aggregate-is-same-4 : tie.Need-slice-aggregate-is-same-4
-slice-aggregate-is-same-4 c = search needs
-
-is-same-requires-4 : tie.Need-is-same-requires-4
-is-same-requires-4 c κs = search needs
-
 returns-4 : tie.Need-returns-4
 unfolding lawOfSound
 returns-4 c =
@@ -60,12 +36,6 @@ returns-4 c =
     let at1 = at2 .before .before .before in
     rw (← (at1 .before .is-same .ensures), at1 .if1 .left, ← (at2 .before .is-same2 .ensures), at2 .if2 .left)
     (rw (← (at3 .before .is-same3 .ensures), at3 .if3 .left, ← (c .before .is-same4 .ensures), c .if4 .taken))
-
-slice-aggregate-is-same-5 : tie.Need-slice-aggregate-is-same-5
-slice-aggregate-is-same-5 c = search needs
-
-is-same-requires-5 : tie.Need-is-same-requires-5
-is-same-requires-5 c κs = search needs
 
 returns-5 : tie.Need-returns-5
 unfolding lawOfSound
@@ -90,22 +60,6 @@ returns-6 c =
     (rw (← (c .before .is-same5 .ensures), c .if5 .left)))
 
 pub law-of-sound-spec : {M : Type 1} → statement M
-law-of-sound-spec =
-    tie.close
-    (tie.spec
-    slice-aggregate-is-same
-    is-same-requires
-    returns
-    slice-aggregate-is-same-2
-    is-same-requires-2
-    returns-2
-    slice-aggregate-is-same-3
-    is-same-requires-3
-    returns-3
-    slice-aggregate-is-same-4
-    is-same-requires-4
-    returns-4
-    slice-aggregate-is-same-5
-    is-same-requires-5
-    returns-5
-    returns-6)
+law-of-sound-spec = tie.close (tie.spec (λ c. search needs) (λ c κs. search needs) returns (λ c. search needs)
+    (λ c κs. search needs) returns-2 (λ c. search needs) (λ c κs. search needs) returns-3 (λ c. search needs)
+    (λ c κs. search needs) returns-4 (λ c. search needs) (λ c κs. search needs) returns-5 returns-6)

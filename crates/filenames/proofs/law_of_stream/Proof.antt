@@ -3,21 +3,9 @@ use Rattle.filenames.specs.Names.{lawOfStream}
 use Rattle.filenames.proofs.law_of_stream.Statement.{statement}
 use Rattle.filenames.proofs.law_of_stream.Tie as tie
 
-slice-aggregate-is-same : tie.Need-slice-aggregate-is-same
-slice-aggregate-is-same c = search needs
-
-is-same-requires : tie.Need-is-same-requires
-is-same-requires c κs = search needs
-
 returns : tie.Need-returns
 unfolding lawOfStream
 returns c = rw (← (c .before .is-same .ensures), c .if1 .taken)
-
-slice-aggregate-is-same-2 : tie.Need-slice-aggregate-is-same-2
-slice-aggregate-is-same-2 c = search needs
-
-is-same-requires-2 : tie.Need-is-same-requires-2
-is-same-requires-2 c κs = search needs
 
 returns-2 : tie.Need-returns-2
 unfolding lawOfStream
@@ -41,13 +29,5 @@ returns-3 c = rw (
 )
 
 pub law-of-stream-spec : {M : Type 1} → statement M
-law-of-stream-spec =
-    tie.close
-    (tie.spec
-    slice-aggregate-is-same
-    is-same-requires
-    returns
-    slice-aggregate-is-same-2
-    is-same-requires-2
-    returns-2
-    returns-3)
+law-of-stream-spec = tie.close (tie.spec (λ c. search needs) (λ c κs. search needs) returns (λ c. search needs)
+    (λ c κs. search needs) returns-2 returns-3)

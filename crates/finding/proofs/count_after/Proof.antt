@@ -2,11 +2,6 @@ use borrow.Author.Needs.{needs}
 use borrow.Author.Tests.{eq-eqb, ne-eqb}
 use Rattle.finding.proofs.count_after.Statement.{statement}
 use Rattle.finding.proofs.count_after.Tie as tie
-use Rattle.finding.proofs.count_after.Reads as reads
-use Rattle.finding.proofs.count_after.Lts as lts
-
-add-result : tie.Need-add-result
-add-result c = search needs
 
 returns : tie.Need-returns
 returns c = rw (eq-eqb _ _ (c .if1 .taken))
@@ -15,4 +10,4 @@ returns-2 : tie.Need-returns-2
 returns-2 c = rw (ne-eqb _ _ (c .if1 .left))
 
 pub count-after-spec : {M : Type 1} → statement M
-count-after-spec = tie.close (tie.spec add-result returns returns-2)
+count-after-spec = tie.close (tie.spec (λ c. search needs) returns returns-2)

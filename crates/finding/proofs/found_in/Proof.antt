@@ -7,26 +7,12 @@ use Rattle.finding.specs.Tracks.{TracksAre}
 use Rattle.finding.proofs.Values.{tracks-none, tracks-end}
 use Rattle.finding.proofs.found_in.Statement.{statement}
 use Rattle.finding.proofs.found_in.Tie as tie
-use Rattle.finding.proofs.found_in.Reads as reads
-use Rattle.finding.proofs.found_in.Lts as lts
-use Rattle.finding.proofs.close_last.Reads as close-last-reads
-use Rattle.finding.proofs.no_runs.Reads as no-runs-reads
-use Rattle.finding.proofs.word_found.Reads as word-found-reads
 
 abbrev Inv-loop : tie.InvT-loop
 Inv-loop samples k plus x y z a₀ b₀ c₀ t₀ i₀ a b c t i = (i ≤ k) × TracksAre x y z (take (40 * i) samples) (40 * i) t a b c
 
 abbrev μ-loop : tie.MeasureT-loop
 μ-loop samples k plus x y z a₀ b₀ c₀ t₀ i₀ a b c t i = k - i
-
-no-runs-requires : tie.Need-no-runs-requires Inv-loop μ-loop
-no-runs-requires c κs = search needs
-
-no-runs-requires-2 : tie.Need-no-runs-requires-2 Inv-loop μ-loop
-no-runs-requires-2 c κs = search needs
-
-no-runs-requires-3 : tie.Need-no-runs-requires-3 Inv-loop μ-loop
-no-runs-requires-3 c κs = search needs
 
 loop-holds : tie.Need-loop-holds Inv-loop μ-loop
 loop-holds c =
@@ -36,72 +22,50 @@ loop-holds c =
           (c .before .no-runs2 .ensures) (c .no-runs3 .ensures) (s .pre .1 .1 .0) (s .pre .1 .1 .1 .0) (s .pre .1 .1 .1 .1),
     )
 
+module _ (c : tie.After-close-last-arg2 Inv-loop μ-loop) where
+  abbrev loop : tie.At-loop Inv-loop μ-loop
+  loop = c .before .before .before .before .before .before .before
+
+module _ (c : tie.After-word-found-arg3 Inv-loop μ-loop) where
+  abbrev start-of-word-found-arg3 : tie.Start Inv-loop μ-loop
+  start-of-word-found-arg3 = c .before .before .before .before .before .before .before .before .before
+
 word-found-requires : tie.Need-word-found-requires Inv-loop μ-loop
 word-found-requires c κs =
-    let s = c .before .before .before .before .before .before .before .before .before in (
+    let s = start-of-word-found-arg3 c in (
       (omega arith, (omega arith, record { first = s .pre .1 .0 .0; second = s .pre .1 .0 .1 .0; third = s .pre .1 .0 .1 .1 })),
       c .before .before .before .before .loop .inv .1,
     )
 
-add-i : tie.Need-add-i Inv-loop μ-loop
-add-i c = search needs
-
-loop-less : tie.Need-loop-less Inv-loop μ-loop
-loop-less c = search needs
-
 loop-again : tie.Need-loop-again Inv-loop μ-loop
 loop-again c = (omega arith, c .word-found .ensures)
-
-mul-close-last : tie.Need-mul-close-last Inv-loop μ-loop
-mul-close-last c = search needs
 
 close-last-requires : tie.Need-close-last-requires Inv-loop μ-loop
 close-last-requires c κs =
     let k = c .before .before .before .before .before .loop .inv .1 .first in
     (k .size, (k .few, (omega (arith, k .behind), omega arith)))
 
-mul-close-last-2 : tie.Need-mul-close-last-2 Inv-loop μ-loop
-mul-close-last-2 c = search needs
-
 close-last-requires-2 : tie.Need-close-last-requires-2 Inv-loop μ-loop
 close-last-requires-2 c κs =
-    let k = c .before .before .before .before .before .before .before .loop .inv .1 .second in
+    let k = (loop c) .loop .inv .1 .second in
     (k .size, (k .few, (omega (arith, k .behind), omega arith)))
-
-mul-close-last-3 : tie.Need-mul-close-last-3 Inv-loop μ-loop
-mul-close-last-3 c = search needs
 
 close-last-requires-3 : tie.Need-close-last-requires-3 Inv-loop μ-loop
 close-last-requires-3 c κs =
-    let k = c .before .before .before .before .before .before .before .before .before .loop .inv .1 .third in
+    let k = (loop (c .before .before)) .loop .inv .1 .third in
     (k .size, (k .few, (omega (arith, k .behind), omega arith)))
 
 returns : tie.Need-returns Inv-loop μ-loop
 returns c =
-    let l = c .before .before .before .before .before .before .before .before .before .before .loop in
-    let s = c .before .before .before .before .before .before .before .before .before .before .before .before .before .before .before in
+    let first = c .before .before .before .before .before in
+    let at = first .before .before .before .before .before in
+    let s = at .before .before .before .before .before in
+    let l = at .loop in
     let e : l .i ≡ s .args .k = omega arith in
     tracks-end (rw e at (l .inv .1)) (omega arith) (c .before .before .before .before .close-last .ensures)
     (c .before .before .close-last2 .ensures) (c .close-last3 .ensures)
 
 pub found-in-spec : {M : Type 1} → statement M
-found-in-spec =
-    tie.close
-    (tie.spec
-    Inv-loop
-    μ-loop
-    no-runs-requires
-    no-runs-requires-2
-    no-runs-requires-3
-    loop-holds
-    word-found-requires
-    add-i
-    loop-less
-    loop-again
-    mul-close-last
-    close-last-requires
-    mul-close-last-2
-    close-last-requires-2
-    mul-close-last-3
-    close-last-requires-3
-    returns)
+found-in-spec = tie.close (tie.spec Inv-loop μ-loop (λ c κs. search needs) (λ c κs. search needs) (λ c κs. search needs)
+    loop-holds word-found-requires (λ c. search needs) (λ c. search needs) loop-again (λ c. search needs) close-last-requires
+    (λ c. search needs) close-last-requires-2 (λ c. search needs) close-last-requires-3 returns)

@@ -8,20 +8,12 @@ use Rattle.finding.specs.Tracks.{TrackIs}
 use Rattle.finding.proofs.Tracking.{row-track-none, track-end}
 use Rattle.finding.proofs.runs_in.Statement.{statement}
 use Rattle.finding.proofs.runs_in.Tie as tie
-use Rattle.finding.proofs.runs_in.Reads as reads
-use Rattle.finding.proofs.runs_in.Lts as lts
-use Rattle.finding.proofs.close_last.Reads as close-last-reads
-use Rattle.finding.proofs.no_runs.Reads as no-runs-reads
-use Rattle.finding.proofs.word_runs.Reads as word-runs-reads
 
 abbrev Inv-loop : tie.InvT-loop
 Inv-loop row k runs₀ t₀ i₀ runs t i = (i ≤ k) × TrackIs (rowBits (take i row)) runs t (40 * i)
 
 abbrev μ-loop : tie.MeasureT-loop
 μ-loop row k runs₀ t₀ i₀ runs t i = k - i
-
-no-runs-requires : tie.Need-no-runs-requires Inv-loop μ-loop
-no-runs-requires c κs = search needs
 
 loop-holds : tie.Need-loop-holds Inv-loop μ-loop
 loop-holds c =
@@ -37,17 +29,8 @@ word-runs-requires c κs =
     let l = c .before .before .loop in
     ((omega arith, (s .pre .0 .1 .0, s .pre .1 (l .i))), l .inv .1)
 
-add-i : tie.Need-add-i Inv-loop μ-loop
-add-i c = search needs
-
-loop-less : tie.Need-loop-less Inv-loop μ-loop
-loop-less c = search needs
-
 loop-again : tie.Need-loop-again Inv-loop μ-loop
 loop-again c = (omega arith, c .word-runs .ensures)
-
-mul-close-last : tie.Need-mul-close-last Inv-loop μ-loop
-mul-close-last c = search needs
 
 close-last-requires : tie.Need-close-last-requires Inv-loop μ-loop
 close-last-requires c κs = let k = c .before .before .loop .inv .1 in (k .size, (k .few, (omega (arith, k .behind), omega arith)))
@@ -60,17 +43,5 @@ returns c =
     track-end (rw e at (l .inv .1)) (c .close-last .ensures) (omega arith)
 
 pub runs-in-spec : {M : Type 1} → statement M
-runs-in-spec =
-    tie.close
-    (tie.spec
-    Inv-loop
-    μ-loop
-    no-runs-requires
-    loop-holds
-    word-runs-requires
-    add-i
-    loop-less
-    loop-again
-    mul-close-last
-    close-last-requires
-    returns)
+runs-in-spec = tie.close (tie.spec Inv-loop μ-loop (λ c κs. search needs) loop-holds word-runs-requires (λ c. search needs)
+    (λ c. search needs) loop-again (λ c. search needs) close-last-requires returns)

@@ -2,8 +2,6 @@ use native.Mathlib.Omega.{arith}
 use Rattle.finding.proofs.Tracking.{top-leads}
 use Rattle.finding.proofs.top_of.Statement.{statement}
 use Rattle.finding.proofs.top_of.Tie as tie
-use Rattle.finding.proofs.top_of.Reads as reads
-use Rattle.finding.proofs.top_of.Lts as lts
 
 cast-result : tie.Need-cast-result
 cast-result c = let h = top-leads (c .args .w) (c .pre) (c .fits .w .fits) in omega (arith, h .0)

@@ -6,11 +6,6 @@ use Rattle.finding.proofs.Tracking.{one-at}
 use Rattle.finding.proofs.Values.{InSamples, samples-first, samples-last, samples-here, samples-next, samples-place}
 use Rattle.finding.proofs.word_found.Statement.{statement}
 use Rattle.finding.proofs.word_found.Tie as tie
-use Rattle.finding.proofs.word_found.Reads as reads
-use Rattle.finding.proofs.word_found.Lts as lts
-use Rattle.finding.proofs.mark.Reads as mark-reads
-use Rattle.finding.proofs.top_of.Reads as top-of-reads
-use Rattle.look.proofs.word_at.Reads as word-at-reads
 
 abbrev Inv-loop : tie.InvT-loop
 Inv-loop samples i plus x y z a₀ b₀ c₀ found₀ w₀ a b c found w = InSamples plus x y z samples found a b c w (40 * (i + 1))
@@ -18,26 +13,11 @@ Inv-loop samples i plus x y z a₀ b₀ c₀ found₀ w₀ a b c found w = InSam
 abbrev μ-loop : tie.MeasureT-loop
 μ-loop samples i plus x y z a₀ b₀ c₀ found₀ w₀ a b c found w = w
 
-mul-word-at : tie.Need-mul-word-at Inv-loop μ-loop
-mul-word-at c = search needs
-
-word-at-requires : tie.Need-word-at-requires Inv-loop μ-loop
-word-at-requires c κs = search needs
-
 loop-holds : tie.Need-loop-holds Inv-loop μ-loop
 loop-holds c =
     let s = c .before .before in
     samples-first (s .args .plus) (s .args .x) (s .args .y) (s .args .z) (s .args .samples .now) (s .args .t) (s .args .a .now)
     (s .args .b .now) (s .args .c .now) (s .args .i) (c .word-at .result) (c .word-at .ensures) (s .pre .1)
-
-top-of-requires : tie.Need-top-of-requires Inv-loop μ-loop
-top-of-requires c κs = search needs
-
-mul-mark : tie.Need-mul-mark Inv-loop μ-loop
-mul-mark c = search needs
-
-add-mark : tie.Need-add-mark Inv-loop μ-loop
-add-mark c = search needs
 
 sub-mark : tie.Need-sub-mark Inv-loop μ-loop
 sub-mark c =
@@ -45,9 +25,13 @@ sub-mark c =
     let h = samples-place (s .pre .0 .1 .1) (omega arith) (c .before .before .loop .inv) (c .top-of .result) (c .top-of .ensures .0) in
     omega (arith, h)
 
+module _ (c : tie.After-mark-arg3 Inv-loop μ-loop) where
+  abbrev loop : tie.At-loop Inv-loop μ-loop
+  loop = c .before .before .before .before .before
+
 mark-requires : tie.Need-mark-requires Inv-loop μ-loop
 mark-requires c κs =
-    let s = c .before .before .before .before .before .before .before .before in
+    let s = (loop c) .before .before .before in
     let l = c .before .before .before .before .before .loop in
     let top = c .before .before .before .top-of in
     let h = samples-place (s .pre .0 .1 .1) (omega arith) (l .inv) (top .result) (top .ensures .0) in (
@@ -55,9 +39,6 @@ mark-requires c κs =
       samples-here (s .pre .0 .1 .1) (omega arith) (l .inv) (top .result) _ (top .ensures .0)
           (top .ensures .1 .0) (omega (arith, h)),
     )
-
-shl-w : tie.Need-shl-w Inv-loop μ-loop
-shl-w c = search needs
 
 sub-w : tie.Need-sub-w Inv-loop μ-loop
 sub-w c = let top = c .before .before .before .before .top-of in rw (one-at _ (top .ensures .1 .1)) (top .ensures .0)
@@ -68,8 +49,8 @@ loop-less c = let top = c .before .before .before .before .top-of in
 
 loop-again : tie.Need-loop-again Inv-loop μ-loop
 loop-again c =
-    let s = c .before .before .before .before .before .before .before .before .before in
-    let l = c .before .before .before .before .before .before .loop in
+    let s = (loop (c .before)) .before .before .before in
+    let l = (loop (c .before)) .loop in
     let top = c .before .before .before .before .top-of in
     let h = samples-place (s .pre .0 .1 .1) (omega arith) (l .inv) (top .result) (top .ensures .0) in
     rw (one-at _ (top .ensures .1 .1))
@@ -80,21 +61,6 @@ returns : tie.Need-returns Inv-loop μ-loop
 returns c = samples-last (c .before .before .before .before .pre .0 .1 .1) (omega arith) (c .before .loop .inv) (omega arith)
 
 pub word-found-spec : {M : Type 1} → statement M
-word-found-spec =
-    tie.close
-    (tie.spec
-    Inv-loop
-    μ-loop
-    mul-word-at
-    word-at-requires
-    loop-holds
-    top-of-requires
-    mul-mark
-    add-mark
-    sub-mark
-    mark-requires
-    shl-w
-    sub-w
-    loop-less
-    loop-again
-    returns)
+word-found-spec = tie.close (tie.spec Inv-loop μ-loop (λ c. search needs) (λ c κs. search needs) loop-holds
+    (λ c κs. search needs) (λ c. search needs) (λ c. search needs) sub-mark mark-requires (λ c. search needs) sub-w loop-less
+    loop-again returns)

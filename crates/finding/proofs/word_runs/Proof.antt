@@ -7,10 +7,6 @@ use Rattle.look.specs.Rows.{rowBits}
 use Rattle.finding.proofs.Tracking.{InWord, in-first, in-one, in-last, in-place, one-at}
 use Rattle.finding.proofs.word_runs.Statement.{statement}
 use Rattle.finding.proofs.word_runs.Tie as tie
-use Rattle.finding.proofs.word_runs.Reads as reads
-use Rattle.finding.proofs.word_runs.Lts as lts
-use Rattle.finding.proofs.close.Reads as close-reads
-use Rattle.finding.proofs.top_of.Reads as top-of-reads
 
 abbrev Inv-loop : tie.InvT-loop
 Inv-loop row i runs₀ found₀ w₀ runs found w = InWord (rowBits (take (i + 1) row)) runs found w (40 * (i + 1))
@@ -18,24 +14,9 @@ Inv-loop row i runs₀ found₀ w₀ runs found w = InWord (rowBits (take (i + 1
 abbrev μ-loop : tie.MeasureT-loop
 μ-loop row i runs₀ found₀ w₀ runs found w = w
 
-mul-w : tie.Need-mul-w Inv-loop μ-loop
-mul-w c = search needs
-
-element-copy-out-w : tie.Need-element-copy-out-w Inv-loop μ-loop
-element-copy-out-w c = search needs
-
 loop-holds : tie.Need-loop-holds Inv-loop μ-loop
 loop-holds c = let s = c .before in in-first (s .args .row .now) (s .args .runs .now) (s .args .t) (s .args .i) (omega arith)
     (s .pre .0 .1 .1) (s .pre .1)
-
-top-of-requires : tie.Need-top-of-requires Inv-loop μ-loop
-top-of-requires c κs = search needs
-
-mul-close : tie.Need-mul-close Inv-loop μ-loop
-mul-close c = search needs
-
-add-close : tie.Need-add-close Inv-loop μ-loop
-add-close c = search needs
 
 sub-close : tie.Need-sub-close Inv-loop μ-loop
 sub-close c = let h = in-place (c .before .before .before .loop .inv) _ (omega arith) (c .before .top-of .ensures .0) in omega (arith, h .0)
@@ -45,9 +26,6 @@ close-requires c κs =
     let n = c .before .before .before .loop .inv in
     let h = in-place n _ (omega arith) (c .before .top-of .ensures .0) in
     (n .track .size, (n .track .few, (omega (arith, h .0, h .1), omega arith)))
-
-shl-w : tie.Need-shl-w Inv-loop μ-loop
-shl-w c = search needs
 
 sub-w : tie.Need-sub-w Inv-loop μ-loop
 sub-w c = rw (one-at _ (c .before .before .top-of .ensures .1 .1)) (c .before .before .top-of .ensures .0)
@@ -69,21 +47,5 @@ returns : tie.Need-returns Inv-loop μ-loop
 returns c = in-last (c .before .loop .inv) (omega arith) (omega arith)
 
 pub word-runs-spec : {M : Type 1} → statement M
-word-runs-spec =
-    tie.close
-    (tie.spec
-    Inv-loop
-    μ-loop
-    mul-w
-    element-copy-out-w
-    loop-holds
-    top-of-requires
-    mul-close
-    add-close
-    sub-close
-    close-requires
-    shl-w
-    sub-w
-    loop-less
-    loop-again
-    returns)
+word-runs-spec = tie.close (tie.spec Inv-loop μ-loop (λ c. search needs) (λ c. search needs) loop-holds (λ c κs. search needs)
+    (λ c. search needs) (λ c. search needs) sub-close close-requires (λ c. search needs) sub-w loop-less loop-again returns)

@@ -1,3 +1,4 @@
+-- The first octet, then the body by its row, by one pen.
 use borrow.Author.Needs.{needs}
 use Prim.Native.Nat.{ℕ, _+_, _/_, _≤_}
 use mathlib.Core.Path.{_≡_, ap, ap₂, _∙_}
@@ -11,6 +12,7 @@ use Rattle.rules.specs.Fractional.{firstCode, groupOf, bitsFor, groupsForm, fra
 use Rattle.rules.proofs.Octets.{length-lowBits}
 use Rattle.ranges.specs.declared.Row.{Row}
 use Rattle.look.proofs.Tests.{law-for}
+use Rattle.pen.specs.Puts.{Puts}
 use Rattle.pen.proofs.Putting.{puts-then, puts-as, able-then}
 use Rattle.grouping.specs.Digits.{digitsIn, DigitsFit}
 use Rattle.grouping.proofs.Digits.{digits-fit-row, body-told}
@@ -40,50 +42,46 @@ module _ (s : tie.Start) where
   sizes : length (lowBits 8 code ++ body) ≡ 8 + length body
   sizes = length-append (lowBits 8 code) body ∙ ap (λ (k : ℕ). k + length body) (length-lowBits 8 code)
 
-fresh-requires : tie.Need-fresh-requires
-fresh-requires c κs = search needs
+module _ (c : tie.After-wide) where
+  abbrev asked : tie.Start
+  asked = c .before .before .before .before .before .before
 
-first-code-requires : tie.Need-first-code-requires
-first-code-requires c κs = search needs
-
-wide-requires : tie.Need-wide-requires
-wide-requires c κs = search needs
-
-add-put : tie.Need-add-put
-add-put c = search needs
+  new : Fresh (c .before .before .before .fresh .result)
+  new = fresh-is (c .before .before .before .fresh .ensures)
 
 put-requires : tie.Need-put-requires
 put-requires c κs =
-    let s = c .before .before .before .before .before .before in
-    let f = fresh-is (c .before .before .before .fresh .ensures) in (
-      fresh-able f (omega (arith, s .pre .1 .1, sizes s)),
+    let s = asked c in (
+      fresh-able (new c) (omega (arith, s .pre .1 .1, sizes s)),
       (omega arith, omega (arith, c .wide .ensures .0, c .before .first-code .ensures, first-small (s .args .n), s .pre .0 .2)),
     )
 
 row-at-requires : tie.Need-row-at-requires
-row-at-requires c κs = c .before .before .before .before .before .before .before .before .before .pre .0 .2
+row-at-requires c κs = (asked (c .before .before .before)) .pre .0 .2
 
 -- once the row is known
 module _ (c : tie.After-row-at) where
+  abbrev wide : tie.After-wide
+  wide = c .before .before .before .before
+
   abbrev start : tie.Start
-  start = c .before .before .before .before .before .before .before .before .before .before
+  start = asked wide
 
   abbrev row : Row
   row = c .row-at .result
 
-  new : Fresh (c .before .before .before .before .before .before .before .fresh .result)
-  new = fresh-is (c .before .before .before .before .before .before .before .fresh .ensures)
-
-  code-is : c .before .before .before .before .wide .result + start .args .k ≡ code start
-  code-is = ap (λ (x : ℕ). x + start .args .k)
-      (c .before .before .before .before .wide .ensures .0 ∙ c .before .before .before .before .before .first-code .ensures)
+  code-is : wide .wide .result + start .args .k ≡ code start
+  code-is = ap (λ (x : ℕ). x + start .args .k) (wide .wide .ensures .0 ∙ wide .before .first-code .ensures)
 
   fit : DigitsFit (start .args .mask) row (take (start .args .n) (start .args .samples .now))
   fit = digits-fit-row (law-for (start .args .mask) (start .pre .0 .1)) (start .args .k) (start .pre .0 .2) (c .row-at .ensures)
       (take (start .args .n) (start .args .samples .now)) (start .pre .1 .0)
 
-  body-is : groupsForm (row .radix) (groupOf (row .radix)) (bitsFor (row .radix)) (start .args .n / groupOf (row .radix))
-      (digitsIn (start .args .mask) row (take (start .args .n) (start .args .samples .now))) ≡ body start
+  abbrev groups : List ℕ
+  groups = groupsForm (row .radix) (groupOf (row .radix)) (bitsFor (row .radix)) (start .args .n / groupOf (row .radix))
+      (digitsIn (start .args .mask) row (take (start .args .n) (start .args .samples .now)))
+
+  body-is : groups ≡ body start
   body-is =
       body-told (law-for (start .args .mask) (start .pre .0 .1)) (start .args .k) (start .pre .0 .2) (c .row-at .ensures)
       (take (start .args .n) (start .args .samples .now)) (start .pre .1 .0)
@@ -97,41 +95,32 @@ put-body-requires c κs =
       s .pre .0 .0,
       (
         fit r,
-        able-then _ (fresh-able (new r) (s .pre .1 .1)) (put .ensures) (put .kept .0)
-            (omega (arith, sizes s, ap length (body-is r), length-lowBits 8 (r .before .before .before .before .wide .result + s .args .k))),
+        able-then (length (groups r)) (fresh-able (new (wide r)) (s .pre .1 .1)) (put .ensures) (put .kept .0)
+            (omega (arith, sizes s, ap length (body-is r), length-lowBits 8 ((wide r) .wide .result + s .args .k))),
       ),
     )
 
+module _ (c : tie.After-put-body) where
+  abbrev r : tie.After-row-at
+  r = c .before .before
+
+  laid : Puts ((start r) .args .out .now) ((wide r) .before .before .before .fresh .result)
+      (lowBits 8 (code (start r)) ++ body (start r)) (c .put-body .last .0) (c .put-body .result)
+  laid = puts-as (puts-then {b = groups r} (r .before .before .before .put .ensures) (c .put-body .ensures))
+      (ap₂ _++_ (ap (lowBits 8) (code-is r)) (body-is r))
+
 finish-requires : tie.Need-finish-requires
 finish-requires c κs =
-    let r = c .before .before .before .before .before in
-    let s = start r in
-    let put = r .before .before .before .put in
-    let body = c .before .before .before .put-body in
-    able-then 0 (fresh-able (new r) (s .pre .1 .1)) (puts-then (put .ensures) (body .ensures)) (body .kept .0 ∙ put .kept .0)
-    (omega (arith, ap length (ap₂ _++_ (ap (lowBits 8) (code-is r)) (body-is r))))
-
-same-length : tie.Need-same-length
-same-length c = search needs
+    let b = c .before .before .before in
+    able-then 0 (fresh-able (new (wide (r b))) ((start (r b)) .pre .1 .1)) (laid b)
+    (b .put-body .kept .0 ∙ (r b) .before .before .before .put .kept .0) (omega arith)
 
 returns : tie.Need-returns
 returns c =
-    let r = c .before .before .before .before .before .before .before .before in
-    packed (new r) (puts-as
-    (puts-then (r .before .before .before .put .ensures) (c .before .before .before .before .before .before .put-body .ensures))
-    (ap₂ _++_ (ap (lowBits 8) (code-is r)) (body-is r))) (c .before .before .finish .ensures)
+    let f = c .before .before in
+    let b = f .before .before .before .before in
+    packed (new (wide (r b))) (laid b) (f .finish .ensures)
 
 pub put-fractional-spec : {M : Type 1} → statement M
-put-fractional-spec =
-    tie.close
-    (tie.spec
-    fresh-requires
-    first-code-requires
-    wide-requires
-    add-put
-    put-requires
-    row-at-requires
-    put-body-requires
-    finish-requires
-    same-length
-    returns)
+put-fractional-spec = tie.close (tie.spec (λ c κs. search needs) (λ c κs. search needs) (λ c κs. search needs)
+    (λ c. search needs) put-requires row-at-requires put-body-requires finish-requires (λ c. search needs) returns)

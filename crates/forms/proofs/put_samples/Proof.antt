@@ -7,8 +7,6 @@ use Rattle.forms.specs.Forms.{Copied}
 use Rattle.forms.proofs.Whole.{copy-none, copy-turn}
 use Rattle.forms.proofs.put_samples.Statement.{statement}
 use Rattle.forms.proofs.put_samples.Tie as tie
-use Rattle.forms.proofs.put_samples.Reads as reads
-use Rattle.forms.proofs.put_samples.Lts as lts
 
 abbrev Inv-loop : tie.InvT-loop
 Inv-loop out₀ samples n i₀ out i = (i ≤ n) × Copied (take i samples) i out₀ out
@@ -19,17 +17,8 @@ abbrev μ-loop : tie.MeasureT-loop
 loop-holds : tie.Need-loop-holds Inv-loop μ-loop
 loop-holds c = (omega arith, copy-none (c .args .samples .now) (c .args .out .now))
 
-shared-slice-read-out : tie.Need-shared-slice-read-out Inv-loop μ-loop
-shared-slice-read-out c = search needs
-
-add-out : tie.Need-add-out Inv-loop μ-loop
-add-out c = search needs
-
 slice-write-out : tie.Need-slice-write-out Inv-loop μ-loop
 slice-write-out c = omega (arith, c .before .before .loop .inv .1 .size, c .before .loop-test .taken, c .before .before .before .pre .1)
-
-add-i : tie.Need-add-i Inv-loop μ-loop
-add-i c = search needs
 
 loop-less : tie.Need-loop-less Inv-loop μ-loop
 loop-less c = omega (arith, c .before .loop-test .taken)
@@ -50,17 +39,5 @@ returns : tie.Need-returns Inv-loop μ-loop
 returns c = let e : c .before .loop .i ≡ c .before .before .args .n = omega arith in rw e at (c .before .loop .inv .1)
 
 pub put-samples-spec : {M : Type 1} → statement M
-put-samples-spec =
-    tie.close
-    (tie.spec
-    Inv-loop
-    μ-loop
-    loop-holds
-    shared-slice-read-out
-    add-out
-    slice-write-out
-    add-i
-    loop-less
-    loop-again
-    same-length
-    returns)
+put-samples-spec = tie.close (tie.spec Inv-loop μ-loop loop-holds (λ c. search needs) (λ c. search needs) slice-write-out
+    (λ c. search needs) loop-less loop-again same-length returns)

@@ -22,35 +22,27 @@ loop-holds c = filling-none _ _ _ _ (packs-four _ (omega arith)) (omega arith)
 number-requires : tie.Need-number-requires Inv-loop μ-loop
 number-requires c κs = omega (arith, c .before .loop .inv .near)
 
-enum-known-why : tie.Need-enum-known-why Inv-loop μ-loop
-enum-known-why c = search needs
-
 returns : tie.Need-returns Inv-loop μ-loop
 returns c =
     filling-refused (packs-four _ (omega arith)) (omega arith) (c .before .before .before .before .before .loop .inv) (omega arith)
     (refused (c .before .before .before .number .ensures) (c .before .why .given .1))
-
-enum-known-v : tie.Need-enum-known-v Inv-loop μ-loop
-enum-known-v c = search needs
 
 element-copy-out-samples : tie.Need-element-copy-out-samples Inv-loop μ-loop
 element-copy-out-samples c =
     let v = told (c .before .before .before .number .ensures) (c .before .v .given .1) in
     omega (arith, v .value)
 
+module _ (c : tie.After-samples Inv-loop μ-loop) where
+  abbrev loop : tie.At-loop Inv-loop μ-loop
+  loop = c .before .before .before .before .before .before
+
 element-write-samples : tie.Need-element-write-samples Inv-loop μ-loop
-element-write-samples c = omega (arith, c .before .before .before .before .before .before .loop .inv .room)
-
-add-filled : tie.Need-add-filled Inv-loop μ-loop
-add-filled c = search needs
-
-loop-less : tie.Need-loop-less Inv-loop μ-loop
-loop-less c = search needs
+element-write-samples c = omega (arith, (loop c) .loop .inv .room)
 
 loop-again : tie.Need-loop-again Inv-loop μ-loop
 loop-again c =
-    let s = c .before .before .before .before .before .before .before .before in
-    let l = c .before .before .before .before .before .before .loop in
+    let s = (loop c) .before .before in
+    let l = (loop c) .loop in
     let t = l .inv in
     let v = told (c .before .before .before .before .number .ensures) (c .before .before .v .given .1) in
     filling-turn (packs-four (s .args .n) (omega arith)) (omega arith) t (omega arith) (v .says) (omega (arith, v .value)) (v .next)
@@ -61,19 +53,6 @@ returns-2 : tie.Need-returns-2 Inv-loop μ-loop
 returns-2 c = filling-all (packs-four _ (omega arith)) (omega arith) (c .before .loop .inv) (omega arith)
 
 pub four-values-spec : {M : Type 1} → statement M
-four-values-spec =
-    tie.close
-    (tie.spec
-    Inv-loop
-    μ-loop
-    loop-holds
-    number-requires
-    enum-known-why
-    returns
-    enum-known-v
-    element-copy-out-samples
-    element-write-samples
-    add-filled
-    loop-less
-    loop-again
+four-values-spec = tie.close (tie.spec Inv-loop μ-loop loop-holds number-requires (λ c. search needs) returns
+    (λ c. search needs) element-copy-out-samples element-write-samples (λ c. search needs) (λ c. search needs) loop-again
     returns-2)

@@ -7,15 +7,6 @@ use Rattle.recording.specs.Calls.{numberOf}
 use Rattle.g7110.proofs.g7110_file_write.Statement.{statement}
 use Rattle.g7110.proofs.g7110_file_write.Tie as tie
 
-write-file-requires : tie.Need-write-file-requires
-write-file-requires c κs = search needs
-
-number-of-requires : tie.Need-number-of-requires
-number-of-requires c κs = search needs
-
-same-length : tie.Need-same-length
-same-length c = search needs
-
 returns : tie.Need-returns
 returns c =
     let t = c .before .before .before .before .write-file .ensures in
@@ -26,4 +17,4 @@ returns c =
     }
 
 pub g7110-file-write-spec : {M : Type 1} → statement M
-g7110-file-write-spec = tie.close (tie.spec write-file-requires number-of-requires same-length returns)
+g7110-file-write-spec = tie.close (tie.spec (λ c κs. search needs) (λ c κs. search needs) (λ c. search needs) returns)

@@ -5,15 +5,6 @@ use Rattle.g7110.proofs.Report.{then}
 use Rattle.g7110.proofs.g7110_mend.Statement.{statement}
 use Rattle.g7110.proofs.g7110_mend.Tie as tie
 
-mend-requires : tie.Need-mend-requires
-mend-requires c κs = search needs
-
-mend-number-requires : tie.Need-mend-number-requires
-mend-number-requires c κs = search needs
-
-same-length : tie.Need-same-length
-same-length c = search needs
-
 returns : tie.Need-returns
 returns c =
     let t = c .before .before .before .before .mend .ensures in
@@ -24,4 +15,4 @@ returns c =
     }
 
 pub g7110-mend-spec : {M : Type 1} → statement M
-g7110-mend-spec = tie.close (tie.spec mend-requires mend-number-requires same-length returns)
+g7110-mend-spec = tie.close (tie.spec (λ c κs. search needs) (λ c κs. search needs) (λ c. search needs) returns)

@@ -6,18 +6,6 @@ use borrow.Author.Needs.{needs}
 use Rattle.g7110.proofs.g7110_settings_back.Statement.{statement}
 use Rattle.g7110.proofs.g7110_settings_back.Tie as tie
 
-back-requires : tie.Need-back-requires
-back-requires c κs = search needs
-
-told-of-requires : tie.Need-told-of-requires
-told-of-requires c κs = search needs
-
-cast-t7 : tie.Need-cast-t7
-cast-t7 c = search needs
-
-number-of-requires : tie.Need-number-of-requires
-number-of-requires c κs = search needs
-
 returns : tie.Need-returns
 returns c =
     let t = c .before .before .before .back .ensures in
@@ -28,5 +16,5 @@ returns c =
     }
 
 pub g7110-settings-back-spec : {M : Type 1} → statement M
-g7110-settings-back-spec =
-    tie.close (tie.spec back-requires told-of-requires cast-t7 number-of-requires returns)
+g7110-settings-back-spec = tie.close (tie.spec (λ c κs. search needs) (λ c κs. search needs) (λ c. search needs)
+    (λ c κs. search needs) returns)

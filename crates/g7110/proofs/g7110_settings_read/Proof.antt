@@ -6,18 +6,6 @@ use borrow.Author.Needs.{needs}
 use Rattle.g7110.proofs.g7110_settings_read.Statement.{statement}
 use Rattle.g7110.proofs.g7110_settings_read.Tie as tie
 
-read-requires : tie.Need-read-requires
-read-requires c κs = search needs
-
-told-of-requires : tie.Need-told-of-requires
-told-of-requires c κs = search needs
-
-cast-t8 : tie.Need-cast-t8
-cast-t8 c = search needs
-
-number-of-requires : tie.Need-number-of-requires
-number-of-requires c κs = search needs
-
 returns : tie.Need-returns
 returns c =
     let t = c .before .before .before .read .ensures in
@@ -28,5 +16,5 @@ returns c =
     }
 
 pub g7110-settings-read-spec : {M : Type 1} → statement M
-g7110-settings-read-spec =
-    tie.close (tie.spec read-requires told-of-requires cast-t8 number-of-requires returns)
+g7110-settings-read-spec = tie.close (tie.spec (λ c κs. search needs) (λ c κs. search needs) (λ c. search needs)
+    (λ c κs. search needs) returns)

@@ -4,20 +4,6 @@ use Rattle.g7110.specs.Store.{fourOf}
 use borrow.Author.Needs.{needs}
 use Rattle.g7110.proofs.g7110_store_jump.Statement.{statement}
 use Rattle.g7110.proofs.g7110_store_jump.Tie as tie
-use Rattle.g7110.proofs.g7110_store_jump.Reads as reads
-use Rattle.g7110.proofs.g7110_store_jump.Lts as lts
-use Rattle.jumping.proofs.jump.Reads as jump-reads
-use Rattle.jumping.proofs.told_of.Reads as told-of-reads
-use Rattle.jumping.proofs.number_of.Reads as number-of-reads
-
-jump-requires : tie.Need-jump-requires
-jump-requires c κs = search needs
-
-told-of-requires : tie.Need-told-of-requires
-told-of-requires c κs = search needs
-
-number-of-requires : tie.Need-number-of-requires
-number-of-requires c κs = search needs
 
 returns : tie.Need-returns
 returns c =
@@ -28,4 +14,4 @@ returns c =
     }
 
 pub g7110-store-jump-spec : {M : Type 1} → statement M
-g7110-store-jump-spec = tie.close (tie.spec jump-requires told-of-requires number-of-requires returns)
+g7110-store-jump-spec = tie.close (tie.spec (λ c κs. search needs) (λ c κs. search needs) (λ c κs. search needs) returns)

@@ -5,21 +5,6 @@ use Rattle.g7110.proofs.Report.{then}
 use Rattle.g7110.proofs.g7110_walk.Statement.{statement}
 use Rattle.g7110.proofs.g7110_walk.Tie as tie
 
-walk-requires : tie.Need-walk-requires
-walk-requires c κs = search needs
-
-tool-of-requires : tie.Need-tool-of-requires
-tool-of-requires c κs = search needs
-
-cast-t14 : tie.Need-cast-t14
-cast-t14 c = search needs
-
-number-of-requires : tie.Need-number-of-requires
-number-of-requires c κs = search needs
-
-same-length : tie.Need-same-length
-same-length c = search needs
-
 returns : tie.Need-returns
 returns c =
     let t = c .before .before .before .before .before .walk .ensures in
@@ -31,6 +16,5 @@ returns c =
     }
 
 pub g7110-walk-spec : {M : Type 1} → statement M
-g7110-walk-spec =
-    tie.close
-    (tie.spec walk-requires tool-of-requires cast-t14 number-of-requires same-length returns)
+g7110-walk-spec = tie.close (tie.spec (λ c κs. search needs) (λ c κs. search needs) (λ c. search needs) (λ c κs. search needs)
+    (λ c. search needs) returns)

@@ -5,18 +5,6 @@ use Rattle.g7110.proofs.Report.{then}
 use Rattle.g7110.proofs.g7110_write.Statement.{statement}
 use Rattle.g7110.proofs.g7110_write.Tie as tie
 
-write-samples-requires : tie.Need-write-samples-requires
-write-samples-requires c κs = search needs
-
-cast-t12 : tie.Need-cast-t12
-cast-t12 c = search needs
-
-number-of-requires : tie.Need-number-of-requires
-number-of-requires c κs = search needs
-
-same-length : tie.Need-same-length
-same-length c = search needs
-
 returns : tie.Need-returns
 returns c =
     let t = c .before .before .before .before .before .write-samples .ensures in
@@ -27,5 +15,5 @@ returns c =
     }
 
 pub g7110-write-spec : {M : Type 1} → statement M
-g7110-write-spec =
-    tie.close (tie.spec write-samples-requires cast-t12 number-of-requires same-length returns)
+g7110-write-spec = tie.close (tie.spec (λ c κs. search needs) (λ c. search needs) (λ c κs. search needs) (λ c. search needs)
+    returns)

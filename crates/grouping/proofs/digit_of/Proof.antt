@@ -4,15 +4,6 @@ use Rattle.grouping.proofs.Digits.{digit-up, digit-down}
 use Rattle.grouping.proofs.digit_of.Statement.{statement}
 use Rattle.grouping.proofs.digit_of.Tie as tie
 
-add-up : tie.Need-add-up
-add-up c = search needs
-
-add-less : tie.Need-add-less
-add-less c = search needs
-
-less-requires : tie.Need-less-requires
-less-requires c κs = search needs
-
 returns : tie.Need-returns
 returns c = let a = c .before .before .args in digit-up (a .mask) (a .x) (a .low) (a .below) (omega arith)
 
@@ -20,4 +11,4 @@ returns-2 : tie.Need-returns-2
 returns-2 c = let a = c .before .before .args in digit-down (a .mask) (a .x) (a .low) (a .below) (omega arith) (c .before .less .ensures)
 
 pub digit-of-spec : {M : Type 1} → statement M
-digit-of-spec = tie.close (tie.spec add-up add-less less-requires returns returns-2)
+digit-of-spec = tie.close (tie.spec (λ c. search needs) (λ c. search needs) (λ c κs. search needs) returns returns-2)

@@ -21,35 +21,18 @@ Inv-loop samples n mask digits₀ low below i₀ digits i = (i ≤ n) × (digits
 abbrev μ-loop : tie.MeasureT-loop
 μ-loop samples n mask digits₀ low below i₀ digits i = n - i
 
-cast-low : tie.Need-cast-low Inv-loop μ-loop
-cast-low c = search needs
-
-cast-below : tie.Need-cast-below Inv-loop μ-loop
-cast-below c = search needs
-
 loop-holds : tie.Need-loop-holds Inv-loop μ-loop
 loop-holds c =
     let a = c .before .before .before .args in
     (omega arith, paste-zero (a .digits .now) 0 (map (digit (a .mask) (a .row .low) (a .row .below)) (take (a .n) (a .samples .now))))
 
-shared-slice-read-digit-of : tie.Need-shared-slice-read-digit-of Inv-loop μ-loop
-shared-slice-read-digit-of c = search needs
-
-digit-of-requires : tie.Need-digit-of-requires Inv-loop μ-loop
-digit-of-requires c κs = search needs
-
-element-write-digits : tie.Need-element-write-digits Inv-loop μ-loop
-element-write-digits c = search needs
-
-add-i : tie.Need-add-i Inv-loop μ-loop
-add-i c = search needs
-
-loop-less : tie.Need-loop-less Inv-loop μ-loop
-loop-less c = search needs
+module _ (c : tie.After-digit-of Inv-loop μ-loop) where
+  abbrev start : tie.Start Inv-loop μ-loop
+  start = c .before .before .before .before .before .before .before
 
 loop-again : tie.Need-loop-again Inv-loop μ-loop
 loop-again c =
-    let a = c .before .before .before .before .before .before .before .args in
+    let a = (start c) .args in
     let l = c .before .before .before .loop in
     let f = digit (a .mask) (a .row .low) (a .row .below) in
     let size = length-take-le (a .n) (a .samples .now) (omega arith) in
@@ -73,18 +56,5 @@ returns c =
     )
 
 pub digits-of-spec : {M : Type 1} → statement M
-digits-of-spec =
-    tie.close
-    (tie.spec
-    Inv-loop
-    μ-loop
-    cast-low
-    cast-below
-    loop-holds
-    shared-slice-read-digit-of
-    digit-of-requires
-    element-write-digits
-    add-i
-    loop-less
-    loop-again
-    returns)
+digits-of-spec = tie.close (tie.spec Inv-loop μ-loop (λ c. search needs) (λ c. search needs) loop-holds (λ c. search needs)
+    (λ c κs. search needs) (λ c. search needs) (λ c. search needs) (λ c. search needs) loop-again returns)

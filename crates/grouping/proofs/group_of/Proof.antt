@@ -24,9 +24,6 @@ loop-holds c =
       omega arith,
     )
 
-sub-j : tie.Need-sub-j Inv-loop μ-loop
-sub-j c = search needs
-
 -- what one digit more makes
 module _ (s : tie.Start Inv-loop μ-loop) where
   abbrev next : ℕ → ℕ → ℕ
@@ -47,14 +44,8 @@ mul-v c =
     let t = turn (c .before .before) (l .j) (l .v) (l .inv .0) (omega arith) (l .inv .1) in
     omega (arith, t .1)
 
-add-wide : tie.Need-add-wide Inv-loop μ-loop
-add-wide c = search needs
-
 element-copy-out-wide : tie.Need-element-copy-out-wide Inv-loop μ-loop
 element-copy-out-wide c = omega (arith, c .before .loop .inv .1)
-
-wide-requires : tie.Need-wide-requires Inv-loop μ-loop
-wide-requires c κs = search needs
 
 add-v : tie.Need-add-v Inv-loop μ-loop
 add-v c =
@@ -75,18 +66,5 @@ returns : tie.Need-returns Inv-loop μ-loop
 returns c = let e : c .before .loop .j ≡ 0 = omega arith in rw e at (c .before .loop .inv .0)
 
 pub group-of-spec : {M : Type 1} → statement M
-group-of-spec =
-    tie.close
-    (tie.spec
-    Inv-loop
-    μ-loop
-    loop-holds
-    sub-j
-    mul-v
-    add-wide
-    element-copy-out-wide
-    wide-requires
-    add-v
-    loop-less
-    loop-again
-    returns)
+group-of-spec = tie.close (tie.spec Inv-loop μ-loop loop-holds (λ c. search needs) mul-v (λ c. search needs)
+    element-copy-out-wide (λ c κs. search needs) add-v loop-less loop-again returns)

@@ -39,21 +39,24 @@ put-requires c κs =
     (below-all all (s .pre .1 .0)) (rw (length-take-le (s .args .n) (s .args .digits .now) (s .pre .0 .1)) f) in
     (putting-able p t (s .pre .1 .1) (omega arith), (omega (arith, p .bits), rw (c .before .group-of .ensures) b))
 
+module _ (c : tie.After-slice-known2 Inv-loop μ-loop) where
+  abbrev loop : tie.At-loop Inv-loop μ-loop
+  loop = c .before .before .before .before .before .before
+
 add-from : tie.Need-add-from Inv-loop μ-loop
 add-from c =
-    let s = c .before .before .before .before .before .before .before .before in
-    let t = c .before .before .before .before .before .before .loop .inv in
+    let s = (loop c) .before .before in
+    let t = (loop c) .loop .inv in
     let f = group-fits (t .more) _ (s .args .g) (s .args .n) (t .left) (omega arith) in
     omega (arith, s .pre .0 .0 .room)
 
 loop-less : tie.Need-loop-less Inv-loop μ-loop
-loop-less c = omega (arith, c .before .before .before .before .before .before .before .before .pre .0 .0 .group)
+loop-less c = omega (arith, (loop c) .before .before .pre .0 .0 .group)
 
 loop-again : tie.Need-loop-again Inv-loop μ-loop
 loop-again c =
-    let s = c .before .before .before .before .before .before .before .before in
-    putting-turn (s .pre .0 .0) (c .before .before .before .before .before .before .loop .inv) (omega arith)
-    (c .before .before .before .before .group-of .ensures)
+    let s = (loop c) .before .before in
+    putting-turn (s .pre .0 .0) ((loop c) .loop .inv) (omega arith) (c .before .before .before .before .group-of .ensures)
     (c .before .before .put .ensures) (c .before .before .put .kept .0)
 
 same-length : tie.Need-same-length Inv-loop μ-loop
@@ -63,16 +66,5 @@ returns : tie.Need-returns Inv-loop μ-loop
 returns c = putting-all (c .before .before .before .pre .0 .0) (c .before .loop .inv) (omega arith)
 
 pub put-groups-spec : {M : Type 1} → statement M
-put-groups-spec =
-    tie.close
-    (tie.spec
-    Inv-loop
-    μ-loop
-    loop-holds
-    group-of-requires
-    put-requires
-    add-from
-    loop-less
-    loop-again
-    same-length
-    returns)
+put-groups-spec = tie.close (tie.spec Inv-loop μ-loop loop-holds group-of-requires put-requires add-from loop-less loop-again
+    same-length returns)

@@ -6,18 +6,6 @@ use Rattle.jumping.proofs.Steps.{jump-table, jump-on}
 use borrow.Author.Needs.{needs}
 use Rattle.jumping.proofs.jump.Statement.{statement}
 use Rattle.jumping.proofs.jump.Tie as tie
-use Rattle.jumping.proofs.jump.Reads as reads
-use Rattle.jumping.proofs.jump.Lts as lts
-use Rattle.jumping.proofs.among.Reads as among-reads
-use Rattle.notes.proofs.sane.Reads as sane-reads
-use Rattle.rows.proofs.size_of.Reads as size-of-reads
-use Rattle.rows.proofs.wide.Reads as wide-reads
-
-size-of-requires : tie.Need-size-of-requires
-size-of-requires c κs = search needs
-
-sane-requires : tie.Need-sane-requires
-sane-requires c κs = search needs
 
 returns : tie.Need-returns
 returns c =
@@ -26,9 +14,6 @@ returns c =
     let s = size-of .before .before .before .args in
     jump-table (s .block .now) (s .table .now) (s .number) (s .sample) (size-of .size-of .ensures) (sane .sane .ensures)
     (not-true _ (c .if1 .taken))
-
-wide-requires : tie.Need-wide-requires
-wide-requires c κs = search needs
 
 among-requires : tie.Need-among-requires
 among-requires c κs =
@@ -46,10 +31,8 @@ returns-2 c =
     let size-of = sane .before in
     let s = size-of .before .before .before .args in
     jump-on (s .block .now) (s .table .now) (s .number) (s .sample) (size-of .size-of .ensures) (sane .sane .ensures)
-    (not-false _ (if1 .if1 .left))
-    (rw (wide .wide .ensures) at (c .among .ensures))
+    (not-false _ (if1 .if1 .left)) (rw (wide .wide .ensures) at (c .among .ensures))
 
 pub jump-spec : {M : Type 1} → statement M
-jump-spec =
-    tie.close
-    (tie.spec size-of-requires sane-requires returns wide-requires among-requires returns-2)
+jump-spec = tie.close (tie.spec (λ c κs. search needs) (λ c κs. search needs) returns (λ c κs. search needs) among-requires
+    returns-2)

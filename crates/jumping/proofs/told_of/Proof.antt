@@ -3,14 +3,6 @@ use Rattle.jumping.specs.Calls.{toldOf}
 use borrow.Author.Needs.{needs}
 use Rattle.jumping.proofs.told_of.Statement.{statement}
 use Rattle.jumping.proofs.told_of.Tie as tie
-use Rattle.jumping.proofs.told_of.Reads as reads
-use Rattle.jumping.proofs.told_of.Lts as lts
-
-enum-known-a : tie.Need-enum-known-a
-enum-known-a c = search needs
-
-enum-told : tie.Need-enum-told
-enum-told c = search needs
 
 returns : tie.Need-returns
 returns c =
@@ -21,4 +13,4 @@ returns-2 c =
     sym (ap toldOf (c .enum-told .given .1))
 
 pub told-of-spec : {M : Type 1} → statement M
-told-of-spec = tie.close (tie.spec enum-known-a enum-told returns returns-2)
+told-of-spec = tie.close (tie.spec (λ c. search needs) (λ c. search needs) returns returns-2)

@@ -8,9 +8,6 @@ use borrow.Author.Needs.{needs}
 use Rattle.keyvalue.proofs.line_at.Statement.{statement}
 use Rattle.keyvalue.proofs.line_at.Tie as tie
 
-has-word-requires : tie.Need-has-word-requires
-has-word-requires c κs = search needs
-
 returns : tie.Need-returns
 returns c = line-no-key _ _ _ (sym (c .before .has-word .ensures) ∙ not-true _ (c .if1 .taken))
 
@@ -18,21 +15,6 @@ add-number-at : tie.Need-add-number-at
 add-number-at c =
     let a = c .before .before .before .before .args in
     omega (arith, word-fits (a .key .now) (a .text .now) (a .at) (sym (c .before .has-word .ensures) ∙ not-false _ (c .if1 .left)))
-
-number-at-requires : tie.Need-number-at-requires
-number-at-requires c κs = search needs
-
-enum-told : tie.Need-enum-told
-enum-told c = search needs
-
-enum-known-n : tie.Need-enum-known-n
-enum-known-n c = search needs
-
-slice-aggregate-has-word : tie.Need-slice-aggregate-has-word
-slice-aggregate-has-word c = search needs
-
-has-word-requires-2 : tie.Need-has-word-requires-2
-has-word-requires-2 c κs = search needs
 
 returns-2 : tie.Need-returns-2
 returns-2 c =
@@ -42,10 +24,14 @@ returns-2 c =
     (told (n .n .given .1) (n .before .before .number-at .ensures))
     (sym (c .before .has-word2 .ensures) ∙ not-true _ (c .if2 .taken))
 
+module _ (c : tie.After-n) where
+  abbrev start : tie.Start
+  start = c .before .before .before .before .before .before .before
+
 add-t17 : tie.Need-add-t17
 add-t17 c =
     let n = c .before .before .before .before in
-    let a = n .before .before .before .before .before .before .before .args in
+    let a = (start n) .args in
     omega (
       arith,
       word-fits lineEnd (a .text .now) (n .n .given .0 .1 .0)
@@ -67,18 +53,5 @@ returns-4 c =
     (sym (c .before .has-word2 .ensures) ∙ not-false _ (c .if2 .left))
 
 pub line-at-spec : {M : Type 1} → statement M
-line-at-spec =
-    tie.close
-    (tie.spec
-    has-word-requires
-    returns
-    add-number-at
-    number-at-requires
-    enum-told
-    enum-known-n
-    slice-aggregate-has-word
-    has-word-requires-2
-    returns-2
-    add-t17
-    returns-3
-    returns-4)
+line-at-spec = tie.close (tie.spec (λ c κs. search needs) returns add-number-at (λ c κs. search needs) (λ c. search needs)
+    (λ c. search needs) (λ c. search needs) (λ c κs. search needs) returns-2 add-t17 returns-3 returns-4)

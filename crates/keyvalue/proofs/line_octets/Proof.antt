@@ -6,9 +6,6 @@ use borrow.Author.Needs.{needs}
 use Rattle.keyvalue.proofs.line_octets.Statement.{statement}
 use Rattle.keyvalue.proofs.line_octets.Tie as tie
 
-digits-requires : tie.Need-digits-requires
-digits-requires c κs = search needs
-
 add-result : tie.Need-add-result
 add-result c = omega (arith, decimal-few 9 (c .before .before .args .n) (omega arith))
 
@@ -24,4 +21,4 @@ returns c =
     )
 
 pub line-octets-spec : {M : Type 1} → statement M
-line-octets-spec = tie.close (tie.spec digits-requires add-result add-result-2 returns)
+line-octets-spec = tie.close (tie.spec (λ c κs. search needs) add-result add-result-2 returns)

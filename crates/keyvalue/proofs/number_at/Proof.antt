@@ -19,17 +19,8 @@ abbrev μ-loop : tie.MeasureT-loop
 returns : tie.Need-returns Inv-loop μ-loop
 returns c = sym (number-past _ _ (omega arith))
 
-shared-slice-read-first : tie.Need-shared-slice-read-first Inv-loop μ-loop
-shared-slice-read-first c = search needs
-
-add-t11 : tie.Need-add-t11 Inv-loop μ-loop
-add-t11 c = search needs
-
 returns-2 : tie.Need-returns-2 Inv-loop μ-loop
 returns-2 c = sym (number-zero _ _ (omega arith) (c .if2 .taken))
-
-is-digit-requires : tie.Need-is-digit-requires Inv-loop μ-loop
-is-digit-requires c κs = search needs
 
 returns-3 : tie.Need-returns-3 Inv-loop μ-loop
 returns-3 c = sym (number-not _ _ (omega arith) (c .before .before .if2 .left)
@@ -38,20 +29,11 @@ returns-3 c = sym (number-not _ _ (omega arith) (c .before .before .if2 .left)
 more-requires : tie.Need-more-requires Inv-loop μ-loop
 more-requires c κs = digit-range _ (sym (c .before .is-digit .ensures) ∙ not-false _ (c .if3 .left))
 
-add-i : tie.Need-add-i Inv-loop μ-loop
-add-i c = search needs
-
 loop-holds : tie.Need-loop-holds Inv-loop μ-loop
 loop-holds c =
     let z = c .before .before .before .if2 .left in
     let d = sym (c .before .before .is-digit .ensures) ∙ not-false _ (c .before .if3 .left) in
     (omega arith, omega arith, rw (c .more .ensures) (number-start _ _ (omega arith) z d))
-
-shared-slice-read-x : tie.Need-shared-slice-read-x Inv-loop μ-loop
-shared-slice-read-x c = search needs
-
-is-digit-requires-2 : tie.Need-is-digit-requires-2 Inv-loop μ-loop
-is-digit-requires-2 c κs = search needs
 
 returns-4 : tie.Need-returns-4 Inv-loop μ-loop
 returns-4 c =
@@ -60,12 +42,6 @@ returns-4 c =
 
 more-requires-2 : tie.Need-more-requires-2 Inv-loop μ-loop
 more-requires-2 c κs = digit-range _ (sym (c .before .is-digit2 .ensures) ∙ not-false _ (c .if4 .left))
-
-add-i-2 : tie.Need-add-i-2 Inv-loop μ-loop
-add-i-2 c = search needs
-
-loop-less : tie.Need-loop-less Inv-loop μ-loop
-loop-less c = search needs
 
 loop-again : tie.Need-loop-again Inv-loop μ-loop
 loop-again c =
@@ -77,25 +53,6 @@ returns-5 : tie.Need-returns-5 Inv-loop μ-loop
 returns-5 c = sym (c .before .loop .inv .2 ∙ digits-end _ _ _ (omega arith) (omega arith))
 
 pub number-at-spec : {M : Type 1} → statement M
-number-at-spec =
-    tie.close
-    (tie.spec
-    Inv-loop
-    μ-loop
-    returns
-    shared-slice-read-first
-    add-t11
-    returns-2
-    is-digit-requires
-    returns-3
-    more-requires
-    add-i
-    loop-holds
-    shared-slice-read-x
-    is-digit-requires-2
-    returns-4
-    more-requires-2
-    add-i-2
-    loop-less
-    loop-again
-    returns-5)
+number-at-spec = tie.close (tie.spec Inv-loop μ-loop returns (λ c. search needs) (λ c. search needs) returns-2
+    (λ c κs. search needs) returns-3 more-requires (λ c. search needs) loop-holds (λ c. search needs) (λ c κs. search needs)
+    returns-4 more-requires-2 (λ c. search needs) (λ c. search needs) loop-again returns-5)

@@ -5,15 +5,6 @@ use borrow.Author.Needs.{needs}
 use Rattle.keyvalue.proofs.ranged_line.Statement.{statement}
 use Rattle.keyvalue.proofs.ranged_line.Tie as tie
 
-line-at-requires : tie.Need-line-at-requires
-line-at-requires c κs = search needs
-
-enum-told : tie.Need-enum-told
-enum-told c = search needs
-
-enum-known-n : tie.Need-enum-known-n
-enum-known-n c = search needs
-
 returns : tie.Need-returns
 returns c = ranged-low _ _ _ _ _ (omega arith) (told (c .before .before .n .given .1) (c .before .before .before .before .line-at .ensures))
     (omega arith)
@@ -32,6 +23,5 @@ returns-4 c =
     ranged-whole _ _ _ _ _ (omega arith) (told (n .n .given .1) (n .before .before .line-at .ensures)) (omega arith) (omega arith)
 
 pub ranged-line-spec : {M : Type 1} → statement M
-ranged-line-spec =
-    tie.close
-    (tie.spec line-at-requires enum-told enum-known-n returns returns-2 returns-3 returns-4)
+ranged-line-spec = tie.close (tie.spec (λ c κs. search needs) (λ c. search needs) (λ c. search needs) returns returns-2
+    returns-3 returns-4)

@@ -34,5 +34,4 @@ unfolding sampleOf
 returns-2 c = rw (over c .bits) (sym (ap (sampleOf (c .before .args .mask)) (over c .is)))
 
 pub sample-of-spec : {M : Type 1} → statement M
-sample-of-spec =
-    tie.close (tie.spec sub-result cast-result returns cast-result-2 add-result returns-2)
+sample-of-spec = tie.close (tie.spec sub-result cast-result returns cast-result-2 add-result returns-2)

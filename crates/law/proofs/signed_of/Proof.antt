@@ -8,7 +8,7 @@ use mir.Val.{toZ}
 use mir.Facts.{toZ-pos, toZ-ofZ}
 use lib.IntN.{negsuc, pos, _-ℤ_}
 use Rattle.rules.specs.Samples.{signed}
-use Rattle.law.proofs.Turned.{turned-pos}
+use Rattle.rules.proofs.Signed.{turned-pos}
 use Rattle.law.proofs.signed_of.Statement.{statement}
 use Rattle.law.proofs.signed_of.Tie as tie
 

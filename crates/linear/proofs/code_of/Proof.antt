@@ -4,12 +4,6 @@ use Rattle.linear.proofs.One.{code-small}
 use borrow.Author.Needs.{needs}
 use Rattle.linear.proofs.code_of.Statement.{statement}
 use Rattle.linear.proofs.code_of.Tie as tie
-use Rattle.linear.proofs.code_of.Reads as reads
-use Rattle.linear.proofs.code_of.Lts as lts
-use Rattle.linear.proofs.e_of.Reads as e-of-reads
-
-e-of-requires : tie.Need-e-of-requires
-e-of-requires c κs = search needs
 
 mul-result : tie.Need-mul-result
 mul-result c = let e = c .e-of .ensures in omega (arith, code-small (c .before .args .m) (c .before .pre))
@@ -28,5 +22,4 @@ unfolding codeOf
 returns c = rw (c .e-of .ensures)
 
 pub code-of-spec : {M : Type 1} → statement M
-code-of-spec =
-    tie.close (tie.spec e-of-requires mul-result add-result shr-result add-result-2 returns)
+code-of-spec = tie.close (tie.spec (λ c κs. search needs) mul-result add-result shr-result add-result-2 returns)

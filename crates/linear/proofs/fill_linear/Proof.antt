@@ -11,9 +11,6 @@ use Rattle.linear.specs.Equations.{toPCM}
 use borrow.Author.Needs.{needs}
 use Rattle.linear.proofs.fill_linear.Statement.{statement}
 use Rattle.linear.proofs.fill_linear.Tie as tie
-use Rattle.linear.proofs.fill_linear.Reads as reads
-use Rattle.linear.proofs.fill_linear.Lts as lts
-use Rattle.linear.proofs.linear_of.Reads as linear-of-reads
 
 abbrev Inv-loop : tie.InvT-loop
 Inv-loop samples law out₀ i₀ out i = (i ≤ length samples) × (out ≡ paste out₀ 0 (map (toPCM law) samples) i)
@@ -31,23 +28,8 @@ loop-holds c =
     let a = c .before .args in
     (omega arith, paste-zero (a .out .now) 0 (map (toPCM (a .law)) (a .samples .now)))
 
-shared-slice-read-linear-of : tie.Need-shared-slice-read-linear-of Inv-loop μ-loop
-shared-slice-read-linear-of c = search needs
-
-linear-of-requires : tie.Need-linear-of-requires Inv-loop μ-loop
-linear-of-requires c κs = search needs
-
-mul-t5 : tie.Need-mul-t5 Inv-loop μ-loop
-mul-t5 c = search needs
-
 slice-set-from-out : tie.Need-slice-set-from-out Inv-loop μ-loop
 slice-set-from-out c = omega (arith, sized (c .before .before .before))
-
-add-i : tie.Need-add-i Inv-loop μ-loop
-add-i c = search needs
-
-loop-less : tie.Need-loop-less Inv-loop μ-loop
-loop-less c = search needs
 
 loop-again : tie.Need-loop-again Inv-loop μ-loop
 loop-again c =
@@ -69,18 +51,5 @@ returns c =
     c .before .loop .inv .1 ∙ mapped-whole (toPCM (a .law)) (a .samples .now) (a .out .now) (c .before .loop .i) (omega arith)
 
 pub fill-linear-spec : {M : Type 1} → statement M
-fill-linear-spec =
-    tie.close
-    (tie.spec
-    Inv-loop
-    μ-loop
-    loop-holds
-    shared-slice-read-linear-of
-    linear-of-requires
-    mul-t5
-    slice-set-from-out
-    add-i
-    loop-less
-    loop-again
-    same-length
-    returns)
+fill-linear-spec = tie.close (tie.spec Inv-loop μ-loop loop-holds (λ c. search needs) (λ c κs. search needs) (λ c. search needs)
+    slice-set-from-out (λ c. search needs) (λ c. search needs) loop-again same-length returns)

@@ -12,9 +12,6 @@ use Rattle.linear.specs.Equations.{fromPCM}
 use borrow.Author.Needs.{needs}
 use Rattle.linear.proofs.fill_octets.Statement.{statement}
 use Rattle.linear.proofs.fill_octets.Tie as tie
-use Rattle.linear.proofs.fill_octets.Reads as reads
-use Rattle.linear.proofs.fill_octets.Lts as lts
-use Rattle.linear.proofs.octet_of.Reads as octet-of-reads
 
 abbrev Inv-loop : tie.InvT-loop
 Inv-loop linear law out₀ i₀ out i = (i ≤ length linear) × (out ≡ paste out₀ 0 (map (fromPCM law) linear) i)
@@ -32,23 +29,8 @@ loop-holds c =
     let a = c .before .args in
     (omega arith, paste-zero (a .out .now) 0 (map (fromPCM (a .law)) (a .linear .now)))
 
-mul-octet-of : tie.Need-mul-octet-of Inv-loop μ-loop
-mul-octet-of c = search needs
-
-shared-slice-copy-out-octet-of : tie.Need-shared-slice-copy-out-octet-of Inv-loop μ-loop
-shared-slice-copy-out-octet-of c = search needs
-
-octet-of-requires : tie.Need-octet-of-requires Inv-loop μ-loop
-octet-of-requires c κs = search needs
-
 slice-write-out : tie.Need-slice-write-out Inv-loop μ-loop
 slice-write-out c = omega (arith, sized (c .before .before .before))
-
-add-i : tie.Need-add-i Inv-loop μ-loop
-add-i c = search needs
-
-loop-less : tie.Need-loop-less Inv-loop μ-loop
-loop-less c = search needs
 
 loop-again : tie.Need-loop-again Inv-loop μ-loop
 loop-again c =
@@ -70,18 +52,5 @@ returns c =
     c .before .loop .inv .1 ∙ mapped-whole (fromPCM (a .law)) (a .linear .now) (a .out .now) (c .before .loop .i) (omega arith)
 
 pub fill-octets-spec : {M : Type 1} → statement M
-fill-octets-spec =
-    tie.close
-    (tie.spec
-    Inv-loop
-    μ-loop
-    loop-holds
-    mul-octet-of
-    shared-slice-copy-out-octet-of
-    octet-of-requires
-    slice-write-out
-    add-i
-    loop-less
-    loop-again
-    same-length
-    returns)
+fill-octets-spec = tie.close (tie.spec Inv-loop μ-loop loop-holds (λ c. search needs) (λ c. search needs) (λ c κs. search needs)
+    slice-write-out (λ c. search needs) (λ c. search needs) loop-again same-length returns)

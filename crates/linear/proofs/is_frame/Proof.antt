@@ -2,8 +2,6 @@ use native.Mathlib.Omega.{arith}
 use Rattle.linear.proofs.Frames.{no-frame}
 use Rattle.linear.proofs.is_frame.Statement.{statement}
 use Rattle.linear.proofs.is_frame.Tie as tie
-use Rattle.linear.proofs.is_frame.Reads as reads
-use Rattle.linear.proofs.is_frame.Lts as lts
 
 returns : tie.Need-returns
 returns c = rw (c .match .keys1)
@@ -27,5 +25,4 @@ returns-7 : tie.Need-returns-7
 returns-7 c = no-frame (c .before .args .n) (omega arith) (omega arith) (omega arith) (omega arith) (omega arith) (omega arith)
 
 pub is-frame-spec : {M : Type 1} → statement M
-is-frame-spec =
-    tie.close (tie.spec returns returns-2 returns-3 returns-4 returns-5 returns-6 returns-7)
+is-frame-spec = tie.close (tie.spec returns returns-2 returns-3 returns-4 returns-5 returns-6 returns-7)

@@ -3,15 +3,9 @@ use borrow.Author.Tests.{lt-leb, le-leb}
 use borrow.Author.Needs.{needs}
 use Rattle.linear.proofs.judge.Statement.{statement}
 use Rattle.linear.proofs.judge.Tie as tie
-use Rattle.linear.proofs.judge.Reads as reads
-use Rattle.linear.proofs.judge.Lts as lts
-use Rattle.linear.proofs.is_frame.Reads as is-frame-reads
 
 returns : tie.Need-returns
 returns c = rw (lt-leb (c .before .args .law) 1 (omega arith))
-
-is-frame-requires : tie.Need-is-frame-requires
-is-frame-requires c κs = search needs
 
 returns-2 : tie.Need-returns-2
 returns-2 c =
@@ -39,4 +33,4 @@ returns-4 : tie.Need-returns-4
 returns-4 c = rw (le-leb (c .before .before .before .args .law) 1 (omega arith), ← (c .before .is-frame .ensures), c .if2 .left)
 
 pub judge-spec : {M : Type 1} → statement M
-judge-spec = tie.close (tie.spec returns is-frame-requires returns-2 returns-3 returns-4)
+judge-spec = tie.close (tie.spec returns (λ c κs. search needs) returns-2 returns-3 returns-4)

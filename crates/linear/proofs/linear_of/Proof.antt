@@ -10,10 +10,6 @@ use Rattle.linear.proofs.One.{Level, level-range, linear-above, linear-
 use borrow.Author.Needs.{needs}
 use Rattle.linear.proofs.linear_of.Statement.{statement}
 use Rattle.linear.proofs.linear_of.Tie as tie
-use Rattle.linear.proofs.linear_of.Reads as reads
-use Rattle.linear.proofs.linear_of.Lts as lts
-use Rattle.linear.proofs.constants_of.Reads as constants-of-reads
-use Rattle.linear.proofs.level.Reads as level-reads
 
 small : (c : tie.After-struct-known2) → Sound (c .before .before .constants-of .result)
 small c = sound-as (c .before .before .before .args .law) (c .before .before .constants-of .ensures)
@@ -26,12 +22,6 @@ code c = bitXor (c .before .before .before .before .before .args .octet)
 
 range : (c : tie.After-struct-known3) → Level (code c) (c .before .level .result)
 range c = rw (c .before .level .ensures) (level-range _ (omega (arith, small (c .before .before))))
-
-constants-of-requires : tie.Need-constants-of-requires
-constants-of-requires c κs = search needs
-
-cast-y : tie.Need-cast-y
-cast-y c = search needs
 
 cast-c : tie.Need-cast-c
 cast-c c = record { fits = omega (arith, small c) }
@@ -69,17 +59,5 @@ returns-2 c =
     ∙ linear-below (k .before .args .law) (k .constants-of .ensures) (omega arith) (omega arith) (c .before .before .level .ensures)
 
 pub linear-of-spec : {M : Type 1} → statement M
-linear-of-spec =
-    tie.close
-    (tie.spec
-    constants-of-requires
-    cast-y
-    cast-c
-    add-c
-    level-requires
-    cast-v
-    sub-v
-    cast-v-2
-    returns
-    sub-result
-    returns-2)
+linear-of-spec = tie.close (tie.spec (λ c κs. search needs) (λ c. search needs) cast-c add-c level-requires cast-v sub-v
+    cast-v-2 returns sub-result returns-2)

@@ -7,9 +7,6 @@ use Rattle.linear.proofs.Signs.{Below, below, size-below, Above, above,
 use borrow.Author.Needs.{needs}
 use Rattle.linear.proofs.m_of.Statement.{statement}
 use Rattle.linear.proofs.m_of.Tie as tie
-use Rattle.linear.proofs.m_of.Reads as reads
-use Rattle.linear.proofs.m_of.Lts as lts
-use Rattle.linear.proofs.clipped.Reads as clipped-reads
 
 under : (c : tie.Then1) → Below w16 (c .before .args .v)
 under c = below (c .before .fits .v) (c .if1 .taken)
@@ -26,9 +23,6 @@ cast-clipped c = rw (under c .bits) (tt, record { fits = omega (arith, under c .
 add-clipped : tie.Need-add-clipped
 add-clipped c = rw (under (c .before) .bits) (record { fits = omega (arith, under (c .before) .small) })
 
-clipped-requires : tie.Need-clipped-requires
-clipped-requires c κs = search needs
-
 returns : tie.Need-returns
 unfolding mOf
 returns c =
@@ -41,9 +35,6 @@ cast-clipped-2 c = rw (over c .bits) (tt, record { fits = omega (arith, over c .
 add-clipped-2 : tie.Need-add-clipped-2
 add-clipped-2 c = rw (over (c .before) .bits) (record { fits = omega (arith, over (c .before) .small) })
 
-clipped-requires-2 : tie.Need-clipped-requires-2
-clipped-requires-2 c κs = search needs
-
 returns-2 : tie.Need-returns-2
 unfolding mOf
 returns-2 c =
@@ -51,15 +42,5 @@ returns-2 c =
     c .clipped2 .ensures ∙ ap (λ n. min (n + l .bias) (l .top)) (size-above (over (c .before .before)))
 
 pub m-of-spec : {M : Type 1} → statement M
-m-of-spec =
-    tie.close
-    (tie.spec
-    sub-clipped
-    cast-clipped
-    add-clipped
-    clipped-requires
-    returns
-    cast-clipped-2
-    add-clipped-2
-    clipped-requires-2
-    returns-2)
+m-of-spec = tie.close (tie.spec sub-clipped cast-clipped add-clipped (λ c κs. search needs) returns cast-clipped-2 add-clipped-2
+    (λ c κs. search needs) returns-2)

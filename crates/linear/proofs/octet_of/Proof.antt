@@ -12,11 +12,6 @@ use Rattle.linear.proofs.One.{code-fits, octet-below, octet-above}
 use borrow.Author.Needs.{needs}
 use Rattle.linear.proofs.octet_of.Statement.{statement}
 use Rattle.linear.proofs.octet_of.Tie as tie
-use Rattle.linear.proofs.octet_of.Reads as reads
-use Rattle.linear.proofs.octet_of.Lts as lts
-use Rattle.linear.proofs.code_of.Reads as code-of-reads
-use Rattle.linear.proofs.constants_of.Reads as constants-of-reads
-use Rattle.linear.proofs.m_of.Reads as m-of-reads
 
 -- m is that of the given number
 sized : (c : tie.After-m-of) → c .m-of .result ≡ mOf (c .before .constants-of .result) (mag (c .before .before .args .x))
@@ -32,9 +27,6 @@ under c = below (c .before .before .before .before .before .before .fits .x) (c 
 
 over : (c : tie.Else1) → Above w16 (c .before .before .before .before .before .before .args .x)
 over c = above (c .before .before .before .before .before .before .fits .x) (c .if1 .left)
-
-constants-of-requires : tie.Need-constants-of-requires
-constants-of-requires c κs = search needs
 
 m-of-requires : tie.Need-m-of-requires
 m-of-requires c κs = omega (arith, sound-as (c .before .args .law) (c .constants-of .ensures))
@@ -57,11 +49,15 @@ returns c =
     octet-below (k .before .args .law) (k .constants-of .ensures) (under c .is) (sized (c .before .before .before .before))
     (c .before .before .before .code-of .ensures)
 
+module _ (c : tie.Else1) where
+  abbrev start : tie.Start
+  start = c .before .before .before .before .before .before
+
 add-result : tie.Need-add-result
 add-result c =
     let l = c .before .before .before .before .before .constants-of in
     let k = c .before .before .before .code-of .result in
-    let s = sound-as (c .before .before .before .before .before .before .args .law) (l .ensures) in
+    let s = sound-as ((start c) .args .law) (l .ensures) in
     record { fits = omega (arith, xor-lt 7 (k - l .result .step) (l .result .mask) (omega (arith, ready (c .before .before))) (s .mask)) }
 
 returns-2 : tie.Need-returns-2
@@ -71,14 +67,5 @@ returns-2 c =
     (c .before .before .before .code-of .ensures)
 
 pub octet-of-spec : {M : Type 1} → statement M
-octet-of-spec =
-    tie.close
-    (tie.spec
-    constants-of-requires
-    m-of-requires
-    code-of-requires
-    sub-y
-    cast-y
-    returns
-    add-result
+octet-of-spec = tie.close (tie.spec (λ c κs. search needs) m-of-requires code-of-requires sub-y cast-y returns add-result
     returns-2)

@@ -5,19 +5,6 @@ use Rattle.linear.proofs.Frames.{done-room, converted, refused}
 use borrow.Author.Needs.{needs}
 use Rattle.linear.proofs.to_linear.Statement.{statement}
 use Rattle.linear.proofs.to_linear.Tie as tie
-use Rattle.linear.proofs.to_linear.Reads as reads
-use Rattle.linear.proofs.to_linear.Lts as lts
-use Rattle.linear.proofs.fill_linear.Reads as fill-linear-reads
-use Rattle.linear.proofs.judge.Reads as judge-reads
-
-judge-requires : tie.Need-judge-requires
-judge-requires c κs = search needs
-
-enum-told : tie.Need-enum-told
-enum-told c = search needs
-
-enum-told-2 : tie.Need-enum-told-2
-enum-told-2 c = search needs
 
 returns : tie.Need-returns
 returns c = refused _ (c .before .before .judge .ensures) (c .enum-told2 .given .1)
@@ -28,23 +15,16 @@ fill-linear-requires c κs =
     let e = sym (c .before .before .before .judge .ensures) ∙ c .before .enum-told .given .1 in
     done-room (a .law) (length (a .samples .now)) (length (a .out .now)) e
 
-same-length : tie.Need-same-length
-same-length c = search needs
+module _ (c : tie.After-out) where
+  abbrev start : tie.Start
+  start = c .before .before .before .before .before .before .before
 
 returns-2 : tie.Need-returns-2
 returns-2 c =
-    let a = c .before .before .before .before .before .before .before .args in
+    let a = (start c) .args in
     let e = sym (c .before .before .before .enum-told .given .1) ∙ c .before .before .before .before .before .judge .ensures in
     converted (toPCM (a .law)) (a .law) (a .samples .now) (a .out .now) e (c .before .fill-linear .ensures)
 
 pub to-linear-spec : {M : Type 1} → statement M
-to-linear-spec =
-    tie.close
-    (tie.spec
-    judge-requires
-    enum-told
-    enum-told-2
-    returns
-    fill-linear-requires
-    same-length
-    returns-2)
+to-linear-spec = tie.close (tie.spec (λ c κs. search needs) (λ c. search needs) (λ c. search needs) returns fill-linear-requires
+    (λ c. search needs) returns-2)

@@ -4,14 +4,8 @@ use borrow.Author.Needs.{needs}
 use Rattle.lines.proofs.digits.Statement.{statement}
 use Rattle.lines.proofs.digits.Tie as tie
 
-spell-requires : tie.Need-spell-requires
-spell-requires c κs = search needs
-
-sub-result : tie.Need-sub-result
-sub-result c = search needs
-
 returns : tie.Need-returns
 returns c = spells-length _ (c .before .spell .ensures)
 
 pub digits-spec : {M : Type 1} → statement M
-digits-spec = tie.close (tie.spec spell-requires sub-result returns)
+digits-spec = tie.close (tie.spec (λ c κs. search needs) (λ c. search needs) returns)

@@ -6,35 +6,17 @@ use Rattle.rules.specs.Listing.{lawLine}
 use Rattle.lines.proofs.law_line.Statement.{statement}
 use Rattle.lines.proofs.law_line.Tie as tie
 
-slice-aggregate-put-field : tie.Need-slice-aggregate-put-field
-slice-aggregate-put-field c = search needs
-
-put-field-requires : tie.Need-put-field-requires
-put-field-requires c κs = search needs
-
-slice-aggregate-put-word : tie.Need-slice-aggregate-put-word
-slice-aggregate-put-word c = search needs
-
-put-word-requires : tie.Need-put-word-requires
-put-word-requires c κs = search needs
-
-same-length : tie.Need-same-length
-same-length c = search needs
+module _ (c : tie.After-slice-known3) where
+  abbrev put-field : tie.After-put-field
+  put-field = c .before .before .before .before .before .before .before
 
 returns : tie.Need-returns
 unfolding lawLine
 returns c =
-    let law = c .before .before .before .before .before .before .before .put-field .ensures in
+    let law = (put-field c) .put-field .ensures in
     let end = c .before .before .put-word .ensures in
     (puts-then (law .0) end, omega arith)
 
 pub law-line-spec : {M : Type 1} → statement M
-law-line-spec =
-    tie.close
-    (tie.spec
-    slice-aggregate-put-field
-    put-field-requires
-    slice-aggregate-put-word
-    put-word-requires
-    same-length
-    returns)
+law-line-spec = tie.close (tie.spec (λ c. search needs) (λ c κs. search needs) (λ c. search needs) (λ c κs. search needs)
+    (λ c. search needs) returns)

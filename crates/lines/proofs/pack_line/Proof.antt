@@ -5,24 +5,16 @@ use Rattle.lines.proofs.Putting.{puts-then}
 use Rattle.lines.proofs.pack_line.Statement.{statement}
 use Rattle.lines.proofs.pack_line.Tie as tie
 
-put-stop-requires : tie.Need-put-stop-requires
-put-stop-requires c κs = search needs
-
-slice-aggregate-put-word : tie.Need-slice-aggregate-put-word
-slice-aggregate-put-word c = search needs
-
-put-word-requires : tie.Need-put-word-requires
-put-word-requires c κs = search needs
-
-same-length : tie.Need-same-length
-same-length c = search needs
+module _ (c : tie.After-slice-known3) where
+  abbrev put-stop : tie.After-put-stop
+  put-stop = c .before .before .before .before .before .before .before
 
 returns : tie.Need-returns
 returns c =
-    let stop = c .before .before .before .before .before .before .before .put-stop .ensures in
+    let stop = (put-stop c) .put-stop .ensures in
     let end = c .before .before .put-word .ensures in
     (puts-then (stop .0) end, omega arith)
 
 pub pack-line-spec : {M : Type 1} → statement M
-pack-line-spec =
-    tie.close (tie.spec put-stop-requires slice-aggregate-put-word put-word-requires same-length returns)
+pack-line-spec = tie.close (tie.spec (λ c κs. search needs) (λ c. search needs) (λ c κs. search needs) (λ c. search needs)
+    returns)

@@ -6,23 +6,21 @@ use Rattle.lines.proofs.Spelling.{decimal-most}
 use Rattle.lines.proofs.put_field.Statement.{statement}
 use Rattle.lines.proofs.put_field.Tie as tie
 
-put-word-requires : tie.Need-put-word-requires
-put-word-requires c κs = search needs
+module _ (c : tie.After-put-number-arg) where
+  abbrev put-word : tie.After-put-word
+  put-word = c .before .before .before
 
 put-number-requires : tie.Need-put-number-requires
 put-number-requires c κs =
     let w = c .before .before .before .put-word .ensures in
-    omega (arith, w .place, w .size, decimal-most (c .before .before .before .before .before .before .before .args .n))
-
-same-length : tie.Need-same-length
-same-length c = search needs
+    omega (arith, w .place, w .size, decimal-most ((put-word c) .before .before .before .before .args .n))
 
 returns : tie.Need-returns
 returns c =
-    let w = c .before .before .before .before .before .before .put-word .ensures in
+    let w = (put-word (c .before .before .before)) .put-word .ensures in
     let d = c .before .before .put-number .ensures in
-    let most = decimal-most (c .before .before .before .before .before .before .before .before .before .before .args .n) in
+    let most = decimal-most ((put-word (c .before .before .before)) .before .before .before .before .args .n) in
     (puts-then w d, omega (arith, w .place, d .place, most))
 
 pub put-field-spec : {M : Type 1} → statement M
-put-field-spec = tie.close (tie.spec put-word-requires put-number-requires same-length returns)
+put-field-spec = tie.close (tie.spec (λ c κs. search needs) put-number-requires (λ c. search needs) returns)

@@ -25,20 +25,8 @@ sizes s =
 loop-holds : tie.Need-loop-holds Inv-loop μ-loop
 loop-holds c = (omega arith, paste-zero (c .args .out .now) (c .args .at) (c .args .word .now))
 
-shared-slice-read-out : tie.Need-shared-slice-read-out Inv-loop μ-loop
-shared-slice-read-out c = search needs
-
-add-out : tie.Need-add-out Inv-loop μ-loop
-add-out c = search needs
-
 slice-write-out : tie.Need-slice-write-out Inv-loop μ-loop
 slice-write-out c = let s = sizes (c .before .before) in omega arith
-
-add-i : tie.Need-add-i Inv-loop μ-loop
-add-i c = search needs
-
-loop-less : tie.Need-loop-less Inv-loop μ-loop
-loop-less c = search needs
 
 loop-again : tie.Need-loop-again Inv-loop μ-loop
 loop-again c =
@@ -49,9 +37,6 @@ loop-again c =
           (paste-suc (a .out .now) (a .at) (a .word .now) i 0 (omega arith) (omega arith)),
     )
 
-add-result : tie.Need-add-result Inv-loop μ-loop
-add-result c = search needs
-
 same-length : tie.Need-same-length Inv-loop μ-loop
 same-length c = sizes (c .before)
 
@@ -59,18 +44,5 @@ returns : tie.Need-returns Inv-loop μ-loop
 returns c = puts-word _ _ _ _ _ (omega arith) (omega arith) (c .before .loop .inv .1)
 
 pub put-word-spec : {M : Type 1} → statement M
-put-word-spec =
-    tie.close
-    (tie.spec
-    Inv-loop
-    μ-loop
-    loop-holds
-    shared-slice-read-out
-    add-out
-    slice-write-out
-    add-i
-    loop-less
-    loop-again
-    add-result
-    same-length
-    returns)
+put-word-spec = tie.close (tie.spec Inv-loop μ-loop loop-holds (λ c. search needs) (λ c. search needs) slice-write-out
+    (λ c. search needs) (λ c. search needs) loop-again (λ c. search needs) same-length returns)

@@ -11,18 +11,6 @@ Inv-loop n octets₀ from₀ rest₀ octets from rest = Spelling n octets from r
 abbrev μ-loop : tie.MeasureT-loop
 μ-loop n octets₀ from₀ rest₀ octets from rest = from
 
-loop-holds : tie.Need-loop-holds Inv-loop μ-loop
-loop-holds c = search needs
-
-cast-octets : tie.Need-cast-octets Inv-loop μ-loop
-cast-octets c = search needs
-
-add-octets : tie.Need-add-octets Inv-loop μ-loop
-add-octets c = search needs
-
-array-write-octets : tie.Need-array-write-octets Inv-loop μ-loop
-array-write-octets c = search needs
-
 sub-from : tie.Need-sub-from Inv-loop μ-loop
 sub-from c = omega (arith, spelling-room _ _ (c .before .loop .inv .left) (omega arith))
 
@@ -32,32 +20,9 @@ loop-less c = omega (arith, spelling-room _ _ (c .before .loop .inv .left) (omeg
 loop-again : tie.Need-loop-again Inv-loop μ-loop
 loop-again c = spelling-turn _ (c .before .loop .inv) (omega arith)
 
-cast-octets-2 : tie.Need-cast-octets-2 Inv-loop μ-loop
-cast-octets-2 c = search needs
-
-add-octets-2 : tie.Need-add-octets-2 Inv-loop μ-loop
-add-octets-2 c = search needs
-
-array-write-octets-2 : tie.Need-array-write-octets-2 Inv-loop μ-loop
-array-write-octets-2 c = search needs
-
 returns : tie.Need-returns Inv-loop μ-loop
 returns c = spelling-end _ (c .before .loop .inv) (omega arith)
 
 pub spell-spec : {M : Type 1} → statement M
-spell-spec =
-    tie.close
-    (tie.spec
-    Inv-loop
-    μ-loop
-    loop-holds
-    cast-octets
-    add-octets
-    array-write-octets
-    sub-from
-    loop-less
-    loop-again
-    cast-octets-2
-    add-octets-2
-    array-write-octets-2
-    returns)
+spell-spec = tie.close (tie.spec Inv-loop μ-loop (λ c. search needs) (λ c. search needs) (λ c. search needs) (λ c. search needs)
+    sub-from loop-less loop-again (λ c. search needs) (λ c. search needs) (λ c. search needs) returns)

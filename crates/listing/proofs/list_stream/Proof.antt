@@ -21,42 +21,25 @@ loop-holds c = (c .before .before .pre .0, refl)
 next-page-requires : tie.Need-next-page-requires Inv-loop μ-loop
 next-page-requires c κs = let i = c .before .before .before .loop .inv in (i .0, not-true _ (c .before .if1 .taken), omega arith)
 
-slice-reshare-prefix-write-all : tie.Need-slice-reshare-prefix-write-all Inv-loop μ-loop
-slice-reshare-prefix-write-all c = search needs
-
 slice-aggregate-write-all : tie.Need-slice-aggregate-write-all Inv-loop μ-loop
 slice-aggregate-write-all c = let l = c .before .before .before .next-page .ensures .0 in
     sym (length-take-le _ _ (omega (arith, l .size, l .puts .size)))
 
-write-all-requires : tie.Need-write-all-requires Inv-loop μ-loop
-write-all-requires c κs = search needs
-
 loop-less : tie.Need-loop-less Inv-loop μ-loop
 loop-less c = c .before .before .before .before .before .next-page .ensures .1
+
+module _ (c : tie.After-next Inv-loop μ-loop) where
+  abbrev loop : tie.At-loop Inv-loop μ-loop
+  loop = c .before .before .before .before .before .before .before .before .before
 
 loop-again : tie.Need-loop-again Inv-loop μ-loop
 loop-again c =
     let l = c .before .before .before .before .before .next-page .ensures .0 in
-    (l .stands, l .puts .size ∙ c .before .before .before .before .before .before .before .before .before .loop .inv .1)
+    (l .stands, l .puts .size ∙ (loop c) .loop .inv .1)
 
 same-length : tie.Need-same-length Inv-loop μ-loop
 same-length c = c .before .before .loop .inv .1
 
-returns : tie.Need-returns Inv-loop μ-loop
-returns c = search needs
-
 pub list-stream-spec : {M : Type 1} → statement M
-list-stream-spec =
-    tie.close
-    (tie.spec
-    Inv-loop
-    μ-loop
-    loop-holds
-    next-page-requires
-    slice-reshare-prefix-write-all
-    slice-aggregate-write-all
-    write-all-requires
-    loop-less
-    loop-again
-    same-length
-    returns)
+list-stream-spec = tie.close (tie.spec Inv-loop μ-loop loop-holds next-page-requires (λ c. search needs)
+    slice-aggregate-write-all (λ c κs. search needs) loop-less loop-again same-length (λ c. search needs))

@@ -6,20 +6,11 @@ use Rattle.located.proofs.Methods.{marks-as, method-straight, method-ru
 use Rattle.located.proofs.by_method.Statement.{statement}
 use Rattle.located.proofs.by_method.Tie as tie
 
-straight-requires : tie.Need-straight-requires
-straight-requires c κs = search needs
-
 returns : tie.Need-returns
 returns c = marks-as (c .straight .ensures) (method-straight _ _ _ _ _ _ (omega arith)) (omega arith)
 
-runs-requires : tie.Need-runs-requires
-runs-requires c κs = search needs
-
 returns-2 : tie.Need-returns-2
 returns-2 c = marks-as (c .runs .ensures) (method-runs _ _ _ _ _ _ (omega arith) (omega arith)) (omega arith)
-
-fill-requires : tie.Need-fill-requires
-fill-requires c κs = search needs
 
 returns-3 : tie.Need-returns-3
 returns-3 c = method-none _ _ _ _ _ _ (omega arith) (omega arith) _ (omega arith) (c .fill .ensures)
@@ -27,22 +18,9 @@ returns-3 c = method-none _ _ _ _ _ _ (omega arith) (omega arith) _ (omega arith
 returns-4 : tie.Need-returns-4
 returns-4 c = marks-refused (omega arith) (method-unknown _ _ _ _ _ _ (omega arith))
 
-listed-requires : tie.Need-listed-requires
-listed-requires c κs = search needs
-
 returns-5 : tie.Need-returns-5
 returns-5 c = marks-as (c .listed .ensures) (method-listed _ _ _ _ _ _ (omega arith)) (omega arith)
 
 pub by-method-spec : {M : Type 1} → statement M
-by-method-spec =
-    tie.close
-    (tie.spec
-    straight-requires
-    returns
-    runs-requires
-    returns-2
-    fill-requires
-    returns-3
-    returns-4
-    listed-requires
-    returns-5)
+by-method-spec = tie.close (tie.spec (λ c κs. search needs) returns (λ c κs. search needs) returns-2 (λ c κs. search needs)
+    returns-3 returns-4 (λ c κs. search needs) returns-5)

@@ -15,30 +15,6 @@ abbrev μ-loop : tie.MeasureT-loop
 loop-holds : tie.Need-loop-holds Inv-loop μ-loop
 loop-holds c = laying-none _ _ _ _ (omega arith) (omega arith)
 
-element-copy-out-old : tie.Need-element-copy-out-old Inv-loop μ-loop
-element-copy-out-old c = search needs
-
-element-copy-out-cell : tie.Need-element-copy-out-cell Inv-loop μ-loop
-element-copy-out-cell c = search needs
-
-cell-requires : tie.Need-cell-requires Inv-loop μ-loop
-cell-requires c κs = search needs
-
-element-write-cells : tie.Need-element-write-cells Inv-loop μ-loop
-element-write-cells c = search needs
-
-uses-requires : tie.Need-uses-requires Inv-loop μ-loop
-uses-requires c κs = search needs
-
-add-p : tie.Need-add-p Inv-loop μ-loop
-add-p c = search needs
-
-add-i : tie.Need-add-i Inv-loop μ-loop
-add-i c = search needs
-
-loop-less : tie.Need-loop-less Inv-loop μ-loop
-loop-less c = search needs
-
 loop-again : tie.Need-loop-again Inv-loop μ-loop
 loop-again c = laying-turn (c .before .before .before .before .before .loop .inv) (omega arith) (c .before .cell .ensures)
     (c .uses .ensures .0) (c .uses .ensures .1)
@@ -47,19 +23,5 @@ returns : tie.Need-returns Inv-loop μ-loop
 returns c = laying-all (c .before .loop .inv) (omega arith)
 
 pub lay-spec : {M : Type 1} → statement M
-lay-spec =
-    tie.close
-    (tie.spec
-    Inv-loop
-    μ-loop
-    loop-holds
-    element-copy-out-old
-    element-copy-out-cell
-    cell-requires
-    element-write-cells
-    uses-requires
-    add-p
-    add-i
-    loop-less
-    loop-again
-    returns)
+lay-spec = tie.close (tie.spec Inv-loop μ-loop loop-holds (λ c. search needs) (λ c. search needs) (λ c κs. search needs)
+    (λ c. search needs) (λ c κs. search needs) (λ c. search needs) (λ c. search needs) (λ c. search needs) loop-again returns)

@@ -1,53 +1,49 @@
 -- Range case and flag, the row, then its values (Rows).
 use borrow.Author.Needs.{needs}
+use Prim.Native.Nat.{_+_}
 use native.Mathlib.Omega.{arith}
+use Rattle.rules.specs.Bits.{bitsOf}
+use Rattle.rules.specs.Reading.{numberFrom}
 use Rattle.rules.specs.Located.{located}
-use Rattle.bits.proofs.Told.{told, refused}
+use Rattle.bits.proofs.Told.{Read-as, told, refused}
 use Rattle.bodies.proofs.Poured.{fills-refused}
-use Rattle.located.proofs.InTurn.{lays-body}
-use Rattle.located.proofs.Rows.{values-apart, apart-as, no-values, some-values}
+use Rattle.located.proofs.Rows.{values-apart, apart-as, no-values, some-filled}
 use Rattle.located.proofs.located.Statement.{statement}
 use Rattle.located.proofs.located.Tie as tie
 
-number-requires : tie.Need-number-requires
-number-requires c κs = search needs
+module _ (c : tie.After-case) where
+  abbrev s : tie.Start
+  s = c .before .before .before .before
 
-enum-known-why : tie.Need-enum-known-why
-enum-known-why c = search needs
+  case-read : Read-as (numberFrom 0 2 (bitsOf (s .args .octets .now)) (s .args .at)) 3 (s .args .at + 2) (c .case .given .0 .0)
+      (c .case .given .0 .1 .0)
+  case-read = told (c .before .before .number .ensures) (c .case .given .1)
 
-enum-known-case : tie.Need-enum-known-case
-enum-known-case c = search needs
+module _ (c : tie.After-flag) where
+  abbrev case : tie.After-case
+  case = c .before .before .before .before
+
+  flag-read : Read-as (numberFrom 0 1 (bitsOf ((s case) .args .octets .now)) (case .case .given .0 .1 .0)) 1
+      (case .case .given .0 .1 .0 + 1) (c .flag .given .0 .0) (c .flag .given .0 .1 .0)
+  flag-read = told (c .before .before .number2 .ensures) (c .flag .given .1)
+
+module _ (c : tie.After-row-of) where
+  abbrev flag : tie.After-flag
+  flag = c .before .before
 
 number-requires-2 : tie.Need-number-requires-2
-number-requires-2 c κs =
-    let s = told (c .before .before .before .number .ensures) (c .before .case .given .1) in
-    omega arith
-
-enum-known-why-2 : tie.Need-enum-known-why-2
-enum-known-why-2 c = search needs
-
-enum-known-flag : tie.Need-enum-known-flag
-enum-known-flag c = search needs
-
-row-of-requires : tie.Need-row-of-requires
-row-of-requires c κs = search needs
+number-requires-2 c κs = let k = case-read (c .before) in omega arith
 
 returns : tie.Need-returns
 returns c =
-    let s = told (c .before .before .before .before .before .before .before .before .before .number .ensures)
-    (c .before .before .before .before .before .before .before .case .given .1) in
-    let f = told (c .before .before .before .before .before .number2 .ensures) (c .before .before .before .flag .given .1) in
-    fills-refused (no-values _ _ _ _ (s .says) (f .says) (c .before .row-of .ensures) (c .if1 .taken)) (omega arith)
-
-add-values : tie.Need-add-values
-add-values c = search needs
+    let k = case-read (case (flag (c .before))) in
+    let f = flag-read (flag (c .before)) in
+    fills-refused (no-values _ _ _ _ (k .says) (f .says) (c .before .row-of .ensures) (c .if1 .taken)) (omega arith)
 
 values-requires : tie.Need-values-requires
 values-requires c κs =
-    let s = told (c .before .before .before .before .before .before .before .before .before .before .before .before .number .ensures)
-    (c .before .before .before .before .before .before .before .before .before .before .case .given .1) in
-    let f = told (c .before .before .before .before .before .before .before .before .number2 .ensures)
-    (c .before .before .before .before .before .before .flag .given .1) in
+    let k = case-read (case (flag (c .before .before .before .before))) in
+    let f = flag-read (flag (c .before .before .before .before)) in
     let r = c .before .before .before .before .row-of .ensures in
     (omega arith, omega arith, omega arith, r .few, apart-as _ r (values-apart _ (omega arith) (omega arith) _ _ _), r .room, omega arith)
 
@@ -58,34 +54,17 @@ returns-2 c = fills-refused (rw (refused (c .before .before .before .number .ens
 returns-3 : tie.Need-returns-3
 unfolding located
 returns-3 c =
-    let s = told (c .before .before .before .before .before .before .before .number .ensures)
-    (c .before .before .before .before .before .case .given .1) in
-    fills-refused (rw (s .says, refused (c .before .before .before .number2 .ensures) (c .before .why2 .given .1))) (omega arith)
+    let n = c .before .before .before in
+    fills-refused (rw ((case-read (n .before .before)) .says, refused (n .number2 .ensures) (c .before .why2 .given .1))) (omega arith)
 
 returns-4 : tie.Need-returns-4
 returns-4 c =
-    let s = told (c .before .before .before .before .before .before .before .before .before .before .before .before .before
-    .number .ensures) (c .before .before .before .before .before .before .before .before .before .before .before .case .given .1) in
-    let f = told (c .before .before .before .before .before .before .before .before .before .number2 .ensures)
-    (c .before .before .before .before .before .before .before .flag .given .1) in
-    lays-body (c .values .ensures)
-    (some-values _ _ _ _ (s .says) (f .says) (c .before .before .before .before .before .row-of .ensures)
-    (c .before .before .before .before .if1 .left)) (omega arith) (omega arith)
+    let k = case-read (case (flag (c .before .before .before .before .before))) in
+    let f = flag-read (flag (c .before .before .before .before .before)) in
+    some-filled _ _ _ _ (k .says) (f .says) (c .before .before .before .before .before .row-of .ensures)
+    (c .before .before .before .before .if1 .left) (c .values .ensures) (omega arith) (omega arith)
 
 pub located-spec : {M : Type 1} → statement M
-located-spec =
-    tie.close
-    (tie.spec
-    number-requires
-    enum-known-why
-    enum-known-case
-    number-requires-2
-    enum-known-why-2
-    enum-known-flag
-    row-of-requires
-    returns
-    add-values
-    values-requires
-    returns-2
-    returns-3
-    returns-4)
+located-spec = tie.close (tie.spec (λ c κs. search needs) (λ c. search needs) (λ c. search needs) number-requires-2
+    (λ c. search needs) (λ c. search needs) (λ c κs. search needs) returns (λ c. search needs) values-requires returns-2
+    returns-3 returns-4)

@@ -18,82 +18,46 @@ Inv-loop octets at d width count cells₀ common other least₀ place₀ read₀
 abbrev μ-loop : tie.MeasureT-loop
 μ-loop octets at d width count cells₀ common other least₀ place₀ read₀ cells least place read = count - read
 
-fill-requires : tie.Need-fill-requires Inv-loop μ-loop
-fill-requires c κs = search needs
-
 loop-holds : tie.Need-loop-holds Inv-loop μ-loop
 loop-holds c = listing-none _ _ _ _ _ (c .fill .ensures) (omega arith) (omega arith)
 
-number-requires : tie.Need-number-requires Inv-loop μ-loop
-number-requires c κs = search needs
-
-enum-known-why : tie.Need-enum-known-why Inv-loop μ-loop
-enum-known-why c = search needs
+module _ (c : tie.After-rises Inv-loop μ-loop) where
+  abbrev loop : tie.At-loop Inv-loop μ-loop
+  loop = c .before .before .before .before .before .before
 
 returns : tie.Need-returns Inv-loop μ-loop
 returns c =
-    marks-filled
-    (listing-refused (c .before .before .before .before .before .loop .inv) (omega arith)
-    (refused (c .before .before .before .number .ensures) (c .before .why .given .1)))
-    (c .before .before .before .before .before .before .fill .ensures)
-
-enum-known-p : tie.Need-enum-known-p Inv-loop μ-loop
-enum-known-p c = search needs
-
-rises-requires : tie.Need-rises-requires Inv-loop μ-loop
-rises-requires c κs = search needs
+    let n = c .before .before .before in
+    let l = n .before .before in
+    marks-filled (listing-refused (l .loop .inv) (omega arith) (refused (n .number .ensures) (c .before .why .given .1)))
+    (l .before .fill .ensures)
 
 returns-2 : tie.Need-returns-2 Inv-loop μ-loop
 returns-2 c =
     let p = told (c .before .before .before .before .before .number .ensures) (c .before .before .before .p .given .1) in
-    marks-filled (listing-falls (c .before .before .before .before .before .before .before .loop .inv) (omega arith)
-    (p .says) (sym (c .before .rises .ensures) ∙ not-true _ (c .if1 .taken)))
-    (c .before .before .before .before .before .before .before .before .fill .ensures)
+    let falls = sym (c .before .rises .ensures) ∙ not-true _ (c .if1 .taken) in
+    marks-filled (listing-falls ((loop (c .before)) .loop .inv) (omega arith) (p .says) falls) ((loop (c .before)) .before .fill .ensures)
 
 element-write-cells : tie.Need-element-write-cells Inv-loop μ-loop
 element-write-cells c =
-    let b = listing-below (c .before .before .before .before .before .before .before .loop .inv)
-    (sym (c .before .rises .ensures) ∙ not-false _ (c .if1 .left)) in
+    let b = listing-below ((loop (c .before)) .loop .inv) (sym (c .before .rises .ensures) ∙ not-false _ (c .if1 .left)) in
     omega (arith, b .0, b .1)
 
 add-least : tie.Need-add-least Inv-loop μ-loop
 add-least c =
-    let b = listing-below (c .before .before .before .before .before .before .before .loop .inv)
-    (sym (c .before .rises .ensures) ∙ not-false _ (c .if1 .left)) in
+    let b = listing-below ((loop (c .before)) .loop .inv) (sym (c .before .rises .ensures) ∙ not-false _ (c .if1 .left)) in
     omega (arith, b .0, b .1)
-
-add-read : tie.Need-add-read Inv-loop μ-loop
-add-read c = search needs
-
-loop-less : tie.Need-loop-less Inv-loop μ-loop
-loop-less c = search needs
 
 loop-again : tie.Need-loop-again Inv-loop μ-loop
 loop-again c =
     let p = told (c .before .before .before .before .before .number .ensures) (c .before .before .before .p .given .1) in
-    listing-turn (c .before .before .before .before .before .before .before .loop .inv) (omega arith) (p .says)
+    listing-turn ((loop (c .before)) .loop .inv) (omega arith) (p .says)
     (sym (c .before .rises .ensures) ∙ not-false _ (c .if1 .left)) (p .next) (omega arith)
 
 returns-3 : tie.Need-returns-3 Inv-loop μ-loop
 returns-3 c = marks-filled (listing-all (c .before .loop .inv) (omega arith) (omega arith)) (c .before .before .fill .ensures)
 
 pub places-spec : {M : Type 1} → statement M
-places-spec =
-    tie.close
-    (tie.spec
-    Inv-loop
-    μ-loop
-    fill-requires
-    loop-holds
-    number-requires
-    enum-known-why
-    returns
-    enum-known-p
-    rises-requires
-    returns-2
-    element-write-cells
-    add-least
-    add-read
-    loop-less
-    loop-again
-    returns-3)
+places-spec = tie.close (tie.spec Inv-loop μ-loop (λ c κs. search needs) loop-holds (λ c κs. search needs) (λ c. search needs)
+    returns (λ c. search needs) (λ c κs. search needs) returns-2 element-write-cells add-least (λ c. search needs)
+    (λ c. search needs) loop-again returns-3)

@@ -4,23 +4,12 @@ use native.Mathlib.Omega.{arith}
 use Rattle.bits.proofs.Told.{told, refused}
 use Rattle.runs.proofs.Answer.{marks-refused}
 use Rattle.located.specs.Valued.{flagsOf}
-use Rattle.located.proofs.Methods.{marks-as, method-read}
+use Rattle.located.proofs.Methods.{method-read}
 use Rattle.located.proofs.value.Statement.{statement}
 use Rattle.located.proofs.value.Tie as tie
 
-number-requires : tie.Need-number-requires
-number-requires c κs = search needs
-
-enum-known-why : tie.Need-enum-known-why
-enum-known-why c = search needs
-
-enum-known-m : tie.Need-enum-known-m
-enum-known-m c = search needs
-
 by-method-requires : tie.Need-by-method-requires
-by-method-requires c κs =
-    let m = told (c .before .before .before .before .number .ensures) (c .before .before .m .given .1) in
-    omega arith
+by-method-requires c κs = let m = told (c .before .before .before .before .number .ensures) (c .before .before .m .given .1) in omega arith
 
 returns : tie.Need-returns
 unfolding flagsOf
@@ -29,15 +18,8 @@ returns c = marks-refused (omega arith) (rw (refused (c .before .before .before 
 returns-2 : tie.Need-returns-2
 returns-2 c =
     let m = told (c .before .before .before .before .before .number .ensures) (c .before .before .before .m .given .1) in
-    marks-as (c .by-method .ensures) (method-read _ _ _ _ (m .says)) (omega arith)
+    method-read _ _ _ _ (m .says) (c .by-method .ensures) (omega arith)
 
 pub value-spec : {M : Type 1} → statement M
-value-spec =
-    tie.close
-    (tie.spec
-    number-requires
-    enum-known-why
-    enum-known-m
-    by-method-requires
-    returns
+value-spec = tie.close (tie.spec (λ c κs. search needs) (λ c. search needs) (λ c. search needs) by-method-requires returns
     returns-2)

@@ -15,15 +15,6 @@ abbrev μ-loop : tie.MeasureT-loop
 loop-holds : tie.Need-loop-holds Inv-loop μ-loop
 loop-holds c = widening-none _
 
-add-power : tie.Need-add-power Inv-loop μ-loop
-add-power c = search needs
-
-add-width : tie.Need-add-width Inv-loop μ-loop
-add-width c = search needs
-
-loop-less : tie.Need-loop-less Inv-loop μ-loop
-loop-less c = search needs
-
 loop-again : tie.Need-loop-again Inv-loop μ-loop
 loop-again c = widening-turn (c .before .loop .inv) (omega arith) (omega arith)
 
@@ -31,6 +22,5 @@ returns : tie.Need-returns Inv-loop μ-loop
 returns c = widening-all (c .before .loop .inv) (omega arith)
 
 pub width-of-spec : {M : Type 1} → statement M
-width-of-spec =
-    tie.close
-    (tie.spec Inv-loop μ-loop loop-holds add-power add-width loop-less loop-again returns)
+width-of-spec = tie.close (tie.spec Inv-loop μ-loop loop-holds (λ c. search needs) (λ c. search needs) (λ c. search needs)
+    loop-again returns)

@@ -4,8 +4,6 @@ use borrow.Author.Tests.{le-leb, lt-leb}
 use native.Mathlib.Omega.{arith}
 use Rattle.locating.proofs.flag_of.Statement.{statement}
 use Rattle.locating.proofs.flag_of.Tie as tie
-use Rattle.locating.proofs.flag_of.Reads as reads
-use Rattle.locating.proofs.flag_of.Lts as lts
 
 returns : tie.Need-returns
 returns c = let s = c .before .args in

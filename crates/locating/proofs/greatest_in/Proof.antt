@@ -2,8 +2,6 @@ use Rattle.locating.specs.Rows.{greatestBy}
 use borrow.Author.Tests.{eq-eqb, ne-eqb}
 use Rattle.locating.proofs.greatest_in.Statement.{statement}
 use Rattle.locating.proofs.greatest_in.Tie as tie
-use Rattle.locating.proofs.greatest_in.Reads as reads
-use Rattle.locating.proofs.greatest_in.Lts as lts
 
 returns : tie.Need-returns
 unfolding greatestBy

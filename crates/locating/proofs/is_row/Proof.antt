@@ -1,8 +1,6 @@
 use borrow.Author.Tests.{eq-eqb, ne-eqb}
 use Rattle.locating.proofs.is_row.Statement.{statement}
 use Rattle.locating.proofs.is_row.Tie as tie
-use Rattle.locating.proofs.is_row.Reads as reads
-use Rattle.locating.proofs.is_row.Lts as lts
 
 returns : tie.Need-returns
 returns c = rw (ne-eqb _ _ (c .if1 .taken))

@@ -1,8 +1,6 @@
 use borrow.Author.Tests.{le-leb, lt-leb, le-ltb, lt-ltb}
 use Rattle.locating.proofs.located_applies.Statement.{statement}
 use Rattle.locating.proofs.located_applies.Tie as tie
-use Rattle.locating.proofs.located_applies.Reads as reads
-use Rattle.locating.proofs.located_applies.Lts as lts
 
 returns : tie.Need-returns
 returns c = rw (lt-leb _ _ (c .if1 .taken))
@@ -22,9 +20,13 @@ returns-4 c = rw (
   lt-leb _ _ (c .if4 .taken),
 )
 
+module _ (c : tie.After-struct-known3) where
+  abbrev else1 : tie.Else1
+  else1 = c .before .before .before .before .before .before
+
 returns-5 : tie.Need-returns-5
 returns-5 c = rw (
-  le-leb _ _ (c .before .before .before .before .before .before .if1 .left),
+  le-leb _ _ ((else1 c) .if1 .left),
   lt-ltb _ _
       (c .before .before .before .before .before .if2 .left),
   le-leb _ _ (c .before .before .before .if3 .left),

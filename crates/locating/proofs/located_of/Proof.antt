@@ -5,18 +5,10 @@ use native.Mathlib.Omega.{arith}
 use lib.ListN.{length, take}
 use lib.Seq.{length-take-le}
 use lib.Dec.{leb, ltb}
-use Rattle.look.proofs.Tests.{mask-seven}
-use Rattle.look.proofs.Tests.{law-for}
+use Rattle.look.proofs.Tests.{mask-seven, law-for}
 use Rattle.locating.proofs.Rows.{applied-is, turn-of, located-is, ways-small}
 use Rattle.locating.proofs.located_of.Statement.{statement}
 use Rattle.locating.proofs.located_of.Tie as tie
-use Rattle.locating.proofs.located_of.Reads as reads
-use Rattle.locating.proofs.located_of.Lts as lts
-use Rattle.law.proofs.plus_zero.Reads as plus-zero-reads
-use Rattle.locating.proofs.flag_of.Reads as flag-of-reads
-use Rattle.locating.proofs.located_bits.Reads as located-bits-reads
-use Rattle.locating.proofs.values_of.Reads as values-of-reads
-use Rattle.locating.proofs.ways_of.Reads as ways-of-reads
 
 -- the frame's length
 size : (s : tie.Start) → length (take (s .args .n) (s .args .samples .now)) ≡ s .args .n
@@ -33,9 +25,6 @@ add-flag-of : tie.Need-add-flag-of
 add-flag-of c =
     let s = c .before .before in omega (arith, s .pre .1 .0 .0 .all, size s, s .pre .0 .0 .few)
 
-flag-of-requires : tie.Need-flag-of-requires
-flag-of-requires c κs = search needs
-
 values-of-requires : tie.Need-values-of-requires
 values-of-requires c κs =
     mask-seven _ (c .before .before .before .pre .0 .1)
@@ -44,9 +33,20 @@ plus-zero-requires : tie.Need-plus-zero-requires
 plus-zero-requires c κs =
     mask-seven _ (c .before .before .before .before .pre .0 .1)
 
+module _ (c : tie.After-third) where
+  abbrev values-of : tie.After-values-of
+  values-of = c .before .before .before .before .before .before .before .before .before
+
+  abbrev plus-zero : tie.After-plus-zero
+  plus-zero = c .before .before .before .before .before .before .before .before
+
+module _ (c : tie.After-ways-of-arg3) where
+  abbrev start : tie.Start
+  start = c .before .before .before .before .before .before .before .before
+
 ways-of-requires : tie.Need-ways-of-requires
 ways-of-requires c κs =
-    let s = c .before .before .before .before .before .before .before .before in
+    let s = start c in
     let f = s .pre .0 .0 in
     let turn = turn-of (s .pre .1 .0 .0) (law-for (s .args .mask) (s .pre .0 .1)) (s .args .row)
     (c .before .before .before .before .before .flag-of .result) (c .before .before .before .plus-zero .ensures)
@@ -59,22 +59,14 @@ located-bits-requires c κs =
 
 returns : tie.Need-returns
 returns c =
-    let s = c .before .before .before .before .before .before .before .before .before .before .before .before .before in
-    let flag = c .before .before .before .before .before .before .before .before .before .before .flag-of in
-    let told = c .before .before .before .before .before .before .before .before .before .values-of .ensures in
+    let s = (values-of c) .before .before .before .before in
+    let flag = (values-of c) .before .flag-of in
+    let told = (values-of c) .values-of .ensures in
     let turn = turn-of (s .pre .1 .0 .0) (law-for (s .args .mask) (s .pre .0 .1)) (s .args .row) (flag .result)
-    (c .before .before .before .before .before .before .before .before .plus-zero .ensures) told in
+    ((plus-zero c) .plus-zero .ensures) told in
     located-is (s .pre .1 .0 .0) (size s) (s .pre .1 .1 .0) (tested s) refl (flag .ensures .0) (flag .ensures .1) told
     turn (c .before .before .before .before .ways-of .ensures) (c .before .before .before .located-bits .ensures)
 
 pub located-of-spec : {M : Type 1} → statement M
-located-of-spec =
-    tie.close
-    (tie.spec
-    add-flag-of
-    flag-of-requires
-    values-of-requires
-    plus-zero-requires
-    ways-of-requires
-    located-bits-requires
-    returns)
+located-of-spec = tie.close (tie.spec add-flag-of (λ c κs. search needs) values-of-requires plus-zero-requires ways-of-requires
+    located-bits-requires returns)

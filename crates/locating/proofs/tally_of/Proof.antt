@@ -8,42 +8,26 @@ use mathlib.Core.Path.{refl}
 use native.Mathlib.Omega.{arith}
 use Rattle.locating.proofs.tally_of.Statement.{statement}
 use Rattle.locating.proofs.tally_of.Tie as tie
-use Rattle.locating.proofs.tally_of.Reads as reads
-use Rattle.locating.proofs.tally_of.Lts as lts
-use Rattle.law.proofs.minus_zero.Reads as minus-zero-reads
-use Rattle.law.proofs.sample_of.Reads as sample-of-reads
-use Rattle.look.proofs.count_of.Reads as count-of-reads
 
 sample-of-requires : tie.Need-sample-of-requires
 sample-of-requires c κs = mask-seven _ (c .before .pre .0 .1 .1 .1)
 
-count-of-requires : tie.Need-count-of-requires
-count-of-requires c κs = search needs
-
 minus-zero-requires : tie.Need-minus-zero-requires
 minus-zero-requires c κs = mask-seven _ (c .before .before .before .pre .0 .1 .1 .1)
-
-count-of-requires-2 : tie.Need-count-of-requires-2
-count-of-requires-2 c κs = search needs
 
 sample-of-requires-2 : tie.Need-sample-of-requires-2
 sample-of-requires-2 c κs = mask-seven _ (c .before .before .before .before .before .pre .0 .1 .1 .1)
 
-count-of-requires-3 : tie.Need-count-of-requires-3
-count-of-requires-3 c κs = search needs
-
-add-t8 : tie.Need-add-t8
-add-t8 c = search needs
-
-add-t9 : tie.Need-add-t9
-add-t9 c = search needs
+module _ (c : tie.After-count-of3) where
+  abbrev shared-slice-known : tie.After-shared-slice-known
+  shared-slice-known = c .before .before .before .before .before .before
 
 sub-t10 : tie.Need-sub-t10
 sub-t10 c =
-    let s = c .before .before .before .before .before .before .before in
+    let s = (shared-slice-known c) .before in
     let f = take (s .args .n) (s .args .samples .now) in
     let o = below-take (s .args .n)
-    (below-all (s .args .samples .now) (λ i. c .before .before .before .before .before .before .shared-slice-known .given i .fits)) in
+    (below-all (s .args .samples .now) (λ i. (shared-slice-known c) .shared-slice-known .given i .fits)) in
     let e₁ = counted f (c .before .before .before .before .count-of .ensures .0)
     (c .before .before .before .before .before .sample-of .ensures) in
     let e₂ = counted f (c .before .before .count-of2 .ensures .0) (c .before .before .before .minus-zero .ensures) in
@@ -53,10 +37,10 @@ sub-t10 c =
 
 returns : tie.Need-returns
 returns c =
-    let s = c .before .before .before .before .before .before .before in
+    let s = (shared-slice-known c) .before in
     let f = take (s .args .n) (s .args .samples .now) in
     let o = below-take (s .args .n)
-    (below-all (s .args .samples .now) (λ i. c .before .before .before .before .before .before .shared-slice-known .given i .fits)) in
+    (below-all (s .args .samples .now) (λ i. (shared-slice-known c) .shared-slice-known .given i .fits)) in
     let e₁ = counted f (c .before .before .before .before .count-of .ensures .0)
     (c .before .before .before .before .before .sample-of .ensures) in
     let e₂ = counted f (c .before .before .count-of2 .ensures .0) (c .before .before .before .minus-zero .ensures) in
@@ -65,16 +49,5 @@ returns c =
     tallied (s .pre .0 .1 .1 .1) o (s .pre .1) size (s .pre .0 .0) e₁ e₂ e₃ refl
 
 pub tally-of-spec : {M : Type 1} → statement M
-tally-of-spec =
-    tie.close
-    (tie.spec
-    sample-of-requires
-    count-of-requires
-    minus-zero-requires
-    count-of-requires-2
-    sample-of-requires-2
-    count-of-requires-3
-    add-t8
-    add-t9
-    sub-t10
-    returns)
+tally-of-spec = tie.close (tie.spec sample-of-requires (λ c κs. search needs) minus-zero-requires (λ c κs. search needs)
+    sample-of-requires-2 (λ c κs. search needs) (λ c. search needs) (λ c. search needs) sub-t10 returns)

@@ -5,13 +5,6 @@ use borrow.Author.Tests.{not-true, not-false}
 use mathlib.Core.Path.{sym, ap, _∙_}
 use Rattle.locating.proofs.way_if.Statement.{statement}
 use Rattle.locating.proofs.way_if.Tie as tie
-use Rattle.locating.proofs.way_if.Reads as reads
-use Rattle.locating.proofs.way_if.Lts as lts
-use Rattle.locating.proofs.way_by.Reads as way-by-reads
-use Rattle.locating.proofs.way_of.Reads as way-of-reads
-
-way-by-requires : tie.Need-way-by-requires
-way-by-requires c κs = search needs
 
 returns : tie.Need-returns
 returns c = record {
@@ -19,11 +12,8 @@ returns c = record {
   no = λ h. ap (λ (w : Way). w .bits) (c .way-by .ensures);
 }
 
-way-of-requires : tie.Need-way-of-requires
-way-of-requires c κs = search needs
-
 returns-2 : tie.Need-returns-2
 returns-2 c = record { yes = λ h. c .way-of .ensures; no = λ h. absurd (never (sym h ∙ not-false _ (c .before .if1 .left))) }
 
 pub way-if-spec : {M : Type 1} → statement M
-way-if-spec = tie.close (tie.spec way-by-requires returns way-of-requires returns-2)
+way-if-spec = tie.close (tie.spec (λ c κs. search needs) returns (λ c κs. search needs) returns-2)

@@ -8,9 +8,6 @@ use Rattle.look.specs.Looks.{countIs}
 use Rattle.look.proofs.Looking.{count-more}
 use Rattle.look.proofs.count_of.Statement.{statement}
 use Rattle.look.proofs.count_of.Tie as tie
-use Rattle.look.proofs.count_of.Reads as reads
-use Rattle.look.proofs.count_of.Lts as lts
-use Rattle.look.proofs.same.Reads as same-reads
 
 abbrev Inv-loop : tie.InvT-loop
 Inv-loop samples n x count₀ i₀ count i = (i ≤ n) × ((count ≤ i) × (count ≡ countIs x (take i samples)))
@@ -18,20 +15,10 @@ Inv-loop samples n x count₀ i₀ count i = (i ≤ n) × ((count ≤ i) × (cou
 abbrev μ-loop : tie.MeasureT-loop
 μ-loop samples n x count₀ i₀ count i = n - i
 
--- src/lib.rt:247:5
 loop-holds : tie.Need-loop-holds Inv-loop μ-loop
 unfolding countOf
 loop-holds c = (omega arith, (omega arith, refl))
 
--- src/lib.rt:248:23
-shared-slice-read-same : tie.Need-shared-slice-read-same Inv-loop μ-loop
-shared-slice-read-same c = search needs
-
--- src/lib.rt:248:18
-same-requires : tie.Need-same-requires Inv-loop μ-loop
-same-requires c κs = search needs
-
--- src/lib.rt:248:9
 add-count : tie.Need-add-count Inv-loop μ-loop
 add-count c = omega (
   arith,
@@ -42,15 +29,6 @@ add-count c = omega (
   c .before .before .before .before .before .pre .0,
 )
 
--- src/lib.rt:249:9
-add-i : tie.Need-add-i Inv-loop μ-loop
-add-i c = search needs
-
--- src/lib.rt:247:5
-loop-less : tie.Need-loop-less Inv-loop μ-loop
-loop-less c = search needs
-
--- src/lib.rt:247:5
 loop-again : tie.Need-loop-again Inv-loop μ-loop
 loop-again c =
     let s = c .before .before .before .before .before .args .samples .now in
@@ -64,11 +42,9 @@ loop-again c =
       ),
     )
 
--- src/lib.rt:251:5
 cast-result : tie.Need-cast-result Inv-loop μ-loop
 cast-result c = omega (arith, c .before .loop .inv .0, c .before .loop .inv .1 .0, c .before .before .before .pre .0)
 
--- src/lib.rt:241:1
 returns : tie.Need-returns Inv-loop μ-loop
 returns c =
     let e : c .before .loop .i ≡ c .before .before .before .args .n = omega (arith, c .before .loop .inv .0, c .loop-test .left) in (
@@ -78,17 +54,5 @@ returns c =
     )
 
 pub count-of-spec : {M : Type 1} → statement M
-count-of-spec =
-    tie.close
-    (tie.spec
-    Inv-loop
-    μ-loop
-    loop-holds
-    shared-slice-read-same
-    same-requires
-    add-count
-    add-i
-    loop-less
-    loop-again
-    cast-result
-    returns)
+count-of-spec = tie.close (tie.spec Inv-loop μ-loop loop-holds (λ c. search needs) (λ c κs. search needs) add-count
+    (λ c. search needs) (λ c. search needs) loop-again cast-result returns)

@@ -6,12 +6,6 @@ use Rattle.rules.specs.Samples.{signed}
 use Rattle.look.proofs.line_of.Statement.{statement}
 use Rattle.look.proofs.line_of.Tie as tie
 
-add-result : tie.Need-add-result
-add-result c = search needs
-
-sub-result : tie.Need-sub-result
-sub-result c = search needs
-
 returns : tie.Need-returns
 unfolding signed
 returns c = rw (le-leb 128 (c .before .args .x) (c .if1 .taken)) refl
@@ -21,4 +15,4 @@ unfolding signed
 returns-2 c = rw (lt-leb 128 (c .before .args .x) (omega arith)) refl
 
 pub line-of-spec : {M : Type 1} → statement M
-line-of-spec = tie.close (tie.spec add-result sub-result returns returns-2)
+line-of-spec = tie.close (tie.spec (λ c. search needs) (λ c. search needs) returns returns-2)

@@ -8,9 +8,6 @@ use Rattle.look.specs.Looks.{marksOf}
 use Rattle.look.proofs.Rows.{row-none, row-again}
 use Rattle.look.proofs.others.Statement.{statement}
 use Rattle.look.proofs.others.Tie as tie
-use Rattle.look.proofs.others.Reads as reads
-use Rattle.look.proofs.others.Lts as lts
-use Rattle.look.proofs.word_at.Reads as word-at-reads
 
 abbrev Inv-loop : tie.InvT-loop
 Inv-loop samples k x row₀ i₀ row i = (i ≤ k) × RowIs (marksOf x 0 1 (take (40 * i) samples)) i row
@@ -20,24 +17,6 @@ abbrev μ-loop : tie.MeasureT-loop
 
 loop-holds : tie.Need-loop-holds Inv-loop μ-loop
 loop-holds c = (omega arith, row-none)
-
-mul-word-at : tie.Need-mul-word-at Inv-loop μ-loop
-mul-word-at c = search needs
-
-word-at-requires : tie.Need-word-at-requires Inv-loop μ-loop
-word-at-requires c κs = search needs
-
-mul-row : tie.Need-mul-row Inv-loop μ-loop
-mul-row c = search needs
-
-array-write-row : tie.Need-array-write-row Inv-loop μ-loop
-array-write-row c = search needs
-
-add-i : tie.Need-add-i Inv-loop μ-loop
-add-i c = search needs
-
-loop-less : tie.Need-loop-less Inv-loop μ-loop
-loop-less c = search needs
 
 loop-again : tie.Need-loop-again Inv-loop μ-loop
 loop-again c =
@@ -52,17 +31,5 @@ returns : tie.Need-returns Inv-loop μ-loop
 returns c = let e : c .before .loop .i ≡ c .before .before .before .args .k = omega arith in rw e at (c .before .loop .inv .1)
 
 pub others-spec : {M : Type 1} → statement M
-others-spec =
-    tie.close
-    (tie.spec
-    Inv-loop
-    μ-loop
-    loop-holds
-    mul-word-at
-    word-at-requires
-    mul-row
-    array-write-row
-    add-i
-    loop-less
-    loop-again
-    returns)
+others-spec = tie.close (tie.spec Inv-loop μ-loop loop-holds (λ c. search needs) (λ c κs. search needs) (λ c. search needs)
+    (λ c. search needs) (λ c. search needs) (λ c. search needs) loop-again returns)

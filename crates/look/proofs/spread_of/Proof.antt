@@ -4,8 +4,6 @@ use native.Mathlib.Omega.{arith}
 use Rattle.look.proofs.Spreading.{SpreadTurn, spread-none, spread-turn, spread-done}
 use Rattle.look.proofs.spread_of.Statement.{statement}
 use Rattle.look.proofs.spread_of.Tie as tie
-use Rattle.look.proofs.spread_of.Reads as reads
-use Rattle.look.proofs.spread_of.Lts as lts
 
 abbrev Inv-loop : tie.InvT-loop
 Inv-loop samples n mask any₀ all₀ i₀ any all i = SpreadTurn samples n mask any all i
@@ -13,35 +11,19 @@ Inv-loop samples n mask any₀ all₀ i₀ any all i = SpreadTurn samples n mask
 abbrev μ-loop : tie.MeasureT-loop
 μ-loop samples n mask any₀ all₀ i₀ any all i = n - i
 
--- src/lib.rt:228:5
 loop-holds : tie.Need-loop-holds Inv-loop μ-loop
 loop-holds c = spread-none _ _ _
 
--- src/lib.rt:229:17
-shared-slice-read-y : tie.Need-shared-slice-read-y Inv-loop μ-loop
-shared-slice-read-y c = search needs
-
--- src/lib.rt:232:9
-add-i : tie.Need-add-i Inv-loop μ-loop
-add-i c = search needs
-
--- src/lib.rt:228:5
-loop-less : tie.Need-loop-less Inv-loop μ-loop
-loop-less c = search needs
-
--- src/lib.rt:228:5
 loop-again : tie.Need-loop-again Inv-loop μ-loop
 loop-again c = spread-turn (c .before .before .before .args .samples .now) (c .before .before .before .args .n)
     (c .before .before .before .args .mask) (c .before .before .loop .any) (c .before .before .loop .all) (c .before .before .loop .i)
     (c .before .before .before .pre .1) (omega (arith, c .before .loop-test .taken, c .before .before .before .pre .0 .1))
     (c .shared-slice-known .given (c .before .before .loop .i) .fits) (c .before .loop-test .taken) (c .before .before .loop .inv)
 
--- src/lib.rt:220:1
 returns : tie.Need-returns Inv-loop μ-loop
 returns c = spread-done (c .before .before .pre .0 .0) (omega (arith, c .before .loop .inv .within, c .loop-test .left))
     (c .before .loop .inv)
 
 pub spread-of-spec : {M : Type 1} → statement M
-spread-of-spec =
-    tie.close
-    (tie.spec Inv-loop μ-loop loop-holds shared-slice-read-y add-i loop-less loop-again returns)
+spread-of-spec = tie.close (tie.spec Inv-loop μ-loop loop-holds (λ c. search needs) (λ c. search needs) (λ c. search needs)
+    loop-again returns)

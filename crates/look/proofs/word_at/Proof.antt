@@ -8,9 +8,6 @@ use Rattle.look.specs.Looks.{marksOf}
 use Rattle.look.proofs.Rows.{word-none, word-again, word-fits}
 use Rattle.look.proofs.word_at.Statement.{statement}
 use Rattle.look.proofs.word_at.Tie as tie
-use Rattle.look.proofs.word_at.Reads as reads
-use Rattle.look.proofs.word_at.Lts as lts
-use Rattle.look.proofs.unlike.Reads as unlike-reads
 
 abbrev Inv-loop : tie.InvT-loop
 Inv-loop samples from x v₀ j₀ v j = (j ≤ 40) × Gathers (marksOf x 0 1 (take j (drop from samples))) j v
@@ -24,23 +21,8 @@ loop-holds c = (omega arith, word-none)
 mul-v : tie.Need-mul-v Inv-loop μ-loop
 mul-v c = omega (arith, word-fits _ _ (omega arith) (c .before .loop .inv .1))
 
-add-unlike : tie.Need-add-unlike Inv-loop μ-loop
-add-unlike c = search needs
-
-shared-slice-read-unlike : tie.Need-shared-slice-read-unlike Inv-loop μ-loop
-shared-slice-read-unlike c = search needs
-
-unlike-requires : tie.Need-unlike-requires Inv-loop μ-loop
-unlike-requires c κs = search needs
-
 add-v : tie.Need-add-v Inv-loop μ-loop
 add-v c = omega (arith, word-fits _ _ (omega arith) (c .before .before .before .loop .inv .1), c .unlike .ensures .1)
-
-add-j : tie.Need-add-j Inv-loop μ-loop
-add-j c = search needs
-
-loop-less : tie.Need-loop-less Inv-loop μ-loop
-loop-less c = search needs
 
 loop-again : tie.Need-loop-again Inv-loop μ-loop
 loop-again c =
@@ -55,18 +37,5 @@ returns : tie.Need-returns Inv-loop μ-loop
 returns c = let e : c .before .loop .j ≡ 40 = omega arith in rw e at (c .before .loop .inv .1)
 
 pub word-at-spec : {M : Type 1} → statement M
-word-at-spec =
-    tie.close
-    (tie.spec
-    Inv-loop
-    μ-loop
-    loop-holds
-    mul-v
-    add-unlike
-    shared-slice-read-unlike
-    unlike-requires
-    add-v
-    add-j
-    loop-less
-    loop-again
-    returns)
+word-at-spec = tie.close (tie.spec Inv-loop μ-loop loop-holds mul-v (λ c. search needs) (λ c. search needs)
+    (λ c κs. search needs) add-v (λ c. search needs) (λ c. search needs) loop-again returns)

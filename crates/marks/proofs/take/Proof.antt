@@ -8,9 +8,6 @@ use Rattle.greetings.proofs.Bad.{bad-empty}
 use borrow.Author.Needs.{needs}
 use Rattle.marks.proofs.take.Statement.{statement}
 use Rattle.marks.proofs.take.Tie as tie
-use Rattle.marks.proofs.take.Reads as reads
-use Rattle.marks.proofs.take.Lts as lts
-use Rattle.walk.proofs.walk_on.Reads as walk-on-reads
 
 abbrev Inv-loop : tie.InvT-loop
 Inv-loop octets law marks₀ at₀ samples₀ m₀ marks at samples m = Taking law octets marks₀ marks m at samples
@@ -18,13 +15,11 @@ Inv-loop octets law marks₀ at₀ samples₀ m₀ marks at samples m = Taking l
 abbrev μ-loop : tie.MeasureT-loop
 μ-loop octets law marks₀ at₀ samples₀ m₀ marks at samples m = length octets - at
 
--- src/lib.rt:29:9
 returns : tie.Need-returns Inv-loop μ-loop
 returns c =
     let s = c .before .before .before in
     takes-wrong (s .args .law) (s .args .octets .now) _ _ (sym (bad-empty (s .args .law) (s .args .octets .now) (omega arith)))
 
--- src/lib.rt:34:5
 loop-holds : tie.Need-loop-holds Inv-loop μ-loop
 loop-holds c = taking-start _ _ _
 
@@ -35,53 +30,36 @@ keep-requires c κs =
     let heard = taking-heard _ _ t (omega arith) in
     (omega (arith, few), omega arith, omega (arith, heard))
 
--- src/lib.rt:37:13
-walk-on-requires : tie.Need-walk-on-requires Inv-loop μ-loop
-walk-on-requires c κs = search needs
+module _ (c : tie.After-walk-on Inv-loop μ-loop) where
+  abbrev loop-of-walk-on : tie.At-loop Inv-loop μ-loop
+  loop-of-walk-on = c .before .before .before .before .before .before
 
--- src/lib.rt:41:17
-enum-told : tie.Need-enum-told Inv-loop μ-loop
-enum-told c = search needs
-
--- src/lib.rt:41:17
-same-length : tie.Need-same-length Inv-loop μ-loop
-same-length c = search needs
-
--- src/lib.rt:41:17
 returns-2 : tie.Need-returns-2 Inv-loop μ-loop
 returns-2 c =
     let walk-on = c .before .before in
-    let loop = walk-on .before .before .before .before .before .before in
+    let loop = loop-of-walk-on walk-on in
     taken-wrong _ _ (loop .loop .inv) (omega arith) (omega arith) (omega arith) (walk-on .walk-on .ensures) (c .enum-told .given .1) _
 
--- src/lib.rt:44:17
-enum-told-2 : tie.Need-enum-told-2 Inv-loop μ-loop
-enum-told-2 c = search needs
-
--- src/lib.rt:45:17
 add-samples : tie.Need-add-samples Inv-loop μ-loop
 add-samples c =
     let walk-on = c .before .before .before in
-    let loop = walk-on .before .before .before .before .before .before in
+    let loop = loop-of-walk-on walk-on in
     omega (arith, taking-heard _ _ (loop .loop .inv) (omega arith), taking-more _ _ (loop .loop .inv) (walk-on .walk-on .ensures))
 
--- src/lib.rt:46:17
 add-m : tie.Need-add-m Inv-loop μ-loop
 add-m c = omega (
   arith,
-  taking-few _ _ (c .before .before .before .before .before .before .before .before .before .loop .inv)
+  taking-few _ _ ((loop-of-walk-on (c .before .before .before)) .loop .inv)
       (omega arith) (omega arith),
 )
 
--- src/lib.rt:34:5
 loop-less : tie.Need-loop-less Inv-loop μ-loop
 loop-less c =
     let enum-told2 = c .before in
     let walk-on = enum-told2 .before .before in
-    let loop = walk-on .before .before .before .before .before .before in
+    let loop = loop-of-walk-on walk-on in
     omega (arith, taking-on _ _ (loop .loop .inv) (walk-on .walk-on .ensures) (enum-told2 .enum-told2 .given .1) (omega arith))
 
--- src/lib.rt:34:5
 loop-again : tie.Need-loop-again Inv-loop μ-loop
 loop-again c =
     let enum-told2 = c .before in
@@ -91,32 +69,10 @@ loop-again c =
     taking-turn _ _ (loop .loop .inv) (omega arith) (walk-on .walk-on .ensures) (enum-told2 .enum-told2 .given .1) (keep .keep .ensures)
     (keep .keep .kept .0)
 
--- src/lib.rt:24:1
-same-length-2 : tie.Need-same-length-2 Inv-loop μ-loop
-same-length-2 c = search needs
-
--- src/lib.rt:24:1
 returns-3 : tie.Need-returns-3 Inv-loop μ-loop
 returns-3 c =
     taken-all _ _ (c .before .loop .inv) (omega arith) (omega arith) (omega arith) (omega arith)
 
 pub take-spec : {M : Type 1} → statement M
-take-spec =
-    tie.close
-    (tie.spec
-    Inv-loop
-    μ-loop
-    returns
-    loop-holds
-    keep-requires
-    walk-on-requires
-    enum-told
-    same-length
-    returns-2
-    enum-told-2
-    add-samples
-    add-m
-    loop-less
-    loop-again
-    same-length-2
-    returns-3)
+take-spec = tie.close (tie.spec Inv-loop μ-loop returns loop-holds keep-requires (λ c κs. search needs) (λ c. search needs)
+    (λ c. search needs) returns-2 (λ c. search needs) add-samples add-m loop-less loop-again (λ c. search needs) returns-3)

@@ -1,6 +1,6 @@
 use native.Mathlib.Omega.{arith}
 use mathlib.Core.Path.{_≡_, ap, _∙_}
-use Prim.Native.Nat.{_+_, _-_, _*_, _/_, _≤_, min}
+use Prim.Native.Nat.{_-_, _*_, _/_, _≤_, min}
 use mathlib.Core.List.{_++_}
 use lib.ListN.{length, take, drop, length-set}
 use lib.Seq.{paste, paste-zero}
@@ -24,49 +24,27 @@ sized s =
     let e = s .loop .inv .1 in
     rw (s .loop .inv .2) (laid-length (masterOf (a .law) (a .sound .now)) (a .out .now) (2 * s .loop .i) (omega arith) (omega arith))
 
-lesser-requires : tie.Need-lesser-requires Inv-loop μ-loop
-lesser-requires c κs = search needs
-
 loop-holds : tie.Need-loop-holds Inv-loop μ-loop
 loop-holds c =
     let a = c .before .before .before .args in
     (omega arith, c .lesser .ensures, paste-zero (a .out .now) 0 (masterOf (a .law) (a .sound .now)))
 
-shared-slice-read-pair-for : tie.Need-shared-slice-read-pair-for Inv-loop μ-loop
-shared-slice-read-pair-for c = search needs
-
-pair-for-requires : tie.Need-pair-for-requires Inv-loop μ-loop
-pair-for-requires c κs = search needs
-
-mul-at : tie.Need-mul-at Inv-loop μ-loop
-mul-at c = search needs
-
 slice-write-out : tie.Need-slice-write-out Inv-loop μ-loop
 slice-write-out c = omega (arith, sized (c .before .before .before))
-
-add-out : tie.Need-add-out Inv-loop μ-loop
-add-out c = search needs
 
 slice-write-out-2 : tie.Need-slice-write-out-2 Inv-loop μ-loop
 slice-write-out-2 c = simp length-set (omega (arith, sized (c .before .before .before)))
 
-add-i : tie.Need-add-i Inv-loop μ-loop
-add-i c = search needs
-
-loop-less : tie.Need-loop-less Inv-loop μ-loop
-loop-less c = search needs
-
 loop-again : tie.Need-loop-again Inv-loop μ-loop
 loop-again c =
+    let lesser = c .before .before .before .before in
+    let start = lesser .before .before .before in
     let l = c .before .before .before .loop in
-    let a = c .before .before .before .before .before .before .before .args in (
+    let a = start .args in (
       omega arith,
       l .inv .1,
       rw (l .inv .2) (master-turn (a .law) (a .sound .now) (a .out .now) (l .i) (omega arith) (omega arith) (c .pair-for .ensures)),
     )
-
-mul-result : tie.Need-mul-result Inv-loop μ-loop
-mul-result c = search needs
 
 same-length : tie.Need-same-length Inv-loop μ-loop
 same-length c = sized (c .before)
@@ -83,6 +61,6 @@ returns c =
     }
 
 pub master-of-spec : {M : Type 1} → statement M
-master-of-spec =
-    tie.close (tie.spec Inv-loop μ-loop lesser-requires loop-holds shared-slice-read-pair-for pair-for-requires
-    mul-at slice-write-out add-out slice-write-out-2 add-i loop-less loop-again mul-result same-length returns)
+master-of-spec = tie.close (tie.spec Inv-loop μ-loop (λ c κs. search needs) loop-holds (λ c. search needs)
+    (λ c κs. search needs) (λ c. search needs) slice-write-out (λ c. search needs) slice-write-out-2 (λ c. search needs)
+    (λ c. search needs) loop-again (λ c. search needs) same-length returns)

@@ -6,16 +6,10 @@ use borrow.Author.Needs.{needs}
 use Rattle.masters.proofs.pair_for.Statement.{statement}
 use Rattle.masters.proofs.pair_for.Tie as tie
 
-value-for-requires : tie.Need-value-for-requires
-value-for-requires c κs = search needs
-
-pair-of-requires : tie.Need-pair-of-requires
-pair-of-requires c κs = search needs
-
 returns : tie.Need-returns
 returns c =
     let v = c .before .value-for in
     subst (λ z. Splits z (c .pair-of .result)) (toZ-ofZ {w = w16} (record { sfits = v .ok }) ∙ v .ensures) (c .pair-of .ensures)
 
 pub pair-for-spec : {M : Type 1} → statement M
-pair-for-spec = tie.close (tie.spec value-for-requires pair-of-requires returns)
+pair-for-spec = tie.close (tie.spec (λ c κs. search needs) (λ c κs. search needs) returns)

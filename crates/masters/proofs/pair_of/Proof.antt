@@ -18,26 +18,14 @@ sub-n c = rw (under c .turned) (record { sfits = under c .small })
 cast-n : tie.Need-cast-n
 cast-n c = rw (under c .bits) (tt, record { fits = omega (arith, under c .small) })
 
-sub-low : tie.Need-sub-low
-sub-low c = search needs
-
-cast-low : tie.Need-cast-low
-cast-low c = search needs
-
 sub-high : tie.Need-sub-high
 sub-high c = rw (under c .bits) (omega (arith, under c .small))
-
-cast-high : tie.Need-cast-high
-cast-high c = search needs
 
 returns : tie.Need-returns
 returns c = splits-below (under c) (size-below (under c))
 
 cast-n-2 : tie.Need-cast-n-2
 cast-n-2 c = rw (over c .bits) (tt, record { fits = omega (arith, over c .small) })
-
-cast-low-2 : tie.Need-cast-low-2
-cast-low-2 c = search needs
 
 cast-high-2 : tie.Need-cast-high-2
 cast-high-2 c = rw (over c .bits) (record { fits = omega (arith, over c .small) })
@@ -46,4 +34,5 @@ returns-2 : tie.Need-returns-2
 returns-2 c = splits-above (over c) (size-above (over c))
 
 pub pair-of-spec : {M : Type 1} → statement M
-pair-of-spec = tie.close (tie.spec sub-n cast-n sub-low cast-low sub-high cast-high returns cast-n-2 cast-low-2 cast-high-2 returns-2)
+pair-of-spec = tie.close (tie.spec sub-n cast-n (λ c. search needs) (λ c. search needs) sub-high (λ c. search needs) returns
+    cast-n-2 (λ c. search needs) cast-high-2 returns-2)

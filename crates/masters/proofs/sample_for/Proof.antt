@@ -8,23 +8,13 @@ use borrow.Author.Needs.{needs}
 use Rattle.masters.proofs.sample_for.Statement.{statement}
 use Rattle.masters.proofs.sample_for.Tie as tie
 
-value-of-requires : tie.Need-value-of-requires
-value-of-requires c κs = search needs
-
-scaled-requires : tie.Need-scaled-requires
-scaled-requires c κs = search needs
-
-octet-of-requires : tie.Need-octet-of-requires
-octet-of-requires c κs = search needs
-
 returns : tie.Need-returns
 returns c =
     let law = c .before .before .before .args .law in
     let v = c .before .before .value-of in
     let x = c .before .scaled in
-    c .octet-of .ensures
-    ∙ ap (fromPCM law) (toZ-ofZ {w = w16} (record { sfits = x .ok }) ∙ x .ensures
+    c .octet-of .ensures ∙ ap (fromPCM law) (toZ-ofZ {w = w16} (record { sfits = x .ok }) ∙ x .ensures
     ∙ ap (λ z. shrZ z (unitOf law)) (toZ-ofZ {w = w16} (record { sfits = v .ok }) ∙ v .ensures))
 
 pub sample-for-spec : {M : Type 1} → statement M
-sample-for-spec = tie.close (tie.spec value-of-requires scaled-requires octet-of-requires returns)
+sample-for-spec = tie.close (tie.spec (λ c κs. search needs) (λ c κs. search needs) (λ c κs. search needs) returns)

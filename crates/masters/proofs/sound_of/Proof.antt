@@ -1,6 +1,6 @@
 use native.Mathlib.Omega.{arith}
 use mathlib.Core.Path.{_≡_, ap, _∙_}
-use Prim.Native.Nat.{_+_, _-_, _/_, _≤_, min}
+use Prim.Native.Nat.{_-_, _/_, _≤_, min}
 use mathlib.Core.List.{_++_}
 use lib.ListN.{length, take, drop}
 use lib.Seq.{paste, paste-zero}
@@ -24,42 +24,20 @@ sized s =
     let e = s .loop .inv .1 in
     rw (s .loop .inv .2) (laid-length (soundOf (a .law) (a .master .now)) (a .out .now) (s .loop .i) (omega arith) (omega arith))
 
-lesser-requires : tie.Need-lesser-requires Inv-loop μ-loop
-lesser-requires c κs = search needs
-
 loop-holds : tie.Need-loop-holds Inv-loop μ-loop
 loop-holds c =
     let a = c .before .before .before .args in
     (omega arith, c .lesser .ensures, paste-zero (a .out .now) 0 (soundOf (a .law) (a .master .now)))
 
-mul-at : tie.Need-mul-at Inv-loop μ-loop
-mul-at c = search needs
-
-shared-slice-read-sample-for : tie.Need-shared-slice-read-sample-for Inv-loop μ-loop
-shared-slice-read-sample-for c = search needs
-
-add-sample-for : tie.Need-add-sample-for Inv-loop μ-loop
-add-sample-for c = search needs
-
-shared-slice-read-sample-for-2 : tie.Need-shared-slice-read-sample-for-2 Inv-loop μ-loop
-shared-slice-read-sample-for-2 c = search needs
-
-sample-for-requires : tie.Need-sample-for-requires Inv-loop μ-loop
-sample-for-requires c κs = search needs
-
 slice-write-out : tie.Need-slice-write-out Inv-loop μ-loop
 slice-write-out c = omega (arith, sized (c .before .before .before .before))
 
-add-i : tie.Need-add-i Inv-loop μ-loop
-add-i c = search needs
-
-loop-less : tie.Need-loop-less Inv-loop μ-loop
-loop-less c = search needs
-
 loop-again : tie.Need-loop-again Inv-loop μ-loop
 loop-again c =
+    let lesser = c .before .before .before .before .before in
+    let start = lesser .before .before .before in
     let l = c .before .before .before .before .loop in
-    let a = c .before .before .before .before .before .before .before .before .args in (
+    let a = start .args in (
       omega arith,
       l .inv .1,
       rw (l .inv .2) (sound-turn (a .law) (a .master .now) (a .out .now) (l .i) _ (omega arith) (omega arith) (c .sample-for .ensures)),
@@ -77,6 +55,6 @@ returns c =
     record { count = l .inv .1; lent = l .inv .2 ∙ laid s (a .out .now) (l .i) ∙ ap (λ k. take k s ++ drop k (a .out .now)) e }
 
 pub sound-of-spec : {M : Type 1} → statement M
-sound-of-spec =
-    tie.close (tie.spec Inv-loop μ-loop lesser-requires loop-holds mul-at shared-slice-read-sample-for add-sample-for
-    shared-slice-read-sample-for-2 sample-for-requires slice-write-out add-i loop-less loop-again same-length returns)
+sound-of-spec = tie.close (tie.spec Inv-loop μ-loop (λ c κs. search needs) loop-holds (λ c. search needs) (λ c. search needs)
+    (λ c. search needs) (λ c. search needs) (λ c κs. search needs) slice-write-out (λ c. search needs) (λ c. search needs)
+    loop-again same-length returns)

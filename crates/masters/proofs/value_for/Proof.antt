@@ -4,9 +4,6 @@ use borrow.Author.Needs.{needs}
 use Rattle.masters.proofs.value_for.Statement.{statement}
 use Rattle.masters.proofs.value_for.Tie as tie
 
-linear-of-requires : tie.Need-linear-of-requires
-linear-of-requires c κs = search needs
-
 mul-result : tie.Need-mul-result
 mul-result c =
     let a = c .before .before .args in
@@ -32,4 +29,4 @@ returns-2 c =
     (unit-mu (a .law) (c .if1 .left)) (omega arith) .is
 
 pub value-for-spec : {M : Type 1} → statement M
-value-for-spec = tie.close (tie.spec linear-of-requires mul-result returns mul-result-2 returns-2)
+value-for-spec = tie.close (tie.spec (λ c κs. search needs) mul-result returns mul-result-2 returns-2)

@@ -9,32 +9,8 @@ use borrow.Author.Needs.{needs}
 use Rattle.masters.proofs.value_of.Statement.{statement}
 use Rattle.masters.proofs.value_of.Tie as tie
 
-mul-result : tie.Need-mul-result
-mul-result c = search needs
-
-add-result : tie.Need-add-result
-add-result c = search needs
-
-cast-result : tie.Need-cast-result
-cast-result c = search needs
-
 returns : tie.Need-returns
 returns c = toZ-pos w16 (omega arith) ∙ value-above (c .before .args .low) (c .before .args .high) (omega arith)
-
-sub-n : tie.Need-sub-n
-sub-n c = search needs
-
-sub-n-2 : tie.Need-sub-n-2
-sub-n-2 c = search needs
-
-mul-n : tie.Need-mul-n
-mul-n c = search needs
-
-add-n : tie.Need-add-n
-add-n c = search needs
-
-cast-n : tie.Need-cast-n
-cast-n c = search needs
 
 sub-result : tie.Need-sub-result
 sub-result c =
@@ -47,4 +23,5 @@ returns-2 c =
     turned w16 (255 - a .low + 256 * (255 - a .high)) (omega arith) .is ∙ value-below (a .low) (a .high) (omega arith)
 
 pub value-of-spec : {M : Type 1} → statement M
-value-of-spec = tie.close (tie.spec mul-result add-result cast-result returns sub-n sub-n-2 mul-n add-n cast-n sub-result returns-2)
+value-of-spec = tie.close (tie.spec (λ c. search needs) (λ c. search needs) (λ c. search needs) returns (λ c. search needs)
+    (λ c. search needs) (λ c. search needs) (λ c. search needs) (λ c. search needs) sub-result returns-2)

@@ -2,8 +2,6 @@ use mathlib.Core.Path.{refl}
 use borrow.Author.Tests.{lt-ltb, le-ltb}
 use Rattle.measure.proofs.lesser.Statement.{statement}
 use Rattle.measure.proofs.lesser.Tie as tie
-use Rattle.measure.proofs.lesser.Reads as reads
-use Rattle.measure.proofs.lesser.Lts as lts
 
 returns : tie.Need-returns
 returns c = simp (lt-ltb _ _ (c .if1 .taken)) (refl, refl)

@@ -3,11 +3,8 @@ use borrow.Author.Needs.{needs}
 use Rattle.measure.proofs.octets_for.Statement.{statement}
 use Rattle.measure.proofs.octets_for.Tie as tie
 
-add-result : tie.Need-add-result
-add-result c = search needs
-
 returns : tie.Need-returns
 returns c = refl
 
 pub octets-for-spec : {M : Type 1} → statement M
-octets-for-spec = tie.close (tie.spec add-result returns)
+octets-for-spec = tie.close (tie.spec (λ c. search needs) returns)

@@ -8,9 +8,6 @@ use Rattle.rules.specs.Runs.{riceForms}
 use Rattle.measure.proofs.Weighing.{bits-none, bits-turn}
 use Rattle.measure.proofs.run_bits.Statement.{statement}
 use Rattle.measure.proofs.run_bits.Tie as tie
-use Rattle.measure.proofs.run_bits.Reads as reads
-use Rattle.measure.proofs.run_bits.Lts as lts
-use Rattle.measure.proofs.zeros_of.Reads as zeros-of-reads
 
 abbrev Inv-loop : tie.InvT-loop
 Inv-loop runs count s zeros₀ j₀ zeros j = (j ≤ count) × ((zeros + j * (1 + s) ≡ length (riceForms s (take j runs))) × (zeros ≤ 65536 * j))
@@ -20,24 +17,6 @@ abbrev μ-loop : tie.MeasureT-loop
 
 loop-holds : tie.Need-loop-holds Inv-loop μ-loop
 loop-holds c = (omega arith, (bits-none (c .args .s) (c .args .runs .now), omega arith))
-
-mul-zeros-of : tie.Need-mul-zeros-of Inv-loop μ-loop
-mul-zeros-of c = search needs
-
-element-copy-out-zeros-of : tie.Need-element-copy-out-zeros-of Inv-loop μ-loop
-element-copy-out-zeros-of c = search needs
-
-zeros-of-requires : tie.Need-zeros-of-requires Inv-loop μ-loop
-zeros-of-requires c κs = search needs
-
-add-zeros : tie.Need-add-zeros Inv-loop μ-loop
-add-zeros c = search needs
-
-add-j : tie.Need-add-j Inv-loop μ-loop
-add-j c = search needs
-
-loop-less : tie.Need-loop-less Inv-loop μ-loop
-loop-less c = search needs
 
 loop-again : tie.Need-loop-again Inv-loop μ-loop
 loop-again c =
@@ -50,12 +29,6 @@ loop-again c =
         omega (arith, c .zeros-of .ensures .1),
       ),
     )
-
-cast-result : tie.Need-cast-result Inv-loop μ-loop
-cast-result c = search needs
-
-add-result : tie.Need-add-result Inv-loop μ-loop
-add-result c = search needs
 
 mul-result : tie.Need-mul-result Inv-loop μ-loop
 mul-result c =
@@ -77,21 +50,6 @@ returns c =
     (rw e at (c .before .loop .inv .1 .0), omega arith)
 
 pub run-bits-spec : {M : Type 1} → statement M
-run-bits-spec =
-    tie.close
-    (tie.spec
-    Inv-loop
-    μ-loop
-    loop-holds
-    mul-zeros-of
-    element-copy-out-zeros-of
-    zeros-of-requires
-    add-zeros
-    add-j
-    loop-less
-    loop-again
-    cast-result
-    add-result
-    mul-result
-    add-result-2
-    returns)
+run-bits-spec = tie.close (tie.spec Inv-loop μ-loop loop-holds (λ c. search needs) (λ c. search needs) (λ c κs. search needs)
+    (λ c. search needs) (λ c. search needs) (λ c. search needs) loop-again (λ c. search needs) (λ c. search needs) mul-result
+    add-result-2 returns)

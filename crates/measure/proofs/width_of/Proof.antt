@@ -7,8 +7,6 @@ use Rattle.measure.proofs.Rice.{one-shifted}
 use Rattle.measure.proofs.Weighing.{width-small, width-turn, width-done}
 use Rattle.measure.proofs.width_of.Statement.{statement}
 use Rattle.measure.proofs.width_of.Tie as tie
-use Rattle.measure.proofs.width_of.Reads as reads
-use Rattle.measure.proofs.width_of.Lts as lts
 
 abbrev Inv-loop : tie.InvT-loop
 Inv-loop d w₀ w = (widthFrom w (d - w) d ≡ widthOf d) × (w ≤ 9)
@@ -42,5 +40,4 @@ returns c =
     (width-done _ _ e (c .before .loop .inv .0), (omega arith, e))
 
 pub width-of-spec : {M : Type 1} → statement M
-width-of-spec =
-    tie.close (tie.spec Inv-loop μ-loop loop-holds shl-loop add-w loop-less loop-again returns)
+width-of-spec = tie.close (tie.spec Inv-loop μ-loop loop-holds shl-loop add-w loop-less loop-again returns)

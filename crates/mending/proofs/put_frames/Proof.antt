@@ -15,23 +15,14 @@ abbrev μ-loop : tie.MeasureT-loop
 loop-holds : tie.Need-loop-holds Inv-loop μ-loop
 loop-holds c = fill-start (c .args .out .now) (c .args .at) (c .args .count) (c .args .octet)
 
-add-out : tie.Need-add-out Inv-loop μ-loop
-add-out c = search needs
-
 slice-write-out : tie.Need-slice-write-out Inv-loop μ-loop
 slice-write-out c = omega (arith, fill-length (c .before .before .pre) (c .before .loop .inv))
-
-add-i : tie.Need-add-i Inv-loop μ-loop
-add-i c = search needs
 
 loop-less : tie.Need-loop-less Inv-loop μ-loop
 loop-less c = omega arith
 
 loop-again : tie.Need-loop-again Inv-loop μ-loop
 loop-again c = fill-turn (c .before .before .pre) (c .before .loop .inv) (omega arith)
-
-add-result : tie.Need-add-result Inv-loop μ-loop
-add-result c = search needs
 
 same-length : tie.Need-same-length Inv-loop μ-loop
 same-length c = fill-length (c .before .before .pre) (c .before .loop .inv)
@@ -40,17 +31,5 @@ returns : tie.Need-returns Inv-loop μ-loop
 returns c = put-done (c .before .before .pre) (c .before .loop .inv) (omega arith)
 
 pub put-frames-spec : {M : Type 1} → statement M
-put-frames-spec =
-    tie.close
-    (tie.spec
-    Inv-loop
-    μ-loop
-    loop-holds
-    add-out
-    slice-write-out
-    add-i
-    loop-less
-    loop-again
-    add-result
-    same-length
-    returns)
+put-frames-spec = tie.close (tie.spec Inv-loop μ-loop loop-holds (λ c. search needs) slice-write-out (λ c. search needs)
+    loop-less loop-again (λ c. search needs) same-length returns)

@@ -14,56 +14,20 @@ use Rattle.notes.proofs.Stored.{part-made, part-length, heads-less, hel
 use borrow.Author.Needs.{needs}
 use Rattle.notes.proofs.drop_note.Statement.{statement}
 use Rattle.notes.proofs.drop_note.Tie as tie
-use Rattle.notes.proofs.drop_note.Reads as reads
-use Rattle.notes.proofs.drop_note.Lts as lts
-use Rattle.notes.proofs.head_at.Reads as head-at-reads
-use Rattle.notes.proofs.marks_before.Reads as marks-before-reads
-use Rattle.notes.proofs.shut_over.Reads as shut-over-reads
-use Rattle.placing.proofs.remove.Reads as remove-reads
 
-marks-before-requires : tie.Need-marks-before-requires
-marks-before-requires c κs = search needs
-
-mul-at : tie.Need-mul-at
-mul-at c = search needs
-
-marks-before-requires-2 : tie.Need-marks-before-requires-2
-marks-before-requires-2 c κs = search needs
-
-mul-used : tie.Need-mul-used
-mul-used c = search needs
-
-head-at-requires : tie.Need-head-at-requires
-head-at-requires c κs = search needs
-
-mul-by : tie.Need-mul-by
-mul-by c = search needs
-
-sub-remove : tie.Need-sub-remove
-sub-remove c = search needs
-
-part-remove-start : tie.Need-part-remove-start
-part-remove-start c = search needs
-
-part-remove-end : tie.Need-part-remove-end
-part-remove-end c = search needs
+module _ (c : tie.After-remove-arg) where
+  abbrev start : tie.Start
+  start = c .before .before .before .before .before .before .before .before .before
 
 remove-requires : tie.Need-remove-requires
 remove-requires c κs =
-    let s = c .before .before .before .before .before .before .before .before .before in
+    let marks-before2 = c .before .before .before .before in
+    let start = marks-before2 .before .before .before .before .before in
+    let s = start in
     let t = s .args .table .now in
     let e = from-on t 97 in
     let first : getD (take (length t - 97) (drop 97 t)) 0 0 ≡ getD t 97 0 = ap (λ (x : List ℕ). getD x 0 0) e ∙ getD-drop 97 t 0 0 in
     (omega (arith, first), omega arith, omega arith, rw e (omega (arith, length-drop 97 t)))
-
-sub-shut-over : tie.Need-sub-shut-over
-sub-shut-over c = search needs
-
-part-shut-over-start : tie.Need-part-shut-over-start
-part-shut-over-start c = search needs
-
-part-shut-over-end : tie.Need-part-shut-over-end
-part-shut-over-end c = search needs
 
 shut-over-requires : tie.Need-shut-over-requires
 shut-over-requires c κs =
@@ -82,9 +46,6 @@ shut-over-requires c κs =
       omega (arith, marks-next t (s .n) (s .i) (omega arith) (omega arith) (omega arith), first, all, mine),
       omega (arith, size, all, held-all t (s .n) (s .i) (omega arith) (omega arith) (omega arith)),
     )
-
-same-length : tie.Need-same-length
-same-length c = search needs
 
 returns : tie.Need-returns
 returns c =
@@ -108,22 +69,6 @@ returns c =
     (part-made 194 (λ (u : List ℕ). shut u front all by) once (shut-over .shut-over .ensures) refl)
 
 pub drop-note-spec : {M : Type 1} → statement M
-drop-note-spec =
-    tie.close
-    (tie.spec
-    marks-before-requires
-    mul-at
-    marks-before-requires-2
-    mul-used
-    head-at-requires
-    mul-by
-    sub-remove
-    part-remove-start
-    part-remove-end
-    remove-requires
-    sub-shut-over
-    part-shut-over-start
-    part-shut-over-end
-    shut-over-requires
-    same-length
-    returns)
+drop-note-spec = tie.close (tie.spec (λ c κs. search needs) (λ c. search needs) (λ c κs. search needs) (λ c. search needs)
+    (λ c κs. search needs) (λ c. search needs) (λ c. search needs) (λ c. search needs) (λ c. search needs) remove-requires
+    (λ c. search needs) (λ c. search needs) (λ c. search needs) shut-over-requires (λ c. search needs) returns)

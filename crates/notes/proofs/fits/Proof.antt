@@ -1,5 +1,7 @@
-use Prim.Native.Nat.{_-_, _≤_}
+-- Row by row, beside the notes' heads (Matched).
+use Prim.Native.Nat.{ℕ, _-_, _≤_}
 use mathlib.Core.Path.{_≡_, sym, ap₂, _∙_}
+use mathlib.Core.List.{List}
 use native.Mathlib.Omega.{arith}
 use lib.ListN.{drop}
 use Rattle.rows.specs.Cells.{rowsAt}
@@ -9,10 +11,6 @@ use Rattle.notes.proofs.Matched.{matched-end, matched-law, matched-many
 use borrow.Author.Needs.{needs}
 use Rattle.notes.proofs.fits.Statement.{statement}
 use Rattle.notes.proofs.fits.Tie as tie
-use Rattle.notes.proofs.fits.Reads as reads
-use Rattle.notes.proofs.fits.Lts as lts
-use Rattle.notes.proofs.head_at.Reads as head-at-reads
-use Rattle.rows.proofs.row_at.Reads as row-at-reads
 
 abbrev Inv-loop : tie.InvT-loop
 Inv-loop table n i₀ i =
@@ -26,62 +24,36 @@ loop-holds c =
     let s = c .before .args in
     (ap₂ matched (left-all (s .table .now) (s .n)) (left-all (drop 97 (s .table .now)) (s .n)), omega arith)
 
-mul-row-at : tie.Need-mul-row-at Inv-loop μ-loop
-mul-row-at c = search needs
+-- a row, and the head of its note
+module _ (c : tie.After-head-at Inv-loop μ-loop) where
+  abbrev l : tie.At-loop Inv-loop μ-loop
+  l = c .before .before .before
 
-add-row-at : tie.Need-add-row-at Inv-loop μ-loop
-add-row-at c = search needs
+  abbrev t : List ℕ
+  t = l .before .before .args .table .now
 
-row-at-requires : tie.Need-row-at-requires Inv-loop μ-loop
-row-at-requires c κs = search needs
-
-head-at-requires : tie.Need-head-at-requires Inv-loop μ-loop
-head-at-requires c κs = search needs
+  abbrev n : ℕ
+  n = l .before .before .args .n
 
 returns : tie.Need-returns Inv-loop μ-loop
 returns c =
-    let head-at = c .before .before in
-    let row-at = head-at .before in
-    let loop = row-at .before .before in
-    let s = loop .before .before .args in
-    let w = loop .loop in
-    matched-law (s .table .now) (drop 97 (s .table .now)) (s .n) (w .i) (row-at .row-at .ensures .0) (head-at .head-at .ensures .0)
-    (omega arith)
-    (omega arith)
-    ∙ sym (w .inv .0)
-
-add-if2 : tie.Need-add-if2 Inv-loop μ-loop
-add-if2 c = search needs
+    let h = c .before .before in
+    matched-law (t h) (drop 97 (t h)) (n h) (l h .loop .i) (h .before .row-at .ensures .0) (h .head-at .ensures .0)
+    (omega arith) (omega arith)
+    ∙ sym (l h .loop .inv .0)
 
 returns-2 : tie.Need-returns-2 Inv-loop μ-loop
 returns-2 c =
-    let head-at = c .before .before .before .before .before in
-    let row-at = head-at .before in
-    let loop = row-at .before .before in
-    let s = loop .before .before .args in
-    let w = loop .loop in
-    matched-many (s .table .now) (drop 97 (s .table .now)) (s .n) (w .i) (row-at .row-at .ensures .0) (head-at .head-at .ensures .0)
-    (omega arith)
-    (omega arith)
-    (omega arith) ∙ sym (w .inv .0)
-
-add-i : tie.Need-add-i Inv-loop μ-loop
-add-i c = search needs
-
-loop-less : tie.Need-loop-less Inv-loop μ-loop
-loop-less c = search needs
+    let h = c .before .before .before .before .before in
+    matched-many (t h) (drop 97 (t h)) (n h) (l h .loop .i) (h .before .row-at .ensures .0) (h .head-at .ensures .0)
+    (omega arith) (omega arith)
+    (omega arith) ∙ sym (l h .loop .inv .0)
 
 loop-again : tie.Need-loop-again Inv-loop μ-loop
 loop-again c =
-    let head-at = c .before .before .before .before .before in
-    let row-at = head-at .before in
-    let loop = row-at .before .before in
-    let s = loop .before .before .args in
-    let w = loop .loop in (
-      w .inv .0 ∙ matched-turn (s .table .now) (drop 97 (s .table .now)) (s .n) (w .i) (row-at .row-at .ensures .0)
-          (head-at .head-at .ensures .0)
-          (omega arith)
-          (omega arith) (omega arith),
+    let h = c .before .before .before .before .before in (
+      l h .loop .inv .0 ∙ matched-turn (t h) (drop 97 (t h)) (n h) (l h .loop .i) (h .before .row-at .ensures .0) (h .head-at .ensures .0)
+          (omega arith) (omega arith) (omega arith),
       omega arith,
     )
 
@@ -92,20 +64,5 @@ returns-3 c =
     matched-end (s .table .now) (drop 97 (s .table .now)) (s .n) (w .i) (omega arith) ∙ sym (w .inv .0)
 
 pub fits-spec : {M : Type 1} → statement M
-fits-spec =
-    tie.close
-    (tie.spec
-    Inv-loop
-    μ-loop
-    loop-holds
-    mul-row-at
-    add-row-at
-    row-at-requires
-    head-at-requires
-    returns
-    add-if2
-    returns-2
-    add-i
-    loop-less
-    loop-again
-    returns-3)
+fits-spec = tie.close (tie.spec Inv-loop μ-loop loop-holds (λ c. search needs) (λ c. search needs) (λ c κs. search needs)
+    (λ c κs. search needs) returns (λ c. search needs) returns-2 (λ c. search needs) (λ c. search needs) loop-again returns-3)

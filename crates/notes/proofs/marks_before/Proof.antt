@@ -8,9 +8,6 @@ use Rattle.rows.proofs.Finding.{held-turn}
 use borrow.Author.Needs.{needs}
 use Rattle.notes.proofs.marks_before.Statement.{statement}
 use Rattle.notes.proofs.marks_before.Tie as tie
-use Rattle.notes.proofs.marks_before.Reads as reads
-use Rattle.notes.proofs.marks_before.Lts as lts
-use Rattle.notes.proofs.head_at.Reads as head-at-reads
 
 abbrev Inv-loop : tie.InvT-loop
 Inv-loop table i sum₀ j₀ sum j = (sum ≡ held (rowsAt (drop 97 table) j 1)) × (j ≤ i) × (sum ≤ j * 2 ^ 32)
@@ -21,18 +18,6 @@ abbrev μ-loop : tie.MeasureT-loop
 loop-holds : tie.Need-loop-holds Inv-loop μ-loop
 unfolding rowsAt held
 loop-holds c = (refl, omega arith, omega arith)
-
-head-at-requires : tie.Need-head-at-requires Inv-loop μ-loop
-head-at-requires c κs = search needs
-
-add-sum : tie.Need-add-sum Inv-loop μ-loop
-add-sum c = search needs
-
-add-j : tie.Need-add-j Inv-loop μ-loop
-add-j c = search needs
-
-loop-less : tie.Need-loop-less Inv-loop μ-loop
-loop-less c = search needs
 
 loop-again : tie.Need-loop-again Inv-loop μ-loop
 loop-again c =
@@ -49,15 +34,5 @@ returns c =
     (w .inv .0 ∙ ap (λ (x : ℕ). held (rowsAt (drop 97 (s .table .now)) x 1)) e, omega (arith, w .inv .2))
 
 pub marks-before-spec : {M : Type 1} → statement M
-marks-before-spec =
-    tie.close
-    (tie.spec
-    Inv-loop
-    μ-loop
-    loop-holds
-    head-at-requires
-    add-sum
-    add-j
-    loop-less
-    loop-again
-    returns)
+marks-before-spec = tie.close (tie.spec Inv-loop μ-loop loop-holds (λ c κs. search needs) (λ c. search needs)
+    (λ c. search needs) (λ c. search needs) loop-again returns)

@@ -15,56 +15,24 @@ use Rattle.notes.proofs.Stored.{part-made, part-length, heads-more, hel
 use borrow.Author.Needs.{needs}
 use Rattle.notes.proofs.put_note.Statement.{statement}
 use Rattle.notes.proofs.put_note.Tie as tie
-use Rattle.notes.proofs.put_note.Reads as reads
-use Rattle.notes.proofs.put_note.Lts as lts
-use Rattle.notes.proofs.marks_before.Reads as marks-before-reads
-use Rattle.notes.proofs.open_up.Reads as open-up-reads
-use Rattle.placing.proofs.insert.Reads as insert-reads
 
-marks-before-requires : tie.Need-marks-before-requires
-marks-before-requires c κs = search needs
-
-mul-at : tie.Need-mul-at
-mul-at c = search needs
-
-marks-before-requires-2 : tie.Need-marks-before-requires-2
-marks-before-requires-2 c κs = search needs
-
-mul-used : tie.Need-mul-used
-mul-used c = search needs
-
-mul-end : tie.Need-mul-end
-mul-end c = search needs
-
-sub-insert : tie.Need-sub-insert
-sub-insert c = search needs
-
-part-insert-start : tie.Need-part-insert-start
-part-insert-start c = search needs
-
-part-insert-end : tie.Need-part-insert-end
-part-insert-end c = search needs
+module _ (c : tie.After-open-up-arg2) where
+  abbrev start-of-open-up-arg2 : tie.Start
+  start-of-open-up-arg2 = c .before .before .before .before .before .before .before .before .before .before .before .before
 
 insert-requires : tie.Need-insert-requires
 insert-requires c κs =
-    let s = c .before .before .before .before .before .before .before in
+    let marks-before = c .before .before .before in
+    let start = marks-before .before .before .before .before in
+    let s = start in
     let t = s .args .table .now in
     let e = from-on t 97 in
     let first : getD (take (length t - 97) (drop 97 t)) 0 0 ≡ getD t 97 0 = ap (λ (x : List ℕ). getD x 0 0) e ∙ getD-drop 97 t 0 0 in
     ((omega (arith, first), omega arith, omega arith, rw e (omega (arith, length-drop 97 t))), (omega arith, omega arith, omega arith))
 
-sub-open-up : tie.Need-sub-open-up
-sub-open-up c = search needs
-
-part-open-up-start : tie.Need-part-open-up-start
-part-open-up-start c = search needs
-
-part-open-up-end : tie.Need-part-open-up-end
-part-open-up-end c = search needs
-
 slice-aggregate-open-up : tie.Need-slice-aggregate-open-up
 slice-aggregate-open-up c =
-    let s = c .before .before .before .before .before .before .before .before .before .before .before .before .args in
+    let s = (start-of-open-up-arg2 c) .args in
     sym (length-take-le (2 * s .m) (s .marks .now) (omega arith))
 
 open-up-requires : tie.Need-open-up-requires
@@ -91,9 +59,6 @@ open-up-requires c κs =
       ),
     )
 
-same-length : tie.Need-same-length
-same-length c = search needs
-
 returns : tie.Need-returns
 returns c =
     let open-up = c .before .before in
@@ -117,22 +82,6 @@ returns c =
     (part-made 194 (λ (u : List ℕ). opened u front all new) once (open-up .open-up .ensures) refl)
 
 pub put-note-spec : {M : Type 1} → statement M
-put-note-spec =
-    tie.close
-    (tie.spec
-    marks-before-requires
-    mul-at
-    marks-before-requires-2
-    mul-used
-    mul-end
-    sub-insert
-    part-insert-start
-    part-insert-end
-    insert-requires
-    sub-open-up
-    part-open-up-start
-    part-open-up-end
-    slice-aggregate-open-up
-    open-up-requires
-    same-length
-    returns)
+put-note-spec = tie.close (tie.spec (λ c κs. search needs) (λ c. search needs) (λ c κs. search needs) (λ c. search needs)
+    (λ c. search needs) (λ c. search needs) (λ c. search needs) (λ c. search needs) insert-requires (λ c. search needs)
+    (λ c. search needs) (λ c. search needs) slice-aggregate-open-up open-up-requires (λ c. search needs) returns)

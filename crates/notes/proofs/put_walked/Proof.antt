@@ -16,49 +16,16 @@ use Rattle.notes.proofs.Taken.{heard-small, heard-few, heard-head}
 use borrow.Author.Needs.{needs}
 use Rattle.notes.proofs.put_walked.Statement.{statement}
 use Rattle.notes.proofs.put_walked.Tie as tie
-use Rattle.notes.proofs.put_walked.Reads as reads
-use Rattle.notes.proofs.put_walked.Lts as lts
-use Rattle.notes.proofs.marks_before.Reads as marks-before-reads
-use Rattle.notes.proofs.open_walked.Reads as open-walked-reads
-use Rattle.placing.proofs.insert.Reads as insert-reads
-use Rattle.rows.proofs.wide.Reads as wide-reads
 
--- src/lib.rt:170:18
-marks-before-requires : tie.Need-marks-before-requires
-marks-before-requires c κs = search needs
+module _ (c : tie.After-wide) where
+  abbrev start : tie.Start
+  start = c .before .before .before .before .before .before .before .before
 
--- src/lib.rt:170:14
-mul-at : tie.Need-mul-at
-mul-at c = search needs
-
--- src/lib.rt:171:20
-marks-before-requires-2 : tie.Need-marks-before-requires-2
-marks-before-requires-2 c κs = search needs
-
--- src/lib.rt:171:16
-mul-used : tie.Need-mul-used
-mul-used c = search needs
-
--- src/lib.rt:173:9
-sub-insert : tie.Need-sub-insert
-sub-insert c = search needs
-
--- src/lib.rt:173:9
-part-insert-start : tie.Need-part-insert-start
-part-insert-start c = search needs
-
--- src/lib.rt:173:9
-part-insert-end : tie.Need-part-insert-end
-part-insert-end c = search needs
-
--- src/lib.rt:177:21
-wide-requires : tie.Need-wide-requires
-wide-requires c κs = search needs
-
--- src/lib.rt:172:5
 insert-requires : tie.Need-insert-requires
 insert-requires c κs =
-    let s = c .before .before .before .before .before .before .before .before in
+    let marks-before = c .before .before .before .before in
+    let start = marks-before .before .before .before .before in
+    let s = start in
     let t = s .args .table .now in
     let e = from-on t 97 in
     let first : getD (take (length t - 97) (drop 97 t)) 0 0 ≡ getD t 97 0 = ap (λ (x : List ℕ). getD x 0 0) e ∙ getD-drop 97 t 0 0 in
@@ -67,19 +34,6 @@ insert-requires c κs =
       (omega (arith, c .wide .ensures), omega (arith, heard-small h), omega (arith, heard-few h, h .short)),
     )
 
--- src/lib.rt:182:17
-sub-open-walked : tie.Need-sub-open-walked
-sub-open-walked c = search needs
-
--- src/lib.rt:182:17
-part-open-walked-start : tie.Need-part-open-walked-start
-part-open-walked-start c = search needs
-
--- src/lib.rt:182:17
-part-open-walked-end : tie.Need-part-open-walked-end
-part-open-walked-end c = search needs
-
--- src/lib.rt:182:5
 open-walked-requires : tie.Need-open-walked-requires
 open-walked-requires c κs =
     let insert = c .before .before .before in
@@ -100,11 +54,6 @@ open-walked-requires c κs =
       q .pre .0 .3,
     )
 
--- src/lib.rt:165:1
-same-length : tie.Need-same-length
-same-length c = search needs
-
--- src/lib.rt:165:1
 returns : tie.Need-returns
 returns c =
     let open-walked = c .before .before in
@@ -128,21 +77,6 @@ returns c =
     (part-made 194 (λ (u : List ℕ). opened u front all new) once (open-walked .open-walked .ensures) refl)
 
 pub put-walked-spec : {M : Type 1} → statement M
-put-walked-spec =
-    tie.close
-    (tie.spec
-    marks-before-requires
-    mul-at
-    marks-before-requires-2
-    mul-used
-    sub-insert
-    part-insert-start
-    part-insert-end
-    wide-requires
-    insert-requires
-    sub-open-walked
-    part-open-walked-start
-    part-open-walked-end
-    open-walked-requires
-    same-length
-    returns)
+put-walked-spec = tie.close (tie.spec (λ c κs. search needs) (λ c. search needs) (λ c κs. search needs) (λ c. search needs)
+    (λ c. search needs) (λ c. search needs) (λ c. search needs) (λ c κs. search needs) insert-requires (λ c. search needs)
+    (λ c. search needs) (λ c. search needs) open-walked-requires (λ c. search needs) returns)

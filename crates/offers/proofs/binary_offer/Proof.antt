@@ -10,10 +10,6 @@ use lib.Seq.{length-take-le}
 use native.Mathlib.Omega.{arith}
 use Rattle.offers.proofs.binary_offer.Statement.{statement}
 use Rattle.offers.proofs.binary_offer.Tie as tie
-use Rattle.offers.proofs.binary_offer.Reads as reads
-use Rattle.offers.proofs.binary_offer.Lts as lts
-use Rattle.offers.proofs.offer_if.Reads as offer-if-reads
-use Rattle.offers.proofs.zeros_in.Reads as zeros-in-reads
 
 -- the frame
 abbrev frame : tie.Start → List ℕ
@@ -21,18 +17,6 @@ frame s = take (s .args .n) (s .args .samples .now)
 
 size : (s : tie.Start) → length (frame s) ≡ s .args .n
 size s = length-take-le (s .args .n) (s .args .samples .now) (s .pre .0 .long)
-
-zeros-in-requires : tie.Need-zeros-in-requires
-zeros-in-requires c κs = search needs
-
-add-offer-if : tie.Need-add-offer-if
-add-offer-if c = search needs
-
-add-offer-if-2 : tie.Need-add-offer-if-2
-add-offer-if-2 c = search needs
-
-offer-if-requires : tie.Need-offer-if-requires
-offer-if-requires c κs = search needs
 
 returns : tie.Need-returns
 returns c =
@@ -43,5 +27,5 @@ returns c =
     offer-one m 5 (frame s) (omega arith) on (binary-bits m (frame s) (size s)) (omega (arith, s .pre .0 .few)) (c .offer-if .ensures)
 
 pub binary-offer-spec : {M : Type 1} → statement M
-binary-offer-spec =
-    tie.close (tie.spec zeros-in-requires add-offer-if add-offer-if-2 offer-if-requires returns)
+binary-offer-spec = tie.close (tie.spec (λ c κs. search needs) (λ c. search needs) (λ c. search needs) (λ c κs. search needs)
+    returns)

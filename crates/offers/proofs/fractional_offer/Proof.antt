@@ -7,24 +7,12 @@ use Rattle.offers.proofs.Offering.{fractional-offer, no-row-offer}
 use Rattle.offers.proofs.fractional_offer.Statement.{statement}
 use Rattle.offers.proofs.fractional_offer.Tie as tie
 
-row-of-requires : tie.Need-row-of-requires
-row-of-requires c κs = search needs
-
-row-count-requires : tie.Need-row-count-requires
-row-count-requires c κs = search needs
-
-fails-requires : tie.Need-fails-requires
-fails-requires c κs = search needs
-
 returns : tie.Need-returns
 returns c =
     let s = c .before .before .before .before .before in
     no-row-offer (s .args .mask) (take (s .args .n) (s .args .samples .now))
     (length-take-le (s .args .n) (s .args .samples .now) (s .pre .0 .long))
     (c .before .before .before .row-of .ensures) (omega (arith, c .before .before .row-count .ensures .0)) (c .fails .ensures)
-
-bits-of-requires : tie.Need-bits-of-requires
-bits-of-requires c κs = search needs
 
 returns-2 : tie.Need-returns-2
 returns-2 c =
@@ -35,6 +23,5 @@ returns-2 c =
     (c .bits-of .ensures .1) refl
 
 pub fractional-offer-spec : {M : Type 1} → statement M
-fractional-offer-spec =
-    tie.close
-    (tie.spec row-of-requires row-count-requires fails-requires returns bits-of-requires returns-2)
+fractional-offer-spec = tie.close (tie.spec (λ c κs. search needs) (λ c κs. search needs) (λ c κs. search needs) returns
+    (λ c κs. search needs) returns-2)

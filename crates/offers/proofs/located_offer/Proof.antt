@@ -9,11 +9,6 @@ use lib.ListN.{length, take}
 use lib.Seq.{length-take-le}
 use Rattle.offers.proofs.located_offer.Statement.{statement}
 use Rattle.offers.proofs.located_offer.Tie as tie
-use Rattle.offers.proofs.located_offer.Reads as reads
-use Rattle.offers.proofs.located_offer.Lts as lts
-use Rattle.look.proofs.spread_of.Reads as spread-of-reads
-use Rattle.offers.proofs.fails.Reads as fails-reads
-use Rattle.offers.proofs.near_offer.Reads as near-offer-reads
 
 -- the frame
 abbrev frame : tie.Start → List ℕ
@@ -22,9 +17,6 @@ frame s = take (s .args .n) (s .args .samples .now)
 size : (s : tie.Start) → length (frame s) ≡ s .args .n
 size s = length-take-le (s .args .n) (s .args .samples .now) (s .pre .0 .long)
 
-fails-requires : tie.Need-fails-requires
-fails-requires c κs = search needs
-
 returns : tie.Need-returns
 returns c =
     let s = c .before .before .before in short-offer (s .args .mask) (frame s) (size s) (c .before .if1 .taken) (c .fails .ensures)
@@ -32,12 +24,13 @@ returns c =
 spread-of-requires : tie.Need-spread-of-requires
 spread-of-requires c κs = let s = c .before .before in ((s .pre .0 .some, s .pre .0 .long), mask-seven _ (s .pre .1))
 
-fails-requires-2 : tie.Need-fails-requires-2
-fails-requires-2 c κs = search needs
+module _ (c : tie.After-fails2) where
+  abbrev start : tie.Start
+  start = c .before .before .before .before .before .before
 
 returns-2 : tie.Need-returns-2
 returns-2 c =
-    let s = c .before .before .before .before .before .before in
+    let s = start c in
     far-offer (s .args .mask) (frame s) (size s) (c .before .before .before .before .if1 .left)
     (sym (c .before .before .before .spread-of .ensures .close) ∙ le-ltb _ 2 (c .before .if2 .taken)) (c .fails2 .ensures)
 
@@ -45,21 +38,9 @@ near-offer-requires : tie.Need-near-offer-requires
 near-offer-requires c κs =
     let s = c .before .before .before .before .before in (
       (s .pre .0, (s .pre .1, c .before .before .before .if1 .left)),
-      sym (c .before .before .spread-of .ensures .close)
-          ∙ lt-ltb _ 2 (c .if2 .left),
+      sym (c .before .before .spread-of .ensures .close) ∙ lt-ltb _ 2 (c .if2 .left),
     )
 
-returns-3 : tie.Need-returns-3
-returns-3 c = search needs
-
 pub located-offer-spec : {M : Type 1} → statement M
-located-offer-spec =
-    tie.close
-    (tie.spec
-    fails-requires
-    returns
-    spread-of-requires
-    fails-requires-2
-    returns-2
-    near-offer-requires
-    returns-3)
+located-offer-spec = tie.close (tie.spec (λ c κs. search needs) returns spread-of-requires (λ c κs. search needs) returns-2
+    near-offer-requires (λ c. search needs))

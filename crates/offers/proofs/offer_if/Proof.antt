@@ -3,12 +3,6 @@ use mathlib.Core.Path.{_∙_}
 use borrow.Author.Tests.{not-true, not-false}
 use Rattle.offers.proofs.offer_if.Statement.{statement}
 use Rattle.offers.proofs.offer_if.Tie as tie
-use Rattle.offers.proofs.offer_if.Reads as reads
-use Rattle.offers.proofs.offer_if.Lts as lts
-use Rattle.offers.proofs.fails.Reads as fails-reads
-
-fails-requires : tie.Need-fails-requires
-fails-requires c κs = search needs
 
 returns : tie.Need-returns
 returns c = c .fails .ensures ∙ rw (not-true (c .before .before .args .applies) (c .before .if1 .taken))
@@ -17,4 +11,4 @@ returns-2 : tie.Need-returns-2
 returns-2 c = rw (not-false (c .before .args .applies) (c .if1 .left))
 
 pub offer-if-spec : {M : Type 1} → statement M
-offer-if-spec = tie.close (tie.spec fails-requires returns returns-2)
+offer-if-spec = tie.close (tie.spec (λ c κs. search needs) returns returns-2)

@@ -35,9 +35,6 @@ rice-offer-requires c κs = let s = c .before .before .before .before .before in
 returns-4 : tie.Need-returns-4
 returns-4 c = offer-as (c .before .if4 .taken) (c .rice-offer .ensures)
 
-located-offer-requires : tie.Need-located-offer-requires
-located-offer-requires c κs = search needs
-
 returns-5 : tie.Need-returns-5
 returns-5 c =
     let t = low (c .before .before .before .before) in
@@ -45,16 +42,5 @@ returns-5 c =
     (c .located-offer .ensures)
 
 pub offer-of-spec : {M : Type 1} → statement M
-offer-of-spec =
-    tie.close
-    (tie.spec
-    fractional-offer-requires
-    returns
-    whole-offer-requires
-    returns-2
-    binary-offer-requires
-    returns-3
-    rice-offer-requires
-    returns-4
-    located-offer-requires
-    returns-5)
+offer-of-spec = tie.close (tie.spec fractional-offer-requires returns whole-offer-requires returns-2 binary-offer-requires
+    returns-3 rice-offer-requires returns-4 (λ c κs. search needs) returns-5)

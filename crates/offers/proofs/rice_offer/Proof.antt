@@ -11,13 +11,6 @@ use lib.Seq.{length-take-le}
 use native.Mathlib.Omega.{arith}
 use Rattle.offers.proofs.rice_offer.Statement.{statement}
 use Rattle.offers.proofs.rice_offer.Tie as tie
-use Rattle.offers.proofs.rice_offer.Reads as reads
-use Rattle.offers.proofs.rice_offer.Lts as lts
-use Rattle.law.proofs.plus_zero.Reads as plus-zero-reads
-use Rattle.look.proofs.others.Reads as others-reads
-use Rattle.offers.proofs.fails.Reads as fails-reads
-use Rattle.offers.proofs.zeros_in.Reads as zeros-in-reads
-use Rattle.zeros.proofs.rice_of.Reads as rice-of-reads
 
 -- the frame
 abbrev frame : tie.Start → List ℕ
@@ -25,15 +18,6 @@ frame s = take (s .args .n) (s .args .samples .now)
 
 size : (s : tie.Start) → length (frame s) ≡ s .args .n
 size s = length-take-le (s .args .n) (s .args .samples .now) (s .pre .0 .long)
-
-zeros-in-requires : tie.Need-zeros-in-requires
-zeros-in-requires c κs = search needs
-
-add-if1 : tie.Need-add-if1
-add-if1 c = search needs
-
-fails-requires : tie.Need-fails-requires
-fails-requires c κs = search needs
 
 returns : tie.Need-returns
 returns c =
@@ -43,20 +27,15 @@ returns c =
     let off = zeros-apply m (frame s) ∙ sym (zeros-counted m (frame s) (size s) (z .0) (z .1)) ∙ ne-eqb _ _ (c .before .if1 .taken) in
     unmet m 6 (frame s) (omega arith) off (c .fails .ensures)
 
-plus-zero-requires : tie.Need-plus-zero-requires
-plus-zero-requires c κs = search needs
-
-others-requires : tie.Need-others-requires
-others-requires c κs = search needs
-
-rice-of-requires : tie.Need-rice-of-requires
-rice-of-requires c κs = search needs
+module _ (c : tie.After-rice-of) where
+  abbrev zeros-in : tie.After-zeros-in
+  zeros-in = c .before .before .before .before .before .before .before
 
 returns-2 : tie.Need-returns-2
 returns-2 c =
-    let s = c .before .before .before .before .before .before .before .before .before in
+    let s = (zeros-in c) .before .before in
     let m = s .args .mask in
-    let z = c .before .before .before .before .before .before .before .zeros-in .ensures .0 in
+    let z = (zeros-in c) .zeros-in .ensures .0 in
     let zeros = sym (zeros-counted m (frame s) (size s) (z .0) (z .1))
     ∙ eq-eqb _ _ (c .before .before .before .before .before .if1 .left) in
     let row = row-flags m (s .pre .0) (c .before .before .before .before .plus-zero .ensures)
@@ -65,14 +44,5 @@ returns-2 c =
     met m 6 (frame s) (zeros-apply m (frame s) ∙ zeros) (r .rice (rice-held m (frame s)) .bits ∙ rice-form m (frame s)) (r .small) refl
 
 pub rice-offer-spec : {M : Type 1} → statement M
-rice-offer-spec =
-    tie.close
-    (tie.spec
-    zeros-in-requires
-    add-if1
-    fails-requires
-    returns
-    plus-zero-requires
-    others-requires
-    rice-of-requires
-    returns-2)
+rice-offer-spec = tie.close (tie.spec (λ c κs. search needs) (λ c. search needs) (λ c κs. search needs) returns
+    (λ c κs. search needs) (λ c κs. search needs) (λ c κs. search needs) returns-2)

@@ -17,30 +17,12 @@ use Rattle.opening.proofs.opening_of.Tie as tie
 returns : tie.Need-returns
 returns c = record { says = no-octets (c .before .before .args .octets .now) (c .if1 .taken); ranges = tt }
 
-shared-slice-read-first : tie.Need-shared-slice-read-first
-shared-slice-read-first c = search needs
-
 -- 00 begins a pad, by the table's rule too
 returns-2 : tie.Need-returns-2
 unfolding afterFirst
 returns-2 c =
     let l = c .before .before .before .before .args .octets .now in
     record { says = opened l (omega arith) (omega arith) pad (zero-pad (getD l 0 0) (c .if2 .taken)); ranges = tt }
-
-first-octet-requires : tie.Need-first-octet-requires
-first-octet-requires c κs = search needs
-
-enum-told : tie.Need-enum-told
-enum-told c = search needs
-
-enum-told-2 : tie.Need-enum-told-2
-enum-told-2 c = search needs
-
-enum-known-t : tie.Need-enum-known-t
-enum-known-t c = search needs
-
-enum-known-n : tie.Need-enum-known-n
-enum-known-n c = search needs
 
 -- what the first octet begins, b
 module _ (c : tie.After-first-octet) (b : Begins) (e : c .first-octet .result ≡ b) where
@@ -98,20 +80,6 @@ returns-6 c =
     }
 
 pub opening-of-spec : {M : Type 1} → statement M
-opening-of-spec =
-    tie.close
-    (tie.spec
-    returns
-    shared-slice-read-first
-    returns-2
-    first-octet-requires
-    enum-told
-    enum-told-2
-    enum-known-t
-    row-in-requires
-    enum-known-n
-    six-or-eight-requires
-    returns-3
-    returns-4
-    returns-5
-    returns-6)
+opening-of-spec = tie.close (tie.spec returns (λ c. search needs) returns-2 (λ c κs. search needs) (λ c. search needs)
+    (λ c. search needs) (λ c. search needs) row-in-requires (λ c. search needs) six-or-eight-requires returns-3 returns-4
+    returns-5 returns-6)

@@ -5,18 +5,6 @@ use Rattle.rules.proofs.Guards.{read-refused, read-allowed}
 use Rattle.opening.proofs.opens.Statement.{statement}
 use Rattle.opening.proofs.opens.Tie as tie
 
-guard-requires : tie.Need-guard-requires
-guard-requires c κs = search needs
-
-enum-known-why : tie.Need-enum-known-why
-enum-known-why c = search needs
-
-enum-told : tie.Need-enum-told
-enum-told c = search needs
-
-opening-of-requires : tie.Need-opening-of-requires
-opening-of-requires c κs = search needs
-
 -- refused
 returns : tie.Need-returns
 returns c =
@@ -36,6 +24,5 @@ returns-2 c =
     }
 
 pub opens-spec : {M : Type 1} → statement M
-opens-spec =
-    tie.close
-    (tie.spec guard-requires enum-known-why enum-told opening-of-requires returns returns-2)
+opens-spec = tie.close (tie.spec (λ c κs. search needs) (λ c. search needs) (λ c. search needs) (λ c κs. search needs) returns
+    returns-2)

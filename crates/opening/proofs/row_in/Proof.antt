@@ -8,17 +8,11 @@ use Rattle.opening.proofs.row_in.Tie as tie
 returns : tie.Need-returns
 returns c = rw (ne-eqb (c .before .args .t) 11 (c .if1 .taken)) refl
 
-first-code-requires : tie.Need-first-code-requires
-first-code-requires c κs = search needs
-
 sub-result : tie.Need-sub-result
 sub-result c = rw (c .first-code .ensures) (c .before .before .pre (omega arith))
-
-cast-result : tie.Need-cast-result
-cast-result c = search needs
 
 returns-2 : tie.Need-returns-2
 returns-2 c = rw (eq-eqb (c .before .before .args .t) 11 (omega arith), c .first-code .ensures) refl
 
 pub row-in-spec : {M : Type 1} → statement M
-row-in-spec = tie.close (tie.spec returns first-code-requires sub-result cast-result returns-2)
+row-in-spec = tie.close (tie.spec returns (λ c κs. search needs) sub-result (λ c. search needs) returns-2)

@@ -5,12 +5,6 @@ use borrow.Author.Needs.{needs}
 use Rattle.opening.proofs.six_not_eight.Statement.{statement}
 use Rattle.opening.proofs.six_not_eight.Tie as tie
 
-bit-at-requires : tie.Need-bit-at-requires
-bit-at-requires c κs = search needs
-
-add-t6 : tie.Need-add-t6
-add-t6 c = search needs
-
 returns : tie.Need-returns
 returns c = record {
   says =
@@ -20,9 +14,6 @@ returns c = record {
   next = omega arith;
 }
 
-add-second : tie.Need-add-second
-add-second c = search needs
-
 returns-2 : tie.Need-returns-2
 returns-2 c = record {
   says = sym (second-missing (c .before .before .before .before .args .octets .now) (c .before .before .before .before .args .at)
@@ -31,29 +22,24 @@ returns-2 c = record {
   next = omega arith;
 }
 
-bit-at-requires-2 : tie.Need-bit-at-requires-2
-bit-at-requires-2 c κs = search needs
-
-add-t9 : tie.Need-add-t9
-add-t9 c = search needs
+module _ (c : tie.After-bit-at2) where
+  abbrev start : tie.Start
+  start = c .before .before .before .before .before
 
 returns-3 : tie.Need-returns-3
 returns-3 c = record {
-  says = sym (six-by-second (c .before .before .before .before .before .before .args .octets .now)
-      (c .before .before .before .before .before .before .args .at) (omega arith)
+  says = sym (six-by-second ((start (c .before)) .args .octets .now)
+      ((start (c .before)) .args .at) (omega arith)
       (λ e. c .before .before .before .if1 .left (c .before .before .before .before .bit-at .ensures .0 ∙ e)) (omega arith)
       (sym (c .before .bit-at2 .ensures .0) ∙ c .if3 .taken));
   value = omega arith;
   next = omega arith;
 }
 
-add-t7 : tie.Need-add-t7
-add-t7 c = search needs
-
 returns-4 : tie.Need-returns-4
 returns-4 c = record {
-  says = sym (eight (c .before .before .before .before .before .before .args .octets .now)
-      (c .before .before .before .before .before .before .args .at) (omega arith)
+  says = sym (eight ((start (c .before)) .args .octets .now)
+      ((start (c .before)) .args .at) (omega arith)
       (λ e. c .before .before .before .if1 .left (c .before .before .before .before .bit-at .ensures .0 ∙ e)) (omega arith)
       (λ e. c .if3 .left (c .before .bit-at2 .ensures .0 ∙ e)));
   value = omega arith;
@@ -61,16 +47,5 @@ returns-4 c = record {
 }
 
 pub six-not-eight-spec : {M : Type 1} → statement M
-six-not-eight-spec =
-    tie.close
-    (tie.spec
-    bit-at-requires
-    add-t6
-    returns
-    add-second
-    returns-2
-    bit-at-requires-2
-    add-t9
-    returns-3
-    add-t7
-    returns-4)
+six-not-eight-spec = tie.close (tie.spec (λ c κs. search needs) (λ c. search needs) returns (λ c. search needs) returns-2
+    (λ c κs. search needs) (λ c. search needs) returns-3 (λ c. search needs) returns-4)

@@ -15,65 +15,31 @@ returns-2 : tie.Need-returns-2
 unfolding argumentOf
 returns-2 c = rw (ne-eqb _ _ (c .before .if1 .left), eq-eqb _ _ (c .if2 .taken))
 
-shared-slice-read-if3 : tie.Need-shared-slice-read-if3
-shared-slice-read-if3 c = search needs
-
 returns-3 : tie.Need-returns-3
 unfolding argumentOf
 returns-3 c = rw (ne-eqb _ _ (c .before .before .before .if1 .left), ne-eqb _ _ (c .before .before .if2 .left), ne-eqb _ _ (c .if3 .taken))
 
-shared-slice-read-letter-option : tie.Need-shared-slice-read-letter-option
-shared-slice-read-letter-option c = search needs
-
-letter-option-requires : tie.Need-letter-option-requires
-letter-option-requires c κs = search needs
-
 returns-4 : tie.Need-returns-4
 unfolding argumentOf
 returns-4 c =
-    rw (ne-eqb _ _ (c .before .before .before .before .before .before .if1 .left))
+    let else2 = c .before .before .before .before .before in
+    rw (ne-eqb _ _ (else2 .before .if1 .left))
     (rw (ne-eqb _ _ (c .before .before .before .before .before .if2 .left))
     (rw (eq-eqb _ _ (c .before .before .before .if3 .left), eq-eqb _ _ (c .before .before .if4 .taken))
     (c .letter-option .ensures)))
 
-shared-slice-read-numbered-option : tie.Need-shared-slice-read-numbered-option
-shared-slice-read-numbered-option c = search needs
-
-sub-numbered-option : tie.Need-sub-numbered-option
-sub-numbered-option c = search needs
-
-part-numbered-option-start : tie.Need-part-numbered-option-start
-part-numbered-option-start c = search needs
-
-part-numbered-option-end : tie.Need-part-numbered-option-end
-part-numbered-option-end c = search needs
-
-numbered-option-requires : tie.Need-numbered-option-requires
-numbered-option-requires c κs = search needs
-
 returns-5 : tie.Need-returns-5
 unfolding argumentOf
 returns-5 c =
-    let a = c .before .before .before .before .before .before .before .before .before .args in
-    rw (ne-eqb _ _ (c .before .before .before .before .before .before .before .if1 .left))
-    (rw (ne-eqb _ _ (c .before .before .before .before .before .before .if2 .left))
+    let shared-slice-known2 = c .before .before .before .before .before in
+    let else2 = shared-slice-known2 .before in
+    let a = else2 .before .before .before .args in
+    rw (ne-eqb _ _ (else2 .before .if1 .left))
+    (rw (ne-eqb _ _ (else2 .if2 .left))
     (rw (eq-eqb _ _ (c .before .before .before .before .if3 .left), ne-eqb _ _ (c .before .before .before .if4 .left))
     (c .numbered-option .ensures ∙ ap (numberedOf (a .tool) (getD (a .text .now) 1 0)) (from-on (a .text .now) 2))))
 
 pub argument-in-spec : {M : Type 1} → statement M
-argument-in-spec =
-    tie.close
-    (tie.spec
-    returns
-    returns-2
-    shared-slice-read-if3
-    returns-3
-    shared-slice-read-letter-option
-    letter-option-requires
-    returns-4
-    shared-slice-read-numbered-option
-    sub-numbered-option
-    part-numbered-option-start
-    part-numbered-option-end
-    numbered-option-requires
-    returns-5)
+argument-in-spec = tie.close (tie.spec returns returns-2 (λ c. search needs) returns-3 (λ c. search needs)
+    (λ c κs. search needs) returns-4 (λ c. search needs) (λ c. search needs) (λ c. search needs) (λ c. search needs)
+    (λ c κs. search needs) returns-5)

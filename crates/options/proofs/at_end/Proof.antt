@@ -12,12 +12,9 @@ returns-2 : tie.Need-returns-2
 unfolding endOf
 returns-2 c = rw (eq-eqb _ _ (c .before .before .if1 .left), eq-eqb _ _ (c .if2 .taken))
 
-with-wrong-requires : tie.Need-with-wrong-requires
-with-wrong-requires c κs = search needs
-
 returns-3 : tie.Need-returns-3
 unfolding endOf
 returns-3 c = rw (eq-eqb _ _ (c .before .before .before .if1 .left), ne-eqb _ _ (c .before .if2 .left)) (c .with-wrong .ensures)
 
 pub at-end-spec : {M : Type 1} → statement M
-at-end-spec = tie.close (tie.spec returns returns-2 with-wrong-requires returns-3)
+at-end-spec = tie.close (tie.spec returns returns-2 (λ c κs. search needs) returns-3)

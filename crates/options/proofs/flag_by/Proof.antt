@@ -36,5 +36,4 @@ returns-7 c =
     (rw (ne-eqb _ _ (c .before .if5 .left), ne-eqb _ _ (c .if6 .left)))
 
 pub flag-by-spec : {M : Type 1} → statement M
-flag-by-spec =
-    tie.close (tie.spec returns returns-2 returns-3 returns-4 returns-5 returns-6 returns-7)
+flag-by-spec = tie.close (tie.spec returns returns-2 returns-3 returns-4 returns-5 returns-6 returns-7)

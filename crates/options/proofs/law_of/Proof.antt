@@ -4,9 +4,6 @@ use borrow.Author.Needs.{needs}
 use Rattle.options.proofs.law_of.Statement.{statement}
 use Rattle.options.proofs.law_of.Tie as tie
 
-law-told-requires : tie.Need-law-told-requires
-law-told-requires c κs = search needs
-
 returns : tie.Need-returns
 unfolding lawOf
 returns c = rw (eq-eqb _ _ (c .before .before .if1 .taken)) (c .law-told .ensures)
@@ -16,4 +13,4 @@ unfolding lawOf
 returns-2 c = rw (ne-eqb _ _ (c .if1 .left))
 
 pub law-of-spec : {M : Type 1} → statement M
-law-of-spec = tie.close (tie.spec law-told-requires returns returns-2)
+law-of-spec = tie.close (tie.spec (λ c κs. search needs) returns returns-2)

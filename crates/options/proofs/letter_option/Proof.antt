@@ -3,9 +3,6 @@ use borrow.Author.Tests.{eq-eqb, ne-eqb}
 use borrow.Author.Needs.{needs}
 use Rattle.options.proofs.letter_option.Statement.{statement}
 use Rattle.options.proofs.letter_option.Tie as tie
-use Rattle.options.proofs.flag_by.Reads as flag-by-reads
-use Rattle.options.proofs.form_option.Reads as form-option-reads
-use Rattle.options.proofs.wanted_by.Reads as wanted-by-reads
 
 returns : tie.Need-returns
 unfolding letterOf
@@ -15,26 +12,17 @@ returns-2 : tie.Need-returns-2
 unfolding letterOf
 returns-2 c = rw (ne-eqb _ _ (c .before .if1 .left), eq-eqb _ _ (c .if2 .taken))
 
-form-option-requires : tie.Need-form-option-requires
-form-option-requires c κs = search needs
-
 returns-3 : tie.Need-returns-3
 unfolding letterOf
 returns-3 c =
     rw (ne-eqb _ _ (c .before .before .before .if1 .left), ne-eqb _ _ (c .before .before .if2 .left))
     (rw (eq-eqb _ _ (c .before .if3 .taken)) (c .form-option .ensures))
 
-form-option-requires-2 : tie.Need-form-option-requires-2
-form-option-requires-2 c κs = search needs
-
 returns-4 : tie.Need-returns-4
 unfolding letterOf
 returns-4 c =
     rw (ne-eqb _ _ (c .before .before .before .before .if1 .left), ne-eqb _ _ (c .before .before .before .if2 .left))
     (rw (ne-eqb _ _ (c .before .before .if3 .left), eq-eqb _ _ (c .before .if4 .taken)) (c .form-option2 .ensures))
-
-flag-by-requires : tie.Need-flag-by-requires
-flag-by-requires c κs = search needs
 
 returns-5 : tie.Need-returns-5
 unfolding letterOf
@@ -48,15 +36,14 @@ returns-5 c =
       ne-eqb _ _ (c .if5 .taken),
     )
 
-wanted-by-requires : tie.Need-wanted-by-requires
-wanted-by-requires c κs = search needs
-
 returns-6 : tie.Need-returns-6
 unfolding letterOf
 returns-6 c =
+    let flag-by = c .before .before .before in
+    let else2 = flag-by .before .before .before in
     rw (
-      ne-eqb _ _ (c .before .before .before .before .before .before .before .if1 .left),
-      ne-eqb _ _ (c .before .before .before .before .before .before .if2 .left),
+      ne-eqb _ _ (else2 .before .if1 .left),
+      ne-eqb _ _ (else2 .if2 .left),
       ne-eqb _ _ (c .before .before .before .before .before .if3 .left),
       ne-eqb _ _ (c .before .before .before .before .if4 .left),
       ← (c .before .before .before .flag-by .ensures),
@@ -68,9 +55,11 @@ returns-6 c =
 returns-7 : tie.Need-returns-7
 unfolding letterOf
 returns-7 c =
+    let flag-by = c .before .before .before in
+    let else2 = flag-by .before .before .before in
     rw (
-      ne-eqb _ _ (c .before .before .before .before .before .before .before .if1 .left),
-      ne-eqb _ _ (c .before .before .before .before .before .before .if2 .left),
+      ne-eqb _ _ (else2 .before .if1 .left),
+      ne-eqb _ _ (else2 .if2 .left),
       ne-eqb _ _ (c .before .before .before .before .before .if3 .left),
       ne-eqb _ _ (c .before .before .before .before .if4 .left),
       ← (c .before .before .before .flag-by .ensures),
@@ -80,17 +69,5 @@ returns-7 c =
     )
 
 pub letter-option-spec : {M : Type 1} → statement M
-letter-option-spec =
-    tie.close
-    (tie.spec
-    returns
-    returns-2
-    form-option-requires
-    returns-3
-    form-option-requires-2
-    returns-4
-    flag-by-requires
-    returns-5
-    wanted-by-requires
-    returns-6
-    returns-7)
+letter-option-spec = tie.close (tie.spec returns returns-2 (λ c κs. search needs) returns-3 (λ c κs. search needs) returns-4
+    (λ c κs. search needs) returns-5 (λ c κs. search needs) returns-6 returns-7)

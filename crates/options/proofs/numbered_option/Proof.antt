@@ -4,19 +4,13 @@ use borrow.Author.Tests.{le-leb, lt-leb}
 use Rattle.options.proofs.numbered_option.Statement.{statement}
 use Rattle.options.proofs.numbered_option.Tie as tie
 
-wanted-by-requires : tie.Need-wanted-by-requires
-wanted-by-requires c κs = search needs
-
 returns : tie.Need-returns
 unfolding numberedOf
 returns c = rw (← (c .before .wanted-by .ensures), lt-leb _ _ (c .if1 .taken))
-
-number-in-requires : tie.Need-number-in-requires
-number-in-requires c κs = search needs
 
 returns-2 : tie.Need-returns-2
 unfolding numberedOf
 returns-2 c = rw (← (c .before .before .wanted-by .ensures), le-leb _ _ (c .before .if1 .left), c .number-in .ensures)
 
 pub numbered-option-spec : {M : Type 1} → statement M
-numbered-option-spec = tie.close (tie.spec wanted-by-requires returns number-in-requires returns-2)
+numbered-option-spec = tie.close (tie.spec (λ c κs. search needs) returns (λ c κs. search needs) returns-2)

@@ -38,5 +38,4 @@ returns-7 c =
     (rw (ne-eqb _ _ (c .before .before .if4 .left), eq-eqb _ _ (c .before .if5 .left), ne-eqb _ _ (c .if6 .left)))
 
 pub wanted-by-spec : {M : Type 1} → statement M
-wanted-by-spec =
-    tie.close (tie.spec returns returns-2 returns-3 returns-4 returns-5 returns-6 returns-7)
+wanted-by-spec = tie.close (tie.spec returns returns-2 returns-3 returns-4 returns-5 returns-6 returns-7)

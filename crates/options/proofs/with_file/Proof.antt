@@ -8,9 +8,6 @@ returns : tie.Need-returns
 unfolding withFile
 returns c = rw (eq-eqb _ _ (c .if1 .taken))
 
-with-wrong-requires : tie.Need-with-wrong-requires
-with-wrong-requires c κs = search needs
-
 returns-2 : tie.Need-returns-2
 unfolding withFile
 returns-2 c = rw (ne-eqb _ _ (c .before .before .before .if1 .left), eq-eqb _ _ (c .before .if2 .taken)) (c .with-wrong .ensures)
@@ -23,17 +20,11 @@ returns-3 c = rw (
   eq-eqb _ _ (c .if3 .taken),
 )
 
-with-wrong-requires-2 : tie.Need-with-wrong-requires-2
-with-wrong-requires-2 c κs = search needs
-
 returns-4 : tie.Need-returns-4
 unfolding withFile
 returns-4 c =
     rw (ne-eqb _ _ (c .before .before .before .before .before .if1 .left))
-    (rw (ne-eqb _ _ (c .before .before .before .if2 .left), ne-eqb _ _ (c .before .if3 .left))
-    (c .with-wrong2 .ensures))
+    (rw (ne-eqb _ _ (c .before .before .before .if2 .left), ne-eqb _ _ (c .before .if3 .left)) (c .with-wrong2 .ensures))
 
 pub with-file-spec : {M : Type 1} → statement M
-with-file-spec =
-    tie.close
-    (tie.spec returns with-wrong-requires returns-2 returns-3 with-wrong-requires-2 returns-4)
+with-file-spec = tie.close (tie.spec returns (λ c κs. search needs) returns-2 returns-3 (λ c κs. search needs) returns-4)

@@ -6,15 +6,6 @@ use borrow.Author.Needs.{needs}
 use Rattle.options.proofs.with_number.Statement.{statement}
 use Rattle.options.proofs.with_number.Tie as tie
 
-enum-known-n : tie.Need-enum-known-n
-enum-known-n c = search needs
-
-enum-told : tie.Need-enum-told
-enum-told c = search needs
-
-with-wrong-requires : tie.Need-with-wrong-requires
-with-wrong-requires c κs = search needs
-
 returns : tie.Need-returns
 returns c =
     let a = c .before .before .before .args in
@@ -31,6 +22,5 @@ returns-4 : tie.Need-returns-4
 returns-4 c = rw (c .before .before .before .n .given .1, ne-eqb _ _ (c .before .if1 .left), ne-eqb _ _ (c .if2 .left))
 
 pub with-number-spec : {M : Type 1} → statement M
-with-number-spec =
-    tie.close
-    (tie.spec enum-known-n enum-told with-wrong-requires returns returns-2 returns-3 returns-4)
+with-number-spec = tie.close (tie.spec (λ c. search needs) (λ c. search needs) (λ c κs. search needs) returns returns-2
+    returns-3 returns-4)

@@ -4,12 +4,6 @@ use native.Mathlib.Omega.{arith}
 use Rattle.pack.proofs.filled_up.Statement.{statement}
 use Rattle.pack.proofs.filled_up.Tie as tie
 
-fill-up-requires : tie.Need-fill-up-requires
-fill-up-requires c κs = search needs
-
-same-length : tie.Need-same-length
-same-length c = search needs
-
 returns : tie.Need-returns
 returns c = (
   rw (c .before .before .before .before .if1 .taken) (c .before .before .fill-up .ensures),
@@ -21,4 +15,4 @@ returns-2 : tie.Need-returns-2
 returns-2 c = (rw (c .if1 .left) (refl, refl), omega arith)
 
 pub filled-up-spec : {M : Type 1} → statement M
-filled-up-spec = tie.close (tie.spec fill-up-requires same-length returns returns-2)
+filled-up-spec = tie.close (tie.spec (λ c κs. search needs) (λ c. search needs) returns returns-2)

@@ -66,46 +66,46 @@ module _ (c : tie.After-pack-on) where
       page octets (part-most read)
       (start .pre .3) (c .pack-on .ensures)
 
-read-part-requires : tie.Need-read-part-requires
-read-part-requires c κs = search needs
+module _ (c : tie.After-keep-part) where
+  abbrev start-of-keep-part : tie.Start
+  start-of-keep-part = c .before .before .before .before .before .before .before .before .before .before .before .before
+      .before .before .before .before .before .before .before .before .before .before
 
-stopped-requires : tie.Need-stopped-requires
-stopped-requires c κs = search needs
+  abbrev read-part : tie.After-read-part
+  read-part = c .before .before .before .before .before .before .before .before .before .before .before .before .before .before
+      .before .before .before
 
-same-length : tie.Need-same-length
-same-length c = search needs
+  abbrev filled-up : tie.After-filled-up
+  filled-up = c .before .before .before .before .before .before .before .before .before .before .before .before
+
+  abbrev pack-on : tie.After-pack-on
+  pack-on = c .before .before .before .before .before .before
+
+module _ (c : tie.After-stopped) where
+  abbrev start-of-stopped : tie.Start
+  start-of-stopped = c .before .before .before .before .before .before .before .before .before
+
+module _ (c : tie.After-pack-on-arg2) where
+  abbrev start-of-pack-on-arg2 : tie.Start
+  start-of-pack-on-arg2 = c .before .before .before .before .before .before .before .before .before .before .before .before
+      .before .before .before
 
 returns : tie.Need-returns
 returns c =
-    let a = c .before .before .before .before .before .before .before .before .before in
+    let a = start-of-stopped c in
     let t = run-stopped (a .args .s) (a .args .run) (c .stopped .result) (a .pre .0) (a .pre .1) (c .stopped .ensures) in
     (t .stands, t .less)
-
-filled-up-requires : tie.Need-filled-up-requires
-filled-up-requires c κs = search needs
-
-add-end : tie.Need-add-end
-add-end c = search needs
-
-slice-reshare-prefix-pack-on : tie.Need-slice-reshare-prefix-pack-on
-slice-reshare-prefix-pack-on c = search needs
 
 slice-aggregate-pack-on : tie.Need-slice-aggregate-pack-on
 slice-aggregate-pack-on c = sym (part-length (c .before .before .before))
 
-cast-pack-on : tie.Need-cast-pack-on
-cast-pack-on c = search needs
-
 pack-on-requires : tie.Need-pack-on-requires
 pack-on-requires c κs =
-    let a = c .before .before .before .before .before .before .before .before .before .before .before .before .before .before .before in
+    let a = start-of-pack-on-arg2 c in
     let w = a .pre .0 in
     let most = kept-most (w .one) in
     let l = part-most (c .before .before .before .before .before) in
     (most, omega (arith, w .frames (a .pre .1), most, l), omega (arith, w .samples (a .pre .1), most, l))
-
-sub-n : tie.Need-sub-n
-sub-n c = search needs
 
 slice-reshare-prefix-keep-part : tie.Need-slice-reshare-prefix-keep-part
 slice-reshare-prefix-keep-part c = paged (c .before .before .before .before)
@@ -116,76 +116,34 @@ slice-aggregate-keep-part c = sym (length-take-le _ _ (paged (c .before .before 
 keep-part-requires : tie.Need-keep-part-requires
 keep-part-requires c κs = next (c .before .before .before .before .before)
 
-stopped-requires-2 : tie.Need-stopped-requires-2
-stopped-requires-2 c κs = search needs
-
 same-length-2 : tie.Need-same-length-2
-same-length-2 c = c .before .before .before .before .before .before .before .before .before .before .before .before .before
-    .before .filled-up .kept .1 .0 ∙ c .before .before .before .before .before .before .before .before .before .before
-    .before .before .before .before .before .before .before .before .before .read-part .kept .1 .1 .1 .1 .0
-
-same-length-3 : tie.Need-same-length-3
-same-length-3 c = search needs
+same-length-2 c = (filled-up (c .before .before)) .filled-up .kept .1 .0 ∙ (read-part (c .before .before)) .read-part .kept .1 .1 .1 .1 .0
 
 returns-2 : tie.Need-returns-2
 returns-2 c =
-    let a = c .before .before .before .before .before .before .before .before .before .before .before .before .before
-    .before .before .before .before .before .before .before .before .before .before .before in
+    let a = start-of-keep-part (c .before .before) in
     let t = run-stopped (a .args .s) (a .args .run) (c .stopped2 .result) (a .pre .0) (a .pre .1) (c .stopped2 .ensures) in
     (t .stands, t .less)
 
-may-go-on-requires : tie.Need-may-go-on-requires
-may-go-on-requires c κs = search needs
-
-same-length-4 : tie.Need-same-length-4
-same-length-4 c = search needs
-
-same-length-5 : tie.Need-same-length-5
-same-length-5 c = search needs
-
 returns-3 : tie.Need-returns-3
 returns-3 c =
-    let a = c .before .before .before .before .before .before .before .before .before .before .before .before .before
-    .before .before .before .before .before .before .before .before .before .before .before in
-    let k = c .before .before .before .before .before .before .before .before in
-    let f = c .before .before .before .before .before .before .before .before .before .before .before .before .before .before in
+    let a = start-of-keep-part (c .before .before) in
+    let k = pack-on (c .before .before) in
+    let f = filled-up (c .before .before) in
     let r : Run = record {
       packed = k .pack-on .result;
       filled = f .filled-up .result;
       more = c .may-go-on .result;
       wrong = 0;
-      left = c .before .before .before .before .before .before .before .before .before .before .before .before
-          .before .before .before .before .before .before .before .read-part .result .left;
+      left = (read-part (c .before .before)) .read-part .result .left;
     } in
     let t =
     part-taken (a .args .s) (a .args .run) (a .pre .0) (a .pre .1) (part f) (a .args .page .now) (page k) (octets k)
-    (part-most f) (a .pre .3)
-    (k .pack-on .ensures) (count f) (omega (arith, part-length f)) r refl (c .may-go-on .ensures)
+    (part-most f) (a .pre .3) (k .pack-on .ensures) (count f) (omega (arith, part-length f)) r refl (c .may-go-on .ensures)
     in (t .stands, t .less)
 
 pub next-part-spec : {M : Type 1} → statement M
-next-part-spec =
-    tie.close
-    (tie.spec
-    read-part-requires
-    stopped-requires
-    same-length
-    returns
-    filled-up-requires
-    add-end
-    slice-reshare-prefix-pack-on
-    slice-aggregate-pack-on
-    cast-pack-on
-    pack-on-requires
-    sub-n
-    slice-reshare-prefix-keep-part
-    slice-aggregate-keep-part
-    keep-part-requires
-    stopped-requires-2
-    same-length-2
-    same-length-3
-    returns-2
-    may-go-on-requires
-    same-length-4
-    same-length-5
-    returns-3)
+next-part-spec = tie.close (tie.spec (λ c κs. search needs) (λ c κs. search needs) (λ c. search needs) returns
+    (λ c κs. search needs) (λ c. search needs) (λ c. search needs) slice-aggregate-pack-on (λ c. search needs) pack-on-requires
+    (λ c. search needs) slice-reshare-prefix-keep-part slice-aggregate-keep-part keep-part-requires (λ c κs. search needs)
+    same-length-2 (λ c. search needs) returns-2 (λ c κs. search needs) (λ c. search needs) (λ c. search needs) returns-3)

@@ -30,8 +30,7 @@ module _ (c : tie.Else1 Inv-frames μ-frames) where
 
 -- a frame that was put
 module _ (c : tie.After-put-frame Inv-frames μ-frames) where
-  turned : c .put-frame .result .end ≡ Done
-      → Packing (c .before .before .before .before .before .before .before .args .sound .now)
+  turned : c .put-frame .result .end ≡ Done → Packing (c .before .before .before .before .before .before .before .args .sound .now)
       (c .before .before .before .before .before .before .before .args .law)
       (c .before .before .before .before .before .before .before .args .set)
       (c .before .before .before .before .before .before .before .args .n)
@@ -69,15 +68,6 @@ frames-holds : tie.Need-frames-holds Inv-frames μ-frames
 frames-holds c = pack-start (c .before .before .args .sound .now) (c .before .before .args .law) (c .before .before .args .set)
     (c .before .before .args .n) (c .before .before .args .out .now)
 
-sub-left : tie.Need-sub-left Inv-frames μ-frames
-sub-left c = search needs
-
-next-length-requires : tie.Need-next-length-requires Inv-frames μ-frames
-next-length-requires c κs = search needs
-
-last-end-requires : tie.Need-last-end-requires Inv-frames μ-frames
-last-end-requires c κs = search needs
-
 add-to : tie.Need-add-to Inv-frames μ-frames
 add-to c = omega (arith, fits c .within, c .before .before .frames .inv .inside)
 
@@ -87,24 +77,16 @@ put-frame-requires c κs =
     let w = c .before .before .before .frames .inv in
     (omega arith, omega (arith, f .within, w .inside), omega (arith, w .kept .room, lent-length (w .kept)))
 
-enum-known-e : tie.Need-enum-known-e Inv-frames μ-frames
-enum-known-e c = search needs
-
-enum-told : tie.Need-enum-told Inv-frames μ-frames
-enum-told c = search needs
-
-add-at : tie.Need-add-at Inv-frames μ-frames
-add-at c = search needs
-
-add-count : tie.Need-add-count Inv-frames μ-frames
-add-count c = search needs
+module _ (c : tie.After-slice-known2 Inv-frames μ-frames) where
+  abbrev else1 : tie.Else1 Inv-frames μ-frames
+  else1 = c .before .before .before .before
 
 frames-less : tie.Need-frames-less Inv-frames μ-frames
 frames-less c = omega (
   arith,
-  fits (c .before .before .before .before .before .before .before) .within,
+  fits (else1 (c .before .before .before)) .within,
   fits
-      (c .before .before .before .before .before .before .before) .some,
+      (else1 (c .before .before .before)) .some,
 )
 
 frames-again : tie.Need-frames-again Inv-frames μ-frames
@@ -119,30 +101,12 @@ returns c = pack-done _ _ _ _ _ (c .before .before .before .frames .inv)
 
 same-length-2 : tie.Need-same-length-2 Inv-frames μ-frames
 same-length-2 c = c .before .before .before .before .before .put-frame .kept .1 .1 .1 .1 .1 .0
-    ∙ lent-length (c .before .before .before .before .before .before .before .before .before .frames .inv .kept)
+    ∙ lent-length ((else1 (c .before .before .before)) .before .before .frames .inv .kept)
 
 returns-2 : tie.Need-returns-2 Inv-frames μ-frames
 returns-2 c = refused (c .before .before .before .before .before) (c .before .e .given .0 .0) (c .before .e .given .1)
 
 pub frames-spec : {M : Type 1} → statement M
-frames-spec =
-    tie.close
-    (tie.spec
-    Inv-frames
-    μ-frames
-    frames-holds
-    sub-left
-    next-length-requires
-    last-end-requires
-    add-to
-    put-frame-requires
-    enum-known-e
-    enum-told
-    add-at
-    add-count
-    frames-less
-    frames-again
-    same-length
-    returns
-    same-length-2
-    returns-2)
+frames-spec = tie.close (tie.spec Inv-frames μ-frames frames-holds (λ c. search needs) (λ c κs. search needs)
+    (λ c κs. search needs) add-to put-frame-requires (λ c. search needs) (λ c. search needs) (λ c. search needs)
+    (λ c. search needs) frames-less frames-again same-length returns same-length-2 returns-2)

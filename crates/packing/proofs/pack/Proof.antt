@@ -8,24 +8,6 @@ use Rattle.packing.proofs.Ordered.{stops, packs-as, refuses, no-length,
 use Rattle.packing.proofs.pack.Statement.{statement}
 use Rattle.packing.proofs.pack.Tie as tie
 
-guard-writer-requires : tie.Need-guard-writer-requires
-guard-writer-requires c κs = search needs
-
-enum-known-why : tie.Need-enum-known-why
-enum-known-why c = search needs
-
-stopped-requires : tie.Need-stopped-requires
-stopped-requires c κs = search needs
-
-enum-told : tie.Need-enum-told
-enum-told c = search needs
-
-is-length-requires : tie.Need-is-length-requires
-is-length-requires c κs = search needs
-
-stopped-requires-2 : tie.Need-stopped-requires-2
-stopped-requires-2 c κs = search needs
-
 -- LENGTH
 returns : tie.Need-returns
 returns c =
@@ -35,8 +17,7 @@ returns c =
     let l = c .before .before .is-length in
     stops (c .stopped2 .ensures) (a .law) (a .set) _
     (no-length (a .sound .now) (a .law) (a .set) (a .n) (length (a .out .now)) (met .0) (met .1 .0)
-    (sym (l .ensures) ∙ not-true (l .result) (c .before .if1 .taken)))
-    (a .out .now)
+    (sym (l .ensures) ∙ not-true (l .result) (c .before .if1 .taken))) (a .out .now)
 
 frames-requires : tie.Need-frames-requires
 frames-requires c κs =
@@ -45,40 +26,32 @@ frames-requires c κs =
     let met = all-met (writerAsks (a .law) (a .set)) (sym (t .before .before .guard-writer .ensures) ∙ t .enum-told .given .1) in
     (met .0, met .1 .0)
 
+module _ (c : tie.After-stopped) where
+  abbrev start : tie.Start
+  start = c .before .before .before .before .before .before .before
+
+module _ (c : tie.After-slice-known2) where
+  abbrev enum-told : tie.After-enum-told
+  enum-told = c .before .before .before .before .before .before
+
 -- LAW or SET
 returns-2 : tie.Need-returns-2
 returns-2 c =
-    let a = c .before .before .before .before .before .before .before .args in
+    let a = (start c) .args in
     let e = sym (c .before .before .before .before .guard-writer .ensures) ∙ c .before .before .why .given .1 in
     stops (c .stopped .ensures) (a .law) (a .set) _ (refuses (a .sound .now) (a .law) (a .set) (a .n) (length (a .out .now)) e)
     (a .out .now)
 
-same-length : tie.Need-same-length
-same-length c = search needs
-
 returns-3 : tie.Need-returns-3
 returns-3 c =
-    let t = c .before .before .before .before .before .before in
+    let t = enum-told c in
     let a = t .before .before .before .before .before .args in
     let met = all-met (writerAsks (a .law) (a .set)) (sym (t .before .before .guard-writer .ensures) ∙ t .enum-told .given .1) in
     let l = c .before .before .before .before .before .is-length in
-    packs-as
-    (the-frames (a .sound .now) (a .law) (a .set) (a .n) (length (a .out .now)) (met .0) (met .1 .0)
+    packs-as (the-frames (a .sound .now) (a .law) (a .set) (a .n) (length (a .out .now)) (met .0) (met .1 .0)
     (sym (l .ensures) ∙ not-false (l .result) (c .before .before .before .before .if1 .left)))
     (c .before .before .frames .ensures)
 
 pub pack-spec : {M : Type 1} → statement M
-pack-spec =
-    tie.close
-    (tie.spec
-    guard-writer-requires
-    enum-known-why
-    stopped-requires
-    enum-told
-    is-length-requires
-    stopped-requires-2
-    returns
-    frames-requires
-    returns-2
-    same-length
-    returns-3)
+pack-spec = tie.close (tie.spec (λ c κs. search needs) (λ c. search needs) (λ c κs. search needs) (λ c. search needs)
+    (λ c κs. search needs) (λ c κs. search needs) returns frames-requires returns-2 (λ c. search needs) returns-3)

@@ -28,82 +28,41 @@ module _ (c : tie.After-pack) where
   inside = part-inside (start .args .part .now) (start .args .law) (start .args .set) (start .args .n) (start .args .page .now)
       (c .before .before .room-on .result) fits (c .pack .ensures)
 
-enum-told : tie.Need-enum-told
-enum-told c = search needs
-
-enum-told-2 : tie.Need-enum-told-2
-enum-told-2 c = search needs
-
 returns : tie.Need-returns
 returns c =
     let s = c .before .before .before .before in
     stays-refused (s .args .done) (s .args .part .now) (s .args .law) (s .args .set) (s .args .n) (s .args .page .now)
     (c .enum-told2 .given .0 .0) (c .enum-told2 .given .1)
 
-room-on-requires : tie.Need-room-on-requires
-room-on-requires c κs = search needs
-
-slice-relend-prefix-pack : tie.Need-slice-relend-prefix-pack
-slice-relend-prefix-pack c = search needs
-
 slice-aggregate-pack : tie.Need-slice-aggregate-pack
 slice-aggregate-pack c = sym (length-take-le _ _ (omega (arith, c .before .room-on .ensures)))
 
-pack-requires : tie.Need-pack-requires
-pack-requires c κs = search needs
+module _ (c : tie.After-struct-known4) where
+  abbrev pack : tie.After-pack
+  pack = c .before .before .before .before .before .before
 
 add-t11 : tie.Need-add-t11
-add-t11 c = omega (
-  arith,
-  inside (c .before .before .before .before) .frames,
-  c .before .before .before .before .before
-      .before .before .before .before .before .before .pre .1,
-)
+add-t11 c =
+    let p = c .before .before .before .before in
+    omega (arith, inside p .frames, (start p) .pre .1)
 
 add-t14 : tie.Need-add-t14
-add-t14 c = omega (
-  arith,
-  inside (c .before .before .before .before .before .before) .samples,
-  c .before .before .before
-      .before .before .before .before .before .before .before .before .before .before .pre .2,
-)
+add-t14 c = omega (arith, inside (pack c) .samples, (start (pack c)) .pre .2)
 
 add-t15 : tie.Need-add-t15
-add-t15 c = omega (
-  arith,
-  inside (c .before .before .before .before .before .before .before .before) .octets,
-  c .before
-      .before .before .before .before .before .before .before .before .before .room-on .ensures,
-  c .before .before .before
-      .before .before .before .before .before .before .before .before .before .before .before .before .pre .0,
-)
-
-same-length : tie.Need-same-length
-same-length c = search needs
+add-t15 c =
+    let p = pack (c .before .before) in
+    omega (arith, inside p .octets, p .before .before .room-on .ensures, (start p) .pre .0)
 
 returns-2 : tie.Need-returns-2
 returns-2 c =
-    let s = c .before .before .before .before .before .before .before .before .before .before .before .before .before .before .before in
-    let p = c .before .before .before .before .before .before .before .before .pack in
-    part-packed (s .args .done) (s .args .part .now) (s .args .law) (s .args .set) (s .args .n)
-    (c .before .before .before .before .before .before .before .before .before .before .room-on .result) (s .args .page .now)
-    (p .last .1 .1 .1 .1 .0)
-    (c .before .before .before .before .before .before .before .before .before .before .before .enum-told .given .1)
-    (c .before .before .before .before .before .before .before .before .before .before .room-on .ensures) (p .ensures)
+    let k = pack (c .before .before) in
+    let s = start k in
+    let p = k .pack in
+    part-packed (s .args .done) (s .args .part .now) (s .args .law) (s .args .set) (s .args .n) (k .before .before .room-on .result)
+    (s .args .page .now) (p .last .1 .1 .1 .1 .0) (k .before .before .before .enum-told .given .1)
+    (k .before .before .room-on .ensures) (p .ensures)
 
 pub pack-on-spec : {M : Type 1} → statement M
-pack-on-spec =
-    tie.close
-    (tie.spec
-    enum-told
-    enum-told-2
-    returns
-    room-on-requires
-    slice-relend-prefix-pack
-    slice-aggregate-pack
-    pack-requires
-    add-t11
-    add-t14
-    add-t15
-    same-length
-    returns-2)
+pack-on-spec = tie.close (tie.spec (λ c. search needs) (λ c. search needs) returns (λ c κs. search needs) (λ c. search needs)
+    slice-aggregate-pack (λ c κs. search needs) add-t11 add-t14 add-t15 (λ c. search needs) returns-2)

@@ -6,20 +6,15 @@ use Rattle.lines.proofs.Putting.{puts-then}
 use Rattle.pages.proofs.last.Statement.{statement}
 use Rattle.pages.proofs.last.Tie as tie
 
-stop-line-requires : tie.Need-stop-line-requires
-stop-line-requires c κs = search needs
-
-samples-line-requires : tie.Need-samples-line-requires
-samples-line-requires c κs = search needs
-
-same-length : tie.Need-same-length
-same-length c = search needs
+module _ (c : tie.After-slice-known3) where
+  abbrev stop-line : tie.After-stop-line
+  stop-line = c .before .before .before .before .before .before
 
 returns : tie.Need-returns
 returns c =
-    let stop = c .before .before .before .before .before .before .stop-line .ensures in
+    let stop = (stop-line c) .stop-line .ensures in
     let samples = c .before .before .samples-line .ensures in
     record { puts = puts-then (stop .0) (samples .0); ended = refl; at = refl; frames = refl; samples = refl; most = omega arith }
 
 pub last-spec : {M : Type 1} → statement M
-last-spec = tie.close (tie.spec stop-line-requires samples-line-requires same-length returns)
+last-spec = tie.close (tie.spec (λ c κs. search needs) (λ c κs. search needs) (λ c. search needs) returns)

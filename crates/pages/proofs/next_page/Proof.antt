@@ -23,56 +23,43 @@ loop-holds c =
 step-requires : tie.Need-step-requires Inv-loop μ-loop
 step-requires c κs = let t = c .before .before .loop .inv in (t .0 .lists .stands, t .0 .goes, t .0 .room, t .1)
 
+module _ (c : tie.After-next Inv-loop μ-loop) where
+  abbrev step : tie.After-step Inv-loop μ-loop
+  step = c .before .before .before
+
 same-length : tie.Need-same-length Inv-loop μ-loop
-same-length c = turn-then (c .before .before .before .before .before .before .before .loop .inv .0)
+same-length c = turn-then ((step (c .before)) .before .before .before .loop .inv .0)
     (c .before .before .before .before .step .ensures .0) (c .before .before .before .before .step .ensures .1 .0) .0 .puts .size
 
 returns : tie.Need-returns Inv-loop μ-loop
-returns c = turn-then (c .before .before .before .before .before .before .before .loop .inv .0)
+returns c = turn-then ((step (c .before)) .before .before .before .loop .inv .0)
     (c .before .before .before .before .step .ensures .0) (c .before .before .before .before .step .ensures .1 .0)
 
-sub-if2 : tie.Need-sub-if2 Inv-loop μ-loop
-sub-if2 c = search needs
-
 same-length-2 : tie.Need-same-length-2 Inv-loop μ-loop
-same-length-2 c = turn-then (c .before .before .before .before .before .before .before .before .before .loop .inv .0)
-    (c .before .before .before .before .before .before .step .ensures .0)
-    (c .before .before .before .before .before .before .step .ensures .1 .0) .0 .puts .size
+same-length-2 c = turn-then ((step (c .before .before .before)) .before .before .before .loop .inv .0)
+    ((step (c .before .before .before)) .step .ensures .0)
+    ((step (c .before .before .before)) .step .ensures .1 .0) .0 .puts .size
 
 returns-2 : tie.Need-returns-2 Inv-loop μ-loop
-returns-2 c = turn-then (c .before .before .before .before .before .before .before .before .before .loop .inv .0)
-    (c .before .before .before .before .before .before .step .ensures .0)
-    (c .before .before .before .before .before .before .step .ensures .1 .0)
+returns-2 c = turn-then ((step (c .before .before .before)) .before .before .before .loop .inv .0)
+    ((step (c .before .before .before)) .step .ensures .0) ((step (c .before .before .before)) .step .ensures .1 .0)
 
 loop-less : tie.Need-loop-less Inv-loop μ-loop
-loop-less c = c .before .before .before .before .before .before .step .ensures .1 .0
+loop-less c = (step (c .before .before .before)) .step .ensures .1 .0
 
 loop-again : tie.Need-loop-again Inv-loop μ-loop
 loop-again c =
-    let t = turn-then (c .before .before .before .before .before .before .before .before .before .loop .inv .0)
-    (c .before .before .before .before .before .before .step .ensures .0)
-    (c .before .before .before .before .before .before .step .ensures .1 .0) in (
+    let t = turn-then ((step (c .before .before .before)) .before .before .before .loop .inv .0)
+    ((step (c .before .before .before)) .step .ensures .0) ((step (c .before .before .before)) .step .ensures .1 .0) in (
       record {
         lists = t .0;
         goes = c .before .before .if1 .left;
         room = omega (arith, t .0 .size, t .0 .puts .size);
         nearer = le-of-lt (t .1);
       },
-      c .before .before .before .before .before .before .step .ensures .1 .1,
+      (step (c .before .before .before)) .step .ensures .1 .1,
     )
 
 pub next-page-spec : {M : Type 1} → statement M
-next-page-spec =
-    tie.close
-    (tie.spec
-    Inv-loop
-    μ-loop
-    loop-holds
-    step-requires
-    same-length
-    returns
-    sub-if2
-    same-length-2
-    returns-2
-    loop-less
-    loop-again)
+next-page-spec = tie.close (tie.spec Inv-loop μ-loop loop-holds step-requires same-length returns (λ c. search needs)
+    same-length-2 returns-2 loop-less loop-again)

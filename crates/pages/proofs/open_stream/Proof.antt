@@ -6,20 +6,8 @@ use Rattle.pages.proofs.Openings.{opens-stopped, too-long, opens-stream
 use Rattle.pages.proofs.open_stream.Statement.{statement}
 use Rattle.pages.proofs.open_stream.Tie as tie
 
-refused-requires : tie.Need-refused-requires
-refused-requires c κs = search needs
-
-same-length : tie.Need-same-length
-same-length c = search needs
-
 returns : tie.Need-returns
 returns c = opens-stopped _ (c .before .before .refused .ensures) (too-long _ _ (omega arith))
-
-law-line-requires : tie.Need-law-line-requires
-law-line-requires c κs = search needs
-
-same-length-2 : tie.Need-same-length-2
-same-length-2 c = search needs
 
 returns-2 : tie.Need-returns-2
 returns-2 c =
@@ -27,6 +15,5 @@ returns-2 c =
     opens-stream _ (record { frames = refl; at = refl; samples = refl; goes = refl }) (omega arith) (omega arith) (line .0) (omega arith)
 
 pub open-stream-spec : {M : Type 1} → statement M
-open-stream-spec =
-    tie.close
-    (tie.spec refused-requires same-length returns law-line-requires same-length-2 returns-2)
+open-stream-spec = tie.close (tie.spec (λ c κs. search needs) (λ c. search needs) returns (λ c κs. search needs)
+    (λ c. search needs) returns-2)

@@ -8,31 +8,12 @@ use Rattle.measure.proofs.Rice.{length-riceForm, one-shifted}
 use Rattle.pen.proofs.Rice.{rice-fits, rice-word, rice-short, rice-long}
 use Rattle.pen.proofs.put_rice.Statement.{statement}
 use Rattle.pen.proofs.put_rice.Tie as tie
-use Rattle.pen.proofs.put_rice.Reads as reads
-use Rattle.pen.proofs.put_rice.Lts as lts
-use Rattle.pen.proofs.put.Reads as put-reads
-use Rattle.pen.proofs.put_zeros.Reads as put-zeros-reads
-
-shr-zeros : tie.Need-shr-zeros
-shr-zeros c = search needs
-
-shl-last : tie.Need-shl-last
-shl-last c = search needs
-
-shl-last-2 : tie.Need-shl-last-2
-shl-last-2 c = search needs
 
 rem-last : tie.Need-rem-last
 rem-last c = rw (one-shifted _ (c .before .pre .0)) (pow-pos _)
 
 add-last : tie.Need-add-last
 add-last c = record { fits = rice-word _ _ (one-shifted _ (c .before .pre .0)) (c .before .pre .0) }
-
-add-put : tie.Need-add-put
-add-put c = search needs
-
-add-put-2 : tie.Need-add-put-2
-add-put-2 c = search needs
 
 put-requires : tie.Need-put-requires
 put-requires c κs =
@@ -41,12 +22,17 @@ put-requires c κs =
       (omega arith, rice-fits _ _ _ (one-shifted _ (s .pre .0))),
     )
 
-same-length : tie.Need-same-length
-same-length c = search needs
+module _ (c : tie.After-put-arg2) where
+  abbrev put-zeros : tie.After-put-zeros
+  put-zeros = c .before .before .before
+
+module _ (c : tie.After-slice-known2) where
+  abbrev start : tie.Start
+  start = c .before .before .before .before .before .before
 
 returns : tie.Need-returns
 returns c =
-    let s = c .before .before .before .before .before .before in
+    let s = start c in
     rice-short (s .args .s) (s .args .v) (one-shifted _ (s .pre .0)) (c .before .before .put .ensures)
 
 put-zeros-requires : tie.Need-put-zeros-requires
@@ -54,43 +40,22 @@ put-zeros-requires c κs =
     let s = c .before .before .before in
     able-as (s .pre .1) (omega (arith, length-riceForm (s .args .s) (s .args .v)))
 
-add-put-3 : tie.Need-add-put-3
-add-put-3 c = search needs
-
 put-requires-2 : tie.Need-put-requires-2
 put-requires-2 c κs =
-    let s = c .before .before .before .before .before .before .before in
+    let s = (put-zeros c) .before .before .before .before in
     let z = c .before .before .before .put-zeros in
     let k = length-replicate {A = ℕ} (s .args .v / 2 ^ s .args .s) 0 in (
       able-then _ (s .pre .1) (z .ensures) (z .kept .0) (omega (arith, length-riceForm (s .args .s) (s .args .v))),
       (omega arith, rice-fits 0 _ _ (one-shifted _ (s .pre .0))),
     )
 
-same-length-2 : tie.Need-same-length-2
-same-length-2 c = search needs
-
 returns-2 : tie.Need-returns-2
 returns-2 c =
-    let s = c .before .before .before .before .before .before .before .before .before .before in
-    rice-long (s .args .s) (s .args .v) (one-shifted _ (s .pre .0)) (c .before .before .before .before .before .before .put-zeros .ensures)
+    let s = (put-zeros (c .before .before .before)) .before .before .before .before in
+    rice-long (s .args .s) (s .args .v) (one-shifted _ (s .pre .0)) ((put-zeros (c .before .before .before)) .put-zeros .ensures)
     (c .before .before .put2 .ensures)
 
 pub put-rice-spec : {M : Type 1} → statement M
-put-rice-spec =
-    tie.close
-    (tie.spec
-    shr-zeros
-    shl-last
-    shl-last-2
-    rem-last
-    add-last
-    add-put
-    add-put-2
-    put-requires
-    same-length
-    returns
-    put-zeros-requires
-    add-put-3
-    put-requires-2
-    same-length-2
-    returns-2)
+put-rice-spec = tie.close (tie.spec (λ c. search needs) (λ c. search needs) (λ c. search needs) rem-last add-last
+    (λ c. search needs) (λ c. search needs) put-requires (λ c. search needs) returns put-zeros-requires (λ c. search needs)
+    put-requires-2 (λ c. search needs) returns-2)

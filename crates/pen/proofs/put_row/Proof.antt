@@ -8,9 +8,6 @@ use Rattle.pen.proofs.Putting.{able-then}
 use Rattle.pen.proofs.Rows.{RowTurn, row-none, row-able, row-then}
 use Rattle.pen.proofs.put_row.Statement.{statement}
 use Rattle.pen.proofs.put_row.Tie as tie
-use Rattle.pen.proofs.put_row.Reads as reads
-use Rattle.pen.proofs.put_row.Lts as lts
-use Rattle.pen.proofs.put.Reads as put-reads
 
 abbrev Inv-loop : tie.InvT-loop
 Inv-loop out₀ row k q₀ i₀ out q i = RowTurn out₀ q₀ row out q k i
@@ -21,12 +18,6 @@ abbrev μ-loop : tie.MeasureT-loop
 loop-holds : tie.Need-loop-holds Inv-loop μ-loop
 loop-holds c = row-none (c .before .args .row .now) (c .before .pre .1 .1)
 
-mul-w : tie.Need-mul-w Inv-loop μ-loop
-mul-w c = search needs
-
-element-copy-out-w : tie.Need-element-copy-out-w Inv-loop μ-loop
-element-copy-out-w c = search needs
-
 put-requires : tie.Need-put-requires Inv-loop μ-loop
 put-requires c κs =
     let s = c .before .before .before .before .before in
@@ -35,50 +26,35 @@ put-requires c κs =
       (omega arith, omega (arith, s .pre .1 .0 (l .i))),
     )
 
+module _ (c : tie.After-put-arg2 Inv-loop μ-loop) where
+  abbrev loop : tie.In-loop Inv-loop μ-loop
+  loop = c .before .before .before .before .before .before
+
+  abbrev put : tie.After-put Inv-loop μ-loop
+  put = c .before .before .before
+
 put-requires-2 : tie.Need-put-requires-2 Inv-loop μ-loop
 put-requires-2 c κs =
-    let s = c .before .before .before .before .before .before .before .before .before in
-    let l = c .before .before .before .before .before .before .before .loop in
+    let s = (loop c) .before .before .before in
+    let l = (loop c) .before .loop in
     let able = row-able (l .inv) (omega arith) (omega (arith, s .pre .0 .0, s .pre .0 .1)) (s .pre .1 .1) 40 (omega arith) in (
       able-then 32 able (c .before .before .before .put .ensures) (c .before .before .before .put .kept .0)
           (omega (arith, length-lowBits 8 (getD (s .args .row .now) (l .i) 0 / 4294967296))),
       (omega arith, omega arith),
     )
 
-add-i : tie.Need-add-i Inv-loop μ-loop
-add-i c = search needs
-
-loop-less : tie.Need-loop-less Inv-loop μ-loop
-loop-less c = search needs
-
 loop-again : tie.Need-loop-again Inv-loop μ-loop
 loop-again c =
-    let s = c .before .before .before .before .before .before .before .before .before .before .before .before in
-    let l = c .before .before .before .before .before .before .before .before .before .before .loop in
-    let high = c .before .before .before .before .before .before .put in
+    let s = (loop (c .before .before .before)) .before .before .before in
+    let l = (loop (c .before .before .before)) .before .loop in
+    let high = (put (c .before .before .before)) .put in
     let low = c .before .before .put2 in
-    row-then (l .inv) (c .before .before .before .before .before .before .before .before .before .loop-test .taken)
+    row-then (l .inv) ((loop (c .before .before .before)) .loop-test .taken)
     (omega (arith, s .pre .0 .0, s .pre .0 .1)) refl (high .ensures) (low .ensures) (high .kept .0) (low .kept .0)
-
-same-length : tie.Need-same-length Inv-loop μ-loop
-same-length c = search needs
 
 returns : tie.Need-returns Inv-loop μ-loop
 returns c = let e : c .before .loop .i ≡ c .before .before .before .args .k = omega arith in rw e at (c .before .loop .inv .puts)
 
 pub put-row-spec : {M : Type 1} → statement M
-put-row-spec =
-    tie.close
-    (tie.spec
-    Inv-loop
-    μ-loop
-    loop-holds
-    mul-w
-    element-copy-out-w
-    put-requires
-    put-requires-2
-    add-i
-    loop-less
-    loop-again
-    same-length
-    returns)
+put-row-spec = tie.close (tie.spec Inv-loop μ-loop loop-holds (λ c. search needs) (λ c. search needs) put-requires
+    put-requires-2 (λ c. search needs) (λ c. search needs) loop-again (λ c. search needs) returns)

@@ -4,9 +4,6 @@ use lib.Pow.{pow-pos}
 use Rattle.pen.proofs.Rice.{ZerosTurn, zeros-start, zeros-able, zeros-then, zeros-done}
 use Rattle.pen.proofs.put_zeros.Statement.{statement}
 use Rattle.pen.proofs.put_zeros.Tie as tie
-use Rattle.pen.proofs.put_zeros.Reads as reads
-use Rattle.pen.proofs.put_zeros.Lts as lts
-use Rattle.pen.proofs.put.Reads as put-reads
 
 abbrev Inv-loop : tie.InvT-loop
 Inv-loop out₀ v q₀ zeros₀ out q zeros = ZerosTurn out₀ v q₀ out q zeros
@@ -20,12 +17,6 @@ loop-holds c = zeros-start (c .before .pre)
 put-requires : tie.Need-put-requires Inv-loop μ-loop
 put-requires c κs = (zeros-able (c .before .before .loop .inv) (c .before .before .before .before .pre) 32 (omega arith), omega arith)
 
-sub-zeros : tie.Need-sub-zeros Inv-loop μ-loop
-sub-zeros c = search needs
-
-loop-less : tie.Need-loop-less Inv-loop μ-loop
-loop-less c = search needs
-
 loop-again : tie.Need-loop-again Inv-loop μ-loop
 loop-again c = zeros-then (c .before .before .before .before .before .loop .inv) 32 (omega arith) (c .before .before .put .ensures)
     (c .before .before .put .kept .0)
@@ -34,24 +25,10 @@ put-requires-2 : tie.Need-put-requires-2 Inv-loop μ-loop
 put-requires-2 c κs =
     (zeros-able (c .before .before .loop .inv) (c .before .before .before .before .pre) _ (omega arith), (omega arith, pow-pos _))
 
-same-length : tie.Need-same-length Inv-loop μ-loop
-same-length c = search needs
-
 returns : tie.Need-returns Inv-loop μ-loop
 returns c = zeros-done (c .before .before .before .before .before .loop .inv) (c .before .before .put2 .ensures)
     (c .before .before .put2 .kept .0)
 
 pub put-zeros-spec : {M : Type 1} → statement M
-put-zeros-spec =
-    tie.close
-    (tie.spec
-    Inv-loop
-    μ-loop
-    loop-holds
-    put-requires
-    sub-zeros
-    loop-less
-    loop-again
-    put-requires-2
-    same-length
-    returns)
+put-zeros-spec = tie.close (tie.spec Inv-loop μ-loop loop-holds put-requires (λ c. search needs) (λ c. search needs) loop-again
+    put-requires-2 (λ c. search needs) returns)

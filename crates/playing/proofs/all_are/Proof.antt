@@ -5,9 +5,6 @@ use Rattle.playing.proofs.Erasing.{others-none}
 use Rattle.playing.proofs.all_are.Statement.{statement}
 use Rattle.playing.proofs.all_are.Tie as tie
 
-count-of-requires : tie.Need-count-of-requires
-count-of-requires c κs = search needs
-
 sub-others : tie.Need-sub-others
 sub-others c =
     let a = c .before .before .args in
@@ -19,4 +16,4 @@ returns c =
     rw (c .count-of .ensures .0) (others-none (a .x) (a .n) (a .samples .now) (omega arith) .1)
 
 pub all-are-spec : {M : Type 1} → statement M
-all-are-spec = tie.close (tie.spec count-of-requires sub-others returns)
+all-are-spec = tie.close (tie.spec (λ c κs. search needs) sub-others returns)

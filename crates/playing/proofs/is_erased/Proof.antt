@@ -13,42 +13,38 @@ use Rattle.playing.proofs.is_erased.Tie as tie
 returns : tie.Need-returns
 returns c = erased-none _ _ _ (c .if1 .taken)
 
-mask-of-requires : tie.Need-mask-of-requires
-mask-of-requires c κs = search needs
-
-shared-slice-read-first : tie.Need-shared-slice-read-first
-shared-slice-read-first c = search needs
-
 plus-plus-requires : tie.Need-plus-plus-requires
 plus-plus-requires c κs = rw (c .before .mask-of .ensures) (mask-seven _ (is-mask (c .before .before .before .before .args .law)))
 
-all-are-requires : tie.Need-all-are-requires
-all-are-requires c κs = search needs
+module _ (c : tie.After-plus-plus) where
+  abbrev mask-of : tie.After-mask-of
+  mask-of = c .before .before
 
 returns-2 : tie.Need-returns-2
 returns-2 c =
-    let s = c .before .before .before .before .before .before .before in
+    let mask-of = c .before .before .before .before in
+    let s = mask-of .before .before .before in
     let m = c .before .before .before .before .mask-of .ensures in
     let p = c .before .if2 .taken ∙ c .before .before .plus-plus .ensures ∙ ap (λ (mask : ℕ). plusPlus mask) m in
     rw (c .all-are .ensures) (erased-plus (maskOf (s .args .law)) (s .args .n) (s .args .samples .now) (omega arith) (omega arith) p)
 
 minus-minus-requires : tie.Need-minus-minus-requires
 minus-minus-requires c κs =
-    rw (c .before .before .before .mask-of .ensures) (mask-seven _ (is-mask (c .before .before .before .before .before .before .args .law)))
-
-all-are-requires-2 : tie.Need-all-are-requires-2
-all-are-requires-2 c κs = search needs
+    let mask-of = c .before .before .before in
+    rw (c .before .before .before .mask-of .ensures) (mask-seven _ (is-mask (mask-of .before .before .before .args .law)))
 
 returns-3 : tie.Need-returns-3
 returns-3 c =
-    let s = c .before .before .before .before .before .before .before .before .before in
-    let m = c .before .before .before .before .before .before .mask-of .ensures in
+    let plus-plus = c .before .before .before .before in
+    let mask-of = plus-plus .before .before in
+    let s = mask-of .before .before .before in
+    let m = mask-of .mask-of .ensures in
     let p = c .before .if3 .taken ∙ c .before .before .minus-minus .ensures ∙ ap (λ (mask : ℕ). minusMinus mask) m in
     rw (c .all-are2 .ensures) (erased-minus (maskOf (s .args .law)) (s .args .n) (s .args .samples .now) (omega arith) (omega arith) p)
 
 returns-4 : tie.Need-returns-4
 returns-4 c =
-    let s = c .before .before .before .before .before .before .before .before in
+    let s = (mask-of (c .before .before .before)) .before .before .before in
     let m = c .before .before .before .before .before .mask-of .ensures in
     let p = c .before .before .before .plus-plus .ensures ∙ ap (λ (mask : ℕ). plusPlus mask) m in
     let q = c .before .minus-minus .ensures ∙ ap (λ (mask : ℕ). minusMinus mask) m in
@@ -56,16 +52,5 @@ returns-4 c =
     (λ e. c .before .before .if2 .left (e ∙ sym p)) (λ e. c .if3 .left (e ∙ sym q))
 
 pub is-erased-spec : {M : Type 1} → statement M
-is-erased-spec =
-    tie.close
-    (tie.spec
-    returns
-    mask-of-requires
-    shared-slice-read-first
-    plus-plus-requires
-    all-are-requires
-    returns-2
-    minus-minus-requires
-    all-are-requires-2
-    returns-3
-    returns-4)
+is-erased-spec = tie.close (tie.spec returns (λ c κs. search needs) (λ c. search needs) plus-plus-requires
+    (λ c κs. search needs) returns-2 minus-minus-requires (λ c κs. search needs) returns-3 returns-4)

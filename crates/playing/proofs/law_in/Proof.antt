@@ -13,26 +13,8 @@ use Rattle.playing.proofs.law_in.Tie as tie
 compared : {word : List ℕ} {r b : Bool} (head text : List ℕ) → word ≡ head → r ≡ begins word text → r ≡ b → begins head text ≡ b
 compared head text w e f = ap (λ (h : List ℕ). begins h text) (sym w) ∙ sym e ∙ f
 
-heading-of-requires : tie.Need-heading-of-requires
-heading-of-requires c κs = search needs
-
-slice-aggregate-has-word : tie.Need-slice-aggregate-has-word
-slice-aggregate-has-word c = search needs
-
-has-word-requires : tie.Need-has-word-requires
-has-word-requires c κs = search needs
-
 returns : tie.Need-returns
 returns c = headed-a _ (compared _ _ (c .before .before .before .heading-of .ensures) (c .before .has-word .ensures) (c .if1 .taken))
-
-heading-of-requires-2 : tie.Need-heading-of-requires-2
-heading-of-requires-2 c κs = search needs
-
-slice-aggregate-has-word-2 : tie.Need-slice-aggregate-has-word-2
-slice-aggregate-has-word-2 c = search needs
-
-has-word-requires-2 : tie.Need-has-word-requires-2
-has-word-requires-2 c κs = search needs
 
 returns-2 : tie.Need-returns-2
 returns-2 c =
@@ -47,15 +29,5 @@ returns-3 c =
     (compared _ _ (c .before .before .before .heading-of2 .ensures) (c .before .has-word2 .ensures) (c .if2 .left))
 
 pub law-in-spec : {M : Type 1} → statement M
-law-in-spec =
-    tie.close
-    (tie.spec
-    heading-of-requires
-    slice-aggregate-has-word
-    has-word-requires
-    returns
-    heading-of-requires-2
-    slice-aggregate-has-word-2
-    has-word-requires-2
-    returns-2
-    returns-3)
+law-in-spec = tie.close (tie.spec (λ c κs. search needs) (λ c. search needs) (λ c κs. search needs) returns
+    (λ c κs. search needs) (λ c. search needs) (λ c κs. search needs) returns-2 returns-3)

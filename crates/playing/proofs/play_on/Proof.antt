@@ -31,9 +31,6 @@ module _ (c : tie.After-item-at Inv-loop μ-loop) (e : c .item-at .result .end �
 loop-holds : tie.Need-loop-holds Inv-loop μ-loop
 loop-holds c = play-start _ _ _ _ _ _ _ refl
 
-so-far-requires : tie.Need-so-far-requires Inv-loop μ-loop
-so-far-requires c κs = search needs
-
 same-length : tie.Need-same-length Inv-loop μ-loop
 same-length c = lent-length (c .before .before .loop .inv .kept)
 
@@ -43,9 +40,6 @@ same-length-2 c = lent-length (c .before .before .loop .inv .told)
 returns : tie.Need-returns Inv-loop μ-loop
 returns c = rw (c .so-far .ensures) (play-last _ _ _ _ _ _ _ (c .before .before .loop .inv) (c .before .if1 .taken))
 
-so-far-requires-2 : tie.Need-so-far-requires-2 Inv-loop μ-loop
-so-far-requires-2 c κs = search needs
-
 same-length-3 : tie.Need-same-length-3 Inv-loop μ-loop
 same-length-3 c = lent-length (c .before .before .before .loop .inv .kept)
 
@@ -54,9 +48,6 @@ same-length-4 c = lent-length (c .before .before .before .loop .inv .told)
 
 returns-2 : tie.Need-returns-2 Inv-loop μ-loop
 returns-2 c = rw (c .so-far2 .ensures) (play-ended _ _ _ _ _ _ _ (c .before .before .before .loop .inv) (c .before .if2 .taken))
-
-so-far-requires-3 : tie.Need-so-far-requires-3 Inv-loop μ-loop
-so-far-requires-3 c κs = search needs
 
 same-length-5 : tie.Need-same-length-5 Inv-loop μ-loop
 same-length-5 c = lent-length (c .before .before .before .before .loop .inv .kept)
@@ -68,8 +59,7 @@ returns-3 : tie.Need-returns-3 Inv-loop μ-loop
 returns-3 c =
     rw (c .so-far3 .ensures)
     (play-full _ _ _ _ _ _ _ (c .before .before .before .before .loop .inv) (c .before .before .before .if1 .left)
-    (c .before .before .if2 .left)
-    (c .before .if3 .taken))
+    (c .before .before .if2 .left) (c .before .if3 .taken))
 
 sub-item-at : tie.Need-sub-item-at Inv-loop μ-loop
 sub-item-at c = let w = c .before .before .before .loop .inv in omega (arith, w .kept .room, lent-length (w .kept))
@@ -77,17 +67,22 @@ sub-item-at c = let w = c .before .before .before .loop .inv in omega (arith, w 
 item-at-requires : tie.Need-item-at-requires Inv-loop μ-loop
 item-at-requires c κs = (c .before .before .if2 .left, c .before .before .before .before .loop .inv .size)
 
-enum-known-e : tie.Need-enum-known-e Inv-loop μ-loop
-enum-known-e c = search needs
+module _ (c : tie.After-slice-known3 Inv-loop μ-loop) where
+  abbrev enum-told : tie.After-enum-told Inv-loop μ-loop
+  enum-told = c .before .before .before .before .before
 
-so-far-requires-4 : tie.Need-so-far-requires-4 Inv-loop μ-loop
-so-far-requires-4 c κs = search needs
+  abbrev else1 : tie.Else1 Inv-loop μ-loop
+  else1 = c .before .before .before .before .before .before .before .before .before .before .before
+
+module _ (c : tie.After-item-at Inv-loop μ-loop) where
+  abbrev loop : tie.At-loop Inv-loop μ-loop
+  loop = c .before .before .before .before .before
 
 same-length-7 : tie.Need-same-length-7 Inv-loop μ-loop
-same-length-7 c = lent-length (c .before .before .before .before .before .before .before .before .before .loop .inv .kept)
+same-length-7 c = lent-length ((loop (c .before .before .before .before)) .loop .inv .kept)
 
 same-length-8 : tie.Need-same-length-8 Inv-loop μ-loop
-same-length-8 c = lent-length (c .before .before .before .before .before .before .before .before .before .loop .inv .told)
+same-length-8 c = lent-length ((loop (c .before .before .before .before)) .loop .inv .told)
 
 returns-4 : tie.Need-returns-4 Inv-loop μ-loop
 returns-4 c =
@@ -97,90 +92,50 @@ returns-4 c =
     (s .before .before .before .if2 .left) (s .before .before .if3 .left) (s .item-at .ensures)
     (c .before .before .e .given .0 .0) (c .before .before .e .given .1))
 
-enum-told : tie.Need-enum-told Inv-loop μ-loop
-enum-told c = search needs
-
 slice-aggregate-put-sound : tie.Need-slice-aggregate-put-sound Inv-loop μ-loop
 slice-aggregate-put-sound c = sym (c .before .before .before .item-at .ensures .size)
 
 put-sound-requires : tie.Need-put-sound-requires Inv-loop μ-loop
 put-sound-requires c κs = let f = fits (c .before .before .before .before) (c .before .before .enum-told .given .1) in (f .1, f .2)
 
-mul-cells : tie.Need-mul-cells Inv-loop μ-loop
-mul-cells c = search needs
-
 slice-write-cells : tie.Need-slice-write-cells Inv-loop μ-loop
-slice-write-cells c = c .before .before .before .before .before .before .before .before .before .if3 .left
+slice-write-cells c = (enum-told c) .before .before .before .before .if3 .left
 
 add-place : tie.Need-add-place Inv-loop μ-loop
 add-place c =
-    let s = c .before .before .before .before .before .before .before .before in
+    let s = (enum-told (c .before)) .before .before in
     omega (
       arith,
-      fits s (c .before .before .before .before .before .before .enum-told .given .1) .0,
-      s .before .before .before .before .before .before .before .before .before .good,
+      fits s ((enum-told (c .before)) .enum-told .given .1) .0,
+      (loop s) .before .before .before .before .good,
     )
 
 add-to : tie.Need-add-to Inv-loop μ-loop
 add-to c =
-    let s = c .before .before .before .before .before .before .before .before .before in
+    let s = (enum-told (c .before .before)) .before .before in
     omega (
       arith,
-      fits s (c .before .before .before .before .before .before .before .enum-told .given .1) .2,
+      fits s ((enum-told (c .before .before)) .enum-told .given .1) .2,
       lent-length (s .before .before .before .before .before .loop .inv .kept),
-      s .before .before .before .before .before .before .before .before .before .good,
+      (loop s) .before .before .before .before .good,
     )
-
-add-count : tie.Need-add-count Inv-loop μ-loop
-add-count c = search needs
 
 loop-less : tie.Need-loop-less Inv-loop μ-loop
 loop-less c = omega (
   arith,
-  c .before .before .before .before .before .before .before .before .before .before .before
-      .before .before .if1 .left,
+  (else1 (c .before .before)) .if1 .left,
 )
 
 loop-again : tie.Need-loop-again Inv-loop μ-loop
 loop-again c =
-    let s = c .before .before .before .before .before .before .before .before .before in
+    let s = (enum-told (c .before .before)) .before .before in
     play-turn _ _ _ _ _ _ _ (s .before .before .before .before .before .loop .inv) (s .before .before .before .before .if1 .left)
     (s .before .before .before .if2 .left) (s .before .before .if3 .left) (s .item-at .ensures)
-    (c .before .before .before .before .before .before .before .enum-told .given .1) (c .before .before .before .before .put-sound .ensures)
+    ((enum-told (c .before .before)) .enum-told .given .1) (c .before .before .before .before .put-sound .ensures)
 
 pub play-on-spec : {M : Type 1} → statement M
-play-on-spec =
-    tie.close
-    (tie.spec
-    Inv-loop
-    μ-loop
-    loop-holds
-    so-far-requires
-    same-length
-    same-length-2
-    returns
-    so-far-requires-2
-    same-length-3
-    same-length-4
-    returns-2
-    so-far-requires-3
-    same-length-5
-    same-length-6
-    returns-3
-    sub-item-at
-    item-at-requires
-    enum-known-e
-    so-far-requires-4
-    same-length-7
-    same-length-8
-    returns-4
-    enum-told
-    slice-aggregate-put-sound
-    put-sound-requires
-    mul-cells
-    slice-write-cells
-    add-place
-    add-to
-    add-count
-    loop-less
-    loop-again)
+play-on-spec = tie.close (tie.spec Inv-loop μ-loop loop-holds (λ c κs. search needs) same-length same-length-2 returns
+    (λ c κs. search needs) same-length-3 same-length-4 returns-2 (λ c κs. search needs) same-length-5 same-length-6 returns-3
+    sub-item-at item-at-requires (λ c. search needs) (λ c κs. search needs) same-length-7 same-length-8 returns-4
+    (λ c. search needs) slice-aggregate-put-sound put-sound-requires (λ c. search needs) slice-write-cells add-place add-to
+    (λ c. search needs) loop-less loop-again)

@@ -7,12 +7,9 @@ use Rattle.prefix.proofs.Rule.{rule, entries}
 use Rattle.prefix.proofs.entry.Statement.{statement}
 use Rattle.prefix.proofs.entry.Tie as tie
 
-array-read-result : tie.Need-array-read-result
-array-read-result c = search needs
-
 returns : tie.Need-returns
 unfolding rows lookUp firstOctet entryTells
 returns c = let h : c .args .o < 256 = search needs in rule (entries 256 0) refl (c .args .o) h
 
 pub entry-spec : {M : Type 1} → statement M
-entry-spec = tie.close (tie.spec array-read-result returns)
+entry-spec = tie.close (tie.spec (λ c. search needs) returns)

@@ -5,9 +5,6 @@ use Rattle.prefix.specs.Answers.{entryTells}
 use Rattle.prefix.proofs.first_octet.Statement.{statement}
 use Rattle.prefix.proofs.first_octet.Tie as tie
 
-entry-requires : tie.Need-entry-requires
-entry-requires c κs = search needs
-
 returns : tie.Need-returns
 unfolding entryTells
 returns c = rw (eq-eqb _ _ (c .if1 .taken)) at (c .before .entry .ensures)
@@ -15,12 +12,6 @@ returns c = rw (eq-eqb _ _ (c .if1 .taken)) at (c .before .entry .ensures)
 returns-2 : tie.Need-returns-2
 unfolding entryTells
 returns-2 c = rw (ne-eqb _ _ (c .before .if1 .left), eq-eqb _ _ (c .if2 .taken)) at (c .before .before .entry .ensures)
-
-cast-t : tie.Need-cast-t
-cast-t c = search needs
-
-cast-n : tie.Need-cast-n
-cast-n c = search needs
 
 mul-n : tie.Need-mul-n
 mul-n c = omega arith
@@ -38,5 +29,5 @@ returns-4 c =
     at (c .before .before .before .entry .ensures)
 
 pub first-octet-spec : {M : Type 1} → statement M
-first-octet-spec =
-    tie.close (tie.spec entry-requires returns returns-2 cast-t cast-n mul-n returns-3 returns-4)
+first-octet-spec = tie.close (tie.spec (λ c κs. search needs) returns returns-2 (λ c. search needs) (λ c. search needs) mul-n
+    returns-3 returns-4)

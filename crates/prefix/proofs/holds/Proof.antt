@@ -20,9 +20,6 @@ returns-3 c =
     let t = c .before .before .before .args .t in
     rw (le-leb 1 t (omega arith), lt-leb t 7 (c .if3 .taken), ne-eqb t 11 (omega arith)) refl
 
-shr-result : tie.Need-shr-result
-shr-result c = search needs
-
 returns-4 : tie.Need-returns-4
 unfolding holds
 returns-4 c =
@@ -30,4 +27,4 @@ returns-4 c =
     rw (le-leb 1 t (omega arith), le-leb t 7 (omega arith), ne-eqb t 11 (omega arith)) refl
 
 pub holds-spec : {M : Type 1} → statement M
-holds-spec = tie.close (tie.spec returns returns-2 returns-3 shr-result returns-4)
+holds-spec = tie.close (tie.spec returns returns-2 returns-3 (λ c. search needs) returns-4)

@@ -5,15 +5,6 @@ use Rattle.prefix.proofs.Base.{base-small}
 use Rattle.prefix.proofs.octet_for.Statement.{statement}
 use Rattle.prefix.proofs.octet_for.Tie as tie
 
-base-of-requires : tie.Need-base-of-requires
-base-of-requires c κs = search needs
-
-sub-result : tie.Need-sub-result
-sub-result c = search needs
-
-cast-result : tie.Need-cast-result
-cast-result c = search needs
-
 add-result : tie.Need-add-result
 add-result c = omega (arith, base-small (c .before .before .args .n))
 
@@ -33,15 +24,5 @@ returns-3 : tie.Need-returns-3
 returns-3 c = rw (eq-eqb _ _ (c .before .if1 .left), le-leb _ _ (c .if2 .left)) (omega arith)
 
 pub octet-for-spec : {M : Type 1} → statement M
-octet-for-spec =
-    tie.close
-    (tie.spec
-    base-of-requires
-    sub-result
-    cast-result
-    add-result
-    returns
-    add-result-2
-    returns-2
-    add-result-3
-    returns-3)
+octet-for-spec = tie.close (tie.spec (λ c κs. search needs) (λ c. search needs) (λ c. search needs) add-result returns
+    add-result-2 returns-2 add-result-3 returns-3)

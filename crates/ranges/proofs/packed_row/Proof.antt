@@ -3,11 +3,8 @@ use Rattle.ranges.proofs.Rows.{packed-right}
 use Rattle.ranges.proofs.packed_row.Statement.{statement}
 use Rattle.ranges.proofs.packed_row.Tie as tie
 
-array-read-result : tie.Need-array-read-result
-array-read-result c = search needs
-
 returns : tie.Need-returns
 returns c = packed-right (c .args .k) (c .pre)
 
 pub packed-row-spec : {M : Type 1} → statement M
-packed-row-spec = tie.close (tie.spec array-read-result returns)
+packed-row-spec = tie.close (tie.spec (λ c. search needs) returns)

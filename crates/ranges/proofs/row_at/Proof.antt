@@ -3,12 +3,6 @@ use Rattle.ranges.proofs.Rows.{unpacked}
 use Rattle.ranges.proofs.row_at.Statement.{statement}
 use Rattle.ranges.proofs.row_at.Tie as tie
 
-packed-row-requires : tie.Need-packed-row-requires
-packed-row-requires c κs = search needs
-
-cast-e : tie.Need-cast-e
-cast-e c = search needs
-
 returns : tie.Need-returns
 returns c =
     let e = c .packed-row .ensures in
@@ -16,4 +10,4 @@ returns c =
     record { radix = rw e (u .radix); low = rw e (u .low); below = rw e (u .below) }
 
 pub row-at-spec : {M : Type 1} → statement M
-row-at-spec = tie.close (tie.spec packed-row-requires cast-e returns)
+row-at-spec = tie.close (tie.spec (λ c κs. search needs) (λ c. search needs) returns)

@@ -8,24 +8,12 @@ use Rattle.rules.specs.Samples.{sampleOf}
 use Rattle.ranges.proofs.sample_at.Statement.{statement}
 use Rattle.ranges.proofs.sample_at.Tie as tie
 
-sub-result : tie.Need-sub-result
-sub-result c = search needs
-
-sub-result-2 : tie.Need-sub-result-2
-sub-result-2 c = search needs
-
-cast-result : tie.Need-cast-result
-cast-result c = search needs
-
 returns : tie.Need-returns
 unfolding sampleOf
 returns c =
     let a = c .before .args in
     let e : a .low - 1 - a .d ≡ a .low - suc (a .d) = omega arith in
     rw (lt-ltb (a .d) (a .below) (c .if1 .taken), e) refl
-
-cast-result-2 : tie.Need-cast-result-2
-cast-result-2 c = search needs
 
 add-result : tie.Need-add-result
 add-result c =
@@ -37,6 +25,5 @@ unfolding sampleOf
 returns-2 c = rw (le-ltb (c .before .args .d) (c .before .args .below) (omega arith)) refl
 
 pub sample-at-spec : {M : Type 1} → statement M
-sample-at-spec =
-    tie.close
-    (tie.spec sub-result sub-result-2 cast-result returns cast-result-2 add-result returns-2)
+sample-at-spec = tie.close (tie.spec (λ c. search needs) (λ c. search needs) (λ c. search needs) returns (λ c. search needs)
+    add-result returns-2)

@@ -38,14 +38,8 @@ uncompressed-requires c κs =
       lent s,
     )
 
-plus-zero-requires : tie.Need-plus-zero-requires
-plus-zero-requires c κs = search needs
-
 filled-requires : tie.Need-filled-requires
 filled-requires c κs = (ranged (c .before .before .before .before) .1, lent (c .before .before .before .before))
-
-minus-zero-requires : tie.Need-minus-zero-requires
-minus-zero-requires c κs = search needs
 
 filled-requires-2 : tie.Need-filled-requires-2
 filled-requires-2 c κs = (ranged (c .before .before .before .before) .1, lent (c .before .before .before .before))
@@ -55,9 +49,6 @@ constant-requires c κs = let s = c .before .before .before in (omega (arith, s 
 
 binary-requires : tie.Need-binary-requires
 binary-requires c κs = let s = c .before .before .before in (omega (arith, s .pre .0 .at), ranged s .1, s .pre .1, lent s)
-
-cast-plus-minus : tie.Need-cast-plus-minus
-cast-plus-minus c = search needs
 
 plus-minus-requires : tie.Need-plus-minus-requires
 plus-minus-requires c κs = let s = c .before .before .before .before in (omega (arith, s .pre .0 .at), ranged s .1, s .pre .1, lent s)
@@ -75,8 +66,7 @@ returns-2 : tie.Need-returns-2
 unfolding body
 returns-2 c =
     let s = c .before .before .before .before .before in
-    fills-as (c .filled .ensures)
-    (of-tool s 2 (c .before .before .before .match .keys2)
+    fills-as (c .filled .ensures) (of-tool s 2 (c .before .before .before .match .keys2)
     ∙ ap (λ (x : ℕ). whole (replicate (s .args .h .len) x) (s .args .h .at)) (sym (c .before .before .plus-zero .ensures)))
     (omega (arith, s .pre .0 .at))
 
@@ -84,8 +74,7 @@ returns-3 : tie.Need-returns-3
 unfolding body
 returns-3 c =
     let s = c .before .before .before .before .before in
-    fills-as (c .filled2 .ensures)
-    (of-tool s 3 (c .before .before .before .match .keys3)
+    fills-as (c .filled2 .ensures) (of-tool s 3 (c .before .before .before .match .keys3)
     ∙ ap (λ (x : ℕ). whole (replicate (s .args .h .len) x) (s .args .h .at)) (sym (c .before .before .minus-zero .ensures)))
     (omega (arith, s .pre .0 .at))
 
@@ -117,23 +106,6 @@ returns-7 c =
     (omega (arith, s .pre .0 .at))
 
 pub body-of-spec : {M : Type 1} → statement M
-body-of-spec =
-    tie.close
-    (tie.spec
-    uncompressed-requires
-    plus-zero-requires
-    filled-requires
-    minus-zero-requires
-    filled-requires-2
-    constant-requires
-    binary-requires
-    cast-plus-minus
-    plus-minus-requires
-    few-values-requires
-    returns
-    returns-2
-    returns-3
-    returns-4
-    returns-5
-    returns-6
-    returns-7)
+body-of-spec = tie.close (tie.spec uncompressed-requires (λ c κs. search needs) filled-requires (λ c κs. search needs)
+    filled-requires-2 constant-requires binary-requires (λ c. search needs) plus-minus-requires few-values-requires returns
+    returns-2 returns-3 returns-4 returns-5 returns-6 returns-7)

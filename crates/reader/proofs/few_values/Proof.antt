@@ -9,7 +9,8 @@ use Rattle.rules.specs.Reading.{Reader}
 use Rattle.rules.specs.Located.{located}
 use Rattle.rules.specs.Fractional.{fractional}
 use Rattle.bodies.proofs.Poured.{fills-as}
-use Rattle.reader.proofs.Decided.{length-range, forties}
+use Rattle.reader.proofs.Decided.{length-range}
+use Rattle.rules.proofs.Tests.{forties}
 use Rattle.reader.proofs.few_values.Statement.{statement}
 use Rattle.reader.proofs.few_values.Tie as tie
 
@@ -29,10 +30,8 @@ body-requires c κs =
 returns : tie.Need-returns
 returns c =
     let s = c .before .before .before .before .before in
-    fills-as (c .body .ensures)
-    (ap (λ (b : Bool). either s b (bitsOf (s .args .octets .now)) (s .args .h .at))
-    (eq-eqb (s .args .h .tool) 11 (c .before .before .if1 .taken)))
-    (omega (arith, s .pre .0 .at))
+    fills-as (c .body .ensures) (ap (λ (b : Bool). either s b (bitsOf (s .args .octets .now)) (s .args .h .at))
+    (eq-eqb (s .args .h .tool) 11 (c .before .before .if1 .taken))) (omega (arith, s .pre .0 .at))
 
 located-requires : tie.Need-located-requires
 located-requires c κs = let s = c .before .before .before .before in
@@ -41,10 +40,8 @@ located-requires c κs = let s = c .before .before .before .before in
 returns-2 : tie.Need-returns-2
 returns-2 c =
     let s = c .before .before .before .before .before in
-    fills-as (c .located .ensures)
-    (ap (λ (b : Bool). either s b (bitsOf (s .args .octets .now)) (s .args .h .at))
-    (ne-eqb (s .args .h .tool) 11 (c .before .before .if1 .left)))
-    (omega (arith, s .pre .0 .at))
+    fills-as (c .located .ensures) (ap (λ (b : Bool). either s b (bitsOf (s .args .octets .now)) (s .args .h .at))
+    (ne-eqb (s .args .h .tool) 11 (c .before .before .if1 .left))) (omega (arith, s .pre .0 .at))
 
 pub few-values-spec : {M : Type 1} → statement M
 few-values-spec = tie.close (tie.spec body-requires returns located-requires returns-2)

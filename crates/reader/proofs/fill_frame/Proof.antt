@@ -5,32 +5,18 @@ use Rattle.reader.proofs.Told.{opened, opened-fits, fills-as, fills-non
 use Rattle.reader.proofs.fill_frame.Statement.{statement}
 use Rattle.reader.proofs.fill_frame.Tie as tie
 
-opens-requires : tie.Need-opens-requires
-opens-requires c κs = search needs
-
-enum-known-why : tie.Need-enum-known-why
-enum-known-why c = search needs
-
-refused-requires : tie.Need-refused-requires
-refused-requires c κs = search needs
-
-enum-told : tie.Need-enum-told
-enum-told c = search needs
-
-pad-requires : tie.Need-pad-requires
-pad-requires c κs = search needs
-
-enum-known-h : tie.Need-enum-known-h
-enum-known-h c = search needs
+module _ (c : tie.After-opens) where
+  abbrev start : tie.Start
+  start = c .before .before
 
 with-tool-requires : tie.Need-with-tool-requires
 with-tool-requires c κs =
     let r = opened-fits (c .before .before .before .before .opens .ensures) (c .before .before .h .given .1) in
-    (r .0, r .1, c .before .before .before .before .before .before .pre)
+    (r .0, r .1, (start (c .before .before .before .before)) .pre)
 
 returns : tie.Need-returns
 returns c = fills-none (opened (c .before .before .before .before .opens .ensures) (c .before .before .why .given .1) _)
-    refl (c .before .before .before .before .before .before .pre) (c .refused .ensures)
+    refl ((start (c .before .before .before .before)) .pre) (c .refused .ensures)
 
 returns-2 : tie.Need-returns-2
 returns-2 c = fills-none (opened (c .before .before .before .opens .ensures) (c .before .enum-told .given .1) _) refl
@@ -41,16 +27,5 @@ returns-3 c = fills-as (opened (c .before .before .before .before .before .opens
     (c .with-tool .ensures)
 
 pub fill-frame-spec : {M : Type 1} → statement M
-fill-frame-spec =
-    tie.close
-    (tie.spec
-    opens-requires
-    enum-known-why
-    refused-requires
-    enum-told
-    pad-requires
-    enum-known-h
-    with-tool-requires
-    returns
-    returns-2
-    returns-3)
+fill-frame-spec = tie.close (tie.spec (λ c κs. search needs) (λ c. search needs) (λ c κs. search needs) (λ c. search needs)
+    (λ c κs. search needs) (λ c. search needs) with-tool-requires returns returns-2 returns-3)

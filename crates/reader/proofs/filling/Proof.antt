@@ -16,35 +16,19 @@ Inv-loop octets end at₀ at =
 abbrev μ-loop : tie.MeasureT-loop
 μ-loop octets end at₀ at = 8 * octetsFor end - at
 
-loop-holds : tie.Need-loop-holds Inv-loop μ-loop
-loop-holds c = search needs
-
-bit-at-requires : tie.Need-bit-at-requires Inv-loop μ-loop
-bit-at-requires c κs = search needs
-
 returns : tie.Need-returns Inv-loop μ-loop
 returns c =
-    sym (c .before .before .before .loop .inv .2
-    ∙ filled-wrong (c .before .before .before .before .before .args .octets .now)
+    sym (c .before .before .before .loop .inv .2 ∙ filled-wrong (c .before .before .before .before .before .args .octets .now)
     (8 * octetsFor (c .before .before .before .before .before .args .end)) (c .before .before .before .loop .at)
-    (omega arith) (omega arith)
-    (λ z. omega (arith, c .before .bit-at .ensures .0)))
-
-add-at : tie.Need-add-at Inv-loop μ-loop
-add-at c = search needs
-
-loop-less : tie.Need-loop-less Inv-loop μ-loop
-loop-less c = search needs
+    (omega arith) (omega arith) (λ z. omega (arith, c .before .bit-at .ensures .0)))
 
 loop-again : tie.Need-loop-again Inv-loop μ-loop
 loop-again c = (
   omega arith,
   omega arith,
-  c .before .before .before .loop .inv .2
-      ∙ filled-turn (c .before .before .before .before .before .args .octets .now)
+  c .before .before .before .loop .inv .2 ∙ filled-turn (c .before .before .before .before .before .args .octets .now)
       (8 * octetsFor (c .before .before .before .before .before .args .end)) (c .before .before .before .loop .at)
-      (omega arith) (omega arith)
-      (omega (arith, c .before .bit-at .ensures .0)),
+      (omega arith) (omega arith) (omega (arith, c .before .bit-at .ensures .0)),
 )
 
 returns-2 : tie.Need-returns-2 Inv-loop μ-loop
@@ -54,15 +38,5 @@ returns-2 c =
     (c .before .loop .at) (omega arith))
 
 pub filling-spec : {M : Type 1} → statement M
-filling-spec =
-    tie.close
-    (tie.spec
-    Inv-loop
-    μ-loop
-    loop-holds
-    bit-at-requires
-    returns
-    add-at
-    loop-less
-    loop-again
-    returns-2)
+filling-spec = tie.close (tie.spec Inv-loop μ-loop (λ c. search needs) (λ c κs. search needs) returns (λ c. search needs)
+    (λ c. search needs) loop-again returns-2)

@@ -12,24 +12,8 @@ use Rattle.reader.proofs.Filled.{filled-by}
 use Rattle.reader.proofs.finished.Statement.{statement}
 use Rattle.reader.proofs.finished.Tie as tie
 
-filling-requires : tie.Need-filling-requires
-filling-requires c κs = search needs
-
-enum-known-why : tie.Need-enum-known-why
-enum-known-why c = search needs
-
-refused-requires : tie.Need-refused-requires
-refused-requires c κs = search needs
-
-enum-told : tie.Need-enum-told
-enum-told c = search needs
-
-add-t10 : tie.Need-add-t10
-add-t10 c = search needs
-
 -- what the filling was read as, o, tells what is finished
-ended : (c : tie.After-filling) (o : Outcome) → c .filling .result ≡ o → (s : List ℕ)
-    → andThen (asRead o)
+ended : (c : tie.After-filling) (o : Outcome) → c .filling .result ≡ o → (s : List ℕ) → andThen (asRead o)
     (λ x j. whole (record { tool = c .before .before .args .tool; samples = s; bits = c .before .before .args .bits }) j)
     ≡ finish (c .before .before .args .tool) s (c .before .before .args .bits) (bitsOf (c .before .before .args .octets .now))
 ended c o e s = filled-by _ (fillFor (c .before .before .args .bits)) (bitsOf (c .before .before .args .octets .now))
@@ -37,16 +21,13 @@ ended c o e s = filled-by _ (fillFor (c .before .before .args .bits)) (bitsOf (c
 
 returns : tie.Need-returns
 returns c =
-    λ s h. tells-as
-    (ended (c .before .before .before .before) _ (c .before .before .why .given .1) s) (c .refused .ensures)
+    λ s h. tells-as (ended (c .before .before .before .before) _ (c .before .before .why .given .1) s) (c .refused .ensures)
 
 returns-2 : tie.Need-returns-2
 returns-2 c =
-    λ s h. tells-as
-    (ended (c .before .before) _ (c .enum-told .given .1) s)
+    λ s h. tells-as (ended (c .before .before) _ (c .enum-told .given .1) s)
     (record { end = refl; len = h; octets = refl; bits = refl; tool = refl; bit = refl })
 
 pub finished-spec : {M : Type 1} → statement M
-finished-spec =
-    tie.close
-    (tie.spec filling-requires enum-known-why refused-requires enum-told add-t10 returns returns-2)
+finished-spec = tie.close (tie.spec (λ c κs. search needs) (λ c. search needs) (λ c κs. search needs) (λ c. search needs)
+    (λ c. search needs) returns returns-2)

@@ -10,24 +10,6 @@ use Rattle.reader.proofs.Lent.{samples-fit}
 use Rattle.reader.proofs.read_into.Statement.{statement}
 use Rattle.reader.proofs.read_into.Tie as tie
 
-opens-requires : tie.Need-opens-requires
-opens-requires c κs = search needs
-
-enum-known-why : tie.Need-enum-known-why
-enum-known-why c = search needs
-
-refused-requires : tie.Need-refused-requires
-refused-requires c κs = search needs
-
-enum-told : tie.Need-enum-told
-enum-told c = search needs
-
-pad-requires : tie.Need-pad-requires
-pad-requires c κs = search needs
-
-enum-known-h : tie.Need-enum-known-h
-enum-known-h c = search needs
-
 with-tool-requires : tie.Need-with-tool-requires
 with-tool-requires c κs =
     let r = opened-fits (c .before .before .before .before .opens .ensures) (c .before .before .h .given .1) in
@@ -46,9 +28,13 @@ fills c = fills-as (opened (c .before .before .before .before .before .opens .en
 slice-aggregate-put-out : tie.Need-slice-aggregate-put-out
 slice-aggregate-put-out c = sym (fills (c .before) .size)
 
+module _ (c : tie.After-put-out-arg) where
+  abbrev start : tie.Start
+  start = c .before .before .before .before .before .before .before .before .before .before
+
 put-out-requires : tie.Need-put-out-requires
 put-out-requires c κs =
-    let s = c .before .before .before .before .before .before .before .before .before .before in
+    let s = start c in
     let f = fills (c .before .before) in (
       buffer-has f,
       omega
@@ -62,26 +48,10 @@ returns c = into-none (opened (c .before .before .before .before .opens .ensures
 returns-2 : tie.Need-returns-2
 returns-2 c = into-none (opened (c .before .before .before .opens .ensures) (c .before .enum-told .given .1) _) refl (c .pad .ensures)
 
-same-length : tie.Need-same-length
-same-length c = search needs
-
 returns-3 : tie.Need-returns-3
 returns-3 c = put-from (fills (c .before .before .before .before .before)) (c .before .before .put-out .ensures)
 
 pub read-into-spec : {M : Type 1} → statement M
-read-into-spec =
-    tie.close
-    (tie.spec
-    opens-requires
-    enum-known-why
-    refused-requires
-    enum-told
-    pad-requires
-    enum-known-h
-    with-tool-requires
-    slice-aggregate-put-out
-    put-out-requires
-    returns
-    returns-2
-    same-length
-    returns-3)
+read-into-spec = tie.close (tie.spec (λ c κs. search needs) (λ c. search needs) (λ c κs. search needs) (λ c. search needs)
+    (λ c κs. search needs) (λ c. search needs) with-tool-requires slice-aggregate-put-out put-out-requires returns returns-2
+    (λ c. search needs) returns-3)

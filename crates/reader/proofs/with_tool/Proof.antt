@@ -22,32 +22,28 @@ use Rattle.reader.proofs.Decided.{no-tool, no-room, no-body, with-body,
 use Rattle.reader.proofs.with_tool.Statement.{statement}
 use Rattle.reader.proofs.with_tool.Tie as tie
 
-holds-requires : tie.Need-holds-requires
-holds-requires c κs = search needs
-
-refused-requires : tie.Need-refused-requires
-refused-requires c κs = search needs
-
 returns : tie.Need-returns
 returns c = fills-none (no-tool _ _ _ _ _ _ _ _ (sym (c .before .before .holds .ensures) ∙ not-true _ (c .before .if1 .taken)))
     refl (c .before .before .before .before .pre .2) (c .refused .ensures)
 
-refused-requires-2 : tie.Need-refused-requires-2
-refused-requires-2 c κs = search needs
-
 held : (c : tie.Else1) → holds (c .before .before .before .args .set) (c .before .before .before .args .h .tool) ≡ true
 held c = sym (c .before .holds .ensures) ∙ not-false _ (c .if1 .left)
 
+module _ (c : tie.After-struct-known) where
+  abbrev start : tie.Start
+  start = c .before .before .before .before
+
+module _ (c : tie.After-finished) where
+  abbrev else1 : tie.Else1
+  else1 = c .before .before .before .before .before .before .before .before .before
+
 returns-2 : tie.Need-returns-2
 returns-2 c = fills-none (no-room _ _ _ _ _ _ _ _ (held (c .before .before .before)) (c .before .if2 .taken)) refl
-    (c .before .before .before .before .before .before .pre .2) (c .refused2 .ensures)
-
-mask-of-requires : tie.Need-mask-of-requires
-mask-of-requires c κs = search needs
+    ((start (c .before .before)) .pre .2) (c .refused2 .ensures)
 
 body-of-requires : tie.Need-body-of-requires
 body-of-requires c κs =
-    let s = c .before .before .before .before .before .before .before in
+    let s = start (c .before .before .before) in
     (s .pre .0, omega (arith, mask-small (s .args .law)), omega (arith, mask-odd (s .args .law)), s .pre .2)
 
 -- the body's answer
@@ -79,15 +75,6 @@ module _ (c : tie.After-body-of) where
       (omega (arith, s .pre .0 .at, s .pre .1))
       (body-whole fills e .says)
 
-enum-known-why : tie.Need-enum-known-why
-enum-known-why c = search needs
-
-refused-requires-3 : tie.Need-refused-requires-3
-refused-requires-3 c κs = search needs
-
-enum-known-bits : tie.Need-enum-known-bits
-enum-known-bits c = search needs
-
 finished-requires : tie.Need-finished-requires
 finished-requires c κs = within (c .before .before .before) (c .before .bits .given .1)
 
@@ -101,27 +88,11 @@ returns-3 c =
 returns-4 : tie.Need-returns-4
 returns-4 c =
     let w = body-whole (fills (c .before .before .before .before)) (c .before .before .bits .given .1) in
-    fills-finish _ _ _ _
-    (with-body _ _ _ _ _ _ _ _ (held (c .before .before .before .before .before .before .before .before .before))
-    (omega arith) (w .says))
+    fills-finish _ _ _ _ (with-body _ _ _ _ _ _ _ _ (held (else1 c)) (omega arith) (w .says))
     (c .finished .ensures (w .s) (sized (c .before .before .before .before) (c .before .before .bits .given .1)))
-    (w .samples) (body-length (fills (c .before .before .before .before))
-    (c .before .before .before .before .before .before .before .before .before .before .before .before .pre .2))
+    (w .samples) (body-length (fills (c .before .before .before .before)) ((else1 c) .before .before .before .pre .2))
 
 pub with-tool-spec : {M : Type 1} → statement M
-with-tool-spec =
-    tie.close
-    (tie.spec
-    holds-requires
-    refused-requires
-    returns
-    refused-requires-2
-    returns-2
-    mask-of-requires
-    body-of-requires
-    enum-known-why
-    refused-requires-3
-    enum-known-bits
-    finished-requires
-    returns-3
-    returns-4)
+with-tool-spec = tie.close (tie.spec (λ c κs. search needs) (λ c κs. search needs) returns (λ c κs. search needs) returns-2
+    (λ c κs. search needs) body-of-requires (λ c. search needs) (λ c κs. search needs) (λ c. search needs) finished-requires
+    returns-3 returns-4)

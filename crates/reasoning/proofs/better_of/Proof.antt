@@ -3,15 +3,6 @@ use borrow.Author.Needs.{needs}
 use Rattle.reasoning.proofs.better_of.Statement.{statement}
 use Rattle.reasoning.proofs.better_of.Tie as tie
 
-enum-told : tie.Need-enum-told
-enum-told c = search needs
-
-enum-told-2 : tie.Need-enum-told-2
-enum-told-2 c = search needs
-
-enum-known-state : tie.Need-enum-known-state
-enum-known-state c = search needs
-
 returns : tie.Need-returns
 returns c = best-more _ _ _ (c .before .before .before .state .given .1) (c .if1 .taken)
 
@@ -25,6 +16,5 @@ returns-4 : tie.Need-returns-4
 returns-4 c = best-not-more _ _ _ (c .before .before .before .state .given .1) (c .if1 .left)
 
 pub better-of-spec : {M : Type 1} → statement M
-better-of-spec =
-    tie.close
-    (tie.spec enum-told enum-told-2 enum-known-state returns returns-2 returns-3 returns-4)
+better-of-spec = tie.close (tie.spec (λ c. search needs) (λ c. search needs) (λ c. search needs) returns returns-2 returns-3
+    returns-4)

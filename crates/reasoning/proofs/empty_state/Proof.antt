@@ -3,9 +3,6 @@ use borrow.Author.Needs.{needs}
 use Rattle.reasoning.proofs.empty_state.Statement.{statement}
 use Rattle.reasoning.proofs.empty_state.Tie as tie
 
-holds-requires : tie.Need-holds-requires
-holds-requires c κs = search needs
-
 returns : tie.Need-returns
 returns c = rw (sym (c .before .holds .ensures) ∙ c .if1 .taken)
 
@@ -13,4 +10,4 @@ returns-2 : tie.Need-returns-2
 returns-2 c = rw (sym (c .before .holds .ensures) ∙ c .if1 .left)
 
 pub empty-state-spec : {M : Type 1} → statement M
-empty-state-spec = tie.close (tie.spec holds-requires returns returns-2)
+empty-state-spec = tie.close (tie.spec (λ c κs. search needs) returns returns-2)

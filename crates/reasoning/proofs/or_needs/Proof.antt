@@ -3,9 +3,6 @@ use borrow.Author.Needs.{needs}
 use Rattle.reasoning.proofs.or_needs.Statement.{statement}
 use Rattle.reasoning.proofs.or_needs.Tie as tie
 
-also-needs-requires : tie.Need-also-needs-requires
-also-needs-requires c κs = search needs
-
 returns : tie.Need-returns
 returns c = rw (sym (c .before .also-needs .ensures) ∙ c .if1 .taken)
 
@@ -13,4 +10,4 @@ returns-2 : tie.Need-returns-2
 returns-2 c = rw (sym (c .before .also-needs .ensures) ∙ c .if1 .left)
 
 pub or-needs-spec : {M : Type 1} → statement M
-or-needs-spec = tie.close (tie.spec also-needs-requires returns returns-2)
+or-needs-spec = tie.close (tie.spec (λ c κs. search needs) returns returns-2)

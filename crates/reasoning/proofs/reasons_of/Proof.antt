@@ -5,15 +5,6 @@ use borrow.Author.Needs.{needs}
 use Rattle.reasoning.proofs.reasons_of.Statement.{statement}
 use Rattle.reasoning.proofs.reasons_of.Tie as tie
 
-states-of-requires : tie.Need-states-of-requires
-states-of-requires c κs = search needs
-
-winner-of-requires : tie.Need-winner-of-requires
-winner-of-requires c κs = search needs
-
-tie-in-requires : tie.Need-tie-in-requires
-tie-in-requires c κs = search needs
-
 returns : tie.Need-returns
 returns c =
     let s = c .before .before .before .before in
@@ -22,5 +13,4 @@ returns c =
     (c .before .before .states-of .ensures) (c .before .winner-of .ensures) (c .tie-in .ensures)
 
 pub reasons-of-spec : {M : Type 1} → statement M
-reasons-of-spec =
-    tie.close (tie.spec states-of-requires winner-of-requires tie-in-requires returns)
+reasons-of-spec = tie.close (tie.spec (λ c κs. search needs) (λ c κs. search needs) (λ c κs. search needs) returns)

@@ -12,26 +12,18 @@ use Rattle.reasoning.proofs.state_of.Tie as tie
 some : (s : tie.Start) → 1 ≤ length (take (s .args .n) (s .args .samples .now))
 some s = rw (length-take-le (s .args .n) (s .args .samples .now) (s .pre .0 .0 .long)) (s .pre .0 .0 .some)
 
-holds-requires : tie.Need-holds-requires
-holds-requires c κs = search needs
-
 returns : tie.Need-returns
 returns c = state-out _ _ _ _ (some (c .before .before .before))
     (sym (c .before .holds .ensures) ∙ not-true (c .before .holds .result) (c .if1 .taken))
 
-offer-of-requires : tie.Need-offer-of-requires
-offer-of-requires c κs = search needs
+module _ (c : tie.Then2) where
+  abbrev start : tie.Start
+  start = c .before .before .before .before .before .before
 
 returns-2 : tie.Need-returns-2
-returns-2 c = state-no _ _ _ _ (some (c .before .before .before .before .before .before)) (c .before .before .offer-of .result)
+returns-2 c = state-no _ _ _ _ (some (start c)) (c .before .before .offer-of .result)
     (sym (c .before .before .before .before .holds .ensures) ∙ not-false (c .before .before .before .before .holds .result)
     (c .before .before .before .if1 .left)) (c .before .before .offer-of .ensures) (c .if2 .taken)
-
-octets-for-requires : tie.Need-octets-for-requires
-octets-for-requires c κs = search needs
-
-cast-t10 : tie.Need-cast-t10
-cast-t10 c = search needs
 
 returns-3 : tie.Need-returns-3
 returns-3 c =
@@ -42,13 +34,5 @@ returns-3 c =
     (offer .offer-of .ensures) (c .before .if2 .left) (c .octets-for .ensures)
 
 pub state-of-spec : {M : Type 1} → statement M
-state-of-spec =
-    tie.close
-    (tie.spec
-    holds-requires
-    returns
-    offer-of-requires
-    returns-2
-    octets-for-requires
-    cast-t10
-    returns-3)
+state-of-spec = tie.close (tie.spec (λ c κs. search needs) returns (λ c κs. search needs) returns-2 (λ c κs. search needs)
+    (λ c. search needs) returns-3)

@@ -5,14 +5,8 @@ use borrow.Author.Needs.{needs}
 use Rattle.reasoning.proofs.why_allowed.Statement.{statement}
 use Rattle.reasoning.proofs.why_allowed.Tie as tie
 
-empty-reasons-requires : tie.Need-empty-reasons-requires
-empty-reasons-requires c κs = search needs
-
 returns : tie.Need-returns
 returns c = allowed-none _ _ _ _ (c .before .if1 .taken) (c .empty-reasons .ensures)
-
-is-length-requires : tie.Need-is-length-requires
-is-length-requires c κs = search needs
 
 returns-2 : tie.Need-returns-2
 returns-2 c = allowed-not _ (c .before .before .before .before .args .samples .now) _ _ (c .before .before .if1 .left)
@@ -32,12 +26,5 @@ returns-3 c =
     allowed-told (s .args .n) (s .args .samples .now) (s .args .mask) (s .args .set) h (c .reasons-of .ensures)
 
 pub why-allowed-spec : {M : Type 1} → statement M
-why-allowed-spec =
-    tie.close
-    (tie.spec
-    empty-reasons-requires
-    returns
-    is-length-requires
-    returns-2
-    reasons-of-requires
+why-allowed-spec = tie.close (tie.spec (λ c κs. search needs) returns (λ c κs. search needs) returns-2 reasons-of-requires
     returns-3)

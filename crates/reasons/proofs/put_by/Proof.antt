@@ -3,30 +3,12 @@ use borrow.Author.Needs.{needs}
 use Rattle.reasons.proofs.put_by.Statement.{statement}
 use Rattle.reasons.proofs.put_by.Tie as tie
 
-slice-aggregate-put-word : tie.Need-slice-aggregate-put-word
-slice-aggregate-put-word c = search needs
-
-put-word-requires : tie.Need-put-word-requires
-put-word-requires c κs = search needs
-
-same-length : tie.Need-same-length
-same-length c = search needs
-
 returns : tie.Need-returns
 returns c = (
   rw (c .before .before .before .before .before .if1 .taken) (c .before .before .put-word .ensures),
   omega
       (arith, c .before .before .put-word .ensures .place),
 )
-
-slice-aggregate-put-word-2 : tie.Need-slice-aggregate-put-word-2
-slice-aggregate-put-word-2 c = search needs
-
-put-word-requires-2 : tie.Need-put-word-requires-2
-put-word-requires-2 c κs = search needs
-
-same-length-2 : tie.Need-same-length-2
-same-length-2 c = search needs
 
 returns-2 : tie.Need-returns-2
 returns-2 c = (
@@ -36,14 +18,5 @@ returns-2 c = (
 )
 
 pub put-by-spec : {M : Type 1} → statement M
-put-by-spec =
-    tie.close
-    (tie.spec
-    slice-aggregate-put-word
-    put-word-requires
-    same-length
-    returns
-    slice-aggregate-put-word-2
-    put-word-requires-2
-    same-length-2
-    returns-2)
+put-by-spec = tie.close (tie.spec (λ c. search needs) (λ c κs. search needs) (λ c. search needs) returns (λ c. search needs)
+    (λ c κs. search needs) (λ c. search needs) returns-2)

@@ -3,70 +3,38 @@ use borrow.Author.Needs.{needs}
 use Rattle.reasons.proofs.put_fields.Statement.{statement}
 use Rattle.reasons.proofs.put_fields.Tie as tie
 
-slice-aggregate-put-short : tie.Need-slice-aggregate-put-short
-slice-aggregate-put-short c = search needs
+module _ (c : tie.After-slice-known7) where
+  abbrev put-short3 : tie.After-put-short3
+  put-short3 = c .before .before .before .before .before .before .before
 
-put-short-requires : tie.Need-put-short-requires
-put-short-requires c κs = search needs
+  abbrev put-short2 : tie.After-put-short2
+  put-short2 = c .before .before .before .before .before .before .before .before .before .before .before .before
 
-slice-aggregate-put-word : tie.Need-slice-aggregate-put-word
-slice-aggregate-put-word c = search needs
+  abbrev put-short : tie.After-put-short
+  put-short = c .before .before .before .before .before .before .before .before .before .before .before .before .before .before
+      .before .before .before .before .before .before .before .before .before .before .before .before
 
-put-word-requires : tie.Need-put-word-requires
-put-word-requires c κs = search needs
+module _ (c : tie.After-put-word3) where
+  abbrev put-word2 : tie.After-put-word2
+  put-word2 = c .before .before .before .before .before .before .before .before .before .before .before .before .before .before .before
 
-put-word-requires-2 : tie.Need-put-word-requires-2
-put-word-requires-2 c κs = search needs
-
-slice-aggregate-put-short-2 : tie.Need-slice-aggregate-put-short-2
-slice-aggregate-put-short-2 c = search needs
-
-put-short-requires-2 : tie.Need-put-short-requires-2
-put-short-requires-2 c κs = search needs
-
-slice-aggregate-put-short-3 : tie.Need-slice-aggregate-put-short-3
-slice-aggregate-put-short-3 c = search needs
-
-put-short-requires-3 : tie.Need-put-short-requires-3
-put-short-requires-3 c κs = search needs
-
-slice-aggregate-put-word-2 : tie.Need-slice-aggregate-put-word-2
-slice-aggregate-put-word-2 c = search needs
-
-put-word-requires-3 : tie.Need-put-word-requires-3
-put-word-requires-3 c κs = search needs
-
-same-length : tie.Need-same-length
-same-length c = search needs
+module _ (c : tie.After-put-word) where
+  abbrev start-of-put-word : tie.Start
+  start-of-put-word = c .before .before .before .before .before .before .before .before .before .before
 
 returns : tie.Need-returns
 returns c =
-    let p = c .before .before .before .before .before .before .before .before .before .before .before .before .before
-    .before .before .before .before .before .before .before .before .before .before .before .before .before .put-short .ensures in
-    let s = c .before .before .before .before .before .before .before .before .before .before .before .before .put-short2 .ensures in
-    let t = c .before .before .before .before .before .before .before .put-short3 .ensures in
+    let p = (put-short c) .put-short .ensures in
+    let s = (put-short2 c) .put-short2 .ensures in
+    let t = (put-short3 c) .put-short3 .ensures in
     let ended = c .before .before in
-    let word = ended .before .before .before .before .before .before .before .before .before .before .before .before
-    .before .before .before in
+    let word = put-word2 ended in
     let state = word .before .before .before .before in
-    let start = state .before .before .before .before .before .before .before .before .before .before in
+    let start = start-of-put-word state in
     fields-put _ _ _ _ (p .0) (state .put-word .ensures) (word .put-word2 .ensures) (s .0) (t .0) (ended .put-word3 .ensures)
     (start .pre .0) (p .1) (s .1) (t .1)
 
 pub put-fields-spec : {M : Type 1} → statement M
-put-fields-spec =
-    tie.close
-    (tie.spec
-    slice-aggregate-put-short
-    put-short-requires
-    slice-aggregate-put-word
-    put-word-requires
-    put-word-requires-2
-    slice-aggregate-put-short-2
-    put-short-requires-2
-    slice-aggregate-put-short-3
-    put-short-requires-3
-    slice-aggregate-put-word-2
-    put-word-requires-3
-    same-length
-    returns)
+put-fields-spec = tie.close (tie.spec (λ c. search needs) (λ c κs. search needs) (λ c. search needs) (λ c κs. search needs)
+    (λ c κs. search needs) (λ c. search needs) (λ c κs. search needs) (λ c. search needs) (λ c κs. search needs)
+    (λ c. search needs) (λ c κs. search needs) (λ c. search needs) returns)

@@ -4,21 +4,6 @@ use borrow.Author.Needs.{needs}
 use Rattle.reasons.proofs.put_later.Statement.{statement}
 use Rattle.reasons.proofs.put_later.Tie as tie
 
-put-tool-requires : tie.Need-put-tool-requires
-put-tool-requires c κs = search needs
-
-put-tool-requires-2 : tie.Need-put-tool-requires-2
-put-tool-requires-2 c κs = search needs
-
-put-tool-requires-3 : tie.Need-put-tool-requires-3
-put-tool-requires-3 c κs = search needs
-
-put-tool-requires-4 : tie.Need-put-tool-requires-4
-put-tool-requires-4 c κs = search needs
-
-same-length : tie.Need-same-length
-same-length c = search needs
-
 returns : tie.Need-returns
 returns c =
     let fourth = c .before .before in
@@ -31,6 +16,5 @@ returns c =
     )
 
 pub put-later-spec : {M : Type 1} → statement M
-put-later-spec =
-    tie.close
-    (tie.spec put-tool-requires put-tool-requires-2 put-tool-requires-3 put-tool-requires-4 same-length returns)
+put-later-spec = tie.close (tie.spec (λ c κs. search needs) (λ c κs. search needs) (λ c κs. search needs) (λ c κs. search needs)
+    (λ c. search needs) returns)

@@ -4,26 +4,17 @@ use borrow.Author.Needs.{needs}
 use Rattle.reasons.proofs.put_reasons.Statement.{statement}
 use Rattle.reasons.proofs.put_reasons.Tie as tie
 
-put-first-requires : tie.Need-put-first-requires
-put-first-requires c κs = search needs
-
-put-later-requires : tie.Need-put-later-requires
-put-later-requires c κs = search needs
-
-put-winner-requires : tie.Need-put-winner-requires
-put-winner-requires c κs = search needs
-
-same-length : tie.Need-same-length
-same-length c = search needs
+module _ (c : tie.After-slice-known4) where
+  abbrev put-later : tie.After-put-later
+  put-later = c .before .before .before .before .before .before
 
 returns : tie.Need-returns
 returns c = (
-  lines-put _ (c .before .before .before .before .before .before .before .before .before .before .put-first .ensures .0)
-      (c .before .before .before .before .before .before .put-later .ensures .0) (c .before .before .put-winner .ensures .0),
+  lines-put _ ((put-later c) .before .before .before .before .put-first .ensures .0)
+      ((put-later c) .put-later .ensures .0) (c .before .before .put-winner .ensures .0),
   omega arith,
 )
 
 pub put-reasons-spec : {M : Type 1} → statement M
-put-reasons-spec =
-    tie.close
-    (tie.spec put-first-requires put-later-requires put-winner-requires same-length returns)
+put-reasons-spec = tie.close (tie.spec (λ c κs. search needs) (λ c κs. search needs) (λ c κs. search needs) (λ c. search needs)
+    returns)

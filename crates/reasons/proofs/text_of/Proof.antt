@@ -3,11 +3,8 @@ use borrow.Author.Needs.{needs}
 use Rattle.reasons.proofs.text_of.Statement.{statement}
 use Rattle.reasons.proofs.text_of.Tie as tie
 
-put-reasons-requires : tie.Need-put-reasons-requires
-put-reasons-requires c κs = search needs
-
 returns : tie.Need-returns
 returns c = at-first _ (c .put-reasons .ensures .0)
 
 pub text-of-spec : {M : Type 1} → statement M
-text-of-spec = tie.close (tie.spec put-reasons-requires returns)
+text-of-spec = tie.close (tie.spec (λ c κs. search needs) returns)

@@ -5,9 +5,6 @@ use Rattle.rules.proofs.Fractional.{radix-range, body-bits-most as body-most}
 use Rattle.reducing.proofs.bits_of.Statement.{statement}
 use Rattle.reducing.proofs.bits_of.Tie as tie
 
-row-at-requires : tie.Need-row-at-requires
-row-at-requires c κs = search needs
-
 body-bits-requires : tie.Need-body-bits-requires
 body-bits-requires c κs =
     let s = c .before in
@@ -28,4 +25,4 @@ returns c =
     (rw e refl, rw e (omega (arith, body-most (s .args .k) (s .args .n) (s .pre .1))))
 
 pub bits-of-spec : {M : Type 1} → statement M
-bits-of-spec = tie.close (tie.spec row-at-requires body-bits-requires add-result returns)
+bits-of-spec = tie.close (tie.spec (λ c κs. search needs) body-bits-requires add-result returns)

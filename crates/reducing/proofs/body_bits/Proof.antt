@@ -5,18 +5,6 @@ use Rattle.rules.specs.Fractional.{groupOf, bitsFor}
 use Rattle.reducing.proofs.body_bits.Statement.{statement}
 use Rattle.reducing.proofs.body_bits.Tie as tie
 
-mul-result : tie.Need-mul-result
-mul-result c = search needs
-
-mul-result-2 : tie.Need-mul-result-2
-mul-result-2 c = search needs
-
-mul-result-3 : tie.Need-mul-result-3
-mul-result-3 c = search needs
-
-mul-result-4 : tie.Need-mul-result-4
-mul-result-4 c = search needs
-
 returns : tie.Need-returns
 unfolding groupOf bitsFor
 returns c = rw (c .match .keys1) (omega arith)
@@ -38,15 +26,5 @@ unfolding groupOf bitsFor
 returns-5 c = let e : c .before .args .r ≡ 6 = omega arith in rw e (omega arith)
 
 pub body-bits-spec : {M : Type 1} → statement M
-body-bits-spec =
-    tie.close
-    (tie.spec
-    mul-result
-    mul-result-2
-    mul-result-3
-    mul-result-4
-    returns
-    returns-2
-    returns-3
-    returns-4
-    returns-5)
+body-bits-spec = tie.close (tie.spec (λ c. search needs) (λ c. search needs) (λ c. search needs) (λ c. search needs) returns
+    returns-2 returns-3 returns-4 returns-5)

@@ -6,51 +6,6 @@ use Rattle.refusals.proofs.Refusals.{no-name}
 use Rattle.refusals.proofs.name_of.Statement.{statement}
 use Rattle.refusals.proofs.name_of.Tie as tie
 
-named-requires : tie.Need-named-requires
-named-requires c κs = search needs
-
-named-requires-2 : tie.Need-named-requires-2
-named-requires-2 c κs = search needs
-
-named-requires-3 : tie.Need-named-requires-3
-named-requires-3 c κs = search needs
-
-named-requires-4 : tie.Need-named-requires-4
-named-requires-4 c κs = search needs
-
-named-requires-5 : tie.Need-named-requires-5
-named-requires-5 c κs = search needs
-
-named-requires-6 : tie.Need-named-requires-6
-named-requires-6 c κs = search needs
-
-named-requires-7 : tie.Need-named-requires-7
-named-requires-7 c κs = search needs
-
-named-requires-8 : tie.Need-named-requires-8
-named-requires-8 c κs = search needs
-
-named-requires-9 : tie.Need-named-requires-9
-named-requires-9 c κs = search needs
-
-named-requires-10 : tie.Need-named-requires-10
-named-requires-10 c κs = search needs
-
-named-requires-11 : tie.Need-named-requires-11
-named-requires-11 c κs = search needs
-
-named-requires-12 : tie.Need-named-requires-12
-named-requires-12 c κs = search needs
-
-named-requires-13 : tie.Need-named-requires-13
-named-requires-13 c κs = search needs
-
-named-requires-14 : tie.Need-named-requires-14
-named-requires-14 c κs = search needs
-
-named-requires-15 : tie.Need-named-requires-15
-named-requires-15 c κs = search needs
-
 returns : tie.Need-returns
 unfolding refusalName refusalNames
 returns c =
@@ -138,44 +93,15 @@ returns-14 c =
 returns-15 : tie.Need-returns-15
 unfolding refusalName refusalNames
 returns-15 c =
-    rw (c .named15 .ensures .0, c .named15 .ensures .1)
-    (record {
+    rw (c .named15 .ensures .0, c .named15 .ensures .1) (record {
       says = sym (no-name (c .before .before .before .before .args .number) (c .before .before .before .match .rest));
       most = omega arith;
       size = refl;
     })
 
 pub name-of-spec : {M : Type 1} → statement M
-name-of-spec =
-    tie.close
-    (tie.spec
-    named-requires
-    named-requires-2
-    named-requires-3
-    named-requires-4
-    named-requires-5
-    named-requires-6
-    named-requires-7
-    named-requires-8
-    named-requires-9
-    named-requires-10
-    named-requires-11
-    named-requires-12
-    named-requires-13
-    named-requires-14
-    named-requires-15
-    returns
-    returns-2
-    returns-3
-    returns-4
-    returns-5
-    returns-6
-    returns-7
-    returns-8
-    returns-9
-    returns-10
-    returns-11
-    returns-12
-    returns-13
-    returns-14
-    returns-15)
+name-of-spec = tie.close (tie.spec (λ c κs. search needs) (λ c κs. search needs) (λ c κs. search needs) (λ c κs. search needs)
+    (λ c κs. search needs) (λ c κs. search needs) (λ c κs. search needs) (λ c κs. search needs) (λ c κs. search needs)
+    (λ c κs. search needs) (λ c κs. search needs) (λ c κs. search needs) (λ c κs. search needs) (λ c κs. search needs)
+    (λ c κs. search needs) returns returns-2 returns-3 returns-4 returns-5 returns-6 returns-7 returns-8 returns-9 returns-10
+    returns-11 returns-12 returns-13 returns-14 returns-15)

@@ -11,21 +11,6 @@ use Rattle.replaying.proofs.kind_of.Tie as tie
 is-headed : (d : tie.After-law-in) {h : Heading} → d .law-in .result ≡ h → headed (d .before .before .args .octets .now) ≡ asHeaded h
 is-headed d e = sym (d .law-in .ensures) ∙ ap asHeaded e
 
-law-in-requires : tie.Need-law-in-requires
-law-in-requires c κs = search needs
-
-enum-known-law : tie.Need-enum-known-law
-enum-known-law c = search needs
-
-enum-told : tie.Need-enum-told
-enum-told c = search needs
-
-slice-aggregate-has-word : tie.Need-slice-aggregate-has-word
-slice-aggregate-has-word c = search needs
-
-has-word-requires : tie.Need-has-word-requires
-has-word-requires c κs = search needs
-
 returns : tie.Need-returns
 unfolding kindOf
 returns c = rw (
@@ -45,14 +30,5 @@ returns-3 c = rw (
 )
 
 pub kind-of-spec : {M : Type 1} → statement M
-kind-of-spec =
-    tie.close
-    (tie.spec
-    law-in-requires
-    enum-known-law
-    enum-told
-    slice-aggregate-has-word
-    has-word-requires
-    returns
-    returns-2
-    returns-3)
+kind-of-spec = tie.close (tie.spec (λ c κs. search needs) (λ c. search needs) (λ c. search needs) (λ c. search needs)
+    (λ c κs. search needs) returns returns-2 returns-3)

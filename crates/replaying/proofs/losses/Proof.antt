@@ -19,25 +19,10 @@ loop-holds : tie.Need-loop-holds Inv-loop μ-loop
 unfolding countOf
 loop-holds c = (omega arith, (omega arith, refl))
 
-mul-is-loss : tie.Need-mul-is-loss Inv-loop μ-loop
-mul-is-loss c = search needs
-
-shared-slice-read-is-loss : tie.Need-shared-slice-read-is-loss Inv-loop μ-loop
-shared-slice-read-is-loss c = search needs
-
-is-loss-requires : tie.Need-is-loss-requires Inv-loop μ-loop
-is-loss-requires c κs = search needs
-
 add-count : tie.Need-add-count Inv-loop μ-loop
 add-count c =
     let l = c .before .before .before .loop in
     omega (arith, l .inv .1 .0, c .is-loss .ensures .1, c .before .before .loop-test .taken, c .before .before .before .before .before .pre)
-
-add-i : tie.Need-add-i Inv-loop μ-loop
-add-i c = search needs
-
-loop-less : tie.Need-loop-less Inv-loop μ-loop
-loop-less c = search needs
 
 loop-again : tie.Need-loop-again Inv-loop μ-loop
 loop-again c =
@@ -57,17 +42,5 @@ returns c =
     rw e at (c .before .loop .inv .1 .1)
 
 pub losses-spec : {M : Type 1} → statement M
-losses-spec =
-    tie.close
-    (tie.spec
-    Inv-loop
-    μ-loop
-    loop-holds
-    mul-is-loss
-    shared-slice-read-is-loss
-    is-loss-requires
-    add-count
-    add-i
-    loop-less
-    loop-again
-    returns)
+losses-spec = tie.close (tie.spec Inv-loop μ-loop loop-holds (λ c. search needs) (λ c. search needs) (λ c κs. search needs)
+    add-count (λ c. search needs) (λ c. search needs) loop-again returns)

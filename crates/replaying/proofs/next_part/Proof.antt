@@ -18,40 +18,21 @@ module _ (d : tie.After-play-on) where
       (d .play-on .last .1 .1 .1 .1 .1 .1 .0)
   plays = rw (d .before .before .before .sure-items .ensures) at (d .play-on .ensures)
 
-sure-items-requires : tie.Need-sure-items-requires
-sure-items-requires c κs = search needs
-
-play-on-requires : tie.Need-play-on-requires
-play-on-requires c κs = search needs
-
 losses-requires : tie.Need-losses-requires
 losses-requires c κs =
     let d = c .before .before .before .before .before in
     omega (arith, items-fit _ _ _ _ _ _ (plays d), d .play-on .kept .1 .1 .1 .1 .1 .1 .0)
 
-part-of-requires : tie.Need-part-of-requires
-part-of-requires c κs = search needs
-
-same-length : tie.Need-same-length
-same-length c = search needs
-
-same-length-2 : tie.Need-same-length-2
-same-length-2 c = search needs
+module _ (c : tie.After-part-of) where
+  abbrev play-on : tie.After-play-on
+  play-on = c .before .before .before .before .before .before .before
 
 returns : tie.Need-returns
 returns c =
-    let d = c .before .before .before .before .before .before .before in
+    let d = play-on c in
     let t = part-told _ _ _ _ _ _ (plays d) (c .before .losses .ensures) (c .part-of .ensures) in
     (t, goes-of _ _ _ _ _ _ t)
 
 pub next-part-spec : {M : Type 1} → statement M
-next-part-spec =
-    tie.close
-    (tie.spec
-    sure-items-requires
-    play-on-requires
-    losses-requires
-    part-of-requires
-    same-length
-    same-length-2
-    returns)
+next-part-spec = tie.close (tie.spec (λ c κs. search needs) (λ c κs. search needs) losses-requires (λ c κs. search needs)
+    (λ c. search needs) (λ c. search needs) returns)

@@ -3,11 +3,8 @@ use mathlib.Core.Path.{refl}
 use Rattle.replaying.proofs.part_of.Statement.{statement}
 use Rattle.replaying.proofs.part_of.Tie as tie
 
-goes-on-requires : tie.Need-goes-on-requires
-goes-on-requires c κs = search needs
-
 returns : tie.Need-returns
 returns c = record { end = refl; at = refl; bit = refl; items = refl; losses = refl; samples = refl; more = c .goes-on .ensures }
 
 pub part-of-spec : {M : Type 1} → statement M
-part-of-spec = tie.close (tie.spec goes-on-requires returns)
+part-of-spec = tie.close (tie.spec (λ c κs. search needs) returns)

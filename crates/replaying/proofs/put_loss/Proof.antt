@@ -6,47 +6,25 @@ use Rattle.replaying.specs.Lines.{lossLine}
 use Rattle.replaying.proofs.put_loss.Statement.{statement}
 use Rattle.replaying.proofs.put_loss.Tie as tie
 
-slice-aggregate-put-field : tie.Need-slice-aggregate-put-field
-slice-aggregate-put-field c = search needs
+module _ (c : tie.After-slice-known6) where
+  abbrev put-field4 : tie.After-put-field4
+  put-field4 = c .before .before .before .before .before .before .before
 
-put-field-requires : tie.Need-put-field-requires
-put-field-requires c κs = search needs
+module _ (c : tie.After-slice-known4) where
+  abbrev put-field2 : tie.After-put-field2
+  put-field2 = c .before .before .before .before .before .before .before
 
-slice-aggregate-put-field-2 : tie.Need-slice-aggregate-put-field-2
-slice-aggregate-put-field-2 c = search needs
-
-put-field-requires-2 : tie.Need-put-field-requires-2
-put-field-requires-2 c κs = search needs
-
-slice-aggregate-put-field-3 : tie.Need-slice-aggregate-put-field-3
-slice-aggregate-put-field-3 c = search needs
-
-put-field-requires-3 : tie.Need-put-field-requires-3
-put-field-requires-3 c κs = search needs
-
-slice-aggregate-put-field-4 : tie.Need-slice-aggregate-put-field-4
-slice-aggregate-put-field-4 c = search needs
-
-put-field-requires-4 : tie.Need-put-field-requires-4
-put-field-requires-4 c κs = search needs
-
-slice-aggregate-put-word : tie.Need-slice-aggregate-put-word
-slice-aggregate-put-word c = search needs
-
-put-word-requires : tie.Need-put-word-requires
-put-word-requires c κs = search needs
-
-same-length : tie.Need-same-length
-same-length c = search needs
+  abbrev put-field : tie.After-put-field
+  put-field = c .before .before .before .before .before .before .before .before .before .before .before .before
 
 returns : tie.Need-returns
 unfolding lossLine
 returns c =
-    let d = c .before .before .before .before .before .before .before .before .before .before in
-    let loss = d .before .before .before .before .before .before .before .before .before .before .before .before .put-field .ensures in
-    let place = d .before .before .before .before .before .before .before .put-field2 .ensures in
+    let d = (put-field4 c) .before .before .before in
+    let loss = (put-field d) .put-field .ensures in
+    let place = (put-field2 d) .put-field2 .ensures in
     let samples = d .before .before .put-field3 .ensures in
-    let heard = c .before .before .before .before .before .before .before .put-field4 .ensures in
+    let heard = (put-field4 c) .put-field4 .ensures in
     let end = c .before .before .put-word .ensures in (
       puts-then (loss .0) (puts-then (place .0) (puts-then (samples .0) (puts-then (heard .0) end))),
       omega
@@ -54,18 +32,6 @@ returns c =
     )
 
 pub put-loss-spec : {M : Type 1} → statement M
-put-loss-spec =
-    tie.close
-    (tie.spec
-    slice-aggregate-put-field
-    put-field-requires
-    slice-aggregate-put-field-2
-    put-field-requires-2
-    slice-aggregate-put-field-3
-    put-field-requires-3
-    slice-aggregate-put-field-4
-    put-field-requires-4
-    slice-aggregate-put-word
-    put-word-requires
-    same-length
-    returns)
+put-loss-spec = tie.close (tie.spec (λ c. search needs) (λ c κs. search needs) (λ c. search needs) (λ c κs. search needs)
+    (λ c. search needs) (λ c κs. search needs) (λ c. search needs) (λ c κs. search needs) (λ c. search needs)
+    (λ c κs. search needs) (λ c. search needs) returns)

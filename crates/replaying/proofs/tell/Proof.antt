@@ -18,21 +18,29 @@ abbrev μ-loop : tie.MeasureT-loop
 loop-holds : tie.Need-loop-holds Inv-loop μ-loop
 loop-holds c = let a = c .before .before .before .pre in (a .1, a .2, a .3)
 
-next-part-requires : tie.Need-next-part-requires Inv-loop μ-loop
-next-part-requires c κs = search needs
+module _ (c : tie.After-struct-known Inv-loop μ-loop) where
+  abbrev next-part : tie.After-next-part Inv-loop μ-loop
+  next-part = c .before .before .before .before .before .before .before
+
+module _ (c : tie.After-slice-known5 Inv-loop μ-loop) where
+  abbrev loop : tie.At-loop Inv-loop μ-loop
+  loop = c .before .before .before .before .before .before .before .before .before
+
+module _ (c : tie.After-next-part-arg Inv-loop μ-loop) where
+  abbrev start : tie.Start Inv-loop μ-loop
+  start = c .before .before .before .before .before .before
 
 slice-read-say-item : tie.Need-slice-read-say-item Inv-loop μ-loop
 slice-read-say-item c =
     omega (
       arith,
       c .before .before .before .before .before .next-part .kept .1 .1 .1 .1 .1 .0,
-      c .before .before .before
-          .before .before .before .before .before .before .loop .inv .2,
+      loop c .loop .inv .2,
     )
 
 say-item-requires : tie.Need-say-item-requires Inv-loop μ-loop
 say-item-requires c κs =
-    let w = c .before .before .before .before .before .before .before .before .before .loop .inv in
+    let w = loop c .loop .inv in
     let n = c .before .before .before .before .before .next-part in (
       at-most _ _ _ (w .0),
       record {
@@ -46,43 +54,37 @@ say-item-requires c κs =
         is = n .ensures .0;
         told = refl;
       },
-      sums _ _ _ (w .0) (c .before .before .before .before .before .before .before .before .before .before .before .before .before .pre .0)
-          (c .before .before .before .before .before .before .before .before .before .before .before .before .before .pre .4 .small),
-      c .before .before .before .before .before .before .before .before .before .before .before .before .before .pre .4,
+      sums _ _ _ (w .0) (loop c .before .before .before .before .pre .0)
+          (loop c .before .before .before .before .pre .4 .small),
+      loop c .before .before .before .before .pre .4,
     )
 
 same-length : tie.Need-same-length Inv-loop μ-loop
 same-length c =
-    let d = c .before .before .before .before .before .before .before .before .before .before in
-    c .before .before .before .before .before .before .before .before .next-part .kept .1 .1 .1 .1 .0 ∙ d .before .before .loop .inv .1
-    ∙ sym (d .before .before .before .before .before .before .pre .2)
+    let d = (next-part (c .before)) .before .before in
+    next-part (c .before) .next-part .kept .1 .1 .1 .1 .0 ∙ d .before .before .loop .inv .1 ∙ sym (start d .pre .2)
 
 same-length-2 : tie.Need-same-length-2 Inv-loop μ-loop
 same-length-2 c =
-    let d = c .before .before .before .before .before .before .before .before .before .before in
-    c .before .before .before .before .before .before .before .before .next-part .kept .1 .1 .1 .1 .1 .0
-    ∙ d .before .before .loop .inv .2 ∙ sym (d .before .before .before .before .before .before .pre .3)
-
-returns : tie.Need-returns Inv-loop μ-loop
-returns c = search needs
+    let d = (next-part (c .before)) .before .before in
+    next-part (c .before) .next-part .kept .1 .1 .1 .1 .1 .0 ∙ d .before .before .loop .inv .2 ∙ sym (start d .pre .3)
 
 add-number : tie.Need-add-number Inv-loop μ-loop
 add-number c =
-    let d = c .before .before .before .before .before .before .before .before .before .before in
+    let d = (next-part (c .before .before)) .before in
     let w = d .before .before .before .loop .inv .0 in
-    let g = c .before .before .before .before .before .before .before .before .before .next-part .ensures .1 in
+    let g = (next-part (c .before .before)) .next-part .ensures .1 in
     omega (
       arith,
       number-most _ _ _ w,
       g .few (at-most _ _ _ w),
       at-most _ _ _ w,
-      d .before .before .before .before .before
-          .before .before .pre .0,
+      start (d .before) .pre .0,
     )
 
 add-heard : tie.Need-add-heard Inv-loop μ-loop
 add-heard c =
-    let d = c .before .before .before .before .before .before .before .before .before .before in
+    let d = next-part (c .before .before .before) in
     let w = d .before .before .before .before .loop .inv .0 in
     let g = d .next-part .ensures .1 in
     omega (
@@ -92,19 +94,12 @@ add-heard c =
       g .few (at-most _ _ _ w),
       g .held,
       at-most _ _ _ w,
-      d .before
-          .before .before .before .before .before .before .before .pre .0,
+      start (d .before .before) .pre .0,
     )
-
-sub-left : tie.Need-sub-left Inv-loop μ-loop
-sub-left c = search needs
-
-loop-less : tie.Need-loop-less Inv-loop μ-loop
-loop-less c = search needs
 
 loop-again : tie.Need-loop-again Inv-loop μ-loop
 loop-again c =
-    let d = c .before .before .before .before .before .before .before .before .before .before in
+    let d = next-part (c .before .before .before) in
     let w = d .before .before .before .before .loop .inv in
     let n = d .next-part in (
       follows-on _ _ _ (w .0) (n .ensures .0) (not-false _ (c .before .before .if1 .left)),
@@ -118,27 +113,7 @@ same-length-3 c = c .before .loop .inv .1 ∙ sym (c .before .before .before .be
 same-length-4 : tie.Need-same-length-4 Inv-loop μ-loop
 same-length-4 c = c .before .loop .inv .2 ∙ sym (c .before .before .before .before .before .pre .3)
 
-returns-2 : tie.Need-returns-2 Inv-loop μ-loop
-returns-2 c = search needs
-
 pub tell-spec : {M : Type 1} → statement M
-tell-spec =
-    tie.close
-    (tie.spec
-    Inv-loop
-    μ-loop
-    loop-holds
-    next-part-requires
-    slice-read-say-item
-    say-item-requires
-    same-length
-    same-length-2
-    returns
-    add-number
-    add-heard
-    sub-left
-    loop-less
-    loop-again
-    same-length-3
-    same-length-4
-    returns-2)
+tell-spec = tie.close (tie.spec Inv-loop μ-loop loop-holds (λ c κs. search needs) slice-read-say-item say-item-requires
+    same-length same-length-2 (λ c. search needs) add-number add-heard (λ c. search needs) (λ c. search needs) loop-again
+    same-length-3 same-length-4 (λ c. search needs))

@@ -10,12 +10,6 @@ use Rattle.round_trip.proofs.Kept.{within, restores-by}
 use Rattle.round_trip.proofs.round_trip.Statement.{statement}
 use Rattle.round_trip.proofs.round_trip.Tie as tie
 use Rattle.round_trip.proofs.round_trip.Reads as reads
-use Rattle.round_trip.proofs.round_trip.Lts as lts
-use Rattle.reader.proofs.read_frame.Reads as read-frame-reads
-use Rattle.writer.proofs.write_frame.Reads as write-frame-reads
-
-write-frame-requires : tie.Need-write-frame-requires
-write-frame-requires c κs = search needs
 
 slice-reshare-prefix-read-frame : tie.Need-slice-reshare-prefix-read-frame
 slice-reshare-prefix-read-frame c = within (c .before .before .write-frame .ensures)
@@ -25,19 +19,14 @@ slice-aggregate-read-frame c =
     let w = c .before .before .before .write-frame in
     sym (length-take-le (w .result .octets) (w .last .1 .1 .1 .0) (within (w .ensures)))
 
-read-frame-requires : tie.Need-read-frame-requires
-read-frame-requires c κs = search needs
-
-same-length : tie.Need-same-length
-same-length c = search needs
-
-same-length-2 : tie.Need-same-length-2
-same-length-2 c = search needs
+module _ (c : tie.After-slice-known4) where
+  abbrev write-frame : tie.After-write-frame
+  write-frame = c .before .before .before .before .before .before .before
 
 returns : tie.Need-returns
 returns c =
-    let s = c .before .before .before .before .before .before .before .before .before .before .before in
-    let w = c .before .before .before .before .before .before .before .write-frame in
+    let s = (write-frame c) .before .before .before .before in
+    let w = (write-frame c) .write-frame in
     let r = c .before .before .read-frame in
     let l : length (s .args .frame .samples) ≡ 320 = search needs in
     record {
@@ -49,13 +38,5 @@ returns c =
     }
 
 pub round-trip-spec : {M : Type 1} → statement M
-round-trip-spec =
-    tie.close
-    (tie.spec
-    write-frame-requires
-    slice-reshare-prefix-read-frame
-    slice-aggregate-read-frame
-    read-frame-requires
-    same-length
-    same-length-2
-    returns)
+round-trip-spec = tie.close (tie.spec (λ c κs. search needs) slice-reshare-prefix-read-frame slice-aggregate-read-frame
+    (λ c κs. search needs) (λ c. search needs) (λ c. search needs) returns)

@@ -10,10 +10,6 @@ use Rattle.rows.proofs.Judged.{numbered-end, numbered-low, numbered-hig
 use borrow.Author.Needs.{needs}
 use Rattle.rows.proofs.distinct.Statement.{statement}
 use Rattle.rows.proofs.distinct.Tie as tie
-use Rattle.rows.proofs.distinct.Reads as reads
-use Rattle.rows.proofs.distinct.Lts as lts
-use Rattle.rows.proofs.find.Reads as find-reads
-use Rattle.rows.proofs.row_at.Reads as row-at-reads
 
 abbrev Inv-loop : tie.InvT-loop
 Inv-loop table n i₀ i = (numbered (rowsAt table n 1) ≡ numbered (left table n i)) × (i ≤ n)
@@ -24,52 +20,39 @@ abbrev μ-loop : tie.MeasureT-loop
 loop-holds : tie.Need-loop-holds Inv-loop μ-loop
 loop-holds c = (ap (λ (x : List Row). numbered x) (left-all (c .before .args .table .now) (c .before .args .n)), omega arith)
 
-mul-row-at : tie.Need-mul-row-at Inv-loop μ-loop
-mul-row-at c = search needs
+module _ (c : tie.After-struct-known2 Inv-loop μ-loop) where
+  abbrev row-at : tie.After-row-at Inv-loop μ-loop
+  row-at = c .before .before .before
 
-add-row-at : tie.Need-add-row-at Inv-loop μ-loop
-add-row-at c = search needs
-
-row-at-requires : tie.Need-row-at-requires Inv-loop μ-loop
-row-at-requires c κs = search needs
+module _ (c : tie.Then1 Inv-loop μ-loop) where
+  abbrev start : tie.Start Inv-loop μ-loop
+  start = c .before .before .before .before .before .before
 
 returns : tie.Need-returns Inv-loop μ-loop
 returns c =
-    let s = c .before .before .before .before .before .before .args in
+    let s = (start c) .args in
     let l = c .before .before .before .before .loop in
     numbered-low (s .table .now) (s .n) (l .i) (c .before .before .row-at .ensures .0) (omega arith) (omega arith) ∙ sym (l .inv .0)
 
 returns-2 : tie.Need-returns-2 Inv-loop μ-loop
 returns-2 c =
-    let s = c .before .before .before .before .before .before .before .before .args in
-    let l = c .before .before .before .before .before .before .loop in
+    let s = (row-at (c .before)) .before .before .before .before .args in
+    let l = (row-at (c .before)) .before .before .loop in
     numbered-high (s .table .now) (s .n) (l .i) (c .before .before .before .before .row-at .ensures .0) (omega arith)
     (omega arith) (omega arith) ∙ sym (l .inv .0)
 
-add-find : tie.Need-add-find Inv-loop μ-loop
-add-find c = search needs
-
-find-requires : tie.Need-find-requires Inv-loop μ-loop
-find-requires c κs = search needs
-
 returns-3 : tie.Need-returns-3 Inv-loop μ-loop
 returns-3 c =
-    let s = c .before .before .before .before .before .before .before .before .before .before .args in
-    let l = c .before .before .before .before .before .before .before .before .loop in
-    numbered-again (s .table .now) (s .n) (l .i) (c .before .before .before .before .before .before .row-at .ensures .0)
+    let s = (row-at (c .before .before .before)) .before .before .before .before .args in
+    let l = (row-at (c .before .before .before)) .before .before .loop in
+    numbered-again (s .table .now) (s .n) (l .i) ((row-at (c .before .before .before)) .row-at .ensures .0)
     (omega arith) (c .before .find .ensures .0) (omega arith) (omega arith) (omega arith) ∙ sym (l .inv .0)
-
-add-i : tie.Need-add-i Inv-loop μ-loop
-add-i c = search needs
-
-loop-less : tie.Need-loop-less Inv-loop μ-loop
-loop-less c = search needs
 
 loop-again : tie.Need-loop-again Inv-loop μ-loop
 loop-again c =
-    let s = c .before .before .before .before .before .before .before .before .before .before .args in
-    let l = c .before .before .before .before .before .before .before .before .loop in
-    let r = c .before .before .before .before .before .before .row-at .ensures .0 in
+    let s = (row-at (c .before .before .before)) .before .before .before .before .args in
+    let l = (row-at (c .before .before .before)) .before .before .loop in
+    let r = (row-at (c .before .before .before)) .row-at .ensures .0 in
     let f = c .before .find .ensures .0 in
     (l .inv .0 ∙ numbered-turn (s .table .now) (s .n) (l .i) r (omega arith) f (omega arith) (omega arith) (omega arith), omega arith)
 
@@ -80,21 +63,6 @@ returns-4 c =
     numbered-end (s .table .now) (s .n) (l .i) (omega arith) ∙ sym (l .inv .0)
 
 pub distinct-spec : {M : Type 1} → statement M
-distinct-spec =
-    tie.close
-    (tie.spec
-    Inv-loop
-    μ-loop
-    loop-holds
-    mul-row-at
-    add-row-at
-    row-at-requires
-    returns
-    returns-2
-    add-find
-    find-requires
-    returns-3
-    add-i
-    loop-less
-    loop-again
+distinct-spec = tie.close (tie.spec Inv-loop μ-loop loop-holds (λ c. search needs) (λ c. search needs) (λ c κs. search needs)
+    returns returns-2 (λ c. search needs) (λ c κs. search needs) returns-3 (λ c. search needs) (λ c. search needs) loop-again
     returns-4)

@@ -7,9 +7,6 @@ use Rattle.rows.proofs.Finding.{find-end, find-hit, find-miss}
 use borrow.Author.Needs.{needs}
 use Rattle.rows.proofs.find.Statement.{statement}
 use Rattle.rows.proofs.find.Tie as tie
-use Rattle.rows.proofs.find.Reads as reads
-use Rattle.rows.proofs.find.Lts as lts
-use Rattle.rows.proofs.row_at.Reads as row-at-reads
 
 abbrev Inv-loop : tie.InvT-loop
 Inv-loop table n from number i₀ i = (findFrom number from (left table n from) ≡ findFrom number i (left table n i)) × (i ≤ n)
@@ -17,36 +14,22 @@ Inv-loop table n from number i₀ i = (findFrom number from (left table n from) 
 abbrev μ-loop : tie.MeasureT-loop
 μ-loop table n from number i₀ i = n - i
 
-loop-holds : tie.Need-loop-holds Inv-loop μ-loop
-loop-holds c = search needs
-
-mul-row-at : tie.Need-mul-row-at Inv-loop μ-loop
-mul-row-at c = search needs
-
-add-row-at : tie.Need-add-row-at Inv-loop μ-loop
-add-row-at c = search needs
-
-row-at-requires : tie.Need-row-at-requires Inv-loop μ-loop
-row-at-requires c κs = search needs
+module _ (c : tie.After-struct-known Inv-loop μ-loop) where
+  abbrev start : tie.Start Inv-loop μ-loop
+  start = c .before .before .before .before .before
 
 returns : tie.Need-returns Inv-loop μ-loop
 returns c =
-    let s = c .before .before .before .before .before .before .args in
+    let s = (start (c .before)) .args in
     let l = c .before .before .before .before .loop in (
       find-hit (s .table .now) (s .n) (l .i) (c .before .before .row-at .ensures .0) (omega arith) (s .number) (omega arith)
           ∙ sym (l .inv .0),
       omega arith,
     )
 
-add-i : tie.Need-add-i Inv-loop μ-loop
-add-i c = search needs
-
-loop-less : tie.Need-loop-less Inv-loop μ-loop
-loop-less c = search needs
-
 loop-again : tie.Need-loop-again Inv-loop μ-loop
 loop-again c =
-    let s = c .before .before .before .before .before .before .args in
+    let s = (start (c .before)) .args in
     let l = c .before .before .before .before .loop in (
       l .inv .0 ∙ find-miss (s .table .now) (s .n) (l .i) (c .before .before .row-at .ensures .0) (omega arith) (s .number)
           (λ e. omega arith),
@@ -60,17 +43,5 @@ returns-2 c =
     (find-end (s .table .now) (s .n) (l .i) (s .number) (omega arith) (omega arith) ∙ sym (l .inv .0), omega arith)
 
 pub find-spec : {M : Type 1} → statement M
-find-spec =
-    tie.close
-    (tie.spec
-    Inv-loop
-    μ-loop
-    loop-holds
-    mul-row-at
-    add-row-at
-    row-at-requires
-    returns
-    add-i
-    loop-less
-    loop-again
-    returns-2)
+find-spec = tie.close (tie.spec Inv-loop μ-loop (λ c. search needs) (λ c. search needs) (λ c. search needs)
+    (λ c κs. search needs) returns (λ c. search needs) (λ c. search needs) loop-again returns-2)

@@ -8,9 +8,6 @@ use Rattle.rows.proofs.Judged.{row-next}
 use borrow.Author.Needs.{needs}
 use Rattle.rows.proofs.held.Statement.{statement}
 use Rattle.rows.proofs.held.Tie as tie
-use Rattle.rows.proofs.held.Reads as reads
-use Rattle.rows.proofs.held.Lts as lts
-use Rattle.rows.proofs.row_at.Reads as row-at-reads
 
 abbrev Inv-loop : tie.InvT-loop
 Inv-loop table n size sum₀ i₀ sum i = (sum ≡ held (rowsAt table i 1)) × (i ≤ n) × (sum ≤ size)
@@ -21,24 +18,6 @@ abbrev μ-loop : tie.MeasureT-loop
 loop-holds : tie.Need-loop-holds Inv-loop μ-loop
 unfolding rowsAt held
 loop-holds c = (refl, omega arith, omega arith)
-
-mul-row-at : tie.Need-mul-row-at Inv-loop μ-loop
-mul-row-at c = search needs
-
-add-row-at : tie.Need-add-row-at Inv-loop μ-loop
-add-row-at c = search needs
-
-row-at-requires : tie.Need-row-at-requires Inv-loop μ-loop
-row-at-requires c κs = search needs
-
-add-sum : tie.Need-add-sum Inv-loop μ-loop
-add-sum c = search needs
-
-add-i : tie.Need-add-i Inv-loop μ-loop
-add-i c = search needs
-
-loop-less : tie.Need-loop-less Inv-loop μ-loop
-loop-less c = search needs
 
 loop-again : tie.Need-loop-again Inv-loop μ-loop
 loop-again c =
@@ -55,17 +34,5 @@ returns c =
     (l .inv .0 ∙ ap (λ (x : ℕ). held (rowsAt (s .args .table .now) x 1)) (omega (arith, s .pre .0)), omega arith)
 
 pub held-spec : {M : Type 1} → statement M
-held-spec =
-    tie.close
-    (tie.spec
-    Inv-loop
-    μ-loop
-    loop-holds
-    mul-row-at
-    add-row-at
-    row-at-requires
-    add-sum
-    add-i
-    loop-less
-    loop-again
-    returns)
+held-spec = tie.close (tie.spec Inv-loop μ-loop loop-holds (λ c. search needs) (λ c. search needs) (λ c κs. search needs)
+    (λ c. search needs) (λ c. search needs) (λ c. search needs) loop-again returns)

@@ -11,9 +11,6 @@ use Rattle.rows.proofs.Judged.{row-next}
 use borrow.Author.Needs.{needs}
 use Rattle.rows.proofs.lowest_gap.Statement.{statement}
 use Rattle.rows.proofs.lowest_gap.Tie as tie
-use Rattle.rows.proofs.lowest_gap.Reads as reads
-use Rattle.rows.proofs.lowest_gap.Lts as lts
-use Rattle.rows.proofs.row_at.Reads as row-at-reads
 
 abbrev Inv-loop : tie.InvT-loop
 Inv-loop table n size want at₀ i₀ at i =
@@ -28,37 +25,20 @@ loop-holds c =
     let all = ap (λ (x : ℕ). rowsAt (s .args .table .now) x 1) (sym (s .pre .0)) ∙ left-all (s .args .table .now) (s .args .n) in
     (ap (λ (x : List Row). lowestGap (s .args .want) (s .args .size) x) all, omega arith, omega arith)
 
-mul-row-at : tie.Need-mul-row-at Inv-loop μ-loop
-mul-row-at c = search needs
-
-add-row-at : tie.Need-add-row-at Inv-loop μ-loop
-add-row-at c = search needs
-
-row-at-requires : tie.Need-row-at-requires Inv-loop μ-loop
-row-at-requires c κs = search needs
-
-add-if1 : tie.Need-add-if1 Inv-loop μ-loop
-add-if1 c = search needs
+module _ (c : tie.After-struct-known Inv-loop μ-loop) where
+  abbrev start : tie.Start Inv-loop μ-loop
+  start = c .before .before .before .before .before
 
 returns : tie.Need-returns Inv-loop μ-loop
 returns c =
-    let s = c .before .before .before .before .before .before .args in
+    let s = (start (c .before)) .args in
     let l = c .before .before .before .before .loop in
     gap-here (s .table .now) (s .n) (l .i) (c .before .before .row-at .ensures .0) (omega arith) (s .want) (s .size) (l .at) (omega arith)
     ∙ sym (l .inv .0)
 
-add-at : tie.Need-add-at Inv-loop μ-loop
-add-at c = search needs
-
-add-i : tie.Need-add-i Inv-loop μ-loop
-add-i c = search needs
-
-loop-less : tie.Need-loop-less Inv-loop μ-loop
-loop-less c = search needs
-
 loop-again : tie.Need-loop-again Inv-loop μ-loop
 loop-again c =
-    let s = c .before .before .before .before .before .before .before in
+    let s = start (c .before .before) in
     let l = c .before .before .before .before .before .loop in
     let r = c .before .before .before .row-at .ensures .0 in
     let x = row-next (s .args .n) (l .i) (s .pre .1) (s .pre .0) r (omega arith) in (
@@ -66,9 +46,6 @@ loop-again c =
       omega arith,
       x .inside,
     )
-
-add-if2 : tie.Need-add-if2 Inv-loop μ-loop
-add-if2 c = search needs
 
 returns-2 : tie.Need-returns-2 Inv-loop μ-loop
 returns-2 c =
@@ -83,21 +60,6 @@ returns-3 c =
     gap-none (s .table .now) (s .n) (l .i) (s .want) (s .size) (l .at) (omega arith) (omega arith) ∙ sym (l .inv .0)
 
 pub lowest-gap-spec : {M : Type 1} → statement M
-lowest-gap-spec =
-    tie.close
-    (tie.spec
-    Inv-loop
-    μ-loop
-    loop-holds
-    mul-row-at
-    add-row-at
-    row-at-requires
-    add-if1
-    returns
-    add-at
-    add-i
-    loop-less
-    loop-again
-    add-if2
-    returns-2
-    returns-3)
+lowest-gap-spec = tie.close (tie.spec Inv-loop μ-loop loop-holds (λ c. search needs) (λ c. search needs) (λ c κs. search needs)
+    (λ c. search needs) returns (λ c. search needs) (λ c. search needs) (λ c. search needs) loop-again (λ c. search needs)
+    returns-2 returns-3)

@@ -10,9 +10,6 @@ use Rattle.rows.proofs.Rising.{rising-end, rising-low, rising-few, risi
 use borrow.Author.Needs.{needs}
 use Rattle.rows.proofs.rises.Statement.{statement}
 use Rattle.rows.proofs.rises.Tie as tie
-use Rattle.rows.proofs.rises.Reads as reads
-use Rattle.rows.proofs.rises.Lts as lts
-use Rattle.rows.proofs.row_at.Reads as row-at-reads
 
 abbrev Inv-loop : tie.InvT-loop
 Inv-loop table n least size at₀ i₀ at i = (rising least 0 size (rowsAt table n 1) ≡ rising least at size (left table n i)) × (i ≤ n)
@@ -25,51 +22,41 @@ loop-holds c =
     let s = c .before .args in
     (ap (λ (x : List Row). rising (s .least) 0 (s .size) x) (left-all (s .table .now) (s .n)), omega arith)
 
-mul-row-at : tie.Need-mul-row-at Inv-loop μ-loop
-mul-row-at c = search needs
+module _ (c : tie.After-struct-known2 Inv-loop μ-loop) where
+  abbrev row-at : tie.After-row-at Inv-loop μ-loop
+  row-at = c .before .before .before
 
-add-row-at : tie.Need-add-row-at Inv-loop μ-loop
-add-row-at c = search needs
-
-row-at-requires : tie.Need-row-at-requires Inv-loop μ-loop
-row-at-requires c κs = search needs
+module _ (c : tie.Then1 Inv-loop μ-loop) where
+  abbrev start : tie.Start Inv-loop μ-loop
+  start = c .before .before .before .before .before .before
 
 returns : tie.Need-returns Inv-loop μ-loop
 returns c =
-    let s = c .before .before .before .before .before .before .args in
+    let s = (start c) .args in
     let l = c .before .before .before .before .loop in
     rising-low (s .table .now) (s .n) (l .i) (s .least) (s .size) (l .at) (c .before .before .row-at .ensures .0)
     (omega arith) (omega arith) ∙ sym (l .inv .0)
 
 returns-2 : tie.Need-returns-2 Inv-loop μ-loop
 returns-2 c =
-    let s = c .before .before .before .before .before .before .before .before .args in
-    let l = c .before .before .before .before .before .before .loop in
+    let s = (row-at (c .before)) .before .before .before .before .args in
+    let l = (row-at (c .before)) .before .before .loop in
     rising-few (s .table .now) (s .n) (l .i) (s .least) (s .size) (l .at) (c .before .before .before .before .row-at .ensures .0)
     (omega arith) (omega arith) (omega arith) ∙ sym (l .inv .0)
 
-add-end : tie.Need-add-end Inv-loop μ-loop
-add-end c = search needs
-
 returns-3 : tie.Need-returns-3 Inv-loop μ-loop
 returns-3 c =
-    let s = c .before .before .before .before .before .before .before .before .before .before .args in
-    let l = c .before .before .before .before .before .before .before .before .loop in
+    let s = (row-at (c .before .before .before)) .before .before .before .before .args in
+    let l = (row-at (c .before .before .before)) .before .before .loop in
     rising-out (s .table .now) (s .n) (l .i) (s .least) (s .size) (l .at)
-    (c .before .before .before .before .before .before .row-at .ensures .0) (omega arith) (omega arith) (omega arith) (omega arith)
+    ((row-at (c .before .before .before)) .row-at .ensures .0) (omega arith) (omega arith) (omega arith) (omega arith)
     ∙ sym (l .inv .0)
-
-add-i : tie.Need-add-i Inv-loop μ-loop
-add-i c = search needs
-
-loop-less : tie.Need-loop-less Inv-loop μ-loop
-loop-less c = search needs
 
 loop-again : tie.Need-loop-again Inv-loop μ-loop
 loop-again c =
-    let s = c .before .before .before .before .before .before .before .before .before .before .args in
-    let l = c .before .before .before .before .before .before .before .before .loop in
-    let r = c .before .before .before .before .before .before .row-at .ensures .0 in (
+    let s = (row-at (c .before .before .before)) .before .before .before .before .args in
+    let l = (row-at (c .before .before .before)) .before .before .loop in
+    let r = (row-at (c .before .before .before)) .row-at .ensures .0 in (
       l .inv .0 ∙ rising-turn (s .table .now) (s .n) (l .i) (s .least) (s .size) (l .at) r (omega arith) (omega arith)
           (omega arith) (omega arith),
       omega arith,
@@ -82,20 +69,5 @@ returns-4 c =
     rising-end (s .table .now) (s .n) (l .i) (s .least) (s .size) (l .at) (omega arith) ∙ sym (l .inv .0)
 
 pub rises-spec : {M : Type 1} → statement M
-rises-spec =
-    tie.close
-    (tie.spec
-    Inv-loop
-    μ-loop
-    loop-holds
-    mul-row-at
-    add-row-at
-    row-at-requires
-    returns
-    returns-2
-    add-end
-    returns-3
-    add-i
-    loop-less
-    loop-again
-    returns-4)
+rises-spec = tie.close (tie.spec Inv-loop μ-loop loop-holds (λ c. search needs) (λ c. search needs) (λ c κs. search needs)
+    returns returns-2 (λ c. search needs) returns-3 (λ c. search needs) (λ c. search needs) loop-again returns-4)

@@ -10,11 +10,8 @@ returns c = rw (le-leb _ _ (c .if1 .taken))
 returns-2 : tie.Need-returns-2
 returns-2 c = rw (lt-leb _ _ (c .before .before .if1 .left), lt-ltb _ _ (c .if2 .taken))
 
-add-t5 : tie.Need-add-t5
-add-t5 c = search needs
-
 returns-3 : tie.Need-returns-3
 returns-3 c = rw (lt-leb _ _ (c .before .before .before .if1 .left), le-ltb _ _ (c .before .if2 .left))
 
 pub ended-spec : {M : Type 1} → statement M
-ended-spec = tie.close (tie.spec returns returns-2 add-t5 returns-3)
+ended-spec = tie.close (tie.spec returns returns-2 (λ c. search needs) returns-3)

@@ -8,18 +8,6 @@ use Rattle.runs.proofs.Turn.{run-long, run-fits}
 use Rattle.runs.proofs.run.Statement.{statement}
 use Rattle.runs.proofs.run.Tie as tie
 
-add-too-long : tie.Need-add-too-long
-add-too-long c = search needs
-
-rice-requires : tie.Need-rice-requires
-rice-requires c κs = search needs
-
-enum-known-why : tie.Need-enum-known-why
-enum-known-why c = search needs
-
-enum-known-v : tie.Need-enum-known-v
-enum-known-v c = search needs
-
 returns : tie.Need-returns
 returns c =
     let v = told (c .before .before .before .before .rice .ensures) (c .before .before .v .given .1) in
@@ -40,5 +28,5 @@ returns-3 c =
     record { says = sym (run-fits _ _ _ _ _ (v .says) (omega arith)); value = omega arith; next = v .next }
 
 pub run-spec : {M : Type 1} → statement M
-run-spec =
-    tie.close (tie.spec add-too-long rice-requires enum-known-why enum-known-v returns returns-2 returns-3)
+run-spec = tie.close (tie.spec (λ c. search needs) (λ c κs. search needs) (λ c. search needs) (λ c. search needs) returns
+    returns-2 returns-3)

@@ -24,41 +24,21 @@ loop-holds c =
     let a = c .before .before .before .args in
     (omega arith, ap (λ (l : List Row). badBy (a .block .now) l (a .laws .now)) (sym (left-all (a .cells .now) (a .n))))
 
-mul-row-at : tie.Need-mul-row-at Inv-loop μ-loop
-mul-row-at c = search needs
-
-add-row-at : tie.Need-add-row-at Inv-loop μ-loop
-add-row-at c = search needs
-
-row-at-requires : tie.Need-row-at-requires Inv-loop μ-loop
-row-at-requires c κs = search needs
-
-add-end : tie.Need-add-end Inv-loop μ-loop
-add-end c = search needs
-
-sub-is-bad : tie.Need-sub-is-bad Inv-loop μ-loop
-sub-is-bad c = search needs
+module _ (c : tie.After-struct-known Inv-loop μ-loop) where
+  abbrev start : tie.Start Inv-loop μ-loop
+  start = c .before .before .before .before .before .before .before
 
 part-is-bad-start : tie.Need-part-is-bad-start Inv-loop μ-loop
 part-is-bad-start c =
-    let s = c .before .before .before .before .before .before .before in
+    let s = start c in
     let a = s .args in
     omega (arith, row-inside (a .cells .now) (a .size) (a .n) _ (c .before .row-at .ensures .0) (omega arith) (s .pre .4))
 
 part-is-bad-end : tie.Need-part-is-bad-end Inv-loop μ-loop
 part-is-bad-end c =
-    let s = c .before .before .before .before .before .before .before in
+    let s = start c in
     let a = s .args in
     omega (arith, row-inside (a .cells .now) (a .size) (a .n) _ (c .before .row-at .ensures .0) (omega arith) (s .pre .4))
-
-mul-is-bad : tie.Need-mul-is-bad Inv-loop μ-loop
-mul-is-bad c = search needs
-
-shared-slice-read-is-bad : tie.Need-shared-slice-read-is-bad Inv-loop μ-loop
-shared-slice-read-is-bad c = search needs
-
-is-bad-requires : tie.Need-is-bad-requires Inv-loop μ-loop
-is-bad-requires c κs = search needs
 
 returns : tie.Need-returns Inv-loop μ-loop
 returns c =
@@ -69,12 +49,6 @@ returns c =
     let r = q5 .row-at .ensures .0 in
     bad-here (a .block .now) (a .cells .now) (a .laws .now) (a .n) (l .loop .i) r (omega arith) (c .before .is-bad .ensures) (c .if1 .taken)
     ∙ l .loop .inv .1
-
-add-i : tie.Need-add-i Inv-loop μ-loop
-add-i c = search needs
-
-loop-less : tie.Need-loop-less Inv-loop μ-loop
-loop-less c = search needs
 
 loop-again : tie.Need-loop-again Inv-loop μ-loop
 loop-again c =
@@ -94,24 +68,6 @@ returns-2 c =
     bad-none (a .block .now) (a .cells .now) (a .laws .now) (a .n) (l .loop .i) (omega arith) ∙ l .loop .inv .1
 
 pub any-bad-spec : {M : Type 1} → statement M
-any-bad-spec =
-    tie.close
-    (tie.spec
-    Inv-loop
-    μ-loop
-    loop-holds
-    mul-row-at
-    add-row-at
-    row-at-requires
-    add-end
-    sub-is-bad
-    part-is-bad-start
-    part-is-bad-end
-    mul-is-bad
-    shared-slice-read-is-bad
-    is-bad-requires
-    returns
-    add-i
-    loop-less
-    loop-again
-    returns-2)
+any-bad-spec = tie.close (tie.spec Inv-loop μ-loop loop-holds (λ c. search needs) (λ c. search needs) (λ c κs. search needs)
+    (λ c. search needs) (λ c. search needs) part-is-bad-start part-is-bad-end (λ c. search needs) (λ c. search needs)
+    (λ c κs. search needs) returns (λ c. search needs) (λ c. search needs) loop-again returns-2)

@@ -7,24 +7,14 @@ use borrow.Author.Needs.{needs}
 use Rattle.saved.proofs.judge_rows.Statement.{statement}
 use Rattle.saved.proofs.judge_rows.Tie as tie
 
-size-of-requires : tie.Need-size-of-requires
-size-of-requires c κs = search needs
-
-rises-requires : tie.Need-rises-requires
-rises-requires c κs = search needs
-
 returns : tie.Need-returns
 returns c = not-apart _ _ _ (c .before .before .size-of .ensures) (c .before .rises .ensures) (not-true _ (c .if1 .taken))
-
-distinct-requires : tie.Need-distinct-requires
-distinct-requires c κs = search needs
 
 returns-2 : tie.Need-returns-2
 returns-2 c =
     let i = c .before .before in
     not-once _ _ _ (i .before .before .size-of .ensures) (i .before .rises .ensures) (not-false _ (i .if1 .left))
-    (c .before .distinct .ensures)
-    (not-true _ (c .if2 .taken))
+    (c .before .distinct .ensures) (not-true _ (c .if2 .taken))
 
 any-bad-requires : tie.Need-any-bad-requires
 any-bad-requires c κs =
@@ -37,26 +27,15 @@ returns-3 c =
     let d = c .before .before in
     let i = d .before .before in
     is-bad _ _ _ (i .before .before .size-of .ensures) (i .before .rises .ensures) (not-false _ (i .if1 .left))
-    (d .before .distinct .ensures)
-    (not-false _ (d .if2 .left)) (c .before .any-bad .ensures) (c .if3 .taken)
+    (d .before .distinct .ensures) (not-false _ (d .if2 .left)) (c .before .any-bad .ensures) (c .if3 .taken)
 
 returns-4 : tie.Need-returns-4
 returns-4 c =
     let d = c .before .before in
     let i = d .before .before in
     is-fine _ _ _ (i .before .before .size-of .ensures) (i .before .rises .ensures) (not-false _ (i .if1 .left))
-    (d .before .distinct .ensures)
-    (not-false _ (d .if2 .left)) (c .before .any-bad .ensures) (c .if3 .left)
+    (d .before .distinct .ensures) (not-false _ (d .if2 .left)) (c .before .any-bad .ensures) (c .if3 .left)
 
 pub judge-rows-spec : {M : Type 1} → statement M
-judge-rows-spec =
-    tie.close
-    (tie.spec
-    size-of-requires
-    rises-requires
-    returns
-    distinct-requires
-    returns-2
-    any-bad-requires
-    returns-3
-    returns-4)
+judge-rows-spec = tie.close (tie.spec (λ c κs. search needs) (λ c κs. search needs) returns (λ c κs. search needs) returns-2
+    any-bad-requires returns-3 returns-4)

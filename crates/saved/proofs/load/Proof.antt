@@ -9,67 +9,47 @@ use borrow.Author.Needs.{needs}
 use Rattle.saved.proofs.load.Statement.{statement}
 use Rattle.saved.proofs.load.Tie as tie
 
-size-of-requires : tie.Need-size-of-requires
-size-of-requires c κs = search needs
+module _ (c : tie.After-laws) where
+  abbrev read-rows : tie.After-read-rows
+  read-rows = c .before .before .before .before .before .before
 
-store-cells-requires : tie.Need-store-cells-requires
-store-cells-requires c κs = search needs
+  abbrev n : tie.After-n
+  n = c .before .before .before
+
+module _ (c : tie.Then1) where
+  abbrev start : tie.Start
+  start = c .before .before .before .before .before .before
+
+module _ (c : tie.After-slice-known4) where
+  abbrev read-rows2 : tie.After-read-rows2
+  read-rows2 = c .before .before .before .before .before .before .before .before
+
+module _ (c : tie.After-load-noted-arg) where
+  abbrev store-cells : tie.After-store-cells
+  store-cells = c .before .before .before .before .before .before .before .before
 
 returns : tie.Need-returns
 returns c =
-    let q6 = c .before .before .before .before .before .before in
+    let q6 = start c in
     let a = q6 .args in load-short (a .text .now) (a .block .now) (a .table .now) (c .before .before .size-of .ensures)
     (c .before .store-cells .ensures) (omega arith)
 
-slice-aggregate-read-rows : tie.Need-slice-aggregate-read-rows
-slice-aggregate-read-rows c = search needs
-
-read-rows-requires : tie.Need-read-rows-requires
-read-rows-requires c κs = search needs
-
-enum-told : tie.Need-enum-told
-enum-told c = search needs
-
-form-of-requires : tie.Need-form-of-requires
-form-of-requires c κs = search needs
-
 load-noted-requires : tie.Need-load-noted-requires
 load-noted-requires c κs =
-    let q8 = c .before .before .before .before .before .before .before .before in
+    let q8 = store-cells c in
     let q9 = q8 .before in
     let s = q9 .before .before .before .before in
     (form-most (s .args .text .now) (c .before .form-of .ensures), q9 .size-of .ensures, omega (arith, q8 .store-cells .ensures))
 
-enum-known-n : tie.Need-enum-known-n
-enum-known-n c = search needs
-
-slice-aggregate-judge-rows : tie.Need-slice-aggregate-judge-rows
-slice-aggregate-judge-rows c = search needs
-
-slice-aggregate-judge-rows-2 : tie.Need-slice-aggregate-judge-rows-2
-slice-aggregate-judge-rows-2 c = search needs
-
 judge-rows-requires : tie.Need-judge-rows-requires
 judge-rows-requires c κs =
-    let q6 = c .before .before .before .before .before .before in
+    let q6 = read-rows c in
     let f = q6 .read-rows .ensures .few _ (c .before .before .before .n .given .1) in (omega arith, omega arith, omega arith)
-
-enum-known-why : tie.Need-enum-known-why
-enum-known-why c = search needs
-
-enum-told-2 : tie.Need-enum-told-2
-enum-told-2 c = search needs
 
 read-rows-requires-2 : tie.Need-read-rows-requires-2
 read-rows-requires-2 c κs =
-    let q13 = c .before .before .before .before .before .before .before .before .before .before .before .before .before in
+    let q13 = (read-rows (c .before .before .before .before)) .before .before .before in
     omega (arith, q13 .store-cells .ensures)
-
-slice-aggregate-store-notes : tie.Need-slice-aggregate-store-notes
-slice-aggregate-store-notes c = search needs
-
-slice-aggregate-store-notes-2 : tie.Need-slice-aggregate-store-notes-2
-slice-aggregate-store-notes-2 c = search needs
 
 store-notes-requires : tie.Need-store-notes-requires
 store-notes-requires c κs =
@@ -87,9 +67,6 @@ store-notes-requires c κs =
     let z = q20 .size-of .ensures in
     all-notes (e .celled) p z z (omega (arith, q5 .read-rows2 .kept .1 .0, q19 .store-cells .ensures))
 
-same-length : tie.Need-same-length
-same-length c = search needs
-
 returns-2 : tie.Need-returns-2
 returns-2 c =
     let form = c .before .before .before .before in
@@ -102,7 +79,7 @@ returns-2 c =
 
 returns-3 : tie.Need-returns-3
 returns-3 c =
-    let q7 = c .before .before .before .before .before .before .before in
+    let q7 = n (c .before .before .before .before) in
     let q10 = q7 .before .before .before in
     let q13 = q10 .before .before .before in
     let q14 = q13 .before in
@@ -113,12 +90,9 @@ returns-3 c =
     load-stop (a .text .now) (a .block .now) (a .table .now) (q14 .size-of .ensures) (q13 .store-cells .ensures) (omega arith) e
     (sym (c .before .why .given .1) ∙ c .before .before .before .judge-rows .ensures)
 
-same-length-2 : tie.Need-same-length-2
-same-length-2 c = search needs
-
 returns-4 : tie.Need-returns-4
 returns-4 c =
-    let q8 = c .before .before .before .before .before .before .before .before in
+    let q8 = read-rows2 c in
     let q10 = q8 .before .before in
     let q12 = q10 .before .before in
     let q16 = q12 .before .before .before .before in
@@ -134,29 +108,7 @@ returns-4 c =
     (q8 .read-rows2 .ensures) (c .before .before .store-notes .ensures)
 
 pub load-spec : {M : Type 1} → statement M
-load-spec =
-    tie.close
-    (tie.spec
-    size-of-requires
-    store-cells-requires
-    returns
-    slice-aggregate-read-rows
-    read-rows-requires
-    enum-told
-    form-of-requires
-    load-noted-requires
-    enum-known-n
-    slice-aggregate-judge-rows
-    slice-aggregate-judge-rows-2
-    judge-rows-requires
-    enum-known-why
-    enum-told-2
-    read-rows-requires-2
-    slice-aggregate-store-notes
-    slice-aggregate-store-notes-2
-    store-notes-requires
-    same-length
-    returns-2
-    returns-3
-    same-length-2
-    returns-4)
+load-spec = tie.close (tie.spec (λ c κs. search needs) (λ c κs. search needs) returns (λ c. search needs) (λ c κs. search needs)
+    (λ c. search needs) (λ c κs. search needs) load-noted-requires (λ c. search needs) (λ c. search needs) (λ c. search needs)
+    judge-rows-requires (λ c. search needs) (λ c. search needs) read-rows-requires-2 (λ c. search needs) (λ c. search needs)
+    store-notes-requires (λ c. search needs) returns-2 returns-3 (λ c. search needs) returns-4)

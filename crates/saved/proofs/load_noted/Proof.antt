@@ -8,62 +8,46 @@ use borrow.Author.Needs.{needs}
 use Rattle.saved.proofs.load_noted.Statement.{statement}
 use Rattle.saved.proofs.load_noted.Tie as tie
 
-slice-aggregate-read-noted : tie.Need-slice-aggregate-read-noted
-slice-aggregate-read-noted c = search needs
+module _ (c : tie.After-store-notes-arg) where
+  abbrev read-noted2 : tie.After-read-noted2
+  read-noted2 = c .before .before .before .before .before .before
 
-slice-aggregate-read-noted-2 : tie.Need-slice-aggregate-read-noted-2
-slice-aggregate-read-noted-2 c = search needs
+module _ (c : tie.After-laws3) where
+  abbrev n : tie.After-n
+  n = c .before .before .before
 
-read-noted-requires : tie.Need-read-noted-requires
-read-noted-requires c κs = search needs
+module _ (c : tie.At-match-keys2) where
+  abbrev start : tie.Start
+  start = c .before .before .before .before .before .before .before .before .before
 
-enum-told : tie.Need-enum-told
-enum-told c = search needs
-
-enum-known-n : tie.Need-enum-known-n
-enum-known-n c = search needs
-
-slice-aggregate-judge-noted : tie.Need-slice-aggregate-judge-noted
-slice-aggregate-judge-noted c = search needs
-
-slice-aggregate-judge-noted-2 : tie.Need-slice-aggregate-judge-noted-2
-slice-aggregate-judge-noted-2 c = search needs
+module _ (c : tie.After-again) where
+  abbrev match-keys2 : tie.At-match-keys2
+  match-keys2 = c .before .before .before .before .before .before .before .before .before
 
 judge-noted-requires : tie.Need-judge-noted-requires
 judge-noted-requires c κs =
-    let q7 = c .before .before .before .before .before .before .before in
+    let q7 = (n c) .before .before .before .before in
     let w = celled-noted _ (fills-as (c .before .before .before .n .given .1) (q7 .read-noted .ensures)) (omega arith) (omega arith) in
     (omega arith, w .0, w .1)
 
-enum-known-why : tie.Need-enum-known-why
-enum-known-why c = search needs
-
-enum-told-2 : tie.Need-enum-told-2
-enum-told-2 c = search needs
-
-slice-aggregate-read-noted-3 : tie.Need-slice-aggregate-read-noted-3
-slice-aggregate-read-noted-3 c = search needs
-
 read-noted-requires-2 : tie.Need-read-noted-requires-2
 read-noted-requires-2 c κs =
-    let q9 = c .before .before .before .before .before .before .before .before .before in
-    let q18 = q9 .before .before .before .before .before .before .before .before .before in
+    let q9 = match-keys2 c in
+    let q18 = start q9 in
     (omega arith, omega (arith, q18 .pre .2), omega arith)
 
-slice-aggregate-store-notes : tie.Need-slice-aggregate-store-notes
-slice-aggregate-store-notes c = search needs
-
-slice-aggregate-store-notes-2 : tie.Need-slice-aggregate-store-notes-2
-slice-aggregate-store-notes-2 c = search needs
+module _ (c : tie.After-read-noted) where
+  abbrev start-of-read-noted : tie.Start
+  start-of-read-noted = c .before .before .before .before .before .before
 
 store-notes-requires : tie.Need-store-notes-requires
 store-notes-requires c κs =
-    let q6 = c .before .before .before .before .before .before in
+    let q6 = read-noted2 c in
     let q9 = q6 .before .before .before in
     let q11 = q9 .before .before in
     let q15 = q11 .before .before .before .before in
     let q19 = q15 .before .before .before .before in
-    let q25 = q19 .before .before .before .before .before .before in
+    let q25 = start-of-read-noted q19 in
     let s = q25 in
     let b = s .args .block .now in
     let k = q19 .read-noted .kept .1 .1 in
@@ -77,26 +61,23 @@ returns c =
 
 returns-2 : tie.Need-returns-2
 returns-2 c =
-    let q7 = c .before .before .before .before .before .before .before in
+    let q7 = n (c .before .before .before .before) in
     let q11 = q7 .before .before .before .before in
-    let q17 = q11 .before .before .before .before .before .before in
+    let q17 = start-of-read-noted q11 in
     let s = q17 in
     let b = s .args .block .now in
     let w = celled-noted _ (fills-as (q7 .n .given .1) (q11 .read-noted .ensures)) (omega arith) (omega arith) in
     noted-stop b (sizeOf b) (listedAt (s .args .form .most) (s .args .form .from) (s .args .text .now)) _ (w .0)
     (sym (c .before .why .given .1) ∙ c .before .before .before .judge-noted .ensures)
 
-same-length : tie.Need-same-length
-same-length c = search needs
-
 returns-3 : tie.Need-returns-3
 returns-3 c =
-    let q9 = c .before .before .before .before .before .before .before .before .before in
+    let q9 = read-noted2 (c .before .before .before) in
     let q12 = q9 .before .before .before in
     let q14 = q12 .before .before in
     let q18 = q14 .before .before .before .before in
     let q22 = q18 .before .before .before .before in
-    let q28 = q22 .before .before .before .before .before .before in
+    let q28 = start-of-read-noted q22 in
     let s = q28 in
     let b = s .args .block .now in
     let w = celled-noted _ (fills-as (q18 .n .given .1) (q22 .read-noted .ensures)) (omega arith) (omega arith) in
@@ -105,25 +86,7 @@ returns-3 c =
     (q9 .read-noted2 .ensures) (c .before .before .store-notes .ensures)
 
 pub load-noted-spec : {M : Type 1} → statement M
-load-noted-spec =
-    tie.close
-    (tie.spec
-    slice-aggregate-read-noted
-    slice-aggregate-read-noted-2
-    read-noted-requires
-    enum-told
-    enum-known-n
-    slice-aggregate-judge-noted
-    slice-aggregate-judge-noted-2
-    judge-noted-requires
-    enum-known-why
-    enum-told-2
-    slice-aggregate-read-noted-3
-    read-noted-requires-2
-    slice-aggregate-store-notes
-    slice-aggregate-store-notes-2
-    store-notes-requires
-    returns
-    returns-2
-    same-length
-    returns-3)
+load-noted-spec = tie.close (tie.spec (λ c. search needs) (λ c. search needs) (λ c κs. search needs) (λ c. search needs)
+    (λ c. search needs) (λ c. search needs) (λ c. search needs) judge-noted-requires (λ c. search needs) (λ c. search needs)
+    (λ c. search needs) read-noted-requires-2 (λ c. search needs) (λ c. search needs) store-notes-requires returns returns-2
+    (λ c. search needs) returns-3)

@@ -3,9 +3,6 @@ use native.Mathlib.Omega.{arith}
 use Rattle.seeking.proofs.Halving.{Found, found-start, found-half, found-turn, found-last}
 use Rattle.seeking.proofs.last_mark.Statement.{statement}
 use Rattle.seeking.proofs.last_mark.Tie as tie
-use Rattle.seeking.proofs.last_mark.Reads as reads
-use Rattle.seeking.proofs.last_mark.Lts as lts
-use Rattle.seeking.proofs.half.Reads as half-reads
 
 abbrev Inv-loop : tie.InvT-loop
 Inv-loop marks m sample low₀ high₀ low high = Found m marks sample low high
@@ -32,6 +29,4 @@ returns : tie.Need-returns Inv-loop μ-loop
 returns c = (found-last (c .before .loop .inv) (omega arith), omega (arith, c .before .loop .inv .some, c .before .loop .inv .inside))
 
 pub last-mark-spec : {M : Type 1} → statement M
-last-mark-spec =
-    tie.close
-    (tie.spec Inv-loop μ-loop loop-holds add-loop half-requires loop-less loop-again returns)
+last-mark-spec = tie.close (tie.spec Inv-loop μ-loop loop-holds add-loop half-requires loop-less loop-again returns)

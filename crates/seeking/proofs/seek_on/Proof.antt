@@ -10,9 +10,6 @@ use Rattle.walk.proofs.Told.{Bounds}
 use Rattle.seeking.proofs.Along.{Along, seek-start, seek-ended, seek-last, seek-refused, seek-bounds, seek-found, seek-turn}
 use Rattle.seeking.proofs.seek_on.Statement.{statement}
 use Rattle.seeking.proofs.seek_on.Tie as tie
-use Rattle.seeking.proofs.seek_on.Reads as reads
-use Rattle.seeking.proofs.seek_on.Lts as lts
-use Rattle.walk.proofs.pass.Reads as pass-reads
 
 abbrev Inv-loop : tie.InvT-loop
 Inv-loop octets law at first before sample samples₀ place₀ left₀ passed₀ n₀ samples place left passed n =
@@ -46,28 +43,27 @@ loop-holds c = seek-start _ _ _ _ _ _ (omega arith) refl
 pass-requires : tie.Need-pass-requires Inv-loop μ-loop
 pass-requires c κs = (le-of-lt (here (c .before)), c .before .before .before .loop .inv .size)
 
-enum-told : tie.Need-enum-told Inv-loop μ-loop
-enum-told c = search needs
-
 returns : tie.Need-returns Inv-loop μ-loop
 returns c =
     let s = c .before .before in
     seek-refused _ _ _ _ _ _ (s .before .before .before .before .loop .inv) (omega arith) (here (s .before .before))
     (s .pass .ensures .tells) _ (c .enum-told .given .1)
 
-enum-told-2 : tie.Need-enum-told-2 Inv-loop μ-loop
-enum-told-2 c = search needs
-
 add-if2 : tie.Need-add-if2 Inv-loop μ-loop
 add-if2 c =
     let s = c .before .before .before in
     omega (arith, bounds s (c .before .enum-told2 .given .1) .fits, s .before .before .before .before .loop .inv .room)
 
-add-t20 : tie.Need-add-t20 Inv-loop μ-loop
-add-t20 c = search needs
+module _ (c : tie.After-struct-known Inv-loop μ-loop) where
+  abbrev pass : tie.After-pass Inv-loop μ-loop
+  pass = c .before .before .before
+
+module _ (c : tie.After-pass Inv-loop μ-loop) where
+  abbrev start : tie.Start Inv-loop μ-loop
+  start = c .before .before .before .before .before .before
 
 sub-t21 : tie.Need-sub-t21 Inv-loop μ-loop
-sub-t21 c = c .before .before .before .before .before .before .before .before .loop .inv .behind
+sub-t21 c = (pass (c .before)) .before .before .before .before .loop .inv .behind
 
 returns-2 : tie.Need-returns-2 Inv-loop μ-loop
 returns-2 c =
@@ -78,14 +74,14 @@ returns-2 c =
 add-place : tie.Need-add-place Inv-loop μ-loop
 add-place c =
     let s = c .before .before .before .before .before in
-    omega (arith, inside s (c .before .before .before .enum-told2 .given .1), s .before .before .before .before .before .before .good)
+    omega (arith, inside s (c .before .before .before .enum-told2 .given .1), (start s) .good)
 
 sub-left : tie.Need-sub-left Inv-loop μ-loop
-sub-left c = bounds (c .before .before .before .before .before .before) (c .before .before .before .before .enum-told2 .given .1) .fits
+sub-left c = bounds (pass (c .before .before .before)) (c .before .before .before .before .enum-told2 .given .1) .fits
 
 add-passed : tie.Need-add-passed Inv-loop μ-loop
 add-passed c =
-    let s = c .before .before .before .before .before .before .before in
+    let s = pass (c .before .before .before .before) in
     omega (
       arith,
       bounds s (c .before .before .before .before .before .enum-told2 .given .1) .fits,
@@ -93,15 +89,12 @@ add-passed c =
           .before .before .loop .inv .room,
     )
 
-add-n : tie.Need-add-n Inv-loop μ-loop
-add-n c = search needs
-
 loop-less : tie.Need-loop-less Inv-loop μ-loop
 loop-less c = omega arith
 
 loop-again : tie.Need-loop-again Inv-loop μ-loop
 loop-again c =
-    let s = c .before .before .before .before .before .before .before in
+    let s = pass (c .before .before .before .before) in
     seek-turn _ _ _ _ _ _ (s .before .before .before .before .loop .inv) (omega arith) (here (s .before .before))
     (s .pass .ensures .tells) (c .before .before .before .before .before .enum-told2 .given .1) (omega arith) (s .pass .ensures .size)
 
@@ -112,25 +105,6 @@ returns-4 : tie.Need-returns-4 Inv-loop μ-loop
 returns-4 c = seek-last _ _ _ _ _ _ (c .before .loop .inv) (omega arith)
 
 pub seek-on-spec : {M : Type 1} → statement M
-seek-on-spec =
-    tie.close
-    (tie.spec
-    Inv-loop
-    μ-loop
-    loop-holds
-    pass-requires
-    enum-told
-    returns
-    enum-told-2
-    add-if2
-    add-t20
-    sub-t21
-    returns-2
-    add-place
-    sub-left
-    add-passed
-    add-n
-    loop-less
-    loop-again
-    returns-3
-    returns-4)
+seek-on-spec = tie.close (tie.spec Inv-loop μ-loop loop-holds pass-requires (λ c. search needs) returns (λ c. search needs)
+    add-if2 (λ c. search needs) sub-t21 returns-2 add-place sub-left add-passed (λ c. search needs) loop-less loop-again
+    returns-3 returns-4)

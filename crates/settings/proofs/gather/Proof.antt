@@ -16,21 +16,16 @@ abbrev μ-loop : tie.MeasureT-loop
 loop-holds : tie.Need-loop-holds Inv-loop μ-loop
 loop-holds c = gathering-start _ _ (c .before .before .pre .1)
 
-row-at-requires : tie.Need-row-at-requires Inv-loop μ-loop
-row-at-requires c κs = search needs
-
 keep-row-requires : tie.Need-keep-row-requires Inv-loop μ-loop
 keep-row-requires c κs = (omega (arith, c .before .before .before .loop .inv .few), gathering-size (c .before .before .before .loop .inv))
 
-add-i : tie.Need-add-i Inv-loop μ-loop
-add-i c = search needs
-
-loop-less : tie.Need-loop-less Inv-loop μ-loop
-loop-less c = search needs
+module _ (c : tie.After-slice-known2 Inv-loop μ-loop) where
+  abbrev loop : tie.At-loop Inv-loop μ-loop
+  loop = c .before .before .before .before .before .before
 
 loop-again : tie.Need-loop-again Inv-loop μ-loop
 loop-again c =
-    gathering-turn (c .before .before .before .before .before .before .loop .inv) (omega arith)
+    gathering-turn ((loop c) .loop .inv) (omega arith)
     (rw (c .before .before .before .before .row-at .ensures) at (c .before .before .keep-row .ensures))
 
 same-length : tie.Need-same-length Inv-loop μ-loop
@@ -40,16 +35,5 @@ returns : tie.Need-returns Inv-loop μ-loop
 returns c = gathering-end (c .before .loop .inv) (omega arith)
 
 pub gather-spec : {M : Type 1} → statement M
-gather-spec =
-    tie.close
-    (tie.spec
-    Inv-loop
-    μ-loop
-    loop-holds
-    row-at-requires
-    keep-row-requires
-    add-i
-    loop-less
-    loop-again
-    same-length
-    returns)
+gather-spec = tie.close (tie.spec Inv-loop μ-loop loop-holds (λ c κs. search needs) keep-row-requires (λ c. search needs)
+    (λ c. search needs) loop-again same-length returns)

@@ -6,21 +6,9 @@ use Rattle.settings.proofs.keep_row.Tie as tie
 returns : tie.Need-returns
 returns c = not-kept _ _ _ (c .if1 .taken)
 
-mul-put-row : tie.Need-mul-put-row
-mul-put-row c = search needs
-
-put-row-requires : tie.Need-put-row-requires
-put-row-requires c κs = search needs
-
-add-result : tie.Need-add-result
-add-result c = search needs
-
-same-length : tie.Need-same-length
-same-length c = search needs
-
 returns-2 : tie.Need-returns-2
 returns-2 c = is-kept _ _ _ (c .before .before .before .before .if1 .left) (c .before .before .put-row .ensures)
 
 pub keep-row-spec : {M : Type 1} → statement M
-keep-row-spec =
-    tie.close (tie.spec returns mul-put-row put-row-requires add-result same-length returns-2)
+keep-row-spec = tie.close (tie.spec returns (λ c. search needs) (λ c κs. search needs) (λ c. search needs) (λ c. search needs)
+    returns-2)

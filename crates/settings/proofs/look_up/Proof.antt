@@ -25,20 +25,14 @@ returns c = sym (rw (c .if1 .taken) (zero-gone _))
 loop-holds : tie.Need-loop-holds Inv-loop μ-loop
 loop-holds c = (omega arith, refl)
 
-row-at-requires : tie.Need-row-at-requires Inv-loop μ-loop
-row-at-requires c κs = search needs
+module _ (c : tie.After-v Inv-loop μ-loop) where
+  abbrev else1 : tie.Else1 Inv-loop μ-loop
+  else1 = c .before .before .before .before .before .before
 
 returns-2 : tie.Need-returns-2 Inv-loop μ-loop
-returns-2 c = sym (kept-looked _ (c .before .before .before .before .before .before .if1 .left) _
-    ∙ c .before .before .before .before .before .loop .inv .1
+returns-2 c = sym (kept-looked _ ((else1 c) .if1 .left) _ ∙ c .before .before .before .before .before .loop .inv .1
     ∙ looked-here _ _ _ (omega arith) (ap number (sym (c .before .before .before .row-at .ensures)) ∙ c .before .if2 .taken)
     ∙ ap (λ (r : Revision). Under (r .values)) (sym (c .before .before .before .row-at .ensures)))
-
-add-k : tie.Need-add-k Inv-loop μ-loop
-add-k c = search needs
-
-loop-less : tie.Need-loop-less Inv-loop μ-loop
-loop-less c = search needs
 
 loop-again : tie.Need-loop-again Inv-loop μ-loop
 loop-again c =
@@ -49,16 +43,5 @@ returns-3 : tie.Need-returns-3 Inv-loop μ-loop
 returns-3 c = sym (kept-looked _ (c .before .before .if1 .left) _ ∙ c .before .loop .inv .1 ∙ looked-through _ _ _ (omega arith))
 
 pub look-up-spec : {M : Type 1} → statement M
-look-up-spec =
-    tie.close
-    (tie.spec
-    Inv-loop
-    μ-loop
-    returns
-    loop-holds
-    row-at-requires
-    returns-2
-    add-k
-    loop-less
-    loop-again
-    returns-3)
+look-up-spec = tie.close (tie.spec Inv-loop μ-loop returns loop-holds (λ c κs. search needs) returns-2 (λ c. search needs)
+    (λ c. search needs) loop-again returns-3)

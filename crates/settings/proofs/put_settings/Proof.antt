@@ -13,16 +13,10 @@ use Rattle.settings.proofs.put_settings.Tie as tie
 last-line : (c : tie.Start) → length (lineOf greetingWord (c .args .s .greeting)) ≤ 20
 last-line c = line-few greetingWord (c .args .s .greeting) (omega arith)
 
-slice-aggregate-put-line : tie.Need-slice-aggregate-put-line
-slice-aggregate-put-line c = search needs
-
 put-line-requires : tie.Need-put-line-requires
 put-line-requires c κs =
     let s = c .before .before .before .args .s in
     omega (arith, line-few lawWord (s .law) (omega arith))
-
-slice-aggregate-put-line-2 : tie.Need-slice-aggregate-put-line-2
-slice-aggregate-put-line-2 c = search needs
 
 put-line-requires-2 : tie.Need-put-line-requires-2
 put-line-requires-2 c κs =
@@ -30,18 +24,12 @@ put-line-requires-2 c κs =
     let s = l .before .before .before .before .args .s in
     omega (arith, l .put-line .ensures .1, line-few setWord (s .set) (omega arith))
 
-slice-aggregate-put-line-3 : tie.Need-slice-aggregate-put-line-3
-slice-aggregate-put-line-3 c = search needs
-
 put-line-requires-3 : tie.Need-put-line-requires-3
 put-line-requires-3 c κs =
     let t = c .before .before .before .before in
     let l = t .before .before .before .before .before in
     let s = l .before .before .before .before .args .s in
     omega (arith, l .put-line .ensures .1, t .put-line2 .ensures .1, line-few blockWord (s .block) (omega arith))
-
-slice-aggregate-put-line-4 : tie.Need-slice-aggregate-put-line-4
-slice-aggregate-put-line-4 c = search needs
 
 put-line-requires-4 : tie.Need-put-line-requires-4
 put-line-requires-4 c κs =
@@ -57,9 +45,6 @@ put-line-requires-4 c κs =
           (l .before .before .before .before),
     )
 
-same-length : tie.Need-same-length
-same-length c = search needs
-
 returns : tie.Need-returns
 returns c =
     let d = c .before .before in
@@ -69,16 +54,5 @@ returns c =
     (four-puts _ (l .put-line .ensures .0) (s .put-line2 .ensures .0) (b .put-line3 .ensures .0) (d .put-line4 .ensures .0), omega arith)
 
 pub put-settings-spec : {M : Type 1} → statement M
-put-settings-spec =
-    tie.close
-    (tie.spec
-    slice-aggregate-put-line
-    put-line-requires
-    slice-aggregate-put-line-2
-    put-line-requires-2
-    slice-aggregate-put-line-3
-    put-line-requires-3
-    slice-aggregate-put-line-4
-    put-line-requires-4
-    same-length
-    returns)
+put-settings-spec = tie.close (tie.spec (λ c. search needs) put-line-requires (λ c. search needs) put-line-requires-2
+    (λ c. search needs) put-line-requires-3 (λ c. search needs) put-line-requires-4 (λ c. search needs) returns)

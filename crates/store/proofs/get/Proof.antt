@@ -1,139 +1,75 @@
-use mathlib.Core.Path.{sym, _∙_}
+-- TABLE, then the number, then its row, absent or found (Called).
+use mathlib.Core.Path.{_≡_, sym, _∙_}
+use mathlib.Core.Bool.{true}
 use native.Mathlib.Omega.{arith}
+use borrow.Author.Needs.{needs}
 use borrow.Author.Tests.{not-true, not-false}
 use Rattle.notes.proofs.Matched.{sane-noted}
+use Rattle.store.specs.Looking.{Looked}
 use Rattle.store.proofs.Looks.{look-told}
 use Rattle.store.proofs.Called.{get-table, get-stop, get-absent, get-found}
-use borrow.Author.Needs.{needs}
 use Rattle.store.proofs.get.Statement.{statement}
 use Rattle.store.proofs.get.Tie as tie
-use Rattle.store.proofs.get.Reads as reads
-use Rattle.store.proofs.get.Lts as lts
-use Rattle.notes.proofs.sane.Reads as sane-reads
-use Rattle.rows.proofs.row_at.Reads as row-at-reads
-use Rattle.rows.proofs.size_of.Reads as size-of-reads
-use Rattle.rows.proofs.wide.Reads as wide-reads
-use Rattle.store.proofs.judge.Reads as judge-reads
-
-size-of-requires : tie.Need-size-of-requires
-size-of-requires c κs = search needs
-
-sane-requires : tie.Need-sane-requires
-sane-requires c κs = search needs
 
 returns : tie.Need-returns
 returns c =
-    let sane = c .before in
-    let size-of = sane .before in
-    let s = size-of .before .before .before .args in
-    get-table (s .block .now) (s .table .now) (size-of .size-of .ensures) (sane .sane .ensures) (not-true _ (c .if1 .taken)) (s .number)
+    let a = c .before .before .before .before .before .args in
+    get-table (a .block .now) (a .table .now) (c .before .before .size-of .ensures) (c .before .sane .ensures) (not-true _ (c .if1 .taken))
+    (a .number)
 
-wide-requires : tie.Need-wide-requires
-wide-requires c κs = search needs
+-- the table is sane
+passed : (c : tie.Else1) → c .before .sane .result ≡ true
+passed c = not-false _ (c .if1 .left)
 
 judge-requires : tie.Need-judge-requires
-judge-requires c κs = sane-noted _ _ (sym (c .before .before .sane .ensures) ∙ not-false _ (c .before .if1 .left))
+judge-requires c κs = sane-noted _ _ (sym (c .before .before .sane .ensures) ∙ passed (c .before))
 
-enum-known-why : tie.Need-enum-known-why
-enum-known-why c = search needs
+-- the number was looked for
+module _ (c : tie.After-n) where
+  abbrev else1 : tie.Else1
+  else1 = c .before .before .before .before
 
-enum-known-n : tie.Need-enum-known-n
-enum-known-n c = search needs
+  abbrev s : tie.Start
+  s = else1 .before .before .before .before .before
+
+  looked : Looked (else1 .before .before .size-of .result) (s .args .table .now) (s .args .number) (c .n .given .0 .0)
+      (c .n .given .0 .1 .0)
+  looked = look-told _ _ _ (sym (else1 .before .sane .ensures) ∙ passed else1)
+      (rw (c .before .before .before .wide .ensures) at (sym (c .n .given .1) ∙ c .before .before .judge .ensures))
 
 returns-2 : tie.Need-returns-2
 returns-2 c =
     let n = c .before .before in
-    let judge = n .before .before in
-    let wide = judge .before in
-    let if1 = wide .before in
-    let sane = if1 .before in
-    let size-of = sane .before in
-    let s = size-of .before .before .before .args in
-    let k = look-told _ _ _ (sym (sane .sane .ensures) ∙ not-false _ (if1 .if1 .left))
-    (rw (wide .wide .ensures) at (sym (n .n .given .1) ∙ judge .judge .ensures))
-    in
-    get-absent (s .block .now) (s .table .now) (size-of .size-of .ensures) (sane .sane .ensures) (not-false _ (if1 .if1 .left)) (s .number)
-    k (omega arith)
+    let e = else1 n in
+    let a = s n .args in
+    get-absent (a .block .now) (a .table .now) (e .before .before .size-of .ensures) (e .before .sane .ensures) (passed e) (a .number)
+    (looked n) (omega arith)
 
 mul-row-at : tie.Need-mul-row-at
-mul-row-at c =
-    let n = c .before .before in
-    let judge = n .before .before in
-    let wide = judge .before in
-    let if1 = wide .before in
-    let sane = if1 .before in
-    let k = look-told _ _ _ (sym (sane .sane .ensures) ∙ not-false _ (if1 .if1 .left))
-    (rw (wide .wide .ensures) at (sym (n .n .given .1) ∙ judge .judge .ensures))
-    in
-    omega (arith, k .count, k .noted .order .few)
+mul-row-at c = let k = looked (c .before .before) in omega (arith, k .count, k .noted .order .few)
 
 add-row-at : tie.Need-add-row-at
-add-row-at c =
-    let n = c .before .before in
-    let judge = n .before .before in
-    let wide = judge .before in
-    let if1 = wide .before in
-    let sane = if1 .before in
-    let k = look-told _ _ _ (sym (sane .sane .ensures) ∙ not-false _ (if1 .if1 .left))
-    (rw (wide .wide .ensures) at (sym (n .n .given .1) ∙ judge .judge .ensures))
-    in
-    omega (arith, k .count, k .noted .order .few)
+add-row-at c = let k = looked (c .before .before) in omega (arith, k .count, k .noted .order .few)
 
 row-at-requires : tie.Need-row-at-requires
-row-at-requires c κs =
-    let n = c .before .before in
-    let judge = n .before .before in
-    let wide = judge .before in
-    let if1 = wide .before in
-    let sane = if1 .before in
-    let k = look-told _ _ _ (sym (sane .sane .ensures) ∙ not-false _ (if1 .if1 .left))
-    (rw (wide .wide .ensures) at (sym (n .n .given .1) ∙ judge .judge .ensures))
-    in
-    omega (arith, k .count, k .noted .order .few, k .noted .order .cells)
+row-at-requires c κs = let k = looked (c .before .before) in omega (arith, k .count, k .noted .order .few, k .noted .order .cells)
 
 returns-3 : tie.Need-returns-3
 returns-3 c =
-    let why = c .before in
-    let judge = why .before .before in
-    let wide = judge .before in
-    let if1 = wide .before in
-    let sane = if1 .before in
-    let size-of = sane .before in
-    let s = size-of .before .before .before .args in
-    let stop = sym (why .why .given .1) ∙ judge .judge .ensures in
-    get-stop (s .block .now) (s .table .now) (size-of .size-of .ensures) (sane .sane .ensures) (not-false _ (if1 .if1 .left)) (s .number)
-    (rw (wide .wide .ensures) at stop)
+    let judge = c .before .before .before in
+    let e = judge .before .before in
+    let a = e .before .before .before .before .before .args in
+    get-stop (a .block .now) (a .table .now) (e .before .before .size-of .ensures) (e .before .sane .ensures) (passed e) (a .number)
+    (rw (judge .before .wide .ensures) at (sym (c .before .why .given .1) ∙ judge .judge .ensures))
 
 returns-4 : tie.Need-returns-4
 returns-4 c =
     let n = c .before .before .before in
-    let judge = n .before .before in
-    let wide = judge .before in
-    let if1 = wide .before in
-    let sane = if1 .before in
-    let size-of = sane .before in
-    let s = size-of .before .before .before .args in
-    let k = look-told _ _ _ (sym (sane .sane .ensures) ∙ not-false _ (if1 .if1 .left))
-    (rw (wide .wide .ensures) at (sym (n .n .given .1) ∙ judge .judge .ensures))
-    in
-    get-found (s .block .now) (s .table .now) (size-of .size-of .ensures) (sane .sane .ensures) (not-false _ (if1 .if1 .left)) (s .number)
-    k (omega arith)
-    (c .row-at .ensures .0)
+    let e = else1 n in
+    let a = s n .args in
+    get-found (a .block .now) (a .table .now) (e .before .before .size-of .ensures) (e .before .sane .ensures) (passed e) (a .number)
+    (looked n) (omega arith) (c .row-at .ensures .0)
 
 pub get-spec : {M : Type 1} → statement M
-get-spec =
-    tie.close
-    (tie.spec
-    size-of-requires
-    sane-requires
-    returns
-    wide-requires
-    judge-requires
-    enum-known-why
-    enum-known-n
-    returns-2
-    mul-row-at
-    add-row-at
-    row-at-requires
-    returns-3
-    returns-4)
+get-spec = tie.close (tie.spec (λ c κs. search needs) (λ c κs. search needs) returns (λ c κs. search needs) judge-requires
+    (λ c. search needs) (λ c. search needs) returns-2 mul-row-at add-row-at row-at-requires returns-3 returns-4)

@@ -4,12 +4,6 @@ use Rattle.store.proofs.Called.{long-bad, long-full, long-room}
 use borrow.Author.Needs.{needs}
 use Rattle.store.proofs.over_long.Statement.{statement}
 use Rattle.store.proofs.over_long.Tie as tie
-use Rattle.store.proofs.over_long.Reads as reads
-use Rattle.store.proofs.over_long.Lts as lts
-use Rattle.greetings.proofs.is_bad.Reads as is-bad-reads
-
-is-bad-requires : tie.Need-is-bad-requires
-is-bad-requires c κs = search needs
 
 returns : tie.Need-returns
 returns c = sym (long-bad _ _ _ (sym (c .before .is-bad .ensures) ∙ c .if1 .taken))
@@ -21,4 +15,4 @@ returns-3 : tie.Need-returns-3
 returns-3 c = sym (long-room _ _ _ (sym (c .before .before .is-bad .ensures) ∙ c .before .if1 .left) (omega arith))
 
 pub over-long-spec : {M : Type 1} → statement M
-over-long-spec = tie.close (tie.spec is-bad-requires returns returns-2 returns-3)
+over-long-spec = tie.close (tie.spec (λ c κs. search needs) returns returns-2 returns-3)

@@ -18,20 +18,8 @@ abbrev μ-loop : tie.MeasureT-loop
 loop-holds : tie.Need-loop-holds Inv-loop μ-loop
 loop-holds c = (omega arith, counting-first (marks-start _ _))
 
-mul-mark-octets : tie.Need-mul-mark-octets Inv-loop μ-loop
-mul-mark-octets c = search needs
-
-mark-octets-requires : tie.Need-mark-octets-requires Inv-loop μ-loop
-mark-octets-requires c κs = search needs
-
 add-sum : tie.Need-add-sum Inv-loop μ-loop
 add-sum c = omega (arith, c .before .before .loop .inv .1 .few, c .mark-octets .ensures .1)
-
-add-j : tie.Need-add-j Inv-loop μ-loop
-add-j c = search needs
-
-loop-less : tie.Need-loop-less Inv-loop μ-loop
-loop-less c = search needs
 
 loop-again : tie.Need-loop-again Inv-loop μ-loop
 loop-again c =
@@ -49,16 +37,5 @@ returns c =
     (e, omega (arith, l .loop .inv .1 .few))
 
 pub marks-octets-spec : {M : Type 1} → statement M
-marks-octets-spec =
-    tie.close
-    (tie.spec
-    Inv-loop
-    μ-loop
-    loop-holds
-    mul-mark-octets
-    mark-octets-requires
-    add-sum
-    add-j
-    loop-less
-    loop-again
-    returns)
+marks-octets-spec = tie.close (tie.spec Inv-loop μ-loop loop-holds (λ c. search needs) (λ c κs. search needs) add-sum
+    (λ c. search needs) (λ c. search needs) loop-again returns)

@@ -20,26 +20,11 @@ abbrev μ-loop : tie.MeasureT-loop
 loop-holds : tie.Need-loop-holds Inv-loop μ-loop
 loop-holds c = marking-first _ _
 
-slice-aggregate-has-word : tie.Need-slice-aggregate-has-word Inv-loop μ-loop
-slice-aggregate-has-word c = search needs
-
-has-word-requires : tie.Need-has-word-requires Inv-loop μ-loop
-has-word-requires c κs = search needs
-
-mark-at-requires : tie.Need-mark-at-requires Inv-loop μ-loop
-mark-at-requires c κs = search needs
-
-enum-told : tie.Need-enum-told Inv-loop μ-loop
-enum-told c = search needs
-
 returns : tie.Need-returns Inv-loop μ-loop
 returns c =
     let i = c .before .before .before in
     marking-stuck (i .before .before .before .loop .inv) (sym (i .before .has-word .ensures) ∙ i .if1 .taken)
     (sym (ap asMark (c .enum-told .given .1)) ∙ c .before .before .mark-at .ensures)
-
-enum-known-next : tie.Need-enum-known-next Inv-loop μ-loop
-enum-known-next c = search needs
 
 loop-less : tie.Need-loop-less Inv-loop μ-loop
 loop-less c =
@@ -67,18 +52,5 @@ returns-2 : tie.Need-returns-2 Inv-loop μ-loop
 returns-2 c = marking-end (c .before .before .before .loop .inv) (sym (c .before .has-word .ensures) ∙ c .if1 .left)
 
 pub marks-past-spec : {M : Type 1} → statement M
-marks-past-spec =
-    tie.close
-    (tie.spec
-    Inv-loop
-    μ-loop
-    loop-holds
-    slice-aggregate-has-word
-    has-word-requires
-    mark-at-requires
-    enum-told
-    returns
-    enum-known-next
-    loop-less
-    loop-again
-    returns-2)
+marks-past-spec = tie.close (tie.spec Inv-loop μ-loop loop-holds (λ c. search needs) (λ c κs. search needs)
+    (λ c κs. search needs) (λ c. search needs) returns (λ c. search needs) loop-less loop-again returns-2)

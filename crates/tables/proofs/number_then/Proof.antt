@@ -9,26 +9,18 @@ use borrow.Author.Needs.{needs}
 use Rattle.tables.proofs.number_then.Statement.{statement}
 use Rattle.tables.proofs.number_then.Tie as tie
 
-number-at-requires : tie.Need-number-at-requires
-number-at-requires c κs = search needs
-
-enum-told : tie.Need-enum-told
-enum-told c = search needs
-
-enum-known-n : tie.Need-enum-known-n
-enum-known-n c = search needs
-
-has-word-requires : tie.Need-has-word-requires
-has-word-requires c κs = search needs
-
 returns : tie.Need-returns
 returns c =
     then-no-word _ _ _ (told (c .before .before .before .n .given .1) (c .before .before .before .before .before .number-at .ensures))
     (sym (c .before .has-word .ensures) ∙ not-true _ (c .if1 .taken))
 
+module _ (c : tie.Else1) where
+  abbrev start : tie.Start
+  start = c .before .before .before .before .before .before .before .before
+
 add-t11 : tie.Need-add-t11
 add-t11 c =
-    let a = c .before .before .before .before .before .before .before .before .args in
+    let a = (start c) .args in
     omega (
       arith,
       word-fits (a .word .now) (a .text .now) (c .before .before .before .n .given .0 .1 .0)
@@ -44,14 +36,5 @@ returns-3 c =
     (sym (c .before .has-word .ensures) ∙ not-false _ (c .if1 .left))
 
 pub number-then-spec : {M : Type 1} → statement M
-number-then-spec =
-    tie.close
-    (tie.spec
-    number-at-requires
-    enum-told
-    enum-known-n
-    has-word-requires
-    returns
-    add-t11
-    returns-2
-    returns-3)
+number-then-spec = tie.close (tie.spec (λ c κs. search needs) (λ c. search needs) (λ c. search needs) (λ c κs. search needs)
+    returns add-t11 returns-2 returns-3)

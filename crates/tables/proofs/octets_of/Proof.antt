@@ -19,18 +19,6 @@ abbrev μ-loop : tie.MeasureT-loop
 loop-holds : tie.Need-loop-holds Inv-loop μ-loop
 loop-holds c = (omega arith, within-first _ _ _ (omega arith), counting-first (text-start _ _ _ _))
 
-mul-k : tie.Need-mul-k Inv-loop μ-loop
-mul-k c = search needs
-
-add-k : tie.Need-add-k Inv-loop μ-loop
-add-k c = search needs
-
-row-octets-requires : tie.Need-row-octets-requires Inv-loop μ-loop
-row-octets-requires c κs = search needs
-
-mul-note-octets : tie.Need-mul-note-octets Inv-loop μ-loop
-mul-note-octets c = search needs
-
 sub-note-octets : tie.Need-sub-note-octets Inv-loop μ-loop
 sub-note-octets c = let l = c .before .before in omega (arith, within-here (l .loop .inv .1) (omega arith))
 
@@ -56,37 +44,23 @@ add-sum-2 c =
           .loop .inv .2 .few,
     )
 
-add-wide : tie.Need-add-wide Inv-loop μ-loop
-add-wide c = search needs
-
-mul-wide : tie.Need-mul-wide Inv-loop μ-loop
-mul-wide c = search needs
-
-shared-slice-read-wide : tie.Need-shared-slice-read-wide Inv-loop μ-loop
-shared-slice-read-wide c = search needs
-
-wide-requires : tie.Need-wide-requires Inv-loop μ-loop
-wide-requires c κs = search needs
+module _ (c : tie.After-wide Inv-loop μ-loop) where
+  abbrev loop : tie.At-loop Inv-loop μ-loop
+  loop = c .before .before .before .before .before .before
 
 mul-from : tie.Need-mul-from Inv-loop μ-loop
 mul-from c =
-    omega (arith, c .wide .ensures, within-here (c .before .before .before .before .before .before .loop .inv .1) (omega arith))
+    omega (arith, c .wide .ensures, within-here ((loop c) .loop .inv .1) (omega arith))
 
 add-from : tie.Need-add-from Inv-loop μ-loop
 add-from c =
-    omega (arith, c .wide .ensures, within-here (c .before .before .before .before .before .before .loop .inv .1) (omega arith))
-
-add-i : tie.Need-add-i Inv-loop μ-loop
-add-i c = search needs
-
-loop-less : tie.Need-loop-less Inv-loop μ-loop
-loop-less c = search needs
+    omega (arith, c .wide .ensures, within-here ((loop c) .loop .inv .1) (omega arith))
 
 loop-again : tie.Need-loop-again Inv-loop μ-loop
 loop-again c =
     let o = c .before .before .note-octets .ensures in
     let r = c .before .before .before .before .row-octets .ensures in
-    let l = c .before .before .before .before .before .before in
+    let l = loop c in
     let s = l .loop .inv in
     let a = l .before .before .before .before .args in
     let w = c .wide .ensures in
@@ -102,29 +76,7 @@ returns c =
     (counting-end (s .2) all, omega (arith, s .2 .few))
 
 pub octets-of-spec : {M : Type 1} → statement M
-octets-of-spec =
-    tie.close
-    (tie.spec
-    Inv-loop
-    μ-loop
-    loop-holds
-    mul-k
-    add-k
-    row-octets-requires
-    mul-note-octets
-    sub-note-octets
-    part-note-octets-start
-    part-note-octets-end
-    note-octets-requires
-    add-sum
-    add-sum-2
-    add-wide
-    mul-wide
-    shared-slice-read-wide
-    wide-requires
-    mul-from
-    add-from
-    add-i
-    loop-less
-    loop-again
-    returns)
+octets-of-spec = tie.close (tie.spec Inv-loop μ-loop loop-holds (λ c. search needs) (λ c. search needs) (λ c κs. search needs)
+    (λ c. search needs) sub-note-octets part-note-octets-start part-note-octets-end note-octets-requires add-sum add-sum-2
+    (λ c. search needs) (λ c. search needs) (λ c. search needs) (λ c κs. search needs) mul-from add-from (λ c. search needs)
+    (λ c. search needs) loop-again returns)

@@ -19,12 +19,6 @@ abbrev μ-loop : tie.MeasureT-loop
 loop-holds : tie.Need-loop-holds Inv-loop μ-loop
 loop-holds c = (omega arith, within-first _ _ _ (omega arith), putting-first _ _ (text-start _ _ _ _))
 
-mul-k : tie.Need-mul-k Inv-loop μ-loop
-mul-k c = search needs
-
-add-k : tie.Need-add-k Inv-loop μ-loop
-add-k c = search needs
-
 put-row-requires : tie.Need-put-row-requires Inv-loop μ-loop
 put-row-requires c κs =
     let l = c .before .before in
@@ -33,9 +27,6 @@ put-row-requires c κs =
       row-fits (a .table .now) (a .heads .now) (a .marks .now) (a .n) (l .loop .from) (l .loop .i) (l .loop .inv .2) (omega arith)
           (omega arith),
     )
-
-mul-put-note : tie.Need-mul-put-note Inv-loop μ-loop
-mul-put-note c = search needs
 
 sub-put-note : tie.Need-sub-put-note Inv-loop μ-loop
 sub-put-note c =
@@ -49,26 +40,22 @@ part-put-note-end : tie.Need-part-put-note-end Inv-loop μ-loop
 part-put-note-end c =
     let l = c .before .before .before .before .before in omega (arith, within-here (l .loop .inv .1) (omega arith))
 
+module _ (c : tie.After-wide Inv-loop μ-loop) where
+  abbrev put-row : tie.After-put-row Inv-loop μ-loop
+  put-row = c .before .before .before .before .before .before .before .before .before
+
+module _ (c : tie.After-put-note-arg2 Inv-loop μ-loop) where
+  abbrev loop : tie.At-loop Inv-loop μ-loop
+  loop = c .before .before .before .before .before .before .before
+
 put-note-requires : tie.Need-put-note-requires Inv-loop μ-loop
 put-note-requires c κs =
-    let l = c .before .before .before .before .before .before .before in
+    let l = loop c in
     let a = l .before .before .before .before .before .args in
     let s = l .loop .inv in
     let f = note-fits (a .table .now) (a .heads .now) (a .marks .now) (a .n) (l .loop .from) (l .loop .i) (s .2) (omega arith)
     (c .before .before .before .before .put-row .ensures) (omega arith) in
     ((omega arith, within-part (s .1) (omega arith)), f)
-
-add-wide : tie.Need-add-wide Inv-loop μ-loop
-add-wide c = search needs
-
-mul-wide : tie.Need-mul-wide Inv-loop μ-loop
-mul-wide c = search needs
-
-shared-slice-read-wide : tie.Need-shared-slice-read-wide Inv-loop μ-loop
-shared-slice-read-wide c = search needs
-
-wide-requires : tie.Need-wide-requires Inv-loop μ-loop
-wide-requires c κs = search needs
 
 mul-from : tie.Need-mul-from Inv-loop μ-loop
 mul-from c =
@@ -76,7 +63,7 @@ mul-from c =
       arith,
       c .wide .ensures,
       within-here
-          (c .before .before .before .before .before .before .before .before .before .before .before .before .loop .inv .1) (omega arith),
+          ((put-row c) .before .before .before .loop .inv .1) (omega arith),
     )
 
 add-from : tie.Need-add-from Inv-loop μ-loop
@@ -85,24 +72,17 @@ add-from c =
       arith,
       c .wide .ensures,
       within-here
-          (c .before .before .before .before .before .before .before .before .before .before .before .before .loop .inv .1) (omega arith),
+          ((put-row c) .before .before .before .loop .inv .1) (omega arith),
     )
-
-add-i : tie.Need-add-i Inv-loop μ-loop
-add-i c = search needs
-
-loop-less : tie.Need-loop-less Inv-loop μ-loop
-loop-less c = search needs
 
 loop-again : tie.Need-loop-again Inv-loop μ-loop
 loop-again c =
-    let l = c .before .before .before .before .before .before .before .before .before .before .before .before in
+    let l = (put-row c) .before .before .before in
     let a = l .before .before .before .before .before .args in
     let s = l .loop .inv in
     let w = c .wide .ensures in
     let q = note-put (a .table .now) (a .heads .now) (a .marks .now) (a .n) (l .loop .from) (l .loop .i) (s .2) (omega arith)
-    (c .before .before .before .before .before .before .before .before .before .put-row .ensures)
-    (c .before .before .before .before .put-note .ensures) w in
+    ((put-row c) .put-row .ensures) (c .before .before .before .before .put-note .ensures) w in
     (omega arith, within-turn (s .1) (omega arith) w, q)
 
 same-length : tie.Need-same-length Inv-loop μ-loop
@@ -116,28 +96,7 @@ returns c =
     (text-over (a .table .now) (a .heads .now) (a .marks .now) (a .n) (l .loop .from) (l .loop .i) (omega arith))
 
 pub put-all-spec : {M : Type 1} → statement M
-put-all-spec =
-    tie.close
-    (tie.spec
-    Inv-loop
-    μ-loop
-    loop-holds
-    mul-k
-    add-k
-    put-row-requires
-    mul-put-note
-    sub-put-note
-    part-put-note-start
-    part-put-note-end
-    put-note-requires
-    add-wide
-    mul-wide
-    shared-slice-read-wide
-    wide-requires
-    mul-from
-    add-from
-    add-i
-    loop-less
-    loop-again
-    same-length
-    returns)
+put-all-spec = tie.close (tie.spec Inv-loop μ-loop loop-holds (λ c. search needs) (λ c. search needs) put-row-requires
+    (λ c. search needs) sub-put-note part-put-note-start part-put-note-end put-note-requires (λ c. search needs)
+    (λ c. search needs) (λ c. search needs) (λ c κs. search needs) mul-from add-from (λ c. search needs) (λ c. search needs)
+    loop-again same-length returns)

@@ -13,76 +13,51 @@ use borrow.Author.Needs.{needs}
 use Rattle.tables.proofs.put_mark.Statement.{statement}
 use Rattle.tables.proofs.put_mark.Tie as tie
 
-slice-aggregate-put-word : tie.Need-slice-aggregate-put-word
-slice-aggregate-put-word c = search needs
-
 put-word-requires : tie.Need-put-word-requires
 put-word-requires c κs = let a = c .before .before .before .before .args in omega (arith, mark-length (markAt (a .cells .now) (a .k)))
 
-mul-wide : tie.Need-mul-wide
-mul-wide c = search needs
+module _ (c : tie.After-put-number-arg) where
+  abbrev start : tie.Start
+  start = c .before .before .before .before .before .before .before .before .before .before
 
-shared-slice-read-wide : tie.Need-shared-slice-read-wide
-shared-slice-read-wide c = search needs
+  abbrev put-word : tie.After-put-word
+  put-word = c .before .before .before .before .before
 
-wide-requires : tie.Need-wide-requires
-wide-requires c κs = search needs
+module _ (c : tie.After-put-line) where
+  abbrev put-number : tie.After-put-number
+  put-number = c .before .before .before .before .before .before
 
 put-number-requires : tie.Need-put-number-requires
 put-number-requires c κs =
-    let a = c .before .before .before .before .before .before .before .before .before .before .args in
+    let a = (start c) .args in
     let w = c .before .before .before .before .before .put-word .ensures in
     let e = ap (λ (n : ℕ). length (decimal n)) (c .before .wide .ensures) in
     omega (arith, mark-length (markAt (a .cells .now) (a .k)), w .place, w .size, e)
 
-slice-aggregate-put-line : tie.Need-slice-aggregate-put-line
-slice-aggregate-put-line c = search needs
-
-add-put-line : tie.Need-add-put-line
-add-put-line c = search needs
-
-mul-put-line : tie.Need-mul-put-line
-mul-put-line c = search needs
-
-shared-slice-read-put-line : tie.Need-shared-slice-read-put-line
-shared-slice-read-put-line c = search needs
-
 put-line-requires : tie.Need-put-line-requires
 put-line-requires c κs =
     let d = c .before .before .before .before .before in
-    let w = d .before .before .before .before .before .before in
+    let w = put-word (d .before) in
     let a = w .before .before .before .before .before .args in
     let p = w .put-word .ensures in
     let q = d .put-number .ensures in
     let e = ap (λ (n : ℕ). length (decimal n)) (d .before .before .wide .ensures) in
     omega (arith, mark-length (markAt (a .cells .now) (a .k)), p .place, p .size, q .place, q .size, e)
 
-same-length : tie.Need-same-length
-same-length c = search needs
+module _ (c : tie.After-put-number) where
+  abbrev put-word-of-put-number : tie.After-put-word
+  put-word-of-put-number = c .before .before .before .before .before .before
 
 returns : tie.Need-returns
 unfolding markText lineOf
 returns c =
     let l = c .before .before in
-    let d = l .before .before .before .before .before .before in
-    let w = d .before .before .before .before .before .before in
+    let d = put-number l in
+    let w = put-word-of-put-number d in
     puts-then (puts-then (w .put-word .ensures) (puts-as (ap decimal (d .before .before .wide .ensures)) (d .put-number .ensures)))
     (l .put-line .ensures .0)
 
 pub put-mark-spec : {M : Type 1} → statement M
-put-mark-spec =
-    tie.close
-    (tie.spec
-    slice-aggregate-put-word
-    put-word-requires
-    mul-wide
-    shared-slice-read-wide
-    wide-requires
-    put-number-requires
-    slice-aggregate-put-line
-    add-put-line
-    mul-put-line
-    shared-slice-read-put-line
-    put-line-requires
-    same-length
-    returns)
+put-mark-spec = tie.close (tie.spec (λ c. search needs) put-word-requires (λ c. search needs) (λ c. search needs)
+    (λ c κs. search needs) put-number-requires (λ c. search needs) (λ c. search needs) (λ c. search needs) (λ c. search needs)
+    put-line-requires (λ c. search needs) returns)

@@ -18,9 +18,6 @@ abbrev μ-loop : tie.MeasureT-loop
 loop-holds : tie.Need-loop-holds Inv-loop μ-loop
 loop-holds c = (omega arith, putting-first _ _ (marks-start _ _))
 
-mul-put-mark : tie.Need-mul-put-mark Inv-loop μ-loop
-mul-put-mark c = search needs
-
 put-mark-requires : tie.Need-put-mark-requires Inv-loop μ-loop
 put-mark-requires c κs =
     let l = c .before .before in
@@ -28,12 +25,6 @@ put-mark-requires c κs =
     let j = l .loop .j in
     let m = marks-left (a .cells .now) (a .m) j (omega arith) in
     (omega arith, putting-fits (l .loop .inv .1) (markLaid (a .cells .now) j) _ m (omega arith))
-
-add-j : tie.Need-add-j Inv-loop μ-loop
-add-j c = search needs
-
-loop-less : tie.Need-loop-less Inv-loop μ-loop
-loop-less c = search needs
 
 loop-again : tie.Need-loop-again Inv-loop μ-loop
 loop-again c =
@@ -52,16 +43,5 @@ returns c =
     putting-end (l .loop .inv .1) (marks-over (a .cells .now) (a .m) (l .loop .j) (omega arith))
 
 pub put-marks-spec : {M : Type 1} → statement M
-put-marks-spec =
-    tie.close
-    (tie.spec
-    Inv-loop
-    μ-loop
-    loop-holds
-    mul-put-mark
-    put-mark-requires
-    add-j
-    loop-less
-    loop-again
-    same-length
-    returns)
+put-marks-spec = tie.close (tie.spec Inv-loop μ-loop loop-holds (λ c. search needs) put-mark-requires (λ c. search needs)
+    (λ c. search needs) loop-again same-length returns)

@@ -12,56 +12,43 @@ use borrow.Author.Needs.{needs}
 use Rattle.tables.proofs.put_note.Statement.{statement}
 use Rattle.tables.proofs.put_note.Tie as tie
 
-slice-aggregate-put-line : tie.Need-slice-aggregate-put-line
-slice-aggregate-put-line c = search needs
+module _ (c : tie.After-put-line-arg2) where
+  abbrev start : tie.Start
+  start = c .before .before .before .before .before .before
 
-mul-put-line : tie.Need-mul-put-line
-mul-put-line c = search needs
+module _ (c : tie.After-put-marks) where
+  abbrev put-line2 : tie.After-put-line2
+  put-line2 = c .before .before .before .before .before .before
 
-shared-slice-read-put-line : tie.Need-shared-slice-read-put-line
-shared-slice-read-put-line c = search needs
+module _ (c : tie.After-put-line2) where
+  abbrev put-line : tie.After-put-line
+  put-line = c .before .before .before .before .before .before
 
 put-line-requires : tie.Need-put-line-requires
 put-line-requires c κs =
-    let a = c .before .before .before .before .before .before .args in
+    let a = (start c) .args in
     omega (arith, note-length (noteAt (a .heads .now) (a .k) (a .cells .now)))
-
-slice-aggregate-put-line-2 : tie.Need-slice-aggregate-put-line-2
-slice-aggregate-put-line-2 c = search needs
-
-add-put-line : tie.Need-add-put-line
-add-put-line c = search needs
-
-mul-put-line-2 : tie.Need-mul-put-line-2
-mul-put-line-2 c = search needs
-
-shared-slice-read-put-line-2 : tie.Need-shared-slice-read-put-line-2
-shared-slice-read-put-line-2 c = search needs
 
 put-line-requires-2 : tie.Need-put-line-requires-2
 put-line-requires-2 c κs =
     let l = c .before .before .before .before .before in
-    let a = l .before .before .before .before .before .before .before .args in
+    let a = (start (l .before)) .args in
     let p = l .put-line .ensures .0 in
     omega (arith, note-length (noteAt (a .heads .now) (a .k) (a .cells .now)), p .place, p .size)
 
-add-wide : tie.Need-add-wide
-add-wide c = search needs
+module _ (c : tie.After-put-line) where
+  abbrev start-of-put-line : tie.Start
+  start-of-put-line = c .before .before .before .before .before .before .before
 
-mul-wide : tie.Need-mul-wide
-mul-wide c = search needs
-
-shared-slice-read-wide : tie.Need-shared-slice-read-wide
-shared-slice-read-wide c = search needs
-
-wide-requires : tie.Need-wide-requires
-wide-requires c κs = search needs
+module _ (c : tie.After-put-line2) where
+  abbrev put-line-of-put-line2 : tie.After-put-line
+  put-line-of-put-line2 = c .before .before .before .before .before .before
 
 put-marks-requires : tie.Need-put-marks-requires
 put-marks-requires c κs =
     let s = c .before .before .before .before .before in
-    let l = s .before .before .before .before .before .before in
-    let a = l .before .before .before .before .before .before .before .args in
+    let l = put-line s in
+    let a = (start-of-put-line l) .args in
     let p = l .put-line .ensures .0 in
     let q = s .put-line2 .ensures .0 in
     let r = c .before .before .shared-slice-known5 .given (a .k + 2) in
@@ -70,36 +57,17 @@ put-marks-requires c κs =
     let n = note-length (noteAt (a .heads .now) (a .k) (a .cells .now)) in
     (omega (arith, w), omega (arith, w, r), omega (arith, n, e, p .place, p .size, q .place, q .size))
 
-same-length : tie.Need-same-length
-same-length c = search needs
-
 returns : tie.Need-returns
 unfolding noteText
 returns c =
     let m = c .before .before in
-    let s = m .before .before .before .before .before .before in
-    let l = s .before .before .before .before .before .before in
-    let a = l .before .before .before .before .before .before .before .args in
+    let s = put-line2 m in
+    let l = put-line-of-put-line2 s in
+    let a = (start-of-put-line l) .args in
     let e = ap (λ (n : ℕ). marksText (marksIn n (a .cells .now))) (m .before .before .wide .ensures) in
     puts-then (l .put-line .ensures .0) (puts-then (s .put-line2 .ensures .0) (puts-as e (m .put-marks .ensures)))
 
 pub put-note-spec : {M : Type 1} → statement M
-put-note-spec =
-    tie.close
-    (tie.spec
-    slice-aggregate-put-line
-    mul-put-line
-    shared-slice-read-put-line
-    put-line-requires
-    slice-aggregate-put-line-2
-    add-put-line
-    mul-put-line-2
-    shared-slice-read-put-line-2
-    put-line-requires-2
-    add-wide
-    mul-wide
-    shared-slice-read-wide
-    wide-requires
-    put-marks-requires
-    same-length
-    returns)
+put-note-spec = tie.close (tie.spec (λ c. search needs) (λ c. search needs) (λ c. search needs) put-line-requires
+    (λ c. search needs) (λ c. search needs) (λ c. search needs) (λ c. search needs) put-line-requires-2 (λ c. search needs)
+    (λ c. search needs) (λ c. search needs) (λ c κs. search needs) put-marks-requires (λ c. search needs) returns)

@@ -15,24 +15,6 @@ put-form-requires c κs =
     let s = c .before .before .before in
     omega (arith, length-append (formBy (s .args .size)) (listedText (heldOf (s .args .table .now) (s .args .n))))
 
-sub-put-all : tie.Need-sub-put-all
-sub-put-all c = search needs
-
-part-put-all-start : tie.Need-part-put-all-start
-part-put-all-start c = search needs
-
-part-put-all-end : tie.Need-part-put-all-end
-part-put-all-end c = search needs
-
-sub-put-all-2 : tie.Need-sub-put-all-2
-sub-put-all-2 c = search needs
-
-part-put-all-start-2 : tie.Need-part-put-all-start-2
-part-put-all-start-2 c = search needs
-
-part-put-all-end-2 : tie.Need-part-put-all-end-2
-part-put-all-end-2 c = search needs
-
 put-all-requires : tie.Need-put-all-requires
 put-all-requires c κs =
     let form = c .before .before .before .before .before in
@@ -43,27 +25,17 @@ put-all-requires c κs =
       rw (parts-text (a .table .now) (a .n)) (omega (arith, l, p .place, form .put-form .kept .1 .0)),
     )
 
-same-length : tie.Need-same-length
-same-length c = search needs
+module _ (c : tie.After-put-all) where
+  abbrev put-form : tie.After-put-form
+  put-form = c .before .before .before .before .before .before
 
 returns : tie.Need-returns
 returns c =
     let all = c .before .before in
-    let form = all .before .before .before .before .before .before in
+    let form = put-form all in
     let a = form .before .before .before .before .args in
     puts-then (form .put-form .ensures) (puts-as (parts-text (a .table .now) _) (all .put-all .ensures))
 
 pub put-text-spec : {M : Type 1} → statement M
-put-text-spec =
-    tie.close
-    (tie.spec
-    put-form-requires
-    sub-put-all
-    part-put-all-start
-    part-put-all-end
-    sub-put-all-2
-    part-put-all-start-2
-    part-put-all-end-2
-    put-all-requires
-    same-length
-    returns)
+put-text-spec = tie.close (tie.spec put-form-requires (λ c. search needs) (λ c. search needs) (λ c. search needs)
+    (λ c. search needs) (λ c. search needs) (λ c. search needs) put-all-requires (λ c. search needs) returns)

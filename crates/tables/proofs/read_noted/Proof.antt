@@ -28,12 +28,6 @@ same-length-2 c = c .before .before .loop .inv .1
 returns : tie.Need-returns Inv-loop μ-loop
 returns c = noting-full (c .before .before .loop .inv .2) _ _ (omega arith) (c .if1 .taken)
 
-listed-at-requires : tie.Need-listed-at-requires Inv-loop μ-loop
-listed-at-requires c κs = search needs
-
-enum-told : tie.Need-enum-told Inv-loop μ-loop
-enum-told c = search needs
-
 same-length-3 : tie.Need-same-length-3 Inv-loop μ-loop
 same-length-3 c = c .before .before .before .before .before .loop .inv .0
 
@@ -46,14 +40,15 @@ returns-2 c =
     noting-none (l .before .before .loop .inv .2) (omega arith) (l .if1 .left) _ _
     (sym (ap asHead (c .enum-told .given .1)) ∙ c .before .before .listed-at .ensures)
 
-enum-known-number : tie.Need-enum-known-number Inv-loop μ-loop
-enum-known-number c = search needs
+module _ (c : tie.After-put-cells-arg Inv-loop μ-loop) where
+  abbrev else1 : tie.Else1 Inv-loop μ-loop
+  else1 = c .before .before .before .before .before
 
 mul-put-cells : tie.Need-mul-put-cells Inv-loop μ-loop
-mul-put-cells c = let s = c .before .before .before .before .before .before .before .loop .inv in omega (arith, s .2 .few)
+mul-put-cells c = let s = (else1 c) .before .before .loop .inv in omega (arith, s .2 .few)
 
 add-put-cells : tie.Need-add-put-cells Inv-loop μ-loop
-add-put-cells c = let s = c .before .before .before .before .before .before .before .loop .inv in omega (arith, s .2 .few)
+add-put-cells c = let s = (else1 c) .before .before .loop .inv in omega (arith, s .2 .few)
 
 put-cells-requires : tie.Need-put-cells-requires Inv-loop μ-loop
 put-cells-requires c κs =
@@ -64,22 +59,22 @@ put-cells-requires c κs =
 
 mul-laws : tie.Need-mul-laws Inv-loop μ-loop
 mul-laws c =
-    let s = c .before .before .before .before .before .before .before .before .before .before .loop .inv in omega (arith, s .2 .few)
+    let s = (else1 (c .before .before .before)) .before .before .loop .inv in omega (arith, s .2 .few)
 
 slice-write-laws : tie.Need-slice-write-laws Inv-loop μ-loop
 slice-write-laws c =
-    let i = c .before .before .before .before .before .before .before .before in
+    let i = else1 (c .before .before .before) in
     let n = i .if1 .left in
     let s = i .before .before .loop .inv in
     omega (arith, s .1, s .2 .few)
 
 add-k : tie.Need-add-k Inv-loop μ-loop
 add-k c =
-    let s = c .before .before .before .before .before .before .before .before .before .before .loop .inv in omega (arith, s .2 .few)
+    let s = (else1 (c .before .before .before)) .before .before .loop .inv in omega (arith, s .2 .few)
 
 loop-less : tie.Need-loop-less Inv-loop μ-loop
 loop-less c =
-    let i = c .before .before .before .before .before .before .before .before in
+    let i = else1 (c .before .before .before) in
     let n = i .if1 .left in
     omega (arith, i .before .before .loop .inv .2 .few)
 
@@ -103,9 +98,6 @@ cast-cells c = omega (arith, c .before .loop .inv .2 .few)
 slice-write-cells : tie.Need-slice-write-cells Inv-loop μ-loop
 slice-write-cells c = omega (arith, c .before .loop .inv .0)
 
-same-length-5 : tie.Need-same-length-5 Inv-loop μ-loop
-same-length-5 c = search needs
-
 same-length-6 : tie.Need-same-length-6 Inv-loop μ-loop
 same-length-6 c = c .before .loop .inv .1
 
@@ -113,31 +105,7 @@ returns-3 : tie.Need-returns-3 Inv-loop μ-loop
 returns-3 c = noting-end (c .before .loop .inv .2) (omega arith) (omega arith)
 
 pub read-noted-spec : {M : Type 1} → statement M
-read-noted-spec =
-    tie.close
-    (tie.spec
-    Inv-loop
-    μ-loop
-    loop-holds
-    same-length
-    same-length-2
-    returns
-    listed-at-requires
-    enum-told
-    same-length-3
-    same-length-4
-    returns-2
-    enum-known-number
-    mul-put-cells
-    add-put-cells
-    put-cells-requires
-    mul-laws
-    slice-write-laws
-    add-k
-    loop-less
-    loop-again
-    cast-cells
-    slice-write-cells
-    same-length-5
-    same-length-6
+read-noted-spec = tie.close (tie.spec Inv-loop μ-loop loop-holds same-length same-length-2 returns (λ c κs. search needs)
+    (λ c. search needs) same-length-3 same-length-4 returns-2 (λ c. search needs) mul-put-cells add-put-cells put-cells-requires
+    mul-laws slice-write-laws add-k loop-less loop-again cast-cells slice-write-cells (λ c. search needs) same-length-6
     returns-3)

@@ -24,12 +24,6 @@ same-length c = c .before .before .loop .inv .0
 returns : tie.Need-returns Inv-loop μ-loop
 returns c = stand-full (c .before .before .loop .inv .1) _ (omega arith) (c .if1 .taken)
 
-line-of-requires : tie.Need-line-of-requires Inv-loop μ-loop
-line-of-requires c κs = search needs
-
-enum-told : tie.Need-enum-told Inv-loop μ-loop
-enum-told c = search needs
-
 same-length-2 : tie.Need-same-length-2 Inv-loop μ-loop
 same-length-2 c = c .before .before .before .before .before .loop .inv .0
 
@@ -39,14 +33,15 @@ returns-2 c =
     stand-none (l .before .before .loop .inv .1) (omega arith) (l .if1 .left) _
     (sym (ap asRow (c .enum-told .given .1)) ∙ c .before .before .line-of .ensures)
 
-enum-known-number : tie.Need-enum-known-number Inv-loop μ-loop
-enum-known-number c = search needs
+module _ (c : tie.After-put-cells-arg Inv-loop μ-loop) where
+  abbrev else1 : tie.Else1 Inv-loop μ-loop
+  else1 = c .before .before .before .before .before
 
 mul-put-cells : tie.Need-mul-put-cells Inv-loop μ-loop
-mul-put-cells c = let s = c .before .before .before .before .before .before .before .loop .inv in omega (arith, s .1 .few)
+mul-put-cells c = let s = (else1 c) .before .before .loop .inv in omega (arith, s .1 .few)
 
 add-put-cells : tie.Need-add-put-cells Inv-loop μ-loop
-add-put-cells c = let s = c .before .before .before .before .before .before .before .loop .inv in omega (arith, s .1 .few)
+add-put-cells c = let s = (else1 c) .before .before .loop .inv in omega (arith, s .1 .few)
 
 put-cells-requires : tie.Need-put-cells-requires Inv-loop μ-loop
 put-cells-requires c κs =
@@ -56,11 +51,11 @@ put-cells-requires c κs =
     omega (arith, s .0, s .1 .few)
 
 add-k : tie.Need-add-k Inv-loop μ-loop
-add-k c = let s = c .before .before .before .before .before .before .before .before .before .before .loop .inv in omega (arith, s .1 .few)
+add-k c = let s = (else1 (c .before .before .before)) .before .before .loop .inv in omega (arith, s .1 .few)
 
 loop-less : tie.Need-loop-less Inv-loop μ-loop
 loop-less c =
-    let i = c .before .before .before .before .before .before .before .before in
+    let i = else1 (c .before .before .before) in
     let n = i .if1 .left in
     omega (arith, i .before .before .loop .inv .1 .few)
 
@@ -81,33 +76,10 @@ cast-cells c = omega (arith, c .before .loop .inv .1 .few)
 slice-write-cells : tie.Need-slice-write-cells Inv-loop μ-loop
 slice-write-cells c = omega (arith, c .before .loop .inv .0)
 
-same-length-3 : tie.Need-same-length-3 Inv-loop μ-loop
-same-length-3 c = search needs
-
 returns-3 : tie.Need-returns-3 Inv-loop μ-loop
 returns-3 c = stand-end (c .before .loop .inv .1) (omega arith) (omega arith)
 
 pub read-rows-spec : {M : Type 1} → statement M
-read-rows-spec =
-    tie.close
-    (tie.spec
-    Inv-loop
-    μ-loop
-    loop-holds
-    same-length
-    returns
-    line-of-requires
-    enum-told
-    same-length-2
-    returns-2
-    enum-known-number
-    mul-put-cells
-    add-put-cells
-    put-cells-requires
-    add-k
-    loop-less
-    loop-again
-    cast-cells
-    slice-write-cells
-    same-length-3
-    returns-3)
+read-rows-spec = tie.close (tie.spec Inv-loop μ-loop loop-holds same-length returns (λ c κs. search needs) (λ c. search needs)
+    same-length-2 returns-2 (λ c. search needs) mul-put-cells add-put-cells put-cells-requires add-k loop-less loop-again
+    cast-cells slice-write-cells (λ c. search needs) returns-3)

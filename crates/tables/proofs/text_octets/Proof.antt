@@ -11,27 +11,6 @@ use borrow.Author.Needs.{needs}
 use Rattle.tables.proofs.text_octets.Statement.{statement}
 use Rattle.tables.proofs.text_octets.Tie as tie
 
-form-octets-requires : tie.Need-form-octets-requires
-form-octets-requires c κs = search needs
-
-sub-octets-of : tie.Need-sub-octets-of
-sub-octets-of c = search needs
-
-part-octets-of-start : tie.Need-part-octets-of-start
-part-octets-of-start c = search needs
-
-part-octets-of-end : tie.Need-part-octets-of-end
-part-octets-of-end c = search needs
-
-sub-octets-of-2 : tie.Need-sub-octets-of-2
-sub-octets-of-2 c = search needs
-
-part-octets-of-start-2 : tie.Need-part-octets-of-start-2
-part-octets-of-start-2 c = search needs
-
-part-octets-of-end-2 : tie.Need-part-octets-of-end-2
-part-octets-of-end-2 c = search needs
-
 octets-of-requires : tie.Need-octets-of-requires
 octets-of-requires c κs = parts-fit (c .before .before .before .before .args .table .now) _ (omega arith) (omega arith)
 
@@ -49,16 +28,5 @@ returns c =
     omega (arith, l, m, c .octets-of .ensures .0, form .form-octets .ensures)
 
 pub text-octets-spec : {M : Type 1} → statement M
-text-octets-spec =
-    tie.close
-    (tie.spec
-    form-octets-requires
-    sub-octets-of
-    part-octets-of-start
-    part-octets-of-end
-    sub-octets-of-2
-    part-octets-of-start-2
-    part-octets-of-end-2
-    octets-of-requires
-    add-result
-    returns)
+text-octets-spec = tie.close (tie.spec (λ c κs. search needs) (λ c. search needs) (λ c. search needs) (λ c. search needs)
+    (λ c. search needs) (λ c. search needs) (λ c. search needs) octets-of-requires add-result returns)

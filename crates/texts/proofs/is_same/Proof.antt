@@ -20,31 +20,21 @@ returns c = sym (same-lengths _ _ (c .if1 .taken))
 loop-holds : tie.Need-loop-holds Inv-loop μ-loop
 loop-holds c = (omega arith, omega arith, refl)
 
-shared-slice-read-if2 : tie.Need-shared-slice-read-if2 Inv-loop μ-loop
-shared-slice-read-if2 c = search needs
-
-shared-slice-read-if2-2 : tie.Need-shared-slice-read-if2-2 Inv-loop μ-loop
-shared-slice-read-if2-2 c = search needs
+module _ (c : tie.After-shared-slice-known2 Inv-loop μ-loop) where
+  abbrev start : tie.Start Inv-loop μ-loop
+  start = c .before .before .before .before .before
 
 returns-2 : tie.Need-returns-2 Inv-loop μ-loop
-returns-2 c = sym (c .before .before .before .before .loop .inv .2
-    ∙ same-differ (c .before .before .before .before .before .before .args .a .now)
-    (c .before .before .before .before .before .before .args .b .now) (c .before .before .before .before .loop .i)
+returns-2 c = sym (c .before .before .before .before .loop .inv .2 ∙ same-differ ((start (c .before)) .args .a .now)
+    ((start (c .before)) .args .b .now) (c .before .before .before .before .loop .i)
     (omega arith) (omega arith) (c .if2 .taken))
-
-add-i : tie.Need-add-i Inv-loop μ-loop
-add-i c = search needs
-
-loop-less : tie.Need-loop-less Inv-loop μ-loop
-loop-less c = search needs
 
 loop-again : tie.Need-loop-again Inv-loop μ-loop
 loop-again c = (
   omega arith,
   omega arith,
-  c .before .before .before .before .loop .inv .2
-      ∙ same-step (c .before .before .before .before .before .before .args .a .now)
-      (c .before .before .before .before .before .before .args .b .now) (c .before .before .before .before .loop .i)
+  c .before .before .before .before .loop .inv .2 ∙ same-step ((start (c .before)) .args .a .now)
+      ((start (c .before)) .args .b .now) (c .before .before .before .before .loop .i)
       (omega arith) (omega arith) (c .if2 .left),
 )
 
@@ -53,17 +43,5 @@ returns-3 c = sym (c .before .loop .inv .2 ∙ same-end (c .before .before .befo
     (c .before .loop .i) (omega arith) (omega arith))
 
 pub is-same-spec : {M : Type 1} → statement M
-is-same-spec =
-    tie.close
-    (tie.spec
-    Inv-loop
-    μ-loop
-    returns
-    loop-holds
-    shared-slice-read-if2
-    shared-slice-read-if2-2
-    returns-2
-    add-i
-    loop-less
-    loop-again
-    returns-3)
+is-same-spec = tie.close (tie.spec Inv-loop μ-loop returns loop-holds (λ c. search needs) (λ c. search needs) returns-2
+    (λ c. search needs) (λ c. search needs) loop-again returns-3)

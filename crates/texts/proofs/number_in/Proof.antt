@@ -24,41 +24,32 @@ returns-2 c = sym (none-of-many _ (c .if2 .taken))
 loop-holds : tie.Need-loop-holds Inv-loop μ-loop
 loop-holds c = (omega arith, omega arith, omega arith, number-start _ (c .before .if1 .left) (c .if2 .left))
 
-shared-slice-read-x : tie.Need-shared-slice-read-x Inv-loop μ-loop
-shared-slice-read-x c = search needs
+module _ (c : tie.After-shared-slice-known Inv-loop μ-loop) where
+  abbrev start : tie.Start Inv-loop μ-loop
+  start = c .before .before .before .before .before
 
 returns-3 : tie.Need-returns-3 Inv-loop μ-loop
 returns-3 c = sym (c .before .before .before .loop .inv .3
-    ∙ number-low (c .before .before .before .before .before .before .args .text .now) (c .before .before .before .loop .v)
+    ∙ number-low ((start (c .before)) .args .text .now) (c .before .before .before .loop .v)
     (c .before .before .before .loop .i) (omega arith) (omega arith))
 
 returns-4 : tie.Need-returns-4 Inv-loop μ-loop
 returns-4 c = sym (c .before .before .before .before .loop .inv .3
-    ∙ number-high (c .before .before .before .before .before .before .before .args .text .now) (c .before .before .before .before .loop .v)
+    ∙ number-high ((start (c .before .before)) .args .text .now) (c .before .before .before .before .loop .v)
     (c .before .before .before .before .loop .i) (omega arith) (omega arith))
 
 mul-v : tie.Need-mul-v Inv-loop μ-loop
 mul-v c = omega (arith, digits-few _ _ (c .before .before .before .before .loop .inv .2) (omega arith))
 
-cast-v : tie.Need-cast-v Inv-loop μ-loop
-cast-v c = search needs
-
 add-v : tie.Need-add-v Inv-loop μ-loop
 add-v c = omega (arith, digits-few _ _ (c .before .before .before .before .loop .inv .2) (omega arith))
-
-add-i : tie.Need-add-i Inv-loop μ-loop
-add-i c = search needs
-
-loop-less : tie.Need-loop-less Inv-loop μ-loop
-loop-less c = search needs
 
 loop-again : tie.Need-loop-again Inv-loop μ-loop
 loop-again c = (
   omega arith,
   omega arith,
   digits-more _ _ _ (c .before .before .before .before .loop .inv .2) (omega arith),
-  c .before .before .before .before .loop .inv .3
-      ∙ number-step (c .before .before .before .before .before .before .before .args .text .now)
+  c .before .before .before .before .loop .inv .3 ∙ number-step ((start (c .before .before)) .args .text .now)
       (c .before .before .before .before .loop .v) (c .before .before .before .before .loop .i) (omega arith)
       (omega arith) (omega arith),
 )
@@ -68,21 +59,5 @@ returns-5 c = sym (c .before .loop .inv .3 ∙ number-end (c .before .before .be
     (c .before .loop .i) (omega arith))
 
 pub number-in-spec : {M : Type 1} → statement M
-number-in-spec =
-    tie.close
-    (tie.spec
-    Inv-loop
-    μ-loop
-    returns
-    returns-2
-    loop-holds
-    shared-slice-read-x
-    returns-3
-    returns-4
-    mul-v
-    cast-v
-    add-v
-    add-i
-    loop-less
-    loop-again
-    returns-5)
+number-in-spec = tie.close (tie.spec Inv-loop μ-loop returns returns-2 loop-holds (λ c. search needs) returns-3 returns-4 mul-v
+    (λ c. search needs) add-v (λ c. search needs) (λ c. search needs) loop-again returns-5)

@@ -44,35 +44,47 @@ module _ (d : tie.After-use-part Inv-loop μ-loop) where
 loop-holds : tie.Need-loop-holds Inv-loop μ-loop
 loop-holds c = (going-first _ _ _ _, refl)
 
-next-part-requires : tie.Need-next-part-requires Inv-loop μ-loop
-next-part-requires c κs = search needs
+module _ (c : tie.After-struct-known3 Inv-loop μ-loop) where
+  abbrev use-part : tie.After-use-part Inv-loop μ-loop
+  use-part = c .before .before .before .before .before
+
+module _ (c : tie.After-use-part-arg2 Inv-loop μ-loop) where
+  abbrev loop : tie.At-loop Inv-loop μ-loop
+  loop = c .before .before .before .before .before .before
+
+module _ (c : tie.After-struct-known Inv-loop μ-loop) where
+  abbrev next-part : tie.After-next-part Inv-loop μ-loop
+  next-part = c .before .before .before .before .before .before .before .before
+
+  abbrev start-of-struct-known : tie.Start Inv-loop μ-loop
+  start-of-struct-known = c .before .before .before .before .before .before .before .before .before .before .before .before .before .before
 
 use-part-requires : tie.Need-use-part-requires Inv-loop μ-loop
 use-part-requires c κs =
-    let w = c .before .before .before .before .before .before .loop .inv in
+    let w = (loop c) .loop .inv in
     let p = c .before .before .before .before .next-part in
     let l = p .kept .1 .1 .1 .1 .0 in (
       next-sound _ _ _ (w .0) (p .ensures .0),
       omega (arith, p .ensures .1 .fits, l),
       omega
-          (arith, l, w .0 .page-size, w .1, c .before .before .before .before .before .before .before .before .before .before .pre .2),
+          (arith, l, w .0 .page-size, w .1, (loop c) .before .before .before .before .pre .2),
     )
 
 add-frames : tie.Need-add-frames Inv-loop μ-loop
 add-frames c =
-    let w = c .before .before .before .before .before .before .before .before .before .before .loop .inv .0 in
+    let w = (loop (c .before .before .before .before)) .loop .inv .0 in
     omega (
       arith,
-      c .before .before .before .before .before .before .before .before .next-part .ensures .1 .few,
+      (next-part c) .next-part .ensures .1 .few,
       w .inside,
       w .few,
-      c .before .before .before .before .before .before .before .before .before .before .before .before .before .before .pre .0,
+      (start-of-struct-known c) .pre .0,
     )
 
 add-samples : tie.Need-add-samples Inv-loop μ-loop
 add-samples c =
-    let w = c .before .before .before .before .before .before .before .before .before .before .before .loop .inv .0 in
-    let g = c .before .before .before .before .before .before .before .before .before .next-part .ensures .1 in
+    let w = (next-part (c .before)) .before .before .loop .inv .0 in
+    let g = (next-part (c .before)) .next-part .ensures .1 in
     omega (
       arith,
       c .before .before .before .before .use-part .ensures .most,
@@ -81,36 +93,36 @@ add-samples c =
       w .inside,
       w .few,
       w .held,
-      c .before .before .before .before .before .before .before .before .before .before .before .before .before .before .before .pre .0,
+      (start-of-struct-known (c .before)) .pre .0,
     )
 
 same-length : tie.Need-same-length Inv-loop μ-loop
-same-length c = same-page (c .before .before .before .before .before .before)
+same-length c = same-page ((use-part (c .before)))
 
 same-length-2 : tie.Need-same-length-2 Inv-loop μ-loop
-same-length-2 c = same-master (c .before .before .before .before .before .before)
+same-length-2 c = same-master ((use-part (c .before)))
 
 returns : tie.Need-returns Inv-loop μ-loop
-returns c = (λ e. absurd (c .if1 .taken e), within (c .before .before .before .before .before .before))
+returns c = (λ e. absurd (c .if1 .taken e), within ((use-part (c .before))))
 
 same-length-3 : tie.Need-same-length-3 Inv-loop μ-loop
-same-length-3 c = same-page (c .before .before .before .before .before .before .before .before)
+same-length-3 c = same-page ((use-part (c .before .before .before)))
 
 same-length-4 : tie.Need-same-length-4 Inv-loop μ-loop
-same-length-4 c = same-master (c .before .before .before .before .before .before .before .before)
+same-length-4 c = same-master ((use-part (c .before .before .before)))
 
 returns-2 : tie.Need-returns-2 Inv-loop μ-loop
 returns-2 c =
-    let d = c .before .before .before .before .before .before .before .before in
+    let d = use-part (c .before .before .before) in
     let p = d .before .before .before .before .before .next-part in (
-      λ e. goes-whole _ _ _ (d .before .before .before .before .before .before .before .loop .inv .0) (p .ensures .0)
+      λ e. goes-whole _ _ _ ((loop (d .before)) .loop .inv .0) (p .ensures .0)
           (p .ensures .1) (p .kept .1 .1 .1 .1 .0) (d .use-part .ensures .all e) (not-true _ (c .if2 .taken)),
       within d,
     )
 
 loop-less : tie.Need-loop-less Inv-loop μ-loop
 loop-less c =
-    let d = c .before .before .before .before .before .before .before .before in
+    let d = use-part (c .before .before .before) in
     let p = d .before .before .before .before .before .next-part in
     let g = p .ensures .1 in
     let more : p .result .more ≡ true = not-false _ (c .if2 .left) in
@@ -119,38 +131,21 @@ loop-less c =
       g .nearer
           (omega (
             arith,
-            d .before .before .before .before .before .before .before .loop .inv .0 .page-size,
-            d .before
-                .before .before .before .before .before .before .before .before .before .before .pre .1,
+            (loop (d .before)) .loop .inv .0 .page-size,
+            (loop (d .before)) .before .before .before .before .pre .1,
           )) more,
       g .inside more,
     )
 
 loop-again : tie.Need-loop-again Inv-loop μ-loop
 loop-again c =
-    let d = c .before .before .before .before .before .before .before .before in
+    let d = use-part (c .before .before .before) in
     let p = d .before .before .before .before .before .next-part in (
-      going-on _ _ _ (d .before .before .before .before .before .before .before .loop .inv .0) (p .ensures .0) (p .ensures .1)
+      going-on _ _ _ ((loop (d .before)) .loop .inv .0) (p .ensures .0) (p .ensures .1)
           (p .kept .1 .1 .1 .1 .0) (d .use-part .ensures .all (c .before .before .if1 .left)) (not-false _ (c .if2 .left)),
       same-master d,
     )
 
 pub parts-spec : {M : Type 1} → statement M
-parts-spec =
-    tie.close
-    (tie.spec
-    Inv-loop
-    μ-loop
-    loop-holds
-    next-part-requires
-    use-part-requires
-    add-frames
-    add-samples
-    same-length
-    same-length-2
-    returns
-    same-length-3
-    same-length-4
-    returns-2
-    loop-less
-    loop-again)
+parts-spec = tie.close (tie.spec Inv-loop μ-loop loop-holds (λ c κs. search needs) use-part-requires add-frames add-samples
+    same-length same-length-2 returns same-length-3 same-length-4 returns-2 loop-less loop-again)

@@ -13,14 +13,16 @@ use-sound-requires c κs =
     let a = c .before .before .before .before .before in
     omega (arith, length-take-le (a .args .p .samples) (a .args .page .now) (a .pre .1), a .pre .1, a .pre .2)
 
-same-length : tie.Need-same-length
-same-length c = search needs
+module _ (c : tie.After-slice-known2) where
+  abbrev start : tie.Start
+  start = c .before .before .before .before .before .before .before .before
 
 returns : tie.Need-returns
 returns c =
-    let a = c .before .before .before .before .before .before .before .before in
+    let slice-known = c .before .before .before .before .before in
+    let start = slice-known .before .before .before in
+    let a = start in
     rw (length-take-le (a .args .p .samples) (a .args .page .now) (a .pre .1)) at (c .before .before .use-sound .ensures)
 
 pub use-part-spec : {M : Type 1} → statement M
-use-part-spec =
-    tie.close (tie.spec slice-aggregate-use-sound use-sound-requires same-length returns)
+use-part-spec = tie.close (tie.spec slice-aggregate-use-sound use-sound-requires (λ c. search needs) returns)

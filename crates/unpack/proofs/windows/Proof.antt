@@ -9,13 +9,6 @@ use Rattle.unpack.proofs.Onward.{Along, along-first, along-most, along-
 use borrow.Author.Needs.{needs}
 use Rattle.unpack.proofs.windows.Statement.{statement}
 use Rattle.unpack.proofs.windows.Tie as tie
-use Rattle.unpack.proofs.windows.Reads as reads
-use Rattle.unpack.proofs.windows.Lts as lts
-use Rattle.replaying.proofs.goes_further.Reads as goes-further-reads
-use Rattle.replaying.proofs.window_at.Reads as window-at-reads
-use Rattle.rules.proofs.number_of.Reads as number-of-reads
-use Rattle.unpack.proofs.parts.Reads as parts-reads
-use Rattle.unpack.proofs.unread.Reads as unread-reads
 
 abbrev Inv-loop : tie.InvT-loop
 Inv-loop b law set way window₀ page₀ master₀ at₀ frames₀ samples₀ window page master at frames samples =
@@ -59,32 +52,53 @@ loop-holds c = let a = c .before .before .before .pre in (along-first _ _ (a .0 
 window-at-requires : tie.Need-window-at-requires Inv-loop μ-loop
 window-at-requires c κs = (c .before .loop .inv .1, c .before .before .before .before .before .pre .1)
 
-unread-requires : tie.Need-unread-requires Inv-loop μ-loop
-unread-requires c κs = search needs
-
 same-length : tie.Need-same-length Inv-loop μ-loop
 same-length c = same-window (c .before .before .before .before)
 
+module _ (c : tie.After-goes-further Inv-loop μ-loop) where
+  abbrev parts-of-goes-further : tie.After-parts Inv-loop μ-loop
+  parts-of-goes-further = c .before .before .before .before .before .before .before .before .before .before .before .before
+
+  abbrev window-at-of-goes-further : tie.After-window-at Inv-loop μ-loop
+  window-at-of-goes-further = c .before .before .before .before .before .before .before .before .before .before .before .before
+      .before .before .before .before .before .before .before
+
+  abbrev else2 : tie.Else2 Inv-loop μ-loop
+  else2 = c .before .before .before
+
+module _ (c : tie.After-struct-known2 Inv-loop μ-loop) where
+  abbrev parts-of-struct-known2 : tie.After-parts Inv-loop μ-loop
+  parts-of-struct-known2 = c .before .before .before .before .before .before
+
+module _ (c : tie.After-slice-known4 Inv-loop μ-loop) where
+  abbrev loop : tie.At-loop Inv-loop μ-loop
+  loop = c .before .before .before .before
+
+  abbrev window-at-of-slice-known4 : tie.After-window-at Inv-loop μ-loop
+  window-at-of-slice-known4 = c .before .before
+
+module _ (c : tie.After-struct-known4 Inv-loop μ-loop) where
+  abbrev window-at-of-struct-known4 : tie.After-window-at Inv-loop μ-loop
+  window-at-of-struct-known4 = c .before .before .before .before .before .before .before .before .before .before .before
+      .before .before .before .before
+
 same-length-2 : tie.Need-same-length-2 Inv-loop μ-loop
-same-length-2 c = c .before .before .before .before .before .before .loop .inv .3
+same-length-2 c = (loop (c .before .before)) .loop .inv .3
 
 same-length-3 : tie.Need-same-length-3 Inv-loop μ-loop
-same-length-3 c = c .before .before .before .before .before .before .loop .inv .4
+same-length-3 c = (loop (c .before .before)) .loop .inv .4
 
 returns : tie.Need-returns Inv-loop μ-loop
 returns c = λ z. let y = c .unread .ensures in absurd (omega arith)
-
-slice-reshare-prefix-parts : tie.Need-slice-reshare-prefix-parts Inv-loop μ-loop
-slice-reshare-prefix-parts c = search needs
 
 slice-aggregate-parts : tie.Need-slice-aggregate-parts Inv-loop μ-loop
 slice-aggregate-parts c = sym (long (c .before .before .before .before))
 
 parts-requires : tie.Need-parts-requires Inv-loop μ-loop
 parts-requires c κs =
-    let i = c .before .before .before .before .before .before .before .before .loop .inv in
-    let p = c .before .before .before .before .before .before .before .before .before .before .before .before .pre in (
-      omega (arith, inside (c .before .before .before .before .before .before), p .0 .2),
+    let i = (loop (c .before .before .before .before)) .loop .inv in
+    let p = (loop (c .before .before .before .before)) .before .before .before .before .pre in (
+      omega (arith, inside ((window-at-of-slice-known4 (c .before .before .before .before))), p .0 .2),
       omega (arith, i .3, p .2),
       omega
           (arith, i .3, i .4, p .3),
@@ -101,7 +115,7 @@ add-t25 c =
 
 add-goes-further : tie.Need-add-goes-further Inv-loop μ-loop
 add-goes-further c =
-    let d = c .before .before .before .before .before .before in
+    let d = parts-of-struct-known2 c in
     let l = read d .before .before .loop in
     let p = opened (read d) .pre .0 in
     let m = along-most _ _ (p .0) (p .1) (l .inv .0) (omega (arith, l .inv .1, p .2)) in
@@ -110,7 +124,7 @@ add-goes-further c =
 
 add-goes-further-2 : tie.Need-add-goes-further-2 Inv-loop μ-loop
 add-goes-further-2 c =
-    let d = c .before .before .before .before .before .before .before in
+    let d = parts-of-struct-known2 (c .before) in
     let l = read d .before .before .loop in
     let p = opened (read d) .pre .0 in
     let m = along-most _ _ (p .0) (p .1) (l .inv .0) (omega (arith, l .inv .1, p .2)) in
@@ -119,111 +133,68 @@ add-goes-further-2 c =
 
 same-length-4 : tie.Need-same-length-4 Inv-loop μ-loop
 same-length-4 c = same-window
-    (c .before .before .before .before .before .before .before .before .before .before .before .before .before .before .before .before)
+    ((window-at-of-struct-known4 (c .before)))
 
 same-length-5 : tie.Need-same-length-5 Inv-loop μ-loop
-same-length-5 c = same-page (c .before .before .before .before .before .before .before .before .before)
+same-length-5 c = same-page ((parts-of-struct-known2 (c .before .before .before)))
 
 same-length-6 : tie.Need-same-length-6 Inv-loop μ-loop
-same-length-6 c = same-master (c .before .before .before .before .before .before .before .before .before)
+same-length-6 c = same-master ((parts-of-struct-known2 (c .before .before .before)))
 
 returns-2 : tie.Need-returns-2 Inv-loop μ-loop
 returns-2 c = λ z. absurd (c .if2 .taken z)
 
-number-of-requires : tie.Need-number-of-requires Inv-loop μ-loop
-number-of-requires c κs = search needs
-
 sub-goes-further : tie.Need-sub-goes-further Inv-loop μ-loop
-sub-goes-further c = c .before .before .before .before .before .before .before .before .before .before .before .before
-    .before .before .before .before .before .before .before .before .loop .inv .1
-
-goes-further-requires : tie.Need-goes-further-requires Inv-loop μ-loop
-goes-further-requires c κs = search needs
+sub-goes-further c = (window-at-of-struct-known4 (c .before .before .before)) .before .before .loop .inv .1
 
 same-length-7 : tie.Need-same-length-7 Inv-loop μ-loop
 same-length-7 c = same-window
-    (c .before .before .before .before .before .before .before .before .before .before .before .before .before .before
-    .before .before .before .before .before .before)
+    ((window-at-of-goes-further (c .before)))
 
 same-length-8 : tie.Need-same-length-8 Inv-loop μ-loop
-same-length-8 c = same-page (c .before .before .before .before .before .before .before .before .before .before .before .before .before)
+same-length-8 c = same-page ((parts-of-goes-further (c .before)))
 
 same-length-9 : tie.Need-same-length-9 Inv-loop μ-loop
-same-length-9 c = same-master (c .before .before .before .before .before .before .before .before .before .before .before .before .before)
+same-length-9 c = same-master ((parts-of-goes-further (c .before)))
 
 returns-3 : tie.Need-returns-3 Inv-loop μ-loop
 returns-3 c =
-    let d = c .before .before .before .before .before .before .before .before .before .before .before .before .before in
+    let d = parts-of-goes-further (c .before) in
     let p = opened (read d) .pre .0 in
     λ z. along-whole _ _ (p .0) (p .1) (read d .before .before .loop .inv .0) (seen (read d)) (omega (arith, inside (read d), p .2))
     (d .parts .ensures .0 z) _
 
-unread-requires-2 : tie.Need-unread-requires-2 Inv-loop μ-loop
-unread-requires-2 c κs = search needs
-
 same-length-10 : tie.Need-same-length-10 Inv-loop μ-loop
 same-length-10 c = same-window
-    (c .before .before .before .before .before .before .before .before .before .before .before .before .before .before
-    .before .before .before .before .before .before .before .before .before)
+    ((window-at-of-goes-further (c .before .before .before .before)))
 
 same-length-11 : tie.Need-same-length-11 Inv-loop μ-loop
 same-length-11 c = same-page
-    (c .before .before .before .before .before .before .before .before .before .before .before .before .before .before .before .before)
+    ((parts-of-goes-further (c .before .before .before .before)))
 
 same-length-12 : tie.Need-same-length-12 Inv-loop μ-loop
 same-length-12 c = same-master
-    (c .before .before .before .before .before .before .before .before .before .before .before .before .before .before .before .before)
+    ((parts-of-goes-further (c .before .before .before .before)))
 
 returns-4 : tie.Need-returns-4 Inv-loop μ-loop
 returns-4 c = λ z. let y = c .unread2 .ensures in absurd (omega arith)
 
 loop-less : tie.Need-loop-less Inv-loop μ-loop
 loop-less c =
-    let d = c .before .before .before .before .before .before .before .before .before .before .before .before .before .before .before in
+    let d = parts-of-goes-further (c .before .before .before) in
     omega (arith, inside (read d), d .parts .ensures .1 .0, c .if4 .left)
 
 loop-again : tie.Need-loop-again Inv-loop μ-loop
 loop-again c =
-    let d = c .before .before .before .before .before .before .before .before .before .before .before .before .before .before .before in
+    let d = parts-of-goes-further (c .before .before .before) in
     let p = opened (read d) .pre .0 in
     let t = along-turn _ _ (p .0) (p .1) (read d .before .before .loop .inv .0) (seen (read d)) (omega (arith, inside (read d), p .2))
-    (d .parts .ensures .0 (c .before .before .before .before .before .before .if2 .left)) in
+    (d .parts .ensures .0 ((else2 (c .before .before .before)) .if2 .left)) in
     (t, omega (arith, inside (read d), d .parts .ensures .1 .0), same-window (read d), same-page d, same-master d)
 
 pub windows-spec : {M : Type 1} → statement M
-windows-spec =
-    tie.close
-    (tie.spec
-    Inv-loop
-    μ-loop
-    loop-holds
-    window-at-requires
-    unread-requires
-    same-length
-    same-length-2
-    same-length-3
-    returns
-    slice-reshare-prefix-parts
-    slice-aggregate-parts
-    parts-requires
-    add-t25
-    add-goes-further
-    add-goes-further-2
-    same-length-4
-    same-length-5
-    same-length-6
-    returns-2
-    number-of-requires
-    sub-goes-further
-    goes-further-requires
-    same-length-7
-    same-length-8
-    same-length-9
-    returns-3
-    unread-requires-2
-    same-length-10
-    same-length-11
-    same-length-12
-    returns-4
-    loop-less
-    loop-again)
+windows-spec = tie.close (tie.spec Inv-loop μ-loop loop-holds window-at-requires (λ c κs. search needs) same-length
+    same-length-2 same-length-3 returns (λ c. search needs) slice-aggregate-parts parts-requires add-t25 add-goes-further
+    add-goes-further-2 same-length-4 same-length-5 same-length-6 returns-2 (λ c κs. search needs) sub-goes-further
+    (λ c κs. search needs) same-length-7 same-length-8 same-length-9 returns-3 (λ c κs. search needs) same-length-10
+    same-length-11 same-length-12 returns-4 loop-less loop-again)

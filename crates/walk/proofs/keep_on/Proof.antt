@@ -50,49 +50,47 @@ step-requires c κs =
     let w = c .before .before .before .frames .inv .0 in
     (le-of-lt (c .before .if2 .left), omega (arith, w .kept .room, lent-length (w .kept)))
 
-enum-known-e : tie.Need-enum-known-e Inv-frames μ-frames
-enum-known-e c = search needs
+module _ (c : tie.After-step Inv-frames μ-frames) where
+  abbrev start : tie.Start Inv-frames μ-frames
+  start = c .before .before .before .before .before .before .before
 
-enum-told : tie.Need-enum-told Inv-frames μ-frames
-enum-told c = search needs
+module _ (c : tie.After-struct-known2 Inv-frames μ-frames) where
+  abbrev step : tie.After-step Inv-frames μ-frames
+  step = c .before .before .before .before .before .before
 
 add-place : tie.Need-add-place Inv-frames μ-frames
 add-place c =
     let s = c .before .before .before .before .before in
-    omega (arith, inside s (c .before .enum-told .given .1), s .before .before .before .before .before .before .before .good)
+    omega (arith, inside s (c .before .enum-told .given .1), (start s) .good)
 
 add-used : tie.Need-add-used Inv-frames μ-frames
 add-used c =
-    let s = c .before .before .before .before .before .before in
+    let s = step c in
     omega (
       arith,
       inside s (c .before .before .enum-told .given .1),
       s .before .before .before .before .frames .inv .1,
-      s .before .before .before .before .before .before .before .good,
+      (start s) .good,
     )
 
 add-to : tie.Need-add-to Inv-frames μ-frames
 add-to c =
-    let s = c .before .before .before .before .before .before .before in
+    let s = step (c .before) in
     omega (
       arith,
       bounds s (c .before .before .before .enum-told .given .1) .fits,
       s .before .before .before .before .frames .inv .0 .kept .room,
-      s .before .before .before .before .before .before .before .good,
+      (start s) .good,
     )
 
-add-count : tie.Need-add-count Inv-frames μ-frames
-add-count c = search needs
-
 frames-less : tie.Need-frames-less Inv-frames μ-frames
-frames-less c = omega (arith, c .before .before .before .before .before .before .before .before .before .before .if1 .left)
+frames-less c = omega (arith, (step (c .before)) .before .before .before .if1 .left)
 
 frames-again : tie.Need-frames-again Inv-frames μ-frames
 frames-again c =
-    let s = c .before .before .before .before .before .before .before in (
+    let s = step (c .before) in (
       keep-turn _ _ _ _ _ _ (s .before .before .before .before .frames .inv .0) (s .before .before .before .if1 .left)
-          (s .before .before .if2 .left)
-          (s .step .ensures) (c .before .before .before .enum-told .given .1),
+          (s .before .before .if2 .left) (s .step .ensures) (c .before .before .before .enum-told .given .1),
       omega (arith, s .before .before .before .before .frames .inv .1),
     )
 
@@ -125,32 +123,12 @@ returns-3 : tie.Need-returns-3 Inv-frames μ-frames
 returns-3 c =
     let s = c .before .before .before .before .before in
     let e = c .before .e in
-    let u : s .before .before .before .before .frames .used ≡ s .before .before .before .before .frames .place - s .before
-    .before .before .before .before .before .before .args .at
+    let u : s .before .before .before .before .frames .used ≡ s .before .before .before .before .frames .place - (start s) .args .at
     = omega (arith, s .before .before .before .before .frames .inv .1) in
     rw u (keep-refused _ _ _ _ _ _ (s .before .before .before .before .frames .inv .0) (s .before .before .before .if1 .left)
-    (s .before .before .if2 .left)
-    (s .step .ensures) (e .given .0 .0) (e .given .1))
+    (s .before .before .if2 .left) (s .step .ensures) (e .given .0 .0) (e .given .1))
 
 pub keep-on-spec : {M : Type 1} → statement M
-keep-on-spec =
-    tie.close
-    (tie.spec
-    Inv-frames
-    μ-frames
-    frames-holds
-    step-requires
-    enum-known-e
-    enum-told
-    add-place
-    add-used
-    add-to
-    add-count
-    frames-less
-    frames-again
-    same-length
-    returns
-    same-length-2
-    returns-2
-    same-length-3
-    returns-3)
+keep-on-spec = tie.close (tie.spec Inv-frames μ-frames frames-holds step-requires (λ c. search needs) (λ c. search needs)
+    add-place add-used add-to (λ c. search needs) frames-less frames-again same-length returns same-length-2 returns-2
+    same-length-3 returns-3)

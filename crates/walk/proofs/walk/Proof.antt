@@ -10,55 +10,34 @@ use Rattle.walk.proofs.Keeping.{walks-none}
 use Rattle.walk.proofs.walk.Statement.{statement}
 use Rattle.walk.proofs.walk.Tie as tie
 
-guard-stream-requires : tie.Need-guard-stream-requires
-guard-stream-requires c κs = search needs
+module _ (c : tie.After-slice-known2) where
+  abbrev guard-stream : tie.After-guard-stream
+  guard-stream = c .before .before .before .before .before .before
 
-enum-known-why : tie.Need-enum-known-why
-enum-known-why c = search needs
-
-answer-requires : tie.Need-answer-requires
-answer-requires c κs = search needs
-
-enum-told : tie.Need-enum-told
-enum-told c = search needs
-
-keep-on-requires : tie.Need-keep-on-requires
-keep-on-requires c κs = search needs
+module _ (c : tie.After-answer) where
+  abbrev start : tie.Start
+  start = c .before .before .before .before .before .before .before
 
 returns : tie.Need-returns
 returns c =
-    let a = c .before .before .before .before .before .before .before .args in
+    let a = (start c) .args in
     rw (
       c .answer .ensures,
       walk-refused (a .octets .now) (a .law) (a .set) (length (a .out .now))
           (sym (c .before .before .before .before .guard-stream .ensures) ∙ c .before .before .why .given .1),
     ) (walks-none _ _)
 
-same-length : tie.Need-same-length
-same-length c = search needs
-
 returns-2 : tie.Need-returns-2
 returns-2 c =
-    let a = c .before .before .before .before .before .before .before .before .before .args in
+    let a = (guard-stream c) .before .before .before .args in
     let n = length (a .octets .now) in
-    let g = sym (c .before .before .before .before .before .before .guard-stream .ensures)
-    ∙ c .before .before .before .before .enum-told .given .1 in
+    let g = sym ((guard-stream c) .guard-stream .ensures) ∙ c .before .before .before .before .enum-told .given .1 in
     rw (
       walk-allowed (a .octets .now) (a .law) (a .set) (length (a .out .now)) g,
       walk-fuel (a .octets .now) (a .law)
           (a .set) (suc n) n 0 (length (a .out .now)) (omega arith) (omega arith),
-    )
-    (c .before .before .keep-on .ensures)
+    ) (c .before .before .keep-on .ensures)
 
 pub walk-spec : {M : Type 1} → statement M
-walk-spec =
-    tie.close
-    (tie.spec
-    guard-stream-requires
-    enum-known-why
-    answer-requires
-    enum-told
-    keep-on-requires
-    returns
-    same-length
-    returns-2)
+walk-spec = tie.close (tie.spec (λ c κs. search needs) (λ c. search needs) (λ c κs. search needs) (λ c. search needs)
+    (λ c κs. search needs) returns (λ c. search needs) returns-2)

@@ -48,17 +48,15 @@ loop-holds c = record { done = _; along = along-start _ _ _ _ _ _; size = refl }
 pass-requires : tie.Need-pass-requires Inv-loop μ-loop
 pass-requires c κs = (le-of-lt (here (c .before)), c .before .before .before .loop .inv .size)
 
-enum-known-e : tie.Need-enum-known-e Inv-loop μ-loop
-enum-known-e c = search needs
+module _ (c : tie.After-pass Inv-loop μ-loop) where
+  abbrev loop : tie.At-loop Inv-loop μ-loop
+  loop = c .before .before .before .before
 
 sub-answer : tie.Need-sub-answer Inv-loop μ-loop
-sub-answer c = omega (arith, c .before .before .before .before .before .before .before .loop .inv .along .each)
+sub-answer c = omega (arith, (loop (c .before .before .before)) .loop .inv .along .each)
 
 sub-answer-2 : tie.Need-sub-answer-2 Inv-loop μ-loop
-sub-answer-2 c = omega (arith, c .before .before .before .before .before .before .before .loop .inv .along .samples-kept)
-
-answer-requires : tie.Need-answer-requires Inv-loop μ-loop
-answer-requires c κs = search needs
+sub-answer-2 c = omega (arith, (loop (c .before .before .before)) .loop .inv .along .samples-kept)
 
 returns : tie.Need-returns Inv-loop μ-loop
 returns c =
@@ -67,22 +65,15 @@ returns c =
     (along-refused _ _ _ _ _ _ (s .before .before .before .before .loop .inv .along) refl (omega arith) (here (s .before .before))
     (s .pass .ensures .tells) (c .before .before .e .given .0 .0) (c .before .before .e .given .1) .1)
 
-enum-told : tie.Need-enum-told Inv-loop μ-loop
-enum-told c = search needs
-
 add-place : tie.Need-add-place Inv-loop μ-loop
 add-place c = omega (
   arith,
   inside (c .before .before .before) (c .before .enum-told .given .1),
-  c .before .before .before
-      .before .before .before .before .before .before .good,
+  (loop (c .before .before .before)) .before .before .good,
 )
 
 sub-left : tie.Need-sub-left Inv-loop μ-loop
 sub-left c = bounds (c .before .before .before .before) (c .before .before .enum-told .given .1) .fits
-
-add-passed : tie.Need-add-passed Inv-loop μ-loop
-add-passed c = search needs
 
 loop-less : tie.Need-loop-less Inv-loop μ-loop
 loop-less c = omega arith
@@ -104,9 +95,6 @@ sub-answer-3 c = omega (arith, c .before .loop .inv .along .each)
 sub-answer-4 : tie.Need-sub-answer-4 Inv-loop μ-loop
 sub-answer-4 c = omega (arith, c .before .loop .inv .along .samples-kept)
 
-answer-requires-2 : tie.Need-answer-requires-2 Inv-loop μ-loop
-answer-requires-2 c κs = search needs
-
 returns-2 : tie.Need-returns-2 Inv-loop μ-loop
 returns-2 c =
     let w = c .before .before .loop .inv .along in
@@ -115,25 +103,6 @@ returns-2 c =
     (c .before .loop-test .came) .1)
 
 pub walk-on-spec : {M : Type 1} → statement M
-walk-on-spec =
-    tie.close
-    (tie.spec
-    Inv-loop
-    μ-loop
-    loop-holds
-    pass-requires
-    enum-known-e
-    sub-answer
-    sub-answer-2
-    answer-requires
-    returns
-    enum-told
-    add-place
-    sub-left
-    add-passed
-    loop-less
-    loop-again
-    sub-answer-3
-    sub-answer-4
-    answer-requires-2
-    returns-2)
+walk-on-spec = tie.close (tie.spec Inv-loop μ-loop loop-holds pass-requires (λ c. search needs) sub-answer sub-answer-2
+    (λ c κs. search needs) returns (λ c. search needs) add-place sub-left (λ c. search needs) loop-less loop-again sub-answer-3
+    sub-answer-4 (λ c κs. search needs) returns-2)

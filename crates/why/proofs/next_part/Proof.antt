@@ -16,18 +16,6 @@ module _ (c : tie.After-read-part) where
   read-length : length (take (c .read-part .result .count) (c .read-part .last .1 .0)) ≡ c .read-part .result .count
   read-length = length-take-le _ _ (c .read-part .ensures)
 
-read-part-requires : tie.Need-read-part-requires
-read-part-requires c κs = search needs
-
-same-length : tie.Need-same-length
-same-length c = search needs
-
-returns : tie.Need-returns
-returns c = search needs
-
-slice-reshare-prefix-part-frames : tie.Need-slice-reshare-prefix-part-frames
-slice-reshare-prefix-part-frames c = search needs
-
 slice-aggregate-part-frames : tie.Need-slice-aggregate-part-frames
 slice-aggregate-part-frames c = sym (read-length (c .before .before .before .before))
 
@@ -36,9 +24,6 @@ part-frames-requires c κs =
     let d = c .before .before .before .before in
     let a = d .before .before .before .pre in
     (omega (arith, read-length d, part-length d, d .read-part .ensures), a .1, a .2)
-
-same-length-2 : tie.Need-same-length-2
-same-length-2 c = search needs
 
 returns-2 : tie.Need-returns-2
 returns-2 c =
@@ -49,14 +34,5 @@ returns-2 c =
     )
 
 pub next-part-spec : {M : Type 1} → statement M
-next-part-spec =
-    tie.close
-    (tie.spec
-    read-part-requires
-    same-length
-    returns
-    slice-reshare-prefix-part-frames
-    slice-aggregate-part-frames
-    part-frames-requires
-    same-length-2
-    returns-2)
+next-part-spec = tie.close (tie.spec (λ c κs. search needs) (λ c. search needs) (λ c. search needs) (λ c. search needs)
+    slice-aggregate-part-frames part-frames-requires (λ c. search needs) returns-2)

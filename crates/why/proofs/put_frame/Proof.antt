@@ -4,20 +4,15 @@ use borrow.Author.Needs.{needs}
 use Rattle.why.proofs.put_frame.Statement.{statement}
 use Rattle.why.proofs.put_frame.Tie as tie
 
-put-head-requires : tie.Need-put-head-requires
-put-head-requires c κs = search needs
-
-put-reasons-requires : tie.Need-put-reasons-requires
-put-reasons-requires c κs = search needs
-
-same-length : tie.Need-same-length
-same-length c = search needs
+module _ (c : tie.After-slice-known3) where
+  abbrev put-head : tie.After-put-head
+  put-head = c .before .before .before .before .before .before
 
 returns : tie.Need-returns
 returns c = (
-  puts-then (c .before .before .before .before .before .before .put-head .ensures .0) (c .before .before .put-reasons .ensures .0),
+  puts-then ((put-head c) .put-head .ensures .0) (c .before .before .put-reasons .ensures .0),
   omega arith,
 )
 
 pub put-frame-spec : {M : Type 1} → statement M
-put-frame-spec = tie.close (tie.spec put-head-requires put-reasons-requires same-length returns)
+put-frame-spec = tie.close (tie.spec (λ c κs. search needs) (λ c κs. search needs) (λ c. search needs) returns)

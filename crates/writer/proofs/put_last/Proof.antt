@@ -13,7 +13,6 @@ use Rattle.forms.specs.Forms.{wholeOctets}
 use Rattle.forms.proofs.Form.{cells-length}
 use Rattle.forms.proofs.Whole.{whole-form, whole-length}
 use Rattle.writer.proofs.Planned.{row-form, row-few, row-digits}
-use Rattle.writer.proofs.Writing.{packed-as}
 use Rattle.writer.proofs.put_last.Statement.{statement}
 use Rattle.writer.proofs.put_last.Tie as tie
 
@@ -39,29 +38,39 @@ module _ (s : tie.Start) where
       row-form (s .args .mask) (s .args .set) (s .args .n) (frame s) (s .args .last) (cells-length (s .pre .0 .0)) (s .pre .1 .0) e
       ∙ ap (λ (k : ℕ). formOf (s .args .mask) k (frame s)) (sym e)
 
+module _ (c : tie.After-put-whole-arg) where
+  abbrev start-of-put-whole-arg : tie.Start
+  start-of-put-whole-arg = c .before .before .before .before .before .before
+
 put-whole-requires : tie.Need-put-whole-requires
 put-whole-requires c κs =
-    let s = c .before .before .before .before .before .before in
+    let s = start-of-put-whole-arg c in
     let e = ap length (plain-is s (c .before .if1 .taken)) in
     let size = whole-length 1 (frame s) (cells-length (s .pre .0 .0)) in
     ((omega arith, omega arith), (s .pre .0 .0, omega (arith, e, size, length-bitsOf (wholeOctets 1 (frame s)), s .pre .1 .1)))
 
-same-length : tie.Need-same-length
-same-length c = search needs
-
 returns : tie.Need-returns
 returns c =
-    let s = c .before .before .before .before .before .before .before .before .before in
-    packed-as (c .before .before .put-whole .ensures) (plain-is s (c .before .before .before .before .if1 .taken))
+    let struct-known = c .before .before .before .before .before in
+    let start = struct-known .before .before .before .before in
+    let s = start in
+    rw (plain-is s (c .before .before .before .before .if1 .taken)) at (c .before .before .put-whole .ensures)
 
 put-fractional-requires : tie.Need-put-fractional-requires
 put-fractional-requires c κs =
-    let s = c .before .before .before .before .before .before in
+    let best = c .before .before .before in
+    let start = best .before .before .before in
+    let s = start in
     let eleven = is-eleven s (c .before .if1 .left) in
     let octets = c .before .before .before .before .shared-slice-known .given in
     let b : Below 256 (frame s) = below-take (s .args .n) (below-all (s .args .samples .now) (λ i. octets i .fits)) in
     let size = cells-length (s .pre .0 .0) in (
-      (s .pre .0 .0, s .pre .0 .1, row-few (s .args .mask) (s .args .set) (s .args .n) (frame s) (s .args .last) size (s .pre .1 .0) eleven),
+      (
+        s .pre .0 .0,
+        s .pre .0 .1,
+        row-few (s .args .mask) (s .args .set) (s .args .n) (frame s) (s .args .last) size
+            (s .pre .1 .0) eleven,
+      ),
       (
         row-digits (s .args .mask) (s .args .set) (s .args .n) (frame s) (s .args .last) size (s .pre .1 .0) eleven
             (law-for (s .args .mask) (s .pre .0 .1)) b,
@@ -69,21 +78,13 @@ put-fractional-requires c κs =
       ),
     )
 
-same-length-2 : tie.Need-same-length-2
-same-length-2 c = search needs
-
 returns-2 : tie.Need-returns-2
 returns-2 c =
-    let s = c .before .before .before .before .before .before .before .before .before in
-    packed-as (c .before .before .put-fractional .ensures) (few-is s (is-eleven s (c .before .before .before .before .if1 .left)))
+    let struct-known = c .before .before .before .before .before in
+    let start = struct-known .before .before .before .before in
+    let s = start in
+    rw (few-is s (is-eleven s (c .before .before .before .before .if1 .left))) at (c .before .before .put-fractional .ensures)
 
 pub put-last-spec : {M : Type 1} → statement M
-put-last-spec =
-    tie.close
-    (tie.spec
-    put-whole-requires
-    same-length
-    returns
-    put-fractional-requires
-    same-length-2
+put-last-spec = tie.close (tie.spec put-whole-requires (λ c. search needs) returns put-fractional-requires (λ c. search needs)
     returns-2)

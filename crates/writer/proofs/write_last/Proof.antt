@@ -23,36 +23,34 @@ form-is s = ap (λ (k : ℕ). formOf (s .args .mask) k (frame s)) (sym (s .pre .
 octets-for-requires : tie.Need-octets-for-requires
 octets-for-requires c κs = c .before .before .before .pre .1 .0 .chosen .small
 
-refused-requires : tie.Need-refused-requires
-refused-requires c κs = search needs
+module _ (c : tie.After-put-last-arg) where
+  abbrev octets-for : tie.After-octets-for
+  octets-for = c .before .before
+
+module _ (c : tie.After-refused) where
+  abbrev start : tie.Start
+  start = c .before .before .before .before .before .before
 
 returns : tie.Need-returns
 returns c =
-    let s = c .before .before .before .before .before .before in
+    let s = start c in
     form-refused (chosen s) (last-chosen (s .pre .1 .0) (s .pre .1 .1) .bits) (c .before .before .octets-for .ensures)
     (c .before .if1 .taken) (c .refused .ensures)
 
 put-last-requires : tie.Need-put-last-requires
 put-last-requires c κs =
-    let s = c .before .before .before .before .before .before in
+    let s = (octets-for c) .before .before .before .before in
     let l = last-chosen (s .pre .1 .0) (s .pre .1 .1) in
     (s .pre .0, (s .pre .1 .0, form-fits (chosen s) (l .bits) (c .before .before .octets-for .ensures) (form-is s) (c .before .if1 .left)))
 
-wrote-requires : tie.Need-wrote-requires
-wrote-requires c κs = search needs
-
-same-length : tie.Need-same-length
-same-length c = search needs
-
 returns-2 : tie.Need-returns-2
 returns-2 c =
-    let s = c .before .before .before .before .before .before .before .before .before .before in
+    let s = (octets-for (c .before .before .before .before)) .before .before .before .before in
     let l = last-chosen (s .pre .1 .0) (s .pre .1 .1) in
-    form-written (chosen s) (l .bits) (c .before .before .before .before .before .before .octets-for .ensures) (form-is s)
+    form-written (chosen s) (l .bits) ((octets-for (c .before .before .before .before)) .octets-for .ensures) (form-is s)
     (c .before .before .before .before .before .if1 .left)
     (c .before .before .before .put-last .ensures) (sym (s .pre .1 .1)) (c .wrote .ensures)
 
 pub write-last-spec : {M : Type 1} → statement M
-write-last-spec =
-    tie.close
-    (tie.spec octets-for-requires refused-requires returns put-last-requires wrote-requires same-length returns-2)
+write-last-spec = tie.close (tie.spec octets-for-requires (λ c κs. search needs) returns put-last-requires
+    (λ c κs. search needs) (λ c. search needs) returns-2)

@@ -1,3 +1,4 @@
+-- What is last in the tie order, or value-location: the plan, its form and its answer (Planned, Writing).
 use borrow.Author.Needs.{needs}
 use Prim.Native.Nat.{ℕ}
 use mathlib.Core.Path.{_≡_, refl, sym, ap, _∙_}
@@ -6,6 +7,7 @@ use native.Mathlib.Omega.{arith}
 use lib.ListN.{take}
 use Rattle.rules.specs.Chooses.{Written, chosenTool, formOf}
 use Rattle.writer.specs.Answers.{full}
+use Rattle.forms.specs.Forms.{planForm}
 use Rattle.forms.proofs.Turns.{located-ready}
 use Rattle.choice.proofs.Planning.{short-last}
 use Rattle.forms.proofs.Form.{cells-length}
@@ -33,107 +35,83 @@ write-last-requires c κs =
     let short = short-last (s .args .set) (s .pre .1 .0 .1) (s .pre .1 .1 .1 .chosen) (omega (arith, size, c .before .if1 .taken)) in
     (s .pre .0, (s .pre .1 .1 .1, s .pre .1 .0 .0 .later ∙ sym short))
 
-same-length : tie.Need-same-length
-same-length c = search needs
-
 returns : tie.Need-returns
 returns c = c .before .before .write-last .ensures
 
+-- the plan: the form that is written is the chosen one
+module _ (c : tie.After-located-plan) where
+  abbrev s : tie.Start
+  s = c .before .before .before .before .before .before .before .before
+
+  elsewhere : (c .located-plan .result .tool ≡ 7 → ⊥)
+      → formOf (s .args .mask) (s .args .last .choice .tool) (frame s) ≡ chosen s .bits
+  elsewhere h = let p = c .located-plan .ensures in last-form s (rw (p .chosen .tool) at (p .kind h))
+
+  values : c .located-plan .result .tool ≡ 7 → let l = c .located-plan .last .1 .1 .1 .1 .1 in
+      planForm (s .args .n) (c .located-plan .result) (l .0) (l .1 .0) (l .1 .1 .0) ≡ chosen s .bits
+  values seven = plan-form (s .args .n) (frame s) (c .located-plan .result) _ _ _
+      {t = chosenTool (s .args .mask) (s .args .set) (frame s)} (cells-length (s .pre .0 .0)) (c .located-plan .ensures) seven
+
+module _ (c : tie.After-c) where
+  abbrev begin : tie.Start
+  begin = c .before .before .before .before .before .before .before
+
 located-plan-requires : tie.Need-located-plan-requires
 located-plan-requires c κs =
-    let s = c .before .before .before .before .before .before .before in
-    (s .pre .0, (s .pre .1 .0, ((s .pre .1 .1 .0, s .pre .1 .1 .1 .chosen), (refl, (refl, refl)))))
+    let p = begin c .pre in
+    (p .0, (p .1 .0, ((p .1 .1 .0, p .1 .1 .1 .chosen), (refl, (refl, refl)))))
 
 octets-for-requires : tie.Need-octets-for-requires
 octets-for-requires c κs = c .located-plan .ensures .chosen .small
 
-refused-requires : tie.Need-refused-requires
-refused-requires c κs = search needs
-
 returns-2 : tie.Need-returns-2
 returns-2 c =
-    form-refused (chosen (c .before .before .before .before .before .before .before .before .before .before .before))
-    (c .before .before .before .located-plan .ensures .chosen .bits) (c .before .before .octets-for .ensures)
+    let plan = c .before .before .before in
+    form-refused (chosen (s plan)) (plan .located-plan .ensures .chosen .bits) (c .before .before .octets-for .ensures)
     (c .before .if2 .taken) (c .refused .ensures)
 
 put-last-requires : tie.Need-put-last-requires
 put-last-requires c κs =
-    let s = c .before .before .before .before .before .before .before .before .before .before .before .before .before in
-    let p = c .before .before .before .before .before .located-plan .ensures in
-    let e = last-form s (sym (p .chosen .tool) ∙ p .kind (c .before .if3 .taken)) in (
-      s .pre .0,
+    let e = c .before .before .before in
+    let plan = e .before .before in (
+      s plan .pre .0,
       (
-        s .pre .1 .1 .1,
-        form-fits (chosen s) (p .chosen .bits) (c .before .before .before .before .octets-for .ensures)
-            e (c .before .before .before .if2 .left),
+        s plan .pre .1 .1 .1,
+        form-fits (chosen (s plan)) (plan .located-plan .ensures .chosen .bits) (e .before .octets-for .ensures)
+            (elsewhere plan (c .before .if3 .taken)) (e .if2 .left),
       ),
     )
 
-wrote-requires : tie.Need-wrote-requires
-wrote-requires c κs = search needs
-
-same-length-2 : tie.Need-same-length-2
-same-length-2 c = search needs
-
 returns-3 : tie.Need-returns-3
 returns-3 c =
-    let s = c .before .before .before .before .before .before .before .before .before .before .before .before .before
-    .before .before .before .before in
-    let p = c .before .before .before .before .before .before .before .before .before .located-plan .ensures in
-    let e = last-form s (sym (p .chosen .tool) ∙ p .kind (c .before .before .before .before .before .if3 .taken)) in
-    form-written (chosen s) (p .chosen .bits) (c .before .before .before .before .before .before .before .before .octets-for .ensures)
-    e (c .before .before .before .before .before .before .before .if2 .left)
-    (c .before .before .before .put-last .ensures) (p .chosen .tool) (c .wrote .ensures)
+    let put = c .before .before .before in
+    let e = put .before .before .before .before in
+    let plan = e .before .before in
+    let p = plan .located-plan .ensures .chosen in
+    form-written (chosen (s plan)) (p .bits) (e .before .octets-for .ensures) (elsewhere plan (put .before .before .if3 .taken))
+    (e .if2 .left) (put .put-last .ensures) (p .tool) (c .wrote .ensures)
 
 put-located-requires : tie.Need-put-located-requires
 put-located-requires c κs =
-    let plan = c .before .before .before .before .before .before .before .before in
-    let s = c .before .before .before .before .before .before .before .before .before .before .before .before .before
-    .before .before .before in
-    let p = plan .located-plan .ensures in
-    let seven = c .before .before .before .before .if3 .left in
-    let e = plan-form (s .args .n) (frame s) (plan .located-plan .result) _ _ _ (cells-length (s .pre .0 .0)) p seven in (
-      located-ready (p .located (sym (p .chosen .tool) ∙ seven)),
-      form-fits (chosen s) (p .chosen .bits)
-          (c .before .before .before .before .before .before .before .octets-for .ensures) e
-          (c .before .before .before .before .before .before .if2 .left),
+    let seven = c .before .before .before .before in
+    let e = seven .before .before in
+    let plan = e .before .before in
+    let p = plan .located-plan .ensures in (
+      located-ready (p .located (rw (p .chosen .tool) at (seven .if3 .left))),
+      form-fits (chosen (s plan)) (p .chosen .bits) (e .before .octets-for .ensures) (values plan (seven .if3 .left)) (e .if2 .left),
     )
-
-wrote-requires-2 : tie.Need-wrote-requires-2
-wrote-requires-2 c κs = search needs
-
-same-length-3 : tie.Need-same-length-3
-same-length-3 c = search needs
 
 returns-4 : tie.Need-returns-4
 returns-4 c =
-    let plan = c .before .before .before .before .before .before .before .before .before .before .before .before in
-    let s = c .before .before .before .before .before .before .before .before .before .before .before .before .before
-    .before .before .before .before .before .before .before in
-    let p = plan .located-plan .ensures in
-    let seven = c .before .before .before .before .before .before .before .before .if3 .left in
-    let e = plan-form (s .args .n) (frame s) (plan .located-plan .result) _ _ _ (cells-length (s .pre .0 .0)) p seven in
-    form-written (chosen s) (p .chosen .bits)
-    (c .before .before .before .before .before .before .before .before .before .before .before .octets-for .ensures)
-    e (c .before .before .before .before .before .before .before .before .before .before .if2 .left)
-    (c .before .before .before .put-located .ensures) (p .chosen .tool) (c .wrote2 .ensures)
+    let put = c .before .before .before in
+    let seven = put .before .before .before .before .before in
+    let e = seven .before .before in
+    let plan = e .before .before in
+    let p = plan .located-plan .ensures .chosen in
+    form-written (chosen (s plan)) (p .bits) (e .before .octets-for .ensures) (values plan (seven .if3 .left)) (e .if2 .left)
+    (put .put-located .ensures) (p .tool) (c .wrote2 .ensures)
 
 pub write-located-spec : {M : Type 1} → statement M
-write-located-spec =
-    tie.close
-    (tie.spec
-    write-last-requires
-    same-length
-    returns
-    located-plan-requires
-    octets-for-requires
-    refused-requires
-    returns-2
-    put-last-requires
-    wrote-requires
-    same-length-2
-    returns-3
-    put-located-requires
-    wrote-requires-2
-    same-length-3
-    returns-4)
+write-located-spec = tie.close (tie.spec write-last-requires (λ c. search needs) returns located-plan-requires
+    octets-for-requires (λ c κs. search needs) returns-2 put-last-requires (λ c κs. search needs) (λ c. search needs) returns-3
+    put-located-requires (λ c κs. search needs) (λ c. search needs) returns-4)

@@ -14,12 +14,6 @@ use Rattle.writer.specs.Answers.{plain}
 use Rattle.writer.proofs.Writing.{form-refused, form-written}
 use Rattle.writer.proofs.write_plain.Statement.{statement}
 use Rattle.writer.proofs.write_plain.Tie as tie
-use Rattle.writer.proofs.write_plain.Reads as reads
-use Rattle.writer.proofs.write_plain.Lts as lts
-use Rattle.forms.proofs.put_whole.Reads as put-whole-reads
-use Rattle.measure.proofs.octets_for.Reads as octets-for-reads
-use Rattle.writer.proofs.refused.Reads as refused-reads
-use Rattle.writer.proofs.wrote.Reads as wrote-reads
 
 -- the octets, and eight bits to each
 abbrev whole : tie.Start → List ℕ
@@ -28,12 +22,6 @@ whole s = wholeOctets (s .args .tool) (take (s .args .n) (s .args .samples .now)
 size : (s : tie.Start) → length (whole s) ≡ cond (eqb (s .args .tool) 1) (1 + s .args .n) (cond (eqb (s .args .tool) 4) 2 1)
 size s = whole-length (s .args .tool) (take (s .args .n) (s .args .samples .now))
     (length-take-le (s .args .n) (s .args .samples .now) (s .pre .0 .0 .long))
-
-octets-for-requires : tie.Need-octets-for-requires
-octets-for-requires c κs = search needs
-
-refused-requires : tie.Need-refused-requires
-refused-requires c κs = search needs
 
 returns : tie.Need-returns
 returns c =
@@ -52,27 +40,17 @@ put-whole-requires c κs =
       ),
     )
 
-wrote-requires : tie.Need-wrote-requires
-wrote-requires c κs = search needs
-
-same-length : tie.Need-same-length
-same-length c = search needs
+module _ (c : tie.After-wrote) where
+  abbrev octets-for : tie.After-octets-for
+  octets-for = c .before .before .before .before .before .before
 
 returns-2 : tie.Need-returns-2
 returns-2 c =
-    let s = c .before .before .before .before .before .before .before .before .before in
+    let s = (octets-for c) .before .before .before in
     form-written (plain (s .args .tool) (take (s .args .n) (s .args .samples .now))) (s .pre .1 .0)
-    (c .before .before .before .before .before .before .octets-for .ensures) refl (c .before .before .before .before .before .if1 .left)
+    ((octets-for c) .octets-for .ensures) refl (c .before .before .before .before .before .if1 .left)
     (c .before .before .before .put-whole .ensures) refl (c .wrote .ensures)
 
 pub write-plain-spec : {M : Type 1} → statement M
-write-plain-spec =
-    tie.close
-    (tie.spec
-    octets-for-requires
-    refused-requires
-    returns
-    put-whole-requires
-    wrote-requires
-    same-length
-    returns-2)
+write-plain-spec = tie.close (tie.spec (λ c κs. search needs) (λ c κs. search needs) returns put-whole-requires
+    (λ c κs. search needs) (λ c. search needs) returns-2)

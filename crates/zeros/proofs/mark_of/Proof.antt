@@ -4,8 +4,6 @@ use borrow.Author.Tests.{lt-ltb, le-ltb}
 use native.Mathlib.Omega.{arith}
 use Rattle.zeros.proofs.mark_of.Statement.{statement}
 use Rattle.zeros.proofs.mark_of.Tie as tie
-use Rattle.zeros.proofs.mark_of.Reads as reads
-use Rattle.zeros.proofs.mark_of.Lts as lts
 
 returns : tie.Need-returns
 returns c = let s = c .before .args in

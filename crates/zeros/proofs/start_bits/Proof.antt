@@ -4,8 +4,6 @@ use lib.ListN.{length-append}
 use Rattle.rules.proofs.Octets.{length-lowBits}
 use Rattle.zeros.proofs.start_bits.Statement.{statement}
 use Rattle.zeros.proofs.start_bits.Tie as tie
-use Rattle.zeros.proofs.start_bits.Reads as reads
-use Rattle.zeros.proofs.start_bits.Lts as lts
 
 returns : tie.Need-returns
 returns c = record { says = λ mark. rw (le-leb 240 _ (c .if1 .taken), length-append, length-lowBits); small = omega arith }

@@ -2,11 +2,6 @@ use borrow.Author.Needs.{needs}
 use Rattle.zeros.proofs.Turning.{word-turned, word-kept}
 use Rattle.zeros.proofs.turned.Statement.{statement}
 use Rattle.zeros.proofs.turned.Tie as tie
-use Rattle.zeros.proofs.turned.Reads as reads
-use Rattle.zeros.proofs.turned.Lts as lts
-
-sub-result : tie.Need-sub-result
-sub-result c = search needs
 
 returns : tie.Need-returns
 returns c = rw (c .if1 .taken) (word-turned (c .before .args .w) (c .before .pre))
@@ -15,4 +10,4 @@ returns-2 : tie.Need-returns-2
 returns-2 c = rw (c .if1 .left) (word-kept (c .before .args .w) (c .before .pre))
 
 pub turned-spec : {M : Type 1} → statement M
-turned-spec = tie.close (tie.spec sub-result returns returns-2)
+turned-spec = tie.close (tie.spec (λ c. search needs) returns returns-2)

@@ -8,9 +8,6 @@ use Rattle.zeros.specs.Rice.{turnsOf}
 use Rattle.zeros.proofs.Turning.{row-turn, row-start}
 use Rattle.zeros.proofs.turned_row.Statement.{statement}
 use Rattle.zeros.proofs.turned_row.Tie as tie
-use Rattle.zeros.proofs.turned_row.Reads as reads
-use Rattle.zeros.proofs.turned_row.Lts as lts
-use Rattle.zeros.proofs.turned.Reads as turned-reads
 
 abbrev Inv-loop : tie.InvT-loop
 Inv-loop row k turn flags₀ i₀ flags i = (i ≤ k) × RowIs (turnsOf turn (rowBits (take i row))) i flags
@@ -21,26 +18,8 @@ abbrev μ-loop : tie.MeasureT-loop
 loop-holds : tie.Need-loop-holds Inv-loop μ-loop
 loop-holds c = (omega arith, row-start (c .args .turn) (c .args .row .now))
 
-mul-turned : tie.Need-mul-turned Inv-loop μ-loop
-mul-turned c = search needs
-
-element-copy-out-turned : tie.Need-element-copy-out-turned Inv-loop μ-loop
-element-copy-out-turned c = search needs
-
 turned-requires : tie.Need-turned-requires Inv-loop μ-loop
 turned-requires c κs = c .before .before .before .pre .1 (c .before .before .loop .i)
-
-mul-flags : tie.Need-mul-flags Inv-loop μ-loop
-mul-flags c = search needs
-
-array-write-flags : tie.Need-array-write-flags Inv-loop μ-loop
-array-write-flags c = search needs
-
-add-i : tie.Need-add-i Inv-loop μ-loop
-add-i c = search needs
-
-loop-less : tie.Need-loop-less Inv-loop μ-loop
-loop-less c = search needs
 
 loop-again : tie.Need-loop-again Inv-loop μ-loop
 loop-again c =
@@ -55,18 +34,5 @@ returns : tie.Need-returns Inv-loop μ-loop
 returns c = let e : c .before .loop .i ≡ c .before .before .args .k = omega arith in rw e at (c .before .loop .inv .1)
 
 pub turned-row-spec : {M : Type 1} → statement M
-turned-row-spec =
-    tie.close
-    (tie.spec
-    Inv-loop
-    μ-loop
-    loop-holds
-    mul-turned
-    element-copy-out-turned
-    turned-requires
-    mul-flags
-    array-write-flags
-    add-i
-    loop-less
-    loop-again
-    returns)
+turned-row-spec = tie.close (tie.spec Inv-loop μ-loop loop-holds (λ c. search needs) (λ c. search needs) turned-requires
+    (λ c. search needs) (λ c. search needs) (λ c. search needs) (λ c. search needs) loop-again returns)

@@ -1,3 +1,4 @@
+-- Uncompressed, or the row of tool 11 where that is better (Planning).
 use borrow.Author.Needs.{needs}
 use mathlib.Core.Path.{_≡_, sym, ap, _∙_}
 use mathlib.Core.List.{List}
@@ -22,12 +23,6 @@ frame s = take (s .args .n) (s .args .samples .now)
 size : (s : tie.Start) → length (frame s) ≡ s .args .n
 size s = length-take-le (s .args .n) (s .args .samples .now) (s .pre .0 .long)
 
-uncompressed-of-requires : tie.Need-uncompressed-of-requires
-uncompressed-of-requires c κs = search needs
-
-holds-requires : tie.Need-holds-requires
-holds-requires c κs = search needs
-
 returns : tie.Need-returns
 returns c =
     let s = c .before .before .before .before in
@@ -37,51 +32,39 @@ returns c =
 row-of-requires : tie.Need-row-of-requires
 row-of-requires c κs = let s = c .before .before .before .before in (s .pre .0, mask-seven _ (s .pre .1))
 
-row-count-requires : tie.Need-row-count-requires
-row-count-requires c κs = search needs
+module _ (c : tie.After-row-count) where
+  abbrev held : tie.Else1
+  held = c .before .before
+
+  abbrev plain : tie.After-uncompressed-of
+  plain = held .before .before
+
+  abbrev start : tie.Start
+  start = plain .before .before
 
 returns-2 : tie.Need-returns-2
 returns-2 c =
-    let s = c .before .before .before .before .before .before .before in
-    let none = row-unmet (s .args .mask) (frame s) (size s) (c .before .before .row-of .ensures)
-    (omega (arith, c .before .row-count .ensures .0)) in
-    last-plain (s .args .mask) (s .args .set) (frame s) (size s) (s .pre .0 .few)
-    (c .before .before .before .before .before .uncompressed-of .ensures) (past (s .args .set) 11 none) 0
-
-bits-of-requires : tie.Need-bits-of-requires
-bits-of-requires c κs = search needs
+    let r = c .before in
+    let s = start r in
+    let none = row-unmet (s .args .mask) (frame s) (size s) (r .before .row-of .ensures) (omega (arith, r .row-count .ensures .0)) in
+    last-plain (s .args .mask) (s .args .set) (frame s) (size s) (s .pre .0 .few) ((plain r) .uncompressed-of .ensures)
+    (past (s .args .set) 11 none) 0
 
 better-requires : tie.Need-better-requires
 better-requires c κs =
-    let s = c .before .before .before .before .before .before .before .before in (
-      omega (
-        arith,
-        ap (λ (k : Choice). k .bits) (c .before .before .before .before .before .before .uncompressed-of .ensures),
-        s .pre .0 .few,
-      ),
+    let r = c .before .before in (
+      omega (arith, ap (λ (k : Choice). k .bits) ((plain r) .uncompressed-of .ensures), (start r) .pre .0 .few),
       omega (arith, c .bits-of .ensures .1),
     )
 
 returns-3 : tie.Need-returns-3
 returns-3 c =
-    let s = c .before .before .before .before .before .before .before .before .before in
-    let held = sym (c .before .before .before .before .before .before .holds .ensures)
-    ∙ not-false _ (c .before .before .before .before .before .if1 .left) in
-    last-row (s .args .mask) (s .args .set) (frame s) (size s) (s .pre .0 .few)
-    (c .before .before .before .before .before .before .before .uncompressed-of .ensures) held
-    (c .before .before .before .before .row-of .ensures) (omega (arith, c .before .before .before .row-count .ensures .0))
-    (c .before .bits-of .ensures .0) (c .better .ensures)
+    let r = c .before .before .before in
+    let s = start r in
+    let on = sym ((held r) .before .holds .ensures) ∙ not-false _ ((held r) .if1 .left) in
+    last-row (s .args .mask) (s .args .set) (frame s) (size s) (s .pre .0 .few) ((plain r) .uncompressed-of .ensures) on
+    (r .before .row-of .ensures) (omega (arith, r .row-count .ensures .0)) (c .before .bits-of .ensures .0) (c .better .ensures)
 
 pub last-of-spec : {M : Type 1} → statement M
-last-of-spec =
-    tie.close
-    (tie.spec
-    uncompressed-of-requires
-    holds-requires
-    returns
-    row-of-requires
-    row-count-requires
-    returns-2
-    bits-of-requires
-    better-requires
-    returns-3)
+last-of-spec = tie.close (tie.spec (λ c κs. search needs) (λ c κs. search needs) returns row-of-requires (λ c κs. search needs)
+    returns-2 (λ c κs. search needs) better-requires returns-3)

@@ -1,3 +1,4 @@
+-- What is settled, and what the measures tell of the rest (Settling).
 use borrow.Author.Needs.{needs}
 use lib.Seq.{length-take-le}
 use Rattle.look.proofs.Tests.{mask-seven}
@@ -11,21 +12,19 @@ spread-of-requires c κs = let s = c .before in ((s .pre .0 .some, s .pre .0 .lo
 plain-tool-requires : tie.Need-plain-tool-requires
 plain-tool-requires c κs = (c .before .before .pre, c .spread-of .ensures)
 
-whole-bits-requires : tie.Need-whole-bits-requires
-whole-bits-requires c κs = search needs
-
 returns : tie.Need-returns
 returns c =
-    let s = c .before .before .before .before .before .before in
+    let t = c .before .before .before .before in
+    let s = t .before .before in
     let p = c .before .before .before .plain-tool .ensures in
     let size = length-take-le (s .args .n) (s .args .samples .now) (s .pre .0 .long) in
     record {
       chosen = settled-chosen p size (s .pre .0 .few) (c .before .before .whole-bits .ensures);
       left = p .left;
-      zeros = c .before .before .before .before .spread-of .ensures .zeros;
-      close = c .before .before .before .before .spread-of .ensures .close;
+      zeros = t .spread-of .ensures .zeros;
+      close = t .spread-of .ensures .close;
       most = p .most;
     }
 
 pub choose-spec : {M : Type 1} → statement M
-choose-spec = tie.close (tie.spec spread-of-requires plain-tool-requires whole-bits-requires returns)
+choose-spec = tie.close (tie.spec spread-of-requires plain-tool-requires (λ c κs. search needs) returns)

@@ -5,12 +5,6 @@ use borrow.Author.Tests.{not-true, not-false}
 use lib.Dec.{eqb}
 use Rattle.choice.proofs.settle.is_for.Statement.{statement}
 use Rattle.choice.proofs.settle.is_for.Tie as tie
-use Rattle.choice.proofs.settle.is_for.Reads as reads
-use Rattle.choice.proofs.settle.is_for.Lts as lts
-use Rattle.prefix.proofs.holds.Reads as holds-reads
-
-holds-requires : tie.Need-holds-requires
-holds-requires c κs = search needs
 
 returns : tie.Need-returns
 returns c =
@@ -23,4 +17,4 @@ returns-2 c =
     ap (λ (h : Bool). h && eqb (s .args .x) (s .args .y)) (sym (sym (c .before .holds .ensures) ∙ not-false _ (c .if1 .left)))
 
 pub is-for-spec : {M : Type 1} → statement M
-is-for-spec = tie.close (tie.spec holds-requires returns returns-2)
+is-for-spec = tie.close (tie.spec (λ c κs. search needs) returns returns-2)

@@ -12,9 +12,6 @@ returns c = rw (lt-ltb (c .before .args .any % 128) 2 (c .if1 .taken)) refl
 returns-2 : tie.Need-returns-2
 returns-2 c = let any = c .before .before .args .any in rw (le-ltb (any % 128) 2 (omega arith), le-ltb (any % 128) 4 (c .if2 .taken)) refl
 
-holds-requires : tie.Need-holds-requires
-holds-requires c κs = search needs
-
 returns-3 : tie.Need-returns-3
 returns-3 c =
     let any = c .before .before .before .before .args .any in
@@ -26,4 +23,4 @@ returns-4 c =
     rw (le-ltb (any % 128) 2 (omega arith), lt-ltb (any % 128) 4 (omega arith), sym (c .before .holds .ensures) ∙ c .if3 .left) refl
 
 pub spread-tool-spec : {M : Type 1} → statement M
-spread-tool-spec = tie.close (tie.spec returns returns-2 holds-requires returns-3 returns-4)
+spread-tool-spec = tie.close (tie.spec returns returns-2 (λ c κs. search needs) returns-3 returns-4)

@@ -2,14 +2,6 @@ use borrow.Author.Needs.{needs}
 use borrow.Author.Tests.{eq-eqb, ne-eqb}
 use Rattle.choice.proofs.settle.whole_bits.Statement.{statement}
 use Rattle.choice.proofs.settle.whole_bits.Tie as tie
-use Rattle.choice.proofs.settle.whole_bits.Reads as reads
-use Rattle.choice.proofs.settle.whole_bits.Lts as lts
-
-mul-result : tie.Need-mul-result
-mul-result c = search needs
-
-add-result : tie.Need-add-result
-add-result c = search needs
 
 returns : tie.Need-returns
 returns c = rw (eq-eqb _ _ (c .if1 .taken))
@@ -21,4 +13,4 @@ returns-3 : tie.Need-returns-3
 returns-3 c = rw (ne-eqb _ _ (c .before .if1 .left), ne-eqb _ _ (c .if2 .left))
 
 pub whole-bits-spec : {M : Type 1} → statement M
-whole-bits-spec = tie.close (tie.spec mul-result add-result returns returns-2 returns-3)
+whole-bits-spec = tie.close (tie.spec (λ c. search needs) (λ c. search needs) returns returns-2 returns-3)

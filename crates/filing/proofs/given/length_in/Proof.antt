@@ -8,11 +8,8 @@ use Rattle.filing.proofs.given.length_in.Tie as tie
 returns : tie.Need-returns
 returns c = sym (length-frame (c .before .args .c) (omega (arith, c .if1 .taken)))
 
-cast-result : tie.Need-cast-result
-cast-result c = search needs
-
 returns-2 : tie.Need-returns-2
 returns-2 c = sym (length-loss (c .before .args .c) (omega (arith, c .if1 .left)))
 
 pub length-in-spec : {M : Type 1} → statement M
-length-in-spec = tie.close (tie.spec returns cast-result returns-2)
+length-in-spec = tie.close (tie.spec returns (λ c. search needs) returns-2)

@@ -7,14 +7,6 @@ use Rattle.lines.proofs.Putting.{puts-as}
 use Rattle.filing.proofs.Forms.{item-lost, frame-end, frame-for, loss-end, loss-for}
 use Rattle.filing.proofs.items.put_item.Statement.{statement}
 use Rattle.filing.proofs.items.put_item.Tie as tie
-use Rattle.filing.proofs.items.put_item.Reads as reads
-use Rattle.filing.proofs.items.put_item.Lts as lts
-use Rattle.filing.proofs.given.length_in.Reads as length-in-reads
-use Rattle.filing.proofs.items.put_form.Reads as put-form-reads
-use Rattle.filing.proofs.items.put_lost.Reads as put-lost-reads
-
-length-in-requires : tie.Need-length-in-requires
-length-in-requires c κs = search needs
 
 add-put-form : tie.Need-add-put-form
 add-put-form c =
@@ -27,12 +19,6 @@ add-put-form c =
           (s .args .samples .now) (s .args .from) (s .pre .0 .0) (omega arith) (s .pre .0 .1),
     )
 
-sub-put-form : tie.Need-sub-put-form
-sub-put-form c = search needs
-
-part-put-form-start : tie.Need-part-put-form-start
-part-put-form-start c = search needs
-
 part-put-form-end : tie.Need-part-put-form-end
 part-put-form-end c =
     let s = c .before .before .before .before .before in
@@ -40,28 +26,41 @@ part-put-form-end c =
     frame-end (maskOf (s .args .law)) (s .args .set) (s .args .c) (n .result) (n .ensures)
     (s .args .samples .now) (s .args .from) (s .pre .0 .0) (omega arith) (s .pre .0 .1)
 
+module _ (c : tie.After-length-in) where
+  abbrev start : tie.Start
+  start = c .before .before .before .before
+
+module _ (c : tie.After-slice-known4) where
+  abbrev length-in-of-slice-known4 : tie.After-length-in
+  length-in-of-slice-known4 = c .before .before .before .before .before .before .before
+
+module _ (c : tie.After-slice-known3) where
+  abbrev length-in-of-slice-known3 : tie.After-length-in
+  length-in-of-slice-known3 = c .before .before .before .before .before .before
+
+module _ (c : tie.After-slice-known2) where
+  abbrev length-in-of-slice-known2 : tie.After-length-in
+  length-in-of-slice-known2 = c .before .before .before .before .before .before
+
 put-form-requires : tie.Need-put-form-requires
 put-form-requires c κs =
-    let s = c .before .before .before .before .before .before .before in
+    let s = start (c .before .before .before) in
     let n = c .before .before .before .length-in in
     let f = frame-for (maskOf (s .args .law)) (s .args .set) (s .args .c) (n .result) (n .ensures)
     (s .args .samples .now) (s .args .from) (s .pre .0 .0) (omega arith) in
     ((f .six, s .pre .1 .0 .0), omega (arith, s .pre .1 .1, ap length (f .octets)))
 
-same-length : tie.Need-same-length
-same-length c = search needs
-
 returns : tie.Need-returns
 returns c =
-    let s = c .before .before .before .before .before .before .before .before .before .before in
-    let n = c .before .before .before .before .before .before .length-in in
+    let s = (length-in-of-slice-known2 c) .before .before .before .before in
+    let n = (length-in-of-slice-known2 c) .length-in in
     let f = frame-for (maskOf (s .args .law)) (s .args .set) (s .args .c) (n .result) (n .ensures)
     (s .args .samples .now) (s .args .from) (s .pre .0 .0) (omega arith) in
     puts-as (sym (f .octets)) (c .before .before .put-form .ensures)
 
 put-lost-requires : tie.Need-put-lost-requires
 put-lost-requires c κs =
-    let s = c .before .before .before .before .before .before .before in
+    let s = start (c .before .before .before) in
     let n = c .before .before .before .length-in in
     omega (
       arith,
@@ -70,57 +69,36 @@ put-lost-requires c κs =
           (sym (n .ensures) ∙ c .before .if2 .taken)),
     )
 
-same-length-2 : tie.Need-same-length-2
-same-length-2 c = search needs
-
 returns-2 : tie.Need-returns-2
 returns-2 c =
-    let s = c .before .before .before .before .before .before .before .before .before .before in
-    let n = c .before .before .before .before .before .before .length-in in
+    let s = (length-in-of-slice-known3 c) .before .before .before .before in
+    let n = (length-in-of-slice-known3 c) .length-in in
     puts-as (sym (item-lost (maskOf (s .args .law)) (s .args .set) (s .args .c) (drop (s .args .from) (s .args .samples .now)) (omega arith)
     (sym (n .ensures) ∙ c .before .before .before .before .if2 .taken))) (c .before .before .put-lost .ensures)
 
 slice-aggregate-put-form : tie.Need-slice-aggregate-put-form
 slice-aggregate-put-form c =
-    let s = c .before .before .before .before .before .before .before in
+    let s = start (c .before .before .before) in
     let n = c .before .before .before .length-in in
     loss-end (maskOf (s .args .law)) (s .args .set) (s .args .c) (n .result) (n .ensures) (s .pre .0 .0) (s .pre .1 .0 .1)
 
 put-form-requires-2 : tie.Need-put-form-requires-2
 put-form-requires-2 c κs =
-    let s = c .before .before .before .before .before .before .before .before in
+    let s = start (c .before .before .before .before) in
     let n = c .before .before .before .before .length-in in
     let f = loss-for (maskOf (s .args .law)) (s .args .set) (s .args .c) (n .result) (n .ensures)
     (s .pre .0 .0) (s .pre .1 .0 .1) (omega arith) (c .before .before .if2 .left) in
     ((f .six, s .pre .1 .0 .0), omega (arith, s .pre .1 .1, ap length (f .octets)))
 
-same-length-3 : tie.Need-same-length-3
-same-length-3 c = search needs
-
 returns-3 : tie.Need-returns-3
 returns-3 c =
-    let s = c .before .before .before .before .before .before .before .before .before .before .before in
-    let n = c .before .before .before .before .before .before .before .length-in in
+    let s = (length-in-of-slice-known4 c) .before .before .before .before in
+    let n = (length-in-of-slice-known4 c) .length-in in
     let f = loss-for (maskOf (s .args .law)) (s .args .set) (s .args .c) (n .result) (n .ensures)
     (s .pre .0 .0) (s .pre .1 .0 .1) (omega arith) (c .before .before .before .before .before .if2 .left) in
     puts-as (sym (f .octets)) (c .before .before .put-form2 .ensures)
 
 pub put-item-spec : {M : Type 1} → statement M
-put-item-spec =
-    tie.close
-    (tie.spec
-    length-in-requires
-    add-put-form
-    sub-put-form
-    part-put-form-start
-    part-put-form-end
-    put-form-requires
-    same-length
-    returns
-    put-lost-requires
-    same-length-2
-    returns-2
-    slice-aggregate-put-form
-    put-form-requires-2
-    same-length-3
-    returns-3)
+put-item-spec = tie.close (tie.spec (λ c κs. search needs) add-put-form (λ c. search needs) (λ c. search needs)
+    part-put-form-end put-form-requires (λ c. search needs) returns put-lost-requires (λ c. search needs) returns-2
+    slice-aggregate-put-form put-form-requires-2 (λ c. search needs) returns-3)

@@ -5,10 +5,6 @@ use lib.ListN.{length}
 use Rattle.filing.proofs.Way.{going-item, going-on, Measuring, measure-start, measure-turn, measure-done, measure-long}
 use Rattle.filing.proofs.sizes.all_octets.Statement.{statement}
 use Rattle.filing.proofs.sizes.all_octets.Tie as tie
-use Rattle.filing.proofs.sizes.all_octets.Reads as reads
-use Rattle.filing.proofs.sizes.all_octets.Lts as lts
-use Rattle.filing.proofs.given.samples_in.Reads as samples-in-reads
-use Rattle.filing.proofs.sizes.item_octets.Reads as item-octets-reads
 
 abbrev Inv-loop : tie.InvT-loop
 Inv-loop samples cells mask set quiet i₀ from₀ sum₀ i from sum = Measuring cells samples mask set i from sum
@@ -27,23 +23,15 @@ returns c =
     let a = l .before .before .before .before .args in
     measure-long (a .cells .now) (a .samples .now) (a .mask) (a .set) (l .loop .inv) (omega arith)
 
-mul-c : tie.Need-mul-c Inv-loop μ-loop
-mul-c c = search needs
-
-shared-slice-read-c : tie.Need-shared-slice-read-c Inv-loop μ-loop
-shared-slice-read-c c = search needs
+module _ (c : tie.After-shared-slice-known4 Inv-loop μ-loop) where
+  abbrev start : tie.Start Inv-loop μ-loop
+  start = c .before .before .before .before .before .before .before
 
 item-octets-requires : tie.Need-item-octets-requires Inv-loop μ-loop
 item-octets-requires c κs =
-    let s = c .before .before .before .before .before .before .before in
+    let s = start c in
     let g = c .before .before .before .loop .inv .going in
     ((going-item (s .args .cells .now) (s .args .samples .now) g (omega arith), g .inside), s .pre .1)
-
-add-sum : tie.Need-add-sum Inv-loop μ-loop
-add-sum c = search needs
-
-samples-in-requires : tie.Need-samples-in-requires Inv-loop μ-loop
-samples-in-requires c κs = search needs
 
 add-from : tie.Need-add-from Inv-loop μ-loop
 add-from c =
@@ -51,12 +39,6 @@ add-from c =
     let s = l .before .before .before .before in
     let g = going-on (s .args .cells .now) (s .args .samples .now) (l .loop .inv .going) (omega arith) in
     omega (arith, g .inside, c .samples-in .ensures, s .good)
-
-add-i : tie.Need-add-i Inv-loop μ-loop
-add-i c = search needs
-
-loop-less : tie.Need-loop-less Inv-loop μ-loop
-loop-less c = search needs
 
 loop-again : tie.Need-loop-again Inv-loop μ-loop
 loop-again c =
@@ -72,20 +54,6 @@ returns-2 c =
     measure-done (a .cells .now) (a .samples .now) (a .mask) (a .set) (c .before .loop .inv) (omega arith)
 
 pub all-octets-spec : {M : Type 1} → statement M
-all-octets-spec =
-    tie.close
-    (tie.spec
-    Inv-loop
-    μ-loop
-    loop-holds
-    returns
-    mul-c
-    shared-slice-read-c
-    item-octets-requires
-    add-sum
-    samples-in-requires
-    add-from
-    add-i
-    loop-less
-    loop-again
+all-octets-spec = tie.close (tie.spec Inv-loop μ-loop loop-holds returns (λ c. search needs) (λ c. search needs)
+    item-octets-requires (λ c. search needs) (λ c κs. search needs) add-from (λ c. search needs) (λ c. search needs) loop-again
     returns-2)

@@ -5,13 +5,6 @@ use lib.ListN.{length}
 use Rattle.filing.proofs.Forms.{item-lost, frame-end, frame-for, loss-end, loss-for}
 use Rattle.filing.proofs.sizes.item_octets.Statement.{statement}
 use Rattle.filing.proofs.sizes.item_octets.Tie as tie
-use Rattle.filing.proofs.sizes.item_octets.Reads as reads
-use Rattle.filing.proofs.sizes.item_octets.Lts as lts
-use Rattle.filing.proofs.given.length_in.Reads as length-in-reads
-use Rattle.filing.proofs.sizes.form_octets.Reads as form-octets-reads
-
-length-in-requires : tie.Need-length-in-requires
-length-in-requires c κs = search needs
 
 add-form-octets : tie.Need-add-form-octets
 add-form-octets c =
@@ -23,12 +16,6 @@ add-form-octets c =
       frame-end (s .args .mask) (s .args .set) (s .args .c) (n .result) (n .ensures)
           (s .args .samples .now) (s .args .from) (s .pre .0 .0) (omega arith) (s .pre .0 .1),
     )
-
-sub-form-octets : tie.Need-sub-form-octets
-sub-form-octets c = search needs
-
-part-form-octets-start : tie.Need-part-form-octets-start
-part-form-octets-start c = search needs
 
 part-form-octets-end : tie.Need-part-form-octets-end
 part-form-octets-end c =
@@ -46,9 +33,13 @@ form-octets-requires c κs =
       s .pre .1 .0,
     )
 
+module _ (c : tie.After-length-in) where
+  abbrev start : tie.Start
+  start = c .before .before .before
+
 returns : tie.Need-returns
 returns c =
-    let s = c .before .before .before .before .before .before in
+    let s = start (c .before .before .before) in
     let n = c .before .before .before .length-in in
     let f = frame-for (s .args .mask) (s .args .set) (s .args .c) (n .result) (n .ensures)
     (s .args .samples .now) (s .args .from) (s .pre .0 .0) (omega arith) in
@@ -64,13 +55,13 @@ returns-2 c =
 
 slice-aggregate-form-octets : tie.Need-slice-aggregate-form-octets
 slice-aggregate-form-octets c =
-    let s = c .before .before .before .before .before .before in
+    let s = start (c .before .before .before) in
     let n = c .before .before .before .length-in in
     loss-end (s .args .mask) (s .args .set) (s .args .c) (n .result) (n .ensures) (s .pre .0 .0) (s .pre .1 .1)
 
 form-octets-requires-2 : tie.Need-form-octets-requires-2
 form-octets-requires-2 c κs =
-    let s = c .before .before .before .before .before .before in
+    let s = start (c .before .before .before) in
     let n = c .before .before .before .length-in in
     let f = loss-for (s .args .mask) (s .args .set) (s .args .c) (n .result) (n .ensures)
     (s .pre .0 .0) (s .pre .1 .1) (omega arith) (c .before .if2 .left) in
@@ -78,24 +69,12 @@ form-octets-requires-2 c κs =
 
 returns-3 : tie.Need-returns-3
 returns-3 c =
-    let s = c .before .before .before .before .before .before .before in
+    let s = start (c .before .before .before .before) in
     let n = c .before .before .before .before .length-in in
     let f = loss-for (s .args .mask) (s .args .set) (s .args .c) (n .result) (n .ensures)
     (s .pre .0 .0) (s .pre .1 .1) (omega arith) (c .before .before .if2 .left) in
     (c .form-octets2 .ensures .0 ∙ ap length (sym (f .octets)), c .form-octets2 .ensures .1)
 
 pub item-octets-spec : {M : Type 1} → statement M
-item-octets-spec =
-    tie.close
-    (tie.spec
-    length-in-requires
-    add-form-octets
-    sub-form-octets
-    part-form-octets-start
-    part-form-octets-end
-    form-octets-requires
-    returns
-    returns-2
-    slice-aggregate-form-octets
-    form-octets-requires-2
-    returns-3)
+item-octets-spec = tie.close (tie.spec (λ c κs. search needs) add-form-octets (λ c. search needs) (λ c. search needs)
+    part-form-octets-end form-octets-requires returns returns-2 slice-aggregate-form-octets form-octets-requires-2 returns-3)

@@ -5,9 +5,6 @@ use lib.ListN.{length}
 use Rattle.filing.proofs.Way.{Counting, count-start, count-turn, count-done, count-long}
 use Rattle.filing.proofs.sizes.most_octets.Statement.{statement}
 use Rattle.filing.proofs.sizes.most_octets.Tie as tie
-use Rattle.filing.proofs.sizes.most_octets.Reads as reads
-use Rattle.filing.proofs.sizes.most_octets.Lts as lts
-use Rattle.filing.proofs.sizes.item_most.Reads as item-most-reads
 
 abbrev Inv-loop : tie.InvT-loop
 Inv-loop cells i₀ sum₀ i sum = Counting cells i sum
@@ -21,24 +18,6 @@ loop-holds c = count-start (c .before .args .cells .now)
 returns : tie.Need-returns Inv-loop μ-loop
 returns c = count-long (c .before .before .before .before .args .cells .now) (c .before .before .loop .inv) (omega arith)
 
-mul-c : tie.Need-mul-c Inv-loop μ-loop
-mul-c c = search needs
-
-shared-slice-read-c : tie.Need-shared-slice-read-c Inv-loop μ-loop
-shared-slice-read-c c = search needs
-
-item-most-requires : tie.Need-item-most-requires Inv-loop μ-loop
-item-most-requires c κs = search needs
-
-add-sum : tie.Need-add-sum Inv-loop μ-loop
-add-sum c = search needs
-
-add-i : tie.Need-add-i Inv-loop μ-loop
-add-i c = search needs
-
-loop-less : tie.Need-loop-less Inv-loop μ-loop
-loop-less c = search needs
-
 loop-again : tie.Need-loop-again Inv-loop μ-loop
 loop-again c =
     let n = c .item-most .ensures in
@@ -49,18 +28,5 @@ returns-2 : tie.Need-returns-2 Inv-loop μ-loop
 returns-2 c = count-done (c .before .before .before .args .cells .now) (c .before .loop .inv) (omega arith)
 
 pub most-octets-spec : {M : Type 1} → statement M
-most-octets-spec =
-    tie.close
-    (tie.spec
-    Inv-loop
-    μ-loop
-    loop-holds
-    returns
-    mul-c
-    shared-slice-read-c
-    item-most-requires
-    add-sum
-    add-i
-    loop-less
-    loop-again
-    returns-2)
+most-octets-spec = tie.close (tie.spec Inv-loop μ-loop loop-holds returns (λ c. search needs) (λ c. search needs)
+    (λ c κs. search needs) (λ c. search needs) (λ c. search needs) (λ c. search needs) loop-again returns-2)
