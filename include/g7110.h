@@ -2,8 +2,9 @@
  * why a frame takes its tool; a box's settings, saved and put back; a damaged greeting, mended; a store of greetings that
  * fills its gaps; recordings from studios, read and written. This header is also the manual.
  *
- * Every answer below is proved equal to the project's definitions of documents 01 and 02 and of 001's sections 6.8, 7.11
- * and 8.9, for all inputs.
+ * Every answer below is that of a function that is proved equal to the project's definitions of documents 01 and 02 and of
+ * 001's sections 6.8, 7.11 and 8.9, for all inputs. The boundary is not proved: that this header declares the functions as
+ * they are is tested, and BUFFERS, below, is for the caller to keep.
  *
  * The archive libg7110.a is for x86-64 Linux alone.
  *
@@ -18,7 +19,7 @@
  * LENGTHS     A frame has 0, 40, 80, 160, 240 or 320 samples. A frame of 0 samples is a pad: one octet, 00.
  *
  * WHAT A CALL RETURNS
- *   0 (G7110_OK), or the number of a refusal. The report is written in both cases.
+ *   0 (G7110_OK), or the number of a refusal; g7110_store_cells a count. A call that takes a report writes it in both cases.
  *   A refused g7110_read or g7110_write leaves the output as lent; its report is all 0, save that G7110_TOOL gives the tool
  *   and that a refused g7110_read gives the bit.
  *   A refused g7110_walk keeps the frames before the refused one: their samples stand in the output and are counted in

@@ -2,6 +2,7 @@
 //! can plant a difference.
 
 mod edits;
+mod figures;
 mod header;
 mod names;
 mod pages;
@@ -10,6 +11,7 @@ mod rooms;
 mod statements;
 
 pub use edits::{edit_heads, edits, facts, LOGS, MOST};
+pub use figures::figures;
 pub use header::{limits, refusals, reports};
 pub use names::names;
 pub use pages::{landings, pages};
@@ -114,7 +116,9 @@ impl Held {
 
 /// Every check, in the order of this page.
 pub fn all(files: &Files) -> Vec<Held> {
-    let checks = [statements, names, edits, edit_heads, facts, rooms, refusals, limits, reports, landings, pages, proofs];
+    let checks = [
+        statements, names, edits, edit_heads, facts, rooms, refusals, limits, reports, figures, landings, pages, proofs,
+    ];
     checks.iter().map(|check| check(files)).collect()
 }
 

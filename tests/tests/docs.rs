@@ -1,5 +1,6 @@
 //! The docs against the files that they speak of: statements, names, edits and their errors, rooms, the header's
-//! numbers, the landings. Then the checks themselves, on a small repository with one thing wrong at a time.
+//! numbers, figures that two pages tell, the landings. Then the checks themselves, on a small repository with one thing
+//! wrong at a time.
 
 use tests::docs::{all, Files, Held, LOGS, MOST};
 use tests::program::repository;
@@ -41,7 +42,7 @@ fn small() -> Files {
 }
 
 /// What is planted: the start of the name of the check that must see it, a file, a text in it, and another for that.
-const PLANTED: [(&str, &str, &str, &str); 61] = [
+const PLANTED: [(&str, &str, &str, &str); 68] = [
     // Another statement, one that is only the start of what is proved, a field too many.
     ("statements", "docs/PROMISES.md", "n ≡ n", "n ≡ 0"),
     ("statements", "crates/promises/proofs/Back.antt", "→ n ≡ n", "→ n ≡ n → n ≡ n"),
@@ -103,6 +104,15 @@ const PLANTED: [(&str, &str, &str, &str); 61] = [
     ("limits", "include/g7110.h", "MAX_CELLS 33026", "MAX_CELLS 770"),
     ("limits", "include/g7110.h", "MAX_TABLE 379687", "MAX_TABLE 7392"),
     ("calls", "wrapper/src/raw.rs", "[u64; 4]", "[u64; 5]"),
+    // Figures: another one on a page, on the other, twice on one page, with other words; in the header; another version;
+    // another time.
+    ("figures", "docs/TESTING.md", "of 12,331\nwrites", "of 12,413\nwrites"),
+    ("figures", "docs/STORE.md", "1,908 as", "2,338 as"),
+    ("figures", "docs/STORE.md", "each of the 12,331", "each of the 12,413"),
+    ("figures", "docs/BENCHMARKS.md", "copies its", "moves its"),
+    ("figures", "include/g7110.h", "MAX_FRAME 402", "MAX_FRAME 403"),
+    ("figures", "include/g7110.h", "* 1  the first", "* 2  the second"),
+    ("figures", "docs/LANDINGS.md", "812 s", "821 s"),
     // Landings without a time, and a page that names a machine.
     ("landings", "docs/LANDINGS.md", "812 s", "BEFORE s"),
     ("landings", "docs/landings/R-01.md", "1,020 s", "more"),
@@ -128,6 +138,8 @@ fn each_difference_is_found() {
         let found = all(&files).into_iter().find(|held| held.what.starts_with(check)).expect("a check");
         assert!(!found.faults.is_empty(), "{check}: {path}: {new} was not seen");
     }
+    let told = format!("with {} differences planted one at a time", PLANTED.len());
+    assert!(Files::read(&repository()).text("docs/TESTING.md").contains(&told), "TESTING does not say: {told}");
     say(&format!("compared: docs, planted differences: {}, each found\n", PLANTED.len()));
 }
 

@@ -1,5 +1,6 @@
 -- RFC 7655's storage file, as it is remembered: the RFC was not at hand. A person who has it checks this file against it, and changes
--- what differs here; no other file repeats an octet of the heading or a mark.
+-- what differs here. No other definition repeats an octet of the heading or a mark. Code does, proved equal to these: src/marking.rt, and
+-- `kind_of` of crates/replaying. docs/DECISIONS.md names what else has them (before 1.1).
 --   headingOf, headed: "heading with version and law".      lostOctet, erased: "the RFC's mark for a lost frame".
 use Prim.Native.Nat.{ℕ}
 use mathlib.Core.List.{List, [], _∷_}

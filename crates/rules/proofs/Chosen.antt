@@ -146,7 +146,7 @@ choose-least mask set s (t ∷ ts) h =
     step (usable mask set s) (octetsOfForm mask s) t best (ts ++ (1 ∷ [])) (usable mask set s t) test refl refl
     (choose-least mask set s ts h)
 
--- the order plus, minus, constant, binary, Rice, value-location, uncompressed
+-- the order plus, minus, constant, binary, Rice, value-location, fractional-bit (R-14), uncompressed
 abbrev pub order : List ℕ
 order = tieOrder ++ (1 ∷ [])
 

@@ -1,8 +1,8 @@
 -- Document 02, R-7: "Every refusal from 1 to 9 gives one bit, counted from 0 at the frame's start". One law for each of its cases:
 --   run-at, run-endless     "the first bit of the run's code (RUN)"
---   beyond-at               ".. listed place (PLACE", with Named.rising-is-strict; "the end of the count bits where D is 0)":
---   Located.full-listed group-at                ".. listed place (PLACE": of tool 11 it is the first bit of a V that is too large (the
---   reading of R-14)
+--   beyond-at               ".. listed place (PLACE", with Named.rising-is-strict
+--   Located.full-listed     "the end of the count bits where D is 0)"
+--   group-at                the same of tool 11: the first bit of a V that is too large (the reading of R-14)
 --   case-at, method-at      ".. range case (CASE) or method (METHOD)"
 --   short-at, align-at      "the first missing bit (SHORT) or wrong filling bit (ALIGN)"
 --   prefix-at, tool-at, room-at     "0 for PREFIX, TOOL and ROOM"

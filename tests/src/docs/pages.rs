@@ -33,8 +33,8 @@ pub fn landings(files: &Files) -> Held {
     for (path, note) in files.under("docs/landings/", ".md") {
         let link = path.trim_start_matches("docs/");
         let line = list.lines().find(|line| line.contains(link)).unwrap_or("");
-        held.hold(times(line) == 2, || format!("LANDINGS: {link} is not there with two times"));
-        held.also(note.lines().any(|line| times(line) == 2), || format!("{path}: no line has two times"));
+        held.hold(times(line).len() == 2, || format!("LANDINGS: {link} is not there with two times"));
+        held.also(note.lines().any(|line| times(line).len() == 2), || format!("{path}: no line has two times"));
     }
     for link in list.split("](").skip(1).filter_map(|rest| rest.split(')').next()) {
         held.also(files.has(&format!("docs/{link}")), || format!("LANDINGS: there is no {link}"));
@@ -42,8 +42,9 @@ pub fn landings(files: &Files) -> Held {
     held
 }
 
-/// How many times of the form `812 s` a line tells.
-fn times(line: &str) -> usize {
+/// The times of the form `812 s` that a line tells.
+pub fn times(line: &str) -> Vec<u32> {
     let words: Vec<&str> = line.split(|c: char| !c.is_ascii_alphanumeric() && c != ',').collect();
-    words.windows(2).filter(|pair| pair[1] == "s" && pair[0].replace(',', "").parse::<u32>().is_ok()).count()
+    let seconds = words.windows(2).filter(|pair| pair[1] == "s");
+    seconds.filter_map(|pair| pair[0].replace(',', "").parse().ok()).collect()
 }
