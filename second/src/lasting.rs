@@ -33,11 +33,19 @@ pub struct Lasting {
 /// the octets that they cover.
 #[derive(Clone, Debug, PartialEq, Eq)]
 pub enum Write {
-    Block { at: usize, octets: Vec<u8> },
+    Block {
+        at: usize,
+        octets: Vec<u8>,
+    },
     /// From the page's start on.
-    Page { page: usize, octets: Vec<u8> },
+    Page {
+        page: usize,
+        octets: Vec<u8>,
+    },
     /// From the spare's start on.
-    Spare { octets: Vec<u8> },
+    Spare {
+        octets: Vec<u8>,
+    },
     /// It is the old one or the new one after a cut, never a mixture.
     Record(Record),
 }

@@ -109,13 +109,7 @@ pub fn store_renumber(block: &[u8], cells: &mut [u32], number: u32, to: u32) -> 
 
 /// Exactly what a put would answer and report: start, octets moved. TABLE,
 /// then put's.
-pub fn store_try(
-    block: &[u8],
-    cells: &[u32],
-    law: u32,
-    number: u32,
-    octets: &[u8],
-) -> Result<[u64; 2], u32> {
+pub fn store_try(block: &[u8], cells: &[u32], law: u32, number: u32, octets: &[u8]) -> Result<[u64; 2], u32> {
     let put = table::open(block, cells)?.try_put(law, number, octets)?;
     Ok([put.start as u64, put.moved as u64])
 }
@@ -131,12 +125,7 @@ pub fn store_try(
 /// of octets goes from the spare to `to + done`, `done` grows, the state is 1.
 /// Where `done` reaches `octets`, `next` is still, with the other page, and
 /// zeros.
-pub fn move_step(
-    block: &mut [u8],
-    spare: &mut [u8],
-    record: &Record,
-    next: &mut Record,
-) -> Result<(), u32> {
+pub fn move_step(block: &mut [u8], spare: &mut [u8], record: &Record, next: &mut Record) -> Result<(), u32> {
     if !tells_of_a_move(block, spare, record) {
         return Err(MOVE);
     }

@@ -15,9 +15,7 @@ pub fn same(one: &Store, other: &Store) -> bool {
     let alike = |a: &Greeting, b: &Greeting| {
         (a.number, a.octets, a.law, a.samples) == (b.number, b.octets, b.law, b.samples) && a.marks == b.marks
     };
-    let there = |a: &Greeting| {
-        other.greetings.iter().any(|b| alike(a, b) && held(one, a) == held(other, b))
-    };
+    let there = |a: &Greeting| other.greetings.iter().any(|b| alike(a, b) && held(one, a) == held(other, b));
     one.greetings.len() == other.greetings.len() && one.greetings.iter().all(there)
 }
 
@@ -63,9 +61,13 @@ impl Cuts {
     pub fn tell(&self, what: &str) {
         let [block, page, spare, behind] = self.places;
         println!(
-            "compared: {} cuts, {what}: {block} inside the block, {page} a page, {spare} the spare, {behind} behind a write; \
-             by depth {:?}; {} before, {} after, {} others",
-            self.all(), self.deep, self.before, self.after, self.others
+            "compared: {} cuts, {what}: {block} inside the block, {page} a page, {spare} the spare, \
+             {behind} behind a write; by depth {:?}; {} before, {} after, {} others",
+            self.all(),
+            self.deep,
+            self.before,
+            self.after,
+            self.others
         );
     }
 }
@@ -81,13 +83,13 @@ pub struct Cutter<'a> {
     pub strict: bool,
 }
 
-/// What a start may give: `now` at this place of a call, and what it was
-/// before the call and is after it.
+/// The store before a call and after it, and whether all its writes are made:
+/// then only the second is right.
 #[derive(Clone, Copy)]
 pub struct Wanted<'a> {
-    pub now: &'a Store,
     pub before: &'a Store,
     pub after: &'a Store,
+    pub ended: bool,
 }
 
 impl<'a> Cutter<'a> {
@@ -99,7 +101,7 @@ impl<'a> Cutter<'a> {
     /// Cuts the writes of a call that turns `before` into `after` with its
     /// last write.
     pub fn cut_call(&mut self, at: &Lasting, writes: &[Write], before: &Store, after: &Store) {
-        self.cut_all(at, writes, Wanted { now: before, before, after }, 0);
+        self.cut_all(at, writes, Wanted { before, after, ended: false }, 0);
     }
 
     fn cut_all(&mut self, at: &Lasting, writes: &[Write], wanted: Wanted, depth: usize) {
@@ -126,8 +128,8 @@ impl<'a> Cutter<'a> {
                 }
             }
             lasting.write(write);
-            let now = if ended && depth == 0 { wanted.after } else { wanted.now };
-            self.start_again(lasting.clone(), Wanted { now, ..wanted }, depth, BEHIND);
+            let wanted = Wanted { ended: wanted.ended || (ended && depth == 0), ..wanted };
+            self.start_again(lasting.clone(), wanted, depth, BEHIND);
         }
     }
 
@@ -147,9 +149,11 @@ impl<'a> Cutter<'a> {
     pub fn judge(&mut self, got: &Result<Store, u32>, wanted: Wanted) {
         let is = |wanted: &Store| got.as_ref().is_ok_and(|got| same(got, wanted));
         if self.strict {
-            assert!(is(wanted.now), "{got:?}, not {:?}", wanted.now);
+            // More than is promised: it is the one before up to the last write.
+            let now = if wanted.ended { wanted.after } else { wanted.before };
+            assert!(is(now), "{got:?}, not {now:?}");
         }
-        match (is(wanted.before), is(wanted.after)) {
+        match (is(wanted.before) && !wanted.ended, is(wanted.after)) {
             (true, _) => self.cuts.before += 1,
             (false, true) => self.cuts.after += 1,
             (false, false) => self.cuts.others += 1,
