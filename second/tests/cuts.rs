@@ -138,7 +138,7 @@ fn middling_blocks() {
     let plan = Plan { every: 6, near: 3, drawn: 3, all_ways: false, writes: 24, deep: 2, writes_deep: 2 };
     let mut cutter = Cutter::new(&AsTold, plan, 38);
     let mut asked = Asked::default();
-    for round in 0..60 {
+    for round in 0..45 {
         let size = [100, 200, 400, 1_000, 2_500][round % 5];
         let spare = [0, 16, 100, 7, size, 33][round % 6];
         list(&mut cutter, &mut asked, size, spare, 16);
