@@ -10,6 +10,8 @@
 //! * [`recording`] reads and writes the storage file of studios.
 //! * [`store`] keeps greetings in a block and fills its gaps; [`saved`] is its
 //!   table as lines, [`table`] as the numbers that a caller lends.
+//! * [`moves`] closes up one move at a time; [`lasting`] is what lasts over a
+//!   cut of power, and the order of writes to it.
 //! * [`why`] says why a frame is written with the tool it is.
 //!
 //! None of the first three touches the heap: a frame is at most 320 samples,
@@ -22,11 +24,13 @@ mod bits;
 mod first_octet;
 mod fractional;
 pub mod gen;
+pub mod lasting;
 mod law;
 pub mod linear;
 mod listing;
 mod marks;
 pub mod mend;
+pub mod moves;
 mod planes;
 mod read;
 pub mod recording;

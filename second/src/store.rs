@@ -15,8 +15,8 @@ pub use crate::marks::{Jump, Mark};
 pub(crate) const ROOM: u32 = 4;
 const LAW: u32 = 12;
 const NUMBER: u32 = 15;
-const TAKEN: u32 = 16;
-const ABSENT: u32 = 17;
+pub(crate) const TAKEN: u32 = 16;
+pub(crate) const ABSENT: u32 = 17;
 pub(crate) const BAD: u32 = 18;
 const FULL: u32 = 19;
 const NOROOM: u32 = 20;
@@ -170,7 +170,7 @@ impl Store {
     }
 }
 
-fn check_number(number: u32) -> Result<(), u32> {
+pub(crate) fn check_number(number: u32) -> Result<(), u32> {
     if (1..=MOST_NUMBER).contains(&number) {
         Ok(())
     } else {
