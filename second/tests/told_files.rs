@@ -125,6 +125,9 @@ fn rooms_and_sets() {
     assert_eq!(next(&[0x00, 0x43, 0xFE], 1, 1, 127, 39).0, (ROOM, [0, 0, 0, 0, 0, 1]));
     assert_eq!(next(&[0x00, 0x43, 0xFE], 1, 1, 127, 40).0, (0, [1, 40, 2, 4, 0, 3]));
     assert_eq!(next(&[0x43, 0xFE], 0, 1, 119, 40).0, (TOOL, [0, 0, 0, 4, 0, 0]));
+    // Before the body is judged.
+    assert_eq!(next(&[0x86, 0xF8], 0, 1, 127, 79).0, (ROOM, [0; 6]));
+    assert_eq!(next(&[0x86, 0xF8], 0, 1, 127, 80).0, (METHOD, [0, 0, 0, 0, 11, 0]));
     // 01 and a pad take any set and no room.
     for set in [0, 1, 128, 255] {
         assert_eq!(next(&[0x01], 0, 1, set, 0).0, (0, [1, 0, 1, 0, 0, 1]));

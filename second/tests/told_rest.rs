@@ -142,6 +142,7 @@ fn how_the_keeping_stopped() {
     assert_eq!(why(&[0x41, 0x01], 40), [1, 1, 1, 0, PREFIX, 1, 0, 0]);
     // 86 F8 is METHOD, where there is room for its 80 samples; 02 is carried.
     assert_eq!(why(&[0x86, 0xF8], 40), [1, 0, 0, 40, 0, 0, 0, 0]);
+    assert_eq!(why(&[0x86, 0xF8], 80), [1, 0, 0, 80, METHOD, 0, 0, 11]);
     assert_eq!(why(&[0x00, 0x86, 0xF8], 80), [2, 1, 1, 80, METHOD, 1, 0, 11]);
     assert_eq!(why(&[0x41, 0x02], 40), [1, 1, 1, 0, 0, 1, 0, 0]);
     assert_eq!(why(&[0x41, 0x02], 80), [2, 1, 1, 40, SHORT, 1, 0, 8]);
