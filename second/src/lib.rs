@@ -13,6 +13,8 @@
 //! * [`moves`] closes up one move at a time; [`lasting`] is what lasts over a
 //!   cut of power, and the order of writes to it.
 //! * [`why`] says why a frame is written with the tool it is.
+//! * [`version`], [`check`], [`head`], [`pieces`], [`told`] and [`masters`] are
+//!   calls that tell: what is there, one piece at a time.
 //!
 //! None of the first three touches the heap: a frame is at most 320 samples,
 //! so whatever has to be held back until a frame is known to be good fits on
@@ -21,16 +23,20 @@
 #![forbid(unsafe_code)]
 
 mod bits;
+mod check;
 mod first_octet;
 mod fractional;
 pub mod gen;
+mod head;
 pub mod lasting;
 mod law;
 pub mod linear;
 mod listing;
 mod marks;
+pub mod masters;
 pub mod mend;
 pub mod moves;
+pub mod pieces;
 mod planes;
 mod read;
 pub mod recording;
@@ -41,13 +47,18 @@ pub mod saved;
 pub mod settings;
 pub mod store;
 pub mod table;
+pub mod told;
 mod value_rows;
+mod version;
 mod walk;
 pub mod why;
 mod write;
 
+pub use check::check;
+pub use head::head;
 pub use listing::listing;
 pub use read::{read_frame, ReadReport};
+pub use version::version;
 pub use walk::{walk, WalkReport};
 pub use write::{write_frame, WriteReport};
 

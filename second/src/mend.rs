@@ -2,7 +2,7 @@
 
 use crate::law::ALL_TOOLS;
 use crate::read::read_frame;
-use crate::walk::MOST_OCTETS;
+use crate::walk::{walk, MOST_OCTETS};
 use crate::MOST_SAMPLES;
 
 const ROOM: u32 = 4;
@@ -50,6 +50,41 @@ pub fn mend(octets: &[u8], law: u32, total: u64, out: &mut [u8]) -> Result<Mende
         octets_kept: kept.octets,
         samples_filled,
     })
+}
+
+/// Octets, frames kept, octets kept, samples filled, then how the walk of what
+/// is kept stopped: number (0 where it went to the end or up to the total),
+/// place, tool, bit. Refused as [`mend`], less ROOM: then the report is zeros.
+pub fn mend_why(octets: &[u8], law: u32, total: u64) -> (u32, [u64; 8]) {
+    if law > 1 {
+        return (LAW, [0; 8]);
+    }
+    if octets.len() > MOST_OCTETS {
+        return (LONG, [0; 8]);
+    }
+    if total % 40 != 0 || total > MOST_TOTAL {
+        return (TOTAL, [0; 8]);
+    }
+    // As the walk with all tools and room `total` stops.
+    let stop = walk(octets, law, ALL_TOOLS, &mut vec![0; total as usize]);
+    let filled = total - stop.samples as u64;
+    let result = stop.octets as u64 + filling_octets(filled);
+    if result > MOST_OCTETS as u64 {
+        return (LONG, [0; 8]);
+    }
+    // ROOM is how the walk says that the total is reached; its tool and bit are 0.
+    let number = if stop.ending == ROOM { 0 } else { stop.ending };
+    let (frames, kept) = (stop.frames as u64, stop.octets as u64);
+    let (number, tool) = (u64::from(number), u64::from(stop.tool));
+    (0, [result, frames, kept, filled, number, kept, tool, stop.bit as u64])
+}
+
+/// How many frames of plus zeros fill so many samples, an octet each: those of
+/// 320, then for 40 times 0 to 7 none, 40, 80, 80 and 40, 160, 160 and 40, 240,
+/// 240 and 40.
+fn filling_octets(samples: u64) -> u64 {
+    const REST: [u64; 8] = [0, 1, 1, 2, 1, 2, 1, 2];
+    samples / 320 + REST[(samples % 320 / 40) as usize]
 }
 
 #[derive(Default)]

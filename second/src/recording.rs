@@ -15,7 +15,7 @@ const LETTERS: [u8; 2] = [b'A', b'M'];
 /// Behind the letter: a line feed, and the only version there is.
 const VERSION: &[u8] = &[0x0A, 0x00];
 /// A lost frame whose length is not known.
-const LOST: u8 = 0x01;
+pub(crate) const LOST: u8 = 0x01;
 /// Samples of an erasure frame, by law: all of them 0++, or all 0--, which
 /// are the signed numbers 1 and -2.
 const ERASED: [[u8; 2]; 2] = [[0xD4, 0x54], [0xFE, 0x7E]];

@@ -59,6 +59,25 @@ pub fn read(state: &State, revision: u32) -> Result<Vec<u8>, u32> {
     Ok(text.into_bytes())
 }
 
+/// Law, set, block, greeting, as they stand in a kept revision, behind 0; or
+/// GONE and zeros.
+pub fn get(state: &State, revision: u32) -> (u32, [u64; 4]) {
+    match find(state, revision) {
+        Some(values) => (0, values.map(u64::from)),
+        None => (GONE, [0; 4]),
+    }
+}
+
+/// Numbers of the kept revisions, the oldest first, then 0. A number in two
+/// rows is told twice.
+pub fn kept(state: &State) -> [u64; 8] {
+    let mut numbers = [0; MOST_KEPT];
+    for (place, revision) in numbers.iter_mut().zip(opened(state).kept) {
+        *place = u64::from(revision.number);
+    }
+    numbers
+}
+
 /// Empties the list; the numbering runs on.
 pub fn wipe(state: &mut State) {
     let last = opened(state).last;
