@@ -42,7 +42,7 @@ fn small() -> Files {
 }
 
 /// What is planted: the start of the name of the check that must see it, a file, a text in it, and another for that.
-const PLANTED: [(&str, &str, &str, &str); 68] = [
+const PLANTED: [(&str, &str, &str, &str); 69] = [
     // Another statement, one that is only the start of what is proved, a field too many.
     ("statements", "docs/PROMISES.md", "n ≡ n", "n ≡ 0"),
     ("statements", "crates/promises/proofs/Back.antt", "→ n ≡ n", "→ n ≡ n → n ≡ n"),
@@ -52,6 +52,7 @@ const PLANTED: [(&str, &str, &str, &str); 68] = [
     ("names", "docs/PROMISES.md", "`back-too`", "`back-two`"),
     ("names", "docs/PROMISES.md", "`rules::read`", "`rules::reads`"),
     ("names", "docs/PROMISES.md", "`rules::read`", "`rule::read(law)`"),
+    ("names", "docs/PROMISES.md", "`rules::frames::next`", "`rules::lists::next`"),
     ("names", "docs/PAPER.md", "`Walk.short`", "`Walk.wide`"),
     ("names", "docs/PAPER.md", "and `Frame`", "and `Frames`"),
     ("names", "docs/CONTRACTS.md", "rules: `read`", "rules: `write`"),
@@ -88,7 +89,7 @@ const PLANTED: [(&str, &str, &str, &str); 68] = [
     ("facts", "target/faults/target/must-fail/g7110/too_short/.log", "g7110_read", "g7110_walk"),
     // Rooms: a crate that is not listed, one that is not there, one above what it stands on, another room.
     ("rooms", "README.md", "crates/rules, crates/promises", "crates/rules"),
-    ("rooms", "README.md", "crates/g7110", "crates/g7110, crates/bits"),
+    ("rooms", "README.md", "crates/g7110", "crates/g7110, crates/read_bits"),
     ("rooms", "crates.txt", "promises: rules", "promises: rules g7110"),
     ("rooms", "README.md", "| tools/ |", "| tool/ |"),
     // Numbers: a refusal in the header, in the definition, in the wrapper; limits; a report.
@@ -97,7 +98,7 @@ const PLANTED: [(&str, &str, &str, &str); 68] = [
     ("refusals", "wrapper/src/lib.rs", "Tool(_) => 3", "Tool(_) => 2"),
     ("limits", "include/g7110.h", "VERSION 1", "VERSION 2"),
     ("limits", "crates/rules/specs/Walk.antt", "= 1048576", "= 65535"),
-    ("limits", "crates/rows/specs/Limits.antt", "= 1048576", "= 16384"),
+    ("limits", "crates/store_rows/specs/Limits.antt", "= 1048576", "= 16384"),
     ("limits", "crates/promises/proofs/Bounded.antt", "402", "403"),
     ("limits", "crates/recording/specs/Items.antt", "= 32768", "= 32769"),
     ("limits", "include/g7110.h", "MAX_FILE 1048586", "MAX_FILE 1048576"),

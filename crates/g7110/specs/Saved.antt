@@ -4,8 +4,8 @@ use mathlib.Core.Path.{_≡_}
 use mathlib.Core.List.{List, [], _∷_, _++_}
 use lib.ListN.{length, drop}
 use Rattle.store.specs.Calls.{numberOf, firstOf, answerOf, tableAfter}
-use Rattle.saved.specs.Saved.{saveOf, loadOf}
-use Rattle.saved.specs.Calls.{toldOf, textOf}
+use Rattle.store_save.specs.Saved.{saveOf, loadOf}
+use Rattle.store_save.specs.Calls.{toldOf, textOf}
 
 -- the number and the octets of text; the text at the start of what is lent, the rest as lent
 pub record SavedReported (b t out out′ one : List ℕ) (r : ℕ) : Type 0 where

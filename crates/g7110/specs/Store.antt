@@ -4,8 +4,8 @@ use mathlib.Core.Path.{_≡_}
 use mathlib.Core.List.{List, [], _∷_}
 use Rattle.store.specs.Store.{Outcome}
 use Rattle.store.specs.Calls.{numberOf, firstOf, secondOf, answerOf, blockAfter, tableAfter, putOf, getOf, deleteOf}
-use Rattle.jumping.specs.declared.Told.{Told}
-use Rattle.jumping.specs.Calls.{numberOf as jumpNumberOf, toldOf, jumpOf}
+use Rattle.store_jump.specs.declared.jumping.Told.{Told}
+use Rattle.store_jump.specs.Calls.{numberOf as jumpNumberOf, toldOf, jumpOf}
 
 -- the start and the octets moved, or the start and the octets; zeros where refused
 abbrev pub twoOf : Outcome → List ℕ

@@ -10,7 +10,7 @@ ghost use Rattle.settings.specs.Calls.{Wipe};
 ghost use Rattle.g7110.specs.Mending.{MendReported};
 ghost use Rattle.g7110.specs.Settings.{SaveReported, BackReported, RevisionReported};
 ghost use Rattle.reasons.specs.Why.{whyOne};
-ghost use Rattle.notes.specs.Sane.{storeCells};
+ghost use Rattle.store_notes.specs.Sane.{storeCells};
 ghost use Rattle.g7110.specs.Store.{PutReported, GetReported, DeleteReported, JumpReported};
 ghost use Rattle.linear.specs.Equations.{toPCM, fromPCM};
 ghost use Rattle.g7110.specs.Saved.{SavedReported, LoadReported};
@@ -136,7 +136,7 @@ pub extern "C" fn g7110_store_save(
 ) -> u32
     ensures { λ r. ⌜ SavedReported (now (block .entry)) (now (table .entry)) (now (out .entry)) (now (out .exit)) (now (report .exit)) r ⌝ }
 {
-    let a = saved::save(block, table, out);
+    let a = store_save::save(block, table, out);
     let octets = store::first_of(a);
     *report = [octets as u64];
     store::number_of(a)
@@ -147,7 +147,7 @@ pub extern "C" fn g7110_store_save(
 pub extern "C" fn g7110_store_load(text: &[u8], block: &[u8], table: &mut [u32]) -> u32
     ensures { λ r. ⌜ LoadReported (now (text .entry)) (now (block .entry)) (now (table .entry)) (now (table .exit)) r ⌝ }
 {
-    let a = saved::load(text, block, table);
+    let a = store_save::load(text, block, table);
     store::number_of(a)
 }
 
@@ -233,7 +233,7 @@ pub extern "C" fn g7110_mend(
 pub extern "C" fn g7110_store_cells(size: u64) -> u64
     ensures { λ r. ⌜ r ≡ storeCells size ⌝ }
 {
-    let cells = notes::store_cells(size as usize);
+    let cells = store_notes::store_cells(size as usize);
     cells as u64
 }
 
@@ -293,15 +293,15 @@ pub extern "C" fn g7110_store_jump(
 ) -> u32
     ensures { λ r. ⌜ JumpReported number sample (now (block .entry)) (now (table .entry)) (now (report .exit)) r ⌝ }
 {
-    let a = jumping::jump(block, table, number, sample);
-    let t = jumping::told_of(a);
+    let a = store_jump::jumping::jump(block, table, number, sample);
+    let t = store_jump::jumping::told_of(a);
     *report = [
         t.frame as u64,
         t.place as u64,
         t.inside as u64,
         t.read as u64,
     ];
-    jumping::number_of(a)
+    store_jump::jumping::number_of(a)
 }
 
 // Reading a recording file: the number, and in the report law, items, octets after the heading, samples, the tool that TOOL gives, and the
@@ -316,7 +316,7 @@ pub extern "C" fn g7110_file_read(
 ) -> u32
     ensures { λ r. ⌜ FileReadReported (readFile (now (octets .entry)) set (length (now (out .entry))) (length (now (items .entry)))) (now (out .entry)) (now (out .exit)) (now (items .entry)) (now (items .exit)) (now (report .exit)) r ⌝ }
 {
-    let a = playing::read_file(octets, set, out, items);
+    let a = recording_read::read_file(octets, set, out, items);
     let end = a.end;
     let tool = recording::tool_of(end);
     *report = [
@@ -342,7 +342,7 @@ pub extern "C" fn g7110_file_write(
 ) -> u32
     ensures { λ r. ⌜ FileWriteReported (writeFile (now (samples .entry)) (now (items .entry)) law set (length (now (out .entry)))) (now (out .entry)) (now (out .exit)) (now (report .exit)) r ⌝ }
 {
-    let a = filing::write_file(samples, items, law, set, out);
+    let a = recording_write::write_file(samples, items, law, set, out);
     *report = [a.octets as u64];
     let end = a.end;
     recording::number_of(end)

@@ -1,9 +1,9 @@
 // The listing program (document 01, "Walk and listing"): it reads standard input and writes its listing, page by page. What the pages
-// hold stands in crate `pages`.
+// hold stands in crate `listing_pages`.
 ghost use Prim.Native.Nat.{_≤_};
 ghost use lib.ListN.{length};
-ghost use Rattle.pages.specs.Pages.{Stands};
-use pages::Stand;
+ghost use Rattle.listing_pages.specs.Pages.{Stands};
+use listing_pages::Stand;
 
 // The stream's lines, page by page.
 fn list_stream(stream: &[u8], law: u32, start: Stand, text: &mut [u8])
@@ -11,7 +11,7 @@ fn list_stream(stream: &[u8], law: u32, start: Stand, text: &mut [u8])
 {
     let mut s = start;
     while !s.ended {
-        let p = pages::next_page(stream, law, s, text);
+        let p = listing_pages::next_page(stream, law, s, text);
         let to = p.to;
         io::write_all(1, &text[..to]);
         let next = p.stand;
@@ -23,7 +23,7 @@ fn list_stream(stream: &[u8], law: u32, start: Stand, text: &mut [u8])
 fn list(input: &[u8], text: &mut [u8])
     requires { ⌜ 320 ≤ length (now text) ⌝ }
 {
-    let p = pages::open_listing(input, text);
+    let p = listing_pages::open_listing(input, text);
     let to = p.to;
     io::write_all(1, &text[..to]);
     let s = p.stand;

@@ -3,10 +3,10 @@
 // whole, so the program needs some 2.1 MiB of stack.
 ghost use Prim.Native.Nat.{_≤_};
 ghost use lib.ListN.{length};
-use console::Got;
 use rules::Ending;
 use rules::LONGEST;
-use texts::Number;
+use tool_console::Got;
+use tool_words::texts::Number;
 
 // What the arguments say: the law (2 where no option tells it), the total and whether it was told, the arguments of the two files (0 is none).
 // `wants` says that the next argument is the total, `wrong` that one is not known.
@@ -22,7 +22,7 @@ struct Asked {
 
 fn with_total(mut a: Asked, text: &[u8]) -> Asked {
     a.wants = false;
-    let n = texts::number_in(text);
+    let n = tool_words::texts::number_in(text);
     let Number::Is(v) = n else {
         a.wrong = true;
         return a;
@@ -123,16 +123,16 @@ fn arguments() -> Asked {
 // The law: as an option says, otherwise as INFILE's ending tells.
 fn law_of(law: u32, name: &[u8]) -> u32 {
     if law == 2 {
-        return filenames::law_told(false, name);
+        return tool_words::filenames::law_told(false, name);
     }
     law
 }
 
 fn usage(why: &[u8]) {
-    console::say(b"mend: ");
-    console::say(why);
-    console::say(b"\nusage: mend [-u|-a] -t TOTAL INFILE OUTFILE\n");
-    console::stop(options::UNPACK, 64, 0, 0, 0);
+    tool_console::say(b"mend: ");
+    tool_console::say(why);
+    tool_console::say(b"\nusage: mend [-u|-a] -t TOTAL INFILE OUTFILE\n");
+    tool_console::stop(tool_words::options::UNPACK, 64, 0, 0, 0);
 }
 
 // Whether the call can't be made, and why.
@@ -158,20 +158,20 @@ fn wrongly_asked(a: Asked, law: u32) -> bool {
 
 // A file that could not be opened, read or written.
 fn failed(name: &[u8], standard: &[u8]) {
-    console::say(b"mend: ");
+    tool_console::say(b"mend: ");
     if name.len() == 0 {
         os::fail(standard);
     } else {
         os::fail(name);
     }
-    console::stop(options::UNPACK, 74, 0, 0, 0);
+    tool_console::stop(tool_words::options::UNPACK, 74, 0, 0, 0);
 }
 
 // Reads the greeting, and one octet more where it is too long.
 fn read_greeting(name: &[u8], greeting: &mut [u8]) -> Got
     ensures { λ r. ⌜ r .count ≤ length (now (greeting .exit)) ⌝ }
 {
-    let fd = console::open_in(name);
+    let fd = tool_console::open_in(name);
     if fd < 0 {
         failed(name, b"standard input");
         return Got {
@@ -179,42 +179,42 @@ fn read_greeting(name: &[u8], greeting: &mut [u8]) -> Got
             failed: true,
         };
     }
-    let got = console::read_part(fd, greeting);
+    let got = tool_console::read_part(fd, greeting);
     if got.failed {
         failed(name, b"standard input");
     }
-    console::close(fd);
+    tool_console::close(fd);
     got
 }
 
 fn write_result(name: &[u8], result: &[u8]) -> bool {
-    let fd = console::open_out(name);
+    let fd = tool_console::open_out(name);
     if fd < 0 {
         return false;
     }
     if !io::write_all(fd, result) {
         return false;
     }
-    console::close(fd)
+    tool_console::close(fd)
 }
 
 // The name of a refusal of document 01.
 fn say_name(number: u32) {
     let mut name = [0u8; 8];
-    let n = refusals::refusal_name(number, &mut name);
-    console::say(&name[..n]);
+    let n = tool_words::refusals::refusal_name(number, &mut name);
+    tool_console::say(&name[..n]);
 }
 
 // A greeting that is not mended, and the last line.
 fn refused(number: u32) {
-    console::say(b"mend: refused: ");
+    tool_console::say(b"mend: refused: ");
     if number == 22 {
-        console::say(b"TOTAL");
+        tool_console::say(b"TOTAL");
     } else {
         say_name(number);
     }
-    console::say(b"\n");
-    console::stop(options::UNPACK, number, 0, 0, 0);
+    tool_console::say(b"\n");
+    tool_console::stop(tool_words::options::UNPACK, number, 0, 0, 0);
 }
 
 // Why the walk of what is kept stopped, in words; nothing where it went through the whole greeting.
@@ -222,26 +222,26 @@ fn say_stop(number: u32, place: usize, bit: usize) {
     if number == 0 {
         return;
     }
-    console::say(b"mend: the walk stopped: ");
+    tool_console::say(b"mend: the walk stopped: ");
     say_name(number);
-    console::say_number(b" at octet ", place);
-    console::say_number(b", bit ", bit);
-    console::say(b"\n");
+    tool_console::say_number(b" at octet ", place);
+    tool_console::say_number(b", bit ", bit);
+    tool_console::say(b"\n");
 }
 
 // What was kept and filled, how the walk stopped, and the last line, whose place is the end of the octets written.
 fn finish(octets: usize, frames: usize, kept: usize, filled: usize, stop: Ending, bit: usize) {
     let number = rules::number_of(stop);
     say_stop(number, kept, bit);
-    console::say_number(b"frames=", frames);
-    console::say_number(b" kept=", kept);
-    console::say_number(b" filled=", filled);
-    console::say_number(b"\nwalk=", number as usize);
-    console::say_number(b" at=", kept);
-    console::say_number(b" tool=", rules::tool_of(stop) as usize);
-    console::say_number(b" bit=", bit);
-    console::say(b"\n");
-    console::stop(options::UNPACK, 0, octets, 0, 0);
+    tool_console::say_number(b"frames=", frames);
+    tool_console::say_number(b" kept=", kept);
+    tool_console::say_number(b" filled=", filled);
+    tool_console::say_number(b"\nwalk=", number as usize);
+    tool_console::say_number(b" at=", kept);
+    tool_console::say_number(b" tool=", rules::tool_of(stop) as usize);
+    tool_console::say_number(b" bit=", bit);
+    tool_console::say(b"\n");
+    tool_console::stop(tool_words::options::UNPACK, 0, octets, 0, 0);
 }
 
 // A greeting is read, mended and written.
@@ -295,12 +295,12 @@ fn run(law: u32, total: u64, name: &[u8], other: &[u8]) {
 fn main() {
     let a = arguments();
     let mut space = [0u8; 4095];
-    let n = console::file_name(a.infile, &mut space);
+    let n = tool_console::file_name(a.infile, &mut space);
     let law = law_of(a.law, &space[..n]);
     if wrongly_asked(a, law) {
         return;
     }
     let mut names = [0u8; 4095];
-    let m = console::file_name(a.outfile, &mut names);
+    let m = tool_console::file_name(a.outfile, &mut names);
     run(law, a.total, &space[..n], &names[..m]);
 }

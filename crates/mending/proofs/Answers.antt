@@ -9,8 +9,8 @@ use lib.Seq.{length-take-le}
 use Rattle.rules.specs.declared.WalkAnswer.{WalkAnswer}
 use Rattle.rules.specs.Walk.{walkFrom}
 use Rattle.rules.specs.Calls.{atStart}
-use Rattle.lines.specs.Puts.{Puts}
-use Rattle.lines.proofs.Putting.{puts-then, puts-first}
+use Rattle.text_lines.specs.Puts.{Puts}
+use Rattle.text_lines.proofs.Putting.{puts-then, puts-first}
 use Rattle.walk.specs.Counting.{Counts}
 use Rattle.mending.specs.declared.MendRefusal.{MendRefusal}
 use Rattle.mending.specs.declared.MendEnding.the-variants.{Done}

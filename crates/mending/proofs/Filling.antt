@@ -7,8 +7,8 @@ use mathlib.Core.List.{List, _++_, append-nil}
 use lib.ListN.{length, replicate, length-append, length-replicate}
 use Rattle.rules.specs.First.{baseOf}
 use Rattle.rules.proofs.Lent.{Filling}
-use Rattle.lines.specs.Puts.{Puts}
-use Rattle.lines.proofs.Putting.{puts-word, puts-then, puts-as}
+use Rattle.text_lines.specs.Puts.{Puts}
+use Rattle.text_lines.proofs.Putting.{puts-word, puts-then, puts-as}
 use Rattle.mending.specs.Mend.{fillBy, filling}
 
 pub put-done : {out₀ out : List ℕ} {at count octet i : ℕ} → at + count ≤ length out₀ → Filling out₀ at count octet out i → count ≤ i

@@ -3,7 +3,7 @@
 ghost use Prim.Native.Nat.{_+_, _/_, _≤_};
 ghost use mathlib.Core.Path.{_≡_};
 ghost use lib.ListN.{length, replicate};
-ghost use Rattle.lines.specs.Puts.{Puts};
+ghost use Rattle.text_lines.specs.Puts.{Puts};
 ghost use Rattle.mending.specs.Mend.{isTotal, filling};
 ghost use Rattle.mending.specs.Calls.{mendRefusalNumber, mendNumberOf, Declines, MendGreeting};
 use rules::Ending;
@@ -135,7 +135,7 @@ pub fn mend(octets: &[u8], law: u32, total: u64, out: &mut [u8]) -> MendAnswer
     if out.len() < result {
         return declined(MendRefusal::Frame(Refusal::Room));
     }
-    let to = lines::put_word(&octets[..kept], out, 0);
+    let to = text_lines::put_word(&octets[..kept], out, 0);
     let n = fill(filled, out, to);
     let stop = w.end;
     MendAnswer {

@@ -12,15 +12,15 @@ use Rattle.rules.specs.Tools.{isLength}
 use Rattle.rules.specs.Walk.{longest}
 use Rattle.rules.proofs.Octets.{Below}
 use Rattle.rules.proofs.Tests.{by-length}
-use Rattle.options.specs.declared.Settings.{Settings}
-use Rattle.packing.specs.declared.PackAnswer.{PackAnswer}
-use Rattle.packing.specs.Packing.{Pack, PackFile}
-use Rattle.packing.specs.Parts.{PackOn}
-use Rattle.packing.proofs.Whole.{pack-inside, well-packed}
-use Rattle.packing.proofs.Parts.{begun, carried-on}
-use Rattle.packing.proofs.Onward.{Adds, on-adds, on-takes-room}
+use Rattle.tool_words.specs.declared.options.Settings.{Settings}
+use Rattle.tool_packing.specs.declared.packing.PackAnswer.{PackAnswer}
+use Rattle.tool_packing.specs.Packing.{Pack, PackFile}
+use Rattle.tool_packing.specs.Parts.{PackOn}
+use Rattle.tool_packing.proofs.Whole.{pack-inside, well-packed}
+use Rattle.tool_packing.proofs.Parts.{begun, carried-on}
+use Rattle.tool_packing.proofs.Onward.{Adds, on-adds, on-takes-room}
 use Rattle.pack.specs.declared.Run.{Run}
-use Rattle.cutting.specs.Parts.{partSize, goesOn}
+use Rattle.tool_packing.specs.SoundParts.{partSize, goesOn}
 use Rattle.pack.specs.Runs.{pageSize, OneSound, NextOctets, Stands, StopsRun, stepsLeft}
 
 never : {A : Type 0} → false ≡ true → A

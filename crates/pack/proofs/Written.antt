@@ -7,10 +7,10 @@ use lib.ListN.{length}
 use Rattle.rules.specs.Tools.{Within, isSet}
 use Rattle.rules.specs.Walk.{longest, walkAll}
 use Rattle.rules.proofs.Octets.{Below}
-use Rattle.options.specs.declared.Settings.{Settings}
-use Rattle.packing.proofs.Whole.{pack-bounds}
-use Rattle.packing.proofs.Parts.{file-is}
-use Rattle.packing.proofs.Identity.{GivesBack, pack-walk}
+use Rattle.tool_words.specs.declared.options.Settings.{Settings}
+use Rattle.tool_packing.proofs.Whole.{pack-bounds}
+use Rattle.tool_packing.proofs.Parts.{file-is}
+use Rattle.tool_packing.proofs.Identity.{GivesBack, pack-walk}
 use Rattle.pack.specs.declared.Run.{Run}
 use Rattle.pack.specs.Runs.{WholeSound}
 

@@ -7,12 +7,12 @@ use lib.ListN.{length}
 use Rattle.rules.specs.declared.Ending.the-variants.{Done}
 use Rattle.rules.specs.Tools.{isLength}
 use Rattle.rules.specs.Walk.{longest}
-use Rattle.options.specs.declared.Settings.{Settings}
-use Rattle.packing.specs.declared.PackAnswer.{PackAnswer}
-use Rattle.packing.specs.Packing.{PackFile}
-use Rattle.cutting.specs.Cuts.{FillsUp}
+use Rattle.tool_words.specs.declared.options.Settings.{Settings}
+use Rattle.tool_packing.specs.declared.packing.PackAnswer.{PackAnswer}
+use Rattle.tool_packing.specs.Packing.{PackFile}
+use Rattle.tool_packing.specs.Cuts.{FillsUp}
 use Rattle.pack.specs.declared.Run.{Run}
-use Rattle.cutting.specs.Parts.{partSize}
+use Rattle.tool_packing.specs.SoundParts.{partSize}
 
 -- a page takes what a part can make: at most 41 octets for 40 samples
 abbrev pub pageSize : ℕ

@@ -1,19 +1,19 @@
-// The bench tool `pack`: raw G.711 octets or a linear master in, a stream of frames or a recording out. What matters is in crates `cutting` and `packing`: here the sound is read in parts
+// The bench tool `pack`: raw G.711 octets or a linear master in, a stream of frames or a recording out. What matters is in crate `tool_packing`: here the sound is read in parts
 // of whole frames, what each makes is kept in a file without a name, and that is written when all is well. So a stream of 1,048,576 octets takes no more memory than a short one.
 ghost use Prim.Native.Nat.{_+_, _≤_, _<_};
 ghost use mathlib.Core.Path.{_≡_};
 ghost use mathlib.Core.Bool.{true};
 ghost use lib.ListN.{length};
-ghost use Rattle.cutting.specs.Parts.{partSize};
-ghost use Rattle.replaying.specs.Runs.{Reachable};
+ghost use Rattle.tool_packing.specs.SoundParts.{partSize};
+ghost use Rattle.tool_playback.specs.Runs.{Reachable};
 ghost use Rattle.pack.specs.Runs.{pageSize, FilledIf, NextOctets, WholeSound, Stands, StopsRun, stepsLeft};
-use options::PACK;
-use options::Settings;
-use packing::PackAnswer;
 use recording::marking::HEADING;
-use replaying::Body;
 use rules::Ending;
-use sounds::Way;
+use tool_packing::packing::PackAnswer;
+use tool_playback::replaying::Body;
+use tool_sound::sounds::Way;
+use tool_words::options::PACK;
+use tool_words::options::Settings;
 
 // The octets of a page, which takes what a part of 61,440 samples makes: at most 41 octets for 40 samples.
 const PAGE: usize = 62976;
@@ -44,7 +44,7 @@ fn filled_up(fill: bool, part: &mut [u8], count: usize, law: u32) -> usize
     ensures most { λ r. ⌜ count + r ≤ partSize ⌝ }
 {
     if fill {
-        return cutting::fill_up(part, count, law);
+        return tool_packing::cutting::fill_up(part, count, law);
     }
     0
 }
@@ -76,20 +76,27 @@ fn next_part(fd: i32, keep: i32, run: Run, s: Settings, part: &mut [u8], page: &
     ensures less { λ r. ⌜ stepsLeft r < stepsLeft run ⌝ }
 {
     let packed = run.packed;
-    let got = sounds::read_part(fd, s.form, s.law, run.left, part);
+    let got = tool_sound::sounds::read_part(fd, s.form, s.law, run.left, part);
     if got.failed {
         return stopped(packed, UNREAD);
     }
     let count = got.count;
     let filled = filled_up(s.flags.fill, part, count, s.law);
     let end = count + filled;
-    let p = packing::pack_on(packed, &part[..end], s.law, s.set, s.length as usize, page);
+    let p = tool_packing::packing::pack_on(
+        packed,
+        &part[..end],
+        s.law,
+        s.set,
+        s.length as usize,
+        page,
+    );
     let n = p.octets - packed.octets;
     if !keep_part(keep, s, packed, p, &page[..n]) {
         return stopped(packed, UNKEPT);
     }
     let e = p.end;
-    let more = cutting::may_go_on(e, count);
+    let more = tool_packing::cutting::may_go_on(e, count);
     Run {
         packed: p,
         filled,
@@ -115,25 +122,25 @@ fn all_parts(fd: i32, keep: i32, start: Run, s: Settings, part: &mut [u8], page:
 // Why the settings are refused.
 fn explain_settings(number: u32) {
     if number == 11 {
-        console::say_number(
+        tool_console::say_number(
             b"pack: the tool set is an odd number of at most ",
             rules::ALL_TOOLS as usize,
         );
-        console::say(b"\n");
+        tool_console::say(b"\n");
     }
     if number == 10 {
-        console::say(b"pack: the frame length is 40, 80, 160, 240 or 320\n");
+        tool_console::say(b"pack: the frame length is 40, 80, 160, 240 or 320\n");
     }
 }
 
 // Why the sound is refused.
 fn explain_sound(number: u32) {
     if number == 10 {
-        console::say(b"pack: no length fits the octets at the end; -f fills them up\n");
+        tool_console::say(b"pack: no length fits the octets at the end; -f fills them up\n");
     }
     if number == 13 {
-        console::say_number(b"pack: the stream would be longer than ", rules::LONGEST);
-        console::say(b" octets; the sound up to the place below fits\n");
+        tool_console::say_number(b"pack: the stream would be longer than ", rules::LONGEST);
+        tool_console::say(b" octets; the sound up to the place below fits\n");
     }
 }
 
@@ -152,7 +159,7 @@ fn copied(b: Body, fd: i32, page: &mut [u8]) -> u32
 {
     let mut at = 0;
     while at < b.size {
-        let got = replaying::window_at(b, at, page);
+        let got = tool_playback::replaying::window_at(b, at, page);
         let n = got.count;
         if got.failed {
             return UNKEPT;
@@ -175,15 +182,21 @@ fn say_erased(b: Body, law: u32)
     let way = Way {
         compares: false,
         fd: 0,
-        form: sounds::COUNTED,
+        form: tool_sound::sounds::COUNTED,
     };
-    let t = replaying::play_file(b, law, rules::ALL_TOOLS, way, replaying::TELLS_NOTHING);
+    let t = tool_playback::replaying::play_file(
+        b,
+        law,
+        rules::ALL_TOOLS,
+        way,
+        tool_playback::replaying::TELLS_NOTHING,
+    );
     if t.lost != 0 {
-        console::say_number(
+        tool_console::say_number(
             b"pack: frames that are all 0++ or all 0--, so that readers of recordings take them for lost: ",
             t.lost,
         );
-        console::say(b"\n");
+        tool_console::say(b"\n");
     }
 }
 
@@ -195,35 +208,35 @@ fn say_done(run: Run, s: Settings, b: Body)
     let f = s.flags;
     if f.records {
         say_erased(b, s.law);
-        console::summary(p.frames, p.samples, b.size + HEADING);
+        tool_console::summary(p.frames, p.samples, b.size + HEADING);
     } else {
-        console::summary(p.frames, p.samples, b.size);
+        tool_console::summary(p.frames, p.samples, b.size);
     }
     if f.fill {
-        console::say_number(b"filled=", run.filled);
-        console::say(b"\n");
+        tool_console::say_number(b"filled=", run.filled);
+        tool_console::say(b"\n");
     }
-    console::stop(PACK, 0, p.samples, 0, 0);
+    tool_console::stop(PACK, 0, p.samples, 0, 0);
 }
 
 // What failed, and the last line.
 fn failed(wrong: u32, in_name: &[u8], out_name: &[u8]) {
     if wrong == UNREAD {
-        console::failed(PACK, in_name, b"standard input");
+        tool_console::failed(PACK, in_name, b"standard input");
         return;
     }
     if wrong == UNKEPT {
-        console::failed(PACK, b"/tmp", b"/tmp");
+        tool_console::failed(PACK, b"/tmp", b"/tmp");
         return;
     }
-    console::failed(PACK, out_name, b"standard output");
+    tool_console::failed(PACK, out_name, b"standard output");
 }
 
 // The stream of a whole sound is written, in a recording after its heading.
 fn write_stream(run: Run, s: Settings, name: &[u8], b: Body, page: &mut [u8]) -> u32
     requires { ⌜ (WholeSound s run) × (b .size ≡ run .packed .octets) × Reachable b ⌝ }
 {
-    let fd = console::open_out(name);
+    let fd = tool_console::open_out(name);
     if fd < 0 {
         return UNWRITTEN;
     }
@@ -235,7 +248,7 @@ fn write_stream(run: Run, s: Settings, name: &[u8], b: Body, page: &mut [u8]) ->
     if wrong != WELL {
         return wrong;
     }
-    if !console::close(fd) {
+    if !tool_console::close(fd) {
         return UNWRITTEN;
     }
     WELL
@@ -259,15 +272,15 @@ fn finish(run: Run, s: Settings, in_name: &[u8], out_name: &[u8], keep: i32, pag
     }
     let p = run.packed;
     let e = p.end;
-    let number = cutting::number_for(e);
+    let number = tool_packing::cutting::number_for(e);
     if is_cut(run.left, number) {
-        console::say(b"pack: the master ends inside its sound\n");
-        console::stop(PACK, 74, 0, 0, 0);
+        tool_console::say(b"pack: the master ends inside its sound\n");
+        tool_console::stop(PACK, 74, 0, 0, 0);
         return;
     }
     if number != 0 {
         explain_sound(number);
-        console::refused(PACK, number, p.samples, 0, 0);
+        tool_console::refused(PACK, number, p.samples, 0, 0);
         return;
     }
     let b = Body {
@@ -287,25 +300,25 @@ fn finish(run: Run, s: Settings, in_name: &[u8], out_name: &[u8], keep: i32, pag
 fn pack_file(s: Settings, in_name: &[u8], out_name: &[u8], part: &mut [u8], page: &mut [u8])
     requires { ⌜ (length (now part) ≡ partSize) × (length (now page) ≡ pageSize) ⌝ }
 {
-    let packed = packing::pack(b"", s.law, s.set, s.length as usize, page);
+    let packed = tool_packing::packing::pack(b"", s.law, s.set, s.length as usize, page);
     let e = packed.end;
     let number = rules::number_of(e);
     if number != 0 {
         explain_settings(number);
-        console::refused(PACK, number, 0, 0, 0);
+        tool_console::refused(PACK, number, 0, 0, 0);
         return;
     }
-    let fd = console::open_in(in_name);
+    let fd = tool_console::open_in(in_name);
     if fd < 0 {
         failed(UNREAD, in_name, out_name);
         return;
     }
-    let o = sounds::open_sound(fd, s.form, part);
+    let o = tool_sound::sounds::open_sound(fd, s.form, part);
     if o.trouble != 0 {
-        console::stop(PACK, 74, 0, 0, 0);
+        tool_console::stop(PACK, 74, 0, 0, 0);
         return;
     }
-    let keep = console::nameless();
+    let keep = tool_console::nameless();
     if keep < 0 {
         failed(UNKEPT, in_name, out_name);
         return;
@@ -325,12 +338,12 @@ fn pack_file(s: Settings, in_name: &[u8], out_name: &[u8], part: &mut [u8], page
 fn pack_named(s: Settings, in_name: &[u8], name: &mut [u8]) {
     let f = s.flags;
     if f.records && s.outfile == 0 && in_name.len() != 0 {
-        console::usage(PACK, b"with -r OUTFILE must be said");
+        tool_console::usage(PACK, b"with -r OUTFILE must be said");
         return;
     }
-    let t = console::target_name(s, s.law, in_name, name);
+    let t = tool_console::target_name(s, s.law, in_name, name);
     if !t.fits {
-        console::usage(PACK, b"the name of INFILE is too long for another ending");
+        tool_console::usage(PACK, b"the name of INFILE is too long for another ending");
         return;
     }
     let n = t.len;
@@ -341,11 +354,11 @@ fn pack_named(s: Settings, in_name: &[u8], name: &mut [u8]) {
 
 // A law that no option tells is told by the ending of what is read.
 fn pack_with(mut s: Settings, space: &mut [u8], name: &mut [u8]) {
-    let n = console::file_name(s.infile, space);
+    let n = tool_console::file_name(s.infile, space);
     let in_name: &[u8] = &space[..n];
-    let law = options::law_of(s, in_name);
+    let law = tool_words::options::law_of(s, in_name);
     if law == 2 {
-        console::usage(PACK, b"the law is not known: say -u or -a");
+        tool_console::usage(PACK, b"the law is not known: say -u or -a");
         return;
     }
     s.law = law;
@@ -353,9 +366,9 @@ fn pack_with(mut s: Settings, space: &mut [u8], name: &mut [u8]) {
 }
 
 fn main() {
-    let s = console::settings(PACK);
+    let s = tool_console::settings(PACK);
     if s.wrong != 0 {
-        console::wrong_settings(s);
+        tool_console::wrong_settings(s);
         return;
     }
     let mut in_name = [0u8; 4095];

@@ -10,7 +10,7 @@ use borrow.Author.Tests.{eq-eqb, ne-eqb}
 use Rattle.rules.specs.declared.Refusal.the-variants.{Align}
 use Rattle.rules.specs.Bits.{bitsOf}
 use Rattle.rules.specs.Reading.{Read, whole, refuse, andThen, fail, bit, filled}
-use Rattle.bits.proofs.OneBit.{bit-there}
+use Rattle.read_bits.proofs.OneBit.{bit-there}
 
 module _ (s : List ℕ) (end at : ℕ) where
   pub filled-turn : at < end → at / 8 < length s → getD (bitsOf s) at 0 ≡ 0

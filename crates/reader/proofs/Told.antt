@@ -9,8 +9,8 @@ use Rattle.rules.specs.Samples.{maskOf}
 use Rattle.rules.specs.Reading.{Read, whole, refuse, andThen, filled}
 use Rattle.rules.specs.Frame.{Found, readOne}
 use Rattle.rules.specs.Calls.{readSamples}
-use Rattle.opening.specs.declared.Opening.{Opening}
-use Rattle.opening.specs.Opening.{afterOpening, Ranges, Starts}
+use Rattle.read_opening.specs.declared.Opening.{Opening}
+use Rattle.read_opening.specs.Opening.{afterOpening, Ranges, Starts}
 use Rattle.reader.specs.declared.Report.{Report}
 use Rattle.reader.specs.Answers.{Tells, Fills, ReadsInto, finish}
 use Rattle.reader.proofs.Filled.{filled-as}

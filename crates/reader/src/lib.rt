@@ -12,14 +12,14 @@ ghost use Rattle.rules.specs.Located.{located};
 ghost use Rattle.rules.specs.Fractional.{fractional};
 ghost use Rattle.rules.specs.Frame.{body, withTool, readOne};
 ghost use Rattle.rules.specs.Calls.{ReadFrame};
-ghost use Rattle.bodies.specs.Bodied.{FillsBody};
-ghost use Rattle.bits.specs.Outcomes.{asRead};
-ghost use Rattle.opening.specs.Opening.{HeadFits};
+ghost use Rattle.read_bodies.specs.Bodied.{FillsBody};
+ghost use Rattle.read_bits.specs.Outcomes.{asRead};
+ghost use Rattle.read_opening.specs.Opening.{HeadFits};
 ghost use Rattle.reader.specs.Answers.{Tells, Fills, ReadsInto, finish};
-use bits::Outcome;
-use opening::Head;
-use opening::Opening;
-use opening::opens;
+use read_bits::Outcome;
+use read_opening::Head;
+use read_opening::Opening;
+use read_opening::opens;
 use rules::Ending;
 use rules::Frame;
 use rules::ReadAnswer;
@@ -41,9 +41,9 @@ fn few_values(octets: &[u8], mask: u8, h: Head, samples: &mut [u8; 320]) -> Outc
     ensures { λ r. ⌜ FillsBody (cond (eqb (h .tool) 11) (fractional mask (h .mark) (h .len)) (located mask (h .len)) (bitsOf (now (octets .entry))) (h .at)) (2 ^ 41) (now (samples .entry)) (now (samples .exit)) r ⌝ }
 {
     if h.tool == 11 {
-        return fractional::body(octets, h.at, h.len, h.mark, mask, samples);
+        return read_fractional::body(octets, h.at, h.len, h.mark, mask, samples);
     }
-    located::located(octets, h.at, h.len, mask, samples)
+    read_located::located(octets, h.at, h.len, mask, samples)
 }
 
 // The body of a tool that the set holds, into the lent samples.
@@ -55,12 +55,12 @@ fn body_of(octets: &[u8], mask: u8, h: Head, samples: &mut [u8; 320]) -> Outcome
     let n = h.len;
     let at = h.at;
     match tool {
-        1 => bodies::uncompressed(octets, at, n, samples),
-        2 => bodies::filled(at, n, law::plus_zero(mask), samples),
-        3 => bodies::filled(at, n, law::minus_zero(mask), samples),
-        4 => bodies::constant(octets, at, n, samples),
-        5 => bodies::binary(octets, at, n, mask, samples),
-        6 => bodies::plus_minus(octets, at, n, h.mark as u8, mask, samples),
+        1 => read_bodies::uncompressed(octets, at, n, samples),
+        2 => read_bodies::filled(at, n, law::plus_zero(mask), samples),
+        3 => read_bodies::filled(at, n, law::minus_zero(mask), samples),
+        4 => read_bodies::constant(octets, at, n, samples),
+        5 => read_bodies::binary(octets, at, n, mask, samples),
+        6 => read_bodies::plus_minus(octets, at, n, h.mark as u8, mask, samples),
         _ => few_values(octets, mask, h, samples),
     }
 }
@@ -72,7 +72,7 @@ fn filling(octets: &[u8], end: usize) -> Outcome
 {
     let mut at = end;
     while at % 8 != 0 {
-        if bits::bit_at(octets, at) == 1 {
+        if read_bits::bit_at(octets, at) == 1 {
             return Outcome::Refused(Refusal::Align, at);
         }
         at += 1;
@@ -140,7 +140,7 @@ fn with_tool(
     ensures { λ r. ⌜ Fills (withTool (maskOf law) set room (h .tool) (h .len) (h .mark) (bitsOf (now (octets .entry))) (h .at)) r (now (samples .exit)) ⌝ }
 {
     let tool = h.tool;
-    if !prefix::holds(set, tool) {
+    if !first_octet::holds(set, tool) {
         return refused(Refusal::Tool(tool), 0);
     }
     if room < h.len {

@@ -13,7 +13,7 @@ use Rattle.rules.specs.declared.Ending.the-variants as ending
 use Rattle.rules.specs.Refusals.{verdict}
 use Rattle.rules.specs.Tools.{isLength, writerAsks}
 use Rattle.rules.specs.Samples.{maskOf}
-use Rattle.look.specs.Looks.{FrameIn}
+use Rattle.write_scan.specs.Looks.{FrameIn}
 use Rattle.rules.proofs.Tests.{by-length}
 use Rattle.rules.proofs.Guards.{verdict-refused, verdict-done}
 use Rattle.reasons.specs.declared.Reasons.{Reasons}

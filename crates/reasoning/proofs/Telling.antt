@@ -11,9 +11,9 @@ use borrow.Author.Tests.{eq-eqb, ne-eqb, eqb-true}
 use Rattle.rules.specs.Tools.{holds}
 use Rattle.rules.specs.Bits.{octetsFor}
 use Rattle.rules.specs.Chooses.{applies, rowOf, zeroLeads, formOf}
-use Rattle.offers.specs.declared.Offer.{Offer}
-use Rattle.offers.specs.Offers as offers
-use Rattle.offers.specs.Offers.{OfferIs}
+use Rattle.write_offers.specs.declared.Offer.{Offer}
+use Rattle.write_offers.specs.Offers as offers
+use Rattle.write_offers.specs.Offers.{OfferIs}
 use Rattle.reasons.specs.declared.State.the-variants.{Out, No, Fits}
 use Rattle.reasons.specs.Why.{locatedConditions, conditions, firstFailing, failing, stateOf}
 use Rattle.reasons.proofs.Promises.{failing-applies, fits-when, out-when}

@@ -10,7 +10,7 @@ use borrow.Author.Tests.{le-leb, lt-leb, eq-eqb, ne-eqb}
 use Rattle.rules.specs.Tools.{holds}
 use Rattle.rules.specs.Bits.{octetsFor}
 use Rattle.rules.specs.Chooses.{applies, octetsOfForm, choose, chosenTool, Written, chosen}
-use Rattle.offers.proofs.Choosing.{uncompressed-chosen}
+use Rattle.write_offers.proofs.Choosing.{uncompressed-chosen}
 use Rattle.reasons.specs.declared.State.{State}
 use Rattle.reasons.specs.declared.State.the-variants.{Out, No, Fits}
 use Rattle.reasons.specs.declared.States.{States}

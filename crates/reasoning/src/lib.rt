@@ -1,10 +1,8 @@
 // Why the writer takes the tool that it takes (document 02, R-10): each tool's state, and from the states alone the winner and by what it won.
 // Each tool is measured once, whatever the set holds of it and whoever wins.
 
+use first_octet::holds;
 use law::mask_of;
-use measure::octets_for;
-use offers::offer_of;
-use prefix::holds;
 use reasons::Reasons;
 use reasons::State;
 use reasons::States;
@@ -12,12 +10,14 @@ use reasons::Why;
 use rules::Ending;
 use rules::Frame;
 use rules::Refusal;
+use write_measure::octets_for;
+use write_offers::offer_of;
 ghost use mathlib.Core.Path.{_≡_};
 ghost use mathlib.Core.Bool.{true, _||_};
 ghost use Prim.Native.Nat.{_≤_};
 ghost use Rattle.rules.specs.Tools.{isTool};
 ghost use lib.ListN.{length, take};
-ghost use Rattle.look.specs.Looks.{isMask, FrameIn};
+ghost use Rattle.write_scan.specs.Looks.{isMask, FrameIn};
 ghost use Rattle.reasons.specs.Why.{stateOf, statesOf, reasonsOf, whyOne};
 ghost use Rattle.reasoning.specs.Best.{bestBy, bestIn, alsoBy, tieIn, emptyState, emptyReasons, whyAllowed};
 

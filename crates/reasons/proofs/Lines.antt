@@ -6,8 +6,8 @@ use mathlib.Core.Bool.{Bool}
 use native.Mathlib.Omega.{arith}
 use lib.ListN.{length, drop, take-append-drop}
 use Rattle.rules.specs.Listing.{field, lineEnd, octetsWord}
-use Rattle.lines.specs.Puts.{Puts}
-use Rattle.lines.proofs.Putting.{puts-then}
+use Rattle.text_lines.specs.Puts.{Puts}
+use Rattle.text_lines.proofs.Putting.{puts-then}
 use Rattle.reasons.specs.declared.Reasons.{Reasons}
 use Rattle.reasons.specs.Lines.{toolKey, stateKey, whyKey, winnerKey, byKey, fieldsLine}
 use Rattle.reasons.specs.Lines.{byWord, winnerLine, firstLines, laterLines, linesOf}

@@ -6,8 +6,8 @@ use mathlib.Core.List.{List, [], _++_, append-assoc}
 use mathlib.Core.Bool.{Bool, true, false, cond}
 use lib.ListN.{length, drop}
 use Rattle.rules.specs.Listing.{field, lineEnd, octetsWord}
-use Rattle.keyvalue.specs.Reading.{Reader, _>>=_, give, begins, after, number}
-use Rattle.keyvalue.proofs.Exact.{Back, back-give, back-bind, back-after, back-number, passed, got-value}
+use Rattle.text_keyvalue.specs.Reading.{Reader, _>>=_, give, begins, after, number}
+use Rattle.text_keyvalue.proofs.Exact.{Back, back-give, back-bind, back-after, back-number, passed, got-value}
 use Rattle.reasons.specs.declared.State.{State}
 use Rattle.reasons.specs.declared.State.the-variants.{Out, No, Fits}
 use Rattle.reasons.specs.declared.Reasons.{Reasons}

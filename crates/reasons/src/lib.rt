@@ -2,7 +2,7 @@
 ghost use Prim.Native.Nat.{_+_, _≤_};
 ghost use lib.ListN.{length};
 ghost use Rattle.rules.specs.Listing.{field};
-ghost use Rattle.lines.specs.Puts.{Puts};
+ghost use Rattle.text_lines.specs.Puts.{Puts};
 ghost use Rattle.reasons.specs.Lines.{fieldsLine, toolLine, byWord, winnerLine, firstLines, laterLines, linesOf};
 ghost use Rattle.reasons.specs.Calls.{Prints};
 use rules::Refusal;
@@ -45,7 +45,7 @@ fn put_short(word: &[u8], n: u32, out: &mut [u8], at: usize) -> usize
     ensures { λ r. ⌜ Puts (now (out .entry)) at (field (now (word .entry)) n) (now (out .exit)) r ⌝ }
     ensures most { λ r. ⌜ r ≤ at + length (now (word .entry)) + 10 ⌝ }
 {
-    lines::put_field(word, n as usize, out, at)
+    text_lines::put_field(word, n as usize, out, at)
 }
 
 // The fields of a tool's line: its state's word, the condition that fails, its octets.
@@ -55,11 +55,11 @@ fn put_fields(tool: u32, word: &[u8], why: u32, octets: u32, out: &mut [u8], at:
     ensures most { λ r. ⌜ r ≤ at + 60 ⌝ }
 {
     let a = put_short(b"tool=", tool, out, at);
-    let b = lines::put_word(b" state=", out, a);
-    let c = lines::put_word(word, out, b);
+    let b = text_lines::put_word(b" state=", out, a);
+    let c = text_lines::put_word(word, out, b);
     let d = put_short(b" why=", why, out, c);
     let e = put_short(b" octets=", octets, out, d);
-    lines::put_word(b"\n", out, e)
+    text_lines::put_word(b"\n", out, e)
 }
 
 // "state out, no or fits; why 0 except for no, octets 0 except for fits".
@@ -82,9 +82,9 @@ fn put_by(tie: bool, out: &mut [u8], at: usize) -> usize
     ensures most { λ r. ⌜ r ≤ at + 6 ⌝ }
 {
     if tie {
-        return lines::put_word(b"tie", out, at);
+        return text_lines::put_word(b"tie", out, at);
     }
-    lines::put_word(b"octets", out, at)
+    text_lines::put_word(b"octets", out, at)
 }
 
 // "and last `winner=6 by=octets`".
@@ -94,9 +94,9 @@ fn put_winner(winner: u32, tie: bool, out: &mut [u8], at: usize) -> usize
     ensures most { λ r. ⌜ r ≤ at + 28 ⌝ }
 {
     let a = put_short(b"winner=", winner, out, at);
-    let b = lines::put_word(b" by=", out, a);
+    let b = text_lines::put_word(b" by=", out, a);
     let c = put_by(tie, out, b);
-    lines::put_word(b"\n", out, c)
+    text_lines::put_word(b"\n", out, c)
 }
 
 // The lines of tools 1 to 4.

@@ -11,7 +11,7 @@ use lib.Seq.{drop-append-seam}
 use lib.Dec.{lit<}
 use lib.IntN.{pos}
 use borrow.Author.Tests.{ne-eqb, lt-leb, le-leb, leb-true}
-use Rattle.keyvalue.specs.Reading.{begins}
+use Rattle.text_keyvalue.specs.Reading.{begins}
 use Rattle.rules.specs.Tools.{Within, isSet, isWriterSet, isLaw, isLength}
 use Rattle.rules.specs.Bits.{octetsFor, pack}
 use Rattle.rules.specs.Samples.{maskOf}

@@ -17,7 +17,7 @@ use Rattle.rules.specs.Frame.{Found, octetsUsed, readOne}
 use Rattle.rules.specs.Tools.{isSet}
 use Rattle.rules.specs.Walk.{longest}
 use Rattle.promises.proofs.Further.{looks-no-further}
-use Rattle.keyvalue.specs.Reading.{begins}
+use Rattle.text_keyvalue.specs.Reading.{begins}
 use Rattle.recording.specs.declared.Refusal.the-variants.{Head, Frame}
 use Rattle.recording.specs.declared.Ending.the-variants.{Done, Refused}
 use Rattle.recording.specs.Remembered.{Headed, heading, noHeading, headed, headingOf, headingLength, lostOctet}

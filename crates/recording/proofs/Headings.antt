@@ -11,7 +11,7 @@ use borrow.Author.Tests.{eq-eqb, eqb-true}
 use Rattle.rules.specs.Tools.{isSet}
 use Rattle.rules.specs.declared.Refusal.the-variants as rules
 use Rattle.rules.proofs.Tests.{and-left, and-right}
-use Rattle.keyvalue.specs.Reading.{begins}
+use Rattle.text_keyvalue.specs.Reading.{begins}
 use Rattle.recording.specs.declared.Refusal.the-variants.{Head, Frame}
 use Rattle.recording.specs.Remembered.{heading, noHeading, headingOf, headingLength, headed}
 use Rattle.recording.specs.Items.{nothing, readFile}

@@ -1,6 +1,6 @@
 -- RFC 7655's storage file, as it is remembered: the RFC was not at hand. A person who has it checks this file against it, and changes
 -- what differs here. No other definition repeats an octet of the heading or a mark. Code does, proved equal to these: src/marking.rt, and
--- `kind_of` of crates/replaying. docs/DECISIONS.md names what else has them (before 1.1).
+-- `kind_of` of crates/tool_playback. docs/DECISIONS.md names what else has them (before 1.1).
 --   headingOf, headed: "heading with version and law".      lostOctet, erased: "the RFC's mark for a lost frame".
 use Prim.Native.Nat.{ℕ}
 use mathlib.Core.List.{List, [], _∷_}
@@ -10,7 +10,7 @@ use lib.IntN.{pos, negsuc}
 use lib.Dec.{eqb}
 use Rattle.rules.specs.Samples.{sampleOf}
 use Rattle.rules.specs.Chooses.{every}
-use Rattle.keyvalue.specs.Reading.{begins}
+use Rattle.text_keyvalue.specs.Reading.{begins}
 
 -- "#!G7110A" or "#!G7110M" and octet 0A, then the version, 00
 abbrev pub headingOf : ℕ → List ℕ

@@ -5,9 +5,9 @@ use mathlib.Core.List.{List, _++_}
 use native.Mathlib.Omega.{arith}
 use lib.ListN.{length, drop, take-append-drop}
 use Rattle.rules.specs.Listing.{lawWord}
-use Rattle.lines.specs.Puts.{Puts}
-use Rattle.lines.proofs.Putting.{puts-then}
-use Rattle.keyvalue.specs.Lines.{lineOf}
+use Rattle.text_lines.specs.Puts.{Puts}
+use Rattle.text_lines.proofs.Putting.{puts-then}
+use Rattle.text_keyvalue.specs.Lines.{lineOf}
 use Rattle.settings.specs.declared.Settings.{Settings}
 use Rattle.settings.specs.declared.Given.{Given}
 use Rattle.settings.specs.declared.Given.the-variants.{Is, Bad}

@@ -10,15 +10,16 @@ use Rattle.rules.specs.Tools.{mostLaw, allTools}
 use Rattle.rules.specs.Listing.{lawWord}
 use Rattle.settings.specs.declared.Settings.{Settings}
 use Rattle.settings.specs.declared.Given.the-variants.{Is, Bad}
-use Rattle.keyvalue.specs.declared.Told.{Told}
-use Rattle.keyvalue.specs.declared.Told.the-variants.{Got, Not}
-use Rattle.keyvalue.specs.Reading.{Read, whole, none, asRead}
-use Rattle.keyvalue.specs.Lines.{ranged}
+use Rattle.text_keyvalue.specs.declared.Told.{Told}
+use Rattle.text_keyvalue.specs.declared.Told.the-variants.{Got, Not}
+use Rattle.text_keyvalue.specs.Reading.{Read, whole, none, asRead}
+use Rattle.text_keyvalue.specs.Lines.{ranged}
 use Rattle.settings.specs.Lines.{setWord, blockWord, greetingWord, mostBlock, mostGreeting}
 use Rattle.settings.specs.Lines.{fourLines, settings, settingsText, given, settingsIn}
-use Rattle.keyvalue.proofs.Numbers.{told}
-use Rattle.keyvalue.proofs.Exact.{Back, back-bind, back-last, back-alone, back-ranged, Stands, chain, stands-alone, got-value, got-place}
-use Rattle.keyvalue.proofs.Exact.{ranged-only, through, passed}
+use Rattle.text_keyvalue.proofs.Numbers.{told}
+use Rattle.text_keyvalue.proofs.Exact.{Back, back-bind, back-last, back-alone, back-ranged, Stands, chain, stands-alone, got-value}
+use Rattle.text_keyvalue.proofs.Exact.{got-place}
+use Rattle.text_keyvalue.proofs.Exact.{ranged-only, through, passed}
 
 -- what each call of keyvalue told is taken apart once: the line is there, or the text is bad
 module _ (text : List ℕ) where

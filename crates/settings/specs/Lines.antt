@@ -4,8 +4,8 @@ use Prim.Native.Nat.{ℕ}
 use mathlib.Core.List.{List, [], _∷_, _++_}
 use Rattle.rules.specs.Tools.{mostLaw, allTools}
 use Rattle.rules.specs.Listing.{lawWord}
-use Rattle.keyvalue.specs.Reading.{Read, whole, none, Reader, _>>=_, give, ended}
-use Rattle.keyvalue.specs.Lines.{lineOf, ranged}
+use Rattle.text_keyvalue.specs.Reading.{Read, whole, none, Reader, _>>=_, give, ended}
+use Rattle.text_keyvalue.specs.Lines.{lineOf, ranged}
 use Rattle.settings.specs.declared.Settings.{Settings}
 use Rattle.settings.specs.declared.Given.{Given}
 use Rattle.settings.specs.declared.Given.the-variants.{Is, Bad}

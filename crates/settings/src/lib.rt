@@ -4,15 +4,15 @@ ghost use mathlib.Core.Path.{_≡_};
 ghost use mathlib.Core.List.{[], _∷_, _++_};
 ghost use Prim.Native.Nat.{_+_, _*_, _-_, _≤_, _<_};
 ghost use lib.ListN.{length, take, drop, replicate};
-ghost use Rattle.lines.specs.Puts.{Puts};
+ghost use Rattle.text_lines.specs.Puts.{Puts};
 ghost use Rattle.settings.specs.Lines.{settingsIn, settingsText};
 ghost use Rattle.settings.specs.Revisions.{added, addTo, lookUp, mostNumber};
 ghost use Rattle.settings.specs.State.{valuesAt, rowAt, boxOf, cellsOf, laid};
 ghost use Rattle.settings.specs.Gathers.{KeepsRow, Gathers};
 ghost use Rattle.settings.specs.Calls.{refusalNumber, numberOf, toldOf, Adds, Save, Back, Read, Wipe};
-use keyvalue::Told;
 use rules::ALL_TOOLS;
 use rules::MOST_LAW;
+use text_keyvalue::Told;
 
 // The greatest block and greeting; law and set are those of the calls.
 pub const MOST_BLOCK: u32 = 1048576;
@@ -91,13 +91,19 @@ pub fn told_of(a: Answer) -> u32
 pub fn settings_in(text: &[u8]) -> Given
     ensures { λ r. ⌜ r ≡ settingsIn (now (text .entry)) ⌝ }
 {
-    match keyvalue::ranged_line(text, 0, b"law=", 0, MOST_LAW) {
+    match text_keyvalue::ranged_line(text, 0, b"law=", 0, MOST_LAW) {
         Told::Not => Given::Bad,
-        Told::Got(law, a) => match keyvalue::ranged_line(text, a, b"set=", 0, ALL_TOOLS) {
+        Told::Got(law, a) => match text_keyvalue::ranged_line(text, a, b"set=", 0, ALL_TOOLS) {
             Told::Not => Given::Bad,
-            Told::Got(set, b) => match keyvalue::ranged_line(text, b, b"block=", 1, MOST_BLOCK) {
+            Told::Got(set, b) => match text_keyvalue::ranged_line(
+                text,
+                b,
+                b"block=",
+                1,
+                MOST_BLOCK,
+            ) {
                 Told::Not => Given::Bad,
-                Told::Got(block, c) => match keyvalue::ranged_line(
+                Told::Got(block, c) => match text_keyvalue::ranged_line(
                     text,
                     c,
                     b"greeting=",
@@ -128,10 +134,10 @@ fn put_settings(s: Settings, out: &mut [u8]) -> usize
     ensures { λ r. ⌜ Puts (now (out .entry)) 0 (settingsText s) (now (out .exit)) r ⌝ }
     ensures most { λ r. ⌜ r ≤ 67 ⌝ }
 {
-    let a = keyvalue::put_line(b"law=", s.law, out, 0);
-    let b = keyvalue::put_line(b"set=", s.set, out, a);
-    let c = keyvalue::put_line(b"block=", s.block, out, b);
-    keyvalue::put_line(b"greeting=", s.greeting, out, c)
+    let a = text_keyvalue::put_line(b"law=", s.law, out, 0);
+    let b = text_keyvalue::put_line(b"set=", s.set, out, a);
+    let c = text_keyvalue::put_line(b"block=", s.block, out, b);
+    text_keyvalue::put_line(b"greeting=", s.greeting, out, c)
 }
 
 fn values_at(state: &[u32], i: usize) -> Settings

@@ -9,15 +9,15 @@ use native.Mathlib.Omega.{arith}
 use lib.ListN.{length, getD}
 use lib.Dec.{leb}
 use borrow.Author.Tests.{lt-ltb, le-ltb, le-leb, lt-leb}
-use Rattle.rows.specs.declared.Row.{Row}
-use Rattle.rows.specs.Limits.{sizeOf}
-use Rattle.rows.specs.Rows.{held}
-use Rattle.rows.specs.Cells.{rowAt, rowsOf, laid}
-use Rattle.notes.specs.Notes.{removeNote}
-use Rattle.notes.specs.Cells.{notesOf, notesLaid}
-use Rattle.notes.specs.Sane.{saneStore}
-use Rattle.rows.specs.Changed.{nth, removeAt}
-use Rattle.greetings.specs.Bad.{isBad}
+use Rattle.store_rows.specs.declared.rows.Row.{Row}
+use Rattle.store_rows.specs.Limits.{sizeOf}
+use Rattle.store_rows.specs.Rows.{held}
+use Rattle.store_rows.specs.Cells.{rowAt, rowsOf, laid}
+use Rattle.store_notes.specs.Notes.{removeNote}
+use Rattle.store_notes.specs.Cells.{notesOf, notesLaid}
+use Rattle.store_notes.specs.Sane.{saneStore}
+use Rattle.store_rows.specs.Changed.{nth, removeAt}
+use Rattle.store_greeting.specs.Bad.{isBad}
 use Rattle.store.specs.declared.Refusal.{Refusal}
 use Rattle.store.specs.declared.Refusal.the-variants.{Law, Taken, Absent, Bad, Full, NoRoom, Table}
 use Rattle.store.specs.declared.Look.the-variants.{Stop}
@@ -26,10 +26,10 @@ use Rattle.store.specs.declared.Answer.the-variants.{Done, Refused}
 use Rattle.store.specs.Store.{Outcome, leaves, refused, fitted, putIn, gotten, getIn, without, deleteIn}
 use Rattle.store.specs.Calls.{onTable, putOf, getOf, deleteOf, Says, Put, Get, Delete}
 use Rattle.store.specs.Looking.{lookOf, Looked, longOf}
-use Rattle.rows.proofs.Cells.{nth-rows}
+use Rattle.store_rows.proofs.Cells.{nth-rows}
 use Rattle.store.proofs.Looks.{look-stops, many, taken, free, on-table, off-table}
 use Rattle.store.proofs.Fitted.{rows-less}
-use Rattle.notes.proofs.Stored.{stored-less}
+use Rattle.store_notes.proofs.Stored.{stored-less}
 
 pub says-refused : {o : Outcome} {w : Refusal} (b t : List ℕ) → o ≡ refused w → Says o b t b t (Refused w)
 says-refused b t e = rw e (record { answer = refl; block = refl; table = refl })

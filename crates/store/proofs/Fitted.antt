@@ -5,26 +5,26 @@ use mathlib.Core.Path.{_≡_, refl, sym, ap, _∙_}
 use mathlib.Core.List.{List, _∷_}
 use native.Mathlib.Omega.{arith}
 use lib.ListN.{length, take, drop, getD, length-append, length-drop, length-take}
-use Rattle.rows.specs.declared.Row.{Row}
-use Rattle.rows.specs.declared.Gap.the-variants.{At, Nowhere}
-use Rattle.rows.specs.Limits.{largestBlock}
-use Rattle.rows.specs.Rows.{rowOf, held}
-use Rattle.rows.specs.Finding.{lowestGap}
-use Rattle.rows.specs.Cells.{rowsOf, laid}
-use Rattle.rows.specs.Changed.{insertAt, removeAt, written}
-use Rattle.closing.specs.Closing.{closedRows, closedBlock, Closes}
-use Rattle.marks.specs.Marks.{noteOf, mostMarks}
-use Rattle.notes.specs.Notes.{insertNote}
-use Rattle.notes.specs.Cells.{headsOf, notesOf, marksHeld, notesLaid, stored}
-use Rattle.notes.specs.Sane.{Noted}
+use Rattle.store_rows.specs.declared.rows.Row.{Row}
+use Rattle.store_rows.specs.declared.rows.Gap.the-variants.{At, Nowhere}
+use Rattle.store_rows.specs.Limits.{largestBlock}
+use Rattle.store_rows.specs.Rows.{rowOf, held}
+use Rattle.store_rows.specs.Finding.{lowestGap}
+use Rattle.store_rows.specs.Cells.{rowsOf, laid}
+use Rattle.store_rows.specs.Changed.{insertAt, removeAt, written}
+use Rattle.store_rows.specs.Closing.{closedRows, closedBlock, Closes}
+use Rattle.store_greeting.specs.Marks.{noteOf, mostMarks}
+use Rattle.store_notes.specs.Notes.{insertNote}
+use Rattle.store_notes.specs.Cells.{headsOf, notesOf, marksHeld, notesLaid, stored}
+use Rattle.store_notes.specs.Sane.{Noted}
 use Rattle.store.specs.declared.Answer.the-variants.{Done}
 use Rattle.store.specs.Store.{leaves, fitted}
 use Rattle.store.specs.Calls.{Says}
-use Rattle.rows.proofs.Cells.{length-rows, count-laid, rows-laid, laid-again}
-use Rattle.rows.proofs.Finding.{gap-fits}
-use Rattle.closing.proofs.Closed.{length-closed}
-use Rattle.notes.proofs.Stored.{heads-kept, count-kept, stored-more}
-use Rattle.notes.proofs.Matched.{room-more}
+use Rattle.store_rows.proofs.Cells.{length-rows, count-laid, rows-laid, laid-again}
+use Rattle.store_rows.proofs.Finding.{gap-fits}
+use Rattle.store_rows.proofs.Closed.{length-closed}
+use Rattle.store_notes.proofs.Stored.{heads-kept, count-kept, stored-more}
+use Rattle.store_notes.proofs.Matched.{room-more}
 
 pub length-inserted : (n : ℕ) (r : Row) (rows : List Row) → n ≤ length rows → length (insertAt n r rows) ≡ length rows + 1
 length-inserted n r rows h = omega (arith, length-append (take n rows) (r ∷ drop n rows), length-take n rows, length-drop n rows)

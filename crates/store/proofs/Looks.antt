@@ -8,19 +8,19 @@ use native.Mathlib.Omega.{arith}
 use lib.ListN.{length, getD}
 use lib.Dec.{leb}
 use borrow.Author.Tests.{le-leb, lt-leb, leb-true}
-use Rattle.rows.specs.Limits.{isNumber}
-use Rattle.rows.specs.Finding.{absent, findFrom}
-use Rattle.rows.specs.Cells.{rowsAt, rowsOf}
-use Rattle.notes.specs.Sane.{saneStore}
+use Rattle.store_rows.specs.Limits.{isNumber}
+use Rattle.store_rows.specs.Finding.{absent, findFrom}
+use Rattle.store_rows.specs.Cells.{rowsAt, rowsOf}
+use Rattle.store_notes.specs.Sane.{saneStore}
 use Rattle.store.specs.declared.Refusal.{Refusal}
 use Rattle.store.specs.declared.Refusal.the-variants.{Table, Number}
 use Rattle.store.specs.declared.Look.the-variants.{Stop, Found}
 use Rattle.store.specs.Store.{Outcome, refused}
 use Rattle.store.specs.Calls.{onTable}
 use Rattle.store.specs.Looking.{lookOf, Looked}
-use Rattle.rows.proofs.Cells.{length-rows}
-use Rattle.rows.proofs.Finding.{found-here, found-nowhere}
-use Rattle.notes.proofs.Matched.{sane-noted}
+use Rattle.store_rows.proofs.Cells.{length-rows}
+use Rattle.store_rows.proofs.Finding.{found-here, found-nowhere}
+use Rattle.store_notes.proofs.Matched.{sane-noted}
 
 second : (a b : Bool) → a && b ≡ true → b ≡ true
 second true b e = e

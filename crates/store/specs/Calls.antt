@@ -3,10 +3,10 @@ use Prim.Native.Nat.{ℕ}
 use mathlib.Core.Path.{_≡_}
 use mathlib.Core.List.{List}
 use mathlib.Core.Bool.{cond, not}
-use Rattle.rows.specs.Limits.{sizeOf}
-use Rattle.rows.specs.Cells.{rowsOf}
-use Rattle.notes.specs.Cells.{notesOf, stored}
-use Rattle.notes.specs.Sane.{saneStore}
+use Rattle.store_rows.specs.Limits.{sizeOf}
+use Rattle.store_rows.specs.Cells.{rowsOf}
+use Rattle.store_notes.specs.Cells.{notesOf, stored}
+use Rattle.store_notes.specs.Sane.{saneStore}
 use Rattle.store.specs.declared.Refusal.{Refusal}
 use Rattle.store.specs.declared.Refusal.the-variants.{Room, Law, Number, Taken, Absent, Bad, Full, NoRoom, Table}
 use Rattle.store.specs.declared.Answer.{Answer}

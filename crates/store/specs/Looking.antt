@@ -6,14 +6,14 @@ use mathlib.Core.List.{List}
 use mathlib.Core.Bool.{true, cond, not}
 use lib.ListN.{length, getD}
 use lib.Dec.{leb}
-use Rattle.rows.specs.Limits.{isNumber, mostGreetings}
-use Rattle.rows.specs.Finding.{findFrom}
-use Rattle.rows.specs.Rows.{rowOf}
-use Rattle.rows.specs.Cells.{rowsOf, laid}
-use Rattle.rows.specs.Changed.{insertAt, written}
-use Rattle.greetings.specs.Bad.{isBad}
-use Rattle.notes.specs.Cells.{notesOf}
-use Rattle.notes.specs.Sane.{saneStore, Noted}
+use Rattle.store_rows.specs.Limits.{isNumber, mostGreetings}
+use Rattle.store_rows.specs.Finding.{findFrom}
+use Rattle.store_rows.specs.Rows.{rowOf}
+use Rattle.store_rows.specs.Cells.{rowsOf, laid}
+use Rattle.store_rows.specs.Changed.{insertAt, written}
+use Rattle.store_greeting.specs.Bad.{isBad}
+use Rattle.store_notes.specs.Cells.{notesOf}
+use Rattle.store_notes.specs.Sane.{saneStore, Noted}
 use Rattle.store.specs.declared.Refusal.{Refusal}
 use Rattle.store.specs.declared.Refusal.the-variants.{Number, Bad, Full, NoRoom}
 use Rattle.store.specs.declared.Answer.{Answer}

@@ -6,17 +6,17 @@ use mathlib.Core.Bool.{cond, not}
 use lib.ListN.{length}
 use lib.Dec.{leb, ltb}
 use Rattle.rules.specs.Tools.{isLaw}
-use Rattle.rows.specs.declared.Row.{Row}
-use Rattle.rows.specs.declared.Gap.{Gap}
-use Rattle.rows.specs.declared.Gap.the-variants.{At, Nowhere}
-use Rattle.rows.specs.Limits.{mostGreetings, isNumber}
-use Rattle.rows.specs.Rows.{rowOf, held}
-use Rattle.rows.specs.Finding.{absent, findFrom, lowestGap}
-use Rattle.rows.specs.Changed.{nth, insertAt, removeAt, written}
-use Rattle.closing.specs.Closing.{closedRows, closedBlock, movedFrom}
-use Rattle.greetings.specs.Bad.{isBad}
-use Rattle.marks.specs.Marks.{Note, noteOf}
-use Rattle.notes.specs.Notes.{insertNote, removeNote}
+use Rattle.store_rows.specs.declared.rows.Row.{Row}
+use Rattle.store_rows.specs.declared.rows.Gap.{Gap}
+use Rattle.store_rows.specs.declared.rows.Gap.the-variants.{At, Nowhere}
+use Rattle.store_rows.specs.Limits.{mostGreetings, isNumber}
+use Rattle.store_rows.specs.Rows.{rowOf, held}
+use Rattle.store_rows.specs.Finding.{absent, findFrom, lowestGap}
+use Rattle.store_rows.specs.Changed.{nth, insertAt, removeAt, written}
+use Rattle.store_rows.specs.Closing.{closedRows, closedBlock, movedFrom}
+use Rattle.store_greeting.specs.Bad.{isBad}
+use Rattle.store_greeting.specs.Marks.{Note, noteOf}
+use Rattle.store_notes.specs.Notes.{insertNote, removeNote}
 use Rattle.store.specs.declared.Refusal.{Refusal}
 use Rattle.store.specs.declared.Refusal.the-variants.{Law, Number, Taken, Absent, Bad, Full, NoRoom}
 

@@ -5,17 +5,17 @@ ghost use mathlib.Core.Path.{_≡_};
 ghost use Prim.Native.Nat.{_+_, _^_, _≤_, _<_};
 ghost use lib.ListN.{length, getD};
 ghost use Rattle.rules.specs.Tools.{mostLaw};
-ghost use Rattle.rows.specs.Limits.{largestBlock, mostNumber};
-ghost use Rattle.rows.specs.Rows.{held as heldBy};
-ghost use Rattle.rows.specs.Cells.{rowsOf};
-ghost use Rattle.notes.specs.Sane.{Noted};
-ghost use Rattle.notes.specs.Changed.{Taken};
+ghost use Rattle.store_rows.specs.Limits.{largestBlock, mostNumber};
+ghost use Rattle.store_rows.specs.Rows.{held as heldBy};
+ghost use Rattle.store_rows.specs.Cells.{rowsOf};
+ghost use Rattle.store_notes.specs.Sane.{Noted};
+ghost use Rattle.store_notes.specs.Changed.{Taken};
 ghost use Rattle.store.specs.Calls.{refusalNumber, numberOf, firstOf, secondOf, Put, Get, Delete};
 ghost use Rattle.store.specs.Looking.{lookOf, Looked, longOf, PutsIn, FitsIn, PlacedAt};
-use marks::Tally;
-use notes::Sound;
-use rows::Gap;
-use rows::Row;
+use store_greeting::marks::Tally;
+use store_notes::Sound;
+use store_rows::rows::Gap;
+use store_rows::rows::Row;
 
 // "Refusals, in order"; TABLE (26) comes first, and ROOM (4) is saving's.
 pub enum Refusal {
@@ -95,11 +95,11 @@ fn judge(table: &[u32], size: usize, number: usize) -> Look
     if number < 1 {
         return Look::Stop(Refusal::Number);
     }
-    if rows::MOST_NUMBER < number {
+    if store_rows::rows::MOST_NUMBER < number {
         return Look::Stop(Refusal::Number);
     }
-    let n = rows::wide(table[0]);
-    Look::Found(n, rows::find(table, n, 0, number))
+    let n = store_rows::rows::wide(table[0]);
+    Look::Found(n, store_rows::rows::find(table, n, 0, number))
 }
 
 // A greeting written at a place, with its row, i rows standing before it.
@@ -117,8 +117,8 @@ fn place(
     ensures { λ _. ⌜ PlacedAt i at number (now (octets .entry)) (now (block .entry)) (now (table .entry)) (now (block .exit)) (now (table .exit)) ⌝ }
 {
     let len = octets.len();
-    placing::copy(block, at, octets);
-    placing::insert(
+    store_rows::placing::copy(block, at, octets);
+    store_rows::placing::insert(
         table,
         n,
         i,
@@ -148,16 +148,16 @@ fn fit(
     requires { ⌜ Taken (sound .law) (now octets) (now marks) (sound .samples) (sound .marks) ⌝ }
     ensures { λ r. ⌜ FitsIn size (sound .law) number (now (octets .entry)) (now (block .entry)) (now (table .entry)) (now (block .exit)) (now (table .exit)) r ⌝ }
 {
-    match rows::lowest_gap(table, n, size, octets.len()) {
+    match store_rows::rows::lowest_gap(table, n, size, octets.len()) {
         Gap::At(i, at) => {
             place(block, table, n, i, at, number, octets);
-            notes::put_taken(table, n, i, sound, octets, marks);
+            store_notes::put_taken(table, n, i, sound, octets, marks);
             Answer::Done(at, 0)
         }
         Gap::Nowhere => {
-            let moved = closing::close_up(block, table, size);
+            let moved = store_rows::closing::close_up(block, table, size);
             place(block, table, n, n, behind, number, octets);
-            notes::put_taken(table, n, n, sound, octets, marks);
+            store_notes::put_taken(table, n, n, sound, octets, marks);
             Answer::Done(behind, moved)
         }
     }
@@ -167,10 +167,10 @@ fn fit(
 fn over_long(n: usize, octets: &[u8], law: u32) -> Refusal
     ensures { λ r. ⌜ r ≡ longOf n law (now (octets .entry)) ⌝ }
 {
-    if greetings::is_bad(octets, law) {
+    if store_greeting::greetings::is_bad(octets, law) {
         return Refusal::Bad;
     }
-    if rows::MOST_GREETINGS <= n {
+    if store_rows::rows::MOST_GREETINGS <= n {
         return Refusal::Full;
     }
     Refusal::NoRoom
@@ -193,10 +193,10 @@ fn put_sound(
     requires { ⌜ Taken (sound .law) (now octets) (now marks) (sound .samples) (sound .marks) ⌝ }
     ensures { λ r. ⌜ PutsIn size (sound .law) number (now (octets .entry)) (now (block .entry)) (now (table .entry)) (now (block .exit)) (now (table .exit)) r ⌝ }
 {
-    if rows::MOST_GREETINGS <= n {
+    if store_rows::rows::MOST_GREETINGS <= n {
         return Answer::Refused(Refusal::Full);
     }
-    let behind = rows::held(table, n, size);
+    let behind = store_rows::rows::held(table, n, size);
     if size - behind < octets.len() {
         return Answer::Refused(Refusal::NoRoom);
     }
@@ -225,8 +225,8 @@ fn put_among(
     if size < octets.len() {
         return Answer::Refused(over_long(n, octets, law));
     }
-    let mut marks = [0u32; marks::KEPT_APART];
-    match marks::take(octets, law, &mut marks) {
+    let mut marks = [0u32; store_greeting::marks::KEPT_APART];
+    match store_greeting::marks::take(octets, law, &mut marks) {
         Tally::Wrong => Answer::Refused(Refusal::Bad),
         Tally::Counted(samples, m) => put_sound(
             block,
@@ -250,14 +250,14 @@ fn put_among(
 pub fn put(block: &mut [u8], table: &mut [u32], law: u32, number: u32, octets: &[u8]) -> Answer
     ensures { λ r. ⌜ Put law number (now (octets .entry)) (now (block .entry)) (now (table .entry)) (now (block .exit)) (now (table .exit)) r ⌝ }
 {
-    let size = rows::size_of(block.len());
-    if !notes::sane(table, size) {
+    let size = store_rows::rows::size_of(block.len());
+    if !store_notes::sane(table, size) {
         return Answer::Refused(Refusal::Table);
     }
     if rules::MOST_LAW < law {
         return Answer::Refused(Refusal::Law);
     }
-    let x = rows::wide(number);
+    let x = store_rows::rows::wide(number);
     match judge(table, size, x) {
         Look::Stop(why) => Answer::Refused(why),
         Look::Found(n, i) => put_among(block, table, size, n, i, law, x, octets),
@@ -268,17 +268,17 @@ pub fn put(block: &mut [u8], table: &mut [u32], law: u32, number: u32, octets: &
 pub fn get(block: &[u8], table: &[u32], number: u32) -> Answer
     ensures { λ r. ⌜ Get number (now (block .entry)) (now (table .entry)) r ⌝ }
 {
-    let size = rows::size_of(block.len());
-    if !notes::sane(table, size) {
+    let size = store_rows::rows::size_of(block.len());
+    if !store_notes::sane(table, size) {
         return Answer::Refused(Refusal::Table);
     }
-    match judge(table, size, rows::wide(number)) {
+    match judge(table, size, store_rows::rows::wide(number)) {
         Look::Stop(why) => Answer::Refused(why),
         Look::Found(n, i) => {
             if n <= i {
                 return Answer::Refused(Refusal::Absent);
             }
-            let r = rows::row_at(table, 1 + 3 * i);
+            let r = store_rows::rows::row_at(table, 1 + 3 * i);
             Answer::Done(r.start, r.octets)
         }
     }
@@ -288,18 +288,18 @@ pub fn get(block: &[u8], table: &[u32], number: u32) -> Answer
 pub fn delete(block: &[u8], table: &mut [u32], number: u32) -> Answer
     ensures { λ r. ⌜ Delete number (now (block .entry)) (now (table .entry)) (now (table .exit)) r ⌝ }
 {
-    let size = rows::size_of(block.len());
-    if !notes::sane(table, size) {
+    let size = store_rows::rows::size_of(block.len());
+    if !store_notes::sane(table, size) {
         return Answer::Refused(Refusal::Table);
     }
-    match judge(table, size, rows::wide(number)) {
+    match judge(table, size, store_rows::rows::wide(number)) {
         Look::Stop(why) => Answer::Refused(why),
         Look::Found(n, i) => {
             if n <= i {
                 return Answer::Refused(Refusal::Absent);
             }
-            placing::remove(table, n, i);
-            notes::drop_note(table, n, i);
+            store_rows::placing::remove(table, n, i);
+            store_notes::drop_note(table, n, i);
             Answer::Done(0, 0)
         }
     }

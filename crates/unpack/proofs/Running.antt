@@ -12,10 +12,10 @@ use Rattle.rules.specs.declared.Ending.the-variants.{Done, Refused}
 use Rattle.rules.specs.Refusals.{verdict}
 use Rattle.rules.specs.Walk.{walkAsks, walkAll}
 use Rattle.rules.proofs.Walk.{walk-told}
-use Rattle.unpacking.specs.declared.Part.{Part}
-use Rattle.unpacking.specs.Parts.{sureFrames, NextPart, Goes}
-use Rattle.unpacking.proofs.Parted.{part-refused, part-allowed}
-use Rattle.unpacking.proofs.Whole.{Unpacked, last, part, Keeps, unpacked-whole}
+use Rattle.tool_playback.specs.declared.unpacking.Part.{Part}
+use Rattle.tool_playback.specs.StreamParts.{sureFrames, NextPart, Goes}
+use Rattle.tool_playback.proofs.StreamParted.{part-refused, part-allowed}
+use Rattle.tool_playback.proofs.StreamWhole.{Unpacked, last, part, Keeps, unpacked-whole}
 use Rattle.unpack.specs.Runs.{Before, none, one-more, NextSound, TellsWalk}
 
 -- a part from a place inside ends inside, with no more frames than octets are left

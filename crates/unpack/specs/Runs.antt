@@ -6,8 +6,8 @@ use mathlib.Core.List.{List, [], _++_}
 use lib.ListN.{length, take}
 use Rattle.rules.specs.Tools.{isLaw, isSet}
 use Rattle.rules.specs.Walk.{longest, walkAll, samplesKept}
-use Rattle.unpacking.specs.declared.Part.{Part}
-use Rattle.unpacking.specs.Parts.{NextPart}
+use Rattle.tool_playback.specs.declared.unpacking.Part.{Part}
+use Rattle.tool_playback.specs.StreamParts.{NextPart}
 use Rattle.unpack.specs.declared.Total.{Total}
 
 -- the parts of a stream from its start on, each with more to come: their sound, their frames, and the place where the last one ended

@@ -1,5 +1,5 @@
-// The bench tool `unpack`: a stream, or a recording, back to sound, or, with a master, the sound compared with it. What a part of a stream holds
-// stands in crate `unpacking`, a recording in `replaying`, what the arguments mean in `options`, what is said in `console`.
+// The bench tool `unpack`: a stream, or a recording, back to sound, or, with a master, the sound compared with it. What a part of a stream
+// or of a recording holds stands in crate `tool_playback`, what the arguments mean in `tool_words`, what is said in `tool_console`.
 ghost use mathlib.Core.Path.{_≡_};
 ghost use mathlib.Core.Bool.{false};
 ghost use Prim.Native.Nat.{_*_, _^_, _≤_, _<_};
@@ -7,24 +7,24 @@ ghost use lib.ListN.{length};
 ghost use Rattle.rules.specs.declared.Ending.the-variants.{Done};
 ghost use Rattle.rules.specs.Walk.{longest};
 ghost use Rattle.recording.specs.Remembered.{headingLength};
-ghost use Rattle.replaying.specs.Runs.{Reachable};
-ghost use Rattle.sounds.specs.Uses.{UsesUpTo};
+ghost use Rattle.tool_playback.specs.Runs.{Reachable};
+ghost use Rattle.tool_sound.specs.Uses.{UsesUpTo};
 ghost use Rattle.unpack.specs.Runs.{NextSound, TellsWalk, Allowed, TellsOne};
-use console::Source;
-use options::Flags;
-use options::Settings;
-use options::UNPACK;
 use recording::marking::HEADING;
-use replaying::Body;
-use replaying::Kind;
-use replaying::UNREAD;
-use replaying::WINDOW;
 use rules::Ending;
-use sounds::FAILED;
-use sounds::NOTHING;
-use sounds::Used;
-use sounds::Way;
-use unpacking::Part;
+use tool_console::Source;
+use tool_playback::replaying::Body;
+use tool_playback::replaying::Kind;
+use tool_playback::replaying::UNREAD;
+use tool_playback::replaying::WINDOW;
+use tool_playback::unpacking::Part;
+use tool_sound::sounds::FAILED;
+use tool_sound::sounds::NOTHING;
+use tool_sound::sounds::Used;
+use tool_sound::sounds::Way;
+use tool_words::options::Flags;
+use tool_words::options::Settings;
+use tool_words::options::UNPACK;
 
 // What came of a stream: how it ended and where, the refusal's bit, the frames, the samples that are well, and what is wrong.
 struct Total {
@@ -66,7 +66,7 @@ fn use_part(
     ensures { λ r. ⌜ UsesUpTo (p .samples) r ⌝ }
 {
     let n = p.samples;
-    sounds::use_sound(way, law, &page[..n], master)
+    tool_sound::sounds::use_sound(way, law, &page[..n], master)
 }
 
 // Part after part, page by page.
@@ -79,7 +79,7 @@ fn parts(stream: &[u8], law: u32, set: u32, way: Way, page: &mut [u8], master: &
     let mut frames = 0;
     let mut samples = 0;
     loop {
-        let p = unpacking::next_part(stream, law, set, at, page);
+        let p = tool_playback::unpacking::next_part(stream, law, set, at, page);
         let u = use_part(stream, law, set, at, p, way, page, master);
         let end = p.end;
         frames += p.frames;
@@ -133,7 +133,7 @@ fn windows(
     let mut frames = 0;
     let mut samples = 0;
     loop {
-        let got = replaying::window_at(b, at, window);
+        let got = tool_playback::replaying::window_at(b, at, window);
         if got.failed {
             return unread(at, frames, samples);
         }
@@ -151,7 +151,12 @@ fn windows(
         if t.wrong != NOTHING {
             return total;
         }
-        if !replaying::goes_further(rules::number_of(end), n, window.len(), b.size - at) {
+        if !tool_playback::replaying::goes_further(
+            rules::number_of(end),
+            n,
+            window.len(),
+            b.size - at,
+        ) {
             return total;
         }
         if t.at == 0 {
@@ -192,7 +197,7 @@ fn of_stream(t: Total) -> Outcome {
 }
 
 // A recording's: its frames are the items that are no losses, and its octets count the heading.
-fn of_recording(t: replaying::Total) -> Outcome
+fn of_recording(t: tool_playback::replaying::Total) -> Outcome
     requires { ⌜ (t .lost ≤ t .items) × (t .at ≤ longest) ⌝ }
 {
     let end = t.end;
@@ -215,7 +220,7 @@ fn came_of(b: Body, law: u32, set: u32, records: bool, way: Way, tells: u32) -> 
     requires { ⌜ (Allowed law set (b .size)) × Reachable b ⌝ }
 {
     if records {
-        let t = replaying::play_file(b, law, set, way, tells);
+        let t = tool_playback::replaying::play_file(b, law, set, way, tells);
         return of_recording(t);
     }
     let t = all_parts(b, law, set, way);
@@ -225,24 +230,24 @@ fn came_of(b: Body, law: u32, set: u32, records: bool, way: Way, tells: u32) -> 
 // Losses end a run with a status of their own, unless it is to go on.
 fn stop_well(o: Outcome, on: bool) {
     if o.lost == 0 || on {
-        console::stop(UNPACK, 0, o.at, 0, 0);
+        tool_console::stop(UNPACK, 0, o.at, 0, 0);
         return;
     }
-    console::say(
+    tool_console::say(
         b"unpack: the recording has losses, so this is not all of its sound; -g goes on all the same\n",
     );
-    console::stop(UNPACK, 66, o.at, 0, 0);
+    tool_console::stop(UNPACK, 66, o.at, 0, 0);
 }
 
 // The last lines of a run in which nothing is wrong with the files: what was done, and the refusal if there is one.
 fn finish(o: Outcome, on: bool) {
     if o.records {
-        console::summary_of_recording(o.frames, o.samples, o.octets, o.lost);
+        tool_console::summary_of_recording(o.frames, o.samples, o.octets, o.lost);
     } else {
-        console::summary(o.frames, o.samples, o.octets);
+        tool_console::summary(o.frames, o.samples, o.octets);
     }
     if o.number != 0 {
-        console::refused(UNPACK, o.number, o.at, o.tool, o.bit);
+        tool_console::refused(UNPACK, o.number, o.at, o.tool, o.bit);
         return;
     }
     stop_well(o, on);
@@ -252,18 +257,18 @@ fn finish(o: Outcome, on: bool) {
 fn open_file(name: &[u8], part: &mut [u8]) -> Source
     requires { ⌜ (1 ≤ length (now part)) × (length (now part) < 2 ^ 32) ⌝ }
 {
-    let fd = console::open_in(name);
+    let fd = tool_console::open_in(name);
     if fd < 0 {
-        console::failed(UNPACK, name, b"standard input");
+        tool_console::failed(UNPACK, name, b"standard input");
         return Source {
             fd,
             size: 0,
             failed: true,
         };
     }
-    let source = console::source_of(fd, rules::LONGEST + HEADING, part);
+    let source = tool_console::source_of(fd, rules::LONGEST + HEADING, part);
     if source.failed {
-        console::failed(UNPACK, name, b"standard input");
+        tool_console::failed(UNPACK, name, b"standard input");
     }
     source
 }
@@ -278,21 +283,28 @@ fn heading_written(b: Body, law: u32, set: u32, records: bool, way: Way) -> bool
     let counted = Way {
         compares: false,
         fd: way.fd,
-        form: sounds::COUNTED,
+        form: tool_sound::sounds::COUNTED,
     };
-    let o = came_of(b, law, set, records, counted, replaying::TELLS_NOTHING);
+    let o = came_of(
+        b,
+        law,
+        set,
+        records,
+        counted,
+        tool_playback::replaying::TELLS_NOTHING,
+    );
     if o.wrong != NOTHING {
         return true;
     }
-    sounds::write_heading(way.fd, o.samples)
+    tool_sound::sounds::write_heading(way.fd, o.samples)
 }
 
 // What is told of a recording's items.
 fn tells_of(f: Flags) -> u32 {
     if f.lists {
-        return replaying::TELLS_ALL;
+        return tool_playback::replaying::TELLS_ALL;
     }
-    replaying::TELLS_LOSSES
+    tool_playback::replaying::TELLS_LOSSES
 }
 
 // Writes the sound of a file, whose name is `from`, to another.
@@ -300,9 +312,9 @@ fn write_to(b: Body, law: u32, s: Settings, records: bool, from: &[u8], name: &[
     requires { ⌜ (Allowed law (s .set) (b .size)) × Reachable b ⌝ }
 {
     let f = s.flags;
-    let fd = console::open_out(name);
+    let fd = tool_console::open_out(name);
     if fd < 0 {
-        console::failed(UNPACK, name, b"standard output");
+        tool_console::failed(UNPACK, name, b"standard output");
         return;
     }
     let way = Way {
@@ -311,20 +323,20 @@ fn write_to(b: Body, law: u32, s: Settings, records: bool, from: &[u8], name: &[
         form: s.form,
     };
     if !heading_written(b, law, s.set, records, way) {
-        console::failed(UNPACK, name, b"standard output");
+        tool_console::failed(UNPACK, name, b"standard output");
         return;
     }
     let o = came_of(b, law, s.set, records, way, tells_of(f));
     if o.wrong == UNREAD {
-        console::failed(UNPACK, from, b"standard input");
+        tool_console::failed(UNPACK, from, b"standard input");
         return;
     }
     if o.wrong != NOTHING {
-        console::failed(UNPACK, name, b"standard output");
+        tool_console::failed(UNPACK, name, b"standard output");
         return;
     }
-    if !console::close(fd) {
-        console::failed(UNPACK, name, b"standard output");
+    if !tool_console::close(fd) {
+        tool_console::failed(UNPACK, name, b"standard output");
         return;
     }
     finish(o, f.on);
@@ -333,24 +345,24 @@ fn write_to(b: Body, law: u32, s: Settings, records: bool, from: &[u8], name: &[
 // What a comparison came to. A frame that is refused comes before what a master has left over.
 fn conclude(o: Outcome, on: bool, fd: i32, name: &[u8]) {
     if o.wrong == FAILED {
-        console::failed(UNPACK, name, b"standard input");
+        tool_console::failed(UNPACK, name, b"standard input");
         return;
     }
     if o.wrong != NOTHING {
-        sounds::differs(o.wrong, o.samples);
+        tool_sound::sounds::differs(o.wrong, o.samples);
         return;
     }
     if o.number != 0 {
         finish(o, on);
         return;
     }
-    let wrong = sounds::left_over(fd);
+    let wrong = tool_sound::sounds::left_over(fd);
     if wrong == FAILED {
-        console::failed(UNPACK, name, b"standard input");
+        tool_console::failed(UNPACK, name, b"standard input");
         return;
     }
     if wrong != NOTHING {
-        sounds::differs(wrong, o.samples);
+        tool_sound::sounds::differs(wrong, o.samples);
         return;
     }
     finish(o, on);
@@ -361,9 +373,9 @@ fn compare_with(b: Body, law: u32, s: Settings, records: bool, from: &[u8], name
     requires { ⌜ (Allowed law (s .set) (b .size)) × Reachable b ⌝ }
 {
     let f = s.flags;
-    let fd = console::open_in(name);
+    let fd = tool_console::open_in(name);
     if fd < 0 {
-        console::failed(UNPACK, name, b"standard input");
+        tool_console::failed(UNPACK, name, b"standard input");
         return;
     }
     let way = Way {
@@ -373,7 +385,7 @@ fn compare_with(b: Body, law: u32, s: Settings, records: bool, from: &[u8], name
     };
     let o = came_of(b, law, s.set, records, way, tells_of(f));
     if o.wrong == UNREAD {
-        console::failed(UNPACK, from, b"standard input");
+        tool_console::failed(UNPACK, from, b"standard input");
         return;
     }
     conclude(o, f.on, fd, name);
@@ -385,7 +397,7 @@ fn refuses(end: Ending) -> bool
 {
     match end {
         Ending::Refused(why) => {
-            console::refused(UNPACK, rules::refusal_number(why), 0, 0, 0);
+            tool_console::refused(UNPACK, rules::refusal_number(why), 0, 0, 0);
             true
         }
         Ending::Done => false,
@@ -398,14 +410,14 @@ fn to_other(b: Body, law: u32, s: Settings, records: bool, name: &[u8])
 {
     let mut space = [0u8; 4095];
     if s.master != 0 {
-        let n = console::file_name(s.master, &mut space);
+        let n = tool_console::file_name(s.master, &mut space);
         compare_with(b, law, s, records, name, &space[..n]);
         return;
     }
-    let target = console::target_name(s, law, name, &mut space);
+    let target = tool_console::target_name(s, law, name, &mut space);
     let n = target.len;
     if !target.fits {
-        console::usage(UNPACK, b"OUTFILE's name would be too long");
+        tool_console::usage(UNPACK, b"OUTFILE's name would be too long");
         return;
     }
     write_to(b, law, s, records, name, &space[..n]);
@@ -426,15 +438,15 @@ fn with_frames(b: Body, law: u32, s: Settings, records: bool, name: &[u8])
 fn with_stream(s: Settings, name: &[u8], fd: i32, size: usize) {
     let f = s.flags;
     if f.lists {
-        console::usage(
+        tool_console::usage(
             UNPACK,
             b"-v lists a recording's items, and this is a stream: listing lists its frames",
         );
         return;
     }
-    let law = options::law_of(s, name);
+    let law = tool_words::options::law_of(s, name);
     if law == 2 {
-        console::usage(UNPACK, b"the law is not known: say -u or -a");
+        tool_console::usage(UNPACK, b"the law is not known: say -u or -a");
         return;
     }
     with_frames(Body { fd, skip: 0, size }, law, s, false, name);
@@ -445,7 +457,7 @@ fn with_recording(s: Settings, law: u32, name: &[u8], fd: i32, size: usize)
     requires { ⌜ headingLength ≤ size ⌝ }
 {
     if s.law != 2 && s.law != law {
-        console::usage(UNPACK, b"the recording's heading says the other law");
+        tool_console::usage(UNPACK, b"the recording's heading says the other law");
         return;
     }
     let body = Body {
@@ -458,13 +470,13 @@ fn with_recording(s: Settings, law: u32, name: &[u8], fd: i32, size: usize)
 
 // What begins as a recording and has no heading.
 fn headless() {
-    console::say(b"unpack: a recording's heading is cut, or of another law or version\n");
-    console::refused(UNPACK, 14, 0, 0, 0);
+    tool_console::say(b"unpack: a recording's heading is cut, or of another law or version\n");
+    tool_console::refused(UNPACK, 14, 0, 0, 0);
 }
 
 // What the file is says what is done with it; its first octets tell.
 fn with_file(s: Settings, name: &[u8], fd: i32, size: usize, first: &[u8]) {
-    match replaying::kind_of(first) {
+    match tool_playback::replaying::kind_of(first) {
         Kind::Stream => with_stream(s, name, fd, size),
         Kind::Recording(law) => {
             if size < HEADING {
@@ -480,9 +492,9 @@ fn with_file(s: Settings, name: &[u8], fd: i32, size: usize, first: &[u8]) {
 // The file's first octets.
 fn begin(s: Settings, name: &[u8], fd: i32, size: usize) {
     let mut first = [0u8; 64];
-    let got = console::read_at(fd, 0, &mut first);
+    let got = tool_console::read_at(fd, 0, &mut first);
     if got.failed {
-        console::failed(UNPACK, name, b"standard input");
+        tool_console::failed(UNPACK, name, b"standard input");
         return;
     }
     let n = got.count;
@@ -509,14 +521,14 @@ fn wrong_form(s: Settings, name: &[u8]) -> bool {
         return false;
     }
     if s.master != 0 {
-        console::usage(
+        tool_console::usage(
             UNPACK,
             b"-c compares raw G.711, so -l and -w don't go with it",
         );
         return true;
     }
     if s.outfile == 0 && name.len() != 0 {
-        console::usage(UNPACK, b"with -l or -w OUTFILE must be said");
+        tool_console::usage(UNPACK, b"with -l or -w OUTFILE must be said");
         return true;
     }
     false
@@ -528,12 +540,12 @@ fn wrong_master(s: Settings, name: &[u8]) -> bool {
         return false;
     }
     if s.outfile != 0 {
-        console::say(b"unpack: with -c nothing is written to OUTFILE\n");
+        tool_console::say(b"unpack: with -c nothing is written to OUTFILE\n");
     }
     let mut space = [0u8; 4095];
-    let n = console::file_name(s.master, &mut space);
+    let n = tool_console::file_name(s.master, &mut space);
     if name.len() == 0 && n == 0 {
-        console::usage(UNPACK, b"INFILE and MASTER can't both be standard input");
+        tool_console::usage(UNPACK, b"INFILE and MASTER can't both be standard input");
         return true;
     }
     false
@@ -541,13 +553,13 @@ fn wrong_master(s: Settings, name: &[u8]) -> bool {
 
 // "usage, then SET, .., then files, then the file's own"
 fn main() {
-    let s = console::settings(UNPACK);
+    let s = tool_console::settings(UNPACK);
     if s.wrong != 0 {
-        console::wrong_settings(s);
+        tool_console::wrong_settings(s);
         return;
     }
     let mut space = [0u8; 4095];
-    let n = console::file_name(s.infile, &mut space);
+    let n = tool_console::file_name(s.infile, &mut space);
     if wrong_form(s, &space[..n]) {
         return;
     }

@@ -5,8 +5,8 @@ use mathlib.Core.Path.{_≡_, sym, _∙_}
 use mathlib.Core.List.{List}
 use lib.ListN.{length, take}
 use Rattle.rules.specs.Listing.{field, lineEnd, frameWord, atWord}
-use Rattle.lines.specs.Puts.{Puts}
-use Rattle.lines.proofs.Putting.{puts-then}
+use Rattle.text_lines.specs.Puts.{Puts}
+use Rattle.text_lines.proofs.Putting.{puts-then}
 use Rattle.reasons.specs.declared.Reasons.{Reasons}
 use Rattle.reasons.specs.declared.Why.{Why}
 use Rattle.reasons.specs.declared.Why.the-variants.{Told}

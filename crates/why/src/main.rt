@@ -3,14 +3,14 @@
 ghost use Prim.Native.Nat.{_+_, _≤_, _<_};
 ghost use mathlib.Core.Path.{_≡_};
 ghost use lib.ListN.{length};
-ghost use Rattle.lines.specs.Puts.{Puts};
-ghost use Rattle.cutting.specs.Parts.{partSize};
+ghost use Rattle.text_lines.specs.Puts.{Puts};
+ghost use Rattle.tool_packing.specs.SoundParts.{partSize};
 ghost use Rattle.why.specs.Shows.{headLine, frameText, Shows, mostSound};
 use libc::STDOUT_FILENO;
-use options::Settings;
 use reasons::Reasons;
 use reasons::Why;
 use rules::Ending;
+use tool_words::options::Settings;
 
 // How the sound ended so far, its frames and the samples in them, whether more sound may come, and whether a read (1) or a write (2) failed.
 struct Run {
@@ -27,9 +27,9 @@ fn put_head(k: usize, place: usize, out: &mut [u8]) -> usize
     ensures { λ n. ⌜ Puts (now (out .entry)) 0 (headLine k place) (now (out .exit)) n ⌝ }
     ensures most { λ n. ⌜ n ≤ 51 ⌝ }
 {
-    let a = lines::put_field(b"frame=", k, out, 0);
-    let b = lines::put_field(b" at=", place, out, a);
-    lines::put_word(b"\n", out, b)
+    let a = text_lines::put_field(b"frame=", k, out, 0);
+    let b = text_lines::put_field(b" at=", place, out, a);
+    text_lines::put_word(b"\n", out, b)
 }
 
 // The heading, and the lines of its reasons.
@@ -82,15 +82,15 @@ fn part_frames(part: &[u8], run: Run, s: Settings) -> Run
     let mut k = run.frames;
     loop {
         let left = part.len() - from;
-        let len = cutting::next_length(s.length as usize, left);
+        let len = tool_packing::cutting::next_length(s.length as usize, left);
         let place = run.samples + from;
         if len == 0 {
-            let end = cutting::last_end(left);
+            let end = tool_packing::cutting::last_end(left);
             return Run {
                 end,
                 frames: k,
                 samples: place,
-                more: cutting::may_go_on(end, part.len()),
+                more: tool_packing::cutting::may_go_on(end, part.len()),
                 trouble: 0,
             };
         }
@@ -115,7 +115,7 @@ fn next_part(fd: i32, run: Run, s: Settings, part: &mut [u8]) -> Run
     ensures frames { λ r. ⌜ r .frames ≤ run .frames + partSize ⌝ }
     ensures samples { λ r. ⌜ r .samples ≤ run .samples + partSize ⌝ }
 {
-    let got = console::read_part(fd, part);
+    let got = tool_console::read_part(fd, part);
     if got.failed {
         return Run {
             end: Ending::Done,
@@ -165,14 +165,14 @@ fn settings_number(s: Settings) -> u32 {
 // Why the settings are refused.
 fn explain_settings(number: u32) {
     if number == 11 {
-        console::say_number(
+        tool_console::say_number(
             b"why: the tool set is an odd number of at most ",
             rules::ALL_TOOLS as usize,
         );
-        console::say(b"\n");
+        tool_console::say(b"\n");
     }
     if number == 10 {
-        console::say(b"why: the frame length is 40, 80, 160, 240 or 320\n");
+        tool_console::say(b"why: the frame length is 40, 80, 160, 240 or 320\n");
     }
 }
 
@@ -187,30 +187,30 @@ fn is_missing(s: Settings, frames: usize) -> bool {
 // What was done, or why it was not.
 fn finish(run: Run, s: Settings, in_name: &[u8]) {
     if run.trouble == 1 {
-        console::failed(options::WHY, in_name, b"standard input");
+        tool_console::failed(tool_words::options::WHY, in_name, b"standard input");
         return;
     }
     if run.trouble == 2 {
-        console::failed(options::WHY, b"", b"standard output");
+        tool_console::failed(tool_words::options::WHY, b"", b"standard output");
         return;
     }
     let end = run.end;
     let number = rules::number_of(end);
     if number != 0 {
-        console::say(b"why: no length fits the octets at the end\n");
-        console::refused(options::WHY, number, run.samples, 0, 0);
+        tool_console::say(b"why: no length fits the octets at the end\n");
+        tool_console::refused(tool_words::options::WHY, number, run.samples, 0, 0);
         return;
     }
     if is_missing(s, run.frames) {
-        console::say_number(
+        tool_console::say_number(
             b"why: the sound has no such frame; its frames are ",
             run.frames,
         );
-        console::say(b"\n");
-        console::stop(options::WHY, 64, run.samples, 0, 0);
+        tool_console::say(b"\n");
+        tool_console::stop(tool_words::options::WHY, 64, run.samples, 0, 0);
         return;
     }
-    console::stop(options::WHY, 0, run.samples, 0, 0);
+    tool_console::stop(tool_words::options::WHY, 0, run.samples, 0, 0);
 }
 
 // The settings are judged before any file is opened.
@@ -218,12 +218,12 @@ fn why_file(s: Settings, in_name: &[u8]) {
     let number = settings_number(s);
     if number != 0 {
         explain_settings(number);
-        console::refused(options::WHY, number, 0, 0, 0);
+        tool_console::refused(tool_words::options::WHY, number, 0, 0, 0);
         return;
     }
-    let fd = console::open_in(in_name);
+    let fd = tool_console::open_in(in_name);
     if fd < 0 {
-        console::failed(options::WHY, in_name, b"standard input");
+        tool_console::failed(tool_words::options::WHY, in_name, b"standard input");
         return;
     }
     let mut part = [0u8; 61440];
@@ -233,11 +233,14 @@ fn why_file(s: Settings, in_name: &[u8]) {
 
 // A law that no option tells is told by the ending of what is read.
 fn why_with(mut s: Settings, space: &mut [u8]) {
-    let n = console::file_name(s.infile, space);
+    let n = tool_console::file_name(s.infile, space);
     let in_name: &[u8] = &space[..n];
-    let law = options::law_of(s, in_name);
+    let law = tool_words::options::law_of(s, in_name);
     if law == 2 {
-        console::usage(options::WHY, b"the law is not known: say -u or -a");
+        tool_console::usage(
+            tool_words::options::WHY,
+            b"the law is not known: say -u or -a",
+        );
         return;
     }
     s.law = law;
@@ -245,9 +248,9 @@ fn why_with(mut s: Settings, space: &mut [u8]) {
 }
 
 fn main() {
-    let s = console::settings(options::WHY);
+    let s = tool_console::settings(tool_words::options::WHY);
     if s.wrong != 0 {
-        console::wrong_settings(s);
+        tool_console::wrong_settings(s);
         return;
     }
     let mut in_name = [0u8; 4095];

@@ -14,14 +14,14 @@ use Rattle.rules.proofs.Octets.{Below, below-at}
 use Rattle.rules.proofs.Signed.{LawMask}
 use Rattle.rules.proofs.Fractional.{Among, places-below, radix-range, length-samplesAt}
 use Rattle.rules.proofs.FrameRow.{row-low, row-among}
-use Rattle.locating.specs.declared.Located.{Located}
-use Rattle.zeros.specs.declared.Zeros.{Zeros}
-use Rattle.choice.specs.declared.last.Last.{Last}
-use Rattle.choice.specs.Plans.{Chosen, ZerosFor, LocatedFor, LastIs}
-use Rattle.look.specs.Rows.{RowIs}
-use Rattle.forms.specs.Forms.{planForm, zerosForm}
-use Rattle.forms.proofs.Whole.{whole-form}
-use Rattle.forms.proofs.Form.{zeros-whole, zeros-rice, zeros-binary, rice-form, binary-form, located-form, located-seven}
+use Rattle.write_located.specs.declared.Located.{Located}
+use Rattle.write_zeros.specs.declared.Zeros.{Zeros}
+use Rattle.write_choice.specs.declared.last.Last.{Last}
+use Rattle.write_choice.specs.Plans.{Chosen, ZerosFor, LocatedFor, LastIs}
+use Rattle.write_scan.specs.Rows.{RowIs}
+use Rattle.write_forms.specs.Forms.{planForm, zerosForm}
+use Rattle.write_forms.proofs.Whole.{whole-form}
+use Rattle.write_forms.proofs.Form.{zeros-whole, zeros-rice, zeros-binary, rice-form, binary-form, located-form, located-seven}
 
 -- a frame of the two zeros
 module _ (n : ℕ) (s : List ℕ) (r : Zeros) (row runs : List ℕ) where

@@ -20,11 +20,11 @@ use Rattle.rules.specs.Chooses.{formOf, chosenTool, Written, Write, declined, c
 use Rattle.rules.specs.Calls.{Writes}
 use Rattle.rules.proofs.Octets.{length-pack}
 use Rattle.rules.proofs.Guards.{write-allowed}
-use Rattle.choice.specs.Plans.{Chosen}
-use Rattle.pen.specs.Puts.{Packed}
+use Rattle.write_choice.specs.Plans.{Chosen}
+use Rattle.write_bits.specs.Puts.{Packed}
 use Rattle.writer.specs.Answers.{Tells, fitting, pad, full, plain}
-use Rattle.forms.specs.Forms.{wholeOctets}
-use Rattle.forms.proofs.Whole.{whole-form}
+use Rattle.write_forms.specs.Forms.{wholeOctets}
+use Rattle.write_forms.proofs.Whole.{whole-form}
 
 -- a refusal leaves the output as lent
 pub refused-writes : {why : Refusal} {r : WriteAnswer} {out : List ℕ} → Tells (declined why) r → Writes (declined why) r out out

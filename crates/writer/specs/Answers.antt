@@ -10,7 +10,7 @@ use Rattle.rules.specs.declared.WriteAnswer.{WriteAnswer}
 use Rattle.rules.specs.Bits.{lowBits, bitsOf, octetsFor}
 use Rattle.rules.specs.Chooses.{Written, Write, wrote, declined, chosenTool, formOf}
 use Rattle.rules.specs.Calls.{writeEnd, writtenBits, writeTool}
-use Rattle.forms.specs.Forms.{wholeOctets}
+use Rattle.write_forms.specs.Forms.{wholeOctets}
 
 pub record Tells (written : Write) (r : WriteAnswer) : Type 0 where
   pub end : r .end ≡ writeEnd written

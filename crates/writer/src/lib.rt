@@ -1,24 +1,24 @@
 // Writing one frame: the chosen form alone is put out.
 
-use choice::last::Last;
-use choice::last::last_of;
-use choice::near::located_plan;
-use choice::settle::choose;
-use choice::two_zeros::zeros_plan;
-use forms::put_fractional;
-use forms::put_located;
-use forms::put_two_zeros;
-use forms::put_whole;
 use law::mask_of;
 use law::plus_zero;
-use look::others;
-use measure::octets_for;
 use rules::Ending;
 use rules::Frame;
 use rules::Refusal;
 use rules::WriteAnswer;
 use rules::guard_writer;
 use rules::is_length;
+use write_choice::last::Last;
+use write_choice::last::last_of;
+use write_choice::near::located_plan;
+use write_choice::settle::choose;
+use write_choice::two_zeros::zeros_plan;
+use write_forms::put_fractional;
+use write_forms::put_located;
+use write_forms::put_two_zeros;
+use write_forms::put_whole;
+use write_measure::octets_for;
+use write_scan::others;
 ghost use mathlib.Core.Path.{_≡_};
 ghost use mathlib.Core.Bool.{true, false};
 ghost use Prim.Native.Nat.{_*_, _≤_};
@@ -29,10 +29,10 @@ ghost use Rattle.rules.specs.Refusals.{verdict};
 ghost use Rattle.rules.specs.Tools.{writerAsks};
 ghost use Rattle.rules.specs.Chooses.{declined, leastOf, greatestOf, chosenTool, formOf, writeOne};
 ghost use Rattle.rules.specs.Calls.{Writes, WriteFrame, WriteSamples};
-ghost use Rattle.look.specs.Looks.{near, twoZeros, isMask, FrameIn};
-ghost use Rattle.choice.specs.Plans.{Left, LastIs};
-ghost use Rattle.forms.specs.Forms.{wholeOctets};
-ghost use Rattle.pen.specs.Puts.{Packed};
+ghost use Rattle.write_scan.specs.Looks.{near, twoZeros, isMask, FrameIn};
+ghost use Rattle.write_choice.specs.Plans.{Left, LastIs};
+ghost use Rattle.write_forms.specs.Forms.{wholeOctets};
+ghost use Rattle.write_bits.specs.Puts.{Packed};
 ghost use Rattle.writer.specs.Answers.{Tells, fitting, pad, full, plain};
 
 // A refusal: no octets, no bits, no tool.
@@ -167,7 +167,7 @@ fn write_located(
     wrote(octets, plan.bits, plan.tool)
 }
 
-// What `choice` chose is put out. Arrays for runs are made only where a plan needs them.
+// What `write_choice` chose is put out. Arrays for runs are made only where a plan needs them.
 fn write_chosen(out: &mut [u8], samples: &[u8], n: usize, mask: u8, set: u32) -> WriteAnswer
     requires { ⌜ (FrameIn (now samples) n) × (isMask mask ≡ true) ⌝ }
     ensures { λ r. ⌜ Writes (fitting (length (now (out .entry))) (full mask set (take n (now (samples .entry))))) r (now (out .entry)) (now (out .exit)) ⌝ }

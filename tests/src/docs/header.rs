@@ -94,7 +94,7 @@ const LIMITS: [(&str, &str, &str, &str); 7] = [
     ("MAX_SAMPLES", "crates/rules/src/lib.rt", "samples: [u8; ", "]"),
     ("MAX_FRAME", "crates/promises/proofs/Bounded.antt", "octetsUsed f ≤ ", ")"),
     ("MAX_STREAM", "crates/rules/specs/Walk.antt", "\nlongest = ", "\n"),
-    ("MAX_BLOCK", "crates/rows/specs/Limits.antt", "\nlargestBlock = ", "\n"),
+    ("MAX_BLOCK", "crates/store_rows/specs/Limits.antt", "\nlargestBlock = ", "\n"),
     ("ALL_TOOLS", "crates/rules/specs/Tools.antt", "\nallTools = ", "\n"),
     ("HEADING", "crates/recording/specs/Remembered.antt", "\nheadingLength = ", "\n"),
     ("LOSS", "crates/recording/specs/Items.antt", "\nlossFrom = ", "\n"),

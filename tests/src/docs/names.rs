@@ -1,6 +1,6 @@
 //! The names that PROMISES, PAPER and CONTRACTS cite: `File.name` and `crate.File.name` are definitions and proofs,
-//! `crate::name` is code, and so is what follows the words "crates/NAME, " or, in a cell, "NAME: ". Names that follow a
-//! name after a comma or "and" are of the same file or crate.
+//! `crate::name` and `crate::module::name` are code, and so is what follows the words "crates/NAME, " or, in a cell,
+//! "NAME: ". Names that follow a name after a comma or "and" are of the same file or crate.
 
 use super::{is_name, quoted, Files, Held};
 
@@ -13,7 +13,7 @@ const TYPE: &str = "u32";
 enum Home {
     /// specs/ or proofs/ of a crate, or of any where it is not said, in a file of this name.
     File(Option<String>, String),
-    /// src/ of a crate.
+    /// src/ of a crate, or a module there: what the paths of its files start with.
     Code(String),
 }
 
@@ -41,10 +41,10 @@ fn cited<'a>(files: &Files, line: &'a str) -> Vec<(Home, &'a str)> {
     for (before, inside) in quoted(line) {
         let (own, name) = home_of(inside);
         home = match own {
-            Some(own) => Some(own).filter(|own| *own != Home::Code(TYPE.to_string())),
+            Some(own) => Some(own).filter(|own| *own != code(TYPE, "")),
             None if !is_name(inside) => None,
             None if before == ", " || before == " and " => home,
-            None => crate_before(before).filter(|of| crates.contains_key(of)).map(|of| Home::Code(of.to_string())),
+            None => crate_before(before).filter(|of| crates.contains_key(of)).map(|of| code(of, "")),
         };
         all.extend(home.clone().map(|home| (home, name)));
     }
@@ -54,9 +54,13 @@ fn cited<'a>(files: &Files, line: &'a str) -> Vec<(Home, &'a str)> {
 /// Where a name says itself that it is.
 fn home_of(inside: &str) -> (Option<Home>, &str) {
     // A call may be cited with its arguments.
-    let called = inside.split('(').next().unwrap_or("");
-    if let Some((of, name)) = called.split_once("::").filter(|(of, name)| is_name(of) && is_name(name)) {
-        return (Some(Home::Code(of.to_string())), name);
+    let called: Vec<&str> = inside.split('(').next().unwrap_or("").split("::").collect();
+    match called[..] {
+        [of, name] if is_name(of) && is_name(name) => return (Some(code(of, "")), name),
+        [of, module, name] if is_name(of) && is_name(module) && is_name(name) => {
+            return (Some(code(of, &format!("{module}.rt"))), name);
+        }
+        _ => {}
     }
     let parts: Vec<&str> = inside.split('.').collect();
     match parts[..] {
@@ -68,11 +72,15 @@ fn home_of(inside: &str) -> (Option<Home>, &str) {
     }
 }
 
+fn code(of: &str, module: &str) -> Home {
+    Home::Code(format!("crates/{of}/src/{module}"))
+}
+
 fn is_file(text: &str) -> bool {
     is_name(text) && text.starts_with(char::is_uppercase)
 }
 
-/// The crate that stands just before a name: "crates/bits, " or "bits: ".
+/// The crate that stands just before a name: "crates/read_bits, " or "read_bits: ".
 fn crate_before(before: &str) -> Option<&str> {
     let last = |text: &'static str| before.strip_suffix(text).and_then(|before| before.split_whitespace().last());
     last(", ").and_then(|word| word.strip_prefix("crates/")).or(last(": "))
@@ -86,7 +94,7 @@ fn stands(files: &Files, home: &Home, name: &str) -> bool {
             let mut texts = ends.iter().flat_map(|end| files.under(&below, end));
             texts.any(|(_, text)| text.lines().any(|line| defines(line, name)))
         }
-        Home::Code(of) => files.under(&format!("crates/{of}/src/"), ".rt").any(|(_, text)| has_item(text, name)),
+        Home::Code(start) => files.under(start, ".rt").any(|(_, text)| has_item(text, name)),
     }
 }
 

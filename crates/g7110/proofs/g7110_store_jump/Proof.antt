@@ -1,5 +1,5 @@
 use mathlib.Core.Path.{ap, _∙_}
-use Rattle.jumping.specs.Calls.{numberOf, toldOf}
+use Rattle.store_jump.specs.Calls.{numberOf, toldOf}
 use Rattle.g7110.specs.Store.{fourOf}
 use borrow.Author.Needs.{needs}
 use Rattle.g7110.proofs.g7110_store_jump.Statement.{statement}

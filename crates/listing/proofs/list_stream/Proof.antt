@@ -5,7 +5,7 @@ use mathlib.Core.Path.{_≡_, refl, sym, _∙_}
 use borrow.Author.Tests.{not-true}
 use lib.Seq.{length-take-le}
 use lib.ListN.{length}
-use Rattle.pages.specs.Pages.{Stands, stepsLeft}
+use Rattle.listing_pages.specs.Pages.{Stands, stepsLeft}
 use Rattle.listing.proofs.list_stream.Statement.{statement}
 use Rattle.listing.proofs.list_stream.Tie as tie
 

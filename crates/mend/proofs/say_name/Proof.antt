@@ -1,7 +1,7 @@
 use borrow.Author.Needs.{needs}
 use mathlib.Core.Path.{sym}
 use lib.Seq.{length-take-le}
-use Rattle.texts.proofs.Texts.{laid-fits}
+use Rattle.tool_words.proofs.TextLaws.{laid-fits}
 use Rattle.mend.proofs.say_name.Statement.{statement}
 use Rattle.mend.proofs.say_name.Tie as tie
 

@@ -1,7 +1,7 @@
 use borrow.Author.Needs.{needs}
 use mathlib.Core.Path.{_≡_, _∙_}
 use lib.ListN.{length}
-use Rattle.cutting.specs.Parts.{partSize}
+use Rattle.tool_packing.specs.SoundParts.{partSize}
 use Rattle.pack.specs.Runs.{pageSize, Stands, stepsLeft}
 use Rattle.pack.proofs.all_parts.Statement.{statement}
 use Rattle.pack.proofs.all_parts.Tie as tie

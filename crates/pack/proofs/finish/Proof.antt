@@ -1,7 +1,7 @@
 use borrow.Author.Needs.{needs}
 use mathlib.Core.Path.{refl, sym, _∙_}
 use native.Mathlib.Omega.{arith}
-use Rattle.cutting.proofs.Numbers.{for-done}
+use Rattle.tool_packing.proofs.Numbers.{for-done}
 use Rattle.pack.proofs.Running.{kept-most}
 use Rattle.pack.proofs.finish.Statement.{statement}
 use Rattle.pack.proofs.finish.Tie as tie

@@ -6,8 +6,8 @@ use mathlib.Core.List.{List}
 use lib.ListN.{length, take}
 use lib.Seq.{length-take-le}
 use Rattle.rules.proofs.Octets.{Below, below-all, below-take}
-use Rattle.packing.proofs.Onward.{Adds}
-use Rattle.cutting.specs.Parts.{partSize}
+use Rattle.tool_packing.proofs.Onward.{Adds}
+use Rattle.tool_packing.specs.SoundParts.{partSize}
 use Rattle.pack.specs.declared.Run.{Run}
 use Rattle.pack.specs.Runs.{NextOctets}
 use Rattle.pack.proofs.Running.{kept-most, run-stopped, part-adds, next-octets, part-taken}

@@ -1,7 +1,7 @@
 use borrow.Author.Needs.{needs}
 use mathlib.Core.Path.{sym, _∙_}
 use mathlib.Core.Bool.{true}
-use Rattle.cutting.proofs.Numbers.{number-done}
+use Rattle.tool_packing.proofs.Numbers.{number-done}
 use Rattle.pack.specs.declared.Run.{Run}
 use Rattle.pack.proofs.Running.{stands-first}
 use Rattle.pack.proofs.pack_file.Statement.{statement}

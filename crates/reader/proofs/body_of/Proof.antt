@@ -8,7 +8,7 @@ use lib.ListN.{length, replicate}
 use Rattle.rules.specs.Bits.{bitsOf}
 use Rattle.rules.specs.Reading.{Reader, whole}
 use Rattle.rules.specs.Frame.{body}
-use Rattle.bodies.proofs.Poured.{fills-as}
+use Rattle.read_bodies.proofs.Poured.{fills-as}
 use Rattle.reader.proofs.Decided.{length-range, last-body}
 use Rattle.reader.proofs.body_of.Statement.{statement}
 use Rattle.reader.proofs.body_of.Tie as tie

@@ -8,7 +8,7 @@ use Rattle.rules.specs.Bits.{bitsOf}
 use Rattle.rules.specs.Reading.{Reader}
 use Rattle.rules.specs.Located.{located}
 use Rattle.rules.specs.Fractional.{fractional}
-use Rattle.bodies.proofs.Poured.{fills-as}
+use Rattle.read_bodies.proofs.Poured.{fills-as}
 use Rattle.reader.proofs.Decided.{length-range}
 use Rattle.rules.proofs.Tests.{forties}
 use Rattle.reader.proofs.few_values.Statement.{statement}

@@ -4,8 +4,8 @@ use mathlib.Core.Path.{_≡_, refl, sym, ap, _∙_}
 use mathlib.Core.List.{List}
 use Rattle.rules.specs.Bits.{bitsOf, fillFor}
 use Rattle.rules.specs.Reading.{andThen, whole}
-use Rattle.bits.specs.declared.Outcome.{Outcome}
-use Rattle.bits.specs.Outcomes.{asRead}
+use Rattle.read_bits.specs.declared.Outcome.{Outcome}
+use Rattle.read_bits.specs.Outcomes.{asRead}
 use Rattle.reader.specs.Answers.{finish}
 use Rattle.reader.proofs.Told.{tells-as}
 use Rattle.reader.proofs.Filled.{filled-by}

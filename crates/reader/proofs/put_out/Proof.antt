@@ -3,7 +3,7 @@ use mathlib.Core.Path.{_≡_}
 use mathlib.Core.List.{_++_}
 use native.Mathlib.Omega.{arith}
 use lib.ListN.{length, take, drop, length-set}
-use Rattle.bodies.proofs.Poured.{poured-turn}
+use Rattle.read_bodies.proofs.Poured.{poured-turn}
 use borrow.Author.Needs.{needs}
 use Rattle.reader.proofs.put_out.Statement.{statement}
 use Rattle.reader.proofs.put_out.Tie as tie

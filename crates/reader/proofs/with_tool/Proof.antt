@@ -12,11 +12,11 @@ use Rattle.rules.specs.Bits.{bitsOf}
 use Rattle.rules.specs.Reading.{Read}
 use Rattle.rules.specs.Samples.{maskOf}
 use Rattle.rules.specs.Frame.{body}
-use Rattle.bits.specs.declared.Outcome.the-variants.{Got}
-use Rattle.bits.specs.Outcomes.{nextOf}
+use Rattle.read_bits.specs.declared.Outcome.the-variants.{Got}
+use Rattle.read_bits.specs.Outcomes.{nextOf}
 use Rattle.law.proofs.Mask.{mask-small, mask-odd}
-use Rattle.bodies.specs.Bodied.{FillsBody}
-use Rattle.bodies.proofs.Told.{body-whole, body-length, body-refused}
+use Rattle.read_bodies.specs.Bodied.{FillsBody}
+use Rattle.read_bodies.proofs.Told.{body-whole, body-length, body-refused}
 use Rattle.reader.proofs.Told.{fills-none, fills-finish}
 use Rattle.reader.proofs.Decided.{no-tool, no-room, no-body, with-body, body-within, body-size}
 use Rattle.reader.proofs.with_tool.Statement.{statement}

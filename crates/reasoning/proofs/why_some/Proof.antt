@@ -2,7 +2,7 @@ use Rattle.reasoning.specs.Best.{whyAllowed}
 use lib.ListN.{take}
 use Prim.Native.Nat.{ℕ}
 use Rattle.reasoning.proofs.Refusing.{why-refused, why-done}
-use Rattle.look.proofs.Tests.{is-mask}
+use Rattle.write_scan.proofs.Tests.{is-mask}
 use mathlib.Core.Path.{sym, ap, _∙_}
 use borrow.Author.Needs.{needs}
 use Rattle.reasoning.proofs.why_some.Statement.{statement}

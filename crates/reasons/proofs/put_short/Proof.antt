@@ -1,5 +1,5 @@
 use lib.ListN.{length-append}
-use Rattle.keyvalue.proofs.Decimals.{decimal-few}
+use Rattle.text_keyvalue.proofs.Decimals.{decimal-few}
 use native.Mathlib.Omega.{arith}
 use borrow.Author.Needs.{needs}
 use Rattle.reasons.proofs.put_short.Statement.{statement}

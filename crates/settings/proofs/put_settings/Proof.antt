@@ -2,8 +2,8 @@ use Prim.Native.Nat.{_≤_}
 use lib.ListN.{length}
 use native.Mathlib.Omega.{arith}
 use Rattle.rules.specs.Listing.{lawWord}
-use Rattle.keyvalue.specs.Lines.{lineOf}
-use Rattle.keyvalue.proofs.Lines.{line-few}
+use Rattle.text_keyvalue.specs.Lines.{lineOf}
+use Rattle.text_keyvalue.proofs.Lines.{line-few}
 use Rattle.settings.specs.Lines.{setWord, blockWord, greetingWord}
 use Rattle.settings.proofs.Calls.{four-puts}
 use borrow.Author.Needs.{needs}

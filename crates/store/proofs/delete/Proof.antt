@@ -3,11 +3,11 @@ use Prim.Native.Nat.{_≤_}
 use mathlib.Core.Path.{_≡_, sym, _∙_}
 use mathlib.Core.Bool.{true}
 use native.Mathlib.Omega.{arith}
-use Rattle.rows.specs.Limits.{largestBlock}
+use Rattle.store_rows.specs.Limits.{largestBlock}
 use borrow.Author.Needs.{needs}
 use borrow.Author.Tests.{not-true, not-false}
-use Rattle.notes.proofs.Matched.{sane-noted, room-for}
-use Rattle.notes.proofs.Stored.{heads-kept, count-kept}
+use Rattle.store_notes.proofs.Matched.{sane-noted, room-for}
+use Rattle.store_notes.proofs.Stored.{heads-kept, count-kept}
 use Rattle.store.specs.Looking.{Looked}
 use Rattle.store.proofs.Looks.{look-told}
 use Rattle.store.proofs.Fitted.{rows-less}

@@ -3,10 +3,10 @@ use Prim.Native.Nat.{_+_, _≤_}
 use mathlib.Core.Path.{_≡_, sym, _∙_}
 use native.Mathlib.Omega.{arith}
 use lib.ListN.{length}
-use Rattle.rows.specs.declared.Gap.the-variants.{At}
-use Rattle.rows.specs.Finding.{lowestGap}
-use Rattle.rows.specs.Cells.{rowsOf}
-use Rattle.notes.proofs.Taken.{heard-few}
+use Rattle.store_rows.specs.declared.rows.Gap.the-variants.{At}
+use Rattle.store_rows.specs.Finding.{lowestGap}
+use Rattle.store_rows.specs.Cells.{rowsOf}
+use Rattle.store_notes.proofs.Taken.{heard-few}
 use Rattle.store.proofs.Fitted.{closed-count, gap-told, gap-asks, behind-asks, fit-gap, fit-behind}
 use borrow.Author.Needs.{needs}
 use Rattle.store.proofs.fit.Statement.{statement}

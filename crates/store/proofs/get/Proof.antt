@@ -4,7 +4,7 @@ use mathlib.Core.Bool.{true}
 use native.Mathlib.Omega.{arith}
 use borrow.Author.Needs.{needs}
 use borrow.Author.Tests.{not-true, not-false}
-use Rattle.notes.proofs.Matched.{sane-noted}
+use Rattle.store_notes.proofs.Matched.{sane-noted}
 use Rattle.store.specs.Looking.{Looked}
 use Rattle.store.proofs.Looks.{look-told}
 use Rattle.store.proofs.Called.{get-table, get-stop, get-absent, get-found}

@@ -4,7 +4,7 @@ use mathlib.Core.Bool.{true}
 use native.Mathlib.Omega.{arith}
 use borrow.Author.Needs.{needs}
 use borrow.Author.Tests.{not-true, not-false}
-use Rattle.notes.proofs.Matched.{sane-noted}
+use Rattle.store_notes.proofs.Matched.{sane-noted}
 use Rattle.store.proofs.Looks.{look-told, at-most}
 use Rattle.store.proofs.Called.{put-table, put-law, put-stop, put-goes-on}
 use Rattle.store.proofs.put.Statement.{statement}

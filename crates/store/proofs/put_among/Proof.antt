@@ -1,7 +1,7 @@
 -- TAKEN, longer than the block, BAD; then what was taken of the walk is the greeting's note (Called).
 use native.Mathlib.Omega.{arith}
-use Rattle.marks.proofs.Taking.{taken-bad}
-use Rattle.notes.proofs.Taken.{taken}
+use Rattle.store_greeting.proofs.Taking.{taken-bad}
+use Rattle.store_notes.proofs.Taken.{taken}
 use Rattle.store.proofs.Called.{put-taken, put-long, put-bad}
 use borrow.Author.Needs.{needs}
 use Rattle.store.proofs.put_among.Statement.{statement}

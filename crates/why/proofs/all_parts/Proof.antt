@@ -3,7 +3,7 @@ use borrow.Author.Needs.{needs}
 use Prim.Native.Nat.{_*_, _-_, _≤_}
 use mathlib.Core.Path.{_≡_}
 use lib.ListN.{length}
-use Rattle.cutting.specs.Parts.{partSize}
+use Rattle.tool_packing.specs.SoundParts.{partSize}
 use Rattle.why.proofs.all_parts.Statement.{statement}
 use Rattle.why.proofs.all_parts.Tie as tie
 

@@ -4,7 +4,7 @@ use native.Mathlib.Omega.{arith}
 use mathlib.Core.Path.{_≡_, sym, _∙_}
 use lib.ListN.{length, take}
 use lib.Seq.{length-take-le}
-use Rattle.cutting.specs.Parts.{partSize}
+use Rattle.tool_packing.specs.SoundParts.{partSize}
 use Rattle.why.proofs.next_part.Statement.{statement}
 use Rattle.why.proofs.next_part.Tie as tie
 

@@ -3,7 +3,7 @@ use Prim.Native.Nat.{_+_, _-_, _≤_}
 use lib.ListN.{length}
 use borrow.Author.Needs.{needs}
 use native.Mathlib.Omega.{arith}
-use Rattle.cutting.proofs.Lengths.{Fits, next-fits}
+use Rattle.tool_packing.proofs.Lengths.{Fits, next-fits}
 use Rattle.why.proofs.part_frames.Statement.{statement}
 use Rattle.why.proofs.part_frames.Tie as tie
 

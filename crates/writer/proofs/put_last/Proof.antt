@@ -8,10 +8,10 @@ use Rattle.rules.specs.Bits.{bitsOf, lowBits}
 use Rattle.rules.specs.Fractional.{firstCode, fractionalBody}
 use Rattle.rules.specs.Chooses.{formOf}
 use Rattle.rules.proofs.Octets.{Below, below-all, below-take, length-bitsOf}
-use Rattle.look.proofs.Tests.{law-for}
-use Rattle.forms.specs.Forms.{wholeOctets}
-use Rattle.forms.proofs.Form.{cells-length}
-use Rattle.forms.proofs.Whole.{whole-form, whole-length}
+use Rattle.write_scan.proofs.Tests.{law-for}
+use Rattle.write_forms.specs.Forms.{wholeOctets}
+use Rattle.write_forms.proofs.Form.{cells-length}
+use Rattle.write_forms.proofs.Whole.{whole-form, whole-length}
 use Rattle.writer.proofs.Planned.{row-form, row-few, row-digits}
 use Rattle.writer.proofs.put_last.Statement.{statement}
 use Rattle.writer.proofs.put_last.Tie as tie

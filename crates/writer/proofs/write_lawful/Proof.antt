@@ -3,7 +3,7 @@ use Prim.Native.Nat.{ℕ}
 use mathlib.Core.Path.{sym, ap, _∙_}
 use borrow.Author.Tests.{not-true, not-false}
 use lib.ListN.{length, take}
-use Rattle.look.proofs.Tests.{is-mask, frame-in}
+use Rattle.write_scan.proofs.Tests.{is-mask, frame-in}
 use Rattle.writer.specs.Answers.{fitting, full}
 use Rattle.writer.proofs.Writing.{refused-writes, writes-as, write-pad, write-length, write-full}
 use Rattle.writer.proofs.write_lawful.Statement.{statement}

@@ -7,10 +7,10 @@ use native.Mathlib.Omega.{arith}
 use lib.ListN.{take}
 use Rattle.rules.specs.Chooses.{Written, chosenTool, formOf}
 use Rattle.writer.specs.Answers.{full}
-use Rattle.forms.specs.Forms.{planForm}
-use Rattle.forms.proofs.Turns.{located-ready}
-use Rattle.choice.proofs.Planning.{short-last}
-use Rattle.forms.proofs.Form.{cells-length}
+use Rattle.write_forms.specs.Forms.{planForm}
+use Rattle.write_forms.proofs.Turns.{located-ready}
+use Rattle.write_choice.proofs.Planning.{short-last}
+use Rattle.write_forms.proofs.Form.{cells-length}
 use Rattle.writer.proofs.Planned.{plan-form}
 use Rattle.writer.proofs.Writing.{form-refused, form-fits, form-written}
 use Rattle.writer.proofs.write_located.Statement.{statement}

@@ -8,8 +8,8 @@ use lib.ListN.{length, take}
 use lib.Seq.{length-take-le}
 use lib.Dec.{eqb}
 use Rattle.rules.proofs.Octets.{length-bitsOf}
-use Rattle.forms.specs.Forms.{wholeOctets}
-use Rattle.forms.proofs.Whole.{whole-length}
+use Rattle.write_forms.specs.Forms.{wholeOctets}
+use Rattle.write_forms.proofs.Whole.{whole-length}
 use Rattle.writer.specs.Answers.{plain}
 use Rattle.writer.proofs.Writing.{form-refused, form-written}
 use Rattle.writer.proofs.write_plain.Statement.{statement}

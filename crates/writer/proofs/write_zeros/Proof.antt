@@ -4,14 +4,14 @@ use Prim.Native.Nat.{ℕ, _/_}
 use mathlib.Core.Path.{_≡_, refl}
 use mathlib.Core.List.{List, map}
 use lib.ListN.{take}
-use Rattle.look.proofs.Tests.{mask-seven}
+use Rattle.write_scan.proofs.Tests.{mask-seven}
 use Rattle.rules.specs.Zeros.{flagOf}
 use Rattle.rules.specs.Chooses.{Written, chosenTool}
-use Rattle.look.specs.Rows.{RowIs}
-use Rattle.forms.specs.Forms.{zerosForm}
+use Rattle.write_scan.specs.Rows.{RowIs}
+use Rattle.write_forms.specs.Forms.{zerosForm}
 use Rattle.writer.specs.Answers.{full}
-use Rattle.forms.proofs.Form.{cells-length, rice-ready}
-use Rattle.zeros.proofs.Turning.{row-flags}
+use Rattle.write_forms.proofs.Form.{cells-length, rice-ready}
+use Rattle.write_zeros.proofs.Turning.{row-flags}
 use Rattle.writer.proofs.Planned.{zeros-form}
 use Rattle.writer.proofs.Writing.{form-refused, form-fits, form-written}
 use Rattle.writer.proofs.write_zeros.Statement.{statement}

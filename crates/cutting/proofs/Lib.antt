@@ -1,4 +1,0 @@
-pub mod Lengths
-pub mod Cuts
-pub mod Filling
-pub mod Numbers

@@ -1,0 +1,54 @@
+-- The rule of the table of first octets: each entry tells what `firstOctet` says of its place.
+use mathlib.Core.Path.{_≡_, refl, ap}
+use mathlib.Core.Bool.{Bool, true, false, _&&_}
+use mathlib.Core.List.{List, [], _∷_}
+use Prim.Native.Nat.{ℕ, zero, suc, _+_, _*_, _/_, _<_}
+use lib.ListN.{getD}
+use lib.Dec.{eqb}
+use borrow.Author.Tests.{eqb-true}
+use Rattle.rules.specs.First.{First, unassigned, pad, tool, sixOrEight, firstOctet}
+use Rattle.first_octet.specs.Answers.{entryTells}
+use Rattle.rules.proofs.Tests.{and-left, and-right, allBelow, allBelow-at}
+
+-- two answers of the map are the same
+abbrev same : First → First → Bool
+same unassigned g = elim g [ unassigned ↦ true | pad ↦ false | tool t n ↦ false | sixOrEight n ↦ false ]
+same pad g = elim g [ unassigned ↦ false | pad ↦ true | tool t n ↦ false | sixOrEight n ↦ false ]
+same (tool t n) g = elim g [ unassigned ↦ false | pad ↦ false | tool u m ↦ eqb t u && eqb n m | sixOrEight m ↦ false ]
+same (sixOrEight n) g = elim g [ unassigned ↦ false | pad ↦ false | tool u m ↦ false | sixOrEight m ↦ eqb n m ]
+
+told : (f g : First) → same f g ≡ true → f ≡ g
+told unassigned unassigned t = refl
+told unassigned pad t = cc
+told unassigned (tool u m) t = cc
+told unassigned (sixOrEight m) t = cc
+told pad unassigned t = cc
+told pad pad t = refl
+told pad (tool u m) t = cc
+told pad (sixOrEight m) t = cc
+told (tool v n) unassigned t = cc
+told (tool v n) pad t = cc
+told (tool v n) (tool u m) t =
+    rw (eqb-true v u (and-left (eqb v u) (eqb n m) t), eqb-true n m (and-right (eqb v u) (eqb n m) t))
+told (tool v n) (sixOrEight m) t = cc
+told (sixOrEight n) unassigned t = cc
+told (sixOrEight n) pad t = cc
+told (sixOrEight n) (tool u m) t = cc
+told (sixOrEight n) (sixOrEight m) t = ap sixOrEight (eqb-true n m t)
+
+abbrev right : List ℕ → ℕ → Bool
+right xs o = same (entryTells (getD xs o 0)) (firstOctet o)
+
+pub rule : (xs : List ℕ) → allBelow (right xs) 256 ≡ true → (o : ℕ) → o < 256 → entryTells (getD xs o 0) ≡ firstOctet o
+rule xs t o h = told _ _ (allBelow-at (right xs) 256 t o h)
+
+-- the entries from octet o on, so many of them, as the rows have them
+abbrev entryFor : First → ℕ
+entryFor unassigned = 1
+entryFor pad = 0
+entryFor (tool t n) = 16 * t + n / 40
+entryFor (sixOrEight n) = 96 + n / 40
+
+abbrev pub entries : ℕ → ℕ → List ℕ
+entries zero o = []
+entries (suc k) o = entryFor (firstOctet o) ∷ entries k (suc o)

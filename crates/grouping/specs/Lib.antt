@@ -1,2 +1,0 @@
--- The digits of a frame.
-pub mod Digits

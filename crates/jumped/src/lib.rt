@@ -1,1 +1,0 @@
-// No code: theorems about jumps into a store (document 02, R-9), over any list of calls. They hold of the proved code by its contract.

@@ -1,7 +1,0 @@
--- Document 02, R-6 and R-8: what is promised of a store over any list of calls.
---   Told: a list of calls from a fresh block, and the octets put and deleted.
---   Loading: a text that is read, and the order of its refusals.
---   Kept: what a store reads under a number, its note, which places are clear, which octets stay, and which have moved.
-pub mod Told
-pub mod Kept
-pub mod Loading

@@ -1,4 +1,0 @@
--- Document 02, R-8, "Marks inside a greeting".
---   Marks: what is kept of a greeting, read off the frames that its walk delivers.     Taking: the same, taken as the walk goes.
-pub mod Marks
-pub mod Taking

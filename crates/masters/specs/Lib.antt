@@ -1,2 +1,0 @@
--- Masters of 16 bits.
-pub mod Masters

@@ -1,1 +1,0 @@
-// No code: theorems about mending's definitions, in proofs/. They hold of the proved code by its contract.

@@ -1,9 +1,0 @@
-use borrow.Author.Needs.{needs}
-use Rattle.options.proofs.at_first.Statement.{statement}
-use Rattle.options.proofs.at_first.Tie as tie
-
-returns : tie.Need-returns
-returns c = rw (← (c .set-at-first .ensures))
-
-pub at-first-spec : {M : Type 1} → statement M
-at-first-spec = tie.close (tie.spec (λ c κs. search needs) returns)

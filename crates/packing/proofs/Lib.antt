@@ -1,9 +1,0 @@
-pub mod Kept
-pub mod Part
-pub mod Way
-pub mod Ordered
-pub mod Whole
-pub mod Enough
-pub mod Identity
-pub mod Parts
-pub mod Onward

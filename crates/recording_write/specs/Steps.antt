@@ -1,0 +1,56 @@
+-- What the parts of the code promise each other.
+use Prim.Native.Nat.{ℕ, _+_, _≤_, _<_}
+use mathlib.Core.Path.{_≡_}
+use mathlib.Core.List.{List}
+use mathlib.Core.Bool.{true}
+use lib.ListN.{length, replicate}
+use Rattle.rules.specs.Bits.{octetsFor, pack}
+use Rattle.rules.specs.Chooses.{formOf, chosenTool, chosen}
+use Rattle.rules.specs.Walk.{longest}
+use Rattle.rules.specs.declared.Refusal as rules
+use Rattle.recording.specs.declared.Refusal.the-variants.{Frame}
+use Rattle.recording.specs.declared.Ending.the-variants.{Refused}
+use Rattle.recording.specs.declared.FileWritten.{FileWritten}
+use Rattle.recording.specs.Remembered.{headingLength, plusPlus}
+use Rattle.recording.specs.Files.{sixLengths, givenBy, fileGiven}
+use Rattle.recording.specs.Calls.{Writes}
+use Rattle.recording_write.specs.Cells.{lengthIn, taken}
+
+-- "the writer's chosen form"
+unfoldable pub form : ℕ → ℕ → List ℕ → List ℕ
+form mask set s = pack (chosen mask set s .bits)
+
+-- the octets of the form that is chosen for samples
+pub record Sizes (mask set : ℕ) (s : List ℕ) (r : ℕ) : Type 0 where
+  pub octets : r ≡ octetsFor (length (formOf mask (chosenTool mask set s) s))
+  pub most : r ≤ 200000000
+
+-- "N times 0++", for the longest N
+abbrev pub Quiet : ℕ → List ℕ → Type 0
+Quiet mask quiet = quiet ≡ replicate 320 (plusPlus mask)
+
+-- an item that is allowed, with the samples for it
+pub record ItemIn (samples : List ℕ) (c : ℕ) : Type 0 where
+  pub allowed : sixLengths (lengthIn c) ≡ true
+  pub inside : taken c ≤ length samples
+
+-- the octets measured: all, or so many that they are LONG
+pub record Measures (total r : ℕ) : Type 0 where
+  pub exact : r ≤ longest → r ≡ total
+  pub long : longest < r → longest < total
+
+-- a number that settles LONG and ROOM as the octets themselves do
+pub record Settles (total room r : ℕ) : Type 0 where
+  pub long : longest < r → longest < total
+  pub short : r ≤ longest → total ≤ longest
+  pub no-room : r ≤ longest → room < headingLength + r → room < headingLength + total
+  pub room-for : r ≤ longest → headingLength + r ≤ room → headingLength + total ≤ room
+
+-- a refusal
+pub record Declines (why : rules.Refusal) (r : FileWritten) : Type 0 where
+  pub end : r .end ≡ Refused (Frame why)
+  pub octets : r .octets ≡ 0
+
+-- after LAW, SET and LENGTH: "LONG, ROOM (heading and all)"
+abbrev pub WriteGiven : List ℕ → List ℕ → ℕ → ℕ → List ℕ → List ℕ → FileWritten → Type 0
+WriteGiven samples cells law set out out′ r = Writes (fileGiven law set (givenBy cells samples) (length out)) r out out′

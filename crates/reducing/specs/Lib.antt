@@ -1,2 +1,0 @@
--- Rows by one number.
-pub mod Keys

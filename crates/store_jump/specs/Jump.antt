@@ -1,0 +1,45 @@
+-- Document 02, R-9: "from the last mark at or before it and fewer than 64 frames after that mark"; "The answer counts the frames read, from
+-- that mark up to and including the one named." "Refusals, in order: NUMBER, ABSENT, BEYOND (21) if the sample number isn't below the
+-- greeting's samples."
+use Prim.Native.Nat.{ℕ, _+_, _*_, _%_}
+use mathlib.Core.List.{List}
+use mathlib.Core.Bool.{cond, not}
+use lib.ListN.{length}
+use lib.Dec.{eqb, leb, ltb}
+use Rattle.store_rows.specs.declared.rows.Row.{Row}
+use Rattle.store_rows.specs.Limits.{isNumber}
+use Rattle.store_rows.specs.Rows.{greeting}
+use Rattle.store_rows.specs.Finding.{absent, findFrom}
+use Rattle.store_rows.specs.Changed.{nth}
+use Rattle.store_greeting.specs.Marks.{Mark, Note, framesApart}
+use Rattle.store_notes.specs.Notes.{nthNote}
+use Rattle.store_jump.specs.declared.seeking.Sought.{Sought}
+use Rattle.store_jump.specs.declared.seeking.Sought.the-variants.{At, Nowhere}
+use Rattle.store_jump.specs.Seeking.{seek, fromMark, nthMark, lastMark}
+use Rattle.store_jump.specs.declared.jumping.Refusal.the-variants.{Number, Absent, Bad, Beyond}
+use Rattle.store_jump.specs.declared.jumping.Answer.{Answer}
+use Rattle.store_jump.specs.declared.jumping.Answer.the-variants.{Done, Refused}
+
+-- The frames read count from the mark's own frame, whose number is a multiple of 64. Where the frames do not reach the sample: BAD.
+abbrev pub named : Sought → Answer
+named (At frame place inside) = Done frame place inside (frame % framesApart + 1)
+named Nowhere = Refused Bad
+
+-- from mark k of a greeting; a mark behind the sample is false
+unfoldable pub jumpFrom : ℕ → List ℕ → ℕ → Mark → ℕ → Answer
+jumpFrom law xs k m sample =
+    cond (ltb sample (m .samples)) (Refused Bad)
+    (named (seek sample (framesApart * k) (m .samples) (fromMark law xs (m .octets) .frames)))
+
+-- in a greeting with its note; one without a mark has no frame to begin at
+unfoldable pub jumpIn : List ℕ → Note → ℕ → Answer
+jumpIn xs n sample =
+    cond (leb (n .samples) sample) (Refused Beyond)
+    (cond (eqb (length (n .marks)) 0) (Refused Bad)
+    (jumpFrom (n .law) xs (lastMark (n .marks) sample) (nthMark (lastMark (n .marks) sample) (n .marks)) sample))
+
+unfoldable pub jumpAmong : List ℕ → List Row → List Note → ℕ → ℕ → Answer
+jumpAmong b rows notes number sample =
+    cond (not (isNumber number)) (Refused Number)
+    (cond (absent number rows) (Refused Absent)
+    (jumpIn (greeting b (nth (findFrom number 0 rows) rows)) (nthNote (findFrom number 0 rows) notes) sample))

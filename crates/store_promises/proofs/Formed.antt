@@ -1,0 +1,96 @@
+-- Document 02, R-11, the promises of its tables.
+--   `form-exactly`, `form-by-block`: a saved table begins with `form=2` exactly when a start, a count of octets or the block exceeds
+--   65,535.
+--   `same-store`: with the line and without it a table gives the same store, where both are allowed.
+--   `old-refuses`: the older reader refuses every text that begins so, at its first line, with TABLE.
+--   `old-alike`, `old-takes`: it reads every other text as the new one does, so also what is saved of a block of up to 16,384 octets.
+use Prim.Native.Nat.{ℕ, _≤_}
+use mathlib.Core.Path.{_≡_, refl, sym, ap, _∙_}
+use mathlib.Core.List.{List, [], _∷_, _++_}
+use mathlib.Core.Bool.{Bool, true, false, cond}
+use native.Mathlib.Omega.{arith}
+use lib.ListN.{length}
+use lib.Dec.{ltb}
+use borrow.Author.Tests.{le-ltb}
+use Rattle.store_rows.specs.Limits.{largestBlock, sizeOf}
+use Rattle.store_rows.specs.Cells.{rowsOf}
+use Rattle.store_notes.specs.Cells.{notesOf}
+use Rattle.store_notes.specs.Sane.{storeCells, saneStore}
+use Rattle.store.specs.declared.Refusal.the-variants.{Table}
+use Rattle.store.specs.Store.{Outcome, refused}
+use Rattle.text_keyvalue.specs.Reading.{begins}
+use Rattle.store_text.specs.Table.{mostPlace}
+use Rattle.store_text.specs.Noted.{Listed, rowsListed, listing, listedText}
+use Rattle.store_text.specs.Form.{formLine, needsForm, savedText}
+use Rattle.store_text.proofs.Exact.{Sayable, Each}
+use Rattle.store_text.proofs.Noted.{SayableAll}
+use Rattle.store_text.proofs.Noting.{rows-listing}
+use Rattle.store_text.proofs.Formed.{unformed, listed-begins, form-by-size, old-rows, old-noted}
+use Rattle.store_save.specs.Saved.{saved, declined, saveOf, loadOf}
+use Rattle.store_save.specs.Old.{oldBlock, oldSizeOf, oldCells, oldLoadOf}
+use Rattle.store_promises.proofs.Granted.{sane-rows, sane-count}
+use Rattle.store_promises.proofs.Loaded.{read-as}
+use Rattle.store_promises.proofs.Sayable.{said-lists, formed-lists}
+use Rattle.store_promises.proofs.Promises.{saved-text}
+
+-- "SAVED TABLES GAIN A FIRST LINE `form=2` WHEN .., AND ONLY THEN"
+form-begins : (t : Bool) (xs : List Listed) → begins formLine (cond t formLine [] ++ listedText xs) ≡ t
+unfolding begins
+form-begins true xs = refl
+form-begins false xs = listed-begins xs
+
+module _ (b t : List ℕ) (room : ℕ) (text : List ℕ) (e : saveOf b t room ≡ saved text) where
+  save-sane : saneStore (sizeOf b) t ≡ true
+  save-sane = go (saneStore (sizeOf b) t) refl
+    where
+      go : (s : Bool) → saneStore (sizeOf b) t ≡ s → s ≡ true
+      go true f = refl
+      go false f = let g : declined Table ≡ saved text = sym (rw f) ∙ e in let z : _≡_ {A = ℕ} 0 1 = cc in absurd (omega arith)
+
+  written : text ≡ savedText (sizeOf b) (listing (rowsOf t) (notesOf t))
+  written = saved-text (sizeOf b) (listing (rowsOf t) (notesOf t)) room text (sym (rw save-sane) ∙ e)
+
+  pub form-exactly : begins formLine text ≡ needsForm (sizeOf b) (rowsOf t)
+  form-exactly =
+      let xs = listing (rowsOf t) (notesOf t) in
+      ap (begins formLine) written ∙ form-begins (needsForm (sizeOf b) (rowsListed xs)) xs
+      ∙ ap (needsForm (sizeOf b)) (rows-listing (rowsOf t) (notesOf t) (sane-count b t save-sane))
+
+  -- all greetings lie inside the block, so that is exactly where the block exceeds 65,535
+  pub form-by-block : begins formLine text ≡ ltb mostPlace (sizeOf b)
+  form-by-block = form-exactly ∙ form-by-size 1 0 (sizeOf b) (rowsOf t) (sane-rows (sizeOf b) t save-sane .rises)
+
+-- "THE NEW READER TAKES TABLES WITH AND WITHOUT IT"
+pub same-store : (b t : List ℕ) (xs : List Listed) → Each (SayableAll mostPlace) xs → length xs ≤ 32
+    → loadOf (formLine ++ listedText xs) b t ≡ loadOf (listedText xs) b t
+same-store b t xs h l =
+    ap (λ (o : Outcome). cond (ltb (length t) (storeCells (sizeOf b))) (refused Table) o)
+    (read-as (sizeOf b) (formed-lists b xs (each-wider xs h) l) ∙ sym (read-as (sizeOf b) (said-lists b xs h l)))
+  where
+    each-wider : (ys : List Listed) → Each (SayableAll mostPlace) ys → Each (SayableAll largestBlock) ys
+    each-wider [] g = tt
+    each-wider (y ∷ ys) g =
+        let r = g .0 .row in
+        let row : Sayable largestBlock (y .row) =
+        record { least = r .least; most = r .most; start = omega (arith, r .start); octets = omega (arith, r .octets) } in
+        (record { row = row; law = g .0 .law; samples = g .0 .samples; marks = g .0 .marks }, each-wider ys (g .1))
+
+-- "THE OLD TABLE READER MUST REFUSE A form=2 TABLE AT ITS FIRST LINE WITH TABLE"
+either : (s : Bool) {A : Type 0} (x : A) → cond s x x ≡ x
+either true x = refl
+either false x = refl
+
+pub old-refuses : (rest b t : List ℕ) → oldLoadOf (formLine ++ rest) b t ≡ refused Table
+old-refuses rest b t = rw (old-rows rest, old-noted rest) (either (ltb (length t) (oldCells (oldSizeOf b))) (refused Table))
+
+-- every other text it reads as the new one does, with a block of up to 16,384 octets
+pub old-alike : (text b t : List ℕ) → length b ≤ oldBlock → begins formLine text ≡ false → oldLoadOf text b t ≡ loadOf text b t
+old-alike text b t h f =
+    let z : oldSizeOf b ≡ sizeOf b = omega arith in
+    let y : oldCells (sizeOf b) ≡ storeCells (sizeOf b) = omega arith in
+    rw (z, y, unformed text f)
+
+pub old-takes : (b t : List ℕ) (room : ℕ) (text : List ℕ) → saveOf b t room ≡ saved text → length b ≤ oldBlock → (t′ : List ℕ)
+    → oldLoadOf text b t′ ≡ loadOf text b t′
+old-takes b t room text e h t′ =
+    old-alike text b t′ h (form-by-block b t room text e ∙ le-ltb mostPlace (sizeOf b) (omega arith))

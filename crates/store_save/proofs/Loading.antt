@@ -1,0 +1,214 @@
+-- Loading in the code's steps: what is read stands in cells (`celled-noted`, `celled-early`), and what a text that is taken leaves.
+use Prim.Native.Nat.{ℕ, suc, _≤_, _<_}
+use mathlib.Core.Path.{_≡_, refl, sym, ap, subst, _∙_}
+use mathlib.Core.List.{List, [], _∷_, _++_}
+use mathlib.Core.Bool.{Bool, true, false, cond, not}
+use native.Mathlib.Omega.{arith}
+use lib.ListN.{length, getD, drop, replicate}
+use lib.Seq.{drop-at}
+use borrow.Author.Tests.{lt-ltb, le-ltb}
+use Rattle.store_rows.specs.declared.rows.Row.{Row}
+use Rattle.store_rows.specs.Limits.{sizeOf}
+use Rattle.store_rows.specs.Cells.{rowsAt, laid}
+use Rattle.store_rows.specs.Sane.{rising, numbered}
+use Rattle.store_rows.proofs.Cells.{rows-laid, count-laid}
+use Rattle.store_greeting.specs.Marks.{Note}
+use Rattle.store_notes.specs.Cells.{notesLaid}
+use Rattle.store_notes.specs.Sane.{storeCells}
+use Rattle.store.specs.declared.Refusal.{Refusal}
+use Rattle.store.specs.declared.Refusal.the-variants.{Bad, Table}
+use Rattle.store.specs.declared.Answer.{Answer}
+use Rattle.store.specs.declared.Answer.the-variants.{Done, Refused}
+use Rattle.store.specs.Store.{Outcome, leaves, refused}
+use Rattle.text_keyvalue.specs.Reading.{Read, whole, none}
+use Rattle.store_text.specs.declared.Count.{Count}
+use Rattle.store_text.specs.declared.Count.the-variants.{Greetings, Wrong}
+use Rattle.store_text.specs.Table.{tableIn}
+use Rattle.store_text.specs.Noted.{Listed, listedAt, rowsListed, notesListed}
+use Rattle.store_text.specs.declared.Form.{Form}
+use Rattle.store_text.specs.Form.{formOf}
+use Rattle.store_text.specs.Fills.{Fills, FillsNoted, lawsListed}
+use Rattle.store_text.proofs.Noting.{length-rows-listed}
+use Rattle.store_save.specs.declared.Verdict.the-variants.{Stop, Fine}
+use Rattle.store_save.specs.Saved.{anyBad, allTrue, loadIn, loadNoted, loadOf, early}
+use Rattle.store_save.specs.Steps.{badBy, notesBy, judgedBy, greetingsOf, isWhole, Celled, AllNotes}
+use Rattle.store_save.specs.Calls.{Takes, Load, verdictOf}
+use Rattle.store_save.proofs.Bad.{bad-celled, notes-celled, rows-early, laws-early, true-early}
+use Rattle.store_save.proofs.Judging.{Passes, celled-stop, celled-fine, passes-true}
+
+length-laws : (xs : List Listed) → length (lawsListed xs) ≡ length xs
+unfolding lawsListed
+length-laws [] = refl
+length-laws (x ∷ xs) = ap suc (length-laws xs)
+
+rows-read : (rows : List Row) (cells₀ : List ℕ) {cells : List ℕ} {n : ℕ} → n ≡ length rows → cells ≡ laid rows cells₀
+    → rowsAt cells n 1 ≡ rows
+rows-read rows cells₀ {cells} {n} e f =
+    let m : n ≡ getD (laid rows cells₀) 0 0 = e ∙ sym (count-laid rows cells₀) in
+    ap (λ (c : List ℕ). rowsAt c n 1) f ∙ ap (λ (j : ℕ). rowsAt (laid rows cells₀) j 1) m ∙ rows-laid rows cells₀
+
+-- the greetings of R-8's lines, as they were read into cells
+pub fills-as : {found : Read (List Listed)} {a b c d : List ℕ} {r q : Count} → r ≡ q → FillsNoted found a b c d r
+    → FillsNoted found a b c d q
+fills-as e f = rw (← e) f
+
+pub celled-noted : (found : Read (List Listed)) {cells₀ cells laws₀ laws : List ℕ} {n : ℕ}
+    → FillsNoted found cells₀ cells laws₀ laws (Greetings n)
+    → 97 ≤ length cells → 32 ≤ length laws → (isWhole found ≡ true) × Celled (greetingsOf found) cells laws n
+celled-noted none f a b = let e = f .count in let z : _≡_ {A = ℕ} 0 1 = cc in absurd (omega arith)
+celled-noted (whole xs i) {cells₀} {cells} {laws₀} {laws} {n} f a b =
+    let e = f .count in
+    let k : n ≡ length xs = cc in
+    let d : drop (length xs) laws ≡ drop (length xs) laws₀ =
+    ap (drop (length xs)) (f .filled .1) ∙ drop-at (lawsListed xs) (drop (length xs) laws₀) (length xs) (length-laws xs) in (
+      refl,
+      record {
+        few = f .few n refl;
+        cells-room = a;
+        laws-room = b;
+        rows-are = rows-read (rowsListed xs) cells₀ (k ∙ sym (length-rows-listed xs)) (f .filled .0);
+        laws-are = f .filled .1 ∙ ap (λ (l : List ℕ). lawsListed xs ++ l) (sym d);
+      },
+    )
+
+-- those of R-6's lines: law 1
+pub rows-as : {found : Read (List Row)} {a b : List ℕ} {r q : Count} → r ≡ q → Fills found a b r → Fills found a b q
+rows-as e f = rw (← e) f
+
+pub record Early (b : List ℕ) (found : Read (List Row)) (cells : List ℕ) (n : ℕ) : Type 0 where
+  pub rows : List Row
+  pub end : ℕ
+  pub reads : found ≡ whole rows end
+  pub celled : Celled (early b rows) cells (replicate 32 1) n
+
+pub celled-early : (b : List ℕ) (found : Read (List Row)) {cells₀ cells : List ℕ} {n : ℕ} → Fills found cells₀ cells (Greetings n)
+    → 97 ≤ length cells → Early b found cells n
+celled-early b none f a = let e = f .count in let z : _≡_ {A = ℕ} 0 1 = cc in absurd (omega arith)
+celled-early b (whole rows i) {cells₀} {cells} {n} f a =
+    let e = f .count in
+    let k : n ≡ length rows = cc in
+    let few = f .few n refl in
+    record {
+      rows = rows;
+      end = i;
+      reads = refl;
+      celled = record {
+        few = few;
+        cells-room = a;
+        laws-room = omega arith;
+        rows-are = rows-read rows cells₀ k (f .filled) ∙ sym (rows-early b rows);
+        laws-are = laws-early b rows 32 (omega arith);
+      };
+    }
+
+-- what storing rests on, and what it stores
+module _ {b : List ℕ} {size : ℕ} {xs : List Listed} {cells laws : List ℕ} {n : ℕ} (c : Celled xs cells laws n) (p : Passes b size xs) where
+  pub all-notes : {t : List ℕ} {s : ℕ} → s ≡ size → s ≡ sizeOf b → storeCells s ≤ length t → AllNotes b cells laws n s t
+  all-notes e z r =
+      record {
+        few = c .few;
+        cells-room = c .cells-room;
+        laws-room = c .laws-room;
+        inside = omega (arith, z);
+        small = omega (arith, z);
+        rises = rw (e, c .rows-are) (p .rises);
+        fine = rw (c .rows-are) (ap (badBy b (rowsListed xs)) (c .laws-are) ∙ sym (bad-celled b xs (drop (length xs) laws)) ∙ p .fine);
+        room = r;
+      }
+
+  pub takes-all : {t t₁ t₂ : List ℕ} → allTrue b xs ≡ true → t₁ ≡ laid (rowsListed xs) t
+      → t₂ ≡ notesLaid (notesBy b (rowsAt cells n 1) laws) t₁ → Takes (loadIn b size xs) t t₂ (Done 0 0)
+  takes-all {t} {t₁} {t₂} e f g =
+      let m : notesBy b (rowsAt cells n 1) laws ≡ notesListed xs =
+      ap (λ (l : List Row). notesBy b l laws) (c .rows-are) ∙ ap (notesBy b (rowsListed xs)) (c .laws-are)
+      ∙ sym (notes-celled b xs (drop (length xs) laws) e) in
+      rw (passes-true p e)
+      (record { answer = refl; table = g ∙ ap (λ (l : List Note). notesLaid l t₁) m ∙ ap (notesLaid (notesListed xs)) f })
+
+-- a verdict, as an outcome
+stopped : (o : Outcome) {w : Refusal} → Stop w ≡ verdictOf o → o ≡ refused w
+stopped (leaves a) e = let z : _≡_ {A = ℕ} 0 1 = cc in absurd (omega arith)
+stopped (refused v) {w} e = let z : w ≡ v = cc in ap refused (sym z)
+
+refuses : (o : Outcome) (t : List ℕ) {w : Refusal} → o ≡ refused w → Takes o t t (Refused w)
+refuses o t e = rw e (record { answer = refl; table = refl })
+
+pub record Accepts (b : List ℕ) (size : ℕ) (xs : List Listed) : Type 0 where
+  pub passes : Passes b size xs
+  pub all : allTrue b xs ≡ true
+
+pub accepts : (b : List ℕ) (size : ℕ) (xs : List Listed) → Fine ≡ verdictOf (loadIn b size xs) → Accepts b size xs
+unfolding loadIn
+accepts b size xs e =
+    go (rising 0 0 size (rowsListed xs)) (numbered (rowsListed xs)) (anyBad b xs) (allTrue b xs) refl refl refl refl e
+  where
+    go : (x y u v : Bool) → rising 0 0 size (rowsListed xs) ≡ x → numbered (rowsListed xs) ≡ y → anyBad b xs ≡ u → allTrue b xs ≡ v
+        → Fine ≡ verdictOf (cond (not x) (refused Table) (cond (not y) (refused Table) (cond u (refused Bad) (cond (not v) (refused Table)
+        (leaves (record { block = b; rows = rowsListed xs; notes = notesListed xs; first = 0; second = 0 })))))) → Accepts b size xs
+    go false y u v p q r s e = let z : _≡_ {A = ℕ} 0 1 = cc in absurd (omega arith)
+    go true false u v p q r s e = let z : _≡_ {A = ℕ} 0 1 = cc in absurd (omega arith)
+    go true true true v p q r s e = let z : _≡_ {A = ℕ} 0 1 = cc in absurd (omega arith)
+    go true true false false p q r s e = let z : _≡_ {A = ℕ} 0 1 = cc in absurd (omega arith)
+    go true true false true p q r s e = record { passes = record { rises = p; once = q; fine = r }; all = s }
+
+-- R-8's lines
+noted-is : (b : List ℕ) (size : ℕ) (found : Read (List Listed)) → isWhole found ≡ true
+    → loadNoted b size found ≡ loadIn b size (greetingsOf found)
+noted-is b size (whole xs i) e = refl
+noted-is b size none e = let z : _≡_ {A = ℕ} 0 1 = cc in absurd (omega arith)
+
+pub noted-wrong : (b : List ℕ) (size : ℕ) (found : Read (List Listed)) (t : List ℕ) {p q r s : List ℕ} → FillsNoted found p q r s Wrong
+    → Takes (loadNoted b size found) t t (Refused Table)
+noted-wrong b size (whole xs i) t f = let e = f .count in let z : _≡_ {A = ℕ} 0 1 = cc in absurd (omega arith)
+noted-wrong b size none t f = record { answer = refl; table = refl }
+
+pub noted-stop : (b : List ℕ) (size : ℕ) (found : Read (List Listed)) (t : List ℕ) {w : Refusal} → isWhole found ≡ true
+    → Stop w ≡ verdictOf (loadIn b size (greetingsOf found)) → Takes (loadNoted b size found) t t (Refused w)
+noted-stop b size found t e f = refuses (loadNoted b size found) t (noted-is b size found e ∙ stopped (loadIn b size (greetingsOf found)) f)
+
+rows-again : (found : Read (List Listed)) {t t₁ laws laws′ : List ℕ} {q : Count} → isWhole found ≡ true → FillsNoted found t t₁ laws laws′ q
+    → t₁ ≡ laid (rowsListed (greetingsOf found)) t
+rows-again (whole xs i) e f = f .filled .0
+rows-again none e f = let z : _≡_ {A = ℕ} 0 1 = cc in absurd (omega arith)
+
+pub noted-fine : (b : List ℕ) (size : ℕ) (found : Read (List Listed)) {cells laws : List ℕ} {n : ℕ} {t t₁ t₂ r s : List ℕ} {q : Count}
+    → isWhole found ≡ true → Celled (greetingsOf found) cells laws n → Accepts b size (greetingsOf found) → FillsNoted found t t₁ r s q
+    → t₂ ≡ notesLaid (notesBy b (rowsAt cells n 1) laws) t₁ → Takes (loadNoted b size found) t t₂ (Done 0 0)
+noted-fine b size found e c a f g = rw (noted-is b size found e) (takes-all c (a .passes) (a .all) (rows-again found e f) g)
+
+-- the whole call
+none-read : (found : Read (List Row)) {a b : List ℕ} → Fills found a b Wrong → found ≡ none
+none-read (whole rows i) f = let e = f .count in let z : _≡_ {A = ℕ} 0 1 = cc in absurd (omega arith)
+none-read none f = refl
+
+rows-twice : (found : Read (List Row)) {rows : List Row} {i : ℕ} {t t₁ : List ℕ} {q : Count} → found ≡ whole rows i → Fills found t t₁ q
+    → t₁ ≡ laid rows t
+rows-twice found {rows} {i} {t} {t₁} {q} e f = go (rw e at f)
+  where
+    go : Fills (whole rows i) t t₁ q → t₁ ≡ laid rows t
+    go f = f .filled
+
+module _ (text b t : List ℕ) {size cells : ℕ} (z : size ≡ sizeOf b) (k : cells ≡ storeCells size) where
+  pub load-short : length t < cells → Load text b t t (Refused Table)
+  load-short h = refuses (loadOf text b t) t (rw (← z, ← k, lt-ltb (length t) cells h))
+
+  module _ (h : cells ≤ length t) where
+    pub load-later : {x y t′ : List ℕ} {r : Answer} {form : Form} → Fills (tableIn text) x y Wrong → form ≡ formOf text
+        → Takes (loadNoted b (sizeOf b) (listedAt (form .most) (form .from) text)) t t′ r → Load text b t t′ r
+    load-later {t′ = t′} {r} f e g =
+        let found = subst (λ (q : Form). Takes (loadNoted b (sizeOf b) (listedAt (q .most) (q .from) text)) t t′ r) e g in
+        rw (← z, ← k, le-ltb (length t) cells h, none-read (tableIn text) f) (rw (← z) at found)
+
+    module _ {x : List ℕ} {n : ℕ} (e : Early b (tableIn text) x n) where
+      pub load-stop : {w : Refusal} → Stop w ≡ judgedBy b (sizeOf b) (rowsAt x n 1) (replicate 32 1) → Load text b t t (Refused w)
+      load-stop f =
+          let o = loadIn b (sizeOf b) (early b (e .rows)) in
+          let g = celled-stop (e .celled) b (sizeOf b) f in
+          refuses (loadOf text b t) t (rw (← z, ← k, le-ltb (length t) cells h, e .reads) (rw (← z) at (stopped o g)))
+
+      pub load-fine : {t₁ t₂ : List ℕ} {q : Count} → Fine ≡ judgedBy b (sizeOf b) (rowsAt x n 1) (replicate 32 1)
+          → Fills (tableIn text) t t₁ q → t₂ ≡ notesLaid (notesBy b (rowsAt x n 1) (replicate 32 1)) t₁ → Load text b t t₂ (Done 0 0)
+      load-fine {t₁} {t₂} f g s =
+          let p = celled-fine (e .celled) b (sizeOf b) f in
+          let l = rows-twice (tableIn text) (e .reads) g ∙ ap (λ (r : List Row). laid r t) (sym (rows-early b (e .rows))) in
+          rw (← z, ← k, le-ltb (length t) cells h, e .reads) (rw (← z) at (takes-all (e .celled) p (true-early b (e .rows)) l s))

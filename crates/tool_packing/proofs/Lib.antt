@@ -1,0 +1,13 @@
+pub mod Lengths
+pub mod Cuts
+pub mod Filling
+pub mod Numbers
+pub mod Kept
+pub mod Part
+pub mod Way
+pub mod Ordered
+pub mod Whole
+pub mod Enough
+pub mod Identity
+pub mod Parts
+pub mod Onward

@@ -1,0 +1,4 @@
+pub mod Cuts
+pub mod SoundParts
+pub mod Packing
+pub mod Parts

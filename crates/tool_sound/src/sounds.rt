@@ -1,0 +1,334 @@
+// The forms in which the bench tools read and write a sound: raw G.711 (0), linear values of 16 bits (1), a WAV file of them (2); and a sound
+// compared with a master.
+// No contract can say what is read or written. What octets mean stands in `masters` and `wave`.
+ghost use Prim.Native.Nat.{_≤_, _<_};
+ghost use mathlib.Core.Path.{_≡_};
+ghost use lib.ListN.{length};
+ghost use Rattle.tool_sound.specs.Uses.{UsesUpTo};
+use crate::wave::Heading;
+use crate::wave::Wrong;
+use tool_words::options::PACK;
+use tool_words::options::UNPACK;
+
+// A part that was read: its samples, whether a read failed, and how many octets the file should still have.
+pub struct Heard {
+    pub count: usize,
+    pub failed: bool,
+    pub left: usize,
+}
+
+// A sound that was opened: how many octets it should have, 0 where nothing tells it; and whether it was refused (1) or a read failed (2).
+pub struct Opened {
+    pub trouble: u32,
+    pub left: usize,
+}
+
+// At most so many octets, read as linear values; `left` is how many octets came.
+fn read_values(fd: i32, law: u32, most: usize, octets: &mut [u8], part: &mut [u8]) -> Heard
+    requires { ⌜ most ≤ length (now octets) ⌝ }
+    ensures { λ r. ⌜ r .count ≤ length (now (part .exit)) ⌝ }
+{
+    let got = tool_console::read_part(fd, &mut octets[..most]);
+    let n = got.count;
+    let count = crate::masters::sound_of(&octets[..n], law, part);
+    Heard {
+        count,
+        failed: got.failed,
+        left: n,
+    }
+}
+
+// How many octets of a file of linear values are read for a part: two for each sample, and no more than the file should have.
+fn octets_for(form: u32, left: usize) -> usize
+    ensures { λ r. ⌜ r ≤ 122880 ⌝ }
+{
+    if form == 1 {
+        return 122880;
+    }
+    if left < 122880 {
+        return left;
+    }
+    122880
+}
+
+// How many octets the file should still have: all but those that came; without a heading, the other half of a value.
+fn left_after(form: u32, left: usize, came: usize) -> usize {
+    if form == 1 {
+        return came % 2;
+    }
+    if left < came {
+        return 0;
+    }
+    left - came
+}
+
+// The next samples of a sound, as many as the part holds: 61,440.
+pub fn read_part(fd: i32, form: u32, law: u32, left: usize, part: &mut [u8]) -> Heard
+    ensures { λ r. ⌜ r .count ≤ length (now (part .exit)) ⌝ }
+{
+    if form == 0 {
+        let got = tool_console::read_part(fd, part);
+        return Heard {
+            count: got.count,
+            failed: got.failed,
+            left: 0,
+        };
+    }
+    let mut octets = [0u8; 122880];
+    let heard = read_values(fd, law, octets_for(form, left), &mut octets, part);
+    Heard {
+        count: heard.count,
+        failed: heard.failed,
+        left: left_after(form, left, heard.left),
+    }
+}
+
+// What is wrong with a WAV file, and what it has there.
+fn say_what(before: &[u8], what: u32, after: &[u8]) {
+    tool_console::say_number(before, what as usize);
+    tool_console::say(after);
+}
+
+// Why a WAV file is refused.
+fn say_wrong(why: Wrong) {
+    tool_console::say_tool(PACK);
+    match why {
+        Wrong::NotWave => tool_console::say(b"this is no WAV file\n"),
+        Wrong::Format(what) => say_what(b"the WAV file has format ", what, b", and PCM is 1\n"),
+        Wrong::Channels(what) => say_what(
+            b"the WAV file has ",
+            what,
+            b" channels, and a master has 1\n",
+        ),
+        Wrong::Rate(what) => say_what(
+            b"the WAV file has ",
+            what,
+            b" samples a second, and a master has 8000\n",
+        ),
+        Wrong::Bits(what) => say_what(
+            b"the WAV file has ",
+            what,
+            b" bits a sample, and a master has 16\n",
+        ),
+        Wrong::ShortFormat(what) => say_what(
+            b"the WAV file tells its format in ",
+            what,
+            b" octets, and 16 are needed\n",
+        ),
+        Wrong::NoFormat => tool_console::say(b"the WAV file tells no format before its sound\n"),
+        Wrong::OddSound(what) => say_what(
+            b"the WAV file has a sound of ",
+            what,
+            b" octets, half a sample too many\n",
+        ),
+        Wrong::ManyChunks => tool_console::say(
+            b"the WAV file has more than 32 chunks before its sound\n",
+        ),
+    }
+}
+
+// So many octets more of a heading. The answer is where they end; 0 says that they don't come.
+fn more_octets(fd: i32, n: usize, k: usize, space: &mut [u8]) -> usize
+    requires { ⌜ n ≤ length (now space) ⌝ }
+    ensures { λ r. ⌜ ((r ≡ 0 → ⊥) → n < r) × (r ≤ length (now (space .exit))) ⌝ }
+{
+    if k == 0 {
+        return 0;
+    }
+    if space.len() - n < k {
+        return 0;
+    }
+    let end = n + k;
+    let got = tool_console::read_part(fd, &mut space[n..end]);
+    if got.count < k {
+        return 0;
+    }
+    end
+}
+
+fn say_no_heading() {
+    tool_console::say_tool(PACK);
+    tool_console::say(b"the WAV file ends inside its heading, or the heading is too long\n");
+}
+
+// The heading of a WAV file, octets after octets as it asks for them.
+fn read_heading(fd: i32, space: &mut [u8]) -> Opened {
+    let mut n = 0;
+    loop {
+        let heading = crate::wave::heading_in(&space[..n]);
+        match heading {
+            Heading::Sound(size) => return Opened {
+                trouble: 0,
+                left: size,
+            },
+            Heading::Refused(why) => {
+                say_wrong(why);
+                return Opened {
+                    trouble: 1,
+                    left: 0,
+                };
+            }
+            Heading::More(k) => {
+                let end = more_octets(fd, n, k, space);
+                if end == 0 {
+                    say_no_heading();
+                    return Opened {
+                        trouble: 1,
+                        left: 0,
+                    };
+                }
+                n = end;
+            }
+        }
+    }
+}
+
+// What comes before the sound: a heading in a WAV file, else nothing.
+pub fn open_sound(fd: i32, form: u32, space: &mut [u8]) -> Opened {
+    if form == 2 {
+        return read_heading(fd, space);
+    }
+    Opened {
+        trouble: 0,
+        left: 0,
+    }
+}
+
+// A part of a sound, written; in form 3 nothing is, and the sound is only counted. A part has at most 61,440 samples.
+pub fn write_part(fd: i32, form: u32, law: u32, sound: &[u8]) -> bool {
+    if form == 3 {
+        return true;
+    }
+    if form == 0 {
+        return io::write_all(fd, sound);
+    }
+    if 61440 < sound.len() {
+        return false;
+    }
+    let mut octets = [0u8; 122880];
+    let n = crate::masters::master_of(sound, law, &mut octets);
+    io::write_all(fd, &octets[..n])
+}
+
+// The heading of a WAV file of so many samples, where its length can tell them.
+pub fn write_heading(fd: i32, samples: usize) -> bool {
+    if 0x7FFFFFFF < samples {
+        return false;
+    }
+    let heading = crate::wave::heading_for((2 * samples) as u32);
+    io::write_all(fd, &heading)
+}
+
+// The form of a sound that is only counted.
+pub const COUNTED: u32 = 3;
+
+// What is wrong with the file that is written or compared.
+pub const NOTHING: u32 = 0;
+
+pub const FAILED: u32 = 1;
+
+pub const DIFFERS: u32 = 2;
+
+pub const SHORTER: u32 = 3;
+
+pub const LONGER: u32 = 4;
+
+// What came of a part's sound: what is wrong, and how many octets are well.
+pub struct Used {
+    pub wrong: u32,
+    pub good: usize,
+}
+
+// What is done with a sound: it is compared with a master, or written in a form.
+pub struct Way {
+    pub compares: bool,
+    pub fd: i32,
+    pub form: u32,
+}
+
+// A part of a sound, written in its form, and what came of it.
+fn written(fd: i32, form: u32, law: u32, sound: &[u8]) -> Used
+    ensures { λ r. ⌜ UsesUpTo (length (now (sound .entry))) r ⌝ }
+{
+    if write_part(fd, form, law, sound) {
+        return Used {
+            wrong: NOTHING,
+            good: sound.len(),
+        };
+    }
+    Used {
+        wrong: FAILED,
+        good: 0,
+    }
+}
+
+// A part of a sound, compared with as much of the master.
+fn compared(fd: i32, sound: &[u8], master: &mut [u8]) -> Used
+    requires { ⌜ length (now sound) ≤ length (now master) ⌝ }
+    ensures { λ r. ⌜ UsesUpTo (length (now (sound .entry))) r ⌝ }
+{
+    let n = sound.len();
+    let got = tool_console::read_part(fd, &mut master[..n]);
+    if got.failed {
+        return Used {
+            wrong: FAILED,
+            good: 0,
+        };
+    }
+    let m = got.count;
+    let good = crate::comparing::agree(sound, &master[..m]);
+    if good == n {
+        return Used {
+            wrong: NOTHING,
+            good,
+        };
+    }
+    if good == m {
+        return Used {
+            wrong: SHORTER,
+            good,
+        };
+    }
+    Used {
+        wrong: DIFFERS,
+        good,
+    }
+}
+
+// A part of a sound, written or compared.
+pub fn use_sound(way: Way, law: u32, sound: &[u8], master: &mut [u8]) -> Used
+    requires { ⌜ length (now sound) ≤ length (now master) ⌝ }
+    ensures { λ r. ⌜ UsesUpTo (length (now (sound .entry))) r ⌝ }
+{
+    if way.compares {
+        return compared(way.fd, sound, master);
+    }
+    written(way.fd, way.form, law, sound)
+}
+
+// What is wrong with a master after its octets for all the sound: nothing, or it is longer.
+pub fn left_over(fd: i32) -> u32 {
+    let mut one = [0u8; 1];
+    let got = tool_console::read_part(fd, &mut one);
+    if got.failed {
+        return FAILED;
+    }
+    if got.count == 0 {
+        return NOTHING;
+    }
+    LONGER
+}
+
+// Where the master differs, and the last line.
+pub fn differs(wrong: u32, place: usize) {
+    tool_console::say_tool(UNPACK);
+    if wrong == SHORTER {
+        tool_console::say_number(b"the master is shorter: it ends at octet ", place);
+    } else if wrong == LONGER {
+        tool_console::say_number(b"the master is longer: the sound ends at octet ", place);
+    } else {
+        tool_console::say_number(b"the sound differs from the master at octet ", place);
+    }
+    tool_console::say(b"\n");
+    tool_console::stop(UNPACK, 65, place, 0, 0);
+}

@@ -1,0 +1,4 @@
+pub mod TextLaws
+pub mod Digits
+pub mod Names
+pub mod RefusalNames

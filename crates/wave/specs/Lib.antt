@@ -1,2 +1,0 @@
--- The heading of a WAV file.
-pub mod Headings
