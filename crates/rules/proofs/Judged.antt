@@ -1,9 +1,10 @@
 -- Refusals in order, inverted once for every list of them. `by-judged`: whatever holds where nothing fails, and of the first that does, holds
--- of the answer. `judged-passes`, `judged-refuses`: a call goes on exactly where nothing fails, and gives a refusal exactly where that is the
--- first that does. `first-gives`: what a refusal then says, read off the list by the refusals' numbers.
+-- of the answer; `by-each`: the same with an answer to each refusal. `judged-passes`, `judged-refuses`: a call goes on exactly where nothing
+-- fails, and gives a refusal exactly where that is the first that does. `first-gives`: what a refusal then says, read off the list by the
+-- refusals' numbers.
 use Prim.Native.Nat.{ℕ}
 use mathlib.Core.Path.{_≡_, refl, sym, ap, _∙_}
-use mathlib.Core.List.{List, [], _∷_}
+use mathlib.Core.List.{List, [], _∷_, _++_}
 use mathlib.Core.Bool.{Bool, true, false, _||_, false≢true}
 use mathlib.Core.Logic.{_↔_, _⊎_, inl, inr}
 use lib.Dec.{eqb}
@@ -38,6 +39,18 @@ module _ {W A : Type 0} (refused : W → A) (next : A) where
   by-judged P (bar w true ∷ asks) well wrong = wrong w (here refl refl)
   by-judged P (bar w false ∷ asks) well wrong = by-judged P asks (λ m. well (refl, m)) (λ v f. wrong v (later refl f))
 
+  -- the same with an answer to each refusal, in their order
+  abbrev pub Each : (A → Type 0) → List (Asked W) → Type 0
+  Each P [] = P next
+  Each P (a ∷ asks) = (Failed a → P (refused (refusalOf a))) × (Met a → Each P asks)
+
+  pub by-each : (P : A → Type 0) (asks : List (Asked W)) → Each P asks → P (judged asks refused next)
+  by-each P [] each = each
+  by-each P (ask w true ∷ asks) each = by-each P asks (each .1 refl)
+  by-each P (ask w false ∷ asks) each = each .0 refl
+  by-each P (bar w true ∷ asks) each = each .0 refl
+  by-each P (bar w false ∷ asks) each = by-each P asks (each .1 refl)
+
   -- and back
   pub judged-met : (asks : List (Asked W)) → AllMet asks → judged asks refused next ≡ next
   judged-met [] m = refl
@@ -49,6 +62,20 @@ module _ {W A : Type 0} (refused : W → A) (next : A) where
   judged-first (bar v so ∷ asks) (here f e) = rw f (ap refused e)
   judged-first (ask v so ∷ asks) (later m f) = rw m (judged-first asks f)
   judged-first (bar v so ∷ asks) (later m f) = rw m (judged-first asks f)
+
+-- what is read off the answer is read off each refusal
+pub judged-ap : {W A B : Type 0} (f : A → B) (refused : W → A) (next : A) (asks : List (Asked W))
+    → f (judged asks refused next) ≡ judged asks (λ w. f (refused w)) (f next)
+judged-ap f refused next [] = refl
+judged-ap f refused next (ask w true ∷ asks) = judged-ap f refused next asks
+judged-ap f refused next (ask w false ∷ asks) = refl
+judged-ap f refused next (bar w true ∷ asks) = refl
+judged-ap f refused next (bar w false ∷ asks) = judged-ap f refused next asks
+
+-- more asked behind changes nothing of a refusal
+pub first-more : {W : Type 0} {w : W} (asks more : List (Asked W)) → First w asks → First w (asks ++ more)
+first-more (a ∷ asks) more (here f e) = here f e
+first-more (a ∷ asks) more (later m f) = later m (first-more asks more f)
 
 -- answers that tell a refusal from all else, and refusals from one another
 pub record Apart {W A : Type 0} (refused : W → A) (next : A) : Type 0 where
