@@ -20,7 +20,8 @@ use Rattle.rules.specs.Chooses.{wrote, declined, chosen, writeOne}
 use Rattle.rules.specs.Walk.{stopped, walkFrom, walkAsks, walkAll}
 use Rattle.rules.proofs.Judged.{AllMet, judged-met, judged-first, Apart, judged-passes, judged-refuses}
 
-endings : Apart Refused Done
+-- how a call ends: done, or with a refusal
+pub endings : Apart Refused Done
 endings = record {
   other = λ w e. let z : _≡_ {A = ℕ} 0 1 = cc in omega arith;
   same = λ v w e. cc;
