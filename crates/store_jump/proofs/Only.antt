@@ -57,8 +57,8 @@ abbrev Few : Answer → Type 0
 Few (Done frame place inside read) = (1 ≤ read) × (read ≤ 64)
 Few (Refused w) = Unit {0}
 
-few-judged : (asks : List (Asked Refusal)) {next : Answer} → Few next → Few (judged asks Refused next)
-few-judged asks {next} few = by-judged Refused next Few asks (λ m. few) (λ w f. tt)
+few-judged : (asks : List (Asked Refusal)) (next : Answer) → Few next → Few (judged asks Refused next)
+few-judged asks next few = by-judged Refused next Few asks (λ m. few) (λ w f. tt)
 
 few-named : (s : Sought) → Few (named s)
 few-named (At frame place inside) = (omega arith, omega arith)
@@ -69,14 +69,14 @@ unfolding jumpIn jumpFrom
 few-in xs n sample =
     let k = lastMark (n .marks) sample in
     let m = nthMark k (n .marks) in
-    few-judged (greetingAsks n sample)
-    (few-judged (markAsks m sample) (few-named (seek sample (64 * k) (m .samples) (fromMark (n .law) xs (m .octets) .frames))))
+    few-judged (greetingAsks n sample) _
+    (few-judged (markAsks m sample) _ (few-named (seek sample (64 * k) (m .samples) (fromMark (n .law) xs (m .octets) .frames))))
 
 few-jump : (b t : List ℕ) (number sample : ℕ) → Few (jumpOf b t number sample)
 unfolding jumpAmong
 few-jump b t number sample =
     let i = findFrom number 0 (rowsOf t) in
-    few-judged (findOrder b t number) (few-in (greeting b (nth i (rowsOf t))) (nthNote i (notesOf t)) sample)
+    few-judged (findOrder b t number) _ (few-in (greeting b (nth i (rowsOf t))) (nthNote i (notesOf t)) sample)
 
 pub read-few : (b t : List ℕ) (number sample : ℕ) {frame place inside read : ℕ} → jumpOf b t number sample ≡ Done frame place inside read
     → (1 ≤ read) × (read ≤ 64)
