@@ -433,9 +433,12 @@ unfolding getIn
 get-got b t x a e =
     let k = outcome-leaves (findOrder b t x) (gotten b (rowsOf t) (notesOf t) (nth (findFrom x 0 (rowsOf t)) (rowsOf t))) e in
     let c = find-split x 0 (rowsOf t) (k .0 .1 .1 .0) in
-    let start = ap (λ (r : Row). r .start) (found-nth c) in
-    let octets = ap (λ (r : Row). r .octets) (found-nth c) in
-    record { sane = k .0 .0; found = c; start = rw (k .1) start; octets = rw (k .1) octets }
+    record {
+      sane = k .0 .0;
+      found = c;
+      start = ap (λ (y : After). y .first) (k .1) ∙ ap (λ (r : Row). r .start) (found-nth c);
+      octets = ap (λ (y : After). y .second) (k .1) ∙ ap (λ (r : Row). r .octets) (found-nth c);
+    }
 
 pub get-of : (b t : List ℕ) (x : ℕ) → saneStore (sizeOf b) t ≡ true → isNumber x ≡ true → absent x (rowsOf t) ≡ false
     → getOf b t x ≡ leaves (gotten b (rowsOf t) (notesOf t) (nth (findFrom x 0 (rowsOf t)) (rowsOf t)))
