@@ -3,6 +3,7 @@ pub mod Octets
 pub mod Words
 pub mod Counts
 pub mod Tests
+pub mod Judged
 pub mod Guards
 pub mod Signed
 pub mod Firsts

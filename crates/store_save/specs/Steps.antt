@@ -2,8 +2,9 @@
 use Prim.Native.Nat.{ℕ, _+_, _*_, _≤_}
 use mathlib.Core.Path.{_≡_}
 use mathlib.Core.List.{List, [], _∷_, _++_}
-use mathlib.Core.Bool.{Bool, true, false, cond, not}
+use mathlib.Core.Bool.{Bool, true, false, cond}
 use lib.ListN.{length, getD, drop}
+use Rattle.rules.specs.Judged.{Asked, ask, bar, judged}
 use Rattle.store_rows.specs.declared.rows.Row.{Row}
 use Rattle.store_rows.specs.Limits.{largestBlock}
 use Rattle.store_rows.specs.Rows.{greeting}
@@ -13,6 +14,7 @@ use Rattle.store_greeting.specs.Bad.{isBad}
 use Rattle.store_greeting.specs.Marks.{Note, noteOf, mostMarks}
 use Rattle.store_notes.specs.Cells.{headsOf, marksHeld}
 use Rattle.store_notes.specs.Sane.{storeCells}
+use Rattle.store.specs.declared.Refusal.{Refusal}
 use Rattle.store.specs.declared.Refusal.the-variants.{Bad, Table}
 use Rattle.text_keyvalue.specs.Reading.{Read, whole, none}
 use Rattle.store_text.specs.Noted.{Listed, rowsListed}
@@ -32,11 +34,11 @@ notesBy b [] laws = []
 notesBy b (r ∷ rows) laws = noteOf (getD laws 0 0) (greeting b r) ∷ notesBy b rows (drop 1 laws)
 
 -- all but samples and marks
+abbrev pub rowsAsks : ℕ → List Row → Bool → List (Asked Refusal)
+rowsAsks size rows bad = ask Table (rising 0 0 size rows) ∷ ask Table (numbered rows) ∷ bar Bad bad ∷ []
+
 unfoldable pub judgedBy : List ℕ → ℕ → List Row → List ℕ → Verdict
-judgedBy b size rows laws =
-    cond (not (rising 0 0 size rows)) (Stop Table)
-    (cond (not (numbered rows)) (Stop Table)
-    (cond (badBy b rows laws) (Stop Bad) Fine))
+judgedBy b size rows laws = judged (rowsAsks size rows (badBy b rows laws)) Stop Fine
 
 -- the greetings of a text, and whether it is one
 abbrev pub greetingsOf : Read (List Listed) → List Listed
