@@ -10,7 +10,7 @@ returns c =
     let s = c .before .before .before .before .before in
     let a = s .args in
     let p = s .pre in
-    put-full (a .block .now) (a .table .now) (a .size) (a .sound .law) (a .number) (a .octets .now) (p .0 .0) (p .1 .1 .heard .lawful)
+    put-full (a .block .now) (a .table .now) (a .sought .size) (a .head .law) (a .sought .number) (a .octets .now) (p .0 .0) (p .1 .1 .heard .lawful)
     (p .0 .1) (p .1 .1 .heard .fine) (omega arith)
 
 module _ (c : tie.After-held) where
@@ -23,7 +23,7 @@ returns-2 c =
     let s = start (c .before) in
     let a = s .args in
     let p = s .pre in
-    put-no-room (a .block .now) (a .table .now) (a .size) (a .sound .law) (a .number) (a .octets .now) (p .0 .0) (p .1 .1 .heard .lawful)
+    put-no-room (a .block .now) (a .table .now) (a .sought .size) (a .head .law) (a .sought .number) (a .octets .now) (p .0 .0) (p .1 .1 .heard .lawful)
     (p .0 .1) (p .1 .1 .heard .fine) (omega arith) (held .0) (omega (arith, held .1))
 
 fit-requires : tie.Need-fit-requires
@@ -44,7 +44,7 @@ returns-3 c =
     let s = start (room .before) in
     let a = s .args in
     let p = s .pre in
-    put-fits (a .block .now) (a .table .now) (a .size) (a .sound .law) (a .number) (a .octets .now) (p .0 .0) (p .1 .1 .heard .lawful)
+    put-fits (a .block .now) (a .table .now) (a .sought .size) (a .head .law) (a .sought .number) (a .octets .now) (p .0 .0) (p .1 .1 .heard .lawful)
     (p .0 .1) (p .1 .1 .heard .fine) (omega arith) (held .0) (omega (arith, held .1, room .if2 .left)) (fit .fit .ensures)
 
 pub put-sound-spec : {M : Type 1} → statement M
