@@ -27,7 +27,7 @@ use Rattle.store_greeting.specs.Bad.{isBad, isDone, walkOf}
 use Rattle.store_greeting.specs.Marks.{Note, noteOf}
 use Rattle.store_greeting.proofs.Count.{note-few}
 use Rattle.store_notes.specs.Notes.{nthNote, insertNote, removeNote, noNote}
-use Rattle.store_notes.specs.Cells.{headOf, heads, headsOf, notesOf, stored}
+use Rattle.store_notes.specs.Cells.{headRow, heads, headsOf, notesOf, stored}
 use Rattle.store_notes.specs.Sane.{storeCells, matched, saneStore}
 use Rattle.store_notes.proofs.Noting.{heads-notes, length-heads}
 use Rattle.store_notes.proofs.Stored.{length-notes}
@@ -197,7 +197,7 @@ module _ (b t : List ℕ) (law x : ℕ) (xs : List ℕ) {a : After} (e : putOf b
   same = sane-count b t (granted .sane)
 
   -- the new note's law, and how many marks it has
-  fits : (at : ℕ) → Fits (rowOf x at (length xs)) (headOf (noteOf law xs))
+  fits : (at : ℕ) → Fits (rowOf x at (length xs)) (headRow (noteOf law xs))
   fits at = record { law = leb-true law mostLaw (granted .lawful); marks = note-few law xs }
 
   pub put-fresh : Fresh x (rowsOf t)

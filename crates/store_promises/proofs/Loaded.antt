@@ -21,7 +21,7 @@ use Rattle.store_greeting.proofs.Bad.{bad-law}
 use Rattle.store_greeting.specs.Marks.{Note, mostMarks}
 use Rattle.store_greeting.proofs.Count.{note-few}
 use Rattle.store_notes.specs.Notes.{True}
-use Rattle.store_notes.specs.Cells.{headOf, heads, stored}
+use Rattle.store_notes.specs.Cells.{headRow, heads, stored}
 use Rattle.store_notes.specs.Sane.{storeCells, matched, saneStore}
 use Rattle.store_notes.proofs.Noting.{heads-cons}
 use Rattle.store_notes.proofs.Pairs.{matched-nil, matched-cons}
@@ -191,7 +191,7 @@ true-matched b lo size (r ∷ rows) (n ∷ notes) h f g w =
     let l = length-greeting b r (omega (arith, k .0 .inside)) in
     let m : length (n .marks) ≤ mostMarks (length (greeting b r)) =
     subst (λ (o : Note). length (o .marks) ≤ mostMarks (length (greeting b r))) (sym (w .0)) (note-few (n .law) (greeting b r)) in
-    rw (heads-cons n notes) (matched-cons r (headOf n) rows (heads notes)
+    rw (heads-cons n notes) (matched-cons r (headRow n) rows (heads notes)
     (record { law = lawful (n .law) (greeting b r) (g .0); marks = subst (λ (o : ℕ). length (n .marks) ≤ mostMarks o) l m })
     (true-matched b (r .start + r .octets) size rows notes (k .1) f (g .1) (w .1)))
 
