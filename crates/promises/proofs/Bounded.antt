@@ -6,7 +6,7 @@ use native.Mathlib.Nat.{mul-le-mul, mul-le-mul-left, mul-suc, div-add-mod'}
 use lib.Pow.{pow-mono, shr-le, high}
 use mathlib.Core.Path.{_≡_, refl, sym, ap, _∙_}
 use mathlib.Core.List.{List, [], _∷_, _++_, map, append-nil}
-use mathlib.Core.Bool.{Bool, true, false, cond, not, _&&_}
+use mathlib.Core.Bool.{Bool, true, false, cond, not, _&&_, _||_, false≢true}
 use lib.ListN.{length, replicate, length-append, length-replicate, length-map}
 use lib.IntN.{pos, negsuc}
 use lib.Dec.{eqb, leb, ltb}
@@ -413,8 +413,9 @@ after-eleven mask set room o pad w z h {f} {j} e is =
     let t : 0 ≡ f .tool = ap (λ (x : Found). x .tool) v in
     absurd (omega arith)
 after-eleven mask set room o (tool t n) w {b} z h {f} {j} e is =
-    let other = and-left (not (eqb t 11)) _ (and-right (isLength n) _ w) in
-    absurd (eqb-false t 11 (not-true (eqb t 11) other) (sym (withTool-tool set room t n (body mask t n) b 8 e) ∙ is))
+    let other = and-left (not (eqb t 6 || eqb t 11)) _ (and-right (isLength n) _ w) in
+    let eleven : t ≡ 11 = sym (withTool-tool set room t n (body mask t n) b 8 e) ∙ is in
+    absurd (false≢true (rw eleven at other))
 after-eleven mask set room o (fractionalRow k n) w z h e is =
     let few = and-left (ltb k (rowCount n)) _ (and-right (isLength n) _ w) in
     row-bits mask set room n k (and-left (isLength n) _ w) (ltb-true k (rowCount n) few) z h e

@@ -51,7 +51,7 @@ prefix-exactly o h =
 abbrev pub asWritten : ℕ → First → Bool
 asWritten o unassigned = true
 asWritten o pad = eqb o 0
-asWritten o (tool t n) = isLength n && (not (eqb t 11) && (leb 8 t || eqb o (octetFor t n)))
+asWritten o (tool t n) = isLength n && (not (eqb t 6 || eqb t 11) && (leb 8 t || eqb o (octetFor t n)))
 asWritten o (fractionalRow k n) = isLength n && (ltb k (rowCount n) && eqb o (firstCode n + k))
 asWritten o (sixOrEight n) =
     isLength n && eqb (o / 2 ^ (8 - length (riceCode n 0)) / 2) (valueFrom 0 (riceCode n 0) / 2)
