@@ -68,9 +68,9 @@ known o t n true e q =
       says = λ mask set room b i. rw is refl;
     }
 known o t n false e q =
-    let w : isLength n && (not (eqb t 6 || false) && (leb 8 t || eqb o (octetFor t n))) ≡ true = rw e at q in
+    let w : isLength n && (not (eqb t 6 || eqb t 11) && (leb 8 t || eqb o (octetFor t n))) ≡ true = rw e at q in
     let len = and-left (isLength n) _ w in
-    let six = not-six (eqb t 6) (and-left (not (eqb t 6 || false)) _ (and-right (isLength n) _ w)) in
+    let six = not-six (eqb t 6) (eqb t 11) (and-left (not (eqb t 6 || eqb t 11)) _ (and-right (isLength n) _ w)) in
     record {
       len = len;
       row = rw e (lit< tt);
@@ -78,9 +78,9 @@ known o t n false e q =
       says = λ mask set room b i. rw (e, six) refl;
     }
   where
-    not-six : (b : Bool) → not (b || false) ≡ true → b ≡ false
-    not-six true h = absurd (false≢true h)
-    not-six false h = refl
+    not-six : (a b : Bool) → not (a || b) ≡ true → a ≡ false
+    not-six true b h = absurd (false≢true h)
+    not-six false b h = refl
 
 -- where an octet begins a frame, the length is one of the five, and its row one of the twelve
 abbrev pub LengthKnown : ℕ → Begins → Type 0

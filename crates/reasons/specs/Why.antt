@@ -6,7 +6,7 @@ use Prim.Native.Nat.{ℕ, _+_}
 use mathlib.Core.List.{List, [], _∷_}
 use mathlib.Core.Bool.{Bool, false, cond, not, _&&_, _||_}
 use lib.ListN.{length, take}
-use lib.Dec.{eqb, leb, ltb}
+use lib.Dec.{eqb, leb}
 use lib.IntN.{pos, negsuc}
 use Rattle.rules.specs.declared.Refusal.the-variants.{Length}
 use Rattle.rules.specs.Refusals.{judged}

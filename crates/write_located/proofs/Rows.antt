@@ -10,8 +10,8 @@ use lib.Dec.{eqb, leb, ltb}
 use lib.IntN.{pos, negsuc}
 use Rattle.rules.specs.Samples.{sampleOf, plusZero, minusZero, onLine}
 use Rattle.rules.specs.Located.{caseOf, valuesOf}
-use Rattle.rules.specs.Chooses.{none, row, hasRow, rowNumber, rowOr, isRow, rowOf, locatedFlag, locatedForm}
-use Rattle.rules.specs.Chooses.{applies, valuesForm}
+use Rattle.rules.specs.Chooses.{none as no-row, row as the-row, hasRow, rowNumber, rowOr, isRow, rowOf, locatedFlag, locatedForm}
+use Rattle.rules.specs.Chooses.{applies, valuesForm, leastOf, greatestOf}
 use Rattle.rules.proofs.Octets.{length-lowBits}
 use Rattle.rules.proofs.FrameRow.{where-row, below-past, number-or, located-row, located-low}
 use Rattle.rules.proofs.Signed.{LawMask}
@@ -29,12 +29,15 @@ use Rattle.write_located.proofs.Near.{apart}
 -- a row that was found fits the length
 rows-fit : (mask : ℕ) (s : List ℕ) → hasRow (rowOf mask s) ≡ true → leb (caseOf (rowNumber (rowOf mask s)) .from) (length s) ≡ true
 rows-fit mask s h =
-    where-row (λ c. leb (caseOf c .from) (length s) ≡ true) (rowOf mask s)
-    (located-row (λ c. leb (caseOf c .from) (length s) ≡ true) mask s (λ c l e. and-right _ (leb (caseOf c .from) (length s)) e)) h
+    let fits : ℕ → Type 0 = λ c. leb (caseOf c .from) (length s) ≡ true in
+    where-row fits (rowOf mask s) (located-row fits mask s (λ c l e.
+    and-right (eqb (leastOf mask s) (onLine (caseOf c .least)) && eqb (greatestOf mask s) (onLine (caseOf c .greatest)))
+    (leb (caseOf c .from) (length s)) e)) h
 
 -- the row as one number
 as-number : (a b c d : Bool)
-    → cond a 0 (cond b 1 (cond c 2 (cond d 3 4))) ≡ rowOr 4 (cond a (row 0) (cond b (row 1) (cond c (row 2) (cond d (row 3) none))))
+    → cond a 0 (cond b 1 (cond c 2 (cond d 3 4))) ≡ rowOr 4
+    (cond a (the-row 0) (cond b (the-row 1) (cond c (the-row 2) (cond d (the-row 3) no-row))))
 as-number true b c d = refl
 as-number false true c d = refl
 as-number false false true d = refl
