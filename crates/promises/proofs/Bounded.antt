@@ -21,7 +21,7 @@ use Rattle.rules.specs.Runs.{zerosFrom, rice, riceForm, runsFrom, runsOf, riceF
 use Rattle.rules.specs.Zeros.{Tree, leaf, fork, treeOf, readTree, zeroOf, flagOf, codesOf, codeOf, mostS, plusMinus, plusMinusForm}
 use Rattle.rules.specs.First.{First, unassigned, pad, tool, fractionalRow, sixOrEight}
 use Rattle.rules.specs.First.{baseOf, riceCode, rows, lookUp, firstOctet, markAt, sixNotEight}
-use Rattle.rules.specs.Fractional.{firstCode, rowCount, bodyBits, fractional}
+use Rattle.rules.specs.Fractional.{rowCount, bodyBits, fractional}
 use Rattle.rules.specs.Frame.{Found, octetsUsed, body, withTool, afterFirst, frame, readOne}
 use Rattle.rules.specs.Located.{widthFrom, widthOf, listedFrom, listed, byMethod, emptyIn, lay, valuesInto, valuesOf, located}
 use Rattle.rules.specs.Chooses.{countOf}

@@ -11,7 +11,7 @@ use mathlib.Core.Bool.{Bool, true, false, cond, not, _||_}
 use lib.ListN.{length, getD, take, drop, length-drop, take-append-drop, length-map}
 use lib.Seq.{length-take-le}
 use lib.Dec.{ltb, eqb, leb}
-use borrow.Author.Tests.{lt-ltb, ltb-true, leb-true, eqb-true}
+use borrow.Author.Tests.{lt-ltb, leb-true, eqb-true}
 use Rattle.rules.specs.declared.Refusal.{Refusal}
 use Rattle.rules.specs.declared.Refusal.the-variants.{Short, Tool, Room, Run, Place, Align}
 use Rattle.rules.specs.Refusals.{refusalNumber}

@@ -12,7 +12,7 @@ use borrow.Author.Tests.{le-ltb, eq-eqb, ltb-true}
 use Rattle.rules.specs.Tools.{holds, isLength}
 use Rattle.rules.specs.Bits.{lowBits, valueFrom, octetsFor, fillFor}
 use Rattle.rules.specs.Reading.{Read, whole, Reader, bit, number}
-use Rattle.rules.specs.First.{tool, fractionalRow, sixOrEight, firstOctet, baseOf, octetFor, riceCode, lengthCode, isLong, markAt, sixNotEight}
+use Rattle.rules.specs.First.{tool, sixOrEight, firstOctet, baseOf, octetFor, riceCode, lengthCode, isLong, markAt, sixNotEight}
 use Rattle.rules.specs.Zeros.{codesOf, codeOf, mostS, plusMinus}
 use Rattle.rules.specs.Fractional.{firstCode, rowCount, fractional}
 use Rattle.rules.specs.Frame.{Found, body, withTool, afterFirst, frame}

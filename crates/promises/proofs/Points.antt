@@ -18,7 +18,7 @@ use Rattle.rules.specs.Samples.{sampleOf, plusZero, minusZero}
 use Rattle.rules.specs.Runs.{zerosFrom, rice, runsFrom}
 use Rattle.rules.specs.Zeros.{Tree, leaf, fork, treeOf, readTree, zeroOf, plusMinus}
 use Rattle.rules.specs.Located.{widthOf, listedFrom, listed, byMethod, emptyIn, lay, valuesInto, valuesOf, located}
-use Rattle.rules.specs.Fractional.{radix, Coding, groupOf, bitsFor, codingOf, digitsOf, groupsFrom, groupsAs, samplesAt, fractional}
+use Rattle.rules.specs.Fractional.{radix, Coding, bitsFor, codingOf, digitsOf, groupsFrom, groupsAs, samplesAt, fractional}
 use Rattle.rules.specs.First.{sixNotEight}
 use Rattle.rules.specs.Frame.{body, withTool}
 use Rattle.rules.proofs.Accepted.{Steps, through, steps, number-next}

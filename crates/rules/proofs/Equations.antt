@@ -4,55 +4,68 @@
 --   digits-printed       (8-26): the coefficients of V are its digits
 --   flag-printed         (7-75): the flag, of every row but {0, 1}
 --   digit-for, value-for the definitions over natural numbers say the same
-use Prim.Native.Nat.{ℕ, zero, suc, _+_, _-_, _*_, _/_, _^_, _≤_, _<_}
+use Prim.Native.Nat.{ℕ, zero, suc, _+_, _-_, _*_, _/_, _^_, _<_}
 use mathlib.Core.Path.{_≡_, refl, sym, ap, _∙_}
 use mathlib.Core.List.{List, [], _∷_, _++_}
-use mathlib.Core.Bool.{cond}
+use mathlib.Core.Bool.{Bool, true, cond, not, _||_}
 use native.Mathlib.Omega.{arith}
-use native.Mathlib.Nat.{mod-add-div, mod-lt, div-lt-iff-lt-mul, pow-zero, pow-suc, mul-comm, mul-assoc, mul-add, zero-add}
+use native.Mathlib.Nat.{mod-add-div, mod-lt, div-lt-iff-lt-mul, pow-zero, pow-suc, mul-comm, mul-assoc, mul-add}
 use lib.ListN.{length, getD, length-append}
-use lib.IntN.{ℤ, pos}
+use lib.Dec.{eqb, ltb}
+use lib.IntN.{ℤ, pos, negsuc}
+use borrow.Author.Tests.{eqb-true, lt-ltb}
 use Rattle.rules.specs.Fractional.{valuesAt, radix, minusAt, lowAt, belowAt, digitFor, valueFor, ofDigits, digitsOf}
 use Rattle.rules.specs.Equations.{X-min, flagOf, l, x-of-bit, x-of-number, x-of-coefficient, x-of, coefficients}
 use Rattle.rules.proofs.Octets.{Below, none, more, below-append}
-use Rattle.rules.proofs.Fractional.{EachBelow, each-below, digits-back}
+use Rattle.rules.proofs.Tests.{implied, allBelow, allBelow-at}
+use Rattle.rules.proofs.Fractional.{digits-back, radix-range}
 
 -- the value at place d of row k
-abbrev valueAt : ℕ → ℕ → ℤ
+abbrev pub valueAt : ℕ → ℕ → ℤ
 valueAt k d = getD (valuesAt k) d (pos 0)
 
--- of every row and every place: computed
-abbrev EachValue : (ℕ → ℕ → Type 0) → Type 0
-EachValue P = EachBelow (λ k. EachBelow (P k) (radix k)) 12
+-- numbers in a test: the size, with the sign as its lowest bit
+abbrev key : ℤ → ℕ
+key (pos n) = 2 * n
+key (negsuc n) = 2 * n + 1
 
-each-value : (P : ℕ → ℕ → Type 0) → EachValue P → (k d : ℕ) → k < 12 → d < radix k → P k d
-each-value P h k d i j = each-below (P k) (radix k) (each-below (λ k. EachBelow (P k) (radix k)) 12 h k i) d j
+key-told : (a b : ℤ) → key a ≡ key b → a ≡ b
+key-told (pos a) (pos b) e = ap pos (omega arith)
+key-told (pos a) (negsuc b) e = absurd (omega arith)
+key-told (negsuc a) (pos b) e = absurd (omega arith)
+key-told (negsuc a) (negsuc b) e = ap negsuc (omega arith)
+
+-- what is the same of every row and every place: one computed test
+abbrev agree : (ℕ → ℕ → ℤ) → (ℕ → ℕ → ℤ) → ℕ → ℕ → Bool
+agree f g k d = not (ltb d (radix k)) || eqb (key (f k d)) (key (g k d))
+
+by-test : (f g : ℕ → ℕ → ℤ) → allBelow (λ k. allBelow (agree f g k) 6) 12 ≡ true → (k d : ℕ) → k < 12 → d < radix k → f k d ≡ g k d
+by-test f g t k d h j =
+    key-told (f k d) (g k d) (eqb-true _ _ (implied (ltb d (radix k)) (eqb (key (f k d)) (key (g k d)))
+    (allBelow-at (agree f g k) 6 (allBelow-at (λ k. allBelow (agree f g k) 6) 12 t k h) d (omega (arith, radix-range k h .1)))
+    (lt-ltb d (radix k) j)))
 
 pub digit-printed : (k d : ℕ) → k < 12 → d < radix k → l (X-min k) (flagOf k) (valueAt k d) ≡ pos d
 unfolding valuesAt l
-digit-printed = each-value (λ k d. l (X-min k) (flagOf k) (valueAt k d) ≡ pos d)
-    ((refl, (refl, (refl, (refl, (refl, (refl, tt)))))), ((refl, (refl, (refl, (refl, (refl, tt))))), ((refl, (refl, (refl, (refl, (refl, (refl, tt)))))), ((refl, (refl, (refl, (refl, tt)))), ((refl, (refl, (refl, (refl, (refl, tt))))), ((refl, (refl, (refl, (refl, tt)))), ((refl, (refl, (refl, tt))), ((refl, (refl, (refl, tt))), ((refl, (refl, (refl, tt))), ((refl, (refl, tt)), ((refl, (refl, (refl, (refl, tt)))), ((refl, (refl, tt)), tt))))))))))))
+digit-printed = by-test (λ k d. l (X-min k) (flagOf k) (valueAt k d)) (λ k d. pos d) refl
 
 pub value-printed : (k d : ℕ) → k < 12 → d < radix k → x-of (radix k) (X-min k) (flagOf k) d ≡ valueAt k d
 unfolding valuesAt x-of-bit x-of-number x-of-coefficient
-value-printed = each-value (λ k d. x-of (radix k) (X-min k) (flagOf k) d ≡ valueAt k d)
-    ((refl, (refl, (refl, (refl, (refl, (refl, tt)))))), ((refl, (refl, (refl, (refl, (refl, tt))))), ((refl, (refl, (refl, (refl, (refl, (refl, tt)))))), ((refl, (refl, (refl, (refl, tt)))), ((refl, (refl, (refl, (refl, (refl, tt))))), ((refl, (refl, (refl, (refl, tt)))), ((refl, (refl, (refl, tt))), ((refl, (refl, (refl, tt))), ((refl, (refl, (refl, tt))), ((refl, (refl, tt)), ((refl, (refl, (refl, (refl, tt)))), ((refl, (refl, tt)), tt))))))))))))
+value-printed = by-test (λ k d. x-of (radix k) (X-min k) (flagOf k) d) valueAt refl
 
 pub flag-printed : (k : ℕ) → k < 11 → flagOf (suc k) ≡ cond (minusAt (suc k)) 0 1
 unfolding valuesAt
-flag-printed = each-below (λ k. flagOf (suc k) ≡ cond (minusAt (suc k)) 0 1) 11
-    (refl, (refl, (refl, (refl, (refl, (refl, (refl, (refl, (refl, (refl, (refl, tt)))))))))))
+flag-printed k h = eqb-true _ _ (allBelow-at (λ k. eqb (flagOf (suc k)) (cond (minusAt (suc k)) 0 1)) 11 refl k h)
 
 -- as the code has them, over natural numbers
-pub digit-for : (k d : ℕ) → k < 12 → d < radix k → digitFor (lowAt k) (belowAt k) (valueAt k d) ≡ d
-unfolding valuesAt
-digit-for = each-value (λ k d. digitFor (lowAt k) (belowAt k) (valueAt k d) ≡ d)
-    ((refl, (refl, (refl, (refl, (refl, (refl, tt)))))), ((refl, (refl, (refl, (refl, (refl, tt))))), ((refl, (refl, (refl, (refl, (refl, (refl, tt)))))), ((refl, (refl, (refl, (refl, tt)))), ((refl, (refl, (refl, (refl, (refl, tt))))), ((refl, (refl, (refl, (refl, tt)))), ((refl, (refl, (refl, tt))), ((refl, (refl, (refl, tt))), ((refl, (refl, (refl, tt))), ((refl, (refl, tt)), ((refl, (refl, (refl, (refl, tt)))), ((refl, (refl, tt)), tt))))))))))))
+pub digit-for : (k d : ℕ) → k < 12 → d < radix k
+    → l (X-min k) (flagOf k) (valueAt k d) ≡ pos (digitFor (lowAt k) (belowAt k) (valueAt k d))
+unfolding valuesAt l
+digit-for = by-test (λ k d. l (X-min k) (flagOf k) (valueAt k d)) (λ k d. pos (digitFor (lowAt k) (belowAt k) (valueAt k d))) refl
 
-pub value-for : (k d : ℕ) → k < 12 → d < radix k → valueFor (lowAt k) (belowAt k) d ≡ x-of (radix k) (X-min k) (flagOf k) d
+pub value-for : (k d : ℕ) → k < 12 → d < radix k → x-of (radix k) (X-min k) (flagOf k) d ≡ valueFor (lowAt k) (belowAt k) d
 unfolding valuesAt x-of-bit x-of-number x-of-coefficient
-value-for = each-value (λ k d. valueFor (lowAt k) (belowAt k) d ≡ x-of (radix k) (X-min k) (flagOf k) d)
-    ((refl, (refl, (refl, (refl, (refl, (refl, tt)))))), ((refl, (refl, (refl, (refl, (refl, tt))))), ((refl, (refl, (refl, (refl, (refl, (refl, tt)))))), ((refl, (refl, (refl, (refl, tt)))), ((refl, (refl, (refl, (refl, (refl, tt))))), ((refl, (refl, (refl, (refl, tt)))), ((refl, (refl, (refl, tt))), ((refl, (refl, (refl, tt))), ((refl, (refl, (refl, tt))), ((refl, (refl, tt)), ((refl, (refl, (refl, (refl, tt)))), ((refl, (refl, tt)), tt))))))))))))
+value-for = by-test (λ k d. x-of (radix k) (X-min k) (flagOf k) d) (λ k d. valueFor (lowAt k) (belowAt k) d) refl
 
 -- (8-26): what is left of w is its remainder by the power, and the coefficient is below R'
 record Parts (P w : ℕ) : Type 0 where

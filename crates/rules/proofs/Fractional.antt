@@ -150,11 +150,11 @@ unfoldable pub counted : ℕ → ℕ → ℕ → ℕ → List ℤ
 counted low below d zero = []
 counted low below d (suc n) = valueFor low below d ∷ counted low below (d + 1) n
 
-abbrev pub EachBelow : (ℕ → Type 0) → ℕ → Type 0
+abbrev EachBelow : (ℕ → Type 0) → ℕ → Type 0
 EachBelow P zero = Unit {0}
 EachBelow P (suc n) = P n × EachBelow P n
 
-pub each-below : (P : ℕ → Type 0) (n : ℕ) → EachBelow P n → (k : ℕ) → k < n → P k
+each-below : (P : ℕ → Type 0) (n : ℕ) → EachBelow P n → (k : ℕ) → k < n → P k
 each-below P zero h k l = absurd (omega arith)
 each-below P (suc n) h k l = go (ℕ-discrete k n) (each-below P n (h .1) k)
   where

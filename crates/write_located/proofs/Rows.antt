@@ -23,7 +23,6 @@ use Rattle.write_located.specs.declared.Ways.{Ways}
 use Rattle.write_located.specs.Ways.{ValueIs, InTurn, WaysAre}
 use Rattle.write_located.specs.Rows.{leastBy, greatestBy, rowBy, Tallied, samplesOf, only, two, three}
 use Rattle.write_located.specs.Rows.{valuesBy, oneIn, minusIn, twosIn, valuesFor, valuesIn, LocatedIs}
-use Rattle.write_scan.proofs.Tests.{never}
 use Rattle.write_located.proofs.Near.{apart}
 
 -- a row that was found fits the length

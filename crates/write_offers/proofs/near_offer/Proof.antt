@@ -10,7 +10,6 @@ use mathlib.Core.List.{List}
 use mathlib.Core.Bool.{true}
 use lib.ListN.{length, take}
 use lib.Seq.{length-take-le}
-use native.Mathlib.Omega.{arith}
 use Rattle.write_offers.proofs.near_offer.Statement.{statement}
 use Rattle.write_offers.proofs.near_offer.Tie as tie
 
