@@ -10,6 +10,7 @@ pub mod Firsts
 pub mod Codes
 pub mod Located
 pub mod Fractional
+pub mod Equations
 pub mod Gives
 pub mod Accepted
 pub mod Named

@@ -17,6 +17,8 @@ use Rattle.store_rows.proofs.Cells.{length-rows, nth-rows}
 use Rattle.store_rows.proofs.Finding.{found-here, found-nowhere}
 use Rattle.store_rows.proofs.Judged.{row-next}
 use Rattle.rules.proofs.Lent.{from-on as part-on}
+use Rattle.rules.proofs.Walk.{walk-told}
+use Rattle.store_greeting.specs.Bad.{storeSet}
 use Rattle.store_greeting.specs.Marks.{Note, markOf}
 use Rattle.store_notes.specs.Notes.{nthNote}
 use Rattle.store_notes.specs.declared.Head.{Head}
@@ -28,10 +30,11 @@ use Rattle.store_notes.proofs.Stored.{note-at, marks-next, held-all}
 use Rattle.store_jump.specs.declared.seeking.Sought.{Sought}
 use Rattle.store_jump.specs.Seeking.{seek, fromMark, lastMark}
 use Rattle.store_jump.proofs.Halving.{mark-at}
+use Rattle.store_jump.proofs.Sought.{counted-named}
 use Rattle.store_jump.specs.declared.jumping.Refusal.the-variants.{Number, Absent, Bad, Beyond, Table}
 use Rattle.store_jump.specs.declared.jumping.Answer.{Answer}
 use Rattle.store_jump.specs.declared.jumping.Answer.the-variants.{Refused}
-use Rattle.store_jump.specs.Jump.{named, jumpFrom, jumpIn, jumpAmong}
+use Rattle.store_jump.specs.Jump.{counted, jumpFrom, jumpIn, jumpAmong}
 use Rattle.store_jump.specs.Calls.{Jump}
 
 module _ (law : ℕ) (xs : List ℕ) (k at before sample : ℕ) where
@@ -39,10 +42,12 @@ module _ (law : ℕ) (xs : List ℕ) (k at before sample : ℕ) where
   unfolding jumpFrom
   from-behind h = rw (lt-ltb sample before h)
 
-  pub from-on : before ≤ sample → {s : Sought} {r : Answer} → s ≡ seek sample (64 * k) before (fromMark law xs at .frames) → r ≡ named s
+  pub from-on : before ≤ sample → {s : Sought} {r : Answer} → s ≡ seek sample (64 * k) before (fromMark law xs at .frames) → r ≡ counted s
       → r ≡ jumpFrom law xs k (markOf at before) sample
   unfolding jumpFrom
-  from-on h e f = rw (le-ltb sample before h) (f ∙ ap named e)
+  from-on h e f =
+      rw (le-ltb sample before h)
+      (f ∙ ap counted e ∙ counted-named sample k before (fromMark law xs at .frames) (walk-told xs law storeSet 64 at 20480 .few))
 
 module _ (head : Head) (xs cells : List ℕ) (sample : ℕ) where
   abbrev m : ℕ

@@ -1,7 +1,7 @@
 -- Document 02, R-9: "from the last mark at or before it and fewer than 64 frames after that mark"; "The answer counts the frames read, from
 -- that mark up to and including the one named." "Refusals, in order: NUMBER, ABSENT, BEYOND (21) if the sample number isn't below the
 -- greeting's samples."
-use Prim.Native.Nat.{ℕ, _+_, _*_, _%_}
+use Prim.Native.Nat.{ℕ, _+_, _*_, _-_, _%_}
 use mathlib.Core.List.{List, [], _∷_}
 use lib.ListN.{length}
 use lib.Dec.{eqb, leb, ltb}
@@ -21,10 +21,15 @@ use Rattle.store_jump.specs.declared.jumping.Refusal.the-variants.{Numbe
 use Rattle.store_jump.specs.declared.jumping.Answer.{Answer}
 use Rattle.store_jump.specs.declared.jumping.Answer.the-variants.{Done, Refused}
 
--- The frames read count from the mark's own frame, whose number is a multiple of 64. Where the frames do not reach the sample: BAD.
-abbrev pub named : Sought → Answer
-named (At frame place inside) = Done frame place inside (frame % framesApart + 1)
-named Nowhere = Refused Bad
+-- The frames read count from the frame of mark k, which is frame 64 * k. Where the frames do not reach the sample: BAD.
+abbrev pub named : ℕ → Sought → Answer
+named k (At frame place inside) = Done frame place inside (frame - framesApart * k + 1)
+named k Nowhere = Refused Bad
+
+-- the same by the frame alone, as the code counts: fewer than 64 frames after a mark the two are one (proofs/Sought, `counted-named`)
+abbrev pub counted : Sought → Answer
+counted (At frame place inside) = Done frame place inside (frame % framesApart + 1)
+counted Nowhere = Refused Bad
 
 -- from mark k of a greeting; a mark behind the sample is false
 abbrev pub markAsks : Mark → ℕ → List (Asked Refusal)
@@ -33,7 +38,7 @@ markAsks m sample = bar Bad (ltb sample (m .samples)) ∷ []
 unfoldable pub jumpFrom : ℕ → List ℕ → ℕ → Mark → ℕ → Answer
 jumpFrom law xs k m sample =
     judged (markAsks m sample) Refused
-    (named (seek sample (framesApart * k) (m .samples) (fromMark law xs (m .octets) .frames)))
+    (named k (seek sample (framesApart * k) (m .samples) (fromMark law xs (m .octets) .frames)))
 
 -- in a greeting with its note; one without a mark has no frame to begin at
 abbrev pub greetingAsks : Note → ℕ → List (Asked Refusal)

@@ -11,7 +11,7 @@ ghost use Rattle.store_greeting.specs.Marks.{markOf};
 ghost use Rattle.store_notes.specs.Notes.{nthNote};
 ghost use Rattle.store_notes.specs.Cells.{noteBy, notesOf};
 ghost use Rattle.store_notes.specs.Sane.{Noted};
-ghost use Rattle.store_jump.specs.Jump.{named, jumpFrom, jumpIn, jumpAmong};
+ghost use Rattle.store_jump.specs.Jump.{counted, jumpFrom, jumpIn, jumpAmong};
 ghost use Rattle.store_jump.specs.Calls.{refusalNumber, numberOf, toldOf, Jump};
 use crate::seeking::Sought;
 use store_notes::Head;
@@ -80,9 +80,9 @@ pub fn told_of(a: Answer) -> Told
     }
 }
 
-// "The answer counts the frames read, from that mark up to and including the one named."
+// "The answer counts the frames read, from that mark up to and including the one named": a mark's frame is a multiple of 64.
 fn count_read(s: Sought) -> Answer
-    ensures { λ r. ⌜ r ≡ named s ⌝ }
+    ensures { λ r. ⌜ r ≡ counted s ⌝ }
 {
     match s {
         Sought::At(frame, place, inside) => {

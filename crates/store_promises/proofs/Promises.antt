@@ -332,16 +332,12 @@ keeps-load size s text k (leaves a) e =
       total = rw (z .rows-are) (omega arith);
     }
 
-keeps-same : (size : ℕ) (s : Store) → Keeps size s
-    → Keeps size (record { block = s .block; table = s .table; put = s .put; deleted = s .deleted })
-keeps-same size s k = record { sane = k .sane; long = k .long; good = k .good; marks = k .marks; total = k .total }
-
 -- every call keeps it so
 pub call-kept : (size : ℕ) (c : Call) (s : Store) → Keeps size s → Keeps size (see c s)
 call-kept size (putting law x xs) s k = keeps-put size s law x xs k (putOf (s .block) (s .table) law x xs) refl
-call-kept size (getting x) s k = keeps-same size s k
+call-kept size (getting x) s k = k
 call-kept size (deleting x) s k = keeps-delete size s x k (deleteOf (s .block) (s .table) x) refl
-call-kept size (saving room) s k = keeps-same size s k
+call-kept size (saving room) s k = k
 call-kept size (loading text) s k = keeps-load size s text k (loadOf text (s .block) (s .table)) refl
 
 calls-kept : (size : ℕ) (cs : List Call) (s : Store) → Keeps size s → Keeps size (seeAll cs s)
