@@ -29,11 +29,15 @@ groups-below : (c : Coding) → 0 < c .radix → (m : ℕ) (done : List ℕ) →
 unfolding groupsFrom
 groups-below c h zero done b bits i = b
 groups-below c h (suc m) done b bits i =
-    go (numberFrom 0 (c .bits) bits i) (λ v j. groups-below c h m (done ++ digitsOf (c .radix) (c .group) v) (below-append b (digits-below (c .radix) (c .group) v h)) bits j)
+    go (numberFrom 0 (c .bits) bits i)
+    (λ v j. groups-below c h m (on v) (below-append b (digits-below (c .radix) (c .group) v h)) bits j)
   where
-    go : (n : Read ℕ) → ((v j : ℕ) → DigitsOf (c .radix) (groupsFrom c (done ++ digitsOf (c .radix) (c .group) v) m bits j))
-        → DigitsOf (c .radix) (andThen n (λ v j. cond (ltb v (c .radix ^ c .group)) (groupsFrom c (done ++ digitsOf (c .radix) (c .group) v) m) (fail Place i) bits j))
-    go (whole v j) f = picked c m i (done ++ digitsOf (c .radix) (c .group) v) bits (ltb v (c .radix ^ c .group)) j (f v j)
+    on : ℕ → List ℕ
+    on v = done ++ digitsOf (c .radix) (c .group) v
+
+    go : (n : Read ℕ) → ((v j : ℕ) → DigitsOf (c .radix) (groupsFrom c (on v) m bits j))
+        → DigitsOf (c .radix) (andThen n (λ v j. cond (ltb v (c .radix ^ c .group)) (groupsFrom c (on v) m) (fail Place i) bits j))
+    go (whole v j) f = picked c m i (on v) bits (ltb v (c .radix ^ c .group)) j (f v j)
     go (refuse w at) f = tt
 
 map-same : {r : ℕ} {f g : ℕ → ℕ} → ((d : ℕ) → d < r → f d ≡ g d) → {ds : List ℕ} → Below r ds → map f ds ≡ map g ds

@@ -150,5 +150,6 @@ pub group-bits : {c : Coding} {n : ℕ} → Packs c n → (f : ℕ → ℕ) (s :
     → ofDigits (c .radix) (take (c .group) (drop from (map f s))) < 2 ^ c .bits
 group-bits {c} p f s from b h =
     let l = length-group f s from (c .group) h in
-    let d : ofDigits (c .radix) (take (c .group) (drop from (map f s))) < c .radix ^ c .group = rw l at (digits-fit (below-take (c .group) (below-drop from b))) in
+    let d : ofDigits (c .radix) (take (c .group) (drop from (map f s))) < c .radix ^ c .group
+    = rw l at (digits-fit (below-take (c .group) (below-drop from b))) in
     lt-of-lt-of-le d (p .fits)

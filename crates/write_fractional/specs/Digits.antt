@@ -4,7 +4,7 @@ use mathlib.Core.Path.{_≡_}
 use mathlib.Core.List.{List, map}
 use lib.ListN.{length, getD, take}
 use Rattle.rules.specs.Samples.{signed}
-use Rattle.rules.specs.Fractional.{digitFor, groupOf, codingOf, groupsForm}
+use Rattle.rules.specs.Fractional.{digitFor, Coding, groupOf, codingOf, groupsForm}
 use Rattle.value_rows.specs.declared.Row.{Row}
 
 abbrev pub digitIn : ℕ → Row → ℕ → ℕ
@@ -20,6 +20,10 @@ bodyIn mask row n s = groupsForm (codingOf (row .radix)) (n / groupOf (row .radi
 -- a digit, as it is
 abbrev pub same : ℕ → ℕ
 same d = d
+
+-- the first n of these cells in groups
+abbrev pub groupsIn : Coding → ℕ → List ℕ → List ℕ
+groupsIn c n cells = groupsForm c (n / c .group) (map same (take n cells))
 
 pub record DigitsFit (mask : ℕ) (row : Row) (s : List ℕ) : Type 0 where
   pub some : 2 ≤ row .radix

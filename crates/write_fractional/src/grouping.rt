@@ -4,14 +4,14 @@ use value_rows::Row;
 use write_bits::Pen;
 use write_bits::put;
 ghost use mathlib.Core.Path.{_≡_};
-ghost use Prim.Native.Nat.{ℕ, _+_, _-_, _/_, _≤_, _<_};
+ghost use Prim.Native.Nat.{ℕ, _+_, _-_, _≤_, _<_};
 ghost use mathlib.Core.List.{map};
 ghost use lib.ListN.{length, getD, take, drop};
 ghost use Rattle.rules.specs.Samples.{signed};
-ghost use Rattle.rules.specs.Fractional.{digitFor, coding, Packs, ofDigits, groupsForm};
+ghost use Rattle.rules.specs.Fractional.{digitFor, coding, Packs, ofDigits};
 ghost use Rattle.write_scan.specs.Looks.{FrameIn};
 ghost use Rattle.write_bits.specs.Puts.{Able, Puts};
-ghost use Rattle.write_fractional.specs.Digits.{bodyIn, same, DigitsFit, Digits};
+ghost use Rattle.write_fractional.specs.Digits.{bodyIn, same, groupsIn, DigitsFit, Digits};
 
 // The difference, 0 where b is more.
 fn less(a: u8, b: u8) -> u8
@@ -84,8 +84,8 @@ fn put_groups(
 ) -> Pen
     requires { ⌜ (Packs (coding r g w) n) × (n ≤ length (now digits)) × (length (now digits) ≡ 320) ⌝ }
     requires { ⌜ ((i : ℕ) → getD (map same (take n (now digits))) i 0 < r) ⌝ }
-    requires { ⌜ Able (now out) p (length (groupsForm (coding r g w) (n / g) (map same (take n (now digits))))) ⌝ }
-    ensures { λ q. ⌜ Puts (now (out .entry)) p (groupsForm (coding r g w) (n / g) (map same (take n (now (digits .entry))))) (now (out .exit)) q ⌝ }
+    requires { ⌜ Able (now out) p (length (groupsIn (coding r g w) n (now digits))) ⌝ }
+    ensures { λ q. ⌜ Puts (now (out .entry)) p (groupsIn (coding r g w) n (now (digits .entry))) (now (out .exit)) q ⌝ }
 {
     let mut q = p;
     let mut from = 0;
