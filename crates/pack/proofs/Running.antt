@@ -8,7 +8,7 @@ use lib.ListN.{length, take, length-append}
 use borrow.Author.Tests.{eqb-true}
 use Rattle.rules.specs.declared.Ending.{Ending}
 use Rattle.rules.specs.declared.Ending.the-variants.{Done, Refused}
-use Rattle.rules.specs.Tools.{isLength}
+use Rattle.rules.specs.Tools.{isLaw, isLength}
 use Rattle.rules.specs.Walk.{longest}
 use Rattle.rules.proofs.Octets.{Below}
 use Rattle.rules.proofs.Tests.{by-length}
@@ -34,6 +34,10 @@ goes-on (Refused why) count h = never h
 -- what is kept is no longer than the longest stream
 pub kept-most : {s : Settings} {kept : List ℕ} {run : Run} → OneSound s kept run → run .packed .octets ≤ longest
 kept-most {s} {kept} o = pack-inside (o .sound) (s .law) (s .set) (s .length) longest [] kept (o .is) .octets
+
+-- by a law
+pub sound-lawful : {s : Settings} {kept : List ℕ} {run : Run} → OneSound s kept run → run .packed .end ≡ Done → isLaw (s .law) ≡ true
+sound-lawful {s} o e = well-packed (o .sound) (s .law) (s .set) (s .length) longest (sym (o .is .end) ∙ e) .lawful
 
 -- a run that does not go on is nearer to its end, and so is one that took room
 steps-end : (run r : Run) → run .more ≡ true → r .more ≡ false → run .packed .octets ≤ r .packed .octets → stepsLeft r < stepsLeft run

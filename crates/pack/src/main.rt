@@ -4,13 +4,16 @@ ghost use Prim.Native.Nat.{_+_, _≤_, _<_};
 ghost use mathlib.Core.Path.{_≡_};
 ghost use mathlib.Core.Bool.{true};
 ghost use lib.ListN.{length};
+ghost use Rattle.rules.specs.Tools.{isLaw};
 ghost use Rattle.tool_packing.specs.SoundParts.{partSize};
 ghost use Rattle.tool_playback.specs.Runs.{Reachable};
 ghost use Rattle.pack.specs.Runs.{pageSize, FilledIf, NextOctets, WholeSound, Stands, StopsRun, stepsLeft};
 use recording::marking::HEADING;
 use rules::Ending;
 use tool_packing::packing::PackAnswer;
-use tool_playback::replaying::Body;
+use tool_playback::parts::Reading;
+use tool_playback::playing::Body;
+use tool_playback::telling::Tells;
 use tool_sound::sounds::Way;
 use tool_words::options::PACK;
 use tool_words::options::Settings;
@@ -159,7 +162,7 @@ fn copied(b: Body, fd: i32, page: &mut [u8]) -> u32
 {
     let mut at = 0;
     while at < b.size {
-        let got = tool_playback::replaying::window_at(b, at, page);
+        let got = tool_playback::playing::window_at(b, at, page);
         let n = got.count;
         if got.failed {
             return UNKEPT;
@@ -177,20 +180,14 @@ fn copied(b: Body, fd: i32, page: &mut [u8]) -> u32
 
 // A frame that is all 0++ or all 0-- is a loss to every reader of recordings: how many there are is said, by reading what is kept so.
 fn say_erased(b: Body, law: u32)
-    requires { ⌜ Reachable b ⌝ }
+    requires { ⌜ Reachable b × (isLaw law ≡ true) ⌝ }
 {
-    let way = Way {
-        compares: false,
-        fd: 0,
-        form: tool_sound::sounds::COUNTED,
-    };
-    let t = tool_playback::replaying::play_file(
-        b,
+    let how = Reading {
         law,
-        rules::ALL_TOOLS,
-        way,
-        tool_playback::replaying::TELLS_NOTHING,
-    );
+        set: rules::ALL_TOOLS,
+        records: true,
+    };
+    let t = tool_playback::playing::play_file(b, how, Way::Counted, Tells::Nothing);
     if t.lost != 0 {
         tool_console::say_number(
             b"pack: frames that are all 0++ or all 0--, so that readers of recordings take them for lost: ",
@@ -202,7 +199,7 @@ fn say_erased(b: Body, law: u32)
 
 // What was done, of a stream or of a recording, whose octets count the heading.
 fn say_done(run: Run, s: Settings, b: Body)
-    requires { ⌜ Reachable b ⌝ }
+    requires { ⌜ Reachable b × (isLaw (s .law) ≡ true) ⌝ }
 {
     let p = run.packed;
     let f = s.flags;

@@ -4,7 +4,7 @@
 ghost use Prim.Native.Nat.{_≤_, _<_};
 ghost use mathlib.Core.Path.{_≡_};
 ghost use lib.ListN.{length};
-ghost use Rattle.tool_sound.specs.Uses.{UsesUpTo};
+ghost use Rattle.tool_sound.specs.Uses.{isWell, UsesUpTo};
 use crate::wave::Heading;
 use crate::wave::Wrong;
 use tool_words::options::PACK;
@@ -194,11 +194,8 @@ pub fn open_sound(fd: i32, form: u32, space: &mut [u8]) -> Opened {
     }
 }
 
-// A part of a sound, written; in form 3 nothing is, and the sound is only counted. A part has at most 61,440 samples.
-pub fn write_part(fd: i32, form: u32, law: u32, sound: &[u8]) -> bool {
-    if form == 3 {
-        return true;
-    }
+// A part of a sound, written. A part has at most 61,440 samples.
+fn write_part(fd: i32, form: u32, law: u32, sound: &[u8]) -> bool {
     if form == 0 {
         return io::write_all(fd, sound);
     }
@@ -219,31 +216,51 @@ pub fn write_heading(fd: i32, samples: usize) -> bool {
     io::write_all(fd, &heading)
 }
 
-// The form of a sound that is only counted.
-pub const COUNTED: u32 = 3;
+// What is wrong with the files of a sound: nothing; the file that is written or compared fails; the master differs, is shorter or is longer;
+// the file that is played can't be read.
+pub enum Trouble {
+    Nothing,
+    Failed,
+    Differs,
+    Shorter,
+    Longer,
+    Unread,
+}
 
-// What is wrong with the file that is written or compared.
-pub const NOTHING: u32 = 0;
-
-pub const FAILED: u32 = 1;
-
-pub const DIFFERS: u32 = 2;
-
-pub const SHORTER: u32 = 3;
-
-pub const LONGER: u32 = 4;
+pub fn is_well(wrong: Trouble) -> bool
+    ensures { λ r. ⌜ r ≡ isWell wrong ⌝ }
+{
+    match wrong {
+        Trouble::Nothing => true,
+        Trouble::Failed => false,
+        Trouble::Differs => false,
+        Trouble::Shorter => false,
+        Trouble::Longer => false,
+        Trouble::Unread => false,
+    }
+}
 
 // What came of a part's sound: what is wrong, and how many octets are well.
 pub struct Used {
-    pub wrong: u32,
+    pub wrong: Trouble,
     pub good: usize,
 }
 
-// What is done with a sound: it is compared with a master, or written in a form.
-pub struct Way {
-    pub compares: bool,
-    pub fd: i32,
-    pub form: u32,
+// What is done with a sound: it is compared with a master, written to a file in a form, or only counted.
+pub enum Way {
+    Compared(i32),
+    Written(i32, u32),
+    Counted,
+}
+
+// All of a sound is well.
+fn all_well(good: usize) -> Used
+    ensures { λ r. ⌜ UsesUpTo good r ⌝ }
+{
+    Used {
+        wrong: Trouble::Nothing,
+        good,
+    }
 }
 
 // A part of a sound, written in its form, and what came of it.
@@ -251,13 +268,10 @@ fn written(fd: i32, form: u32, law: u32, sound: &[u8]) -> Used
     ensures { λ r. ⌜ UsesUpTo (length (now (sound .entry))) r ⌝ }
 {
     if write_part(fd, form, law, sound) {
-        return Used {
-            wrong: NOTHING,
-            good: sound.len(),
-        };
+        return all_well(sound.len());
     }
     Used {
-        wrong: FAILED,
+        wrong: Trouble::Failed,
         good: 0,
     }
 }
@@ -271,7 +285,7 @@ fn compared(fd: i32, sound: &[u8], master: &mut [u8]) -> Used
     let got = tool_console::read_part(fd, &mut master[..n]);
     if got.failed {
         return Used {
-            wrong: FAILED,
+            wrong: Trouble::Failed,
             good: 0,
         };
     }
@@ -279,56 +293,72 @@ fn compared(fd: i32, sound: &[u8], master: &mut [u8]) -> Used
     let good = crate::comparing::agree(sound, &master[..m]);
     if good == n {
         return Used {
-            wrong: NOTHING,
+            wrong: Trouble::Nothing,
             good,
         };
     }
     if good == m {
         return Used {
-            wrong: SHORTER,
+            wrong: Trouble::Shorter,
             good,
         };
     }
     Used {
-        wrong: DIFFERS,
+        wrong: Trouble::Differs,
         good,
     }
 }
 
-// A part of a sound, written or compared.
+// A part of a sound, written, compared or counted.
 pub fn use_sound(way: Way, law: u32, sound: &[u8], master: &mut [u8]) -> Used
     requires { ⌜ length (now sound) ≤ length (now master) ⌝ }
     ensures { λ r. ⌜ UsesUpTo (length (now (sound .entry))) r ⌝ }
 {
-    if way.compares {
-        return compared(way.fd, sound, master);
+    match way {
+        Way::Compared(fd) => compared(fd, sound, master),
+        Way::Written(fd, form) => written(fd, form, law, sound),
+        Way::Counted => all_well(sound.len()),
     }
-    written(way.fd, way.form, law, sound)
 }
 
 // What is wrong with a master after its octets for all the sound: nothing, or it is longer.
-pub fn left_over(fd: i32) -> u32 {
+pub fn left_over(fd: i32) -> Trouble {
     let mut one = [0u8; 1];
     let got = tool_console::read_part(fd, &mut one);
     if got.failed {
-        return FAILED;
+        return Trouble::Failed;
     }
     if got.count == 0 {
-        return NOTHING;
+        return Trouble::Nothing;
     }
-    LONGER
+    Trouble::Longer
+}
+
+// How a master differs.
+fn say_difference(wrong: Trouble, place: usize) {
+    match wrong {
+        Trouble::Shorter => tool_console::say_number(
+            b"the master is shorter: it ends at octet ",
+            place,
+        ),
+        Trouble::Longer => tool_console::say_number(
+            b"the master is longer: the sound ends at octet ",
+            place,
+        ),
+        Trouble::Differs => tool_console::say_number(
+            b"the sound differs from the master at octet ",
+            place,
+        ),
+        Trouble::Nothing => {}
+        Trouble::Failed => {}
+        Trouble::Unread => {}
+    }
 }
 
 // Where the master differs, and the last line.
-pub fn differs(wrong: u32, place: usize) {
+pub fn differs(wrong: Trouble, place: usize) {
     tool_console::say_tool(UNPACK);
-    if wrong == SHORTER {
-        tool_console::say_number(b"the master is shorter: it ends at octet ", place);
-    } else if wrong == LONGER {
-        tool_console::say_number(b"the master is longer: the sound ends at octet ", place);
-    } else {
-        tool_console::say_number(b"the sound differs from the master at octet ", place);
-    }
+    say_difference(wrong, place);
     tool_console::say(b"\n");
     tool_console::stop(UNPACK, 65, place, 0, 0);
 }

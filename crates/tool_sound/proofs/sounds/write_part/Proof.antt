@@ -11,6 +11,5 @@ slice-aggregate-write-all c =
     sym (length-take-le (m .result) (m .last .1 .1 .0) (omega (arith, m .ensures .count, m .kept .1 .1 .0)))
 
 pub write-part-spec : {M : Type 1} → statement M
-write-part-spec = tie.close (tie.spec (λ c. search needs) (λ c κs. search needs) (λ c. search needs) (λ c. search needs)
-    (λ c. search needs) (λ c κs. search needs) (λ c. search needs) slice-aggregate-write-all (λ c κs. search needs)
-    (λ c. search needs))
+write-part-spec = tie.close (tie.spec (λ c κs. search needs) (λ c. search needs) (λ c. search needs) (λ c. search needs)
+    (λ c κs. search needs) (λ c. search needs) slice-aggregate-write-all (λ c κs. search needs) (λ c. search needs))
