@@ -1,6 +1,6 @@
 // The sound of octets, and of a file window by window, used: written, compared or counted; and its losses, or all its items, told.
 //   play: the items of octets.      play_file: those of a file.
-ghost use Prim.Native.Nat.{_+_, _*_, _≤_};
+ghost use Prim.Native.Nat.{_+_, _≤_};
 ghost use mathlib.Core.Path.{_≡_};
 ghost use mathlib.Core.Bool.{true};
 ghost use lib.ListN.{length};

@@ -1,5 +1,5 @@
 // What is said of the items: a line for each loss, and, where all are asked for, for each frame as the listing has it.
-ghost use Prim.Native.Nat.{_+_, _≤_};
+ghost use Prim.Native.Nat.{_≤_};
 ghost use lib.ListN.{length};
 ghost use Rattle.rules.specs.Walk.{longest};
 ghost use Rattle.text_lines.specs.Puts.{Puts};
@@ -30,7 +30,8 @@ fn put_loss(number: usize, place: usize, samples: usize, heard: usize, out: &mut
     text_lines::put_word(b"\n", out, end)
 }
 
-// Says a loss of `n` samples, where it stands behind what is before the octets. These and how they are read stand here for the contract alone.
+// Says a loss of `n` samples, where it stands behind what is before the octets. These, and how they are read, stand here for the contract
+// alone.
 fn say_loss(body: &[u8], how: Reading, here: Point, n: usize, base: Point)
     requires { ⌜ (LossAt (now body) how here n) × Sums base here × Behind how base ⌝ }
 {

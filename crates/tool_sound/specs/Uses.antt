@@ -3,15 +3,13 @@ use Prim.Native.Nat.{ℕ, _≤_}
 use mathlib.Core.Path.{_≡_}
 use mathlib.Core.Bool.{Bool, true, false}
 use Rattle.tool_sound.specs.declared.sounds.Trouble.{Trouble}
-use Rattle.tool_sound.specs.declared.sounds.Trouble.the-variants.{Nothing, Failed, Differs, Shorter, Longer, Unread}
+use Rattle.tool_sound.specs.declared.sounds.Trouble.the-variants.{Nothing, Failed, Master, Unread}
 use Rattle.tool_sound.specs.declared.sounds.Used.{Used}
 
 abbrev pub isWell : Trouble → Bool
 isWell Nothing = true
 isWell Failed = false
-isWell Differs = false
-isWell Shorter = false
-isWell Longer = false
+isWell (Master how) = false
 isWell Unread = false
 
 -- of a sound of so many octets: all of it is well where nothing is wrong

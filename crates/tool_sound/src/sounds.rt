@@ -1,5 +1,5 @@
-// The forms in which the bench tools read and write a sound: raw G.711 (0), linear values of 16 bits (1), a WAV file of them (2); and a sound
-// compared with a master.
+// The forms in which the bench tools read and write a sound: raw G.711, linear values of 16 bits, a WAV file of them; and a sound compared
+// with a master.
 // No contract can say what is read or written. What octets mean stands in `masters` and `wave`.
 ghost use Prim.Native.Nat.{_≤_, _<_};
 ghost use mathlib.Core.Path.{_≡_};
@@ -7,8 +7,8 @@ ghost use lib.ListN.{length};
 ghost use Rattle.tool_sound.specs.Uses.{isWell, UsesUpTo};
 use crate::wave::Heading;
 use crate::wave::Wrong;
-use tool_words::options::PACK;
-use tool_words::options::UNPACK;
+use tool_words::options::Form;
+use tool_words::options::Tool;
 
 // A part that was read: its samples, whether a read failed, and how many octets the file should still have.
 pub struct Heard {
@@ -17,9 +17,9 @@ pub struct Heard {
     pub left: usize,
 }
 
-// A sound that was opened: how many octets it should have, 0 where nothing tells it; and whether it was refused (1) or a read failed (2).
+// A sound that was opened: how many octets it should have, 0 where nothing tells it; and whether it was refused.
 pub struct Opened {
-    pub trouble: u32,
+    pub refused: bool,
     pub left: usize,
 }
 
@@ -38,48 +38,62 @@ fn read_values(fd: i32, law: u32, most: usize, octets: &mut [u8], part: &mut [u8
     }
 }
 
-// How many octets of a file of linear values are read for a part: two for each sample, and no more than the file should have.
-fn octets_for(form: u32, left: usize) -> usize
+// The same with octets of its own, which are two for each sample of a part.
+fn read_linear(fd: i32, law: u32, most: usize, part: &mut [u8]) -> Heard
+    requires { ⌜ most ≤ 122880 ⌝ }
+    ensures { λ r. ⌜ r .count ≤ length (now (part .exit)) ⌝ }
+{
+    let mut octets = [0u8; 122880];
+    read_values(fd, law, most, &mut octets, part)
+}
+
+// How many octets of a WAV file are read for a part: no more than the file should have.
+fn octets_for(left: usize) -> usize
     ensures { λ r. ⌜ r ≤ 122880 ⌝ }
 {
-    if form == 1 {
-        return 122880;
-    }
     if left < 122880 {
         return left;
     }
     122880
 }
 
-// How many octets the file should still have: all but those that came; without a heading, the other half of a value.
-fn left_after(form: u32, left: usize, came: usize) -> usize {
-    if form == 1 {
-        return came % 2;
-    }
+// How many octets a WAV file should still have: all but those that came.
+fn left_after(left: usize, came: usize) -> usize {
     if left < came {
         return 0;
     }
     left - came
 }
 
-// The next samples of a sound, as many as the part holds: 61,440.
-pub fn read_part(fd: i32, form: u32, law: u32, left: usize, part: &mut [u8]) -> Heard
+// The next samples of a sound, as many as the part holds: 61,440. Linear values without a heading have the other half of a value left.
+pub fn read_part(fd: i32, form: Form, law: u32, left: usize, part: &mut [u8]) -> Heard
     ensures { λ r. ⌜ r .count ≤ length (now (part .exit)) ⌝ }
 {
-    if form == 0 {
-        let got = tool_console::read_part(fd, part);
-        return Heard {
-            count: got.count,
-            failed: got.failed,
-            left: 0,
-        };
-    }
-    let mut octets = [0u8; 122880];
-    let heard = read_values(fd, law, octets_for(form, left), &mut octets, part);
-    Heard {
-        count: heard.count,
-        failed: heard.failed,
-        left: left_after(form, left, heard.left),
+    match form {
+        Form::Raw => {
+            let got = tool_console::read_part(fd, part);
+            Heard {
+                count: got.count,
+                failed: got.failed,
+                left: 0,
+            }
+        }
+        Form::Linear => {
+            let heard = read_linear(fd, law, 122880, part);
+            Heard {
+                count: heard.count,
+                failed: heard.failed,
+                left: heard.left % 2,
+            }
+        }
+        Form::Wave => {
+            let heard = read_linear(fd, law, octets_for(left), part);
+            Heard {
+                count: heard.count,
+                failed: heard.failed,
+                left: left_after(left, heard.left),
+            }
+        }
     }
 }
 
@@ -91,7 +105,7 @@ fn say_what(before: &[u8], what: u32, after: &[u8]) {
 
 // Why a WAV file is refused.
 fn say_wrong(why: Wrong) {
-    tool_console::say_tool(PACK);
+    tool_console::say_tool(Tool::Pack);
     match why {
         Wrong::NotWave => tool_console::say(b"this is no WAV file\n"),
         Wrong::Format(what) => say_what(b"the WAV file has format ", what, b", and PCM is 1\n"),
@@ -147,7 +161,7 @@ fn more_octets(fd: i32, n: usize, k: usize, space: &mut [u8]) -> usize
 }
 
 fn say_no_heading() {
-    tool_console::say_tool(PACK);
+    tool_console::say_tool(Tool::Pack);
     tool_console::say(b"the WAV file ends inside its heading, or the heading is too long\n");
 }
 
@@ -158,13 +172,13 @@ fn read_heading(fd: i32, space: &mut [u8]) -> Opened {
         let heading = crate::wave::heading_in(&space[..n]);
         match heading {
             Heading::Sound(size) => return Opened {
-                trouble: 0,
+                refused: false,
                 left: size,
             },
             Heading::Refused(why) => {
                 say_wrong(why);
                 return Opened {
-                    trouble: 1,
+                    refused: true,
                     left: 0,
                 };
             }
@@ -173,7 +187,7 @@ fn read_heading(fd: i32, space: &mut [u8]) -> Opened {
                 if end == 0 {
                     say_no_heading();
                     return Opened {
-                        trouble: 1,
+                        refused: true,
                         left: 0,
                     };
                 }
@@ -184,27 +198,35 @@ fn read_heading(fd: i32, space: &mut [u8]) -> Opened {
 }
 
 // What comes before the sound: a heading in a WAV file, else nothing.
-pub fn open_sound(fd: i32, form: u32, space: &mut [u8]) -> Opened {
-    if form == 2 {
-        return read_heading(fd, space);
-    }
-    Opened {
-        trouble: 0,
+pub fn open_sound(fd: i32, form: Form, space: &mut [u8]) -> Opened {
+    let none = Opened {
+        refused: false,
         left: 0,
+    };
+    match form {
+        Form::Raw => none,
+        Form::Linear => none,
+        Form::Wave => read_heading(fd, space),
     }
 }
 
-// A part of a sound, written. A part has at most 61,440 samples.
-fn write_part(fd: i32, form: u32, law: u32, sound: &[u8]) -> bool {
-    if form == 0 {
-        return io::write_all(fd, sound);
-    }
+// A part of a sound, written as linear values. A part has at most 61,440 samples.
+fn write_linear(fd: i32, law: u32, sound: &[u8]) -> bool {
     if 61440 < sound.len() {
         return false;
     }
     let mut octets = [0u8; 122880];
     let n = crate::masters::master_of(sound, law, &mut octets);
     io::write_all(fd, &octets[..n])
+}
+
+// A part of a sound, written in its form.
+fn write_part(fd: i32, form: Form, law: u32, sound: &[u8]) -> bool {
+    match form {
+        Form::Raw => io::write_all(fd, sound),
+        Form::Linear => write_linear(fd, law, sound),
+        Form::Wave => write_linear(fd, law, sound),
+    }
 }
 
 // The heading of a WAV file of so many samples, where its length can tell them.
@@ -216,14 +238,19 @@ pub fn write_heading(fd: i32, samples: usize) -> bool {
     io::write_all(fd, &heading)
 }
 
-// What is wrong with the files of a sound: nothing; the file that is written or compared fails; the master differs, is shorter or is longer;
-// the file that is played can't be read.
-pub enum Trouble {
-    Nothing,
-    Failed,
+// How a master is unlike the sound: it differs, is shorter or is longer.
+pub enum Unlike {
     Differs,
     Shorter,
     Longer,
+}
+
+// What is wrong with the files of a sound: nothing; the file that is written or compared fails; the master is unlike the sound; the file
+// that is played can't be read.
+pub enum Trouble {
+    Nothing,
+    Failed,
+    Master(Unlike),
     Unread,
 }
 
@@ -233,9 +260,7 @@ pub fn is_well(wrong: Trouble) -> bool
     match wrong {
         Trouble::Nothing => true,
         Trouble::Failed => false,
-        Trouble::Differs => false,
-        Trouble::Shorter => false,
-        Trouble::Longer => false,
+        Trouble::Master(_) => false,
         Trouble::Unread => false,
     }
 }
@@ -249,7 +274,7 @@ pub struct Used {
 // What is done with a sound: it is compared with a master, written to a file in a form, or only counted.
 pub enum Way {
     Compared(i32),
-    Written(i32, u32),
+    Written(i32, Form),
     Counted,
 }
 
@@ -264,7 +289,7 @@ fn all_well(good: usize) -> Used
 }
 
 // A part of a sound, written in its form, and what came of it.
-fn written(fd: i32, form: u32, law: u32, sound: &[u8]) -> Used
+fn written(fd: i32, form: Form, law: u32, sound: &[u8]) -> Used
     ensures { λ r. ⌜ UsesUpTo (length (now (sound .entry))) r ⌝ }
 {
     if write_part(fd, form, law, sound) {
@@ -299,12 +324,12 @@ fn compared(fd: i32, sound: &[u8], master: &mut [u8]) -> Used
     }
     if good == m {
         return Used {
-            wrong: Trouble::Shorter,
+            wrong: Trouble::Master(Unlike::Shorter),
             good,
         };
     }
     Used {
-        wrong: Trouble::Differs,
+        wrong: Trouble::Master(Unlike::Differs),
         good,
     }
 }
@@ -331,34 +356,31 @@ pub fn left_over(fd: i32) -> Trouble {
     if got.count == 0 {
         return Trouble::Nothing;
     }
-    Trouble::Longer
+    Trouble::Master(Unlike::Longer)
 }
 
-// How a master differs.
-fn say_difference(wrong: Trouble, place: usize) {
-    match wrong {
-        Trouble::Shorter => tool_console::say_number(
+// How a master is unlike the sound, and where.
+fn say_unlike(how: Unlike, place: usize) {
+    match how {
+        Unlike::Shorter => tool_console::say_number(
             b"the master is shorter: it ends at octet ",
             place,
         ),
-        Trouble::Longer => tool_console::say_number(
+        Unlike::Longer => tool_console::say_number(
             b"the master is longer: the sound ends at octet ",
             place,
         ),
-        Trouble::Differs => tool_console::say_number(
+        Unlike::Differs => tool_console::say_number(
             b"the sound differs from the master at octet ",
             place,
         ),
-        Trouble::Nothing => {}
-        Trouble::Failed => {}
-        Trouble::Unread => {}
     }
 }
 
-// Where the master differs, and the last line.
-pub fn differs(wrong: Trouble, place: usize) {
-    tool_console::say_tool(UNPACK);
-    say_difference(wrong, place);
+// The same, and the last line.
+pub fn differs(how: Unlike, place: usize) {
+    tool_console::say_tool(Tool::Unpack);
+    say_unlike(how, place);
     tool_console::say(b"\n");
-    tool_console::stop(UNPACK, 65, place, 0, 0);
+    tool_console::stop(Tool::Unpack, 65, place, 0, 0);
 }

@@ -1,5 +1,5 @@
-// The bench tool `unpack`: a stream, or a recording, back to sound, or, with a master, the sound compared with it. What a file's items and their
-// sound are stands in crate `tool_playback`, what the arguments mean in `tool_words`, what is said in `tool_console`.
+// The bench tool `unpack`: a stream, or a recording, back to sound, or, with a master, the sound compared with it. What a file's items and
+// their sound are stands in crate `tool_playback`, what the arguments mean in `tool_words`, what is said in `tool_console`.
 ghost use mathlib.Core.Path.{_≡_};
 ghost use mathlib.Core.Bool.{false};
 ghost use Prim.Native.Nat.{_^_, _≤_, _<_};
@@ -19,20 +19,22 @@ use tool_playback::playing::play_file;
 use tool_playback::telling::Tells;
 use tool_sound::sounds::Trouble;
 use tool_sound::sounds::Way;
+use tool_words::filenames::Law;
 use tool_words::options::Flags;
+use tool_words::options::Form;
 use tool_words::options::Settings;
-use tool_words::options::UNPACK;
+use tool_words::options::Tool;
 
 // Losses end a run with a status of their own, unless it is to go on.
 fn stop_well(t: Total, on: bool) {
     if t.lost == 0 || on {
-        tool_console::stop(UNPACK, 0, t.at, 0, 0);
+        tool_console::stop(Tool::Unpack, 0, t.at, 0, 0);
         return;
     }
     tool_console::say(
         b"unpack: the recording has losses, so this is not all of its sound; -g goes on all the same\n",
     );
-    tool_console::stop(UNPACK, 66, t.at, 0, 0);
+    tool_console::stop(Tool::Unpack, 66, t.at, 0, 0);
 }
 
 // What was done: the frames are the items that are no losses, and a recording's octets count the heading.
@@ -54,7 +56,7 @@ fn finish(t: Total, records: bool, on: bool)
     let end = t.end;
     let number = recording::number_of(end);
     if number != 0 {
-        tool_console::refused(UNPACK, number, t.at, recording::tool_of(end), t.bit);
+        tool_console::refused(Tool::Unpack, number, t.at, recording::tool_of(end), t.bit);
         return;
     }
     stop_well(t, on);
@@ -66,7 +68,7 @@ fn open_file(name: &[u8], part: &mut [u8]) -> Source
 {
     let fd = tool_console::open_in(name);
     if fd < 0 {
-        tool_console::failed(UNPACK, name, b"standard input");
+        tool_console::failed(Tool::Unpack, name, b"standard input");
         return Source {
             fd,
             size: 0,
@@ -75,24 +77,32 @@ fn open_file(name: &[u8], part: &mut [u8]) -> Source
     }
     let source = tool_console::source_of(fd, rules::LONGEST + HEADING, part);
     if source.failed {
-        tool_console::failed(UNPACK, name, b"standard input");
+        tool_console::failed(Tool::Unpack, name, b"standard input");
     }
     source
 }
 
 // A WAV file tells before its sound how long it is: the frames are read once for that.
-fn heading_written(b: Body, how: Reading, form: u32, fd: i32) -> bool
+fn wave_heading(b: Body, how: Reading, fd: i32) -> bool
     requires { ⌜ Reachable b × Lawful how ⌝ }
 {
-    if form != 2 {
-        return true;
-    }
     let t = play_file(b, how, Way::Counted, Tells::Nothing);
     let wrong = t.wrong;
     if !tool_sound::sounds::is_well(wrong) {
         return true;
     }
     tool_sound::sounds::write_heading(fd, t.samples)
+}
+
+// What stands before the sound in its form.
+fn heading_written(b: Body, how: Reading, form: Form, fd: i32) -> bool
+    requires { ⌜ Reachable b × Lawful how ⌝ }
+{
+    match form {
+        Form::Raw => true,
+        Form::Linear => true,
+        Form::Wave => wave_heading(b, how, fd),
+    }
 }
 
 // What is told of a recording's items; a stream has no losses.
@@ -109,18 +119,16 @@ fn written(t: Total, how: Reading, on: bool, from: &[u8], name: &[u8], fd: i32)
 {
     let wrong = t.wrong;
     match wrong {
-        Trouble::Unread => tool_console::failed(UNPACK, from, b"standard input"),
+        Trouble::Unread => tool_console::failed(Tool::Unpack, from, b"standard input"),
         Trouble::Nothing => {
             if tool_console::close(fd) {
                 finish(t, how.records, on);
                 return;
             }
-            tool_console::failed(UNPACK, name, b"standard output");
+            tool_console::failed(Tool::Unpack, name, b"standard output");
         }
-        Trouble::Failed => tool_console::failed(UNPACK, name, b"standard output"),
-        Trouble::Differs => tool_console::failed(UNPACK, name, b"standard output"),
-        Trouble::Shorter => tool_console::failed(UNPACK, name, b"standard output"),
-        Trouble::Longer => tool_console::failed(UNPACK, name, b"standard output"),
+        Trouble::Failed => tool_console::failed(Tool::Unpack, name, b"standard output"),
+        Trouble::Master(_) => tool_console::failed(Tool::Unpack, name, b"standard output"),
     }
 }
 
@@ -131,15 +139,16 @@ fn write_to(b: Body, how: Reading, s: Settings, from: &[u8], name: &[u8])
     let f = s.flags;
     let fd = tool_console::open_out(name);
     if fd < 0 {
-        tool_console::failed(UNPACK, name, b"standard output");
+        tool_console::failed(Tool::Unpack, name, b"standard output");
         return;
     }
-    if !heading_written(b, how, s.form, fd) {
-        tool_console::failed(UNPACK, name, b"standard output");
+    let form = s.form;
+    if !heading_written(b, how, form, fd) {
+        tool_console::failed(Tool::Unpack, name, b"standard output");
         return;
     }
     let tells = tells_of(f);
-    let t = play_file(b, how, Way::Written(fd, s.form), tells);
+    let t = play_file(b, how, Way::Written(fd, form), tells);
     written(t, how, f.on, from, name, fd);
 }
 
@@ -150,11 +159,9 @@ fn conclude(t: Total, records: bool, on: bool, fd: i32, name: &[u8])
     let wrong = tool_sound::sounds::left_over(fd);
     match wrong {
         Trouble::Nothing => finish(t, records, on),
-        Trouble::Failed => tool_console::failed(UNPACK, name, b"standard input"),
-        Trouble::Longer => tool_sound::sounds::differs(wrong, t.samples),
-        Trouble::Differs => tool_sound::sounds::differs(wrong, t.samples),
-        Trouble::Shorter => tool_sound::sounds::differs(wrong, t.samples),
-        Trouble::Unread => tool_sound::sounds::differs(wrong, t.samples),
+        Trouble::Master(how) => tool_sound::sounds::differs(how, t.samples),
+        Trouble::Failed => tool_console::failed(Tool::Unpack, name, b"standard input"),
+        Trouble::Unread => tool_console::failed(Tool::Unpack, name, b"standard input"),
     }
 }
 
@@ -164,11 +171,9 @@ fn compared(t: Total, how: Reading, on: bool, from: &[u8], name: &[u8], fd: i32)
 {
     let wrong = t.wrong;
     match wrong {
-        Trouble::Unread => tool_console::failed(UNPACK, from, b"standard input"),
-        Trouble::Failed => tool_console::failed(UNPACK, name, b"standard input"),
-        Trouble::Differs => tool_sound::sounds::differs(wrong, t.samples),
-        Trouble::Shorter => tool_sound::sounds::differs(wrong, t.samples),
-        Trouble::Longer => tool_sound::sounds::differs(wrong, t.samples),
+        Trouble::Unread => tool_console::failed(Tool::Unpack, from, b"standard input"),
+        Trouble::Failed => tool_console::failed(Tool::Unpack, name, b"standard input"),
+        Trouble::Master(how) => tool_sound::sounds::differs(how, t.samples),
         Trouble::Nothing => {
             let end = t.end;
             if recording::number_of(end) != 0 {
@@ -187,7 +192,7 @@ fn compare_with(b: Body, how: Reading, s: Settings, from: &[u8], name: &[u8])
     let f = s.flags;
     let fd = tool_console::open_in(name);
     if fd < 0 {
-        tool_console::failed(UNPACK, name, b"standard input");
+        tool_console::failed(Tool::Unpack, name, b"standard input");
         return;
     }
     let tells = tells_of(f);
@@ -201,7 +206,7 @@ fn refuses(end: Ending) -> bool
 {
     match end {
         Ending::Refused(why) => {
-            tool_console::refused(UNPACK, rules::refusal_number(why), 0, 0, 0);
+            tool_console::refused(Tool::Unpack, rules::refusal_number(why), 0, 0, 0);
             true
         }
         Ending::Done => false,
@@ -221,7 +226,7 @@ fn to_other(b: Body, how: Reading, s: Settings, name: &[u8])
     let target = tool_console::target_name(s, how.law, name, &mut space);
     let n = target.len;
     if !target.fits {
-        tool_console::usage(UNPACK, b"OUTFILE's name would be too long");
+        tool_console::usage(Tool::Unpack, b"OUTFILE's name would be too long");
         return;
     }
     write_to(b, how, s, name, &space[..n]);
@@ -243,30 +248,39 @@ fn with_stream(s: Settings, name: &[u8], fd: i32, size: usize) {
     let f = s.flags;
     if f.lists {
         tool_console::usage(
-            UNPACK,
+            Tool::Unpack,
             b"-v lists a recording's items, and this is a stream: listing lists its frames",
         );
         return;
     }
-    let law = tool_words::options::law_of(s, name);
-    if law == 2 {
-        tool_console::usage(UNPACK, b"the law is not known: say -u or -a");
-        return;
+    match tool_words::options::law_of(s, name) {
+        Law::Unknown => tool_console::usage(Tool::Unpack, b"the law is not known: say -u or -a"),
+        Law::Known(law) => {
+            let how = Reading {
+                law,
+                set: s.set,
+                records: false,
+            };
+            with_frames(Body { fd, skip: 0, size }, how, s, name);
+        }
     }
-    let how = Reading {
-        law,
-        set: s.set,
-        records: false,
-    };
-    with_frames(Body { fd, skip: 0, size }, how, s, name);
+}
+
+// Whether an option says another law than the heading.
+fn says_other(said: Law, law: u32) -> bool {
+    match said {
+        Law::Known(other) => other != law,
+        Law::Unknown => false,
+    }
 }
 
 // A recording: its heading tells the law, and an option may not say another. LONG counts from the heading's end.
 fn with_recording(s: Settings, law: u32, name: &[u8], fd: i32, size: usize)
     requires { ⌜ headingLength ≤ size ⌝ }
 {
-    if s.law != 2 && s.law != law {
-        tool_console::usage(UNPACK, b"the recording's heading says the other law");
+    let said = s.law;
+    if says_other(said, law) {
+        tool_console::usage(Tool::Unpack, b"the recording's heading says the other law");
         return;
     }
     let body = Body {
@@ -285,7 +299,7 @@ fn with_recording(s: Settings, law: u32, name: &[u8], fd: i32, size: usize)
 // What begins as a recording and has no heading.
 fn headless() {
     tool_console::say(b"unpack: a recording's heading is cut, or of another law or version\n");
-    tool_console::refused(UNPACK, 14, 0, 0, 0);
+    tool_console::refused(Tool::Unpack, 14, 0, 0, 0);
 }
 
 // What the file is says what is done with it; its first octets tell.
@@ -308,7 +322,7 @@ fn begin(s: Settings, name: &[u8], fd: i32, size: usize) {
     let mut first = [0u8; 64];
     let got = tool_console::read_at(fd, 0, &mut first);
     if got.failed {
-        tool_console::failed(UNPACK, name, b"standard input");
+        tool_console::failed(Tool::Unpack, name, b"standard input");
         return;
     }
     let n = got.count;
@@ -329,20 +343,29 @@ fn run(s: Settings, name: &[u8]) {
     begin(s, name, source.fd, source.size);
 }
 
+fn is_raw(form: Form) -> bool {
+    match form {
+        Form::Raw => true,
+        Form::Linear => false,
+        Form::Wave => false,
+    }
+}
+
 // Whether -l or -w can't be met: a master that is compared is raw G.711, and no ending is known for another form.
 fn wrong_form(s: Settings, name: &[u8]) -> bool {
-    if s.form == 0 {
+    let form = s.form;
+    if is_raw(form) {
         return false;
     }
     if s.master != 0 {
         tool_console::usage(
-            UNPACK,
+            Tool::Unpack,
             b"-c compares raw G.711, so -l and -w don't go with it",
         );
         return true;
     }
     if s.outfile == 0 && name.len() != 0 {
-        tool_console::usage(UNPACK, b"with -l or -w OUTFILE must be said");
+        tool_console::usage(Tool::Unpack, b"with -l or -w OUTFILE must be said");
         return true;
     }
     false
@@ -359,19 +382,17 @@ fn wrong_master(s: Settings, name: &[u8]) -> bool {
     let mut space = [0u8; 4095];
     let n = tool_console::file_name(s.master, &mut space);
     if name.len() == 0 && n == 0 {
-        tool_console::usage(UNPACK, b"INFILE and MASTER can't both be standard input");
+        tool_console::usage(
+            Tool::Unpack,
+            b"INFILE and MASTER can't both be standard input",
+        );
         return true;
     }
     false
 }
 
 // "usage, then SET, .., then files, then the file's own"
-fn main() {
-    let s = tool_console::settings(UNPACK);
-    if s.wrong != 0 {
-        tool_console::wrong_settings(s);
-        return;
-    }
+fn unpack_as(s: Settings) {
     let mut space = [0u8; 4095];
     let n = tool_console::file_name(s.infile, &mut space);
     if wrong_form(s, &space[..n]) {
@@ -381,4 +402,13 @@ fn main() {
         return;
     }
     run(s, &space[..n]);
+}
+
+fn main() {
+    let w = tool_console::words(Tool::Unpack);
+    if tool_console::wrongly_said(w) {
+        return;
+    }
+    let s = w.said;
+    unpack_as(s);
 }

@@ -28,12 +28,12 @@ write-stream-requires c κs =
 
 say-done-requires : tie.Need-say-done-requires
 say-done-requires c κs =
-    let w = c .before .before .before .before in
+    let w = c .before .before .before .before .before in
     let o = start w .pre .one in
     ((kept-most o, omega arith), sound-lawful o (well w))
 
 pub finish-spec : {M : Type 1} → statement M
-finish-spec = tie.close (tie.spec (λ c κs. search needs) (λ c. search needs) (λ c κs. search needs) (λ c κs. search needs)
-    (λ c. search needs) (λ c κs. search needs) (λ c κs. search needs) (λ c. search needs) (λ c κs. search needs)
-    (λ c κs. search needs) (λ c. search needs) write-stream-requires (λ c κs. search needs) (λ c. search needs)
-    (λ c. search needs) say-done-requires (λ c. search needs) (λ c. search needs))
+finish-spec = tie.close (tie.spec (λ c κs. search needs) (λ c κs. search needs) (λ c. search needs) (λ c κs. search needs)
+    (λ c κs. search needs) (λ c. search needs) (λ c κs. search needs) (λ c κs. search needs) (λ c. search needs)
+    (λ c κs. search needs) (λ c κs. search needs) (λ c. search needs) write-stream-requires (λ c κs. search needs)
+    (λ c κs. search needs) (λ c. search needs) (λ c. search needs) say-done-requires (λ c. search needs) (λ c. search needs))
