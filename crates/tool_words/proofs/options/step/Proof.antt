@@ -1,15 +1,11 @@
 use borrow.Author.Needs.{needs}
-use mathlib.Core.Path.{ap, _∙_}
-use Rattle.tool_words.specs.declared.options.Argument.{Argument}
-use Rattle.tool_words.specs.Arguments.{withArgument}
 use Rattle.tool_words.proofs.options.step.Statement.{statement}
 use Rattle.tool_words.proofs.options.step.Tie as tie
 
 returns : tie.Need-returns
 returns c =
-    let a = c .before .before .before .before .before .before .args in
-    rw (c .before .before .enum-told .given .1)
-    (c .with-argument .ensures ∙ ap (λ (x : Argument). withArgument (a .w .said) x (a .index)) (c .before .argument-in .ensures))
+    let e = rw (c .before .argument-in .ensures) at (c .with-argument .ensures) in
+    rw (c .before .before .enum-told .given .1) e
 
 returns-2 : tie.Need-returns-2
 returns-2 c =
