@@ -279,14 +279,14 @@ pub const FIRST: [u8; 256] = [
 
 // The table's entry for a first octet.
 pub fn entry(o: u8) -> u8
-    ensures { λ r. ⌜ entryTells r ≡ firstOctet o ⌝ }
+    ensures { λ r. ⌜ entryTells o r ≡ firstOctet o ⌝ }
 {
     FIRST[o as usize]
 }
 
 // What a first octet begins.
 pub fn first_octet(o: u8) -> Begins
-    ensures { λ r. ⌜ asFirst r ≡ firstOctet o ⌝ }
+    ensures { λ r. ⌜ asFirst o r ≡ firstOctet o ⌝ }
 {
     let e = entry(o);
     if e == 0 {

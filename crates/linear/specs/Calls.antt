@@ -1,21 +1,24 @@
 -- A frame converted: the refusals in their order, what is left in the lent output, and the contract of each public call.
 use Prim.Native.Nat.{ℕ}
 use mathlib.Core.Path.{_≡_}
-use mathlib.Core.Bool.{cond, _||_}
-use mathlib.Core.List.{List, _++_, map}
+use mathlib.Core.Bool.{_||_}
+use mathlib.Core.List.{List, [], _∷_, _++_, map}
 use lib.Dec.{eqb, leb}
 use lib.IntN.{ℤ}
 use lib.ListN.{length, drop}
 use Rattle.rules.specs.declared.Ending.{Ending}
 use Rattle.rules.specs.declared.Ending.the-variants.{Done, Refused}
 use Rattle.rules.specs.declared.Refusal.the-variants.{Room, Length, Law}
+use Rattle.rules.specs.Refusals.{Asked, ask, verdict}
 use Rattle.rules.specs.Tools.{isLaw, isLength}
 use Rattle.linear.specs.Equations.{toPCM, fromPCM}
 
 -- "Refusals, in order: LAW, LENGTH, ROOM". A frame has 0 or one of the five lengths; ROOM counts values.
+abbrev pub frameAsks : ℕ → ℕ → ℕ → List Asked
+frameAsks law n room = ask Law (isLaw law) ∷ ask Length (eqb n 0 || isLength n) ∷ ask Room (leb n room) ∷ []
+
 abbrev pub judged : ℕ → ℕ → ℕ → Ending
-judged law n room =
-    cond (isLaw law) (cond (eqb n 0 || isLength n) (cond (leb n room) Done (Refused Room)) (Refused Length)) (Refused Law)
+judged law n room = verdict (frameAsks law n room)
 
 -- what was lent, with the results at its start; "a refusal writes nothing"
 abbrev pub after : {A : Type 0} → Ending → List A → List A → List A

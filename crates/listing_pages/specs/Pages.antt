@@ -1,5 +1,5 @@
 -- The listing page by page: where it stands, what is still to be listed from there, and what a page holds.
-use Prim.Native.Nat.{ℕ, suc, _+_, _*_, _-_, _≤_}
+use Prim.Native.Nat.{ℕ, suc, _+_, _*_, _-_, _^_, _≤_, _<_}
 use mathlib.Core.Path.{_≡_}
 use mathlib.Core.List.{List, [], _++_}
 use mathlib.Core.Bool.{true, false, cond}
@@ -57,6 +57,10 @@ pub record Ends (number tool bit : ℕ) (s : Stand) (out : List ℕ) (to : ℕ) 
   pub frames : r .stand .frames ≡ s .frames
   pub samples : r .stand .samples ≡ s .samples
   pub most : r .to ≤ to + 320
+
+-- a frame that can be counted there
+abbrev pub Listable : Stand → Report → Type 0
+Listable s r = (s .frames ≤ mostListed) × (s .at + r .octets ≤ mostListed) × (s .samples + r .len < 2 ^ 32)
 
 -- a frame's line, and where the listing stands after it
 pub record ListsFrame (s : Stand) (r : Report) (out : List ℕ) (to : ℕ) (p : Page) (out′ : List ℕ) : Type 0 where

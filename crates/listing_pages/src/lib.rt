@@ -1,12 +1,12 @@
 // The listing page by page (document 01, "Walk and listing"): what is put into a lent page is the next part of the
 // listing's text, and the rest follows from where the page ends.
 ghost use mathlib.Core.Path.{_≡_};
-ghost use Prim.Native.Nat.{_+_, _^_, _≤_, _<_};
+ghost use Prim.Native.Nat.{_+_, _≤_, _<_};
 ghost use mathlib.Core.Bool.{false};
 ghost use lib.ListN.{length};
 ghost use Rattle.rules.specs.Tools.{mostLaw};
-ghost use Rattle.rules.specs.Listing.{listStream, mostListed};
-ghost use Rattle.listing_pages.specs.Pages.{Stands, Lists, Ends, ListsFrame, Opens, Stops, OpensInput, stepsLeft};
+ghost use Rattle.rules.specs.Listing.{listStream};
+ghost use Rattle.listing_pages.specs.Pages.{Stands, Lists, Ends, Listable, ListsFrame, Opens, Stops, OpensInput, stepsLeft};
 use reader::Report;
 use rules::Ending;
 
@@ -51,7 +51,7 @@ fn last(number: usize, tool: usize, bit: usize, s: Stand, out: &mut [u8], to: us
 
 // A frame that was read: its line, and where the listing stands after it.
 fn list_frame(r: Report, s: Stand, out: &mut [u8], to: usize) -> Page
-    requires { ⌜ (s .frames ≤ mostListed) × (s .at + r .octets ≤ mostListed) × (s .samples + r .len < 2 ^ 32) × (to + 320 ≤ length (now out)) ⌝ }
+    requires { ⌜ Listable s r × (to + 320 ≤ length (now out)) ⌝ }
     ensures { λ p. ⌜ ListsFrame s r (now (out .entry)) to p (now (out .exit)) ⌝ }
 {
     let at = s.at;
@@ -77,7 +77,8 @@ fn list_frame(r: Report, s: Stand, out: &mut [u8], to: usize) -> Page
     }
 }
 
-// The line of the frame at the place (320 samples of room are enough for any), or, at the stream's end and where the frame is refused, the last two lines.
+// The line of the frame at the place (320 samples of room are enough for any), or, at the stream's end and where the frame is refused, the
+// last two lines.
 fn step(stream: &[u8], law: u32, s: Stand, room: &mut [u8; 320], out: &mut [u8], to: usize) -> Page
     requires { ⌜ (Stands (now stream) s) × (s .ended ≡ false) × (to + 320 ≤ length (now out)) × (length (now room) ≡ 320) ⌝ }
     ensures { λ r. ⌜ Lists (now (stream .entry)) law s (now (out .entry)) to (r .stand) (now (out .exit)) (r .to) ⌝ }

@@ -1,170 +1,50 @@
-// The bench tool `mend`: a damaged greeting and its true total of samples to a greeting of that total. What is kept and what is filled stands in
-// crate `mending`. The result is whole before OUTFILE is opened, so a refused greeting leaves that file as it was. Greeting and result are held
-// whole, so the program needs some 2.1 MiB of stack.
+// The bench tool `mend`: a damaged greeting and its true total of samples to a greeting of that total. What is kept and what is filled
+// stands in crate `mending`. The result is whole before OUTFILE is opened, so a refused greeting leaves that file as it was. Greeting and
+// result are held whole, so the program needs some 2.1 MiB of stack.
 ghost use Prim.Native.Nat.{_≤_};
 ghost use lib.ListN.{length};
 use rules::Ending;
 use rules::LONGEST;
 use tool_console::Got;
-use tool_words::texts::Number;
+use tool_words::filenames::Law;
+use tool_words::options::Settings;
+use tool_words::options::State;
+use tool_words::options::Tool;
+use tool_words::options::Words;
+use tool_words::options::Wrong;
 
-// What the arguments say: the law (2 where no option tells it), the total and whether it was told, the arguments of the two files (0 is none).
-// `wants` says that the next argument is the total, `wrong` that one is not known.
-struct Asked {
-    law: u32,
-    total: u64,
-    told: bool,
-    wants: bool,
-    infile: usize,
-    outfile: usize,
-    wrong: bool,
+// Whether an argument is wrong. A total that does not follow its option is a total that is not said.
+fn is_wrong(why: Wrong) -> bool {
+    match why {
+        Wrong::Unknown => true,
+        Wrong::NoNumber => true,
+        Wrong::ManyFiles => true,
+        Wrong::TooLong => true,
+        Wrong::Missing => false,
+    }
 }
 
-fn with_total(mut a: Asked, text: &[u8]) -> Asked {
-    a.wants = false;
-    let n = tool_words::texts::number_in(text);
-    let Number::Is(v) = n else {
-        a.wrong = true;
-        return a;
-    };
-    a.total = v as u64;
-    a.told = true;
-    a
-}
-
-// The first file is INFILE, the second OUTFILE, and there is no third.
-fn with_file(mut a: Asked, index: usize) -> Asked {
-    if a.infile == 0 {
-        a.infile = index;
-        return a;
+fn wrong_words(w: Words) -> bool {
+    let state = w.state;
+    match state {
+        State::Wrong(why, _) => is_wrong(why),
+        State::Ready => false,
+        State::Counts(_) => false,
+        State::Master => false,
     }
-    if a.outfile == 0 {
-        a.outfile = index;
-        return a;
-    }
-    a.wrong = true;
-    a
-}
-
-// An option: "-u", "-a", "-t TOTAL" or "-tTOTAL".
-fn with_option(mut a: Asked, letter: u8, rest: &[u8]) -> Asked {
-    if letter == b't' {
-        if rest.len() != 0 {
-            return with_total(a, rest);
-        }
-        a.wants = true;
-        return a;
-    }
-    if rest.len() != 0 {
-        a.wrong = true;
-        return a;
-    }
-    if letter == b'u' {
-        a.law = 1;
-        return a;
-    }
-    if letter == b'a' {
-        a.law = 0;
-        return a;
-    }
-    a.wrong = true;
-    a
-}
-
-// One argument more; "-" alone is a file.
-fn step(mut a: Asked, text: &[u8], index: usize) -> Asked {
-    if a.wants {
-        return with_total(a, text);
-    }
-    if text.len() == 0 {
-        a.wrong = true;
-        return a;
-    }
-    if text.len() == 1 {
-        return with_file(a, index);
-    }
-    if text[0] != b'-' {
-        return with_file(a, index);
-    }
-    with_option(a, text[1], &text[2..])
-}
-
-fn with_argument(mut a: Asked, index: usize, text: &mut [u8]) -> Asked {
-    let n = os::arg(index, text);
-    if os::errno() != 0 {
-        a.wrong = true;
-        return a;
-    }
-    step(a, &text[..n], index)
-}
-
-fn arguments() -> Asked {
-    let mut text = [0u8; 4095];
-    let view: &mut [u8] = &mut text;
-    let count = os::arg_count();
-    let mut a = Asked {
-        law: 2,
-        total: 0,
-        told: false,
-        wants: false,
-        infile: 0,
-        outfile: 0,
-        wrong: false,
-    };
-    let mut i = 1;
-    while i < count {
-        let next = with_argument(a, i, view);
-        a = next;
-        i += 1;
-    }
-    a
-}
-
-// The law: as an option says, otherwise as INFILE's ending tells.
-fn law_of(law: u32, name: &[u8]) -> u32 {
-    if law == 2 {
-        return tool_words::filenames::law_told(false, name);
-    }
-    law
-}
-
-fn usage(why: &[u8]) {
-    tool_console::say(b"mend: ");
-    tool_console::say(why);
-    tool_console::say(b"\nusage: mend [-u|-a] -t TOTAL INFILE OUTFILE\n");
-    tool_console::stop(tool_words::options::UNPACK, 64, 0, 0, 0);
 }
 
 // Whether the call can't be made, and why.
-fn wrongly_asked(a: Asked, law: u32) -> bool {
-    if a.wrong {
-        usage(b"an argument is not known, or no number of 1 to 9 digits");
+fn wrongly_asked(s: Settings) -> bool {
+    if !s.known {
+        tool_console::usage(Tool::Mend, b"the total is not said");
         return true;
     }
-    if !a.told {
-        usage(b"the total is not said");
-        return true;
-    }
-    if a.outfile == 0 {
-        usage(b"INFILE and OUTFILE must be said");
-        return true;
-    }
-    if law == 2 {
-        usage(b"the law is not known: say -u or -a");
+    if s.outfile == 0 {
+        tool_console::usage(Tool::Mend, b"INFILE and OUTFILE must be said");
         return true;
     }
     false
-}
-
-// A file that could not be opened, read or written.
-fn failed(name: &[u8], standard: &[u8]) {
-    tool_console::say(b"mend: ");
-    if name.len() == 0 {
-        os::fail(standard);
-    } else {
-        os::fail(name);
-    }
-    tool_console::stop(tool_words::options::UNPACK, 74, 0, 0, 0);
 }
 
 // Reads the greeting, and one octet more where it is too long.
@@ -173,7 +53,7 @@ fn read_greeting(name: &[u8], greeting: &mut [u8]) -> Got
 {
     let fd = tool_console::open_in(name);
     if fd < 0 {
-        failed(name, b"standard input");
+        tool_console::failed(Tool::Mend, name, b"standard input");
         return Got {
             count: 0,
             failed: true,
@@ -181,7 +61,7 @@ fn read_greeting(name: &[u8], greeting: &mut [u8]) -> Got
     }
     let got = tool_console::read_part(fd, greeting);
     if got.failed {
-        failed(name, b"standard input");
+        tool_console::failed(Tool::Mend, name, b"standard input");
     }
     tool_console::close(fd);
     got
@@ -207,14 +87,15 @@ fn say_name(number: u32) {
 
 // A greeting that is not mended, and the last line.
 fn refused(number: u32) {
-    tool_console::say(b"mend: refused: ");
+    tool_console::say_tool(Tool::Mend);
+    tool_console::say(b"refused: ");
     if number == 22 {
         tool_console::say(b"TOTAL");
     } else {
         say_name(number);
     }
     tool_console::say(b"\n");
-    tool_console::stop(tool_words::options::UNPACK, number, 0, 0, 0);
+    tool_console::stop(Tool::Mend, number, 0, 0, 0);
 }
 
 // Why the walk of what is kept stopped, in words; nothing where it went through the whole greeting.
@@ -222,7 +103,8 @@ fn say_stop(number: u32, place: usize, bit: usize) {
     if number == 0 {
         return;
     }
-    tool_console::say(b"mend: the walk stopped: ");
+    tool_console::say_tool(Tool::Mend);
+    tool_console::say(b"the walk stopped: ");
     say_name(number);
     tool_console::say_number(b" at octet ", place);
     tool_console::say_number(b", bit ", bit);
@@ -241,7 +123,7 @@ fn finish(octets: usize, frames: usize, kept: usize, filled: usize, stop: Ending
     tool_console::say_number(b" tool=", rules::tool_of(stop) as usize);
     tool_console::say_number(b" bit=", bit);
     tool_console::say(b"\n");
-    tool_console::stop(tool_words::options::UNPACK, 0, octets, 0, 0);
+    tool_console::stop(Tool::Mend, 0, octets, 0, 0);
 }
 
 // A greeting is read, mended and written.
@@ -267,14 +149,15 @@ fn mend_in(
     }
     let k = a.octets;
     if !write_result(other, &result[..k]) {
-        failed(other, b"standard output");
+        tool_console::failed(Tool::Mend, other, b"standard output");
         return;
     }
     let stop = a.stop;
     finish(k, a.frames, a.kept, a.filled, stop, a.bit);
 }
 
-// There is room for one octet more than a greeting may have, so that a longer one is LONG, and for the longest result, so that ROOM can't be.
+// There is room for one octet more than a greeting may have, so that a longer one is LONG, and for the longest result, so that ROOM can't
+// be.
 fn with_room(
     law: u32,
     total: u64,
@@ -292,15 +175,30 @@ fn run(law: u32, total: u64, name: &[u8], other: &[u8]) {
     with_room(law, total, name, other, &mut greeting, &mut result);
 }
 
-fn main() {
-    let a = arguments();
+// The law: as an option says, otherwise as INFILE's ending tells.
+fn mend_as(s: Settings) {
     let mut space = [0u8; 4095];
-    let n = tool_console::file_name(a.infile, &mut space);
-    let law = law_of(a.law, &space[..n]);
-    if wrongly_asked(a, law) {
+    let n = tool_console::file_name(s.infile, &mut space);
+    let mut names = [0u8; 4095];
+    let m = tool_console::file_name(s.outfile, &mut names);
+    match tool_words::options::law_of(s, &space[..n]) {
+        Law::Unknown => tool_console::usage(Tool::Mend, b"the law is not known: say -u or -a"),
+        Law::Known(law) => run(law, s.total as u64, &space[..n], &names[..m]),
+    }
+}
+
+fn main() {
+    let w = tool_console::words(Tool::Mend);
+    if wrong_words(w) {
+        tool_console::usage(
+            Tool::Mend,
+            b"an argument is not known, or no number of 1 to 9 digits",
+        );
         return;
     }
-    let mut names = [0u8; 4095];
-    let m = tool_console::file_name(a.outfile, &mut names);
-    run(law, a.total, &space[..n], &names[..m]);
+    let s = w.said;
+    if wrongly_asked(s) {
+        return;
+    }
+    mend_as(s);
 }

@@ -1,22 +1,24 @@
 -- "Refusals, in order: LAW, LONG for the greeting, TOTAL (22) .., LONG for the result, ROOM; a refusal writes nothing": each case of a call
--- with all that is then so (`judged`), what is so of a mended greeting (`made`), a refusal (`refused-mend`), and no second answer
--- (`only-mend`).
+-- with all that is then so (`judged`), a refusal exactly where it is the first that fails (`mend-refused`), what is so of a mended greeting
+-- (`made`), of a refusal (`refused-mend`), and no second answer (`only-mend`).
 use Prim.Native.Nat.{ℕ, _≤_, _<_}
 use native.Mathlib.Omega.{arith}
 use mathlib.Core.Path.{_≡_, refl, sym, _∙_}
 use mathlib.Core.List.{List}
-use mathlib.Core.Bool.{Bool, true, false, cond, not}
+use mathlib.Core.Bool.{true, false}
+use mathlib.Core.Logic.{_↔_}
 use lib.ListN.{length}
-use lib.Dec.{leb, ltb}
 use borrow.Author.Tests.{leb-true, leb-false, ltb-true, ltb-false, le-leb, le-ltb}
 use Rattle.rules.specs.declared.Refusal.the-variants.{Room, Law, Long}
+use Rattle.rules.specs.Judged.{Asked}
+use Rattle.rules.proofs.Judged.{First, by-judged, by-each, Apart, judged-refuses}
 use Rattle.rules.specs.Tools.{isLaw}
 use Rattle.rules.specs.Walk.{longest}
 use Rattle.promises.proofs.Fits.{Same}
 use Rattle.mending.specs.declared.MendRefusal.{MendRefusal}
 use Rattle.mending.specs.declared.MendRefusal.the-variants.{Frame, Total}
 use Rattle.mending.specs.declared.MendAnswer.{MendAnswer}
-use Rattle.mending.specs.Mend.{Mended, mended, isTotal, Mend, mends, declines, inRoom, mendOf}
+use Rattle.mending.specs.Mend.{Mended, mended, isTotal, Mend, mends, declines, mendAsks, mendOf}
 use Rattle.mending.specs.Calls.{Declines, Mends, MendGreeting}
 
 -- a greeting that may be mended
@@ -24,6 +26,10 @@ pub record Mendable (octets : List ℕ) (law total : ℕ) : Type 0 where
   pub lawful : isLaw law ≡ true
   pub short : length octets ≤ longest
   pub whole : isTotal total ≡ true
+
+-- a greeting is mended or it is not
+mendings : (m : Mended) → Apart declines (mends m)
+mendings m = record { other = λ w e. let z : _≡_ {A = ℕ} 0 1 = cc in omega arith; same = λ v w e. cc }
 
 module _ (octets : List ℕ) (law total room : ℕ) where
   abbrev result : List ℕ
@@ -39,26 +45,33 @@ module _ (octets : List ℕ) (law total room : ℕ) where
     well : Mendable octets law total → length (mended octets law total .octets) ≤ longest
         → length (mended octets law total .octets) ≤ room → Judged (mends (mended octets law total))
 
+  abbrev asks : List (Asked MendRefusal)
+  asks = mendAsks octets law total result room
+
   pub judged : Judged (mendOf octets law total room)
-  unfolding mendOf inRoom
-  judged = go (isLaw law) (leb (length octets) longest) (isTotal total) (leb (length result) longest) (ltb room (length result))
-      refl refl refl refl refl
-    where
-      go : (a b c d e : Bool) → isLaw law ≡ a → leb (length octets) longest ≡ b → isTotal total ≡ c → leb (length result) longest ≡ d
-          → ltb room (length result) ≡ e
-          → Judged (cond (not a) (declines (Frame Law)) (cond (not b) (declines (Frame Long)) (cond (not c) (declines Total)
-          (cond (not d) (declines (Frame Long)) (cond e (declines (Frame Room)) (mends (mended octets law total)))))))
-      go false b c d e p q r s t = unlawful p
-      go true false c d e p q r s t = greeting-long p (leb-false (length octets) longest q)
-      go true true false d e p q r s t = no-total p (leb-true (length octets) longest q) r
-      go true true true false e p q r s t =
-          result-long (record { lawful = p; short = leb-true (length octets) longest q; whole = r }) (leb-false (length result) longest s)
-      go true true true true true p q r s t =
-          no-room (record { lawful = p; short = leb-true (length octets) longest q; whole = r }) (leb-true (length result) longest s)
-          (ltb-true room (length result) t)
-      go true true true true false p q r s t =
-          well (record { lawful = p; short = leb-true (length octets) longest q; whole = r }) (leb-true (length result) longest s)
-          (ltb-false room (length result) t)
+  unfolding mendOf
+  judged =
+      by-each declines (mends (mended octets law total)) Judged asks (
+        unlawful,
+        λ p. (
+          λ q. greeting-long p (leb-false (length octets) longest q),
+          λ q. (
+            λ r. no-total p (leb-true (length octets) longest q) r,
+            λ r. let may : Mendable octets law total = record { lawful = p; short = leb-true (length octets) longest q; whole = r } in (
+              λ s. result-long may (leb-false (length result) longest s),
+              λ s. (
+                λ t. no-room may (leb-true (length result) longest s) (ltb-true room (length result) t),
+                λ t. well may (leb-true (length result) longest s) (ltb-false room (length result) t),
+              ),
+            ),
+          ),
+        ),
+      )
+
+  -- each refusal exactly where it is the first that fails
+  pub mend-refused : (why : MendRefusal) → (mendOf octets law total room ≡ declines why) ↔ First why asks
+  unfolding mendOf
+  mend-refused why = judged-refuses (mendings (mended octets law total)) asks why
 
   -- a mended greeting
   pub record Made (m : Mended) : Type 0 where
@@ -68,22 +81,22 @@ module _ (octets : List ℕ) (law total room : ℕ) where
     pub fits : length (m .octets) ≤ room
 
   pub made : {m : Mended} → mendOf octets law total room ≡ mends m → Made m
-  made {m} e = go judged e
-    where
-      go : {x : Mend} → Judged x → x ≡ mends m → Made m
-      go (unlawful p) e = let z : _≡_ {A = ℕ} 0 1 = cc in absurd (omega arith)
-      go (greeting-long p q) e = let z : _≡_ {A = ℕ} 0 1 = cc in absurd (omega arith)
-      go (no-total p q r) e = let z : _≡_ {A = ℕ} 0 1 = cc in absurd (omega arith)
-      go (result-long p q) e = let z : _≡_ {A = ℕ} 0 1 = cc in absurd (omega arith)
-      go (no-room p q r) e = let z : _≡_ {A = ℕ} 0 1 = cc in absurd (omega arith)
-      go (well p q r) e =
-          let same : mended octets law total ≡ m = cc in
-          record { may = p; is = same; short = rw (← same) q; fits = rw (← same) r }
+  unfolding mendOf
+  made {m} e =
+      by-judged declines (mends (mended octets law total)) (λ x. x ≡ mends m → Made m) asks
+      (λ k g. let same : mended octets law total ≡ m = cc in
+      record {
+        may = record { lawful = k .0; short = leb-true (length octets) longest (k .1 .0); whole = k .1 .1 .0 };
+        is = same;
+        short = rw (← same) (leb-true (length result) longest (k .1 .1 .1 .0));
+        fits = rw (← same) (ltb-false room (length result) (k .1 .1 .1 .1 .0));
+      })
+      (λ why f g. absurd (mendings m .other why g)) e
 
   -- and the other way
   pub mends-made : Mendable octets law total → length result ≤ longest → length result ≤ room
       → mendOf octets law total room ≡ mends (mended octets law total)
-  unfolding mendOf inRoom
+  unfolding mendOf
   mends-made m s f = rw (
     m .lawful,
     le-leb (length octets) longest (m .short),

@@ -8,7 +8,7 @@ use borrow.Author.Tests.{le-leb, lt-leb, le-ltb, lt-ltb}
 use Rattle.rules.specs.declared.Refusal.the-variants.{Room, Law, Long}
 use Rattle.rules.specs.Walk.{longest}
 use Rattle.mending.specs.declared.MendRefusal.the-variants.{Frame, Total}
-use Rattle.mending.specs.Mend.{mended, isTotal, mends, declines, inRoom, mendOf}
+use Rattle.mending.specs.Mend.{mended, isTotal, mends, declines, mendOf}
 
 module _ (octets : List ℕ) (law total room : ℕ) where
   pub no-law : 1 < law → declines (Frame Law) ≡ mendOf octets law total room
@@ -27,7 +27,7 @@ module _ (octets : List ℕ) (law total room : ℕ) where
 
       module _ (t : isTotal total ≡ true) where
         pub result-long : longest < length (mended octets law total .octets) → declines (Frame Long) ≡ mendOf octets law total room
-        unfolding mendOf inRoom
+        unfolding mendOf
         result-long h = rw (
           le-leb law 1 g,
           le-leb (length octets) longest l,
@@ -38,7 +38,7 @@ module _ (octets : List ℕ) (law total room : ℕ) where
 
         module _ (s : length (mended octets law total .octets) ≤ longest) where
           pub no-room : room < length (mended octets law total .octets) → declines (Frame Room) ≡ mendOf octets law total room
-          unfolding mendOf inRoom
+          unfolding mendOf
           no-room h =
               rw (
                 le-leb law 1 g,
@@ -49,7 +49,7 @@ module _ (octets : List ℕ) (law total room : ℕ) where
               )
 
           pub mends-it : length (mended octets law total .octets) ≤ room → mends (mended octets law total) ≡ mendOf octets law total room
-          unfolding mendOf inRoom
+          unfolding mendOf
           mends-it h =
               rw (
                 le-leb law 1 g,

@@ -14,62 +14,65 @@ use Rattle.rules.specs.Tools.{holds, isSet, isLaw, isLength}
 use Rattle.rules.proofs.Tests.{and-left}
 use Rattle.rules.proofs.Firsts.{asWritten, first-as-written}
 use Rattle.rules.specs.Bits.{bitsOf, fillFor}
-use Rattle.rules.specs.Reading.{whole, andThen, bit, number, filled}
-use Rattle.rules.specs.First.{First, unassigned, pad, tool, sixOrEight, firstOctet, markAt, sixNotEight}
-use Rattle.rules.specs.Frame.{Found, body, withTool, rowIn, afterFirst, frame, readOne}
+use Rattle.rules.specs.Reading.{whole, Reader, andThen, bit, number, filled}
+use Rattle.rules.specs.Zeros.{plusMinus}
+use Rattle.rules.specs.First.{First, unassigned, pad, tool, fractionalRow, sixOrEight, firstOctet, markAt, sixNotEight}
+use Rattle.rules.specs.Frame.{Found, withTool, afterFirst, frame, readOne}
 use Rattle.rules.specs.Walk.{Delivered, Walked, samplesKept}
-use Rattle.rules.proofs.Octets.{Below, bitsOf-below}
+use Rattle.rules.proofs.Octets.{Below, Sized, bitsOf-below}
 use Rattle.rules.proofs.Signed.{LawMask, law-mask}
-use Rattle.rules.proofs.Gives.{gives-number, no-refusal, same-value}
-use Rattle.rules.proofs.Accepted.{Steps, through, steps, not-refused, filled-is, gives-body, number-next, read-accepts}
+use Rattle.rules.proofs.Gives.{Gives, gives-number, no-refusal, same-value}
+use Rattle.rules.proofs.Accepted.{Steps, through, steps, not-refused, filled-is, gives-body}
+use Rattle.rules.proofs.Accepted.{gives-fractional, gives-plusMinus, number-next, read-accepts}
 use Rattle.promises.proofs.Further.{mark-first}
 use Rattle.promises.proofs.Walks.{WalkOf, ended, refused, delivers}
 
 module _ {mask : ℕ} (l : LawMask mask) (set room room′ : ℕ) {b : List ℕ} (z : Below 2 b) {f : Found} {j : ℕ}
     (k : length (f .samples) ≤ room′) where
-  tool-in-room : (t n mark i : ℕ) → isLength n ≡ true → i ≤ length b → withTool mask set room t n mark b i ≡ whole f j
-      → withTool mask set room′ t n mark b i ≡ whole f j
+  tool-in-room : (t n i : ℕ) {r : Reader (List ℕ)} → Gives r (Sized 256 n) → i ≤ length b → withTool set room t n r b i ≡ whole f j
+      → withTool set room′ t n r b i ≡ whole f j
   unfolding withTool
-  tool-in-room t n mark i sized h e =
+  tool-in-room t n i {r} gives h e =
       let p = not-refused (not (holds set t)) (Tool t) 0 _ b i e in
       let q = not-refused (ltb room n) Room 0 _ b i (p .1) in
-      let m = go (steps (body mask t n mark b i) _ (q .1)) in
+      let m = go (steps (r b i) _ (q .1)) in
       rw (p .0, le-ltb room′ n m) (q .1)
     where
       done : List ℕ → ℕ → Found
       done s k = record { tool = t; samples = s; bits = k }
 
-      go : Steps (body mask t n mark b i) (λ s k. filled (done s k) (fillFor k) b k) f j → n ≤ room′
+      go : Steps (r b i) (λ s k. filled (done s k) (fillFor k) b k) f j → n ≤ room′
       go (through s i′ q e) =
-          let g = gives-body l t n mark sized .on z h q in
+          let g = gives .on z h q in
           let w = filled-is (done s i′) (fillFor i′) b i′ e in
           omega (arith, g .2 .size, ap (λ (x : Found). length (x .samples)) (w .0))
 
-  first-in-room : (o : ℕ) (first : First) → asWritten o first ≡ true → 8 ≤ length b → afterFirst mask set room o first b 8 ≡ whole f j
-      → afterFirst mask set room′ o first b 8 ≡ whole f j
+  first-in-room : (o : ℕ) (first : First) → asWritten o first ≡ true → 8 ≤ length b → afterFirst mask set room first b 8 ≡ whole f j
+      → afterFirst mask set room′ first b 8 ≡ whole f j
   unfolding afterFirst
   first-in-room o unassigned w h e = no-refusal e
   first-in-room o pad w h e = e
-  first-in-room o (tool t n) w h e = tool-in-room t n (rowIn o t n) 8 (and-left (isLength n) _ w) h e
+  first-in-room o (tool t n) w h e = tool-in-room t n 8 (gives-body l t n (and-left (isLength n) _ w)) h e
+  first-in-room o (fractionalRow k n) w h e = tool-in-room 11 n 8 (gives-fractional l k n (and-left (isLength n) _ w)) h e
   first-in-room o (sixOrEight n) w h e = marked (steps (bit b (markAt n)) _ e)
     where
       six : (mark i : ℕ) → bit b (markAt n) ≡ whole mark i
-          → Steps (sixNotEight b i) (λ t j. withTool mask set room t n mark b (markAt n + 1)) f j → andThen (bit b (markAt n))
-          (λ mark i. andThen (sixNotEight b i) (λ t j. withTool mask set room′ t n mark b (markAt n + 1))) ≡ whole f j
+          → Steps (sixNotEight b i) (λ t j. withTool set room t n (plusMinus mask n mark) b (markAt n + 1)) f j → andThen (bit b (markAt n))
+          (λ mark i. andThen (sixNotEight b i) (λ t j. withTool set room′ t n (plusMinus mask n mark) b (markAt n + 1))) ≡ whole f j
       six mark i p (through t x q e) =
-          rw (p, q) (tool-in-room t n mark (markAt n + 1) (and-left (isLength n) _ w) (omega (arith, mark-first n)) e)
+          rw (p, q) (tool-in-room t n (markAt n + 1) (gives-plusMinus l n mark) (omega (arith, mark-first n)) e)
 
-      marked : Steps (bit b (markAt n)) (λ mark i. andThen (sixNotEight b i) (λ t j. withTool mask set room t n mark b (markAt n + 1))) f j
+      marked : Steps (bit b (markAt n)) (λ mark i. andThen (sixNotEight b i) (λ t j. withTool set room t n (plusMinus mask n mark) b (markAt n + 1))) f j
           → andThen (bit b (markAt n))
-          (λ mark i. andThen (sixNotEight b i) (λ t j. withTool mask set room′ t n mark b (markAt n + 1))) ≡ whole f j
+          (λ mark i. andThen (sixNotEight b i) (λ t j. withTool set room′ t n (plusMinus mask n mark) b (markAt n + 1))) ≡ whole f j
       marked (through mark i p e) = six mark i p (steps (sixNotEight b i) _ e)
 
   frame-in-room : frame mask set room b 0 ≡ whole f j → frame mask set room′ b 0 ≡ whole f j
   unfolding frame
   frame-in-room e = go (steps (number 8 b 0) _ e)
     where
-      go : Steps (number 8 b 0) (λ o k. afterFirst mask set room o (firstOctet o) b k) f j
-          → andThen (number 8 b 0) (λ o k. afterFirst mask set room′ o (firstOctet o) b k) ≡ whole f j
+      go : Steps (number 8 b 0) (λ o k. afterFirst mask set room (firstOctet o) b k) f j
+          → andThen (number 8 b 0) (λ o k. afterFirst mask set room′ (firstOctet o) b k) ≡ whole f j
       go (through o k p e) =
           let g = gives-number 8 .on z zero-le p in
           let n : 8 ≡ k = number-next 0 8 b 0 p in

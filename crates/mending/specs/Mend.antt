@@ -3,10 +3,11 @@
 -- frames, longest first: 320, 240, 160, 80, 40."
 use Prim.Native.Nat.{ℕ, suc, _-_, _/_, _%_}
 use mathlib.Core.List.{List, [], _∷_, _++_}
-use mathlib.Core.Bool.{Bool, cond, not, _&&_}
+use mathlib.Core.Bool.{Bool, _&&_}
 use lib.ListN.{length, take, replicate}
 use lib.Dec.{eqb, leb, ltb}
 use Rattle.rules.specs.declared.Refusal.the-variants.{Room, Law, Long}
+use Rattle.rules.specs.Judged.{Asked, ask, bar, judged}
 use Rattle.rules.specs.Tools.{allTools, isLaw}
 use Rattle.rules.specs.First.{octetFor}
 use Rattle.rules.specs.Walk.{Walked, walkFrom, longest, octetsKept, samplesKept}
@@ -62,17 +63,16 @@ pub data Mend : Type 0 where
   mends : Mended → Mend
   declines : MendRefusal → Mend
 
--- ".. LONG for the result, ROOM"
-unfoldable pub inRoom : ℕ → Mended → Mend
-inRoom room m =
-    cond (not (leb (length (m .octets)) longest)) (declines (Frame Long))
-    (cond (ltb room (length (m .octets))) (declines (Frame Room))
-    (mends m))
-
 -- "Refusals, in order: LAW, LONG for the greeting, TOTAL .., LONG for the result, ROOM"
+abbrev pub mendAsks : List ℕ → ℕ → ℕ → List ℕ → ℕ → List (Asked MendRefusal)
+mendAsks octets law total result room =
+    ask (Frame Law) (isLaw law)
+    ∷ ask (Frame Long) (leb (length octets) longest)
+    ∷ ask Total (isTotal total)
+    ∷ ask (Frame Long) (leb (length result) longest)
+    ∷ bar (Frame Room) (ltb room (length result))
+    ∷ []
+
 unfoldable pub mendOf : List ℕ → ℕ → ℕ → ℕ → Mend
 mendOf octets law total room =
-    cond (not (isLaw law)) (declines (Frame Law))
-    (cond (not (leb (length octets) longest)) (declines (Frame Long))
-    (cond (not (isTotal total)) (declines Total)
-    (inRoom room (mended octets law total))))
+    judged (mendAsks octets law total (mended octets law total .octets) room) declines (mends (mended octets law total))

@@ -8,20 +8,20 @@ use lib.ListN.{length, take, length-append}
 use borrow.Author.Tests.{eqb-true}
 use Rattle.rules.specs.declared.Ending.{Ending}
 use Rattle.rules.specs.declared.Ending.the-variants.{Done, Refused}
-use Rattle.rules.specs.Tools.{isLength}
+use Rattle.rules.specs.Tools.{isLaw, isLength}
 use Rattle.rules.specs.Walk.{longest}
 use Rattle.rules.proofs.Octets.{Below}
 use Rattle.rules.proofs.Tests.{by-length}
-use Rattle.tool_words.specs.declared.options.Settings.{Settings}
+use Rattle.pack.specs.declared.Job.{Job}
 use Rattle.tool_packing.specs.declared.packing.PackAnswer.{PackAnswer}
-use Rattle.tool_packing.specs.Packing.{Pack, PackFile}
+use Rattle.tool_packing.specs.Packing.{PackFile}
 use Rattle.tool_packing.specs.Parts.{PackOn}
 use Rattle.tool_packing.proofs.Whole.{pack-inside, well-packed}
 use Rattle.tool_packing.proofs.Parts.{begun, carried-on}
 use Rattle.tool_packing.proofs.Onward.{Adds, on-adds, on-takes-room}
 use Rattle.pack.specs.declared.Run.{Run}
 use Rattle.tool_packing.specs.SoundParts.{partSize, goesOn}
-use Rattle.pack.specs.Runs.{pageSize, OneSound, NextOctets, Stands, StopsRun, stepsLeft}
+use Rattle.pack.specs.Runs.{pageSize, OneSound, NextOctets, Stands, StopsRun, StartsWell, stepsLeft}
 
 never : {A : Type 0} → false ≡ true → A
 never e = let z : _≡_ {A = ℕ} 0 1 = cc in absurd (omega arith)
@@ -32,8 +32,12 @@ goes-on Done count h = (refl, eqb-true count partSize h)
 goes-on (Refused why) count h = never h
 
 -- what is kept is no longer than the longest stream
-pub kept-most : {s : Settings} {kept : List ℕ} {run : Run} → OneSound s kept run → run .packed .octets ≤ longest
+pub kept-most : {s : Job} {kept : List ℕ} {run : Run} → OneSound s kept run → run .packed .octets ≤ longest
 kept-most {s} {kept} o = pack-inside (o .sound) (s .law) (s .set) (s .length) longest [] kept (o .is) .octets
+
+-- by a law
+pub sound-lawful : {s : Job} {kept : List ℕ} {run : Run} → OneSound s kept run → run .packed .end ≡ Done → isLaw (s .law) ≡ true
+sound-lawful {s} o e = well-packed (o .sound) (s .law) (s .set) (s .length) longest (sym (o .is .end) ∙ e) .lawful
 
 -- a run that does not go on is nearer to its end, and so is one that took room
 steps-end : (run r : Run) → run .more ≡ true → r .more ≡ false → run .packed .octets ≤ r .packed .octets → stepsLeft r < stepsLeft run
@@ -54,12 +58,12 @@ part-multiple : (n parts : ℕ) → isLength n ≡ true → parts * partSize ≡
 part-multiple n parts i =
     by-length (λ n. parts * partSize ≡ parts * (partSize / n) * n) (omega arith) (omega arith) (omega arith) (omega arith) (omega arith) n i
 
-pub record Turned (s : Settings) (run r : Run) : Type 0 where
+pub record Turned (s : Job) (run r : Run) : Type 0 where
   pub stands : Stands s r
   pub less : stepsLeft r < stepsLeft run
 
 -- something failed: what was packed before stays
-pub run-stopped : (s : Settings) (run r : Run) → Stands s run → run .more ≡ true → StopsRun (run .packed) r → Turned s run r
+pub run-stopped : (s : Job) (run r : Run) → Stands s run → run .more ≡ true → StopsRun (run .packed) r → Turned s run r
 run-stopped s run r w m p =
     let e = p .ends in
     let same : r .packed .octets ≡ run .packed .octets = rw (p .same) refl in
@@ -81,7 +85,7 @@ run-stopped s run r w m p =
     }
 
 -- a part that was packed after what stands
-module _ (s : Settings) (run : Run) (w : Stands s run) (m : run .more ≡ true) (part page page′ : List ℕ) (b : Below 256 part)
+module _ (s : Job) (run : Run) (w : Stands s run) (m : run .more ≡ true) (part page page′ : List ℕ) (b : Below 256 part)
     (h : length part ≤ partSize)
     (k : length page ≡ pageSize) {p : PackAnswer} (t : PackOn (run .packed) part (s .law) (s .set) (s .length) page page′ p) where
   pub part-adds : Adds (length part) (length page) (run .packed) p
@@ -143,16 +147,15 @@ module _ (s : Settings) (run : Run) (w : Stands s run) (m : run .more ≡ true) 
           }
 
 -- before the first part: no sound, by settings that are not refused, and nothing kept
-pub stands-first : (s : Settings) (page page′ : List ℕ) (run : Run) → Pack [] (s .law) (s .set) (s .length) page page′ (run .packed)
-    → run .packed .end ≡ Done → Stands s run
-stands-first s page page′ run p e =
-    let i = pack-inside [] (s .law) (s .set) (s .length) (length page) page page′ p in
+pub stands-first : (s : Job) (run : Run) → StartsWell s (run .packed) → Stands s run
+stands-first s run w =
+    let i = pack-inside [] (s .law) (s .set) (s .length) (length (w .page)) (w .page) (w .page′) (w .is) in
     record {
       kept = [];
       one = record {
         sound = [];
-        is = begun (s .law) (s .set) (s .length) page page′ p e;
-        allowed = well-packed [] (s .law) (s .set) (s .length) (length page) (sym (p .end) ∙ e) .allowed;
+        is = begun (s .law) (s .set) (s .length) (w .page) (w .page′) (w .is) (w .well);
+        allowed = well-packed [] (s .law) (s .set) (s .length) (length (w .page)) (sym (w .is .end) ∙ w .well) .allowed;
         parts = 0;
         whole = λ m. refl;
       };

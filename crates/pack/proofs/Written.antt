@@ -7,14 +7,14 @@ use lib.ListN.{length}
 use Rattle.rules.specs.Tools.{Within, isSet}
 use Rattle.rules.specs.Walk.{longest, walkAll}
 use Rattle.rules.proofs.Octets.{Below}
-use Rattle.tool_words.specs.declared.options.Settings.{Settings}
+use Rattle.pack.specs.declared.Job.{Job}
 use Rattle.tool_packing.proofs.Whole.{pack-bounds}
 use Rattle.tool_packing.proofs.Parts.{file-is}
 use Rattle.tool_packing.proofs.Identity.{GivesBack, pack-walk}
 use Rattle.pack.specs.declared.Run.{Run}
 use Rattle.pack.specs.Runs.{WholeSound}
 
-pub written-walks-back : (s : Settings) (run : Run) (w : WholeSound s run) → Below 256 (w .one .sound)
+pub written-walks-back : (s : Job) (run : Run) (w : WholeSound s run) → Below 256 (w .one .sound)
     → (reader into : ℕ) → isSet reader ≡ true → Within (s .set) reader → length (w .one .sound) ≤ into
     → GivesBack (w .one .sound) (run .packed .frames) (w .kept) (walkAll (w .kept) (s .law) reader into)
 written-walks-back s run w b reader into i h r =

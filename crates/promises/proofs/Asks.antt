@@ -9,7 +9,7 @@ use mathlib.Core.Bool.{Bool, true, false, cond, not, _&&_}
 use lib.ListN.{length, getD, take, drop, replicate, length-map, length-drop}
 use lib.Dec.{eqb, leb, ltb}
 use lib.Pow.{shr-le}
-use borrow.Author.Tests.{ltb-false, leb-true, eqb-true, eqb-false, not-true}
+use borrow.Author.Tests.{ltb-false, leb-true, eqb-false, not-true}
 use Rattle.rules.specs.declared.Refusal.{Refusal}
 use Rattle.rules.specs.declared.Refusal.the-variants.{Short, Prefix, Run, Place, Method, Case, Align, Tool, Room, Law, Set, Long}
 use Rattle.rules.specs.declared.Ending.the-variants.{Refused}
@@ -20,17 +20,16 @@ use Rattle.rules.specs.Reading.{Read, whole, refuse, Reader, andThen, _>>=_, gi
 use Rattle.rules.specs.Reading.{here, bit, numberFrom, number, bitsFrom, octetsAfter, filled}
 use Rattle.rules.specs.Samples.{maskOf, sampleOf, plusZero, minusZero}
 use Rattle.rules.specs.Runs.{zerosFrom, rice, runsFrom}
-use Rattle.rules.specs.Zeros.{Tree, leaf, fork, treeOf, readTree, zeroOf}
+use Rattle.rules.specs.Zeros.{Tree, leaf, fork, treeOf, readTree, zeroOf, plusMinus}
 use Rattle.rules.specs.Located.{widthOf, listedFrom, listed, byMethod, emptyIn, lay, valuesInto, valuesOf, located}
-use Rattle.rules.specs.First.{First, unassigned, pad, tool, sixOrEight, firstOctet, markAt, sixNotEight}
-use Rattle.rules.specs.Fractional.{radix, groupOf, bitsFor, bodyBits, digitsOf, groupsFrom, groupsAs, samplesAt, fractional}
-use Rattle.rules.specs.Frame.{Found, body, withTool, rowIn, afterFirst, frame, readOne}
+use Rattle.rules.specs.First.{First, unassigned, pad, tool, fractionalRow, sixOrEight, firstOctet, markAt, sixNotEight}
+use Rattle.rules.specs.Fractional.{radix, Coding, groupOf, codingOf, bodyBits, digitsOf, groupsFrom, groupsAs, samplesAt, fractional}
+use Rattle.rules.specs.Frame.{Found, body, withTool, afterFirst, frame, readOne}
 use Rattle.rules.specs.Walk.{Walked, stopped, walkAll, samplesKept}
-use Rattle.rules.proofs.Octets.{Below, none, bitsOf-below, length-bitsOf}
+use Rattle.rules.proofs.Octets.{Below, none, Sized, bitsOf-below, length-bitsOf}
 use Rattle.rules.proofs.Gives.{same-refusal, Gives, gives-bit, gives-number, gives-zerosFrom, gives-rice}
-use Rattle.rules.proofs.Tests.{and-left, and-right}
 use Rattle.rules.proofs.Gives.{gives-runsFrom, gives-byMethod, gives-readTree, gives-bitsFrom, gives-groupsFrom, no-refusal}
-use Rattle.rules.proofs.Accepted.{gives-body}
+use Rattle.rules.proofs.Accepted.{gives-fractional, gives-plusMinus, gives-body}
 use Rattle.rules.proofs.Laid.{empty-all, lay-count}
 use Rattle.rules.proofs.Each.{Each, nothing, next}
 use Rattle.rules.proofs.Signed.{LawMask, law-mask}
@@ -41,8 +40,8 @@ use Rattle.promises.proofs.Fractional.{near-groups}
 use Rattle.promises.proofs.Rows.{few-values}
 use Rattle.promises.proofs.Methods.{ones}
 use Rattle.promises.proofs.Bounded.{Costs, costs-near, near-bitsFrom, costs-rice, costs-runs, costs-method, width-most}
-use Rattle.promises.proofs.Bounded.{depth, near-tree, tree-depth, tree-leaves, costs-six, costs-other, plain}
-use Rattle.promises.proofs.Further.{SixOrEight, six, eight, six-or-eight, bit-there, mark-first, nothing-short}
+use Rattle.promises.proofs.Bounded.{depth, near-tree, tree-depth, tree-leaves, costs-plusMinus, costs-fractional, costs-body, plain}
+use Rattle.promises.proofs.Further.{bit-there, mark-first, nothing-short}
 use Rattle.promises.proofs.Refused.{refused-walk, Begins, walkable, unlawful, no-set, too-long, walk-begins}
 use Rattle.promises.proofs.Points.{same-bit, near-zeros}
 use Rattle.promises.proofs.Bit.{first-of-bits, frame-after, short-bit, ended-by}
@@ -233,8 +232,7 @@ asks-located {mask} l n h =
     (asks-values n (plusZero mask) (replicate n (plusZero mask)) (v .apart l) (omega arith))))))
 
 -- tool 6: the code of S, at most six bits, and runs over N places
-asks-six : (mask n mark : ℕ) → isLength n ≡ true → Asks 0 3526 (body mask 6 n mark)
-unfolding body
+asks-six : (mask n mark : ℕ) → isLength n ≡ true → Asks 0 3526 (plusMinus mask n mark)
 asks-six mask n mark l =
     let few = leb-true (depth (treeOf n)) 6 (tree-depth n l) in
     let small = length-most n l in
@@ -245,31 +243,31 @@ asks-six mask n mark l =
     (pays (0 + 6) (n * 10 + n) 3526 (omega arith) (asks-runs 10 n s n n [] (omega arith))) (λ flags q.
     asks-give (0 + 6 + 10 * n) 3526 (map (zeroOf mask mark) flags)))
 
--- tool 11: groups of w bits each
-asks-groups : (r g w : ℕ) (done : List ℕ) (k : ℕ) → Asks 0 (w * k) (groupsFrom r g w done k)
+-- tool 11: groups of so many bits each
+asks-groups : (c : Coding) (done : List ℕ) (k : ℕ) → Asks 0 (c .bits * k) (groupsFrom c done k)
 unfolding groupsFrom
-asks-groups r g w done zero = asks-give 0 (w * 0) done
-asks-groups r g w done (suc k) =
+asks-groups c done zero = asks-give 0 (c .bits * 0) done
+asks-groups c done (suc k) =
+    let w = c .bits in
     let more = mul-suc w k in
     asks-here 0 (w * suc k) (λ start. asks-number 0 w (w * suc k) (omega arith) (λ v h.
-    asks-cond (ltb v (r ^ g))
-    (λ t. pays (0 + w) (w * k) (w * suc k) (omega arith) (asks-groups r g w (done ++ digitsOf r g v) k))
+    asks-cond (ltb v (c .radix ^ c .group))
+    (λ t. pays (0 + w) (w * k) (w * suc k) (omega arith) (asks-groups c (done ++ digitsOf (c .radix) (c .group) v) k))
     (λ t. asks-fail (0 + w) (w * suc k) Place start (is-not Place (omega arith)))))
 
 asks-fractional : (mask k n : ℕ) → n ≤ 320 → Asks 0 3047 (fractional mask k n)
 unfolding groupsAs
 asks-fractional mask k n h =
-    let r = radix k in
-    let g = groupOf r in
-    let w = bitsFor r in
+    let c = codingOf (radix k) in
+    let m = n / groupOf (radix k) in
     let most = body-bits-most k n h in
-    asks-then 0 3047 (λ digits. bodyBits k n) (gives-groupsFrom r g w [] (n / g)) (costs-near (bodyBits k n) (near-groups r g w [] (n / g)))
-    (pays 0 (bodyBits k n) 3047 (omega arith) (asks-groups r g w [] (n / g))) (λ digits q.
+    asks-then 0 3047 (λ digits. bodyBits k n) (gives-groupsFrom c [] m) (costs-near (bodyBits k n) (near-groups c [] m))
+    (pays 0 (bodyBits k n) 3047 (omega arith) (asks-groups c [] m)) (λ digits q.
     asks-give (0 + bodyBits k n) 3047 (map (λ d. getD (samplesAt mask k) d 0) digits))
 
-asks-other : {mask : ℕ} → LawMask mask → (t n mark : ℕ) → n ≤ 320 → (t ≡ 6 → ⊥) → Asks 0 3047 (body mask t n mark)
+asks-body : {mask : ℕ} → LawMask mask → (t n : ℕ) → n ≤ 320 → Asks 0 3047 (body mask t n)
 unfolding body
-asks-other {mask} l t n mark h ne =
+asks-body {mask} l t n h =
     asks-cond (eqb t 1) (λ e. pays 0 (8 * n) 3047 (omega arith) (asks-octetsAfter [] n)) (λ e.
     asks-cond (eqb t 2) (λ e. asks-give 0 3047 (replicate n (plusZero mask))) (λ e.
     asks-cond (eqb t 3) (λ e. asks-give 0 3047 (replicate n (minusZero mask))) (λ e.
@@ -278,18 +276,16 @@ asks-other {mask} l t n mark h ne =
     asks-then 0 3047 (λ flags. n) (gives-bitsFrom [] n none) (costs-near n (near-bitsFrom [] n))
     (pays 0 n 3047 (omega arith) (asks-bitsFrom [] n))
     (λ flags q. asks-give (0 + n) 3047 (map (zeroOf mask 0) flags))) (λ e.
-    asks-cond (eqb t 6) (λ e. absurd (ne (eqb-true t 6 e))) (λ e.
-    asks-cond (eqb t 11) (λ e. asks-fractional mask mark n h) (λ e.
-    asks-located l n h)))))))
+    asks-located l n h)))))
 
 -- a body that asks for k at most and has c bits at most, and then its filling
-asks-withTool : {mask : ℕ} → LawMask mask → (set room t n mark c k : ℕ) → isLength n ≡ true → c + 7 ≤ k
-    → Costs 0 (λ s. c) (body mask t n mark) → Asks 0 k (body mask t n mark) → Asks 0 k (withTool mask set room t n mark)
+asks-withTool : (set room t n c k : ℕ) {r : Reader (List ℕ)} → c + 7 ≤ k → Gives r (Sized 256 n) → Costs 0 (λ s. c) r → Asks 0 k r
+    → Asks 0 k (withTool set room t n r)
 unfolding withTool
-asks-withTool {mask} l set room t n mark c k len h g s =
+asks-withTool set room t n c k h gives g s =
     asks-cond (not (holds set t)) (λ e. asks-fail 0 k (Tool t) 0 (is-not (Tool t) (omega arith))) (λ e.
     asks-cond (ltb room n) (λ e. asks-fail 0 k Room 0 (is-not Room (omega arith))) (λ e.
-    asks-then 0 k (λ s. c) (gives-body l t n mark len) g s (λ samples q. asks-here (0 + c) k (λ bits.
+    asks-then 0 k (λ s. c) gives g s (λ samples q. asks-here (0 + c) k (λ bits.
     pays (0 + c) (fillFor bits) k (omega arith) (asks-filled (record { tool = t; samples = samples; bits = bits }) (fillFor bits))))))
 
 -- the frame: 3,533 bits at most
@@ -299,40 +295,36 @@ asks-sixNotEight =
     asks-bits 1 (λ a. asks-cond (eqb a 1) (λ t. asks-give 0 1 6)
     (λ t. asks-bits 0 (λ c. asks-cond (eqb c 1) (λ t. asks-give 0 0 6) (λ t. asks-give 0 0 8))))
 
--- the tool is 6 or 8, and 8 is in no set
-asks-six-or-eight : {mask : ℕ} → LawMask mask → (set room n mark t : ℕ) → isLength n ≡ true → SixOrEight t
-    → Asks 0 3526 (withTool mask set room t n mark)
-asks-six-or-eight {mask} l set room n mark t len six =
-    asks-withTool l set room 6 n mark (6 + 10 * n) 3526 len (omega (arith, length-most n len)) (costs-six mask n mark len)
-    (asks-six mask n mark len)
-asks-six-or-eight {mask} l set room n mark t len eight =
-    asks-withTool l set room 8 n mark 2686 3526 len (omega arith) (costs-other l 8 n mark (length-most n len) (omega arith))
-    (pays 0 3047 3526 (omega arith) (asks-other l 8 n mark (length-most n len) (omega arith)))
+-- the tool is 6, or 8, which is in no set
+asks-six-or-eight : {mask : ℕ} → LawMask mask → (set room n mark t : ℕ) → isLength n ≡ true
+    → Asks 0 3526 (withTool set room t n (plusMinus mask n mark))
+asks-six-or-eight {mask} l set room n mark t len =
+    asks-withTool set room t n (6 + 10 * n) 3526 (omega (arith, length-most n len)) (gives-plusMinus l n mark)
+    (costs-plusMinus mask n mark len) (asks-six mask n mark len)
 
-after-asks : {mask : ℕ} → LawMask mask → (set room o : ℕ) (first : First) → plain first ≡ true → {b : List ℕ} → Below 2 b → 8 ≤ length b
-    → (at : ℕ) → afterFirst mask set room o first b 8 ≡ refuse Short at → at < 3533
+after-asks : {mask : ℕ} → LawMask mask → (set room : ℕ) (first : First) → plain first ≡ true → {b : List ℕ} → Below 2 b → 8 ≤ length b
+    → (at : ℕ) → afterFirst mask set room first b 8 ≡ refuse Short at → at < 3533
 unfolding afterFirst
-after-asks l set room o unassigned p z h at e = absurd (is-not Prefix (omega arith) (same-refusal e))
-after-asks l set room o pad p z h at e = no-refusal (sym e)
-after-asks {mask} l set room o (tool t n) p {b} z h at e =
-    let len = and-right (not (eqb t 6)) (isLength n) p in
-    let ne = eqb-false t 6 (not-true (eqb t 6) (and-left (not (eqb t 6)) (isLength n) p)) in
-    let small = length-most n len in
-    let k = rowIn o t n in
-    omega (
-      arith,
-      asks-withTool l set room t n k 2686 3047 len (omega arith) (costs-other l t n k small ne)
-          (asks-other l t n k small ne) .asks b z 8 h at e,
-    )
-after-asks {mask} l set room o (sixOrEight n) p {b} z h at e =
+after-asks l set room unassigned p z h at e = absurd (is-not Prefix (omega arith) (same-refusal e))
+after-asks l set room pad p z h at e = no-refusal (sym e)
+after-asks {mask} l set room (tool t n) p {b} z h at e =
+    let small = length-most n p in
+    let a = asks-withTool set room t n 2686 3047 (omega arith) (gives-body l t n p) (costs-body l t n small) (asks-body l t n small) in
+    omega (arith, a .asks b z 8 h at e)
+after-asks {mask} l set room (fractionalRow k n) p {b} z h at e =
+    let small = length-most n p in
+    let a = asks-withTool set room 11 n 2686 3047 (omega arith) (gives-fractional l k n p) (costs-fractional mask k n small)
+    (asks-fractional mask k n small) in
+    omega (arith, a .asks b z 8 h at e)
+after-asks {mask} l set room (sixOrEight n) p {b} z h at e =
     let m = bit-there b [] (markAt n) (omega (arith, mark-first n)) in
     go (sixNotEight b (markAt n + 1)) refl (rw (m .0) at e)
   where
     go : (r : Read ℕ) → sixNotEight b (markAt n + 1) ≡ r
-        → andThen r (λ t k. withTool mask set room t n (getD b (markAt n) 0) b (markAt n + 1)) ≡ refuse Short at → at < 3533
+        → andThen r (λ t k. withTool set room t n (plusMinus mask n (getD b (markAt n) 0)) b (markAt n + 1)) ≡ refuse Short at → at < 3533
     go (whole t k) q d =
         let i : markAt n + 1 ≤ length b = omega (arith, mark-first n) in
-        let a = asks-six-or-eight l set room n (getD b (markAt n) 0) t p (six-or-eight b (markAt n + 1) t k q) in
+        let a = asks-six-or-eight l set room n (getD b (markAt n) 0) t p in
         omega (arith, mark-first n, a .asks b z (markAt n + 1) i at d)
     go (refuse w x) q d =
         omega (
@@ -349,7 +341,7 @@ octets-ask law set room (o ∷ octets) at e = some (bitsOf (o ∷ octets)) (bits
   where
     some : (b : List ℕ) → Below 2 b → 8 ≤ length b → frame (maskOf law) set room b 0 ≡ refuse Short at → at < 3533
     some b z h d =
-        after-asks (law-mask law) set room (valueFrom 0 (take 8 b)) (firstOctet (valueFrom 0 (take 8 b))) (first-of-bits b z h)
+        after-asks (law-mask law) set room (firstOctet (valueFrom 0 (take 8 b))) (first-of-bits b z h)
         z h at (sym (frame-after (maskOf law) set room b h) ∙ d)
 
 read-asks : (octets : List ℕ) (law set room at : ℕ) → readOne octets law set room ≡ refuse Short at → at < 3533

@@ -14,13 +14,14 @@ use Rattle.rules.specs.declared.Refusal.the-variants.{Prefix, Tool, Room, Law, 
 use Rattle.rules.specs.Tools.{holds, isLaw, isLength}
 use Rattle.rules.specs.Bits.{lowBits, bitsOf, octetsFor, fillFor}
 use Rattle.rules.specs.Reading.{Read, Reader, andThen, _>>=_, give, fail, here, from, bit, number, filled, whole, refuse}
-use Rattle.rules.specs.First.{First, unassigned, pad, tool, sixOrEight, firstOctet, markAt, sixNotEight}
+use Rattle.rules.specs.First.{First, unassigned, pad, tool, fractionalRow, sixOrEight, firstOctet, markAt, sixNotEight}
 use Rattle.rules.specs.Samples.{maskOf, plusZero, minusZero}
 use Rattle.rules.specs.Zeros.{uncompressed, constantly, constant, binary, plusMinus}
 use Rattle.rules.specs.Zeros.{uncompressedForm, plusForm, minusForm, constantForm, binaryForm}
 use Rattle.rules.specs.Located.{located}
-use Rattle.rules.specs.Frame.{Found, body, withTool, rowIn, afterFirst, frame, readOne}
-use Rattle.rules.specs.Chooses.{every, riceChoice, rowOf, zeroLeads, locatedForm, applies, formOf, choose}
+use Rattle.rules.specs.Fractional.{fractional}
+use Rattle.rules.specs.Frame.{Found, body, withTool, afterFirst, frame, readOne}
+use Rattle.rules.specs.Chooses.{every, riceChoice, hasRow, rowOf, zeroLeads, locatedForm, applies, formOf, choose}
 use Rattle.rules.specs.Chooses.{chosenTool, Written, chosen, Write, wrote, declined, writeOne}
 
 -- "Tool t (1 to 7) adds 2^(t-1)"; "A tool set is a number from 0 to 127"
@@ -30,33 +31,33 @@ heldBefore set t = leb 1 t && leb t 7 && eqb (set / 2 ^ (t - 1) % 2) 1
 abbrev pub setBefore : ℕ → Bool
 setBefore set = leb set 127
 
-unfoldable pub bodyBefore : ℕ → ℕ → ℕ → ℕ → Reader (List ℕ)
-bodyBefore mask t n mark =
+unfoldable pub bodyBefore : ℕ → ℕ → ℕ → Reader (List ℕ)
+bodyBefore mask t n =
     cond (eqb t 1) (uncompressed n)
     (cond (eqb t 2) (constantly n (plusZero mask))
     (cond (eqb t 3) (constantly n (minusZero mask))
     (cond (eqb t 4) (constant n)
     (cond (eqb t 5) (binary mask n)
-    (cond (eqb t 6) (plusMinus mask n mark)
-    (located mask n))))))
+    (located mask n)))))
 
-unfoldable pub toolBefore : ℕ → ℕ → ℕ → ℕ → ℕ → ℕ → Reader Found
-toolBefore mask set room t n mark =
+unfoldable pub toolBefore : ℕ → ℕ → ℕ → ℕ → Reader (List ℕ) → Reader Found
+toolBefore set room t n r =
     cond (not (heldBefore set t)) (fail (Tool t) 0)
     (cond (ltb room n) (fail Room 0) (do
-      samples ← bodyBefore mask t n mark
+      samples ← r
       bits ← here
       filled (record { tool = t; samples = samples; bits = bits }) (fillFor bits)))
 
 unfoldable pub afterBefore : ℕ → ℕ → ℕ → First → Reader Found
 afterBefore mask set room unassigned = fail Prefix 0
 afterBefore mask set room pad = give (record { tool = 0; samples = []; bits = 8 })
-afterBefore mask set room (tool t n) = toolBefore mask set room t n 0
+afterBefore mask set room (tool t n) = toolBefore set room t n (bodyBefore mask t n)
+afterBefore mask set room (fractionalRow k n) = fail (Tool 11) 0
 afterBefore mask set room (sixOrEight n) =
     from (markAt n) (do
       mark ← bit
       t ← sixNotEight
-      from (markAt n + 1) (toolBefore mask set room t n mark))
+      from (markAt n + 1) (toolBefore set room t n (plusMinus mask n mark)))
 
 unfoldable pub readBefore : List ℕ → ℕ → ℕ → ℕ → Read Found
 readBefore octets law set room =
@@ -87,36 +88,35 @@ same-held set t h = go (eqb t 11) refl
         rw (eleven, ne-eqb (set / 128 % 2) 1 (λ q. omega arith)) refl
     go false e = ap (λ (b : Bool). b && eqb (set / 2 ^ (t - 1) % 2) 1) (or-none in-low)
 
-same-body : (mask t n mark : ℕ) → eqb t 11 ≡ false → body mask t n mark ≡ bodyBefore mask t n mark
+same-body : (mask t n : ℕ) → body mask t n ≡ bodyBefore mask t n
 unfolding body bodyBefore
-same-body mask t n mark e = rw e refl
+same-body mask t n = refl
 
--- where the set holds the tool, its body is the old one; else it is refused
-same-tool : (mask set room t n mark mark′ : ℕ) → set ≤ 127 → (eqb t 11 ≡ false → mark ≡ mark′)
-    → withTool mask set room t n mark ≡ toolBefore mask set room t n mark′
+same-tool : (set room t n : ℕ) (r : Reader (List ℕ)) → set ≤ 127 → withTool set room t n r ≡ toolBefore set room t n r
 unfolding withTool toolBefore
-same-tool mask set room t n mark mark′ h m = go (eqb t 11) refl
-  where
-    go : (b : Bool) → eqb t 11 ≡ b → withTool mask set room t n mark ≡ toolBefore mask set room t n mark′
-    go true e =
-        let eleven : t ≡ 11 = eqb-true t 11 e in
-        rw (eleven, eleven-out set h) refl
-    go false e = rw (same-held set t h, same-body mask t n mark e, m e) refl
+same-tool set room t n r h = rw (same-held set t h) refl
+
+no-eleven : (set room n : ℕ) (r : Reader (List ℕ)) → set ≤ 127 → (b : List ℕ) (i : ℕ)
+    → withTool set room 11 n r b i ≡ fail {A = Found} (Tool 11) 0 b i
+unfolding withTool
+no-eleven set room n r h b i = rw (eleven-out set h)
 
 then-same : {A B : Type 0} (m : Read A) (f g : A → ℕ → Read B) → ((a : A) (j : ℕ) → f a j ≡ g a j) → andThen m f ≡ andThen m g
 then-same (whole a j) f g h = h a j
 then-same (refuse w at) f g h = refl
 
-same-after : (mask set room o : ℕ) (first : First) → set ≤ 127 → (b : List ℕ) (i : ℕ)
-    → afterFirst mask set room o first b i ≡ afterBefore mask set room first b i
+same-after : (mask set room : ℕ) (first : First) → set ≤ 127 → (b : List ℕ) (i : ℕ)
+    → afterFirst mask set room first b i ≡ afterBefore mask set room first b i
 unfolding afterFirst afterBefore
-same-after mask set room o unassigned h b i = refl
-same-after mask set room o pad h b i = refl
-same-after mask set room o (tool t n) h b i =
-    ap (λ (r : Reader Found). r b i) (same-tool mask set room t n (rowIn o t n) 0 h (λ e. rw e refl))
-same-after mask set room o (sixOrEight n) h b i =
+same-after mask set room unassigned h b i = refl
+same-after mask set room pad h b i = refl
+same-after mask set room (tool t n) h b i =
+    ap (λ (r : Reader Found). r b i)
+    (same-tool set room t n (body mask t n) h ∙ ap (toolBefore set room t n) (same-body mask t n))
+same-after mask set room (fractionalRow k n) h b i = no-eleven set room n (fractional mask k n) h b i
+same-after mask set room (sixOrEight n) h b i =
     then-same (bit b (markAt n)) _ _ (λ mark j. then-same (sixNotEight b j) _ _ (λ t k.
-    ap (λ (r : Reader Found). r b (markAt n + 1)) (same-tool mask set room t n mark mark h (λ e. refl))))
+    ap (λ (r : Reader Found). r b (markAt n + 1)) (same-tool set room t n (plusMinus mask n mark) h)))
 
 test-same : (t : Bool) (w : Refusal) (p q : Reader Found) (b : List ℕ) → p b 0 ≡ q b 0 → cond t (fail w 0) p b 0 ≡ cond t (fail w 0) q b 0
 test-same true w p q b e = refl
@@ -130,7 +130,7 @@ reads-as-before octets law set room s =
     let h = leb-true set 127 s in
     let b = bitsOf octets in
     rw (s, le-leb set 255 (omega arith))
-    (test-same (not (isLaw law)) Law _ _ b (then-same (number 8 b 0) _ _ (λ o j. same-after (maskOf law) set room o (firstOctet o) h b j)))
+    (test-same (not (isLaw law)) Law _ _ b (then-same (number 8 b 0) _ _ (λ o j. same-after (maskOf law) set room (firstOctet o) h b j)))
 
 -- the writer
 unfoldable pub appliesBefore : ℕ → ℕ → List ℕ → Bool
@@ -141,7 +141,7 @@ appliesBefore mask t s =
     (cond (eqb t 4) (every (λ x. eqb x (getD s 0 0)) s)
     (cond (leb t 6) (every (λ x. eqb x (plusZero mask) || eqb x (minusZero mask)) s)
     (leb 80 (length s)
-    && ltb (rowOf mask s) 4
+    && hasRow (rowOf mask s)
     && zeroLeads mask s (pos 1) && zeroLeads mask s (negsuc 0) && zeroLeads mask s (negsuc 1))))))
 
 unfoldable pub formBefore : ℕ → ℕ → List ℕ → List ℕ

@@ -13,58 +13,53 @@ use borrow.Author.Tests.{leb-true, leb-false}
 use Rattle.rules.specs.declared.Refusal.{Refusal}
 use Rattle.rules.specs.declared.Refusal.the-variants.{Short, Law, Set, Long}
 use Rattle.rules.specs.declared.Ending.the-variants.{Done, Refused}
-use Rattle.rules.specs.Tools.{isSet, isLaw, isLength}
+use Rattle.rules.specs.Tools.{isSet, isLaw}
 use Rattle.rules.specs.Bits.{bitsOf, valueFrom}
 use Rattle.rules.specs.Samples.{maskOf}
 use Rattle.rules.specs.Reading.{Read, whole, refuse, Reader, andThen, _>>=_, give, fail, bit, number}
-use Rattle.rules.specs.First.{First, unassigned, pad, tool, sixOrEight, firstOctet, markAt, sixNotEight}
-use Rattle.rules.specs.Frame.{Found, octetsUsed, withTool, rowIn, afterFirst, frame, readOne}
+use Rattle.rules.specs.Zeros.{plusMinus}
+use Rattle.rules.specs.First.{First, unassigned, pad, tool, fractionalRow, sixOrEight, firstOctet, markAt, sixNotEight}
+use Rattle.rules.specs.Frame.{Found, octetsUsed, withTool, afterFirst, frame, readOne}
 use Rattle.rules.specs.Walk.{Delivered, Walked, stopped, before, walkAll, samplesKept}
 use Rattle.rules.proofs.Octets.{Below, length-bitsOf, bitsOf-append, bitsOf-below, below-take}
 use Rattle.rules.proofs.Gives.{same-refusal, no-refusal}
 use Rattle.rules.proofs.Accepted.{read-accepts}
-use Rattle.rules.proofs.Tests.{and-right}
 use Rattle.promises.proofs.Frame.{first-eight, value-small}
 use Rattle.promises.proofs.Further.{Goes, short, same, nothing-short, bit-there, mark-first, read-goes, looks-no-further}
 use Rattle.promises.proofs.Bounded.{plain, first-plain}
 use Rattle.promises.proofs.Walks.{WalkOf, ended, refused, delivers, uses, Walkable, walk-all-of, walk-all-only}
 use Rattle.promises.proofs.Refused.{cut-at, refused-walk, Begins, walkable, unlawful, no-set, too-long, walk-begins}
-use Rattle.promises.proofs.Points.{BitOf, reach, Says, Past, Between, earlier, points-withTool, points-sixNotEight}
-
--- the length that a first octet has
-plain-length : (t n : ℕ) → plain (tool t n) ≡ true → isLength n ≡ true
-plain-length t n p = and-right (not (eqb t 6)) (isLength n) p
+use Rattle.promises.proofs.Points.{BitOf, reach, Says, Past, Between, earlier, Points, points-own, points-row, points-six, points-sixNotEight}
 
 -- what the first octet begins
-tool-says : (mask set room : ℕ) (b : List ℕ) (n mark i t : ℕ) → isLength n ≡ true → 1 ≤ i → i ≤ 8 → i ≤ length b
-    → Says (length b) 0 (withTool mask set room t n mark b i)
-tool-says mask set room b n mark i t l x y k =
-    earlier (length b) 0 i (withTool mask set room t n mark b i) (omega arith) (points-withTool mask set room t n mark l .says b i (x, y) k)
+tool-says : (p : Reader Found) → Points (Between 1 8) p → (b : List ℕ) (i : ℕ) → 1 ≤ i → i ≤ 8 → i ≤ length b
+    → Says (length b) 0 (p b i)
+tool-says p points b i x y k = earlier (length b) 0 i (p b i) (omega arith) (points .says b i (x, y) k)
 
 turned : {A : Type 0} (n i : ℕ) (m : Read ℕ) (f : ℕ → Read A) → Says n i m → ((t : ℕ) → Says n 0 (f t)) → Says n 0 (andThen m (λ t k. f t))
 turned n i (whole t k) f s h = h t
 turned n i (refuse w at) f s h = (s .0, omega arith)
 
-after-says : (mask set room o : ℕ) (first : First) → plain first ≡ true → (b : List ℕ) → 8 ≤ length b
-    → Says (length b) 0 (afterFirst mask set room o first b 8)
+after-says : (mask set room : ℕ) (first : First) → plain first ≡ true → (b : List ℕ) → 8 ≤ length b
+    → Says (length b) 0 (afterFirst mask set room first b 8)
 unfolding afterFirst
-after-says mask set room o unassigned p b h = ((refl, omega arith), omega arith)
-after-says mask set room o pad p b h = (omega arith, h)
-after-says mask set room o (tool t n) p b h = tool-says mask set room b n (rowIn o t n) 8 t (plain-length t n p) (omega arith)
-    (omega arith) h
-after-says mask set room o (sixOrEight n) p b h =
+after-says mask set room unassigned p b h = ((refl, omega arith), omega arith)
+after-says mask set room pad p b h = (omega arith, h)
+after-says mask set room (tool t n) p b h = tool-says _ (points-own mask set room t n p) b 8 (omega arith) (omega arith) h
+after-says mask set room (fractionalRow k n) p b h = tool-says _ (points-row mask set room k n) b 8 (omega arith) (omega arith) h
+after-says mask set room (sixOrEight n) p b h =
     let i = markAt n in
     let mark = getD b i 0 in
     rw (bit-there b [] i (omega (arith, mark-first n)) .0)
-    (turned (length b) (i + 1) (sixNotEight b (i + 1)) (λ t. withTool mask set room t n mark b (i + 1))
+    (turned (length b) (i + 1) (sixNotEight b (i + 1)) (λ t. withTool set room t n (plusMinus mask n mark) b (i + 1))
     (points-sixNotEight {W = Between 0 8} .says b (i + 1) (omega arith, omega (arith, mark-first n)) (omega (arith, mark-first n)))
-    (λ t. tool-says mask set room b n mark (i + 1) t p (omega arith) (omega (arith, mark-first n)) (omega (arith, mark-first n))))
+    (λ t. tool-says _ (points-six mask set room t n mark p) b (i + 1) (omega arith) (omega (arith, mark-first n)) (omega (arith, mark-first n))))
 
 pub first-of-bits : (b : List ℕ) → Below 2 b → 8 ≤ length b → plain (firstOctet (valueFrom 0 (take 8 b))) ≡ true
 first-of-bits b z h = first-plain (valueFrom 0 (take 8 b)) (value-small 8 (below-take 8 z) (length-take-le 8 b h))
 
 pub frame-after : (mask set room : ℕ) (b : List ℕ) → 8 ≤ length b
-    → frame mask set room b 0 ≡ afterFirst mask set room (valueFrom 0 (take 8 b)) (firstOctet (valueFrom 0 (take 8 b))) b 8
+    → frame mask set room b 0 ≡ afterFirst mask set room (firstOctet (valueFrom 0 (take 8 b))) b 8
 unfolding frame
 frame-after mask set room b h =
     let e : number 8 b 0 ≡ whole (valueFrom 0 (take 8 b)) 8 = rw (append-nil b) at (first-eight b [] h) in
@@ -73,7 +68,7 @@ frame-after mask set room b h =
 frame-says : (mask set room : ℕ) {b : List ℕ} → Below 2 b → 8 ≤ length b → Says (length b) 0 (frame mask set room b 0)
 frame-says mask set room {b} z h =
     rw (frame-after mask set room b h)
-    (after-says mask set room (valueFrom 0 (take 8 b)) (firstOctet (valueFrom 0 (take 8 b))) (first-of-bits b z h) b h)
+    (after-says mask set room (firstOctet (valueFrom 0 (take 8 b))) (first-of-bits b z h) b h)
 
 octets-say : (law set room : ℕ) (octets : List ℕ) → Says (8 * length octets) 0 (frame (maskOf law) set room (bitsOf octets) 0)
 octets-say law set room [] = rw (nothing-short (maskOf law) set room) (refl, omega arith)
@@ -178,22 +173,22 @@ six-past : {A : Type 0} (n : ℕ) (m m′ : Read ℕ) (f f′ : ℕ → Read A) 
     → Past n (andThen m (λ t k. f t)) (andThen m′ (λ t k. f′ t))
 six-past n m m′ f f′ (decided t k e e′) h = rw (e, e′) (h t)
 
-after-past : (mask set room o : ℕ) (first : First) → plain first ≡ true → (b c : List ℕ) → 16 ≤ length b
-    → Past (length b) (afterFirst mask set room o first b 8) (afterFirst mask set room o first (b ++ c) 8)
+after-past : (mask set room : ℕ) (first : First) → plain first ≡ true → (b c : List ℕ) → 16 ≤ length b
+    → Past (length b) (afterFirst mask set room first b 8) (afterFirst mask set room first (b ++ c) 8)
 unfolding afterFirst
-after-past mask set room o unassigned p b c h = λ k w at e d other. absurd (other (sym (same-refusal d) ∙ same-refusal e))
-after-past mask set room o pad p b c h = λ k w at e d other. no-refusal (sym e)
-after-past mask set room o (tool t n) p b c h = points-withTool mask set room t n (rowIn o t n) (plain-length t n p) .past
-    b c 8 (omega arith, omega arith) (omega arith)
-after-past mask set room o (sixOrEight n) p b c h =
+after-past mask set room unassigned p b c h = λ k w at e d other. absurd (other (sym (same-refusal d) ∙ same-refusal e))
+after-past mask set room pad p b c h = λ k w at e d other. no-refusal (sym e)
+after-past mask set room (tool t n) p b c h = points-own mask set room t n p .past b c 8 (omega arith, omega arith) (omega arith)
+after-past mask set room (fractionalRow k n) p b c h = points-row mask set room k n .past b c 8 (omega arith, omega arith) (omega arith)
+after-past mask set room (sixOrEight n) p b c h =
     let i = markAt n in
     let mark = getD b i 0 in
     let m = bit-there b c i (omega (arith, mark-first n)) in
     rw (m .0, m .1)
     (six-past (length b) (sixNotEight b (i + 1)) (sixNotEight (b ++ c) (i + 1))
-    (λ t. withTool mask set room t n mark b (i + 1)) (λ t. withTool mask set room t n mark (b ++ c) (i + 1))
+    (λ t. withTool set room t n (plusMinus mask n mark) b (i + 1)) (λ t. withTool set room t n (plusMinus mask n mark) (b ++ c) (i + 1))
     (both-there b c (i + 1) (omega (arith, mark-first n)))
-    (λ t. points-withTool mask set room t n mark p .past b c (i + 1) (omega arith, omega (arith, mark-first n))
+    (λ t. points-six mask set room t n mark p .past b c (i + 1) (omega arith, omega (arith, mark-first n))
     (omega (arith, mark-first n))))
 
 frame-past : (mask set room : ℕ) {b : List ℕ} → Below 2 b → (c : List ℕ) → 16 ≤ length b
@@ -203,7 +198,7 @@ frame-past mask set room {b} z c h =
     let k : 8 ≤ length b = omega arith in
     let e : number 8 b 0 ≡ whole (valueFrom 0 (take 8 b)) 8 = rw (append-nil b) at (first-eight b [] k) in
     rw (e, first-eight b c k)
-    (after-past mask set room (valueFrom 0 (take 8 b)) (firstOctet (valueFrom 0 (take 8 b))) (first-of-bits b z k) b c h)
+    (after-past mask set room (firstOctet (valueFrom 0 (take 8 b))) (first-of-bits b z k) b c h)
 
 test-past : {A : Type 0} (n : ℕ) (t : Bool) (u : Refusal) (p : Reader A) (b c : List ℕ) → Past n (p b 0) (p c 0)
     → Past n (cond t (fail u 0) p b 0) (cond t (fail u 0) p c 0)

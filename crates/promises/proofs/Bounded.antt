@@ -6,7 +6,7 @@ use native.Mathlib.Nat.{mul-le-mul, mul-le-mul-left, mul-suc, div-add-mod'}
 use lib.Pow.{pow-mono, shr-le, high}
 use mathlib.Core.Path.{_≡_, refl, sym, ap, _∙_}
 use mathlib.Core.List.{List, [], _∷_, _++_, map, append-nil}
-use mathlib.Core.Bool.{Bool, true, false, cond, not, _&&_}
+use mathlib.Core.Bool.{Bool, true, false, cond, not, _&&_, _||_, false≢true}
 use lib.ListN.{length, replicate, length-append, length-replicate, length-map}
 use lib.IntN.{pos, negsuc}
 use lib.Dec.{eqb, leb, ltb}
@@ -19,9 +19,10 @@ use Rattle.rules.specs.Reading.{whole, Reader, _>>=_, give, fail, here, from, b
 use Rattle.rules.specs.Samples.{maskOf, sampleOf, plusZero, minusZero}
 use Rattle.rules.specs.Runs.{zerosFrom, rice, riceForm, runsFrom, runsOf, riceForms}
 use Rattle.rules.specs.Zeros.{Tree, leaf, fork, treeOf, readTree, zeroOf, flagOf, codesOf, codeOf, mostS, plusMinus, plusMinusForm}
-use Rattle.rules.specs.First.{baseOf, riceCode, First, unassigned, pad, tool, sixOrEight, rows, lookUp, firstOctet, markAt, sixNotEight}
-use Rattle.rules.specs.Fractional.{firstCode, rowCount, bodyBits}
-use Rattle.rules.specs.Frame.{Found, octetsUsed, body, withTool, rowIn, afterFirst, frame, readOne}
+use Rattle.rules.specs.First.{First, unassigned, pad, tool, fractionalRow, sixOrEight}
+use Rattle.rules.specs.First.{baseOf, riceCode, rows, lookUp, firstOctet, markAt, sixNotEight}
+use Rattle.rules.specs.Fractional.{rowCount, bodyBits, fractional}
+use Rattle.rules.specs.Frame.{Found, octetsUsed, body, withTool, afterFirst, frame, readOne}
 use Rattle.rules.specs.Located.{widthFrom, widthOf, listedFrom, listed, byMethod, emptyIn, lay, valuesInto, valuesOf, located}
 use Rattle.rules.specs.Chooses.{countOf}
 use Rattle.rules.proofs.Octets.{Below, none, more, bitsOf-below, length-lowBits}
@@ -40,7 +41,7 @@ use Rattle.promises.proofs.Forms.{rice-restores, plusMinusForm-below}
 use Rattle.promises.proofs.Written.{read-bits}
 use Rattle.promises.proofs.Frame.{foundAt}
 use Rattle.rules.proofs.Room.{length-most}
-use Rattle.rules.proofs.Firsts.{isCode, asWritten, first-as-written}
+use Rattle.rules.proofs.Firsts.{asWritten, first-as-written}
 use Rattle.promises.proofs.Reach.{Near, near-fail, near-give, near-here, near-bit, near-then, near-cond, near-more, near-numberFrom}
 use Rattle.rules.proofs.Fractional.{body-bits-most}
 use Rattle.promises.proofs.Fractional.{near-fractional, fractional-most}
@@ -286,7 +287,7 @@ pub tree-leaves : (n : ℕ) → isLength n ≡ true → Leaves (λ s. s ≤ 9) (
 unfolding treeOf
 tree-leaves n l = by-length (λ n. Leaves (λ s. s ≤ 9) (treeOf n)) (omega arith) (omega arith) (omega arith) (omega arith) (omega arith) n l
 
-costs-plusMinus : (mask n mark : ℕ) → isLength n ≡ true → Costs 0 (λ s. 6 + 10 * n) (plusMinus mask n mark)
+pub costs-plusMinus : (mask n mark : ℕ) → isLength n ≡ true → Costs 0 (λ s. 6 + 10 * n) (plusMinus mask n mark)
 costs-plusMinus mask n mark l =
     costs-then 0 (λ r. 6) (λ r. 0) (λ r s. 10 * n) 0 (λ s. 6 + 10 * n) (gives-readTree (λ s. s ≤ 9) (treeOf n) (tree-leaves n l))
     (costs-near 6 (near-more (depth (treeOf n)) 6 (leb-true (depth (treeOf n)) 6 (tree-depth n l)) (near-tree (treeOf n))))
@@ -300,75 +301,66 @@ costs-plusMinus mask n mark l =
 cheap : {A : Type 0} (k : ℕ) {p : Reader A} → k ≤ 2686 → Near k p → Costs 0 (λ s. 2686) p
 cheap k h g = costs-near 2686 (near-more k 2686 h g)
 
-pub costs-other : {mask : ℕ} → LawMask mask → (t n mark : ℕ) → n ≤ 320 → (t ≡ 6 → ⊥) → Costs 0 (λ s. 2686) (body mask t n mark)
+pub costs-fractional : (mask k n : ℕ) → n ≤ 320 → Costs 0 (λ s. 2686) (fractional mask k n)
+costs-fractional mask k n h = cheap (bodyBits k n) (omega (arith, body-bits-most k n h)) (near-fractional mask k n)
+
+pub costs-body : {mask : ℕ} → LawMask mask → (t n : ℕ) → n ≤ 320 → Costs 0 (λ s. 2686) (body mask t n)
 unfolding body
-costs-other {mask} l t n mark h ne =
+costs-body {mask} l t n h =
     costs-cond (eqb t 1) (λ e. cheap (8 * n) (omega arith) (near-octetsAfter [] n))
     (λ e. costs-cond (eqb t 2) (λ e. cheap 0 (omega arith) (near-give (replicate n (plusZero mask))))
     (λ e. costs-cond (eqb t 3) (λ e. cheap 0 (omega arith) (near-give (replicate n (minusZero mask))))
     (λ e. costs-cond (eqb t 4) (λ e. cheap (8 + 0) (omega arith) (near-then 8 0 (near-numberFrom 0 8) (λ x. near-give (replicate n x))))
     (λ e. costs-cond (eqb t 5)
     (λ e. cheap (n + 0) (omega arith) (near-then n 0 (near-bitsFrom [] n) (λ flags. near-give (map (zeroOf mask 0) flags))))
-    (λ e. costs-cond (eqb t 6) (λ e. absurd (ne (eqb-true t 6 e)))
-    (λ e. costs-cond (eqb t 11) (λ e. cheap (bodyBits mark n) (omega (arith, body-bits-most mark n h)) (near-fractional mask mark n))
-    (λ e. costs-located l n h)))))))
+    (λ e. costs-located l n h)))))
 
 -- a frame whose body begins at place i
-withTool-bits : (mask set room t n mark k : ℕ) {b : List ℕ} → Below 2 b → (i : ℕ) → i ≤ length b → Costs 0 (λ s. k) (body mask t n mark)
-    → {f : Found} {j : ℕ} → withTool mask set room t n mark b i ≡ whole f j → f .bits ≤ i + k
+withTool-bits : (set room t n k : ℕ) {r : Reader (List ℕ)} {b : List ℕ} → Below 2 b → (i : ℕ) → i ≤ length b → Costs 0 (λ s. k) r
+    → {f : Found} {j : ℕ} → withTool set room t n r b i ≡ whole f j → f .bits ≤ i + k
 unfolding withTool
-withTool-bits mask set room t n mark k {b} z i h g {f} {j} e =
+withTool-bits set room t n k {r} {b} z i h g {f} {j} e =
     let p = not-refused (not (holds set t)) (Tool t) 0 _ b i e in
     let q = not-refused (ltb room n) Room 0 _ b i (p .1) in
-    go (steps (body mask t n mark b i) _ (q .1))
+    go (steps (r b i) _ (q .1))
   where
-    go : Steps (body mask t n mark b i) (λ s m. filled (record { tool = t; samples = s; bits = m }) (fillFor m) b m) f j → f .bits ≤ i + k
+    go : Steps (r b i) (λ s m. filled (record { tool = t; samples = s; bits = m }) (fillFor m) b m) f j → f .bits ≤ i + k
     go (through s m d c) =
         let w = filled-is (record { tool = t; samples = s; bits = m }) (fillFor m) b m c in
         rw (← (w .0)) (omega (arith, g .goes b z i h s m d))
 
-pub costs-six : (mask n mark : ℕ) → isLength n ≡ true → Costs 0 (λ s. 6 + 10 * n) (body mask 6 n mark)
-unfolding body
-costs-six mask n mark l = costs-plusMinus mask n mark l
-
--- no first octet is tool 6 without its second bit, and each has one of the five lengths
+-- each first octet that begins samples has one of the five lengths
 abbrev pub plain : First → Bool
 plain unassigned = true
 plain pad = true
-plain (tool t n) = not (eqb t 6) && isLength n
+plain (tool t n) = isLength n
+plain (fractionalRow k n) = isLength n
 plain (sixOrEight n) = isLength n
 
 pub first-plain : (o : ℕ) → o < 256 → plain (firstOctet o) ≡ true
 unfolding firstOctet lookUp rows
 first-plain o h = allBelow-at (λ o. plain (firstOctet o)) 256 refl o h
 
-after-bits : {mask : ℕ} → LawMask mask → (set room o : ℕ) (first : First) → plain first ≡ true → {b : List ℕ} → Below 2 b → 8 ≤ length b
-    → {f : Found} {j : ℕ} → afterFirst mask set room o first b 8 ≡ whole f j → f .bits ≤ 3213
+after-bits : {mask : ℕ} → LawMask mask → (set room : ℕ) (first : First) → plain first ≡ true → {b : List ℕ} → Below 2 b → 8 ≤ length b
+    → {f : Found} {j : ℕ} → afterFirst mask set room first b 8 ≡ whole f j → f .bits ≤ 3213
 unfolding afterFirst
-after-bits l set room o unassigned p z h e = no-refusal e
-after-bits l set room o pad p z h {f} {j} e = let v : record { tool = 0; samples = []; bits = 8 } ≡ f = same-value e in
+after-bits l set room unassigned p z h e = no-refusal e
+after-bits l set room pad p z h {f} {j} e = let v : record { tool = 0; samples = []; bits = 8 } ≡ f = same-value e in
     rw (← v) (omega arith)
-after-bits {mask} l set room o (tool t n) p z h e =
-    let len = and-right (not (eqb t 6)) (isLength n) p in
-    let ne = eqb-false t 6 (not-true (eqb t 6) (and-left (not (eqb t 6)) (isLength n) p)) in
-    omega (arith, withTool-bits mask set room t n (rowIn o t n) 2686 z 8 h (costs-other l t n (rowIn o t n) (length-most n len) ne) e)
-after-bits {mask} l set room o (sixOrEight n) p {b} z h {f} {j} e = go (steps (bit b (markAt n)) _ e)
+after-bits {mask} l set room (tool t n) p z h e =
+    omega (arith, withTool-bits set room t n 2686 z 8 h (costs-body l t n (length-most n p)) e)
+after-bits {mask} l set room (fractionalRow k n) p z h e =
+    omega (arith, withTool-bits set room 11 n 2686 z 8 h (costs-fractional mask k n (length-most n p)) e)
+after-bits {mask} l set room (sixOrEight n) p {b} z h {f} {j} e = go (steps (bit b (markAt n)) _ e)
   where
-    decide : (mark t k : ℕ) → SixOrEight t → withTool mask set room t n mark b (markAt n + 1) ≡ whole f j → f .bits ≤ 3213
-    decide mark t k six d =
-        omega (
-          arith,
-          mark-first n,
-          length-most n p,
-          withTool-bits mask set room 6 n mark (6 + 10 * n) z (markAt n + 1)
-              (omega (arith, mark-first n)) (costs-six mask n mark p) d,
-        )
-    decide mark t k eight d = eight-out mask set room n mark b (markAt n + 1) d
+    decided : (mark m : ℕ) → Steps (sixNotEight b m) (λ t k. withTool set room t n (plusMinus mask n mark) b (markAt n + 1)) f j
+        → f .bits ≤ 3213
+    decided mark m (through t k q d) =
+        let cost = withTool-bits set room t n (6 + 10 * n) z (markAt n + 1) (omega (arith, mark-first n)) (costs-plusMinus mask n mark p) d in
+        omega (arith, mark-first n, length-most n p, cost)
 
-    decided : (mark m : ℕ) → Steps (sixNotEight b m) (λ t k. withTool mask set room t n mark b (markAt n + 1)) f j → f .bits ≤ 3213
-    decided mark m (through t k q d) = decide mark t k (six-or-eight b m t k q) d
-
-    go : Steps (bit b (markAt n)) (λ mark m. (sixNotEight >>= (λ t. from (markAt n + 1) (withTool mask set room t n mark))) b m) f j
+    go : Steps (bit b (markAt n))
+        (λ mark m. (sixNotEight >>= (λ t. from (markAt n + 1) (withTool set room t n (plusMinus mask n mark)))) b m) f j
         → f .bits ≤ 3213
     go (through mark m q d) = decided mark m (steps (sixNotEight b m) _ d)
 
@@ -377,11 +369,11 @@ frame-bits : {mask : ℕ} → LawMask mask → (set room : ℕ) {b : List ℕ} �
 unfolding frame
 frame-bits {mask} l set room {b} z {f} {j} e = go (steps (number 8 b 0) _ e)
   where
-    go : Steps (number 8 b 0) (λ o k. afterFirst mask set room o (firstOctet o) b k) f j → f .bits ≤ 3213
+    go : Steps (number 8 b 0) (λ o k. afterFirst mask set room (firstOctet o) b k) f j → f .bits ≤ 3213
     go (through o k q d) =
         let g = gives-number 8 .on z (omega arith) q in
         let p : 8 ≡ k = number-next 0 8 b 0 q in
-        after-bits l set room o (firstOctet o) (first-plain o (g .2)) z (omega (arith, g .1)) (rw (← p) at d)
+        after-bits l set room (firstOctet o) (first-plain o (g .2)) z (omega (arith, g .1)) (rw (← p) at d)
 
 -- Bounded: "An accepted one has at most 402", 3,213 bits
 pub bounded : (octets : List ℕ) (law set room : ℕ) {f : Found} {j : ℕ} → readOne octets law set room ≡ whole f j
@@ -394,33 +386,26 @@ bounded octets law set room e =
     (b, omega arith)
 
 -- Tool 11: "worked out anew", it has at most 648 bits, 81 octets
-withTool-tool : (mask set room t n mark : ℕ) (b : List ℕ) (i : ℕ) {f : Found} {j : ℕ} → withTool mask set room t n mark b i ≡ whole f j
-    → f .tool ≡ t
+withTool-tool : (set room t n : ℕ) (r : Reader (List ℕ)) (b : List ℕ) (i : ℕ) {f : Found} {j : ℕ}
+    → withTool set room t n r b i ≡ whole f j → f .tool ≡ t
 unfolding withTool
-withTool-tool mask set room t n mark b i {f} {j} e =
+withTool-tool set room t n r b i {f} {j} e =
     let p = not-refused (not (holds set t)) (Tool t) 0 _ b i e in
     let q = not-refused (ltb room n) Room 0 _ b i (p .1) in
-    go (steps (body mask t n mark b i) _ (q .1))
+    go (steps (r b i) _ (q .1))
   where
-    go : Steps (body mask t n mark b i) (λ s m. filled (record { tool = t; samples = s; bits = m }) (fillFor m) b m) f j → f .tool ≡ t
+    go : Steps (r b i) (λ s m. filled (record { tool = t; samples = s; bits = m }) (fillFor m) b m) f j → f .tool ≡ t
     go (through s m d c) = ap (λ (x : Found). x .tool) (sym (filled-is (record { tool = t; samples = s; bits = m }) (fillFor m) b m c .0))
 
 row-bits : (mask set room n k : ℕ) → isLength n ≡ true → k < rowCount n → {b : List ℕ} → Below 2 b → 8 ≤ length b
-    → {f : Found} {j : ℕ} → withTool mask set room 11 n k b 8 ≡ whole f j → f .bits ≤ 648
-unfolding body
+    → {f : Found} {j : ℕ} → withTool set room 11 n (fractional mask k n) b 8 ≡ whole f j → f .bits ≤ 648
 row-bits mask set room n k len few {b} z h {f} {j} e =
     let m = fractional-most n k len few in
-    let g : Costs 0 (λ s. 640) (body mask 11 n k) = costs-near 640 (near-more (bodyBits k n) 640 m (near-fractional mask k n)) in
-    omega (arith, withTool-bits mask set room 11 n k 640 z 8 h g e)
-
-row-told : (n o : ℕ) → isCode n o ≡ true → rowIn o 11 n < rowCount n
-row-told n o c =
-    let low = leb-true (firstCode n) o (and-left (leb (firstCode n) o) (ltb o (firstCode n + rowCount n)) c) in
-    let high = ltb-true o (firstCode n + rowCount n) (and-right (leb (firstCode n) o) (ltb o (firstCode n + rowCount n)) c) in
-    omega arith
+    let g : Costs 0 (λ s. 640) (fractional mask k n) = costs-near 640 (near-more (bodyBits k n) 640 m (near-fractional mask k n)) in
+    omega (arith, withTool-bits set room 11 n 640 z 8 h g e)
 
 after-eleven : (mask set room o : ℕ) (first : First) → asWritten o first ≡ true → {b : List ℕ} → Below 2 b → 8 ≤ length b
-    → {f : Found} {j : ℕ} → afterFirst mask set room o first b 8 ≡ whole f j → f .tool ≡ 11 → f .bits ≤ 648
+    → {f : Found} {j : ℕ} → afterFirst mask set room first b 8 ≡ whole f j → f .tool ≡ 11 → f .bits ≤ 648
 unfolding afterFirst
 after-eleven mask set room o unassigned w z h e is = no-refusal e
 after-eleven mask set room o pad w z h {f} {j} e is =
@@ -428,21 +413,22 @@ after-eleven mask set room o pad w z h {f} {j} e is =
     let t : 0 ≡ f .tool = ap (λ (x : Found). x .tool) v in
     absurd (omega arith)
 after-eleven mask set room o (tool t n) w {b} z h {f} {j} e is =
-    let t-is : t ≡ 11 = sym (withTool-tool mask set room t n (rowIn o t n) b 8 e) ∙ is in
-    let d : withTool mask set room 11 n (rowIn o 11 n) b 8 ≡ whole f j = rw t-is at e in
-    let c : isLength n && isCode n o ≡ true = rw t-is at w in
-    row-bits mask set room n (rowIn o 11 n) (and-left (isLength n) (isCode n o) c)
-    (row-told n o (and-right (isLength n) (isCode n o) c)) z h d
+    let other = and-left (not (eqb t 6 || eqb t 11)) _ (and-right (isLength n) _ w) in
+    let eleven : t ≡ 11 = sym (withTool-tool set room t n (body mask t n) b 8 e) ∙ is in
+    absurd (false≢true (rw eleven at other))
+after-eleven mask set room o (fractionalRow k n) w z h e is =
+    let few = and-left (ltb k (rowCount n)) _ (and-right (isLength n) _ w) in
+    row-bits mask set room n k (and-left (isLength n) _ w) (ltb-true k (rowCount n) few) z h e
 after-eleven mask set room o (sixOrEight n) w {b} z h {f} {j} e is = go (steps (bit b (markAt n)) _ e)
   where
-    decide : (mark t : ℕ) → SixOrEight t → withTool mask set room t n mark b (markAt n + 1) ≡ whole f j → f .bits ≤ 648
-    decide mark t six d = absurd (omega (arith, is, withTool-tool mask set room 6 n mark b (markAt n + 1) d))
-    decide mark t eight d = eight-out mask set room n mark b (markAt n + 1) d
+    decide : (mark t : ℕ) → SixOrEight t → withTool set room t n (plusMinus mask n mark) b (markAt n + 1) ≡ whole f j → f .bits ≤ 648
+    decide mark t six d = absurd (omega (arith, is, withTool-tool set room 6 n (plusMinus mask n mark) b (markAt n + 1) d))
+    decide mark t eight d = eight-out set room n (plusMinus mask n mark) b (markAt n + 1) d
 
-    decided : (mark m : ℕ) → Steps (sixNotEight b m) (λ t k. withTool mask set room t n mark b (markAt n + 1)) f j → f .bits ≤ 648
+    decided : (mark m : ℕ) → Steps (sixNotEight b m) (λ t k. withTool set room t n (plusMinus mask n mark) b (markAt n + 1)) f j → f .bits ≤ 648
     decided mark m (through t k q d) = decide mark t (six-or-eight b m t k q) d
 
-    go : Steps (bit b (markAt n)) (λ mark m. (sixNotEight >>= (λ t. from (markAt n + 1) (withTool mask set room t n mark))) b m) f j
+    go : Steps (bit b (markAt n)) (λ mark m. (sixNotEight >>= (λ t. from (markAt n + 1) (withTool set room t n (plusMinus mask n mark)))) b m) f j
         → f .bits ≤ 648
     go (through mark m q d) = decided mark m (steps (sixNotEight b m) _ d)
 
@@ -451,7 +437,7 @@ frame-eleven : (mask set room : ℕ) {b : List ℕ} → Below 2 b → {f : Found
 unfolding frame
 frame-eleven mask set room {b} z {f} {j} e is = go (steps (number 8 b 0) _ e)
   where
-    go : Steps (number 8 b 0) (λ o k. afterFirst mask set room o (firstOctet o) b k) f j → f .bits ≤ 648
+    go : Steps (number 8 b 0) (λ o k. afterFirst mask set room (firstOctet o) b k) f j → f .bits ≤ 648
     go (through o k q d) =
         let g = gives-number 8 .on z (omega arith) q in
         let p : 8 ≡ k = number-next 0 8 b 0 q in

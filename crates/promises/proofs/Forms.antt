@@ -6,7 +6,7 @@ use mathlib.Core.List.{List, [], _∷_, _++_, map, append-nil}
 use mathlib.Core.Bool.{Bool, true, false, cond}
 use lib.ListN.{length, getD}
 use lib.Dec.{eqb, leb, ltb}
-use borrow.Author.Tests.{le-leb, ltb-true}
+use borrow.Author.Tests.{le-leb}
 use Rattle.rules.specs.Tools.{isTool, holds, isLength}
 use Rattle.rules.specs.Bits.{lowBits, bitsOf}
 use Rattle.rules.specs.First.{octetFor}
@@ -15,16 +15,17 @@ use Rattle.rules.specs.Runs.{riceForm, riceForms, runsOf, runsForm}
 use Rattle.rules.specs.Zeros.{prefix, uncompressedForm, plusForm, minusForm, constantForm}
 use Rattle.rules.specs.Zeros.{binaryForm, plusMinusForm, flagOf, codesOf, mostS}
 use Rattle.rules.specs.Located.{valuesOf, widthOf}
-use Rattle.rules.specs.Fractional.{firstCode, rowCount, fractionalBody}
+use Rattle.rules.specs.Fractional.{firstCode, fractionalBody}
 use Rattle.rules.specs.Frame.{body, frame}
 use Rattle.rules.specs.Chooses.{countOf, markOf, bestS, riceBits, riceChoice, flagsFor}
 use Rattle.rules.specs.Chooses.{without, placesOf, numbersForm, methodOf, methodForm}
-use Rattle.rules.specs.Chooses.{valueForm, valuesForm, rowOf, locatedFlag, locatedForm}
-use Rattle.rules.specs.Chooses.{fractionalRow, fractionalApplies, fractionalForm, applies, formOf}
+use Rattle.rules.specs.Chooses.{valueForm, valuesForm, rowNumber, rowOf, locatedFlag, locatedForm}
+use Rattle.rules.specs.Chooses.{frameRow, fractionalApplies, fractionalForm, applies, formOf}
 use Rattle.rules.proofs.Octets.{Below, none, more, below-append, below-replicate, below-at, lowBits-below, bitsOf-below}
 use Rattle.rules.proofs.Signed.{LawMask}
 use Rattle.rules.proofs.Firsts.{hasOwn}
 use Rattle.rules.proofs.Tests.{by-length, by-tool}
+use Rattle.rules.proofs.FrameRow.{the-row}
 use Rattle.rules.proofs.Each.{pick-below, Each, each-of}
 use Rattle.promises.proofs.Back.{Back}
 use Rattle.promises.proofs.Zeros.{isZero, flags-below, back-uncompressed, back-constantly}
@@ -96,10 +97,10 @@ form-below mask t s l =
     (below-cond (eqb t 5) (below-append (lowBits-below 8 (octetFor 5 (length s))) (flags-below mask 0 s))
     (below-cond (eqb t 6) (plusMinusForm-below mask (markOf mask s) (bestS mask (markOf mask s) s) s l (mark-small mask s) (r .0) (r .1))
     (below-cond (eqb t 11)
-    (below-append (lowBits-below 8 (firstCode (length s) + fractionalRow mask s)) (fractionalBody-below mask (fractionalRow mask s) s))
+    (below-append (lowBits-below 8 (firstCode (length s) + rowNumber (frameRow mask s))) (fractionalBody-below mask (rowNumber (frameRow mask s)) s))
     (below-append (lowBits-below 8 (octetFor 7 (length s)))
-    (below-append (lowBits-below 2 (rowOf mask s)) (below-append (lowBits-below 1 (locatedFlag mask s))
-    (valuesForm-below (map (sampleOf mask) (valuesOf (length s) (rowOf mask s) (locatedFlag mask s))) s))))))))))
+    (below-append (lowBits-below 2 (rowNumber (rowOf mask s))) (below-append (lowBits-below 1 (locatedFlag mask s))
+    (valuesForm-below (map (sampleOf mask) (valuesOf (length s) (rowNumber (rowOf mask s)) (locatedFlag mask s))) s))))))))))
 
 -- the form of a frame, with its filling bits, is read as that frame by every reader that holds the tool and has the room, whatever follows
 pub record Restores (mask t : ℕ) (s form : List ℕ) : Type 0 where
@@ -112,7 +113,7 @@ uncompressed-restores mask s l b =
     record { reads = λ set room post h r. read-own mask set room 1 (length s) (bitsOf s) post s l refl h r (back-uncompressed s b) }
 
 -- a form that is a first octet alone
-alone : (mask t : ℕ) (s : List ℕ) → isLength (length s) ≡ true → hasOwn (length s) t ≡ true → Back (body mask t (length s) 0) [] s
+alone : (mask t : ℕ) (s : List ℕ) → isLength (length s) ≡ true → hasOwn (length s) t ≡ true → Back (body mask t (length s)) [] s
     → Restores mask t s (prefix t (length s))
 alone mask t s l o back =
     record {
@@ -168,9 +169,9 @@ located-restores {mask} law s l b a =
     record {
       reads = λ set room post h r.
           read-own mask set room 7 (length s)
-          (lowBits 2 (rowOf mask s)
+          (lowBits 2 (rowNumber (rowOf mask s))
           ++ (lowBits 1 (locatedFlag mask s) ++ valuesForm
-          (map (sampleOf mask) (valuesOf (length s) (rowOf mask s) (locatedFlag mask s))) s))
+          (map (sampleOf mask) (valuesOf (length s) (rowNumber (rowOf mask s)) (locatedFlag mask s))) s))
           post s l (le-leb 80 (length s) (a .long)) h r (back-located law s b a);
     }
 
@@ -180,8 +181,8 @@ unfolding body fractionalForm
 fractional-restores {mask} law s l b a =
     record {
       reads = λ set room post h r.
-          read-row mask set room (fractionalRow mask s) (length s) (fractionalBody mask (fractionalRow mask s) s) post s l
-          (ltb-true (fractionalRow mask s) (rowCount (length s)) a) h r (back-fractional law s l b a);
+          read-row mask set room (rowNumber (frameRow mask s)) (length s) (fractionalBody mask (rowNumber (frameRow mask s)) s) post s l
+          (the-row mask s a .own) h r (back-fractional law s l b a);
     }
 
 -- every tool's form of every frame that it applies to

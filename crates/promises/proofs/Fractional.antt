@@ -11,17 +11,17 @@ use mathlib.Core.Bool.{Bool, true, false, cond, not, _||_}
 use lib.ListN.{length, getD, take, drop, length-drop, take-append-drop, length-map}
 use lib.Seq.{length-take-le}
 use lib.Dec.{ltb, eqb, leb}
-use borrow.Author.Tests.{lt-ltb, ltb-true, leb-true, eqb-true}
+use borrow.Author.Tests.{lt-ltb, leb-true, eqb-true}
 use Rattle.rules.specs.declared.Refusal.{Refusal}
 use Rattle.rules.specs.declared.Refusal.the-variants.{Short, Tool, Room, Run, Place, Align}
 use Rattle.rules.specs.Refusals.{refusalNumber}
 use Rattle.rules.specs.Tools.{holds, isLength}
 use Rattle.rules.specs.Bits.{fillFor}
 use Rattle.rules.specs.Reading.{Read, whole, refuse, andThen, _>>=_, fail, here, bit, numberFrom, number, filled}
-use Rattle.rules.specs.Fractional.{valuesAt, rowCount, radix, groupOf, bitsFor, bodyBits, Packs, ofDigits, digitsOf}
+use Rattle.rules.specs.Fractional.{valuesAt, rowCount, radix, Coding, groupOf, bitsFor, codingOf, bodyBits, Packs, ofDigits, digitsOf}
 use Rattle.rules.specs.Fractional.{groupsFrom, groupsForm, placeIn, groupsAs, groupsFormAs, samplesAt, fractional, fractionalBody}
-use Rattle.rules.specs.Frame.{Found, body, withTool}
-use Rattle.rules.specs.Chooses.{fractionalRow, fractionalApplies}
+use Rattle.rules.specs.Frame.{Found, withTool}
+use Rattle.rules.specs.Chooses.{rowNumber, frameRow, fractionalApplies}
 use Rattle.rules.proofs.Octets.{Below, below-take, below-drop, below-append, lowBits-below, none}
 use Rattle.rules.proofs.Tests.{implied, allBelow, allBelow-at, by-length, forties}
 use Rattle.rules.proofs.Signed.{LawMask}
@@ -30,17 +30,20 @@ use Rattle.rules.proofs.Gives.{no-refusal, same-place}
 use Rattle.rules.proofs.Accepted.{Steps, through, steps, number-next}
 use Rattle.rules.proofs.Firsts.{rows-few}
 use Rattle.rules.proofs.Fractional.{digits-back, digits-fit, Among, places-back, places-below, radix-range, length-samplesAt, packs-of}
-use Rattle.rules.proofs.FrameRow.{row-low, row-among}
+use Rattle.rules.proofs.FrameRow.{the-row, row-among}
 use Rattle.promises.proofs.Back.{Back, back-give, back-bind, back-here, back-as, back-number}
 use Rattle.promises.proofs.Reach.{Near, near-give, near-fail, near-here, near-then, near-cond, near-more, near-numberFrom}
 
 -- Back
-back-groups : {r g w n : ℕ} → Packs r g w n → (k : ℕ) (done ds : List ℕ) → Below r ds → length ds ≡ k * g
-    → Back (groupsFrom r g w done k) (groupsForm r g w k ds) (done ++ ds)
+back-groups : {c : Coding} {n : ℕ} → Packs c n → (k : ℕ) (done ds : List ℕ) → Below (c .radix) ds → length ds ≡ k * c .group
+    → Back (groupsFrom c done k) (groupsForm c k ds) (done ++ ds)
 unfolding groupsFrom groupsForm
 back-groups p zero done [] b e = back-as (back-give done) refl refl (sym (append-nil done))
 back-groups p zero done (d ∷ ds) b e = absurd (omega arith)
-back-groups {r} {g} {w} p (suc k) done ds b e =
+back-groups {c} p (suc k) done ds b e =
+    let r = c .radix in
+    let g = c .group in
+    let w = c .bits in
     let l : length (take g ds) ≡ g = length-take-le g ds (omega arith) in
     let v = ofDigits r (take g ds) in
     let h : v < r ^ g = rw l at (digits-fit (below-take g b)) in
@@ -51,53 +54,53 @@ back-groups {r} {g} {w} p (suc k) done ds b e =
     back-here _ (λ i. back-bind (number w) _ (back-number w v (lt-of-lt-of-le h (p .fits)))
     (rw (lt-ltb v (r ^ g) h, d) (back-as (back-groups p k (done ++ take g ds) (drop g ds) (below-drop g b) n) refl refl m)))
 
-back-groupsAs : (values : List ℕ) {g w : ℕ} (s : List ℕ) → Packs (length values) g w (length s)
-    → Among values s → Back (groupsAs values (length values) g w (length s)) (groupsFormAs values (length values) g w s) s
+back-groupsAs : (values : List ℕ) (c : Coding) (s : List ℕ) → length values ≡ c .radix → Packs c (length s)
+    → Among values s → Back (groupsAs values c (length s)) (groupsFormAs values c s) s
 unfolding groupsAs groupsFormAs
-back-groupsAs values {g} {w} s p a =
+back-groupsAs values c s e p a =
     let digits = map (placeIn values) s in
-    let l : length digits ≡ length s / g * g = length-map s (placeIn values) ∙ sym (p .whole) in
-    back-as (back-bind _ _ (back-groups p (length s / g) [] digits (places-below values a) l)
+    let l : length digits ≡ length s / c .group * c .group = length-map s (placeIn values) ∙ sym (p .whole) in
+    back-as (back-bind _ _ (back-groups p (length s / c .group) [] digits (rw e at (places-below values a)) l)
     (back-give (map (λ d. getD values d 0) digits)))
     refl (append-nil _) (places-back values a)
 
 -- the five lengths are multiples of forty
 pub back-fractional : {mask : ℕ} → LawMask mask → (s : List ℕ) → isLength (length s) ≡ true → Below 256 s → fractionalApplies mask s ≡ true
-    → Back (fractional mask (fractionalRow mask s) (length s)) (fractionalBody mask (fractionalRow mask s) s) s
+    → Back (fractional mask (rowNumber (frameRow mask s)) (length s)) (fractionalBody mask (rowNumber (frameRow mask s)) s) s
 back-fractional {mask} law s l b a =
-    let k = fractionalRow mask s in
-    let h : k < rowCount (length s) = ltb-true k (rowCount (length s)) a in
-    let r = radix-range k (row-low mask s h) in
-    let e = length-samplesAt mask k in
-    rw e at (back-groupsAs (samplesAt mask k) {g = groupOf (radix k)} {w = bitsFor (radix k)} s
-    (rw e (packs-of (radix k) (length s) (r .0) (r .1) (length-most (length s) l) (forties (length s) l))) (row-among law s b h))
+    let k = rowNumber (frameRow mask s) in
+    let r = radix-range k (the-row mask s a .few) in
+    back-groupsAs (samplesAt mask k) (codingOf (radix k)) s (length-samplesAt mask k)
+    (packs-of (radix k) (length s) (r .0) (r .1) (length-most (length s) l) (forties (length s) l)) (row-among law s b a)
 
 -- every body is bits
-groupsForm-below : (r g w m : ℕ) (ds : List ℕ) → Below 2 (groupsForm r g w m ds)
+groupsForm-below : (c : Coding) (m : ℕ) (ds : List ℕ) → Below 2 (groupsForm c m ds)
 unfolding groupsForm
-groupsForm-below r g w zero ds = none
-groupsForm-below r g w (suc m) ds = below-append (lowBits-below w (ofDigits r (take g ds))) (groupsForm-below r g w m (drop g ds))
+groupsForm-below c zero ds = none
+groupsForm-below c (suc m) ds =
+    below-append (lowBits-below (c .bits) (ofDigits (c .radix) (take (c .group) ds))) (groupsForm-below c m (drop (c .group) ds))
 
 pub fractionalBody-below : (mask k : ℕ) (s : List ℕ) → Below 2 (fractionalBody mask k s)
 unfolding groupsFormAs
-fractionalBody-below mask k s = groupsForm-below _ _ _ _ _
+fractionalBody-below mask k s = groupsForm-below (codingOf (radix k)) (length s / groupOf (radix k)) (map (placeIn (samplesAt mask k)) s)
 
--- how far it goes: w bits a group
-pub near-groups : (r g w : ℕ) (done : List ℕ) (m : ℕ) → Near (w * m) (groupsFrom r g w done m)
+-- how far it goes: so many bits a group
+pub near-groups : (c : Coding) (done : List ℕ) (m : ℕ) → Near (c .bits * m) (groupsFrom c done m)
 unfolding groupsFrom
-near-groups r g w done zero = near-more 0 (w * 0) (omega arith) (near-give done)
-near-groups r g w done (suc m) =
+near-groups c done zero = near-more 0 (c .bits * 0) (omega arith) (near-give done)
+near-groups c done (suc m) =
+    let w = c .bits in
     near-more (0 + (w + w * m)) (w * suc m) (omega (arith, mul-suc w m))
     (near-then 0 (w + w * m) near-here (λ start. near-then w (w * m) (near-numberFrom 0 w) (λ v.
-    near-cond (w * m) (ltb v (r ^ g)) (near-groups r g w (done ++ digitsOf r g v) m) (near-fail (w * m) Place start))))
+    near-cond (w * m) (ltb v (c .radix ^ c .group)) (near-groups c (done ++ digitsOf (c .radix) (c .group) v) m)
+    (near-fail (w * m) Place start))))
 
 pub near-fractional : (mask k n : ℕ) → Near (bodyBits k n) (fractional mask k n)
 unfolding groupsAs
 near-fractional mask k n =
-    let g = groupOf (radix k) in
-    let most = bitsFor (radix k) * (n / g) in
+    let most = bodyBits k n in
     near-more (most + 0) most (omega arith)
-    (near-then most 0 (near-groups (radix k) g (bitsFor (radix k)) [] (n / g))
+    (near-then most 0 (near-groups (codingOf (radix k)) [] (n / groupOf (radix k)))
     (λ digits. near-give (map (λ d. getD (samplesAt mask k) d 0) digits)))
 
 -- of a row of the length: 640 at most, 80 octets, and whole ones
@@ -125,32 +128,36 @@ fractional-filled n k l h =
     omega arith
 
 -- it goes exactly so far
-groups-next : (r g w : ℕ) (done : List ℕ) (m : ℕ) (b : List ℕ) (i : ℕ) {ds : List ℕ} {j : ℕ} → groupsFrom r g w done m b i ≡ whole ds j
-    → i + w * m ≡ j
+groups-next : (c : Coding) (done : List ℕ) (m : ℕ) (b : List ℕ) (i : ℕ) {ds : List ℕ} {j : ℕ} → groupsFrom c done m b i ≡ whole ds j
+    → i + c .bits * m ≡ j
 unfolding groupsFrom
-groups-next r g w done zero b i e = omega (arith, same-place e)
-groups-next r g w done (suc m) b i {ds} {j} e = go (λ v k. groups-next r g w (done ++ digitsOf r g v) m b k)
-    (steps (numberFrom 0 w b i) _ e)
+groups-next c done zero b i e = omega (arith, same-place e)
+groups-next c done (suc m) b i {ds} {j} e = go (λ v k. groups-next c (on v) m b k) (steps (numberFrom 0 w b i) _ e)
   where
-    one : (v k : ℕ) (t : Bool) → i + w ≡ k → (groupsFrom r g w (done ++ digitsOf r g v) m b k ≡ whole ds j → k + w * m ≡ j)
-        → cond t (groupsFrom r g w (done ++ digitsOf r g v) m) (fail Place i) b k ≡ whole ds j → i + w * suc m ≡ j
+    w : ℕ
+    w = c .bits
+
+    on : ℕ → List ℕ
+    on v = done ++ digitsOf (c .radix) (c .group) v
+
+    one : (v k : ℕ) (t : Bool) → i + w ≡ k → (groupsFrom c (on v) m b k ≡ whole ds j → k + w * m ≡ j)
+        → cond t (groupsFrom c (on v) m) (fail Place i) b k ≡ whole ds j → i + w * suc m ≡ j
     one v k true q later d = omega (arith, later d, mul-suc w m)
     one v k false q later d = no-refusal d
 
-    go : ((v k : ℕ) → groupsFrom r g w (done ++ digitsOf r g v) m b k ≡ whole ds j → k + w * m ≡ j)
-        → Steps (numberFrom 0 w b i) (λ v k. cond (ltb v (r ^ g)) (groupsFrom r g w (done ++ digitsOf r g v) m) (fail Place i) b k) ds j
+    go : ((v k : ℕ) → groupsFrom c (on v) m b k ≡ whole ds j → k + w * m ≡ j)
+        → Steps (numberFrom 0 w b i) (λ v k. cond (ltb v (c .radix ^ c .group)) (groupsFrom c (on v) m) (fail Place i) b k) ds j
         → i + w * suc m ≡ j
-    go later (through v k q d) = one v k (ltb v (r ^ g)) (number-next 0 w b i q) (later v k) d
+    go later (through v k q d) = one v k (ltb v (c .radix ^ c .group)) (number-next 0 w b i q) (later v k) d
 
 pub fractional-next : (mask k n : ℕ) (b : List ℕ) (i : ℕ) {s : List ℕ} {j : ℕ} → fractional mask k n b i ≡ whole s j → i + bodyBits k n ≡ j
 unfolding groupsAs
 fractional-next mask k n b i {s} {j} e =
-    go (steps (groupsFrom (radix k) (groupOf (radix k)) (bitsFor (radix k)) [] (n / groupOf (radix k)) b i) _ e)
+    go (steps (groupsFrom (codingOf (radix k)) [] (n / groupOf (radix k)) b i) _ e)
   where
-    go : Steps (groupsFrom (radix k) (groupOf (radix k)) (bitsFor (radix k)) [] (n / groupOf (radix k)) b i)
+    go : Steps (groupsFrom (codingOf (radix k)) [] (n / groupOf (radix k)) b i)
         (λ digits m. whole (map (λ d. getD (samplesAt mask k) d 0) digits) m) s j → i + bodyBits k n ≡ j
-    go (through digits m q d) = groups-next (radix k) (groupOf (radix k)) (bitsFor (radix k)) [] (n / groupOf (radix k)) b i q
-        ∙ same-place d
+    go (through digits m q d) = groups-next (codingOf (radix k)) [] (n / groupOf (radix k)) b i q ∙ same-place d
 
 -- No RUN arises in this body, nor any other refusal than SHORT and PLACE.
 abbrev pub ShortOrPlace : {A : Type 0} → Read A → Type 0
@@ -172,16 +179,19 @@ short-number v zero b i = tt
 short-number v (suc n) b i = short-then (bit b i) (λ a j. numberFrom (2 * v + a) n b j) (short-bit (ltb i (length b)) (getD b i 0) i)
     (λ a j. short-number (2 * v + a) n b j)
 
-short-groups : (r g w : ℕ) (done : List ℕ) (m : ℕ) (b : List ℕ) (i : ℕ) → ShortOrPlace (groupsFrom r g w done m b i)
+short-groups : (c : Coding) (done : List ℕ) (m : ℕ) (b : List ℕ) (i : ℕ) → ShortOrPlace (groupsFrom c done m b i)
 unfolding groupsFrom
-short-groups r g w done zero b i = tt
-short-groups r g w done (suc m) b i =
-    short-then (numberFrom 0 w b i) (λ v j. cond (ltb v (r ^ g)) (groupsFrom r g w (done ++ digitsOf r g v) m) (fail Place i) b j)
-    (short-number 0 w b i)
-    (λ v j. one v j (ltb v (r ^ g)) (short-groups r g w (done ++ digitsOf r g v) m b j))
+short-groups c done zero b i = tt
+short-groups c done (suc m) b i =
+    short-then (numberFrom 0 (c .bits) b i) (λ v j. cond (ltb v (c .radix ^ c .group)) (groupsFrom c (on v) m) (fail Place i) b j)
+    (short-number 0 (c .bits) b i)
+    (λ v j. one v j (ltb v (c .radix ^ c .group)) (short-groups c (on v) m b j))
   where
-    one : (v j : ℕ) (t : Bool) → ShortOrPlace (groupsFrom r g w (done ++ digitsOf r g v) m b j)
-        → ShortOrPlace (cond t (groupsFrom r g w (done ++ digitsOf r g v) m) (fail Place i) b j)
+    on : ℕ → List ℕ
+    on v = done ++ digitsOf (c .radix) (c .group) v
+
+    one : (v j : ℕ) (t : Bool) → ShortOrPlace (groupsFrom c (on v) m b j)
+        → ShortOrPlace (cond t (groupsFrom c (on v) m) (fail Place i) b j)
     one v j true h = h
     one v j false h = inr refl
 
@@ -189,9 +199,9 @@ pub fractional-refused : (mask k n : ℕ) (b : List ℕ) (i : ℕ) → ShortOrPl
 unfolding groupsAs
 fractional-refused mask k n b i =
     let g = groupOf (radix k) in
-    short-then (groupsFrom (radix k) g (bitsFor (radix k)) [] (n / g) b i)
+    short-then (groupsFrom (codingOf (radix k)) [] (n / g) b i)
     (λ digits j. whole (map (λ d. getD (samplesAt mask k) d 0) digits) j)
-    (short-groups (radix k) g (bitsFor (radix k)) [] (n / g) b i) (λ digits j. tt)
+    (short-groups (codingOf (radix k)) [] (n / g) b i) (λ digits j. tt)
 
 -- So a frame of tool 11 is never RUN, and since its body fills whole octets, never ALIGN.
 abbrev pub NeitherRunNorAlign : Read Found → Type 0
@@ -224,6 +234,6 @@ module _ (mask set room n k : ℕ) (len : isLength n ≡ true) (few : k < rowCou
   judged true true = (other-number Room Run (omega arith), other-number Room Align (omega arith))
   judged true false = body-then (fractional mask k n b 8) refl (fractional-refused mask k n b 8)
 
-  pub eleven-refused : NeitherRunNorAlign (withTool mask set room 11 n k b 8)
-  unfolding withTool body
+  pub eleven-refused : NeitherRunNorAlign (withTool set room 11 n (fractional mask k n) b 8)
+  unfolding withTool
   eleven-refused = judged (holds set 11) (ltb room n)

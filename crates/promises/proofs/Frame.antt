@@ -8,14 +8,14 @@ use lib.ListN.{length, take, drop, replicate, length-append, length-replicate, t
 use lib.Seq.{take-append-add, length-take-le}
 use lib.Pow.{high}
 use lib.Dec.{ltb}
-use borrow.Author.Tests.{le-ltb, eq-eqb, ne-eqb, ltb-true}
+use borrow.Author.Tests.{le-ltb, eq-eqb, ltb-true}
 use Rattle.rules.specs.Tools.{holds, isLength}
 use Rattle.rules.specs.Bits.{lowBits, valueFrom, octetsFor, fillFor}
-use Rattle.rules.specs.Reading.{Read, whole, bit, number}
+use Rattle.rules.specs.Reading.{Read, whole, Reader, bit, number}
 use Rattle.rules.specs.First.{tool, sixOrEight, firstOctet, baseOf, octetFor, riceCode, lengthCode, isLong, markAt, sixNotEight}
-use Rattle.rules.specs.Zeros.{codesOf, codeOf, mostS}
-use Rattle.rules.specs.Fractional.{firstCode, rowCount}
-use Rattle.rules.specs.Frame.{Found, body, withTool, rowIn, afterFirst, frame}
+use Rattle.rules.specs.Zeros.{codesOf, codeOf, mostS, plusMinus}
+use Rattle.rules.specs.Fractional.{firstCode, rowCount, fractional}
+use Rattle.rules.specs.Frame.{Found, body, withTool, afterFirst, frame}
 use Rattle.rules.proofs.Octets.{Below, none, more, value-from, value-below, below-append, below-take, below-replicate}
 use Rattle.rules.proofs.Firsts.{hasOwn, own-low, first-of, rows-few, row-first, first-of-six}
 use Rattle.rules.proofs.Codes.{bit-seam}
@@ -32,10 +32,10 @@ abbrev pub filledBits : List ℕ → List ℕ
 filledBits b = b ++ replicate (fillFor (length b)) 0
 
 -- the tool is decided, `pre` is read, and the body's bits follow
-with-tool : (mask set room t n mark : ℕ) (pre b post s : List ℕ) → holds set t ≡ true → n ≤ room → Back (body mask t n mark) b s
-    → withTool mask set room t n mark (filledBits (pre ++ b) ++ post) (length pre) ≡ foundAt t s (length (pre ++ b))
+with-tool : (set room t n : ℕ) {p : Reader (List ℕ)} (pre b post s : List ℕ) → holds set t ≡ true → n ≤ room → Back p b s
+    → withTool set room t n p (filledBits (pre ++ b) ++ post) (length pre) ≡ foundAt t s (length (pre ++ b))
 unfolding withTool
-with-tool mask set room t n mark pre b post s h r back =
+with-tool set room t n pre b post s h r back =
     let fill : List ℕ = replicate (fillFor (length (pre ++ b))) 0 in
     let e : (((pre ++ b) ++ fill) ++ post) ≡ pre ++ (b ++ (fill ++ post)) = simp append-assoc in
     let l : length pre + length b ≡ length (pre ++ b) = sym (length-append pre b) in
@@ -55,7 +55,7 @@ own-octet n t l own =
     (by-length (λ n. allBelow (λ t. ltb (octetFor t n) 256) 8 ≡ true) refl refl refl refl refl n l) t (own-low n t own))
 
 pub read-own : (mask set room t n : ℕ) (b post s : List ℕ) → isLength n ≡ true → hasOwn n t ≡ true → holds set t ≡ true → n ≤ room
-    → Back (body mask t n 0) b s
+    → Back (body mask t n) b s
     → frame mask set room (filledBits (lowBits 8 (octetFor t n) ++ b) ++ post) 0 ≡ foundAt t s (length (lowBits 8 (octetFor t n) ++ b))
 unfolding frame afterFirst
 read-own mask set room t n b post s l own h r back =
@@ -64,8 +64,7 @@ read-own mask set room t n b post s l own h r back =
     let e : ((lowBits 8 o ++ b) ++ fill) ++ post ≡ lowBits 8 o ++ (b ++ (fill ++ post)) = simp append-assoc in
     let first : number 8 (filledBits (lowBits 8 o ++ b) ++ post) 0 ≡ whole o (length (lowBits 8 o))
     = rw e (back-first (back-number 8 o (own-octet n t l own)) (b ++ (fill ++ post))) in
-    rw (first, first-of n t l own, ne-eqb t 11 (λ e. omega (arith, own-low n t own)))
-    (with-tool mask set room t n 0 (lowBits 8 o) b post s h r back)
+    rw (first, first-of n t l own) (with-tool set room t n (lowBits 8 o) b post s h r back)
 
 -- Tool 11: its first octet tells its row
 codes-small : (n k : ℕ) → isLength n ≡ true → k < rowCount n → firstCode n + k < 256
@@ -79,11 +78,8 @@ codes-small n k l h =
           (omega arith) n l,
     )
 
-row-of-code : (n k : ℕ) → rowIn (firstCode n + k) 11 n ≡ k
-row-of-code n k = omega arith
-
 pub read-row : (mask set room k n : ℕ) (b post s : List ℕ) → isLength n ≡ true → k < rowCount n → holds set 11 ≡ true → n ≤ room
-    → Back (body mask 11 n k) b s → frame mask set room (filledBits (lowBits 8 (firstCode n + k) ++ b) ++ post) 0 ≡ foundAt 11 s
+    → Back (fractional mask k n) b s → frame mask set room (filledBits (lowBits 8 (firstCode n + k) ++ b) ++ post) 0 ≡ foundAt 11 s
     (length (lowBits 8 (firstCode n + k) ++ b))
 unfolding frame afterFirst
 read-row mask set room k n b post s l few h r back =
@@ -92,7 +88,7 @@ read-row mask set room k n b post s l few h r back =
     let e : ((lowBits 8 o ++ b) ++ fill) ++ post ≡ lowBits 8 o ++ (b ++ (fill ++ post)) = simp append-assoc in
     let first : number 8 (filledBits (lowBits 8 o ++ b) ++ post) 0 ≡ whole o (length (lowBits 8 o))
     = rw e (back-first (back-number 8 o (codes-small n k l few)) (b ++ (fill ++ post))) in
-    rw (first, row-first n k l few, row-of-code n k) (with-tool mask set room 11 n k (lowBits 8 o) b post s h r back)
+    rw (first, row-first n k l few) (with-tool set room 11 n (lowBits 8 o) b post s h r back)
 
 -- Tool 6: the first octet has its code, and bits of what follows
 value-append : (u : ℕ) (a b : List ℕ) → valueFrom u (a ++ b) ≡ valueFrom (valueFrom u a) b
@@ -200,7 +196,7 @@ decided (zeroOne {b = b}) front rest =
 
 six-steps : (mask set room n mark o j : ℕ) (w : List ℕ) (r : Read Found) → number 8 w 0 ≡ whole o 8 → firstOctet o ≡ sixOrEight n
     → bit w (markAt n) ≡ whole mark (markAt n + 1) → sixNotEight w (markAt n + 1) ≡ whole 6 j
-    → withTool mask set room 6 n mark w (markAt n + 1) ≡ r → frame mask set room w 0 ≡ r
+    → withTool set room 6 n (plusMinus mask n mark) w (markAt n + 1) ≡ r → frame mask set room w 0 ≡ r
 unfolding frame afterFirst
 six-steps mask set room n mark o j w r e f g h t = rw (e, f, g, h) t
 
@@ -211,7 +207,7 @@ an-octet a b h = simp (length-append, length-replicate) (omega arith)
 six-frame : (mask set room n mark : ℕ) (front code b post s : List ℕ) → NotEight code → length front ≡ markAt n → markAt n < 8
     → Below 2 (front ++ (mark ∷ [])) → Below 2 (code ++ b)
     → ((o : ℕ) → o < 256 → o / 2 ^ (8 - length (front ++ (mark ∷ []))) ≡ valueFrom 0 (front ++ (mark ∷ [])) → firstOctet o ≡ sixOrEight n)
-    → holds set 6 ≡ true → n ≤ room → Back (body mask 6 n mark) (code ++ b) s
+    → holds set 6 ≡ true → n ≤ room → Back (plusMinus mask n mark) (code ++ b) s
     → frame mask set room (filledBits ((front ++ (mark ∷ [])) ++ (code ++ b)) ++ post) 0 ≡ foundAt 6 s
     (length ((front ++ (mark ∷ [])) ++ (code ++ b)))
 six-frame mask set room n mark front code b post s d e f c low g h k back =
@@ -232,10 +228,10 @@ six-frame mask set room n mark front code b post s d e f c low g h k back =
     (g (valueFrom 0 (take 8 (pre ++ (body ++ fill)))) (eight .1) (eight .0))
     (rw (at, ← e) (bit-seam front mark (code ++ (b ++ (fill ++ post)))))
     (rw (on, ← lp) (six .1))
-    (rw (← lp) (with-tool mask set room 6 n mark pre body post s h k back))
+    (rw (← lp) (with-tool set room 6 n pre body post s h k back))
 
 pub read-six : (mask set room n mark r : ℕ) (b post s : List ℕ) → isLength n ≡ true → mark < 2 → 1 ≤ r → r ≤ mostS n
-    → Below 2 (codeOf n r ++ b) → holds set 6 ≡ true → n ≤ room → Back (body mask 6 n mark) (codeOf n r ++ b) s
+    → Below 2 (codeOf n r ++ b) → holds set 6 ≡ true → n ≤ room → Back (plusMinus mask n mark) (codeOf n r ++ b) s
     → frame mask set room (filledBits (riceCode n mark ++ (codeOf n r ++ b)) ++ post) 0 ≡ foundAt 6 s
     (length (riceCode n mark ++ (codeOf n r ++ b)))
 read-six mask set room n mark r b post s l m p q low h k back =

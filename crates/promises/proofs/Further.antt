@@ -17,11 +17,11 @@ use Rattle.rules.specs.Reading.{Read, whole, refuse, Reader, andThen, _>>=_, gi
 use Rattle.rules.specs.Reading.{here, bit, numberFrom, number, bitsFrom, octetsAfter, filled}
 use Rattle.rules.specs.Samples.{maskOf, sampleOf, plusZero, minusZero}
 use Rattle.rules.specs.Runs.{zerosFrom, rice, runsFrom}
-use Rattle.rules.specs.Zeros.{Tree, leaf, fork, treeOf, readTree, zeroOf}
+use Rattle.rules.specs.Zeros.{Tree, leaf, fork, treeOf, readTree, zeroOf, plusMinus}
 use Rattle.rules.specs.Located.{widthOf, listedFrom, listed, byMethod, emptyIn, lay, valuesInto, valuesOf, located}
-use Rattle.rules.specs.First.{First, unassigned, pad, tool, sixOrEight, firstOctet, markAt, sixNotEight}
-use Rattle.rules.specs.Fractional.{radix, groupOf, bitsFor, digitsOf, groupsFrom, groupsAs, samplesAt, fractional}
-use Rattle.rules.specs.Frame.{Found, octetsUsed, body, withTool, rowIn, afterFirst, frame, readOne}
+use Rattle.rules.specs.First.{First, unassigned, pad, tool, fractionalRow, sixOrEight, firstOctet, markAt, sixNotEight}
+use Rattle.rules.specs.Fractional.{radix, Coding, groupOf, codingOf, digitsOf, groupsFrom, groupsAs, samplesAt, fractional}
+use Rattle.rules.specs.Frame.{Found, octetsUsed, body, withTool, afterFirst, frame, readOne}
 use Rattle.rules.proofs.Accepted.{Steps, through, steps, frame-accepts, read-accepts}
 use Rattle.rules.proofs.Octets.{length-bitsOf, bitsOf-append, bitsOf-below}
 use Rattle.rules.proofs.Signed.{law-mask}
@@ -168,37 +168,38 @@ firm-located mask n =
     firm-cond (eqb (length (valuesOf n c flag)) 0) (firm-fail Case start)
     (firm-valuesInto n (plusZero mask) (map (sampleOf mask) (valuesOf n c flag)) (replicate n (plusZero mask))))))
 
-pub firm-groups : (r g w : ℕ) (done : List ℕ) (m : ℕ) → Firm (groupsFrom r g w done m)
+pub firm-groups : (c : Coding) (done : List ℕ) (m : ℕ) → Firm (groupsFrom c done m)
 unfolding groupsFrom
-firm-groups r g w done zero = firm-give done
-firm-groups r g w done (suc m) =
-    firm-bind firm-here (λ start. firm-bind (firm-numberFrom 0 w) (λ v.
-    firm-cond (ltb v (r ^ g)) (firm-groups r g w (done ++ digitsOf r g v) m) (firm-fail Place start)))
+firm-groups c done zero = firm-give done
+firm-groups c done (suc m) =
+    firm-bind firm-here (λ start. firm-bind (firm-numberFrom 0 (c .bits)) (λ v.
+    firm-cond (ltb v (c .radix ^ c .group)) (firm-groups c (done ++ digitsOf (c .radix) (c .group) v) m) (firm-fail Place start)))
 
-firm-fractional : (mask k n : ℕ) → Firm (fractional mask k n)
+pub firm-fractional : (mask k n : ℕ) → Firm (fractional mask k n)
 unfolding groupsAs
 firm-fractional mask k n =
-    let g = groupOf (radix k) in
-    firm-bind (firm-groups (radix k) g (bitsFor (radix k)) [] (n / g)) (λ digits. firm-give (map (λ d. getD (samplesAt mask k) d 0) digits))
+    firm-bind (firm-groups (codingOf (radix k)) [] (n / groupOf (radix k)))
+    (λ digits. firm-give (map (λ d. getD (samplesAt mask k) d 0) digits))
 
-pub firm-body : (mask t n mark : ℕ) → Firm (body mask t n mark)
+pub firm-plusMinus : (mask n mark : ℕ) → Firm (plusMinus mask n mark)
+firm-plusMinus mask n mark =
+    firm-bind (firm-readTree (treeOf n)) (λ s. firm-bind (firm-runsFrom n s n n []) (λ flags. firm-give (map (zeroOf mask mark) flags)))
+
+pub firm-body : (mask t n : ℕ) → Firm (body mask t n)
 unfolding body
-firm-body mask t n mark =
+firm-body mask t n =
     firm-cond (eqb t 1) (firm-octetsAfter [] n)
     (firm-cond (eqb t 2) (firm-give (replicate n (plusZero mask)))
     (firm-cond (eqb t 3) (firm-give (replicate n (minusZero mask)))
     (firm-cond (eqb t 4) (firm-bind (firm-numberFrom 0 8) (λ x. firm-give (replicate n x)))
     (firm-cond (eqb t 5) (firm-bind (firm-bitsFrom [] n) (λ flags. firm-give (map (zeroOf mask 0) flags)))
-    (firm-cond (eqb t 6)
-    (firm-bind (firm-readTree (treeOf n)) (λ s. firm-bind (firm-runsFrom n s n n []) (λ flags. firm-give (map (zeroOf mask mark) flags))))
-    (firm-cond (eqb t 11) (firm-fractional mask mark n)
-    (firm-located mask n)))))))
+    (firm-located mask n)))))
 
-pub firm-withTool : (mask set room t n mark : ℕ) → Firm (withTool mask set room t n mark)
+pub firm-withTool : (set room t n : ℕ) {r : Reader (List ℕ)} → Firm r → Firm (withTool set room t n r)
 unfolding withTool
-firm-withTool mask set room t n mark =
+firm-withTool set room t n g =
     firm-cond (not (holds set t)) (firm-fail (Tool t) 0) (firm-cond (ltb room n) (firm-fail Room 0)
-    (firm-bind (firm-body mask t n mark)
+    (firm-bind g
     (λ s. firm-bind firm-here (λ bits. firm-filled (record { tool = t; samples = s; bits = bits }) (fillFor bits)))))
 
 pub far-firm : {A : Type 0} {p : Reader A} → Firm p → Far 0 p
@@ -217,8 +218,8 @@ far-tree : (n : ℕ) → Far 2 (readTree (treeOf n))
 unfolding treeOf
 far-tree n = far-forks _ _ _ _
 
-far-six : (mask set room n mark : ℕ) → Far 2 (withTool mask set room 6 n mark)
-unfolding withTool body
+far-six : (mask set room n mark : ℕ) → Far 2 (withTool set room 6 n (plusMinus mask n mark))
+unfolding withTool
 far-six mask set room n mark =
     far-cond 2 (not (holds set 6)) (far-fail 2 (Tool 6) 0) (far-cond 2 (ltb room n) (far-fail 2 Room 0)
     (far-then 2 0 (far-then 2 0 (far-tree n)
@@ -226,10 +227,10 @@ far-six mask set room n mark =
     (λ s. far-firm (firm-bind firm-here (λ bits. firm-filled (record { tool = 6; samples = s; bits = bits }) (fillFor bits))))))
 
 -- tool 8 is in no set
-pub eight-out : (mask set room n mark : ℕ) (b : List ℕ) (i : ℕ) {f : Found} {j : ℕ} {X : Type 0}
-    → withTool mask set room 8 n mark b i ≡ whole f j → X
+pub eight-out : (set room n : ℕ) (r : Reader (List ℕ)) (b : List ℕ) (i : ℕ) {f : Found} {j : ℕ} {X : Type 0}
+    → withTool set room 8 n r b i ≡ whole f j → X
 unfolding withTool holds
-eight-out mask set room n mark b i e = no-refusal e
+eight-out set room n r b i e = no-refusal e
 
 pub firm-six : Firm sixNotEight
 unfolding sixNotEight
@@ -267,10 +268,10 @@ near-six = near-then 1 1 near-bit
 
 -- where a tool 6 or 8 is accepted, the bits that decided it are within it
 six-within : (mask set room n mark : ℕ) (b : List ℕ) (i : ℕ) {t k : ℕ} → sixNotEight b i ≡ whole t k → SixOrEight t → {f : Found} {j : ℕ}
-    → withTool mask set room t n mark b i ≡ whole f j → k ≤ j
+    → withTool set room t n (plusMinus mask n mark) b i ≡ whole f j → k ≤ j
 six-within mask set room n mark b i {t} {k} e six {f} {j} d =
     omega (arith, near-six .goes b i t k e, far-six mask set room n mark .goes b i f j d)
-six-within mask set room n mark b i e eight d = eight-out mask set room n mark b i d
+six-within mask set room n mark b i e eight d = eight-out set room n (plusMinus mask n mark) b i d
 
 -- a bit that is there is the same with more after it
 pub bit-there : (b c : List ℕ) (i : ℕ) → i < length b
@@ -286,34 +287,35 @@ mark-first n = pick-below (leb 240 n) 6 4 (omega arith) (omega arith)
 
 -- once the mark is read
 six-goes : (mask set room n mark : ℕ) (b c : List ℕ) (i : ℕ)
-    → Goes (length b) (andThen (sixNotEight b i) (λ t k. withTool mask set room t n mark b i))
-    (andThen (sixNotEight (b ++ c) i) (λ t k. withTool mask set room t n mark (b ++ c) i))
+    → Goes (length b) (andThen (sixNotEight b i) (λ t k. withTool set room t n (plusMinus mask n mark) b i))
+    (andThen (sixNotEight (b ++ c) i) (λ t k. withTool set room t n (plusMinus mask n mark) (b ++ c) i))
 six-goes mask set room n mark b c i = go (firm-six .goes b c i)
   where
     late : {f : Found} {j : ℕ} → ((t k : ℕ) → sixNotEight (b ++ c) i ≡ whole t k → length b < k)
-        → Steps (sixNotEight (b ++ c) i) (λ t k. withTool mask set room t n mark (b ++ c) i) f j → length b < j
+        → Steps (sixNotEight (b ++ c) i) (λ t k. withTool set room t n (plusMinus mask n mark) (b ++ c) i) f j → length b < j
     late past (through t k e d) = le-trans (past t k e) (six-within mask set room n mark (b ++ c) i e (six-or-eight (b ++ c) i t k e) d)
 
-    on : (m : Read ℕ) → Goes (length b) (andThen m (λ t k. withTool mask set room t n mark b i))
-        (andThen m (λ t k. withTool mask set room t n mark (b ++ c) i))
-    on (whole t k) = firm-withTool mask set room t n mark .goes b c i
+    on : (m : Read ℕ) → Goes (length b) (andThen m (λ t k. withTool set room t n (plusMinus mask n mark) b i))
+        (andThen m (λ t k. withTool set room t n (plusMinus mask n mark) (b ++ c) i))
+    on (whole t k) = firm-withTool set room t n (firm-plusMinus mask n mark) .goes b c i
     on (refuse w at) = same refl
 
     go : Goes (length b) (sixNotEight b i) (sixNotEight (b ++ c) i)
-        → Goes (length b) (andThen (sixNotEight b i) (λ t k. withTool mask set room t n mark b i))
-        (andThen (sixNotEight (b ++ c) i) (λ t k. withTool mask set room t n mark (b ++ c) i))
+        → Goes (length b) (andThen (sixNotEight b i) (λ t k. withTool set room t n (plusMinus mask n mark) b i))
+        (andThen (sixNotEight (b ++ c) i) (λ t k. withTool set room t n (plusMinus mask n mark) (b ++ c) i))
     go (short at e past) =
-        short at (rw e refl) (λ f j d. late past (steps (sixNotEight (b ++ c) i) (λ t k. withTool mask set room t n mark (b ++ c) i) d))
+        short at (rw e refl) (λ f j d. late past (steps (sixNotEight (b ++ c) i) (λ t k. withTool set room t n (plusMinus mask n mark) (b ++ c) i) d))
     go (same e) = rw e (on (sixNotEight b i))
 
 -- what the first octet begins
-after-goes : (mask set room o : ℕ) (first : First) (b c : List ℕ) → 8 ≤ length b
-    → Goes (length b) (afterFirst mask set room o first b 8) (afterFirst mask set room o first (b ++ c) 8)
+after-goes : (mask set room : ℕ) (first : First) (b c : List ℕ) → 8 ≤ length b
+    → Goes (length b) (afterFirst mask set room first b 8) (afterFirst mask set room first (b ++ c) 8)
 unfolding afterFirst
-after-goes mask set room o unassigned b c h = same refl
-after-goes mask set room o pad b c h = same refl
-after-goes mask set room o (tool t n) b c h = firm-withTool mask set room t n (rowIn o t n) .goes b c 8
-after-goes mask set room o (sixOrEight n) b c h =
+after-goes mask set room unassigned b c h = same refl
+after-goes mask set room pad b c h = same refl
+after-goes mask set room (tool t n) b c h = firm-withTool set room t n (firm-body mask t n) .goes b c 8
+after-goes mask set room (fractionalRow k n) b c h = firm-withTool set room 11 n (firm-fractional mask k n) .goes b c 8
+after-goes mask set room (sixOrEight n) b c h =
     let m = bit-there b c (markAt n) (omega (arith, mark-first n)) in
     rw (m .0, m .1) (six-goes mask set room n (getD b (markAt n) 0) b c (markAt n + 1))
 
@@ -321,7 +323,7 @@ frame-goes : (mask set room : ℕ) (b c : List ℕ) → 8 ≤ length b → Goes 
 unfolding frame
 frame-goes mask set room b c h =
     let e : number 8 b 0 ≡ whole (valueFrom 0 (take 8 b)) 8 = rw (append-nil b) at (first-eight b [] h) in
-    rw (e, first-eight b c h) (after-goes mask set room (valueFrom 0 (take 8 b)) (firstOctet (valueFrom 0 (take 8 b))) b c h)
+    rw (e, first-eight b c h) (after-goes mask set room (firstOctet (valueFrom 0 (take 8 b))) b c h)
 
 -- of octets: none, or some
 pub nothing-short : (mask set room : ℕ) → frame mask set room (bitsOf []) 0 ≡ refuse Short 0

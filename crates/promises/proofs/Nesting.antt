@@ -14,8 +14,8 @@ use Rattle.rules.specs.Tools.{holds, Within, isSet, isLaw}
 use Rattle.rules.specs.Bits.{bitsOf, fillFor}
 use Rattle.rules.specs.Samples.{maskOf}
 use Rattle.rules.specs.Reading.{Read, whole, refuse, Reader, andThen, _>>=_, here, bit, number, fail, filled}
-use Rattle.rules.specs.First.{First, unassigned, pad, tool, sixOrEight, firstOctet, markAt, sixNotEight}
-use Rattle.rules.specs.Frame.{Found, octetsUsed, body, withTool, rowIn, afterFirst, frame, readOne}
+use Rattle.rules.specs.First.{First, unassigned, pad, tool, fractionalRow, sixOrEight, firstOctet, markAt, sixNotEight}
+use Rattle.rules.specs.Frame.{Found, octetsUsed, withTool, afterFirst, frame, readOne}
 use Rattle.rules.specs.Walk.{Delivered, Walked, stopped, before, walkFrom, longest, walkAll}
 use Rattle.rules.proofs.Each.{Each, nothing, next}
 use Rattle.rules.proofs.Gives.{no-refusal, same-refusal}
@@ -31,13 +31,13 @@ test-nests : (a b t : ℕ) (h : Bool) (p : Reader Found) (bits : List ℕ) (i : 
 test-nests a b t true p bits i e w = alike (rw (w e) refl)
 test-nests a b t false p bits i e w = ends t refl e
 
-withTool-nests : (mask a b room t n mark : ℕ) → Within a b → (bits : List ℕ) (i : ℕ)
-    → Nests a (withTool mask a room t n mark bits i) (withTool mask b room t n mark bits i)
+withTool-nests : (a b room t n : ℕ) (r : Reader (List ℕ)) → Within a b → (bits : List ℕ) (i : ℕ)
+    → Nests a (withTool a room t n r bits i) (withTool b room t n r bits i)
 unfolding withTool
-withTool-nests mask a b room t n mark w bits i =
+withTool-nests a b room t n r w bits i =
     test-nests a b t (holds a t)
     (cond (ltb room n) (fail Room 0)
-    (body mask t n mark >>=
+    (r >>=
     (λ samples. here >>= (λ bits. filled (record { tool = t; samples = samples; bits = bits }) (fillFor bits)))))
     bits i refl (w .also t)
 
@@ -46,19 +46,20 @@ then-nests : {A : Type 0} (a : ℕ) (m : Read A) {f g : A → ℕ → Read Found
 then-nests a (whole x j) h = h x j
 then-nests a (refuse w at) h = alike refl
 
-afterFirst-nests : (mask a b room : ℕ) → Within a b → (o : ℕ) (first : First) (bits : List ℕ) (i : ℕ)
-    → Nests a (afterFirst mask a room o first bits i) (afterFirst mask b room o first bits i)
+afterFirst-nests : (mask a b room : ℕ) → Within a b → (first : First) (bits : List ℕ) (i : ℕ)
+    → Nests a (afterFirst mask a room first bits i) (afterFirst mask b room first bits i)
 unfolding afterFirst
-afterFirst-nests mask a b room w o unassigned bits i = alike refl
-afterFirst-nests mask a b room w o pad bits i = alike refl
-afterFirst-nests mask a b room w o (tool t n) bits i = withTool-nests mask a b room t n (rowIn o t n) w bits i
-afterFirst-nests mask a b room w o (sixOrEight n) bits i =
+afterFirst-nests mask a b room w unassigned bits i = alike refl
+afterFirst-nests mask a b room w pad bits i = alike refl
+afterFirst-nests mask a b room w (tool t n) bits i = withTool-nests a b room t n _ w bits i
+afterFirst-nests mask a b room w (fractionalRow k n) bits i = withTool-nests a b room 11 n _ w bits i
+afterFirst-nests mask a b room w (sixOrEight n) bits i =
     then-nests a (bit bits (markAt n))
-    (λ mark j. then-nests a (sixNotEight bits j) (λ t k. withTool-nests mask a b room t n mark w bits (markAt n + 1)))
+    (λ mark j. then-nests a (sixNotEight bits j) (λ t k. withTool-nests a b room t n _ w bits (markAt n + 1)))
 
 frame-nests : (mask a b room : ℕ) → Within a b → (bits : List ℕ) (i : ℕ) → Nests a (frame mask a room bits i) (frame mask b room bits i)
 unfolding frame
-frame-nests mask a b room w bits i = then-nests a (number 8 bits i) (λ o j. afterFirst-nests mask a b room w o (firstOctet o) bits j)
+frame-nests mask a b room w bits i = then-nests a (number 8 bits i) (λ o j. afterFirst-nests mask a b room w (firstOctet o) bits j)
 
 tests-nest : (a : ℕ) (t : Bool) (w : Refusal) (p q : Reader Found) (bits : List ℕ) → Nests a (p bits 0) (q bits 0)
     → Nests a (cond t (fail w 0) p bits 0) (cond t (fail w 0) q bits 0)

@@ -15,11 +15,11 @@ use Rattle.rules.specs.declared.Refusal.the-variants.{Short, Align, Case, Metho
 use Rattle.rules.specs.Tools.{holds, isLaw, isSet}
 use Rattle.rules.specs.Bits.{bitsOf, fillFor}
 use Rattle.rules.specs.Reading.{Read, whole, refuse, Reader, andThen, _>>=_, give, fail, here, bit, numberFrom, number, bitsFrom, filled}
-use Rattle.rules.specs.First.{First, unassigned, pad, tool, sixOrEight, firstOctet}
+use Rattle.rules.specs.First.{First, unassigned, pad, tool, fractionalRow, sixOrEight, firstOctet}
 use Rattle.rules.specs.Samples.{maskOf, sampleOf, plusZero}
 use Rattle.rules.specs.Runs.{runsFrom}
 use Rattle.rules.specs.Located.{widthFrom, widthOf, listedFrom, listed, byMethod, emptyIn, lay, valuesInto, valuesOf, located}
-use Rattle.rules.specs.Frame.{Found, body, withTool, rowIn, afterFirst, frame, readOne}
+use Rattle.rules.specs.Frame.{Found, body, withTool, afterFirst, frame, readOne}
 use Rattle.rules.proofs.Located.{full-means-none}
 use Rattle.rules.proofs.Tests.{and-left, and-right}
 
@@ -48,18 +48,19 @@ finish t p = do
   bits ← here
   filled (record { tool = t; samples = samples; bits = bits }) (fillFor bits)
 
-unfoldable pub oldAfter : ℕ → ℕ → ℕ → ℕ → First → Reader Found
-oldAfter mask set room o (tool t n) =
-    cond (eqb t 7 && (holds set 7 && leb n room)) (finish 7 (oldLocated mask n)) (withTool mask set room t n (rowIn o t n))
-oldAfter mask set room o unassigned = afterFirst mask set room o unassigned
-oldAfter mask set room o pad = afterFirst mask set room o pad
-oldAfter mask set room o (sixOrEight n) = afterFirst mask set room o (sixOrEight n)
+unfoldable pub oldAfter : ℕ → ℕ → ℕ → First → Reader Found
+oldAfter mask set room (tool t n) =
+    cond (eqb t 7 && (holds set 7 && leb n room)) (finish 7 (oldLocated mask n)) (afterFirst mask set room (tool t n))
+oldAfter mask set room unassigned = afterFirst mask set room unassigned
+oldAfter mask set room pad = afterFirst mask set room pad
+oldAfter mask set room (fractionalRow k n) = afterFirst mask set room (fractionalRow k n)
+oldAfter mask set room (sixOrEight n) = afterFirst mask set room (sixOrEight n)
 
 unfoldable pub oldRead : List ℕ → ℕ → ℕ → ℕ → Read Found
 oldRead octets law set room =
     cond (not (isLaw law)) (fail Law 0)
     (cond (not (isSet set)) (fail Set 0)
-    (number 8 >>= (λ o. oldAfter (maskOf law) set room o (firstOctet o)))) (bitsOf octets) 0
+    (number 8 >>= (λ o. oldAfter (maskOf law) set room (firstOctet o)))) (bitsOf octets) 0
 
 -- a reading that got to place k at least: whole, its next place is not before k, and its value passes P; refused, its bit is not before k
 abbrev pub Reached : {A : Type 0} → ℕ → (A → Type 0) → Read A → Type 0
@@ -189,32 +190,33 @@ pub record NoZero (mask : ℕ) (f : Found) : Type 0 where
   pub seven : f .tool ≡ 7
   pub full : emptyIn (plusZero mask) (f .samples) ≡ 0
 
-with-seven : (mask set room n mark : ℕ) (b : List ℕ) (i : ℕ) → holds set 7 ≡ true → n ≤ room
-    → withTool mask set room 7 n mark b i ≡ finish 7 (located mask n) b i
+with-seven : (mask set room n : ℕ) (b : List ℕ) (i : ℕ) → holds set 7 ≡ true → n ≤ room
+    → withTool set room 7 n (body mask 7 n) b i ≡ finish 7 (located mask n) b i
 unfolding withTool body
-with-seven mask set room n mark b i h r = rw (h, le-ltb room n r)
+with-seven mask set room n b i h r = rw (h, le-ltb room n r)
 
-tool-part : (mask set room t n mark : ℕ) (h : Bool) → eqb t 7 && (holds set 7 && leb n room) ≡ h → (b : List ℕ) (i : ℕ)
-    → Parts (NoZero mask) (cond h (finish 7 (oldLocated mask n)) (withTool mask set room t n mark) b i)
-    (withTool mask set room t n mark b i)
-tool-part mask set room t n mark false e b i = alike refl
-tool-part mask set room t n mark true e b i =
+tool-part : (mask set room t n : ℕ) (h : Bool) → eqb t 7 && (holds set 7 && leb n room) ≡ h → (b : List ℕ) (i : ℕ)
+    → Parts (NoZero mask) (cond h (finish 7 (oldLocated mask n)) (withTool set room t n (body mask t n)) b i)
+    (withTool set room t n (body mask t n) b i)
+tool-part mask set room t n false e b i = alike refl
+tool-part mask set room t n true e b i =
     let seven = eqb-true t 7 (and-left (eqb t 7) (holds set 7 && leb n room) e) in
     let held = and-left (holds set 7) (leb n room) (and-right (eqb t 7) (holds set 7 && leb n room) e) in
     let fits = leb-true n room (and-right (holds set 7) (leb n room) (and-right (eqb t 7) (holds set 7 && leb n room) e)) in
-    rw (seven, with-seven mask set room n mark b i held fits)
+    rw (seven, with-seven mask set room n b i held fits)
     (parts-then (λ s j. filled (record { tool = 7; samples = s; bits = j }) (fillFor j) b j)
     (λ s j k q l. past-filled {k = k} {P = NoZero mask} (record { tool = 7; samples = s; bits = j }) (fillFor j)
     (record { seven = refl; full = q }) .on b j l)
     (located-part mask n b i))
 
-after-part : (mask set room o : ℕ) (first : First) (b : List ℕ) (i : ℕ)
-    → Parts (NoZero mask) (oldAfter mask set room o first b i) (afterFirst mask set room o first b i)
+after-part : (mask set room : ℕ) (first : First) (b : List ℕ) (i : ℕ)
+    → Parts (NoZero mask) (oldAfter mask set room first b i) (afterFirst mask set room first b i)
 unfolding oldAfter afterFirst
-after-part mask set room o unassigned b i = alike refl
-after-part mask set room o pad b i = alike refl
-after-part mask set room o (tool t n) b i = tool-part mask set room t n (rowIn o t n) (eqb t 7 && (holds set 7 && leb n room)) refl b i
-after-part mask set room o (sixOrEight n) b i = alike refl
+after-part mask set room unassigned b i = alike refl
+after-part mask set room pad b i = alike refl
+after-part mask set room (fractionalRow k n) b i = alike refl
+after-part mask set room (tool t n) b i = tool-part mask set room t n (eqb t 7 && (holds set 7 && leb n room)) refl b i
+after-part mask set room (sixOrEight n) b i = alike refl
 
 -- An old reader, beside the mended one: for all octets, laws, sets and rooms
 pub old-reader : (octets : List ℕ) (law set room : ℕ) → Parts (NoZero (maskOf law)) (oldRead octets law set room)
@@ -224,4 +226,4 @@ old-reader octets law set room =
     let b = bitsOf octets in
     test-parts (not (isLaw law)) Law 0 _ _ b 0
     (test-parts (not (isSet set)) Set 0 _ _ b 0
-    (then-parts (numberFrom 0 8 b 0) (λ o j. after-part (maskOf law) set room o (firstOctet o) b j)))
+    (then-parts (numberFrom 0 8 b 0) (λ o j. after-part (maskOf law) set room (firstOctet o) b j)))

@@ -1,5 +1,5 @@
 -- Where a refusal points: which bit it names, and how far past that bit the reading had looked. `Points W p` is built as readers are, step
--- by step. Main statements: `points-body`, `points-withTool`.
+-- by step. Main statements: `points-body`; `points-own`, `points-row`, `points-six`.
 use Prim.Native.Nat.{ℕ, zero, suc, _+_, _*_, _-_, _^_, _/_, _≤_, _<_}
 use native.Mathlib.Omega.{arith}
 use mathlib.Core.Path.{_≡_, refl, sym, subst, _∙_}
@@ -18,7 +18,7 @@ use Rattle.rules.specs.Samples.{sampleOf, plusZero, minusZero}
 use Rattle.rules.specs.Runs.{zerosFrom, rice, runsFrom}
 use Rattle.rules.specs.Zeros.{Tree, leaf, fork, treeOf, readTree, zeroOf, plusMinus}
 use Rattle.rules.specs.Located.{widthOf, listedFrom, listed, byMethod, emptyIn, lay, valuesInto, valuesOf, located}
-use Rattle.rules.specs.Fractional.{radix, groupOf, bitsFor, digitsOf, groupsFrom, groupsAs, samplesAt, fractional}
+use Rattle.rules.specs.Fractional.{radix, Coding, bitsFor, codingOf, digitsOf, groupsFrom, groupsAs, samplesAt, fractional}
 use Rattle.rules.specs.First.{sixNotEight}
 use Rattle.rules.specs.Frame.{body, withTool}
 use Rattle.rules.proofs.Accepted.{Steps, through, steps, number-next}
@@ -29,7 +29,7 @@ use Rattle.promises.proofs.Reach.{Far, far-bit, far-then, Near, near-gi
 use Rattle.promises.proofs.Reach.{near-here, near-bit, near-then, near-cond, near-more, near-numberFrom}
 use Rattle.promises.proofs.Further.{Goes, short, same, Firm, firm-give, firm-bind, firm-cond, firm-here, firm-bit, firm-numberFrom}
 use Rattle.promises.proofs.Further.{firm-bitsFrom, firm-zerosFrom, firm-rice, firm-runsFrom, firm-readTree}
-use Rattle.promises.proofs.Further.{firm-byMethod, firm-groups, firm-body, far-firm}
+use Rattle.promises.proofs.Further.{firm-byMethod, firm-groups, firm-fractional, firm-plusMinus, firm-body, far-firm}
 use Rattle.promises.proofs.Bounded.{width-most, tree-leaves}
 
 -- The bit that a refusal names, n bits being there. SHORT's is the first that is missing. Every other is one of those that are there, save
@@ -320,13 +320,14 @@ points-located mask n h =
     (λ t. points-values n z (map (sampleOf mask) (valuesOf n c flag)) (replicate n z) h (omega (arith, length-replicate n z))))))
 
 -- V, of w bits
-points-groups : {W : ℕ → Type 0} (r g w : ℕ) (done : List ℕ) (m : ℕ) → w ≤ 13 → Points W (groupsFrom r g w done m)
+points-groups : {W : ℕ → Type 0} (c : Coding) (done : List ℕ) (m : ℕ) → c .bits ≤ 13 → Points W (groupsFrom c done m)
 unfolding groupsFrom
-points-groups r g w done zero h = points-give done
-points-groups r g w done (suc m) h =
+points-groups c done zero h = points-give done
+points-groups c done (suc m) h =
+    let w = c .bits in
     points-here (λ start. points-go start start w w (firm-numberFrom 0 w) (far-number 0 w) (near-numberFrom 0 w)
     (points-numberFrom 0 w) (λ v.
-    points-cond (ltb v (r ^ g)) (λ t. points-groups r g w (done ++ digitsOf r g v) m h)
+    points-cond (ltb v (c .radix ^ c .group)) (λ t. points-groups c (done ++ digitsOf (c .radix) (c .group) v) m h)
     (λ t. points-fail (start + w) (start + w) Place start (λ n g. omega arith) (omega arith))))
 
 width-of-group : (r : ℕ) → bitsFor r ≤ 13
@@ -343,9 +344,8 @@ width-of-group r = go (eqb r 2) (eqb r 4) (eqb r 3) (eqb r 5)
 points-fractional : {W : ℕ → Type 0} (mask k n : ℕ) → Points W (fractional mask k n)
 unfolding groupsAs
 points-fractional mask k n =
-    let r = radix k in
-    let g = groupOf r in
-    points-bind (firm-groups r g (bitsFor r) [] (n / g)) (points-groups r g (bitsFor r) [] (n / g) (width-of-group r)) (λ digits.
+    let c = codingOf (radix k) in
+    points-bind (firm-groups c [] (n / c .group)) (points-groups c [] (n / c .group) (width-of-group (radix k))) (λ digits.
     points-give (map (λ d. getD (samplesAt mask k) d 0) digits))
 
 -- what a tree gives is one of its leaves
@@ -372,27 +372,35 @@ points-plusMinus mask n mark l =
     rest s v = points-bind (firm-runsFrom n s n n []) (points-runs n s n n [] (length-most n l) v)
         (λ flags. points-give (map (zeroOf mask mark) flags))
 
-pub points-body : {W : ℕ → Type 0} (mask t n mark : ℕ) → isLength n ≡ true → Points W (body mask t n mark)
+pub points-body : {W : ℕ → Type 0} (mask t n : ℕ) → isLength n ≡ true → Points W (body mask t n)
 unfolding body
-points-body mask t n mark l =
+points-body mask t n l =
     points-cond (eqb t 1) (λ e. points-octetsAfter [] n) (λ e.
     points-cond (eqb t 2) (λ e. points-give (replicate n (plusZero mask))) (λ e.
     points-cond (eqb t 3) (λ e. points-give (replicate n (minusZero mask))) (λ e.
     points-cond (eqb t 4) (λ e. points-bind (firm-numberFrom 0 8) (points-numberFrom 0 8) (λ x. points-give (replicate n x))) (λ e.
     points-cond (eqb t 5)
     (λ e. points-bind (firm-bitsFrom [] n) (points-bitsFrom [] n) (λ flags. points-give (map (zeroOf mask 0) flags))) (λ e.
-    points-cond (eqb t 6) (λ e. points-plusMinus mask n mark l) (λ e.
-    points-cond (eqb t 11) (λ e. points-fractional mask mark n) (λ e.
-    points-located mask n (length-most n l))))))))
+    points-located mask n (length-most n l))))))
 
 -- the tool is decided by the prefix, so within the first octet and the next
-pub points-withTool : (mask set room t n mark : ℕ) → isLength n ≡ true → Points (Between 1 8) (withTool mask set room t n mark)
+points-withTool : (set room t n : ℕ) {r : Reader (List ℕ)} → Firm r → Points (Between 1 8) r → Points (Between 1 8) (withTool set room t n r)
 unfolding withTool
-points-withTool mask set room t n mark l =
+points-withTool set room t n g p =
     points-cond (not (holds set t)) (λ e. points-fail 1 8 (Tool t) 0 (λ n h. (refl, h)) (omega arith)) (λ e.
     points-cond (ltb room n) (λ e. points-fail 1 8 Room 0 (λ n h. (refl, h)) (omega arith)) (λ e.
-    points-bind (firm-body mask t n mark) (points-body mask t n mark l) (λ s.
+    points-bind g p (λ s.
     points-here (λ bits. points-filled (record { tool = t; samples = s; bits = bits }) (fillFor bits)))))
+
+pub points-own : (mask set room t n : ℕ) → isLength n ≡ true → Points (Between 1 8) (withTool set room t n (body mask t n))
+points-own mask set room t n l = points-withTool set room t n (firm-body mask t n) (points-body mask t n l)
+
+pub points-row : (mask set room k n : ℕ) → Points (Between 1 8) (withTool set room 11 n (fractional mask k n))
+points-row mask set room k n = points-withTool set room 11 n (firm-fractional mask k n) (points-fractional mask k n)
+
+pub points-six : (mask set room t n mark : ℕ) → isLength n ≡ true
+    → Points (Between 1 8) (withTool set room t n (plusMinus mask n mark))
+points-six mask set room t n mark l = points-withTool set room t n (firm-plusMinus mask n mark) (points-plusMinus mask n mark l)
 
 pub points-sixNotEight : {W : ℕ → Type 0} → Points W sixNotEight
 unfolding sixNotEight

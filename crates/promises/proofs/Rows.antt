@@ -14,9 +14,10 @@ use Rattle.rules.specs.Reading.{fail}
 use Rattle.rules.specs.declared.Refusal.the-variants.{Case}
 use Rattle.rules.specs.Samples.{signed, sampleOf, plusZero, onLine}
 use Rattle.rules.specs.Located.{valuesInto, located, caseOf, valuesOf}
-use Rattle.rules.specs.Chooses.{countOf, valuesForm, leastOf, greatestOf, above, below, locatedFlag, rowOf, isRow, zeroLeads, applies}
+use Rattle.rules.specs.Chooses.{countOf, valuesForm, leastOf, greatestOf, above, below, locatedFlag, hasRow, rowNumber, rowOf}
+use Rattle.rules.specs.Chooses.{isRow, zeroLeads, applies}
 use Rattle.rules.proofs.Octets.{Below, none, more}
-use Rattle.rules.proofs.FrameRow.{line-small}
+use Rattle.rules.proofs.FrameRow.{line-small, where-row, located-row}
 use Rattle.rules.proofs.Signed.{InRange, LawMask, signed-range, told-by-line, sampleOf-one-to-one}
 use Rattle.rules.proofs.Tests.{and-left, and-right, allBelow, allBelow-at}
 use Rattle.rules.proofs.Each.{pick-below, or-right, Each, nothing, next, all, each-all}
@@ -126,20 +127,8 @@ row-test mask s c h e =
       fits = and-right (a && b) d e;
     }
 
-first-of-four : (P : ℕ → Type 0) (a b c d : Bool) → (a ≡ true → P 0) → (b ≡ true → P 1) → (c ≡ true → P 2) → (d ≡ true → P 3)
-    → cond a 0 (cond b 1 (cond c 2 (cond d 3 4))) < 4 → P (cond a 0 (cond b 1 (cond c 2 (cond d 3 4))))
-first-of-four P true b c d p q r s h = p refl
-first-of-four P false true c d p q r s h = q refl
-first-of-four P false false true d p q r s h = r refl
-first-of-four P false false false true p q r s h = s refl
-first-of-four P false false false false p q r s h = absurd (omega arith)
-
-pub the-row : (mask : ℕ) (s : List ℕ) → rowOf mask s < 4 → IsRow mask s (rowOf mask s)
-unfolding rowOf
-the-row mask s h =
-    first-of-four (IsRow mask s) (isRow mask s 0) (isRow mask s 1) (isRow mask s 2) (isRow mask s 3)
-    (row-test mask s 0 (omega arith)) (row-test mask s 1 (omega arith)) (row-test mask s 2 (omega arith))
-    (row-test mask s 3 (omega arith)) h
+pub the-row : (mask : ℕ) (s : List ℕ) → hasRow (rowOf mask s) ≡ true → IsRow mask s (rowNumber (rowOf mask s))
+the-row mask s h = where-row (IsRow mask s) (rowOf mask s) (located-row (IsRow mask s) mask s (row-test mask s)) h
 
 -- what holds of every octet between least and greatest holds of every sample
 between : (mask low high : ℕ) (P : ℕ → Bool) {s : List ℕ} → Below 256 s → low ≤ leastOf mask s → greatestOf mask s ≤ high
@@ -220,7 +209,7 @@ all-covered {mask} law s c b r =
 -- "value-location if N is 80 or more, least and greatest are a row's, N fits it, and no value is more frequent than 0"
 pub record Locates (mask : ℕ) (s : List ℕ) : Type 0 where
   pub long : 80 ≤ length s
-  pub row : rowOf mask s < 4
+  pub row : hasRow (rowOf mask s) ≡ true
   pub one : zeroLeads mask s (pos 1) ≡ true
   pub minusOne : zeroLeads mask s (negsuc 0) ≡ true
   pub minusTwo : zeroLeads mask s (negsuc 1) ≡ true
@@ -229,7 +218,7 @@ pub locates : (mask : ℕ) (s : List ℕ) → applies mask 7 s ≡ true → Loca
 unfolding applies
 locates mask s e =
     let a = leb 80 (length s) in
-    let b = ltb (rowOf mask s) 4 in
+    let b = hasRow (rowOf mask s) in
     let c = zeroLeads mask s (pos 1) in
     let d = zeroLeads mask s (negsuc 0) in
     let f = zeroLeads mask s (negsuc 1) in
@@ -238,7 +227,7 @@ locates mask s e =
     let ab = and-left (a && b) c abc in
     record {
       long = leb-true 80 (length s) (and-left a b ab);
-      row = ltb-true (rowOf mask s) 4 (and-right a b ab);
+      row = and-right a b ab;
       one = and-right (a && b) c abc;
       minusOne = and-right (a && b && c) d abcd;
       minusTwo = and-right (a && b && c && d) f e;
@@ -278,7 +267,7 @@ zero-in-row {mask} law (more {x = x} {l = s} h t) a c r =
     (ℕ-discrete (line mask x) 126) (ℕ-discrete (line mask x) 127) (ℕ-discrete (line mask x) 128)
 
 pub zero-occurs : {mask : ℕ} → LawMask mask → {s : List ℕ} → Below 256 s → Locates mask s → 1 ≤ countOf (λ y. eqb y (plusZero mask)) s
-zero-occurs {mask} law {s} b a = zero-in-row law b a (rowOf mask s) (the-row mask s (a .row))
+zero-occurs {mask} law {s} b a = zero-in-row law b a (rowNumber (rowOf mask s)) (the-row mask s (a .row))
 
 row-values : (mask : ℕ) (s : List ℕ) (c flag : ℕ) → IsRow mask s c → valuesOf (length s) c flag ≡ values c flag
 unfolding valuesOf
@@ -286,9 +275,9 @@ row-values mask s c flag r = rw (r .fits) refl
 
 -- none of its values is 0
 pub row-apart : {mask : ℕ} → LawMask mask → (s : List ℕ) → Locates mask s
-    → Each (λ x. not (eqb x (plusZero mask))) (map (sampleOf mask) (valuesOf (length s) (rowOf mask s) (locatedFlag mask s)))
+    → Each (λ x. not (eqb x (plusZero mask))) (map (sampleOf mask) (valuesOf (length s) (rowNumber (rowOf mask s)) (locatedFlag mask s)))
 row-apart {mask} law s a =
-    let c = rowOf mask s in
+    let c = rowNumber (rowOf mask s) in
     let flag = locatedFlag mask s in
     let r = the-row mask s (a .row) in
     rw (row-values mask s c flag r)
@@ -297,13 +286,13 @@ row-apart {mask} law s a =
 
 -- Tool 7: "range case (2 bits), flag (1 bit), then the values below in turn"
 pub back-located : {mask : ℕ} → LawMask mask → (s : List ℕ) → Below 256 s → Locates mask s → Back (located mask (length s))
-    (lowBits 2 (rowOf mask s) ++ (lowBits 1 (locatedFlag mask s)
-    ++ valuesForm (map (sampleOf mask) (valuesOf (length s) (rowOf mask s) (locatedFlag mask s))) s)) s
+    (lowBits 2 (rowNumber (rowOf mask s)) ++ (lowBits 1 (locatedFlag mask s)
+    ++ valuesForm (map (sampleOf mask) (valuesOf (length s) (rowNumber (rowOf mask s)) (locatedFlag mask s))) s)) s
 unfolding located
 back-located {mask} law s b a =
     let n = length s in
     let z = plusZero mask in
-    let c = rowOf mask s in
+    let c = rowNumber (rowOf mask s) in
     let flag = locatedFlag mask s in
     let r = the-row mask s (a .row) in
     let e : valuesOf n c flag ≡ values c flag = row-values mask s c flag r in

@@ -14,7 +14,7 @@ use Rattle.rules.specs.Bits.{pack}
 use Rattle.rules.specs.Samples.{maskOf, sampleOf, plusZero}
 use Rattle.rules.specs.Located.{emptyIn, valuesOf}
 use Rattle.rules.specs.Frame.{readOne}
-use Rattle.rules.specs.Chooses.{countOf, without, rowOf, locatedFlag, applies, chosenTool, Written, chosen, wrote, writeOne}
+use Rattle.rules.specs.Chooses.{countOf, without, rowNumber, rowOf, locatedFlag, applies, chosenTool, Written, chosen, wrote, writeOne}
 use Rattle.rules.proofs.Octets.{Below}
 use Rattle.rules.proofs.Signed.{LawMask, law-mask}
 use Rattle.rules.proofs.Each.{Each, nothing, next}
@@ -60,7 +60,7 @@ left-some z (next {x = x} g t) (suc k) left h = left-some z t k (without x left)
 
 -- Why the writer's output stays: of a frame that value-location applies to, something is left after each value
 pub never-none : {mask : ℕ} → LawMask mask → {s : List ℕ} → Below 256 s → applies mask 7 s ≡ true
-    → (k : ℕ) → 1 ≤ length (leftAfter (take k (map (sampleOf mask) (valuesOf (length s) (rowOf mask s) (locatedFlag mask s)))) s)
+    → (k : ℕ) → 1 ≤ length (leftAfter (take k (map (sampleOf mask) (valuesOf (length s) (rowNumber (rowOf mask s)) (locatedFlag mask s)))) s)
 never-none {mask} law {s} b a k =
     let l = locates mask s a in
     left-some (plusZero mask) (row-apart law s l) k s (zero-occurs law b l)

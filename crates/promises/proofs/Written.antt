@@ -19,8 +19,8 @@ use Rattle.rules.specs.Runs.{runsForm}
 use Rattle.rules.specs.Zeros.{prefix, flagOf, codeOf}
 use Rattle.rules.specs.Located.{valuesOf}
 use Rattle.rules.specs.Fractional.{firstCode, fractionalBody}
-use Rattle.rules.specs.Chooses.{markOf, bestS, riceChoice, rowOf, locatedFlag}
-use Rattle.rules.specs.Chooses.{valuesForm, locatedForm, fractionalRow, fractionalForm, applies}
+use Rattle.rules.specs.Chooses.{markOf, bestS, riceChoice, rowNumber, rowOf, locatedFlag}
+use Rattle.rules.specs.Chooses.{valuesForm, locatedForm, frameRow, fractionalForm, applies}
 use Rattle.rules.specs.Chooses.{formOf, octetsOfForm, tieOrder, chosenTool, Written, chosen, Write, wrote, declined, writeOne}
 use Rattle.rules.proofs.Octets.{Below, below-take, length-lowBits, length-bitsOf, lowBits-below, bitsOf-append, bitsOf-pack, length-pack}
 use Rattle.rules.proofs.Signed.{law-mask}
@@ -189,11 +189,11 @@ form-some mask t s l =
     let r = bestS mask mark s in
     some-first (riceCode n mark) (codeOf n r ++ runsForm r (map (flagOf mask mark) s)) (code-some n mark l))
     (some-cond (eqb t 11)
-    (some-first (lowBits 8 (firstCode n + fractionalRow mask s)) (fractionalBody mask (fractionalRow mask s) s)
-    (record { some = omega (arith, length-lowBits 8 (firstCode n + fractionalRow mask s)) }))
+    (some-first (lowBits 8 (firstCode n + rowNumber (frameRow mask s))) (fractionalBody mask (rowNumber (frameRow mask s)) s)
+    (record { some = omega (arith, length-lowBits 8 (firstCode n + rowNumber (frameRow mask s))) }))
     (some-first (prefix 7 n)
-    (lowBits 2 (rowOf mask s)
-    ++ (lowBits 1 (locatedFlag mask s) ++ valuesForm (map (sampleOf mask) (valuesOf n (rowOf mask s) (locatedFlag mask s))) s))
+    (lowBits 2 (rowNumber (rowOf mask s))
+    ++ (lowBits 1 (locatedFlag mask s) ++ valuesForm (map (sampleOf mask) (valuesOf n (rowNumber (rowOf mask s)) (locatedFlag mask s))) s))
     (prefix-some 7 n))))))))
 
 uncompressed-octets : (mask : ℕ) (s : List ℕ) → octetsOfForm mask s 1 ≡ length s + 1

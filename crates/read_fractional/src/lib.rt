@@ -1,13 +1,10 @@
 // The body of tool 11 (document 02, R-14; 001, section 8.9), read into a lent frame buffer.
 ghost use mathlib.Core.Path.{_≡_};
-ghost use mathlib.Core.List.{map};
 ghost use Prim.Native.Nat.{_+_, _*_, _^_, _/_, _%_, _≤_, _<_};
-ghost use lib.ListN.{length, getD};
-ghost use Rattle.rules.specs.Bits.{bitsOf};
-ghost use Rattle.rules.specs.Fractional.{Packs, digitsOf, groupsAs, groupsOf, fractional};
-ghost use Rattle.read_runs.specs.Flagged.{Put};
-ghost use Rattle.read_bodies.specs.Bodied.{FillsBody};
+ghost use lib.ListN.{length};
+ghost use Rattle.rules.specs.Fractional.{coding, codingOf, Packs, digitsOf};
 ghost use Rattle.read_fractional.specs.Rows.{six};
+ghost use Rattle.read_fractional.specs.Filled.{Lays, Body, RowBody};
 use read_bits::Outcome;
 use rules::Refusal;
 use value_rows::row_at;
@@ -30,7 +27,7 @@ fn quotient(v: usize, r: usize) -> usize
 // The g digits of V as samples, from a place on: by repeated division, the lowest first.
 fn lay(samples: &mut [u8; 320], from: usize, v: usize, r: usize, g: usize, values: &[u8; 6])
     requires { ⌜ (from + g ≤ 320) × (v < 8192) × (2 ≤ r) × (r ≤ 6) × (length (now samples) ≡ 320) × (length (now values) ≡ 6) ⌝ }
-    ensures { λ _. ⌜ Put (now (samples .entry)) from (map (λ d. getD (now (values .entry)) d 0) (digitsOf r g v)) (now (samples .exit)) × (length (now (samples .exit)) ≡ 320) ⌝ }
+    ensures { λ _. ⌜ Lays (now (samples .entry)) from (now (values .entry)) (digitsOf r g v) (now (samples .exit)) ⌝ }
 {
     let mut left = v;
     for j in 0..g {
@@ -40,22 +37,35 @@ fn lay(samples: &mut [u8; 320], from: usize, v: usize, r: usize, g: usize, value
     }
 }
 
-// n samples in groups of g digits and w bits; `most` is R'^g. "V not below R'^g is PLACE, judged when V is whole, at V's first bit."
+// R'^5, which V is below.
+fn fifth(r: usize) -> usize
+    requires { ⌜ (2 ≤ r) × (r ≤ 6) ⌝ }
+    ensures { λ m. ⌜ m ≡ r ^ 5 ⌝ }
+{
+    match r {
+        2 => 32,
+        3 => 243,
+        4 => 1024,
+        5 => 3125,
+        _ => 7776,
+    }
+}
+
+// n samples in groups of five digits and w bits. "V not below R'^5 is PLACE, judged when V is whole, at V's first bit."
 fn groups(
     octets: &[u8],
     at: usize,
     n: usize,
     r: usize,
-    g: usize,
     w: usize,
-    most: usize,
     values: &[u8; 6],
     samples: &mut [u8; 320],
 ) -> Outcome
-    requires { ⌜ (at ≤ 2 ^ 37) × (length (now samples) ≡ 320) × (length (now values) ≡ 6) × (most ≡ r ^ g) ⌝ }
-    requires { ⌜ Packs r g w n ⌝ }
-    ensures { λ o. ⌜ FillsBody (groupsAs (now (values .entry)) r g w n (bitsOf (now (octets .entry))) at) (at + 4160) (now (samples .entry)) (now (samples .exit)) o ⌝ }
+    requires { ⌜ (at ≤ 2 ^ 37) × (length (now samples) ≡ 320) × (length (now values) ≡ 6) ⌝ }
+    requires { ⌜ Packs (coding r 5 w) n ⌝ }
+    ensures { λ o. ⌜ Body (coding r 5 w) (now (values .entry)) n (now (octets .entry)) at (now (samples .entry)) (now (samples .exit)) o ⌝ }
 {
+    let most = fifth(r);
     let mut filled = 0;
     let mut place = at;
     while filled < n {
@@ -67,8 +77,8 @@ fn groups(
                 if most <= v {
                     return Outcome::Refused(Refusal::Place, place);
                 }
-                lay(samples, filled, v, r, g, values);
-                filled += g;
+                lay(samples, filled, v, r, 5, values);
+                filled += 5;
                 place = next;
             }
         }
@@ -85,7 +95,7 @@ fn two_values(
     samples: &mut [u8; 320],
 ) -> Outcome
     requires { ⌜ (at ≤ 2 ^ 37) × (n ≤ 320) × (length (now samples) ≡ 320) × (length (now values) ≡ 6) ⌝ }
-    ensures { λ o. ⌜ FillsBody (groupsAs (now (values .entry)) 2 1 1 n (bitsOf (now (octets .entry))) at) (at + 4160) (now (samples .entry)) (now (samples .exit)) o ⌝ }
+    ensures { λ o. ⌜ Body (coding 2 1 1) (now (values .entry)) n (now (octets .entry)) at (now (samples .entry)) (now (samples .exit)) o ⌝ }
 {
     match read_runs::straight(octets, at, n, samples, values[0], values[1]) {
         Outcome::Refused(why, bit) => Outcome::Refused(why, bit),
@@ -102,7 +112,7 @@ fn four_values(
     samples: &mut [u8; 320],
 ) -> Outcome
     requires { ⌜ (at ≤ 2 ^ 37) × (n ≤ 320) × (length (now samples) ≡ 320) × (length (now values) ≡ 6) ⌝ }
-    ensures { λ o. ⌜ FillsBody (groupsAs (now (values .entry)) 4 1 2 n (bitsOf (now (octets .entry))) at) (at + 4160) (now (samples .entry)) (now (samples .exit)) o ⌝ }
+    ensures { λ o. ⌜ Body (coding 4 1 2) (now (values .entry)) n (now (octets .entry)) at (now (samples .entry)) (now (samples .exit)) o ⌝ }
 {
     let mut filled = 0;
     let mut place = at;
@@ -146,14 +156,14 @@ fn by_radix(
     samples: &mut [u8; 320],
 ) -> Outcome
     requires { ⌜ (at ≤ 2 ^ 37) × (n ≤ 320) × (n % 40 ≡ 0) × (2 ≤ r) × (r ≤ 6) × (length (now samples) ≡ 320) × (length (now values) ≡ 6) ⌝ }
-    ensures { λ o. ⌜ FillsBody (groupsOf (now (values .entry)) r n (bitsOf (now (octets .entry))) at) (at + 4160) (now (samples .entry)) (now (samples .exit)) o ⌝ }
+    ensures { λ o. ⌜ Body (codingOf r) (now (values .entry)) n (now (octets .entry)) at (now (samples .entry)) (now (samples .exit)) o ⌝ }
 {
     match r {
         2 => two_values(octets, at, n, values, samples),
-        3 => groups(octets, at, n, 3, 5, 8, 243, values, samples),
+        3 => groups(octets, at, n, 3, 8, values, samples),
         4 => four_values(octets, at, n, values, samples),
-        5 => groups(octets, at, n, 5, 5, 12, 3125, values, samples),
-        _ => groups(octets, at, n, 6, 5, 13, 7776, values, samples),
+        5 => groups(octets, at, n, 5, 12, values, samples),
+        _ => groups(octets, at, n, 6, 13, values, samples),
     }
 }
 
@@ -167,7 +177,7 @@ pub fn body(
     samples: &mut [u8; 320],
 ) -> Outcome
     requires { ⌜ (at ≤ 2 ^ 37) × (n ≤ 320) × (n % 40 ≡ 0) × (k < 12) × (mask < 128) × (length (now samples) ≡ 320) ⌝ }
-    ensures { λ o. ⌜ FillsBody (fractional mask k n (bitsOf (now (octets .entry))) at) (at + 4160) (now (samples .entry)) (now (samples .exit)) o ⌝ }
+    ensures { λ o. ⌜ RowBody mask k n (now (octets .entry)) at (now (samples .entry)) (now (samples .exit)) o ⌝ }
 {
     let row = row_at(k);
     let values = values_of(mask, row.low, row.below);

@@ -2,22 +2,26 @@
 use Prim.Native.Nat.{ℕ, _+_, _-_, _≤_, _<_}
 use mathlib.Core.Path.{_≡_, refl, ap, _∙_}
 use mathlib.Core.List.{List, [], _∷_}
-use mathlib.Core.Bool.{Bool, true, false, cond, _&&_}
+use mathlib.Core.Bool.{Bool, true, false, not, _&&_, _||_, false≢true}
 use native.Mathlib.Omega.{arith}
 use lib.Dec.{eqb, leb, ltb, lit<}
 use lib.ListN.{length, getD}
-use borrow.Author.Tests.{eqb-true, leb-true, ltb-true}
+use borrow.Author.Tests.{eqb-true, eqb-false, ltb-true}
 use Rattle.rules.specs.declared.Refusal.the-variants.{Short}
 use Rattle.rules.specs.Tools.{isLength}
 use Rattle.rules.specs.Bits.{lowBits, bitsOf}
 use Rattle.rules.specs.Reading.{whole, refuse, bit, numberFrom}
-use Rattle.rules.specs.First.{First, unassigned, pad, tool, sixOrEight, rows, lookUp, firstOctet}
+use Rattle.rules.specs.First.{First, pad, rows, lookUp, firstOctet, octetFor}
 use Rattle.rules.specs.Fractional.{firstCode, rowCount}
-use Rattle.rules.specs.Frame.{rowIn, afterFirst, frame}
+use Rattle.rules.specs.Frame.{withTool, afterFirst, frame}
 use Rattle.rules.proofs.Octets.{value-lowBits}
 use Rattle.rules.proofs.Tests.{and-left, and-right}
-use Rattle.rules.proofs.Firsts.{isCode, rows-few, asWritten, first-as-written}
+use Rattle.rules.proofs.Firsts.{rows-few, asWritten, first-as-written}
 use Rattle.read_bits.proofs.Window.{number-there}
+use Rattle.first_octet.specs.declared.Begins.{Begins}
+use Rattle.first_octet.specs.declared.Begins.the-variants.{Unassigned, Pad, Tool, SixOrEight}
+use Rattle.first_octet.specs.Answers.{toolWith, asFirst}
+use Rattle.read_opening.specs.Opening.{rowIn, bodyBy}
 
 first-read : (s : List ℕ) → 1 ≤ length s → getD s 0 0 < 256 → numberFrom 0 8 (bitsOf s) 0 ≡ whole (getD s 0 0) 8
 unfolding bitsOf lowBits
@@ -26,7 +30,7 @@ first-read (x ∷ s) h o =
     number-there (x ∷ s) 0 8 0 (omega arith) ∙ ap (λ (v : ℕ). whole v 8) (value-lowBits 0 8 x ∙ omega arith)
 
 pub opened : (s : List ℕ) → 1 ≤ length s → getD s 0 0 < 256 → (f : First) → f ≡ firstOctet (getD s 0 0)
-    → (mask set room : ℕ) → afterFirst mask set room (getD s 0 0) f (bitsOf s) 8 ≡ frame mask set room (bitsOf s) 0
+    → (mask set room : ℕ) → afterFirst mask set room f (bitsOf s) 8 ≡ frame mask set room (bitsOf s) 0
 unfolding frame
 opened s h o f e mask set room = rw (first-read s h o, e)
 
@@ -39,33 +43,57 @@ unfolding frame bitsOf numberFrom bit
 no-octets [] h mask set room = refl
 no-octets (x ∷ s) h mask set room = absurd (omega arith)
 
--- tool 11's octet is one of its length's
-code-known : (o t n : ℕ) → t ≡ 11 → asWritten o (tool t n) ≡ true → firstCode n ≤ o
-code-known o t n e q =
-    let c : isLength n && isCode n o ≡ true = rw e at q in
-    leb-true (firstCode n) o (and-left (leb (firstCode n) o) (ltb o (firstCode n + rowCount n)) (and-right (isLength n) (isCode n o) c))
+-- what first octet o tells with tool t: that length and row are known, and which body it is
+pub record Known (o t n : ℕ) : Type 0 where
+  pub len : isLength n ≡ true
+  pub row : rowIn o t n < 12
+  pub code : t ≡ 11 → firstCode n ≤ o
+  pub says : (mask set room : ℕ) (b : List ℕ) (i : ℕ)
+      → withTool set room t n (bodyBy mask t n (rowIn o t n)) b i ≡ afterFirst mask set room (toolWith o t n) b i
 
-row-known : (o t n : ℕ) (b : Bool) → eqb t 11 ≡ b → asWritten o (tool t n) ≡ true → cond b (o - firstCode n) 0 < 12
-row-known o t n false e q = lit< tt
-row-known o t n true e q =
-    let c : isLength n && isCode n o ≡ true = rw (eqb-true t 11 e) at q in
-    let few = rows-few n (and-left (isLength n) (isCode n o) c) in
-    let high = ltb-true o (firstCode n + rowCount n)
-    (and-right (leb (firstCode n) o) (ltb o (firstCode n + rowCount n)) (and-right (isLength n) (isCode n o) c)) in
-    omega arith
+known : (o t n : ℕ) (eleven : Bool) → eqb t 11 ≡ eleven → asWritten o (toolWith o t n) ≡ true → Known o t n
+unfolding bodyBy afterFirst
+known o t n true e q =
+    let k = o - firstCode n in
+    let is : t ≡ 11 = eqb-true t 11 e in
+    let w : isLength n && (ltb k (rowCount n) && eqb o (firstCode n + k)) ≡ true = rw e at q in
+    let len = and-left (isLength n) (ltb k (rowCount n) && eqb o (firstCode n + k)) w in
+    let both = and-right (isLength n) (ltb k (rowCount n) && eqb o (firstCode n + k)) w in
+    let low = ltb-true k (rowCount n) (and-left (ltb k (rowCount n)) (eqb o (firstCode n + k)) both) in
+    let sum = eqb-true o (firstCode n + k) (and-right (ltb k (rowCount n)) (eqb o (firstCode n + k)) both) in
+    record {
+      len = len;
+      row = rw e (omega (arith, rows-few n len, low));
+      code = λ z. omega (arith, sum);
+      says = λ mask set room b i. rw is refl;
+    }
+known o t n false e q =
+    let w : isLength n && (not (eqb t 6 || eqb t 11) && (leb 8 t || eqb o (octetFor t n))) ≡ true = rw e at q in
+    let len = and-left (isLength n) _ w in
+    let six = not-six (eqb t 6) (eqb t 11) (and-left (not (eqb t 6 || eqb t 11)) _ (and-right (isLength n) _ w)) in
+    record {
+      len = len;
+      row = rw e (lit< tt);
+      code = λ z. absurd (eqb-false t 11 e z);
+      says = λ mask set room b i. rw (e, six) refl;
+    }
+  where
+    not-six : (a b : Bool) → not (a || b) ≡ true → a ≡ false
+    not-six true b h = absurd (false≢true h)
+    not-six false b h = refl
 
 -- where an octet begins a frame, the length is one of the five, and its row one of the twelve
-abbrev pub LengthKnown : ℕ → First → Type 0
-LengthKnown o unassigned = Unit {0}
-LengthKnown o pad = Unit {0}
-LengthKnown o (tool t n) = (isLength n ≡ true) × (rowIn o t n < 12) × (t ≡ 11 → firstCode n ≤ o)
-LengthKnown o (sixOrEight n) = isLength n ≡ true
+abbrev pub LengthKnown : ℕ → Begins → Type 0
+LengthKnown o Unassigned = Unit {0}
+LengthKnown o Pad = Unit {0}
+LengthKnown o (Tool t n) = Known o t n
+LengthKnown o (SixOrEight n) = isLength n ≡ true
 
-pub length-known : (o : ℕ) → o < 256 → (f : First) → f ≡ firstOctet o → LengthKnown o f
-length-known o h f e = go f (ap (asWritten o) e ∙ first-as-written o h)
+pub length-known : (o : ℕ) → o < 256 → (b : Begins) → asFirst o b ≡ firstOctet o → LengthKnown o b
+length-known o h b e = go b (ap (asWritten o) e ∙ first-as-written o h)
   where
-    go : (f : First) → asWritten o f ≡ true → LengthKnown o f
-    go unassigned t = tt
-    go pad t = tt
-    go (tool t n) q = (and-left (isLength n) _ q, row-known o t n (eqb t 11) refl q, λ e. code-known o t n e q)
-    go (sixOrEight n) q = and-left (isLength n) _ q
+    go : (b : Begins) → asWritten o (asFirst o b) ≡ true → LengthKnown o b
+    go Unassigned q = tt
+    go Pad q = tt
+    go (Tool t n) q = known o t n (eqb t 11) refl q
+    go (SixOrEight n) q = and-left (isLength n) _ q

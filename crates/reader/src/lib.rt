@@ -10,11 +10,11 @@ ghost use lib.Dec.{eqb};
 ghost use Rattle.rules.specs.Samples.{maskOf};
 ghost use Rattle.rules.specs.Located.{located};
 ghost use Rattle.rules.specs.Fractional.{fractional};
-ghost use Rattle.rules.specs.Frame.{body, withTool, readOne};
+ghost use Rattle.rules.specs.Frame.{withTool, readOne};
 ghost use Rattle.rules.specs.Calls.{ReadFrame};
 ghost use Rattle.read_bodies.specs.Bodied.{FillsBody};
 ghost use Rattle.read_bits.specs.Outcomes.{asRead};
-ghost use Rattle.read_opening.specs.Opening.{HeadFits};
+ghost use Rattle.read_opening.specs.Opening.{bodyOf, HeadFits};
 ghost use Rattle.reader.specs.Answers.{Tells, Fills, ReadsInto, finish};
 use read_bits::Outcome;
 use read_opening::Head;
@@ -49,7 +49,7 @@ fn few_values(octets: &[u8], mask: u8, h: Head, samples: &mut [u8; 320]) -> Outc
 // The body of a tool that the set holds, into the lent samples.
 fn body_of(octets: &[u8], mask: u8, h: Head, samples: &mut [u8; 320]) -> Outcome
     requires { ⌜ (HeadFits h) × (mask < 128) × (mask % 2 ≡ 1) × (length (now samples) ≡ 320) ⌝ }
-    ensures { λ r. ⌜ FillsBody (body mask (h .tool) (h .len) (h .mark) (bitsOf (now (octets .entry))) (h .at)) (2 ^ 41) (now (samples .entry)) (now (samples .exit)) r ⌝ }
+    ensures { λ r. ⌜ FillsBody (bodyOf mask h (bitsOf (now (octets .entry))) (h .at)) (2 ^ 41) (now (samples .entry)) (now (samples .exit)) r ⌝ }
 {
     let tool = h.tool;
     let n = h.len;
@@ -137,7 +137,7 @@ fn with_tool(
     samples: &mut [u8; 320],
 ) -> Report
     requires { ⌜ (HeadFits h) × (1 ≤ length (now octets)) × (length (now samples) ≡ 320) ⌝ }
-    ensures { λ r. ⌜ Fills (withTool (maskOf law) set room (h .tool) (h .len) (h .mark) (bitsOf (now (octets .entry))) (h .at)) r (now (samples .exit)) ⌝ }
+    ensures { λ r. ⌜ Fills (withTool set room (h .tool) (h .len) (bodyOf (maskOf law) h) (bitsOf (now (octets .entry))) (h .at)) r (now (samples .exit)) ⌝ }
 {
     let tool = h.tool;
     if !first_octet::holds(set, tool) {

@@ -5,12 +5,12 @@ use mathlib.Core.Path.{_≡_, refl, sym, ap, _∙_}
 use mathlib.Core.List.{List, [], _∷_}
 use mathlib.Core.Bool.{Bool, true, false, cond, not, _&&_}
 use lib.ListN.{length}
-use lib.Dec.{eqb, leb, ltb}
+use lib.Dec.{eqb, leb}
 use lib.IntN.{pos, negsuc}
 use borrow.Author.Tests.{eq-eqb, ne-eqb, eqb-true}
 use Rattle.rules.specs.Tools.{holds}
 use Rattle.rules.specs.Bits.{octetsFor}
-use Rattle.rules.specs.Chooses.{applies, rowOf, zeroLeads, formOf}
+use Rattle.rules.specs.Chooses.{applies, hasRow, rowOf, zeroLeads, formOf}
 use Rattle.write_offers.specs.declared.Offer.{Offer}
 use Rattle.write_offers.specs.Offers as offers
 use Rattle.write_offers.specs.Offers.{OfferIs}
@@ -33,14 +33,14 @@ unfolding firstFailing
 of-one false = refl
 of-one true = refl
 
-of-seven : (mask : ℕ) (s : List ℕ) → cond (applies mask 7 s) 0 (cond (leb 80 (length s)) (cond (ltb (rowOf mask s) 4) 3 2) 1) ≡ firstFailing
+of-seven : (mask : ℕ) (s : List ℕ) → cond (applies mask 7 s) 0 (cond (leb 80 (length s)) (cond (hasRow (rowOf mask s)) 3 2) 1) ≡ firstFailing
     1 (locatedConditions mask s)
 unfolding applies
-of-seven mask s = of-three (leb 80 (length s)) (ltb (rowOf mask s) 4) (zeroLeads mask s (pos 1)) (zeroLeads mask s (negsuc 0))
+of-seven mask s = of-three (leb 80 (length s)) (hasRow (rowOf mask s)) (zeroLeads mask s (pos 1)) (zeroLeads mask s (negsuc 0))
     (zeroLeads mask s (negsuc 1))
 
 of-tool : (mask : ℕ) (s : List ℕ) (t : ℕ) (b : Bool) → 1 ≤ length s → eqb t 7 ≡ b
-    → cond (applies mask t s) 0 (cond b (cond (leb 80 (length s)) (cond (ltb (rowOf mask s) 4) 3 2) 1) 1)
+    → cond (applies mask t s) 0 (cond b (cond (leb 80 (length s)) (cond (hasRow (rowOf mask s)) 3 2) 1) 1)
     ≡ firstFailing 1 (cond b (locatedConditions mask s) ((not (eqb (length s) 0) && applies mask t s) ∷ []))
 of-tool mask s t true h e = rw (eqb-true t 7 e) (of-seven mask s)
 of-tool mask s t false h e = rw (ne-eqb (length s) 0 (λ z. omega arith)) (of-one (applies mask t s))

@@ -7,14 +7,14 @@ use mathlib.Core.Path.{_≡_, refl, sym, ap, _∙_}
 use mathlib.Core.List.{List, [], _∷_, _++_}
 use mathlib.Core.Bool.{Bool, true, false, cond, not, _&&_, _||_}
 use lib.ListN.{length, take, replicate}
-use lib.Dec.{eqb, leb, ltb}
+use lib.Dec.{eqb, leb}
 use lib.IntN.{pos, negsuc}
 use borrow.Author.Tests.{eq-eqb, ne-eqb, eqb-true, eqb-false, le-ltb}
 use Rattle.rules.specs.declared.Refusal.the-variants.{Length, Set, Law}
 use Rattle.rules.specs.Tools.{isTool, slotOf, holds, isWriterSet, isLaw, isLength}
 use Rattle.rules.specs.Bits.{octetsFor}
 use Rattle.rules.specs.Samples.{maskOf}
-use Rattle.rules.specs.Chooses.{applies, rowOf, zeroLeads, formOf, octetsOfForm, chosenTool}
+use Rattle.rules.specs.Chooses.{applies, hasRow, rowOf, zeroLeads, formOf, octetsOfForm, chosenTool}
 use Rattle.rules.specs.Chooses.{Written, chosen, Write, wrote, declined, writeOne}
 use Rattle.rules.proofs.Tests.{and-left, and-right, by-tool}
 use Rattle.rules.proofs.Each.{or-right}
@@ -44,7 +44,7 @@ just-one true = refl
 
 seven : (mask : ℕ) (s : List ℕ) → eqb (firstFailing 1 (locatedConditions mask s)) 0 ≡ applies mask 7 s
 unfolding applies
-seven mask s = all-five (leb 80 (length s)) (ltb (rowOf mask s) 4) (zeroLeads mask s (pos 1)) (zeroLeads mask s (negsuc 0))
+seven mask s = all-five (leb 80 (length s)) (hasRow (rowOf mask s)) (zeroLeads mask s (pos 1)) (zeroLeads mask s (negsuc 0))
     (zeroLeads mask s (negsuc 1))
 
 by-seven : (mask : ℕ) (s : List ℕ) (t : ℕ) (b : Bool) → 1 ≤ length s → eqb t 7 ≡ b

@@ -6,14 +6,14 @@ use Prim.Native.Nat.{ℕ, _+_}
 use mathlib.Core.List.{List, [], _∷_}
 use mathlib.Core.Bool.{Bool, false, cond, not, _&&_, _||_}
 use lib.ListN.{length, take}
-use lib.Dec.{eqb, leb, ltb}
+use lib.Dec.{eqb, leb}
 use lib.IntN.{pos, negsuc}
 use Rattle.rules.specs.declared.Refusal.the-variants.{Length}
 use Rattle.rules.specs.Refusals.{judged}
 use Rattle.rules.specs.Tools.{holds, isLength, writerAsks}
 use Rattle.rules.specs.Bits.{octetsFor}
 use Rattle.rules.specs.Samples.{maskOf}
-use Rattle.rules.specs.Chooses.{applies, rowOf, zeroLeads, octetsOfForm, chosen}
+use Rattle.rules.specs.Chooses.{applies, hasRow, rowOf, zeroLeads, octetsOfForm, chosen}
 use Rattle.reasons.specs.declared.State.{State}
 use Rattle.reasons.specs.declared.State.the-variants.{Out, No, Fits}
 use Rattle.reasons.specs.declared.States.{States}
@@ -27,7 +27,7 @@ abbrev pub zeroLeadsAll : ℕ → List ℕ → Bool
 zeroLeadsAll mask s = zeroLeads mask s (pos 1) && zeroLeads mask s (negsuc 0) && zeroLeads mask s (negsuc 1)
 
 abbrev pub locatedConditions : ℕ → List ℕ → List Bool
-locatedConditions mask s = leb 80 (length s) ∷ ltb (rowOf mask s) 4 ∷ zeroLeadsAll mask s ∷ []
+locatedConditions mask s = leb 80 (length s) ∷ hasRow (rowOf mask s) ∷ zeroLeadsAll mask s ∷ []
 
 unfoldable pub conditions : ℕ → List ℕ → ℕ → List Bool
 conditions mask s t = cond (eqb t 7) (locatedConditions mask s) ((not (eqb (length s) 0) && applies mask t s) ∷ [])

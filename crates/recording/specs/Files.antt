@@ -1,11 +1,12 @@
 -- Document 02, R-1: a file written, from frames and losses. "What is written reads back as the same list of frames and losses."
-use Prim.Native.Nat.{ℕ, _+_, _-_}
+use Prim.Native.Nat.{ℕ, _-_}
 use mathlib.Core.List.{List, [], _∷_, _++_}
-use mathlib.Core.Bool.{Bool, cond, not, _&&_, _||_}
+use mathlib.Core.Bool.{Bool, cond, _&&_, _||_}
 use lib.ListN.{length, take, drop, replicate}
 use lib.Dec.{eqb, leb, ltb}
 use Rattle.rules.specs.declared.Refusal.the-variants as rules
-use Rattle.rules.specs.Tools.{isLaw, isWriterSet, isLength}
+use Rattle.rules.specs.Judged.{ask, bar, judged}
+use Rattle.rules.specs.Tools.{writerAsks, isLength}
 use Rattle.rules.specs.Bits.{pack}
 use Rattle.rules.specs.Samples.{maskOf}
 use Rattle.rules.specs.Chooses.{chosen}
@@ -59,8 +60,7 @@ pub data Filed : Type 0 where
 
 abbrev pub sized : List ℕ → ℕ → ℕ → Filed
 sized octets after room =
-    cond (not (leb after longest)) (declined (Frame rules.Long))
-    (cond (ltb room (length octets)) (declined (Frame rules.Room)) (filed octets))
+    judged (ask (Frame rules.Long) (leb after longest) ∷ bar (Frame rules.Room) (ltb room (length octets)) ∷ []) declined (filed octets)
 
 abbrev pub fileGiven : ℕ → ℕ → Given → ℕ → Filed
 fileGiven law set wrong room = declined (Frame rules.Length)
@@ -69,6 +69,4 @@ fileGiven law set (given es) room = sized (fileOctets law set es) (length (entri
 -- "LAW, SET, LENGTH .., LONG, ROOM (heading and all)"
 unfoldable pub writeFile : List ℕ → List ℕ → ℕ → ℕ → ℕ → Filed
 writeFile samples cells law set room =
-    cond (not (isLaw law)) (declined (Frame rules.Law))
-    (cond (not (isWriterSet set)) (declined (Frame rules.Set))
-    (fileGiven law set (givenBy cells samples) room))
+    judged (writerAsks law set) (λ why. declined (Frame why)) (fileGiven law set (givenBy cells samples) room)

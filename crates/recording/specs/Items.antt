@@ -2,10 +2,11 @@
 -- lost, never as silence"; "LONG count[s] from the end of the heading"; "HEAD (14) for a wrong or cut heading, after SET and before LONG".
 use Prim.Native.Nat.{ℕ, zero, suc, _+_, _-_}
 use mathlib.Core.List.{List, [], _∷_, _++_}
-use mathlib.Core.Bool.{cond, not}
+use mathlib.Core.Bool.{cond}
 use lib.ListN.{length, getD, drop}
 use lib.Dec.{eqb, leb}
 use Rattle.rules.specs.declared.Refusal.the-variants as rules
+use Rattle.rules.specs.Judged.{ask, judged}
 use Rattle.rules.specs.Tools.{isSet}
 use Rattle.rules.specs.Samples.{maskOf}
 use Rattle.rules.specs.Reading.{Read, whole, refuse}
@@ -74,9 +75,9 @@ byHeading (heading law) none next = next law
 -- "SET, HEAD, LONG (octets after the heading above the walk's limit), then item by item"
 unfoldable pub readFile : List ℕ → ℕ → ℕ → ℕ → File
 readFile octets set room places =
-    cond (not (isSet set)) (nothing (Frame rules.Set) 0)
+    judged (ask (Frame rules.Set) (isSet set) ∷ []) (λ why. nothing why 0)
     (byHeading (headed octets) (nothing Head 0) (λ law.
-    cond (not (leb (length octets - headingLength) longest)) (nothing (Frame rules.Long) law)
+    judged (ask (Frame rules.Long) (leb (length octets - headingLength) longest) ∷ []) (λ why. nothing why law)
     (record { law = law; read = itemsFrom (suc (length octets - headingLength)) (drop headingLength octets) law set 0 room places })))
 
 -- the sound of a file: "Nothing is written to the output for a loss"

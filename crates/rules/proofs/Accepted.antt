@@ -16,12 +16,13 @@ use Rattle.rules.specs.declared.Refusal.the-variants.{Short, Align, Tool
 use Rattle.rules.specs.Tools.{holds, isLength, isLaw, isSet}
 use Rattle.rules.specs.Bits.{bitsOf, fillFor}
 use Rattle.rules.specs.Reading.{Read, whole, refuse, Reader, andThen, _>>=_, give, fail, from, bit, numberFrom, number, filled}
-use Rattle.rules.specs.First.{First, unassigned, pad, tool, sixOrEight, firstOctet, markAt, sixNotEight}
+use Rattle.rules.specs.First.{First, unassigned, pad, tool, fractionalRow, sixOrEight}
+use Rattle.rules.specs.First.{firstOctet, markAt, sixNotEight}
 use Rattle.rules.specs.Samples.{sampleOf, plusZero, minusZero}
-use Rattle.rules.specs.Zeros.{zeroOf, Tree, leaf, fork, treeOf}
+use Rattle.rules.specs.Zeros.{zeroOf, Tree, leaf, fork, treeOf, plusMinus}
 use Rattle.rules.specs.Located.{RangeCase, case0, case1, case2, case3, caseOf, rowValues, valuesOf, located}
-use Rattle.rules.specs.Fractional.{table, valuesAt, radix, groupOf, bitsFor, groupsAs, samplesAt, fractional}
-use Rattle.rules.specs.Frame.{Found, octetsUsed, body, withTool, rowIn, afterFirst, frame, readOne}
+use Rattle.rules.specs.Fractional.{table, valuesAt, radix, groupOf, codingOf, groupsAs, samplesAt, fractional}
+use Rattle.rules.specs.Frame.{Found, octetsUsed, body, withTool, afterFirst, frame, readOne}
 use Rattle.rules.proofs.Octets.{Below, none, more, Sized, below-at, below-replicate, bitsOf-below, length-bitsOf}
 use Rattle.rules.proofs.Tests.{and-left}
 use Rattle.rules.proofs.Signed.{InRange, LawMask, law-mask}
@@ -154,19 +155,29 @@ pub samplesAt-below : {mask : ℕ} → LawMask mask → (k : ℕ) → Below 256 
 unfolding samplesAt
 samplesAt-below l k = octets-below l (valuesAt k) (row-in-range-at k)
 
-gives-fractional : {mask : ℕ} → LawMask mask → (k n : ℕ) → isLength n ≡ true → Gives (fractional mask k n) (Sized 256 n)
+pub gives-fractional : {mask : ℕ} → LawMask mask → (k n : ℕ) → isLength n ≡ true → Gives (fractional mask k n) (Sized 256 n)
 unfolding groupsAs
 gives-fractional {mask} l k n len =
     let g = groupOf (radix k) in
-    gives-bind (gives-groupsFrom (radix k) g (bitsFor (radix k)) [] (n / g)) (λ digits e.
+    gives-bind (gives-groupsFrom (codingOf (radix k)) [] (n / g)) (λ digits e.
     gives-give (map (λ d. getD (samplesAt mask k) d 0) digits) (record {
       size = length-map digits (λ d. getD (samplesAt mask k) d 0) ∙ e ∙ zero-add (n / g * g) ∙ groups-whole (radix k) n len;
       below = below-map (λ d. getD (samplesAt mask k) d 0) (below-at (samplesAt-below l k) (lit< tt)) digits;
     }))
 
-pub gives-body : {mask : ℕ} → LawMask mask → (t n mark : ℕ) → isLength n ≡ true → Gives (body mask t n mark) (Sized 256 n)
+all-leaves : (t : Tree) → Leaves (λ s. Unit {0}) t
+all-leaves (leaf s) = tt
+all-leaves (fork z o) = (all-leaves z, all-leaves o)
+
+pub gives-plusMinus : {mask : ℕ} → LawMask mask → (n mark : ℕ) → Gives (plusMinus mask n mark) (Sized 256 n)
+gives-plusMinus {mask} l n mark =
+    gives-bind (gives-readTree (λ s. Unit {0}) (treeOf n) (all-leaves (treeOf n))) (λ s u.
+    gives-bind (gives-runsFrom n s n n [] (le-refl n) none) (λ flags f.
+    gives-give (map (zeroOf mask mark) flags) (zeros-sized l mark n flags (f .size ∙ zero-add n))))
+
+pub gives-body : {mask : ℕ} → LawMask mask → (t n : ℕ) → isLength n ≡ true → Gives (body mask t n) (Sized 256 n)
 unfolding body
-gives-body {mask} l t n mark len =
+gives-body {mask} l t n len =
     gives-cond (eqb t 1)
     (λ e. gives-as (λ s k. record { size = k .size ∙ zero-add n; below = k .below }) (gives-octetsAfter [] n none)) (λ e.
     gives-cond (eqb t 2) (λ e. gives-constantly n (plusZero mask) (plus-below l)) (λ e.
@@ -174,15 +185,7 @@ gives-body {mask} l t n mark len =
     gives-cond (eqb t 4) (λ e. gives-bind (gives-number 8) (λ x h. gives-constantly n x h)) (λ e.
     gives-cond (eqb t 5) (λ e. gives-bind (gives-bitsFrom [] n none) (λ flags f.
     gives-give (map (zeroOf mask 0) flags) (zeros-sized l 0 n flags (f .size ∙ zero-add n)))) (λ e.
-    gives-cond (eqb t 6) (λ e. gives-bind (gives-readTree (λ s. Unit {0}) (treeOf n) (all-leaves (treeOf n))) (λ s u.
-    gives-bind (gives-runsFrom n s n n [] (le-refl n) none) (λ flags f.
-    gives-give (map (zeroOf mask mark) flags) (zeros-sized l mark n flags (f .size ∙ zero-add n))))) (λ e.
-    gives-cond (eqb t 11) (λ e. gives-fractional l mark n len) (λ e.
-    gives-located l n)))))))
-  where
-    all-leaves : (t : Tree) → Leaves (λ s. Unit {0}) t
-    all-leaves (leaf s) = tt
-    all-leaves (fork z o) = (all-leaves z, all-leaves o)
+    gives-located l n)))))
 
 -- filling bits: the value stays, and so many places are passed
 gives-filled : {A : Type 0} {Q : A → Type 0} (a : A) (n : ℕ) → Q a → Gives (filled a n) Q
@@ -250,21 +253,21 @@ or-right : (a b : Bool) → b ≡ true → (a || b) ≡ true
 or-right true b e = refl
 or-right false b e = e
 
-pub withTool-accepts : {mask : ℕ} → LawMask mask → (set room t n mark : ℕ) → isLength n ≡ true → {b : List ℕ} → Below 2 b
-    → (i : ℕ) → 1 ≤ i → i ≤ length b → {f : Found} {j : ℕ} → withTool mask set room t n mark b i ≡ whole f j → Accepts set room b f j
+pub withTool-accepts : (set room t n : ℕ) {r : Reader (List ℕ)} → isLength n ≡ true → Gives r (Sized 256 n) → {b : List ℕ} → Below 2 b
+    → (i : ℕ) → 1 ≤ i → i ≤ length b → {f : Found} {j : ℕ} → withTool set room t n r b i ≡ whole f j → Accepts set room b f j
 unfolding withTool
-withTool-accepts {mask} l set room t n mark len {b} z i one h {f} {j} e =
+withTool-accepts set room t n {r} len gives {b} z i one h {f} {j} e =
     let p = not-refused (not (holds set t)) (Tool t) 0 _ b i e in
     let q = not-refused (ltb room n) Room 0 _ b i (p .1) in
-    go (not-false (holds set t) (p .0)) (ltb-false room n (q .0)) (steps (body mask t n mark b i) _ (q .1))
+    go (not-false (holds set t) (p .0)) (ltb-false room n (q .0)) (steps (r b i) _ (q .1))
   where
     done : List ℕ → ℕ → Found
     done s k = record { tool = t; samples = s; bits = k }
 
     go : holds set t ≡ true → n ≤ room
-        → Steps (body mask t n mark b i) (λ s k. filled (done s k) (fillFor k) b k) f j → Accepts set room b f j
+        → Steps (r b i) (λ s k. filled (done s k) (fillFor k) b k) f j → Accepts set room b f j
     go held fits (through s k q e) =
-        let g = gives-body l t n mark len .on z h q in
+        let g = gives .on z h q in
         let w = filled-is (done s k) (fillFor k) b k e in
         let v = gives-filled {Q = λ x. Unit {0}} (done s k) (fillFor k) tt .on z (g .1) e in
         subst (λ (x : Found). Accepts set room b x j) (w .0) (record {
@@ -287,7 +290,7 @@ number-next v (suc n) b i {x} {j} e = go (λ a k. number-next (2 * v + a) n b k)
     go later (through a k q e) = let r = later a k e in let p = bit-next b i q in omega arith
 
 afterFirst-accepts : {mask : ℕ} → LawMask mask → (set room o : ℕ) (first : First) → asWritten o first ≡ true → {b : List ℕ} → Below 2 b
-    → 8 ≤ length b → {f : Found} {j : ℕ} → afterFirst mask set room o first b 8 ≡ whole f j → Accepts set room b f j
+    → 8 ≤ length b → {f : Found} {j : ℕ} → afterFirst mask set room first b 8 ≡ whole f j → Accepts set room b f j
 unfolding afterFirst
 afterFirst-accepts l set room o unassigned w z h e = let z : _≡_ {A = ℕ} 0 1 = cc in absurd (omega arith)
 afterFirst-accepts l set room o pad w {b} z h {f} {j} e =
@@ -302,16 +305,20 @@ afterFirst-accepts l set room o pad w {b} z h {f} {j} e =
       below = none;
       held = inl refl;
     })
-afterFirst-accepts l set room o (tool t n) w z h e = withTool-accepts l set room t n (rowIn o t n) (and-left _ _ w) z 8 (lit≤ tt) h e
+afterFirst-accepts l set room o (tool t n) w z h e =
+    let len = and-left (isLength n) _ w in withTool-accepts set room t n len (gives-body l t n len) z 8 (lit≤ tt) h e
+afterFirst-accepts l set room o (fractionalRow k n) w z h e =
+    let len = and-left (isLength n) _ w in withTool-accepts set room 11 n len (gives-fractional l k n len) z 8 (lit≤ tt) h e
 afterFirst-accepts {mask} l set room o (sixOrEight n) w {b} z h {f} {j} e = go (steps (bit b (markAt n)) _ e)
   where
     six : (mark k : ℕ) → bit b (markAt n) ≡ whole mark k
-        → Steps (sixNotEight b k) (λ t i. withTool mask set room t n mark b (markAt n + 1)) f j → Accepts set room b f j
+        → Steps (sixNotEight b k) (λ t i. withTool set room t n (plusMinus mask n mark) b (markAt n + 1)) f j → Accepts set room b f j
     six mark k q (through t i r e) =
-        withTool-accepts l set room t n mark (and-left _ _ w) z (markAt n + 1) (omega arith)
+        let len = and-left (isLength n) _ w in
+        withTool-accepts set room t n len (gives-plusMinus l n mark) z (markAt n + 1) (omega arith)
         (omega (arith, bit-next b (markAt n) q, bit-inside b (markAt n) q)) e
 
-    go : Steps (bit b (markAt n)) (λ mark k. (sixNotEight >>= (λ t. from (markAt n + 1) (withTool mask set room t n mark))) b k) f j
+    go : Steps (bit b (markAt n)) (λ mark k. (sixNotEight >>= (λ t. from (markAt n + 1) (withTool set room t n (plusMinus mask n mark)))) b k) f j
         → Accepts set room b f j
     go (through mark k q e) = six mark k q (steps (sixNotEight b k) _ e)
 
@@ -320,7 +327,7 @@ pub frame-accepts : {mask : ℕ} → LawMask mask → (set room : ℕ) {b : List
 unfolding frame
 frame-accepts {mask} l set room {b} z {f} {j} e = go (steps (number 8 b 0) _ e)
   where
-    go : Steps (number 8 b 0) (λ o k. afterFirst mask set room o (firstOctet o) b k) f j → Accepts set room b f j
+    go : Steps (number 8 b 0) (λ o k. afterFirst mask set room (firstOctet o) b k) f j → Accepts set room b f j
     go (through o k q e) =
         let g = gives-number 8 .on z zero-le q in
         let p : 8 ≡ k = number-next 0 8 b 0 q in

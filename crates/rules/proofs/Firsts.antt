@@ -4,14 +4,15 @@ use native.Mathlib.Omega.{arith}
 use Prim.Native.Nat.{ℕ, _+_, _-_, _/_, _^_, _≤_, _<_}
 use mathlib.Core.Path.{_≡_, refl, sym, ap, ap₂}
 use mathlib.Core.List.{List, [], _∷_}
-use mathlib.Core.Bool.{Bool, true, false, Bool·beq, not, cond, _&&_, _||_, false≢true}
+use mathlib.Core.Bool.{Bool, true, false, Bool·beq, not, _&&_, _||_, false≢true}
 use lib.Dec.{eqb, leb, ltb}
 use lib.ListN.{length}
 use borrow.Author.Tests.{eqb-true, leb-true, lt-ltb}
 use Rattle.rules.specs.Tools.{isLength}
 use Rattle.rules.specs.Bits.{lowBits, valueFrom}
 use Rattle.rules.specs.Fractional.{firstCode, rowCount}
-use Rattle.rules.specs.First.{First, unassigned, pad, tool, sixOrEight, rows, lookUp, firstOctet, baseOf, octetFor, riceCode}
+use Rattle.rules.specs.First.{First, unassigned, pad, tool, fractionalRow, sixOrEight}
+use Rattle.rules.specs.First.{rows, lookUp, firstOctet, baseOf, octetFor, riceCode}
 use Rattle.rules.proofs.Tests.{and-left, and-right, or-cases, implied, allBelow, allBelow-at, by-length}
 
 -- no length has more than twelve rows
@@ -31,6 +32,7 @@ abbrev pub isUnassigned : First → Bool
 isUnassigned unassigned = true
 isUnassigned pad = false
 isUnassigned (tool t n) = false
+isUnassigned (fractionalRow k n) = false
 isUnassigned (sixOrEight n) = false
 
 beq-eq : (a b : Bool) → Bool·beq a b ≡ true → a ≡ b
@@ -45,14 +47,12 @@ prefix-exactly o h =
     beq-eq (isUnassigned (firstOctet o)) (isPrefix o) (allBelow-at (λ o. Bool·beq (isUnassigned (firstOctet o)) (isPrefix o)) 256 refl o h)
 
 -- A carried tool's first octet, and tool 6's length and three bits, are those that a writer gives it; and the length is one of the five.
--- Tool 11's is one of the length's rows.
-abbrev pub isCode : ℕ → ℕ → Bool
-isCode n o = leb (firstCode n) o && ltb o (firstCode n + rowCount n)
-
+-- Tool 11's is that of one of the length's rows.
 abbrev pub asWritten : ℕ → First → Bool
 asWritten o unassigned = true
 asWritten o pad = eqb o 0
-asWritten o (tool t n) = isLength n && cond (eqb t 11) (isCode n o) (leb 8 t || eqb o (octetFor t n))
+asWritten o (tool t n) = isLength n && (not (eqb t 6 || eqb t 11) && (leb 8 t || eqb o (octetFor t n)))
+asWritten o (fractionalRow k n) = isLength n && (ltb k (rowCount n) && eqb o (firstCode n + k))
 asWritten o (sixOrEight n) =
     isLength n && eqb (o / 2 ^ (8 - length (riceCode n 0)) / 2) (valueFrom 0 (riceCode n 0) / 2)
 
@@ -68,12 +68,14 @@ abbrev beginsTool : ℕ → ℕ → First → Bool
 beginsTool t n unassigned = false
 beginsTool t n pad = false
 beginsTool t n (tool u m) = eqb u t && eqb m n
+beginsTool t n (fractionalRow k m) = false
 beginsTool t n (sixOrEight m) = false
 
 begins-tool : (t n : ℕ) (f : First) → beginsTool t n f ≡ true → f ≡ tool t n
 begins-tool t n unassigned h = absurd (false≢true h)
 begins-tool t n pad h = absurd (false≢true h)
 begins-tool t n (tool u m) h = ap₂ tool (eqb-true u t (and-left (eqb u t) (eqb m n) h)) (eqb-true m n (and-right (eqb u t) (eqb m n) h))
+begins-tool t n (fractionalRow k m) h = absurd (false≢true h)
 begins-tool t n (sixOrEight m) h = absurd (false≢true h)
 
 abbrev own : ℕ → ℕ → Bool
@@ -94,14 +96,29 @@ first-of n t l e =
     (allBelow-at (own n) 8 (by-length (λ n. allBelow (own n) 8 ≡ true) refl refl refl refl refl n l) t (own-low n t e)) e)
 
 -- Tool 11: every row of a length
-abbrev rowBegins : ℕ → ℕ → Bool
-rowBegins n k = not (ltb k (rowCount n)) || beginsTool 11 n (firstOctet (firstCode n + k))
+abbrev beginsRow : ℕ → ℕ → First → Bool
+beginsRow k n unassigned = false
+beginsRow k n pad = false
+beginsRow k n (tool u m) = false
+beginsRow k n (fractionalRow j m) = eqb j k && eqb m n
+beginsRow k n (sixOrEight m) = false
 
-pub row-first : (n k : ℕ) → isLength n ≡ true → k < rowCount n → firstOctet (firstCode n + k) ≡ tool 11 n
+begins-row : (k n : ℕ) (f : First) → beginsRow k n f ≡ true → f ≡ fractionalRow k n
+begins-row k n unassigned h = absurd (false≢true h)
+begins-row k n pad h = absurd (false≢true h)
+begins-row k n (tool u m) h = absurd (false≢true h)
+begins-row k n (fractionalRow j m) h =
+    ap₂ fractionalRow (eqb-true j k (and-left (eqb j k) (eqb m n) h)) (eqb-true m n (and-right (eqb j k) (eqb m n) h))
+begins-row k n (sixOrEight m) h = absurd (false≢true h)
+
+abbrev rowBegins : ℕ → ℕ → Bool
+rowBegins n k = not (ltb k (rowCount n)) || beginsRow k n (firstOctet (firstCode n + k))
+
+pub row-first : (n k : ℕ) → isLength n ≡ true → k < rowCount n → firstOctet (firstCode n + k) ≡ fractionalRow k n
 unfolding firstOctet lookUp rows firstCode rowCount
 row-first n k l h =
-    begins-tool 11 n (firstOctet (firstCode n + k))
-    (implied (ltb k (rowCount n)) (beginsTool 11 n (firstOctet (firstCode n + k)))
+    begins-row k n (firstOctet (firstCode n + k))
+    (implied (ltb k (rowCount n)) (beginsRow k n (firstOctet (firstCode n + k)))
     (allBelow-at (rowBegins n) 12 (by-length (λ n. allBelow (rowBegins n) 12 ≡ true) refl refl refl refl refl n l) k
     (omega (arith, rows-few n l)))
     (lt-ltb k (rowCount n) h))
@@ -114,12 +131,14 @@ abbrev isSix : ℕ → First → Bool
 isSix n unassigned = false
 isSix n pad = false
 isSix n (tool t m) = false
+isSix n (fractionalRow k m) = false
 isSix n (sixOrEight m) = eqb m n
 
 is-six : (n : ℕ) (f : First) → isSix n f ≡ true → f ≡ sixOrEight n
 is-six n unassigned h = absurd (false≢true h)
 is-six n pad h = absurd (false≢true h)
 is-six n (tool t m) h = absurd (false≢true h)
+is-six n (fractionalRow k m) h = absurd (false≢true h)
 is-six n (sixOrEight m) h = ap sixOrEight (eqb-true m n h)
 
 abbrev six : ℕ → ℕ → ℕ → Bool

@@ -21,7 +21,7 @@ use lib.ListN.{length, getD, take, drop, length-map, length-append}
 use Rattle.rules.specs.Tools.{isLength}
 use Rattle.rules.specs.Samples.{sampleOf, onLine}
 use Rattle.rules.specs.Fractional.{valuesAt, firstCode, rowCount, radix, leastAt, greatestAt}
-use Rattle.rules.specs.Fractional.{lowAt, belowAt, valueFor, groupOf, bitsFor}
+use Rattle.rules.specs.Fractional.{lowAt, belowAt, valueFor, Coding, groupOf, bitsFor, codingOf}
 use Rattle.rules.specs.Fractional.{bodyBits, Packs, ofDigits, digitsOf, placeIn, groupsForm}
 use Rattle.rules.specs.Fractional.{groupsFormAs, samplesAt, fractionalBody, Printed, table728}
 use Rattle.rules.specs.Bits.{lowBits}
@@ -185,7 +185,7 @@ sample-told mask k d h l =
     ∙ ap (λ (n : ℕ). sampleOf mask (valueFor (lowAt k) (belowAt k) n)) (zero-add d)
 
 -- every R' of the table packs
-pub packs-of : (r n : ℕ) → 2 ≤ r → r ≤ 6 → n ≤ 320 → n % 40 ≡ 0 → Packs r (groupOf r) (bitsFor r) n
+pub packs-of : (r n : ℕ) → 2 ≤ r → r ≤ 6 → n ≤ 320 → n % 40 ≡ 0 → Packs (codingOf r) n
 unfolding groupOf bitsFor
 packs-of zero n h k a b = absurd (omega arith)
 packs-of (suc zero) n h k a b = absurd (omega arith)
@@ -207,17 +207,17 @@ group-fits zero filled g n e h = absurd (omega (arith, zero-mul g))
 group-fits (suc m) filled g n e h = omega (arith, suc-mul m g)
 
 -- the bits of a body
-length-groups : (r g w m : ℕ) (ds : List ℕ) → length (groupsForm r g w m ds) ≡ w * m
+length-groups : (c : Coding) (m : ℕ) (ds : List ℕ) → length (groupsForm c m ds) ≡ c .bits * m
 unfolding groupsForm
-length-groups r g w zero ds = omega arith
-length-groups r g w (suc m) ds =
-    length-append (lowBits w (ofDigits r (take g ds))) (groupsForm r g w m (drop g ds))
-    ∙ omega (arith, length-lowBits w (ofDigits r (take g ds)), length-groups r g w m (drop g ds), mul-suc w m)
+length-groups c zero ds = omega arith
+length-groups c (suc m) ds =
+    let v = ofDigits (c .radix) (take (c .group) ds) in
+    length-append (lowBits (c .bits) v) (groupsForm c m (drop (c .group) ds))
+    ∙ omega (arith, length-lowBits (c .bits) v, length-groups c m (drop (c .group) ds), mul-suc (c .bits) m)
 
 pub length-body : (mask k : ℕ) (s : List ℕ) → length (fractionalBody mask k s) ≡ bodyBits k (length s)
 unfolding groupsFormAs
-length-body mask k s = length-groups (radix k) (groupOf (radix k)) (bitsFor (radix k)) (length s / groupOf (radix k))
-    (map (placeIn (samplesAt mask k)) s)
+length-body mask k s = length-groups (codingOf (radix k)) (length s / groupOf (radix k)) (map (placeIn (samplesAt mask k)) s)
 
 -- of whatever row: 832 bits at most
 pub body-bits-most : (k n : ℕ) → n ≤ 320 → bodyBits k n ≤ 832

@@ -1,41 +1,77 @@
--- The row of a frame (specs/Chooses, tool 11): a frame that has a row is made of the row's values (`row-among`), and lies within it
--- (`row-extent`).
+-- The row of a frame (specs/Chooses): tool 7's is one of four and tool 11's one of its length's (`located-row`, `row-low`). A frame that has
+-- a row of tool 11 is made of the row's values (`row-among`), and lies within it (`row-extent`).
 use Prim.Native.Nat.{ℕ, zero, suc, _+_, _≤_, _<_}
 use mathlib.Core.Path.{_≡_, refl, sym, ap, _∙_}
 use mathlib.Core.Logic.{_⊎_, inl, inr}
 use mathlib.Core.List.{List, [], _∷_, map}
 use mathlib.Core.Bool.{Bool, true, false, cond, not, _&&_, _||_, false≢true}
 use native.Mathlib.Omega.{arith}
-use borrow.Author.Tests.{eqb-true, eqb-false, le-leb, leb-true, ltb-true, ne-eqb}
+use native.Mathlib.Nat.{le-refl}
+use borrow.Author.Tests.{eqb-true, eqb-false, le-leb, leb-true, lt-ltb, le-ltb, ltb-true, ne-eqb}
 use lib.Dec.{eqb, leb, ltb, lit<}
 use lib.IntN.{ℤ, pos, negsuc}
 use lib.ListN.{length}
 use Rattle.rules.specs.Samples.{signed, sampleOf, minusZero, onLine}
 use Rattle.rules.specs.Fractional.{valuesAt, rowCount, leastAt, greatestAt, minusAt, placeIn, samplesAt}
-use Rattle.rules.specs.Chooses.{countOf, leastOf, greatestOf, minusOccurs, sameTest}
-use Rattle.rules.specs.Chooses.{isRowOf, rowFrom, fractionalRow, fractionalApplies}
+use Rattle.rules.specs.Chooses.{countOf, leastOf, greatestOf, minusOccurs, sameTest, Row, none as no-row, row}
+use Rattle.rules.specs.Chooses.{hasRow, rowNumber, rowOr, isRow, rowOf, isRowOf, rowFrom, frameRow, fractionalApplies}
 use Rattle.rules.proofs.Octets.{Below, none, more}
 use Rattle.rules.proofs.Tests.{and-left, and-right, or-cases, allBelow, allBelow-at}
 use Rattle.rules.proofs.Signed.{InRange, LawMask, signed-range, told-by-line}
 use Rattle.rules.proofs.Fractional.{Among, done, and}
 use Rattle.rules.proofs.Accepted.{AllInRange, row-in-range-at}
 
--- the row found is the frame's
-row-step : (l g : ℕ) (m : Bool) (k n : ℕ) (b : Bool) → isRowOf l g m k ≡ b
-    → (rowFrom l g m (k + 1) n < k + 1 + n → isRowOf l g m (rowFrom l g m (k + 1) n) ≡ true)
-    → cond b k (rowFrom l g m (k + 1) n) < k + suc n → isRowOf l g m (cond b k (rowFrom l g m (k + 1) n)) ≡ true
-row-step l g m k n true e f h = e
-row-step l g m k n false e f h = f (omega arith)
+-- where there is a row, it is so
+abbrev pub Where : (ℕ → Type 0) → Row → Type 0
+Where P no-row = Unit {0}
+Where P (row k) = P k
 
-row-found : (l g : ℕ) (m : Bool) (k n : ℕ) → rowFrom l g m k n < k + n → isRowOf l g m (rowFrom l g m k n) ≡ true
+pub where-row : (P : ℕ → Type 0) (r : Row) → Where P r → hasRow r ≡ true → P (rowNumber r)
+where-row P no-row w e = absurd (false≢true e)
+where-row P (row k) w e = w
+
+where-cond : (P : ℕ → Type 0) (b : Bool) (r : Row) (k : ℕ) → (b ≡ true → P k) → Where P r → Where P (cond b (row k) r)
+where-cond P true r k p w = p refl
+where-cond P false r k p w = w
+
+-- a number below `past` is a row's, the others are not, where rows have numbers below it
+pub below-past : (past : ℕ) (r : Row) → Where (λ k. k < past) r → ltb (rowOr past r) past ≡ hasRow r
+below-past past no-row w = le-ltb past past (le-refl past)
+below-past past (row k) w = lt-ltb k past w
+
+pub number-or : (past : ℕ) (r : Row) → rowOr past r < past → rowNumber r ≡ rowOr past r
+number-or past no-row h = absurd (omega arith)
+number-or past (row k) h = refl
+
+-- tool 7's row is one of the four
+pub located-row : (P : ℕ → Type 0) (mask : ℕ) (s : List ℕ) → ((c : ℕ) → c < 4 → isRow mask s c ≡ true → P c) → Where P (rowOf mask s)
+unfolding rowOf
+located-row P mask s p =
+    where-cond P (isRow mask s 0) _ 0 (p 0 (lit< tt))
+    (where-cond P (isRow mask s 1) _ 1 (p 1 (lit< tt))
+    (where-cond P (isRow mask s 2) _ 2 (p 2 (lit< tt))
+    (where-cond P (isRow mask s 3) no-row 3 (p 3 (lit< tt)) tt)))
+
+pub located-low : (mask : ℕ) (s : List ℕ) → Where (λ c. c < 4) (rowOf mask s)
+located-low mask s = located-row (λ c. c < 4) mask s (λ c h e. h)
+
+-- tool 11's row is the frame's
+pub row-found : (P : ℕ → Type 0) (l g : ℕ) (m : Bool) (k n : ℕ) → ((j : ℕ) → j < k + n → isRowOf l g m j ≡ true → P j)
+    → Where P (rowFrom l g m k n)
 unfolding rowFrom
-row-found l g m k zero h = absurd (omega arith)
-row-found l g m k (suc n) h = row-step l g m k n (isRowOf l g m k) refl (row-found l g m (k + 1) n) h
+row-found P l g m k zero p = tt
+row-found P l g m k (suc n) p =
+    where-cond P (isRowOf l g m k) (rowFrom l g m (k + 1) n) k (p k (omega arith)) (row-found P l g m (k + 1) n (λ j h e. p j (omega arith) e))
 
-found-row : (mask : ℕ) (s : List ℕ) → fractionalRow mask s < rowCount (length s)
-    → isRowOf (leastOf mask s) (greatestOf mask s) (minusOccurs mask s) (fractionalRow mask s) ≡ true
-unfolding fractionalRow
-found-row mask s h = row-found (leastOf mask s) (greatestOf mask s) (minusOccurs mask s) 0 (rowCount (length s)) (omega arith)
+pub frame-row : (P : ℕ → Type 0) (mask : ℕ) (s : List ℕ)
+    → ((k : ℕ) → k < rowCount (length s) → isRowOf (leastOf mask s) (greatestOf mask s) (minusOccurs mask s) k ≡ true → P k)
+    → Where P (frameRow mask s)
+unfolding frameRow
+frame-row P mask s p =
+    row-found P (leastOf mask s) (greatestOf mask s) (minusOccurs mask s) 0 (rowCount (length s)) (λ k h e. p k (omega arith) e)
+
+pub row-low : (mask : ℕ) (s : List ℕ) → Where (λ k. k < rowCount (length s)) (frameRow mask s)
+row-low mask s = frame-row (λ k. k < rowCount (length s)) mask s (λ k h e. h)
 
 abbrev lineOf : ℕ → ℕ → ℕ
 lineOf mask x = onLine (signed mask x)
@@ -126,35 +162,38 @@ most-rows n = go (eqb n 40) (eqb n 80)
     go false true = omega arith
     go false false = omega arith
 
-pub row-low : (mask : ℕ) (s : List ℕ) → fractionalRow mask s < rowCount (length s) → fractionalRow mask s < 12
-row-low mask s h = omega (arith, most-rows (length s))
+-- "by its least, its greatest and whether -1 occurs": the row that is found has them, and is one of the twelve
+pub record Ends (mask : ℕ) (s : List ℕ) (k : ℕ) : Type 0 where
+  pub few : k < 12
+  pub own : k < rowCount (length s)
+  pub least : leastOf mask s ≡ leastAt k
+  pub greatest : greatestOf mask s ≡ greatestAt k
+  pub minus : sameTest (minusOccurs mask s) (minusAt k) ≡ true
 
--- "by its least, its greatest and whether -1 occurs": the row that is found has them
-record Ends (mask : ℕ) (s : List ℕ) : Type 0 where
-  pub least : leastOf mask s ≡ leastAt (fractionalRow mask s)
-  pub greatest : greatestOf mask s ≡ greatestAt (fractionalRow mask s)
-  pub minus : sameTest (minusOccurs mask s) (minusAt (fractionalRow mask s)) ≡ true
-
-row-ends : (mask : ℕ) (s : List ℕ) → fractionalRow mask s < rowCount (length s) → Ends mask s
-row-ends mask s h =
-    let k = fractionalRow mask s in
+row-ends : (mask : ℕ) (s : List ℕ) (k : ℕ) → k < rowCount (length s)
+    → isRowOf (leastOf mask s) (greatestOf mask s) (minusOccurs mask s) k ≡ true → Ends mask s k
+row-ends mask s k h t =
     let low : Bool = eqb (leastOf mask s) (leastAt k) in
     let high : Bool = eqb (greatestOf mask s) (greatestAt k) in
     let has : Bool = sameTest (minusOccurs mask s) (minusAt k) in
-    let t : low && high && has ≡ true = found-row mask s h in
     let u : low && high ≡ true = and-left (low && high) has t in
     record {
+      few = omega (arith, most-rows (length s));
+      own = h;
       least = eqb-true _ _ (and-left low high u);
       greatest = eqb-true _ _ (and-right low high u);
       minus = and-right (low && high) has t;
     }
 
-pub row-among : {mask : ℕ} → LawMask mask → (s : List ℕ) → Below 256 s → fractionalRow mask s < rowCount (length s)
-    → Among (samplesAt mask (fractionalRow mask s)) s
+pub the-row : (mask : ℕ) (s : List ℕ) → hasRow (frameRow mask s) ≡ true → Ends mask s (rowNumber (frameRow mask s))
+the-row mask s h = where-row (Ends mask s) (frameRow mask s) (frame-row (Ends mask s) mask s (row-ends mask s)) h
+
+pub row-among : {mask : ℕ} → LawMask mask → (s : List ℕ) → Below 256 s → hasRow (frameRow mask s) ≡ true
+    → Among (samplesAt mask (rowNumber (frameRow mask s))) s
 row-among {mask} l s b h =
-    let k = fractionalRow mask s in
-    let ends = row-ends mask s h in
-    among l k (row-low mask s h) b (omega (arith, ends .least)) (omega (arith, ends .greatest))
+    let k = rowNumber (frameRow mask s) in
+    let ends = the-row mask s h in
+    among l k (ends .few) b (omega (arith, ends .least)) (omega (arith, ends .greatest))
     (λ z. eqb-true _ _ (not-zero (eqb (countOf (λ x. eqb x (minusZero mask)) s) 0)
     (same-none (minusOccurs mask s) (minusAt k) (ends .minus) z)))
 
@@ -175,16 +214,15 @@ rows-wide = refl
 
 pub row-extent : (mask : ℕ) (s : List ℕ) → fractionalApplies mask s ≡ true → Rowed mask s
 row-extent mask s a =
-    let h = ltb-true (fractionalRow mask s) (rowCount (length s)) a in
-    let k = fractionalRow mask s in
-    let ends = row-ends mask s h in
+    let k = rowNumber (frameRow mask s) in
+    let ends = the-row mask s a in
     let e = ends .least in
     let f = ends .greatest in
     let p : Bool = leb 124 (leastAt k) in
     let q : Bool = leb (greatestAt k) 130 in
     let r : Bool = ltb (leastAt k) (greatestAt k) in
     let v : Bool = ltb (leastAt k) 127 || ltb 128 (greatestAt k) in
-    let w : p && q && r && v ≡ true = allBelow-at rowWide 12 rows-wide k (omega (arith, most-rows (length s))) in
+    let w : p && q && r && v ≡ true = allBelow-at rowWide 12 rows-wide k (ends .few) in
     let pqr = and-left (p && q && r) v w in
     let pq = and-left (p && q) r pqr in
     record {

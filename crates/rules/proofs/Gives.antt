@@ -17,7 +17,7 @@ use Rattle.rules.specs.Reading.{fail, here, bit, numberFrom, number, bit
 use Rattle.rules.specs.Runs.{zerosFrom, rice, runsFrom}
 use Rattle.rules.specs.Zeros.{Tree, leaf, fork, readTree}
 use Rattle.rules.specs.Located.{widthOf, listedFrom, listed, byMethod, emptyIn, lay, valuesInto}
-use Rattle.rules.specs.Fractional.{digitsOf, groupsFrom}
+use Rattle.rules.specs.Fractional.{Coding, digitsOf, groupsFrom}
 use Rattle.rules.proofs.Octets.{moved-up, Below, none, more, Sized, below-at, below-append, below-replicate}
 use Rattle.rules.proofs.Located.{lay-sized}
 use Rattle.rules.proofs.Fractional.{length-digits}
@@ -202,13 +202,13 @@ gives-valuesInto n z cells g (more {x = x} {l = xs} h t) c =
     (gives-valuesInto n z (lay z x flags 0 cells) g t (s .below)))))
 
 -- groups of digits
-pub gives-groupsFrom : (r g w : ℕ) (done : List ℕ) (count : ℕ)
-    → Gives (groupsFrom r g w done count) (λ digits. length digits ≡ length done + count * g)
+pub gives-groupsFrom : (c : Coding) (done : List ℕ) (count : ℕ)
+    → Gives (groupsFrom c done count) (λ digits. length digits ≡ length done + count * c .group)
 unfolding groupsFrom
-gives-groupsFrom r g w done zero = gives-give done (omega (arith, zero-mul g))
-gives-groupsFrom r g w done (suc count) =
-    gives-bind gives-here (λ start u. gives-bind (gives-number w) (λ v h.
-    gives-cond (ltb v (r ^ g))
-    (λ t. gives-as (λ digits e. e ∙ simp (length-append, length-digits) (omega (arith, suc-mul count g)))
-    (gives-groupsFrom r g w (done ++ digitsOf r g v) count))
+gives-groupsFrom c done zero = gives-give done (omega (arith, zero-mul (c .group)))
+gives-groupsFrom c done (suc count) =
+    gives-bind gives-here (λ start u. gives-bind (gives-number (c .bits)) (λ v h.
+    gives-cond (ltb v (c .radix ^ c .group))
+    (λ t. gives-as (λ digits e. e ∙ simp (length-append, length-digits) (omega (arith, suc-mul count (c .group))))
+    (gives-groupsFrom c (done ++ digitsOf (c .radix) (c .group) v) count))
     (λ t. gives-fail Place start)))

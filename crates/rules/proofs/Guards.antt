@@ -1,14 +1,14 @@
 -- What a guard's verdict says of every call that asks the same: `verdict-refused`, `verdict-done`; and that all is so where nothing
 -- refuses: `all-met`. Of the three calls: `read-refused`, `read-allowed`, `walk-refused`, `walk-allowed`, `write-refused`, `write-allowed`.
 use Prim.Native.Nat.{ℕ, suc}
-use mathlib.Core.Path.{_≡_, refl, sym, ap, subst}
-use mathlib.Core.List.{List, [], _∷_}
-use mathlib.Core.Bool.{Bool, true, false, cond, not, _||_}
+use mathlib.Core.Path.{_≡_, ap}
+use mathlib.Core.List.{List}
+use mathlib.Core.Bool.{cond, not, _||_}
+use native.Mathlib.Omega.{arith}
 use lib.ListN.{length, take}
 use lib.Dec.{eqb, ltb}
 use Rattle.rules.specs.declared.Refusal.{Refusal}
 use Rattle.rules.specs.declared.Refusal.the-variants.{Length, Room}
-use Rattle.rules.specs.declared.Ending.{Ending}
 use Rattle.rules.specs.declared.Ending.the-variants.{Done, Refused}
 use Rattle.rules.specs.Refusals.{Asked, judged, verdict}
 use Rattle.rules.specs.Tools.{isLength, readerAsks, writerAsks}
@@ -18,52 +18,24 @@ use Rattle.rules.specs.Reading.{Reader, refuse, fail}
 use Rattle.rules.specs.Frame.{Found, frame, readOne}
 use Rattle.rules.specs.Chooses.{wrote, declined, chosen, writeOne}
 use Rattle.rules.specs.Walk.{stopped, walkFrom, walkAsks, walkAll}
+use Rattle.rules.proofs.Judged.{AllMet, judged-met, judged-first, Apart, judged-passes, judged-refuses}
 
-abbrev IsDone : Ending → Type 0
-IsDone Done = Unit {0}
-IsDone (Refused why) = ⊥
-
-abbrev refusal : Refusal → Ending → Refusal
-refusal other Done = other
-refusal other (Refused why) = why
-
-pub not-done : {why : Refusal} → Refused why ≡ Done → ⊥
-not-done e = subst IsDone (sym e) tt
+-- how a call ends: done, or with a refusal
+pub endings : Apart Refused Done
+endings = record {
+  other = λ w e. let z : _≡_ {A = ℕ} 0 1 = cc in omega arith;
+  same = λ v w e. cc;
+}
 
 module _ {A : Type 0} (refused : Refusal → A) (next : A) where
-  one-refused : (met : Bool) (rest : List Asked) (first : Refusal) {why : Refusal}
-      → (verdict rest ≡ Refused why → judged rest refused next ≡ refused why)
-      → cond (not met) (Refused first) (verdict rest) ≡ Refused why
-      → cond (not met) (refused first) (judged rest refused next) ≡ refused why
-  one-refused true rest first ih e = ih e
-  one-refused false rest first {why} ih e = ap (λ (end : Ending). refused (refusal why end)) e
-
   pub verdict-refused : (asked : List Asked) {why : Refusal} → verdict asked ≡ Refused why → judged asked refused next ≡ refused why
-  verdict-refused [] e = absurd (not-done (sym e))
-  verdict-refused (a ∷ asked) e = one-refused (a .met) asked (a .why) (verdict-refused asked) e
-
-  one-done : (met : Bool) (rest : List Asked) (first : Refusal) → (verdict rest ≡ Done → judged rest refused next ≡ next)
-      → cond (not met) (Refused first) (verdict rest) ≡ Done → cond (not met) (refused first) (judged rest refused next) ≡ next
-  one-done true rest first ih e = ih e
-  one-done false rest first ih e = absurd (not-done e)
+  verdict-refused asked {why} e = judged-first refused next asked (judged-refuses endings asked why .0 e)
 
   pub verdict-done : (asked : List Asked) → verdict asked ≡ Done → judged asked refused next ≡ next
-  verdict-done [] e = refl
-  verdict-done (a ∷ asked) e = one-done (a .met) asked (a .why) (verdict-done asked) e
-
--- all that was asked is so, in its order
-abbrev pub AllMet : List Asked → Type 0
-AllMet [] = Unit {0}
-AllMet (a ∷ asked) = (a .met ≡ true) × AllMet asked
-
-one-met : (met : Bool) (rest : List Asked) (first : Refusal) → (verdict rest ≡ Done → AllMet rest)
-    → cond (not met) (Refused first) (verdict rest) ≡ Done → (met ≡ true) × AllMet rest
-one-met true rest first ih e = (refl, ih e)
-one-met false rest first ih e = absurd (not-done e)
+  verdict-done asked e = judged-met refused next asked (judged-passes endings asked .0 e)
 
 pub all-met : (asked : List Asked) → verdict asked ≡ Done → AllMet asked
-all-met [] e = tt
-all-met (a ∷ asked) e = one-met (a .met) asked (a .why) (all-met asked) e
+all-met asked e = judged-passes endings asked .0 e
 
 module _ (octets : List ℕ) (law set room : ℕ) where
   pub read-refused : {why : Refusal} → verdict (readerAsks law set) ≡ Refused why → readOne octets law set room ≡ refuse why 0

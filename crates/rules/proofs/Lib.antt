@@ -3,12 +3,14 @@ pub mod Octets
 pub mod Words
 pub mod Counts
 pub mod Tests
+pub mod Judged
 pub mod Guards
 pub mod Signed
 pub mod Firsts
 pub mod Codes
 pub mod Located
 pub mod Fractional
+pub mod Equations
 pub mod Gives
 pub mod Accepted
 pub mod Named

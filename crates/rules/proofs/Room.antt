@@ -11,9 +11,9 @@ use Rattle.rules.specs.declared.Refusal.the-variants.{Law, Set}
 use Rattle.rules.specs.Tools.{isLength, isLaw, isSet}
 use Rattle.rules.specs.Bits.{bitsOf}
 use Rattle.rules.specs.Reading.{Read, whole, refuse, Reader, andThen, fail, bit, number}
-use Rattle.rules.specs.First.{First, unassigned, pad, tool, sixOrEight, firstOctet, markAt, sixNotEight}
+use Rattle.rules.specs.First.{First, unassigned, pad, tool, fractionalRow, sixOrEight, firstOctet, markAt, sixNotEight}
 use Rattle.rules.specs.Samples.{maskOf}
-use Rattle.rules.specs.Frame.{Found, withTool, rowIn, afterFirst, frame, readOne}
+use Rattle.rules.specs.Frame.{Found, withTool, afterFirst, frame, readOne}
 use Rattle.rules.proofs.Octets.{Below, bitsOf-below}
 use Rattle.rules.proofs.Tests.{and-left, or-cases, by-length}
 use Rattle.rules.proofs.Firsts.{asWritten, first-as-written}
@@ -29,22 +29,23 @@ alike (whole a i) f g h = h a i refl
 alike (refuse w at) f g h = refl
 
 module _ (mask set room : ℕ) (enough : 320 ≤ room) where
-  with-tool : (t n mark : ℕ) → isLength n ≡ true → (b : List ℕ) (i : ℕ)
-      → withTool mask set room t n mark b i ≡ withTool mask set 320 t n mark b i
+  with-tool : (t n : ℕ) (r : Reader (List ℕ)) → isLength n ≡ true → (b : List ℕ) (i : ℕ)
+      → withTool set room t n r b i ≡ withTool set 320 t n r b i
   unfolding withTool
-  with-tool t n mark l b i =
+  with-tool t n r l b i =
       let m = length-most n l in
       rw (le-ltb room n (omega arith), le-ltb 320 n m)
 
   after-first : (o : ℕ) (first : First) → asWritten o first ≡ true → (b : List ℕ) (i : ℕ)
-      → afterFirst mask set room o first b i ≡ afterFirst mask set 320 o first b i
+      → afterFirst mask set room first b i ≡ afterFirst mask set 320 first b i
   unfolding afterFirst
   after-first o unassigned w b i = refl
   after-first o pad w b i = refl
-  after-first o (tool t n) w b i = with-tool t n (rowIn o t n) (and-left (isLength n) _ w) b i
+  after-first o (tool t n) w b i = with-tool t n _ (and-left (isLength n) _ w) b i
+  after-first o (fractionalRow k n) w b i = with-tool 11 n _ (and-left (isLength n) _ w) b i
   after-first o (sixOrEight n) w b i =
       alike (bit b (markAt n)) _ _
-      (λ mark k p. alike (sixNotEight b k) _ _ (λ t j q. with-tool t n mark (and-left (isLength n) _ w) b (markAt n + 1)))
+      (λ mark k p. alike (sixNotEight b k) _ _ (λ t j q. with-tool t n _ (and-left (isLength n) _ w) b (markAt n + 1)))
 
   one-frame : {b : List ℕ} → Below 2 b → frame mask set room b 0 ≡ frame mask set 320 b 0
   unfolding frame

@@ -16,11 +16,11 @@ use lib.ListN.{length, getD}
 use borrow.Author.Tests.{lt-ltb, le-ltb, eq-eqb, ne-eqb}
 use Rattle.rules.specs.declared.Refusal.the-variants.{Short, Prefix, Tool, Room, Case, Method, Run, Place, Align}
 use Rattle.rules.specs.Tools.{holds}
-use Rattle.rules.specs.Reading.{whole, refuse, bit, number, filled}
+use Rattle.rules.specs.Reading.{whole, refuse, Reader, bit, number, filled}
 use Rattle.rules.specs.First.{unassigned}
 use Rattle.rules.specs.Runs.{rice, runsFrom}
 use Rattle.rules.specs.Located.{valuesOf, listedFrom, byMethod, valuesInto, located}
-use Rattle.rules.specs.Fractional.{groupsFrom}
+use Rattle.rules.specs.Fractional.{Coding, groupsFrom}
 use Rattle.rules.specs.Frame.{withTool, afterFirst}
 use Rattle.rules.proofs.Named.{zeros-end}
 
@@ -46,10 +46,10 @@ module _ (b : List ℕ) (i : ℕ) where
   beyond-at w d p count done e h = rw (e, le-ltb p d h, and-false (leb (length done) p))
 
   -- and V not below R'^g
-  pub group-at : (r g w v more : ℕ) (done : List ℕ) {j : ℕ} → number w b i ≡ whole v j → r ^ g ≤ v
-      → groupsFrom r g w done (suc more) b i ≡ refuse Place i
+  pub group-at : (c : Coding) (v more : ℕ) (done : List ℕ) {j : ℕ} → number (c .bits) b i ≡ whole v j → c .radix ^ c .group ≤ v
+      → groupsFrom c done (suc more) b i ≡ refuse Place i
   unfolding groupsFrom
-  group-at r g w v more done e h = rw (e, le-ltb v (r ^ g) h)
+  group-at c v more done e h = rw (e, le-ltb v (c .radix ^ c .group) h)
 
   -- CASE: of range case, flag and N together
   pub case-at : (mask n c flag : ℕ) {j k : ℕ} → number 2 b i ≡ whole c j → number 1 b j ≡ whole flag k → length (valuesOf n c flag) ≡ 0
@@ -73,14 +73,14 @@ module _ (b : List ℕ) (i : ℕ) where
   align-at a n h z = rw (lt-ltb i (length b) h, ne-eqb (getD b i 0) 0 z)
 
   -- PREFIX, TOOL and ROOM
-  pub prefix-at : (mask set room o : ℕ) → afterFirst mask set room o unassigned b i ≡ refuse Prefix 0
+  pub prefix-at : (mask set room : ℕ) → afterFirst mask set room unassigned b i ≡ refuse Prefix 0
   unfolding afterFirst
-  prefix-at mask set room o = refl
+  prefix-at mask set room = refl
 
-  pub tool-at : (mask set room t n mark : ℕ) → holds set t ≡ false → withTool mask set room t n mark b i ≡ refuse (Tool t) 0
+  pub tool-at : (set room t n : ℕ) (r : Reader (List ℕ)) → holds set t ≡ false → withTool set room t n r b i ≡ refuse (Tool t) 0
   unfolding withTool
-  tool-at mask set room t n mark h = rw h
+  tool-at set room t n r h = rw h
 
-  pub room-at : (mask set room t n mark : ℕ) → holds set t ≡ true → room < n → withTool mask set room t n mark b i ≡ refuse Room 0
+  pub room-at : (set room t n : ℕ) (r : Reader (List ℕ)) → holds set t ≡ true → room < n → withTool set room t n r b i ≡ refuse Room 0
   unfolding withTool
-  room-at mask set room t n mark h l = rw (h, lt-ltb room n l)
+  room-at set room t n r h l = rw (h, lt-ltb room n l)

@@ -116,6 +116,25 @@ below mask s = countOf (λ x. ltb (onLine (signed mask x)) (onLine (pos 0))) s
 abbrev pub locatedFlag : ℕ → List ℕ → ℕ
 locatedFlag mask s = cond (leb (below mask s) (above mask s)) 1 0
 
+-- a frame's row of a table, where it has one
+pub data Row : Type 0 where
+  none : Row
+  row : ℕ → Row
+
+abbrev pub hasRow : Row → Bool
+hasRow none = false
+hasRow (row k) = true
+
+-- its number; where there is none it is not asked for
+abbrev pub rowNumber : Row → ℕ
+rowNumber none = 0
+rowNumber (row k) = k
+
+-- the two as one number: the row's, or `past` where there is none
+abbrev pub rowOr : ℕ → Row → ℕ
+rowOr past none = past
+rowOr past (row k) = k
+
 -- "least and greatest are a row's, N fits it"
 abbrev pub isRow : ℕ → List ℕ → ℕ → Bool
 isRow mask s c =
@@ -123,9 +142,13 @@ isRow mask s c =
     && eqb (greatestOf mask s) (onLine (caseOf c .greatest))
     && leb (caseOf c .from) (length s)
 
--- the row, or 4 where none is
-unfoldable pub rowOf : ℕ → List ℕ → ℕ
-rowOf mask s = cond (isRow mask s 0) 0 (cond (isRow mask s 1) 1 (cond (isRow mask s 2) 2 (cond (isRow mask s 3) 3 4)))
+unfoldable pub rowOf : ℕ → List ℕ → Row
+rowOf mask s =
+    cond (isRow mask s 0) (row 0)
+    (cond (isRow mask s 1) (row 1)
+    (cond (isRow mask s 2) (row 2)
+    (cond (isRow mask s 3) (row 3)
+    none)))
 
 -- "no value is more frequent than 0"; the rows have no others than 1, -1 and -2
 abbrev pub zeroLeads : ℕ → List ℕ → ℤ → Bool
@@ -134,8 +157,8 @@ zeroLeads mask s v = leb (countOf (λ x. eqb x (sampleOf mask v)) s) (countOf (�
 unfoldable pub locatedForm : ℕ → List ℕ → List ℕ
 locatedForm mask s =
     prefix 7 (length s)
-    ++ (lowBits 2 (rowOf mask s) ++ (lowBits 1 (locatedFlag mask s)
-    ++ valuesForm (map (sampleOf mask) (valuesOf (length s) (rowOf mask s) (locatedFlag mask s))) s))
+    ++ (lowBits 2 (rowNumber (rowOf mask s)) ++ (lowBits 1 (locatedFlag mask s)
+    ++ valuesForm (map (sampleOf mask) (valuesOf (length s) (rowNumber (rowOf mask s)) (locatedFlag mask s))) s))
 
 -- R-14, by 001's 7.11.2 and table 7-28: a frame's row is told by its least, its greatest and whether -1 occurs
 abbrev pub minusOccurs : ℕ → List ℕ → Bool
@@ -147,21 +170,22 @@ sameTest a b = cond a b (not b)
 abbrev pub isRowOf : ℕ → ℕ → Bool → ℕ → Bool
 isRowOf least greatest minus k = eqb least (leastAt k) && eqb greatest (greatestAt k) && sameTest minus (minusAt k)
 
--- of the rows from k on, so many, the first that is the frame's; the number past the last where none is
-unfoldable pub rowFrom : ℕ → ℕ → Bool → ℕ → ℕ → ℕ
-rowFrom least greatest minus k zero = k
-rowFrom least greatest minus k (suc more) = cond (isRowOf least greatest minus k) k (rowFrom least greatest minus (k + 1) more)
+-- of the rows from k on, so many, the first that is the frame's
+unfoldable pub rowFrom : ℕ → ℕ → Bool → ℕ → ℕ → Row
+rowFrom least greatest minus k zero = none
+rowFrom least greatest minus k (suc more) =
+    cond (isRowOf least greatest minus k) (row k) (rowFrom least greatest minus (k + 1) more)
 
-unfoldable pub fractionalRow : ℕ → List ℕ → ℕ
-fractionalRow mask s = rowFrom (leastOf mask s) (greatestOf mask s) (minusOccurs mask s) 0 (rowCount (length s))
+unfoldable pub frameRow : ℕ → List ℕ → Row
+frameRow mask s = rowFrom (leastOf mask s) (greatestOf mask s) (minusOccurs mask s) 0 (rowCount (length s))
 
 abbrev pub fractionalApplies : ℕ → List ℕ → Bool
-fractionalApplies mask s = ltb (fractionalRow mask s) (rowCount (length s))
+fractionalApplies mask s = hasRow (frameRow mask s)
 
 -- "8 bits" of prefix code, then the "codebits"
 unfoldable pub fractionalForm : ℕ → List ℕ → List ℕ
 fractionalForm mask s =
-    lowBits 8 (firstCode (length s) + fractionalRow mask s) ++ fractionalBody mask (fractionalRow mask s) s
+    lowBits 8 (firstCode (length s) + rowNumber (frameRow mask s)) ++ fractionalBody mask (rowNumber (frameRow mask s)) s
 
 -- which tools apply
 unfoldable pub applies : ℕ → ℕ → List ℕ → Bool
@@ -173,7 +197,7 @@ applies mask t s =
     (cond (leb t 6) (every (λ x. eqb x (plusZero mask) || eqb x (minusZero mask)) s)
     (cond (eqb t 11) (fractionalApplies mask s)
     (leb 80 (length s)
-    && ltb (rowOf mask s) 4
+    && hasRow (rowOf mask s)
     && zeroLeads mask s (pos 1) && zeroLeads mask s (negsuc 0) && zeroLeads mask s (negsuc 1)))))))
 
 -- a tool's form of a frame that it applies to

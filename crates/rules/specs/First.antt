@@ -1,4 +1,5 @@
--- Document 01, "First octet": the map from first octet to tool and length (001, tables 7-1, 7-2, 7-3; for 02 to 1F table 7-28).
+-- Document 01, "First octet": the map from first octet to tool and length (001, tables 7-1, 7-2, 7-3; for 02 to 1F table 7-28, where it
+-- tells the row too).
 use Prim.Native.Nat.{ℕ, _+_, _-_, _/_}
 use mathlib.Core.List.{List, [], _∷_, _++_}
 use mathlib.Core.Bool.{Bool, cond, _&&_}
@@ -9,6 +10,7 @@ use Rattle.rules.specs.Reading.{Reader, _>>=_, give, bit}
 pub data First : Type 0 where
   unassigned pad : First
   tool : ℕ → ℕ → First
+  fractionalRow : ℕ → ℕ → First
   sixOrEight : ℕ → First
 
 -- the octets from `low` to `high`, and what each of them begins
@@ -24,6 +26,10 @@ row low high first = record { low = low; high = high; begins = λ o. first }
 abbrev oneToFive : ℕ → ℕ → Row
 oneToFive low n = record { low = low; high = low + 4; begins = λ o. tool (o - low + 1) n }
 
+-- octets that are tool 11's, a row each, from row 0 on
+abbrev elevens : ℕ → ℕ → ℕ → Row
+elevens low high n = record { low = low; high = high; begins = λ o. fractionalRow (o - low) n }
+
 -- "20 uncompressed, .. 2C to 2F tool 9. 320 samples: the same with 3 for 2."
 abbrev longRows : ℕ → ℕ → List Row
 longRows base n =
@@ -37,11 +43,11 @@ longRows base n =
 unfoldable pub rows : List Row
 rows =
     row 0x00 0x00 pad
-    ∷ row 0x02 0x0D (tool 11 40)
-    ∷ row 0x0E 0x13 (tool 11 80)
-    ∷ row 0x14 0x17 (tool 11 160)
-    ∷ row 0x18 0x1B (tool 11 240)
-    ∷ row 0x1C 0x1F (tool 11 320)
+    ∷ elevens 0x02 0x0D 40
+    ∷ elevens 0x0E 0x13 80
+    ∷ elevens 0x14 0x17 160
+    ∷ elevens 0x18 0x1B 240
+    ∷ elevens 0x1C 0x1F 320
     ∷ oneToFive 0x40 40
     ∷ row 0x45 0x45 (tool 12 40)
     ∷ row 0x48 0x4F (tool 13 40)

@@ -64,8 +64,8 @@ lowAt k = 128 - leastAt k
 abbrev pub belowAt : ℕ → ℕ
 belowAt k = lowAt k - cond (minusAt k) 0 1
 
--- (7-77): the digit of a value; (8-23) to (8-28): the value of a digit. That these are the places of the table's values, from the least up,
--- is proved (proofs/Fractional, `values-told`)
+-- The digit of a value by (7-77), and the value of a digit by (8-23) to (8-28), without a sign. That these are the places of the table's
+-- values, from the least up, is proved (proofs/Fractional, `values-told`), and that they are what 001 prints (proofs/Equations)
 abbrev pub digitFor : ℕ → ℕ → ℤ → ℕ
 digitFor low below (pos y) = below + y
 digitFor low below (negsuc y) = low - suc y
@@ -73,27 +73,38 @@ digitFor low below (negsuc y) = low - suc y
 abbrev pub valueFor : ℕ → ℕ → ℕ → ℤ
 valueFor low below d = cond (ltb d below) (negsuc (low - suc d)) (pos (d - below))
 
--- Table 7-27: so many samples are coded together, and in so many bits. Where R' is 2 or 4 each one by itself, in 1 or 2 bits; else M = 5 of
--- them as one V, in 8, 12 or 13.
+-- How samples are coded: each has one of so many values, so many of them go together, and in so many bits
+pub record Coding : Type 0 where
+  pub radix : ℕ
+  pub group : ℕ
+  pub bits : ℕ
+
+abbrev pub coding : ℕ → ℕ → ℕ → Coding
+coding radix group bits = record { radix = radix; group = group; bits = bits }
+
+-- Table 7-27, by R'. Where it is 2 or 4 each sample by itself, in 1 or 2 bits; else M = 5 of them as one V, in 8, 12 or 13.
 unfoldable pub groupOf : ℕ → ℕ
 groupOf r = cond (eqb r 2 || eqb r 4) 1 5
 
 unfoldable pub bitsFor : ℕ → ℕ
 bitsFor r = cond (eqb r 2) 1 (cond (eqb r 4) 2 (cond (eqb r 3) 8 (cond (eqb r 5) 12 13)))
 
+abbrev pub codingOf : ℕ → Coding
+codingOf r = coding r (groupOf r) (bitsFor r)
+
 -- "Number of output bits per frame" of row k
 abbrev pub bodyBits : ℕ → ℕ → ℕ
 bodyBits k n = bitsFor (radix k) * (n / groupOf (radix k))
 
--- so g digits below r fit w bits, and n samples are whole groups (proofs/Fractional, `packs-of`)
-pub record Packs (r g w n : ℕ) : Type 0 where
-  pub some : 2 ≤ r
-  pub few : r ≤ 6
-  pub group : 1 ≤ g
-  pub five : g ≤ 5
-  pub bits : w ≤ 13
-  pub fits : r ^ g ≤ 2 ^ w
-  pub whole : n / g * g ≡ n
+-- so a group's digits fit its bits, and n samples are whole groups (proofs/Fractional, `packs-of`)
+pub record Packs (c : Coding) (n : ℕ) : Type 0 where
+  pub some : 2 ≤ c .radix
+  pub few : c .radix ≤ 6
+  pub group : 1 ≤ c .group
+  pub five : c .group ≤ 5
+  pub bits : c .bits ≤ 13
+  pub fits : c .radix ^ c .group ≤ 2 ^ c .bits
+  pub whole : n / c .group * c .group ≡ n
   pub room : n ≤ 320
 
 -- (7-78): V = l0 + l1 R' + .. + l4 R'^4; and the g digits of V, the lowest first
@@ -106,46 +117,41 @@ digitsOf r zero v = []
 digitsOf r (suc g) v = v % r ∷ digitsOf r g (v / r)
 
 -- So many groups more, after the digits `done`. Reading of R-14: V not below R'^g is PLACE, judged when V is whole, at V's first bit
-unfoldable pub groupsFrom : ℕ → ℕ → ℕ → List ℕ → ℕ → Reader (List ℕ)
-groupsFrom r g w done zero = give done
-groupsFrom r g w done (suc more) = do
+unfoldable pub groupsFrom : Coding → List ℕ → ℕ → Reader (List ℕ)
+groupsFrom c done zero = give done
+groupsFrom c done (suc more) = do
   start ← here
-  v ← number w
-  cond (ltb v (r ^ g)) (groupsFrom r g w (done ++ digitsOf r g v) more) (fail Place start)
+  v ← number (c .bits)
+  cond (ltb v (c .radix ^ c .group)) (groupsFrom c (done ++ digitsOf (c .radix) (c .group) v) more) (fail Place start)
 
-unfoldable pub groupsForm : ℕ → ℕ → ℕ → ℕ → List ℕ → List ℕ
-groupsForm r g w zero digits = []
-groupsForm r g w (suc more) digits = lowBits w (ofDigits r (take g digits)) ++ groupsForm r g w more (drop g digits)
+unfoldable pub groupsForm : Coding → ℕ → List ℕ → List ℕ
+groupsForm c zero digits = []
+groupsForm c (suc more) digits =
+    lowBits (c .bits) (ofDigits (c .radix) (take (c .group) digits)) ++ groupsForm c more (drop (c .group) digits)
 
 -- the place of a sample among these values, the least first: its digit
 unfoldable pub placeIn : List ℕ → ℕ → ℕ
 placeIn [] x = 0
 placeIn (y ∷ ys) x = cond (eqb x y) 0 (suc (placeIn ys x))
 
--- n samples of these values, in groups of g digits below r and w bits
-unfoldable pub groupsAs : List ℕ → ℕ → ℕ → ℕ → ℕ → Reader (List ℕ)
-groupsAs values r g w n = do
-  digits ← groupsFrom r g w [] (n / g)
+-- n samples of these values, in groups
+unfoldable pub groupsAs : List ℕ → Coding → ℕ → Reader (List ℕ)
+groupsAs values c n = do
+  digits ← groupsFrom c [] (n / c .group)
   give (map (λ d. getD values d 0) digits)
 
-unfoldable pub groupsFormAs : List ℕ → ℕ → ℕ → ℕ → List ℕ → List ℕ
-groupsFormAs values r g w s = groupsForm r g w (length s / g) (map (placeIn values) s)
-
-abbrev pub groupsOf : List ℕ → ℕ → ℕ → Reader (List ℕ)
-groupsOf values r n = groupsAs values r (groupOf r) (bitsFor r) n
-
-abbrev pub groupsFormOf : List ℕ → ℕ → List ℕ → List ℕ
-groupsFormOf values r s = groupsFormAs values r (groupOf r) (bitsFor r) s
+unfoldable pub groupsFormAs : List ℕ → Coding → List ℕ → List ℕ
+groupsFormAs values c s = groupsForm c (length s / c .group) (map (placeIn values) s)
 
 -- the values of row k as samples, and its body: of n samples as it is read, of the samples s as it is written
 unfoldable pub samplesAt : ℕ → ℕ → List ℕ
 samplesAt mask k = map (sampleOf mask) (valuesAt k)
 
 abbrev pub fractional : ℕ → ℕ → ℕ → Reader (List ℕ)
-fractional mask k n = groupsOf (samplesAt mask k) (radix k) n
+fractional mask k n = groupsAs (samplesAt mask k) (codingOf (radix k)) n
 
 abbrev pub fractionalBody : ℕ → ℕ → List ℕ → List ℕ
-fractionalBody mask k s = groupsFormOf (samplesAt mask k) (radix k) s
+fractionalBody mask k s = groupsFormAs (samplesAt mask k) (codingOf (radix k)) s
 
 -- Table 7-28 as it is printed: R, R', the values, and the prefix codes of 40, 80, 160, 240 and 320, as many as the row has. That `table`,
 -- `firstCode` and `rowCount` say the same is proved (proofs/Fractional, `as-printed`).

@@ -1,5 +1,5 @@
 -- Document 01, reading one frame: "in a frame PREFIX, tool decided, TOOL, ROOM, then body checks as the bits come, ALIGN last".
-use Prim.Native.Nat.{ℕ, _+_, _-_}
+use Prim.Native.Nat.{ℕ, _+_}
 use mathlib.Core.List.{List, []}
 use mathlib.Core.Bool.{cond, not}
 use lib.Dec.{eqb, ltb}
@@ -8,11 +8,11 @@ use Rattle.rules.specs.Refusals.{judged}
 use Rattle.rules.specs.Tools.{holds, readerAsks}
 use Rattle.rules.specs.Bits.{bitsOf, octetsFor, fillFor}
 use Rattle.rules.specs.Reading.{Read, Reader, _>>=_, give, fail, here, from, bit, number, filled}
-use Rattle.rules.specs.First.{First, unassigned, pad, tool, sixOrEight, firstOctet, markAt, sixNotEight}
+use Rattle.rules.specs.First.{First, unassigned, pad, tool, fractionalRow, sixOrEight, firstOctet, markAt, sixNotEight}
 use Rattle.rules.specs.Samples.{maskOf, plusZero, minusZero}
 use Rattle.rules.specs.Zeros.{uncompressed, constantly, constant, binary, plusMinus}
 use Rattle.rules.specs.Located.{located}
-use Rattle.rules.specs.Fractional.{firstCode, fractional}
+use Rattle.rules.specs.Fractional.{fractional}
 
 -- an accepted frame: its tool, its samples (their number is its length), and its bits, prefix and body and nothing else
 pub record Found : Type 0 where
@@ -23,46 +23,41 @@ pub record Found : Type 0 where
 abbrev pub octetsUsed : Found → ℕ
 octetsUsed f = octetsFor (f .bits)
 
--- the body of tool t; the mark is tool 6's, or tool 11's row
-unfoldable pub body : ℕ → ℕ → ℕ → ℕ → Reader (List ℕ)
-body mask t n mark =
+-- the body of a tool that its first octet tells whole: 1 to 5, and 7
+unfoldable pub body : ℕ → ℕ → ℕ → Reader (List ℕ)
+body mask t n =
     cond (eqb t 1) (uncompressed n)
     (cond (eqb t 2) (constantly n (plusZero mask))
     (cond (eqb t 3) (constantly n (minusZero mask))
     (cond (eqb t 4) (constant n)
     (cond (eqb t 5) (binary mask n)
-    (cond (eqb t 6) (plusMinus mask n mark)
-    (cond (eqb t 11) (fractional mask mark n)
-    (located mask n)))))))
+    (located mask n)))))
 
 -- the tool is decided: TOOL ("8 to 13, or 1 to 7 and not in the set"; R-14: 11 only where it is not in the set), ROOM, the body, ALIGN
-unfoldable pub withTool : ℕ → ℕ → ℕ → ℕ → ℕ → ℕ → Reader Found
-withTool mask set room t n mark =
+unfoldable pub withTool : ℕ → ℕ → ℕ → ℕ → Reader (List ℕ) → Reader Found
+withTool set room t n r =
     cond (not (holds set t)) (fail (Tool t) 0)
     (cond (ltb room n) (fail Room 0) (do
-      samples ← body mask t n mark
+      samples ← r
       bits ← here
       filled (record { tool = t; samples = samples; bits = bits }) (fillFor bits)))
 
--- what first octet o says besides its tool and length: tool 11's row. The others have nothing there
-abbrev pub rowIn : ℕ → ℕ → ℕ → ℕ
-rowIn o t n = cond (eqb t 11) (o - firstCode n) 0
-
--- what first octet o begins; "Pads need no tool", and "A pad reports 8 bits"
-unfoldable pub afterFirst : ℕ → ℕ → ℕ → ℕ → First → Reader Found
-afterFirst mask set room o unassigned = fail Prefix 0
-afterFirst mask set room o pad = give (record { tool = 0; samples = []; bits = 8 })
-afterFirst mask set room o (tool t n) = withTool mask set room t n (rowIn o t n)
-afterFirst mask set room o (sixOrEight n) =
+-- what the first octet begins; "Pads need no tool", and "A pad reports 8 bits"
+unfoldable pub afterFirst : ℕ → ℕ → ℕ → First → Reader Found
+afterFirst mask set room unassigned = fail Prefix 0
+afterFirst mask set room pad = give (record { tool = 0; samples = []; bits = 8 })
+afterFirst mask set room (tool t n) = withTool set room t n (body mask t n)
+afterFirst mask set room (fractionalRow k n) = withTool set room 11 n (fractional mask k n)
+afterFirst mask set room (sixOrEight n) =
     from (markAt n) (do
       mark ← bit
       t ← sixNotEight
-      from (markAt n + 1) (withTool mask set room t n mark))
+      from (markAt n + 1) (withTool set room t n (plusMinus mask n mark)))
 
 unfoldable pub frame : ℕ → ℕ → ℕ → Reader Found
 frame mask set room = do
   o ← number 8
-  afterFirst mask set room o (firstOctet o)
+  afterFirst mask set room (firstOctet o)
 
 -- one frame, `room` being the output's: "Order: LAW, SET", then the frame
 abbrev pub single : ℕ → ℕ → ℕ → Reader Found

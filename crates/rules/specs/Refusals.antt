@@ -1,13 +1,14 @@
 -- Document 01, "Numbered refusals": for each case of the answers' enums the paper's number, and the tool that it gives; and what it is to
 -- ask in order.
 use Prim.Native.Nat.{ℕ}
-use mathlib.Core.List.{List, [], _∷_}
-use mathlib.Core.Bool.{Bool, cond, not}
+use mathlib.Core.List.{List}
 use Rattle.rules.specs.declared.Refusal.{Refusal}
 use Rattle.rules.specs.declared.Refusal.the-variants.{Short, Prefix, Tool, Room, Case, Method, Run}
 use Rattle.rules.specs.declared.Refusal.the-variants.{Place, Align, Length, Set, Law, Long}
 use Rattle.rules.specs.declared.Ending.{Ending}
 use Rattle.rules.specs.declared.Ending.the-variants.{Done, Refused}
+use Rattle.rules.specs.Judged as judging
+pub use Rattle.rules.specs.Judged.{ask, judged}
 
 abbrev pub refusalNumber : Refusal → ℕ
 refusalNumber Short = 1
@@ -50,17 +51,8 @@ toolNamed Done = 0
 toolNamed (Refused w) = refusalTool w
 
 -- "Order: LAW, SET, then LENGTH or LONG": what a call asks before all else, each with the refusal where it is not so, in their order
-pub record Asked : Type 0 where
-  pub met : Bool
-  pub why : Refusal
-
-abbrev pub ask : Refusal → Bool → Asked
-ask why met = record { met = met; why = why }
-
--- the first that is not so refuses; where all are so comes what follows
-abbrev pub judged : {A : Type 0} → List Asked → (Refusal → A) → A → A
-judged [] refused next = next
-judged (a ∷ more) refused next = cond (not (a .met)) (refused (a .why)) (judged more refused next)
+abbrev pub Asked : Type 0
+Asked = judging.Asked Refusal
 
 -- how a call ends that asks nothing else
 abbrev pub verdict : List Asked → Ending

@@ -3,14 +3,16 @@
 -- `delete-found`.
 use Prim.Native.Nat.{ℕ, _+_, _*_, _≤_, _<_}
 use mathlib.Core.Path.{_≡_, refl, sym, ap, subst, _∙_}
-use mathlib.Core.List.{List}
-use mathlib.Core.Bool.{Bool, true, false, cond}
+use mathlib.Core.List.{List, [], _∷_}
+use mathlib.Core.Bool.{Bool, true, false}
 use native.Mathlib.Omega.{arith}
 use lib.ListN.{length, getD}
 use lib.Dec.{leb}
 use borrow.Author.Tests.{lt-ltb, le-ltb, le-leb, lt-leb}
+use Rattle.rules.specs.Judged.{bar}
+use Rattle.rules.proofs.Judged.{judged-ap}
 use Rattle.store_rows.specs.declared.rows.Row.{Row}
-use Rattle.store_rows.specs.Limits.{sizeOf}
+use Rattle.store_rows.specs.Limits.{mostGreetings, sizeOf}
 use Rattle.store_rows.specs.Rows.{held}
 use Rattle.store_rows.specs.Cells.{rowAt, rowsOf, laid}
 use Rattle.store_notes.specs.Notes.{removeNote}
@@ -33,11 +35,6 @@ use Rattle.store_notes.proofs.Stored.{stored-less}
 
 pub says-refused : {o : Outcome} {w : Refusal} (b t : List ℕ) → o ≡ refused w → Says o b t b t (Refused w)
 says-refused b t e = rw e (record { answer = refl; block = refl; table = refl })
-
-long-by : (a c : Bool) → cond a (refused Bad) (cond c (refused Full) (refused NoRoom)) ≡ refused (cond a Bad (cond c Full NoRoom))
-long-by true c = refl
-long-by false true = refl
-long-by false false = refl
 
 -- the same, in the code's order
 module _ (n law : ℕ) (xs : List ℕ) where
@@ -67,7 +64,9 @@ module _ (b t : List ℕ) (size law x : ℕ) (xs : List ℕ) {n i : ℕ} (k : Lo
     unfolding putIn longOf
     put-long {w} e g =
         let over = lt-ltb size (held (rowsOf t) + length xs) (omega arith) in
-        says-refused b t (rw (le-leb law 1 l, k .allowed, free size t x k h, many size t x k, over, e) (long-by (isBad law xs) (leb 32 n)))
+        says-refused b t
+        (rw (le-leb law 1 l, k .allowed, free size t x k h, many size t x k, over, e)
+        (sym (judged-ap refused (λ w. w) NoRoom (bar Bad (isBad law xs) ∷ bar Full (leb mostGreetings n) ∷ []))))
 
     pub put-bad : isBad law xs ≡ true → Says put-is b t b t (Refused Bad)
     unfolding putIn

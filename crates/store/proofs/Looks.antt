@@ -1,13 +1,15 @@
 -- What all calls judge, in the code's order: `look-low`, `look-high`, `look-found`; and what follows where a call goes on: `look-told`,
 -- `taken`, `free`.
 use Prim.Native.Nat.{ℕ, _+_, _*_, _-_, _≤_, _<_}
-use mathlib.Core.Path.{_≡_, refl, sym, ap, _∙_}
-use mathlib.Core.List.{List}
-use mathlib.Core.Bool.{Bool, true, false, cond, not, _&&_}
+use mathlib.Core.Path.{_≡_, sym, ap, _∙_}
+use mathlib.Core.List.{List, [], _∷_}
+use mathlib.Core.Bool.{Bool, true, false, _&&_}
 use native.Mathlib.Omega.{arith}
 use lib.ListN.{length, getD}
 use lib.Dec.{leb}
 use borrow.Author.Tests.{le-leb, lt-leb, leb-true}
+use Rattle.rules.specs.Judged.{ask, judged}
+use Rattle.rules.proofs.Judged.{by-judged, judged-first, Apart, judged-refuses}
 use Rattle.store_rows.specs.Limits.{isNumber}
 use Rattle.store_rows.specs.Finding.{absent, findFrom}
 use Rattle.store_rows.specs.Cells.{rowsAt, rowsOf}
@@ -26,6 +28,10 @@ second : (a b : Bool) → a && b ≡ true → b ≡ true
 second true b e = e
 second false b e = cc
 
+-- a call stops or goes on
+looks : (n i : ℕ) → Apart Stop (Found n i)
+looks n i = record { other = λ w e. let z : _≡_ {A = ℕ} 0 1 = cc in omega arith; same = λ v w e. cc }
+
 module _ (t : List ℕ) (x : ℕ) where
   pub look-low : x < 1 → Stop Number ≡ lookOf t x
   unfolding lookOf
@@ -42,14 +48,11 @@ module _ (t : List ℕ) (x : ℕ) where
       rw (le-leb 1 x h, le-leb x 65535 g, ← c) (ap (λ (y : ℕ). Found n y) (p ∙ ap (λ (y : ℕ). findFrom x 0 (rowsAt t y 1)) z))
 
   -- a call that stops: what it would do over the list of greetings begins with NUMBER too
-  stops-by : {w : Refusal} (b : Bool) (rest : Outcome) → Stop w ≡ cond (not b) (Stop Number) (Found (getD t 0 0) (findFrom x 0 (rowsOf t)))
-      → cond (not b) (refused Number) rest ≡ refused w
-  stops-by false rest e = ap refused cc
-  stops-by true rest e = let z : _≡_ {A = ℕ} 0 1 = cc in absurd (omega arith)
-
-  pub look-stops : {w : Refusal} (rest : Outcome) → Stop w ≡ lookOf t x → cond (not (isNumber x)) (refused Number) rest ≡ refused w
+  pub look-stops : {w : Refusal} (rest : Outcome) → Stop w ≡ lookOf t x → judged (ask Number (isNumber x) ∷ []) refused rest ≡ refused w
   unfolding lookOf
-  look-stops rest e = stops-by (isNumber x) rest e
+  look-stops {w} rest e =
+      let asks = ask Number (isNumber x) ∷ [] in
+      judged-first refused rest asks (judged-refuses (looks (getD t 0 0) (findFrom x 0 (rowsOf t))) asks w .0 (sym e))
 
 -- TABLE, or what follows
 pub on-table : (size : ℕ) (t : List ℕ) {s : Bool} → s ≡ saneStore size t → s ≡ true → (o : Outcome) → onTable size t o ≡ o
@@ -60,14 +63,13 @@ off-table size t e f o = rw (← e, f)
 
 module _ (size : ℕ) (t : List ℕ) (x : ℕ) where
   -- a call that goes on
-  told-by : {n i : ℕ} (b : Bool) → saneStore size t ≡ true → isNumber x ≡ b
-      → Found n i ≡ cond (not b) (Stop Number) (Found (getD t 0 0) (findFrom x 0 (rowsOf t))) → Looked size t x n i
-  told-by false p q e = let z : _≡_ {A = ℕ} 0 1 = cc in absurd (omega arith)
-  told-by true p q e = record { sane = p; noted = sane-noted size t p; allowed = q; count = cc; place = cc }
-
   pub look-told : {n i : ℕ} → saneStore size t ≡ true → Found n i ≡ lookOf t x → Looked size t x n i
   unfolding lookOf
-  look-told p e = told-by (isNumber x) p refl e
+  look-told {n} {i} p e =
+      by-judged Stop (Found (getD t 0 0) (findFrom x 0 (rowsOf t))) (λ o. Found n i ≡ o → Looked size t x n i)
+      (ask Number (isNumber x) ∷ [])
+      (λ m g. record { sane = p; noted = sane-noted size t p; allowed = m .0; count = cc; place = cc })
+      (λ w f g. absurd (looks n i .other w (sym g))) e
 
   module _ {n i : ℕ} (k : Looked size t x n i) where
     pub many : length (rowsOf t) ≡ n

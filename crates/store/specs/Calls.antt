@@ -1,8 +1,8 @@
 -- The contract of each public call: its answer, the block and the table, for any block, table and octets at all.
 use Prim.Native.Nat.{ℕ}
 use mathlib.Core.Path.{_≡_}
-use mathlib.Core.List.{List}
-use mathlib.Core.Bool.{cond, not}
+use mathlib.Core.List.{List, [], _∷_}
+use Rattle.rules.specs.Judged.{Asked, ask, judged}
 use Rattle.store_rows.specs.Limits.{sizeOf}
 use Rattle.store_rows.specs.Cells.{rowsOf}
 use Rattle.store_notes.specs.Cells.{notesOf, stored}
@@ -11,7 +11,7 @@ use Rattle.store.specs.declared.Refusal.{Refusal}
 use Rattle.store.specs.declared.Refusal.the-variants.{Room, Law, Number, Taken, Absent, Bad, Full, NoRoom, Table}
 use Rattle.store.specs.declared.Answer.{Answer}
 use Rattle.store.specs.declared.Answer.the-variants.{Done, Refused}
-use Rattle.store.specs.Store.{Outcome, leaves, refused, putIn, getIn, deleteIn}
+use Rattle.store.specs.Store.{Outcome, leaves, refused, putAsks, putIn, findAsks, getIn, deleteIn}
 
 -- the paper's number of a refusal; an accepted call has 0
 abbrev pub refusalNumber : Refusal → ℕ
@@ -39,8 +39,18 @@ secondOf (Done first second) = second
 secondOf (Refused w) = 0
 
 -- a lent table is judged first: TABLE where it is not what calls leave
+abbrev pub tableAsk : ℕ → List ℕ → Asked Refusal
+tableAsk size t = ask Table (saneStore size t)
+
+-- "Refusals, in order", TABLE first
+abbrev pub putOrder : List ℕ → List ℕ → ℕ → ℕ → List ℕ → List (Asked Refusal)
+putOrder b t law number xs = tableAsk (sizeOf b) t ∷ putAsks (sizeOf b) (rowsOf t) law number xs
+
+abbrev pub findOrder : List ℕ → List ℕ → ℕ → List (Asked Refusal)
+findOrder b t number = tableAsk (sizeOf b) t ∷ findAsks (rowsOf t) number
+
 abbrev pub onTable : ℕ → List ℕ → Outcome → Outcome
-onTable size t o = cond (not (saneStore size t)) (refused Table) o
+onTable size t o = judged (tableAsk size t ∷ []) refused o
 
 abbrev pub putOf : List ℕ → List ℕ → ℕ → ℕ → List ℕ → Outcome
 putOf b t law number xs = onTable (sizeOf b) t (putIn b (sizeOf b) (rowsOf t) (notesOf t) law number xs)

@@ -2,10 +2,11 @@
 -- Then a put in its steps: how a greeting longer than the block is refused, what is left to judge, and what is done where it fits.
 use Prim.Native.Nat.{ℕ}
 use mathlib.Core.Path.{_≡_}
-use mathlib.Core.List.{List}
-use mathlib.Core.Bool.{true, cond, not}
+use mathlib.Core.List.{List, [], _∷_}
+use mathlib.Core.Bool.{true}
 use lib.ListN.{length, getD}
 use lib.Dec.{leb}
+use Rattle.rules.specs.Judged.{ask, bar, judged}
 use Rattle.store_rows.specs.Limits.{isNumber, mostGreetings}
 use Rattle.store_rows.specs.Finding.{findFrom}
 use Rattle.store_rows.specs.Rows.{rowOf}
@@ -23,9 +24,7 @@ use Rattle.store.specs.Store.{leaves, fitted, putIn}
 use Rattle.store.specs.Calls.{Says}
 
 unfoldable pub lookOf : List ℕ → ℕ → Look
-lookOf t number =
-    cond (not (isNumber number)) (Stop Number)
-    (Found (getD t 0 0) (findFrom number 0 (rowsOf t)))
+lookOf t number = judged (ask Number (isNumber number) ∷ []) Stop (Found (getD t 0 0) (findFrom number 0 (rowsOf t)))
 
 -- n greetings, and the number's place i among them, after both were judged
 pub record Looked (size : ℕ) (t : List ℕ) (number n i : ℕ) : Type 0 where
@@ -37,7 +36,7 @@ pub record Looked (size : ℕ) (t : List ℕ) (number n i : ℕ) : Type 0 where
 
 -- a greeting longer than the block, once it is neither TAKEN nor its number refused: it never fits
 unfoldable pub longOf : ℕ → ℕ → List ℕ → Refusal
-longOf n law xs = cond (isBad law xs) Bad (cond (leb mostGreetings n) Full NoRoom)
+longOf n law xs = judged (bar Bad (isBad law xs) ∷ bar Full (leb mostGreetings n) ∷ []) (λ why. why) NoRoom
 
 -- a put, once the table, the law and the number were judged
 abbrev pub PutsIn : ℕ → ℕ → ℕ → List ℕ → List ℕ → List ℕ → List ℕ → List ℕ → Answer → Type 0

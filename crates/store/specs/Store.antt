@@ -1,10 +1,10 @@
 -- Document 02, R-6: "Put, get (start and octets), delete; a refused one changes nothing." Over a block of a size, the list of its greetings
 -- and their notes (R-8): "Every put and move keeps marks true to what the walk gives."
 use Prim.Native.Nat.{ℕ, _+_}
-use mathlib.Core.List.{List}
-use mathlib.Core.Bool.{cond, not}
+use mathlib.Core.List.{List, [], _∷_}
 use lib.ListN.{length}
 use lib.Dec.{leb, ltb}
+use Rattle.rules.specs.Judged.{Asked, ask, bar, judged}
 use Rattle.rules.specs.Tools.{isLaw}
 use Rattle.store_rows.specs.declared.rows.Row.{Row}
 use Rattle.store_rows.specs.declared.rows.Gap.{Gap}
@@ -65,33 +65,35 @@ fitted b rows notes size law number xs = putAt b rows notes law number xs (lowes
 -- "Refusals, in order: NUMBER (15), TAKEN (16) on put .., BAD (18) .., FULL (19) at 32, NOROOM (20)", and R-8: "LAW first on put".
 -- "NOROOM is given exactly when no earlier refusal is and the octets held plus the new ones exceed" the size,
 -- wherever the deleted room lies.
+abbrev pub putAsks : ℕ → List Row → ℕ → ℕ → List ℕ → List (Asked Refusal)
+putAsks size rows law number xs =
+    ask Law (isLaw law)
+    ∷ ask Number (isNumber number)
+    ∷ ask Taken (absent number rows)
+    ∷ bar Bad (isBad law xs)
+    ∷ bar Full (leb mostGreetings (length rows))
+    ∷ bar NoRoom (ltb size (held rows + length xs))
+    ∷ []
+
 unfoldable pub putIn : List ℕ → ℕ → List Row → List Note → ℕ → ℕ → List ℕ → Outcome
 putIn b size rows notes law number xs =
-    cond (not (isLaw law)) (refused Law)
-    (cond (not (isNumber number)) (refused Number)
-    (cond (not (absent number rows)) (refused Taken)
-    (cond (isBad law xs) (refused Bad)
-    (cond (leb mostGreetings (length rows)) (refused Full)
-    (cond (ltb size (held rows + length xs)) (refused NoRoom)
-    (leaves (fitted b rows notes size law number xs)))))))
+    judged (putAsks size rows law number xs) refused (leaves (fitted b rows notes size law number xs))
 
 -- "get (start and octets)"
 abbrev pub gotten : List ℕ → List Row → List Note → Row → After
 gotten b rows notes r = record { block = b; rows = rows; notes = notes; first = r .start; second = r .octets }
 
 -- "NUMBER (15), .. ABSENT (17) on get and delete"
+abbrev pub findAsks : List Row → ℕ → List (Asked Refusal)
+findAsks rows number = ask Number (isNumber number) ∷ bar Absent (absent number rows) ∷ []
+
 unfoldable pub getIn : List ℕ → List Row → List Note → ℕ → Outcome
 getIn b rows notes number =
-    cond (not (isNumber number)) (refused Number)
-    (cond (absent number rows) (refused Absent)
-    (leaves (gotten b rows notes (nth (findFrom number 0 rows) rows))))
+    judged (findAsks rows number) refused (leaves (gotten b rows notes (nth (findFrom number 0 rows) rows)))
 
 -- a delete writes nothing into the block, and tells nothing
 abbrev pub without : List ℕ → List Row → List Note → ℕ → After
 without b rows notes i = record { block = b; rows = removeAt i rows; notes = removeNote i notes; first = 0; second = 0 }
 
 unfoldable pub deleteIn : List ℕ → List Row → List Note → ℕ → Outcome
-deleteIn b rows notes number =
-    cond (not (isNumber number)) (refused Number)
-    (cond (absent number rows) (refused Absent)
-    (leaves (without b rows notes (findFrom number 0 rows))))
+deleteIn b rows notes number = judged (findAsks rows number) refused (leaves (without b rows notes (findFrom number 0 rows)))

@@ -5,7 +5,7 @@ ghost use mathlib.Core.Path.{_≡_};
 ghost use Prim.Native.Nat.{_+_, _^_, _≤_, _<_};
 ghost use lib.ListN.{length, getD};
 ghost use Rattle.rules.specs.Tools.{mostLaw};
-ghost use Rattle.store_rows.specs.Limits.{largestBlock, mostNumber};
+ghost use Rattle.store_rows.specs.Limits.{largestBlock, mostNumber, listCells};
 ghost use Rattle.store_rows.specs.Rows.{held as heldBy};
 ghost use Rattle.store_rows.specs.Cells.{rowsOf};
 ghost use Rattle.store_notes.specs.Sane.{Noted};
@@ -13,7 +13,7 @@ ghost use Rattle.store_notes.specs.Changed.{Taken};
 ghost use Rattle.store.specs.Calls.{refusalNumber, numberOf, firstOf, secondOf, Put, Get, Delete};
 ghost use Rattle.store.specs.Looking.{lookOf, Looked, longOf, PutsIn, FitsIn, PlacedAt};
 use store_greeting::marks::Tally;
-use store_notes::Sound;
+use store_notes::Head;
 use store_rows::rows::Gap;
 use store_rows::rows::Row;
 
@@ -40,6 +40,14 @@ pub enum Answer {
 pub enum Look {
     Stop(Refusal),
     Found(usize, usize),
+}
+
+// What a put goes on with: the block's size, how many greetings there are, and the number's place among them.
+pub struct Sought {
+    pub size: usize,
+    pub n: usize,
+    pub i: usize,
+    pub number: usize,
 }
 
 pub fn refusal_number(why: Refusal) -> u32
@@ -112,9 +120,10 @@ fn place(
     number: usize,
     octets: &[u8],
 )
-    requires { ⌜ (n ≡ getD (now table) 0 0) × (n ≤ 31) × (i ≤ n) × (97 ≤ length (now table)) × (number < 2 ^ 32) ⌝ }
+    requires { ⌜ (n ≡ getD (now table) 0 0) × (n ≤ 31) × (i ≤ n) × (listCells ≤ length (now table)) × (number < 2 ^ 32) ⌝ }
     requires { ⌜ (at + length (now octets) ≤ length (now block)) × (at + length (now octets) < 2 ^ 32) ⌝ }
-    ensures { λ _. ⌜ PlacedAt i at number (now (octets .entry)) (now (block .entry)) (now (table .entry)) (now (block .exit)) (now (table .exit)) ⌝ }
+    ensures { λ _. ⌜ PlacedAt i at number (now (octets .entry)) (now (block .entry)) (now (table .entry))
+        (now (block .exit)) (now (table .exit)) ⌝ }
 {
     let len = octets.len();
     store_rows::placing::copy(block, at, octets);
@@ -130,34 +139,43 @@ fn place(
     );
 }
 
-// "A put takes the lowest gap that holds it; if none does, all greetings first close up from 0 in their order." Behind them there is room then.
-// Its note stands among the notes where its row stands among the rows.
+// "A put takes the lowest gap that holds it; if none does, all greetings first close up from 0 in their order."
+// Behind them there is room then. Its note stands among the notes where its row stands among the rows.
 fn fit(
     block: &mut [u8],
     table: &mut [u32],
-    n: usize,
-    size: usize,
-    number: usize,
-    octets: &[u8],
+    sought: Sought,
     behind: usize,
-    sound: Sound,
+    octets: &[u8],
+    head: Head,
     marks: &[u32],
 ) -> Answer
-    requires { ⌜ (n ≡ getD (now table) 0 0) × (n ≤ 31) × (number < 2 ^ 32) × (size ≤ length (now block)) × (size ≤ largestBlock) ⌝ }
-    requires { ⌜ Noted size (now table) × (behind ≡ heldBy (rowsOf (now table))) × (behind + length (now octets) ≤ size) ⌝ }
-    requires { ⌜ Taken (sound .law) (now octets) (now marks) (sound .samples) (sound .marks) ⌝ }
-    ensures { λ r. ⌜ FitsIn size (sound .law) number (now (octets .entry)) (now (block .entry)) (now (table .entry)) (now (block .exit)) (now (table .exit)) r ⌝ }
+    requires { ⌜ (sought .n ≡ getD (now table) 0 0) × (sought .n ≤ 31) × (sought .number < 2 ^ 32)
+        × (sought .size ≤ length (now block)) × (sought .size ≤ largestBlock) ⌝ }
+    requires { ⌜ Noted (sought .size) (now table)
+        × (behind ≡ heldBy (rowsOf (now table))) × (behind + length (now octets) ≤ sought .size) ⌝ }
+    requires { ⌜ Taken head (now octets) (now marks) ⌝ }
+    ensures { λ r. ⌜ FitsIn (sought .size) (head .law) (sought .number) (now (octets .entry)) (now (block .entry)) (now (table .entry))
+        (now (block .exit)) (now (table .exit)) r ⌝ }
 {
-    match store_rows::rows::lowest_gap(table, n, size, octets.len()) {
+    match store_rows::rows::lowest_gap(table, sought.n, sought.size, octets.len()) {
         Gap::At(i, at) => {
-            place(block, table, n, i, at, number, octets);
-            store_notes::put_taken(table, n, i, sound, octets, marks);
+            place(block, table, sought.n, i, at, sought.number, octets);
+            store_notes::put_taken(table, sought.n, i, head, octets, marks);
             Answer::Done(at, 0)
         }
         Gap::Nowhere => {
-            let moved = store_rows::closing::close_up(block, table, size);
-            place(block, table, n, n, behind, number, octets);
-            store_notes::put_taken(table, n, n, sound, octets, marks);
+            let moved = store_rows::closing::close_up(block, table, sought.size);
+            place(
+                block,
+                table,
+                sought.n,
+                sought.n,
+                behind,
+                sought.number,
+                octets,
+            );
+            store_notes::put_taken(table, sought.n, sought.n, head, octets, marks);
             Answer::Done(behind, moved)
         }
     }
@@ -180,50 +198,41 @@ fn over_long(n: usize, octets: &[u8], law: u32) -> Refusal
 fn put_sound(
     block: &mut [u8],
     table: &mut [u32],
-    size: usize,
-    n: usize,
-    i: usize,
-    number: usize,
+    sought: Sought,
     octets: &[u8],
-    sound: Sound,
+    head: Head,
     marks: &[u32],
 ) -> Answer
-    requires { ⌜ Looked size (now table) number n i × (n ≤ i) ⌝ }
-    requires { ⌜ (size ≤ length (now block)) × (size ≤ largestBlock) × (number ≤ mostNumber) × (length (now octets) ≤ size) ⌝ }
-    requires { ⌜ Taken (sound .law) (now octets) (now marks) (sound .samples) (sound .marks) ⌝ }
-    ensures { λ r. ⌜ PutsIn size (sound .law) number (now (octets .entry)) (now (block .entry)) (now (table .entry)) (now (block .exit)) (now (table .exit)) r ⌝ }
+    requires { ⌜ Looked (sought .size) (now table) (sought .number) (sought .n) (sought .i) × (sought .n ≤ sought .i) ⌝ }
+    requires { ⌜ (sought .size ≤ length (now block)) × (sought .size ≤ largestBlock) × (sought .number ≤ mostNumber)
+        × (length (now octets) ≤ sought .size) ⌝ }
+    requires { ⌜ Taken head (now octets) (now marks) ⌝ }
+    ensures { λ r. ⌜ PutsIn (sought .size) (head .law) (sought .number) (now (octets .entry)) (now (block .entry)) (now (table .entry))
+        (now (block .exit)) (now (table .exit)) r ⌝ }
 {
-    if store_rows::rows::MOST_GREETINGS <= n {
+    if store_rows::rows::MOST_GREETINGS <= sought.n {
         return Answer::Refused(Refusal::Full);
     }
-    let behind = store_rows::rows::held(table, n, size);
-    if size - behind < octets.len() {
+    let behind = store_rows::rows::held(table, sought.n, sought.size);
+    if sought.size - behind < octets.len() {
         return Answer::Refused(Refusal::NoRoom);
     }
-    fit(block, table, n, size, number, octets, behind, sound, marks)
+    fit(block, table, sought, behind, octets, head, marks)
 }
 
 // What is left to judge of a put: TAKEN, BAD, FULL, NOROOM. The walk is made once, and its marks are taken as it goes; a greeting that has
 // more marks than stand here is walked once more where it is put.
-fn put_among(
-    block: &mut [u8],
-    table: &mut [u32],
-    size: usize,
-    n: usize,
-    i: usize,
-    law: u32,
-    number: usize,
-    octets: &[u8],
-) -> Answer
-    requires { ⌜ Looked size (now table) number n i ⌝ }
-    requires { ⌜ (size ≤ length (now block)) × (size ≤ largestBlock) × (law ≤ mostLaw) × (number ≤ mostNumber) ⌝ }
-    ensures { λ r. ⌜ PutsIn size law number (now (octets .entry)) (now (block .entry)) (now (table .entry)) (now (block .exit)) (now (table .exit)) r ⌝ }
+fn put_among(block: &mut [u8], table: &mut [u32], sought: Sought, law: u32, octets: &[u8]) -> Answer
+    requires { ⌜ Looked (sought .size) (now table) (sought .number) (sought .n) (sought .i) ⌝ }
+    requires { ⌜ (sought .size ≤ length (now block)) × (sought .size ≤ largestBlock) × (law ≤ mostLaw) × (sought .number ≤ mostNumber) ⌝ }
+    ensures { λ r. ⌜ PutsIn (sought .size) law (sought .number) (now (octets .entry)) (now (block .entry)) (now (table .entry))
+        (now (block .exit)) (now (table .exit)) r ⌝ }
 {
-    if i < n {
+    if sought.i < sought.n {
         return Answer::Refused(Refusal::Taken);
     }
-    if size < octets.len() {
-        return Answer::Refused(over_long(n, octets, law));
+    if sought.size < octets.len() {
+        return Answer::Refused(over_long(sought.n, octets, law));
     }
     let mut marks = [0u32; store_greeting::marks::KEPT_APART];
     match store_greeting::marks::take(octets, law, &mut marks) {
@@ -231,12 +240,9 @@ fn put_among(
         Tally::Counted(samples, m) => put_sound(
             block,
             table,
-            size,
-            n,
-            i,
-            number,
+            sought,
             octets,
-            Sound {
+            Head {
                 law: law,
                 samples: samples,
                 marks: m,
@@ -248,7 +254,8 @@ fn put_among(
 
 // "Put": TABLE, LAW, NUMBER, TAKEN, BAD, FULL, NOROOM; the start, and the octets moved.
 pub fn put(block: &mut [u8], table: &mut [u32], law: u32, number: u32, octets: &[u8]) -> Answer
-    ensures { λ r. ⌜ Put law number (now (octets .entry)) (now (block .entry)) (now (table .entry)) (now (block .exit)) (now (table .exit)) r ⌝ }
+    ensures { λ r. ⌜ Put law number (now (octets .entry)) (now (block .entry)) (now (table .entry))
+        (now (block .exit)) (now (table .exit)) r ⌝ }
 {
     let size = store_rows::rows::size_of(block.len());
     if !store_notes::sane(table, size) {
@@ -260,7 +267,18 @@ pub fn put(block: &mut [u8], table: &mut [u32], law: u32, number: u32, octets: &
     let x = store_rows::rows::wide(number);
     match judge(table, size, x) {
         Look::Stop(why) => Answer::Refused(why),
-        Look::Found(n, i) => put_among(block, table, size, n, i, law, x, octets),
+        Look::Found(n, i) => put_among(
+            block,
+            table,
+            Sought {
+                size: size,
+                n: n,
+                i: i,
+                number: x,
+            },
+            law,
+            octets,
+        ),
     }
 }
 
@@ -278,7 +296,7 @@ pub fn get(block: &[u8], table: &[u32], number: u32) -> Answer
             if n <= i {
                 return Answer::Refused(Refusal::Absent);
             }
-            let r = store_rows::rows::row_at(table, 1 + 3 * i);
+            let r = store_rows::rows::row_at(table, 1 + store_rows::rows::ROW_CELLS * i);
             Answer::Done(r.start, r.octets)
         }
     }

@@ -1,7 +1,8 @@
 -- What is sought among frames after others: frames that end at or before the sample are passed (`seek-skip`), and frames behind the one
 -- that holds it do not matter (`seek-within`). A sample that the frames have is found, in the frame that holds it (`seek-finds`), and in no
--- other (`holds-only`); the frame is one of those given (`seek-near`).
-use Prim.Native.Nat.{ℕ, suc, _+_, _-_, _≤_, _<_}
+-- other (`holds-only`); the frame is one of those given (`seek-near`), so that of at most 64 frames from a mark the frames read are told by
+-- the frame alone (`counted-named`).
+use Prim.Native.Nat.{ℕ, suc, _+_, _*_, _-_, _≤_, _<_}
 use mathlib.Core.Path.{_≡_, refl, sym, ap, subst, _∙_}
 use mathlib.Core.List.{List, [], _∷_, _++_}
 use mathlib.Core.Bool.{Bool, true, false, cond}
@@ -12,7 +13,9 @@ use borrow.Author.Tests.{ltb-true, ltb-false}
 use Rattle.rules.specs.Walk.{Delivered, samplesKept}
 use Rattle.store_jump.specs.declared.seeking.Sought.{Sought}
 use Rattle.store_jump.specs.declared.seeking.Sought.the-variants.{At, Nowhere}
+use Rattle.store_jump.specs.declared.jumping.Answer.the-variants.{Done}
 use Rattle.store_jump.specs.Seeking.{seek, Holds}
+use Rattle.store_jump.specs.Jump.{named, counted}
 use Rattle.store_jump.proofs.Along.{seek-here, seek-past}
 
 pub seek-skip : (sample i before : ℕ) (a b : List Delivered) → before + length (samplesKept a) ≤ sample
@@ -174,3 +177,12 @@ near sample i before (f ∷ fs) = by (ltb sample here) (near sample (i + 1) here
 pub seek-near : (sample i before : ℕ) (fs : List Delivered) {frame place inside : ℕ} → seek sample i before fs ≡ At frame place inside
     → (i ≤ frame) × (frame < i + length fs)
 seek-near sample i before fs e = subst (Near i (length fs)) e (near sample i before fs)
+
+-- from frame 64 * k on, fewer than 64 frames further, the remainder by 64 counts the frames from there
+counted-near : (k n : ℕ) → n ≤ 64 → (s : Sought) → Near (64 * k) n s → counted s ≡ named k s
+counted-near k n h (At frame place inside) l = ap (Done frame place inside) (omega (arith, l .0, l .1))
+counted-near k n h Nowhere l = refl
+
+pub counted-named : (sample k before : ℕ) (fs : List Delivered) → length fs ≤ 64
+    → counted (seek sample (64 * k) before fs) ≡ named k (seek sample (64 * k) before fs)
+counted-named sample k before fs h = counted-near k (length fs) h (seek sample (64 * k) before fs) (near sample (64 * k) before fs)

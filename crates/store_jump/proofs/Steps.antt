@@ -6,7 +6,6 @@ use mathlib.Core.List.{List}
 use mathlib.Core.Bool.{Bool, true, false}
 use native.Mathlib.Omega.{arith}
 use lib.ListN.{length, getD, take, drop}
-use lib.Seq.{getD-drop}
 use borrow.Author.Tests.{lt-ltb, le-ltb, le-leb, lt-leb, eq-eqb, ne-eqb}
 use Rattle.store_rows.specs.declared.rows.Row.{Row}
 use Rattle.store_rows.specs.Limits.{sizeOf, largestBlock, mostNumber}
@@ -18,21 +17,24 @@ use Rattle.store_rows.proofs.Cells.{length-rows, nth-rows}
 use Rattle.store_rows.proofs.Finding.{found-here, found-nowhere}
 use Rattle.store_rows.proofs.Judged.{row-next}
 use Rattle.rules.proofs.Lent.{from-on as part-on}
+use Rattle.rules.proofs.Walk.{walk-told}
+use Rattle.store_greeting.specs.Bad.{storeSet}
 use Rattle.store_greeting.specs.Marks.{Note, markOf}
 use Rattle.store_notes.specs.Notes.{nthNote}
-use Rattle.store_notes.specs.Cells.{marksIn, notesOf, marksHeld}
+use Rattle.store_notes.specs.declared.Head.{Head}
+use Rattle.store_notes.specs.Cells.{headAt, marksIn, noteBy, notesOf, marksHeld}
 use Rattle.store_notes.specs.Sane.{saneStore, Noted}
-use Rattle.store_notes.specs.Changed.{noteIn}
 use Rattle.store_notes.proofs.Noting.{length-marks}
 use Rattle.store_notes.proofs.Matched.{room-for}
 use Rattle.store_notes.proofs.Stored.{note-at, marks-next, held-all}
 use Rattle.store_jump.specs.declared.seeking.Sought.{Sought}
 use Rattle.store_jump.specs.Seeking.{seek, fromMark, lastMark}
 use Rattle.store_jump.proofs.Halving.{mark-at}
+use Rattle.store_jump.proofs.Sought.{counted-named}
 use Rattle.store_jump.specs.declared.jumping.Refusal.the-variants.{Number, Absent, Bad, Beyond, Table}
 use Rattle.store_jump.specs.declared.jumping.Answer.{Answer}
 use Rattle.store_jump.specs.declared.jumping.Answer.the-variants.{Refused}
-use Rattle.store_jump.specs.Jump.{named, jumpFrom, jumpIn, jumpAmong}
+use Rattle.store_jump.specs.Jump.{counted, jumpFrom, jumpIn, jumpAmong}
 use Rattle.store_jump.specs.Calls.{Jump}
 
 module _ (law : ℕ) (xs : List ℕ) (k at before sample : ℕ) where
@@ -40,28 +42,33 @@ module _ (law : ℕ) (xs : List ℕ) (k at before sample : ℕ) where
   unfolding jumpFrom
   from-behind h = rw (lt-ltb sample before h)
 
-  pub from-on : before ≤ sample → {s : Sought} {r : Answer} → s ≡ seek sample (64 * k) before (fromMark law xs at .frames) → r ≡ named s
+  pub from-on : before ≤ sample → {s : Sought} {r : Answer} → s ≡ seek sample (64 * k) before (fromMark law xs at .frames) → r ≡ counted s
       → r ≡ jumpFrom law xs k (markOf at before) sample
   unfolding jumpFrom
-  from-on h e f = rw (le-ltb sample before h) (f ∙ ap named e)
+  from-on h e f =
+      rw (le-ltb sample before h)
+      (f ∙ ap counted e ∙ counted-named sample k before (fromMark law xs at .frames) (walk-told xs law storeSet 64 at 20480 .few))
 
-module _ (law samples m : ℕ) (xs cells : List ℕ) (sample : ℕ) where
-  pub in-beyond : samples ≤ sample → Refused Beyond ≡ jumpIn xs (noteIn law samples m cells) sample
+module _ (head : Head) (xs cells : List ℕ) (sample : ℕ) where
+  abbrev m : ℕ
+  m = head .marks
+
+  pub in-beyond : head .samples ≤ sample → Refused Beyond ≡ jumpIn xs (noteBy head cells) sample
   unfolding jumpIn
-  in-beyond h = rw (le-leb samples sample h)
+  in-beyond h = rw (le-leb (head .samples) sample h)
 
-  module _ (h : sample < samples) where
-    pub in-none : m < 1 → Refused Bad ≡ jumpIn xs (noteIn law samples m cells) sample
+  module _ (h : sample < head .samples) where
+    pub in-none : m < 1 → Refused Bad ≡ jumpIn xs (noteBy head cells) sample
     unfolding jumpIn
-    in-none g = rw (lt-leb samples sample h, eq-eqb (length (marksIn m cells)) 0 (omega (arith, length-marks m cells)))
+    in-none g = rw (lt-leb (head .samples) sample h, eq-eqb (length (marksIn m cells)) 0 (omega (arith, length-marks m cells)))
 
     pub in-from : 1 ≤ m → {k at before : ℕ} {r : Answer} → k ≡ lastMark (marksIn m cells) sample → k < m → at ≡ getD cells (2 * k) 0
-        → before ≡ getD cells (2 * k + 1) 0 → r ≡ jumpFrom law xs k (markOf at before) sample
-        → r ≡ jumpIn xs (noteIn law samples m cells) sample
+        → before ≡ getD cells (2 * k + 1) 0 → r ≡ jumpFrom (head .law) xs k (markOf at before) sample
+        → r ≡ jumpIn xs (noteBy head cells) sample
     unfolding jumpIn
     in-from g {k} e l a b f =
         rw (
-          lt-leb samples sample h,
+          lt-leb (head .samples) sample h,
           ne-eqb (length (marksIn m cells)) 0
               (λ z. absurd (omega (arith, z, length-marks m cells))),
           ← e,
@@ -78,35 +85,30 @@ module _ {size : ℕ} {t : List ℕ} (k : Noted size t) (z : size ≤ largestBlo
   pub row-inside : {r : Row} → r ≡ rowAt t (1 + 3 * i) → r .start + r .octets ≤ size
   row-inside {r} e = row-next {t = t} (getD t 0 0) i {r = r} (k .order) refl e h .inside
 
-  pub marks-inside : {m : ℕ} → m ≡ rowAt (drop 97 t) (1 + 3 * i) .octets → 194 + 2 * marksHeld (rowsAt (drop 97 t) i 1) + 2 * m ≤ length t
+  pub marks-inside : {m : ℕ} → m ≡ headAt t i .marks → 194 + 2 * marksHeld (rowsAt (drop 97 t) i 1) + 2 * m ≤ length t
   marks-inside e =
       let room = room-for k z in
       let n = getD t 0 0 in
       omega (arith, e, marks-next t n i (sym (k .count)) h room, held-all t n i (sym (k .count)) (omega arith) room, room)
 
   -- in the greeting at place i
-  pub row-at : (b : List ℕ) (sample : ℕ) {r g : Row} {law first : ℕ} {a : Answer} → r ≡ rowAt t (1 + 3 * i)
-      → g ≡ rowAt (drop 97 t) (1 + 3 * i) → law ≡ getD t (98 + 3 * i) 0 → first ≡ 194 + 2 * marksHeld (rowsAt (drop 97 t) i 1)
+  pub row-at : (b : List ℕ) (sample : ℕ) {r : Row} {head : Head} {first : ℕ} {a : Answer} → r ≡ rowAt t (1 + 3 * i)
+      → head ≡ headAt t i → first ≡ 194 + 2 * marksHeld (rowsAt (drop 97 t) i 1)
       → a ≡ jumpIn (take (r .start + r .octets - r .start) (drop (r .start) b))
-      (noteIn law (g .start) (g .octets) (take (length t - first) (drop first t))) sample
+      (noteBy head (take (length t - first) (drop first t))) sample
       → a ≡ jumpIn (greeting b (nth i (rowsOf t))) (nthNote i (notesOf t)) sample
-  row-at b sample {r} {g} {law} {first} {a} p q l f e =
+  row-at b sample {r} {head} {first} p q f e =
       let n = getD t 0 0 in
       let o : r .start + r .octets - r .start ≡ r .octets = omega arith in
       let row : nth i (rowsOf t) ≡ r = nth-rows t n 1 i h ∙ sym p in
-      let here : 97 + (1 + 3 * i) ≡ 98 + 3 * i = omega arith in
-      let lawful : law ≡ g .number = l ∙ sym (ap (λ (x : ℕ). getD t x 0) here) ∙ sym (getD-drop 97 t (1 + 3 * i) 0)
-      ∙ sym (ap (λ (x : Row). x .number) q) in
-      let note : nthNote i (notesOf t) ≡ noteIn law (g .start) (g .octets) (drop first t) =
+      let note : nthNote i (notesOf t) ≡ noteBy head (drop first t) =
       note-at t n i (sym (k .count)) h
-      ∙ ap (λ (x : Row). noteIn (x .number) (x .start) (x .octets) (drop (194 + 2 * marksHeld (rowsAt (drop 97 t) i 1)) t)) (sym q)
-      ∙ ap (λ (x : ℕ). noteIn (g .number) (g .start) (g .octets) (drop x t)) (sym f)
-      ∙ ap (λ (x : ℕ). noteIn x (g .start) (g .octets) (drop first t)) (sym lawful)
+      ∙ ap (λ (x : Head). noteBy x (drop (194 + 2 * marksHeld (rowsAt (drop 97 t) i 1)) t)) (sym q)
+      ∙ ap (λ (x : ℕ). noteBy head (drop x t)) (sym f)
       in
-      e ∙ ap (λ (x : ℕ). jumpIn (take x (drop (r .start) b))
-      (noteIn law (g .start) (g .octets) (take (length t - first) (drop first t))) sample) o
-      ∙ ap (λ (x : List ℕ). jumpIn (greeting b r) (noteIn law (g .start) (g .octets) x) sample) (part-on t first)
-      ∙ ap (λ (x : Row). jumpIn (greeting b x) (noteIn law (g .start) (g .octets) (drop first t)) sample) (sym row)
+      e ∙ ap (λ (x : ℕ). jumpIn (take x (drop (r .start) b)) (noteBy head (take (length t - first) (drop first t))) sample) o
+      ∙ ap (λ (x : List ℕ). jumpIn (greeting b r) (noteBy head x) sample) (part-on t first)
+      ∙ ap (λ (x : Row). jumpIn (greeting b x) (noteBy head (drop first t)) sample) (sym row)
       ∙ ap (λ (x : Note). jumpIn (greeting b (nth i (rowsOf t))) x sample) (sym note)
 
 -- the number, among the greetings of a table

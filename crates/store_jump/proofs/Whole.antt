@@ -24,6 +24,7 @@ use Rattle.store_greeting.proofs.Marked.{marks-append}
 use Rattle.store_greeting.proofs.Count.{marks-count}
 use Rattle.store_greeting.proofs.Taking.{parts, next, Along, along-next, marks-next}
 use Rattle.store_jump.specs.declared.seeking.Sought.the-variants.{At}
+use Rattle.store_jump.specs.declared.jumping.Answer.the-variants.{Done}
 use Rattle.store_jump.specs.Seeking.{seek, byWalk, nthMark, lastMark}
 use Rattle.store_jump.proofs.LastMark.{LastAt, Rising, last-mark-is, last-mark-only}
 use Rattle.store_jump.proofs.Sought.{seek-skip, seek-within, seek-finds, seek-near}
@@ -232,7 +233,7 @@ module _ (law : ℕ) (xs : List ℕ) (good : isBad law xs ≡ false) where
         ∙ ap (λ (n : ℕ). seek sample (64 * k) n (here k there ++ tail)) f
         ∙ seek-within sample (64 * k) (before k) (here k there) tail low high
 
-    pub jump-walks : jumpIn xs (noteOf law xs) sample ≡ named (byWalk law xs sample)
+    pub jump-walks : jumpIn xs (noteOf law xs) sample ≡ named k (byWalk law xs sample)
     unfolding jumpIn jumpFrom
     jump-walks =
         rw (
@@ -240,7 +241,7 @@ module _ (law : ℕ) (xs : List ℕ) (good : isBad law xs ≡ false) where
           ne-eqb (length marks) 0 (λ z. absurd (omega (arith, z, some-mark))),
           mark-is k there,
           le-ltb sample (before k) low,
-        ) (sym (ap named same))
+        ) (sym (ap (named k) same))
 
     -- the mark is that of frame 64 * (f / 64), and the last one at or before the sample
     pub mark-of : {frame place inside : ℕ} → byWalk law xs sample ≡ At frame place inside → frame / 64 ≡ k
@@ -259,7 +260,8 @@ jump-named law xs good sample h =
       frame = f .frame;
       place = f .place;
       inside = f .inside;
-      answer = jump-walks law xs good sample h ∙ ap named (f .is);
+      answer = jump-walks law xs good sample h ∙ ap (named (lastMark ms sample)) (f .is)
+          ∙ ap (λ (k : ℕ). Done (f .frame) (f .place) (f .inside) (f .frame - 64 * k + 1)) (sym (mark-of law xs good sample h (f .is)));
       holds = f .holds;
       mark = last-mark-only ms sample (marks-rise law xs good) m;
     }

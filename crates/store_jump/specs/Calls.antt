@@ -1,8 +1,8 @@
 -- The contract of the public call, for any block and table at all: a lent table is judged first, TABLE where it is not what calls leave.
 use Prim.Native.Nat.{ℕ}
 use mathlib.Core.Path.{_≡_}
-use mathlib.Core.List.{List}
-use mathlib.Core.Bool.{cond, not}
+use mathlib.Core.List.{List, [], _∷_}
+use Rattle.rules.specs.Judged.{Asked, ask, judged}
 use Rattle.store_rows.specs.Limits.{sizeOf}
 use Rattle.store_rows.specs.Cells.{rowsOf}
 use Rattle.store_notes.specs.Cells.{notesOf}
@@ -12,7 +12,7 @@ use Rattle.store_jump.specs.declared.jumping.Refusal.the-variants.{Numbe
 use Rattle.store_jump.specs.declared.jumping.Answer.{Answer}
 use Rattle.store_jump.specs.declared.jumping.Answer.the-variants.{Done, Refused}
 use Rattle.store_jump.specs.declared.jumping.Told.{Told}
-use Rattle.store_jump.specs.Jump.{jumpAmong}
+use Rattle.store_jump.specs.Jump.{findAsks, jumpAmong}
 
 -- the paper's number of a refusal; an accepted call has 0
 abbrev pub refusalNumber : Refusal → ℕ
@@ -35,9 +35,13 @@ abbrev pub toldOf : Answer → Told
 toldOf (Done frame place inside read) = toldBy frame place inside read
 toldOf (Refused w) = toldBy 0 0 0 0
 
+-- "Refusals, in order": TABLE first, then those of finding the greeting; BEYOND and BAD are told in it
+abbrev pub findOrder : List ℕ → List ℕ → ℕ → List (Asked Refusal)
+findOrder b t number = ask Table (saneStore (sizeOf b) t) ∷ findAsks (rowsOf t) number
+
 abbrev pub jumpOf : List ℕ → List ℕ → ℕ → ℕ → Answer
 jumpOf b t number sample =
-    cond (not (saneStore (sizeOf b) t)) (Refused Table) (jumpAmong b (rowsOf t) (notesOf t) number sample)
+    judged (ask Table (saneStore (sizeOf b) t) ∷ []) Refused (jumpAmong b (rowsOf t) (notesOf t) number sample)
 
 abbrev pub Jump : ℕ → ℕ → List ℕ → List ℕ → Answer → Type 0
 Jump number sample b t r = r ≡ jumpOf b t number sample

@@ -9,12 +9,12 @@ ghost use Rattle.store_rows.specs.Cells.{rowsOf};
 ghost use Rattle.store_rows.specs.Changed.{nth};
 ghost use Rattle.store_greeting.specs.Marks.{markOf};
 ghost use Rattle.store_notes.specs.Notes.{nthNote};
-ghost use Rattle.store_notes.specs.Cells.{notesOf};
+ghost use Rattle.store_notes.specs.Cells.{noteBy, notesOf};
 ghost use Rattle.store_notes.specs.Sane.{Noted};
-ghost use Rattle.store_notes.specs.Changed.{noteIn};
-ghost use Rattle.store_jump.specs.Jump.{named, jumpFrom, jumpIn, jumpAmong};
+ghost use Rattle.store_jump.specs.Jump.{counted, jumpFrom, jumpIn, jumpAmong};
 ghost use Rattle.store_jump.specs.Calls.{refusalNumber, numberOf, toldOf, Jump};
 use crate::seeking::Sought;
+use store_notes::Head;
 
 // "Refusals, in order: NUMBER, ABSENT, BEYOND"; TABLE comes first, and BAD where the marks are false.
 pub enum Refusal {
@@ -80,9 +80,9 @@ pub fn told_of(a: Answer) -> Told
     }
 }
 
-// "The answer counts the frames read, from that mark up to and including the one named."
+// "The answer counts the frames read, from that mark up to and including the one named": a mark's frame is a multiple of 64.
 fn count_read(s: Sought) -> Answer
-    ensures { λ r. ⌜ r ≡ named s ⌝ }
+    ensures { λ r. ⌜ r ≡ counted s ⌝ }
 {
     match s {
         Sought::At(frame, place, inside) => {
@@ -110,36 +110,34 @@ fn from_mark(octets: &[u8], law: u32, k: usize, at: usize, before: usize, sample
 }
 
 // In a greeting with its note: BEYOND, and then from the last mark at or before the sample.
-fn within(octets: &[u8], law: u32, samples: usize, marks: &[u32], m: usize, sample: usize) -> Answer
-    requires { ⌜ (2 * m ≤ length (now marks)) × (m < 2 ^ 32) ⌝ }
-    ensures { λ r. ⌜ r ≡ jumpIn (now (octets .entry)) (noteIn law samples m (now (marks .entry))) sample ⌝ }
+fn within(octets: &[u8], head: Head, marks: &[u32], sample: usize) -> Answer
+    requires { ⌜ (2 * head .marks ≤ length (now marks)) × (head .marks < 2 ^ 32) ⌝ }
+    ensures { λ r. ⌜ r ≡ jumpIn (now (octets .entry)) (noteBy head (now (marks .entry))) sample ⌝ }
 {
-    if samples <= sample {
+    if head.samples <= sample {
         return Answer::Refused(Refusal::Beyond);
     }
-    if m < 1 {
+    if head.marks < 1 {
         return Answer::Refused(Refusal::Bad);
     }
-    let k = crate::seeking::last_mark(marks, m, sample);
+    let k = crate::seeking::last_mark(marks, head.marks, sample);
     let at = store_rows::rows::wide(marks[2 * k]);
     let before = store_rows::rows::wide(marks[2 * k + 1]);
-    from_mark(octets, law, k, at, before, sample)
+    from_mark(octets, head.law, k, at, before, sample)
 }
 
 // In the greeting at place i of a table, with its note.
 fn at_row(block: &[u8], table: &[u32], size: usize, i: usize, sample: usize) -> Answer
     requires { ⌜ Noted size (now table) × (size ≤ length (now block)) × (size ≤ largestBlock) × (i < getD (now table) 0 0) ⌝ }
-    ensures { λ r. ⌜ r ≡ jumpIn (greeting (now (block .entry)) (nth i (rowsOf (now (table .entry))))) (nthNote i (notesOf (now (table .entry)))) sample ⌝ }
+    ensures { λ r. ⌜ r ≡ jumpIn (greeting (now (block .entry)) (nth i (rowsOf (now (table .entry)))))
+        (nthNote i (notesOf (now (table .entry)))) sample ⌝ }
 {
-    let r = store_rows::rows::row_at(table, 1 + 3 * i);
-    let h = store_notes::head_at(table, i);
-    let law = table[98 + 3 * i];
+    let r = store_rows::rows::row_at(table, 1 + store_rows::rows::ROW_CELLS * i);
+    let head = store_notes::head_at(table, i);
     let first = store_notes::FIRST_MARK + 2 * store_notes::marks_before(table, i);
     let start = r.start;
     let end = start + r.octets;
-    let samples = h.start;
-    let m = h.octets;
-    within(&block[start..end], law, samples, &table[first..], m, sample)
+    within(&block[start..end], head, &table[first..], sample)
 }
 
 // "Refusals, in order: NUMBER, ABSENT, BEYOND".

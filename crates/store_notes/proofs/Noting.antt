@@ -12,8 +12,8 @@ use Rattle.store_rows.specs.Changed.{nth, insertAt, removeAt}
 use Rattle.store_greeting.specs.Marks.{Mark, Note, markCells}
 use Rattle.store_greeting.proofs.Marked.{length-cells}
 use Rattle.store_notes.specs.Notes.{noNote, nthNote, insertNote, removeNote}
-use Rattle.store_notes.specs.Cells.{headOf, heads, marksIn, notesIn, marksHeld, allCells, allLaid}
-use Rattle.store_notes.specs.Changed.{opened, shut, noteIn}
+use Rattle.store_notes.specs.Cells.{headIn, headRow, heads, marksIn, noteBy, notesIn, marksHeld, allCells, allLaid}
+use Rattle.store_notes.specs.Changed.{opened, shut}
 
 -- so many marks
 pub length-marks : (n : ℕ) (cells : List ℕ) → length (marksIn n cells) ≡ n
@@ -83,13 +83,13 @@ notes-back (n ∷ notes) rest =
 pub heads-append : (a b : List Note) → heads (a ++ b) ≡ heads a ++ heads b
 unfolding heads
 heads-append [] b = refl
-heads-append (n ∷ a) b = ap (λ (x : List Row). headOf n ∷ x) (heads-append a b)
+heads-append (n ∷ a) b = ap (λ (x : List Row). headRow n ∷ x) (heads-append a b)
 
 pub heads-take : (i : ℕ) (notes : List Note) → heads (take i notes) ≡ take i (heads notes)
 unfolding heads
 heads-take zero notes = refl
 heads-take (suc i) [] = refl
-heads-take (suc i) (n ∷ notes) = ap (λ (x : List Row). headOf n ∷ x) (heads-take i notes)
+heads-take (suc i) (n ∷ notes) = ap (λ (x : List Row). headRow n ∷ x) (heads-take i notes)
 
 pub heads-drop : (i : ℕ) (notes : List Note) → heads (drop i notes) ≡ drop i (heads notes)
 unfolding heads
@@ -102,7 +102,7 @@ unfolding heads
 length-heads [] = refl
 length-heads (n ∷ notes) = ap suc (length-heads notes)
 
-pub nth-heads : (i : ℕ) (notes : List Note) → i < length notes → nth i (heads notes) ≡ headOf (nthNote i notes)
+pub nth-heads : (i : ℕ) (notes : List Note) → i < length notes → nth i (heads notes) ≡ headRow (nthNote i notes)
 unfolding heads
 nth-heads i [] h = absurd (omega arith)
 nth-heads zero (n ∷ notes) h = refl
@@ -110,20 +110,20 @@ nth-heads (suc i) (n ∷ notes) h = nth-heads i notes (omega arith)
 
 -- note i: its marks stand behind those of the notes before it
 pub nth-note : (hs : List Row) (cells : List ℕ) (i : ℕ) → i < length hs
-    → nthNote i (notesIn hs cells) ≡ noteIn (nth i hs .number) (nth i hs .start) (nth i hs .octets) (drop (2 * marksHeld (take i hs)) cells)
+    → nthNote i (notesIn hs cells) ≡ noteBy (headIn (nth i hs)) (drop (2 * marksHeld (take i hs)) cells)
 unfolding notesIn held
 nth-note [] cells i h = absurd (omega arith)
 nth-note (r ∷ hs) cells zero h = refl
 nth-note (r ∷ hs) cells (suc i) h =
     let e : 2 * r .octets + 2 * marksHeld (take i hs) ≡ 2 * (r .octets + marksHeld (take i hs)) = omega arith in
-    nth-note hs (drop (2 * r .octets) cells) i (omega arith) ∙ ap (noteIn (nth i hs .number) (nth i hs .start) (nth i hs .octets))
+    nth-note hs (drop (2 * r .octets) cells) i (omega arith) ∙ ap (noteBy (headIn (nth i hs)))
     (drop-drop (2 * marksHeld (take i hs)) (2 * r .octets) cells ∙ ap (λ (k : ℕ). drop k cells) e)
 
-pub heads-cons : (n : Note) (notes : List Note) → heads (n ∷ notes) ≡ headOf n ∷ heads notes
+pub heads-cons : (n : Note) (notes : List Note) → heads (n ∷ notes) ≡ headRow n ∷ heads notes
 unfolding heads
 heads-cons n notes = refl
 
-pub heads-insert : (i : ℕ) (n : Note) (notes : List Note) → heads (insertNote i n notes) ≡ insertAt i (headOf n) (heads notes)
+pub heads-insert : (i : ℕ) (n : Note) (notes : List Note) → heads (insertNote i n notes) ≡ insertAt i (headRow n) (heads notes)
 heads-insert i n notes =
     rw (heads-append (take i notes) (n ∷ drop i notes), heads-cons n (drop i notes), heads-take i notes, heads-drop i notes)
 

@@ -16,7 +16,7 @@ use Rattle.store_rows.specs.Changed.{insertAt}
 use Rattle.store_rows.specs.Sane.{rising, numbered, saneOf}
 use Rattle.store_rows.proofs.Lists.{passed, both}
 use Rattle.store_greeting.specs.Marks.{Note, mostMarks}
-use Rattle.store_notes.specs.Cells.{headOf, heads, stored}
+use Rattle.store_notes.specs.Cells.{headIn, headRow, heads, stored}
 use Rattle.store_notes.specs.Notes.{insertNote}
 use Rattle.store_notes.specs.Sane.{storeCells, matched, saneStore}
 use Rattle.store_notes.proofs.Held.{rows-stored, count-stored, heads-stored, second-count, length-stored}
@@ -25,8 +25,8 @@ use Rattle.store_notes.proofs.Matched.{marks-fit}
 
 -- one greeting and its second row
 pub record Fits (r h : Row) : Type 0 where
-  pub law : h .number ≤ mostLaw
-  pub marks : h .octets ≤ mostMarks (r .octets)
+  pub law : headIn h .law ≤ mostLaw
+  pub marks : headIn h .marks ≤ mostMarks (r .octets)
 
 pub matched-head : (r h : Row) (rows hs : List Row) → matched (r ∷ rows) (h ∷ hs) ≡ true → Fits r h × (matched rows hs ≡ true)
 unfolding matched
@@ -78,11 +78,11 @@ module _ (i : ℕ) (rows : List Row) (notes : List Note) (same : length notes �
       matched-apart (take i rows) (heads (take i notes)) (drop i rows) (heads (drop i notes)) heads-taken
       (rw (take-append-drop i rows, heads-split) e)
 
-  pub matched-inserted : (r : Row) (n : Note) → Fits r (headOf n) → matched (insertAt i r rows) (heads (insertNote i n notes)) ≡ true
+  pub matched-inserted : (r : Row) (n : Note) → Fits r (headRow n) → matched (insertAt i r rows) (heads (insertNote i n notes)) ≡ true
   matched-inserted r n f =
       rw (heads-append (take i notes) (n ∷ drop i notes), heads-cons n (drop i notes))
-      (matched-join (take i rows) (heads (take i notes)) (r ∷ drop i rows) (headOf n ∷ heads (drop i notes)) heads-taken (split .0)
-      (matched-cons r (headOf n) (drop i rows) (heads (drop i notes)) f (split .1)))
+      (matched-join (take i rows) (heads (take i notes)) (r ∷ drop i rows) (headRow n ∷ heads (drop i notes)) heads-taken (split .0)
+      (matched-cons r (headRow n) (drop i rows) (heads (drop i notes)) f (split .1)))
 
 -- a greeting taken out with its note
 module _ (before : List Row) (r : Row) (behind : List Row) (a : List Note) (n : Note) (c : List Note)
@@ -90,9 +90,9 @@ module _ (before : List Row) (r : Row) (behind : List Row) (a : List Note) (n : 
   pub matched-removed : matched (before ++ (r ∷ behind)) (heads (a ++ (n ∷ c))) ≡ true → matched (before ++ behind) (heads (a ++ c)) ≡ true
   matched-removed e =
       let l : length before ≡ length (heads a) = sym same ∙ sym (length-heads a) in
-      let q = matched-apart before (heads a) (r ∷ behind) (headOf n ∷ heads c) l
+      let q = matched-apart before (heads a) (r ∷ behind) (headRow n ∷ heads c) l
       (rw (heads-append a (n ∷ c), heads-cons n c) at e) in
-      rw (heads-append a c) (matched-join before (heads a) behind (heads c) l (q .0) (matched-head r (headOf n) behind (heads c) (q .1) .1))
+      rw (heads-append a c) (matched-join before (heads a) behind (heads c) l (q .0) (matched-head r (headRow n) behind (heads c) (q .1) .1))
 
 -- R-6's part of the judging
 pub sane-old : (size : ℕ) (t : List ℕ) → saneStore size t ≡ true → saneOf size t ≡ true

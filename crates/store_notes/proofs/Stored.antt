@@ -16,8 +16,9 @@ use Rattle.rules.proofs.Lent.{from-on, back-on}
 use Rattle.store_greeting.proofs.Marked.{length-cells}
 use Rattle.store_greeting.specs.Marks.{Note, markCells}
 use Rattle.store_notes.specs.Notes.{insertNote, removeNote, nthNote}
-use Rattle.store_notes.specs.Cells.{headOf, heads, headsOf, notesOf, marksHeld, allCells, allLaid, anewFrom, notesLaid, stored}
-use Rattle.store_notes.specs.Changed.{opened, shut, noteIn}
+use Rattle.store_notes.specs.Cells.{headIn, headRow, heads, headsOf, headAt, noteBy, notesOf, marksHeld, allCells, allLaid}
+use Rattle.store_notes.specs.Cells.{anewFrom, notesLaid, stored}
+use Rattle.store_notes.specs.Changed.{opened, shut}
 use Rattle.store_notes.proofs.Noting.{heads-notes, cells-notes, length-all, heads-take}
 use Rattle.store_notes.proofs.Noting.{nth-heads, length-heads, heads-insert, heads-remove}
 use Rattle.store_notes.proofs.Noting.{note-added, all-append, note-dropped, nth-note}
@@ -134,7 +135,7 @@ module _ (t : List ℕ) (n i : ℕ) (e : n ≡ getD t 97 0) (h : i ≤ n) (room 
       q ∙ ap (λ (x : List ℕ). take 194 t₁ ++ x) behind
       ∙ ap (λ (x : List ℕ). take 194 x ++ allLaid notes (drop 194 (anewFrom 97 (laid (heads notes)) t))) first
 
-  pub note-put : (note : Note) (r : Row) (new : List ℕ) {at used : ℕ} {t₁ t₂ : List ℕ} → n ≤ 31 → r ≡ headOf note
+  pub note-put : (note : Note) (r : Row) (new : List ℕ) {at used : ℕ} {t₁ t₂ : List ℕ} → n ≤ 31 → r ≡ headRow note
       → new ≡ markCells (note .marks) → at ≡ 2 * marksHeld (rowsAt (drop 97 t) i 1) → used ≡ 2 * marksHeld (rowsAt (drop 97 t) n 1)
       → t₁ ≡ anewFrom 97 (λ (u : List ℕ). laid (insertAt i r (rowsOf u)) u) t
       → t₂ ≡ anewFrom 194 (λ (u : List ℕ). opened u at used new) t₁ → t₂ ≡ notesLaid (insertNote i note (notesOf t)) t
@@ -149,7 +150,7 @@ module _ (t : List ℕ) (n i : ℕ) (e : n ≡ getD t 97 0) (h : i ≤ n) (room 
       made (insertNote i note notes) (insertAt i r (headsOf t)) (λ (x : List ℕ). opened x at used new) hs lengths p q
       (note-added notes i note (drop 194 t) new f (a ∙ marks-at) (u ∙ marks-end) (ap (λ (k : ℕ). take k (drop 194 t)) u ∙ marks-are))
 
-  pub note-out : {at used by : ℕ} {t₁ t₂ : List ℕ} → n ≤ 32 → i < n → by ≡ 2 * rowAt (drop 97 t) (1 + 3 * i) .octets
+  pub note-out : {at used by : ℕ} {t₁ t₂ : List ℕ} → n ≤ 32 → i < n → by ≡ 2 * headAt t i .marks
       → at ≡ 2 * marksHeld (rowsAt (drop 97 t) i 1) → used ≡ 2 * marksHeld (rowsAt (drop 97 t) n 1)
       → t₁ ≡ anewFrom 97 (λ (u : List ℕ). laid (removeAt i (rowsOf u)) u) t → t₂ ≡ anewFrom 194 (λ (u : List ℕ). shut u at used by) t₁
       → t₂ ≡ notesLaid (removeNote i (notesOf t)) t
@@ -161,7 +162,7 @@ module _ (t : List ℕ) (n i : ℕ) (e : n ≡ getD t 97 0) (h : i ≤ n) (room 
       let hs : removeAt i (headsOf t) ≡ heads (removeNote i notes) =
       sym (heads-remove i notes ∙ ap (λ (x : List Row). removeAt i x) (heads-notes (headsOf t) (drop 194 t)))
       in
-      let mine : length (nthNote i notes .marks) ≡ rowAt (drop 97 t) (1 + 3 * i) .octets =
+      let mine : length (nthNote i notes .marks) ≡ headAt t i .marks =
       ap (λ (r : Row). r .octets)
       (sym (nth-heads i notes (omega (arith, length-notes)))
       ∙ ap (λ (x : List Row). nth i x) (heads-notes (headsOf t) (drop 194 t) ∙ all-heads) ∙ nth-rows (drop 97 t) n 1 i inside)
@@ -173,18 +174,17 @@ module _ (t : List ℕ) (n i : ℕ) (e : n ≡ getD t 97 0) (h : i ≤ n) (room 
 
 -- the marks of greeting i end before all do
 pub marks-next : (t : List ℕ) (n i : ℕ) → n ≡ getD t 97 0 → i < n → 194 + 2 * marksHeld (headsOf t) ≤ length t
-    → 2 * marksHeld (rowsAt (drop 97 t) i 1) + 2 * rowAt (drop 97 t) (1 + 3 * i) .octets ≤ 2 * marksHeld (rowsAt (drop 97 t) n 1)
+    → 2 * marksHeld (rowsAt (drop 97 t) i 1) + 2 * headAt t i .marks ≤ 2 * marksHeld (rowsAt (drop 97 t) n 1)
 marks-next t n i e h room =
     let o = marks-order t n (i + 1) e (omega arith) room in
-    let sum : marksHeld (rowsAt (drop 97 t) i 1) + rowAt (drop 97 t) (1 + 3 * i) .octets ≡ marksHeld (rowsAt (drop 97 t) (i + 1) 1) =
+    let sum : marksHeld (rowsAt (drop 97 t) i 1) + headAt t i .marks ≡ marksHeld (rowsAt (drop 97 t) (i + 1) 1) =
     held-turn (drop 97 t) n i refl h refl
     in
     omega (arith, o, sum)
 
 -- note i of a table: law, samples and how many marks in the second list, its marks behind those of the greetings before it
-pub note-at : (t : List ℕ) (n i : ℕ) → n ≡ getD t 97 0 → i < n → nthNote i (notesOf t)
-    ≡ noteIn (rowAt (drop 97 t) (1 + 3 * i) .number) (rowAt (drop 97 t) (1 + 3 * i) .start) (rowAt (drop 97 t) (1 + 3 * i) .octets)
-    (drop (194 + 2 * marksHeld (rowsAt (drop 97 t) i 1)) t)
+pub note-at : (t : List ℕ) (n i : ℕ) → n ≡ getD t 97 0 → i < n
+    → nthNote i (notesOf t) ≡ noteBy (headAt t i) (drop (194 + 2 * marksHeld (rowsAt (drop 97 t) i 1)) t)
 note-at t n i e h =
     let u = drop 97 t in
     let hs = headsOf t in
@@ -192,12 +192,10 @@ note-at t n i e h =
     let many : hs ≡ rowsAt u n 1 = ap (λ (k : ℕ). rowsAt u k 1) count in
     let mine : nth i hs ≡ rowAt u (1 + 3 * i) = ap (nth i) many ∙ nth-rows u n 1 i h in
     let before : take i hs ≡ rowsAt u i 1 = ap (take i) many ∙ take-rows u n 1 i (omega arith) in
-    let far = 2 * marksHeld (rowsAt u i 1) in
     nth-note hs (drop 194 t) i (omega (arith, ap length many, length-rows u n 1))
-    ∙ ap (λ (r : Row). noteIn (r .number) (r .start) (r .octets) (drop (2 * marksHeld (take i hs)) (drop 194 t))) mine
-    ∙ ap (λ (rs : List Row). noteIn (rowAt u (1 + 3 * i) .number) (rowAt u (1 + 3 * i) .start) (rowAt u (1 + 3 * i) .octets)
-    (drop (2 * marksHeld rs) (drop 194 t))) before
-    ∙ ap (noteIn (rowAt u (1 + 3 * i) .number) (rowAt u (1 + 3 * i) .start) (rowAt u (1 + 3 * i) .octets)) (drop-drop far 194 t)
+    ∙ ap (λ (r : Row). noteBy (headIn r) (drop (2 * marksHeld (take i hs)) (drop 194 t))) mine
+    ∙ ap (λ (rs : List Row). noteBy (headAt t i) (drop (2 * marksHeld rs) (drop 194 t))) before
+    ∙ ap (noteBy (headAt t i)) (drop-drop (2 * marksHeld (rowsAt u i 1)) 194 t)
 
 -- greetings laid leave the second list as it is
 module _ (rows : List Row) (t : List ℕ) {t₁ : List ℕ} (few : length rows ≤ 32) (e : t₁ ≡ laid rows t) where

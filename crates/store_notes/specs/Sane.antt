@@ -12,7 +12,7 @@ use Rattle.store_rows.specs.Limits.{largestBlock, mostGreetings}
 use Rattle.store_rows.specs.Cells.{rowsOf}
 use Rattle.store_rows.specs.Sane.{saneOf, Ordered}
 use Rattle.store_greeting.specs.Marks.{framesApart, mostMarks}
-use Rattle.store_notes.specs.Cells.{secondList, firstMark, headsOf}
+use Rattle.store_notes.specs.Cells.{secondList, firstMark, headIn, headsOf}
 
 -- how many cells a table needs for a block of a size: both lists, and the marks of 32 greetings that fill it
 abbrev pub storeCells : ℕ → ℕ
@@ -23,8 +23,8 @@ unfoldable pub matched : List Row → List Row → Bool
 matched [] hs = true
 matched (r ∷ rows) [] = false
 matched (r ∷ rows) (h ∷ hs) =
-    cond (ltb mostLaw (h .number)) false
-    (cond (ltb (mostMarks (r .octets)) (h .octets)) false
+    cond (ltb mostLaw (headIn h .law)) false
+    (cond (ltb (mostMarks (r .octets)) (headIn h .marks)) false
     (matched rows hs))
 
 -- a table that calls leave, for a block of a size
@@ -38,5 +38,5 @@ saneStore size t =
 pub record Noted (size : ℕ) (t : List ℕ) : Type 0 where
   pub order : Ordered size t
   pub cells : storeCells size ≤ length t
-  pub count : getD t 97 0 ≡ getD t 0 0
+  pub count : getD t secondList 0 ≡ getD t 0 0
   pub fits : matched (rowsOf t) (headsOf t) ≡ true

@@ -26,12 +26,12 @@ use Rattle.store_text.proofs.Exact.{Sayable, Each}
 use Rattle.store_text.proofs.Noted.{SayableAll}
 use Rattle.store_text.proofs.Noting.{rows-listing}
 use Rattle.store_text.proofs.Formed.{unformed, listed-begins, form-by-size, old-rows, old-noted}
-use Rattle.store_save.specs.Saved.{saved, declined, saveOf, loadOf}
+use Rattle.store_save.specs.Saved.{saved, saveOrder, saveOf, loadOf}
+use Rattle.store_save.proofs.Fits.{text-saved}
 use Rattle.store_save.specs.Old.{oldBlock, oldSizeOf, oldCells, oldLoadOf}
 use Rattle.store_promises.proofs.Granted.{sane-rows, sane-count}
 use Rattle.store_promises.proofs.Loaded.{read-as}
 use Rattle.store_promises.proofs.Sayable.{said-lists, formed-lists}
-use Rattle.store_promises.proofs.Promises.{saved-text}
 
 -- "SAVED TABLES GAIN A FIRST LINE `form=2` WHEN .., AND ONLY THEN"
 form-begins : (t : Bool) (xs : List Listed) → begins formLine (cond t formLine [] ++ listedText xs) ≡ t
@@ -41,14 +41,10 @@ form-begins false xs = listed-begins xs
 
 module _ (b t : List ℕ) (room : ℕ) (text : List ℕ) (e : saveOf b t room ≡ saved text) where
   save-sane : saneStore (sizeOf b) t ≡ true
-  save-sane = go (saneStore (sizeOf b) t) refl
-    where
-      go : (s : Bool) → saneStore (sizeOf b) t ≡ s → s ≡ true
-      go true f = refl
-      go false f = let g : declined Table ≡ saved text = sym (rw f) ∙ e in let z : _≡_ {A = ℕ} 0 1 = cc in absurd (omega arith)
+  save-sane = text-saved (saveOrder b t room) (savedText (sizeOf b) (listing (rowsOf t) (notesOf t))) e .0 .0
 
   written : text ≡ savedText (sizeOf b) (listing (rowsOf t) (notesOf t))
-  written = saved-text (sizeOf b) (listing (rowsOf t) (notesOf t)) room text (sym (rw save-sane) ∙ e)
+  written = text-saved (saveOrder b t room) (savedText (sizeOf b) (listing (rowsOf t) (notesOf t))) e .1
 
   pub form-exactly : begins formLine text ≡ needsForm (sizeOf b) (rowsOf t)
   form-exactly =

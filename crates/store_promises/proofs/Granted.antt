@@ -27,7 +27,7 @@ use Rattle.store_greeting.specs.Bad.{isBad, isDone, walkOf}
 use Rattle.store_greeting.specs.Marks.{Note, noteOf}
 use Rattle.store_greeting.proofs.Count.{note-few}
 use Rattle.store_notes.specs.Notes.{nthNote, insertNote, removeNote, noNote}
-use Rattle.store_notes.specs.Cells.{headOf, heads, headsOf, notesOf, stored}
+use Rattle.store_notes.specs.Cells.{headRow, heads, headsOf, notesOf, stored}
 use Rattle.store_notes.specs.Sane.{storeCells, matched, saneStore}
 use Rattle.store_notes.proofs.Noting.{heads-notes, length-heads}
 use Rattle.store_notes.proofs.Stored.{length-notes}
@@ -36,9 +36,9 @@ use Rattle.store_notes.proofs.Matched.{sane-noted, room-for}
 use Rattle.store_notes.proofs.Pairs.{Fits, matched-head, matched-cons, matched-nil, matched-inserted, matched-removed, sane-old}
 use Rattle.store_notes.proofs.Pairs.{sane-stored}
 use Rattle.store.specs.declared.Refusal.{Refusal}
-use Rattle.store.specs.declared.Refusal.the-variants.{Law, Number, Taken as taken, Absent, Bad, Full, NoRoom, Table}
 use Rattle.store.specs.Store.{leaves, refused, After, putAt, fitted, putIn, getIn, deleteIn, gotten, without}
-use Rattle.store.specs.Calls.{putOf, getOf, deleteOf}
+use Rattle.store.specs.Calls.{putOrder, findOrder, putOf, getOf, deleteOf}
+use Rattle.store.proofs.Only.{outcome-leaves}
 use Rattle.store_rows.proofs.Lists.{passed, both}
 use Rattle.store_rows.proofs.Cells.{length-rows}
 use Rattle.store_rows.proofs.Closed.{length-closed}
@@ -115,26 +115,19 @@ pub record Granted (b t : List ℕ) (law x : ℕ) (xs : List ℕ) (a : After) : 
 pub put-granted : (b t : List ℕ) (law x : ℕ) (xs : List ℕ) (a : After) → putOf b t law x xs ≡ leaves a → Granted b t law x xs a
 unfolding putIn
 put-granted b t law x xs a e =
-    go (saneStore (sizeOf b) t) refl (isLaw law) refl (isNumber x) refl (absent x (rowsOf t)) refl (isBad law xs) refl
-    (leb 32 (length (rowsOf t))) refl (ltb (sizeOf b) (held (rowsOf t) + length xs)) refl e
-  where
-    go : (s : Bool) → saneStore (sizeOf b) t ≡ s → (l : Bool) → isLaw law ≡ l → (n : Bool) → isNumber x ≡ n → (f : Bool)
-        → absent x (rowsOf t) ≡ f → (g : Bool) → isBad law xs ≡ g
-        → (q : Bool) → leb 32 (length (rowsOf t)) ≡ q → (r : Bool) → ltb (sizeOf b) (held (rowsOf t) + length xs) ≡ r
-        → cond (not s) (refused Table)
-        (cond (not l) (refused Law) (cond (not n) (refused Number) (cond (not f) (refused taken) (cond g (refused Bad)
-        (cond q (refused Full) (cond r (refused NoRoom) (leaves (fitted b (rowsOf t) (notesOf t) (sizeOf b) law x xs)))))))) ≡ leaves a
-        → Granted b t law x xs a
-    go false s′ l l′ n n′ f f′ g g′ q q′ r r′ e = no-outcome e
-    go true s′ false l′ n n′ f f′ g g′ q q′ r r′ e = no-outcome e
-    go true s′ true l′ false n′ f f′ g g′ q q′ r r′ e = no-outcome e
-    go true s′ true l′ true n′ false f′ g g′ q q′ r r′ e = no-outcome e
-    go true s′ true l′ true n′ true f′ true g′ q q′ r r′ e = no-outcome e
-    go true s′ true l′ true n′ true f′ false g′ true q′ r r′ e = no-outcome e
-    go true s′ true l′ true n′ true f′ false g′ false q′ true r′ e = no-outcome e
-    go true s′ true l′ true n′ true f′ false g′ false q′ false r′ e =
-        let w = leb-false 32 (length (rowsOf t)) q′ in
-        record { sane = s′; lawful = l′; number = n′; fresh = f′; good = g′; few = omega arith; room = ltb-false _ _ r′; is = cc }
+    let k = outcome-leaves (putOrder b t law x xs) (fitted b (rowsOf t) (notesOf t) (sizeOf b) law x xs) e in
+    let m = k .0 .1 .1 .1 in
+    let w = leb-false 32 (length (rowsOf t)) (m .1 .1 .0) in
+    record {
+      sane = k .0 .0;
+      lawful = k .0 .1 .0;
+      number = k .0 .1 .1 .0;
+      fresh = m .0;
+      good = m .1 .0;
+      few = omega arith;
+      room = ltb-false _ _ (m .1 .1 .1 .0);
+      is = k .1;
+    }
 
 pub low-number : (x : ℕ) → isNumber x ≡ true → 1 ≤ x
 low-number x e = leb-true 1 x (and-left (leb 1 x) (leb x mostNumber) e)
@@ -204,7 +197,7 @@ module _ (b t : List ℕ) (law x : ℕ) (xs : List ℕ) {a : After} (e : putOf b
   same = sane-count b t (granted .sane)
 
   -- the new note's law, and how many marks it has
-  fits : (at : ℕ) → Fits (rowOf x at (length xs)) (headOf (noteOf law xs))
+  fits : (at : ℕ) → Fits (rowOf x at (length xs)) (headRow (noteOf law xs))
   fits at = record { law = leb-true law mostLaw (granted .lawful); marks = note-few law xs }
 
   pub put-fresh : Fresh x (rowsOf t)
@@ -319,15 +312,9 @@ pub record Gone (b t : List ℕ) (x : ℕ) (a : After) : Type 0 where
 
 pub delete-gone : (b t : List ℕ) (x : ℕ) (a : After) → deleteOf b t x ≡ leaves a → Gone b t x a
 unfolding deleteIn
-delete-gone b t x a e = go (saneStore (sizeOf b) t) refl (isNumber x) refl (absent x (rowsOf t)) refl e
-  where
-    go : (s : Bool) → saneStore (sizeOf b) t ≡ s → (n : Bool) → isNumber x ≡ n → (f : Bool) → absent x (rowsOf t) ≡ f
-        → cond (not s) (refused Table) (cond (not n) (refused Number) (cond f (refused Absent)
-        (leaves (without b (rowsOf t) (notesOf t) (findFrom x 0 (rowsOf t)))))) ≡ leaves a → Gone b t x a
-    go false s′ n n′ f f′ e = no-outcome e
-    go true s′ false n′ f f′ e = no-outcome e
-    go true s′ true n′ true f′ e = no-outcome e
-    go true s′ true n′ false f′ e = record { sane = s′; number = n′; found = find-split x 0 (rowsOf t) f′; is = cc }
+delete-gone b t x a e =
+    let k = outcome-leaves (findOrder b t x) (without b (rowsOf t) (notesOf t) (findFrom x 0 (rowsOf t))) e in
+    record { sane = k .0 .0; number = k .0 .1 .0; found = find-split x 0 (rowsOf t) (k .0 .1 .1 .0); is = k .1 }
 
 -- a greeting among others, taken out, and got
 module _ (before : List Row) (r : Row) (behind : List Row) where
@@ -443,20 +430,15 @@ pub record Got (b t : List ℕ) (x : ℕ) (a : After) : Type 0 where
 
 pub get-got : (b t : List ℕ) (x : ℕ) (a : After) → getOf b t x ≡ leaves a → Got b t x a
 unfolding getIn
-get-got b t x a e = go (saneStore (sizeOf b) t) refl (isNumber x) (absent x (rowsOf t)) refl e
-  where
-    go : (s : Bool) → saneStore (sizeOf b) t ≡ s → (n : Bool) → (f : Bool) → absent x (rowsOf t) ≡ f
-        → cond (not s) (refused Table) (cond (not n) (refused Number) (cond f (refused Absent)
-        (leaves (gotten b (rowsOf t) (notesOf t) (nth (findFrom x 0 (rowsOf t)) (rowsOf t)))))) ≡ leaves a → Got b t x a
-    go false s′ n f f′ e = no-outcome e
-    go true s′ false f f′ e = no-outcome e
-    go true s′ true true f′ e = no-outcome e
-    go true s′ true false f′ e =
-        let c = find-split x 0 (rowsOf t) f′ in
-        let q : a ≡ gotten b (rowsOf t) (notesOf t) (nth (findFrom x 0 (rowsOf t)) (rowsOf t)) = cc in
-        let start = ap (λ (r : Row). r .start) (found-nth c) in
-        let octets = ap (λ (r : Row). r .octets) (found-nth c) in
-        record { sane = s′; found = c; start = rw q start; octets = rw q octets }
+get-got b t x a e =
+    let k = outcome-leaves (findOrder b t x) (gotten b (rowsOf t) (notesOf t) (nth (findFrom x 0 (rowsOf t)) (rowsOf t))) e in
+    let c = find-split x 0 (rowsOf t) (k .0 .1 .1 .0) in
+    record {
+      sane = k .0 .0;
+      found = c;
+      start = ap (λ (y : After). y .first) (k .1) ∙ ap (λ (r : Row). r .start) (found-nth c);
+      octets = ap (λ (y : After). y .second) (k .1) ∙ ap (λ (r : Row). r .octets) (found-nth c);
+    }
 
 pub get-of : (b t : List ℕ) (x : ℕ) → saneStore (sizeOf b) t ≡ true → isNumber x ≡ true → absent x (rowsOf t) ≡ false
     → getOf b t x ≡ leaves (gotten b (rowsOf t) (notesOf t) (nth (findFrom x 0 (rowsOf t)) (rowsOf t)))

@@ -4,22 +4,24 @@
 use Prim.Native.Nat.{ℕ, zero, suc, _+_, _≤_}
 use mathlib.Core.Path.{_≡_, refl, sym, ap, subst, _∙_}
 use mathlib.Core.List.{List, [], _∷_, _++_}
-use mathlib.Core.Bool.{Bool, true, false, cond, not}
+use mathlib.Core.Bool.{Bool, true, false, cond}
 use native.Mathlib.Omega.{arith}
 use lib.ListN.{length, drop, length-take, length-append}
 use lib.Dec.{leb, ltb}
 use borrow.Author.Tests.{le-ltb, ltb-true, ltb-false}
+use Rattle.rules.specs.Judged.{bar}
+use Rattle.rules.proofs.Judged.{by-each}
 use Rattle.rules.specs.Tools.{mostLaw}
 use Rattle.store_rows.specs.declared.rows.Row.{Row}
 use Rattle.store_rows.specs.Limits.{sizeOf}
 use Rattle.store_rows.specs.Rows.{greeting, contents}
-use Rattle.store_rows.specs.Sane.{rising, numbered}
+use Rattle.store_rows.specs.Sane.{rising}
 use Rattle.store_greeting.specs.Bad.{isBad}
 use Rattle.store_greeting.proofs.Bad.{bad-law}
 use Rattle.store_greeting.specs.Marks.{Note, mostMarks}
 use Rattle.store_greeting.proofs.Count.{note-few}
 use Rattle.store_notes.specs.Notes.{True}
-use Rattle.store_notes.specs.Cells.{headOf, heads, stored}
+use Rattle.store_notes.specs.Cells.{headRow, heads, stored}
 use Rattle.store_notes.specs.Sane.{storeCells, matched, saneStore}
 use Rattle.store_notes.proofs.Noting.{heads-cons}
 use Rattle.store_notes.proofs.Pairs.{matched-nil, matched-cons}
@@ -33,7 +35,7 @@ use Rattle.store_text.specs.Noted.{Listed, listed, listedFrom, rowsListed, note
 use Rattle.store_text.specs.Form.{formOf, formedIn}
 use Rattle.store_text.proofs.Exact.{table-only}
 use Rattle.store_text.proofs.Noting.{length-rows-listed}
-use Rattle.store_save.specs.Saved.{anyBad, allTrue, early, loadIn, loadRead, loadOf}
+use Rattle.store_save.specs.Saved.{anyBad, allTrue, early, loadAsks, loadIn, loadRead, loadOf}
 use Rattle.store_save.proofs.Bad.{rows-early}
 use Rattle.store_rows.proofs.Rising.{rising-head}
 use Rattle.store_promises.specs.Kept.{Good, Along}
@@ -64,34 +66,35 @@ formed-one f l = lists-one (f .lists) l
 module _ (text b t : List ℕ) (xs : List Listed) (c : storeCells (sizeOf b) ≤ length t) (l : Lists text b xs) where
   judged-in : Judged text b t (loadIn b (sizeOf b) xs)
   unfolding loadIn
-  judged-in = go (rising 0 0 (sizeOf b) (rowsListed xs)) refl (numbered (rowsListed xs)) refl (anyBad b xs) refl (allTrue b xs) refl
-    where
-      go : (x : Bool) → rising 0 0 (sizeOf b) (rowsListed xs) ≡ x → (y : Bool) → numbered (rowsListed xs) ≡ y → (z : Bool) → anyBad b xs ≡ z
-          → (w : Bool) → allTrue b xs ≡ w
-          → Judged text b t (cond (not x) (refused Table) (cond (not y) (refused Table) (cond z (refused Bad) (cond (not w) (refused Table)
-          (leaves (loaded b xs))))))
-      go false p y q z r w s =
-          unformed (λ ys f. let e = formed-one f l in false-true p (rw e at (f .apart)))
-      go true p false q z r w s =
-          unformed (λ ys f. let e = formed-one f l in false-true q (rw e at (f .once)))
-      go true p true q true r w s = bad (record { cells = c; lists = l; apart = p; once = q }) r
-      go true p true q false r false s = untrue (record { cells = c; lists = l; apart = p; once = q }) r s
-      go true p true q false r true s = taken (record { cells = c; lists = l; apart = p; once = q }) r s
+  judged-in =
+      by-each refused (leaves (loaded b xs)) (Judged text b t) (loadAsks b (sizeOf b) xs) (
+        λ p. unformed (λ ys f. let e = formed-one f l in false-true p (rw e at (f .apart))),
+        λ p. (
+          λ q. unformed (λ ys f. let e = formed-one f l in false-true q (rw e at (f .once))),
+          λ q. let formed : Formed text b t xs = record { cells = c; lists = l; apart = p; once = q } in (
+            λ r. bad formed r,
+            λ r. (λ s. untrue formed r s, λ s. taken formed r s),
+          ),
+        ),
+      )
 
 no-lists : {text b : List ℕ} {A : Type 0} {xs : List Listed} → tableIn text ≡ none → formedIn text ≡ none → Lists text b xs → A
 no-lists e f (in-early g) = not-both e g
 no-lists e f (in-noted g h) = not-both f h
 
 pub load-judged : (text b t : List ℕ) → Judged text b t (loadOf text b t)
-load-judged text b t = go (ltb (length t) (storeCells (sizeOf b))) refl (tableIn text) refl (formedIn text) refl
+load-judged text b t =
+    by-each refused (loadRead b (sizeOf b) (tableIn text) (formedIn text)) (Judged text b t)
+    (bar Table (ltb (length t) (storeCells (sizeOf b))) ∷ []) (
+      λ p. unformed (λ xs f. let h = ltb-true (length t) (storeCells (sizeOf b)) p in absurd (omega (arith, f .cells))),
+      λ p. go (ltb-false (length t) (storeCells (sizeOf b)) p) (tableIn text) refl (formedIn text) refl,
+    )
   where
-    go : (s : Bool) → ltb (length t) (storeCells (sizeOf b)) ≡ s → (old : Read (List Row)) → tableIn text ≡ old
-        → (new : Read (List Listed)) → formedIn text ≡ new → Judged text b t (cond s (refused Table) (loadRead b (sizeOf b) old new))
-    go true p old q new r = unformed (λ xs f. let h = ltb-true (length t) (storeCells (sizeOf b)) p in absurd (omega (arith, f .cells)))
-    go false p (whole rows i) q new r =
-        judged-in text b t (early b rows) (ltb-false (length t) (storeCells (sizeOf b)) p) (in-early q)
-    go false p none q (whole xs i) r = judged-in text b t xs (ltb-false (length t) (storeCells (sizeOf b)) p) (in-noted q r)
-    go false p none q none r = unformed (λ xs f. no-lists q r (f .lists))
+    go : storeCells (sizeOf b) ≤ length t → (old : Read (List Row)) → tableIn text ≡ old
+        → (new : Read (List Listed)) → formedIn text ≡ new → Judged text b t (loadRead b (sizeOf b) old new)
+    go c (whole rows i) q new r = judged-in text b t (early b rows) c (in-early q)
+    go c none q (whole xs i) r = judged-in text b t xs c (in-noted q r)
+    go c none q none r = unformed (λ xs f. no-lists q r (f .lists))
 
 -- and the other way
 pub read-as : {text b : List ℕ} {xs : List Listed} (size : ℕ) → Lists text b xs
@@ -188,7 +191,7 @@ true-matched b lo size (r ∷ rows) (n ∷ notes) h f g w =
     let l = length-greeting b r (omega (arith, k .0 .inside)) in
     let m : length (n .marks) ≤ mostMarks (length (greeting b r)) =
     subst (λ (o : Note). length (o .marks) ≤ mostMarks (length (greeting b r))) (sym (w .0)) (note-few (n .law) (greeting b r)) in
-    rw (heads-cons n notes) (matched-cons r (headOf n) rows (heads notes)
+    rw (heads-cons n notes) (matched-cons r (headRow n) rows (heads notes)
     (record { law = lawful (n .law) (greeting b r) (g .0); marks = subst (λ (o : ℕ). length (n .marks) ≤ mostMarks o) l m })
     (true-matched b (r .start + r .octets) size rows notes (k .1) f (g .1) (w .1)))
 

@@ -13,12 +13,12 @@
 use Prim.Native.Nat.{ℕ, _+_, _*_, _≤_, _<_}
 use mathlib.Core.Path.{_≡_, refl, sym, ap, subst, _∙_}
 use mathlib.Core.List.{List, [], _∷_, _++_}
-use mathlib.Core.Bool.{Bool, true, false, cond, not}
+use mathlib.Core.Bool.{Bool, true, false}
 use native.Mathlib.Omega.{arith}
 use lib.ListN.{length, take, drop, getD, replicate, length-replicate, getD-replicate, take-append-drop}
 use lib.Seq.{getD-drop}
-use lib.Dec.{leb, ltb}
 use borrow.Author.Tests.{le-ltb, lt-ltb, ltb-true, leb-false, lt-leb}
+use Rattle.rules.specs.Judged.{judged}
 use Rattle.rules.specs.Tools.{isLaw}
 use Rattle.rules.specs.Walk.{walkAll}
 use Rattle.store_rows.specs.declared.rows.Row.{Row}
@@ -36,14 +36,16 @@ use Rattle.store_notes.specs.Notes.{True, nthNote, insertNote}
 use Rattle.store_notes.specs.Cells.{headsOf, notesIn, notesOf, marksHeld, stored}
 use Rattle.store_notes.specs.Sane.{storeCells, matched, saneStore}
 use Rattle.store_notes.proofs.Matched.{marks-fit, sane-noted}
-use Rattle.store.specs.declared.Refusal.the-variants.{Room, Law, Number, Taken, Absent, Bad, Full, NoRoom, Table}
-use Rattle.store.specs.Store.{Outcome, leaves, refused, After, fitted, putIn, getIn, deleteIn, gotten, without}
-use Rattle.store.specs.Calls.{putOf, getOf, deleteOf, blockAfter, tableAfter}
+use Rattle.store.specs.declared.Refusal.the-variants.{NoRoom, Table}
+use Rattle.store.specs.Store.{Outcome, leaves, refused, After, fitted, putAsks, putIn, findAsks, getIn, deleteIn, gotten, without}
+use Rattle.store.specs.Calls.{putOrder, putOf, getOf, deleteOf, blockAfter, tableAfter}
+use Rattle.store.proofs.Only.{outcome-refused}
 use Rattle.text_keyvalue.specs.Reading.{whole, none}
 use Rattle.store_text.specs.Table.{tableIn}
 use Rattle.store_text.specs.Noted.{Listed, listing}
 use Rattle.store_text.specs.Form.{savedText, formedIn}
-use Rattle.store_save.specs.Saved.{saved, declined, saveIn, saveOf, early, loadOf}
+use Rattle.store_save.specs.Saved.{saved, declined, roomAsk, saveIn, saveOf, early, loadOf}
+use Rattle.store_save.proofs.Fits.{text-saved, text-declined}
 use Rattle.store_rows.proofs.Cells.{length-rows}
 use Rattle.store_promises.specs.Told.{Call, putting, getting, deleting, saving, loading, Store, rowsIn, notesFor, see, seeAll, fresh}
 use Rattle.store_promises.specs.Told.{putMore, putFirst, noneDeleted}
@@ -211,25 +213,18 @@ pub noroom-only : (b t : List ℕ) (law x : ℕ) (xs : List ℕ) → putOf b t l
     → Unrefused b t law x xs × (sizeOf b < held (rowsOf t) + length xs)
 unfolding putIn
 noroom-only b t law x xs e =
-    go (saneStore (sizeOf b) t) refl (isLaw law) refl (isNumber x) refl (absent x (rowsOf t)) refl (isBad law xs) refl
-    (leb 32 (length (rowsOf t))) refl (ltb (sizeOf b) (held (rowsOf t) + length xs)) refl e
-  where
-    go : (s : Bool) → saneStore (sizeOf b) t ≡ s → (l : Bool) → isLaw law ≡ l → (n : Bool) → isNumber x ≡ n → (f : Bool)
-        → absent x (rowsOf t) ≡ f → (g : Bool) → isBad law xs ≡ g
-        → (q : Bool) → leb 32 (length (rowsOf t)) ≡ q → (r : Bool) → ltb (sizeOf b) (held (rowsOf t) + length xs) ≡ r
-        → cond (not s) (refused Table)
-        (cond (not l) (refused Law) (cond (not n) (refused Number) (cond (not f) (refused Taken) (cond g (refused Bad)
-        (cond q (refused Full) (cond r (refused NoRoom) (leaves (fitted b (rowsOf t) (notesOf t) (sizeOf b) law x xs))))))))
-        ≡ refused NoRoom → Unrefused b t law x xs × (sizeOf b < held (rowsOf t) + length xs)
-    go false s′ l l′ n n′ f f′ g g′ q q′ r r′ e = let z : _≡_ {A = ℕ} 0 1 = cc in absurd (omega arith)
-    go true s′ false l′ n n′ f f′ g g′ q q′ r r′ e = let z : _≡_ {A = ℕ} 0 1 = cc in absurd (omega arith)
-    go true s′ true l′ false n′ f f′ g g′ q q′ r r′ e = let z : _≡_ {A = ℕ} 0 1 = cc in absurd (omega arith)
-    go true s′ true l′ true n′ false f′ g g′ q q′ r r′ e = let z : _≡_ {A = ℕ} 0 1 = cc in absurd (omega arith)
-    go true s′ true l′ true n′ true f′ true g′ q q′ r r′ e = let z : _≡_ {A = ℕ} 0 1 = cc in absurd (omega arith)
-    go true s′ true l′ true n′ true f′ false g′ true q′ r r′ e = let z : _≡_ {A = ℕ} 0 1 = cc in absurd (omega arith)
-    go true s′ true l′ true n′ true f′ false g′ false q′ false r′ e = let z : _≡_ {A = ℕ} 0 1 = cc in absurd (omega arith)
-    go true s′ true l′ true n′ true f′ false g′ false q′ true r′ e =
-        (record { sane = s′; lawful = l′; number = n′; fresh = f′; good = g′; few = leb-false 32 (length (rowsOf t)) q′ }, ltb-true _ _ r′)
+    let g = outcome-refused (putOrder b t law x xs) (fitted b (rowsOf t) (notesOf t) (sizeOf b) law x xs) NoRoom e in
+    let m = g .1 .1 .1 in (
+      record {
+        sane = g .0;
+        lawful = g .1 .0;
+        number = g .1 .1 .0;
+        fresh = m .0;
+        good = m .1 .0;
+        few = leb-false 32 (length (rowsOf t)) (m .1 .1 .0);
+      },
+      ltb-true _ _ (m .1 .1 .1),
+    )
 
 -- THE LOWEST GAP: where one is found it is clear, and no lower place is; where none is found no place is clear
 pub record Lowest (want size : ℕ) (rows : List Row) (g : Gap) : Type 0 where
@@ -337,16 +332,12 @@ keeps-load size s text k (leaves a) e =
       total = rw (z .rows-are) (omega arith);
     }
 
-keeps-same : (size : ℕ) (s : Store) → Keeps size s
-    → Keeps size (record { block = s .block; table = s .table; put = s .put; deleted = s .deleted })
-keeps-same size s k = record { sane = k .sane; long = k .long; good = k .good; marks = k .marks; total = k .total }
-
 -- every call keeps it so
 pub call-kept : (size : ℕ) (c : Call) (s : Store) → Keeps size s → Keeps size (see c s)
 call-kept size (putting law x xs) s k = keeps-put size s law x xs k (putOf (s .block) (s .table) law x xs) refl
-call-kept size (getting x) s k = keeps-same size s k
+call-kept size (getting x) s k = k
 call-kept size (deleting x) s k = keeps-delete size s x k (deleteOf (s .block) (s .table) x) refl
-call-kept size (saving room) s k = keeps-same size s k
+call-kept size (saving room) s k = k
 call-kept size (loading text) s k = keeps-load size s text k (loadOf text (s .block) (s .table)) refl
 
 calls-kept : (size : ℕ) (cs : List Call) (s : Store) → Keeps size s → Keeps size (seeAll cs s)
@@ -416,36 +407,14 @@ put-tables : (b : List ℕ) (size : ℕ) (rows : List Row) (notes : List Note) (
     → putIn b size rows notes law x xs ≡ refused Table → ⊥
 unfolding putIn
 put-tables b size rows notes law x xs e =
-    go (isLaw law) (isNumber x) (absent x rows) (isBad law xs) (leb 32 (length rows)) (ltb size (held rows + length xs)) e
-  where
-    go : (l n f g q r : Bool) → cond (not l) (refused Law)
-        (cond (not n) (refused Number) (cond (not f) (refused Taken) (cond g (refused Bad) (cond q (refused Full)
-        (cond r (refused NoRoom) (leaves (fitted b rows notes size law x xs))))))) ≡ refused Table → ⊥
-    go false n f g q r e = let z : _≡_ {A = ℕ} 0 1 = cc in absurd (omega arith)
-    go true false f g q r e = let z : _≡_ {A = ℕ} 0 1 = cc in absurd (omega arith)
-    go true true false g q r e = let z : _≡_ {A = ℕ} 0 1 = cc in absurd (omega arith)
-    go true true true true q r e = let z : _≡_ {A = ℕ} 0 1 = cc in absurd (omega arith)
-    go true true true false true r e = let z : _≡_ {A = ℕ} 0 1 = cc in absurd (omega arith)
-    go true true true false false true e = let z : _≡_ {A = ℕ} 0 1 = cc in absurd (omega arith)
-    go true true true false false false e = let z : _≡_ {A = ℕ} 0 1 = cc in absurd (omega arith)
+    outcome-refused (putAsks size rows law x xs) (fitted b rows notes size law x xs) Table e
 
 -- NUMBER, ABSENT or the greeting
-found-tables : (x : ℕ) (rows : List Row) (a : After)
-    → cond (not (isNumber x)) (refused Number) (cond (absent x rows) (refused Absent) (leaves a))
-    ≡ refused Table → ⊥
-found-tables x rows a e = go (isNumber x) (absent x rows) e
-  where
-    go : (n f : Bool) → cond (not n) (refused Number) (cond f (refused Absent) (leaves a)) ≡ refused Table → ⊥
-    go false f e = let z : _≡_ {A = ℕ} 0 1 = cc in absurd (omega arith)
-    go true true e = let z : _≡_ {A = ℕ} 0 1 = cc in absurd (omega arith)
-    go true false e = let z : _≡_ {A = ℕ} 0 1 = cc in absurd (omega arith)
+found-tables : (x : ℕ) (rows : List Row) (a : After) → judged (findAsks rows x) refused (leaves a) ≡ refused Table → ⊥
+found-tables x rows a e = outcome-refused (findAsks rows x) a Table e
 
 save-tables : (size : ℕ) (xs : List Listed) (room : ℕ) → saveIn size xs room ≡ declined Table → ⊥
-save-tables size xs room e = go (ltb room (length (savedText size xs))) e
-  where
-    go : (q : Bool) → cond q (declined Room) (saved (savedText size xs)) ≡ declined Table → ⊥
-    go true e = let z : _≡_ {A = ℕ} 0 1 = cc in absurd (omega arith)
-    go false e = let z : _≡_ {A = ℕ} 0 1 = cc in absurd (omega arith)
+save-tables size xs room e = text-declined (roomAsk size xs room ∷ []) (savedText size xs) Table e
 
 pub never-table : {size : ℕ} {s : Store} → Keeps size s → NeverTable s
 unfolding getIn deleteIn
@@ -470,11 +439,7 @@ saved-loads {size} {s} k t h =
     (sane-distinct (sizeOf (s .block)) (s .table) (k .sane)) (sane-count (s .block) (s .table) (k .sane)) (k .good) (k .marks)
 
 pub saved-text : (size : ℕ) (xs : List Listed) (room : ℕ) (text : List ℕ) → saveIn size xs room ≡ saved text → text ≡ savedText size xs
-saved-text size xs room text e = go (ltb room (length (savedText size xs))) e
-  where
-    go : (q : Bool) → cond q (declined Room) (saved (savedText size xs)) ≡ saved text → text ≡ savedText size xs
-    go true e = let z : _≡_ {A = ℕ} 0 1 = cc in absurd (omega arith)
-    go false e = cc
+saved-text size xs room text e = text-saved (roomAsk size xs room ∷ []) (savedText size xs) e .1
 
 pub save-writes : {size : ℕ} {s : Store} → Keeps size s → (room : ℕ)
     → saveOf (s .block) (s .table) room ≡ saveIn (sizeOf (s .block)) (listing (rowsIn s) (notesFor s)) room

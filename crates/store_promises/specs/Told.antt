@@ -36,22 +36,7 @@ rowsIn s = rowsOf (s .table)
 abbrev pub notesFor : Store → List Note
 notesFor s = notesOf (s .table)
 
--- what a call leaves of the block and of the table
-abbrev pub blockOn : Call → Store → List ℕ
-blockOn (putting law n xs) s = blockAfter (putOf (s .block) (s .table) law n xs) (s .block)
-blockOn (getting n) s = s .block
-blockOn (deleting n) s = s .block
-blockOn (saving room) s = s .block
-blockOn (loading text) s = s .block
-
-abbrev pub tableOn : Call → Store → List ℕ
-tableOn (putting law n xs) s = tableAfter (putOf (s .block) (s .table) law n xs) (s .table)
-tableOn (getting n) s = s .table
-tableOn (deleting n) s = tableAfter (deleteOf (s .block) (s .table) n) (s .table)
-tableOn (saving room) s = s .table
-tableOn (loading text) s = tableAfter (loadOf text (s .block) (s .table)) (s .table)
-
--- the octets put, after a call; a loading's greetings count as first puts
+-- the octets that a call puts or deletes: none where it is refused. After a loading its greetings count as first puts, and nothing as deleted
 abbrev pub putMore : Outcome → ℕ → ℕ
 putMore (leaves a) octets = octets
 putMore (refused w) octets = 0
@@ -60,27 +45,38 @@ abbrev pub putFirst : Outcome → ℕ → ℕ
 putFirst (leaves a) put = held (a .rows)
 putFirst (refused w) put = put
 
-abbrev pub putOn : Call → Store → ℕ
-putOn (putting law n xs) s = s .put + putMore (putOf (s .block) (s .table) law n xs) (length xs)
-putOn (getting n) s = s .put
-putOn (deleting n) s = s .put
-putOn (saving room) s = s .put
-putOn (loading text) s = putFirst (loadOf text (s .block) (s .table)) (s .put)
-
--- the octets deleted, after a call
 abbrev pub noneDeleted : Outcome → ℕ → ℕ
 noneDeleted (leaves a) deleted = 0
 noneDeleted (refused w) deleted = deleted
 
-abbrev pub deletedOn : Call → Store → ℕ
-deletedOn (putting law n xs) s = s .deleted
-deletedOn (getting n) s = s .deleted
-deletedOn (deleting n) s = s .deleted + putMore (deleteOf (s .block) (s .table) n) (nth (findFrom n 0 (rowsIn s)) (rowsIn s) .octets)
-deletedOn (saving room) s = s .deleted
-deletedOn (loading text) s = noneDeleted (loadOf text (s .block) (s .table)) (s .deleted)
-
+-- what a call leaves
 abbrev pub see : Call → Store → Store
-see c s = record { block = blockOn c s; table = tableOn c s; put = putOn c s; deleted = deletedOn c s }
+see (putting law n xs) s =
+    let o = putOf (s .block) (s .table) law n xs in
+    record {
+      block = blockAfter o (s .block);
+      table = tableAfter o (s .table);
+      put = s .put + putMore o (length xs);
+      deleted = s .deleted;
+    }
+see (getting n) s = s
+see (deleting n) s =
+    let o = deleteOf (s .block) (s .table) n in
+    record {
+      block = s .block;
+      table = tableAfter o (s .table);
+      put = s .put;
+      deleted = s .deleted + putMore o (nth (findFrom n 0 (rowsIn s)) (rowsIn s) .octets);
+    }
+see (saving room) s = s
+see (loading text) s =
+    let o = loadOf text (s .block) (s .table) in
+    record {
+      block = s .block;
+      table = tableAfter o (s .table);
+      put = putFirst o (s .put);
+      deleted = noneDeleted o (s .deleted);
+    }
 
 unfoldable pub seeAll : List Call → Store → Store
 seeAll [] s = s

@@ -4,6 +4,7 @@ use Prim.Native.Nat.{ℕ, zero, suc, _+_, _*_}
 use mathlib.Core.List.{List, [], _∷_, _++_}
 use lib.ListN.{length, getD, drop}
 use Rattle.store_rows.specs.declared.rows.Row.{Row}
+use Rattle.store_rows.specs.Limits.{rowCells}
 
 -- the three cells from place k on
 abbrev pub rowAt : List ℕ → ℕ → Row
@@ -12,7 +13,7 @@ rowAt t k = record { number = getD t k 0; start = getD t (k + 1) 0; octets = get
 -- n rows from place k on
 unfoldable pub rowsAt : List ℕ → ℕ → ℕ → List Row
 rowsAt t zero k = []
-rowsAt t (suc n) k = rowAt t k ∷ rowsAt t n (k + 3)
+rowsAt t (suc n) k = rowAt t k ∷ rowsAt t n (k + rowCells)
 
 -- the greetings of a table
 abbrev pub rowsOf : List ℕ → List Row
@@ -25,4 +26,4 @@ cellsOf (r ∷ rs) = r .number ∷ r .start ∷ r .octets ∷ cellsOf rs
 
 -- a table that holds these greetings; the cells past them stay as they were
 unfoldable pub laid : List Row → List ℕ → List ℕ
-laid rows old = (length rows ∷ cellsOf rows) ++ drop (1 + 3 * length rows) old
+laid rows old = (length rows ∷ cellsOf rows) ++ drop (1 + rowCells * length rows) old

@@ -25,6 +25,13 @@ isNumber x = leb 1 x && leb x mostNumber
 abbrev pub sizeOf : List ℕ → ℕ
 sizeOf b = min (length b) largestBlock
 
--- how many cells a table needs for a block of a size: how many greetings there are, then three for each of 32
+-- how a list of greetings lies in a table: three cells a row, and so many for all, how many there are and 32 rows
+abbrev pub rowCells : ℕ
+rowCells = 3
+
+abbrev pub listCells : ℕ
+listCells = 97
+
+-- how many cells a table needs for a block of a size
 abbrev pub cellsFor : ℕ → ℕ
-cellsFor size = 97
+cellsFor size = listCells

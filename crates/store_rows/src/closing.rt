@@ -66,13 +66,14 @@ fn settle(block: &mut [u8], from: usize, to: usize, n: usize) -> usize
 pub fn close_up(block: &mut [u8], table: &mut [u32], size: usize) -> usize
     requires { ⌜ Ordered size (now table) ⌝ }
     requires { ⌜ (size ≤ length (now block)) × (size < 2 ^ 32) ⌝ }
-    ensures { λ r. ⌜ Closes (now (block .entry)) (now (table .entry)) (rowsOf (now (table .entry))) (now (block .exit)) (now (table .exit)) r ⌝ }
+    ensures { λ r. ⌜ Closes (now (block .entry)) (now (table .entry)) (rowsOf (now (table .entry)))
+        (now (block .exit)) (now (table .exit)) r ⌝ }
 {
     let n = crate::rows::wide(table[0]);
     let mut to = 0;
     let mut moved = 0;
     for i in 0..n {
-        let k = 1 + 3 * i;
+        let k = 1 + crate::rows::ROW_CELLS * i;
         let r = crate::rows::row_at(table, k);
         let m = settle(block, r.start, to, r.octets);
         table[k + 1] = to as u32;

@@ -3,7 +3,7 @@
 ghost use mathlib.Core.Path.{_≡_};
 ghost use Prim.Native.Nat.{_+_, _*_, _-_, _^_, _≤_, _<_, min};
 ghost use lib.ListN.{length, getD};
-ghost use Rattle.store_rows.specs.Limits.{largestBlock};
+ghost use Rattle.store_rows.specs.Limits.{largestBlock, rowCells, listCells};
 ghost use Rattle.store_rows.specs.Rows.{held as heldBy};
 ghost use Rattle.store_rows.specs.Finding.{findFrom, lowestGap};
 ghost use Rattle.store_rows.specs.Cells.{rowAt, rowsAt, rowsOf};
@@ -16,6 +16,11 @@ pub const LARGEST_BLOCK: usize = 1048576;
 pub const MOST_GREETINGS: usize = 32;
 
 pub const MOST_NUMBER: usize = 65535;
+
+// How a list of greetings lies in a table: three cells a row, and so many for all, how many there are and 32 rows.
+pub const ROW_CELLS: usize = 3;
+
+pub const LIST_CELLS: usize = 97;
 
 // A greeting: its number, where it starts in the block, and its octets.
 pub struct Row {
@@ -48,7 +53,7 @@ pub fn wide(x: u32) -> usize
 
 // The row at a place of the table.
 pub fn row_at(table: &[u32], k: usize) -> Row
-    requires { ⌜ k + 3 ≤ length (now table) ⌝ }
+    requires { ⌜ k + rowCells ≤ length (now table) ⌝ }
     ensures { λ r. ⌜ (r ≡ rowAt (now (table .entry)) k) × (r .start < 2 ^ 32) × (r .octets < 2 ^ 32) ⌝ }
 {
     Row {
@@ -60,12 +65,12 @@ pub fn row_at(table: &[u32], k: usize) -> Row
 
 // The place of a number among the greetings from `from` on; or n, where it is absent.
 pub fn find(table: &[u32], n: usize, from: usize, number: usize) -> usize
-    requires { ⌜ (from ≤ n) × (n ≤ 32) × (97 ≤ length (now table)) ⌝ }
-    ensures { λ r. ⌜ (r ≡ findFrom number from (rowsAt (now (table .entry)) (n - from) (1 + 3 * from))) × (r ≤ n) ⌝ }
+    requires { ⌜ (from ≤ n) × (n ≤ 32) × (listCells ≤ length (now table)) ⌝ }
+    ensures { λ r. ⌜ (r ≡ findFrom number from (rowsAt (now (table .entry)) (n - from) (1 + rowCells * from))) × (r ≤ n) ⌝ }
 {
     let mut i = from;
     while i < n {
-        let r = row_at(table, 1 + 3 * i);
+        let r = row_at(table, 1 + ROW_CELLS * i);
         if r.number == number {
             return i;
         }
@@ -76,13 +81,13 @@ pub fn find(table: &[u32], n: usize, from: usize, number: usize) -> usize
 
 // Greetings of `least` octets or more, in order of start, apart, and inside the block.
 pub fn rises(table: &[u32], n: usize, least: usize, size: usize) -> bool
-    requires { ⌜ (n ≤ 32) × (97 ≤ length (now table)) ⌝ }
+    requires { ⌜ (n ≤ 32) × (listCells ≤ length (now table)) ⌝ }
     ensures { λ r. ⌜ r ≡ rising least 0 size (rowsAt (now (table .entry)) n 1) ⌝ }
 {
     let mut at = 0;
     let mut i = 0;
     while i < n {
-        let r = row_at(table, 1 + 3 * i);
+        let r = row_at(table, 1 + ROW_CELLS * i);
         if r.start < at {
             return false;
         }
@@ -101,12 +106,12 @@ pub fn rises(table: &[u32], n: usize, least: usize, size: usize) -> bool
 
 // Numbers from 1 to 65,535, each used once.
 pub fn distinct(table: &[u32], n: usize) -> bool
-    requires { ⌜ (n ≤ 32) × (97 ≤ length (now table)) ⌝ }
+    requires { ⌜ (n ≤ 32) × (listCells ≤ length (now table)) ⌝ }
     ensures { λ r. ⌜ r ≡ numbered (rowsAt (now (table .entry)) n 1) ⌝ }
 {
     let mut i = 0;
     while i < n {
-        let r = row_at(table, 1 + 3 * i);
+        let r = row_at(table, 1 + ROW_CELLS * i);
         if r.number < 1 {
             return false;
         }
@@ -125,7 +130,7 @@ pub fn distinct(table: &[u32], n: usize) -> bool
 pub fn sane(table: &[u32], size: usize) -> bool
     ensures { λ r. ⌜ r ≡ saneOf size (now (table .entry)) ⌝ }
 {
-    if table.len() < 97 {
+    if table.len() < LIST_CELLS {
         return false;
     }
     let n = wide(table[0]);
@@ -145,7 +150,7 @@ pub fn held(table: &[u32], n: usize, size: usize) -> usize
 {
     let mut sum = 0;
     for i in 0..n {
-        let r = row_at(table, 1 + 3 * i);
+        let r = row_at(table, 1 + ROW_CELLS * i);
         sum += r.octets;
     }
     sum
@@ -159,7 +164,7 @@ pub fn lowest_gap(table: &[u32], n: usize, size: usize, want: usize) -> Gap
     let mut at = 0;
     let mut i = 0;
     while i < n {
-        let r = row_at(table, 1 + 3 * i);
+        let r = row_at(table, 1 + ROW_CELLS * i);
         if at + want <= r.start {
             return Gap::At(i, at);
         }

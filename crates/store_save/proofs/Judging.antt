@@ -1,10 +1,12 @@
 -- A text's greetings judged: TABLE, BAD, TABLE, in the code's steps.
 use Prim.Native.Nat.{ℕ}
-use mathlib.Core.Path.{_≡_, refl, sym, ap, _∙_}
-use mathlib.Core.List.{List}
-use mathlib.Core.Bool.{Bool, true, false, cond, not}
+use mathlib.Core.Path.{_≡_, sym, ap, _∙_}
+use mathlib.Core.List.{List, [], _∷_}
+use mathlib.Core.Bool.{Bool, true, false}
 use native.Mathlib.Omega.{arith}
 use lib.ListN.{length, drop}
+use Rattle.rules.specs.Judged.{ask, judged}
+use Rattle.rules.proofs.Judged.{judged-ap, judged-first, first-more, Apart, judged-passes, judged-refuses}
 use Rattle.store_rows.specs.declared.rows.Row.{Row}
 use Rattle.store_rows.specs.Limits.{sizeOf}
 use Rattle.store_rows.specs.Cells.{rowsAt}
@@ -17,8 +19,8 @@ use Rattle.store.specs.Store.{Outcome, leaves, refused}
 use Rattle.store_text.specs.Noted.{Listed, rowsListed, notesListed}
 use Rattle.store_text.proofs.Noting.{length-rows-listed}
 use Rattle.store_save.specs.declared.Verdict.the-variants.{Stop, Fine}
-use Rattle.store_save.specs.Saved.{anyBad, allTrue, loadIn}
-use Rattle.store_save.specs.Steps.{badBy, judgedBy, greetingsOf, isWhole, Celled, Fitting}
+use Rattle.store_save.specs.Saved.{anyBad, allTrue, loadAsks, loadIn}
+use Rattle.store_save.specs.Steps.{badBy, rowsAsks, judgedBy, greetingsOf, isWhole, Celled, Fitting}
 use Rattle.store_save.specs.Calls.{verdictOf}
 use Rattle.store_save.proofs.Bad.{bad-celled}
 
@@ -46,13 +48,20 @@ abbrev after : List ℕ → ℕ → List Listed → Outcome
 after b size xs = leaves (record { block = b; rows = rowsListed xs; notes = notesListed xs; first = 0; second = 0 })
 
 judged-celled : (b : List ℕ) (size : ℕ) {xs : List Listed} {cells laws : List ℕ} {n : ℕ} → Celled xs cells laws n
-    → judgedBy b size (rowsAt cells n 1) laws
-    ≡ cond (not (rising 0 0 size (rowsListed xs))) (Stop Table)
-    (cond (not (numbered (rowsListed xs))) (Stop Table) (cond (anyBad b xs) (Stop Bad) Fine))
+    → judgedBy b size (rowsAt cells n 1) laws ≡ judged (rowsAsks size (rowsListed xs) (anyBad b xs)) Stop Fine
 unfolding judgedBy
 judged-celled b size {xs} {cells} {laws} {n} c =
     let d = ap (badBy b (rowsListed xs)) (c .laws-are) ∙ sym (bad-celled b xs (drop (length xs) laws)) in
     rw (c .rows-are, d)
+
+-- a verdict stops or is fine
+pub verdicts : Apart Stop Fine
+verdicts = record { other = λ w e. let z : _≡_ {A = ℕ} 0 1 = cc in omega arith; same = λ v w e. cc }
+
+-- whether greetings are taken: samples and marks are judged last
+pub verdict-is : (b : List ℕ) (size : ℕ) (xs : List Listed) → verdictOf (loadIn b size xs) ≡ judged (loadAsks b size xs) Stop Fine
+unfolding loadIn
+verdict-is b size xs = judged-ap verdictOf refused (after b size xs) (loadAsks b size xs)
 
 pub record Passes (b : List ℕ) (size : ℕ) (xs : List Listed) : Type 0 where
   pub rises : rising 0 0 size (rowsListed xs) ≡ true
@@ -62,28 +71,15 @@ pub record Passes (b : List ℕ) (size : ℕ) (xs : List Listed) : Type 0 where
 module _ {xs : List Listed} {cells laws : List ℕ} {n : ℕ} (c : Celled xs cells laws n) where
   pub celled-stop : (b : List ℕ) (size : ℕ) {w : Refusal} → Stop w ≡ judgedBy b size (rowsAt cells n 1) laws
       → Stop w ≡ verdictOf (loadIn b size xs)
-  unfolding loadIn
   celled-stop b size {w} e =
-      go (rising 0 0 size (rowsListed xs)) (numbered (rowsListed xs)) (anyBad b xs) (not (allTrue b xs)) (e ∙ judged-celled b size c)
-    where
-      go : (x y u v : Bool) → Stop w ≡ cond (not x) (Stop Table) (cond (not y) (Stop Table) (cond u (Stop Bad) Fine))
-          → Stop w ≡ verdictOf
-          (cond (not x) (refused Table) (cond (not y) (refused Table) (cond u (refused Bad) (cond v (refused Table) (after b size xs)))))
-      go false y u v e = e
-      go true false u v e = e
-      go true true true v e = e
-      go true true false v e = let z : _≡_ {A = ℕ} 0 1 = cc in absurd (omega arith)
+      let asks = rowsAsks size (rowsListed xs) (anyBad b xs) in
+      let first = judged-refuses verdicts asks w .0 (sym (e ∙ judged-celled b size c)) in
+      sym (verdict-is b size xs ∙ judged-first Stop Fine (loadAsks b size xs) (first-more asks (ask Table (allTrue b xs) ∷ []) first))
 
   pub celled-fine : (b : List ℕ) (size : ℕ) → Fine ≡ judgedBy b size (rowsAt cells n 1) laws → Passes b size xs
   celled-fine b size e =
-      go (rising 0 0 size (rowsListed xs)) (numbered (rowsListed xs)) (anyBad b xs) refl refl refl (e ∙ judged-celled b size c)
-    where
-      go : (x y u : Bool) → rising 0 0 size (rowsListed xs) ≡ x → numbered (rowsListed xs) ≡ y → anyBad b xs ≡ u
-          → Fine ≡ cond (not x) (Stop Table) (cond (not y) (Stop Table) (cond u (Stop Bad) Fine)) → Passes b size xs
-      go false y u p q r e = let z : _≡_ {A = ℕ} 0 1 = cc in absurd (omega arith)
-      go true false u p q r e = let z : _≡_ {A = ℕ} 0 1 = cc in absurd (omega arith)
-      go true true true p q r e = let z : _≡_ {A = ℕ} 0 1 = cc in absurd (omega arith)
-      go true true false p q r e = record { rises = p; once = q; fine = r }
+      let m = judged-passes verdicts (rowsAsks size (rowsListed xs) (anyBad b xs)) .0 (sym (e ∙ judged-celled b size c)) in
+      record { rises = m .0; once = m .1 .0; fine = m .1 .1 .0 }
 
   pub celled-count : n ≡ length xs
   celled-count = sym (length-rows cells n 1) ∙ ap length (c .rows-are) ∙ length-rows-listed xs

@@ -2,21 +2,21 @@
 use Prim.Native.Nat.{ℕ, suc, _≤_, _<_}
 use mathlib.Core.Path.{_≡_, refl, sym, ap, subst, _∙_}
 use mathlib.Core.List.{List, [], _∷_, _++_}
-use mathlib.Core.Bool.{Bool, true, false, cond, not}
+use mathlib.Core.Bool.{true}
 use native.Mathlib.Omega.{arith}
 use lib.ListN.{length, getD, drop, replicate}
 use lib.Seq.{drop-at}
 use borrow.Author.Tests.{lt-ltb, le-ltb}
+use Rattle.rules.proofs.Judged.{judged-passes}
 use Rattle.store_rows.specs.declared.rows.Row.{Row}
 use Rattle.store_rows.specs.Limits.{sizeOf}
 use Rattle.store_rows.specs.Cells.{rowsAt, laid}
-use Rattle.store_rows.specs.Sane.{rising, numbered}
 use Rattle.store_rows.proofs.Cells.{rows-laid, count-laid}
 use Rattle.store_greeting.specs.Marks.{Note}
 use Rattle.store_notes.specs.Cells.{notesLaid}
 use Rattle.store_notes.specs.Sane.{storeCells}
 use Rattle.store.specs.declared.Refusal.{Refusal}
-use Rattle.store.specs.declared.Refusal.the-variants.{Bad, Table}
+use Rattle.store.specs.declared.Refusal.the-variants.{Table}
 use Rattle.store.specs.declared.Answer.{Answer}
 use Rattle.store.specs.declared.Answer.the-variants.{Done, Refused}
 use Rattle.store.specs.Store.{Outcome, leaves, refused}
@@ -30,11 +30,11 @@ use Rattle.store_text.specs.Form.{formOf}
 use Rattle.store_text.specs.Fills.{Fills, FillsNoted, lawsListed}
 use Rattle.store_text.proofs.Noting.{length-rows-listed}
 use Rattle.store_save.specs.declared.Verdict.the-variants.{Stop, Fine}
-use Rattle.store_save.specs.Saved.{anyBad, allTrue, loadIn, loadNoted, loadOf, early}
+use Rattle.store_save.specs.Saved.{allTrue, loadAsks, loadIn, loadNoted, loadOf, early}
 use Rattle.store_save.specs.Steps.{badBy, notesBy, judgedBy, greetingsOf, isWhole, Celled, AllNotes}
 use Rattle.store_save.specs.Calls.{Takes, Load, verdictOf}
 use Rattle.store_save.proofs.Bad.{bad-celled, notes-celled, rows-early, laws-early, true-early}
-use Rattle.store_save.proofs.Judging.{Passes, celled-stop, celled-fine, passes-true}
+use Rattle.store_save.proofs.Judging.{Passes, verdicts, verdict-is, celled-stop, celled-fine, passes-true}
 
 length-laws : (xs : List Listed) → length (lawsListed xs) ≡ length xs
 unfolding lawsListed
@@ -138,18 +138,9 @@ pub record Accepts (b : List ℕ) (size : ℕ) (xs : List Listed) : Type 0 where
   pub all : allTrue b xs ≡ true
 
 pub accepts : (b : List ℕ) (size : ℕ) (xs : List Listed) → Fine ≡ verdictOf (loadIn b size xs) → Accepts b size xs
-unfolding loadIn
 accepts b size xs e =
-    go (rising 0 0 size (rowsListed xs)) (numbered (rowsListed xs)) (anyBad b xs) (allTrue b xs) refl refl refl refl e
-  where
-    go : (x y u v : Bool) → rising 0 0 size (rowsListed xs) ≡ x → numbered (rowsListed xs) ≡ y → anyBad b xs ≡ u → allTrue b xs ≡ v
-        → Fine ≡ verdictOf (cond (not x) (refused Table) (cond (not y) (refused Table) (cond u (refused Bad) (cond (not v) (refused Table)
-        (leaves (record { block = b; rows = rowsListed xs; notes = notesListed xs; first = 0; second = 0 })))))) → Accepts b size xs
-    go false y u v p q r s e = let z : _≡_ {A = ℕ} 0 1 = cc in absurd (omega arith)
-    go true false u v p q r s e = let z : _≡_ {A = ℕ} 0 1 = cc in absurd (omega arith)
-    go true true true v p q r s e = let z : _≡_ {A = ℕ} 0 1 = cc in absurd (omega arith)
-    go true true false false p q r s e = let z : _≡_ {A = ℕ} 0 1 = cc in absurd (omega arith)
-    go true true false true p q r s e = record { passes = record { rises = p; once = q; fine = r }; all = s }
+    let m = judged-passes verdicts (loadAsks b size xs) .0 (sym (e ∙ verdict-is b size xs)) in
+    record { passes = record { rises = m .0; once = m .1 .0; fine = m .1 .1 .0 }; all = m .1 .1 .1 .0 }
 
 -- R-8's lines
 noted-is : (b : List ℕ) (size : ℕ) (found : Read (List Listed)) → isWhole found ≡ true

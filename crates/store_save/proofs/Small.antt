@@ -1,11 +1,11 @@
 -- A greeting that is not BAD has a law that there is (`fine-law`) and is counted (`tally-wrong`), and its marks are small enough for cells
--- (`taken-cells`).
+-- (`taken-small`).
 use Prim.Native.Nat.{ℕ, zero, suc, _*_, _≤_, _<_}
 use mathlib.Core.Path.{_≡_, refl, sym, ap, subst, _∙_}
 use mathlib.Core.List.{List, [], _∷_, _++_}
 use mathlib.Core.Bool.{Bool, true, false}
 use native.Mathlib.Omega.{arith}
-use lib.ListN.{length, getD, take, drop, take-append-drop}
+use lib.ListN.{length, getD, drop, take-append-drop}
 use lib.Dec.{ltb}
 use borrow.Author.Tests.{ltb-true, ltb-false}
 use Rattle.rules.specs.Tools.{mostLaw}
@@ -17,8 +17,9 @@ use Rattle.store_greeting.specs.declared.marks.Tally.the-variants.{Wrong}
 use Rattle.store_greeting.specs.Taking.{Takes}
 use Rattle.store_greeting.proofs.Taking.{taken-bad}
 use Rattle.store_greeting.proofs.Bounds.{Small, note-small}
+use Rattle.store_notes.specs.declared.Head.{Head}
 use Rattle.store_notes.specs.Changed.{Taken}
-use Rattle.store_notes.proofs.Noting.{cells-marks}
+use Rattle.store_notes.proofs.Taken.{taken-cells}
 
 -- a greeting that is not BAD
 module _ (law : ℕ) (xs : List ℕ) (f : isBad law xs ≡ false) where
@@ -49,17 +50,16 @@ cell-small most (m ∷ ms) rest place count h a b (suc zero) l = omega (arith, h
 cell-small most (m ∷ ms) rest place count h a b (suc (suc j)) l = cell-small most ms rest place count (h .2) a b j (omega arith)
 
 -- the cells of marks that were taken
-pub taken-cells : {law samples m : ℕ} {xs cells : List ℕ} → Taken law xs cells samples m → 2 * m ≤ length cells
-    → (j : ℕ) → j < 2 * m → getD cells j 0 < 4294967295
-taken-cells {law} {samples} {m} {xs} {cells} t h j l =
-    let ms = noteOf law xs .marks in
+pub taken-small : {head : Head} {xs cells : List ℕ} → Taken head xs cells → 2 * head .marks ≤ length cells
+    → (j : ℕ) → j < 2 * head .marks → getD cells j 0 < 4294967295
+taken-small {head} {xs} {cells} t h j l =
+    let ms = noteOf (head .law) xs .marks in
     let k = t .heard in
-    let front : take (2 * m) cells ≡ markCells ms = sym (cells-marks m cells h) ∙ ap markCells (t .marks-are h) in
-    let all : cells ≡ markCells ms ++ drop (2 * m) cells = sym (take-append-drop (2 * m) cells)
-    ∙ ap (λ (x : List ℕ). x ++ drop (2 * m) cells) front in
-    let s = note-small law xs .1 in
-    let c = cell-small 4294967295 ms (drop (2 * m) cells) (length xs) (320 * length xs) s (omega (arith, k .short))
-    (omega (arith, k .short)) j
+    let rest = drop (2 * head .marks) cells in
+    let all : cells ≡ markCells ms ++ rest = sym (take-append-drop (2 * head .marks) cells)
+    ∙ ap (λ (x : List ℕ). x ++ rest) (taken-cells t h) in
+    let s = note-small (head .law) xs .1 in
+    let c = cell-small 4294967295 ms rest (length xs) (320 * length xs) s (omega (arith, k .short)) (omega (arith, k .short)) j
     (omega (arith, k .count)) in
     subst (λ (x : List ℕ). getD x j 0 < 4294967295) (sym all) c
 

@@ -16,7 +16,7 @@ use Rattle.store_rows.proofs.Rising.{rising-next}
 use Rattle.store_greeting.specs.Bad.{isBad}
 use Rattle.store_greeting.specs.Marks.{Note, noteOf, mostMarks}
 use Rattle.store_notes.specs.Notes.{insertNote}
-use Rattle.store_notes.specs.Cells.{headOf, heads, headsOf, notesOf, marksHeld, allCells, notesLaid}
+use Rattle.store_notes.specs.Cells.{headRow, heads, headsOf, notesOf, marksHeld, allCells, notesLaid}
 use Rattle.store_notes.proofs.Noting.{heads-append, all-append, length-all}
 use Rattle.store_notes.proofs.Held.{notes-again, heads-of, count-of, notes-of, length-of, none-laid}
 use Rattle.store_save.specs.Steps.{badBy, notesBy, OneMore, AllNotes}
@@ -55,7 +55,7 @@ by-next b cells laws i =
 
 held-heads : (notes : List Note) (n : Note) → marksHeld (heads (notes ++ (n ∷ []))) ≡ marksHeld (heads notes) + length (n .marks)
 unfolding heads
-held-heads notes n = ap marksHeld (heads-append notes (n ∷ [])) ∙ held-snoc (heads notes) (headOf n)
+held-heads notes n = ap marksHeld (heads-append notes (n ∷ [])) ∙ held-snoc (heads notes) (headRow n)
 
 inserted : {notes x : List Note} {y note : Note} {i : ℕ} → notes ≡ x → y ≡ note → length x ≡ i → insertNote i y notes ≡ x ++ (note ∷ [])
 inserted {notes} {x} {y} {note} {i} p q l = rw (p, q, ← l, take-length x, drop-length x)

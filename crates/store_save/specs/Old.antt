@@ -1,10 +1,10 @@
 -- Document 02, R-11: "The old table reader must refuse a form=2 table at its first line with TABLE, never show a shortened number." This is
 -- the reader as it stood before R-11: its definition is kept for what is promised of it (crates/store_promises).
 use Prim.Native.Nat.{ℕ, _+_, _*_, _/_, min}
-use mathlib.Core.List.{List}
-use mathlib.Core.Bool.{cond}
+use mathlib.Core.List.{List, [], _∷_}
 use lib.ListN.{length}
 use lib.Dec.{ltb}
+use Rattle.rules.specs.Judged.{bar, judged}
 use Rattle.store_rows.specs.Limits.{mostGreetings}
 use Rattle.store_greeting.specs.Marks.{framesApart}
 use Rattle.store_notes.specs.Cells.{firstMark}
@@ -26,5 +26,6 @@ oldCells size = firstMark + 2 * (min size oldBlock / framesApart + mostGreetings
 
 -- R-6's lines or R-8's, starts and counts of octets up to 65,535
 abbrev pub oldLoadOf : List ℕ → List ℕ → List ℕ → Outcome
-oldLoadOf text b t = cond (ltb (length t) (oldCells (oldSizeOf b))) (refused Table)
+oldLoadOf text b t =
+    judged (bar Table (ltb (length t) (oldCells (oldSizeOf b))) ∷ []) refused
     (loadRead b (oldSizeOf b) (tableIn text) (listedIn text))

@@ -5,9 +5,10 @@
 -- tables with and without it".
 use Prim.Native.Nat.{ℕ}
 use mathlib.Core.List.{List, [], _∷_}
-use mathlib.Core.Bool.{Bool, true, false, cond, not, _&&_}
+use mathlib.Core.Bool.{Bool, true, false, cond, _&&_}
 use lib.ListN.{length}
 use lib.Dec.{eqb, ltb}
+use Rattle.rules.specs.Judged.{Asked, ask, bar, judged}
 use Rattle.store_rows.specs.declared.rows.Row.{Row}
 use Rattle.store_rows.specs.Limits.{sizeOf}
 use Rattle.store_rows.specs.Rows.{greeting}
@@ -16,10 +17,11 @@ use Rattle.store_rows.specs.Sane.{rising, numbered}
 use Rattle.store_greeting.specs.Bad.{isBad}
 use Rattle.store_greeting.specs.Marks.{Mark, Note, noteOf}
 use Rattle.store_notes.specs.Cells.{notesOf}
-use Rattle.store_notes.specs.Sane.{storeCells, saneStore}
+use Rattle.store_notes.specs.Sane.{storeCells}
 use Rattle.store.specs.declared.Refusal.{Refusal}
 use Rattle.store.specs.declared.Refusal.the-variants.{Room, Bad, Table}
 use Rattle.store.specs.Store.{Outcome, leaves, refused}
+use Rattle.store.specs.Calls.{tableAsk}
 use Rattle.text_keyvalue.specs.Reading.{Read, whole, none}
 use Rattle.store_text.specs.Table.{tableIn}
 use Rattle.store_text.specs.Noted.{Listed, rowsListed, notesListed, listing}
@@ -30,13 +32,20 @@ pub data Text : Type 0 where
   saved : List ℕ → Text
   declined : Refusal → Text
 
--- the lent table is judged first; then "ROOM on saving"
+-- "ROOM on saving"
+abbrev pub roomAsk : ℕ → List Listed → ℕ → Asked Refusal
+roomAsk size xs room = bar Room (ltb room (length (savedText size xs)))
+
 abbrev pub saveIn : ℕ → List Listed → ℕ → Text
-saveIn size xs room = cond (ltb room (length (savedText size xs))) (declined Room) (saved (savedText size xs))
+saveIn size xs room = judged (roomAsk size xs room ∷ []) declined (saved (savedText size xs))
+
+-- the lent table is judged first
+abbrev pub saveOrder : List ℕ → List ℕ → ℕ → List (Asked Refusal)
+saveOrder b t room = tableAsk (sizeOf b) t ∷ roomAsk (sizeOf b) (listing (rowsOf t) (notesOf t)) room ∷ []
 
 -- saving always writes R-8's lines, after R-11's first line where that is needed
 abbrev pub saveOf : List ℕ → List ℕ → ℕ → Text
-saveOf b t room = cond (not (saneStore (sizeOf b) t)) (declined Table) (saveIn (sizeOf b) (listing (rowsOf t) (notesOf t)) room)
+saveOf b t room = judged (saveOrder b t room) declined (saved (savedText (sizeOf b) (listing (rowsOf t) (notesOf t))))
 
 -- "BAD", greeting by greeting, each walked by its own law; an empty one is
 unfoldable pub anyBad : List ℕ → List Listed → Bool
@@ -62,13 +71,18 @@ allTrue b (x ∷ xs) = cond (sameNote (x .note) (noteOf (x .note .law) (greeting
 
 -- "greetings that overlap or pass the block's end", a number "used twice", over all of them; then BAD; then samples and marks, over all of
 -- them. Else the table holds these greetings.
+abbrev pub loadAsks : List ℕ → ℕ → List Listed → List (Asked Refusal)
+loadAsks b size xs =
+    ask Table (rising 0 0 size (rowsListed xs))
+    ∷ ask Table (numbered (rowsListed xs))
+    ∷ bar Bad (anyBad b xs)
+    ∷ ask Table (allTrue b xs)
+    ∷ []
+
 unfoldable pub loadIn : List ℕ → ℕ → List Listed → Outcome
 loadIn b size xs =
-    cond (not (rising 0 0 size (rowsListed xs))) (refused Table)
-    (cond (not (numbered (rowsListed xs))) (refused Table)
-    (cond (anyBad b xs) (refused Bad)
-    (cond (not (allTrue b xs)) (refused Table)
-    (leaves (record { block = b; rows = rowsListed xs; notes = notesListed xs; first = 0; second = 0 })))))
+    judged (loadAsks b size xs) refused
+    (leaves (record { block = b; rows = rowsListed xs; notes = notesListed xs; first = 0; second = 0 }))
 
 -- the law of "all our early boxes"
 abbrev pub earlyLaw : ℕ
@@ -91,4 +105,5 @@ loadRead b size none xs = loadNoted b size xs
 
 -- the lent table is output: only its length is judged
 abbrev pub loadOf : List ℕ → List ℕ → List ℕ → Outcome
-loadOf text b t = cond (ltb (length t) (storeCells (sizeOf b))) (refused Table) (loadRead b (sizeOf b) (tableIn text) (formedIn text))
+loadOf text b t =
+    judged (bar Table (ltb (length t) (storeCells (sizeOf b))) ∷ []) refused (loadRead b (sizeOf b) (tableIn text) (formedIn text))

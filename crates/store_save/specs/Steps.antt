@@ -2,17 +2,19 @@
 use Prim.Native.Nat.{ℕ, _+_, _*_, _≤_}
 use mathlib.Core.Path.{_≡_}
 use mathlib.Core.List.{List, [], _∷_, _++_}
-use mathlib.Core.Bool.{Bool, true, false, cond, not}
+use mathlib.Core.Bool.{Bool, true, false, cond}
 use lib.ListN.{length, getD, drop}
+use Rattle.rules.specs.Judged.{Asked, ask, bar, judged}
 use Rattle.store_rows.specs.declared.rows.Row.{Row}
-use Rattle.store_rows.specs.Limits.{largestBlock}
+use Rattle.store_rows.specs.Limits.{largestBlock, mostGreetings, listCells}
 use Rattle.store_rows.specs.Rows.{greeting}
 use Rattle.store_rows.specs.Cells.{rowsAt}
 use Rattle.store_rows.specs.Sane.{rising, numbered}
 use Rattle.store_greeting.specs.Bad.{isBad}
 use Rattle.store_greeting.specs.Marks.{Note, noteOf, mostMarks}
-use Rattle.store_notes.specs.Cells.{headsOf, marksHeld}
+use Rattle.store_notes.specs.Cells.{secondList, firstMark, headsOf, marksHeld}
 use Rattle.store_notes.specs.Sane.{storeCells}
+use Rattle.store.specs.declared.Refusal.{Refusal}
 use Rattle.store.specs.declared.Refusal.the-variants.{Bad, Table}
 use Rattle.text_keyvalue.specs.Reading.{Read, whole, none}
 use Rattle.store_text.specs.Noted.{Listed, rowsListed}
@@ -32,11 +34,11 @@ notesBy b [] laws = []
 notesBy b (r ∷ rows) laws = noteOf (getD laws 0 0) (greeting b r) ∷ notesBy b rows (drop 1 laws)
 
 -- all but samples and marks
+abbrev pub rowsAsks : ℕ → List Row → Bool → List (Asked Refusal)
+rowsAsks size rows bad = ask Table (rising 0 0 size rows) ∷ ask Table (numbered rows) ∷ bar Bad bad ∷ []
+
 unfoldable pub judgedBy : List ℕ → ℕ → List Row → List ℕ → Verdict
-judgedBy b size rows laws =
-    cond (not (rising 0 0 size rows)) (Stop Table)
-    (cond (not (numbered rows)) (Stop Table)
-    (cond (badBy b rows laws) (Stop Bad) Fine))
+judgedBy b size rows laws = judged (rowsAsks size rows (badBy b rows laws)) Stop Fine
 
 -- the greetings of a text, and whether it is one
 abbrev pub greetingsOf : Read (List Listed) → List Listed
@@ -49,9 +51,9 @@ isWhole none = false
 
 -- greetings in cells
 pub record Celled (xs : List Listed) (cells laws : List ℕ) (n : ℕ) : Type 0 where
-  pub few : n ≤ 32
-  pub cells-room : 97 ≤ length cells
-  pub laws-room : 32 ≤ length laws
+  pub few : n ≤ mostGreetings
+  pub cells-room : listCells ≤ length cells
+  pub laws-room : mostGreetings ≤ length laws
   pub rows-are : rowsAt cells n 1 ≡ rowsListed xs
   pub laws-are : laws ≡ lawsListed xs ++ drop (length xs) laws
 
@@ -68,15 +70,15 @@ pub record Fitting (b : List ℕ) (size n : ℕ) (found : Read (List Listed)) : 
 pub record OneMore (law : ℕ) (xs t : List ℕ) (i : ℕ) : Type 0 where
   pub fine : isBad law xs ≡ false
   pub small : length xs ≤ largestBlock
-  pub count : i ≡ getD t 97 0
+  pub count : i ≡ getD t secondList 0
   pub few : i ≤ 31
-  pub room : 194 + 2 * (marksHeld (headsOf t) + mostMarks (length xs)) ≤ length t
+  pub room : firstMark + 2 * (marksHeld (headsOf t) + mostMarks (length xs)) ≤ length t
 
 -- the notes of all; there is room for them
 pub record AllNotes (b cells laws : List ℕ) (n size : ℕ) (t : List ℕ) : Type 0 where
-  pub few : n ≤ 32
-  pub cells-room : 97 ≤ length cells
-  pub laws-room : 32 ≤ length laws
+  pub few : n ≤ mostGreetings
+  pub cells-room : listCells ≤ length cells
+  pub laws-room : mostGreetings ≤ length laws
   pub inside : size ≤ length b
   pub small : size ≤ largestBlock
   pub rises : rising 0 0 size (rowsAt cells n 1) ≡ true

@@ -5,14 +5,13 @@ ghost use Prim.Native.Nat.{_+_, _*_, _≤_, _<_};
 ghost use lib.ListN.{length};
 ghost use Rattle.rules.specs.Tools.{mostLaw};
 ghost use Rattle.rules.specs.Walk.{longest};
-ghost use Rattle.store_rows.specs.Limits.{largestBlock, sizeOf};
+ghost use Rattle.store_rows.specs.Limits.{largestBlock, mostGreetings, listCells, sizeOf};
 ghost use Rattle.store_rows.specs.Cells.{rowsAt};
 ghost use Rattle.store_rows.specs.Sane.{rising};
 ghost use Rattle.store_greeting.specs.Bad.{isBad};
 ghost use Rattle.store_greeting.specs.Marks.{noteOf};
-ghost use Rattle.store_notes.specs.Notes.{insertNote};
-ghost use Rattle.store_notes.specs.Cells.{notesOf, notesLaid};
-ghost use Rattle.store_notes.specs.Changed.{Taken};
+ghost use Rattle.store_notes.specs.Cells.{notesLaid};
+ghost use Rattle.store_notes.specs.Changed.{Taken, WithNote};
 ghost use Rattle.store_notes.specs.Sane.{storeCells};
 ghost use Rattle.store_text.specs.Noted.{listedAt};
 ghost use Rattle.store_text.specs.Passing.{nextOf, marksAre, noteIs};
@@ -22,7 +21,6 @@ ghost use Rattle.store_save.specs.Calls.{verdictOf, Save, Load, Takes};
 use store::Answer;
 use store::Refusal;
 use store_greeting::marks::Tally;
-use store_notes::Sound;
 use store_text::Count;
 use store_text::Form;
 use store_text::Head;
@@ -36,12 +34,13 @@ pub enum Verdict {
 
 // "BAD", greeting by greeting, each walked by its own law.
 fn any_bad(block: &[u8], cells: &[u32], laws: &[u32], n: usize, size: usize) -> bool
-    requires { ⌜ (n ≤ 32) × (97 ≤ length (now cells)) × (32 ≤ length (now laws)) × (size ≤ length (now block)) × (rising 0 0 size (rowsAt (now cells) n 1) ≡ true) ⌝ }
+    requires { ⌜ (n ≤ mostGreetings) × (listCells ≤ length (now cells)) × (mostGreetings ≤ length (now laws))
+        × (size ≤ length (now block)) × (rising 0 0 size (rowsAt (now cells) n 1) ≡ true) ⌝ }
     ensures { λ r. ⌜ r ≡ badBy (now (block .entry)) (rowsAt (now (cells .entry)) n 1) (now (laws .entry)) ⌝ }
 {
     let mut i = 0;
     while i < n {
-        let r = store_rows::rows::row_at(cells, 1 + 3 * i);
+        let r = store_rows::rows::row_at(cells, 1 + store_rows::rows::ROW_CELLS * i);
         let start = r.start;
         let end = r.start + r.octets;
         if store_greeting::greetings::is_bad(&block[start..end], laws[i]) {
@@ -54,8 +53,9 @@ fn any_bad(block: &[u8], cells: &[u32], laws: &[u32], n: usize, size: usize) -> 
 
 // TABLE over the whole table; only then BAD.
 fn judge_rows(block: &[u8], cells: &[u32], laws: &[u32], n: usize) -> Verdict
-    requires { ⌜ (n ≤ 32) × (97 ≤ length (now cells)) × (32 ≤ length (now laws)) ⌝ }
-    ensures { λ r. ⌜ r ≡ judgedBy (now (block .entry)) (sizeOf (now (block .entry))) (rowsAt (now (cells .entry)) n 1) (now (laws .entry)) ⌝ }
+    requires { ⌜ (n ≤ mostGreetings) × (listCells ≤ length (now cells)) × (mostGreetings ≤ length (now laws)) ⌝ }
+    ensures { λ r. ⌜ r
+        ≡ judgedBy (now (block .entry)) (sizeOf (now (block .entry))) (rowsAt (now (cells .entry)) n 1) (now (laws .entry)) ⌝ }
 {
     let size = store_rows::rows::size_of(block.len());
     if !store_rows::rows::rises(cells, n, 0, size) {
@@ -102,20 +102,21 @@ fn marks_walked(text: &[u8], place: usize, octets: &[u8], law: u32) -> Next
 }
 
 // Beside those that were taken; a greeting that has more marks than stand there is walked once more.
-fn same_marks(text: &[u8], at: usize, octets: &[u8], sound: Sound, marks: &[u32]) -> Next
-    requires { ⌜ Taken (sound .law) (now octets) (now marks) (sound .samples) (sound .marks) ⌝ }
-    ensures { λ r. ⌜ r ≡ nextOf (marksAre (noteOf (sound .law) (now (octets .entry)) .marks) (now (text .entry)) at) ⌝ }
+fn same_marks(text: &[u8], at: usize, octets: &[u8], head: store_notes::Head, marks: &[u32]) -> Next
+    requires { ⌜ Taken head (now octets) (now marks) ⌝ }
+    ensures { λ r. ⌜ r ≡ nextOf (marksAre (noteOf (head .law) (now (octets .entry)) .marks) (now (text .entry)) at) ⌝ }
 {
-    if 2 * sound.marks <= marks.len() {
-        return store_text::marks_are(text, at, marks, sound.marks);
+    if 2 * head.marks <= marks.len() {
+        return store_text::marks_are(text, at, marks, head.marks);
     }
-    marks_walked(text, at, octets, sound.law)
+    marks_walked(text, at, octets, head.law)
 }
 
 // The samples and marks that stand at a place of the text, beside those that the greeting's walk gives.
 fn same_note(text: &[u8], place: usize, octets: &[u8], law: u32) -> Next
     requires { ⌜ (length (now octets) ≤ largestBlock) × (isBad law (now octets) ≡ false) ⌝ }
-    ensures { λ r. ⌜ r ≡ nextOf (noteIs (noteOf law (now (octets .entry)) .samples) (noteOf law (now (octets .entry)) .marks) (now (text .entry)) place) ⌝ }
+    ensures { λ r. ⌜ r ≡ nextOf (noteIs (noteOf law (now (octets .entry)) .samples) (noteOf law (now (octets .entry)) .marks)
+        (now (text .entry)) place) ⌝ }
 {
     let mut cells = [0u32; store_greeting::marks::KEPT_APART];
     match store_greeting::marks::take(octets, law, &mut cells) {
@@ -126,7 +127,7 @@ fn same_note(text: &[u8], place: usize, octets: &[u8], law: u32) -> Next
                 text,
                 at,
                 octets,
-                Sound {
+                store_notes::Head {
                     law: law,
                     samples: samples,
                     marks: m,
@@ -176,8 +177,10 @@ fn judge_noted(
     laws: &[u32],
     n: usize,
 ) -> Verdict
-    requires { ⌜ (form .most ≤ largestBlock) × (isWhole (listedAt (form .most) (form .from) (now text)) ≡ true) × Celled (greetingsOf (listedAt (form .most) (form .from) (now text))) (now cells) (now laws) n ⌝ }
-    ensures { λ r. ⌜ r ≡ verdictOf (loadIn (now (block .entry)) (sizeOf (now (block .entry))) (greetingsOf (listedAt (form .most) (form .from) (now (text .entry))))) ⌝ }
+    requires { ⌜ (form .most ≤ largestBlock) × (isWhole (listedAt (form .most) (form .from) (now text)) ≡ true)
+        × Celled (greetingsOf (listedAt (form .most) (form .from) (now text))) (now cells) (now laws) n ⌝ }
+    ensures { λ r. ⌜ r ≡ verdictOf (loadIn (now (block .entry)) (sizeOf (now (block .entry)))
+        (greetingsOf (listedAt (form .most) (form .from) (now (text .entry))))) ⌝ }
 {
     match judge_rows(block, cells, laws, n) {
         Verdict::Stop(why) => Verdict::Stop(why),
@@ -193,18 +196,18 @@ fn judge_noted(
 // What the walk gives of a greeting, behind the notes that are there.
 fn store_note(octets: &[u8], law: u32, table: &mut [u32], i: usize)
     requires { ⌜ OneMore law (now octets) (now table) i ⌝ }
-    ensures { λ _. ⌜ now (table .exit) ≡ notesLaid (insertNote i (noteOf law (now (octets .entry))) (notesOf (now (table .entry)))) (now (table .entry)) ⌝ }
+    ensures { λ _. ⌜ WithNote i (noteOf law (now (octets .entry))) (now (table .entry)) (now (table .exit)) ⌝ }
 {
     let mut cells = [0u32; store_greeting::marks::KEPT_APART];
     match store_greeting::marks::take(octets, law, &mut cells) {
         Tally::Wrong => {}
         Tally::Counted(samples, m) => {
-            let sound = Sound {
+            let head = store_notes::Head {
                 law: law,
                 samples: samples,
                 marks: m,
             };
-            store_notes::put_taken(table, i, i, sound, octets, &cells);
+            store_notes::put_taken(table, i, i, head, octets, &cells);
         }
     }
 }
@@ -212,12 +215,13 @@ fn store_note(octets: &[u8], law: u32, table: &mut [u32], i: usize)
 // The notes of all greetings, one after another: accepted samples and marks are those that the walks give.
 fn store_notes(block: &[u8], cells: &[u32], laws: &[u32], n: usize, size: usize, table: &mut [u32])
     requires { ⌜ AllNotes (now block) (now cells) (now laws) n size (now table) ⌝ }
-    ensures { λ _. ⌜ now (table .exit) ≡ notesLaid (notesBy (now (block .entry)) (rowsAt (now (cells .entry)) n 1) (now (laws .entry))) (now (table .entry)) ⌝ }
+    ensures { λ _. ⌜ now (table .exit)
+        ≡ notesLaid (notesBy (now (block .entry)) (rowsAt (now (cells .entry)) n 1) (now (laws .entry))) (now (table .entry)) ⌝ }
 {
-    table[97] = 0;
+    table[store_notes::SECOND_LIST] = 0;
     let mut i = 0;
     while i < n {
-        let r = store_rows::rows::row_at(cells, 1 + 3 * i);
+        let r = store_rows::rows::row_at(cells, 1 + store_rows::rows::ROW_CELLS * i);
         let start = r.start;
         let end = r.start + r.octets;
         store_note(&block[start..end], laws[i], table, i);
@@ -228,16 +232,18 @@ fn store_notes(block: &[u8], cells: &[u32], laws: &[u32], n: usize, size: usize,
 // A text of R-8's lines, in a form. It is judged before anything that is lent changes: its greetings go into cells of their own.
 fn load_noted(text: &[u8], form: Form, block: &[u8], size: usize, table: &mut [u32]) -> Answer
     requires { ⌜ (form .most ≤ largestBlock) × (size ≡ sizeOf (now block)) × (storeCells size ≤ length (now table)) ⌝ }
-    ensures { λ r. ⌜ Takes (loadNoted (now (block .entry)) (sizeOf (now (block .entry))) (listedAt (form .most) (form .from) (now (text .entry)))) (now (table .entry)) (now (table .exit)) r ⌝ }
+    ensures { λ r. ⌜ Takes
+        (loadNoted (now (block .entry)) (sizeOf (now (block .entry))) (listedAt (form .most) (form .from) (now (text .entry))))
+        (now (table .entry)) (now (table .exit)) r ⌝ }
 {
-    let mut cells = [0u32; 97];
-    let mut laws = [1u32; 32];
+    let mut cells = [0u32; store_rows::rows::LIST_CELLS];
+    let mut laws = [1u32; store_rows::rows::MOST_GREETINGS];
     match store_text::read_noted(text, form, &mut cells, &mut laws) {
         Count::Wrong => Answer::Refused(Refusal::Table),
         Count::Greetings(n) => match judge_noted(text, form, block, &cells, &laws, n) {
             Verdict::Stop(why) => Answer::Refused(why),
             Verdict::Fine => {
-                let mut again = [1u32; 32];
+                let mut again = [1u32; store_rows::rows::MOST_GREETINGS];
                 store_text::read_noted(text, form, table, &mut again);
                 store_notes(block, &cells, &laws, n, size, table);
                 Answer::Done(0, 0)
@@ -254,8 +260,8 @@ pub fn load(text: &[u8], block: &[u8], table: &mut [u32]) -> Answer
     if table.len() < store_notes::store_cells(size) {
         return Answer::Refused(Refusal::Table);
     }
-    let mut cells = [0u32; 97];
-    let laws = [1u32; 32];
+    let mut cells = [0u32; store_rows::rows::LIST_CELLS];
+    let laws = [1u32; store_rows::rows::MOST_GREETINGS];
     match store_text::read_rows(text, &mut cells) {
         Count::Wrong => load_noted(text, store_text::form_of(text), block, size, table),
         Count::Greetings(n) => match judge_rows(block, &cells, &laws, n) {

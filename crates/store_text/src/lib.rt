@@ -3,7 +3,7 @@ ghost use mathlib.Core.Path.{_≡_};
 ghost use Prim.Native.Nat.{ℕ, _+_, _*_, _-_, _^_, _≤_, _<_};
 ghost use mathlib.Core.List.{_++_};
 ghost use lib.ListN.{length, getD};
-ghost use Rattle.store_rows.specs.Limits.{largestBlock};
+ghost use Rattle.store_rows.specs.Limits.{largestBlock, rowCells, listCells};
 ghost use Rattle.store_rows.specs.Rows.{rowOf};
 ghost use Rattle.store_rows.specs.Cells.{rowAt};
 ghost use Rattle.text_keyvalue.specs.Reading.{asRead, capped, most};
@@ -13,7 +13,8 @@ ghost use Rattle.store_text.specs.Table.{row, tableIn, rowText};
 ghost use Rattle.store_text.specs.Noted.{markLine, markLines, listed, listedAt, markText, marksText, noteText, listedText};
 ghost use Rattle.store_text.specs.Form.{formOf, formBy};
 ghost use Rattle.store_text.specs.Fills.{asRow, PutsRow, Fills, FillsNoted};
-ghost use Rattle.store_text.specs.Passing.{headed, noted, headIn, asHead, numberThen, heldMark, asMark, nextOf, markIs, noMark, marksAre, samplesIs};
+ghost use Rattle.store_text.specs.Passing.{headed, noted, headIn, asHead, numberThen, heldMark, asMark};
+ghost use Rattle.store_text.specs.Passing.{nextOf, markIs, noMark, marksAre, samplesIs};
 ghost use Rattle.store_text.specs.Held.{markAt, noteAt, heldIn, heldOf, NoteIn, AllIn, TextIn};
 use text_keyvalue::Told;
 
@@ -97,7 +98,7 @@ fn line_of(text: &[u8], at: usize, most: u32) -> Line
 
 // Three cells from a place on.
 fn put_cells(cells: &mut [u32], k: usize, number: u32, start: u32, octets: u32)
-    requires { ⌜ k + 3 ≤ length (now cells) ⌝ }
+    requires { ⌜ k + rowCells ≤ length (now cells) ⌝ }
     ensures { λ _. ⌜ PutsRow (rowOf number start octets) k (now (cells .entry)) (now (cells .exit)) ⌝ }
 {
     cells[k] = number;
@@ -107,7 +108,7 @@ fn put_cells(cells: &mut [u32], k: usize, number: u32, start: u32, octets: u32)
 
 // The greetings that a text lists, into a lent table; "more than 32 greetings" are none. What is refused leaves it in any state.
 pub fn read_rows(text: &[u8], cells: &mut [u32]) -> Count
-    requires { ⌜ 97 ≤ length (now cells) ⌝ }
+    requires { ⌜ listCells ≤ length (now cells) ⌝ }
     ensures { λ r. ⌜ Fills (tableIn (now (text .entry))) (now (cells .entry)) (now (cells .exit)) r ⌝ }
 {
     let mut k = 0;
@@ -121,7 +122,13 @@ pub fn read_rows(text: &[u8], cells: &mut [u32]) -> Count
                 return Count::Wrong;
             }
             Line::Here(number, start, octets, next) => {
-                put_cells(cells, 1 + 3 * k, number, start, octets);
+                put_cells(
+                    cells,
+                    1 + store_rows::rows::ROW_CELLS * k,
+                    number,
+                    start,
+                    octets,
+                );
                 k += 1;
                 at = next;
             }
@@ -226,8 +233,9 @@ fn listed_at(text: &[u8], at: usize, most: u32) -> Head
 
 // The greetings that a text of R-8's lines lists, in a form, into a lent table, and their laws. What is refused leaves them in any state.
 pub fn read_noted(text: &[u8], form: Form, cells: &mut [u32], laws: &mut [u32]) -> Count
-    requires { ⌜ (form .most ≤ largestBlock) × (97 ≤ length (now cells)) × (32 ≤ length (now laws)) ⌝ }
-    ensures { λ r. ⌜ FillsNoted (listedAt (form .most) (form .from) (now (text .entry))) (now (cells .entry)) (now (cells .exit)) (now (laws .entry)) (now (laws .exit)) r ⌝ }
+    requires { ⌜ (form .most ≤ largestBlock) × (listCells ≤ length (now cells)) × (32 ≤ length (now laws)) ⌝ }
+    ensures { λ r. ⌜ FillsNoted (listedAt (form .most) (form .from) (now (text .entry))) (now (cells .entry)) (now (cells .exit))
+        (now (laws .entry)) (now (laws .exit)) r ⌝ }
 {
     let mut k = 0;
     let mut at = form.from;
@@ -240,7 +248,13 @@ pub fn read_noted(text: &[u8], form: Form, cells: &mut [u32], laws: &mut [u32]) 
                 return Count::Wrong;
             }
             Head::Begun(number, start, octets, law, next) => {
-                put_cells(cells, 1 + 3 * k, number, start, octets);
+                put_cells(
+                    cells,
+                    1 + store_rows::rows::ROW_CELLS * k,
+                    number,
+                    start,
+                    octets,
+                );
                 laws[k] = law;
                 k += 1;
                 at = next;
@@ -324,7 +338,7 @@ pub fn samples_are(text: &[u8], at: usize, samples: usize) -> Next
 
 // How many octets a greeting's three lines are.
 fn row_octets(table: &[u32], k: usize) -> usize
-    requires { ⌜ k + 3 ≤ length (now table) ⌝ }
+    requires { ⌜ k + rowCells ≤ length (now table) ⌝ }
     ensures { λ r. ⌜ r ≡ length (rowText (rowAt (now (table .entry)) k)) ⌝ }
     ensures most { λ r. ⌜ r ≤ 53 ⌝ }
 {
@@ -335,7 +349,7 @@ fn row_octets(table: &[u32], k: usize) -> usize
 }
 
 fn put_row(table: &[u32], k: usize, out: &mut [u8], at: usize) -> usize
-    requires { ⌜ (k + 3 ≤ length (now table)) × (at + length (rowText (rowAt (now table) k)) ≤ length (now out)) ⌝ }
+    requires { ⌜ (k + rowCells ≤ length (now table)) × (at + length (rowText (rowAt (now table) k)) ≤ length (now out)) ⌝ }
     ensures { λ r. ⌜ Puts (now (out .entry)) at (rowText (rowAt (now (table .entry)) k)) (now (out .exit)) r ⌝ }
 {
     let a = text_keyvalue::put_line(b"prompt=", table[k], out, at);
@@ -423,7 +437,7 @@ fn octets_of(table: &[u32], heads: &[u32], marks: &[u32], n: usize) -> usize
     let mut from = 0;
     let mut i = 0;
     while i < n {
-        let k = 1 + 3 * i;
+        let k = 1 + store_rows::rows::ROW_CELLS * i;
         let row = row_octets(table, k);
         let note = note_octets(heads, k, &marks[from..]);
         sum += row + note;
@@ -441,14 +455,16 @@ fn put_all(
     out: &mut [u8],
     start: usize,
 ) -> usize
-    requires { ⌜ (AllIn (now table) (now heads) (now marks) n) × (start + length (listedText (heldIn (now table) (now heads) (now marks) n)) ≤ length (now out)) ⌝ }
-    ensures { λ r. ⌜ Puts (now (out .entry)) start (listedText (heldIn (now (table .entry)) (now (heads .entry)) (now (marks .entry)) n)) (now (out .exit)) r ⌝ }
+    requires { ⌜ (AllIn (now table) (now heads) (now marks) n)
+        × (start + length (listedText (heldIn (now table) (now heads) (now marks) n)) ≤ length (now out)) ⌝ }
+    ensures { λ r. ⌜ Puts (now (out .entry)) start
+        (listedText (heldIn (now (table .entry)) (now (heads .entry)) (now (marks .entry)) n)) (now (out .exit)) r ⌝ }
 {
     let mut at = start;
     let mut from = 0;
     let mut i = 0;
     while i < n {
-        let k = 1 + 3 * i;
+        let k = 1 + store_rows::rows::ROW_CELLS * i;
         let a = put_row(table, k, out, at);
         at = put_note(heads, k, &marks[from..], out, a);
         from += 2 * store_rows::rows::wide(heads[k + 2]);
@@ -484,7 +500,12 @@ pub fn text_octets(table: &[u32], n: usize, size: usize) -> usize
     ensures { λ r. ⌜ r ≡ length (formBy size ++ listedText (heldOf (now (table .entry)) n)) ⌝ }
 {
     let first = form_octets(size);
-    let rest = octets_of(table, &table[97..], &table[194..], n);
+    let rest = octets_of(
+        table,
+        &table[store_notes::SECOND_LIST..],
+        &table[store_notes::FIRST_MARK..],
+        n,
+    );
     first + rest
 }
 
@@ -494,5 +515,12 @@ pub fn put_text(table: &[u32], n: usize, size: usize, out: &mut [u8]) -> usize
     ensures { λ r. ⌜ Puts (now (out .entry)) 0 (formBy size ++ listedText (heldOf (now (table .entry)) n)) (now (out .exit)) r ⌝ }
 {
     let at = put_form(size, out);
-    put_all(table, &table[97..], &table[194..], n, out, at)
+    put_all(
+        table,
+        &table[store_notes::SECOND_LIST..],
+        &table[store_notes::FIRST_MARK..],
+        n,
+        out,
+        at,
+    )
 }

@@ -5,7 +5,10 @@ ghost use lib.ListN.{length};
 ghost use Rattle.io.specs.Counts.{Counts};
 use libc::STDERR_FILENO;
 use tool_words::options::Settings;
-use tool_words::options::UNPACK;
+use tool_words::options::State;
+use tool_words::options::Tool;
+use tool_words::options::Words;
+use tool_words::options::Wrong;
 
 // Says a text for people.
 pub fn say(text: &[u8]) {
@@ -19,22 +22,23 @@ pub fn say_number(word: &[u8], n: usize) {
 }
 
 // The tool's name stands before its messages.
-pub fn say_tool(tool: u32) {
+pub fn say_tool(tool: Tool) {
     match tool {
-        0 => say(b"unpack: "),
-        1 => say(b"pack: "),
-        _ => say(b"why: "),
+        Tool::Unpack => say(b"unpack: "),
+        Tool::Pack => say(b"pack: "),
+        Tool::Why => say(b"why: "),
+        Tool::Mend => say(b"mend: "),
     }
 }
 
-// The last line of a run of `pack`: `stop=N at=P tool=T`.
+// The last line of a run over sound: `stop=N at=P tool=T`.
 fn stop_packing(number: u32, place: usize, tool: u32) {
     let mut text = [0u8; 160];
     let n = text_lines::pack_line(number as usize, place, tool as usize, &mut text, 0);
     io::write_all(STDERR_FILENO, &text[..n]);
 }
 
-// The last line of a run of `unpack`: `stop=N at=P tool=T bit=B`.
+// The last line of a run over frames: `stop=N at=P tool=T bit=B`.
 fn stop_unpacking(number: u32, place: usize, tool: u32, bit: usize) {
     let mut text = [0u8; 160];
     let n = text_lines::stop_line(number as usize, place, tool as usize, bit, &mut text, 0);
@@ -42,16 +46,16 @@ fn stop_unpacking(number: u32, place: usize, tool: u32, bit: usize) {
 }
 
 // The last line of every run. A writing has no bit to name.
-pub fn stop(program: u32, number: u32, place: usize, tool: u32, bit: usize) {
-    if program == UNPACK {
-        stop_unpacking(number, place, tool, bit);
-    } else {
+pub fn stop(program: Tool, number: u32, place: usize, tool: u32, bit: usize) {
+    if tool_words::options::reads_sound(program) {
         stop_packing(number, place, tool);
+    } else {
+        stop_unpacking(number, place, tool, bit);
     }
 }
 
 // A refusal of document 01, or HEAD, and the last line.
-pub fn refused(program: u32, number: u32, place: usize, tool: u32, bit: usize) {
+pub fn refused(program: Tool, number: u32, place: usize, tool: u32, bit: usize) {
     let mut name = [0u8; 8];
     let n = tool_words::refusals::refusal_name(number, &mut name);
     say_tool(program);
@@ -85,16 +89,21 @@ pub fn summary_of_recording(frames: usize, samples: usize, octets: usize, lost: 
 }
 
 // How a tool is called.
-fn say_usage(tool: u32) {
+fn say_usage(tool: Tool) {
     match tool {
-        0 => say(b"usage: unpack [-u|-a] [-l|-w] [-s#] [-v] [-g] [-c MASTER] [INFILE [OUTFILE]]\n"),
-        1 => say(b"usage: pack [-u|-a] [-l|-w] [-n#] [-s#] [-f] [-r] [INFILE [OUTFILE]]\n"),
-        _ => say(b"usage: why [-u|-a] [-s#] [-n#] [-k#] [INFILE]\n"),
+        Tool::Unpack => say(
+            b"usage: unpack [-u|-a] [-l|-w] [-s#] [-v] [-g] [-c MASTER] [INFILE [OUTFILE]]\n",
+        ),
+        Tool::Pack => say(
+            b"usage: pack [-u|-a] [-l|-w] [-n#] [-s#] [-f] [-r] [INFILE [OUTFILE]]\n",
+        ),
+        Tool::Why => say(b"usage: why [-u|-a] [-s#] [-n#] [-k#] [INFILE]\n"),
+        Tool::Mend => say(b"usage: mend [-u|-a] -t TOTAL INFILE OUTFILE\n"),
     }
 }
 
 // A call that is wrong, why, and the last line.
-pub fn usage(tool: u32, why: &[u8]) {
+pub fn usage(tool: Tool, why: &[u8]) {
     say_tool(tool);
     say(why);
     say(b"\n");
@@ -113,49 +122,65 @@ fn say_argument(i: usize) {
     io::write_all(STDERR_FILENO, &text[..n]);
 }
 
-// What `wrong` of the settings means.
-fn say_wrong(wrong: u32) {
-    match wrong {
-        1 => say(b"not a known option: "),
-        2 => say(b"not a number of 1 to 9 digits: "),
-        3 => say(b"one file too many: "),
-        4 => say(b"nothing follows the option "),
-        _ => say(b"too long: "),
+// What is wrong with an argument.
+fn say_wrong(why: Wrong) {
+    match why {
+        Wrong::Unknown => say(b"not a known option: "),
+        Wrong::NoNumber => say(b"not a number of 1 to 9 digits: "),
+        Wrong::ManyFiles => say(b"one file too many: "),
+        Wrong::Missing => say(b"nothing follows the option "),
+        Wrong::TooLong => say(b"too long: "),
     }
 }
 
-// Settings that are wrong, and the last line.
-pub fn wrong_settings(s: Settings) {
-    say_tool(s.tool);
-    say_wrong(s.wrong);
-    say_argument(s.place);
+// An argument that is wrong, and the last line.
+fn wrong_argument(tool: Tool, why: Wrong, place: usize) {
+    say_tool(tool);
+    say_wrong(why);
+    say_argument(place);
     say(b"\n");
-    say_usage(s.tool);
-    stop(s.tool, 64, 0, 0, 0);
+    say_usage(tool);
+    stop(tool, 64, 0, 0, 0);
+}
+
+// Whether an argument is wrong: which, and why, is said.
+pub fn wrongly_said(w: Words) -> bool {
+    let said = w.said;
+    let tool = said.tool;
+    let state = w.state;
+    match state {
+        State::Wrong(why, place) => {
+            wrong_argument(tool, why, place);
+            true
+        }
+        State::Ready => false,
+        State::Counts(_) => false,
+        State::Master => false,
+    }
 }
 
 // One argument more.
-fn settings_after(s: Settings, i: usize, text: &mut [u8]) -> Settings {
+fn words_after(w: Words, i: usize, text: &mut [u8]) -> Words {
     let n = os::arg(i, text);
     if os::errno() != 0 {
-        return tool_words::options::with_wrong(s, 5, i);
+        return tool_words::options::too_long(w, i);
     }
-    tool_words::options::step(s, &text[..n], i)
+    tool_words::options::step(w, &text[..n], i)
 }
 
-// The settings that all arguments make, up to the first that is wrong.
-pub fn settings(tool: u32) -> Settings {
+// What all arguments say.
+pub fn words(tool: Tool) -> Words {
     let mut text = [0u8; 4095];
     let view: &mut [u8] = &mut text;
     let count = os::arg_count();
-    let mut s = tool_words::options::at_first(tool);
+    let mut w = tool_words::options::at_first(tool);
     let mut i = 1;
-    while i < count && s.wrong == 0 {
-        let next = settings_after(s, i, view);
-        s = next;
+    while i < count {
+        let next = words_after(w, i, view);
+        w = next;
         i += 1;
     }
-    tool_words::options::at_end(s, i - 1)
+    tool_words::options::at_end(w, i - 1)
 }
 
 // The name of the file that an argument gives. It is empty where there is no argument or it is "-": that is standard input or output.
@@ -189,7 +214,9 @@ pub fn target_name(s: Settings, law: u32, source: &[u8], name: &mut [u8]) -> Tar
     if source.len() == 0 {
         return Target { len: 0, fits: true };
     }
-    let len = tool_words::filenames::new_name(s.tool != UNPACK, law, source, name);
+    let tool = s.tool;
+    let packs = tool_words::options::reads_sound(tool);
+    let len = tool_words::filenames::new_name(packs, law, source, name);
     Target {
         len,
         fits: len != 0,
@@ -221,7 +248,7 @@ pub fn close(fd: i32) -> bool {
 }
 
 // A file that could not be opened, read or written: why, and the last line.
-pub fn failed(tool: u32, name: &[u8], standard: &[u8]) {
+pub fn failed(tool: Tool, name: &[u8], standard: &[u8]) {
     say_tool(tool);
     if name.len() == 0 {
         os::fail(standard);

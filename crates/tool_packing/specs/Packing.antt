@@ -61,6 +61,10 @@ pub record Packs (law set : ℕ) (p : Packed) (r : PackAnswer) (out out′ : Lis
   pub octets : r .octets ≡ length (streamOf law set (p .frames))
   pub lent : out′ ≡ atStart (streamOf law set (p .frames)) out
 
+-- frame after frame, where the settings are not refused
+abbrev pub PacksFrames : List ℕ → ℕ → ℕ → ℕ → List ℕ → List ℕ → PackAnswer → Type 0
+PacksFrames sound law set n out out′ r = Packs law set (putAll law set (length out) (cuts n sound) (endOf n sound)) r out out′
+
 -- packing a sound; the output's length is the room
 abbrev pub Pack : List ℕ → ℕ → ℕ → ℕ → List ℕ → List ℕ → PackAnswer → Type 0
 Pack sound law set n out out′ r = Packs law set (packAll sound law set n (length out)) r out out′

@@ -1,4 +1,5 @@
-// A sound cut into frames: each next one is as long as the frame length and the sound left allow. And a sound filled up, so that it can be cut.
+// A sound cut into frames: each next one is as long as the frame length and the sound left allow. And a sound filled up, so that it can be
+// cut.
 ghost use Prim.Native.Nat.{_+_, _≤_};
 ghost use mathlib.Core.Path.{_≡_};
 ghost use lib.ListN.{length};

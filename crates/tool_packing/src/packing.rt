@@ -5,8 +5,7 @@ ghost use mathlib.Core.Bool.{true};
 ghost use lib.ListN.{length};
 ghost use Rattle.rules.specs.Tools.{isLaw, isWriterSet};
 ghost use Rattle.rules.specs.Walk.{longest};
-ghost use Rattle.tool_packing.specs.Cuts.{cuts, endOf};
-ghost use Rattle.tool_packing.specs.Packing.{putAll, Packs, Pack};
+ghost use Rattle.tool_packing.specs.Packing.{PacksFrames, Pack};
 ghost use Rattle.tool_packing.specs.Parts.{PutsFrame, StopsAtOnce, roomOn, PackOn};
 use crate::cutting::last_end;
 use crate::cutting::next_length;
@@ -42,7 +41,7 @@ fn put_frame(
 // Frame after frame, until no length fits or a form does not fit in what is left of the output.
 fn frames(sound: &[u8], law: u32, set: u32, n: usize, out: &mut [u8]) -> PackAnswer
     requires { ⌜ (isLaw law ≡ true) × (isWriterSet set ≡ true) ⌝ }
-    ensures { λ r. ⌜ Packs law set (putAll law set (length (now (out .entry))) (cuts n (now (sound .entry))) (endOf n (now (sound .entry)))) r (now (out .entry)) (now (out .exit)) ⌝ }
+    ensures { λ r. ⌜ PacksFrames (now (sound .entry)) law set n (now (out .entry)) (now (out .exit)) r ⌝ }
 {
     let mut from = 0;
     let mut at = 0;
@@ -113,8 +112,9 @@ fn room_on(octets: usize, page: usize) -> usize
     page
 }
 
-// The next part of a sound, into a page whose octets then follow those packed so far; ROOM where the stream would be longer than the longest.
-// Where the parts before it are whole frames and the page is large enough, this is packing all of the sound at once (proofs/Parts).
+// The next part of a sound, into a page whose octets then follow those packed so far; ROOM where the stream would be longer than the
+// longest. Where the parts before it are whole frames and the page is large enough, this is packing all of the sound at once
+// (proofs/Parts).
 pub fn pack_on(
     done: PackAnswer,
     part: &[u8],

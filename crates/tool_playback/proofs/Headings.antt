@@ -6,7 +6,7 @@ use mathlib.Core.List.{List}
 use mathlib.Core.Bool.{Bool, true, false, cond}
 use Rattle.text_keyvalue.specs.Reading.{begins}
 use Rattle.recording.specs.Remembered.{Headed, heading, noHeading, headed}
-use Rattle.tool_playback.specs.declared.replaying.Kind.the-variants.{Stream, Recording, Headless}
+use Rattle.tool_playback.specs.declared.kinds.Kind.the-variants.{Stream, Recording, Headless}
 use Rattle.tool_playback.specs.Kinds.{headingStart, kindBy, kindOf}
 
 pub recording-headed : (octets : List ℕ) {law : ℕ} → kindOf octets ≡ Recording law → headed octets ≡ heading law

@@ -1,5 +1,5 @@
--- Octets one after another: where the items of the first end clean, the items of the second follow as by themselves (`items-joined`).
--- Octets cut where their items ended are clean (`items-cut`). So a recording can be played part by part, each part cut where an item ends.
+-- The octets of recordings one after another: up to where the items of the first ended, and then the items of the second, as by themselves
+-- (`items-joined`).
 use Prim.Native.Nat.{ℕ, suc, _+_, _*_, _-_, _≤_, _<_}
 use native.Mathlib.Omega.{arith}
 use mathlib.Core.Path.{_≡_, refl, sym, ap, _∙_}
@@ -21,7 +21,10 @@ use Rattle.recording_read.specs.Turns.{takes, frameStep, itemStep}
 use Rattle.recording_read.proofs.Steps.{after, items-last, items-ended, items-full, items-off, items-one}
 use Rattle.recording_read.proofs.Parts.{Reads, last, ended, full, refused, delivers}
 use Rattle.recording_read.proofs.Parts.{reads, reads-only, items-told, items-on, items-fuel, items-roomy}
-use Rattle.tool_playback.specs.Runs.{played}
+
+-- all items, with room and places that are never short
+abbrev pub played : List ℕ → ℕ → ℕ → Recorded
+played body law set = itemsFrom (suc (length body)) body law set 0 (320 * length body) (length body)
 
 same-used : {i k : Item} {m n : ℕ} → takes i m ≡ takes k n → m ≡ n
 same-used e = cc

@@ -1,28 +1,33 @@
--- What was played, as a part, and what a caller goes by.
-use Prim.Native.Nat.{ℕ, _+_, _*_, _≤_, _<_}
+-- What was read, as a part, and what a caller goes by.
+use Prim.Native.Nat.{ℕ, _+_, _≤_, _<_}
 use mathlib.Core.Path.{_≡_, refl, sym, ap, subst, _∙_}
 use mathlib.Core.List.{List, [], _∷_, map}
 use mathlib.Core.Bool.{Bool, true, false, cond, false≢true}
 use native.Mathlib.Omega.{arith}
-use lib.ListN.{length, getD, take, drop, length-append, length-map}
+use lib.ListN.{length, getD, take, drop, length-map}
 use lib.Seq.{take-at}
 use lib.Dec.{eqb}
 use borrow.Author.Tests.{le-leb, lt-leb, ltb-true}
 use Rattle.rules.specs.Samples.{maskOf}
 use Rattle.rules.specs.Reading.{Read, whole, refuse}
 use Rattle.rules.specs.Frame.{Found, readOne}
+use Rattle.rules.specs.Walk.{walkFrom}
+use Rattle.rules.specs.Calls.{atStart}
 use Rattle.rules.specs.Chooses.{countOf}
 use Rattle.rules.proofs.Room.{read-most}
 use Rattle.recording.specs.declared.Ending.{Ending}
 use Rattle.recording.specs.declared.Ending.the-variants.{Done, Refused}
 use Rattle.recording.specs.Remembered.{lostOctet, erased}
-use Rattle.recording.specs.Items.{Item, sound, lost, Recorded, itemOf, itemsFrom, soundOf, soundIn, cellOf, lossFrom}
+use Rattle.recording.specs.Items.{Item, sound, lost, Recorded, itemOf, itemsFrom, soundOf, cellOf, lossFrom}
 use Rattle.recording_read.specs.Turns.{Step, takes, stops, frameStep, itemStep}
 use Rattle.recording_read.proofs.Parts.{Reads, last, ended, full, refused, delivers, reads, items-told}
 use Rattle.recording_read.specs.declared.Played.{Played}
 use Rattle.recording_read.specs.Plays.{Plays}
-use Rattle.tool_playback.specs.declared.replaying.Part.{Part}
+use Rattle.tool_playback.specs.declared.parts.Reading.{Reading}
+use Rattle.tool_playback.specs.declared.parts.Part.{Part}
+use Rattle.tool_playback.specs.Heard.{streamed, heardAs, Hears}
 use Rattle.tool_playback.specs.Parts.{sureItems, partOf, goesOn, lossOf, lossesIn, isLoss, lossCells, NextPart, Goes, Answers}
+use Rattle.tool_playback.proofs.Heard.{frames-none, heard-told}
 
 -- more is to come only of a part that ended clean before the end
 pub more-inside : (end : Ending) (place size : ℕ) → goesOn end place size ≡ true → (end ≡ Done) × (place < size)
@@ -59,20 +64,6 @@ module _ (octets : List ℕ) (law set : ℕ) where
   item-most : (at room : ℕ) {i : Item} {used : ℕ} → itemStep octets law set at room ≡ takes i used → length (soundOf i) ≤ 320
   item-most at room e = subst Most e (step-most at room)
 
-  reads-held : {n at room places : ℕ} {r : Recorded} → Reads octets law set n at room places r
-      → length (soundIn (r .items)) ≤ 320 * length (r .items)
-  unfolding soundIn
-  reads-held last = omega arith
-  reads-held (ended h) = omega arith
-  reads-held (full h) = omega arith
-  reads-held (refused h e) = omega arith
-  reads-held {at = at} {room} (delivers {i = i} {rest = r} h e t) =
-      omega (arith, item-most at room e, reads-held t, length-append (soundOf i) (soundIn (r .items)))
-
-  pub items-held : (n at room places : ℕ) → length (soundIn (itemsFrom n octets law set at room places .items)) ≤ 320 * length
-      (itemsFrom n octets law set at room places .items)
-  items-held n at room places = reads-held (reads octets law set n at room places)
-
   reads-losses : {n at room places : ℕ} {r : Recorded} → Reads octets law set n at room places r
       → lossCells (map cellOf (r .items)) ≡ lossesIn (r .items)
   unfolding countOf lossesIn
@@ -95,46 +86,68 @@ cells-told {w} {p} {cells = cells} t =
     rw (t .told) (take-at (map cellOf (w .items)) (drop (length (map cellOf (w .items))) cells) (p .items)
     (length-map (w .items) cellOf ∙ sym (t .items)))
 
-module _ (octets : List ℕ) (law set at : ℕ) (out cells : List ℕ) where
+module _ (octets : List ℕ) (h : Reading) (at : ℕ) (out cells : List ℕ) where
   abbrev part : Recorded
-  part = partOf octets law set at (length out) (length cells)
+  part = partOf octets h at (length out) (length cells)
 
-  pub items-fit : {p : Played} {out′ cells′ : List ℕ} → Plays part p out out′ cells cells′ → p .items ≤ length cells
-  items-fit t = omega (
-    arith,
-    t .items,
-    items-told octets law set (sureItems (length out) (length cells)) at (length out)
-        (length cells) .few,
-  )
+  abbrev sure : ℕ
+  sure = sureItems (length out) (length cells)
 
-  pub part-told : {p : Played} {r : Part} {n : ℕ} {out′ cells′ : List ℕ} → Plays part p out out′ cells cells′
-      → n ≡ lossCells (take (p .items) cells′) → Answers p n (length octets) r → NextPart octets law set at out out′ cells cells′ r
-  part-told t l a =
+  part-told : {p : Played} {r : Part} {n : ℕ} {out′ cells′ : List ℕ} → Hears part p out out′ → n ≡ lossesIn (part .items)
+      → cells′ ≡ cond (h .records) (atStart (map cellOf (part .items)) cells) cells → Answers p n (length octets) r
+      → NextPart octets h at out out′ cells cells′ r
+  part-told t l c a =
       record {
         end = a .end ∙ t .end;
         at = a .at ∙ t .place;
         bit = a .bit ∙ t .bit;
         items = a .items ∙ t .items;
-        losses =
-            a .losses ∙ l ∙ ap lossCells (cells-told t)
-            ∙ reads-losses octets law set (reads octets law set (sureItems (length out) (length cells)) at (length out) (length cells));
+        losses = a .losses ∙ l;
         samples = a .samples ∙ t .samples;
         more = a .more ∙ rw (t .end, t .place);
         lent = t .lent;
-        told = t .told;
+        told = c;
       }
 
-  pub goes-of : {r : Part} {out′ cells′ : List ℕ} → NextPart octets law set at out out′ cells cells′ r → Goes octets at out cells r
+  -- of a recording
+  module _ (k : h .records ≡ true) where
+    items-part : part ≡ itemsFrom sure octets (h .law) (h .set) at (length out) (length cells)
+    unfolding heardAs
+    items-part = rw k
+
+    module _ {p : Played} {out′ cells′ : List ℕ}
+        (t : Plays (itemsFrom sure octets (h .law) (h .set) at (length out) (length cells)) p out out′ cells cells′) where
+      pub items-fit : p .items ≤ length cells
+      items-fit = omega (arith, t .items, items-told octets (h .law) (h .set) sure at (length out) (length cells) .few)
+
+      pub items-told-as : {r : Part} {n : ℕ} → n ≡ lossCells (take (p .items) cells′) → Answers p n (length octets) r
+          → NextPart octets h at out out′ cells cells′ r
+      items-told-as l a =
+          let losses = l ∙ ap lossCells (cells-told t)
+          ∙ reads-losses octets (h .law) (h .set) (reads octets (h .law) (h .set) sure at (length out) (length cells)) in
+          let hears : Hears (itemsFrom sure octets (h .law) (h .set) at (length out) (length cells)) p out out′ =
+          record { end = t .end; items = t .items; place = t .place; samples = t .samples; bit = t .bit; lent = t .lent } in
+          part-told (rw items-part hears) (rw items-part losses) (rw (items-part, k) (t .told)) a
+
+  -- of a stream
+  pub frames-told : h .records ≡ false → {p : Played} {r : Part} {out′ : List ℕ}
+      → Hears (streamed (walkFrom sure octets (h .law) (h .set) at (length out))) p out out′
+      → Answers p 0 (length octets) r → NextPart octets h at out out′ cells cells r
+  unfolding heardAs
+  frames-told k t a =
+      let w = walkFrom sure octets (h .law) (h .set) at (length out) in
+      part-told (rw k t) (rw k (sym (frames-none (w .frames)))) (rw k refl) a
+
+  pub goes-of : {r : Part} {out′ cells′ : List ℕ} → NextPart octets h at out out′ cells cells′ r → Goes octets at out cells r
   goes-of {r} t =
-      let n = sureItems (length out) (length cells) in
-      let d = items-told octets law set n at (length out) (length cells) in
+      let d = heard-told octets (h .law) (h .set) (h .records) sure at (length out) (length cells) in
       let on : r .more ≡ true → (part .end ≡ Done) × (part .place < length octets)
       = λ m. more-inside (part .end) (part .place) (length octets) (sym (t .more) ∙ m) in
-      let whole : r .more ≡ true → (length (part .items) < n → ⊥) = λ m k. absurd (omega (arith, on m .1, d .all (on m .0) k)) in
+      let whole : r .more ≡ true → (length (part .items) < sure → ⊥) = λ m k. absurd (omega (arith, on m .1, d .all (on m .0) k)) in
       record {
         fits = omega (arith, t .samples, d .fits);
-        places = omega (arith, t .items, d .placed);
-        held = omega (arith, t .samples, t .items, items-held octets law set n at (length out) (length cells));
+        places = omega (arith, t .items, d .few);
+        held = omega (arith, t .samples, t .items, d .held);
         some = omega (arith, t .losses, t .items, losses-few (part .items));
         few = λ h. omega (arith, t .items, d .some, d .inside h);
         ends = λ h. omega (arith, t .at, d .inside h);

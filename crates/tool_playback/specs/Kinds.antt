@@ -5,8 +5,8 @@ use mathlib.Core.Bool.{cond}
 use lib.ListN.{take}
 use Rattle.text_keyvalue.specs.Reading.{begins}
 use Rattle.recording.specs.Remembered.{Headed, heading, noHeading, headed, headingOf}
-use Rattle.tool_playback.specs.declared.replaying.Kind.{Kind}
-use Rattle.tool_playback.specs.declared.replaying.Kind.the-variants.{Stream, Recording, Headless}
+use Rattle.tool_playback.specs.declared.kinds.Kind.{Kind}
+use Rattle.tool_playback.specs.declared.kinds.Kind.the-variants.{Stream, Recording, Headless}
 
 -- the first seven octets of a heading tell no law
 abbrev pub headingStart : List ℕ

@@ -1,3 +1,7 @@
-// Frames back to sound, part by part: of a stream (unpacking), and of a recording with its losses (replaying).
-pub mod replaying;
-pub mod unpacking;
+// Frames and items back to sound, part by part. A stream is a recording without losses, so there is one playback for both.
+//   parts: the next items.      telling: what is said of them.      playing: their sound used, of octets and of a file, window by window.
+//   kinds: what a file is.
+pub mod kinds;
+pub mod parts;
+pub mod playing;
+pub mod telling;

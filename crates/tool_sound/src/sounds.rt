@@ -1,14 +1,14 @@
-// The forms in which the bench tools read and write a sound: raw G.711 (0), linear values of 16 bits (1), a WAV file of them (2); and a sound
-// compared with a master.
+// The forms in which the bench tools read and write a sound: raw G.711, linear values of 16 bits, a WAV file of them; and a sound compared
+// with a master.
 // No contract can say what is read or written. What octets mean stands in `masters` and `wave`.
 ghost use Prim.Native.Nat.{_≤_, _<_};
 ghost use mathlib.Core.Path.{_≡_};
 ghost use lib.ListN.{length};
-ghost use Rattle.tool_sound.specs.Uses.{UsesUpTo};
+ghost use Rattle.tool_sound.specs.Uses.{isWell, UsesUpTo};
 use crate::wave::Heading;
 use crate::wave::Wrong;
-use tool_words::options::PACK;
-use tool_words::options::UNPACK;
+use tool_words::options::Form;
+use tool_words::options::Tool;
 
 // A part that was read: its samples, whether a read failed, and how many octets the file should still have.
 pub struct Heard {
@@ -17,9 +17,9 @@ pub struct Heard {
     pub left: usize,
 }
 
-// A sound that was opened: how many octets it should have, 0 where nothing tells it; and whether it was refused (1) or a read failed (2).
+// A sound that was opened: how many octets it should have, 0 where nothing tells it; and whether it was refused.
 pub struct Opened {
-    pub trouble: u32,
+    pub refused: bool,
     pub left: usize,
 }
 
@@ -38,48 +38,62 @@ fn read_values(fd: i32, law: u32, most: usize, octets: &mut [u8], part: &mut [u8
     }
 }
 
-// How many octets of a file of linear values are read for a part: two for each sample, and no more than the file should have.
-fn octets_for(form: u32, left: usize) -> usize
+// The same with octets of its own, which are two for each sample of a part.
+fn read_linear(fd: i32, law: u32, most: usize, part: &mut [u8]) -> Heard
+    requires { ⌜ most ≤ 122880 ⌝ }
+    ensures { λ r. ⌜ r .count ≤ length (now (part .exit)) ⌝ }
+{
+    let mut octets = [0u8; 122880];
+    read_values(fd, law, most, &mut octets, part)
+}
+
+// How many octets of a WAV file are read for a part: no more than the file should have.
+fn octets_for(left: usize) -> usize
     ensures { λ r. ⌜ r ≤ 122880 ⌝ }
 {
-    if form == 1 {
-        return 122880;
-    }
     if left < 122880 {
         return left;
     }
     122880
 }
 
-// How many octets the file should still have: all but those that came; without a heading, the other half of a value.
-fn left_after(form: u32, left: usize, came: usize) -> usize {
-    if form == 1 {
-        return came % 2;
-    }
+// How many octets a WAV file should still have: all but those that came.
+fn left_after(left: usize, came: usize) -> usize {
     if left < came {
         return 0;
     }
     left - came
 }
 
-// The next samples of a sound, as many as the part holds: 61,440.
-pub fn read_part(fd: i32, form: u32, law: u32, left: usize, part: &mut [u8]) -> Heard
+// The next samples of a sound, as many as the part holds: 61,440. Linear values without a heading have the other half of a value left.
+pub fn read_part(fd: i32, form: Form, law: u32, left: usize, part: &mut [u8]) -> Heard
     ensures { λ r. ⌜ r .count ≤ length (now (part .exit)) ⌝ }
 {
-    if form == 0 {
-        let got = tool_console::read_part(fd, part);
-        return Heard {
-            count: got.count,
-            failed: got.failed,
-            left: 0,
-        };
-    }
-    let mut octets = [0u8; 122880];
-    let heard = read_values(fd, law, octets_for(form, left), &mut octets, part);
-    Heard {
-        count: heard.count,
-        failed: heard.failed,
-        left: left_after(form, left, heard.left),
+    match form {
+        Form::Raw => {
+            let got = tool_console::read_part(fd, part);
+            Heard {
+                count: got.count,
+                failed: got.failed,
+                left: 0,
+            }
+        }
+        Form::Linear => {
+            let heard = read_linear(fd, law, 122880, part);
+            Heard {
+                count: heard.count,
+                failed: heard.failed,
+                left: heard.left % 2,
+            }
+        }
+        Form::Wave => {
+            let heard = read_linear(fd, law, octets_for(left), part);
+            Heard {
+                count: heard.count,
+                failed: heard.failed,
+                left: left_after(left, heard.left),
+            }
+        }
     }
 }
 
@@ -91,7 +105,7 @@ fn say_what(before: &[u8], what: u32, after: &[u8]) {
 
 // Why a WAV file is refused.
 fn say_wrong(why: Wrong) {
-    tool_console::say_tool(PACK);
+    tool_console::say_tool(Tool::Pack);
     match why {
         Wrong::NotWave => tool_console::say(b"this is no WAV file\n"),
         Wrong::Format(what) => say_what(b"the WAV file has format ", what, b", and PCM is 1\n"),
@@ -147,7 +161,7 @@ fn more_octets(fd: i32, n: usize, k: usize, space: &mut [u8]) -> usize
 }
 
 fn say_no_heading() {
-    tool_console::say_tool(PACK);
+    tool_console::say_tool(Tool::Pack);
     tool_console::say(b"the WAV file ends inside its heading, or the heading is too long\n");
 }
 
@@ -158,13 +172,13 @@ fn read_heading(fd: i32, space: &mut [u8]) -> Opened {
         let heading = crate::wave::heading_in(&space[..n]);
         match heading {
             Heading::Sound(size) => return Opened {
-                trouble: 0,
+                refused: false,
                 left: size,
             },
             Heading::Refused(why) => {
                 say_wrong(why);
                 return Opened {
-                    trouble: 1,
+                    refused: true,
                     left: 0,
                 };
             }
@@ -173,7 +187,7 @@ fn read_heading(fd: i32, space: &mut [u8]) -> Opened {
                 if end == 0 {
                     say_no_heading();
                     return Opened {
-                        trouble: 1,
+                        refused: true,
                         left: 0,
                     };
                 }
@@ -184,30 +198,35 @@ fn read_heading(fd: i32, space: &mut [u8]) -> Opened {
 }
 
 // What comes before the sound: a heading in a WAV file, else nothing.
-pub fn open_sound(fd: i32, form: u32, space: &mut [u8]) -> Opened {
-    if form == 2 {
-        return read_heading(fd, space);
-    }
-    Opened {
-        trouble: 0,
+pub fn open_sound(fd: i32, form: Form, space: &mut [u8]) -> Opened {
+    let none = Opened {
+        refused: false,
         left: 0,
+    };
+    match form {
+        Form::Raw => none,
+        Form::Linear => none,
+        Form::Wave => read_heading(fd, space),
     }
 }
 
-// A part of a sound, written; in form 3 nothing is, and the sound is only counted. A part has at most 61,440 samples.
-pub fn write_part(fd: i32, form: u32, law: u32, sound: &[u8]) -> bool {
-    if form == 3 {
-        return true;
-    }
-    if form == 0 {
-        return io::write_all(fd, sound);
-    }
+// A part of a sound, written as linear values. A part has at most 61,440 samples.
+fn write_linear(fd: i32, law: u32, sound: &[u8]) -> bool {
     if 61440 < sound.len() {
         return false;
     }
     let mut octets = [0u8; 122880];
     let n = crate::masters::master_of(sound, law, &mut octets);
     io::write_all(fd, &octets[..n])
+}
+
+// A part of a sound, written in its form.
+fn write_part(fd: i32, form: Form, law: u32, sound: &[u8]) -> bool {
+    match form {
+        Form::Raw => io::write_all(fd, sound),
+        Form::Linear => write_linear(fd, law, sound),
+        Form::Wave => write_linear(fd, law, sound),
+    }
 }
 
 // The heading of a WAV file of so many samples, where its length can tell them.
@@ -219,45 +238,65 @@ pub fn write_heading(fd: i32, samples: usize) -> bool {
     io::write_all(fd, &heading)
 }
 
-// The form of a sound that is only counted.
-pub const COUNTED: u32 = 3;
+// How a master is unlike the sound: it differs, is shorter or is longer.
+pub enum Unlike {
+    Differs,
+    Shorter,
+    Longer,
+}
 
-// What is wrong with the file that is written or compared.
-pub const NOTHING: u32 = 0;
+// What is wrong with the files of a sound: nothing; the file that is written or compared fails; the master is unlike the sound; the file
+// that is played can't be read.
+pub enum Trouble {
+    Nothing,
+    Failed,
+    Master(Unlike),
+    Unread,
+}
 
-pub const FAILED: u32 = 1;
-
-pub const DIFFERS: u32 = 2;
-
-pub const SHORTER: u32 = 3;
-
-pub const LONGER: u32 = 4;
+pub fn is_well(wrong: Trouble) -> bool
+    ensures { λ r. ⌜ r ≡ isWell wrong ⌝ }
+{
+    match wrong {
+        Trouble::Nothing => true,
+        Trouble::Failed => false,
+        Trouble::Master(_) => false,
+        Trouble::Unread => false,
+    }
+}
 
 // What came of a part's sound: what is wrong, and how many octets are well.
 pub struct Used {
-    pub wrong: u32,
+    pub wrong: Trouble,
     pub good: usize,
 }
 
-// What is done with a sound: it is compared with a master, or written in a form.
-pub struct Way {
-    pub compares: bool,
-    pub fd: i32,
-    pub form: u32,
+// What is done with a sound: it is compared with a master, written to a file in a form, or only counted.
+pub enum Way {
+    Compared(i32),
+    Written(i32, Form),
+    Counted,
+}
+
+// All of a sound is well.
+fn all_well(good: usize) -> Used
+    ensures { λ r. ⌜ UsesUpTo good r ⌝ }
+{
+    Used {
+        wrong: Trouble::Nothing,
+        good,
+    }
 }
 
 // A part of a sound, written in its form, and what came of it.
-fn written(fd: i32, form: u32, law: u32, sound: &[u8]) -> Used
+fn written(fd: i32, form: Form, law: u32, sound: &[u8]) -> Used
     ensures { λ r. ⌜ UsesUpTo (length (now (sound .entry))) r ⌝ }
 {
     if write_part(fd, form, law, sound) {
-        return Used {
-            wrong: NOTHING,
-            good: sound.len(),
-        };
+        return all_well(sound.len());
     }
     Used {
-        wrong: FAILED,
+        wrong: Trouble::Failed,
         good: 0,
     }
 }
@@ -271,7 +310,7 @@ fn compared(fd: i32, sound: &[u8], master: &mut [u8]) -> Used
     let got = tool_console::read_part(fd, &mut master[..n]);
     if got.failed {
         return Used {
-            wrong: FAILED,
+            wrong: Trouble::Failed,
             good: 0,
         };
     }
@@ -279,56 +318,69 @@ fn compared(fd: i32, sound: &[u8], master: &mut [u8]) -> Used
     let good = crate::comparing::agree(sound, &master[..m]);
     if good == n {
         return Used {
-            wrong: NOTHING,
+            wrong: Trouble::Nothing,
             good,
         };
     }
     if good == m {
         return Used {
-            wrong: SHORTER,
+            wrong: Trouble::Master(Unlike::Shorter),
             good,
         };
     }
     Used {
-        wrong: DIFFERS,
+        wrong: Trouble::Master(Unlike::Differs),
         good,
     }
 }
 
-// A part of a sound, written or compared.
+// A part of a sound, written, compared or counted.
 pub fn use_sound(way: Way, law: u32, sound: &[u8], master: &mut [u8]) -> Used
     requires { ⌜ length (now sound) ≤ length (now master) ⌝ }
     ensures { λ r. ⌜ UsesUpTo (length (now (sound .entry))) r ⌝ }
 {
-    if way.compares {
-        return compared(way.fd, sound, master);
+    match way {
+        Way::Compared(fd) => compared(fd, sound, master),
+        Way::Written(fd, form) => written(fd, form, law, sound),
+        Way::Counted => all_well(sound.len()),
     }
-    written(way.fd, way.form, law, sound)
 }
 
 // What is wrong with a master after its octets for all the sound: nothing, or it is longer.
-pub fn left_over(fd: i32) -> u32 {
+pub fn left_over(fd: i32) -> Trouble {
     let mut one = [0u8; 1];
     let got = tool_console::read_part(fd, &mut one);
     if got.failed {
-        return FAILED;
+        return Trouble::Failed;
     }
     if got.count == 0 {
-        return NOTHING;
+        return Trouble::Nothing;
     }
-    LONGER
+    Trouble::Master(Unlike::Longer)
 }
 
-// Where the master differs, and the last line.
-pub fn differs(wrong: u32, place: usize) {
-    tool_console::say_tool(UNPACK);
-    if wrong == SHORTER {
-        tool_console::say_number(b"the master is shorter: it ends at octet ", place);
-    } else if wrong == LONGER {
-        tool_console::say_number(b"the master is longer: the sound ends at octet ", place);
-    } else {
-        tool_console::say_number(b"the sound differs from the master at octet ", place);
+// How a master is unlike the sound, and where.
+fn say_unlike(how: Unlike, place: usize) {
+    match how {
+        Unlike::Shorter => tool_console::say_number(
+            b"the master is shorter: it ends at octet ",
+            place,
+        ),
+        Unlike::Longer => tool_console::say_number(
+            b"the master is longer: the sound ends at octet ",
+            place,
+        ),
+        Unlike::Differs => tool_console::say_number(
+            b"the sound differs from the master at octet ",
+            place,
+        ),
     }
+}
+
+// The same, and the last line.
+pub fn differs(how: Unlike, place: usize) {
+    tool_console::say_tool(Tool::Unpack);
+    say_unlike(how, place);
     tool_console::say(b"\n");
-    tool_console::stop(UNPACK, 65, place, 0, 0);
+    tool_console::stop(Tool::Unpack, 65, place, 0, 0);
 }

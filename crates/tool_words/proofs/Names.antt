@@ -7,7 +7,7 @@ use native.Mathlib.Omega.{arith}
 use native.Mathlib.Numerals.{add-one}
 use lib.ListN.{length, getD, take, drop, length-drop, drop-of-length-le}
 use lib.Seq.{drop-cons, take-all}
-use borrow.Author.Tests.{eq-eqb, ne-eqb}
+use Rattle.tool_words.specs.declared.filenames.Law.the-variants.{Known, Unknown}
 use Rattle.tool_words.specs.Names.{placeAfter, placeFrom, endingAt, lawTold, newEnding, newName}
 
 -- an ending's place: one octet more, and the end
@@ -25,11 +25,11 @@ module _ (name : List ℕ) (none place i : ℕ) where
 
 -- the name of what is written, as its two parts
 module _ (packs : Bool) (law : ℕ) (name : List ℕ) where
-  pub name-appended : (e : List ℕ) → lawTold packs name ≡ 2 → e ≡ 0x2E ∷ newEnding packs law → name ++ e ≡ newName packs law name
+  pub name-appended : (e : List ℕ) → lawTold packs name ≡ Unknown → e ≡ 0x2E ∷ newEnding packs law → name ++ e ≡ newName packs law name
   unfolding newName
-  name-appended e t l = rw (eq-eqb _ _ t, l)
+  name-appended e t l = rw (t, l)
 
-  pub name-replaced : (at : ℕ) (e : List ℕ) → (lawTold packs name ≡ 2 → ⊥) → at ≡ endingAt name → 4 ≡ length e
+  pub name-replaced : (at l : ℕ) (e : List ℕ) → lawTold packs name ≡ Known l → at ≡ endingAt name → 4 ≡ length e
       → e ≡ 0x2E ∷ newEnding packs law → take at name ++ take 3 (drop 1 e) ≡ newName packs law name
   unfolding newName
-  name-replaced at e t p n l = rw (ne-eqb _ _ t, take-all 3 (drop 1 e) (omega (arith, length-drop 1 e)), p, l)
+  name-replaced at l e t p n q = rw (t, take-all 3 (drop 1 e) (omega (arith, length-drop 1 e)), p, q)

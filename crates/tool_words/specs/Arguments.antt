@@ -1,223 +1,227 @@
 -- The arguments of the bench tools: what one is, and the settings that they make, one after another.
 use Prim.Native.Nat.{ℕ}
 use mathlib.Core.List.{List}
-use mathlib.Core.Bool.{Bool, true, false, cond, not, _&&_, _||_}
+use mathlib.Core.Bool.{Bool, true, false, cond, not, _||_}
 use lib.ListN.{length, getD, drop}
-use lib.Dec.{eqb, leb}
+use lib.Dec.{eqb}
 use Rattle.tool_words.specs.declared.texts.Number.{Number}
 use Rattle.tool_words.specs.declared.texts.Number.the-variants.{Is, Not}
-use Rattle.tool_words.specs.declared.options.Argument.{Argument}
-use Rattle.tool_words.specs.declared.options.Argument.the-variants.{File, Law, Flag, Form, Waits, Counts, Unknown}
+use Rattle.tool_words.specs.declared.filenames.Law as laws
+use Rattle.tool_words.specs.declared.filenames.Law.the-variants as law
+use Rattle.tool_words.specs.declared.options.Tool.{Tool}
+use Rattle.tool_words.specs.declared.options.Tool.the-variants.{Unpack, Pack, Why, Mend}
+use Rattle.tool_words.specs.declared.options.Form as forms
+use Rattle.tool_words.specs.declared.options.Form.the-variants.{Raw, Linear, Wave}
+use Rattle.tool_words.specs.declared.options.Flag as flags
+use Rattle.tool_words.specs.declared.options.Flag.the-variants.{Fill, Records, Lists, On}
 use Rattle.tool_words.specs.declared.options.Flags.{Flags}
+use Rattle.tool_words.specs.declared.options.Count.{Count}
+use Rattle.tool_words.specs.declared.options.Count.the-variants.{Length, Set, Frame, Total}
+use Rattle.tool_words.specs.declared.options.Argument.{Argument}
+use Rattle.tool_words.specs.declared.options.Argument.the-variants.{File, Law, Form, Flag, Waits, Master, Counts, Unknown}
+use Rattle.tool_words.specs.declared.options.Wrong as wrongs
+use Rattle.tool_words.specs.declared.options.Wrong.the-variants as wrong
+use Rattle.tool_words.specs.declared.options.State.{State}
+use Rattle.tool_words.specs.declared.options.State.the-variants as state
 use Rattle.tool_words.specs.declared.options.Settings.{Settings}
+use Rattle.tool_words.specs.declared.options.Words.{Words}
 use Rattle.rules.specs.Tools.{allTools}
-use Rattle.tool_words.specs.Names.{unknown, lawTold}
+use Rattle.tool_words.specs.Names.{lawTold}
 use Rattle.tool_words.specs.Numbers.{numberIn}
 
--- the tools: `unpack`, `pack`, and `why`, which says why `pack` takes its tools
-abbrev pub unpack : ℕ
-unpack = 0
+-- `pack` and `why` read sound, the others frames; `why` writes no file
+abbrev pub readsSound : Tool → Bool
+readsSound Unpack = false
+readsSound Pack = true
+readsSound Why = true
+readsSound Mend = false
 
-abbrev pub pack : ℕ
-pack = 1
+abbrev pub hasOutfile : Tool → Bool
+hasOutfile Unpack = true
+hasOutfile Pack = true
+hasOutfile Why = false
+hasOutfile Mend = true
 
-abbrev pub why : ℕ
-why = 2
+-- the options of each tool: "-l", linear values, and "-w", a WAV file; "-s#", the tool set; "-n#", the frame length; "-c MASTER"; "-f", fill
+-- up; "-r", write a recording; "-v", list a recording's items; "-g", go on over losses; "-k#", one frame; "-t#", the total
+unfoldable pub unpackLetter : ℕ → Argument
+unpackLetter x =
+    cond (eqb x 0x6C) (Form Linear) (cond (eqb x 0x77) (Form Wave) (cond (eqb x 0x73) (Waits Set)
+    (cond (eqb x 0x63) Master (cond (eqb x 0x76) (Flag Lists) (cond (eqb x 0x67) (Flag On) Unknown)))))
 
--- what follows an option: nothing (0), MASTER (1), the frame length (2), the tool set (3), a frame (4)
--- "-s#", for `unpack` "-c MASTER", for the others "-n#", for `why` "-k#"
-unfoldable pub wantedBy : ℕ → ℕ → ℕ
-wantedBy tool x =
-    cond (eqb x 0x73) 3 (cond (eqb tool unpack) (cond (eqb x 0x63) 1 0)
-    (cond (eqb x 0x6E) 2 (cond (eqb tool why && eqb x 0x6B) 4 0)))
+unfoldable pub packLetter : ℕ → Argument
+packLetter x =
+    cond (eqb x 0x6C) (Form Linear) (cond (eqb x 0x77) (Form Wave) (cond (eqb x 0x6E) (Waits Length)
+    (cond (eqb x 0x73) (Waits Set) (cond (eqb x 0x66) (Flag Fill) (cond (eqb x 0x72) (Flag Records) Unknown)))))
 
--- "-l", a master of linear values, and "-w", a WAV file; `why` reads raw sound alone
-abbrev pub formOption : ℕ → ℕ → Argument
-formOption tool f = cond (eqb tool why) Unknown (Form f)
+unfoldable pub whyLetter : ℕ → Argument
+whyLetter x = cond (eqb x 0x73) (Waits Set) (cond (eqb x 0x6E) (Waits Length) (cond (eqb x 0x6B) (Waits Frame) Unknown))
 
--- an option that says something by itself: for `pack` "-f" (1), fill up, and "-r" (2), write a recording; for `unpack` "-v" (3), list a
--- recording's items, and "-g" (4), go on over losses; else 0
-unfoldable pub flagBy : ℕ → ℕ → ℕ
-flagBy tool x =
-    cond (eqb tool pack) (cond (eqb x 0x66) 1 (cond (eqb x 0x72) 2 0))
-    (cond (eqb tool unpack) (cond (eqb x 0x76) 3 (cond (eqb x 0x67) 4 0)) 0)
+unfoldable pub mendLetter : ℕ → Argument
+mendLetter x = cond (eqb x 0x74) (Waits Total) Unknown
 
--- an option of one letter: "-u", "-a"; "-l", "-w"; a flag; or one whose word is the next argument
-unfoldable pub letterOf : ℕ → ℕ → Argument
-letterOf tool x =
-    cond (eqb x 0x75) (Law 1) (cond (eqb x 0x61) (Law 0)
-    (cond (eqb x 0x6C) (formOption tool 1) (cond (eqb x 0x77) (formOption tool 2)
-    (cond (not (eqb (flagBy tool x) 0)) (Flag (flagBy tool x))
-    (cond (eqb (wantedBy tool x) 0) Unknown (Waits (wantedBy tool x)))))))
+abbrev pub ownLetter : Tool → ℕ → Argument
+ownLetter Unpack x = unpackLetter x
+ownLetter Pack x = packLetter x
+ownLetter Why x = whyLetter x
+ownLetter Mend x = mendLetter x
+
+-- an option of one letter, or one whose word is the next argument: "-u", "-a", and the tool's own
+unfoldable pub letterOf : Tool → ℕ → Argument
+letterOf tool x = cond (eqb x 0x75) (Law 1) (cond (eqb x 0x61) (Law 0) (ownLetter tool x))
 
 -- an option with its number
-unfoldable pub numberedOf : ℕ → ℕ → List ℕ → Argument
-numberedOf tool x rest = cond (leb 2 (wantedBy tool x)) (Counts (wantedBy tool x) (numberIn rest)) Unknown
+abbrev pub numberedBy : Argument → List ℕ → Argument
+numberedBy (Waits which) rest = Counts which (numberIn rest)
+numberedBy File rest = Unknown
+numberedBy (Law l) rest = Unknown
+numberedBy (Form f) rest = Unknown
+numberedBy (Flag f) rest = Unknown
+numberedBy Master rest = Unknown
+numberedBy (Counts which n) rest = Unknown
+numberedBy Unknown rest = Unknown
 
 -- what an argument is; "-" alone is a file, and so is what has no '-' in front; an empty one is nothing that is known
-unfoldable pub argumentOf : ℕ → List ℕ → Argument
+unfoldable pub argumentOf : Tool → List ℕ → Argument
 argumentOf tool text =
     cond (eqb (length text) 0) Unknown
     (cond (eqb (length text) 1 || not (eqb (getD text 0 0) 0x2D)) File
-    (cond (eqb (length text) 2) (letterOf tool (getD text 1 0)) (numberedOf tool (getD text 1 0) (drop 2 text))))
+    (cond (eqb (length text) 2) (letterOf tool (getD text 1 0)) (numberedBy (letterOf tool (getD text 1 0)) (drop 2 text))))
 
--- the tools of before document 02, R-14, which boxes in the field have; and the set unless one is said: `unpack` reads with all tools
+-- the tools of before document 02, R-14, which boxes in the field have; and the set unless one is said: frames are read with all tools
 abbrev pub fieldTools : ℕ
 fieldTools = 127
 
-unfoldable pub setAtFirst : ℕ → ℕ
-setAtFirst tool = cond (eqb tool unpack) allTools fieldTools
+abbrev pub setAtFirst : Tool → ℕ
+setAtFirst tool = cond (readsSound tool) fieldTools allTools
 
--- before any argument: the frame length is 160 and the set the tool's own unless said; no flag is; the sound is raw G.711 (0); files are
--- given by their arguments' numbers, 0 is none
-abbrev pub noFlags : Flags
-noFlags = record { fill = false; records = false; lists = false; on = false }
+-- the settings so far, and what comes next: any argument; or none counts, since argument i was wrong
+abbrev pub onward : Settings → Words
+onward s = record { said = s; state = state.Ready }
 
-abbrev pub atFirst : ℕ → Settings
-atFirst tool =
-    record {
-      tool = tool;
-      law = unknown;
-      length = 160;
-      set = setAtFirst tool;
-      flags = noFlags;
-      form = 0;
-      only = false;
-      frame = 0;
-      infile = 0;
-      outfile = 0;
-      master = 0;
-      wants = 0;
-      wrong = 0;
-      place = 0;
-    }
+abbrev pub wrongly : Settings → wrongs.Wrong → ℕ → Words
+wrongly s why i = record { said = s; state = state.Wrong why i }
 
 -- settings by their fields in turn
-abbrev settings : (tool law n set : ℕ) (flags : Flags) (form : ℕ) (only : Bool)
-    (frame infile outfile master wants wrong place : ℕ) → Settings
-settings tool law n set flags form only frame infile outfile master wants wrong place =
+abbrev settings : (tool : Tool) (law : laws.Law) (form : forms.Form) (flags : Flags) (n set : ℕ) (only : Bool) (frame : ℕ) (known : Bool)
+    (total infile outfile master : ℕ) → Settings
+settings tool law form flags n set only frame known total infile outfile master =
     record {
       tool = tool;
       law = law;
+      form = form;
+      flags = flags;
       length = n;
       set = set;
-      flags = flags;
-      form = form;
       only = only;
       frame = frame;
+      known = known;
+      total = total;
       infile = infile;
       outfile = outfile;
       master = master;
-      wants = wants;
-      wrong = wrong;
-      place = place;
     }
 
--- what is wrong with argument i: an option that is not known (1), no number (2), a file too many (3), a word that is missing (4), too long
--- (5)
-abbrev pub withWrong : Settings → ℕ → ℕ → Settings
-withWrong s why i =
-    settings (s .tool) (s .law) (s .length) (s .set) (s .flags) (s .form) (s .only) (s .frame)
-    (s .infile) (s .outfile) (s .master) (s .wants) why i
+-- before any argument: the frame length is 160 and the set the tool's own unless said; no flag is; the sound is raw G.711; files are given by
+-- their arguments' numbers, 0 is none
+abbrev pub noFlags : Flags
+noFlags = record { fill = false; records = false; lists = false; on = false }
+
+abbrev pub atFirst : Tool → Words
+atFirst tool = onward (settings tool law.Unknown Raw noFlags 160 (setAtFirst tool) false 0 false 0 0 0 0)
 
 -- -u, -a
 abbrev pub withLaw : Settings → ℕ → Settings
 withLaw s l =
-    settings (s .tool) l (s .length) (s .set) (s .flags) (s .form) (s .only) (s .frame)
-    (s .infile) (s .outfile) (s .master) (s .wants) (s .wrong) (s .place)
+    settings (s .tool) (law.Known l) (s .form) (s .flags) (s .length) (s .set) (s .only) (s .frame) (s .known) (s .total)
+    (s .infile) (s .outfile) (s .master)
+
+-- -l, -w
+abbrev pub withForm : Settings → forms.Form → Settings
+withForm s f =
+    settings (s .tool) (s .law) f (s .flags) (s .length) (s .set) (s .only) (s .frame) (s .known) (s .total)
+    (s .infile) (s .outfile) (s .master)
 
 -- one of the flags is said
-abbrev pub raised : Flags → ℕ → Flags
-raised f k =
-    cond (eqb k 1) (record { fill = true; records = f .records; lists = f .lists; on = f .on })
-    (cond (eqb k 2) (record { fill = f .fill; records = true; lists = f .lists; on = f .on })
-    (cond (eqb k 3) (record { fill = f .fill; records = f .records; lists = true; on = f .on })
-    (record { fill = f .fill; records = f .records; lists = f .lists; on = true })))
+abbrev pub raised : Flags → flags.Flag → Flags
+raised f Fill = record { fill = true; records = f .records; lists = f .lists; on = f .on }
+raised f Records = record { fill = f .fill; records = true; lists = f .lists; on = f .on }
+raised f Lists = record { fill = f .fill; records = f .records; lists = true; on = f .on }
+raised f On = record { fill = f .fill; records = f .records; lists = f .lists; on = true }
 
-abbrev pub withFlag : Settings → ℕ → Settings
+abbrev pub withFlag : Settings → flags.Flag → Settings
 withFlag s k =
-    settings (s .tool) (s .law) (s .length) (s .set) (raised (s .flags) k) (s .form) (s .only) (s .frame)
-    (s .infile) (s .outfile) (s .master) (s .wants) (s .wrong) (s .place)
+    settings (s .tool) (s .law) (s .form) (raised (s .flags) k) (s .length) (s .set) (s .only) (s .frame) (s .known) (s .total)
+    (s .infile) (s .outfile) (s .master)
 
--- -l (1), -w (2)
-abbrev pub withForm : Settings → ℕ → Settings
-withForm s f =
-    settings (s .tool) (s .law) (s .length) (s .set) (s .flags) f (s .only) (s .frame)
-    (s .infile) (s .outfile) (s .master) (s .wants) (s .wrong) (s .place)
+-- the number of an option
+abbrev pub counted : Settings → Count → ℕ → Settings
+counted s Length v =
+    settings (s .tool) (s .law) (s .form) (s .flags) v (s .set) (s .only) (s .frame) (s .known) (s .total)
+    (s .infile) (s .outfile) (s .master)
+counted s Set v =
+    settings (s .tool) (s .law) (s .form) (s .flags) (s .length) v (s .only) (s .frame) (s .known) (s .total)
+    (s .infile) (s .outfile) (s .master)
+counted s Frame v =
+    settings (s .tool) (s .law) (s .form) (s .flags) (s .length) (s .set) true v (s .known) (s .total)
+    (s .infile) (s .outfile) (s .master)
+counted s Total v =
+    settings (s .tool) (s .law) (s .form) (s .flags) (s .length) (s .set) (s .only) (s .frame) true v
+    (s .infile) (s .outfile) (s .master)
 
--- the next argument is this option's word
-abbrev pub withWants : Settings → ℕ → Settings
-withWants s w =
-    settings (s .tool) (s .law) (s .length) (s .set) (s .flags) (s .form) (s .only) (s .frame)
-    (s .infile) (s .outfile) (s .master) w (s .wrong) (s .place)
-
--- -c MASTER
-abbrev pub withMaster : Settings → ℕ → Settings
-withMaster s i =
-    settings (s .tool) (s .law) (s .length) (s .set) (s .flags) (s .form) (s .only) (s .frame)
-    (s .infile) (s .outfile) i 0 (s .wrong) (s .place)
-
--- -n#
-abbrev pub withLength : Settings → ℕ → Settings
-withLength s n =
-    settings (s .tool) (s .law) n (s .set) (s .flags) (s .form) (s .only) (s .frame)
-    (s .infile) (s .outfile) (s .master) 0 (s .wrong) (s .place)
-
--- -k#
-abbrev pub withFrame : Settings → ℕ → Settings
-withFrame s k =
-    settings (s .tool) (s .law) (s .length) (s .set) (s .flags) (s .form) true k
-    (s .infile) (s .outfile) (s .master) 0 (s .wrong) (s .place)
-
--- -s#
-abbrev pub withSet : Settings → ℕ → Settings
-withSet s n =
-    settings (s .tool) (s .law) (s .length) n (s .flags) (s .form) (s .only) (s .frame)
-    (s .infile) (s .outfile) (s .master) 0 (s .wrong) (s .place)
-
--- INFILE
-abbrev pub withInfile : Settings → ℕ → Settings
-withInfile s i =
-    settings (s .tool) (s .law) (s .length) (s .set) (s .flags) (s .form) (s .only) (s .frame) i (s .outfile) (s
-    .master) (s .wants) (s .wrong) (s .place)
-
--- OUTFILE
-abbrev pub withOutfile : Settings → ℕ → Settings
-withOutfile s i =
-    settings (s .tool) (s .law) (s .length) (s .set) (s .flags) (s .form) (s .only) (s .frame)
-    (s .infile) i (s .master) (s .wants) (s .wrong) (s .place)
+-- INFILE, OUTFILE, MASTER
+abbrev pub withFiles : Settings → ℕ → ℕ → ℕ → Settings
+withFiles s infile outfile master =
+    settings (s .tool) (s .law) (s .form) (s .flags) (s .length) (s .set) (s .only) (s .frame) (s .known) (s .total) infile outfile master
 
 -- the first file is INFILE, the second OUTFILE, which `why` does not have, and there is no third
-unfoldable pub withFile : Settings → ℕ → Settings
+unfoldable pub withFile : Settings → ℕ → Words
 withFile s i =
-    cond (eqb (s .infile) 0) (withInfile s i)
-    (cond (eqb (s .tool) why) (withWrong s 3 i)
-    (cond (eqb (s .outfile) 0) (withOutfile s i) (withWrong s 3 i)))
+    cond (eqb (s .infile) 0) (onward (withFiles s i (s .outfile) (s .master)))
+    (cond (not (hasOutfile (s .tool))) (wrongly s wrong.ManyFiles i)
+    (cond (eqb (s .outfile) 0) (onward (withFiles s (s .infile) i (s .master))) (wrongly s wrong.ManyFiles i)))
 
-abbrev pub withNumber : Settings → ℕ → Number → ℕ → Settings
-withNumber s w (Is n) i = cond (eqb w 2) (withLength s n) (cond (eqb w 4) (withFrame s n) (withSet s n))
-withNumber s w Not i = withWrong s 2 i
+abbrev pub withMaster : Settings → ℕ → Words
+withMaster s i = onward (withFiles s (s .infile) (s .outfile) i)
 
-abbrev pub withArgument : Settings → Argument → ℕ → Settings
+abbrev pub withNumber : Settings → Count → Number → ℕ → Words
+withNumber s which (Is v) i = onward (counted s which v)
+withNumber s which Not i = wrongly s wrong.NoNumber i
+
+abbrev pub withArgument : Settings → Argument → ℕ → Words
 withArgument s File i = withFile s i
-withArgument s (Law l) i = withLaw s l
-withArgument s (Flag k) i = withFlag s k
-withArgument s (Waits w) i = withWants s w
-withArgument s (Counts w m) i = withNumber s w m i
-withArgument s (Form f) i = withForm s f
-withArgument s Unknown i = withWrong s 1 i
+withArgument s (Law l) i = onward (withLaw s l)
+withArgument s (Form f) i = onward (withForm s f)
+withArgument s (Flag k) i = onward (withFlag s k)
+withArgument s (Waits which) i = record { said = s; state = state.Counts which }
+withArgument s Master i = record { said = s; state = state.Master }
+withArgument s (Counts which n) i = withNumber s which n i
+withArgument s Unknown i = wrongly s wrong.Unknown i
 
 -- argument i; what is wrong once stays so
-unfoldable pub stepOf : Settings → List ℕ → ℕ → Settings
-stepOf s text i =
-    cond (not (eqb (s .wrong) 0)) s
-    (cond (eqb (s .wants) 0) (withArgument s (argumentOf (s .tool) text) i)
-    (cond (eqb (s .wants) 1) (withMaster s i) (withNumber s (s .wants) (numberIn text) i)))
+abbrev pub byState : Words → State → List ℕ → ℕ → Words
+byState w state.Ready text i = withArgument (w .said) (argumentOf (w .said .tool) text) i
+byState w (state.Counts which) text i = withNumber (w .said) which (numberIn text) i
+byState w state.Master text i = withMaster (w .said) i
+byState w (state.Wrong why k) text i = w
+
+abbrev pub stepOf : Words → List ℕ → ℕ → Words
+stepOf w text i = byState w (w .state) text i
 
 -- after the last of n arguments
-unfoldable pub endOf : Settings → ℕ → Settings
-endOf s n = cond (not (eqb (s .wrong) 0) || eqb (s .wants) 0) s (withWrong s 4 n)
+abbrev pub endBy : Words → State → ℕ → Words
+endBy w state.Ready n = w
+endBy w (state.Counts which) n = wrongly (w .said) wrong.Missing n
+endBy w state.Master n = wrongly (w .said) wrong.Missing n
+endBy w (state.Wrong why k) n = w
+
+abbrev pub endOf : Words → ℕ → Words
+endOf w n = endBy w (w .state) n
 
 -- the law: as an option says, otherwise as INFILE's name tells
-unfoldable pub lawOf : Settings → List ℕ → ℕ
-lawOf s name = cond (eqb (s .law) unknown) (lawTold (not (eqb (s .tool) unpack)) name) (s .law)
+abbrev pub lawBy : laws.Law → laws.Law → laws.Law
+lawBy (law.Known l) told = law.Known l
+lawBy law.Unknown told = told
+
+abbrev pub lawOf : Settings → List ℕ → laws.Law
+lawOf s name = lawBy (s .law) (lawTold (readsSound (s .tool)) name)

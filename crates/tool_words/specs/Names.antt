@@ -4,6 +4,8 @@ use mathlib.Core.List.{List, [], _∷_, _++_}
 use mathlib.Core.Bool.{Bool, cond}
 use lib.ListN.{length, take, drop}
 use lib.Dec.{eqb}
+use Rattle.tool_words.specs.declared.filenames.Law.{Law}
+use Rattle.tool_words.specs.declared.filenames.Law.the-variants.{Known, Unknown}
 use Rattle.tool_words.specs.Texts.{same}
 use Rattle.tool_words.specs.Endings.{ul8, mu8, mu, al8, al, lcm, lca, muo, alo}
 
@@ -22,19 +24,17 @@ endingAt name = placeFrom (length name) (length name) 0 name
 abbrev pub endingOf : List ℕ → List ℕ
 endingOf name = drop (endingAt name) name
 
--- a law is 0 for A, 1 for mu; where it is not known, 2
-abbrev pub unknown : ℕ
-unknown = 2
-
-unfoldable pub lawOfSound : List ℕ → ℕ
+-- a law is 0 for A, 1 for mu
+unfoldable pub lawOfSound : List ℕ → Law
 lawOfSound e =
-    cond (same e ul8) 1 (cond (same e mu8) 1 (cond (same e mu) 1 (cond (same e al8) 0 (cond (same e al) 0 unknown))))
+    cond (same e ul8) (Known 1) (cond (same e mu8) (Known 1) (cond (same e mu) (Known 1)
+    (cond (same e al8) (Known 0) (cond (same e al) (Known 0) Unknown))))
 
-unfoldable pub lawOfStream : List ℕ → ℕ
-lawOfStream e = cond (same e lcm) 1 (cond (same e lca) 0 unknown)
+unfoldable pub lawOfStream : List ℕ → Law
+lawOfStream e = cond (same e lcm) (Known 1) (cond (same e lca) (Known 0) Unknown)
 
 -- the law that the name of what is read tells: `pack` reads sound, `unpack` a stream
-unfoldable pub lawTold : Bool → List ℕ → ℕ
+unfoldable pub lawTold : Bool → List ℕ → Law
 lawTold packs name = cond packs (lawOfSound (endingOf name)) (lawOfStream (endingOf name))
 
 -- the ending of what is written
@@ -42,8 +42,9 @@ unfoldable pub newEnding : Bool → ℕ → List ℕ
 newEnding packs law = cond packs (cond (eqb law 1) lcm lca) (cond (eqb law 1) muo alo)
 
 -- an ending that tells a law is replaced, otherwise the new one is appended after a '.'
+abbrev pub nameBy : Law → List ℕ → List ℕ → List ℕ
+nameBy (Known l) name ending = take (endingAt name) name ++ ending
+nameBy Unknown name ending = name ++ (0x2E ∷ ending)
+
 unfoldable pub newName : Bool → ℕ → List ℕ → List ℕ
-newName packs law name =
-    cond (eqb (lawTold packs name) unknown)
-    (name ++ (0x2E ∷ newEnding packs law))
-    (take (endingAt name) name ++ newEnding packs law)
+newName packs law name = nameBy (lawTold packs name) name (newEnding packs law)

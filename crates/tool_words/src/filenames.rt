@@ -38,43 +38,49 @@ pub fn ending_at(name: &[u8]) -> usize
     place
 }
 
-// The law that an ending of raw sound tells; 2 where it tells none.
-fn law_of_sound(ending: &[u8]) -> u32
+// What a name or an option tells of the law.
+pub enum Law {
+    Known(u32),
+    Unknown,
+}
+
+// The law that an ending of raw sound tells.
+fn law_of_sound(ending: &[u8]) -> Law
     ensures { λ r. ⌜ r ≡ lawOfSound (now (ending .entry)) ⌝ }
 {
     if is_same(ending, b"ul8") {
-        return 1;
+        return Law::Known(1);
     }
     if is_same(ending, b"mu8") {
-        return 1;
+        return Law::Known(1);
     }
     if is_same(ending, b"mu") {
-        return 1;
+        return Law::Known(1);
     }
     if is_same(ending, b"al8") {
-        return 0;
+        return Law::Known(0);
     }
     if is_same(ending, b"al") {
-        return 0;
+        return Law::Known(0);
     }
-    2
+    Law::Unknown
 }
 
-// The law that an ending of a stream tells; 2 where it tells none.
-fn law_of_stream(ending: &[u8]) -> u32
+// The law that an ending of a stream tells.
+fn law_of_stream(ending: &[u8]) -> Law
     ensures { λ r. ⌜ r ≡ lawOfStream (now (ending .entry)) ⌝ }
 {
     if is_same(ending, b"lcm") {
-        return 1;
+        return Law::Known(1);
     }
     if is_same(ending, b"lca") {
-        return 0;
+        return Law::Known(0);
     }
-    2
+    Law::Unknown
 }
 
 // The law that the name of what is read tells: `pack` reads sound, `unpack` a stream.
-pub fn law_told(packs: bool, name: &[u8]) -> u32
+pub fn law_told(packs: bool, name: &[u8]) -> Law
     ensures { λ r. ⌜ r ≡ lawTold packs (now (name .entry)) ⌝ }
 {
     let at = ending_at(name);
@@ -107,9 +113,11 @@ pub fn new_name(packs: bool, law: u32, name: &[u8], out: &mut [u8]) -> usize
     ensures { λ r. ⌜ Laid (newName packs law (now (name .entry))) (now (out .entry)) (now (out .exit)) r ⌝ }
 {
     let ending = new_ending(packs, law);
-    if law_told(packs, name) == 2 {
-        return lay(name, &ending, out);
+    match law_told(packs, name) {
+        Law::Unknown => lay(name, &ending, out),
+        Law::Known(_) => {
+            let at = ending_at(name);
+            lay(&name[..at], &ending[1..], out)
+        }
     }
-    let at = ending_at(name);
-    lay(&name[..at], &ending[1..], out)
 }

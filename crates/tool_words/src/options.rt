@@ -1,33 +1,37 @@
 // The words of a command line: what an argument is, and the settings that the arguments make.
 ghost use mathlib.Core.Path.{_≡_};
-ghost use lib.ListN.{length};
-ghost use Rattle.tool_words.specs.Arguments.{wantedBy, formOption, flagBy, letterOf, numberedOf, argumentOf, setAtFirst, atFirst, withWrong, withFile};
-ghost use Rattle.tool_words.specs.Arguments.{withNumber, raised, withFlag, withArgument, stepOf, endOf, lawOf};
+ghost use Rattle.tool_words.specs.Arguments.{readsSound, hasOutfile, setAtFirst, unpackLetter, packLetter, whyLetter, mendLetter};
+ghost use Rattle.tool_words.specs.Arguments.{letterOf, numberedBy, argumentOf, atFirst, onward, wrongly, withFile, withLaw, withForm};
+ghost use Rattle.tool_words.specs.Arguments.{raised, withFlag, counted, withNumber, withMaster, withArgument, stepOf, endOf, lawOf};
+use crate::filenames::Law;
 use crate::filenames::law_told;
 use crate::texts::Number;
 use crate::texts::number_in;
 
-// The tools: `unpack`, `pack`, and `why`, which says why `pack` takes its tools.
-pub const UNPACK: u32 = 0;
+// The tools: `unpack`, `pack`, `why`, which says why `pack` takes its tools, and `mend`.
+pub enum Tool {
+    Unpack,
+    Pack,
+    Why,
+    Mend,
+}
 
-pub const PACK: u32 = 1;
-
-pub const WHY: u32 = 2;
-
-// What an argument is. `Flag` says which flag; `Waits` and `Counts` say what follows an option: MASTER (1), the frame length (2),
-// the tool set (3), a frame (4).
-pub enum Argument {
-    File,
-    Law(u32),
-    Flag(u32),
-    Waits(u32),
-    Counts(u32, Number),
-    Form(u32),
-    Unknown,
+// The form of the sound: raw G.711, linear values, or a WAV file.
+pub enum Form {
+    Raw,
+    Linear,
+    Wave,
 }
 
 // What is said by an option alone: of `pack` that the sound is filled up, and that a recording is written; of `unpack` that a recording's
 // items are listed, and that it goes on over losses.
+pub enum Flag {
+    Fill,
+    Records,
+    Lists,
+    On,
+}
+
 pub struct Flags {
     pub fill: bool,
     pub records: bool,
@@ -35,136 +39,206 @@ pub struct Flags {
     pub on: bool,
 }
 
-// The settings that the arguments make. A law that no option tells is 2. The form of the sound is raw G.711 (0), linear values (1) or a
-// WAV file (2). Files are given by their arguments' numbers, 0 is none.
-// `wrong` says what is wrong with argument `place`: 1 an option that is not known, 2 no number, 3 a file too many,
-// 4 a word that is missing, 5 too long.
+// The number that follows an option: the frame length, the tool set, a frame, or the total of samples.
+pub enum Count {
+    Length,
+    Set,
+    Frame,
+    Total,
+}
+
+// What an argument is: a file; an option that says something; one whose word, a number or MASTER's name, is the next argument; one with its
+// number; or nothing that is known.
+pub enum Argument {
+    File,
+    Law(u32),
+    Form(Form),
+    Flag(Flag),
+    Waits(Count),
+    Master,
+    Counts(Count, Number),
+    Unknown,
+}
+
+// What is wrong with an argument: an option that is not known, no number, a file too many, a word that is missing, or it is too long.
+pub enum Wrong {
+    Unknown,
+    NoNumber,
+    ManyFiles,
+    Missing,
+    TooLong,
+}
+
+// What the next argument is to be: any; the word of an option; or none counts, since this one was wrong.
+pub enum State {
+    Ready,
+    Counts(Count),
+    Master,
+    Wrong(Wrong, usize),
+}
+
+// The settings that the arguments make. Files are given by their arguments' numbers, 0 is none. `only` says that a frame is told, `known`
+// that a total is.
 pub struct Settings {
-    pub tool: u32,
-    pub law: u32,
+    pub tool: Tool,
+    pub law: Law,
+    pub form: Form,
+    pub flags: Flags,
     pub length: u32,
     pub set: u32,
-    pub flags: Flags,
-    pub form: u32,
     pub only: bool,
     pub frame: u32,
+    pub known: bool,
+    pub total: u32,
     pub infile: usize,
     pub outfile: usize,
     pub master: usize,
-    pub wants: u32,
-    pub wrong: u32,
-    pub place: usize,
+}
+
+// The settings so far, and what comes next.
+pub struct Words {
+    pub said: Settings,
+    pub state: State,
 }
 
 // The tools of before document 02, R-14: all but tool 11. What `pack` writes unless it is told otherwise, boxes in the field must read.
 pub const FIELD_TOOLS: u32 = 127;
 
-// The set unless one is said. A reader's larger set changes the answer of no other frame, so `unpack` has all tools.
-fn set_at_first(tool: u32) -> u32
-    ensures { λ r. ⌜ r ≡ setAtFirst tool ⌝ }
+// Whether a tool reads sound; the others read a stream.
+pub fn reads_sound(tool: Tool) -> bool
+    ensures { λ r. ⌜ r ≡ readsSound tool ⌝ }
 {
-    if tool == UNPACK {
-        return rules::ALL_TOOLS;
+    match tool {
+        Tool::Unpack => false,
+        Tool::Pack => true,
+        Tool::Why => true,
+        Tool::Mend => false,
     }
-    FIELD_TOOLS
 }
 
-pub fn at_first(tool: u32) -> Settings
+// `why` writes no file.
+fn has_outfile(tool: Tool) -> bool
+    ensures { λ r. ⌜ r ≡ hasOutfile tool ⌝ }
+{
+    match tool {
+        Tool::Unpack => true,
+        Tool::Pack => true,
+        Tool::Why => false,
+        Tool::Mend => true,
+    }
+}
+
+// The set unless one is said. A reader's larger set changes the answer of no other frame, so what reads frames has all tools.
+fn set_at_first(tool: Tool) -> u32
+    ensures { λ r. ⌜ r ≡ setAtFirst tool ⌝ }
+{
+    if reads_sound(tool) {
+        return FIELD_TOOLS;
+    }
+    rules::ALL_TOOLS
+}
+
+// Before any argument.
+pub fn at_first(tool: Tool) -> Words
     ensures { λ r. ⌜ r ≡ atFirst tool ⌝ }
 {
-    Settings {
+    let set = set_at_first(tool);
+    let flags = Flags {
+        fill: false,
+        records: false,
+        lists: false,
+        on: false,
+    };
+    let said = Settings {
         tool,
-        law: 2,
+        law: Law::Unknown,
+        form: Form::Raw,
+        flags,
         length: 160,
-        set: set_at_first(tool),
-        flags: Flags {
-            fill: false,
-            records: false,
-            lists: false,
-            on: false,
-        },
-        form: 0,
+        set,
         only: false,
         frame: 0,
+        known: false,
+        total: 0,
         infile: 0,
         outfile: 0,
         master: 0,
-        wants: 0,
-        wrong: 0,
-        place: 0,
-    }
+    };
+    onward(said)
 }
 
-pub fn with_wrong(mut s: Settings, why: u32, index: usize) -> Settings
-    ensures { λ r. ⌜ r ≡ withWrong s why index ⌝ }
+fn onward(said: Settings) -> Words
+    ensures { λ r. ⌜ r ≡ onward said ⌝ }
 {
-    s.wrong = why;
-    s.place = index;
-    s
+    Words {
+        said,
+        state: State::Ready,
+    }
 }
 
-// What follows an option: "-s#", for `unpack` "-c MASTER", for the others "-n#", for `why` "-k#".
-fn wanted_by(tool: u32, letter: u8) -> u32
-    ensures { λ r. ⌜ r ≡ wantedBy tool letter ⌝ }
+fn wrongly(said: Settings, why: Wrong, index: usize) -> Words
+    ensures { λ r. ⌜ r ≡ wrongly said why index ⌝ }
 {
-    if letter == b's' {
-        return 3;
+    Words {
+        said,
+        state: State::Wrong(why, index),
     }
-    if tool == UNPACK {
-        if letter == b'c' {
-            return 1;
-        }
-        return 0;
-    }
-    if letter == b'n' {
-        return 2;
-    }
-    if tool != WHY {
-        return 0;
-    }
-    if letter == b'k' {
-        return 4;
-    }
-    0
 }
 
-// The form of the sound: "-l", linear values, and "-w", a WAV file. `why` reads raw sound alone.
-fn form_option(tool: u32, form: u32) -> Argument
-    ensures { λ r. ⌜ r ≡ formOption tool form ⌝ }
+// The options of `unpack`, beside the laws: "-l", "-w", "-s#", "-c MASTER", "-v", "-g".
+fn unpack_letter(letter: u8) -> Argument
+    ensures { λ r. ⌜ r ≡ unpackLetter letter ⌝ }
 {
-    if tool == WHY {
-        return Argument::Unknown;
+    match letter {
+        b'l' => Argument::Form(Form::Linear),
+        b'w' => Argument::Form(Form::Wave),
+        b's' => Argument::Waits(Count::Set),
+        b'c' => Argument::Master,
+        b'v' => Argument::Flag(Flag::Lists),
+        b'g' => Argument::Flag(Flag::On),
+        _ => Argument::Unknown,
     }
-    Argument::Form(form)
 }
 
-// An option that says something by itself: for `pack` "-f" (1) and "-r" (2), for `unpack` "-v" (3) and "-g" (4); else 0.
-fn flag_by(tool: u32, letter: u8) -> u32
-    ensures { λ r. ⌜ r ≡ flagBy tool letter ⌝ }
+// Those of `pack`: "-l", "-w", "-n#", "-s#", "-f", "-r".
+fn pack_letter(letter: u8) -> Argument
+    ensures { λ r. ⌜ r ≡ packLetter letter ⌝ }
 {
-    if tool == PACK {
-        if letter == b'f' {
-            return 1;
-        }
-        if letter == b'r' {
-            return 2;
-        }
-        return 0;
+    match letter {
+        b'l' => Argument::Form(Form::Linear),
+        b'w' => Argument::Form(Form::Wave),
+        b'n' => Argument::Waits(Count::Length),
+        b's' => Argument::Waits(Count::Set),
+        b'f' => Argument::Flag(Flag::Fill),
+        b'r' => Argument::Flag(Flag::Records),
+        _ => Argument::Unknown,
     }
-    if tool != UNPACK {
-        return 0;
-    }
-    if letter == b'v' {
-        return 3;
-    }
-    if letter == b'g' {
-        return 4;
-    }
-    0
 }
 
-// An option of one letter, or one whose word is the next argument.
-fn letter_option(tool: u32, letter: u8) -> Argument
+// Those of `why`: "-s#", "-n#", "-k#". It reads raw sound alone.
+fn why_letter(letter: u8) -> Argument
+    ensures { λ r. ⌜ r ≡ whyLetter letter ⌝ }
+{
+    match letter {
+        b's' => Argument::Waits(Count::Set),
+        b'n' => Argument::Waits(Count::Length),
+        b'k' => Argument::Waits(Count::Frame),
+        _ => Argument::Unknown,
+    }
+}
+
+// That of `mend`: "-t#".
+fn mend_letter(letter: u8) -> Argument
+    ensures { λ r. ⌜ r ≡ mendLetter letter ⌝ }
+{
+    if letter == b't' {
+        return Argument::Waits(Count::Total);
+    }
+    Argument::Unknown
+}
+
+// An option of one letter, or one whose word is the next argument: "-u", "-a", and those of the tool.
+fn letter_option(tool: Tool, letter: u8) -> Argument
     ensures { λ r. ⌜ r ≡ letterOf tool letter ⌝ }
 {
     if letter == b'u' {
@@ -173,37 +247,35 @@ fn letter_option(tool: u32, letter: u8) -> Argument
     if letter == b'a' {
         return Argument::Law(0);
     }
-    if letter == b'l' {
-        return form_option(tool, 1);
+    match tool {
+        Tool::Unpack => unpack_letter(letter),
+        Tool::Pack => pack_letter(letter),
+        Tool::Why => why_letter(letter),
+        Tool::Mend => mend_letter(letter),
     }
-    if letter == b'w' {
-        return form_option(tool, 2);
-    }
-    let flag = flag_by(tool, letter);
-    if flag != 0 {
-        return Argument::Flag(flag);
-    }
-    let wanted = wanted_by(tool, letter);
-    if wanted == 0 {
-        return Argument::Unknown;
-    }
-    Argument::Waits(wanted)
 }
 
-// An option with its number.
-fn numbered_option(tool: u32, letter: u8, rest: &[u8]) -> Argument
-    ensures { λ r. ⌜ r ≡ numberedOf tool letter (now (rest .entry)) ⌝ }
+// An option with its number: one that waits for a number.
+fn numbered_option(option: Argument, rest: &[u8]) -> Argument
+    ensures { λ r. ⌜ r ≡ numberedBy option (now (rest .entry)) ⌝ }
 {
-    let wanted = wanted_by(tool, letter);
-    if wanted < 2 {
-        return Argument::Unknown;
+    match option {
+        Argument::Waits(which) => {
+            let n = number_in(rest);
+            Argument::Counts(which, n)
+        }
+        Argument::File => Argument::Unknown,
+        Argument::Law(_) => Argument::Unknown,
+        Argument::Form(_) => Argument::Unknown,
+        Argument::Flag(_) => Argument::Unknown,
+        Argument::Master => Argument::Unknown,
+        Argument::Counts(_, _) => Argument::Unknown,
+        Argument::Unknown => Argument::Unknown,
     }
-    let n = number_in(rest);
-    Argument::Counts(wanted, n)
 }
 
 // What an argument is; "-" alone is a file, and so is what has no '-' in front; an empty one is nothing that is known.
-pub fn argument_in(tool: u32, text: &[u8]) -> Argument
+pub fn argument_in(tool: Tool, text: &[u8]) -> Argument
     ensures { λ r. ⌜ r ≡ argumentOf tool (now (text .entry)) ⌝ }
 {
     if text.len() == 0 {
@@ -215,72 +287,57 @@ pub fn argument_in(tool: u32, text: &[u8]) -> Argument
     if text[0] != b'-' {
         return Argument::File;
     }
+    let option = letter_option(tool, text[1]);
     if text.len() == 2 {
-        return letter_option(tool, text[1]);
+        return option;
     }
-    numbered_option(tool, text[1], &text[2..])
+    numbered_option(option, &text[2..])
 }
 
 // The first file is INFILE, the second OUTFILE, which `why` does not have, and there is no third.
-fn with_file(mut s: Settings, index: usize) -> Settings
+fn with_file(mut s: Settings, index: usize) -> Words
     ensures { λ r. ⌜ r ≡ withFile s index ⌝ }
 {
     if s.infile == 0 {
         s.infile = index;
-        return s;
+        return onward(s);
     }
-    if s.tool == WHY {
-        return with_wrong(s, 3, index);
+    let tool = s.tool;
+    if !has_outfile(tool) {
+        return wrongly(s, Wrong::ManyFiles, index);
     }
     if s.outfile == 0 {
         s.outfile = index;
-        return s;
+        return onward(s);
     }
-    with_wrong(s, 3, index)
-}
-
-// The number of "-n", "-k" or "-s".
-fn with_number(mut s: Settings, which: u32, n: Number, index: usize) -> Settings
-    ensures { λ r. ⌜ r ≡ withNumber s which n index ⌝ }
-{
-    let Number::Is(v) = n else {
-        return with_wrong(s, 2, index);
-    };
-    s.wants = 0;
-    if which == 2 {
-        s.length = v;
-        return s;
-    }
-    if which == 4 {
-        s.only = true;
-        s.frame = v;
-        return s;
-    }
-    s.set = v;
-    s
+    wrongly(s, Wrong::ManyFiles, index)
 }
 
 // One of the flags is said.
-fn raised(mut f: Flags, which: u32) -> Flags
+fn raised(mut f: Flags, which: Flag) -> Flags
     ensures { λ r. ⌜ r ≡ raised f which ⌝ }
 {
-    if which == 1 {
-        f.fill = true;
-        return f;
+    match which {
+        Flag::Fill => {
+            f.fill = true;
+            f
+        }
+        Flag::Records => {
+            f.records = true;
+            f
+        }
+        Flag::Lists => {
+            f.lists = true;
+            f
+        }
+        Flag::On => {
+            f.on = true;
+            f
+        }
     }
-    if which == 2 {
-        f.records = true;
-        return f;
-    }
-    if which == 3 {
-        f.lists = true;
-        return f;
-    }
-    f.on = true;
-    f
 }
 
-fn with_flag(mut s: Settings, which: u32) -> Settings
+fn with_flag(mut s: Settings, which: Flag) -> Settings
     ensures { λ r. ⌜ r ≡ withFlag s which ⌝ }
 {
     let f = raised(s.flags, which);
@@ -288,68 +345,188 @@ fn with_flag(mut s: Settings, which: u32) -> Settings
     s
 }
 
-fn with_argument(mut s: Settings, a: Argument, index: usize) -> Settings
+// "-u", "-a".
+fn with_law(s: Settings, law: u32) -> Settings
+    ensures { λ r. ⌜ r ≡ withLaw s law ⌝ }
+{
+    let tool = s.tool;
+    let form = s.form;
+    let flags = s.flags;
+    Settings {
+        tool,
+        law: Law::Known(law),
+        form,
+        flags,
+        length: s.length,
+        set: s.set,
+        only: s.only,
+        frame: s.frame,
+        known: s.known,
+        total: s.total,
+        infile: s.infile,
+        outfile: s.outfile,
+        master: s.master,
+    }
+}
+
+// "-l", "-w".
+fn with_form(s: Settings, form: Form) -> Settings
+    ensures { λ r. ⌜ r ≡ withForm s form ⌝ }
+{
+    let tool = s.tool;
+    let law = s.law;
+    let flags = s.flags;
+    Settings {
+        tool,
+        law,
+        form,
+        flags,
+        length: s.length,
+        set: s.set,
+        only: s.only,
+        frame: s.frame,
+        known: s.known,
+        total: s.total,
+        infile: s.infile,
+        outfile: s.outfile,
+        master: s.master,
+    }
+}
+
+// "-n#", "-s#", "-k#", "-t#".
+fn counted(mut s: Settings, which: Count, v: u32) -> Settings
+    ensures { λ r. ⌜ r ≡ counted s which v ⌝ }
+{
+    match which {
+        Count::Length => {
+            s.length = v;
+            s
+        }
+        Count::Set => {
+            s.set = v;
+            s
+        }
+        Count::Frame => {
+            s.only = true;
+            s.frame = v;
+            s
+        }
+        Count::Total => {
+            s.known = true;
+            s.total = v;
+            s
+        }
+    }
+}
+
+// An option's number.
+fn with_number(s: Settings, which: Count, n: Number, index: usize) -> Words
+    ensures { λ r. ⌜ r ≡ withNumber s which n index ⌝ }
+{
+    match n {
+        Number::Is(v) => {
+            let said = counted(s, which, v);
+            onward(said)
+        }
+        Number::Not => wrongly(s, Wrong::NoNumber, index),
+    }
+}
+
+// "-c MASTER".
+fn with_master(mut s: Settings, index: usize) -> Words
+    ensures { λ r. ⌜ r ≡ withMaster s index ⌝ }
+{
+    s.master = index;
+    onward(s)
+}
+
+fn with_argument(s: Settings, a: Argument, index: usize) -> Words
     ensures { λ r. ⌜ r ≡ withArgument s a index ⌝ }
 {
     match a {
         Argument::File => with_file(s, index),
         Argument::Law(law) => {
-            s.law = law;
-            s
+            let said = with_law(s, law);
+            onward(said)
         }
-        Argument::Flag(flag) => with_flag(s, flag),
-        Argument::Waits(wanted) => {
-            s.wants = wanted;
-            s
-        }
-        Argument::Counts(which, n) => with_number(s, which, n, index),
         Argument::Form(form) => {
-            s.form = form;
-            s
+            let said = with_form(s, form);
+            onward(said)
         }
-        Argument::Unknown => with_wrong(s, 1, index),
+        Argument::Flag(flag) => {
+            let said = with_flag(s, flag);
+            onward(said)
+        }
+        Argument::Waits(which) => Words {
+            said: s,
+            state: State::Counts(which),
+        },
+        Argument::Master => Words {
+            said: s,
+            state: State::Master,
+        },
+        Argument::Counts(which, n) => with_number(s, which, n, index),
+        Argument::Unknown => wrongly(s, Wrong::Unknown, index),
     }
 }
 
 // The settings after argument `index`; what is wrong once stays so.
-pub fn step(mut s: Settings, text: &[u8], index: usize) -> Settings
-    ensures { λ r. ⌜ r ≡ stepOf s (now (text .entry)) index ⌝ }
+pub fn step(w: Words, text: &[u8], index: usize) -> Words
+    ensures { λ r. ⌜ r ≡ stepOf w (now (text .entry)) index ⌝ }
 {
-    if s.wrong != 0 {
-        return s;
+    let said = w.said;
+    let state = w.state;
+    match state {
+        State::Ready => {
+            let tool = said.tool;
+            let a = argument_in(tool, text);
+            with_argument(said, a, index)
+        }
+        State::Counts(which) => {
+            let n = number_in(text);
+            with_number(said, which, n, index)
+        }
+        State::Master => with_master(said, index),
+        State::Wrong(_, _) => w,
     }
-    if s.wants == 0 {
-        let a = argument_in(s.tool, text);
-        return with_argument(s, a, index);
+}
+
+// The settings after an argument that is too long.
+pub fn too_long(w: Words, index: usize) -> Words {
+    let said = w.said;
+    let state = w.state;
+    match state {
+        State::Ready => wrongly(said, Wrong::TooLong, index),
+        State::Counts(_) => wrongly(said, Wrong::TooLong, index),
+        State::Master => wrongly(said, Wrong::TooLong, index),
+        State::Wrong(_, _) => w,
     }
-    if s.wants == 1 {
-        s.master = index;
-        s.wants = 0;
-        return s;
-    }
-    let n = number_in(text);
-    with_number(s, s.wants, n, index)
 }
 
 // The settings after the last argument.
-pub fn at_end(s: Settings, last: usize) -> Settings
-    ensures { λ r. ⌜ r ≡ endOf s last ⌝ }
+pub fn at_end(w: Words, last: usize) -> Words
+    ensures { λ r. ⌜ r ≡ endOf w last ⌝ }
 {
-    if s.wrong != 0 {
-        return s;
+    let said = w.said;
+    let state = w.state;
+    match state {
+        State::Ready => w,
+        State::Counts(_) => wrongly(said, Wrong::Missing, last),
+        State::Master => wrongly(said, Wrong::Missing, last),
+        State::Wrong(_, _) => w,
     }
-    if s.wants == 0 {
-        return s;
-    }
-    with_wrong(s, 4, last)
 }
 
-// The law: as an option says, otherwise as INFILE's name tells; 2 where neither does.
-pub fn law_of(s: Settings, name: &[u8]) -> u32
+// The law: as an option says, otherwise as INFILE's name tells.
+pub fn law_of(s: Settings, name: &[u8]) -> Law
     ensures { λ r. ⌜ r ≡ lawOf s (now (name .entry)) ⌝ }
 {
-    if s.law == 2 {
-        return law_told(s.tool != UNPACK, name);
+    let law = s.law;
+    match law {
+        Law::Known(_) => law,
+        Law::Unknown => {
+            let tool = s.tool;
+            law_told(reads_sound(tool), name)
+        }
     }
-    s.law
 }

@@ -1,256 +1,65 @@
-// The bench tool `unpack`: a stream, or a recording, back to sound, or, with a master, the sound compared with it. What a part of a stream
-// or of a recording holds stands in crate `tool_playback`, what the arguments mean in `tool_words`, what is said in `tool_console`.
+// The bench tool `unpack`: a stream, or a recording, back to sound, or, with a master, the sound compared with it. What a file's items and
+// their sound are stands in crate `tool_playback`, what the arguments mean in `tool_words`, what is said in `tool_console`.
 ghost use mathlib.Core.Path.{_≡_};
 ghost use mathlib.Core.Bool.{false};
-ghost use Prim.Native.Nat.{_*_, _^_, _≤_, _<_};
+ghost use Prim.Native.Nat.{_^_, _≤_, _<_};
 ghost use lib.ListN.{length};
 ghost use Rattle.rules.specs.declared.Ending.the-variants.{Done};
 ghost use Rattle.rules.specs.Walk.{longest};
 ghost use Rattle.recording.specs.Remembered.{headingLength};
-ghost use Rattle.tool_playback.specs.Runs.{Reachable};
-ghost use Rattle.tool_sound.specs.Uses.{UsesUpTo};
-ghost use Rattle.unpack.specs.Runs.{NextSound, TellsWalk, Allowed, TellsOne};
+ghost use Rattle.tool_playback.specs.Runs.{Reachable, Lawful, Within};
 use recording::marking::HEADING;
 use rules::Ending;
 use tool_console::Source;
-use tool_playback::replaying::Body;
-use tool_playback::replaying::Kind;
-use tool_playback::replaying::UNREAD;
-use tool_playback::replaying::WINDOW;
-use tool_playback::unpacking::Part;
-use tool_sound::sounds::FAILED;
-use tool_sound::sounds::NOTHING;
-use tool_sound::sounds::Used;
+use tool_playback::kinds::Kind;
+use tool_playback::parts::Reading;
+use tool_playback::playing::Body;
+use tool_playback::playing::Total;
+use tool_playback::playing::play_file;
+use tool_playback::telling::Tells;
+use tool_sound::sounds::Trouble;
 use tool_sound::sounds::Way;
+use tool_words::filenames::Law;
 use tool_words::options::Flags;
+use tool_words::options::Form;
 use tool_words::options::Settings;
-use tool_words::options::UNPACK;
-
-// What came of a stream: how it ended and where, the refusal's bit, the frames, the samples that are well, and what is wrong.
-struct Total {
-    end: Ending,
-    at: usize,
-    bit: usize,
-    frames: usize,
-    samples: usize,
-    wrong: u32,
-}
-
-// What came of a file, a stream or a recording: the number, tool and bit of its end, the place of that, the file's octets up to there, the
-// frames, the losses, the samples that are well, and what is wrong.
-struct Outcome {
-    records: bool,
-    number: u32,
-    tool: u32,
-    bit: usize,
-    at: usize,
-    octets: usize,
-    frames: usize,
-    lost: usize,
-    samples: usize,
-    wrong: u32,
-}
-
-// The sound of a part, written or compared. It is the part of `stream` at `at`, by a law and a set; the set stands here for the contract alone.
-fn use_part(
-    stream: &[u8],
-    law: u32,
-    set: u32,
-    at: usize,
-    p: Part,
-    way: Way,
-    page: &[u8],
-    master: &mut [u8],
-) -> Used
-    requires { ⌜ (NextSound (now stream) law set at (now page) p) × (p .samples ≤ length (now page)) × (length (now page) ≤ length (now master)) ⌝ }
-    ensures { λ r. ⌜ UsesUpTo (p .samples) r ⌝ }
-{
-    let n = p.samples;
-    tool_sound::sounds::use_sound(way, law, &page[..n], master)
-}
-
-// Part after part, page by page.
-fn parts(stream: &[u8], law: u32, set: u32, way: Way, page: &mut [u8], master: &mut [u8]) -> Total
-    requires { ⌜ (length (now stream) ≤ longest) × (320 ≤ length (now page)) × (length (now page) ≤ length (now master)) ⌝ }
-    ensures { λ r. ⌜ (r .wrong ≡ 0 → TellsWalk (now (stream .entry)) law set r) ⌝ }
-    ensures within { λ r. ⌜ (r .at ≤ length (now (stream .entry))) × (r .frames ≤ length (now (stream .entry))) × (r .samples ≤ 320 * r .frames) ⌝ }
-{
-    let mut at = 0;
-    let mut frames = 0;
-    let mut samples = 0;
-    loop {
-        let p = tool_playback::unpacking::next_part(stream, law, set, at, page);
-        let u = use_part(stream, law, set, at, p, way, page, master);
-        let end = p.end;
-        frames += p.frames;
-        samples += u.good;
-        let total = Total {
-            end,
-            at: p.at,
-            bit: p.bit,
-            frames,
-            samples,
-            wrong: u.wrong,
-        };
-        if u.wrong != NOTHING {
-            return total;
-        }
-        if !p.more {
-            return total;
-        }
-        at = p.at;
-    }
-}
-
-// A stream that can't be read further.
-fn unread(at: usize, frames: usize, samples: usize) -> Total
-    ensures { λ r. ⌜ r .wrong ≡ 9 ⌝ }
-{
-    Total {
-        end: Ending::Done,
-        at,
-        bit: 0,
-        frames,
-        samples,
-        wrong: UNREAD,
-    }
-}
-
-// A stream, window by window: each begins where a frame does. The frames of a window are used part after part.
-fn windows(
-    b: Body,
-    law: u32,
-    set: u32,
-    way: Way,
-    window: &mut [u8],
-    page: &mut [u8],
-    master: &mut [u8],
-) -> Total
-    requires { ⌜ (Allowed law set (b .size)) × Reachable b × (320 ≤ length (now page)) × (length (now page) ≤ length (now master)) ⌝ }
-    ensures { λ r. ⌜ (r .wrong ≡ 0 → TellsOne law set r) ⌝ }
-{
-    let mut at = 0;
-    let mut frames = 0;
-    let mut samples = 0;
-    loop {
-        let got = tool_playback::replaying::window_at(b, at, window);
-        if got.failed {
-            return unread(at, frames, samples);
-        }
-        let n = got.count;
-        let t = parts(&window[..n], law, set, way, page, master);
-        let end = t.end;
-        let total = Total {
-            end,
-            at: at + t.at,
-            bit: t.bit,
-            frames: frames + t.frames,
-            samples: samples + t.samples,
-            wrong: t.wrong,
-        };
-        if t.wrong != NOTHING {
-            return total;
-        }
-        if !tool_playback::replaying::goes_further(
-            rules::number_of(end),
-            n,
-            window.len(),
-            b.size - at,
-        ) {
-            return total;
-        }
-        if t.at == 0 {
-            return unread(at, frames, samples);
-        }
-        at = total.at;
-        frames = total.frames;
-        samples = total.samples;
-    }
-}
-
-// A window has room for more frames than a part has. The second page is for the master.
-fn all_parts(b: Body, law: u32, set: u32, way: Way) -> Total
-    requires { ⌜ (Allowed law set (b .size)) × Reachable b ⌝ }
-    ensures { λ r. ⌜ (r .wrong ≡ 0 → TellsOne law set r) ⌝ }
-{
-    let mut window = [0u8; WINDOW];
-    let mut page = [0u8; 61440];
-    let mut master = [0u8; 61440];
-    windows(b, law, set, way, &mut window, &mut page, &mut master)
-}
-
-// A stream's totals as what came of it.
-fn of_stream(t: Total) -> Outcome {
-    let end = t.end;
-    Outcome {
-        records: false,
-        number: rules::number_of(end),
-        tool: rules::tool_of(end),
-        bit: t.bit,
-        at: t.at,
-        octets: t.at,
-        frames: t.frames,
-        lost: 0,
-        samples: t.samples,
-        wrong: t.wrong,
-    }
-}
-
-// A recording's: its frames are the items that are no losses, and its octets count the heading.
-fn of_recording(t: tool_playback::replaying::Total) -> Outcome
-    requires { ⌜ (t .lost ≤ t .items) × (t .at ≤ longest) ⌝ }
-{
-    let end = t.end;
-    Outcome {
-        records: true,
-        number: recording::number_of(end),
-        tool: recording::tool_of(end),
-        bit: t.bit,
-        at: t.at,
-        octets: t.at + HEADING,
-        frames: t.items - t.lost,
-        lost: t.lost,
-        samples: t.samples,
-        wrong: t.wrong,
-    }
-}
-
-// What came of the octets of a file's frames, by a law, written or compared.
-fn came_of(b: Body, law: u32, set: u32, records: bool, way: Way, tells: u32) -> Outcome
-    requires { ⌜ (Allowed law set (b .size)) × Reachable b ⌝ }
-{
-    if records {
-        let t = tool_playback::replaying::play_file(b, law, set, way, tells);
-        return of_recording(t);
-    }
-    let t = all_parts(b, law, set, way);
-    of_stream(t)
-}
+use tool_words::options::Tool;
 
 // Losses end a run with a status of their own, unless it is to go on.
-fn stop_well(o: Outcome, on: bool) {
-    if o.lost == 0 || on {
-        tool_console::stop(UNPACK, 0, o.at, 0, 0);
+fn stop_well(t: Total, on: bool) {
+    if t.lost == 0 || on {
+        tool_console::stop(Tool::Unpack, 0, t.at, 0, 0);
         return;
     }
     tool_console::say(
         b"unpack: the recording has losses, so this is not all of its sound; -g goes on all the same\n",
     );
-    tool_console::stop(UNPACK, 66, o.at, 0, 0);
+    tool_console::stop(Tool::Unpack, 66, t.at, 0, 0);
+}
+
+// What was done: the frames are the items that are no losses, and a recording's octets count the heading.
+fn say_done(t: Total, records: bool)
+    requires { ⌜ Within longest t ⌝ }
+{
+    if records {
+        tool_console::summary_of_recording(t.items - t.lost, t.samples, t.at + HEADING, t.lost);
+    } else {
+        tool_console::summary(t.items - t.lost, t.samples, t.at);
+    }
 }
 
 // The last lines of a run in which nothing is wrong with the files: what was done, and the refusal if there is one.
-fn finish(o: Outcome, on: bool) {
-    if o.records {
-        tool_console::summary_of_recording(o.frames, o.samples, o.octets, o.lost);
-    } else {
-        tool_console::summary(o.frames, o.samples, o.octets);
-    }
-    if o.number != 0 {
-        tool_console::refused(UNPACK, o.number, o.at, o.tool, o.bit);
+fn finish(t: Total, records: bool, on: bool)
+    requires { ⌜ Within longest t ⌝ }
+{
+    say_done(t, records);
+    let end = t.end;
+    let number = recording::number_of(end);
+    if number != 0 {
+        tool_console::refused(Tool::Unpack, number, t.at, recording::tool_of(end), t.bit);
         return;
     }
-    stop_well(o, on);
+    stop_well(t, on);
 }
 
 // Opens the file, and finds out how many octets it has; says what failed.
@@ -259,7 +68,7 @@ fn open_file(name: &[u8], part: &mut [u8]) -> Source
 {
     let fd = tool_console::open_in(name);
     if fd < 0 {
-        tool_console::failed(UNPACK, name, b"standard input");
+        tool_console::failed(Tool::Unpack, name, b"standard input");
         return Source {
             fd,
             size: 0,
@@ -268,127 +77,127 @@ fn open_file(name: &[u8], part: &mut [u8]) -> Source
     }
     let source = tool_console::source_of(fd, rules::LONGEST + HEADING, part);
     if source.failed {
-        tool_console::failed(UNPACK, name, b"standard input");
+        tool_console::failed(Tool::Unpack, name, b"standard input");
     }
     source
 }
 
 // A WAV file tells before its sound how long it is: the frames are read once for that.
-fn heading_written(b: Body, law: u32, set: u32, records: bool, way: Way) -> bool
-    requires { ⌜ (Allowed law set (b .size)) × Reachable b ⌝ }
+fn wave_heading(b: Body, how: Reading, fd: i32) -> bool
+    requires { ⌜ Reachable b × Lawful how ⌝ }
 {
-    if way.form != 2 {
+    let t = play_file(b, how, Way::Counted, Tells::Nothing);
+    let wrong = t.wrong;
+    if !tool_sound::sounds::is_well(wrong) {
         return true;
     }
-    let counted = Way {
-        compares: false,
-        fd: way.fd,
-        form: tool_sound::sounds::COUNTED,
-    };
-    let o = came_of(
-        b,
-        law,
-        set,
-        records,
-        counted,
-        tool_playback::replaying::TELLS_NOTHING,
-    );
-    if o.wrong != NOTHING {
-        return true;
-    }
-    tool_sound::sounds::write_heading(way.fd, o.samples)
+    tool_sound::sounds::write_heading(fd, t.samples)
 }
 
-// What is told of a recording's items.
-fn tells_of(f: Flags) -> u32 {
-    if f.lists {
-        return tool_playback::replaying::TELLS_ALL;
+// What stands before the sound in its form.
+fn heading_written(b: Body, how: Reading, form: Form, fd: i32) -> bool
+    requires { ⌜ Reachable b × Lawful how ⌝ }
+{
+    match form {
+        Form::Raw => true,
+        Form::Linear => true,
+        Form::Wave => wave_heading(b, how, fd),
     }
-    tool_playback::replaying::TELLS_LOSSES
+}
+
+// What is told of a recording's items; a stream has no losses.
+fn tells_of(f: Flags) -> Tells {
+    if f.lists {
+        return Tells::All;
+    }
+    Tells::Losses
+}
+
+// What came of writing the sound, and the last lines.
+fn written(t: Total, how: Reading, on: bool, from: &[u8], name: &[u8], fd: i32)
+    requires { ⌜ Within longest t ⌝ }
+{
+    let wrong = t.wrong;
+    match wrong {
+        Trouble::Unread => tool_console::failed(Tool::Unpack, from, b"standard input"),
+        Trouble::Nothing => {
+            if tool_console::close(fd) {
+                finish(t, how.records, on);
+                return;
+            }
+            tool_console::failed(Tool::Unpack, name, b"standard output");
+        }
+        Trouble::Failed => tool_console::failed(Tool::Unpack, name, b"standard output"),
+        Trouble::Master(_) => tool_console::failed(Tool::Unpack, name, b"standard output"),
+    }
 }
 
 // Writes the sound of a file, whose name is `from`, to another.
-fn write_to(b: Body, law: u32, s: Settings, records: bool, from: &[u8], name: &[u8])
-    requires { ⌜ (Allowed law (s .set) (b .size)) × Reachable b ⌝ }
+fn write_to(b: Body, how: Reading, s: Settings, from: &[u8], name: &[u8])
+    requires { ⌜ Reachable b × Lawful how ⌝ }
 {
     let f = s.flags;
     let fd = tool_console::open_out(name);
     if fd < 0 {
-        tool_console::failed(UNPACK, name, b"standard output");
+        tool_console::failed(Tool::Unpack, name, b"standard output");
         return;
     }
-    let way = Way {
-        compares: false,
-        fd,
-        form: s.form,
-    };
-    if !heading_written(b, law, s.set, records, way) {
-        tool_console::failed(UNPACK, name, b"standard output");
+    let form = s.form;
+    if !heading_written(b, how, form, fd) {
+        tool_console::failed(Tool::Unpack, name, b"standard output");
         return;
     }
-    let o = came_of(b, law, s.set, records, way, tells_of(f));
-    if o.wrong == UNREAD {
-        tool_console::failed(UNPACK, from, b"standard input");
-        return;
+    let tells = tells_of(f);
+    let t = play_file(b, how, Way::Written(fd, form), tells);
+    written(t, how, f.on, from, name, fd);
+}
+
+// What a master has left over once all of the sound agrees.
+fn conclude(t: Total, records: bool, on: bool, fd: i32, name: &[u8])
+    requires { ⌜ Within longest t ⌝ }
+{
+    let wrong = tool_sound::sounds::left_over(fd);
+    match wrong {
+        Trouble::Nothing => finish(t, records, on),
+        Trouble::Master(how) => tool_sound::sounds::differs(how, t.samples),
+        Trouble::Failed => tool_console::failed(Tool::Unpack, name, b"standard input"),
+        Trouble::Unread => tool_console::failed(Tool::Unpack, name, b"standard input"),
     }
-    if o.wrong != NOTHING {
-        tool_console::failed(UNPACK, name, b"standard output");
-        return;
-    }
-    if !tool_console::close(fd) {
-        tool_console::failed(UNPACK, name, b"standard output");
-        return;
-    }
-    finish(o, f.on);
 }
 
 // What a comparison came to. A frame that is refused comes before what a master has left over.
-fn conclude(o: Outcome, on: bool, fd: i32, name: &[u8]) {
-    if o.wrong == FAILED {
-        tool_console::failed(UNPACK, name, b"standard input");
-        return;
+fn compared(t: Total, how: Reading, on: bool, from: &[u8], name: &[u8], fd: i32)
+    requires { ⌜ Within longest t ⌝ }
+{
+    let wrong = t.wrong;
+    match wrong {
+        Trouble::Unread => tool_console::failed(Tool::Unpack, from, b"standard input"),
+        Trouble::Failed => tool_console::failed(Tool::Unpack, name, b"standard input"),
+        Trouble::Master(how) => tool_sound::sounds::differs(how, t.samples),
+        Trouble::Nothing => {
+            let end = t.end;
+            if recording::number_of(end) != 0 {
+                finish(t, how.records, on);
+                return;
+            }
+            conclude(t, how.records, on, fd, name);
+        }
     }
-    if o.wrong != NOTHING {
-        tool_sound::sounds::differs(o.wrong, o.samples);
-        return;
-    }
-    if o.number != 0 {
-        finish(o, on);
-        return;
-    }
-    let wrong = tool_sound::sounds::left_over(fd);
-    if wrong == FAILED {
-        tool_console::failed(UNPACK, name, b"standard input");
-        return;
-    }
-    if wrong != NOTHING {
-        tool_sound::sounds::differs(wrong, o.samples);
-        return;
-    }
-    finish(o, on);
 }
 
 // Compares the sound of a file, whose name is `from`, with a master.
-fn compare_with(b: Body, law: u32, s: Settings, records: bool, from: &[u8], name: &[u8])
-    requires { ⌜ (Allowed law (s .set) (b .size)) × Reachable b ⌝ }
+fn compare_with(b: Body, how: Reading, s: Settings, from: &[u8], name: &[u8])
+    requires { ⌜ Reachable b × Lawful how ⌝ }
 {
     let f = s.flags;
     let fd = tool_console::open_in(name);
     if fd < 0 {
-        tool_console::failed(UNPACK, name, b"standard input");
+        tool_console::failed(Tool::Unpack, name, b"standard input");
         return;
     }
-    let way = Way {
-        compares: true,
-        fd,
-        form: 0,
-    };
-    let o = came_of(b, law, s.set, records, way, tells_of(f));
-    if o.wrong == UNREAD {
-        tool_console::failed(UNPACK, from, b"standard input");
-        return;
-    }
-    conclude(o, f.on, fd, name);
+    let tells = tells_of(f);
+    let t = play_file(b, how, Way::Compared(fd), tells);
+    compared(t, how, f.on, from, name, fd);
 }
 
 // LAW, SET and LONG are told before any frame is read.
@@ -397,41 +206,41 @@ fn refuses(end: Ending) -> bool
 {
     match end {
         Ending::Refused(why) => {
-            tool_console::refused(UNPACK, rules::refusal_number(why), 0, 0, 0);
+            tool_console::refused(Tool::Unpack, rules::refusal_number(why), 0, 0, 0);
             true
         }
         Ending::Done => false,
     }
 }
 
-// The octets of a file's frames, by their law, to the other file: OUTFILE or the master. `name` is INFILE.
-fn to_other(b: Body, law: u32, s: Settings, records: bool, name: &[u8])
-    requires { ⌜ (Allowed law (s .set) (b .size)) × Reachable b ⌝ }
+// The octets of a file's frames to the other file: OUTFILE or the master. `name` is INFILE.
+fn to_other(b: Body, how: Reading, s: Settings, name: &[u8])
+    requires { ⌜ Reachable b × Lawful how ⌝ }
 {
     let mut space = [0u8; 4095];
     if s.master != 0 {
         let n = tool_console::file_name(s.master, &mut space);
-        compare_with(b, law, s, records, name, &space[..n]);
+        compare_with(b, how, s, name, &space[..n]);
         return;
     }
-    let target = tool_console::target_name(s, law, name, &mut space);
+    let target = tool_console::target_name(s, how.law, name, &mut space);
     let n = target.len;
     if !target.fits {
-        tool_console::usage(UNPACK, b"OUTFILE's name would be too long");
+        tool_console::usage(Tool::Unpack, b"OUTFILE's name would be too long");
         return;
     }
-    write_to(b, law, s, records, name, &space[..n]);
+    write_to(b, how, s, name, &space[..n]);
 }
 
 // The octets of a file's frames are judged before any of them is read.
-fn with_frames(b: Body, law: u32, s: Settings, records: bool, name: &[u8])
+fn with_frames(b: Body, how: Reading, s: Settings, name: &[u8])
     requires { ⌜ b .skip ≤ headingLength ⌝ }
 {
-    let e = rules::guard_stream(law, s.set, b.size);
+    let e = rules::guard_stream(how.law, how.set, b.size);
     if refuses(e) {
         return;
     }
-    to_other(b, law, s, records, name);
+    to_other(b, how, s, name);
 }
 
 // A stream: an option or INFILE's ending tells its law.
@@ -439,25 +248,39 @@ fn with_stream(s: Settings, name: &[u8], fd: i32, size: usize) {
     let f = s.flags;
     if f.lists {
         tool_console::usage(
-            UNPACK,
+            Tool::Unpack,
             b"-v lists a recording's items, and this is a stream: listing lists its frames",
         );
         return;
     }
-    let law = tool_words::options::law_of(s, name);
-    if law == 2 {
-        tool_console::usage(UNPACK, b"the law is not known: say -u or -a");
-        return;
+    match tool_words::options::law_of(s, name) {
+        Law::Unknown => tool_console::usage(Tool::Unpack, b"the law is not known: say -u or -a"),
+        Law::Known(law) => {
+            let how = Reading {
+                law,
+                set: s.set,
+                records: false,
+            };
+            with_frames(Body { fd, skip: 0, size }, how, s, name);
+        }
     }
-    with_frames(Body { fd, skip: 0, size }, law, s, false, name);
+}
+
+// Whether an option says another law than the heading.
+fn says_other(said: Law, law: u32) -> bool {
+    match said {
+        Law::Known(other) => other != law,
+        Law::Unknown => false,
+    }
 }
 
 // A recording: its heading tells the law, and an option may not say another. LONG counts from the heading's end.
 fn with_recording(s: Settings, law: u32, name: &[u8], fd: i32, size: usize)
     requires { ⌜ headingLength ≤ size ⌝ }
 {
-    if s.law != 2 && s.law != law {
-        tool_console::usage(UNPACK, b"the recording's heading says the other law");
+    let said = s.law;
+    if says_other(said, law) {
+        tool_console::usage(Tool::Unpack, b"the recording's heading says the other law");
         return;
     }
     let body = Body {
@@ -465,18 +288,23 @@ fn with_recording(s: Settings, law: u32, name: &[u8], fd: i32, size: usize)
         skip: HEADING,
         size: size - HEADING,
     };
-    with_frames(body, law, s, true, name);
+    let how = Reading {
+        law,
+        set: s.set,
+        records: true,
+    };
+    with_frames(body, how, s, name);
 }
 
 // What begins as a recording and has no heading.
 fn headless() {
     tool_console::say(b"unpack: a recording's heading is cut, or of another law or version\n");
-    tool_console::refused(UNPACK, 14, 0, 0, 0);
+    tool_console::refused(Tool::Unpack, 14, 0, 0, 0);
 }
 
 // What the file is says what is done with it; its first octets tell.
 fn with_file(s: Settings, name: &[u8], fd: i32, size: usize, first: &[u8]) {
-    match tool_playback::replaying::kind_of(first) {
+    match tool_playback::kinds::kind_of(first) {
         Kind::Stream => with_stream(s, name, fd, size),
         Kind::Recording(law) => {
             if size < HEADING {
@@ -494,7 +322,7 @@ fn begin(s: Settings, name: &[u8], fd: i32, size: usize) {
     let mut first = [0u8; 64];
     let got = tool_console::read_at(fd, 0, &mut first);
     if got.failed {
-        tool_console::failed(UNPACK, name, b"standard input");
+        tool_console::failed(Tool::Unpack, name, b"standard input");
         return;
     }
     let n = got.count;
@@ -515,20 +343,29 @@ fn run(s: Settings, name: &[u8]) {
     begin(s, name, source.fd, source.size);
 }
 
+fn is_raw(form: Form) -> bool {
+    match form {
+        Form::Raw => true,
+        Form::Linear => false,
+        Form::Wave => false,
+    }
+}
+
 // Whether -l or -w can't be met: a master that is compared is raw G.711, and no ending is known for another form.
 fn wrong_form(s: Settings, name: &[u8]) -> bool {
-    if s.form == 0 {
+    let form = s.form;
+    if is_raw(form) {
         return false;
     }
     if s.master != 0 {
         tool_console::usage(
-            UNPACK,
+            Tool::Unpack,
             b"-c compares raw G.711, so -l and -w don't go with it",
         );
         return true;
     }
     if s.outfile == 0 && name.len() != 0 {
-        tool_console::usage(UNPACK, b"with -l or -w OUTFILE must be said");
+        tool_console::usage(Tool::Unpack, b"with -l or -w OUTFILE must be said");
         return true;
     }
     false
@@ -545,19 +382,17 @@ fn wrong_master(s: Settings, name: &[u8]) -> bool {
     let mut space = [0u8; 4095];
     let n = tool_console::file_name(s.master, &mut space);
     if name.len() == 0 && n == 0 {
-        tool_console::usage(UNPACK, b"INFILE and MASTER can't both be standard input");
+        tool_console::usage(
+            Tool::Unpack,
+            b"INFILE and MASTER can't both be standard input",
+        );
         return true;
     }
     false
 }
 
 // "usage, then SET, .., then files, then the file's own"
-fn main() {
-    let s = tool_console::settings(UNPACK);
-    if s.wrong != 0 {
-        tool_console::wrong_settings(s);
-        return;
-    }
+fn unpack_as(s: Settings) {
     let mut space = [0u8; 4095];
     let n = tool_console::file_name(s.infile, &mut space);
     if wrong_form(s, &space[..n]) {
@@ -567,4 +402,13 @@ fn main() {
         return;
     }
     run(s, &space[..n]);
+}
+
+fn main() {
+    let w = tool_console::words(Tool::Unpack);
+    if tool_console::wrongly_said(w) {
+        return;
+    }
+    let s = w.said;
+    unpack_as(s);
 }

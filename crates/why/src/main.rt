@@ -1,6 +1,6 @@
-// The bench tool `why`: raw G.711 octets in; for each frame that `pack` cuts them into, why the writer takes its tool. What matters is in crates
-// `reasoning` and `reasons`: here the sound is read in parts of whole frames, and each frame's lines are written as it comes.
-ghost use Prim.Native.Nat.{_+_, _≤_, _<_};
+// The bench tool `why`: raw G.711 octets in; for each frame that `pack` cuts them into, why the writer takes its tool. What matters is in
+// crates `reasoning` and `reasons`: here the sound is read in parts of whole frames, and each frame's lines are written as it comes.
+ghost use Prim.Native.Nat.{_+_, _≤_};
 ghost use mathlib.Core.Path.{_≡_};
 ghost use lib.ListN.{length};
 ghost use Rattle.text_lines.specs.Puts.{Puts};
@@ -10,15 +10,33 @@ use libc::STDOUT_FILENO;
 use reasons::Reasons;
 use reasons::Why;
 use rules::Ending;
+use tool_words::filenames::Law;
 use tool_words::options::Settings;
+use tool_words::options::Tool;
 
-// How the sound ended so far, its frames and the samples in them, whether more sound may come, and whether a read (1) or a write (2) failed.
+// What can fail on the way: the sound can't be read, or the lines can't be written.
+enum Amiss {
+    Nothing,
+    Unread,
+    Unwritten,
+}
+
+// What is told, and how: by which law, tools and frame length; and of one frame only, or of all.
+struct Job {
+    law: u32,
+    set: u32,
+    length: u32,
+    only: bool,
+    frame: u32,
+}
+
+// How the sound ended so far, its frames and the samples in them, whether more sound may come, and what failed.
 struct Run {
     end: Ending,
     frames: usize,
     samples: usize,
     more: bool,
-    trouble: u32,
+    wrong: Amiss,
 }
 
 // A frame's heading: `frame=K at=P`.
@@ -62,18 +80,18 @@ fn show_frame(frame: &[u8], k: usize, place: usize, law: u32, set: u32) -> bool 
 }
 
 // "`-k#` for one frame only": another one is passed over.
-fn show_wanted(frame: &[u8], k: usize, place: usize, s: Settings) -> bool {
-    if s.only {
-        if k != s.frame as usize {
+fn show_wanted(frame: &[u8], k: usize, place: usize, job: Job) -> bool {
+    if job.only {
+        if k != job.frame as usize {
             return true;
         }
-        return show_frame(frame, k, place, s.law, s.set);
+        return show_frame(frame, k, place, job.law, job.set);
     }
-    show_frame(frame, k, place, s.law, s.set)
+    show_frame(frame, k, place, job.law, job.set)
 }
 
 // Frame after frame of a part, until no length fits or a write fails.
-fn part_frames(part: &[u8], run: Run, s: Settings) -> Run
+fn part_frames(part: &[u8], run: Run, job: Job) -> Run
     requires { ⌜ (length (now part) ≤ partSize) × (run .frames ≤ mostSound) × (run .samples ≤ mostSound) ⌝ }
     ensures frames { λ r. ⌜ r .frames ≤ run .frames + length (now (part .entry)) ⌝ }
     ensures samples { λ r. ⌜ r .samples ≤ run .samples + length (now (part .entry)) ⌝ }
@@ -82,7 +100,7 @@ fn part_frames(part: &[u8], run: Run, s: Settings) -> Run
     let mut k = run.frames;
     loop {
         let left = part.len() - from;
-        let len = tool_packing::cutting::next_length(s.length as usize, left);
+        let len = tool_packing::cutting::next_length(job.length as usize, left);
         let place = run.samples + from;
         if len == 0 {
             let end = tool_packing::cutting::last_end(left);
@@ -91,17 +109,17 @@ fn part_frames(part: &[u8], run: Run, s: Settings) -> Run
                 frames: k,
                 samples: place,
                 more: tool_packing::cutting::may_go_on(end, part.len()),
-                trouble: 0,
+                wrong: Amiss::Nothing,
             };
         }
         let to = from + len;
-        if !show_wanted(&part[from..to], k, place, s) {
+        if !show_wanted(&part[from..to], k, place, job) {
             return Run {
                 end: Ending::Done,
                 frames: k,
                 samples: place,
                 more: false,
-                trouble: 2,
+                wrong: Amiss::Unwritten,
             };
         }
         from = to;
@@ -110,7 +128,7 @@ fn part_frames(part: &[u8], run: Run, s: Settings) -> Run
 }
 
 // One part read and shown.
-fn next_part(fd: i32, run: Run, s: Settings, part: &mut [u8]) -> Run
+fn next_part(fd: i32, run: Run, job: Job, part: &mut [u8]) -> Run
     requires { ⌜ (length (now part) ≡ partSize) × (run .frames ≤ mostSound) × (run .samples ≤ mostSound) ⌝ }
     ensures frames { λ r. ⌜ r .frames ≤ run .frames + partSize ⌝ }
     ensures samples { λ r. ⌜ r .samples ≤ run .samples + partSize ⌝ }
@@ -122,15 +140,15 @@ fn next_part(fd: i32, run: Run, s: Settings, part: &mut [u8]) -> Run
             frames: run.frames,
             samples: run.samples,
             more: false,
-            trouble: 1,
+            wrong: Amiss::Unread,
         };
     }
     let count = got.count;
-    part_frames(&part[..count], run, s)
+    part_frames(&part[..count], run, job)
 }
 
 // Part after part, until the sound ends, is refused, or can't be read or shown. No file has as many parts as are counted here.
-fn all_parts(fd: i32, s: Settings, part: &mut [u8]) -> Run
+fn all_parts(fd: i32, job: Job, part: &mut [u8]) -> Run
     requires { ⌜ length (now part) ≡ partSize ⌝ }
 {
     let mut run = Run {
@@ -138,11 +156,11 @@ fn all_parts(fd: i32, s: Settings, part: &mut [u8]) -> Run
         frames: 0,
         samples: 0,
         more: true,
-        trouble: 0,
+        wrong: Amiss::Nothing,
     };
     let mut i = 0usize;
     while i < 160000000000000 && run.more {
-        let next = next_part(fd, run, s, part);
+        let next = next_part(fd, run, job, part);
         run = next;
         i += 1;
     }
@@ -150,11 +168,11 @@ fn all_parts(fd: i32, s: Settings, part: &mut [u8]) -> Run
 }
 
 // The number that refuses the settings: LAW, SET, and LENGTH of the frame length; 0 where none does.
-fn settings_number(s: Settings) -> u32 {
-    match reasoning::why_samples(b"", s.law, s.set) {
+fn settings_number(job: Job) -> u32 {
+    match reasoning::why_samples(b"", job.law, job.set) {
         Why::Refused(why) => rules::refusal_number(why),
         Why::Told(_) => {
-            if rules::is_length(s.length as usize) {
+            if rules::is_length(job.length as usize) {
                 return 0;
             }
             10
@@ -177,82 +195,86 @@ fn explain_settings(number: u32) {
 }
 
 // A frame that was asked for and that the sound does not have.
-fn is_missing(s: Settings, frames: usize) -> bool {
-    if s.only {
-        return frames <= s.frame as usize;
+fn is_missing(job: Job, frames: usize) -> bool {
+    if job.only {
+        return frames <= job.frame as usize;
     }
     false
 }
 
-// What was done, or why it was not.
-fn finish(run: Run, s: Settings, in_name: &[u8]) {
-    if run.trouble == 1 {
-        tool_console::failed(tool_words::options::WHY, in_name, b"standard input");
-        return;
-    }
-    if run.trouble == 2 {
-        tool_console::failed(tool_words::options::WHY, b"", b"standard output");
-        return;
-    }
+// What was done, or why it was not, of a sound that was read and shown.
+fn finish_well(run: Run, job: Job) {
     let end = run.end;
     let number = rules::number_of(end);
     if number != 0 {
         tool_console::say(b"why: no length fits the octets at the end\n");
-        tool_console::refused(tool_words::options::WHY, number, run.samples, 0, 0);
+        tool_console::refused(Tool::Why, number, run.samples, 0, 0);
         return;
     }
-    if is_missing(s, run.frames) {
+    if is_missing(job, run.frames) {
         tool_console::say_number(
             b"why: the sound has no such frame; its frames are ",
             run.frames,
         );
         tool_console::say(b"\n");
-        tool_console::stop(tool_words::options::WHY, 64, run.samples, 0, 0);
+        tool_console::stop(Tool::Why, 64, run.samples, 0, 0);
         return;
     }
-    tool_console::stop(tool_words::options::WHY, 0, run.samples, 0, 0);
+    tool_console::stop(Tool::Why, 0, run.samples, 0, 0);
+}
+
+fn finish(run: Run, job: Job, in_name: &[u8]) {
+    let wrong = run.wrong;
+    match wrong {
+        Amiss::Nothing => finish_well(run, job),
+        Amiss::Unread => tool_console::failed(Tool::Why, in_name, b"standard input"),
+        Amiss::Unwritten => tool_console::failed(Tool::Why, b"", b"standard output"),
+    }
 }
 
 // The settings are judged before any file is opened.
-fn why_file(s: Settings, in_name: &[u8]) {
-    let number = settings_number(s);
+fn why_file(job: Job, in_name: &[u8]) {
+    let number = settings_number(job);
     if number != 0 {
         explain_settings(number);
-        tool_console::refused(tool_words::options::WHY, number, 0, 0, 0);
+        tool_console::refused(Tool::Why, number, 0, 0, 0);
         return;
     }
     let fd = tool_console::open_in(in_name);
     if fd < 0 {
-        tool_console::failed(tool_words::options::WHY, in_name, b"standard input");
+        tool_console::failed(Tool::Why, in_name, b"standard input");
         return;
     }
     let mut part = [0u8; 61440];
-    let run = all_parts(fd, s, &mut part);
-    finish(run, s, in_name);
+    let run = all_parts(fd, job, &mut part);
+    finish(run, job, in_name);
 }
 
 // A law that no option tells is told by the ending of what is read.
-fn why_with(mut s: Settings, space: &mut [u8]) {
+fn why_with(s: Settings, space: &mut [u8]) {
     let n = tool_console::file_name(s.infile, space);
     let in_name: &[u8] = &space[..n];
-    let law = tool_words::options::law_of(s, in_name);
-    if law == 2 {
-        tool_console::usage(
-            tool_words::options::WHY,
-            b"the law is not known: say -u or -a",
-        );
-        return;
+    match tool_words::options::law_of(s, in_name) {
+        Law::Unknown => tool_console::usage(Tool::Why, b"the law is not known: say -u or -a"),
+        Law::Known(law) => {
+            let job = Job {
+                law,
+                set: s.set,
+                length: s.length,
+                only: s.only,
+                frame: s.frame,
+            };
+            why_file(job, in_name);
+        }
     }
-    s.law = law;
-    why_file(s, in_name);
 }
 
 fn main() {
-    let s = tool_console::settings(tool_words::options::WHY);
-    if s.wrong != 0 {
-        tool_console::wrong_settings(s);
+    let w = tool_console::words(Tool::Why);
+    if tool_console::wrongly_said(w) {
         return;
     }
+    let s = w.said;
     let mut in_name = [0u8; 4095];
     why_with(s, &mut in_name);
 }

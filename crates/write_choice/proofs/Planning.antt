@@ -8,7 +8,7 @@ use borrow.Author.Tests.{lt-leb}
 use lib.ListN.{length}
 use Rattle.rules.specs.Tools.{holds}
 use Rattle.rules.specs.Fractional.{rowCount, bodyBits}
-use Rattle.rules.specs.Chooses.{applies, formOf, choose, fractionalRow}
+use Rattle.rules.specs.Chooses.{rowOr, applies, formOf, choose, frameRow}
 use Rattle.rules.proofs.Tests.{and-left}
 use Rattle.write_scan.specs.Looks.{twoZeros}
 use Rattle.write_offers.specs.declared.Choice.{Choice}
@@ -23,7 +23,7 @@ use Rattle.write_located.proofs.Near.{zeros-unlocated}
 use Rattle.write_zeros.proofs.TwoZeros.{rice-applies, zeros-apply}
 use Rattle.write_offers.proofs.Choosing.{choose-step, choose-past, chosen-offered, uncompressed-chosen, binary-bits}
 use Rattle.write_choice.proofs.Settling.{among, alone}
-use Rattle.write_offers.proofs.Offering.{rice-form, located-form, fractional-form, row-applies, zeros-unrowed}
+use Rattle.write_offers.proofs.Offering.{rice-form, located-form, row-number, row-bits, row-applies, row-held, zeros-unrowed}
 
 pub past : (set t : ℕ) {a : Bool} → a ≡ false → (holds set t && a) ≡ false
 past set t e = rw e (and-zero (holds set t))
@@ -153,16 +153,17 @@ module _ (mask set : ℕ) (s : List ℕ) {n : ℕ} {one : Choice} (size : length
         kind = λ x. t;
       }
 
-  pub last-row : {k b : ℕ} {best : Choice} → holds set 11 ≡ true → k ≡ fractionalRow mask s → k < rowCount n → b ≡ 8 + bodyBits k n
+  pub last-row : {k b : ℕ} {best : Choice} → holds set 11 ≡ true → k ≡ rowOr (rowCount n) (frameRow mask s) → k < rowCount n
+      → b ≡ 8 + bodyBits k n
       → BetterIs one 11 true b best → LastIs mask set s (record { choice = best; row = k })
   last-row {k} held row h e better =
       let on = row-applies mask s size row h in
       let offered : true ≡ (holds set 11 && applies mask 11 s) = rw (held, on) in
       let done = choose-step (uncompressed-is mask set s size few first) 11 true _ offered
-      (λ z. e ∙ fractional-form mask s size row) better in
+      (λ z. e ∙ row-bits mask s size row h) better in
       let P : ℕ → Type 0 = λ t. (t ≡ 11 → ⊥) → t ≡ 1 in
       record {
         chosen = done;
-        row = λ z. (row, rw (← row, size) h);
+        row = λ z. (row-number mask s size row h, row-held mask s size row h);
         kind = rw (done .tool) (among mask s set P 11 [] (λ x. absurd (x refl)) (alone mask s set P (λ x. refl)));
       }

@@ -14,7 +14,7 @@ use Rattle.rules.specs.First.{isLong, baseOf, riceCode}
 use Rattle.rules.specs.Runs.{runsOf, riceForms}
 use Rattle.rules.specs.Zeros.{codesOf, codeOf, flagOf}
 use Rattle.rules.specs.Chooses.{countOf, every, leastFrom, bestS, markOf, riceChoice, locatedForm, leastOf}
-use Rattle.rules.specs.Chooses.{greatestOf, fractionalRow, fractionalForm, applies, formOf, octetsOfForm, choose, chosenTool}
+use Rattle.rules.specs.Chooses.{greatestOf, rowNumber, frameRow, fractionalForm, applies, formOf, octetsOfForm, choose, chosenTool}
 use Rattle.rules.specs.Fractional.{radix, groupOf, bitsFor}
 use Rattle.rules.proofs.Octets.{length-lowBits, length-bitsOf}
 use Rattle.write_measure.proofs.Rice.{length-riceForm}
@@ -127,7 +127,7 @@ module _ (mask : ℕ) (s : List ℕ) where
 
   -- five samples or more have a bit in tool 11's body
   row-long : 5 ≤ length s → 9 ≤ length (formOf mask 11 s)
-  row-long some = rw (← (fractional-form mask s refl refl)) (bits-some (radix (fractionalRow mask s)) (length s) some)
+  row-long some = rw (← (fractional-form mask s)) (bits-some (radix (rowNumber (frameRow mask s))) (length s) some)
 
   measured-long : (set : ℕ) → 5 ≤ length s → 9 ≤ length (formOf mask (choose mask set s measured) s)
   unfolding formOf locatedForm

@@ -1,14 +1,13 @@
 -- The choice.
-use Prim.Native.Nat.{ℕ, _≤_, _<_}
+use Prim.Native.Nat.{ℕ, _≤_}
 use mathlib.Core.Path.{_≡_}
 use mathlib.Core.List.{List, [], _∷_}
-use mathlib.Core.Bool.{false, cond, _&&_}
+use mathlib.Core.Bool.{true, false, cond, _&&_}
 use lib.ListN.{length}
 use lib.Dec.{eqb}
 use Rattle.rules.specs.Tools.{holds}
 use Rattle.rules.specs.Samples.{plusZero, minusZero}
-use Rattle.rules.specs.Fractional.{rowCount}
-use Rattle.rules.specs.Chooses.{choose, chosenTool, formOf, leastOf, greatestOf, fractionalRow}
+use Rattle.rules.specs.Chooses.{choose, chosenTool, formOf, leastOf, greatestOf, hasRow, rowNumber, frameRow}
 use Rattle.write_scan.specs.Looks.{near, twoZeros}
 use Rattle.write_offers.specs.declared.Choice.{Choice}
 use Rattle.write_offers.specs.Ties.{ChosenIs}
@@ -83,5 +82,5 @@ pub record LocatedFor (mask t last : ℕ) (s : List ℕ) (r : Located) (a b c : 
 -- the last of the tie order: fractional-bit with the frame's row, or uncompressed
 pub record LastIs (mask set : ℕ) (s : List ℕ) (r : Last) : Type 0 where
   pub chosen : ChosenIs mask set s (11 ∷ []) (r .choice)
-  pub row : r .choice .tool ≡ 11 → (r .row ≡ fractionalRow mask s) × (fractionalRow mask s < rowCount (length s))
+  pub row : r .choice .tool ≡ 11 → (r .row ≡ rowNumber (frameRow mask s)) × (hasRow (frameRow mask s) ≡ true)
   pub kind : (r .choice .tool ≡ 11 → ⊥) → r .choice .tool ≡ 1

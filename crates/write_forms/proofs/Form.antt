@@ -12,7 +12,7 @@ use Rattle.rules.specs.Bits.{lowBits, bitsOf}
 use Rattle.rules.specs.First.{riceCode}
 use Rattle.rules.specs.Runs.{riceForms}
 use Rattle.rules.specs.Zeros.{prefix, codeOf, flagOf}
-use Rattle.rules.specs.Chooses.{markOf, bestS, riceChoice, rowOf, locatedFlag, locatedForm, formOf}
+use Rattle.rules.specs.Chooses.{markOf, bestS, riceChoice, rowNumber, rowOf, locatedFlag, locatedForm, formOf}
 use Rattle.rules.specs.Samples.{plusZero, minusZero}
 use Rattle.write_scan.specs.Looks.{countIs, FrameIn}
 use Rattle.write_located.specs.declared.Located.{Located}
@@ -91,8 +91,8 @@ module _ (n : ℕ) (s : List ℕ) (r : Located) (a b c : List ℕ) where
       let form : ℕ → ℕ → ℕ → List ℕ → List ℕ = λ k row flag v. prefix 7 k ++ (lowBits 2 row ++ (lowBits 1 flag ++ v)) in
       ap (λ (k : ℕ). form k (r .row) (r .flag) (valuesFormOf r a b c)) (sym size)
       ∙ ap (λ (k : ℕ). form (length s) k (r .flag) (valuesFormOf r a b c)) (p .row)
-      ∙ ap (λ (k : ℕ). form (length s) (rowOf mask s) k (valuesFormOf r a b c)) (p .flag)
-      ∙ ap (form (length s) (rowOf mask s) (locatedFlag mask s)) (located-values p)
+      ∙ ap (λ (k : ℕ). form (length s) (rowNumber (rowOf mask s)) k (valuesFormOf r a b c)) (p .flag)
+      ∙ ap (form (length s) (rowNumber (rowOf mask s)) (locatedFlag mask s)) (located-values p)
 
 -- a pen that has put nothing
 pub record Fresh (p : Pen) : Type 0 where

@@ -1,5 +1,5 @@
 -- The digit of a sample by (7-77) is its place among the row's values: `digit-told`.
-use Prim.Native.Nat.{ℕ, suc, _+_, _-_, _/_, _%_, _≤_, _<_}
+use Prim.Native.Nat.{ℕ, suc, _+_, _-_, _%_, _≤_, _<_}
 use mathlib.Core.Path.{_≡_, refl, sym, ap, ap₂, _∙_}
 use mathlib.Core.List.{List, [], _∷_, map}
 use mathlib.Core.Bool.{Bool, true, false, cond}
@@ -10,14 +10,14 @@ use lib.Dec.{ltb}
 use lib.IntN.{pos, negsuc}
 use lib.ListN.{length, getD}
 use Rattle.rules.specs.Samples.{signed, sampleOf}
-use Rattle.rules.specs.Fractional.{radix, lowAt, belowAt, digitFor, valueFor, groupOf}
-use Rattle.rules.specs.Fractional.{bitsFor, groupsForm, groupsFormAs, placeIn, samplesAt, fractionalBody}
+use Rattle.rules.specs.Fractional.{radix, lowAt, belowAt, digitFor, valueFor}
+use Rattle.rules.specs.Fractional.{groupsFormAs, placeIn, samplesAt, fractionalBody}
 use Rattle.rules.proofs.Octets.{Below, more, below-all}
 use Rattle.rules.proofs.Signed.{InRange, LawMask}
 use Rattle.rules.proofs.Fractional.{place-back, radix-range, row-small, length-samplesAt, sample-told}
 use Rattle.value_rows.specs.declared.Row.{Row}
 use Rattle.value_rows.specs.Rows.{RowIs}
-use Rattle.write_fractional.specs.Digits.{digitsIn, DigitsFit}
+use Rattle.write_fractional.specs.Digits.{digitsIn, bodyIn, DigitsFit}
 
 -- (7-77), as the code has it
 module _ (mask x low below : ℕ) where
@@ -88,7 +88,6 @@ module _ {mask : ℕ} (l : LawMask mask) (k : ℕ) (h : k < 12) {row : Row} (is 
       }
 
   pub body-told : {n : ℕ} → length s ≡ n
-      → groupsForm (row .radix) (groupOf (row .radix)) (bitsFor (row .radix)) (n / groupOf (row .radix))
-      (digitsIn mask row s) ≡ fractionalBody mask k s
+      → bodyIn mask row n s ≡ fractionalBody mask k s
   unfolding groupsFormAs
   body-told size = rw (← told, is .radix, ← size) refl

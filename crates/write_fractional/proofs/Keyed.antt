@@ -9,7 +9,7 @@ use lib.Dec.{eqb, ltb}
 use lib.ListN.{getD}
 use Rattle.rules.proofs.Tests.{and-left, and-right, allBelow-at}
 use Rattle.rules.specs.Fractional.{valuesAt, leastAt, greatestAt, minusAt}
-use Rattle.rules.specs.Chooses.{sameTest, isRowOf, rowFrom}
+use Rattle.rules.specs.Chooses.{rowOr, sameTest, isRowOf, rowFrom}
 use Rattle.write_fractional.specs.Keys.{keyOf, rowKey}
 
 abbrev pub keys : List ℕ
@@ -53,12 +53,12 @@ pub finding-none : (l g : ℕ) (m : Bool) (count : ℕ) → Finding l g m count 
 finding-none l g m count = record { says = ap (rowFrom l g m 0) (omega arith); within = omega arith }
 
 module _ {l g : ℕ} {m : Bool} {count k : ℕ} (t : Finding l g m count k) (small : g < 256) (few : count ≤ 12) where
-  pub finding-hit : k < count → rowKey k ≡ keyOf l g m → k ≡ rowFrom l g m 0 count
+  pub finding-hit : k < count → rowKey k ≡ keyOf l g m → k ≡ rowOr count (rowFrom l g m 0 count)
   unfolding rowFrom rowKey
   finding-hit h e =
       let n : count - k ≡ suc (count - (k + 1)) = omega arith in
       let r = told l g m (leastAt k) (greatestAt k) (minusAt k) small (greatest-small k (omega arith)) (sym e) in
-      sym (t .says ∙ rw (n, r))
+      sym (ap (rowOr count) (t .says) ∙ rw (n, r))
 
   pub finding-miss : k < count → (rowKey k ≡ keyOf l g m → ⊥) → Finding l g m count (k + 1)
   unfolding rowFrom rowKey
@@ -67,9 +67,12 @@ module _ {l g : ℕ} {m : Bool} {count k : ℕ} (t : Finding l g m count k) (sma
       let r = untold l g m (leastAt k) (greatestAt k) (minusAt k) (isRowOf l g m k) refl (λ z. e (sym z)) in
       record { says = t .says ∙ rw (n, r); within = omega arith }
 
-  pub finding-end : count ≤ k → k ≡ rowFrom l g m 0 count
+  pub finding-end : count ≤ k → k ≡ rowOr count (rowFrom l g m 0 count)
   unfolding rowFrom
-  finding-end h = let n : count - k ≡ 0 = omega arith in sym (t .says ∙ rw n)
+  finding-end h =
+      let n : count - k ≡ 0 = omega arith in
+      let e : count ≡ k = omega (arith, t .within) in
+      sym (ap (rowOr count) (t .says) ∙ rw n e)
 
 pub key-told : (a b f l g : ℕ) (m : Bool) → a ≡ l → b ≡ g → f ≡ cond m 1 0 → 512 * a + 2 * b + f ≡ keyOf l g m
 key-told a b f l g m x y z = rw (x, y, z)

@@ -11,7 +11,7 @@ use Rattle.rules.proofs.Octets.{Below, more, below-all, below-take, below-drop,
 use Rattle.write_bits.specs.declared.Pen.{Pen}
 use Rattle.write_bits.specs.Puts.{Able, Puts}
 use Rattle.write_bits.proofs.Putting.{puts-none, puts-then, puts-as, able-then}
-use Rattle.rules.specs.Fractional.{Packs, ofDigits, groupsForm}
+use Rattle.rules.specs.Fractional.{Coding, Packs, ofDigits, groupsForm}
 use Rattle.rules.proofs.Fractional.{digits-fit}
 
 drop-end : (d : ℕ) (l : List ℕ) → length l ≤ d → drop d l ≡ []
@@ -81,74 +81,75 @@ group-turn-in f samples n from r g j v k h five some few each e z y =
     (below-all (map f (take n samples)) each) e z y)
 
 -- groups put
-pub record Putting (f : ℕ → ℕ) (s : List ℕ) (r g w n : ℕ) (o : List ℕ) (p : Pen) (o′ : List ℕ) (p′ : Pen) (from : ℕ) : Type 0 where
+pub record Putting (f : ℕ → ℕ) (s : List ℕ) (c : Coding) (n : ℕ) (o : List ℕ) (p : Pen) (o′ : List ℕ) (p′ : Pen) (from : ℕ) : Type 0 where
   pub done : List ℕ
   pub more : ℕ
-  pub says : done ++ groupsForm r g w more (drop from (map f s)) ≡ groupsForm r g w (n / g) (map f s)
-  pub left : from + more * g ≡ n
+  pub says : done ++ groupsForm c more (drop from (map f s)) ≡ groupsForm c (n / c .group) (map f s)
+  pub left : from + more * c .group ≡ n
   pub puts : Puts o p done o′ p′
   pub size : length o′ ≡ length o
 
-pub putting-none : (f : ℕ → ℕ) (s : List ℕ) {r g w n m : ℕ} {o : List ℕ} {p : Pen} → Packs r g w n → length s ≡ n → Able o p m
-    → Putting f s r g w n o p o p 0
-putting-none f s {r} {g} {w} {n} q e a =
-    record { done = []; more = n / g; says = refl; left = zero-add _ ∙ q .whole; puts = puts-none (a .held) (a .word); size = refl }
+pub putting-none : (f : ℕ → ℕ) (s : List ℕ) {c : Coding} {n m : ℕ} {o : List ℕ} {p : Pen} → Packs c n → length s ≡ n → Able o p m
+    → Putting f s c n o p o p 0
+putting-none f s {c} {n} q e a =
+    record { done = []; more = n / c .group; says = refl; left = zero-add _ ∙ q .whole; puts = puts-none (a .held) (a .word); size = refl }
 
-module _ (f : ℕ → ℕ) (s : List ℕ) (r g w n from : ℕ) {o o′ : List ℕ} {p p′ : Pen} (q : Packs r g w n) where
-  able-at : (m : ℕ) (done : List ℕ) → done ++ groupsForm r g w m (drop from (map f s)) ≡ groupsForm r g w (n / g) (map f s)
-      → from + m * g ≡ n
-      → Puts o p done o′ p′ → length o′ ≡ length o → Able o p (length (groupsForm r g w (n / g) (map f s))) → from < n → Able o′ p′ w
+module _ (f : ℕ → ℕ) (s : List ℕ) (c : Coding) (n from : ℕ) {o o′ : List ℕ} {p p′ : Pen} (q : Packs c n) where
+  able-at : (m : ℕ) (done : List ℕ) → done ++ groupsForm c m (drop from (map f s)) ≡ groupsForm c (n / c .group) (map f s)
+      → from + m * c .group ≡ n
+      → Puts o p done o′ p′ → length o′ ≡ length o → Able o p (length (groupsForm c (n / c .group) (map f s))) → from < n → Able o′ p′ (c .bits)
   unfolding groupsForm
-  able-at zero done says left puts size a h = absurd (omega (arith, zero-mul g))
+  able-at zero done says left puts size a h = absurd (omega (arith, zero-mul (c .group)))
   able-at (suc m) done says left puts size a h =
-      let v = ofDigits r (take g (drop from (map f s))) in
-      let rest = groupsForm r g w m (drop g (drop from (map f s))) in
-      let l : length (groupsForm r g w (n / g) (map f s)) ≡ length done + (w + length rest) = ap length (sym says)
+      let v = ofDigits (c .radix) (take (c .group) (drop from (map f s))) in
+      let rest = groupsForm c m (drop (c .group) (drop from (map f s))) in
+      let l : length (groupsForm c (n / c .group) (map f s)) ≡ length done + (c .bits + length rest) = ap length (sym says)
       ∙ simp (length-append, length-lowBits) in
-      able-then w a puts size (omega arith)
+      able-then (c .bits) a puts size (omega arith)
 
-  turned : (m : ℕ) (done : List ℕ) → done ++ groupsForm r g w m (drop from (map f s)) ≡ groupsForm r g w (n / g) (map f s)
-      → from + m * g ≡ n → Puts o p done o′ p′ → length o′ ≡ length o → from < n → {v : ℕ} {o″ : List ℕ} {p″ : Pen}
-      → v ≡ ofDigits r (take g (drop from (map f s)))
-      → Puts o′ p′ (lowBits w v) o″ p″ → length o″ ≡ length o′ → Putting f s r g w n o p o″ p″ (from + g)
+  turned : (m : ℕ) (done : List ℕ) → done ++ groupsForm c m (drop from (map f s)) ≡ groupsForm c (n / c .group) (map f s)
+      → from + m * c .group ≡ n → Puts o p done o′ p′ → length o′ ≡ length o → from < n → {v : ℕ} {o″ : List ℕ} {p″ : Pen}
+      → v ≡ ofDigits (c .radix) (take (c .group) (drop from (map f s)))
+      → Puts o′ p′ (lowBits (c .bits) v) o″ p″ → length o″ ≡ length o′ → Putting f s c n o p o″ p″ (from + c .group)
   unfolding groupsForm
-  turned zero done says left puts size h e put k = absurd (omega (arith, zero-mul g))
+  turned zero done says left puts size h e put k = absurd (omega (arith, zero-mul (c .group)))
   turned (suc m) done says left puts size h {v} e put k =
       let ds = map f s in
-      let d : drop g (drop from ds) ≡ drop (from + g) ds = drop-drop g from ds in
-      let u = suc-mul m g in
+      let d : drop (c .group) (drop from ds) ≡ drop (from + c .group) ds = drop-drop (c .group) from ds in
+      let u = suc-mul m (c .group) in
       record {
-        done = done ++ lowBits w v;
+        done = done ++ lowBits (c .bits) v;
         more = m;
-        says = rw (e, ← d) (append-assoc done (lowBits w (ofDigits r (take g (drop from ds))))
-            (groupsForm r g w m (drop g (drop from ds))) ∙ says);
+        says = rw (e, ← d) (append-assoc done (lowBits (c .bits) (ofDigits (c .radix) (take (c .group) (drop from ds))))
+            (groupsForm c m (drop (c .group) (drop from ds))) ∙ says);
         left = omega arith;
         puts = puts-then puts put;
         size = k ∙ size;
       }
 
-  ended : (m : ℕ) (done : List ℕ) → done ++ groupsForm r g w m (drop from (map f s)) ≡ groupsForm r g w (n / g) (map f s) → from + m * g ≡ n
-      → Puts o p done o′ p′ → n ≤ from → Puts o p (groupsForm r g w (n / g) (map f s)) o′ p′
+  ended : (m : ℕ) (done : List ℕ) → done ++ groupsForm c m (drop from (map f s)) ≡ groupsForm c (n / c .group) (map f s) → from + m * c .group ≡ n
+      → Puts o p done o′ p′ → n ≤ from → Puts o p (groupsForm c (n / c .group) (map f s)) o′ p′
   unfolding groupsForm
   ended zero done says left puts h = puts-as puts (sym (append-nil done) ∙ says)
-  ended (suc m) done says left puts h = absurd (omega (arith, suc-mul m g, q .group))
+  ended (suc m) done says left puts h = absurd (omega (arith, suc-mul m (c .group), q .group))
 
-module _ {f : ℕ → ℕ} {s : List ℕ} {r g w n from : ℕ} {o o′ : List ℕ} {p p′ : Pen} (q : Packs r g w n)
-    (t : Putting f s r g w n o p o′ p′ from) where
-  pub putting-able : Able o p (length (groupsForm r g w (n / g) (map f s))) → from < n → Able o′ p′ w
-  putting-able a h = able-at f s r g w n from q (t .more) (t .done) (t .says) (t .left) (t .puts) (t .size) a h
+module _ {f : ℕ → ℕ} {s : List ℕ} {c : Coding} {n from : ℕ} {o o′ : List ℕ} {p p′ : Pen} (q : Packs c n)
+    (t : Putting f s c n o p o′ p′ from) where
+  pub putting-able : Able o p (length (groupsForm c (n / c .group) (map f s))) → from < n → Able o′ p′ (c .bits)
+  putting-able a h = able-at f s c n from q (t .more) (t .done) (t .says) (t .left) (t .puts) (t .size) a h
 
-  pub putting-turn : from < n → {v : ℕ} {o″ : List ℕ} {p″ : Pen} → v ≡ ofDigits r (take g (drop from (map f s)))
-      → Puts o′ p′ (lowBits w v) o″ p″ → length o″ ≡ length o′ → Putting f s r g w n o p o″ p″ (from + g)
-  putting-turn h e put k = turned f s r g w n from q (t .more) (t .done) (t .says) (t .left) (t .puts) (t .size) h e put k
+  pub putting-turn : from < n → {v : ℕ} {o″ : List ℕ} {p″ : Pen} → v ≡ ofDigits (c .radix) (take (c .group) (drop from (map f s)))
+      → Puts o′ p′ (lowBits (c .bits) v) o″ p″ → length o″ ≡ length o′ → Putting f s c n o p o″ p″ (from + c .group)
+  putting-turn h e put k = turned f s c n from q (t .more) (t .done) (t .says) (t .left) (t .puts) (t .size) h e put k
 
-  pub putting-all : n ≤ from → Puts o p (groupsForm r g w (n / g) (map f s)) o′ p′
-  putting-all h = ended f s r g w n from q (t .more) (t .done) (t .says) (t .left) (t .puts) h
+  pub putting-all : n ≤ from → Puts o p (groupsForm c (n / c .group) (map f s)) o′ p′
+  putting-all h = ended f s c n from q (t .more) (t .done) (t .says) (t .left) (t .puts) h
 
 -- what a group makes fits its bits
-pub group-bits : {r g w n : ℕ} → Packs r g w n → (f : ℕ → ℕ) (s : List ℕ) (from : ℕ) → Below r (map f s) → from + g ≤ length s
-    → ofDigits r (take g (drop from (map f s))) < 2 ^ w
-group-bits {r} {g} {w} p f s from b h =
-    let l = length-group f s from g h in
-    let d : ofDigits r (take g (drop from (map f s))) < r ^ g = rw l at (digits-fit (below-take g (below-drop from b))) in
+pub group-bits : {c : Coding} {n : ℕ} → Packs c n → (f : ℕ → ℕ) (s : List ℕ) (from : ℕ) → Below (c .radix) (map f s) → from + c .group ≤ length s
+    → ofDigits (c .radix) (take (c .group) (drop from (map f s))) < 2 ^ c .bits
+group-bits {c} p f s from b h =
+    let l = length-group f s from (c .group) h in
+    let d : ofDigits (c .radix) (take (c .group) (drop from (map f s))) < c .radix ^ c .group
+    = rw l at (digits-fit (below-take (c .group) (below-drop from b))) in
     lt-of-lt-of-le d (p .fits)

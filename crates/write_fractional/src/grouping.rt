@@ -4,14 +4,14 @@ use value_rows::Row;
 use write_bits::Pen;
 use write_bits::put;
 ghost use mathlib.Core.Path.{_≡_};
-ghost use Prim.Native.Nat.{ℕ, _+_, _-_, _/_, _≤_, _<_};
+ghost use Prim.Native.Nat.{ℕ, _+_, _-_, _≤_, _<_};
 ghost use mathlib.Core.List.{map};
 ghost use lib.ListN.{length, getD, take, drop};
 ghost use Rattle.rules.specs.Samples.{signed};
-ghost use Rattle.rules.specs.Fractional.{digitFor, groupOf, bitsFor, Packs, ofDigits, groupsForm};
+ghost use Rattle.rules.specs.Fractional.{digitFor, coding, Packs, ofDigits};
 ghost use Rattle.write_scan.specs.Looks.{FrameIn};
 ghost use Rattle.write_bits.specs.Puts.{Able, Puts};
-ghost use Rattle.write_fractional.specs.Digits.{digitsIn, same, DigitsFit};
+ghost use Rattle.write_fractional.specs.Digits.{bodyIn, same, groupsIn, DigitsFit, Digits};
 
 // The difference, 0 where b is more.
 fn less(a: u8, b: u8) -> u8
@@ -40,7 +40,7 @@ fn digit_of(x: u8, mask: u8, low: u8, below: u8) -> u8
 // The digits of n samples. Octets, so that sixteen go to a register.
 fn digits_of(samples: &[u8], n: usize, mask: u8, row: Row, digits: &mut [u8; 320])
     requires { ⌜ (n ≤ length (now samples)) × (n ≤ 320) × (length (now digits) ≡ 320) × (row .below ≤ row .low) × (row .low ≤ 4) ⌝ }
-    ensures { λ _. ⌜ (take n (now (digits .exit)) ≡ digitsIn mask row (take n (now (samples .entry)))) × (length (now (digits .exit)) ≡ 320) ⌝ }
+    ensures { λ _. ⌜ Digits mask row (now (samples .entry)) n (now (digits .exit)) ⌝ }
 {
     let low = row.low as u8;
     let below = row.below as u8;
@@ -82,10 +82,10 @@ fn put_groups(
     w: usize,
     r: usize,
 ) -> Pen
-    requires { ⌜ (Packs r g w n) × (n ≤ length (now digits)) × (length (now digits) ≡ 320) ⌝ }
+    requires { ⌜ (Packs (coding r g w) n) × (n ≤ length (now digits)) × (length (now digits) ≡ 320) ⌝ }
     requires { ⌜ ((i : ℕ) → getD (map same (take n (now digits))) i 0 < r) ⌝ }
-    requires { ⌜ Able (now out) p (length (groupsForm r g w (n / g) (map same (take n (now digits))))) ⌝ }
-    ensures { λ q. ⌜ Puts (now (out .entry)) p (groupsForm r g w (n / g) (map same (take n (now (digits .entry))))) (now (out .exit)) q ⌝ }
+    requires { ⌜ Able (now out) p (length (groupsIn (coding r g w) n (now digits))) ⌝ }
+    ensures { λ q. ⌜ Puts (now (out .entry)) p (groupsIn (coding r g w) n (now (digits .entry))) (now (out .exit)) q ⌝ }
 {
     let mut q = p;
     let mut from = 0;
@@ -101,8 +101,8 @@ fn put_groups(
 pub fn put_body(out: &mut [u8], p: Pen, samples: &[u8], n: usize, mask: u8, row: Row) -> Pen
     requires { ⌜ FrameIn (now samples) n ⌝ }
     requires { ⌜ DigitsFit mask row (take n (now samples)) ⌝ }
-    requires { ⌜ Able (now out) p (length (groupsForm (row .radix) (groupOf (row .radix)) (bitsFor (row .radix)) (n / groupOf (row .radix)) (digitsIn mask row (take n (now samples))))) ⌝ }
-    ensures { λ q. ⌜ Puts (now (out .entry)) p (groupsForm (row .radix) (groupOf (row .radix)) (bitsFor (row .radix)) (n / groupOf (row .radix)) (digitsIn mask row (take n (now (samples .entry))))) (now (out .exit)) q ⌝ }
+    requires { ⌜ Able (now out) p (length (bodyIn mask row n (take n (now samples)))) ⌝ }
+    ensures { λ q. ⌜ Puts (now (out .entry)) p (bodyIn mask row n (take n (now (samples .entry)))) (now (out .exit)) q ⌝ }
 {
     let mut digits = [0u8; 320];
     digits_of(samples, n, mask, row, &mut digits);

@@ -9,8 +9,8 @@ ghost use mathlib.Core.Path.{_≡_};
 ghost use mathlib.Core.Bool.{cond};
 ghost use Prim.Native.Nat.{_+_, _*_, _/_, _≤_, _<_};
 ghost use lib.ListN.{take};
-ghost use Rattle.rules.specs.Fractional.{groupOf, bitsFor, bodyBits};
-ghost use Rattle.rules.specs.Chooses.{rowFrom, fractionalRow};
+ghost use Rattle.rules.specs.Fractional.{rowCount, groupOf, bitsFor, bodyBits};
+ghost use Rattle.rules.specs.Chooses.{rowOr, rowFrom, frameRow};
 ghost use Rattle.write_scan.specs.Looks.{FrameIn};
 ghost use Rattle.write_fractional.specs.Keys.{rowKey};
 
@@ -55,7 +55,7 @@ fn flag(b: bool) -> u32
 // The row of a least, a greatest and whether -1 occurs, of so many; their number where none is.
 fn find_row(least: u8, greatest: u8, minus: bool, count: usize) -> usize
     requires { ⌜ count ≤ 12 ⌝ }
-    ensures { λ r. ⌜ r ≡ rowFrom least greatest minus 0 count ⌝ }
+    ensures { λ r. ⌜ r ≡ rowOr count (rowFrom least greatest minus 0 count) ⌝ }
 {
     let key = 512 * wide(least) + 2 * wide(greatest) + flag(minus);
     let mut k = 0;
@@ -71,7 +71,7 @@ fn find_row(least: u8, greatest: u8, minus: bool, count: usize) -> usize
 // The row of a frame; the number of its length's rows where it has none.
 pub fn row_of(samples: &[u8], n: usize, mask: u8) -> usize
     requires { ⌜ (FrameIn (now samples) n) × (mask < 128) ⌝ }
-    ensures { λ r. ⌜ r ≡ fractionalRow mask (take n (now (samples .entry))) ⌝ }
+    ensures { λ r. ⌜ r ≡ rowOr (rowCount n) (frameRow mask (take n (now (samples .entry)))) ⌝ }
 {
     let e = extent_of(samples, n, mask);
     let minus = count_of(samples, n, minus_zero(mask)) != 0;

@@ -13,7 +13,7 @@ use lib.Dec.{eqb, leb, ltb}
 use lib.IntN.{ℤ, pos, negsuc}
 use Rattle.rules.specs.Samples.{signed, sampleOf, plusZero, minusZero, onLine}
 use Rattle.rules.specs.Located.{caseOf}
-use Rattle.rules.specs.Chooses.{countOf, leastOf, greatestOf, above, below, rowOf, applies}
+use Rattle.rules.specs.Chooses.{countOf, leastOf, greatestOf, above, below, none as no-row, rowOf, applies}
 use Rattle.rules.proofs.Octets.{Below, none, more}
 use Rattle.rules.proofs.Signed.{InRange, LawMask, signed-range, told-by-line, sampleOf-one-to-one}
 use Rattle.rules.proofs.Tests.{and-left, and-right, allBelow-at}
@@ -288,21 +288,21 @@ pub zeros-unlocated : (mask : ℕ) → mask < 128 → (s : List ℕ) → twoZero
 unfolding applies rowOf caseOf
 zeros-unlocated mask m s e =
     let i = zeros-near mask m s (eqb-true _ _ e) in
-    let four : rowOf mask s ≡ 4 =
+    let unrowed : rowOf mask s ≡ no-row =
     rw (
       ne-eqb (leastOf mask s) 126 (λ z. omega (arith, i .0)),
       ne-eqb (greatestOf mask s) 129 (λ z. omega (arith, i .1)),
       and-zero (eqb (leastOf mask s) 127),
       and-zero (eqb (leastOf mask s) 128),
     ) in
-    rw (four, and-zero (leb 80 (length s)))
+    rw (unrowed, and-zero (leb 80 (length s)))
 
 -- a row is near
-pub row-near : (mask : ℕ) (s : List ℕ) → near (leastOf mask s) (greatestOf mask s) ≡ false → rowOf mask s ≡ 4
+pub row-near : (mask : ℕ) (s : List ℕ) → near (leastOf mask s) (greatestOf mask s) ≡ false → rowOf mask s ≡ no-row
 unfolding rowOf caseOf
 row-near mask s far = go (leb 126 (leastOf mask s)) refl (leb (greatestOf mask s) 129) refl
   where
-    go : (a : Bool) → leb 126 (leastOf mask s) ≡ a → (b : Bool) → leb (greatestOf mask s) 129 ≡ b → rowOf mask s ≡ 4
+    go : (a : Bool) → leb 126 (leastOf mask s) ≡ a → (b : Bool) → leb (greatestOf mask s) 129 ≡ b → rowOf mask s ≡ no-row
     go false e b f =
         let h = leb-false 126 (leastOf mask s) e in
         rw (

@@ -10,8 +10,10 @@ use lib.Dec.{eqb, leb, ltb}
 use lib.IntN.{pos, negsuc}
 use Rattle.rules.specs.Samples.{sampleOf, plusZero, minusZero, onLine}
 use Rattle.rules.specs.Located.{caseOf, valuesOf}
-use Rattle.rules.specs.Chooses.{isRow, rowOf, locatedFlag, locatedForm, applies, valuesForm, leastOf, greatestOf}
+use Rattle.rules.specs.Chooses.{none as no-row, row as the-row, hasRow, rowNumber, rowOr, isRow, rowOf, locatedFlag, locatedForm}
+use Rattle.rules.specs.Chooses.{applies, valuesForm, leastOf, greatestOf}
 use Rattle.rules.proofs.Octets.{length-lowBits}
+use Rattle.rules.proofs.FrameRow.{where-row, below-past, number-or, located-row, located-low}
 use Rattle.rules.proofs.Signed.{LawMask}
 use Rattle.rules.proofs.Tests.{and-left, and-right}
 use Rattle.write_located.specs.declared.Tally.{Tally}
@@ -21,27 +23,25 @@ use Rattle.write_located.specs.declared.Ways.{Ways}
 use Rattle.write_located.specs.Ways.{ValueIs, InTurn, WaysAre}
 use Rattle.write_located.specs.Rows.{leastBy, greatestBy, rowBy, Tallied, samplesOf, only, two, three}
 use Rattle.write_located.specs.Rows.{valuesBy, oneIn, minusIn, twosIn, valuesFor, valuesIn, LocatedIs}
-use Rattle.write_scan.proofs.Tests.{never}
 use Rattle.write_located.proofs.Near.{apart}
 
 -- a row that was found fits the length
-rows-fit : (mask : ℕ) (s : List ℕ) → ltb (rowOf mask s) 4 ≡ true → leb (caseOf (rowOf mask s) .from) (length s) ≡ true
-unfolding rowOf
-rows-fit mask s h = go (isRow mask s 0) (isRow mask s 1) (isRow mask s 2) (isRow mask s 3) (fits 0) (fits 1) (fits 2) (fits 3) h
-  where
-    fits : (c : ℕ) → isRow mask s c ≡ true → leb (caseOf c .from) (length s) ≡ true
-    fits c e = and-right (eqb (leastOf mask s) (onLine (caseOf c .least)) && eqb (greatestOf mask s) (onLine (caseOf c .greatest)))
-        (leb (caseOf c .from) (length s)) e
+rows-fit : (mask : ℕ) (s : List ℕ) → hasRow (rowOf mask s) ≡ true → leb (caseOf (rowNumber (rowOf mask s)) .from) (length s) ≡ true
+rows-fit mask s h =
+    let fits : ℕ → Type 0 = λ c. leb (caseOf c .from) (length s) ≡ true in
+    where-row fits (rowOf mask s) (located-row fits mask s (λ c l e.
+    and-right (eqb (leastOf mask s) (onLine (caseOf c .least)) && eqb (greatestOf mask s) (onLine (caseOf c .greatest)))
+    (leb (caseOf c .from) (length s)) e)) h
 
-    go : (a b c d : Bool) → (a ≡ true → leb (caseOf 0 .from) (length s) ≡ true) → (b ≡ true → leb (caseOf 1 .from) (length s) ≡ true)
-        → (c ≡ true → leb (caseOf 2 .from) (length s) ≡ true) → (d ≡ true → leb (caseOf 3 .from) (length s) ≡ true)
-        → ltb (cond a 0 (cond b 1 (cond c 2 (cond d 3 4)))) 4 ≡ true
-        → leb (caseOf (cond a 0 (cond b 1 (cond c 2 (cond d 3 4)))) .from) (length s) ≡ true
-    go true b c d f g i j h = f refl
-    go false true c d f g i j h = g refl
-    go false false true d f g i j h = i refl
-    go false false false true f g i j h = j refl
-    go false false false false f g i j h = absurd (never h)
+-- the row as one number
+as-number : (a b c d : Bool)
+    → cond a 0 (cond b 1 (cond c 2 (cond d 3 4))) ≡ rowOr 4
+    (cond a (the-row 0) (cond b (the-row 1) (cond c (the-row 2) (cond d (the-row 3) no-row))))
+as-number true b c d = refl
+as-number false true c d = refl
+as-number false false true d = refl
+as-number false false false true = refl
+as-number false false false false = refl
 
 -- row 2 has no 1 and some -2; row 3 has nothing below 0
 row-two : (least greatest n : ℕ) → rowBy least greatest n ≡ 2 → (least ≡ 126) × (greatest ≡ 128)
@@ -261,14 +261,22 @@ module _ {mask : ℕ} {s : List ℕ} {t : Tally} (tally : Tallied mask s t) wher
     pub turn-of : {plus : ℕ} {v : Values} (row flag : ℕ) → plus ≡ plusZero mask → v ≡ valuesFor mask t row flag → InTurn plus s v
     turn-of row flag e f = rw (e, f) (in-turn row flag)
 
-  module _ {n : ℕ} (size : length s ≡ n) {row : ℕ}
-      (found : row ≡ rowBy (leastBy (t .twos) (t .minus) (t .plus)) (greatestBy (t .one) (t .plus) (t .minus)) n) where
-    pub row-is : row ≡ rowOf mask s
+  module _ {n : ℕ} (size : length s ≡ n) {at : ℕ}
+      (found : at ≡ rowBy (leastBy (t .twos) (t .minus) (t .plus)) (greatestBy (t .one) (t .plus) (t .minus)) n) where
+    pub row-is : at ≡ rowOr 4 (rowOf mask s)
     unfolding rowBy rowOf caseOf
-    row-is = found ∙ rw (tally .least, tally .greatest, ← size)
+    row-is =
+        found ∙ rw (tally .least, tally .greatest, ← size)
+        (as-number (isRow mask s 0) (isRow mask s 1) (isRow mask s 2) (isRow mask s 3))
+
+    pub row-has : ltb at 4 ≡ hasRow (rowOf mask s)
+    row-has = ap (λ (k : ℕ). ltb k 4) row-is ∙ below-past 4 (rowOf mask s) (located-low mask s)
+
+    row-number : at < 4 → at ≡ rowNumber (rowOf mask s)
+    row-number h = row-is ∙ sym (number-or 4 (rowOf mask s) (omega (arith, row-is)))
 
     -- rows 2 and 3 have values for one flag only, and that is the one
-    flag-two : row ≡ 2 → _≡_ {A = ℕ} (cond (leb (t .minus + t .twos) (t .one)) 1 0) 0
+    flag-two : at ≡ 2 → _≡_ {A = ℕ} (cond (leb (t .minus + t .twos) (t .one)) 1 0) 0
     flag-two e =
         let i = row-two _ _ n (sym found ∙ e) in
         let some : t .twos ≡ 0 → ⊥ = least-two _ _ _ (i .0) in
@@ -280,40 +288,41 @@ module _ {mask : ℕ} {s : List ℕ} {t : Tally} (tally : Tallied mask s t) wher
         positive zero h = absurd (h refl)
         positive (suc k) h = omega arith
 
-    flag-three : row ≡ 3 → _≡_ {A = ℕ} (cond (leb (t .minus + t .twos) (t .one)) 1 0) 1
+    flag-three : at ≡ 3 → _≡_ {A = ℕ} (cond (leb (t .minus + t .twos) (t .one)) 1 0) 1
     flag-three e =
         let i = least-zero _ _ _ (row-three _ _ n (sym found ∙ e)) in
         ap (λ (b : Bool). cond {A = ℕ} b 1 0) (le-leb (t .minus + t .twos) (t .one) (omega (arith, i .0, i .1)))
 
     module _ {a : Bool} (tested : a
-        ≡ (leb 80 n && ltb row 4 && leb (t .one) (t .plus) && leb (t .minus) (t .plus) && leb (t .twos) (t .plus))) where
+        ≡ (leb 80 n && ltb at 4 && leb (t .one) (t .plus) && leb (t .minus) (t .plus) && leb (t .twos) (t .plus))) where
       pub applied-is : a ≡ applies mask 7 s
       unfolding applies
-      applied-is = tested ∙ rw (row-is, tally .one, tally .plus, tally .minus, tally .twos, ← size)
+      applied-is = tested ∙ rw (row-has, tally .one, tally .plus, tally .minus, tally .twos, ← size)
 
-      pub row-low : a ≡ true → row < 4
+      pub row-low : a ≡ true → at < 4
       row-low e =
-          ltb-true row 4
-          (and-right (leb 80 n) (ltb row 4)
+          ltb-true at 4
+          (and-right (leb 80 n) (ltb at 4)
           (and-left _ (leb (t .one) (t .plus))
           (and-left _ (leb (t .minus) (t .plus)) (and-left _ (leb (t .twos) (t .plus)) (sym tested ∙ e)))))
 
       -- the values, in the flag's order
       pub values-say : {flag : ℕ} → a ≡ true → flag ≡ cond (leb (t .minus + t .twos) (t .one)) 1 0
-          → samplesOf (valuesFor mask t row flag) ≡ valuesIn mask s
+          → samplesOf (valuesFor mask t at flag) ≡ valuesIn mask s
       unfolding valuesBy valuesOf caseOf
       values-say {flag} e f =
-          let fit : leb (caseOf (rowOf mask s) .from) (length s) ≡ true = rows-fit mask s (rw (← row-is) (lt-ltb row 4 (row-low e))) in
-          said mask t row flag (row-low e) (λ z. f ∙ flag-two z) (λ z. f ∙ flag-three z) ∙ rw (row-is, f ∙ flag-is, fit)
+          let fit = rows-fit mask s (sym row-has ∙ lt-ltb at 4 (row-low e)) in
+          said mask t at flag (row-low e) (λ z. f ∙ flag-two z) (λ z. f ∙ flag-three z)
+          ∙ rw (row-number (row-low e), f ∙ flag-is, fit)
 
       -- and all that is written
       pub located-is : {flag bits plus : ℕ} {x y z : List ℕ} {v : Values} {w : Ways} → a ≡ true
           → flag ≡ cond (leb (t .minus + t .twos) (t .one)) 1 0 → flag < 2
-          → v ≡ valuesFor mask t row flag → InTurn plus s v → WaysAre s v w x y z
+          → v ≡ valuesFor mask t at flag → InTurn plus s v → WaysAre s v w x y z
           → bits ≡ 11 + (w .first .bits + w .second .bits + w .third .bits) → LocatedIs mask s (record {
             tool = 7;
             bits = bits;
-            row = row;
+            row = at;
             flag = flag;
             count = v .count;
             first = w .first;
@@ -327,7 +336,7 @@ module _ {mask : ℕ} {s : List ℕ} {t : Tally} (tally : Tallied mask s t) wher
             x = v .first .sample;
             y = v .second .sample;
             z = v .third .sample;
-            row = row-is;
+            row = row-number (row-low on);
             low = row-low on;
             flag = f ∙ flag-is;
             mark = mark;

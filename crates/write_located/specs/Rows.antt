@@ -8,7 +8,7 @@ use lib.Dec.{eqb, leb}
 use lib.IntN.{pos, negsuc}
 use Rattle.rules.specs.Samples.{sampleOf, plusZero, minusZero}
 use Rattle.rules.specs.Located.{valuesOf}
-use Rattle.rules.specs.Chooses.{flagsFor, without, leastOf, greatestOf, above, below, rowOf, locatedFlag, locatedForm}
+use Rattle.rules.specs.Chooses.{flagsFor, without, leastOf, greatestOf, above, below, rowNumber, rowOf, locatedFlag, locatedForm}
 use Rattle.write_scan.specs.Looks.{countIs}
 use Rattle.write_located.specs.declared.Tally.{Tally}
 use Rattle.write_located.specs.declared.Value.{Value}
@@ -82,14 +82,14 @@ samplesOf v = take (v .count) (v .first .sample ∷ v .second .sample ∷ v .thi
 
 -- the samples of the values of a frame
 abbrev pub valuesIn : ℕ → List ℕ → List ℕ
-valuesIn mask s = map (sampleOf mask) (valuesOf (length s) (rowOf mask s) (locatedFlag mask s))
+valuesIn mask s = map (sampleOf mask) (valuesOf (length s) (rowNumber (rowOf mask s)) (locatedFlag mask s))
 
 -- what value-location writes: its values are x, y and z, as many of them as the row has for the flag
 pub record LocatedIs (mask : ℕ) (s : List ℕ) (r : Located) (a b c : List ℕ) : Type 0 where
   pub x : ℕ
   pub y : ℕ
   pub z : ℕ
-  pub row : r .row ≡ rowOf mask s
+  pub row : r .row ≡ rowNumber (rowOf mask s)
   pub low : r .row < 4
   pub flag : r .flag ≡ locatedFlag mask s
   pub mark : r .flag < 2

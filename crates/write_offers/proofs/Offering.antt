@@ -11,15 +11,15 @@ use lib.Dec.{eqb, leb, ltb}
 use Rattle.rules.specs.Tools.{isTool, holds}
 use Rattle.rules.proofs.Tests.{by-tool}
 use Rattle.rules.specs.Samples.{plusZero, minusZero}
-use Rattle.rules.specs.Chooses.{every, rowOf, applies, formOf, riceChoice, locatedForm}
-use Rattle.rules.specs.Chooses.{fractionalRow, fractionalApplies, fractionalForm, leastOf, greatestOf}
+use Rattle.rules.specs.Chooses.{every, hasRow, rowNumber, rowOr, rowOf, applies, formOf, riceChoice, locatedForm}
+use Rattle.rules.specs.Chooses.{frameRow, fractionalApplies, fractionalForm, leastOf, greatestOf}
 use Rattle.rules.specs.Bits.{lowBits}
 use Rattle.rules.specs.Fractional.{firstCode, rowCount, bodyBits, fractionalBody}
 use Rattle.rules.proofs.Octets.{length-lowBits}
 use Rattle.rules.proofs.Fractional.{length-body}
 use Rattle.write_scan.specs.Looks.{nearBy, near, twoZeros}
 use Rattle.write_scan.proofs.Tests.{never}
-use Rattle.rules.proofs.FrameRow.{row-extent}
+use Rattle.rules.proofs.FrameRow.{below-past, number-or, row-low, row-extent}
 use Rattle.write_located.proofs.Near.{row-near, zeros-near}
 use Rattle.write_offers.specs.declared.Offer.{Offer}
 use Rattle.write_offers.specs.Offers.{failing, OfferIs, offerIf}
@@ -82,25 +82,37 @@ module _ (mask : ℕ) (s : List ℕ) where
   rice-held = refl
 
   -- tool 11
-  module _ {n : ℕ} (size : length s ≡ n) {k : ℕ} (row : k ≡ fractionalRow mask s) where
-    pub fractional-form : 8 + bodyBits k n ≡ length (formOf mask 11 s)
-    unfolding formOf fractionalForm
-    fractional-form =
-        rw (row, ← size) (sym
-        (length-append (lowBits 8 (firstCode (length s) + fractionalRow mask s)) (fractionalBody mask (fractionalRow mask s) s)
-        ∙ ap₂ _+_ (length-lowBits 8 (firstCode (length s) + fractionalRow mask s)) (length-body mask (fractionalRow mask s) s)))
+  pub fractional-form : 8 + bodyBits (rowNumber (frameRow mask s)) (length s) ≡ length (formOf mask 11 s)
+  unfolding formOf fractionalForm
+  fractional-form =
+      let k = rowNumber (frameRow mask s) in
+      sym (length-append (lowBits 8 (firstCode (length s) + k)) (fractionalBody mask k s)
+      ∙ ap₂ _+_ (length-lowBits 8 (firstCode (length s) + k)) (length-body mask k s))
+
+  module _ {n : ℕ} (size : length s ≡ n) {k : ℕ} (row : k ≡ rowOr (rowCount n) (frameRow mask s)) where
+    row-has : ltb k (rowCount n) ≡ hasRow (frameRow mask s)
+    row-has = rw (row, ← size) (below-past (rowCount (length s)) (frameRow mask s) (row-low mask s))
+
+    pub row-held : k < rowCount n → hasRow (frameRow mask s) ≡ true
+    row-held h = sym row-has ∙ lt-ltb k (rowCount n) h
+
+    pub row-number : k < rowCount n → k ≡ rowNumber (frameRow mask s)
+    row-number h = row ∙ sym (number-or (rowCount n) (frameRow mask s) (rw (← row) h))
+
+    pub row-bits : k < rowCount n → 8 + bodyBits k n ≡ length (formOf mask 11 s)
+    row-bits h = rw (row-number h, ← size) fractional-form
 
     pub row-applies : k < rowCount n → applies mask 11 s ≡ true
     unfolding applies
-    row-applies h = rw (← row, size) (lt-ltb k (rowCount n) h)
+    row-applies h = row-held h
 
     pub row-unmet : rowCount n ≤ k → applies mask 11 s ≡ false
     unfolding applies
-    row-unmet h = rw (← row, size) (le-ltb k (rowCount n) h)
+    row-unmet h = sym row-has ∙ le-ltb k (rowCount n) h
 
     pub fractional-offer : {b : ℕ} {r : Offer} → k < rowCount n → b ≡ 8 + bodyBits k n → b ≤ 840 → r ≡ record { why = 0; bits = b }
         → OfferIs mask 11 s r
-    fractional-offer h e few told = met mask 11 s (row-applies h) (e ∙ fractional-form) (omega arith) told
+    fractional-offer h e few told = met mask 11 s (row-applies h) (e ∙ row-bits h) (omega arith) told
 
     pub no-row-offer : {r : Offer} → rowCount n ≤ k → r ≡ record { why = 1; bits = 0 } → OfferIs mask 11 s r
     no-row-offer h told = unmet mask 11 s (λ z. omega arith) (row-unmet h) told
@@ -116,23 +128,22 @@ module _ (mask : ℕ) (s : List ℕ) where
     short-offer h told = let e : leb 80 (length s) ≡ false = lt-leb 80 (length s) (omega arith) in
         rw told (record { why = rw e; bits = rw e; small = omega arith })
 
-    pub rowless-offer : {r : Offer} → 80 ≤ n → 4 ≤ rowOf mask s → r ≡ record { why = 2; bits = 0 } → OfferIs mask 7 s r
+    pub rowless-offer : {r : Offer} → 80 ≤ n → hasRow (rowOf mask s) ≡ false → r ≡ record { why = 2; bits = 0 } → OfferIs mask 7 s r
     unfolding failing applies
     rowless-offer h g told =
         let e : leb 80 (length s) ≡ true = le-leb 80 (length s) (omega arith) in
-        let f : ltb (rowOf mask s) 4 ≡ false = le-ltb (rowOf mask s) 4 g in
-        rw told (record { why = rw (e, f); bits = rw (e, f); small = omega arith })
+        rw told (record { why = rw (e, g); bits = rw (e, g); small = omega arith })
 
     pub far-offer : {r : Offer} → 80 ≤ n → near (leastOf mask s) (greatestOf mask s) ≡ false → r ≡ record { why = 2; bits = 0 }
         → OfferIs mask 7 s r
-    far-offer h far told = rowless-offer h (omega (arith, row-near mask s far)) told
+    far-offer h far told = rowless-offer h (ap hasRow (row-near mask s far)) told
 
-    pub rare-offer : {r : Offer} → 80 ≤ n → rowOf mask s < 4 → applies mask 7 s ≡ false → r ≡ record { why = 3; bits = 0 }
+    pub rare-offer : {r : Offer} → 80 ≤ n → hasRow (rowOf mask s) ≡ true → applies mask 7 s ≡ false → r ≡ record { why = 3; bits = 0 }
         → OfferIs mask 7 s r
     unfolding failing
     rare-offer h g off told =
         rw told (record {
-          why = rw (off, le-leb 80 (length s) (omega arith), lt-ltb (rowOf mask s) 4 g);
+          why = rw (off, le-leb 80 (length s) (omega arith), g);
           bits = rw off;
           small = omega arith;
         })

@@ -5,13 +5,13 @@ use mathlib.Core.Path.{_≡_}
 use mathlib.Core.List.{List}
 use mathlib.Core.Bool.{Bool, cond}
 use lib.ListN.{length}
-use lib.Dec.{eqb, leb, ltb}
-use Rattle.rules.specs.Chooses.{rowOf, applies, formOf}
+use lib.Dec.{eqb, leb}
+use Rattle.rules.specs.Chooses.{hasRow, rowOf, applies, formOf}
 use Rattle.write_offers.specs.declared.Offer.{Offer}
 
 -- the first of a tool's conditions that fails, or 0 where it applies
 unfoldable pub failing : ℕ → ℕ → List ℕ → ℕ
-failing mask t s = cond (applies mask t s) 0 (cond (eqb t 7) (cond (leb 80 (length s)) (cond (ltb (rowOf mask s) 4) 3 2) 1) 1)
+failing mask t s = cond (applies mask t s) 0 (cond (eqb t 7) (cond (leb 80 (length s)) (cond (hasRow (rowOf mask s)) 3 2) 1) 1)
 
 -- a tool's offer: that condition, and its form's bits where it applies
 pub record OfferIs (mask t : ℕ) (s : List ℕ) (r : Offer) : Type 0 where

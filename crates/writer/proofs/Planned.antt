@@ -13,7 +13,7 @@ use Rattle.rules.specs.Chooses.{fractionalForm, formOf, chosenTool}
 use Rattle.rules.proofs.Octets.{Below, below-at}
 use Rattle.rules.proofs.Signed.{LawMask}
 use Rattle.rules.proofs.Fractional.{Among, places-below, radix-range, length-samplesAt}
-use Rattle.rules.proofs.FrameRow.{row-low, row-among}
+use Rattle.rules.proofs.FrameRow.{the-row, row-among}
 use Rattle.write_located.specs.declared.Located.{Located}
 use Rattle.write_zeros.specs.declared.Zeros.{Zeros}
 use Rattle.write_choice.specs.declared.last.Last.{Last}
@@ -63,7 +63,7 @@ module _ (mask set n : ℕ) (s : List ℕ) (last : Last) (size : length s ≡ n)
   row-form = rw (p .row eleven .0, ← size) refl
 
   pub row-few : last .row < 12
-  row-few = rw (p .row eleven .0) (row-low mask s (p .row eleven .1))
+  row-few = rw (p .row eleven .0) (the-row mask s (p .row eleven .1) .few)
 
   pub row-digits : LawMask mask → Below 256 s → (i : ℕ) → getD (map (placeIn (samplesAt mask (last .row))) s) i 0 < radix (last .row)
   row-digits law b =

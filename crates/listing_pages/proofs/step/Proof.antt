@@ -31,10 +31,11 @@ list-frame-requires c κs =
     let b = read-bounds _ _ _ _ (c .before .before .before .pass .ensures .tells) (c .before .enum-told .given .1) in
     let p = a .pre .0 in
     let n = length-drop (a .args .s .at) (a .args .stream .now) in (
-      omega (arith, p .frames, p .inside, p .short),
-      omega (arith, b .inside, p .short),
-      omega
-          (arith, b .fits, p .samples, p .frames, p .inside, p .short),
+      (
+        omega (arith, p .frames, p .inside, p .short),
+        omega (arith, b .inside, p .short),
+        omega (arith, b .fits, p .samples, p .frames, p .inside, p .short),
+      ),
       a .pre .2,
     )
 

@@ -8,6 +8,7 @@ use lib.Seq.{length-take-le}
 use Rattle.rules.proofs.Octets.{Below, below-all, below-take}
 use Rattle.tool_packing.proofs.Onward.{Adds}
 use Rattle.tool_packing.specs.SoundParts.{partSize}
+use Rattle.pack.specs.declared.Amiss.the-variants.{Nothing}
 use Rattle.pack.specs.declared.Run.{Run}
 use Rattle.pack.specs.Runs.{NextOctets}
 use Rattle.pack.proofs.Running.{kept-most, run-stopped, part-adds, next-octets, part-taken}
@@ -52,17 +53,17 @@ module _ (c : tie.After-pack-on) where
 
   adds : Adds (length (part read)) (length (start .args .page .now)) (start .args .run .packed) (c .pack-on .result)
   adds =
-      part-adds (start .args .s) (start .args .run) (start .pre .0) (start .pre .1) (part read) (start .args .page .now)
+      part-adds (start .args .job) (start .args .run) (start .pre .0) (start .pre .1) (part read) (start .args .page .now)
       page octets (part-most read)
       (start .pre .3) (c .pack-on .ensures)
 
   paged : c .pack-on .result .octets - start .args .run .packed .octets ≤ length page
   paged = omega (arith, adds .paged, c .pack-on .kept .1 .1 .1 .1 .1 .0)
 
-  next : NextOctets (start .args .s) (start .args .run .packed) (c .pack-on .result)
+  next : NextOctets (start .args .job) (start .args .run .packed) (c .pack-on .result)
       (take (c .pack-on .result .octets - start .args .run .packed .octets) page)
   next =
-      next-octets (start .args .s) (start .args .run) (start .pre .0) (start .pre .1) (part read) (start .args .page .now)
+      next-octets (start .args .job) (start .args .run) (start .pre .0) (start .pre .1) (part read) (start .args .page .now)
       page octets (part-most read)
       (start .pre .3) (c .pack-on .ensures)
 
@@ -93,7 +94,7 @@ module _ (c : tie.After-pack-on-arg2) where
 returns : tie.Need-returns
 returns c =
     let a = start-of-stopped c in
-    let t = run-stopped (a .args .s) (a .args .run) (c .stopped .result) (a .pre .0) (a .pre .1) (c .stopped .ensures) in
+    let t = run-stopped (a .args .job) (a .args .run) (c .stopped .result) (a .pre .0) (a .pre .1) (c .stopped .ensures) in
     (t .stands, t .less)
 
 slice-aggregate-pack-on : tie.Need-slice-aggregate-pack-on
@@ -122,7 +123,7 @@ same-length-2 c = (filled-up (c .before .before)) .filled-up .kept .1 .0 ∙ (re
 returns-2 : tie.Need-returns-2
 returns-2 c =
     let a = start-of-keep-part (c .before .before) in
-    let t = run-stopped (a .args .s) (a .args .run) (c .stopped2 .result) (a .pre .0) (a .pre .1) (c .stopped2 .ensures) in
+    let t = run-stopped (a .args .job) (a .args .run) (c .stopped2 .result) (a .pre .0) (a .pre .1) (c .stopped2 .ensures) in
     (t .stands, t .less)
 
 returns-3 : tie.Need-returns-3
@@ -134,11 +135,11 @@ returns-3 c =
       packed = k .pack-on .result;
       filled = f .filled-up .result;
       more = c .may-go-on .result;
-      wrong = 0;
+      wrong = Nothing;
       left = (read-part (c .before .before)) .read-part .result .left;
     } in
     let t =
-    part-taken (a .args .s) (a .args .run) (a .pre .0) (a .pre .1) (part f) (a .args .page .now) (page k) (octets k)
+    part-taken (a .args .job) (a .args .run) (a .pre .0) (a .pre .1) (part f) (a .args .page .now) (page k) (octets k)
     (part-most f) (a .pre .3) (k .pack-on .ensures) (count f) (omega (arith, part-length f)) r refl (c .may-go-on .ensures)
     in (t .stands, t .less)
 

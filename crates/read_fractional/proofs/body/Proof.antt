@@ -4,7 +4,7 @@ use mathlib.Core.Path.{ap}
 use native.Mathlib.Omega.{arith}
 use lib.ListN.{length}
 use Rattle.rules.specs.Bits.{bitsOf}
-use Rattle.rules.specs.Fractional.{groupsOf}
+use Rattle.rules.specs.Fractional.{codingOf, groupsAs}
 use Rattle.rules.proofs.Fractional.{radix-range, row-small}
 use Rattle.read_bodies.proofs.Poured.{fills-as}
 use Rattle.read_fractional.proofs.Rowed.{body-as}
@@ -32,7 +32,7 @@ returns c =
     let r = a .row-at .ensures in
     let values = c .before .before .before .values-of in
     let v = rw (r .low, r .below) at (values .ensures) in
-    fills-as {other = groupsOf (values .result) (a .row-at .result .radix) (s .args .n) (bitsOf (s .args .octets .now)) (s .args .at)}
+    fills-as {other = groupsAs (values .result) (codingOf (a .row-at .result .radix)) (s .args .n) (bitsOf (s .args .octets .now)) (s .args .at)}
     (c .by-radix .ensures) (body-as (s .args .mask) (s .args .k) (s .args .n) (s .pre .3) v (r .radix) _ _) (omega arith)
 
 pub body-spec : {M : Type 1} → statement M

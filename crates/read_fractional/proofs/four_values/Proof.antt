@@ -3,6 +3,7 @@ use Prim.Native.Nat.{_-_}
 use mathlib.Core.Path.{refl}
 use native.Mathlib.Omega.{arith}
 use Rattle.rules.specs.Bits.{bitsOf}
+use Rattle.rules.specs.Fractional.{coding}
 use Rattle.read_bits.proofs.Told.{told, refused}
 use Rattle.read_fractional.proofs.Turning.{Filling, filling-none, filling-turn, filling-refused}
 use Rattle.read_fractional.proofs.Turning.{filling-all, packs-four, laid-one, set-room}
@@ -10,7 +11,7 @@ use Rattle.read_fractional.proofs.four_values.Statement.{statement}
 use Rattle.read_fractional.proofs.four_values.Tie as tie
 
 abbrev Inv-loop : tie.InvT-loop
-Inv-loop octets at n values samples₀ filled₀ place₀ samples filled place = Filling values (bitsOf octets) at 4 1 2 n
+Inv-loop octets at n values samples₀ filled₀ place₀ samples filled place = Filling values (bitsOf octets) at (coding 4 1 2) n
     samples₀ samples filled place
 
 abbrev μ-loop : tie.MeasureT-loop

@@ -32,15 +32,15 @@ module _ (c : tie.After-first-octet) (b : Begins) (e : c .first-octet .result �
   small : getD octets 0 0 < 256
   small = omega (arith, c .before .before .shared-slice-known2 .given 0)
 
-  begins : asFirst b ≡ firstOctet (getD octets 0 0)
-  begins = sym (ap asFirst e) ∙ c .first-octet .ensures
+  begins : asFirst (getD octets 0 0) b ≡ firstOctet (getD octets 0 0)
+  begins = sym (ap (asFirst (getD octets 0 0)) e) ∙ c .first-octet .ensures
 
-  says : (mask set room : ℕ) → afterFirst mask set room (getD octets 0 0) (asFirst b) (bitsOf octets) 8 ≡ frame mask set
+  says : (mask set room : ℕ) → afterFirst mask set room (asFirst (getD octets 0 0) b) (bitsOf octets) 8 ≡ frame mask set
       room (bitsOf octets) 0
-  says = opened octets (omega arith) small (asFirst b) begins
+  says = opened octets (omega arith) small (asFirst (getD octets 0 0) b) begins
 
-  known : LengthKnown (getD octets 0 0) (asFirst b)
-  known = length-known (getD octets 0 0) small (asFirst b) begins
+  known : LengthKnown (getD octets 0 0) b
+  known = length-known (getD octets 0 0) small b begins
 
 six-or-eight-requires : tie.Need-six-or-eight-requires
 six-or-eight-requires c κs =
@@ -57,7 +57,7 @@ returns-4 c = record { says = says (c .before .before) Pad (c .enum-told2 .given
 row-in-requires : tie.Need-row-in-requires
 row-in-requires c κs =
     let t = c .before .t in
-    known (c .before .before .before) (Tool (t .given .0 .0) (t .given .0 .1 .0)) (t .given .1) .2
+    known (c .before .before .before) (Tool (t .given .0 .0) (t .given .0 .1 .0)) (t .given .1) .code
 
 returns-5 : tie.Need-returns-5
 unfolding afterFirst
@@ -66,14 +66,15 @@ returns-5 c =
     let b = Tool (t .given .0 .0) (t .given .0 .1 .0) in
     let k = known (c .before .before .before .before) b (t .given .1) in
     record {
-      says = λ mask set room. rw (c .row-in .ensures) (says (c .before .before .before .before) b (t .given .1) mask set room);
-      ranges = (record { len = k .0; mark = rw (c .row-in .ensures) (k .1); at = omega arith; whole-octet = λ h. refl }, omega arith);
+      says = λ mask set room. rw (c .row-in .ensures)
+          (k .says mask set room _ 8 ∙ says (c .before .before .before .before) b (t .given .1) mask set room);
+      ranges = (record { len = k .len; mark = rw (c .row-in .ensures) (k .row); at = omega arith; whole-octet = λ h. refl }, omega arith);
     }
 
 returns-6 : tie.Need-returns-6
 returns-6 c =
     record {
-      says = λ mask set room. c .six-or-eight .ensures .says mask set room _ 8
+      says = λ mask set room. c .six-or-eight .ensures .says mask set room 8
           ∙ says (c .before .before .before .before) (SixOrEight (c .before .before .n .given .0 .0)) (c .before .before .n .given .1)
           mask set room;
       ranges = c .six-or-eight .ensures .ranges;

@@ -8,6 +8,7 @@ use lib.ListN.{length, replicate}
 use Rattle.rules.specs.Bits.{bitsOf}
 use Rattle.rules.specs.Reading.{Reader, whole}
 use Rattle.rules.specs.Frame.{body}
+use Rattle.read_opening.specs.Opening.{bodyBy}
 use Rattle.read_bodies.proofs.Poured.{fills-as}
 use Rattle.reader.proofs.Decided.{length-range, last-body}
 use Rattle.reader.proofs.body_of.Statement.{statement}
@@ -19,10 +20,10 @@ module _ (s : tie.Start) where
 
   -- the tool is k
   of-tool : (k : ℕ) → s .args .h .tool ≡ k
-      → body (s .args .mask) (s .args .h .tool) (s .args .h .len) (s .args .h .mark) (bitsOf (s .args .octets .now)) (s .args .h .at)
-      ≡ body (s .args .mask) k (s .args .h .len) (s .args .h .mark) (bitsOf (s .args .octets .now)) (s .args .h .at)
+      → bodyBy (s .args .mask) (s .args .h .tool) (s .args .h .len) (s .args .h .mark) (bitsOf (s .args .octets .now)) (s .args .h .at)
+      ≡ bodyBy (s .args .mask) k (s .args .h .len) (s .args .h .mark) (bitsOf (s .args .octets .now)) (s .args .h .at)
   of-tool k e =
-      ap (λ (t : ℕ). body (s .args .mask) t (s .args .h .len) (s .args .h .mark) (bitsOf (s .args .octets .now)) (s .args .h .at)) e
+      ap (λ (t : ℕ). bodyBy (s .args .mask) t (s .args .h .len) (s .args .h .mark) (bitsOf (s .args .octets .now)) (s .args .h .at)) e
 
   lent : length (s .args .samples .now) ≡ 320
   lent = s .pre .3
@@ -57,13 +58,13 @@ few-values-requires : tie.Need-few-values-requires
 few-values-requires c κs = c .before .before .before .pre
 
 returns : tie.Need-returns
-unfolding body
+unfolding bodyBy body
 returns c =
     let s = c .before .before .before .before in
     fills-as (c .uncompressed .ensures) (of-tool s 1 (c .before .before .match .keys1)) (omega (arith, s .pre .0 .at, ranged s))
 
 returns-2 : tie.Need-returns-2
-unfolding body
+unfolding bodyBy body
 returns-2 c =
     let s = c .before .before .before .before .before in
     fills-as (c .filled .ensures) (of-tool s 2 (c .before .before .before .match .keys2)
@@ -71,7 +72,7 @@ returns-2 c =
     (omega (arith, s .pre .0 .at))
 
 returns-3 : tie.Need-returns-3
-unfolding body
+unfolding bodyBy body
 returns-3 c =
     let s = c .before .before .before .before .before in
     fills-as (c .filled2 .ensures) (of-tool s 3 (c .before .before .before .match .keys3)
@@ -79,25 +80,25 @@ returns-3 c =
     (omega (arith, s .pre .0 .at))
 
 returns-4 : tie.Need-returns-4
-unfolding body
+unfolding bodyBy body
 returns-4 c =
     let s = c .before .before .before .before in
     fills-as (c .constant .ensures) (of-tool s 4 (c .before .before .match .keys4)) (omega (arith, s .pre .0 .at))
 
 returns-5 : tie.Need-returns-5
-unfolding body
+unfolding bodyBy body
 returns-5 c =
     let s = c .before .before .before .before in
     fills-as (c .binary .ensures) (of-tool s 5 (c .before .before .match .keys5)) (omega (arith, s .pre .0 .at, ranged s))
 
 returns-6 : tie.Need-returns-6
-unfolding body
+unfolding bodyBy body
 returns-6 c =
     let s = c .before .before .before .before .before in
     fills-as (c .plus-minus .ensures) (of-tool s 6 (c .before .before .before .match .keys6)) (omega (arith, s .pre .0 .at))
 
 returns-7 : tie.Need-returns-7
-unfolding body
+unfolding bodyBy body
 returns-7 c =
     let s = c .before .before .before .before in
     let last = last-body (s .args .mask) (s .args .h .tool) (s .args .h .len) (s .args .h .mark)

@@ -11,7 +11,7 @@ use Rattle.rules.specs.Tools.{holds}
 use Rattle.rules.specs.Bits.{bitsOf}
 use Rattle.rules.specs.Reading.{Read}
 use Rattle.rules.specs.Samples.{maskOf}
-use Rattle.rules.specs.Frame.{body}
+use Rattle.read_opening.specs.Opening.{bodyOf}
 use Rattle.read_bits.specs.declared.Outcome.the-variants.{Got}
 use Rattle.read_bits.specs.Outcomes.{nextOf}
 use Rattle.law.proofs.Mask.{mask-small, mask-odd}
@@ -23,7 +23,7 @@ use Rattle.reader.proofs.with_tool.Statement.{statement}
 use Rattle.reader.proofs.with_tool.Tie as tie
 
 returns : tie.Need-returns
-returns c = fills-none (no-tool _ _ _ _ _ _ _ _ (sym (c .before .before .holds .ensures) ∙ not-true _ (c .before .if1 .taken)))
+returns c = fills-none (no-tool _ _ _ _ _ _ _ (sym (c .before .before .holds .ensures) ∙ not-true _ (c .before .if1 .taken)))
     refl (c .before .before .before .before .pre .2) (c .refused .ensures)
 
 held : (c : tie.Else1) → holds (c .before .before .before .args .set) (c .before .before .before .args .h .tool) ≡ true
@@ -38,7 +38,7 @@ module _ (c : tie.After-finished) where
   else1 = c .before .before .before .before .before .before .before .before .before
 
 returns-2 : tie.Need-returns-2
-returns-2 c = fills-none (no-room _ _ _ _ _ _ _ _ (held (c .before .before .before)) (c .before .if2 .taken)) refl
+returns-2 c = fills-none (no-room _ _ _ _ _ _ _ (held (c .before .before .before)) (c .before .if2 .taken)) refl
     ((start (c .before .before)) .pre .2) (c .refused2 .ensures)
 
 body-of-requires : tie.Need-body-of-requires
@@ -52,8 +52,7 @@ module _ (c : tie.After-body-of) where
   s = c .before .before .before .before .before .before .before .before
 
   abbrev found : Read (List ℕ)
-  found = body (maskOf (s .args .law)) (s .args .h .tool) (s .args .h .len) (s .args .h .mark) (bitsOf (s .args .octets .now))
-      (s .args .h .at)
+  found = bodyOf (maskOf (s .args .law)) (s .args .h) (bitsOf (s .args .octets .now)) (s .args .h .at)
 
   fills : FillsBody found (2 ^ 41) (s .args .samples .now) (c .body-of .last .1 .1 .1 .0) (c .body-of .result)
   fills = rw (c .before .before .mask-of .ensures) at (c .body-of .ensures)
@@ -82,13 +81,13 @@ returns-3 : tie.Need-returns-3
 returns-3 c =
     let read = c .before .before .before .before in
     let room = read .before .before .before .before .before in
-    fills-none (no-body _ _ _ _ _ _ _ _ (held room) (omega arith) (body-refused (fills read) (c .before .before .why .given .1))) refl
+    fills-none (no-body _ _ _ _ _ _ _ (held room) (omega arith) (body-refused (fills read) (c .before .before .why .given .1))) refl
     (body-length (fills read) (room .before .before .before .pre .2)) (c .refused3 .ensures)
 
 returns-4 : tie.Need-returns-4
 returns-4 c =
     let w = body-whole (fills (c .before .before .before .before)) (c .before .before .bits .given .1) in
-    fills-finish _ _ _ _ (with-body _ _ _ _ _ _ _ _ (held (else1 c)) (omega arith) (w .says))
+    fills-finish _ _ _ _ (with-body _ _ _ _ _ _ _ (held (else1 c)) (omega arith) (w .says))
     (c .finished .ensures (w .s) (sized (c .before .before .before .before) (c .before .before .bits .given .1)))
     (w .samples) (body-length (fills (c .before .before .before .before)) ((else1 c) .before .before .before .pre .2))
 

@@ -17,12 +17,12 @@ module _ (c : tie.After-i) where
   abbrev s : tie.Start
   s = c .before .before .before .before .before .before .before .before
 
-  found : At (c .i .given .0 .0) (c .i .given .0 .1 .0) ≡ lowestGap (length (s .args .octets .now)) (s .args .size)
+  found : At (c .i .given .0 .0) (c .i .given .0 .1 .0) ≡ lowestGap (length (s .args .octets .now)) (s .args .sought .size)
       (rowsOf (s .args .table .now))
   found = rw (c .i .given .1) at (c .before .before .lowest-gap .ensures)
 
-  told : (c .i .given .0 .0 ≤ s .args .n) × (c .i .given .0 .1 .0 + length (s .args .octets .now) ≤ s .args .size)
-  told = gap-told (s .args .table .now) (s .args .size) (s .args .number) (s .args .octets .now) (s .pre .1 .0 .0) (s .pre .0 .0) found
+  told : (c .i .given .0 .0 ≤ s .args .sought .n) × (c .i .given .0 .1 .0 + length (s .args .octets .now) ≤ s .args .sought .size)
+  told = gap-told (s .args .table .now) (s .args .sought .size) (s .args .sought .number) (s .args .octets .now) (s .pre .1 .0 .0) (s .pre .0 .0) found
 
 place-requires : tie.Need-place-requires
 place-requires c κs =
@@ -44,10 +44,10 @@ put-taken-requires c κs =
     let p = s (i place) .pre in
     let q = p .1 .0 in
     let r = p .1 .1 in
-    let k = gap-asks (a .table .now) (a .size) (a .number) (a .octets .now) (q .0) (p .0 .0) (p .0 .4) (p .0 .1) (omega (arith, q .1, q .2))
+    let k = gap-asks (a .table .now) (a .sought .size) (a .sought .number) (a .octets .now) (q .0) (p .0 .0) (p .0 .4) (p .0 .1) (omega (arith, q .1, q .2))
     (heard-few (r .heard)) (found (i place)) (place .place .ensures .1) (place .place .kept .1 .0)
     in
-    ((k .count, p .0 .1, told (i place) .0, r), k .room)
+    (record { count = k .count; few = p .0 .1; among = told (i place) .0; room = k .room }, r)
 
 -- there was none: the greetings closed up, and the new one stands behind them
 module _ (c : tie.After-close-up) where
@@ -64,7 +64,7 @@ place-requires-2 c κs =
     let a = begin (close c) .args in
     let p = begin (close c) .pre in
     let q = p .1 .0 in
-    let n = closed-count (a .block .now) (a .table .now) (a .number) (a .octets .now) (up .ensures) (p .0 .0) in (
+    let n = closed-count (a .block .now) (a .table .now) (a .sought .number) (a .octets .now) (up .ensures) (p .0 .0) in (
       (n, p .0 .1, omega arith, omega (arith, q .0 .order .cells, up .kept .1 .0), p .0 .2),
       (omega (arith, q .2, p .0 .3, up .kept .0), omega (arith, q .2, p .0 .4)),
     )
@@ -77,11 +77,11 @@ put-taken-requires-2 c κs =
     let p = begin (close (place .before)) .pre in
     let q = p .1 .0 in
     let r = p .1 .1 in
-    let k = behind-asks (a .table .now) (a .size) (a .number) (a .octets .now) (q .0) (p .0 .0) (p .0 .4) (p .0 .1)
+    let k = behind-asks (a .table .now) (a .sought .size) (a .sought .number) (a .octets .now) (q .0) (p .0 .0) (p .0 .4) (p .0 .1)
     (omega (arith, q .1, q .2)) (heard-few (r .heard)) (a .behind) (up .ensures) (place .place2 .ensures .1)
     (place .place2 .kept .1 .0 ∙ up .kept .1 .0)
     in
-    ((k .count, p .0 .1, omega arith, r), k .room)
+    (record { count = k .count; few = p .0 .1; among = omega arith; room = k .room }, r)
 
 module _ (c : tie.After-put-taken) where
   abbrev placed : tie.After-place
@@ -93,7 +93,7 @@ returns c =
     let place = placed note in
     let a = s (i place) .args in
     let p = s (i place) .pre in
-    fit-gap (a .block .now) (a .table .now) (a .size) (a .sound .law) (a .number) (a .octets .now) (omega (arith, p .0 .0, p .0 .1))
+    fit-gap (a .block .now) (a .table .now) (a .sought .size) (a .head .law) (a .sought .number) (a .octets .now) (omega (arith, p .0 .0, p .0 .1))
     (found (i place)) (omega (arith, told (i place) .0, p .0 .0)) (place .place .ensures .0) (place .place .ensures .1)
     (note .put-taken .ensures)
 
@@ -109,7 +109,7 @@ returns-2 c =
     let gone = up .before .before .before in
     let a = begin up .args in
     let p = begin up .pre in
-    fit-behind (a .block .now) (a .table .now) (a .size) (a .sound .law) (a .number) (a .octets .now) (omega (arith, p .0 .0, p .0 .1))
+    fit-behind (a .block .now) (a .table .now) (a .sought .size) (a .head .law) (a .sought .number) (a .octets .now) (omega (arith, p .0 .0, p .0 .1))
     (sym (gone .enum-told .given .1) ∙ gone .before .before .lowest-gap .ensures) (up .close-up .ensures) (p .1 .0 .1) (p .0 .0)
     (place .place2 .ensures .0) (place .place2 .ensures .1) (note .put-taken2 .ensures)
 

@@ -9,25 +9,25 @@ use Rattle.store.proofs.put_among.Tie as tie
 
 returns : tie.Need-returns
 returns c =
-    let s = c .before .before .before .before in
+    let s = c .before .before .before .before .before in
     let a = s .args in
     let p = s .pre in
-    put-taken (a .block .now) (a .table .now) (a .size) (a .law) (a .number) (a .octets .now) (p .0) (p .1 .2) (omega arith)
+    put-taken (a .block .now) (a .table .now) (a .sought .size) (a .law) (a .sought .number) (a .octets .now) (p .0) (p .1 .2) (omega arith)
 
 module _ (c : tie.After-over-long) where
   abbrev start-of-over-long : tie.Start
-  start-of-over-long = c .before .before .before .before .before .before
+  start-of-over-long = c .before .before .before .before .before .before .before .before
 
 module _ (c : tie.After-take) where
   abbrev start : tie.Start
-  start = c .before .before .before .before .before .before .before
+  start = c .before .before .before .before .before .before .before .before .before
 
 returns-2 : tie.Need-returns-2
 returns-2 c =
     let s = start-of-over-long c in
     let a = s .args in
     let p = s .pre in
-    put-long (a .block .now) (a .table .now) (a .size) (a .law) (a .number) (a .octets .now) (p .0) (p .1 .2) (omega arith)
+    put-long (a .block .now) (a .table .now) (a .sought .size) (a .law) (a .sought .number) (a .octets .now) (p .0) (p .1 .2) (omega arith)
     (c .over-long .ensures) (omega arith)
 
 put-sound-requires : tie.Need-put-sound-requires
@@ -44,7 +44,7 @@ returns-3 c =
     let s = start take in
     let a = s .args in
     let p = s .pre in
-    put-bad (a .block .now) (a .table .now) (a .size) (a .law) (a .number) (a .octets .now) (p .0) (p .1 .2) (omega arith)
+    put-bad (a .block .now) (a .table .now) (a .sought .size) (a .law) (a .sought .number) (a .octets .now) (p .0) (p .1 .2) (omega arith)
     (taken-bad _ _ (rw (c .enum-told .given .1) at (take .take .ensures)))
 
 returns-4 : tie.Need-returns-4

@@ -7,30 +7,31 @@ use Rattle.store.proofs.put_sound.Tie as tie
 
 returns : tie.Need-returns
 returns c =
-    let s = c .before .before .before .before .before in
+    let known = c .before .before in
+    let s = known .before .before .before .before in
     let a = s .args in
     let p = s .pre in
-    put-full (a .block .now) (a .table .now) (a .size) (a .sound .law) (a .number) (a .octets .now) (p .0 .0) (p .1 .1 .heard .lawful)
+    put-full (a .block .now) (a .table .now) (a .sought .size) (a .head .law) (a .sought .number) (a .octets .now) (p .0 .0) (p .1 .1 .heard .lawful)
     (p .0 .1) (p .1 .1 .heard .fine) (omega arith)
 
 module _ (c : tie.After-held) where
   abbrev start : tie.Start
-  start = c .before .before .before .before .before .before .before
+  start = c .before .before .before .before .before .before .before .before
 
 returns-2 : tie.Need-returns-2
 returns-2 c =
-    let held = c .before .held .ensures in
-    let s = start (c .before) in
+    let held = c .before .before .held .ensures in
+    let s = start (c .before .before) in
     let a = s .args in
     let p = s .pre in
-    put-no-room (a .block .now) (a .table .now) (a .size) (a .sound .law) (a .number) (a .octets .now) (p .0 .0) (p .1 .1 .heard .lawful)
+    put-no-room (a .block .now) (a .table .now) (a .sought .size) (a .head .law) (a .sought .number) (a .octets .now) (p .0 .0) (p .1 .1 .heard .lawful)
     (p .0 .1) (p .1 .1 .heard .fine) (omega arith) (held .0) (omega (arith, held .1))
 
 fit-requires : tie.Need-fit-requires
 fit-requires c κs =
     let room = c .before .before in
-    let held = room .before .held .ensures in
-    let s = start (room .before) in
+    let held = room .before .before .held .ensures in
+    let s = start (room .before .before) in
     let p = s .pre in
     let k = p .0 .0 in
     let q = p .1 .0 in
@@ -40,11 +41,11 @@ returns-3 : tie.Need-returns-3
 returns-3 c =
     let fit = c .before .before .before .before in
     let room = fit .before .before .before in
-    let held = room .before .held .ensures in
-    let s = start (room .before) in
+    let held = room .before .before .held .ensures in
+    let s = start (room .before .before) in
     let a = s .args in
     let p = s .pre in
-    put-fits (a .block .now) (a .table .now) (a .size) (a .sound .law) (a .number) (a .octets .now) (p .0 .0) (p .1 .1 .heard .lawful)
+    put-fits (a .block .now) (a .table .now) (a .sought .size) (a .head .law) (a .sought .number) (a .octets .now) (p .0 .0) (p .1 .1 .heard .lawful)
     (p .0 .1) (p .1 .1 .heard .fine) (omega arith) (held .0) (omega (arith, held .1, room .if2 .left)) (fit .fit .ensures)
 
 pub put-sound-spec : {M : Type 1} → statement M

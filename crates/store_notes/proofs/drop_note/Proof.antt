@@ -4,7 +4,7 @@ use mathlib.Core.List.{List, _++_}
 use native.Mathlib.Omega.{arith}
 use lib.ListN.{length, getD, take, drop, length-drop}
 use lib.Seq.{getD-drop}
-use Rattle.store_rows.specs.declared.rows.Row.{Row}
+use Rattle.store_notes.specs.declared.Head.{Head}
 use Rattle.store_rows.specs.Cells.{rowsOf, laid}
 use Rattle.store_rows.specs.Changed.{removeAt}
 use Rattle.rules.proofs.Lent.{from-on}
@@ -42,7 +42,7 @@ shut-over-requires c κs =
     (heads-less t (s .n) (s .i) (omega arith) (omega arith) (omega arith) (omega arith)) made in
     let first = marks-before .marks-before .ensures .0 in
     let all = marks-before2 .marks-before2 .ensures .0 in
-    let mine = ap (λ (r : Row). r .octets) (head-at .head-at .ensures .0) in (
+    let mine = ap (λ (h : Head). h .marks) (head-at .head-at .ensures .0) in (
       omega (arith, marks-next t (s .n) (s .i) (omega arith) (omega arith) (omega arith), first, all, mine),
       omega (arith, size, all, held-all t (s .n) (s .i) (omega arith) (omega arith) (omega arith)),
     )
@@ -58,10 +58,10 @@ returns c =
     let t = s .table .now in
     let at = marks-before .marks-before .ensures .0 in
     let used = marks-before2 .marks-before2 .ensures .0 in
-    let mine = ap (λ (r : Row). 2 * r .octets) (head-at .head-at .ensures .0) in
+    let mine = ap (λ (h : Head). 2 * h .marks) (head-at .head-at .ensures .0) in
     let front = 2 * marks-before .marks-before .result in
     let all = 2 * marks-before2 .marks-before2 .result in
-    let by = 2 * head-at .head-at .result .octets in
+    let by = 2 * head-at .head-at .result .marks in
     let once = take 97 t ++ (remove .remove .last .0 ++ drop (length t - 97) (drop 97 t)) in
     let made = part-made 97 (λ (u : List ℕ). laid (removeAt (s .i) (rowsOf u)) u) t (remove .remove .ensures) refl in
     note-out t (s .n) (s .i) (omega arith) (omega arith) (omega arith) (omega arith) (omega arith) mine (ap (λ (x : ℕ). 2 * x) at)

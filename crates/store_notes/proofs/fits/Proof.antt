@@ -1,11 +1,12 @@
 -- Row by row, beside the notes' heads (Matched).
 use Prim.Native.Nat.{ℕ, _-_, _≤_}
-use mathlib.Core.Path.{_≡_, sym, ap₂, _∙_}
+use mathlib.Core.Path.{_≡_, sym, ap, ap₂, _∙_}
 use mathlib.Core.List.{List}
 use native.Mathlib.Omega.{arith}
 use lib.ListN.{drop}
 use Rattle.store_rows.specs.Cells.{rowsAt}
 use Rattle.store_rows.proofs.Left.{left, left-all}
+use Rattle.store_notes.specs.Cells.{inRow}
 use Rattle.store_notes.specs.Sane.{matched}
 use Rattle.store_notes.proofs.Matched.{matched-end, matched-law, matched-many, matched-turn}
 use borrow.Author.Needs.{needs}
@@ -38,21 +39,21 @@ module _ (c : tie.After-head-at Inv-loop μ-loop) where
 returns : tie.Need-returns Inv-loop μ-loop
 returns c =
     let h = c .before .before in
-    matched-law (t h) (drop 97 (t h)) (n h) (l h .loop .i) (h .before .row-at .ensures .0) (h .head-at .ensures .0)
+    matched-law (t h) (drop 97 (t h)) (n h) (l h .loop .i) (h .before .row-at .ensures .0) (ap inRow (h .head-at .ensures .0))
     (omega arith) (omega arith)
     ∙ sym (l h .loop .inv .0)
 
 returns-2 : tie.Need-returns-2 Inv-loop μ-loop
 returns-2 c =
     let h = c .before .before .before .before .before in
-    matched-many (t h) (drop 97 (t h)) (n h) (l h .loop .i) (h .before .row-at .ensures .0) (h .head-at .ensures .0)
+    matched-many (t h) (drop 97 (t h)) (n h) (l h .loop .i) (h .before .row-at .ensures .0) (ap inRow (h .head-at .ensures .0))
     (omega arith) (omega arith)
     (omega arith) ∙ sym (l h .loop .inv .0)
 
 loop-again : tie.Need-loop-again Inv-loop μ-loop
 loop-again c =
     let h = c .before .before .before .before .before in (
-      l h .loop .inv .0 ∙ matched-turn (t h) (drop 97 (t h)) (n h) (l h .loop .i) (h .before .row-at .ensures .0) (h .head-at .ensures .0)
+      l h .loop .inv .0 ∙ matched-turn (t h) (drop 97 (t h)) (n h) (l h .loop .i) (h .before .row-at .ensures .0) (ap inRow (h .head-at .ensures .0))
           (omega arith) (omega arith) (omega arith),
       omega arith,
     )

@@ -5,6 +5,7 @@ use lib.ListN.{drop}
 use Rattle.store_rows.specs.Rows.{held}
 use Rattle.store_rows.specs.Cells.{rowsAt}
 use Rattle.store_rows.proofs.Finding.{held-turn}
+use Rattle.store_notes.specs.Cells.{inRow}
 use borrow.Author.Needs.{needs}
 use Rattle.store_notes.proofs.marks_before.Statement.{statement}
 use Rattle.store_notes.proofs.marks_before.Tie as tie
@@ -24,7 +25,7 @@ loop-again c =
     let s = c .before .before .before .before .before .args in
     let w = c .before .before .before .loop in
     let h = c .before .head-at .ensures in
-    (held-turn (drop 97 (s .table .now)) (s .i) (w .j) (h .0) (omega arith) (w .inv .0), omega arith, omega (arith, w .inv .2, h .2))
+    (held-turn (drop 97 (s .table .now)) (s .i) (w .j) (ap inRow (h .0)) (omega arith) (w .inv .0), omega arith, omega (arith, w .inv .2, h .2))
 
 returns : tie.Need-returns Inv-loop μ-loop
 returns c =

@@ -12,7 +12,7 @@ returns c =
     let raise = take .before .before .before .before in
     let s = raise .before .before .before .before .before in
     let a = s .args in
-    walked-is (s .pre .2) (a .cells .now) (a .at) (a .used) (2 * a .sound .marks) (omega arith) (omega arith) refl (raise .raise .kept .0)
+    walked-is (s .pre .2) (a .cells .now) (a .at) (a .used) (2 * a .head .marks) (omega arith) (omega arith) refl (raise .raise .kept .0)
     (raise .raise .ensures) (take .take .ensures) refl
 
 pub open-walked-spec : {M : Type 1} → statement M

@@ -1,7 +1,7 @@
 -- In cells, or as the greeting is walked.
 use native.Mathlib.Omega.{arith}
 use Rattle.store_notes.proofs.Taken.{heard-few}
-use Rattle.store_save.proofs.Small.{taken-cells}
+use Rattle.store_save.proofs.Small.{taken-small}
 use borrow.Author.Needs.{needs}
 use Rattle.store_save.proofs.same_marks.Statement.{statement}
 use Rattle.store_save.proofs.same_marks.Tie as tie
@@ -10,7 +10,7 @@ mul-if1 : tie.Need-mul-if1
 mul-if1 c = let h = c .before .before .before .before .pre .heard in omega (arith, heard-few h, h .short)
 
 marks-are-requires : tie.Need-marks-are-requires
-marks-are-requires c κs = let t = c .before .before .before .before .before .pre in (omega arith, taken-cells t (omega arith))
+marks-are-requires c κs = let t = c .before .before .before .before .before .pre in (omega arith, taken-small t (omega arith))
 
 returns : tie.Need-returns
 returns c =

@@ -19,7 +19,7 @@ put-taken-requires c κs =
     let p = take .before .before .before .before .pre in
     let t = taken (take .take .ensures) (c .before .before .before .samples .given .1) (fine-law _ _ (p .fine)) (omega (arith, p .small))
     (take .take .kept .1 .1 .0) in
-    ((p .count, p .few, omega arith, t), omega (arith, p .room, heard-few (t .heard)))
+    (record { count = p .count; few = p .few; among = omega arith; room = omega (arith, p .room, heard-few (t .heard)) }, t)
 
 returns : tie.Need-returns
 returns c =

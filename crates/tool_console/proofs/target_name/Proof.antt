@@ -12,4 +12,4 @@ returns-3 c =
 
 pub target-name-spec : {M : Type 1} → statement M
 target-name-spec = tie.close (tie.spec (λ c κs. search needs) (λ c. search needs) (λ c. search needs) (λ c. search needs)
-    (λ c κs. search needs) (λ c. search needs) returns-3)
+    (λ c κs. search needs) (λ c κs. search needs) (λ c. search needs) returns-3)

@@ -1,6 +1,6 @@
 -- The first octet, then the body by its row, by one pen.
 use borrow.Author.Needs.{needs}
-use Prim.Native.Nat.{ℕ, _+_, _/_, _≤_}
+use Prim.Native.Nat.{ℕ, _+_, _≤_}
 use mathlib.Core.Path.{_≡_, ap, ap₂, _∙_}
 use mathlib.Core.List.{List, _++_}
 use mathlib.Core.Bool.{Bool, true, false, cond}
@@ -8,13 +8,13 @@ use native.Mathlib.Omega.{arith}
 use lib.Dec.{eqb}
 use lib.ListN.{length, take, length-append}
 use Rattle.rules.specs.Bits.{lowBits}
-use Rattle.rules.specs.Fractional.{firstCode, groupOf, bitsFor, groupsForm, fractionalBody}
+use Rattle.rules.specs.Fractional.{firstCode, fractionalBody}
 use Rattle.rules.proofs.Octets.{length-lowBits}
 use Rattle.value_rows.specs.declared.Row.{Row}
 use Rattle.write_scan.proofs.Tests.{law-for}
 use Rattle.write_bits.specs.Puts.{Puts}
 use Rattle.write_bits.proofs.Putting.{puts-then, puts-as, able-then}
-use Rattle.write_fractional.specs.Digits.{digitsIn, DigitsFit}
+use Rattle.write_fractional.specs.Digits.{bodyIn, DigitsFit}
 use Rattle.write_fractional.proofs.Digits.{digits-fit-row, body-told}
 use Rattle.write_forms.proofs.Form.{Fresh, fresh-is, fresh-able, packed, cells-length}
 use Rattle.write_forms.proofs.put_fractional.Statement.{statement}
@@ -78,8 +78,7 @@ module _ (c : tie.After-row-at) where
       (take (start .args .n) (start .args .samples .now)) (start .pre .1 .0)
 
   abbrev groups : List ℕ
-  groups = groupsForm (row .radix) (groupOf (row .radix)) (bitsFor (row .radix)) (start .args .n / groupOf (row .radix))
-      (digitsIn (start .args .mask) row (take (start .args .n) (start .args .samples .now)))
+  groups = bodyIn (start .args .mask) row (start .args .n) (take (start .args .n) (start .args .samples .now))
 
   body-is : groups ≡ body start
   body-is =

@@ -1,16 +1,15 @@
 -- No row, a rare one, or the form of value-location (Offering).
 use borrow.Author.Needs.{needs}
 use mathlib.Core.Path.{_≡_, refl, sym, _∙_}
-use borrow.Author.Tests.{not-true, not-false}
+use borrow.Author.Tests.{not-true, not-false, lt-ltb, le-ltb}
 use Rattle.rules.specs.Chooses.{applies, formOf}
-use Rattle.write_located.proofs.Rows.{row-is, applied-is}
+use Rattle.write_located.proofs.Rows.{row-has, applied-is}
 use Rattle.write_offers.proofs.Offering.{met, rowless-offer, rare-offer}
 use Prim.Native.Nat.{ℕ}
 use mathlib.Core.List.{List}
 use mathlib.Core.Bool.{true}
 use lib.ListN.{length, take}
 use lib.Seq.{length-take-le}
-use native.Mathlib.Omega.{arith}
 use Rattle.write_offers.proofs.near_offer.Statement.{statement}
 use Rattle.write_offers.proofs.near_offer.Tie as tie
 
@@ -24,8 +23,8 @@ size s = length-take-le (s .args .n) (s .args .samples .now) (s .pre .0 .0 .long
 returns : tie.Need-returns
 returns c =
     let s = c .before .before .before .before .before in
-    let row = row-is (c .before .before .before .tally-of .ensures) (size s) (c .before .before .row-of .ensures .0) in
-    rowless-offer (s .args .mask) (frame s) (size s) (s .pre .0 .1 .1) (omega (arith, row, c .before .if1 .taken)) (c .fails .ensures)
+    let has = row-has (c .before .before .before .tally-of .ensures) (size s) (c .before .before .row-of .ensures .0) in
+    rowless-offer (s .args .mask) (frame s) (size s) (s .pre .0 .1 .1) (sym has ∙ le-ltb _ 4 (c .before .if1 .taken)) (c .fails .ensures)
 
 module _ (c : tie.After-located-applies) where
   abbrev row-of : tie.After-row-of
@@ -41,8 +40,8 @@ returns-2 : tie.Need-returns-2
 returns-2 c =
     let a = c .before .before in
     let s = start a in
-    let row = row-is ((row-of a) .before .tally-of .ensures) (size s) ((row-of a) .row-of .ensures .0) in
-    rare-offer (s .args .mask) (frame s) (size s) (s .pre .0 .1 .1) (omega (arith, row, a .before .if1 .left))
+    let has = row-has ((row-of a) .before .tally-of .ensures) (size s) ((row-of a) .row-of .ensures .0) in
+    rare-offer (s .args .mask) (frame s) (size s) (s .pre .0 .1 .1) (sym has ∙ lt-ltb _ 4 (a .before .if1 .left))
     (sym (applied a) ∙ not-true _ (c .before .if2 .taken)) (c .fails2 .ensures)
 
 on : (c : tie.Else2) → applies ((start (c .before)) .args .mask) 7 (frame (start (c .before))) ≡ true

@@ -1,10 +1,10 @@
 -- The row's octets lie inside the block, its marks inside the cells (Steps).
 use Prim.Native.Nat.{ℕ, _+_, _*_, _≤_}
-use mathlib.Core.Path.{refl, ap}
+use mathlib.Core.Path.{ap}
 use native.Mathlib.Omega.{arith}
 use lib.ListN.{length, length-drop}
 use Rattle.rules.proofs.Lent.{from-on}
-use Rattle.store_rows.specs.declared.rows.Row.{Row}
+use Rattle.store_notes.specs.declared.Head.{Head}
 use Rattle.store_jump.proofs.Steps.{row-inside, marks-inside, row-at}
 use borrow.Author.Needs.{needs}
 use Rattle.store_jump.proofs.jumping.at_row.Statement.{statement}
@@ -13,15 +13,15 @@ use Rattle.store_jump.proofs.jumping.at_row.Tie as tie
 -- the row, its note's head, and the marks before its own
 module _ (c : tie.After-marks-before) where
   abbrev head : tie.After-head-at
-  head = c .before .before
+  head = c .before
 
   abbrev s : tie.Start
   s = head .before .before .before .before
 
-  inside : 194 + 2 * c .marks-before .result + 2 * head .head-at .result .octets ≤ length (s .args .table .now)
+  inside : 194 + 2 * c .marks-before .result + 2 * head .head-at .result .marks ≤ length (s .args .table .now)
   inside = omega (
     arith,
-    marks-inside (s .pre .0) (s .pre .2) (s .pre .3) (ap (λ (h : Row). h .octets) (head .head-at .ensures .0)),
+    marks-inside (s .pre .0) (s .pre .2) (s .pre .3) (ap (λ (h : Head). h .marks) (head .head-at .ensures .0)),
     c .marks-before .ensures .0,
   )
 
@@ -48,11 +48,10 @@ returns c =
     let mb = c .before .before .before .before in
     let a = s mb .args in
     let p = s mb .pre in
-    row-at (p .0) (p .2) (p .3) (a .block .now) (a .sample) (head mb .before .row-at .ensures .0) (head mb .head-at .ensures .0) refl
+    row-at (p .0) (p .2) (p .3) (a .block .now) (a .sample) (head mb .before .row-at .ensures .0) (head mb .head-at .ensures .0)
     (ap (λ (x : ℕ). 194 + 2 * x) (mb .marks-before .ensures .0)) (c .within .ensures)
 
 pub at-row-spec : {M : Type 1} → statement M
 at-row-spec = tie.close (tie.spec (λ c. search needs) (λ c. search needs) (λ c κs. search needs) (λ c κs. search needs)
-    (λ c. search needs) (λ c. search needs) (λ c. search needs) (λ c. search needs) (λ c κs. search needs) (λ c. search needs)
-    (λ c. search needs) (λ c. search needs) (λ c. search needs) (λ c. search needs) part-within-end (λ c. search needs)
-    sub-within-2 part-within-start-2 (λ c. search needs) within-requires returns)
+    (λ c κs. search needs) (λ c. search needs) (λ c. search needs) (λ c. search needs) (λ c. search needs) (λ c. search needs)
+    part-within-end (λ c. search needs) sub-within-2 part-within-start-2 (λ c. search needs) within-requires returns)

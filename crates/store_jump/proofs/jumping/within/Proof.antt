@@ -6,10 +6,19 @@ use Rattle.store_jump.proofs.jumping.within.Statement.{statement}
 use Rattle.store_jump.proofs.jumping.within.Tie as tie
 
 returns : tie.Need-returns
-returns c = in-beyond _ _ _ _ _ _ (omega arith)
+returns c =
+    let a = c .before .before .before .before .args in
+    in-beyond (a .head) (a .octets .now) (a .marks .now) (a .sample) (omega arith)
 
 returns-2 : tie.Need-returns-2
-returns-2 c = in-none _ _ _ _ _ _ (omega arith) (omega arith)
+returns-2 c =
+    let first = c .before .before in
+    let a = first .before .before .before .before .args in
+    in-none (a .head) (a .octets .now) (a .marks .now) (a .sample) (omega arith) (omega arith)
+
+module _ (c : tie.After-last-mark) where
+  abbrev start : tie.Start
+  start = c .before .before .before .before .before .before .before
 
 from-mark-requires : tie.Need-from-mark-requires
 from-mark-requires c κs =
@@ -18,8 +27,10 @@ from-mark-requires c κs =
 
 returns-3 : tie.Need-returns-3
 returns-3 c =
-    let last = c .before .before .before .before .before .last-mark .ensures in
-    in-from _ _ _ _ _ _ (omega arith) (omega arith) (last .0) (last .1) (c .before .before .before .wide .ensures)
+    let found = c .before .before .before .before .before in
+    let last = found .last-mark .ensures in
+    let a = start found .args in
+    in-from (a .head) (a .octets .now) (a .marks .now) (a .sample) (omega arith) (omega arith) (last .0) (last .1) (c .before .before .before .wide .ensures)
     (c .before .wide2 .ensures) (c .from-mark .ensures)
 
 pub within-spec : {M : Type 1} → statement M

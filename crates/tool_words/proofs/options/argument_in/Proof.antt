@@ -1,7 +1,8 @@
 use borrow.Author.Needs.{needs}
 use Rattle.rules.proofs.Lent.{from-on}
-use lib.ListN.{getD}
-use Rattle.tool_words.specs.Arguments.{argumentOf, numberedOf}
+use lib.ListN.{drop}
+use Rattle.tool_words.specs.declared.options.Argument.{Argument}
+use Rattle.tool_words.specs.Arguments.{argumentOf, numberedBy}
 use mathlib.Core.Path.{ap, _∙_}
 use borrow.Author.Tests.{eq-eqb, ne-eqb}
 use Rattle.tool_words.proofs.options.argument_in.Statement.{statement}
@@ -22,24 +23,28 @@ returns-3 c = rw (ne-eqb _ _ (c .before .before .before .if1 .left), ne-eqb _ _ 
 returns-4 : tie.Need-returns-4
 unfolding argumentOf
 returns-4 c =
-    let else2 = c .before .before .before .before .before in
+    let d = c .before .letter-option in
+    let else3 = c .before .before .before in
+    let else2 = else3 .before .before in
     rw (ne-eqb _ _ (else2 .before .if1 .left))
-    (rw (ne-eqb _ _ (c .before .before .before .before .before .if2 .left))
-    (rw (eq-eqb _ _ (c .before .before .before .if3 .left), eq-eqb _ _ (c .before .before .if4 .taken))
-    (c .letter-option .ensures)))
+    (rw (ne-eqb _ _ (else2 .if2 .left))
+    (rw (eq-eqb _ _ (else3 .if3 .left), eq-eqb _ _ (c .if4 .taken))
+    (d .ensures)))
 
 returns-5 : tie.Need-returns-5
 unfolding argumentOf
 returns-5 c =
-    let shared-slice-known2 = c .before .before .before .before .before in
-    let else2 = shared-slice-known2 .before in
-    let a = else2 .before .before .before .args in
+    let d = c .before .before .before in
+    let else3 = d .before .before in
+    let else2 = else3 .before .before in
+    let text = else2 .before .before .before .args .text .now in
     rw (ne-eqb _ _ (else2 .before .if1 .left))
     (rw (ne-eqb _ _ (else2 .if2 .left))
-    (rw (eq-eqb _ _ (c .before .before .before .before .if3 .left), ne-eqb _ _ (c .before .before .before .if4 .left))
-    (c .numbered-option .ensures ∙ ap (numberedOf (a .tool) (getD (a .text .now) 1 0)) (from-on (a .text .now) 2))))
+    (rw (eq-eqb _ _ (else3 .if3 .left), ne-eqb _ _ (c .before .before .if4 .left))
+    (c .numbered-option .ensures ∙ ap (numberedBy (d .letter-option .result)) (from-on text 2)
+    ∙ ap (λ (a : Argument). numberedBy a (drop 2 text)) (d .letter-option .ensures))))
 
 pub argument-in-spec : {M : Type 1} → statement M
 argument-in-spec = tie.close (tie.spec returns returns-2 (λ c. search needs) returns-3 (λ c. search needs)
-    (λ c κs. search needs) returns-4 (λ c. search needs) (λ c. search needs) (λ c. search needs) (λ c. search needs)
-    (λ c κs. search needs) returns-5)
+    (λ c κs. search needs) returns-4 (λ c. search needs) (λ c. search needs) (λ c. search needs) (λ c κs. search needs)
+    returns-5)

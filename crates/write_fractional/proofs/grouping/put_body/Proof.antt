@@ -5,7 +5,7 @@ use mathlib.Core.Path.{_≡_, refl, sym, subst, _∙_}
 use mathlib.Core.List.{List, map, map-id}
 use native.Mathlib.Omega.{arith}
 use lib.ListN.{length, getD, take}
-use Rattle.rules.specs.Fractional.{groupOf, bitsFor, Packs, groupsForm}
+use Rattle.rules.specs.Fractional.{coding, groupOf, bitsFor, codingOf, Packs, groupsForm}
 use Rattle.rules.proofs.Fractional.{packs-of}
 use Rattle.write_bits.specs.declared.Pen.{Pen}
 use Rattle.write_bits.specs.Puts.{Able, Puts}
@@ -20,10 +20,10 @@ module _ {r k : ℕ} (e : r ≡ k) where
   each-as d h i = rw (d, ← e) (h i)
 
   module _ {g w : ℕ} (ge : groupOf k ≡ g) (we : bitsFor k ≡ w) (n : ℕ) where
-    form-as : {a b : List ℕ} → a ≡ b → groupsForm r (groupOf r) (bitsFor r) (n / groupOf r) a ≡ groupsForm k g w (n / g) b
+    form-as : {a b : List ℕ} → a ≡ b → groupsForm (codingOf r) (n / groupOf r) a ≡ groupsForm (coding k g w) (n / g) b
     form-as d = rw (d, e, ge, we) refl
 
-    packs-as : Packs r (groupOf r) (bitsFor r) n → Packs k g w n
+    packs-as : Packs (codingOf r) n → Packs (coding k g w) n
     packs-as p = rw (e, ge, we) at p
 
 -- after the digits are laid: they are those of the samples
@@ -48,11 +48,11 @@ module _ (c : tie.After-digits-of) where
 
   -- where R' is k: g digits make a group, in w bits
   module _ {k g w : ℕ} (e : r ≡ k) (ge : groupOf k ≡ g) (we : bitsFor k ≡ w) where
-    form : groupsForm r (groupOf r) (bitsFor r) (n / groupOf r) digits ≡ groupsForm k g w (n / g) laid
+    form : groupsForm (codingOf r) (n / groupOf r) digits ≡ groupsForm (coding k g w) (n / g) laid
     form = form-as e ge we n (sym told)
 
-    asked : ((Packs k g w n) × (n ≤ length (c .digits-of .last .1 .1 .1 .1 .0)) × (length (c .digits-of .last .1 .1 .1 .1 .0) ≡ 320))
-        × (((i : ℕ) → getD laid i 0 < k) × (Able (s .args .out .now) (s .args .p) (length (groupsForm k g w (n / g) laid))))
+    asked : ((Packs (coding k g w) n) × (n ≤ length (c .digits-of .last .1 .1 .1 .1 .0)) × (length (c .digits-of .last .1 .1 .1 .1 .0) ≡ 320))
+        × (((i : ℕ) → getD laid i 0 < k) × (Able (s .args .out .now) (s .args .p) (length (groupsForm (coding k g w) (n / g) laid))))
     asked =
         let f = s .pre .0 in
         let fit = s .pre .1 .0 in (
@@ -67,8 +67,8 @@ module _ (c : tie.After-digits-of) where
           ),
         )
 
-    done : {o : List ℕ} {q : Pen} → Puts (s .args .out .now) (s .args .p) (groupsForm k g w (n / g) laid) o q
-        → Puts (s .args .out .now) (s .args .p) (groupsForm r (groupOf r) (bitsFor r) (n / groupOf r) digits) o q
+    done : {o : List ℕ} {q : Pen} → Puts (s .args .out .now) (s .args .p) (groupsForm (coding k g w) (n / g) laid) o q
+        → Puts (s .args .out .now) (s .args .p) (groupsForm (codingOf r) (n / groupOf r) digits) o q
     done f = puts-as f (sym form)
 
 digits-of-requires : tie.Need-digits-of-requires

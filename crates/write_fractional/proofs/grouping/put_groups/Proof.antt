@@ -3,6 +3,7 @@ use mathlib.Core.List.{map}
 use native.Mathlib.Omega.{arith}
 use lib.ListN.{take}
 use lib.Seq.{length-take-le}
+use Rattle.rules.specs.Fractional.{coding}
 use Rattle.rules.proofs.Octets.{below-all}
 use Rattle.rules.proofs.Fractional.{group-fits}
 use Rattle.write_fractional.specs.Digits.{same}
@@ -11,7 +12,7 @@ use Rattle.write_fractional.proofs.grouping.put_groups.Statement.{state
 use Rattle.write_fractional.proofs.grouping.put_groups.Tie as tie
 
 abbrev Inv-loop : tie.InvT-loop
-Inv-loop out₀ digits n g w r q₀ from₀ out q from = Putting same (take n digits) r g w n out₀ q₀ out q from
+Inv-loop out₀ digits n g w r q₀ from₀ out q from = Putting same (take n digits) (coding r g w) n out₀ q₀ out q from
 
 abbrev μ-loop : tie.MeasureT-loop
 μ-loop out₀ digits n g w r q₀ from₀ out q from = n - from
