@@ -1,7 +1,7 @@
 -- The refusals in the code's steps: LAW and SET by the writer's guard, then LENGTH.
 use Prim.Native.Nat.{ℕ, _%_, _≤_}
 use native.Mathlib.Omega.{arith}
-use mathlib.Core.Path.{_≡_, refl, sym}
+use mathlib.Core.Path.{_≡_, refl, sym, _∙_}
 use mathlib.Core.List.{List}
 use mathlib.Core.Bool.{Bool, true, false, cond, not, _||_}
 use lib.ListN.{length, take}
@@ -28,9 +28,14 @@ module _ (n : ℕ) (samples : List ℕ) (law set : ℕ) where
   unfolding whyOne
   why-refused e = sym (verdict-refused Refused _ (writerAsks law set) e)
 
-  pub why-done : verdict (writerAsks law set) ≡ ending.Done → whyAllowed n (take n samples) (maskOf law) set ≡ whyOne n samples law set
+  why-done : verdict (writerAsks law set) ≡ ending.Done → whyAllowed n (take n samples) (maskOf law) set ≡ whyOne n samples law set
   unfolding whyOne
   why-done e = sym (verdict-done Refused _ (writerAsks law set) e)
+
+  -- by the mask that the code takes
+  pub why-told : {mask : ℕ} {r : Why} → mask ≡ maskOf law → verdict (writerAsks law set) ≡ ending.Done
+      → r ≡ whyAllowed n (take n samples) mask set → r ≡ whyOne n samples law set
+  why-told m e t = (rw m at t) ∙ why-done e
 
 -- the samples of a length
 pub frame-in : (n : ℕ) (samples : List ℕ) → isLength n ≡ true → (n ≤ 320 → n ≤ length samples) → FrameIn samples n

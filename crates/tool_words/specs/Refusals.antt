@@ -1,8 +1,7 @@
 -- The names of the refusals of document 01, and of HEAD (14) of document 02, as octets.
-use Prim.Native.Nat.{ℕ, _≤_}
-use mathlib.Core.Path.{_≡_}
+use Prim.Native.Nat.{ℕ}
 use mathlib.Core.List.{List, [], _∷_}
-use lib.ListN.{length, getD, take}
+use lib.ListN.{getD}
 
 -- "Numbered refusals", from number 1 on; any other number has no name
 unfoldable pub refusalNames : List (List ℕ)
@@ -26,9 +25,3 @@ refusalNames =
 
 unfoldable pub refusalName : ℕ → List ℕ
 refusalName n = getD refusalNames n []
-
--- a word at the start of six octets
-pub record Named (word octets : List ℕ) (len : ℕ) : Type 0 where
-  pub says : take len octets ≡ word
-  pub most : len ≤ 6
-  pub size : length octets ≡ 6

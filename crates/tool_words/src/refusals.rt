@@ -1,53 +1,32 @@
 // The names of document 01's refusals, and of HEAD (14) of document 02.
 ghost use mathlib.Core.Path.{_≡_};
-ghost use Rattle.tool_words.specs.Refusals.{refusalName, Named};
+ghost use Prim.Native.Nat.{_≤_};
+ghost use lib.ListN.{length};
+ghost use Rattle.tool_words.specs.Refusals.{refusalName};
 ghost use Rattle.tool_words.specs.Texts.{Laid};
 use crate::texts::lay;
 
-// A word of at most six octets; spaces stand after it.
-struct Word {
-    octets: [u8; 6],
-    len: usize,
-}
+// How many letters each name has, by the refusal's number; number 0 is none's.
+const LETTERS: [usize; 15] = [0, 5, 6, 4, 4, 4, 6, 3, 5, 5, 6, 3, 3, 4, 4];
 
-fn named(octets: [u8; 6], len: usize) -> Word
-    ensures { λ r. ⌜ (r .octets ≡ octets) × (r .len ≡ len) ⌝ }
+fn letters(number: usize) -> usize
+    requires { ⌜ number ≤ 14 ⌝ }
+    ensures { λ r. ⌜ (r ≡ length (refusalName number)) × (r ≤ 6) ⌝ }
 {
-    Word {
-        octets: octets,
-        len: len,
-    }
+    LETTERS[number]
 }
 
-// The name of a refusal by its number; any other number has none.
-fn name_of(number: u32) -> Word
-    ensures { λ r. ⌜ Named (refusalName number) (r .octets) (r .len) ⌝ }
-{
-    match number {
-        1 => named(*b"SHORT ", 5),
-        2 => named(*b"PREFIX", 6),
-        3 => named(*b"TOOL  ", 4),
-        4 => named(*b"ROOM  ", 4),
-        5 => named(*b"CASE  ", 4),
-        6 => named(*b"METHOD", 6),
-        7 => named(*b"RUN   ", 3),
-        8 => named(*b"PLACE ", 5),
-        9 => named(*b"ALIGN ", 5),
-        10 => named(*b"LENGTH", 6),
-        11 => named(*b"SET   ", 3),
-        12 => named(*b"LAW   ", 3),
-        13 => named(*b"LONG  ", 4),
-        14 => named(*b"HEAD  ", 4),
-        _ => named(*b"      ", 0),
-    }
-}
-
-// That name put into lent octets; the answer is its length, 0 where it does not fit.
+// The name of a refusal by its number put into lent octets; any other number has none. The answer is its length, 0 where it does not fit.
 pub fn refusal_name(number: u32, out: &mut [u8]) -> usize
     ensures { λ r. ⌜ Laid (refusalName number) (now (out .entry)) (now (out .exit)) r ⌝ }
 {
-    let w = name_of(number);
-    let octets = w.octets;
-    let len = w.len;
-    lay(&octets[..len], b"", out)
+    if 14 < number {
+        return 0;
+    }
+    // side by side, six octets each; spaces stand after the shorter ones
+    let names =
+        *b"      SHORT PREFIXTOOL  ROOM  CASE  METHODRUN   PLACE ALIGN LENGTHSET   LAW   LONG  HEAD  ";
+    let from = 6 * number as usize;
+    let end = from + letters(number as usize);
+    lay(&names[from..end], b"", out)
 }
