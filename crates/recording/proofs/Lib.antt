@@ -9,3 +9,4 @@ pub mod Nested
 pub mod Headings
 pub mod Fits
 pub mod Further
+pub mod Returned
