@@ -8,8 +8,8 @@ use mathlib.Core.Bool.{Bool, true, false, cond, not}
 use lib.ListN.{length, getD, take, drop}
 use lib.Dec.{eqb, leb}
 use borrow.Author.Tests.{eq-eqb, eqb-true}
-use Rattle.rules.specs.declared.Refusal as rules
-use Rattle.rules.specs.declared.Refusal.the-variants as variants
+use Rattle.rules.specs.declared.Refusal as refusal
+use Rattle.rules.specs.declared.Refusal.the-variants as rules
 use Rattle.rules.specs.Tools.{isSet}
 use Rattle.rules.specs.Samples.{maskOf}
 use Rattle.rules.specs.Reading.{Read, whole, refuse}
@@ -46,7 +46,7 @@ abbrev pub Heads : ℕ → List ℕ → Type 0
 Heads law octets = take headingLength octets ≡ headingOf law
 
 -- a set that is none is told before the heading is looked at
-pub set-first : (octets : List ℕ) (set room places : ℕ) → isSet set ≡ false → readFile octets set room places ≡ nothing (Frame variants.Set) 0
+pub set-first : (octets : List ℕ) (set room places : ℕ) → isSet set ≡ false → readFile octets set room places ≡ nothing (Frame rules.Set) 0
 unfolding readFile
 set-first octets set room places s = rw s refl
 
@@ -87,7 +87,7 @@ NoHead r = r .end ≡ Refused Head → ⊥
 clean : (at bit : ℕ) → NoHead (stopped Done at bit)
 clean at bit e = let z : _≡_ {A = ℕ} 0 1 = cc in omega arith
 
-by-frame : (w : rules.Refusal) (at bit : ℕ) → NoHead (stopped (Refused (Frame w)) at bit)
+by-frame : (w : refusal.Refusal) (at bit : ℕ) → NoHead (stopped (Refused (Frame w)) at bit)
 by-frame w at bit e = let z : _≡_ {A = ℕ} 0 1 = cc in omega arith
 
 either : (b : Bool) (r s : Recorded) → NoHead r → NoHead s → NoHead (cond b r s)
@@ -103,7 +103,7 @@ unfolding itemsFrom
 items-no-head zero octets law set at room places = clean at 0
 items-no-head (suc fuel) octets law set at room places =
     either (leb (length octets) at) _ _ (clean at 0)
-    (either (eqb places 0) _ _ (by-frame variants.Room at 0)
+    (either (eqb places 0) _ _ (by-frame rules.Room at 0)
     (either (eqb (getD octets at 0) lostOctet) _ _
     (items-no-head fuel octets law set (at + 1) room (places - 1))
     (after (readOne (drop at octets) law set room) at _
@@ -122,14 +122,14 @@ module _ (octets : List ℕ) (set room places : ℕ) where
   heading-read (heading law) q s next k e = absurd (k law e)
 
   after-long : (b : Bool) (law : ℕ) (r : Recorded) → NoHead r
-      → NoHead (cond b (nothing (Frame variants.Long) law) (record { law = law; read = r }) .read)
-  after-long true law r h = by-frame variants.Long 0 0
+      → NoHead (cond b (nothing (Frame rules.Long) law) (record { law = law; read = r }) .read)
+  after-long true law r h = by-frame rules.Long 0 0
   after-long false law r h = h
 
   after-set : (b : Bool) (f : File) → (b ≡ true → f .read .end ≡ Refused Head → NoHeading octets set)
-      → cond (not b) (nothing (Frame variants.Set) 0) f .read .end ≡ Refused Head → NoHeading octets set
+      → cond (not b) (nothing (Frame rules.Set) 0) f .read .end ≡ Refused Head → NoHeading octets set
   after-set true f k e = k refl e
-  after-set false f k e = absurd (by-frame variants.Set 0 0 e)
+  after-set false f k e = absurd (by-frame rules.Set 0 0 e)
 
   pub head-only : readFile octets set room places .read .end ≡ Refused Head → NoHeading octets set
   unfolding readFile

@@ -31,7 +31,7 @@ use Rattle.recording.specs.Remembered.{headingOf, headingLength, erased}
 use Rattle.recording.specs.Items.{Item, cellOf, soundIn, lossFrom, readFile}
 use Rattle.recording.specs.Files.{Entry, frame, loss, entriesOctets, fileOctets, Given, given, wrong, sixLengths, withEntry, givenBy}
 use Rattle.recording.specs.Files.{Filed, filed, declined, fileGiven, writeFile}
-use Rattle.recording.specs.Calls.{Reads, ReadFile, writtenEnd, Writes, WriteFile}
+use Rattle.recording.specs.Calls.{ReadFile, writtenEnd, Writes, WriteFile}
 use Rattle.recording.proofs.Back.{asRead, roomForAll, entriesIn, May, frames, unknown, losses, All, last, then}
 use Rattle.recording.proofs.Back.{pieceWith, piecesRead, file-back, entries-pieces}
 
