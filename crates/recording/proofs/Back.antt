@@ -1,11 +1,10 @@
 -- "What is written reads back as the same list of frames and losses": pieces of one law, each written with its own set, are read whole by
--- every reader whose set holds all those sets, given room.
---   file-back: of pieces with a set each.       file-written-back: of what one call writes.       as-read-same: what `asRead` changes.
-use Prim.Native.Nat.{ℕ, zero, suc, _+_, _*_, _-_, _≤_, _<_}
+-- every reader whose set holds all those sets, given room (`file-back`). Of what one call writes: Returned.
+use Prim.Native.Nat.{ℕ, zero, suc, _+_, _*_, _-_, max, _≤_, _<_}
 use native.Mathlib.Omega.{arith}
 use mathlib.Core.Path.{_≡_, refl, sym, ap, _∙_}
 use mathlib.Core.List.{List, [], _∷_, _++_, map, append-assoc}
-use mathlib.Core.Bool.{Bool, true, false, cond}
+use mathlib.Core.Bool.{true, false, cond}
 use lib.ListN.{length, getD, drop, replicate, length-append, length-replicate}
 use lib.Seq.{drop-append-seam}
 use lib.Dec.{lit<}
@@ -63,9 +62,13 @@ abbrev pub roomTakenBy : ℕ → Entry → ℕ
 roomTakenBy mask (frame s) = cond (erased mask s) 0 (length s)
 roomTakenBy mask (loss n) = 0
 
-unfoldable pub roomForAll : List Piece → ℕ
-roomForAll [] = 0
-roomForAll (p ∷ ps) = roomFor (p .entry) + roomForAll ps
+-- the room that reading all of them needs: for each one its samples, besides those taken before it
+unfoldable pub roomForAll : ℕ → List Entry → ℕ
+roomForAll mask [] = 0
+roomForAll mask (x ∷ es) = max (roomFor x) (roomTakenBy mask x + roomForAll mask es)
+
+abbrev pub entriesIn : List Piece → List Entry
+entriesIn ps = map (λ p. p .entry) ps
 
 -- what a writer takes: a frame, or a loss of one of the lengths, with a set that is within the reader's
 pub data May (reader : ℕ) : Piece → Type 0 where
@@ -164,16 +167,9 @@ unfoldable pub piecesRead : ℕ → List Piece → List Item
 piecesRead mask [] = []
 piecesRead mask (p ∷ ps) = pieceRead mask p ∷ piecesRead mask ps
 
-taken-le : (mask : ℕ) (x : Entry) → roomTakenBy mask x ≤ roomFor x
-taken-le mask (loss n) = omega arith
-taken-le mask (frame s) = go (erased mask s)
-  where
-    go : (b : Bool) → cond b 0 (length s) ≤ length s
-    go true = omega arith
-    go false = omega arith
-
 items-back : (law reader : ℕ) → isLaw law ≡ true → isSet reader ≡ true → (pre : List ℕ) (fuel at room places : ℕ) {ps : List Piece}
-    → All reader ps → at ≡ length pre → length (piecesOctets (maskOf law) ps) < fuel → roomForAll ps ≤ room → length ps ≤ places
+    → All reader ps → at ≡ length pre → length (piecesOctets (maskOf law) ps) < fuel → roomForAll (maskOf law) (entriesIn ps) ≤ room
+    → length ps ≤ places
     → itemsFrom fuel (pre ++ piecesOctets (maskOf law) ps) law reader at room places
     ≡ record { items = piecesRead (maskOf law) ps; end = Done; place = at + length (piecesOctets (maskOf law) ps); bit = 0 }
 unfolding piecesOctets piecesRead roomForAll itemsFrom
@@ -190,7 +186,7 @@ items-back law reader l e pre (suc fuel) at room places (then {p = p} {ps = ps} 
     let some = i .some in
     let on = items-back law reader l e (pre ++ o) fuel (at + length o) (room - roomTakenBy mask (p .entry)) (places - 1)
     t (omega (arith, length-append pre o))
-    (omega arith) (omega (arith, taken-le mask (p .entry))) (omega arith) in
+    (omega arith) (omega arith) (omega arith) in
     let place : at + length (o ++ rest) ≡ at + length o + length rest = omega arith in
     rw (place) (rw (← q) at (i .steps fuel places (omega arith)) ∙ ap (before (pieceRead mask p)) (rw (append-assoc pre o rest) at on))
 
@@ -204,7 +200,7 @@ begins-heading (suc (suc law)) more l = absurd (omega (arith, leb-true (suc (suc
 -- R-1: "What is written reads back as the same list of frames and losses", each piece with its own set, by every reader that holds all
 -- those sets, given room for the samples and the items
 pub file-back : (law reader room places : ℕ) (ps : List Piece) → isLaw law ≡ true → isSet reader ≡ true → All reader ps
-    → length (piecesOctets (maskOf law) ps) ≤ longest → roomForAll ps ≤ room → length ps ≤ places
+    → length (piecesOctets (maskOf law) ps) ≤ longest → roomForAll (maskOf law) (entriesIn ps) ≤ room → length ps ≤ places
     → readFile (headingOf law ++ piecesOctets (maskOf law) ps) reader room places
     ≡ record {
       law = law;

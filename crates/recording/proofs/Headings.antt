@@ -1,20 +1,26 @@
--- "HEAD (14) for a wrong or cut heading": exactly where the first ten octets are neither heading (`head-is`, `head-only`), for every set
--- that is one; "after SET": another set is told first (`set-first`).
-use Prim.Native.Nat.{ℕ}
+-- "HEAD (14) for a wrong or cut heading": a file is read with HEAD exactly where the first ten octets are neither heading (`head-is`,
+-- `head-only`), for every set that is one; "after SET": another set is told first (`set-first`).
+use Prim.Native.Nat.{ℕ, zero, suc, _+_, _-_}
 use native.Mathlib.Omega.{arith}
 use mathlib.Core.Path.{_≡_, refl, sym}
 use mathlib.Core.List.{List, [], _∷_}
-use mathlib.Core.Bool.{Bool, true, false, cond}
-use lib.ListN.{length, take}
-use lib.Dec.{eqb}
+use mathlib.Core.Bool.{Bool, true, false, cond, not}
+use lib.ListN.{length, getD, take, drop}
+use lib.Dec.{eqb, leb}
 use borrow.Author.Tests.{eq-eqb, eqb-true}
-use Rattle.rules.specs.Tools.{isSet}
+use Rattle.rules.specs.declared.Refusal as refusal
 use Rattle.rules.specs.declared.Refusal.the-variants as rules
+use Rattle.rules.specs.Tools.{isSet}
+use Rattle.rules.specs.Samples.{maskOf}
+use Rattle.rules.specs.Reading.{Read, whole, refuse}
+use Rattle.rules.specs.Frame.{Found, octetsUsed, readOne}
+use Rattle.rules.specs.Walk.{longest}
 use Rattle.rules.proofs.Tests.{and-left, and-right}
 use Rattle.text_keyvalue.specs.Reading.{begins}
 use Rattle.recording.specs.declared.Refusal.the-variants.{Head, Frame}
-use Rattle.recording.specs.Remembered.{heading, noHeading, headingOf, headingLength, headed}
-use Rattle.recording.specs.Items.{nothing, readFile}
+use Rattle.recording.specs.declared.Ending.the-variants.{Done, Refused}
+use Rattle.recording.specs.Remembered.{Headed, heading, noHeading, headingOf, headingLength, headed, lostOctet}
+use Rattle.recording.specs.Items.{Recorded, stopped, roomTaken, afterRead, itemsFrom, File, nothing, byHeading, readFile}
 
 -- a text begins with a word exactly where its first octets are the word
 begins-is : (word text : List ℕ) → take (length word) text ≡ word → begins word text ≡ true
@@ -59,17 +65,75 @@ head-is octets set room places s h k =
           (λ e. h (begins-only (headingOf 0) octets e)) (λ e. k (begins-only (headingOf 1) octets e)),
     ) refl
 
--- and where they are one, there is another answer: LONG of that law, or its items
+-- and only there: no item is refused with HEAD
 some-heading : (x y : Bool) → cond x (heading 0) (cond y (heading 1) noHeading) ≡ noHeading → (x ≡ false) × (y ≡ false)
 some-heading true y e = let z : _≡_ {A = ℕ} 0 1 = cc in absurd (omega arith)
 some-heading false true e = let z : _≡_ {A = ℕ} 0 1 = cc in absurd (omega arith)
 some-heading false false e = (refl, refl)
 
-pub head-only : (octets : List ℕ) → headed octets ≡ noHeading → (Heads 0 octets → ⊥) × (Heads 1 octets → ⊥)
+headed-none : (octets : List ℕ) → headed octets ≡ noHeading → (Heads 0 octets → ⊥) × (Heads 1 octets → ⊥)
 unfolding headed
-head-only octets e =
+headed-none octets e =
     let n = some-heading (begins (headingOf 0) octets) (begins (headingOf 1) octets) e in
     (λ h. not-both (begins-is (headingOf 0) octets h) (n .0), λ h. not-both (begins-is (headingOf 1) octets h) (n .1))
   where
     not-both : {b : Bool} → b ≡ true → b ≡ false → ⊥
     not-both t f = let z : _≡_ {A = ℕ} 0 1 = cc in absurd (omega arith)
+
+-- a reading that did not end with HEAD
+abbrev NoHead : Recorded → Type 0
+NoHead r = r .end ≡ Refused Head → ⊥
+
+clean : (at bit : ℕ) → NoHead (stopped Done at bit)
+clean at bit e = let z : _≡_ {A = ℕ} 0 1 = cc in omega arith
+
+by-frame : (w : refusal.Refusal) (at bit : ℕ) → NoHead (stopped (Refused (Frame w)) at bit)
+by-frame w at bit e = let z : _≡_ {A = ℕ} 0 1 = cc in omega arith
+
+either : (b : Bool) (r s : Recorded) → NoHead r → NoHead s → NoHead (cond b r s)
+either true r s h k = h
+either false r s h k = k
+
+after : (m : Read Found) (at : ℕ) (next : Found → Recorded) → ((f : Found) → NoHead (next f)) → NoHead (afterRead m at next)
+after (whole f j) at next h = h f
+after (refuse w bit) at next h = by-frame w at bit
+
+items-no-head : (fuel : ℕ) (octets : List ℕ) (law set at room places : ℕ) → NoHead (itemsFrom fuel octets law set at room places)
+unfolding itemsFrom
+items-no-head zero octets law set at room places = clean at 0
+items-no-head (suc fuel) octets law set at room places =
+    either (leb (length octets) at) _ _ (clean at 0)
+    (either (eqb places 0) _ _ (by-frame rules.Room at 0)
+    (either (eqb (getD octets at 0) lostOctet) _ _
+    (items-no-head fuel octets law set (at + 1) room (places - 1))
+    (after (readOne (drop at octets) law set room) at _
+    (λ f. items-no-head fuel octets law set (at + octetsUsed f) (room - roomTaken (maskOf law) f) (places - 1)))))
+
+-- what HEAD says: the set is one, and the first ten octets are neither heading
+pub record NoHeading (octets : List ℕ) (set : ℕ) : Type 0 where
+  pub small : isSet set ≡ true
+  pub not-a : Heads 0 octets → ⊥
+  pub not-mu : Heads 1 octets → ⊥
+
+module _ (octets : List ℕ) (set room places : ℕ) where
+  heading-read : (h : Headed) → headed octets ≡ h → isSet set ≡ true → (next : ℕ → File) → ((law : ℕ) → NoHead (next law .read))
+      → byHeading h (nothing Head 0) next .read .end ≡ Refused Head → NoHeading octets set
+  heading-read noHeading q s next k e = let n = headed-none octets q in record { small = s; not-a = n .0; not-mu = n .1 }
+  heading-read (heading law) q s next k e = absurd (k law e)
+
+  after-long : (b : Bool) (law : ℕ) (r : Recorded) → NoHead r
+      → NoHead (cond b (nothing (Frame rules.Long) law) (record { law = law; read = r }) .read)
+  after-long true law r h = by-frame rules.Long 0 0
+  after-long false law r h = h
+
+  after-set : (b : Bool) (f : File) → (b ≡ true → f .read .end ≡ Refused Head → NoHeading octets set)
+      → cond (not b) (nothing (Frame rules.Set) 0) f .read .end ≡ Refused Head → NoHeading octets set
+  after-set true f k e = k refl e
+  after-set false f k e = absurd (by-frame rules.Set 0 0 e)
+
+  pub head-only : readFile octets set room places .read .end ≡ Refused Head → NoHeading octets set
+  unfolding readFile
+  head-only =
+      after-set (isSet set) _ (λ s. heading-read (headed octets) refl s _ (λ law.
+      after-long (not (leb (length octets - headingLength) longest)) law _
+      (items-no-head (suc (length octets - headingLength)) (drop headingLength octets) law set 0 room places)))
