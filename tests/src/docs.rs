@@ -8,6 +8,7 @@ mod names;
 mod pages;
 mod proofs;
 mod rooms;
+mod shapes;
 mod statements;
 
 pub use edits::{edit_heads, edits, facts, LOGS, MOST};
@@ -17,6 +18,7 @@ pub use names::names;
 pub use pages::{landings, pages};
 pub use proofs::proofs;
 pub use rooms::rooms;
+pub use shapes::{shapes, shapes_listed};
 pub use statements::statements;
 
 use std::collections::BTreeMap;
@@ -117,7 +119,8 @@ impl Held {
 /// Every check, in the order of this page.
 pub fn all(files: &Files) -> Vec<Held> {
     let checks = [
-        statements, names, edits, edit_heads, facts, rooms, refusals, limits, reports, figures, landings, pages, proofs,
+        statements, names, edits, edit_heads, facts, rooms, refusals, limits, reports, figures, landings, pages,
+        proofs, shapes,
     ];
     checks.iter().map(|check| check(files)).collect()
 }

@@ -41,7 +41,7 @@ pub use codec::{Codec, Proved, Read, Second, Walk, Write};
 pub use compare::{check, check_firsts, Compared};
 pub use notation::{bits, octets};
 pub use pair::Pair;
-pub use share::{in_share, share, shared};
+pub use share::{goes_on, in_tenth, share, tenth, tenths};
 pub use table::{say, Table};
 pub use vectors::{firsts, vectors, Ask, Call, First, Settled, Vector};
 

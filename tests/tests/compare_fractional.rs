@@ -6,11 +6,11 @@ use tests::digits::{row_of, rows, some_numbers, Digits, TABLE, WAYS};
 use tests::forms::{Field, Form, LENGTHS};
 use tests::measure::numbers;
 use tests::wrong::{Wrong, READING, WRITING};
-use tests::{ending, in_share, odd_set, say, set_of, share, Ask, Codec, Pair, Proved, Read, Second, Table};
+use tests::{ending, in_tenth, odd_set, say, set_of, tenth, Ask, Codec, Pair, Proved, Read, Second, Table};
 use tests::{ALL_TOOLS, LISTED_TOOLS};
 
 /// Frames wanted in a cell.
-const WANTED: usize = share(1_000);
+const WANTED: usize = tenth(1_000);
 /// Draws after which a cell that is still not full is taken to be one that can't be filled.
 const MOST_DRAWS: usize = 400_000;
 
@@ -105,7 +105,7 @@ fn every_number_at_every_place() {
             for place in 0..length / 5 {
                 for number in 0..1 << row.width().unwrap() {
                     for law in [0, 1] {
-                        if !in_share(number + place + 5 * law as usize) {
+                        if !in_tenth(number + place + 5 * law as usize) {
                             continue;
                         }
                         read_number(&mut pair, row, length, place, number, law, &mut rng);
@@ -118,7 +118,7 @@ fn every_number_at_every_place() {
     }
     table.close();
     let [good, bad] = made;
-    assert!(good + bad == share(503_808) || cfg!(feature = "tenth"), "{good} and {bad}");
+    assert!(good + bad == tenth(503_808) || cfg!(feature = "tenth"), "{good} and {bad}");
     say(&format!("compared: tool 11, every number at every place: {good} taken, {bad} PLACE, {} calls\n", pair.calls));
     pair.close();
 }
@@ -134,7 +134,7 @@ fn every_octet_of_bits() {
         for row in rows(length).into_iter().filter(|row| by_bits(row)) {
             let (width, octets) = (row.base() / 2, row.octets(length));
             for place in 1..octets {
-                for octet in (0..=255).filter(|octet| in_share(usize::from(*octet) + place)) {
+                for octet in (0..=255).filter(|octet| in_tenth(usize::from(*octet) + place)) {
                     let law = u32::from(rng.flip());
                     let mut given = rng.octets(octets);
                     (given[0], given[place]) = (row.first(length).unwrap(), octet);
@@ -217,7 +217,7 @@ fn every_cut() {
                 let form = row.form(&values, law).expect("the length has the row");
                 let octets = form.octets();
                 for cut in 1..octets.len() {
-                    for set in (128..=ALL_TOOLS).filter(|set| in_share(*set as usize + cut)) {
+                    for set in (128..=ALL_TOOLS).filter(|set| in_tenth(*set as usize + cut)) {
                         let given = octets[..cut].to_vec();
                         read_as(&mut pair, &Ask { set, ..ask(given, law) }, refused("SHORT", 0, 8 * cut), &[]);
                     }
@@ -239,7 +239,7 @@ fn every_set_and_first_octet() {
         for row in rows(length) {
             let first = row.first(length).expect("the length has the row");
             for set in (0..300).chain([383, 511, 0x8000_00FF, u32::MAX]) {
-                for _ in 0..share(10) {
+                for _ in 0..tenth(10) {
                     let more = rng.below(90);
                     let given = [&[first][..], &rng.octets(more)].concat();
                     let wanted = match set {
@@ -319,8 +319,8 @@ fn every_row_written() {
         }
     }
     // Of 40 samples every row is one, so frames of no row are near misses alone.
-    table.needs("no row", "40 A", share(200));
-    table.needs("no row", "40 mu", share(200));
+    table.needs("no row", "40 A", tenth(200));
+    table.needs("no row", "40 mu", tenth(200));
     table.close();
     say(&format!("compared: tool 11 written, every row: {} calls\n", pair.calls));
     pair.close();
@@ -335,7 +335,7 @@ fn every_place_of_a_rare_value() {
     for length in LENGTHS {
         for common in [0, 1, -1, -2] {
             for rare in -5..=3 {
-                for place in (0..length).filter(|place| in_share(*place)) {
+                for place in (0..length).filter(|place| in_tenth(*place)) {
                     let mut values = vec![common; length];
                     values[place] = rare;
                     if rng.flip() {

@@ -5,7 +5,7 @@ use second::gen::Prng;
 use tests::mend::{filling, script, Mend, Menders, Mends, TOTAL};
 use tests::recordings::{packed, recordings};
 use tests::streams::{plain_frames, Stream, FIELDS};
-use tests::{say, share, shared, Codec, Proved, Second, Table, ALL_TOOLS, LISTED_TOOLS, MOST, MOST_LISTED};
+use tests::{say, share, tenth, tenths, Codec, Proved, Second, Table, ALL_TOOLS, LISTED_TOOLS, MOST, MOST_LISTED};
 
 const ROOM: u32 = 4;
 const LAW: u32 = 12;
@@ -234,7 +234,7 @@ fn every_room() {
     let mut menders = Menders::new(&Proved, &Second);
     let mut rng = Prng::new(125);
     let (mut short, mut enough) = (0, 0);
-    for turn in shared(0..200) {
+    for turn in tenths(0..200) {
         let stream = Stream::mixed(20 + rng.below(100), 0, &mut rng);
         let given = match turn % 2 {
             0 => stream.octets.clone(),
@@ -254,7 +254,7 @@ fn every_room() {
     }
     menders.close();
     say(&format!("compared: mend, every room: {short} ROOM, {enough} enough\n"));
-    assert!(short > share(1_500));
+    assert!(short > tenth(1_500));
 }
 
 /// The second program, wrong in one way.

@@ -5,7 +5,7 @@ use second::gen::{damage_somehow, Prng};
 use std::collections::BTreeMap;
 use tests::faults::{self, short_place, short_places, Fault};
 use tests::forms::{any_form, some_form, Form, LENGTHS};
-use tests::{ending, say, set_of, share, shared, Ask, Pair, Proved, Read, Second, Table, ALL_TOOLS, ENDINGS, TOOLS};
+use tests::{ending, say, set_of, share, tenths, Ask, Pair, Proved, Read, Second, Table, ALL_TOOLS, ENDINGS, TOOLS};
 
 /// Numbers that are neither a law nor a set.
 const OUT_OF_RANGE: [u32; 8] = [256, 257, 383, 511, 0x7FFF_FFFF, 0x8000_0000, 0x8000_0001, u32::MAX];
@@ -68,7 +68,7 @@ fn all_inputs_of_up_to_two_octets() {
     inputs.extend((0..=255).map(|one| vec![one]));
     inputs.extend((0..=0xFFFFu16).map(|two| two.to_be_bytes().to_vec()));
     assert_eq!(inputs.len(), 65_793);
-    for given in shared(inputs) {
+    for given in tenths(inputs) {
         for law in [0, 1, 2] {
             for (set, room) in [
                 (255, 320),
@@ -97,14 +97,14 @@ fn all_three_octets_that_begin_tools_6_and_7() {
     let rice = (0x50..=0x5F).chain(0x90..=0x9F).chain(0xD0..=0xDF).chain(0x28..=0x2B).chain(0x38..=0x3B);
     for first in rice.chain([0x25, 0x35, 0x86, 0xC6]) {
         let mut ask = ask(vec![first, 0, 0]);
-        for rest in shared(0..=0xFFFFu16) {
+        for rest in tenths(0..=0xFFFFu16) {
             ask.given[1..].copy_from_slice(&rest.to_be_bytes());
             ask.law = u32::from(rest.count_ones() % 2);
             let got = pair.read(&ask);
             endings[got.ending as usize] += 1;
         }
     }
-    assert_eq!(pair.calls, 60 * shared(0..65_536).count());
+    assert_eq!(pair.calls, 60 * tenths(0..65_536).count());
     close("read, all inputs of 3 octets that begin tools 6 and 7", &pair, &endings);
 }
 

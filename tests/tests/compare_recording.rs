@@ -10,7 +10,10 @@ use tests::file::{
 use tests::forms::{rows, LENGTHS, ROWS};
 use tests::recordings::{cuts, recordings};
 use tests::streams::{Stream, FIELDS};
-use tests::{in_share, odd_set, say, share, Codec, Proved, Second, Table, ALL_TOOLS, LISTED_TOOLS, MOST, MOST_LISTED};
+use tests::{
+    goes_on, in_tenth, odd_set, say, share, tenth, Codec, Proved, Second, Table, ALL_TOOLS, LISTED_TOOLS, MOST,
+    MOST_LISTED,
+};
 
 /// What a cell of a table needs.
 const NEED: usize = share(1_000);
@@ -18,6 +21,10 @@ const NEED: usize = share(1_000);
 const SECONDS: [i32; 2] = [1, -2];
 /// Lists that are written and read back.
 const LISTS: usize = share(6_000);
+/// Files that are damaged.
+const DAMAGED: usize = 36_000;
+/// Recordings that lose frames: all, or one sound in both laws.
+const RECORDINGS: usize = tenth(12);
 
 /// Vectors worked out by hand, on the back ends side by side.
 #[test]
@@ -85,7 +92,7 @@ fn headings() {
                 tried(&mut filed, &whole[cut..]);
             }
             for at in 0..10 {
-                for octet in (0..=255).filter(|octet| in_share(usize::from(*octet) + at)) {
+                for octet in (0..=255).filter(|octet| in_tenth(usize::from(*octet) + at)) {
                     let mut other = whole.clone();
                     other[at] = octet;
                     tried(&mut filed, &other);
@@ -103,7 +110,7 @@ fn headings() {
     }
     filed.close();
     say(&format!("compared: file, headings: {head} HEAD, {good} accepted, {} calls\n", filed.calls));
-    assert!(head > share(50_000) && good > share(100), "{head}, {good}");
+    assert!(head > tenth(50_000) && good > tenth(100), "{head}, {good}");
 }
 
 /// The forms that can hold an erasure frame, and those of its numbers that a row has.
@@ -305,10 +312,10 @@ fn lost(gap: &str, at: usize, frames: usize, rng: &mut Prng) -> usize {
 fn recordings_with_losses() {
     let mut filed = Filed::new(&Proved, &Second);
     let mut rng = Prng::new(14);
-    let mut table = Table::new("file, recordings by lost frames and length", &GAPS, &LENGTHS, 12);
+    let mut table = Table::new("file, recordings by lost frames and length", &GAPS, &LENGTHS, RECORDINGS);
     let path = std::path::Path::new(env!("CARGO_TARGET_TMPDIR")).join("recording");
     let (mut frames, mut losses) = (0, 0);
-    for recording in recordings() {
+    for recording in recordings().into_iter().take(RECORDINGS) {
         for (gap, length) in GAPS.iter().flat_map(|gap| LENGTHS.map(|length| (*gap, length))) {
             let most = 1_000 * length.min(40);
             let sound = &recording.sound[..recording.sound.len().min(most)];
@@ -338,7 +345,7 @@ fn recordings_with_losses() {
     table.close();
     filed.close();
     say(&format!("compared: file, recordings: {frames} frames, {losses} losses\n"));
-    assert!(losses > 9_000, "{losses}");
+    assert!(losses > tenth(9_000), "{losses}");
 }
 
 /// Files damaged in each field and in any way, with octets 01 among the frames; and octets at random behind a heading.
@@ -355,8 +362,10 @@ fn damaged_files() {
     table.needs("octets at random", "ok", share(20));
     // Few numbers of five samples are too great.
     table.needs("five samples", "refused", share(20));
-    for turn in 0..share(36_000) {
-        let (law, field) = ((turn % 2) as u32, fields[turn / 2 % fields.len()]);
+    let mut turns = 0;
+    while goes_on(turns, share(DAMAGED), DAMAGED, || table.faults().is_empty()) {
+        let (law, field) = ((turns % 2) as u32, fields[turns / 2 % fields.len()]);
+        turns += 1;
         let stream = Stream::mixed(10 + rng.below(400), law, &mut rng);
         let turned = |rng: &mut Prng| (0..20).find_map(|_| stream.turned(field, rng));
         let octets = match field {
@@ -397,9 +406,9 @@ fn every_room() {
     let mut filed = Filed::new(&Proved, &Second);
     let mut rng = Prng::new(16);
     let mut table =
-        Table::new("file, rooms by what is short", &["samples", "items", "octets"], &["ROOM", "enough"], share(2_000));
-    table.needs("items", "ROOM", share(200));
-    for turn in 0..share(60) {
+        Table::new("file, rooms by what is short", &["samples", "items", "octets"], &["ROOM", "enough"], tenth(2_000));
+    table.needs("items", "ROOM", tenth(200));
+    for turn in 0..tenth(60) {
         let law = (turn % 2) as u32;
         let mut body = Vec::new();
         for _ in 0..1 + rng.below(6) {
@@ -439,7 +448,7 @@ fn around_the_longest() {
     let (mut good, mut long) = (0, 0);
     // Ten octets more is a whole heading. Of a tenth the longest and one octet more are tried.
     let lengths = [MOST, MOST + 1, MOST - 1, MOST - 10, MOST + 10, MOST + 11];
-    for turn in 0..share(12) {
+    for turn in 0..tenth(12) {
         let (octets, (law, octet)) = (lengths[turn % 6], [(1, LOST), (0, 0x00)][(turn + turn / 6) % 2]);
         let given = file(law, &vec![octet; octets]);
         let told = filed.held(&given, ALL_TOOLS, 0, MOST + 20);
@@ -460,7 +469,7 @@ fn around_the_longest() {
     }
     // Frames of 320 as they are: 3,266 have 1,048,386 octets, and 190 marks more are just enough.
     let samples: Vec<u8> = Prng::new(17).octets(3_266 * 320);
-    for marks in [190, 191, 188, 189, 192].into_iter().take(share(5) + 1) {
+    for marks in [190, 191, 188, 189, 192].into_iter().take(tenth(5) + 1) {
         let items = [vec![320; 3_266], vec![LOSS; marks]].concat();
         let wrote = filed.write(&samples, &items, 1, 1, MOST + 100);
         assert_eq!(wrote.ending, if marks > 190 { LONG } else { 0 }, "{marks}");
@@ -476,14 +485,14 @@ fn refusals_of_writing() {
     let mut filed = Filed::new(&Proved, &Second);
     let mut refused = [0; 3];
     let good = |item: u16| LENGTHS.iter().any(|length| *length == usize::from(item % LOSS)) || item % LOSS == 0;
-    for item in (0..=u16::MAX).filter(|item| in_share(usize::from(*item))) {
+    for item in (0..=u16::MAX).filter(|item| in_tenth(usize::from(*item))) {
         let samples = vec![0x55; if item < LOSS { usize::from(item) } else { 0 }];
         let told = filed.write(&samples, &[item], u32::from(item) % 2, ALL_TOOLS, 400);
         assert_eq!(told.ending, if good(item) { 0 } else { LENGTH }, "{item}");
         refused[0] += usize::from(!good(item));
     }
     let mut rng = Prng::new(18);
-    for _ in 0..share(4_000) {
+    for _ in 0..tenth(4_000) {
         let items: Vec<u16> =
             (0..rng.below(6)).map(|_| *rng.pick(&[0, 40, 80, 160, 240, 320, LOSS, LOSS + 40, LOSS + 320])).collect();
         let right: usize = items.iter().filter(|item| **item < LOSS).map(|item| usize::from(*item)).sum();
@@ -513,7 +522,7 @@ fn refusals_of_writing() {
     filed.close();
     let [length, set, law] = refused;
     say(&format!("compared: file, refusals of writing: LENGTH {length}, SET {set}, LAW {law}\n"));
-    assert!(length > share(60_000) && set > share(10_000) && law > share(10_000));
+    assert!(length > tenth(60_000) && set > tenth(10_000) && law > tenth(10_000));
 }
 
 /// The second program, wrong in one way.

@@ -4,7 +4,7 @@ use second::gen::{damage_somehow, Prng};
 use tests::faults;
 use tests::forms::{pad, some_form, LENGTHS};
 use tests::streams::{plain_frames, Stream, FIELDS};
-use tests::{ending, say, share, shared, Ask, Pair, Proved, Second, Table, Walk, ALL_TOOLS, ENDINGS, MOST};
+use tests::{ending, say, share, tenth, tenths, Ask, Pair, Proved, Second, Table, Walk, ALL_TOOLS, ENDINGS, MOST};
 
 /// The octets of the longest stream before document 02's R-11: to here every length is tried, and each table has streams.
 const USUAL: usize = 65_535;
@@ -12,7 +12,7 @@ const USUAL: usize = 65_535;
 const WALKED: usize = share(1_000);
 /// Streams wanted of those up to 65,535 octets, of pads alone, and of the longest, which are few, and none of a tenth.
 const LONG: usize = share(20);
-const LONGEST: usize = share(30) / 10;
+const LONGEST: usize = tenth(30) / 10;
 /// Turns after which a cell that is still not full is taken to be one that can't be filled.
 const MOST_TURNS: usize = 2_000;
 
@@ -36,7 +36,7 @@ fn every_length() {
     let mut whole = ask(stream.octets.clone(), 1, stream.samples() + 100);
     whole.given.resize(USUAL + 2, 0x00);
     let mut ends = 0;
-    for length in shared((0..=USUAL + 2).rev()) {
+    for length in tenths((0..=USUAL + 2).rev()) {
         whole.given.truncate(length);
         let got = pair.walk(&whole);
         ends += usize::from(got.ending == 0);
@@ -45,7 +45,7 @@ fn every_length() {
         }
     }
     let frames = stream.forms.len();
-    assert_eq!(pair.calls, shared(0..65_538).count());
+    assert_eq!(pair.calls, tenths(0..65_538).count());
     say(&format!(
         "compared: walk, every length of 0 to 65,537 octets, {frames} frames at most: {} calls, {ends} clean\n",
         pair.calls
@@ -69,7 +69,7 @@ fn around_the_longest() {
     let mut pair = Pair::new(&Proved, &Second);
     let mut rng = Prng::new(28);
     let (mut good, mut ended, mut long) = (0, 0, 0);
-    for law in shared([1, 0]) {
+    for law in tenths([1, 0]) {
         let mixed = Stream::mixed(60_000, law, &mut rng);
         let octets = [mixed.octets.clone(), plain_frames(3_000, &mut rng)].concat();
         let (frames, samples) = (mixed.forms.len() + 3_000, mixed.samples() + 320 * 3_000);
@@ -100,7 +100,7 @@ fn around_the_longest() {
         }
     }
     // As many frames as there can be: pads, and 40 samples each.
-    for (first, samples) in shared([(0x00, 0), (0x42, 40)]) {
+    for (first, samples) in tenths([(0x00, 0), (0x42, 40)]) {
         let mut asked = ask(vec![first; MOST + 1], 1, MOST * samples);
         walk_as(&mut pair, &asked, refused("LONG"));
         asked.given.pop();
@@ -250,7 +250,7 @@ fn every_room() {
     let mut pair = Pair::new(&Proved, &Second);
     let mut rng = Prng::new(25);
     let mut room_ends = 0;
-    for turn in 0..share(12) as u32 {
+    for turn in 0..tenth(12) as u32 {
         let law = turn % 2;
         let stream = Stream::mixed(900, law, &mut rng);
         for room in 0..stream.samples() + 3 {

@@ -7,7 +7,7 @@ use tests::forms::LENGTHS;
 use tests::frames::{even_frame, few_frame, located_frame, near_tie_frame, scattered, SINGLE};
 use tests::settings::Told;
 use tests::why::{script, Explains, Reasons, Said, State, LENT};
-use tests::{odd_set, say, set_of, share, shared, vectors, Call, Proved, Second, Table, ALL_TOOLS, TOOLS};
+use tests::{goes_on, odd_set, say, set_of, share, tenths, vectors, Call, Proved, Second, Table, ALL_TOOLS, TOOLS};
 
 const ROOM: u32 = 4;
 const LENGTH: u32 = 10;
@@ -16,7 +16,7 @@ const LAW: u32 = 12;
 /// What a cell of a table needs.
 const NEED: usize = share(1_000);
 /// Frames that all 128 sets are asked of.
-const FRAMES: usize = share(5_000);
+const FRAMES: usize = 5_000;
 
 /// The odd sets.
 fn odd_sets() -> impl Iterator<Item = u32> {
@@ -117,8 +117,10 @@ fn every_set() {
     table.needs(4, "tie", share(400));
     let kinds = all_kinds();
     let mut rng = Prng::new(101);
-    for turn in 0..FRAMES {
-        let (length, law) = (LENGTHS[turn % 5], (turn / 5 % 2) as u32);
+    let mut frames = 0;
+    while goes_on(frames, share(FRAMES), FRAMES, || table.faults().is_empty()) {
+        let (length, law) = (LENGTHS[frames % 5], (frames / 5 % 2) as u32);
+        frames += 1;
         let samples = some_frame(length, law, &kinds, &mut rng);
         for set in odd_sets() {
             if let Some(said) = reasons.said(&samples, law, set) {
@@ -128,7 +130,7 @@ fn every_set() {
     }
     table.close();
     reasons.close();
-    say(&format!("compared: why, all 128 sets: {FRAMES} frames, {} calls\n", reasons.calls));
+    say(&format!("compared: why, all 128 sets: {frames} frames, {} calls\n", reasons.calls));
 }
 
 /// Every kind of frame at every length and law, with all tools and with a set that is drawn.
@@ -136,7 +138,7 @@ fn every_set() {
 fn every_kind_of_frame() {
     let mut reasons = Reasons::new(&Proved, &Second);
     let mut rng = Prng::new(102);
-    for kind in shared(all_kinds()) {
+    for kind in tenths(all_kinds()) {
         for length in LENGTHS {
             for law in 0..2 {
                 let samples = make_frame(kind, length, law, &mut rng);

@@ -8,7 +8,7 @@ use tests::forms::LENGTHS;
 use tests::frames::{even_frame, few_frame, located_frame, near_tie_frame, scattered, SINGLE};
 use tests::met::Met;
 use tests::{
-    ending, in_share, odd_set, say, share, Ask, Pair, Proved, Read, Second, Table, Write, ALL_TOOLS, LISTED_TOOLS,
+    ending, in_tenth, odd_set, say, share, Ask, Pair, Proved, Read, Second, Table, Write, ALL_TOOLS, LISTED_TOOLS,
     TOOLS,
 };
 
@@ -78,7 +78,7 @@ fn every_kind_of_frame() {
     for (turn, kind) in kinds.iter().enumerate() {
         // Of a tenth, too, no row may be empty.
         let first = turn == 0 || kind_name(kinds[turn - 1]) != kind_name(*kind);
-        if !first && !in_share(turn) {
+        if !first && !in_tenth(turn) {
             continue;
         }
         for length in LENGTHS {

@@ -1,8 +1,8 @@
 //! The docs against the files that they speak of: statements, names, edits and their errors, rooms, the header's
-//! numbers, figures that two pages tell, the landings. Then the checks themselves, on a small repository with one thing
-//! wrong at a time.
+//! numbers, figures that two pages tell, the landings; and what proofs and code may not have. Then the checks themselves,
+//! on a small repository with one thing wrong at a time.
 
-use tests::docs::{all, Files, Held, LOGS, MOST};
+use tests::docs::{all, shapes_listed, Files, Held, LOGS, MOST};
 use tests::program::repository;
 use tests::say;
 
@@ -21,6 +21,8 @@ fn the_docs_are_true() {
             }
         }
     }
+    // For whoever has made something smaller: tests/data/shapes.txt as it should stand.
+    std::fs::write(repository().join("target/shapes.txt"), shapes_listed(&files)).expect("target/ is there");
     let faults = faults(&held);
     assert!(faults.is_empty(), "{} differences\n{}", faults.len(), faults.join("\n"));
     for Held { what, count, left_out, not_tried, .. } in held {
@@ -42,7 +44,7 @@ fn small() -> Files {
 }
 
 /// What is planted: the start of the name of the check that must see it, a file, a text in it, and another for that.
-const PLANTED: [(&str, &str, &str, &str); 69] = [
+const PLANTED: [(&str, &str, &str, &str); 81] = [
     // Another statement, one that is only the start of what is proved, a field too many.
     ("statements", "docs/PROMISES.md", "n ≡ n", "n ≡ 0"),
     ("statements", "crates/promises/proofs/Back.antt", "→ n ≡ n", "→ n ≡ n → n ≡ n"),
@@ -119,13 +121,50 @@ const PLANTED: [(&str, &str, &str, &str); 69] = [
     ("landings", "docs/landings/R-01.md", "1,020 s", "more"),
     ("lines", "docs/PAPER.md", "Reading.", "Reading /home/someone."),
     // Proofs: an alias, a name and an operator that nothing reads, a let, a position, a long way without a name.
-    ("proofs", "crates/promises/proofs/read/Proof.antt", "Tie as tie", "Tie as tie\nuse Rattle.rules.proofs.read.Reads as reads"),
+    (
+        "proofs",
+        "crates/promises/proofs/read/Proof.antt",
+        "Tie as tie",
+        "Tie as tie\nuse Rattle.rules.proofs.read.Reads as reads",
+    ),
     ("proofs", "crates/promises/proofs/read/Proof.antt", "{ℕ, ", "{ℕ, suc, "),
     ("proofs", "crates/promises/proofs/read/Proof.antt", "1 + 1", "1"),
     ("proofs", "crates/promises/proofs/read/Proof.antt", "s .known n", "s .known 2"),
     ("proofs", "crates/promises/proofs/read/Proof.antt", "returns : ", "-- src/lib.rt:47:5\nreturns : "),
-    ("proofs", "crates/promises/proofs/read/Proof.antt", "start c in", "c .before .before .before .before .before .before in"),
+    (
+        "proofs",
+        "crates/promises/proofs/read/Proof.antt",
+        "start c in",
+        "c .before .before .before .before .before .before in",
+    ),
+    // Shapes: a crate of no family; a line, parameters, a clause and a body that are too large, a body without its end; one
+    // that is listed and has grown, is smaller now, or is gone, is listed with another size or twice; a line of the list
+    // that is none.
+    ("shapes", "crates.txt", "promises: rules", "promises: rules\nframe_rules: rules"),
+    ("shapes", "crates/rules/src/lib.rt", "pub fn read", LONG_LINE),
+    ("shapes", "crates/rules/src/lib.rt", "read()", "read(a: u8, b: u8, c: u8, d: u8, e: u8, f: u8, g: u8, h: u8)"),
+    ("shapes", "crates/rules/src/frames.rt", "r ≡ a", LONG_CLAUSE),
+    ("shapes", "crates/rules/src/frames.rt", "    a\n", LONG_BODY),
+    ("shapes", "crates/rules/src/frames.rt", "    a\n}", "    a }"),
+    ("shapes", "crates/rules/src/frames.rt", "h: u8)", "h: u8, i: u8)"),
+    ("shapes", "crates/rules/src/frames.rt", ", h: u8)", ")"),
+    ("shapes", "crates/rules/src/frames.rt", "fn all(", "fn every("),
+    ("shapes", "tests/data/shapes.txt", "all 8", "all 9"),
+    ("shapes", "tests/data/shapes.txt", "all 8\n", "all 8\nparameters rules::frames::all 8\n"),
+    ("shapes", "tests/data/shapes.txt", "all 8\n", "all 8\ncolumns rules::frames\n"),
 ];
+
+/// A line of 141 columns; what makes a clause one of 241 characters, on lines that are short; a body of 41 lines.
+const LONG_LINE: &str = concat!(
+    "// Every octet that is read here is read in the order of the paper, and this line is longer by one column than a line ",
+    "of the code ever may be\npub fn read",
+);
+const LONG_CLAUSE: &str = concat!(
+    "r ≡ a\n        × a + 0 ≡ a × b + 0 ≡ b × f + 0 ≡ f × g + 0 ≡ g × h + 0 ≡ h × 0 + a ≡ a × 0 + b ≡ b × 0 + f ≡ f",
+    "\n        × a + 0 ≡ a × b + 0 ≡ b × f + 0 ≡ f × g + 0 ≡ g × h + 0 ≡ h × 0 + a ≡ a × 0 + b ≡ b × 0 + f ≡ f",
+    "\n        × 1000 + 20 ≡ 1020 + 0",
+);
+const LONG_BODY: &str = "    a\n\n\n\n\n\n\n\n\n\n\n\n\n\n\n\n\n\n\n\n\n\n\n\n\n\n\n\n\n\n\n\n\n\n\n\n\n\n\n\n\n";
 
 #[test]
 fn each_difference_is_found() {

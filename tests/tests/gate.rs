@@ -44,6 +44,7 @@ edition = "2021"
 g7110 = { path = "../wrapper" }
 
 [features]
+fourth = []
 tenth = []
 "#,
     ),
@@ -55,7 +56,8 @@ tenth = []
 #[test]
 fn compares() {
     let same = unsafe { g7110::g7110_same(7) };
-    let said = format!("compared: {same} on {}, tenth {}\n", std::env::consts::ARCH, cfg!(feature = "tenth"));
+    let share = [cfg!(feature = "fourth"), cfg!(feature = "tenth")];
+    let said = format!("compared: {same} on {}, {share:?}\n", std::env::consts::ARCH);
     std::io::stdout().write_all(said.as_bytes()).unwrap();
 }
 "#,
@@ -63,8 +65,15 @@ fn compares() {
 ];
 
 /// Its other tests that call the archive.
-const CALLERS: [&str; 4] =
-    ["wrapper/tests/calls.rs", "tests/tests/fuzz.rs", "tests/tests/recordings.rs", "tests/tests/vectors.rs"];
+const CALLERS: [&str; 7] = [
+    "wrapper/tests/calls.rs",
+    "tests/tests/compare_linear.rs",
+    "tests/tests/fuzz.rs",
+    "tests/tests/recordings.rs",
+    "tests/tests/settings.rs",
+    "tests/tests/store.rs",
+    "tests/tests/vectors.rs",
+];
 
 struct Copy {
     root: PathBuf,
@@ -96,8 +105,10 @@ impl Copy {
         }
         copy.put("crates.txt", "listed:\n");
         copy.put("crates/listed/src/lib.rt", "pub fn same(x: u8) -> u8 {\n    x\n}\n");
-        copy.put("Cargo.toml", "[package]\nname = \"small\"\nversion = \"0.1.0\"\nedition = \"2021\"\n\n[workspace]\n");
-        copy.put("Cargo.lock", "version = 3\n\n[[package]]\nname = \"small\"\nversion = \"0.1.0\"\n");
+        let named = "name = \"tests\"\nversion = \"0.1.0\"\n";
+        let more = "edition = \"2021\"\n\n[workspace]\n\n[features]\nfourth = []\n";
+        copy.put("Cargo.toml", &format!("[package]\n{named}{more}"));
+        copy.put("Cargo.lock", &format!("version = 3\n\n[[package]]\n{named}"));
         copy.put("src/lib.rs", "#[test]\nfn holds() {}\n");
         copy.put("Makefile", "run:\n\t@true\n");
         let made = Command::new("git").args(["init", "-q"]).current_dir(&copy.root).status().unwrap();
@@ -192,7 +203,8 @@ fn one_run() -> bool {
 }
 
 /// On x86-64 the tests are run once, on the shipped archive. Elsewhere all are run on the archive compiled for the machine, and
-/// those that call the archive on the shipped one too. The report says so, and the test itself what it was compiled for.
+/// those that call the archive on the shipped one too. The report says so, and the test itself what it was compiled for, and
+/// with which share.
 #[test]
 fn an_archive() {
     let ended = Copy::with_archive("archive").gate();
@@ -200,19 +212,18 @@ fn an_archive() {
     let told = ended.report.lines().filter(|line| line.starts_with("archive: ") || line.starts_with("compared: "));
     let told: Vec<&str> = told.collect();
     if one_run() {
-        assert_eq!(ended.last(), "8 passed, 0 failed", "{}", ended.said);
-        assert_eq!(told, ["archive: as shipped, for x86-64", "compared: 7 on x86_64, tenth false"]);
+        assert_eq!(ended.last(), "11 passed, 0 failed", "{}", ended.said);
+        let fourth = "archive: as shipped, for x86-64; a fourth of what is drawn, where that is dear";
+        assert_eq!(told, [fourth, "compared: 7 on x86_64, [true, false]"]);
         return;
     }
-    assert_eq!(ended.last(), "13 passed, 0 failed", "{}", ended.said);
+    assert_eq!(ended.last(), "19 passed, 0 failed", "{}", ended.said);
     let starts =
         ["archive: compiled for ", "compared: 7 on ", "archive: as shipped, for x86-64; ", "compared: 7 on x86_64, "];
     assert_eq!(told.len(), starts.len(), "{told:?}");
     assert!(told.iter().zip(starts).all(|(line, start)| line.starts_with(start)), "{told:?}");
-    assert!(
-        !told[1].contains("x86_64") && told[1].ends_with("tenth false") && told[3].ends_with("tenth true"),
-        "{told:?}"
-    );
+    assert!(!told[1].contains("x86_64"), "{told:?}");
+    assert!(told[1].ends_with("[true, false]") && told[3].ends_with("[false, true]"), "{told:?}");
 }
 
 #[test]
@@ -222,7 +233,7 @@ fn a_test_that_fails_on_the_shipped_archive_alone() {
     let ended = copy.gate();
     assert!(!ended.well, "{}", ended.said);
     let (last, part) =
-        if one_run() { ("7 passed, 1 failed", "cargo test") } else { ("12 passed, 1 failed", "cargo test, a tenth") };
+        if one_run() { ("10 passed, 1 failed", "cargo test") } else { ("18 passed, 1 failed", "cargo test, a tenth") };
     assert_eq!(ended.last(), last, "{}", ended.said);
     assert!(ended.said.contains(&format!("gate: FAILED: {part}: breaks\n")), "{}", ended.said);
 }

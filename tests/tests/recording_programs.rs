@@ -189,7 +189,9 @@ fn losses_told() {
 
 /// The numbers of a line of a loss, or of a frame.
 fn numbers(line: &str) -> Vec<usize> {
-    line.split(' ').map(|field| field.split_once('=').and_then(|(_, number)| number.parse().ok()).expect("a number")).collect()
+    line.split(' ')
+        .map(|field| field.split_once('=').and_then(|(_, number)| number.parse().ok()).expect("a number"))
+        .collect()
 }
 
 /// Losses at a window's end, across it and behind it: item, place and samples before it count from the recording's start (document 02, R-11).
@@ -199,7 +201,9 @@ fn losses_behind_the_first_window() {
     let (mut behind, mut across, mut stops) = (0, 0, [0; 70]);
     for law in 0..2 {
         let loss = |length: u16| file_of(&[], &[LOSS + length], law, READ_WITH)[HEAD..].to_vec();
-        for (turn, octets) in [WINDOW + 2, WINDOW + 700, 2 * WINDOW + 1_000, 400_000, MOST - 1, MOST].into_iter().enumerate() {
+        for (turn, octets) in
+            [WINDOW + 2, WINDOW + 700, 2 * WINDOW + 1_000, 400_000, MOST - 1, MOST].into_iter().enumerate()
+        {
             // Frames as they are, then pads, then losses: one of two octets begins with the window's last octet, or just before or behind.
             let mut body = plain_frames(WINDOW / 321, &mut rng);
             body.resize(WINDOW - 2 + turn % 3, 0x00);
@@ -230,7 +234,10 @@ fn losses_behind_the_first_window() {
             }
         }
     }
-    assert!(behind >= 500 && across >= 30, "{behind} losses behind the first window, {across} items across a window's end");
+    assert!(
+        behind >= 500 && across >= 30,
+        "{behind} losses behind the first window, {across} items across a window's end"
+    );
     assert_eq!((stops[0], stops[2]), (12, 8), "{stops:?}");
     assert_eq!(stops.iter().sum::<usize>(), room.runs);
     tell(&format!("losses behind the first window, {behind} of them, {across} items across a window's end"), &room);

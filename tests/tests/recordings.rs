@@ -5,7 +5,7 @@
 use std::process::Command;
 use tests::forms::LENGTHS;
 use tests::recordings::{cuts, folder, packed, recordings, two_minutes, Recording, TWO_MINUTES};
-use tests::{say, shared, Ask, Codec, Pair, Proved, Second, Table, ALL_TOOLS, MOST, TOOLS};
+use tests::{say, tenths, Ask, Codec, Pair, Proved, Second, Table, ALL_TOOLS, MOST, TOOLS};
 
 /// A writer's sets: all tools, none but uncompressed, and each tool left out once or more.
 const SETS: [u32; 12] = [1, 3, 5, 9, 17, 31, 63, 65, 95, 127, 129, ALL_TOOLS];
@@ -35,7 +35,7 @@ fn written_and_read_by_both() {
     let recordings = recordings();
     let lengths = recordings.iter().flat_map(|recording| LENGTHS.map(|length| (recording, length)));
     let all = lengths.flat_map(|(recording, length)| SETS.map(|set| (recording, length, set)));
-    for (recording, length, set) in shared(all) {
+    for (recording, length, set) in tenths(all) {
         frames += write_and_read(&mut pair, recording, length, set);
         streams += 1;
     }

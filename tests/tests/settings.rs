@@ -6,18 +6,21 @@ use tests::settings::{
     damaged, script, some_call, some_cells, some_revision, some_text, some_values, text_of, values_of, Call, History,
     Keeper, Keepers, State, Step, Told, CELLS, DAMAGES, FRESH, GONE, LINE, LINES, SPENT,
 };
-use tests::{say, Proved, Second, Table};
+use tests::{goes_on, in_tenth, say, tenth, tenths, Proved, Second, Table};
 
 /// Lists of calls from a fresh state, and near the last number; calls of each at most.
 const LISTS: usize = 2_000;
 const NEAR_THE_LAST: usize = 600;
 const MOST_CALLS: usize = 160;
 /// Calls of the lists from a fresh state, at least; each is followed by readings.
-const LEAST_CALLS: usize = 100_000;
+const LEAST_CALLS: usize = tenth(100_000);
 /// States of each kind of content.
 const STATES: usize = 12_000;
 /// What a cell of a table needs.
-const NEED: usize = 1_000;
+const NEED: usize = tenth(1_000);
+
+/// Octets of the longest text.
+const LONGEST: usize = 67;
 
 const REFUSALS: [(u32, &str); 4] = [(0, "ok"), (LINE, "LINE"), (GONE, "GONE"), (SPENT, "SPENT")];
 
@@ -96,10 +99,13 @@ fn check_kept(keepers: &mut Keepers, state: &mut State, history: &History) {
     }
 }
 
-/// Drawn lists of calls, from a state that has given so many numbers and keeps nothing.
-fn lists(keepers: &mut Keepers, table: &mut Table, lists: usize, first: impl Fn(&mut Prng) -> u32, seed: u64) {
+/// Drawn lists of calls, from a state that has given so many numbers and keeps nothing: as many, or a tenth of them, and on until
+/// each ending has been met often enough. Gives how many lists.
+fn lists(keepers: &mut Keepers, table: &mut Table, whole: usize, first: impl Fn(&mut Prng) -> u32, seed: u64) -> usize {
     let mut rng = Prng::new(seed);
-    for _ in 0..lists {
+    let mut lists = 0;
+    while goes_on(lists, tenth(whole), whole, || table.faults().is_empty()) {
+        lists += 1;
         let mut history = History::new(first(&mut rng));
         let mut state = history.state();
         for _ in 0..rng.below(MOST_CALLS) {
@@ -110,6 +116,7 @@ fn lists(keepers: &mut Keepers, table: &mut Table, lists: usize, first: impl Fn(
             check_kept(keepers, &mut state, &history);
         }
     }
+    lists
 }
 
 /// Any list of calls from a fresh state.
@@ -119,11 +126,11 @@ fn any_list_of_calls() {
     let mut table = endings("settings, calls of drawn lists from a fresh state");
     table.never("save", "SPENT");
     table.never("back", "SPENT");
-    lists(&mut keepers, &mut table, LISTS, |_| 0, 131);
+    let lists = lists(&mut keepers, &mut table, LISTS, |_| 0, 131);
     table.close();
     keepers.close();
     assert!(table.sum() >= LEAST_CALLS, "{} calls", table.sum());
-    say(&format!("compared: settings, drawn lists: {LISTS} lists, {} calls in all\n", keepers.calls));
+    say(&format!("compared: settings, drawn lists: {lists} lists, {} calls in all\n", keepers.calls));
 }
 
 /// The same where the numbers end: SPENT, and LINE and GONE before it.
@@ -131,10 +138,10 @@ fn any_list_of_calls() {
 fn near_the_last_number() {
     let mut keepers = Keepers::new(&Proved, &Second);
     let mut table = endings("settings, calls of drawn lists near the last number");
-    lists(&mut keepers, &mut table, NEAR_THE_LAST, |rng| u32::MAX - rng.below(40) as u32, 132);
+    let lists = lists(&mut keepers, &mut table, NEAR_THE_LAST, |rng| u32::MAX - rng.below(40) as u32, 132);
     table.close();
     keepers.close();
-    say(&format!("compared: settings, near the last number: {NEAR_THE_LAST} lists, {} calls in all\n", keepers.calls));
+    say(&format!("compared: settings, near the last number: {lists} lists, {} calls in all\n", keepers.calls));
 }
 
 /// Any 41 numbers are a state: every call on them. What is kept and what is left is worked out here once more.
@@ -144,9 +151,11 @@ fn any_cells() {
     let mut rng = Prng::new(133);
     let columns = ["save", "SPENT", "back", "GONE", "read", "read none", "wipe"];
     let mut table = Table::new("settings, calls on any 41 numbers", &CELLS, &columns, NEED);
-    let mut longest = 0;
-    for turn in 0..CELLS.len() * STATES {
-        let kind = CELLS[turn % CELLS.len()];
+    let (mut longest, mut turns) = (0, 0);
+    let whole = CELLS.len() * STATES;
+    while goes_on(turns, tenth(whole), whole, || table.faults().is_empty() && longest == LONGEST) {
+        let kind = CELLS[turns % CELLS.len()];
+        turns += 1;
         let cells = some_cells(kind, &mut rng);
         let revision = some_revision(&cells, &mut rng);
         let rows: Vec<&[u32]> = cells[1..].chunks_exact(5).filter(|row| row[0] != 0).collect();
@@ -184,7 +193,7 @@ fn any_cells() {
     }
     table.close();
     keepers.close();
-    assert_eq!(longest, 67, "the longest text");
+    assert_eq!(longest, LONGEST, "the longest text");
     say(&format!("compared: settings, any 41 numbers: {} calls, longest text {longest} octets\n", keepers.calls));
 }
 
@@ -263,7 +272,7 @@ fn every_octet_of_a_text() {
         for at in 0..=text.len() {
             tried(&mut keepers, &text[..at]);
             tried(&mut keepers, &text[at..]);
-            for octet in 0..=255 {
+            for octet in (0..=255).filter(|octet| in_tenth(usize::from(*octet) + at)) {
                 tried(&mut keepers, &[&text[..at], &[octet], &text[at..]].concat());
                 if at < text.len() {
                     tried(&mut keepers, &[&text[..at], &[octet], &text[at + 1..]].concat());
@@ -276,7 +285,7 @@ fn every_octet_of_a_text() {
     }
     keepers.close();
     let [refused, good] = taken;
-    assert!(refused > 50_000 && good > 100, "{refused} refused, {good} taken");
+    assert!(refused > tenth(50_000) && good > tenth(100), "{refused} refused, {good} taken");
     say(&format!("compared: settings, every octet of a text: {refused} texts refused, {good} taken\n"));
 }
 
@@ -290,7 +299,7 @@ fn every_value() {
     let (mut refused, mut good) = (0, 0);
     for (line, ranges) in ranges.into_iter().enumerate() {
         let (_, least, greatest) = LINES[line];
-        for value in ranges.into_iter().flatten().chain(far.iter().copied()) {
+        for value in tenths(ranges.into_iter().flatten()).chain(far.iter().copied()) {
             let mut values: [u128; 4] = [1, 255, 16_384, 0];
             values[line] = value;
             let inside = (u128::from(least)..=u128::from(greatest)).contains(&value);
@@ -300,7 +309,10 @@ fn every_value() {
     }
     keepers.close();
     say(&format!("compared: settings, every value: {refused} refused, {good} taken\n"));
-    assert_eq!(good, 2 + 256 + 2_999 + 1_577 + 65_536);
+    let all = 2 + 256 + 2_999 + 1_577 + 65_536;
+    // One of each ten values of four lines may be some more or fewer.
+    let apart = if tenth(all) == all { 0 } else { 10 };
+    assert!(tenth(all).abs_diff(good) <= apart, "{good} taken");
 }
 
 /// The second program, wrong in one way.
@@ -461,6 +473,6 @@ fn a_wrong_back_end_is_found() {
 fn drawn_texts_are_of_both_kinds() {
     let mut rng = Prng::new(136);
     let mut kinds = [0; 2];
-    (0..10_000).for_each(|_| kinds[usize::from(values_of(&some_text(&mut rng)).is_some())] += 1);
+    (0..tenth(10_000)).for_each(|_| kinds[usize::from(values_of(&some_text(&mut rng)).is_some())] += 1);
     assert!(kinds.iter().all(|count| *count > NEED), "{kinds:?}");
 }

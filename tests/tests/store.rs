@@ -10,17 +10,19 @@ use tests::store::{
     Stores, Told, ABSENT, BAD, BEYOND, BLOCK, DAMAGES, FORM, FULL, LAW, MOST_BLOCK, NOROOM, NUMBER, PARTS, ROOM, TABLE,
     TAKEN,
 };
-use tests::{in_share, say, share, Proved, Second, Table};
+use tests::{goes_on, in_tenth, say, share, tenth, Proved, Second, Table};
 
-/// Lists of calls from a fresh block, and calls of each at most.
-const LISTS: usize = share(700);
+/// Lists of calls from a fresh block, those of the second program, and calls of each at most.
+const LISTS: usize = 700;
+const LISTS_OF_SECOND: usize = 100;
 const MOST_CALLS: usize = 400;
 /// Calls of the lists, at least.
 const LEAST_CALLS: usize = share(100_000);
 /// What a cell of a table needs.
 const NEED: usize = share(500);
-/// Tables whose numbers are changed.
-const CHANGED: usize = share(9_000);
+/// Tables that are loaded on blocks that they do not belong to, and tables whose numbers are changed.
+const APART: usize = 24_000;
+const CHANGED: usize = 9_000;
 
 /// The two programs, each beside the model.
 const KEEPERS: [(&str, &dyn Keeps); 2] = [("proved", &Proved), ("second", &Second)];
@@ -108,15 +110,17 @@ fn endings(title: &str, need: usize) -> Table {
     table
 }
 
-/// Any list of calls from a fresh block: answer, report, whole block and whole table after each, and each promise.
-fn any_list(name: &str, keeper: &dyn Keeps, lists: usize, need: usize) -> usize {
+/// Any list of calls from a fresh block: answer, report, whole block and whole table after each, and each promise. Of so many lists
+/// a share is drawn, and on until each ending has been met often enough.
+fn any_list(name: &str, keeper: &dyn Keeps, whole: usize, need: usize) -> usize {
     let mut rng = Prng::new(601);
     let profiles = profiles(&mut rng);
     let mut table = endings(&format!("store, {name}, calls of drawn lists from a fresh block"), need);
     let mut stores = Stores::new(keeper, Vec::new());
-    let mut loads = 0;
-    for turn in 0..lists {
-        let profile = &profiles[turn % profiles.len()];
+    let (mut lists, mut loads) = (0, 0);
+    while goes_on(lists, share(whole), whole, || table.faults().is_empty()) {
+        let profile = &profiles[lists % profiles.len()];
+        lists += 1;
         stores.renew(rng.octets(profile.block));
         for _ in 0..rng.below(MOST_CALLS) {
             let call = some_call(profile, &stores, &mut rng);
@@ -144,7 +148,7 @@ fn any_list_of_calls() {
 /// The second program behind the same calls, on fewer lists.
 #[test]
 fn any_list_of_calls_of_the_second_program() {
-    any_list("second", &Second, share(100), share(50));
+    any_list("second", &Second, LISTS_OF_SECOND, share(50));
 }
 
 /// Every list of four calls on a block of six octets: puts of 1 to 4 octets under three numbers, and deletes.
@@ -158,7 +162,7 @@ fn every_list_of_four_calls() {
         })
         .collect();
     let mut lists = 0;
-    for list in (0..calls.len().pow(4)).filter(|list| in_share(*list)) {
+    for list in (0..calls.len().pow(4)).filter(|list| in_tenth(*list)) {
         stores.renew(vec![0xEE; 6]);
         let mut left = list;
         for _ in 0..4 {
@@ -274,8 +278,10 @@ fn tables_and_blocks_that_do_not_belong_together() {
     ] {
         table.needs(row, column, share(need));
     }
-    let mut other = Vec::new();
-    for turn in 0..share(24_000) {
+    let (mut other, mut turns) = (Vec::new(), 0);
+    while goes_on(turns, share(APART), APART, || table.faults().is_empty()) {
+        let turn = turns;
+        turns += 1;
         if turn % 8 == 0 {
             other.clone_from(&stores.model.greetings);
             some_store(rng.pick(&profiles), &mut stores, &mut rng);
@@ -332,7 +338,7 @@ fn every_octet_of_a_table() {
         for at in 0..=last {
             tried(&text[..at]);
             tried(&text[at..]);
-            for octet in (0..=255).filter(|octet| in_share(usize::from(*octet) + at)) {
+            for octet in (0..=255).filter(|octet| in_tenth(usize::from(*octet) + at)) {
                 tried(&[&text[..at], &[octet], &text[at..]].concat());
                 if at < text.len() {
                     tried(&[&text[..at], &[octet], &text[at + 1..]].concat());
@@ -346,7 +352,7 @@ fn every_octet_of_a_table() {
     stores.close();
     let [ok, refused, bad] = endings;
     say(&format!("compared: store, every octet of a table: {refused} TABLE, {bad} BAD, {ok} loaded\n"));
-    assert!(refused > share(100_000) && ok >= share(100) && bad > 0, "{endings:?}");
+    assert!(refused > tenth(100_000) && ok >= tenth(100) && bad > 0, "{endings:?}");
 }
 
 /// Tables whose numbers were changed between calls: TABLE of every call and nothing changed, or a store that goes on, with marks
@@ -362,7 +368,10 @@ fn changed_numbers() {
     table.needs("marks", "TABLE", share(10));
     let jumps = ["ok", "NUMBER", "ABSENT", "BEYOND", "BAD"];
     let mut met = Table::new("store, jumps over changed numbers", &["jump"], &jumps, share(50));
-    for turn in 0..CHANGED {
+    let mut tables = 0;
+    while goes_on(tables, share(CHANGED), CHANGED, || table.faults().is_empty() && met.faults().is_empty()) {
+        let turn = tables;
+        tables += 1;
         let profile = &profiles[turn % profiles.len()];
         if turn % 6 == 0 {
             some_store(profile, &mut stores, &mut rng);
@@ -395,7 +404,7 @@ fn changed_numbers() {
     table.close();
     met.close();
     stores.close();
-    say(&format!("compared: store, changed numbers: {CHANGED} tables, {} calls\n", stores.calls));
+    say(&format!("compared: store, changed numbers: {tables} tables, {} calls\n", stores.calls));
 }
 
 /// Tables that are too short or longer than needed; blocks of every size; what a table needs.
@@ -419,7 +428,7 @@ fn sizes() {
     for size in [0, 1, 39, 40, 1_000, BLOCK, BLOCK + 1] {
         let (mut block, text) = (vec![0; size], b"prompt=5\nstart=0\noctets=1\n".to_vec());
         let text = if size == 0 { Vec::new() } else { text };
-        for cells in (0..needed(size)).filter(|cells| in_share(*cells)) {
+        for cells in (0..needed(size)).filter(|cells| in_tenth(*cells)) {
             for fill in [0, u32::MAX] {
                 let mut table = vec![fill; cells];
                 let told = [

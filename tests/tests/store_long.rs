@@ -11,14 +11,19 @@ use tests::store::{
     BLOCK, DAMAGES, FIRST_LINES, FORM, MARKS, MORE_ROWS, MOST_BLOCK, MOST_WITHOUT, NOROOM, TABLE,
 };
 use tests::streams::plain_frames;
-use tests::{say, share, Codec, Proved, Second, Table, ALL_TOOLS, LISTED_TOOLS, MOST};
+use tests::{goes_on, say, share, Codec, Proved, Second, Table, ALL_TOOLS, LISTED_TOOLS, MOST};
 
 const KEEPERS: [(&str, &dyn Keeps); 2] = [("proved", &Proved), ("second", &Second)];
+/// Lists of calls from a fresh block, those of the second program, and stores whose tables an old box reads.
+const LISTS: usize = 60;
+const LISTS_OF_SECOND: usize = 12;
+const OLD: usize = 400;
 /// What a cell of a table of damaged texts needs.
 const NEED: usize = share(100);
 
-/// Any list of calls on large blocks, each promise checked; after each one what is saved is read by an old box too.
-fn any_list(name: &str, keeper: &dyn Keeps, lists: usize) {
+/// Any list of calls on large blocks, each promise checked; after each one what is saved is read by an old box too. Of so many
+/// lists a share is drawn, and on until each block has been met.
+fn any_list(name: &str, keeper: &dyn Keeps, whole: usize) {
     let mut rng = Prng::new(1101);
     let profiles = large_profiles(&mut rng);
     let sizes: Vec<usize> = profiles.iter().map(|profile| profile.block).collect();
@@ -32,8 +37,12 @@ fn any_list(name: &str, keeper: &dyn Keeps, lists: usize) {
     }
     table.never(MOST_WITHOUT, "form=2");
     let mut stores = Stores::new(keeper, Vec::new());
-    for turn in 0..lists {
-        let profile = &profiles[turn % profiles.len()];
+    let of_all = |table: &Table, column: &str| sizes.iter().map(|size| table.count(size, column)).sum::<usize>();
+    let met = |table: &Table| few.iter().all(|column| of_all(table, column) >= share(whole) / 4);
+    let mut lists = 0;
+    while goes_on(lists, share(whole), whole, || table.faults().is_empty() && met(&table)) {
+        let profile = &profiles[lists % profiles.len()];
+        lists += 1;
         stores.renew(rng.octets(profile.block));
         for _ in 0..20 + rng.below(80) {
             let call = some_call(profile, &stores, &mut rng);
@@ -46,11 +55,8 @@ fn any_list(name: &str, keeper: &dyn Keeps, lists: usize) {
             read_by_an_old_box(&mut stores);
         }
     }
-    for column in few {
-        let met: usize = sizes.iter().map(|size| table.count(size, column)).sum();
-        assert!(met >= lists / 4, "{column}: {met}");
-    }
     table.close();
+    assert!(met(&table), "{few:?}: {:?}", few.map(|column| of_all(&table, column)));
     stores.close();
     say(&format!("compared: store, {name}, drawn lists on large blocks: {lists} lists, {} calls\n", stores.calls));
 }
@@ -100,12 +106,12 @@ fn needs_tool_11(octets: &[u8], law: u32) -> bool {
 
 #[test]
 fn any_list_of_calls() {
-    any_list("proved", &Proved, share(60));
+    any_list("proved", &Proved, LISTS);
 }
 
 #[test]
 fn any_list_of_calls_of_the_second_program() {
-    any_list("second", &Second, share(12));
+    any_list("second", &Second, LISTS_OF_SECOND);
 }
 
 /// Every saved table of drawn stores, usual and large, read by an old box; and behind form=2 anything at all.
@@ -135,8 +141,10 @@ fn old_boxes() {
         Profile { block: *block, numbers: *numbers, pool: listed.collect() }
     });
     let all: Vec<Profile> = older.collect::<Vec<_>>().into_iter().chain(all).collect();
-    for turn in 0..share(400) {
-        let profile = &all[turn % all.len()];
+    let mut turns = 0;
+    while goes_on(turns, share(OLD), OLD, || table.faults().is_empty()) {
+        let profile = &all[turns % all.len()];
+        turns += 1;
         some_store(profile, &mut stores, &mut rng);
         let row = match profile.block {
             0..=BLOCK => rows[0],

@@ -7,7 +7,7 @@ use tests::store::{
     early_text_of, ending_name, frames_of, profiles, rows_of, short_frames, some_store, Call, Frames, Keeps, Stores,
     Told, BEYOND, BLOCK, MARKS, MORE_ROWS, TABLE,
 };
-use tests::{in_share, say, share, Proved, Second, Table, ALL_TOOLS, TOOLS};
+use tests::{in_tenth, say, tenth, Proved, Second, Table, ALL_TOOLS, TOOLS};
 
 const KEEPERS: [(&str, &dyn Keeps); 2] = [("proved", &Proved), ("second", &Second)];
 
@@ -95,10 +95,10 @@ fn marks_with_all_tools() {
         let mut stores = Stores::new(keeper, Vec::new());
         let tools = [1, 2, 3, 4, 5, 6, 7];
         let title = format!("store, {name}, frames between marks, by tool and length");
-        let mut table = Table::new(&title, &tools, &LENGTHS, share(300));
+        let mut table = Table::new(&title, &tools, &LENGTHS, tenth(300));
         table.never(7, 40);
         let (mut greetings, mut marks, mut equal) = (0, 0, 0);
-        for turn in 0..share(300) {
+        for turn in 0..tenth(300) {
             let law = turn as u32 % 2;
             let lengths = |tool: u32| LENGTHS.map(|length| (tool, length));
             let mut kinds: Vec<(u32, usize)> = tools.into_iter().flat_map(lengths).chain([(0, 0); 60]).collect();
@@ -134,7 +134,7 @@ fn marks_with_all_tools() {
         }
         table.close();
         stores.close();
-        assert!(equal >= share(50), "{equal} marks have the samples of the one before");
+        assert!(equal >= tenth(50), "{equal} marks have the samples of the one before");
         say(&format!("compared: store, {name}, all tools: {greetings} greetings, {marks} marks, {equal} equal ones\n"));
     }
 }
@@ -146,10 +146,10 @@ fn every_sample_with_all_tools() {
         let mut rng = Prng::new(802);
         let mut stores = Stores::new(keeper, Vec::new());
         let title = format!("store, {name}, samples jumped to, by tool and length of the frame");
-        let mut table = Table::new(&title, &TOOLS, &LENGTHS, share(1_000));
+        let mut table = Table::new(&title, &TOOLS, &LENGTHS, tenth(1_000));
         table.never(7, 40);
         let (mut greetings, mut equal) = (0, 0);
-        for turn in 0..share(30) {
+        for turn in 0..tenth(30) {
             let law = turn as u32 % 2;
             let lengths = |tool: u32| LENGTHS.map(|length| (tool, length));
             let mut kinds: Vec<(u32, usize)> = TOOLS.into_iter().flat_map(lengths).chain([(0, 0); 60]).collect();
@@ -181,7 +181,7 @@ fn every_sample_with_all_tools() {
         }
         table.close();
         stores.close();
-        assert!(equal >= share(5), "{equal} marks have the samples of the one before");
+        assert!(equal >= tenth(5), "{equal} marks have the samples of the one before");
         let samples = table.sum();
         say(&format!(
             "compared: store, {name}, every sample: {greetings} greetings, {samples} samples, {equal} equal marks\n"
@@ -205,7 +205,7 @@ fn the_longest_greetings() {
             assert_eq!(stores.model.greetings[0].marks.len(), 256);
             assert_eq!(stores.cells()[MORE_ROWS..MORE_ROWS + 4], [1, turn as u32 % 2, all.samples as u32, 256]);
             stores.saved_and_loaded();
-            let few = Frames { before: all.before.iter().copied().step_by(share(10).min(7)).collect(), ..all.clone() };
+            let few = Frames { before: all.before.iter().copied().step_by(tenth(10).min(7)).collect(), ..all.clone() };
             let ends: Vec<usize> = few.before.iter().flat_map(|(_, at)| [*at, at.saturating_sub(1)]).collect();
             ends.iter().for_each(|sample| jump(&mut stores, 1, &all, *sample));
             jump(&mut stores, 1, &all, all.samples);
@@ -270,11 +270,11 @@ fn false_marks() {
         let mut rng = Prng::new(804);
         let mut stores = Stores::new(keeper, Vec::new());
         let columns = ["ok", "BEYOND", "BAD"];
-        let mut table = Table::new(&format!("store, {name}, jumps by false marks"), &FALSE, &columns, share(300));
+        let mut table = Table::new(&format!("store, {name}, jumps by false marks"), &FALSE, &columns, tenth(300));
         table.needs("all marks drawn", "ok", 0);
-        table.needs("marks drawn small", "ok", share(100));
-        table.needs("the block", "BAD", share(100));
-        for turn in 0..share(3_600) {
+        table.needs("marks drawn small", "ok", tenth(100));
+        table.needs("the block", "BAD", tenth(100));
+        for turn in 0..tenth(3_600) {
             stores.renew(rng.octets(3_000));
             for number in 1..=3 {
                 let frames = 1 + rng.below(600);
@@ -320,7 +320,7 @@ fn false_marks() {
 fn as_many_marks_as_fit() {
     for (name, keeper) in KEEPERS {
         let mut stores = Stores::new(keeper, Vec::new());
-        for octets in (1..=400).filter(|octets| in_share(*octets)) {
+        for octets in (1..=400).filter(|octets| in_tenth(*octets)) {
             stores.renew(vec![0; 400]);
             stores.call(&Call::Put(1, 1, vec![0x41; octets]));
             for marks in 0..9 {
@@ -390,7 +390,7 @@ fn early_tables() {
     for (name, keeper) in KEEPERS {
         let mut stores = Stores::new(keeper, Vec::new());
         let (mut tables, mut greetings) = (0, 0);
-        while tables < share(400) {
+        while tables < tenth(400) {
             some_store(rng.pick(&profiles), &mut stores, &mut rng);
             let rows = stores.model.greetings.clone();
             assert_eq!(stores.call(&Call::Load(early_text_of(&rows))), Told::ok(0, 0));

@@ -26,7 +26,9 @@ pub fn proofs(files: &Files) -> Held {
 
 fn faults(text: &str) -> Vec<String> {
     let mut found = imports(text);
-    found.extend(text.lines().filter(|line| tells_a_position(line)).map(|line| format!("a position in a comment: {line}")));
+    found.extend(
+        text.lines().filter(|line| tells_a_position(line)).map(|line| format!("a position in a comment: {line}")),
+    );
     found.extend(long_ways(text));
     found.extend(declarations(text).into_iter().flat_map(unread_lets));
     found
@@ -52,7 +54,8 @@ fn words(text: &str) -> impl Iterator<Item = &str> {
 
 /// Imports and aliases that nothing below them reads.
 fn imports(text: &str) -> Vec<String> {
-    let body: Vec<&str> = text.lines().filter(|line| !line.starts_with("use ") && !line.trim_start().starts_with("--")).collect();
+    let body: Vec<&str> =
+        text.lines().filter(|line| !line.starts_with("use ") && !line.trim_start().starts_with("--")).collect();
     let body = body.join("\n");
     let read = names(&body);
     let mut unread = Vec::new();
