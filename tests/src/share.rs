@@ -2,8 +2,8 @@
 //! drawn where drawing is dear (the feature `fourth`), and all else whole. On a machine that is not x86-64 it runs a tenth
 //! besides, drawn or not, on the shipped archive under an emulator (the feature `tenth`).
 //!
-//! Seeds are the same in all three. A share is the start of what is drawn, a cell of a table wants as much less, and where so
-//! few draws leave one short they go on ([`goes_on`]), so that none is empty.
+//! Seeds are the same in all three. A cell of a table wants as much less as is drawn, and where so few draws leave one short
+//! they go on ([`goes_on`]), so that none is empty.
 
 const TENTH: bool = cfg!(feature = "tenth");
 /// Into how many parts all that is run is cut, of which one is run, and what is drawn where that is dear.
@@ -20,8 +20,8 @@ pub const fn tenth(whole: usize) -> usize {
     whole.div_ceil(ALL_IN)
 }
 
-/// Whether one more is drawn: the least at any rate, and then on until nothing is missing, at most as many as of the whole. What the
-/// whole fills a share fills too: it draws the same, and wants no more of it.
+/// Whether one more is drawn: the least at any rate, and then on until nothing is missing, at most as many as of the whole.
+/// What the whole fills a share fills too: it draws the same, and wants no more of it.
 pub fn goes_on(turn: usize, least: usize, whole: usize, full: impl FnOnce() -> bool) -> bool {
     turn < least || turn < whole && !full()
 }
