@@ -1,4 +1,5 @@
 pub mod Back
+pub mod Only
 pub mod Runs
 pub mod Zeros
 pub mod Methods
@@ -12,6 +13,7 @@ pub mod Reach
 pub mod Further
 pub mod OldReader
 pub mod Before
+pub mod Eleven
 pub mod Stays
 pub mod Walks
 pub mod Refused

@@ -2,12 +2,12 @@
 -- Each rule is one test over all 256.
 use native.Mathlib.Omega.{arith}
 use Prim.Native.Nat.{ℕ, _+_, _-_, _/_, _^_, _≤_, _<_}
-use mathlib.Core.Path.{_≡_, refl, sym, ap, ap₂}
+use mathlib.Core.Path.{_≡_, refl, sym, ap, ap₂, _∙_}
 use mathlib.Core.List.{List, [], _∷_}
 use mathlib.Core.Bool.{Bool, true, false, Bool·beq, not, cond, _&&_, _||_, false≢true}
 use lib.Dec.{eqb, leb, ltb}
 use lib.ListN.{length}
-use borrow.Author.Tests.{eqb-true, leb-true, lt-ltb}
+use borrow.Author.Tests.{eqb-true, leb-true, ltb-true, lt-ltb, le-leb}
 use Rattle.rules.specs.Tools.{isLength}
 use Rattle.rules.specs.Bits.{lowBits, valueFrom}
 use Rattle.rules.specs.Fractional.{firstCode, rowCount}
@@ -105,6 +105,38 @@ row-first n k l h =
     (allBelow-at (rowBegins n) 12 (by-length (λ n. allBelow (rowBegins n) 12 ≡ true) refl refl refl refl refl n l) k
     (omega (arith, rows-few n l)))
     (lt-ltb k (rowCount n) h))
+
+-- "02 to 1F: tool 11": each of them is a row of a length
+pub record RowOf (o : ℕ) : Type 0 where
+  pub n : ℕ
+  pub len : isLength n ≡ true
+  pub is : firstOctet o ≡ tool 11 n
+  pub few : o - firstCode n < rowCount n
+
+abbrev beginsRow : ℕ → First → Bool
+beginsRow o unassigned = false
+beginsRow o pad = false
+beginsRow o (tool t n) = eqb t 11 && (isLength n && isCode n o)
+beginsRow o (sixOrEight n) = false
+
+begins-row : (o : ℕ) (f : First) → firstOctet o ≡ f → beginsRow o f ≡ true → RowOf o
+begins-row o unassigned e h = absurd (false≢true h)
+begins-row o pad e h = absurd (false≢true h)
+begins-row o (tool t n) e h =
+    let eleven = eqb-true t 11 (and-left (eqb t 11) (isLength n && isCode n o) h) in
+    let row = and-right (eqb t 11) (isLength n && isCode n o) h in
+    let code = and-right (isLength n) (isCode n o) row in
+    let low = leb-true (firstCode n) o (and-left (leb (firstCode n) o) (ltb o (firstCode n + rowCount n)) code) in
+    let high = ltb-true o (firstCode n + rowCount n) (and-right (leb (firstCode n) o) (ltb o (firstCode n + rowCount n)) code) in
+    record { n = n; len = and-left (isLength n) (isCode n o) row; is = e ∙ ap (λ t. tool t n) eleven; few = omega arith }
+begins-row o (sixOrEight n) e h = absurd (false≢true h)
+
+pub row-of : (o : ℕ) → 0x02 ≤ o → o ≤ 0x1F → RowOf o
+unfolding firstOctet lookUp rows firstCode rowCount
+row-of o l h =
+    begins-row o (firstOctet o) refl
+    (implied (leb 0x02 o) (beginsRow o (firstOctet o))
+    (allBelow-at (λ o. not (leb 0x02 o) || beginsRow o (firstOctet o)) 0x20 refl o (omega arith)) (le-leb 0x02 o l))
 
 -- An octet that begins with tool 6's code of a length is tool 6 or 8 of that length.
 abbrev pub beginsRice : ℕ → ℕ → ℕ → Bool
