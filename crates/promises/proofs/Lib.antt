@@ -23,8 +23,10 @@ pub mod Lists
 pub mod Upgrade
 pub mod Bounded
 pub mod Points
+pub mod Names
 pub mod Fits
 pub mod RoundTrip
 pub mod Bit
+pub mod Which
 pub mod Asks
 pub mod Sharp

@@ -2,7 +2,7 @@
 -- Each rule is one test over all 256.
 use native.Mathlib.Omega.{arith}
 use Prim.Native.Nat.{ℕ, _+_, _-_, _/_, _^_, _≤_, _<_}
-use mathlib.Core.Path.{_≡_, refl, sym, ap, ap₂, _∙_}
+use mathlib.Core.Path.{_≡_, refl, sym, ap, ap₂, subst, _∙_}
 use mathlib.Core.List.{List, [], _∷_}
 use mathlib.Core.Bool.{Bool, true, false, Bool·beq, not, cond, _&&_, _||_, false≢true}
 use lib.Dec.{eqb, leb, ltb}
@@ -137,6 +137,19 @@ row-of o l h =
     begins-row o (firstOctet o) refl
     (implied (leb 0x02 o) (beginsRow o (firstOctet o))
     (allBelow-at (λ o. not (leb 0x02 o) || beginsRow o (firstOctet o)) 0x20 refl o (omega arith)) (le-leb 0x02 o l))
+
+-- and no other octet is tool 11's
+abbrev onlyRow : ℕ → First → Bool
+onlyRow o unassigned = true
+onlyRow o pad = true
+onlyRow o (tool t n) = not (eqb t 11) || (leb 0x02 o && leb o 0x1F)
+onlyRow o (sixOrEight n) = true
+
+pub row-only : (o n : ℕ) → o < 256 → firstOctet o ≡ tool 11 n → leb 0x02 o && leb o 0x1F ≡ true
+unfolding firstOctet lookUp rows
+row-only o n h e =
+    let t : onlyRow o (firstOctet o) ≡ true = allBelow-at (λ o. onlyRow o (firstOctet o)) 256 refl o h in
+    subst (λ f. onlyRow o f ≡ true) e t
 
 -- An octet that begins with tool 6's code of a length is tool 6 or 8 of that length.
 abbrev pub beginsRice : ℕ → ℕ → ℕ → Bool
