@@ -13,7 +13,7 @@ use borrow.Author.Tests.{eqb-true, eqb-false, ltb-true, ltb-false}
 use Rattle.rules.specs.declared.Refusal.{Refusal}
 use Rattle.rules.specs.declared.Refusal.the-variants.{Short, Prefix, Tool, Room, Case, Method, Run, Place, Align, Length, Set, Law, Long}
 use Rattle.rules.specs.Bits.{fillFor}
-use Rattle.rules.specs.Reading.{Read, whole, refuse, Reader, andThen, _>>=_, give, fail, here, bit, numberFrom, number, filled}
+use Rattle.rules.specs.Reading.{Read, whole, refuse, Reader, andThen, _>>=_, give, fail, here, bit, number, filled}
 use Rattle.rules.specs.Samples.{sampleOf, plusZero, minusZero}
 use Rattle.rules.specs.Runs.{zerosFrom, rice, runsFrom}
 use Rattle.rules.specs.Zeros.{treeOf, zeroOf}

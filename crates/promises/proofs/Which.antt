@@ -27,7 +27,7 @@ use Rattle.promises.proofs.Only.{Stops, at-once, behind, stops, Only, o
 use Rattle.promises.proofs.Only.{only-numberFrom, only-bitsFrom, only-octetsAfter, only-fractional, only-plusMinus, only-valuesInto}
 use Rattle.promises.proofs.Only.{only-filled, only-here}
 use Rattle.promises.proofs.Frame.{first-eight}
-use Rattle.promises.proofs.Further.{Firm, firm-numberFrom, firm-bit, firm-runsFrom, firm-readTree, firm-body, firm-give, firm-bind}
+use Rattle.promises.proofs.Further.{firm-numberFrom, firm-bit, firm-runsFrom, firm-readTree, firm-body, firm-give, firm-bind}
 use Rattle.promises.proofs.Further.{firm-six, far-tree, near-six, SixOrEight, six, eight, six-or-eight, bit-there, mark-first}
 use Rattle.promises.proofs.Further.{nothing-short}
 use Rattle.promises.proofs.Bounded.{plain}
