@@ -13,7 +13,7 @@ use Rattle.rules.proofs.Tests.{by-length}
 use Rattle.tool_packing.specs.Cuts.{nextLength, cuts, soundIn}
 use Rattle.tool_packing.specs.SoundParts.{partSize}
 use Rattle.tool_packing.proofs.Lengths.{next-none, next-fits}
-use Rattle.tool_packing.proofs.Cuts.{cuts-none, cuts-next, cuts-parts, cuts-multiple}
+use Rattle.tool_packing.proofs.Cuts.{cuts-none, cuts-next, cuts-parts}
 use Rattle.tool_packing.proofs.Kept.{soundIn-append}
 use Rattle.why.specs.Shows.{Shows}
 use Rattle.why.specs.Cut.{FrameOf, ShowsCut, PartsCut, CutTo}
