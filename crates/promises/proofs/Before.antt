@@ -66,7 +66,7 @@ readBefore octets law set room =
     (number 8 >>= (λ o. afterBefore (maskOf law) set room (firstOctet o)))) (bitsOf octets) 0
 
 -- what the sets say of each tool
-eleven-out : (set : ℕ) → set ≤ 127 → holds set 11 ≡ false
+pub eleven-out : (set : ℕ) → set ≤ 127 → holds set 11 ≡ false
 unfolding holds
 eleven-out set h = ne-eqb (set / 128 % 2) 1 (λ e. omega arith)
 

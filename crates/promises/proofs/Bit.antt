@@ -1,12 +1,12 @@
 -- R-7: which bit a refusal names, so that a cut is told from a flipped bit. Main statements: `read-bit`, `short-bit`, `walk-bit`,
 -- `walk-short` (where the bit stands); `stays-refused`, `hangs-on` (what a refusal hangs on); `cut-short`, `walk-cut` (what a cut makes of
 -- an accepted frame, and of a stream).
-use Prim.Native.Nat.{ℕ, _+_, _*_, _-_, _≤_, _<_}
+use Prim.Native.Nat.{ℕ, _+_, _*_, _-_, _%_, _≤_, _<_}
 use native.Mathlib.Omega.{arith}
 use mathlib.Core.Path.{_≡_, refl, sym, ap, subst, _∙_}
 use mathlib.Core.List.{List, [], _∷_, _++_, append-nil}
-use mathlib.Core.Bool.{Bool, true, false, cond, not}
-use lib.ListN.{length, getD, take, drop, length-drop, take-append-drop}
+use mathlib.Core.Bool.{Bool, true, false, cond, not, _&&_}
+use lib.ListN.{length, getD, take, drop, length-drop, length-append, take-append-drop}
 use lib.Seq.{length-take-le, drop-append-le}
 use lib.Dec.{eqb, leb}
 use borrow.Author.Tests.{leb-true, leb-false}
@@ -14,46 +14,52 @@ use Rattle.rules.specs.declared.Refusal.{Refusal}
 use Rattle.rules.specs.declared.Refusal.the-variants.{Short, Law, Set, Long}
 use Rattle.rules.specs.declared.Ending.the-variants.{Done, Refused}
 use Rattle.rules.specs.Tools.{isSet, isLaw}
-use Rattle.rules.specs.Bits.{bitsOf, valueFrom}
+use Rattle.rules.specs.Bits.{lowBits, bitsOf, valueFrom}
 use Rattle.rules.specs.Samples.{maskOf}
 use Rattle.rules.specs.Reading.{Read, whole, refuse, Reader, andThen, _>>=_, give, fail, bit, number}
 use Rattle.rules.specs.Zeros.{plusMinus}
 use Rattle.rules.specs.First.{First, unassigned, pad, tool, fractionalRow, sixOrEight, firstOctet, markAt, sixNotEight}
 use Rattle.rules.specs.Frame.{Found, octetsUsed, withTool, afterFirst, frame, readOne}
 use Rattle.rules.specs.Walk.{Delivered, Walked, stopped, before, walkAll, samplesKept}
-use Rattle.rules.proofs.Octets.{Below, length-bitsOf, bitsOf-append, bitsOf-below, below-take}
-use Rattle.rules.proofs.Gives.{same-refusal, no-refusal}
+use Rattle.rules.proofs.Firsts.{row-only}
+use Rattle.rules.proofs.Octets.{Below, length-lowBits, length-bitsOf, bitsOf-append, bitsOf-below, below-take}
+use Rattle.rules.proofs.Gives.{same-refusal, same-value, no-refusal}
 use Rattle.rules.proofs.Accepted.{read-accepts}
+use Rattle.promises.proofs.Back.{back-numberFrom, back-first}
 use Rattle.promises.proofs.Frame.{first-eight, value-small}
 use Rattle.promises.proofs.Further.{Goes, short, same, nothing-short, bit-there, mark-first, read-goes, looks-no-further}
 use Rattle.promises.proofs.Bounded.{plain, first-plain}
 use Rattle.promises.proofs.Walks.{WalkOf, ended, refused, delivers, uses, Walkable, walk-all-of, walk-all-only}
 use Rattle.promises.proofs.Refused.{cut-at, refused-walk, Begins, walkable, unlawful, no-set, too-long, walk-begins}
-use Rattle.promises.proofs.Points.{BitOf, reach, Says, Past, Between, earlier, Points, points-own, points-row, points-six, points-sixNotEight}
+use Rattle.promises.proofs.Points.{BitOf, reach, Says, Past, Between, earlier, Points}
+use Rattle.promises.proofs.Points.{points-own, points-row, points-six, points-sixNotEight}
 
 -- what the first octet begins
-tool-says : (p : Reader Found) → Points (Between 1 8) p → (b : List ℕ) (i : ℕ) → 1 ≤ i → i ≤ 8 → i ≤ length b
-    → Says (length b) 0 (p b i)
-tool-says p points b i x y k = earlier (length b) 0 i (p b i) (omega arith) (points .says b i (x, y) k)
+tool-says : (p : Reader Found) → Points 13 (Between 1 8) p → (b : List ℕ) (i : ℕ) → 1 ≤ i → i ≤ 8 → i ≤ length b
+    → Says 13 (length b) 0 (p b i)
+tool-says p points b i x y k = earlier 13 (omega arith) (length b) 0 i (p b i) (omega arith) (points .says b i (x, y) k)
 
-turned : {A : Type 0} (n i : ℕ) (m : Read ℕ) (f : ℕ → Read A) → Says n i m → ((t : ℕ) → Says n 0 (f t)) → Says n 0 (andThen m (λ t k. f t))
+turned : {A : Type 0} (n i : ℕ) (m : Read ℕ) (f : ℕ → Read A) → Says 13 n i m → ((t : ℕ) → Says 13 n 0 (f t)) → Says 13 n 0 (andThen m (λ t k. f t))
 turned n i (whole t k) f s h = h t
 turned n i (refuse w at) f s h = (s .0, omega arith)
 
 after-says : (mask set room : ℕ) (first : First) → plain first ≡ true → (b : List ℕ) → 8 ≤ length b
-    → Says (length b) 0 (afterFirst mask set room first b 8)
+    → Says 13 (length b) 0 (afterFirst mask set room first b 8)
 unfolding afterFirst
 after-says mask set room unassigned p b h = ((refl, omega arith), omega arith)
 after-says mask set room pad p b h = (omega arith, h)
-after-says mask set room (tool t n) p b h = tool-says _ (points-own mask set room t n p) b 8 (omega arith) (omega arith) h
-after-says mask set room (fractionalRow k n) p b h = tool-says _ (points-row mask set room k n) b 8 (omega arith) (omega arith) h
+after-says mask set room (tool t n) p b h =
+    tool-says _ (points-own 13 (omega arith) mask set room t n p) b 8 (omega arith) (omega arith) h
+after-says mask set room (fractionalRow k n) p b h =
+    tool-says _ (points-row 13 (omega arith) mask set room k n (omega arith)) b 8 (omega arith) (omega arith) h
 after-says mask set room (sixOrEight n) p b h =
     let i = markAt n in
     let mark = getD b i 0 in
     rw (bit-there b [] i (omega (arith, mark-first n)) .0)
     (turned (length b) (i + 1) (sixNotEight b (i + 1)) (λ t. withTool set room t n (plusMinus mask n mark) b (i + 1))
-    (points-sixNotEight {W = Between 0 8} .says b (i + 1) (omega arith, omega (arith, mark-first n)) (omega (arith, mark-first n)))
-    (λ t. tool-says _ (points-six mask set room t n mark p) b (i + 1) (omega arith) (omega (arith, mark-first n)) (omega (arith, mark-first n))))
+    (points-sixNotEight 13 (omega arith) {W = Between 0 8} .says b (i + 1) (omega arith, omega (arith, mark-first n)) (omega (arith, mark-first n)))
+    (λ t. tool-says _ (points-six 13 (omega arith) mask set room t n mark p) b (i + 1) (omega arith) (omega (arith, mark-first n))
+    (omega (arith, mark-first n))))
 
 pub first-of-bits : (b : List ℕ) → Below 2 b → 8 ≤ length b → plain (firstOctet (valueFrom 0 (take 8 b))) ≡ true
 first-of-bits b z h = first-plain (valueFrom 0 (take 8 b)) (value-small 8 (below-take 8 z) (length-take-le 8 b h))
@@ -65,23 +71,23 @@ frame-after mask set room b h =
     let e : number 8 b 0 ≡ whole (valueFrom 0 (take 8 b)) 8 = rw (append-nil b) at (first-eight b [] h) in
     rw e refl
 
-frame-says : (mask set room : ℕ) {b : List ℕ} → Below 2 b → 8 ≤ length b → Says (length b) 0 (frame mask set room b 0)
+frame-says : (mask set room : ℕ) {b : List ℕ} → Below 2 b → 8 ≤ length b → Says 13 (length b) 0 (frame mask set room b 0)
 frame-says mask set room {b} z h =
     rw (frame-after mask set room b h)
     (after-says mask set room (firstOctet (valueFrom 0 (take 8 b))) (first-of-bits b z h) b h)
 
-octets-say : (law set room : ℕ) (octets : List ℕ) → Says (8 * length octets) 0 (frame (maskOf law) set room (bitsOf octets) 0)
+octets-say : (law set room : ℕ) (octets : List ℕ) → Says 13 (8 * length octets) 0 (frame (maskOf law) set room (bitsOf octets) 0)
 octets-say law set room [] = rw (nothing-short (maskOf law) set room) (refl, omega arith)
 octets-say law set room (o ∷ octets) =
     rw (← (length-bitsOf (o ∷ octets)))
     (frame-says (maskOf law) set room (bitsOf-below (o ∷ octets)) (omega (arith, length-bitsOf (o ∷ octets))))
 
-test-says : {A : Type 0} (n : ℕ) (t : Bool) (w : Refusal) (p : Reader A) (b : List ℕ) → BitOf n w 0 → Says n 0 (p b 0)
-    → Says n 0 (cond t (fail w 0) p b 0)
+test-says : {A : Type 0} (n : ℕ) (t : Bool) (w : Refusal) (p : Reader A) (b : List ℕ) → BitOf n w 0 → Says 13 n 0 (p b 0)
+    → Says 13 n 0 (cond t (fail w 0) p b 0)
 test-says n true w p b h s = (h, omega arith)
 test-says n false w p b h s = s
 
-read-says : (octets : List ℕ) (law set room : ℕ) → Says (8 * length octets) 0 (readOne octets law set room)
+read-says : (octets : List ℕ) (law set room : ℕ) → Says 13 (8 * length octets) 0 (readOne octets law set room)
 unfolding readOne
 read-says octets law set room =
     let p = frame (maskOf law) set room in
@@ -91,7 +97,7 @@ read-says octets law set room =
 -- Where the bit of a refused frame stands
 pub read-bit : (octets : List ℕ) (law set room : ℕ) (w : Refusal) (at : ℕ)
     → readOne octets law set room ≡ refuse w at → BitOf (8 * length octets) w at
-read-bit octets law set room w at e = (subst (λ (m : Read Found). Says (8 * length octets) 0 m) e (read-says octets law set room)) .0
+read-bit octets law set room w at e = (subst (λ (m : Read Found). Says 13 (8 * length octets) 0 m) e (read-says octets law set room)) .0
 
 -- so SHORT's is exactly 8 times the octets that were there
 pub short-bit : (octets : List ℕ) (law set room at : ℕ) → readOne octets law set room ≡ refuse Short at → at ≡ 8 * length octets
@@ -169,53 +175,99 @@ both-there b c i h =
     first true d d′ = decided 6 (i + 1) refl refl
     first false {v} {j} d d′ = rw (d, d′) (second (eqb v 1) j)
 
-six-past : {A : Type 0} (n : ℕ) (m m′ : Read ℕ) (f f′ : ℕ → Read A) → Whole m m′ → ((t : ℕ) → Past n (f t) (f′ t))
-    → Past n (andThen m (λ t k. f t)) (andThen m′ (λ t k. f′ t))
-six-past n m m′ f f′ (decided t k e e′) h = rw (e, e′) (h t)
+-- the most bits of a place, by the first octet: a V of tool 11 has up to 13, a listed place of tool 7 up to 9
+abbrev pub placeOf : ℕ → ℕ
+placeOf o = cond (leb 0x02 o && leb o 0x1F) 13 9
 
-after-past : (mask set room : ℕ) (first : First) → plain first ≡ true → (b c : List ℕ) → 16 ≤ length b
-    → Past (length b) (afterFirst mask set room first b 8) (afterFirst mask set room first (b ++ c) 8)
-unfolding afterFirst
-after-past mask set room unassigned p b c h = λ k w at e d other. absurd (other (sym (same-refusal d) ∙ same-refusal e))
-after-past mask set room pad p b c h = λ k w at e d other. no-refusal (sym e)
-after-past mask set room (tool t n) p b c h = points-own mask set room t n p .past b c 8 (omega arith, omega arith) (omega arith)
-after-past mask set room (fractionalRow k n) p b c h = points-row mask set room k n .past b c 8 (omega arith, omega arith) (omega arith)
-after-past mask set room (sixOrEight n) p b c h =
-    let i = markAt n in
-    let mark = getD b i 0 in
-    let m = bit-there b c i (omega (arith, mark-first n)) in
-    rw (m .0, m .1)
-    (six-past (length b) (sixNotEight b (i + 1)) (sixNotEight (b ++ c) (i + 1))
-    (λ t. withTool set room t n (plusMinus mask n mark) b (i + 1)) (λ t. withTool set room t n (plusMinus mask n mark) (b ++ c) (i + 1))
-    (both-there b c (i + 1) (omega (arith, mark-first n)))
-    (λ t. points-six mask set room t n mark p .past b c (i + 1) (omega arith, omega (arith, mark-first n))
-    (omega (arith, mark-first n))))
+abbrev pub placeBits : List ℕ → ℕ
+placeBits octets = placeOf (getD octets 0 0 % 256)
+
+nine-least : (t : Bool) → 9 ≤ cond t 13 9
+nine-least true = omega arith
+nine-least false = omega arith
+
+-- so much is enough for what an octet begins
+abbrev Wide : ℕ → First → Type 0
+Wide place unassigned = Unit {0}
+Wide place pad = Unit {0}
+Wide place (tool t n) = Unit {0}
+Wide place (fractionalRow k n) = 13 ≤ place
+Wide place (sixOrEight n) = Unit {0}
+
+wide-enough : (o : ℕ) → o < 256 → (f : First) → firstOctet o ≡ f → Wide (placeOf o) f
+wide-enough o h unassigned e = tt
+wide-enough o h pad e = tt
+wide-enough o h (tool t n) e = tt
+wide-enough o h (fractionalRow k n) e = rw (row-only o k n h e) (omega arith)
+wide-enough o h (sixOrEight n) e = tt
+
+module _ (place : ℕ) (nine : 9 ≤ place) where
+  six-past : {A : Type 0} (n : ℕ) (m m′ : Read ℕ) (f f′ : ℕ → Read A) → Whole m m′
+      → ((t : ℕ) → Past place n (f t) (f′ t)) → Past place n (andThen m (λ t k. f t)) (andThen m′ (λ t k. f′ t))
+  six-past n m m′ f f′ (decided t k e e′) h = rw (e, e′) (h t)
+
+  after-past : (mask set room : ℕ) (first : First) → plain first ≡ true → Wide place first → (b c : List ℕ) → 16 ≤ length b
+      → Past place (length b) (afterFirst mask set room first b 8) (afterFirst mask set room first (b ++ c) 8)
+  unfolding afterFirst
+  after-past mask set room unassigned p wide b c h = λ k w at e d other. absurd (other (sym (same-refusal d) ∙ same-refusal e))
+  after-past mask set room pad p wide b c h = λ k w at e d other. no-refusal (sym e)
+  after-past mask set room (tool t n) p wide b c h =
+      points-own place nine mask set room t n p .past b c 8 (omega arith, omega arith) (omega arith)
+  after-past mask set room (fractionalRow k n) p wide b c h =
+      points-row place nine mask set room k n wide .past b c 8 (omega arith, omega arith) (omega arith)
+  after-past mask set room (sixOrEight n) p wide b c h =
+      let i = markAt n in
+      let mark = getD b i 0 in
+      let m = bit-there b c i (omega (arith, mark-first n)) in
+      rw (m .0, m .1)
+      (six-past (length b) (sixNotEight b (i + 1)) (sixNotEight (b ++ c) (i + 1))
+      (λ t. withTool set room t n (plusMinus mask n mark) b (i + 1)) (λ t. withTool set room t n (plusMinus mask n mark) (b ++ c) (i + 1))
+      (both-there b c (i + 1) (omega (arith, mark-first n)))
+      (λ t. points-six place nine mask set room t n mark p .past b c (i + 1) (omega arith, omega (arith, mark-first n))
+      (omega (arith, mark-first n))))
+
+  test-past : {A : Type 0} (n : ℕ) (t : Bool) (u : Refusal) (p : Reader A) (b c : List ℕ) → Past place n (p b 0) (p c 0)
+      → Past place n (cond t (fail u 0) p b 0) (cond t (fail u 0) p c 0)
+  test-past n true u p b c h = λ k w at e d other. absurd (other (sym (same-refusal d) ∙ same-refusal e))
+  test-past n false u p b c h = h
 
 frame-past : (mask set room : ℕ) {b : List ℕ} → Below 2 b → (c : List ℕ) → 16 ≤ length b
-    → Past (length b) (frame mask set room b 0) (frame mask set room (b ++ c) 0)
+    → Past (placeOf (valueFrom 0 (take 8 b))) (length b) (frame mask set room b 0) (frame mask set room (b ++ c) 0)
 unfolding frame
 frame-past mask set room {b} z c h =
     let k : 8 ≤ length b = omega arith in
-    let e : number 8 b 0 ≡ whole (valueFrom 0 (take 8 b)) 8 = rw (append-nil b) at (first-eight b [] k) in
+    let o = valueFrom 0 (take 8 b) in
+    let e : number 8 b 0 ≡ whole o 8 = rw (append-nil b) at (first-eight b [] k) in
+    let small : o < 256 = value-small 8 (below-take 8 z) (length-take-le 8 b k) in
     rw (e, first-eight b c k)
-    (after-past mask set room (firstOctet (valueFrom 0 (take 8 b))) (first-of-bits b z k) b c h)
+    (after-past (placeOf o) (nine-least (leb 0x02 o && leb o 0x1F)) mask set room (firstOctet o) (first-of-bits b z k)
+    (wide-enough o small (firstOctet o) refl) b c h)
 
-test-past : {A : Type 0} (n : ℕ) (t : Bool) (u : Refusal) (p : Reader A) (b c : List ℕ) → Past n (p b 0) (p c 0)
-    → Past n (cond t (fail u 0) p b 0) (cond t (fail u 0) p c 0)
-test-past n true u p b c h = λ k w at e d other. absurd (other (sym (same-refusal d) ∙ same-refusal e))
-test-past n false u p b c h = h
+-- the first octet, by its bits
+first-value : (x : List ℕ) → 1 ≤ length x → valueFrom 0 (take 8 (bitsOf x)) ≡ getD x 0 0 % 256
+unfolding bitsOf
+first-value [] h = absurd (omega arith)
+first-value (o ∷ x) h =
+    let b = lowBits 8 o ++ bitsOf x in
+    let l : 8 ≤ length b = omega (arith, length-append (lowBits 8 o) (bitsOf x), length-lowBits 8 o) in
+    let e : number 8 b 0 ≡ whole (valueFrom 0 (take 8 b)) 8 = rw (append-nil b) at (first-eight b [] l) in
+    same-value (sym e ∙ back-first (back-numberFrom 0 8 o) (bitsOf x)) ∙ omega arith
 
-read-past : (x y : List ℕ) (law set room : ℕ) → 2 ≤ length x → Past (8 * length x) (readOne x law set room) (readOne (x ++ y) law set room)
+read-past : (x y : List ℕ) (law set room : ℕ) → 2 ≤ length x
+    → Past (placeBits x) (8 * length x) (readOne x law set room) (readOne (x ++ y) law set room)
 unfolding readOne
 read-past x y law set room h =
     let p = frame (maskOf law) set room in
-    rw (← (length-bitsOf x), bitsOf-append x y)
-    (test-past (length (bitsOf x)) (not (isLaw law)) Law (cond (not (isSet set)) (fail Set 0) p) (bitsOf x) (bitsOf x ++ bitsOf y)
-    (test-past (length (bitsOf x)) (not (isSet set)) Set p (bitsOf x) (bitsOf x ++ bitsOf y)
+    let place = placeOf (valueFrom 0 (take 8 (bitsOf x))) in
+    let nine = nine-least (leb 0x02 (valueFrom 0 (take 8 (bitsOf x))) && leb (valueFrom 0 (take 8 (bitsOf x))) 0x1F) in
+    rw (← (first-value x (omega arith)), ← (length-bitsOf x), bitsOf-append x y)
+    (test-past place nine (length (bitsOf x)) (not (isLaw law)) Law (cond (not (isSet set)) (fail Set 0) p)
+    (bitsOf x) (bitsOf x ++ bitsOf y)
+    (test-past place nine (length (bitsOf x)) (not (isSet set)) Set p (bitsOf x) (bitsOf x ++ bitsOf y)
     (frame-past (maskOf law) set room (bitsOf-below x) (bitsOf y) (omega (arith, length-bitsOf x)))))
 
 pub hangs-on : (x y : List ℕ) (law set room : ℕ) (w : Refusal) (at : ℕ) → readOne (x ++ y) law set room ≡ refuse w at → (w ≡ Short → ⊥)
-    → 2 ≤ length x → at + reach w ≤ 8 * length x → readOne x law set room ≡ refuse w at
+    → 2 ≤ length x → at + reach (placeBits x) w ≤ 8 * length x → readOne x law set room ≡ refuse w at
 hangs-on x y law set room w at e other two far = go (read-goes x y law set room)
   where
     go : Goes (8 * length x) (readOne x law set room) (readOne (x ++ y) law set room) → readOne x law set room ≡ refuse w at

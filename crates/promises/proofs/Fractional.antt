@@ -1,11 +1,10 @@
 -- Tool 11: what it writes of a frame that has a row is read back (`back-fractional`); it has at most 80 octets of body, whole ones, and no
--- filling bits (`fractional-most`, `fractional-filled`); its body is refused by SHORT or PLACE alone (`fractional-refused`), so a frame is
--- never RUN nor ALIGN (`eleven-refused`).
+-- filling bits (`fractional-most`, `fractional-filled`); its body is refused by SHORT or PLACE alone (`fractional-refused`), so a frame by
+-- TOOL, ROOM, SHORT or PLACE alone (`eleven-refused`; by its first octet: Eleven).
 use Prim.Native.Nat.{ℕ, zero, suc, _+_, _*_, _^_, _/_, _%_, _≤_, _<_}
 use native.Mathlib.Omega.{arith}
 use native.Mathlib.Nat.{lt-of-lt-of-le, mul-suc}
-use mathlib.Core.Path.{_≡_, refl, sym, ap, _∙_}
-use mathlib.Core.Logic.{_⊎_, inl, inr}
+use mathlib.Core.Path.{_≡_, refl, sym, ap, subst, _∙_}
 use mathlib.Core.List.{List, [], _∷_, _++_, map, append-assoc, append-nil}
 use mathlib.Core.Bool.{Bool, true, false, cond, not, _||_}
 use lib.ListN.{length, getD, take, drop, length-drop, take-append-drop, length-map}
@@ -13,11 +12,10 @@ use lib.Seq.{length-take-le}
 use lib.Dec.{ltb, eqb, leb}
 use borrow.Author.Tests.{lt-ltb, leb-true, eqb-true}
 use Rattle.rules.specs.declared.Refusal.{Refusal}
-use Rattle.rules.specs.declared.Refusal.the-variants.{Short, Tool, Room, Run, Place, Align}
-use Rattle.rules.specs.Refusals.{refusalNumber}
+use Rattle.rules.specs.declared.Refusal.the-variants.{Short, Tool, Room, Place}
 use Rattle.rules.specs.Tools.{holds, isLength}
 use Rattle.rules.specs.Bits.{fillFor}
-use Rattle.rules.specs.Reading.{Read, whole, refuse, andThen, _>>=_, fail, here, bit, numberFrom, number, filled}
+use Rattle.rules.specs.Reading.{whole, refuse, _>>=_, fail, here, numberFrom, number, filled}
 use Rattle.rules.specs.Fractional.{valuesAt, rowCount, radix, Coding, groupOf, bitsFor, codingOf, bodyBits, Packs, ofDigits, digitsOf}
 use Rattle.rules.specs.Fractional.{groupsFrom, groupsForm, placeIn, groupsAs, groupsFormAs, samplesAt, fractional, fractionalBody}
 use Rattle.rules.specs.Frame.{Found, withTool}
@@ -26,12 +24,13 @@ use Rattle.rules.proofs.Octets.{Below, below-take, below-drop, below-append, lo
 use Rattle.rules.proofs.Tests.{implied, allBelow, allBelow-at, by-length, forties}
 use Rattle.rules.proofs.Signed.{LawMask}
 use Rattle.rules.proofs.Room.{length-most}
-use Rattle.rules.proofs.Gives.{no-refusal, same-place}
+use Rattle.rules.proofs.Gives.{no-refusal, same-refusal, same-place}
 use Rattle.rules.proofs.Accepted.{Steps, through, steps, number-next}
 use Rattle.rules.proofs.Firsts.{rows-few}
 use Rattle.rules.proofs.Fractional.{digits-back, digits-fit, Among, places-back, places-below, radix-range, length-samplesAt, packs-of}
 use Rattle.rules.proofs.FrameRow.{the-row, row-among}
 use Rattle.promises.proofs.Back.{Back, back-give, back-bind, back-here, back-as, back-number}
+use Rattle.promises.proofs.Only.{Stops, at-once, behind, stops, Only, only-fractional}
 use Rattle.promises.proofs.Reach.{Near, near-give, near-fail, near-here, near-then, near-cond, near-more, near-numberFrom}
 
 -- Back
@@ -160,80 +159,45 @@ fractional-next mask k n b i {s} {j} e =
     go (through digits m q d) = groups-next (codingOf (radix k)) [] (n / groupOf (radix k)) b i q ∙ same-place d
 
 -- No RUN arises in this body, nor any other refusal than SHORT and PLACE.
-abbrev pub ShortOrPlace : {A : Type 0} → Read A → Type 0
-ShortOrPlace (whole a j) = Unit {0}
-ShortOrPlace (refuse w at) = (w ≡ Short) ⊎ (w ≡ Place)
+pub data ShortOrPlace : Refusal → Type 0 where
+  short : ShortOrPlace Short
+  place : ShortOrPlace Place
 
-short-then : {A B : Type 0} (m : Read A) (f : A → ℕ → Read B) → ShortOrPlace m → ((a : A) (j : ℕ) → ShortOrPlace (f a j))
-    → ShortOrPlace (andThen m f)
-short-then (whole a j) f h g = g a j
-short-then (refuse w at) f h g = h
+pub fractional-refused : (mask k n : ℕ) → Only ShortOrPlace (fractional mask k n)
+fractional-refused mask k n = only-fractional short place mask k n
 
-short-bit : (t : Bool) (v i : ℕ) → ShortOrPlace (cond t (whole v (i + 1)) (refuse Short i))
-short-bit true v i = tt
-short-bit false v i = inl refl
+-- So, since its body fills whole octets, a frame is refused by TOOL, ROOM, SHORT or PLACE alone
+pub data OneOfFour : Refusal → Type 0 where
+  lacks : OneOfFour (Tool 11)
+  no-room : OneOfFour Room
+  cut : OneOfFour Short
+  too-large : OneOfFour Place
 
-short-number : (v n : ℕ) (b : List ℕ) (i : ℕ) → ShortOrPlace (numberFrom v n b i)
-unfolding numberFrom bit
-short-number v zero b i = tt
-short-number v (suc n) b i = short-then (bit b i) (λ a j. numberFrom (2 * v + a) n b j) (short-bit (ltb i (length b)) (getD b i 0) i)
-    (λ a j. short-number (2 * v + a) n b j)
+one-of-four : {w : Refusal} → ShortOrPlace w → OneOfFour w
+one-of-four short = cut
+one-of-four place = too-large
 
-short-groups : (c : Coding) (done : List ℕ) (m : ℕ) (b : List ℕ) (i : ℕ) → ShortOrPlace (groupsFrom c done m b i)
-unfolding groupsFrom
-short-groups c done zero b i = tt
-short-groups c done (suc m) b i =
-    short-then (numberFrom 0 (c .bits) b i) (λ v j. cond (ltb v (c .radix ^ c .group)) (groupsFrom c (on v) m) (fail Place i) b j)
-    (short-number 0 (c .bits) b i)
-    (λ v j. one v j (ltb v (c .radix ^ c .group)) (short-groups c (on v) m b j))
-  where
-    on : ℕ → List ℕ
-    on v = done ++ digitsOf (c .radix) (c .group) v
-
-    one : (v j : ℕ) (t : Bool) → ShortOrPlace (groupsFrom c (on v) m b j)
-        → ShortOrPlace (cond t (groupsFrom c (on v) m) (fail Place i) b j)
-    one v j true h = h
-    one v j false h = inr refl
-
-pub fractional-refused : (mask k n : ℕ) (b : List ℕ) (i : ℕ) → ShortOrPlace (fractional mask k n b i)
-unfolding groupsAs
-fractional-refused mask k n b i =
-    let g = groupOf (radix k) in
-    short-then (groupsFrom (codingOf (radix k)) [] (n / g) b i)
-    (λ digits j. whole (map (λ d. getD (samplesAt mask k) d 0) digits) j)
-    (short-groups (codingOf (radix k)) [] (n / g) b i) (λ digits j. tt)
-
--- So a frame of tool 11 is never RUN, and since its body fills whole octets, never ALIGN.
-abbrev pub NeitherRunNorAlign : Read Found → Type 0
-NeitherRunNorAlign (whole a j) = Unit {0}
-NeitherRunNorAlign (refuse w at) = (w ≡ Run → ⊥) × (w ≡ Align → ⊥)
-
-other-number : (w u : Refusal) → (refusalNumber w ≡ refusalNumber u → ⊥) → w ≡ u → ⊥
-other-number w u h e = h (ap refusalNumber e)
-
-neither : (w : Refusal) (at : ℕ) → (w ≡ Short) ⊎ (w ≡ Place) → NeitherRunNorAlign (refuse w at)
-neither w at (inl e) = rw e (other-number Short Run (omega arith), other-number Short Align (omega arith))
-neither w at (inr e) = rw e (other-number Place Run (omega arith), other-number Place Align (omega arith))
-
-none-left : (f : Found) (m : ℕ) → m ≡ 0 → (b : List ℕ) (j : ℕ) → NeitherRunNorAlign (filled f m b j)
+none-left : (f : Found) (m : ℕ) → m ≡ 0 → (b : List ℕ) (j : ℕ) → filled f m b j ≡ whole f j
 unfolding filled
-none-left f zero z b j = tt
-none-left f (suc m) z b j = absurd (omega arith)
+none-left f m z b j = rw z refl
 
-module _ (mask set room n k : ℕ) (len : isLength n ≡ true) (few : k < rowCount n) (b : List ℕ) where
-  body-then : (m : Read (List ℕ)) → fractional mask k n b 8 ≡ m → ShortOrPlace m
-      → NeitherRunNorAlign (andThen m (λ s j. filled (record { tool = 11; samples = s; bits = j }) (fillFor j) b j))
-  body-then (whole s j) e h =
+abbrev ofEleven : List ℕ → ℕ → Found
+ofEleven s bits = record { tool = 11; samples = s; bits = bits }
+
+module _ (mask set room n k : ℕ) (len : isLength n ≡ true) (few : k < rowCount n) (b : List ℕ) (w : Refusal) (at : ℕ) where
+  body-refused : Stops (fractional mask k n b 8) (λ s j. filled (ofEleven s j) (fillFor j) b j) w at → OneOfFour w
+  body-refused (at-once e) = one-of-four (fractional-refused mask k n .says b 8 w at e)
+  body-refused (behind s j e d) =
       let end : 8 + bodyBits k n ≡ j = fractional-next mask k n b 8 e in
-      none-left (record { tool = 11; samples = s; bits = j }) (fillFor j) (rw end at (fractional-filled n k len few)) b j
-  body-then (refuse w at) e h = neither w at h
+      let whole-here = none-left (ofEleven s j) (fillFor j) (rw end at (fractional-filled n k len few)) b j in
+      no-refusal (sym d ∙ whole-here)
 
-  judged : (x y : Bool) → NeitherRunNorAlign (cond (not x) (fail (Tool 11) 0) (cond y (fail Room 0)
-      (fractional mask k n >>= (λ s. here >>= (λ bits. filled (record { tool = 11; samples = s; bits = bits }) (fillFor bits))))) b 8)
-  judged false y = (other-number (Tool 11) Run (omega arith), other-number (Tool 11) Align (omega arith))
-  judged true true = (other-number Room Run (omega arith), other-number Room Align (omega arith))
-  judged true false = body-then (fractional mask k n b 8) refl (fractional-refused mask k n b 8)
+  judged : (x y : Bool) → cond (not x) (fail (Tool 11) 0) (cond y (fail Room 0)
+      (fractional mask k n >>= (λ s. here >>= (λ bits. filled (ofEleven s bits) (fillFor bits))))) b 8 ≡ refuse w at → OneOfFour w
+  judged false y e = subst OneOfFour (same-refusal e) lacks
+  judged true true e = subst OneOfFour (same-refusal e) no-room
+  judged true false e = body-refused (stops (fractional mask k n b 8) _ e)
 
-  pub eleven-refused : NeitherRunNorAlign (withTool set room 11 n (fractional mask k n) b 8)
+  pub eleven-refused : withTool set room 11 n (fractional mask k n) b 8 ≡ refuse w at → OneOfFour w
   unfolding withTool
-  eleven-refused = judged (holds set 11) (ltb room n)
+  eleven-refused e = judged (holds set 11) (ltb room n) e

@@ -214,7 +214,7 @@ far-forks : (a b c d : Tree) → Far 2 (readTree (fork (fork a b) (fork c d)))
 unfolding readTree
 far-forks a b c d = far-then 1 1 far-bit (λ x. far-cond 1 (eqb x 1) (far-fork c d) (far-fork a b))
 
-far-tree : (n : ℕ) → Far 2 (readTree (treeOf n))
+pub far-tree : (n : ℕ) → Far 2 (readTree (treeOf n))
 unfolding treeOf
 far-tree n = far-forks _ _ _ _
 
@@ -260,7 +260,7 @@ six-or-eight b i t k e = go (steps (bit b i) (λ a l. cond (eqb a 1) (give 6) (b
     go : Steps (bit b i) (λ a l. cond (eqb a 1) (give 6) (bit >>= (λ c. cond (eqb c 1) (give 6) (give 8))) b l) t k → SixOrEight t
     go (through a l q d) = first (eqb a 1) l d
 
-near-six : Near 2 sixNotEight
+pub near-six : Near 2 sixNotEight
 unfolding sixNotEight
 near-six = near-then 1 1 near-bit
     (λ a. near-cond 1 (eqb a 1) (near-more 0 1 (omega arith) (near-give 6))

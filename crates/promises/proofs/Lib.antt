@@ -1,4 +1,5 @@
 pub mod Back
+pub mod Only
 pub mod Runs
 pub mod Zeros
 pub mod Methods
@@ -12,6 +13,7 @@ pub mod Reach
 pub mod Further
 pub mod OldReader
 pub mod Before
+pub mod Eleven
 pub mod Stays
 pub mod Walks
 pub mod Refused
@@ -21,8 +23,10 @@ pub mod Lists
 pub mod Upgrade
 pub mod Bounded
 pub mod Points
+pub mod Names
 pub mod Fits
 pub mod RoundTrip
 pub mod Bit
+pub mod Which
 pub mod Asks
 pub mod Sharp

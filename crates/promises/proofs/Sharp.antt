@@ -12,6 +12,7 @@ use Rattle.rules.specs.Tools.{holds}
 use Rattle.rules.specs.Runs.{zerosFrom, rice, runsFrom, riceForm, riceForms}
 use Rattle.rules.specs.Zeros.{codesOf, codeOf, treeOf, readTree}
 use Rattle.rules.specs.Located.{caseOf, valuesOf, widthFrom, listedFrom, listed, byMethod, emptyIn, lay, valuesInto, located}
+use Rattle.rules.specs.Fractional.{valuesAt, groupOf, bitsFor, groupsFrom, groupsAs, samplesAt}
 use Rattle.rules.specs.Frame.{body, withTool, afterFirst, frame, readOne}
 
 -- RUN names the first bit of its code, 9, which stands in octet 1; but it hangs on the octets behind: without them this is SHORT
@@ -47,3 +48,16 @@ unfolding readOne frame afterFirst withTool body bitsOf lowBits bit numberFrom r
     zerosFrom rice runsFrom pack octetsFrom valueFrom riceForms riceForm caseOf valuesOf widthFrom listedFrom listed
     byMethod emptyIn lay valuesInto located sampleOf signed
 place-at-the-end = (refl, refl)
+
+-- a listed place of tool 7 hangs on 9 bits (320 samples, range case 1, method 111, one place, 511), a V of tool 11 on 13 (R' = 6, V = 8191)
+pub place-hangs-on-9 : (readOne (0x35 ∷ 0x7C ∷ 0xFF ∷ 0x80 ∷ []) 1 127 320 ≡ refuse Place 16)
+    × (readOne (0x35 ∷ 0x7C ∷ 0xFF ∷ []) 1 127 320 ≡ refuse Short 24)
+unfolding readOne frame afterFirst withTool body bitsOf lowBits bit numberFrom rows lookUp firstOctet holds
+    caseOf valuesOf widthFrom listedFrom listed byMethod emptyIn valuesInto located sampleOf signed
+place-hangs-on-9 = (refl, refl)
+
+pub place-hangs-on-13 : (readOne (0x0B ∷ 0xFF ∷ 0xF8 ∷ []) 1 255 320 ≡ refuse Place 8)
+    × (readOne (0x0B ∷ 0xFF ∷ []) 1 255 320 ≡ refuse Short 16)
+unfolding readOne frame afterFirst withTool body bitsOf lowBits bit numberFrom rows lookUp firstOctet holds
+    valuesAt groupOf bitsFor groupsFrom groupsAs samplesAt sampleOf
+place-hangs-on-13 = (refl, refl)

@@ -115,25 +115,24 @@ pub record NoHeading (octets : List ℕ) (set : ℕ) : Type 0 where
   pub not-a : Heads 0 octets → ⊥
   pub not-mu : Heads 1 octets → ⊥
 
-module _ (octets : List ℕ) (set room places : ℕ) where
-  heading-read : (h : Headed) → headed octets ≡ h → isSet set ≡ true → (next : ℕ → File) → ((law : ℕ) → NoHead (next law .read))
-      → byHeading h (nothing Head 0) next .read .end ≡ Refused Head → NoHeading octets set
-  heading-read noHeading q s next k e = let n = headed-none octets q in record { small = s; not-a = n .0; not-mu = n .1 }
-  heading-read (heading law) q s next k e = absurd (k law e)
+heading-read : (octets : List ℕ) (set : ℕ) (h : Headed) → headed octets ≡ h → isSet set ≡ true → (next : ℕ → File)
+    → ((law : ℕ) → NoHead (next law .read)) → byHeading h (nothing Head 0) next .read .end ≡ Refused Head → NoHeading octets set
+heading-read octets set noHeading q s next k e = let n = headed-none octets q in record { small = s; not-a = n .0; not-mu = n .1 }
+heading-read octets set (heading law) q s next k e = absurd (k law e)
 
-  after-long : (b : Bool) (law : ℕ) (r : Recorded) → NoHead r
-      → NoHead (cond b (nothing (Frame rules.Long) law) (record { law = law; read = r }) .read)
-  after-long true law r h = by-frame rules.Long 0 0
-  after-long false law r h = h
+after-long : (b : Bool) (law : ℕ) (r : Recorded) → NoHead r
+    → NoHead (cond b (nothing (Frame rules.Long) law) (record { law = law; read = r }) .read)
+after-long true law r h = by-frame rules.Long 0 0
+after-long false law r h = h
 
-  after-set : (b : Bool) (f : File) → (b ≡ true → f .read .end ≡ Refused Head → NoHeading octets set)
-      → cond (not b) (nothing (Frame rules.Set) 0) f .read .end ≡ Refused Head → NoHeading octets set
-  after-set true f k e = k refl e
-  after-set false f k e = absurd (by-frame rules.Set 0 0 e)
+after-set : (X : Type 0) (b : Bool) (f : File) → (b ≡ true → f .read .end ≡ Refused Head → X)
+    → cond (not b) (nothing (Frame rules.Set) 0) f .read .end ≡ Refused Head → X
+after-set X true f k e = k refl e
+after-set X false f k e = absurd (by-frame rules.Set 0 0 e)
 
-  pub head-only : readFile octets set room places .read .end ≡ Refused Head → NoHeading octets set
-  unfolding readFile
-  head-only =
-      after-set (isSet set) _ (λ s. heading-read (headed octets) refl s _ (λ law.
-      after-long (not (leb (length octets - headingLength) longest)) law _
-      (items-no-head (suc (length octets - headingLength)) (drop headingLength octets) law set 0 room places)))
+pub head-only : (octets : List ℕ) (set room places : ℕ) → readFile octets set room places .read .end ≡ Refused Head → NoHeading octets set
+unfolding readFile
+head-only octets set room places =
+    after-set (NoHeading octets set) (isSet set) _ (λ s. heading-read octets set (headed octets) refl s _ (λ law.
+    after-long (not (leb (length octets - headingLength) longest)) law _
+    (items-no-head (suc (length octets - headingLength)) (drop headingLength octets) law set 0 room places)))

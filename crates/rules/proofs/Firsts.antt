@@ -2,12 +2,12 @@
 -- Each rule is one test over all 256.
 use native.Mathlib.Omega.{arith}
 use Prim.Native.Nat.{ℕ, _+_, _-_, _/_, _^_, _≤_, _<_}
-use mathlib.Core.Path.{_≡_, refl, sym, ap, ap₂}
+use mathlib.Core.Path.{_≡_, refl, sym, ap, ap₂, _∙_}
 use mathlib.Core.List.{List, [], _∷_}
 use mathlib.Core.Bool.{Bool, true, false, Bool·beq, not, _&&_, _||_, false≢true}
 use lib.Dec.{eqb, leb, ltb}
 use lib.ListN.{length}
-use borrow.Author.Tests.{eqb-true, leb-true, lt-ltb}
+use borrow.Author.Tests.{eqb-true, leb-true, ltb-true, lt-ltb, le-leb}
 use Rattle.rules.specs.Tools.{isLength}
 use Rattle.rules.specs.Bits.{lowBits, valueFrom}
 use Rattle.rules.specs.Fractional.{firstCode, rowCount}
@@ -122,6 +122,51 @@ row-first n k l h =
     (allBelow-at (rowBegins n) 12 (by-length (λ n. allBelow (rowBegins n) 12 ≡ true) refl refl refl refl refl n l) k
     (omega (arith, rows-few n l)))
     (lt-ltb k (rowCount n) h))
+
+-- "02 to 1F: tool 11": these are its first octets, and no others
+abbrev isRow : First → Bool
+isRow unassigned = false
+isRow pad = false
+isRow (tool t n) = false
+isRow (fractionalRow k n) = true
+isRow (sixOrEight n) = false
+
+rows-exactly : (o : ℕ) → o < 256 → isRow (firstOctet o) ≡ leb 0x02 o && leb o 0x1F
+unfolding firstOctet lookUp rows
+rows-exactly o h =
+    beq-eq (isRow (firstOctet o)) (leb 0x02 o && leb o 0x1F)
+    (allBelow-at (λ o. Bool·beq (isRow (firstOctet o)) (leb 0x02 o && leb o 0x1F)) 256 refl o h)
+
+pub row-only : (o k n : ℕ) → o < 256 → firstOctet o ≡ fractionalRow k n → leb 0x02 o && leb o 0x1F ≡ true
+row-only o k n h e = sym (rows-exactly o h) ∙ ap isRow e
+
+-- each of them is a row of a length
+pub record RowOf (o : ℕ) : Type 0 where
+  pub row : ℕ
+  pub n : ℕ
+  pub len : isLength n ≡ true
+  pub few : row < rowCount n
+  pub is : firstOctet o ≡ fractionalRow row n
+
+row-in : (o : ℕ) (f : First) → firstOctet o ≡ f → isRow f ≡ true → asWritten o f ≡ true → RowOf o
+row-in o unassigned e h w = absurd (false≢true h)
+row-in o pad e h w = absurd (false≢true h)
+row-in o (tool t n) e h w = absurd (false≢true h)
+row-in o (fractionalRow k n) e h w =
+    let code = ltb k (rowCount n) && eqb o (firstCode n + k) in
+    record {
+      row = k;
+      n = n;
+      len = and-left (isLength n) code w;
+      few = ltb-true k (rowCount n) (and-left (ltb k (rowCount n)) (eqb o (firstCode n + k)) (and-right (isLength n) code w));
+      is = e;
+    }
+row-in o (sixOrEight n) e h w = absurd (false≢true h)
+
+pub row-of : (o : ℕ) → 0x02 ≤ o → o ≤ 0x1F → RowOf o
+row-of o l h =
+    let row : isRow (firstOctet o) ≡ true = rows-exactly o (omega arith) ∙ rw (le-leb 0x02 o l, le-leb o 0x1F h) refl in
+    row-in o (firstOctet o) refl row (first-as-written o (omega arith))
 
 -- An octet that begins with tool 6's code of a length is tool 6 or 8 of that length.
 abbrev pub beginsRice : ℕ → ℕ → ℕ → Bool
