@@ -1,76 +1,46 @@
--- What was chosen, plain, the zeros', located or last (Writing).
+-- What the look leaves.
 use borrow.Author.Needs.{needs}
-use Prim.Native.Nat.{_≤_}
-use native.Mathlib.Omega.{arith}
+use Prim.Native.Nat.{ℕ}
+use mathlib.Core.Path.{_≡_}
 use lib.ListN.{take}
-use Rattle.writer.proofs.Writing.{plain-full, plain-size}
+use Rattle.write_choice.specs.declared.plans.Look.{Look}
+use Rattle.write_choice.specs.Plans.{LookIs}
 use Rattle.writer.proofs.write_chosen.Statement.{statement}
 use Rattle.writer.proofs.write_chosen.Tie as tie
 
-choose-requires : tie.Need-choose-requires
-choose-requires c κs = c .before .before .pre
-
-module _ (c : tie.After-choose) where
+-- what the look leaves, as it was told apart
+module _ (c : tie.After-look) where
   abbrev s : tie.Start
   s = c .before .before .before
 
--- the plain tool that was chosen
-module _ (c : tie.Then1) where
-  abbrev choose : tie.After-choose
-  choose = c .before .before
-
-  some : 1 ≤ choose .choose .result .tool
-  some = omega (arith, c .if1 .taken)
+  leaves : {o : Look} → c .look .result ≡ o → LookIs (s .args .mask) (s .args .set) (take (s .args .n) (s .args .samples .now)) o
+  leaves e = rw e at (c .look .ensures)
 
 write-plain-requires : tie.Need-write-plain-requires
 write-plain-requires c κs =
-    let t = c .before in
-    let l = choose t .choose .ensures in
-    let chosen = l .chosen (t .if1 .taken) in
-    ((s (choose t) .pre .0, (some t, l .most)), (plain-size (s (choose t) .args .set) chosen (some t) (l .most), chosen .small))
-
-returns : tie.Need-returns
-returns c =
-    let t = c .before .before .before .before in
-    let a = s (choose t) .args in
-    let l = choose t .choose in
-    rw (plain-full (a .mask) (a .set) (l .result .tool) (take (a .n) (a .samples .now)) (l .ensures .chosen (t .if1 .taken) .tool) (some t)
-    (l .ensures .most)) at (c .before .before .write-plain .ensures)
+    let l = c .before .before .before .before in
+    (s l .pre, leaves l (c .before .before .seen .given .1))
 
 write-zeros-requires : tie.Need-write-zeros-requires
 write-zeros-requires c κs =
-    let e = c .before .before in
-    let l = e .before .before .choose .ensures in
-    (s (e .before .before) .pre, (l .left (e .if1 .left), rw (l .zeros) at (c .before .if2 .taken)))
+    let l = c .before .before .before in
+    (s l .pre, leaves l (c .before .enum-told .given .1))
 
-last-of-requires : tie.Need-last-of-requires
-last-of-requires c κs = s (c .before .before .before) .pre
+write-near-requires : tie.Need-write-near-requires
+write-near-requires c κs =
+    let l = c .before .before .before in
+    (s l .pre, leaves l (c .before .enum-told2 .given .1))
 
-write-located-requires : tie.Need-write-located-requires
-write-located-requires c κs =
-    let e = c .before .before .before .before in
-    let l = e .before .before .choose .ensures in (
-      s (e .before .before) .pre,
-      (
-        (l .left (e .if1 .left), rw (l .zeros) at (c .before .before .before .if2 .left)),
-        (rw (l .close) at (c .before .if3 .taken), c .before .before .last-of .ensures),
-      ),
-    )
+returns : tie.Need-returns
+returns c = c .before .before .write-plain .ensures
+
+returns-2 : tie.Need-returns-2
+returns-2 c = c .before .before .write-zeros .ensures
 
 returns-3 : tie.Need-returns-3
-returns-3 c = c .before .before .write-located .ensures
-
-write-last-requires : tie.Need-write-last-requires
-write-last-requires c κs =
-    let e = c .before .before .before .before in
-    let l = e .before .before .choose .ensures in
-    let k = c .before .before .last-of .ensures in
-    (s (e .before .before) .pre, (k, rw (k .chosen .tool) (l .left (e .if1 .left) .far (rw (l .close) at (c .before .if3 .left)))))
-
-returns-4 : tie.Need-returns-4
-returns-4 c = c .before .before .write-last .ensures
+returns-3 c = c .before .before .write-near .ensures
 
 pub write-chosen-spec : {M : Type 1} → statement M
-write-chosen-spec = tie.close (tie.spec choose-requires write-plain-requires (λ c. search needs) returns write-zeros-requires
-    (λ c. search needs) (λ c. search needs) last-of-requires write-located-requires (λ c. search needs) returns-3
-    write-last-requires (λ c. search needs) returns-4)
+write-chosen-spec = tie.close (tie.spec (λ c κs. search needs) (λ c. search needs) write-plain-requires (λ c. search needs)
+    write-zeros-requires (λ c. search needs) write-near-requires (λ c. search needs) returns (λ c. search needs) returns-2
+    (λ c. search needs) returns-3)
