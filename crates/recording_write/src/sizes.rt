@@ -3,75 +3,35 @@
 use crate::given::length_in;
 use crate::given::samples_in;
 use law::mask_of;
-use law::plus_zero;
 use recording::marking::HEADING;
 use recording::marking::LOSS_FROM;
 use rules::LONGEST;
-use write_choice::last::Last;
-use write_choice::last::last_of;
-use write_choice::near::located_plan;
-use write_choice::settle::choose;
-use write_choice::two_zeros::zeros_plan;
+use write_choice::plan;
+use write_choice::plans::choice_in;
 use write_measure::octets_for;
-use write_scan::others;
 ghost use mathlib.Core.Path.{_≡_};
-ghost use mathlib.Core.Bool.{true, false};
+ghost use mathlib.Core.Bool.{true};
 ghost use Prim.Native.Nat.{suc, _≤_};
-ghost use lib.ListN.{length, take, drop};
+ghost use lib.ListN.{length, drop};
 ghost use Rattle.rules.specs.Samples.{maskOf};
 ghost use Rattle.rules.specs.Tools.{isWriterSet};
-ghost use Rattle.rules.specs.Chooses.{leastOf, greatestOf};
-ghost use Rattle.write_scan.specs.Looks.{near, twoZeros, isMask, FrameIn};
-ghost use Rattle.write_choice.specs.Plans.{Left, LastIs};
+ghost use Rattle.write_scan.specs.Looks.{isMask, FrameIn};
 ghost use Rattle.recording.specs.Files.{entryOctets, sixLengths, givenBy};
 ghost use Rattle.recording_write.specs.Cells.{lengthIn, entryBy, mostFor, isGiven, octetsGiven};
 ghost use Rattle.recording_write.specs.Steps.{form, Quiet, ItemIn, Sizes, Measures, Settles};
 
-// A frame of the two zeros.
-fn zeros_octets(samples: &[u8], n: usize, mask: u8, set: u32) -> usize
-    requires { ⌜ (FrameIn (now samples) n) × (isMask mask ≡ true) ⌝ }
-    requires { ⌜ (Left mask set (take n (now samples))) × (twoZeros mask (take n (now samples)) ≡ true) ⌝ }
-    ensures { λ r. ⌜ Sizes mask set (take n (now (samples .entry))) r ⌝ }
+// A frame that has samples: the octets for its plan's bits.
+fn some_octets(frame: &[u8], mask: u8, set: u32) -> usize
+    requires { ⌜ (FrameIn (now frame) (length (now frame))) × (isMask mask ≡ true) ⌝ }
+    ensures { λ r. ⌜ Sizes mask set (now (frame .entry)) r ⌝ }
 {
-    let row = others(samples, n / 40, plus_zero(mask));
-    let mut runs = [0u16; 321];
-    let plan = zeros_plan(samples, n, mask, set, &row, &mut runs);
-    octets_for(plan.bits)
-}
-
-// A frame from -2 to 1 that has a 1 or a -2; what is last in the tie order is known.
-fn located_octets(samples: &[u8], n: usize, mask: u8, set: u32, last: Last) -> usize
-    requires { ⌜ (FrameIn (now samples) n) × (isMask mask ≡ true) ⌝ }
-    requires { ⌜ (Left mask set (take n (now samples))) × (twoZeros mask (take n (now samples)) ≡ false) ⌝ }
-    requires { ⌜ (near (leastOf mask (take n (now samples))) (greatestOf mask (take n (now samples))) ≡ true) × (LastIs mask set (take n (now samples)) last) ⌝ }
-    ensures { λ r. ⌜ Sizes mask set (take n (now (samples .entry))) r ⌝ }
-{
+    let mut row = [0u64; 8];
     let mut a = [0u16; 321];
     let mut b = [0u16; 321];
     let mut c = [0u16; 321];
-    let best = last.choice;
-    let plan = located_plan(samples, n, mask, set, best, &mut a, &mut b, &mut c);
-    octets_for(plan.bits)
-}
-
-// A frame that has samples.
-fn some_octets(samples: &[u8], n: usize, mask: u8, set: u32) -> usize
-    requires { ⌜ (FrameIn (now samples) n) × (isMask mask ≡ true) ⌝ }
-    ensures { λ r. ⌜ Sizes mask set (take n (now (samples .entry))) r ⌝ }
-{
-    let chosen = choose(samples, n, mask, set);
-    if chosen.tool != 0 {
-        return octets_for(chosen.bits);
-    }
-    if chosen.zeros {
-        return zeros_octets(samples, n, mask, set);
-    }
-    let last = last_of(samples, n, mask, set);
-    if chosen.close {
-        return located_octets(samples, n, mask, set, last);
-    }
-    let best = last.choice;
-    octets_for(best.bits)
+    let planned = plan(frame, mask, set, &mut row, &mut a, &mut b, &mut c);
+    let choice = choice_in(planned);
+    octets_for(choice.bits)
 }
 
 // The writer's chosen form of these samples: a pad is one octet.
@@ -82,7 +42,7 @@ fn form_octets(frame: &[u8], mask: u8, set: u32) -> usize
     if frame.len() == 0 {
         return 1;
     }
-    some_octets(frame, frame.len(), mask, set)
+    some_octets(frame, mask, set)
 }
 
 // An item: a frame, a loss of unknown length, or one of a length.

@@ -2,7 +2,6 @@ use native.Mathlib.Omega.{arith}
 use mathlib.Core.Path.{_≡_}
 use mathlib.Core.Bool.{true}
 use lib.ListN.{length}
-use lib.Seq.{take-all}
 use Rattle.rules.specs.Tools.{isLength}
 use Rattle.write_scan.proofs.Tests.{frame-in}
 use Rattle.recording_write.proofs.Forms.{six-length, pad-sized, form-sized}
@@ -25,7 +24,7 @@ returns-2 c =
     let s = c .before .before .before in
     let f = s .args .frame .now in
     let l : isLength (length f) ≡ true = six-length (length f) (c .before .if1 .left) (s .pre .0) in
-    let z = rw (take-all (length f) f (omega arith)) at (c .some-octets .ensures) in
+    let z = c .some-octets .ensures in
     (form-sized (s .args .mask) (s .args .set) f l z, z .most)
 
 pub form-octets-spec : {M : Type 1} → statement M
