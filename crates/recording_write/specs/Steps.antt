@@ -4,8 +4,8 @@ use mathlib.Core.Path.{_≡_}
 use mathlib.Core.List.{List}
 use mathlib.Core.Bool.{true}
 use lib.ListN.{length, replicate}
-use Rattle.rules.specs.Bits.{octetsFor, pack}
-use Rattle.rules.specs.Chooses.{formOf, chosenTool, chosen}
+use Rattle.rules.specs.Bits.{pack}
+use Rattle.rules.specs.Chooses.{chosen}
 use Rattle.rules.specs.Samples.{maskOf}
 use Rattle.rules.specs.Tools.{isLaw, isWriterSet}
 use Rattle.rules.specs.Walk.{longest}
@@ -35,11 +35,6 @@ itemBy by c samples = entryOctets (maskOf (by .law)) (by .set) (entryBy c sample
 
 abbrev pub allBy : By → List ℕ → List ℕ → List ℕ
 allBy by cells samples = octetsGiven (maskOf (by .law)) (by .set) cells samples
-
--- the octets of the form that is chosen for samples
-pub record Sizes (mask set : ℕ) (s : List ℕ) (r : ℕ) : Type 0 where
-  pub octets : r ≡ octetsFor (length (formOf mask (chosenTool mask set s) s))
-  pub most : r ≤ 200000000
 
 -- "N times 0++", for the longest N
 abbrev pub Quiet : ℕ → List ℕ → Type 0

@@ -41,7 +41,8 @@ fn write_given(samples: &[u8], cells: &[u16], law: u32, set: u32, out: &mut [u8]
     ensures { λ r. ⌜ WriteGiven (now (samples .entry)) (now (cells .entry)) law set (now (out .entry)) (now (out .exit)) r ⌝ }
 {
     let quiet = [plus_plus(mask_of(law)); 320];
-    let after = octets_to_judge(samples, cells, law, set, &quiet, out.len());
+    let by = By { law: law, set: set };
+    let after = octets_to_judge(samples, cells, by, &quiet, out.len());
     if LONGEST < after {
         return refused(rules::Refusal::Long);
     }
@@ -50,7 +51,6 @@ fn write_given(samples: &[u8], cells: &[u16], law: u32, set: u32, out: &mut [u8]
     }
     let heading = heading_of(law);
     let at = text_lines::put_word(&heading, out, 0);
-    let by = By { law: law, set: set };
     let octets = put_items(samples, cells, by, &quiet, out, at);
     FileWritten {
         end: Ending::Done,

@@ -22,14 +22,11 @@ use Rattle.write_located.specs.declared.Located.{Located}
 use Rattle.write_located.specs.Rows.{LocatedIs}
 use Rattle.write_zeros.specs.Rice.{RiceFor}
 use Rattle.write_offers.specs.Ties.{taken, BetterIs, ChosenIs}
-use Rattle.write_choice.specs.declared.settle.Settled.{Settled}
 use Rattle.write_choice.specs.declared.plans.Plain.{Plain}
-use Rattle.write_choice.specs.declared.plans.Look.the-variants.{Known}
-use Rattle.write_choice.specs.declared.plans.ByRuns.the-variants.{Binary, Rice, Values}
-use Rattle.write_choice.specs.declared.plans.Plan.{Plan}
-use Rattle.write_choice.specs.declared.plans.Plan.the-variants.{Direct, Runs}
-use Rattle.write_choice.specs.Plans.{measured, Left, Chosen, Settles, plainOf, LastIs, LookIs}
-use Rattle.write_choice.specs.Plans.{Planned, PlannedZeros, PlannedNear, zerosBy, sevenOr, nearBy}
+use Rattle.write_choice.specs.declared.plans.ZerosPlan.the-variants.{Direct, Binary, Rice}
+use Rattle.write_choice.specs.declared.plans.NearPlan.the-variants.{Last, Values}
+use Rattle.write_choice.specs.Plans.{measured, Left, Chosen, LastIs}
+use Rattle.write_choice.specs.Plans.{ZerosPlanned, zerosBy, NearPlanned, sevenOr, nearBy}
 use Rattle.write_scan.proofs.Tests.{never, and-zero}
 use Rattle.write_located.proofs.Near.{zeros-unlocated}
 use Rattle.write_zeros.proofs.TwoZeros.{rice-applies, zeros-apply}
@@ -64,26 +61,18 @@ chosen-is : {mask set b : ℕ} {s : List ℕ} (t : ℕ) → chosenTool mask set 
 chosen-is {mask} {s = s} t e size few =
     record { tool = sym e; bits = size ∙ ap (λ (t : ℕ). length (formOf mask t s)) (sym e); small = few }
 
--- a plan for samples under another name
-pub planned-as : {mask set : ℕ} {s t row a b c : List ℕ} {p : Plan} → s ≡ t → Planned mask set s p row a b c
-    → Planned mask set t p row a b c
-planned-as e h = rw e at h
-
 -- binary, where it was chosen
 pub binary-planned : {mask set n b : ℕ} {s row runs : List ℕ} → length s ≡ n → n ≤ 320 → chosenTool mask set s ≡ 5 → b ≡ 8 + n
-    → RowIs (map (flagOf mask 0) s) (n / 40) row → PlannedZeros mask set s (Runs (Binary b)) row runs
+    → RowIs (map (flagOf mask 0) s) (n / 40) row → ZerosPlanned mask set s (Binary b) row runs
 binary-planned {mask} {s = s} {row} size few e bits words =
-    λ b c. record {
-      chosen = chosen-is 5 e (bits ∙ binary-bits mask s size) (omega arith);
-      needs = rw size words;
-    }
+    record { chosen = chosen-is 5 e (bits ∙ binary-bits mask s size) (omega arith); needs = rw size words }
 
 -- a frame of the two zeros: uncompressed, then Rice, then binary
 pub zeros-planned : {mask set n b : ℕ} {s row runs : List ℕ} {rice : Zeros} {one six five : Choice} {h₆ h₅ : Bool} → mask < 128
     → twoZeros mask s ≡ true → length s ≡ n → n ≤ 320 → chosenTool mask set s ≡ choose mask set s measured
     → RiceFor mask set s rice runs → one ≡ record { tool = 1; bits = wholeBits 1 n } → h₆ ≡ holds set 6
     → BetterIs one 6 h₆ (rice .bits) six → h₅ ≡ holds set 5 → b ≡ 8 + n → BetterIs six 5 h₅ b five
-    → RowIs (map (flagOf mask 0) s) (n / 40) row → PlannedZeros mask set s (zerosBy five rice) row runs
+    → RowIs (map (flagOf mask 0) s) (n / 40) row → ZerosPlanned mask set s (zerosBy five rice) row runs
 zeros-planned {mask} {set} {n} {b} {s} {row} {runs} {rice} {one} {five = five} {h₆ = h₆} {h₅ = h₅} seven zeros size few later riced e₁ e₆ b₆ e₅ eb
     b₅ words =
     go (eqb (five .tool) 5) refl (eqb (five .tool) 6) refl
@@ -108,8 +97,7 @@ zeros-planned {mask} {set} {n} {b} {s} {row} {runs} {rice} {one} {five = five} {
         rw (c₅ .tool) (among mask s set P 5 _ (λ x y. absurd (x refl)) (among mask s set P 6 _ (λ x y. absurd (y refl)) last))
 
     go : (x : Bool) → eqb (five .tool) 5 ≡ x → (y : Bool) → eqb (five .tool) 6 ≡ y
-        → PlannedZeros mask set s (cond x (Runs (Binary (five .bits)))
-        (cond y (Runs (Rice rice)) (Direct (record { choice = five; row = 0 })))) row runs
+        → ZerosPlanned mask set s (cond x (Binary (five .bits)) (cond y (Rice rice) (Direct (record { choice = five; row = 0 })))) row runs
     go true x y z =
         let e : chosenTool mask set s ≡ 5 = later ∙ sym (c₅ .tool) ∙ eqb-true _ _ x in
         let five-bits : five .bits ≡ 8 + n = c₅ .bits ∙ ap (λ (t : ℕ). length (formOf mask t s)) (sym later ∙ e) ∙ sym (binary-bits mask s size) in
@@ -118,10 +106,10 @@ zeros-planned {mask} {set} {n} {b} {s} {row} {runs} {rice} {one} {five = five} {
         let e : chosenTool mask set s ≡ 6 = later ∙ sym (c₅ .tool) ∙ eqb-true _ _ z in
         let offered = chosen-offered mask set s measured 6 (sym later ∙ e) (λ w. omega arith) in
         let i = riced .rice (and-left (holds set 6) (applies mask 6 s) offered) in
-        λ b c. record { chosen = chosen-is 6 e (i .bits ∙ rice-form mask s) (riced .small); needs = i }
+        record { chosen = chosen-is 6 e (i .bits ∙ rice-form mask s) (riced .small); needs = i }
     go false x false z =
         let is : five .tool ≡ 1 = kind (eqb-false _ _ x) (eqb-false _ _ z) in
-        λ b c. record {
+        record {
           chosen = chosen-among later c₅;
           needs = record { row = λ w. absurd (omega (arith, w, is)); kind = λ w. (omega (arith, is), omega (arith, is)) };
         }
@@ -141,15 +129,15 @@ module _ {mask : ℕ} (set : ℕ) {s : List ℕ} (zeros : twoZeros mask s ≡ fa
   pub last-chosen : (holds set 7 && applies mask 7 s) ≡ false → Chosen mask set s (last .choice)
   last-chosen off = chosen-among later (no-zeros (choose-past 7 off (known .chosen)))
 
-  pub not-located : {a b c : List ℕ} → (holds set 7 && applies mask 7 s) ≡ false → PlannedNear mask set s (Direct last) a b c
-  not-located off = λ row. record { chosen = last-chosen off; needs = known .plain }
+  pub not-located : {a b c : List ℕ} → (holds set 7 && applies mask 7 s) ≡ false → NearPlanned mask set s (Last last) a b c
+  not-located off = record { chosen = last-chosen off; needs = known .plain }
 
   -- "N is 80 or more": a shorter frame is left to the last of the order
   pub short-last : length s < 80 → Chosen mask set s (last .choice)
   short-last h = last-chosen (past set 7 (short-off mask s h))
 
   pub located-for : {a b c : List ℕ} {w : Located} → holds set 7 ≡ true → applies mask 7 s ≡ true → LocatedIs mask s w a b c
-      → PlannedNear mask set s (nearBy last w) a b c
+      → NearPlanned mask set s (nearBy last w) a b c
   located-for {a} {b} {c} {w} held on i = go (eqb seven 7) refl
     where
       seven : ℕ
@@ -177,34 +165,27 @@ module _ {mask : ℕ} (set : ℕ) {s : List ℕ} (zeros : twoZeros mask s ≡ fa
       last-is : P seven
       last-is = rw (done .tool) (among mask s set P 7 (11 ∷ []) (λ x. absurd (x refl)) (λ x. sym (known .chosen .tool)))
 
-      go : (x : Bool) → eqb seven 7 ≡ x → PlannedNear mask set s (cond x (Runs (Values w)) (Direct last)) a b c
-      go true x = λ row. record { chosen = chosen-is 7 (is ∙ eqb-true _ _ x) (i .bits ∙ located-form mask s) (i .small); needs = i }
+      go : (x : Bool) → eqb seven 7 ≡ x → NearPlanned mask set s (cond x (Values w) (Last last)) a b c
+      go true x = record { chosen = chosen-is 7 (is ∙ eqb-true _ _ x) (i .bits ∙ located-form mask s) (i .small); needs = i }
       go false x =
           let e : chosenTool mask set s ≡ choose mask set s (11 ∷ []) = is ∙ last-is (eqb-false _ _ x) ∙ known .chosen .tool in
-          λ row. record { chosen = chosen-among e (known .chosen); needs = known .plain }
+          record { chosen = chosen-among e (known .chosen); needs = known .plain }
 
 -- what is planned where value-location is taken, and where it is not
 module _ (last : Plain) (w : Located) {t : ℕ} (told : t ≡ sevenOr last w) where
-  pub near-last : (t ≡ 7 → ⊥) → Direct last ≡ nearBy last w
+  pub near-last : (t ≡ 7 → ⊥) → Last last ≡ nearBy last w
   near-last h = rw (ne-eqb (sevenOr last w) 7 (λ e. h (told ∙ e))) refl
 
-  pub near-values : t ≡ 7 → Runs (Values w) ≡ nearBy last w
+  pub near-values : t ≡ 7 → Values w ≡ nearBy last w
   near-values h = rw (eq-eqb (sevenOr last w) 7 (sym told ∙ h)) refl
 
--- what a look leaves: whole octets, or the last of the order
-pub settled-known : {mask set : ℕ} {s : List ℕ} {r : Settled} → Settles mask set s r → (r .tool ≡ 0 → ⊥)
-    → LookIs mask set s (Known (plainOf r))
-settled-known p some = (
-  p .chosen some,
-  record { row = λ e. absurd (omega (arith, e, p .most)); kind = λ e. (omega (arith, some), p .most) },
-)
-
-pub last-known : {mask set n : ℕ} {s : List ℕ} {last : Plain} {close : Bool} → length s ≡ n → Left mask set s → twoZeros mask s ≡ false
+-- a frame that is left, of neither kind: the last of the order
+pub last-left : {mask set n : ℕ} {s : List ℕ} {last : Plain} {close : Bool} → length s ≡ n → Left mask set s → twoZeros mask s ≡ false
     → close ≡ near (leastOf mask s) (greatestOf mask s) → (close && leb 80 n) ≡ false → LastIs mask set s last
-    → LookIs mask set s (Known last)
-last-known {close = false} size left zeros told off known = (chosen-among (left .far (sym told)) (known .chosen), known .plain)
-last-known {set = set} {n} {close = true} size left zeros told off known =
-    (short-last set zeros (left .later) known (omega (arith, size, leb-false 80 n off)), known .plain)
+    → Chosen mask set s (last .choice)
+last-left {close = false} size left zeros told off known = chosen-among (left .far (sym told)) (known .chosen)
+last-left {set = set} {n} {close = true} size left zeros told off known =
+    short-last set zeros (left .later) known (omega (arith, size, leb-false 80 n off))
 
 -- the last of the order
 module _ (mask set : ℕ) (s : List ℕ) {n : ℕ} {one : Choice} (size : length s ≡ n) (few : n ≤ 320)

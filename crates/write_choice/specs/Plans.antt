@@ -16,12 +16,10 @@ use Rattle.write_offers.specs.declared.Choice.{Choice}
 use Rattle.write_offers.specs.Ties.{taken, ChosenIs}
 use Rattle.write_choice.specs.declared.settle.Settled.{Settled}
 use Rattle.write_choice.specs.declared.plans.Plain.{Plain}
-use Rattle.write_choice.specs.declared.plans.ByRuns.{ByRuns}
-use Rattle.write_choice.specs.declared.plans.ByRuns.the-variants.{Binary, Rice, Values}
-use Rattle.write_choice.specs.declared.plans.Plan.{Plan}
-use Rattle.write_choice.specs.declared.plans.Plan.the-variants.{Direct, Runs}
-use Rattle.write_choice.specs.declared.plans.Look.{Look}
-use Rattle.write_choice.specs.declared.plans.Look.the-variants.{Known, OfZeros, NearZero}
+use Rattle.write_choice.specs.declared.plans.ZerosPlan.{ZerosPlan}
+use Rattle.write_choice.specs.declared.plans.ZerosPlan.the-variants.{Direct, Binary, Rice}
+use Rattle.write_choice.specs.declared.plans.NearPlan.{NearPlan}
+use Rattle.write_choice.specs.declared.plans.NearPlan.the-variants.{Last, Values}
 use Rattle.write_zeros.specs.declared.Zeros.{Zeros}
 use Rattle.write_located.specs.declared.Located.{Located}
 use Rattle.write_zeros.specs.Rice.{RiceIs}
@@ -65,9 +63,6 @@ pub record Settles (mask set : ℕ) (s : List ℕ) (r : Settled) : Type 0 where
   pub close : r .close ≡ near (leastOf mask s) (greatestOf mask s)
   pub most : r .tool ≤ 4
 
-abbrev pub plainOf : Settled → Plain
-plainOf r = record { choice = choiceOf r; row = 0 }
-
 -- a form that needs no runs: whole octets, or fractional-bit with the frame's row
 pub record PlainIs (mask : ℕ) (s : List ℕ) (p : Plain) : Type 0 where
   pub row : p .choice .tool ≡ 11 → (p .row ≡ fractionalRow mask s) × (fractionalRow mask s < rowCount (length s))
@@ -78,50 +73,25 @@ pub record LastIs (mask set : ℕ) (s : List ℕ) (r : Plain) : Type 0 where
   pub chosen : ChosenIs mask set s (11 ∷ []) (r .choice)
   pub plain : PlainIs mask s r
 
--- the tool and the bits of a plan
-abbrev pub choiceBy : ByRuns → Choice
-choiceBy (Binary bits) = record { tool = 5; bits = bits }
-choiceBy (Rice z) = record { tool = 6; bits = z .bits }
-choiceBy (Values w) = record { tool = 7; bits = w .bits }
+-- a plan for a frame of the two zeros: the tool and its bits, and what its form needs, the row of flags, which are 1 at minus zero, or runs
+abbrev pub zerosChoice : ZerosPlan → Choice
+zerosChoice (Direct p) = p .choice
+zerosChoice (Binary bits) = record { tool = 5; bits = bits }
+zerosChoice (Rice z) = record { tool = 6; bits = z .bits }
 
-abbrev pub choiceIn : Plan → Choice
-choiceIn (Direct p) = p .choice
-choiceIn (Runs r) = choiceBy r
+abbrev pub ZerosNeeds : ℕ → List ℕ → ZerosPlan → List ℕ → List ℕ → Type 0
+ZerosNeeds mask s (Direct p) row runs = PlainIs mask s p
+ZerosNeeds mask s (Binary bits) row runs = RowIs (map (flagOf mask 0) s) (length s / 40) row
+ZerosNeeds mask s (Rice z) row runs = RiceIs mask s z runs
 
--- what its form needs: the row of flags, which are 1 at minus zero, or runs
-abbrev pub RunsFor : ℕ → List ℕ → ByRuns → List ℕ → List ℕ → List ℕ → List ℕ → Type 0
-RunsFor mask s (Binary bits) row a b c = RowIs (map (flagOf mask 0) s) (length s / 40) row
-RunsFor mask s (Rice z) row a b c = RiceIs mask s z a
-RunsFor mask s (Values w) row a b c = LocatedIs mask s w a b c
-
-abbrev pub NeedsOf : ℕ → List ℕ → Plan → List ℕ → List ℕ → List ℕ → List ℕ → Type 0
-NeedsOf mask s (Direct p) row a b c = PlainIs mask s p
-NeedsOf mask s (Runs r) row a b c = RunsFor mask s r row a b c
-
--- a plan for some samples, with what is lent beside it
-pub record Planned (mask set : ℕ) (s : List ℕ) (p : Plan) (row a b c : List ℕ) : Type 0 where
-  pub chosen : Chosen mask set s (choiceIn p)
-  pub needs : NeedsOf mask s p row a b c
-
--- the plan of a frame of the two zeros has no values, and that of one that has a 1 or a -2 no flags
-abbrev pub PlannedZeros : ℕ → ℕ → List ℕ → Plan → List ℕ → List ℕ → Type 0
-PlannedZeros mask set s p row runs = (b c : List ℕ) → Planned mask set s p row runs b c
-
-abbrev pub PlannedNear : ℕ → ℕ → List ℕ → Plan → List ℕ → List ℕ → List ℕ → Type 0
-PlannedNear mask set s p a b c = (row : List ℕ) → Planned mask set s p row a b c
+pub record ZerosPlanned (mask set : ℕ) (s : List ℕ) (p : ZerosPlan) (row runs : List ℕ) : Type 0 where
+  pub chosen : Chosen mask set s (zerosChoice p)
+  pub needs : ZerosNeeds mask s p row runs
 
 -- the best of uncompressed, Rice and binary, as a plan
-abbrev pub zerosBy : Choice → Zeros → Plan
+abbrev pub zerosBy : Choice → Zeros → ZerosPlan
 zerosBy best rice =
-    cond (eqb (best .tool) 5) (Runs (Binary (best .bits)))
-    (cond (eqb (best .tool) 6) (Runs (Rice rice)) (Direct (record { choice = best; row = 0 })))
-
--- value-location where its octets are not more than those of the last of the tie order
-abbrev pub sevenOr : Plain → Located → ℕ
-sevenOr last w = cond (taken (last .choice) true (w .bits)) 7 (last .choice .tool)
-
-abbrev pub nearBy : Plain → Located → Plan
-nearBy last w = cond (eqb (sevenOr last w) 7) (Runs (Values w)) (Direct last)
+    cond (eqb (best .tool) 5) (Binary (best .bits)) (cond (eqb (best .tool) 6) (Rice rice) (Direct (record { choice = best; row = 0 })))
 
 -- a frame of 80 samples or more from -2 to 1 that has a 1 or a -2
 pub record NearFrame (mask : ℕ) (s : List ℕ) : Type 0 where
@@ -129,8 +99,22 @@ pub record NearFrame (mask : ℕ) (s : List ℕ) : Type 0 where
   pub close : near (leastOf mask s) (greatestOf mask s) ≡ true
   pub long : 80 ≤ length s
 
--- what a look leaves
-abbrev pub LookIs : ℕ → ℕ → List ℕ → Look → Type 0
-LookIs mask set s (Known p) = (Chosen mask set s (p .choice)) × (PlainIs mask s p)
-LookIs mask set s OfZeros = (Left mask set s) × (twoZeros mask s ≡ true)
-LookIs mask set s NearZero = (Left mask set s) × (NearFrame mask s)
+-- a plan for such a frame
+abbrev pub nearChoice : NearPlan → Choice
+nearChoice (Last p) = p .choice
+nearChoice (Values w) = record { tool = 7; bits = w .bits }
+
+abbrev pub NearNeeds : ℕ → List ℕ → NearPlan → List ℕ → List ℕ → List ℕ → Type 0
+NearNeeds mask s (Last p) a b c = PlainIs mask s p
+NearNeeds mask s (Values w) a b c = LocatedIs mask s w a b c
+
+pub record NearPlanned (mask set : ℕ) (s : List ℕ) (p : NearPlan) (a b c : List ℕ) : Type 0 where
+  pub chosen : Chosen mask set s (nearChoice p)
+  pub needs : NearNeeds mask s p a b c
+
+-- value-location where its octets are not more than those of the last of the tie order
+abbrev pub sevenOr : Plain → Located → ℕ
+sevenOr last w = cond (taken (last .choice) true (w .bits)) 7 (last .choice .tool)
+
+abbrev pub nearBy : Plain → Located → NearPlan
+nearBy last w = cond (eqb (sevenOr last w) 7) (Values w) (Last last)

@@ -1,9 +1,8 @@
 // A frame from -2 to 1 that the look leaves and that has a 1 or a -2: value-location, or the last of the tie order.
 
 use crate::last::last_of;
-use crate::plans::ByRuns;
+use crate::plans::NearPlan;
 use crate::plans::Plain;
-use crate::plans::Plan;
 use first_octet::holds;
 use write_located::Located;
 use write_offers::NearOffer;
@@ -14,20 +13,19 @@ ghost use mathlib.Core.Bool.{true};
 ghost use Prim.Native.Nat.{_≤_};
 ghost use lib.ListN.{length, take};
 ghost use Rattle.write_scan.specs.Looks.{isMask, FrameIn};
-ghost use Rattle.write_choice.specs.Plans.{Left, NearFrame, nearBy, PlannedNear};
+ghost use Rattle.write_choice.specs.Plans.{Left, NearFrame, nearBy, NearPlanned};
 
 // Value-location where its octets are not more, else what was best before it.
-fn located_or(last: Plain, w: Located) -> Plan
+fn located_or(last: Plain, w: Located) -> NearPlan
     requires { ⌜ (last .choice .bits ≤ 1000000000) × (w .bits ≤ 1000000000) ⌝ }
     ensures { λ r. ⌜ r ≡ nearBy last w ⌝ }
 {
     let best = last.choice;
     let seven = better(best, 7, true, w.bits);
     if seven.tool != 7 {
-        return Plan::Direct(last);
+        return NearPlan::Last(last);
     }
-    let values = ByRuns::Values(w);
-    Plan::Runs(values)
+    NearPlan::Values(w)
 }
 
 // "Fewest octets" for such a frame: binary and Rice do not apply. Nothing is measured where the set lacks value-location.
@@ -39,19 +37,19 @@ pub fn near_plan(
     a: &mut [u16; 321],
     b: &mut [u16; 321],
     c: &mut [u16; 321],
-) -> Plan
+) -> NearPlan
     requires { ⌜ (FrameIn (now samples) n) × (isMask mask ≡ true) ⌝ }
     requires { ⌜ (Left mask set (take n (now samples))) × (NearFrame mask (take n (now samples))) ⌝ }
     requires { ⌜ (length (now a) ≡ 321) × ((length (now b) ≡ 321) × (length (now c) ≡ 321)) ⌝ }
-    ensures { λ r. ⌜ PlannedNear mask set (take n (now (samples .entry))) r (now (a .exit)) (now (b .exit)) (now (c .exit)) ⌝ }
+    ensures { λ r. ⌜ NearPlanned mask set (take n (now (samples .entry))) r (now (a .exit)) (now (b .exit)) (now (c .exit)) ⌝ }
 {
     let last = last_of(samples, n, mask, set);
     if !holds(set, 7) {
-        return Plan::Direct(last);
+        return NearPlan::Last(last);
     }
     let offered = near_of(samples, n, mask, a, b, c);
     match offered {
-        NearOffer::Fails(_) => Plan::Direct(last),
+        NearOffer::Fails(_) => NearPlan::Last(last),
         NearOffer::Fits(w) => located_or(last, w),
     }
 }

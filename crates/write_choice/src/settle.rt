@@ -1,10 +1,8 @@
 // The look at a frame: the choice where it settles it, else which plan does.
 
-use crate::plans::Plain;
 use first_octet::holds;
 use law::minus_zero;
 use law::plus_zero;
-use write_offers::Choice;
 use write_offers::whole_bits;
 use write_scan::Spread;
 use write_scan::spread_of;
@@ -12,10 +10,10 @@ ghost use mathlib.Core.Path.{_≡_};
 ghost use mathlib.Core.Bool.{true, cond, _&&_};
 ghost use Prim.Native.Nat.{_%_, _<_};
 ghost use lib.ListN.{getD, take};
-ghost use lib.Dec.{eqb, ltb};
+ghost use lib.Dec.{eqb, leb, ltb};
 ghost use Rattle.rules.specs.Tools as tools;
 ghost use Rattle.write_scan.specs.Looks.{SpreadIs, isMask, FrameIn};
-ghost use Rattle.write_choice.specs.Plans.{valueTool, SettledTool, Settles, plainOf};
+ghost use Rattle.write_choice.specs.Plans.{valueTool, SettledTool, Settles};
 
 // Whether a tool is for this sample, and held.
 fn is_for(x: u8, y: u8, set: u32, tool: u32) -> bool
@@ -100,16 +98,12 @@ pub fn choose(samples: &[u8], n: usize, mask: u8, set: u32) -> Settled
     }
 }
 
-// What is settled, as a plan: it needs no runs, and no row.
-pub fn plain_of(seen: Settled) -> Plain
-    ensures { λ r. ⌜ r ≡ plainOf seen ⌝ }
+// Whether value-location may apply: it asks for 80 samples, from -2 to 1.
+pub fn is_near(close: bool, n: usize) -> bool
+    ensures { λ r. ⌜ r ≡ close && leb 80 n ⌝ }
 {
-    let choice = Choice {
-        tool: seen.tool,
-        bits: seen.bits,
-    };
-    Plain {
-        choice: choice,
-        row: 0,
+    if !close {
+        return false;
     }
+    80 <= n
 }

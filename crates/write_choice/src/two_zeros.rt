@@ -1,8 +1,7 @@
 // A frame of the two zeros that the look leaves: uncompressed, Rice or binary.
 
-use crate::plans::ByRuns;
 use crate::plans::Plain;
-use crate::plans::Plan;
+use crate::plans::ZerosPlan;
 use first_octet::holds;
 use law::minus_zero;
 use write_offers::Choice;
@@ -22,7 +21,7 @@ ghost use Rattle.rules.specs.Tools as tools;
 ghost use Rattle.rules.specs.Zeros.{flagOf};
 ghost use Rattle.write_scan.specs.Looks.{twoZeros, isMask, FrameIn};
 ghost use Rattle.write_scan.specs.Rows.{RowIs};
-ghost use Rattle.write_choice.specs.Plans.{Left, zerosBy, PlannedZeros};
+ghost use Rattle.write_choice.specs.Plans.{Left, zerosBy, ZerosPlanned};
 
 // Whether binary is held and the two zeros are so nearly as many that Rice can't need fewer octets. Let c of the N samples be of the
 // rarer zero: there are c runs or more, with N - c places in them. With S = 1 a run v has 2 + v / 2 bits, and twice that is v + 3 or
@@ -43,22 +42,20 @@ fn binary_at_once(set: u32, plus: usize, minus: usize) -> bool
 }
 
 // The best of uncompressed, Rice and binary, with what its form needs.
-fn zeros_by(best: Choice, rice: Zeros) -> Plan
+fn zeros_by(best: Choice, rice: Zeros) -> ZerosPlan
     ensures { λ r. ⌜ r ≡ zerosBy best rice ⌝ }
 {
     if best.tool == 5 {
-        let binary = ByRuns::Binary(best.bits);
-        return Plan::Runs(binary);
+        return ZerosPlan::Binary(best.bits);
     }
     if best.tool == 6 {
-        let runs = ByRuns::Rice(rice);
-        return Plan::Runs(runs);
+        return ZerosPlan::Rice(rice);
     }
     let plain = Plain {
         choice: best,
         row: 0,
     };
-    Plan::Direct(plain)
+    ZerosPlan::Direct(plain)
 }
 
 // "Fewest octets" for a frame of the two zeros that the first look does not settle: from uncompressed on, each tool of the tie order
@@ -71,19 +68,18 @@ pub fn zeros_plan(
     set: u32,
     row: &[u64; 8],
     runs: &mut [u16; 321],
-) -> Plan
+) -> ZerosPlan
     requires { ⌜ (FrameIn (now samples) n) × (isMask mask ≡ true) ⌝ }
     requires { ⌜ (Left mask set (take n (now samples))) × (twoZeros mask (take n (now samples)) ≡ true) ⌝ }
     requires { ⌜ RowIs (map (flagOf mask 0) (take n (now samples))) (n / 40) (now row) ⌝ }
     requires { ⌜ length (now runs) ≡ 321 ⌝ }
-    ensures { λ r. ⌜ PlannedZeros mask set (take n (now (samples .entry))) r (now (row .entry)) (now (runs .exit)) ⌝ }
+    ensures { λ r. ⌜ ZerosPlanned mask set (take n (now (samples .entry))) r (now (row .entry)) (now (runs .exit)) ⌝ }
 {
     let minus = count_of(samples, n, minus_zero(mask));
     let plus = n - minus;
     let bits = binary_bits(n);
     if binary_at_once(set, plus, minus) {
-        let binary = ByRuns::Binary(bits);
-        return Plan::Runs(binary);
+        return ZerosPlan::Binary(bits);
     }
     let rice = rice_of(n, mask, set, plus, minus, row, runs);
     let uncompressed = uncompressed_of(n);

@@ -1,58 +1,48 @@
 -- Laws of what was planned: its form is the chosen tool's.
-use Prim.Native.Nat.{ℕ, _<_}
+use Prim.Native.Nat.{ℕ, _≤_, _<_}
 use mathlib.Core.Path.{_≡_, refl, sym, ap, _∙_}
 use mathlib.Core.List.{List, map}
 use native.Mathlib.Omega.{arith}
 use native.Mathlib.Nat.{lt-of-lt-of-le}
-use lib.ListN.{length, getD, take}
+use lib.ListN.{length, getD}
+use Rattle.rules.specs.Bits.{bitsOf}
 use Rattle.rules.specs.Fractional.{radix, placeIn, samplesAt}
 use Rattle.rules.specs.Chooses.{Written, fractionalForm, formOf}
 use Rattle.rules.proofs.Octets.{Below, below-at}
 use Rattle.rules.proofs.Signed.{LawMask}
 use Rattle.rules.proofs.Fractional.{Among, places-below, radix-range, length-samplesAt}
 use Rattle.rules.proofs.FrameRow.{row-low, row-among}
-use Rattle.write_scan.specs.Looks.{FrameIn}
 use Rattle.write_choice.specs.declared.plans.Plain.{Plain}
-use Rattle.write_choice.specs.declared.plans.ByRuns.{ByRuns}
-use Rattle.write_choice.specs.declared.plans.ByRuns.the-variants.{Binary, Rice, Values}
-use Rattle.write_choice.specs.declared.plans.Plan.{Plan}
-use Rattle.write_choice.specs.declared.plans.Plan.the-variants.{Runs}
-use Rattle.write_choice.specs.Plans.{PlainIs, choiceBy, RunsFor, Planned}
-use Rattle.write_forms.specs.Forms.{rowForm}
-use Rattle.write_forms.proofs.Turns.{located-ready}
-use Rattle.write_forms.proofs.Form.{cells-length, rice-ready, rice-form, binary-form, located-form, located-seven}
-use Rattle.writer.specs.Answers.{full, runsForm, RunsReady, byRuns}
+use Rattle.write_choice.specs.declared.plans.ZerosPlan.{ZerosPlan}
+use Rattle.write_choice.specs.declared.plans.NearPlan.{NearPlan}
+use Rattle.write_choice.specs.Plans.{Chosen, PlainIs, ZerosPlanned, NearPlanned}
+use Rattle.write_forms.specs.Forms.{wholeOctets, rowForm}
+use Rattle.write_forms.proofs.Whole.{whole-form}
+use Rattle.writer.specs.Answers.{byTool, full, plain}
 
 -- a plan, as it was told apart
-pub told-apart : {mask set : ℕ} {s row a b c : List ℕ} {p q : Plan} → p ≡ q → Planned mask set s p row a b c → Planned mask set s q row a b c
-told-apart e h = rw e at h
+pub zeros-told : {mask set : ℕ} {s row runs : List ℕ} {p q : ZerosPlan} → p ≡ q → ZerosPlanned mask set s p row runs
+    → ZerosPlanned mask set s q row runs
+zeros-told e h = rw e at h
 
--- from flags or runs
-runs-form : (mask n : ℕ) (s row a b c : List ℕ) → length s ≡ n → (p : ByRuns) → RunsFor mask s p row a b c
-    → runsForm n p row a b c ≡ formOf mask (choiceBy p .tool) s
-runs-form mask n s row a b c size (Binary bits) words = binary-form n s mask size (rw (← size) words)
-runs-form mask n s row a b c size (Rice z) i = rice-form n s size i
-runs-form mask n s row a b c size (Values w) i = located-form n s w a b c size i ∙ located-seven mask s
+pub near-told : {mask set : ℕ} {s a b c : List ℕ} {p q : NearPlan} → p ≡ q → NearPlanned mask set s p a b c → NearPlanned mask set s q a b c
+near-told e h = rw e at h
 
-module _ {mask set n : ℕ} {s row a b c : List ℕ} (size : length s ≡ n) (p : ByRuns) (i : Planned mask set s (Runs p) row a b c) where
-  pub runs-full : byRuns n p row a b c ≡ full mask set s
-  runs-full =
-      let written : ℕ → List ℕ → Written = λ t l. record { tool = t; bits = l } in
-      ap (written (choiceBy p .tool)) (runs-form mask n s row a b c size p (i .needs))
-      ∙ ap (λ (t : ℕ). written t (formOf mask t s)) (i .chosen .tool)
+-- a form of the tool that was chosen is the chosen form, and its bits are known
+module _ {mask set b : ℕ} {s form : List ℕ} (t : ℕ) (chosen : Chosen mask set s (record { tool = t; bits = b })) (is : form ≡ formOf mask t s) where
+  pub tool-full : byTool t form ≡ full mask set s
+  tool-full = ap (byTool t) is ∙ ap (λ (k : ℕ). byTool k (formOf mask k s)) (chosen .tool)
 
-  pub runs-bits : choiceBy p .bits ≡ length (runsForm n p row a b c)
-  runs-bits = i .chosen .bits ∙ ap (λ (w : Written). length (w .bits)) (sym runs-full)
+  pub tool-bits : b ≡ length form
+  tool-bits = chosen .bits ∙ ap (λ (w : Written). length (w .bits)) (sym tool-full)
 
-ready : (mask n : ℕ) (samples row a b c : List ℕ) → FrameIn samples n → (p : ByRuns) → RunsFor mask (take n samples) p row a b c
-    → RunsReady n p row a b c
-ready mask n samples row a b c f (Binary bits) words = record { few = f .few; size = words .size; small = words .small }
-ready mask n samples row a b c f (Rice z) i = rice-ready f i
-ready mask n samples row a b c f (Values w) i = located-ready i
+-- tools 1 to 4, which the look settles
+module _ {mask set t b : ℕ} {s : List ℕ} (chosen : Chosen mask set s (record { tool = t; bits = b })) (some : 1 ≤ t) (most : t ≤ 4) where
+  pub plain-full : plain t s ≡ full mask set s
+  plain-full = tool-full t chosen (whole-form mask t s some most)
 
-pub runs-ready : {mask set n : ℕ} {samples row a b c : List ℕ} → FrameIn samples n → (p : ByRuns)
-    → Planned mask set (take n samples) (Runs p) row a b c → RunsReady n p row a b c
-runs-ready {mask} {n = n} {samples} {row} {a} {b} {c} f p i = ready mask n samples row a b c f p (i .needs)
+  pub plain-size : b ≡ length (bitsOf (wholeOctets t s))
+  plain-size = tool-bits t chosen (whole-form mask t s some most)
 
 -- fractional-bit, where it was chosen
 module _ (mask n : ℕ) (s : List ℕ) (p : Plain) (size : length s ≡ n) (is : PlainIs mask s p) (eleven : p .choice .tool ≡ 11) where

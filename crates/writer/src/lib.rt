@@ -8,34 +8,37 @@ use rules::Refusal;
 use rules::WriteAnswer;
 use rules::guard_writer;
 use rules::is_length;
-use write_choice::look;
+use write_choice::last::last_of;
 use write_choice::near::near_plan;
-use write_choice::plans::ByRuns;
-use write_choice::plans::Look;
+use write_choice::plans::NearPlan;
 use write_choice::plans::Plain;
-use write_choice::plans::Plan;
-use write_choice::plans::choice_by;
+use write_choice::plans::ZerosPlan;
+use write_choice::settle::choose;
+use write_choice::settle::is_near;
 use write_choice::two_zeros::zeros_plan;
 use write_forms::put_binary;
 use write_forms::put_fractional;
 use write_forms::put_located;
 use write_forms::put_rice;
 use write_forms::put_whole;
+use write_located::Located;
 use write_measure::octets_for;
 use write_scan::others;
+use write_zeros::Zeros;
 ghost use mathlib.Core.Path.{_≡_};
 ghost use mathlib.Core.Bool.{true};
 ghost use Prim.Native.Nat.{_*_, _≤_};
 ghost use lib.ListN.{length, take};
 ghost use Rattle.rules.specs.declared.Ending.the-variants.{Done};
+ghost use Rattle.rules.specs.Bits.{bitsOf};
 ghost use Rattle.rules.specs.Refusals.{verdict};
 ghost use Rattle.rules.specs.Tools.{writerAsks};
 ghost use Rattle.rules.specs.Chooses.{declined, formOf};
 ghost use Rattle.rules.specs.Calls.{Writes, WriteFrame, WriteSamples};
 ghost use Rattle.write_scan.specs.Looks.{twoZeros, isMask, FrameIn};
-ghost use Rattle.write_choice.specs.Plans.{Left, NearFrame, Chosen, PlainIs, choiceBy};
-ghost use Rattle.writer.specs.Answers.{Tells, fitting, pad, WritesOne};
-ghost use Rattle.writer.specs.Answers.{WritesChosen, PacksForm, runsForm, RunsReady, Packs, Wrote};
+ghost use Rattle.write_choice.specs.Plans.{Left, NearFrame, Chosen, PlainIs};
+ghost use Rattle.write_forms.specs.Forms.{wholeOctets, RiceReady, riceFormOf, RowReady, binaryForm, LocatedReady, planForm};
+ghost use Rattle.writer.specs.Answers.{Tells, fitting, pad, full, plain, byTool, WritesForm, WritesOne, PacksForm};
 
 // A refusal: no octets, no bits, no tool.
 fn refused(why: Refusal) -> WriteAnswer
@@ -72,8 +75,21 @@ fn write_pad(out: &mut [u8]) -> WriteAnswer
     wrote(1, 8, 0)
 }
 
+// "ROOM means the chosen form's octets for a writer". Tools 1 to 4, which the look settles.
+fn write_whole(out: &mut [u8], samples: &[u8], n: usize, tool: u32, bits: usize) -> WriteAnswer
+    requires { ⌜ (FrameIn (now samples) n) × ((1 ≤ tool) × (tool ≤ 4)) ⌝ }
+    requires { ⌜ (bits ≡ length (bitsOf (wholeOctets tool (take n (now samples))))) × (bits ≤ 1000000000) ⌝ }
+    ensures { λ r. ⌜ WritesForm (plain tool (take n (now (samples .entry)))) (now (out .entry)) (now (out .exit)) r ⌝ }
+{
+    if out.len() < octets_for(bits) {
+        return refused(Refusal::Room);
+    }
+    let octets = put_whole(out, samples, n, tool);
+    wrote(octets, bits, tool)
+}
+
 // A plan that needs no runs put out: whole octets, or fractional-bit with its row. Their number comes back; the answer is the caller's,
-// so that it stays in registers.
+// so that it stays in registers where nothing of this is called.
 fn put_plain(out: &mut [u8], samples: &[u8], n: usize, mask: u8, p: Plain) -> usize
     requires { ⌜ (FrameIn (now samples) n) × (isMask mask ≡ true) ⌝ }
     requires { ⌜ PlainIs mask (take n (now samples)) p ⌝ }
@@ -87,18 +103,11 @@ fn put_plain(out: &mut [u8], samples: &[u8], n: usize, mask: u8, p: Plain) -> us
     put_fractional(out, samples, n, mask, p.row)
 }
 
-// "ROOM means the chosen form's octets for a writer": room, and then the plan put out.
-fn write_plain(
-    out: &mut [u8],
-    samples: &[u8],
-    n: usize,
-    mask: u8,
-    set: u32,
-    p: Plain,
-) -> WriteAnswer
+// Room, and then such a plan put.
+fn write_plain(out: &mut [u8], samples: &[u8], n: usize, mask: u8, set: u32, p: Plain) -> WriteAnswer
     requires { ⌜ (FrameIn (now samples) n) × (isMask mask ≡ true) ⌝ }
     requires { ⌜ (Chosen mask set (take n (now samples)) (p .choice)) × (PlainIs mask (take n (now samples)) p) ⌝ }
-    ensures { λ r. ⌜ WritesChosen mask set (take n (now (samples .entry))) (now (out .entry)) (now (out .exit)) r ⌝ }
+    ensures { λ r. ⌜ WritesForm (full mask set (take n (now (samples .entry)))) (now (out .entry)) (now (out .exit)) r ⌝ }
 {
     let choice = p.choice;
     if out.len() < octets_for(choice.bits) {
@@ -108,94 +117,104 @@ fn write_plain(
     wrote(octets, choice.bits, choice.tool)
 }
 
-// A plan that needs flags or runs put out. Their number comes back.
-fn put_by_runs(
-    out: &mut [u8],
-    n: usize,
-    p: ByRuns,
-    row: &[u64; 8],
-    a: &[u16; 321],
-    b: &[u16; 321],
-    c: &[u16; 321],
-) -> usize
-    requires { ⌜ RunsReady n p (now row) (now a) (now b) (now c) ⌝ }
-    requires { ⌜ length (runsForm n p (now row) (now a) (now b) (now c)) ≤ 8 * length (now out) ⌝ }
-    ensures { λ r. ⌜ Packs n p (now (row .entry)) (now (a .entry)) (now (b .entry)) (now (c .entry))
-        (now (out .entry)) (now (out .exit)) r ⌝ }
+// Room, and then binary put, from the row of flags.
+fn write_binary(out: &mut [u8], n: usize, bits: usize, row: &[u64; 8]) -> WriteAnswer
+    requires { ⌜ (RowReady n (now row)) × (bits ≤ 1000000000) ⌝ }
+    requires { ⌜ bits ≡ length (binaryForm n (now row)) ⌝ }
+    ensures { λ r. ⌜ WritesForm (byTool 5 (binaryForm n (now (row .entry)))) (now (out .entry)) (now (out .exit)) r ⌝ }
 {
-    match p {
-        ByRuns::Binary(_) => put_binary(out, n, row),
-        ByRuns::Rice(z) => put_rice(out, n, z, a),
-        ByRuns::Values(w) => put_located(out, n, w, a, b, c),
-    }
-}
-
-// The same: room, and then the plan put out.
-fn write_by_runs(
-    out: &mut [u8],
-    n: usize,
-    p: ByRuns,
-    row: &[u64; 8],
-    a: &[u16; 321],
-    b: &[u16; 321],
-    c: &[u16; 321],
-) -> WriteAnswer
-    requires { ⌜ (RunsReady n p (now row) (now a) (now b) (now c)) × (choiceBy p .bits ≤ 1000000000) ⌝ }
-    requires { ⌜ choiceBy p .bits ≡ length (runsForm n p (now row) (now a) (now b) (now c)) ⌝ }
-    ensures { λ r. ⌜ Wrote n p (now (row .entry)) (now (a .entry)) (now (b .entry)) (now (c .entry))
-        (now (out .entry)) (now (out .exit)) r ⌝ }
-{
-    let choice = choice_by(p);
-    if out.len() < octets_for(choice.bits) {
+    if out.len() < octets_for(bits) {
         return refused(Refusal::Room);
     }
-    let octets = put_by_runs(out, n, p, row, a, b, c);
-    wrote(octets, choice.bits, choice.tool)
+    let octets = put_binary(out, n, row);
+    wrote(octets, bits, 5)
+}
+
+// Room, and then Rice put, from its runs.
+fn write_rice(out: &mut [u8], n: usize, plan: Zeros, runs: &[u16; 321]) -> WriteAnswer
+    requires { ⌜ (RiceReady n plan (now runs)) × (plan .bits ≤ 1000000000) ⌝ }
+    requires { ⌜ plan .bits ≡ length (riceFormOf n plan (now runs)) ⌝ }
+    ensures { λ r. ⌜ WritesForm (byTool 6 (riceFormOf n plan (now (runs .entry)))) (now (out .entry)) (now (out .exit)) r ⌝ }
+{
+    let bits = plan.bits;
+    if out.len() < octets_for(bits) {
+        return refused(Refusal::Room);
+    }
+    let octets = put_rice(out, n, plan, runs);
+    wrote(octets, bits, 6)
 }
 
 // A frame of the two zeros: plan, room, put. Its flags are gathered once, for the plan and for binary.
 fn write_zeros(out: &mut [u8], samples: &[u8], n: usize, mask: u8, set: u32) -> WriteAnswer
     requires { ⌜ (FrameIn (now samples) n) × (isMask mask ≡ true) ⌝ }
     requires { ⌜ (Left mask set (take n (now samples))) × (twoZeros mask (take n (now samples)) ≡ true) ⌝ }
-    ensures { λ r. ⌜ WritesChosen mask set (take n (now (samples .entry))) (now (out .entry)) (now (out .exit)) r ⌝ }
+    ensures { λ r. ⌜ WritesForm (full mask set (take n (now (samples .entry)))) (now (out .entry)) (now (out .exit)) r ⌝ }
 {
     let row = others(samples, n / 40, plus_zero(mask));
     let mut runs = [0u16; 321];
     let plan = zeros_plan(samples, n, mask, set, &row, &mut runs);
     match plan {
-        Plan::Direct(p) => write_plain(out, samples, n, mask, set, p),
-        Plan::Runs(r) => write_by_runs(out, n, r, &row, &runs, &runs, &runs),
+        ZerosPlan::Direct(p) => write_plain(out, samples, n, mask, set, p),
+        ZerosPlan::Binary(bits) => write_binary(out, n, bits, &row),
+        ZerosPlan::Rice(z) => write_rice(out, n, z, &runs),
     }
+}
+
+// Room, and then value-location put, from the runs of its values.
+fn write_values(
+    out: &mut [u8],
+    n: usize,
+    plan: Located,
+    a: &[u16; 321],
+    b: &[u16; 321],
+    c: &[u16; 321],
+) -> WriteAnswer
+    requires { ⌜ (LocatedReady plan (now a) (now b) (now c)) × (plan .bits ≤ 1000000000) ⌝ }
+    requires { ⌜ plan .bits ≡ length (planForm n plan (now a) (now b) (now c)) ⌝ }
+    ensures { λ r. ⌜ WritesForm (byTool 7 (planForm n plan (now (a .entry)) (now (b .entry)) (now (c .entry))))
+        (now (out .entry)) (now (out .exit)) r ⌝ }
+{
+    let bits = plan.bits;
+    if out.len() < octets_for(bits) {
+        return refused(Refusal::Room);
+    }
+    let octets = put_located(out, n, plan, a, b, c);
+    wrote(octets, bits, 7)
 }
 
 // A frame from -2 to 1 that has a 1 or a -2: plan, room, put.
 fn write_near(out: &mut [u8], samples: &[u8], n: usize, mask: u8, set: u32) -> WriteAnswer
     requires { ⌜ (FrameIn (now samples) n) × (isMask mask ≡ true) ⌝ }
     requires { ⌜ (Left mask set (take n (now samples))) × (NearFrame mask (take n (now samples))) ⌝ }
-    ensures { λ r. ⌜ WritesChosen mask set (take n (now (samples .entry))) (now (out .entry)) (now (out .exit)) r ⌝ }
+    ensures { λ r. ⌜ WritesForm (full mask set (take n (now (samples .entry)))) (now (out .entry)) (now (out .exit)) r ⌝ }
 {
-    let row = [0u64; 8];
     let mut a = [0u16; 321];
     let mut b = [0u16; 321];
     let mut c = [0u16; 321];
     let plan = near_plan(samples, n, mask, set, &mut a, &mut b, &mut c);
     match plan {
-        Plan::Direct(p) => write_plain(out, samples, n, mask, set, p),
-        Plan::Runs(r) => write_by_runs(out, n, r, &row, &a, &b, &c),
+        NearPlan::Last(p) => write_plain(out, samples, n, mask, set, p),
+        NearPlan::Values(w) => write_values(out, n, w, &a, &b, &c),
     }
 }
 
 // What is planned is put out. Arrays for runs are made only where a plan needs them.
 fn write_chosen(out: &mut [u8], samples: &[u8], n: usize, mask: u8, set: u32) -> WriteAnswer
     requires { ⌜ (FrameIn (now samples) n) × (isMask mask ≡ true) ⌝ }
-    ensures { λ r. ⌜ WritesChosen mask set (take n (now (samples .entry))) (now (out .entry)) (now (out .exit)) r ⌝ }
+    ensures { λ r. ⌜ WritesForm (full mask set (take n (now (samples .entry)))) (now (out .entry)) (now (out .exit)) r ⌝ }
 {
-    let seen = look(samples, n, mask, set);
-    match seen {
-        Look::Known(p) => write_plain(out, samples, n, mask, set, p),
-        Look::OfZeros => write_zeros(out, samples, n, mask, set),
-        Look::NearZero => write_near(out, samples, n, mask, set),
+    let seen = choose(samples, n, mask, set);
+    if seen.tool != 0 {
+        return write_whole(out, samples, n, seen.tool, seen.bits);
     }
+    if seen.zeros {
+        return write_zeros(out, samples, n, mask, set);
+    }
+    if is_near(seen.close, n) {
+        return write_near(out, samples, n, mask, set);
+    }
+    let last = last_of(samples, n, mask, set);
+    write_plain(out, samples, n, mask, set, last)
 }
 
 // After LAW and SET: LENGTH, and ROOM last.

@@ -1,18 +1,20 @@
--- The zeros' plan, put without runs or with them (Planned, Writing).
+-- The zeros' plan as it was told apart, and its form (Planned, Writing).
 use borrow.Author.Needs.{needs}
 use Prim.Native.Nat.{ℕ, _/_}
 use mathlib.Core.Path.{_≡_, refl, ap}
 use mathlib.Core.List.{List, map}
 use lib.ListN.{length, take}
 use Rattle.rules.specs.Zeros.{flagOf}
+use Rattle.rules.specs.Chooses.{formOf}
 use Rattle.write_scan.specs.Rows.{RowIs}
 use Rattle.write_scan.proofs.Tests.{mask-seven}
 use Rattle.write_zeros.proofs.Turning.{row-flags}
-use Rattle.write_choice.specs.declared.plans.Plan.{Plan}
-use Rattle.write_choice.specs.Plans.{Planned}
-use Rattle.write_forms.proofs.Form.{cells-length}
+use Rattle.write_choice.specs.declared.plans.ZerosPlan.{ZerosPlan}
+use Rattle.write_choice.specs.Plans.{ZerosPlanned}
+use Rattle.write_forms.specs.Forms.{binaryForm}
+use Rattle.write_forms.proofs.Form.{cells-length, rice-ready, rice-form, binary-form}
 use Rattle.writer.specs.Answers.{fitting}
-use Rattle.writer.proofs.Planned.{told-apart, runs-full, runs-bits, runs-ready}
+use Rattle.writer.proofs.Planned.{zeros-told, tool-full, tool-bits}
 use Rattle.writer.proofs.Writing.{writes-as}
 use Rattle.writer.proofs.write_zeros.Statement.{statement}
 use Rattle.writer.proofs.write_zeros.Tie as tie
@@ -40,38 +42,68 @@ module _ (c : tie.After-zeros-plan) where
   abbrev o : tie.After-others
   o = c .before .before .before
 
-  abbrev runs : List ℕ
-  runs = c .zeros-plan .last .1 .1 .1 .1 .1 .0
+  abbrev begin : tie.Start
+  begin = s o
 
-  planned : {p : Plan} → c .zeros-plan .result ≡ p → Planned (s o .args .mask) (s o .args .set) (frame (s o)) p (o .others .result) runs runs runs
-  planned e = told-apart e (c .zeros-plan .ensures runs runs)
+  size : length (frame begin) ≡ begin .args .n
+  size = cells-length (begin .pre .0 .0)
 
-  size : length (frame (s o)) ≡ s o .args .n
-  size = cells-length (s o .pre .0 .0)
+  planned : {p : ZerosPlan} → c .zeros-plan .result ≡ p
+      → ZerosPlanned (begin .args .mask) (begin .args .set) (frame begin) p (o .others .result) (c .zeros-plan .last .1 .1 .1 .1 .1 .0)
+  planned e = zeros-told e (c .zeros-plan .ensures)
 
 write-plain-requires : tie.Need-write-plain-requires
 write-plain-requires c κs =
     let z = c .before .before .before .before in
     let p = planned z (c .before .before .plan .given .1) in
-    (s (o z) .pre .0, (p .chosen, p .needs))
+    (begin z .pre .0, (p .chosen, p .needs))
 
 returns : tie.Need-returns
 returns c = c .before .before .write-plain .ensures
 
-write-by-runs-requires : tie.Need-write-by-runs-requires
-write-by-runs-requires c κs =
-    let t = c .before .before .before .before .before .before in
+-- binary and Rice as they are put are the tool's forms
+module _ (z : tie.After-zeros-plan) where
+  abbrev n : ℕ
+  n = begin z .args .n
+
+  binary : binaryForm n (o z .others .result) ≡ formOf (begin z .args .mask) 5 (frame (begin z))
+  binary = binary-form n (frame (begin z)) (begin z .args .mask) (size z) (words (o z))
+
+write-binary-requires : tie.Need-write-binary-requires
+write-binary-requires c κs =
+    let t = c .before .before .before in
     let z = t .before .before in
     let p = planned z (t .plan2 .given .1) in
-    ((runs-ready (s (o z) .pre .0 .0) _ p, p .chosen .small), runs-bits (size z) _ p)
+    let row = words (o z) in
+    ((record { few = begin z .pre .0 .0 .few; size = row .size; small = row .small }, p .chosen .small),
+    tool-bits 5 (p .chosen) (binary z))
 
 returns-2 : tie.Need-returns-2
 returns-2 c =
-    let t = c .before .before .before .before .before .before .before .before .before in
+    let t = c .before .before .before .before .before .before in
     let z = t .before .before in
-    writes-as (c .before .before .write-by-runs .ensures)
-    (ap (fitting (length (s (o z) .args .out .now))) (runs-full (size z) _ (planned z (t .plan2 .given .1))))
+    let p = planned z (t .plan2 .given .1) in
+    writes-as (c .before .before .write-binary .ensures)
+    (ap (fitting (length (begin z .args .out .now))) (tool-full 5 (p .chosen) (binary z)))
+
+write-rice-requires : tie.Need-write-rice-requires
+write-rice-requires c κs =
+    let t = c .before .before .before in
+    let z = t .before .before in
+    let p = planned z (t .plan3 .given .1) in
+    let rice = rice-form (n z) (frame (begin z)) (size z) (p .needs) in
+    ((rice-ready (begin z .pre .0 .0) (p .needs), p .chosen .small), tool-bits 6 (p .chosen) rice)
+
+returns-3 : tie.Need-returns-3
+returns-3 c =
+    let t = c .before .before .before .before .before .before in
+    let z = t .before .before in
+    let p = planned z (t .plan3 .given .1) in
+    let rice = rice-form (n z) (frame (begin z)) (size z) (p .needs) in
+    writes-as (c .before .before .write-rice .ensures)
+    (ap (fitting (length (begin z .args .out .now))) (tool-full 6 (p .chosen) rice))
 
 pub write-zeros-spec : {M : Type 1} → statement M
 write-zeros-spec = tie.close (tie.spec plus-zero-requires (λ c κs. search needs) zeros-plan-requires (λ c. search needs)
-    write-plain-requires (λ c. search needs) write-by-runs-requires (λ c. search needs) returns (λ c. search needs) returns-2)
+    write-plain-requires (λ c. search needs) write-binary-requires (λ c. search needs) write-rice-requires (λ c. search needs)
+    returns (λ c. search needs) returns-2 (λ c. search needs) returns-3)

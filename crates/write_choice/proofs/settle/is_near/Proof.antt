@@ -1,8 +1,8 @@
 use borrow.Author.Needs.{needs}
 use mathlib.Core.Path.{refl}
 use borrow.Author.Tests.{not-true, not-false}
-use Rattle.write_choice.proofs.is_near.Statement.{statement}
-use Rattle.write_choice.proofs.is_near.Tie as tie
+use Rattle.write_choice.proofs.settle.is_near.Statement.{statement}
+use Rattle.write_choice.proofs.settle.is_near.Tie as tie
 
 returns : tie.Need-returns
 returns c = rw (not-true (c .before .args .close) (c .if1 .taken)) refl
