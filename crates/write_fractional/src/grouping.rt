@@ -11,7 +11,7 @@ ghost use Rattle.rules.specs.Samples.{signed};
 ghost use Rattle.rules.specs.Fractional.{digitFor, groupOf, bitsFor, Packs, ofDigits, groupsForm};
 ghost use Rattle.write_scan.specs.Looks.{FrameIn};
 ghost use Rattle.write_bits.specs.Puts.{Able, Puts};
-ghost use Rattle.write_fractional.specs.Digits.{digitsIn, same, DigitsFit};
+ghost use Rattle.write_fractional.specs.Digits.{digitsIn, same, DigitsFit, bodyForm};
 
 // The difference, 0 where b is more.
 fn less(a: u8, b: u8) -> u8
@@ -40,7 +40,8 @@ fn digit_of(x: u8, mask: u8, low: u8, below: u8) -> u8
 // The digits of n samples. Octets, so that sixteen go to a register.
 fn digits_of(samples: &[u8], n: usize, mask: u8, row: Row, digits: &mut [u8; 320])
     requires { ⌜ (n ≤ length (now samples)) × (n ≤ 320) × (length (now digits) ≡ 320) × (row .below ≤ row .low) × (row .low ≤ 4) ⌝ }
-    ensures { λ _. ⌜ (take n (now (digits .exit)) ≡ digitsIn mask row (take n (now (samples .entry)))) × (length (now (digits .exit)) ≡ 320) ⌝ }
+    ensures { λ _. ⌜ (take n (now (digits .exit)) ≡ digitsIn mask row (take n (now (samples .entry))))
+        × (length (now (digits .exit)) ≡ 320) ⌝ }
 {
     let low = row.low as u8;
     let below = row.below as u8;
@@ -101,8 +102,8 @@ fn put_groups(
 pub fn put_body(out: &mut [u8], p: Pen, samples: &[u8], n: usize, mask: u8, row: Row) -> Pen
     requires { ⌜ FrameIn (now samples) n ⌝ }
     requires { ⌜ DigitsFit mask row (take n (now samples)) ⌝ }
-    requires { ⌜ Able (now out) p (length (groupsForm (row .radix) (groupOf (row .radix)) (bitsFor (row .radix)) (n / groupOf (row .radix)) (digitsIn mask row (take n (now samples))))) ⌝ }
-    ensures { λ q. ⌜ Puts (now (out .entry)) p (groupsForm (row .radix) (groupOf (row .radix)) (bitsFor (row .radix)) (n / groupOf (row .radix)) (digitsIn mask row (take n (now (samples .entry))))) (now (out .exit)) q ⌝ }
+    requires { ⌜ Able (now out) p (length (bodyForm mask row n (take n (now samples)))) ⌝ }
+    ensures { λ q. ⌜ Puts (now (out .entry)) p (bodyForm mask row n (take n (now (samples .entry)))) (now (out .exit)) q ⌝ }
 {
     let mut digits = [0u8; 320];
     digits_of(samples, n, mask, row, &mut digits);
