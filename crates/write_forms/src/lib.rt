@@ -181,7 +181,8 @@ fn put_values(
 ) -> Pen
     requires { ⌜ ValuesReady plan (now a) (now b) (now c) ⌝ }
     requires { ⌜ Able (now out) p (length (valuesFormOf plan (now a) (now b) (now c))) ⌝ }
-    ensures { λ r. ⌜ Puts (now (out .entry)) p (valuesFormOf plan (now (a .entry)) (now (b .entry)) (now (c .entry))) (now (out .exit)) r ⌝ }
+    ensures { λ r. ⌜ Puts (now (out .entry)) p (valuesFormOf plan (now (a .entry)) (now (b .entry)) (now (c .entry)))
+        (now (out .exit)) r ⌝ }
 {
     let first = plan.first;
     let q = put_value(out, p, first, a);
@@ -208,7 +209,8 @@ fn put_located_body(
 ) -> Pen
     requires { ⌜ LocatedReady plan (now a) (now b) (now c) ⌝ }
     requires { ⌜ Able (now out) p (length (locatedFormOf plan (now a) (now b) (now c))) ⌝ }
-    ensures { λ r. ⌜ Puts (now (out .entry)) p (locatedFormOf plan (now (a .entry)) (now (b .entry)) (now (c .entry))) (now (out .exit)) r ⌝ }
+    ensures { λ r. ⌜ Puts (now (out .entry)) p (locatedFormOf plan (now (a .entry)) (now (b .entry)) (now (c .entry)))
+        (now (out .exit)) r ⌝ }
 {
     let q = put(out, p, 3, plan.row as u64 * 2 + plan.flag as u64);
     put_values(out, q, plan, a, b, c)

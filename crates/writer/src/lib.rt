@@ -104,7 +104,14 @@ fn put_plain(out: &mut [u8], samples: &[u8], n: usize, mask: u8, p: Plain) -> us
 }
 
 // Room, and then such a plan put.
-fn write_plain(out: &mut [u8], samples: &[u8], n: usize, mask: u8, set: u32, p: Plain) -> WriteAnswer
+fn write_plain(
+    out: &mut [u8],
+    samples: &[u8],
+    n: usize,
+    mask: u8,
+    set: u32,
+    p: Plain,
+) -> WriteAnswer
     requires { ⌜ (FrameIn (now samples) n) × (isMask mask ≡ true) ⌝ }
     requires { ⌜ (Chosen mask set (take n (now samples)) (p .choice)) × (PlainIs mask (take n (now samples)) p) ⌝ }
     ensures { λ r. ⌜ WritesForm (full mask set (take n (now (samples .entry)))) (now (out .entry)) (now (out .exit)) r ⌝ }

@@ -74,9 +74,10 @@ write-binary-requires c κs =
     let t = c .before .before .before in
     let z = t .before .before in
     let p = planned z (t .plan2 .given .1) in
-    let row = words (o z) in
-    ((record { few = begin z .pre .0 .0 .few; size = row .size; small = row .small }, p .chosen .small),
-    tool-bits 5 (p .chosen) (binary z))
+    let row = words (o z) in (
+      (record { few = begin z .pre .0 .0 .few; size = row .size; small = row .small }, p .chosen .small),
+      tool-bits 5 (p .chosen) (binary z),
+    )
 
 returns-2 : tie.Need-returns-2
 returns-2 c =

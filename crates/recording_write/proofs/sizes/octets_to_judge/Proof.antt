@@ -21,5 +21,4 @@ returns-2 : tie.Need-returns-2
 returns-2 c = let s = start (c .before .before) in measured-settles (s .args .room) (c .all-octets .ensures)
 
 pub octets-to-judge-spec : {M : Type 1} → statement M
-octets-to-judge-spec = tie.close (tie.spec (λ c κs. search needs) (λ c. search needs) returns (λ c κs. search needs)
-    all-octets-requires returns-2)
+octets-to-judge-spec = tie.close (tie.spec (λ c κs. search needs) (λ c. search needs) returns (λ c κs. search needs) returns-2)
