@@ -23,7 +23,7 @@ use Rattle.write_located.specs.Rows.{LocatedIs}
 use Rattle.write_zeros.specs.Rice.{RiceFor}
 use Rattle.write_offers.specs.Ties.{taken, BetterIs, ChosenIs}
 use Rattle.write_choice.specs.declared.plans.Plain.{Plain}
-use Rattle.write_choice.specs.declared.plans.ZerosPlan.the-variants.{Direct, Binary, Rice}
+use Rattle.write_choice.specs.declared.plans.ZerosPlan.the-variants.{Whole, Binary, Rice}
 use Rattle.write_choice.specs.declared.plans.NearPlan.the-variants.{Last, Values}
 use Rattle.write_choice.specs.Plans.{measured, Left, Chosen, LastIs}
 use Rattle.write_choice.specs.Plans.{ZerosPlanned, zerosBy, NearPlanned, sevenOr, nearBy}
@@ -97,7 +97,7 @@ zeros-planned {mask} {set} {n} {b} {s} {row} {runs} {rice} {one} {five = five} {
         rw (c₅ .tool) (among mask s set P 5 _ (λ x y. absurd (x refl)) (among mask s set P 6 _ (λ x y. absurd (y refl)) last))
 
     go : (x : Bool) → eqb (five .tool) 5 ≡ x → (y : Bool) → eqb (five .tool) 6 ≡ y
-        → ZerosPlanned mask set s (cond x (Binary (five .bits)) (cond y (Rice rice) (Direct (record { choice = five; row = 0 })))) row runs
+        → ZerosPlanned mask set s (cond x (Binary (five .bits)) (cond y (Rice rice) (Whole five))) row runs
     go true x y z =
         let e : chosenTool mask set s ≡ 5 = later ∙ sym (c₅ .tool) ∙ eqb-true _ _ x in
         let five-bits : five .bits ≡ 8 + n = c₅ .bits ∙ ap (λ (t : ℕ). length (formOf mask t s)) (sym later ∙ e) ∙ sym (binary-bits mask s size) in
@@ -109,10 +109,7 @@ zeros-planned {mask} {set} {n} {b} {s} {row} {runs} {rice} {one} {five = five} {
         record { chosen = chosen-is 6 e (i .bits ∙ rice-form mask s) (riced .small); needs = i }
     go false x false z =
         let is : five .tool ≡ 1 = kind (eqb-false _ _ x) (eqb-false _ _ z) in
-        record {
-          chosen = chosen-among later c₅;
-          needs = record { row = λ w. absurd (omega (arith, w, is)); kind = λ w. (omega (arith, is), omega (arith, is)) };
-        }
+        record { chosen = chosen-among later c₅; needs = (omega (arith, is), omega (arith, is)) }
 
 short-off : (mask : ℕ) (s : List ℕ) → length s < 80 → applies mask 7 s ≡ false
 unfolding applies

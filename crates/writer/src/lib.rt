@@ -161,7 +161,7 @@ fn write_zeros(out: &mut [u8], samples: &[u8], n: usize, mask: u8, set: u32) -> 
     let mut runs = [0u16; 321];
     let plan = zeros_plan(samples, n, mask, set, &row, &mut runs);
     match plan {
-        ZerosPlan::Direct(p) => write_plain(out, samples, n, mask, set, p),
+        ZerosPlan::Whole(c) => write_whole(out, samples, n, c.tool, c.bits),
         ZerosPlan::Binary(bits) => write_binary(out, n, bits, &row),
         ZerosPlan::Rice(z) => write_rice(out, n, z, &runs),
     }
@@ -189,7 +189,8 @@ fn write_values(
     wrote(octets, bits, 7)
 }
 
-// A frame from -2 to 1 that has a 1 or a -2: plan, room, put.
+// A frame from -2 to 1 that has a 1 or a -2: plan, room, put. What is last is put from here and not by `write_plain`, so that both give
+// their answer in registers.
 fn write_near(out: &mut [u8], samples: &[u8], n: usize, mask: u8, set: u32) -> WriteAnswer
     requires { ⌜ (FrameIn (now samples) n) × (isMask mask ≡ true) ⌝ }
     requires { ⌜ (Left mask set (take n (now samples))) × (NearFrame mask (take n (now samples))) ⌝ }
@@ -200,7 +201,14 @@ fn write_near(out: &mut [u8], samples: &[u8], n: usize, mask: u8, set: u32) -> W
     let mut c = [0u16; 321];
     let plan = near_plan(samples, n, mask, set, &mut a, &mut b, &mut c);
     match plan {
-        NearPlan::Last(p) => write_plain(out, samples, n, mask, set, p),
+        NearPlan::Last(p) => {
+            let choice = p.choice;
+            if out.len() < octets_for(choice.bits) {
+                return refused(Refusal::Room);
+            }
+            let octets = put_plain(out, samples, n, mask, p);
+            wrote(octets, choice.bits, choice.tool)
+        }
         NearPlan::Values(w) => write_values(out, n, w, &a, &b, &c),
     }
 }

@@ -52,14 +52,11 @@ module _ (c : tie.After-zeros-plan) where
       → ZerosPlanned (begin .args .mask) (begin .args .set) (frame begin) p (o .others .result) (c .zeros-plan .last .1 .1 .1 .1 .1 .0)
   planned e = zeros-told e (c .zeros-plan .ensures)
 
-write-plain-requires : tie.Need-write-plain-requires
-write-plain-requires c κs =
-    let z = c .before .before .before .before in
-    let p = planned z (c .before .before .plan .given .1) in
-    (begin z .pre .0, (p .chosen, p .needs))
+write-whole-requires : tie.Need-write-whole-requires
+write-whole-requires c κs = ?
 
 returns : tie.Need-returns
-returns c = c .before .before .write-plain .ensures
+returns c = ?
 
 -- binary and Rice as they are put are the tool's forms
 module _ (z : tie.After-zeros-plan) where
