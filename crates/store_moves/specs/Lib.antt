@@ -3,3 +3,6 @@
 --   Next: the next move of closing up, a greeting moved, a greeting renumbered.     Calls: the contract of each public call.
 pub mod Moves
 pub mod Record
+pub mod Next
+pub mod Calls
+pub mod Steps
