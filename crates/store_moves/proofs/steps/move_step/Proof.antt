@@ -48,7 +48,8 @@ module _ (c : tie.After-hop-or-lift) where
 
 tell-requires : tie.Need-tell-requires
 tell-requires c κs =
-    let went = c .before .before .before .before .before .before in
+    let lent = c .before .before .before in
+    let went = lent .before .before .before in
     let t = told-moving went in
     let f = moving went .state .given .1 in (
       page-of (block t) (spare t) (words t) (tells t) f,

@@ -23,7 +23,8 @@ module _ (c : tie.Else3) where
 
 returns-3 : tie.Need-returns-3
 returns-3 c =
-    let a = c .before .before .before .before .before .before .args in
+    let second = c .before .before in
+    let a = second .before .before .before .before .args in
     bad-seven (a .size) (a .spare) (a .words .now) (omega arith) (omega arith) (omega arith)
 
 returns-4 : tie.Need-returns-4
