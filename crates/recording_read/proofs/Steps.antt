@@ -1,5 +1,5 @@
--- Items one by one: the steps of `itemsFrom` (`items-last`, `items-ended`, `items-full`, `items-off`, `items-one`), and items before
--- the rest of a reading (`after`).
+-- Items one by one: the steps of `itemsFrom` (`items-last`, `items-ended`, `items-full`, `items-off`, `items-one`), by the places that are
+-- left (`items-stop`, `item-taken`), and items before the rest of a reading (`after`).
 use Prim.Native.Nat.{ℕ, zero, suc, _+_, _-_, _≤_, _<_}
 use native.Mathlib.Omega.{arith}
 use mathlib.Core.Path.{_≡_, refl, sym, ap, _∙_}
@@ -7,7 +7,7 @@ use mathlib.Core.List.{List, [], _∷_, _++_, append-assoc, append-nil}
 use mathlib.Core.Bool.{Bool, true, false, cond}
 use lib.ListN.{length, getD, drop}
 use lib.Dec.{eqb}
-use borrow.Author.Tests.{le-leb, lt-leb, ne-eqb}
+use borrow.Author.Tests.{le-leb, lt-leb, ne-eqb, eqb-true, eqb-false}
 use Rattle.rules.specs.declared.Refusal.{Refusal}
 use Rattle.rules.specs.declared.Refusal.the-variants as rules
 use Rattle.rules.specs.Samples.{maskOf}
@@ -17,7 +17,7 @@ use Rattle.recording.specs.declared.Refusal.the-variants.{Frame}
 use Rattle.recording.specs.declared.Ending.the-variants.{Done, Refused}
 use Rattle.recording.specs.Remembered.{lostOctet, erased}
 use Rattle.recording.specs.Items.{Item, sound, lost, Recorded, stopped, before, itemOf, roomTaken, afterRead, itemsFrom, soundOf, soundIn}
-use Rattle.recording_read.specs.Turns.{Step, takes, stops, frameStep, itemStep}
+use Rattle.recording_read.specs.Turns.{Step, takes, stops, frameStep, itemStep, itemIn}
 
 -- what a step leads to: the item and then the rest, or the end
 abbrev pub byStep : Step → ℕ → (Item → ℕ → Recorded) → Recorded
@@ -95,3 +95,25 @@ module _ (octets : List ℕ) (law set : ℕ) where
         → itemsFrom more octets law set at room places ≡ before i (itemsFrom n octets law set (at + used) left fewer)
     items-one p i used left fewer q l f =
         items-step p ∙ ap (λ (s : Step). byStep s at (restFrom n at room places)) q ∙ rw (l, f) refl
+
+    -- with the places that are left: ROOM where none is
+    pub items-stop : (why : Refusal) (bit : ℕ) → itemIn octets law set at room places ≡ stops why bit
+        → itemsFrom more octets law set at room places ≡ stopped (Refused (Frame why)) at bit
+    items-stop why bit q = go (eqb places 0) refl q
+      where
+        go : (b : Bool) → eqb places 0 ≡ b → cond b (stops rules.Room 0) (itemStep octets law set at room) ≡ stops why bit
+            → itemsFrom more octets law set at room places ≡ stopped (Refused (Frame why)) at bit
+        go true e q =
+            let w : rules.Room ≡ why = cc in
+            let z : 0 ≡ bit = cc in
+            items-full (eqb-true places 0 e) ∙ rw (w, z)
+        go false e q = let n = eqb-false places 0 e in items-off (omega arith) why bit q
+
+  pub item-taken : (at room places : ℕ) {i : Item} {used : ℕ} → itemIn octets law set at room places ≡ takes i used
+      → (1 ≤ places) × (itemStep octets law set at room ≡ takes i used)
+  item-taken at room places {i} {used} q = go (eqb places 0) refl q
+    where
+      go : (b : Bool) → eqb places 0 ≡ b → cond b (stops rules.Room 0) (itemStep octets law set at room) ≡ takes i used
+          → (1 ≤ places) × (itemStep octets law set at room ≡ takes i used)
+      go true e q = let z : _≡_ {A = ℕ} 0 1 = cc in absurd (omega arith)
+      go false e q = let n = eqb-false places 0 e in (omega arith, q)

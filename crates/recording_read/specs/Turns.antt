@@ -6,6 +6,7 @@ use mathlib.Core.Bool.{cond}
 use lib.ListN.{length, getD, take, drop}
 use lib.Dec.{eqb}
 use Rattle.rules.specs.declared.Refusal.{Refusal}
+use Rattle.rules.specs.declared.Refusal.the-variants.{Room}
 use Rattle.rules.specs.declared.Ending.{Ending}
 use Rattle.rules.specs.declared.Ending.the-variants.{Done, Refused}
 use Rattle.rules.specs.Samples.{maskOf}
@@ -28,6 +29,10 @@ frameStep mask (refuse w bit) = stops w bit
 abbrev pub itemStep : List ℕ → ℕ → ℕ → ℕ → ℕ → Step
 itemStep octets law set at room =
     cond (eqb (getD octets at 0) lostOctet) (takes (lost 0) 1) (frameStep (maskOf law) (readOne (drop at octets) law set room))
+
+-- where so many places are left for items: "judged before that item is looked at"
+abbrev pub itemIn : List ℕ → ℕ → ℕ → ℕ → ℕ → ℕ → Step
+itemIn octets law set at room left = cond (eqb left 0) (stops Room 0) (itemStep octets law set at room)
 
 -- what is told of it
 abbrev pub stepEnd : Step → Ending

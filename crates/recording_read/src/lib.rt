@@ -6,6 +6,7 @@ ghost use Prim.Native.Nat.{_+_, _-_, _≤_, _<_};
 ghost use mathlib.Core.List.{_++_};
 ghost use lib.ListN.{length, getD, take, drop};
 ghost use lib.Dec.{eqb};
+ghost use Rattle.rules.specs.declared.Refusal.the-variants.{Room};
 ghost use Rattle.rules.specs.Samples.{maskOf};
 ghost use Rattle.rules.specs.Chooses.{every};
 ghost use Rattle.rules.specs.Frame.{readOne};
@@ -14,8 +15,8 @@ ghost use Rattle.recording.specs.declared.Ending.the-variants.{Refused};
 ghost use Rattle.recording.specs.Remembered.{lostOctet, erased, headed, headingLength};
 ghost use Rattle.recording.specs.Items.{lost};
 ghost use Rattle.recording.specs.Calls.{ReadFile};
-ghost use Rattle.recording_read.specs.Turns.{takes, frameStep, itemStep, Tells, Turned};
-ghost use Rattle.recording_read.specs.Plays.{PlayOn, asHeaded, ReadItems};
+ghost use Rattle.recording_read.specs.Turns.{takes, stops, frameStep, itemIn, Tells, Turned};
+ghost use Rattle.recording_read.specs.Plays.{Awaits, Advances, PlayOn, asHeaded, ReadItems};
 use recording::Ending;
 use recording::FileRead;
 use recording::Refusal;
@@ -122,18 +123,35 @@ fn frame_turn(
     }
 }
 
-// The item at a place.
+// No place is left for an item: ROOM.
+fn full_turn() -> Turn
+    ensures { λ r. ⌜ Tells (stops Room 0) r ⌝ }
+{
+    Turn {
+        end: rules::Ending::Refused(rules::Refusal::Room),
+        octets: 0,
+        len: 0,
+        cell: 0,
+        bit: 0,
+    }
+}
+
+// The item at a place. ROOM also where no place is left for it as a number, "judged before that item is looked at".
 fn item_at(
     octets: &[u8],
     law: u32,
     set: u32,
     at: usize,
     room: usize,
+    left: usize,
     samples: &mut [u8; 320],
 ) -> Turn
     requires { ⌜ (at < length (now octets)) × (length (now samples) ≡ 320) ⌝ }
-    ensures { λ r. ⌜ Turned (itemStep (now (octets .entry)) law set at room) r (now (samples .exit)) ⌝ }
+    ensures { λ r. ⌜ Turned (itemIn (now (octets .entry)) law set at room left) r (now (samples .exit)) ⌝ }
 {
+    if left == 0 {
+        return full_turn();
+    }
     if is_mark(octets, at) {
         return lost_turn(1, 0);
     }
@@ -161,8 +179,46 @@ fn so_far(end: Ending, items: usize, place: usize, samples: usize, bit: usize) -
     }
 }
 
-// Item after item from place `at` on, so many at most; where no more are allowed it ends Done at its place. ROOM also where `cells` has no
-// place left, "judged before that item is looked at".
+// One item more after those that were read: its sound and its number are put behind theirs.
+fn play_one(
+    octets: &[u8],
+    law: u32,
+    set: u32,
+    p: Played,
+    out: &mut [u8],
+    cells: &mut [u16],
+    samples: &mut [u8; 320],
+) -> Played
+    requires { ⌜ Awaits (now octets) p (now out) (now cells) (now samples) ⌝ }
+    ensures { λ r. ⌜ Advances (now (octets .entry)) law set p (now (out .entry)) (now (out .exit)) (now (cells .entry))
+        (now (cells .exit)) (now (samples .exit)) r ⌝ }
+{
+    let count = p.items;
+    let to = p.samples;
+    let r = item_at(
+        octets,
+        law,
+        set,
+        p.place,
+        out.len() - to,
+        cells.len() - count,
+        samples,
+    );
+    let e = r.end;
+    match e {
+        rules::Ending::Refused(why) => {
+            let of = Refusal::Frame(why);
+            so_far(Ending::Refused(of), count, p.place, to, r.bit)
+        }
+        rules::Ending::Done => {
+            put_sound(samples, r.len, out, to);
+            cells[count] = r.cell;
+            so_far(Ending::Done, count + 1, p.place + r.octets, to + r.len, 0)
+        }
+    }
+}
+
+// Item after item from place `at` on, so many at most; where no more are allowed it ends Done at its place.
 pub fn play_on(
     octets: &[u8],
     law: u32,
@@ -175,36 +231,20 @@ pub fn play_on(
     ensures { λ r. ⌜ PlayOn (now (octets .entry)) law set at items (now (out .entry)) (now (out .exit)) (now (cells .entry)) (now (cells .exit)) r ⌝ }
 {
     let mut samples = [0u8; 320];
-    let mut place = at;
-    let mut to = 0;
-    let mut count = 0;
-    loop {
-        if items <= count {
-            return so_far(Ending::Done, count, place, to, 0);
-        }
-        if octets.len() <= place {
-            return so_far(Ending::Done, count, place, to, 0);
-        }
-        if cells.len() <= count {
-            let why = Refusal::Frame(rules::Refusal::Room);
-            return so_far(Ending::Refused(why), count, place, to, 0);
-        }
-        let r = item_at(octets, law, set, place, out.len() - to, &mut samples);
-        let e = r.end;
+    let mut p = so_far(Ending::Done, 0, at, 0, 0);
+    while p.items < items && p.place < octets.len() {
+        let next = play_one(octets, law, set, p, out, cells, &mut samples);
+        let e = next.end;
         match e {
-            rules::Ending::Refused(why) => {
-                let of = Refusal::Frame(why);
-                return so_far(Ending::Refused(of), count, place, to, r.bit);
+            Ending::Refused(_) => {
+                return next;
             }
-            rules::Ending::Done => {
-                put_sound(&samples, r.len, out, to);
-                cells[count] = r.cell;
-                place += r.octets;
-                to += r.len;
-                count += 1;
+            Ending::Done => {
+                p = next;
             }
         }
     }
+    p
 }
 
 // What the heading says: a law, or nothing that is one.

@@ -8,7 +8,7 @@ ghost use Rattle.rules.specs.Frame.{readOne};
 ghost use Rattle.rules.specs.Calls.{Walk, Walks};
 ghost use Rattle.rules.specs.Walk.{walkFrom};
 ghost use Rattle.reader.specs.Answers.{Fills};
-ghost use Rattle.walk.specs.Counting.{Steps, Counts};
+ghost use Rattle.walk.specs.Counting.{Steps, Awaits, Advances, Counts};
 use reader::Report;
 use rules::Ending;
 use rules::WalkAnswer;
@@ -96,10 +96,31 @@ pub fn walk_on(
     answer(Ending::Done, passed, place - at, room - left, place, 0)
 }
 
-// How a walk stops, and the refusal's bit.
-struct Stop {
-    end: Ending,
-    bit: usize,
+// One frame more of a walk, its samples put behind those that are kept.
+fn keep_one(octets: &[u8], law: u32, set: u32, w: WalkAnswer, out: &mut [u8]) -> WalkAnswer
+    requires { ⌜ Awaits (now octets) w (now out) ⌝ }
+    ensures { λ r. ⌜ Advances (now (octets .entry)) law set w (now (out .entry)) (now (out .exit)) r ⌝ }
+{
+    let r = step(octets, law, set, w.place, out, w.samples);
+    let e = r.end;
+    match e {
+        Ending::Refused(why) => answer(
+            Ending::Refused(why),
+            w.frames,
+            w.octets,
+            w.samples,
+            w.place,
+            r.bit,
+        ),
+        Ending::Done => answer(
+            Ending::Done,
+            w.frames + 1,
+            w.octets + r.octets,
+            w.samples + r.len,
+            w.place + r.octets,
+            0,
+        ),
+    }
 }
 
 // The same walk, its samples put into the output, whose length is the room.
@@ -113,49 +134,20 @@ pub fn keep_on(
 ) -> WalkAnswer
     ensures { λ r. ⌜ Walks (walkFrom frames (now (octets .entry)) law set at (length (now (out .entry)))) r (now (out .entry)) (now (out .exit)) ⌝ }
 {
-    let mut place = at;
-    let mut used = 0;
-    let mut to = 0;
-    let mut count = 0;
-    let stop = 'frames: loop {
-        if frames <= count {
-            break 'frames Stop {
-                end: Ending::Done,
-                bit: 0,
-            };
-        }
-        if octets.len() <= place {
-            break 'frames Stop {
-                end: Ending::Done,
-                bit: 0,
-            };
-        }
-        let r = step(octets, law, set, place, out, to);
-        let e = r.end;
+    let mut w = answer(Ending::Done, 0, 0, 0, at, 0);
+    while w.frames < frames && w.place < octets.len() {
+        let next = keep_one(octets, law, set, w, out);
+        let e = next.end;
         match e {
-            Ending::Refused(why) => {
-                break 'frames Stop {
-                    end: Ending::Refused(why),
-                    bit: r.bit,
-                };
+            Ending::Refused(_) => {
+                return next;
             }
             Ending::Done => {
-                place += r.octets;
-                used += r.octets;
-                to += r.len;
-                count += 1;
+                w = next;
             }
         }
-    };
-    let end = stop.end;
-    WalkAnswer {
-        end,
-        frames: count,
-        octets: used,
-        samples: to,
-        place,
-        bit: stop.bit,
     }
+    w
 }
 
 // Walking a stream. "LAW, SET and LONG refuse a walk before any frame, with place 0." Each frame has an octet, so as many frames are enough.
