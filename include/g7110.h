@@ -285,7 +285,8 @@ enum {
     G7110_LINE = 23,   /* text not of the settings' form, or a value out of its range */
     G7110_GONE = 24,   /* revision not kept; 0 is never kept */
     G7110_SPENT = 25,  /* the new revision's number would pass 4,294,967,295 */
-    G7110_TABLE = 26   /* a store's table is too short, or is not one that calls leave for this block */
+    G7110_TABLE = 26,  /* a store's table is too short, or is not one that calls leave for this block */
+    G7110_MOVE = 27    /* the record tells of no move in this block; moved: it is not the next move */
 };
 
 /* Reads one frame at the start of the octets. report: samples, octets used, bits, tool, bit. */
@@ -376,6 +377,32 @@ uint32_t g7110_store_save(const uint8_t *block, size_t block_len, const uint32_t
  * docs/STORE.md says what to write first. */
 uint32_t g7110_store_load(const uint8_t *text, size_t text_len, const uint8_t *block, size_t block_len,
                           uint32_t *table, size_t table_len);
+
+/* Where power may be cut: docs/STORE.md has the order in which the caller writes what lasts. */
+
+/* Tells exactly what g7110_store_put would answer and report. Nothing is changed. */
+uint32_t g7110_store_try(const uint8_t *block, size_t block_len, const uint32_t *table, size_t table_len, uint32_t law,
+                         uint32_t number, const uint8_t *octets, size_t octets_len, uint64_t report[2]);
+
+/* Tells the next move of closing up: of the first greeting, in order of start, that is not where closing up puts it. Refused with
+ * G7110_TABLE. report: its number, where it lies, where it goes, its octets; zeros where all are closed up. */
+uint32_t g7110_store_next(const uint8_t *block, size_t block_len, const uint32_t *table, size_t table_len, uint64_t report[4]);
+
+/* Changes the table to have the greeting of the next move at its new place; of the block only the length is used. Refused with
+ * G7110_TABLE, G7110_NUMBER, G7110_ABSENT, and with G7110_MOVE where it is not the next move. */
+uint32_t g7110_store_moved(const uint8_t *block, size_t block_len, uint32_t *table, size_t table_len, uint32_t number, uint64_t to);
+
+/* Gives a greeting another number; nothing else changes. Refused with G7110_TABLE, G7110_NUMBER (either), G7110_ABSENT, and with
+ * G7110_TAKEN where a greeting has the new one, also where both are one. */
+uint32_t g7110_store_renumber(const uint8_t *block, size_t block_len, uint32_t *table, size_t table_len, uint32_t number,
+                              uint32_t to);
+
+/* Makes one chunk of the move that the record tells of, in the block or into the spare, and writes the record after it to next. The
+ * record is eight numbers: page in use (0, 1); 0 still, 1 moving, 2 moving and the chunk is whole in the spare; from; to; octets;
+ * done; 0; 0. Where it is done, next is still, with the other page, and zeros. Refused with G7110_MOVE where the record tells of no
+ * move in this block; then nothing is changed. */
+uint32_t g7110_move_step(uint8_t *block, size_t block_len, uint8_t *spare, size_t spare_len, const uint32_t record[8],
+                         uint32_t next[8]);
 
 /* Reads a recording. The samples of its frames stand at the start of out, its items at the start of items (items_len counts them);
  * the rest stays as lent. Refusals, in order: G7110_SET, G7110_HEAD, G7110_LONG (octets behind the heading); then item by item

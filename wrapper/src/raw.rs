@@ -108,6 +108,22 @@ extern "C" {
         block: *const u8, block_len: usize, table: *const u32, table_len: usize, number: u32, sample: u64,
         report: *mut [u64; 4],
     ) -> u32;
+    fn g7110_store_try(
+        block: *const u8, block_len: usize, table: *const u32, table_len: usize, law: u32, number: u32, octets: *const u8,
+        octets_len: usize, report: *mut [u64; 2],
+    ) -> u32;
+    fn g7110_store_next(
+        block: *const u8, block_len: usize, table: *const u32, table_len: usize, report: *mut [u64; 4],
+    ) -> u32;
+    fn g7110_store_moved(
+        block: *const u8, block_len: usize, table: *mut u32, table_len: usize, number: u32, to: u64,
+    ) -> u32;
+    fn g7110_store_renumber(
+        block: *const u8, block_len: usize, table: *mut u32, table_len: usize, number: u32, to: u32,
+    ) -> u32;
+    fn g7110_move_step(
+        block: *mut u8, block_len: usize, spare: *mut u8, spare_len: usize, record: *const [u32; 8], next: *mut [u32; 8],
+    ) -> u32;
 }
 
 /// The ending; the report is samples, octets, bits, tool and the refusal's bit.
@@ -237,4 +253,46 @@ pub fn file_write(samples: &[u8], items: &[u16], law: u32, set: u32, out: &mut [
 pub fn store_jump(block: &[u8], table: &[u32], number: u32, sample: u64, report: &mut [u64; 4]) -> u32 {
     // SAFETY: as in `store_put`.
     unsafe { g7110_store_jump(block.as_ptr(), block.len(), table.as_ptr(), table.len(), number, sample, report) }
+}
+
+/// The ending; the report is the start and the octets moved, as of `store_put`, and nothing is changed.
+pub fn store_try(block: &[u8], table: &[u32], law: u32, number: u32, octets: &[u8], report: &mut [u64; 2]) -> u32 {
+    // SAFETY: as in `store_put`.
+    unsafe {
+        g7110_store_try(
+            block.as_ptr(),
+            block.len(),
+            table.as_ptr(),
+            table.len(),
+            law,
+            number,
+            octets.as_ptr(),
+            octets.len(),
+            report,
+        )
+    }
+}
+
+/// The ending; the report is the greeting's number, where it lies, where it goes and its octets.
+pub fn store_next(block: &[u8], table: &[u32], report: &mut [u64; 4]) -> u32 {
+    // SAFETY: as in `store_put`.
+    unsafe { g7110_store_next(block.as_ptr(), block.len(), table.as_ptr(), table.len(), report) }
+}
+
+/// The ending.
+pub fn store_moved(block: &[u8], table: &mut [u32], number: u32, to: u64) -> u32 {
+    // SAFETY: as in `store_put`.
+    unsafe { g7110_store_moved(block.as_ptr(), block.len(), table.as_mut_ptr(), table.len(), number, to) }
+}
+
+/// The ending.
+pub fn store_renumber(block: &[u8], table: &mut [u32], number: u32, to: u32) -> u32 {
+    // SAFETY: as in `store_put`.
+    unsafe { g7110_store_renumber(block.as_ptr(), block.len(), table.as_mut_ptr(), table.len(), number, to) }
+}
+
+/// The ending; where it is 0, `next` is the record after the step.
+pub fn move_step(block: &mut [u8], spare: &mut [u8], record: &[u32; 8], next: &mut [u32; 8]) -> u32 {
+    // SAFETY: both slices and both records are live for the call, and the borrows keep them apart.
+    unsafe { g7110_move_step(block.as_mut_ptr(), block.len(), spare.as_mut_ptr(), spare.len(), record, next) }
 }

@@ -40,6 +40,8 @@ pub enum Refusal {
     Beyond,
     /// The table is too short, or not what calls leave for this block.
     Table,
+    /// The record tells of no move in this block, or it is not the next move.
+    Move,
 }
 
 impl Refusal {
@@ -55,6 +57,7 @@ impl Refusal {
             20 => Refusal::NoRoom,
             21 => Refusal::Beyond,
             26 => Refusal::Table,
+            27 => Refusal::Move,
             _ => unreachable!("the header has no ending {ending} of these calls"),
         }
     }
@@ -71,6 +74,7 @@ impl Refusal {
             Refusal::NoRoom => 20,
             Refusal::Beyond => 21,
             Refusal::Table => 26,
+            Refusal::Move => 27,
         }
     }
 }
@@ -87,6 +91,7 @@ impl fmt::Display for Refusal {
             Refusal::NoRoom => "the octets held and the new ones exceed the block",
             Refusal::Beyond => "the greeting has no such sample",
             Refusal::Table => "the table is not one that calls left for this block",
+            Refusal::Move => "it is not the next move, or the record tells of none",
         })
     }
 }
@@ -104,6 +109,15 @@ pub struct Put {
 #[derive(Clone, Copy, Debug, PartialEq, Eq)]
 pub struct Got {
     pub start: usize,
+    pub octets: usize,
+}
+
+/// A move of closing up: a greeting's octets go down within the block.
+#[derive(Clone, Copy, Debug, PartialEq, Eq)]
+pub struct Hop {
+    pub number: u32,
+    pub from: usize,
+    pub to: usize,
     pub octets: usize,
 }
 
@@ -142,6 +156,53 @@ pub fn get(block: &[u8], table: &[u32], number: u32) -> Result<Got, Refusal> {
 pub fn delete(block: &[u8], table: &mut [u32], number: u32) -> Result<(), Refusal> {
     match raw::store_delete(block, table, number) {
         0 => Ok(()),
+        ending => Err(Refusal::of(ending)),
+    }
+}
+
+/// What `put` would answer; nothing is changed.
+pub fn try_put(block: &[u8], table: &[u32], law: Law, number: u32, octets: &[u8]) -> Result<Put, Refusal> {
+    let mut report = [0; 2];
+    match raw::store_try(block, table, law.number(), number, octets, &mut report) {
+        0 => Ok(Put { start: report[0] as usize, moved: report[1] as usize }),
+        ending => Err(Refusal::of(ending)),
+    }
+}
+
+/// The next move of closing up, or none where all greetings are closed up.
+pub fn next(block: &[u8], table: &[u32]) -> Result<Option<Hop>, Refusal> {
+    let mut report = [0; 4];
+    match raw::store_next(block, table, &mut report) {
+        0 if report[0] == 0 => Ok(None),
+        0 => {
+            let [_, from, to, octets] = report.map(|number| number as usize);
+            Ok(Some(Hop { number: report[0] as u32, from, to, octets }))
+        }
+        ending => Err(Refusal::of(ending)),
+    }
+}
+
+/// The table with the greeting of the next move at its new place.
+pub fn moved(block: &[u8], table: &mut [u32], number: u32, to: usize) -> Result<(), Refusal> {
+    match raw::store_moved(block, table, number, to as u64) {
+        0 => Ok(()),
+        ending => Err(Refusal::of(ending)),
+    }
+}
+
+/// Gives a greeting another number.
+pub fn renumber(block: &[u8], table: &mut [u32], number: u32, to: u32) -> Result<(), Refusal> {
+    match raw::store_renumber(block, table, number, to) {
+        0 => Ok(()),
+        ending => Err(Refusal::of(ending)),
+    }
+}
+
+/// One chunk of the move that the record tells of, and the record after it.
+pub fn move_step(block: &mut [u8], spare: &mut [u8], record: &[u32; 8]) -> Result<[u32; 8], Refusal> {
+    let mut next = [0; 8];
+    match raw::move_step(block, spare, record, &mut next) {
+        0 => Ok(next),
         ending => Err(Refusal::of(ending)),
     }
 }

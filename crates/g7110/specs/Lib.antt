@@ -3,4 +3,5 @@ pub mod Saved
 pub mod Settings
 pub mod Mending
 pub mod Store
+pub mod Moves
 pub mod Recordings

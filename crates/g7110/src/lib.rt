@@ -12,6 +12,8 @@ ghost use Rattle.g7110.specs.Settings.{SaveReported, BackReported, Revis
 ghost use Rattle.reasons.specs.Why.{whyOne};
 ghost use Rattle.store_notes.specs.Sane.{storeCells};
 ghost use Rattle.g7110.specs.Store.{PutReported, GetReported, DeleteReported, JumpReported};
+ghost use Rattle.store_moves.specs.Record.{MoveStep};
+ghost use Rattle.g7110.specs.Moves.{TryReported, NextReported, MovedReported, RenumberReported};
 ghost use Rattle.linear.specs.Equations.{toPCM, fromPCM};
 ghost use Rattle.g7110.specs.Saved.{SavedReported, LoadReported};
 ghost use Rattle.recording.specs.Items.{readFile};
@@ -346,4 +348,70 @@ pub extern "C" fn g7110_file_write(
     *report = [a.octets as u64];
     let end = a.end;
     recording::number_of(end)
+}
+
+// What a put would answer: the number, and in the report the start and the octets moved. Nothing is changed.
+#[no_mangle]
+pub extern "C" fn g7110_store_try(
+    block: &[u8],
+    table: &[u32],
+    law: u32,
+    number: u32,
+    octets: &[u8],
+    report: &mut [u64; 2],
+) -> u32
+    ensures { λ r. ⌜ TryReported law number (now (octets .entry)) (now (block .entry)) (now (table .entry)) (now (report .exit)) r ⌝ }
+{
+    let a = store_moves::calls::try_put(block, table, law, number, octets);
+    let start = store::first_of(a);
+    let moved = store::second_of(a);
+    *report = [start as u64, moved as u64];
+    store::number_of(a)
+}
+
+// The next move of closing up: the number, and in the report the greeting's number, where it lies, where it goes, and its octets.
+#[no_mangle]
+pub extern "C" fn g7110_store_next(block: &[u8], table: &[u32], report: &mut [u64; 4]) -> u32
+    ensures { λ r. ⌜ NextReported (now (block .entry)) (now (table .entry)) (now (report .exit)) r ⌝ }
+{
+    let t = store_moves::calls::next(block, table);
+    let hop = store_moves::calls::told_hop(t);
+    *report = [
+        hop.number as u64,
+        hop.from as u64,
+        hop.to as u64,
+        hop.octets as u64,
+    ];
+    store_moves::calls::told_number(t)
+}
+
+// The table with the greeting of the next move at its new place: the number.
+#[no_mangle]
+pub extern "C" fn g7110_store_moved(block: &[u8], table: &mut [u32], number: u32, to: u64) -> u32
+    ensures { λ r. ⌜ MovedReported number to (now (block .entry)) (now (table .entry)) (now (table .exit)) r ⌝ }
+{
+    let c = store_moves::calls::moved(block, table, number, to);
+    store_moves::calls::change_number(c)
+}
+
+// Another number for a greeting: the number.
+#[no_mangle]
+pub extern "C" fn g7110_store_renumber(block: &[u8], table: &mut [u32], number: u32, to: u32) -> u32
+    ensures { λ r. ⌜ RenumberReported number to (now (block .entry)) (now (table .entry)) (now (table .exit)) r ⌝ }
+{
+    let c = store_moves::calls::renumber(block, table, number, to);
+    store_moves::calls::change_number(c)
+}
+
+// One chunk of the move that the record tells of, and in `next` the record after it: the number.
+#[no_mangle]
+pub extern "C" fn g7110_move_step(
+    block: &mut [u8],
+    spare: &mut [u8],
+    words: &[u32; 8],
+    next: &mut [u32; 8],
+) -> u32
+    ensures { λ r. ⌜ MoveStep (now (block .entry)) (now (spare .entry)) (now (words .entry)) (now (next .entry)) (now (block .exit)) (now (spare .exit)) (now (next .exit)) r ⌝ }
+{
+    store_moves::steps::move_step(block, spare, words, next)
 }
