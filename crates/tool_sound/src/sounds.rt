@@ -4,6 +4,7 @@
 ghost use Prim.Native.Nat.{_≤_, _<_};
 ghost use mathlib.Core.Path.{_≡_};
 ghost use lib.ListN.{length};
+ghost use Rattle.tool_sound.specs.declared.sounds.Trouble.the-variants.{Failed};
 ghost use Rattle.tool_sound.specs.Uses.{isWell, UsesUpTo};
 use crate::wave::Heading;
 use crate::wave::Wrong;
@@ -65,34 +66,42 @@ fn left_after(left: usize, came: usize) -> usize {
     left - came
 }
 
+// The next samples of raw G.711.
+fn read_raw(fd: i32, part: &mut [u8]) -> Heard
+    ensures { λ r. ⌜ r .count ≤ length (now (part .exit)) ⌝ }
+{
+    let got = tool_console::read_part(fd, part);
+    Heard {
+        count: got.count,
+        failed: got.failed,
+        left: 0,
+    }
+}
+
+// The same, with another number of octets left.
+fn leaving(heard: Heard, left: usize) -> Heard
+    ensures { λ r. ⌜ r .count ≡ heard .count ⌝ }
+{
+    Heard {
+        count: heard.count,
+        failed: heard.failed,
+        left,
+    }
+}
+
 // The next samples of a sound, as many as the part holds: 61,440. Linear values without a heading have the other half of a value left.
 pub fn read_part(fd: i32, form: Form, law: u32, left: usize, part: &mut [u8]) -> Heard
     ensures { λ r. ⌜ r .count ≤ length (now (part .exit)) ⌝ }
 {
     match form {
-        Form::Raw => {
-            let got = tool_console::read_part(fd, part);
-            Heard {
-                count: got.count,
-                failed: got.failed,
-                left: 0,
-            }
-        }
+        Form::Raw => read_raw(fd, part),
         Form::Linear => {
             let heard = read_linear(fd, law, 122880, part);
-            Heard {
-                count: heard.count,
-                failed: heard.failed,
-                left: heard.left % 2,
-            }
+            leaving(heard, heard.left % 2)
         }
         Form::Wave => {
             let heard = read_linear(fd, law, octets_for(left), part);
-            Heard {
-                count: heard.count,
-                failed: heard.failed,
-                left: left_after(left, heard.left),
-            }
+            leaving(heard, left_after(left, heard.left))
         }
     }
 }
@@ -103,41 +112,55 @@ fn say_what(before: &[u8], what: u32, after: &[u8]) {
     tool_console::say(after);
 }
 
+fn say_format(what: u32) {
+    say_what(b"the WAV file has format ", what, b", and PCM is 1\n");
+}
+
+fn say_short_format(what: u32) {
+    say_what(
+        b"the WAV file tells its format in ",
+        what,
+        b" octets, and 16 are needed\n",
+    );
+}
+
+fn say_odd_sound(what: u32) {
+    say_what(
+        b"the WAV file has a sound of ",
+        what,
+        b" octets, half a sample too many\n",
+    );
+}
+
+// What it has of something else, and what a master has of it.
+fn say_has(what: u32, after: &[u8]) {
+    say_what(b"the WAV file has ", what, after);
+}
+
 // Why a WAV file is refused.
 fn say_wrong(why: Wrong) {
     tool_console::say_tool(Tool::Pack);
     match why {
         Wrong::NotWave => tool_console::say(b"this is no WAV file\n"),
-        Wrong::Format(what) => say_what(b"the WAV file has format ", what, b", and PCM is 1\n"),
-        Wrong::Channels(what) => say_what(
-            b"the WAV file has ",
-            what,
-            b" channels, and a master has 1\n",
-        ),
-        Wrong::Rate(what) => say_what(
-            b"the WAV file has ",
-            what,
-            b" samples a second, and a master has 8000\n",
-        ),
-        Wrong::Bits(what) => say_what(
-            b"the WAV file has ",
-            what,
-            b" bits a sample, and a master has 16\n",
-        ),
-        Wrong::ShortFormat(what) => say_what(
-            b"the WAV file tells its format in ",
-            what,
-            b" octets, and 16 are needed\n",
-        ),
+        Wrong::Format(what) => say_format(what),
+        Wrong::Channels(what) => say_has(what, b" channels, and a master has 1\n"),
+        Wrong::Rate(what) => say_has(what, b" samples a second, and a master has 8000\n"),
+        Wrong::Bits(what) => say_has(what, b" bits a sample, and a master has 16\n"),
+        Wrong::ShortFormat(what) => say_short_format(what),
         Wrong::NoFormat => tool_console::say(b"the WAV file tells no format before its sound\n"),
-        Wrong::OddSound(what) => say_what(
-            b"the WAV file has a sound of ",
-            what,
-            b" octets, half a sample too many\n",
-        ),
+        Wrong::OddSound(what) => say_odd_sound(what),
         Wrong::ManyChunks => tool_console::say(
             b"the WAV file has more than 32 chunks before its sound\n",
         ),
+    }
+}
+
+// A sound that is refused, and why.
+fn refused_for(why: Wrong) -> Opened {
+    say_wrong(why);
+    Opened {
+        refused: true,
+        left: 0,
     }
 }
 
@@ -160,9 +183,13 @@ fn more_octets(fd: i32, n: usize, k: usize, space: &mut [u8]) -> usize
     end
 }
 
-fn say_no_heading() {
+fn no_heading() -> Opened {
     tool_console::say_tool(Tool::Pack);
     tool_console::say(b"the WAV file ends inside its heading, or the heading is too long\n");
+    Opened {
+        refused: true,
+        left: 0,
+    }
 }
 
 // The heading of a WAV file, octets after octets as it asks for them.
@@ -175,21 +202,11 @@ fn read_heading(fd: i32, space: &mut [u8]) -> Opened {
                 refused: false,
                 left: size,
             },
-            Heading::Refused(why) => {
-                say_wrong(why);
-                return Opened {
-                    refused: true,
-                    left: 0,
-                };
-            }
+            Heading::Refused(why) => return refused_for(why),
             Heading::More(k) => {
                 let end = more_octets(fd, n, k, space);
                 if end == 0 {
-                    say_no_heading();
-                    return Opened {
-                        refused: true,
-                        left: 0,
-                    };
+                    return no_heading();
                 }
                 n = end;
             }
@@ -288,6 +305,16 @@ fn all_well(good: usize) -> Used
     }
 }
 
+// Nothing of it is, as a file fails.
+fn none_well() -> Used
+    ensures { λ r. ⌜ (r .wrong ≡ Failed) × (r .good ≡ 0) ⌝ }
+{
+    Used {
+        wrong: Trouble::Failed,
+        good: 0,
+    }
+}
+
 // A part of a sound, written in its form, and what came of it.
 fn written(fd: i32, form: Form, law: u32, sound: &[u8]) -> Used
     ensures { λ r. ⌜ UsesUpTo (length (now (sound .entry))) r ⌝ }
@@ -295,9 +322,26 @@ fn written(fd: i32, form: Form, law: u32, sound: &[u8]) -> Used
     if write_part(fd, form, law, sound) {
         return all_well(sound.len());
     }
+    none_well()
+}
+
+// What came of a comparison of so many octets with as many of the master: `good` of them agree.
+fn likened(good: usize, sound: usize, master: usize) -> Used
+    requires { ⌜ good ≤ sound ⌝ }
+    ensures { λ r. ⌜ UsesUpTo sound r ⌝ }
+{
+    if good == sound {
+        return all_well(good);
+    }
+    if good == master {
+        return Used {
+            wrong: Trouble::Master(Unlike::Shorter),
+            good,
+        };
+    }
     Used {
-        wrong: Trouble::Failed,
-        good: 0,
+        wrong: Trouble::Master(Unlike::Differs),
+        good,
     }
 }
 
@@ -309,29 +353,10 @@ fn compared(fd: i32, sound: &[u8], master: &mut [u8]) -> Used
     let n = sound.len();
     let got = tool_console::read_part(fd, &mut master[..n]);
     if got.failed {
-        return Used {
-            wrong: Trouble::Failed,
-            good: 0,
-        };
+        return none_well();
     }
     let m = got.count;
-    let good = crate::comparing::agree(sound, &master[..m]);
-    if good == n {
-        return Used {
-            wrong: Trouble::Nothing,
-            good,
-        };
-    }
-    if good == m {
-        return Used {
-            wrong: Trouble::Master(Unlike::Shorter),
-            good,
-        };
-    }
-    Used {
-        wrong: Trouble::Master(Unlike::Differs),
-        good,
-    }
+    likened(crate::comparing::agree(sound, &master[..m]), n, m)
 }
 
 // A part of a sound, written, compared or counted.
