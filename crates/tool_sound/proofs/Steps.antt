@@ -11,35 +11,34 @@ use Rattle.tool_sound.specs.declared.wave.Heading.the-variants.{More, Re
 use Rattle.tool_sound.specs.declared.wave.Wrong.the-variants.{NotWave, Format, Channels, Rate, Bits, ShortFormat, ManyChunks}
 use Rattle.tool_sound.specs.declared.wave.Step.{Step}
 use Rattle.tool_sound.specs.declared.wave.Step.the-variants.{On, Ends}
-use Rattle.tool_sound.specs.Headings.{halfAt, wordAt, formatOf, formatAt, formatIn, soundOf, stepAt, onward, chunksFrom, mostChunks}
-use Rattle.tool_sound.specs.Headings.{headingOf, riffName, waveName, formatName, dataName}
-
-module _ (f n r b size : ℕ) {s : Step} where
-  pub other-format : (f ≡ 1 → ⊥) → s ≡ Ends (Refused (Format f)) → s ≡ formatOf f n r b size
-  unfolding formatOf
-  other-format i e = rw (ne-eqb f 1 i) e
-
-  pub other-channels : f ≡ 1 → (n ≡ 1 → ⊥) → s ≡ Ends (Refused (Channels n)) → s ≡ formatOf f n r b size
-  unfolding formatOf
-  other-channels i j e = rw (eq-eqb f 1 i, ne-eqb n 1 j) e
-
-  pub other-rate : f ≡ 1 → n ≡ 1 → (r ≡ 8000 → ⊥) → s ≡ Ends (Refused (Rate r)) → s ≡ formatOf f n r b size
-  unfolding formatOf
-  other-rate i j k e = rw (eq-eqb f 1 i, eq-eqb n 1 j, ne-eqb r 8000 k) e
-
-  pub other-bits : f ≡ 1 → n ≡ 1 → r ≡ 8000 → (b ≡ 16 → ⊥) → s ≡ Ends (Refused (Bits b)) → s ≡ formatOf f n r b size
-  unfolding formatOf
-  other-bits i j k m e = rw (eq-eqb f 1 i, eq-eqb n 1 j, eq-eqb r 8000 k, ne-eqb b 16 m) e
-
-pub the-format : (f n r b size : ℕ) → f ≡ 1 → n ≡ 1 → r ≡ 8000 → b ≡ 16 → On size true ≡ formatOf f n r b size
-unfolding formatOf
-the-format f n r b size i j k m = rw (eq-eqb f 1 i, eq-eqb n 1 j, eq-eqb r 8000 k, eq-eqb b 16 m)
-
-pub format-read : (l : List ℕ) (at size : ℕ) {f n r b : ℕ} {s : Step} → f ≡ halfAt l at → n ≡ halfAt l (at + 2) → r ≡ wordAt l (at + 4)
-    → b ≡ halfAt l (at + 14) → s ≡ formatOf f n r b size → s ≡ formatAt l at size
-format-read l at size e g h i j = rw (← e, ← g, ← h, ← i) j
+use Rattle.tool_sound.specs.Headings.{halfAt, wordAt, formatAt, formatIn, soundOf, stepAt, onward, chunksFrom, headingOf}
+use Rattle.tool_sound.specs.Headings.{riffName, waveName, formatName, dataName}
 
 module _ (l : List ℕ) (at size : ℕ) where
+  pub other-format : {f : ℕ} → f ≡ halfAt l at → (f ≡ 1 → ⊥) → Ends (Refused (Format f)) ≡ formatAt l at size
+  unfolding formatAt
+  other-format e n = rw (← e, ne-eqb _ 1 n)
+
+  pub other-channels : {f n : ℕ} → f ≡ halfAt l at → f ≡ 1 → n ≡ halfAt l (at + 2) → (n ≡ 1 → ⊥)
+      → Ends (Refused (Channels n)) ≡ formatAt l at size
+  unfolding formatAt
+  other-channels e i f n = rw (← e, eq-eqb _ 1 i, ← f, ne-eqb _ 1 n)
+
+  pub other-rate : {f n r : ℕ} → f ≡ halfAt l at → f ≡ 1 → n ≡ halfAt l (at + 2) → n ≡ 1 → r ≡ wordAt l (at + 4) → (r ≡ 8000 → ⊥)
+      → Ends (Refused (Rate r)) ≡ formatAt l at size
+  unfolding formatAt
+  other-rate e i f j g n = rw (← e, eq-eqb _ 1 i, ← f, eq-eqb _ 1 j, ← g, ne-eqb _ 8000 n)
+
+  pub other-bits : {f n r b : ℕ} → f ≡ halfAt l at → f ≡ 1 → n ≡ halfAt l (at + 2) → n ≡ 1 → r ≡ wordAt l (at + 4) → r ≡ 8000
+      → b ≡ halfAt l (at + 14) → (b ≡ 16 → ⊥) → Ends (Refused (Bits b)) ≡ formatAt l at size
+  unfolding formatAt
+  other-bits e i f j g k h n = rw (← e, eq-eqb _ 1 i, ← f, eq-eqb _ 1 j, ← g, eq-eqb _ 8000 k, ← h, ne-eqb _ 16 n)
+
+  pub the-format : {f n r b : ℕ} → f ≡ halfAt l at → f ≡ 1 → n ≡ halfAt l (at + 2) → n ≡ 1 → r ≡ wordAt l (at + 4) → r ≡ 8000
+      → b ≡ halfAt l (at + 14) → b ≡ 16 → On size true ≡ formatAt l at size
+  unfolding formatAt
+  the-format e i f j g k h m = rw (← e, eq-eqb _ 1 i, ← f, eq-eqb _ 1 j, ← g, eq-eqb _ 8000 k, ← h, eq-eqb _ 16 m)
+
   pub format-short : size < 16 → Ends (Refused (ShortFormat size)) ≡ formatIn l at size
   unfolding formatIn
   format-short h = rw (lt-ltb size 16 h)
@@ -95,10 +94,10 @@ pub no-wave : (l : List ℕ) {w v : ℕ} → 12 ≤ length l → w ≡ wordAt l 
 unfolding headingOf
 no-wave l h e i f n = rw (le-ltb (length l) 12 h, ← e, eq-eqb _ riffName i, ← f, ne-eqb _ waveName n)
 
-pub begins : (l : List ℕ) {w v : ℕ} {r : Heading} → 12 ≤ length l → w ≡ wordAt l 0 → w ≡ riffName → v ≡ wordAt l 8 → v ≡ waveName
-    → r ≡ chunksFrom mostChunks l 12 false → r ≡ headingOf l
+pub begins : (l : List ℕ) {w v : ℕ} → 12 ≤ length l → w ≡ wordAt l 0 → w ≡ riffName → v ≡ wordAt l 8 → v ≡ waveName
+    → headingOf l ≡ chunksFrom 32 l 12 false
 unfolding headingOf
-begins l h e i f j g = rw (le-ltb (length l) 12 h, ← e, eq-eqb _ riffName i, ← f, eq-eqb _ waveName j) g
+begins l h e i f j = rw (le-ltb (length l) 12 h, ← e, eq-eqb _ riffName i, ← f, eq-eqb _ waveName j)
 
 -- no chunk is left
 pub no-more : (left : ℕ) (l : List ℕ) (at : ℕ) (seen : Bool) → left ≡ 0 → chunksFrom left l at seen ≡ Refused ManyChunks

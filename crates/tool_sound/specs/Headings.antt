@@ -32,20 +32,16 @@ formatName = 0x20746D66
 abbrev pub dataName : ℕ
 dataName = 0x61746164
 
--- a format in a chunk of this size: the heading goes on, or it is refused with what it is
-unfoldable pub formatOf : ℕ → ℕ → ℕ → ℕ → ℕ → Step
-formatOf format channels rate bits size =
-    cond (eqb format 1)
-    (cond (eqb channels 1)
-    (cond (eqb rate 8000)
-    (cond (eqb bits 16) (On size true) (Ends (Refused (Bits bits))))
-    (Ends (Refused (Rate rate))))
-    (Ends (Refused (Channels channels))))
-    (Ends (Refused (Format format)))
-
--- the one that begins at a place
-abbrev pub formatAt : List ℕ → ℕ → ℕ → Step
-formatAt l at size = formatOf (halfAt l at) (halfAt l (at + 2)) (wordAt l (at + 4)) (halfAt l (at + 14)) size
+-- the format that begins at a place, in a chunk of this size: the heading goes on, or it is refused with what it is
+unfoldable pub formatAt : List ℕ → ℕ → ℕ → Step
+formatAt l at size =
+    cond (eqb (halfAt l at) 1)
+    (cond (eqb (halfAt l (at + 2)) 1)
+    (cond (eqb (wordAt l (at + 4)) 8000)
+    (cond (eqb (halfAt l (at + 14)) 16) (On size true) (Ends (Refused (Bits (halfAt l (at + 14))))))
+    (Ends (Refused (Rate (wordAt l (at + 4))))))
+    (Ends (Refused (Channels (halfAt l (at + 2))))))
+    (Ends (Refused (Format (halfAt l at))))
 
 -- the sound of so many octets, after a format and of whole samples
 unfoldable pub soundOf : Bool → ℕ → Heading

@@ -4,7 +4,6 @@
 ghost use Prim.Native.Nat.{_≤_, _<_};
 ghost use mathlib.Core.Path.{_≡_};
 ghost use lib.ListN.{length};
-ghost use Rattle.tool_sound.specs.declared.sounds.Trouble.the-variants.{Failed};
 ghost use Rattle.tool_sound.specs.Uses.{isWell, UsesUpTo};
 use crate::wave::Heading;
 use crate::wave::Wrong;
@@ -66,42 +65,34 @@ fn left_after(left: usize, came: usize) -> usize {
     left - came
 }
 
-// The next samples of raw G.711.
-fn read_raw(fd: i32, part: &mut [u8]) -> Heard
-    ensures { λ r. ⌜ r .count ≤ length (now (part .exit)) ⌝ }
-{
-    let got = tool_console::read_part(fd, part);
-    Heard {
-        count: got.count,
-        failed: got.failed,
-        left: 0,
-    }
-}
-
-// The same, with another number of octets left.
-fn leaving(heard: Heard, left: usize) -> Heard
-    ensures { λ r. ⌜ r .count ≡ heard .count ⌝ }
-{
-    Heard {
-        count: heard.count,
-        failed: heard.failed,
-        left,
-    }
-}
-
 // The next samples of a sound, as many as the part holds: 61,440. Linear values without a heading have the other half of a value left.
 pub fn read_part(fd: i32, form: Form, law: u32, left: usize, part: &mut [u8]) -> Heard
     ensures { λ r. ⌜ r .count ≤ length (now (part .exit)) ⌝ }
 {
     match form {
-        Form::Raw => read_raw(fd, part),
+        Form::Raw => {
+            let got = tool_console::read_part(fd, part);
+            Heard {
+                count: got.count,
+                failed: got.failed,
+                left: 0,
+            }
+        }
         Form::Linear => {
             let heard = read_linear(fd, law, 122880, part);
-            leaving(heard, heard.left % 2)
+            Heard {
+                count: heard.count,
+                failed: heard.failed,
+                left: heard.left % 2,
+            }
         }
         Form::Wave => {
             let heard = read_linear(fd, law, octets_for(left), part);
-            leaving(heard, left_after(left, heard.left))
+            Heard {
+                count: heard.count,
+                failed: heard.failed,
+                left: left_after(left, heard.left),
+            }
         }
     }
 }
@@ -155,15 +146,6 @@ fn say_wrong(why: Wrong) {
     }
 }
 
-// A sound that is refused, and why.
-fn refused_for(why: Wrong) -> Opened {
-    say_wrong(why);
-    Opened {
-        refused: true,
-        left: 0,
-    }
-}
-
 // So many octets more of a heading. The answer is where they end; 0 says that they don't come.
 fn more_octets(fd: i32, n: usize, k: usize, space: &mut [u8]) -> usize
     requires { ⌜ n ≤ length (now space) ⌝ }
@@ -183,13 +165,9 @@ fn more_octets(fd: i32, n: usize, k: usize, space: &mut [u8]) -> usize
     end
 }
 
-fn no_heading() -> Opened {
+fn say_no_heading() {
     tool_console::say_tool(Tool::Pack);
     tool_console::say(b"the WAV file ends inside its heading, or the heading is too long\n");
-    Opened {
-        refused: true,
-        left: 0,
-    }
 }
 
 // The heading of a WAV file, octets after octets as it asks for them.
@@ -202,11 +180,21 @@ fn read_heading(fd: i32, space: &mut [u8]) -> Opened {
                 refused: false,
                 left: size,
             },
-            Heading::Refused(why) => return refused_for(why),
+            Heading::Refused(why) => {
+                say_wrong(why);
+                return Opened {
+                    refused: true,
+                    left: 0,
+                };
+            }
             Heading::More(k) => {
                 let end = more_octets(fd, n, k, space);
                 if end == 0 {
-                    return no_heading();
+                    say_no_heading();
+                    return Opened {
+                        refused: true,
+                        left: 0,
+                    };
                 }
                 n = end;
             }
@@ -305,16 +293,6 @@ fn all_well(good: usize) -> Used
     }
 }
 
-// Nothing of it is, as a file fails.
-fn none_well() -> Used
-    ensures { λ r. ⌜ (r .wrong ≡ Failed) × (r .good ≡ 0) ⌝ }
-{
-    Used {
-        wrong: Trouble::Failed,
-        good: 0,
-    }
-}
-
 // A part of a sound, written in its form, and what came of it.
 fn written(fd: i32, form: Form, law: u32, sound: &[u8]) -> Used
     ensures { λ r. ⌜ UsesUpTo (length (now (sound .entry))) r ⌝ }
@@ -322,26 +300,9 @@ fn written(fd: i32, form: Form, law: u32, sound: &[u8]) -> Used
     if write_part(fd, form, law, sound) {
         return all_well(sound.len());
     }
-    none_well()
-}
-
-// What came of a comparison of so many octets with as many of the master: `good` of them agree.
-fn likened(good: usize, sound: usize, master: usize) -> Used
-    requires { ⌜ good ≤ sound ⌝ }
-    ensures { λ r. ⌜ UsesUpTo sound r ⌝ }
-{
-    if good == sound {
-        return all_well(good);
-    }
-    if good == master {
-        return Used {
-            wrong: Trouble::Master(Unlike::Shorter),
-            good,
-        };
-    }
     Used {
-        wrong: Trouble::Master(Unlike::Differs),
-        good,
+        wrong: Trouble::Failed,
+        good: 0,
     }
 }
 
@@ -353,10 +314,29 @@ fn compared(fd: i32, sound: &[u8], master: &mut [u8]) -> Used
     let n = sound.len();
     let got = tool_console::read_part(fd, &mut master[..n]);
     if got.failed {
-        return none_well();
+        return Used {
+            wrong: Trouble::Failed,
+            good: 0,
+        };
     }
     let m = got.count;
-    likened(crate::comparing::agree(sound, &master[..m]), n, m)
+    let good = crate::comparing::agree(sound, &master[..m]);
+    if good == n {
+        return Used {
+            wrong: Trouble::Nothing,
+            good,
+        };
+    }
+    if good == m {
+        return Used {
+            wrong: Trouble::Master(Unlike::Shorter),
+            good,
+        };
+    }
+    Used {
+        wrong: Trouble::Master(Unlike::Differs),
+        good,
+    }
 }
 
 // A part of a sound, written, compared or counted.

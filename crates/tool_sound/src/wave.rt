@@ -1,12 +1,8 @@
 // The heading of a WAV file, read and written. What is wrong with one is said with what it has.
 ghost use Prim.Native.Nat.{_+_, _*_, _≤_, _<_};
 ghost use mathlib.Core.Path.{_≡_};
-ghost use mathlib.Core.Bool.{false};
 ghost use lib.ListN.{length};
 ghost use Rattle.tool_sound.specs.Headings.{halfAt, wordAt, formatAt, soundOf, formatIn, stepAt, headingOf, headingFor};
-ghost use Rattle.tool_sound.specs.declared.wave.Heading.the-variants.{Refused};
-ghost use Rattle.tool_sound.specs.declared.wave.Step.the-variants.{Ends};
-ghost use Rattle.tool_sound.specs.Headings.{formatOf, chunksFrom, mostChunks};
 
 // Why a heading is refused: no WAV file; another format than PCM, other channels, rate or bits; a format of so few octets;
 // no format before the sound; a sound of an odd number of octets; more than 32 chunks before the sound.
@@ -61,41 +57,28 @@ fn word_at(octets: &[u8], at: usize) -> u32
     half_at(octets, at) + 65536 * half_at(octets, at + 2)
 }
 
-// A heading that is refused.
-fn refuse(why: Wrong) -> Step
-    ensures { λ r. ⌜ r ≡ Ends (Refused why) ⌝ }
-{
-    Step::Ends(Heading::Refused(why))
-}
-
 // PCM, mono, 8,000 Hz, 16 bits: anything else is refused with what it is.
-fn format_of(format: u32, channels: u32, rate: u32, bits: u32, size: u32) -> Step
-    ensures { λ r. ⌜ r ≡ formatOf format channels rate bits size ⌝ }
-{
-    if format != 1 {
-        return refuse(Wrong::Format(format));
-    }
-    if channels != 1 {
-        return refuse(Wrong::Channels(channels));
-    }
-    if rate != 8000 {
-        return refuse(Wrong::Rate(rate));
-    }
-    if bits != 16 {
-        return refuse(Wrong::Bits(bits));
-    }
-    Step::On(size, true)
-}
-
-// The format that begins at a place.
 fn format_at(octets: &[u8], at: usize, size: u32) -> Step
     requires { ⌜ at + 16 ≤ length (now octets) ⌝ }
     ensures { λ r. ⌜ r ≡ formatAt (now (octets .entry)) at size ⌝ }
 {
+    let format = half_at(octets, at);
+    if format != 1 {
+        return Step::Ends(Heading::Refused(Wrong::Format(format)));
+    }
     let channels = half_at(octets, at + 2);
+    if channels != 1 {
+        return Step::Ends(Heading::Refused(Wrong::Channels(channels)));
+    }
     let rate = word_at(octets, at + 4);
+    if rate != 8000 {
+        return Step::Ends(Heading::Refused(Wrong::Rate(rate)));
+    }
     let bits = half_at(octets, at + 14);
-    format_of(half_at(octets, at), channels, rate, bits, size)
+    if bits != 16 {
+        return Step::Ends(Heading::Refused(Wrong::Bits(bits)));
+    }
+    Step::On(size, true)
 }
 
 // The sound comes after a format, and has whole samples.
@@ -148,10 +131,20 @@ fn step_at(octets: &[u8], at: usize, seen: bool) -> Step
     Step::On(size, seen)
 }
 
-// Chunks from octet 12 on, at most 32, up to what tells the heading. A chunk of an odd size has an octet more.
-fn chunks_in(octets: &[u8]) -> Heading
-    ensures { λ r. ⌜ r ≡ chunksFrom mostChunks (now (octets .entry)) 12 false ⌝ }
+// The heading at the start of octets. A chunk of an odd size has an octet more.
+pub fn heading_in(octets: &[u8]) -> Heading
+    ensures { λ r. ⌜ r ≡ headingOf (now (octets .entry)) ⌝ }
 {
+    if octets.len() < 12 {
+        let more = 12 - octets.len();
+        return Heading::More(more);
+    }
+    if word_at(octets, 0) != 0x46464952 {
+        return Heading::Refused(Wrong::NotWave);
+    }
+    if word_at(octets, 8) != 0x45564157 {
+        return Heading::Refused(Wrong::NotWave);
+    }
     let mut at = 12;
     let mut seen = false;
     let mut left: usize = 32;
@@ -167,23 +160,6 @@ fn chunks_in(octets: &[u8]) -> Heading
         }
     }
     Heading::Refused(Wrong::ManyChunks)
-}
-
-// The heading at the start of octets.
-pub fn heading_in(octets: &[u8]) -> Heading
-    ensures { λ r. ⌜ r ≡ headingOf (now (octets .entry)) ⌝ }
-{
-    if octets.len() < 12 {
-        let more = 12 - octets.len();
-        return Heading::More(more);
-    }
-    if word_at(octets, 0) != 0x46464952 {
-        return Heading::Refused(Wrong::NotWave);
-    }
-    if word_at(octets, 8) != 0x45564157 {
-        return Heading::Refused(Wrong::NotWave);
-    }
-    chunks_in(octets)
 }
 
 // The heading before a sound of so many octets.

@@ -1,9 +1,9 @@
+use borrow.Author.Needs.{needs}
 use lib.Seq.{length-take-le}
 use lib.ListN.{length, drop, length-append}
 use native.Mathlib.Omega.{arith}
 use mathlib.Core.Path.{sym}
-use Rattle.tool_sound.proofs.Failing.{none-used}
-use borrow.Author.Needs.{needs}
+use mathlib.Core.Bool.{false≢true}
 use Rattle.tool_sound.proofs.sounds.compared.Statement.{statement}
 use Rattle.tool_sound.proofs.sounds.compared.Tie as tie
 
@@ -34,15 +34,15 @@ slice-aggregate-agree c =
     )))
 
 returns : tie.Need-returns
-returns c = none-used (c .none-well .ensures)
+returns c = record { most = omega arith; all = λ e. absurd (false≢true e) }
 
-likened-requires : tie.Need-likened-requires
-likened-requires c κs = c .agree .ensures .1 .0
+returns-3 : tie.Need-returns-3
+returns-3 c = record { most = c .before .before .agree .ensures .1 .0; all = λ e. absurd (false≢true e) }
 
-returns-2 : tie.Need-returns-2
-returns-2 c = c .likened .ensures
+returns-4 : tie.Need-returns-4
+returns-4 c = record { most = c .before .before .agree .ensures .1 .0; all = λ e. absurd (false≢true e) }
 
 pub compared-spec : {M : Type 1} → statement M
-compared-spec = tie.close (tie.spec (λ c. search needs) slice-aggregate-read-part (λ c κs. search needs) (λ c κs. search needs)
-    (λ c. search needs) returns slice-reshare-prefix-agree slice-aggregate-agree (λ c κs. search needs) likened-requires
-    (λ c. search needs) returns-2)
+compared-spec = tie.close (tie.spec (λ c. search needs) slice-aggregate-read-part (λ c κs. search needs) (λ c. search needs)
+    returns slice-reshare-prefix-agree slice-aggregate-agree (λ c κs. search needs) (λ c. search needs) (λ c. search needs)
+    (λ c. search needs) returns-3 (λ c. search needs) returns-4)
