@@ -135,7 +135,8 @@ row-replaced t n i r c h g =
     let len : length (a ++ (r ∷ z)) ≡ n = omega (arith, length-append a (r ∷ z), length-rows t i 1, length-rows t m (k + 3)) in
     let far : k + 3 + 3 * m ≡ 1 + 3 * n = omega arith in
     let d : drop (k + 3) t ≡ cellsOf z ++ end =
-    sym (take-append-drop (3 * m) (drop (k + 3) t)) ∙ ap (λ (x : List ℕ). x ++ drop (3 * m) (drop (k + 3) t)) (sym (cells-rows t m (k + 3) (omega arith)))
+    sym (take-append-drop (3 * m) (drop (k + 3) t))
+    ∙ ap (λ (x : List ℕ). x ++ drop (3 * m) (drop (k + 3) t)) (sym (cells-rows t m (k + 3) (omega arith)))
     ∙ ap (λ (x : List ℕ). cellsOf z ++ x) (drop-drop (3 * m) (k + 3) t ∙ ap (λ (x : ℕ). drop x t) far) in
     let joined = append-assoc (cellsOf a) (cellsOf (r ∷ z)) end ∙ ap (λ (x : List ℕ). cellsOf a ++ (x ++ end)) (cells-cons r z) in
     rw (replaced-rows t n i r c g, len, cells-append a (r ∷ z), front t i (omega arith), d, ← c) (ap (λ (x : List ℕ). n ∷ x) (sym joined))
@@ -282,10 +283,10 @@ module _ (size : ℕ) (rows : List Row) (law x : ℕ) (xs : List ℕ) where
             unfolding triedIn
             tried-no-room r = rw (le-leb law mostLaw l, n, f, g, lt-leb 32 (length rows) q, lt-ltb size (held rows + length xs) r)
 
-            pub tried-fits : held rows + length xs ≤ size
-                → gapTells rows (lowestGap (length xs) size rows) ≡ triedIn size rows law x xs
+            pub tried-fits : {a : Answer} → held rows + length xs ≤ size → a ≡ gapTells rows (lowestGap (length xs) size rows)
+                → a ≡ triedIn size rows law x xs
             unfolding triedIn
-            tried-fits r = rw (le-leb law mostLaw l, n, f, g, lt-leb 32 (length rows) q, le-ltb size (held rows + length xs) r)
+            tried-fits r e = rw (le-leb law mostLaw l, n, f, g, lt-leb 32 (length rows) q, le-ltb size (held rows + length xs) r) e
 
 -- ---- a number looked for
 

@@ -1,5 +1,5 @@
 -- A step that was cut, made again, leaves what it would have left (`direct-again`, `lift-again`, `lay-again`; `again`).
-use Prim.Native.Nat.{ℕ, _+_, _-_, _≤_, _<_}
+use Prim.Native.Nat.{ℕ, _+_, _≤_, _<_}
 use mathlib.Core.Path.{_≡_, ap, _∙_}
 use mathlib.Core.List.{List, _++_}
 use native.Mathlib.Omega.{arith}
@@ -20,7 +20,8 @@ laid-again {at} {n} {b} {b′} xs t =
 pub hop-again : {at n : ℕ} {b b′ : List ℕ} (from : ℕ) → at + n ≤ from → Torn at n b b′
     → paste b′ at (drop from b′) n ≡ paste b at (drop from b) n
 hop-again {at} {n} {b} {b′} from h t =
-    ap (λ (x : List ℕ). take at b′ ++ take n x ++ drop (at + n) b′) (same-drop (at + n) from b′ b (t .behind) h) ∙ laid-again (drop from b) t
+    ap (λ (x : List ℕ). take at b′ ++ take n x ++ drop (at + n) b′) (same-drop (at + n) from b′ b (t .behind) h)
+    ∙ laid-again (drop from b) t
 
 hop-least : (m : Move) → hop m ≤ distance m
 unfolding hop

@@ -114,7 +114,8 @@ module _ (size spare : ℕ) (w : List ℕ) where
           pub told-moving : getD w 1 0 ≡ 1 → Moving m ≡ toldBy size spare w
           unfolding toldBy
           told-moving h =
-              rw (le-ltb 1 (getD w 0 0) p, le-ltb 0 (getD w 6 0) x, le-ltb 0 (getD w 7 0) y, begun ∙ g, eq-eqb (getD w 1 0) 1 h) (ap Moving e)
+              rw (le-ltb 1 (getD w 0 0) p, le-ltb 0 (getD w 6 0) x, le-ltb 0 (getD w 7 0) y, begun ∙ g, eq-eqb (getD w 1 0) 1 h)
+              (ap Moving e)
 
           module _ (a : getD w 1 0 ≡ 1 → ⊥) where
             pub bad-state : (getD w 1 0 ≡ 2 → ⊥) → Still ≡ toldBy size spare w

@@ -23,10 +23,15 @@ use Rattle.store_text.specs.declared.Next.the-variants.{To, Astray}
 use Rattle.store_text.specs.Noted.{Listed, markWord, markLine, markLinesFrom, markLines, listed, listedFrom, listedAt, rowsListed}
 use Rattle.store_text.specs.Passing.{headOf, headed, noted, nextOf, markIs, noMark, marksAre, samplesIs, noteIs}
 use Rattle.store_text.proofs.Lines.{listed-parts, noted-law}
-use Rattle.store_text.proofs.Marks.{mark-goes}
+use Rattle.store_text.proofs.Marks.{mark-goes, note-on}
 use Rattle.store_save.specs.Saved.{anyBad, allTrue, sameMarks, sameNote}
 use Rattle.store_save.specs.Steps.{greetingsOf, Fitting}
 use Rattle.store_save.proofs.Bad.{part-same}
+
+-- samples that are right, and then what is found of the marks
+pub note-told : (samples : ℕ) (ms : List Mark) (text : List ℕ) (i : ℕ) {j : ℕ} {r : Next} → To j ≡ nextOf (samplesIs samples text i)
+    → r ≡ nextOf (marksAre ms text j) → r ≡ nextOf (noteIs samples ms text i)
+note-told samples ms text i e f = f ∙ sym (note-on samples ms text i e)
 
 abbrev to : Bool → ℕ → Next
 to t j = cond t (To j) Astray

@@ -1,5 +1,5 @@
--- Each contract leaves one answer, and one content of what is lent (`only-save`, `only-load`). A saving is refused exactly where that is the
--- first that fails (`save-refused`); what a text then says of what was asked: `text-saved`, `text-declined`.
+-- Each contract leaves one answer, and one content of what is lent (`only-save`, `only-load`). A saving is refused exactly where that is
+-- the first that fails (`save-refused`); what a text then says of what was asked: `text-saved`, `text-declined`.
 use Prim.Native.Nat.{ℕ}
 use mathlib.Core.Path.{_≡_, sym, _∙_}
 use mathlib.Core.List.{List}

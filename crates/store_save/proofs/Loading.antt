@@ -18,7 +18,7 @@ use Rattle.store_notes.specs.Sane.{storeCells}
 use Rattle.store.specs.declared.Refusal.{Refusal}
 use Rattle.store.specs.declared.Refusal.the-variants.{Table}
 use Rattle.store.specs.declared.Answer.{Answer}
-use Rattle.store.specs.declared.Answer.the-variants.{Done, Refused}
+use Rattle.store.specs.declared.Answer.the-variants.{Refused}
 use Rattle.store.specs.Store.{Outcome, leaves, refused}
 use Rattle.text_keyvalue.specs.Reading.{Read, whole, none}
 use Rattle.store_text.specs.declared.Count.{Count}
@@ -29,9 +29,10 @@ use Rattle.store_text.specs.declared.Form.{Form}
 use Rattle.store_text.specs.Form.{formOf}
 use Rattle.store_text.specs.Fills.{Fills, FillsNoted, lawsListed}
 use Rattle.store_text.proofs.Noting.{length-rows-listed}
+use Rattle.store_save.specs.declared.Verdict.{Verdict}
 use Rattle.store_save.specs.declared.Verdict.the-variants.{Stop, Fine}
 use Rattle.store_save.specs.Saved.{allTrue, loadAsks, loadIn, loadNoted, loadOf, early}
-use Rattle.store_save.specs.Steps.{badBy, notesBy, judgedBy, greetingsOf, isWhole, Celled, AllNotes}
+use Rattle.store_save.specs.Steps.{badBy, notesBy, judgedBy, greetingsOf, isWhole, Celled, AllNotes, Holds}
 use Rattle.store_save.specs.Calls.{Takes, Load, verdictOf}
 use Rattle.store_save.proofs.Bad.{bad-celled, notes-celled, rows-early, laws-early, true-early}
 use Rattle.store_save.proofs.Judging.{Passes, verdicts, verdict-is, celled-stop, celled-fine, passes-true}
@@ -46,6 +47,9 @@ rows-read : (rows : List Row) (cells₀ : List ℕ) {cells : List ℕ} {n : ℕ}
 rows-read rows cells₀ {cells} {n} e f =
     let m : n ≡ getD (laid rows cells₀) 0 0 = e ∙ sym (count-laid rows cells₀) in
     ap (λ (c : List ℕ). rowsAt c n 1) f ∙ ap (λ (j : ℕ). rowsAt (laid rows cells₀) j 1) m ∙ rows-laid rows cells₀
+
+counted : (rows : List Row) (cells₀ : List ℕ) {cells : List ℕ} {n : ℕ} → cells ≡ laid rows cells₀ → n ≡ length rows → getD cells 0 0 ≡ n
+counted rows cells₀ f e = ap (λ (c : List ℕ). getD c 0 0) f ∙ count-laid rows cells₀ ∙ sym e
 
 -- the greetings of R-8's lines, as they were read into cells
 pub fills-as : {found : Read (List Listed)} {a b c d : List ℕ} {r q : Count} → r ≡ q → FillsNoted found a b c d r
@@ -66,6 +70,7 @@ celled-noted (whole xs i) {cells₀} {cells} {laws₀} {laws} {n} f a b =
         few = f .few n refl;
         cells-room = a;
         laws-room = b;
+        counts = counted (rowsListed xs) cells₀ (f .filled .0) (k ∙ sym (length-rows-listed xs));
         rows-are = rows-read (rowsListed xs) cells₀ (k ∙ sym (length-rows-listed xs)) (f .filled .0);
         laws-are = f .filled .1 ∙ ap (λ (l : List ℕ). lawsListed xs ++ l) (sym d);
       },
@@ -96,6 +101,7 @@ celled-early b (whole rows i) {cells₀} {cells} {n} f a =
         few = few;
         cells-room = a;
         laws-room = omega arith;
+        counts = counted rows cells₀ (f .filled) k;
         rows-are = rows-read rows cells₀ k (f .filled) ∙ sym (rows-early b rows);
         laws-are = laws-early b rows 32 (omega arith);
       };
@@ -116,14 +122,18 @@ module _ {b : List ℕ} {size : ℕ} {xs : List Listed} {cells laws : List ℕ} 
         room = r;
       }
 
-  pub takes-all : {t t₁ t₂ : List ℕ} → allTrue b xs ≡ true → t₁ ≡ laid (rowsListed xs) t
-      → t₂ ≡ notesLaid (notesBy b (rowsAt cells n 1) laws) t₁ → Takes (loadIn b size xs) t t₂ (Done 0 0)
-  takes-all {t} {t₁} {t₂} e f g =
+  takes-all : {t t′ : List ℕ} {r : Answer} → allTrue b xs ≡ true → Holds Fine b cells laws n t t′ r → Takes (loadIn b size xs) t t′ r
+  takes-all {t} e h =
+      let old = laid (rowsAt cells n 1) t in
       let m : notesBy b (rowsAt cells n 1) laws ≡ notesListed xs =
       ap (λ (l : List Row). notesBy b l laws) (c .rows-are) ∙ ap (notesBy b (rowsListed xs)) (c .laws-are)
       ∙ sym (notes-celled b xs (drop (length xs) laws) e) in
       rw (passes-true p e)
-      (record { answer = refl; table = g ∙ ap (λ (l : List Note). notesLaid l t₁) m ∙ ap (notesLaid (notesListed xs)) f })
+      (record {
+        answer = h .answer;
+        table = h .table ∙ ap (λ (l : List Note). notesLaid l old) m
+            ∙ ap (λ (l : List Row). notesLaid (notesListed xs) (laid l t)) (c .rows-are);
+      })
 
 -- a verdict, as an outcome
 stopped : (o : Outcome) {w : Refusal} → Stop w ≡ verdictOf o → o ≡ refused w
@@ -153,31 +163,32 @@ pub noted-wrong : (b : List ℕ) (size : ℕ) (found : Read (List Listed)) (t : 
 noted-wrong b size (whole xs i) t f = let e = f .count in let z : _≡_ {A = ℕ} 0 1 = cc in absurd (omega arith)
 noted-wrong b size none t f = record { answer = refl; table = refl }
 
-pub noted-stop : (b : List ℕ) (size : ℕ) (found : Read (List Listed)) (t : List ℕ) {w : Refusal} → isWhole found ≡ true
-    → Stop w ≡ verdictOf (loadIn b size (greetingsOf found)) → Takes (loadNoted b size found) t t (Refused w)
-noted-stop b size found t e f = refuses (loadNoted b size found) t (noted-is b size found e ∙ stopped (loadIn b size (greetingsOf found)) f)
+module _ (b : List ℕ) (found : Read (List Listed)) {cells laws : List ℕ} {n : ℕ} (whole : isWhole found ≡ true)
+    (c : Celled (greetingsOf found) cells laws n) {v : Verdict} (e : v ≡ verdictOf (loadIn b (sizeOf b) (greetingsOf found))) where
+  pub noted-ready : {t : List ℕ} {s : ℕ} → s ≡ sizeOf b → storeCells s ≤ length t
+      → (getD cells 0 0 ≡ n) × (v ≡ Fine → AllNotes b cells laws n s t)
+  noted-ready z r = (c .counts, λ f. all-notes c (accepts b (sizeOf b) (greetingsOf found) (sym f ∙ e) .passes) z z r)
 
-rows-again : (found : Read (List Listed)) {t t₁ laws laws′ : List ℕ} {q : Count} → isWhole found ≡ true → FillsNoted found t t₁ laws laws′ q
-    → t₁ ≡ laid (rowsListed (greetingsOf found)) t
-rows-again (whole xs i) e f = f .filled .0
-rows-again none e f = let z : _≡_ {A = ℕ} 0 1 = cc in absurd (omega arith)
+  pub noted-held : {t t′ : List ℕ} {r : Answer} → Holds v b cells laws n t t′ r → Takes (loadNoted b (sizeOf b) found) t t′ r
+  noted-held {t} {t′} {r} h = rw (noted-is b (sizeOf b) found whole) (go v e h)
+    where
+      xs : List Listed
+      xs = greetingsOf found
 
-pub noted-fine : (b : List ℕ) (size : ℕ) (found : Read (List Listed)) {cells laws : List ℕ} {n : ℕ} {t t₁ t₂ r s : List ℕ} {q : Count}
-    → isWhole found ≡ true → Celled (greetingsOf found) cells laws n → Accepts b size (greetingsOf found) → FillsNoted found t t₁ r s q
-    → t₂ ≡ notesLaid (notesBy b (rowsAt cells n 1) laws) t₁ → Takes (loadNoted b size found) t t₂ (Done 0 0)
-noted-fine b size found e c a f g = rw (noted-is b size found e) (takes-all c (a .passes) (a .all) (rows-again found e f) g)
+      go : (v : Verdict) → v ≡ verdictOf (loadIn b (sizeOf b) xs) → Holds v b cells laws n t t′ r → Takes (loadIn b (sizeOf b) xs) t t′ r
+      go (Stop w) e h = rw (h .answer, h .table) (refuses (loadIn b (sizeOf b) xs) t (stopped (loadIn b (sizeOf b) xs) e))
+      go Fine e h = let a = accepts b (sizeOf b) xs e in takes-all c (a .passes) (a .all) h
 
 -- the whole call
 none-read : (found : Read (List Row)) {a b : List ℕ} → Fills found a b Wrong → found ≡ none
 none-read (whole rows i) f = let e = f .count in let z : _≡_ {A = ℕ} 0 1 = cc in absurd (omega arith)
 none-read none f = refl
 
-rows-twice : (found : Read (List Row)) {rows : List Row} {i : ℕ} {t t₁ : List ℕ} {q : Count} → found ≡ whole rows i → Fills found t t₁ q
-    → t₁ ≡ laid rows t
-rows-twice found {rows} {i} {t} {t₁} {q} e f = go (rw e at f)
-  where
-    go : Fills (whole rows i) t t₁ q → t₁ ≡ laid rows t
-    go f = f .filled
+pub early-ready : (b : List ℕ) {found : Read (List Row)} {x : List ℕ} {n : ℕ} → Early b found x n → {v : Verdict}
+    → v ≡ judgedBy b (sizeOf b) (rowsAt x n 1) (replicate 32 1) → {t : List ℕ} {s : ℕ} → s ≡ sizeOf b → storeCells s ≤ length t
+    → (getD x 0 0 ≡ n) × (v ≡ Fine → AllNotes b x (replicate 32 1) n s t)
+early-ready b e f z r =
+    (e .celled .counts, λ g. all-notes (e .celled) (celled-fine (e .celled) b (sizeOf b) (sym g ∙ f)) z z r)
 
 module _ (text b t : List ℕ) {size cells : ℕ} (z : size ≡ sizeOf b) (k : cells ≡ storeCells size) where
   pub load-short : length t < cells → Load text b t t (Refused Table)
@@ -191,15 +202,15 @@ module _ (text b t : List ℕ) {size cells : ℕ} (z : size ≡ sizeOf b) (k : c
         rw (← z, ← k, le-ltb (length t) cells h, none-read (tableIn text) f) (rw (← z) at found)
 
     module _ {x : List ℕ} {n : ℕ} (e : Early b (tableIn text) x n) where
-      pub load-stop : {w : Refusal} → Stop w ≡ judgedBy b (sizeOf b) (rowsAt x n 1) (replicate 32 1) → Load text b t t (Refused w)
+      load-stop : {w : Refusal} → Stop w ≡ judgedBy b (sizeOf b) (rowsAt x n 1) (replicate 32 1) → Load text b t t (Refused w)
       load-stop f =
           let o = loadIn b (sizeOf b) (early b (e .rows)) in
           let g = celled-stop (e .celled) b (sizeOf b) f in
           refuses (loadOf text b t) t (rw (← z, ← k, le-ltb (length t) cells h, e .reads) (rw (← z) at (stopped o g)))
 
-      pub load-fine : {t₁ t₂ : List ℕ} {q : Count} → Fine ≡ judgedBy b (sizeOf b) (rowsAt x n 1) (replicate 32 1)
-          → Fills (tableIn text) t t₁ q → t₂ ≡ notesLaid (notesBy b (rowsAt x n 1) (replicate 32 1)) t₁ → Load text b t t₂ (Done 0 0)
-      load-fine {t₁} {t₂} f g s =
+      pub load-early : (v : Verdict) {t′ : List ℕ} {r : Answer} → v ≡ judgedBy b (sizeOf b) (rowsAt x n 1) (replicate 32 1)
+          → Holds v b x (replicate 32 1) n t t′ r → Load text b t t′ r
+      load-early (Stop w) f d = rw (d .answer, d .table) (load-stop f)
+      load-early Fine f d =
           let p = celled-fine (e .celled) b (sizeOf b) f in
-          let l = rows-twice (tableIn text) (e .reads) g ∙ ap (λ (r : List Row). laid r t) (sym (rows-early b (e .rows))) in
-          rw (← z, ← k, le-ltb (length t) cells h, e .reads) (rw (← z) at (takes-all (e .celled) p (true-early b (e .rows)) l s))
+          rw (← z, ← k, le-ltb (length t) cells h, e .reads) (rw (← z) at (takes-all (e .celled) p (true-early b (e .rows)) d))

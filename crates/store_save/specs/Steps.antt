@@ -8,14 +8,16 @@ use Rattle.rules.specs.Judged.{Asked, ask, bar, judged}
 use Rattle.store_rows.specs.declared.rows.Row.{Row}
 use Rattle.store_rows.specs.Limits.{largestBlock, mostGreetings, listCells}
 use Rattle.store_rows.specs.Rows.{greeting}
-use Rattle.store_rows.specs.Cells.{rowsAt}
+use Rattle.store_rows.specs.Cells.{rowsAt, laid}
 use Rattle.store_rows.specs.Sane.{rising, numbered}
 use Rattle.store_greeting.specs.Bad.{isBad}
 use Rattle.store_greeting.specs.Marks.{Note, noteOf, mostMarks}
-use Rattle.store_notes.specs.Cells.{secondList, firstMark, headsOf, marksHeld}
+use Rattle.store_notes.specs.Cells.{secondList, firstMark, headsOf, marksHeld, notesLaid}
 use Rattle.store_notes.specs.Sane.{storeCells}
 use Rattle.store.specs.declared.Refusal.{Refusal}
 use Rattle.store.specs.declared.Refusal.the-variants.{Bad, Table}
+use Rattle.store.specs.declared.Answer.{Answer}
+use Rattle.store.specs.declared.Answer.the-variants.{Done, Refused}
 use Rattle.text_keyvalue.specs.Reading.{Read, whole, none}
 use Rattle.store_text.specs.Noted.{Listed, rowsListed}
 use Rattle.store_text.specs.Fills.{lawsListed}
@@ -56,6 +58,7 @@ pub record Celled (xs : List Listed) (cells laws : List ℕ) (n : ℕ) : Type 0 
   pub laws-room : mostGreetings ≤ length laws
   pub rows-are : rowsAt cells n 1 ≡ rowsListed xs
   pub laws-are : laws ≡ lawsListed xs ++ drop (length xs) laws
+  pub counts : getD cells 0 0 ≡ n
 
 -- a text whose greetings are apart, inside the block and not BAD: what samples and marks are judged of
 pub record Fitting (b : List ℕ) (size n : ℕ) (found : Read (List Listed)) : Type 0 where
@@ -84,3 +87,16 @@ pub record AllNotes (b cells laws : List ℕ) (n size : ℕ) (t : List ℕ) : Ty
   pub rises : rising 0 0 size (rowsAt cells n 1) ≡ true
   pub fine : badBy b (rowsAt cells n 1) laws ≡ false
   pub room : storeCells size ≤ length t
+
+-- what a verdict leads to: the greetings of the cells and their notes in the table, or the table as it was
+abbrev pub toldBy : Verdict → Answer
+toldBy (Stop w) = Refused w
+toldBy Fine = Done 0 0
+
+abbrev pub leftBy : Verdict → List ℕ → List ℕ → List ℕ
+leftBy (Stop w) new old = old
+leftBy Fine new old = new
+
+pub record Holds (v : Verdict) (b cells laws : List ℕ) (n : ℕ) (t t′ : List ℕ) (r : Answer) : Type 0 where
+  pub answer : r ≡ toldBy v
+  pub table : t′ ≡ leftBy v (notesLaid (notesBy b (rowsAt cells n 1) laws) (laid (rowsAt cells n 1) t)) t

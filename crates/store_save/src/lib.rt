@@ -2,11 +2,11 @@
 ghost use mathlib.Core.Path.{_≡_};
 ghost use mathlib.Core.Bool.{true, false};
 ghost use Prim.Native.Nat.{_+_, _*_, _≤_, _<_};
-ghost use lib.ListN.{length};
+ghost use lib.ListN.{length, getD};
 ghost use Rattle.rules.specs.Tools.{mostLaw};
 ghost use Rattle.rules.specs.Walk.{longest};
-ghost use Rattle.store_rows.specs.Limits.{largestBlock, mostGreetings, listCells, sizeOf};
-ghost use Rattle.store_rows.specs.Cells.{rowsAt};
+ghost use Rattle.store_rows.specs.Limits.{largestBlock, mostGreetings, rowCells, listCells, sizeOf};
+ghost use Rattle.store_rows.specs.Cells.{rowsAt, laid};
 ghost use Rattle.store_rows.specs.Sane.{rising};
 ghost use Rattle.store_greeting.specs.Bad.{isBad};
 ghost use Rattle.store_greeting.specs.Marks.{noteOf};
@@ -16,7 +16,9 @@ ghost use Rattle.store_notes.specs.Sane.{storeCells};
 ghost use Rattle.store_text.specs.Noted.{listedAt};
 ghost use Rattle.store_text.specs.Passing.{nextOf, marksAre, noteIs};
 ghost use Rattle.store_save.specs.Saved.{allTrue, loadIn, loadNoted};
+ghost use Rattle.store_save.specs.declared.Verdict.the-variants.{Fine};
 ghost use Rattle.store_save.specs.Steps.{badBy, notesBy, judgedBy, greetingsOf, isWhole, Celled, Fitting, OneMore, AllNotes};
+ghost use Rattle.store_save.specs.Steps.{Holds};
 ghost use Rattle.store_save.specs.Calls.{verdictOf, Save, Load, Takes};
 use store::Answer;
 use store::Refusal;
@@ -229,6 +231,41 @@ fn store_notes(block: &[u8], cells: &[u32], laws: &[u32], n: usize, size: usize,
     }
 }
 
+// The greetings' cells at a table's start: how many they are, then three of each.
+fn put_rows(cells: &[u32], n: usize, table: &mut [u32])
+    requires { ⌜ (n ≤ mostGreetings) × (1 + rowCells * n ≤ length (now cells)) × (1 + rowCells * n ≤ length (now table))
+        × (getD (now cells) 0 0 ≡ n) ⌝ }
+    ensures { λ _. ⌜ now (table .exit) ≡ laid (rowsAt (now (cells .entry)) n 1) (now (table .entry)) ⌝ }
+{
+    for i in 0..1 + store_rows::rows::ROW_CELLS * n {
+        table[i] = cells[i];
+    }
+}
+
+// What a verdict leads to: the greetings that were read into cells are put down with their notes, or nothing changes.
+fn hold(
+    verdict: Verdict,
+    block: &[u8],
+    cells: &[u32],
+    laws: &[u32],
+    n: usize,
+    size: usize,
+    table: &mut [u32],
+) -> Answer
+    requires { ⌜ (getD (now cells) 0 0 ≡ n) × (verdict ≡ Fine → AllNotes (now block) (now cells) (now laws) n size (now table)) ⌝ }
+    ensures { λ r. ⌜ Holds verdict (now (block .entry)) (now (cells .entry)) (now (laws .entry)) n (now (table .entry))
+        (now (table .exit)) r ⌝ }
+{
+    match verdict {
+        Verdict::Stop(why) => Answer::Refused(why),
+        Verdict::Fine => {
+            put_rows(cells, n, table);
+            store_notes(block, cells, laws, n, size, table);
+            Answer::Done(0, 0)
+        }
+    }
+}
+
 // A text of R-8's lines, in a form. It is judged before anything that is lent changes: its greetings go into cells of their own.
 fn load_noted(text: &[u8], form: Form, block: &[u8], size: usize, table: &mut [u32]) -> Answer
     requires { ⌜ (form .most ≤ largestBlock) × (size ≡ sizeOf (now block)) × (storeCells size ≤ length (now table)) ⌝ }
@@ -240,15 +277,10 @@ fn load_noted(text: &[u8], form: Form, block: &[u8], size: usize, table: &mut [u
     let mut laws = [1u32; store_rows::rows::MOST_GREETINGS];
     match store_text::read_noted(text, form, &mut cells, &mut laws) {
         Count::Wrong => Answer::Refused(Refusal::Table),
-        Count::Greetings(n) => match judge_noted(text, form, block, &cells, &laws, n) {
-            Verdict::Stop(why) => Answer::Refused(why),
-            Verdict::Fine => {
-                let mut again = [1u32; store_rows::rows::MOST_GREETINGS];
-                store_text::read_noted(text, form, table, &mut again);
-                store_notes(block, &cells, &laws, n, size, table);
-                Answer::Done(0, 0)
-            }
-        },
+        Count::Greetings(n) => {
+            let verdict = judge_noted(text, form, block, &cells, &laws, n);
+            hold(verdict, block, &cells, &laws, n, size, table)
+        }
     }
 }
 
@@ -264,14 +296,10 @@ pub fn load(text: &[u8], block: &[u8], table: &mut [u32]) -> Answer
     let laws = [1u32; store_rows::rows::MOST_GREETINGS];
     match store_text::read_rows(text, &mut cells) {
         Count::Wrong => load_noted(text, store_text::form_of(text), block, size, table),
-        Count::Greetings(n) => match judge_rows(block, &cells, &laws, n) {
-            Verdict::Stop(why) => Answer::Refused(why),
-            Verdict::Fine => {
-                store_text::read_rows(text, table);
-                store_notes(block, &cells, &laws, n, size, table);
-                Answer::Done(0, 0)
-            }
-        },
+        Count::Greetings(n) => {
+            let verdict = judge_rows(block, &cells, &laws, n);
+            hold(verdict, block, &cells, &laws, n, size, table)
+        }
     }
 }
 

@@ -103,38 +103,43 @@ fn say_what(before: &[u8], what: u32, after: &[u8]) {
     tool_console::say(after);
 }
 
+fn say_format(what: u32) {
+    say_what(b"the WAV file has format ", what, b", and PCM is 1\n");
+}
+
+fn say_short_format(what: u32) {
+    say_what(
+        b"the WAV file tells its format in ",
+        what,
+        b" octets, and 16 are needed\n",
+    );
+}
+
+fn say_odd_sound(what: u32) {
+    say_what(
+        b"the WAV file has a sound of ",
+        what,
+        b" octets, half a sample too many\n",
+    );
+}
+
+// What it has of something else, and what a master has of it.
+fn say_has(what: u32, after: &[u8]) {
+    say_what(b"the WAV file has ", what, after);
+}
+
 // Why a WAV file is refused.
 fn say_wrong(why: Wrong) {
     tool_console::say_tool(Tool::Pack);
     match why {
         Wrong::NotWave => tool_console::say(b"this is no WAV file\n"),
-        Wrong::Format(what) => say_what(b"the WAV file has format ", what, b", and PCM is 1\n"),
-        Wrong::Channels(what) => say_what(
-            b"the WAV file has ",
-            what,
-            b" channels, and a master has 1\n",
-        ),
-        Wrong::Rate(what) => say_what(
-            b"the WAV file has ",
-            what,
-            b" samples a second, and a master has 8000\n",
-        ),
-        Wrong::Bits(what) => say_what(
-            b"the WAV file has ",
-            what,
-            b" bits a sample, and a master has 16\n",
-        ),
-        Wrong::ShortFormat(what) => say_what(
-            b"the WAV file tells its format in ",
-            what,
-            b" octets, and 16 are needed\n",
-        ),
+        Wrong::Format(what) => say_format(what),
+        Wrong::Channels(what) => say_has(what, b" channels, and a master has 1\n"),
+        Wrong::Rate(what) => say_has(what, b" samples a second, and a master has 8000\n"),
+        Wrong::Bits(what) => say_has(what, b" bits a sample, and a master has 16\n"),
+        Wrong::ShortFormat(what) => say_short_format(what),
         Wrong::NoFormat => tool_console::say(b"the WAV file tells no format before its sound\n"),
-        Wrong::OddSound(what) => say_what(
-            b"the WAV file has a sound of ",
-            what,
-            b" octets, half a sample too many\n",
-        ),
+        Wrong::OddSound(what) => say_odd_sound(what),
         Wrong::ManyChunks => tool_console::say(
             b"the WAV file has more than 32 chunks before its sound\n",
         ),

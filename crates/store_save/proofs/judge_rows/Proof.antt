@@ -2,6 +2,8 @@
 use mathlib.Core.Path.{sym, _∙_}
 use native.Mathlib.Omega.{arith}
 use borrow.Author.Tests.{not-true, not-false}
+use Rattle.store_rows.specs.Cells.{rowsAt}
+use Rattle.store_rows.specs.Sane.{rising}
 use Rattle.store_save.proofs.Judging.{not-apart, not-once, is-bad, is-fine}
 use borrow.Author.Needs.{needs}
 use Rattle.store_save.proofs.judge_rows.Statement.{statement}
@@ -16,11 +18,21 @@ returns-2 c =
     not-once _ _ _ (i .before .before .size-of .ensures) (i .before .rises .ensures) (not-false _ (i .if1 .left))
     (c .before .distinct .ensures) (not-true _ (c .if2 .taken))
 
+module _ (c : tie.Else1) where
+  abbrev start : tie.Start
+  start = c .before .before .before .before .before .before
+
 any-bad-requires : tie.Need-any-bad-requires
 any-bad-requires c κs =
     let i = c .before .before in
-    let s = i .before .before .size-of .ensures in
-    (omega arith, omega arith, omega arith, omega (arith, s), sym (i .before .rises .ensures) ∙ not-false _ (i .if1 .left))
+    let s = i .before .before .size-of in
+    let a = (start i) .args in (
+      omega arith,
+      omega arith,
+      omega arith,
+      omega (arith, s .ensures),
+      _∙_ {a = rising 0 0 (s .result) (rowsAt (a .cells .now) (a .n) 1)} (sym (i .before .rises .ensures)) (not-false _ (i .if1 .left)),
+    )
 
 returns-3 : tie.Need-returns-3
 returns-3 c =

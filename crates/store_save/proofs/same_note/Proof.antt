@@ -5,7 +5,8 @@ use native.Mathlib.Omega.{arith}
 use Rattle.store_greeting.specs.Marks.{noteOf}
 use Rattle.store_notes.proofs.Taken.{taken, heard-small}
 use Rattle.store_text.specs.Passing.{nextOf, samplesIs}
-use Rattle.store_text.proofs.Marks.{note-astray, note-on}
+use Rattle.store_text.proofs.Marks.{note-astray}
+use Rattle.store_save.proofs.Compared.{note-told}
 use Rattle.store_save.proofs.Small.{fine-law, tally-wrong}
 use borrow.Author.Needs.{needs}
 use Rattle.store_save.proofs.same_note.Statement.{statement}
@@ -62,8 +63,8 @@ returns-3 c =
     let t = taken (take .take .ensures) (told .samples .given .1) (fine-law _ _ (p .1)) (omega (arith, p .0)) (take .take .kept .1 .1 .0) in
     let note = noteOf (a .law) (a .octets .now) in
     let e = sym (at .at .given .1) ∙ at .before .before .samples-are .ensures in
-    c .same-marks .ensures ∙ sym (note-on (note .samples) (note .marks) (a .text .now) (a .place)
-    (e ∙ ap (λ (n : ℕ). nextOf (samplesIs n (a .text .now) (a .place))) (t .heard .samples-are)))
+    note-told (note .samples) (note .marks) (a .text .now) (a .place)
+    (e ∙ ap (λ (n : ℕ). nextOf (samplesIs n (a .text .now) (a .place))) (t .heard .samples-are)) (c .same-marks .ensures)
 
 pub same-note-spec : {M : Type 1} → statement M
 same-note-spec = tie.close (tie.spec (λ c. search needs) take-requires (λ c. search needs) (λ c. search needs)

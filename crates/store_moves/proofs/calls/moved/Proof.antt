@@ -39,4 +39,5 @@ returns-2 c =
     (rw (went .before .wide .ensures) at (went .moved-in .ensures))
 
 pub moved-spec : {M : Type 1} → statement M
-moved-spec = tie.close (tie.spec (λ c κs. search needs) (λ c κs. search needs) (λ c. search needs) returns (λ c κs. search needs) moved-in-requires (λ c. search needs) returns-2)
+moved-spec = tie.close (tie.spec (λ c κs. search needs) (λ c κs. search needs) (λ c. search needs) returns (λ c κs. search needs)
+    moved-in-requires (λ c. search needs) returns-2)

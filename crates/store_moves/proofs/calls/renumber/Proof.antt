@@ -38,4 +38,5 @@ returns-2 c =
     (rw (went .before .wide .ensures) at (went .renumber-in .ensures))
 
 pub renumber-spec : {M : Type 1} → statement M
-renumber-spec = tie.close (tie.spec (λ c κs. search needs) (λ c κs. search needs) (λ c. search needs) returns (λ c κs. search needs) renumber-in-requires (λ c. search needs) returns-2)
+renumber-spec = tie.close (tie.spec (λ c κs. search needs) (λ c κs. search needs) (λ c. search needs) returns (λ c κs. search needs)
+    renumber-in-requires (λ c. search needs) returns-2)

@@ -18,7 +18,8 @@ returns : tie.Need-returns
 returns c =
     let n = c .before in
     let a = n .before .before .before .args in
-    denied (a .table .now) (renumber-first (rowsOf (a .table .now)) (a .x) (a .to) (sym (n .is-number .ensures) ∙ not-true _ (c .if1 .taken)))
+    denied (a .table .now) (renumber-first (rowsOf (a .table .now)) (a .x) (a .to)
+    (sym (n .is-number .ensures) ∙ not-true _ (c .if1 .taken)))
 
 -- both numbers are
 module _ (c : tie.Else2) where
@@ -40,7 +41,8 @@ returns-2 c =
     let e = n .before in
     let w = e .before .before in
     let a = w .before .before .args in
-    denied (a .table .now) (renumber-second (rowsOf (a .table .now)) (a .x) (a .to) (sym (e .before .is-number .ensures) ∙ not-false _ (e .if1 .left))
+    denied (a .table .now) (renumber-second (rowsOf (a .table .now)) (a .x) (a .to)
+    (sym (e .before .is-number .ensures) ∙ not-false _ (e .if1 .left))
     (ap isNumber (sym (w .wide .ensures)) ∙ sym (n .is-number2 .ensures) ∙ not-true _ (c .if2 .taken)))
 
 slice-read-wide : tie.Need-slice-read-wide

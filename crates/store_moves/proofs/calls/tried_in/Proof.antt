@@ -13,7 +13,9 @@ use Rattle.store_moves.proofs.calls.tried_in.Statement.{statement}
 use Rattle.store_moves.proofs.calls.tried_in.Tie as tie
 
 returns : tie.Need-returns
-returns c = let a = c .before .before .before .args in tried-law (a .size) (rowsOf (a .table .now)) (a .law) (a .x) (a .octets .now) (omega arith)
+returns c =
+    let a = c .before .before .before .args in
+    tried-law (a .size) (rowsOf (a .table .now)) (a .law) (a .x) (a .octets .now) (omega arith)
 
 returns-2 : tie.Need-returns-2
 returns-2 c =
@@ -111,12 +113,11 @@ returns-7 c =
     let find = found h in
     let a = begun find .args in
     let l = length-rows (a .table .now) (getD (a .table .now) 0 0) 1 in
-    c .place .ensures
-    ∙ tried-fits (a .size) (rowsOf (a .table .now)) (a .law) (a .x) (a .octets .now) (omega arith) (numbered (number find))
+    tried-fits (a .size) (rowsOf (a .table .now)) (a .law) (a .x) (a .octets .now) (omega arith) (numbered (number find))
     (find-none (a .table .now) (a .x) (find .before .wide .ensures) (find .find .ensures .0) (omega arith))
     (sym (fine h .before .is-bad .ensures) ∙ fine h .if4 .left) (omega (arith, l, find .before .wide .ensures))
-    (omega (arith, h .held .ensures))
+    (omega (arith, h .held .ensures)) (c .place .ensures)
 
 pub tried-in-spec : {M : Type 1} → statement M
-tried-in-spec = tie.close (tie.spec returns (λ c κs. search needs) returns-2 shared-slice-read-wide (λ c κs. search needs) find-requires returns-3 (λ c κs. search needs)
-    returns-4 returns-5 held-requires (λ c. search needs) returns-6 place-requires returns-7)
+tried-in-spec = tie.close (tie.spec returns (λ c κs. search needs) returns-2 shared-slice-read-wide (λ c κs. search needs)
+    find-requires returns-3 (λ c κs. search needs) returns-4 returns-5 held-requires (λ c. search needs) returns-6 place-requires returns-7)
