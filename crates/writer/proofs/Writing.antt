@@ -12,19 +12,16 @@ use Rattle.rules.specs.declared.Refusal.{Refusal}
 use Rattle.rules.specs.declared.Refusal.the-variants.{Length, Room}
 use Rattle.rules.specs.declared.Ending.the-variants.{Done}
 use Rattle.rules.specs.declared.WriteAnswer.{WriteAnswer}
-use Rattle.rules.specs.Bits.{lowBits, bitsOf, valueFrom, octetsFor, octetsFrom, pack}
+use Rattle.rules.specs.Bits.{lowBits, valueFrom, octetsFor, octetsFrom, pack}
 use Rattle.rules.specs.Refusals.{verdict}
 use Rattle.rules.specs.Samples.{maskOf}
 use Rattle.rules.specs.Tools.{isLength, writerAsks}
-use Rattle.rules.specs.Chooses.{formOf, chosenTool, Written, Write, declined, chosen, writeOne}
+use Rattle.rules.specs.Chooses.{Written, Write, declined, chosen, writeOne}
 use Rattle.rules.specs.Calls.{Writes}
 use Rattle.rules.proofs.Octets.{length-pack}
 use Rattle.rules.proofs.Guards.{write-allowed}
-use Rattle.write_choice.specs.Plans.{Chosen}
 use Rattle.write_bits.specs.Puts.{Packed}
-use Rattle.writer.specs.Answers.{Tells, fitting, pad, full, plain}
-use Rattle.write_forms.specs.Forms.{wholeOctets}
-use Rattle.write_forms.proofs.Whole.{whole-form}
+use Rattle.writer.specs.Answers.{Tells, fitting, pad, full}
 
 -- a refusal leaves the output as lent
 pub refused-writes : {why : Refusal} {r : WriteAnswer} {out : List ℕ} → Tells (declined why) r → Writes (declined why) r out out
@@ -77,17 +74,6 @@ pad-size = refl
 pub set-first : (l : List ℕ) → (length l ≡ 0 → ⊥) → set l 0 0 ≡ 0 ∷ drop 1 l
 set-first [] n = absurd (n refl)
 set-first (x ∷ l) n = refl
-
--- a form that is settled, and one that is measured, are the chosen form
-pub plain-full : (mask set t : ℕ) (s : List ℕ) → t ≡ chosenTool mask set s → 1 ≤ t → t ≤ 4 → plain t s ≡ full mask set s
-plain-full mask set t s e some most =
-    ap (λ (b : List ℕ). record { tool = t; bits = b }) (whole-form mask t s some most)
-    ∙ ap (λ (k : ℕ). record { tool = k; bits = formOf mask k s }) e
-
-pub plain-size : {mask t b : ℕ} {s : List ℕ} (set : ℕ) → Chosen mask (chosenTool mask set s) s t b → 1 ≤ t → t ≤ 4
-    → b ≡ length (bitsOf (wholeOctets t s))
-plain-size {mask} {t} {s = s} set c some most =
-    c .bits ∙ ap (λ (k : ℕ). length (formOf mask k s)) (sym (c .tool)) ∙ ap length (sym (whole-form mask t s some most))
 
 -- "Order: LAW, SET, then LENGTH"
 module _ (n : ℕ) (samples : List ℕ) (law set room : ℕ) (lawful : verdict (writerAsks law set) ≡ Done) where

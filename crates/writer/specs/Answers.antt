@@ -8,8 +8,9 @@ use lib.Dec.{ltb}
 use Rattle.rules.specs.declared.Refusal.the-variants.{Room}
 use Rattle.rules.specs.declared.WriteAnswer.{WriteAnswer}
 use Rattle.rules.specs.Bits.{lowBits, bitsOf, octetsFor}
-use Rattle.rules.specs.Chooses.{Written, Write, wrote, declined, chosenTool, formOf}
-use Rattle.rules.specs.Calls.{writeEnd, writtenBits, writeTool}
+use Rattle.rules.specs.Chooses.{Written, Write, wrote, declined, chosenTool, formOf, writeOne}
+use Rattle.rules.specs.Calls.{writeEnd, writtenBits, writeTool, Writes}
+use Rattle.write_bits.specs.Puts.{Packed}
 use Rattle.write_forms.specs.Forms.{wholeOctets}
 
 pub record Tells (written : Write) (r : WriteAnswer) : Type 0 where
@@ -26,10 +27,22 @@ fitting room w = cond (ltb room (octetsFor (length (w .bits)))) (declined Room) 
 abbrev pub pad : Written
 pad = record { tool = 0; bits = lowBits 8 0 }
 
--- the chosen form of some samples
-abbrev pub full : ℕ → ℕ → List ℕ → Written
-full mask set s = record { tool = chosenTool mask set s; bits = formOf mask (chosenTool mask set s) s }
+-- a tool's form; the chosen form of some samples; and one that the first look settles
+abbrev pub byTool : ℕ → List ℕ → Written
+byTool t form = record { tool = t; bits = form }
 
--- a form that the first look settles
+abbrev pub full : ℕ → ℕ → List ℕ → Written
+full mask set s = byTool (chosenTool mask set s) (formOf mask (chosenTool mask set s) s)
+
 abbrev pub plain : ℕ → List ℕ → Written
-plain t s = record { tool = t; bits = bitsOf (wholeOctets t s) }
+plain t s = byTool t (bitsOf (wholeOctets t s))
+
+abbrev pub WritesForm : Written → List ℕ → List ℕ → WriteAnswer → Type 0
+WritesForm w out out′ r = Writes (fitting (length out) w) r out out′
+
+abbrev pub PacksForm : ℕ → ℕ → List ℕ → List ℕ → List ℕ → ℕ → Type 0
+PacksForm mask t s out out′ r = Packed (formOf mask t s) out out′ r
+
+-- a frame written, or its refusal
+abbrev pub WritesOne : ℕ → List ℕ → ℕ → ℕ → List ℕ → List ℕ → WriteAnswer → Type 0
+WritesOne n samples law set out out′ r = Writes (writeOne n samples law set (length out)) r out out′
