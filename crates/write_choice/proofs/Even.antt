@@ -1,6 +1,6 @@
 -- Laws of frames with nearly as many samples of one zero as of the other: Rice has more bits than there are samples, and binary is taken.
 use Prim.Native.Nat.{ℕ, zero, suc, _+_, _*_, _^_, _/_, _%_, _≤_, _<_}
-use mathlib.Core.Path.{_≡_, sym, ap, _∙_}
+use mathlib.Core.Path.{_≡_, sym, _∙_}
 use mathlib.Core.List.{List, [], _∷_}
 use mathlib.Core.Bool.{Bool, true, false, cond, _&&_}
 use native.Mathlib.Omega.{arith}
@@ -12,7 +12,7 @@ use Rattle.rules.specs.Samples.{plusZero, minusZero}
 use Rattle.rules.specs.First.{riceCode}
 use Rattle.rules.specs.Runs.{runsOf, riceForms}
 use Rattle.rules.specs.Zeros.{zeroOf}
-use Rattle.rules.specs.Chooses.{countOf, markOf, bestS, riceBits, riceChoice, applies, formOf, octetsOfForm, choose}
+use Rattle.rules.specs.Chooses.{countOf, markOf, bestS, riceBits, riceChoice, applies, octetsOfForm, choose}
 use Rattle.rules.proofs.Tests.{and-left, and-right}
 use Rattle.write_measure.proofs.Rice.{length-riceForm}
 use Rattle.write_scan.specs.Looks.{countIs, marksOf, twoZeros}

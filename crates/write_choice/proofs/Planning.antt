@@ -23,7 +23,7 @@ use Rattle.write_located.specs.Rows.{LocatedIs}
 use Rattle.write_zeros.specs.Rice.{RiceFor}
 use Rattle.write_offers.specs.Ties.{taken, BetterIs, ChosenIs}
 use Rattle.write_choice.specs.declared.plans.Plain.{Plain}
-use Rattle.write_choice.specs.declared.plans.ZerosPlan.the-variants.{Direct, Binary, Rice}
+use Rattle.write_choice.specs.declared.plans.ZerosPlan.the-variants.{Whole, Binary, Rice}
 use Rattle.write_choice.specs.declared.plans.NearPlan.the-variants.{Last, Values}
 use Rattle.write_choice.specs.Plans.{measured, Left, Chosen, LastIs}
 use Rattle.write_choice.specs.Plans.{ZerosPlanned, zerosBy, NearPlanned, sevenOr, nearBy}
@@ -73,8 +73,8 @@ pub zeros-planned : {mask set n b : ℕ} {s row runs : List ℕ} {rice : Zeros} 
     → RiceFor mask set s rice runs → one ≡ record { tool = 1; bits = wholeBits 1 n } → h₆ ≡ holds set 6
     → BetterIs one 6 h₆ (rice .bits) six → h₅ ≡ holds set 5 → b ≡ 8 + n → BetterIs six 5 h₅ b five
     → RowIs (map (flagOf mask 0) s) (n / 40) row → ZerosPlanned mask set s (zerosBy five rice) row runs
-zeros-planned {mask} {set} {n} {b} {s} {row} {runs} {rice} {one} {five = five} {h₆ = h₆} {h₅ = h₅} seven zeros size few later riced e₁ e₆ b₆ e₅ eb
-    b₅ words =
+zeros-planned {mask} {set} {n} {b} {s} {row} {runs} {rice} {one} {five = five} {h₆ = h₆} {h₅ = h₅}
+    seven zeros size few later riced e₁ e₆ b₆ e₅ eb b₅ words =
     go (eqb (five .tool) 5) refl (eqb (five .tool) 6) refl
   where
     on : applies mask 6 s ≡ true
@@ -97,10 +97,11 @@ zeros-planned {mask} {set} {n} {b} {s} {row} {runs} {rice} {one} {five = five} {
         rw (c₅ .tool) (among mask s set P 5 _ (λ x y. absurd (x refl)) (among mask s set P 6 _ (λ x y. absurd (y refl)) last))
 
     go : (x : Bool) → eqb (five .tool) 5 ≡ x → (y : Bool) → eqb (five .tool) 6 ≡ y
-        → ZerosPlanned mask set s (cond x (Binary (five .bits)) (cond y (Rice rice) (Direct (record { choice = five; row = 0 })))) row runs
+        → ZerosPlanned mask set s (cond x (Binary (five .bits)) (cond y (Rice rice) (Whole five))) row runs
     go true x y z =
         let e : chosenTool mask set s ≡ 5 = later ∙ sym (c₅ .tool) ∙ eqb-true _ _ x in
-        let five-bits : five .bits ≡ 8 + n = c₅ .bits ∙ ap (λ (t : ℕ). length (formOf mask t s)) (sym later ∙ e) ∙ sym (binary-bits mask s size) in
+        let five-bits : five .bits ≡ 8 + n
+        = c₅ .bits ∙ ap (λ (t : ℕ). length (formOf mask t s)) (sym later ∙ e) ∙ sym (binary-bits mask s size) in
         binary-planned size few e five-bits words
     go false x true z =
         let e : chosenTool mask set s ≡ 6 = later ∙ sym (c₅ .tool) ∙ eqb-true _ _ z in
@@ -109,10 +110,7 @@ zeros-planned {mask} {set} {n} {b} {s} {row} {runs} {rice} {one} {five = five} {
         record { chosen = chosen-is 6 e (i .bits ∙ rice-form mask s) (riced .small); needs = i }
     go false x false z =
         let is : five .tool ≡ 1 = kind (eqb-false _ _ x) (eqb-false _ _ z) in
-        record {
-          chosen = chosen-among later c₅;
-          needs = record { row = λ w. absurd (omega (arith, w, is)); kind = λ w. (omega (arith, is), omega (arith, is)) };
-        }
+        record { chosen = chosen-among later c₅; needs = (omega (arith, is), omega (arith, is)) }
 
 short-off : (mask : ℕ) (s : List ℕ) → length s < 80 → applies mask 7 s ≡ false
 unfolding applies
@@ -209,7 +207,8 @@ module _ (mask set : ℕ) (s : List ℕ) {n : ℕ} {one : Choice} (size : length
           let in-row = ltb-true _ _ h in
           let on = row-applies mask s size row in-row in
           let offered : true ≡ (holds set 11 && applies mask 11 s) = rw (held, on) in
-          let done = choose-step (uncompressed-is mask set s size few first) 11 true _ offered (λ z. row-bits mask s size row in-row) better in
+          let done = choose-step (uncompressed-is mask set s size few first) 11 true _ offered
+          (λ z. row-bits mask s size row in-row) better in
           let P : ℕ → Type 0 = λ t. (t ≡ 11 → ⊥) → (1 ≤ t) × (t ≤ 4) in
           let one-fits : P 1 = λ x. (omega arith, omega arith) in
           record {

@@ -16,7 +16,7 @@ use Rattle.write_offers.specs.Ties.{taken, ChosenIs}
 use Rattle.write_choice.specs.declared.settle.Settled.{Settled}
 use Rattle.write_choice.specs.declared.plans.Plain.{Plain}
 use Rattle.write_choice.specs.declared.plans.ZerosPlan.{ZerosPlan}
-use Rattle.write_choice.specs.declared.plans.ZerosPlan.the-variants.{Direct, Binary, Rice}
+use Rattle.write_choice.specs.declared.plans.ZerosPlan.the-variants.{Whole, Binary, Rice}
 use Rattle.write_choice.specs.declared.plans.NearPlan.{NearPlan}
 use Rattle.write_choice.specs.declared.plans.NearPlan.the-variants.{Last, Values}
 use Rattle.write_zeros.specs.declared.Zeros.{Zeros}
@@ -72,14 +72,15 @@ pub record LastIs (mask set : ℕ) (s : List ℕ) (r : Plain) : Type 0 where
   pub chosen : ChosenIs mask set s (11 ∷ []) (r .choice)
   pub plain : PlainIs mask s r
 
--- a plan for a frame of the two zeros: the tool and its bits, and what its form needs, the row of flags, which are 1 at minus zero, or runs
+-- a plan for a frame of the two zeros: the tool and its bits, and what its form needs, the row of flags, which are 1 at minus zero,
+-- or runs
 abbrev pub zerosChoice : ZerosPlan → Choice
-zerosChoice (Direct p) = p .choice
+zerosChoice (Whole c) = c
 zerosChoice (Binary bits) = record { tool = 5; bits = bits }
 zerosChoice (Rice z) = record { tool = 6; bits = z .bits }
 
 abbrev pub ZerosNeeds : ℕ → List ℕ → ZerosPlan → List ℕ → List ℕ → Type 0
-ZerosNeeds mask s (Direct p) row runs = PlainIs mask s p
+ZerosNeeds mask s (Whole c) row runs = (1 ≤ c .tool) × (c .tool ≤ 4)
 ZerosNeeds mask s (Binary bits) row runs = RowIs (map (flagOf mask 0) s) (length s / 40) row
 ZerosNeeds mask s (Rice z) row runs = RiceIs mask s z runs
 
@@ -90,7 +91,7 @@ pub record ZerosPlanned (mask set : ℕ) (s : List ℕ) (p : ZerosPlan) (row run
 -- the best of uncompressed, Rice and binary, as a plan
 abbrev pub zerosBy : Choice → Zeros → ZerosPlan
 zerosBy best rice =
-    cond (eqb (best .tool) 5) (Binary (best .bits)) (cond (eqb (best .tool) 6) (Rice rice) (Direct (record { choice = best; row = 0 })))
+    cond (eqb (best .tool) 5) (Binary (best .bits)) (cond (eqb (best .tool) 6) (Rice rice) (Whole best))
 
 -- a frame of 80 samples or more from -2 to 1 that has a 1 or a -2
 pub record NearFrame (mask : ℕ) (s : List ℕ) : Type 0 where

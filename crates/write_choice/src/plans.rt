@@ -10,9 +10,10 @@ pub struct Plain {
     pub row: usize,
 }
 
-// What is written of a frame of the two zeros: binary has its bits, and needs the row of flags; Rice needs the runs.
+// What is written of a frame of the two zeros: whole octets; or binary, which has its bits and needs the row of flags; or Rice, which
+// needs the runs.
 pub enum ZerosPlan {
-    Direct(Plain),
+    Whole(Choice),
     Binary(usize),
     Rice(Zeros),
 }

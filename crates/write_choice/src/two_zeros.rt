@@ -1,6 +1,5 @@
 // A frame of the two zeros that the look leaves: uncompressed, Rice or binary.
 
-use crate::plans::Plain;
 use crate::plans::ZerosPlan;
 use first_octet::holds;
 use law::minus_zero;
@@ -51,11 +50,7 @@ fn zeros_by(best: Choice, rice: Zeros) -> ZerosPlan
     if best.tool == 6 {
         return ZerosPlan::Rice(rice);
     }
-    let plain = Plain {
-        choice: best,
-        row: 0,
-    };
-    ZerosPlan::Direct(plain)
+    ZerosPlan::Whole(best)
 }
 
 // "Fewest octets" for a frame of the two zeros that the first look does not settle: from uncompressed on, each tool of the tie order

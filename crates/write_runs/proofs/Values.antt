@@ -144,11 +144,13 @@ module _ (s : List ℕ) {o : Sought} {i : ℕ} {a b c : List ℕ} {t : Tracks} (
       → TracksAre o (take (i + 1) s) (i + 1) (record { first = t .first; second = q; third = u }) a b′ c
   mark-second ex e close u = rw next (tracks-second k (getD s i 0) (ne-eqb _ _ ex) (eq-eqb _ _ e) small close (u .0) (u .1))
 
-  pub mark-third : {u : Track} {c′ : List ℕ} → (getD s i 0 ≡ o .first → ⊥) → (getD s i 0 ≡ o .second → ⊥) → getD s i 0 ≡ o .third → Closes (t .third) i c u c′
+  pub mark-third : {u : Track} {c′ : List ℕ} → (getD s i 0 ≡ o .first → ⊥) → (getD s i 0 ≡ o .second → ⊥) → getD s i 0 ≡ o .third
+      → Closes (t .third) i c u c′
       → TracksAre o (take (i + 1) s) (i + 1) (record { first = t .first; second = t .second; third = u }) a b c′
   mark-third ex ey e close = rw next (tracks-third k (getD s i 0) (ne-eqb _ _ ex) (ne-eqb _ _ ey) (eq-eqb _ _ e) small close)
 
-  pub mark-none : (getD s i 0 ≡ o .first → ⊥) → (getD s i 0 ≡ o .second → ⊥) → (getD s i 0 ≡ o .third → ⊥) → TracksAre o (take (i + 1) s) (i + 1) t a b c
+  pub mark-none : (getD s i 0 ≡ o .first → ⊥) → (getD s i 0 ≡ o .second → ⊥) → (getD s i 0 ≡ o .third → ⊥)
+      → TracksAre o (take (i + 1) s) (i + 1) t a b c
   mark-none ex ey ez = rw next (tracks-passed k (getD s i 0) 1 (ne-eqb _ _ ex) (ne-eqb _ _ ey) (ne-eqb _ _ ez))
 
 -- marks that begin with zeros: so many samples are the common value; and what is behind the first mark
@@ -201,7 +203,8 @@ module _ {o : Sought} {w end : ℕ} {s a b c : List ℕ} {t : Tracks} (apart : A
   stretched m e =
       rw (take-add (end - n .left) m s, e)
       (tracks-passed (n .tracks) plus m
-      (ne-eqb plus (o .first) (λ f. apart .first (sym f))) (ne-eqb plus (o .second) (λ f. apart .second (sym f))) (ne-eqb plus (o .third) (λ f. apart .third (sym f))))
+      (ne-eqb plus (o .first) (λ f. apart .first (sym f))) (ne-eqb plus (o .second) (λ f. apart .second (sym f)))
+      (ne-eqb plus (o .third) (λ f. apart .third (sym f))))
 
   pub samples-last : w ≡ 0 → TracksAre o (take end s) end t a b c
   samples-last e =

@@ -1,24 +1,23 @@
 -- Laws of what was planned: its form is the chosen tool's.
-use Prim.Native.Nat.{ℕ, _≤_, _<_}
+use Prim.Native.Nat.{ℕ, _<_}
 use mathlib.Core.Path.{_≡_, refl, sym, ap, _∙_}
 use mathlib.Core.List.{List, map}
 use native.Mathlib.Omega.{arith}
 use native.Mathlib.Nat.{lt-of-lt-of-le}
 use lib.ListN.{length, getD}
-use Rattle.rules.specs.Bits.{bitsOf}
 use Rattle.rules.specs.Fractional.{radix, placeIn, samplesAt}
-use Rattle.rules.specs.Chooses.{Written, fractionalForm, formOf}
+use Rattle.rules.specs.Chooses.{fractionalForm, formOf}
 use Rattle.rules.proofs.Octets.{Below, below-at}
 use Rattle.rules.proofs.Signed.{LawMask}
 use Rattle.rules.proofs.Fractional.{Among, places-below, radix-range, length-samplesAt}
 use Rattle.rules.proofs.FrameRow.{the-row, row-among}
+use Rattle.write_offers.specs.declared.Choice.{Choice}
 use Rattle.write_choice.specs.declared.plans.Plain.{Plain}
 use Rattle.write_choice.specs.declared.plans.ZerosPlan.{ZerosPlan}
 use Rattle.write_choice.specs.declared.plans.NearPlan.{NearPlan}
 use Rattle.write_choice.specs.Plans.{Chosen, PlainIs, ZerosPlanned, NearPlanned}
-use Rattle.write_forms.specs.Forms.{wholeOctets, rowForm}
-use Rattle.write_forms.proofs.Whole.{whole-form}
-use Rattle.writer.specs.Answers.{byTool, full, plain}
+use Rattle.write_forms.specs.Forms.{rowForm}
+use Rattle.writer.specs.Answers.{full, fitted, PutsChosen}
 
 -- a plan, as it was told apart
 pub zeros-told : {mask set : ℕ} {s row runs : List ℕ} {p q : ZerosPlan} → p ≡ q → ZerosPlanned mask set s p row runs
@@ -28,21 +27,16 @@ zeros-told e h = rw e at h
 pub near-told : {mask set : ℕ} {s a b c : List ℕ} {p q : NearPlan} → p ≡ q → NearPlanned mask set s p a b c → NearPlanned mask set s q a b c
 near-told e h = rw e at h
 
--- a form of the tool that was chosen is the chosen form, and its bits are known
-module _ {mask set b : ℕ} {s form : List ℕ} (t : ℕ) (chosen : Chosen mask set s (record { tool = t; bits = b })) (is : form ≡ formOf mask t s) where
-  pub tool-full : byTool t form ≡ full mask set s
-  tool-full = ap (byTool t) is ∙ ap (λ (k : ℕ). byTool k (formOf mask k s)) (chosen .tool)
+-- a form of the tool that was chosen is the chosen form: its bits are known, and it is put where it fits
+module _ {mask set : ℕ} {s form : List ℕ} {c : Choice} (chosen : Chosen mask set s c) (is : form ≡ formOf mask (c .tool) s) where
+  chosen-form : form ≡ full mask set s .bits
+  chosen-form = is ∙ ap (λ (k : ℕ). formOf mask k s) (chosen .tool)
 
-  pub tool-bits : b ≡ length form
-  tool-bits = chosen .bits ∙ ap (λ (w : Written). length (w .bits)) (sym tool-full)
+  pub tool-bits : c .bits ≡ length form
+  tool-bits = chosen .bits ∙ ap length (sym chosen-form)
 
--- tools 1 to 4, which the look settles
-module _ {mask set t b : ℕ} {s : List ℕ} (chosen : Chosen mask set s (record { tool = t; bits = b })) (some : 1 ≤ t) (most : t ≤ 4) where
-  pub plain-full : plain t s ≡ full mask set s
-  plain-full = tool-full t chosen (whole-form mask t s some most)
-
-  pub plain-size : b ≡ length (bitsOf (wholeOctets t s))
-  plain-size = tool-bits t chosen (whole-form mask t s some most)
+  pub tool-puts : {out out′ : List ℕ} → out′ ≡ fitted form out → PutsChosen mask set s out out′ c
+  tool-puts {out} e = record { chosen = chosen; lent = e ∙ ap (λ (f : List ℕ). fitted f out) chosen-form }
 
 -- fractional-bit, where it was chosen
 module _ (mask n : ℕ) (s : List ℕ) (p : Plain) (size : length s ≡ n) (is : PlainIs mask s p) (eleven : p .choice .tool ≡ 11) where

@@ -1,4 +1,4 @@
-// Writing one frame: the chosen form alone is put out.
+// Writing one frame: plan, room, put. The chosen form alone is put out.
 
 use law::mask_of;
 use law::plus_zero;
@@ -23,6 +23,7 @@ use write_forms::put_rice;
 use write_forms::put_whole;
 use write_located::Located;
 use write_measure::octets_for;
+use write_offers::Choice;
 use write_scan::others;
 use write_zeros::Zeros;
 ghost use mathlib.Core.Path.{_≡_};
@@ -38,7 +39,7 @@ ghost use Rattle.rules.specs.Calls.{Writes, WriteFrame, WriteSamples};
 ghost use Rattle.write_scan.specs.Looks.{twoZeros, isMask, FrameIn};
 ghost use Rattle.write_choice.specs.Plans.{Left, NearFrame, Chosen, PlainIs};
 ghost use Rattle.write_forms.specs.Forms.{wholeOctets, RiceReady, riceFormOf, RowReady, binaryForm, LocatedReady, planForm};
-ghost use Rattle.writer.specs.Answers.{Tells, fitting, pad, full, plain, byTool, WritesForm, WritesOne, PacksForm};
+ghost use Rattle.writer.specs.Answers.{Tells, fitting, fitted, pad, full, WritesForm, WritesOne, PacksForm, PutsChosen};
 
 // A refusal: no octets, no bits, no tool.
 fn refused(why: Refusal) -> WriteAnswer
@@ -75,21 +76,19 @@ fn write_pad(out: &mut [u8]) -> WriteAnswer
     wrote(1, 8, 0)
 }
 
-// "ROOM means the chosen form's octets for a writer". Tools 1 to 4, which the look settles.
-fn write_whole(out: &mut [u8], samples: &[u8], n: usize, tool: u32, bits: usize) -> WriteAnswer
-    requires { ⌜ (FrameIn (now samples) n) × ((1 ≤ tool) × (tool ≤ 4)) ⌝ }
-    requires { ⌜ (bits ≡ length (bitsOf (wholeOctets tool (take n (now samples))))) × (bits ≤ 1000000000) ⌝ }
-    ensures { λ r. ⌜ WritesForm (plain tool (take n (now (samples .entry)))) (now (out .entry)) (now (out .exit)) r ⌝ }
+// "ROOM means the chosen form's octets for a writer": a form is put where there is room for it, else nothing is. Tools 1 to 4.
+fn fit_whole(out: &mut [u8], samples: &[u8], n: usize, c: Choice)
+    requires { ⌜ (FrameIn (now samples) n) × ((1 ≤ c .tool) × (c .tool ≤ 4)) ⌝ }
+    requires { ⌜ (c .bits ≡ length (bitsOf (wholeOctets (c .tool) (take n (now samples))))) × (c .bits ≤ 1000000000) ⌝ }
+    ensures { λ r. ⌜ now (out .exit) ≡ fitted (bitsOf (wholeOctets (c .tool) (take n (now (samples .entry))))) (now (out .entry)) ⌝ }
 {
-    if out.len() < octets_for(bits) {
-        return refused(Refusal::Room);
+    if out.len() < octets_for(c.bits) {
+        return;
     }
-    let octets = put_whole(out, samples, n, tool);
-    wrote(octets, bits, tool)
+    put_whole(out, samples, n, c.tool);
 }
 
-// A plan that needs no runs put out: whole octets, or fractional-bit with its row. Their number comes back; the answer is the caller's,
-// so that it stays in registers where nothing of this is called.
+// A plan that needs no runs put out: whole octets, or fractional-bit with its row. Their number comes back.
 fn put_plain(out: &mut [u8], samples: &[u8], n: usize, mask: u8, p: Plain) -> usize
     requires { ⌜ (FrameIn (now samples) n) × (isMask mask ≡ true) ⌝ }
     requires { ⌜ PlainIs mask (take n (now samples)) p ⌝ }
@@ -104,124 +103,160 @@ fn put_plain(out: &mut [u8], samples: &[u8], n: usize, mask: u8, p: Plain) -> us
 }
 
 // Room, and then such a plan put.
-fn write_plain(
-    out: &mut [u8],
-    samples: &[u8],
-    n: usize,
-    mask: u8,
-    set: u32,
-    p: Plain,
-) -> WriteAnswer
+fn fit_plain(out: &mut [u8], samples: &[u8], n: usize, mask: u8, set: u32, p: Plain) -> Choice
     requires { ⌜ (FrameIn (now samples) n) × (isMask mask ≡ true) ⌝ }
     requires { ⌜ (Chosen mask set (take n (now samples)) (p .choice)) × (PlainIs mask (take n (now samples)) p) ⌝ }
-    ensures { λ r. ⌜ WritesForm (full mask set (take n (now (samples .entry)))) (now (out .entry)) (now (out .exit)) r ⌝ }
+    ensures { λ r. ⌜ PutsChosen mask set (take n (now (samples .entry))) (now (out .entry)) (now (out .exit)) r ⌝ }
 {
     let choice = p.choice;
     if out.len() < octets_for(choice.bits) {
-        return refused(Refusal::Room);
+        return choice;
     }
-    let octets = put_plain(out, samples, n, mask, p);
-    wrote(octets, choice.bits, choice.tool)
+    put_plain(out, samples, n, mask, p);
+    choice
 }
 
 // Room, and then binary put, from the row of flags.
-fn write_binary(out: &mut [u8], n: usize, bits: usize, row: &[u64; 8]) -> WriteAnswer
+fn fit_binary(out: &mut [u8], n: usize, bits: usize, row: &[u64; 8])
     requires { ⌜ (RowReady n (now row)) × (bits ≤ 1000000000) ⌝ }
     requires { ⌜ bits ≡ length (binaryForm n (now row)) ⌝ }
-    ensures { λ r. ⌜ WritesForm (byTool 5 (binaryForm n (now (row .entry)))) (now (out .entry)) (now (out .exit)) r ⌝ }
+    ensures { λ r. ⌜ now (out .exit) ≡ fitted (binaryForm n (now (row .entry))) (now (out .entry)) ⌝ }
 {
     if out.len() < octets_for(bits) {
-        return refused(Refusal::Room);
+        return;
     }
-    let octets = put_binary(out, n, row);
-    wrote(octets, bits, 5)
+    put_binary(out, n, row);
 }
 
 // Room, and then Rice put, from its runs.
-fn write_rice(out: &mut [u8], n: usize, plan: Zeros, runs: &[u16; 321]) -> WriteAnswer
+fn fit_rice(out: &mut [u8], n: usize, plan: Zeros, runs: &[u16; 321])
     requires { ⌜ (RiceReady n plan (now runs)) × (plan .bits ≤ 1000000000) ⌝ }
     requires { ⌜ plan .bits ≡ length (riceFormOf n plan (now runs)) ⌝ }
-    ensures { λ r. ⌜ WritesForm (byTool 6 (riceFormOf n plan (now (runs .entry)))) (now (out .entry)) (now (out .exit)) r ⌝ }
+    ensures { λ r. ⌜ now (out .exit) ≡ fitted (riceFormOf n plan (now (runs .entry))) (now (out .entry)) ⌝ }
 {
-    let bits = plan.bits;
-    if out.len() < octets_for(bits) {
-        return refused(Refusal::Room);
+    if out.len() < octets_for(plan.bits) {
+        return;
     }
-    let octets = put_rice(out, n, plan, runs);
-    wrote(octets, bits, 6)
+    put_rice(out, n, plan, runs);
 }
 
 // A frame of the two zeros: plan, room, put. Its flags are gathered once, for the plan and for binary.
-fn write_zeros(out: &mut [u8], samples: &[u8], n: usize, mask: u8, set: u32) -> WriteAnswer
+fn fit_zeros(out: &mut [u8], samples: &[u8], n: usize, mask: u8, set: u32) -> Choice
     requires { ⌜ (FrameIn (now samples) n) × (isMask mask ≡ true) ⌝ }
     requires { ⌜ (Left mask set (take n (now samples))) × (twoZeros mask (take n (now samples)) ≡ true) ⌝ }
-    ensures { λ r. ⌜ WritesForm (full mask set (take n (now (samples .entry)))) (now (out .entry)) (now (out .exit)) r ⌝ }
+    ensures { λ r. ⌜ PutsChosen mask set (take n (now (samples .entry))) (now (out .entry)) (now (out .exit)) r ⌝ }
 {
     let row = others(samples, n / 40, plus_zero(mask));
     let mut runs = [0u16; 321];
     let plan = zeros_plan(samples, n, mask, set, &row, &mut runs);
     match plan {
-        ZerosPlan::Direct(p) => write_plain(out, samples, n, mask, set, p),
-        ZerosPlan::Binary(bits) => write_binary(out, n, bits, &row),
-        ZerosPlan::Rice(z) => write_rice(out, n, z, &runs),
+        ZerosPlan::Whole(c) => {
+            fit_whole(out, samples, n, c);
+            c
+        }
+        ZerosPlan::Binary(bits) => {
+            fit_binary(out, n, bits, &row);
+            Choice {
+                tool: 5,
+                bits: bits,
+            }
+        }
+        ZerosPlan::Rice(z) => {
+            fit_rice(out, n, z, &runs);
+            Choice {
+                tool: 6,
+                bits: z.bits,
+            }
+        }
     }
 }
 
 // Room, and then value-location put, from the runs of its values.
-fn write_values(
+fn fit_values(
     out: &mut [u8],
     n: usize,
     plan: Located,
     a: &[u16; 321],
     b: &[u16; 321],
     c: &[u16; 321],
-) -> WriteAnswer
+)
     requires { ⌜ (LocatedReady plan (now a) (now b) (now c)) × (plan .bits ≤ 1000000000) ⌝ }
     requires { ⌜ plan .bits ≡ length (planForm n plan (now a) (now b) (now c)) ⌝ }
-    ensures { λ r. ⌜ WritesForm (byTool 7 (planForm n plan (now (a .entry)) (now (b .entry)) (now (c .entry))))
-        (now (out .entry)) (now (out .exit)) r ⌝ }
+    ensures { λ r. ⌜ now (out .exit) ≡ fitted (planForm n plan (now (a .entry)) (now (b .entry)) (now (c .entry))) (now (out .entry)) ⌝ }
 {
-    let bits = plan.bits;
-    if out.len() < octets_for(bits) {
-        return refused(Refusal::Room);
+    if out.len() < octets_for(plan.bits) {
+        return;
     }
-    let octets = put_located(out, n, plan, a, b, c);
-    wrote(octets, bits, 7)
+    put_located(out, n, plan, a, b, c);
 }
 
 // A frame from -2 to 1 that has a 1 or a -2: plan, room, put.
-fn write_near(out: &mut [u8], samples: &[u8], n: usize, mask: u8, set: u32) -> WriteAnswer
+fn fit_near(out: &mut [u8], samples: &[u8], n: usize, mask: u8, set: u32) -> Choice
     requires { ⌜ (FrameIn (now samples) n) × (isMask mask ≡ true) ⌝ }
     requires { ⌜ (Left mask set (take n (now samples))) × (NearFrame mask (take n (now samples))) ⌝ }
-    ensures { λ r. ⌜ WritesForm (full mask set (take n (now (samples .entry)))) (now (out .entry)) (now (out .exit)) r ⌝ }
+    ensures { λ r. ⌜ PutsChosen mask set (take n (now (samples .entry))) (now (out .entry)) (now (out .exit)) r ⌝ }
 {
     let mut a = [0u16; 321];
     let mut b = [0u16; 321];
     let mut c = [0u16; 321];
     let plan = near_plan(samples, n, mask, set, &mut a, &mut b, &mut c);
     match plan {
-        NearPlan::Last(p) => write_plain(out, samples, n, mask, set, p),
-        NearPlan::Values(w) => write_values(out, n, w, &a, &b, &c),
+        NearPlan::Last(p) => fit_plain(out, samples, n, mask, set, p),
+        NearPlan::Values(w) => {
+            fit_values(out, n, w, &a, &b, &c);
+            Choice {
+                tool: 7,
+                bits: w.bits,
+            }
+        }
     }
 }
 
-// What is planned is put out. Arrays for runs are made only where a plan needs them.
+// What is planned is put out where it fits, and comes back in any case. Arrays for runs are made only where a plan needs them.
+fn fit_chosen(out: &mut [u8], samples: &[u8], n: usize, mask: u8, set: u32) -> Choice
+    requires { ⌜ (FrameIn (now samples) n) × (isMask mask ≡ true) ⌝ }
+    ensures { λ r. ⌜ PutsChosen mask set (take n (now (samples .entry))) (now (out .entry)) (now (out .exit)) r ⌝ }
+{
+    let seen = choose(samples, n, mask, set);
+    if seen.tool != 0 {
+        let choice = Choice {
+            tool: seen.tool,
+            bits: seen.bits,
+        };
+        fit_whole(out, samples, n, choice);
+        return choice;
+    }
+    if seen.zeros {
+        return fit_zeros(out, samples, n, mask, set);
+    }
+    if is_near(seen.close, n) {
+        return fit_near(out, samples, n, mask, set);
+    }
+    let last = last_of(samples, n, mask, set);
+    fit_plain(out, samples, n, mask, set, last)
+}
+
+// The answer for what was planned: ROOM, or that it was put out.
 fn write_chosen(out: &mut [u8], samples: &[u8], n: usize, mask: u8, set: u32) -> WriteAnswer
     requires { ⌜ (FrameIn (now samples) n) × (isMask mask ≡ true) ⌝ }
     ensures { λ r. ⌜ WritesForm (full mask set (take n (now (samples .entry)))) (now (out .entry)) (now (out .exit)) r ⌝ }
 {
-    let seen = choose(samples, n, mask, set);
-    if seen.tool != 0 {
-        return write_whole(out, samples, n, seen.tool, seen.bits);
+    let choice = fit_chosen(out, samples, n, mask, set);
+    let octets = octets_for(choice.bits);
+    if out.len() < octets {
+        return refused(Refusal::Room);
     }
-    if seen.zeros {
-        return write_zeros(out, samples, n, mask, set);
-    }
-    if is_near(seen.close, n) {
-        return write_near(out, samples, n, mask, set);
-    }
-    let last = last_of(samples, n, mask, set);
-    write_plain(out, samples, n, mask, set, last)
+    wrote(octets, choice.bits, choice.tool)
+}
+
+// The bits of the chosen form. It is planned as for writing, and with no room nothing is put.
+pub fn form_bits(samples: &[u8], n: usize, mask: u8, set: u32) -> usize
+    requires { ⌜ (FrameIn (now samples) n) × (isMask mask ≡ true) ⌝ }
+    ensures { λ r. ⌜ (r ≡ length (full mask set (take n (now (samples .entry))) .bits)) × (r ≤ 1000000000) ⌝ }
+{
+    let mut none = [0u8; 0];
+    let choice = fit_chosen(&mut none, samples, n, mask, set);
+    choice.bits
 }
 
 // After LAW and SET: LENGTH, and ROOM last.

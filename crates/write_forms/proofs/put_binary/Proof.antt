@@ -67,8 +67,9 @@ finish-requires c κs =
 
 returns : tie.Need-returns
 returns c =
-    let put = c .before .before .before .before .before .before in
-    packed (new (begun put)) (laid put) (c .before .before .finish .ensures)
+    let all = c .before .before in
+    let put = all .before .before .before .before in
+    packed (new (begun put)) (laid put) (all .finish .ensures)
 
 pub put-binary-spec : {M : Type 1} → statement M
 put-binary-spec = tie.close (tie.spec (λ c κs. search needs) put-prefix-requires put-row-requires finish-requires

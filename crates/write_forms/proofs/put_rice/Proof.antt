@@ -22,8 +22,9 @@ finish-requires c κs =
 
 returns : tie.Need-returns
 returns c =
-    let put = c .before .before .before .before .before .before in
-    packed (new (put .before .before)) (put .put-plus-minus .ensures) (c .before .before .finish .ensures)
+    let all = c .before .before in
+    let put = all .before .before .before .before in
+    packed (new (put .before .before)) (put .put-plus-minus .ensures) (all .finish .ensures)
 
 pub put-rice-spec : {M : Type 1} → statement M
 put-rice-spec = tie.close (tie.spec (λ c κs. search needs) put-plus-minus-requires finish-requires (λ c. search needs) returns)

@@ -16,8 +16,8 @@ size s = length-take-le (s .args .n) (s .args .samples .now) (s .pre .0 .0 .long
 
 -- its tally is one that value-location applies to
 tested : (s : tie.Start)
-    → true ≡ (leb 80 (s .args .n) && ltb (s .args .k .row) 4 && leb (s .args .k .tally .one) (s .args .k .tally .plus) && leb (s .args .k .tally .minus)
-    (s .args .k .tally .plus)
+    → true ≡ (leb 80 (s .args .n) && ltb (s .args .k .row) 4 && leb (s .args .k .tally .one) (s .args .k .tally .plus)
+    && leb (s .args .k .tally .minus) (s .args .k .tally .plus)
     && leb (s .args .k .tally .twos) (s .args .k .tally .plus))
 tested s = sym (applied-is (s .pre .1 .0 .0) (size s) (s .pre .1 .1 .0) refl ∙ s .pre .1 .0 .1)
 

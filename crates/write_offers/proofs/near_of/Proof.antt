@@ -1,6 +1,6 @@
 -- No row, a rare one, or what value-location would write (Offering).
 use borrow.Author.Needs.{needs}
-use mathlib.Core.Path.{_≡_, refl, sym, _∙_}
+use mathlib.Core.Path.{_≡_, sym, _∙_}
 use borrow.Author.Tests.{not-true, not-false, lt-ltb, le-ltb}
 use Rattle.rules.specs.Chooses.{applies}
 use Rattle.write_located.proofs.Rows.{row-has, applied-is}

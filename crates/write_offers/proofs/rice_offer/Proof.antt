@@ -24,7 +24,8 @@ returns c =
     let s = c .before .before .before .before .before in
     let m = s .args .mask in
     let z = c .before .before .before .zeros-in .ensures in
-    let off = zeros-apply m (frame s) ∙ sym (zeros-counted m (frame s) (size s) (z .plus) (z .minus)) ∙ ne-eqb _ _ (c .before .if1 .taken) in
+    let off = zeros-apply m (frame s) ∙ sym (zeros-counted m (frame s) (size s) (z .plus) (z .minus))
+    ∙ ne-eqb _ _ (c .before .if1 .taken) in
     unmet m 6 (frame s) (omega arith) off (c .fails .ensures)
 
 module _ (c : tie.After-rice-of) where

@@ -1,8 +1,7 @@
 use borrow.Author.Needs.{needs}
-use Prim.Native.Nat.{_*_, _-_, _≤_}
+use Prim.Native.Nat.{_-_, _≤_}
 use mathlib.Core.Path.{_≡_}
 use native.Mathlib.Omega.{arith}
-use lib.ListN.{take}
 use Rattle.write_runs.specs.Tracks.{WordsTracked}
 use Rattle.write_runs.proofs.Values.{tracks-none, tracks-end}
 use Rattle.write_runs.proofs.found_in.Statement.{statement}

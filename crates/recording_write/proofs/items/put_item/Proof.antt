@@ -65,7 +65,8 @@ put-lost-requires c κs =
     omega (
       arith,
       s .pre .1 .1,
-      ap length (item-lost (maskOf (s .args .by .law)) (s .args .by .set) (s .args .c) (drop (s .args .from) (s .args .samples .now)) (omega arith)
+      ap length (item-lost (maskOf (s .args .by .law)) (s .args .by .set) (s .args .c) (drop (s .args .from) (s .args .samples .now))
+          (omega arith)
           (sym (n .ensures) ∙ c .before .if2 .taken)),
     )
 
@@ -73,7 +74,8 @@ returns-2 : tie.Need-returns-2
 returns-2 c =
     let s = (length-in-of-slice-known3 c) .before .before .before .before in
     let n = (length-in-of-slice-known3 c) .length-in in
-    puts-as (sym (item-lost (maskOf (s .args .by .law)) (s .args .by .set) (s .args .c) (drop (s .args .from) (s .args .samples .now)) (omega arith)
+    puts-as (sym (item-lost (maskOf (s .args .by .law)) (s .args .by .set) (s .args .c) (drop (s .args .from) (s .args .samples .now))
+    (omega arith)
     (sym (n .ensures) ∙ c .before .before .before .before .if2 .taken))) (c .before .before .put-lost .ensures)
 
 slice-aggregate-put-form : tie.Need-slice-aggregate-put-form

@@ -47,7 +47,8 @@ loop-again c =
     let a = l .before .before .before .before .args in
     let n = c .before .item-octets .ensures in
     rw (c .samples-in .ensures)
-    (measure-turn (a .cells .now) (a .samples .now) (maskOf (a .by .law)) (a .by .set) (l .loop .inv) (omega arith) (omega arith) (n .0) (n .1))
+    (measure-turn (a .cells .now) (a .samples .now) (maskOf (a .by .law)) (a .by .set)
+    (l .loop .inv) (omega arith) (omega arith) (n .0) (n .1))
 
 returns-2 : tie.Need-returns-2 Inv-loop μ-loop
 returns-2 c =

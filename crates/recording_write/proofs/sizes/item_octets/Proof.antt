@@ -50,7 +50,8 @@ returns-2 : tie.Need-returns-2
 returns-2 c =
     let s = c .before .before .before .before .before in
     let n = c .before .before .length-in in (
-      ap length (sym (item-lost (maskOf (s .args .by .law)) (s .args .by .set) (s .args .c) _ (omega arith) (sym (n .ensures) ∙ c .if2 .taken))),
+      ap length (sym (item-lost (maskOf (s .args .by .law)) (s .args .by .set) (s .args .c) _ (omega arith)
+          (sym (n .ensures) ∙ c .if2 .taken))),
       omega arith,
     )
 

@@ -30,7 +30,8 @@ returns c =
 
 near-of-requires : tie.Need-near-of-requires
 near-of-requires c κs =
-    let s = c .before .before .before .before .before .before .before in
+    let last = c .before .before .before .before .before in
+    let s = last .before .before in
     let near = s .pre .1 .0 .1 in
     ((s .pre .0 .0, (s .pre .0 .1, omega (arith, near .long, size s))), (near .close, s .pre .1 .1))
 
