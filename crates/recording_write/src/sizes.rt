@@ -3,11 +3,9 @@
 use crate::given::length_in;
 use crate::given::samples_in;
 use crate::items::By;
-use law::mask_of;
 use recording::marking::HEADING;
 use recording::marking::LOSS_FROM;
 use rules::LONGEST;
-use write_measure::octets_for;
 ghost use mathlib.Core.Path.{_≡_};
 ghost use mathlib.Core.Bool.{true};
 ghost use Prim.Native.Nat.{suc, _≤_};
@@ -17,16 +15,17 @@ ghost use Rattle.recording.specs.Files.{sixLengths, givenBy};
 ghost use Rattle.recording_write.specs.Cells.{lengthIn, mostFor, isGiven};
 ghost use Rattle.recording_write.specs.Steps.{Lawful, formBy, itemBy, allBy, Quiet, ItemIn, Measures, Settles};
 
-// The writer's chosen form of these samples: the octets for its plan's bits. A pad is one octet.
+// The most octets that a form has: "a written frame has 1 to N + 1 octets".
+const FORM_MOST: usize = 321;
+
+// The writer's chosen form of these samples, planned and put into a room of its own: the output is not touched.
 fn form_octets(frame: &[u8], by: By) -> usize
     requires { ⌜ (sixLengths (length (now frame)) ≡ true) × (Lawful by) ⌝ }
-    ensures { λ r. ⌜ (r ≡ length (formBy by (now (frame .entry)))) × (r ≤ 200000000) ⌝ }
+    ensures { λ r. ⌜ (r ≡ length (formBy by (now (frame .entry)))) × (r ≤ 321) ⌝ }
 {
-    let n = frame.len();
-    if n == 0 {
-        return 1;
-    }
-    octets_for(writer::form_bits(frame, n, mask_of(by.law), by.set))
+    let mut room = [0u8; FORM_MOST];
+    let w = writer::write_samples(frame, by.law, by.set, &mut room);
+    w.octets
 }
 
 // An item: a frame, a loss of unknown length, or one of a length.

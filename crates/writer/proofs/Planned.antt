@@ -1,5 +1,5 @@
 -- Laws of what was planned: its form is the chosen tool's.
-use Prim.Native.Nat.{ℕ, _<_}
+use Prim.Native.Nat.{ℕ, _≤_, _<_}
 use mathlib.Core.Path.{_≡_, refl, sym, ap, _∙_}
 use mathlib.Core.List.{List, map}
 use native.Mathlib.Omega.{arith}
@@ -17,7 +17,8 @@ use Rattle.write_choice.specs.declared.plans.ZerosPlan.{ZerosPlan}
 use Rattle.write_choice.specs.declared.plans.NearPlan.{NearPlan}
 use Rattle.write_choice.specs.Plans.{Chosen, PlainIs, ZerosPlanned, NearPlanned}
 use Rattle.write_forms.specs.Forms.{rowForm}
-use Rattle.writer.specs.Answers.{full, fitted, PutsChosen}
+use Rattle.write_forms.proofs.Whole.{whole-form}
+use Rattle.writer.specs.Answers.{full, plain, fitted, PutsChosen}
 
 -- a plan, as it was told apart
 pub zeros-told : {mask set : ℕ} {s row runs : List ℕ} {p q : ZerosPlan} → p ≡ q → ZerosPlanned mask set s p row runs
@@ -37,6 +38,13 @@ module _ {mask set : ℕ} {s form : List ℕ} {c : Choice} (chosen : Chosen mask
 
   pub tool-puts : {out out′ : List ℕ} → out′ ≡ fitted form out → PutsChosen mask set s out out′ c
   tool-puts {out} e = record { chosen = chosen; lent = e ∙ ap (λ (f : List ℕ). fitted f out) chosen-form }
+
+-- tools 1 to 4, which the look settles
+pub plain-full : {mask set : ℕ} {s : List ℕ} {c : Choice} → Chosen mask set s c → 1 ≤ c .tool → c .tool ≤ 4
+    → plain (c .tool) s ≡ full mask set s
+plain-full {mask} {set} {s} {c} chosen some most =
+    ap (λ f. record { tool = c .tool; bits = f }) (whole-form mask (c .tool) s some most)
+    ∙ ap (λ (k : ℕ). record { tool = k; bits = formOf mask k s }) (chosen .tool)
 
 -- fractional-bit, where it was chosen
 module _ (mask n : ℕ) (s : List ℕ) (p : Plain) (size : length s ≡ n) (is : PlainIs mask s p) (eleven : p .choice .tool ≡ 11) where

@@ -7,10 +7,11 @@ use lib.ListN.{length, drop}
 use lib.Dec.{ltb}
 use Rattle.rules.specs.declared.Refusal.the-variants.{Room}
 use Rattle.rules.specs.declared.WriteAnswer.{WriteAnswer}
-use Rattle.rules.specs.Bits.{lowBits, octetsFor, pack}
+use Rattle.rules.specs.Bits.{lowBits, bitsOf, octetsFor, pack}
 use Rattle.rules.specs.Chooses.{Written, Write, wrote, declined, chosenTool, formOf, writeOne}
 use Rattle.rules.specs.Calls.{writeEnd, writtenBits, writeTool, Writes}
 use Rattle.write_bits.specs.Puts.{Packed}
+use Rattle.write_forms.specs.Forms.{wholeOctets}
 use Rattle.write_offers.specs.declared.Choice.{Choice}
 use Rattle.write_choice.specs.Plans.{Chosen}
 
@@ -31,6 +32,10 @@ pad = record { tool = 0; bits = lowBits 8 0 }
 -- the chosen form of some samples
 abbrev pub full : ℕ → ℕ → List ℕ → Written
 full mask set s = record { tool = chosenTool mask set s; bits = formOf mask (chosenTool mask set s) s }
+
+-- and of tools 1 to 4
+abbrev pub plain : ℕ → List ℕ → Written
+plain t s = record { tool = t; bits = bitsOf (wholeOctets t s) }
 
 -- a form put where there is room for it, else nothing
 unfoldable pub fitted : List ℕ → List ℕ → List ℕ

@@ -13,6 +13,7 @@ use write_choice::near::near_plan;
 use write_choice::plans::NearPlan;
 use write_choice::plans::Plain;
 use write_choice::plans::ZerosPlan;
+use write_choice::settle::Settled;
 use write_choice::settle::choose;
 use write_choice::settle::is_near;
 use write_choice::two_zeros::zeros_plan;
@@ -37,9 +38,9 @@ ghost use Rattle.rules.specs.Tools.{writerAsks};
 ghost use Rattle.rules.specs.Chooses.{declined, formOf};
 ghost use Rattle.rules.specs.Calls.{Writes, WriteFrame, WriteSamples};
 ghost use Rattle.write_scan.specs.Looks.{twoZeros, isMask, FrameIn};
-ghost use Rattle.write_choice.specs.Plans.{Left, NearFrame, Chosen, PlainIs};
+ghost use Rattle.write_choice.specs.Plans.{Left, NearFrame, Chosen, PlainIs, Settles};
 ghost use Rattle.write_forms.specs.Forms.{wholeOctets, RiceReady, riceFormOf, RowReady, binaryForm, LocatedReady, planForm};
-ghost use Rattle.writer.specs.Answers.{Tells, fitting, fitted, pad, full, WritesForm, WritesOne, PacksForm, PutsChosen};
+ghost use Rattle.writer.specs.Answers.{Tells, fitting, fitted, pad, full, plain, WritesForm, WritesOne, PacksForm, PutsChosen};
 
 // A refusal: no octets, no bits, no tool.
 fn refused(why: Refusal) -> WriteAnswer
@@ -212,20 +213,13 @@ fn fit_near(out: &mut [u8], samples: &[u8], n: usize, mask: u8, set: u32) -> Cho
     }
 }
 
-// What is planned is put out where it fits, and comes back in any case. Arrays for runs are made only where a plan needs them.
-fn fit_chosen(out: &mut [u8], samples: &[u8], n: usize, mask: u8, set: u32) -> Choice
+// A frame that the look leaves: what is planned is put out where it fits, and comes back in any case. Arrays for runs are made only
+// where a plan needs them.
+fn fit_left(out: &mut [u8], samples: &[u8], n: usize, mask: u8, set: u32, seen: Settled) -> Choice
     requires { ⌜ (FrameIn (now samples) n) × (isMask mask ≡ true) ⌝ }
+    requires { ⌜ (Settles mask set (take n (now samples)) seen) × (seen .tool ≡ 0) ⌝ }
     ensures { λ r. ⌜ PutsChosen mask set (take n (now (samples .entry))) (now (out .entry)) (now (out .exit)) r ⌝ }
 {
-    let seen = choose(samples, n, mask, set);
-    if seen.tool != 0 {
-        let choice = Choice {
-            tool: seen.tool,
-            bits: seen.bits,
-        };
-        fit_whole(out, samples, n, choice);
-        return choice;
-    }
     if seen.zeros {
         return fit_zeros(out, samples, n, mask, set);
     }
@@ -236,27 +230,34 @@ fn fit_chosen(out: &mut [u8], samples: &[u8], n: usize, mask: u8, set: u32) -> C
     fit_plain(out, samples, n, mask, set, last)
 }
 
+// A frame that the look settles: its answer at once.
+fn write_whole(out: &mut [u8], samples: &[u8], n: usize, tool: u32, bits: usize) -> WriteAnswer
+    requires { ⌜ (FrameIn (now samples) n) × ((1 ≤ tool) × (tool ≤ 4)) ⌝ }
+    requires { ⌜ (bits ≡ length (bitsOf (wholeOctets tool (take n (now samples))))) × (bits ≤ 1000000000) ⌝ }
+    ensures { λ r. ⌜ WritesForm (plain tool (take n (now (samples .entry)))) (now (out .entry)) (now (out .exit)) r ⌝ }
+{
+    if out.len() < octets_for(bits) {
+        return refused(Refusal::Room);
+    }
+    let octets = put_whole(out, samples, n, tool);
+    wrote(octets, bits, tool)
+}
+
 // The answer for what was planned: ROOM, or that it was put out.
 fn write_chosen(out: &mut [u8], samples: &[u8], n: usize, mask: u8, set: u32) -> WriteAnswer
     requires { ⌜ (FrameIn (now samples) n) × (isMask mask ≡ true) ⌝ }
     ensures { λ r. ⌜ WritesForm (full mask set (take n (now (samples .entry)))) (now (out .entry)) (now (out .exit)) r ⌝ }
 {
-    let choice = fit_chosen(out, samples, n, mask, set);
+    let seen = choose(samples, n, mask, set);
+    if seen.tool != 0 {
+        return write_whole(out, samples, n, seen.tool, seen.bits);
+    }
+    let choice = fit_left(out, samples, n, mask, set, seen);
     let octets = octets_for(choice.bits);
     if out.len() < octets {
         return refused(Refusal::Room);
     }
     wrote(octets, choice.bits, choice.tool)
-}
-
-// The bits of the chosen form. It is planned as for writing, and with no room nothing is put.
-pub fn form_bits(samples: &[u8], n: usize, mask: u8, set: u32) -> usize
-    requires { ⌜ (FrameIn (now samples) n) × (isMask mask ≡ true) ⌝ }
-    ensures { λ r. ⌜ (r ≡ length (full mask set (take n (now (samples .entry))) .bits)) × (r ≤ 1000000000) ⌝ }
-{
-    let mut none = [0u8; 0];
-    let choice = fit_chosen(&mut none, samples, n, mask, set);
-    choice.bits
 }
 
 // After LAW and SET: LENGTH, and ROOM last.
