@@ -1,6 +1,5 @@
 -- The octets of the chosen form of samples, and of an item: the samples that are written for it.
---   form-sized: what a plan counts.     item-frame, item-lost, item-loss: an item's octets.
---   item-most: they are N + 1 at most.
+--   item-frame, item-lost, item-loss: an item's octets.     item-most: they are N + 1 at most.     form-few: a form's are 321 at most.
 use Prim.Native.Nat.{ℕ, zero, suc, _+_, _-_, _≤_, _<_}
 use native.Mathlib.Omega.{arith}
 use native.Mathlib.Decide.{ℕ-discrete}
@@ -8,39 +7,27 @@ use mathlib.Core.Path.{_≡_, refl, sym, ap, _∙_}
 use mathlib.Core.List.{List, [], _∷_}
 use mathlib.Core.Bool.{Bool, true, false}
 use lib.ListN.{length, take, drop, replicate, length-drop, length-replicate}
-use lib.Seq.{length-take-le}
+use lib.Seq.{length-take-le, take-all}
 use lib.Dec.{eqb, ltb, lit<}
 use lib.IntN.{pos}
 use borrow.Author.Tests.{ne-eqb, eqb-true, ltb-true, ltb-false}
 use Rattle.rules.specs.Tools.{isWriterSet, isLength}
-use Rattle.rules.specs.Bits.{lowBits}
-use Rattle.rules.specs.Chooses.{chosen}
 use Rattle.rules.specs.Samples.{maskOf}
-use Rattle.rules.proofs.Octets.{Below, below-replicate, length-pack}
+use Rattle.rules.proofs.Octets.{Below, below-replicate}
 use Rattle.rules.proofs.Signed.{law-mask}
 use Rattle.rules.proofs.Room.{length-most}
 use Rattle.rules.proofs.Tests.{or-cases}
-use Rattle.promises.proofs.Written.{Frames, full, frames-of, chosen-pad, chosen-full, chosen-short}
+use Rattle.promises.proofs.Written.{Frames, full, frames-of, chosen-short}
 use Rattle.recording.specs.Items.{lossFrom}
 use Rattle.recording.specs.Remembered.{lostOctet, plusPlus}
 use Rattle.recording.specs.Files.{entryOctets, sixLengths}
 use Rattle.recording_write.specs.Cells.{lengthIn, entryBy}
-use Rattle.recording_write.specs.Steps.{form, Sizes, Quiet, ItemIn}
+use Rattle.recording_write.specs.Steps.{form, Quiet, ItemIn}
 use Rattle.recording_write.proofs.Cells.{length-frame, taken-frame, entry-frame, entry-loss, length-loss}
 
 -- one of the six lengths that is not 0 is one of the five
 pub six-length : (n : ℕ) → (n ≡ 0 → ⊥) → sixLengths n ≡ true → isLength n ≡ true
 six-length n h e = rw (ne-eqb n 0 h) at e
-
--- a pad is one octet, and a frame that has samples is what was sized
-pub pad-sized : (mask set : ℕ) (s : List ℕ) → length s ≡ 0 → 1 ≡ length (form mask set s)
-unfolding form lowBits
-pad-sized mask set [] e = rw (chosen-pad mask set, length-pack (lowBits 8 0)) refl
-pad-sized mask set (x ∷ s) e = absurd (omega arith)
-
-pub form-sized : (mask set : ℕ) (s : List ℕ) {r : ℕ} → isLength (length s) ≡ true → Sizes mask set s r → r ≡ length (form mask set s)
-unfolding form
-form-sized mask set s l z = z .octets ∙ sym (length-pack (chosen mask set s .bits) ∙ rw (chosen-full mask set s l) refl)
 
 -- the samples of an item
 module _ (mask set c : ℕ) (samples : List ℕ) where
@@ -101,6 +88,12 @@ module _ (mask set c n : ℕ) (e : n ≡ lengthIn c) where
 form-most : (law set : ℕ) {s : List ℕ} → isWriterSet set ≡ true → Frames s → length (form (maskOf law) set s) ≤ length s + 1
 unfolding form
 form-most law set o f = chosen-short (maskOf law) set o f .most
+
+pub form-few : (law set : ℕ) (s : List ℕ) → isWriterSet set ≡ true → Below 256 s → sixLengths (length s) ≡ true
+    → length (form (maskOf law) set s) ≤ 321
+form-few law set s o b six =
+    let f = rw (take-all (length s) s (omega arith)) at (frames-of (length s) s (omega arith) b six) in
+    omega (arith, form-most law set o f, six-most (length s) six)
 
 pub item-most : (law set c : ℕ) (samples : List ℕ) → isWriterSet set ≡ true → Below 256 samples → ItemIn samples c
     → length (entryOctets (maskOf law) set (entryBy c samples)) ≤ suc (lengthIn c)

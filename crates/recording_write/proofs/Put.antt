@@ -1,4 +1,5 @@
--- What the writer writes from a place on is put there (`form-put`): it has the room.
+-- What the writer writes from a place on is put there (`form-put`): it has the room. In a room of its own it is measured
+-- (`form-measured`).
 use Prim.Native.Nat.{ℕ, _+_, _-_, _≤_}
 use native.Mathlib.Omega.{arith}
 use mathlib.Core.Path.{_≡_, refl, sym, ap, _∙_}
@@ -48,6 +49,11 @@ module _ (s : List ℕ) (law set : ℕ) (l : isLaw law ≡ true) (o : isWriterSe
       → (r .octets ≡ length (form (maskOf law) set s)) × (last ≡ atStart (form (maskOf law) set s) out)
   unfolding form
   lent-form w = (w .octets ∙ sym (length-pack (chosen (maskOf law) set s .bits)), w .lent)
+
+  -- written into a room of its own, it is measured
+  pub form-measured : (room : List ℕ) {r : WriteAnswer} {last : List ℕ} → length (form (maskOf law) set s) ≤ length room
+      → Writes (writeOne (length s) s law set (length room)) r room last → r .octets ≡ length (form (maskOf law) set s)
+  form-measured room {r} {last} h w = lent-form {r = r} {out = room} {last = last} (rw (all-written (length room) h) at w) .0
 
   pub form-put : (at : ℕ) (out last : List ℕ) {r : WriteAnswer} → at + length (form (maskOf law) set s) ≤ length out
       → Writes (writeOne (length s) s law set (length (take (length out - at) (drop at out)))) r (take (length out - at) (drop at out)) last

@@ -4,26 +4,37 @@ use mathlib.Core.Path.{_≡_}
 use mathlib.Core.List.{List}
 use mathlib.Core.Bool.{true}
 use lib.ListN.{length, replicate}
-use Rattle.rules.specs.Bits.{octetsFor, pack}
-use Rattle.rules.specs.Chooses.{formOf, chosenTool, chosen}
+use Rattle.rules.specs.Bits.{pack}
+use Rattle.rules.specs.Chooses.{chosen}
+use Rattle.rules.specs.Samples.{maskOf}
+use Rattle.rules.specs.Tools.{isLaw, isWriterSet}
 use Rattle.rules.specs.Walk.{longest}
 use Rattle.rules.specs.declared.Refusal as rules
 use Rattle.recording.specs.declared.Refusal.the-variants.{Frame}
 use Rattle.recording.specs.declared.Ending.the-variants.{Refused}
 use Rattle.recording.specs.declared.FileWritten.{FileWritten}
 use Rattle.recording.specs.Remembered.{headingLength, plusPlus}
-use Rattle.recording.specs.Files.{sixLengths, givenBy, fileGiven}
+use Rattle.recording.specs.Files.{entryOctets, sixLengths, givenBy, fileGiven}
 use Rattle.recording.specs.Calls.{Writes}
-use Rattle.recording_write.specs.Cells.{lengthIn, taken}
+use Rattle.recording_write.specs.Cells.{lengthIn, taken, entryBy, octetsGiven}
+use Rattle.recording_write.specs.declared.items.By.{By}
 
 -- "the writer's chosen form"
 unfoldable pub form : ℕ → ℕ → List ℕ → List ℕ
 form mask set s = pack (chosen mask set s .bits)
 
--- the octets of the form that is chosen for samples
-pub record Sizes (mask set : ℕ) (s : List ℕ) (r : ℕ) : Type 0 where
-  pub octets : r ≡ octetsFor (length (formOf mask (chosenTool mask set s) s))
-  pub most : r ≤ 200000000
+-- a law and a set that a writer takes, and what is written by them: a form, an item, and all items
+abbrev pub Lawful : By → Type 0
+Lawful by = (isLaw (by .law) ≡ true) × (isWriterSet (by .set) ≡ true)
+
+abbrev pub formBy : By → List ℕ → List ℕ
+formBy by s = form (maskOf (by .law)) (by .set) s
+
+abbrev pub itemBy : By → ℕ → List ℕ → List ℕ
+itemBy by c samples = entryOctets (maskOf (by .law)) (by .set) (entryBy c samples)
+
+abbrev pub allBy : By → List ℕ → List ℕ → List ℕ
+allBy by cells samples = octetsGiven (maskOf (by .law)) (by .set) cells samples
 
 -- "N times 0++", for the longest N
 abbrev pub Quiet : ℕ → List ℕ → Type 0

@@ -10,20 +10,25 @@ ghost use mathlib.Core.Bool.{true};
 ghost use Prim.Native.Nat.{_+_, _≤_};
 ghost use lib.ListN.{length, drop};
 ghost use Rattle.rules.specs.Samples.{maskOf};
-ghost use Rattle.rules.specs.Tools.{isLaw, isWriterSet};
 ghost use Rattle.text_lines.specs.Puts.{Puts};
 ghost use Rattle.recording.specs.Remembered.{lostOctet};
-ghost use Rattle.recording.specs.Files.{entryOctets, sixLengths, givenBy};
-ghost use Rattle.recording_write.specs.Cells.{entryBy, isGiven, octetsGiven};
-ghost use Rattle.recording_write.specs.Steps.{form, Quiet, ItemIn};
+ghost use Rattle.recording.specs.Files.{sixLengths, givenBy};
+ghost use Rattle.recording_write.specs.Cells.{isGiven};
+ghost use Rattle.recording_write.specs.Steps.{Lawful, formBy, itemBy, allBy, Quiet, ItemIn};
+
+// The law and the set that forms are written by.
+pub struct By {
+    pub law: u32,
+    pub set: u32,
+}
 
 // The writer's chosen form of these samples.
-fn put_form(frame: &[u8], law: u32, set: u32, out: &mut [u8], at: usize) -> usize
-    requires { ⌜ (sixLengths (length (now frame)) ≡ true) × ((isLaw law ≡ true) × (isWriterSet set ≡ true)) ⌝ }
-    requires { ⌜ at + length (form (maskOf law) set (now frame)) ≤ length (now out) ⌝ }
-    ensures { λ r. ⌜ Puts (now (out .entry)) at (form (maskOf law) set (now (frame .entry))) (now (out .exit)) r ⌝ }
+fn put_form(frame: &[u8], by: By, out: &mut [u8], at: usize) -> usize
+    requires { ⌜ (sixLengths (length (now frame)) ≡ true) × (Lawful by) ⌝ }
+    requires { ⌜ at + length (formBy by (now frame)) ≤ length (now out) ⌝ }
+    ensures { λ r. ⌜ Puts (now (out .entry)) at (formBy by (now (frame .entry))) (now (out .exit)) r ⌝ }
 {
-    let w = writer::write_samples(frame, law, set, &mut out[at..]);
+    let w = writer::write_samples(frame, by.law, by.set, &mut out[at..]);
     at + w.octets
 }
 
@@ -40,48 +45,46 @@ fn put_item(
     samples: &[u8],
     from: usize,
     c: u16,
-    law: u32,
-    set: u32,
+    by: By,
     quiet: &[u8],
     out: &mut [u8],
     at: usize,
 ) -> usize
     requires { ⌜ (ItemIn (drop from (now samples)) c) × (from ≤ length (now samples)) ⌝ }
-    requires { ⌜ ((isLaw law ≡ true) × (isWriterSet set ≡ true)) × (Quiet (maskOf law) (now quiet)) ⌝ }
-    requires { ⌜ at + length (entryOctets (maskOf law) set (entryBy c (drop from (now samples)))) ≤ length (now out) ⌝ }
-    ensures { λ r. ⌜ Puts (now (out .entry)) at (entryOctets (maskOf law) set (entryBy c (drop from (now (samples .entry))))) (now (out .exit)) r ⌝ }
+    requires { ⌜ (Lawful by) × (Quiet (maskOf (by .law)) (now quiet)) ⌝ }
+    requires { ⌜ at + length (itemBy by c (drop from (now samples))) ≤ length (now out) ⌝ }
+    ensures { λ r. ⌜ Puts (now (out .entry)) at (itemBy by c (drop from (now (samples .entry)))) (now (out .exit)) r ⌝ }
 {
     let n = length_in(c);
     if c < LOSS_FROM {
-        return put_form(&samples[from..from + n], law, set, out, at);
+        return put_form(&samples[from..from + n], by, out, at);
     }
     if n == 0 {
         return put_lost(out, at);
     }
-    put_form(&quiet[..n], law, set, out, at)
+    put_form(&quiet[..n], by, out, at)
 }
 
 // All items, in their order.
 pub fn put_items(
     samples: &[u8],
     cells: &[u16],
-    law: u32,
-    set: u32,
+    by: By,
     quiet: &[u8],
     out: &mut [u8],
     at: usize,
 ) -> usize
     requires { ⌜ isGiven (givenBy (now cells) (now samples)) ≡ true ⌝ }
-    requires { ⌜ ((isLaw law ≡ true) × (isWriterSet set ≡ true)) × (Quiet (maskOf law) (now quiet)) ⌝ }
-    requires { ⌜ at + length (octetsGiven (maskOf law) set (now cells) (now samples)) ≤ length (now out) ⌝ }
-    ensures { λ r. ⌜ Puts (now (out .entry)) at (octetsGiven (maskOf law) set (now (cells .entry)) (now (samples .entry))) (now (out .exit)) r ⌝ }
+    requires { ⌜ (Lawful by) × (Quiet (maskOf (by .law)) (now quiet)) ⌝ }
+    requires { ⌜ at + length (allBy by (now cells) (now samples)) ≤ length (now out) ⌝ }
+    ensures { λ r. ⌜ Puts (now (out .entry)) at (allBy by (now (cells .entry)) (now (samples .entry))) (now (out .exit)) r ⌝ }
 {
     let mut i = 0;
     let mut from = 0;
     let mut to = at;
     while i < cells.len() {
         let c = cells[i];
-        to = put_item(samples, from, c, law, set, quiet, out, to);
+        to = put_item(samples, from, c, by, quiet, out, to);
         from += samples_in(c);
         i += 1;
     }

@@ -1,6 +1,7 @@
 // Writing a recording file (document 02, R-1): its heading, then frames and losses. What is refused is found before an octet is written.
 
 use given::are_given;
+use items::By;
 use items::put_items;
 use law::mask_of;
 use recording::Ending;
@@ -40,7 +41,8 @@ fn write_given(samples: &[u8], cells: &[u16], law: u32, set: u32, out: &mut [u8]
     ensures { λ r. ⌜ WriteGiven (now (samples .entry)) (now (cells .entry)) law set (now (out .entry)) (now (out .exit)) r ⌝ }
 {
     let quiet = [plus_plus(mask_of(law)); 320];
-    let after = octets_to_judge(samples, cells, law, set, &quiet, out.len());
+    let by = By { law: law, set: set };
+    let after = octets_to_judge(samples, cells, by, &quiet, out.len());
     if LONGEST < after {
         return refused(rules::Refusal::Long);
     }
@@ -49,7 +51,7 @@ fn write_given(samples: &[u8], cells: &[u16], law: u32, set: u32, out: &mut [u8]
     }
     let heading = heading_of(law);
     let at = text_lines::put_word(&heading, out, 0);
-    let octets = put_items(samples, cells, law, set, &quiet, out, at);
+    let octets = put_items(samples, cells, by, &quiet, out, at);
     FileWritten {
         end: Ending::Done,
         octets,

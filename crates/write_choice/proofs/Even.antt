@@ -1,6 +1,6 @@
 -- Laws of frames with nearly as many samples of one zero as of the other: Rice has more bits than there are samples, and binary is taken.
 use Prim.Native.Nat.{ℕ, zero, suc, _+_, _*_, _^_, _/_, _%_, _≤_, _<_}
-use mathlib.Core.Path.{_≡_, sym, ap, _∙_}
+use mathlib.Core.Path.{_≡_, sym, _∙_}
 use mathlib.Core.List.{List, [], _∷_}
 use mathlib.Core.Bool.{Bool, true, false, cond, _&&_}
 use native.Mathlib.Omega.{arith}
@@ -12,13 +12,12 @@ use Rattle.rules.specs.Samples.{plusZero, minusZero}
 use Rattle.rules.specs.First.{riceCode}
 use Rattle.rules.specs.Runs.{runsOf, riceForms}
 use Rattle.rules.specs.Zeros.{zeroOf}
-use Rattle.rules.specs.Chooses.{countOf, markOf, bestS, riceBits, riceChoice, applies, formOf, octetsOfForm, choose}
+use Rattle.rules.specs.Chooses.{countOf, markOf, bestS, riceBits, riceChoice, applies, octetsOfForm, choose}
 use Rattle.rules.proofs.Tests.{and-left, and-right}
 use Rattle.write_measure.proofs.Rice.{length-riceForm}
 use Rattle.write_scan.specs.Looks.{countIs, marksOf, twoZeros}
 use Rattle.write_runs.proofs.Finding.{runs-common, runs-other}
-use Rattle.write_zeros.specs.declared.Zeros.{Zeros}
-use Rattle.write_choice.specs.Plans.{measured, ZerosFor}
+use Rattle.write_choice.specs.Plans.{measured}
 use Rattle.write_located.proofs.Near.{zeros-unlocated}
 use Rattle.write_zeros.proofs.TwoZeros.{rice-applies, zeros-apply, rice-sum}
 use Rattle.write_offers.proofs.Choosing.{uncompressed-chosen, binary-bits}
@@ -79,10 +78,9 @@ module _ (mask : ℕ) (s : List ℕ) {n plus minus : ℕ} (size : length s ≡ n
       go (suc (suc S)) h = omega (arith, start, threes (suc (suc S)) (zeroOf mask (markOf mask s) 0) (omega arith) s 0, few, size, forties)
 
   -- so binary is taken
-  pub binary-settled : (set : ℕ) {runs : List ℕ} {r : Zeros} {t : Bool} → mask < 128 → twoZeros mask s ≡ true → n ≤ 320
-      → t ≡ (holds set 5 && ltb minus (plus + 14) && ltb plus (minus + 14)) → t ≡ true → r .tool ≡ 5 → r .bits ≡ 8 + n
-      → ZerosFor mask (choose mask set s measured) s r runs
-  binary-settled set {runs} {r} seven zeros few told taken tool bits =
+  pub binary-settled : (set : ℕ) {t : Bool} → mask < 128 → twoZeros mask s ≡ true → n ≤ 320
+      → t ≡ (holds set 5 && ltb minus (plus + 14) && ltb plus (minus + 14)) → t ≡ true → choose mask set s measured ≡ 5
+  binary-settled set seven zeros few told taken =
       let h = holds set 5 in
       let p = ltb minus (plus + 14) in
       let q = ltb plus (minus + 14) in
@@ -100,13 +98,4 @@ module _ (mask : ℕ) (s : List ℕ) {n plus minus : ℕ} (size : length s ≡ n
             (past set 11 (zeros-unrowed mask seven s zeros)),
       ) one in
       let six : P 6 = omega (arith, five, more, rice-form mask s, forties) in
-      let last : choose mask set s measured ≡ 5 = won mask s set 5 _ on (among mask s set P 6 _ six rest) in
-      record {
-        chosen = record {
-          tool = tool ∙ sym last;
-          bits = bits ∙ five ∙ ap (λ (t : ℕ). length (formOf mask t s)) (sym last);
-          small = omega (arith, bits);
-        };
-        rice = λ e. absurd (omega (arith, e, last));
-        kind = λ x y. tool;
-      }
+      won mask s set 5 _ on (among mask s set P 6 _ six rest)

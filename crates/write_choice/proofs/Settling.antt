@@ -22,10 +22,11 @@ use Rattle.write_scan.specs.declared.Spread.{Spread}
 use Rattle.write_scan.specs.Looks.{near, SpreadIs}
 use Rattle.rules.proofs.Counts.{count-le}
 use Rattle.write_runs.proofs.Finding.{runs-common, runs-other}
-use Rattle.write_choice.specs.Plans.{measured, valueTool, Plain, Chosen}
+use Rattle.write_choice.specs.Plans.{measured, valueTool, SettledTool, Chosen}
 use Rattle.write_scan.proofs.Tests.{never, and-zero}
 use Rattle.write_located.proofs.Near.{located-near}
 use Rattle.write_zeros.proofs.TwoZeros.{rice-applies, rice-sum}
+use Rattle.write_offers.specs.Offers.{wholeBits}
 use Rattle.write_offers.proofs.Offering.{fractional-form, far-unrowed}
 use Rattle.write_offers.proofs.Choosing.{uncompressed-bits, constant-bits, minus-bits, plus-bits}
 
@@ -154,7 +155,7 @@ module _ (mask : ℕ) (s : List ℕ) where
     unfolding choose
     won t ts e h = rw (e, le-leb (octetsOfForm mask s t) (octetsOfForm mask s (choose mask set s ts)) h)
 
-    pub plus-settled : (holds set 2 && applies mask 2 s) ≡ true → Plain mask set s 2
+    pub plus-settled : (holds set 2 && applies mask 2 s) ≡ true → SettledTool mask set s 2
     plus-settled e =
         record {
           settled = λ n. sym (won 2 _ e (omega (arith, plus-bits mask s refl, form-some (choose mask set s (3 ∷ 4 ∷ measured)))));
@@ -163,7 +164,7 @@ module _ (mask : ℕ) (s : List ℕ) where
         }
 
     module _ (two : (holds set 2 && applies mask 2 s) ≡ false) where
-      pub minus-settled : (holds set 3 && applies mask 3 s) ≡ true → Plain mask set s 3
+      pub minus-settled : (holds set 3 && applies mask 3 s) ≡ true → SettledTool mask set s 3
       minus-settled e =
           record {
             settled = λ n. sym (passed 2 _ two
@@ -173,7 +174,7 @@ module _ (mask : ℕ) (s : List ℕ) where
           }
 
       module _ (three : (holds set 3 && applies mask 3 s) ≡ false) where
-        pub constant-settled : 5 ≤ length s → (holds set 4 && applies mask 4 s) ≡ true → Plain mask set s 4
+        pub constant-settled : 5 ≤ length s → (holds set 4 && applies mask 4 s) ≡ true → SettledTool mask set s 4
         constant-settled some e =
             record {
               settled = λ n. sym (passed 2 _ two ∙ passed 3 _ three
@@ -192,7 +193,7 @@ module _ (mask : ℕ) (s : List ℕ) where
               passed 2 _ two ∙ passed 3 _ three ∙ passed 4 _ four ∙ passed 5 _ (none 5 five) ∙ passed 6 _ (none 6 six)
               ∙ passed 7 _ (none 7 seven)
 
-          pub unsettled : (near (leastOf mask s) (greatestOf mask s) ≡ false → applies mask 6 s ≡ false) → Plain mask set s 0
+          pub unsettled : (near (leastOf mask s) (greatestOf mask s) ≡ false → applies mask 6 s ≡ false) → SettledTool mask set s 0
           unsettled six =
               record {
                 settled = λ n. absurd (n refl);
@@ -204,7 +205,7 @@ module _ (mask : ℕ) (s : List ℕ) where
               }
 
           pub spread-settled : applies mask 6 s ≡ false → applies mask 7 s ≡ false → (holds set 11 && applies mask 11 s) ≡ false
-              → Plain mask set s 1
+              → SettledTool mask set s 1
           spread-settled six seven eleven =
               record {
                 settled = λ n. sym (far-left six seven ∙ passed 11 _ eleven ∙ last);
@@ -265,17 +266,17 @@ several {mask} {first} {s} {l} set some e t differ =
 
 -- what is said of it: its samples are near, or tool 11 may apply, or only uncompressed applies
 pub spread : {mask set first r : ℕ} {s : List ℕ} {l : Spread} → NoValue mask set s → SpreadIs mask first s l
-    → r ≡ cond (ltb (l .any % 128) 2) 0 (cond (ltb (l .any % 128) 4 && holds set 11) 0 1) → Plain mask set s r
+    → r ≡ cond (ltb (l .any % 128) 2) 0 (cond (ltb (l .any % 128) 4 && holds set 11) 0 1) → SettledTool mask set s r
 spread {mask} {set} {first} {r} {s} {l} v t told = rw told (go (ltb (l .any % 128) 2) refl (ltb (l .any % 128) 4) refl (holds set 11) refl)
   where
     six : near (leastOf mask s) (greatestOf mask s) ≡ false → applies mask 6 s ≡ false
     six far = zeros-near t (t .close ∙ far)
 
-    settled : near (leastOf mask s) (greatestOf mask s) ≡ false → (holds set 11 && applies mask 11 s) ≡ false → Plain mask set s 1
+    settled : near (leastOf mask s) (greatestOf mask s) ≡ false → (holds set 11 && applies mask 11 s) ≡ false → SettledTool mask set s 1
     settled far eleven = spread-settled mask s set (v .two) (v .three) (v .four) (six far) (located-near mask s far) eleven
 
     go : (a : Bool) → ltb (l .any % 128) 2 ≡ a → (b : Bool) → ltb (l .any % 128) 4 ≡ b → (h : Bool) → holds set 11 ≡ h
-        → Plain mask set s (cond a 0 (cond (b && h) 0 1))
+        → SettledTool mask set s (cond a 0 (cond (b && h) 0 1))
     go true e b f h g = unsettled mask s set (v .two) (v .three) (v .four) six
     go false e true f true g = unsettled mask s set (v .two) (v .three) (v .four) six
     go false e true f false g = settled (sym (t .close) ∙ e) (ap (λ (h : Bool). h && applies mask 11 s) g)
@@ -305,14 +306,14 @@ one-of {mask} {first} {s} {l} set some e t equal =
     }
 
 module _ {mask set first r : ℕ} {s : List ℕ} (o : OneValue mask set first s) (told : r ≡ valueTool mask set first) where
-  pub value-settled : (r ≡ 0 → ⊥) → Plain mask set s r
+  pub value-settled : (r ≡ 0 → ⊥) → SettledTool mask set s r
   value-settled held =
       rw told (go (holds set 2 && eqb first (plusZero mask)) (holds set 3 && eqb first (minusZero mask)) (holds set 4)
       (o .two) (o .three) (o .four) (λ z. held (told ∙ z)))
     where
       go : (a b c : Bool) → (holds set 2 && applies mask 2 s) ≡ a → (holds set 3 && applies mask 3 s) ≡ b
           → (holds set 4 && applies mask 4 s) ≡ c
-          → (_≡_ {A = ℕ} (cond a 2 (cond b 3 (cond c 4 0))) 0 → ⊥) → Plain mask set s (cond a 2 (cond b 3 (cond c 4 0)))
+          → (_≡_ {A = ℕ} (cond a 2 (cond b 3 (cond c 4 0))) 0 → ⊥) → SettledTool mask set s (cond a 2 (cond b 3 (cond c 4 0)))
       go true b c e f g n = plus-settled mask s set e
       go false true c e f g n = minus-settled mask s set e f
       go false false true e f g n = constant-settled mask s set e f (o .some) g
@@ -336,7 +337,7 @@ for-zero set t first e f = sym (e ∙ ap (λ (k : ℕ). holds set t && eqb first
 
 -- the bits of a tool that is settled
 whole-bits : (mask t : ℕ) (s : List ℕ) {n : ℕ} → length s ≡ n → 1 ≤ t → t ≤ 4
-    → cond (eqb t 1) (8 + 8 * n) (cond (eqb t 4) 16 8) ≡ length (formOf mask t s)
+    → wholeBits t n ≡ length (formOf mask t s)
 whole-bits mask zero s size h k = absurd (omega arith)
 whole-bits mask (suc zero) s size h k = uncompressed-bits mask s size
 whole-bits mask (suc (suc zero)) s size h k = plus-bits mask s size
@@ -344,11 +345,11 @@ whole-bits mask (suc (suc (suc zero))) s size h k = minus-bits mask s size
 whole-bits mask (suc (suc (suc (suc zero)))) s size h k = constant-bits mask s size
 whole-bits mask (suc (suc (suc (suc (suc t))))) s size h k = absurd (omega arith)
 
-whole-few : (t n : ℕ) → n ≤ 320 → cond (eqb t 1) (8 + 8 * n) (cond (eqb t 4) 16 8) ≤ 1000000000
+whole-few : (t n : ℕ) → n ≤ 320 → wholeBits t n ≤ 1000000000
 whole-few t n h = of-two (λ b. b ≤ 1000000000) (eqb t 1) (omega arith) (of-two (λ b. b ≤ 1000000000) (eqb t 4) (omega arith) (omega arith))
 
-pub settled-chosen : {mask set t b n : ℕ} {s : List ℕ} → Plain mask set s t → length s ≡ n → n ≤ 320
-    → b ≡ cond (eqb t 1) (8 + 8 * n) (cond (eqb t 4) 16 8) → (t ≡ 0 → ⊥) → Chosen mask (chosenTool mask set s) s t b
+pub settled-chosen : {mask set t b n : ℕ} {s : List ℕ} → SettledTool mask set s t → length s ≡ n → n ≤ 320
+    → b ≡ wholeBits t n → (t ≡ 0 → ⊥) → Chosen mask set s (record { tool = t; bits = b })
 settled-chosen {mask} {set} {t} {b} {n} {s} p size few told some =
     let e = p .settled some in
     record {

@@ -1,86 +1,55 @@
 // A frame from -2 to 1 that the look leaves and that has a 1 or a -2: value-location, or the last of the tie order.
 
+use crate::last::last_of;
+use crate::plans::NearPlan;
+use crate::plans::Plain;
 use first_octet::holds;
 use write_located::Located;
-use write_located::located_applies;
-use write_located::located_of;
-use write_located::row_of;
-use write_located::tally_of;
-use write_located::way_by;
-use write_offers::Choice;
+use write_offers::NearOffer;
 use write_offers::better;
+use write_offers::near_of;
 ghost use mathlib.Core.Path.{_≡_};
-ghost use mathlib.Core.Bool.{true, false};
-ghost use mathlib.Core.List.{[], _∷_};
+ghost use mathlib.Core.Bool.{true};
+ghost use Prim.Native.Nat.{_≤_};
 ghost use lib.ListN.{length, take};
-ghost use Rattle.rules.specs.Chooses.{chosenTool, leastOf, greatestOf};
-ghost use Rattle.write_scan.specs.Looks.{near, twoZeros, isMask, FrameIn};
-ghost use Rattle.write_offers.specs.Ties.{ChosenIs};
-ghost use Rattle.write_choice.specs.Plans.{Left, locatedBy, LocatedFor};
+ghost use Rattle.write_scan.specs.Looks.{isMask, FrameIn};
+ghost use Rattle.write_choice.specs.Plans.{Left, NearFrame, nearBy, NearPlanned};
 
-// The last of the tie order, with nothing measured.
-fn not_located(last: Choice) -> Located
-    ensures { λ r. ⌜ (r .tool ≡ last .tool) × (r .bits ≡ last .bits) ⌝ }
+// Value-location where its octets are not more, else what was best before it.
+fn located_or(last: Plain, w: Located) -> NearPlan
+    requires { ⌜ (last .choice .bits ≤ 1000000000) × (w .bits ≤ 1000000000) ⌝ }
+    ensures { λ r. ⌜ r ≡ nearBy last w ⌝ }
 {
-    let none = way_by(5, 0, 0, 0, 0);
-    Located {
-        tool: last.tool,
-        bits: last.bits,
-        row: 0,
-        flag: 0,
-        count: 0,
-        first: none,
-        second: none,
-        third: none,
+    let best = last.choice;
+    let seven = better(best, 7, true, w.bits);
+    if seven.tool != 7 {
+        return NearPlan::Last(last);
     }
+    NearPlan::Values(w)
 }
 
-// The choice, with what value-location writes.
-fn located_by(best: Choice, w: Located) -> Located
-    ensures { λ r. ⌜ r ≡ locatedBy best w ⌝ }
-{
-    let first = w.first;
-    let second = w.second;
-    let third = w.third;
-    Located {
-        tool: best.tool,
-        bits: best.bits,
-        row: w.row,
-        flag: w.flag,
-        count: w.count,
-        first: first,
-        second: second,
-        third: third,
-    }
-}
-
-// "Fewest octets" for a frame from -2 to 1 that has a 1 or a -2: binary and Rice do not apply. Nothing is measured where the set lacks
-// value-location or it does not apply. What is last in the tie order is known.
-pub fn located_plan(
+// "Fewest octets" for such a frame: binary and Rice do not apply. Nothing is measured where the set lacks value-location.
+pub fn near_plan(
     samples: &[u8],
     n: usize,
     mask: u8,
     set: u32,
-    last: Choice,
     a: &mut [u16; 321],
     b: &mut [u16; 321],
     c: &mut [u16; 321],
-) -> Located
+) -> NearPlan
     requires { ⌜ (FrameIn (now samples) n) × (isMask mask ≡ true) ⌝ }
-    requires { ⌜ (Left mask set (take n (now samples))) × (twoZeros mask (take n (now samples)) ≡ false) ⌝ }
-    requires { ⌜ (near (leastOf mask (take n (now samples))) (greatestOf mask (take n (now samples))) ≡ true) × (ChosenIs mask set (take n (now samples)) (11 ∷ []) last) ⌝ }
+    requires { ⌜ (Left mask set (take n (now samples))) × (NearFrame mask (take n (now samples))) ⌝ }
     requires { ⌜ (length (now a) ≡ 321) × ((length (now b) ≡ 321) × (length (now c) ≡ 321)) ⌝ }
-    ensures { λ r. ⌜ LocatedFor mask (chosenTool mask set (take n (now (samples .entry)))) (last .tool) (take n (now (samples .entry))) r (now (a .exit)) (now (b .exit)) (now (c .exit)) ⌝ }
+    ensures { λ r. ⌜ NearPlanned mask set (take n (now (samples .entry))) r (now (a .exit)) (now (b .exit)) (now (c .exit)) ⌝ }
 {
+    let last = last_of(samples, n, mask, set);
     if !holds(set, 7) {
-        return not_located(last);
+        return NearPlan::Last(last);
     }
-    let t = tally_of(samples, n, mask);
-    let row = row_of(t, n);
-    if !located_applies(t, n, row) {
-        return not_located(last);
+    let offered = near_of(samples, n, mask, a, b, c);
+    match offered {
+        NearOffer::Fails(_) => NearPlan::Last(last),
+        NearOffer::Fits(w) => located_or(last, w),
     }
-    let located = located_of(samples, n, mask, t, row, a, b, c);
-    let seven = better(last, 7, true, located.bits);
-    located_by(seven, located)
 }

@@ -3,16 +3,17 @@
 use first_octet::holds;
 use law::minus_zero;
 use law::plus_zero;
+use write_offers::whole_bits;
 use write_scan::Spread;
 use write_scan::spread_of;
 ghost use mathlib.Core.Path.{_≡_};
 ghost use mathlib.Core.Bool.{true, cond, _&&_};
-ghost use Prim.Native.Nat.{_+_, _*_, _%_, _≤_, _<_};
+ghost use Prim.Native.Nat.{_%_, _<_};
 ghost use lib.ListN.{getD, take};
-ghost use lib.Dec.{eqb, ltb};
+ghost use lib.Dec.{eqb, leb, ltb};
 ghost use Rattle.rules.specs.Tools as tools;
 ghost use Rattle.write_scan.specs.Looks.{SpreadIs, isMask, FrameIn};
-ghost use Rattle.write_choice.specs.Plans.{valueTool, Plain, Settles};
+ghost use Rattle.write_choice.specs.Plans.{valueTool, SettledTool, Settles};
 
 // Whether a tool is for this sample, and held.
 fn is_for(x: u8, y: u8, set: u32, tool: u32) -> bool
@@ -41,8 +42,8 @@ fn one_value_tool(x: u8, mask: u8, set: u32) -> u32
     0
 }
 
-// Uncompressed where a sample is below -2 or above 1, else 0: with the mask taken off, the low bits of 0 and -1 are 0, those of 1 and -2 are 1.
-// Where the set holds tool 11, those of its rows are left too: they are below 4.
+// Uncompressed where a sample is below -2 or above 1, else 0: with the mask taken off, the low bits of 0 and -1 are 0, those of 1 and -2
+// are 1. Where the set holds tool 11, those of its rows are left too: they are below 4.
 fn spread_tool(any: u8, set: u32) -> u32
     ensures { λ r. ⌜ r ≡ cond (ltb (any % 128) 2) 0 (cond (ltb (any % 128) 4 && tools.holds set 11) 0 1) ⌝ }
 {
@@ -55,12 +56,13 @@ fn spread_tool(any: u8, set: u32) -> u32
     if holds(set, 11) { 0 } else { 1 }
 }
 
-// The tool of a frame that the first look settles, else 0. A frame of one value takes one or two octets, and no other form is as short;
-// where no tool of one value is held, a frame with a sample below -2 or above 1 stays uncompressed, as it does where its samples differ.
+// The tool of a frame that the first look settles, else 0. A frame of one value takes one or two octets, and no other form is as
+// short; where no tool of one value is held, a frame with a sample below -2 or above 1 stays uncompressed, as it does where its samples
+// differ.
 fn plain_tool(samples: &[u8], n: usize, l: Spread, mask: u8, set: u32) -> u32
     requires { ⌜ (FrameIn (now samples) n) × (isMask mask ≡ true) ⌝ }
     requires { ⌜ SpreadIs mask (getD (now samples) 0 0) (take n (now samples)) l ⌝ }
-    ensures { λ r. ⌜ Plain mask set (take n (now (samples .entry))) r ⌝ }
+    ensures { λ r. ⌜ SettledTool mask set (take n (now (samples .entry))) r ⌝ }
 {
     if l.any != l.all {
         return spread_tool(l.any, set);
@@ -72,21 +74,8 @@ fn plain_tool(samples: &[u8], n: usize, l: Spread, mask: u8, set: u32) -> u32
     spread_tool(l.any, set)
 }
 
-// The bits of tools 1 to 4: the first octet, and with it the samples, or the one that all are.
-fn whole_bits(tool: u32, n: usize) -> usize
-    requires { ⌜ n ≤ 320 ⌝ }
-    ensures { λ r. ⌜ r ≡ cond (eqb tool 1) (8 + 8 * n) (cond (eqb tool 4) 16 8) ⌝ }
-{
-    if tool == 1 {
-        return 8 + 8 * n;
-    }
-    if tool == 4 {
-        return 16;
-    }
-    8
-}
-
-// The tool and the bits of its form; or tool 0 where a plan chooses, and then whether it is that of the two zeros, or of samples from -2 to 1.
+// The tool and the bits of its form; or tool 0 where the frame is left, and then whether it is of the two zeros, or of samples from
+// -2 to 1.
 pub struct Settled {
     pub tool: u32,
     pub bits: usize,
@@ -107,4 +96,14 @@ pub fn choose(samples: &[u8], n: usize, mask: u8, set: u32) -> Settled
         zeros: l.any % 128 == 0,
         close: l.any % 128 < 2,
     }
+}
+
+// Whether value-location may apply: it asks for 80 samples, from -2 to 1.
+pub fn is_near(close: bool, n: usize) -> bool
+    ensures { λ r. ⌜ r ≡ close && leb 80 n ⌝ }
+{
+    if !close {
+        return false;
+    }
+    80 <= n
 }

@@ -4,7 +4,6 @@ use mathlib.Core.Path.{_≡_, refl, sym, ap, _∙_}
 use mathlib.Core.List.{List, [], _++_, map, append-assoc}
 use mathlib.Core.Bool.{Bool, true, false, cond}
 use native.Mathlib.Omega.{arith}
-use borrow.Author.Tests.{ne-eqb}
 use lib.ListN.{length, take, drop}
 use lib.Dec.{ltb}
 use lib.Seq.{length-take-le}
@@ -21,10 +20,10 @@ use Rattle.write_zeros.specs.Rice.{RiceIs}
 use Rattle.write_located.specs.Rows.{LocatedIs}
 use Rattle.write_bits.specs.declared.Pen.{Pen}
 use Rattle.write_bits.specs.Puts.{penBits, Able, Puts, Packed}
-use Rattle.write_scan.specs.Rows.{rowBits, RowIs}
+use Rattle.write_scan.specs.Rows.{RowIs}
 use Rattle.rules.proofs.Words.{lowBits-join}
 use Rattle.rules.proofs.Lent.{drop-further}
-use Rattle.write_forms.specs.Forms.{wholeOctets, RiceReady, riceFormOf, valuesFormOf, locatedFormOf, zerosForm}
+use Rattle.write_forms.specs.Forms.{RiceReady, riceFormOf, valuesFormOf, locatedFormOf, binaryForm}
 use Rattle.write_forms.proofs.Turns.{located-values}
 
 pub row-flag : (row flag : ℕ) (l : List ℕ) → flag < 2 → lowBits 3 (row * 2 + flag) ++ l ≡ lowBits 2 row ++ (lowBits 1 flag ++ l)
@@ -50,31 +49,19 @@ rice-ready {mask} {n} {samples} f i =
       size = i .found .size;
     }
 
--- what is planned for a frame of the two zeros
-module _ (n : ℕ) (s : List ℕ) (r : Zeros) (row runs : List ℕ) where
-  pub zeros-whole : r .tool ≡ 1 → bitsOf (wholeOctets 1 s) ≡ zerosForm n s r row runs
-  unfolding zerosForm
-  zeros-whole e = rw e
-
-  pub zeros-rice : r .tool ≡ 6 → riceFormOf n r runs ≡ zerosForm n s r row runs
-  unfolding zerosForm
-  zeros-rice e = rw e
-
-  pub zeros-binary : (r .tool ≡ 1 → ⊥) → (r .tool ≡ 6 → ⊥) → prefix 5 n ++ rowBits (take (n / 40) row) ≡ zerosForm n s r row runs
-  unfolding zerosForm
-  zeros-binary one six = rw (ne-eqb (r .tool) 1 one, ne-eqb (r .tool) 6 six)
-
-  pub rice-form : {mask : ℕ} → length s ≡ n → RiceIs mask s r runs → riceFormOf n r runs ≡ formOf mask 6 s
+-- Rice as planned, and binary from the row
+module _ (n : ℕ) (s : List ℕ) where
+  pub rice-form : {mask : ℕ} {r : Zeros} {runs : List ℕ} → length s ≡ n → RiceIs mask s r runs → riceFormOf n r runs ≡ formOf mask 6 s
   unfolding formOf riceChoice
-  rice-form {mask} size i =
+  rice-form {mask} {r} {runs} size i =
       let form : ℕ → ℕ → ℕ → List ℕ → List ℕ = λ n mark S runs. riceCode n mark ++ (codeOf n S ++ riceForms S runs) in
       let rs = take (r .count) runs in
       ap (λ (k : ℕ). form k (r .mark) (r .s) rs) (sym size) ∙ ap (λ (m : ℕ). form (length s) m (r .s) rs) (i .mark)
       ∙ ap (λ (S : ℕ). form (length s) (markOf mask s) S rs) (i .best)
       ∙ ap (form (length s) (markOf mask s) (bestS mask (markOf mask s) s)) (i .found .says)
 
-  pub binary-form : (mask : ℕ) → length s ≡ n → RowIs (map (flagOf mask 0) s) (n / 40) row
-      → prefix 5 n ++ rowBits (take (n / 40) row) ≡ formOf mask 5 s
+  pub binary-form : (mask : ℕ) {row : List ℕ} → length s ≡ n → RowIs (map (flagOf mask 0) s) (n / 40) row
+      → binaryForm n row ≡ formOf mask 5 s
   unfolding formOf
   binary-form mask size words =
       ap (λ (l : List ℕ). prefix 5 n ++ l) (words .says) ∙ ap (λ (k : ℕ). prefix 5 k ++ map (flagOf mask 0) s) (sym size)

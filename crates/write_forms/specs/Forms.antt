@@ -5,11 +5,11 @@ use mathlib.Core.List.{List, [], _∷_, _++_}
 use mathlib.Core.Bool.{cond}
 use lib.ListN.{length, getD, take, drop}
 use lib.Dec.{eqb}
-use Rattle.rules.specs.Bits.{lowBits, bitsOf}
+use Rattle.rules.specs.Bits.{lowBits}
+use Rattle.rules.specs.Fractional.{firstCode, fractionalBody}
 use Rattle.rules.specs.Zeros.{prefix, codeOf, mostS}
 use Rattle.rules.specs.First.{octetFor, riceCode}
 use Rattle.rules.specs.Runs.{riceForms}
-use Rattle.write_scan.specs.Looks.{FrameIn}
 use Rattle.write_scan.specs.Rows.{rowBits}
 use Rattle.write_located.specs.declared.Located.{Located}
 use Rattle.write_zeros.specs.declared.Zeros.{Zeros}
@@ -61,14 +61,15 @@ pub record LocatedReady (r : Located) (a b c : List ℕ) : Type 0 where
 abbrev pub planForm : ℕ → Located → List ℕ → List ℕ → List ℕ → List ℕ
 planForm n r a b c = prefix 7 n ++ locatedFormOf r a b c
 
--- the planned form of n samples that are the two zeros; the row's flags are 1 at minus zero
-unfoldable pub zerosForm : ℕ → List ℕ → Zeros → List ℕ → List ℕ → List ℕ
-zerosForm n s r row runs =
-    cond (eqb (r .tool) 1) (bitsOf (wholeOctets 1 s))
-    (cond (eqb (r .tool) 6) (riceFormOf n r runs) (prefix 5 n ++ rowBits (take (n / 40) row)))
+-- binary from the row of flags, which are 1 at minus zero
+abbrev pub binaryForm : ℕ → List ℕ → List ℕ
+binaryForm n row = prefix 5 n ++ rowBits (take (n / 40) row)
 
-pub record ZerosReady (samples : List ℕ) (n : ℕ) (plan : Zeros) (row runs : List ℕ) : Type 0 where
-  pub sized : FrameIn samples n
-  pub rice : plan .tool ≡ 6 → RiceReady n plan runs
+pub record RowReady (n : ℕ) (row : List ℕ) : Type 0 where
+  pub few : n ≤ 320
   pub size : length row ≡ 8
   pub small : (i : ℕ) → getD row i 0 < 2 ^ 40
+
+-- fractional-bit with row k
+abbrev pub rowForm : ℕ → ℕ → ℕ → List ℕ → List ℕ
+rowForm mask n k s = lowBits 8 (firstCode n + k) ++ fractionalBody mask k s

@@ -19,18 +19,19 @@ use write_measure::width_of;
 use write_zeros::Zeros;
 ghost use mathlib.Core.Path.{_≡_};
 ghost use mathlib.Core.Bool.{true, cond};
-ghost use mathlib.Core.List.{_++_, map};
+ghost use mathlib.Core.List.{map};
 ghost use Prim.Native.Nat.{ℕ, _+_, _*_, _^_, _≤_, _<_};
 ghost use lib.ListN.{length, getD, take};
 ghost use lib.Dec.{eqb};
-ghost use Rattle.rules.specs.Bits.{lowBits, bitsOf};
-ghost use Rattle.rules.specs.Fractional.{radix, firstCode, placeIn, samplesAt, fractionalBody};
+ghost use Rattle.rules.specs.Bits.{bitsOf};
+ghost use Rattle.rules.specs.Fractional.{radix, placeIn, samplesAt};
 ghost use Rattle.rules.specs.First.{riceCode};
 ghost use Rattle.rules.specs.Zeros as zeros;
 ghost use Rattle.write_bits.specs.Puts.{Able, Puts, Packed};
 ghost use Rattle.write_scan.specs.Looks.{isMask, FrameIn};
 ghost use Rattle.write_forms.specs.Ways.{placesBy, listedForm, marksForm, wayOf, WayPlanned};
-ghost use Rattle.write_forms.specs.Forms.{wholeOctets, Copied, RiceReady, riceFormOf, ValuesReady, valuesFormOf, LocatedReady, locatedFormOf, planForm, zerosForm, ZerosReady};
+ghost use Rattle.write_forms.specs.Forms.{wholeOctets, Copied, RiceReady, riceFormOf, ValuesReady, valuesFormOf, LocatedReady};
+ghost use Rattle.write_forms.specs.Forms.{locatedFormOf, planForm, binaryForm, RowReady, rowForm};
 
 fn wide(x: u8) -> u64
     ensures { λ r. ⌜ (r ≡ x) × (r < 256) ⌝ }
@@ -180,7 +181,8 @@ fn put_values(
 ) -> Pen
     requires { ⌜ ValuesReady plan (now a) (now b) (now c) ⌝ }
     requires { ⌜ Able (now out) p (length (valuesFormOf plan (now a) (now b) (now c))) ⌝ }
-    ensures { λ r. ⌜ Puts (now (out .entry)) p (valuesFormOf plan (now (a .entry)) (now (b .entry)) (now (c .entry))) (now (out .exit)) r ⌝ }
+    ensures { λ r. ⌜ Puts (now (out .entry)) p (valuesFormOf plan (now (a .entry)) (now (b .entry)) (now (c .entry)))
+        (now (out .exit)) r ⌝ }
 {
     let first = plan.first;
     let q = put_value(out, p, first, a);
@@ -207,7 +209,8 @@ fn put_located_body(
 ) -> Pen
     requires { ⌜ LocatedReady plan (now a) (now b) (now c) ⌝ }
     requires { ⌜ Able (now out) p (length (locatedFormOf plan (now a) (now b) (now c))) ⌝ }
-    ensures { λ r. ⌜ Puts (now (out .entry)) p (locatedFormOf plan (now (a .entry)) (now (b .entry)) (now (c .entry))) (now (out .exit)) r ⌝ }
+    ensures { λ r. ⌜ Puts (now (out .entry)) p (locatedFormOf plan (now (a .entry)) (now (b .entry)) (now (c .entry)))
+        (now (out .exit)) r ⌝ }
 {
     let q = put(out, p, 3, plan.row as u64 * 2 + plan.flag as u64);
     put_values(out, q, plan, a, b, c)
@@ -232,28 +235,24 @@ pub fn put_located(
     finish(out, r)
 }
 
-// The planned form of a frame of the two zeros, as octets. Their number comes back. "Binary: N bits, 1 is minus zero": the flags of the row.
-pub fn put_two_zeros(
-    out: &mut [u8],
-    samples: &[u8],
-    n: usize,
-    plan: Zeros,
-    row: &[u64; 8],
-    runs: &[u16; 321],
-) -> usize
-    requires { ⌜ ZerosReady (now samples) n plan (now row) (now runs) ⌝ }
-    requires { ⌜ length (zerosForm n (take n (now samples)) plan (now row) (now runs)) ≤ 8 * length (now out) ⌝ }
-    ensures { λ r. ⌜ Packed (zerosForm n (take n (now (samples .entry))) plan (now (row .entry)) (now (runs .entry))) (now (out .entry)) (now (out .exit)) r ⌝ }
+// Rice as planned, as octets. Their number comes back.
+pub fn put_rice(out: &mut [u8], n: usize, plan: Zeros, runs: &[u16; 321]) -> usize
+    requires { ⌜ RiceReady n plan (now runs) ⌝ }
+    requires { ⌜ length (riceFormOf n plan (now runs)) ≤ 8 * length (now out) ⌝ }
+    ensures { λ r. ⌜ Packed (riceFormOf n plan (now (runs .entry))) (now (out .entry)) (now (out .exit)) r ⌝ }
 {
-    let tool = plan.tool;
-    if tool == 1 {
-        return put_whole(out, samples, n, 1);
-    }
     let p = fresh();
-    if tool == 6 {
-        let q = put_plus_minus(out, p, plan, n, runs);
-        return finish(out, q);
-    }
+    let q = put_plus_minus(out, p, plan, n, runs);
+    finish(out, q)
+}
+
+// "Binary: N bits, 1 is minus zero", as octets: the flags of the row. Their number comes back.
+pub fn put_binary(out: &mut [u8], n: usize, row: &[u64; 8]) -> usize
+    requires { ⌜ RowReady n (now row) ⌝ }
+    requires { ⌜ length (binaryForm n (now row)) ≤ 8 * length (now out) ⌝ }
+    ensures { λ r. ⌜ Packed (binaryForm n (now (row .entry))) (now (out .entry)) (now (out .exit)) r ⌝ }
+{
+    let p = fresh();
     let q = put_prefix(out, p, 5, n);
     let r = put_row(out, q, row, n / 40);
     finish(out, r)
@@ -263,8 +262,8 @@ pub fn put_two_zeros(
 pub fn put_fractional(out: &mut [u8], samples: &[u8], n: usize, mask: u8, k: usize) -> usize
     requires { ⌜ (FrameIn (now samples) n) × (isMask mask ≡ true) × (k < 12) ⌝ }
     requires { ⌜ ((i : ℕ) → getD (map (placeIn (samplesAt mask k)) (take n (now samples))) i 0 < radix k) ⌝ }
-    requires { ⌜ length (lowBits 8 (firstCode n + k) ++ fractionalBody mask k (take n (now samples))) ≤ 8 * length (now out) ⌝ }
-    ensures { λ r. ⌜ Packed (lowBits 8 (firstCode n + k) ++ fractionalBody mask k (take n (now (samples .entry)))) (now (out .entry)) (now (out .exit)) r ⌝ }
+    requires { ⌜ length (rowForm mask n k (take n (now samples))) ≤ 8 * length (now out) ⌝ }
+    ensures { λ r. ⌜ Packed (rowForm mask n k (take n (now (samples .entry)))) (now (out .entry)) (now (out .exit)) r ⌝ }
 {
     let p = fresh();
     let q = put(out, p, 8, wide(first_code(n)) + k as u64);

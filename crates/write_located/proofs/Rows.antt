@@ -21,7 +21,7 @@ use Rattle.write_located.specs.declared.Value.{Value}
 use Rattle.write_located.specs.declared.Values.{Values}
 use Rattle.write_located.specs.declared.Ways.{Ways}
 use Rattle.write_located.specs.Ways.{ValueIs, InTurn, WaysAre}
-use Rattle.write_located.specs.Rows.{leastBy, greatestBy, rowBy, Tallied, samplesOf, only, two, three}
+use Rattle.write_located.specs.Rows.{leastBy, greatestBy, rowBy, Tallied, samplesOf, onlyOf, two, three}
 use Rattle.write_located.specs.Rows.{valuesBy, oneIn, minusIn, twosIn, valuesFor, valuesIn, LocatedIs}
 use Rattle.write_located.proofs.Near.{apart}
 
@@ -102,7 +102,7 @@ greatest-zero one plus minus h = go (eqb one 0) refl h
 
 -- values in turn, by how many they are
 module _ {plus : ℕ} {s : List ℕ} where
-  only-turn : {x : Value} → ValueIs plus s x → x .times ≤ length s → InTurn plus s (only x)
+  only-turn : {x : Value} → ValueIs plus s x → x .times ≤ length s → InTurn plus s (onlyOf x)
   only-turn i h =
       record {
         some = omega arith;
@@ -246,7 +246,7 @@ module _ {mask : ℕ} {s : List ℕ} {t : Tally} (tally : Tallied mask s t) wher
         twos-minus = apart law (negsuc 1) (negsuc 0) (omega arith) (omega arith) (λ z. omega arith)
 
         go : (a b c d : Bool) → InTurn (plusZero mask) s
-            (cond a (only (oneIn mask t))
+            (cond a (onlyOf (oneIn mask t))
             (cond b (two (minusIn mask t) (twosIn mask t))
             (cond c (cond d (two (oneIn mask t) (minusIn mask t)) (two (minusIn mask t) (oneIn mask t)))
             (cond d (three (oneIn mask t) (minusIn mask t) (twosIn mask t)) (three (minusIn mask t) (oneIn mask t) (twosIn mask t))))))
@@ -320,7 +320,6 @@ module _ {mask : ℕ} {s : List ℕ} {t : Tally} (tally : Tallied mask s t) wher
           → flag ≡ cond (leb (t .minus + t .twos) (t .one)) 1 0 → flag < 2
           → v ≡ valuesFor mask t at flag → InTurn plus s v → WaysAre s v w x y z
           → bits ≡ 11 + (w .first .bits + w .second .bits + w .third .bits) → LocatedIs mask s (record {
-            tool = 7;
             bits = bits;
             row = at;
             flag = flag;

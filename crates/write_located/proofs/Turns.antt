@@ -9,6 +9,7 @@ use lib.ListN.{length, getD, take, length-map}
 use lib.Dec.{eqb, leb}
 use Rattle.rules.specs.Chooses.{countOf, flagsFor, without}
 use Rattle.write_runs.specs.declared.Found.{Found}
+use Rattle.write_runs.specs.declared.Sought.{Sought}
 use Rattle.write_scan.specs.Looks.{countIs}
 use Rattle.write_runs.specs.Runs.{RunsAre, FoundIs}
 use Rattle.write_runs.proofs.Leaving.{without-count}
@@ -64,12 +65,17 @@ way-with {flags} {runs} r f w =
     }
 
 -- what is found in whole words is found in the samples
-pub found-whole : {x y z n : ℕ} {a b c : List ℕ} {r : Found} (samples : List ℕ) (k : ℕ) → 40 * k ≡ n
-    → FoundIs x y z (take (40 * k) samples) r a b c → FoundIs x y z (take n samples) r a b c
+pub found-whole : {v : Sought} {n : ℕ} {a b c : List ℕ} {r : Found} (samples : List ℕ) (k : ℕ) → 40 * k ≡ n
+    → FoundIs v (take (40 * k) samples) r a b c → FoundIs v (take n samples) r a b c
 found-whole samples k e f = rw (ap (λ (m : ℕ). take m samples) e) at f
 
+-- the samples of values, to be found
+abbrev pub sought : ℕ → Values → Sought
+sought plus v =
+    record { plus = plus; first = v .first .sample; second = v .second .sample; third = v .third .sample }
+
 module _ {plus n : ℕ} {s a b c : List ℕ} {v : Values} {found : Found} (size : length s ≡ n) (few : n ≤ 320) (t : InTurn plus s v)
-    (f : FoundIs (v .first .sample) (v .second .sample) (v .third .sample) s found a b c) where
+    (f : FoundIs (sought plus v) s found a b c) where
   abbrev left : List ℕ
   left = without (v .first .sample) s
 

@@ -43,6 +43,10 @@ rowBy least greatest n =
     (cond (eqb least 126 && eqb greatest 128 && leb 80 n) 2
     (cond (eqb least 128 && eqb greatest 129 && leb 80 n) 3 4)))
 
+-- the row of a tally
+abbrev pub rowFor : Tally → ℕ → ℕ
+rowFor t n = rowBy (leastBy (t .twos) (t .minus) (t .plus)) (greatestBy (t .one) (t .plus) (t .minus)) n
+
 -- the values of a row in the order of the flag; rows 2 and 3 have theirs for one flag only
 abbrev pub again : Value → Value
 again v = record { sample = v .sample; times = 0 }
@@ -53,12 +57,12 @@ three x y z = record { first = x; second = y; third = z; count = 3 }
 abbrev pub two : Value → Value → Values
 two x y = record { first = x; second = y; third = again x; count = 2 }
 
-abbrev pub only : Value → Values
-only x = record { first = x; second = again x; third = again x; count = 1 }
+abbrev pub onlyOf : Value → Values
+onlyOf x = record { first = x; second = again x; third = again x; count = 1 }
 
 unfoldable pub valuesBy : ℕ → ℕ → Value → Value → Value → Values
 valuesBy row flag one minus twos =
-    cond (eqb row 3) (only one)
+    cond (eqb row 3) (onlyOf one)
     (cond (eqb row 2) (two minus twos)
     (cond (eqb row 1) (cond (eqb flag 1) (two one minus) (two minus one))
     (cond (eqb flag 1) (three one minus twos) (three minus one twos))))

@@ -5,6 +5,7 @@ use law::plus_zero;
 use law::sample_of;
 use write_measure::least_s;
 use write_measure::width_of;
+use write_runs::Sought;
 use write_runs::found_in;
 use write_scan::count_of;
 ghost use mathlib.Core.Path.{_≡_};
@@ -16,7 +17,7 @@ ghost use Rattle.rules.specs.Tools as tools;
 ghost use Rattle.rules.specs.Chooses.{leastOf, greatestOf, applies};
 ghost use Rattle.write_scan.specs.Looks.{near, isMask, FrameIn};
 ghost use Rattle.write_located.specs.Ways.{WayFor, WayIn, InTurn, WaysAre};
-ghost use Rattle.write_located.specs.Rows.{leastBy, greatestBy, rowBy, Tallied, valuesBy, valuesFor, LocatedIs};
+ghost use Rattle.write_located.specs.Rows.{leastBy, greatestBy, rowFor, Tallied, onlyOf, valuesBy, valuesFor, LocatedIs};
 
 // How a value is written: its method, all its bits with the method's three, its D places, how often it occurs, and how many runs it has.
 pub struct Way {
@@ -154,7 +155,7 @@ fn is_row(l: u8, g: u8, n: usize, least: u8, greatest: u8, from: usize) -> bool
 
 // The row, or 4 where none is.
 pub fn row_of(t: Tally, n: usize) -> usize
-    ensures { λ r. ⌜ (r ≡ rowBy (leastBy (t .twos) (t .minus) (t .plus)) (greatestBy (t .one) (t .plus) (t .minus)) n) × (r ≤ 4) ⌝ }
+    ensures { λ r. ⌜ (r ≡ rowFor t n) × (r ≤ 4) ⌝ }
 {
     let least = least_in(t);
     let greatest = greatest_in(t);
@@ -248,7 +249,7 @@ fn two(x: Value, y: Value) -> Values
 }
 
 fn only(x: Value) -> Values
-    ensures { λ r. ⌜ r ≡ record { first = x; second = record { sample = x .sample; times = 0 }; third = record { sample = x .sample; times = 0 }; count = 1 } ⌝ }
+    ensures { λ r. ⌜ r ≡ onlyOf x ⌝ }
 {
     let z = again(x);
     Values {
@@ -308,7 +309,8 @@ pub struct Ways {
     pub third: Way,
 }
 
-// The ways of values, one after the other, "D is N for the first value, then the places still empty". Their runs are left in the lent arrays.
+// The ways of values, one after the other, "D is N for the first value, then the places still empty". Their runs are left in the
+// lent arrays.
 fn ways_of(
     samples: &[u8],
     n: usize,
@@ -326,7 +328,13 @@ fn ways_of(
     let x = v.first;
     let y = v.second;
     let z = v.third;
-    let found = found_in(samples, n / 40, plus, x.sample, y.sample, z.sample, a, b, c);
+    let sought = Sought {
+        plus: plus,
+        first: x.sample,
+        second: y.sample,
+        third: z.sample,
+    };
+    let found = found_in(samples, n / 40, sought, a, b, c);
     let d = n - x.times;
     let e = d - y.times;
     let first = way_of(a, found.first, n, x.times);
@@ -339,10 +347,8 @@ fn ways_of(
     }
 }
 
-// What is written of a frame that has a 1 or a -2: the tool and its bits, and for value-location the row, the flag, how many values the row
-// has for the flag, and a way for each.
+// What value-location writes: its bits, the row, the flag, how many values the row has for the flag, and a way for each.
 pub struct Located {
-    pub tool: u32,
     pub bits: usize,
     pub row: usize,
     pub flag: usize,
@@ -363,23 +369,30 @@ fn located_bits(w: Ways) -> usize
     11 + (first.bits + second.bits + third.bits)
 }
 
+// A frame's tally, and the row that it has by it.
+pub struct Counted {
+    pub tally: Tally,
+    pub row: usize,
+}
+
 // What value-location writes of a frame that it applies to. The runs of its values are left in the lent arrays.
 pub fn located_of(
     samples: &[u8],
     n: usize,
     mask: u8,
-    t: Tally,
-    row: usize,
+    k: Counted,
     a: &mut [u16; 321],
     b: &mut [u16; 321],
     c: &mut [u16; 321],
 ) -> Located
     requires { ⌜ (FrameIn (now samples) n) × (isMask mask ≡ true) ⌝ }
-    requires { ⌜ (Tallied mask (take n (now samples)) t) × (applies mask 7 (take n (now samples)) ≡ true) ⌝ }
-    requires { ⌜ row ≡ rowBy (leastBy (t .twos) (t .minus) (t .plus)) (greatestBy (t .one) (t .plus) (t .minus)) n ⌝ }
+    requires { ⌜ (Tallied mask (take n (now samples)) (k .tally)) × (applies mask 7 (take n (now samples)) ≡ true) ⌝ }
+    requires { ⌜ k .row ≡ rowFor (k .tally) n ⌝ }
     requires { ⌜ (length (now a) ≡ 321) × ((length (now b) ≡ 321) × (length (now c) ≡ 321)) ⌝ }
     ensures { λ r. ⌜ LocatedIs mask (take n (now (samples .entry))) r (now (a .exit)) (now (b .exit)) (now (c .exit)) ⌝ }
 {
+    let t = k.tally;
+    let row = k.row;
     let flag = flag_of(t.one, t.minus + t.twos);
     let v = values_of(mask, t, row, flag);
     let w = ways_of(samples, n, plus_zero(mask), v, a, b, c);
@@ -388,7 +401,6 @@ pub fn located_of(
     let second = w.second;
     let third = w.third;
     Located {
-        tool: 7,
         bits: bits,
         row: row,
         flag: flag,

@@ -48,8 +48,8 @@ fn lesser(best: Least, s: usize, bits: usize) -> Least
     best
 }
 
-// Of S = 1 to most, the first with fewest bits of the runs and of what goes with S. Each run has a one and S low bits. Where these alone are
-// as many as the fewest so far, no S from there on needs fewer, since they grow with S; the search stops.
+// Of S = 1 to most, the first with fewest bits of the runs and of what goes with S. Each run has a one and S low bits. Where these
+// alone are as many as the fewest so far, no S from there on needs fewer, since they grow with S; the search stops.
 pub fn least_s(runs: &[u16; 321], count: usize, extra: &[u8; 10], most: usize) -> Least
     requires { ⌜ (count ≤ 321) × (count ≤ length (now runs)) ⌝ }
     requires { ⌜ (1 ≤ most) × (most ≤ 9) ⌝ }

@@ -1,5 +1,5 @@
 -- Laws of the choice, tool by tool.
-use Prim.Native.Nat.{ℕ, _+_, _*_, _≤_}
+use Prim.Native.Nat.{ℕ, _+_, _≤_}
 use mathlib.Core.Path.{_≡_, refl, sym, _∙_}
 use mathlib.Core.List.{List, [], _∷_}
 use mathlib.Core.Bool.{Bool, true, false, cond, _&&_}
@@ -13,6 +13,7 @@ use Rattle.rules.proofs.Tests.{and-left}
 use Rattle.write_measure.proofs.Weighing.{cond-of}
 use Rattle.write_scan.proofs.Tests.{never}
 use Rattle.write_offers.specs.declared.Choice.{Choice}
+use Rattle.write_offers.specs.Offers.{wholeBits}
 use Rattle.write_offers.specs.Ties.{taken, BetterIs, ChosenIs}
 
 -- what `better` gives, by its test
@@ -67,11 +68,11 @@ chosen-offered mask set s (u ∷ ts) t e ne =
 
 -- the bits of the plain forms, and where they apply
 module _ (mask : ℕ) (s : List ℕ) {n : ℕ} (size : length s ≡ n) where
-  pub uncompressed-bits : 8 + 8 * n ≡ length (formOf mask 1 s)
+  pub uncompressed-bits : wholeBits 1 n ≡ length (formOf mask 1 s)
   unfolding formOf
   uncompressed-bits = rw (length-append, length-lowBits, length-bitsOf, size)
 
-  pub uncompressed-chosen : (set : ℕ) → n ≤ 320 → ChosenIs mask set s [] (record { tool = 1; bits = 8 + 8 * n })
+  pub uncompressed-chosen : (set : ℕ) → n ≤ 320 → ChosenIs mask set s [] (record { tool = 1; bits = wholeBits 1 n })
   unfolding choose
   uncompressed-chosen set few = record { tool = refl; bits = uncompressed-bits; small = omega arith }
 

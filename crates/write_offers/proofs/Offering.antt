@@ -1,11 +1,11 @@
 -- Laws of each tool's offer.
-use Prim.Native.Nat.{ℕ, _+_, _*_, _≤_, _<_}
+use Prim.Native.Nat.{ℕ, _+_, _≤_, _<_}
 use mathlib.Core.Path.{_≡_, refl, sym, ap, ap₂, _∙_}
 use mathlib.Core.Logic.{_⊎_, inl, inr}
 use mathlib.Core.List.{List}
 use mathlib.Core.Bool.{Bool, true, false}
 use native.Mathlib.Omega.{arith}
-use borrow.Author.Tests.{ne-eqb, eqb-true, lt-leb, le-leb, lt-ltb, le-ltb}
+use borrow.Author.Tests.{ne-eqb, eqb-true, lt-leb, le-leb, lt-ltb, le-ltb, ltb-true, ltb-false}
 use lib.ListN.{length, getD, length-append}
 use lib.Dec.{eqb, leb, ltb}
 use Rattle.rules.specs.Tools.{isTool, holds}
@@ -22,7 +22,7 @@ use Rattle.write_scan.proofs.Tests.{never}
 use Rattle.rules.proofs.FrameRow.{below-past, number-or, row-low, row-extent}
 use Rattle.write_located.proofs.Near.{row-near, zeros-near}
 use Rattle.write_offers.specs.declared.Offer.{Offer}
-use Rattle.write_offers.specs.Offers.{failing, OfferIs, offerIf}
+use Rattle.write_offers.specs.Offers.{wholeBits, failing, OfferIs, offerIf}
 use Rattle.write_offers.proofs.Choosing.{uncompressed-bits, plus-bits, minus-bits, constant-bits}
 
 -- a tool that is not 11
@@ -53,24 +53,28 @@ offer-one mask t s {a = false} low e f few told = unmet mask t s (λ z. omega ar
 
 -- tools 1 to 4
 module _ (mask : ℕ) (s : List ℕ) where
-  pub uncompressed-offer : {n : ℕ} {r : Offer} → length s ≡ n → n ≤ 320 → r ≡ offerIf true (8 + 8 * n) → OfferIs mask 1 s r
+  pub uncompressed-offer : {n b : ℕ} {r : Offer} → length s ≡ n → n ≤ 320 → b ≡ wholeBits 1 n → r ≡ offerIf true b → OfferIs mask 1 s r
   unfolding applies
-  uncompressed-offer size few told = offer-one mask 1 s (omega arith) refl (uncompressed-bits mask s size) (omega arith) told
+  uncompressed-offer size few e told = offer-one mask 1 s (omega arith) refl (e ∙ uncompressed-bits mask s size) (omega arith) told
 
-  pub plus-offer : {x : ℕ} {r : Offer} → x ≡ plusZero mask → r ≡ offerIf (every (λ y. eqb y x) s) 8 → OfferIs mask 2 s r
-  unfolding applies
-  plus-offer e told = offer-one mask 2 s (omega arith) refl (plus-bits mask s refl) (omega arith)
-      (told ∙ ap (λ (z : ℕ). offerIf (every (λ y. eqb y z) s) 8) e)
+  -- all samples are x
+  abbrev allAre : ℕ → ℕ → Offer
+  allAre x b = offerIf (every (λ y. eqb y x) s) b
 
-  pub minus-offer : {x : ℕ} {r : Offer} → x ≡ minusZero mask → r ≡ offerIf (every (λ y. eqb y x) s) 8 → OfferIs mask 3 s r
+  pub plus-offer : {x b : ℕ} {r : Offer} → x ≡ plusZero mask → b ≡ 8 → r ≡ allAre x b → OfferIs mask 2 s r
   unfolding applies
-  minus-offer e told = offer-one mask 3 s (omega arith) refl (minus-bits mask s refl) (omega arith)
-      (told ∙ ap (λ (z : ℕ). offerIf (every (λ y. eqb y z) s) 8) e)
+  plus-offer {b = b} e f told =
+      offer-one mask 2 s (omega arith) refl (f ∙ plus-bits mask s refl) (omega arith) (told ∙ ap (λ (z : ℕ). allAre z b) e)
 
-  pub constant-offer : {x : ℕ} {r : Offer} → x ≡ getD s 0 0 → r ≡ offerIf (every (λ y. eqb y x) s) 16 → OfferIs mask 4 s r
+  pub minus-offer : {x b : ℕ} {r : Offer} → x ≡ minusZero mask → b ≡ 8 → r ≡ allAre x b → OfferIs mask 3 s r
   unfolding applies
-  constant-offer e told = offer-one mask 4 s (omega arith) refl (constant-bits mask s refl) (omega arith)
-      (told ∙ ap (λ (z : ℕ). offerIf (every (λ y. eqb y z) s) 16) e)
+  minus-offer {b = b} e f told =
+      offer-one mask 3 s (omega arith) refl (f ∙ minus-bits mask s refl) (omega arith) (told ∙ ap (λ (z : ℕ). allAre z b) e)
+
+  pub constant-offer : {x b : ℕ} {r : Offer} → x ≡ getD s 0 0 → b ≡ 16 → r ≡ allAre x b → OfferIs mask 4 s r
+  unfolding applies
+  constant-offer {b = b} e f told =
+      offer-one mask 4 s (omega arith) refl (f ∙ constant-bits mask s refl) (omega arith) (told ∙ ap (λ (z : ℕ). allAre z b) e)
 
   -- tool 6
   pub rice-form : length (riceChoice mask s) ≡ length (formOf mask 6 s)
@@ -110,17 +114,23 @@ module _ (mask : ℕ) (s : List ℕ) where
     unfolding applies
     row-unmet h = sym row-has ∙ le-ltb k (rowCount n) h
 
-    pub fractional-offer : {b : ℕ} {r : Offer} → k < rowCount n → b ≡ 8 + bodyBits k n → b ≤ 840 → r ≡ record { why = 0; bits = b }
-        → OfferIs mask 11 s r
-    fractional-offer h e few told = met mask 11 s (row-applies h) (e ∙ row-bits h) (omega arith) told
-
-    pub no-row-offer : {r : Offer} → rowCount n ≤ k → r ≡ record { why = 1; bits = 0 } → OfferIs mask 11 s r
-    no-row-offer h told = unmet mask 11 s (λ z. omega arith) (row-unmet h) told
+    pub fractional-offer : {r : Offer} → r ≡ offerIf (ltb k (rowCount n)) (8 + bodyBits k n) → r .bits ≤ 840 → OfferIs mask 11 s r
+    fractional-offer {r} told few = go (ltb k (rowCount n)) refl
+      where
+        go : (b : Bool) → ltb k (rowCount n) ≡ b → OfferIs mask 11 s r
+        go true h =
+            let e : r ≡ record { why = 0; bits = 8 + bodyBits k n } = told ∙ rw h refl in
+            met mask 11 s (row-applies (ltb-true _ _ h)) (row-bits (ltb-true _ _ h)) (omega (arith, few, ap (λ (o : Offer). o .bits) e)) e
+        go false h = unmet mask 11 s (λ z. omega arith) (row-unmet (ltb-false _ _ h)) (told ∙ rw h refl)
 
   -- value-location by its conditions in turn: the length, the row, the frequency of 0
   pub located-form : length (locatedForm mask s) ≡ length (formOf mask 7 s)
   unfolding formOf
   located-form = refl
+
+  pub near-fails : {why : ℕ} {r : Offer} → applies mask 7 s ≡ false → why ≡ failing mask 7 s → r ≡ record { why = why; bits = 0 }
+      → OfferIs mask 7 s r
+  near-fails off e told = rw told (record { why = e; bits = rw off; small = omega arith })
 
   module _ {n : ℕ} (size : length s ≡ n) where
     pub short-offer : {r : Offer} → n < 80 → r ≡ record { why = 1; bits = 0 } → OfferIs mask 7 s r
@@ -128,25 +138,19 @@ module _ (mask : ℕ) (s : List ℕ) where
     short-offer h told = let e : leb 80 (length s) ≡ false = lt-leb 80 (length s) (omega arith) in
         rw told (record { why = rw e; bits = rw e; small = omega arith })
 
-    pub rowless-offer : {r : Offer} → 80 ≤ n → hasRow (rowOf mask s) ≡ false → r ≡ record { why = 2; bits = 0 } → OfferIs mask 7 s r
+    pub rowless : 80 ≤ n → hasRow (rowOf mask s) ≡ false → (applies mask 7 s ≡ false) × (2 ≡ failing mask 7 s)
     unfolding failing applies
-    rowless-offer h g told =
+    rowless h g =
         let e : leb 80 (length s) ≡ true = le-leb 80 (length s) (omega arith) in
-        rw told (record { why = rw (e, g); bits = rw (e, g); small = omega arith })
+        (rw (e, g), rw (e, g))
 
     pub far-offer : {r : Offer} → 80 ≤ n → near (leastOf mask s) (greatestOf mask s) ≡ false → r ≡ record { why = 2; bits = 0 }
         → OfferIs mask 7 s r
-    far-offer h far told = rowless-offer h (ap hasRow (row-near mask s far)) told
+    far-offer h far told = let l = rowless h (ap hasRow (row-near mask s far)) in near-fails (l .0) (l .1) told
 
-    pub rare-offer : {r : Offer} → 80 ≤ n → hasRow (rowOf mask s) ≡ true → applies mask 7 s ≡ false → r ≡ record { why = 3; bits = 0 }
-        → OfferIs mask 7 s r
+    pub rare : 80 ≤ n → hasRow (rowOf mask s) ≡ true → applies mask 7 s ≡ false → 3 ≡ failing mask 7 s
     unfolding failing
-    rare-offer h g off told =
-        rw told (record {
-          why = rw (off, le-leb 80 (length s) (omega arith), g);
-          bits = rw off;
-          small = omega arith;
-        })
+    rare h g off = rw (off, le-leb 80 (length s) (omega arith), g)
 
 -- frames that have no row: one with a sample below -4 or above 3, and one of the two zeros
 pub far-unrowed : (mask : ℕ) (s : List ℕ) → nearBy 4 (leastOf mask s) (greatestOf mask s) ≡ false → applies mask 11 s ≡ false

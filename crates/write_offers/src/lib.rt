@@ -5,7 +5,8 @@ use law::minus_zero;
 use law::plus_zero;
 use value_rows::row_count;
 use write_fractional::reducing::bits_of;
-use write_located::Tally;
+use write_located::Counted;
+use write_located::Located;
 use write_located::located_applies;
 use write_located::located_of;
 use write_located::row_of;
@@ -16,14 +17,14 @@ use write_scan::spread_of;
 use write_zeros::rice_of;
 ghost use mathlib.Core.Path.{_≡_};
 ghost use mathlib.Core.Bool.{true};
-ghost use Prim.Native.Nat.{_*_, _+_, _≤_, _<_};
-ghost use lib.ListN.{take};
-ghost use lib.Dec.{eqb};
+ghost use Prim.Native.Nat.{_+_, _≤_, _<_};
+ghost use lib.ListN.{length, take};
+ghost use lib.Dec.{eqb, ltb};
 ghost use Rattle.rules.specs.Tools.{isTool};
-ghost use Rattle.rules.specs.Samples.{plusZero, minusZero};
+ghost use Rattle.rules.specs.Fractional.{rowCount, bodyBits};
 ghost use Rattle.rules.specs.Chooses.{every, leastOf, greatestOf};
-ghost use Rattle.write_scan.specs.Looks.{countIs, near, isMask, FrameIn};
-ghost use Rattle.write_offers.specs.Offers.{offerIf, OfferIs};
+ghost use Rattle.write_scan.specs.Looks.{near, isMask, FrameIn};
+ghost use Rattle.write_offers.specs.Offers.{wholeBits, offerIf, OfferIs, ZerosCounted, NearIs};
 ghost use Rattle.write_offers.specs.Ties.{BetterIs};
 
 // A tool, and the bits of its form.
@@ -32,15 +33,37 @@ pub struct Choice {
     pub bits: usize,
 }
 
-// Uncompressed: "N octets", and the first one.
+// The bits of tools 1 to 4: the first octet, and with it the samples, or the one that all are.
+pub fn whole_bits(tool: u32, n: usize) -> usize
+    requires { ⌜ n ≤ 320 ⌝ }
+    ensures { λ r. ⌜ r ≡ wholeBits tool n ⌝ }
+{
+    if tool == 1 {
+        return 8 + 8 * n;
+    }
+    if tool == 4 {
+        return 16;
+    }
+    8
+}
+
+// Uncompressed, from which each choice goes on.
 pub fn uncompressed_of(n: usize) -> Choice
     requires { ⌜ n ≤ 320 ⌝ }
-    ensures { λ r. ⌜ r ≡ record { tool = 1; bits = 8 + 8 * n } ⌝ }
+    ensures { λ r. ⌜ r ≡ record { tool = 1; bits = wholeBits 1 n } ⌝ }
 {
     Choice {
         tool: 1,
-        bits: 8 + 8 * n,
+        bits: whole_bits(1, n),
     }
+}
+
+// Binary: N bits, and the first octet.
+pub fn binary_bits(n: usize) -> usize
+    requires { ⌜ n ≤ 320 ⌝ }
+    ensures { λ r. ⌜ r ≡ 8 + n ⌝ }
+{
+    8 + n
 }
 
 // The tool, if it is offered and its octets are not more; else what was best before it.
@@ -99,8 +122,7 @@ struct TwoCounts {
 
 fn zeros_in(samples: &[u8], n: usize, mask: u8) -> TwoCounts
     requires { ⌜ (FrameIn (now samples) n) × (mask < 128) ⌝ }
-    ensures { λ r. ⌜ (r .plus ≡ countIs (plusZero mask) (take n (now (samples .entry)))) × (r .minus ≡ countIs (minusZero mask) (take n (now (samples .entry)))) ⌝ }
-    ensures { λ r. ⌜ (r .plus ≤ 320) × (r .minus ≤ 320) ⌝ }
+    ensures { λ r. ⌜ ZerosCounted mask (take n (now (samples .entry))) r ⌝ }
 {
     TwoCounts {
         plus: count_of(samples, n, plus_zero(mask)),
@@ -108,13 +130,13 @@ fn zeros_in(samples: &[u8], n: usize, mask: u8) -> TwoCounts
     }
 }
 
-// "Binary and Rice apply to frames of the two zeros only." Binary: N bits, and the first octet.
+// "Binary and Rice apply to frames of the two zeros only."
 fn binary_offer(samples: &[u8], n: usize, mask: u8) -> Offer
     requires { ⌜ (FrameIn (now samples) n) × (mask < 128) ⌝ }
     ensures { λ r. ⌜ OfferIs mask 5 (take n (now (samples .entry))) r ⌝ }
 {
     let z = zeros_in(samples, n, mask);
-    offer_if(z.plus + z.minus == n, 8 + n)
+    offer_if(z.plus + z.minus == n, binary_bits(n))
 }
 
 // Rice, with the mark and S that need fewest bits.
@@ -135,27 +157,55 @@ fn rice_offer(samples: &[u8], n: usize, mask: u8) -> Offer
     }
 }
 
-// Value-location, of samples from -2 to 1: "least and greatest are a row's, N fits it, and no value is more frequent than 0".
+// What value-location offers for samples from -2 to 1: the condition that fails, or what it would write.
+pub enum NearOffer {
+    Fails(u32),
+    Fits(Located),
+}
+
+// "Least and greatest are a row's, N fits it, and no value is more frequent than 0". The runs of its values are left in the lent arrays.
+pub fn near_of(
+    samples: &[u8],
+    n: usize,
+    mask: u8,
+    a: &mut [u16; 321],
+    b: &mut [u16; 321],
+    c: &mut [u16; 321],
+) -> NearOffer
+    requires { ⌜ (FrameIn (now samples) n) × ((isMask mask ≡ true) × (80 ≤ n)) ⌝ }
+    requires { ⌜ near (leastOf mask (take n (now samples))) (greatestOf mask (take n (now samples))) ≡ true ⌝ }
+    requires { ⌜ (length (now a) ≡ 321) × ((length (now b) ≡ 321) × (length (now c) ≡ 321)) ⌝ }
+    ensures { λ r. ⌜ NearIs mask (take n (now (samples .entry))) r (now (a .exit)) (now (b .exit)) (now (c .exit)) ⌝ }
+{
+    let t = tally_of(samples, n, mask);
+    let row = row_of(t, n);
+    if 4 <= row {
+        return NearOffer::Fails(2);
+    }
+    if !located_applies(t, n, row) {
+        return NearOffer::Fails(3);
+    }
+    let counted = Counted { tally: t, row: row };
+    let located = located_of(samples, n, mask, counted, a, b, c);
+    NearOffer::Fits(located)
+}
+
+// The same as an offer.
 fn near_offer(samples: &[u8], n: usize, mask: u8) -> Offer
     requires { ⌜ (FrameIn (now samples) n) × ((isMask mask ≡ true) × (80 ≤ n)) ⌝ }
     requires { ⌜ near (leastOf mask (take n (now samples))) (greatestOf mask (take n (now samples))) ≡ true ⌝ }
     ensures { λ r. ⌜ OfferIs mask 7 (take n (now (samples .entry))) r ⌝ }
 {
-    let t = tally_of(samples, n, mask);
-    let row = row_of(t, n);
-    if 4 <= row {
-        return fails(2);
-    }
-    if !located_applies(t, n, row) {
-        return fails(3);
-    }
     let mut a = [0u16; 321];
     let mut b = [0u16; 321];
     let mut c = [0u16; 321];
-    let located = located_of(samples, n, mask, t, row, &mut a, &mut b, &mut c);
-    Offer {
-        why: 0,
-        bits: located.bits,
+    let offered = near_of(samples, n, mask, &mut a, &mut b, &mut c);
+    match offered {
+        NearOffer::Fails(why) => fails(why),
+        NearOffer::Fits(located) => Offer {
+            why: 0,
+            bits: located.bits,
+        },
     }
 }
 
@@ -174,12 +224,11 @@ fn located_offer(samples: &[u8], n: usize, mask: u8) -> Offer
     near_offer(samples, n, mask)
 }
 
-// Fractional-bit (document 02, R-14): its one condition is that the frame has a row of table 7-28.
-fn fractional_offer(samples: &[u8], n: usize, mask: u8) -> Offer
-    requires { ⌜ (FrameIn (now samples) n) × (mask < 128) ⌝ }
-    ensures { λ r. ⌜ OfferIs mask 11 (take n (now (samples .entry))) r ⌝ }
+// Fractional-bit (document 02, R-14) by a frame's row: its one condition is that table 7-28 has it for this length.
+pub fn row_offer(k: usize, n: usize) -> Offer
+    requires { ⌜ n ≤ 320 ⌝ }
+    ensures { λ r. ⌜ (r ≡ offerIf (ltb k (rowCount n)) (8 + bodyBits k n)) × (r .bits ≤ 840) ⌝ }
 {
-    let k = write_fractional::reducing::row_of(samples, n, mask);
     if row_count(n) <= k {
         return fails(1);
     }
@@ -189,22 +238,32 @@ fn fractional_offer(samples: &[u8], n: usize, mask: u8) -> Offer
     }
 }
 
+// Fractional-bit for a frame.
+fn fractional_offer(samples: &[u8], n: usize, mask: u8) -> Offer
+    requires { ⌜ (FrameIn (now samples) n) × (mask < 128) ⌝ }
+    ensures { λ r. ⌜ OfferIs mask 11 (take n (now (samples .entry))) r ⌝ }
+{
+    let k = write_fractional::reducing::row_of(samples, n, mask);
+    row_offer(k, n)
+}
+
 // Tools 1 to 4: whole octets, by the value that all samples are to be.
 fn whole_offer(samples: &[u8], n: usize, mask: u8, tool: u32) -> Offer
     requires { ⌜ (FrameIn (now samples) n) × (mask < 128) ⌝ }
     requires { ⌜ (1 ≤ tool) × (tool ≤ 4) ⌝ }
     ensures { λ r. ⌜ OfferIs mask tool (take n (now (samples .entry))) r ⌝ }
 {
+    let bits = whole_bits(tool, n);
     if tool == 1 {
-        return offer_if(true, 8 + 8 * n);
+        return offer_if(true, bits);
     }
     if tool == 2 {
-        return one_value_offer(samples, n, plus_zero(mask), 8);
+        return one_value_offer(samples, n, plus_zero(mask), bits);
     }
     if tool == 3 {
-        return one_value_offer(samples, n, minus_zero(mask), 8);
+        return one_value_offer(samples, n, minus_zero(mask), bits);
     }
-    one_value_offer(samples, n, samples[0], 16)
+    one_value_offer(samples, n, samples[0], bits)
 }
 
 // A tool's offer for a frame, whatever the frame is and whatever the set holds.

@@ -16,6 +16,7 @@ use Rattle.write_scan.proofs.Rows.{zero-bits}
 use Rattle.write_runs.specs.declared.Track.{Track}
 use Rattle.write_runs.specs.declared.Tracks.{Tracks}
 use Rattle.write_runs.specs.declared.Found.{Found}
+use Rattle.write_runs.specs.declared.Sought.{Sought}
 use Rattle.write_scan.specs.Looks.{marksOf}
 use Rattle.write_runs.specs.Runs.{FoundIs}
 use Rattle.write_runs.specs.Tracks.{TrackIs, Closes, Ends, TracksAre, Apart}
@@ -69,8 +70,17 @@ module _ (x : ℕ) (l : List ℕ) {runs : List ℕ} {t : Track} {p : ℕ} (k : T
       rw f (track-one k c small)
 
 -- the three: a value that is none of theirs, n times
-module _ {x y z p : ℕ} {l a b c : List ℕ} {t : Tracks} (k : TracksAre x y z l p t a b c) where
-  tracks-passed : (v n : ℕ) → eqb v x ≡ false → eqb v y ≡ false → eqb v z ≡ false → TracksAre x y z (l ++ replicate n v) (p + n) t a b c
+module _ {o : Sought} {p : ℕ} {l a b c : List ℕ} {t : Tracks} (k : TracksAre o l p t a b c) where
+  abbrev x : ℕ
+  x = o .first
+
+  abbrev y : ℕ
+  y = o .second
+
+  abbrev z : ℕ
+  z = o .third
+
+  tracks-passed : (v n : ℕ) → eqb v x ≡ false → eqb v y ≡ false → eqb v z ≡ false → TracksAre o (l ++ replicate n v) (p + n) t a b c
   tracks-passed v n ex ey ez =
       let wx = without-passed x v n l ex in
       let wy : without y (without x (l ++ replicate n v)) ≡ without y (without x l) ++ replicate n v =
@@ -84,7 +94,7 @@ module _ {x y z p : ℕ} {l a b c : List ℕ} {t : Tracks} (k : TracksAre x y z 
   -- one of theirs: the first that it is
   tracks-first : (v : ℕ) {r s u : Track} {a′ : List ℕ} → eqb v x ≡ true → p < 320 → Closes (t .first) p a r a′
       → s .count ≡ t .second .count → s .start ≡ t .second .start + 1 → u .count ≡ t .third .count → u .start ≡ t .third .start + 1
-      → TracksAre x y z (l ++ (v ∷ [])) (p + 1) (record { first = r; second = s; third = u }) a′ b c
+      → TracksAre o (l ++ (v ∷ [])) (p + 1) (record { first = r; second = s; third = u }) a′ b c
   tracks-first v ex small close sc ss uc us =
       let wx = without-taken x v l ex in
       record {
@@ -95,7 +105,7 @@ module _ {x y z p : ℕ} {l a b c : List ℕ} {t : Tracks} (k : TracksAre x y z 
 
   tracks-second : (v : ℕ) {s u : Track} {b′ : List ℕ} → eqb v x ≡ false → eqb v y ≡ true → p < 320 → Closes (t .second) p b s b′
       → u .count ≡ t .third .count → u .start ≡ t .third .start + 1
-      → TracksAre x y z (l ++ (v ∷ [])) (p + 1) (record { first = t .first; second = s; third = u }) a b′ c
+      → TracksAre o (l ++ (v ∷ [])) (p + 1) (record { first = t .first; second = s; third = u }) a b′ c
   tracks-second v ex ey small close uc us =
       let wx = without-passed x v 1 l ex in
       let wy : without y (without x (l ++ (v ∷ []))) ≡ without y (without x l) = ap (without y) wx ∙ without-taken y v (without x l) ey in
@@ -107,7 +117,7 @@ module _ {x y z p : ℕ} {l a b c : List ℕ} {t : Tracks} (k : TracksAre x y z 
 
   tracks-third : (v : ℕ) {u : Track} {c′ : List ℕ} → eqb v x ≡ false → eqb v y ≡ false → eqb v z ≡ true → p < 320
       → Closes (t .third) p c u c′
-      → TracksAre x y z (l ++ (v ∷ [])) (p + 1) (record { first = t .first; second = t .second; third = u }) a b c′
+      → TracksAre o (l ++ (v ∷ [])) (p + 1) (record { first = t .first; second = t .second; third = u }) a b c′
   tracks-third v ex ey ez small close =
       let wx = without-passed x v 1 l ex in
       let wy : without y (without x (l ++ (v ∷ []))) ≡ without y (without x l) ++ (v ∷ []) = ap (without y) wx
@@ -119,26 +129,28 @@ module _ {x y z p : ℕ} {l a b c : List ℕ} {t : Tracks} (k : TracksAre x y z 
       }
 
 -- the same as the code has it, with the sample at a place
-module _ (s : List ℕ) {x y z i : ℕ} {a b c : List ℕ} {t : Tracks} (h : i < length s) (small : i < 320)
-    (k : TracksAre x y z (take i s) i t a b c) where
+module _ (s : List ℕ) {o : Sought} {i : ℕ} {a b c : List ℕ} {t : Tracks} (h : i < length s) (small : i < 320)
+    (k : TracksAre o (take i s) i t a b c) where
   next : take (i + 1) s ≡ take i s ++ (getD s i 0 ∷ [])
   next = rw add-one (take-suc s i 0 h)
 
-  pub mark-first : {r q u : Track} {a′ : List ℕ} → getD s i 0 ≡ x → Closes (t .first) i a r a′
+  pub mark-first : {r q u : Track} {a′ : List ℕ} → getD s i 0 ≡ o .first → Closes (t .first) i a r a′
       → (q .count ≡ t .second .count) × (q .start ≡ t .second .start + 1) → (u .count ≡ t .third .count) × (u .start ≡ t .third .start + 1)
-      → TracksAre x y z (take (i + 1) s) (i + 1) (record { first = r; second = q; third = u }) a′ b c
+      → TracksAre o (take (i + 1) s) (i + 1) (record { first = r; second = q; third = u }) a′ b c
   mark-first e close q u = rw next (tracks-first k (getD s i 0) (eq-eqb _ _ e) small close (q .0) (q .1) (u .0) (u .1))
 
-  pub mark-second : {q u : Track} {b′ : List ℕ} → (getD s i 0 ≡ x → ⊥) → getD s i 0 ≡ y → Closes (t .second) i b q b′
+  pub mark-second : {q u : Track} {b′ : List ℕ} → (getD s i 0 ≡ o .first → ⊥) → getD s i 0 ≡ o .second → Closes (t .second) i b q b′
       → (u .count ≡ t .third .count) × (u .start ≡ t .third .start + 1)
-      → TracksAre x y z (take (i + 1) s) (i + 1) (record { first = t .first; second = q; third = u }) a b′ c
+      → TracksAre o (take (i + 1) s) (i + 1) (record { first = t .first; second = q; third = u }) a b′ c
   mark-second ex e close u = rw next (tracks-second k (getD s i 0) (ne-eqb _ _ ex) (eq-eqb _ _ e) small close (u .0) (u .1))
 
-  pub mark-third : {u : Track} {c′ : List ℕ} → (getD s i 0 ≡ x → ⊥) → (getD s i 0 ≡ y → ⊥) → getD s i 0 ≡ z → Closes (t .third) i c u c′
-      → TracksAre x y z (take (i + 1) s) (i + 1) (record { first = t .first; second = t .second; third = u }) a b c′
+  pub mark-third : {u : Track} {c′ : List ℕ} → (getD s i 0 ≡ o .first → ⊥) → (getD s i 0 ≡ o .second → ⊥) → getD s i 0 ≡ o .third
+      → Closes (t .third) i c u c′
+      → TracksAre o (take (i + 1) s) (i + 1) (record { first = t .first; second = t .second; third = u }) a b c′
   mark-third ex ey e close = rw next (tracks-third k (getD s i 0) (ne-eqb _ _ ex) (ne-eqb _ _ ey) (eq-eqb _ _ e) small close)
 
-  pub mark-none : (getD s i 0 ≡ x → ⊥) → (getD s i 0 ≡ y → ⊥) → (getD s i 0 ≡ z → ⊥) → TracksAre x y z (take (i + 1) s) (i + 1) t a b c
+  pub mark-none : (getD s i 0 ≡ o .first → ⊥) → (getD s i 0 ≡ o .second → ⊥) → (getD s i 0 ≡ o .third → ⊥)
+      → TracksAre o (take (i + 1) s) (i + 1) t a b c
   mark-none ex ey ez = rw next (tracks-passed k (getD s i 0) 1 (ne-eqb _ _ ex) (ne-eqb _ _ ey) (ne-eqb _ _ ez))
 
 -- marks that begin with zeros: so many samples are the common value; and what is behind the first mark
@@ -166,31 +178,35 @@ drop-take : (m n : ℕ) (l : List ℕ) → m ≤ length l → drop m (take (m + 
 drop-take m n l h = rw (take-add m n l) (drop-at (take m l) (take n (drop m l)) m (length-take-le m l h))
 
 -- in a word of a frame: so many samples are still to come, and their marks are its low bits
-pub record InSamples (plus x y z : ℕ) (s : List ℕ) (t : Tracks) (a b c : List ℕ) (w end : ℕ) : Type 0 where
+pub record InSamples (o : Sought) (s : List ℕ) (t : Tracks) (a b c : List ℕ) (w end : ℕ) : Type 0 where
   pub left : ℕ
-  pub says : lowBits left w ≡ marksOf plus 0 1 (take left (drop (end - left) s))
-  pub tracks : TracksAre x y z (take (end - left) s) (end - left) t a b c
+  pub says : lowBits left w ≡ marksOf (o .plus) 0 1 (take left (drop (end - left) s))
+  pub tracks : TracksAre o (take (end - left) s) (end - left) t a b c
   pub fits : w < 2 ^ left
   pub within : left ≤ 40
 
-pub samples-first : (plus x y z : ℕ) (s : List ℕ) (t : Tracks) (a b c : List ℕ) (i w : ℕ)
-    → Gathers (marksOf plus 0 1 (take 40 (drop (40 * i) s))) 40 w
-    → TracksAre x y z (take (40 * i) s) (40 * i) t a b c → InSamples plus x y z s t a b c w (40 * (i + 1))
-samples-first plus x y z s t a b c i w g k =
+pub samples-first : (o : Sought) (s : List ℕ) (t : Tracks) (a b c : List ℕ) (i w : ℕ)
+    → Gathers (marksOf (o .plus) 0 1 (take 40 (drop (40 * i) s))) 40 w
+    → TracksAre o (take (40 * i) s) (40 * i) t a b c → InSamples o s t a b c w (40 * (i + 1))
+samples-first o s t a b c i w g k =
     let e : 40 * (i + 1) - 40 ≡ 40 * i = omega arith in
     record { left = 40; says = rw e (g .says); tracks = rw e k; fits = g .fits; within = omega arith }
 
-module _ {plus x y z w end : ℕ} {s a b c : List ℕ} {t : Tracks} (apart : Apart plus x y z) (low : 40 ≤ end)
-    (n : InSamples plus x y z s t a b c w end) where
+module _ {o : Sought} {w end : ℕ} {s a b c : List ℕ} {t : Tracks} (apart : Apart o) (low : 40 ≤ end)
+    (n : InSamples o s t a b c w end) where
+  abbrev plus : ℕ
+  plus = o .plus
+
   -- the common value so many times more, and the tracks after it
   stretched : (m : ℕ) → take m (drop (end - n .left) s) ≡ replicate m plus
-      → TracksAre x y z (take (end - n .left + m) s) (end - n .left + m) t a b c
+      → TracksAre o (take (end - n .left + m) s) (end - n .left + m) t a b c
   stretched m e =
       rw (take-add (end - n .left) m s, e)
       (tracks-passed (n .tracks) plus m
-      (ne-eqb plus x (λ f. apart .first (sym f))) (ne-eqb plus y (λ f. apart .second (sym f))) (ne-eqb plus z (λ f. apart .third (sym f))))
+      (ne-eqb plus (o .first) (λ f. apart .first (sym f))) (ne-eqb plus (o .second) (λ f. apart .second (sym f)))
+      (ne-eqb plus (o .third) (λ f. apart .third (sym f))))
 
-  pub samples-last : w ≡ 0 → TracksAre x y z (take end s) end t a b c
+  pub samples-last : w ≡ 0 → TracksAre o (take end s) end t a b c
   samples-last e =
       let to : end - n .left + n .left ≡ end = omega (arith, n .within) in
       let l = take (n .left) (drop (end - n .left) s) in
@@ -207,15 +223,15 @@ module _ {plus x y z w end : ℕ} {s a b c : List ℕ} {t : Tracks} (apart : Apa
         (sym (n .says) ∙ top-flags (n .left) j w lo hi (n .fits))
 
     -- the tracks before the next 1
-    pub samples-here : TracksAre x y z (take p s) p t a b c
+    pub samples-here : TracksAre o (take p s) p t a b c
     samples-here =
         let below = top-below (n .left) j w lo (n .fits) in
         let to : end - n .left + (n .left - (j + 1)) ≡ p = omega (arith, n .within) in
         rw to at (stretched (n .left - (j + 1)) (sym (take-take (n .left - (j + 1)) (n .left) _ (omega arith)) ∙ marks .0))
 
     -- and after it
-    pub samples-next : {r : Tracks} {a′ b′ c′ : List ℕ} → end ≤ length s → TracksAre x y z (take (p + 1) s) (p + 1) r a′ b′ c′
-        → InSamples plus x y z s r a′ b′ c′ (w - 2 ^ j) end
+    pub samples-next : {r : Tracks} {a′ b′ c′ : List ℕ} → end ≤ length s → TracksAre o (take (p + 1) s) (p + 1) r a′ b′ c′
+        → InSamples o s r a′ b′ c′ (w - 2 ^ j) end
     samples-next long k =
         let below = top-below (n .left) j w lo (n .fits) in
         let m = n .left - (j + 1) in
@@ -240,19 +256,19 @@ module _ {plus x y z w end : ℕ} {s a b c : List ℕ} {t : Tracks} (apart : Apa
   samples-place j lo = let below = top-below (n .left) j w lo (n .fits) in omega (arith, n .within)
 
 -- before the first word, and after the last one
-pub tracks-none : (x y z : ℕ) {t : Tracks} {a b c : List ℕ} → (t .first .count ≡ 0) × (t .first .start ≡ 0)
+pub tracks-none : (o : Sought) {t : Tracks} {a b c : List ℕ} → (t .first .count ≡ 0) × (t .first .start ≡ 0)
     → (t .second .count ≡ 0) × (t .second .start ≡ 0) → (t .third .count ≡ 0) × (t .third .start ≡ 0)
-    → length a ≡ 321 → length b ≡ 321 → length c ≡ 321 → TracksAre x y z [] 0 t a b c
+    → length a ≡ 321 → length b ≡ 321 → length c ≡ 321 → TracksAre o [] 0 t a b c
 unfolding without
-tracks-none x y z {t} {a} {b} {c} f s u sa sb sc =
+tracks-none o {t} {a} {b} {c} f s u sa sb sc =
     record {
       first = track-none a (t .first) (f .0) (f .1) sa;
       second = track-none b (t .second) (s .0) (s .1) sb;
       third = track-none c (t .third) (u .0) (u .1) sc;
     }
 
-pub tracks-end : {x y z p : ℕ} {l a b c a′ b′ c′ : List ℕ} {t : Tracks} {r : Found} → TracksAre x y z l p t a b c → p ≤ 320
+pub tracks-end : {o : Sought} {p : ℕ} {l a b c a′ b′ c′ : List ℕ} {t : Tracks} {r : Found} → TracksAre o l p t a b c → p ≤ 320
     → Ends (t .first) p a (r .first) a′ → Ends (t .second) p b (r .second) b′ → Ends (t .third) p c (r .third) c′
-    → FoundIs x y z l r a′ b′ c′
+    → FoundIs o l r a′ b′ c′
 tracks-end k most f s u =
     record { first = track-end (k .first) f most; second = track-end (k .second) s most; third = track-end (k .third) u most }

@@ -6,6 +6,7 @@ use lib.ListN.{length, take}
 use Rattle.rules.specs.Runs.{runsOf}
 use Rattle.rules.specs.Chooses.{flagsFor, without}
 use Rattle.write_runs.specs.declared.Found.{Found}
+use Rattle.write_runs.specs.declared.Sought.{Sought}
 
 -- an array whose first `count` are the runs of these flags
 pub record RunsAre (flags : List ℕ) (count : ℕ) (runs : List ℕ) : Type 0 where
@@ -14,7 +15,7 @@ pub record RunsAre (flags : List ℕ) (count : ℕ) (runs : List ℕ) : Type 0 w
   pub few : count ≤ 321
 
 -- the runs of three values, each among the places that those before it left
-pub record FoundIs (x y z : ℕ) (s : List ℕ) (r : Found) (a b c : List ℕ) : Type 0 where
-  pub first : RunsAre (flagsFor x s) (r .first) a
-  pub second : RunsAre (flagsFor y (without x s)) (r .second) b
-  pub third : RunsAre (flagsFor z (without y (without x s))) (r .third) c
+pub record FoundIs (v : Sought) (s : List ℕ) (r : Found) (a b c : List ℕ) : Type 0 where
+  pub first : RunsAre (flagsFor (v .first) s) (r .first) a
+  pub second : RunsAre (flagsFor (v .second) (without (v .first) s)) (r .second) b
+  pub third : RunsAre (flagsFor (v .third) (without (v .second) (without (v .first) s))) (r .third) c

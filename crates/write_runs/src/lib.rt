@@ -8,7 +8,7 @@ ghost use lib.ListN.{length, getD, take};
 ghost use lib.Dec.{eqb};
 ghost use Rattle.write_scan.specs.Rows.{rowBits};
 ghost use Rattle.write_runs.specs.Runs.{RunsAre, FoundIs};
-ghost use Rattle.write_runs.specs.Tracks.{TrackIs, Closes, Ends, TracksAre, Apart};
+ghost use Rattle.write_runs.specs.Tracks.{TrackIs, Closes, Ends, TracksAre, WordsTracked, Apart};
 
 // The number of runs of each of three values.
 pub struct Found {
@@ -100,6 +100,14 @@ pub fn runs_in(row: &[u64; 8], k: usize, runs: &mut [u16; 321]) -> usize
     close_last(runs, t, 40 * k)
 }
 
+// Three values to be found, and the common one, whose places are passed over.
+pub struct Sought {
+    pub plus: u8,
+    pub first: u8,
+    pub second: u8,
+    pub third: u8,
+}
+
 // The tracks of three values.
 struct Tracks {
     first: Track,
@@ -123,35 +131,33 @@ fn skip(t: Track) -> Track
 fn mark(
     samples: &[u8],
     i: usize,
-    x: u8,
-    y: u8,
-    z: u8,
+    v: Sought,
     t: Tracks,
     a: &mut [u16; 321],
     b: &mut [u16; 321],
     c: &mut [u16; 321],
 ) -> Tracks
     requires { ⌜ (i < 320) × (i < length (now samples)) ⌝ }
-    requires { ⌜ TracksAre x y z (take i (now samples)) i t (now a) (now b) (now c) ⌝ }
-    ensures { λ r. ⌜ TracksAre x y z (take (i + 1) (now (samples .entry))) (i + 1) r (now (a .exit)) (now (b .exit)) (now (c .exit)) ⌝ }
+    requires { ⌜ TracksAre v (take i (now samples)) i t (now a) (now b) (now c) ⌝ }
+    ensures { λ r. ⌜ TracksAre v (take (i + 1) (now (samples .entry))) (i + 1) r (now (a .exit)) (now (b .exit)) (now (c .exit)) ⌝ }
 {
     let s = samples[i];
     let first = t.first;
     let second = t.second;
     let third = t.third;
     let mut r = t;
-    if s == x {
+    if s == v.first {
         r.first = close(a, first, i);
         r.second = skip(second);
         r.third = skip(third);
         return r;
     }
-    if s == y {
+    if s == v.second {
         r.second = close(b, second, i);
         r.third = skip(third);
         return r;
     }
-    if s == z {
+    if s == v.third {
         r.third = close(c, third, i);
     }
     r
@@ -161,24 +167,21 @@ fn mark(
 fn word_found(
     samples: &[u8],
     i: usize,
-    plus: u8,
-    x: u8,
-    y: u8,
-    z: u8,
+    v: Sought,
     t: Tracks,
     a: &mut [u16; 321],
     b: &mut [u16; 321],
     c: &mut [u16; 321],
 ) -> Tracks
-    requires { ⌜ (i < 8) × ((40 * (i + 1) ≤ length (now samples)) × Apart plus x y z) ⌝ }
-    requires { ⌜ TracksAre x y z (take (40 * i) (now samples)) (40 * i) t (now a) (now b) (now c) ⌝ }
-    ensures { λ r. ⌜ TracksAre x y z (take (40 * (i + 1)) (now (samples .entry))) (40 * (i + 1)) r (now (a .exit)) (now (b .exit)) (now (c .exit)) ⌝ }
+    requires { ⌜ (i < 8) × ((40 * (i + 1) ≤ length (now samples)) × Apart v) ⌝ }
+    requires { ⌜ WordsTracked v (now samples) i t (now a) (now b) (now c) ⌝ }
+    ensures { λ r. ⌜ WordsTracked v (now (samples .entry)) (i + 1) r (now (a .exit)) (now (b .exit)) (now (c .exit)) ⌝ }
 {
     let mut found = t;
-    let mut w = word_at(samples, 40 * i, plus);
+    let mut w = word_at(samples, 40 * i, v.plus);
     while 0 < w {
         let top = top_of(w);
-        found = mark(samples, 40 * i + 39 - top, x, y, z, found, a, b, c);
+        found = mark(samples, 40 * i + 39 - top, v, found, a, b, c);
         w = w - (1 << top);
     }
     found
@@ -189,18 +192,15 @@ fn word_found(
 pub fn found_in(
     samples: &[u8],
     k: usize,
-    plus: u8,
-    x: u8,
-    y: u8,
-    z: u8,
+    v: Sought,
     a: &mut [u16; 321],
     b: &mut [u16; 321],
     c: &mut [u16; 321],
 ) -> Found
     requires { ⌜ (k ≤ 8) × (40 * k ≤ length (now samples)) ⌝ }
-    requires { ⌜ (x ≡ plus → ⊥) × ((y ≡ plus → ⊥) × (z ≡ plus → ⊥)) ⌝ }
+    requires { ⌜ Apart v ⌝ }
     requires { ⌜ (length (now a) ≡ 321) × ((length (now b) ≡ 321) × (length (now c) ≡ 321)) ⌝ }
-    ensures { λ r. ⌜ FoundIs x y z (take (40 * k) (now (samples .entry))) r (now (a .exit)) (now (b .exit)) (now (c .exit)) ⌝ }
+    ensures { λ r. ⌜ FoundIs v (take (40 * k) (now (samples .entry))) r (now (a .exit)) (now (b .exit)) (now (c .exit)) ⌝ }
 {
     let mut t = Tracks {
         first: no_runs(),
@@ -209,7 +209,7 @@ pub fn found_in(
     };
     let mut i = 0;
     while i < k {
-        t = word_found(samples, i, plus, x, y, z, t, a, b, c);
+        t = word_found(samples, i, v, t, a, b, c);
         i += 1;
     }
     let first = t.first;

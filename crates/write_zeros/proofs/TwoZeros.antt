@@ -84,7 +84,7 @@ module _ (mask : ℕ) (s : List ℕ) where
     pub rice-for : {set mark zero′ most start count : ℕ} {runs extra : List ℕ} {least : Least} → mark ≡ cond (ltb plus minus) 1 0
         → zero′ ≡ zeroOf mask (cond (ltb plus minus) 1 0) 0 → RunsAre (marksOf zero′ 0 1 s) count runs → CodesAre n extra
         → most ≡ mostS n → most ≤ 9 → LeastIs (bitsWith extra (take count runs)) most least → StartIs n start
-        → RiceFor mask set s (record { tool = 6; bits = start + least .bits; mark = mark; s = least .s; count = count }) runs
+        → RiceFor mask set s (record { bits = start + least .bits; mark = mark; s = least .s; count = count }) runs
     rice-for {mark = mark} {zero′ = zero′} {most = most} {start = start} {count = count} {runs = runs} {extra = extra}
         {least = least} marked zeroed found codes top few best begun =
         let told : cond (ltb plus minus) 1 0 ≡ markOf mask s = rw (is-plus, is-minus) in

@@ -44,9 +44,8 @@ fn start_bits(n: usize) -> usize
     if 240 <= n { 7 } else { 5 }
 }
 
-// What is written of a frame of the two zeros: the tool and its bits, and for Rice the mark, S and how many runs.
+// What Rice writes of a frame of the two zeros: its bits, the mark, S and how many runs.
 pub struct Zeros {
-    pub tool: u32,
     pub bits: usize,
     pub mark: usize,
     pub s: usize,
@@ -76,8 +75,8 @@ fn turned_row(row: &[u64; 8], k: usize, turn: bool) -> [u64; 8]
     flags
 }
 
-// Rice, where the set holds it: the runs are left in the lent array. The row's flags are 1 at minus zero; where that is the commoner, they are
-// turned.
+// Rice, where the set holds it: the runs are left in the lent array. The row's flags are 1 at minus zero; where that is the commoner,
+// they are turned.
 pub fn rice_of(
     n: usize,
     mask: u8,
@@ -94,7 +93,6 @@ pub fn rice_of(
 {
     if !holds(set, 6) {
         return Zeros {
-            tool: 1,
             bits: 0,
             mark: 0,
             s: 1,
@@ -108,7 +106,6 @@ pub fn rice_of(
     let extra = lengths_of(n);
     let least = least_s(runs, count, &extra, most_s(n));
     Zeros {
-        tool: 6,
         bits: start_bits(n) + least.bits,
         mark: mark,
         s: least.s,

@@ -12,19 +12,18 @@ use Rattle.rules.specs.declared.Refusal.{Refusal}
 use Rattle.rules.specs.declared.Refusal.the-variants.{Length, Room}
 use Rattle.rules.specs.declared.Ending.the-variants.{Done}
 use Rattle.rules.specs.declared.WriteAnswer.{WriteAnswer}
-use Rattle.rules.specs.Bits.{lowBits, bitsOf, valueFrom, octetsFor, octetsFrom, pack}
+use Rattle.rules.specs.Bits.{lowBits, valueFrom, octetsFor, octetsFrom, pack}
 use Rattle.rules.specs.Refusals.{verdict}
 use Rattle.rules.specs.Samples.{maskOf}
 use Rattle.rules.specs.Tools.{isLength, writerAsks}
-use Rattle.rules.specs.Chooses.{formOf, chosenTool, Written, Write, declined, chosen, writeOne}
+use Rattle.rules.specs.Chooses.{Written, Write, declined, chosen, formOf, writeOne}
 use Rattle.rules.specs.Calls.{Writes}
 use Rattle.rules.proofs.Octets.{length-pack}
 use Rattle.rules.proofs.Guards.{write-allowed}
-use Rattle.write_choice.specs.Plans.{Chosen}
 use Rattle.write_bits.specs.Puts.{Packed}
-use Rattle.writer.specs.Answers.{Tells, fitting, pad, full, plain}
-use Rattle.write_forms.specs.Forms.{wholeOctets}
-use Rattle.write_forms.proofs.Whole.{whole-form}
+use Rattle.write_offers.specs.declared.Choice.{Choice}
+use Rattle.write_choice.specs.Plans.{Chosen}
+use Rattle.writer.specs.Answers.{Tells, fitting, fitted, pad, full, PutsChosen}
 
 -- a refusal leaves the output as lent
 pub refused-writes : {why : Refusal} {r : WriteAnswer} {out : List ℕ} → Tells (declined why) r → Writes (declined why) r out out
@@ -48,19 +47,59 @@ all-written w {r} {out} {out′} {n} h p size tool told =
     rw (le-ltb (length out) (octetsFor (length (w .bits))) h, told)
     (record { end = refl; octets = p .size; bits = size; tool = tool; lent = p .lent ∙ ap (λ (i : ℕ). pack (w .bits) ++ drop i out) k })
 
--- the same of a form by its bits: where the octets for them are no more than the room, it fits and is written
-module _ (w : Written) {bits need : ℕ} (size : bits ≡ length (w .bits)) (octets : need ≡ octetsFor bits) where
-  pub form-refused : {r : WriteAnswer} {out : List ℕ} → length out < need → Tells (declined Room) r
-      → Writes (fitting (length out) w) r out out
-  form-refused h t = no-room w (omega arith) t
+-- a form by its bits: where the octets for them are no more than the room, it fits and is put, else nothing is
+module _ (form : List ℕ) {bits need : ℕ} (size : bits ≡ length form) (octets : need ≡ octetsFor bits) where
+  pub form-left : {out : List ℕ} → length out < need → out ≡ fitted form out
+  unfolding fitted
+  form-left {out} h = rw (lt-ltb (length out) (octetsFor (length form)) (omega arith)) refl
 
-  pub form-fits : {form : List ℕ} {room : ℕ} → form ≡ w .bits → need ≤ room → length form ≤ 8 * room
-  form-fits e h = rw e (omega arith)
+  pub form-fits : {room : ℕ} → need ≤ room → length form ≤ 8 * room
+  form-fits h = omega arith
 
-  pub form-written : {form out out′ : List ℕ} {n t : ℕ} {r : WriteAnswer} → form ≡ w .bits → need ≤ length out
-      → Packed form out out′ n → t ≡ w .tool
-      → r ≡ record { end = Done; octets = n; bits = bits; tool = t } → Writes (fitting (length out) w) r out out′
-  form-written e h p tool told = all-written w (omega arith) (rw e at p) size tool told
+  pub form-put : {out out′ : List ℕ} {n : ℕ} → need ≤ length out → Packed form out out′ n → out′ ≡ fitted form out
+  unfolding fitted
+  form-put {out} h p =
+      rw (le-ltb (length out) (octetsFor (length form)) (omega arith))
+      (p .lent ∙ ap (λ (i : ℕ). pack form ++ drop i out) (p .size))
+
+-- the same of the form that was chosen
+module _ {mask set need : ℕ} {s : List ℕ} {c : Choice} (chosen : Chosen mask set s c) (octets : need ≡ octetsFor (c .bits)) where
+  pub chosen-left : {out : List ℕ} → length out < need → PutsChosen mask set s out out c
+  chosen-left h = record { chosen = chosen; lent = form-left (full mask set s .bits) (chosen .bits) octets h }
+
+  pub chosen-fits : {room : ℕ} → need ≤ room → length (formOf mask (c .tool) s) ≤ 8 * room
+  chosen-fits h = rw (chosen .tool) (form-fits (full mask set s .bits) (chosen .bits) octets h)
+
+  pub chosen-put : {out out′ : List ℕ} {n : ℕ} → need ≤ length out → Packed (formOf mask (c .tool) s) out out′ n
+      → PutsChosen mask set s out out′ c
+  chosen-put h p =
+      record { chosen = chosen; lent = form-put (full mask set s .bits) (chosen .bits) octets h (rw (chosen .tool) at p) }
+
+-- the answer for what was put so
+module _ {mask set need : ℕ} {s out out′ : List ℕ} {c : Choice} (p : PutsChosen mask set s out out′ c) (kept : length out′ ≡ length out)
+    (octets : need ≡ octetsFor (c .bits)) where
+  abbrev form : List ℕ
+  form = full mask set s .bits
+
+  pub chosen-refused : {r : WriteAnswer} → length out′ < need → Tells (declined Room) r
+      → Writes (fitting (length out) (full mask set s)) r out out′
+  unfolding fitted
+  chosen-refused h t =
+      let few : length out < octetsFor (length form) = omega (arith, p .chosen .bits) in
+      let same : out′ ≡ out = p .lent ∙ rw (lt-ltb (length out) (octetsFor (length form)) few) refl in
+      rw same (no-room (full mask set s) few t)
+
+  pub chosen-written : {r : WriteAnswer} → need ≤ length out′
+      → r ≡ record { end = Done; octets = need; bits = c .bits; tool = c .tool }
+      → Writes (fitting (length out) (full mask set s)) r out out′
+  unfolding fitted
+  chosen-written h told =
+      let room : octetsFor (length form) ≤ length out = omega (arith, p .chosen .bits) in
+      let put : out′ ≡ pack form ++ drop (octetsFor (length form)) out
+      = p .lent ∙ rw (le-ltb (length out) (octetsFor (length form)) room) refl in
+      let n : need ≡ octetsFor (length form) = octets ∙ ap octetsFor (p .chosen .bits) in
+      all-written (full mask set s) room (record { size = n; lent = put ∙ ap (λ (i : ℕ). pack form ++ drop i out) (sym n) })
+      (p .chosen .bits) (p .chosen .tool) told
 
 pub packed-as : {form form′ out out′ : List ℕ} {n : ℕ} → Packed form out out′ n → form ≡ form′ → Packed form′ out out′ n
 packed-as p e = rw e at p
@@ -77,17 +116,6 @@ pad-size = refl
 pub set-first : (l : List ℕ) → (length l ≡ 0 → ⊥) → set l 0 0 ≡ 0 ∷ drop 1 l
 set-first [] n = absurd (n refl)
 set-first (x ∷ l) n = refl
-
--- a form that is settled, and one that is measured, are the chosen form
-pub plain-full : (mask set t : ℕ) (s : List ℕ) → t ≡ chosenTool mask set s → 1 ≤ t → t ≤ 4 → plain t s ≡ full mask set s
-plain-full mask set t s e some most =
-    ap (λ (b : List ℕ). record { tool = t; bits = b }) (whole-form mask t s some most)
-    ∙ ap (λ (k : ℕ). record { tool = k; bits = formOf mask k s }) e
-
-pub plain-size : {mask t b : ℕ} {s : List ℕ} (set : ℕ) → Chosen mask (chosenTool mask set s) s t b → 1 ≤ t → t ≤ 4
-    → b ≡ length (bitsOf (wholeOctets t s))
-plain-size {mask} {t} {s = s} set c some most =
-    c .bits ∙ ap (λ (k : ℕ). length (formOf mask k s)) (sym (c .tool)) ∙ ap length (sym (whole-form mask t s some most))
 
 -- "Order: LAW, SET, then LENGTH"
 module _ (n : ℕ) (samples : List ℕ) (law set room : ℕ) (lawful : verdict (writerAsks law set) ≡ Done) where

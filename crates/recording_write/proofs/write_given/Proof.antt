@@ -23,7 +23,7 @@ octets-to-judge-requires : tie.Need-octets-to-judge-requires
 octets-to-judge-requires c κs =
     let s = start c in
     let quiet = ap (λ x. replicate 320 x) (c .before .plus-plus .ensures ∙ ap plusPlus (c .before .before .mask-of .ensures)) in
-    ((s .pre .1, s .pre .0 .1), quiet)
+    (s .pre .1, (s .pre .0, quiet))
 
 returns : tie.Need-returns
 returns c =

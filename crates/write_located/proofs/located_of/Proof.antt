@@ -16,22 +16,22 @@ size s = length-take-le (s .args .n) (s .args .samples .now) (s .pre .0 .0 .long
 
 -- its tally is one that value-location applies to
 tested : (s : tie.Start)
-    → true ≡ (leb 80 (s .args .n) && ltb (s .args .row) 4 && leb (s .args .t .one) (s .args .t .plus) && leb (s .args .t .minus)
-    (s .args .t .plus)
-    && leb (s .args .t .twos) (s .args .t .plus))
+    → true ≡ (leb 80 (s .args .n) && ltb (s .args .k .row) 4 && leb (s .args .k .tally .one) (s .args .k .tally .plus)
+    && leb (s .args .k .tally .minus) (s .args .k .tally .plus)
+    && leb (s .args .k .tally .twos) (s .args .k .tally .plus))
 tested s = sym (applied-is (s .pre .1 .0 .0) (size s) (s .pre .1 .1 .0) refl ∙ s .pre .1 .0 .1)
 
 add-flag-of : tie.Need-add-flag-of
 add-flag-of c =
-    let s = c .before .before in omega (arith, s .pre .1 .0 .0 .all, size s, s .pre .0 .0 .few)
+    let s = c .before .before .before in omega (arith, s .pre .1 .0 .0 .all, size s, s .pre .0 .0 .few)
 
 values-of-requires : tie.Need-values-of-requires
 values-of-requires c κs =
-    mask-seven _ (c .before .before .before .pre .0 .1)
+    mask-seven _ (c .before .before .before .before .pre .0 .1)
 
 plus-zero-requires : tie.Need-plus-zero-requires
 plus-zero-requires c κs =
-    mask-seven _ (c .before .before .before .before .pre .0 .1)
+    mask-seven _ (c .before .before .before .before .before .pre .0 .1)
 
 module _ (c : tie.After-third) where
   abbrev values-of : tie.After-values-of
@@ -42,13 +42,13 @@ module _ (c : tie.After-third) where
 
 module _ (c : tie.After-ways-of-arg3) where
   abbrev start : tie.Start
-  start = c .before .before .before .before .before .before .before .before
+  start = c .before .before .before .before .before .before .before .before .before
 
 ways-of-requires : tie.Need-ways-of-requires
 ways-of-requires c κs =
     let s = start c in
     let f = s .pre .0 .0 in
-    let turn = turn-of (s .pre .1 .0 .0) (law-for (s .args .mask) (s .pre .0 .1)) (s .args .row)
+    let turn = turn-of (s .pre .1 .0 .0) (law-for (s .args .mask) (s .pre .0 .1)) (s .args .k .row)
     (c .before .before .before .before .before .flag-of .result) (c .before .before .before .plus-zero .ensures)
     (c .before .before .before .before .values-of .ensures) in
     ((f .few, (f .long, f .whole)), (turn, s .pre .1 .1 .1))
@@ -59,10 +59,10 @@ located-bits-requires c κs =
 
 returns : tie.Need-returns
 returns c =
-    let s = (values-of c) .before .before .before .before in
+    let s = (values-of c) .before .before .before .before .before in
     let flag = (values-of c) .before .flag-of in
     let told = (values-of c) .values-of .ensures in
-    let turn = turn-of (s .pre .1 .0 .0) (law-for (s .args .mask) (s .pre .0 .1)) (s .args .row) (flag .result)
+    let turn = turn-of (s .pre .1 .0 .0) (law-for (s .args .mask) (s .pre .0 .1)) (s .args .k .row) (flag .result)
     ((plus-zero c) .plus-zero .ensures) told in
     located-is (s .pre .1 .0 .0) (size s) (s .pre .1 .1 .0) (tested s) refl (flag .ensures .0) (flag .ensures .1) told
     turn (c .before .before .before .before .ways-of .ensures) (c .before .before .before .located-bits .ensures)

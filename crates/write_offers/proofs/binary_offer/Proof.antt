@@ -20,12 +20,13 @@ size s = length-take-le (s .args .n) (s .args .samples .now) (s .pre .0 .long)
 
 returns : tie.Need-returns
 returns c =
-    let s = c .before .before .before .before in
+    let s = c .before .before .before .before .before in
     let m = s .args .mask in
-    let z = c .before .before .zeros-in .ensures .0 in
-    let on = rice-applies m (frame s) ∙ zeros-apply m (frame s) ∙ sym (zeros-counted m (frame s) (size s) (z .0) (z .1)) in
-    offer-one m 5 (frame s) (omega arith) on (binary-bits m (frame s) (size s)) (omega (arith, s .pre .0 .few)) (c .offer-if .ensures)
+    let z = c .before .before .before .zeros-in .ensures in
+    let on = rice-applies m (frame s) ∙ zeros-apply m (frame s) ∙ sym (zeros-counted m (frame s) (size s) (z .plus) (z .minus)) in
+    offer-one m 5 (frame s) (omega arith) on (c .before .binary-bits .ensures ∙ binary-bits m (frame s) (size s))
+    (omega (arith, c .before .binary-bits .ensures, s .pre .0 .few)) (c .offer-if .ensures)
 
 pub binary-offer-spec : {M : Type 1} → statement M
-binary-offer-spec = tie.close (tie.spec (λ c κs. search needs) (λ c. search needs) (λ c. search needs) (λ c κs. search needs)
+binary-offer-spec = tie.close (tie.spec (λ c κs. search needs) (λ c. search needs) (λ c κs. search needs) (λ c κs. search needs)
     returns)

@@ -1,15 +1,13 @@
--- No row, a rare one, or the form of value-location (Offering).
+-- The condition that fails, or the bits of what value-location would write (Offering).
 use borrow.Author.Needs.{needs}
-use mathlib.Core.Path.{_≡_, refl, sym, _∙_}
-use borrow.Author.Tests.{not-true, not-false, lt-ltb, le-ltb}
-use Rattle.rules.specs.Chooses.{applies, formOf}
-use Rattle.write_located.proofs.Rows.{row-has, applied-is}
-use Rattle.write_offers.proofs.Offering.{met, rowless-offer, rare-offer}
 use Prim.Native.Nat.{ℕ}
+use mathlib.Core.Path.{_≡_, refl}
 use mathlib.Core.List.{List}
-use mathlib.Core.Bool.{true}
-use lib.ListN.{length, take}
-use lib.Seq.{length-take-le}
+use lib.ListN.{take}
+use Rattle.rules.specs.Chooses.{formOf}
+use Rattle.write_offers.specs.Offers.{NearIs}
+use Rattle.write_offers.specs.declared.NearOffer.{NearOffer}
+use Rattle.write_offers.proofs.Offering.{met, near-fails}
 use Rattle.write_offers.proofs.near_offer.Statement.{statement}
 use Rattle.write_offers.proofs.near_offer.Tie as tie
 
@@ -17,50 +15,29 @@ use Rattle.write_offers.proofs.near_offer.Tie as tie
 abbrev frame : tie.Start → List ℕ
 frame s = take (s .args .n) (s .args .samples .now)
 
-size : (s : tie.Start) → length (frame s) ≡ s .args .n
-size s = length-take-le (s .args .n) (s .args .samples .now) (s .pre .0 .0 .long)
+-- what was offered, as it was told apart
+module _ (c : tie.After-near-of) where
+  abbrev start : tie.Start
+  start = c .before .before .before .before .before
+
+  offered : {o : NearOffer} → c .near-of .result ≡ o
+      → NearIs (start .args .mask) (frame start) o (c .near-of .last .1 .1 .1 .0) (c .near-of .last .1 .1 .1 .1 .0)
+      (c .near-of .last .1 .1 .1 .1 .1 .0)
+  offered e = rw e at (c .near-of .ensures)
 
 returns : tie.Need-returns
 returns c =
-    let s = c .before .before .before .before .before in
-    let has = row-has (c .before .before .before .tally-of .ensures) (size s) (c .before .before .row-of .ensures .0) in
-    rowless-offer (s .args .mask) (frame s) (size s) (s .pre .0 .1 .1) (sym has ∙ le-ltb _ 4 (c .before .if1 .taken)) (c .fails .ensures)
-
-module _ (c : tie.After-located-applies) where
-  abbrev row-of : tie.After-row-of
-  row-of = c .before .before
-
-  abbrev start : tie.Start
-  start = row-of .before .before .before
-
-  applied : c .located-applies .result ≡ applies (start .args .mask) 7 (frame start)
-  applied = applied-is (row-of .before .tally-of .ensures) (size start) (row-of .row-of .ensures .0) (c .located-applies .ensures)
+    let o = c .before .before .before .before in
+    let e = offered o (c .before .before .offered .given .1) in
+    near-fails ((start o) .args .mask) (frame (start o)) (e .0) (e .1) (c .fails .ensures)
 
 returns-2 : tie.Need-returns-2
-returns-2 c =
-    let a = c .before .before in
-    let s = start a in
-    let has = row-has ((row-of a) .before .tally-of .ensures) (size s) ((row-of a) .row-of .ensures .0) in
-    rare-offer (s .args .mask) (frame s) (size s) (s .pre .0 .1 .1) (sym has ∙ lt-ltb _ 4 (a .before .if1 .left))
-    (sym (applied a) ∙ not-true _ (c .before .if2 .taken)) (c .fails2 .ensures)
-
-on : (c : tie.Else2) → applies ((start (c .before)) .args .mask) 7 (frame (start (c .before))) ≡ true
-on c = sym (applied (c .before)) ∙ not-false _ (c .if2 .left)
-
-located-of-requires : tie.Need-located-of-requires
-located-of-requires c κs =
-    let e = c .before .before .before in
-    let s = start (e .before) in
-    let row = row-of (e .before) in
-    ((s .pre .0 .0, s .pre .0 .1 .0), ((row .before .tally-of .ensures, on e), (row .row-of .ensures .0, (refl, (refl, refl)))))
-
-returns-3 : tie.Need-returns-3
 unfolding formOf
-returns-3 c =
-    let e = c .before .before .before .before in
-    let l = c .located-of .ensures in
-    met ((start (e .before)) .args .mask) 7 (frame (start (e .before))) (on e) (l .bits) (l .small) refl
+returns-2 c =
+    let o = c .before .before .before in
+    let e = offered o (c .before .offered2 .given .1) in
+    met ((start o) .args .mask) 7 (frame (start o)) (e .0) (e .1 .bits) (e .1 .small) refl
 
 pub near-offer-spec : {M : Type 1} → statement M
-near-offer-spec = tie.close (tie.spec (λ c κs. search needs) (λ c κs. search needs) (λ c κs. search needs) returns
-    (λ c κs. search needs) (λ c κs. search needs) returns-2 located-of-requires returns-3)
+near-offer-spec = tie.close (tie.spec (λ c κs. search needs) (λ c. search needs) (λ c κs. search needs) (λ c. search needs)
+    returns returns-2)

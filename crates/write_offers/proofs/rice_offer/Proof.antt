@@ -23,8 +23,9 @@ returns : tie.Need-returns
 returns c =
     let s = c .before .before .before .before .before in
     let m = s .args .mask in
-    let z = c .before .before .before .zeros-in .ensures .0 in
-    let off = zeros-apply m (frame s) ∙ sym (zeros-counted m (frame s) (size s) (z .0) (z .1)) ∙ ne-eqb _ _ (c .before .if1 .taken) in
+    let z = c .before .before .before .zeros-in .ensures in
+    let off = zeros-apply m (frame s) ∙ sym (zeros-counted m (frame s) (size s) (z .plus) (z .minus))
+    ∙ ne-eqb _ _ (c .before .if1 .taken) in
     unmet m 6 (frame s) (omega arith) off (c .fails .ensures)
 
 module _ (c : tie.After-rice-of) where
@@ -35,12 +36,12 @@ returns-2 : tie.Need-returns-2
 returns-2 c =
     let s = (zeros-in c) .before .before in
     let m = s .args .mask in
-    let z = (zeros-in c) .zeros-in .ensures .0 in
-    let zeros = sym (zeros-counted m (frame s) (size s) (z .0) (z .1))
+    let z = (zeros-in c) .zeros-in .ensures in
+    let zeros = sym (zeros-counted m (frame s) (size s) (z .plus) (z .minus))
     ∙ eq-eqb _ _ (c .before .before .before .before .before .if1 .left) in
     let row = row-flags m (s .pre .0) (c .before .before .before .before .plus-zero .ensures)
     (c .before .before .before .others .ensures) in
-    let r = c .rice-of .ensures (frame s) (record { size = size s; zeros = zeros; plus = z .0; minus = z .1; row = row }) in
+    let r = c .rice-of .ensures (frame s) (record { size = size s; zeros = zeros; plus = z .plus; minus = z .minus; row = row }) in
     met m 6 (frame s) (zeros-apply m (frame s) ∙ zeros) (r .rice (rice-held m (frame s)) .bits ∙ rice-form m (frame s)) (r .small) refl
 
 pub rice-offer-spec : {M : Type 1} → statement M

@@ -9,10 +9,13 @@ returns c =
     let s = c .before .before .before .before .before in
     let f = take (s .args .n) (s .args .samples .now) in
     let plus = c .before .before .count-of .ensures in
-    let minus = c .count-of2 .ensures in (
-      (counted f (plus .0) (c .before .before .before .plus-zero .ensures), counted f (minus .0) (c .before .minus-zero .ensures)),
-      (plus .1, minus .1),
-    )
+    let minus = c .count-of2 .ensures in
+    record {
+      plus = counted f (plus .0) (c .before .before .before .plus-zero .ensures);
+      minus = counted f (minus .0) (c .before .minus-zero .ensures);
+      few-plus = plus .1;
+      few-minus = minus .1;
+    }
 
 pub zeros-in-spec : {M : Type 1} → statement M
 zeros-in-spec = tie.close (tie.spec (λ c κs. search needs) (λ c κs. search needs) (λ c κs. search needs) (λ c κs. search needs)

@@ -1,24 +1,23 @@
 use borrow.Author.Needs.{needs}
-use Prim.Native.Nat.{_*_, _-_, _≤_}
+use Prim.Native.Nat.{_-_, _≤_}
 use mathlib.Core.Path.{_≡_}
 use native.Mathlib.Omega.{arith}
-use lib.ListN.{take}
-use Rattle.write_runs.specs.Tracks.{TracksAre}
+use Rattle.write_runs.specs.Tracks.{WordsTracked}
 use Rattle.write_runs.proofs.Values.{tracks-none, tracks-end}
 use Rattle.write_runs.proofs.found_in.Statement.{statement}
 use Rattle.write_runs.proofs.found_in.Tie as tie
 
 abbrev Inv-loop : tie.InvT-loop
-Inv-loop samples k plus x y z a₀ b₀ c₀ t₀ i₀ a b c t i = (i ≤ k) × TracksAre x y z (take (40 * i) samples) (40 * i) t a b c
+Inv-loop samples k v a₀ b₀ c₀ t₀ i₀ a b c t i = (i ≤ k) × WordsTracked v samples i t a b c
 
 abbrev μ-loop : tie.MeasureT-loop
-μ-loop samples k plus x y z a₀ b₀ c₀ t₀ i₀ a b c t i = k - i
+μ-loop samples k v a₀ b₀ c₀ t₀ i₀ a b c t i = k - i
 
 loop-holds : tie.Need-loop-holds Inv-loop μ-loop
 loop-holds c =
     let s = c .before .before .before .before in (
       omega arith,
-      tracks-none (s .args .x) (s .args .y) (s .args .z) (c .before .before .no-runs .ensures)
+      tracks-none (s .args .v) (c .before .before .no-runs .ensures)
           (c .before .no-runs2 .ensures) (c .no-runs3 .ensures) (s .pre .1 .1 .0) (s .pre .1 .1 .1 .0) (s .pre .1 .1 .1 .1),
     )
 
@@ -33,7 +32,7 @@ module _ (c : tie.After-word-found-arg3 Inv-loop μ-loop) where
 word-found-requires : tie.Need-word-found-requires Inv-loop μ-loop
 word-found-requires c κs =
     let s = start-of-word-found-arg3 c in (
-      (omega arith, (omega arith, record { first = s .pre .1 .0 .0; second = s .pre .1 .0 .1 .0; third = s .pre .1 .0 .1 .1 })),
+      (omega arith, (omega arith, s .pre .1 .0)),
       c .before .before .before .before .loop .inv .1,
     )
 

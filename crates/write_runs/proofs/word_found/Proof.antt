@@ -8,15 +8,15 @@ use Rattle.write_runs.proofs.word_found.Statement.{statement}
 use Rattle.write_runs.proofs.word_found.Tie as tie
 
 abbrev Inv-loop : tie.InvT-loop
-Inv-loop samples i plus x y z a₀ b₀ c₀ found₀ w₀ a b c found w = InSamples plus x y z samples found a b c w (40 * (i + 1))
+Inv-loop samples i v a₀ b₀ c₀ found₀ w₀ a b c found w = InSamples v samples found a b c w (40 * (i + 1))
 
 abbrev μ-loop : tie.MeasureT-loop
-μ-loop samples i plus x y z a₀ b₀ c₀ found₀ w₀ a b c found w = w
+μ-loop samples i v a₀ b₀ c₀ found₀ w₀ a b c found w = w
 
 loop-holds : tie.Need-loop-holds Inv-loop μ-loop
 loop-holds c =
     let s = c .before .before in
-    samples-first (s .args .plus) (s .args .x) (s .args .y) (s .args .z) (s .args .samples .now) (s .args .t) (s .args .a .now)
+    samples-first (s .args .v) (s .args .samples .now) (s .args .t) (s .args .a .now)
     (s .args .b .now) (s .args .c .now) (s .args .i) (c .word-at .result) (c .word-at .ensures) (s .pre .1)
 
 sub-mark : tie.Need-sub-mark Inv-loop μ-loop

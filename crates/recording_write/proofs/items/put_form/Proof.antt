@@ -11,7 +11,7 @@ returns : tie.Need-returns
 returns c =
     let s = start c in
     let w = c .before .before .before .write-samples in
-    form-put (s .args .frame .now) (s .args .law) (s .args .set) (s .pre .0 .1 .0) (s .pre .0 .1 .1) (s .pre .0 .0)
+    form-put (s .args .frame .now) (s .args .by .law) (s .args .by .set) (s .pre .0 .1 .0) (s .pre .0 .1 .1) (s .pre .0 .0)
     (s .args .at) (s .args .out .now) (w .last .1 .1 .1 .0) (s .pre .1) (w .ensures)
 
 pub put-form-spec : {M : Type 1} → statement M

@@ -15,7 +15,7 @@ add-put-form c =
     omega (
       arith,
       s .good,
-      frame-end (maskOf (s .args .law)) (s .args .set) (s .args .c) (n .result) (n .ensures)
+      frame-end (maskOf (s .args .by .law)) (s .args .by .set) (s .args .c) (n .result) (n .ensures)
           (s .args .samples .now) (s .args .from) (s .pre .0 .0) (omega arith) (s .pre .0 .1),
     )
 
@@ -23,7 +23,7 @@ part-put-form-end : tie.Need-part-put-form-end
 part-put-form-end c =
     let s = c .before .before .before .before .before in
     let n = c .before .length-in in
-    frame-end (maskOf (s .args .law)) (s .args .set) (s .args .c) (n .result) (n .ensures)
+    frame-end (maskOf (s .args .by .law)) (s .args .by .set) (s .args .c) (n .result) (n .ensures)
     (s .args .samples .now) (s .args .from) (s .pre .0 .0) (omega arith) (s .pre .0 .1)
 
 module _ (c : tie.After-length-in) where
@@ -46,7 +46,7 @@ put-form-requires : tie.Need-put-form-requires
 put-form-requires c κs =
     let s = start (c .before .before .before) in
     let n = c .before .before .before .length-in in
-    let f = frame-for (maskOf (s .args .law)) (s .args .set) (s .args .c) (n .result) (n .ensures)
+    let f = frame-for (maskOf (s .args .by .law)) (s .args .by .set) (s .args .c) (n .result) (n .ensures)
     (s .args .samples .now) (s .args .from) (s .pre .0 .0) (omega arith) in
     ((f .six, s .pre .1 .0 .0), omega (arith, s .pre .1 .1, ap length (f .octets)))
 
@@ -54,7 +54,7 @@ returns : tie.Need-returns
 returns c =
     let s = (length-in-of-slice-known2 c) .before .before .before .before in
     let n = (length-in-of-slice-known2 c) .length-in in
-    let f = frame-for (maskOf (s .args .law)) (s .args .set) (s .args .c) (n .result) (n .ensures)
+    let f = frame-for (maskOf (s .args .by .law)) (s .args .by .set) (s .args .c) (n .result) (n .ensures)
     (s .args .samples .now) (s .args .from) (s .pre .0 .0) (omega arith) in
     puts-as (sym (f .octets)) (c .before .before .put-form .ensures)
 
@@ -65,7 +65,8 @@ put-lost-requires c κs =
     omega (
       arith,
       s .pre .1 .1,
-      ap length (item-lost (maskOf (s .args .law)) (s .args .set) (s .args .c) (drop (s .args .from) (s .args .samples .now)) (omega arith)
+      ap length (item-lost (maskOf (s .args .by .law)) (s .args .by .set) (s .args .c) (drop (s .args .from) (s .args .samples .now))
+          (omega arith)
           (sym (n .ensures) ∙ c .before .if2 .taken)),
     )
 
@@ -73,20 +74,21 @@ returns-2 : tie.Need-returns-2
 returns-2 c =
     let s = (length-in-of-slice-known3 c) .before .before .before .before in
     let n = (length-in-of-slice-known3 c) .length-in in
-    puts-as (sym (item-lost (maskOf (s .args .law)) (s .args .set) (s .args .c) (drop (s .args .from) (s .args .samples .now)) (omega arith)
+    puts-as (sym (item-lost (maskOf (s .args .by .law)) (s .args .by .set) (s .args .c) (drop (s .args .from) (s .args .samples .now))
+    (omega arith)
     (sym (n .ensures) ∙ c .before .before .before .before .if2 .taken))) (c .before .before .put-lost .ensures)
 
 slice-aggregate-put-form : tie.Need-slice-aggregate-put-form
 slice-aggregate-put-form c =
     let s = start (c .before .before .before) in
     let n = c .before .before .before .length-in in
-    loss-end (maskOf (s .args .law)) (s .args .set) (s .args .c) (n .result) (n .ensures) (s .pre .0 .0) (s .pre .1 .0 .1)
+    loss-end (maskOf (s .args .by .law)) (s .args .by .set) (s .args .c) (n .result) (n .ensures) (s .pre .0 .0) (s .pre .1 .0 .1)
 
 put-form-requires-2 : tie.Need-put-form-requires-2
 put-form-requires-2 c κs =
     let s = start (c .before .before .before .before) in
     let n = c .before .before .before .before .length-in in
-    let f = loss-for (maskOf (s .args .law)) (s .args .set) (s .args .c) (n .result) (n .ensures)
+    let f = loss-for (maskOf (s .args .by .law)) (s .args .by .set) (s .args .c) (n .result) (n .ensures)
     (s .pre .0 .0) (s .pre .1 .0 .1) (omega arith) (c .before .before .if2 .left) in
     ((f .six, s .pre .1 .0 .0), omega (arith, s .pre .1 .1, ap length (f .octets)))
 
@@ -94,7 +96,7 @@ returns-3 : tie.Need-returns-3
 returns-3 c =
     let s = (length-in-of-slice-known4 c) .before .before .before .before in
     let n = (length-in-of-slice-known4 c) .length-in in
-    let f = loss-for (maskOf (s .args .law)) (s .args .set) (s .args .c) (n .result) (n .ensures)
+    let f = loss-for (maskOf (s .args .by .law)) (s .args .by .set) (s .args .c) (n .result) (n .ensures)
     (s .pre .0 .0) (s .pre .1 .0 .1) (omega arith) (c .before .before .before .before .before .if2 .left) in
     puts-as (sym (f .octets)) (c .before .before .put-form2 .ensures)
 

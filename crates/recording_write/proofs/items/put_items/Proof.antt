@@ -8,15 +8,16 @@ use Rattle.recording_write.proofs.items.put_items.Statement.{statement}
 use Rattle.recording_write.proofs.items.put_items.Tie as tie
 
 abbrev Inv-loop : tie.InvT-loop
-Inv-loop samples cells law set quiet out₀ at i₀ from₀ to₀ out i from to = Writing cells samples (maskOf law) set out₀ at out i from to
+Inv-loop samples cells by quiet out₀ at i₀ from₀ to₀ out i from to =
+    Writing cells samples (maskOf (by .law)) (by .set) out₀ at out i from to
 
 abbrev μ-loop : tie.MeasureT-loop
-μ-loop samples cells law set quiet out₀ at i₀ from₀ to₀ out i from to = length cells - i
+μ-loop samples cells by quiet out₀ at i₀ from₀ to₀ out i from to = length cells - i
 
 loop-holds : tie.Need-loop-holds Inv-loop μ-loop
 loop-holds c =
     let s = c .before .before .before .before in
-    write-start (s .args .cells .now) (s .args .samples .now) (maskOf (s .args .law)) (s .args .set) (s .args .out .now)
+    write-start (s .args .cells .now) (s .args .samples .now) (maskOf (s .args .by .law)) (s .args .by .set) (s .args .out .now)
     (s .args .at) (s .pre .0)
 
 put-item-requires : tie.Need-put-item-requires Inv-loop μ-loop
@@ -28,8 +29,8 @@ put-item-requires c κs =
       (going-item (s .args .cells .now) (s .args .samples .now) g (omega arith), g .inside),
       (
         s .pre .1 .0,
-        write-room (s .args .cells .now) (s .args .samples .now) (maskOf (s .args .law)) (s .args .set) (s .args .out .now) (s .args .at)
-            w (s .pre .1 .1) (omega arith),
+        write-room (s .args .cells .now) (s .args .samples .now) (maskOf (s .args .by .law)) (s .args .by .set)
+            (s .args .out .now) (s .args .at) w (s .pre .1 .1) (omega arith),
       ),
     )
 
@@ -55,13 +56,15 @@ loop-again c =
     let l = loop in
     let s = l .before .before .before .before .before in
     rw (c .samples-in .ensures)
-    (write-turn (s .args .cells .now) (s .args .samples .now) (maskOf (s .args .law)) (s .args .set) (s .args .out .now) (s .args .at)
+    (write-turn (s .args .cells .now) (s .args .samples .now) (maskOf (s .args .by .law)) (s .args .by .set)
+    (s .args .out .now) (s .args .at)
     (l .loop .inv) (omega arith) (c .before .before .before .put-item .ensures))
 
 returns : tie.Need-returns Inv-loop μ-loop
 returns c =
     let s = start c in
-    write-done (s .args .cells .now) (s .args .samples .now) (maskOf (s .args .law)) (s .args .set) (s .args .out .now) (s .args .at)
+    write-done (s .args .cells .now) (s .args .samples .now) (maskOf (s .args .by .law)) (s .args .by .set)
+    (s .args .out .now) (s .args .at)
     (c .before .loop .inv) (omega arith)
 
 pub put-items-spec : {M : Type 1} → statement M

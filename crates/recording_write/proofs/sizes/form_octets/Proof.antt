@@ -1,32 +1,23 @@
+-- Every form has room in 321 octets (Forms, Put).
+use borrow.Author.Needs.{needs}
 use native.Mathlib.Omega.{arith}
-use mathlib.Core.Path.{_≡_}
-use mathlib.Core.Bool.{true}
-use lib.ListN.{length}
-use lib.Seq.{take-all}
-use Rattle.rules.specs.Tools.{isLength}
-use Rattle.write_scan.proofs.Tests.{frame-in}
-use Rattle.recording_write.proofs.Forms.{six-length, pad-sized, form-sized}
+use lib.ListN.{replicate}
+use Rattle.rules.proofs.Octets.{below-all}
+use Rattle.recording_write.proofs.Forms.{form-few}
+use Rattle.recording_write.proofs.Put.{form-measured}
 use Rattle.recording_write.proofs.sizes.form_octets.Statement.{statement}
 use Rattle.recording_write.proofs.sizes.form_octets.Tie as tie
 
 returns : tie.Need-returns
 returns c =
-    let s = c .before .before in
-    (pad-sized (s .args .mask) (s .args .set) (s .args .frame .now) (c .if1 .taken), omega arith)
-
-some-octets-requires : tie.Need-some-octets-requires
-some-octets-requires c κs =
-    let s = c .before .before in
-    let l = six-length (length (s .args .frame .now)) (c .if1 .left) (s .pre .0) in
-    (frame-in {samples = s .args .frame .now} l (λ h. omega arith), s .pre .1)
-
-returns-2 : tie.Need-returns-2
-returns-2 c =
-    let s = c .before .before .before in
+    let s = c .before .before .before .before in
     let f = s .args .frame .now in
-    let l : isLength (length f) ≡ true = six-length (length f) (c .before .if1 .left) (s .pre .0) in
-    let z = rw (take-all (length f) f (omega arith)) at (c .some-octets .ensures) in
-    (form-sized (s .args .mask) (s .args .set) f l z, z .most)
+    let by = s .args .by in
+    let six = s .pre .0 in
+    let b = below-all f (λ i. c .before .before .before .shared-slice-known .given i .fits) in
+    let few = form-few (by .law) (by .set) f (s .pre .1 .1) b six in
+    let e = form-measured f (by .law) (by .set) (s .pre .1 .0) (s .pre .1 .1) six (replicate 321 0) few (c .before .write-samples .ensures) in
+    (e, omega (arith, e, few))
 
 pub form-octets-spec : {M : Type 1} → statement M
-form-octets-spec = tie.close (tie.spec returns some-octets-requires returns-2)
+form-octets-spec = tie.close (tie.spec (λ c. search needs) (λ c κs. search needs) returns)

@@ -11,8 +11,7 @@ use lib.Seq.{length-take-le}
 use Rattle.rules.specs.Chooses.{applies}
 use Rattle.write_scan.proofs.Tests.{mask-seven}
 use Rattle.write_offers.specs.declared.Choice.{Choice}
-use Rattle.write_offers.proofs.Offering.{row-unmet}
-use Rattle.write_choice.proofs.Planning.{past, last-plain, last-row}
+use Rattle.write_choice.proofs.Planning.{last-plain, last-row}
 use Rattle.write_choice.proofs.last.last_of.Statement.{statement}
 use Rattle.write_choice.proofs.last.last_of.Tie as tie
 
@@ -32,39 +31,23 @@ returns c =
 row-of-requires : tie.Need-row-of-requires
 row-of-requires c κs = let s = c .before .before .before .before in (s .pre .0, mask-seven _ (s .pre .1))
 
-module _ (c : tie.After-row-count) where
-  abbrev held : tie.Else1
-  held = c .before .before
-
-  abbrev plain : tie.After-uncompressed-of
-  plain = held .before .before
-
-  abbrev start : tie.Start
-  start = plain .before .before
+better-requires : tie.Need-better-requires
+better-requires c κs =
+    let plain = c .before .before .before .before .before in (
+      omega (arith, ap (λ (k : Choice). k .bits) (plain .uncompressed-of .ensures), plain .before .before .pre .0 .few),
+      omega (arith, c .before .row-offer .ensures .1),
+    )
 
 returns-2 : tie.Need-returns-2
 returns-2 c =
-    let r = c .before in
-    let s = start r in
-    let none = row-unmet (s .args .mask) (frame s) (size s) (r .before .row-of .ensures) (omega (arith, r .row-count .ensures .0)) in
-    last-plain (s .args .mask) (s .args .set) (frame s) (size s) (s .pre .0 .few) ((plain r) .uncompressed-of .ensures)
-    (past (s .args .set) 11 none) 0
-
-better-requires : tie.Need-better-requires
-better-requires c κs =
-    let r = c .before .before in (
-      omega (arith, ap (λ (k : Choice). k .bits) ((plain r) .uncompressed-of .ensures), (start r) .pre .0 .few),
-      omega (arith, c .bits-of .ensures .1),
-    )
-
-returns-3 : tie.Need-returns-3
-returns-3 c =
-    let r = c .before .before .before in
-    let s = start r in
-    let on = sym ((held r) .before .holds .ensures) ∙ not-false _ ((held r) .if1 .left) in
-    last-row (s .args .mask) (s .args .set) (frame s) (size s) (s .pre .0 .few) ((plain r) .uncompressed-of .ensures) on
-    (r .before .row-of .ensures) (omega (arith, r .row-count .ensures .0)) (c .before .bits-of .ensures .0) (c .better .ensures)
+    let row = c .before .before .before in
+    let held = row .before in
+    let plain = held .before .before in
+    let s = plain .before .before in
+    let on = sym (held .before .holds .ensures) ∙ not-false _ (held .if1 .left) in
+    last-row (s .args .mask) (s .args .set) (frame s) (size s) (s .pre .0 .few) (plain .uncompressed-of .ensures) on (row .row-of .ensures)
+    (c .before .before .row-offer .ensures .0) (c .better .ensures)
 
 pub last-of-spec : {M : Type 1} → statement M
 last-of-spec = tie.close (tie.spec (λ c κs. search needs) (λ c κs. search needs) returns row-of-requires (λ c κs. search needs)
-    returns-2 (λ c κs. search needs) better-requires returns-3)
+    better-requires returns-2)

@@ -1,7 +1,7 @@
 -- Binary at once, or the better of uncompressed, Rice and binary (Planning, Even).
 use borrow.Author.Needs.{needs}
 use Prim.Native.Nat.{ℕ, _-_, _≤_}
-use mathlib.Core.Path.{_≡_, refl, ap}
+use mathlib.Core.Path.{_≡_, ap, _∙_}
 use mathlib.Core.List.{List}
 use lib.ListN.{length, take}
 use lib.Seq.{length-take-le}
@@ -11,7 +11,7 @@ use Rattle.write_scan.proofs.Tests.{mask-seven}
 use Rattle.write_located.proofs.Near.{counted, count-fits}
 use Rattle.write_zeros.specs.Rice.{ZerosAre, RiceFor}
 use Rattle.write_zeros.proofs.TwoZeros.{plus-left}
-use Rattle.write_choice.proofs.Planning.{zeros-as, zeros-planned}
+use Rattle.write_choice.proofs.Planning.{binary-planned, zeros-planned}
 use Rattle.write_choice.proofs.Even.{binary-settled}
 use Rattle.write_choice.proofs.two_zeros.zeros_plan.Statement.{statement}
 use Rattle.write_choice.proofs.two_zeros.zeros_plan.Tie as tie
@@ -44,21 +44,21 @@ sub-plus c = fits c
 
 returns : tie.Need-returns
 returns c =
-    let k = c .before .before in
+    let k = c .before .before .before in
     let pre = (s k) .pre in
-    zeros-as (pre .1 .0 .0 .later)
-    (binary-settled ((s k) .args .mask) (frame k) (size k) (pre .0 .0 .whole) ((are k) .plus) ((are k) .minus) (omega (arith, fits k))
-    ((s k) .args .set) (mask-seven _ (pre .0 .1)) (pre .1 .0 .1) (pre .0 .0 .few) (c .before .binary-at-once .ensures) (c .if1 .taken)
-    refl refl)
+    let five = binary-settled ((s k) .args .mask) (frame k) (size k) (pre .0 .0 .whole) ((are k) .plus) ((are k) .minus)
+    (omega (arith, fits k)) ((s k) .args .set) (mask-seven _ (pre .0 .1)) (pre .1 .0 .1) (pre .0 .0 .few)
+    (c .before .binary-at-once .ensures) (c .if1 .taken) in
+    binary-planned (size k) (pre .0 .0 .few) (pre .1 .0 .0 .later ∙ five) (c .before .before .binary-bits .ensures) (pre .1 .1 .0)
 
 rice-of-requires : tie.Need-rice-of-requires
 rice-of-requires c κs =
-    let pre = (s (c .before .before .before)) .pre in
+    let pre = (s (c .before .before .before .before)) .pre in
     ((pre .0 .0 .few, (mask-seven _ (pre .0 .1), pre .1 .1 .0 .size)), (pre .1 .1 .0 .small, pre .1 .1 .1))
 
 module _ (c : tie.After-rice-of) where
   abbrev counts : tie.After-count-of
-  counts = c .before .before .before .before
+  counts = c .before .before .before .before .before
 
   rice : RiceFor ((s counts) .args .mask) ((s counts) .args .set) (frame counts) (c .rice-of .result)
       (c .rice-of .last .1 .1 .1 .1 .1 .1 .0)
@@ -74,19 +74,22 @@ better-requires c κs =
 better-requires-2 : tie.Need-better-requires-2
 better-requires-2 c κs =
     let r = c .before .before .before .before in
-    (c .before .better .ensures .small, omega (arith, (rice r) .small, (s (counts r)) .pre .0 .0 .few))
+    let few = (s (counts r)) .pre .0 .0 .few in
+    (c .before .better .ensures .small, omega (arith, r .before .before .before .before .binary-bits .ensures, few))
 
 returns-2 : tie.Need-returns-2
 returns-2 c =
-    let six = c .before .before in
+    let five = c .before in
+    let six = five .before .before in
     let plain = six .before .before in
     let r = plain .before in
     let pre = (s (counts r)) .pre in
-    zeros-as (pre .1 .0 .0 .later)
-    (zeros-planned (mask-seven _ (pre .0 .1)) (pre .1 .0 .1) (size (counts r)) (pre .0 .0 .few) (rice r) (plain .uncompressed-of .ensures)
-    (six .before .holds .ensures) (six .better .ensures) (c .before .holds2 .ensures) (c .better2 .ensures))
+    rw (c .zeros-by .ensures)
+    (zeros-planned (mask-seven _ (pre .0 .1)) (pre .1 .0 .1) (size (counts r)) (pre .0 .0 .few) (pre .1 .0 .0 .later) (rice r)
+    (plain .uncompressed-of .ensures) (six .before .holds .ensures) (six .better .ensures) (five .before .holds2 .ensures)
+    (r .before .before .before .before .binary-bits .ensures) (five .better2 .ensures) (pre .1 .1 .0))
 
 pub zeros-plan-spec : {M : Type 1} → statement M
-zeros-plan-spec = tie.close (tie.spec minus-zero-requires (λ c κs. search needs) sub-plus (λ c. search needs)
+zeros-plan-spec = tie.close (tie.spec minus-zero-requires (λ c κs. search needs) sub-plus (λ c κs. search needs)
     (λ c κs. search needs) returns rice-of-requires (λ c κs. search needs) (λ c κs. search needs) better-requires
-    (λ c κs. search needs) better-requires-2 returns-2)
+    (λ c κs. search needs) better-requires-2 (λ c κs. search needs) returns-2)

@@ -1,7 +1,7 @@
 use borrow.Author.Needs.{needs}
 use borrow.Author.Tests.{eq-eqb, ne-eqb}
-use Rattle.write_choice.proofs.settle.whole_bits.Statement.{statement}
-use Rattle.write_choice.proofs.settle.whole_bits.Tie as tie
+use Rattle.write_offers.proofs.whole_bits.Statement.{statement}
+use Rattle.write_offers.proofs.whole_bits.Tie as tie
 
 returns : tie.Need-returns
 returns c = rw (eq-eqb _ _ (c .if1 .taken))
