@@ -18,12 +18,10 @@ use Rattle.store_promises.proofs.Promises.{Keeps, keeps-taken, calls-ke
 use Rattle.store_promises.proofs.Jumps.{jump-tells}
 
 module _ (s : Store) (text : List ℕ) {a : After} (e : loadOf text (s .block) (s .table) ≡ leaves a) where
-  pub loaded-first : see (loading text) s ≡ record {
-    block = s .block;
-    table = stored (a .rows) (a .notes) (s .table);
-    put = held (a .rows);
-    deleted = 0;
-  }
+  abbrev taken : Store
+  taken = record { block = s .block; table = stored (a .rows) (a .notes) (s .table); put = held (a .rows); deleted = 0 }
+
+  pub loaded-first : see (loading text) s ≡ taken
   loaded-first = rw e
 
   -- the load, and any calls behind it

@@ -7,6 +7,7 @@
 --   Promises: the promises, each by its name.                             Formed: R-11's, of saved tables.
 --   Texts: what a load takes is the text of its table, and no other.      Long: how long the text can be.
 --   Placed: where a put's greeting stands.                                Reading: each number's octets, after any calls.
+--   Laws: both laws' walks give the same samples and marks.
 -- Document 02, R-9, over any list of calls from a fresh block.
 --   Pairs: a greeting that is there, and its note.     Jumps: what a jump into it tells.
 --   Began: all of this of a store that begins with a load, whatever its table held.
@@ -32,3 +33,4 @@ pub mod Reading
 pub mod Began
 pub mod Texts
 pub mod Long
+pub mod Laws

@@ -2,7 +2,7 @@
 -- after a wipe (`wiped-block`); after a save or a going back it has what was saved (`saved-block`). Settings and store have one
 -- greatest size (`one-most`), so a block of the size that a text says is all of it the store's (`said-block`).
 use Prim.Native.Nat.{ℕ, _≤_}
-use mathlib.Core.Path.{_≡_, refl, ap}
+use mathlib.Core.Path.{_≡_, refl, ap, _∙_}
 use mathlib.Core.List.{List, []}
 use native.Mathlib.Omega.{arith}
 use lib.ListN.{length, replicate}
@@ -28,7 +28,7 @@ fresh-block = refl
 
 pub wiped-block : (cells : List ℕ) → blockOf (boxOf (laid (wiped (boxOf cells)))) ≡ 16384
 unfolding keptOf lookUp
-wiped-block cells = rw (box-laid (wiped (boxOf cells)) refl (omega arith))
+wiped-block cells = ap blockOf (box-laid (wiped (boxOf cells)) refl (omega arith)) ∙ absent-block (wiped (boxOf cells)) refl
 
 -- after any list of calls, a save or a going back to these values
 pub saved-block : (cs : List Call) (v : Settings) → blockOf (added (boxOf (seeAll cs fresh .cells)) v) ≡ v .block
