@@ -16,6 +16,7 @@ pub mod Before
 pub mod Eleven
 pub mod Stays
 pub mod Walks
+pub mod Laws
 pub mod Refused
 pub mod Joined
 pub mod Nesting

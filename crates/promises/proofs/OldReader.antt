@@ -1,6 +1,7 @@
--- Document 02, R-4, beside document 01: an old reader gives the same answer as the mended one, or PLACE where the mended one goes on
--- (`old-reader`). Then the mended reader's frame, if it accepts one, has tool 7 and no plus zero at all.
-use Prim.Native.Nat.{ℕ, zero, suc, _+_, _*_, _≤_}
+-- Document 02, R-4, beside document 01: with the sets that there were then, up to 127, an old reader gives the same answer as the mended
+-- one, or PLACE where the mended one goes on (`old-reader`). Then the mended reader's frame, if it accepts one, has tool 7 and no plus zero
+-- at all. A larger set is SET to it (`old-set`).
+use Prim.Native.Nat.{ℕ, zero, suc, _+_, _*_, _≤_, _<_}
 use native.Mathlib.Omega.{arith}
 use native.Mathlib.Nat.{le-refl}
 use native.Mathlib.Numerals.{add-one}
@@ -9,10 +10,10 @@ use mathlib.Core.List.{List, [], _∷_, map}
 use mathlib.Core.Bool.{Bool, true, false, cond, not, _&&_}
 use lib.ListN.{length, getD, replicate}
 use lib.Dec.{eqb, leb, ltb}
-use borrow.Author.Tests.{le-ltb, eqb-true, leb-true}
+use borrow.Author.Tests.{le-ltb, le-leb, lt-leb, eqb-true, leb-true}
 use Rattle.rules.specs.declared.Refusal.{Refusal}
 use Rattle.rules.specs.declared.Refusal.the-variants.{Short, Align, Case, Method, Place, Law, Set}
-use Rattle.rules.specs.Tools.{holds, isLaw, isSet}
+use Rattle.rules.specs.Tools.{holds, isLaw, allTools}
 use Rattle.rules.specs.Bits.{bitsOf, fillFor}
 use Rattle.rules.specs.Reading.{Read, whole, refuse, Reader, andThen, _>>=_, give, fail, here, bit, numberFrom, number, bitsFrom, filled}
 use Rattle.rules.specs.First.{First, unassigned, pad, tool, fractionalRow, sixOrEight, firstOctet}
@@ -56,10 +57,14 @@ oldAfter mask set room pad = afterFirst mask set room pad
 oldAfter mask set room (fractionalRow k n) = afterFirst mask set room (fractionalRow k n)
 oldAfter mask set room (sixOrEight n) = afterFirst mask set room (sixOrEight n)
 
+-- Document 01: "A tool set is a number from 0 to 127"; SET: "set above 127"
+abbrev pub oldTools : ℕ
+oldTools = 127
+
 unfoldable pub oldRead : List ℕ → ℕ → ℕ → ℕ → Read Found
 oldRead octets law set room =
     cond (not (isLaw law)) (fail Law 0)
-    (cond (not (isSet set)) (fail Set 0)
+    (cond (not (leb set oldTools)) (fail Set 0)
     (number 8 >>= (λ o. oldAfter (maskOf law) set room (firstOctet o)))) (bitsOf octets) 0
 
 -- a reading that got to place k at least: whole, its next place is not before k, and its value passes P; refused, its bit is not before k
@@ -218,12 +223,16 @@ after-part mask set room (fractionalRow k n) b i = alike refl
 after-part mask set room (tool t n) b i = tool-part mask set room t n (eqb t 7 && (holds set 7 && leb n room)) refl b i
 after-part mask set room (sixOrEight n) b i = alike refl
 
--- An old reader, beside the mended one: for all octets, laws, sets and rooms
-pub old-reader : (octets : List ℕ) (law set room : ℕ) → Parts (NoZero (maskOf law)) (oldRead octets law set room)
-    (readOne octets law set room)
+-- An old reader, beside the mended one: for all octets, laws and rooms, and its sets
+pub old-reader : (octets : List ℕ) (law set room : ℕ) → set ≤ oldTools
+    → Parts (NoZero (maskOf law)) (oldRead octets law set room) (readOne octets law set room)
 unfolding oldRead readOne frame
-old-reader octets law set room =
+old-reader octets law set room h =
     let b = bitsOf octets in
-    test-parts (not (isLaw law)) Law 0 _ _ b 0
-    (test-parts (not (isSet set)) Set 0 _ _ b 0
+    rw (le-leb set oldTools h, le-leb set allTools (omega arith))
+    (test-parts (not (isLaw law)) Law 0 _ _ b 0
     (then-parts (numberFrom 0 8 b 0) (λ o j. after-part (maskOf law) set room (firstOctet o) b j)))
+
+pub old-set : (octets : List ℕ) (law set room : ℕ) → isLaw law ≡ true → oldTools < set → oldRead octets law set room ≡ refuse Set 0
+unfolding oldRead
+old-set octets law set room l h = rw (l, lt-leb set oldTools h)

@@ -8,8 +8,8 @@ use mathlib.Core.List.{List, [], _∷_, _++_, map}
 use mathlib.Core.Bool.{Bool, true, false, cond, not}
 use lib.ListN.{length, take}
 use lib.Dec.{eqb}
-use borrow.Author.Tests.{eqb-true, not-true}
-use Rattle.rules.specs.Tools.{holds, isSet, isWriterSet}
+use borrow.Author.Tests.{eqb-true, not-true, le-leb}
+use Rattle.rules.specs.Tools.{holds, allTools, isWriterSet}
 use Rattle.rules.specs.Bits.{pack}
 use Rattle.rules.specs.Samples.{maskOf, sampleOf, plusZero}
 use Rattle.rules.specs.Located.{emptyIn, valuesOf}
@@ -22,7 +22,7 @@ use Rattle.promises.proofs.Frame.{foundAt}
 use Rattle.promises.proofs.Rows.{locates, zero-occurs, row-apart}
 use Rattle.rules.proofs.Chosen.{chosen-usable}
 use Rattle.promises.proofs.Written.{Frames, pad, full, frames-of, wrote-by, chosen-pad, chosen-full, back}
-use Rattle.promises.proofs.OldReader.{oldRead, Parts, alike, goes-on, NoZero, old-reader}
+use Rattle.promises.proofs.OldReader.{oldTools, oldRead, Parts, alike, goes-on, NoZero, old-reader}
 
 -- what is left of a frame once these values are out
 unfoldable pub leftAfter : List ℕ → List ℕ → List ℕ
@@ -84,13 +84,13 @@ written-zero law set {s} o (full l b) z =
 -- What is written, an old reader reads back too: `Written.back` word for word, by document 01's rule
 pub old-reads-written : (n : ℕ) (samples : List ℕ) (law set room : ℕ) (w : Written) → n ≤ length samples → Below 256 samples
     → writeOne n samples law set room ≡ wrote w
-    → (reader room′ : ℕ) (more : List ℕ) → isSet reader ≡ true → (1 ≤ w .tool → holds reader (w .tool) ≡ true) → n ≤ room′
+    → (reader room′ : ℕ) (more : List ℕ) → reader ≤ oldTools → (1 ≤ w .tool → holds reader (w .tool) ≡ true) → n ≤ room′
     → oldRead (pack (w .bits) ++ more) law reader room′ ≡ foundAt (w .tool) (take n samples) (length (w .bits))
 old-reads-written n samples law set room w h b e reader room′ more i held r =
-    go (old-reader (pack (w .bits) ++ more) law reader room′)
+    go (old-reader (pack (w .bits) ++ more) law reader room′ i)
   where
     new : readOne (pack (w .bits) ++ more) law reader room′ ≡ foundAt (w .tool) (take n samples) (length (w .bits))
-    new = back n samples law set room w h b e reader room′ more i held r
+    new = back n samples law set room w h b e reader room′ more (le-leb reader allTools (omega arith)) held r
 
     go : Parts (NoZero (maskOf law)) (oldRead (pack (w .bits) ++ more) law reader room′) (readOne (pack (w .bits) ++ more) law reader room′)
         → oldRead (pack (w .bits) ++ more) law reader room′ ≡ foundAt (w .tool) (take n samples) (length (w .bits))

@@ -2,8 +2,6 @@
 --   `form-exactly`, `form-by-block`: a saved table begins with `form=2` exactly when a start, a count of octets or the block exceeds
 --   65,535.
 --   `same-store`: with the line and without it a table gives the same store, where both are allowed.
---   `old-refuses`: the older reader refuses every text that begins so, at its first line, with TABLE.
---   `old-alike`, `old-takes`: it reads every other text as the new one does, so also what is saved of a block of up to 16,384 octets.
 use Prim.Native.Nat.{ℕ, _≤_}
 use mathlib.Core.Path.{_≡_, refl, sym, ap, _∙_}
 use mathlib.Core.List.{List, [], _∷_, _++_}
@@ -11,7 +9,6 @@ use mathlib.Core.Bool.{Bool, true, false, cond}
 use native.Mathlib.Omega.{arith}
 use lib.ListN.{length}
 use lib.Dec.{ltb}
-use borrow.Author.Tests.{le-ltb}
 use Rattle.store_rows.specs.Limits.{largestBlock, sizeOf}
 use Rattle.store_rows.specs.Cells.{rowsOf}
 use Rattle.store_notes.specs.Cells.{notesOf}
@@ -25,10 +22,9 @@ use Rattle.store_text.specs.Form.{formLine, needsForm, savedText}
 use Rattle.store_text.proofs.Exact.{Sayable, Each}
 use Rattle.store_text.proofs.Noted.{SayableAll}
 use Rattle.store_text.proofs.Noting.{rows-listing}
-use Rattle.store_text.proofs.Formed.{unformed, listed-begins, form-by-size, old-rows, old-noted}
+use Rattle.store_text.proofs.Formed.{listed-begins, form-by-size}
 use Rattle.store_save.specs.Saved.{saved, saveOrder, saveOf, loadOf}
 use Rattle.store_save.proofs.Fits.{text-saved}
-use Rattle.store_save.specs.Old.{oldBlock, oldSizeOf, oldCells, oldLoadOf}
 use Rattle.store_promises.proofs.Granted.{sane-rows, sane-count}
 use Rattle.store_promises.proofs.Loaded.{read-as}
 use Rattle.store_promises.proofs.Sayable.{said-lists, formed-lists}
@@ -70,23 +66,3 @@ same-store b t xs h l =
         let row : Sayable largestBlock (y .row) =
         record { least = r .least; most = r .most; start = omega (arith, r .start); octets = omega (arith, r .octets) } in
         (record { row = row; law = g .0 .law; samples = g .0 .samples; marks = g .0 .marks }, each-wider ys (g .1))
-
--- "THE OLD TABLE READER MUST REFUSE A form=2 TABLE AT ITS FIRST LINE WITH TABLE"
-either : (s : Bool) {A : Type 0} (x : A) → cond s x x ≡ x
-either true x = refl
-either false x = refl
-
-pub old-refuses : (rest b t : List ℕ) → oldLoadOf (formLine ++ rest) b t ≡ refused Table
-old-refuses rest b t = rw (old-rows rest, old-noted rest) (either (ltb (length t) (oldCells (oldSizeOf b))) (refused Table))
-
--- every other text it reads as the new one does, with a block of up to 16,384 octets
-pub old-alike : (text b t : List ℕ) → length b ≤ oldBlock → begins formLine text ≡ false → oldLoadOf text b t ≡ loadOf text b t
-old-alike text b t h f =
-    let z : oldSizeOf b ≡ sizeOf b = omega arith in
-    let y : oldCells (sizeOf b) ≡ storeCells (sizeOf b) = omega arith in
-    rw (z, y, unformed text f)
-
-pub old-takes : (b t : List ℕ) (room : ℕ) (text : List ℕ) → saveOf b t room ≡ saved text → length b ≤ oldBlock → (t′ : List ℕ)
-    → oldLoadOf text b t′ ≡ loadOf text b t′
-old-takes b t room text e h t′ =
-    old-alike text b t′ h (form-by-block b t room text e ∙ le-ltb mostPlace (sizeOf b) (omega arith))

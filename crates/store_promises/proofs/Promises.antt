@@ -158,7 +158,7 @@ get-reads b t x a e =
 pub here-same : {o p : List ℕ} → here o ≡ here p → o ≡ p
 here-same e = cc
 
-not-missing : {o : List ℕ} {A : Type 0} → missing ≡ here o → A
+pub not-missing : {o : List ℕ} {A : Type 0} → missing ≡ here o → A
 not-missing e = let z : _≡_ {A = ℕ} 0 1 = cc in absurd (omega arith)
 
 -- after a put the number is got, and its octets are those that were put
@@ -167,25 +167,26 @@ pub record GotBack (b t : List ℕ) (x : ℕ) (xs : List ℕ) : Type 0 where
   pub is : getOf b t x ≡ leaves got
   pub octets : take (got .second) (drop (got .first) b) ≡ xs
 
+pub got-there : (b t : List ℕ) (x : ℕ) (xs : List ℕ) → saneStore (sizeOf b) t ≡ true → isNumber x ≡ true
+    → lookUp x (contents b (rowsOf t)) ≡ here xs → GotBack b t x xs
+got-there b t x xs s m new =
+    let rows = rowsOf t in
+    let g = get-of b t x s m (go (absent x rows) refl) in
+    let r = gotten b rows (notesOf t) (nth (findFrom x 0 rows) rows) in
+    record { got = r; is = g; octets = here-same (sym (get-reads b t x r g) ∙ new) }
+  where
+    go : (q : Bool) → absent x (rowsOf t) ≡ q → q ≡ false
+    go false p = refl
+    go true p = not-missing (sym (fresh-missing x b (rowsOf t) (fresh-of x (rowsOf t) p)) ∙ new)
+
 pub get-after-put : (b t : List ℕ) (law x : ℕ) (xs : List ℕ) (a : After) → putOf b t law x xs ≡ leaves a
     → GotBack (a .block) (stored (a .rows) (a .notes) t) x xs
 get-after-put b t law x xs a e =
     let t′ = stored (a .rows) (a .notes) t in
-    let rows = rowsOf t′ in
-    let z : rows ≡ a .rows = put-back b t law x xs e .rows-are in
     let s : saneStore (sizeOf (a .block)) t′ ≡ true = rw (put-length b t law x xs e) (put-sane b t law x xs e) in
-    let new : lookUp x (contents (a .block) rows) ≡ here xs = rw z (put-reads-new b t law x xs e) in
-    let n : absent x rows ≡ false = go (absent x rows) refl new in
-    let g = get-of (a .block) t′ x s (put-granted b t law x xs a e .number) n in
-    let r = gotten (a .block) rows (notesOf t′) (nth (findFrom x 0 rows) rows) in
-    record { got = r; is = g; octets = here-same (sym (get-reads (a .block) t′ x r g) ∙ new) }
-  where
-    there : List Row
-    there = rowsOf (stored (a .rows) (a .notes) t)
-
-    go : (q : Bool) → absent x there ≡ q → lookUp x (contents (a .block) there) ≡ here xs → q ≡ false
-    go false p n = refl
-    go true p n = not-missing (sym (fresh-missing x (a .block) there (fresh-of x there p)) ∙ n)
+    let new : lookUp x (contents (a .block) (rowsOf t′)) ≡ here xs =
+    rw (put-back b t law x xs e .rows-are) (put-reads-new b t law x xs e) in
+    got-there (a .block) t′ x xs s (put-granted b t law x xs a e .number) new
 
 pub walk-after-put : (b t : List ℕ) (law x : ℕ) (xs : List ℕ) (a : After) → (e : putOf b t law x xs ≡ leaves a) → (by set room : ℕ)
     → walkAll (take (get-after-put b t law x xs a e .got .second)
@@ -314,6 +315,24 @@ keeps-delete size s x k (leaves a) e =
       total = rw (z .rows-are) (omega (arith, delete-held (s .block) (s .table) x e, k .total));
     }
 
+-- an accepted loading, whatever the table held before it
+pub keeps-taken : (s : Store) (text : List ℕ) (a : After) → loadOf text (s .block) (s .table) ≡ leaves a
+    → Keeps (length (s .block)) (record {
+      block = s .block;
+      table = stored (a .rows) (a .notes) (s .table);
+      put = held (a .rows);
+      deleted = 0;
+    })
+keeps-taken s text a e =
+    let z = load-back text (s .block) (s .table) e in
+    record {
+      sane = load-sane text (s .block) (s .table) e;
+      long = refl;
+      good = along-back (s .block) (s .table) (a .rows) (a .notes) isGood z (load-good text (s .block) (s .table) e);
+      marks = true-back (s .block) (s .table) (a .rows) (a .notes) z (load-true text (s .block) (s .table) e);
+      total = rw (z .rows-are) (omega arith);
+    }
+
 keeps-load : (size : ℕ) (s : Store) (text : List ℕ) → Keeps size s → (o : Outcome) → loadOf text (s .block) (s .table) ≡ o
     → Keeps size (record {
       block = s .block;
@@ -322,15 +341,7 @@ keeps-load : (size : ℕ) (s : Store) (text : List ℕ) → Keeps size s → (o 
       deleted = noneDeleted o (s .deleted);
     })
 keeps-load size s text k (refused w) e = record { sane = k .sane; long = k .long; good = k .good; marks = k .marks; total = k .total }
-keeps-load size s text k (leaves a) e =
-    let z = load-back text (s .block) (s .table) e in
-    record {
-      sane = load-sane text (s .block) (s .table) e;
-      long = k .long;
-      good = along-back (s .block) (s .table) (a .rows) (a .notes) isGood z (load-good text (s .block) (s .table) e);
-      marks = true-back (s .block) (s .table) (a .rows) (a .notes) z (load-true text (s .block) (s .table) e);
-      total = rw (z .rows-are) (omega arith);
-    }
+keeps-load size s text k (leaves a) e = rw (← (k .long)) (keeps-taken s text a e)
 
 -- every call keeps it so
 pub call-kept : (size : ℕ) (c : Call) (s : Store) → Keeps size s → Keeps size (see c s)
@@ -340,7 +351,7 @@ call-kept size (deleting x) s k = keeps-delete size s x k (deleteOf (s .block) (
 call-kept size (saving room) s k = k
 call-kept size (loading text) s k = keeps-load size s text k (loadOf text (s .block) (s .table)) refl
 
-calls-kept : (size : ℕ) (cs : List Call) (s : Store) → Keeps size s → Keeps size (seeAll cs s)
+pub calls-kept : (size : ℕ) (cs : List Call) (s : Store) → Keeps size s → Keeps size (seeAll cs s)
 unfolding seeAll
 calls-kept size [] s k = k
 calls-kept size (c ∷ cs) s k = calls-kept size cs (see c s) (call-kept size c s k)
@@ -382,7 +393,7 @@ notes-count b cells cs h =
     sane-count (s .block) (s .table) (all-kept b cells cs h .sane)
 
 -- the marks of all greetings fit the cells
-marks-inside : {size : ℕ} {s : Store} → Keeps size s → 194 + 2 * marksHeld (headsOf (s .table)) ≤ storeCells size
+pub marks-inside : {size : ℕ} {s : Store} → Keeps size s → 194 + 2 * marksHeld (headsOf (s .table)) ≤ storeCells size
 marks-inside {size} {s} k =
     let n = sane-noted (sizeOf (s .block)) (s .table) (k .sane) in
     let t = s .table in

@@ -39,6 +39,15 @@ rising-any lo size (r ∷ rows) e =
     rising-cons 0 lo size r rows (record { above = q .above; some = omega arith; inside = q .inside })
     (rising-any (r .start + r .octets) size rows (n .1))
 
+-- what lies inside a size lies inside a larger one
+pub rising-in : (lo size more : ℕ) (rows : List Row) → size ≤ more → rising 1 lo size rows ≡ true → rising 1 lo more rows ≡ true
+rising-in lo size more [] h e = rising-nil 1 lo more
+rising-in lo size more (r ∷ rows) h e =
+    let n = rising-head 1 lo size r rows e in
+    let q = n .0 in
+    rising-cons 1 lo more r rows (record { above = q .above; some = q .some; inside = omega (arith, q .inside) })
+    (rising-in (r .start + r .octets) size more rows h (n .1))
+
 pub rising-remove : (a : List Row) (r : Row) (c : List Row) (lo size : ℕ) → rising 1 lo size (a ++ (r ∷ c)) ≡ true
     → rising 1 lo size (a ++ c) ≡ true
 rising-remove [] r c lo size e =

@@ -29,7 +29,7 @@ use Rattle.store_save.specs.Saved.{anyBad, early, loadOf}
 use Rattle.store_save.proofs.Bad.{rows-early, true-early}
 use Rattle.store_promises.specs.Kept.{Along, Good}
 use Rattle.store_promises.specs.Loading.{Lists, in-early, in-noted, loaded}
-use Rattle.store_promises.proofs.Rising.{rising-any}
+use Rattle.store_promises.proofs.Rising.{rising-any, rising-in}
 use Rattle.store_promises.proofs.Numbers.{Distinct, numbered-of}
 use Rattle.store_promises.proofs.Contents.{length-greeting}
 use Rattle.store_promises.proofs.Listed.{good-listing, true-listing, notes-listing, length-listing}
@@ -53,7 +53,7 @@ each-sayable lo size (r ∷ rows) s h d =
     (one, each-sayable (r .start + r .octets) size rows (q .1) (n .1) (d .3))
 
 -- and of their marks
-marks-sayable : (o s : ℕ) (ms : List Mark) → o < 10 ^ 20 → s < 10 ^ 20 → Small o s ms → Each SayableMark ms
+pub marks-sayable : (o s : ℕ) (ms : List Mark) → o < 10 ^ 20 → s < 10 ^ 20 → Small o s ms → Each SayableMark ms
 unfolding Small
 marks-sayable o s [] a b h = tt
 marks-sayable o s (m ∷ ms) a b h = (record { octets = omega (arith, h .0); samples = omega (arith, h .1) }, marks-sayable o s ms a b (h .2))
@@ -106,18 +106,25 @@ saved-lists b size rows notes z i f l h d g w = go (needsForm size (rowsListed (
         let small = ltb-false mostPlace size (bad-split (anyFar (rowsListed (listing rows notes))) _ e .1) in
         said-lists b (listing rows notes) (listing-sayable mostPlace (omega arith) b 0 size rows notes small i h d g w) few
 
--- what save writes, load takes into any table that is long enough, and it is the same
+-- what save writes of a block, load takes into any table that is long enough, with that block or any other of which it is a part: it is the
+-- same
+pub load-from : (size : ℕ) (b t : List ℕ) (rows : List Row) (notes : List Note) → size ≤ sizeOf b → storeCells (sizeOf b) ≤ length t
+    → length rows ≤ 32 → rising 1 0 size rows ≡ true → Distinct rows → length notes ≡ length rows → Good (contents b rows) notes
+    → True (contents b rows) notes → loadOf (savedText size (listing rows notes)) b t ≡ leaves
+    (record { block = b; rows = rows; notes = notes; first = 0; second = 0 })
+load-from size b t rows notes u c f h d l g w =
+    let e = rows-listing rows notes l in
+    let k = notes-listing rows notes l in
+    let m = saved-lists b size rows notes (omega arith) (omega arith) f l h d g w in
+    let a = rising-any 0 (sizeOf b) rows (rising-in 0 size (sizeOf b) rows u h) in
+    load-taken-when {t = t} (record { cells = c; lists = m; apart = rw e a; once = rw e (numbered-of rows d) })
+    (good-listing b rows notes g) (true-listing b rows notes w) ∙ rw (e, k)
+
 pub load-of : (b t : List ℕ) (rows : List Row) (notes : List Note) → storeCells (sizeOf b) ≤ length t → length rows ≤ 32
     → rising 1 0 (sizeOf b) rows ≡ true → Distinct rows → length notes ≡ length rows → Good (contents b rows) notes
     → True (contents b rows) notes → loadOf (savedText (sizeOf b) (listing rows notes)) b t ≡ leaves
     (record { block = b; rows = rows; notes = notes; first = 0; second = 0 })
-load-of b t rows notes c f h d l g w =
-    let e = rows-listing rows notes l in
-    let k = notes-listing rows notes l in
-    let m = saved-lists b (sizeOf b) rows notes (omega arith) (omega arith) f l h d g w in
-    load-taken-when {t = t}
-    (record { cells = c; lists = m; apart = rw e (rising-any 0 (sizeOf b) rows h); once = rw e (numbered-of rows d) })
-    (good-listing b rows notes g) (true-listing b rows notes w) ∙ rw (e, k)
+load-of b t rows notes c f h d l g w = load-from (sizeOf b) b t rows notes (omega arith) c f h d l g w
 
 -- R-6's text of greetings that the walk by law 1 accepts, in lines that can say them: taken, with what that walk gives
 pub early-of : (b t : List ℕ) (rows : List Row) → storeCells (sizeOf b) ≤ length t → length rows ≤ 32 → rising 1 0 (sizeOf b) rows ≡ true

@@ -67,29 +67,29 @@ pub table-back : (rows : List Row) → Each (Sayable mostPlace) rows → length 
     → tableIn (tableText rows) ≡ whole rows (length (tableText rows))
 table-back rows h l = rows-back 32 [] rows (tableText rows) 0 h l refl ∙ ap (whole rows) (omega arith)
 
-row-same : (text : List ℕ) (p s o i x y z : ℕ) → ranged promptWord 1 mostNumber text i ≡ whole p x
-    → ranged startWord 0 mostPlace text x ≡ whole s y
-    → ranged octetsWord 0 mostPlace text y ≡ whole o z → (Sayable mostPlace (rowOf p s o)) × (Stands text i (rowText (rowOf p s o)) z)
+row-same : (far : ℕ) → far ≤ largestBlock → (text : List ℕ) (p s o i x y z : ℕ) → ranged promptWord 1 mostNumber text i ≡ whole p x
+    → ranged startWord 0 far text x ≡ whole s y
+    → ranged octetsWord 0 far text y ≡ whole o z → (Sayable far (rowOf p s o)) × (Stands text i (rowText (rowOf p s o)) z)
 unfolding rowText
-row-same text p s o i x y z a b c =
+row-same far l text p s o i x y z a b c =
     let q = ranged-only promptWord 1 mostNumber text i p x (omega arith) a in
-    let t = ranged-only startWord 0 mostPlace text x s y (omega arith) b in
-    let u = ranged-only octetsWord 0 mostPlace text y o z (omega arith) c in
+    let t = ranged-only startWord 0 far text x s y (omega arith) b in
+    let u = ranged-only octetsWord 0 far text y o z (omega arith) c in
     (record { least = q .least; most = q .most; start = t .most; octets = u .most }, chain (q .says) (chain (t .says) (u .says)))
 
-row-as : {text : List ℕ} {r q : Row} {i j k : ℕ} → r ≡ q → j ≡ k → (Sayable mostPlace r) × (Stands text i (rowText r) j)
-    → (Sayable mostPlace q) × (Stands text i (rowText q) k)
+row-as : {far : ℕ} {text : List ℕ} {r q : Row} {i j k : ℕ} → r ≡ q → j ≡ k → (Sayable far r) × (Stands text i (rowText r) j)
+    → (Sayable far q) × (Stands text i (rowText q) k)
 row-as m n h = rw (← m, ← n) h
 
-row-only : (text : List ℕ) (i : ℕ) (r : Row) (j : ℕ) → row mostPlace text i ≡ whole r j
-    → (Sayable mostPlace r) × (Stands text i (rowText r) j)
+pub row-only : (far : ℕ) → far ≤ largestBlock → (text : List ℕ) (i : ℕ) (r : Row) (j : ℕ) → row far text i ≡ whole r j
+    → (Sayable far r) × (Stands text i (rowText r) j)
 unfolding row
-row-only text i r j e =
+row-only far l text i r j e =
     let a = through (ranged promptWord 1 mostNumber text i) _ e in
-    let b = through (ranged startWord 0 mostPlace text (a .place)) _ (a .then) in
-    let c = through (ranged octetsWord 0 mostPlace text (b .place)) _ (b .then) in
+    let b = through (ranged startWord 0 far text (a .place)) _ (a .then) in
+    let c = through (ranged octetsWord 0 far text (b .place)) _ (b .then) in
     row-as (got-value (c .then)) (got-place (c .then))
-    (row-same text (a .value) (b .value) (c .value) i (a .place) (b .place) (c .place) (a .first) (b .first) (c .first))
+    (row-same far l text (a .value) (b .value) (c .value) i (a .place) (b .place) (c .place) (a .first) (b .first) (c .first))
 
 -- what was read after the greetings that were done
 record More (done : List Row) (text : List ℕ) (i more : ℕ) (rows : List Row) : Type 0 where
@@ -109,7 +109,7 @@ one-more : {done rows : List Row} {text : List ℕ} {i k more : ℕ} (r : Row) �
     → More (done ++ (r ∷ [])) text k more rows → More done text i (suc more) rows
 unfolding tableText
 one-more {done} {rows} {text} {i} {k} r e m =
-    let f = row-only text i r k e in
+    let f = row-only mostPlace (omega arith) text i r k e in
     record {
       new = r ∷ m .new;
       all = m .all ∙ append-assoc done (r ∷ []) (m .new);

@@ -1,22 +1,25 @@
 -- The frames that the tool goes through are those that `pack` cuts, of the definitions, in the code's steps: `cut-start`, `cut-next` and
--- `cut-end` of a part, `next-frame` of the whole sound, part after part by `parts-start` and `parts-next`.
+-- `cut-end` of a part, `next-frame` of the whole sound, part after part by `parts-start` and `parts-next`; in the code's own expressions
+-- `frame-in`, `cut-on`, `begun` and `parts-on`.
 use Prim.Native.Nat.{ℕ, _+_, _*_, _-_, _/_, _≤_}
 use native.Mathlib.Omega.{arith}
 use native.Mathlib.Nat.{mul-assoc}
-use mathlib.Core.Path.{_≡_, refl, sym, ap, _∙_}
+use mathlib.Core.Path.{_≡_, refl, sym, ap, subst, _∙_}
 use mathlib.Core.List.{List, [], _∷_, _++_, append-assoc, append-nil}
-use mathlib.Core.Bool.{true}
+use mathlib.Core.Bool.{true, false}
 use lib.ListN.{length, take, drop, length-append, length-drop}
 use lib.Seq.{drop-drop, length-take-le}
+use borrow.Author.Tests.{eqb-true}
+use Rattle.rules.specs.declared.Ending.{Ending}
+use Rattle.rules.specs.declared.Ending.the-variants.{Done, Refused}
 use Rattle.rules.specs.Tools.{isLength}
 use Rattle.rules.proofs.Tests.{by-length}
 use Rattle.tool_packing.specs.Cuts.{nextLength, cuts, soundIn}
-use Rattle.tool_packing.specs.SoundParts.{partSize}
+use Rattle.tool_packing.specs.SoundParts.{partSize, goesOn}
 use Rattle.tool_packing.proofs.Lengths.{next-none, next-fits}
 use Rattle.tool_packing.proofs.Cuts.{cuts-none, cuts-next, cuts-parts}
 use Rattle.tool_packing.proofs.Kept.{soundIn-append}
-use Rattle.why.specs.Shows.{Shows}
-use Rattle.why.specs.Cut.{FrameOf, ShowsCut, PartsCut, CutTo}
+use Rattle.why.specs.Cut.{FrameOf, PartsCut, CutTo, FrameIn, PartsIn}
 
 -- one frame by itself
 sound-one : (s : List ℕ) → soundIn (s ∷ []) ≡ s
@@ -94,13 +97,6 @@ module _ (n frames samples : ℕ) (sound : List ℕ) (i : isLength n ≡ true) (
         ∙ omega (arith, p .stands, c .stands);
   }
 
-  -- so what is written of it is the text of that frame
-  pub next-shown : (part : List ℕ) (from k len law set : ℕ) (text : List ℕ) → CutTo n part from k
-      → nextLength n (length part - from) ≡ len → 1 ≤ len
-      → Shows (take len (drop from part)) (frames + k) (samples + from) law set text
-      → ShowsCut n (sound ++ part) (take len (drop from part)) (frames + k) (samples + from) law set text
-  next-shown part from k len law set text c e some s = record { is = next-frame part from k len c e some; shows = s }
-
   -- and after a whole part, cut to its end, it goes on
   pub parts-next : (part : List ℕ) (from k : ℕ) → length part ≡ partSize → CutTo n part from k → nextLength n (length part - from) ≡ 0
       → PartsCut n (frames + k) (samples + from) (sound ++ part)
@@ -113,3 +109,45 @@ module _ (n frames samples : ℕ) (sound : List ℕ) (i : isLength n ≡ true) (
         stands = ap (λ x. length (soundIn x)) (behind part) ∙ ap length (soundIn-append (cuts n sound) (cuts n part))
             ∙ length-append (soundIn (cuts n sound)) (soundIn (cuts n part)) ∙ omega (arith, p .stands, end .1);
       }
+
+-- no more parts
+pub none-more : {A : Type 0} → false ≡ true → A
+none-more e = let z : _≡_ {A = ℕ} 0 1 = cc in absurd (omega arith)
+
+-- In the code's own expressions: k counts the frames of the whole sound, `to` is where the next frame ends
+pub begun : (n : ℕ) → PartsIn n 0 0
+begun n i = record { sound = []; parts = parts-start n }
+
+pub cut-first : (n : ℕ) (part : List ℕ) (frames : ℕ) → CutTo n part 0 (frames - frames)
+cut-first n part frames = let e : frames - frames ≡ 0 = omega arith in rw e (cut-start n part)
+
+module _ (n frames samples : ℕ) (part : List ℕ) (from k : ℕ) (p : PartsIn n frames samples) (l : frames ≤ k)
+    (c : CutTo n part from (k - frames)) where
+  pub frame-in : (len to : ℕ) → len ≡ nextLength n (length part - from) → 1 ≤ len → to ≡ from + len
+      → FrameIn n k (samples + from) (take (to - from) (drop from part))
+  frame-in len to e some t i =
+      let b = p i in
+      let d : to - from ≡ len = omega arith in
+      let m : frames + (k - frames) ≡ k = omega arith in
+      let f = next-frame n frames samples (b .sound) i (b .parts) part from (k - frames) len c (sym e) some in
+      record {
+        sound = b .sound ++ part;
+        is = rw d (subst (λ (j : ℕ). FrameOf n (b .sound ++ part) j (samples + from) (take len (drop from part))) m f);
+      }
+
+  pub cut-on : (len to : ℕ) → len ≡ nextLength n (length part - from) → 1 ≤ len → to ≡ from + len → CutTo n part to (k + 1 - frames)
+  cut-on len to e some t =
+      let m : k + 1 - frames ≡ k - frames + 1 = omega arith in
+      rw (t, m) (cut-next n part from (k - frames) c len (sym e) some)
+
+  pub parts-on : (len : ℕ) → len ≡ nextLength n (length part - from) → len ≡ 0 → (end : Ending) → goesOn end (length part) ≡ true
+      → PartsIn n k (samples + from)
+  parts-on len e z end g i =
+      let b = p i in
+      let m : frames + (k - frames) ≡ k = omega arith in
+      let q = parts-next n frames samples (b .sound) i (b .parts) part from (k - frames) (whole-part end (length part) g) c (sym e ∙ z) in
+      record { sound = b .sound ++ part; parts = subst (λ (j : ℕ). PartsCut n j (samples + from) (b .sound ++ part)) m q }
+    where
+      whole-part : (end : Ending) (count : ℕ) → goesOn end count ≡ true → count ≡ partSize
+      whole-part Done count h = eqb-true count partSize h
+      whole-part (Refused w) count h = let z : _≡_ {A = ℕ} 0 1 = cc in absurd (omega arith)

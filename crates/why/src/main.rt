@@ -1,11 +1,13 @@
 // The bench tool `why`: raw G.711 octets in; for each frame that `pack` cuts them into, why the writer takes its tool. What matters is in
 // crates `reasoning` and `reasons`: here the sound is read in parts of whole frames, and each frame's lines are written as it comes.
 ghost use Prim.Native.Nat.{_+_, _≤_};
+ghost use mathlib.Core.Bool.{true};
 ghost use mathlib.Core.Path.{_≡_};
 ghost use lib.ListN.{length};
 ghost use Rattle.text_lines.specs.Puts.{Puts};
 ghost use Rattle.tool_packing.specs.SoundParts.{partSize};
-ghost use Rattle.why.specs.Shows.{headLine, frameText, Shows, mostSound};
+ghost use Rattle.why.specs.Cut.{FrameIn, ShowsFrame, PartsIn};
+ghost use Rattle.why.specs.Shows.{headLine, frameText, mostSound};
 use libc::STDOUT_FILENO;
 use reasons::Reasons;
 use reasons::Why;
@@ -60,41 +62,47 @@ fn put_frame(k: usize, place: usize, r: Reasons, out: &mut [u8]) -> usize
     reasons::put_reasons(r, out, a)
 }
 
-// Only a frame's heading and the lines of its reasons are written.
-fn write_frame(frame: &[u8], k: usize, place: usize, law: u32, set: u32, text: &[u8]) -> bool
-    requires { ⌜ Shows (now frame) k place law set (now text) ⌝ }
+// Only the heading of a frame that `pack` cuts, and the lines of its reasons, are written.
+fn write_frame(frame: &[u8], k: usize, place: usize, job: Job, text: &[u8]) -> bool
+    requires { ⌜ ShowsFrame (job .length) (now frame) k place (job .law) (job .set) (now text) ⌝ }
 {
     io::write_all(STDOUT_FILENO, text)
 }
 
 // The reasons of frame k, which stands at `place` of the sound.
-fn show_frame(frame: &[u8], k: usize, place: usize, law: u32, set: u32) -> bool {
-    match reasoning::why_samples(frame, law, set) {
+fn show_frame(frame: &[u8], k: usize, place: usize, job: Job) -> bool
+    requires { ⌜ FrameIn (job .length) k place (now frame) ⌝ }
+{
+    match reasoning::why_samples(frame, job.law, job.set) {
         Why::Refused(_) => false,
         Why::Told(r) => {
             let mut text = [0u8; 640];
             let n = put_frame(k, place, r, &mut text);
-            write_frame(frame, k, place, law, set, &text[..n])
+            write_frame(frame, k, place, job, &text[..n])
         }
     }
 }
 
 // "`-k#` for one frame only": another one is passed over.
-fn show_wanted(frame: &[u8], k: usize, place: usize, job: Job) -> bool {
+fn show_wanted(frame: &[u8], k: usize, place: usize, job: Job) -> bool
+    requires { ⌜ FrameIn (job .length) k place (now frame) ⌝ }
+{
     if job.only {
         if k != job.frame as usize {
             return true;
         }
-        return show_frame(frame, k, place, job.law, job.set);
+        return show_frame(frame, k, place, job);
     }
-    show_frame(frame, k, place, job.law, job.set)
+    show_frame(frame, k, place, job)
 }
 
 // Frame after frame of a part, until no length fits or a write fails.
 fn part_frames(part: &[u8], run: Run, job: Job) -> Run
     requires { ⌜ (length (now part) ≤ partSize) × (run .frames ≤ mostSound) × (run .samples ≤ mostSound) ⌝ }
+    requires { ⌜ PartsIn (job .length) (run .frames) (run .samples) ⌝ }
     ensures frames { λ r. ⌜ r .frames ≤ run .frames + length (now (part .entry)) ⌝ }
     ensures samples { λ r. ⌜ r .samples ≤ run .samples + length (now (part .entry)) ⌝ }
+    ensures whole { λ r. ⌜ (r .more ≡ true → PartsIn (job .length) (r .frames) (r .samples)) ⌝ }
 {
     let mut from = 0;
     let mut k = run.frames;
@@ -130,8 +138,10 @@ fn part_frames(part: &[u8], run: Run, job: Job) -> Run
 // One part read and shown.
 fn next_part(fd: i32, run: Run, job: Job, part: &mut [u8]) -> Run
     requires { ⌜ (length (now part) ≡ partSize) × (run .frames ≤ mostSound) × (run .samples ≤ mostSound) ⌝ }
+    requires { ⌜ PartsIn (job .length) (run .frames) (run .samples) ⌝ }
     ensures frames { λ r. ⌜ r .frames ≤ run .frames + partSize ⌝ }
     ensures samples { λ r. ⌜ r .samples ≤ run .samples + partSize ⌝ }
+    ensures whole { λ r. ⌜ (r .more ≡ true → PartsIn (job .length) (r .frames) (r .samples)) ⌝ }
 {
     let got = tool_console::read_part(fd, part);
     if got.failed {

@@ -13,8 +13,12 @@ slice-aggregate-write-frame c =
 write-frame-requires : tie.Need-write-frame-requires
 write-frame-requires c κs =
     let told = c .before .before .before .before in
-    shown _ _ _ _ _ _ (told .before .before .before .why-samples .ensures) (told .before .r .given .1)
-    (c .before .before .put-frame .ensures .0)
+    record {
+      cut = told .before .before .before .before .before .pre;
+      shows =
+          shown _ _ _ _ _ _ (told .before .before .before .why-samples .ensures) (told .before .r .given .1)
+          (c .before .before .put-frame .ensures .0);
+    }
 
 pub show-frame-spec : {M : Type 1} → statement M
 show-frame-spec = tie.close (tie.spec (λ c κs. search needs) (λ c. search needs) (λ c. search needs) (λ c. search needs)
