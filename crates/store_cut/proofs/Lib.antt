@@ -9,3 +9,4 @@ pub mod Steps
 pub mod Cut
 pub mod Calls
 pub mod Closing
+pub mod Puts
