@@ -2,32 +2,43 @@
 --   `put-writes-cut`: cut anywhere it stands for the store before the put or the one after it.
 --   `put-writes-made`: with no cut it leaves what g7110_store_put alone leaves, every octet of the block.
 --   `put-tells`: the start that the last `put` reports, and the moves' sum, are what g7110_store_put alone tells.
-use Prim.Native.Nat.{ℕ, _+_, _≤_, min}
+use Prim.Native.Nat.{ℕ, _+_, _≤_, _<_, min}
 use mathlib.Core.Path.{_≡_, refl, sym, ap, subst, _∙_}
-use mathlib.Core.List.{List, [], _++_}
+use mathlib.Core.List.{List, _++_}
+use mathlib.Core.Bool.{true}
 use native.Mathlib.Omega.{arith}
 use lib.ListN.{length, getD}
-use lib.Dec.{eqb}
-use borrow.Author.Tests.{ne-eqb}
+use borrow.Author.Tests.{ne-eqb, leb-true}
+use Rattle.rules.specs.Tools.{mostLaw}
 use Rattle.store_rows.specs.declared.rows.Row.{Row}
 use Rattle.store_rows.specs.declared.rows.Gap.{Gap}
 use Rattle.store_rows.specs.declared.rows.Gap.the-variants.{At, Nowhere}
 use Rattle.store_rows.specs.Limits.{largestBlock, sizeOf}
-use Rattle.store_rows.specs.Rows.{held, Kept}
-use Rattle.store_rows.specs.Finding.{lowestGap}
+use Rattle.store_rows.specs.Rows.{held, Kept, contents}
+use Rattle.store_rows.specs.Finding.{absent, lowestGap}
+use Rattle.store_rows.specs.Cells.{rowsOf}
 use Rattle.store_rows.specs.Closing.{closedRows, closedBlock, movedFrom}
+use Rattle.store_rows.proofs.Closed.{length-closed}
 use Rattle.store_greeting.specs.Marks.{Note}
-use Rattle.store.specs.Store.{Outcome, leaves, refused, After, putAt}
-use Rattle.store.specs.Calls.{putOf}
+use Rattle.store_notes.specs.Cells.{notesOf}
+use Rattle.store.specs.declared.Refusal.{Refusal}
+use Rattle.store.specs.declared.Answer.{Answer}
+use Rattle.store.specs.declared.Answer.the-variants.{Done}
+use Rattle.store.specs.Store.{Outcome, leaves, refused, After, putAt, putIn}
+use Rattle.store.specs.Calls.{firstOf, answerOf, putOf, blockAfter, tableAfter}
 use Rattle.store_promises.specs.Told.{putting, Store, rowsIn, notesFor, see}
+use Rattle.store_promises.proofs.Rising.{held-closed}
+use Rattle.store_promises.proofs.Numbers.{fresh-of, absent-of, fresh-closed}
 use Rattle.store_promises.proofs.Granted.{Granted, sane-rows, put-granted, good-some}
 use Rattle.store_promises.proofs.Promises.{Keeps}
-use Rattle.store_moves.specs.Record.{pageOf, stillWith}
+use Rattle.store_moves.specs.Record.{pageOf}
 use Rattle.store_moves.specs.Next.{nextOf}
+use Rattle.store_moves.specs.Steps.{gapTells}
+use Rattle.store_moves.proofs.Calling.{tried-put, tried-fits}
 use Rattle.store_cut.specs.Lasting.{Lasting, Write, madeAll, Run, all}
 use Rattle.store_cut.specs.Writes.{closingWrites, putWrites}
-use Rattle.store_cut.specs.Closing.{closingRows, closingSum}
-use Rattle.store_cut.specs.Runs.{contentsOf, closesUp, rowsThen, putThen, putBy, puttingWrites}
+use Rattle.store_cut.specs.Closing.{closingRows}
+use Rattle.store_cut.specs.Runs.{contentsOf, closesUp, rowsThen, sumThen, lastPut, putThen, putBy, puttingWrites, putTells, Alike}
 use Rattle.store_cut.proofs.Stands.{Bears}
 use Rattle.store_cut.proofs.Cut.{Rests, rests-bears, Either, before, after, Ends, closing-made, closing-then, made-append}
 use Rattle.store_cut.proofs.Closing.{moves-close, apart-few, closing-block, closed-gap, unmoved}
@@ -85,6 +96,14 @@ module _ {size page : ℕ} {s : Store} {l : Lasting} (k : Keeps size s) (law x :
 
     gap-made : Made size next (madeAll (puttingWrites l s law x xs (leaves a)) l)
     gap-made = subst (λ (ws : List Write). Made size next (madeAll ws l)) (sym gap-writes) (last-made k law x xs z gap here)
+
+    gap-tells : putTells l s law x xs (leaves a) ≡ Done (a .first) (a .second)
+    unfolding lastPut closesUp rowsThen sumThen madeAll
+    gap-tells =
+        let in-block : putIn (s .block) (sizeOf (s .block)) rows (notesFor s) law x xs ≡ leaves a = rw (granted .sane) at e in
+        let same = subst (λ (y : List ℕ). putIn y (sizeOf y) rows (notesFor s) law x xs ≡ leaves a) b in-block in
+        ap (λ (m : ℕ). Done (firstOf (lastPut m l rows (notesFor s) law x xs)) (sumThen m rows)) none-moved
+        ∙ ap (λ (o : Outcome). Done (firstOf (answerOf o)) 0) same ∙ ap (λ (m : ℕ). Done (a .first) m) (sym none-moved)
 
   -- ---- none is: all close up first
   module _ (g : Nowhere ≡ lowestGap (length xs) (sizeOf (s .block)) rows) where
@@ -181,6 +200,32 @@ module _ {size page : ℕ} {s : Store} {l : Lasting} (k : Keeps size s) (law x :
         (sym (ap (λ (ws : List Write). madeAll ws l) closing-writes ∙ made-append moves last l))
         (last-made k law x xs (ends .rests) (gap₁ (min size largestBlock) sized) there)
 
+    -- the last put moves nothing, and lies behind all
+    last-tells : answerOf (putIn (shut .block) (sizeOf (shut .block)) rows₁ (notesFor s) law x xs) ≡ Done (held rows) 0
+    last-tells =
+        let g₁ = granted in
+        let n = sizeOf (shut .block) in
+        let few : length rows₁ < 32 = omega (arith, g₁ .few, ap length rows-closed, length-closed 0 rows) in
+        let room : held rows₁ + length xs ≤ n = omega (arith, g₁ .room, ap held rows-closed, held-closed 0 rows, same-size) in
+        let free : absent x rows₁ ≡ true = rw rows-closed (absent-of x (closedRows 0 rows) (fresh-closed x 0 rows (fresh-of x rows (g₁ .fresh)))) in
+        tried-put (shut .block) n rows₁ (notesFor s) law x xs
+        ∙ sym (tried-fits n rows₁ law x xs (leb-true law mostLaw (g₁ .lawful)) (g₁ .number) free (g₁ .good) few room)
+        ∙ ap (λ (d : Gap). gapTells rows₁ d) (sym (gap₁ n same-size))
+
+    closing-tells : putTells l s law x xs (leaves a) ≡ Done (a .first) (a .second)
+    unfolding lastPut sumThen
+    closing-tells =
+        let start : a .first ≡ held rows =
+        ap (λ (y : After). y .first) (granted .is) ∙ ap (λ (d : Gap). putAt (s .block) rows (notesFor s) law x xs d .first) (sym g) in
+        let sum : sumThen (a .second) rows ≡ a .second =
+        rw (ne-eqb (a .second) 0 some-moved) (moves-close (length rows) rows (apart-few 0 rows) .sum ∙ sym all-moved) in
+        let last-put : lastPut (a .second) l rows (notesFor s) law x xs ≡ Done (held rows) 0 =
+        ap (λ (ws : List Write). answerOf (putIn (madeAll ws l .block) (sizeOf (madeAll ws l .block)) (rowsThen (a .second) rows) (notesFor s)
+        law x xs)) closing-moves
+        ∙ ap (λ (rs : List Row). answerOf (putIn (shut .block) (sizeOf (shut .block)) rs (notesFor s) law x xs)) rows-then ∙ last-tells in
+        ap (λ (r : Answer). Done (firstOf r) (sumThen (a .second) rows)) last-put
+        ∙ ap (λ (m : ℕ). Done m (sumThen (a .second) rows)) (sym start) ∙ ap (λ (m : ℕ). Done (a .first) m) sum
+
   -- ---- either
   granted-cut : {l′ : Lasting} (p : Gap) → p ≡ lowestGap (length xs) (sizeOf (s .block)) rows → Run (puttingWrites l s law x xs (leaves a)) l l′
       → Either (Bears size (contentsOf s) (notesFor s) l′) (Bears size (contentsOf next) (notesFor next) l′)
@@ -190,3 +235,47 @@ module _ {size page : ℕ} {s : Store} {l : Lasting} (k : Keeps size s) (law x :
   granted-made : (p : Gap) → p ≡ lowestGap (length xs) (sizeOf (s .block)) rows → Made size next (madeAll (puttingWrites l s law x xs (leaves a)) l)
   granted-made (At i at) g = gap-made g
   granted-made Nowhere g = closing-put-made g
+
+  granted-tells : (p : Gap) → p ≡ lowestGap (length xs) (sizeOf (s .block)) rows → putTells l s law x xs (leaves a) ≡ Done (a .first) (a .second)
+  granted-tells (At i at) g = gap-tells g
+  granted-tells Nowhere g = closing-tells g
+
+-- ---- a put, granted or refused
+
+-- a refused one changes nothing
+pub alike-rests : {size page : ℕ} {r s : Store} {l : Lasting} → Alike r s → Rests size (contentsOf s) (notesFor s) page (rowsIn s) l
+    → Rests size (contentsOf r) (notesFor r) page (rowsIn r) l
+alike-rests {size} {page} {r} {s} {l} a z =
+    let c : contentsOf r ≡ contentsOf s = ap (λ (y : List ℕ). contents y (rowsIn r)) (a .block) ∙ ap (contents (s .block)) (a .rows) in
+    rw (c, a .notes, a .rows) z
+
+put-refused : (s : Store) (law x : ℕ) (xs : List ℕ) {w : Refusal} → putOf (s .block) (s .table) law x xs ≡ refused w
+    → Alike (see (putting law x xs) s) s
+put-refused s law x xs e =
+    record {
+      block = ap (λ (o : Outcome). blockAfter o (s .block)) e;
+      rows = ap (λ (o : Outcome). rowsOf (tableAfter o (s .table))) e;
+      notes = ap (λ (o : Outcome). notesOf (tableAfter o (s .table))) e;
+    }
+
+module _ {size page : ℕ} {s : Store} {l : Lasting} (k : Keeps size s) (law x : ℕ) (xs : List ℕ)
+    (z : Rests size (contentsOf s) (notesFor s) page (rowsIn s) l) (b : s .block ≡ l .block) where
+  pub put-writes-cut : {l′ : Lasting} (o : Outcome) → putOf (s .block) (s .table) law x xs ≡ o → Run (puttingWrites l s law x xs o) l l′
+      → Either (Bears size (contentsOf s) (notesFor s) l′)
+      (Bears size (contentsOf (see (putting law x xs) s)) (notesFor (see (putting law x xs) s)) l′)
+  unfolding puttingWrites
+  put-writes-cut (refused w) e all = before (rests-bears z)
+  put-writes-cut (leaves a) e r = granted-cut k law x xs z b e (lowestGap (length xs) (sizeOf (s .block)) (rowsIn s)) refl r
+
+  pub put-writes-made : (o : Outcome) → putOf (s .block) (s .table) law x xs ≡ o
+      → Made size (see (putting law x xs) s) (madeAll (puttingWrites l s law x xs o) l)
+  unfolding puttingWrites madeAll
+  put-writes-made (refused w) e =
+      let a = put-refused s law x xs e in
+      record { page = page; rests = alike-rests a z; block = sym b ∙ sym (a .block) }
+  put-writes-made (leaves a) e = granted-made k law x xs z b e (lowestGap (length xs) (sizeOf (s .block)) (rowsIn s)) refl
+
+  -- "with no cut the put tells what g7110_store_put alone would"
+  pub put-tells : (o : Outcome) → putOf (s .block) (s .table) law x xs ≡ o → putTells l s law x xs o ≡ answerOf o
+  put-tells (refused w) e = refl
+  put-tells (leaves a) e = granted-tells k law x xs z b e (lowestGap (length xs) (sizeOf (s .block)) (rowsIn s)) refl

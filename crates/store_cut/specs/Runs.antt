@@ -11,8 +11,10 @@ use Rattle.store_rows.specs.Limits.{sizeOf}
 use Rattle.store_rows.specs.Rows.{Kept, contents}
 use Rattle.store_rows.specs.Finding.{lowestGap}
 use Rattle.store_greeting.specs.Marks.{Note}
-use Rattle.store.specs.Store.{Outcome, leaves, refused, After}
-use Rattle.store.specs.Calls.{putOf, deleteOf}
+use Rattle.store.specs.declared.Answer.{Answer}
+use Rattle.store.specs.declared.Answer.the-variants.{Done, Refused}
+use Rattle.store.specs.Store.{Outcome, leaves, refused, After, putIn}
+use Rattle.store.specs.Calls.{firstOf, answerOf, putOf, deleteOf}
 use Rattle.store_save.specs.Saved.{loadOf}
 use Rattle.store_promises.specs.Told.{putting, deleting, loading, Store, rowsIn, notesFor, see}
 use Rattle.store_moves.specs.Moves.{lasts, ahead}
@@ -20,7 +22,7 @@ use Rattle.store_moves.specs.Record.{told, pageOf, stillWith}
 use Rattle.store_moves.specs.Next.{nextOf}
 use Rattle.store_cut.specs.Lasting.{Lasting, pageIn, Write, madeAll, Run}
 use Rattle.store_cut.specs.Writes.{textOf, stepsWrites, closingWrites, turnWrites, putWrites}
-use Rattle.store_cut.specs.Closing.{closingRows}
+use Rattle.store_cut.specs.Closing.{closingRows, closingSum}
 
 -- ---- a call
 
@@ -54,6 +56,20 @@ putBy moved l rows notes law number xs =
 unfoldable pub puttingWrites : Lasting → Store → ℕ → ℕ → List ℕ → Outcome → List Write
 puttingWrites l s law number xs (refused w) = []
 puttingWrites l s law number xs (leaves a) = putBy (a .second) l (rowsIn s) (notesFor s) law number xs
+
+-- "What a put tells is the start that `put` reports, and the moves' sum"
+unfoldable pub sumThen : ℕ → List Row → ℕ
+sumThen moved rows = cond (eqb moved 0) 0 (closingSum (length rows) rows (nextOf rows))
+
+unfoldable pub lastPut : ℕ → Lasting → List Row → List Note → ℕ → ℕ → List ℕ → Answer
+lastPut moved l rows notes law number xs =
+    let m = madeAll (closesUp moved l rows notes) l in
+    answerOf (putIn (m .block) (sizeOf (m .block)) (rowsThen moved rows) notes law number xs)
+
+abbrev pub putTells : Lasting → Store → ℕ → ℕ → List ℕ → Outcome → Answer
+putTells l s law number xs (refused w) = Refused w
+putTells l s law number xs (leaves a) =
+    Done (firstOf (lastPut (a .second) l (rowsIn s) (notesFor s) law number xs)) (sumThen (a .second) (rowsIn s))
 
 -- "a delete: where it refuses, nothing is written; the text to the other page, then the record"
 unfoldable pub deletingWrites : Lasting → Outcome → List Write
