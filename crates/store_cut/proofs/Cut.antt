@@ -159,10 +159,14 @@ pub record Rests (size : ℕ) (K : List Kept) (N : List Note) (page : ℕ) (rows
   pub text : Says size rows N (pageIn page l)
   pub fine : Fine size K (l .block) rows
 
+pub rests-stands : {size page : ℕ} {K : List Kept} {N : List Note} {rows : List Row} {l : Lasting} → Rests size K N page rows l
+    → Stands size K N (1 - page) Still rows l
+rests-stands {size} {page} {K} {N} {rows} {l} z =
+    subst (λ (x : List ℕ). Stands size K N (1 - page) Still rows (lasting (l .block) (l .spare) (l .first) (l .second) x))
+    (sym (z .words)) (rests (l .block) (l .spare) (l .first) (l .second) (z .small) (z .text) (z .fine))
+
 pub rests-bears : {size page : ℕ} {K : List Kept} {N : List Note} {rows : List Row} {l : Lasting} → Rests size K N page rows l → Bears size K N l
-rests-bears {size} {page} {K} {N} {rows} {l} z =
-    bears (subst (λ (x : List ℕ). Stands size K N (1 - page) Still rows (lasting (l .block) (l .spare) (l .first) (l .second) x))
-    (sym (z .words)) (rests (l .block) (l .spare) (l .first) (l .second) (z .small) (z .text) (z .fine)))
+rests-bears z = bears (rests-stands z)
 
 -- the other page holds anything
 pub rests-page : {size page : ℕ} {K : List Kept} {N : List Note} {rows : List Row} {l : Lasting} (any : List ℕ)

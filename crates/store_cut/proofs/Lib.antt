@@ -10,3 +10,4 @@ pub mod Cut
 pub mod Calls
 pub mod Closing
 pub mod Puts
+pub mod Runs
