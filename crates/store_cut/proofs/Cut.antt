@@ -42,7 +42,7 @@ use Rattle.store_moves.specs.declared.calls.Due.{Due}
 use Rattle.store_moves.specs.declared.calls.Due.the-variants.{Goes, Closed}
 use Rattle.store_moves.specs.Moves.{Lasts, lasts, finish, ahead, Torn, Tells, sane-moving}
 use Rattle.store_moves.specs.Record.{pageOf, wordsFor, wordsOf, stillWith, Kept as Words, kept, startOf}
-use Rattle.store_moves.specs.Next.{nextFrom, nextOf, movedAt}
+use Rattle.store_moves.specs.Next.{nextFrom, nextOf, replaceAt, movedAt}
 use Rattle.store_moves.proofs.Moved.{finish-whole, start-whole}
 use Rattle.store_moves.proofs.Started.{start-finish}
 use Rattle.store_cut.specs.Lasting.{Lasting, lasting, pageIn, Write, to-page, to-record, withPage, made, madeAll, cut-block}
@@ -365,16 +365,20 @@ goes-row rows pre r post i e h =
     let z : i ≡ length pre + 0 = omega arith in
     rw (e, z) (getD-append-add pre (r ∷ post) 0 (rowOf 0 0 0))
 
-pub goes-rows : (rows pre : List Row) (r : Row) (post : List Row) (i at : ℕ) → rows ≡ pre ++ (r ∷ post) → i ≡ length pre
-    → movedAt i at rows ≡ pre ++ (movedTo at r ∷ post)
-goes-rows rows pre r post i at e h =
-    let n = goes-row rows pre r post i e h in
+-- another row in its place
+pub replaced : (rows pre : List Row) (r : Row) (post : List Row) (i : ℕ) (q : Row) → rows ≡ pre ++ (r ∷ post) → i ≡ length pre
+    → replaceAt i q rows ≡ pre ++ (q ∷ post)
+replaced rows pre r post i q e h =
     let t : take i rows ≡ pre = rw e (take-at pre (r ∷ post) i (sym h)) in
     let s : i + 1 ≡ length (pre ++ (r ∷ [])) = omega (arith, length-append pre (r ∷ [])) in
     let d : drop (i + 1) rows ≡ post =
     ap (λ (x : List Row). drop (i + 1) x) (e ∙ sym (append-snoc pre r post)) ∙ drop-at (pre ++ (r ∷ [])) post (i + 1) (sym s) in
-    ap (λ (x : List Row). x ++ (movedTo at (nth i rows) ∷ drop (i + 1) rows)) t
-    ∙ ap (λ (x : Row). pre ++ (movedTo at x ∷ drop (i + 1) rows)) n ∙ ap (λ (x : List Row). pre ++ (movedTo at r ∷ x)) d
+    ap (λ (x : List Row). x ++ (q ∷ drop (i + 1) rows)) t ∙ ap (λ (x : List Row). pre ++ (q ∷ x)) d
+
+pub goes-rows : (rows pre : List Row) (r : Row) (post : List Row) (i at : ℕ) → rows ≡ pre ++ (r ∷ post) → i ≡ length pre
+    → movedAt i at rows ≡ pre ++ (movedTo at r ∷ post)
+goes-rows rows pre r post i at e h =
+    ap (λ (x : Row). replaceAt i (movedTo at x) rows) (goes-row rows pre r post i e h) ∙ replaced rows pre r post i (movedTo at r) e h
 
 -- ---- a move
 

@@ -9,5 +9,6 @@ pub mod Steps
 pub mod Cut
 pub mod Calls
 pub mod Closing
+pub mod Tables
 pub mod Puts
 pub mod Runs

@@ -10,6 +10,7 @@ use Rattle.store_rows.specs.declared.rows.Row.{Row}
 use Rattle.store_rows.specs.Limits.{largestBlock, sizeOf}
 use Rattle.store_rows.specs.Rows.{held, Kept, contents}
 use Rattle.store_rows.specs.Cells.{rowsOf}
+use Rattle.store_rows.proofs.Cells.{rows-laid}
 use Rattle.store_greeting.specs.Marks.{Note}
 use Rattle.store_notes.specs.Notes.{True}
 use Rattle.store_notes.specs.Cells.{notesOf, stored}
@@ -29,15 +30,19 @@ use Rattle.store_moves.specs.declared.steps.State.{State}
 use Rattle.store_moves.specs.declared.steps.State.the-variants.{Still, Moving, Lifted}
 use Rattle.store_moves.specs.Moves.{lasts, ahead}
 use Rattle.store_moves.specs.Record.{told, pageOf, wordsOf, stillWith}
+use Rattle.store_moves.specs.Next.{Changed, changes, not-next, refused as declined, renumberIn}
+use Rattle.store_moves.specs.Calls.{renumberOf}
 use Rattle.store_moves.proofs.Worded.{told-words}
 use Rattle.store_cut.specs.Lasting.{Lasting, lasting, pageIn, Write, madeAll, Run, all}
 use Rattle.store_cut.specs.Writes.{textOf, stepsWrites, turnWrites}
-use Rattle.store_cut.specs.Runs.{Asks, put, delete, asked, deletingWrites, writesOf, startWrites, Started, start-made, start-again, found}
+use Rattle.store_cut.specs.Runs.{Asks, put, delete, swap, swapOf, swapped, asked, deletingWrites, swappingWrites, writesOf}
+use Rattle.store_cut.specs.Runs.{startWrites, Started, start-made, start-again, found}
 use Rattle.store_cut.specs.Runs.{Entry, uncut, cut-in, Goes, goes-uncut, goes-cut, Each, no-more, and-then, Loaded, contentsOf, Same, Alike, Holds}
 use Rattle.store_cut.specs.Runs.{as-made, as-before, as-after}
 use Rattle.store_cut.proofs.Stands.{Says, empty, Stands, Bears}
 use Rattle.store_cut.proofs.Cut.{Rests, rests-stands, rests-bears, says-loads, Either, before, after, start-cut, start-rests, turned, turn-cut}
 use Rattle.store_cut.proofs.Calls.{keeps-fine, fine-keeps, Made}
+use Rattle.store_cut.proofs.Tables.{laid-notes, unchanged, renumber-keeps}
 use Rattle.store_cut.proofs.Puts.{page-of, alike-rests, put-writes-cut, put-writes-made}
 
 -- ---- what a start finds of greetings at rest
@@ -185,18 +190,78 @@ module _ {size : ℕ} {t : List ℕ} {l : Lasting} (z : Ready size t l) where
       subst (λ (ws : List Write). Made size (see (deleting x) s) (madeAll ws l)) (sym (delete-writes x e))
       (record { page = 1 - z .page; rests = turned (z .rests) (keeps-fine (call-kept size (deleting x) s (z .keeps))); block = refl })
 
+  -- the rest of a replace
+  abbrev gone : ℕ → Store
+  gone old = see (deleting old) s
+
+  -- what a swap that is made has passed
+  swap-deleted : (old new : ℕ) {rows : List Row} (o : Outcome) → deleteOf (s .block) (s .table) old ≡ o
+      → swapOf (s .block) (s .table) old new o ≡ changes rows → renumberIn (rowsIn (gone old)) new old ≡ changes rows
+  swap-deleted old new (refused w) e h = unchanged h
+  swap-deleted old new {rows} (leaves a) e h =
+      let k = call-kept size (deleting old) s (z .keeps) in
+      let t₁ : gone old .table ≡ stored (a .rows) (a .notes) (s .table) = ap (λ (o : Outcome). tableAfter o (s .table)) e in
+      rw (k .sane) at (subst (λ (t : List ℕ). renumberOf (s .block) t new old ≡ changes rows) (sym t₁) h)
+
+  swap-keeps : (old new : ℕ) (c : Changed) → swapOf (s .block) (s .table) old new (deleteOf (s .block) (s .table) old) ≡ c
+      → Keeps size (swapped s (gone old) c)
+  swap-keeps old new (changes rows) e =
+      renumber-keeps new old (call-kept size (deleting old) s (z .keeps)) (swap-deleted old new (deleteOf (s .block) (s .table) old) refl e)
+  swap-keeps old new not-next e = z .keeps
+  swap-keeps old new (declined w) e = z .keeps
+
+  swap-writes : (old : ℕ) (rows : List Row) → length rows ≤ 32 → swappingWrites l (notesFor (gone old)) (changes rows)
+      ≡ turnWrites (z .page) (textOf size (rowsIn (swapped s (gone old) (changes rows))) (notesFor (swapped s (gone old) (changes rows))))
+  unfolding swappingWrites
+  swap-writes old rows few =
+      ap (λ (p : ℕ). turnWrites p (textOf (length (l .block)) rows (notesFor (gone old)))) (page-of (z .rests))
+      ∙ ap (λ (n : ℕ). turnWrites (z .page) (textOf n rows (notesFor (gone old)))) (z .keeps .long)
+      ∙ ap (λ (rs : List Row). turnWrites (z .page) (textOf size rs (notesFor (gone old)))) (sym (rows-laid rows (gone old .table)))
+      ∙ ap (λ (ns : List Note). turnWrites (z .page) (textOf size (rowsIn (swapped s (gone old) (changes rows))) ns))
+      (sym (laid-notes rows (gone old .table) few))
+
+  swap-few : (old : ℕ) (rows : List Row) → Keeps size (swapped s (gone old) (changes rows)) → length rows ≤ 32
+  swap-few old rows k = omega (arith, keeps-fine k .few, ap length (rows-laid rows (gone old .table)))
+
+  swap-cut : {k : Lasting} (old : ℕ) (c : Changed) → Keeps size (swapped s (gone old) c) → Run (swappingWrites l (notesFor (gone old)) c) l k
+      → Either (Bears size (contentsOf s) (notesFor s) k) (Bears size (contentsOf (swapped s (gone old) c)) (notesFor (swapped s (gone old) c)) k)
+  unfolding swappingWrites
+  swap-cut {k} old (changes rows) m r =
+      turn-cut (z .rests) (keeps-fine m) (subst (λ (ws : List Write). Run ws l k) (swap-writes old rows (swap-few old rows m)) r)
+  swap-cut old not-next m all = before (rests-bears (z .rests))
+  swap-cut old (declined w) m all = before (rests-bears (z .rests))
+
+  swap-made : (old : ℕ) (c : Changed) → Keeps size (swapped s (gone old) c)
+      → Made size (swapped s (gone old) c) (madeAll (swappingWrites l (notesFor (gone old)) c) l)
+  unfolding swappingWrites madeAll
+  swap-made old (changes rows) m =
+      subst (λ (ws : List Write). Made size (swapped s (gone old) (changes rows)) (madeAll ws l))
+      (sym (swap-writes old rows (swap-few old rows m)))
+      (record { page = 1 - z .page; rests = turned (z .rests) (keeps-fine m); block = refl })
+  swap-made old not-next m = record { page = z .page; rests = z .rests; block = refl }
+  swap-made old (declined w) m = record { page = z .page; rests = z .rests; block = refl }
+
   pub call-cut : {k : Lasting} (a : Asks) → Run (writesOf a l s) l k
       → Either (Bears size (contentsOf s) (notesFor s) k) (Bears size (contentsOf (asked a s)) (notesFor (asked a s)) k)
   call-cut (put law x xs) r = put-writes-cut (z .keeps) law x xs (z .rests) refl (putOf (s .block) (s .table) law x xs) refl r
   call-cut (delete x) r = delete-cut x (deleteOf (s .block) (s .table) x) refl r
 
+  call-cut (swap old new) r =
+      let c = swapOf (s .block) (s .table) old new (deleteOf (s .block) (s .table) old) in
+      swap-cut old c (swap-keeps old new c refl) r
+
   pub call-made : (a : Asks) → Made size (asked a s) (madeAll (writesOf a l s) l)
   call-made (put law x xs) = put-writes-made (z .keeps) law x xs (z .rests) refl (putOf (s .block) (s .table) law x xs) refl
   call-made (delete x) = delete-made x (deleteOf (s .block) (s .table) x) refl
 
+  call-made (swap old new) =
+      let c = swapOf (s .block) (s .table) old new (deleteOf (s .block) (s .table) old) in
+      swap-made old c (swap-keeps old new c refl)
+
   pub asked-keeps : (a : Asks) → Keeps size (asked a s)
   asked-keeps (put law x xs) = call-kept size (putting law x xs) s (z .keeps)
   asked-keeps (delete x) = call-kept size (deleting x) s (z .keeps)
+  asked-keeps (swap old new) = swap-keeps old new (swapOf (s .block) (s .table) old new (deleteOf (s .block) (s .table) old)) refl
 
 -- ---- each call and its start
 

@@ -8,9 +8,11 @@ use lib.ListN.{length}
 use lib.Dec.{eqb}
 use Rattle.store_rows.specs.declared.rows.Row.{Row}
 use Rattle.store_rows.specs.Limits.{sizeOf}
-use Rattle.store_rows.specs.Rows.{Kept, contents}
+use Rattle.store_rows.specs.Rows.{held, Kept, contents}
 use Rattle.store_rows.specs.Finding.{lowestGap}
+use Rattle.store_rows.specs.Cells.{laid}
 use Rattle.store_greeting.specs.Marks.{Note}
+use Rattle.store_notes.specs.Cells.{stored}
 use Rattle.store.specs.declared.Answer.{Answer}
 use Rattle.store.specs.declared.Answer.the-variants.{Done, Refused}
 use Rattle.store.specs.Store.{Outcome, leaves, refused, After, putIn}
@@ -19,21 +21,36 @@ use Rattle.store_save.specs.Saved.{loadOf}
 use Rattle.store_promises.specs.Told.{putting, deleting, loading, Store, rowsIn, notesFor, see}
 use Rattle.store_moves.specs.Moves.{lasts, ahead}
 use Rattle.store_moves.specs.Record.{told, pageOf, stillWith}
-use Rattle.store_moves.specs.Next.{nextOf}
+use Rattle.store_moves.specs.Next.{nextOf, Changed, changes, not-next, refused as unchanged}
+use Rattle.store_moves.specs.Calls.{renumberOf}
 use Rattle.store_cut.specs.Lasting.{Lasting, pageIn, Write, madeAll, Run}
 use Rattle.store_cut.specs.Writes.{textOf, stepsWrites, closingWrites, turnWrites, putWrites}
 use Rattle.store_cut.specs.Closing.{closingRows, closingSum}
 
 -- ---- a call
 
+-- a law, a number and octets; a number; the rest of a replace, which follows its put: the old number, and the one that was not in use
 pub data Asks : Type 0 where
   put : ℕ → ℕ → List ℕ → Asks
   delete : ℕ → Asks
+  swap : ℕ → ℕ → Asks
 
--- what a call alone leaves of a store: g7110_store_put, g7110_store_delete
+-- "then `delete` of the old one and `renumber`, in memory": the greetings that it leaves, over the table that the delete left
+abbrev pub swapOf : List ℕ → List ℕ → ℕ → ℕ → Outcome → Changed
+swapOf b t old new (refused w) = unchanged w
+swapOf b t old new (leaves a) = renumberOf b (stored (a .rows) (a .notes) t) new old
+
+-- where one of them refuses nothing is changed; else what is held counts as put first, as after a loading
+abbrev pub swapped : Store → Store → Changed → Store
+swapped s d (changes rows) = record { block = s .block; table = laid rows (d .table); put = held rows; deleted = 0 }
+swapped s d not-next = s
+swapped s d (unchanged w) = s
+
+-- what a call alone leaves of a store: g7110_store_put; g7110_store_delete; g7110_store_delete and g7110_store_renumber
 abbrev pub asked : Asks → Store → Store
 asked (put law number xs) s = see (putting law number xs) s
 asked (delete number) s = see (deleting number) s
+asked (swap old new) s = swapped s (see (deleting old) s) (swapOf (s .block) (s .table) old new (deleteOf (s .block) (s .table) old))
 
 -- "where it reports octets moved, moves until `next` has none": their writes, and the greetings after them
 unfoldable pub closesUp : ℕ → Lasting → List Row → List Note → List Write
@@ -76,9 +93,17 @@ unfoldable pub deletingWrites : Lasting → Outcome → List Write
 deletingWrites l (refused w) = []
 deletingWrites l (leaves a) = turnWrites (pageOf (l .words)) (textOf (length (l .block)) (a .rows) (a .notes))
 
+-- "the text to the other page; the record"
+unfoldable pub swappingWrites : Lasting → List Note → Changed → List Write
+swappingWrites l notes (changes rows) = turnWrites (pageOf (l .words)) (textOf (length (l .block)) rows notes)
+swappingWrites l notes not-next = []
+swappingWrites l notes (unchanged w) = []
+
 abbrev pub writesOf : Asks → Lasting → Store → List Write
 writesOf (put law number xs) l s = puttingWrites l s law number xs (putOf (s .block) (s .table) law number xs)
 writesOf (delete number) l s = deletingWrites l (deleteOf (s .block) (s .table) number)
+writesOf (swap old new) l s =
+    swappingWrites l (notesFor (see (deleting old) s)) (swapOf (s .block) (s .table) old new (deleteOf (s .block) (s .table) old))
 
 -- ---- a start
 
