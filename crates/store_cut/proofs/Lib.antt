@@ -12,3 +12,5 @@ pub mod Closing
 pub mod Tables
 pub mod Puts
 pub mod Runs
+pub mod Counted
+pub mod Replaced

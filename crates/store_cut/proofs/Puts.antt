@@ -249,7 +249,7 @@ alike-rests {size} {page} {r} {s} {l} a z =
     let c : contentsOf r ≡ contentsOf s = ap (λ (y : List ℕ). contents y (rowsIn r)) (a .block) ∙ ap (contents (s .block)) (a .rows) in
     rw (c, a .notes, a .rows) z
 
-put-refused : (s : Store) (law x : ℕ) (xs : List ℕ) {w : Refusal} → putOf (s .block) (s .table) law x xs ≡ refused w
+pub put-refused : (s : Store) (law x : ℕ) (xs : List ℕ) {w : Refusal} → putOf (s .block) (s .table) law x xs ≡ refused w
     → Alike (see (putting law x xs) s) s
 put-refused s law x xs e =
     record {

@@ -191,11 +191,11 @@ module _ {size : ℕ} {t : List ℕ} {l : Lasting} (z : Ready size t l) where
       (record { page = 1 - z .page; rests = turned (z .rests) (keeps-fine (call-kept size (deleting x) s (z .keeps))); block = refl })
 
   -- the rest of a replace
-  abbrev gone : ℕ → Store
+  abbrev pub gone : ℕ → Store
   gone old = see (deleting old) s
 
   -- what a swap that is made has passed
-  swap-deleted : (old new : ℕ) {rows : List Row} (o : Outcome) → deleteOf (s .block) (s .table) old ≡ o
+  pub swap-deleted : (old new : ℕ) {rows : List Row} (o : Outcome) → deleteOf (s .block) (s .table) old ≡ o
       → swapOf (s .block) (s .table) old new o ≡ changes rows → renumberIn (rowsIn (gone old)) new old ≡ changes rows
   swap-deleted old new (refused w) e h = unchanged h
   swap-deleted old new {rows} (leaves a) e h =

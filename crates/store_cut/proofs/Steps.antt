@@ -46,7 +46,7 @@ pub data Went (page : ℕ) (b s p q : List ℕ) (st : State) (ws : List Write) :
       → Went page b s p q st ws l′
 
 -- lengths of the chunks
-hop-long : (b : List ℕ) (m : Move) → Tells b m → (length (take (hop m) (drop (source m) b)) ≡ hop m) × (place m + hop m ≤ length b)
+pub hop-long : (b : List ℕ) (m : Move) → Tells b m → (length (take (hop m) (drop (source m) b)) ≡ hop m) × (place m + hop m ≤ length b)
     × (hop m ≤ length (drop (source m) b))
 hop-long b m t =
     let g = hop-some m (t .down) (t .some) in
@@ -55,7 +55,7 @@ hop-long b m t =
     let h : hop m ≤ length (drop (source m) b) = omega (arith, g, length-drop (source m) b) in
     (length-take-le (hop m) (drop (source m) b) h, omega (arith, g), h)
 
-lift-long : (b s : List ℕ) (m : Move) → Tells b m → distance m < length s
+pub lift-long : (b s : List ℕ) (m : Move) → Tells b m → distance m < length s
     → (length (take (lift s m) (drop (source m) b)) ≡ lift s m) × (0 + lift s m ≤ length s) × (lift s m ≤ length (drop (source m) b))
 lift-long b s m t d =
     let g = lift-some s m d (t .some) in
@@ -63,7 +63,7 @@ lift-long b s m t d =
     let h : lift s m ≤ length (drop (source m) b) = omega (arith, g, length-drop (source m) b) in
     (length-take-le (lift s m) (drop (source m) b) h, omega (arith, g), h)
 
-lay-long : (b s : List ℕ) (m : Move) → Tells b m → distance m < length s
+pub lay-long : (b s : List ℕ) (m : Move) → Tells b m → distance m < length s
     → (length (take (lift s m) s) ≡ lift s m) × (place m + lift s m ≤ length b) × (lift s m ≤ length s)
 lay-long b s m t d =
     let g = lift-some s m d (t .some) in
@@ -72,20 +72,20 @@ lay-long b s m t d =
     (length-take-le (lift s m) s (g .2), omega (arith, g), g .2)
 
 -- what a step leaves, as its writes leave it
-direct-is : (b s : List ℕ) (m : Move) → Tells b m → length s ≤ distance m
+pub direct-is : (b s : List ℕ) (m : Move) → Tells b m → length s ≤ distance m
     → stepped b s (Moving m) ≡ lasts (written b (place m) (take (hop m) (drop (source m) b))) s (onward m (hop m))
 unfolding hop
 direct-is b s m t h =
     step-direct b s m h refl (laid-paste b (drop (source m) b) (place m) (hop m) (hop-long b m t .2) refl refl) refl
 
-lift-is : (b s : List ℕ) (m : Move) → Tells b m → distance m < length s
+pub lift-is : (b s : List ℕ) (m : Move) → Tells b m → distance m < length s
     → stepped b s (Moving m) ≡ lasts b (written s 0 (take (lift s m) (drop (source m) b))) (Lifted m)
 unfolding lift
 lift-is b s m t d =
     let z : source m + lift s m - source m ≡ lift s m = omega arith in
     step-lift b s m t d refl (ap (λ (k : ℕ). take k (drop (source m) b)) (sym z)) refl
 
-lay-is : (b s : List ℕ) (m : Move) → stepped b s (Lifted m) ≡ lasts (written b (place m) (take (lift s m) s)) s (onward m (lift s m))
+pub lay-is : (b s : List ℕ) (m : Move) → stepped b s (Lifted m) ≡ lasts (written b (place m) (take (lift s m) s)) s (onward m (lift s m))
 unfolding lift
 lay-is b s m = step-lay b s m refl refl refl refl
 
