@@ -14,3 +14,4 @@ pub mod Puts
 pub mod Runs
 pub mod Counted
 pub mod Replaced
+pub mod Pages

@@ -4,7 +4,7 @@
 --   `put-tells`: the start that the last `put` reports, and the moves' sum, are what g7110_store_put alone tells.
 use Prim.Native.Nat.{ℕ, _+_, _≤_, _<_, min}
 use mathlib.Core.Path.{_≡_, refl, sym, ap, subst, _∙_}
-use mathlib.Core.List.{List, _++_}
+use mathlib.Core.List.{List, [], _++_}
 use mathlib.Core.Bool.{true}
 use native.Mathlib.Omega.{arith}
 use lib.ListN.{length, getD}
@@ -50,6 +50,19 @@ page-of z = ap (λ (w : List ℕ). getD w 0 0) (z .words)
 
 no-gap : {A : Type 0} {i at : ℕ} → At i at ≡ Nowhere → A
 no-gap e = let z : _≡_ {A = ℕ} 0 1 = cc in absurd (omega arith)
+
+-- the order of writes of a put that is accepted
+pub record Order (size page : ℕ) (s : Store) (l : Lasting) (law x : ℕ) (xs : List ℕ) (ws : List Write) : Type 0 where
+  pub moves : List Write
+  pub last-page : ℕ
+  pub rows-then : List Row
+  pub block-then : List ℕ
+  pub index : ℕ
+  pub place : ℕ
+  pub is : ws ≡ moves ++ putWrites last-page block-then rows-then (notesFor s) law x xs (At index place)
+  pub laid : Laid law x xs s block-then rows-then index place
+  pub long : length block-then ≡ size
+  pub moves-are : Either (moves ≡ []) (moves ≡ closingWrites (length (rowsIn s)) page l (rowsIn s) (notesFor s) (nextOf (rowsIn s)))
 
 module _ {size page : ℕ} {s : Store} {l : Lasting} (k : Keeps size s) (law x : ℕ) (xs : List ℕ)
     (z : Rests size (contentsOf s) (notesFor s) page (rowsIn s) l) (b : s .block ≡ l .block) {a : After}
@@ -226,7 +239,35 @@ module _ {size page : ℕ} {s : Store} {l : Lasting} (k : Keeps size s) (law x :
         ap (λ (r : Answer). Done (firstOf r) (sumThen (a .second) rows)) last-put
         ∙ ap (λ (m : ℕ). Done m (sumThen (a .second) rows)) (sym start) ∙ ap (λ (m : ℕ). Done (a .first) m) sum
 
-  -- ---- either
+  -- ---- either: the moves, if any, and the last writes
+  order-of : (p : Gap) → p ≡ lowestGap (length xs) (sizeOf (s .block)) rows → Order size page s l law x xs (puttingWrites l s law x xs (leaves a))
+  order-of (At i at) g =
+      record {
+        moves = [];
+        last-page = page;
+        rows-then = rows;
+        block-then = l .block;
+        index = i;
+        place = at;
+        is = gap-writes g;
+        laid = here g;
+        long = z .fine .long;
+        moves-are = before refl;
+      }
+  order-of Nowhere g =
+      record {
+        moves = moves g;
+        last-page = ends g .page;
+        rows-then = rows₁ g;
+        block-then = shut g .block;
+        index = length rows;
+        place = held rows;
+        is = closing-writes g;
+        laid = there g;
+        long = ends g .rests .fine .long;
+        moves-are = after refl;
+      }
+
   granted-cut : {l′ : Lasting} (p : Gap) → p ≡ lowestGap (length xs) (sizeOf (s .block)) rows → Run (puttingWrites l s law x xs (leaves a)) l l′
       → Either (Bears size (contentsOf s) (notesFor s) l′) (Bears size (contentsOf next) (notesFor next) l′)
   granted-cut (At i at) g r = gap-cut g r
@@ -239,6 +280,9 @@ module _ {size page : ℕ} {s : Store} {l : Lasting} (k : Keeps size s) (law x :
   granted-tells : (p : Gap) → p ≡ lowestGap (length xs) (sizeOf (s .block)) rows → putTells l s law x xs (leaves a) ≡ Done (a .first) (a .second)
   granted-tells (At i at) g = gap-tells g
   granted-tells Nowhere g = closing-tells g
+
+  pub put-order : Order size page s l law x xs (puttingWrites l s law x xs (leaves a))
+  put-order = order-of (lowestGap (length xs) (sizeOf (s .block)) rows) refl
 
 -- ---- a put, granted or refused
 

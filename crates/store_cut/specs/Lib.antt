@@ -6,3 +6,4 @@ pub mod Lasting
 pub mod Writes
 pub mod Closing
 pub mod Runs
+pub mod Pages
