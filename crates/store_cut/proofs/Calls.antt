@@ -156,7 +156,8 @@ module _ {size page : ℕ} {s : Store} {rows : List Row} {l : Lasting} (k : Keep
   same : contents (written (l .block) at xs) new ≡ contentsOf then
   same = ap (λ (y : List ℕ). contents y new) (sym (w .block)) ∙ ap (λ (rs : List Row). contents (then .block) rs) (sym (w .rows-are))
 
-  told : {l′ : Lasting} {A : Type 0} → Either A (Bears size (contents (written (l .block) at xs) new) (insertNote i (noteOf law xs) (notesFor s)) l′)
+  told : {l′ : Lasting} {A : Type 0}
+      → Either A (Bears size (contents (written (l .block) at xs) new) (insertNote i (noteOf law xs) (notesFor s)) l′)
       → Either A (Bears size (contentsOf then) (notesFor then) l′)
   told (before y) = before y
   told {l′} (after y) =
@@ -187,7 +188,8 @@ pub put-promise : {size page : ℕ} {s : Store} {l l′ : Lasting} (k : Keeps si
     → s .block ≡ l .block → Rests size (contentsOf s) (notesFor s) page (rowsIn s) l
     → Run (putWrites page (l .block) (rowsIn s) (notesFor s) law x xs (At i at)) l l′
     → (t : List ℕ) → storeCells (min size largestBlock) ≤ length t
-    → Either (Loads (contentsOf s) (notesFor s) l′ t) (Loads (contentsOf (see (putting law x xs) s)) (notesFor (see (putting law x xs) s)) l′ t)
+    → Either (Loads (contentsOf s) (notesFor s) l′ t)
+    (Loads (contentsOf (see (putting law x xs) s)) (notesFor (see (putting law x xs) s)) l′ t)
 put-promise {size} {page} {s} {l} k law x xs {a} {i} {at} e g b z r t c =
     let gap = subst (λ (y : ℕ). At i at ≡ lowestGap (length xs) (min y largestBlock) (rowsIn s)) (k .long) g in
     let w = subst (λ (y : List ℕ). Laid law x xs s y (rowsIn s) i at) b (laid-gap law x xs e g) in

@@ -208,7 +208,8 @@ shut-block b rows s =
     let z : 0 + held rows ≡ held rows = omega arith in
     ap (λ (x : ℕ). bodies b rows ++ drop x b) (sym z) ∙ s .stays b
 
-block-step : (n : ℕ) {size page : ℕ} {K : List Kept} {N : List Note} {rows : List Row} {l : Lasting} (z : Rests size K N page rows l) (x : Due)
+block-step : (n : ℕ) {size page : ℕ} {K : List Kept} {N : List Note} {rows : List Row} {l : Lasting} (z : Rests size K N page rows l)
+    (x : Due)
     → x ≡ nextOf rows → apartFrom 0 rows ≤ suc n
     → ((i at : ℕ) → Goes i at ≡ nextOf rows → apartFrom 0 (movedAt i at rows) ≤ n
     → madeAll (others n z i at) (madeAll (one n z i at) l) .block ≡ closedBlock (madeAll (one n z i at) l .block) (movedAt i at rows))

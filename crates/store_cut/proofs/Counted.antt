@@ -1,8 +1,8 @@
 -- How many writes a move asks for: a chunk has as many octets as the distance or the spare has, whichever is more, but for the last one
--- (`chunks-enough`). Directly it is two writes a chunk, octets and record (`direct-few`); through the spare four (`spare-few`). With the text
--- and the record before them: `move-few`.
+-- (`chunks-enough`). Directly it is two writes a chunk, octets and record (`direct-few`); through the spare four (`spare-few`). With the
+-- text and the record before them: `move-few`.
 use Prim.Native.Nat.{ℕ, zero, suc, _+_, _-_, _*_, _/_, _≤_, _<_}
-use mathlib.Core.Path.{_≡_, refl, sym, ap, subst, _∙_}
+use mathlib.Core.Path.{_≡_, refl, sym, ap, _∙_}
 use mathlib.Core.List.{List, []}
 use mathlib.Core.Bool.{Bool, true, false, cond}
 use native.Mathlib.Omega.{arith}
@@ -17,9 +17,9 @@ use Rattle.store_promises.proofs.Contents.{length-written}
 use Rattle.store_moves.specs.declared.steps.Move.{Move}
 use Rattle.store_moves.specs.declared.steps.State.{State}
 use Rattle.store_moves.specs.declared.steps.State.the-variants.{Still, Moving, Lifted}
-use Rattle.store_moves.specs.Moves.{Lasts, lasts, distance, left, source, place, direct, hop, lift, doneMore, onward, stepped, step, Tells}
+use Rattle.store_moves.specs.Moves.{Lasts, lasts, distance, left, source, place, hop, lift, doneMore, onward, stepped, Tells}
 use Rattle.store_moves.proofs.Stepping.{onward-end, onward-more}
-use Rattle.store_cut.specs.Lasting.{Lasting, Write}
+use Rattle.store_cut.specs.Lasting.{Lasting}
 use Rattle.store_cut.specs.Writes.{stepWrites, stepsWrites, begun, moveWrites}
 use Rattle.store_cut.proofs.Steps.{hop-long, lift-long, lay-long, direct-is, lift-is, lay-is}
 

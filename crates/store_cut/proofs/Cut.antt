@@ -123,7 +123,8 @@ pub start-cut : {size : ℕ} {K : List Kept} {N : List Note} {l l′ : Lasting} 
 start-cut {size} {K} {N} {l} {l′} n z r =
     let e = z .stands .words in
     steps-run n (lasts (l .block) (l .spare) (z .state)) (l .first) (l .second)
-    (subst (λ (x : List ℕ). Stands size K N (z .page) (z .state) (z .rows) (lasting (l .block) (l .spare) (l .first) (l .second) x)) e (z .stands))
+    (subst (λ (x : List ℕ). Stands size K N (z .page) (z .state) (z .rows) (lasting (l .block) (l .spare) (l .first) (l .second) x)) e
+    (z .stands))
     (subst (λ (x : List ℕ). Run (stepsWrites n (z .page) (lasts (l .block) (l .spare) (z .state)))
     (lasting (l .block) (l .spare) (l .first) (l .second) x) l′) e r)
 
@@ -165,7 +166,8 @@ rests-stands {size} {page} {K} {N} {rows} {l} z =
     subst (λ (x : List ℕ). Stands size K N (1 - page) Still rows (lasting (l .block) (l .spare) (l .first) (l .second) x))
     (sym (z .words)) (rests (l .block) (l .spare) (l .first) (l .second) (z .small) (z .text) (z .fine))
 
-pub rests-bears : {size page : ℕ} {K : List Kept} {N : List Note} {rows : List Row} {l : Lasting} → Rests size K N page rows l → Bears size K N l
+pub rests-bears : {size page : ℕ} {K : List Kept} {N : List Note} {rows : List Row} {l : Lasting} → Rests size K N page rows l
+    → Bears size K N l
 rests-bears z = bears (rests-stands z)
 
 -- the other page holds anything
@@ -222,7 +224,8 @@ module _ {size page : ℕ} {K : List Kept} {N : List Note} {rows : List Row} {l 
   apart-rows : take (gap .k) rows ++ drop (gap .k) rows ≡ rows
   apart-rows = take-append-drop (gap .k) rows
 
-  torn-rests : {b′ : List ℕ} → Torn at (length xs) (l .block) b′ → Rests size K N page rows (lasting b′ (l .spare) (l .first) (l .second) (l .words))
+  torn-rests : {b′ : List ℕ} → Torn at (length xs) (l .block) b′
+      → Rests size K N page rows (lasting b′ (l .spare) (l .first) (l .second) (l .words))
   torn-rests {b′} t =
       rests-with (t .size) (subst (λ (x : List Row). contents b′ x ≡ contents (l .block) x) apart-rows
       (torn-reads (min size largestBlock) (take (gap .k) rows) (drop (gap .k) rows) inside t (gap .below) (gap .above)))
@@ -402,7 +405,9 @@ module _ {size page : ℕ} {K : List Kept} {N : List Note} {l : Lasting} (pre : 
       let i = a .inside in
       let g = length-drop (r .start) (l .block) in
       record {
-        long = length-paste (l .block) to (drop (r .start) (l .block)) (r .octets) (omega (arith, enough)) (omega (arith, enough)) ∙ z .fine .long;
+        long =
+            length-paste (l .block) to (drop (r .start) (l .block)) (r .octets) (omega (arith, enough)) (omega (arith, enough))
+            ∙ z .fine .long;
         few =
             omega (arith, z .fine .few, length-append pre (r ∷ post), length-append pre (movedTo to r ∷ post));
         rises = moved-rises (l .block) (min size largestBlock) to pre r post d (a .inside) enough (a .some) f (a .behind);
@@ -439,7 +444,9 @@ module _ {size page : ℕ} {K : List Kept} {N : List Note} {l : Lasting} (pre : 
 
   sized : moveWrites page l r to moved N ≡ writes
   unfolding moveWrites
-  sized = ap (λ (k : ℕ). to-page (1 - page) (textOf k moved N) ∷ to-record (wordsFor page 1 (begun to r)) ∷ stepsWrites (2 * r .octets) page begins)
+  sized =
+      ap (λ (k : ℕ). to-page (1 - page) (textOf k moved N) ∷ to-record (wordsFor page 1 (begun to r)) ∷ stepsWrites (2 * r .octets) page
+      begins)
       (z .fine .long)
 
   move-runs : {l′ : Lasting} → Run writes l l′ → Bears size K N l′
@@ -516,15 +523,18 @@ module _ {size page : ℕ} {K : List Kept} {N : List Note} {rows : List Row} {l 
   same-writes : moveWrites page l (nth i rows) at (movedAt i at rows) N
       ≡ moveWrites page l (due .row) at (due .pre ++ (movedTo at (due .row) ∷ due .post)) N
   same-writes =
-      ap (λ (x : Row). moveWrites page l x at (movedAt i at rows) N) same-row ∙ ap (λ (x : List Row). moveWrites page l (due .row) at x N) same-rows
+      ap (λ (x : Row). moveWrites page l x at (movedAt i at rows) N) same-row
+      ∙ ap (λ (x : List Row). moveWrites page l (due .row) at x N) same-rows
 
   pub due-cut : {l′ : Lasting} → Run (moveWrites page l (nth i rows) at (movedAt i at rows) N) l l′ → Bears size K N l′
   due-cut {l′} q = move-cut (due .pre) (due .row) (due .post) at apart below front (subst (λ (x : List Write). Run x l l′) same-writes q)
 
   pub due-made : Rests size K N (1 - page) (movedAt i at rows) (madeAll (moveWrites page l (nth i rows) at (movedAt i at rows) N) l)
   due-made =
-      subst (λ (x : List Row). Rests size K N (1 - page) x (madeAll (moveWrites page l (nth i rows) at (movedAt i at rows) N) l)) (sym same-rows)
-      (subst (λ (x : List Write). Rests size K N (1 - page) (due .pre ++ (movedTo at (due .row) ∷ due .post)) (madeAll x l)) (sym same-writes)
+      subst (λ (x : List Row). Rests size K N (1 - page) x (madeAll (moveWrites page l (nth i rows) at (movedAt i at rows) N) l))
+      (sym same-rows)
+      (subst (λ (x : List Write). Rests size K N (1 - page) (due .pre ++ (movedTo at (due .row) ∷ due .post)) (madeAll x l))
+      (sym same-writes)
       (move-made (due .pre) (due .row) (due .post) at apart below front))
 
   pub due-block : madeAll (moveWrites page l (nth i rows) at (movedAt i at rows) N) l .block
@@ -568,7 +578,8 @@ pub record Ends (size : ℕ) (K : List Kept) (N : List Note) (rows : List Row) (
   pub rests : Rests size K N page rows l
 
 -- all moves made
-ends-step : (n : ℕ) {size page : ℕ} {K : List Kept} {N : List Note} {rows : List Row} {l : Lasting} (z : Rests size K N page rows l) (x : Due)
+ends-step : (n : ℕ) {size page : ℕ} {K : List Kept} {N : List Note} {rows : List Row} {l : Lasting} (z : Rests size K N page rows l)
+    (x : Due)
     → x ≡ nextOf rows
     → ((i at : ℕ) → Goes i at ≡ nextOf rows
     → Ends size K N (closingRows n (movedAt i at rows) (nextOf (movedAt i at rows))) (madeAll (others n z i at) (madeAll (one n z i at) l)))
@@ -612,8 +623,10 @@ start-rests {size} {K} {N} {l} n z h =
 
 -- ---- THE PROMISE: whatever was cut, and however often a start was, what is loaded is the store before the call or the one after it
 
-pub cut-loads : {size : ℕ} {K K′ : List Kept} {N N′ : List Note} {l : Lasting} → Good K N → True K N → Good K′ N′ → True K′ N′ → (t : List ℕ)
-    → storeCells (min size largestBlock) ≤ length t → Either (Bears size K N l) (Bears size K′ N′ l) → Either (Loads K N l t) (Loads K′ N′ l t)
+pub cut-loads : {size : ℕ} {K K′ : List Kept} {N N′ : List Note} {l : Lasting} → Good K N → True K N → Good K′ N′ → True K′ N′
+    → (t : List ℕ)
+    → storeCells (min size largestBlock) ≤ length t → Either (Bears size K N l) (Bears size K′ N′ l)
+    → Either (Loads K N l t) (Loads K′ N′ l t)
 cut-loads g m g′ m′ t c (before z) = before (start-loads z g m t c)
 cut-loads g m g′ m′ t c (after z) = after (start-loads z g′ m′ t c)
 
@@ -623,7 +636,8 @@ pub closing-then : (n : ℕ) {size page : ℕ} {K : List Kept} {N : List Note} {
     → Either (Bears size K N l′) (Run ws (madeAll (closingWrites n page l rows N (nextOf rows)) l) l′)
 closing-then n {size} {page} {K} {N} {rows} {l} {l′} ws z r = go (run-split (closingWrites n page l rows N (nextOf rows)) r)
   where
-    go : Either (Run (closingWrites n page l rows N (nextOf rows)) l l′) (Run ws (madeAll (closingWrites n page l rows N (nextOf rows)) l) l′)
+    go : Either (Run (closingWrites n page l rows N (nextOf rows)) l l′)
+        (Run ws (madeAll (closingWrites n page l rows N (nextOf rows)) l) l′)
         → Either (Bears size K N l′) (Run ws (madeAll (closingWrites n page l rows N (nextOf rows)) l) l′)
     go (before x) = before (closing-cut n z x)
     go (after x) = after x

@@ -104,7 +104,8 @@ row-full r =
 mark-full : (m : Mark) → Full (markText m)
 unfolding markText full
 mark-full m =
-    full-append (field markWord (m .octets)) _ (full-append markWord (decimal (m .octets)) (full-word markWord refl) (decimal-full (m .octets)))
+    full-append (field markWord (m .octets)) _
+    (full-append markWord (decimal (m .octets)) (full-word markWord refl) (decimal-full (m .octets)))
     (full-append (field comma (m .samples)) lineEnd
     (full-append comma (decimal (m .samples)) (full-word comma refl) (decimal-full (m .samples))) (full-word lineEnd refl))
 
@@ -124,7 +125,8 @@ listed-full : (xs : List Listed) → Full (listedText xs)
 unfolding Full listedText
 listed-full [] = tt
 listed-full (x ∷ xs) =
-    full-append (rowText (x .row)) _ (row-full (x .row)) (full-append (noteText (x .note)) (listedText xs) (note-full (x .note)) (listed-full xs))
+    full-append (rowText (x .row)) _ (row-full (x .row))
+    (full-append (noteText (x .note)) (listedText xs) (note-full (x .note)) (listed-full xs))
 
 pub text-full : (size : ℕ) (rows : List Row) (notes : List Note) → Full (textOf size rows notes)
 unfolding full
@@ -307,7 +309,8 @@ module _ {size room : ℕ} (enough : Enough size room) (t : List ℕ) (c : store
       ∙ ap (λ (x : List Note). textOf size (rowsIn s) x) (sym q) in
       (text-full n rows notes, omega (arith, ap length z, enough s k))
 
-  rests-fit : {page : ℕ} {K : List Kept} {N : List Note} {rows : List Row} {l : Lasting} (n : ℕ) → n ≡ size → Rests size K N page rows l → Good K N
+  rests-fit : {page : ℕ} {K : List Kept} {N : List Note} {rows : List Row} {l : Lasting} (n : ℕ) → n ≡ size → Rests size K N page rows l
+      → Good K N
       → True K N → Fit room (textOf n rows N)
   rests-fit {l = l} n e z g m = keeps-fit (found t l) n _ _ (found-keeps t z g m c) e (found-rows t z g m c) (found-notes t z g m c)
 
@@ -353,7 +356,8 @@ module _ {size room : ℕ} (enough : Enough size room) (t : List ℕ) (c : store
         subst (Fits room) (sym (o .is)) (fits-append room (o .moves) _ (pick (o .moves) (o .moves-are)) (f, tt))
       where
         pick : (ws : List Write)
-            → Either (ws ≡ []) (ws ≡ closingWrites (length (rowsIn s)) (z .page) l (rowsIn s) (notesFor s) (nextOf (rowsIn s))) → Fits room ws
+            → Either (ws ≡ []) (ws ≡ closingWrites (length (rowsIn s)) (z .page) l (rowsIn s) (notesFor s) (nextOf (rowsIn s)))
+            → Fits room ws
         pick ws (before q) = subst (Fits room) (sym q) tt
         pick ws (after q) = subst (Fits room) (sym q) (closing-fits (length (rowsIn s)) (z .rests) (z .keeps .good) (z .keeps .marks))
 

@@ -220,7 +220,8 @@ module _ {size page : ℕ} {s : Store} {l : Lasting} (k : Keeps size s) (law x :
         let n = sizeOf (shut .block) in
         let few : length rows₁ < 32 = omega (arith, g₁ .few, ap length rows-closed, length-closed 0 rows) in
         let room : held rows₁ + length xs ≤ n = omega (arith, g₁ .room, ap held rows-closed, held-closed 0 rows, same-size) in
-        let free : absent x rows₁ ≡ true = rw rows-closed (absent-of x (closedRows 0 rows) (fresh-closed x 0 rows (fresh-of x rows (g₁ .fresh)))) in
+        let free : absent x rows₁ ≡ true = rw rows-closed
+        (absent-of x (closedRows 0 rows) (fresh-closed x 0 rows (fresh-of x rows (g₁ .fresh)))) in
         tried-put (shut .block) n rows₁ (notesFor s) law x xs
         ∙ sym (tried-fits n rows₁ law x xs (leb-true law mostLaw (g₁ .lawful)) (g₁ .number) free (g₁ .good) few room)
         ∙ ap (λ (d : Gap). gapTells rows₁ d) (sym (gap₁ n same-size))
@@ -233,14 +234,16 @@ module _ {size page : ℕ} {s : Store} {l : Lasting} (k : Keeps size s) (law x :
         let sum : sumThen (a .second) rows ≡ a .second =
         rw (ne-eqb (a .second) 0 some-moved) (moves-close (length rows) rows (apart-few 0 rows) .sum ∙ sym all-moved) in
         let last-put : lastPut (a .second) l rows (notesFor s) law x xs ≡ Done (held rows) 0 =
-        ap (λ (ws : List Write). answerOf (putIn (madeAll ws l .block) (sizeOf (madeAll ws l .block)) (rowsThen (a .second) rows) (notesFor s)
+        ap (λ (ws : List Write). answerOf (putIn (madeAll ws l .block) (sizeOf (madeAll ws l .block)) (rowsThen (a .second) rows)
+        (notesFor s)
         law x xs)) closing-moves
         ∙ ap (λ (rs : List Row). answerOf (putIn (shut .block) (sizeOf (shut .block)) rs (notesFor s) law x xs)) rows-then ∙ last-tells in
         ap (λ (r : Answer). Done (firstOf r) (sumThen (a .second) rows)) last-put
         ∙ ap (λ (m : ℕ). Done m (sumThen (a .second) rows)) (sym start) ∙ ap (λ (m : ℕ). Done (a .first) m) sum
 
   -- ---- either: the moves, if any, and the last writes
-  order-of : (p : Gap) → p ≡ lowestGap (length xs) (sizeOf (s .block)) rows → Order size page s l law x xs (puttingWrites l s law x xs (leaves a))
+  order-of : (p : Gap) → p ≡ lowestGap (length xs) (sizeOf (s .block)) rows
+      → Order size page s l law x xs (puttingWrites l s law x xs (leaves a))
   order-of (At i at) g =
       record {
         moves = [];
@@ -268,16 +271,19 @@ module _ {size page : ℕ} {s : Store} {l : Lasting} (k : Keeps size s) (law x :
         moves-are = after refl;
       }
 
-  granted-cut : {l′ : Lasting} (p : Gap) → p ≡ lowestGap (length xs) (sizeOf (s .block)) rows → Run (puttingWrites l s law x xs (leaves a)) l l′
+  granted-cut : {l′ : Lasting} (p : Gap) → p ≡ lowestGap (length xs) (sizeOf (s .block)) rows
+      → Run (puttingWrites l s law x xs (leaves a)) l l′
       → Either (Bears size (contentsOf s) (notesFor s) l′) (Bears size (contentsOf next) (notesFor next) l′)
   granted-cut (At i at) g r = gap-cut g r
   granted-cut Nowhere g r = closing-put-cut g r
 
-  granted-made : (p : Gap) → p ≡ lowestGap (length xs) (sizeOf (s .block)) rows → Made size next (madeAll (puttingWrites l s law x xs (leaves a)) l)
+  granted-made : (p : Gap) → p ≡ lowestGap (length xs) (sizeOf (s .block)) rows
+      → Made size next (madeAll (puttingWrites l s law x xs (leaves a)) l)
   granted-made (At i at) g = gap-made g
   granted-made Nowhere g = closing-put-made g
 
-  granted-tells : (p : Gap) → p ≡ lowestGap (length xs) (sizeOf (s .block)) rows → putTells l s law x xs (leaves a) ≡ Done (a .first) (a .second)
+  granted-tells : (p : Gap) → p ≡ lowestGap (length xs) (sizeOf (s .block)) rows
+      → putTells l s law x xs (leaves a) ≡ Done (a .first) (a .second)
   granted-tells (At i at) g = gap-tells g
   granted-tells Nowhere g = closing-tells g
 

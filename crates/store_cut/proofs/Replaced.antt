@@ -1,5 +1,5 @@
--- A replace: a put under a number that is not in use, and then the swap of the two. `replace-whole`: wherever either is cut, the old greeting
--- reads as it did until the new one reads under its number.
+-- A replace: a put under a number that is not in use, and then the swap of the two. `replace-whole`: wherever either is cut, the old
+-- greeting reads as it did until the new one reads under its number.
 use Prim.Native.Nat.{ℕ, _≤_, min}
 use mathlib.Core.Path.{_≡_, refl, sym, ap, subst, _∙_}
 use mathlib.Core.List.{List, _∷_, _++_}
@@ -19,7 +19,7 @@ use Rattle.store_promises.proofs.Contents.{kept, contents-append, contents-cons
 use Rattle.store_promises.proofs.Numbers.{Fresh, Distinct, fresh-of, fresh-append, distinct-behind}
 use Rattle.store_promises.proofs.Looked.{fresh-missing, look-put}
 use Rattle.store_promises.proofs.Granted.{sane-distinct, delete-back, delete-block}
-use Rattle.store_promises.proofs.Promises.{put-reads-new, put-reads-others, delete-reads-others, here-same, Keeps, call-kept}
+use Rattle.store_promises.proofs.Promises.{put-reads-new, put-reads-others, delete-reads-others, call-kept}
 use Rattle.store_moves.specs.Next.{renumberedTo, Changed, changes, not-next, refused as declined}
 use Rattle.store_cut.specs.Lasting.{Lasting}
 use Rattle.store_cut.specs.Runs.{Asks, put, swap, swapOf, swapped, asked, found, cut-in, Goes, contentsOf, Holds, as-before, as-after}
@@ -70,7 +70,8 @@ module _ {size : ℕ} {t : List ℕ} {l : Lasting} (z : Ready size t l) (old new
       let k = call-kept size (deleting old) s (z .keeps) in
       let fresh = subst (Fresh old) (f .is) (fresh-of old (rowsIn (gone z old)) (n .free)) in
       let apart = fresh-append old (f .before) (f .row ∷ f .behind) fresh in
-      let d = distinct-behind (f .before) (f .row) (f .behind) (subst Distinct (f .is) (sane-distinct (sizeOf b) (gone z old .table) (k .sane))) in
+      let d = distinct-behind (f .before) (f .row) (f .behind)
+      (subst Distinct (f .is) (sane-distinct (sizeOf b) (gone z old .table) (k .sane))) in
       let other : old ≡ new → ⊥ = λ q. not-fresh old (f .row) (f .behind) (apart .1) (f .number ∙ sym q) in
       let w = delete-back b (s .table) old e in
       let rows-are : rowsIn (gone z old) ≡ a .rows = ap (λ (o : Outcome). rowsOf (tableAfter o (s .table))) e ∙ w .rows-are in
@@ -125,7 +126,8 @@ pub record Replaced (old : ℕ) (xs : List ℕ) (s m₁ m₂ : Store) : Type 0 w
   pub put-first : lookUp old (contentsOf m₁) ≡ lookUp old (contentsOf s)
   pub old-or-new : Either (lookUp old (contentsOf m₂) ≡ lookUp old (contentsOf s)) (lookUp old (contentsOf m₂) ≡ here xs)
 
-pub replace-whole : {size : ℕ} {t : List ℕ} {l m₁ m₂ : Lasting} (law old new : ℕ) (xs : List ℕ) → storeCells (min size largestBlock) ≤ length t
+pub replace-whole : {size : ℕ} {t : List ℕ} {l m₁ m₂ : Lasting} (law old new : ℕ) (xs : List ℕ)
+    → storeCells (min size largestBlock) ≤ length t
     → Ready size t l → (old ≡ new → ⊥) → lookUp new (contentsOf (found t l)) ≡ missing → Goes t l (cut-in (put law new xs)) m₁
     → Goes t m₁ (cut-in (swap old new)) m₂ → Replaced old xs (found t l) (found t m₁) (found t m₂)
 replace-whole {size} {t} {l} {m₁} {m₂} law old new xs c z other none g₁ g₂ =
@@ -134,7 +136,8 @@ replace-whole {size} {t} {l} {m₁} {m₂} law old new xs c z other none g₁ g�
     let p = after-put (either-reads (h₁ .1)) in
     record { put-first = p .stays; old-or-new = go (h₁ .0) p (either-reads (h₂ .1)) }
   where
-    after-put : Either (contentsOf (found t m₁) ≡ contentsOf (found t l)) (contentsOf (found t m₁) ≡ contentsOf (asked (put law new xs) (found t l)))
+    after-put : Either (contentsOf (found t m₁) ≡ contentsOf (found t l))
+        (contentsOf (found t m₁) ≡ contentsOf (asked (put law new xs) (found t l)))
         → Put z old new xs (found t m₁)
     after-put (before e) = record { stays = ap (lookUp old) e; new-one = before (ap (lookUp new) e ∙ none) }
     after-put (after e) =
@@ -145,13 +148,17 @@ replace-whole {size} {t} {l} {m₁} {m₂} law old new xs c z other none g₁ g�
         }
 
     go : (k : Ready size t m₁) → Put z old new xs (found t m₁)
-        → Either (contentsOf (found t m₂) ≡ contentsOf (found t m₁)) (contentsOf (found t m₂) ≡ contentsOf (asked (swap old new) (found t m₁)))
-        → Either (lookUp old (contentsOf (found t m₂)) ≡ lookUp old (contentsOf (found t l))) (lookUp old (contentsOf (found t m₂)) ≡ here xs)
+        → Either (contentsOf (found t m₂) ≡ contentsOf (found t m₁))
+        (contentsOf (found t m₂) ≡ contentsOf (asked (swap old new) (found t m₁)))
+        → Either (lookUp old (contentsOf (found t m₂)) ≡ lookUp old (contentsOf (found t l)))
+        (lookUp old (contentsOf (found t m₂)) ≡ here xs)
     go k p (before e) = before (ap (lookUp old) e ∙ p .stays)
     go k p (after e) =
-        pick (swap-took k old new (swapOf (found t m₁ .block) (found t m₁ .table) old new (deleteOf (found t m₁ .block) (found t m₁ .table) old)) refl)
+        pick (swap-took k old new (swapOf (found t m₁ .block) (found t m₁ .table) old new
+        (deleteOf (found t m₁ .block) (found t m₁ .table) old)) refl)
       where
-        pick : Either (contentsOf (asked (swap old new) (found t m₁)) ≡ contentsOf (found t m₁)) (Took k old new (asked (swap old new) (found t m₁)))
+        pick : Either (contentsOf (asked (swap old new) (found t m₁)) ≡ contentsOf (found t m₁))
+            (Took k old new (asked (swap old new) (found t m₁)))
             → Either (lookUp old (contentsOf (found t m₂)) ≡ lookUp old (contentsOf (found t l)))
             (lookUp old (contentsOf (found t m₂)) ≡ here xs)
         pick (before q) = before (ap (lookUp old) (e ∙ q) ∙ p .stays)

@@ -37,10 +37,12 @@ use Rattle.store_cut.specs.Lasting.{Lasting, lasting, pageIn, Write, mad
 use Rattle.store_cut.specs.Writes.{textOf, stepsWrites, turnWrites}
 use Rattle.store_cut.specs.Runs.{Asks, put, delete, swap, swapOf, swapped, asked, deletingWrites, swappingWrites, writesOf}
 use Rattle.store_cut.specs.Runs.{startWrites, Started, start-made, start-again, found}
-use Rattle.store_cut.specs.Runs.{Entry, uncut, cut-in, Goes, goes-uncut, goes-cut, Each, no-more, and-then, Loaded, contentsOf, Same, Alike, Holds}
+use Rattle.store_cut.specs.Runs.{Entry, uncut, cut-in, Goes, goes-uncut, goes-cut, Each, no-more, and-then, Loaded, contentsOf, Same}
+use Rattle.store_cut.specs.Runs.{Alike, Holds}
 use Rattle.store_cut.specs.Runs.{as-made, as-before, as-after}
 use Rattle.store_cut.proofs.Stands.{Says, empty, Stands, Bears}
-use Rattle.store_cut.proofs.Cut.{Rests, rests-stands, rests-bears, says-loads, Either, before, after, start-cut, start-rests, turned, turn-cut}
+use Rattle.store_cut.proofs.Cut.{Rests, rests-stands, rests-bears, says-loads, Either, before, after, start-cut, start-rests, turned}
+use Rattle.store_cut.proofs.Cut.{turn-cut}
 use Rattle.store_cut.proofs.Calls.{keeps-fine, fine-keeps, Made}
 use Rattle.store_cut.proofs.Tables.{laid-notes, unchanged, renumber-keeps}
 use Rattle.store_cut.proofs.Puts.{page-of, alike-rests, put-writes-cut, put-writes-made}
@@ -181,9 +183,11 @@ module _ {size : ℕ} {t : List ℕ} {l : Lasting} (z : Ready size t l) where
   unfolding deletingWrites
   delete-cut x (refused w) e all = before (rests-bears (z .rests))
   delete-cut {k} x (leaves a) e r =
-      turn-cut (z .rests) (keeps-fine (call-kept size (deleting x) s (z .keeps))) (subst (λ (ws : List Write). Run ws l k) (delete-writes x e) r)
+      turn-cut (z .rests) (keeps-fine (call-kept size (deleting x) s (z .keeps)))
+      (subst (λ (ws : List Write). Run ws l k) (delete-writes x e) r)
 
-  delete-made : (x : ℕ) (o : Outcome) → deleteOf (s .block) (s .table) x ≡ o → Made size (see (deleting x) s) (madeAll (deletingWrites l o) l)
+  delete-made : (x : ℕ) (o : Outcome) → deleteOf (s .block) (s .table) x ≡ o
+      → Made size (see (deleting x) s) (madeAll (deletingWrites l o) l)
   unfolding deletingWrites madeAll
   delete-made x (refused w) e = record { page = z .page; rests = alike-rests (delete-refused x e) (z .rests); block = refl }
   delete-made x (leaves a) e =
@@ -223,8 +227,10 @@ module _ {size : ℕ} {t : List ℕ} {l : Lasting} (z : Ready size t l) where
   swap-few : (old : ℕ) (rows : List Row) → Keeps size (swapped s (gone old) (changes rows)) → length rows ≤ 32
   swap-few old rows k = omega (arith, keeps-fine k .few, ap length (rows-laid rows (gone old .table)))
 
-  swap-cut : {k : Lasting} (old : ℕ) (c : Changed) → Keeps size (swapped s (gone old) c) → Run (swappingWrites l (notesFor (gone old)) c) l k
-      → Either (Bears size (contentsOf s) (notesFor s) k) (Bears size (contentsOf (swapped s (gone old) c)) (notesFor (swapped s (gone old) c)) k)
+  swap-cut : {k : Lasting} (old : ℕ) (c : Changed) → Keeps size (swapped s (gone old) c)
+      → Run (swappingWrites l (notesFor (gone old)) c) l k
+      → Either (Bears size (contentsOf s) (notesFor s) k)
+      (Bears size (contentsOf (swapped s (gone old) c)) (notesFor (swapped s (gone old) c)) k)
   unfolding swappingWrites
   swap-cut {k} old (changes rows) m r =
       turn-cut (z .rests) (keeps-fine m) (subst (λ (ws : List Write). Run ws l k) (swap-writes old rows (swap-few old rows m)) r)

@@ -35,7 +35,8 @@ written-torn b xs at n e h =
     record {
       before = take-at (take at b) (xs ++ drop (at + length xs) b) at (length-take-le at b (omega arith));
       behind =
-          ap (λ (x : ℕ). drop x (written b at xs)) k ∙ high-part b xs at f (at + length xs) (omega arith) ∙ ap (λ (x : ℕ). drop x b) (sym k);
+          ap (λ (x : ℕ). drop x (written b at xs)) k ∙ high-part b xs at f (at + length xs) (omega arith)
+          ∙ ap (λ (x : ℕ). drop x b) (sym k);
       size = length-written b at xs f;
     }
 
@@ -109,7 +110,8 @@ module _ (page : ℕ) (b s p q : List ℕ) (m : Move) (ws : List Write) (t : Tel
       (lasting b s p q (wordsOf page (Moving m))) l′ → Went page b s p q (Moving m) ws l′
   lift-run d (cut (cut-spare {s′ = s′} c)) = torn (cut-lift d (subst (λ (k : ℕ). Torn 0 k s s′) (lift-long b s m t d .0) c))
   lift-run d (on (cut cut-record)) =
-      torn (cut-lift d (written-torn s (take (lift s m) (drop (source m) b)) 0 (lift s m) (lift-long b s m t d .0) (lift-long b s m t d .1)))
+      torn (cut-lift d (written-torn s (take (lift s m) (drop (source m) b)) 0 (lift s m) (lift-long b s m t d .0)
+      (lift-long b s m t d .1)))
   lift-run d (on (on r)) = follows (Moving m) (lift-is b s m t d) r
 
   lay-run : {l′ : Lasting} → distance m < length s
@@ -132,7 +134,8 @@ one-step page b s p q (Moving m) ws {l′} (sane-moving t) r = go (direct s m) r
 one-step page b s p q (Lifted m) ws (sane-lifted t d) r = lay-run page b s p q m ws t d r
 
 -- a step that was cut stands for the same store; where it was not, by what follows
-bears-went : {size page : ℕ} {K : List Kept} {N : List Note} {rows : List Row} (b s p q : List ℕ) (st : State) (ws : List Write) {l′ : Lasting}
+bears-went : {size page : ℕ} {K : List Kept} {N : List Note} {rows : List Row} (b s p q : List ℕ) (st : State) (ws : List Write)
+    {l′ : Lasting}
     → Stands size K N page st rows (lasting b s p q (wordsOf page st))
     → (Run ws (lasting (stepped b s st .block) (stepped b s st .spare) p q (wordsOf page (stepped b s st .state))) l′ → Bears size K N l′)
     → Went page b s p q st ws l′ → Bears size K N l′
@@ -160,7 +163,8 @@ one-made page b s p q Still ws z =
 one-made page b s p q (Moving m) ws (sane-moving t) = go (direct s m) refl
   where
     go : (x : Bool) → direct s m ≡ x → madeAll (stepWrites page b s (Moving m) ++ ws) (lasting b s p q (wordsOf page (Moving m)))
-        ≡ madeAll ws (lasting (stepped b s (Moving m) .block) (stepped b s (Moving m) .spare) p q (wordsOf page (stepped b s (Moving m) .state)))
+        ≡ madeAll ws (lasting (stepped b s (Moving m) .block) (stepped b s (Moving m) .spare) p q
+        (wordsOf page (stepped b s (Moving m) .state)))
     go true e =
         rw e (ap (λ (x : Lasts). madeAll ws (lasting (x .block) (x .spare) p q (wordsOf page (x .state))))
         (sym (direct-is b s m t (leb-true (length s) (distance m) e))))

@@ -21,23 +21,24 @@ use Rattle.store_rows.proofs.Lists.{same-drop}
 use Rattle.store_rows.proofs.Cells.{length-rows, length-cells, rows-laid, count-laid}
 use Rattle.store_greeting.specs.Marks.{Note}
 use Rattle.store_notes.specs.Notes.{True}
-use Rattle.store_notes.specs.Cells.{heads, headsOf, notesIn, notesOf}
+use Rattle.store_notes.specs.Cells.{headsOf, notesIn, notesOf}
 use Rattle.store_notes.specs.Sane.{storeCells, matched, saneStore}
 use Rattle.store_notes.proofs.Noting.{heads-notes}
 use Rattle.store_notes.proofs.Matched.{sane-noted}
 use Rattle.store.specs.declared.Refusal.{Refusal}
 use Rattle.store.specs.declared.Refusal.the-variants.{Number, Absent, Taken}
 use Rattle.store_promises.specs.Told.{Store, rowsIn, notesFor}
-use Rattle.store_promises.specs.Kept.{Along, isGood, Good}
+use Rattle.store_promises.specs.Kept.{Along, Good}
 use Rattle.store_promises.proofs.Along.{length-contents}
 use Rattle.store_promises.proofs.Rising.{rising-any}
-use Rattle.store_promises.proofs.Numbers.{Fresh, Distinct, fresh-of, numbered-of, distinct-remove, inserted-distinct, fresh-append, fresh-join}
+use Rattle.store_promises.proofs.Numbers.{Fresh, Distinct, fresh-of, numbered-of, distinct-remove, inserted-distinct, fresh-append}
+use Rattle.store_promises.proofs.Numbers.{fresh-join}
 use Rattle.store_promises.proofs.Numbers.{FoundAt, find-split}
 use Rattle.store_promises.proofs.Granted.{low-number, high-number}
 use Rattle.store_promises.proofs.Loaded.{true-matched}
 use Rattle.store_promises.proofs.Promises.{Keeps}
 use Rattle.store_moves.specs.declared.calls.Due.the-variants.{Goes}
-use Rattle.store_moves.specs.Next.{nextOf, replaceAt, movedAt, renumberedTo, renumberedAt, Changed, changes, refused, movedIn, renumberIn}
+use Rattle.store_moves.specs.Next.{nextOf, replaceAt, movedAt, renumberedTo, renumberedAt, changes, refused, movedIn, renumberIn}
 use Rattle.store_moves.specs.Calls.{movedOf}
 use Rattle.store_moves.proofs.Calling.{number-is, moved-there}
 use Rattle.store_cut.specs.Lasting.{Lasting, madeAll}
@@ -81,7 +82,8 @@ module _ (rows : List Row) (t : List ℕ) where
       let c : length rows ≡ getD t 0 0 = l ∙ length-rows t (getD t 0 0) 1 in
       let few : length rows ≤ 32 = omega (arith, k .order .few) in
       let long = laid-long (omega (arith, k .cells)) in
-      let l₁ : ltb (length (laid rows t)) (storeCells size) ≡ false = le-ltb (length (laid rows t)) (storeCells size) (omega (arith, k .cells)) in
+      let l₁ : ltb (length (laid rows t)) (storeCells size) ≡ false = le-ltb (length (laid rows t)) (storeCells size)
+      (omega (arith, k .cells)) in
       let l₂ : ltb (length (laid rows t)) 97 ≡ false = le-ltb (length (laid rows t)) 97 (omega (arith, k .cells)) in
       let second : getD (laid rows t) 97 0 ≡ length rows =
       sym (getD-drop 97 (laid rows t) 0 0) ∙ ap (λ (u : List ℕ). getD u 0 0) (laid-from 97 (omega arith)) ∙ getD-drop 97 t 0 0 ∙ k .count
@@ -136,7 +138,8 @@ closing-keeps n {size} {page} {s} {l} k z =
     let f = e .rests .fine in
     let b = madeAll (closingWrites n page l (rowsIn s) (notesFor s) (nextOf (rowsIn s))) l .block in
     let rows = closingRows n (rowsIn s) (nextOf (rowsIn s)) in
-    let count : length rows ≡ length (rowsIn s) = sym (length-contents b rows) ∙ ap length (f .reads) ∙ length-contents (s .block) (rowsIn s) in
+    let count : length rows ≡ length (rowsIn s) = sym (length-contents b rows) ∙ ap length (f .reads)
+    ∙ length-contents (s .block) (rowsIn s) in
     laid-keeps b rows k f count (k .good) (k .marks)
 
 distinct-among : (pre : List Row) (r : Row) (post : List Row) → Distinct (pre ++ (r ∷ post)) → (1 ≤ r .number) × (r .number ≤ mostNumber)
@@ -213,7 +216,8 @@ module _ (b : List ℕ) (x : ℕ) (r : Row) (post : List Row) where
   unfolding rising
   renumber-rises [] least at size = refl
   renumber-rises (a ∷ pre) least at size =
-      ap (λ (v : Bool). cond (ltb (a .start) at) false (cond (ltb (a .octets) least) false (cond (ltb size (a .start + a .octets)) false v)))
+      ap (λ (v : Bool). cond (ltb (a .start) at) false
+      (cond (ltb (a .octets) least) false (cond (ltb size (a .start + a .octets)) false v)))
       (renumber-rises pre least (a .start + a .octets) size)
 
   renumber-good : (pre : List Row) (notes : List Note) → Good (contents b (pre ++ (r ∷ post))) notes
@@ -264,7 +268,9 @@ renumber-keeps {size} {s} {rows} y x k e =
     let fine : Fine size (contents b rows′) b rows′ = record {
       long = f .long;
       few = omega (arith, f .few);
-      rises = renumber-rises b x r post pre 1 0 (min size largestBlock) ∙ subst (λ (rs : List Row). rising 1 0 (min size largestBlock) rs ≡ true)
+      rises =
+          renumber-rises b x r post pre 1 0 (min size largestBlock)
+          ∙ subst (λ (rs : List Row). rising 1 0 (min size largestBlock) rs ≡ true)
           (d .is) (f .rises);
       apart = renumber-distinct x pre r post (c .numbers) fresh (subst Distinct (d .is) (f .apart));
       reads = refl;

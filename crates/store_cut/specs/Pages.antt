@@ -1,5 +1,5 @@
--- A page as octets: "Its text ends before its first octet 0, or at the page's end; the write of a text covers that 0." The same runs, of what
--- lasts with its pages so; a box reads them by `textsOf`.
+-- A page as octets: "Its text ends before its first octet 0, or at the page's end; the write of a text covers that 0." The same runs, of
+-- what lasts with its pages so; a box reads them by `textsOf`.
 use Prim.Native.Nat.{ℕ}
 use mathlib.Core.List.{List, [], _∷_, _++_}
 use mathlib.Core.Bool.{cond}
@@ -52,4 +52,5 @@ pub data StartedOn : Lasting → Lasting → Type 0 where
 
 pub data GoesOn (t : List ℕ) (l : Lasting) : Entry → Lasting → Type 0 where
   uncut-on : {a : Asks} {m : Lasting} → StartedOn (madeAllOn (writesOf a (textsOf l) (found t (textsOf l))) l) m → GoesOn t l (uncut a) m
-  cut-in-on : {a : Asks} {k m : Lasting} → RunOn (writesOf a (textsOf l) (found t (textsOf l))) l k → StartedOn k m → GoesOn t l (cut-in a) m
+  cut-in-on : {a : Asks} {k m : Lasting} → RunOn (writesOf a (textsOf l) (found t (textsOf l))) l k → StartedOn k m
+      → GoesOn t l (cut-in a) m
