@@ -1,8 +1,8 @@
 -- How many writes a move asks for: a chunk has as many octets as the distance or the spare has, whichever is more, but for the last one
 -- (`chunks-enough`). Directly it is two writes a chunk, octets and record (`direct-few`); through the spare four (`spare-few`). With the
--- text and the record before them: `move-few`.
+-- text and the record before them: `move-few`. All moves, and a put with its octets, text and record: `closing-few`, `put-few`.
 use Prim.Native.Nat.{ℕ, zero, suc, _+_, _-_, _*_, _/_, _≤_, _<_}
-use mathlib.Core.Path.{_≡_, refl, sym, ap, _∙_}
+use mathlib.Core.Path.{_≡_, refl, sym, ap, subst, _∙_}
 use mathlib.Core.List.{List, []}
 use mathlib.Core.Bool.{Bool, true, false, cond}
 use native.Mathlib.Omega.{arith}
@@ -11,17 +11,30 @@ use lib.ListN.{length, take, drop, length-append}
 use lib.Dec.{leb}
 use borrow.Author.Tests.{le-leb, lt-leb, leb-true, leb-false}
 use Rattle.store_rows.specs.declared.rows.Row.{Row}
-use Rattle.store_rows.specs.Changed.{written}
+use Rattle.store_rows.specs.declared.rows.Gap.the-variants.{At}
+use Rattle.store_rows.specs.Rows.{Kept}
+use Rattle.store_rows.specs.Changed.{nth, written}
 use Rattle.store_greeting.specs.Marks.{Note}
+use Rattle.store.specs.Store.{leaves, After}
+use Rattle.store.specs.Calls.{putOf}
+use Rattle.store_promises.specs.Told.{Store, rowsIn, notesFor}
 use Rattle.store_promises.proofs.Contents.{length-written}
+use Rattle.store_promises.proofs.Promises.{Keeps}
 use Rattle.store_moves.specs.declared.steps.Move.{Move}
 use Rattle.store_moves.specs.declared.steps.State.{State}
 use Rattle.store_moves.specs.declared.steps.State.the-variants.{Still, Moving, Lifted}
+use Rattle.store_moves.specs.declared.calls.Due.{Due}
+use Rattle.store_moves.specs.declared.calls.Due.the-variants.{Goes, Closed}
+use Rattle.store_moves.specs.Next.{nextOf, movedAt}
 use Rattle.store_moves.specs.Moves.{Lasts, lasts, distance, left, source, place, hop, lift, doneMore, onward, stepped, Tells}
 use Rattle.store_moves.proofs.Stepping.{onward-end, onward-more}
-use Rattle.store_cut.specs.Lasting.{Lasting}
-use Rattle.store_cut.specs.Writes.{stepWrites, stepsWrites, begun, moveWrites}
+use Rattle.store_cut.specs.Lasting.{Lasting, Write}
+use Rattle.store_cut.specs.Writes.{stepWrites, stepsWrites, begun, moveWrites, closingWrites, putWrites}
+use Rattle.store_cut.specs.Closing.{wider, chunks, closingMost}
+use Rattle.store_cut.specs.Runs.{contentsOf, puttingWrites}
 use Rattle.store_cut.proofs.Steps.{hop-long, lift-long, lay-long, direct-is, lift-is, lay-is}
+use Rattle.store_cut.proofs.Cut.{Rests, Either, before, after, due-made, due-spare, due-tells, one, others}
+use Rattle.store_cut.proofs.Puts.{put-order}
 
 -- no writes where all is still
 still-none : (n page : ℕ) (b s : List ℕ) → stepsWrites n page (lasts b s Still) ≡ []
@@ -144,10 +157,6 @@ spare-few (suc k) n page b s m t h g = spare-turn k n page b s m t h g (λ j b�
 
 -- ---- of a whole move
 
--- "max(distance, spare)"
-abbrev pub wider : ℕ → ℕ → ℕ
-wider d spare = cond (leb spare d) d spare
-
 -- so many chunks are enough: "n / max(distance, spare)", rounded up
 pub chunks-enough : (n w : ℕ) → 1 ≤ w → n ≤ (n + w - 1) / w * w
 chunks-enough n w h = omega (arith, div-add-mod' (n + w - 1) w, mod-lt (n + w - 1) {m = w} h)
@@ -167,3 +176,54 @@ move-few k page l r to rows notes t g = go (leb (length (l .spare)) (r .start - 
         let f = spare-few k (2 * r .octets) page (l .block) (l .spare) (begun to r) t (leb-false (length (l .spare)) (r .start - to) e)
         (omega arith) in
         omega arith
+
+-- ---- of all moves, and of a put
+
+wider-some : (d spare : ℕ) → 1 ≤ d → 1 ≤ wider d spare
+wider-some d spare h = go (leb spare d) refl
+  where
+    go : (x : Bool) → leb spare d ≡ x → 1 ≤ cond x d spare
+    go true e = h
+    go false e = let k = leb-false spare d e in omega arith
+
+few-step : (n : ℕ) {size page : ℕ} {K : List Kept} {N : List Note} {rows : List Row} {l : Lasting} (z : Rests size K N page rows l)
+    (x : Due) → x ≡ nextOf rows
+    → ((i at : ℕ) → Goes i at ≡ nextOf rows
+    → length (others n z i at) ≤ closingMost n (length (l .spare)) (movedAt i at rows) (nextOf (movedAt i at rows)))
+    → length (closingWrites (suc n) page l rows N x) ≤ closingMost (suc n) (length (l .spare)) rows x
+unfolding closingWrites closingMost
+few-step n z Closed e f = omega arith
+few-step n {page = page} {N = N} {rows = rows} {l = l} z (Goes i at) e f =
+    let t = due-tells z e in
+    let r = nth i rows in
+    let d : 1 ≤ r .start - at = omega (arith, t .down) in
+    let w = wider (r .start - at) (length (l .spare)) in
+    let few = move-few (chunks (r .octets) (r .start - at) (length (l .spare))) page l r at (movedAt i at rows) N t
+    (chunks-enough (r .octets) w (wider-some (r .start - at) (length (l .spare)) d)) in
+    omega (arith, length-append (one n z i at) (others n z i at), few, f i at e)
+
+pub closing-few : (n : ℕ) {size page : ℕ} {K : List Kept} {N : List Note} {rows : List Row} {l : Lasting} → Rests size K N page rows l
+    → length (closingWrites n page l rows N (nextOf rows)) ≤ closingMost n (length (l .spare)) rows (nextOf rows)
+unfolding closingWrites closingMost
+closing-few zero z = omega arith
+closing-few (suc n) {page = page} {N = N} {rows = rows} {l = l} z =
+    few-step n z (nextOf rows) refl (λ i at e.
+    subst (λ (k : ℕ). length (others n z i at) ≤ closingMost n k (movedAt i at rows) (nextOf (movedAt i at rows))) (due-spare z e)
+    (closing-few n (due-made z e)))
+
+moves-few : {size page : ℕ} {K : List Kept} {N : List Note} {rows : List Row} {l : Lasting} → Rests size K N page rows l → (ws : List Write)
+    → Either (ws ≡ []) (ws ≡ closingWrites (length rows) page l rows N (nextOf rows))
+    → length ws ≤ closingMost (length rows) (length (l .spare)) rows (nextOf rows)
+moves-few z ws (before q) = omega (arith, ap length q)
+moves-few {rows = rows} z ws (after q) = omega (arith, ap length q, closing-few (length rows) z)
+
+-- a put: its moves, if any; then its octets, the text and the record
+pub put-few : {size page : ℕ} {s : Store} {l : Lasting} (k : Keeps size s) (law x : ℕ) (xs : List ℕ)
+    → (z : Rests size (contentsOf s) (notesFor s) page (rowsIn s) l) → s .block ≡ l .block → {a : After}
+    → putOf (s .block) (s .table) law x xs ≡ leaves a
+    → length (puttingWrites l s law x xs (leaves a)) ≤ closingMost (length (rowsIn s)) (length (l .spare)) (rowsIn s) (nextOf (rowsIn s)) +
+    3
+put-few {size} {page} {s} {l} k law x xs z b e =
+    let o = put-order k law x xs z b e in
+    let last = putWrites (o .last-page) (o .block-then) (o .rows-then) (notesFor s) law x xs (At (o .index) (o .place)) in
+    omega (arith, ap length (o .is), length-append (o .moves) last, moves-few z (o .moves) (o .moves-are))

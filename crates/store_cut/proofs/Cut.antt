@@ -51,7 +51,7 @@ use Rattle.store_cut.specs.Closing.{closingRows}
 use Rattle.store_cut.specs.Writes.{textOf, stepsWrites, begun, moveWrites, closingWrites, turnWrites, putWrites}
 use Rattle.store_cut.proofs.Reading.{written-reads, torn-reads, moved-rises, moved-reads, moved-distinct}
 use Rattle.store_cut.proofs.Stands.{Fine, Says, saved, empty, Stands, Bears, bears, rests}
-use Rattle.store_cut.proofs.Steps.{steps-run, steps-made}
+use Rattle.store_cut.proofs.Steps.{steps-run, steps-made, finish-spare}
 
 -- ---- a start
 
@@ -415,7 +415,7 @@ module _ {size page : ℕ} {K : List Kept} {N : List Note} {l : Lasting} (pre : 
         reads = moved-reads (l .block) (min size largestBlock) to pre r post d (a .inside) enough (a .some) f (a .behind) ∙ z .fine .reads;
       }
 
-  tells : Tells (l .block) (begun to r)
+  pub tells : Tells (l .block) (begun to r)
   tells =
       let a = among in
       let long = z .fine .long in
@@ -486,6 +486,11 @@ module _ {size page : ℕ} {K : List Kept} {N : List Note} {l : Lasting} (pre : 
       ap (λ (x : List Write). madeAll x l .block) sized ∙ ap (λ (x : Lasting). x .block) ended
       ∙ w .block ∙ start-whole (l .block) (l .spare) (r .start) to (r .octets)
 
+  pub move-spare : length (madeAll (moveWrites page l r to moved N) l .spare) ≡ length (l .spare)
+  move-spare =
+      ap (λ (x : List Write). length (madeAll x l .spare)) sized ∙ ap (λ (x : Lasting). length (x .spare)) ended
+      ∙ finish-spare (2 * r .octets) begins (sane-moving tells)
+
 -- ---- closing up, move by move
 
 strictly : (a b : ℕ) → a ≤ b → (b ≡ a → ⊥) → a < b
@@ -541,6 +546,15 @@ module _ {size page : ℕ} {K : List Kept} {N : List Note} {rows : List Row} {l 
       ≡ paste (l .block) at (drop (due .row .start) (l .block)) (due .row .octets)
   due-block =
       ap (λ (x : List Write). madeAll x l .block) same-writes ∙ move-block (due .pre) (due .row) (due .post) at apart below front
+
+  pub due-spare : length (madeAll (moveWrites page l (nth i rows) at (movedAt i at rows) N) l .spare) ≡ length (l .spare)
+  due-spare =
+      ap (λ (x : List Write). length (madeAll x l .spare)) same-writes
+      ∙ move-spare (due .pre) (due .row) (due .post) at apart below front
+
+  pub due-tells : Tells (l .block) (begun at (nth i rows))
+  due-tells =
+      subst (λ (r : Row). Tells (l .block) (begun at r)) (sym same-row) (tells (due .pre) (due .row) (due .post) at apart below front)
 
 by-either : {A B C : Type 0} → (A → C) → (B → C) → Either A B → C
 by-either f g (before x) = f x

@@ -182,3 +182,27 @@ steps-made zero page l p q z = refl
 steps-made (suc n) page l p q z =
     one-made page (l .block) (l .spare) p q (l .state) (stepsWrites n page (step l)) z
     ∙ steps-made n page (step l) p q (sane-step (l .block) (l .spare) (l .state) z)
+
+-- the spare keeps its length
+lifted-spare : (b s : List ℕ) (m : Move) → Tells b m → distance m < length s
+    → length (written s 0 (take (lift s m) (drop (source m) b))) ≡ length s
+lifted-spare b s m t h =
+    let c = lift-long b s m t h in
+    length-written s 0 (take (lift s m) (drop (source m) b)) (omega (arith, c .0, c .1))
+
+step-spare : (b s : List ℕ) (st : State) → Sane b s st → length (stepped b s st .spare) ≡ length s
+step-spare b s Still z = ap (λ (x : Lasts). length (x .spare)) (step-still b s refl)
+step-spare b s (Moving m) (sane-moving t) = go (direct s m) refl
+  where
+    go : (x : Bool) → direct s m ≡ x → length (stepped b s (Moving m) .spare) ≡ length s
+    go true e = ap (λ (x : Lasts). length (x .spare)) (direct-is b s m t (leb-true (length s) (distance m) e))
+    go false e =
+        let h = leb-false (length s) (distance m) e in
+        ap (λ (x : Lasts). length (x .spare)) (lift-is b s m t h) ∙ lifted-spare b s m t h
+step-spare b s (Lifted m) (sane-lifted t d) = ap (λ (x : Lasts). length (x .spare)) (lay-is b s m)
+
+pub finish-spare : (n : ℕ) (l : Lasts) → Sane (l .block) (l .spare) (l .state) → length (finish n l .spare) ≡ length (l .spare)
+unfolding finish
+finish-spare zero l z = refl
+finish-spare (suc n) l z =
+    finish-spare n (step l) (sane-step (l .block) (l .spare) (l .state) z) ∙ step-spare (l .block) (l .spare) (l .state) z
