@@ -24,29 +24,34 @@ use Rattle.store_greeting.specs.Marks.{Note, noteOf}
 use Rattle.store_notes.specs.Notes.{True, insertNote}
 use Rattle.store_notes.specs.Sane.{storeCells}
 use Rattle.store.specs.Store.{leaves}
-use Rattle.store_save.specs.Saved.{loadOf}
+use Rattle.store_text.specs.Table.{tableText}
+use Rattle.store_text.specs.Noted.{rowsListed, notesListed}
+use Rattle.store_text.specs.Form.{anyFar}
+use Rattle.store_save.specs.Saved.{anyBad, early, loadOf}
 use Rattle.store_rows.proofs.Rising.{rising-head}
 use Rattle.store_promises.specs.Kept.{Good}
 use Rattle.store_promises.proofs.Along.{along-length, length-contents}
 use Rattle.store_promises.proofs.Rising.{rising-nil, rising-cons, closing-rises}
 use Rattle.store_promises.proofs.Contents.{length-written}
 use Rattle.store_promises.proofs.Gaps.{Split, gap-split}
-use Rattle.store_promises.proofs.Sayable.{load-of}
+use Rattle.store_promises.proofs.Numbers.{Distinct}
+use Rattle.store_promises.proofs.Sayable.{load-of, early-of}
 use Rattle.store_moves.specs.declared.steps.State.{State}
 use Rattle.store_moves.specs.declared.steps.State.the-variants.{Still, Moving}
 use Rattle.store_moves.specs.declared.calls.Due.{Due}
 use Rattle.store_moves.specs.declared.calls.Due.the-variants.{Goes, Closed}
 use Rattle.store_moves.specs.Moves.{Lasts, lasts, finish, ahead, Torn, Tells, sane-moving}
 use Rattle.store_moves.specs.Record.{pageOf, wordsFor, wordsOf, stillWith, Kept as Words, kept, startOf}
-use Rattle.store_moves.specs.Next.{nextFrom, nextOf, movedAt}
+use Rattle.store_moves.specs.Next.{nextFrom, nextOf, replaceAt, movedAt}
 use Rattle.store_moves.proofs.Moved.{finish-whole, start-whole}
 use Rattle.store_moves.proofs.Started.{start-finish}
 use Rattle.store_cut.specs.Lasting.{Lasting, lasting, pageIn, Write, to-page, to-record, withPage, made, madeAll, cut-block}
 use Rattle.store_cut.specs.Lasting.{cut-page, cut-record, Run, all, cut, on}
+use Rattle.store_cut.specs.Closing.{closingRows}
 use Rattle.store_cut.specs.Writes.{textOf, stepsWrites, begun, moveWrites, closingWrites, turnWrites, putWrites}
 use Rattle.store_cut.proofs.Reading.{written-reads, torn-reads, moved-rises, moved-reads, moved-distinct}
-use Rattle.store_cut.proofs.Stands.{Fine, Stands, Bears, bears, rests}
-use Rattle.store_cut.proofs.Steps.{steps-run, steps-made}
+use Rattle.store_cut.proofs.Stands.{Fine, Says, saved, empty, Stands, Bears, bears, rests}
+use Rattle.store_cut.proofs.Steps.{steps-run, steps-made, finish-spare}
 
 -- ---- a start
 
@@ -64,24 +69,35 @@ pub record Loads (K : List Kept) (N : List Note) (l : Lasting) (t : List ℕ) : 
       ≡ leaves (record { block = startOf steps (wordsIn l) .block; rows = rows; notes = N; first = 0; second = 0 })
   pub reads : contents (startOf steps (wordsIn l) .block) rows ≡ K
 
--- the store that is loaded after a move is ended
-loads-from : {size page : ℕ} {K : List Kept} {N : List Note} {rows : List Row} (l : Lasting) (t : List ℕ) (n : ℕ) (k : Words) → page ≤ 1
-    → startOf n (wordsIn l) ≡ k → k .words ≡ stillWith (1 - page) → pageIn (1 - page) l ≡ textOf size rows N → Fine size K (k .block) rows
-    → Good K N → True K N → storeCells (min size largestBlock) ≤ length t → Loads K N l t
-loads-from {size} {page} {K} {N} {rows} l t n k h e w x f g m c =
-    let b = k .block in
-    let long = f .long in
+-- a page's text is loaded
+pub says-loads : {size : ℕ} {K : List Kept} {N : List Note} {rows : List Row} {text : List ℕ} (b t : List ℕ) → Says size rows N text
+    → Fine size K b rows → Good K N → True K N → storeCells (min size largestBlock) ≤ length t
+    → loadOf text b t ≡ leaves (record { block = b; rows = rows; notes = N; first = 0; second = 0 })
+unfolding tableText early anyFar anyBad rowsListed notesListed
+says-loads {size} {K} {N} {rows} {text} b t (saved x) f g m c =
     let s : sizeOf b ≡ min size largestBlock = ap (λ (y : ℕ). min y largestBlock) (f .long) in
     let count : length N ≡ length rows = sym (along-length _ K N g) ∙ ap length (sym (f .reads)) ∙ length-contents b rows in
-    let text : pageIn (1 - page) l ≡ textOf (length b) rows N = x ∙ ap (λ (y : ℕ). textOf y rows N) (sym (f .long)) in
-    let loads = load-of b t rows N (rw s c) (f .few) (rw s (f .rises)) (f .apart) count (rw (f .reads) g) (rw (f .reads) m) in
+    let text-is : text ≡ textOf (length b) rows N = x ∙ ap (λ (y : ℕ). textOf y rows N) (sym (f .long)) in
+    rw text-is (load-of b t rows N (rw s c) (f .few) (rw s (f .rises)) (f .apart) count (rw (f .reads) g) (rw (f .reads) m))
+says-loads {size} {K} {N} {rows} {text} b t (empty x e n) f g m c =
+    let s : sizeOf b ≡ min size largestBlock = ap (λ (y : ℕ). min y largestBlock) (f .long) in
+    let h = subst (λ (rs : List Row). rising 1 0 (min size largestBlock) rs ≡ true) e (f .rises) in
+    let d = subst Distinct e (f .apart) in
+    rw (x, e, n) (early-of b t [] (rw s c) (omega arith) (rw s h) d refl refl)
+
+-- the store that is loaded after a move is ended
+loads-from : {size page : ℕ} {K : List Kept} {N : List Note} {rows : List Row} (l : Lasting) (t : List ℕ) (n : ℕ) (k : Words) → page ≤ 1
+    → startOf n (wordsIn l) ≡ k → k .words ≡ stillWith (1 - page) → Says size rows N (pageIn (1 - page) l) → Fine size K (k .block) rows
+    → Good K N → True K N → storeCells (min size largestBlock) ≤ length t → Loads K N l t
+loads-from {size} {page} {K} {N} {rows} l t n k h e w x f g m c =
+    let loads = says-loads (k .block) t x f g m c in
     let small : 1 - page ≤ 1 = omega arith in
     record {
       steps = n;
       rows = rows;
       still = rw (e, w) small;
       rested = rw (e, w) refl;
-      loaded = rw (e, w, text) loads;
+      loaded = rw (e, w) loads;
       reads = rw e (f .reads);
     }
 
@@ -107,7 +123,8 @@ pub start-cut : {size : ℕ} {K : List Kept} {N : List Note} {l l′ : Lasting} 
 start-cut {size} {K} {N} {l} {l′} n z r =
     let e = z .stands .words in
     steps-run n (lasts (l .block) (l .spare) (z .state)) (l .first) (l .second)
-    (subst (λ (x : List ℕ). Stands size K N (z .page) (z .state) (z .rows) (lasting (l .block) (l .spare) (l .first) (l .second) x)) e (z .stands))
+    (subst (λ (x : List ℕ). Stands size K N (z .page) (z .state) (z .rows) (lasting (l .block) (l .spare) (l .first) (l .second) x)) e
+    (z .stands))
     (subst (λ (x : List ℕ). Run (stepsWrites n (z .page) (lasts (l .block) (l .spare) (z .state)))
     (lasting (l .block) (l .spare) (l .first) (l .second) x) l′) e r)
 
@@ -140,19 +157,25 @@ page-new k text l = go (eqb k 0)
 pub record Rests (size : ℕ) (K : List Kept) (N : List Note) (page : ℕ) (rows : List Row) (l : Lasting) : Type 0 where
   pub small : page ≤ 1
   pub words : l .words ≡ stillWith page
-  pub text : pageIn page l ≡ textOf size rows N
+  pub text : Says size rows N (pageIn page l)
   pub fine : Fine size K (l .block) rows
 
-pub rests-bears : {size page : ℕ} {K : List Kept} {N : List Note} {rows : List Row} {l : Lasting} → Rests size K N page rows l → Bears size K N l
-rests-bears {size} {page} {K} {N} {rows} {l} z =
-    bears (subst (λ (x : List ℕ). Stands size K N (1 - page) Still rows (lasting (l .block) (l .spare) (l .first) (l .second) x))
-    (sym (z .words)) (rests (l .block) (l .spare) (l .first) (l .second) (z .small) (z .text) (z .fine)))
+pub rests-stands : {size page : ℕ} {K : List Kept} {N : List Note} {rows : List Row} {l : Lasting} → Rests size K N page rows l
+    → Stands size K N (1 - page) Still rows l
+rests-stands {size} {page} {K} {N} {rows} {l} z =
+    subst (λ (x : List ℕ). Stands size K N (1 - page) Still rows (lasting (l .block) (l .spare) (l .first) (l .second) x))
+    (sym (z .words)) (rests (l .block) (l .spare) (l .first) (l .second) (z .small) (z .text) (z .fine))
+
+pub rests-bears : {size page : ℕ} {K : List Kept} {N : List Note} {rows : List Row} {l : Lasting} → Rests size K N page rows l
+    → Bears size K N l
+rests-bears z = bears (rests-stands z)
 
 -- the other page holds anything
 pub rests-page : {size page : ℕ} {K : List Kept} {N : List Note} {rows : List Row} {l : Lasting} (any : List ℕ)
     → Rests size K N page rows l → Rests size K N page rows (withPage (1 - page) any l)
-rests-page {page = page} {l = l} any z =
-    record { small = z .small; words = z .words; text = page-other page any l (z .small) ∙ z .text; fine = z .fine }
+rests-page {size} {page} {K} {N} {rows} {l} any z =
+    let t = subst (Says size rows N) (sym (page-other page any l (z .small))) (z .text) in
+    record { small = z .small; words = z .words; text = t; fine = z .fine }
 
 -- the store before a call, or the one after it
 pub data Either (A B : Type 0) : Type 0 where
@@ -167,7 +190,7 @@ module _ {size page : ℕ} {K K′ : List Kept} {N N′ : List Note} {rows rows�
   unfolding madeAll
   turned =
       let h = z .small in
-      record { small = omega arith; words = refl; text = page-new (1 - page) (textOf size rows′ N′) l; fine = f }
+      record { small = omega arith; words = refl; text = saved (page-new (1 - page) (textOf size rows′ N′) l); fine = f }
 
   pub turn-cut : {l′ : Lasting} → Run (turnWrites page (textOf size rows′ N′)) l l′ → Either (Bears size K N l′) (Bears size K′ N′ l′)
   unfolding madeAll
@@ -201,7 +224,8 @@ module _ {size page : ℕ} {K : List Kept} {N : List Note} {rows : List Row} {l 
   apart-rows : take (gap .k) rows ++ drop (gap .k) rows ≡ rows
   apart-rows = take-append-drop (gap .k) rows
 
-  torn-rests : {b′ : List ℕ} → Torn at (length xs) (l .block) b′ → Rests size K N page rows (lasting b′ (l .spare) (l .first) (l .second) (l .words))
+  torn-rests : {b′ : List ℕ} → Torn at (length xs) (l .block) b′
+      → Rests size K N page rows (lasting b′ (l .spare) (l .first) (l .second) (l .words))
   torn-rests {b′} t =
       rests-with (t .size) (subst (λ (x : List Row). contents b′ x ≡ contents (l .block) x) apart-rows
       (torn-reads (min size largestBlock) (take (gap .k) rows) (drop (gap .k) rows) inside t (gap .below) (gap .above)))
@@ -226,6 +250,15 @@ module _ {size page : ℕ} {K : List Kept} {N : List Note} {rows : List Row} {l 
       turn-cut written-rests d
       (subst (λ (k : ℕ). Run (turnWrites page (textOf k (insertAt i (rowOf number at (length xs)) rows) noted))
       (lasting (written (l .block) at xs) (l .spare) (l .first) (l .second) (l .words)) l′) (z .fine .long) r)
+
+  -- made whole
+  pub put-made : Rests size later noted (1 - page) (insertAt i (rowOf number at (length xs)) rows)
+      (madeAll (putWrites page (l .block) rows N law number xs (At i at)) l)
+  unfolding madeAll
+  put-made =
+      subst (λ (k : ℕ). Rests size later noted (1 - page) (insertAt i (rowOf number at (length xs)) rows)
+      (madeAll (turnWrites page (textOf k (insertAt i (rowOf number at (length xs)) rows) noted))
+      (lasting (written (l .block) at xs) (l .spare) (l .first) (l .second) (l .words)))) (sym (z .fine .long)) (turned written-rests d)
 
 -- ---- writes one after another
 
@@ -313,7 +346,7 @@ pub record Among (pre : List Row) (r : Row) (post : List Row) (lo size : ℕ) : 
   pub inside : r .start + r .octets ≤ size
   pub behind : rising 1 (r .start + r .octets) size post ≡ true
 
-rising-among : (pre : List Row) (r : Row) (post : List Row) (lo size : ℕ) → rising 1 lo size (pre ++ (r ∷ post)) ≡ true
+pub rising-among : (pre : List Row) (r : Row) (post : List Row) (lo size : ℕ) → rising 1 lo size (pre ++ (r ∷ post)) ≡ true
     → Among pre r post lo size
 unfolding held
 rising-among [] r post lo size h =
@@ -335,16 +368,20 @@ goes-row rows pre r post i e h =
     let z : i ≡ length pre + 0 = omega arith in
     rw (e, z) (getD-append-add pre (r ∷ post) 0 (rowOf 0 0 0))
 
-pub goes-rows : (rows pre : List Row) (r : Row) (post : List Row) (i at : ℕ) → rows ≡ pre ++ (r ∷ post) → i ≡ length pre
-    → movedAt i at rows ≡ pre ++ (movedTo at r ∷ post)
-goes-rows rows pre r post i at e h =
-    let n = goes-row rows pre r post i e h in
+-- another row in its place
+pub replaced : (rows pre : List Row) (r : Row) (post : List Row) (i : ℕ) (q : Row) → rows ≡ pre ++ (r ∷ post) → i ≡ length pre
+    → replaceAt i q rows ≡ pre ++ (q ∷ post)
+replaced rows pre r post i q e h =
     let t : take i rows ≡ pre = rw e (take-at pre (r ∷ post) i (sym h)) in
     let s : i + 1 ≡ length (pre ++ (r ∷ [])) = omega (arith, length-append pre (r ∷ [])) in
     let d : drop (i + 1) rows ≡ post =
     ap (λ (x : List Row). drop (i + 1) x) (e ∙ sym (append-snoc pre r post)) ∙ drop-at (pre ++ (r ∷ [])) post (i + 1) (sym s) in
-    ap (λ (x : List Row). x ++ (movedTo at (nth i rows) ∷ drop (i + 1) rows)) t
-    ∙ ap (λ (x : Row). pre ++ (movedTo at x ∷ drop (i + 1) rows)) n ∙ ap (λ (x : List Row). pre ++ (movedTo at r ∷ x)) d
+    ap (λ (x : List Row). x ++ (q ∷ drop (i + 1) rows)) t ∙ ap (λ (x : List Row). pre ++ (q ∷ x)) d
+
+pub goes-rows : (rows pre : List Row) (r : Row) (post : List Row) (i at : ℕ) → rows ≡ pre ++ (r ∷ post) → i ≡ length pre
+    → movedAt i at rows ≡ pre ++ (movedTo at r ∷ post)
+goes-rows rows pre r post i at e h =
+    ap (λ (x : Row). replaceAt i (movedTo at x) rows) (goes-row rows pre r post i e h) ∙ replaced rows pre r post i (movedTo at r) e h
 
 -- ---- a move
 
@@ -368,7 +405,9 @@ module _ {size page : ℕ} {K : List Kept} {N : List Note} {l : Lasting} (pre : 
       let i = a .inside in
       let g = length-drop (r .start) (l .block) in
       record {
-        long = length-paste (l .block) to (drop (r .start) (l .block)) (r .octets) (omega (arith, enough)) (omega (arith, enough)) ∙ z .fine .long;
+        long =
+            length-paste (l .block) to (drop (r .start) (l .block)) (r .octets) (omega (arith, enough)) (omega (arith, enough))
+            ∙ z .fine .long;
         few =
             omega (arith, z .fine .few, length-append pre (r ∷ post), length-append pre (movedTo to r ∷ post));
         rises = moved-rises (l .block) (min size largestBlock) to pre r post d (a .inside) enough (a .some) f (a .behind);
@@ -376,7 +415,7 @@ module _ {size page : ℕ} {K : List Kept} {N : List Note} {l : Lasting} (pre : 
         reads = moved-reads (l .block) (min size largestBlock) to pre r post d (a .inside) enough (a .some) f (a .behind) ∙ z .fine .reads;
       }
 
-  tells : Tells (l .block) (begun to r)
+  pub tells : Tells (l .block) (begun to r)
   tells =
       let a = among in
       let long = z .fine .long in
@@ -393,7 +432,7 @@ module _ {size page : ℕ} {K : List Kept} {N : List Note} {l : Lasting} (pre : 
         small = z .small;
         words = refl;
         sane = sane-moving tells;
-        text = page-new (1 - page) (textOf size moved N) l;
+        text = saved (page-new (1 - page) (textOf size moved N) l);
         fine = rw (start-whole (l .block) (l .spare) (r .start) to (r .octets)) moved-fine;
       }
 
@@ -405,7 +444,9 @@ module _ {size page : ℕ} {K : List Kept} {N : List Note} {l : Lasting} (pre : 
 
   sized : moveWrites page l r to moved N ≡ writes
   unfolding moveWrites
-  sized = ap (λ (k : ℕ). to-page (1 - page) (textOf k moved N) ∷ to-record (wordsFor page 1 (begun to r)) ∷ stepsWrites (2 * r .octets) page begins)
+  sized =
+      ap (λ (k : ℕ). to-page (1 - page) (textOf k moved N) ∷ to-record (wordsFor page 1 (begun to r)) ∷ stepsWrites (2 * r .octets) page
+      begins)
       (z .fine .long)
 
   move-runs : {l′ : Lasting} → Run writes l l′ → Bears size K N l′
@@ -430,12 +471,25 @@ module _ {size page : ℕ} {K : List Kept} {N : List Note} {l : Lasting} (pre : 
       rw ended (record {
         small = omega arith;
         words = ap (λ (x : State). wordsOf page x) (w .ended);
-        text = page-new (1 - page) (textOf size moved N) l;
+        text = saved (page-new (1 - page) (textOf size moved N) l);
         fine = rw (w .block ∙ start-whole (l .block) (l .spare) (r .start) to (r .octets)) moved-fine;
       })
 
   pub move-made : Rests size K N (1 - page) moved (madeAll (moveWrites page l r to moved N) l)
   move-made = subst (λ (x : List Write). Rests size K N (1 - page) moved (madeAll x l)) (sym sized) whole-move
+
+  -- the block then, all octets of it
+  pub move-block : madeAll (moveWrites page l r to moved N) l .block ≡ closer
+  unfolding ahead
+  move-block =
+      let w = finish-whole (2 * r .octets) begins (sane-moving tells) (omega arith) in
+      ap (λ (x : List Write). madeAll x l .block) sized ∙ ap (λ (x : Lasting). x .block) ended
+      ∙ w .block ∙ start-whole (l .block) (l .spare) (r .start) to (r .octets)
+
+  pub move-spare : length (madeAll (moveWrites page l r to moved N) l .spare) ≡ length (l .spare)
+  move-spare =
+      ap (λ (x : List Write). length (madeAll x l .spare)) sized ∙ ap (λ (x : Lasting). length (x .spare)) ended
+      ∙ finish-spare (2 * r .octets) begins (sane-moving tells)
 
 -- ---- closing up, move by move
 
@@ -455,7 +509,7 @@ module _ {size page : ℕ} {K : List Kept} {N : List Note} {rows : List Row} {l 
   apart : Rests size K N page (due .pre ++ (due .row ∷ due .post)) l
   apart = subst (λ (x : List Row). Rests size K N page x l) (due .is) z
 
-  below : at < due .row .start
+  pub below : at < due .row .start
   below =
       let a = rising-among (due .pre) (due .row) (due .post) 0 (min size largestBlock) (apart .fine .rises) in
       let o = a .over in
@@ -474,16 +528,33 @@ module _ {size page : ℕ} {K : List Kept} {N : List Note} {rows : List Row} {l 
   same-writes : moveWrites page l (nth i rows) at (movedAt i at rows) N
       ≡ moveWrites page l (due .row) at (due .pre ++ (movedTo at (due .row) ∷ due .post)) N
   same-writes =
-      ap (λ (x : Row). moveWrites page l x at (movedAt i at rows) N) same-row ∙ ap (λ (x : List Row). moveWrites page l (due .row) at x N) same-rows
+      ap (λ (x : Row). moveWrites page l x at (movedAt i at rows) N) same-row
+      ∙ ap (λ (x : List Row). moveWrites page l (due .row) at x N) same-rows
 
   pub due-cut : {l′ : Lasting} → Run (moveWrites page l (nth i rows) at (movedAt i at rows) N) l l′ → Bears size K N l′
   due-cut {l′} q = move-cut (due .pre) (due .row) (due .post) at apart below front (subst (λ (x : List Write). Run x l l′) same-writes q)
 
   pub due-made : Rests size K N (1 - page) (movedAt i at rows) (madeAll (moveWrites page l (nth i rows) at (movedAt i at rows) N) l)
   due-made =
-      subst (λ (x : List Row). Rests size K N (1 - page) x (madeAll (moveWrites page l (nth i rows) at (movedAt i at rows) N) l)) (sym same-rows)
-      (subst (λ (x : List Write). Rests size K N (1 - page) (due .pre ++ (movedTo at (due .row) ∷ due .post)) (madeAll x l)) (sym same-writes)
+      subst (λ (x : List Row). Rests size K N (1 - page) x (madeAll (moveWrites page l (nth i rows) at (movedAt i at rows) N) l))
+      (sym same-rows)
+      (subst (λ (x : List Write). Rests size K N (1 - page) (due .pre ++ (movedTo at (due .row) ∷ due .post)) (madeAll x l))
+      (sym same-writes)
       (move-made (due .pre) (due .row) (due .post) at apart below front))
+
+  pub due-block : madeAll (moveWrites page l (nth i rows) at (movedAt i at rows) N) l .block
+      ≡ paste (l .block) at (drop (due .row .start) (l .block)) (due .row .octets)
+  due-block =
+      ap (λ (x : List Write). madeAll x l .block) same-writes ∙ move-block (due .pre) (due .row) (due .post) at apart below front
+
+  pub due-spare : length (madeAll (moveWrites page l (nth i rows) at (movedAt i at rows) N) l .spare) ≡ length (l .spare)
+  due-spare =
+      ap (λ (x : List Write). length (madeAll x l .spare)) same-writes
+      ∙ move-spare (due .pre) (due .row) (due .post) at apart below front
+
+  pub due-tells : Tells (l .block) (begun at (nth i rows))
+  due-tells =
+      subst (λ (r : Row). Tells (l .block) (begun at r)) (sym same-row) (tells (due .pre) (due .row) (due .post) at apart below front)
 
 by-either : {A B C : Type 0} → (A → C) → (B → C) → Either A B → C
 by-either f g (before x) = f x
@@ -491,10 +562,10 @@ by-either f g (after x) = g x
 
 -- one move, and what follows it
 module _ (n : ℕ) {size page : ℕ} {K : List Kept} {N : List Note} {rows : List Row} {l : Lasting} (z : Rests size K N page rows l) where
-  abbrev one : ℕ → ℕ → List Write
+  abbrev pub one : ℕ → ℕ → List Write
   one i at = moveWrites page l (nth i rows) at (movedAt i at rows) N
 
-  abbrev others : ℕ → ℕ → List Write
+  abbrev pub others : ℕ → ℕ → List Write
   others i at = closingWrites n (1 - page) (madeAll (one i at) l) (movedAt i at rows) N (nextOf (movedAt i at rows))
 
   closing-step : {l′ : Lasting} (x : Due) → x ≡ nextOf rows
@@ -510,37 +581,39 @@ unfolding closingWrites
 closing-cut zero z all = rests-bears z
 closing-cut (suc n) {rows = rows} z q = closing-step n z (nextOf rows) refl (λ i at e x. closing-cut n (due-made z e) x) q
 
-made-append : (a c : List Write) (l : Lasting) → madeAll (a ++ c) l ≡ madeAll c (madeAll a l)
+pub made-append : (a c : List Write) (l : Lasting) → madeAll (a ++ c) l ≡ madeAll c (madeAll a l)
 unfolding madeAll
 made-append [] c l = refl
 made-append (w ∷ a) c l = made-append a c (made w l)
 
--- at rest, with some page in use and some rows
-pub record Ends (size : ℕ) (K : List Kept) (N : List Note) (l : Lasting) : Type 0 where
+-- at rest, with some page in use
+pub record Ends (size : ℕ) (K : List Kept) (N : List Note) (rows : List Row) (l : Lasting) : Type 0 where
   pub page : ℕ
-  pub rows : List Row
   pub rests : Rests size K N page rows l
 
 -- all moves made
-ends-step : (n : ℕ) {size page : ℕ} {K : List Kept} {N : List Note} {rows : List Row} {l : Lasting} (z : Rests size K N page rows l) (x : Due)
+ends-step : (n : ℕ) {size page : ℕ} {K : List Kept} {N : List Note} {rows : List Row} {l : Lasting} (z : Rests size K N page rows l)
+    (x : Due)
     → x ≡ nextOf rows
-    → ((i at : ℕ) → Goes i at ≡ nextOf rows → Ends size K N (madeAll (others n z i at) (madeAll (one n z i at) l)))
-    → Ends size K N (madeAll (closingWrites (suc n) page l rows N x) l)
-unfolding closingWrites madeAll
-ends-step n {page = page} {rows = rows} z Closed e f = record { page = page; rows = rows; rests = z }
+    → ((i at : ℕ) → Goes i at ≡ nextOf rows
+    → Ends size K N (closingRows n (movedAt i at rows) (nextOf (movedAt i at rows))) (madeAll (others n z i at) (madeAll (one n z i at) l)))
+    → Ends size K N (closingRows (suc n) rows x) (madeAll (closingWrites (suc n) page l rows N x) l)
+unfolding closingWrites closingRows madeAll
+ends-step n {page = page} z Closed e f = record { page = page; rests = z }
 ends-step n {size} {page} {K} {N} {rows} {l} z (Goes i at) e f =
-    subst (λ (x : Lasting). Ends size K N x) (sym (made-append (one n z i at) (others n z i at) l)) (f i at e)
+    subst (λ (x : Lasting). Ends size K N (closingRows n (movedAt i at rows) (nextOf (movedAt i at rows))) x)
+    (sym (made-append (one n z i at) (others n z i at) l)) (f i at e)
 
 pub closing-made : (n : ℕ) {size page : ℕ} {K : List Kept} {N : List Note} {rows : List Row} {l : Lasting} → Rests size K N page rows l
-    → Ends size K N (madeAll (closingWrites n page l rows N (nextOf rows)) l)
-unfolding closingWrites madeAll
-closing-made zero {page = page} {rows = rows} z = record { page = page; rows = rows; rests = z }
+    → Ends size K N (closingRows n rows (nextOf rows)) (madeAll (closingWrites n page l rows N (nextOf rows)) l)
+unfolding closingWrites closingRows madeAll
+closing-made zero {page = page} z = record { page = page; rests = z }
 closing-made (suc n) {rows = rows} z = ends-step n z (nextOf rows) refl (λ i at e. closing-made n (due-made z e))
 
 -- ---- a start that is not cut: at rest again, so that the next call may follow
 
 pub start-rests : {size : ℕ} {K : List Kept} {N : List Note} {l : Lasting} (n : ℕ) (z : Bears size K N l) → ahead (z .state) ≤ n
-    → Ends size K N (madeAll (stepsWrites n (z .page) (lasts (l .block) (l .spare) (z .state))) l)
+    → Ends size K N (z .rows) (madeAll (stepsWrites n (z .page) (lasts (l .block) (l .spare) (z .state))) l)
 unfolding wordsOf
 start-rests {size} {K} {N} {l} n z h =
     let s = z .stands in
@@ -553,7 +626,6 @@ start-rests {size} {K} {N} {l} n z h =
     ∙ steps-made n (z .page) from (l .first) (l .second) (s .sane) in
     record {
       page = 1 - z .page;
-      rows = z .rows;
       rests =
           rw e (record {
             small = omega arith;
@@ -565,8 +637,10 @@ start-rests {size} {K} {N} {l} n z h =
 
 -- ---- THE PROMISE: whatever was cut, and however often a start was, what is loaded is the store before the call or the one after it
 
-pub cut-loads : {size : ℕ} {K K′ : List Kept} {N N′ : List Note} {l : Lasting} → Good K N → True K N → Good K′ N′ → True K′ N′ → (t : List ℕ)
-    → storeCells (min size largestBlock) ≤ length t → Either (Bears size K N l) (Bears size K′ N′ l) → Either (Loads K N l t) (Loads K′ N′ l t)
+pub cut-loads : {size : ℕ} {K K′ : List Kept} {N N′ : List Note} {l : Lasting} → Good K N → True K N → Good K′ N′ → True K′ N′
+    → (t : List ℕ)
+    → storeCells (min size largestBlock) ≤ length t → Either (Bears size K N l) (Bears size K′ N′ l)
+    → Either (Loads K N l t) (Loads K′ N′ l t)
 cut-loads g m g′ m′ t c (before z) = before (start-loads z g m t c)
 cut-loads g m g′ m′ t c (after z) = after (start-loads z g′ m′ t c)
 
@@ -576,7 +650,8 @@ pub closing-then : (n : ℕ) {size page : ℕ} {K : List Kept} {N : List Note} {
     → Either (Bears size K N l′) (Run ws (madeAll (closingWrites n page l rows N (nextOf rows)) l) l′)
 closing-then n {size} {page} {K} {N} {rows} {l} {l′} ws z r = go (run-split (closingWrites n page l rows N (nextOf rows)) r)
   where
-    go : Either (Run (closingWrites n page l rows N (nextOf rows)) l l′) (Run ws (madeAll (closingWrites n page l rows N (nextOf rows)) l) l′)
+    go : Either (Run (closingWrites n page l rows N (nextOf rows)) l l′)
+        (Run ws (madeAll (closingWrites n page l rows N (nextOf rows)) l) l′)
         → Either (Bears size K N l′) (Run ws (madeAll (closingWrites n page l rows N (nextOf rows)) l) l′)
     go (before x) = before (closing-cut n z x)
     go (after x) = after x

@@ -9,3 +9,9 @@ pub mod Steps
 pub mod Cut
 pub mod Calls
 pub mod Closing
+pub mod Tables
+pub mod Puts
+pub mod Runs
+pub mod Counted
+pub mod Replaced
+pub mod Pages

@@ -34,7 +34,8 @@ pub written-reads : (b xs : List ℕ) (at size : ℕ) (pre post : List Row) → 
     → rising 1 (at + length xs) size post ≡ true → contents (written b at xs) (pre ++ post) ≡ contents b (pre ++ post)
 written-reads b xs at size pre post h f g =
     contents-append (written b at xs) pre post
-    ∙ rw (below-reads b xs at h pre 0 f, above-reads b xs at h post (at + length xs) size (omega arith) g) (sym (contents-append b pre post))
+    ∙ rw (below-reads b xs at h pre 0 f, above-reads b xs at h post (at + length xs) size (omega arith) g)
+    (sym (contents-append b pre post))
 
 pub torn-reads : {at n : ℕ} {b b′ : List ℕ} (size : ℕ) (pre post : List Row) → at + n ≤ length b → Torn at n b b′
     → rising 1 0 at pre ≡ true → rising 1 (at + n) size post ≡ true → contents b′ (pre ++ post) ≡ contents b (pre ++ post)
@@ -75,7 +76,8 @@ unfolding Fresh
 fresh-moved x to [] r post f = f
 fresh-moved x to (a ∷ pre) r post f = (f .0, fresh-moved x to pre r post (f .1))
 
-pub moved-distinct : (to : ℕ) (pre : List Row) (r : Row) (post : List Row) → Distinct (pre ++ (r ∷ post)) → Distinct (pre ++ (movedTo to r ∷ post))
+pub moved-distinct : (to : ℕ) (pre : List Row) (r : Row) (post : List Row) → Distinct (pre ++ (r ∷ post))
+    → Distinct (pre ++ (movedTo to r ∷ post))
 unfolding Distinct
 moved-distinct to [] r post d = d
 moved-distinct to (a ∷ pre) r post d = (d .0, d .1, fresh-moved (a .number) to pre r post (d .2), moved-distinct to pre r post (d .3))

@@ -1,8 +1,8 @@
 -- What lasts stands for a store of greetings (`Stands`): steps until still leave it in the block, and its text is in the page that is then
 -- in use. A step that is cut leaves it so (`stands-cut`), and so does a step (`stands-step`).
 use Prim.Native.Nat.{ℕ, _-_, _≤_, min}
-use mathlib.Core.Path.{_≡_, refl, sym, ap, _∙_}
-use mathlib.Core.List.{List}
+use mathlib.Core.Path.{_≡_, refl, sym, ap, subst}
+use mathlib.Core.List.{List, []}
 use mathlib.Core.Bool.{true}
 use native.Mathlib.Omega.{arith}
 use lib.ListN.{length}
@@ -29,12 +29,17 @@ pub record Fine (size : ℕ) (K : List Kept) (b : List ℕ) (rows : List Row) : 
   pub apart : Distinct rows
   pub reads : contents b rows ≡ K
 
+-- a page's text of these greetings: as it is saved; a fresh store's is empty, of a block of any size
+pub data Says (size : ℕ) (rows : List Row) (notes : List Note) (text : List ℕ) : Type 0 where
+  saved : text ≡ textOf size rows notes → Says size rows notes text
+  empty : text ≡ [] → rows ≡ [] → notes ≡ [] → Says size rows notes text
+
 -- the page in use while a move is under way is `page`; the text is in the other, which is in use when it is still
 pub record Stands (size : ℕ) (K : List Kept) (N : List Note) (page : ℕ) (st : State) (rows : List Row) (l : Lasting) : Type 0 where
   pub small : page ≤ 1
   pub words : l .words ≡ wordsOf page st
   pub sane : Sane (l .block) (l .spare) st
-  pub text : pageIn (1 - page) l ≡ textOf size rows N
+  pub text : Says size rows N (pageIn (1 - page) l)
   pub fine : Fine size K (goal (l .block) (l .spare) st) rows
 
 -- some move, or none, and some rows
@@ -76,15 +81,15 @@ module _ {size page : ℕ} {K : List Kept} {N : List Note} {rows : List Row} (b 
 
 -- at rest
 pub rests : {size page : ℕ} {K : List Kept} {N : List Note} {rows : List Row} (b s p q : List ℕ) → page ≤ 1
-    → pageIn page (lasting b s p q (stillWith page)) ≡ textOf size rows N → Fine size K b rows
+    → Says size rows N (pageIn page (lasting b s p q (stillWith page))) → Fine size K b rows
     → Stands size K N (1 - page) Still rows (lasting b s p q (stillWith page))
 unfolding wordsOf goal
-rests {page = page} b s p q h e f =
+rests {size} {page} {K} {N} {rows} b s p q h e f =
     let z : 1 - (1 - page) ≡ page = omega arith in
     record {
       small = omega arith;
       words = ap (λ (k : ℕ). stillWith k) (sym z);
       sane = sane-still;
-      text = ap (λ (k : ℕ). pageIn k (lasting b s p q (stillWith page))) z ∙ e;
+      text = subst (λ (k : ℕ). Says size rows N (pageIn k (lasting b s p q (stillWith page)))) (sym z) e;
       fine = f;
     }

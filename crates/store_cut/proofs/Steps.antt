@@ -35,7 +35,8 @@ written-torn b xs at n e h =
     record {
       before = take-at (take at b) (xs ++ drop (at + length xs) b) at (length-take-le at b (omega arith));
       behind =
-          ap (λ (x : ℕ). drop x (written b at xs)) k ∙ high-part b xs at f (at + length xs) (omega arith) ∙ ap (λ (x : ℕ). drop x b) (sym k);
+          ap (λ (x : ℕ). drop x (written b at xs)) k ∙ high-part b xs at f (at + length xs) (omega arith)
+          ∙ ap (λ (x : ℕ). drop x b) (sym k);
       size = length-written b at xs f;
     }
 
@@ -46,7 +47,7 @@ pub data Went (page : ℕ) (b s p q : List ℕ) (st : State) (ws : List Write) :
       → Went page b s p q st ws l′
 
 -- lengths of the chunks
-hop-long : (b : List ℕ) (m : Move) → Tells b m → (length (take (hop m) (drop (source m) b)) ≡ hop m) × (place m + hop m ≤ length b)
+pub hop-long : (b : List ℕ) (m : Move) → Tells b m → (length (take (hop m) (drop (source m) b)) ≡ hop m) × (place m + hop m ≤ length b)
     × (hop m ≤ length (drop (source m) b))
 hop-long b m t =
     let g = hop-some m (t .down) (t .some) in
@@ -55,7 +56,7 @@ hop-long b m t =
     let h : hop m ≤ length (drop (source m) b) = omega (arith, g, length-drop (source m) b) in
     (length-take-le (hop m) (drop (source m) b) h, omega (arith, g), h)
 
-lift-long : (b s : List ℕ) (m : Move) → Tells b m → distance m < length s
+pub lift-long : (b s : List ℕ) (m : Move) → Tells b m → distance m < length s
     → (length (take (lift s m) (drop (source m) b)) ≡ lift s m) × (0 + lift s m ≤ length s) × (lift s m ≤ length (drop (source m) b))
 lift-long b s m t d =
     let g = lift-some s m d (t .some) in
@@ -63,7 +64,7 @@ lift-long b s m t d =
     let h : lift s m ≤ length (drop (source m) b) = omega (arith, g, length-drop (source m) b) in
     (length-take-le (lift s m) (drop (source m) b) h, omega (arith, g), h)
 
-lay-long : (b s : List ℕ) (m : Move) → Tells b m → distance m < length s
+pub lay-long : (b s : List ℕ) (m : Move) → Tells b m → distance m < length s
     → (length (take (lift s m) s) ≡ lift s m) × (place m + lift s m ≤ length b) × (lift s m ≤ length s)
 lay-long b s m t d =
     let g = lift-some s m d (t .some) in
@@ -72,20 +73,20 @@ lay-long b s m t d =
     (length-take-le (lift s m) s (g .2), omega (arith, g), g .2)
 
 -- what a step leaves, as its writes leave it
-direct-is : (b s : List ℕ) (m : Move) → Tells b m → length s ≤ distance m
+pub direct-is : (b s : List ℕ) (m : Move) → Tells b m → length s ≤ distance m
     → stepped b s (Moving m) ≡ lasts (written b (place m) (take (hop m) (drop (source m) b))) s (onward m (hop m))
 unfolding hop
 direct-is b s m t h =
     step-direct b s m h refl (laid-paste b (drop (source m) b) (place m) (hop m) (hop-long b m t .2) refl refl) refl
 
-lift-is : (b s : List ℕ) (m : Move) → Tells b m → distance m < length s
+pub lift-is : (b s : List ℕ) (m : Move) → Tells b m → distance m < length s
     → stepped b s (Moving m) ≡ lasts b (written s 0 (take (lift s m) (drop (source m) b))) (Lifted m)
 unfolding lift
 lift-is b s m t d =
     let z : source m + lift s m - source m ≡ lift s m = omega arith in
     step-lift b s m t d refl (ap (λ (k : ℕ). take k (drop (source m) b)) (sym z)) refl
 
-lay-is : (b s : List ℕ) (m : Move) → stepped b s (Lifted m) ≡ lasts (written b (place m) (take (lift s m) s)) s (onward m (lift s m))
+pub lay-is : (b s : List ℕ) (m : Move) → stepped b s (Lifted m) ≡ lasts (written b (place m) (take (lift s m) s)) s (onward m (lift s m))
 unfolding lift
 lay-is b s m = step-lay b s m refl refl refl refl
 
@@ -109,7 +110,8 @@ module _ (page : ℕ) (b s p q : List ℕ) (m : Move) (ws : List Write) (t : Tel
       (lasting b s p q (wordsOf page (Moving m))) l′ → Went page b s p q (Moving m) ws l′
   lift-run d (cut (cut-spare {s′ = s′} c)) = torn (cut-lift d (subst (λ (k : ℕ). Torn 0 k s s′) (lift-long b s m t d .0) c))
   lift-run d (on (cut cut-record)) =
-      torn (cut-lift d (written-torn s (take (lift s m) (drop (source m) b)) 0 (lift s m) (lift-long b s m t d .0) (lift-long b s m t d .1)))
+      torn (cut-lift d (written-torn s (take (lift s m) (drop (source m) b)) 0 (lift s m) (lift-long b s m t d .0)
+      (lift-long b s m t d .1)))
   lift-run d (on (on r)) = follows (Moving m) (lift-is b s m t d) r
 
   lay-run : {l′ : Lasting} → distance m < length s
@@ -132,7 +134,8 @@ one-step page b s p q (Moving m) ws {l′} (sane-moving t) r = go (direct s m) r
 one-step page b s p q (Lifted m) ws (sane-lifted t d) r = lay-run page b s p q m ws t d r
 
 -- a step that was cut stands for the same store; where it was not, by what follows
-bears-went : {size page : ℕ} {K : List Kept} {N : List Note} {rows : List Row} (b s p q : List ℕ) (st : State) (ws : List Write) {l′ : Lasting}
+bears-went : {size page : ℕ} {K : List Kept} {N : List Note} {rows : List Row} (b s p q : List ℕ) (st : State) (ws : List Write)
+    {l′ : Lasting}
     → Stands size K N page st rows (lasting b s p q (wordsOf page st))
     → (Run ws (lasting (stepped b s st .block) (stepped b s st .spare) p q (wordsOf page (stepped b s st .state))) l′ → Bears size K N l′)
     → Went page b s p q st ws l′ → Bears size K N l′
@@ -160,7 +163,8 @@ one-made page b s p q Still ws z =
 one-made page b s p q (Moving m) ws (sane-moving t) = go (direct s m) refl
   where
     go : (x : Bool) → direct s m ≡ x → madeAll (stepWrites page b s (Moving m) ++ ws) (lasting b s p q (wordsOf page (Moving m)))
-        ≡ madeAll ws (lasting (stepped b s (Moving m) .block) (stepped b s (Moving m) .spare) p q (wordsOf page (stepped b s (Moving m) .state)))
+        ≡ madeAll ws (lasting (stepped b s (Moving m) .block) (stepped b s (Moving m) .spare) p q
+        (wordsOf page (stepped b s (Moving m) .state)))
     go true e =
         rw e (ap (λ (x : Lasts). madeAll ws (lasting (x .block) (x .spare) p q (wordsOf page (x .state))))
         (sym (direct-is b s m t (leb-true (length s) (distance m) e))))
@@ -178,3 +182,27 @@ steps-made zero page l p q z = refl
 steps-made (suc n) page l p q z =
     one-made page (l .block) (l .spare) p q (l .state) (stepsWrites n page (step l)) z
     ∙ steps-made n page (step l) p q (sane-step (l .block) (l .spare) (l .state) z)
+
+-- the spare keeps its length
+lifted-spare : (b s : List ℕ) (m : Move) → Tells b m → distance m < length s
+    → length (written s 0 (take (lift s m) (drop (source m) b))) ≡ length s
+lifted-spare b s m t h =
+    let c = lift-long b s m t h in
+    length-written s 0 (take (lift s m) (drop (source m) b)) (omega (arith, c .0, c .1))
+
+step-spare : (b s : List ℕ) (st : State) → Sane b s st → length (stepped b s st .spare) ≡ length s
+step-spare b s Still z = ap (λ (x : Lasts). length (x .spare)) (step-still b s refl)
+step-spare b s (Moving m) (sane-moving t) = go (direct s m) refl
+  where
+    go : (x : Bool) → direct s m ≡ x → length (stepped b s (Moving m) .spare) ≡ length s
+    go true e = ap (λ (x : Lasts). length (x .spare)) (direct-is b s m t (leb-true (length s) (distance m) e))
+    go false e =
+        let h = leb-false (length s) (distance m) e in
+        ap (λ (x : Lasts). length (x .spare)) (lift-is b s m t h) ∙ lifted-spare b s m t h
+step-spare b s (Lifted m) (sane-lifted t d) = ap (λ (x : Lasts). length (x .spare)) (lay-is b s m)
+
+pub finish-spare : (n : ℕ) (l : Lasts) → Sane (l .block) (l .spare) (l .state) → length (finish n l .spare) ≡ length (l .spare)
+unfolding finish
+finish-spare zero l z = refl
+finish-spare (suc n) l z =
+    finish-spare n (step l) (sane-step (l .block) (l .spare) (l .state) z) ∙ step-spare (l .block) (l .spare) (l .state) z

@@ -1,6 +1,6 @@
 -- What lasts: "the block ..; two pages for the table's text; a spare of any length, 0 too ..; and a record of eight u32 that changes in one
--- write: it is the old one or the new one after a cut, never a mixture. Any other write may be cut anywhere and leave anything in the octets
--- that it covers." A page is its text: one that is cut holds any text at all.
+-- write: it is the old one or the new one after a cut, never a mixture. Any other write may be cut anywhere and leave anything in the
+-- octets that it covers." A page is its text (`Pages` has its octets): one that is cut holds any text at all.
 use Prim.Native.Nat.{ℕ}
 use mathlib.Core.List.{List, [], _∷_}
 use mathlib.Core.Bool.{cond}

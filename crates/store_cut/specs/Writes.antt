@@ -67,5 +67,6 @@ turnWrites page text = to-page (1 - page) text ∷ to-record (stillWith (1 - pag
 -- "then `put`, which moves nothing now (its octets lie in no greeting)"
 abbrev pub putWrites : ℕ → List ℕ → List Row → List Note → ℕ → ℕ → List ℕ → Gap → List Write
 putWrites page b rows notes law number xs (At i at) =
-    to-block at xs ∷ turnWrites page (textOf (length b) (insertAt i (rowOf number at (length xs)) rows) (insertNote i (noteOf law xs) notes))
+    to-block at xs ∷ turnWrites page (textOf (length b) (insertAt i (rowOf number at (length xs)) rows)
+    (insertNote i (noteOf law xs) notes))
 putWrites page b rows notes law number xs Nowhere = []

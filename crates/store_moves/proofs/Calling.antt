@@ -6,7 +6,7 @@ use mathlib.Core.List.{List, _∷_, _++_, append-assoc}
 use mathlib.Core.Bool.{Bool, true, false, cond, not}
 use native.Mathlib.Omega.{arith}
 use lib.ListN.{length, take, drop, getD, set, length-append, take-append-drop}
-use lib.Seq.{drop-drop, drop-cons, set-at, take-add, length-take-le}
+use lib.Seq.{drop-drop, set-at, length-take-le}
 use lib.Dec.{leb, ltb}
 use borrow.Author.Tests.{lt-ltb, le-ltb, le-leb, lt-leb, eq-eqb, ne-eqb}
 use Rattle.rules.specs.Tools.{isLaw, mostLaw}
@@ -21,6 +21,7 @@ use Rattle.store_rows.specs.Changed.{nth, rowLaid}
 use Rattle.store_rows.specs.Closing.{movedTo, movedOne, movedFrom}
 use Rattle.store_rows.proofs.Cells.{length-rows, rows-snoc, take-rows, drop-rows, nth-rows, cells-append, cells-cons, cells-rows}
 use Rattle.store_rows.proofs.Cells.{drop-three, set-second}
+use Rattle.store_rows.proofs.Changing.{front}
 use Rattle.store_rows.proofs.Left.{left, left-all, left-none, left-step}
 use Rattle.store_rows.proofs.Finding.{found-here, found-nowhere}
 use Rattle.store_rows.proofs.Closed.{moved-snoc}
@@ -106,12 +107,6 @@ number-set t k v h =
     sym (take-append-drop k t) ∙ ap (λ (x : List ℕ). take k t ++ x) (drop-three t k h) in
     ap (λ (x : List ℕ). set x k v) e
     ∙ set-at (take k t) (getD t k 0) (getD t (k + 1) 0 ∷ getD t (k + 2) 0 ∷ drop (k + 3) t) v k (length-take-le k t (omega arith))
-
--- the front of a table
-front : (t : List ℕ) (i : ℕ) → 1 + 3 * i ≤ length t → take (1 + 3 * i) t ≡ getD t 0 0 ∷ cellsOf (rowsAt t i 1)
-front t i h =
-    take-add 1 (3 * i) t ∙ ap (λ (x : List ℕ). take 1 t ++ x) (sym (cells-rows t i 1 h))
-    ∙ ap (λ (x : List ℕ). take 1 x ++ cellsOf (rowsAt t i 1)) (drop-cons t 0 0 (omega arith))
 
 -- the rows with another in the place of one
 pub replaced-rows : (t : List ℕ) (n i : ℕ) (r : Row) → n ≡ getD t 0 0 → i < n

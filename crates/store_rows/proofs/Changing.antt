@@ -1,4 +1,4 @@
--- A row put in (`inserted`) and taken out (`removed`): the cells are then those of the list so changed.
+-- The front of a table (`front`). A row put in (`inserted`) and taken out (`removed`): the cells are then those of the list so changed.
 use Prim.Native.Nat.{ℕ, _+_, _*_, _-_, _≤_, _<_}
 use mathlib.Core.Path.{_≡_, sym, ap, _∙_}
 use mathlib.Core.List.{List, _∷_, _++_, append-assoc}
@@ -11,7 +11,7 @@ use Rattle.store_rows.specs.Changed.{insertAt, removeAt, rowLaid}
 use Rattle.store_rows.proofs.Cells.{length-rows, take-rows, drop-rows, cells-rows, cells-append, cells-cons}
 
 -- the front of a table
-front : (t : List ℕ) (i : ℕ) → 1 + 3 * i ≤ length t → take (1 + 3 * i) t ≡ getD t 0 0 ∷ cellsOf (rowsAt t i 1)
+pub front : (t : List ℕ) (i : ℕ) → 1 + 3 * i ≤ length t → take (1 + 3 * i) t ≡ getD t 0 0 ∷ cellsOf (rowsAt t i 1)
 front t i h =
     take-add 1 (3 * i) t ∙ ap (λ (x : List ℕ). take 1 t ++ x) (sym (cells-rows t i 1 h))
     ∙ ap (λ (x : List ℕ). take 1 x ++ cellsOf (rowsAt t i 1)) (drop-cons t 0 0 (omega arith))
