@@ -265,10 +265,10 @@ fn found(driver: &dyn Drives, power_off: fn(&mut Lasting, &mut Prng)) -> (Cuts, 
     let mut rng = Prng::new(3721);
     let mut other = 0;
     for round in 0..40 {
-        let lasting = a_fresh_store(12 + round, [0, 3, 8, 30][round % 4], &mut rng);
+        let lasting = a_fresh_store(12 + 2 * round, [0, 3, 8, 30][round % 4], &mut rng);
         let mut told = Running::started(&TOLD, lasting).expect("a fresh store");
         let mut store = Store::fresh(told.block.clone());
-        for _ in 0..12 {
+        for _ in 0..20 {
             let call = Asked::drawn(&store, &mut rng);
             let mut after = store.clone();
             let Ok(alone) = call.alone(&mut after) else { continue };

@@ -96,6 +96,9 @@ fn endings(title: &str, need: usize) -> Table {
     for (call, endings) in CALLS.iter().zip(own) {
         COLUMNS.iter().filter(|ending| !endings.contains(ending)).for_each(|ending| table.never(call, ending));
     }
+    for (call, ending) in [("try", "closed up"), ("try", "FULL"), ("moved", "NUMBER")] {
+        table.needs(call, ending, need.div_ceil(4));
+    }
     table
 }
 
@@ -172,21 +175,29 @@ fn moves_close_up() {
         if before.next_move().is_none() || before.greetings.len() == 32 || free == 0 {
             continue;
         }
-        // As many octets as are free are in no gap.
+        // As many octets as are free: in no gap, unless there is one alone.
         let call = Call::Put(1, 60_000, vec![0; free]);
         let mut alone = before.clone();
         let put = alone.put(1, 60_000, &vec![0; free]).expect("there is room");
+        if put.moved == 0 {
+            continue;
+        }
         let mut sum = 0;
         while let Some(next) = stores.model.next_move() {
             assert_eq!(
                 stores.call(&Call::Next).report,
                 [next.number as usize, next.from, next.to, next.octets].map(|n| n as u64)
             );
-            stores.promised(&Call::Moved(next.number, next.to as u64));
+            assert_eq!(stores.call(&Call::Moved(next.number, next.to as u64)), Told::ok(0, 0));
+            stores.carry(next.from..next.from + next.octets, next.to);
             (sum, moves) = (sum + next.octets, moves + 1);
         }
         assert_eq!((stores.call(&call), sum), (Told::ok(put.start, 0), put.moved));
-        assert_eq!((&stores.model.greetings, &stores.model.block), (&alone.greetings, &alone.block));
+        assert!(
+            stores.model.greetings == alone.greetings && stores.model.block == alone.block,
+            "{:?}",
+            alone.greetings
+        );
         puts += 1;
     }
     stores.close();
@@ -285,7 +296,7 @@ fn every_small_record() {
     stores.close();
     let [steps, refused] = endings;
     say(&format!("compared: moves, every small record: {steps} steps, {refused} MOVE\n"));
-    assert!(steps > tenth(10_000) && refused > tenth(500_000));
+    assert!(steps > tenth(4_000) && refused > tenth(700_000));
 }
 
 /// A record that tells of a move in a block, and a spare that fits its state.
@@ -480,13 +491,13 @@ fn whole_moves() {
                 let changed = (0..at.spare).filter(|at| before.1[*at] != after.1[*at]);
                 changed.for_each(|at| stores.spare[at] = rng.next_u64() as u8);
                 assert_eq!(stores.step(&record), Ok(next));
-                assert_eq!((&stores.model.block, &stores.spare), (&after.0, &after.1));
+                assert!((&stores.model.block, &stores.spare) == (&after.0, &after.1), "{record:?}");
                 again += 1;
             }
             record = next;
         }
         assert_eq!(record, [1 - page as u32, 0, 0, 0, 0, 0, 0, 0]);
-        assert_eq!(stores.model.block, wanted, "{:?}, spare of {}", at.record, at.spare);
+        assert!(stores.model.block == wanted, "{:?}, spare of {}", at.record, at.spare);
     }
     stores.close();
     say(&format!("compared: moves, whole moves: {} steps, {again} made again over what a cut left\n", stores.calls));

@@ -252,10 +252,7 @@ fn a_greeting_is_mended() {
     assert_eq!(told, Ok(Mended { octets: 5, frames: 3, kept: 4, filled: 80 }));
     assert_eq!(out, [0x41, 0x00, 0x56, 0x0F, 0x81, 0xA7, 0xA7, 0xA7]);
     let mut out = [0xA7; 8];
-    assert_eq!(
-        mend(&[0x41, 0x00, 0x41, 0x00], Law::A, 40, &mut out),
-        Ok(Mended { octets: 2, frames: 2, kept: 2, filled: 0 })
-    );
+    assert_eq!(mend(&[0x41, 0x00, 0x41, 0x00], Law::A, 40, &mut out), Ok(Mended { octets: 2, frames: 2, kept: 2, filled: 0 }));
     assert_eq!(out, [0x41, 0x00, 0xA7, 0xA7, 0xA7, 0xA7, 0xA7, 0xA7]);
     // A frame of tool 11 is kept, a cut one is not.
     let mut out = [0xA7; 8];
@@ -285,10 +282,7 @@ fn greetings_are_kept() {
     assert_eq!(get(&block, &table, 8), Ok(Got { start: 2, octets: 70 }));
     assert_eq!(put(&mut block, &mut table, Law::A, 9, &[0x46]), Err(Refusal::Bad));
     assert_eq!(put(&mut block, &mut table, Law::A, 9, &[0x02, 0x55, 0x55, 0x55, 0x55]), Err(Refusal::Bad));
-    assert_eq!(
-        put(&mut block, &mut table, Law::A, 9, &[0x02, 0x55, 0x55, 0x55, 0x55, 0x55]),
-        Ok(Put { start: 72, moved: 0 })
-    );
+    assert_eq!(put(&mut block, &mut table, Law::A, 9, &[0x02, 0x55, 0x55, 0x55, 0x55, 0x55]), Ok(Put { start: 72, moved: 0 }));
     assert_eq!(delete(&block, &mut table, 9), Ok(()));
     let mut text = vec![0; MAX_TABLE];
     let octets = save(&block, &table, &mut text).unwrap();
@@ -354,7 +348,7 @@ fn greetings_are_jumped_into() {
     assert_eq!(report, [0; 4], "a report is written in every case");
 }
 
-/// The header's example of a recording: a frame, a loss of 80 samples, a pad, a loss of unknown length, a frame.
+/// Greetings moved one after another, and put behind them; and what is refused.
 #[test]
 fn greetings_close_up_by_moves() {
     use g7110::store::{get, move_step, moved, next, put, renumber, try_put, Got, Hop, Put, Refusal};
@@ -395,6 +389,7 @@ fn greetings_close_up_by_moves() {
     );
 }
 
+/// The header's example of a recording: a frame, a loss of 80 samples, a pad, a loss of unknown length, a frame.
 #[test]
 fn a_recording_is_written_and_read() {
     use g7110::recording::{read, write, Item, Recording, HEADING, LOSS, MAX_FILE};

@@ -47,7 +47,11 @@ impl Stores<'_> {
                     self.kept.insert(*to, kept);
                 }
                 // The table says where its octets go; they follow, as the steps of the move bring them.
-                Call::Moved(number, to) => self.carry(rows.iter().find(|row| row.number == *number), *to as usize),
+                Call::Moved(number, to) => {
+                    if let Some(row) = rows.iter().find(|row| row.number == *number) {
+                        self.carry(row.start..row.start + row.octets, *to as usize);
+                    }
+                }
                 _ => {}
             }
         }

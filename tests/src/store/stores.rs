@@ -188,13 +188,10 @@ impl<'a> Stores<'a> {
         self.model.block[at] = octet;
     }
 
-    /// The octets of a greeting brought to another place, in both blocks.
-    pub(super) fn carry(&mut self, row: Option<&Greeting>, to: usize) {
-        if let Some(row) = row {
-            let place = row.start..row.start + row.octets;
-            self.model.block.copy_within(place.clone(), to);
-            self.block.copy_within(MARGIN + place.start..MARGIN + place.end, MARGIN + to);
-        }
+    /// Octets of the block brought to another place, behind the back end's back; the model's follow.
+    pub fn carry(&mut self, place: std::ops::Range<usize>, to: usize) {
+        self.model.block.copy_within(place.clone(), to);
+        self.block.copy_within(MARGIN + place.start..MARGIN + place.end, MARGIN + to);
     }
 
     pub fn differ(&mut self, what: &str, fault: &str) {
