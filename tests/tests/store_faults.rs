@@ -890,7 +890,7 @@ fn drawn(turn: usize, profiles: &[tests::store::Profile], stores: &mut Stores, r
 fn a_wrong_back_end_is_found() {
     let mut rng = Prng::new(606);
     let profiles = profiles(&mut rng);
-    let files = [include_str!("../vectors/store.txt"), include_str!("../vectors/moves.txt")];
+    let files = [include_str!("../vectors/moves.txt"), include_str!("../vectors/store.txt")];
     let steps: Vec<Step> = files.iter().flat_map(|file| script(file).unwrap()).collect();
     let keepers: [&dyn Keeps; 2] = [&Second, &Wrong(Fault::Nothing)];
     for keeper in keepers {

@@ -411,7 +411,8 @@ pub extern "C" fn g7110_move_step(
     words: &[u32; 8],
     next: &mut [u32; 8],
 ) -> u32
-    ensures { λ r. ⌜ MoveStep (now (block .entry)) (now (spare .entry)) (now (words .entry)) (now (next .entry)) (now (block .exit)) (now (spare .exit)) (now (next .exit)) r ⌝ }
+    ensures { λ r. ⌜ MoveStep (now (block .entry)) (now (spare .entry)) (now (words .entry)) (now (next .entry))
+        (now (block .exit)) (now (spare .exit)) (now (next .exit)) r ⌝ }
 {
     store_moves::steps::move_step(block, spare, words, next)
 }

@@ -1,5 +1,5 @@
 -- A step that was cut, made again, leaves what it would have left (`direct-again`, `lift-again`, `lay-again`; `again`).
-use Prim.Native.Nat.{ℕ, _+_, _-_, _≤_, _<_}
+use Prim.Native.Nat.{ℕ, _+_, _≤_, _<_}
 use mathlib.Core.Path.{_≡_, ap, _∙_}
 use mathlib.Core.List.{List, _++_}
 use native.Mathlib.Omega.{arith}

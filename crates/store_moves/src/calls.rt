@@ -248,7 +248,8 @@ fn octets_moved(table: &[u32], n: usize, size: usize) -> usize
 
 // Where a greeting that fits would be put: in the lowest gap, or behind all when they have closed up.
 fn place(table: &[u32], n: usize, size: usize, want: usize, behind: usize) -> Answer
-    requires { ⌜ (n ≡ getD (now table) 0 0) × Ordered size (now table) × (size ≤ largestBlock) × (want ≤ size) × (behind ≡ heldBy (rowsOf (now table))) ⌝ }
+    requires { ⌜ (n ≡ getD (now table) 0 0) × Ordered size (now table) × (size ≤ largestBlock) × (want ≤ size)
+        × (behind ≡ heldBy (rowsOf (now table))) ⌝ }
     ensures { λ r. ⌜ r ≡ gapTells (rowsOf (now (table .entry))) (lowestGap want size (rowsOf (now (table .entry)))) ⌝ }
 {
     match store_rows::rows::lowest_gap(table, n, size, want) {

@@ -64,7 +64,8 @@ fn grown(m: Move, k: usize) -> State
 // "A step in state 1": a chunk goes directly, or into the spare.
 fn hop_or_lift(block: &mut [u8], spare: &mut [u8], m: Move) -> State
     requires { ⌜ Tells (now block) m ⌝ }
-    ensures { λ r. ⌜ stepped (now (block .entry)) (now (spare .entry)) (State.Moving m) ≡ lasts (now (block .exit)) (now (spare .exit)) r ⌝ }
+    ensures { λ r. ⌜ stepped (now (block .entry)) (now (spare .entry)) (State.Moving m)
+        ≡ lasts (now (block .exit)) (now (spare .exit)) r ⌝ }
 {
     let d = m.from - m.to;
     let left = m.octets - m.done;
@@ -84,7 +85,8 @@ fn hop_or_lift(block: &mut [u8], spare: &mut [u8], m: Move) -> State
 fn lay(block: &mut [u8], spare: &[u8], m: Move) -> State
     requires { ⌜ Tells (now block) m ⌝ }
     requires { ⌜ distance m < length (now spare) ⌝ }
-    ensures { λ r. ⌜ stepped (now (block .entry)) (now (spare .entry)) (State.Lifted m) ≡ lasts (now (block .exit)) (now (spare .entry)) r ⌝ }
+    ensures { λ r. ⌜ stepped (now (block .entry)) (now (spare .entry)) (State.Lifted m)
+        ≡ lasts (now (block .exit)) (now (spare .entry)) r ⌝ }
 {
     let k = least(m.octets - m.done, spare.len());
     store_rows::placing::copy(block, m.to + m.done, &spare[..k]);
@@ -193,7 +195,8 @@ fn tell(next: &mut [u32; 8], page: u32, state: State)
 
 // One chunk of the move that the record tells of, and in `next` the record after it; or MOVE, and nothing is changed.
 pub fn move_step(block: &mut [u8], spare: &mut [u8], words: &[u32; 8], next: &mut [u32; 8]) -> u32
-    ensures { λ r. ⌜ MoveStep (now (block .entry)) (now (spare .entry)) (now (words .entry)) (now (next .entry)) (now (block .exit)) (now (spare .exit)) (now (next .exit)) r ⌝ }
+    ensures { λ r. ⌜ MoveStep (now (block .entry)) (now (spare .entry)) (now (words .entry)) (now (next .entry))
+        (now (block .exit)) (now (spare .exit)) (now (next .exit)) r ⌝ }
 {
     let size = store_rows::rows::size_of(block.len());
     let state = told(size, spare.len(), words);
