@@ -10,7 +10,7 @@ use second::table;
 use tests::store::{
     a_fresh_store, held, turned, AsTold, Asked, Cuts, Cutter, Drives, Lasting, Plan, Running, Wanted, Write,
 };
-use tests::{say, share, Proved};
+use tests::{say, share, tenth, tenths, Proved};
 
 /// Calls that were not refused, and what they needed.
 #[derive(Default)]
@@ -163,6 +163,64 @@ fn large_blocks() {
     }
     tell("large blocks", &cutter.cuts, &met);
     assert!(cutter.cuts.all() > share(1_000));
+}
+
+/// Every way in which greetings lie in a block of so many octets: start and octets of each.
+fn every_store(size: usize) -> Vec<Vec<(usize, usize)>> {
+    let mut stores = vec![Vec::new()];
+    for start in (0..size).rev() {
+        // Those that begin here, before all that begin behind them.
+        let behind = stores.clone();
+        for octets in 1..=size - start {
+            let apart = |rows: &&Vec<(usize, usize)>| rows.first().is_none_or(|(next, _)| start + octets <= *next);
+            stores.extend(behind.iter().filter(apart).map(|rows| [&[(start, octets)][..], rows].concat()));
+        }
+    }
+    stores
+}
+
+/// Every store of seven octets that a put of all its free octets closes up, with every spare: every write cut at every octet of block and
+/// spare, and every write of the starts behind that.
+#[test]
+fn every_small_store() {
+    const SIZE: usize = 7;
+    let plan = Plan { every: 8, near: 2, drawn: 1, all_ways: true, writes: 99, writes_of_a_start: 99, deep: 1 };
+    let driver = AsTold(&Proved);
+    let mut cutter = Cutter::new(&driver, plan, 3715);
+    let mut met = Met::default();
+    let stores = every_store(SIZE);
+    for rows in tenths(&stores) {
+        let block = [0x41, 0x42, 0x81, 0x82, 0xC1, 0xC2, 0x21];
+        let early: String = rows
+            .iter()
+            .zip(1..)
+            .map(|((start, octets), number)| format!("prompt={number}\nstart={start}\noctets={octets}\n"))
+            .collect();
+        let before = Store::load(early.as_bytes(), block.to_vec()).expect("all octets are frames");
+        let call = Asked::Put(0, 9, vec![0x31; SIZE - before.held()]);
+        let mut after = before.clone();
+        if !call.alone(&mut after).is_ok_and(|[_, moved]| moved > 0) {
+            continue;
+        }
+        for spare in 0..=SIZE + 1 {
+            let mut at = a_fresh_store(SIZE, spare, &mut cutter.rng);
+            at.block.copy_from_slice(&block);
+            let text = before.text();
+            at.pages[0][..text.len()].copy_from_slice(&text);
+            at.pages[0][text.len()] = 0;
+            let mut run = Running::started(&driver, at.clone()).expect("it is loaded");
+            call.make(&driver, &mut run).expect("there is room");
+            assert!(
+                run.block == after.block && run.lasting.text(run.lasting.page_in_use()) == after.text(),
+                "{rows:?}"
+            );
+            (met.puts, met.closed_up, met.writes) = (met.puts + 1, met.closed_up + 1, met.writes + run.writes.len());
+            cutter.cut_call(&at, &run.writes, &before, &after);
+        }
+    }
+    let all = stores.len();
+    tell(&format!("every store of {SIZE} octets, of {all}"), &cutter.cuts, &met);
+    assert!(all == 610 && met.closed_up > tenth(2_000), "{all} stores, {} puts", met.closed_up);
 }
 
 /// A page that is just as long as the longest text, or one octet longer: the text ends at the page's end, or before its octet 0.
