@@ -220,7 +220,7 @@ fn every_small_store() {
     }
     let all = stores.len();
     tell(&format!("every store of {SIZE} octets, of {all}"), &cutter.cuts, &met);
-    assert!(all == 610 && met.closed_up > tenth(2_000), "{all} stores, {} puts", met.closed_up);
+    assert!(all == 610 && met.closed_up > tenth(800), "{all} stores, {} puts", met.closed_up);
 }
 
 /// A page that is just as long as the longest text, or one octet longer: the text ends at the page's end, or before its octet 0.
