@@ -40,6 +40,8 @@
  *
  * VERSIONS
  *   G7110_VERSION goes up by one when a call is added, or a call or its report changes.
+ *   13  the calls for a store whose power may be cut: g7110_store_try, g7110_store_next, g7110_store_moved, g7110_store_renumber and
+ *       g7110_move_step, with G7110_MOVE. Block, table and text are as they were; every call of version 12 answers as it did.
  *   12  tool 11, fractional-bit, and sets up to 255: G7110_ALL_TOOLS was 127. With a set up to 127 every call but g7110_why answers
  *       as in version 11. g7110_why writes a ninth line, that of tool 11. Mending and the store take frames of tool 11, so version
  *       11 refuses the saved table of such a greeting with G7110_BAD; a set line may say up to 255.
@@ -152,6 +154,25 @@
  *     if (g7110_store_jump(block, block_len, table, cells, 7, 16000, to) != G7110_OK) return 1;
  *     // read from the octet block + got[0] + to[1] on, and play the first frame from its sample to[2] on
  *
+ * POWER
+ *   Where power may be cut in the middle of a write, five calls close up one greeting at a time, so that no greeting is ever lost: after
+ *   a start the store is the one before the call that was cut or the one after it. What lasts is the block, two pages for the table's
+ *   text, a spare of any number of octets, 0 too, and a record of eight numbers that changes in one write; the caller writes it, in the
+ *   order of docs/STORE.md, which has the loop in C. A fresh record is all 0:
+ *     page, record[0]            the page in use, 0 or 1
+ *     state, record[1]           0 still, 1 moving, 2 moving and the chunk is whole in the spare
+ *     from, to, octets           record[2] to [4], the move: where the greeting's octets lie, where they go, how many there are
+ *     done, record[5]            how many of them are there
+ *     record[6] and record[7]    0
+ *   With d = from - to and left = octets - done a step of g7110_move_step is this. In state 1, where d is the spare's length or more,
+ *   min(left, d) octets go from block + from + done to block + to + done, and done grows by as many; where d is less, min(left, the
+ *   spare's length) octets go from block + from + done to the start of the spare, and the state is 2. In state 2 as many go from
+ *   the spare to block + to + done, done grows by as many, and the state is 1. Where done reaches octets the next record is still:
+ *   the other page, and zeros. A step that was cut is made again from the same record, to the same end.
+ *   The record tells of a move in a block where the page is 0 or 1, the state 1 or 2, to below from, from + octets at most the block's
+ *   length (at most G7110_MAX_BLOCK), done below octets, in state 2 d below the spare's length, and the last two are 0; else the
+ *   step is refused with G7110_MOVE.
+ *
  * RECORDINGS
  *   Studios send the G.711.0 storage file of RFC 7655. It is a heading and then items one after another, at most G7110_MAX_STREAM
  *   octets of them. The RFC was not at hand: the heading and the marks of a loss are as they are remembered (docs/DECISIONS.md).
@@ -234,7 +255,7 @@
 extern "C" {
 #endif
 
-#define G7110_VERSION 12
+#define G7110_VERSION 13
 
 #define G7110_MAX_SAMPLES 320 /* samples of a frame */
 #define G7110_MAX_WRITTEN 321 /* octets of a written frame */
@@ -275,8 +296,8 @@ enum {
     G7110_LONG = 13,   /* walk given more than 1,048,576 octets; a file with more behind its heading */
     G7110_HEAD = 14,   /* the first ten octets of a file are no heading: another letter or version, or fewer octets */
     G7110_NUMBER = 15, /* a greeting's number is 0 or above 65,535 */
-    G7110_TAKEN = 16,  /* put: a greeting has the number */
-    G7110_ABSENT = 17, /* get, delete, jump: no greeting has the number */
+    G7110_TAKEN = 16,  /* put, renumber: a greeting has the number */
+    G7110_ABSENT = 17, /* get, delete, jump, moved, renumber: no greeting has the number */
     G7110_BAD = 18,    /* the greeting is empty, or the walk refuses it with G7110_ALL_TOOLS and room enough; jump: false marks */
     G7110_FULL = 19,   /* the store has 32 greetings */
     G7110_NOROOM = 20, /* the octets held and the new ones exceed the block's size */
@@ -378,29 +399,27 @@ uint32_t g7110_store_save(const uint8_t *block, size_t block_len, const uint32_t
 uint32_t g7110_store_load(const uint8_t *text, size_t text_len, const uint8_t *block, size_t block_len,
                           uint32_t *table, size_t table_len);
 
-/* Where power may be cut: docs/STORE.md has the order in which the caller writes what lasts. */
-
-/* Tells exactly what g7110_store_put would answer and report. Nothing is changed. */
+/* Where power may be cut, as the manual says under POWER. Tells exactly what g7110_store_put would answer and report, refusals too;
+ * nothing is changed. */
 uint32_t g7110_store_try(const uint8_t *block, size_t block_len, const uint32_t *table, size_t table_len, uint32_t law,
                          uint32_t number, const uint8_t *octets, size_t octets_len, uint64_t report[2]);
 
-/* Tells the next move of closing up: of the first greeting, in order of start, that is not where closing up puts it. Refused with
- * G7110_TABLE. report: its number, where it lies, where it goes, its octets; zeros where all are closed up. */
+/* Tells the next move of closing up: that of the first greeting, in order of start, that is not where closing up puts it. Refused
+ * with G7110_TABLE. report: its number, where it lies, where it goes, its octets; zeros where all are closed up. */
 uint32_t g7110_store_next(const uint8_t *block, size_t block_len, const uint32_t *table, size_t table_len, uint64_t report[4]);
 
-/* Changes the table to have the greeting of the next move at its new place; of the block only the length is used. Refused with
- * G7110_TABLE, G7110_NUMBER, G7110_ABSENT, and with G7110_MOVE where it is not the next move. */
+/* Changes the table: the greeting of the next move is at its new place. No octet moves; of the block only the length is used. Refused
+ * with G7110_TABLE, G7110_NUMBER, G7110_ABSENT, and with G7110_MOVE where it is not the next move; where there is none, that is every
+ * greeting, also to its own start. A refused call leaves the table as lent. */
 uint32_t g7110_store_moved(const uint8_t *block, size_t block_len, uint32_t *table, size_t table_len, uint32_t number, uint64_t to);
 
-/* Gives a greeting another number; nothing else changes. Refused with G7110_TABLE, G7110_NUMBER (either), G7110_ABSENT, and with
- * G7110_TAKEN where a greeting has the new one, also where both are one. */
+/* Gives a greeting another number; nothing else changes. Refused with G7110_TABLE, G7110_NUMBER (either of the two), G7110_ABSENT, and
+ * with G7110_TAKEN where a greeting has the new one, also where both are one. A refused call leaves the table as lent. */
 uint32_t g7110_store_renumber(const uint8_t *block, size_t block_len, uint32_t *table, size_t table_len, uint32_t number,
                               uint32_t to);
 
-/* Makes one chunk of the move that the record tells of, in the block or into the spare, and writes the record after it to next. The
- * record is eight numbers: page in use (0, 1); 0 still, 1 moving, 2 moving and the chunk is whole in the spare; from; to; octets;
- * done; 0; 0. Where it is done, next is still, with the other page, and zeros. Refused with G7110_MOVE where the record tells of no
- * move in this block; then nothing is changed. */
+/* Makes one step of the move that the record tells of, in the block or from it into the spare, and writes the record after it to
+ * next. Refused with G7110_MOVE where the record tells of no move in this block; then block, spare and next are as lent. */
 uint32_t g7110_move_step(uint8_t *block, size_t block_len, uint8_t *spare, size_t spare_len, const uint32_t record[8],
                          uint32_t next[8]);
 

@@ -14,6 +14,7 @@ mod mended;
 mod reasons;
 #[cfg(feature = "writer")]
 mod recorded;
+mod steps;
 mod store;
 mod time;
 

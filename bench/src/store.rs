@@ -1,5 +1,5 @@
 //! The greeting store: puts beside the walk over the same octets and beside R-6's, closing up beside memmove, then
-//! the short calls. Jumps are in jumps.rs.
+//! the short calls. Jumps are in jumps.rs, closing up by steps in steps.rs.
 //!
 //! A call that changes the table finds it as it was each time, and that is in the time: for a put, whose greeting is the last,
 //! the 194 cells before the marks are copied back, for a delete all of them, 770 in a usual block. bench/src/long.rs has the same
@@ -141,7 +141,7 @@ fn putting(both: &Both, of_r_6: f64, Greeting { name, law, octets, samples }: &G
 }
 
 /// A block that is full but for a gap before so many greetings and one behind them, both of one octet less than a put needs.
-fn apart(size: usize, count: u32, gap: usize) -> Both {
+pub fn apart(size: usize, count: u32, gap: usize) -> Both {
     let mut both = Both::of(size);
     both.put(NUMBER, &vec![0; gap]);
     let rest = size - 2 * gap;
@@ -254,7 +254,7 @@ fn puts() {
 }
 
 /// What is put: an uncompressed frame of so many samples, then pads.
-fn uncompressed(samples: usize, octets: usize) -> Vec<u8> {
+pub fn uncompressed(samples: usize, octets: usize) -> Vec<u8> {
     let mut form = vec![0; octets];
     let samples: Vec<u8> = (0..samples).map(|place| place as u8).collect();
     assert_eq!(second::write_frame(&samples, 1, crate::SET, &mut form).octets, samples.len() + 1);
@@ -295,4 +295,5 @@ pub fn tables() {
     head("The store: loading 32 greetings of at most 512 octets, beside the walk over them", "load");
     greetings(512).iter().for_each(|greeting| loading(BLOCK, 32, greeting));
     crate::jumps::tables();
+    crate::steps::tables();
 }

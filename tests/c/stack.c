@@ -12,11 +12,12 @@
 enum { STACK = 1 << 20, PAINT = 0xC5, STREAM = 4000, KINDS = 10, OLD_TOOLS = 127 };
 
 /* Kinds of call, none among them. */
-enum { CALLS = 20 };
+enum { CALLS = 25 };
 
 struct call {
     int which; /* 0 none, 1 read, 2 write, 3 walk, 4 to linear values, 5 from them; of settings 6 save, 7 back, 8 read, 9 wipe;
-                * 10 why; of a store 11 put, 12 get, 13 delete, 14 save, 15 load; 16 mend; of a file 17 read, 18 write; 19 jump */
+                * 10 why; of a store 11 put, 12 get, 13 delete, 14 save, 15 load; 16 mend; of a file 17 read, 18 write; 19 jump; where power may
+                * be cut 20 try, 21 next, 22 moved, 23 renumber, 24 step */
     const uint8_t *given;
     size_t length;
 };
@@ -27,7 +28,7 @@ static uint32_t state[G7110_SETTINGS];
 static uint8_t block[G7110_MAX_BLOCK];
 static size_t block_len = G7110_NO_SETTINGS_BLOCK;
 static uint32_t table[G7110_MAX_CELLS];
-static uint32_t number;
+static uint32_t number, record[8], next[8];
 static uint16_t items[STREAM];
 static size_t listed;
 
@@ -54,6 +55,11 @@ static void *make(void *argument)
     if (call->which == 17) g7110_file_read(call->given, call->length, G7110_ALL_TOOLS, out, sizeof out, items, STREAM, report);
     if (call->which == 18) g7110_file_write(call->given, call->length, items, listed, 1, G7110_ALL_TOOLS, out, sizeof out, report);
     if (call->which == 19) g7110_store_jump(block, block_len, table, sizeof table / sizeof *table, number, call->length, report);
+    if (call->which == 20) g7110_store_try(block, block_len, table, sizeof table / sizeof *table, 1, number, call->given, call->length, report);
+    if (call->which == 21) g7110_store_next(block, block_len, table, sizeof table / sizeof *table, report);
+    if (call->which == 22) g7110_store_moved(block, block_len, table, sizeof table / sizeof *table, number, call->length);
+    if (call->which == 23) g7110_store_renumber(block, block_len, table, sizeof table / sizeof *table, number, (uint32_t)call->length);
+    if (call->which == 24) g7110_move_step(block, block_len, out, call->length, record, next);
     return NULL;
 }
 
@@ -129,6 +135,35 @@ static void settings(void)
     measure(8, NULL, 0);
 }
 
+/* Greetings that close up one by one, directly and by way of a spare, and one that is renumbered twice. */
+static void closing_up(const uint8_t *stream, size_t length)
+{
+    uint64_t due[4];
+    size_t spare;
+    measure(20, stream, length);
+    for (spare = 0;; spare = 4096 - spare) {
+        measure(21, NULL, 0);
+        if (g7110_store_next(block, block_len, table, sizeof table / sizeof *table, due) != G7110_OK || due[0] == 0) break;
+        number = (uint32_t)due[0];
+        measure(22, NULL, (size_t)due[2]);
+        memset(record, 0, sizeof record);
+        record[1] = 1;
+        record[2] = (uint32_t)due[1];
+        record[3] = (uint32_t)due[2];
+        record[4] = (uint32_t)due[3];
+        while (record[1] != 0) {
+            measure(24, NULL, spare);
+            memcpy(record, next, sizeof record);
+        }
+        measure(23, NULL, G7110_MAX_NUMBER);
+        measure(23, NULL, 0);
+        record[2] = number;
+        number = G7110_MAX_NUMBER;
+        measure(23, NULL, record[2]);
+    }
+    measure(20, stream, length);
+}
+
 /* Each call over a store: greetings of every kind of frame, gaps, closing up, and one that is refused. */
 static void store(const uint8_t *stream, size_t length)
 {
@@ -146,6 +181,8 @@ static void store(const uint8_t *stream, size_t length)
     for (number = 1; number <= 7; number += 2)
         for (sample = 0; sample < 320 * KINDS; sample += 320) measure(19, NULL, sample);
     for (number = 41, sample = 0; sample <= 240000; sample += 23960) measure(19, NULL, sample);
+    for (number = 9; number <= 30; number += 7) measure(13, NULL, 0);
+    closing_up(stream, length);
     measure(14, NULL, 0);
     if (g7110_store_save(block, block_len, table, sizeof table / sizeof *table, text, sizeof text, saved) != G7110_OK) return;
     measure(15, text, (size_t)saved[0]);
@@ -175,6 +212,9 @@ static void large_store(const uint8_t *stream, size_t length)
     number = 1;
     measure(13, NULL, 0);
     for (number = 3; number <= 4; number++) measure(11, number == 3 ? stream : whole, number == 3 ? length : sizeof whole / 2);
+    number = 3;
+    measure(13, NULL, 0);
+    closing_up(stream, length);
 }
 
 /* Both calls over a file: one of every kind of frame and of losses, written, read, and read where its last frame is cut. */
@@ -201,7 +241,8 @@ int main(void)
                                           "from_linear", "settings_save", "settings_back", "settings_read", "settings_wipe",
                                           "why",         "store_put",     "store_get",     "store_delete",  "store_save",
                                           "store_load",  "mend",          "file_read",     "file_write",
-                                          "store_jump"};
+                                          "store_jump",  "store_try",     "store_next",    "store_moved",   "store_renumber",
+                                          "move_step"};
     uint8_t samples[320], form[G7110_MAX_WRITTEN], stream[STREAM];
     uint64_t wrote[3];
     size_t length = 0;

@@ -24,10 +24,12 @@ pub struct Further {
     menders: Menders<'static>,
     stores: Stores<'static>,
     files: Filed<'static>,
-    /// Long streams have a generator of their own too.
+    /// Long streams have a generator of their own too; so have moves.
     long: Prng,
     walks: Pair<'static>,
     large: Stores<'static>,
+    moving: Prng,
+    moved: Stores<'static>,
     rounds: usize,
 }
 
@@ -44,6 +46,8 @@ impl Further {
             long: Prng::new(seed.rotate_left(32) ^ 11),
             walks: Pair::new(&Proved, &Second),
             large: Stores::new(&Proved, Vec::new()),
+            moving: Prng::new(seed.rotate_left(32) ^ 37),
+            moved: Stores::new(&Proved, vec![0; 500]),
             rounds: 0,
         }
     }
@@ -61,17 +65,21 @@ impl Further {
         if self.rounds % LONG_ROUNDS == 0 {
             self.lengthen(pool);
         }
+        if self.rounds % ROUNDS == 0 {
+            self.move_on(pool);
+        }
     }
 
     pub fn differences(&self) -> usize {
         let all =
             [&self.reasons.differences, &self.menders.differences, &self.stores.differences, &self.files.differences];
-        all.into_iter().chain([&self.walks.differences, &self.large.differences]).sum()
+        all.into_iter().chain([&self.walks.differences, &self.large.differences, &self.moved.differences]).sum()
     }
 
     pub fn shown(&self) -> Vec<String> {
         let all = [self.reasons.shown(), self.menders.shown(), self.stores.shown(), self.files.shown()];
-        [all.concat(), self.walks.shown().to_vec(), self.large.shown().to_vec()].concat()
+        let more = [self.walks.shown(), self.large.shown(), self.moved.shown()];
+        [all.concat(), more.concat()].concat()
     }
 
     /// How many calls there were, in words.
@@ -85,6 +93,7 @@ impl Further {
                 "{} long streams walked, in a file, mended and kept, {} calls of a large store",
                 self.walks.calls, self.large.calls
             ),
+            format!("{} calls of a store that closes up by moves", self.moved.calls),
         ];
         all.join(", ")
     }
@@ -229,6 +238,39 @@ impl Further {
         self.large.call(&Call::Jump(number, sample));
         self.large.saved_and_loaded();
         self.large.call(&Call::Delete(number));
+    }
+
+    /// Some calls of a store that closes up by moves, on what earlier ones left or on a fresh block, and a step of the next move's
+    /// record or of one that is nearly that.
+    fn move_on(&mut self, pool: &[Vec<u8>]) {
+        let (rng, stores) = (&mut self.moving, &mut self.moved);
+        if rng.chance(1, 30) {
+            let size = *rng.pick(&[0, 12, 100, 500, 3_000, BLOCK + 20]);
+            stores.renew(rng.octets(size));
+        }
+        for _ in 0..1 + rng.below(6) {
+            let (law, number, other) = (rng.below(2) as u32, rng.below(20) as u32, rng.below(20) as u32);
+            let octets = if rng.flip() { rng.pick(pool).clone() } else { vec![0x41; rng.below(60)] };
+            let next = stores.model.next_move();
+            stores.call(&match rng.below(8) {
+                0 | 1 => Call::Put(law, number, octets),
+                2 => Call::Delete(number),
+                3 => Call::Try(law, number, octets),
+                4 => Call::Next,
+                5 => Call::Renumber(number, other),
+                _ => Call::Moved(next.map_or(number, |next| next.number), next.map_or(0, |next| next.to as u64)),
+            });
+        }
+        stores.spare = vec![0x42; *rng.pick(&[0, 1, 7, 64, 256])];
+        if let Some(next) = stores.model.next_move() {
+            let [from, to, octets] = [next.from, next.to, next.octets].map(|number| number as u32);
+            let [page, state] = [rng.below(2) as u32, 1 + rng.below(2) as u32];
+            let mut record = [page, state, from, to, octets, rng.below(next.octets) as u32, 0, 0];
+            if rng.chance(1, 3) {
+                record[rng.below(8)] ^= 1 << rng.below(32);
+            }
+            let _ = stores.step(&record);
+        }
     }
 
     /// The file of a drawn list of frames, pads and losses; none where it is refused.

@@ -1,22 +1,35 @@
 //! A greeting store that fills its gaps (document 02, R-6), with marks, jumps and large blocks: a back end
 //! asked call by call beside a model in plain vectors, the second program's. [`Keeps`] is a back end, [`Stores`] asks it, checks the whole block
-//! and the whole table, and each promise on its own answers. [`script`] reads tests/vectors/store.txt.
+//! and the whole table, and each promise on its own answers. [`script`] reads tests/vectors/store.txt and moves.txt.
+//!
+//! What lasts over a cut of power ([`Lasting`]) is written by a driver ([`Drives`]) in the order of docs/STORE.md, and [`Cutter`] cuts
+//! its writes.
 
+mod asked;
+mod cuts;
 mod damage;
 mod draw;
+mod drives;
 mod first;
 mod frames;
 mod keeps;
+mod lasting;
 mod promises;
 mod rows;
 mod script;
 mod stores;
 
+pub use asked::{a_fresh_store, Asked};
+pub use cuts::{held, Cuts, Cutter, Held, Plan, Wanted};
 pub use damage::{damaged, Damaged, DAMAGES};
-pub use draw::{change, large_profiles, profiles, short_frames, some_call, some_jump, some_store, Profile, PARTS};
+pub use draw::{
+    change, large_profiles, profiles, short_frames, some_call, some_jump, some_move, some_store, Profile, PARTS,
+};
+pub use drives::{accepted, turned, AsTold, Drives, Running};
 pub use first::{first_line, FIRST_LINES};
 pub use frames::{a_greeting, frames_of, Frames};
-pub use keeps::{Keeps, Told};
+pub use keeps::{Keeps, Record, Told};
+pub use lasting::{page_octets, Lasting, Part, Write};
 pub use rows::{asks_for_form, early_text_of, is_large, lowest_gap, rows_of, sane, text_of, whole_text_of};
 pub use script::{script, Step};
 pub use stores::{Call, Stores};
@@ -31,8 +44,9 @@ pub const FULL: u32 = 19;
 pub const NOROOM: u32 = 20;
 pub const BEYOND: u32 = 21;
 pub const TABLE: u32 = 26;
+pub const MOVE: u32 = 27;
 /// The endings by name.
-pub const ENDINGS: [(&str, u32); 11] = [
+pub const ENDINGS: [(&str, u32); 12] = [
     ("ok", 0),
     ("ROOM", ROOM),
     ("LAW", LAW),
@@ -44,6 +58,7 @@ pub const ENDINGS: [(&str, u32); 11] = [
     ("NOROOM", NOROOM),
     ("BEYOND", BEYOND),
     ("TABLE", TABLE),
+    ("MOVE", MOVE),
 ];
 
 pub fn ending_name(ending: u32) -> &'static str {

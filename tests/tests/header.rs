@@ -37,6 +37,30 @@ fn run(compiler: &str, standard: &str, file: &str, more: &[&str]) -> String {
     said
 }
 
+/// docs/STORE.md's loop for a box whose power may be cut, taken from the page: it stands in one block.
+fn loop_of_the_page() -> String {
+    let page = std::fs::read_to_string(repository().join("docs/STORE.md")).unwrap();
+    let blocks = page.split("```c\n").skip(1).filter_map(|rest| rest.split("```").next());
+    let mut loops = blocks.filter(|block| block.contains("box_start"));
+    let found = loops.next().expect("docs/STORE.md has the loop").to_string();
+    assert!(loops.next().is_none(), "docs/STORE.md has the loop once");
+    found
+}
+
+/// The loop of docs/STORE.md as it stands there, in C and in C++, with a cut at every octet that it writes.
+#[test]
+fn a_box_whose_power_is_cut() {
+    let folder = Path::new(env!("CARGO_TARGET_TMPDIR"));
+    std::fs::write(folder.join("box.h"), loop_of_the_page()).unwrap();
+    let include = format!("-I{}", folder.display());
+    for (compiler, standard, file) in [("cc", "-std=c99", "cut.c"), ("c++", "-std=c++11", "cut.cpp")] {
+        let said = run(compiler, standard, file, &["-Wconversion", &include]);
+        let cuts = said.strip_prefix("ok ").and_then(|said| said.strip_suffix(" cuts\n")).expect("it says how many");
+        say(&format!("compared: docs/STORE.md's loop, {file}: {cuts} cuts, each start finds the greetings\n"));
+        assert!(cuts.parse::<usize>().unwrap() > 50_000, "{said}");
+    }
+}
+
 #[test]
 fn a_program_in_c() {
     assert_eq!(run("cc", "-std=c99", "example.c", &[]), "ok\n");
@@ -62,11 +86,11 @@ fn the_stack_that_a_call_uses() {
     let said = run("cc", "-std=c99", "stack.c", &["-pthread"]);
     say(&said.replace("stack:", "compared: stack, the shipped archive:"));
     let octets: Vec<u64> = said.lines().map(|line| line.split_whitespace().nth(2).unwrap().parse().unwrap()).collect();
-    assert_eq!(octets.len(), 19, "{said}");
+    assert_eq!(octets.len(), 24, "{said}");
     let most = defined("G7110_STACK");
     assert!(octets.iter().all(|octets| *octets <= most), "the header says {most}\n{said}");
     // A conversion calls nothing; it and a wipe may use no more than a thread that makes no call.
-    assert!([0, 1, 2, 5, 6, 7, 9, 10, 15, 16, 17, 18].iter().all(|call| octets[*call] > 0), "{said}");
+    assert!([0, 1, 2, 5, 6, 7, 9, 10, 15, 16, 17, 18, 19].iter().all(|call| octets[*call] > 0), "{said}");
     // A quarter: what the C library's own functions take differs from one processor to another.
     assert!(octets.iter().any(|octets| 4 * octets > most), "the header says {most}\n{said}");
 }

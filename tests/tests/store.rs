@@ -63,6 +63,7 @@ fn run(step: &Step, stores: &mut Stores, part: &str) {
             stores.lend(|lent| lent[*at..at + cells.len()].copy_from_slice(cells));
         }
         Step::Writes(at, octets) => octets.iter().enumerate().for_each(|(more, octet)| stores.octet(at + more, *octet)),
+        Step::Spare(_) | Step::SpareIs(_) | Step::Steps(..) => panic!("{part}: moves.txt has steps"),
     }
 }
 

@@ -5,9 +5,9 @@ use second::gen::Prng;
 use second::store::{Greeting, Jump, Mark, Store};
 use second::table;
 use tests::store::{
-    asks_for_form, change, damaged, early_text_of, is_large, lowest_gap, profiles, rows_of, script, some_call, text_of,
-    Call, Keeps, Step, Stores, Told, ABSENT, BAD, BEYOND, BLOCK, DAMAGES, FORM, FULL, GREETINGS, LAW, MARKS, MORE_ROWS,
-    MOST_BLOCK, MOST_WITHOUT, NOROOM, NUMBER, PARTS, ROOM, TABLE, TAKEN,
+    asks_for_form, change, damaged, early_text_of, is_large, lowest_gap, profiles, rows_of, script, some_call,
+    some_move, text_of, Call, Keeps, Record, Step, Stores, Told, ABSENT, BAD, BEYOND, BLOCK, DAMAGES, FORM, FULL,
+    GREETINGS, LAW, MARKS, MORE_ROWS, MOST_BLOCK, MOST_WITHOUT, MOVE, NOROOM, NUMBER, PARTS, ROOM, TABLE, TAKEN,
 };
 use tests::{say, Codec, Second, ALL_TOOLS, LISTED_TOOLS, MOST};
 
@@ -118,6 +118,36 @@ faults!(
     OldToolsPut,
     OldToolsLoaded,
     OldToolsJumped,
+    // Closing up by moves.
+    TryCountsAll,
+    TryDoesNotCloseUp,
+    TryTellsTheGap,
+    TryWithoutTheWalk,
+    TryLooksForRoomFirst,
+    NextIsTheLast,
+    NextGoesToTheStart,
+    NextIsTheOneBehind,
+    NextByDistance,
+    MovedTakesAny,
+    MovedToItsOwnStart,
+    MovedIn32Bits,
+    MoveBeforeAbsent,
+    MarksOfAMove,
+    RenumberToItself,
+    AbsentBeforeNumber,
+    TakenBeforeAbsent,
+    RenumberIn16Bits,
+    RenumberTakesTwo,
+    StepPastTheDistance,
+    StepSpareAsLong,
+    StepTakesDone,
+    StepTakesAnyPage,
+    StepTakesTheLastTwo,
+    StepPastTheBlock,
+    StepDoesNotTurn,
+    StepLeavesTheMove,
+    StepFillsTheSpare,
+    StepReportsWhenRefused,
 );
 
 struct Wrong(Fault);
@@ -674,6 +704,126 @@ impl Keeps for Wrong {
         }
     }
 
+    fn try_put(&self, block: &[u8], lent: &[u32], law: u32, number: u32, octets: &[u8]) -> Told {
+        let mut told = Second.try_put(block, lent, law, number, octets);
+        let Some(store) = opened(block, lent) else { return told };
+        match (self.0, told.ending) {
+            (Fault::TryCountsAll, 0) if told.report[1] > 0 => told.report[1] = store.held() as u64,
+            (Fault::TryDoesNotCloseUp, 0) if told.report[1] > 0 => told = Told::refused(NOROOM),
+            (Fault::TryTellsTheGap, 0) if told.report[1] > 0 => {
+                told.report[0] = store.greetings.last().map_or(0, |row| (row.start + row.octets) as u64);
+            }
+            (Fault::TryWithoutTheWalk, BAD) if !octets.is_empty() => told = Told::ok(0, 0),
+            (Fault::TryLooksForRoomFirst, FULL) if store.held() + octets.len() > store.size() => {
+                told = Told::refused(NOROOM);
+            }
+            _ => {}
+        }
+        told
+    }
+
+    fn next(&self, block: &[u8], lent: &[u32]) -> Told {
+        let told = Second.next(block, lent);
+        let Some(store) = opened(block, lent).filter(|_| told.report[0] > 0) else { return told };
+        let rows = &store.greetings;
+        let at = rows.iter().position(|row| u64::from(row.number) == told.report[0]).expect("it is held");
+        let of = |row: &Greeting, to: u64| Told {
+            ending: 0,
+            report: [u64::from(row.number), row.start as u64, to, row.octets as u64],
+        };
+        match self.0 {
+            Fault::NextIsTheLast => of(rows.last().expect("it has some"), told.report[2]),
+            Fault::NextGoesToTheStart => of(&rows[at], 0),
+            Fault::NextIsTheOneBehind => rows.get(at + 1).map_or(told, |row| of(row, told.report[2])),
+            Fault::NextByDistance => {
+                let [number, from, to, octets] = told.report;
+                Told { ending: 0, report: [number, from, from - to, octets] }
+            }
+            _ => told,
+        }
+    }
+
+    fn moved(&self, block: &[u8], lent: &mut [u32], number: u32, to: u64) -> Told {
+        let mut told = Second.moved(block, lent, number, to);
+        let Some(store) = opened(block, lent) else { return told };
+        let row = store.greetings.iter().position(|row| row.number == number);
+        match (self.0, told.ending, row) {
+            (Fault::MovedTakesAny, MOVE, Some(row)) => {
+                let next = store.next_move();
+                if next.is_some_and(|next| next.to as u64 == to) && to < store.greetings[row].start as u64 {
+                    told = Told::ok(0, 0);
+                }
+            }
+            (Fault::MovedToItsOwnStart, MOVE, Some(row)) if store.greetings[row].start as u64 == to => {
+                told = Told::ok(0, 0);
+            }
+            (Fault::MovedIn32Bits, MOVE, Some(_)) => told = Second.moved(block, lent, number, u64::from(to as u32)),
+            (Fault::MoveBeforeAbsent, ABSENT, _) if store.next_move().is_none() => told = Told::refused(MOVE),
+            (Fault::MarksOfAMove, 0, Some(_)) if lent[MARKS] == 0 => lent[MARKS] = 1,
+            _ => {}
+        }
+        told
+    }
+
+    fn renumber(&self, block: &[u8], lent: &mut [u32], number: u32, to: u32) -> Told {
+        let ranged = |number: u32| (1..65_536).contains(&number);
+        let told = Second.renumber(block, lent, number, to);
+        match (self.0, told.ending) {
+            (Fault::RenumberToItself, TAKEN) if number == to => Told::ok(0, 0),
+            (Fault::AbsentBeforeNumber, NUMBER) if ranged(number) => match Second.get(block, lent, number).ending {
+                ABSENT => Told::refused(ABSENT),
+                _ => told,
+            },
+            (Fault::TakenBeforeAbsent, ABSENT) if Second.get(block, lent, to).ending == 0 => Told::refused(TAKEN),
+            (Fault::RenumberIn16Bits, NUMBER) => Second.renumber(block, lent, number & 0xFFFF, to & 0xFFFF),
+            (Fault::RenumberTakesTwo, TAKEN) if number != to => Told::ok(0, 0),
+            _ => told,
+        }
+    }
+
+    fn step(&self, block: &mut [u8], spare: &mut [u8], record: &Record, next: &mut Record) -> u32 {
+        let [page, state, from, to, octets, done, ..] = *record;
+        let mut given = *record;
+        match self.0 {
+            Fault::StepPastTheDistance if state == 1 && to < from => {
+                let (distance, left) = ((from - to) as usize, octets.saturating_sub(done) as usize);
+                let mut tried = *next;
+                if distance >= spare.len() && left > distance && Second.step(block, spare, record, &mut tried) == 0 {
+                    let source = from as usize + done as usize + distance;
+                    block[to as usize + done as usize + distance] = block[source];
+                    *next = if left == distance + 1 { [1 - page, 0, 0, 0, 0, 0, 0, 0] } else { tried };
+                    return 0;
+                }
+            }
+            Fault::StepSpareAsLong if state == 2 && to < from && (from - to) as usize == spare.len() => {
+                let mut longer = [&*spare, &[0]].concat();
+                return Second.step(block, &mut longer, record, next);
+            }
+            Fault::StepTakesDone if done == octets && octets > 0 => given[5] = octets - 1,
+            Fault::StepTakesAnyPage => given[0] &= 1,
+            Fault::StepTakesTheLastTwo => (given[6], given[7]) = (0, 0),
+            Fault::StepPastTheBlock => {
+                let mut longer = [&*block, &[0]].concat();
+                let ending = Second.step(&mut longer, spare, record, next);
+                block.copy_from_slice(&longer[..block.len()]);
+                return ending;
+            }
+            _ => {}
+        }
+        let ending = Second.step(block, spare, &given, next);
+        match self.0 {
+            Fault::StepDoesNotTurn if ending == 0 && next[1] == 0 => next[0] = page,
+            Fault::StepLeavesTheMove if ending == 0 && next[1] == 0 => next[2] = from,
+            Fault::StepFillsTheSpare if ending == 0 && next[1] == 2 => {
+                let count = spare.len().min((octets - done) as usize);
+                spare[count..].fill(0);
+            }
+            Fault::StepReportsWhenRefused if ending != 0 => *next = [0; 8],
+            _ => {}
+        }
+        ending
+    }
+
     fn reader(&self) -> &dyn Codec {
         &Second
     }
@@ -696,7 +846,11 @@ fn vectors(steps: &[Step], stores: &mut Stores) {
             Step::Saves(_) => {
                 stores.call(&Call::Save(stores.room()));
             }
-            Step::Block(_) | Step::Cells(..) => {}
+            Step::Spare(spare) => stores.spare.clone_from(spare),
+            Step::Steps(record, _) => {
+                let _ = stores.step(record);
+            }
+            Step::Block(_) | Step::Cells(..) | Step::SpareIs(_) => {}
         }
         if stores.differences > 0 {
             return;
@@ -725,6 +879,10 @@ fn drawn(turn: usize, profiles: &[tests::store::Profile], stores: &mut Stores, r
         let call = some_call(profile, stores, rng);
         stores.call(&call);
     }
+    for _ in 0..20 {
+        let call = some_move(profile, stores, rng);
+        stores.call(&call);
+    }
 }
 
 /// The second program itself, and with no fault, differs in nothing; each of the wrong ones does.
@@ -732,7 +890,8 @@ fn drawn(turn: usize, profiles: &[tests::store::Profile], stores: &mut Stores, r
 fn a_wrong_back_end_is_found() {
     let mut rng = Prng::new(606);
     let profiles = profiles(&mut rng);
-    let steps = script(include_str!("../vectors/store.txt")).unwrap();
+    let files = [include_str!("../vectors/moves.txt"), include_str!("../vectors/store.txt")];
+    let steps: Vec<Step> = files.iter().flat_map(|file| script(file).unwrap()).collect();
     let keepers: [&dyn Keeps; 2] = [&Second, &Wrong(Fault::Nothing)];
     for keeper in keepers {
         let mut stores = Stores::new(keeper, Vec::new());

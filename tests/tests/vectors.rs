@@ -12,7 +12,7 @@ const FILES: [&str; 7] =
     ["usual.txt", "unusual.txt", "faulty.txt", "open-points.txt", "windows.txt", "fractional.txt", "first-octet.txt"];
 
 /// The files that tests of their own run.
-const OTHERS: [&str; 6] = ["settings.txt", "why.txt", "mend.txt", "store.txt", "file.txt", "told.txt"];
+const OTHERS: [&str; 7] = ["settings.txt", "why.txt", "mend.txt", "store.txt", "moves.txt", "file.txt", "told.txt"];
 
 fn folder() -> std::path::PathBuf {
     std::path::Path::new(env!("CARGO_MANIFEST_DIR")).join("vectors")

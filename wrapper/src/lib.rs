@@ -38,7 +38,7 @@ impl Law {
 }
 
 /// The header's version.
-pub const VERSION: u32 = 12;
+pub const VERSION: u32 = 13;
 /// Octets of stack that a call uses at most: measured, not proved.
 pub const STACK: usize = 8_192;
 /// Every carried tool. Tool t, 1 to 7, adds 2^(t-1) to a set, tool 11 adds 128; a writer's set is odd.

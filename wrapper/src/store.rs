@@ -1,5 +1,6 @@
 //! A greeting store that fills its gaps: document 02, R-6, with marks and jumps, R-8 and R-9, and blocks as large as R-11 has
-//! them. Greetings in a lent block, with a lent table.
+//! them. Greetings in a lent block, with a lent table. Where power may be cut, [`try_put`], [`next`], [`moved`], [`renumber`] and
+//! [`move_step`] close up one greeting at a time; docs/STORE.md has the order in which what lasts is written.
 
 use crate::{raw, Law};
 use std::fmt;
@@ -160,7 +161,7 @@ pub fn delete(block: &[u8], table: &mut [u32], number: u32) -> Result<(), Refusa
     }
 }
 
-/// What `put` would answer; nothing is changed.
+/// What [`put`] would answer; nothing is changed.
 pub fn try_put(block: &[u8], table: &[u32], law: Law, number: u32, octets: &[u8]) -> Result<Put, Refusal> {
     let mut report = [0; 2];
     match raw::store_try(block, table, law.number(), number, octets, &mut report) {
@@ -169,7 +170,7 @@ pub fn try_put(block: &[u8], table: &[u32], law: Law, number: u32, octets: &[u8]
     }
 }
 
-/// The next move of closing up, or none where all greetings are closed up.
+/// The next move of closing up: of the first greeting that is not where closing up puts it. None where all are.
 pub fn next(block: &[u8], table: &[u32]) -> Result<Option<Hop>, Refusal> {
     let mut report = [0; 4];
     match raw::store_next(block, table, &mut report) {
@@ -182,7 +183,7 @@ pub fn next(block: &[u8], table: &[u32]) -> Result<Option<Hop>, Refusal> {
     }
 }
 
-/// The table with the greeting of the next move at its new place.
+/// Changes the table: the greeting of the next move is at its new place. The octets follow by [`move_step`].
 pub fn moved(block: &[u8], table: &mut [u32], number: u32, to: usize) -> Result<(), Refusal> {
     match raw::store_moved(block, table, number, to as u64) {
         0 => Ok(()),
@@ -198,8 +199,12 @@ pub fn renumber(block: &[u8], table: &mut [u32], number: u32, to: u32) -> Result
     }
 }
 
-/// One chunk of the move that the record tells of, and the record after it.
-pub fn move_step(block: &mut [u8], spare: &mut [u8], record: &[u32; 8]) -> Result<[u32; 8], Refusal> {
+/// What lasts of a move: page in use, state (0 still, 1 moving, 2 moving and the chunk is whole in the spare), from, to, octets, done,
+/// 0, 0. A fresh one is all 0.
+pub type Record = [u32; 8];
+
+/// One step of the move that the record tells of, and the record after it.
+pub fn move_step(block: &mut [u8], spare: &mut [u8], record: &Record) -> Result<Record, Refusal> {
     let mut next = [0; 8];
     match raw::move_step(block, spare, record, &mut next) {
         0 => Ok(next),

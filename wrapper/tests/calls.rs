@@ -348,6 +348,47 @@ fn greetings_are_jumped_into() {
     assert_eq!(report, [0; 4], "a report is written in every case");
 }
 
+/// Greetings moved one after another, and put behind them; and what is refused.
+#[test]
+fn greetings_close_up_by_moves() {
+    use g7110::store::{get, move_step, moved, next, put, renumber, try_put, Got, Hop, Put, Refusal};
+    let (mut block, mut table) = ([0xEE; 12], [0; 258]);
+    for (number, octets, start) in
+        [(7, &[0x41; 2][..], 0), (1, &[0], 2), (8, &[0x42; 3], 3), (2, &[0; 2], 6), (9, &[0x81], 8)]
+    {
+        assert_eq!(put(&mut block, &mut table, Law::Mu, number, octets), Ok(Put { start, moved: 0 }));
+    }
+    assert_eq!(next(&block, &table), Ok(None));
+    g7110::store::delete(&block, &mut table, 1).unwrap();
+    g7110::store::delete(&block, &mut table, 2).unwrap();
+    let before = (block, table);
+    assert_eq!(try_put(&block, &table, Law::A, 3, &[0xC1; 5]), Ok(Put { start: 6, moved: 4 }));
+    assert_eq!(try_put(&block, &table, Law::A, 7, &[0xC1; 5]), Err(Refusal::Taken));
+    assert_eq!(moved(&block, &mut table, 9, 5), Err(Refusal::Move));
+    assert_eq!(moved(&block, &mut table, 8, 3), Err(Refusal::Move));
+    assert_eq!(renumber(&block, &mut table, 8, 9), Err(Refusal::Taken));
+    assert_eq!(move_step(&mut block, &mut [], &[0; 8]), Err(Refusal::Move));
+    assert_eq!((block, table), before, "nothing is changed");
+    // A spare of two octets: the move by one goes by way of it, in four steps, the move by three directly, in one.
+    let (mut spare, mut record, mut steps) = ([0; 2], [0; 8], 0);
+    while let Some(Hop { number, from, to, octets }) = next(&block, &table).unwrap() {
+        moved(&block, &mut table, number, to).unwrap();
+        record = [record[0], 1, from as u32, to as u32, octets as u32, 0, 0, 0];
+        while record[1] != 0 {
+            record = move_step(&mut block, &mut spare, &record).unwrap();
+            steps += 1;
+        }
+    }
+    assert_eq!((record, steps), ([0; 8], 5));
+    assert_eq!(put(&mut block, &mut table, Law::A, 3, &[0xC1; 5]), Ok(Put { start: 6, moved: 0 }));
+    assert_eq!(block, [0x41, 0x41, 0x42, 0x42, 0x42, 0x81, 0xC1, 0xC1, 0xC1, 0xC1, 0xC1, 0xEE]);
+    assert_eq!(renumber(&block, &mut table, 3, 65_535), Ok(()));
+    assert_eq!(
+        (get(&block, &table, 65_535), get(&block, &table, 3)),
+        (Ok(Got { start: 6, octets: 5 }), Err(Refusal::Absent))
+    );
+}
+
 /// The header's example of a recording: a frame, a loss of 80 samples, a pad, a loss of unknown length, a frame.
 #[test]
 fn a_recording_is_written_and_read() {

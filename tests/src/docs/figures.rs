@@ -17,14 +17,21 @@ const README: &str = "README.md";
 const STORE: &str = "docs/STORE.md";
 const TESTING: &str = "docs/TESTING.md";
 
-const TOLD: [Told; 17] = [
+const TOLD: [Told; 18] = [
     (
         "cuts while closing up in place",
         &[
             (TESTING, "closing up in place: of # writes"),
             (TESTING, "each of the # leaves the old store"),
             (STORE, "of # cuts while closing up in place"),
-            (STORE, "each of the # leaves the old store"),
+        ],
+    ),
+    (
+        "cuts of closing up by moves",
+        &[
+            (TESTING, "none of # cuts loads anything but the store"),
+            (TESTING, "Together # cuts, of which"),
+            (STORE, "of # cuts of closing up by moves none loads"),
         ],
     ),
     ("cuts that leave the old store", &[(TESTING, "writes, # leave the old store"), (STORE, "and # as the old store")]),

@@ -38,13 +38,17 @@ pub fn refusals(files: &Files) -> Held {
     held
 }
 
-/// A clause of a definition of numbers: `refusalNumber Short = 1`, `refusalNumber (Tool t) = 3`.
-fn numbered(line: &str) -> Option<(&str, u64)> {
+/// A clause of a definition of numbers: `refusalNumber Short = 1`, `refusalNumber (Tool t) = 3`; or a refusal's number alone, as
+/// `moveNumber = 27`, where `mostNumber` is a limit. A clause that gives 0 is of a call that is accepted.
+fn numbered(line: &str) -> Option<(String, u64)> {
     let (left, right) = line.split_once(" = ")?;
-    let (definition, name) = left.split_once(' ')?;
+    let number = right.parse().ok().filter(|number| *number > 0)?;
+    let Some((definition, name)) = left.split_once(' ') else {
+        let (first, rest) = left.strip_suffix("Number").filter(|name| *name != "most")?.split_at_checked(1)?;
+        return Some((first.to_uppercase() + rest, number));
+    };
     let name = name.trim_start_matches('(').split(' ').next()?;
-    let number = right.parse().ok()?;
-    (definition.ends_with("Number") && name.starts_with(char::is_uppercase)).then_some((name, number))
+    (definition.ends_with("Number") && name.starts_with(char::is_uppercase)).then(|| (name.to_string(), number))
 }
 
 /// Each number that the header defines is a constant of the wrapper; the limits are those of definitions and proofs.

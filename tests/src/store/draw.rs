@@ -144,6 +144,41 @@ pub fn some_call(profile: &Profile, stores: &Stores, rng: &mut Prng) -> Call {
     }
 }
 
+/// A call of closing up by moves: a put tried, the next move, that move or nearly that one, a greeting renumbered.
+pub fn some_move(profile: &Profile, stores: &Stores, rng: &mut Prng) -> Call {
+    let rows = &stores.model.greetings;
+    let held = |rng: &mut Prng| match rows.len() {
+        0 => a_number(profile, rng),
+        count => rows[rng.below(count)].number,
+    };
+    match rng.below(8) {
+        0 | 1 => Call::Try(a_law(rng), a_number(profile, rng), some_octets(profile, rng)),
+        2 => Call::Next,
+        3..=5 => {
+            let next = stores.model.next_move();
+            let (number, to) = next.map_or((held(rng), 0), |next| (next.number, next.to as u64));
+            match rng.below(8) {
+                0 => Call::Moved(a_number(profile, rng), to),
+                1 => Call::Moved(held(rng), to),
+                2 => Call::Moved(number, to.wrapping_add(1)),
+                3 => Call::Moved(number, to.wrapping_sub(1)),
+                4 => Call::Moved(number, to + (1 << (31 + rng.below(32)))),
+                5 => Call::Moved(number, next.map_or(to, |next| next.from as u64)),
+                _ => Call::Moved(number, to),
+            }
+        }
+        _ => {
+            let number = if rng.chance(1, 4) { a_number(profile, rng) } else { held(rng) };
+            let to = match rng.below(6) {
+                0 => number,
+                1 => held(rng),
+                _ => a_number(profile, rng),
+            };
+            Call::Renumber(number, to)
+        }
+    }
+}
+
 /// A store of some greetings, made by puts, with gaps.
 pub fn some_store(profile: &Profile, stores: &mut Stores, rng: &mut Prng) {
     stores.renew(rng.octets(profile.block));

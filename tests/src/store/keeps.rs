@@ -2,8 +2,12 @@
 
 use crate::{Codec, Proved, Second};
 use g7110::raw;
+use second::moves;
 use second::store::Store;
 use second::table;
+
+/// The record of a move: page in use, state, from, to, octets, done, 0, 0.
+pub type Record = [u32; 8];
 
 /// A call's number, and its report; one of fewer than four numbers has 0 behind them.
 #[derive(Clone, Copy, Debug, PartialEq, Eq)]
@@ -21,7 +25,7 @@ impl Told {
         Told { ending: 0, report: [one as u64, other as u64, 0, 0] }
     }
 
-    /// Of a jump: the frame, its place, the sample's place in it, frames read.
+    /// Of a jump: the frame, its place, the sample's place in it, frames read. Of the next move: number, from, to, octets.
     pub fn jumped(report: [usize; 4]) -> Told {
         Told { ending: 0, report: report.map(|number| number as u64) }
     }
@@ -36,7 +40,7 @@ impl Told {
     }
 }
 
-/// A back end: the seven calls, whoever answers them.
+/// A back end: the calls over a store, whoever answers them.
 pub trait Keeps {
     fn cells(&self, size: u64) -> u64;
     fn put(&self, block: &mut [u8], table: &mut [u32], law: u32, number: u32, octets: &[u8]) -> Told;
@@ -45,6 +49,12 @@ pub trait Keeps {
     fn save(&self, block: &[u8], table: &[u32], out: &mut [u8]) -> Told;
     fn load(&self, text: &[u8], block: &[u8], table: &mut [u32]) -> Told;
     fn jump(&self, block: &[u8], table: &[u32], number: u32, sample: u64) -> Told;
+    fn try_put(&self, block: &[u8], table: &[u32], law: u32, number: u32, octets: &[u8]) -> Told;
+    fn next(&self, block: &[u8], table: &[u32]) -> Told;
+    fn moved(&self, block: &[u8], table: &mut [u32], number: u32, to: u64) -> Told;
+    fn renumber(&self, block: &[u8], table: &mut [u32], number: u32, to: u32) -> Told;
+    /// The ending; the record after it stands in `next`.
+    fn step(&self, block: &mut [u8], spare: &mut [u8], record: &Record, next: &mut Record) -> u32;
 
     /// The reader that the promises are checked with: the back end's own.
     fn reader(&self) -> &dyn Codec;
@@ -77,6 +87,26 @@ impl Keeps for Proved {
 
     fn jump(&self, block: &[u8], table: &[u32], number: u32, sample: u64) -> Told {
         Told::by(|report| raw::store_jump(block, table, number, sample, report))
+    }
+
+    fn try_put(&self, block: &[u8], table: &[u32], law: u32, number: u32, octets: &[u8]) -> Told {
+        Told::by(|report| raw::store_try(block, table, law, number, octets, report))
+    }
+
+    fn next(&self, block: &[u8], table: &[u32]) -> Told {
+        Told::by(|report| raw::store_next(block, table, report))
+    }
+
+    fn moved(&self, block: &[u8], table: &mut [u32], number: u32, to: u64) -> Told {
+        Told::refused(raw::store_moved(block, table, number, to))
+    }
+
+    fn renumber(&self, block: &[u8], table: &mut [u32], number: u32, to: u32) -> Told {
+        Told::refused(raw::store_renumber(block, table, number, to))
+    }
+
+    fn step(&self, block: &mut [u8], spare: &mut [u8], record: &Record, next: &mut Record) -> u32 {
+        raw::move_step(block, spare, record, next)
     }
 
     fn reader(&self) -> &dyn Codec {
@@ -129,6 +159,27 @@ impl Keeps for Second {
     fn jump(&self, block: &[u8], cells: &[u32], number: u32, sample: u64) -> Told {
         let jumped = table::open(block, cells).and_then(|store| store.jump(number, sample));
         jumped.map_or_else(Told::refused, |jump| Told::jumped([jump.frame, jump.place, jump.within, jump.read]))
+    }
+
+    fn try_put(&self, block: &[u8], cells: &[u32], law: u32, number: u32, octets: &[u8]) -> Told {
+        let tried = moves::store_try(block, cells, law, number, octets);
+        tried.map_or_else(Told::refused, |[start, moved]| Told::ok(start as usize, moved as usize))
+    }
+
+    fn next(&self, block: &[u8], cells: &[u32]) -> Told {
+        moves::store_next(block, cells).map_or_else(Told::refused, |report| Told { ending: 0, report })
+    }
+
+    fn moved(&self, block: &[u8], cells: &mut [u32], number: u32, to: u64) -> Told {
+        moves::store_moved(block, cells, number, to).map_or_else(Told::refused, |()| Told::ok(0, 0))
+    }
+
+    fn renumber(&self, block: &[u8], cells: &mut [u32], number: u32, to: u32) -> Told {
+        moves::store_renumber(block, cells, number, to).map_or_else(Told::refused, |()| Told::ok(0, 0))
+    }
+
+    fn step(&self, block: &mut [u8], spare: &mut [u8], record: &Record, next: &mut Record) -> u32 {
+        moves::move_step(block, spare, record, next).err().unwrap_or(0)
     }
 
     fn reader(&self) -> &dyn Codec {

@@ -5,16 +5,27 @@
 use super::stores::Kept;
 use super::{
     asks_for_form, frames_of, lowest_gap, rows_of, sane, Call, Frames, Stores, Told, ABSENT, BAD, BEYOND, FORM, FULL,
-    GREETINGS, LAW, NOROOM, NUMBER, TAKEN,
+    GREETINGS, LAW, MOVE, NOROOM, NUMBER, TAKEN,
 };
 use second::store::Greeting;
+
+/// The first greeting that does not begin where those before it, put together, end; and that place.
+fn next_of(rows: &[Greeting]) -> Option<(&Greeting, usize)> {
+    let ends = rows.iter().scan(0, |held, row| {
+        *held += row.octets;
+        Some(*held - row.octets)
+    });
+    rows.iter().zip(ends).find(|(row, to)| row.start != *to)
+}
 
 impl Stores<'_> {
     /// Makes a call of a list from a fresh block, and checks each promise.
     pub fn promised(&mut self, call: &Call) -> Told {
         let (rows, block) = (std::mem::take(&mut self.rows), self.model.block.clone());
         let frames = match call {
-            Call::Put(law, _, octets) if *law <= 1 => frames_of(self.keeper.reader(), octets, *law),
+            Call::Put(law, _, octets) | Call::Try(law, _, octets) if *law <= 1 => {
+                frames_of(self.keeper.reader(), octets, *law)
+            }
             _ => None,
         };
         let known = self.known(call, &rows, frames.as_ref());
@@ -31,6 +42,16 @@ impl Stores<'_> {
                     self.kept.insert(*number, Kept { law, octets, frames });
                 }
                 Call::Delete(number) => self.deleted += self.kept.remove(number).map_or(0, |kept| kept.octets.len()),
+                Call::Renumber(number, to) => {
+                    let kept = self.kept.remove(number).expect("it is kept");
+                    self.kept.insert(*to, kept);
+                }
+                // The table says where its octets go; they follow, as the steps of the move bring them.
+                Call::Moved(number, to) => {
+                    if let Some(row) = rows.iter().find(|row| row.number == *number) {
+                        self.carry(row.start..row.start + row.octets, *to as usize);
+                    }
+                }
                 _ => {}
             }
         }
@@ -47,7 +68,7 @@ impl Stores<'_> {
         let ranged = |number: &u32| (1..=65_535).contains(number);
         let told = |told: Told| Some((told.ending, Some(told)));
         match call {
-            Call::Put(law, number, octets) => {
+            Call::Put(law, number, octets) | Call::Try(law, number, octets) => {
                 let room = self.put - self.deleted + octets.len() <= self.model.size();
                 let refusals = [
                     (*law > 1, LAW),
@@ -72,6 +93,25 @@ impl Stores<'_> {
                 told(if beyond { Told::refused(BEYOND) } else { frames.holding(*sample as usize) })
             }
             Call::Get(_) | Call::Delete(_) => Some((0, None)),
+            Call::Next => told(
+                next_of(rows)
+                    .map_or(Told::ok(0, 0), |(row, to)| Told::jumped([row.number as usize, row.start, to, row.octets])),
+            ),
+            Call::Moved(number, _) if !ranged(number) => told(Told::refused(NUMBER)),
+            Call::Moved(number, _) if !self.kept.contains_key(number) => told(Told::refused(ABSENT)),
+            Call::Moved(number, to) => {
+                let due = next_of(rows).is_some_and(|(row, at)| row.number == *number && at as u64 == *to);
+                told(if due { Told::ok(0, 0) } else { Told::refused(MOVE) })
+            }
+            Call::Renumber(number, to) => {
+                let refusals = [
+                    (!ranged(number) || !ranged(to), NUMBER),
+                    (!self.kept.contains_key(number), ABSENT),
+                    (self.kept.contains_key(to), TAKEN),
+                ];
+                let refusal = refusals.iter().find(|(refused, _)| *refused);
+                told(refusal.map_or(Told::ok(0, 0), |(_, ending)| Told::refused(*ending)))
+            }
             Call::Save(_) | Call::Load(_) => None,
         }
     }
@@ -88,10 +128,14 @@ impl Stores<'_> {
         }
         let mut moved = 0;
         let mut written = vec![false; block.len()];
+        let renumbered = |number: u32| match call {
+            Call::Renumber(old, new) if got.ending == 0 && *new == number => *old,
+            _ => number,
+        };
         for row in &now {
             faults.extend(self.faults_of(row));
             let place = row.start..row.start + row.octets;
-            match rows.iter().find(|before| before.number == row.number) {
+            match rows.iter().find(|before| before.number == renumbered(row.number)) {
                 Some(before) if before.start == row.start => {}
                 Some(_) => {
                     moved += row.octets;
@@ -112,7 +156,7 @@ impl Stores<'_> {
             if got.report[1] as usize != moved || gap.map_or(!closed, |gap| gap != start || moved > 0) {
                 faults.push(format!("{got:?}, lowest gap {gap:?}, {moved} octets moved"));
             }
-        } else if moved > 0 {
+        } else if moved > 0 && !matches!(call, Call::Moved(..)) {
             faults.push("a call other than a put moved something".to_string());
         }
         faults.extend(self.fault_of_a_jump(&now));

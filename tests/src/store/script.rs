@@ -1,6 +1,6 @@
-//! The lines of tests/vectors/store.txt.
+//! The lines of tests/vectors/store.txt and moves.txt.
 
-use super::{Call, Told, ENDINGS};
+use super::{Call, Record, Told, ENDINGS, MOVE};
 use crate::octets;
 
 /// A line.
@@ -20,6 +20,12 @@ pub enum Step {
     Lends(usize, Vec<u32>),
     /// The block's octets from one on, the same.
     Writes(usize, Vec<u8>),
+    /// The spare is these octets from here on.
+    Spare(Vec<u8>),
+    /// The spare is now this.
+    SpareIs(Vec<u8>),
+    /// A step of this record, and the record after it, or that it is refused.
+    Steps(Record, Result<Record, u32>),
 }
 
 /// The lines of a file of vectors; its head has their form.
@@ -44,6 +50,23 @@ fn step(line: &str) -> Option<Step> {
         ("cells", [at]) => Some(Step::Cells(at.parse().ok()?, numbers(wanted)?)),
         ("lend", [at, cells @ ..]) => Some(Step::Lends(at.parse().ok()?, numbers(cells)?)),
         ("put", given) => Some(Step::Makes(put(given)?, told(wanted)?)),
+        ("try", given) => match put(given)? {
+            Call::Put(law, number, octets) => Some(Step::Makes(Call::Try(law, number, octets), told(wanted)?)),
+            _ => None,
+        },
+        ("next", []) => Some(Step::Makes(Call::Next, told(wanted)?)),
+        ("moved", [_, to]) => Some(Step::Makes(Call::Moved(number()?, to.parse().ok()?), told(wanted)?)),
+        ("renumber", [_, to]) => Some(Step::Makes(Call::Renumber(number()?, to.parse().ok()?), told(wanted)?)),
+        ("spare", []) => Some(match wanted {
+            [] => Step::Spare(Vec::new()),
+            [spare] => Step::SpareIs(octets(spare).ok()?),
+            _ => return None,
+        }),
+        ("spare", [spare]) => Some(Step::Spare(octets(spare).ok()?)),
+        ("step", given) => {
+            let after = if wanted == ["MOVE"] { Err(MOVE) } else { Ok(record(wanted)?) };
+            Some(Step::Steps(record(given)?, after))
+        }
         ("get", [_]) => Some(Step::Makes(Call::Get(number()?), told(wanted)?)),
         ("delete", [_]) => Some(Step::Makes(Call::Delete(number()?), told(wanted)?)),
         ("jump", [_, sample]) => Some(Step::Makes(Call::Jump(number()?, sample.parse().ok()?), told(wanted)?)),
@@ -80,6 +103,10 @@ fn told(wanted: &[&str]) -> Option<Told> {
         }
         _ => None,
     }
+}
+
+fn record(words: &[&str]) -> Option<Record> {
+    numbers(words)?.try_into().ok()
 }
 
 fn numbers(words: &[&str]) -> Option<Vec<u32>> {

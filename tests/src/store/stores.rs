@@ -1,6 +1,7 @@
 //! A back end's block and table beside the model, call by call.
 
-use super::{saved_room, text_of, Frames, Keeps, Told, TABLE};
+use super::{saved_room, text_of, Frames, Keeps, Record, Told, TABLE};
+use second::moves::{move_step, Move};
 use second::store::{Greeting, Store};
 use second::table;
 use std::collections::BTreeMap;
@@ -17,6 +18,13 @@ pub enum Call {
     Load(Vec<u8>),
     /// Number, sample.
     Jump(u32, u64),
+    /// Law, number, octets.
+    Try(u32, u32, Vec<u8>),
+    Next,
+    /// Number, where it goes.
+    Moved(u32, u64),
+    /// Number, the new one.
+    Renumber(u32, u32),
 }
 
 impl Call {
@@ -28,26 +36,33 @@ impl Call {
             Call::Save(_) => "save",
             Call::Load(_) => "load",
             Call::Jump(..) => "jump",
+            Call::Try(..) => "try",
+            Call::Next => "next",
+            Call::Moved(..) => "moved",
+            Call::Renumber(..) => "renumber",
         }
     }
 
     pub(super) fn words(&self) -> String {
         match self {
-            Call::Put(law, number, octets) => {
+            Call::Put(law, number, octets) | Call::Try(law, number, octets) => {
                 let shown: String = octets.iter().take(60).map(|octet| format!("{octet:02X}")).collect();
-                format!("put {number} {shown} ({} octets, law {law})", octets.len())
+                format!("{} {number} {shown} ({} octets, law {law})", self.name(), octets.len())
             }
             Call::Get(number) => format!("get {number}"),
             Call::Delete(number) => format!("delete {number}"),
             Call::Save(room) => format!("save in {room} octets"),
             Call::Load(text) => format!("load {}", shortened(text)),
             Call::Jump(number, sample) => format!("jump {number} {sample}"),
+            Call::Next => "next".to_string(),
+            Call::Moved(number, to) => format!("moved {number} {to}"),
+            Call::Renumber(number, to) => format!("renumber {number} {to}"),
         }
     }
 
     /// Whether it may change the table.
     fn changes(&self) -> bool {
-        matches!(self, Call::Put(..) | Call::Delete(_) | Call::Load(_))
+        matches!(self, Call::Put(..) | Call::Delete(_) | Call::Load(_) | Call::Moved(..) | Call::Renumber(..))
     }
 }
 
@@ -77,6 +92,8 @@ pub(super) struct Kept {
 pub struct Stores<'a> {
     pub(super) keeper: &'a dyn Keeps,
     pub model: Store,
+    /// The spare of moves, the model's.
+    pub spare: Vec<u8>,
     /// Whether the lent numbers are a table that calls leave, false marks or not. Else the model says nothing.
     pub judged: bool,
     block: Vec<u8>,
@@ -101,6 +118,7 @@ impl<'a> Stores<'a> {
         let mut stores = Stores {
             keeper,
             model: Store::fresh(Vec::new()),
+            spare: Vec::new(),
             judged: true,
             block: Vec::new(),
             table: Vec::new(),
@@ -170,6 +188,12 @@ impl<'a> Stores<'a> {
         self.model.block[at] = octet;
     }
 
+    /// Octets of the block brought to another place, behind the back end's back; the model's follow.
+    pub fn carry(&mut self, place: std::ops::Range<usize>, to: usize) {
+        self.model.block.copy_within(place.clone(), to);
+        self.block.copy_within(MARGIN + place.start..MARGIN + place.end, MARGIN + to);
+    }
+
     pub fn differ(&mut self, what: &str, fault: &str) {
         self.differences += 1;
         if self.shown.len() < SHOWN {
@@ -197,6 +221,10 @@ impl<'a> Stores<'a> {
             Call::Delete(number) => self.keeper.delete(block, table, *number),
             Call::Load(text) => self.keeper.load(text, block, table),
             Call::Jump(number, sample) => self.keeper.jump(block, table, *number, *sample),
+            Call::Try(law, number, octets) => self.keeper.try_put(block, table, *law, *number, octets),
+            Call::Next => self.keeper.next(block, table),
+            Call::Moved(number, to) => self.keeper.moved(block, table, *number, *to),
+            Call::Renumber(number, to) => self.keeper.renumber(block, table, *number, *to),
             Call::Save(room) => {
                 let fill = FILLS[self.calls % 2];
                 let mut lent = vec![fill; MARGIN + room + MARGIN];
@@ -234,6 +262,14 @@ impl<'a> Stores<'a> {
                 let told = model.jump(*number, *sample);
                 told.map(|jump| Told::jumped([jump.frame, jump.place, jump.within, jump.read]))
             }
+            Call::Try(law, number, octets) => {
+                model.try_put(*law, *number, octets).map(|put| Told::ok(put.start, put.moved))
+            }
+            Call::Next => Ok(model.next_move().map_or(Told::ok(0, 0), |Move { number, from, to, octets }| {
+                Told::jumped([number as usize, from, to, octets])
+            })),
+            Call::Moved(number, to) => model.moved(*number, *to).map(|()| Told::ok(0, 0)),
+            Call::Renumber(number, to) => model.renumber(*number, *to).map(|()| Told::ok(0, 0)),
         };
         answer.unwrap_or_else(Told::refused)
     }
@@ -247,7 +283,7 @@ impl<'a> Stores<'a> {
         if got != wanted {
             self.differ(&call.words(), &format!("{got:?}, wanted {wanted:?}"));
         }
-        self.check_block(call);
+        self.check_block(&call.words());
         let changed = wanted.ending == 0 && call.changes();
         if changed {
             // Cells in use are the model's, the others as they were.
@@ -265,17 +301,38 @@ impl<'a> Stores<'a> {
         wanted
     }
 
+    /// A step on the back end and on the model, on the block and the spare: answer, record after it, whole block, whole spare. A refused
+    /// one leaves the lent record as it was.
+    pub fn step(&mut self, record: &Record) -> Result<Record, u32> {
+        self.calls += 1;
+        let fill = FILLS[self.calls % 2];
+        let mut lent = [&[fill; MARGIN][..], &self.spare, &[fill; MARGIN]].concat();
+        let (octets, spare) = (self.octets_lent(), MARGIN..MARGIN + self.spare.len());
+        let (mut next, mut wanted) = ([u32::from(fill); 8], [u32::from(fill); 8]);
+        let ending = self.keeper.step(&mut self.block[octets], &mut lent[spare], record, &mut next);
+        let judged = move_step(&mut self.model.block, &mut self.spare, record, &mut wanted);
+        let words = format!("step of {record:?}, spare of {}", self.spare.len());
+        if ending != judged.err().unwrap_or(0) || next != wanted {
+            self.differ(&words, &format!("{ending}, {next:?}, wanted {judged:?}, {wanted:?}"));
+        }
+        self.check_block(&words);
+        if lent != [&[fill; MARGIN][..], &self.spare, &[fill; MARGIN]].concat() {
+            self.differ(&words, "the spare or what lies beside it differs");
+        }
+        judged.map(|()| wanted)
+    }
+
     /// The whole block, margins too.
-    fn check_block(&mut self, call: &Call) {
+    fn check_block(&mut self, words: &str) {
         let octets = self.octets_lent();
         if self.block[octets.clone()] != self.model.block {
             let at = (0..self.model.block.len()).find(|at| self.block[MARGIN + at] != self.model.block[*at]);
-            self.differ(&call.words(), &format!("the block differs at {at:?}"));
+            self.differ(words, &format!("the block differs at {at:?}"));
             self.block[octets.clone()].copy_from_slice(&self.model.block);
         }
         let fill = self.block[0];
         if self.block[..MARGIN].iter().chain(&self.block[octets.end..]).any(|octet| *octet != fill) {
-            self.differ(&call.words(), "octets beside the block have changed");
+            self.differ(words, "octets beside the block have changed");
             self.block[..MARGIN].fill(fill);
             self.block[octets.end..].fill(fill);
         }

@@ -1,0 +1,2 @@
+// The same as a program in C++.
+#include "cut.c"
