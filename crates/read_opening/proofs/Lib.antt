@@ -2,3 +2,4 @@
 pub mod Six
 pub mod Opened
 pub mod Headed
+pub mod Heads
