@@ -23,7 +23,7 @@ use Rattle.first_octet.specs.declared.Begins.the-variants.{Unassigned, Pad, Too
 use Rattle.first_octet.specs.Answers.{toolWith, asFirst}
 use Rattle.read_opening.specs.Opening.{rowIn, bodyBy}
 
-pub first-read : (s : List ℕ) → 1 ≤ length s → getD s 0 0 < 256 → numberFrom 0 8 (bitsOf s) 0 ≡ whole (getD s 0 0) 8
+first-read : (s : List ℕ) → 1 ≤ length s → getD s 0 0 < 256 → numberFrom 0 8 (bitsOf s) 0 ≡ whole (getD s 0 0) 8
 unfolding bitsOf lowBits
 first-read [] h o = absurd (omega arith)
 first-read (x ∷ s) h o =

@@ -9,7 +9,6 @@ ghost use Rattle.rules.specs.First.{markAt, sixNotEight};
 ghost use Rattle.rules.specs.Fractional.{firstCode};
 ghost use Rattle.read_bits.specs.Outcomes.{Reads};
 ghost use Rattle.read_opening.specs.Opening.{rowIn, Opens, SixOrEight, Starts};
-pub mod telling;
 use first_octet::Begins;
 use read_bits::Outcome;
 use rules::Ending;

@@ -27,7 +27,7 @@ use Rattle.rules.proofs.Accepted.{gives-fractional, gives-plusMinus, gives-body
 use Rattle.rules.proofs.WhichBit.{tool-at}
 use Rattle.promises.proofs.Only.{Only, Bodily, only-body, only-plusMinus, only-fractional, only-withTool}
 use Rattle.read_bits.proofs.OneBit.{bit-there}
-use Rattle.read_opening.specs.Heads.{FrameHead, byTool, headAfter, headOf, headTool}
+use Rattle.read_head.specs.Heads.{FrameHead, byTool, headAfter, headOf, headTool}
 
 -- what refuses a frame behind its tool: its room, its body, its filling bits
 abbrev pub Behind : Refusal → Type 0

@@ -1,13 +1,13 @@
 // What a frame's first octets tell: "tool, samples of the frame at the start, from its first one or two octets".
 ghost use mathlib.Core.Path.{_≡_};
-ghost use Prim.Native.Nat.{ℕ, _≤_};
+ghost use Prim.Native.Nat.{ℕ, _+_, _/_, _≤_};
 ghost use mathlib.Core.List.{List};
-ghost use mathlib.Core.Bool.{true};
 ghost use lib.ListN.{length};
 ghost use Rattle.rules.specs.Bits.{bitsOf};
 ghost use Rattle.rules.specs.Reading.{refuse};
-ghost use Rattle.rules.specs.First.{sixOrEight};
-ghost use Rattle.read_opening.specs.Heads.{byTool, headAfter, headOf, Heads};
+ghost use Rattle.rules.specs.First.{sixOrEight, markAt, sixNotEight};
+ghost use Rattle.read_bits.specs.Outcomes.{Reads};
+ghost use Rattle.read_head.specs.Heads.{byTool, headAfter, headOf, Heads};
 use first_octet::Begins;
 use read_bits::Outcome;
 use rules::Ending;
@@ -46,12 +46,37 @@ fn by_tool(set: u32, tool: u32, samples: usize) -> Told
     }
 }
 
+// "If the next two bits are 00 it is tool 8"; where the first of them is 1 the second is not asked for. As read_opening has it.
+fn six_not_eight(octets: &[u8], at: usize) -> Outcome
+    requires { ⌜ (at ≤ 7) × (1 ≤ length (now octets)) ⌝ }
+    ensures { λ r. ⌜ Reads (sixNotEight (bitsOf (now (octets .entry))) at) 8 9 r ⌝ }
+{
+    if read_bits::bit_at(octets, at) == 1 {
+        return Outcome::Got(6, at + 1);
+    }
+    let second = at + 1;
+    if octets.len() <= second / 8 {
+        return Outcome::Refused(Refusal::Short, second);
+    }
+    if read_bits::bit_at(octets, second) == 1 {
+        return Outcome::Got(6, second + 1);
+    }
+    Outcome::Got(8, second + 1)
+}
+
+// The place of the first of those two bits, behind tool 6's mark.
+fn decided_at(n: usize) -> usize
+    ensures { λ r. ⌜ (r ≡ markAt n + 1) × (r ≤ 7) ⌝ }
+{
+    if 240 <= n { 7 } else { 5 }
+}
+
 // "SHORT where 28, 2A, 38 or 3A .. stands alone"; else which of the two it is.
 fn six_told(octets: &[u8], n: usize, set: u32) -> Told
     requires { ⌜ 1 ≤ length (now octets) ⌝ }
     ensures { λ r. ⌜ ((i : ℕ) → Heads (headAfter set (sixOrEight n) (bitsOf (now (octets .entry))) i) r) ⌝ }
 {
-    match crate::six_not_eight(octets, crate::mark_at(n) + 1) {
+    match six_not_eight(octets, decided_at(n)) {
         Outcome::Refused(why, _) => refused(why),
         Outcome::Got(t, _) => by_tool(set, t as u32, n),
     }

@@ -16,9 +16,9 @@ use Rattle.rules.specs.Reading.{Read, whole, refuse, bit, numberFrom}
 use Rattle.rules.specs.First.{First, tool, fractionalRow, sixOrEight, firstOctet, markAt, sixNotEight}
 use Rattle.rules.specs.Fractional.{firstCode}
 use Rattle.first_octet.specs.Answers.{toolWith}
-use Rattle.read_opening.specs.declared.telling.Told.{Told}
-use Rattle.read_opening.specs.Heads.{FrameHead, byTool, headAfter, headOf, Heads}
-use Rattle.read_opening.proofs.Opened.{first-read}
+use Rattle.read_head.specs.declared.Told.{Told}
+use Rattle.read_head.specs.Heads.{FrameHead, byTool, headAfter, headOf, Heads}
+use Rattle.read_bits.proofs.Window.{number-octet}
 
 pub heads-as : {m n : Read FrameHead} {r : Told} → m ≡ n → Heads m r → Heads n r
 heads-as {r = r} e t = subst (λ (m : Read FrameHead). Heads m r) e t
@@ -32,13 +32,13 @@ module _ (set t n : ℕ) (b : List ℕ) (i : ℕ) where
   held-tool h = rw h refl
 
 -- tool 6 or 8, decided
-module _ (set n m i : ℕ) (s : List ℕ) (e : m ≡ markAt n) where
-  pub six-refused : {w : Refusal} {at : ℕ} → sixNotEight (bitsOf s) (m + 1) ≡ refuse w at
+module _ (set n m i : ℕ) (s : List ℕ) (e : m ≡ markAt n + 1) where
+  pub six-refused : {w : Refusal} {at : ℕ} → sixNotEight (bitsOf s) m ≡ refuse w at
       → refuse w at ≡ headAfter set (sixOrEight n) (bitsOf s) i
   unfolding headAfter
   six-refused q = rw (← e, q) refl
 
-  pub six-told : {t k : ℕ} → sixNotEight (bitsOf s) (m + 1) ≡ whole t k
+  pub six-told : {t k : ℕ} → sixNotEight (bitsOf s) m ≡ whole t k
       → byTool set t n (bitsOf s) k ≡ headAfter set (sixOrEight n) (bitsOf s) i
   unfolding headAfter
   six-told q = rw (← e, q) refl
@@ -61,7 +61,7 @@ module _ (s : List ℕ) (set : ℕ) where
 
     pub headed : 1 ≤ length s → getD s 0 0 < 256 → (f : First) → f ≡ firstOctet (getD s 0 0) → headAfter set f (bitsOf s) 8 ≡ headOf s set
     unfolding headOf
-    headed h o f e = rw (le-leb set allTools g, first-read s h o, e)
+    headed h o f e = rw (le-leb set allTools g, number-octet s 0 refl h o, e)
 
 -- a tool that the first octet tells whole, tool 11 too
 pub headed-tool : (set o t n : ℕ) (b : List ℕ) (i : ℕ) → byTool set t n b i ≡ headAfter set (toolWith o t n) b i

@@ -10,10 +10,10 @@ use Rattle.rules.specs.Bits.{bitsOf}
 use Rattle.first_octet.specs.declared.Begins.{Begins}
 use Rattle.first_octet.specs.declared.Begins.the-variants.{Unassigned, Pad, Tool, SixOrEight}
 use Rattle.first_octet.specs.Answers.{asFirst}
-use Rattle.read_opening.specs.Heads.{headAfter, headOf}
-use Rattle.read_opening.proofs.Headed.{heads-as, head-set, head-short, headed, headed-tool}
-use Rattle.read_opening.proofs.telling.head.Statement.{statement}
-use Rattle.read_opening.proofs.telling.head.Tie as tie
+use Rattle.read_head.specs.Heads.{headAfter, headOf}
+use Rattle.read_head.proofs.Headed.{heads-as, head-set, head-short, headed, headed-tool}
+use Rattle.read_head.proofs.head.Statement.{statement}
+use Rattle.read_head.proofs.head.Tie as tie
 
 returns : tie.Need-returns
 returns c = heads-as (head-set _ _ (c .before .if1 .taken)) (c .refused .ensures 0)

@@ -2,9 +2,9 @@
 use borrow.Author.Needs.{needs}
 use mathlib.Core.Path.{refl, sym, _∙_}
 use borrow.Author.Tests.{not-true, not-false}
-use Rattle.read_opening.proofs.Headed.{heads-as, no-tool, held-tool}
-use Rattle.read_opening.proofs.telling.by_tool.Statement.{statement}
-use Rattle.read_opening.proofs.telling.by_tool.Tie as tie
+use Rattle.read_head.proofs.Headed.{heads-as, no-tool, held-tool}
+use Rattle.read_head.proofs.by_tool.Statement.{statement}
+use Rattle.read_head.proofs.by_tool.Tie as tie
 
 returns : tie.Need-returns
 returns c = λ bits i. heads-as

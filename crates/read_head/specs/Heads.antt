@@ -14,7 +14,7 @@ use Rattle.rules.specs.Tools.{holds, isSet}
 use Rattle.rules.specs.Bits.{bitsOf}
 use Rattle.rules.specs.Reading.{Read, whole, refuse, Reader, _>>=_, give, fail, from, number}
 use Rattle.rules.specs.First.{First, unassigned, pad, tool, fractionalRow, sixOrEight, firstOctet, markAt, sixNotEight}
-use Rattle.read_opening.specs.declared.telling.Told.{Told}
+use Rattle.read_head.specs.declared.Told.{Told}
 
 -- the tool of a frame, and its samples
 pub record FrameHead : Type 0 where
