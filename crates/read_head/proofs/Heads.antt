@@ -1,6 +1,6 @@
 -- The first octets tell what a reading finds. Main statements: `head-agrees` (a head that is refused is a reading refused alike; where the
 -- head tells tool and samples, an accepted frame has these, and a refused one is refused by what comes behind its tool), so `head-found`
--- and `head-refused`; and `no-further` (nothing past the first two octets is looked at).
+-- and `head-refused`; `no-further` (nothing past the first two octets is looked at); `only-head` (no second answer).
 use Prim.Native.Nat.{ℕ, zero, suc, _+_, _*_, _-_, _^_, _/_, _%_, _≤_, _<_, zero-le}
 use native.Mathlib.Omega.{arith}
 use mathlib.Core.Path.{_≡_, refl, sym, ap, subst, _∙_}
@@ -27,7 +27,9 @@ use Rattle.rules.proofs.Accepted.{gives-fractional, gives-plusMinus, gives-body
 use Rattle.rules.proofs.WhichBit.{tool-at}
 use Rattle.promises.proofs.Only.{Only, Bodily, only-body, only-plusMinus, only-fractional, only-withTool}
 use Rattle.read_bits.proofs.OneBit.{bit-there}
-use Rattle.read_head.specs.Heads.{FrameHead, byTool, headAfter, headOf, headTool}
+use Rattle.read_head.specs.declared.Told.{Told}
+use Rattle.read_head.specs.Heads.{FrameHead, byTool, headAfter, headOf}
+use Rattle.read_head.specs.Heads as contract
 
 -- what refuses a frame behind its tool: its room, its body, its filling bits
 abbrev pub Behind : Refusal → Type 0
@@ -241,3 +243,10 @@ pub no-further : (octets : List ℕ) (set : ℕ) → headOf octets set ≡ headO
 no-further [] set = refl
 no-further (x ∷ []) set = refl
 no-further (x ∷ y ∷ more) set = same-head x y more set
+
+-- nothing else fits a head's contract
+pub only-head : {h : Read FrameHead} {r s : Told} → contract.Heads h r → contract.Heads h s → r ≡ s
+only-head {r = r} {s = s} a b = same (a .end ∙ sym (b .end)) (a .tool ∙ sym (b .tool)) (a .samples ∙ sym (b .samples))
+  where
+    same : r .end ≡ s .end → r .tool ≡ s .tool → r .samples ≡ s .samples → r ≡ s
+    same x y z = λ i. record { end = x i; tool = y i; samples = z i }

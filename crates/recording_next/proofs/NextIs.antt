@@ -34,25 +34,24 @@ module _ (octets : List ℕ) (law set : ℕ) (ok : verdict (walkAsks law set (le
   pub items : (n at room places : ℕ) → n ≤ places → followed n octets law set at room ≡ itemsFrom n octets law set at room places
   unfolding followed itemsFrom
   items zero at room places h = refl
-  items (suc n) at room places h = go (leb (length octets) at) refl
+  items (suc n) at room places h = go (leb (length octets) at) refl (λ a r. items n a r (places - 1) (omega arith))
     where
-      rest : (i : Item) (used : ℕ) → before i (followed n octets law set (at + used) (room - length (soundOf i)))
-          ≡ restFrom octets law set n at room places i used
-      rest i used = ap (before i) (items n (at + used) (room - length (soundOf i)) (places - 1) (omega arith))
+      Later : Type 0
+      Later = (a r : ℕ) → followed n octets law set a r ≡ itemsFrom n octets law set a r (places - 1)
 
-      both : (s : Step) → byStep s at (λ i used. before i (followed n octets law set (at + used) (room - length (soundOf i))))
+      both : (s : Step) → Later → byStep s at (λ i used. before i (followed n octets law set (at + used) (room - length (soundOf i))))
           ≡ byStep s at (restFrom octets law set n at room places)
-      both (takes i used) = rest i used
-      both (stops w bit) = refl
+      both (takes i used) later = ap (before i) (later (at + used) (room - length (soundOf i)))
+      both (stops w bit) later = refl
 
-      go : (b : Bool) → leb (length octets) at ≡ b → cond b (stopped Done at 0) (byPiece (nextOf octets at law set room) at
+      go : (b : Bool) → leb (length octets) at ≡ b → Later → cond b (stopped Done at 0) (byPiece (nextOf octets at law set room) at
           (λ i used. before i (followed n octets law set (at + used) (room - length (soundOf i)))))
           ≡ itemsFrom (suc n) octets law set at room places
-      go true e = sym (items-ended octets law set (suc n) at room places (leb-true (length octets) at e))
-      go false e =
+      go true e later = sym (items-ended octets law set (suc n) at room places (leb-true (length octets) at e))
+      go false e later =
           let l = leb-false (length octets) at e in
-          rw (sym (next-here octets at law set room ok l)) (piece-step octets law set at room _)
-          ∙ both (itemStep octets law set at room) ∙ sym (items-step octets law set (suc n) n at room places refl l (omega arith))
+          rw (← (next-here octets at law set room ok l)) (piece-step octets law set at room _
+          ∙ both (itemStep octets law set at room) later ∙ sym (items-step octets law set (suc n) n at room places refl l (omega arith)))
 
   -- every room of 320 or more tells the same of an item
   pub next-roomy : (at room : ℕ) → 320 ≤ room → nextOf octets at law set room ≡ nextOf octets at law set 320
@@ -86,24 +85,27 @@ module _ (octets : List ℕ) (law set : ℕ) (ok : verdict (walkAsks law set (le
   pub one-output : (n at room more : ℕ) → 320 ≤ room → 320 * n ≤ more → played n octets law set at room ≡ followed n octets law set at more
   unfolding played followed
   one-output zero at room more h k = refl
-  one-output (suc n) at room more h k = go (leb (length octets) at)
+  one-output (suc n) at room more h k = go (leb (length octets) at) (λ a m l. one-output n a room m h l)
     where
+      Later : Type 0
+      Later = (a m : ℕ) → 320 * n ≤ m → played n octets law set a room ≡ followed n octets law set a m
+
       here : nextOf octets at law set room ≡ nextOf octets at law set more
       here = next-roomy at room h ∙ sym (next-roomy at more (omega arith))
 
-      rest : (p : Piece) → nextOf octets at law set more ≡ p
+      rest : (p : Piece) → nextOf octets at law set more ≡ p → Later
           → byPiece p at (λ i used. before i (played n octets law set (at + used) room))
           ≡ byPiece p at (λ i used. before i (followed n octets law set (at + used) (more - length (soundOf i))))
-      rest (found i used t) e =
-          ap (before i) (one-output n (at + used) room (more - length (soundOf i)) h (omega (arith, few-sound at more e)))
-      rest (refused w bit) e = refl
+      rest (found i used t) e later =
+          ap (before i) (later (at + used) (more - length (soundOf i)) (omega (arith, few-sound at more e)))
+      rest (refused w bit) e later = refl
 
-      go : (b : Bool) → cond b (stopped Done at 0) (byPiece (nextOf octets at law set room) at
+      go : (b : Bool) → Later → cond b (stopped Done at 0) (byPiece (nextOf octets at law set room) at
           (λ i used. before i (played n octets law set (at + used) room)))
           ≡ cond b (stopped Done at 0) (byPiece (nextOf octets at law set more) at
           (λ i used. before i (followed n octets law set (at + used) (more - length (soundOf i)))))
-      go true = refl
-      go false = rw here (rest (nextOf octets at law set more) refl)
+      go true later = refl
+      go false later = rw here (rest (nextOf octets at law set more) refl later)
 
 -- a whole file: what g7110_file_read reads is what the calls behind its heading tell, one after another
 pub whole-file : (file : List ℕ) (law set room places : ℕ) → set ≤ allTools → headed file ≡ heading law

@@ -1,8 +1,8 @@
 -- One item, as the code goes: what refuses it before it is looked at (`next-refused`, `next-short`), what stands at its place
--- (`next-here`), and a reading of one item told as a piece (`piece-refused`, `piece-found`).
+-- (`next-here`), and a reading of one item told as a piece (`piece-refused`, `piece-found`). No second answer: `only-next`, `only-file-head`.
 use Prim.Native.Nat.{ℕ, suc, _+_, _-_, _≤_, _<_}
 use native.Mathlib.Omega.{arith}
-use mathlib.Core.Path.{_≡_, refl, sym, ap, _∙_}
+use mathlib.Core.Path.{_≡_, refl, sym, ap, subst, _∙_}
 use mathlib.Core.List.{List, _∷_, append-nil}
 use mathlib.Core.Bool.{Bool, true, false, cond}
 use lib.ListN.{length, getD, drop}
@@ -26,7 +26,7 @@ use Rattle.read_head.proofs.Heads.{head-found, head-refused}
 use Rattle.recording.specs.declared.Refusal.{Refusal}
 use Rattle.recording.specs.declared.Refusal.the-variants.{Frame}
 use Rattle.recording.specs.declared.Ending.the-variants.{Done, Refused}
-use Rattle.recording.specs.Remembered.{lostOctet, erased}
+use Rattle.recording.specs.Remembered.{Headed, lostOctet, erased}
 use Rattle.recording.specs.Items.{Item, lost, sound, Recorded, stopped, before, itemsFrom, soundOf, soundIn, lossFrom, cellOf}
 use Rattle.recording.proofs.Marks.{lost-refused}
 use Rattle.recording_read.specs.declared.Played.{Played}
@@ -34,7 +34,9 @@ use Rattle.recording_read.specs.Turns.{Step, takes, stops, frameStep, itemStep}
 use Rattle.recording_read.specs.Plays.{Plays}
 use Rattle.recording_read.proofs.Steps.{byStep, restFrom, items-last, items-step}
 use Rattle.recording_next.specs.declared.Told.{Told}
-use Rattle.recording_next.specs.Next.{Piece, found, refused, pieceOf, itemHere, nextOf, pieceEnd, kindOf, samplesOf, pieceTool, Tells}
+use Rattle.recording_next.specs.declared.FileHead.{FileHead}
+use Rattle.recording_next.specs.Next.{Piece, found, refused, pieceOf, itemHere, nextOf, pieceEnd, kindOf, samplesOf, pieceTool}
+use Rattle.recording_next.specs.Next.{Tells, HeadTold}
 use Rattle.recording_next.specs.Followed.{byPiece}
 
 module _ (octets : List ℕ) (at law set room : ℕ) where
@@ -53,6 +55,9 @@ module _ (octets : List ℕ) (at law set room : ℕ) where
     unfolding nextOf
     next-here h =
         sym (verdict-done (λ why. refused (Frame why) 0) _ (walkAsks law set (length octets)) ok ∙ rw (lt-ltb at (length octets) h) refl)
+
+pub tells-as : {p q : Piece} {at : ℕ} {r : Told} {out out′ : List ℕ} → p ≡ q → Tells p at r out out′ → Tells q at r out out′
+tells-as {at = at} {r = r} {out = out} {out′ = out′} e t = subst (λ (p : Piece). Tells p at r out out′) e t
 
 -- what a reading of one item gives, by what stands there
 abbrev pub recordedOf : Piece → ℕ → Recorded
@@ -192,3 +197,21 @@ tool-here octets law set at room ok h e = go (eqb (getD octets at 0) lostOctet) 
         let why : readOne (drop at octets) law set 0 ≡ refuse rules.Prefix 0 = rw first (lost-refused law set 0 (drop (suc at) octets) (met .0) (met .1 .0)) in
         ap headTool (head-refused (drop at octets) law set 0 (met .0) (λ x. x) why)
     go false q d = one (readOne (drop at octets) law set room) refl d
+
+-- nothing else fits an item's contract, nor a heading's
+pub only-next : {p : Piece} {at : ℕ} {r s : Told} {out o₁ o₂ : List ℕ} → Tells p at r out o₁ → Tells p at s out o₂ → (r ≡ s) × (o₁ ≡ o₂)
+only-next {r = r} {s = s} a b = (
+  same (a .end ∙ sym (b .end)) (a .kind ∙ sym (b .kind)) (a .samples ∙ sym (b .samples)) (a .octets ∙ sym (b .octets))
+      (a .tool ∙ sym (b .tool)) (a .bit ∙ sym (b .bit)) (a .place ∙ sym (b .place)),
+  a .lent ∙ sym (b .lent),
+)
+  where
+    same : r .end ≡ s .end → r .kind ≡ s .kind → r .samples ≡ s .samples → r .octets ≡ s .octets → r .tool ≡ s .tool → r .bit ≡ s .bit
+        → r .place ≡ s .place → r ≡ s
+    same e k n o t l p = λ i. record { end = e i; kind = k i; samples = n i; octets = o i; tool = t i; bit = l i; place = p i }
+
+pub only-file-head : {h : Headed} {r s : FileHead} → HeadTold h r → HeadTold h s → r ≡ s
+only-file-head {r = r} {s = s} a b = same (a .end ∙ sym (b .end)) (a .law ∙ sym (b .law)) (a .octets ∙ sym (b .octets))
+  where
+    same : r .end ≡ s .end → r .law ≡ s .law → r .octets ≡ s .octets → r ≡ s
+    same x y z = λ i. record { end = x i; law = y i; octets = z i }

@@ -33,10 +33,14 @@ mul-walk-on c =
 returns : tie.Need-returns
 returns c =
     let g = c .before .before .before in
-    rw (check-refused _ _ _ (sym (g .guard-stream .ensures) ∙ c .before .why .given .1)) (counts-none _)
+    let a = g .before .before .args in
+    rw (check-refused (a .octets .now) (a .law) (a .set) (sym (g .guard-stream .ensures) ∙ c .before .why .given .1)) (counts-none _)
 
 returns-2 : tie.Need-returns-2
-returns-2 c = rw (check-allowed _ _ _ (allowed (c .before .before .before) (c .before .enum-told .given .1))) (c .walk-on .ensures)
+returns-2 c =
+    let g = c .before .before .before in
+    let a = g .before .before .args in
+    rw (check-allowed (a .octets .now) (a .law) (a .set) (allowed g (c .before .enum-told .given .1))) (c .walk-on .ensures)
 
 pub check-spec : {M : Type 1} → statement M
 check-spec = tie.close (tie.spec (λ c κs. search needs) (λ c. search needs) (λ c. search needs) mul-walk-on (λ c κs. search needs)
