@@ -83,6 +83,16 @@ one-item octets law set at room h =
     last (takes i used) = ap (before i) (items-last octets law set 0 (at + used) (room - length (soundOf i)) (1 - 1) refl)
     last (stops w bit) = refl
 
+-- how a reading of one item ended is how the piece did, and its place is not before the item's
+module _ {at : ℕ} {r : Played} {out out′ cells cells′ : List ℕ} where
+  pub ended-as : (p : Piece) → Plays (recordedOf p at) r out out′ cells cells′ → r .end ≡ Done → pieceEnd p ≡ Done
+  ended-as (found i used t) s e = refl
+  ended-as (refused w bit) s e = sym (s .end) ∙ e
+
+  pub place-behind : (p : Piece) → Plays (recordedOf p at) r out out′ cells cells′ → at ≤ r .place
+  place-behind (found i used t) s = omega (arith, s .place)
+  place-behind (refused w bit) s = omega (arith, s .place)
+
 -- a refused item
 pub piece-refused : (p : Piece) {at : ℕ} {r : Played} {out out′ cells cells′ : List ℕ} → Plays (recordedOf p at) r out out′ cells cells′
     → {why : Refusal} → r .end ≡ Refused why → {n : Told} → Tells (refused why (r .bit)) at n out out → Tells p at n out out′

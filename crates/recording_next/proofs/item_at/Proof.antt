@@ -1,85 +1,58 @@
+-- One item is read, and told as a piece (Pieces).
 use borrow.Author.Needs.{needs}
+use mathlib.Core.Path.{_≡_, _∙_}
+use native.Mathlib.Omega.{arith}
+use native.Mathlib.Nat.{le-of-lt}
+use lib.ListN.{length}
+use Rattle.recording.specs.Items.{itemsFrom}
+use Rattle.recording_next.specs.Next.{Piece, itemHere}
+use Rattle.recording_next.proofs.Pieces.{recordedOf, one-item, ended-as, place-behind, piece-refused, few-here, piece-found, tool-here}
 use Rattle.recording_next.proofs.item_at.Statement.{statement}
 use Rattle.recording_next.proofs.item_at.Tie as tie
-use Rattle.recording_next.proofs.item_at.Reads as reads
-use Rattle.recording_next.proofs.item_at.Lts as lts
-use Rattle.recording_next.proofs.kind_of.Reads as kind-of-reads
-use Rattle.recording_next.proofs.samples_of.Reads as samples-of-reads
-use Rattle.recording_next.proofs.tool_at.Reads as tool-at-reads
-use Rattle.recording_next.proofs.unread.Reads as unread-reads
-use Rattle.recording_read.proofs.play_on.Reads as play-on-reads
 
--- src/lib.rt:111:67
-slice-aggregate-play-on : tie.Need-slice-aggregate-play-on
-slice-aggregate-play-on c = search needs
+-- one item was read
+module _ (c : tie.After-play-on) where
+  abbrev s : tie.Start
+  s = c .before .before .before .before .before
 
--- src/lib.rt:111:9
-play-on-requires : tie.Need-play-on-requires
-play-on-requires c κs = search needs
+  abbrev here : Piece
+  here = itemHere (s .args .octets .now) (s .args .law) (s .args .set) (s .args .at) (length (s .args .out .now))
 
--- src/lib.rt:114:25
-enum-known-e : tie.Need-enum-known-e
-enum-known-e c = search needs
+  one : itemsFrom 1 (s .args .octets .now) (s .args .law) (s .args .set) (s .args .at) (length (s .args .out .now)) 1
+      ≡ recordedOf here (s .args .at)
+  one = one-item (s .args .octets .now) (s .args .law) (s .args .set) (s .args .at) (length (s .args .out .now)) (s .pre .1)
 
--- src/lib.rt:114:33
-unread-requires : tie.Need-unread-requires
-unread-requires c κs = search needs
+module _ (c : tie.After-kind-of) where
+  abbrev played : tie.After-play-on
+  played = c .before .before .before .before .before .before
 
--- src/lib.rt:116:24
-enum-told : tie.Need-enum-told
-enum-told c = search needs
+module _ (c : tie.After-unread) where
+  abbrev stopped : tie.After-play-on
+  stopped = c .before .before .before .before .before .before .before
 
--- src/lib.rt:116:24
-array-read-cell : tie.Need-array-read-cell
-array-read-cell c = search needs
-
--- src/lib.rt:119:23
-kind-of-requires : tie.Need-kind-of-requires
-kind-of-requires c κs = search needs
-
--- src/lib.rt:120:26
-samples-of-requires : tie.Need-samples-of-requires
-samples-of-requires c κs = search needs
-
--- src/lib.rt:121:25
 sub-t22 : tie.Need-sub-t22
-sub-t22 c = search needs
+sub-t22 c =
+    let p = played (c .before .before) in
+    omega (arith, place-behind (here p) (rw (one p) at (p .play-on .ensures)))
 
--- src/lib.rt:122:23
 tool-at-requires : tie.Need-tool-at-requires
-tool-at-requires c κs = search needs
+tool-at-requires c κs = le-of-lt (s (played (c .before .before)) .pre .1)
 
--- src/lib.rt:106:1
-same-length : tie.Need-same-length
-same-length c = search needs
-
--- src/lib.rt:106:1
 returns : tie.Need-returns
-returns c = search needs
+returns c =
+    let p = stopped c in
+    piece-refused (here p) (rw (one p) at (p .play-on .ensures)) (c .before .before .e .given .1) (c .unread .ensures _)
 
--- src/lib.rt:106:1
-same-length-2 : tie.Need-same-length-2
-same-length-2 c = search needs
-
--- src/lib.rt:106:1
 returns-2 : tie.Need-returns-2
-returns-2 c = search needs
+returns-2 c =
+    let k = c .before .before .before in
+    let p = played k in
+    let read = rw (one p) at (p .play-on .ensures) in
+    let e = k .before .enum-told .given .1 in
+    piece-found (here p) (few-here _ _ _ _ _) read e (k .kind-of .ensures) (c .before .before .samples-of .ensures)
+    (c .tool-at .ensures ∙ tool-here _ _ _ _ _ (s p .pre .0) (s p .pre .1) (ended-as (here p) read e))
 
 pub item-at-spec : {M : Type 1} → statement M
-item-at-spec =
-    tie.close
-    (tie.spec
-    slice-aggregate-play-on
-    play-on-requires
-    enum-known-e
-    unread-requires
-    enum-told
-    array-read-cell
-    kind-of-requires
-    samples-of-requires
-    sub-t22
-    tool-at-requires
-    same-length
-    returns
-    same-length-2
-    returns-2)
+item-at-spec = tie.close (tie.spec (λ c. search needs) (λ c κs. search needs) (λ c. search needs) (λ c κs. search needs)
+    (λ c. search needs) (λ c. search needs) (λ c κs. search needs) (λ c κs. search needs) sub-t22 tool-at-requires
+    (λ c. search needs) returns (λ c. search needs) returns-2)
