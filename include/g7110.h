@@ -452,15 +452,8 @@ enum { G7110_FILE_HEAD_LAW = 0, G7110_FILE_HEAD_OCTETS = 1 };
 /* Tells the law that a recording's heading says. Any octets may follow. Refused with G7110_HEAD. report: law, octets of the heading. */
 uint32_t g7110_file_head(const uint8_t *octets, size_t octets_len, uint64_t report[2]);
 
-/* The places of the report of g7110_file_next. */
-enum {
-    G7110_NEXT_KIND = 0, /* 0 a frame, 1 a loss */
-    G7110_NEXT_SAMPLES = 1,
-    G7110_NEXT_OCTETS = 2,
-    G7110_NEXT_TOOL = 3,
-    G7110_NEXT_BIT = 4,
-    G7110_NEXT_PLACE = 5 /* the next place */
-};
+/* The places of the report of g7110_file_next, from 0 on. */
+enum { G7110_NEXT_KIND, G7110_NEXT_SAMPLES, G7110_NEXT_OCTETS, G7110_NEXT_TOOL, G7110_NEXT_BIT, G7110_NEXT_PLACE };
 
 /* Reads one item at the place `at` of the octets that stand behind a recording's heading: so a player needs room for one frame, not for
  * the file. From place 0 on, each call at the next place of the last, the items are those of g7110_file_read. A frame's samples

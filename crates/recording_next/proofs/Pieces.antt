@@ -84,7 +84,7 @@ one-item octets law set at room h =
     last (stops w bit) = refl
 
 -- how a reading of one item ended is how the piece did, and its place is not before the item's
-module _ {at : ℕ} {r : Played} {out out′ cells cells′ : List ℕ} where
+module _ (at : ℕ) {r : Played} {out out′ cells cells′ : List ℕ} where
   pub ended-as : (p : Piece) → Plays (recordedOf p at) r out out′ cells cells′ → r .end ≡ Done → pieceEnd p ≡ Done
   ended-as (found i used t) s e = refl
   ended-as (refused w bit) s e = sym (s .end) ∙ e

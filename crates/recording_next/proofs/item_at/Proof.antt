@@ -33,7 +33,7 @@ module _ (c : tie.After-unread) where
 sub-t22 : tie.Need-sub-t22
 sub-t22 c =
     let p = played (c .before .before) in
-    omega (arith, place-behind (here p) (rw (one p) at (p .play-on .ensures)))
+    omega (arith, place-behind (s p .args .at) (here p) (rw (one p) at (p .play-on .ensures)))
 
 tool-at-requires : tie.Need-tool-at-requires
 tool-at-requires c κs = le-of-lt (s (played (c .before .before)) .pre .1)
@@ -50,7 +50,7 @@ returns-2 c =
     let read = rw (one p) at (p .play-on .ensures) in
     let e = k .before .enum-told .given .1 in
     piece-found (here p) (few-here _ _ _ _ _) read e (k .kind-of .ensures) (c .before .before .samples-of .ensures)
-    (c .tool-at .ensures ∙ tool-here _ _ _ _ _ (s p .pre .0) (s p .pre .1) (ended-as (here p) read e))
+    (c .tool-at .ensures ∙ tool-here _ _ _ _ _ (s p .pre .0) (s p .pre .1) (ended-as (s p .args .at) (here p) read e))
 
 pub item-at-spec : {M : Type 1} → statement M
 item-at-spec = tie.close (tie.spec (λ c. search needs) (λ c κs. search needs) (λ c. search needs) (λ c κs. search needs)
