@@ -1,18 +1,21 @@
 -- What the calls that tell report: a stream judged, a frame's first octets, a recording's heading and one of its items.
 use Prim.Native.Nat.{ℕ}
 use mathlib.Core.Path.{_≡_}
-use mathlib.Core.List.{List, [], _∷_}
+use mathlib.Core.List.{List, [], _∷_, map}
+use lib.IntN.{ℤ}
 use lib.ListN.{length}
 use Rattle.rules.specs.Refusals.{numberOf, toolNamed}
 use Rattle.rules.specs.Reading.{Read}
 use Rattle.rules.specs.Walk.{Walked, octetsKept, samplesKept}
 use Rattle.rules.specs.Calls.{atStart}
+use Rattle.linear_masters.specs.Masters.{sampleFor, valueFor}
 use Rattle.read_head.specs.Heads.{FrameHead, headEnd, headTool, headSamples}
 use Rattle.recording.specs.Remembered.{Headed}
 use Rattle.recording.specs.Calls as recording
 use Rattle.recording_next.specs.Next.{Piece, pieceEnd, pieceKind, pieceSamples, pieceOctets, pieceTool, pieceBit, nextPlace, pieceSound}
-use Rattle.recording_next.specs.Next.{headLaw, headOctets}
+use Rattle.recording_next.specs.Next.{nextOf, headLaw, headOctets}
 use Rattle.recording_next.specs.Next as next
+use Rattle.g7110.specs.Boundary.{Converted}
 
 -- "the header's G7110_VERSION"; a test holds the header to it
 abbrev pub version : ℕ
@@ -39,3 +42,13 @@ pub record PieceReported (p : Piece) (at : ℕ) (out out′ six : List ℕ) (r :
   pub number : r ≡ recording.numberOf (pieceEnd p)
   pub report : six ≡ pieceKind p ∷ pieceSamples p ∷ pieceOctets p ∷ pieceTool p ∷ pieceBit p ∷ nextPlace p at ∷ []
   pub lent : out′ ≡ atStart (pieceSound p) out
+
+abbrev pub FileNextReported : List ℕ → ℕ → ℕ → ℕ → List ℕ → List ℕ → List ℕ → ℕ → Type 0
+FileNextReported octets at law set out out′ six r = PieceReported (nextOf octets at law set (length out)) at out out′ six r
+
+-- a frame to a master's values, and back
+abbrev pub ToMasterReported : ℕ → List ℕ → List ℤ → List ℤ → ℕ → Type 0
+ToMasterReported law s out out′ r = Converted law (length s) (map (valueFor law) s) out out′ r
+
+abbrev pub FromMasterReported : ℕ → List ℤ → List ℕ → List ℕ → ℕ → Type 0
+FromMasterReported law s out out′ r = Converted law (length s) (map (sampleFor law) s) out out′ r

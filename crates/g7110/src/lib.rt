@@ -20,12 +20,11 @@ ghost use Rattle.recording.specs.Items.{readFile};
 ghost use Rattle.recording.specs.Files.{writeFile};
 ghost use Rattle.g7110.specs.Recordings.{FileReadReported, FileWriteReported};
 ghost use Rattle.g7110.specs.Boundary.{ReadReported, WalkReported, WriteReported, WhyReported, Converted};
-ghost use Rattle.linear_masters.specs.Masters.{sampleFor, valueFor};
 ghost use Rattle.read_head.specs.Heads.{headOf};
 ghost use Rattle.walk_check.specs.Check.{checkOf};
 ghost use Rattle.recording.specs.Remembered.{headed};
-ghost use Rattle.recording_next.specs.Next.{nextOf};
-ghost use Rattle.g7110.specs.Telling.{version, CheckReported, HeadReported, FileHeadReported, PieceReported};
+ghost use Rattle.g7110.specs.Telling.{version, CheckReported, HeadReported, FileHeadReported};
+ghost use Rattle.g7110.specs.Telling.{FileNextReported, ToMasterReported, FromMasterReported};
 use reasons::Why;
 
 // Reading one frame: the number, and in the report samples, octets used, bits, tool and the refusal's bit.
@@ -481,7 +480,7 @@ pub extern "C" fn g7110_file_next(
     out: &mut [u8],
     report: &mut [u64; 6],
 ) -> u32
-    ensures { λ r. ⌜ PieceReported (nextOf (now (octets .entry)) at law set (length (now (out .entry)))) at (now (out .entry)) (now (out .exit)) (now (report .exit)) r ⌝ }
+    ensures { λ r. ⌜ FileNextReported (now (octets .entry)) at law set (now (out .entry)) (now (out .exit)) (now (report .exit)) r ⌝ }
 {
     let a = recording_next::next(octets, at, law, set, out);
     *report = [
@@ -499,7 +498,7 @@ pub extern "C" fn g7110_file_next(
 // A frame of octets to a master's values.
 #[no_mangle]
 pub extern "C" fn g7110_to_master(samples: &[u8], law: u32, out: &mut [i16]) -> u32
-    ensures { λ r. ⌜ Converted law (length (now (samples .entry))) (map (valueFor law) (now (samples .entry))) (now (out .entry)) (now (out .exit)) r ⌝ }
+    ensures { λ r. ⌜ ToMasterReported law (now (samples .entry)) (now (out .entry)) (now (out .exit)) r ⌝ }
 {
     let end = linear_masters::to_master(samples, law, out);
     rules::number_of(end)
@@ -508,7 +507,7 @@ pub extern "C" fn g7110_to_master(samples: &[u8], law: u32, out: &mut [i16]) -> 
 // A master's values to a frame of octets.
 #[no_mangle]
 pub extern "C" fn g7110_from_master(master: &[i16], law: u32, out: &mut [u8]) -> u32
-    ensures { λ r. ⌜ Converted law (length (now (master .entry))) (map (sampleFor law) (now (master .entry))) (now (out .entry)) (now (out .exit)) r ⌝ }
+    ensures { λ r. ⌜ FromMasterReported law (now (master .entry)) (now (out .entry)) (now (out .exit)) r ⌝ }
 {
     let end = linear_masters::from_master(master, law, out);
     rules::number_of(end)

@@ -2,10 +2,10 @@
 -- the way in, left on the way out)". 8 and 4 are what (6-2) and (6-4) of 001 divide by.
 use Prim.Native.Nat.{ℕ}
 use mathlib.Core.Bool.{cond}
-use mathlib.Core.List.{List, map}
+use mathlib.Core.List.{List, map, _++_}
 use lib.Dec.{eqb}
 use lib.IntN.{ℤ, pos, _*ℤ_}
-use lib.ListN.{length}
+use lib.ListN.{length, drop}
 use lib.Signed.{shrZ}
 use Rattle.rules.specs.declared.Ending.{Ending}
 use Rattle.linear.specs.Equations.{toPCM, fromPCM}
@@ -20,6 +20,10 @@ sampleFor law v = fromPCM law (shrZ v (unitOf law))
 
 abbrev pub valueFor : ℕ → ℕ → ℤ
 valueFor law o = toPCM law o *ℤ pos (unitOf law)
+
+-- what a frame's values are, one after another, at the start of what is lent
+abbrev pub laidOver : {A B : Type 0} → (A → B) → List A → List B → List B
+laidOver f s out = map f s ++ drop (length s) out
 
 -- a frame of octets to a master's values, and back: "LAW, LENGTH, ROOM"
 abbrev pub ToMaster : ℕ → List ℕ → List ℤ → List ℤ → Ending → Type 0

@@ -1,11 +1,10 @@
-// Linear masters of signed 16-bit values: a frame of samples to a master and back, "as to_linear and from_linear with the shift of the tools".
+// Masters of signed 16-bit values: a frame of samples to a master and back, "as to_linear and from_linear with the shift of the tools".
 ghost use Prim.Native.Nat.{_≤_};
 ghost use mathlib.Core.Path.{_≡_};
-ghost use mathlib.Core.List.{map, _++_};
-ghost use lib.ListN.{length, drop};
+ghost use lib.ListN.{length};
 ghost use lib.Signed.{shrZ};
 ghost use Rattle.linear.specs.Calls.{judged};
-ghost use Rattle.linear_masters.specs.Masters.{unitOf, sampleFor, valueFor, ToMaster, FromMaster};
+ghost use Rattle.linear_masters.specs.Masters.{unitOf, sampleFor, valueFor, laidOver, ToMaster, FromMaster};
 use rules::Ending;
 use rules::Refusal;
 
@@ -59,7 +58,7 @@ fn judge(law: u32, n: usize, room: usize) -> Ending
 // Every octet of a frame to its value.
 fn fill_values(samples: &[u8], law: u32, out: &mut [i16])
     requires { ⌜ length (now samples) ≤ length (now out) ⌝ }
-    ensures { λ _. ⌜ now (out .exit) ≡ map (valueFor law) (now (samples .entry)) ++ drop (length (now (samples .entry))) (now (out .entry)) ⌝ }
+    ensures { λ _. ⌜ now (out .exit) ≡ laidOver (valueFor law) (now (samples .entry)) (now (out .entry)) ⌝ }
 {
     let mut i = 0;
     while i < samples.len() {
@@ -71,7 +70,7 @@ fn fill_values(samples: &[u8], law: u32, out: &mut [i16])
 // Every value of a frame to its octet.
 fn fill_samples(master: &[i16], law: u32, out: &mut [u8])
     requires { ⌜ length (now master) ≤ length (now out) ⌝ }
-    ensures { λ _. ⌜ now (out .exit) ≡ map (sampleFor law) (now (master .entry)) ++ drop (length (now (master .entry))) (now (out .entry)) ⌝ }
+    ensures { λ _. ⌜ now (out .exit) ≡ laidOver (sampleFor law) (now (master .entry)) (now (out .entry)) ⌝ }
 {
     let mut i = 0;
     while i < master.len() {

@@ -1,7 +1,7 @@
 -- What a frame's first octets tell, step by step as the code goes: `no-tool`, `held-tool`, `six-refused`, `six-told`, `head-set`,
 -- `head-short`, `headed`, `headed-tool`.
 use Prim.Native.Nat.{ℕ, _+_, _-_, _≤_, _<_}
-use mathlib.Core.Path.{_≡_, refl, sym, subst, _∙_}
+use mathlib.Core.Path.{_≡_, refl, subst}
 use mathlib.Core.List.{List, [], _∷_}
 use mathlib.Core.Bool.{Bool, true, false, cond}
 use native.Mathlib.Omega.{arith}

@@ -1,7 +1,7 @@
 -- Item by item it is g7110_file_read's list. Main statements: `items` (calls one after another, each lent the room left, are the reading of
 -- the items from a place on, refusals and their places too), `whole-file` (so of a whole file, and its sound), `one-output` (the same output
 -- of 320 octets or more, lent to every call, serves as well).
-use Prim.Native.Nat.{ℕ, zero, suc, _+_, _*_, _-_, _≤_, _<_}
+use Prim.Native.Nat.{ℕ, zero, suc, _+_, _*_, _-_, _≤_}
 use native.Mathlib.Omega.{arith}
 use mathlib.Core.Path.{_≡_, refl, sym, ap, _∙_}
 use mathlib.Core.List.{List}

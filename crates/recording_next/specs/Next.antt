@@ -99,6 +99,13 @@ pub record Tells (p : Piece) (at : ℕ) (r : Told) (out out′ : List ℕ) : Typ
   pub place : r .place ≡ nextPlace p at
   pub lent : out′ ≡ atStart (pieceSound p) out
 
+-- the item at a place, once nothing refuses before it; and the call. The output's length is the room
+abbrev pub ItemAt : List ℕ → ℕ → ℕ → ℕ → List ℕ → List ℕ → Told → Type 0
+ItemAt octets law set at out out′ r = Tells (itemHere octets law set at (length out)) at r out out′
+
+abbrev pub FileNext : List ℕ → ℕ → ℕ → ℕ → List ℕ → List ℕ → Told → Type 0
+FileNext octets at law set out out′ r = Tells (nextOf octets at law set (length out)) at r out out′
+
 -- what the heading tells: "law, 10", or HEAD
 abbrev pub headEnd : Headed → Ending
 headEnd (heading law) = Done

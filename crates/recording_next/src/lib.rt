@@ -13,7 +13,7 @@ ghost use Rattle.read_head.specs.Heads.{headOf, headTool};
 ghost use Rattle.recording.specs.declared.Refusal.the-variants.{Frame};
 ghost use Rattle.recording.specs.Remembered.{headed};
 ghost use Rattle.recording.specs.Items.{lossFrom};
-ghost use Rattle.recording_next.specs.Next.{refused, itemHere, nextOf, Tells, HeadTold};
+ghost use Rattle.recording_next.specs.Next.{refused, Tells, ItemAt, FileNext, HeadTold};
 use recording::Ending;
 use recording::Refusal;
 use recording::marking::HEADING;
@@ -105,7 +105,7 @@ fn unread(why: Refusal, bit: usize, at: usize) -> Told
 // The item at a place: one item of the file's reading.
 fn item_at(octets: &[u8], law: u32, set: u32, at: usize, out: &mut [u8]) -> Told
     requires { ⌜ (verdict (walkAsks law set (length (now octets))) ≡ Done) × (at < length (now octets)) ⌝ }
-    ensures { λ r. ⌜ Tells (itemHere (now (octets .entry)) law set at (length (now (out .entry)))) at r (now (out .entry)) (now (out .exit)) ⌝ }
+    ensures { λ r. ⌜ ItemAt (now (octets .entry)) law set at (now (out .entry)) (now (out .exit)) r ⌝ }
 {
     let mut cells = [0u16; 1];
     let r = recording_read::play_on(octets, law, set, at, 1, out, &mut cells);
@@ -129,7 +129,7 @@ fn item_at(octets: &[u8], law: u32, set: u32, at: usize, out: &mut [u8]) -> Told
 
 // One item at a place behind the heading: "LAW, SET, LONG, SHORT where `at` is not below the octets, then the frame's".
 pub fn next(octets: &[u8], at: u64, law: u32, set: u32, out: &mut [u8]) -> Told
-    ensures { λ r. ⌜ Tells (nextOf (now (octets .entry)) at law set (length (now (out .entry)))) at r (now (out .entry)) (now (out .exit)) ⌝ }
+    ensures { λ r. ⌜ FileNext (now (octets .entry)) at law set (now (out .entry)) (now (out .exit)) r ⌝ }
 {
     let place = at as usize;
     match rules::guard_stream(law, set, octets.len()) {

@@ -5,7 +5,6 @@ use native.Mathlib.Omega.{arith}
 use mathlib.Core.Path.{_≡_, refl, sym, ap, _∙_}
 use mathlib.Core.List.{List}
 use lib.ListN.{getD}
-use Rattle.rules.specs.First.{firstOctet}
 use Rattle.rules.specs.Bits.{bitsOf}
 use Rattle.first_octet.specs.declared.Begins.{Begins}
 use Rattle.first_octet.specs.declared.Begins.the-variants.{Unassigned, Pad, Tool, SixOrEight}
