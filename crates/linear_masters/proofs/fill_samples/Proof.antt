@@ -40,7 +40,7 @@ loop-again c =
     let in-room : length (a .master .now) ≤ length (a .out .now) = omega arith in (
       omega arith,
       let z = toZ-ofZ {w = w16} (record { sfits = c .before .sample-for-arg .given }) in
-      let e = c .sample-for .ensures ∙ ap (sampleFor (a .law)) {y = getD (a .master .now) (l .i) (pos 0)} z in
+          let e = c .sample-for .ensures ∙ ap (sampleFor (a .law)) {y = getD (a .master .now) (l .i) (pos 0)} z in
           rw (l .inv .1) (mapped-turn (sampleFor (a .law)) (a .master .now) (a .out .now) (l .i) (pos 0) _ in-list in-room e),
     )
 
