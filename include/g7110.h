@@ -19,7 +19,8 @@
  * LENGTHS     A frame has 0, 40, 80, 160, 240 or 320 samples. A frame of 0 samples is a pad: one octet, 00.
  *
  * WHAT A CALL RETURNS
- *   0 (G7110_OK), or the number of a refusal; g7110_store_cells a count. A call that takes a report writes it in both cases.
+ *   0 (G7110_OK), or the number of a refusal; g7110_store_cells a count, g7110_version a version. A call that takes a report
+ *   writes it in both cases.
  *   A refused g7110_read or g7110_write leaves the output as lent; its report is all 0, save that G7110_TOOL gives the tool
  *   and that a refused g7110_read gives the bit.
  *   A refused g7110_walk keeps the frames before the refused one: their samples stand in the output and are counted in

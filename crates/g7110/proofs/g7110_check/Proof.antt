@@ -7,7 +7,7 @@ use Rattle.g7110.proofs.g7110_check.Tie as tie
 
 returns : tie.Need-returns
 returns c =
-    let t = c .before .before .before .before .check .ensures in
+    let t = c .before .before .before .check .ensures in
     record {
       number = c .number-of .ensures ∙ ap numberOf (t .end);
       report = then (t .frames)
@@ -15,4 +15,4 @@ returns c =
     }
 
 pub g7110-check-spec : {M : Type 1} → statement M
-g7110-check-spec = tie.close (tie.spec (λ c κs. search needs) (λ c κs. search needs) (λ c κs. search needs) returns)
+g7110-check-spec = tie.close (tie.spec (λ c κs. search needs) (λ c κs. search needs) (λ c. search needs) (λ c κs. search needs) returns)

@@ -6,7 +6,7 @@ use Rattle.g7110.proofs.g7110_from_master.Tie as tie
 
 returns : tie.Need-returns
 returns c =
-    let t = c .before .before .from-master .ensures in
+    let t = c .before .before .before .from-master .ensures in
     record { number = c .number-of .ensures ∙ ap numberOf (t .end); lent = t .lent }
 
 pub g7110-from-master-spec : {M : Type 1} → statement M

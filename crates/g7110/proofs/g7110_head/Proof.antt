@@ -7,8 +7,8 @@ use Rattle.g7110.proofs.g7110_head.Tie as tie
 
 returns : tie.Need-returns
 returns c =
-    let t = c .before .before .before .before .head .ensures in
+    let t = c .before .before .before .head .ensures in
     record { number = c .number-of .ensures ∙ ap numberOf (t .end); report = then (t .tool) (then (t .samples) refl) }
 
 pub g7110-head-spec : {M : Type 1} → statement M
-g7110-head-spec = tie.close (tie.spec (λ c κs. search needs) (λ c κs. search needs) returns)
+g7110-head-spec = tie.close (tie.spec (λ c κs. search needs) (λ c. search needs) (λ c κs. search needs) returns)
