@@ -84,14 +84,32 @@ impl<'a> Words<'a> {
     }
 
     fn values(&mut self, key: &str) -> Vec<i16> {
-        let text = self.0.remove(key).unwrap_or("");
-        let each = text.split(',').filter(|part| !part.is_empty());
-        each.flat_map(|part| {
-            let (value, times) = part.split_once('*').unwrap_or((part, "1"));
-            vec![value.parse().expect(part); times.parse().unwrap()]
-        })
-        .collect()
+        values_of(self.0.remove(key).unwrap_or(""))
     }
+}
+
+/// Values with a comma between, each, or a list in brackets, with `*N` behind it or not.
+fn values_of(text: &str) -> Vec<i16> {
+    let (mut all, mut rest) = (vec![], text);
+    while !rest.is_empty() {
+        let (made, behind) = match rest.strip_prefix('(').and_then(|inner| inner.split_once(')')) {
+            Some((inner, behind)) => (values_of(inner), behind),
+            None => {
+                let end = rest.find([',', '*']).unwrap_or(rest.len());
+                (vec![rest[..end].parse().expect(rest)], &rest[end..])
+            }
+        };
+        let (times, behind) = behind.split_once(',').unwrap_or((behind, ""));
+        let times = times.strip_prefix('*').map_or(1, |digits| digits.parse().unwrap());
+        all.extend(made.repeat(times));
+        rest = behind;
+    }
+    all
+}
+
+/// Octets damaged in some way, where there are some.
+fn damaged(octets: Vec<u8>, rng: &mut Prng) -> Vec<u8> {
+    if octets.len() < 4 { octets } else { damage_somehow(&octets, rng) }
 }
 
 /// What is wanted stands at the output's start, and the rest is as lent.
@@ -195,7 +213,7 @@ fn heads_and_readings() {
     for turn in 0..STREAMS {
         let law = turn as u32 % 2;
         let stream = Stream::mixed(400, law, &mut rng);
-        let octets = if rng.flip() { damage_somehow(&stream.octets, &mut rng) } else { stream.octets.clone() };
+        let octets = if rng.flip() { damaged(stream.octets.clone(), &mut rng) } else { stream.octets.clone() };
         let set = if rng.flip() { ALL_TOOLS } else { rng.below(256) as u32 };
         for at in stream.starts.iter().filter(|at| **at < octets.len()) {
             let (frame, mut out, mut report) = (&octets[*at..], [0; 320], [0; 5]);
@@ -226,7 +244,7 @@ fn checks_and_walks() {
     for turn in 0..STREAMS {
         let law = if rng.chance(1, 50) { rng.next_u64() as u32 } else { turn as u32 % 2 };
         let stream = Stream::mixed(rng.below(1_500), law.min(1), &mut rng);
-        let octets = if rng.flip() { damage_somehow(&stream.octets, &mut rng) } else { stream.octets };
+        let octets = if rng.flip() { damaged(stream.octets, &mut rng) } else { stream.octets };
         let set = if rng.chance(2, 3) { ALL_TOOLS } else { rng.below(260) as u32 };
         let told = check(&octets, law, set);
         assert_eq!(told, second::check(&octets, law, set));
@@ -258,7 +276,7 @@ fn body(law: u32, rng: &mut Prng) -> Vec<u8> {
             _ => octets.extend(Stream::mixed(rng.below(500), law, rng).octets),
         }
     }
-    if rng.chance(1, 3) { damage_somehow(&octets, rng) } else { octets }
+    if rng.chance(1, 3) { damaged(octets, rng) } else { octets }
 }
 
 /// Files item by item, from 0 on, in one output of 320: the list and the sound of the whole reading, and its refusal at its place.
