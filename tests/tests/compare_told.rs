@@ -109,7 +109,11 @@ fn values_of(text: &str) -> Vec<i16> {
 
 /// Octets damaged in some way, where there are some.
 fn damaged(octets: Vec<u8>, rng: &mut Prng) -> Vec<u8> {
-    if octets.len() < 4 { octets } else { damage_somehow(&octets, rng) }
+    if octets.len() < 4 {
+        octets
+    } else {
+        damage_somehow(&octets, rng)
+    }
 }
 
 /// What is wanted stands at the output's start, and the rest is as lent.
@@ -138,7 +142,9 @@ fn holds(kind: &str, given: &mut Words, number: u32, wanted: &mut Words) -> bool
             let (body, at) = (given.octets("octets"), given.number("at", 0));
             let (law, set, room) = (given.small("law", 1), given.small("set", 127), given.number("room", 320));
             let report = wanted.numbers(["kind", "samples", "used", "tool", "bit", "next"]);
-            left(room, 0xA7, &wanted.octets("out"), |out| assert_eq!(file_next(&body, at, law, set, out), (number, report)));
+            left(room, 0xA7, &wanted.octets("out"), |out| {
+                assert_eq!(file_next(&body, at, law, set, out), (number, report))
+            });
         }
         "to-master" => {
             let (samples, law, room) = (given.octets("samples"), given.small("law", 1), given.number("room", 320));
@@ -233,7 +239,9 @@ fn heads_and_readings() {
         }
     }
     assert!(accepted > 1_000 && refused > 100 && behind > 100);
-    say(&format!("compared: told, heads and readings: {accepted} accepted, {refused} refused alike, {behind} refused behind\n"));
+    say(&format!(
+        "compared: told, heads and readings: {accepted} accepted, {refused} refused alike, {behind} refused behind\n"
+    ));
 }
 
 /// Streams whole and damaged: the second program's check, and the walk with room never short.
@@ -276,7 +284,11 @@ fn body(law: u32, rng: &mut Prng) -> Vec<u8> {
             _ => octets.extend(Stream::mixed(rng.below(500), law, rng).octets),
         }
     }
-    if rng.chance(1, 3) { damaged(octets, rng) } else { octets }
+    if rng.chance(1, 3) {
+        damaged(octets, rng)
+    } else {
+        octets
+    }
 }
 
 /// Files item by item, from 0 on, in one output of 320: the list and the sound of the whole reading, and its refusal at its place.
@@ -312,7 +324,9 @@ fn item_by_item() {
         *if number == 0 { &mut good } else { &mut ended } += 1;
     }
     assert!(items > 1_000 && losses > 100 && good > 100 && ended > 100);
-    say(&format!("compared: told, item by item: {items} items, {losses} losses, {good} files whole, {ended} refused\n"));
+    say(&format!(
+        "compared: told, item by item: {items} items, {losses} losses, {good} files whole, {ended} refused\n"
+    ));
 }
 
 /// Any place, room, law and set: the second program's item.
@@ -336,11 +350,22 @@ fn items_at_any_place() {
     let mut long = 0;
     for (law, set, at) in tenths([(2, 256, 0), (1, 256, 5), (1, 255, 3), (0, 0, u64::MAX)]) {
         let number = next_by_both(&vec![0; MOST + 1], at, law, set, 320).0;
-        assert_eq!(number, if law > 1 { 12 } else if set > 255 { 11 } else { 13 });
+        assert_eq!(
+            number,
+            if law > 1 {
+                12
+            } else if set > 255 {
+                11
+            } else {
+                13
+            }
+        );
         long += 1;
     }
     assert!([0, 1, 2, 3, 4, 11, 12].iter().all(|number| endings.contains_key(number)), "{endings:?}");
-    say(&format!("compared: told, items at any place: {MADE}, {long} of more than the longest; by ending {endings:?}\n"));
+    say(&format!(
+        "compared: told, items at any place: {MADE}, {long} of more than the longest; by ending {endings:?}\n"
+    ));
 }
 
 /// Headings of both laws, each octet changed to each other one, and cut.
@@ -385,7 +410,10 @@ fn masters() {
             let mut frame = [0; 320];
             frame[..part.len()].copy_from_slice(part);
             let (mut proved, mut second, mut linear) = ([1; 320], [2; 320], [3; 320]);
-            assert_eq!(raw::from_master(&frame, law, &mut proved), second::masters::from_master(&frame, law, &mut second));
+            assert_eq!(
+                raw::from_master(&frame, law, &mut proved),
+                second::masters::from_master(&frame, law, &mut second)
+            );
             assert_eq!(proved, second, "law {law}");
             assert_eq!(raw::from_linear(&frame.map(|value| value >> shift), law, &mut linear), 0);
             assert_eq!(proved, linear);
