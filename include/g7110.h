@@ -19,7 +19,8 @@
  * LENGTHS     A frame has 0, 40, 80, 160, 240 or 320 samples. A frame of 0 samples is a pad: one octet, 00.
  *
  * WHAT A CALL RETURNS
- *   0 (G7110_OK), or the number of a refusal; g7110_store_cells a count. A call that takes a report writes it in both cases.
+ *   0 (G7110_OK), or the number of a refusal; g7110_store_cells a count, g7110_version a version. A call that takes a report
+ *   writes it in both cases.
  *   A refused g7110_read or g7110_write leaves the output as lent; its report is all 0, save that G7110_TOOL gives the tool
  *   and that a refused g7110_read gives the bit.
  *   A refused g7110_walk keeps the frames before the refused one: their samples stand in the output and are counted in
@@ -42,6 +43,8 @@
  *   G7110_VERSION goes up by one when a call is added, or a call or its report changes.
  *   13  the calls for a store whose power may be cut: g7110_store_try, g7110_store_next, g7110_store_moved, g7110_store_renumber and
  *       g7110_move_step, with G7110_MOVE. Block, table and text are as they were; every call of version 12 answers as it did.
+ *       Calls that tell: g7110_version, g7110_check, g7110_head, g7110_file_head, g7110_file_next; masters of 16 bits:
+ *       g7110_to_master, g7110_from_master.
  *   12  tool 11, fractional-bit, and sets up to 255: G7110_ALL_TOOLS was 127. With a set up to 127 every call but g7110_why answers
  *       as in version 11. g7110_why writes a ninth line, that of tool 11. Mending and the store take frames of tool 11, so version
  *       11 refuses the saved table of such a greeting with G7110_BAD; a set line may say up to 255.
@@ -209,7 +212,7 @@
  * LINEAR VALUES
  *   They are in the scale of 001's section 6.8, not of 16 bits: A-law has 13 bits, -4096 to 4095, mu-law 14, -8159 to 8158.
  *   Other values are clipped to these ends. A master of 16 bits is brought to scale first, by an arithmetic shift right of 3
- *   for A-law and 2 for mu-law, and back by a shift left; the calls don't shift.
+ *   for A-law and 2 for mu-law, and back by a shift left: g7110_to_master and g7110_from_master do so, the other two don't shift.
  *   All 256 octets of A-law return to themselves, and all of mu-law but 7F (minus zero), which returns as FF. In the ranges
  *   above a value returns at most 2^e away, e as in (6-6) and (6-8): 64 at most for A-law, 128 for mu-law.
  *
@@ -310,6 +313,9 @@ enum {
     G7110_MOVE = 27    /* the record tells of no move in this block; moved: it is not the next move */
 };
 
+/* The version of the calls that the archive has: its own G7110_VERSION. */
+uint32_t g7110_version(void);
+
 /* Reads one frame at the start of the octets. report: samples, octets used, bits, tool, bit. */
 uint32_t g7110_read(const uint8_t *octets, size_t octets_len, uint32_t law, uint32_t set,
                     uint8_t *out, size_t out_len, uint64_t report[5]);
@@ -330,6 +336,22 @@ uint32_t g7110_why(const uint8_t *samples, size_t samples_len, uint32_t law, uin
 uint32_t g7110_walk(const uint8_t *octets, size_t octets_len, uint32_t law, uint32_t set,
                     uint8_t *out, size_t out_len, uint64_t report[5]);
 
+/* The places of the report of g7110_check. */
+enum { G7110_CHECK_FRAMES = 0, G7110_CHECK_OCTETS = 1, G7110_CHECK_SAMPLES = 2, G7110_CHECK_TOOL = 3, G7110_CHECK_BIT = 4 };
+
+/* Judges a stream without room for its samples: answers and reports what g7110_walk would with room never short.
+ * report: frames, octets (also the place of a refused frame), samples, tool, bit. */
+uint32_t g7110_check(const uint8_t *octets, size_t octets_len, uint32_t law, uint32_t set, uint64_t report[5]);
+
+/* The places of the report of g7110_head. */
+enum { G7110_HEAD_TOOL = 0, G7110_HEAD_SAMPLES = 1 };
+
+/* Tells the tool and the samples of the frame at the start, from its first one or two octets; nothing past them is looked at, so a
+ * frame that is cut, or that g7110_read refuses for its body, has a head too. A pad is 0, 0 and needs no tool. Refusals, in order:
+ * G7110_SET, G7110_SHORT (no octets, or a second one that must decide is missing), G7110_PREFIX, G7110_TOOL. report: tool, samples;
+ * refused zeros, save that G7110_TOOL gives the tool. */
+uint32_t g7110_head(const uint8_t *octets, size_t octets_len, uint32_t set, uint64_t report[2]);
+
 /* Converts a frame of samples to linear values, by (6-1) to (6-4) of 001. Refusals, in order: G7110_LAW, G7110_LENGTH,
  * G7110_ROOM (out_len counts values). */
 uint32_t g7110_to_linear(const uint8_t *samples, size_t samples_len, uint32_t law, int16_t *out, size_t out_len);
@@ -337,6 +359,12 @@ uint32_t g7110_to_linear(const uint8_t *samples, size_t samples_len, uint32_t la
 /* Converts a frame of linear values to samples, by (6-5) to (6-8) of 001. Refusals, in order: G7110_LAW, G7110_LENGTH,
  * G7110_ROOM. */
 uint32_t g7110_from_linear(const int16_t *linear, size_t linear_len, uint32_t law, uint8_t *out, size_t out_len);
+
+/* As g7110_to_linear, each value brought to 16 bits by a shift left, 3 for A-law and 2 for mu-law. */
+uint32_t g7110_to_master(const uint8_t *samples, size_t samples_len, uint32_t law, int16_t *out, size_t out_len);
+
+/* As g7110_from_linear, each value of 16 bits brought to the law's scale first, by the same shift right, which is arithmetic. */
+uint32_t g7110_from_master(const int16_t *master, size_t master_len, uint32_t law, uint8_t *out, size_t out_len);
 
 /* Saves the settings that the text says. Refused with G7110_LINE, then G7110_SPENT. report: the new revision. */
 uint32_t g7110_settings_save(uint32_t state[41], const uint8_t *text, size_t text_len, uint64_t report[1]);
@@ -437,6 +465,23 @@ uint32_t g7110_file_read(const uint8_t *octets, size_t octets_len, uint32_t set,
  * G7110_ROOM (heading and all). report: octets of the file. */
 uint32_t g7110_file_write(const uint8_t *samples, size_t samples_len, const uint16_t *items, size_t items_len,
                           uint32_t law, uint32_t set, uint8_t *out, size_t out_len, uint64_t report[1]);
+
+/* The places of the report of g7110_file_head. */
+enum { G7110_FILE_HEAD_LAW = 0, G7110_FILE_HEAD_OCTETS = 1 };
+
+/* Tells the law that a recording's heading says. Any octets may follow. Refused with G7110_HEAD. report: law, octets of the heading. */
+uint32_t g7110_file_head(const uint8_t *octets, size_t octets_len, uint64_t report[2]);
+
+/* The places of the report of g7110_file_next, from 0 on. */
+enum { G7110_NEXT_KIND, G7110_NEXT_SAMPLES, G7110_NEXT_OCTETS, G7110_NEXT_TOOL, G7110_NEXT_BIT, G7110_NEXT_PLACE };
+
+/* Reads one item at the place `at` of the octets that stand behind a recording's heading: so a player needs room for one frame, not for
+ * the file. From place 0 on, each call at the next place of the last, the items are those of g7110_file_read. A frame's samples
+ * stand at the start of out; a loss writes nothing, though an erasure frame needs its room while it is read. Refusals, in order:
+ * G7110_LAW, G7110_SET, G7110_LONG (all octets), G7110_SHORT (at is not below the octets), those of g7110_read. report: kind, samples (of
+ * a loss its length, 0 where that is not known), octets, tool, bit, the next place; refused 0, 0, 0, tool, bit, at. */
+uint32_t g7110_file_next(const uint8_t *octets, size_t octets_len, uint64_t at, uint32_t law, uint32_t set,
+                         uint8_t *out, size_t out_len, uint64_t report[6]);
 
 #ifdef __cplusplus
 }

@@ -226,3 +226,49 @@ pub fn from_linear(linear: &[i16], law: Law, out: &mut [u8]) -> Result<(), Refus
         ending => Err(Refusal::of(ending, 0)),
     }
 }
+
+/// The version of the archive that is linked.
+pub fn version() -> u32 {
+    raw::version()
+}
+
+/// Judges a stream with no room for its samples: what [`walk`] tells with room never short.
+pub fn check(octets: &[u8], law: Law, set: u32) -> Walk {
+    let mut report = [0; 5];
+    let ending = raw::check(octets, law.number(), set, &mut report);
+    let [frames, octets, samples, tool, bit] = report;
+    let refused = (ending != 0).then(|| Refused { why: Refusal::of(ending, tool), bit: bit as usize });
+    Walk { frames: frames as usize, octets: octets as usize, samples: samples as usize, refused }
+}
+
+/// What a frame's first one or two octets tell; a pad is tool 0 with no samples.
+#[derive(Clone, Copy, Debug, PartialEq, Eq)]
+pub struct Head {
+    pub tool: u32,
+    pub samples: usize,
+}
+
+/// Tells the tool and the samples of the frame at the start; its body is not looked at.
+pub fn head(octets: &[u8], set: u32) -> Result<Head, Refusal> {
+    let mut report = [0; 2];
+    match (raw::head(octets, set, &mut report), report) {
+        (0, [tool, samples]) => Ok(Head { tool: tool as u32, samples: samples as usize }),
+        (ending, [tool, _]) => Err(Refusal::of(ending, tool)),
+    }
+}
+
+/// As [`to_linear`], the values brought to the 16 bits of a master.
+pub fn to_master(samples: &[u8], law: Law, out: &mut [i16]) -> Result<(), Refusal> {
+    match raw::to_master(samples, law.number(), out) {
+        0 => Ok(()),
+        ending => Err(Refusal::of(ending, 0)),
+    }
+}
+
+/// As [`from_linear`], of a master's values of 16 bits.
+pub fn from_master(master: &[i16], law: Law, out: &mut [u8]) -> Result<(), Refusal> {
+    match raw::from_master(master, law.number(), out) {
+        0 => Ok(()),
+        ending => Err(Refusal::of(ending, 0)),
+    }
+}

@@ -124,6 +124,16 @@ extern "C" {
     fn g7110_move_step(
         block: *mut u8, block_len: usize, spare: *mut u8, spare_len: usize, record: *const [u32; 8], next: *mut [u32; 8],
     ) -> u32;
+    fn g7110_version() -> u32;
+    fn g7110_check(octets: *const u8, octets_len: usize, law: u32, set: u32, report: *mut [u64; 5]) -> u32;
+    fn g7110_head(octets: *const u8, octets_len: usize, set: u32, report: *mut [u64; 2]) -> u32;
+    fn g7110_file_head(octets: *const u8, octets_len: usize, report: *mut [u64; 2]) -> u32;
+    fn g7110_file_next(
+        octets: *const u8, octets_len: usize, at: u64, law: u32, set: u32, out: *mut u8, out_len: usize,
+        report: *mut [u64; 6],
+    ) -> u32;
+    fn g7110_to_master(samples: *const u8, samples_len: usize, law: u32, out: *mut i16, out_len: usize) -> u32;
+    fn g7110_from_master(master: *const i16, master_len: usize, law: u32, out: *mut u8, out_len: usize) -> u32;
 }
 
 /// The ending; the report is samples, octets, bits, tool and the refusal's bit.
@@ -295,4 +305,46 @@ pub fn store_renumber(block: &[u8], table: &mut [u32], number: u32, to: u32) -> 
 pub fn move_step(block: &mut [u8], spare: &mut [u8], record: &[u32; 8], next: &mut [u32; 8]) -> u32 {
     // SAFETY: both slices and both records are live for the call, and the borrows keep them apart.
     unsafe { g7110_move_step(block.as_mut_ptr(), block.len(), spare.as_mut_ptr(), spare.len(), record, next) }
+}
+
+/// The archive's version.
+pub fn version() -> u32 {
+    // SAFETY: nothing is lent.
+    unsafe { g7110_version() }
+}
+
+/// The ending; the report is that of `walk`, with room never short.
+pub fn check(octets: &[u8], law: u32, set: u32, report: &mut [u64; 5]) -> u32 {
+    // SAFETY: as in `read`.
+    unsafe { g7110_check(octets.as_ptr(), octets.len(), law, set, report) }
+}
+
+/// The ending; the report is tool and samples.
+pub fn head(octets: &[u8], set: u32, report: &mut [u64; 2]) -> u32 {
+    // SAFETY: as in `read`.
+    unsafe { g7110_head(octets.as_ptr(), octets.len(), set, report) }
+}
+
+/// The ending; the report is the law and the heading's octets.
+pub fn file_head(octets: &[u8], report: &mut [u64; 2]) -> u32 {
+    // SAFETY: as in `read`.
+    unsafe { g7110_file_head(octets.as_ptr(), octets.len(), report) }
+}
+
+/// The ending; the report is kind, samples, octets, tool, the refusal's bit and the next place.
+pub fn file_next(octets: &[u8], at: u64, law: u32, set: u32, out: &mut [u8], report: &mut [u64; 6]) -> u32 {
+    // SAFETY: as in `read`.
+    unsafe { g7110_file_next(octets.as_ptr(), octets.len(), at, law, set, out.as_mut_ptr(), out.len(), report) }
+}
+
+/// The ending; the master's values stand in `out`.
+pub fn to_master(samples: &[u8], law: u32, out: &mut [i16]) -> u32 {
+    // SAFETY: as in `to_linear`.
+    unsafe { g7110_to_master(samples.as_ptr(), samples.len(), law, out.as_mut_ptr(), out.len()) }
+}
+
+/// The ending; the octets stand in `out`.
+pub fn from_master(master: &[i16], law: u32, out: &mut [u8]) -> u32 {
+    // SAFETY: as in `to_linear`.
+    unsafe { g7110_from_master(master.as_ptr(), master.len(), law, out.as_mut_ptr(), out.len()) }
 }

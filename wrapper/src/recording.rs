@@ -136,3 +136,34 @@ pub fn write(samples: &[u8], list: &[u16], law: Law, set: u32, out: &mut [u8]) -
         ending => Err(Refusal::of(ending, 0)),
     }
 }
+
+/// The law that a file's heading says, if it begins with one.
+pub fn head(octets: &[u8]) -> Option<Law> {
+    let mut report = [0; 2];
+    let ending = raw::file_head(octets, &mut report);
+    (ending == 0).then_some(if report[0] == 0 { Law::A } else { Law::Mu })
+}
+
+/// One item of a file, and where the next one stands.
+#[derive(Clone, Copy, Debug, PartialEq, Eq)]
+pub struct Next<'a> {
+    pub item: Item<'a>,
+    pub octets: usize,
+    /// The tool of its frame, of an erasure frame too; the octet 01 has none.
+    pub tool: u32,
+    pub place: u64,
+}
+
+/// Reads the item at a place of the octets that stand behind the heading; a frame's samples to the start of the output. From place 0
+/// on, one after another, these are the items of [`read`].
+pub fn next<'a>(octets: &[u8], at: u64, law: Law, set: u32, out: &'a mut [u8]) -> Result<Next<'a>, Refused> {
+    let mut report = [0; 6];
+    let ending = raw::file_next(octets, at, law.number(), set, out, &mut report);
+    let [kind, samples, octets, tool, bit, place] = report;
+    if ending != 0 {
+        return Err(Refused { why: Refusal::of(ending, tool), bit: bit as usize });
+    }
+    let samples = samples as usize;
+    let item = if kind == 1 { Item::Lost((samples > 0).then_some(samples)) } else { Item::Frame(&out[..samples]) };
+    Ok(Next { item, octets: octets as usize, tool: tool as u32, place })
+}

@@ -466,3 +466,31 @@ fn a_recording_is_refused() {
     }
     assert_eq!(write(&[], &[], Law::A, 1, &mut file), Ok(10));
 }
+
+/// A frame, a pad, a loss of unknown length, a loss of 40 samples, and an octet that is not assigned.
+#[test]
+fn what_is_told() {
+    use g7110::recording::{self, Item, Next};
+    let body = [0x41, 0x00, 0x01, 0x43, 0xFE, 0x46];
+    assert_eq!(g7110::version(), g7110::VERSION);
+    assert_eq!(g7110::head(&body, ALL_TOOLS), Ok(g7110::Head { tool: 2, samples: 40 }));
+    assert_eq!(g7110::head(&[0x28, 0x00], ALL_TOOLS), Err(Refusal::Tool(8)));
+    let refused = Some(Refused { why: Refusal::Prefix, bit: 0 });
+    assert_eq!(g7110::check(&body, Law::Mu, ALL_TOOLS), Walk { frames: 2, octets: 2, samples: 40, refused });
+    assert_eq!((recording::head(b"#!G7110M\n\0A"), recording::head(b"#!G7110M\n")), (Some(Law::Mu), None));
+    let mut out = [0xA7; MAX_SAMPLES];
+    let told = recording::next(&body, 0, Law::Mu, ALL_TOOLS, &mut out);
+    assert_eq!(told, Ok(Next { item: Item::Frame(&[PLUS; 40]), octets: 1, tool: 2, place: 1 }));
+    let told = recording::next(&body, 2, Law::Mu, 0, &mut []);
+    assert_eq!(told, Ok(Next { item: Item::Lost(None), octets: 1, tool: 0, place: 3 }));
+    let told = recording::next(&body, 3, Law::Mu, ALL_TOOLS, &mut out);
+    assert_eq!(told, Ok(Next { item: Item::Lost(Some(40)), octets: 2, tool: 4, place: 5 }));
+    let why = recording::Refusal::Frame(Refusal::Prefix);
+    assert_eq!(recording::next(&body, 5, Law::Mu, ALL_TOOLS, &mut out), Err(recording::Refused { why, bit: 0 }));
+    let (mut master, mut back) = ([7; 40], [0; 40]);
+    assert_eq!(g7110::to_master(&[0x80; 40], Law::Mu, &mut master), Ok(()));
+    assert_eq!(master, [32_124; 40]);
+    assert_eq!(g7110::from_master(&master, Law::Mu, &mut back), Ok(()));
+    assert_eq!(back, [0x80; 40]);
+    assert_eq!(g7110::to_master(&[0x80; 80], Law::Mu, &mut master), Err(Refusal::Room));
+}

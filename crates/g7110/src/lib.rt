@@ -20,6 +20,11 @@ ghost use Rattle.recording.specs.Items.{readFile};
 ghost use Rattle.recording.specs.Files.{writeFile};
 ghost use Rattle.g7110.specs.Recordings.{FileReadReported, FileWriteReported};
 ghost use Rattle.g7110.specs.Boundary.{ReadReported, WalkReported, WriteReported, WhyReported, Converted};
+ghost use Rattle.read_head.specs.Heads.{headOf};
+ghost use Rattle.walk_check.specs.Check.{checkOf};
+ghost use Rattle.recording.specs.Remembered.{headed};
+ghost use Rattle.g7110.specs.Telling.{version, CheckReported, HeadReported, FileHeadReported};
+ghost use Rattle.g7110.specs.Telling.{FileNextReported, ToMasterReported, FromMasterReported};
 use reasons::Why;
 
 // Reading one frame: the number, and in the report samples, octets used, bits, tool and the refusal's bit.
@@ -415,4 +420,96 @@ pub extern "C" fn g7110_move_step(
         (now (block .exit)) (now (spare .exit)) (now (next .exit)) r ⌝ }
 {
     store_moves::steps::move_step(block, spare, words, next)
+}
+
+// The header's G7110_VERSION.
+#[no_mangle]
+pub extern "C" fn g7110_version() -> u32
+    ensures { λ r. ⌜ r ≡ version ⌝ }
+{
+    13
+}
+
+// A stream judged with no room for its samples: the number, and in the report what a walk reports.
+#[no_mangle]
+pub extern "C" fn g7110_check(octets: &[u8], law: u32, set: u32, report: &mut [u64; 5]) -> u32
+    ensures { λ r. ⌜ CheckReported (checkOf (now (octets .entry)) law set) (now (report .exit)) r ⌝ }
+{
+    let a = walk_check::check(octets, law, set);
+    let end = a.end;
+    let tool = rules::tool_of(end);
+    *report = [
+        a.frames as u64,
+        a.octets as u64,
+        a.samples as u64,
+        tool as u64,
+        a.bit as u64,
+    ];
+    rules::number_of(end)
+}
+
+// What a frame's first octets tell: the number, and in the report its tool and samples.
+#[no_mangle]
+pub extern "C" fn g7110_head(octets: &[u8], set: u32, report: &mut [u64; 2]) -> u32
+    ensures { λ r. ⌜ HeadReported (headOf (now (octets .entry)) set) (now (report .exit)) r ⌝ }
+{
+    let a = read_head::head(octets, set);
+    *report = [a.tool as u64, a.samples as u64];
+    let end = a.end;
+    rules::number_of(end)
+}
+
+// What a recording's heading tells: the number, and in the report its law and octets.
+#[no_mangle]
+pub extern "C" fn g7110_file_head(octets: &[u8], report: &mut [u64; 2]) -> u32
+    ensures { λ r. ⌜ FileHeadReported (headed (now (octets .entry))) (now (report .exit)) r ⌝ }
+{
+    let a = recording_next::file_head(octets);
+    *report = [a.law as u64, a.octets as u64];
+    let end = a.end;
+    recording::number_of(end)
+}
+
+// One item of a recording at a place behind the heading: the number, and in the report kind, samples, octets, tool, the refusal's bit, and
+// the next place.
+#[no_mangle]
+pub extern "C" fn g7110_file_next(
+    octets: &[u8],
+    at: u64,
+    law: u32,
+    set: u32,
+    out: &mut [u8],
+    report: &mut [u64; 6],
+) -> u32
+    ensures { λ r. ⌜ FileNextReported (now (octets .entry)) at law set (now (out .entry)) (now (out .exit)) (now (report .exit)) r ⌝ }
+{
+    let a = recording_next::next(octets, at, law, set, out);
+    *report = [
+        a.kind as u64,
+        a.samples as u64,
+        a.octets as u64,
+        a.tool as u64,
+        a.bit as u64,
+        a.place as u64,
+    ];
+    let end = a.end;
+    recording::number_of(end)
+}
+
+// A frame of octets to a master's values.
+#[no_mangle]
+pub extern "C" fn g7110_to_master(samples: &[u8], law: u32, out: &mut [i16]) -> u32
+    ensures { λ r. ⌜ ToMasterReported law (now (samples .entry)) (now (out .entry)) (now (out .exit)) r ⌝ }
+{
+    let end = linear_masters::to_master(samples, law, out);
+    rules::number_of(end)
+}
+
+// A master's values to a frame of octets.
+#[no_mangle]
+pub extern "C" fn g7110_from_master(master: &[i16], law: u32, out: &mut [u8]) -> u32
+    ensures { λ r. ⌜ FromMasterReported law (now (master .entry)) (now (out .entry)) (now (out .exit)) r ⌝ }
+{
+    let end = linear_masters::from_master(master, law, out);
+    rules::number_of(end)
 }

@@ -7,3 +7,4 @@ pub mod Pairs
 pub mod Values
 pub mod Back
 pub mod Agrees
+pub mod Shift

@@ -1,0 +1,2 @@
+-- A check is the walk with enough room: Checked.
+pub mod Checked
