@@ -5,3 +5,4 @@ pub mod Mending
 pub mod Store
 pub mod Moves
 pub mod Recordings
+pub mod Tells

@@ -21,7 +21,7 @@ use Rattle.settings.specs.Revisions.{lookUp}
 use Rattle.settings.specs.State.{rowsAt, keptOf, boxOf, cellsOf}
 use Rattle.settings.specs.Gathers.{Gathers}
 use Rattle.settings.specs.Calls.{textOf}
-use Rattle.settings.specs.Tells.{getOf, getNumber, valuesIn, numbersOf, numbersKept}
+use Rattle.settings.specs.Tells.{getOf, getNumberOf, valuesIn, numbersOf, numbersKept}
 use Rattle.settings.proofs.Lines.{Sound, settings-back, settings-only}
 use Rattle.settings.proofs.State.{zeros-drop}
 use Rattle.settings.proofs.Revisions.{zero-gone}
@@ -83,27 +83,27 @@ module _ (n : ℕ) (some : 1 ≤ n) where
   no-zero (suc m) (inl e) = omega arith
   no-zero (suc m) (inr a) = no-zero m a
 
-  among-got : (rs : List Revision) (m : ℕ) → Among n (numbersOf rs ++ replicate m 0) → getNumber (lookUp n rs) ≡ 0
+  among-got : (rs : List Revision) (m : ℕ) → Among n (numbersOf rs ++ replicate m 0) → getNumberOf (lookUp n rs) ≡ 0
   unfolding numbersOf lookUp Among
   among-got [] m a = absurd (no-zero m a)
   among-got (r ∷ rs) m (inl e) = rw (eq-eqb (r .number) n e)
   among-got (r ∷ rs) m (inr a) = go (eqb (r .number) n) (among-got rs m a)
     where
-      go : (t : Bool) → getNumber (lookUp n rs) ≡ 0 → getNumber (cond t (Under (r .values)) (lookUp n rs)) ≡ 0
+      go : (t : Bool) → getNumberOf (lookUp n rs) ≡ 0 → getNumberOf (cond t (Under (r .values)) (lookUp n rs)) ≡ 0
       go true e = refl
       go false e = e
 
-  pub kept-got : (cells : List ℕ) → Among n (numbersKept cells) → getNumber (getOf cells n) ≡ 0
+  pub kept-got : (cells : List ℕ) → Among n (numbersKept cells) → getNumberOf (getOf cells n) ≡ 0
   kept-got cells a = among-got (boxOf cells .revisions) (8 - length (boxOf cells .revisions)) a
 
 -- and a number that a get answers is told, and is not 0
-got-among : (n : ℕ) (rs : List Revision) (l : List ℕ) → getNumber (lookUp n rs) ≡ 0 → Among n (numbersOf rs ++ l)
+got-among : (n : ℕ) (rs : List Revision) (l : List ℕ) → getNumberOf (lookUp n rs) ≡ 0 → Among n (numbersOf rs ++ l)
 unfolding numbersOf lookUp Among
 got-among n [] l e = let z : _≡_ {A = ℕ} 24 0 = e in absurd (omega arith)
 got-among n (r ∷ rs) l e = go (eqb (r .number) n) refl (got-among n rs l) e
   where
-    go : (t : Bool) → eqb (r .number) n ≡ t → (getNumber (lookUp n rs) ≡ 0 → Among n (numbersOf rs ++ l))
-        → getNumber (cond t (Under (r .values)) (lookUp n rs)) ≡ 0 → (r .number ≡ n) ⊎ Among n (numbersOf rs ++ l)
+    go : (t : Bool) → eqb (r .number) n ≡ t → (getNumberOf (lookUp n rs) ≡ 0 → Among n (numbersOf rs ++ l))
+        → getNumberOf (cond t (Under (r .values)) (lookUp n rs)) ≡ 0 → (r .number ≡ n) ⊎ Among n (numbersOf rs ++ l)
     go true e more f = inl (eqb-true (r .number) n e)
     go false e more f = inr (more f)
 
@@ -111,20 +111,20 @@ pub record Kept-under (cells : List ℕ) (n : ℕ) : Type 0 where
   pub told : Among n (numbersKept cells)
   pub some : 1 ≤ n
 
-pub got-kept : (cells : List ℕ) (n : ℕ) → getNumber (getOf cells n) ≡ 0 → Kept-under cells n
+pub got-kept : (cells : List ℕ) (n : ℕ) → getNumberOf (getOf cells n) ≡ 0 → Kept-under cells n
 got-kept cells zero e =
-    let z : _≡_ {A = ℕ} 24 0 = sym (ap getNumber (zero-gone (rowsAt cells 8 0))) ∙ e in
+    let z : _≡_ {A = ℕ} 24 0 = sym (ap getNumberOf (zero-gone (rowsAt cells 8 0))) ∙ e in
     absurd (omega arith)
 got-kept cells (suc n) e =
     record { told = got-among (suc n) (boxOf cells .revisions) (replicate (8 - length (boxOf cells .revisions)) 0) e; some = omega arith }
 
 -- What a get tells is what the revision's text says: the text that a read gives, read as settings, is the values told, where a text can
 -- say them at all; so after saving a text a get tells that text's values.
-pub got-text : (cells : List ℕ) (n : ℕ) → getNumber (getOf cells n) ≡ 0 → Sound (valuesIn (getOf cells n))
+pub got-text : (cells : List ℕ) (n : ℕ) → getNumberOf (getOf cells n) ≡ 0 → Sound (valuesIn (getOf cells n))
     → settingsIn (textOf (getOf cells n)) ≡ Is (valuesIn (getOf cells n))
 got-text cells n e s = go (getOf cells n) e s
   where
-    go : (k : Kept) → getNumber k ≡ 0 → Sound (valuesIn k) → settingsIn (textOf k) ≡ Is (valuesIn k)
+    go : (k : Kept) → getNumberOf k ≡ 0 → Sound (valuesIn k) → settingsIn (textOf k) ≡ Is (valuesIn k)
     go (Under v) e s = settings-back v s
     go Nowhere e s = let z : _≡_ {A = ℕ} 24 0 = e in absurd (omega arith)
 

@@ -16,9 +16,9 @@ abbrev pub getOf : List ℕ → ℕ → Kept
 getOf cells revision = lookUp revision (boxOf cells .revisions)
 
 -- GONE is its one refusal
-abbrev pub getNumber : Kept → ℕ
-getNumber (Under v) = 0
-getNumber Nowhere = refusalNumber Gone
+abbrev pub getNumberOf : Kept → ℕ
+getNumberOf (Under v) = 0
+getNumberOf Nowhere = refusalNumber Gone
 
 -- "law, set, block, greeting, as they stand"; a refused call reports zeros
 abbrev pub valuesIn : Kept → Settings

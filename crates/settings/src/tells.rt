@@ -3,7 +3,7 @@
 ghost use mathlib.Core.Path.{_≡_};
 ghost use Prim.Native.Nat.{_*_, _<_};
 ghost use lib.ListN.{length, getD};
-ghost use Rattle.settings.specs.Tells.{getOf, getNumber, valuesIn, numbersKept};
+ghost use Rattle.settings.specs.Tells.{getOf, getNumberOf, valuesIn, numbersKept};
 use crate::Kept;
 use crate::Refusal;
 use crate::Settings;
@@ -17,7 +17,7 @@ pub fn get(state: &[u32; 41], revision: u32) -> Kept
 
 // An accepted call has the number 0.
 pub fn get_number(k: Kept) -> u32
-    ensures { λ r. ⌜ r ≡ getNumber k ⌝ }
+    ensures { λ r. ⌜ r ≡ getNumberOf k ⌝ }
 {
     match k {
         Kept::Under(_) => 0,

@@ -1,0 +1,17 @@
+use mathlib.Core.Path.{ap, _∙_}
+use Rattle.settings.specs.Tells.{getNumberOf, valuesIn}
+use Rattle.g7110.specs.Tells.{valuesOf}
+use borrow.Author.Needs.{needs}
+use Rattle.g7110.proofs.g7110_settings_get.Statement.{statement}
+use Rattle.g7110.proofs.g7110_settings_get.Tie as tie
+
+returns : tie.Need-returns
+returns c =
+    let k = c .before .before .before .get .ensures in
+    record {
+      ending = c .get-number .ensures ∙ ap getNumberOf k;
+      report = ap valuesOf (c .before .before .values-in .ensures ∙ ap valuesIn k);
+    }
+
+pub g7110-settings-get-spec : {M : Type 1} → statement M
+g7110-settings-get-spec = tie.close (tie.spec (λ c κs. search needs) (λ c κs. search needs) (λ c κs. search needs) returns)
