@@ -20,7 +20,7 @@ use Rattle.mending.specs.declared.MendRefusal.{MendRefusal}
 use Rattle.mending.specs.declared.MendEnding.the-variants.{Done, Refused}
 use Rattle.mending.specs.declared.MendAnswer.{MendAnswer}
 use Rattle.rules.specs.Tools.{allTools}
-use Rattle.mending.specs.Mend.{walkUpTo, filling, filledAfter, mended, Mend, mends, declines}
+use Rattle.mending.specs.Mend.{walkUpTo, filling, mended, Mend, mends, declines}
 use Rattle.mending.specs.Calls.{Declines, resultOf, Mends}
 use Rattle.mending.specs.Why.{stopNumber, Answers}
 use Rattle.mending.proofs.Kept.{walk-within}
@@ -54,8 +54,8 @@ declined-as {r = r} d e out =
     })
 
 -- a refusal that was told is the mending's
-pub refused-as : {o m : Mend} {why : MendRefusal} {r : MendAnswer} → Answers o r → r .end ≡ Refused why → (o ≡ declines why → declines why ≡ m)
-    → (out : List ℕ) → Mends m r out out
+pub refused-as : {o m : Mend} {why : MendRefusal} {r : MendAnswer} → Answers o r → r .end ≡ Refused why
+    → (o ≡ declines why → declines why ≡ m) → (out : List ℕ) → Mends m r out out
 refused-as {o} {m} {why} {r} a e f out =
     let is = ends-refused o (sym (a .end) ∙ e) in
     let d : Answers (declines why) r = rw is at a in

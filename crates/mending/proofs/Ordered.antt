@@ -1,5 +1,5 @@
--- The refusals in their order (`no-law`, `too-long`, `no-total`, `result-long`), and a greeting of which the rest is told (`told-it`). What a
--- mending asks is that and then ROOM (`less-room`): so it declines where that does (`mend-declined`), and else by its room (`no-room`,
+-- The refusals in their order (`no-law`, `too-long`, `no-total`, `result-long`), and a greeting of which the rest is told (`told-it`). What
+-- a mending asks is that and then ROOM (`less-room`): so it declines where that does (`mend-declined`), and else by its room (`no-room`,
 -- `mends-it`). An ending says which it was (`ends-refused`, `ends-done`, `why-mends`).
 use Prim.Native.Nat.{ℕ, _≤_, _<_}
 use native.Mathlib.Omega.{arith}

@@ -169,7 +169,8 @@ why-walks octets law total {m} e =
     let k = why-mends octets law total e in
     let same : mends (mended octets law total) ≡ mends m = sym (why-is octets law total k) ∙ e in
     let is : mended octets law total ≡ m = cc in
-    let may : Mendable octets law total = record { lawful = k .0; short = leb-true (length octets) longest (k .1 .0); whole = k .1 .1 .0 } in
+    let may : Mendable octets law total =
+    record { lawful = k .0; short = leb-true (length octets) longest (k .1 .0); whole = k .1 .1 .0 } in
     ap (λ (x : Mended). x .walked) (sym is) ∙ sym (all-is may)
 
 -- a walk that ends clean was allowed to begin

@@ -1,6 +1,6 @@
--- What the settings tell: the numbers told are those of the rows that a save gathers (`kept-told`, `eight-told`); a number among them that is not 0 is
--- one that a get answers, and no other is (`kept-got`, `got-kept`); what a get tells is what the text of that revision says (`got-text`).
--- No second answer fits (`only-get`, `only-kept`).
+-- What the settings tell: the numbers told are those of the rows that a save gathers (`kept-told`, `eight-told`); a number among them
+-- that is not 0 is one that a get answers, and no other is (`kept-got`, `got-kept`); what a get tells is what the text of that revision says
+-- (`got-text`). No second answer fits (`only-get`, `only-kept`).
 use Prim.Native.Nat.{ℕ, zero, suc, _+_, _*_, _-_, _≤_}
 use mathlib.Core.Path.{_≡_, refl, sym, ap, _∙_}
 use mathlib.Core.List.{List, [], _∷_, _++_}
@@ -18,7 +18,7 @@ use Rattle.settings.specs.declared.Kept.{Kept}
 use Rattle.settings.specs.declared.Kept.the-variants.{Under, Nowhere}
 use Rattle.settings.specs.Lines.{settingsIn}
 use Rattle.settings.specs.Revisions.{lookUp}
-use Rattle.settings.specs.State.{rowsAt, keptOf, boxOf, cellsOf}
+use Rattle.settings.specs.State.{rowsAt, boxOf, cellsOf}
 use Rattle.settings.specs.Gathers.{Gathers}
 use Rattle.settings.specs.Calls.{textOf}
 use Rattle.settings.specs.Tells.{getOf, getNumberOf, valuesIn, numbersOf, numbersKept}
@@ -64,9 +64,9 @@ kept-told cells {rows} {n} g =
     fifths-are 8 0 (45 - 5 * n) rs rows z (omega (arith, g .count, g .few)) (omega (arith, g .count, g .few))
 
 -- and one by one, as the call tells them
-pub eight-told : (cells : List ℕ) {rows : List ℕ} {n a b c d e f g h : ℕ} → Gathers (boxOf cells .revisions) rows n → a ≡ getD rows (5 * 0) 0
-    → b ≡ getD rows (5 * 1) 0 → c ≡ getD rows (5 * 2) 0 → d ≡ getD rows (5 * 3) 0 → e ≡ getD rows (5 * 4) 0 → f ≡ getD rows (5 * 5) 0
-    → g ≡ getD rows (5 * 6) 0 → h ≡ getD rows (5 * 7) 0 → _≡_ {A = List ℕ} (a ∷ b ∷ c ∷ d ∷ e ∷ f ∷ g ∷ h ∷ []) (numbersKept cells)
+pub eight-told : (cells : List ℕ) {rows : List ℕ} {n a b c d e f g h : ℕ} → Gathers (boxOf cells .revisions) rows n
+    → a ≡ getD rows (5 * 0) 0 → b ≡ getD rows (5 * 1) 0 → c ≡ getD rows (5 * 2) 0 → d ≡ getD rows (5 * 3) 0 → e ≡ getD rows (5 * 4) 0
+    → f ≡ getD rows (5 * 5) 0 → g ≡ getD rows (5 * 6) 0 → h ≡ getD rows (5 * 7) 0 → _≡_ {A = List ℕ} (a ∷ b ∷ c ∷ d ∷ e ∷ f ∷ g ∷ h ∷ []) (numbersKept cells)
 unfolding fifths
 eight-told cells o a b c d e f g h = rw (a, b, c, d, e, f, g, h) (kept-told cells o)
 

@@ -1,7 +1,7 @@
--- What is promised of the calls that tell of a store. What a get gives, the info tells, refusals too (`info-as-got`). Asked at 0, 1 and so on
--- up to ABSENT, the calls tell the table's greetings, all of them, in order of start, each once (`at-lists`). What is held and what is free
--- are the size (`totals-size`); a put of at most the largest gap's octets moves none (`gap-moves-none`), and where a greeting is put into a
--- gap, it has no more octets than the largest (`gap-is-largest`).
+-- What is promised of the calls that tell of a store. What a get gives, the info tells, refusals too (`info-as-got`). Asked at 0, 1 and so
+-- on up to ABSENT, the calls tell the table's greetings, all of them, in order of start, each once (`at-lists`). What is held and what is
+-- free are the size (`totals-size`); a put of at most the largest gap's octets moves none (`gap-moves-none`), and where a greeting is put
+-- into a gap, it has no more octets than the largest (`gap-is-largest`).
 use Prim.Native.Nat.{ℕ, zero, suc, _+_, _-_, _≤_, _<_, max}
 use mathlib.Core.Path.{_≡_, refl, sym, ap, _∙_}
 use mathlib.Core.List.{List, [], _∷_}
@@ -22,7 +22,6 @@ use Rattle.store_rows.specs.Cells.{rowsOf}
 use Rattle.store_rows.specs.Changed.{nth}
 use Rattle.store_rows.specs.Sane.{rising, numbered, saneOf}
 use Rattle.store_greeting.specs.Bad.{isDone, walkOf, isBad}
-use Rattle.store_greeting.specs.Marks.{Note}
 use Rattle.store_notes.specs.Cells.{notesOf}
 use Rattle.store_notes.specs.Sane.{saneStore}
 use Rattle.store.specs.declared.Refusal.the-variants.{Absent}
@@ -33,11 +32,9 @@ use Rattle.store_rows.proofs.Lists.{passed, both}
 use Rattle.store_rows.proofs.Rising.{rising-head}
 use Rattle.store_notes.proofs.Matched.{sane-noted}
 use Rattle.store_notes.proofs.Pairs.{sane-old}
-use Rattle.store_tell.specs.declared.Entry.{Entry}
 use Rattle.store_tell.specs.declared.Told.{Told}
 use Rattle.store_tell.specs.declared.Told.the-variants.{Is, Refused}
-use Rattle.store_tell.specs.declared.Summed.the-variants.{Are}
-use Rattle.store_tell.specs.Tells.{tellAt, largestFrom, largestGap, totalsOf}
+use Rattle.store_tell.specs.Tells.{tellAt, largestFrom, largestGap}
 use Rattle.store_tell.specs.Calls.{toldNumberOf, entryIn, sumsIn, infoOf, atOf, totalsFor}
 
 -- ---- what a get gives, the info tells
@@ -142,7 +139,8 @@ gap-found want size at i [] h g = record { below = i; place = at; is = rw (le-lt
 gap-found want size at i (r ∷ rows) h g =
     go (ltb (r .start) (at + want)) refl (λ f. gap-found want size (r .start + r .octets) (i + 1) rows h f)
   where
-    go : (x : Bool) → ltb (r .start) (at + want) ≡ x → (want ≤ largestFrom size (r .start + r .octets) rows → Found (gapFrom want size (r .start + r .octets) (i + 1) rows))
+    go : (x : Bool) → ltb (r .start) (at + want) ≡ x
+        → (want ≤ largestFrom size (r .start + r .octets) rows → Found (gapFrom want size (r .start + r .octets) (i + 1) rows))
         → Found (cond x (gapFrom want size (r .start + r .octets) (i + 1) rows) (At i at))
     go true e f = f (omega (arith, ltb-true (r .start) (at + want) e, g, h))
     go false e f = record { below = i; place = at; is = refl }

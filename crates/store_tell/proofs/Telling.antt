@@ -1,6 +1,7 @@
--- What the calls tell, from what their steps do: a greeting by its row and the head of its note (`tell-is`); by its number, as a get finds it
--- (`info-refused`, `info-met`, `info-place`, `info-within`, `info-found`); by its place (`at-table`, `at-absent`, `at-found`); the largest gap as the loop goes
--- (`largest-start`, `largest-turn`, `largest-end`); all together (`totals-table`, `totals-are`, `sums-are`).
+-- What the calls tell, from what their steps do: a greeting by its row and the head of its note (`tell-is`); by its number, as a get finds
+-- it (`info-refused`, `info-met`, `info-place`, `info-within`, `info-found`); by its place (`at-table`, `at-absent`,
+-- `at-found`); the largest gap as the loop goes (`largest-start`, `largest-turn`, `largest-end`); all together
+-- (`totals-table`, `totals-are`, `sums-are`).
 use Prim.Native.Nat.{ℕ, _+_, _*_, _-_, _≤_, _<_, max}
 use mathlib.Core.Path.{_≡_, refl, sym, ap, _∙_}
 use mathlib.Core.List.{List}
@@ -12,7 +13,7 @@ use Rattle.rules.proofs.Judged.{AllMet, judged-met, judged-first}
 use Rattle.store_rows.specs.declared.rows.Row.{Row}
 use Rattle.store_rows.specs.Limits.{sizeOf}
 use Rattle.store_rows.specs.Rows.{held}
-use Rattle.store_rows.specs.Finding.{absent, findFrom}
+use Rattle.store_rows.specs.Finding.{findFrom}
 use Rattle.store_rows.specs.Cells.{rowAt, rowsAt, rowsOf}
 use Rattle.store_rows.specs.Changed.{nth}
 use Rattle.store_rows.specs.Sane.{rising, Ordered}

@@ -31,7 +31,8 @@ returns-3 c =
     let judged = c .before .before in
     let a = start judged .args in
     declined-told (c .declined3 .ensures)
-    (no-total (a .octets .now) (a .law) (a .total) (omega arith) (omega arith) (sym (judged .is-total .ensures) ∙ not-true _ (c .before .if3 .taken)))
+    (no-total (a .octets .now) (a .law) (a .total) (omega arith) (omega arith)
+    (sym (judged .is-total .ensures) ∙ not-true _ (c .before .if3 .taken)))
 
 -- the walk of a greeting that may be mended
 module _ (c : tie.After-walk-on) where

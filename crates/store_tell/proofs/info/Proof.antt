@@ -1,6 +1,5 @@
 -- NUMBER and ABSENT are a get's; where it finds the greeting, its place is looked up once more.
-use mathlib.Core.Path.{sym, ap, _∙_}
-use mathlib.Core.List.{List}
+use mathlib.Core.Path.{sym, _∙_}
 use native.Mathlib.Omega.{arith}
 use Rattle.rules.proofs.Judged.{AllMet}
 use Rattle.store.specs.Calls.{findOrder}
