@@ -9,7 +9,7 @@ use Rattle.g7110.proofs.g7110_mend_why.Tie as tie
 
 returns : tie.Need-returns
 returns c =
-    let tool = c .before .before .before in
+    let tool = c .before .before in
     let stop = tool .before in
     let t = stop .before .mend-why .ensures in
     record {
@@ -20,5 +20,5 @@ returns c =
     }
 
 pub g7110-mend-why-spec : {M : Type 1} → statement M
-g7110-mend-why-spec = tie.close (tie.spec (λ c κs. search needs) (λ c κs. search needs) (λ c κs. search needs) (λ c κs. search needs)
-    (λ c. search needs) returns)
+g7110-mend-why-spec = tie.close (tie.spec (λ c κs. search needs) (λ c κs. search needs) (λ c κs. search needs) (λ c. search needs)
+    (λ c. search needs) (λ c κs. search needs) returns)

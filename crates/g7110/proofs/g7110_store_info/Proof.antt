@@ -7,11 +7,13 @@ use Rattle.g7110.proofs.g7110_store_info.Tie as tie
 
 returns : tie.Need-returns
 returns c =
-    let t = c .before .before .before .info .ensures in
+    let told = c .before .before .before in
+    let t = told .before .info .ensures in
     record {
       ending = c .told-number .ensures ∙ ap toldNumberOf t;
-      report = ap fiveOf (c .before .before .entry-in .ensures ∙ ap entryIn t);
+      report = ap fiveOf (told .entry-in .ensures ∙ ap entryIn t);
     }
 
 pub g7110-store-info-spec : {M : Type 1} → statement M
-g7110-store-info-spec = tie.close (tie.spec (λ c κs. search needs) (λ c κs. search needs) (λ c κs. search needs) returns)
+g7110-store-info-spec = tie.close (tie.spec (λ c κs. search needs) (λ c κs. search needs) (λ c. search needs) (λ c κs. search needs)
+    returns)
