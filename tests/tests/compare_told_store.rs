@@ -7,7 +7,7 @@ use std::collections::BTreeMap;
 use tests::settings::State;
 use tests::store::{change, profiles, some_store, Stores, PARTS};
 use tests::streams::Stream;
-use tests::told_store::{script, Ask, Told, Tellers, Tells};
+use tests::told_store::{script, Ask, Tellers, Tells, Told};
 use tests::{goes_on, say, share, tenth, Proved, Second, MOST};
 
 const LAW: u32 = 12;
@@ -109,7 +109,10 @@ fn stores() {
     }
     tellers.close();
     let least = tenth(10);
-    say(&format!("compared: told, {tables} tables: {} calls, {listed} greetings listed, {tried} puts tried\n", tellers.calls));
+    say(&format!(
+        "compared: told, {tables} tables: {} calls, {listed} greetings listed, {tried} puts tried\n",
+        tellers.calls
+    ));
     say(&format!("  info: {}\n", info.all(&[0, NUMBER, ABSENT, TABLE], least)));
     say(&format!("  at: {}\n", at.all(&[0, ABSENT, TABLE], least)));
     say(&format!("  totals: {}\n", totals.all(&[0, TABLE], least)));
@@ -199,7 +202,11 @@ fn settings() {
     }
     tellers.close();
     assert!(counts.iter().all(|count| *count >= tenth(5)), "{counts:?}");
-    say(&format!("compared: told, settings: {} calls, get {}; rows kept {counts:?}\n", tellers.calls, met.all(&[0, GONE], 100)));
+    say(&format!(
+        "compared: told, settings: {} calls, get {}; rows kept {counts:?}\n",
+        tellers.calls,
+        met.all(&[0, GONE], 100)
+    ));
 }
 
 /// The four numbers of a revision's text.
@@ -244,7 +251,11 @@ fn mending() {
         }
     }
     tellers.close();
-    say(&format!("compared: told, mend_why: {} calls, {}; stops {stops:?}\n", tellers.calls, met.all(&[0, TOTAL], tenth(10))));
+    say(&format!(
+        "compared: told, mend_why: {} calls, {}; stops {stops:?}\n",
+        tellers.calls,
+        met.all(&[0, TOTAL], tenth(10))
+    ));
     assert!(stops.keys().eq(all.iter()), "ROOM is told as 0, and each other refusal is met: {stops:?}");
 }
 
@@ -280,9 +291,15 @@ impl Tells for Wrong {
                 told.report = state[2 + 5 * last..][..4].iter().map(|number| u64::from(*number)).collect();
             }
             (5, Ask::Kept(_)) => {
-                let mut seen = Vec::new();
-                told.report.retain(|number| *number == 0 || !seen.contains(number) && { seen.push(*number); true });
-                told.report.resize(8, 0);
+                // A number in two rows is told once.
+                let mut once = Vec::new();
+                for number in told.report.drain(..).filter(|number| *number != 0) {
+                    if !once.contains(&number) {
+                        once.push(number);
+                    }
+                }
+                once.resize(8, 0);
+                told.report = once;
             }
             (6, Ask::MendWhy(octets, law, total)) if told.ending == 0 && told.report[4] == 0 => {
                 let walked = second::walk(octets, *law, 255, &mut vec![0; *total as usize]);
