@@ -380,11 +380,26 @@ uint32_t g7110_settings_read(const uint32_t state[41], uint32_t revision, uint8_
 /* Empties the list for the next tenant; the numbering runs on. Never refused. */
 uint32_t g7110_settings_wipe(uint32_t state[41]);
 
+/* Tells a kept revision's values, as they stand. Refused with G7110_GONE; then the report is zeros. */
+enum { G7110_VALUES_LAW, G7110_VALUES_SET, G7110_VALUES_BLOCK, G7110_VALUES_GREETING };
+uint32_t g7110_settings_get(const uint32_t state[41], uint32_t revision, uint64_t report[4]);
+
+/* Tells the numbers of the kept revisions, the oldest first, then 0. Never refused. Of a state that no calls left: the rows whose number
+ * is not 0, in their order; a number in two rows is told twice. */
+uint32_t g7110_settings_kept(const uint32_t state[41], uint64_t report[8]);
+
 /* Mends a damaged greeting whose true total of samples is known; the result stands at the output's start.
  * Refusals, in order: G7110_LAW, G7110_LONG (the greeting), G7110_TOTAL, G7110_LONG (the result), G7110_ROOM.
  * report: octets of the result, frames kept, octets kept, samples filled. */
 uint32_t g7110_mend(const uint8_t *octets, size_t octets_len, uint32_t law, uint64_t total,
                     uint8_t *out, size_t out_len, uint64_t report[4]);
+
+/* Tells what g7110_mend would report with room enough, and how the walk of what is kept stopped: its number, 0 where it went to the end or
+ * up to the total; its place, which is the octets kept; its tool and its bit, as g7110_walk has them. At the total a next frame is judged
+ * by its first octets alone. Refused as g7110_mend, G7110_ROOM left out; then the report is zeros. */
+enum { G7110_MENDED_OCTETS, G7110_MENDED_FRAMES, G7110_MENDED_KEPT, G7110_MENDED_FILLED,
+       G7110_STOP_NUMBER, G7110_STOP_PLACE, G7110_STOP_TOOL, G7110_STOP_BIT };
+uint32_t g7110_mend_why(const uint8_t *octets, size_t octets_len, uint32_t law, uint64_t total, uint64_t report[8]);
 
 /* How many numbers a store's table needs for a block of size octets; of a size above G7110_MAX_BLOCK that of the greatest. */
 uint64_t g7110_store_cells(uint64_t size);
@@ -397,6 +412,23 @@ uint32_t g7110_store_put(uint8_t *block, size_t block_len, uint32_t *table, size
 /* Tells where a greeting lies. Refused with G7110_TABLE, G7110_NUMBER, G7110_ABSENT. report: its start, its octets. */
 uint32_t g7110_store_get(const uint8_t *block, size_t block_len, const uint32_t *table, size_t table_len, uint32_t number,
                          uint64_t report[2]);
+
+/* Tells all that stands in the table of a greeting: where it starts, its octets, its law, its samples, and how many marks it has. Refused
+ * with G7110_TABLE, G7110_NUMBER, G7110_ABSENT; then the report is zeros. */
+enum { G7110_INFO_START, G7110_INFO_OCTETS, G7110_INFO_LAW, G7110_INFO_SAMPLES, G7110_INFO_MARKS };
+uint32_t g7110_store_info(const uint8_t *block, size_t block_len, const uint32_t *table, size_t table_len, uint32_t number,
+                          uint64_t report[5]);
+
+/* Tells the same, its number before it, of the greeting at a place in order of start, counted from 0. Refused with G7110_TABLE, and with
+ * G7110_ABSENT from the number of greetings on; so a program lists all by counting up until it is refused. */
+enum { G7110_AT_NUMBER, G7110_AT_START, G7110_AT_OCTETS, G7110_AT_LAW, G7110_AT_SAMPLES, G7110_AT_MARKS };
+uint32_t g7110_store_at(const uint8_t *block, size_t block_len, const uint32_t *table, size_t table_len, uint64_t index,
+                        uint64_t report[6]);
+
+/* Tells how many greetings there are, the octets held, the octets free, and the largest gap, the room before the first greeting and behind
+ * the last being gaps too: a put of at most so many octets moves none. Refused with G7110_TABLE. */
+enum { G7110_TOTALS_GREETINGS, G7110_TOTALS_HELD, G7110_TOTALS_FREE, G7110_TOTALS_GAP };
+uint32_t g7110_store_totals(const uint8_t *block, size_t block_len, const uint32_t *table, size_t table_len, uint64_t report[4]);
 
 /* Takes a greeting out; its room is used again. Refused with G7110_TABLE, G7110_NUMBER, G7110_ABSENT. */
 uint32_t g7110_store_delete(const uint8_t *block, size_t block_len, uint32_t *table, size_t table_len, uint32_t number);

@@ -4,7 +4,7 @@
 //! A [`Pair`] asks two back ends the same. [`forms`], [`digits`], [`faults`], [`frames`] and [`streams`] make what they are asked,
 //! and a [`Table`] counts what was met. [`settings`] does the same for a box's settings, [`why`] for the lines that say why a
 //! tool was taken, [`mend`] for a greeting that is mended, [`store`] for the
-//! greetings of a box, [`file`] for the recordings of studios. [`wrong`] has back ends that must be found out.
+//! greetings of a box, [`told_store`] for what these tell of themselves, [`file`] for the recordings of studios. [`wrong`] has back ends that must be found out.
 
 #![deny(unsafe_code)]
 
@@ -31,6 +31,7 @@ mod share;
 pub mod store;
 pub mod streams;
 mod table;
+pub mod told_store;
 pub mod tools;
 mod vectors;
 pub mod why;

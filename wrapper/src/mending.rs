@@ -70,3 +70,28 @@ pub fn mend(octets: &[u8], law: Law, total: u64, out: &mut [u8]) -> Result<Mende
         ending => Err(Refusal::of(ending)),
     }
 }
+
+/// What [`mend`] would answer with room enough, and how the walk of what is kept stopped.
+#[derive(Clone, Copy, Debug, PartialEq, Eq)]
+pub struct Why {
+    pub mended: Mended,
+    /// The refusal's number in the header; 0 where the walk went to the end, or up to the total.
+    pub stop: u32,
+    /// The tool of a refused frame, where it is G7110_TOOL.
+    pub tool: u32,
+    /// The refused frame's bad bit, counted from its start, which is `mended.kept`.
+    pub bit: usize,
+}
+
+/// How much of a greeting a mending keeps, and why it ends there. Nothing is written.
+pub fn why(octets: &[u8], law: Law, total: u64) -> Result<Why, Refusal> {
+    let mut report = [0; 8];
+    match raw::mend_why(octets, law.number(), total, &mut report) {
+        0 => {
+            let [octets, frames, kept, filled, _, _, _, bit] = report.map(|number| number as usize);
+            let mended = Mended { octets, frames, kept, filled };
+            Ok(Why { mended, stop: report[4] as u32, tool: report[6] as u32, bit })
+        }
+        ending => Err(Refusal::of(ending)),
+    }
+}

@@ -65,6 +65,9 @@ extern "C" {
     fn g7110_settings_back(state: *mut [u32; 41], revision: u32, report: *mut [u64; 1]) -> u32;
     fn g7110_settings_read(state: *const [u32; 41], revision: u32, text: *mut [u8; 80], report: *mut [u64; 1]) -> u32;
     fn g7110_settings_wipe(state: *mut [u32; 41]) -> u32;
+    fn g7110_settings_get(state: *const [u32; 41], revision: u32, report: *mut [u64; 4]) -> u32;
+    fn g7110_settings_kept(state: *const [u32; 41], report: *mut [u64; 8]) -> u32;
+    fn g7110_mend_why(octets: *const u8, octets_len: usize, law: u32, total: u64, report: *mut [u64; 8]) -> u32;
     fn g7110_mend(
         octets: *const u8,
         octets_len: usize,
@@ -81,6 +84,15 @@ extern "C" {
     ) -> u32;
     fn g7110_store_get(
         block: *const u8, block_len: usize, table: *const u32, table_len: usize, number: u32, report: *mut [u64; 2],
+    ) -> u32;
+    fn g7110_store_info(
+        block: *const u8, block_len: usize, table: *const u32, table_len: usize, number: u32, report: *mut [u64; 5],
+    ) -> u32;
+    fn g7110_store_at(
+        block: *const u8, block_len: usize, table: *const u32, table_len: usize, index: u64, report: *mut [u64; 6],
+    ) -> u32;
+    fn g7110_store_totals(
+        block: *const u8, block_len: usize, table: *const u32, table_len: usize, report: *mut [u64; 4],
     ) -> u32;
     fn g7110_store_delete(block: *const u8, block_len: usize, table: *mut u32, table_len: usize, number: u32) -> u32;
     fn g7110_file_read(
@@ -218,6 +230,24 @@ pub fn mend(octets: &[u8], law: u32, total: u64, out: &mut [u8], report: &mut [u
     unsafe { g7110_mend(octets.as_ptr(), octets.len(), law, total, out.as_mut_ptr(), out.len(), report) }
 }
 
+/// The ending; the report is law, set, block and greeting.
+pub fn settings_get(state: &[u32; 41], revision: u32, report: &mut [u64; 4]) -> u32 {
+    // SAFETY: as in `settings_save`.
+    unsafe { g7110_settings_get(state, revision, report) }
+}
+
+/// The ending, which is 0; the report is the numbers of the kept revisions, then 0.
+pub fn settings_kept(state: &[u32; 41], report: &mut [u64; 8]) -> u32 {
+    // SAFETY: as in `settings_save`.
+    unsafe { g7110_settings_kept(state, report) }
+}
+
+/// The ending; the report is that of `mend`, and how its walk stopped: number, place, tool and bit.
+pub fn mend_why(octets: &[u8], law: u32, total: u64, report: &mut [u64; 8]) -> u32 {
+    // SAFETY: as in `read`.
+    unsafe { g7110_mend_why(octets.as_ptr(), octets.len(), law, total, report) }
+}
+
 /// How many cells a store's table needs for a block of a size.
 pub fn store_cells(size: u64) -> u64 {
     // SAFETY: a number in, a number out.
@@ -237,6 +267,24 @@ pub fn store_put(
 pub fn store_get(block: &[u8], table: &[u32], number: u32, report: &mut [u64; 2]) -> u32 {
     // SAFETY: as in `store_put`.
     unsafe { g7110_store_get(block.as_ptr(), block.len(), table.as_ptr(), table.len(), number, report) }
+}
+
+/// The ending; the report is start, octets, law, samples and how many marks.
+pub fn store_info(block: &[u8], table: &[u32], number: u32, report: &mut [u64; 5]) -> u32 {
+    // SAFETY: as in `store_put`.
+    unsafe { g7110_store_info(block.as_ptr(), block.len(), table.as_ptr(), table.len(), number, report) }
+}
+
+/// The ending; the report is number, start, octets, law, samples and how many marks.
+pub fn store_at(block: &[u8], table: &[u32], index: u64, report: &mut [u64; 6]) -> u32 {
+    // SAFETY: as in `store_put`.
+    unsafe { g7110_store_at(block.as_ptr(), block.len(), table.as_ptr(), table.len(), index, report) }
+}
+
+/// The ending; the report is greetings, octets held, octets free and the largest gap.
+pub fn store_totals(block: &[u8], table: &[u32], report: &mut [u64; 4]) -> u32 {
+    // SAFETY: as in `store_put`.
+    unsafe { g7110_store_totals(block.as_ptr(), block.len(), table.as_ptr(), table.len(), report) }
 }
 
 /// The ending.

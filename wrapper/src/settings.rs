@@ -91,6 +91,34 @@ pub fn read(state: &State, revision: u32, text: &mut [u8; SETTINGS_TEXT]) -> Res
     told(ending, report).map(|octets| octets as usize)
 }
 
+/// A revision's values, as they stand.
+#[derive(Clone, Copy, Debug, PartialEq, Eq)]
+pub struct Values {
+    pub law: u32,
+    pub set: u32,
+    pub block: u32,
+    pub greeting: u32,
+}
+
+/// A kept revision's values.
+pub fn get(state: &State, revision: u32) -> Result<Values, Refusal> {
+    let mut report = [0; 4];
+    match raw::settings_get(state, revision, &mut report) {
+        0 => {
+            let [law, set, block, greeting] = report.map(|number| number as u32);
+            Ok(Values { law, set, block, greeting })
+        }
+        ending => Err(Refusal::of(ending)),
+    }
+}
+
+/// The numbers of the kept revisions, the oldest first, then 0.
+pub fn kept(state: &State) -> [u32; 8] {
+    let mut report = [0; 8];
+    raw::settings_kept(state, &mut report);
+    report.map(|number| number as u32)
+}
+
 /// Empties the list for the next tenant. The numbering runs on.
 pub fn wipe(state: &mut State) {
     raw::settings_wipe(state);

@@ -113,6 +113,29 @@ pub struct Got {
     pub octets: usize,
 }
 
+/// All that stands in the table of a greeting.
+#[derive(Clone, Copy, Debug, PartialEq, Eq)]
+pub struct Info {
+    pub number: u32,
+    pub start: usize,
+    pub octets: usize,
+    /// 0 is A-law, 1 is mu-law; a table with another is refused.
+    pub law: u32,
+    pub samples: usize,
+    /// How many marks it has.
+    pub marks: usize,
+}
+
+/// All greetings together.
+#[derive(Clone, Copy, Debug, PartialEq, Eq)]
+pub struct Totals {
+    pub greetings: usize,
+    pub held: usize,
+    pub free: usize,
+    /// The largest gap: a put of at most so many octets moves none.
+    pub gap: usize,
+}
+
 /// A move of closing up: a greeting's octets go down within the block.
 #[derive(Clone, Copy, Debug, PartialEq, Eq)]
 pub struct Hop {
@@ -149,6 +172,42 @@ pub fn get(block: &[u8], table: &[u32], number: u32) -> Result<Got, Refusal> {
     let mut report = [0; 2];
     match raw::store_get(block, table, number, &mut report) {
         0 => Ok(Got { start: report[0] as usize, octets: report[1] as usize }),
+        ending => Err(Refusal::of(ending)),
+    }
+}
+
+/// All that stands in the table of a greeting.
+pub fn info(block: &[u8], table: &[u32], number: u32) -> Result<Info, Refusal> {
+    let mut report = [0; 5];
+    match raw::store_info(block, table, number, &mut report) {
+        0 => {
+            let [start, octets, _, samples, marks] = report.map(|number| number as usize);
+            Ok(Info { number, start, octets, law: report[2] as u32, samples, marks })
+        }
+        ending => Err(Refusal::of(ending)),
+    }
+}
+
+/// The same of the greeting at a place in order of start, counted from 0; absent from the number of greetings on.
+pub fn at(block: &[u8], table: &[u32], index: u64) -> Result<Info, Refusal> {
+    let mut report = [0; 6];
+    match raw::store_at(block, table, index, &mut report) {
+        0 => {
+            let [_, start, octets, _, samples, marks] = report.map(|number| number as usize);
+            Ok(Info { number: report[0] as u32, start, octets, law: report[3] as u32, samples, marks })
+        }
+        ending => Err(Refusal::of(ending)),
+    }
+}
+
+/// How many greetings there are, the octets held and free, and the largest gap.
+pub fn totals(block: &[u8], table: &[u32]) -> Result<Totals, Refusal> {
+    let mut report = [0; 4];
+    match raw::store_totals(block, table, &mut report) {
+        0 => {
+            let [greetings, held, free, gap] = report.map(|number| number as usize);
+            Ok(Totals { greetings, held, free, gap })
+        }
         ending => Err(Refusal::of(ending)),
     }
 }

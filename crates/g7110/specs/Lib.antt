@@ -6,3 +6,4 @@ pub mod Store
 pub mod Moves
 pub mod Recordings
 pub mod Telling
+pub mod Tells

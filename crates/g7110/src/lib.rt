@@ -19,6 +19,9 @@ ghost use Rattle.g7110.specs.Saved.{SavedReported, LoadReported};
 ghost use Rattle.recording.specs.Items.{readFile};
 ghost use Rattle.recording.specs.Files.{writeFile};
 ghost use Rattle.g7110.specs.Recordings.{FileReadReported, FileWriteReported};
+ghost use Rattle.settings.specs.Tells.{getOf, numbersKept};
+ghost use Rattle.mending.specs.Why.{whyOf};
+ghost use Rattle.g7110.specs.Tells.{InfoReported, AtReported, TotalsReported, ValuesReported, MendWhyReported};
 ghost use Rattle.g7110.specs.Boundary.{ReadReported, WalkReported, WriteReported, WhyReported, Converted};
 ghost use Rattle.read_head.specs.Heads.{headOf};
 ghost use Rattle.walk_check.specs.Check.{checkOf};
@@ -512,4 +515,115 @@ pub extern "C" fn g7110_from_master(master: &[i16], law: u32, out: &mut [u8]) ->
 {
     let end = linear_masters::from_master(master, law, out);
     rules::number_of(end)
+}
+
+// A greeting by its number: the number, and in the report its start, octets, law, samples and how many marks it has.
+#[no_mangle]
+pub extern "C" fn g7110_store_info(
+    block: &[u8],
+    table: &[u32],
+    number: u32,
+    report: &mut [u64; 5],
+) -> u32
+    ensures { λ r. ⌜ InfoReported number (now (block .entry)) (now (table .entry)) (now (report .exit)) r ⌝ }
+{
+    let t = store_tell::info(block, table, number);
+    let e = store_tell::entry_in(t);
+    *report = [
+        e.start as u64,
+        e.octets as u64,
+        e.law as u64,
+        e.samples as u64,
+        e.marks as u64,
+    ];
+    store_tell::told_number(t)
+}
+
+// A greeting by its place in order of start: the number, and in the report its number, start, octets, law, samples and how many marks it
+// has.
+#[no_mangle]
+pub extern "C" fn g7110_store_at(
+    block: &[u8],
+    table: &[u32],
+    index: u64,
+    report: &mut [u64; 6],
+) -> u32
+    ensures { λ r. ⌜ AtReported index (now (block .entry)) (now (table .entry)) (now (report .exit)) r ⌝ }
+{
+    let t = store_tell::at(block, table, index);
+    let e = store_tell::entry_in(t);
+    *report = [
+        e.number as u64,
+        e.start as u64,
+        e.octets as u64,
+        e.law as u64,
+        e.samples as u64,
+        e.marks as u64,
+    ];
+    store_tell::told_number(t)
+}
+
+// All greetings together: the number, and in the report how many, the octets held, the octets free and the largest gap.
+#[no_mangle]
+pub extern "C" fn g7110_store_totals(block: &[u8], table: &[u32], report: &mut [u64; 4]) -> u32
+    ensures { λ r. ⌜ TotalsReported (now (block .entry)) (now (table .entry)) (now (report .exit)) r ⌝ }
+{
+    let s = store_tell::totals(block, table);
+    let t = store_tell::sums_in(s);
+    *report = [
+        t.greetings as u64,
+        t.held as u64,
+        t.free as u64,
+        t.gap as u64,
+    ];
+    store_tell::summed_number(s)
+}
+
+// A kept revision's values: the number, and in the report law, set, block and greeting.
+#[no_mangle]
+pub extern "C" fn g7110_settings_get(state: &[u32; 41], revision: u32, report: &mut [u64; 4]) -> u32
+    ensures { λ r. ⌜ ValuesReported (getOf (now (state .entry)) revision) (now (report .exit)) r ⌝ }
+{
+    let k = settings::tells::get(state, revision);
+    let v = settings::tells::values_in(k);
+    *report = [
+        v.law as u64,
+        v.set as u64,
+        v.block as u64,
+        v.greeting as u64,
+    ];
+    settings::tells::get_number(k)
+}
+
+// The numbers of the kept revisions: never refused.
+#[no_mangle]
+pub extern "C" fn g7110_settings_kept(state: &[u32; 41], report: &mut [u64; 8]) -> u32
+    ensures { λ r. ⌜ (r ≡ 0) × (now (report .exit) ≡ numbersKept (now (state .entry))) ⌝ }
+{
+    *report = settings::tells::kept(state);
+    0
+}
+
+// What mending a greeting would answer, room apart: the number, and in the report octets of the result, frames kept, octets kept, samples
+// filled, and how the walk of what is kept stopped: its number, place, tool and bit.
+#[no_mangle]
+pub extern "C" fn g7110_mend_why(octets: &[u8], law: u32, total: u64, report: &mut [u64; 8]) -> u32
+    ensures { λ r. ⌜ MendWhyReported (whyOf (now (octets .entry)) law total) (now (report .exit)) r ⌝ }
+{
+    let a = mending::mend_why(octets, law, total);
+    let stop = a.stop;
+    let number = mending::stop_number(stop);
+    let tool = rules::tool_of(stop);
+    *report = [
+        a.octets as u64,
+        a.frames as u64,
+        a.kept as u64,
+        a.filled as u64,
+        number as u64,
+        a.kept as u64,
+        tool as u64,
+        a.bit as u64,
+    ];
+    let end = a.end;
+    mending::mend_number(end)
 }

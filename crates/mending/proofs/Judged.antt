@@ -1,9 +1,10 @@
 -- "Refusals, in order: LAW, LONG for the greeting, TOTAL (22) .., LONG for the result, ROOM; a refusal writes nothing": each case of a call
 -- with all that is then so (`judged`), a refusal exactly where it is the first that fails (`mend-refused`), what is so of a mended greeting
--- (`made`), of a refusal (`refused-mend`), and no second answer (`only-mend`).
+-- (`made`), of a refusal (`refused-mend`), and no second answer (`only-mend`, `only-why`). What is told without a room is what is mended
+-- (`why-as-mend`, `mend-as-why`).
 use Prim.Native.Nat.{ℕ, _≤_, _<_}
 use native.Mathlib.Omega.{arith}
-use mathlib.Core.Path.{_≡_, refl, sym, _∙_}
+use mathlib.Core.Path.{_≡_, refl, sym, ap, _∙_}
 use mathlib.Core.List.{List}
 use mathlib.Core.Bool.{true, false}
 use mathlib.Core.Logic.{_↔_}
@@ -11,7 +12,7 @@ use lib.ListN.{length}
 use borrow.Author.Tests.{leb-true, leb-false, ltb-true, ltb-false, le-leb, le-ltb}
 use Rattle.rules.specs.declared.Refusal.the-variants.{Room, Law, Long}
 use Rattle.rules.specs.Judged.{Asked}
-use Rattle.rules.proofs.Judged.{First, by-judged, by-each, Apart, judged-refuses}
+use Rattle.rules.proofs.Judged.{First, by-judged, by-each, judged-refuses}
 use Rattle.rules.specs.Tools.{isLaw}
 use Rattle.rules.specs.Walk.{longest}
 use Rattle.promises.proofs.Fits.{Same}
@@ -20,16 +21,14 @@ use Rattle.mending.specs.declared.MendRefusal.the-variants.{Frame, Total
 use Rattle.mending.specs.declared.MendAnswer.{MendAnswer}
 use Rattle.mending.specs.Mend.{Mended, mended, isTotal, Mend, mends, declines, mendAsks, mendOf}
 use Rattle.mending.specs.Calls.{Declines, Mends, MendGreeting}
+use Rattle.mending.specs.Why.{whyOf, Answers}
+use Rattle.mending.proofs.Ordered.{mendings, why-mends, why-is, mends-it}
 
 -- a greeting that may be mended
 pub record Mendable (octets : List ℕ) (law total : ℕ) : Type 0 where
   pub lawful : isLaw law ≡ true
   pub short : length octets ≤ longest
   pub whole : isTotal total ≡ true
-
--- a greeting is mended or it is not
-mendings : (m : Mended) → Apart declines (mends m)
-mendings m = record { other = λ w e. let z : _≡_ {A = ℕ} 0 1 = cc in omega arith; same = λ v w e. cc }
 
 module _ (octets : List ℕ) (law total room : ℕ) where
   abbrev result : List ℕ
@@ -106,6 +105,22 @@ module _ (octets : List ℕ) (law total room : ℕ) where
     le-ltb room (length result) f,
   ) refl
 
+-- What is told without a room is what is mended: of a greeting that is mended with any room at all the same, and with room enough it is.
+module _ (octets : List ℕ) (law total room : ℕ) {m : Mended} where
+  pub why-as-mend : mendOf octets law total room ≡ mends m → whyOf octets law total ≡ mends m
+  unfolding mendOf
+  why-as-mend e =
+      by-judged declines (mends (mended octets law total)) (λ o. o ≡ mends m → whyOf octets law total ≡ mends m)
+      (mendAsks octets law total (mended octets law total .octets) room)
+      (λ k g. why-is octets law total (k .0, (k .1 .0, (k .1 .1 .0, (k .1 .1 .1 .0, tt)))) ∙ g) (λ w f g. absurd (mendings m .other w g)) e
+
+  pub mend-as-why : whyOf octets law total ≡ mends m → length (m .octets) ≤ room → mendOf octets law total room ≡ mends m
+  mend-as-why e h =
+      let met = why-mends octets law total e in
+      let same : mends (mended octets law total) ≡ mends m = sym (why-is octets law total met) ∙ e in
+      let is : mended octets law total ≡ m = cc in
+      sym (mends-it octets law total room met (omega (arith, h, ap (λ (x : Mended). length (x .octets)) is))) ∙ same
+
 -- "a refusal writes nothing", and tells nothing but itself
 pub record Unmended (why : MendRefusal) (r : MendAnswer) (out out′ : List ℕ) : Type 0 where
   pub tells : Declines why r
@@ -141,3 +156,8 @@ only-mend {r = r} {s = s} a b =
           (a .filled ∙ sym (b .filled)) (a .stop ∙ sym (b .stop)) (a .bit ∙ sym (b .bit));
       lent = a .lent ∙ sym (b .lent);
     }
+
+pub only-why : {m : Mend} {r s : MendAnswer} → Answers m r → Answers m s → r ≡ s
+only-why {r = r} {s = s} a b =
+    same-answer r s (a .end ∙ sym (b .end)) (a .octets ∙ sym (b .octets)) (a .frames ∙ sym (b .frames)) (a .kept ∙ sym (b .kept))
+    (a .filled ∙ sym (b .filled)) (a .stop ∙ sym (b .stop)) (a .bit ∙ sym (b .bit))

@@ -1,15 +1,16 @@
 -- R-12's promises. What is kept is a beginning of the greeting that ends between frames, the longest that the walk accepts and that does
 -- not pass the total (`kept`). The result is accepted and holds exactly the total (`holds-total`). "An undamaged greeting of the right
--- total comes back unchanged" (`undamaged`), "and mending twice changes nothing more" (`twice`).
+-- total comes back unchanged" (`undamaged`), "and mending twice changes nothing more" (`twice`). How a mending's walk
+-- stopped is how the walk with room for the total stops (`why-walks`).
 use Prim.Native.Nat.{ℕ, suc, _+_, _-_, _%_, _≤_}
 use native.Mathlib.Omega.{arith}
-use mathlib.Core.Path.{_≡_, refl, ap, subst, _∙_}
+use mathlib.Core.Path.{_≡_, refl, sym, ap, subst, _∙_}
 use mathlib.Core.List.{List, [], _++_, append-nil}
 use mathlib.Core.Bool.{true, _||_}
 use lib.ListN.{length, take, drop, replicate, length-append, length-replicate, take-append-drop}
 use lib.Seq.{length-take-le, take-all}
 use lib.Dec.{eqb, leb}
-use borrow.Author.Tests.{eqb-true}
+use borrow.Author.Tests.{eqb-true, leb-true}
 use Rattle.rules.specs.declared.Ending.the-variants.{Done}
 use Rattle.rules.specs.Tools.{allTools, isLength}
 use Rattle.rules.specs.Samples.{maskOf, plusZero}
@@ -20,7 +21,9 @@ use Rattle.rules.proofs.Tests.{or-cases, by-length, and-left}
 use Rattle.promises.proofs.Walks.{WalkOf, ended, refused, delivers, walk-of, walk-only, Walkable, walk-all, walk-all-of, walk-all-only}
 use Rattle.promises.proofs.Refused.{Begins, walkable, unlawful, no-set, too-long, walk-begins}
 use Rattle.mending.specs.Mend.{fillBy, walkUpTo, filling, filledAfter, Mended, mendedBy, mended, mostTotal, isTotal, mends, mendOf}
+use Rattle.mending.specs.Why.{whyOf}
 use Rattle.mending.proofs.Kept.{walk-within}
+use Rattle.mending.proofs.Ordered.{why-mends, why-is}
 use Rattle.mending.proofs.Rooms.{StartsWith, more, walk-in-room, more-room}
 use Rattle.mending.proofs.Joined.{clean, joined, KeepsOwn, kept-walks}
 use Rattle.mending.proofs.Filled.{filling-walks}
@@ -157,6 +160,18 @@ module _ (octets : List ℕ) (law total room : ℕ) {m : Mended} (e : mendOf oct
       let d = made octets law total room e in
       subst (λ (x : Mended). HoldsTotal law total x (walkAll (x .octets) law allTools into)) (d .is)
       (result-walks (d .may) (rw (d .is) (d .short)) into h)
+
+-- how it stopped is how the walk with all tools and room for the total stops
+pub why-walks : (octets : List ℕ) (law total : ℕ) {m : Mended} → whyOf octets law total ≡ mends m
+    → m .walked ≡ walkAll octets law allTools total
+unfolding mended
+why-walks octets law total {m} e =
+    let k = why-mends octets law total e in
+    let same : mends (mended octets law total) ≡ mends m = sym (why-is octets law total k) ∙ e in
+    let is : mended octets law total ≡ m = cc in
+    let may : Mendable octets law total =
+    record { lawful = k .0; short = leb-true (length octets) longest (k .1 .0); whole = k .1 .1 .0 } in
+    ap (λ (x : Mended). x .walked) (sym is) ∙ sym (all-is may)
 
 -- a walk that ends clean was allowed to begin
 begun : (octets : List ℕ) (law room : ℕ) → walkAll octets law allTools room .end ≡ Done → Walkable octets law allTools

@@ -6,8 +6,12 @@ ghost use lib.ListN.{length, replicate};
 ghost use Rattle.text_lines.specs.Puts.{Puts};
 ghost use Rattle.mending.specs.Mend.{isTotal, filling};
 ghost use Rattle.mending.specs.Calls.{mendRefusalNumber, mendNumberOf, Declines, MendGreeting};
+ghost use Rattle.mending.specs.Why.{whyOf, stopNumber, Answers};
 use rules::Ending;
 use rules::Refusal;
+
+// ROOM, which ends the walk at the total.
+const ROOM: u32 = 4;
 
 // TOTAL (22), or a refusal of document 01.
 pub enum MendRefusal {
@@ -111,9 +115,9 @@ fn declined(why: MendRefusal) -> MendAnswer
     }
 }
 
-// Mending a greeting: one walk, then what is kept, whole, and the filling. The result's length is known before an octet is written.
-pub fn mend(octets: &[u8], law: u32, total: u64, out: &mut [u8]) -> MendAnswer
-    ensures { λ r. ⌜ MendGreeting (now (octets .entry)) law total (now (out .entry)) (now (out .exit)) r ⌝ }
+// What mending a greeting would answer, with room for it: one walk, and what it kept. Nothing is written.
+pub fn mend_why(octets: &[u8], law: u32, total: u64) -> MendAnswer
+    ensures { λ r. ⌜ Answers (whyOf (now (octets .entry)) law total) r ⌝ }
 {
     if 1 < law {
         return declined(MendRefusal::Frame(Refusal::Law));
@@ -132,19 +136,46 @@ pub fn mend(octets: &[u8], law: u32, total: u64, out: &mut [u8]) -> MendAnswer
     if rules::LONGEST < result {
         return declined(MendRefusal::Frame(Refusal::Long));
     }
-    if out.len() < result {
-        return declined(MendRefusal::Frame(Refusal::Room));
-    }
-    let to = text_lines::put_word(&octets[..kept], out, 0);
-    let n = fill(filled, out, to);
     let stop = w.end;
     MendAnswer {
         end: MendEnding::Done,
-        octets: n,
+        octets: result,
         frames: w.frames,
         kept,
         filled,
         stop,
         bit: w.bit,
+    }
+}
+
+// How the walk of what is kept stopped: 0 "where it went to the end or up to the total", which is where its room ends.
+pub fn stop_number(stop: Ending) -> u32
+    ensures { λ r. ⌜ r ≡ stopNumber stop ⌝ }
+{
+    let number = rules::number_of(stop);
+    if number == ROOM {
+        return 0;
+    }
+    number
+}
+
+// Mending a greeting: what is kept, whole, and the filling. The result's length is known before an octet is written.
+pub fn mend(octets: &[u8], law: u32, total: u64, out: &mut [u8]) -> MendAnswer
+    ensures { λ r. ⌜ MendGreeting (now (octets .entry)) law total (now (out .entry)) (now (out .exit)) r ⌝ }
+{
+    let a = mend_why(octets, law, total);
+    let end = a.end;
+    match end {
+        MendEnding::Refused(_) => a,
+        MendEnding::Done => {
+            let result = a.octets;
+            if out.len() < result {
+                return declined(MendRefusal::Frame(Refusal::Room));
+            }
+            let kept = a.kept;
+            let to = text_lines::put_word(&octets[..kept], out, 0);
+            fill(a.filled, out, to);
+            a
+        }
     }
 }

@@ -67,7 +67,7 @@ counted-found {k} (more {r = r} {rs = rs} e c) v =
     rw (ne-eqb (r .number) (k + suc (length rs)) (λ z. omega arith)) (rw h at (counted-found c v))
 
 -- what is laid in the 41 numbers is read back as the same list
-at-row : (cells l : List ℕ) (i j k : ℕ) → drop i cells ≡ l → k ≡ i + j → getD cells k 0 ≡ getD l j 0
+pub at-row : (cells l : List ℕ) (i j k : ℕ) → drop i cells ≡ l → k ≡ i + j → getD cells k 0 ≡ getD l j 0
 at-row cells l i j k e h = ap (λ (n : ℕ). getD cells n 0) h ∙ sym (getD-drop i cells j 0) ∙ ap (λ (m : List ℕ). getD m j 0) e
 
 row-laid : (cells rest : List ℕ) (k : ℕ) (r : Revision) → drop (5 * k + 1) cells ≡ cellsOf (r ∷ []) ++ rest → rowAt cells k ≡ r
@@ -82,7 +82,7 @@ row-laid cells rest k r e =
       at-row cells l (5 * k + 1) 4 (5 * k + 2 + 3) e (omega arith),
     )
 
-no-number : (n j : ℕ) → getD {A = ℕ} (replicate n 0) j 0 ≡ 0
+pub no-number : (n j : ℕ) → getD {A = ℕ} (replicate n 0) j 0 ≡ 0
 no-number zero j = refl
 no-number (suc n) zero = refl
 no-number (suc n) (suc j) = no-number n j

@@ -14,6 +14,8 @@ use rules::ALL_TOOLS;
 use rules::MOST_LAW;
 use text_keyvalue::Told;
 
+pub mod tells;
+
 // The greatest block and greeting; law and set are those of the calls.
 pub const MOST_BLOCK: u32 = 1048576;
 

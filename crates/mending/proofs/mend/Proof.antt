@@ -1,150 +1,108 @@
-use borrow.Author.Needs.{needs}
-use Prim.Native.Nat.{_-_}
+-- What is told is what is written: what is kept, and the filling behind it.
 use mathlib.Core.Path.{sym, _∙_}
 use native.Mathlib.Omega.{arith}
 use lib.ListN.{length}
 use lib.Seq.{length-take-le}
-use borrow.Author.Tests.{not-true, not-false}
-use Rattle.mending.proofs.Filling.{filling-few}
-use Rattle.mending.proofs.Ordered.{no-law, too-long, no-total, result-long, no-room, mends-it}
-use Rattle.mending.proofs.Answers.{declined-as, kept-inside, kept-samples, result-length, mended-as}
+use Rattle.rules.proofs.Judged.{AllMet}
+use Rattle.mending.specs.Mend.{mended, mends}
+use Rattle.mending.specs.Why.{whyAsks, whyOf, Answers}
+use Rattle.mending.proofs.Ordered.{ends-done, why-mends, why-is, mend-declined, no-room, mends-it}
+use Rattle.mending.proofs.Answers.{declined-as, refused-as, told-inside, told-length, mended-as}
+use borrow.Author.Needs.{needs}
 use Rattle.mending.proofs.mend.Statement.{statement}
 use Rattle.mending.proofs.mend.Tie as tie
 
+module _ (c : tie.After-mend-why) where
+  abbrev s : tie.Start
+  s = c .before .before .before
+
+-- a greeting that can be mended
+module _ (c : tie.After-enum-told2) where
+  abbrev why : tie.After-mend-why
+  why = c .before .before
+
+  abbrev a : tie.Start
+  a = s why
+
+  met : AllMet (whyAsks (a .args .octets .now) (a .args .law) (a .args .total)
+      (mended (a .args .octets .now) (a .args .law) (a .args .total) .octets))
+  met =
+      let o = whyOf (a .args .octets .now) (a .args .law) (a .args .total) in
+      why-mends (a .args .octets .now) (a .args .law) (a .args .total)
+      (ends-done o (sym (why .mend-why .ensures .end) ∙ c .enum-told2 .given .1) .is)
+
+  told : Answers (mends (mended (a .args .octets .now) (a .args .law) (a .args .total))) (why .mend-why .result)
+  told = rw (why-is (a .args .octets .now) (a .args .law) (a .args .total) met) at (why .mend-why .ensures)
+
 returns : tie.Need-returns
 returns c =
-    let a = c .before .before .before .before .args in
-    declined-as (c .declined .ensures) (no-law (a .octets .now) (a .law) (a .total) (length (a .out .now)) (omega arith)) (a .out .now)
-
-returns-2 : tie.Need-returns-2
-returns-2 c =
-    let a = c .before .before .before .before .before .args in
-    declined-as (c .declined2 .ensures) (too-long (a .octets .now) (a .law) (a .total) (length (a .out .now)) (omega arith) (omega arith))
-    (a .out .now)
-
-module _ (c : tie.After-fill-arg) where
-  abbrev fill-octets : tie.After-fill-octets
-  fill-octets = c .before .before .before .before .before .before .before .before
-
-  abbrev start-of-fill-arg : tie.Start
-  start-of-fill-arg = c .before .before .before .before .before .before .before .before .before .before .before .before .before
-      .before .before .before .before
-
-  abbrev put-word : tie.After-put-word
-  put-word = c .before .before .before
-
-module _ (c : tie.After-struct-known) where
-  abbrev start-of-struct-known : tie.Start
-  start-of-struct-known = c .before .before .before .before .before .before .before .before
-
-module _ (c : tie.After-fill-octets) where
-  abbrev walk-on : tie.After-walk-on
-  walk-on = c .before .before
-
-  abbrev start-of-fill-octets : tie.Start
-  start-of-fill-octets = c .before .before .before .before .before .before .before .before .before
-
-module _ (c : tie.After-declined3) where
-  abbrev start-of-declined3 : tie.Start
-  start-of-declined3 = c .before .before .before .before .before .before .before
-
-returns-3 : tie.Need-returns-3
-returns-3 c =
-    let a = (start-of-declined3 c) .args in
-    declined-as (c .declined3 .ensures)
-    (no-total (a .octets .now) (a .law) (a .total) (length (a .out .now)) (omega arith) (omega arith) (sym
-    (c .before .before .is-total .ensures) ∙ not-true _ (c .before .if3 .taken))) (a .out .now)
-
-sub-filled : tie.Need-sub-filled
-sub-filled c = let a = (start-of-struct-known c) .args in
-    kept-samples (a .octets .now) (a .law) (a .total) (c .before .walk-on .ensures)
-
-add-result : tie.Need-add-result
-add-result c =
-    let a = (start-of-fill-octets c) .args in
-    omega (
-      arith,
-      kept-inside (a .octets .now) (a .law) (a .total) (c .before .before .walk-on .ensures),
-      c .fill-octets .ensures,
-      filling-few
-          (a .total - c .before .before .walk-on .result .samples),
-    )
-
-returns-4 : tie.Need-returns-4
-returns-4 c =
-    let a = (start-of-fill-octets (c .before .before)) .args in
-    declined-as (c .declined4 .ensures)
-    (result-long (a .octets .now) (a .law) (a .total) (length (a .out .now)) (omega arith) (omega arith) (sym
-    ((walk-on (c .before .before)) .before .before .is-total .ensures)
-    ∙ not-false _ (c .before .before .before .before .before .if3 .left)) (omega (
-      arith,
-      result-length (a .octets .now) (a .law) (a .total) (c .before .before .before .before .walk-on .ensures) _
-          (c .before .before .fill-octets .ensures),
-    ))) (a .out .now)
-
-returns-5 : tie.Need-returns-5
-returns-5 c =
-    let a = (start-of-fill-octets (c .before .before .before)) .args in
-    declined-as (c .declined5 .ensures)
-    (no-room (a .octets .now) (a .law) (a .total) (length (a .out .now)) (omega arith) (omega arith) (sym
-    ((walk-on (c .before .before .before)) .before .before .is-total .ensures) ∙ not-false _
-    ((walk-on (c .before .before .before)) .before .if3 .left)) (omega (
-      arith,
-      result-length (a .octets .now) (a .law) (a .total) (c .before .before .before .before .before .walk-on .ensures) _
-          (c .before .before .before .fill-octets .ensures),
-    )) (omega (
-      arith,
-      result-length (a .octets .now) (a .law) (a .total)
-          (c .before .before .before .before .before .walk-on .ensures) _ (c .before .before .before .fill-octets .ensures),
-    ))) (a .out .now)
+    let t = c .before .before in
+    let x = a t .args in
+    declined-as (c .declined .ensures)
+    (no-room (x .octets .now) (x .law) (x .total) (length (x .out .now)) (met t) (omega (arith, told t .octets))) (x .out .now)
 
 slice-aggregate-put-word : tie.Need-slice-aggregate-put-word
 slice-aggregate-put-word c =
-    let a = (start-of-fill-octets (c .before .before .before)) .args in
-    sym (length-take-le _ (a .octets .now)
-    (kept-inside (a .octets .now) (a .law) (a .total) (c .before .before .before .before .before .walk-on .ensures)))
+    let t = c .before .before in
+    let x = a t .args in
+    sym (length-take-le _ (x .octets .now) (told-inside (x .octets .now) (x .law) (x .total) (told t)))
 
 put-word-requires : tie.Need-put-word-requires
 put-word-requires c κs =
-    let a = (start-of-fill-octets (c .before .before .before .before)) .args in
-    let i = kept-inside (a .octets .now) (a .law) (a .total) ((walk-on (c .before .before .before .before)) .walk-on .ensures) in
-    omega (arith, length-take-le _ (a .octets .now) i)
+    let t = c .before .before .before in
+    let x = a t .args in
+    let inside = told-inside (x .octets .now) (x .law) (x .total) (told t) in
+    omega (
+      arith,
+      length-take-le _ (x .octets .now) inside,
+      told-length (x .octets .now) (x .law) (x .total) (told t),
+      c .before .before .if1 .left,
+    )
+
+-- what is kept is written
+module _ (c : tie.After-put-word) where
+  abbrev seen : tie.After-enum-told2
+  seen = c .before .before .before .before
 
 fill-requires : tie.Need-fill-requires
 fill-requires c κs =
-    let a = (start-of-fill-arg c) .args in
-    let i = kept-inside (a .octets .now) (a .law) (a .total) ((fill-octets c) .before .before .walk-on .ensures) in
-    let p = c .before .before .before .put-word .ensures in
+    let w = c .before .before .before in
+    let t = seen w in
+    let x = a t .args in
+    let p = w .put-word .ensures in
+    let inside = told-inside (x .octets .now) (x .law) (x .total) (told t) in
     omega (
       arith,
       p .place,
       p .size,
-      (fill-octets c) .fill-octets .ensures,
-      length-take-le _
-          (a .octets .now) i,
+      length-take-le _ (x .octets .now) inside,
+      told-length (x .octets .now) (x .law) (x .total) (told t),
+      w .before .before .before .if1 .left,
     )
 
-returns-6 : tie.Need-returns-6
-returns-6 c =
-    let a = (start-of-fill-arg (c .before .before .before)) .args in
-    mended-as (a .octets .now) (a .law) (a .total)
-    ((fill-octets (c .before .before .before)) .before .before .walk-on .ensures)
-    (mends-it (a .octets .now) (a .law) (a .total) (length (a .out .now)) (omega arith) (omega arith) (sym
-    ((fill-octets (c .before .before .before)) .before .before .before .before .is-total .ensures)
-    ∙ not-false _ ((fill-octets (c .before .before .before)) .before .before .before .if3 .left)) (omega (
-      arith,
-      result-length (a .octets .now) (a .law) (a .total)
-          ((fill-octets (c .before .before .before)) .before .before .walk-on .ensures) _
-          ((fill-octets (c .before .before .before)) .fill-octets .ensures),
-    )) (omega (
-      arith,
-      result-length
-          (a .octets .now) (a .law) (a .total) ((fill-octets (c .before .before .before)) .before .before .walk-on .ensures) _
-          ((fill-octets (c .before .before .before)) .fill-octets .ensures),
-    ))) ((put-word (c .before .before .before)) .put-word .ensures) (c .before .before .fill .ensures)
+returns-2 : tie.Need-returns-2
+returns-2 c =
+    let w = c .before .before in
+    let x = s w .args in
+    refused-as (w .mend-why .ensures) (c .enum-told .given .1)
+    (mend-declined (x .octets .now) (x .law) (x .total) (length (x .out .now))) (x .out .now)
+
+module _ (c : tie.After-slice-known3) where
+  abbrev filled : tie.After-fill
+  filled = c .before .before
+
+  abbrev written : tie.After-put-word
+  written = filled .before .before .before .before
+
+returns-3 : tie.Need-returns-3
+returns-3 c =
+    let w = written c in
+    let t = seen w in
+    let x = a t .args in
+    mended-as (x .octets .now) (x .law) (x .total) (told t)
+    (mends-it (x .octets .now) (x .law) (x .total) (length (x .out .now)) (met t)
+    (omega (arith, told t .octets, w .before .before .before .if1 .left))) (w .put-word .ensures) (filled c .fill .ensures)
 
 pub mend-spec : {M : Type 1} → statement M
-mend-spec = tie.close (tie.spec (λ c κs. search needs) returns (λ c κs. search needs) returns-2 (λ c κs. search needs)
-    (λ c κs. search needs) returns-3 (λ c. search needs) (λ c κs. search needs) sub-filled (λ c κs. search needs) add-result
-    (λ c κs. search needs) returns-4 (λ c κs. search needs) returns-5 slice-aggregate-put-word put-word-requires fill-requires
-    (λ c. search needs) returns-6)
+mend-spec = tie.close (tie.spec (λ c κs. search needs) (λ c. search needs) (λ c. search needs) (λ c κs. search needs) returns
+    slice-aggregate-put-word put-word-requires fill-requires returns-2 (λ c. search needs) returns-3)
