@@ -2,17 +2,23 @@
  * why a frame takes its tool; a box's settings, saved and put back; a damaged greeting, mended; a store of greetings that
  * fills its gaps; recordings from studios, read and written. This header is also the manual.
  *
- * Every answer below is that of a function that is proved equal to the project's definitions of documents 01 and 02 and of
- * 001's sections 6.8, 7.11 and 8.9, for all inputs. The boundary is not proved: that this header declares the functions as
- * they are is tested, and BUFFERS, below, is for the caller to keep.
- *
  * The archive libg7110.a is for x86-64 Linux alone.
  *
- * LAW         0 is A-law, 1 is mu-law. The law is not in the octets; the caller must know it. Above 1: G7110_LAW.
+ * PROVED, TESTED, AND YOURS TO KEEP
+ *   Proved, for all inputs: what a call answers, reports, writes and leaves as lent, and the order of its refusals, as this manual
+ *   says it of each call. Each is proved equal to the project's definitions of documents 01 and 02 and of 001's sections 6.8, 7.11
+ *   and 8.9. Proved too: a call ends, and reads and writes nothing but what is lent.
+ *   Tested: the boundary. That this header declares the functions as they are, its numbers, names, macros and g7110_refusal_name,
+ *   and that the compiled archive does what the proved code says. Every block of C in this manual and in docs/ is compiled, as C99 and
+ *   as C++11, and run. The stack is a bound that is read from the archive's instructions (STACK).
+ *   Not proved and not tested: the heading and the marks of a loss, which are remembered (RECORDINGS).
+ *   Yours to keep: BUFFERS, and under POWER the order of writes.
+ *
+ * LAW         G7110_LAW_A is 0, G7110_LAW_MU is 1. The law is not in the octets; the caller must know it. Above 1: G7110_LAW.
  * SET         A number from 0 to 255: tool t (1 to 7) adds 2^(t-1), tool 11 adds 128. A reader takes only frames whose tool is
  *             in its set; pads need no tool. A writer's set must hold tool 1, so it is odd. G7110_ALL_TOOLS is 255.
- *             Versions before 12 lack tool 11: they refuse its frames with G7110_TOOL, and sets above 127 with G7110_SET. Write
- *             with set 127 for a box that has one of them.
+ *             Versions before 12 lack tool 11: they refuse its frames with G7110_TOOL, and sets above 127 with G7110_SET. So read
+ *             with G7110_ALL_TOOLS, and write with G7110_FIELD_TOOLS, 127, for boxes in the field: every version reads that.
  * TOOLS       0 pad, 1 uncompressed, 2 constant plus zero, 3 constant minus zero, 4 constant, 5 binary,
  *             6 plus-minus zero Rice, 7 value-location, 11 fractional-bit (few values; its frames begin with 02 to 1F).
  *             8, 9, 10, 12 and 13 are known by their first octet and refused with G7110_TOOL.
@@ -21,6 +27,7 @@
  * WHAT A CALL RETURNS
  *   0 (G7110_OK), or the number of a refusal; g7110_store_cells a count, g7110_version a version. A call that takes a report
  *   writes it in both cases.
+ *   g7110_refusal_name has the refusal's name. The places of each report have names, which stand beside the call.
  *   A refused g7110_read or g7110_write leaves the output as lent; its report is all 0, save that G7110_TOOL gives the tool
  *   and that a refused g7110_read gives the bit.
  *   A refused g7110_walk keeps the frames before the refused one: their samples stand in the output and are counted in
@@ -40,6 +47,10 @@
  *   0 for every other refusal, and for an accepted call. docs/RETURNS.md has an example of each.
  *
  * VERSIONS
+ *   This is version 13, major 4, minor 1. With an addition the minor goes up: calls and names are new, and all that was there answers as
+ *   it did, so a program needs no change. Else the major goes up and the minor is 0. So a program that says
+ *   `#if G7110_VERSION_MAJOR != 4 || G7110_VERSION_MINOR < 1` before its `#error` compiles with this header and with all additions to it.
+ *   Version 1 was 1.0, versions 2 to 8 were 2.0 to 2.6, 9 to 11 were 3.0 to 3.2, and 12 was 4.0.
  *   G7110_VERSION goes up by one when a call is added, or a call or its report changes.
  *   13  the calls for a store whose power may be cut: g7110_store_try, g7110_store_next, g7110_store_moved, g7110_store_renumber and
  *       g7110_move_step, with G7110_MOVE. Block, table and text are as they were; every call of version 12 answers as it did.
@@ -70,13 +81,42 @@
  * BUFFERS
  *   A pointer comes with its length, in octets, or in values where it points to int16_t, uint16_t or uint32_t. A length of 0 may
  *   come with any pointer, NULL too. A pointer to one of these is aligned as such a pointer must be.
- *   Lent buffers must not overlap: not input and output, not output and report.
+ *   Lent buffers must not overlap: not input and output, not output and report. So the octets of a greeting that lies in the block
+ *   may not be handed to a put into that block: copy them first.
+ *   A text is octets and their count. No 0 ends it: print it by its count, and hand strlen of a text of C, not sizeof.
+ *   Where a buffer is an array, G7110_ARRAY(a) stands for the pointer and the length together: a, and sizeof a / sizeof a[0].
+ *   G7110_TABLE(t) is the same of a table (without brackets the name is the refusal's). Of a pointer they count wrongly, so
+ *   compile with -Wall, which warns of it.
  *   The calls use no heap, no global state and no lock: they may be called from several threads at once, each with its own buffers.
  *
  * STACK
- *   A call uses at most G7110_STACK octets of stack, what it calls included. That is measured, not proved: tests/c/stack.c
- *   makes each call on frames of every kind, on few and many settings and on few and many greetings, and on files with losses;
- *   the tests hold what it finds against this figure.
+ *   A call uses at most G7110_STACK octets of stack, its return address, its arguments and what it calls included. That is a bound, read
+ *   from the archive's own instructions: of each function how deep it goes, and what it calls there. No function comes back to
+ *   itself, and none is called by a pointer; a test sees to it. Beside the bound each greater call is measured, by tests/c/stack.c, on
+ *   frames of every kind, few and many settings and greetings, and files with losses. The test prints both, and holds both against
+ *   this figure and the measured one against the bound.
+ *   Two functions of the C library are called, memcpy and memset; they are taken to use 256 octets at most. A lazy linker looks each of
+ *   them up at its first call, on the same stack. That is not in the figure: some 3,000 octets more were measured, once. Where stack
+ *   is short, link with `-z now` or statically.
+ *
+ * MEMORY
+ *   What a box lends for its store, in octets, for the two sizes of a block; G7110_CELLS(size) is g7110_store_cells(size), and
+ *   G7110_PAGE(size) has room for every text of such a block's table, both for the size of an array:
+ *     block                                16,384      1,048,576
+ *     table, G7110_CELLS(size)                770         33,026 cells of 4 octets each
+ *       in octets                           3,080        132,104
+ *     text of the table, at most            7,392        379,687
+ *       G7110_PAGE(size)                    8,743        379,687
+ *     stack, G7110_STACK                    8,192          8,192
+ *   Where power may be cut, a second table, a second page and the spare come beside it. A greeting that is put is lent besides.
+ *   A store in static memory, and a greeting put into it:
+ *
+ *     static uint8_t block[G7110_NO_SETTINGS_BLOCK];
+ *     static uint32_t table[G7110_CELLS(sizeof block)]; // all 0: a fresh one
+ *     uint64_t put[2];
+ *     uint32_t end = g7110_store_put(G7110_ARRAY(block), G7110_TABLE(table), G7110_LAW_MU, 7, greeting, greeting_len, put);
+ *     if (end != G7110_OK) return printf("greeting 7: %s\n", g7110_refusal_name(end)), 1;
+ *     // it lies from block + put[G7110_PUT_START] on
  *
  * WHY
  *   g7110_why tells why g7110_write takes the tool that it takes. Its text is nine lines, each ended by octet 0A: tools 1 to 7 in
@@ -91,14 +131,14 @@
  *   winner=      the tool that g7110_write reports: fewest octets, and on equal octets the first of 2, 3, 4, 5, 6, 7, 11, 1.
  *   by=tie       another tool in the set needs as few octets as the winner; else by=octets.
  *   A frame of no samples: condition 1 of every tool in the set fails, and the winner is tool 0 by octets.
- *   The text has at most 508 octets. It stands at the start of the lent 512; the rest stays as lent. A refused call leaves
+ *   The text has at most 508 octets. It stands at the start of the lent G7110_WHY_TEXT; the rest stays as lent. A refused call leaves
  *   all of it as lent and reports 0.
  *
  * SETTINGS
- *   A box keeps its last eight settings. They lie in 41 numbers that the caller lends and keeps, in whatever store it has:
+ *   A box keeps its last eight settings. They lie in G7110_SETTINGS numbers that the caller lends and keeps, in whatever store it has:
  *   the last number given, then eight revisions of five numbers (number, law, set, block, greeting), the oldest first, empty
  *   ones all 0 and last. A fresh state is all 0. Any content is a state: a row whose number is 0 is none; of two rows with
- *   one number the first is meant; a new number is one more than the first of the 41, whatever the rows say.
+ *   one number the first is meant; a new number is one more than the state's first, whatever the rows say.
  *   The text of settings is four lines in this order, each ended by octet 0A, and nothing after them:
  *     law=       0 or 1
  *     set=       0 to 255
@@ -106,7 +146,7 @@
  *     greeting=  0 to 65535, 0 for none
  *   A number is decimal, without sign, space or leading zero; one too large is refused, never wrapped.
  *   A save, and going back, adds a revision numbered one more than the last, from 1; the ninth pushes out the oldest, which
- *   may be the one gone back to. A wipe for the next tenant sets the 40 numbers of the revisions to 0 and leaves the numbering
+ *   may be the one gone back to. A wipe for the next tenant sets the numbers of the revisions to 0 and leaves the numbering
  *   running. A refused call leaves the state and the text as lent and reports 0.
  *   When a box starts it reads its newest settings (revision state[0]) and lends a block of that size; with G7110_GONE there
  *   are none, and the block has G7110_NO_SETTINGS_BLOCK octets. docs/STORE.md shows it.
@@ -138,8 +178,8 @@
  *   A jump names the frame that holds a sample of a greeting: it begins at the last mark at or before the sample, and reads 1 to 64
  *   frames, whatever the greeting's length. What it names is what a walk from the greeting's start would.
  *   Refusals, in order: G7110_TABLE, G7110_LAW (put), G7110_NUMBER, G7110_TAKEN (put) or G7110_ABSENT (get, delete, jump), G7110_BAD
- *   (put), G7110_FULL, G7110_NOROOM; of a jump G7110_BEYOND, then G7110_BAD. G7110_TABLE is for a table that is too short, or that calls do not leave for a block of this size: more
- *   than 32 greetings, starts not in order, greetings that overlap, are empty or pass the block's end, a number out of range
+ *   (put), G7110_FULL, G7110_NOROOM; of a jump G7110_BEYOND, then G7110_BAD. G7110_TABLE is for a table that is too short, or that calls
+ *   do not leave for a block of this size: more than 32 greetings, starts not in order, greetings that overlap, are empty or pass the block's end, a number out of range
  *   or used twice; another count in cell 97 than in cell 0, a law above 1, or more marks of a greeting than its octets / 64 + 1.
  *   What the cells of samples and marks say is not judged; a save writes it as it stands, and a jump goes by it: G7110_BEYOND is by
  *   the table's samples, and where the frames from the mark on do not reach the sample, or one of them is refused, it is G7110_BAD.
@@ -149,13 +189,13 @@
  *
  *     uint64_t got[2];
  *     if (g7110_store_get(block, block_len, table, cells, 7, got) != G7110_OK) return 1;
- *     // its octets are the got[1] octets from block + got[0] on
+ *     // its octets are the got[G7110_GET_OCTETS] octets from block + got[G7110_GET_START] on
  *
  *   To play it from its third second on, at 8,000 samples a second:
  *
  *     uint64_t to[4];
  *     if (g7110_store_jump(block, block_len, table, cells, 7, 16000, to) != G7110_OK) return 1;
- *     // read from the octet block + got[0] + to[1] on, and play the first frame from its sample to[2] on
+ *     // read from block + got[G7110_GET_START] + to[G7110_JUMP_OCTET] on; of the first frame play from sample to[G7110_JUMP_SAMPLE] on
  *
  * POWER
  *   Where power may be cut in the middle of a write, five calls close up one greeting at a time, so that no greeting is ever lost: after
@@ -195,10 +235,12 @@
  *
  *     uint64_t told[6];
  *     uint32_t end = g7110_file_read(file, file_len, G7110_ALL_TOOLS, out, out_len, items, items_len, told);
- *     for (size_t at = 0, from = 0; at < told[1]; at++) {
+ *     size_t at, from = 0;
+ *     for (at = 0; at < told[G7110_FILE_READ_ITEMS]; at++) {
  *         if (items[at] >= G7110_LOSS) lost(items[at] - G7110_LOSS); // samples lost, 0 if that is not known
  *         else play(out + from, items[at]), from += items[at];
  *     }
+ *     if (end != G7110_OK) return 1; // the items before the refused one were played; told[G7110_FILE_READ_OCTETS] is its place
  *
  * ROOM
  *   The output's length is the room. Reading needs the frame's samples (G7110_MAX_SAMPLES are always enough), writing the
@@ -221,16 +263,16 @@
  *
  *     uint8_t kept[G7110_MAX_WRITTEN], sound[G7110_MAX_SAMPLES];
  *     uint64_t wrote[3], got[5];
- *     if (g7110_write(samples, 160, 1, G7110_ALL_TOOLS, kept, sizeof kept, wrote) != G7110_OK) return 1;
- *     if (g7110_read(kept, wrote[0], 1, G7110_ALL_TOOLS, sound, sizeof sound, got) != G7110_OK) return 1;
- *     // got[0] is 160, and sound holds the samples again
+ *     if (g7110_write(samples, 160, G7110_LAW_MU, G7110_FIELD_TOOLS, kept, sizeof kept, wrote) != G7110_OK) return 1;
+ *     if (g7110_read(kept, wrote[G7110_WRITE_OCTETS], G7110_LAW_MU, G7110_ALL_TOOLS, sound, sizeof sound, got) != G7110_OK) return 1;
+ *     // got[G7110_READ_SAMPLES] is 160, and sound holds the samples again
  *
  *   Ask why a frame took as many octets as it did:
  *
  *     uint8_t text[G7110_WHY_TEXT];
  *     uint64_t said[1];
- *     if (g7110_why(samples, 160, 1, G7110_ALL_TOOLS, text, said) != G7110_OK) return 1;
- *     fwrite(text, 1, said[0], stdout);
+ *     if (g7110_why(samples, 160, G7110_LAW_MU, G7110_FIELD_TOOLS, text, said) != G7110_OK) return 1;
+ *     fwrite(text, 1, said[G7110_WHY_OCTETS], stdout);
  *
  *   Try other settings, and put the old ones back:
  *
@@ -238,14 +280,14 @@
  *     uint64_t old[1], now[1];
  *     if (g7110_settings_save(state, text, text_len, old) != G7110_OK) return 1;
  *     if (g7110_settings_save(state, other, other_len, now) != G7110_OK) return 1;
- *     if (g7110_settings_back(state, (uint32_t)old[0], now) != G7110_OK) return 1;
- *     // revision now[0] has the old values
+ *     if (g7110_settings_back(state, (uint32_t)old[G7110_SETTINGS_REVISION], now) != G7110_OK) return 1;
+ *     // revision now[G7110_SETTINGS_REVISION] has the old values
  *
  *   Mend a greeting of 40,000 samples, and say what was lost:
  *
  *     static uint8_t mended[G7110_MAX_STREAM];
  *     uint64_t told[4];
- *     if (g7110_mend(damaged, damaged_len, 1, 40000, mended, sizeof mended, told) != G7110_OK) return 1;
+ *     if (g7110_mend(damaged, damaged_len, G7110_LAW_MU, 40000, mended, sizeof mended, told) != G7110_OK) return 1;
  *     // the first told[0] octets of mended are a greeting of 40,000 samples; the last told[3] of them are plus zeros
  */
 #ifndef G7110_H
@@ -259,13 +301,16 @@ extern "C" {
 #endif
 
 #define G7110_VERSION 13
+#define G7110_VERSION_MAJOR 4
+#define G7110_VERSION_MINOR 1
 
 #define G7110_MAX_SAMPLES 320 /* samples of a frame */
 #define G7110_MAX_WRITTEN 321 /* octets of a written frame */
 #define G7110_MAX_FRAME 402   /* octets of an accepted frame */
 #define G7110_MAX_STREAM 1048576 /* octets of a walk */
 #define G7110_ALL_TOOLS 255
-#define G7110_STACK 8192       /* octets of stack, measured */
+#define G7110_FIELD_TOOLS 127  /* all but tool 11: what every version reads */
+#define G7110_STACK 8192       /* octets of stack, as the manual says under STACK */
 #define G7110_WHY_TEXT 512     /* octets lent for the text of g7110_why */
 #define G7110_SETTINGS 41      /* numbers of a box's settings */
 #define G7110_SETTINGS_TEXT 80 /* octets lent for their text, which has at most 67 */
@@ -279,6 +324,18 @@ extern "C" {
 #define G7110_HEADING 10       /* octets of a file's heading */
 #define G7110_MAX_FILE 1048586 /* octets of a file, its heading too */
 #define G7110_LOSS 32768       /* what is added to a loss's length in a list of items */
+
+/* An array and how many it has, for a pointer and its length; the same of a store's table. */
+#define G7110_ARRAY(a) (a), (sizeof(a) / sizeof((a)[0]))
+#define G7110_TABLE(t) G7110_ARRAY(t)
+
+/* For the size of an array: g7110_store_cells(size), and room for every text of the table of a block of size octets. */
+#define G7110_USED(size) ((size) < G7110_MAX_BLOCK ? (size) : G7110_MAX_BLOCK)
+#define G7110_CELLS(size) (194 + 2 * (G7110_USED(size) / 64 + 32))
+#define G7110_PAGE(size) (7 + 66 * 32 + 23 * (G7110_USED(size) / 64 + 32))
+
+/* The laws. */
+enum { G7110_LAW_A = 0, G7110_LAW_MU = 1 };
 
 /* The refusals, by number. */
 enum {
@@ -313,26 +370,39 @@ enum {
     G7110_MOVE = 27    /* the record tells of no move in this block; moved: it is not the next move */
 };
 
+/* The name of a refusal, as above without G7110_; "OK" for 0, "?" for a number that is none. A text of C, ended by 0. */
+static inline const char *g7110_refusal_name(uint32_t number)
+{
+    static const char *const names[] = {
+        "OK",     "SHORT", "PREFIX", "TOOL",   "ROOM", "CASE", "METHOD", "RUN",    "PLACE", "ALIGN", "LENGTH", "SET",  "LAW",   "LONG",
+        "HEAD",   "NUMBER", "TAKEN", "ABSENT", "BAD",  "FULL", "NOROOM", "BEYOND", "TOTAL", "LINE",  "GONE",   "SPENT", "TABLE", "MOVE"};
+    return number < sizeof names / sizeof names[0] ? names[number] : "?";
+}
+
 /* The version of the calls that the archive has: its own G7110_VERSION. */
 uint32_t g7110_version(void);
 
 /* Reads one frame at the start of the octets. report: samples, octets used, bits, tool, bit. */
+enum { G7110_READ_SAMPLES, G7110_READ_OCTETS, G7110_READ_BITS, G7110_READ_TOOL, G7110_READ_BIT };
 uint32_t g7110_read(const uint8_t *octets, size_t octets_len, uint32_t law, uint32_t set,
                     uint8_t *out, size_t out_len, uint64_t report[5]);
 
 /* Writes one frame of samples_len samples in the chosen form: of the set's tools that apply, the fewest octets.
  * At most samples_len + 1 octets. report: octets, bits, tool. */
+enum { G7110_WRITE_OCTETS, G7110_WRITE_BITS, G7110_WRITE_TOOL };
 uint32_t g7110_write(const uint8_t *samples, size_t samples_len, uint32_t law, uint32_t set,
                      uint8_t *out, size_t out_len, uint64_t report[3]);
 
 /* Tells why g7110_write takes its tool for these samples, as the manual says under WHY. Refusals as of g7110_write, in its order,
  * G7110_ROOM left out: G7110_LAW, G7110_SET, G7110_LENGTH. report: octets of text. */
-uint32_t g7110_why(const uint8_t *samples, size_t samples_len, uint32_t law, uint32_t set, uint8_t text[512],
+enum { G7110_WHY_OCTETS };
+uint32_t g7110_why(const uint8_t *samples, size_t samples_len, uint32_t law, uint32_t set, uint8_t text[G7110_WHY_TEXT],
                    uint64_t report[1]);
 
 /* Walks a stream, frame after frame. report: frames, octets (also the place of a refused frame), samples, tool, bit (of the
  * refused frame, counted from its start).
  * G7110_LAW, G7110_SET and G7110_LONG refuse before any frame. A walk over no octets is accepted. */
+enum { G7110_WALK_FRAMES, G7110_WALK_OCTETS, G7110_WALK_SAMPLES, G7110_WALK_TOOL, G7110_WALK_BIT };
 uint32_t g7110_walk(const uint8_t *octets, size_t octets_len, uint32_t law, uint32_t set,
                     uint8_t *out, size_t out_len, uint64_t report[5]);
 
@@ -367,26 +437,29 @@ uint32_t g7110_to_master(const uint8_t *samples, size_t samples_len, uint32_t la
 uint32_t g7110_from_master(const int16_t *master, size_t master_len, uint32_t law, uint8_t *out, size_t out_len);
 
 /* Saves the settings that the text says. Refused with G7110_LINE, then G7110_SPENT. report: the new revision. */
-uint32_t g7110_settings_save(uint32_t state[41], const uint8_t *text, size_t text_len, uint64_t report[1]);
+enum { G7110_SETTINGS_REVISION }; /* g7110_settings_back too */
+uint32_t g7110_settings_save(uint32_t state[G7110_SETTINGS], const uint8_t *text, size_t text_len, uint64_t report[1]);
 
 /* Saves the values of a kept revision under a new number. Refused with G7110_GONE, then G7110_SPENT.
  * report: the new revision. */
-uint32_t g7110_settings_back(uint32_t state[41], uint32_t revision, uint64_t report[1]);
+uint32_t g7110_settings_back(uint32_t state[G7110_SETTINGS], uint32_t revision, uint64_t report[1]);
 
-/* Writes a kept revision's text at the start of the lent 80 octets; the rest stays as lent. Refused with G7110_GONE.
+/* Writes a kept revision's text at the start of the lent G7110_SETTINGS_TEXT octets; the rest stays as lent. Refused with G7110_GONE.
  * From a state that the calls have left, it is the text that was saved. report: octets of text. */
-uint32_t g7110_settings_read(const uint32_t state[41], uint32_t revision, uint8_t text[80], uint64_t report[1]);
+enum { G7110_SETTINGS_OCTETS };
+uint32_t g7110_settings_read(const uint32_t state[G7110_SETTINGS], uint32_t revision, uint8_t text[G7110_SETTINGS_TEXT],
+                             uint64_t report[1]);
 
 /* Empties the list for the next tenant; the numbering runs on. Never refused. */
-uint32_t g7110_settings_wipe(uint32_t state[41]);
+uint32_t g7110_settings_wipe(uint32_t state[G7110_SETTINGS]);
 
 /* Tells a kept revision's values, as they stand. Refused with G7110_GONE; then the report is zeros. */
 enum { G7110_VALUES_LAW, G7110_VALUES_SET, G7110_VALUES_BLOCK, G7110_VALUES_GREETING };
-uint32_t g7110_settings_get(const uint32_t state[41], uint32_t revision, uint64_t report[4]);
+uint32_t g7110_settings_get(const uint32_t state[G7110_SETTINGS], uint32_t revision, uint64_t report[4]);
 
 /* Tells the numbers of the kept revisions, the oldest first, then 0. Never refused. Of a state that no calls left: the rows whose number
  * is not 0, in their order; a number in two rows is told twice. */
-uint32_t g7110_settings_kept(const uint32_t state[41], uint64_t report[8]);
+uint32_t g7110_settings_kept(const uint32_t state[G7110_SETTINGS], uint64_t report[8]);
 
 /* Mends a damaged greeting whose true total of samples is known; the result stands at the output's start.
  * Refusals, in order: G7110_LAW, G7110_LONG (the greeting), G7110_TOTAL, G7110_LONG (the result), G7110_ROOM.
@@ -406,10 +479,12 @@ uint64_t g7110_store_cells(uint64_t size);
 
 /* Puts a greeting of a law. Refused with G7110_TABLE, G7110_LAW, G7110_NUMBER, G7110_TAKEN, G7110_BAD, G7110_FULL, G7110_NOROOM.
  * report: its start, octets moved. */
+enum { G7110_PUT_START, G7110_PUT_MOVED }; /* g7110_store_try too */
 uint32_t g7110_store_put(uint8_t *block, size_t block_len, uint32_t *table, size_t table_len, uint32_t law, uint32_t number,
                          const uint8_t *octets, size_t octets_len, uint64_t report[2]);
 
 /* Tells where a greeting lies. Refused with G7110_TABLE, G7110_NUMBER, G7110_ABSENT. report: its start, its octets. */
+enum { G7110_GET_START, G7110_GET_OCTETS };
 uint32_t g7110_store_get(const uint8_t *block, size_t block_len, const uint32_t *table, size_t table_len, uint32_t number,
                          uint64_t report[2]);
 
@@ -436,6 +511,7 @@ uint32_t g7110_store_delete(const uint8_t *block, size_t block_len, uint32_t *ta
 /* Names the frame of a greeting that holds a sample, counted from 0 (document 02, R-9). Refused with G7110_TABLE, G7110_NUMBER,
  * G7110_ABSENT, G7110_BEYOND, G7110_BAD. report: the frame, pads counted, its octet place from the greeting's start, the sample's place
  * in the frame, and the frames read, 1 to 64: from the last mark at or before the sample up to and including the frame. */
+enum { G7110_JUMP_FRAME, G7110_JUMP_OCTET, G7110_JUMP_SAMPLE, G7110_JUMP_READ };
 uint32_t g7110_store_jump(const uint8_t *block, size_t block_len, const uint32_t *table, size_t table_len, uint32_t number,
                           uint64_t sample, uint64_t report[4]);
 
@@ -445,6 +521,7 @@ uint32_t g7110_store_jump(const uint8_t *block, size_t block_len, const uint32_t
  * leading zeros, each line ended by octet 0A; of a table that calls left at most G7110_MAX_TABLE octets. The text stands at the start
  * of the lent octets; the rest stays as lent. Refused with G7110_TABLE where the table is not one that calls leave for this block,
  * then with G7110_ROOM where the text does not fit; then nothing is written. report: octets of text. */
+enum { G7110_STORE_SAVE_OCTETS };
 uint32_t g7110_store_save(const uint8_t *block, size_t block_len, const uint32_t *table, size_t table_len,
                           uint8_t *out, size_t out_len, uint64_t report[1]);
 
@@ -466,6 +543,7 @@ uint32_t g7110_store_try(const uint8_t *block, size_t block_len, const uint32_t 
 
 /* Tells the next move of closing up: that of the first greeting, in order of start, that is not where closing up puts it. Refused
  * with G7110_TABLE. report: its number, where it lies, where it goes, its octets; zeros where all are closed up. */
+enum { G7110_MOVE_NUMBER, G7110_MOVE_FROM, G7110_MOVE_TO, G7110_MOVE_OCTETS };
 uint32_t g7110_store_next(const uint8_t *block, size_t block_len, const uint32_t *table, size_t table_len, uint64_t report[4]);
 
 /* Changes the table: the greeting of the next move is at its new place. No octet moves; of the block only the length is used. Refused
@@ -480,6 +558,7 @@ uint32_t g7110_store_renumber(const uint8_t *block, size_t block_len, uint32_t *
 
 /* Makes one step of the move that the record tells of, in the block or from it into the spare, and writes the record after it to
  * next. Refused with G7110_MOVE where the record tells of no move in this block; then block, spare and next are as lent. */
+enum { G7110_RECORD_PAGE, G7110_RECORD_STATE, G7110_RECORD_FROM, G7110_RECORD_TO, G7110_RECORD_OCTETS, G7110_RECORD_DONE };
 uint32_t g7110_move_step(uint8_t *block, size_t block_len, uint8_t *spare, size_t spare_len, const uint32_t record[8],
                          uint32_t next[8]);
 
@@ -488,6 +567,8 @@ uint32_t g7110_move_step(uint8_t *block, size_t block_len, uint8_t *spare, size_
  * G7110_ROOM where items has no place left, before the item is looked at, and those of g7110_read. report: law, items, octets
  * behind the heading (also the place of a refused item), samples, tool, bit (of the refused item, counted from its start).
  * G7110_SET and G7110_HEAD report zeros, G7110_LONG the law and zeros. */
+enum { G7110_FILE_READ_LAW, G7110_FILE_READ_ITEMS, G7110_FILE_READ_OCTETS, G7110_FILE_READ_SAMPLES,
+       G7110_FILE_READ_TOOL, G7110_FILE_READ_BIT };
 uint32_t g7110_file_read(const uint8_t *octets, size_t octets_len, uint32_t set, uint8_t *out, size_t out_len,
                          uint16_t *items, size_t items_len, uint64_t report[6]);
 
@@ -495,6 +576,7 @@ uint32_t g7110_file_read(const uint8_t *octets, size_t octets_len, uint32_t set,
  * writes it, a loss of N samples as N times 0++, one whose length is not known as the octet 01. Refusals, in order: G7110_LAW,
  * G7110_SET, G7110_LENGTH (an item that is none; samples left over or missing), G7110_LONG (octets behind the heading),
  * G7110_ROOM (heading and all). report: octets of the file. */
+enum { G7110_FILE_WRITE_OCTETS };
 uint32_t g7110_file_write(const uint8_t *samples, size_t samples_len, const uint16_t *items, size_t items_len,
                           uint32_t law, uint32_t set, uint8_t *out, size_t out_len, uint64_t report[1]);
 

@@ -1,13 +1,13 @@
-/* The loop of docs/STORE.md ("What to write first"), which box.h has as it stands there, with a cut of power at every octet of every
- * write, and at every octet of the start behind each cut. Prints 'ok' and the cuts if each start finds the greetings of before the
- * call or of after it. */
+/* The loop of docs/STORE.md ("What to write first"), as it stands there, in a file that the test writes, with a cut of power at every
+ * octet of every write, and at every octet of the start behind each cut. Prints 'ok' and the cuts if each start finds the greetings of
+ * before the call or of after it. */
 #include "g7110.h"
 
 #include <setjmp.h>
 #include <stdio.h>
 #include <string.h>
 
-#include "box.h"
+#include "store_what_to_write_first.h"
 
 #define SIZE 48
 #define CELLS 258

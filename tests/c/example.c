@@ -17,9 +17,9 @@ static int keep_and_get_back(const uint8_t *samples)
 {
     uint8_t kept[G7110_MAX_WRITTEN], sound[G7110_MAX_SAMPLES];
     uint64_t wrote[3], got[5];
-    if (g7110_write(samples, 160, 1, G7110_ALL_TOOLS, kept, sizeof kept, wrote) != G7110_OK) return 1;
-    if (g7110_read(kept, (size_t)wrote[0], 1, G7110_ALL_TOOLS, sound, sizeof sound, got) != G7110_OK) return 1;
-    CHECK(got[0] == 160);
+    if (g7110_write(samples, 160, G7110_LAW_MU, G7110_FIELD_TOOLS, kept, sizeof kept, wrote) != G7110_OK) return 1;
+    if (g7110_read(kept, (size_t)wrote[G7110_WRITE_OCTETS], G7110_LAW_MU, G7110_ALL_TOOLS, G7110_ARRAY(sound), got) != G7110_OK) return 1;
+    CHECK(got[G7110_READ_SAMPLES] == 160);
     CHECK(memcmp(sound, samples, 160) == 0);
     CHECK(got[1] == wrote[0] && got[2] == wrote[1] && got[3] == wrote[2]);
     CHECK(wrote[0] < 160);
@@ -101,13 +101,13 @@ static int few_values(void)
     uint64_t wrote[3], got[5];
     size_t at;
     for (at = 0; at < sizeof samples; at++) samples[at] = at % 2 == 0 ? 0xFF : 0xFE;
-    CHECK(G7110_ALL_TOOLS == 255);
+    CHECK(G7110_ALL_TOOLS == 255 && G7110_FIELD_TOOLS == 127 && G7110_LAW_A == 0 && G7110_LAW_MU == 1);
     CHECK(g7110_write(samples, sizeof samples, 1, G7110_ALL_TOOLS, kept, sizeof kept, wrote) == G7110_OK);
     CHECK(wrote[0] == 6 && wrote[1] == 48 && wrote[2] == 11 && memcmp(kept, wanted, sizeof wanted) == 0);
     CHECK(g7110_read(kept, 6, 1, 128, sound, sizeof sound, got) == G7110_OK && got[3] == 11);
     CHECK(memcmp(sound, samples, sizeof samples) == 0);
-    CHECK(g7110_read(kept, 6, 1, 127, sound, sizeof sound, got) == G7110_TOOL && got[3] == 11 && got[4] == 0);
-    CHECK(g7110_write(samples, sizeof samples, 1, 127, kept, sizeof kept, wrote) == G7110_OK && wrote[2] == 1);
+    CHECK(g7110_read(kept, 6, 1, G7110_FIELD_TOOLS, sound, sizeof sound, got) == G7110_TOOL && got[3] == 11 && got[4] == 0);
+    CHECK(g7110_write(samples, sizeof samples, 1, G7110_FIELD_TOOLS, kept, sizeof kept, wrote) == G7110_OK && wrote[2] == 1);
     CHECK(g7110_read(no_digits, 3, 1, 128, sound, sizeof sound, got) == G7110_PLACE && got[4] == 16);
     CHECK(g7110_read(no_digits, 3, 1, 256, sound, sizeof sound, got) == G7110_SET);
     return 0;
@@ -122,7 +122,7 @@ static uint32_t block_octets(const uint32_t state[G7110_SETTINGS])
     const uint8_t *at;
     if (g7110_settings_read(state, state[0], text, octets) != G7110_OK) return G7110_NO_SETTINGS_BLOCK;
     for (at = text; *at != 'b'; at++) ; /* the third line is the first with a b */
-    for (at += 6; *at != '\n'; at++) block = 10 * block + (*at - '0');
+    for (at += 6; *at != '\n'; at++) block = 10 * block + (uint32_t)(*at - '0');
     return block;
 }
 
@@ -164,7 +164,7 @@ static int recording(const uint8_t *samples)
     uint8_t file[400], out[400];
     uint16_t items[4] = {9, 9, 9, 9};
     uint64_t wrote[1], told[6];
-    CHECK(g7110_file_write(samples, 160, given, 3, 1, G7110_ALL_TOOLS, file, sizeof file, wrote) == G7110_OK);
+    CHECK(g7110_file_write(samples, 160, given, 3, G7110_LAW_MU, G7110_FIELD_TOOLS, file, sizeof file, wrote) == G7110_OK);
     CHECK(memcmp(file, "#!G7110M\n", G7110_HEADING) == 0 && file[wrote[0] - 1] == 0x01);
     memset(out, 0xA7, sizeof out);
     CHECK(g7110_file_read(file, (size_t)wrote[0], G7110_ALL_TOOLS, out, sizeof out, items, 4, told) == G7110_OK);

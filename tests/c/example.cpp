@@ -13,16 +13,16 @@ std::vector<std::uint8_t> keep(const std::vector<std::uint8_t> &samples)
 {
     std::array<std::uint8_t, G7110_MAX_WRITTEN> kept;
     std::uint64_t wrote[3];
-    if (g7110_write(samples.data(), samples.size(), 1, G7110_ALL_TOOLS, kept.data(), kept.size(), wrote) != G7110_OK) return {};
-    return std::vector<std::uint8_t>(kept.begin(), kept.begin() + static_cast<std::ptrdiff_t>(wrote[0]));
+    if (g7110_write(samples.data(), samples.size(), G7110_LAW_MU, G7110_FIELD_TOOLS, kept.data(), kept.size(), wrote) != G7110_OK) return {};
+    return std::vector<std::uint8_t>(kept.begin(), kept.begin() + static_cast<std::ptrdiff_t>(wrote[G7110_WRITE_OCTETS]));
 }
 
 std::vector<std::uint8_t> get_back(const std::vector<std::uint8_t> &kept)
 {
     std::vector<std::uint8_t> sound(G7110_MAX_SAMPLES);
     std::uint64_t got[5];
-    if (g7110_read(kept.data(), kept.size(), 1, G7110_ALL_TOOLS, sound.data(), sound.size(), got) != G7110_OK) return {};
-    sound.resize(static_cast<std::size_t>(got[0]));
+    if (g7110_read(kept.data(), kept.size(), G7110_LAW_MU, G7110_ALL_TOOLS, sound.data(), sound.size(), got) != G7110_OK) return {};
+    sound.resize(static_cast<std::size_t>(got[G7110_READ_SAMPLES]));
     return sound;
 }
 
@@ -41,7 +41,7 @@ int main()
     std::vector<std::uint8_t> file(G7110_MAX_FILE), sound(200);
     std::array<std::uint16_t, 2> back;
     std::uint64_t wrote[1], told[6];
-    if (g7110_file_write(samples.data(), 160, items.data(), 2, 1, G7110_ALL_TOOLS, file.data(), file.size(), wrote) != G7110_OK) return 1;
+    if (g7110_file_write(samples.data(), 160, items.data(), 2, G7110_LAW_MU, G7110_FIELD_TOOLS, file.data(), file.size(), wrote) != G7110_OK) return 1;
     const std::size_t octets = static_cast<std::size_t>(wrote[0]);
     if (g7110_file_read(file.data(), octets, G7110_ALL_TOOLS, sound.data(), sound.size(), back.data(), 2, told) != G7110_OK) return 1;
     if (back != items || told[3] != 160) return 1;

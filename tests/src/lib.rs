@@ -28,6 +28,7 @@ pub mod published;
 pub mod recordings;
 pub mod settings;
 mod share;
+pub mod stack;
 pub mod store;
 pub mod streams;
 mod table;

@@ -44,7 +44,7 @@ fn small() -> Files {
 }
 
 /// What is planted: the start of the name of the check that must see it, a file, a text in it, and another for that.
-const PLANTED: [(&str, &str, &str, &str); 82] = [
+const PLANTED: [(&str, &str, &str, &str); 86] = [
     // Another statement, one that is only the start of what is proved, a field too many.
     ("statements", "docs/PROMISES.md", "n ≡ n", "n ≡ 0"),
     ("statements", "crates/promises/proofs/Back.antt", "→ n ≡ n", "→ n ≡ n → n ≡ n"),
@@ -116,6 +116,10 @@ const PLANTED: [(&str, &str, &str, &str); 82] = [
     ("figures", "docs/BENCHMARKS.md", "copies its", "moves its"),
     ("figures", "include/g7110.h", "MAX_FRAME 402", "MAX_FRAME 403"),
     ("figures", "include/g7110.h", "* 1  the first", "* 2  the second"),
+    ("figures", "include/g7110.h", "major 3", "major 4"),
+    ("figures", "include/g7110.h", "MINOR < 2", "MINOR < 1"),
+    ("figures", "include/g7110.h", "  770 ", "  258 "),
+    ("figures", "include/g7110.h", "   379,687", "   379,680"),
     ("figures", "docs/LANDINGS.md", "812 s", "821 s"),
     // Landings without a time, and a page that names a machine.
     ("landings", "docs/LANDINGS.md", "812 s", "BEFORE s"),

@@ -39,10 +39,15 @@ impl Law {
 
 /// The header's version.
 pub const VERSION: u32 = 13;
-/// Octets of stack that a call uses at most: measured, not proved.
+/// Its major and minor: an addition, after which all that was there answers as it did, is minor.
+pub const VERSION_MAJOR: u32 = 4;
+pub const VERSION_MINOR: u32 = 1;
+/// Octets of stack that a call uses at most: a bound from the archive's instructions, and measured; not proved.
 pub const STACK: usize = 8_192;
 /// Every carried tool. Tool t, 1 to 7, adds 2^(t-1) to a set, tool 11 adds 128; a writer's set is odd.
 pub const ALL_TOOLS: u32 = 255;
+/// All but tool 11: what every version reads, and so what boxes in the field are sent.
+pub const FIELD_TOOLS: u32 = 127;
 /// Samples of the longest frame.
 pub const MAX_SAMPLES: usize = 320;
 /// Octets of the longest written frame.

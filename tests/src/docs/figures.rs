@@ -17,7 +17,7 @@ const README: &str = "README.md";
 const STORE: &str = "docs/STORE.md";
 const TESTING: &str = "docs/TESTING.md";
 
-const TOLD: [Told; 18] = [
+const TOLD: [Told; 20] = [
     (
         "cuts while closing up in place",
         &[
@@ -69,12 +69,17 @@ const TOLD: [Told; 18] = [
     ),
     (
         "numbers of a usual block's table",
-        &[(DECISIONS, "64: 260; 16,384: #;"), (STORE, "numbers its table needs: # for 16,384 octets")],
+        &[
+            (HEADER, "* table, G7110_CELLS(size) # "),
+            (DECISIONS, "64: 260; 16,384: #;"),
+            (STORE, "numbers its table needs: # for 16,384 octets"),
+        ],
     ),
     (
         "numbers of the largest table",
         &[
             (HEADER, "#define G7110_MAX_CELLS #"),
+            (HEADER, "G7110_CELLS(size) 770 # cells"),
             (DECISIONS, "1,048,576 and more: #."),
             (STORE, "for 16,384 octets, # for the largest"),
             (BENCHMARKS, "copies its # cells back"),
@@ -83,6 +88,7 @@ const TOLD: [Told; 18] = [
     (
         "octets of a usual block's text",
         &[
+            (HEADER, "* text of the table, at most # "),
             (DECISIONS, "for a block of up to 16,384 octets, at most # octets"),
             (STORE, "of a block of up to 16,384 octets has at most # octets"),
         ],
@@ -91,6 +97,7 @@ const TOLD: [Told; 18] = [
         "octets of the longest text",
         &[
             (HEADER, "#define G7110_MAX_TABLE #"),
+            (HEADER, "text of the table, at most 7,392 #"),
             (DECISIONS, "Its text has at most # octets: `form=2`"),
             (STORE, "That of the largest block has at most #"),
         ],
@@ -125,7 +132,22 @@ const TOLD: [Told; 18] = [
             (PAPER, "isn't a multiple of 40 or is above #"),
         ],
     ),
-    ("version", &[(HEADER, "#define G7110_VERSION #"), (HEADER, "or its report changes. * # ")]),
+    (
+        "version",
+        &[
+            (HEADER, "#define G7110_VERSION #"),
+            (HEADER, "or its report changes. * # "),
+            (HEADER, "This is version #, major"),
+        ],
+    ),
+    (
+        "major version",
+        &[(HEADER, "#define G7110_VERSION_MAJOR #"), (HEADER, ", major #, minor"), (HEADER, "VERSION_MAJOR != # ")],
+    ),
+    (
+        "minor version",
+        &[(HEADER, "#define G7110_VERSION_MINOR #"), (HEADER, ", minor #."), (HEADER, "VERSION_MINOR < #`")],
+    ),
     (
         "samples of a part that is packed",
         &[

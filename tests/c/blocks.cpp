@@ -1,0 +1,2 @@
+// blocks.c as C++11.
+#include "blocks.c"
