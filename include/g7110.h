@@ -27,7 +27,6 @@
  * WHAT A CALL RETURNS
  *   0 (G7110_OK), or the number of a refusal; g7110_store_cells a count, g7110_version a version. A call that takes a report
  *   writes it in both cases.
- *   g7110_refusal_name has the refusal's name. The places of each report have names, which stand beside the call.
  *   A refused g7110_read or g7110_write leaves the output as lent; its report is all 0, save that G7110_TOOL gives the tool
  *   and that a refused g7110_read gives the bit.
  *   A refused g7110_walk keeps the frames before the refused one: their samples stand in the output and are counted in
@@ -35,6 +34,7 @@
  *   An accepted call too leaves the output past what it reports as lent.
  *   A conversion has no report: accepted, its samples_len or linear_len results stand at the output's start; refused, the
  *   output is as lent.
+ *   g7110_refusal_name has the refusal's name. The places of each report have names, which stand beside the call.
  *
  * BIT
  *   Which bit was bad: counted from 0 at the refused frame's start, highest bit of an octet first.
