@@ -43,17 +43,17 @@ fn places(
     octets: &[u8],
     at: usize,
     d: usize,
-    width: usize,
     count: usize,
     cells: &mut [u8; 320],
     common: u8,
     other: u8,
 ) -> Outcome
-    requires { ⌜ (at ≤ 2 ^ 38) × (d ≤ 320) × (width ≤ 9) × (count ≤ 4) × (length (now cells) ≡ 320) ⌝ }
-    ensures { λ r. ⌜ MarksCells (listedFrom width d [] count (bitsOf (now (octets .entry))) at) d (at + 36) common other
+    requires { ⌜ (at ≤ 2 ^ 38) × (d ≤ 320) × (count ≤ 4) × (length (now cells) ≡ 320) ⌝ }
+    ensures { λ r. ⌜ MarksCells (listedFrom (widthOf d) d [] count (bitsOf (now (octets .entry))) at) d (at + 36) common other
         (now (cells .entry)) (now (cells .exit)) r ⌝ }
 {
     read_runs::fill(cells, d, common);
+    let width = width_of(d);
     let mut least = 0;
     let mut place = at;
     let mut read = 0;
@@ -91,9 +91,7 @@ fn listed(
 {
     match read_bits::number(octets, at, 2) {
         Outcome::Refused(why, bit) => Outcome::Refused(why, bit),
-        Outcome::Got(less, next) => {
-            places(octets, next, d, width_of(d), less + 1, cells, common, other)
-        }
+        Outcome::Got(less, next) => { places(octets, next, d, less + 1, cells, common, other) }
     }
 }
 
@@ -196,8 +194,8 @@ fn later(
 ) -> Outcome
     requires { ⌜ (at ≤ 2 ^ 37 + 105606) × (n ≤ 320) × (0 < count) × (count ≤ 3) × Apart plus (take count (now xs))
         × (length (now xs) ≡ 3) × (length (now cells) ≡ 320) × (left ≡ emptyIn plus (take n (now cells))) × (left ≤ n) ⌝ }
-    ensures { λ r. ⌜ LaysCells (valuesInto n plus (drop 1 (take count (now (xs .entry)))) (take n (now (cells .entry))) (bitsOf (now (octets .entry))) at) n (at + 211206)
-        (now (cells .entry)) (now (cells .exit)) r ⌝ }
+    ensures { λ r. ⌜ LaysCells (valuesInto n plus (drop 1 (take count (now (xs .entry)))) (take n (now (cells .entry)))
+        (bitsOf (now (octets .entry))) at) n (at + 211206) (now (cells .entry)) (now (cells .exit)) r ⌝ }
 {
     let mut marks = [0; 320];
     let mut empty = left;
@@ -231,8 +229,8 @@ fn values(
 ) -> Outcome
     requires { ⌜ (at ≤ 2 ^ 37 + 3) × (n ≤ 320) × (0 < count) × (count ≤ 3) × Apart plus (take count (now xs))
         × (length (now xs) ≡ 3) × (length (now cells) ≡ 320) ⌝ }
-    ensures { λ r. ⌜ LaysCells (valuesInto n plus (take count (now (xs .entry))) (replicate n plus) (bitsOf (now (octets .entry))) at) n (at + 316809)
-        (now (cells .entry)) (now (cells .exit)) r ⌝ }
+    ensures { λ r. ⌜ LaysCells (valuesInto n plus (take count (now (xs .entry))) (replicate n plus)
+        (bitsOf (now (octets .entry))) at) n (at + 316809) (now (cells .entry)) (now (cells .exit)) r ⌝ }
 {
     match value(octets, at, n, n, cells, plus, xs[0]) {
         Outcome::Refused(why, bit) => Outcome::Refused(why, bit),

@@ -160,7 +160,8 @@ fn put_item(
     count: usize,
 )
     requires { ⌜ (n ≤ length (now samples)) × (to + n ≤ length (now out)) × (count < length (now cells)) ⌝ }
-    ensures { λ _. ⌜ (now (out .exit) ≡ take to (now (out .entry)) ++ (take n (now (samples .entry)) ++ drop n (drop to (now (out .entry)))))
+    ensures { λ _. ⌜ (now (out .exit) ≡ take to (now (out .entry))
+        ++ (take n (now (samples .entry)) ++ drop n (drop to (now (out .entry)))))
         × (now (cells .exit) ≡ set (now (cells .entry)) count cell) ⌝ }
 {
     put_sound(samples, n, out, to);
