@@ -111,14 +111,17 @@ ahead-five s i p q r t u octet =
     let f : _ = zero-add (getD s (i + 0) 0) ∙ ap (λ (k : ℕ). getD s k 0) (add-zero i) in
     rw (p, q, r, t, u) (rw f at (ahead-octets s i 5 octet))
 
-pub ahead-eight : (s : List ℕ) (i : ℕ) {a b c d e f g h : ℕ} → a ≡ getD s i 0 → b ≡ getD s (i + 1) 0 → c ≡ getD s (i + 2) 0
-    → d ≡ getD s (i + 3) 0
-    → e ≡ getD s (i + 4) 0 → f ≡ getD s (i + 5) 0 → g ≡ getD s (i + 6) 0 → h ≡ getD s (i + 7) 0 → ((k : ℕ) → getD s k 0 < 256)
-    → Ahead 64 (bitsOf s) (8 * i) (256 * (256 * (256 * (256 * (256 * (256 * (256 * a + b) + c) + d) + e) + f) + g) + h)
+pub ahead-eight : (s : List ℕ) (i : ℕ) {a b c d e f g h high low : ℕ} → a ≡ getD s i 0 → b ≡ getD s (i + 1) 0 → c ≡ getD s (i + 2) 0
+    → d ≡ getD s (i + 3) 0 → high ≡ 256 * (256 * (256 * a + b) + c) + d
+    → e ≡ getD s (i + 4) 0 → f ≡ getD s (i + 5) 0 → g ≡ getD s (i + 6) 0 → h ≡ getD s (i + 7) 0
+    → low ≡ 256 * (256 * (256 * e + f) + g) + h
+    → ((k : ℕ) → getD s k 0 < 256) → Ahead 64 (bitsOf s) (8 * i) (4294967296 * high + low)
 unfolding sideBySide octetsAt
-ahead-eight s i p q r t u v x y octet =
-    let f : _ = zero-add (getD s (i + 0) 0) ∙ ap (λ (k : ℕ). getD s k 0) (add-zero i) in
-    rw (p, q, r, t, u, v, x, y) (rw f at (ahead-octets s i 8 octet))
+ahead-eight s i {a} {b} {c} {d} {e} {f} {g} {h} {high} {low} p q r t j u v x y k octet =
+    let first : _ = zero-add (getD s (i + 0) 0) ∙ ap (λ (k : ℕ). getD s k 0) (add-zero i) in
+    let all : 4294967296 * high + low ≡ 256 * (256 * (256 * (256 * (256 * (256 * (256 * a + b) + c) + d) + e) + f) + g) + h =
+    omega arith in
+    rw (all, p, q, r, t, u, v, x, y) (rw first at (ahead-octets s i 8 octet))
 
 -- bit j of n bits cut out of a number: those below the top m less r, above the lowest k
 pub cut-bit : (w k n j : ℕ) → j < n → w / 2 ^ k % 2 ^ n / 2 ^ (n - suc j) % 2 ≡ w / 2 ^ (k + (n - suc j)) % 2

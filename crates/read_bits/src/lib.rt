@@ -59,12 +59,19 @@ fn word(octet: u8) -> u32
     octet as u32
 }
 
-// Five octets as one number; the compiler reads the first four at once.
+// Four octets as one number; the compiler reads them at once.
+fn four(a: u8, b: u8, c: u8, d: u8) -> u32
+    ensures { λ r. ⌜ r ≡ 256 * (256 * (256 * a + b) + c) + d ⌝ }
+{
+    16777216 * word(a) + 65536 * word(b) + 256 * word(c) + word(d)
+}
+
+// Five octets as one number.
 fn five(a: u8, b: u8, c: u8, d: u8, e: u8) -> usize
     ensures { λ r. ⌜ r ≡ 256 * (256 * (256 * (256 * a + b) + c) + d) + e ⌝ }
 {
-    let four = 16777216 * word(a) + 65536 * word(b) + 256 * word(c) + word(d);
-    256 * (four as usize) + wide(e)
+    let high = four(a, b, c, d);
+    256 * (high as usize) + wide(e)
 }
 
 // The bits of the five octets from octet i on; an octet that is missing counts 0.
@@ -181,12 +188,10 @@ fn long(four: u32) -> u64
     four as u64
 }
 
-// Eight octets as one number; the compiler reads them at once.
-fn eight(a: u8, b: u8, c: u8, d: u8, e: u8, f: u8, g: u8, h: u8) -> u64
-    ensures { λ r. ⌜ r ≡ 256 * (256 * (256 * (256 * (256 * (256 * (256 * a + b) + c) + d) + e) + f) + g) + h ⌝ }
+// Eight octets as one number, from those of the first four and of the last four; the compiler reads all eight at once.
+fn eight(high: u32, low: u32) -> u64
+    ensures { λ r. ⌜ r ≡ 4294967296 * high + low ⌝ }
 {
-    let high = 16777216 * word(a) + 65536 * word(b) + 256 * word(c) + word(d);
-    let low = 16777216 * word(e) + 65536 * word(f) + 256 * word(g) + word(h);
     4294967296 * long(high) + long(low)
 }
 
@@ -195,16 +200,9 @@ fn whole_word(octets: &[u8], i: usize) -> u64
     requires { ⌜ (i ≤ 2 ^ 40) × (i + 8 ≤ length (now octets)) ⌝ }
     ensures { λ r. ⌜ Ahead 64 (bitsOf (now (octets .entry))) (8 * i) r ⌝ }
 {
-    eight(
-        octets[i],
-        octets[i + 1],
-        octets[i + 2],
-        octets[i + 3],
-        octets[i + 4],
-        octets[i + 5],
-        octets[i + 6],
-        octets[i + 7],
-    )
+    let high = four(octets[i], octets[i + 1], octets[i + 2], octets[i + 3]);
+    let low = four(octets[i + 4], octets[i + 5], octets[i + 6], octets[i + 7]);
+    eight(high, low)
 }
 
 // The same, where an octet that is missing counts 0.
@@ -212,16 +210,19 @@ fn part_word(octets: &[u8], i: usize) -> u64
     requires { ⌜ i ≤ 2 ^ 40 ⌝ }
     ensures { λ r. ⌜ Ahead 64 (bitsOf (now (octets .entry))) (8 * i) r ⌝ }
 {
-    eight(
+    let high = four(
         octet_at(octets, i),
         octet_at(octets, i + 1),
         octet_at(octets, i + 2),
         octet_at(octets, i + 3),
+    );
+    let low = four(
         octet_at(octets, i + 4),
         octet_at(octets, i + 5),
         octet_at(octets, i + 6),
         octet_at(octets, i + 7),
-    )
+    );
+    eight(high, low)
 }
 
 // Up to 64 bits from a place on, highest first: the first `good` of the word are the octets' own.

@@ -4,7 +4,8 @@ ghost use Prim.Native.Nat.{_+_, _*_, _^_, _/_, _%_, _≤_, _<_};
 ghost use lib.ListN.{length, replicate};
 ghost use Rattle.rules.specs.Bits.{bitsOf};
 ghost use Rattle.rules.specs.Reading.{whole};
-ghost use Rattle.rules.specs.Zeros.{uncompressed as octetsOf, constant as constantly, binary as bitsAsZeros, plusMinus, zeroOf, treeOf, readTree};
+ghost use Rattle.rules.specs.Zeros.{uncompressed as octetsOf, constant as constantly, binary as bitsAsZeros, plusMinus};
+ghost use Rattle.rules.specs.Zeros.{zeroOf, treeOf, readTree};
 ghost use Rattle.read_bits.specs.Outcomes.{Reads};
 ghost use Rattle.read_bodies.specs.Bodied.{FillsBody};
 use read_bits::Outcome;
@@ -13,7 +14,8 @@ use rules::Refusal;
 // "Uncompressed: N octets", whole; the place is an octet's first bit.
 pub fn uncompressed(octets: &[u8], at: usize, n: usize, samples: &mut [u8; 320]) -> Outcome
     requires { ⌜ (at ≤ 2 ^ 37) × (at % 8 ≡ 0) × (0 < n) × (n ≤ 320) × (length (now samples) ≡ 320) ⌝ }
-    ensures { λ r. ⌜ FillsBody (octetsOf n (bitsOf (now (octets .entry))) at) (at + 8 * n) (now (samples .entry)) (now (samples .exit)) r ⌝ }
+    ensures { λ r. ⌜ FillsBody (octetsOf n (bitsOf (now (octets .entry))) at) (at + 8 * n)
+        (now (samples .entry)) (now (samples .exit)) r ⌝ }
 {
     let from = at / 8;
     if octets.len() < from + n {
@@ -59,7 +61,8 @@ fn zero_of(flag: u8, mark: u8, mask: u8) -> u8
 // "Binary: N bits, 1 is minus zero."
 pub fn binary(octets: &[u8], at: usize, n: usize, mask: u8, samples: &mut [u8; 320]) -> Outcome
     requires { ⌜ (at ≤ 2 ^ 37) × (n ≤ 320) × (mask < 128) × (length (now samples) ≡ 320) ⌝ }
-    ensures { λ r. ⌜ FillsBody (bitsAsZeros mask n (bitsOf (now (octets .entry))) at) (at + n) (now (samples .entry)) (now (samples .exit)) r ⌝ }
+    ensures { λ r. ⌜ FillsBody (bitsAsZeros mask n (bitsOf (now (octets .entry))) at) (at + n)
+        (now (samples .entry)) (now (samples .exit)) r ⌝ }
 {
     let common = zero_of(0, 0, mask);
     let other = zero_of(1, 0, mask);
@@ -92,7 +95,8 @@ pub fn plus_minus(
     samples: &mut [u8; 320],
 ) -> Outcome
     requires { ⌜ (at ≤ 2 ^ 37) × (n ≤ 320) × (mask < 128) × (length (now samples) ≡ 320) ⌝ }
-    ensures { λ r. ⌜ FillsBody (plusMinus mask n mark (bitsOf (now (octets .entry))) at) (at + 106000) (now (samples .entry)) (now (samples .exit)) r ⌝ }
+    ensures { λ r. ⌜ FillsBody (plusMinus mask n mark (bitsOf (now (octets .entry))) at) (at + 106000)
+        (now (samples .entry)) (now (samples .exit)) r ⌝ }
 {
     let common = zero_of(0, mark, mask);
     let other = zero_of(1, mark, mask);

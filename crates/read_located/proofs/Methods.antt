@@ -53,9 +53,9 @@ pub method-read : (bits : List ℕ) (at n d : ℕ) {m first near far common othe
 unfolding flagsOf
 method-read bits at n d e t k = marks-as t (rw e) k
 
-pub list-read : (bits : List ℕ) (at d : ℕ) {less first width near far common other : ℕ} {old new : List ℕ} {r : Outcome}
-    → numberFrom 0 2 bits at ≡ whole less first → width ≡ widthOf d
-    → MarksCells (listedFrom width d [] (less + 1) bits first) d near common other old new r → near ≤ far
+pub list-read : (bits : List ℕ) (at d : ℕ) {less first near far common other : ℕ} {old new : List ℕ} {r : Outcome}
+    → numberFrom 0 2 bits at ≡ whole less first
+    → MarksCells (listedFrom (widthOf d) d [] (less + 1) bits first) d near common other old new r → near ≤ far
     → MarksCells (listed d bits at) d far common other old new r
 unfolding listed
-list-read bits at d e w t k = marks-as t (rw (e, w)) k
+list-read bits at d e t k = marks-as t (rw e) k

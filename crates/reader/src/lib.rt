@@ -38,7 +38,8 @@ pub struct Report {
 // Frames of few values about 0: fractional-bit (document 02, R-14), and value-location.
 fn few_values(octets: &[u8], mask: u8, h: Head, samples: &mut [u8; 320]) -> Outcome
     requires { ⌜ (HeadFits h) × (mask < 128) × (mask % 2 ≡ 1) × (length (now samples) ≡ 320) ⌝ }
-    ensures { λ r. ⌜ FillsBody (cond (eqb (h .tool) 11) (fractional mask (h .mark) (h .len)) (located mask (h .len)) (bitsOf (now (octets .entry))) (h .at)) (2 ^ 41) (now (samples .entry)) (now (samples .exit)) r ⌝ }
+    ensures { λ r. ⌜ FillsBody (cond (eqb (h .tool) 11) (fractional mask (h .mark) (h .len)) (located mask (h .len))
+        (bitsOf (now (octets .entry))) (h .at)) (2 ^ 41) (now (samples .entry)) (now (samples .exit)) r ⌝ }
 {
     if h.tool == 11 {
         return read_fractional::body(octets, h.at, h.len, h.mark, mask, samples);
@@ -49,7 +50,8 @@ fn few_values(octets: &[u8], mask: u8, h: Head, samples: &mut [u8; 320]) -> Outc
 // The body of a tool that the set holds, into the lent samples.
 fn body_of(octets: &[u8], mask: u8, h: Head, samples: &mut [u8; 320]) -> Outcome
     requires { ⌜ (HeadFits h) × (mask < 128) × (mask % 2 ≡ 1) × (length (now samples) ≡ 320) ⌝ }
-    ensures { λ r. ⌜ FillsBody (bodyOf mask h (bitsOf (now (octets .entry))) (h .at)) (2 ^ 41) (now (samples .entry)) (now (samples .exit)) r ⌝ }
+    ensures { λ r. ⌜ FillsBody (bodyOf mask h (bitsOf (now (octets .entry))) (h .at)) (2 ^ 41)
+        (now (samples .entry)) (now (samples .exit)) r ⌝ }
 {
     let tool = h.tool;
     let n = h.len;
@@ -137,7 +139,8 @@ fn with_tool(
     samples: &mut [u8; 320],
 ) -> Report
     requires { ⌜ (HeadFits h) × (1 ≤ length (now octets)) × (length (now samples) ≡ 320) ⌝ }
-    ensures { λ r. ⌜ Fills (withTool set room (h .tool) (h .len) (bodyOf (maskOf law) h) (bitsOf (now (octets .entry))) (h .at)) r (now (samples .exit)) ⌝ }
+    ensures { λ r. ⌜ Fills (withTool set room (h .tool) (h .len) (bodyOf (maskOf law) h) (bitsOf (now (octets .entry))) (h .at))
+        r (now (samples .exit)) ⌝ }
 {
     let tool = h.tool;
     if !first_octet::holds(set, tool) {
@@ -153,8 +156,8 @@ fn with_tool(
     }
 }
 
-// One frame read into a frame buffer that is lent, its room a number: what is reported, and an accepted frame's samples at the buffer's start.
-// For a walk that keeps no samples: nothing is put out, and one buffer serves every frame.
+// One frame read into a frame buffer that is lent, its room a number: what is reported, and an accepted frame's samples at the buffer's
+// start. For a walk that keeps no samples: nothing is put out, and one buffer serves every frame.
 pub fn fill_frame(octets: &[u8], law: u32, set: u32, room: usize, samples: &mut [u8; 320]) -> Report
     requires { ⌜ length (now samples) ≡ 320 ⌝ }
     ensures { λ r. ⌜ Fills (readOne (now (octets .entry)) law set room) r (now (samples .exit)) ⌝ }
@@ -180,7 +183,8 @@ pub fn put_out(samples: &[u8], n: usize, out: &mut [u8])
 
 // One frame read into the output: what is reported, and an accepted frame's samples at the output's start.
 pub fn read_into(octets: &[u8], law: u32, set: u32, out: &mut [u8]) -> Report
-    ensures { λ r. ⌜ ReadsInto (readOne (now (octets .entry)) law set (length (now (out .entry)))) r (now (out .entry)) (now (out .exit)) ⌝ }
+    ensures { λ r. ⌜ ReadsInto (readOne (now (octets .entry)) law set (length (now (out .entry))))
+        r (now (out .entry)) (now (out .exit)) ⌝ }
 {
     match opens(octets, law, set) {
         Opening::Refused(why, bit) => refused(why, bit),

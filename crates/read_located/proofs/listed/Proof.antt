@@ -9,11 +9,11 @@ use Rattle.read_located.proofs.listed.Statement.{statement}
 use Rattle.read_located.proofs.listed.Tie as tie
 
 add-places : tie.Need-add-places
-add-places c = let l = told (c .before .before .before .before .number .ensures) (c .before .before .less .given .1) in omega arith
+add-places c = let l = told (c .before .before .before .number .ensures) (c .before .less .given .1) in omega arith
 
 places-requires : tie.Need-places-requires
 places-requires c κs =
-    let l = told (c .before .before .before .before .before .number .ensures) (c .before .before .before .less .given .1) in
+    let l = told (c .before .before .before .before .number .ensures) (c .before .before .less .given .1) in
     omega arith
 
 returns : tie.Need-returns
@@ -22,10 +22,10 @@ returns c = marks-refused (omega arith) (rw (refused (c .before .before .before 
 
 returns-2 : tie.Need-returns-2
 returns-2 c =
-    let a = c .before .before .before .before in
+    let a = c .before .before .before in
     let l = told (a .before .before .number .ensures) (a .less .given .1) in
-    list-read _ _ _ (l .says) (c .before .before .width-of .ensures .0) (c .places .ensures) (omega arith)
+    list-read _ _ _ (l .says) (c .places .ensures) (omega arith)
 
 pub listed-spec : {M : Type 1} → statement M
-listed-spec = tie.close (tie.spec (λ c κs. search needs) (λ c. search needs) (λ c. search needs) (λ c κs. search needs)
+listed-spec = tie.close (tie.spec (λ c κs. search needs) (λ c. search needs) (λ c. search needs)
     add-places places-requires returns returns-2)
