@@ -1,3 +1,2 @@
-pub mod Arms
 pub mod Rule
 pub mod Base

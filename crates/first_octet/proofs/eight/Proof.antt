@@ -3,7 +3,7 @@ use borrow.Author.Needs.{needs}
 use Rattle.rules.specs.First.{rows, lookUp, firstOctet}
 use Rattle.rules.specs.Fractional.{firstCode}
 use Rattle.first_octet.specs.Answers.{eightFrom}
-use Rattle.first_octet.proofs.Arms.{last-arm}
+use Rattle.rules.proofs.Arms.{last-arm}
 use Rattle.first_octet.proofs.eight.Statement.{statement}
 use Rattle.first_octet.proofs.eight.Tie as tie
 
