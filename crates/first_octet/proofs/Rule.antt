@@ -1,9 +1,7 @@
 -- The rule of the table of first octets: each entry tells what `firstOctet` says of its place.
 use mathlib.Core.Path.{_≡_, refl, ap}
 use mathlib.Core.Bool.{Bool, true, false, _&&_}
-use mathlib.Core.List.{List, [], _∷_}
-use Prim.Native.Nat.{ℕ, zero, suc, _+_, _*_, _/_, _<_}
-use lib.ListN.{getD}
+use Prim.Native.Nat.{ℕ, _<_}
 use lib.Dec.{eqb}
 use borrow.Author.Tests.{eqb-true}
 use Rattle.rules.specs.First.{First, unassigned, pad, tool, fractionalRow, sixOrEight, firstOctet}
@@ -49,20 +47,8 @@ told (sixOrEight n) (tool u m) t = cc
 told (sixOrEight n) (fractionalRow u m) t = cc
 told (sixOrEight n) (sixOrEight m) t = ap sixOrEight (eqb-true n m t)
 
-abbrev right : List ℕ → ℕ → Bool
-right xs o = same (entryTells o (getD xs o 0)) (firstOctet o)
+abbrev right : (ℕ → ℕ) → ℕ → Bool
+right entry o = same (entryTells o (entry o)) (firstOctet o)
 
-pub rule : (xs : List ℕ) → allBelow (right xs) 256 ≡ true → (o : ℕ) → o < 256 → entryTells o (getD xs o 0) ≡ firstOctet o
-rule xs t o h = told _ _ (allBelow-at (right xs) 256 t o h)
-
--- the entries from octet o on, so many of them, as the rows have them
-abbrev entryFor : First → ℕ
-entryFor unassigned = 1
-entryFor pad = 0
-entryFor (tool t n) = 16 * t + n / 40
-entryFor (fractionalRow k n) = 176 + n / 40
-entryFor (sixOrEight n) = 96 + n / 40
-
-abbrev pub entries : ℕ → ℕ → List ℕ
-entries zero o = []
-entries (suc k) o = entryFor (firstOctet o) ∷ entries k (suc o)
+pub rule : (entry : ℕ → ℕ) → allBelow (right entry) 256 ≡ true → (o : ℕ) → o < 256 → entryTells o (entry o) ≡ firstOctet o
+rule entry t o h = told _ _ (allBelow-at (right entry) 256 t o h)

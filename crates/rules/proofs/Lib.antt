@@ -1,3 +1,4 @@
+pub mod Arms
 pub mod Marked
 pub mod Octets
 pub mod Words

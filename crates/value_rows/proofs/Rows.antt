@@ -1,21 +1,12 @@
--- The table of rows: each octet is its row's three numbers, and tells them.
+-- The octet of a row tells its three numbers (`unpacked`).
 use Prim.Native.Nat.{ℕ, _/_, _%_, _<_}
 use mathlib.Core.Path.{_≡_, refl}
-use mathlib.Core.List.{List, [], _∷_}
 use mathlib.Core.Bool.{Bool, true, _&&_}
 use borrow.Author.Tests.{eqb-true}
 use lib.Dec.{eqb}
-use lib.ListN.{getD}
 use Rattle.rules.specs.Fractional.{valuesAt, radix, lowAt, belowAt}
 use Rattle.rules.proofs.Tests.{and-left, and-right, allBelow-at}
 use Rattle.value_rows.specs.Rows.{packed}
-
-abbrev pub rows : List ℕ
-rows = 2 ∷ 84 ∷ 74 ∷ 75 ∷ 83 ∷ 43 ∷ 116 ∷ 85 ∷ 76 ∷ 126 ∷ 117 ∷ 158 ∷ []
-
-pub packed-right : (k : ℕ) → k < 12 → getD rows k 0 ≡ packed k
-unfolding valuesAt
-packed-right k h = eqb-true (getD rows k 0) (packed k) (allBelow-at (λ k. eqb (getD rows k 0) (packed k)) 12 refl k h)
 
 -- the three numbers
 pub record Unpacked (k : ℕ) : Type 0 where

@@ -36,14 +36,25 @@ pub struct Row {
     pub below: usize,
 }
 
-// The twelve rows, each as one octet: 32 times `low`, 8 times `below`, and R'.
-const ROWS: [u8; 12] = [2, 84, 74, 75, 83, 43, 116, 85, 76, 126, 117, 158];
-
+// The twelve rows, each as one octet: 32 times `low`, 8 times `below`, and R'. A match becomes one load, where a const array is made on the stack.
 fn packed_row(k: usize) -> u8
     requires { ⌜ k < 12 ⌝ }
     ensures { λ r. ⌜ r ≡ packed k ⌝ }
 {
-    ROWS[k]
+    match k {
+        0 => 2,
+        1 => 84,
+        2 => 74,
+        3 => 75,
+        4 => 83,
+        5 => 43,
+        6 => 116,
+        7 => 85,
+        8 => 76,
+        9 => 126,
+        10 => 117,
+        _ => 158,
+    }
 }
 
 // Row k of the table.

@@ -1,23 +1,14 @@
 -- A row is told by its key.
 use Prim.Native.Nat.{ℕ, suc, _+_, _*_, _-_, _≤_, _<_}
 use mathlib.Core.Path.{_≡_, refl, sym, ap, _∙_}
-use mathlib.Core.List.{List, [], _∷_}
 use mathlib.Core.Bool.{Bool, true, false, cond, _&&_}
 use native.Mathlib.Omega.{arith}
 use borrow.Author.Tests.{eqb-true, eq-eqb, ltb-true}
 use lib.Dec.{eqb, ltb}
-use lib.ListN.{getD}
 use Rattle.rules.proofs.Tests.{and-left, and-right, allBelow-at}
 use Rattle.rules.specs.Fractional.{valuesAt, leastAt, greatestAt, minusAt}
 use Rattle.rules.specs.Chooses.{rowOr, sameTest, isRowOf, rowFrom}
 use Rattle.write_fractional.specs.Keys.{keyOf, rowKey}
-
-abbrev pub keys : List ℕ
-keys = 65794 ∷ 64771 ∷ 64768 ∷ 64770 ∷ 64769 ∷ 65283 ∷ 64258 ∷ 64773 ∷ 64772 ∷ 64261 ∷ 64260 ∷ 63748 ∷ []
-
-pub keys-right : (k : ℕ) → k < 12 → getD keys k 0 ≡ rowKey k
-unfolding valuesAt rowKey
-keys-right k h = eqb-true (getD keys k 0) (rowKey k) (allBelow-at (λ k. eqb (getD keys k 0) (rowKey k)) 12 refl k h)
 
 greatest-small : (k : ℕ) → k < 12 → greatestAt k < 256
 unfolding valuesAt

@@ -15,26 +15,25 @@ ghost use Rattle.write_scan.specs.Looks.{FrameIn};
 ghost use Rattle.write_fractional.specs.Keys.{rowKey};
 
 // Each row's least, greatest and whether -1 is one of its values, as one number: 512 times the least, twice the greatest, and 1 for -1.
-const KEYS: [u32; 12] = [
-    65794,
-    64771,
-    64768,
-    64770,
-    64769,
-    65283,
-    64258,
-    64773,
-    64772,
-    64261,
-    64260,
-    63748,
-];
-
+// A match becomes one load, where a const array is made on the stack.
 fn key_at(k: usize) -> u32
     requires { ⌜ k < 12 ⌝ }
     ensures { λ r. ⌜ r ≡ rowKey k ⌝ }
 {
-    KEYS[k]
+    match k {
+        0 => 65794,
+        1 => 64771,
+        2 => 64768,
+        3 => 64770,
+        4 => 64769,
+        5 => 65283,
+        6 => 64258,
+        7 => 64773,
+        8 => 64772,
+        9 => 64261,
+        10 => 64260,
+        _ => 63748,
+    }
 }
 
 fn wide(x: u8) -> u32
