@@ -96,7 +96,13 @@ pub fn walk_on(
     answer(Ending::Done, passed, place - at, room - left, place, 0)
 }
 
-// The same walk, its samples put into the output, whose length is the room.
+// How a walk stops, and the refusal's bit.
+struct Stop {
+    end: Ending,
+    bit: usize,
+}
+
+// The same walk, its samples put into the output, whose length is the room: a frame loop with a labelled exit, as document 01 has it.
 pub fn keep_on(
     octets: &[u8],
     law: u32,
@@ -109,23 +115,48 @@ pub fn keep_on(
         r (now (out .entry)) (now (out .exit)) ⌝ }
 {
     let mut place = at;
+    let mut used = 0;
     let mut to = 0;
     let mut count = 0;
-    while count < frames && place < octets.len() {
+    let stop = 'frames: loop {
+        if frames <= count {
+            break 'frames Stop {
+                end: Ending::Done,
+                bit: 0,
+            };
+        }
+        if octets.len() <= place {
+            break 'frames Stop {
+                end: Ending::Done,
+                bit: 0,
+            };
+        }
         let r = step(octets, law, set, place, out, to);
         let e = r.end;
         match e {
             Ending::Refused(why) => {
-                return answer(Ending::Refused(why), count, place - at, to, place, r.bit);
+                break 'frames Stop {
+                    end: Ending::Refused(why),
+                    bit: r.bit,
+                };
             }
             Ending::Done => {
                 place += r.octets;
+                used += r.octets;
                 to += r.len;
                 count += 1;
             }
         }
+    };
+    let end = stop.end;
+    WalkAnswer {
+        end,
+        frames: count,
+        octets: used,
+        samples: to,
+        place,
+        bit: stop.bit,
     }
-    answer(Ending::Done, count, place - at, to, place, 0)
 }
 
 // Walking a stream. "LAW, SET and LONG refuse a walk before any frame, with place 0." Each frame has an octet, so as many frames are

@@ -65,6 +65,6 @@ returns-3 c =
     (marks-filled (listing-all (l .loop .inv) (omega arith) (omega arith)) (l .before .before .fill .ensures))
 
 pub places-spec : {M : Type 1} → statement M
-places-spec = tie.close (tie.spec Inv-loop μ-loop (λ c κs. search needs) (λ c κs. search needs) loop-holds (λ c κs. search needs) (λ c. search needs)
-    returns (λ c. search needs) (λ c κs. search needs) returns-2 element-write-cells add-least (λ c. search needs)
-    (λ c. search needs) loop-again returns-3)
+places-spec = tie.close (tie.spec Inv-loop μ-loop (λ c κs. search needs) (λ c κs. search needs) loop-holds (λ c κs. search needs)
+    (λ c. search needs) returns (λ c. search needs) (λ c κs. search needs) returns-2 element-write-cells add-least
+    (λ c. search needs) (λ c. search needs) loop-again returns-3)
