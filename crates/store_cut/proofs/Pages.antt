@@ -374,9 +374,11 @@ module _ {size room : ℕ} (enough : Enough size room) (t : List ℕ) (c : store
     swap-fits : (old : ℕ) (x : Changed) → Keeps size (swapped s (gone z old) x) → Fits room (swappingWrites l (notesFor (gone z old)) x)
     unfolding Fits swappingWrites
     swap-fits old (changes rows) k =
-        let few : length rows ≤ 32 = omega (arith, keeps-fine k .few, ap length (rows-laid rows (gone z old .table))) in
-        (keeps-fit (swapped s (gone z old) (changes rows)) (length (l .block)) rows (notesFor (gone z old)) k (z .keeps .long)
-        (rows-laid rows (gone z old .table)) (laid-notes rows (gone z old .table) few), tt)
+        let few : length rows ≤ 32 = omega (arith, keeps-fine k .few, ap length (rows-laid rows (gone z old .table))) in (
+          keeps-fit (swapped s (gone z old) (changes rows)) (length (l .block)) rows (notesFor (gone z old)) k (z .keeps .long)
+              (rows-laid rows (gone z old .table)) (laid-notes rows (gone z old .table) few),
+          tt,
+        )
     swap-fits old not-next k = tt
     swap-fits old (declined w) k = tt
 

@@ -251,7 +251,6 @@ module _ {size : ℕ} {t : List ℕ} {l : Lasting} (z : Ready size t l) where
       → Either (Bears size (contentsOf s) (notesFor s) k) (Bears size (contentsOf (asked a s)) (notesFor (asked a s)) k)
   call-cut (put law x xs) r = put-writes-cut (z .keeps) law x xs (z .rests) refl (putOf (s .block) (s .table) law x xs) refl r
   call-cut (delete x) r = delete-cut x (deleteOf (s .block) (s .table) x) refl r
-
   call-cut (swap old new) r =
       let c = swapOf (s .block) (s .table) old new (deleteOf (s .block) (s .table) old) in
       swap-cut old c (swap-keeps old new c refl) r
@@ -259,7 +258,6 @@ module _ {size : ℕ} {t : List ℕ} {l : Lasting} (z : Ready size t l) where
   pub call-made : (a : Asks) → Made size (asked a s) (madeAll (writesOf a l s) l)
   call-made (put law x xs) = put-writes-made (z .keeps) law x xs (z .rests) refl (putOf (s .block) (s .table) law x xs) refl
   call-made (delete x) = delete-made x (deleteOf (s .block) (s .table) x) refl
-
   call-made (swap old new) =
       let c = swapOf (s .block) (s .table) old new (deleteOf (s .block) (s .table) old) in
       swap-made old c (swap-keeps old new c refl)
