@@ -1,5 +1,6 @@
 -- Pages as octets. A saved text has no octet 0 (`text-full`), so that it ends where a page says (`text-back`): a run on pages is a run on
--- their texts (`run-texts`), and the promise holds of them (`pages-lose-none`), where a page has room for the texts of a store of the size.
+-- their texts (`run-texts`), and the promise holds of them (`pages-lose-none`), where a page has room for the texts of a store of the size,
+-- as it has with the octets that are asked for (`page-loses-none`).
 use Prim.Native.Nat.{ℕ, zero, suc, _+_, _*_, _/_, _%_, _≤_, _<_, min}
 use mathlib.Core.Path.{_≡_, refl, sym, ap, subst, _∙_}
 use mathlib.Core.List.{List, [], _∷_, _++_, append-assoc}
@@ -32,6 +33,8 @@ use Rattle.store_promises.specs.Told.{putting, deleting, Store, rowsIn, notesFo
 use Rattle.store_promises.specs.Kept.{Good}
 use Rattle.store_promises.proofs.Contents.{length-written}
 use Rattle.store_promises.proofs.Granted.{delete-back}
+use Rattle.store_promises.specs.Long.{mostText}
+use Rattle.store_promises.proofs.Long.{text-most}
 use Rattle.store_promises.proofs.Promises.{Keeps, call-kept}
 use Rattle.store_moves.specs.declared.steps.State.{State}
 use Rattle.store_moves.specs.declared.steps.State.the-variants.{Still, Moving, Lifted}
@@ -419,3 +422,12 @@ pages-lose-none enough c z r (and-then g more) =
     let x = goes-texts enough c z r g in
     let h = entry-holds z c (x .0) in
     and-then (h .1) (pages-lose-none enough c (h .0) (x .1) more)
+
+-- "A page has at least 7 + 32 * 66 + 23 * (size / 64 + 32) octets; no text is longer."
+page-enough : (size : ℕ) → Enough size (mostText (min size largestBlock))
+page-enough size s k = rw (k .long) at (text-most k)
+
+pub page-loses-none : {size : ℕ} {t : List ℕ} {l : Lasting} {es : List Entry} {ms : List Lasting}
+    → storeCells (min size largestBlock) ≤ length t → Ready size t (textsOf l) → Roomy (mostText (min size largestBlock)) l
+    → Each (GoesOn t) l es ms → Each (λ k e m. Holds t (textsOf k) e (textsOf m)) l es ms
+page-loses-none {size} c z r g = pages-lose-none (page-enough size) c z r g
