@@ -31,7 +31,8 @@ pub extern "C" fn g7110_read(
     out: &mut [u8],
     report: &mut [u64; 5],
 ) -> u32
-    ensures { λ r. ⌜ ReadReported (readOne (now (octets .entry)) law set (length (now (out .entry)))) (now (out .entry)) (now (out .exit)) (now (report .exit)) r ⌝ }
+    ensures { λ r. ⌜ ReadReported (readOne (now (octets .entry)) law set (length (now (out .entry))))
+        (now (out .entry)) (now (out .exit)) (now (report .exit)) r ⌝ }
 {
     let a = reader::read_frame(octets, law, set, out);
     *report = [
@@ -54,7 +55,8 @@ pub extern "C" fn g7110_walk(
     out: &mut [u8],
     report: &mut [u64; 5],
 ) -> u32
-    ensures { λ r. ⌜ WalkReported (walkAll (now (octets .entry)) law set (length (now (out .entry)))) (now (out .entry)) (now (out .exit)) (now (report .exit)) r ⌝ }
+    ensures { λ r. ⌜ WalkReported (walkAll (now (octets .entry)) law set (length (now (out .entry))))
+        (now (out .entry)) (now (out .exit)) (now (report .exit)) r ⌝ }
 {
     let a = walk::walk(octets, law, set, out);
     let end = a.end;
@@ -78,7 +80,8 @@ pub extern "C" fn g7110_write(
     out: &mut [u8],
     report: &mut [u64; 3],
 ) -> u32
-    ensures { λ r. ⌜ WriteReported (writeOne (length (now (samples .entry))) (now (samples .entry)) law set (length (now (out .entry)))) (now (out .entry)) (now (out .exit)) (now (report .exit)) r ⌝ }
+    ensures { λ r. ⌜ WriteReported (writeOne (length (now (samples .entry))) (now (samples .entry)) law set (length (now (out .entry))))
+        (now (out .entry)) (now (out .exit)) (now (report .exit)) r ⌝ }
 {
     let a = writer::write_samples(samples, law, set, out);
     *report = [a.octets as u64, a.bits as u64, a.tool as u64];
@@ -95,7 +98,8 @@ pub extern "C" fn g7110_why(
     text: &mut [u8; 512],
     report: &mut [u64; 1],
 ) -> u32
-    ensures { λ r. ⌜ WhyReported (whyOne (length (now (samples .entry))) (now (samples .entry)) law set) (now (text .entry)) (now (text .exit)) (now (report .exit)) r ⌝ }
+    ensures { λ r. ⌜ WhyReported (whyOne (length (now (samples .entry))) (now (samples .entry)) law set)
+        (now (text .entry)) (now (text .exit)) (now (report .exit)) r ⌝ }
 {
     match reasoning::why_samples(samples, law, set) {
         Why::Refused(why) => {
@@ -113,7 +117,8 @@ pub extern "C" fn g7110_why(
 // A frame of octets to linear values.
 #[no_mangle]
 pub extern "C" fn g7110_to_linear(samples: &[u8], law: u32, out: &mut [i16]) -> u32
-    ensures { λ r. ⌜ Converted law (length (now (samples .entry))) (map (toPCM law) (now (samples .entry))) (now (out .entry)) (now (out .exit)) r ⌝ }
+    ensures { λ r. ⌜ Converted law (length (now (samples .entry))) (map (toPCM law) (now (samples .entry)))
+        (now (out .entry)) (now (out .exit)) r ⌝ }
 {
     let end = linear::to_linear(samples, law, out);
     rules::number_of(end)
@@ -122,7 +127,8 @@ pub extern "C" fn g7110_to_linear(samples: &[u8], law: u32, out: &mut [i16]) -> 
 // A frame of linear values to octets.
 #[no_mangle]
 pub extern "C" fn g7110_from_linear(linear: &[i16], law: u32, out: &mut [u8]) -> u32
-    ensures { λ r. ⌜ Converted law (length (now (linear .entry))) (map (fromPCM law) (now (linear .entry))) (now (out .entry)) (now (out .exit)) r ⌝ }
+    ensures { λ r. ⌜ Converted law (length (now (linear .entry))) (map (fromPCM law) (now (linear .entry)))
+        (now (out .entry)) (now (out .exit)) r ⌝ }
 {
     let end = linear::from_linear(linear, law, out);
     rules::number_of(end)
@@ -217,7 +223,8 @@ pub extern "C" fn g7110_mend(
     out: &mut [u8],
     report: &mut [u64; 4],
 ) -> u32
-    ensures { λ r. ⌜ MendReported (mendOf (now (octets .entry)) law total (length (now (out .entry)))) (now (out .entry)) (now (out .exit)) (now (report .exit)) r ⌝ }
+    ensures { λ r. ⌜ MendReported (mendOf (now (octets .entry)) law total (length (now (out .entry))))
+        (now (out .entry)) (now (out .exit)) (now (report .exit)) r ⌝ }
 {
     let a = mending::mend(octets, law, total, out);
     *report = [
@@ -249,7 +256,8 @@ pub extern "C" fn g7110_store_put(
     octets: &[u8],
     report: &mut [u64; 2],
 ) -> u32
-    ensures { λ r. ⌜ PutReported law number (now (octets .entry)) (now (block .entry)) (now (table .entry)) (now (block .exit)) (now (table .exit)) (now (report .exit)) r ⌝ }
+    ensures { λ r. ⌜ PutReported law number (now (octets .entry)) (now (block .entry)) (now (table .entry))
+        (now (block .exit)) (now (table .exit)) (now (report .exit)) r ⌝ }
 {
     let a = store::put(block, table, law, number, octets);
     let start = store::first_of(a);
@@ -284,7 +292,8 @@ pub extern "C" fn g7110_store_delete(block: &[u8], table: &mut [u32], number: u3
     store::number_of(a)
 }
 
-// Jumping to a sample of one: the number, and in the report the frame that holds it, its octet place, the sample's place in it, and the frames read.
+// Jumping to a sample of one: the number, and in the report the frame that holds it, its octet place, the sample's place in it, and the
+// frames read.
 #[no_mangle]
 pub extern "C" fn g7110_store_jump(
     block: &[u8],
@@ -316,7 +325,8 @@ pub extern "C" fn g7110_file_read(
     items: &mut [u16],
     report: &mut [u64; 6],
 ) -> u32
-    ensures { λ r. ⌜ FileReadReported (readFile (now (octets .entry)) set (length (now (out .entry))) (length (now (items .entry)))) (now (out .entry)) (now (out .exit)) (now (items .entry)) (now (items .exit)) (now (report .exit)) r ⌝ }
+    ensures { λ r. ⌜ FileReadReported (readFile (now (octets .entry)) set (length (now (out .entry))) (length (now (items .entry))))
+        (now (out .entry)) (now (out .exit)) (now (items .entry)) (now (items .exit)) (now (report .exit)) r ⌝ }
 {
     let a = recording_read::read_file(octets, set, out, items);
     let end = a.end;
@@ -342,7 +352,8 @@ pub extern "C" fn g7110_file_write(
     out: &mut [u8],
     report: &mut [u64; 1],
 ) -> u32
-    ensures { λ r. ⌜ FileWriteReported (writeFile (now (samples .entry)) (now (items .entry)) law set (length (now (out .entry)))) (now (out .entry)) (now (out .exit)) (now (report .exit)) r ⌝ }
+    ensures { λ r. ⌜ FileWriteReported (writeFile (now (samples .entry)) (now (items .entry)) law set (length (now (out .entry))))
+        (now (out .entry)) (now (out .exit)) (now (report .exit)) r ⌝ }
 {
     let a = recording_write::write_file(samples, items, law, set, out);
     *report = [a.octets as u64];
@@ -411,7 +422,8 @@ pub extern "C" fn g7110_move_step(
     words: &[u32; 8],
     next: &mut [u32; 8],
 ) -> u32
-    ensures { λ r. ⌜ MoveStep (now (block .entry)) (now (spare .entry)) (now (words .entry)) (now (next .entry)) (now (block .exit)) (now (spare .exit)) (now (next .exit)) r ⌝ }
+    ensures { λ r. ⌜ MoveStep (now (block .entry)) (now (spare .entry)) (now (words .entry)) (now (next .entry))
+        (now (block .exit)) (now (spare .exit)) (now (next .exit)) r ⌝ }
 {
     store_moves::steps::move_step(block, spare, words, next)
 }

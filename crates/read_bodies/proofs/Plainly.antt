@@ -53,5 +53,5 @@ module _ (s old : List ℕ) (n : ℕ) {b : Plain} {new : List ℕ} where
   pub laid-same : {x bits : ℕ} → b ≡ Same x bits → new ≡ replicate n x ++ drop n old → new ≡ atStart (laidBy b s n) old
   laid-same {x} e p = p ∙ rw (e, length-replicate n x)
 
-pub lies-as : {b kind : Plain} (s cells : List ℕ) (n : ℕ) → b ≡ kind → Lies b s n cells → Lies kind s n cells
-lies-as s cells n e l = subst (λ (b : Plain). Lies b s n cells) e l
+pub lies-as : {b kind : Plain} (s : List ℕ) (n room : ℕ) → b ≡ kind → Lies b s n room → Lies kind s n room
+lies-as s n room e l = subst (λ (b : Plain). Lies b s n room) e l

@@ -21,8 +21,8 @@ PlainIs found octets n (Short bit) = found ≡ refuse Cut bit
 PlainIs found octets n Octets = (found ≡ whole (take n (drop 1 octets)) (8 + 8 * n)) × (n < length octets)
 PlainIs found octets n (Same x bits) = (found ≡ whole (replicate n x) bits) × (fillFor bits ≡ 0)
 
--- there is room for it
-abbrev pub Lies : Plain → List ℕ → ℕ → List ℕ → Type 0
-Lies (Short bit) octets n cells = Unit {0}
-Lies Octets octets n cells = (n < length octets) × (n ≤ length cells)
-Lies (Same x bits) octets n cells = n ≤ length cells
+-- its octets are there, and room for it
+abbrev pub Lies : Plain → List ℕ → ℕ → ℕ → Type 0
+Lies (Short bit) octets n room = Unit {0}
+Lies Octets octets n room = (n < length octets) × (n ≤ room)
+Lies (Same x bits) octets n room = n ≤ room

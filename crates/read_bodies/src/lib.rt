@@ -1,4 +1,5 @@
-// The bodies of tools 5 and 6, each into a lent frame buffer; what a refused body leaves there is not looked at. Those of 1 to 4 are in `plain`.
+// The bodies of tools 5 and 6, each into a lent frame buffer; what a refused body leaves there is not looked at.
+// Those of 1 to 4 are in `plain`.
 pub mod plain;
 
 ghost use mathlib.Core.Path.{_≡_};
@@ -25,7 +26,8 @@ fn zero_of(flag: u8, mark: u8, mask: u8) -> u8
 // "Binary: N bits, 1 is minus zero."
 pub fn binary(octets: &[u8], at: usize, n: usize, mask: u8, samples: &mut [u8; 320]) -> Outcome
     requires { ⌜ (at ≤ 2 ^ 37) × (n ≤ 320) × (mask < 128) × (length (now samples) ≡ 320) ⌝ }
-    ensures { λ r. ⌜ FillsBody (bitsAsZeros mask n (bitsOf (now (octets .entry))) at) (at + n) (now (samples .entry)) (now (samples .exit)) r ⌝ }
+    ensures { λ r. ⌜ FillsBody (bitsAsZeros mask n (bitsOf (now (octets .entry))) at) (at + n)
+        (now (samples .entry)) (now (samples .exit)) r ⌝ }
 {
     let common = zero_of(0, 0, mask);
     let other = zero_of(1, 0, mask);
@@ -58,7 +60,8 @@ pub fn plus_minus(
     samples: &mut [u8; 320],
 ) -> Outcome
     requires { ⌜ (at ≤ 2 ^ 37) × (n ≤ 320) × (mask < 128) × (length (now samples) ≡ 320) ⌝ }
-    ensures { λ r. ⌜ FillsBody (plusMinus mask n mark (bitsOf (now (octets .entry))) at) (at + 106000) (now (samples .entry)) (now (samples .exit)) r ⌝ }
+    ensures { λ r. ⌜ FillsBody (plusMinus mask n mark (bitsOf (now (octets .entry))) at) (at + 106000)
+        (now (samples .entry)) (now (samples .exit)) r ⌝ }
 {
     let common = zero_of(0, mark, mask);
     let other = zero_of(1, mark, mask);

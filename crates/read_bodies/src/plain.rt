@@ -61,7 +61,7 @@ fn lay_octets(octets: &[u8], n: usize, cells: &mut [u8])
 
 // The samples of a plain body to the start of some cells; the rest of them stays as lent.
 pub fn lay(body: Plain, octets: &[u8], n: usize, cells: &mut [u8])
-    requires { ⌜ Lies body (now octets) n (now cells) ⌝ }
+    requires { ⌜ Lies body (now octets) n (length (now cells)) ⌝ }
     ensures { λ _. ⌜ now (cells .exit) ≡ atStart (laidBy body (now (octets .entry)) n) (now (cells .entry)) ⌝ }
 {
     match body {

@@ -50,7 +50,8 @@ fn places(
     other: u8,
 ) -> Outcome
     requires { ⌜ (at ≤ 2 ^ 38) × (d ≤ 320) × (width ≤ 9) × (count ≤ 4) × (length (now cells) ≡ 320) ⌝ }
-    ensures { λ r. ⌜ MarksCells (listedFrom width d [] count (bitsOf (now (octets .entry))) at) d (at + 36) common other (now (cells .entry)) (now (cells .exit)) r ⌝ }
+    ensures { λ r. ⌜ MarksCells (listedFrom width d [] count (bitsOf (now (octets .entry))) at) d (at + 36) common other
+        (now (cells .entry)) (now (cells .exit)) r ⌝ }
 {
     read_runs::fill(cells, d, common);
     let mut least = 0;
@@ -85,7 +86,8 @@ fn listed(
     other: u8,
 ) -> Outcome
     requires { ⌜ (at + 2 ≤ 2 ^ 38) × (d ≤ 320) × (length (now cells) ≡ 320) ⌝ }
-    ensures { λ r. ⌜ MarksCells (listing d (bitsOf (now (octets .entry))) at) d (at + 38) common other (now (cells .entry)) (now (cells .exit)) r ⌝ }
+    ensures { λ r. ⌜ MarksCells (listing d (bitsOf (now (octets .entry))) at) d (at + 38) common other
+        (now (cells .entry)) (now (cells .exit)) r ⌝ }
 {
     match read_bits::number(octets, at, 2) {
         Outcome::Refused(why, bit) => Outcome::Refused(why, bit),
@@ -108,7 +110,8 @@ fn by_method(
     other: u8,
 ) -> Outcome
     requires { ⌜ (at + 2 ≤ 2 ^ 38) × (n ≤ 320) × (d ≤ 320) × (length (now cells) ≡ 320) ⌝ }
-    ensures { λ r. ⌜ MarksCells (byMethod n d start m (bitsOf (now (octets .entry))) at) d (at + 105600) common other (now (cells .entry)) (now (cells .exit)) r ⌝ }
+    ensures { λ r. ⌜ MarksCells (byMethod n d start m (bitsOf (now (octets .entry))) at) d (at + 105600) common other
+        (now (cells .entry)) (now (cells .exit)) r ⌝ }
 {
     if m == 0 {
         return read_runs::straight(octets, at, d, cells, common, other);
@@ -138,7 +141,8 @@ fn value(
     x: u8,
 ) -> Outcome
     requires { ⌜ (at + 5 ≤ 2 ^ 38) × (n ≤ 320) × (d ≤ 320) × (length (now cells) ≡ 320) ⌝ }
-    ensures { λ r. ⌜ MarksCells (flagsOf n d (bitsOf (now (octets .entry))) at) d (at + 105603) plus x (now (cells .entry)) (now (cells .exit)) r ⌝ }
+    ensures { λ r. ⌜ MarksCells (flagsOf n d (bitsOf (now (octets .entry))) at) d (at + 105603) plus x
+        (now (cells .entry)) (now (cells .exit)) r ⌝ }
 {
     match read_bits::number(octets, at, 3) {
         Outcome::Refused(why, bit) => Outcome::Refused(why, bit),
@@ -190,8 +194,10 @@ fn later(
     xs: &[u8; 3],
     count: usize,
 ) -> Outcome
-    requires { ⌜ (at ≤ 2 ^ 37 + 105606) × (n ≤ 320) × (0 < count) × (count ≤ 3) × Apart plus (take count (now xs)) × (length (now xs) ≡ 3) × (length (now cells) ≡ 320) × (left ≡ emptyIn plus (take n (now cells))) × (left ≤ n) ⌝ }
-    ensures { λ r. ⌜ LaysCells (valuesInto n plus (drop 1 (take count (now (xs .entry)))) (take n (now (cells .entry))) (bitsOf (now (octets .entry))) at) n (at + 211206) (now (cells .entry)) (now (cells .exit)) r ⌝ }
+    requires { ⌜ (at ≤ 2 ^ 37 + 105606) × (n ≤ 320) × (0 < count) × (count ≤ 3) × Apart plus (take count (now xs))
+        × (length (now xs) ≡ 3) × (length (now cells) ≡ 320) × (left ≡ emptyIn plus (take n (now cells))) × (left ≤ n) ⌝ }
+    ensures { λ r. ⌜ LaysCells (valuesInto n plus (drop 1 (take count (now (xs .entry)))) (take n (now (cells .entry))) (bitsOf (now (octets .entry))) at) n (at + 211206)
+        (now (cells .entry)) (now (cells .exit)) r ⌝ }
 {
     let mut marks = [0; 320];
     let mut empty = left;
@@ -223,8 +229,10 @@ fn values(
     xs: &[u8; 3],
     count: usize,
 ) -> Outcome
-    requires { ⌜ (at ≤ 2 ^ 37 + 3) × (n ≤ 320) × (0 < count) × (count ≤ 3) × Apart plus (take count (now xs)) × (length (now xs) ≡ 3) × (length (now cells) ≡ 320) ⌝ }
-    ensures { λ r. ⌜ LaysCells (valuesInto n plus (take count (now (xs .entry))) (replicate n plus) (bitsOf (now (octets .entry))) at) n (at + 316809) (now (cells .entry)) (now (cells .exit)) r ⌝ }
+    requires { ⌜ (at ≤ 2 ^ 37 + 3) × (n ≤ 320) × (0 < count) × (count ≤ 3) × Apart plus (take count (now xs))
+        × (length (now xs) ≡ 3) × (length (now cells) ≡ 320) ⌝ }
+    ensures { λ r. ⌜ LaysCells (valuesInto n plus (take count (now (xs .entry))) (replicate n plus) (bitsOf (now (octets .entry))) at) n (at + 316809)
+        (now (cells .entry)) (now (cells .exit)) r ⌝ }
 {
     match value(octets, at, n, n, cells, plus, xs[0]) {
         Outcome::Refused(why, bit) => Outcome::Refused(why, bit),
@@ -256,7 +264,8 @@ fn no_row() -> Row
     some(0, 0, 0, 0)
 }
 
-// The table of range cases: flag 1 begins with 1, flag 0 with -1. A mask is odd, so the octets of 1, -1 and -2 are 127 + mask, the mask, and the mask less 1.
+// The table of range cases: flag 1 begins with 1, flag 0 with -1. A mask is odd, so the octets of 1, -1 and -2 are 127 + mask, the mask,
+// and the mask less 1.
 fn row_of(n: usize, case: usize, flag: usize, mask: u8) -> Row
     requires { ⌜ (mask < 128) × (mask % 2 ≡ 1) ⌝ }
     ensures { λ r. ⌜ RowOf (map (sampleOf mask) (valuesOf n case flag)) r ⌝ }
@@ -296,7 +305,8 @@ fn row_of(n: usize, case: usize, flag: usize, mask: u8) -> Row
 // "Range case (2 bits), flag (1 bit), then the values in turn"; CASE is judged of all three bits and N together.
 pub fn located(octets: &[u8], at: usize, n: usize, mask: u8, samples: &mut [u8; 320]) -> Outcome
     requires { ⌜ (at ≤ 2 ^ 37) × (n ≤ 320) × (mask < 128) × (mask % 2 ≡ 1) × (length (now samples) ≡ 320) ⌝ }
-    ensures { λ r. ⌜ FillsBody (locates mask n (bitsOf (now (octets .entry))) at) (at + 400000) (now (samples .entry)) (now (samples .exit)) r ⌝ }
+    ensures { λ r. ⌜ FillsBody (locates mask n (bitsOf (now (octets .entry))) at) (at + 400000)
+        (now (samples .entry)) (now (samples .exit)) r ⌝ }
 {
     match read_bits::number(octets, at, 2) {
         Outcome::Refused(why, bit) => Outcome::Refused(why, bit),

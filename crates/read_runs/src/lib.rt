@@ -131,7 +131,8 @@ pub fn runs(
     other: u8,
 ) -> Outcome
     requires { ⌜ (at ≤ 2 ^ 38) × (n ≤ 320) × (s ≤ 9) × (d ≤ 320) × (length (now cells) ≡ 320) ⌝ }
-    ensures { λ r. ⌜ MarksCells (runsOver n s d (bitsOf (now (octets .entry))) at) d (at + 330 * d) common other (now (cells .entry)) (now (cells .exit)) r ⌝ }
+    ensures { λ r. ⌜ MarksCells (runsOver n s d (bitsOf (now (octets .entry))) at) d (at + 330 * d) common other
+        (now (cells .entry)) (now (cells .exit)) r ⌝ }
 {
     fill(cells, d, common);
     let mut filled = 0;
@@ -184,7 +185,8 @@ fn kind(flag: u16, common: u8, other: u8) -> u8
 // The n low bits of v, highest first, as cells from a place on: at most eight, so that the compiler lays them at once.
 fn few(cells: &mut [u8; 320], from: usize, v: u16, n: usize, common: u8, other: u8)
     requires { ⌜ (from + n ≤ 320) × (n ≤ 8) × (length (now cells) ≡ 320) ⌝ }
-    ensures { λ _. ⌜ Put (now (cells .entry)) from (kinds common other (lowBits n v)) (now (cells .exit)) × (length (now (cells .exit)) ≡ 320) ⌝ }
+    ensures { λ _. ⌜ Put (now (cells .entry)) from (kinds common other (lowBits n v)) (now (cells .exit))
+        × (length (now (cells .exit)) ≡ 320) ⌝ }
 {
     for j in 0..n {
         cells[from + j] = kind((v >> (n - (j + 1))) % 2, common, other);
@@ -240,7 +242,8 @@ pub fn straight(
     other: u8,
 ) -> Outcome
     requires { ⌜ (at ≤ 2 ^ 38) × (d ≤ 320) × (length (now cells) ≡ 320) ⌝ }
-    ensures { λ r. ⌜ MarksCells (bitsFrom [] d (bitsOf (now (octets .entry))) at) d (at + d) common other (now (cells .entry)) (now (cells .exit)) r ⌝ }
+    ensures { λ r. ⌜ MarksCells (bitsFrom [] d (bitsOf (now (octets .entry))) at) d (at + d) common other
+        (now (cells .entry)) (now (cells .exit)) r ⌝ }
 {
     let mut filled = 0;
     let mut count = 0;

@@ -4,7 +4,7 @@
 ghost use mathlib.Core.Path.{_≡_};
 ghost use Prim.Native.Nat.{_+_, _-_, _≤_, _<_};
 ghost use mathlib.Core.List.{_++_};
-ghost use lib.ListN.{length, getD, take, drop};
+ghost use lib.ListN.{length, getD, take, drop, set};
 ghost use lib.Dec.{eqb};
 ghost use Rattle.rules.specs.Samples.{maskOf};
 ghost use Rattle.rules.specs.Chooses.{every};
@@ -143,9 +143,28 @@ fn item_at(
 // An item's sound, to the output from `to` on.
 fn put_sound(samples: &[u8], n: usize, out: &mut [u8], to: usize)
     requires { ⌜ (n ≤ length (now samples)) × (to + n ≤ length (now out)) ⌝ }
-    ensures { λ r. ⌜ now (out .exit) ≡ take to (now (out .entry)) ++ (take n (now (samples .entry)) ++ drop n (drop to (now (out .entry)))) ⌝ }
+    ensures { λ r. ⌜ now (out .exit) ≡ take to (now (out .entry))
+        ++ (take n (now (samples .entry)) ++ drop n (drop to (now (out .entry)))) ⌝ }
 {
     reader::put_out(samples, n, &mut out[to..]);
+}
+
+// An item's sound put out, and the item as a number behind those before it.
+fn put_item(
+    samples: &[u8],
+    n: usize,
+    out: &mut [u8],
+    to: usize,
+    cell: u16,
+    cells: &mut [u16],
+    count: usize,
+)
+    requires { ⌜ (n ≤ length (now samples)) × (to + n ≤ length (now out)) × (count < length (now cells)) ⌝ }
+    ensures { λ _. ⌜ (now (out .exit) ≡ take to (now (out .entry)) ++ (take n (now (samples .entry)) ++ drop n (drop to (now (out .entry)))))
+        × (now (cells .exit) ≡ set (now (cells .entry)) count cell) ⌝ }
+{
+    put_sound(samples, n, out, to);
+    cells[count] = cell;
 }
 
 // What was read so far, as an answer.
@@ -172,19 +191,14 @@ pub fn play_on(
     out: &mut [u8],
     cells: &mut [u16],
 ) -> Played
-    ensures { λ r. ⌜ PlayOn (now (octets .entry)) law set at items (now (out .entry)) (now (out .exit)) (now (cells .entry)) (now (cells .exit)) r ⌝ }
+    ensures { λ r. ⌜ PlayOn (now (octets .entry)) law set at items (now (out .entry)) (now (out .exit))
+        (now (cells .entry)) (now (cells .exit)) r ⌝ }
 {
     let mut samples = [0u8; 320];
     let mut place = at;
     let mut to = 0;
     let mut count = 0;
-    loop {
-        if items <= count {
-            return so_far(Ending::Done, count, place, to, 0);
-        }
-        if octets.len() <= place {
-            return so_far(Ending::Done, count, place, to, 0);
-        }
+    while count < items && place < octets.len() {
         if cells.len() <= count {
             let why = Refusal::Frame(rules::Refusal::Room);
             return so_far(Ending::Refused(why), count, place, to, 0);
@@ -197,14 +211,14 @@ pub fn play_on(
                 return so_far(Ending::Refused(of), count, place, to, r.bit);
             }
             rules::Ending::Done => {
-                put_sound(&samples, r.len, out, to);
-                cells[count] = r.cell;
+                put_item(&samples, r.len, out, to, r.cell, cells, count);
                 place += r.octets;
                 to += r.len;
                 count += 1;
             }
         }
     }
+    so_far(Ending::Done, count, place, to, 0)
 }
 
 // What the heading says: a law, or nothing that is one.
@@ -239,7 +253,8 @@ fn unread(why: Refusal, law: u32) -> FileRead
 // The items after the heading, all of them.
 fn read_items(octets: &[u8], law: u32, set: u32, out: &mut [u8], cells: &mut [u16]) -> FileRead
     requires { ⌜ (headingLength ≤ length (now octets)) × (length (now octets) - headingLength ≤ longest) ⌝ }
-    ensures { λ r. ⌜ ReadItems (now (octets .entry)) law set (now (out .entry)) (now (out .exit)) (now (cells .entry)) (now (cells .exit)) r ⌝ }
+    ensures { λ r. ⌜ ReadItems (now (octets .entry)) law set (now (out .entry)) (now (out .exit))
+        (now (cells .entry)) (now (cells .exit)) r ⌝ }
 {
     let items = octets.len() - HEADING + 1;
     let r = play_on(&octets[HEADING..], law, set, 0, items, out, cells);

@@ -1,5 +1,6 @@
 // The chain closed: a frame is written into a lent buffer, read back from what was written, and restored.
-// No call of ours asks it: it stands here because document 01 wants a frame by value that travels between crates, and demand 2 of the code itself.
+// No call of ours asks it: it stands here because document 01 wants a frame by value that travels between crates, and demand 2 of the
+// code itself.
 ghost use Rattle.round_trip.specs.Returned.{Returns};
 use rules::Frame;
 use rules::ReadAnswer;

@@ -1,4 +1,5 @@
-// The vocabulary of document 01: a frame, the thirteen refusals, the limits with what is asked before all else, and the answers of the three calls.
+// The vocabulary of document 01: a frame, the thirteen refusals, the limits with what is asked before all else, and the answers of the
+// three calls.
 // What each case and each answer means stands in specs/.
 ghost use mathlib.Core.Path.{_≡_};
 ghost use Rattle.rules.specs.Refusals.{refusalNumber, refusalTool, numberOf, toolNamed, verdict};

@@ -4,7 +4,8 @@ ghost use Prim.Native.Nat.{_+_, _≤_};
 ghost use mathlib.Core.Path.{_≡_};
 ghost use lib.ListN.{length};
 ghost use mathlib.Core.List.{_++_};
-ghost use Rattle.rules.specs.Listing.{lineEnd, toolWord, octetsWord, bitsWord, decimal, field, lawLine, frameLine, stopFields, stopLine, samplesLine};
+ghost use Rattle.rules.specs.Listing.{lineEnd, toolWord, octetsWord, bitsWord, decimal, field};
+ghost use Rattle.rules.specs.Listing.{lawLine, frameLine, stopFields, stopLine, samplesLine};
 ghost use Rattle.text_lines.specs.Puts.{Puts, Spells};
 
 pub fn put_word(word: &[u8], out: &mut [u8], at: usize) -> usize
@@ -128,7 +129,8 @@ pub fn pack_line(number: usize, place: usize, tool: usize, out: &mut [u8], at: u
 // The second half of a frame's line: its tool, its octets and its bits.
 fn put_reading(tool: usize, octets: usize, bits: usize, out: &mut [u8], at: usize) -> usize
     requires { ⌜ at + 81 ≤ length (now out) ⌝ }
-    ensures { λ r. ⌜ Puts (now (out .entry)) at (field toolWord tool ++ (field octetsWord octets ++ (field bitsWord bits ++ lineEnd))) (now (out .exit)) r ⌝ }
+    ensures { λ r. ⌜ Puts (now (out .entry)) at (field toolWord tool ++ (field octetsWord octets ++ (field bitsWord bits ++ lineEnd)))
+        (now (out .exit)) r ⌝ }
     ensures most { λ r. ⌜ r ≤ at + 81 ⌝ }
 {
     let t = put_field(b" tool=", tool, out, at);

@@ -1,6 +1,6 @@
 // Walking a stream: "each next frame starts where the last one ended, in the middle of the same octets".
-// Two loops over one invariant (proofs/Along): `walk_on` keeps no samples, `keep_on` puts them into a lent output. Both go from a place on, up to
-// the stream's end, a refused frame, or so many frames, and can be taken up again where they ended (proofs/Walk of rules).
+// Two loops over one invariant (proofs/Along): `walk_on` keeps no samples, `keep_on` puts them into a lent output. Both go from a place on,
+// up to the stream's end, a refused frame, or so many frames, and can be taken up again where they ended (proofs/Walk of rules).
 ghost use mathlib.Core.Path.{_≡_};
 ghost use Prim.Native.Nat.{_≤_};
 ghost use lib.ListN.{length, drop};
@@ -96,12 +96,6 @@ pub fn walk_on(
     answer(Ending::Done, passed, place - at, room - left, place, 0)
 }
 
-// How a walk stops, and the refusal's bit.
-struct Stop {
-    end: Ending,
-    bit: usize,
-}
-
 // The same walk, its samples put into the output, whose length is the room.
 pub fn keep_on(
     octets: &[u8],
@@ -111,54 +105,31 @@ pub fn keep_on(
     frames: usize,
     out: &mut [u8],
 ) -> WalkAnswer
-    ensures { λ r. ⌜ Walks (walkFrom frames (now (octets .entry)) law set at (length (now (out .entry)))) r (now (out .entry)) (now (out .exit)) ⌝ }
+    ensures { λ r. ⌜ Walks (walkFrom frames (now (octets .entry)) law set at (length (now (out .entry))))
+        r (now (out .entry)) (now (out .exit)) ⌝ }
 {
     let mut place = at;
-    let mut used = 0;
     let mut to = 0;
     let mut count = 0;
-    let stop = 'frames: loop {
-        if frames <= count {
-            break 'frames Stop {
-                end: Ending::Done,
-                bit: 0,
-            };
-        }
-        if octets.len() <= place {
-            break 'frames Stop {
-                end: Ending::Done,
-                bit: 0,
-            };
-        }
+    while count < frames && place < octets.len() {
         let r = step(octets, law, set, place, out, to);
         let e = r.end;
         match e {
             Ending::Refused(why) => {
-                break 'frames Stop {
-                    end: Ending::Refused(why),
-                    bit: r.bit,
-                };
+                return answer(Ending::Refused(why), count, place - at, to, place, r.bit);
             }
             Ending::Done => {
                 place += r.octets;
-                used += r.octets;
                 to += r.len;
                 count += 1;
             }
         }
-    };
-    let end = stop.end;
-    WalkAnswer {
-        end,
-        frames: count,
-        octets: used,
-        samples: to,
-        place,
-        bit: stop.bit,
     }
+    answer(Ending::Done, count, place - at, to, place, 0)
 }
 
-// Walking a stream. "LAW, SET and LONG refuse a walk before any frame, with place 0." Each frame has an octet, so as many frames are enough.
+// Walking a stream. "LAW, SET and LONG refuse a walk before any frame, with place 0." Each frame has an octet, so as many frames are
+// enough.
 pub fn walk(octets: &[u8], law: u32, set: u32, out: &mut [u8]) -> WalkAnswer
     ensures { λ r. ⌜ Walk (now (octets .entry)) law set (now (out .entry)) (now (out .exit)) r ⌝ }
 {
