@@ -19,16 +19,16 @@ use Rattle.read_bodies.proofs.WholeOctets.{octets-there, octets-cut}
 module _ (mask t n : ℕ) (s : List ℕ) where
   pub plus-is : {x : ℕ} → t ≡ 2 → x ≡ plusZero mask → PlainIs (body mask t n (bitsOf s) 8) s n (Same x 8)
   unfolding body
-  plus-is e f = rw (e, f) (refl, refl)
+  plus-is e f = rw (e, f) (refl, refl, omega arith)
 
   pub minus-is : {x : ℕ} → t ≡ 3 → x ≡ minusZero mask → PlainIs (body mask t n (bitsOf s) 8) s n (Same x 8)
   unfolding body
-  minus-is e f = rw (e, f) (refl, refl)
+  minus-is e f = rw (e, f) (refl, refl, omega arith)
 
   module _ (b : (i : ℕ) → getD s i 0 < 256) where
     pub constant-is : t ≡ 4 → 2 ≤ length s → PlainIs (body mask t n (bitsOf s) 8) s n (Same (getD s 1 0) 16)
     unfolding body
-    constant-is e h = rw (e, number-octet s 8 refl (omega arith) (b 1)) (refl, refl)
+    constant-is e h = rw (e, number-octet s 8 refl (omega arith) (b 1)) (refl, refl, omega arith)
 
     pub octets-are : t ≡ 1 → n < length s → PlainIs (body mask t n (bitsOf s) 8) s n Octets
     unfolding body

@@ -19,7 +19,7 @@ laidBy (Same x bits) octets n = replicate n x
 abbrev pub PlainIs : Read (List ℕ) → List ℕ → ℕ → Plain → Type 0
 PlainIs found octets n (Short bit) = found ≡ refuse Cut bit
 PlainIs found octets n Octets = (found ≡ whole (take n (drop 1 octets)) (8 + 8 * n)) × (n < length octets)
-PlainIs found octets n (Same x bits) = (found ≡ whole (replicate n x) bits) × (fillFor bits ≡ 0)
+PlainIs found octets n (Same x bits) = (found ≡ whole (replicate n x) bits) × (fillFor bits ≡ 0) × (bits ≤ 16)
 
 -- its octets are there, and room for it
 abbrev pub Lies : Plain → List ℕ → ℕ → ℕ → Type 0
