@@ -42,6 +42,11 @@ pub record Fills (found : Read Found) (r : Report) (buffer : List ℕ) : Type 0 
   pub samples : take (length (readSamples found)) buffer ≡ readSamples found
   pub size : length buffer ≡ 320
 
+-- the report alone; what is in the frame buffer is not told
+pub record Measures (found : Read Found) (r : Report) (buffer : List ℕ) : Type 0 where
+  pub tells : Tells found r
+  pub size : length buffer ≡ 320
+
 -- the samples stand at the start of the output, and the rest of it is as lent
 pub record ReadsInto (found : Read Found) (r : Report) (out out′ : List ℕ) : Type 0 where
   pub tells : Tells found r

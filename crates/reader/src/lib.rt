@@ -14,7 +14,7 @@ ghost use Rattle.rules.specs.Calls.{ReadFrame};
 ghost use Rattle.read_bodies.specs.Bodied.{FillsBody};
 ghost use Rattle.read_bits.specs.Outcomes.{asRead};
 ghost use Rattle.read_opening.specs.Opening.{bodyOf, HeadFits};
-ghost use Rattle.reader.specs.Answers.{Tells, Fills, Gives, ReadsInto, afterHead, finish};
+ghost use Rattle.reader.specs.Answers.{Tells, Fills, Measures, Gives, ReadsInto, afterHead, finish};
 use read_bits::Outcome;
 use read_bodies::plain::Plain;
 use read_bodies::plain::lay;
@@ -232,7 +232,8 @@ pub fn fill_frame(octets: &[u8], law: u32, set: u32, room: usize, samples: &mut 
     }
 }
 
-// The same report with no samples wanted: those of tools 1 to 4 are not laid. The frame buffer is for the others, and what is in it is not told.
+// The same report with no samples wanted: those of tools 1 to 4 are not laid. The frame buffer is for the others, and what is in it is not
+// told.
 pub fn measure_frame(
     octets: &[u8],
     law: u32,
@@ -241,7 +242,7 @@ pub fn measure_frame(
     samples: &mut [u8; 320],
 ) -> Report
     requires { ⌜ length (now samples) ≡ 320 ⌝ }
-    ensures { λ r. ⌜ (Tells (readOne (now (octets .entry)) law set room) r) × (length (now (samples .exit)) ≡ 320) ⌝ }
+    ensures { λ r. ⌜ Measures (readOne (now (octets .entry)) law set room) r (now (samples .exit)) ⌝ }
 {
     match opens(octets, law, set) {
         Opening::Refused(why, bit) => refused(why, bit),

@@ -22,26 +22,28 @@ with-tool-requires c κs =
 
 returns : tie.Need-returns
 returns c =
-    let opens = c .before .before .before .before .before .before .before in (
-      tells-as (opened (opens .opens .ensures) (c .before .before .before .before .before .h .given .1) _) (c .before .plain-frame .ensures .tells),
-      (start opens) .pre,
-    )
+    let opens = c .before .before .before .before .before .before .before in
+    let e = opened (opens .opens .ensures) (c .before .before .before .before .before .h .given .1) _ in
+    record { tells = tells-as e (c .before .plain-frame .ensures .tells); size = (start opens) .pre }
 
 returns-2 : tie.Need-returns-2
 returns-2 c =
     let opens = c .before .before .before .before in
-    (tells-as (opened (opens .opens .ensures) (c .before .before .why .given .1) _) (c .refused .ensures), (start opens) .pre)
+    let e = opened (opens .opens .ensures) (c .before .before .why .given .1) _ in
+    record { tells = tells-as e (c .refused .ensures); size = (start opens) .pre }
 
 returns-3 : tie.Need-returns-3
 returns-3 c =
     let opens = c .before .before .before in
-    (tells-as (opened (opens .opens .ensures) (c .before .enum-told .given .1) _) (c .pad .ensures), (start opens) .pre)
+    let e = opened (opens .opens .ensures) (c .before .enum-told .given .1) _ in
+    record { tells = tells-as e (c .pad .ensures); size = (start opens) .pre }
 
 returns-4 : tie.Need-returns-4
 returns-4 c =
     let opens = c .before .before .before .before .before .before .before in
     let f = c .with-tool .ensures in
-    (tells-as (opened (opens .opens .ensures) (c .before .before .before .before .before .h .given .1) _) (f .tells), f .size)
+    let e = opened (opens .opens .ensures) (c .before .before .before .before .before .h .given .1) _ in
+    record { tells = tells-as e (f .tells); size = f .size }
 
 pub measure-frame-spec : {M : Type 1} → statement M
 measure-frame-spec = tie.close (tie.spec (λ c κs. search needs) (λ c. search needs) (λ c κs. search needs) (λ c. search needs)
