@@ -1,3 +1,4 @@
+pub mod Plainly
 pub mod Poured
 pub mod Told
 pub mod WholeOctets

@@ -5,7 +5,7 @@ use mathlib.Core.List.{List, _++_}
 use native.Mathlib.Omega.{arith}
 use native.Mathlib.Nat.{zero-add}
 use native.Mathlib.Numerals.{add-one}
-use lib.ListN.{length, getD, set, take, drop, length-take, length-drop}
+use lib.ListN.{length, getD, set, take, drop, length-append, length-take, length-drop}
 use lib.Seq.{paste-suc, take-all}
 use Rattle.rules.specs.declared.Refusal.{Refusal}
 use Rattle.rules.specs.Reading.{Read, whole, refuse}
@@ -20,30 +20,31 @@ poured-turn s d i g h =
     let e = paste-suc d 0 s i 0 (rw zero-add h) g in
     rw (add-one i) (rw (zero-add i, zero-add (suc i)) at e)
 
--- the list poured is l, of at most 320
+-- the list poured is l
 pub record Poured (l old : List ℕ) (i : ℕ) (new : List ℕ) : Type 0 where
   pub so-far : new ≡ take i l ++ drop i old
   pub within : i ≤ length l
-  pub fits : length l ≤ 320
-  pub lent : length old ≡ 320
+  pub fits : length l ≤ length old
 
-pub poured-none : (l old : List ℕ) → length l ≤ 320 → length old ≡ 320 → Poured l old 0 old
-poured-none l old h k = record { so-far = refl; within = zero-le; fits = h; lent = k }
+pub poured-none : (l old : List ℕ) → length l ≤ length old → Poured l old 0 old
+poured-none l old h = record { so-far = refl; within = zero-le; fits = h }
 
 module _ {l old : List ℕ} {i : ℕ} {new : List ℕ} (p : Poured l old i new) where
   pub poured-next : {x : ℕ} → i < length l → x ≡ getD l i 0 → Poured l old (i + 1) (set new i x)
   poured-next {x} h e =
       let f = p .fits in
-      let k = p .lent in
-      record { so-far = rw (p .so-far, e) (poured-turn l old i h (omega arith)); within = omega arith; fits = f; lent = k }
+      record { so-far = rw (p .so-far, e) (poured-turn l old i h (omega arith)); within = omega arith; fits = f }
 
-  pub poured-all : {found : Read (List ℕ)} {far n next : ℕ} → length l ≤ i → found ≡ whole l next → n ≡ length l → next ≤ far
-      → FillsBody found far old new (Got n next)
-  poured-all {found} {far} {n} {next} h e s k =
+  pub poured-length : length new ≡ length old
+  poured-length =
+      ap length (p .so-far) ∙ length-append (take i l) (drop i old)
+      ∙ omega (arith, length-take i l, length-drop i old, p .within, p .fits)
+
+  pub poured-all : {n : ℕ} → length l ≡ n → n ≤ i → new ≡ l ++ drop n old
+  poured-all {n} s h =
       let w = p .within in
-      let q : i ≡ length l = omega arith in
-      let t : take i l ≡ l = take-all i l h in
-      rw (e, s) (record { end = refl; next = k; samples = (p .so-far ∙ rw (t, q), p .fits) })
+      let q : i ≡ n = omega arith in
+      p .so-far ∙ rw (take-all i l (omega arith), q)
 
 -- a list put in at the start
 pub fills-put : {l old new : List ℕ} → Put old 0 l new → {found : Read (List ℕ)} {far n next : ℕ} → found ≡ whole l next
@@ -62,6 +63,6 @@ fills-as {far = far} {old = old} {new = new} {r = r} t e k =
     subst (λ (m : Read (List ℕ)). FillsBody m far old new r) (sym e)
     (record { end = t .end; next = let n = t .next in omega arith; samples = t .samples })
 
--- n octets from one on
-pub part-length : (s : List ℕ) (from n : ℕ) → from + n ≤ length s → length (take n (drop from s)) ≡ n
-part-length s from n h = simp (length-take, length-drop) (omega arith)
+-- n octets behind the first one
+pub part-length : (s : List ℕ) (n : ℕ) → n < length s → length (take n (drop 1 s)) ≡ n
+part-length s n h = simp (length-take, length-drop) (omega arith)

@@ -1,51 +1,16 @@
-// The bodies of tools 1 to 6, each into a lent frame buffer; what a refused body leaves there is not looked at.
+// The bodies of tools 5 and 6, each into a lent frame buffer; what a refused body leaves there is not looked at.
+// Those of 1 to 4 are in `plain`.
+pub mod plain;
+
 ghost use mathlib.Core.Path.{_≡_};
-ghost use Prim.Native.Nat.{_+_, _*_, _^_, _/_, _%_, _≤_, _<_};
-ghost use lib.ListN.{length, replicate};
+ghost use Prim.Native.Nat.{_+_, _^_, _≤_, _<_};
+ghost use lib.ListN.{length};
 ghost use Rattle.rules.specs.Bits.{bitsOf};
-ghost use Rattle.rules.specs.Reading.{whole};
-ghost use Rattle.rules.specs.Zeros.{uncompressed as octetsOf, constant as constantly, binary as bitsAsZeros, plusMinus};
-ghost use Rattle.rules.specs.Zeros.{zeroOf, treeOf, readTree};
+ghost use Rattle.rules.specs.Zeros.{binary as bitsAsZeros, plusMinus, zeroOf, treeOf, readTree};
 ghost use Rattle.read_bits.specs.Outcomes.{Reads};
 ghost use Rattle.read_bodies.specs.Bodied.{FillsBody};
 use read_bits::Outcome;
 use rules::Refusal;
-
-// "Uncompressed: N octets", whole; the place is an octet's first bit.
-pub fn uncompressed(octets: &[u8], at: usize, n: usize, samples: &mut [u8; 320]) -> Outcome
-    requires { ⌜ (at ≤ 2 ^ 37) × (at % 8 ≡ 0) × (0 < n) × (n ≤ 320) × (length (now samples) ≡ 320) ⌝ }
-    ensures { λ r. ⌜ FillsBody (octetsOf n (bitsOf (now (octets .entry))) at) (at + 8 * n)
-        (now (samples .entry)) (now (samples .exit)) r ⌝ }
-{
-    let from = at / 8;
-    if octets.len() < from + n {
-        return Outcome::Refused(Refusal::Short, read_bits::missing(octets, at));
-    }
-    for i in 0..n {
-        samples[i] = octets[from + i];
-    }
-    Outcome::Got(n, at + 8 * n)
-}
-
-// "Plus, minus: nothing."
-pub fn filled(at: usize, n: usize, sample: u8, samples: &mut [u8; 320]) -> Outcome
-    requires { ⌜ (n ≤ 320) × (length (now samples) ≡ 320) ⌝ }
-    ensures { λ r. ⌜ FillsBody (whole (replicate n sample) at) at (now (samples .entry)) (now (samples .exit)) r ⌝ }
-{
-    read_runs::fill(samples, n, sample);
-    Outcome::Got(n, at)
-}
-
-// "Constant: one octet, any."
-pub fn constant(octets: &[u8], at: usize, n: usize, samples: &mut [u8; 320]) -> Outcome
-    requires { ⌜ (at ≤ 2 ^ 37) × (n ≤ 320) × (length (now samples) ≡ 320) ⌝ }
-    ensures { λ r. ⌜ FillsBody (constantly n (bitsOf (now (octets .entry))) at) (at + 8) (now (samples .entry)) (now (samples .exit)) r ⌝ }
-{
-    match read_bits::number(octets, at, 8) {
-        Outcome::Refused(why, bit) => Outcome::Refused(why, bit),
-        Outcome::Got(sample, next) => filled(next, n, sample as u8, samples),
-    }
-}
 
 // A zero by its flag: the mark is 1 where minus is the common kind. Plus zero is 128 and the law's mask, minus zero the mask.
 fn zero_of(flag: u8, mark: u8, mask: u8) -> u8

@@ -7,16 +7,18 @@ ghost use Rattle.rules.specs.Bits.{bitsOf, fillFor};
 ghost use Rattle.rules.specs.Reading.{whole, refuse, filled};
 ghost use mathlib.Core.Bool.{cond};
 ghost use lib.Dec.{eqb};
-ghost use Rattle.rules.specs.Samples.{maskOf};
 ghost use Rattle.rules.specs.Located.{located};
 ghost use Rattle.rules.specs.Fractional.{fractional};
-ghost use Rattle.rules.specs.Frame.{withTool, readOne};
+ghost use Rattle.rules.specs.Frame.{readOne};
 ghost use Rattle.rules.specs.Calls.{ReadFrame};
 ghost use Rattle.read_bodies.specs.Bodied.{FillsBody};
 ghost use Rattle.read_bits.specs.Outcomes.{asRead};
 ghost use Rattle.read_opening.specs.Opening.{bodyOf, HeadFits};
-ghost use Rattle.reader.specs.Answers.{Tells, Fills, ReadsInto, finish};
+ghost use Rattle.reader.specs.Answers.{Tells, Fills, Measures, Gives, ReadsInto, afterHead, finish};
 use read_bits::Outcome;
+use read_bodies::plain::Plain;
+use read_bodies::plain::lay;
+use read_bodies::plain::plain_of;
 use read_opening::Head;
 use read_opening::Opening;
 use read_opening::opens;
@@ -47,9 +49,9 @@ fn few_values(octets: &[u8], mask: u8, h: Head, samples: &mut [u8; 320]) -> Outc
     read_located::located(octets, h.at, h.len, mask, samples)
 }
 
-// The body of a tool that the set holds, into the lent samples.
+// The body of a tool that the set holds and that is none of 1 to 4, into the lent samples.
 fn body_of(octets: &[u8], mask: u8, h: Head, samples: &mut [u8; 320]) -> Outcome
-    requires { ⌜ (HeadFits h) × (mask < 128) × (mask % 2 ≡ 1) × (length (now samples) ≡ 320) ⌝ }
+    requires { ⌜ (HeadFits h) × (5 ≤ h .tool) × (mask < 128) × (mask % 2 ≡ 1) × (length (now samples) ≡ 320) ⌝ }
     ensures { λ r. ⌜ FillsBody (bodyOf mask h (bitsOf (now (octets .entry))) (h .at)) (2 ^ 41)
         (now (samples .entry)) (now (samples .exit)) r ⌝ }
 {
@@ -57,10 +59,6 @@ fn body_of(octets: &[u8], mask: u8, h: Head, samples: &mut [u8; 320]) -> Outcome
     let n = h.len;
     let at = h.at;
     match tool {
-        1 => read_bodies::uncompressed(octets, at, n, samples),
-        2 => read_bodies::filled(at, n, law::plus_zero(mask), samples),
-        3 => read_bodies::filled(at, n, law::minus_zero(mask), samples),
-        4 => read_bodies::constant(octets, at, n, samples),
         5 => read_bodies::binary(octets, at, n, mask, samples),
         6 => read_bodies::plus_minus(octets, at, n, h.mark as u8, mask, samples),
         _ => few_values(octets, mask, h, samples),
@@ -111,25 +109,86 @@ fn pad() -> Report
     }
 }
 
-// "ALIGN last"; then the number of samples, and the bits of prefix and body and nothing else.
+// An accepted frame: the number of samples, and the bits of prefix and body and nothing else.
+fn accepted(tool: u32, len: usize, bits: usize) -> Report
+    requires { ⌜ bits ≤ 2 ^ 41 ⌝ }
+    ensures { λ r. ⌜ ((s : List ℕ) (j : ℕ) → len ≡ length s → Tells (whole (record { tool = tool; samples = s; bits = bits }) j) r) ⌝ }
+{
+    Report {
+        end: Ending::Done,
+        len,
+        octets: (bits + 7) / 8,
+        bits,
+        tool,
+        bit: 0,
+    }
+}
+
+// "ALIGN last".
 fn finished(octets: &[u8], tool: u32, len: usize, bits: usize) -> Report
     requires { ⌜ (bits ≤ 8 * length (now octets)) × (bits ≤ 2 ^ 41) ⌝ }
     ensures { λ r. ⌜ ((s : List ℕ) → len ≡ length s → Tells (finish tool s bits (bitsOf (now (octets .entry)))) r) ⌝ }
 {
     match filling(octets, bits) {
         Outcome::Refused(why, bit) => refused(why, bit),
-        Outcome::Got(_, _) => Report {
-            end: Ending::Done,
-            len,
-            octets: (bits + 7) / 8,
-            bits,
-            tool,
-            bit: 0,
+        Outcome::Got(_, _) => accepted(tool, len, bits),
+    }
+}
+
+// What a frame of tools 1 to 4 reports, and what is to be laid of it: nothing where it is refused.
+struct Given {
+    report: Report,
+    body: Plain,
+}
+
+// The tool is one of 1 to 4: TOOL, ROOM, SHORT. They end with an octet, so nothing is left to fill.
+fn plain_frame(octets: &[u8], law: u32, set: u32, room: usize, h: Head) -> Given
+    requires { ⌜ (HeadFits h) × (h .tool ≤ 4) ⌝ }
+    ensures { λ r. ⌜ Gives (afterHead law set room h (now (octets .entry))) (now (octets .entry)) (h .len) room r ⌝ }
+{
+    let tool = h.tool;
+    let len = h.len;
+    if !first_octet::holds(set, tool) {
+        return Given {
+            report: refused(Refusal::Tool(tool), 0),
+            body: Plain::Short(0),
+        };
+    }
+    if room < len {
+        return Given {
+            report: refused(Refusal::Room, 0),
+            body: Plain::Short(0),
+        };
+    }
+    let body = plain_of(octets, tool, len, law::mask_of(law));
+    match body {
+        Plain::Short(bit) => Given {
+            report: refused(Refusal::Short, bit),
+            body: Plain::Short(0),
+        },
+        Plain::Octets => Given {
+            report: accepted(tool, len, 8 + 8 * len),
+            body: Plain::Octets,
+        },
+        Plain::Same(x, bits) => Given {
+            report: accepted(tool, len, bits),
+            body: Plain::Same(x, bits),
         },
     }
 }
 
-// The tool is decided: TOOL, ROOM, the body, ALIGN. An accepted frame's samples are the first of those lent.
+// The same, laid at the start of some cells.
+fn plain_into(octets: &[u8], law: u32, set: u32, room: usize, h: Head, cells: &mut [u8]) -> Report
+    requires { ⌜ (HeadFits h) × (h .tool ≤ 4) × ((h .len ≤ room → h .len ≤ length (now cells))) ⌝ }
+    ensures { λ r. ⌜ ReadsInto (afterHead law set room h (now (octets .entry))) r (now (cells .entry)) (now (cells .exit)) ⌝ }
+{
+    let given = plain_frame(octets, law, set, room, h);
+    let body = given.body;
+    lay(body, octets, h.len, cells);
+    given.report
+}
+
+// The tool is decided, and none of 1 to 4: TOOL, ROOM, the body, ALIGN. An accepted frame's samples are the first of those lent.
 fn with_tool(
     octets: &[u8],
     law: u32,
@@ -138,9 +197,8 @@ fn with_tool(
     h: Head,
     samples: &mut [u8; 320],
 ) -> Report
-    requires { ⌜ (HeadFits h) × (1 ≤ length (now octets)) × (length (now samples) ≡ 320) ⌝ }
-    ensures { λ r. ⌜ Fills (withTool set room (h .tool) (h .len) (bodyOf (maskOf law) h) (bitsOf (now (octets .entry))) (h .at))
-        r (now (samples .exit)) ⌝ }
+    requires { ⌜ (HeadFits h) × (5 ≤ h .tool) × (1 ≤ length (now octets)) × (length (now samples) ≡ 320) ⌝ }
+    ensures { λ r. ⌜ Fills (afterHead law set room h (now (octets .entry))) r (now (samples .exit)) ⌝ }
 {
     let tool = h.tool;
     if !first_octet::holds(set, tool) {
@@ -165,7 +223,36 @@ pub fn fill_frame(octets: &[u8], law: u32, set: u32, room: usize, samples: &mut 
     match opens(octets, law, set) {
         Opening::Refused(why, bit) => refused(why, bit),
         Opening::Pad => pad(),
-        Opening::Body(h) => with_tool(octets, law, set, room, h, samples),
+        Opening::Body(h) => {
+            if h.tool <= 4 {
+                return plain_into(octets, law, set, room, h, samples);
+            }
+            with_tool(octets, law, set, room, h, samples)
+        }
+    }
+}
+
+// The same report with no samples wanted: those of tools 1 to 4 are not laid. The frame buffer is for the others, and what is in it is not
+// told.
+pub fn measure_frame(
+    octets: &[u8],
+    law: u32,
+    set: u32,
+    room: usize,
+    samples: &mut [u8; 320],
+) -> Report
+    requires { ⌜ length (now samples) ≡ 320 ⌝ }
+    ensures { λ r. ⌜ Measures (readOne (now (octets .entry)) law set room) r (now (samples .exit)) ⌝ }
+{
+    match opens(octets, law, set) {
+        Opening::Refused(why, bit) => refused(why, bit),
+        Opening::Pad => pad(),
+        Opening::Body(h) => {
+            if h.tool <= 4 {
+                return plain_frame(octets, law, set, room, h).report;
+            }
+            with_tool(octets, law, set, room, h, samples)
+        }
     }
 }
 
@@ -190,6 +277,9 @@ pub fn read_into(octets: &[u8], law: u32, set: u32, out: &mut [u8]) -> Report
         Opening::Refused(why, bit) => refused(why, bit),
         Opening::Pad => pad(),
         Opening::Body(h) => {
+            if h.tool <= 4 {
+                return plain_into(octets, law, set, out.len(), h, out);
+            }
             let mut samples = [0; 320];
             let r = with_tool(octets, law, set, out.len(), h, &mut samples);
             put_out(&samples, r.len, out);

@@ -1,6 +1,6 @@
 use borrow.Author.Needs.{needs}
 use Prim.Native.Nat.{ℕ}
-use mathlib.Core.Path.{_≡_, refl, sym, ap, _∙_}
+use mathlib.Core.Path.{_≡_, sym, ap, _∙_}
 use mathlib.Core.List.{List}
 use Rattle.rules.specs.Bits.{bitsOf, fillFor}
 use Rattle.rules.specs.Reading.{andThen, whole}
@@ -25,9 +25,8 @@ returns c =
 
 returns-2 : tie.Need-returns-2
 returns-2 c =
-    λ s h. tells-as (ended (c .before .before) _ (c .enum-told .given .1) s)
-    (record { end = refl; len = h; octets = refl; bits = refl; tool = refl; bit = refl })
+    λ s h. tells-as (ended (c .before .before .before) _ (c .before .enum-told .given .1) s) (c .accepted .ensures s _ h)
 
 pub finished-spec : {M : Type 1} → statement M
 finished-spec = tie.close (tie.spec (λ c κs. search needs) (λ c. search needs) (λ c κs. search needs) (λ c. search needs)
-    (λ c. search needs) returns returns-2)
+    (λ c κs. search needs) returns returns-2)

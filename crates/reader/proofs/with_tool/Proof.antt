@@ -24,7 +24,7 @@ use Rattle.reader.proofs.with_tool.Tie as tie
 
 returns : tie.Need-returns
 returns c = fills-none (no-tool _ _ _ _ _ _ _ (sym (c .before .before .holds .ensures) ∙ not-true _ (c .before .if1 .taken)))
-    refl (c .before .before .before .before .pre .2) (c .refused .ensures)
+    refl (c .before .before .before .before .pre .3) (c .refused .ensures)
 
 held : (c : tie.Else1) → holds (c .before .before .before .args .set) (c .before .before .before .args .h .tool) ≡ true
 held c = sym (c .before .holds .ensures) ∙ not-false _ (c .if1 .left)
@@ -39,12 +39,12 @@ module _ (c : tie.After-finished) where
 
 returns-2 : tie.Need-returns-2
 returns-2 c = fills-none (no-room _ _ _ _ _ _ _ (held (c .before .before .before)) (c .before .if2 .taken)) refl
-    ((start (c .before .before)) .pre .2) (c .refused2 .ensures)
+    ((start (c .before .before)) .pre .3) (c .refused2 .ensures)
 
 body-of-requires : tie.Need-body-of-requires
 body-of-requires c κs =
     let s = start (c .before .before .before) in
-    (s .pre .0, omega (arith, mask-small (s .args .law)), omega (arith, mask-odd (s .args .law)), s .pre .2)
+    (s .pre .0, s .pre .1, omega (arith, mask-small (s .args .law)), omega (arith, mask-odd (s .args .law)), s .pre .3)
 
 -- the body's answer
 module _ (c : tie.After-body-of) where
@@ -62,7 +62,7 @@ module _ (c : tie.After-body-of) where
   within e = (
     body-within (s .args .law) (s .args .h .tool) (s .args .h .len) (s .args .h .mark) (s .pre .0 .len) (s .args .octets .now)
         (s .args .h .at)
-        (omega (arith, s .pre .0 .at, s .pre .1))
+        (omega (arith, s .pre .0 .at, s .pre .2))
         (body-whole fills e .says),
     omega (arith, rw (ap nextOf e) at (fills .next)),
   )
@@ -71,7 +71,7 @@ module _ (c : tie.After-body-of) where
   sized : {len bits : ℕ} (e : c .body-of .result ≡ Got len bits) → s .args .h .len ≡ length (body-whole fills e .s)
   sized e = body-size (s .args .law) (s .args .h .tool) (s .args .h .len) (s .args .h .mark) (s .pre .0 .len)
       (s .args .octets .now) (s .args .h .at)
-      (omega (arith, s .pre .0 .at, s .pre .1))
+      (omega (arith, s .pre .0 .at, s .pre .2))
       (body-whole fills e .says)
 
 finished-requires : tie.Need-finished-requires
@@ -82,14 +82,14 @@ returns-3 c =
     let read = c .before .before .before .before in
     let room = read .before .before .before .before .before in
     fills-none (no-body _ _ _ _ _ _ _ (held room) (omega arith) (body-refused (fills read) (c .before .before .why .given .1))) refl
-    (body-length (fills read) (room .before .before .before .pre .2)) (c .refused3 .ensures)
+    (body-length (fills read) (room .before .before .before .pre .3)) (c .refused3 .ensures)
 
 returns-4 : tie.Need-returns-4
 returns-4 c =
     let w = body-whole (fills (c .before .before .before .before)) (c .before .before .bits .given .1) in
     fills-finish _ _ _ _ (with-body _ _ _ _ _ _ _ (held (else1 c)) (omega arith) (w .says))
     (c .finished .ensures (w .s) (sized (c .before .before .before .before) (c .before .before .bits .given .1)))
-    (w .samples) (body-length (fills (c .before .before .before .before)) ((else1 c) .before .before .before .pre .2))
+    (w .samples) (body-length (fills (c .before .before .before .before)) ((else1 c) .before .before .before .pre .3))
 
 pub with-tool-spec : {M : Type 1} → statement M
 with-tool-spec = tie.close (tie.spec (λ c κs. search needs) (λ c κs. search needs) returns (λ c κs. search needs) returns-2
