@@ -343,9 +343,9 @@ fn the_stack_that_a_call_uses() {
         assert!(measured.get(&*name).is_none_or(|measured| *measured <= octets), "{name}: {octets}, and {beside}");
         bounds.insert(name, octets);
     }
-    // Those that are not measured are far from it.
+    // Those that are not measured are below a third of it.
     let unmeasured: Vec<(&String, &u64)> = bounds.iter().filter(|(name, _)| !measured.contains_key(&***name)).collect();
-    assert!(unmeasured.iter().all(|(_, octets)| 4 * **octets < most), "not measured: {unmeasured:?}");
+    assert!(unmeasured.iter().all(|(_, octets)| 3 * **octets < most), "not measured: {unmeasured:?}");
     assert!(measured.len() >= 24 && measured.keys().all(|name| bounds.contains_key(*name)), "{measured:?}");
     // A conversion calls nothing; it, a wipe and a step may use no more than a thread that makes no call.
     let none: Vec<&&str> = measured.iter().filter(|(_, octets)| **octets == 0).map(|(name, _)| name).collect();
