@@ -54,8 +54,11 @@
  *   G7110_VERSION goes up by one when a call is added, or a call or its report changes.
  *   13  the calls for a store whose power may be cut: g7110_store_try, g7110_store_next, g7110_store_moved, g7110_store_renumber and
  *       g7110_move_step, with G7110_MOVE. Block, table and text are as they were; every call of version 12 answers as it did.
- *       Calls that tell: g7110_version, g7110_check, g7110_head, g7110_file_head, g7110_file_next; masters of 16 bits:
- *       g7110_to_master, g7110_from_master.
+ *       Calls that tell: g7110_version, g7110_check, g7110_head, g7110_file_head, g7110_file_next, g7110_store_info, g7110_store_at,
+ *       g7110_store_totals, g7110_settings_get, g7110_settings_kept, g7110_mend_why; masters of 16 bits: g7110_to_master,
+ *       g7110_from_master.
+ *       Names for the laws, for the set of boxes in the field and for the places of reports; G7110_ARRAY, G7110_TABLE(t), G7110_CELLS and
+ *       G7110_PAGE; g7110_refusal_name.
  *   12  tool 11, fractional-bit, and sets up to 255: G7110_ALL_TOOLS was 127. With a set up to 127 every call but g7110_why answers
  *       as in version 11. g7110_why writes a ninth line, that of tool 11. Mending and the store take frames of tool 11, so version
  *       11 refuses the saved table of such a greeting with G7110_BAD; a set line may say up to 255.
@@ -179,8 +182,9 @@
  *   frames, whatever the greeting's length. What it names is what a walk from the greeting's start would.
  *   Refusals, in order: G7110_TABLE, G7110_LAW (put), G7110_NUMBER, G7110_TAKEN (put) or G7110_ABSENT (get, delete, jump), G7110_BAD
  *   (put), G7110_FULL, G7110_NOROOM; of a jump G7110_BEYOND, then G7110_BAD. G7110_TABLE is for a table that is too short, or that calls
- *   do not leave for a block of this size: more than 32 greetings, starts not in order, greetings that overlap, are empty or pass the block's end, a number out of range
- *   or used twice; another count in cell 97 than in cell 0, a law above 1, or more marks of a greeting than its octets / 64 + 1.
+ *   do not leave for a block of this size: more than 32 greetings, starts not in order, greetings that overlap, are empty or pass the
+ *   block's end, a number out of range or used twice; another count in cell 97 than in cell 0, a law above 1, or more marks of a
+ *   greeting than its octets / 64 + 1.
  *   What the cells of samples and marks say is not judged; a save writes it as it stands, and a jump goes by it: G7110_BEYOND is by
  *   the table's samples, and where the frames from the mark on do not reach the sample, or one of them is refused, it is G7110_BAD.
  *   From calls alone G7110_TABLE can't arise, nor G7110_BAD of a jump, and samples and marks are true. A refused call leaves block

@@ -56,6 +56,7 @@ static int settings_tried(void)
 static int greeting_mended(void)
 {
     static uint8_t damaged[100];
+    static const uint8_t cut[5] = {0x41, 0x00, 0x56, 0x0F, 0x86};
     const size_t damaged_len = sizeof damaged;
     uint64_t walked[5];
     memset(damaged, 0x31, sizeof damaged); /* 320 plus zeros each */
@@ -64,6 +65,9 @@ static int greeting_mended(void)
     CHECK(told[1] == 99 && told[2] == 99 && told[3] == 40000 - 99 * 320);
     CHECK(g7110_walk(mended, (size_t)told[0], G7110_LAW_MU, G7110_ALL_TOOLS, damaged, 0, walked) == G7110_ROOM);
     CHECK(walked[G7110_WALK_FRAMES] == 0 && walked[G7110_WALK_OCTETS] == 0 && walked[G7110_WALK_SAMPLES] == 0);
+    CHECK(g7110_walk(cut, sizeof cut, G7110_LAW_MU, G7110_ALL_TOOLS, mended, sizeof mended, walked) == G7110_SHORT);
+    CHECK(walked[G7110_WALK_FRAMES] == 3 && walked[G7110_WALK_OCTETS] == 4 && walked[G7110_WALK_SAMPLES] == 80);
+    CHECK(walked[G7110_WALK_TOOL] == 0 && walked[G7110_WALK_BIT] == 8);
     return 0;
 }
 
@@ -79,6 +83,8 @@ static int recording_played(const uint8_t *file, size_t file_len)
     uint16_t items[9];
     const size_t out_len = sizeof out, items_len = sizeof items / sizeof items[0];
 #include "to_play_a_recording.h"
+    CHECK(told[G7110_FILE_READ_LAW] == G7110_LAW_MU && told[G7110_FILE_READ_ITEMS] == 3 && told[G7110_FILE_READ_SAMPLES] == 160);
+    CHECK(told[G7110_FILE_READ_OCTETS] == file_len - G7110_HEADING && told[G7110_FILE_READ_TOOL] == 0 && told[G7110_FILE_READ_BIT] == 0);
     return 0;
 }
 

@@ -151,12 +151,67 @@ fn the_names_of_refusals() {
 #[test]
 fn lengths_by_name() {
     let header = std::fs::read_to_string(repository().join("include/g7110.h")).unwrap();
-    let declared = header.split("#define G7110_H").nth(1).expect("the header has a guard");
-    let lengths = ["WHY_TEXT", "SETTINGS", "SETTINGS_TEXT"].map(|name| defined(&format!("G7110_{name}")));
-    for line in declared.lines().filter(|line| lengths.iter().any(|length| line.contains(&format!("[{length}]")))) {
-        panic!("a length that has a name: {line}");
+    let declared = header.split("#define G7110_H\n").nth(1).expect("the header has a guard");
+    let mut counts = Vec::new();
+    for name in ["G7110_WHY_TEXT", "G7110_SETTINGS", "G7110_SETTINGS_TEXT"] {
+        let bare = format!("[{}]", defined(name));
+        let line = declared.lines().find(|line| line.contains(&bare));
+        assert!(line.is_none(), "{name} is its name: {line:?}");
+        counts.push(declared.matches(&format!("[{name}]")).count());
     }
-    say(&format!("compared: the header's declarations have none of {lengths:?} bare\n"));
+    assert!(counts[0] >= 1 && counts[1] >= 4 && counts[2] >= 1, "{counts:?}");
+    say(&format!("compared: {counts:?} lengths of the header's declarations, each by its name\n"));
+}
+
+/// The places of each report have names, as many as the report has places; they stand above the call.
+#[test]
+fn places_by_name() {
+    let header = std::fs::read_to_string(repository().join("include/g7110.h")).unwrap();
+    let (mut named, mut without) = (0, Vec::new());
+    for call in header.split("#define G7110_H\n").nth(1).expect("the header has a guard").split(");\n") {
+        let Some((above, words)) = call.split_once("_t g7110_") else { continue };
+        let Some(places) = words.split("uint64_t report[").nth(1).and_then(|rest| rest.split(']').next()) else {
+            continue;
+        };
+        let names = above.rsplit_once("enum {").map(|(_, names)| names);
+        match names.and_then(|names| names.split('}').next()).filter(|names| !names.contains("G7110_OK")) {
+            Some(names) => {
+                assert_eq!(names.split(',').count().to_string(), places, "{words}");
+                named += places.parse::<usize>().unwrap();
+            }
+            None => without.push(words.split('(').next().unwrap()),
+        }
+    }
+    // A going back has the place of a save, a try those of a put, a mending those of the call that tells why it stops; a
+    // list of revisions has none.
+    let others = ["settings_back", "store_try", "mend", "settings_kept"];
+    assert!(without.iter().all(|name| others.contains(name)), "{without:?}");
+    assert!(named >= 36, "{named}");
+    say(&format!("compared: {named} places of reports, each by a name of its own\n"));
+}
+
+/// A pointer handed to the macros that count an array is warned of, in C and in C++, and so is refused here.
+#[test]
+fn a_pointer_is_no_array() {
+    let folder = Path::new(env!("CARGO_TARGET_TMPDIR"));
+    for (compiler, standard, ending) in [("cc", "-std=c99", "c"), ("c++", "-std=c++11", "cpp")] {
+        for (given, refused) in [
+            ("uint32_t t[9]; uint8_t b[9]", false),
+            ("uint32_t *t; uint8_t b[9]", true),
+            ("uint32_t t[9]; uint8_t *b", true),
+        ] {
+            let file = folder.join(format!("pointer.{ending}"));
+            let held = format!("struct held {{ {given}; }};\nuint32_t first(struct held *h);\n");
+            let call = "return g7110_store_delete(G7110_ARRAY(h->b), G7110_TABLE(h->t), 7);";
+            std::fs::write(&file, format!("#include \"g7110.h\"\n{held}uint32_t first(struct held *h) {{ {call} }}\n"))
+                .unwrap();
+            let built = compiler_of(compiler, standard).args(["-fsyntax-only"]).arg(&file).output().unwrap();
+            let said = String::from_utf8_lossy(&built.stderr);
+            assert_eq!(built.status.success(), !refused, "{given}\n{said}");
+            assert!(!refused || said.contains("sizeof-pointer-div"), "{said}");
+        }
+    }
+    say("compared: a pointer in G7110_ARRAY and G7110_TABLE, in C and C++: 4 warned of, 2 arrays taken\n");
 }
 
 /// The loop of docs/STORE.md as it stands there, in C and in C++, with a cut at every octet that it writes.
@@ -288,9 +343,9 @@ fn the_stack_that_a_call_uses() {
         assert!(measured.get(&*name).is_none_or(|measured| *measured <= octets), "{name}: {octets}, and {beside}");
         bounds.insert(name, octets);
     }
-    // Those that are not measured are far from it.
+    // Those that are not measured are below a third of it.
     let unmeasured: Vec<(&String, &u64)> = bounds.iter().filter(|(name, _)| !measured.contains_key(&***name)).collect();
-    assert!(unmeasured.iter().all(|(_, octets)| 4 * **octets < most), "not measured: {unmeasured:?}");
+    assert!(unmeasured.iter().all(|(_, octets)| 3 * **octets < most), "not measured: {unmeasured:?}");
     assert!(measured.len() >= 24 && measured.keys().all(|name| bounds.contains_key(*name)), "{measured:?}");
     // A conversion calls nothing; it, a wipe and a step may use no more than a thread that makes no call.
     let none: Vec<&&str> = measured.iter().filter(|(_, octets)| **octets == 0).map(|(name, _)| name).collect();
