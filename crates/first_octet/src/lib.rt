@@ -17,7 +17,6 @@ pub enum Begins {
 
 // "The map from first octet to tool and length has 256 entries": the tool as the first hexadecimal digit, the length as the second, in
 // forties. A pad is 0, an octet that is not assigned 1; no entry is tool 6 or tool 8 alone, and 6 stands for both.
-// An entry is one octet, since the kit's compiler makes a const array on the stack wherever it is looked into.
 pub const FIRST: [u8; 256] = [
     0, // 00
     1, // 01

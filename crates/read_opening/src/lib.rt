@@ -91,7 +91,7 @@ fn opening_of(octets: &[u8]) -> Opening
         return Opening::Refused(Refusal::Short, 0);
     }
     let first = octets[0];
-    // A pad is told at once: a stream may be all pads, and the table is made anew wherever it is looked up.
+    // A pad is told at once: a stream may be all pads.
     if first == 0 {
         return Opening::Pad;
     }

@@ -7,6 +7,15 @@ use Rattle.rules.proofs.Arms.{last-arm}
 use Rattle.first_octet.proofs.eight.Statement.{statement}
 use Rattle.first_octet.proofs.eight.Tie as tie
 
+-- the octets from 00 on, and those from 40 on
+returns : tie.Need-returns
+unfolding eightFrom rows lookUp firstOctet firstCode
+returns c = rw (c .match .keys1) refl
+
+returns-9 : tie.Need-returns-9
+unfolding eightFrom rows lookUp firstOctet firstCode
+returns-9 c = rw (c .match .keys9) refl
+
 last : tie.Need-returns-32
 unfolding eightFrom rows lookUp firstOctet firstCode
 last c = rw (last-arm 31 (c .before .args .h) (c .match .rest) (search needs)) refl
@@ -15,7 +24,7 @@ pub eight-spec : {M : Type 1} → statement M
 unfolding eightFrom rows lookUp firstOctet firstCode
 eight-spec =
     tie.close (tie.spec
-    (λ c. rw (c .match .keys1) refl)
+    returns
     (λ c. rw (c .match .keys2) refl)
     (λ c. rw (c .match .keys3) refl)
     (λ c. rw (c .match .keys4) refl)
@@ -23,7 +32,7 @@ eight-spec =
     (λ c. rw (c .match .keys6) refl)
     (λ c. rw (c .match .keys7) refl)
     (λ c. rw (c .match .keys8) refl)
-    (λ c. rw (c .match .keys9) refl)
+    returns-9
     (λ c. rw (c .match .keys10) refl)
     (λ c. rw (c .match .keys11) refl)
     (λ c. rw (c .match .keys12) refl)

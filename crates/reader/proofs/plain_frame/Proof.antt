@@ -53,8 +53,11 @@ accepted-requires-2 : tie.Need-accepted-requires-2
 accepted-requires-2 c κs =
     let p = c .before .before .before in
     let s = start p in
-    omega (arith, same-short (s .args .law) (s .args .set) (s .args .room) (s .args .h) (s .args .octets .now) (s .pre .0) (s .pre .1)
-    (held (else1 p)) (omega arith) _ (is p) (c .before .body2 .given .1))
+    omega (
+      arith,
+      same-short (s .args .law) (s .args .set) (s .args .room) (s .args .h) (s .args .octets .now) (s .pre .0) (s .pre .1)
+          (held (else1 p)) (omega arith) _ (is p) (c .before .body2 .given .1),
+    )
 
 returns-3 : tie.Need-returns-3
 returns-3 c =
