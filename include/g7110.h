@@ -57,6 +57,7 @@
  *       Calls that tell: g7110_version, g7110_check, g7110_head, g7110_file_head, g7110_file_next, g7110_store_info, g7110_store_at,
  *       g7110_store_totals, g7110_settings_get, g7110_settings_kept, g7110_mend_why; masters of 16 bits: g7110_to_master,
  *       g7110_from_master.
+ *       G7110_STACK is 10,240, and was 8,192: g7110_store_load needs more, and its bound is told.
  *       Names for the laws, for the set of boxes in the field and for the places of reports; G7110_ARRAY, G7110_TABLE(t), G7110_CELLS and
  *       G7110_PAGE; g7110_refusal_name.
  *   12  tool 11, fractional-bit, and sets up to 255: G7110_ALL_TOOLS was 127. With a set up to 127 every call but g7110_why answers
@@ -110,7 +111,7 @@
  *       in octets                           3,080        132,104
  *     text of the table, at most            7,392        379,687
  *       G7110_PAGE(size)                    8,743        379,687
- *     stack, G7110_STACK                    8,192          8,192
+ *     stack, G7110_STACK                   10,240         10,240
  *   Where power may be cut, a second table, a second page and the spare come beside it. A greeting that is put is lent besides.
  *   A store in static memory, and a greeting put into it:
  *
@@ -314,7 +315,7 @@ extern "C" {
 #define G7110_MAX_STREAM 1048576 /* octets of a walk */
 #define G7110_ALL_TOOLS 255
 #define G7110_FIELD_TOOLS 127  /* all but tool 11: what every version reads */
-#define G7110_STACK 8192       /* octets of stack, as the manual says under STACK */
+#define G7110_STACK 10240      /* octets of stack, as the manual says under STACK */
 #define G7110_WHY_TEXT 512     /* octets lent for the text of g7110_why */
 #define G7110_SETTINGS 41      /* numbers of a box's settings */
 #define G7110_SETTINGS_TEXT 80 /* octets lent for their text, which has at most 67 */

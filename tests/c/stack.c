@@ -12,12 +12,14 @@
 enum { STACK = 1 << 20, PAINT = 0xC5, STREAM = 4000, KINDS = 10, OLD_TOOLS = 127 };
 
 /* Kinds of call, none among them. */
-enum { CALLS = 25 };
+enum { CALLS = 37 };
 
 struct call {
     int which; /* 0 none, 1 read, 2 write, 3 walk, 4 to linear values, 5 from them; of settings 6 save, 7 back, 8 read, 9 wipe;
                 * 10 why; of a store 11 put, 12 get, 13 delete, 14 save, 15 load; 16 mend; of a file 17 read, 18 write; 19 jump; where power may
-                * be cut 20 try, 21 next, 22 moved, 23 renumber, 24 step */
+                * be cut 20 try, 21 next, 22 moved, 23 renumber, 24 step; those that tell: 25 check, 26 head; of a file 27 its heading, 28 an
+                * item; of a store 29 a greeting, 30 one by its place, 31 totals; of settings 32 values, 33 the numbers kept; 34 of a mending;
+                * 35 to a master, 36 from one */
     const uint8_t *given;
     size_t length;
 };
@@ -31,11 +33,12 @@ static uint32_t table[G7110_MAX_CELLS];
 static uint32_t number, record[8], next[8];
 static uint16_t items[STREAM];
 static size_t listed;
+static uint64_t item_at; /* the place that g7110_file_next told last */
 
 static void *make(void *argument)
 {
     const struct call *call = argument;
-    uint64_t report[6];
+    static uint64_t report[8]; /* not on the stack that is looked at */
     if (call->which == 1) g7110_read(call->given, call->length, 1, G7110_ALL_TOOLS, out, sizeof out, report);
     if (call->which == 2) g7110_write(call->given, call->length, 1, G7110_ALL_TOOLS, out, sizeof out, report);
     if (call->which == 3) g7110_walk(call->given, call->length, 1, G7110_ALL_TOOLS, out, sizeof out, report);
@@ -60,6 +63,19 @@ static void *make(void *argument)
     if (call->which == 22) g7110_store_moved(block, block_len, table, sizeof table / sizeof *table, number, call->length);
     if (call->which == 23) g7110_store_renumber(block, block_len, table, sizeof table / sizeof *table, number, (uint32_t)call->length);
     if (call->which == 24) g7110_move_step(block, block_len, out, call->length, record, next);
+    if (call->which == 25) g7110_check(call->given, call->length, 1, G7110_ALL_TOOLS, report);
+    if (call->which == 26) g7110_head(call->given, call->length, G7110_ALL_TOOLS, report);
+    if (call->which == 27) g7110_file_head(call->given, call->length, report);
+    if (call->which == 28) g7110_file_next(call->given, call->length, item_at, 1, G7110_ALL_TOOLS, out, sizeof out, report);
+    if (call->which == 29) g7110_store_info(block, block_len, table, sizeof table / sizeof *table, number, report);
+    if (call->which == 30) g7110_store_at(block, block_len, table, sizeof table / sizeof *table, call->length, report);
+    if (call->which == 31) g7110_store_totals(block, block_len, table, sizeof table / sizeof *table, report);
+    if (call->which == 32) g7110_settings_get(state, state[0], report);
+    if (call->which == 33) g7110_settings_kept(state, report);
+    if (call->which == 34) g7110_mend_why(call->given, call->length, 1, 40000, report);
+    if (call->which == 35) g7110_to_master(call->given, call->length, 1, linear, 320);
+    if (call->which == 36) g7110_from_master(linear, call->length, 1, out, sizeof out);
+    if (call->which == 28) item_at = report[5];
     return NULL;
 }
 
@@ -130,6 +146,8 @@ static void settings(void)
         measure(6, (const uint8_t *)text, sizeof text - 1 - (turn == 5));
         measure(7, NULL, 0);
         measure(8, NULL, 0);
+        measure(32, NULL, 0);
+        measure(33, NULL, 0);
     }
     measure(9, NULL, 0);
     measure(8, NULL, 0);
@@ -141,6 +159,9 @@ static void closing_up(const uint8_t *stream, size_t length)
     uint64_t due[4];
     size_t spare;
     measure(20, stream, length);
+    for (spare = 0; spare <= 33; spare++) measure(30, NULL, spare);
+    measure(29, NULL, 0);
+    measure(31, NULL, 0);
     for (spare = 0;; spare = 4096 - spare) {
         measure(21, NULL, 0);
         if (g7110_store_next(block, block_len, table, sizeof table / sizeof *table, due) != G7110_OK || due[0] == 0) break;
@@ -233,6 +254,9 @@ static void files(void)
     if (g7110_file_write(samples, sizeof samples, items, listed, 1, G7110_ALL_TOOLS, file, sizeof file, wrote) != G7110_OK) exit(2);
     measure(17, file, (size_t)wrote[0]);
     measure(17, file, (size_t)wrote[0] - 1);
+    measure(27, file, (size_t)wrote[0]);
+    /* One item after another, up to the end, which is refused. */
+    for (kind = 0; kind <= 2 * KINDS; kind++) measure(28, file + 10, (size_t)wrote[0] - 10);
 }
 
 int main(void)
@@ -242,7 +266,9 @@ int main(void)
                                           "why",         "store_put",     "store_get",     "store_delete",  "store_save",
                                           "store_load",  "mend",          "file_read",     "file_write",
                                           "store_jump",  "store_try",     "store_next",    "store_moved",   "store_renumber",
-                                          "move_step"};
+                                          "move_step",   "check",         "head",          "file_head",     "file_next",
+                                          "store_info",  "store_at",      "store_totals",  "settings_get",  "settings_kept",
+                                          "mend_why",    "to_master",     "from_master"};
     uint8_t samples[320], form[G7110_MAX_WRITTEN], stream[STREAM];
     uint64_t wrote[3];
     size_t length = 0;
@@ -258,17 +284,24 @@ int main(void)
         measure(10, samples, 320);
         measure(4, samples, 320);
         measure(5, samples, 320);
+        measure(35, samples, 320);
+        measure(36, samples, 320);
         if (g7110_write(samples, 320, 1, kind < 8 ? OLD_TOOLS : G7110_ALL_TOOLS, form, sizeof form, wrote) != G7110_OK) return 1;
         if (kind >= 8 && wrote[2] != 11) return 1;
         for (cut = 0; cut < 2; cut++) measure(1, form, (size_t)wrote[0] - (size_t)cut);
+        measure(26, form, (size_t)wrote[0]);
         memcpy(stream + length, form, (size_t)wrote[0]);
         length += (size_t)wrote[0];
     }
     measure(3, stream, sizeof stream);
     measure(3, stream, length - 1);
+    measure(25, stream, sizeof stream);
+    measure(25, stream, length - 1);
     settings();
     measure(16, stream, length);
     measure(16, stream, length - 1);
+    measure(34, stream, length);
+    measure(34, stream, length - 1);
     store(stream, length);
     large_store(stream, length);
     files();

@@ -346,10 +346,10 @@ fn the_stack_that_a_call_uses() {
     // Those that are not measured are below a third of it.
     let unmeasured: Vec<(&String, &u64)> = bounds.iter().filter(|(name, _)| !measured.contains_key(&***name)).collect();
     assert!(unmeasured.iter().all(|(_, octets)| 3 * **octets < most), "not measured: {unmeasured:?}");
-    assert!(measured.len() >= 24 && measured.keys().all(|name| bounds.contains_key(*name)), "{measured:?}");
-    // A conversion calls nothing; it, a wipe and a step may use no more than a thread that makes no call.
+    assert!(measured.len() >= 36 && measured.keys().all(|name| bounds.contains_key(*name)), "{measured:?}");
+    // A conversion calls nothing; it, a wipe, a step and what tells of little may use no more than a thread that makes no call.
     let none: Vec<&&str> = measured.iter().filter(|(_, octets)| **octets == 0).map(|(name, _)| name).collect();
-    assert!(none.len() < 6, "measured as nothing: {none:?}");
+    assert!(none.len() < 12, "measured as nothing: {none:?}");
     // The figure is not far too much.
     assert!(bounds.values().any(|octets| 3 * octets > 2 * most), "the header says {most}");
     say(&format!("compared: stack, the shipped archive: {} functions, {} calls bounded\n", frames.len(), bounds.len()));

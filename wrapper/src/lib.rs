@@ -43,7 +43,7 @@ pub const VERSION: u32 = 13;
 pub const VERSION_MAJOR: u32 = 4;
 pub const VERSION_MINOR: u32 = 1;
 /// Octets of stack that a call uses at most: a bound from the archive's instructions, and measured; not proved.
-pub const STACK: usize = 8_192;
+pub const STACK: usize = 10_240;
 /// Every carried tool. Tool t, 1 to 7, adds 2^(t-1) to a set, tool 11 adds 128; a writer's set is odd.
 pub const ALL_TOOLS: u32 = 255;
 /// All but tool 11: what every version reads, and so what boxes in the field are sent.

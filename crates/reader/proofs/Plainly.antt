@@ -1,6 +1,6 @@
 -- A frame of tools 1 to 4: its reading by what its body gives (`gives-none`, `gives-short`, `gives-octets`, `gives-same`), and its samples where
 -- they are laid (`laid-into`, `into-fills`).
-use Prim.Native.Nat.{ℕ, _*_, _+_, _≤_, _<_}
+use Prim.Native.Nat.{ℕ, _*_, _+_, _≤_}
 use mathlib.Core.Path.{_≡_, refl, sym, ap, subst, _∙_}
 use mathlib.Core.List.{List, []}
 use mathlib.Core.Bool.{true}
@@ -14,7 +14,7 @@ use Rattle.rules.specs.Bits.{bitsOf, fillFor}
 use Rattle.rules.specs.Samples.{maskOf}
 use Rattle.rules.specs.Reading.{Read, whole, refuse, filled}
 use Rattle.rules.specs.Frame.{Found, body}
-use Rattle.rules.specs.Calls.{readSamples, atStart}
+use Rattle.rules.specs.Calls.{readSamples}
 use Rattle.read_opening.specs.declared.Head.{Head}
 use Rattle.read_opening.specs.Opening.{bodyBy, bodyOf, HeadFits}
 use Rattle.read_bodies.specs.declared.plain.Plain.{Plain}

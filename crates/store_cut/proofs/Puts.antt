@@ -223,7 +223,7 @@ module _ {size page : ℕ} {s : Store} {l : Lasting} (k : Keeps size s) (law x :
         let free : absent x rows₁ ≡ true = rw rows-closed
         (absent-of x (closedRows 0 rows) (fresh-closed x 0 rows (fresh-of x rows (g₁ .fresh)))) in
         tried-put (shut .block) n rows₁ (notesFor s) law x xs
-        ∙ sym (tried-fits n rows₁ law x xs (leb-true law mostLaw (g₁ .lawful)) (g₁ .number) free (g₁ .good) few room)
+        ∙ sym (tried-fits n rows₁ law x xs (leb-true law mostLaw (g₁ .lawful)) (g₁ .number) free (g₁ .good) few room refl)
         ∙ ap (λ (d : Gap). gapTells rows₁ d) (sym (gap₁ n same-size))
 
     closing-tells : putTells l s law x xs (leaves a) ≡ Done (a .first) (a .second)

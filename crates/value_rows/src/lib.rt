@@ -36,7 +36,8 @@ pub struct Row {
     pub below: usize,
 }
 
-// The twelve rows, each as one octet: 32 times `low`, 8 times `below`, and R'. A match becomes one load, where a const array is made on the stack.
+// The twelve rows, each as one octet: 32 times `low`, 8 times `below`, and R'. A match becomes one load, where a const array is made on the
+// stack.
 fn packed_row(k: usize) -> u8
     requires { ⌜ k < 12 ⌝ }
     ensures { λ r. ⌜ r ≡ packed k ⌝ }

@@ -7,7 +7,7 @@ ghost use lib.ListN.{length, drop};
 ghost use Rattle.rules.specs.Frame.{readOne};
 ghost use Rattle.rules.specs.Calls.{Walk, Walks};
 ghost use Rattle.rules.specs.Walk.{walkFrom};
-ghost use Rattle.reader.specs.Answers.{Fills};
+ghost use Rattle.reader.specs.Answers.{Fills, Measures};
 ghost use Rattle.walk.specs.Counting.{Steps, Counts};
 use reader::Report;
 use rules::Ending;
@@ -26,6 +26,21 @@ pub fn pass(
     ensures { λ r. ⌜ Fills (readOne (drop at (now (octets .entry))) law set room) r (now (samples .exit)) ⌝ }
 {
     reader::fill_frame(&octets[at..], law, set, room, samples)
+}
+
+// The same report, where no samples are wanted: what is in the frame buffer is not told.
+fn measure(
+    octets: &[u8],
+    law: u32,
+    set: u32,
+    at: usize,
+    room: usize,
+    samples: &mut [u8; 320],
+) -> Report
+    requires { ⌜ (at ≤ length (now octets)) × (length (now samples) ≡ 320) ⌝ }
+    ensures { λ r. ⌜ Measures (readOne (drop at (now (octets .entry))) law set room) r (now (samples .exit)) ⌝ }
+{
+    reader::measure_frame(&octets[at..], law, set, room, samples)
 }
 
 // One frame, at a place of the stream; its samples go to the output from `to` on.
@@ -73,7 +88,7 @@ pub fn walk_on(
     let mut left = room;
     let mut passed = 0;
     while passed < frames && place < octets.len() {
-        let r = pass(octets, law, set, place, left, &mut samples);
+        let r = measure(octets, law, set, place, left, &mut samples);
         let e = r.end;
         match e {
             Ending::Refused(why) => {

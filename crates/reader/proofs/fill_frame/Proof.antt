@@ -12,21 +12,30 @@ module _ (c : tie.After-opens) where
   abbrev start : tie.Start
   start = c .before .before
 
+-- where the frame opens, from where its tool is one of 1 to 4, and from where it is another
+module _ (c : tie.Then1) where
+  abbrev then-opens : tie.After-opens
+  then-opens = c .before .before .before .before .before
+
+module _ (c : tie.Else1) where
+  abbrev else-opens : tie.After-opens
+  else-opens = c .before .before .before .before .before
+
 plain-into-requires : tie.Need-plain-into-requires
 plain-into-requires c κs =
-    let opens = c .before .before .before .before .before .before in
+    let opens = then-opens (c .before) in
     let r = opened-fits (opens .opens .ensures) (c .before .before .before .before .h .given .1) in
     (r .0, omega arith, λ roomy. omega (arith, head-short (r .0), (start opens) .pre))
 
 with-tool-requires : tie.Need-with-tool-requires
 with-tool-requires c κs =
-    let opens = c .before .before .before .before .before .before in
+    let opens = else-opens (c .before) in
     let r = opened-fits (opens .opens .ensures) (c .before .before .before .before .h .given .1) in
     (r .0, omega arith, r .1, (start opens) .pre)
 
 returns : tie.Need-returns
 returns c =
-    let opens = c .before .before .before .before .before .before .before in
+    let opens = then-opens (c .before .before) in
     let s = start opens in
     into-fills (samples-fit (s .args .octets .now) (s .args .law) (s .args .set) (s .args .room) .0) (s .pre)
     (into-as (opened (opens .opens .ensures) (c .before .before .before .before .before .h .given .1) _) (c .plain-into .ensures))
@@ -41,7 +50,7 @@ returns-3 c = fills-none (opened (c .before .before .before .opens .ensures) (c 
 
 returns-4 : tie.Need-returns-4
 returns-4 c =
-    let opens = c .before .before .before .before .before .before .before in
+    let opens = else-opens (c .before .before) in
     fills-as (opened (opens .opens .ensures) (c .before .before .before .before .before .h .given .1) _) (c .with-tool .ensures)
 
 pub fill-frame-spec : {M : Type 1} → statement M

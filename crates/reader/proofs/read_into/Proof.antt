@@ -15,25 +15,34 @@ module _ (c : tie.After-opens) where
   abbrev start : tie.Start
   start = c .before .before .before
 
+-- where the frame opens, from where its tool is one of 1 to 4, and from where it is another
+module _ (c : tie.Then1) where
+  abbrev then-opens : tie.After-opens
+  then-opens = c .before .before .before .before .before
+
+module _ (c : tie.Else1) where
+  abbrev else-opens : tie.After-opens
+  else-opens = c .before .before .before .before .before
+
 plain-into-requires : tie.Need-plain-into-requires
 plain-into-requires c κs =
-    let r = opened-fits (c .before .before .before .before .before .before .opens .ensures) (c .before .before .before .before .h .given .1) in
+    let r = opened-fits (then-opens (c .before) .opens .ensures) (c .before .before .before .before .h .given .1) in
     (r .0, omega arith, λ roomy. roomy)
 
 returns : tie.Need-returns
 returns c =
     let laid = c .before .before in
-    into-as (opened (laid .before .before .before .before .before .before .before .opens .ensures)
+    into-as (opened (then-opens (laid .before .before) .opens .ensures)
     (laid .before .before .before .before .before .h .given .1) _) (laid .plain-into .ensures)
 
 with-tool-requires : tie.Need-with-tool-requires
 with-tool-requires c κs =
-    let r = opened-fits (c .before .before .before .before .before .before .opens .ensures) (c .before .before .before .before .h .given .1) in
+    let r = opened-fits (else-opens (c .before) .opens .ensures) (c .before .before .before .before .h .given .1) in
     (r .0, omega arith, r .1, refl)
 
 module _ (c : tie.After-with-tool) where
   abbrev opens : tie.After-opens
-  opens = c .before .before .before .before .before .before .before
+  opens = else-opens (c .before .before)
 
   -- the body's samples are in the frame buffer
   fills : Fills (readOne (start opens .args .octets .now) (start opens .args .law) (start opens .args .set) (length (start opens .args .out .now)))

@@ -113,7 +113,7 @@ loop-again c =
     let t = c .before in
     let s = item t in
     let h = then1 s in
-    let p = c .before .before .before .before .before .before .put-item .ensures in
+    let p = t .before .before .before .before .before .put-item .ensures in
     rw (p .1)
     (play-turn _ _ _ _ _ _ _ ((loop h) .loop .inv) (omega arith) (here h) (s .before .before .if2 .left) (s .item-at .ensures) (done t)
     (p .0))

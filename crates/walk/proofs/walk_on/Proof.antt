@@ -25,14 +25,14 @@ here : (c : tie.Then1 Inv-loop μ-loop) → c .before .before .loop .place < len
 here c = ltb-true _ _ (c .if1 .taken)
 
 -- a frame that was passed
-module _ (c : tie.After-pass Inv-loop μ-loop) (e : c .pass .result .end ≡ Done) where
+module _ (c : tie.After-measure Inv-loop μ-loop) (e : c .measure .result .end ≡ Done) where
   bounds : Bounds (drop (c .before .before .before .before .loop .place)
       (c .before .before .before .before .before .before .args .octets .now)) (c .before .before .before .before .loop .left)
-      (c .pass .result)
+      (c .measure .result)
   bounds = along-bounds _ _ _ _ _ _ (c .before .before .before .before .loop .inv .along) (omega arith) (here (c .before .before))
-      (c .pass .ensures .tells) e
+      (c .measure .ensures .tells) e
 
-  inside : c .before .before .before .before .loop .place + c .pass .result .octets ≤ length
+  inside : c .before .before .before .before .loop .place + c .measure .result .octets ≤ length
       (c .before .before .before .before .before .before .args .octets .now)
   inside = omega (
     arith,
@@ -45,10 +45,10 @@ module _ (c : tie.After-pass Inv-loop μ-loop) (e : c .pass .result .end ≡ Don
 loop-holds : tie.Need-loop-holds Inv-loop μ-loop
 loop-holds c = record { done = _; along = along-start _ _ _ _ _ _; size = refl }
 
-pass-requires : tie.Need-pass-requires Inv-loop μ-loop
-pass-requires c κs = (le-of-lt (here (c .before)), c .before .before .before .loop .inv .size)
+measure-requires : tie.Need-measure-requires Inv-loop μ-loop
+measure-requires c κs = (le-of-lt (here (c .before)), c .before .before .before .loop .inv .size)
 
-module _ (c : tie.After-pass Inv-loop μ-loop) where
+module _ (c : tie.After-measure Inv-loop μ-loop) where
   abbrev loop : tie.At-loop Inv-loop μ-loop
   loop = c .before .before .before .before
 
@@ -63,7 +63,7 @@ returns c =
     let s = c .before .before .before .before in
     rw (c .answer .ensures)
     (along-refused _ _ _ _ _ _ (s .before .before .before .before .loop .inv .along) refl (omega arith) (here (s .before .before))
-    (s .pass .ensures .tells) (c .before .before .e .given .0 .0) (c .before .before .e .given .1) .1)
+    (s .measure .ensures .tells) (c .before .before .e .given .0 .0) (c .before .before .e .given .1) .1)
 
 add-place : tie.Need-add-place Inv-loop μ-loop
 add-place c = omega (
@@ -84,9 +84,9 @@ loop-again c =
     let w = s .before .before .before .before .loop .inv .along in
     record {
       done = _;
-      along = along-turn _ _ _ _ _ _ w (omega arith) (here (s .before .before)) (s .pass .ensures .tells)
+      along = along-turn _ _ _ _ _ _ w (omega arith) (here (s .before .before)) (s .measure .ensures .tells)
           (c .before .before .enum-told .given .1) refl;
-      size = s .pass .ensures .size;
+      size = s .measure .ensures .size;
     }
 
 sub-answer-3 : tie.Need-sub-answer-3 Inv-loop μ-loop
@@ -103,6 +103,6 @@ returns-2 c =
     (c .before .loop-test .came) .1)
 
 pub walk-on-spec : {M : Type 1} → statement M
-walk-on-spec = tie.close (tie.spec Inv-loop μ-loop loop-holds pass-requires (λ c. search needs) sub-answer sub-answer-2
+walk-on-spec = tie.close (tie.spec Inv-loop μ-loop loop-holds measure-requires (λ c. search needs) sub-answer sub-answer-2
     (λ c κs. search needs) returns (λ c. search needs) add-place sub-left (λ c. search needs) loop-less loop-again sub-answer-3
     sub-answer-4 (λ c κs. search needs) returns-2)

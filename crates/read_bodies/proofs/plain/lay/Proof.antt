@@ -13,7 +13,9 @@ lay-octets-requires : tie.Need-lay-octets-requires
 lay-octets-requires c κs = lies-as _ _ _ (c .before .enum-told2 .given .1) (c .before .before .before .before .before .pre)
 
 lay-same-requires : tie.Need-lay-same-requires
-lay-same-requires c κs = lies-as _ _ _ (c .before .before .body .given .1) (c .before .before .before .before .before .before .pre)
+lay-same-requires c κs =
+    let kind = c .before .before in
+    lies-as _ _ _ (kind .body .given .1) (kind .before .before .before .before .pre)
 
 returns : tie.Need-returns
 returns c = laid-none _ _ _ (c .enum-told .given .1) refl
