@@ -347,9 +347,9 @@ fn the_stack_that_a_call_uses() {
     let unmeasured: Vec<(&String, &u64)> = bounds.iter().filter(|(name, _)| !measured.contains_key(&***name)).collect();
     assert!(unmeasured.iter().all(|(_, octets)| 3 * **octets < most), "not measured: {unmeasured:?}");
     assert!(measured.len() >= 36 && measured.keys().all(|name| bounds.contains_key(*name)), "{measured:?}");
-    // A conversion calls nothing; it, a wipe, a step and what tells of little may use no more than a thread that makes no call.
+    // A thread that makes no call uses some too, which is taken off; so what has a small bound may be measured as nothing.
     let none: Vec<&&str> = measured.iter().filter(|(_, octets)| **octets == 0).map(|(name, _)| name).collect();
-    assert!(none.len() < 12, "measured as nothing: {none:?}");
+    assert!(none.iter().all(|name| bounds[**name] <= 128), "measured as nothing: {none:?}");
     // The figure is not far too much.
     assert!(bounds.values().any(|octets| 3 * octets > 2 * most), "the header says {most}");
     say(&format!("compared: stack, the shipped archive: {} functions, {} calls bounded\n", frames.len(), bounds.len()));
