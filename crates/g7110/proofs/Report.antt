@@ -1,5 +1,5 @@
--- A report is the definition's, number by number (`then`): of a frame or a file written (`write-reported`, `file-write-reported`), of a
--- store that a greeting is put into (`put-reported`), of why a tool wins (`why-refused`, `why-told`).
+-- A report is the definition's, number by number (`then`): of a frame or a file written (`write-reported`, `file-write-reported`), of
+-- an item (`piece-reported`), of a store that a greeting is put into (`put-reported`), of why a tool wins (`why-refused`, `why-told`).
 use Prim.Native.Nat.{ℕ}
 use mathlib.Core.Path.{_≡_, refl, ap, _∙_}
 use mathlib.Core.List.{List, [], _∷_}
@@ -8,6 +8,8 @@ use Rattle.rules.specs.declared.WriteAnswer.{WriteAnswer}
 use Rattle.rules.specs.Refusals.{refusalNumber, numberOf}
 use Rattle.rules.specs.Chooses.{Write}
 use Rattle.rules.specs.Calls.{Writes}
+use Rattle.recording_next.specs.declared.Told.{Told as ToldItem}
+use Rattle.recording_next.specs.Next.{Piece, Tells}
 use Rattle.recording.specs.declared.FileWritten.{FileWritten}
 use Rattle.recording.specs.Files.{Filed}
 use Rattle.recording.specs.Calls as recording
@@ -19,6 +21,7 @@ use Rattle.reasons.specs.declared.Why.{Why}
 use Rattle.reasons.specs.declared.Why.the-variants.{Told, Refused}
 use Rattle.reasons.specs.Calls.{Prints}
 use Rattle.g7110.specs.Boundary.{WriteReported, WhyReported}
+use Rattle.g7110.specs.Telling.{PieceReported}
 use Rattle.g7110.specs.Recordings.{FileWriteReported}
 use Rattle.g7110.specs.Store.{ChangeReported}
 
@@ -32,6 +35,16 @@ write-reported written t e =
     record {
       number = e ∙ ap numberOf (t .end);
       report = then (t .octets) (then (t .bits) (then (t .tool) refl));
+      lent = t .lent;
+    }
+
+-- an item of a recording
+pub piece-reported : (p : Piece) (at : ℕ) {a : ToldItem} {out out′ : List ℕ} {r : ℕ} → Tells p at a out out′ → r ≡ recording.numberOf (a .end)
+    → PieceReported p at out out′ (a .kind ∷ a .samples ∷ a .octets ∷ a .tool ∷ a .bit ∷ a .place ∷ []) r
+piece-reported p at t e =
+    record {
+      number = e ∙ ap recording.numberOf (t .end);
+      report = then (t .kind) (then (t .samples) (then (t .octets) (then (t .tool) (then (t .bit) (then (t .place) refl)))));
       lent = t .lent;
     }
 

@@ -14,7 +14,7 @@ use Rattle.rules.specs.Bits.{bitsOf, fillFor}
 use Rattle.rules.specs.Samples.{maskOf}
 use Rattle.rules.specs.Reading.{Read, whole, refuse, filled}
 use Rattle.rules.specs.Frame.{Found, body}
-use Rattle.rules.specs.Calls.{readSamples}
+use Rattle.rules.specs.Calls.{readSamples, atStart}
 use Rattle.read_opening.specs.declared.Head.{Head}
 use Rattle.read_opening.specs.Opening.{bodyBy, bodyOf, HeadFits}
 use Rattle.read_bodies.specs.declared.plain.Plain.{Plain}
@@ -22,6 +22,7 @@ use Rattle.read_bodies.specs.declared.plain.Plain.the-variants.{Short, Octets, 
 use Rattle.read_bodies.specs.Plainly.{PlainIs, laidBy, Lies}
 use Rattle.read_bodies.proofs.Poured.{part-length}
 use Rattle.reader.specs.declared.Report.{Report}
+use Rattle.reader.specs.declared.Given.{Given}
 use Rattle.reader.specs.Answers.{Tells, Fills, Gives, ReadsInto, afterHead, finish}
 use Rattle.reader.proofs.Decided.{no-body, with-body, length-range}
 use Rattle.reader.proofs.Told.{tells-as}
@@ -97,6 +98,11 @@ pub lies-fit : (b : Plain) (s : List ℕ) (n room k : ℕ) → (n ≤ room → n
 lies-fit (Short bit) s n room k f l = l
 lies-fit Octets s n room k f l = (l .0, f (l .1))
 lies-fit (Same x bits) s n room k f l = f l
+
+pub laid-into : (found : Read Found) (octets : List ℕ) (n room : ℕ) (g : Given) (old : List ℕ) {new : List ℕ} → Gives found octets n room g
+    → new ≡ atStart (laidBy (g .body) octets n) old → ReadsInto found (g .report) old new
+laid-into found octets n room g old gives e =
+    record { tells = gives .tells; lent = e ∙ ap (λ (s : List ℕ). atStart s old) (gives .samples) }
 
 pub into-as : {m found : Read Found} {r : Report} {old new : List ℕ} → m ≡ found → ReadsInto m r old new → ReadsInto found r old new
 into-as {r = r} {old = old} {new = new} e t = subst (λ (m : Read Found). ReadsInto m r old new) e t

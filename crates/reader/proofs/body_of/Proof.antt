@@ -4,9 +4,14 @@ use Prim.Native.Nat.{ℕ, _≤_}
 use mathlib.Core.Path.{_≡_, ap}
 use native.Mathlib.Omega.{arith}
 use mathlib.Core.List.{List}
+use mathlib.Core.Bool.{cond}
+use lib.Dec.{eqb}
 use lib.ListN.{length}
 use Rattle.rules.specs.Bits.{bitsOf}
 use Rattle.rules.specs.Reading.{Reader}
+use Rattle.rules.specs.Zeros.{binary, plusMinus}
+use Rattle.rules.specs.Located.{located}
+use Rattle.rules.specs.Fractional.{fractional}
 use Rattle.rules.specs.Frame.{body}
 use Rattle.read_opening.specs.Opening.{bodyBy}
 use Rattle.read_bodies.proofs.Poured.{fills-as}
@@ -41,13 +46,15 @@ returns : tie.Need-returns
 unfolding bodyBy body
 returns c =
     let s = c .before .before .before .before in
-    fills-as (c .binary .ensures) (of-tool s 5 (c .before .before .match .keys1)) (omega (arith, s .pre .0 .at, ranged s))
+    fills-as {other = binary (s .args .mask) (s .args .h .len) (bitsOf (s .args .octets .now)) (s .args .h .at)}
+    (c .binary .ensures) (of-tool s 5 (c .before .before .match .keys1)) (omega (arith, s .pre .0 .at, ranged s))
 
 returns-2 : tie.Need-returns-2
 unfolding bodyBy body
 returns-2 c =
     let s = c .before .before .before .before .before in
-    fills-as (c .plus-minus .ensures) (of-tool s 6 (c .before .before .before .match .keys2)) (omega (arith, s .pre .0 .at))
+    fills-as {other = plusMinus (s .args .mask) (s .args .h .len) (s .args .h .mark) (bitsOf (s .args .octets .now)) (s .args .h .at)}
+    (c .plus-minus .ensures) (of-tool s 6 (c .before .before .before .match .keys2)) (omega (arith, s .pre .0 .at))
 
 returns-3 : tie.Need-returns-3
 unfolding bodyBy body
@@ -55,7 +62,9 @@ returns-3 c =
     let s = c .before .before .before .before in
     let last = last-body (s .args .mask) (s .args .h .tool) (s .args .h .len) (s .args .h .mark)
     (omega arith) (omega arith) (omega arith) (omega arith) (omega arith) (omega arith) in
-    fills-as (c .few-values .ensures) (ap (λ (r : Reader (List ℕ)). r (bitsOf (s .args .octets .now)) (s .args .h .at)) last)
+    fills-as {other = cond (eqb (s .args .h .tool) 11) (fractional (s .args .mask) (s .args .h .mark) (s .args .h .len))
+    (located (s .args .mask) (s .args .h .len)) (bitsOf (s .args .octets .now)) (s .args .h .at)}
+    (c .few-values .ensures) (ap (λ (r : Reader (List ℕ)). r (bitsOf (s .args .octets .now)) (s .args .h .at)) last)
     (omega (arith, s .pre .0 .at))
 
 pub body-of-spec : {M : Type 1} → statement M

@@ -30,7 +30,8 @@ body-requires c κs =
 returns : tie.Need-returns
 returns c =
     let s = c .before .before .before .before .before in
-    fills-as (c .body .ensures) (ap (λ (b : Bool). either s b (bitsOf (s .args .octets .now)) (s .args .h .at))
+    fills-as {other = fractional (s .args .mask) (s .args .h .mark) (s .args .h .len) (bitsOf (s .args .octets .now)) (s .args .h .at)}
+    (c .body .ensures) (ap (λ (b : Bool). either s b (bitsOf (s .args .octets .now)) (s .args .h .at))
     (eq-eqb (s .args .h .tool) 11 (c .before .before .if1 .taken))) (omega (arith, s .pre .0 .at))
 
 located-requires : tie.Need-located-requires

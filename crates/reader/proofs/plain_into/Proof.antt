@@ -1,10 +1,7 @@
 -- What is given is laid (Plainly).
 use borrow.Author.Needs.{needs}
-use mathlib.Core.Path.{ap, _∙_}
-use mathlib.Core.List.{List}
-use Prim.Native.Nat.{ℕ}
-use Rattle.rules.specs.Calls.{atStart}
-use Rattle.reader.proofs.Plainly.{lies-fit}
+use Rattle.reader.specs.Answers.{afterHead}
+use Rattle.reader.proofs.Plainly.{lies-fit, laid-into}
 use Rattle.reader.proofs.plain_into.Statement.{statement}
 use Rattle.reader.proofs.plain_into.Tie as tie
 
@@ -18,11 +15,10 @@ lay-requires c κs =
 returns : tie.Need-returns
 returns c =
     let laid = c .before .before .before in
-    let gives = laid .before .before .plain-frame .ensures in
-    record {
-      tells = gives .tells;
-      lent = laid .lay .ensures ∙ ap (λ (s : List ℕ). atStart s (laid .before .before .before .before .before .args .cells .now)) (gives .samples);
-    }
+    let given = laid .before .before in
+    let a = given .before .before .before .args in
+    laid-into (afterHead (a .law) (a .set) (a .room) (a .h) (a .octets .now)) (a .octets .now) (a .h .len) (a .room)
+    (given .plain-frame .result) (a .cells .now) (given .plain-frame .ensures) (laid .lay .ensures)
 
 pub plain-into-spec : {M : Type 1} → statement M
 plain-into-spec = tie.close (tie.spec (λ c κs. search needs) lay-requires (λ c. search needs) returns)
