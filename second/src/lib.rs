@@ -24,6 +24,7 @@
 
 mod bits;
 mod check;
+pub mod command;
 mod first_octet;
 mod fractional;
 pub mod gen;
