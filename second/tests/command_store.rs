@@ -212,7 +212,7 @@ fn puts_lists_and_jumps() {
     let mut model = Store::fresh(vec![0; 70_000]);
     for turn in 0..120u32 {
         let (number, law) = (1 + rng.below(40) as u32, turn % 2);
-        let many = 1 + rng.below(4_000);
+        let many = 1 + rng.below(9_000);
         let octets = some_greeting(many, &mut rng);
         bench.put("g", &octets);
         let law_word = ["a", "mu"][law as usize];
