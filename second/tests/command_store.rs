@@ -107,17 +107,17 @@ fn a_cut_behind_and_inside_every_write() {
     let mut all = Bench::default();
     for turn in 0..30 {
         let mut bench = Bench::default();
-        let size = 60 + rng.below(60);
+        let size = 20 + rng.below(30);
         bench.run(&format!("store create dir --block {size}"), &[]).ends(0);
         // Spares below and above the distances of moves, and none at all.
         let spare = [4_096, 0, 3, 7, 20][turn % 5];
         bench.put("dir/spare", &vec![0xA7; spare]);
-        for _ in 0..14 {
-            let (number, many) = (1 + rng.below(6), 1 + rng.below(size / 3));
+        for _ in 0..40 {
+            let (number, many) = (1 + rng.below(9), 1 + rng.below(size / 3));
             let octets = some_greeting(many, &mut rng);
             bench.put("g.lcm", &octets);
-            let line = match rng.below(5) {
-                0 => format!("store delete dir {number}"),
+            let line = match rng.below(6) {
+                0 | 5 => format!("store delete dir {number}"),
                 1 => format!("store put dir {number} g.lcm --replace"),
                 _ => format!("store put dir {number} g.lcm"),
             };
