@@ -2,7 +2,7 @@
 
 mod bench;
 
-use bench::{recording_of, stream_of, wav_of, Bench, PLAIN};
+use bench::{mirror_folder, recording_of, stream_of, wav_of, Bench, PLAIN};
 use second::command::{help, RUNS};
 use second::gen::{damage_somehow, Prng};
 use second::masters::from_master;
@@ -170,29 +170,33 @@ fn options_in_every_order() {
     bench.tell("options in every order");
 }
 
+/// Names, and what `pack` makes of them.
+const NAMES: [(&str, &str); 10] = [
+    ("a.ul8", "a.lcm"),
+    ("b.mu8", "b.lcm"),
+    ("c.mu", "c.lcm"),
+    ("two words.ul8", "two words.lcm"),
+    ("-dash.ul8", "-dash.lcm"),
+    ("--help", "--help.lcm"),
+    ("--", "--.lcm"),
+    ("i.j.ul8", "i.j.lcm"),
+    ("f.raw", "f.raw.lcm"),
+    (".ul8", ".lcm"),
+];
+
 #[test]
 fn names() {
-    let mut bench = Bench::default();
+    let mut bench = Bench { mirror: mirror_folder("names"), ..Bench::default() };
     let sound = [0xFF; 40];
-    let made = [
-        ("a.ul8", "a.lcm"),
-        ("b.mu8", "b.lcm"),
-        ("c.mu", "c.lcm"),
-        ("two words.ul8", "two words.lcm"),
-        ("-dash.ul8", "-dash.lcm"),
-        ("--help", "--help.lcm"),
-        ("--", "--.lcm"),
-        ("i.j.ul8", "i.j.lcm"),
-        ("f.raw", "f.raw.lcm"),
-        (".ul8", ".lcm"),
-    ];
-    for (name, out) in made {
+    for (name, out) in NAMES {
         bench.put(name, &sound);
         bench.run_words(&["pack", "-u", "--", name], &[]).ends(0);
         assert_eq!(bench.take(out), [0x41], "{name}");
         bench.run_words(&["unpack", "-u", "--", out, "-"], &[]).ends(0).prints(&sound);
         bench.run_words(&["test", "--", out], &[]).ends(0).prints(format!("{out}: ok\n").as_bytes());
     }
+    // Below the mirror's folder a name of 4,095 octets would be too long.
+    bench.mirror = None;
     let deep: String = "d".repeat(254);
     let folders: Vec<String> = (1..=15).map(|many| vec![deep.clone(); many].join("/")).collect();
     for folder in &folders {
@@ -212,45 +216,47 @@ fn names() {
     bench.tell("names with blanks, with dashes, of 4,095 octets");
 }
 
+/// A call, what is on standard input, the status, and the words.
+const REFUSALS: [(&str, &[u8], u32, &str); 30] = [
+    ("unpack -u -", &[0x86], 1, "SHORT (1): at octet 0, bit 8"),
+    ("unpack -u -", &[0x41, 0x46], 2, "PREFIX (2): at octet 1, bit 0"),
+    ("unpack -u -", &[0x28, 0x00], 3, "TOOL (3): at octet 0, bit 0, tool 8"),
+    ("unpack -u -", &[0x86, 0xDC], 5, "CASE (5): at octet 0, bit 8"),
+    ("unpack -u -", &[0x86, 0xF8], 6, "METHOD (6): at octet 0, bit 11"),
+    ("unpack -u -", &[0x57, 0x19], 7, "RUN (7): at octet 0, bit 9"),
+    ("unpack -u -", &[0x86, 0xFC, 0xFE], 8, "PLACE (8): at octet 0, bit 16"),
+    ("unpack -u -", &[0x86, 0xFC, 0x01], 9, "ALIGN (9): at octet 0, bit 23"),
+    ("pack a.ul8 x", &[], 10, "LENGTH (10): the last 10 samples fit no frame; --fill fills them up"),
+    ("why a.ul8", &[], 10, "LENGTH (10): the last 10 samples fit no frame"),
+    ("pack -n 41 a.ul8", &[], 10, "LENGTH (10): 41 is none of 40, 80, 160, 240, 320"),
+    ("pack -s 2 a.ul8", &[], 11, "SET (11): 2 is no odd number up to 255"),
+    ("why -s 2 -n 41 a.ul8", &[], 11, "SET (11): 2 is no odd number up to 255"),
+    ("unpack -s 256 a.lcm", &[], 11, "SET (11): 256 is no number up to 255"),
+    ("unpack long.lcm", &[], 13, "LONG (13): there are more than 1048576 octets"),
+    ("mend -t 39 long.lcm x", &[], 13, "LONG (13): there are more than 1048576 octets"),
+    ("unpack h.xyz", &[], 14, "HEAD (14): the heading of h.xyz is cut, or of another law or version"),
+    ("mend -t 39 a.lcm x", &[], 22, "TOTAL (22): 39 is no multiple of 40 up to 1000000"),
+    ("pack x.ul8 -q", &[], 64, "USAGE (64): -q is not a known option"),
+    ("pack a.ul8 -n", &[], 64, "USAGE (64): -n wants a value"),
+    ("pack a.ul8 -n x", &[], 64, "USAGE (64): -n wants a number, not x"),
+    ("pack a.ul8 --law x", &[], 64, "USAGE (64): --law is mu or a, not x"),
+    ("pack", &[], 64, "USAGE (64): IN is missing"),
+    ("pack a b c", &[], 64, "USAGE (64): c is one name too many"),
+    ("pack a b -o c", &[], 64, "USAGE (64): OUT is said twice"),
+    ("pack -r a.ul8", &[], 64, "USAGE (64): with -r OUT must be said"),
+    ("pack old x", &[], 64, "USAGE (64): the law is not known: say -u or -a"),
+    ("compare a.lcm old", &[], 65, "DIFFERS (65): the sound is not the master's from sample 0 on"),
+    ("pack --fill a.ul8 old", &[], 73, "EXISTS (73): old is there; -f writes over it"),
+    ("pack folder.ul8 x", &[], 74, "FILES (74): folder.ul8 cannot be read"),
+];
+
 /// Every number that a run ends with, and the words that it says.
 #[test]
 fn every_refusal_of_sound_and_streams() {
     let mut bench = Bench::default();
     bench.put("h.xyz", b"#!G7110M\x0A\x01\x41").put("long.lcm", &vec![0; 1_048_577]).put("a.ul8", &[0xFF; 90]);
     bench.put("a.lcm", &[0x41]).put("old", b"old").folder("folder.ul8");
-    let cases: [(&str, &[u8], u32, &str); 30] = [
-        ("unpack -u -", &[0x86], 1, "SHORT (1): at octet 0, bit 8"),
-        ("unpack -u -", &[0x41, 0x46], 2, "PREFIX (2): at octet 1, bit 0"),
-        ("unpack -u -", &[0x28, 0x00], 3, "TOOL (3): at octet 0, bit 0, tool 8"),
-        ("unpack -u -", &[0x86, 0xDC], 5, "CASE (5): at octet 0, bit 8"),
-        ("unpack -u -", &[0x86, 0xF8], 6, "METHOD (6): at octet 0, bit 11"),
-        ("unpack -u -", &[0x57, 0x19], 7, "RUN (7): at octet 0, bit 9"),
-        ("unpack -u -", &[0x86, 0xFC, 0xFE], 8, "PLACE (8): at octet 0, bit 16"),
-        ("unpack -u -", &[0x86, 0xFC, 0x01], 9, "ALIGN (9): at octet 0, bit 23"),
-        ("pack a.ul8 x", &[], 10, "LENGTH (10): the last 10 samples fit no frame; --fill fills them up"),
-        ("why a.ul8", &[], 10, "LENGTH (10): the last 10 samples fit no frame"),
-        ("pack -n 41 a.ul8", &[], 10, "LENGTH (10): 41 is none of 40, 80, 160, 240, 320"),
-        ("pack -s 2 a.ul8", &[], 11, "SET (11): 2 is no odd number up to 255"),
-        ("why -s 2 -n 41 a.ul8", &[], 11, "SET (11): 2 is no odd number up to 255"),
-        ("unpack -s 256 a.lcm", &[], 11, "SET (11): 256 is no number up to 255"),
-        ("unpack long.lcm", &[], 13, "LONG (13): there are more than 1048576 octets"),
-        ("mend -t 39 long.lcm x", &[], 13, "LONG (13): there are more than 1048576 octets"),
-        ("unpack h.xyz", &[], 14, "HEAD (14): the heading of h.xyz is cut, or of another law or version"),
-        ("mend -t 39 a.lcm x", &[], 22, "TOTAL (22): 39 is no multiple of 40 up to 1000000"),
-        ("pack x.ul8 -q", &[], 64, "USAGE (64): -q is not a known option"),
-        ("pack a.ul8 -n", &[], 64, "USAGE (64): -n wants a value"),
-        ("pack a.ul8 -n x", &[], 64, "USAGE (64): -n wants a number, not x"),
-        ("pack a.ul8 --law x", &[], 64, "USAGE (64): --law is mu or a, not x"),
-        ("pack", &[], 64, "USAGE (64): IN is missing"),
-        ("pack a b c", &[], 64, "USAGE (64): c is one name too many"),
-        ("pack a b -o c", &[], 64, "USAGE (64): OUT is said twice"),
-        ("pack -r a.ul8", &[], 64, "USAGE (64): with -r OUT must be said"),
-        ("pack old x", &[], 64, "USAGE (64): the law is not known: say -u or -a"),
-        ("compare a.lcm old", &[], 65, "DIFFERS (65): the sound is not the master's from sample 0 on"),
-        ("pack --fill a.ul8 old", &[], 73, "EXISTS (73): old is there; -f writes over it"),
-        ("pack folder.ul8 x", &[], 74, "FILES (74): folder.ul8 cannot be read"),
-    ];
-    for (words, input, status, said) in cases {
+    for (words, input, status, said) in REFUSALS {
         let ran = bench.run(words, input);
         let run = words.split(' ').next().unwrap();
         ran.ends(status).mentions(&format!("{run}: {said}\n"));
@@ -267,7 +273,7 @@ fn every_refusal_of_sound_and_streams() {
 
 #[test]
 fn no_file_is_written_over() {
-    let mut bench = Bench::default();
+    let mut bench = Bench { mirror: mirror_folder("no_file_is_written_over"), ..Bench::default() };
     bench.put("a.ul8", &[0xFF; 40]).put("a.lcm", &[0x41]).put("bad.lcm", &[0x41, 0x46]).put("old", b"old");
     bench.put("r", &recording_of(1, &[0x41, 0x01])).folder("dir");
     for words in ["pack a.ul8 old", "unpack a.lcm old", "unpack -w a.lcm old", "mend -t 40 a.lcm old", "unpack r old"] {
@@ -331,7 +337,8 @@ fn masters() {
         bench.disk.files.remove("back.wav");
         bench.run(&format!("unpack {option} -l -"), &stream).ends(0);
     }
-    for (format, said) in [([6, 1, 8_000, 8], "format 6, channels 1, 8000 Hz, 8 bits"), ([1, 2, 44_100, 16], "channels 2, 44100 Hz")] {
+    let others = [([6, 1, 8_000, 8], "format 6, channels 1, 8000 Hz, 8 bits"), ([1, 2, 44_100, 16], "channels 2, 44100 Hz")];
+    for (format, said) in others {
         bench.put("m.wav", &wav_of(&[0; 40], format));
         bench.run("pack -u -w m.wav -", &[]).ends(74).mentions(said);
     }
@@ -381,9 +388,36 @@ fn why_each_frame() {
                 winner=5 by=octets\n";
     bench.run("why -u -n40 -s17 -", &[0xFF; 40]).ends(0).prints(text.as_bytes()).says("stop=0 at=40 tool=0\n");
     bench.run("why -u -n40 -s17 -k 0 -", &[0xFF; 80]).ends(0).prints(text.as_bytes());
-    bench.run("why -u -n40 --only 2 -", &[0xFF; 80]).ends(64).prints(&[]).mentions("the sound has no frame 2\nstop=64 at=80 tool=0\n");
+    let ran = bench.run("why -u -n40 --only 2 -", &[0xFF; 80]);
+    ran.ends(64).prints(&[]).mentions("the sound has no frame 2\nstop=64 at=80 tool=0\n");
     bench.run("why -u -n40 -k2 -", &[0xFF; 90]).ends(10).prints(&[]).mentions("stop=10 at=80 tool=0\n");
     bench.run("why -u -", &[]).ends(0).prints(&[]);
     bench.run("why -u - -", &[]).ends(64);
     bench.tell("why each frame");
+}
+
+/// The longest streams, by every run that has a limit, and one octet more.
+#[test]
+fn the_longest() {
+    let mut bench = Bench::default();
+    const MOST: usize = 1_048_576;
+    bench.put("most.lcm", &vec![0x41; MOST]).put("more.lcm", &vec![0x00; MOST + 1]);
+    bench.put("r", &recording_of(1, &vec![0x01; MOST])).put("r2", &recording_of(1, &vec![0x01; MOST + 1]));
+    for words in ["test most.lcm", "info most.lcm", "unpack most.lcm", "unpack -g r out", "mend -t 1000000 most.lcm mended"] {
+        bench.run(words, &[]).ends(0);
+    }
+    let sound = bench.take("most.muo").to_vec();
+    assert_eq!(sound.len(), 40 * MOST);
+    for words in ["test more.lcm", "info more.lcm", "unpack more.lcm", "unpack r2 x", "mend -t 0 more.lcm x", "compare r2 most.muo"] {
+        bench.run(words, &[]).ends(13);
+    }
+    bench.run("pack -u -n40 -", &sound).ends(0).prints(bench.take("most.lcm").to_vec().as_slice());
+    let ran = bench.run("pack -u -n40 -", &[&sound[..], &sound[..40]].concat());
+    ran.ends(13).prints(&[]).says(&format!(
+        "pack: LONG (13): the stream would have more than 1048576 octets; {0} samples fit\nstop=13 at={0} tool=0\n",
+        40 * MOST
+    ));
+    bench.put("pads.lcm", &vec![0x00; MOST]);
+    bench.run("mend -t 40 pads.lcm x", &[]).ends(13).mentions("the result would have more than 1048576 octets");
+    bench.tell("the longest streams");
 }

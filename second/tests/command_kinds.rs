@@ -3,7 +3,8 @@
 
 mod bench;
 
-use bench::{recording_of, wav_of, Bench, PLAIN};
+use bench::{mirror_folder, recording_of, wav_of, Bench, PLAIN};
+use second::gen::Prng;
 
 /// Files of every kind, one for each row of the table below.
 fn files(bench: &mut Bench) -> Vec<&'static str> {
@@ -90,7 +91,7 @@ const WANTED: [(&str, [u32; 22]); 19] = [
 
 #[test]
 fn every_kind_to_every_run() {
-    let mut bench = Bench::default();
+    let mut bench = Bench { mirror: mirror_folder("kinds"), ..Bench::default() };
     let mut names = files(&mut bench);
     names.extend(["folder", "missing"]);
     assert_eq!(names, WANTED.map(|(name, _)| name));
@@ -172,4 +173,45 @@ fn info_of_each() {
          stop=74 at=0 tool=0 bit=0\n",
     );
     bench.tell("info of each kind");
+}
+
+/// Words that a command line may have, the runs left out.
+const WORDS: [&str; 60] = [
+    "-u", "-a", "--law", "mu", "a", "-l", "-w", "-n", "40", "-n80", "--frame=160", "-s", "1", "-s127", "--set=255",
+    "--fill", "-r", "-f", "--force", "-o", "--output=new", "-v", "-g", "-t", "-t40", "--total", "-k0", "-k", "--block",
+    "--block=64", "--replace", "--dry-run", "--", "-", "new", "other", "dir", "dir", "1", "7", "0", "2.5", "show",
+    "set", "history", "back", "wipe", "law=0", "set=300", "greeting=7", "block=0", "--help", "-x", "--law=x",
+    "none", "folder", "4294967296", "", "--fill=1", "-uf",
+];
+
+/// Lines drawn: none breaks the command, and what holds of every run holds.
+#[test]
+fn any_words() {
+    let (mut bench, mut rng) = (Bench::default(), Prng::new(4_030));
+    let names = files(&mut bench);
+    bench.put("block", &[0x41; 64]).put("empty", &[]).folder("folder");
+    bench.run("store create dir --block 40", &[]).ends(0);
+    bench.run("store put dir 7 stream.lcm", &[]).ends(0);
+    let first = bench.disk.clone();
+    let runs: Vec<&str> = RUNS.iter().map(|run| run.split(' ').next().unwrap()).collect();
+    let of_stores = ["create", "put", "get", "delete", "list", "check", "jump", "export", "import"];
+    let known: Vec<u32> = (0..=27).chain([64, 65, 66, 73, 74]).filter(|status| ![4, 12].contains(status)).collect();
+    for turn in 0..40_000 {
+        let mut words = vec![*rng.pick(&runs)];
+        if words[0] == "store" {
+            words.push(*rng.pick(&of_stores));
+        }
+        for _ in 0..rng.below(7) {
+            words.push(if rng.flip() { *rng.pick(&names) } else { *rng.pick(&WORDS) });
+        }
+        let many = rng.below(90);
+        let input = if rng.flip() { vec![0x41; many] } else { rng.octets(many) };
+        bench.mirror = mirror_folder("any").filter(|_| turn % 200 == 0);
+        let ran = bench.run_words(&words, &input);
+        assert!(known.contains(&ran.status), "{}: {}", ran.line, ran.status);
+        if rng.below(10) == 0 {
+            bench.disk = first.clone();
+        }
+    }
+    bench.tell("any words");
 }

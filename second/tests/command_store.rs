@@ -3,7 +3,7 @@
 
 mod bench;
 
-use bench::Bench;
+use bench::{mirror_folder, Bench};
 use second::command::{Change, Memory};
 use second::gen::Prng;
 use second::store::Store;
@@ -157,6 +157,9 @@ fn made_and_cut() {
             }
             assert_eq!(seen(&again.disk), new);
             count += 1;
+            bench.runs += again.runs;
+            bench.changes += again.changes;
+            again.by_status.iter().for_each(|(status, many)| *bench.by_status.entry(*status).or_default() += many);
         }
     }
     bench.tell(&format!("a folder cut while it is made, {count} cuts"));
@@ -172,7 +175,7 @@ fn written(change: &Change) -> Option<String> {
 /// The order of writes of a put that closes up, of a delete and of a replace.
 #[test]
 fn the_order_of_writes() {
-    let mut bench = Bench::default();
+    let mut bench = Bench { mirror: mirror_folder("the_order_of_writes"), ..Bench::default() };
     bench.run("store create dir --block 10", &[]).ends(0);
     bench.put("four.lcm", &[0x41; 4]).put("two.lcm", &[0x42; 2]).put("five.lcm", &[0x41; 5]);
     let mut order = |line: &str, wanted: &[&str]| {
@@ -204,6 +207,22 @@ fn the_order_of_writes() {
     bench.tell("the order of a store's writes");
 }
 
+/// A jump into the first greeting, by the run and by the model.
+fn jumped(bench: &mut Bench, model: &Store, rng: &mut Prng) {
+    if let Some(greeting) = model.greetings.first() {
+        let second = rng.below(greeting.samples / 8_000 + 2) as u64;
+        let ran = bench.run(&format!("store jump dir {} {second}", greeting.number), &[]);
+        match model.jump(greeting.number, 8_000 * second) {
+            Ok(to) => {
+                let told = (to.frame, to.place, to.within, to.read);
+                let line = format!("frame={} octet={} sample={} read={}\n", told.0, told.1, told.2, told.3);
+                ran.ends(0).prints(line.as_bytes());
+            }
+            Err(wanted) => drop(ran.ends(wanted)),
+        }
+    }
+}
+
 /// Lists and jumps, in and out, held against the model of a store.
 #[test]
 fn puts_lists_and_jumps() {
@@ -228,18 +247,7 @@ fn puts_lists_and_jumps() {
                 Err(wanted) => drop(ran.ends(wanted)),
             }
         }
-        if let Some(greeting) = model.greetings.first() {
-            let second = rng.below(greeting.samples / 8_000 + 2) as u64;
-            let ran = bench.run(&format!("store jump dir {} {second}", greeting.number), &[]);
-            match model.jump(greeting.number, 8_000 * second) {
-                Ok(to) => {
-                    let told = (to.frame, to.place, to.within, to.read);
-                    let line = format!("frame={} octet={} sample={} read={}\n", told.0, told.1, told.2, told.3);
-                    ran.ends(0).prints(line.as_bytes());
-                }
-                Err(wanted) => drop(ran.ends(wanted)),
-            }
-        }
+        jumped(&mut bench, &model, &mut rng);
     }
     assert_eq!(seen(&bench.disk).greetings.len(), model.greetings.len());
     bench.run("store export dir block table", &[]).ends(0);
@@ -251,51 +259,57 @@ fn puts_lists_and_jumps() {
     bench.tell("puts, deletes, jumps, an export and an import");
 }
 
+/// A call, the status, and what is said.
+const REFUSALS: [(&str, u32, &str); 33] = [
+    ("store put dir 0 g.lcm", 15, "store put: NUMBER (15): a greeting's number is from 1 to 65535"),
+    ("store get dir 65536", 15, "store get: NUMBER (15): a greeting's number is from 1 to 65535"),
+    ("store delete dir 99999999999999999999999", 15, "store delete: NUMBER (15): a greeting's"),
+    ("store put dir 7 g.lcm", 16, "store put: TAKEN (16): greeting 7 is there; --replace puts another in its place"),
+    ("store get dir 8 x", 17, "store get: ABSENT (17): there is no greeting 8"),
+    ("store jump dir 8 1", 17, "store jump: ABSENT (17): there is no greeting 8"),
+    (
+        "store put dir 8 bad.lcm",
+        18,
+        "store put: BAD (18): bad.lcm is no greeting: SHORT (1): at octet 1, bit 8\nstop=18 at=1 tool=0 bit=8",
+    ),
+    ("store put dir 8 none.lcm", 18, "store put: BAD (18): none.lcm is empty"),
+    ("store put dir 8 big.lcm --replace", 0, "start=2 octets=38 moved=0"),
+    ("store put dir 9 g.lcm", 20, "store put: NOROOM (20): 40 held and 2 new are more than 40"),
+    ("store put dir 7 g.lcm --replace", 20, "store put: NOROOM (20): 40 held and 2 new are more than 40"),
+    ("store put dir 9 g.lcm --dry-run", 20, "store put: NOROOM (20): 40 held and 2 new are more than 40"),
+    ("store jump dir 7 1", 21, "store jump: BEYOND (21): greeting 7 has 0.010 seconds"),
+    ("store import new b bad.table", 18, "store import: BAD (18): bad.table names a greeting that is none"),
+    ("store import new b no.table", 26, "store import: TABLE (26): no.table is no table of b"),
+    ("store import dir b no.table", 73, "store import: EXISTS (73): dir is there"),
+    ("store create dir", 73, "store create: EXISTS (73): dir is there"),
+    ("store create file", 73, "store create: EXISTS (73): file is there"),
+    ("store create a/b", 74, "store create: FILES (74): a/b cannot be written"),
+    ("store create new --block 0", 64, "store create: USAGE (64): --block is from 1 to 1048576"),
+    ("store create new --block 1048577", 64, "store create: USAGE (64): --block is from 1 to 1048576"),
+    ("store create -", 64, "store create: USAGE (64): a store is a folder, not -"),
+    ("store list -", 64, "store list: USAGE (64): a store is a folder, not -"),
+    ("store list none", 74, "store list: FILES (74): none/block cannot be read"),
+    ("store get dir x", 64, "store get: USAGE (64): x is not a number"),
+    ("store jump dir 7 1.x", 64, "store jump: USAGE (64): 1.x is not a number"),
+    ("store jump dir 7 .5", 64, "store jump: USAGE (64): .5 is not a number"),
+    ("store put dir 9 x", 64, "store put: USAGE (64): the law is not known: say -u or -a"),
+    ("store get dir 7 old", 73, "store get: EXISTS (73): old is there; -f writes over it"),
+    ("store export dir new old", 73, "store export: EXISTS (73): old is there; -f writes over it"),
+    ("store export dir new new", 64, "store export: USAGE (64): BLOCK and TABLE are one file"),
+    ("store export dir - -", 64, "store export: USAGE (64): only one of the two files can be -"),
+    ("store list", 64, "store list: USAGE (64): DIR is missing"),
+];
+
 /// Every number that a store's run ends with.
 #[test]
 fn every_refusal_of_a_store() {
-    let mut bench = Bench::default();
+    let mut bench = Bench { mirror: mirror_folder("every_refusal_of_a_store"), ..Bench::default() };
     bench.run("store create dir --block 40", &[]).ends(0);
     bench.put("g.lcm", &[0x41; 2]).put("bad.lcm", &[0x41, 0x86]).put("big.lcm", &[0x41; 38]).put("none.lcm", &[]);
     bench.put("x", &[0x41; 2]).put("bad.table", b"prompt=7\nstart=1\noctets=1\n").put("b", &[0x41, 0x86]);
     bench.put("no.table", b"prompt=0\nstart=1\noctets=1\n").put("file", b"").put("old", b"old");
     bench.run("store put dir 7 g.lcm", &[]).ends(0);
-    let cases = [
-        ("store put dir 0 g.lcm", 15, "store put: NUMBER (15): a greeting's number is from 1 to 65535"),
-        ("store get dir 65536", 15, "store get: NUMBER (15): a greeting's number is from 1 to 65535"),
-        ("store delete dir 99999999999999999999999", 15, "store delete: NUMBER (15): a greeting's"),
-        ("store put dir 7 g.lcm", 16, "store put: TAKEN (16): greeting 7 is there; --replace puts another in its place"),
-        ("store get dir 8 x", 17, "store get: ABSENT (17): there is no greeting 8"),
-        ("store jump dir 8 1", 17, "store jump: ABSENT (17): there is no greeting 8"),
-        ("store put dir 8 bad.lcm", 18, "store put: BAD (18): bad.lcm is no greeting: SHORT (1): at octet 1, bit 8\nstop=18 at=1 tool=0 bit=8"),
-        ("store put dir 8 none.lcm", 18, "store put: BAD (18): none.lcm is empty"),
-        ("store put dir 8 big.lcm --replace", 0, "start=2 octets=38 moved=0"),
-        ("store put dir 9 g.lcm", 20, "store put: NOROOM (20): 40 held and 2 new are more than 40"),
-        ("store put dir 7 g.lcm --replace", 20, "store put: NOROOM (20): 40 held and 2 new are more than 40"),
-        ("store put dir 9 g.lcm --dry-run", 20, "store put: NOROOM (20): 40 held and 2 new are more than 40"),
-        ("store jump dir 7 1", 21, "store jump: BEYOND (21): greeting 7 has 0.010 seconds"),
-        ("store import new b bad.table", 18, "store import: BAD (18): bad.table names a greeting that is none"),
-        ("store import new b no.table", 26, "store import: TABLE (26): no.table is no table of b"),
-        ("store import dir b no.table", 73, "store import: EXISTS (73): dir is there"),
-        ("store create dir", 73, "store create: EXISTS (73): dir is there"),
-        ("store create file", 73, "store create: EXISTS (73): file is there"),
-        ("store create a/b", 74, "store create: FILES (74): a/b cannot be written"),
-        ("store create new --block 0", 64, "store create: USAGE (64): --block is from 1 to 1048576"),
-        ("store create new --block 1048577", 64, "store create: USAGE (64): --block is from 1 to 1048576"),
-        ("store create -", 64, "store create: USAGE (64): a store is a folder, not -"),
-        ("store list -", 64, "store list: USAGE (64): a store is a folder, not -"),
-        ("store list none", 74, "store list: FILES (74): none/block cannot be read"),
-        ("store get dir x", 64, "store get: USAGE (64): x is not a number"),
-        ("store jump dir 7 1.x", 64, "store jump: USAGE (64): 1.x is not a number"),
-        ("store jump dir 7 .5", 64, "store jump: USAGE (64): .5 is not a number"),
-        ("store put dir 9 x", 64, "store put: USAGE (64): the law is not known: say -u or -a"),
-        ("store get dir 7 old", 73, "store get: EXISTS (73): old is there; -f writes over it"),
-        ("store export dir new old", 73, "store export: EXISTS (73): old is there; -f writes over it"),
-        ("store export dir new new", 64, "store export: USAGE (64): BLOCK and TABLE are one file"),
-        ("store export dir - -", 64, "store export: USAGE (64): only one of the two files can be -"),
-        ("store list", 64, "store list: USAGE (64): DIR is missing"),
-    ];
-    for (words, status, said) in cases {
+    for (words, status, said) in REFUSALS {
         bench.run(words, &[]).ends(status).mentions(said);
         assert!(!bench.has("new") && !bench.disk.folders.contains("new"), "{words}");
     }
@@ -322,14 +336,17 @@ fn folders_that_no_run_left() {
     let mut broken = |name: &str, octets: &[u8], status: u32, said: &str| {
         bench.disk = whole.clone();
         bench.put(name, octets);
-        for run in ["list dir", "check dir", "get dir 1 x", "delete dir 1", "put dir 90 g.lcm", "export dir x y", "jump dir 1 0"] {
+        let looks = ["list dir", "check dir", "get dir 1 x", "export dir x y", "jump dir 1 0"];
+        for run in looks.into_iter().chain(["delete dir 1", "put dir 90 g.lcm"]) {
             bench.run(&format!("store {run}"), &[]).ends(status).mentions(said);
             assert!(bench.disk.changes.is_empty(), "{run}");
         }
     };
     broken(page, b"prompt=1\n", 26, "TABLE (26): the table is none of this block\n");
     broken("dir/block", &vec![0x46; 16_384], 18, "BAD (18): the table names a greeting that is none\n");
-    broken("dir/record", &[[0; 4], [9, 0, 0, 0], [0; 4], [0; 4], [0; 4], [0; 4], [0; 4], [0; 4]].concat(), 27, "MOVE (27): the record tells of no move in this block\n");
+    let mut ninth = [0; 32];
+    ninth[4] = 9;
+    broken("dir/record", &ninth, 27, "MOVE (27): the record tells of no move in this block\n");
     broken("dir/record", &[2; 32], 27, "MOVE (27): ");
     broken("dir/record", &[0; 31], 74, "FILES (74): dir/record has 31 octets, not 32\n");
     bench.tell("folders that no run left");

@@ -3,7 +3,7 @@
 
 mod bench;
 
-use bench::{Bench, Ran};
+use bench::{mirror_folder, Bench, Ran};
 use second::command::Memory;
 use second::recording::heading;
 use std::collections::BTreeSet;
@@ -151,13 +151,14 @@ fn take(line: &str, bench: &mut Bench, call: &mut Call, input: &mut Vec<u8>) {
 #[test]
 fn every_case() {
     let (mut all, mut cases, mut names) = (Bench::default(), 0, BTreeSet::new());
-    let (mut bench, mut call, mut input) = (Bench::default(), Call::default(), vec![]);
+    let fresh = || Bench { mirror: mirror_folder("vectors"), ..Bench::default() };
+    let (mut bench, mut call, mut input) = (fresh(), Call::default(), vec![]);
     for line in FILE.lines().filter(|line| !line.is_empty() && !line.starts_with('#')) {
         if let Some(name) = line.strip_prefix("case ") {
             call.settle(&bench);
             add(&mut all, &bench);
             assert!(names.insert(name), "{name} is there twice");
-            (bench, call) = (Bench::default(), Call::default());
+            (bench, call) = (fresh(), Call::default());
             cases += 1;
         } else {
             take(line, &mut bench, &mut call, &mut input);
@@ -172,5 +173,6 @@ fn every_case() {
 fn add(all: &mut Bench, one: &Bench) {
     all.runs += one.runs;
     all.changes += one.changes;
+    all.mirrored += one.mirrored;
     one.by_status.iter().for_each(|(status, many)| *all.by_status.entry(*status).or_default() += many);
 }

@@ -6,6 +6,10 @@ use second::command::{run, Change, Memory, World};
 use second::recording::heading;
 use second::write_frame;
 use std::collections::BTreeMap;
+use std::fs;
+use std::io::Write;
+use std::path::{Path, PathBuf};
+use std::process::{Command, Stdio};
 
 pub struct Ran {
     pub line: String,
@@ -44,6 +48,10 @@ pub struct Bench {
     pub changes: usize,
     pub by_status: BTreeMap<u32, usize>,
     pub closed: bool,
+    /// A folder of this machine: each run is then made there too, by the
+    /// program, and must end, say and leave the same.
+    pub mirror: Option<PathBuf>,
+    pub mirrored: usize,
 }
 
 impl Bench {
@@ -80,6 +88,10 @@ impl Bench {
         let (out, err) = (world.out, String::from_utf8(world.err).unwrap());
         let ran = Ran { line: words.join(" "), status, out, err };
         self.holds(&ran, &before);
+        if let Some(folder) = &self.mirror {
+            mirror(folder, words, input, &before, (&ran, &self.disk));
+            self.mirrored += 1;
+        }
         self.runs += 1;
         self.changes += self.disk.changes.len();
         *self.by_status.entry(status).or_default() += 1;
@@ -107,9 +119,13 @@ impl Bench {
     }
 
     pub fn tell(&self, what: &str) {
+        let mirrored = match self.mirrored {
+            0 => String::new(),
+            many => format!(" ({many} by the program too)"),
+        };
         let statuses: Vec<String> = self.by_status.iter().map(|(status, many)| format!("{status}: {many}")).collect();
         println!(
-            "compared: the command, {what}: {} runs, {} changes of files, by status {{{}}}",
+            "compared: the command, {what}: {} runs{mirrored}, {} changes of files, by status {{{}}}",
             self.runs,
             self.changes,
             statuses.join(", ")
@@ -171,3 +187,41 @@ pub fn wav_of(values: &[i16], format: [u32; 4]) -> Vec<u8> {
 }
 
 pub const PLAIN: [u32; 4] = [1, 1, 8_000, 16];
+
+/// One run by the program, over files of this machine.
+fn mirror(folder: &Path, words: &[&str], input: &[u8], before: &Memory, after: (&Ran, &Memory)) {
+    let _ = fs::remove_dir_all(folder);
+    fs::create_dir_all(folder).unwrap();
+    before.folders.iter().for_each(|name| fs::create_dir_all(folder.join(name)).unwrap());
+    before.files.iter().for_each(|(name, octets)| fs::write(folder.join(name), octets).unwrap());
+    let mut command = Command::new(env!("CARGO_BIN_EXE_second-g7110"));
+    command.args(words).current_dir(folder);
+    let piped = command.stdin(Stdio::piped()).stdout(Stdio::piped()).stderr(Stdio::piped());
+    let mut child = piped.spawn().unwrap();
+    // A program that does not read it is no fault here.
+    let _ = child.stdin.take().unwrap().write_all(input);
+    let ended = child.wait_with_output().unwrap();
+    let (ran, disk) = after;
+    assert_eq!(ended.status.code(), Some(ran.status as i32), "{}", ran.line);
+    assert_eq!(String::from_utf8_lossy(&ended.stderr), ran.err, "{}", ran.line);
+    assert!(ended.stdout == ran.out, "{}", ran.line);
+    let mut files = BTreeMap::new();
+    collect(folder, "", &mut files);
+    assert!(files == disk.files, "{}: {:?}", ran.line, files.keys());
+}
+
+fn collect(folder: &Path, before: &str, files: &mut BTreeMap<String, Vec<u8>>) {
+    for entry in fs::read_dir(folder).unwrap().map(Result::unwrap) {
+        let name = format!("{before}{}", entry.file_name().to_string_lossy());
+        if entry.path().is_dir() {
+            collect(&entry.path(), &format!("{name}/"), files);
+        } else {
+            files.insert(name, fs::read(entry.path()).unwrap());
+        }
+    }
+}
+
+/// A folder of this machine for a test's mirror.
+pub fn mirror_folder(name: &str) -> Option<PathBuf> {
+    Some(Path::new(env!("CARGO_TARGET_TMPDIR")).join(format!("command-{name}")))
+}
