@@ -421,3 +421,51 @@ fn the_longest() {
     bench.run("mend -t 40 pads.lcm x", &[]).ends(13).mentions("the result would have more than 1048576 octets");
     bench.tell("the longest streams");
 }
+
+/// What is told first where several refusals hold: the words, SET, LENGTH, the
+/// files, what they are, the law, OUT, then the work.
+#[test]
+fn refusals_in_order() {
+    let mut bench = Bench::default();
+    bench.put("a.ul8", &[0xFF; 90]).put("a.lcm", &[0x46]).put("old", b"old").put("w", &wav_of(&[0; 40], PLAIN));
+    bench.put("long.lcm", &vec![0; 1_048_577]).put("h", b"#!G7110M").put("x", &[0x41]);
+    let cases = [
+        ("pack -x -s2 -n41 none.ul8", 64, "-x is not a known option"),
+        ("pack -s2 -n41 none.ul8 a b", 64, "b is one name too many"),
+        ("pack -s2 -n41 none.ul8", 11, "SET (11)"),
+        ("pack -n41 none.ul8", 10, "41 is none of"),
+        ("pack none", 74, "none cannot be read"),
+        ("pack w old", 64, "w is a WAV file"),
+        ("pack x old", 64, "the law is not known"),
+        ("pack a.ul8 old", 73, "old is there"),
+        ("pack a.ul8 old -f", 10, "the last 10 samples"),
+        ("pack -u -l a.ul8 old", 73, "old is there"),
+        ("unpack -a -s 256 h", 11, "SET (11)"),
+        ("unpack -a h old", 14, "the heading of h is cut"),
+        ("unpack x old", 64, "the law is not known"),
+        ("unpack -v a.lcm old", 64, "-v lists a recording"),
+        ("unpack long.lcm old", 73, "old is there"),
+        ("unpack long.lcm old -f", 13, "there are more than 1048576 octets"),
+        ("mend -t 39 long.lcm old", 73, "old is there"),
+        ("mend -t 39 long.lcm new", 13, "there are more than 1048576 octets"),
+        ("mend long.lcm new", 64, "-t TOTAL is missing"),
+        ("mend -t 40 a.lcm", 64, "OUT is missing"),
+        ("compare none w", 74, "none cannot be read"),
+        ("compare w none", 74, "none cannot be read"),
+        ("store put none 1 none.lcm", 74, "none.lcm cannot be read"),
+        ("store put none 1 a.lcm", 74, "none/block cannot be read"),
+        ("store put none x none.lcm", 64, "x is not a number"),
+        ("pack a.ul8 -s 99999999999999999999999", 11, "18446744073709551615 is no odd number up to 255"),
+        ("pack a.ul8 --fill=1", 64, "--fill=1 is not a known option"),
+        ("pack -uf a.ul8", 64, "-uf is not a known option"),
+        ("unpack --fill a.lcm", 64, "--fill is not a known option"),
+    ];
+    for (words, status, said) in cases {
+        bench.run(words, &[]).ends(status).mentions(said);
+    }
+    bench.run("pack -u -w w", &[]).ends(0);
+    assert_eq!(bench.take("w.lcm"), [0x41]);
+    bench.run_words(&["pack", "-u", "w.lcm", ""], &[]).ends(10);
+    bench.run_words(&["pack", "-u", "--fill", "w.lcm", ""], &[]).ends(74).mentions("pack: FILES (74):  cannot be written\n");
+    bench.tell("refusals in their order");
+}

@@ -381,3 +381,27 @@ fn a_full_disk() {
     }
     bench.tell(&format!("a full disk at {count} changes of a store"));
 }
+
+/// Columns that are wider than their headings, and every kind of value.
+#[test]
+fn a_wide_list() {
+    let mut bench = Bench { mirror: mirror_folder("a_wide_list"), ..Bench::default() };
+    bench.put("pads.lcm", &vec![0x00; 1_000_000]).put("noise.lca", &[vec![0xC0], vec![0x12; 160]].concat());
+    bench.put("long.lcm", &vec![0x31; 16_000]).put("half.lcm", &[0x41, 0x41]);
+    bench.run("store create dir --block 1048576", &[]).ends(0);
+    for (number, name) in [(1, "pads.lcm"), (65_535, "noise.lca"), (3, "long.lcm"), (4, "half.lcm")] {
+        bench.run(&format!("store put dir {number} {name}"), &[]).ends(0);
+    }
+    bench.run("store list dir", &[]).ends(0).prints(
+        b"NUMBER LAW  TIME   OCTETS SAVED START MARKS\n     1 mu   0:00.0 1000000     -     0 15625\n \
+          65535 a    0:00.0    161 -0.6% 1000000     1\n     3 mu   10:40.0  16000 99.7% 1000161   250\n     \
+          4 mu   0:00.0      2 97.5% 1016161     1\n\
+          4 greetings; 1016163 of 1048576 octets held, 32413 free, largest gap 32413\n",
+    );
+    bench.run("store get dir 65535", &[]).ends(0);
+    assert_eq!(bench.take("65535.lca"), bench.take("noise.lca"));
+    for (word, status) in [("0.0199", 0), ("0.02", 21), ("0.01999999999", 0), ("00.0", 0), ("1", 21), ("2.", 64), ("-1", 64)] {
+        bench.run(&format!("store jump dir 65535 {word}"), &[]).ends(status);
+    }
+    bench.tell("a wide list, and seconds of every form");
+}

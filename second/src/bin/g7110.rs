@@ -43,7 +43,8 @@ impl Disk for Files {
 }
 
 fn main() {
-    let words: Vec<String> = std::env::args().skip(1).collect();
+    // A name that is no text names no file here.
+    let words: Vec<String> = std::env::args_os().skip(1).map(|word| word.to_string_lossy().into_owned()).collect();
     let mut input = vec![];
     if words.iter().any(|word| word == "-") {
         // What can't be read is as if nothing stood there.

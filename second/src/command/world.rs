@@ -78,7 +78,7 @@ impl Memory {
     }
 
     fn rename(&mut self, from: &str, to: &str) -> bool {
-        if self.folders.contains(to) {
+        if self.folders.contains(to) || to.is_empty() || to.ends_with('/') {
             return false;
         }
         let moved = self.files.remove(from);
