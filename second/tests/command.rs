@@ -7,7 +7,10 @@ use second::command::{help, RUNS};
 use second::gen::{damage_somehow, Prng};
 use second::masters::from_master;
 use second::mend::mend_why;
-use second::{check, listing, walk};
+use second::{check, listing, version, walk};
+use std::fs::File;
+use std::io::Write;
+use std::process::{Command, Stdio};
 
 const LENGTHS: [usize; 5] = [40, 80, 160, 240, 320];
 const LAW_WORDS: [&str; 2] = ["-a", "-u"];
@@ -45,7 +48,8 @@ fn help_and_version() {
     let ran = bench.run("--version", &[]);
     ran.ends(0).says("");
     let text = String::from_utf8(ran.out.clone()).unwrap();
-    assert!(text.starts_with("g7110 13 (4.1)\nkit rattle-kit-") && text.ends_with("\ncommit unknown\n"), "{text}");
+    assert!(text.starts_with(&format!("g7110 {} (", version())) && text.ends_with("\ncommit unknown\n"), "{text}");
+    assert!(text.lines().count() == 3 && text.contains(")\nkit rattle-kit-"), "{text}");
     bench.run("", &[]).ends(64).says(
         "g7110: USAGE (64): no run is said; --help lists them\nstop=64 at=0 tool=0 bit=0\n",
     );
@@ -403,12 +407,14 @@ fn the_longest() {
     const MOST: usize = 1_048_576;
     bench.put("most.lcm", &vec![0x41; MOST]).put("more.lcm", &vec![0x00; MOST + 1]);
     bench.put("r", &recording_of(1, &vec![0x01; MOST])).put("r2", &recording_of(1, &vec![0x01; MOST + 1]));
-    for words in ["test most.lcm", "info most.lcm", "unpack most.lcm", "unpack -g r out", "mend -t 1000000 most.lcm mended"] {
+    let taken = ["test most.lcm", "info most.lcm", "unpack most.lcm", "unpack -g r out", "mend -t 1000000 most.lcm x.lcm"];
+    for words in taken {
         bench.run(words, &[]).ends(0);
     }
     let sound = bench.take("most.muo").to_vec();
     assert_eq!(sound.len(), 40 * MOST);
-    for words in ["test more.lcm", "info more.lcm", "unpack more.lcm", "unpack r2 x", "mend -t 0 more.lcm x", "compare r2 most.muo"] {
+    let refused = ["test more.lcm", "info more.lcm", "unpack more.lcm", "unpack r2 x", "mend -t 0 more.lcm x"];
+    for words in refused.into_iter().chain(["compare r2 most.muo"]) {
         bench.run(words, &[]).ends(13);
     }
     bench.run("pack -u -n40 -", &sound).ends(0).prints(bench.take("most.lcm").to_vec().as_slice());
@@ -422,6 +428,39 @@ fn the_longest() {
     bench.tell("the longest streams");
 }
 
+/// A call, the status, and words that are said.
+const IN_ORDER: [(&str, u32, &str); 29] = [
+    ("pack -x -s2 -n41 none.ul8", 64, "-x is not a known option"),
+    ("pack -s2 -n41 none.ul8 a b", 64, "b is one name too many"),
+    ("pack -s2 -n41 none.ul8", 11, "SET (11)"),
+    ("pack -n41 none.ul8", 10, "41 is none of"),
+    ("pack none", 74, "none cannot be read"),
+    ("pack w old", 64, "w is a WAV file"),
+    ("pack x old", 64, "the law is not known"),
+    ("pack a.ul8 old", 73, "old is there"),
+    ("pack a.ul8 old -f", 10, "the last 10 samples"),
+    ("pack -u -l a.ul8 old", 73, "old is there"),
+    ("unpack -a -s 256 h", 11, "SET (11)"),
+    ("unpack -a h old", 14, "the heading of h is cut"),
+    ("unpack x old", 64, "the law is not known"),
+    ("unpack -v a.lcm old", 64, "-v lists a recording"),
+    ("unpack long.lcm old", 73, "old is there"),
+    ("unpack long.lcm old -f", 13, "there are more than 1048576 octets"),
+    ("mend -t 39 long.lcm old", 73, "old is there"),
+    ("mend -t 39 long.lcm new", 13, "there are more than 1048576 octets"),
+    ("mend long.lcm new", 64, "-t TOTAL is missing"),
+    ("mend -t 40 a.lcm", 64, "OUT is missing"),
+    ("compare none w", 74, "none cannot be read"),
+    ("compare w none", 74, "none cannot be read"),
+    ("store put none 1 none.lcm", 74, "none.lcm cannot be read"),
+    ("store put none 1 a.lcm", 74, "none/block cannot be read"),
+    ("store put none x none.lcm", 64, "x is not a number"),
+    ("pack a.ul8 -s 99999999999999999999999", 11, "18446744073709551615 is no odd number up to 255"),
+    ("pack a.ul8 --fill=1", 64, "--fill=1 is not a known option"),
+    ("pack -uf a.ul8", 64, "-uf is not a known option"),
+    ("unpack --fill a.lcm", 64, "--fill is not a known option"),
+];
+
 /// What is told first where several refusals hold: the words, SET, LENGTH, the
 /// files, what they are, the law, OUT, then the work.
 #[test]
@@ -429,38 +468,7 @@ fn refusals_in_order() {
     let mut bench = Bench::default();
     bench.put("a.ul8", &[0xFF; 90]).put("a.lcm", &[0x46]).put("old", b"old").put("w", &wav_of(&[0; 40], PLAIN));
     bench.put("long.lcm", &vec![0; 1_048_577]).put("h", b"#!G7110M").put("x", &[0x41]);
-    let cases = [
-        ("pack -x -s2 -n41 none.ul8", 64, "-x is not a known option"),
-        ("pack -s2 -n41 none.ul8 a b", 64, "b is one name too many"),
-        ("pack -s2 -n41 none.ul8", 11, "SET (11)"),
-        ("pack -n41 none.ul8", 10, "41 is none of"),
-        ("pack none", 74, "none cannot be read"),
-        ("pack w old", 64, "w is a WAV file"),
-        ("pack x old", 64, "the law is not known"),
-        ("pack a.ul8 old", 73, "old is there"),
-        ("pack a.ul8 old -f", 10, "the last 10 samples"),
-        ("pack -u -l a.ul8 old", 73, "old is there"),
-        ("unpack -a -s 256 h", 11, "SET (11)"),
-        ("unpack -a h old", 14, "the heading of h is cut"),
-        ("unpack x old", 64, "the law is not known"),
-        ("unpack -v a.lcm old", 64, "-v lists a recording"),
-        ("unpack long.lcm old", 73, "old is there"),
-        ("unpack long.lcm old -f", 13, "there are more than 1048576 octets"),
-        ("mend -t 39 long.lcm old", 73, "old is there"),
-        ("mend -t 39 long.lcm new", 13, "there are more than 1048576 octets"),
-        ("mend long.lcm new", 64, "-t TOTAL is missing"),
-        ("mend -t 40 a.lcm", 64, "OUT is missing"),
-        ("compare none w", 74, "none cannot be read"),
-        ("compare w none", 74, "none cannot be read"),
-        ("store put none 1 none.lcm", 74, "none.lcm cannot be read"),
-        ("store put none 1 a.lcm", 74, "none/block cannot be read"),
-        ("store put none x none.lcm", 64, "x is not a number"),
-        ("pack a.ul8 -s 99999999999999999999999", 11, "18446744073709551615 is no odd number up to 255"),
-        ("pack a.ul8 --fill=1", 64, "--fill=1 is not a known option"),
-        ("pack -uf a.ul8", 64, "-uf is not a known option"),
-        ("unpack --fill a.lcm", 64, "--fill is not a known option"),
-    ];
-    for (words, status, said) in cases {
+    for (words, status, said) in IN_ORDER {
         bench.run(words, &[]).ends(status).mentions(said);
     }
     bench.run("pack -u -w w", &[]).ends(0);
@@ -468,4 +476,29 @@ fn refusals_in_order() {
     bench.run_words(&["pack", "-u", "w.lcm", ""], &[]).ends(10);
     bench.run_words(&["pack", "-u", "--fill", "w.lcm", ""], &[]).ends(74).mentions("pack: FILES (74):  cannot be written\n");
     bench.tell("refusals in their order");
+}
+
+/// The program's own standard output on a full device, and on a pipe that
+/// nobody reads.
+#[test]
+fn outputs_of_the_program_that_take_nothing() {
+    let mut count = 0;
+    for words in ["--help", "--version", "list --help", "pack -u -", "unpack -u -", "list -u -", "test -", "info -"] {
+        // The pipe is closed before standard input ends, so only a run that reads that finds it so for sure.
+        for piped in [false, true].into_iter().filter(|piped| !piped || words.ends_with(" -")) {
+            let mut command = Command::new(env!("CARGO_BIN_EXE_second-g7110"));
+            command.args(words.split(' ')).stdin(Stdio::piped()).stderr(Stdio::piped());
+            let full = || File::create("/dev/full").expect("a full device");
+            command.stdout(if piped { Stdio::piped() } else { full().into() });
+            let mut child = command.spawn().unwrap();
+            drop(child.stdout.take());
+            child.stdin.take().unwrap().write_all(&[0x41; 40]).unwrap_or(());
+            let ended = child.wait_with_output().unwrap();
+            assert_eq!(ended.status.code(), Some(74), "{words}");
+            let err = String::from_utf8(ended.stderr).unwrap();
+            assert!(err.contains(": FILES (74): standard output cannot be written\nstop=74 at=0 tool=0"), "{err}");
+            count += 1;
+        }
+    }
+    println!("compared: the command, outputs of the program that take nothing: {count} runs");
 }

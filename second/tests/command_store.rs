@@ -400,7 +400,8 @@ fn a_wide_list() {
     );
     bench.run("store get dir 65535", &[]).ends(0);
     assert_eq!(bench.take("65535.lca"), bench.take("noise.lca"));
-    for (word, status) in [("0.0199", 0), ("0.02", 21), ("0.01999999999", 0), ("00.0", 0), ("1", 21), ("2.", 64), ("-1", 64)] {
+    let seconds = [("0.0199", 0), ("0.02", 21), ("0.01999999999", 0), ("00.0", 0), ("1", 21), ("2.", 64), ("-1", 64)];
+    for (word, status) in seconds {
         bench.run(&format!("store jump dir 65535 {word}"), &[]).ends(status);
     }
     bench.tell("a wide list, and seconds of every form");

@@ -120,6 +120,8 @@ fn take(line: &str, bench: &mut Bench, call: &mut Call, input: &mut Vec<u8>) {
     match key {
         "/" => drop(bench.disk.folders.insert(rest.to_string())),
         "<" | "<t" => {
+            // What is put there by hand is no work of the call before it.
+            call.settle(bench);
             let (name, value) = named_octets(rest, key == "<t");
             bench.put(&name, &value);
         }

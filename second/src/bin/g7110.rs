@@ -53,8 +53,8 @@ fn main() {
     let mut files = Files;
     let mut world = World::new(&mut files, &input);
     world.commit = option_env!("G7110_COMMIT").unwrap_or("unknown").to_string();
+    world.output = Some(|octets| io::stdout().write_all(octets).and_then(|()| io::stdout().flush()).is_ok());
     let status = run(&words, &mut world);
-    let written = io::stdout().write_all(&world.out).and_then(|()| io::stdout().flush());
     let told = io::stderr().write_all(&world.err);
-    exit(if written.is_err() || told.is_err() { 74 } else { status as i32 });
+    exit(if told.is_err() { 74 } else { status as i32 });
 }

@@ -21,7 +21,7 @@ pub use stop::name_of;
 pub use world::{beside, Change, Disk, Memory, Place, World};
 
 use crate::version::version;
-use stop::{words_of, Ended, Refused, Stop, FILES, USAGE};
+use stop::{words_of, Ended, Refused, FILES, USAGE};
 
 const HELP: &str = include_str!("help.txt");
 const KIT: &str = include_str!("../../../KIT");
@@ -89,20 +89,24 @@ fn run_of_store(words: &[String], world: &mut World) -> u32 {
 /// Help and version: on standard output, with no stop line.
 fn tell(text: String, world: &mut World) -> u32 {
     world.print(text.as_bytes());
-    if world.closed {
-        return end("g7110", Ok(Stop::default()), world);
+    if world.delivered() {
+        return 0;
     }
-    0
+    last_words("g7110", Err(no_output()), world)
 }
 
-/// The last words of a run, and its status. What can't be written to standard
-/// output goes before all other ends.
+fn no_output() -> Refused {
+    Refused::new(FILES, "standard output cannot be written".to_string())
+}
+
+/// The end of a run: its status. What can't be written to standard output goes
+/// before all other ends.
 fn end(run: &str, ended: Ended, world: &mut World) -> u32 {
-    let mut ended = ended;
-    if world.closed && !world.out.is_empty() {
-        world.out.clear();
-        ended = Err(Refused::new(FILES, "standard output cannot be written".to_string()));
-    }
+    let ended = if world.delivered() { ended } else { Err(no_output()) };
+    last_words(run, ended, world)
+}
+
+fn last_words(run: &str, ended: Ended, world: &mut World) -> u32 {
     let stop = match ended {
         Ok(stop) => stop,
         Err(Refused { stop, words }) => {

@@ -134,6 +134,9 @@ pub struct World<'a> {
     pub err: Vec<u8>,
     /// Standard output takes nothing: its reader is gone.
     pub closed: bool,
+    /// Where standard output goes, if it goes anywhere but into `out`; it
+    /// tells whether it took all.
+    pub output: Option<fn(&[u8]) -> bool>,
     /// What `--version` tells beside version and kit.
     pub commit: String,
 }
@@ -141,7 +144,18 @@ pub struct World<'a> {
 impl<'a> World<'a> {
     pub fn new(disk: &'a mut dyn Disk, input: &[u8]) -> World<'a> {
         let commit = "unknown".to_string();
-        World { disk, input: input.to_vec(), out: vec![], err: vec![], closed: false, commit }
+        World { disk, input: input.to_vec(), out: vec![], err: vec![], closed: false, output: None, commit }
+    }
+
+    /// Hands on what was printed, once, at a run's end. What is not taken is
+    /// gone.
+    pub fn delivered(&mut self) -> bool {
+        let taken = self.output.map_or(!self.closed, |take| take(&self.out));
+        if !taken && !self.out.is_empty() {
+            self.out.clear();
+            return false;
+        }
+        true
     }
 
     pub fn print(&mut self, octets: &[u8]) {
