@@ -429,7 +429,7 @@ fn the_longest() {
 }
 
 /// A call, the status, and words that are said.
-const IN_ORDER: [(&str, u32, &str); 29] = [
+const IN_ORDER: [(&str, u32, &str); 31] = [
     ("pack -x -s2 -n41 none.ul8", 64, "-x is not a known option"),
     ("pack -s2 -n41 none.ul8 a b", 64, "b is one name too many"),
     ("pack -s2 -n41 none.ul8", 11, "SET (11)"),
@@ -458,6 +458,8 @@ const IN_ORDER: [(&str, u32, &str); 29] = [
     ("pack a.ul8 -s 99999999999999999999999", 11, "18446744073709551615 is no odd number up to 255"),
     ("pack a.ul8 --fill=1", 64, "--fill=1 is not a known option"),
     ("pack -uf a.ul8", 64, "-uf is not a known option"),
+    ("test - x -", 64, "only one of the files can be -"),
+    ("info - -- -", 64, "only one of the files can be -"),
     ("unpack --fill a.lcm", 64, "--fill is not a known option"),
 ];
 

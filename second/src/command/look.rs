@@ -17,6 +17,10 @@ fn files(words: &[String]) -> Result<Asked, Refused> {
     if asked.names.is_empty() {
         return Err(Refused::usage("FILE is missing"));
     }
+    // Standard input is read once.
+    if asked.names.iter().filter(|name| *name == "-").count() > 1 {
+        return Err(Refused::usage("only one of the files can be -"));
+    }
     Ok(asked)
 }
 
