@@ -15,6 +15,7 @@
 //! * [`why`] says why a frame is written with the tool it is.
 //! * [`version`], [`check`], [`head`], [`pieces`], [`told`] and [`masters`] are
 //!   calls that tell: what is there, one piece at a time.
+//! * [`command`] is the command `g7110`, its runs over an abstract file system.
 //!
 //! None of the first three touches the heap: a frame is at most 320 samples,
 //! so whatever has to be held back until a frame is known to be good fits on
