@@ -61,27 +61,44 @@ fn come_to(filled: usize, count: usize, place: usize, past: usize, size: usize) 
     }
 }
 
+// How far the places are filled, how many marks there are, and the next place.
+struct Begun {
+    filled: usize,
+    count: usize,
+    place: usize,
+}
+
+fn so_far(filled: usize, count: usize, place: usize) -> Begun
+    ensures { λ r. ⌜ r ≡ record { filled = filled; count = count; place = place } ⌝ }
+{
+    Begun {
+        filled,
+        count,
+        place,
+    }
+}
+
 // The runs whose codes stand whole in one word of bits: leading zeros, a shift and a mark each.
 fn several(
     octets: &[u8],
-    at: usize,
+    b: Begun,
     n: usize,
     s: usize,
     d: usize,
-    before: usize,
-    marks: usize,
     cells: &mut [u8; 320],
     other: u8,
 ) -> Stretch
-    requires { ⌜ (at ≤ 2 ^ 40) × (s ≤ 9) × (d ≤ 320) × (before ≤ d) × (marks ≤ before) × (length (now cells) ≡ 320) ⌝ }
-    ensures { λ r. ⌜ Reads-several (now (octets .entry)) n s d other (now (cells .entry)) before marks at (now (cells .exit)) r ⌝ }
+    requires { ⌜ (b .place ≤ 2 ^ 40) × (s ≤ 9) × (d ≤ 320) × (b .filled ≤ d) × (b .count ≤ b .filled) × (length (now cells) ≡ 320) ⌝ }
+    ensures { λ r. ⌜ Reads-several (now (octets .entry)) n s d other (now (cells .entry)) (b .filled) (b .count) (b .place)
+        (now (cells .exit)) r ⌝ }
 {
+    let at = b.place;
     let held = read_bits::hold(octets, at, n);
     let all = held.good;
     let mut word = held.word;
     let mut good = held.good;
-    let mut filled = before;
-    let mut count = marks;
+    let mut filled = b.filled;
+    let mut count = b.count;
     loop {
         let zeros = read_bits::zeros_in(word);
         if zeros == 32 {
@@ -118,6 +135,12 @@ fn ended(t: Stretch, d: usize) -> Outcome
     Outcome::Got(t.count, t.place + t.size)
 }
 
+// The octets that mark the two kinds.
+pub struct Kinds {
+    pub common: u8,
+    pub other: u8,
+}
+
 // "Runs over D places": v places of the common kind, then one of the other, till all D are filled.
 // The answer is the number of the other kind and the next place, or the refusal and its bit.
 pub fn runs(
@@ -127,20 +150,21 @@ pub fn runs(
     s: usize,
     d: usize,
     cells: &mut [u8; 320],
-    common: u8,
-    other: u8,
+    kinds: Kinds,
 ) -> Outcome
     requires { ⌜ (at ≤ 2 ^ 38) × (n ≤ 320) × (s ≤ 9) × (d ≤ 320) × (length (now cells) ≡ 320) ⌝ }
-    ensures { λ r. ⌜ MarksCells (runsOver n s d (bitsOf (now (octets .entry))) at) d (at + 330 * d) common other
+    ensures { λ r. ⌜ MarksCells (runsOver n s d (bitsOf (now (octets .entry))) at) d (at + 330 * d) (kinds .common) (kinds .other)
         (now (cells .entry)) (now (cells .exit)) r ⌝ }
 {
-    fill(cells, d, common);
+    let other = kinds.other;
+    fill(cells, d, kinds.common);
     let mut filled = 0;
     let mut count = 0;
     let mut place = at;
     loop {
         let before = filled;
-        let t = several(octets, place, n, s, d, filled, count, cells, other);
+        let b = so_far(filled, count, place);
+        let t = several(octets, b, n, s, d, cells, other);
         filled = t.filled;
         count = t.count;
         place = t.place;

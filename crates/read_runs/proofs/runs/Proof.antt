@@ -16,24 +16,24 @@ use Rattle.read_runs.proofs.runs.Statement.{statement}
 use Rattle.read_runs.proofs.runs.Tie as tie
 
 abbrev Inv-loop : tie.InvT-loop
-Inv-loop octets at n s d cells₀ common other filled₀ count₀ place₀ cells filled count place =
-    Filled (bitsOf octets) at n s d common other cells₀ cells filled count place
+Inv-loop octets at n s d cells₀ kinds filled₀ count₀ place₀ cells filled count place =
+    Filled (bitsOf octets) at n s d (kinds .common) (kinds .other) cells₀ cells filled count place
 
 abbrev μ-loop : tie.MeasureT-loop
-μ-loop octets at n s d cells₀ common other filled₀ count₀ place₀ cells filled count place = d - filled
+μ-loop octets at n s d cells₀ kinds filled₀ count₀ place₀ cells filled count place = d - filled
 
 loop-holds : tie.Need-loop-holds Inv-loop μ-loop
 loop-holds c = filled-none _ _ _ _ _ (c .fill .ensures) (omega arith) (omega arith)
 
 several-requires : tie.Need-several-requires Inv-loop μ-loop
 several-requires c κs =
-    let i = c .before .loop .inv in
-    (omega (arith, i), omega arith, omega arith, i .within, i .fuel, marking-room (i .marking))
+    let i = c .before .before .loop .inv in
+    rw (c .so-far .ensures) (omega (arith, i), omega arith, omega arith, i .within, i .fuel, marking-room (i .marking))
 
 -- so much is filled once the runs of a word are read
 module _ (c : tie.After-several Inv-loop μ-loop) where
   abbrev fill : tie.After-fill Inv-loop μ-loop
-  fill = c .before .before .before
+  fill = c .before .before .before .before
 
   abbrev s : tie.Start Inv-loop μ-loop
   s = fill .before .before .before
@@ -41,9 +41,9 @@ module _ (c : tie.After-several Inv-loop μ-loop) where
   abbrev t : Stretch
   t = c .several .result
 
-  reached : Filled (bitsOf (s .args .octets .now)) (s .args .at) (s .args .n) (s .args .s) (s .args .d) (s .args .common) (s .args .other)
-      (fill .fill .last .0) (c .several .last .1 .1 .1 .1 .1 .1 .1 .0) (t .filled) (t .count) (t .place)
-  reached = c .several .ensures .goes .on (c .before .before .loop .inv)
+  reached : Filled (bitsOf (s .args .octets .now)) (s .args .at) (s .args .n) (s .args .s) (s .args .d)
+      (s .args .kinds .common) (s .args .kinds .other) (fill .fill .last .0) (c .several .last .1 .1 .1 .1 .1 .0) (t .filled) (t .count) (t .place)
+  reached = (rw (c .before .so-far .ensures) at (c .several .ensures .goes)) .on (c .before .before .before .loop .inv)
 
 ended-requires : tie.Need-ended-requires Inv-loop μ-loop
 ended-requires c κs = let f = reached (c .before .before) in omega (arith, c .before .before .several .ensures .small)

@@ -6,11 +6,11 @@ use Rattle.read_runs.proofs.several.Statement.{statement}
 use Rattle.read_runs.proofs.several.Tie as tie
 
 abbrev Inv-loop : tie.InvT-loop
-Inv-loop octets at n s d before marks cells₀ other all word₀ good₀ filled₀ count₀ cells word good filled count =
-    In-word octets at n s d other cells₀ before marks all cells word good filled count
+Inv-loop octets b n s d cells₀ other all word₀ good₀ filled₀ count₀ cells word good filled count =
+    In-word octets (b .place) n s d other cells₀ (b .filled) (b .count) all cells word good filled count
 
 abbrev μ-loop : tie.MeasureT-loop
-μ-loop octets at n s d before marks cells₀ other all word₀ good₀ filled₀ count₀ cells word good filled count = good
+μ-loop octets b n s d cells₀ other all word₀ good₀ filled₀ count₀ cells word good filled count = good
 
 loop-holds : tie.Need-loop-holds Inv-loop μ-loop
 loop-holds c = in-word-none _ _ _ _ _ _ (c .hold .ensures) (omega arith) (omega arith) (omega arith)
