@@ -360,6 +360,10 @@ def convert(crate, fn_dir, rel, entry, notes):
             m = re.match(r"(?:abbrev )?(" + IDENT + r") : \(?(?:c : )?tie\.([A-Z][\w-]*)[^→]*→ tie\.([A-Z][\w-]*)", ls[0])
             if m:
                 views[m.group(1)] = (m.group(2), m.group(3))
+    for b in bl:
+        if b[0] in ("decl", "section") and "tie.spec" not in "\n".join(b[1]):
+            for old_name, goals in need_of.items():
+                b[1] = [re.sub(r"(?<=[ (])" + re.escape(old_name) + r"(?= (?:c(?![\w'-])|\())", "\x03" + goals[0][1], x) if not SIG.match(x) else x for x in b[1]]
     uses, inv_out, ans = [], [], []
     helpers = []
     pending = []
@@ -561,11 +565,9 @@ def convert(crate, fn_dir, rel, entry, notes):
         if pub_names:
             uses = uses + [f"use {base}.Invariants.{{{', '.join(pub_names)}}}"]
     ans = [re.sub(r"\.inv(?![\w'-])", ".invariant", re.sub(r"\.taken(?![\w'-])", ".true", d)) for d in ans]
-    for old_name, goals in need_of.items():
-        new = goals[0][1]
-        if old_name != new:
-            ans = [re.sub(r"(?<![\w'.-])" + re.escape(old_name) + r"(?= c(?![\w'.-]))", new, d) for d in ans]
+    ans = [d.replace("\x03", "") for d in ans]
     ans = copy_members(ans, f)
+    ans = cite_answers(ans, f)
     ans = pass_places(ans, f)
     used = []
     named_goals = {n for _, n in f.needs}
@@ -589,6 +591,29 @@ def convert(crate, fn_dir, rel, entry, notes):
         with open(os.path.join(fn_dir, "Answers.antt"), "w", encoding="utf-8") as fh:
             fh.write(lead + "\n".join(uses + [f"use {base}.Goals as goal"]) + "\n\n" + "\n\n".join(a.strip("\n") for a in ans) + "\n")
     return True
+
+
+def cite_answers(ans, f):
+    """An answer that another cites at another place is said again there, under a name."""
+    place_of = {new: f.by_name_of(old) for (o, new), (old, _) in zip(f.needs, f.asked_at)}
+    bodies = {}
+    for d in ans:
+        m = re.search(r"(?ms)^pub ([\w-]+) : goal\.\1\n(?:unfolding [^\n]*\n)?\1 c =\s*(.*)$", d)
+        if m:
+            bodies[m.group(1)] = m.group(2).rstrip()
+    for i, d in enumerate(ans):
+        m = re.search(r"(?ms)^pub ([\w-]+) : goal\.\1\n(?:unfolding [^\n]*\n)?\1 c =\s*(.*)$", d)
+        if not m:
+            continue
+        head, body = d[: m.start(2)], m.group(2)
+        for n, other in bodies.items():
+            if n != m.group(1) and place_of.get(n) != place_of.get(m.group(1)) and re.search(r"(?<![\w'.-])" + re.escape(n) + r" c(?![\w'.-])", body):
+                body = re.sub(r"\(" + re.escape(n) + r" c\)", "told", body)
+                body = re.sub(r"(?<![\w'.-])" + re.escape(n) + r" c(?![\w'.-])", "told", body)
+                lets, last = split_lets(other)
+                body = f"{lets}let told = {last.strip()} in\n    {body}"
+        ans[i] = head + body
+    return ans
 
 
 def section_place(d):

@@ -68,7 +68,8 @@ loop-t-preserved c =
     runs-turn f (omega arith) v.says (omega arith) c.if-v-left.false v.next
 
 pub overflow_add-cells : goal.overflow_add-cells
-overflow_add-cells c = omega (arith, (loop-t-preserved c).within)
+overflow_add-cells c = let f = reached (goal.at.overflow_add-cells c).After-several-t in let v = one (goal.at.overflow_add-cells c).After-run c.in-Got.is in let told = runs-turn f (omega arith) v.says (omega arith) c.if-v-left.false v.next in
+    omega (arith, told.within)
 
 pub bounds-cells-filled : goal.bounds-cells-filled
 bounds-cells-filled c = omega (arith, (loop-t-preserved c).within)
