@@ -3,10 +3,9 @@ use lib.Seq.{length-take-le}
 use mathlib.Core.List.{[], ◌∷◌}
 use mathlib.Core.Path.{refl, sym}
 use native.Mathlib.Omega.{arith}
-use Rattle.read_located.proofs.some.Statement.{statement}
-use Rattle.read_located.proofs.some.Tie as tie
+use Rattle.read_located.proofs.some.Goals as goal
 
-returns : tie.Need-returns
+pub returns : goal.returns
 returns c =
     record {
       values = refl;
@@ -14,6 +13,3 @@ returns c =
       few = omega arith;
       room = refl;
     }
-
-pub some-spec : {M : Type 1} → statement M
-some-spec = tie.close (tie.spec returns)
