@@ -118,6 +118,8 @@ def turn_step(f, chain, parts):
                 rest[0] = "invariant"
             if rest and rest[0] in ("taken",):
                 rest[0] = "true"
+            if rest and rest[0] == "left" and new.startswith("if-"):
+                rest[0] = "false"
             if rest and rest[0] == "kept":
                 rest[0] = "auto"
             if rest and rest[0] == "ensures" and f.clauses[i]:
@@ -138,15 +140,29 @@ class Turner:
         self.aliases = dict(aliases)  # name: place, of variables that stand for a place
         self.views = views  # name: (place it takes, place it gives), functions from place to place
 
+    def see_views(self, t):
+        """(view c).path, (view c.before).path and view c, a view of a view too."""
+        while True:
+            before = t
+            for v in self.views:
+                names = "|".join(map(re.escape, ["c", *self.aliases])) + r"|\x02[^\x02]+\x02"
+                t = re.sub(r"\(" + re.escape(v) + r" \(?(?:" + names + r")((?:\.before)*)\)?\)(?=[\s.)])", "\x02" + v + "\x02", t)
+                t = re.sub(r"(?<![\w'.-])" + re.escape(v) + r" \(?(?:" + names + r")((?:\.before)*)\)?(?=[\s),])", "\x02" + v + "\x02", t)
+            if t == before:
+                return t
+
     def text(self, t):
         f = self.f
         # let s = c.before.before in
         while True:
-            m = re.search(r"let (" + IDENT + r")(?: : tie\.[\w-]+(?: [\w-]+)*)? = (\(?)(" + IDENT + r")( c)?(\)?)((?:\.before)*) in\s*", t)
+            t = self.see_views(t)
+            m = re.search(r"let (" + IDENT + r")(?: : tie\.[\w-]+(?: [\w-]+)*)? = (\(?)(\x02[^\x02]+\x02|" + IDENT + r")( c)?(\)?)((?:\.before)*) in\s*", t)
             if not m:
                 break
             name, base, call = m.group(1), m.group(3), m.group(4)
-            if call and base in self.views:
+            if base.startswith("\x02") and not call:
+                at = f.up(self.views[base.strip("\x02")][1], m.group(6).count(".before"))
+            elif call and base in self.views:
                 at = f.up(self.views[base][1], m.group(6).count(".before"))
             elif not call and (base == "c" or base in self.aliases):
                 at = f.up(self.place if base == "c" else self.aliases[base], m.group(6).count(".before"))
@@ -157,11 +173,7 @@ class Turner:
             self.aliases[name] = at
             t = t[: m.start()] + t[m.end() :]
         t = t.replace("\x01", "l")
-        # (view c).path, (view c.before).path and view c
-        for v, (takes, gives) in self.views.items():
-            t = re.sub(r"\(" + re.escape(v) + r" \(?(?:" + "|".join(map(re.escape, ["c", *self.aliases])) + r")((?:\.before)*)\)?\)(?=[\s.)])", "\x02" + v + "\x02", t)
-            t = re.sub(r"(?<![\w'.-])" + re.escape(v) + r" \(?(?:" + "|".join(map(re.escape, ["c", *self.aliases])) + r")((?:\.before)*)\)?(?=[\s),])", "\x02" + v + "\x02", t)
-
+        t = self.see_views(t)
         if f.pre and f.pre.get("fields"):
             for m in re.finditer(r"let (" + IDENT + r") = (?:\x02[^\x02]+\x02|c|" + "|".join(map(re.escape, list(self.aliases) or ["c"])) + r")(?:\.before)*\.(?:pre|requires) in", t):
                 s = m.group(1)
@@ -214,7 +226,8 @@ class Turner:
                 t = re.sub(r"(?<![\w'.-])" + re.escape(s) + r"((?:\.[01])+)", named, t)
         for a in self.aliases:
             if a != "c":
-                t = re.sub(r"(?<![\w'.-])" + re.escape(a) + r"(?![\w'-])(?! :)", "c", t)
+                keyword = r"(?<!\w )" if a == "at" else ""
+                t = re.sub(r"(?<![\w'.-])" + keyword + re.escape(a) + r"(?![\w'-])(?! :)", "c", t)
         return t
 
 
@@ -394,7 +407,7 @@ def convert(crate, fn_dir, rel, entry, notes):
                 if var and var.group(1) != "c":
                     b = re.sub(r"(?<![\w'.-])" + re.escape(var.group(1)) + r"(?![\w'-])", "c", b)
                 b = t.text(b)
-                fields = f.asked.get(new)
+                fields = f.asked.get(new) or f.asked.get(f.needs[k][0])
                 if fields:
                     mm = re.search(r"(?ms)^(" + re.escape(new) + r" c =\s*)(.*)$", b)
                     if mm:
