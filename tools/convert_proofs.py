@@ -294,6 +294,7 @@ def word(name, text):
 def convert(crate, fn_dir, rel, entry, notes):
     with open(os.path.join(fn_dir, "Proof.antt"), encoding="utf-8") as fh:
         text = fh.read()
+    text = re.sub(r"(?<=\.)(\w+)_lem(?=\.)", r"\1", text)  # a step that tools/respell took for a lemma of its name
     f = File(entry)
     bl = blocks(text.split("\n"))
     final = [b for b in bl if "tie.spec" in "\n".join(b[1])]
@@ -546,7 +547,7 @@ def convert(crate, fn_dir, rel, entry, notes):
             fh.write("\n".join(uses + [f"use {base}.Given as goal"]) + "\n" + decl_text + inv_text)
         if pub_names:
             uses = uses + [f"use {base}.Invariants.{{{', '.join(pub_names)}}}"]
-    ans = [re.sub(r"(?<![\w'-])not-true _ (c\.if-not-[\w-]+\.(?:true|false))", r"\1", d) for d in ans]
+    ans = [re.sub(r"(?<![\w'-])not-(?:true|false) _ (c\.if-not-[\w-]+\.(?:true|false))", r"\1", d) for d in ans]
     ans = [re.sub(r"\.kept(?=\.[01])", ".auto", d) for d in ans]
     ans = [re.sub(r"\.inv(?![\w'-])", ".invariant", re.sub(r"\.taken(?![\w'-])", ".true", d)) for d in ans]
     ans = pass_places(ans, f)
@@ -583,7 +584,7 @@ def pass_places(ans, f):
         if m:
             for n in re.finditer(r"(?m)^  (?:pub |abbrev |unfoldable )*(" + IDENT + r") :(?= |$)", code):
                 takes[n.group(1)] = m.group(1)
-        m = re.match(r"(?:abbrev )?(" + IDENT + r") : \(c : goal\.([\w-]+)\) →", code)
+        m = re.match(r"(?:abbrev )?(" + IDENT + r") : \(c : goal\.([\w-]+)\)\s*→", code)
         if m:
             takes[m.group(1)] = m.group(2)
     if not takes:
