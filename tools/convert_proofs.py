@@ -701,7 +701,7 @@ def pass_places(ans, f):
         code = "\n".join(x for x in d.split("\n") if not x.startswith("--"))
         m = re.match(r"module _ \(c : goal\.([\w-]+)\)", code)
         if m:
-            for n in re.finditer(r"(?m)^  (?:pub |abbrev |unfoldable )*(" + IDENT + r") :(?= |$)", code):
+            for n in re.finditer(r"(?m)^(?:  )+(?:pub |abbrev |unfoldable )*(" + IDENT + r") :(?= |$)", code):
                 takes[n.group(1)] = m.group(1)
         m = re.match(r"(?:abbrev )?(" + IDENT + r") : \(c : goal\.([\w-]+)\)\s*→", code)
         if m:
