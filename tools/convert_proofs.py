@@ -154,9 +154,10 @@ class Turner:
         while True:
             before = t
             for v in self.views:
-                names = "|".join(map(re.escape, ["c", *self.aliases])) + r"|\x02[^\x02]+\x02"
-                t = re.sub(r"\(" + re.escape(v) + r" \(?(?:" + names + r")((?:\.before)*)\)?\)(?=[\s.)])", "\x02" + v + "\x02", t)
-                t = re.sub(r"(?<![\w'.-])" + re.escape(v) + r" \(?(?:" + names + r")((?:\.before)*)\)?(?=[\s),])", "\x02" + v + "\x02", t)
+                some = "(?:" + "|".join(map(re.escape, ["c", *self.aliases])) + r"|\x02[^\x02]+\x02)(?:\.before)*"
+                arg = r"(?:" + some + r"|\(" + some + r"\))"
+                t = re.sub(r"\(" + re.escape(v) + " " + arg + r"\)", "\x02" + v + "\x02", t)
+                t = re.sub(r"(?<![\w'.-])" + re.escape(v) + " " + arg + r"(?=[\s),]|$)", "\x02" + v + "\x02", t)
             if t == before:
                 return t
 
@@ -582,10 +583,11 @@ def convert(crate, fn_dir, rel, entry, notes):
             fh.write("\n".join(uses + [f"use {base}.Given as goal"]) + "\n" + decl_text + inv_text)
         if pub_names:
             uses = uses + [f"use {base}.Invariants.{{{', '.join(pub_names)}}}"]
-    ans = [re.sub(r"(?<![\w'-])not-(?:true|false) _ (c\.if-not-[\w-]+\.(?:true|false))", r"\1", d) for d in ans]
+    ans = [re.sub(r"(?<![\w'-])not-(?:true|false) (?:_|[\w.-]+) (c\.if-not-[\w-]+\.(?:true|false))", r"\1", d) for d in ans]
     ans = [re.sub(r"\.kept(?=\.[01])", ".auto", d) for d in ans]
     ans = [re.sub(r"\.inv(?![\w'-])", ".invariant", re.sub(r"\.taken(?![\w'-])", ".true", d)) for d in ans]
     ans = [d.replace("\x03", "") for d in ans]
+    ans = open_short(ans)
     ans = copy_members(ans, f)
     ans = cite_answers(ans, f)
     ans = pass_places(ans, f)
@@ -611,6 +613,29 @@ def convert(crate, fn_dir, rel, entry, notes):
         with open(os.path.join(fn_dir, "Answers.antt"), "w", encoding="utf-8") as fh:
             fh.write(lead + "\n".join(uses + [f"use {base}.Goals as goal"]) + "\n\n" + "\n\n".join(a.strip("\n") for a in ans) + "\n")
     return True
+
+
+def open_short(ans):
+    """An `abbrev` of one line over a place is written out where it stands; so is a lemma of one line, within lemmas over other places."""
+    short = {}
+    for d in ans:
+        code = "\n".join(x for x in d.split("\n") if not x.startswith("--"))
+        m = re.match(r"(abbrev )?(" + IDENT + r") : (?:goal\.([\w-]+)|\((" + IDENT + r") : goal\.([\w-]+)\))\s*→[^\n]*\n\2 (" + IDENT + r") = ([^\n]*)$", code)
+        if m:
+            body = re.sub(r"(?<![\w'.-])" + re.escape(m.group(6)) + r"(?![\w'-])", "c", m.group(7))
+            short[m.group(2)] = (bool(m.group(1)), m.group(3) or m.group(5), body, d)
+    for n, (always, place, body, d) in list(short.items()):
+        pat = r"(?<![\w'.-])" + re.escape(n) + r" c(?![\w'.-])"
+        for i, x in enumerate(ans):
+            if x is d:
+                continue
+            if not always:
+                m = re.search(r"^(?:module _|" + IDENT + r" :) \(" + IDENT + r" : goal\.([\w-]+)\)", x, re.M)
+                if re.search(r"(?m)^pub [\w-]+ : goal\.", x) or not m or m.group(1) == place:
+                    continue
+            x = re.sub(r"\(" + re.escape(n) + r" c\)", lambda _: "(" + body + ")", x)
+            ans[i] = re.sub(pat, lambda _: "(" + body + ")", x)
+    return [x for x in ans if not any(x is d and always for always, _, _, d in short.values())]
 
 
 def cite_answers(ans, f):
@@ -703,9 +728,9 @@ def pass_places(ans, f):
         if m:
             for n in re.finditer(r"(?m)^(?:  )+(?:pub |abbrev |unfoldable )*(" + IDENT + r") :(?= |$)", code):
                 takes[n.group(1)] = m.group(1)
-        m = re.match(r"(?:abbrev )?(" + IDENT + r") : \(c : goal\.([\w-]+)\)\s*→", code)
+        m = re.match(r"(?:abbrev )?(" + IDENT + r") : (?:\(c : goal\.([\w-]+)\)|goal\.([\w-]+)\s*→)", code)
         if m:
-            takes[m.group(1)] = m.group(2)
+            takes[m.group(1)] = m.group(2) or m.group(3)
     if not takes:
         return ans
     place_of = {new: f.by_name_of(old) for (o, new), (old, _) in zip(f.needs, f.asked_at)}

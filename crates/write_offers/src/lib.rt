@@ -2,7 +2,6 @@
 // which of two offers is taken.
 #![tactic(auto)]
 
-
 ghost use Rattle.std.specs.Prelude.{◌≡◌, true, ◌+◌, ◌≤◌, ◌<◌, length, take, eqb, ltb};
 ghost use Rattle.rules.specs.Tools.{is_tool};
 ghost use Rattle.rules.specs.Fractional.{row_count, body_bits};
