@@ -237,6 +237,17 @@ class Turner:
 
         t = re.sub(r"(?<![\w'.-])(\x02[^\x02]+\x02|" + IDENT + r")((?:\.[\w'₀-₉-]+)+)", path, t)
         t = re.sub(r"\x02[^\x02]+\x02", "c", t)
+        # what a call leaves, under the name of its step
+        callee = {p[2][1]: p[3] for p in f.places if p[3]}
+        for m in list(re.finditer(r"let (" + IDENT + r") = c\.([\w-]+) in", t)):
+            params = f.params.get(callee.get(m.group(2)) or "")
+            if params:
+
+                def left(n, s=m.group(1), params=params):
+                    got = clause_path(params + [""], n.group(2).split(".")[1:])
+                    return s + {"kept": ".auto", "last": ".new"}.get(n.group(1), "." + n.group(1)) + "." + ".".join(got) if got and got[0] else n.group(0)
+
+                t = re.sub(r"(?<![\w'.-])" + re.escape(m.group(1)) + r"\.(kept|last|new|auto)((?:\.[01])+)", left, t)
         # a call's clauses under a name
         fields_of = {}
         for i, p in enumerate(f.places):
@@ -635,7 +646,24 @@ def open_short(ans):
                     continue
             x = re.sub(r"\(" + re.escape(n) + r" c\)", lambda _: "(" + body + ")", x)
             ans[i] = re.sub(pat, lambda _: "(" + body + ")", x)
-    return [x for x in ans if not any(x is d and always for always, _, _, d in short.values())]
+    ans = [x for x in ans if not any(x is d and always for always, _, _, d in short.values())]
+    for k, d in enumerate(ans):
+        if not re.search(r"(?m)^module _ \(c : goal\.", d):
+            continue
+        found = {}
+        for m in re.finditer(r"(?m)^  abbrev (" + IDENT + r") : [^\n]*\n  \1 = ([^\n]*)$(?!\n    )", d):
+            body = m.group(2)
+            for n, x in found.items():
+                body = re.sub(r"(?<![\w'.-])" + re.escape(n) + r"(?![\w'-])", lambda _: "(" + x + ")", body)
+            found[m.group(1)] = body
+        for i, x in enumerate(ans):
+            if i == k:
+                continue
+            for n, body in found.items():
+                x = re.sub(r"\(" + re.escape(n) + r" c\)", lambda _: "(" + body + ")", x)
+                x = re.sub(r"(?<![\w'.-])" + re.escape(n) + r" c(?![\w'.-])", lambda _: "(" + body + ")", x)
+            ans[i] = x
+    return ans
 
 
 def cite_answers(ans, f):
@@ -686,6 +714,7 @@ def members_of(d):
 
 def copy_members(ans, f):
     """What a section further down uses of one above it is said again there, since a record of a place is given for a goal alone."""
+    copied = 0
     places = [section_place(d) for d in ans]
     all_members = {}
     for i, d in enumerate(ans):
@@ -696,7 +725,7 @@ def copy_members(ans, f):
         if not places[i]:
             continue
         own = members_of(d)
-        wanted, todo = [], list(own.values()) + [d.split("where\n", 1)[0]]
+        wanted, todo = [], list(own.values())
         while todo:
             text = todo.pop()
             for n, (k, body) in all_members.items():
@@ -708,8 +737,9 @@ def copy_members(ans, f):
         order = [n for n in all_members if n in wanted]
         copies = "\n\n".join(all_members[n][1] for n in order)
         head, _, rest = d.partition(" where\n")
+        copied += 1
         for n in wanted:
-            new = n + "'"
+            new = n + "'" * copied
             pat = r"(?<![\w'.-])" + re.escape(n) + r"(?: c(?![\w'.-]))?(?![\w'-])"
             copies = re.sub(pat, new, copies)
             rest = re.sub(pat, new, rest)
