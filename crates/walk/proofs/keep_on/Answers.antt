@@ -45,7 +45,7 @@ step-r-requires c =
 
 pub overflow_add-place : goal.overflow_add-place
 overflow_add-place c =
-    omega (arith, inside (goal.at.overflow_add-place c).After-step-r c.in-Done.is, c.good)
+    omega (arith, inside (goal.at.overflow_add-place c).After-step-r c.in-Done.is)
 
 pub overflow_add-used : goal.overflow_add-used
 overflow_add-used c =
@@ -53,7 +53,6 @@ overflow_add-used c =
       arith,
       inside (goal.at.overflow_add-used c).After-step-r c.in-Done.is,
       c.frames.invariant.1,
-      c.good,
     )
 
 pub overflow_add-to : goal.overflow_add-to
@@ -62,7 +61,6 @@ overflow_add-to c =
       arith,
       (bounds (goal.at.overflow_add-to c).After-step-r c.in-Done.is).fits,
       c.frames.invariant.0.kept.room,
-      c.good,
     )
 
 pub frames-smaller : goal.frames-smaller

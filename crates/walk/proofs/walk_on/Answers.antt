@@ -10,19 +10,19 @@ use lib.ListN.{length, drop, length-drop}
 use Rattle.rules.specs.declared.Ending.TheVariants.{Done}
 use Rattle.walk.proofs.Told.{Bounds}
 use Rattle.walk.proofs.Along.{Passing, along-start, along-ended, along-last, along-refused, along-bounds, along-turn}
-use Rattle.walk.proofs.walk_on.Goals.{Then-place-octets, After-measure-r}
+use Rattle.walk.proofs.walk_on.Goals.{Then-place-octets, After-measure-r, then-loop-passed-test+else-place-octets, else-loop-passed-test}
 use Rattle.walk.proofs.walk_on.Goals as goal
 
 -- there is a frame to read
 here : (c : Then-place-octets) → c.loop-passed.place < length c.args.octets.now
-here c = ltb-true _ _ c.if-place-octets.true
+here c = c.if-place-octets.true
 
 -- a frame that was passed
 module _ (c : After-measure-r) (e : c.measure-r.result.end ≡ Done) where
   bounds : Bounds (drop c.loop-passed.place
       c.args.octets.now) c.loop-passed.left
       c.measure-r.result
-  bounds = along-bounds _ _ _ _ _ _ c.loop-passed.invariant.along (omega arith) (ltb-true _ _ c.if-place-octets.true)
+  bounds = along-bounds _ _ _ _ _ _ c.loop-passed.invariant.along (omega arith) c.if-place-octets.true
       c.measure-r.ensures.tells e
 
   inside : c.loop-passed.place + c.measure-r.result.octets ≤ length
@@ -30,7 +30,7 @@ module _ (c : After-measure-r) (e : c.measure-r.result.end ≡ Done) where
   inside = omega (
     arith,
     bounds.inside,
-    (ltb-true _ _ c.if-place-octets.true),
+    c.if-place-octets.true,
     length-drop c.loop-passed.place
         c.args.octets.now,
   )
@@ -57,7 +57,6 @@ pub overflow_add-place : goal.overflow_add-place
 overflow_add-place c = omega (
   arith,
   inside (goal.at.overflow_add-place c).After-measure-r c.in-Done.is,
-  c.good,
 )
 
 pub overflow_sub-left : goal.overflow_sub-left
@@ -85,6 +84,7 @@ overflow_sub-room-2 c = omega (arith, c.loop-passed.invariant.along.samples-kept
 pub returns : goal.returns
 returns c =
     let w = c.loop-passed.invariant.along in
-    rw c.answer-2.ensures
-    (⊎_elim (λ t. along-ended _ _ _ _ _ _ w refl (ltb-false _ _ t.1.left)) (λ t. along-last _ _ _ _ _ _ w refl t.left)
-    c.loop-passed-test.branch).1
+    elim c.loop-passed-test.branch [
+        then-loop-passed-test+else-place-octets t ↦ rw c.answer-2.ensures (along-ended _ _ _ _ _ _ w refl (omega arith)).1
+      | else-loop-passed-test t ↦ rw c.answer-2.ensures (along-last _ _ _ _ _ _ w refl (omega arith)).1
+    ]
