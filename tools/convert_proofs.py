@@ -597,6 +597,11 @@ def convert(crate, fn_dir, rel, entry, notes):
     ans = [re.sub(r"(?<![\w'-])not-(?:true|false) (?:_|[\w.-]+) (c\.if-not-[\w-]+\.(?:true|false))", r"\1", d) for d in ans]
     ans = [re.sub(r"\.kept(?=\.[01])", ".auto", d) for d in ans]
     ans = [re.sub(r"\.inv(?![\w'-])", ".invariant", re.sub(r"\.taken(?![\w'-])", ".true", d)) for d in ans]
+    # an `if !x` says `x ≡ false` itself now
+    ans = [re.sub(r"not-(?:true|false) _ (c\.if-not-[\w.-]+\.(?:true|false))", r"\1", d) for d in ans]
+    # port.py gave a lemma that is named as a function another name; a step keeps the function's
+    ans = [re.sub(r"(?<=[\w)])\.(" + IDENT + r")_lem(?![\w'-])", r".\1", d) for d in ans]
+    ans = [re.sub(r"\.type-inv(?![\w'-])", ".type_inv", d) for d in ans]
     ans = [d.replace("\x03", "") for d in ans]
     ans = open_short(ans)
     ans = copy_members(ans, f)
