@@ -20,7 +20,8 @@ SIG = re.compile(r"^((?:pub |abbrev |unfoldable )*)(" + IDENT + r") :(?= |$)")
 
 
 def norm(name):
-    return name.replace("_", "-").lower()
+    name = name.replace("_", "-").lower()
+    return name[:-4] if name.endswith("-lem") else name
 
 
 class File:
@@ -43,12 +44,22 @@ class File:
 
     def new_place(self, old):
         i = self.index.get(norm(old))
-        return None if i is None else self.by_name[i]
+        if i is None:
+            return None
+        name = self.by_name[i]
+        whole = re.sub(r"(-\d+|-unread(-\d+)?)$", "", name)
+        if self.arms[i] and whole in self.by_name:
+            k = self.by_name.index(whole)
+            if self.arms[k] and self.arms[k][0] == self.arms[i][0]:
+                return whole  # the arm's last place has the names of its pattern
+        return name
 
     def chain(self, old):
         """Indices of a place and those above it, from the place up."""
         out = []
         i = self.index.get(norm(old)) if old else None
+        if i is not None and self.new_place(old) != self.by_name[i]:
+            i = self.by_name.index(self.new_place(old))
         while i is not None:
             out.append(i)
             up = self.places[i][1]
@@ -601,8 +612,12 @@ def convert(crate, fn_dir, rel, entry, notes):
     ans = [re.sub(r"not-(?:true|false) _ (c\.if-not-[\w.-]+\.(?:true|false))", r"\1", d) for d in ans]
     # port.py gave a lemma that is named as a function another name; a step keeps the function's
     ans = [re.sub(r"(?<=[\w)])\.(" + IDENT + r")_lem(?![\w'-])", r".\1", d) for d in ans]
+    # what a type says of a value needs no word, and a test of a `&&` is its fact
+    ans = [re.sub(r",\s*c\.good(?=\s*[,)])", "", d) for d in ans]
+    ans = [re.sub(r"\(?(?<![\w'-])(?:ltb|leb|eqb)-true _ _ (c\.if-[\w-]+\.true)(\))?", lambda m: m.group(1) if m.group(0).startswith("(") == bool(m.group(2)) else m.group(0), d) for d in ans]
     ans = [re.sub(r"\.type-inv(?![\w'-])", ".type_inv", d) for d in ans]
     ans = [d.replace("\x03", "") for d in ans]
+    ans = [re.sub(r"not-(?:true|false) _ (c\.if-not-[\w-]+\.(?:true|false))", r"\1", d) for d in ans]
     ans = open_short(ans)
     ans = copy_members(ans, f)
     ans = cite_answers(ans, f)
@@ -700,6 +715,11 @@ def section_place(d):
     return m.group(1) if m else None
 
 
+def above(f, new_up, new_down):
+    old_of = dict(zip(f.by_name, [p[0] for p in f.places]))
+    return new_up in [f.by_name[k] for k in f.chain(old_of.get(new_down, ""))]
+
+
 def members_of(d):
     """The declarations of a section: name -> text."""
     lines = d.split("\n")
@@ -734,7 +754,7 @@ def copy_members(ans, f):
         while todo:
             text = todo.pop()
             for n, (k, body) in all_members.items():
-                if k != i and places[k] != places[i] and n not in wanted and re.search(r"(?<![\w'.-])" + re.escape(n) + r"(?= c(?![\w'.-])|\b)", text) and word(n, text):
+                if k != i and places[k] != places[i] and n not in wanted and above(f, places[k], places[i]) and re.search(r"(?<![\w'.-])" + re.escape(n) + r"(?= c(?![\w'.-])|\b)", text) and word(n, text):
                     wanted.append(n)
                     todo.append(body)
         if not wanted:
@@ -745,7 +765,7 @@ def copy_members(ans, f):
         copied += 1
         for n in wanted:
             new = n + "'" * copied
-            pat = r"(?<![\w'.-])" + re.escape(n) + r"(?: c(?![\w'.-]))?(?![\w'-])"
+            pat = r"(?<![\w'.-])(?<!\{)" + re.escape(n) + r"(?: c(?![\w'.-]))?(?![\w'-])"
             copies = re.sub(pat, new, copies)
             rest = re.sub(pat, new, rest)
             rest = re.sub(r"\(" + re.escape(new) + r"\)", new, rest)
@@ -761,8 +781,9 @@ def pass_places(ans, f):
         code = "\n".join(x for x in d.split("\n") if not x.startswith("--"))
         m = re.match(r"module _ \(c : goal\.([\w-]+)\)", code)
         if m:
-            for n in re.finditer(r"(?m)^(?:  )+(?:pub |abbrev |unfoldable )*(" + IDENT + r") :(?= |$)", code):
-                takes[n.group(1)] = m.group(1)
+            for n in re.finditer(r"(?m)^(?:  )+(?:pub |abbrev |unfoldable )*(" + IDENT + r") :(?= |$)", code.split("where\n", 1)[1]):
+                if n.group(1) != "go":
+                    takes[n.group(1)] = m.group(1)
         m = re.match(r"(?:abbrev )?(" + IDENT + r") : (?:\(c : goal\.([\w-]+)\)|goal\.([\w-]+)\s*→)", code)
         if m:
             takes[m.group(1)] = m.group(2) or m.group(3)

@@ -3,6 +3,7 @@
 // Each tool is measured once, whatever the set holds of it and whoever wins.
 #![tactic(auto)]
 
+
 ghost use Rattle.std.specs.Prelude.{◌≡◌, true, ◌||◌, ◌≤◌, length, take};
 ghost use Rattle.rules.specs.Tools.{is_tool};
 ghost use Rattle.write_scan.specs.Looks.{is_mask, FrameIn};
@@ -59,7 +60,7 @@ fn states_of(samples: &[u8], n: usize, mask: u8, set: u32) -> States
 }
 
 // A tool that fits, and its octets.
-#[derive(Clone, Copy, Drop)]
+#[derive(Clone, Copy)]
 struct Best {
     tool: u32,
     octets: u32,
