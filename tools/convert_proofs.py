@@ -605,7 +605,7 @@ def convert(crate, fn_dir, rel, entry, notes):
             fh.write("\n".join(uses + [f"use {base}.Given as goal"]) + "\n" + decl_text + inv_text)
         if pub_names:
             uses = uses + [f"use {base}.Invariants.{{{', '.join(pub_names)}}}"]
-    ans = [re.sub(r"(?<![\w'-])not-(?:true|false) (?:_|[\w.-]+) (c\.if-not-[\w-]+\.(?:true|false))", r"\1", d) for d in ans]
+    ans = [re.sub(r"(?<![\w'-])not-(?:true|false) (?:_|[\w.-]+)\s+(c\.if-not-[\w-]+\.(?:true|false))", r"\1", d) for d in ans]
     ans = [re.sub(r"\.kept(?=\.[01])", ".auto", d) for d in ans]
     ans = [re.sub(r"\.inv(?![\w'-])", ".invariant", re.sub(r"\.taken(?![\w'-])", ".true", d)) for d in ans]
     # an `if !x` says `x ≡ false` itself now
