@@ -1,5 +1,7 @@
 // Document 01, "First octet" and tool sets: what a first octet begins, whether a set holds a tool, and
 // the first octet that a writer gives.
+#![tactic(auto)]
+
 
 ghost use Rattle.std.specs.Prelude.{◌≡◌, ◌≤◌, ◌<◌};
 ghost use Rattle.rules.specs.Tools as tools;

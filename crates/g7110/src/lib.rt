@@ -1,4 +1,6 @@
 // The C boundary: numbers and slices only. include/g7110.h says what a C program passes.
+#![tactic(auto)]
+
 ghost use Rattle.std.specs.Prelude.{map, ◌≡◌, length};
 ghost use Rattle.rules.specs.Frame.{read_one};
 ghost use Rattle.rules.specs.Walk.{walk_all};

@@ -1,4 +1,6 @@
 // Document 01, "Samples as signed numbers", with the law's mask 55 (A) or 7F (mu).
+#![tactic(auto)]
+
 ghost use Rattle.std.specs.Prelude.{◌≡◌, ◌<◌};
 ghost use Rattle.rules.specs.Samples.{mask_of, signed, sample_of, plus_zero, minus_zero};
 

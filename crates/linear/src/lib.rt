@@ -1,4 +1,6 @@
 // 001, section 6.8.1 and 6.8.2: a frame of samples to linear PCM and back.
+#![tactic(auto)]
+
 ghost use Rattle.std.specs.Prelude.{◌≤◌, ◌<◌, min, ◌≡◌, ◌||◌, map, ◌++◌, eqb, length, drop};
 ghost use Rattle.std.specs.Int.Signed.{mag};
 ghost use Rattle.rules.specs.Tools.{is_length};

@@ -1,4 +1,6 @@
 // Masters of signed 16-bit values: a frame of samples to a master and back, "as to_linear and from_linear with the shift of the tools".
+#![tactic(auto)]
+
 ghost use Rattle.std.specs.Prelude.{◌≤◌, ◌≡◌, length};
 ghost use Rattle.std.specs.Int.Signed.{shr_z};
 ghost use Rattle.linear.specs.Calls.{judged};

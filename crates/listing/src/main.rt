@@ -1,5 +1,7 @@
 // The listing program (document 01, "Walk and listing"): it reads standard input and writes its listing, page by page. What the pages
 // hold stands in crate `listing_pages`.
+#![tactic(auto)]
+
 ghost use Rattle.std.specs.Prelude.{◌≤◌, length};
 ghost use Rattle.listing_pages.specs.Pages.{Stands};
 

@@ -1,5 +1,7 @@
 // The listing page by page (document 01, "Walk and listing"): what is put into a lent page is the next part of the
 // listing's text, and the rest follows from where the page ends.
+#![tactic(auto)]
+
 ghost use Rattle.std.specs.Prelude.{◌≡◌, ◌+◌, ◌≤◌, ◌<◌, false, length};
 ghost use Rattle.rules.specs.Tools.{most_law};
 ghost use Rattle.rules.specs.Listing.{list_stream};

@@ -1,6 +1,8 @@
 // The bench tool `mend`: a damaged greeting and its true total of samples to a greeting of that total. What is kept and what is filled
 // stands in crate `mending`. The result is whole before OUTFILE is opened, so a refused greeting leaves that file as it was. Greeting and
 // result are held whole, so the program needs some 2.1 MiB of stack.
+#![tactic(auto)]
+
 ghost use Rattle.std.specs.Prelude.{◌≤◌, length};
 
 use rules::{Ending, LONGEST};

@@ -1,5 +1,7 @@
 // Mending a damaged greeting (document 02, R-12): what is whole is kept, and plus zeros fill it up to its total.
 // What is kept, what is filled and what is refused stands in specs/Mend, what a call answers in specs/Calls.
+#![tactic(auto)]
+
 ghost use Rattle.std.specs.Prelude.{◌+◌, ◌/◌, ◌≤◌, ◌≡◌, length, replicate};
 ghost use Rattle.text_lines.specs.Puts.{Puts};
 ghost use Rattle.mending.specs.Mend.{is_total, filling};

@@ -1,6 +1,8 @@
 // The bench tool `pack`: raw G.711 octets or a linear master in, a stream of frames or a recording out. What matters is in crate
 // `tool_packing`: here the sound is read in parts of whole frames, what each makes is kept in a file without a name, and that is written
 // when all is well. So a stream of 1,048,576 octets takes no more memory than a short one.
+#![tactic(auto)]
+
 ghost use Rattle.std.specs.Prelude.{◌+◌, ◌≤◌, ◌<◌, ◌≡◌, true, length};
 ghost use Rattle.rules.specs.Tools.{is_law};
 ghost use Rattle.tool_packing.specs.SoundParts.{part_size};

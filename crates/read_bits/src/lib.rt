@@ -1,6 +1,8 @@
 // Reading at a place of octets, bits highest first: a bit, a number, the zeros before a one, a Rice code.
 // Numbers and zeros are read from windows of up to 32 bits, where an octet that is missing counts 0: SHORT is judged beside the window.
 // A place is a bit of the octets. What is read, or refused and at which bit, is what the definitions of `rules` say.
+#![tactic(auto)]
+
 ghost use Rattle.std.specs.Prelude.{◌≡◌, ◌+◌, ◌*◌, ◌-◌, ◌^◌, ◌/◌, ◌≤◌, ◌<◌, min, max, length, get_or};
 ghost use Rattle.std.specs.Int.Count.{count_leading_zeros};
 ghost use Rattle.rules.specs.Bits.{bits_of};

@@ -1,5 +1,7 @@
 // The bodies of tools 5 and 6, each into a lent frame buffer; what a refused body leaves there is not looked at.
 // Those of 1 to 4 are in `plain`.
+#![tactic(auto)]
+
 pub mod plain;
 
 ghost use Rattle.std.specs.Prelude.{◌≡◌, ◌+◌, ◌^◌, ◌≤◌, ◌<◌, length};

@@ -1,4 +1,6 @@
 // The body of tool 11 (document 02, R-14; 001, section 8.9), read into a lent frame buffer.
+#![tactic(auto)]
+
 ghost use Rattle.std.specs.Prelude.{◌≡◌, ◌+◌, ◌*◌, ◌^◌, ◌/◌, ◌%◌, ◌≤◌, ◌<◌, length};
 ghost use Rattle.rules.specs.Fractional.{coding, coding_of, Packs, digits_of};
 ghost use Rattle.read_fractional.specs.Rows.{six};

@@ -1,4 +1,6 @@
 // What a frame's first octets tell: "tool, samples of the frame at the start, from its first one or two octets".
+#![tactic(auto)]
+
 ghost use Rattle.std.specs.Prelude.{◌≡◌, ℕ, ◌+◌, ◌/◌, ◌≤◌, List, length};
 ghost use Rattle.rules.specs.Bits.{bits_of};
 ghost use Rattle.rules.specs.Reading.{refuse};

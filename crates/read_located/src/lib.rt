@@ -1,4 +1,6 @@
 // The body of tool 7, value-location. The cells of a frame are its samples: a cell that is plus zero is empty.
+#![tactic(auto)]
+
 ghost use Rattle.std.specs.Prelude.{◌≡◌, [], ◌∷◌, ◌++◌, map, false, cond, ◌&&◌, ◌+◌, ◌-◌, ◌^◌, ◌%◌, ◌≤◌, ◌<◌, length, take, drop, replicate, eqb, leb, ltb};
 ghost use Rattle.rules.specs.Bits.{bits_of};
 ghost use Rattle.rules.specs.Samples.{sample_of};

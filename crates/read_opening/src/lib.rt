@@ -1,4 +1,6 @@
 // How a frame opens: "Order: LAW, SET, then in a frame PREFIX, tool decided".
+#![tactic(auto)]
+
 ghost use Rattle.std.specs.Prelude.{◌≡◌, ◌+◌, ◌/◌, ◌≤◌, ◌<◌, true, length};
 ghost use Rattle.rules.specs.Tools.{is_length};
 ghost use Rattle.rules.specs.Bits.{bits_of};

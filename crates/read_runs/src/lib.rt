@@ -1,4 +1,6 @@
 // D flags of a value or a frame, 0 the common kind and 1 the other, as runs or bit by bit: each marks a lent cell by its kind.
+#![tactic(auto)]
+
 ghost use Rattle.std.specs.Prelude.{◌≡◌, [], ◌+◌, ◌*◌, ◌-◌, ◌^◌, ◌≤◌, ◌<◌, min, length, replicate};
 ghost use Rattle.rules.specs.Bits.{low_bits, bits_of};
 ghost use Rattle.rules.specs.Reading.{bits_from};

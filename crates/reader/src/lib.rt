@@ -1,4 +1,6 @@
 // Reading one frame: "in a frame PREFIX, tool decided, TOOL, ROOM, then body checks as the bits come, ALIGN last".
+#![tactic(auto)]
+
 ghost use Rattle.std.specs.Prelude.{◌≡◌, ℕ, ◌+◌, ◌*◌, ◌/◌, ◌%◌, ◌^◌, ◌≤◌, ◌<◌, List, [], ◌++◌, length, take, drop, cond, eqb};
 ghost use Rattle.rules.specs.Bits.{bits_of, fill_for};
 ghost use Rattle.rules.specs.Reading.{whole, refuse, filled};

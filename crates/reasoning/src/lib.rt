@@ -1,6 +1,8 @@
 // Why the writer takes the tool that it takes (document 02, R-10): each tool's state, and from the states alone the winner and by what
 // it won.
 // Each tool is measured once, whatever the set holds of it and whoever wins.
+#![tactic(auto)]
+
 
 ghost use Rattle.std.specs.Prelude.{◌≡◌, true, ◌||◌, ◌≤◌, length, take};
 ghost use Rattle.rules.specs.Tools.{is_tool};

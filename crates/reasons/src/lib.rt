@@ -1,4 +1,6 @@
 // Why the writer takes the tool that it takes (document 02, R-10): the answer as a struct, and its lines.
+#![tactic(auto)]
+
 ghost use Rattle.std.specs.Prelude.{◌+◌, ◌≤◌, length};
 ghost use Rattle.rules.specs.Listing.{field};
 ghost use Rattle.text_lines.specs.Puts.{Puts};

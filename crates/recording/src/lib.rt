@@ -1,5 +1,7 @@
 // Recordings from studios (document 02, R-1): the G.711.0 storage file of RFC 7655, read and written.
 // What each call answers and leaves stands in specs/Calls; the heading and the marks in specs/Remembered.
+#![tactic(auto)]
+
 ghost use Rattle.std.specs.Prelude.{◌≡◌};
 ghost use Rattle.recording.specs.Calls.{refusal_number, refusal_tool, number_of, tool_named};
 

@@ -1,5 +1,7 @@
 // A recording file piece by piece (document 02, R-1): what its heading says, and one item at a place behind it.
 //   file_head: the law.      next: one item, as recording_read takes it (proofs/NextIs).
+#![tactic(auto)]
+
 ghost use Rattle.std.specs.Prelude.{◌≡◌, List, cond, ℕ, ◌-◌, ◌<◌, ◌≤◌, leb, length, drop};
 ghost use Rattle.rules.specs.declared.Ending.TheVariants.{Done};
 ghost use Rattle.rules.specs.Refusals.{verdict};

@@ -1,6 +1,8 @@
 // A recording file read (document 02, R-1): item after item, a frame or a loss each. "A lost frame is handed on as lost, never as silence."
 //   play_on: items from a place on, so many at most; it can be taken up again where it ended (proofs/Parts).
 //   law_in: what the heading says.      read_file: a whole file.
+#![tactic(auto)]
+
 ghost use Rattle.std.specs.Prelude.{◌≡◌, ◌+◌, ◌-◌, ◌≤◌, ◌<◌, ◌++◌, length, get_or, take, drop, set, eqb};
 ghost use Rattle.rules.specs.Samples.{mask_of};
 ghost use Rattle.rules.specs.Chooses.{every};

@@ -62,6 +62,7 @@ module _ {W A : Type 0} (refused : W → A) (next : A) where
   judged-first (bar v so ∷ asks) (here f e) = rw f (ap refused e)
   judged-first (ask v so ∷ asks) (later m f) = rw m (judged-first asks f)
   judged-first (bar v so ∷ asks) (later m f) = rw m (judged-first asks f)
+  judged-first {w = w} [] x' = elim x' [ ]
 
 -- what is read off the answer is read off each refusal
 pub judged-ap : {W A B : Type 0} (f : A → B) (refused : W → A) (next : A) (asks : List (Asked W))
@@ -76,6 +77,7 @@ judged-ap f refused next (bar w false ∷ asks) = judged-ap f refused next asks
 pub first_more : {W : Type 0} {w : W} (asks more : List (Asked W)) → First w asks → First w (asks ++ more)
 first_more (a ∷ asks) more (here f e) = here f e
 first_more (a ∷ asks) more (later m f) = later m (first_more asks more f)
+first_more {W = W} {w = w} [] more x' = elim x' [ ]
 
 -- answers that tell a refusal from all else, and refusals from one another
 pub record Apart {W A : Type 0} (refused : W → A) (next : A) : Type 0 where

@@ -81,8 +81,8 @@ unfolding lay
 lay-sized z x flags p g h none = record { size = refl; below = none }
 lay-sized z x flags p g h (more {x = y} {l = cells} k t) =
     record {
-      size = ap suc (lay-sized z x flags _ g h t).size;
-      below = more (cell (eqb y z) (eqb (get_or flags p 0) 1)) (lay-sized z x flags _ g h t).below;
+      size = ap suc (lay-sized z x flags (cond (eqb y z) (p + 1) p) g h t).size;
+      below = more (cell (eqb y z) (eqb (get_or flags p 0) 1)) (lay-sized z x flags (cond (eqb y z) (p + 1) p) g h t).below;
     }
   where
     cell : (b c : Bool) → cond b (cond c x z) y < 256

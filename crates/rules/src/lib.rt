@@ -1,6 +1,8 @@
 // The vocabulary of document 01: a frame, the thirteen refusals, the limits with what is asked before all else, and the answers of the
 // three calls.
 // What each case and each answer means stands in specs/.
+#![tactic(auto)]
+
 ghost use Rattle.std.specs.Prelude.{◌≡◌};
 ghost use Rattle.rules.specs.Refusals.{refusal_number, refusal_tool, number_of, tool_named, verdict};
 ghost use Rattle.rules.specs.Tools.{is_length, reader_asks, writer_asks};

@@ -1,5 +1,7 @@
 // Settings that can be put back (document 02, R-13): a box's last eight settings in 41 lent numbers, saved, gone back to, read and wiped.
 // What each call answers and leaves stands in specs/Calls.
+#![tactic(auto)]
+
 ghost use Rattle.std.specs.Prelude.{◌≡◌, [], ◌∷◌, ◌++◌, ◌+◌, ◌*◌, ◌-◌, ◌≤◌, ◌<◌, length, take, drop, replicate};
 ghost use Rattle.text_lines.specs.Puts.{Puts};
 ghost use Rattle.settings.specs.Lines.{settings_in, settings_text};

@@ -1,6 +1,8 @@
 // A greeting store that fills its gaps (document 02, R-6): greetings in a lent block, with a lent table; put, get and delete.
 // With each greeting go its law, its samples and its marks (R-8).
 // What each call answers and leaves stands in specs/Calls.
+#![tactic(auto)]
+
 ghost use Rattle.std.specs.Prelude.{◌≡◌, ◌+◌, ◌^◌, ◌≤◌, ◌<◌, length, get_or};
 ghost use Rattle.rules.specs.Tools.{most_law};
 ghost use Rattle.store_rows.specs.Limits.{largest_block, most_number, list_cells};

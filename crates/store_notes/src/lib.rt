@@ -1,5 +1,7 @@
 // The notes of a store's greetings (document 02, R-8), in a lent table: judged, put in and taken out.
 // What the cells mean stands in specs/Cells.
+#![tactic(auto)]
+
 ghost use Rattle.std.specs.Prelude.{◌≡◌, ◌+◌, ◌*◌, ◌^◌, ◌≤◌, ◌<◌, length, get_or, drop};
 ghost use Rattle.store_rows.specs.Limits.{most_greetings};
 ghost use Rattle.store_rows.specs.Cells.{rows_at};

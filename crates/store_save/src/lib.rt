@@ -1,4 +1,6 @@
 // A store's table saved as text, and loaded (document 02, R-6, R-8 and R-11). What each call answers and leaves stands in specs/Calls.
+#![tactic(auto)]
+
 ghost use Rattle.std.specs.Prelude.{◌≡◌, true, false, ◌+◌, ◌*◌, ◌≤◌, ◌<◌, length, get_or};
 ghost use Rattle.rules.specs.Tools.{most_law};
 ghost use Rattle.rules.specs.Walk.{longest};

@@ -1,5 +1,7 @@
 // What a store tells of itself, nothing changed: a greeting by its number or by its place in order of start, and all greetings together.
 // What each call answers stands in specs/Calls.
+#![tactic(auto)]
+
 ghost use Rattle.std.specs.Prelude.{◌≡◌, ◌≤◌, ◌<◌, max, length, get_or};
 ghost use Rattle.store_rows.specs.Limits.{largest_block, most_greetings};
 ghost use Rattle.store_rows.specs.Cells.{rows_of};

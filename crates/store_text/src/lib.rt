@@ -1,4 +1,6 @@
 // The text of a store's table (document 02, R-6, R-8 and R-11): R-6's lines read, R-8's written, read and compared, with R-11's first line.
+#![tactic(auto)]
+
 ghost use Rattle.std.specs.Prelude.{◌≡◌, ℕ, ◌+◌, ◌*◌, ◌-◌, ◌^◌, ◌≤◌, ◌<◌, ◌++◌, length, get_or};
 ghost use Rattle.store_rows.specs.Limits.{largest_block, row_cells, list_cells};
 ghost use Rattle.store_rows.specs.Rows.{row_of};

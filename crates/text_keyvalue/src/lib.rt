@@ -1,5 +1,7 @@
 // Text of key=value lines, written and read: a word, a decimal number, a line, a line whose number is in a range.
 // A number of any number of digits is read and never wrapped: one too large for 32 bits is told as the largest (specs/Reading, capped).
+#![tactic(auto)]
+
 ghost use Rattle.std.specs.Prelude.{◌≡◌, ◌+◌, ◌*◌, ◌-◌, ◌≤◌, min, length, drop};
 ghost use Rattle.text_keyvalue.specs.Reading.{as_read, capped, number, begins, is_digit, most};
 ghost use Rattle.text_keyvalue.specs.Lines.{line_of, line, ranged};

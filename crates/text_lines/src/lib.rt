@@ -1,5 +1,7 @@
 // The lines of the listing (document 01, "Walk and listing"). Each function puts its text into lent octets at a place
 // and answers the next place.
+#![tactic(auto)]
+
 ghost use Rattle.std.specs.Prelude.{◌+◌, ◌≤◌, ◌≡◌, length, ◌++◌};
 ghost use Rattle.rules.specs.Listing.{line_end, tool_word, octets_word, bits_word, decimal, field};
 ghost use Rattle.rules.specs.Listing.{law_line, frame_line, stop_fields, stop_line, samples_line};

@@ -1,5 +1,7 @@
 // What the bench tools read and say: their arguments, files, and the lines on standard error. No contract can say what is
 // read or written: what a line holds comes from crates `tool_words` and `text_lines`.
+#![tactic(auto)]
+
 ghost use Rattle.std.specs.Prelude.{◌^◌, ◌≤◌, ◌<◌, length};
 ghost use Rattle.io.specs.Counts.{IsPrefixLen};
 

@@ -1,5 +1,7 @@
 // The bench tool `unpack`: a stream, or a recording, back to sound, or, with a master, the sound compared with it. What a file's items and
 // their sound are stands in crate `tool_playback`, what the arguments mean in `tool_words`, what is said in `tool_console`.
+#![tactic(auto)]
+
 ghost use Rattle.std.specs.Prelude.{◌≡◌, false, ◌^◌, ◌≤◌, ◌<◌, length};
 ghost use Rattle.rules.specs.declared.Ending.TheVariants.{Done};
 ghost use Rattle.rules.specs.Walk.{longest};

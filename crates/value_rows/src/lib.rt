@@ -1,4 +1,6 @@
 // Table 7-28 of 001 (document 02, R-14, tool 11): which rows a length has, and what a row is.
+#![tactic(auto)]
+
 ghost use Rattle.std.specs.Prelude.{◌≡◌, ◌≤◌, ◌<◌};
 ghost use Rattle.rules.specs.Samples.{sample_of};
 ghost use Rattle.rules.specs.Fractional.{first_code, row_count, value_for};

@@ -1,6 +1,8 @@
 // Walking a stream: "each next frame starts where the last one ended, in the middle of the same octets".
 // Two loops over one invariant (proofs/Along): `walk_on` keeps no samples, `keep_on` puts them into a lent output. Both go from a place on,
 // up to the stream's end, a refused frame, or so many frames, and can be taken up again where they ended (proofs/Walk of rules).
+#![tactic(auto)]
+
 ghost use Rattle.std.specs.Prelude.{◌≡◌, ◌≤◌, length, drop};
 ghost use Rattle.rules.specs.Frame.{read_one};
 ghost use Rattle.rules.specs.Calls.{Walk, Walks};

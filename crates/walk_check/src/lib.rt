@@ -1,4 +1,6 @@
 // A stream judged with no room for its samples: "as g7110_walk with room never short".
+#![tactic(auto)]
+
 ghost use Rattle.walk.specs.Counting.{Counts};
 ghost use Rattle.walk_check.specs.Check.{check_of};
 

@@ -1,5 +1,7 @@
 // The bench tool `why`: raw G.711 octets in; for each frame that `pack` cuts them into, why the writer takes its tool. What matters is in
 // crates `reasoning` and `reasons`: here the sound is read in parts of whole frames, and each frame's lines are written as it comes.
+#![tactic(auto)]
+
 ghost use Rattle.std.specs.Prelude.{◌+◌, ◌≤◌, true, ◌≡◌, length};
 ghost use Rattle.text_lines.specs.Puts.{Puts};
 ghost use Rattle.tool_packing.specs.SoundParts.{part_size};

@@ -1,5 +1,7 @@
 // Bits put into lent octets. "Bits go highest first; the last octet is filled with 0 bits."
 // Up to 31 bits are held in a word; where 32 are there, they are stored as four octets at once.
+#![tactic(auto)]
+
 
 ghost use Rattle.std.specs.Prelude.{◌≡◌, ℕ, ◌+◌, ◌*◌, ◌-◌, ◌^◌, ◌%◌, ◌≤◌, ◌<◌, length, get_or, take, replicate};
 ghost use Rattle.rules.specs.Bits.{low_bits};

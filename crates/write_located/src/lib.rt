@@ -1,4 +1,6 @@
 // Value-location: whether it applies to a frame, and what it would write: the row, the flag, and the values with their ways.
+#![tactic(auto)]
+
 
 ghost use Rattle.std.specs.Prelude.{◌≡◌, true, false, cond, ◌&&◌, ◌+◌, ◌*◌, ◌/◌, ◌%◌, ◌≤◌, ◌<◌, length, take, eqb, leb, ltb};
 ghost use Rattle.rules.specs.Tools as tools;

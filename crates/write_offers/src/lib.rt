@@ -1,5 +1,7 @@
 // Each tool's offer for a frame: whether it applies, the first of its conditions that fails, and the bits of its form. And the tie order:
 // which of two offers is taken.
+#![tactic(auto)]
+
 
 ghost use Rattle.std.specs.Prelude.{◌≡◌, true, ◌+◌, ◌≤◌, ◌<◌, length, take, eqb, ltb};
 ghost use Rattle.rules.specs.Tools.{is_tool};

@@ -1,4 +1,6 @@
 // Runs found: those of a row of flags, and those of up to three values, each among the places that the ones before it left.
+#![tactic(auto)]
+
 
 ghost use Rattle.std.specs.Prelude.{◌≡◌, cond, ℕ, ◌+◌, ◌*◌, ◌^◌, ◌≤◌, ◌<◌, length, get_or, take, eqb};
 ghost use Rattle.write_scan.specs.Rows.{row_bits};
