@@ -153,7 +153,7 @@ const PLANTED: [(&str, &str, &str, &str); 86] = [
     ("shapes", "crates.txt", "promises: rules", "promises: rules\nframe_rules: rules"),
     ("shapes", "crates/rules/src/lib.rt", "pub fn read", LONG_LINE),
     ("shapes", "crates/rules/src/lib.rt", "read()", "read(a: u8, b: u8, c: u8, d: u8, e: u8, f: u8, g: u8, h: u8)"),
-    ("shapes", "crates/rules/src/frames.rt", "r ≡ a", LONG_CLAUSE),
+    ("shapes", "crates/rules/src/frames.rt", "result ≡ a", LONG_CLAUSE),
     ("shapes", "crates/rules/src/frames.rt", "    a\n", LONG_BODY),
     ("shapes", "crates/rules/src/frames.rt", "    a\n}", "    a }"),
     ("shapes", "crates/rules/src/frames.rt", "h: u8)", "h: u8, i: u8)"),
@@ -170,9 +170,9 @@ const LONG_LINE: &str = concat!(
     "of the code ever may be\npub fn read",
 );
 const LONG_CLAUSE: &str = concat!(
-    "r ≡ a\n        × a + 0 ≡ a × b + 0 ≡ b × f + 0 ≡ f × g + 0 ≡ g × h + 0 ≡ h × 0 + a ≡ a × 0 + b ≡ b × 0 + f ≡ f",
+    "result ≡ a\n        × a + 0 ≡ a × b + 0 ≡ b × f + 0 ≡ f × g + 0 ≡ g × h + 0 ≡ h × 0 + a ≡ a × 0 + b ≡ b × 0 + f ≡ f",
     "\n        × a + 0 ≡ a × b + 0 ≡ b × f + 0 ≡ f × g + 0 ≡ g × h + 0 ≡ h × 0 + a ≡ a × 0 + b ≡ b × 0 + f ≡ f",
-    "\n        × 1000 + 20 ≡ 1020 + 0",
+    "\n        × 1000 + 20 ≡ 1020 + 0 + 0",
 );
 const LONG_BODY: &str = "    a\n\n\n\n\n\n\n\n\n\n\n\n\n\n\n\n\n\n\n\n\n\n\n\n\n\n\n\n\n\n\n\n\n\n\n\n\n\n\n\n\n";
 

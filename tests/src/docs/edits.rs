@@ -13,8 +13,6 @@ pub const LOGS: [&str; 2] = ["target/must-fail.txt", "target/faults.txt"];
 /// How rt begins what it says of a refused edit, and what it puts there where it was not the meaning that was refused.
 const REFUSED: &str = "refused, as it must be";
 const SHAPE: &str = " (only because a proof file names what the edit took away";
-/// rt cuts the error that it tells to so many characters.
-const CUT: usize = 160;
 /// How a line begins that rt reads.
 const READ: [&str; 3] = ["file: ", "old: ", "new:"];
 /// How the line begins that tells the fact.
@@ -217,6 +215,9 @@ fn name(said: &str, end: &str) -> Found {
 #[cfg(test)]
 mod tests {
     use super::*;
+
+    /// rt cuts the error that it tells to so many characters.
+    const CUT: usize = 160;
 
     /// As rt writes them, the second one cut within the goal's name.
     #[test]
