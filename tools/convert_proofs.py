@@ -20,7 +20,8 @@ SIG = re.compile(r"^((?:pub |abbrev |unfoldable )*)(" + IDENT + r") :(?= |$)")
 
 
 def norm(name):
-    return name.replace("_", "-").lower()
+    name = name.replace("_", "-").lower()
+    return name[:-4] if name.endswith("-lem") else name
 
 
 class File:
@@ -43,12 +44,22 @@ class File:
 
     def new_place(self, old):
         i = self.index.get(norm(old))
-        return None if i is None else self.by_name[i]
+        if i is None:
+            return None
+        name = self.by_name[i]
+        whole = re.sub(r"(-\d+|-unread(-\d+)?)$", "", name)
+        if self.arms[i] and whole in self.by_name:
+            k = self.by_name.index(whole)
+            if self.arms[k] and self.arms[k][0] == self.arms[i][0]:
+                return whole  # the arm's last place has the names of its pattern
+        return name
 
     def chain(self, old):
         """Indices of a place and those above it, from the place up."""
         out = []
         i = self.index.get(norm(old)) if old else None
+        if i is not None and self.new_place(old) != self.by_name[i]:
+            i = self.by_name.index(self.new_place(old))
         while i is not None:
             out.append(i)
             up = self.places[i][1]
@@ -565,7 +576,13 @@ def convert(crate, fn_dir, rel, entry, notes):
         if pub_names:
             uses = uses + [f"use {base}.Invariants.{{{', '.join(pub_names)}}}"]
     ans = [re.sub(r"\.inv(?![\w'-])", ".invariant", re.sub(r"\.taken(?![\w'-])", ".true", d)) for d in ans]
+    # an `if !x` says `x ≡ false` itself now
+    ans = [re.sub(r"not-(?:true|false) _ (c\.if-not-[\w.-]+\.(?:true|false))", r"\1", d) for d in ans]
+    # port.py gave a lemma that is named as a function another name; a step keeps the function's
+    ans = [re.sub(r"(?<=[\w)])\.(" + IDENT + r")_lem(?![\w'-])", r".\1", d) for d in ans]
+    ans = [re.sub(r"\.type-inv(?![\w'-])", ".type_inv", d) for d in ans]
     ans = [d.replace("\x03", "") for d in ans]
+    ans = [re.sub(r"not-(?:true|false) _ (c\.if-not-[\w-]+\.(?:true|false))", r"\1", d) for d in ans]
     ans = copy_members(ans, f)
     ans = cite_answers(ans, f)
     ans = pass_places(ans, f)
@@ -622,6 +639,11 @@ def section_place(d):
     return m.group(1) if m else None
 
 
+def above(f, new_up, new_down):
+    old_of = dict(zip(f.by_name, [p[0] for p in f.places]))
+    return new_up in [f.by_name[k] for k in f.chain(old_of.get(new_down, ""))]
+
+
 def members_of(d):
     """The declarations of a section: name -> text."""
     lines = d.split("\n")
@@ -655,7 +677,7 @@ def copy_members(ans, f):
         while todo:
             text = todo.pop()
             for n, (k, body) in all_members.items():
-                if k != i and places[k] != places[i] and n not in wanted and re.search(r"(?<![\w'.-])" + re.escape(n) + r"(?= c(?![\w'.-])|\b)", text) and word(n, text):
+                if k != i and places[k] != places[i] and n not in wanted and above(f, places[k], places[i]) and re.search(r"(?<![\w'.-])" + re.escape(n) + r"(?= c(?![\w'.-])|\b)", text) and word(n, text):
                     wanted.append(n)
                     todo.append(body)
         if not wanted:
@@ -665,7 +687,7 @@ def copy_members(ans, f):
         head, _, rest = d.partition(" where\n")
         for n in wanted:
             new = n + "'"
-            pat = r"(?<![\w'.-])" + re.escape(n) + r"(?: c(?![\w'.-]))?(?![\w'-])"
+            pat = r"(?<![\w'.-])(?<!\{)" + re.escape(n) + r"(?: c(?![\w'.-]))?(?![\w'-])"
             copies = re.sub(pat, new, copies)
             rest = re.sub(pat, new, rest)
             rest = re.sub(r"\(" + re.escape(new) + r"\)", new, rest)
@@ -681,8 +703,9 @@ def pass_places(ans, f):
         code = "\n".join(x for x in d.split("\n") if not x.startswith("--"))
         m = re.match(r"module _ \(c : goal\.([\w-]+)\)", code)
         if m:
-            for n in re.finditer(r"(?m)^  (?:pub |abbrev |unfoldable )*(" + IDENT + r") :(?= |$)", code):
-                takes[n.group(1)] = m.group(1)
+            for n in re.finditer(r"(?m)^(?:  |    )(?:pub |abbrev |unfoldable )*(" + IDENT + r") :(?= |$)", code.split("where\n", 1)[1]):
+                if n.group(1) != "go":
+                    takes[n.group(1)] = m.group(1)
         m = re.match(r"(?:abbrev )?(" + IDENT + r") : \(c : goal\.([\w-]+)\) →", code)
         if m:
             takes[m.group(1)] = m.group(2)
