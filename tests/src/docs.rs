@@ -87,7 +87,9 @@ impl Files {
     fn crates(&self) -> BTreeMap<&str, Vec<&str>> {
         let lines = self.text("crates.txt").lines().filter_map(|line| line.split_once(':'));
         // A static library has that word after its name.
-        lines.filter_map(|(name, below)| Some((name.split_whitespace().next()?, below.split_whitespace().collect()))).collect()
+        lines
+            .filter_map(|(name, below)| Some((name.split_whitespace().next()?, below.split_whitespace().collect())))
+            .collect()
     }
 }
 

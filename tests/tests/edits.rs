@@ -142,7 +142,10 @@ fn each_fault_is_told() {
         ("no-fact", get.replace("fails: ", "falls: "), "it names no fact"),
         (
             "shape",
-            get.replace("log: :", "log:  (only because a proof file names what the edit took away, so this says little):"),
+            get.replace(
+                "log: :",
+                "log:  (only because a proof file names what the edit took away, so this says little):",
+            ),
             "refused for its shape alone",
         ),
         ("cut", get.replace("returns-2`: no", "retur"), ""),

@@ -228,8 +228,11 @@ mod tests {
         let note = ": note: src/lib.rt:4:5: it is not proved that the sum fits its type (at a range `..=n`, `n + 1`) (`overflow_add-result`); the facts";
         assert!(holds(note, "more", "overflow_add-result") && !holds(note, "more", "returns"));
         let cut = &note[..note.find("-result").unwrap()];
-        assert!(cut.chars().count() < CUT && holds(cut, "more", "overflow_add-result") && !holds(cut, "more", "overflow"));
-        let error = " (only by a limit): ./proofs/placing/lay_row/Invariants.antt:8:13: error: `returns`: expected type `a";
+        assert!(
+            cut.chars().count() < CUT && holds(cut, "more", "overflow_add-result") && !holds(cut, "more", "overflow")
+        );
+        let error =
+            " (only by a limit): ./proofs/placing/lay_row/Invariants.antt:8:13: error: `returns`: expected type `a";
         assert!(holds(error, "lay_row", "returns") && !holds(error, "placing", "returns"));
         assert!(!holds(": ./proofs/Back.antt:8:13: error: `back`: no", "Answers", "back"));
         assert!(!holds("", "Back", "back"));
