@@ -1,7 +1,6 @@
 // A frame of the two zeros: what Rice would write of it.
 #![tactic(auto)]
 
-
 ghost use Rattle.std.specs.Prelude.{◌≡◌, cond, List, ℕ, ◌+◌, ◌^◌, ◌/◌, ◌≤◌, ◌<◌, length, get_or, take, ltb};
 ghost use Rattle.rules.specs.Tools as tools;
 ghost use Rattle.rules.specs.Bits.{low_bits};
@@ -41,7 +40,7 @@ fn start_bits(n: usize) -> usize
 }
 
 // What Rice writes of a frame of the two zeros: its bits, the mark, S and how many runs.
-#[derive(Drop)]
+#[derive(Clone, Copy, Drop)]
 pub struct Zeros {
     pub bits: usize,
     pub mark: usize,
