@@ -1,0 +1,28 @@
+use Rattle.std.proofs.Common.{rules, ◌≡◌, ℕ, sym, length, get_or, Fits, w8}
+use lib.Seq.{length-take-le}
+use Rattle.rules.proofs.Octets.{below_all}
+use Rattle.promises.proofs.RoundTrip.{returned}
+use Rattle.round_trip.proofs.Kept.{within, restores-by}
+use Rattle.round_trip.proofs.round_trip.Goals as goal
+
+pub slice_bounds-read_frame-end : goal.slice_bounds-read_frame-end
+slice_bounds-read_frame-end c = within c.write_frame-wrote.ensures
+
+pub slice_bounds-read_frame-end-2 : goal.slice_bounds-read_frame-end-2
+slice_bounds-read_frame-end-2 c =
+    let w = c.write_frame-wrote in
+    sym (length-take-le w.result.octets w.new.out (within w.ensures))
+
+pub returns : goal.returns
+returns c =
+    let a = c.args in
+    let w = c.write_frame-wrote in
+    let r = c.read_frame-read in
+    let l : length a.frame.samples ≡ 320 = search rules in
+    record {
+      writes = w.ensures;
+      reads = r.ensures;
+      restores = λ e h. restores-by (returned a.frame a.law a.set a.kept.now _ w.result l
+          (below_all a.frame.samples (λ i. let f : Fits w8 (get_or a.frame.samples i 0) = search rules in f.fits))
+          w.ensures e a.sound.now _ r.result h r.ensures);
+    }
