@@ -17,7 +17,7 @@ use Rattle.rules.specs.Calls.{at_start, Walks, Walk}
 use Rattle.rules.proofs.Octets.{Below, below-take, below-drop}
 use Rattle.promises.proofs.Written.{full}
 use Rattle.promises.proofs.Lists.{Part, frame_of, frames, All, last, then}
-use Rattle.promises.proofs.Lists.{stream, octets_of, samples_all, deliveries, lists-walked, deliveries-samples, deliveries-octets}
+use Rattle.promises.proofs.Lists.{octets_of, stream, samples_all, deliveries, lists-walked, deliveries-samples, deliveries-octets}
 use Rattle.tool_packing.specs.declared.packing.PackAnswer.{PackAnswer}
 use Rattle.tool_packing.specs.Cuts.{next_length, cuts_from, cuts, sound_in}
 use Rattle.tool_packing.specs.Packing.{form_octets, stream_of, pack_all, Pack}
