@@ -2,7 +2,6 @@
 // the first octet that a writer gives.
 #![tactic(auto)]
 
-
 ghost use Rattle.std.specs.Prelude.{◌≡◌, ◌≤◌, ◌<◌};
 ghost use Rattle.rules.specs.Tools as tools;
 ghost use Rattle.rules.specs.First.{first_octet, base_of, octet_for};

@@ -25,7 +25,7 @@ use Rattle.rules.specs.Fractional.{row_count, body_bits, fractional}
 use Rattle.rules.specs.Frame.{Found, octets_used, body, with_tool, after_first, frame, read_one}
 use Rattle.rules.specs.Located.{width_from, width_of, listed_from, listed, by_method, empty_in, lay, values_into, values_of, located}
 use Rattle.rules.specs.Chooses.{count_of}
-use Rattle.rules.proofs.Octets.{Below, none, more, bits_of-below, length-low_bits}
+use Rattle.rules.proofs.Octets.{Below, none, bits_of-below, length-low_bits}
 use Rattle.rules.proofs.Laid.{empty-all, lay-count}
 use Rattle.rules.proofs.Signed.{LawMask, sample_of-one-to-one, law-mask}
 use Rattle.rules.proofs.Gives.{Gives, gives-bit, gives-number, gives-zeros_from, gives-rice}

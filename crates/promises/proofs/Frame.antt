@@ -12,7 +12,7 @@ use borrow.Author.Tests.{le-ltb, eq-eqb, ltb-true}
 use Rattle.rules.specs.Tools.{holds, is_length}
 use Rattle.rules.specs.Bits.{low_bits, value_from, octets_for, fill_for}
 use Rattle.rules.specs.Reading.{Read, whole, Reader, bit, number}
-use Rattle.rules.specs.First.{tool, six_or_eight, first_octet, base_of, octet_for, rice_code, length_code, is_long, mark_at, six_not_eight}
+use Rattle.rules.specs.First.{six_or_eight, first_octet, base_of, octet_for, rice_code, length_code, is_long, mark_at, six_not_eight}
 use Rattle.rules.specs.Zeros.{codes_of, code_of, most_s, plus_minus}
 use Rattle.rules.specs.Fractional.{first_code, row_count, fractional}
 use Rattle.rules.specs.Frame.{Found, body, with_tool, after_first, frame}

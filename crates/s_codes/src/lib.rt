@@ -1,7 +1,6 @@
 // The codes of S: one table, for what reads, for what measures and for what writes.
 #![tactic(auto)]
 
-
 ghost use Rattle.std.specs.Prelude.{◌≡◌, ◌≤◌};
 ghost use Rattle.rules.specs.Zeros.{most_s};
 ghost use Rattle.s_codes.specs.Codes.{TableIs, CodesAre, CodeIs, FoundIs};

@@ -1,5 +1,5 @@
 -- The choice, and what a plan tells of it: the tool, its bits, and what its form needs.
-use Rattle.std.specs.Prelude.{ℕ, ◌/◌, ◌≤◌, ◌<◌, ◌≡◌, List, [], ◌∷◌, map, true, false, cond, ◌&&◌, length, eqb}
+use Rattle.std.specs.Prelude.{ℕ, ◌/◌, ◌≤◌, ◌≡◌, List, [], ◌∷◌, map, true, false, cond, ◌&&◌, length, eqb}
 use Rattle.rules.specs.Tools.{holds}
 use Rattle.rules.specs.Samples.{plus_zero, minus_zero}
 use Rattle.rules.specs.Zeros.{flag_of}

@@ -7,7 +7,7 @@ use native.Mathlib.Nat.{zero-mul, suc-mul, zero-add, pow-le-pow_left, pow-le-pow
 use lib.ListN.{length, get_or, take, drop, length-map, length-append, length-drop}
 use lib.Seq.{drop-cons, drop-drop, get_or-take, get_or-drop, length-take-le}
 use Rattle.rules.specs.Bits.{low_bits}
-use Rattle.rules.proofs.Octets.{Below, more, below_all, below-take, below-drop, length-low_bits}
+use Rattle.rules.proofs.Octets.{Below, below_all, below-take, below-drop, length-low_bits}
 use Rattle.write_bits.specs.declared.Pen.{Pen}
 use Rattle.write_bits.specs.Puts.{Able, Puts}
 use Rattle.write_bits.proofs.Putting.{puts_none, puts_then, puts-as, able-then}

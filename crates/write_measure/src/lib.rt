@@ -1,7 +1,6 @@
 // What runs need with each S, and the least; ceil(log2 D).
 #![tactic(auto)]
 
-
 ghost use Rattle.std.specs.Prelude.{◌≡◌, cond, ◌+◌, ◌*◌, ◌^◌, ◌/◌, ◌≤◌, ◌<◌, length, take, ltb};
 ghost use Rattle.rules.specs.Bits.{octets_for};
 ghost use Rattle.rules.specs.Runs.{rice_forms};

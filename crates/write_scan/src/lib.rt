@@ -1,7 +1,6 @@
 // A frame looked at in one pass: what its samples have in common, how many are a value, and which are not, as a row of flags.
 #![tactic(auto)]
 
-
 ghost use Rattle.std.specs.Prelude.{◌≡◌, cond, ◌+◌, ◌*◌, ◌^◌, ◌≤◌, ◌<◌, min, max, length, get_or, take, drop, eqb};
 ghost use Rattle.write_scan.specs.Rows.{Gathers, RowIs};
 ghost use Rattle.rules.specs.Samples.{signed, on_line};

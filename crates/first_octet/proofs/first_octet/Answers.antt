@@ -1,5 +1,4 @@
 use native.Mathlib.Omega.{arith}
-use borrow.Author.Rules.{rules}
 use borrow.Author.Tests.{eq-eqb, ne_eqb}
 use Rattle.first_octet.specs.Answers.{entry_tells}
 use Rattle.first_octet.proofs.first_octet.Goals as goal

@@ -1,7 +1,6 @@
 use native.Mathlib.Omega.{arith}
 use Rattle.linear.specs.Constants.{code_of}
 use Rattle.linear.proofs.One.{code-small}
-use borrow.Author.Rules.{rules}
 use Rattle.linear.proofs.code_of.Goals as goal
 
 pub overflow_mul-result : goal.overflow_mul-result

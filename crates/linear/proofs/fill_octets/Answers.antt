@@ -2,14 +2,13 @@ use Rattle.rules.proofs.Lent.{mapped-turn, mapped-kept, mapped-whole}
 use mir.Syntax.{w16}
 use mir.Facts.{to_z-of_z}
 use lib.IntN.{pos}
-use Prim.Native.Nat.{◌≤◌, ◌<◌, ◌-◌}
+use Prim.Native.Nat.{◌≤◌, ◌<◌}
 use native.Mathlib.Omega.{arith}
 use mathlib.Core.Path.{◌≡◌, ap, ◌∙◌}
 use mathlib.Core.List.{map}
 use lib.ListN.{length}
-use lib.Seq.{paste, paste-zero}
+use lib.Seq.{paste-zero}
 use Rattle.linear.specs.Equations.{from_pcm}
-use borrow.Author.Rules.{rules}
 use Rattle.linear.proofs.fill_octets.Goals.{At-loop-i}
 use Rattle.linear.proofs.fill_octets.Goals as goal
 

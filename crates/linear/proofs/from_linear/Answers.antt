@@ -2,7 +2,6 @@ use mathlib.Core.Path.{sym, ◌∙◌}
 use lib.ListN.{length}
 use Rattle.linear.specs.Equations.{from_pcm}
 use Rattle.linear.proofs.Frames.{done-room, converted, refused}
-use borrow.Author.Rules.{rules}
 use Rattle.linear.proofs.from_linear.Goals as goal
 
 pub returns-in_default : goal.returns-in_default

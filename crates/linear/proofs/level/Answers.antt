@@ -2,7 +2,6 @@ use native.Mathlib.Omega.{arith}
 use mathlib.Core.Path.{sym}
 use Rattle.linear.proofs.Segments.{level-low}
 use Rattle.linear.proofs.One.{level-shifted}
-use borrow.Author.Rules.{rules}
 use Rattle.linear.proofs.level.Goals as goal
 
 pub returns-then-c-lt16 : goal.returns-then-c-lt16

@@ -7,7 +7,6 @@ use mir.Facts.{to_z_pos}
 use Rattle.linear.proofs.Signs.{minus}
 use Rattle.linear.proofs.Sound.{Sound, sound-as}
 use Rattle.linear.proofs.One.{Level, level-range, linear-above, linear-below}
-use borrow.Author.Rules.{rules}
 use Rattle.linear.proofs.linear_of.Goals.{After-struct_known-2-1, After-struct_known-3-1}
 use Rattle.linear.proofs.linear_of.Goals as goal
 

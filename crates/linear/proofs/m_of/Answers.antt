@@ -4,7 +4,6 @@ use mir.Syntax.{w16}
 use Prim.Native.Nat.{◌+◌, min}
 use Rattle.linear.specs.Constants.{m_of}
 use Rattle.linear.proofs.Signs.{Below, below, size_below, Above, above, size_above}
-use borrow.Author.Rules.{rules}
 use Rattle.linear.proofs.m_of.Goals.{Then-v-lt0, Else-v-lt0}
 use Rattle.linear.proofs.m_of.Goals as goal
 

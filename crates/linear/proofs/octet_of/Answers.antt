@@ -9,7 +9,6 @@ use Rattle.linear.specs.Constants.{m_of}
 use Rattle.linear.proofs.Signs.{Below, below, Above, above}
 use Rattle.linear.proofs.Sound.{Code, sound-as, m-top}
 use Rattle.linear.proofs.One.{code_fits, octet-below, octet-above}
-use borrow.Author.Rules.{rules}
 use Rattle.linear.proofs.octet_of.Goals.{After-m_of-m, After-struct_known-1, Then-x-lt0, Else-x-lt0}
 use Rattle.linear.proofs.octet_of.Goals as goal
 

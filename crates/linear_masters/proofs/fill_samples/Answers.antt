@@ -2,14 +2,13 @@ use Rattle.rules.proofs.Lent.{mapped-turn, mapped-kept, mapped-whole}
 use mir.Syntax.{w16}
 use mir.Facts.{to_z-of_z}
 use lib.IntN.{pos}
-use Prim.Native.Nat.{◌≤◌, ◌<◌, ◌-◌}
+use Prim.Native.Nat.{◌≤◌, ◌<◌}
 use native.Mathlib.Omega.{arith}
 use mathlib.Core.Path.{◌≡◌, ap, ◌∙◌}
 use mathlib.Core.List.{map}
 use lib.ListN.{length, get_or}
-use lib.Seq.{paste, paste-zero}
+use lib.Seq.{paste-zero}
 use Rattle.linear_masters.specs.Masters.{sample_for}
-use borrow.Author.Rules.{rules}
 use Rattle.linear_masters.proofs.fill_samples.Goals.{At-loop-i}
 use Rattle.linear_masters.proofs.fill_samples.Goals as goal
 

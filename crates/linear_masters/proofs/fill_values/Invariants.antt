@@ -1,14 +1,9 @@
-use Rattle.rules.proofs.Lent.{mapped-turn, mapped-kept, mapped-whole}
-use mir.Syntax.{w16}
-use mir.Facts.{to_z-of_z}
-use Prim.Native.Nat.{◌≤◌, ◌<◌, ◌-◌}
-use native.Mathlib.Omega.{arith}
-use mathlib.Core.Path.{◌≡◌, ◌∙◌}
+use Prim.Native.Nat.{◌≤◌, ◌-◌}
+use mathlib.Core.Path.{◌≡◌}
 use mathlib.Core.List.{map}
 use lib.ListN.{length}
-use lib.Seq.{paste, paste-zero}
+use lib.Seq.{paste}
 use Rattle.linear_masters.specs.Masters.{value_for}
-use borrow.Author.Rules.{rules}
 use Rattle.linear_masters.proofs.fill_values.Given as goal
 
 abbrev pub invariant-loop-i : goal.invariant-loop-i

@@ -2,7 +2,6 @@ use mathlib.Core.Path.{sym, ◌∙◌}
 use lib.ListN.{length}
 use Rattle.linear_masters.specs.Masters.{sample_for}
 use Rattle.linear.proofs.Frames.{done-room, converted, refused}
-use borrow.Author.Rules.{rules}
 use Rattle.linear_masters.proofs.from_master.Goals as goal
 
 pub returns-in_default : goal.returns-in_default

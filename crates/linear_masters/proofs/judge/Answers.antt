@@ -1,6 +1,5 @@
 use native.Mathlib.Omega.{arith}
 use borrow.Author.Tests.{lt-leb, le-leb, ne_eqb}
-use borrow.Author.Rules.{rules}
 use Rattle.linear_masters.proofs.judge.Goals as goal
 
 pub returns-then-law-gt-MOST_LAW : goal.returns-then-law-gt-MOST_LAW

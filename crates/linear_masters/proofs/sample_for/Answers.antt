@@ -4,7 +4,6 @@ use mir.Facts.{to_z-of_z}
 use lib.Signed.{shr_z}
 use Rattle.linear.specs.Equations.{from_pcm}
 use Rattle.linear_masters.specs.Masters.{unit_of}
-use borrow.Author.Rules.{rules}
 use Rattle.linear_masters.proofs.sample_for.Goals as goal
 
 pub returns : goal.returns

@@ -1,6 +1,5 @@
 use native.Mathlib.Omega.{arith}
 use Rattle.linear_masters.proofs.Values.{raised, unit-a, unit-mu}
-use borrow.Author.Rules.{rules}
 use Rattle.linear_masters.proofs.value_for.Goals as goal
 
 pub overflow_mul-result : goal.overflow_mul-result

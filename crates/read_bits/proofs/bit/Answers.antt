@@ -1,5 +1,4 @@
 -- A bit is there, or missing (OneBit).
-use borrow.Author.Rules.{rules}
 use mathlib.Core.Path.{sym}
 use native.Mathlib.Omega.{arith}
 use Rattle.read_bits.proofs.OneBit.{bit-there, bit-missing}

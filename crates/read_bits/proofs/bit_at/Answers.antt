@@ -1,5 +1,4 @@
 -- Bit i of octets is bit i % 8 of octet i / 8, highest first (Octets.bits_of-at).
-use borrow.Author.Rules.{rules}
 use native.Mathlib.Omega.{arith}
 use mathlib.Core.Path.{sym}
 use Rattle.rules.proofs.Octets.{bits_of-at}

@@ -1,5 +1,4 @@
 -- A word is opened over the eight octets from the place on (InWord).
-use borrow.Author.Rules.{rules}
 use Prim.Native.Nat.{◌/◌, ◌%◌}
 use native.Mathlib.Omega.{arith}
 use Rattle.read_bits.proofs.InWord.{holds-none, holds_opened}

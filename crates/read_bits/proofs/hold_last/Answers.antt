@@ -1,5 +1,4 @@
 -- A word is opened over the last eight octets, or over all where they are fewer (InWord).
-use borrow.Author.Rules.{rules}
 use Prim.Native.Nat.{◌*◌, ◌-◌, ◌/◌, ◌%◌}
 use lib.ListN.{length}
 use native.Mathlib.Omega.{arith}

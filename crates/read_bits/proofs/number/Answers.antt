@@ -1,5 +1,4 @@
 -- A number that is cut is SHORT (Cut); else it stands in the window of five octets (Window).
-use borrow.Author.Rules.{rules}
 use native.Mathlib.Omega.{arith}
 use mathlib.Core.Path.{◌≡◌, sym}
 use lib.Pow.{pow_pos}

@@ -1,5 +1,4 @@
 -- An octet, or 0 past the last one.
-use borrow.Author.Rules.{rules}
 use mathlib.Core.Path.{sym}
 use lib.ListN.{get_or-eq_default}
 use Rattle.read_bits.proofs.octet_at.Goals as goal

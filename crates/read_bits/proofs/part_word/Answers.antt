@@ -1,5 +1,4 @@
 -- Eight octets side by side are a word (Window); one that is missing is 0.
-use borrow.Author.Rules.{rules}
 use native.Mathlib.Omega.{arith}
 use Rattle.read_bits.proofs.Window.{ahead-eight}
 use Rattle.read_bits.proofs.part_word.Goals as goal

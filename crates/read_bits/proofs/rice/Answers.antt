@@ -1,5 +1,4 @@
 -- The zeros, then the low bits; neither the shift nor the sum loses anything (Shift).
-use borrow.Author.Rules.{rules}
 use native.Mathlib.Omega.{arith}
 use mathlib.Core.Path.{sym}
 use Rattle.rules.specs.Runs.{rice}

@@ -1,5 +1,4 @@
 -- What stands from the one on is 2 ^ S and the low bits (InWord); neither shift loses anything.
-use borrow.Author.Rules.{rules}
 use mathlib.Core.Path.{refl}
 use native.Mathlib.Omega.{arith}
 use Rattle.read_bits.proofs.InWord.{fits-run}

@@ -1,5 +1,4 @@
 -- Eight octets side by side are a word (Window); an octet is below 256.
-use borrow.Author.Rules.{rules}
 use native.Mathlib.Omega.{arith}
 use mathlib.Core.Path.{refl}
 use Rattle.read_bits.proofs.Window.{ahead-eight}

@@ -1,5 +1,4 @@
 -- Five octets side by side are the window (Window); an octet is below 256.
-use borrow.Author.Rules.{rules}
 use native.Mathlib.Omega.{arith}
 use mathlib.Core.Path.{refl}
 use Rattle.read_bits.proofs.Window.{ahead-five}

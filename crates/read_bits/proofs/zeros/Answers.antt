@@ -1,12 +1,7 @@
 -- Each turn reads a window (ZeroRun); the measure is what is left of the N + 1.
-use borrow.Author.Rules.{rules}
-use Prim.Native.Nat.{◌+◌, ◌-◌, ◌≤◌}
-use mathlib.Core.Path.{◌≡◌}
 use native.Mathlib.Omega.{arith}
 use native.Mathlib.Nat.{add-zero, sub-zero}
 use lib.Count.{count_leading_zeros, leading_le}
-use Rattle.rules.specs.Bits.{bits_of}
-use Rattle.rules.specs.Runs.{zeros_from}
 use Rattle.read_bits.proofs.Leading.{Lead, lead}
 use Rattle.read_bits.proofs.ZeroRun.{window-one, window-run, window-short, window-all-run, window_more}
 use Rattle.read_bits.proofs.zeros.Goals.{After-next_bits}

@@ -1,5 +1,4 @@
 -- There are at most as many leading zeros as bits.
-use borrow.Author.Rules.{rules}
 use Prim.Native.Nat.{◌/◌, ◌^◌}
 use mathlib.Core.Path.{refl}
 use native.Mathlib.Omega.{arith}

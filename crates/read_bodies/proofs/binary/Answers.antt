@@ -1,5 +1,4 @@
 -- N flags, each marked by its zero (TwoZeros).
-use borrow.Author.Rules.{rules}
 use native.Mathlib.Omega.{arith}
 use Rattle.rules.specs.Zeros.{zero_of}
 use Rattle.read_runs.proofs.Answer.{marks-told, marks-told-refused}

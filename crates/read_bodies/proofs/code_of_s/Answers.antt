@@ -1,5 +1,4 @@
 -- The code that the next bits begin with is read as a number of its bits (Codes' Begun), and that is cut or there (Bits' Cut, Window).
-use borrow.Author.Rules.{rules}
 use native.Mathlib.Omega.{arith}
 use Rattle.read_bits.proofs.Cut.{number_cut}
 use Rattle.read_bits.proofs.Window.{number-there}

@@ -1,5 +1,4 @@
 -- The code of S, then N flags as runs, each marked by its zero (TwoZeros).
-use borrow.Author.Rules.{rules}
 use Prim.Native.Nat.{ℕ}
 use mathlib.Core.List.{List}
 use native.Mathlib.Omega.{arith}

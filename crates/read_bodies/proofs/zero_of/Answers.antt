@@ -1,4 +1,3 @@
-use borrow.Author.Rules.{rules}
 use borrow.Author.Tests.{eq-eqb, ne_eqb}
 use Rattle.rules.proofs.Signed.{plus-zero, minus-zero}
 use Rattle.read_bodies.proofs.zero_of.Goals as goal

@@ -1,5 +1,4 @@
 -- The row, its values, then the groups by its radix (Rowed).
-use borrow.Author.Rules.{rules}
 use mathlib.Core.Path.{ap}
 use native.Mathlib.Omega.{arith}
 use lib.ListN.{length}

@@ -1,12 +1,7 @@
-use borrow.Author.Rules.{rules}
 use Prim.Native.Nat.{◌-◌}
-use mathlib.Core.Path.{refl}
-use native.Mathlib.Omega.{arith}
 use Rattle.rules.specs.Bits.{bits_of}
 use Rattle.rules.specs.Fractional.{coding}
-use Rattle.read_bits.proofs.Told.{told, refused}
-use Rattle.read_fractional.proofs.Turning.{Filling, filling-none, filling-turn, filling-refused}
-use Rattle.read_fractional.proofs.Turning.{filling-all, packs-four, laid_one, set_room}
+use Rattle.read_fractional.proofs.Turning.{Filling}
 use Rattle.read_fractional.proofs.four_values.Given as goal
 
 abbrev pub invariant-loop-filled : goal.invariant-loop-filled

@@ -1,12 +1,7 @@
-use borrow.Author.Rules.{rules}
 use Prim.Native.Nat.{◌-◌}
-use native.Mathlib.Omega.{arith}
 use Rattle.rules.specs.Bits.{bits_of}
 use Rattle.rules.specs.Fractional.{coding}
-use Rattle.read_bits.proofs.Told.{told, refused}
-use Rattle.read_fractional.proofs.Turning.{Filling, filling-none, packs-small, filling-turn, filling-refused, filling-place}
-use Rattle.read_fractional.proofs.Turning.{filling-all}
-use Rattle.rules.proofs.Fractional.{group-fits}
+use Rattle.read_fractional.proofs.Turning.{Filling}
 use Rattle.read_fractional.proofs.groups.Given as goal
 
 abbrev pub invariant-loop-filled : goal.invariant-loop-filled

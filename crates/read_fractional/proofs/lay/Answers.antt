@@ -1,8 +1,6 @@
-use borrow.Author.Rules.{rules}
-use Prim.Native.Nat.{◌-◌}
 use mathlib.Core.Path.{refl}
 use native.Mathlib.Omega.{arith}
-use Rattle.read_fractional.proofs.Laying.{Laying, laying-none, laying-turn, laying-all, digit-whole, digit-small}
+use Rattle.read_fractional.proofs.Laying.{laying-none, laying-turn, laying-all, digit-whole, digit-small}
 use Rattle.read_fractional.proofs.lay.Goals as goal
 
 pub loop-j-init : goal.loop-j-init

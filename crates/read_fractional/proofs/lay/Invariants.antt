@@ -1,8 +1,5 @@
-use borrow.Author.Rules.{rules}
 use Prim.Native.Nat.{◌-◌}
-use mathlib.Core.Path.{refl}
-use native.Mathlib.Omega.{arith}
-use Rattle.read_fractional.proofs.Laying.{Laying, laying-none, laying-turn, laying-all, digit-whole, digit-small}
+use Rattle.read_fractional.proofs.Laying.{Laying}
 use Rattle.read_fractional.proofs.lay.Given as goal
 
 abbrev pub invariant-loop-j : goal.invariant-loop-j

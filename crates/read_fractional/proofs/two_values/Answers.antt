@@ -1,5 +1,4 @@
 -- N flags, each marked by its value (Bitwise).
-use borrow.Author.Rules.{rules}
 use mathlib.Core.Path.{refl}
 use native.Mathlib.Omega.{arith}
 use lib.ListN.{get_or}

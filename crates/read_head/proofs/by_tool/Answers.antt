@@ -1,7 +1,5 @@
 -- TOOL, or the tool and its samples (Headed).
-use borrow.Author.Rules.{rules}
 use mathlib.Core.Path.{refl, sym, ◌∙◌}
-use borrow.Author.Tests.{not-true, not-false}
 use Rattle.read_head.proofs.Headed.{heads-as, no-tool, held-tool}
 use Rattle.read_head.proofs.by_tool.Goals as goal
 

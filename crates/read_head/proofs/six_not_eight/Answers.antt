@@ -1,7 +1,6 @@
 use native.Mathlib.Omega.{arith}
 use mathlib.Core.Path.{sym, ◌∙◌}
 use Rattle.read_opening.proofs.Six.{six-at-once, second-missing, six-by-second, eight}
-use borrow.Author.Rules.{rules}
 use Rattle.read_head.proofs.six_not_eight.Goals as goal
 
 pub returns-then-bit_at-eq1 : goal.returns-then-bit_at-eq1

@@ -1,5 +1,4 @@
 -- The bits that decide are missing, or it is one of the two (Headed).
-use borrow.Author.Rules.{rules}
 use native.Mathlib.Omega.{arith}
 use Rattle.read_bits.proofs.Told.{told, refused}
 use Rattle.read_head.proofs.Headed.{heads-as, six-refused, six-told}

@@ -1,5 +1,4 @@
 -- Method by method (Methods).
-use borrow.Author.Rules.{rules}
 use native.Mathlib.Omega.{arith}
 use Rattle.read_runs.proofs.Answer.{marks-refused}
 use Rattle.read_located.proofs.Methods.{marks-as, method-straight, method_runs, method-none, method-unknown, method-listed}

@@ -1,6 +1,5 @@
 -- Each turn lays one value (InTurn); the measure is the values left.
-use borrow.Author.Rules.{rules}
-use Prim.Native.Nat.{ℕ, ◌-◌}
+use Prim.Native.Nat.{ℕ}
 use mathlib.Core.Path.{◌≡◌}
 use mathlib.Core.List.{List}
 use mathlib.Core.Bool.{false}
@@ -11,7 +10,7 @@ use Rattle.rules.specs.Bits.{bits_of}
 use Rattle.rules.specs.Reading.{Read}
 use Rattle.read_runs.proofs.Answer.{marks-told, marks-told-refused}
 use Rattle.read_located.specs.Valued.{flags_of}
-use Rattle.read_located.proofs.InTurn.{InTurn, value-apart, in-turn-none, in-turn-refused, in-turn-ones, in-turn-next, in-turn-all}
+use Rattle.read_located.proofs.InTurn.{value-apart, in-turn-none, in-turn-refused, in-turn-ones, in-turn-next, in-turn-all}
 use Rattle.read_located.proofs.later.Goals.{After-value}
 use Rattle.read_located.proofs.later.Goals as goal
 

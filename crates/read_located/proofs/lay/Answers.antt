@@ -1,8 +1,6 @@
 -- Each turn puts one cell (Laying).
-use borrow.Author.Rules.{rules}
-use Prim.Native.Nat.{◌-◌}
 use native.Mathlib.Omega.{arith}
-use Rattle.read_located.proofs.Laying.{Laying, laying-none, laying-turn, laying-all}
+use Rattle.read_located.proofs.Laying.{laying-none, laying-turn, laying-all}
 use Rattle.read_located.proofs.lay.Goals as goal
 
 pub loop-i-init : goal.loop-i-init

@@ -1,7 +1,5 @@
-use borrow.Author.Rules.{rules}
 use Prim.Native.Nat.{◌-◌}
-use native.Mathlib.Omega.{arith}
-use Rattle.read_located.proofs.Laying.{Laying, laying-none, laying-turn, laying-all}
+use Rattle.read_located.proofs.Laying.{Laying}
 use Rattle.read_located.proofs.lay.Given as goal
 
 -- Each turn puts one cell (Laying).

@@ -1,5 +1,4 @@
 -- The count, then its places.
-use borrow.Author.Rules.{rules}
 use native.Mathlib.Omega.{arith}
 use Rattle.rules.specs.Located.{listed}
 use Rattle.read_bits.proofs.Told.{told, refused}

@@ -1,5 +1,4 @@
 -- Range case and flag, the row, then its values (Rows).
-use borrow.Author.Rules.{rules}
 use Prim.Native.Nat.{◌+◌}
 use native.Mathlib.Omega.{arith}
 use Rattle.rules.specs.Bits.{bits_of}

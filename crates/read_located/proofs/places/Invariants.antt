@@ -1,13 +1,6 @@
-use borrow.Author.Rules.{rules}
-use borrow.Author.Tests.{not-true, not-false}
 use Prim.Native.Nat.{◌-◌}
-use mathlib.Core.Path.{sym, ◌∙◌}
-use native.Mathlib.Omega.{arith}
 use Rattle.rules.specs.Bits.{bits_of}
-use Rattle.read_bits.proofs.Told.{told, refused}
-use Rattle.read_runs.proofs.Marking.{marks-filled}
-use Rattle.read_located.proofs.Listing.{Listing, listing_none, listing-refused, listing-falls, listing-below, listing-turn}
-use Rattle.read_located.proofs.Listing.{listing-all}
+use Rattle.read_located.proofs.Listing.{Listing}
 use Rattle.read_located.proofs.places.Given as goal
 
 -- Each turn reads one place (Listing); the measure is the places left.

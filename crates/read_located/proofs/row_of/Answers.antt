@@ -1,5 +1,4 @@
 -- Row by row (Rows): the values by the case and the flag, then their octets.
-use borrow.Author.Rules.{rules}
 use Prim.Native.Nat.{ℕ, ◌≤◌}
 use mathlib.Core.Path.{◌≡◌, refl}
 use mathlib.Core.List.{List, map}

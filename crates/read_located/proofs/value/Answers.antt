@@ -1,5 +1,4 @@
 -- The method, and its flags (Methods).
-use borrow.Author.Rules.{rules}
 use native.Mathlib.Omega.{arith}
 use Rattle.read_bits.proofs.Told.{told, refused}
 use Rattle.read_runs.proofs.Answer.{marks-refused}

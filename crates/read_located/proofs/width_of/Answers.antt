@@ -1,8 +1,6 @@
 -- Each turn doubles the power (Width); the measure is what it lacks of D.
-use borrow.Author.Rules.{rules}
-use Rattle.read_located.proofs.Width.{Widening, widening-none, widening-turn, widening-all}
+use Rattle.read_located.proofs.Width.{widening-none, widening-turn, widening-all}
 use native.Mathlib.Omega.{arith}
-use Prim.Native.Nat.{◌-◌}
 use Rattle.read_located.proofs.width_of.Goals as goal
 
 pub loop-power-init : goal.loop-power-init

@@ -1,6 +1,4 @@
-use borrow.Author.Rules.{rules}
-use Rattle.read_located.proofs.Width.{Widening, widening-none, widening-turn, widening-all}
-use native.Mathlib.Omega.{arith}
+use Rattle.read_located.proofs.Width.{Widening}
 use Prim.Native.Nat.{◌-◌}
 use Rattle.read_located.proofs.width_of.Given as goal
 

@@ -1,4 +1,3 @@
-use borrow.Author.Rules.{rules}
 use mathlib.Core.Path.{sym, ◌∙◌}
 use Rattle.rules.specs.Samples.{mask_of}
 use Rattle.rules.proofs.Guards.{read-refused, read-allowed}

@@ -1,4 +1,3 @@
-use borrow.Author.Rules.{rules}
 use borrow.Author.Tests.{ne_eqb, eq-eqb}
 use mathlib.Core.Path.{refl}
 use native.Mathlib.Omega.{arith}

@@ -1,4 +1,3 @@
-use borrow.Author.Rules.{rules}
 use native.Mathlib.Omega.{arith}
 use Rattle.read_bits.proofs.Told.{told, refused}
 use Rattle.read_opening.proofs.Six.{six-refused, six-decided, at-least-six}

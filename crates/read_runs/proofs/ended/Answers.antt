@@ -1,5 +1,4 @@
 -- The tests of the definition.
-use borrow.Author.Rules.{rules}
 use borrow.Author.Tests.{lt-ltb, le-ltb, le-leb, lt-leb}
 use Rattle.read_runs.proofs.ended.Goals as goal
 

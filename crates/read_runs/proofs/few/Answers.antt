@@ -1,8 +1,6 @@
 -- Each turn puts one bit in (Parts).
-use borrow.Author.Rules.{rules}
-use Prim.Native.Nat.{◌-◌}
 use native.Mathlib.Omega.{arith}
-use Rattle.read_runs.proofs.Parts.{Spreading, spreading-none, spreading-one, spreading-all}
+use Rattle.read_runs.proofs.Parts.{spreading-none, spreading-one, spreading-all}
 use Rattle.read_runs.proofs.few.Goals as goal
 
 pub loop-j-init : goal.loop-j-init

@@ -1,7 +1,5 @@
-use borrow.Author.Rules.{rules}
 use Prim.Native.Nat.{◌-◌}
-use native.Mathlib.Omega.{arith}
-use Rattle.read_runs.proofs.Parts.{Spreading, spreading-none, spreading-one, spreading-all}
+use Rattle.read_runs.proofs.Parts.{Spreading}
 use Rattle.read_runs.proofs.few.Given as goal
 
 -- Each turn puts one bit in (Parts).

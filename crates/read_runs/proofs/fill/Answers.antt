@@ -1,8 +1,6 @@
 -- Each turn fills one cell (Puts).
-use borrow.Author.Rules.{rules}
-use Prim.Native.Nat.{◌-◌}
 use native.Mathlib.Omega.{arith}
-use Rattle.read_runs.proofs.Puts.{Filling, filling-none, filling-turn, filling-all}
+use Rattle.read_runs.proofs.Puts.{filling-none, filling-turn, filling-all}
 use Rattle.read_runs.proofs.fill.Goals as goal
 
 pub loop-i-init : goal.loop-i-init

@@ -1,7 +1,5 @@
-use borrow.Author.Rules.{rules}
 use Prim.Native.Nat.{◌-◌}
-use native.Mathlib.Omega.{arith}
-use Rattle.read_runs.proofs.Puts.{Filling, filling-none, filling-turn, filling-all}
+use Rattle.read_runs.proofs.Puts.{Filling}
 use Rattle.read_runs.proofs.fill.Given as goal
 
 -- Each turn fills one cell (Puts).

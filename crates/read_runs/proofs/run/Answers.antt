@@ -1,5 +1,4 @@
 -- The Rice code, and whether so many places are left.
-use borrow.Author.Rules.{rules}
 use mathlib.Core.Path.{sym}
 use native.Mathlib.Omega.{arith}
 use Rattle.read_bits.proofs.Told.{told, refused}

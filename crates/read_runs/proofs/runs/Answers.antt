@@ -1,5 +1,4 @@
 -- Each turn reads the runs of one word, or one run that no word holds whole (Turn); the measure is the places left.
-use borrow.Author.Rules.{rules}
 use Prim.Native.Nat.{ℕ, ◌+◌, ◌-◌}
 use mathlib.Core.Path.{◌≡◌}
 use native.Mathlib.Omega.{arith}

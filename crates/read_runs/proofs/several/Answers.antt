@@ -1,7 +1,6 @@
 -- The codes of one word (Word).
-use borrow.Author.Rules.{rules}
 use native.Mathlib.Omega.{arith}
-use Rattle.read_runs.proofs.Word.{InWord, in-word-none, in-word-turn, in-word-last, in-word-ends}
+use Rattle.read_runs.proofs.Word.{in-word-none, in-word-turn, in-word-last, in-word-ends}
 use Rattle.read_runs.proofs.several.Goals as goal
 
 pub loop-zeros-init : goal.loop-zeros-init

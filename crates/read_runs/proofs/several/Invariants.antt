@@ -1,6 +1,4 @@
-use borrow.Author.Rules.{rules}
-use native.Mathlib.Omega.{arith}
-use Rattle.read_runs.proofs.Word.{InWord, in-word-none, in-word-turn, in-word-last, in-word-ends}
+use Rattle.read_runs.proofs.Word.{InWord}
 use Rattle.read_runs.proofs.several.Given as goal
 
 -- The codes of one word (Word).

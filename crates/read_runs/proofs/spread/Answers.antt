@@ -1,9 +1,7 @@
 -- A whole window, or eight bits a turn (Parts).
-use borrow.Author.Rules.{rules}
-use Prim.Native.Nat.{◌-◌}
 use mathlib.Core.Path.{refl}
 use native.Mathlib.Omega.{arith}
-use Rattle.read_runs.proofs.Parts.{Spreading, spreading-none, spreading-eight, spreading-rest}
+use Rattle.read_runs.proofs.Parts.{spreading-none, spreading-eight, spreading-rest}
 use Rattle.read_runs.proofs.spread.Goals as goal
 
 pub returns-then-n-eq32 : goal.returns-then-n-eq32

@@ -1,8 +1,5 @@
-use borrow.Author.Rules.{rules}
 use Prim.Native.Nat.{◌-◌}
-use mathlib.Core.Path.{refl}
-use native.Mathlib.Omega.{arith}
-use Rattle.read_runs.proofs.Parts.{Spreading, spreading-none, spreading-eight, spreading-rest}
+use Rattle.read_runs.proofs.Parts.{Spreading}
 use Rattle.read_runs.proofs.spread.Given as goal
 
 -- A whole window, or eight bits a turn (Parts).

@@ -1,5 +1,4 @@
 -- Eight bits at a time (Parts).
-use borrow.Author.Rules.{rules}
 use native.Mathlib.Omega.{arith}
 use Rattle.read_runs.proofs.Parts.{spreading-whole}
 use Rattle.read_runs.proofs.spread_all.Goals as goal

@@ -1,11 +1,8 @@
 -- Each turn reads a window of at most 32 flags (Gathered).
-use borrow.Author.Rules.{rules}
-use Prim.Native.Nat.{◌-◌}
 use native.Mathlib.Omega.{arith}
-use Rattle.rules.specs.Bits.{bits_of}
 use Rattle.rules.proofs.Octets.{bits_of-below}
 use Rattle.read_bits.proofs.Told.{told, refused}
-use Rattle.read_runs.proofs.Gathered.{Gathered, window-small, gathered_none, gathered-all, gathered-refused, gathered-turn}
+use Rattle.read_runs.proofs.Gathered.{window-small, gathered_none, gathered-all, gathered-refused, gathered-turn}
 use Rattle.read_runs.proofs.straight.Goals as goal
 
 pub loop-filled-init : goal.loop-filled-init

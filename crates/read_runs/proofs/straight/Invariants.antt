@@ -1,10 +1,6 @@
-use borrow.Author.Rules.{rules}
 use Prim.Native.Nat.{◌-◌}
-use native.Mathlib.Omega.{arith}
 use Rattle.rules.specs.Bits.{bits_of}
-use Rattle.rules.proofs.Octets.{bits_of-below}
-use Rattle.read_bits.proofs.Told.{told, refused}
-use Rattle.read_runs.proofs.Gathered.{Gathered, window-small, gathered_none, gathered-all, gathered-refused, gathered-turn}
+use Rattle.read_runs.proofs.Gathered.{Gathered}
 use Rattle.read_runs.proofs.straight.Given as goal
 
 -- Each turn reads a window of at most 32 flags (Gathered).

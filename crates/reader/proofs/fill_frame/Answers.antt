@@ -1,5 +1,4 @@
 -- How the frame opens; a body is laid, or read into the frame buffer (Told, Plainly).
-use borrow.Author.Rules.{rules}
 use mathlib.Core.Path.{refl}
 use native.Mathlib.Omega.{arith}
 use Rattle.reader.proofs.Lent.{samples-fit}

@@ -1,9 +1,7 @@
-use borrow.Author.Rules.{rules}
-use Prim.Native.Nat.{ℕ, ◌*◌, ◌-◌, ◌≤◌}
-use mathlib.Core.Path.{◌≡◌, sym, ◌∙◌}
+use Prim.Native.Nat.{◌*◌}
+use mathlib.Core.Path.{sym, ◌∙◌}
 use native.Mathlib.Omega.{arith}
-use Rattle.rules.specs.Bits.{bits_of, octets_for, fill_for}
-use Rattle.rules.specs.Reading.{filled}
+use Rattle.rules.specs.Bits.{octets_for}
 use Rattle.reader.proofs.Filled.{filled-turn, filled-wrong, filled-done}
 use Rattle.reader.proofs.filling.Goals as goal
 

@@ -1,5 +1,4 @@
 -- How the frame opens, and what it reports (Told).
-use borrow.Author.Rules.{rules}
 use native.Mathlib.Omega.{arith}
 use Rattle.reader.proofs.Told.{opened, opened-fits, tells_as}
 use Rattle.reader.proofs.measure_frame.Goals as goal

@@ -1,9 +1,7 @@
 -- TOOL, ROOM, SHORT, or what is laid (Plainly).
-use borrow.Author.Rules.{rules}
 use mathlib.Core.Path.{◌≡◌, refl, sym, ◌∙◌}
 use mathlib.Core.Bool.{true}
 use native.Mathlib.Omega.{arith}
-use borrow.Author.Tests.{not-true, not-false}
 use Rattle.rules.specs.Tools.{holds}
 use Rattle.rules.specs.Bits.{bits_of}
 use Rattle.rules.specs.Samples.{mask_of}

@@ -1,5 +1,4 @@
 -- What is given is laid (Plainly).
-use borrow.Author.Rules.{rules}
 use Rattle.reader.specs.Answers.{after_head}
 use Rattle.reader.proofs.Plainly.{lies-fit, laid-into}
 use Rattle.reader.proofs.plain_into.Goals as goal

@@ -1,10 +1,7 @@
-use Prim.Native.Nat.{◌-◌, ◌≤◌}
 use mathlib.Core.Path.{◌≡◌}
-use mathlib.Core.List.{◌++◌}
 use native.Mathlib.Omega.{arith}
-use lib.ListN.{length, take, drop, length-set}
+use lib.ListN.{length-set}
 use Rattle.read_bodies.proofs.Poured.{poured-turn}
-use borrow.Author.Rules.{rules}
 use Rattle.reader.proofs.put_out.Goals as goal
 
 pub loop-i-preserved : goal.loop-i-preserved

@@ -1,5 +1,4 @@
 -- What was put out is the frame's samples (Lent).
-use borrow.Author.Rules.{rules}
 use mathlib.Core.Path.{refl}
 use native.Mathlib.Omega.{arith}
 use lib.ListN.{length}
@@ -11,8 +10,7 @@ slice_bounds-put_out-end c = refl
 
 pub put_out-requires : goal.put_out-requires
 put_out-requires c =
-    let t = c.read_into-r.ensures in
-    (
+    let t = c.read_into-r.ensures in (
       omega (arith, t.tells.len, out-has t),
       omega
           (arith, t.tells.len, (samples-fit c.args.octets.now c.args.law c.args.set (length c.args.out.now)).0),

@@ -1,5 +1,4 @@
 -- How the frame opens; a body is laid at once, or read into the frame buffer and put out from it (Told, Plainly).
-use borrow.Author.Rules.{rules}
 use mathlib.Core.Path.{refl, sym}
 use native.Mathlib.Omega.{arith}
 use lib.ListN.{length}

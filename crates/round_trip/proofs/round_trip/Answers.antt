@@ -7,7 +7,6 @@ use mir.Val.{Fits}
 use Rattle.rules.proofs.Octets.{below_all}
 use Rattle.promises.proofs.RoundTrip.{returned}
 use Rattle.round_trip.proofs.Kept.{within, restores-by}
-use Rattle.round_trip.proofs.round_trip.Reads as reads
 use Rattle.round_trip.proofs.round_trip.Goals as goal
 
 pub slice_bounds-read_frame-end : goal.slice_bounds-read_frame-end

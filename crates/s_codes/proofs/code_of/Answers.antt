@@ -1,4 +1,3 @@
-use borrow.Author.Rules.{rules}
 use mathlib.Core.Path.{refl}
 use Rattle.s_codes.proofs.Coded.{code_is}
 use Rattle.s_codes.proofs.code_of.Goals as goal

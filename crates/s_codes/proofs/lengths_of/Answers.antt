@@ -1,4 +1,3 @@
-use borrow.Author.Rules.{rules}
 use Rattle.s_codes.proofs.Coded.{lengths-are}
 use Rattle.s_codes.proofs.lengths_of.Goals as goal
 

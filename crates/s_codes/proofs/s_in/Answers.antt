@@ -1,5 +1,4 @@
 -- The digit of the first six bits (Begun).
-use borrow.Author.Rules.{rules}
 use native.Mathlib.Omega.{arith}
 use Rattle.s_codes.proofs.Begun.{table-found}
 use Rattle.s_codes.proofs.s_in.Goals as goal

@@ -1,10 +1,7 @@
-use borrow.Author.Rules.{rules}
 use Prim.Native.Nat.{◌-◌, ◌≤◌}
-use mathlib.Core.Path.{◌≡◌, refl, sym, ◌∙◌}
-use native.Mathlib.Omega.{arith}
+use mathlib.Core.Path.{◌≡◌}
 use lib.ListN.{length, drop}
 use Rattle.text_keyvalue.specs.Reading.{begins}
-use Rattle.text_keyvalue.proofs.Words.{word_end, word_cut, word-step, word-differ}
 use Rattle.text_keyvalue.proofs.has_word.Given as goal
 
 abbrev pub invariant-loop-i : goal.invariant-loop-i

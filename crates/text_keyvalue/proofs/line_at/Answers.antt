@@ -1,10 +1,8 @@
 use Rattle.rules.specs.Listing.{line_end}
 use mathlib.Core.Path.{sym, ◌∙◌}
 use native.Mathlib.Omega.{arith}
-use borrow.Author.Tests.{not-true, not-false}
 use Rattle.text_keyvalue.proofs.Numbers.{told}
 use Rattle.text_keyvalue.proofs.Lines.{word_fits, line-no-key, line-no-number, line-no-end, line-whole}
-use borrow.Author.Rules.{rules}
 use Rattle.text_keyvalue.proofs.line_at.Goals as goal
 
 pub returns-then-not-has_word : goal.returns-then-not-has_word

@@ -2,7 +2,6 @@
 use native.Mathlib.Omega.{arith}
 use Rattle.text_keyvalue.proofs.Decimals.{decimal-few}
 use Rattle.text_keyvalue.proofs.Lines.{line-length, line-few}
-use borrow.Author.Rules.{rules}
 use Rattle.text_keyvalue.proofs.line_octets.Goals as goal
 
 pub overflow_add-result : goal.overflow_add-result

@@ -1,12 +1,7 @@
-use borrow.Author.Tests.{not-true, not-false}
-use borrow.Author.Rules.{rules}
 use Prim.Native.Nat.{◌-◌, ◌≤◌}
-use mathlib.Core.Path.{◌≡◌, sym, ◌∙◌}
-use native.Mathlib.Omega.{arith}
+use mathlib.Core.Path.{◌≡◌}
 use lib.ListN.{length, drop}
 use Rattle.text_keyvalue.specs.Reading.{digits_on, number, most, capped}
-use Rattle.text_keyvalue.proofs.Numbers.{digit-range, digits-end, digits-stop, digits_step}
-use Rattle.text_keyvalue.proofs.Numbers.{number_past, number-zero, number-not, number-start}
 use Rattle.text_keyvalue.proofs.number_at.Given as goal
 
 abbrev pub invariant-loop-i : goal.invariant-loop-i

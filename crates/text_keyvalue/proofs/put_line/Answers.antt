@@ -3,7 +3,6 @@ use native.Mathlib.Omega.{arith}
 use Rattle.text_lines.proofs.Putting.{puts_then}
 use Rattle.text_keyvalue.specs.Lines.{line_of}
 use Rattle.text_keyvalue.proofs.Lines.{line-length, line-few}
-use borrow.Author.Rules.{rules}
 use Rattle.text_keyvalue.proofs.put_line.Goals as goal
 
 pub put_word-value-requires : goal.put_word-value-requires

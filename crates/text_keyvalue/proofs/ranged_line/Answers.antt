@@ -1,7 +1,6 @@
 use native.Mathlib.Omega.{arith}
 use Rattle.text_keyvalue.proofs.Numbers.{told}
 use Rattle.text_keyvalue.proofs.Lines.{ranged-none, ranged-low, ranged-high, ranged-whole}
-use borrow.Author.Rules.{rules}
 use Rattle.text_keyvalue.proofs.ranged_line.Goals as goal
 
 pub returns-then-n-low : goal.returns-then-n-low

@@ -1,5 +1,4 @@
 -- Three fields, then the second half of the line.
-use borrow.Author.Rules.{rules}
 use native.Mathlib.Omega.{arith}
 use Rattle.text_lines.proofs.Putting.{puts_then}
 use Rattle.rules.specs.Listing.{frame_line}

@@ -1,5 +1,4 @@
 -- How it stopped, then the line's end.
-use borrow.Author.Rules.{rules}
 use native.Mathlib.Omega.{arith}
 use Rattle.text_lines.proofs.Putting.{puts_then}
 use Rattle.text_lines.proofs.pack_line.Goals as goal

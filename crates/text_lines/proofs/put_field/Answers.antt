@@ -1,5 +1,4 @@
 -- A word, then a number.
-use borrow.Author.Rules.{rules}
 use native.Mathlib.Omega.{arith}
 use Rattle.text_lines.proofs.Putting.{puts_then}
 use Rattle.text_lines.proofs.Spelling.{decimal-most}

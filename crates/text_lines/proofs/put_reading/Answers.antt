@@ -1,5 +1,4 @@
 -- Three fields, then the line's end.
-use borrow.Author.Rules.{rules}
 use native.Mathlib.Omega.{arith}
 use Rattle.text_lines.proofs.Putting.{puts_then}
 use Rattle.text_lines.proofs.put_reading.Goals as goal

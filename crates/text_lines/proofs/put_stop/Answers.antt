@@ -1,5 +1,4 @@
 -- Three fields.
-use borrow.Author.Rules.{rules}
 use native.Mathlib.Omega.{arith}
 use Rattle.text_lines.proofs.Putting.{puts_then}
 use Rattle.text_lines.proofs.put_stop.Goals as goal

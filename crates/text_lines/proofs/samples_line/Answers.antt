@@ -1,5 +1,4 @@
 -- A field, then the line's end.
-use borrow.Author.Rules.{rules}
 use native.Mathlib.Omega.{arith}
 use Rattle.text_lines.proofs.Putting.{puts_then}
 use Rattle.rules.specs.Listing.{samples_line}

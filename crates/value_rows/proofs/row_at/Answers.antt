@@ -1,4 +1,3 @@
-use borrow.Author.Rules.{rules}
 use Rattle.value_rows.proofs.Rows.{unpacked}
 use Rattle.value_rows.proofs.row_at.Goals as goal
 

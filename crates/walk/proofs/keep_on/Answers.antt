@@ -1,5 +1,4 @@
 -- Each turn keeps one frame (Keeping); the measure is how many frames more are allowed.
-use borrow.Author.Rules.{rules}
 use Prim.Native.Nat.{◌+◌, ◌-◌, ◌≤◌}
 use mathlib.Core.Path.{◌≡◌, ◌∙◌}
 use native.Mathlib.Omega.{arith}
@@ -9,7 +8,7 @@ use Rattle.rules.specs.declared.Ending.TheVariants.{Done}
 use Rattle.rules.proofs.Lent.{lent_length}
 use Rattle.walk.proofs.Told.{Bounds}
 use Rattle.walk.proofs.Along.{along-ended, along-last}
-use Rattle.walk.proofs.Keeping.{Keeping, keep-start, keep-size, keeps, keep-refused, keep-bounds, keep-turn}
+use Rattle.walk.proofs.Keeping.{keep-start, keep-size, keeps, keep-refused, keep-bounds, keep-turn}
 use Rattle.walk.proofs.keep_on.Goals.{After-step-r}
 use Rattle.walk.proofs.keep_on.Goals as goal
 
@@ -67,12 +66,11 @@ pub frames-smaller : goal.frames-smaller
 frames-smaller c = omega (arith, c.if-frames-count.false)
 
 pub frames-preserved : goal.frames-preserved
-frames-preserved c =
-    (
-      keep-turn _ _ _ _ _ _ c.frames.invariant.0 c.if-frames-count.false
-          c.if-octets-place.false c.step-r.ensures c.in-Done.is,
-      omega (arith, c.frames.invariant.1),
-    )
+frames-preserved c = (
+  keep-turn _ _ _ _ _ _ c.frames.invariant.0 c.if-frames-count.false
+      c.if-octets-place.false c.step-r.ensures c.in-Done.is,
+  omega (arith, c.frames.invariant.1),
+)
 
 pub shape_of-out-then-frames-count : goal.shape_of-out-then-frames-count
 shape_of-out-then-frames-count c = lent_length c.frames.invariant.0.kept

@@ -1,14 +1,6 @@
-use borrow.Author.Rules.{rules}
-use Prim.Native.Nat.{◌+◌, ◌-◌, ◌≤◌}
-use mathlib.Core.Path.{◌≡◌, ◌∙◌}
-use native.Mathlib.Omega.{arith}
-use native.Mathlib.Nat.{le_of_lt}
-use lib.ListN.{length, drop, length-drop}
-use Rattle.rules.specs.declared.Ending.TheVariants.{Done}
-use Rattle.rules.proofs.Lent.{lent_length}
-use Rattle.walk.proofs.Told.{Bounds}
-use Rattle.walk.proofs.Along.{along-ended, along-last}
-use Rattle.walk.proofs.Keeping.{Keeping, keep-start, keep-size, keeps, keep-refused, keep-bounds, keep-turn}
+use Prim.Native.Nat.{◌+◌, ◌-◌}
+use mathlib.Core.Path.{◌≡◌}
+use Rattle.walk.proofs.Keeping.{Keeping}
 use Rattle.walk.proofs.keep_on.Given as goal
 
 -- Each turn keeps one frame (Keeping); the measure is how many frames more are allowed.

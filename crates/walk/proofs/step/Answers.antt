@@ -1,4 +1,3 @@
-use borrow.Author.Rules.{rules}
 use Rattle.walk.proofs.Part.{step-made}
 use Rattle.walk.proofs.step.Goals as goal
 

@@ -1,5 +1,4 @@
 -- The guard refuses before any frame (Guards of rules); else the frames, as many as there are octets (Walk of rules).
-use borrow.Author.Rules.{rules}
 use Prim.Native.Nat.{suc}
 use mathlib.Core.Path.{sym, ◌∙◌}
 use native.Mathlib.Omega.{arith}

@@ -1,15 +1,12 @@
 -- Each turn passes one frame (Along); the measure is how many frames more are allowed.
-use borrow.Author.Rules.{rules}
-use Prim.Native.Nat.{◌+◌, ◌-◌, ◌≤◌, ◌<◌}
+use Prim.Native.Nat.{◌+◌, ◌≤◌, ◌<◌}
 use mathlib.Core.Path.{◌≡◌, refl}
 use native.Mathlib.Omega.{arith}
 use native.Mathlib.Nat.{le_of_lt}
-use mathlib.Core.Logic.{⊎_elim}
-use borrow.Author.Tests.{ltb-true, ltb-false}
 use lib.ListN.{length, drop, length-drop}
 use Rattle.rules.specs.declared.Ending.TheVariants.{Done}
 use Rattle.walk.proofs.Told.{Bounds}
-use Rattle.walk.proofs.Along.{Passing, along-start, along-ended, along-last, along-refused, along-bounds, along-turn}
+use Rattle.walk.proofs.Along.{along-start, along-ended, along-last, along-refused, along-bounds, along-turn}
 use Rattle.walk.proofs.walk_on.Goals.{Then-place-octets, After-measure-r, then-loop-passed-test+else-place-octets, else-loop-passed-test}
 use Rattle.walk.proofs.walk_on.Goals as goal
 
@@ -85,6 +82,6 @@ pub returns : goal.returns
 returns c =
     let w = c.loop-passed.invariant.along in
     elim c.loop-passed-test.branch [
-        then-loop-passed-test+else-place-octets t ↦ rw c.answer-2.ensures (along-ended _ _ _ _ _ _ w refl (omega arith)).1
+      | then-loop-passed-test+else-place-octets t ↦ rw c.answer-2.ensures (along-ended _ _ _ _ _ _ w refl (omega arith)).1
       | else-loop-passed-test t ↦ rw c.answer-2.ensures (along-last _ _ _ _ _ _ w refl (omega arith)).1
     ]

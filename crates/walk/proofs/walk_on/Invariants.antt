@@ -1,14 +1,5 @@
-use borrow.Author.Rules.{rules}
-use Prim.Native.Nat.{◌+◌, ◌-◌, ◌≤◌, ◌<◌}
-use mathlib.Core.Path.{◌≡◌, refl}
-use native.Mathlib.Omega.{arith}
-use native.Mathlib.Nat.{le_of_lt}
-use mathlib.Core.Logic.{⊎_elim}
-use borrow.Author.Tests.{ltb-true, ltb-false}
-use lib.ListN.{length, drop, length-drop}
-use Rattle.rules.specs.declared.Ending.TheVariants.{Done}
-use Rattle.walk.proofs.Told.{Bounds}
-use Rattle.walk.proofs.Along.{Passing, along-start, along-ended, along-last, along-refused, along-bounds, along-turn}
+use Prim.Native.Nat.{◌-◌}
+use Rattle.walk.proofs.Along.{Passing}
 use Rattle.walk.proofs.walk_on.Given as goal
 
 -- Each turn passes one frame (Along); the measure is how many frames more are allowed.

@@ -1,5 +1,4 @@
 -- The guard refuses before any frame; else the frames, as many as there are octets (Checked).
-use borrow.Author.Rules.{rules}
 use mathlib.Core.Path.{◌≡◌, sym, ◌∙◌}
 use native.Mathlib.Omega.{arith}
 use lib.ListN.{length}

@@ -1,5 +1,4 @@
-use borrow.Author.Rules.{rules}
-use Rattle.write_bits.proofs.Finishing.{flush-done, FlushTurn, flush-turn}
+use Rattle.write_bits.proofs.Finishing.{flush-done, flush-turn}
 use native.Mathlib.Omega.{arith}
 use Rattle.write_bits.proofs.flush.Goals as goal
 

@@ -1,6 +1,4 @@
-use borrow.Author.Rules.{rules}
-use Rattle.write_bits.proofs.Finishing.{flush-done, FlushTurn, flush-turn}
-use native.Mathlib.Omega.{arith}
+use Rattle.write_bits.proofs.Finishing.{FlushTurn}
 use Rattle.write_bits.proofs.flush.Given as goal
 
 abbrev pub invariant-loop-held : goal.invariant-loop-held

@@ -1,4 +1,3 @@
-use borrow.Author.Rules.{rules}
 use native.Mathlib.Omega.{arith}
 use Rattle.write_bits.proofs.Putting.{word_fits, put-held, put-stored}
 use Rattle.write_bits.proofs.put.Goals as goal

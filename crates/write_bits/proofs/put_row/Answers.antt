@@ -1,11 +1,10 @@
-use borrow.Author.Rules.{rules}
-use Prim.Native.Nat.{◌-◌, ◌/◌}
+use Prim.Native.Nat.{◌/◌}
 use mathlib.Core.Path.{◌≡◌, refl}
 use native.Mathlib.Omega.{arith}
 use lib.ListN.{get_or}
 use Rattle.rules.proofs.Octets.{length-low_bits}
 use Rattle.write_bits.proofs.Putting.{able-then}
-use Rattle.write_bits.proofs.Rows.{RowTurn, row-none, row-able, row-then}
+use Rattle.write_bits.proofs.Rows.{row-none, row-able, row-then}
 use Rattle.write_bits.proofs.put_row.Goals as goal
 
 pub loop-i-init : goal.loop-i-init

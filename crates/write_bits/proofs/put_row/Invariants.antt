@@ -1,11 +1,5 @@
-use borrow.Author.Rules.{rules}
-use Prim.Native.Nat.{◌-◌, ◌/◌}
-use mathlib.Core.Path.{◌≡◌, refl}
-use native.Mathlib.Omega.{arith}
-use lib.ListN.{get_or}
-use Rattle.rules.proofs.Octets.{length-low_bits}
-use Rattle.write_bits.proofs.Putting.{able-then}
-use Rattle.write_bits.proofs.Rows.{RowTurn, row-none, row-able, row-then}
+use Prim.Native.Nat.{◌-◌}
+use Rattle.write_bits.proofs.Rows.{RowTurn}
 use Rattle.write_bits.proofs.put_row.Given as goal
 
 abbrev pub invariant-loop-i : goal.invariant-loop-i

@@ -1,7 +1,5 @@
-use borrow.Author.Rules.{rules}
 use mathlib.Core.Path.{◌≡◌, refl}
-use Rattle.write_bits.proofs.Rice.{runs_none, runs-able, runs_then, RunsTurn}
-use Prim.Native.Nat.{◌-◌}
+use Rattle.write_bits.proofs.Rice.{runs_none, runs-able, runs_then}
 use native.Mathlib.Omega.{arith}
 use Rattle.write_bits.proofs.put_runs.Goals as goal
 

@@ -1,8 +1,5 @@
-use borrow.Author.Rules.{rules}
-use mathlib.Core.Path.{◌≡◌, refl}
-use Rattle.write_bits.proofs.Rice.{runs_none, runs-able, runs_then, RunsTurn}
+use Rattle.write_bits.proofs.Rice.{RunsTurn}
 use Prim.Native.Nat.{◌-◌}
-use native.Mathlib.Omega.{arith}
 use Rattle.write_bits.proofs.put_runs.Given as goal
 
 abbrev pub invariant-loop-j : goal.invariant-loop-j

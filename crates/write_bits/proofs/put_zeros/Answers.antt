@@ -1,7 +1,6 @@
-use borrow.Author.Rules.{rules}
 use native.Mathlib.Omega.{arith}
 use lib.Pow.{pow_pos}
-use Rattle.write_bits.proofs.Rice.{ZerosTurn, zeros-start, zeros-able, zeros-then, zeros-done}
+use Rattle.write_bits.proofs.Rice.{zeros-start, zeros-able, zeros-then, zeros-done}
 use Rattle.write_bits.proofs.put_zeros.Goals as goal
 
 pub loop-zeros-init : goal.loop-zeros-init

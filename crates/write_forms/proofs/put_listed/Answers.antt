@@ -1,10 +1,9 @@
-use borrow.Author.Rules.{rules}
-use Prim.Native.Nat.{◌-◌, ◌^◌, ◌≤◌}
+use Prim.Native.Nat.{◌^◌, ◌≤◌}
 use native.Mathlib.Omega.{arith}
 use lib.ListN.{length, take}
 use lib.Seq.{length-take-le}
 use lib.Pow.{pow_mono}
-use Rattle.write_forms.proofs.Ways.{ListedTurn, listed_start, listed-fits, listed-able, listed_then, listed-done}
+use Rattle.write_forms.proofs.Ways.{listed_start, listed-fits, listed-able, listed_then, listed-done}
 use Rattle.write_forms.proofs.put_listed.Goals as goal
 
 pub loop-j-init : goal.loop-j-init

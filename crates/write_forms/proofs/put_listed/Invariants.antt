@@ -1,10 +1,6 @@
-use borrow.Author.Rules.{rules}
-use Prim.Native.Nat.{◌-◌, ◌^◌, ◌≤◌}
-use native.Mathlib.Omega.{arith}
-use lib.ListN.{length, take}
-use lib.Seq.{length-take-le}
-use lib.Pow.{pow_mono}
-use Rattle.write_forms.proofs.Ways.{ListedTurn, listed_start, listed-fits, listed-able, listed_then, listed-done}
+use Prim.Native.Nat.{◌-◌}
+use lib.ListN.{take}
+use Rattle.write_forms.proofs.Ways.{ListedTurn}
 use Rattle.write_forms.proofs.put_listed.Given as goal
 
 abbrev pub invariant-loop-j : goal.invariant-loop-j

@@ -1,4 +1,3 @@
-use borrow.Author.Rules.{rules}
 use mathlib.Core.Path.{ap, ◌∙◌}
 use Rattle.rules.specs.Bits.{low_bits}
 use Rattle.write_bits.proofs.Putting.{puts-as}

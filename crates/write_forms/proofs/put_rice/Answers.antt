@@ -1,5 +1,4 @@
 -- Rice by a pen that is new.
-use borrow.Author.Rules.{rules}
 use native.Mathlib.Omega.{arith}
 use Rattle.write_bits.proofs.Putting.{able-then}
 use Rattle.write_forms.proofs.Form.{Fresh, fresh-is, fresh-able, packed}

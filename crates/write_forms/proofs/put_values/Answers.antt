@@ -1,5 +1,4 @@
 -- One value, two or three, each put after the other (Turns).
-use borrow.Author.Rules.{rules}
 use native.Mathlib.Omega.{arith}
 use mathlib.Core.Path.{◌∙◌}
 use lib.ListN.{length-append}

@@ -1,4 +1,3 @@
-use borrow.Author.Rules.{rules}
 use mathlib.Core.Path.{ap}
 use Rattle.write_located.specs.declared.Values.{Values}
 use Rattle.write_located.specs.declared.Value.{Value}

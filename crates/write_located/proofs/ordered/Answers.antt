@@ -1,4 +1,3 @@
-use borrow.Author.Rules.{rules}
 use Rattle.write_located.specs.Rows.{values_by}
 use mathlib.Core.Path.{◌∙◌}
 use borrow.Author.Tests.{eq-eqb, ne_eqb}

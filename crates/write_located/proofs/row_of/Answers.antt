@@ -1,4 +1,3 @@
-use borrow.Author.Rules.{rules}
 use Rattle.write_located.specs.Rows.{row_by}
 use mathlib.Core.Path.{sym, ◌∙◌}
 use native.Mathlib.Omega.{arith}

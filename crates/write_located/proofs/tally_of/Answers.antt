@@ -1,4 +1,3 @@
-use borrow.Author.Rules.{rules}
 use Rattle.write_scan.proofs.Tests.{mask-seven}
 use Rattle.write_located.proofs.Near.{counted, fewer, tallied}
 use Rattle.rules.proofs.Octets.{below_all, below-take}

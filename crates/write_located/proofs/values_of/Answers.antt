@@ -1,4 +1,3 @@
-use borrow.Author.Rules.{rules}
 use Rattle.write_located.proofs.Rows.{values-told}
 use Rattle.write_located.proofs.values_of.Goals as goal
 

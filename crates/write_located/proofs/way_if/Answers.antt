@@ -1,7 +1,5 @@
-use borrow.Author.Rules.{rules}
 use Rattle.write_scan.proofs.Tests.{never}
 use Rattle.write_located.specs.declared.Way.{Way}
-use borrow.Author.Tests.{not-true, not-false}
 use mathlib.Core.Path.{sym, ap, ◌∙◌}
 use Rattle.write_located.proofs.way_if.Goals as goal
 

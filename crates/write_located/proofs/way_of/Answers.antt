@@ -1,4 +1,3 @@
-use borrow.Author.Rules.{rules}
 use Rattle.write_located.proofs.Methods.{fewest, way-absent, way-binary, way-often, way-runs, way-listed, way-told, listed_small}
 use Rattle.rules.proofs.Octets.{below_all}
 use mathlib.Core.Path.{sym}

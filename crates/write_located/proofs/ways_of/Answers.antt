@@ -1,4 +1,3 @@
-use borrow.Author.Rules.{rules}
 use Prim.Native.Nat.{◌/◌}
 use Rattle.write_located.proofs.Turns.{found-whole, ways-are}
 use lib.Seq.{length-take-le}

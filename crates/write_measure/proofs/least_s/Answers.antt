@@ -1,11 +1,8 @@
-use borrow.Author.Rules.{rules}
 use mathlib.Core.Path.{ap₂}
-use Prim.Native.Nat.{◌+◌, ◌-◌}
+use Prim.Native.Nat.{◌+◌}
 use native.Mathlib.Omega.{arith}
 use native.Mathlib.Nat.{mul-le-mul}
-use lib.ListN.{take}
-use Rattle.write_measure.specs.Measures.{bits_with}
-use Rattle.write_measure.proofs.Weighing.{Leasting, least_start, least-turn, least-done, least-stop, no-fewer}
+use Rattle.write_measure.proofs.Weighing.{least_start, least-turn, least-done, least-stop, no-fewer}
 use Rattle.write_measure.proofs.least_s.Goals as goal
 
 pub loop-k-init : goal.loop-k-init

@@ -1,11 +1,7 @@
-use borrow.Author.Rules.{rules}
-use mathlib.Core.Path.{ap₂}
 use Prim.Native.Nat.{◌+◌, ◌-◌}
-use native.Mathlib.Omega.{arith}
-use native.Mathlib.Nat.{mul-le-mul}
 use lib.ListN.{take}
 use Rattle.write_measure.specs.Measures.{bits_with}
-use Rattle.write_measure.proofs.Weighing.{Leasting, least_start, least-turn, least-done, least-stop, no-fewer}
+use Rattle.write_measure.proofs.Weighing.{Leasting}
 use Rattle.write_measure.proofs.least_s.Given as goal
 
 abbrev pub invariant-loop-k : goal.invariant-loop-k

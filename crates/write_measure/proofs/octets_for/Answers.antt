@@ -1,5 +1,4 @@
 use mathlib.Core.Path.{refl}
-use borrow.Author.Rules.{rules}
 use Rattle.write_measure.proofs.octets_for.Goals as goal
 
 pub returns : goal.returns

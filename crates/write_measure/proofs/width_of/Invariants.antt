@@ -1,10 +1,6 @@
-use native.Mathlib.Nat.{sub-zero}
-use Prim.Native.Nat.{◌≤◌, ◌<◌, ◌-◌, ◌^◌}
+use Prim.Native.Nat.{◌≤◌, ◌-◌}
 use mathlib.Core.Path.{◌≡◌}
-use native.Mathlib.Omega.{arith}
 use Rattle.rules.specs.Located.{width_from, width_of}
-use Rattle.write_measure.proofs.Rice.{one_shifted}
-use Rattle.write_measure.proofs.Weighing.{width_small, width-turn, width-done}
 use Rattle.write_measure.proofs.width_of.Given as goal
 
 abbrev pub invariant-loop-w : goal.invariant-loop-w

@@ -1,7 +1,6 @@
-use borrow.Author.Rules.{rules}
 use Rattle.rules.specs.Bits.{octets_for}
 use native.Mathlib.Omega.{arith}
-use borrow.Author.Tests.{not-true, not-false, le-leb, lt-leb}
+use borrow.Author.Tests.{le-leb, lt-leb}
 use Rattle.write_offers.proofs.Choosing.{better-not, better-yes}
 use Rattle.write_offers.proofs.better.Goals as goal
 

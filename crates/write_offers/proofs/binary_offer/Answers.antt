@@ -1,10 +1,7 @@
-use borrow.Author.Rules.{rules}
 use mathlib.Core.Path.{◌≡◌, sym, ◌∙◌}
 use Rattle.write_zeros.proofs.TwoZeros.{rice-applies, zeros-apply, zeros-counted}
 use Rattle.write_offers.proofs.Choosing.{binary-bits}
 use Rattle.write_offers.proofs.Offering.{offer-one}
-use Prim.Native.Nat.{ℕ}
-use mathlib.Core.List.{List}
 use lib.ListN.{length, take}
 use lib.Seq.{length-take-le}
 use native.Mathlib.Omega.{arith}

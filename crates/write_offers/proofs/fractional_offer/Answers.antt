@@ -1,4 +1,3 @@
-use borrow.Author.Rules.{rules}
 use lib.ListN.{take}
 use lib.Seq.{length-take-le}
 use Rattle.write_offers.proofs.Offering.{fractional-offer}

@@ -1,12 +1,9 @@
 -- No row, a rare one, or what value-location would write (Offering).
-use borrow.Author.Rules.{rules}
 use mathlib.Core.Path.{◌≡◌, sym, ◌∙◌}
-use borrow.Author.Tests.{not-true, not-false, lt-ltb, le-ltb}
+use borrow.Author.Tests.{lt-ltb, le-ltb}
 use Rattle.rules.specs.Chooses.{applies}
 use Rattle.write_located.proofs.Rows.{row_has, applied-is}
 use Rattle.write_offers.proofs.Offering.{rowless, rare}
-use Prim.Native.Nat.{ℕ}
-use mathlib.Core.List.{List}
 use mathlib.Core.Bool.{true}
 use lib.ListN.{length, take}
 use lib.Seq.{length-take-le}

@@ -1,8 +1,5 @@
 -- The condition that fails, or the bits of what value-location would write (Offering).
-use borrow.Author.Rules.{rules}
-use Prim.Native.Nat.{ℕ}
 use mathlib.Core.Path.{◌≡◌, refl}
-use mathlib.Core.List.{List}
 use lib.ListN.{take}
 use Rattle.rules.specs.Chooses.{form_of}
 use Rattle.write_offers.specs.Offers.{NearIs}

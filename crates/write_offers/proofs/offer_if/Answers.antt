@@ -1,6 +1,4 @@
-use borrow.Author.Rules.{rules}
 use mathlib.Core.Path.{◌∙◌}
-use borrow.Author.Tests.{not-true, not-false}
 use Rattle.write_offers.proofs.offer_if.Goals as goal
 
 pub returns-then-not-applies : goal.returns-then-not-applies

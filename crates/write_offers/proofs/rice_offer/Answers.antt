@@ -1,11 +1,8 @@
-use borrow.Author.Rules.{rules}
 use mathlib.Core.Path.{◌≡◌, refl, sym, ◌∙◌}
 use borrow.Author.Tests.{eq-eqb, ne_eqb}
 use Rattle.write_zeros.proofs.TwoZeros.{zeros-apply, zeros-counted}
 use Rattle.write_zeros.proofs.Turning.{row-flags}
 use Rattle.write_offers.proofs.Offering.{met, unmet, rice-form, rice-held}
-use Prim.Native.Nat.{ℕ}
-use mathlib.Core.List.{List}
 use lib.ListN.{length, take}
 use lib.Seq.{length-take-le}
 use native.Mathlib.Omega.{arith}

@@ -1,10 +1,8 @@
-use borrow.Author.Rules.{rules}
 use mathlib.Core.Path.{◌≡◌, sym, ap, ◌∙◌}
 use lib.Seq.{get_or-take, length-take-le}
 use Rattle.write_offers.specs.Offers.{whole_bits}
 use Rattle.write_offers.proofs.Offering.{offer-as, uncompressed-offer, plus-offer, minus-offer, constant-offer}
 use Prim.Native.Nat.{ℕ}
-use mathlib.Core.List.{List}
 use lib.ListN.{length, take}
 use native.Mathlib.Omega.{arith}
 use Rattle.write_offers.proofs.whole_offer.Goals.{Start, After-whole_bits-bits}

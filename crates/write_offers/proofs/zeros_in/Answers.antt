@@ -1,4 +1,3 @@
-use borrow.Author.Rules.{rules}
 use lib.ListN.{take}
 use Rattle.write_located.proofs.Near.{counted}
 use Rattle.write_offers.proofs.zeros_in.Goals as goal

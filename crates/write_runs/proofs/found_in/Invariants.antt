@@ -1,9 +1,5 @@
-use borrow.Author.Rules.{rules}
 use Prim.Native.Nat.{◌-◌, ◌≤◌}
-use mathlib.Core.Path.{◌≡◌}
-use native.Mathlib.Omega.{arith}
 use Rattle.write_runs.specs.Tracks.{WordsTracked}
-use Rattle.write_runs.proofs.Values.{tracks-none, tracks-end}
 use Rattle.write_runs.proofs.found_in.Given as goal
 
 abbrev pub invariant-loop-i : goal.invariant-loop-i

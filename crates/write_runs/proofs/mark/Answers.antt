@@ -1,4 +1,3 @@
-use borrow.Author.Rules.{rules}
 use Rattle.write_runs.proofs.Values.{mark-first, mark-second, mark-third, mark-none}
 use Rattle.write_runs.proofs.mark.Goals as goal
 

@@ -1,10 +1,5 @@
-use borrow.Author.Rules.{rules}
-use Prim.Native.Nat.{◌*◌, ◌-◌, ◌≤◌}
 use mathlib.Core.Path.{◌≡◌}
 use native.Mathlib.Omega.{arith}
-use lib.ListN.{take}
-use Rattle.write_scan.specs.Rows.{row_bits}
-use Rattle.write_runs.specs.Tracks.{TrackIs}
 use Rattle.write_runs.proofs.Tracking.{row-track-none, track-end}
 use Rattle.write_runs.proofs.runs_in.Goals as goal
 

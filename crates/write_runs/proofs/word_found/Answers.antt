@@ -1,9 +1,7 @@
-use borrow.Author.Rules.{rules}
-use Prim.Native.Nat.{◌+◌, ◌*◌}
 use native.Mathlib.Omega.{arith}
 use lib.Pow.{pow_pos}
 use Rattle.write_runs.proofs.Tracking.{one_at}
-use Rattle.write_runs.proofs.Values.{InSamples, samples-first, samples-last, samples-here, samples-next, samples-place}
+use Rattle.write_runs.proofs.Values.{samples-first, samples-last, samples-here, samples-next, samples-place}
 use Rattle.write_runs.proofs.word_found.Goals as goal
 
 pub loop-w-init : goal.loop-w-init

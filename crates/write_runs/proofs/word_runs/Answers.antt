@@ -1,10 +1,6 @@
-use borrow.Author.Rules.{rules}
-use Prim.Native.Nat.{◌+◌, ◌*◌}
 use native.Mathlib.Omega.{arith}
-use lib.ListN.{take}
 use lib.Pow.{pow_pos}
-use Rattle.write_scan.specs.Rows.{row_bits}
-use Rattle.write_runs.proofs.Tracking.{InWord, in-first, in_one, in-last, in_place, one_at}
+use Rattle.write_runs.proofs.Tracking.{in-first, in_one, in-last, in_place, one_at}
 use Rattle.write_runs.proofs.word_runs.Goals as goal
 
 pub loop-w-init : goal.loop-w-init

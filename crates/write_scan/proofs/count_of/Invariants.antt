@@ -1,11 +1,7 @@
-use borrow.Author.Rules.{rules}
 use Prim.Native.Nat.{◌-◌, ◌≤◌}
-use mathlib.Core.Path.{◌≡◌, refl}
-use native.Mathlib.Omega.{arith}
+use mathlib.Core.Path.{◌≡◌}
 use lib.ListN.{take}
-use Rattle.rules.specs.Chooses.{count_of}
 use Rattle.write_scan.specs.Looks.{count_is}
-use Rattle.write_scan.proofs.Looking.{count-more}
 use Rattle.write_scan.proofs.count_of.Given as goal
 
 abbrev pub invariant-loop-i : goal.invariant-loop-i

@@ -1,7 +1,5 @@
-use borrow.Author.Rules.{rules}
-use Prim.Native.Nat.{◌-◌}
 use native.Mathlib.Omega.{arith}
-use Rattle.write_scan.proofs.Extents.{ExtentTurn, extent-none, extent-turn, extent-done}
+use Rattle.write_scan.proofs.Extents.{extent-none, extent-turn, extent-done}
 use Rattle.write_scan.proofs.extent_of.Goals as goal
 
 pub loop-i-init : goal.loop-i-init

@@ -1,10 +1,5 @@
-use borrow.Author.Rules.{rules}
-use Prim.Native.Nat.{◌*◌, ◌-◌, ◌≤◌}
 use mathlib.Core.Path.{◌≡◌}
 use native.Mathlib.Omega.{arith}
-use lib.ListN.{take}
-use Rattle.write_scan.specs.Rows.{RowIs}
-use Rattle.write_scan.specs.Looks.{marks_of}
 use Rattle.write_scan.proofs.Rows.{row-none, row-again}
 use Rattle.write_scan.proofs.others.Goals as goal
 

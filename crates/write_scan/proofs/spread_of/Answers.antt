@@ -1,7 +1,5 @@
-use borrow.Author.Rules.{rules}
-use Prim.Native.Nat.{◌-◌}
 use native.Mathlib.Omega.{arith}
-use Rattle.write_scan.proofs.Spreading.{SpreadTurn, spread_none, spread-turn, spread-done}
+use Rattle.write_scan.proofs.Spreading.{spread_none, spread-turn, spread-done}
 use Rattle.write_scan.proofs.spread_of.Goals as goal
 
 pub loop-i-init : goal.loop-i-init

@@ -1,7 +1,5 @@
-use borrow.Author.Rules.{rules}
 use Prim.Native.Nat.{◌-◌}
-use native.Mathlib.Omega.{arith}
-use Rattle.write_scan.proofs.Spreading.{SpreadTurn, spread_none, spread-turn, spread-done}
+use Rattle.write_scan.proofs.Spreading.{SpreadTurn}
 use Rattle.write_scan.proofs.spread_of.Given as goal
 
 abbrev pub invariant-loop-i : goal.invariant-loop-i

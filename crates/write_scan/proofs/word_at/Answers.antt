@@ -1,10 +1,5 @@
-use borrow.Author.Rules.{rules}
-use Prim.Native.Nat.{◌-◌, ◌≤◌}
 use mathlib.Core.Path.{◌≡◌}
 use native.Mathlib.Omega.{arith}
-use lib.ListN.{take, drop}
-use Rattle.write_scan.specs.Rows.{Gathers}
-use Rattle.write_scan.specs.Looks.{marks_of}
 use Rattle.write_scan.proofs.Rows.{word_none, word-again, word_fits}
 use Rattle.write_scan.proofs.word_at.Goals as goal
 

@@ -1,11 +1,8 @@
 -- The runs of the common zero's flags, and what the parameter costs (TwoZeros, Turning).
-use borrow.Author.Rules.{rules}
-use Rattle.write_zeros.proofs.TwoZeros.{no-rice, rice-for}
+use Rattle.write_zeros.proofs.TwoZeros.{rice-for}
 use Rattle.write_zeros.proofs.Turning.{turned-runs}
-use borrow.Author.Tests.{not-true}
 use mathlib.Core.Bool.{cond}
 use lib.Dec.{ltb}
-use mathlib.Core.Path.{refl, sym, ◌∙◌}
 use Rattle.write_zeros.proofs.rice_of.Goals as goal
 
 pub returns : goal.returns

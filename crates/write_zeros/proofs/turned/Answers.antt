@@ -1,4 +1,3 @@
-use borrow.Author.Rules.{rules}
 use Rattle.write_zeros.proofs.Turning.{word-turned, word_kept}
 use Rattle.write_zeros.proofs.turned.Goals as goal
 

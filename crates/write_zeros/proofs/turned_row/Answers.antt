@@ -1,10 +1,5 @@
-use borrow.Author.Rules.{rules}
-use Prim.Native.Nat.{◌-◌, ◌≤◌}
 use mathlib.Core.Path.{◌≡◌}
 use native.Mathlib.Omega.{arith}
-use lib.ListN.{take}
-use Rattle.write_scan.specs.Rows.{row_bits, RowIs}
-use Rattle.write_zeros.specs.Rice.{turns_of}
 use Rattle.write_zeros.proofs.Turning.{row-turn, row-start}
 use Rattle.write_zeros.proofs.turned_row.Goals as goal
 

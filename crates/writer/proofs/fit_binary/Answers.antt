@@ -1,7 +1,4 @@
 -- Room, and binary put (Writing).
-use borrow.Author.Rules.{rules}
-use Prim.Native.Nat.{ℕ}
-use mathlib.Core.List.{List}
 use Rattle.write_forms.specs.Forms.{binary_form}
 use Rattle.writer.proofs.Writing.{form-left, form-fits, form-put}
 use Rattle.writer.proofs.fit_binary.Goals as goal

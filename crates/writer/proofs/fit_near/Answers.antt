@@ -1,5 +1,4 @@
 -- The plan as it was told apart, and its form (Planned).
-use borrow.Author.Rules.{rules}
 use Prim.Native.Nat.{ℕ}
 use mathlib.Core.Path.{◌≡◌, refl, ◌∙◌}
 use mathlib.Core.List.{List}

@@ -1,5 +1,4 @@
 -- Room, and the form put (Writing).
-use borrow.Author.Rules.{rules}
 use Rattle.writer.proofs.Writing.{chosen-left, chosen-fits, chosen-put}
 use Rattle.writer.proofs.fit_plain.Goals as goal
 

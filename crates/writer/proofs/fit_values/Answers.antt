@@ -1,7 +1,4 @@
 -- Room, and value-location put (Writing).
-use borrow.Author.Rules.{rules}
-use Prim.Native.Nat.{ℕ}
-use mathlib.Core.List.{List}
 use Rattle.write_forms.specs.Forms.{plan_form}
 use Rattle.writer.proofs.Writing.{form-left, form-fits, form-put}
 use Rattle.writer.proofs.fit_values.Goals as goal

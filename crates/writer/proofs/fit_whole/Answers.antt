@@ -1,5 +1,4 @@
 -- Room, and whole octets put (Writing): eight bits to each.
-use borrow.Author.Rules.{rules}
 use Prim.Native.Nat.{ℕ, ◌+◌}
 use mathlib.Core.Path.{◌≡◌}
 use mathlib.Core.List.{List}

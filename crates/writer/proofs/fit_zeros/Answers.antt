@@ -1,8 +1,7 @@
 -- The zeros' plan as it was told apart, and its form (Planned).
-use borrow.Author.Rules.{rules}
 use Prim.Native.Nat.{ℕ, ◌/◌, ◌≤◌}
 use mathlib.Core.Path.{◌≡◌, refl}
-use mathlib.Core.List.{List, map}
+use mathlib.Core.List.{map}
 use lib.ListN.{length, take}
 use Rattle.rules.specs.Bits.{bits_of}
 use Rattle.rules.specs.Zeros.{flag_of}

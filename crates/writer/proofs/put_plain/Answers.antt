@@ -1,5 +1,4 @@
 -- Whole octets, or the row of fractional-bit (Planned): the form of the tool that it is.
-use borrow.Author.Rules.{rules}
 use Prim.Native.Nat.{ℕ}
 use mathlib.Core.Path.{◌≡◌, sym, ap, ◌∙◌}
 use mathlib.Core.List.{List}

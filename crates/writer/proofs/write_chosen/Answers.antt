@@ -1,5 +1,4 @@
 -- The answer for what was settled, or planned and put (Planned, Writing).
-use borrow.Author.Rules.{rules}
 use Prim.Native.Nat.{ℕ, ◌≤◌}
 use mathlib.Core.Path.{◌≡◌, sym, ap, ◌∙◌}
 use mathlib.Core.List.{List}

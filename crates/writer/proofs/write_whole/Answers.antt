@@ -1,5 +1,4 @@
 -- A frame that the look settles: ROOM, or whole octets put (Writing).
-use borrow.Author.Rules.{rules}
 use Prim.Native.Nat.{ℕ, ◌+◌}
 use mathlib.Core.Path.{◌≡◌, refl}
 use mathlib.Core.List.{List}

@@ -1,5 +1,4 @@
 -- By its kind (Plainly).
-use borrow.Author.Rules.{rules}
 use mathlib.Core.Path.{refl}
 use Rattle.read_bodies.proofs.Plainly.{laid_none, laid-octets, laid_same, lies-as}
 use Rattle.read_bodies.proofs.plain.lay.Goals as goal

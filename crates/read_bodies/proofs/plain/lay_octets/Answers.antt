@@ -1,11 +1,9 @@
 -- Octets that are there are poured one by one (Poured).
-use borrow.Author.Rules.{rules}
-use Prim.Native.Nat.{◌-◌}
 use mathlib.Core.Path.{sym, ◌∙◌}
 use native.Mathlib.Omega.{arith}
-use lib.ListN.{take, drop}
+use lib.ListN.{drop}
 use lib.Seq.{get_or-take, get_or-drop}
-use Rattle.read_bodies.proofs.Poured.{Poured, poured-none, poured-next, poured-length, poured-all, part_length}
+use Rattle.read_bodies.proofs.Poured.{poured-none, poured-next, poured-length, poured-all, part_length}
 use Rattle.read_bodies.proofs.plain.lay_octets.Goals as goal
 
 pub loop-i-init : goal.loop-i-init

@@ -1,10 +1,6 @@
-use borrow.Author.Rules.{rules}
 use Prim.Native.Nat.{◌-◌}
-use mathlib.Core.Path.{sym, ◌∙◌}
-use native.Mathlib.Omega.{arith}
 use lib.ListN.{take, drop}
-use lib.Seq.{get_or-take, get_or-drop}
-use Rattle.read_bodies.proofs.Poured.{Poured, poured-none, poured-next, poured-length, poured-all, part_length}
+use Rattle.read_bodies.proofs.Poured.{Poured}
 use Rattle.read_bodies.proofs.plain.lay_octets.Given as goal
 
 -- Octets that are there are poured one by one (Poured).

@@ -1,10 +1,8 @@
 -- N of one sample are poured (Poured).
-use borrow.Author.Rules.{rules}
-use Prim.Native.Nat.{◌-◌}
 use mathlib.Core.Path.{sym}
 use native.Mathlib.Omega.{arith}
-use lib.ListN.{replicate, length-replicate, get_or-replicate}
-use Rattle.read_bodies.proofs.Poured.{Poured, poured-none, poured-next, poured-length, poured-all}
+use lib.ListN.{length-replicate, get_or-replicate}
+use Rattle.read_bodies.proofs.Poured.{poured-none, poured-next, poured-length, poured-all}
 use Rattle.read_bodies.proofs.plain.lay_same.Goals as goal
 
 pub loop-i-init : goal.loop-i-init

@@ -1,9 +1,6 @@
-use borrow.Author.Rules.{rules}
 use Prim.Native.Nat.{◌-◌}
-use mathlib.Core.Path.{sym}
-use native.Mathlib.Omega.{arith}
-use lib.ListN.{replicate, length-replicate, get_or-replicate}
-use Rattle.read_bodies.proofs.Poured.{Poured, poured-none, poured-next, poured-length, poured-all}
+use lib.ListN.{replicate}
+use Rattle.read_bodies.proofs.Poured.{Poured}
 use Rattle.read_bodies.proofs.plain.lay_same.Given as goal
 
 -- N of one sample are poured (Poured).

@@ -1,4 +1,3 @@
-use borrow.Author.Rules.{rules}
 use Rattle.write_choice.proofs.Planning.{near_last, near-values}
 use Rattle.write_choice.proofs.near.located_or.Goals as goal
 

@@ -1,5 +1,4 @@
 -- What is settled, and what the measures tell of the rest (Settling).
-use borrow.Author.Rules.{rules}
 use lib.Seq.{length-take-le}
 use Rattle.write_scan.proofs.Tests.{mask-seven}
 use Rattle.write_choice.proofs.Settling.{settled-chosen}

@@ -1,5 +1,4 @@
 use mathlib.Core.Path.{refl}
-use borrow.Author.Tests.{not-true, not-false}
 use Rattle.write_choice.proofs.settle.is_near.Goals as goal
 
 pub returns-then-not-close : goal.returns-then-not-close

@@ -1,5 +1,4 @@
 -- Binary at once, or the better of uncompressed, Rice and binary (Planning, Even).
-use borrow.Author.Rules.{rules}
 use Prim.Native.Nat.{ℕ, ◌-◌, ◌≤◌}
 use mathlib.Core.Path.{◌≡◌, ap, ◌∙◌}
 use mathlib.Core.List.{List}

@@ -1,4 +1,3 @@
-use borrow.Author.Rules.{rules}
 use native.Mathlib.Omega.{arith}
 use Rattle.write_fractional.proofs.Digits.{digit-up, digit-down}
 use Rattle.write_fractional.proofs.grouping.digit_of.Goals as goal

@@ -1,13 +1,10 @@
-use borrow.Author.Rules.{rules}
 use Prim.Native.Nat.{ℕ, ◌-◌, ◌≤◌}
-use mathlib.Core.Path.{◌≡◌, sym, ap, ◌∙◌}
-use mathlib.Core.List.{List, map}
-use native.Mathlib.Omega.{arith}
-use lib.ListN.{length, set, take, drop, length-map}
-use lib.Seq.{paste, paste-zero, take_at, length-take-le, get_or-take}
+use mathlib.Core.Path.{◌≡◌}
+use mathlib.Core.List.{map}
+use lib.ListN.{take}
+use lib.Seq.{paste}
 use Rattle.rules.specs.Samples.{signed}
 use Rattle.rules.specs.Fractional.{digit_for}
-use Rattle.rules.proofs.Lent.{mapped-turn, mapped-kept, mapped-whole}
 use Rattle.write_fractional.proofs.grouping.digits_of.Given as goal
 
 -- The digits laid one by one.

@@ -1,12 +1,9 @@
-use borrow.Author.Rules.{rules}
-use Prim.Native.Nat.{ℕ, ◌+◌, ◌*◌, ◌-◌, ◌≤◌, ◌<◌}
-use mathlib.Core.Path.{◌≡◌, sym}
-use native.Mathlib.Omega.{arith}
-use lib.ListN.{get_or, take, drop}
+use Prim.Native.Nat.{◌≤◌}
+use mathlib.Core.Path.{◌≡◌}
+use lib.ListN.{take, drop}
 use Rattle.rules.specs.Fractional.{of_digits}
 use mathlib.Core.List.{map}
 use Rattle.write_fractional.specs.Digits.{same}
-use Rattle.write_fractional.proofs.Placing.{group-turn-in, length-group-in, digits-end}
 use Rattle.write_fractional.proofs.grouping.group_of.Given as goal
 
 abbrev pub invariant-loop-j : goal.invariant-loop-j

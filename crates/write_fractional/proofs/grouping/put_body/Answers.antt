@@ -1,5 +1,4 @@
 -- Each R' has its arm, where R', its group and its bits are numerals: there the groups are those of the definition.
-use borrow.Author.Rules.{rules}
 use Prim.Native.Nat.{ℕ, ◌/◌, ◌≤◌, ◌<◌}
 use mathlib.Core.Path.{◌≡◌, refl, sym, subst, ◌∙◌}
 use mathlib.Core.List.{List, map, map-id}

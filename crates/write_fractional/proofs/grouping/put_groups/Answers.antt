@@ -1,13 +1,11 @@
-use Prim.Native.Nat.{◌-◌}
 use mathlib.Core.List.{map}
 use native.Mathlib.Omega.{arith}
 use lib.ListN.{take}
 use lib.Seq.{length-take-le}
-use Rattle.rules.specs.Fractional.{coding}
 use Rattle.rules.proofs.Octets.{below_all}
 use Rattle.rules.proofs.Fractional.{group-fits}
 use Rattle.write_fractional.specs.Digits.{same}
-use Rattle.write_fractional.proofs.Placing.{Putting, putting-none, putting-able, putting-turn, putting-all, group-bits}
+use Rattle.write_fractional.proofs.Placing.{putting-none, putting-able, putting-turn, putting-all, group-bits}
 use Rattle.write_fractional.proofs.grouping.put_groups.Goals as goal
 
 pub loop-from-init : goal.loop-from-init

@@ -1,13 +1,8 @@
 use Prim.Native.Nat.{◌-◌}
-use mathlib.Core.List.{map}
-use native.Mathlib.Omega.{arith}
 use lib.ListN.{take}
-use lib.Seq.{length-take-le}
 use Rattle.rules.specs.Fractional.{coding}
-use Rattle.rules.proofs.Octets.{below_all}
-use Rattle.rules.proofs.Fractional.{group-fits}
 use Rattle.write_fractional.specs.Digits.{same}
-use Rattle.write_fractional.proofs.Placing.{Putting, putting-none, putting-able, putting-turn, putting-all, group-bits}
+use Rattle.write_fractional.proofs.Placing.{Putting}
 use Rattle.write_fractional.proofs.grouping.put_groups.Given as goal
 
 abbrev pub invariant-loop-from : goal.invariant-loop-from

@@ -1,8 +1,5 @@
-use borrow.Author.Rules.{rules}
 use Prim.Native.Nat.{◌-◌}
-use mathlib.Core.Path.{sym, ◌∙◌}
-use native.Mathlib.Omega.{arith}
-use Rattle.write_fractional.proofs.Keyed.{Finding, finding-none, finding-hit, finding-miss, finding-end, key-told}
+use Rattle.write_fractional.proofs.Keyed.{Finding}
 use Rattle.write_fractional.proofs.reducing.find_row.Given as goal
 
 abbrev pub invariant-loop-k : goal.invariant-loop-k
