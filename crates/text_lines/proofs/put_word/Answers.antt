@@ -1,0 +1,31 @@
+-- The loop copies the word's octets one by one (`paste`).
+use mathlib.Core.Path.{◌≡◌}
+use native.Mathlib.Omega.{arith}
+use lib.ListN.{length}
+use lib.Seq.{paste-zero, paste-suc, length-paste}
+use native.Mathlib.Numerals.{add-one}
+use Rattle.text_lines.proofs.Putting.{puts_word}
+use Rattle.text_lines.proofs.put_word.Goals as goal
+
+pub loop-i-init : goal.loop-i-init
+loop-i-init c = (omega arith, paste-zero c.args.out.now c.args.at c.args.word.now)
+
+pub bounds-out-at : goal.bounds-out-at
+bounds-out-at c =
+    let s : length c.loop-i.out ≡ length c.args.out.now = rw c.loop-i.invariant.1 (length-paste c.args.out.now c.args.at c.args.word.now c.loop-i.i (omega arith) (omega arith)) in
+    omega (arith, s)
+
+pub loop-i-preserved : goal.loop-i-preserved
+loop-i-preserved c =
+    let a = c.args in
+    let i = c.loop-i.i in (
+      omega arith,
+      rw (c.loop-i.invariant.1, add-one)
+          (paste-suc a.out.now a.at a.word.now i 0 (omega arith) (omega arith)),
+    )
+
+pub shape_of-out : goal.shape_of-out
+shape_of-out c = rw c.loop-i.invariant.1 (length-paste c.args.out.now c.args.at c.args.word.now c.loop-i.i (omega arith) (omega arith))
+
+pub returns : goal.returns
+returns c = puts_word _ _ _ _ _ (omega arith) (omega arith) c.loop-i.invariant.1
