@@ -20,7 +20,7 @@ SIG = re.compile(r"^((?:pub |abbrev |unfoldable )*)(" + IDENT + r") :(?= |$)")
 
 
 def norm(name):
-    return name.replace("_", "-")
+    return name.replace("_", "-").lower()
 
 
 class File:
@@ -53,6 +53,9 @@ class File:
             up = self.places[i][1]
             i = self.index.get(norm(up)) if up else None
         return out
+
+    def by_name_of(self, old):
+        return self.new_place(old)
 
     def up(self, old, n):
         for _ in range(n):
@@ -98,7 +101,7 @@ def turn_step(f, chain, parts):
             continue
         best = None
         for new, step, path in arm[2]:
-            if norm(step) == norm(head) and parts[1 : 1 + len(path)] == path and path:
+            if norm(step) == norm(head) and parts[1 : 1 + len(path)] == path:
                 if best is None or len(path) > len(best[1]):
                     best = (new, path)
         if best:
@@ -115,6 +118,8 @@ def turn_step(f, chain, parts):
                 rest[0] = "invariant"
             if rest and rest[0] in ("taken",):
                 rest[0] = "true"
+            if rest and rest[0] == "kept":
+                rest[0] = "auto"
             if rest and rest[0] == "ensures" and f.clauses[i]:
                 got = clause_path(f.clauses[i]["fields"], rest[1:])
                 if got:
@@ -157,6 +162,16 @@ class Turner:
             t = re.sub(r"\(" + re.escape(v) + r" \(?(?:" + "|".join(map(re.escape, ["c", *self.aliases])) + r")((?:\.before)*)\)?\)(?=[\s.)])", "\x02" + v + "\x02", t)
             t = re.sub(r"(?<![\w'.-])" + re.escape(v) + r" \(?(?:" + "|".join(map(re.escape, ["c", *self.aliases])) + r")((?:\.before)*)\)?(?=[\s),])", "\x02" + v + "\x02", t)
 
+        if f.pre and f.pre.get("fields"):
+            for m in re.finditer(r"let (" + IDENT + r") = (?:\x02[^\x02]+\x02|c|" + "|".join(map(re.escape, list(self.aliases) or ["c"])) + r")(?:\.before)*\.(?:pre|requires) in", t):
+                s = m.group(1)
+
+                def clause(n):
+                    got = clause_path(f.pre["fields"], n.group(1).split(".")[1:])
+                    return s + "." + ".".join(got) if got else n.group(0)
+
+                t = re.sub(r"(?<![\w'.-])" + re.escape(s) + r"((?:\.[01])+)", clause, t)
+
         def path(m):
             base, rest = m.group(1), m.group(2)
             if base.startswith("\x02"):
@@ -180,6 +195,23 @@ class Turner:
 
         t = re.sub(r"(?<![\w'.-])(\x02[^\x02]+\x02|" + IDENT + r")((?:\.[\w'₀-₉-]+)+)", path, t)
         t = re.sub(r"\x02[^\x02]+\x02", "c", t)
+        # a call's clauses under a name
+        fields_of = {}
+        for i, p in enumerate(f.places):
+            if f.clauses[i]:
+                fields_of[p[2][1]] = f.clauses[i]["fields"]
+                if f.arms[i]:
+                    fields_of[f.arms[i][0]] = f.clauses[i]["fields"]
+        for m in list(re.finditer(r"let (" + IDENT + r") = c\.([\w-]+)\.ensures in", t)):
+            fields = fields_of.get(m.group(2))
+            if fields:
+                s = m.group(1)
+
+                def named(n, s=s, fields=fields):
+                    got = clause_path(fields, n.group(1).split(".")[1:])
+                    return s + "." + ".".join(got) if got else n.group(0)
+
+                t = re.sub(r"(?<![\w'.-])" + re.escape(s) + r"((?:\.[01])+)", named, t)
         for a in self.aliases:
             if a != "c":
                 t = re.sub(r"(?<![\w'.-])" + re.escape(a) + r"(?![\w'-])(?! :)", "c", t)
@@ -364,11 +396,23 @@ def convert(crate, fn_dir, rel, entry, notes):
                 b = t.text(b)
                 fields = f.asked.get(new)
                 if fields:
-                    mm = re.search(r"(?ms)^" + re.escape(new) + r" c =\s*\((.*)\)\s*$", b)
-                    parts = split_tuple(mm.group(1)) if mm else None
-                    if parts and len(parts) == len(fields):
-                        rec = "; ".join(f"{x} = {y}" for x, y in zip(fields, parts))
-                        b = b[: mm.start()] + f"{new} c = record {{ {rec} }}"
+                    mm = re.search(r"(?ms)^(" + re.escape(new) + r" c =\s*)(.*)$", b)
+                    if mm:
+                        lets, rest = split_lets(mm.group(2))
+                        parts = split_tuple(rest.strip()[1:-1]) if rest.strip().startswith("(") and rest.strip().endswith(")") else None
+                        if parts and len(parts) > len(fields):
+                            parts = None
+                        while parts and len(parts) < len(fields):
+                            last = parts[-1]
+                            more = split_tuple(last[1:-1]) if last.startswith("(") and last.endswith(")") else None
+                            parts = parts[:-1] + more if more and len(more) > 1 else None
+                        if parts:
+                            rec = "; ".join(f"{x} = {y}" for x, y in zip(fields, parts))
+                            b = b[: mm.start()] + mm.group(1) + lets + f"record {{ {rec} }}"
+                        else:
+                            paths = [".1" * i + ".0" for i in range(len(fields) - 1)] + [".1" * (len(fields) - 1)]
+                            rec = "; ".join(f"{x} = r{y}" for x, y in zip(fields, paths))
+                            b = b[: mm.start()] + mm.group(1) + lets + f"let r = {rest.rstrip()} in record {{ {rec} }}"
                 ans.append("\n".join(pending + [f"pub {new} : goal.{new}", b]))
                 pending = []
             if name not in need_of:
@@ -397,6 +441,9 @@ def convert(crate, fn_dir, rel, entry, notes):
                 pending = []
                 continue
             if m3:
+                var = m3.group(2)
+                if var and var != "c" and not word("c", body):
+                    body = re.sub(r"(?<![\w'.-])" + re.escape(var) + r"(?![\w'-])", "c", body)
                 t = Turner(f, m3.group(3), {}, views)
                 body = t.text(types(body))
         ans.append("\n".join(pending + [body]))
@@ -412,7 +459,8 @@ def convert(crate, fn_dir, rel, entry, notes):
         if m.group(1) != "c":
             b = re.sub(r"(?<![\w'.-])" + re.escape(m.group(1)) + r"(?![\w'-])", "c", b)
         t = Turner(f, f.asked_at[k][0], {}, views)
-        ans.append(f"pub {new} : goal.{new}\n{new} c = {t.text(b)}")
+        opened = re.search(r"(?m)^unfolding [^\n]*\n", "\n".join(final[0][1]))
+        ans.append(f"pub {new} : goal.{new}\n{opened.group(0) if opened else ''}{new} c = {t.text(b)}")
     base = f"Rattle.{crate}.proofs.{rel.replace('/', '.')}"
     inv_text = ""
     for name, want, ls, pend in inv_out:
@@ -485,6 +533,20 @@ def convert(crate, fn_dir, rel, entry, notes):
             fh.write("\n".join(uses + [f"use {base}.Given as goal"]) + "\n" + decl_text + inv_text)
         if pub_names:
             uses = uses + [f"use {base}.Invariants.{{{', '.join(pub_names)}}}"]
+    ans = [re.sub(r"\.inv(?![\w'-])", ".invariant", re.sub(r"\.taken(?![\w'-])", ".true", d)) for d in ans]
+    ans = pass_places(ans, f)
+    used = []
+    named_goals = {n for _, n in f.needs}
+    for i, d in enumerate(ans):
+        def plain(m):
+            if m.group(1) in f.by_name and m.group(1) not in named_goals:
+                if m.group(1) not in used:
+                    used.append(m.group(1))
+                return m.group(1)
+            return m.group(0)
+        ans[i] = re.sub(r"(?<![\w'.-])goal\.([A-Z][\w-]*)", plain, d)
+    if used:
+        uses = uses + [f"use {base}.Goals.{{{', '.join(used)}}}"]
     if ans:
         lead = ""
         m = re.match(r"((?:--[^\n]*\n)+)", text)
@@ -495,6 +557,61 @@ def convert(crate, fn_dir, rel, entry, notes):
         with open(os.path.join(fn_dir, "Answers.antt"), "w", encoding="utf-8") as fh:
             fh.write(lead + "\n".join(uses + [f"use {base}.Goals as goal"]) + "\n\n" + "\n\n".join(a.strip("\n") for a in ans) + "\n")
     return True
+
+
+def pass_places(ans, f):
+    """A lemma over the record of a place is given that record, `(goal.at.X c).P`, where the goal X is asked further down."""
+    takes = {}  # name: the place that it takes first
+    for d in ans:
+        code = "\n".join(x for x in d.split("\n") if not x.startswith("--"))
+        m = re.match(r"module _ \(c : goal\.([\w-]+)\) where\n", code)
+        if m:
+            for n in re.finditer(r"(?m)^  (?:pub |abbrev |unfoldable )*(" + IDENT + r") :(?= |$)", code):
+                takes[n.group(1)] = m.group(1)
+        m = re.match(r"(?:abbrev )?(" + IDENT + r") : \(c : goal\.([\w-]+)\) →", code)
+        if m:
+            takes[m.group(1)] = m.group(2)
+    if not takes:
+        return ans
+    place_of = {new: f.by_name_of(old) for (o, new), (old, _) in zip(f.needs, f.asked_at)}
+    out = []
+    for d in ans:
+        m = re.search(r"(?m)^pub ([\w-]+) : goal\.([\w-]+)$", d)
+        here = place_of.get(m.group(2)) if m else None
+        if m and here:
+            for name, place in takes.items():
+                if place != here:
+                    d = re.sub(r"(?<![\w'.-])" + re.escape(name) + r" c(?![\w'.-])", f"{name} (goal.at.{m.group(2)} c).{place}", d)
+        out.append(d)
+    return out
+
+
+def split_lets(t):
+    """The leading `let .. in` of a term, and the rest."""
+    done = ""
+    while True:
+        m = re.match(r"\s*let ", t)
+        if not m:
+            return done, t
+        depth, i, open_lets = 0, m.end(), 1
+        for w in re.finditer(r"[()\[\]{}]|(?<![\w'.-])(?:let|in)(?![\w'-])", t[m.end() :]):
+            x = w.group(0)
+            if x in "([{":
+                depth += 1
+            elif x in ")]}":
+                depth -= 1
+            elif depth == 0 and x == "let":
+                open_lets += 1
+            elif depth == 0 and x == "in":
+                open_lets -= 1
+                if open_lets == 0:
+                    i = m.end() + w.end()
+                    break
+        else:
+            return done, t
+        done += t[:i] + " "
+        t = t[i:].lstrip()
+    return done, t
 
 
 def split_tuple(t):

@@ -26,7 +26,7 @@ number-there s v zero at h = rw add-zero
 number-there s v (suc n) at h =
     let l : at < length (bits_of s) = rw length-bits_of (omega arith) in
     let e : at + suc n ≡ at + 1 + n = omega arith in
-    rw (bit-there s at (omega arith), drop-cons (bits_of s) at 0 l, e, ← add-one at) (number-there s _ n (at + 1) (omega arith))
+    rw (bit-there s at (omega arith), drop-cons (bits_of s) at 0 l, e, ← add-one at) (number-there s (2 * v + get_or (bits_of s) at 0) n (at + 1) (omega arith))
 
 -- octets side by side, after a number of j bits
 unfoldable side_by_side : ℕ → List ℕ → ℕ

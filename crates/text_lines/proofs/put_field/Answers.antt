@@ -1,4 +1,5 @@
 -- A word, then a number.
+use borrow.Author.Rules.{rules}
 use native.Mathlib.Omega.{arith}
 use Rattle.text_lines.proofs.Putting.{puts_then}
 use Rattle.text_lines.proofs.Spelling.{decimal-most}
@@ -11,7 +12,4 @@ put_number-requires c =
 
 pub returns : goal.returns
 returns c =
-    let w = c.put_word-next.ensures in
-    let d = c.put_number.ensures in
-    let most = decimal-most c.args.n in
-    record { puts = puts_then w d; most = omega (arith, w.place, d.place, most) }
+    let w = c.put_word-next.ensures in let d = c.put_number.ensures in let most = decimal-most c.args.n in record { puts = puts_then w d; most = omega (arith, w.place, d.place, most) }

@@ -2,6 +2,7 @@
 use mathlib.Core.Path.{ap}
 use lib.ListN.{length}
 use native.Mathlib.Omega.{arith}
+use borrow.Author.Rules.{rules}
 use Rattle.text_lines.proofs.Spelling.{spelled}
 use Rattle.text_lines.proofs.Putting.{puts-as}
 use Rattle.text_lines.proofs.put_number.Goals as goal

@@ -1,7 +1,11 @@
+use borrow.Author.Rules.{rules}
 use Prim.Native.Nat.{◌-◌, ◌≤◌}
 use mathlib.Core.Path.{◌≡◌}
+use native.Mathlib.Omega.{arith}
 use lib.ListN.{length}
-use lib.Seq.{paste}
+use lib.Seq.{paste, paste-zero, paste-suc, length-paste}
+use native.Mathlib.Numerals.{add-one}
+use Rattle.text_lines.proofs.Putting.{puts_word}
 use Rattle.text_lines.proofs.put_word.Given as goal
 
 -- The loop copies the word's octets one by one (`paste`).

@@ -1,6 +1,7 @@
 -- Each turn puts one digit before those that stand (Spelling); the measure is the place of the next one.
+use borrow.Author.Rules.{rules}
 use native.Mathlib.Omega.{arith}
-use Rattle.text_lines.proofs.Spelling.{spelling-room, spelling-turn, spelling-end}
+use Rattle.text_lines.proofs.Spelling.{Spelling, spelling-room, spelling-turn, spelling-end}
 use Rattle.text_lines.proofs.spell.Goals as goal
 
 pub overflow_sub-from : goal.overflow_sub-from

@@ -1,4 +1,6 @@
-use Rattle.text_lines.proofs.Spelling.{Spelling}
+use borrow.Author.Rules.{rules}
+use native.Mathlib.Omega.{arith}
+use Rattle.text_lines.proofs.Spelling.{Spelling, spelling-room, spelling-turn, spelling-end}
 use Rattle.text_lines.proofs.spell.Given as goal
 
 -- Each turn puts one digit before those that stand (Spelling); the measure is the place of the next one.

@@ -1,0 +1,6 @@
+use borrow.Author.Rules.{rules}
+use Rattle.s_codes.proofs.Coded.{lengths-are}
+use Rattle.s_codes.proofs.lengths_of.Goals as goal
+
+pub returns : goal.returns
+returns c = lengths-are c.table_of-t.ensures

@@ -1,0 +1,11 @@
+use Prim.Native.Nat.{◌+◌, ◌-◌}
+use native.Mathlib.Omega.{arith}
+use Rattle.store_rows.proofs.Shifting.{Shifting, shift_none, shift-turn, shift-all}
+use borrow.Author.Rules.{rules}
+use Rattle.store_rows.proofs.placing.lower.Given as goal
+
+abbrev pub invariant-loop-i : goal.invariant-loop-i
+invariant-loop-i l = Shifting l.initial.table (l.at + l.by) l.at l.n l.i l.table
+
+abbrev pub decreases-loop-i : goal.decreases-loop-i
+decreases-loop-i l = l.n - l.i

@@ -1,0 +1,9 @@
+use borrow.Author.Rules.{rules}
+use Rattle.value_rows.proofs.Rows.{unpacked}
+use Rattle.value_rows.proofs.row_at.Goals as goal
+
+pub returns : goal.returns
+returns c =
+    let e = c.packed_row-e.ensures in
+    let u = unpacked c.args.k c.requires in
+    record { radix = rw e u.radix; low = rw e u.low; below = rw e u.below }
