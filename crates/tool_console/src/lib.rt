@@ -4,14 +4,13 @@
 
 ghost use Rattle.std.specs.Prelude.{◌≡◌, ◌^◌, ◌≤◌, ◌<◌, IfOk, length, take};
 
-use std::fs;
-use std::fs::{File, OpenOptions};
-use std::io;
-use std::io::{Cursor, ErrorKind, Print, Read, Seek, SeekFrom, Stdin, Stdout, Write};
 use std::env::FillError;
+use std::fs::{File, OpenOptions};
+use std::io::{Cursor, ErrorKind, Print, Read, Seek, SeekFrom, Stdin, Stdout, Write};
 use std::os::unix::fs::OpenOptionsExt;
 use std::random::RandomSource;
 use std::rt::Env;
+use std::{fs, io};
 use tool_words::options::{Settings, State, Tool, Words, Wrong};
 
 // Says a text for people. Where standard error takes nothing, nothing is said.
