@@ -172,7 +172,6 @@ fn explain_settings(rt: HostRuntime, number: u32) {
     if number == 11 {
         tool_console::say_number(
             rt,
-            rt,
             b"pack: the tool set is an odd number of at most ",
             rules::ALL_TOOLS as usize,
         );
@@ -240,7 +239,6 @@ fn say_erased(rt: HostRuntime, keep: &File, b: Body, law: u32)
     let t = tool_playback::playing::play_file(rt, keep, b, how, Way::Counted, Tells::Nothing);
     if t.lost != 0 {
         tool_console::say_number(
-            rt,
             rt,
             b"pack: frames that are all 0++ or all 0--, so that readers of recordings take them for lost: ",
             t.lost,
@@ -425,7 +423,6 @@ fn pack_named(rt: HostRuntime, s: Settings, law: u32, in_name: &[u8], name: &mut
     let t = tool_console::target_name(rt, s, law, in_name, name);
     if !t.fits {
         tool_console::usage(
-            rt,
             rt,
             Tool::Pack,
             b"the name of INFILE is too long for another ending",

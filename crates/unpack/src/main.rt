@@ -197,7 +197,7 @@ fn conclude(rt: HostRuntime, t: Total, records: bool, on: bool, fd: &InFile, nam
     let wrong = tool_sound::sounds::left_over(fd);
     match wrong {
         Trouble::Nothing => finish(rt, t, records, on),
-        Trouble::Master(how) => tool_sound::sounds::differs(how, t.samples),
+        Trouble::Master(how) => tool_sound::sounds::differs(rt, how, t.samples),
         Trouble::Failed(why) => tool_console::failed(rt, Tool::Unpack, name, b"standard input", why),
         Trouble::Unread(why) => tool_console::failed(rt, Tool::Unpack, name, b"standard input", why),
     }
@@ -219,7 +219,7 @@ fn compared(
     match wrong {
         Trouble::Unread(why) => tool_console::failed(rt, Tool::Unpack, from, b"standard input", why),
         Trouble::Failed(why) => tool_console::failed(rt, Tool::Unpack, name, b"standard input", why),
-        Trouble::Master(how) => tool_sound::sounds::differs(how, t.samples),
+        Trouble::Master(how) => tool_sound::sounds::differs(rt, how, t.samples),
         Trouble::Nothing => {
             let end = t.end;
             if recording::number_of(end) != 0 {
