@@ -33,6 +33,7 @@ class File:
         self.needs = entry["needs"]
         self.asked_at = entry["asked_at"]
         self.arms = entry["arms"]
+        self.params = entry["params"]
         self.clauses = entry["clauses"]
         self.loops = entry["loops"]
         self.changed = entry["changed"]
@@ -118,8 +119,16 @@ def turn_step(f, chain, parts):
                 rest[0] = "invariant"
             if rest and rest[0] in ("taken",):
                 rest[0] = "true"
-            if rest and rest[0] == "kept":
-                rest[0] = "auto"
+            if rest and rest[0] in ("kept", "last", "new", "auto"):
+                rest[0] = {"kept": "auto", "last": "new"}.get(rest[0], rest[0])
+                params = f.params.get(f.places[i][3] or "")
+                if params:
+                    k, digits = 0, rest[1:]
+                    while digits and digits[0] == "1" and k < len(params):
+                        digits = digits[1:]
+                        k += 1
+                    if digits and digits[0] == "0" and k < len(params):
+                        rest = [rest[0], params[k]] + digits[1:]
             if rest and rest[0] == "ensures" and f.clauses[i]:
                 got = clause_path(f.clauses[i]["fields"], rest[1:])
                 if got:
@@ -158,9 +167,25 @@ class Turner:
             t = t[: m.start()] + t[m.end() :]
         t = t.replace("\x01", "l")
         # (view c).path, (view c.before).path and view c
-        for v, (takes, gives) in self.views.items():
-            t = re.sub(r"\(" + re.escape(v) + r" \(?(?:" + "|".join(map(re.escape, ["c", *self.aliases])) + r")((?:\.before)*)\)?\)(?=[\s.)])", "\x02" + v + "\x02", t)
-            t = re.sub(r"(?<![\w'.-])" + re.escape(v) + r" \(?(?:" + "|".join(map(re.escape, ["c", *self.aliases])) + r")((?:\.before)*)\)?(?=[\s),])", "\x02" + v + "\x02", t)
+        some = "(?:" + "|".join(map(re.escape, ["c", *self.aliases])) + r")(?:\.before)*"
+        for _ in range(3):
+            for v, (takes, gives) in self.views.items():
+                arg = "(?:" + some + r"|\x02[^\x02]+\x02(?:\.before)*)"
+                t = re.sub(r"\(" + re.escape(v) + " " + arg + r"\)", "\x02" + v + "\x02", t)
+                t = re.sub(r"(?<![\w'.-])" + re.escape(v) + " " + arg + r"(?=[\s),]|$)", "\x02" + v + "\x02", t)
+            # a let of a view
+            m = re.search(r"let (" + IDENT + r") = \x02([^\x02]+)\x02((?:\.before)*) in\s*", t)
+            if m:
+                self.aliases[m.group(1)] = f.up(self.views[m.group(2)][1], m.group(3).count(".before"))
+                t = t[: m.start()] + t[m.end() :]
+                some = "(?:" + "|".join(map(re.escape, ["c", *self.aliases])) + r")(?:\.before)*"
+        # a let of a step that an arm has taken apart
+        steps = {norm(x[1]) for a in f.arms if a for x in a[2] if x[2]}
+        for m in list(re.finditer(r"let (" + IDENT + r") = ((?:\x02[^\x02]+\x02|" + IDENT + r")(?:\.before)*\.([\w-]+)) in\s*", t)):
+            if norm(m.group(3)) in steps:
+                s = m.group(1)
+                t = t.replace(m.group(0), "", 1)
+                t = re.sub(r"(?<![\w'.-])" + re.escape(s) + r"(?=\.)", lambda n: m.group(2), t)
 
         if f.pre and f.pre.get("fields"):
             for m in re.finditer(r"let (" + IDENT + r") = (?:\x02[^\x02]+\x02|c|" + "|".join(map(re.escape, list(self.aliases) or ["c"])) + r")(?:\.before)*\.(?:pre|requires) in", t):
@@ -335,6 +360,10 @@ def convert(crate, fn_dir, rel, entry, notes):
             m = re.match(r"(?:abbrev )?(" + IDENT + r") : \(?(?:c : )?tie\.([A-Z][\w-]*)[^→]*→ tie\.([A-Z][\w-]*)", ls[0])
             if m:
                 views[m.group(1)] = (m.group(2), m.group(3))
+    for b in bl:
+        if b[0] in ("decl", "section") and "tie.spec" not in "\n".join(b[1]):
+            for old_name, goals in need_of.items():
+                b[1] = [re.sub(r"(?<=[ (])" + re.escape(old_name) + r"(?= (?:c(?![\w'-])|\())", "\x03" + goals[0][1], x) if not SIG.match(x) else x for x in b[1]]
     uses, inv_out, ans = [], [], []
     helpers = []
     pending = []
@@ -419,10 +448,12 @@ def convert(crate, fn_dir, rel, entry, notes):
                 notes.append(f"{rel}: {name} answers nothing")
             continue
         if kind == "section":
-            m2 = re.match(r"module _ \((" + IDENT + r") : tie\.([\w-]+)[^)]*\) where", ls[0])
+            whole = "\n".join(ls)
+            head = re.match(r"(?s)module _ .*? where(?=\n)", whole)
+            m2 = re.match(r"(?s)module _ \((" + IDENT + r") : tie\.([\w-]+)[^)]*\)(.*?) where(?=\n)", whole)
             if m2:
                 var, place = m2.group(1), m2.group(2)
-                inner = "\n".join(ls[1:])
+                inner = m2.group(3) + " where\n" + whole[m2.end() + 1 :]
                 # drop the views
                 inner = re.sub(r"(?m)^  (?:abbrev )?(" + IDENT + r") : tie\.[A-Z][\w-]*[^\n]*\n(?:  unfolding [^\n]*\n)?  \1 = [^\n]*(?:\n(?=\n|$))?\n?", "", inner)
                 inside = {v: g for v, (p, g) in views.items() if re.search(r"(?m)^  (?:abbrev )?" + re.escape(v) + r" : tie\.", "\n".join(ls[1:]))}
@@ -430,8 +461,8 @@ def convert(crate, fn_dir, rel, entry, notes):
                     inner = re.sub(r"(?<![\w'.-])" + re.escape(var) + r"(?![\w'-])", "c", inner)
                 t = Turner(f, place, inside, {v: x for v, x in views.items() if v not in inside})
                 inner = t.text(inner)
-                if inner.strip():
-                    ans.append("\n".join(pending + [f"module _ (c : {place_type(place)}) where", inner.rstrip()]))
+                if inner.split("where\n", 1)[1].strip():
+                    ans.append("\n".join(pending + [f"module _ (c : {place_type(place)}){inner.rstrip()}"]))
                 pending = []
                 continue
         # any other declaration
@@ -534,6 +565,9 @@ def convert(crate, fn_dir, rel, entry, notes):
         if pub_names:
             uses = uses + [f"use {base}.Invariants.{{{', '.join(pub_names)}}}"]
     ans = [re.sub(r"\.inv(?![\w'-])", ".invariant", re.sub(r"\.taken(?![\w'-])", ".true", d)) for d in ans]
+    ans = [d.replace("\x03", "") for d in ans]
+    ans = copy_members(ans, f)
+    ans = cite_answers(ans, f)
     ans = pass_places(ans, f)
     used = []
     named_goals = {n for _, n in f.needs}
@@ -559,12 +593,93 @@ def convert(crate, fn_dir, rel, entry, notes):
     return True
 
 
+def cite_answers(ans, f):
+    """An answer that another cites at another place is said again there, under a name."""
+    place_of = {new: f.by_name_of(old) for (o, new), (old, _) in zip(f.needs, f.asked_at)}
+    bodies = {}
+    for d in ans:
+        m = re.search(r"(?ms)^pub ([\w-]+) : goal\.\1\n(?:unfolding [^\n]*\n)?\1 c =\s*(.*)$", d)
+        if m:
+            bodies[m.group(1)] = m.group(2).rstrip()
+    for i, d in enumerate(ans):
+        m = re.search(r"(?ms)^pub ([\w-]+) : goal\.\1\n(?:unfolding [^\n]*\n)?\1 c =\s*(.*)$", d)
+        if not m:
+            continue
+        head, body = d[: m.start(2)], m.group(2)
+        for n, other in bodies.items():
+            if n != m.group(1) and place_of.get(n) != place_of.get(m.group(1)) and re.search(r"(?<![\w'.-])" + re.escape(n) + r" c(?![\w'.-])", body):
+                body = re.sub(r"\(" + re.escape(n) + r" c\)", "told", body)
+                body = re.sub(r"(?<![\w'.-])" + re.escape(n) + r" c(?![\w'.-])", "told", body)
+                lets, last = split_lets(other)
+                body = f"{lets}let told = {last.strip()} in\n    {body}"
+        ans[i] = head + body
+    return ans
+
+
+def section_place(d):
+    code = "\n".join(x for x in d.split("\n") if not x.startswith("--"))
+    m = re.match(r"module _ \(c : goal\.([\w-]+)\)", code)
+    return m.group(1) if m else None
+
+
+def members_of(d):
+    """The declarations of a section: name -> text."""
+    lines = d.split("\n")
+    out, cur = {}, None
+    for line in lines:
+        m = re.match(r"  ((?:pub |abbrev |unfoldable )*)(" + IDENT + r") :(?= |$)", line)
+        if m:
+            cur = m.group(2)
+            out[cur] = [line]
+        elif cur is not None and (line.startswith("  ") or not line.strip()):
+            if re.match(r"  --", line):
+                cur = None
+            else:
+                out[cur].append(line)
+    return {n: "\n".join(ls).rstrip() for n, ls in out.items()}
+
+
+def copy_members(ans, f):
+    """What a section further down uses of one above it is said again there, since a record of a place is given for a goal alone."""
+    places = [section_place(d) for d in ans]
+    all_members = {}
+    for i, d in enumerate(ans):
+        if places[i]:
+            for n, text in members_of(d).items():
+                all_members[n] = (i, text)
+    for i, d in enumerate(ans):
+        if not places[i]:
+            continue
+        own = members_of(d)
+        wanted, todo = [], list(own.values()) + [d.split("where\n", 1)[0]]
+        while todo:
+            text = todo.pop()
+            for n, (k, body) in all_members.items():
+                if k != i and places[k] != places[i] and n not in wanted and re.search(r"(?<![\w'.-])" + re.escape(n) + r"(?= c(?![\w'.-])|\b)", text) and word(n, text):
+                    wanted.append(n)
+                    todo.append(body)
+        if not wanted:
+            continue
+        order = [n for n in all_members if n in wanted]
+        copies = "\n\n".join(all_members[n][1] for n in order)
+        head, _, rest = d.partition(" where\n")
+        for n in wanted:
+            new = n + "'"
+            pat = r"(?<![\w'.-])" + re.escape(n) + r"(?: c(?![\w'.-]))?(?![\w'-])"
+            copies = re.sub(pat, new, copies)
+            rest = re.sub(pat, new, rest)
+            rest = re.sub(r"\(" + re.escape(new) + r"\)", new, rest)
+            copies = re.sub(r"\(" + re.escape(new) + r"\)", new, copies)
+        ans[i] = head + " where\n" + copies + "\n\n" + rest
+    return ans
+
+
 def pass_places(ans, f):
     """A lemma over the record of a place is given that record, `(goal.at.X c).P`, where the goal X is asked further down."""
     takes = {}  # name: the place that it takes first
     for d in ans:
         code = "\n".join(x for x in d.split("\n") if not x.startswith("--"))
-        m = re.match(r"module _ \(c : goal\.([\w-]+)\) where\n", code)
+        m = re.match(r"module _ \(c : goal\.([\w-]+)\)", code)
         if m:
             for n in re.finditer(r"(?m)^  (?:pub |abbrev |unfoldable )*(" + IDENT + r") :(?= |$)", code):
                 takes[n.group(1)] = m.group(1)
