@@ -11,7 +11,7 @@ ghost use Rattle.linear.specs.Calls.{judged, ToLinear, FromLinear};
 use rules::{Ending, Refusal};
 
 // In what the equations of the two laws differ: the mask, the bias, the clip, and what is taken off a code.
-#[derive(Drop)]
+#[derive(Clone, Copy, Drop)]
 pub struct Constants {
     pub mask: u8,
     pub bias: u32,

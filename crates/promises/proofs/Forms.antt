@@ -182,7 +182,7 @@ fractional-restores {mask} law s l b a =
     record {
       reads = λ set room post h r.
           read-row mask set room (row_number (frame_row mask s)) (length s) (fractional_body mask (row_number (frame_row mask s)) s) post s l
-          (the_row mask s a).own_val h r (back-fractional law s l b a);
+          (the_row mask s a).own h r (back-fractional law s l b a);
     }
 
 -- every tool's form of every frame that it applies to

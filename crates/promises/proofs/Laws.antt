@@ -232,7 +232,7 @@ pub record WalksAlike (w v : Walked) : Type 0 where
 
 stops-alike : (e : Ending) (at bit : ℕ) → WalksAlike (stopped e at bit) (stopped e at bit)
 unfolding AllAlike
-stops-alike e at bit = record { frames = tt; end = refl; place = refl; bit = refl }
+stops-alike e at b = record { frames = tt; end = refl; place = refl; bit = refl }
 
 onward-alike : {m n : Read Found} {f g : Found → Walked} {k : Refusal → ℕ → Walked} → Beside Alike m n
     → ((a c : Found) → Alike a c → WalksAlike (f a) (g c)) → ((w : Refusal) (at : ℕ) → WalksAlike (k w at) (k w at))

@@ -270,9 +270,9 @@ module _ (place : ℕ) (nine : 9 ≤ place) where
   pub points-filled : {A : Type 0} {W : ℕ → Type 0} (a : A) (n : ℕ) → Points place W (filled a n)
   unfolding filled
   points-filled a zero = points-give a
-  points-filled a (suc n) =
+  points-filled {A = A} {W = W} a (suc n) =
       points-here (λ at. points-go at at 1 1 firm-bit far-bit near-bit points-bit (λ f.
-      points-cond (eqb f 0) (λ t. points-filled a n) (λ t. points-fail (at + 1) (at + 1) Align at (λ n h. omega arith) (omega arith))))
+      points-cond (eqb f 0) (λ t. points-filled {W = Between (at + 1) (at + 1)} a n) (λ t. points-fail (at + 1) (at + 1) Align at (λ n h. omega arith) (omega arith))))
 
   -- "the first bit of the run's code": at least one bit of it has been read, at most zero N + 1
   points-zeros : (lo hi start k left : ℕ) → start < lo + left → hi + left ≤ start + 330 → Points place (Between lo hi) (zeros_from start k left)
@@ -292,12 +292,12 @@ module _ (place : ℕ) (nine : 9 ≤ place) where
   points-runs : {W : ℕ → Type 0} (n s fuel left : ℕ) (done : List ℕ) → n ≤ 320 → s ≤ 9 → Points place W (runs_from n s fuel left done)
   unfolding runs_from
   points-runs n s zero left done h l = points-give done
-  points-runs n s (suc fuel) left done h l =
+  points-runs {W = W} n s (suc fuel) left done h l =
       points-cond (eqb left 0) (λ t. points-give done) (λ t.
       points-here (λ start. points-go start start 1 (n + 1 + s) (firm-rice n s) (far-rice n s) (near-rice n s) (points-rice n s h) (λ v.
       points-cond (ltb left v) (λ t. points-fail (start + 1) (start + (n + 1 + s)) Run start (λ n g. omega arith) (omega arith)) (λ t.
       points-cond (eqb v left) (λ t. points-give (done ++ replicate v 0)) (λ t.
-      points-runs n s fuel (left - (v + 1)) (done ++ (replicate v 0 ++ (1 ∷ []))) h l)))))
+      points-runs {W = Between (start + 1) (start + (n + 1 + s))} n s fuel (left - (v + 1)) (done ++ (replicate v 0 ++ (1 ∷ []))) h l)))))
 
   points-read_tree : {W : ℕ → Type 0} (t : Tree) → Points place W (read_tree t)
   unfolding read_tree
@@ -308,11 +308,11 @@ module _ (place : ℕ) (nine : 9 ≤ place) where
   points-listed : {W : ℕ → Type 0} (w d : ℕ) (done : List ℕ) (k : ℕ) → w ≤ place → Points place W (listed_from w d done k)
   unfolding listed_from
   points-listed w d done zero h = points-give (done ++ replicate (d - length done) 0)
-  points-listed w d done (suc k) h =
+  points-listed {W = W} w d done (suc k) h =
       points-here (λ start. points-go start start w w (firm-number_from 0 w) (far-number 0 w) (near-number_from 0 w)
       (points-number_from 0 w) (λ p.
       points-cond (leb (length done) p && ltb p d)
-      (λ t. points-listed w d (done ++ (replicate (p - length done) 0 ++ (1 ∷ []))) k h)
+      (λ t. points-listed {W = Between (start + w) (start + w)} w d (done ++ (replicate (p - length done) 0 ++ (1 ∷ []))) k h)
       (λ t. points-fail (start + w) (start + w) Place start (λ n g. omega arith) (omega arith))))
 
   -- "the method", of three bits, which have been read
@@ -353,11 +353,11 @@ module _ (place : ℕ) (nine : 9 ≤ place) where
   points-groups : {W : ℕ → Type 0} (c : Coding) (done : List ℕ) (m : ℕ) → c.bits ≤ place → Points place W (groups_from c done m)
   unfolding groups_from
   points-groups c done zero h = points-give done
-  points-groups c done (suc m) h =
+  points-groups {W = W} c done (suc m) h =
       let w = c.bits in
       points-here (λ start. points-go start start w w (firm-number_from 0 w) (far-number 0 w) (near-number_from 0 w)
       (points-number_from 0 w) (λ v.
-      points-cond (ltb v (c.radix ^ c.group)) (λ t. points-groups c (done ++ digits_of c.radix c.group v) m h)
+      points-cond (ltb v (c.radix ^ c.group)) (λ t. points-groups {W = Between (start + c.bits) (start + c.bits)} c (done ++ digits_of c.radix c.group v) m h)
       (λ t. points-fail (start + w) (start + w) Place start (λ n g. omega arith) (omega arith))))
 
   points-fractional : {W : ℕ → Type 0} (mask k n : ℕ) → 13 ≤ place → Points place W (fractional mask k n)

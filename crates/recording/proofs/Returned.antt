@@ -152,24 +152,24 @@ pub record AsGiven (cells samples : List ℕ) (items : List Item) : Type 0 where
   pub told : map cell_of items ≡ cells
   pub sound : sound_in items ≡ samples
 
-first : {mask : ℕ} {x : Entry} {rest : List Entry} → NoneErased mask (x ∷ rest) → is_erased mask x ≡ false
-first {mask} {x} (next h t) = not-true (is_erased mask x) h
+first : (mask : ℕ) {x : Entry} {rest : List Entry} → NoneErased mask (x ∷ rest) → is_erased mask x ≡ false
+first mask {x} (next h t) = not-true (is_erased mask x) h
 
-later : {mask : ℕ} {x : Entry} {rest : List Entry} → NoneErased mask (x ∷ rest) → NoneErased mask rest
-later (next h t) = t
+later : (mask : ℕ) {x : Entry} {rest : List Entry} → NoneErased mask (x ∷ rest) → NoneErased mask rest
+later mask (next h t) = t
 
 same-all : (mask set : ℕ) {cells samples : List ℕ} {es : List Entry} → Are cells samples es → NoneErased mask es
     → AsGiven cells samples (items_back mask set es)
 unfolding sound_in
 same-all mask set no_more n = record { told = refl; sound = refl }
 same-all mask set (a-frame {c = c} {samples = samples} h k t) n =
-    let i = same-all mask set t (later n) in
-    rw (first n) (record {
+    let i = same-all mask set t (later mask n) in
+    rw (first mask n) (record {
       told = rw (i.told, length-take-le c samples k) refl;
       sound = rw i.sound (take-append-drop c samples);
     })
 same-all mask set (a-loss {c = c} h k t) n =
-    let i = same-all mask set t (later n) in
+    let i = same-all mask set t (later mask n) in
     let m : loss_from + (c - loss_from) ≡ c = omega arith in
     record { told = rw (i.told, m) refl; sound = i.sound }
 

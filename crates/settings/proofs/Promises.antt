@@ -49,7 +49,7 @@ counted-snoc {k} (more {rs = rs} e c) v =
 counted-drop : {k : ℕ} {rs : List Revision} → Counted k rs → (n : ℕ) → Counted (k + n) (drop n rs)
 counted-drop {k} {rs} c zero = let h : k + 0 ≡ k = omega arith in rw h c
 counted-drop none (suc n) = none
-counted-drop {k} (more e c) (suc n) = let h : k + suc n ≡ k + 1 + n = omega arith in rw h (counted-drop c n)
+counted-drop {k} (more e c) (suc n) = let h : k + suc n ≡ k + 1 + n = omega arith in rw h (counted-drop {k = k + 1} c n)
 
 -- none of these numbers is 0
 counted-kept : {k : ℕ} {rs : List Revision} → 1 ≤ k → Counted k rs → kept_of rs ≡ rs

@@ -123,7 +123,9 @@ rows-from p (r ∷ rows) rest k e =
     let s : t ≡ q ++ more = sym (append_assoc p (r.number ∷ r.start ∷ r.octets ∷ []) more) in
     let ih = rows-from q rows rest (k + 3) (omega (arith, length-append p (r.number ∷ r.start ∷ r.octets ∷ []))) in
     let u : rows_at t (length rows) (k + 3) ≡ rows = ap (λ (x : List ℕ). rows_at x (length rows) (k + 3)) s ∙ ih in
-    rw (c, u, rw z at (g 0), g 1, g 2)
+    let first : row_at t k ≡ r = sym (row_is t k (sym (rw z at (g 0))) (sym (g 1)) (sym (g 2))) in
+    ap (λ (x : List ℕ). rows_at x (suc (length rows)) k) c
+    ∙ (ap (λ (x : Row). x ∷ rows_at t (length rows) (k + 3)) first ∙ ap (λ (x : List Row). r ∷ x) u)
 
 pub rows-laid : (rows : List Row) (t : List ℕ) → rows_of (laid rows t) ≡ rows
 unfolding laid

@@ -24,13 +24,13 @@ module _ (c : In-loop-i) where
 module _ (c : After-slice_known-in-loop-i-1) where
   turned : let a = c.args in
       let l = c.loop-i in
-      Closing a.size a.block.now a.table.now (l.i + 1) c.settle-m.new.block.0
+      Closing a.size a.block.now a.table.now (l.i + 1) c.settle-m.new.block
       (set l.table (1 + 3 * l.i + 1) l.to)
       (l.to + c.row_at-r.result.octets) (l.moved + c.settle-m.result)
   turned =
       let s = c.requires in
       let settled = c.settle-m.ensures in
-      close-turn s.ordered s.size_in_bounds.0 c.loop-i.invariant (here c)
+      close-turn s.ordered s.size_in_bounds.0 c.loop-i.invariant (omega (arith, c.wide-n.ensures, c.loop-i-test.true))
       c.row_at-r.ensures.0 settled.0 settled.1
 
 pub loop-i-init : goal.loop-i-init

@@ -7,7 +7,7 @@ use Rattle.store_rows.proofs.placing.insert.Goals as goal
 
 pub shape_of-table : goal.shape_of-table
 shape_of-table c =
-    length-set c.lay_row.new.table 0 _ ∙ c.lay_row.auto.0 ∙ c.raise.auto.0
+    length-set c.lay_row.new.table 0 _ ∙ c.lay_row.auto.table ∙ c.raise.auto.table
 
 pub returns : goal.returns
 returns c =

@@ -1,0 +1,9 @@
+use Rattle.settings.proofs.State.{not-kept, is-kept}
+use borrow.Author.Rules.{rules}
+use Rattle.settings.proofs.keep_row.Goals as goal
+
+pub returns-then-r-eq0 : goal.returns-then-r-eq0
+returns-then-r-eq0 c = not-kept _ _ _ c.if-r-eq0.true
+
+pub returns : goal.returns
+returns c = is-kept _ _ _ c.if-r-eq0.false c.put_row.ensures

@@ -1,0 +1,5 @@
+use borrow.Author.Rules.{rules}
+use Rattle.settings.proofs.row_at.Goals as goal
+
+pub returns : goal.returns
+returns c = rw c.values_at.ensures
