@@ -1,0 +1,15 @@
+use borrow.Author.Rules.{rules}
+use native.Mathlib.Nat.{zero-add}
+use Rattle.tool_sound.proofs.Agrees.{agree-first, agree-second, agree-step, agree_differ}
+use Rattle.tool_sound.specs.Agreeing.{agreeing}
+use lib.ListN.{length, drop}
+use Prim.Native.Nat.{◌+◌, ◌≤◌, ◌-◌}
+use native.Mathlib.Omega.{arith}
+use mathlib.Core.Path.{◌≡◌, sym, ◌∙◌}
+use Rattle.tool_sound.proofs.comparing.agree.Given as goal
+
+abbrev pub invariant-loop-i : goal.invariant-loop-i
+invariant-loop-i l = (l.i ≤ length l.a) × (l.i ≤ length l.b) × (agreeing l.a l.b ≡ l.i + agreeing (drop l.i l.a) (drop l.i l.b))
+
+abbrev pub decreases-loop-i : goal.decreases-loop-i
+decreases-loop-i l = length l.a - l.i
