@@ -10,7 +10,13 @@ use std::io;
 use std::io::{Print, Read};
 
 // The stream's lines, page by page.
-fn list_stream(rt: HostRuntime, stream: &[u8], law: u32, start: Stand, text: &mut [u8]) -> io::Result<()>
+fn list_stream(
+    rt: HostRuntime,
+    stream: &[u8],
+    law: u32,
+    start: Stand,
+    text: &mut [u8],
+) -> io::Result<()>
     requires { (Stands stream.now start) × (320 ≤ length text.old) }
 {
     let mut s = start;

@@ -108,7 +108,15 @@ fn say_stop(rt: HostRuntime, number: u32, place: usize, bit: usize) {
 }
 
 // What was kept and filled, how the walk stopped, and the last line, whose place is the end of the octets written.
-fn finish(rt: HostRuntime, octets: usize, frames: usize, kept: usize, filled: usize, stop: Ending, bit: usize) {
+fn finish(
+    rt: HostRuntime,
+    octets: usize,
+    frames: usize,
+    kept: usize,
+    filled: usize,
+    stop: Ending,
+    bit: usize,
+) {
     let number = rules::number_of(stop);
     say_stop(rt, number, kept, bit);
     tool_console::say_number(rt, b"frames=", frames);
@@ -123,7 +131,15 @@ fn finish(rt: HostRuntime, octets: usize, frames: usize, kept: usize, filled: us
 }
 
 // A greeting is read, mended and written.
-fn mend_in(rt: HostRuntime, law: u32, total: u64, name: &[u8], other: &[u8], greeting: &mut [u8], res: &mut [u8]) {
+fn mend_in(
+    rt: HostRuntime,
+    law: u32,
+    total: u64,
+    name: &[u8],
+    other: &[u8],
+    greeting: &mut [u8],
+    res: &mut [u8],
+) {
     let got = read_greeting(rt, name, greeting);
     if got.failed.is_some() {
         return;

@@ -103,14 +103,7 @@ fn keep_part(
 }
 
 // One part read, packed and kept.
-fn next_part(
-    fd: &InFile,
-    keep: &File,
-    run: Run,
-    job: Job,
-    part: &mut [u8],
-    page: &mut [u8],
-) -> Run
+fn next_part(fd: &InFile, keep: &File, run: Run, job: Job, part: &mut [u8], page: &mut [u8]) -> Run
     requires { (Stands job run) × (run.more ≡ true) × (length part.old ≡ part_size) × (length page.old ≡ page_size) }
     ensures stands { Stands job result }
     ensures less { steps_left result < steps_left run }
@@ -185,10 +178,17 @@ fn explain_settings(rt: HostRuntime, number: u32) {
 // Why the sound is refused.
 fn explain_sound(rt: HostRuntime, number: u32) {
     if number == 10 {
-        tool_console::say(rt, b"pack: no length fits the octets at the end; -f fills them up\n");
+        tool_console::say(
+            rt,
+            b"pack: no length fits the octets at the end; -f fills them up\n",
+        );
     }
     if number == 13 {
-        tool_console::say_number(rt, b"pack: the stream would be longer than ", rules::LONGEST);
+        tool_console::say_number(
+            rt,
+            b"pack: the stream would be longer than ",
+            rules::LONGEST,
+        );
         tool_console::say(rt, b" octets; the sound up to the place below fits\n");
     }
 }
@@ -270,7 +270,13 @@ fn failed(rt: HostRuntime, wrong: Amiss, in_name: &[u8], out_name: &[u8]) {
     match wrong {
         Amiss::Unread(why) => tool_console::failed(rt, Tool::Pack, in_name, b"standard input", why),
         Amiss::Unkept(why) => tool_console::failed(rt, Tool::Pack, b"/tmp", b"/tmp", why),
-        Amiss::Unwritten(why) => tool_console::failed(rt, Tool::Pack, out_name, b"standard output", why),
+        Amiss::Unwritten(why) => tool_console::failed(
+            rt,
+            Tool::Pack,
+            out_name,
+            b"standard output",
+            why,
+        ),
         Amiss::Nothing => {}
     }
 }
@@ -396,7 +402,14 @@ fn pack_sound(
 }
 
 // The settings are judged by packing no sound, before any file is opened.
-fn pack_file(rt: HostRuntime, job: Job, in_name: &[u8], out_name: &[u8], part: &mut [u8], page: &mut [u8])
+fn pack_file(
+    rt: HostRuntime,
+    job: Job,
+    in_name: &[u8],
+    out_name: &[u8],
+    part: &mut [u8],
+    page: &mut [u8],
+)
     requires { (length part.old ≡ part_size) × (length page.old ≡ page_size) }
 {
     let packed = tool_packing::packing::pack(b"", job.law, job.set, job.length as usize, page);

@@ -95,7 +95,14 @@ fn parts(
 
 // Octets behind what stands before them: their sound is used, and their losses, or all their items, are told. The second page is for a
 // master.
-fn play(rt: HostRuntime, body: &[u8], how: Reading, way: Way<'_>, tells: Tells, base: Point) -> Total
+fn play(
+    rt: HostRuntime,
+    body: &[u8],
+    how: Reading,
+    way: Way<'_>,
+    tells: Tells,
+    base: Point,
+) -> Total
     requires { (length body.now ≤ longest) × Behind how base }
     ensures tells_file { is_well result.wrong ≡ true → TellsFile body.now how result }
     ensures within { Within (length body.now) result }

@@ -65,7 +65,16 @@ fn say_frame(rt: HostRuntime, body: &[u8], how: Reading, here: Point, base: Poin
 }
 
 // Says an item, alone in its part: a loss always, a frame where all are told.
-fn say_item(rt: HostRuntime, body: &[u8], how: Reading, here: Point, p: Part, cell: u16, tells: Tells, base: Point)
+fn say_item(
+    rt: HostRuntime,
+    body: &[u8],
+    how: Reading,
+    here: Point,
+    p: Part,
+    cell: u16,
+    tells: Tells,
+    base: Point,
+)
     requires { (here.at ≤ length body.now) × (NextItem body.now how here cell p) × Sums base here × Behind how base }
 {
     if p.items == 0 {
@@ -84,7 +93,15 @@ fn say_item(rt: HostRuntime, body: &[u8], how: Reading, here: Point, p: Part, ce
 }
 
 // What is told of so many items from a place on. They are played one by one, so that the place of each is known.
-fn tell(rt: HostRuntime, body: &[u8], how: Reading, from: Point, items: usize, tells: Tells, base: Point)
+fn tell(
+    rt: HostRuntime,
+    body: &[u8],
+    how: Reading,
+    from: Point,
+    items: usize,
+    tells: Tells,
+    base: Point,
+)
     requires { (length body.now ≤ longest) × Follows body.now how from × Behind how base }
 {
     let mut page = [0u8; 320];
@@ -107,7 +124,15 @@ fn tell(rt: HostRuntime, body: &[u8], how: Reading, from: Point, items: usize, t
 }
 
 // What is told of a part: nothing where nothing is asked, or where it has no loss and only these are.
-pub fn tell_part(rt: HostRuntime, body: &[u8], how: Reading, here: Point, p: Part, tells: Tells, base: Point)
+pub fn tell_part(
+    rt: HostRuntime,
+    body: &[u8],
+    how: Reading,
+    here: Point,
+    p: Part,
+    tells: Tells,
+    base: Point,
+)
     requires { (length body.now ≤ longest) × Follows body.now how here × Behind how base }
 {
     match tells {

@@ -142,7 +142,10 @@ fn say_wrong(rt: HostRuntime, why: Wrong) {
         Wrong::Rate(what) => say_has(rt, what, b" samples a second, and a master has 8000\n"),
         Wrong::Bits(what) => say_has(rt, what, b" bits a sample, and a master has 16\n"),
         Wrong::ShortFormat(what) => say_short_format(rt, what),
-        Wrong::NoFormat => tool_console::say(rt, b"the WAV file tells no format before its sound\n"),
+        Wrong::NoFormat => tool_console::say(
+            rt,
+            b"the WAV file tells no format before its sound\n",
+        ),
         Wrong::OddSound(what) => say_odd_sound(rt, what),
         Wrong::ManyChunks => tool_console::say(
             rt,
@@ -172,7 +175,10 @@ fn more_octets(fd: &InFile, n: usize, k: usize, space: &mut [u8]) -> usize
 
 fn say_no_heading(rt: HostRuntime) {
     tool_console::say_tool(rt, Tool::Pack);
-    tool_console::say(rt, b"the WAV file ends inside its heading, or the heading is too long\n");
+    tool_console::say(
+        rt,
+        b"the WAV file ends inside its heading, or the heading is too long\n",
+    );
 }
 
 // The heading of a WAV file, octets after octets as it asks for them.

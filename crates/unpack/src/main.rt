@@ -53,7 +53,14 @@ fn finish(rt: HostRuntime, t: Total, records: bool, on: bool)
     let end = t.end;
     let number = recording::number_of(end);
     if number != 0 {
-        tool_console::refused(rt, Tool::Unpack, number, t.at, recording::tool_of(end), t.bit);
+        tool_console::refused(
+            rt,
+            Tool::Unpack,
+            number,
+            t.at,
+            recording::tool_of(end),
+            t.bit,
+        );
         return;
     }
     stop_well(rt, t, on);
@@ -119,25 +126,29 @@ fn tells_of(f: Flags) -> Tells {
 }
 
 // What came of writing the sound, and the last lines.
-fn written(
-    rt: HostRuntime,
-    t: Total,
-    how: Reading,
-    on: bool,
-    from: &[u8],
-    name: &[u8],
-    fd: OutFile,
-)
+fn written(rt: HostRuntime, t: Total, how: Reading, on: bool, from: &[u8], name: &[u8], fd: OutFile)
     requires { Within longest t }
 {
     let wrong = t.wrong;
     match wrong {
-        Trouble::Unread(why) => tool_console::failed(rt, Tool::Unpack, from, b"standard input", why),
+        Trouble::Unread(why) => tool_console::failed(
+            rt,
+            Tool::Unpack,
+            from,
+            b"standard input",
+            why,
+        ),
         Trouble::Nothing => match tool_console::close(fd) {
             Ok(()) => finish(rt, t, how.records, on),
             Err(why) => tool_console::failed(rt, Tool::Unpack, name, b"standard output", why),
         },
-        Trouble::Failed(why) => tool_console::failed(rt, Tool::Unpack, name, b"standard output", why),
+        Trouble::Failed(why) => tool_console::failed(
+            rt,
+            Tool::Unpack,
+            name,
+            b"standard output",
+            why,
+        ),
         Trouble::Master(_) => tool_console::failed(
             rt,
             Tool::Unpack,
@@ -198,8 +209,20 @@ fn conclude(rt: HostRuntime, t: Total, records: bool, on: bool, fd: &InFile, nam
     match wrong {
         Trouble::Nothing => finish(rt, t, records, on),
         Trouble::Master(how) => tool_sound::sounds::differs(rt, how, t.samples),
-        Trouble::Failed(why) => tool_console::failed(rt, Tool::Unpack, name, b"standard input", why),
-        Trouble::Unread(why) => tool_console::failed(rt, Tool::Unpack, name, b"standard input", why),
+        Trouble::Failed(why) => tool_console::failed(
+            rt,
+            Tool::Unpack,
+            name,
+            b"standard input",
+            why,
+        ),
+        Trouble::Unread(why) => tool_console::failed(
+            rt,
+            Tool::Unpack,
+            name,
+            b"standard input",
+            why,
+        ),
     }
 }
 
@@ -217,8 +240,20 @@ fn compared(
 {
     let wrong = t.wrong;
     match wrong {
-        Trouble::Unread(why) => tool_console::failed(rt, Tool::Unpack, from, b"standard input", why),
-        Trouble::Failed(why) => tool_console::failed(rt, Tool::Unpack, name, b"standard input", why),
+        Trouble::Unread(why) => tool_console::failed(
+            rt,
+            Tool::Unpack,
+            from,
+            b"standard input",
+            why,
+        ),
+        Trouble::Failed(why) => tool_console::failed(
+            rt,
+            Tool::Unpack,
+            name,
+            b"standard input",
+            why,
+        ),
         Trouble::Master(how) => tool_sound::sounds::differs(rt, how, t.samples),
         Trouble::Nothing => {
             let end = t.end;
@@ -325,7 +360,11 @@ fn with_stream(rt: HostRuntime, s: Settings, name: &[u8], fd: &File, size: usize
         return;
     }
     match tool_words::options::law_of(s, name) {
-        Law::Unknown => tool_console::usage(rt, Tool::Unpack, b"the law is not known: say -u or -a"),
+        Law::Unknown => tool_console::usage(
+            rt,
+            Tool::Unpack,
+            b"the law is not known: say -u or -a",
+        ),
         Law::Known(law) => {
             let how = Reading {
                 law,
@@ -351,7 +390,11 @@ fn with_recording(rt: HostRuntime, s: Settings, law: u32, name: &[u8], fd: &File
 {
     let said = s.law;
     if says_other(said, law) {
-        tool_console::usage(rt, Tool::Unpack, b"the recording's heading says the other law");
+        tool_console::usage(
+            rt,
+            Tool::Unpack,
+            b"the recording's heading says the other law",
+        );
         return;
     }
     let body = Body {
@@ -368,7 +411,10 @@ fn with_recording(rt: HostRuntime, s: Settings, law: u32, name: &[u8], fd: &File
 
 // What begins as a recording and has no heading.
 fn headless(rt: HostRuntime) {
-    tool_console::say(rt, b"unpack: a recording's heading is cut, or of another law or version\n");
+    tool_console::say(
+        rt,
+        b"unpack: a recording's heading is cut, or of another law or version\n",
+    );
     tool_console::refused(rt, Tool::Unpack, 14, 0, 0, 0);
 }
 

@@ -1,11 +1,8 @@
-use borrow.Author.Rules.{rules}
 use native.Mathlib.Nat.{zero-add}
 use Rattle.tool_sound.proofs.Agrees.{agree-first, agree-second, agree-step, agree_differ}
 use Rattle.tool_sound.specs.Agreeing.{agreeing}
-use lib.ListN.{length, drop}
-use Prim.Native.Nat.{◌+◌, ◌≤◌, ◌-◌}
 use native.Mathlib.Omega.{arith}
-use mathlib.Core.Path.{◌≡◌, sym, ◌∙◌}
+use mathlib.Core.Path.{sym, ◌∙◌}
 use Rattle.tool_sound.proofs.comparing.agree.Goals as goal
 
 pub loop-i-init : goal.loop-i-init

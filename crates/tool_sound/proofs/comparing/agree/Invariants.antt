@@ -1,11 +1,7 @@
-use borrow.Author.Rules.{rules}
-use native.Mathlib.Nat.{zero-add}
-use Rattle.tool_sound.proofs.Agrees.{agree-first, agree-second, agree-step, agree_differ}
 use Rattle.tool_sound.specs.Agreeing.{agreeing}
 use lib.ListN.{length, drop}
 use Prim.Native.Nat.{◌+◌, ◌≤◌, ◌-◌}
-use native.Mathlib.Omega.{arith}
-use mathlib.Core.Path.{◌≡◌, sym, ◌∙◌}
+use mathlib.Core.Path.{◌≡◌}
 use Rattle.tool_sound.proofs.comparing.agree.Given as goal
 
 abbrev pub invariant-loop-i : goal.invariant-loop-i

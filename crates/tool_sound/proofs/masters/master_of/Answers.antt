@@ -1,12 +1,11 @@
 use native.Mathlib.Omega.{arith}
 use mathlib.Core.Path.{◌≡◌, ap, ◌∙◌}
-use Prim.Native.Nat.{◌-◌, ◌*◌, ◌/◌, ◌≤◌, min}
+use Prim.Native.Nat.{◌*◌}
 use mathlib.Core.List.{◌++◌}
 use lib.ListN.{length, take, drop, length-set}
-use lib.Seq.{paste, paste-zero}
+use lib.Seq.{paste-zero}
 use Rattle.tool_sound.specs.Masters.{master_of}
 use Rattle.tool_sound.proofs.Pairs.{master-turn, master-length, laid, laid-length}
-use borrow.Author.Rules.{rules}
 use Rattle.tool_sound.proofs.masters.master_of.Goals.{At-loop-i}
 use Rattle.tool_sound.proofs.masters.master_of.Goals as goal
 

@@ -1,12 +1,8 @@
-use native.Mathlib.Omega.{arith}
-use mathlib.Core.Path.{◌≡◌, ap, ◌∙◌}
+use mathlib.Core.Path.{◌≡◌}
 use Prim.Native.Nat.{◌-◌, ◌*◌, ◌/◌, ◌≤◌, min}
-use mathlib.Core.List.{◌++◌}
-use lib.ListN.{length, take, drop, length-set}
-use lib.Seq.{paste, paste-zero}
+use lib.ListN.{length}
+use lib.Seq.{paste}
 use Rattle.tool_sound.specs.Masters.{master_of}
-use Rattle.tool_sound.proofs.Pairs.{master-turn, master-length, laid, laid-length}
-use borrow.Author.Rules.{rules}
 use Rattle.tool_sound.proofs.masters.master_of.Given as goal
 
 abbrev pub invariant-loop-i : goal.invariant-loop-i

@@ -2,7 +2,6 @@ use mathlib.Core.Path.{subst, ◌∙◌}
 use mir.Syntax.{w16}
 use mir.Facts.{to_z-of_z}
 use Rattle.tool_sound.specs.Masters.{Splits}
-use borrow.Author.Rules.{rules}
 use Rattle.tool_sound.proofs.masters.pair_for.Goals as goal
 
 pub returns : goal.returns

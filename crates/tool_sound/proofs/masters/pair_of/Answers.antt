@@ -2,7 +2,6 @@ use native.Mathlib.Omega.{arith}
 use mir.Syntax.{w16}
 use Rattle.linear.proofs.Signs.{Below, below, size_below, Above, above, size_above}
 use Rattle.tool_sound.proofs.Values.{splits-below, splits-above}
-use borrow.Author.Rules.{rules}
 use Rattle.tool_sound.proofs.masters.pair_of.Goals.{Then-v-lt0, Else-v-lt0}
 use Rattle.tool_sound.proofs.masters.pair_of.Goals as goal
 

@@ -4,7 +4,6 @@ use mir.Syntax.{w16}
 use mir.Facts.{to_z-of_z}
 use Rattle.linear.specs.Equations.{from_pcm}
 use Rattle.tool_sound.specs.Masters.{unit_of}
-use borrow.Author.Rules.{rules}
 use Rattle.tool_sound.proofs.masters.sample_for.Goals as goal
 
 pub returns : goal.returns

@@ -1,12 +1,10 @@
 use native.Mathlib.Omega.{arith}
 use mathlib.Core.Path.{◌≡◌, ap, ◌∙◌}
-use Prim.Native.Nat.{◌-◌, ◌/◌, ◌≤◌, min}
 use mathlib.Core.List.{◌++◌}
 use lib.ListN.{length, take, drop}
-use lib.Seq.{paste, paste-zero}
+use lib.Seq.{paste-zero}
 use Rattle.tool_sound.specs.Masters.{sound_of}
 use Rattle.tool_sound.proofs.Pairs.{sound-turn, sound-length, laid, laid-length}
-use borrow.Author.Rules.{rules}
 use Rattle.tool_sound.proofs.masters.sound_of.Goals.{At-loop-i}
 use Rattle.tool_sound.proofs.masters.sound_of.Goals as goal
 

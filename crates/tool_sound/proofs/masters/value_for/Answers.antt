@@ -1,6 +1,5 @@
 use native.Mathlib.Omega.{arith}
 use Rattle.tool_sound.proofs.Values.{raised, unit-a, unit-mu}
-use borrow.Author.Rules.{rules}
 use Rattle.tool_sound.proofs.masters.value_for.Goals as goal
 
 pub overflow_mul-result : goal.overflow_mul-result

@@ -5,7 +5,6 @@ use mir.Syntax.{w16}
 use mir.Facts.{to_z_pos}
 use Rattle.linear.proofs.Signs.{turned}
 use Rattle.tool_sound.proofs.Values.{value-above, value-below}
-use borrow.Author.Rules.{rules}
 use Rattle.tool_sound.proofs.masters.value_of.Goals as goal
 
 pub returns-then-h-lt128 : goal.returns-then-h-lt128

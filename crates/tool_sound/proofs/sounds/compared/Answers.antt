@@ -1,4 +1,3 @@
-use borrow.Author.Rules.{rules}
 use lib.Seq.{length-take-le}
 use lib.ListN.{length, drop, length-append}
 use native.Mathlib.Omega.{arith}

@@ -2,7 +2,6 @@ use native.Mathlib.Omega.{arith}
 use mathlib.Core.Path.{sym}
 use lib.ListN.{length-append}
 use lib.Seq.{length-take-le}
-use borrow.Author.Rules.{rules}
 use Rattle.tool_sound.proofs.sounds.read_values.Goals as goal
 
 pub slice_bounds-read_part-end-2 : goal.slice_bounds-read_part-end-2

@@ -1,5 +1,4 @@
 use Rattle.tool_sound.proofs.Steps.{other_format, other-channels, other-rate, other-bits, the-format}
-use borrow.Author.Rules.{rules}
 use Rattle.tool_sound.proofs.wave.format_at.Goals as goal
 
 pub returns-then-format-ne1 : goal.returns-then-format-ne1

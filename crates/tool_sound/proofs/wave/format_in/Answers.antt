@@ -1,6 +1,5 @@
 use native.Mathlib.Omega.{arith}
 use Rattle.tool_sound.proofs.Steps.{format-short, format-more, format-there}
-use borrow.Author.Rules.{rules}
 use Rattle.tool_sound.proofs.wave.format_in.Goals as goal
 
 pub returns-then-size-lt16 : goal.returns-then-size-lt16

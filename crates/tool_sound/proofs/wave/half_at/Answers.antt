@@ -1,6 +1,5 @@
 use native.Mathlib.Omega.{arith}
 use Rattle.tool_sound.specs.Headings.{half_at}
-use borrow.Author.Rules.{rules}
 use Rattle.tool_sound.proofs.wave.half_at.Goals as goal
 
 pub returns : goal.returns

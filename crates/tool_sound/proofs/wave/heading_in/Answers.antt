@@ -1,9 +1,8 @@
-use Prim.Native.Nat.{◌+◌, ◌-◌, ◌*◌, ◌≤◌}
-use mathlib.Core.Path.{◌≡◌, sym, ap, ◌∙◌}
+use Prim.Native.Nat.{◌-◌}
+use mathlib.Core.Path.{sym, ap, ◌∙◌}
 use native.Mathlib.Omega.{arith}
-use Rattle.tool_sound.specs.Headings.{heading_of, chunks_from, onward}
+use Rattle.tool_sound.specs.Headings.{chunks_from, onward}
 use Rattle.tool_sound.proofs.Steps.{too_few, no-riff, no-wave, begins, turn, no_more}
-use borrow.Author.Rules.{rules}
 use Rattle.tool_sound.proofs.wave.heading_in.Goals as goal
 
 pub returns-then-octets-lt12 : goal.returns-then-octets-lt12

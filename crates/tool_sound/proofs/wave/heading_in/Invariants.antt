@@ -1,9 +1,6 @@
-use Prim.Native.Nat.{◌+◌, ◌-◌, ◌*◌, ◌≤◌}
-use mathlib.Core.Path.{◌≡◌, sym, ap, ◌∙◌}
-use native.Mathlib.Omega.{arith}
-use Rattle.tool_sound.specs.Headings.{heading_of, chunks_from, onward}
-use Rattle.tool_sound.proofs.Steps.{too_few, no-riff, no-wave, begins, turn, no_more}
-use borrow.Author.Rules.{rules}
+use Prim.Native.Nat.{◌+◌, ◌*◌, ◌≤◌}
+use mathlib.Core.Path.{◌≡◌}
+use Rattle.tool_sound.specs.Headings.{heading_of, chunks_from}
 use Rattle.tool_sound.proofs.wave.heading_in.Given as goal
 
 -- the heading is what is left of it; and a chunk takes at most 4,294,967,304 octets

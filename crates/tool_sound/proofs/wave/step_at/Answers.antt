@@ -1,6 +1,5 @@
 use native.Mathlib.Omega.{arith}
 use Rattle.tool_sound.proofs.Steps.{step-more, step-sound, step-format, step_skip}
-use borrow.Author.Rules.{rules}
 use Rattle.tool_sound.proofs.wave.step_at.Goals as goal
 
 pub returns-then-octets-end : goal.returns-then-octets-end

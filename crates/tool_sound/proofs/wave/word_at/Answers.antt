@@ -1,5 +1,4 @@
 use Rattle.tool_sound.specs.Headings.{word_at}
-use borrow.Author.Rules.{rules}
 use Rattle.tool_sound.proofs.wave.word_at.Goals as goal
 
 pub returns : goal.returns
