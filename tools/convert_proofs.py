@@ -20,7 +20,8 @@ SIG = re.compile(r"^((?:pub |abbrev |unfoldable )*)(" + IDENT + r") :(?= |$)")
 
 
 def norm(name):
-    return name.replace("_", "-").lower()
+    name = name.replace("_", "-").lower()
+    return name[:-4] if name.endswith("-lem") else name
 
 
 class File:
@@ -43,12 +44,22 @@ class File:
 
     def new_place(self, old):
         i = self.index.get(norm(old))
-        return None if i is None else self.by_name[i]
+        if i is None:
+            return None
+        name = self.by_name[i]
+        whole = re.sub(r"(-\d+|-unread(-\d+)?)$", "", name)
+        if self.arms[i] and whole in self.by_name:
+            k = self.by_name.index(whole)
+            if self.arms[k] and self.arms[k][0] == self.arms[i][0]:
+                return whole  # the arm's last place has the names of its pattern
+        return name
 
     def chain(self, old):
         """Indices of a place and those above it, from the place up."""
         out = []
         i = self.index.get(norm(old)) if old else None
+        if i is not None and self.new_place(old) != self.by_name[i]:
+            i = self.by_name.index(self.new_place(old))
         while i is not None:
             out.append(i)
             up = self.places[i][1]
@@ -119,6 +130,8 @@ def turn_step(f, chain, parts):
                 rest[0] = "invariant"
             if rest and rest[0] in ("taken",):
                 rest[0] = "true"
+            if rest and rest[0] == "left" and new.startswith("if-"):
+                rest[0] = "false"
             if rest and rest[0] in ("kept", "last", "new", "auto"):
                 rest[0] = {"kept": "auto", "last": "new"}.get(rest[0], rest[0])
                 params = f.params.get(f.places[i][3] or "")
@@ -147,15 +160,30 @@ class Turner:
         self.aliases = dict(aliases)  # name: place, of variables that stand for a place
         self.views = views  # name: (place it takes, place it gives), functions from place to place
 
+    def see_views(self, t):
+        """(view c).path, (view c.before).path and view c, a view of a view too."""
+        while True:
+            before = t
+            for v in self.views:
+                some = "(?:" + "|".join(map(re.escape, ["c", *self.aliases])) + r"|\x02[^\x02]+\x02)(?:\.before)*"
+                arg = r"(?:" + some + r"|\(" + some + r"\))"
+                t = re.sub(r"\(" + re.escape(v) + " " + arg + r"\)", "\x02" + v + "\x02", t)
+                t = re.sub(r"(?<![\w'.-])" + re.escape(v) + " " + arg + r"(?=[\s),]|$)", "\x02" + v + "\x02", t)
+            if t == before:
+                return t
+
     def text(self, t):
         f = self.f
         # let s = c.before.before in
         while True:
-            m = re.search(r"let (" + IDENT + r")(?: : tie\.[\w-]+(?: [\w-]+)*)? = (\(?)(" + IDENT + r")( c)?(\)?)((?:\.before)*) in\s*", t)
+            t = self.see_views(t)
+            m = re.search(r"let (" + IDENT + r")(?: : tie\.[\w-]+(?: [\w-]+)*)? = (\(?)(\x02[^\x02]+\x02|" + IDENT + r")( c)?(\)?)((?:\.before)*) in\s*", t)
             if not m:
                 break
             name, base, call = m.group(1), m.group(3), m.group(4)
-            if call and base in self.views:
+            if base.startswith("\x02") and not call:
+                at = f.up(self.views[base.strip("\x02")][1], m.group(6).count(".before"))
+            elif call and base in self.views:
                 at = f.up(self.views[base][1], m.group(6).count(".before"))
             elif not call and (base == "c" or base in self.aliases):
                 at = f.up(self.place if base == "c" else self.aliases[base], m.group(6).count(".before"))
@@ -220,6 +248,17 @@ class Turner:
 
         t = re.sub(r"(?<![\w'.-])(\x02[^\x02]+\x02|" + IDENT + r")((?:\.[\w'₀-₉-]+)+)", path, t)
         t = re.sub(r"\x02[^\x02]+\x02", "c", t)
+        # what a call leaves, under the name of its step
+        callee = {p[2][1]: p[3] for p in f.places if p[3]}
+        for m in list(re.finditer(r"let (" + IDENT + r") = c\.([\w-]+) in", t)):
+            params = f.params.get(callee.get(m.group(2)) or "")
+            if params:
+
+                def left(n, s=m.group(1), params=params):
+                    got = clause_path(params + [""], n.group(2).split(".")[1:])
+                    return s + {"kept": ".auto", "last": ".new"}.get(n.group(1), "." + n.group(1)) + "." + ".".join(got) if got and got[0] else n.group(0)
+
+                t = re.sub(r"(?<![\w'.-])" + re.escape(m.group(1)) + r"\.(kept|last|new|auto)((?:\.[01])+)", left, t)
         # a call's clauses under a name
         fields_of = {}
         for i, p in enumerate(f.places):
@@ -239,7 +278,8 @@ class Turner:
                 t = re.sub(r"(?<![\w'.-])" + re.escape(s) + r"((?:\.[01])+)", named, t)
         for a in self.aliases:
             if a != "c":
-                t = re.sub(r"(?<![\w'.-])" + re.escape(a) + r"(?![\w'-])(?! :)", "c", t)
+                keyword = r"(?<!\w )" if a == "at" else ""
+                t = re.sub(r"(?<![\w'.-])" + keyword + re.escape(a) + r"(?![\w'-])(?! :)", "c", t)
         return t
 
 
@@ -306,6 +346,7 @@ def word(name, text):
 def convert(crate, fn_dir, rel, entry, notes):
     with open(os.path.join(fn_dir, "Proof.antt"), encoding="utf-8") as fh:
         text = fh.read()
+    text = re.sub(r"(?<=\.)(\w+)_lem(?=\.)", r"\1", text)  # a step that tools/respell took for a lemma of its name
     f = File(entry)
     bl = blocks(text.split("\n"))
     final = [b for b in bl if "tie.spec" in "\n".join(b[1])]
@@ -423,7 +464,7 @@ def convert(crate, fn_dir, rel, entry, notes):
                 if var and var.group(1) != "c":
                     b = re.sub(r"(?<![\w'.-])" + re.escape(var.group(1)) + r"(?![\w'-])", "c", b)
                 b = t.text(b)
-                fields = f.asked.get(new)
+                fields = f.asked.get(new) or f.asked.get(f.needs[k][0])
                 if fields:
                     mm = re.search(r"(?ms)^(" + re.escape(new) + r" c =\s*)(.*)$", b)
                     if mm:
@@ -564,8 +605,17 @@ def convert(crate, fn_dir, rel, entry, notes):
             fh.write("\n".join(uses + [f"use {base}.Given as goal"]) + "\n" + decl_text + inv_text)
         if pub_names:
             uses = uses + [f"use {base}.Invariants.{{{', '.join(pub_names)}}}"]
+    ans = [re.sub(r"(?<![\w'-])not-(?:true|false) (?:_|[\w.-]+) (c\.if-not-[\w-]+\.(?:true|false))", r"\1", d) for d in ans]
+    ans = [re.sub(r"\.kept(?=\.[01])", ".auto", d) for d in ans]
     ans = [re.sub(r"\.inv(?![\w'-])", ".invariant", re.sub(r"\.taken(?![\w'-])", ".true", d)) for d in ans]
+    # an `if !x` says `x ≡ false` itself now
+    ans = [re.sub(r"not-(?:true|false) _ (c\.if-not-[\w.-]+\.(?:true|false))", r"\1", d) for d in ans]
+    # port.py gave a lemma that is named as a function another name; a step keeps the function's
+    ans = [re.sub(r"(?<=[\w)])\.(" + IDENT + r")_lem(?![\w'-])", r".\1", d) for d in ans]
+    ans = [re.sub(r"\.type-inv(?![\w'-])", ".type_inv", d) for d in ans]
     ans = [d.replace("\x03", "") for d in ans]
+    ans = [re.sub(r"not-(?:true|false) _ (c\.if-not-[\w-]+\.(?:true|false))", r"\1", d) for d in ans]
+    ans = open_short(ans)
     ans = copy_members(ans, f)
     ans = cite_answers(ans, f)
     ans = pass_places(ans, f)
@@ -591,6 +641,46 @@ def convert(crate, fn_dir, rel, entry, notes):
         with open(os.path.join(fn_dir, "Answers.antt"), "w", encoding="utf-8") as fh:
             fh.write(lead + "\n".join(uses + [f"use {base}.Goals as goal"]) + "\n\n" + "\n\n".join(a.strip("\n") for a in ans) + "\n")
     return True
+
+
+def open_short(ans):
+    """An `abbrev` of one line over a place is written out where it stands; so is a lemma of one line, within lemmas over other places."""
+    short = {}
+    for d in ans:
+        code = "\n".join(x for x in d.split("\n") if not x.startswith("--"))
+        m = re.match(r"(abbrev )?(" + IDENT + r") : (?:goal\.([\w-]+)|\((" + IDENT + r") : goal\.([\w-]+)\))\s*→[^\n]*\n\2 (" + IDENT + r") = ([^\n]*)$", code)
+        if m:
+            body = re.sub(r"(?<![\w'.-])" + re.escape(m.group(6)) + r"(?![\w'-])", "c", m.group(7))
+            short[m.group(2)] = (bool(m.group(1)), m.group(3) or m.group(5), body, d)
+    for n, (always, place, body, d) in list(short.items()):
+        pat = r"(?<![\w'.-])" + re.escape(n) + r" c(?![\w'.-])"
+        for i, x in enumerate(ans):
+            if x is d:
+                continue
+            if not always:
+                m = re.search(r"^(?:module _|" + IDENT + r" :) \(" + IDENT + r" : goal\.([\w-]+)\)", x, re.M)
+                if re.search(r"(?m)^pub [\w-]+ : goal\.", x) or not m or m.group(1) == place:
+                    continue
+            x = re.sub(r"\(" + re.escape(n) + r" c\)", lambda _: "(" + body + ")", x)
+            ans[i] = re.sub(pat, lambda _: "(" + body + ")", x)
+    ans = [x for x in ans if not any(x is d and always for always, _, _, d in short.values())]
+    for k, d in enumerate(ans):
+        if not re.search(r"(?m)^module _ \(c : goal\.", d):
+            continue
+        found = {}
+        for m in re.finditer(r"(?m)^  abbrev (" + IDENT + r") : [^\n]*\n  \1 = ([^\n]*)$(?!\n    )", d):
+            body = m.group(2)
+            for n, x in found.items():
+                body = re.sub(r"(?<![\w'.-])" + re.escape(n) + r"(?![\w'-])", lambda _: "(" + x + ")", body)
+            found[m.group(1)] = body
+        for i, x in enumerate(ans):
+            if i == k:
+                continue
+            for n, body in found.items():
+                x = re.sub(r"\(" + re.escape(n) + r" c\)", lambda _: "(" + body + ")", x)
+                x = re.sub(r"(?<![\w'.-])" + re.escape(n) + r" c(?![\w'.-])", lambda _: "(" + body + ")", x)
+            ans[i] = x
+    return ans
 
 
 def cite_answers(ans, f):
@@ -622,6 +712,11 @@ def section_place(d):
     return m.group(1) if m else None
 
 
+def above(f, new_up, new_down):
+    old_of = dict(zip(f.by_name, [p[0] for p in f.places]))
+    return new_up in [f.by_name[k] for k in f.chain(old_of.get(new_down, ""))]
+
+
 def members_of(d):
     """The declarations of a section: name -> text."""
     lines = d.split("\n")
@@ -641,6 +736,7 @@ def members_of(d):
 
 def copy_members(ans, f):
     """What a section further down uses of one above it is said again there, since a record of a place is given for a goal alone."""
+    copied = 0
     places = [section_place(d) for d in ans]
     all_members = {}
     for i, d in enumerate(ans):
@@ -651,11 +747,11 @@ def copy_members(ans, f):
         if not places[i]:
             continue
         own = members_of(d)
-        wanted, todo = [], list(own.values()) + [d.split("where\n", 1)[0]]
+        wanted, todo = [], list(own.values())
         while todo:
             text = todo.pop()
             for n, (k, body) in all_members.items():
-                if k != i and places[k] != places[i] and n not in wanted and re.search(r"(?<![\w'.-])" + re.escape(n) + r"(?= c(?![\w'.-])|\b)", text) and word(n, text):
+                if k != i and places[k] != places[i] and n not in wanted and above(f, places[k], places[i]) and re.search(r"(?<![\w'.-])" + re.escape(n) + r"(?= c(?![\w'.-])|\b)", text) and word(n, text):
                     wanted.append(n)
                     todo.append(body)
         if not wanted:
@@ -663,9 +759,10 @@ def copy_members(ans, f):
         order = [n for n in all_members if n in wanted]
         copies = "\n\n".join(all_members[n][1] for n in order)
         head, _, rest = d.partition(" where\n")
+        copied += 1
         for n in wanted:
-            new = n + "'"
-            pat = r"(?<![\w'.-])" + re.escape(n) + r"(?: c(?![\w'.-]))?(?![\w'-])"
+            new = n + "'" * copied
+            pat = r"(?<![\w'.-])(?<!\{)" + re.escape(n) + r"(?: c(?![\w'.-]))?(?![\w'-])"
             copies = re.sub(pat, new, copies)
             rest = re.sub(pat, new, rest)
             rest = re.sub(r"\(" + re.escape(new) + r"\)", new, rest)
@@ -681,11 +778,12 @@ def pass_places(ans, f):
         code = "\n".join(x for x in d.split("\n") if not x.startswith("--"))
         m = re.match(r"module _ \(c : goal\.([\w-]+)\)", code)
         if m:
-            for n in re.finditer(r"(?m)^  (?:pub |abbrev |unfoldable )*(" + IDENT + r") :(?= |$)", code):
-                takes[n.group(1)] = m.group(1)
-        m = re.match(r"(?:abbrev )?(" + IDENT + r") : \(c : goal\.([\w-]+)\) →", code)
+            for n in re.finditer(r"(?m)^(?:  )+(?:pub |abbrev |unfoldable )*(" + IDENT + r") :(?= |$)", code.split("where\n", 1)[1]):
+                if n.group(1) != "go":
+                    takes[n.group(1)] = m.group(1)
+        m = re.match(r"(?:abbrev )?(" + IDENT + r") : (?:\(c : goal\.([\w-]+)\)|goal\.([\w-]+)\s*→)", code)
         if m:
-            takes[m.group(1)] = m.group(2)
+            takes[m.group(1)] = m.group(2) or m.group(3)
     if not takes:
         return ans
     place_of = {new: f.by_name_of(old) for (o, new), (old, _) in zip(f.needs, f.asked_at)}

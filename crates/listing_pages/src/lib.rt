@@ -11,7 +11,7 @@ use reader::Report;
 use rules::Ending;
 
 // Where the listing stands: the frames that are listed, the place of the next one, and the samples that they hold.
-#[derive(Drop)]
+#[derive(Clone, Copy)]
 pub struct Stand {
     pub frames: usize,
     pub at: usize,

@@ -14,13 +14,13 @@ use rules::{Ending, Refusal};
 const ROOM: u32 = 4;
 
 // TOTAL (22), or a refusal of document 01.
-#[derive(Drop)]
+#[derive(Clone, Copy)]
 pub enum MendRefusal {
     Frame(Refusal),
     Total,
 }
 
-#[derive(Drop)]
+#[derive(Clone, Copy)]
 pub enum MendEnding {
     Done,
     Refused(MendRefusal),

@@ -13,7 +13,7 @@ use read_bits::Outcome;
 use rules::{Ending, Refusal};
 
 // The tool and the samples of a frame; of a refused one no samples, and the tool that TOOL gives.
-#[derive(Drop)]
+#[derive(Clone, Copy)]
 pub struct Told {
     pub end: Ending,
     pub tool: u32,

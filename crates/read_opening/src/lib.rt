@@ -14,7 +14,7 @@ use read_bits::Outcome;
 use rules::{Ending, Refusal};
 
 // What a frame's first bits say: its tool and length, tool 6's mark or tool 11's row, and the place where its body begins.
-#[derive(Drop)]
+#[derive(Clone, Copy)]
 pub struct Head {
     pub tool: u32,
     pub len: usize,

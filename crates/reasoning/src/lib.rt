@@ -60,7 +60,7 @@ fn states_of(samples: &[u8], n: usize, mask: u8, set: u32) -> States
 }
 
 // A tool that fits, and its octets.
-#[derive(Drop)]
+#[derive(Clone, Copy)]
 struct Best {
     tool: u32,
     octets: u32,

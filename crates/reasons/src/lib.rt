@@ -10,7 +10,7 @@ ghost use Rattle.reasons.specs.Calls.{Prints};
 use rules::Refusal;
 
 // "not in the set, doesn't apply with the first failing condition of document 01, or its octets".
-#[derive(Drop)]
+#[derive(Clone, Copy)]
 pub enum State {
     Out,
     No(u32),
@@ -18,7 +18,7 @@ pub enum State {
 }
 
 // "list tools 1 to 7 in order", and 11 after them (R-14): the state of each.
-#[derive(Drop)]
+#[derive(Clone, Copy)]
 pub struct States {
     pub uncompressed: State,
     pub plus: State,
@@ -31,7 +31,7 @@ pub struct States {
 }
 
 // "Then name the winner .., and whether it won by octets or by the tie order."
-#[derive(Drop)]
+#[derive(Clone, Copy)]
 pub struct Reasons {
     pub states: States,
     pub winner: u32,
@@ -39,7 +39,7 @@ pub struct Reasons {
 }
 
 // The reasons, or the writer's refusal.
-#[derive(Drop)]
+#[derive(Clone, Copy)]
 pub enum Why {
     Told(Reasons),
     Refused(Refusal),

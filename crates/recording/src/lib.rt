@@ -8,7 +8,7 @@ ghost use Rattle.recording.specs.Calls.{refusal_number, refusal_tool, number_of,
 pub mod marking;
 
 // HEAD (14), or a refusal of document 01.
-#[derive(Drop)]
+#[derive(Clone, Copy)]
 pub enum Refusal {
     Head,
     Frame(rules::Refusal),
@@ -34,7 +34,7 @@ fn refusal_tool(why: Refusal) -> u32
 }
 
 // How a call ended.
-#[derive(Drop)]
+#[derive(Clone, Copy)]
 pub enum Ending {
     Done,
     Refused(Refusal),

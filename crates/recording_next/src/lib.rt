@@ -25,7 +25,7 @@ pub struct FileHead {
 }
 
 // One item: its kind (0 a frame, 1 a loss), samples, octets and tool, a refusal's bit, and the next place.
-#[derive(Drop)]
+#[derive(Clone, Copy)]
 pub struct Told {
     pub end: Ending,
     pub kind: usize,

@@ -12,7 +12,7 @@ use crate::given::{length_in, samples_in};
 use recording::marking::{LOSS_FROM, LOST};
 
 // The law and the set that forms are written by.
-#[derive(Drop)]
+#[derive(Clone, Copy)]
 pub struct By {
     pub law: u32,
     pub set: u32,

@@ -9,14 +9,14 @@ ghost use Rattle.rules.specs.Tools.{is_length, reader_asks, writer_asks};
 ghost use Rattle.rules.specs.Walk.{walk_asks};
 
 // "One frame with its samples and its length travel together". A reader leaves 00 past the length; a writer does not look there.
-#[derive(Drop)]
+#[derive(Clone, Copy)]
 pub struct Frame {
     pub samples: [u8; 320],
     pub len: usize,
 }
 
 // "Numbered refusals", in the order of their numbers; TOOL gives its tool.
-#[derive(Drop)]
+#[derive(Clone, Copy)]
 pub enum Refusal {
     Short,
     Prefix,
@@ -76,7 +76,7 @@ pub fn refusal_tool(why: Refusal) -> u32
 }
 
 // How a call ended.
-#[derive(Drop)]
+#[derive(Clone, Copy)]
 pub enum Ending {
     Done,
     Refused(Refusal),

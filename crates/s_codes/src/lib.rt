@@ -8,7 +8,7 @@ ghost use Rattle.s_codes.specs.Codes.{TableIs, CodesAre, CodeIs, FoundIs};
 
 // The codes for a frame's length: for each S the bits of its code, and these as a number. The first entry, 00, is no code of an S.
 // And for each number of six bits the S whose code it begins with, a hexadecimal digit each, the lowest first.
-#[derive(Drop)]
+#[derive(Clone, Copy)]
 pub struct Table {
     pub bits: [u8; 10],
     pub values: [u8; 10],

@@ -20,7 +20,7 @@ pub const MOST_BLOCK: u32 = 1048576;
 
 pub const MOST_GREETING: u32 = 65535;
 
-#[derive(Drop)]
+#[derive(Clone, Copy)]
 pub struct Settings {
     pub law: u32,
     pub set: u32,
@@ -43,14 +43,14 @@ pub struct Revision {
 }
 
 // The values under a number, or that none are kept under it.
-#[derive(Drop)]
+#[derive(Clone, Copy)]
 pub enum Kept {
     Under(Settings),
     Nowhere,
 }
 
 // LINE (23), GONE (24), SPENT (25).
-#[derive(Drop)]
+#[derive(Clone, Copy)]
 pub enum Refusal {
     Line,
     Gone,
@@ -58,7 +58,7 @@ pub enum Refusal {
 }
 
 // The new revision's number, or the octets of a text; or the refusal.
-#[derive(Drop)]
+#[derive(Clone, Copy)]
 pub enum Answer {
     Done(u32),
     Refused(Refusal),

@@ -18,7 +18,7 @@ use store_notes::Head;
 use store_rows::rows::{Gap, Row};
 
 // "Refusals, in order"; TABLE (26) comes first, and ROOM (4) is saving's.
-#[derive(Drop)]
+#[derive(Clone, Copy)]
 pub enum Refusal {
     Room,
     Law,
@@ -32,7 +32,7 @@ pub enum Refusal {
 }
 
 // The start and the octets moved, or the start and the octets; or the refusal.
-#[derive(Drop)]
+#[derive(Clone, Copy)]
 pub enum Answer {
     Done(usize, usize),
     Refused(Refusal),

@@ -16,7 +16,7 @@ use crate::seeking::Sought;
 use store_notes::Head;
 
 // "Refusals, in order: NUMBER, ABSENT, BEYOND"; TABLE comes first, and BAD where the marks are false.
-#[derive(Drop)]
+#[derive(Clone, Copy)]
 pub enum Refusal {
     Number,
     Absent,
@@ -26,14 +26,14 @@ pub enum Refusal {
 }
 
 // The frame, its octet place, the sample's place in it, and the frames read.
-#[derive(Drop)]
+#[derive(Clone, Copy)]
 pub enum Answer {
     Done(usize, usize, usize, usize),
     Refused(Refusal),
 }
 
 // What an accepted call tells; a refused one tells zeros.
-#[derive(Drop)]
+#[derive(Clone, Copy)]
 pub struct Told {
     pub frame: usize,
     pub place: usize,

@@ -23,7 +23,7 @@ pub enum Due {
 }
 
 // A move: the greeting's number, where its octets lie, where they go, and how many they are.
-#[derive(Drop)]
+#[derive(Clone, Copy)]
 pub struct Hop {
     pub number: usize,
     pub from: usize,
@@ -31,7 +31,7 @@ pub struct Hop {
     pub octets: usize,
 }
 
-#[derive(Drop)]
+#[derive(Clone, Copy)]
 pub enum Told {
     Asked(Hop),
     Refused(Refusal),

@@ -9,7 +9,7 @@ ghost use Rattle.store_moves.specs.Record.{move_of, sensible, told_by, words_of,
 pub const MOVE: u32 = 27;
 
 // Octets go from `from` to `to`; so many are done.
-#[derive(Drop)]
+#[derive(Clone, Copy)]
 pub struct Move {
     pub from: usize,
     pub to: usize,

@@ -19,7 +19,7 @@ pub const SECOND_LIST: usize = store_rows::rows::LIST_CELLS;
 pub const FIRST_MARK: usize = SECOND_LIST + store_rows::rows::LIST_CELLS;
 
 // What a greeting carries: its law and samples, and how many marks it has.
-#[derive(Drop)]
+#[derive(Clone, Copy)]
 pub struct Head {
     pub law: u32,
     pub samples: usize,

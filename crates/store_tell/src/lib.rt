@@ -13,7 +13,7 @@ ghost use Rattle.store_tell.specs.Calls.{told_number_of, summed_number_of, entry
 use store::{Answer, Refusal};
 
 // A greeting: its number, where it starts, its octets; its law, its samples, and how many marks it has.
-#[derive(Drop)]
+#[derive(Clone, Copy)]
 pub struct Entry {
     pub number: usize,
     pub start: usize,
@@ -24,7 +24,7 @@ pub struct Entry {
 }
 
 // All greetings: how many, the octets held, the octets free, and the largest gap.
-#[derive(Drop)]
+#[derive(Clone, Copy)]
 pub struct Sums {
     pub greetings: usize,
     pub held: usize,
@@ -32,13 +32,13 @@ pub struct Sums {
     pub gap: usize,
 }
 
-#[derive(Drop)]
+#[derive(Clone, Copy)]
 pub enum Told {
     Is(Entry),
     Refused(Refusal),
 }
 
-#[derive(Drop)]
+#[derive(Clone, Copy)]
 pub enum Summed {
     Are(Sums),
     Refused(Refusal),

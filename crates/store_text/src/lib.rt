@@ -19,7 +19,7 @@ ghost use Rattle.store_text.specs.Held.{mark_at, note_at, held_in, held_of, Note
 use text_keyvalue::Told;
 
 // A greeting's number, start and octets, and the next place; or the lines are not of this form.
-#[derive(Drop)]
+#[derive(Clone, Copy)]
 pub enum Line {
     Here(u32, u32, u32, usize),
     Nothing,
@@ -33,7 +33,7 @@ pub enum Count {
 }
 
 // A greeting's number, start, octets and law, and the next place; or the lines are not of this form.
-#[derive(Drop)]
+#[derive(Clone, Copy)]
 pub enum Head {
     Begun(u32, u32, u32, u32, usize),
     Missing,
@@ -57,7 +57,7 @@ pub enum Next {
 pub const MOST_PLACE: u32 = 65535;
 
 // Where a text's greetings begin, and the greatest start or count of octets that its lines may say.
-#[derive(Drop)]
+#[derive(Clone, Copy)]
 pub struct Form {
     pub from: usize,
     pub most: u32,

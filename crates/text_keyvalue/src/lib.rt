@@ -8,7 +8,7 @@ ghost use Rattle.text_keyvalue.specs.Lines.{line_of, line, ranged};
 ghost use Rattle.text_lines.specs.Puts.{Puts};
 
 // A number and the next place; or the text is not of this form.
-#[derive(Drop)]
+#[derive(Clone, Copy)]
 pub enum Told {
     Got(u32, usize),
     Not,

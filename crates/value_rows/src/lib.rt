@@ -31,7 +31,7 @@ pub fn row_count(n: usize) -> usize
 }
 
 // A row: R', how far its least is below 0, and how many of its values are below 0.
-#[derive(Drop)]
+#[derive(Clone, Copy, Drop)]
 pub struct Row {
     pub radix: usize,
     pub low: usize,

@@ -2,7 +2,6 @@
 // Up to 31 bits are held in a word; where 32 are there, they are stored as four octets at once.
 #![tactic(auto)]
 
-
 ghost use Rattle.std.specs.Prelude.{◌≡◌, ℕ, ◌+◌, ◌*◌, ◌-◌, ◌^◌, ◌%◌, ◌≤◌, ◌<◌, length, get_or, take, replicate};
 ghost use Rattle.rules.specs.Bits.{low_bits};
 ghost use Rattle.rules.specs.Runs.{rice_form, rice_forms};

@@ -5,7 +5,7 @@ use write_offers::Choice;
 use write_zeros::Zeros;
 
 // A form that needs no runs: whole octets by tools 1 to 4, or fractional-bit with the frame's row.
-#[derive(Drop)]
+#[derive(Clone, Copy, Drop)]
 pub struct Plain {
     pub choice: Choice,
     pub row: usize,
@@ -13,7 +13,7 @@ pub struct Plain {
 
 // What is written of a frame of the two zeros: whole octets; or binary, which has its bits and needs the row of flags; or Rice, which
 // needs the runs.
-#[derive(Drop)]
+#[derive(Clone, Copy, Drop)]
 pub enum ZerosPlan {
     Whole(Choice),
     Binary(usize),
@@ -22,7 +22,7 @@ pub enum ZerosPlan {
 
 // What is written of a frame from -2 to 1 that has a 1 or a -2: the last of the tie order, or value-location, which needs the runs of its
 // values.
-#[derive(Drop)]
+#[derive(Clone, Copy, Drop)]
 pub enum NearPlan {
     Last(Plain),
     Values(Located),

@@ -71,7 +71,7 @@ fn plain_tool(samples: &[u8], n: usize, l: Spread, mask: u8, set: u32) -> u32
 
 // The tool and the bits of its form; or tool 0 where the frame is left, and then whether it is of the two zeros, or of samples from
 // -2 to 1.
-#[derive(Drop)]
+#[derive(Clone, Copy, Drop)]
 pub struct Settled {
     pub tool: u32,
     pub bits: usize,

@@ -1,7 +1,6 @@
 // The forms of the tools, put out as planned: nothing is decided here.
 #![tactic(auto)]
 
-
 ghost use Rattle.std.specs.Prelude.{◌≡◌, true, cond, map, ℕ, ◌+◌, ◌*◌, ◌^◌, ◌≤◌, ◌<◌, length, get_or, take, eqb};
 ghost use Rattle.rules.specs.Bits.{bits_of};
 ghost use Rattle.rules.specs.Fractional.{radix, place_in, samples_at};

@@ -1,7 +1,6 @@
 // Value-location: whether it applies to a frame, and what it would write: the row, the flag, and the values with their ways.
 #![tactic(auto)]
 
-
 ghost use Rattle.std.specs.Prelude.{◌≡◌, true, false, cond, ◌&&◌, ◌+◌, ◌*◌, ◌/◌, ◌%◌, ◌≤◌, ◌<◌, length, take, eqb, leb, ltb};
 ghost use Rattle.rules.specs.Tools as tools;
 ghost use Rattle.rules.specs.Chooses.{least_of, greatest_of, applies};
@@ -15,7 +14,7 @@ use write_runs::{Sought, found_in};
 use write_scan::count_of;
 
 // How a value is written: its method, all its bits with the method's three, its D places, how often it occurs, and how many runs it has.
-#[derive(Drop)]
+#[derive(Clone, Copy, Drop)]
 pub struct Way {
     pub method: u8,
     pub bits: usize,
@@ -81,7 +80,7 @@ fn way_if(has: bool, runs: &[u16; 321], found: usize, d: usize, count: usize) ->
 }
 
 // How many samples are 0, 1, -1 and -2.
-#[derive(Drop)]
+#[derive(Clone, Copy, Drop)]
 pub struct Tally {
     pub plus: usize,
     pub one: usize,
@@ -198,14 +197,14 @@ fn flag_of(above: usize, below: usize) -> usize
 }
 
 // A value as a sample, and how often it occurs.
-#[derive(Drop)]
+#[derive(Clone, Copy, Drop)]
 pub struct Value {
     pub sample: u8,
     pub times: usize,
 }
 
 // Values in their order: the first `count`. One that the row lacks is the first once more, and does not occur.
-#[derive(Drop)]
+#[derive(Clone, Copy, Drop)]
 pub struct Values {
     pub first: Value,
     pub second: Value,
@@ -302,7 +301,7 @@ fn values_of(mask: u8, t: Tally, row: usize, flag: usize) -> Values
 }
 
 // A way for each value.
-#[derive(Drop)]
+#[derive(Clone, Copy, Drop)]
 pub struct Ways {
     pub first: Way,
     pub second: Way,
@@ -348,7 +347,7 @@ fn ways_of(
 }
 
 // What value-location writes: its bits, the row, the flag, how many values the row has for the flag, and a way for each.
-#[derive(Drop)]
+#[derive(Clone, Copy, Drop)]
 pub struct Located {
     pub bits: usize,
     pub row: usize,
@@ -371,7 +370,7 @@ fn located_bits(w: Ways) -> usize
 }
 
 // A frame's tally, and the row that it has by it.
-#[derive(Drop)]
+#[derive(Clone, Copy, Drop)]
 pub struct Counted {
     pub tally: Tally,
     pub row: usize,

@@ -2,7 +2,6 @@
 // which of two offers is taken.
 #![tactic(auto)]
 
-
 ghost use Rattle.std.specs.Prelude.{◌≡◌, true, ◌+◌, ◌≤◌, ◌<◌, length, take, eqb, ltb};
 ghost use Rattle.rules.specs.Tools.{is_tool};
 ghost use Rattle.rules.specs.Fractional.{row_count, body_bits};
@@ -19,7 +18,7 @@ use write_scan::{count_of, others, spread_of};
 use write_zeros::rice_of;
 
 // A tool, and the bits of its form.
-#[derive(Drop)]
+#[derive(Clone, Copy, Drop)]
 pub struct Choice {
     pub tool: u32,
     pub bits: usize,
@@ -76,7 +75,7 @@ pub fn better(best: Choice, tool: u32, offered: bool, bits: usize) -> Choice
 }
 
 // A tool's offer: the first of its conditions that fails, or 0 where it applies, and then the bits of its form.
-#[derive(Drop)]
+#[derive(Clone, Copy, Drop)]
 pub struct Offer {
     pub why: u32,
     pub bits: usize,
@@ -108,7 +107,7 @@ fn one_value_offer(samples: &[u8], n: usize, x: u8, bits: usize) -> Offer
 }
 
 // How many samples are plus zero, and how many are minus zero.
-#[derive(Drop)]
+#[derive(Clone, Copy, Drop)]
 struct TwoCounts {
     plus: usize,
     minus: usize,
@@ -152,7 +151,7 @@ fn rice_offer(samples: &[u8], n: usize, mask: u8) -> Offer
 }
 
 // What value-location offers for samples from -2 to 1: the condition that fails, or what it would write.
-#[derive(Drop)]
+#[derive(Clone, Copy, Drop)]
 pub enum NearOffer {
     Fails(u32),
     Fits(Located),

@@ -1,7 +1,6 @@
 // Runs found: those of a row of flags, and those of up to three values, each among the places that the ones before it left.
 #![tactic(auto)]
 
-
 ghost use Rattle.std.specs.Prelude.{◌≡◌, cond, ℕ, ◌+◌, ◌*◌, ◌^◌, ◌≤◌, ◌<◌, length, get_or, take, eqb};
 ghost use Rattle.write_scan.specs.Rows.{row_bits};
 ghost use Rattle.write_runs.specs.Runs.{RunsAre, FoundIs};
@@ -26,7 +25,7 @@ fn count_after(x: u16, count: usize) -> usize
 }
 
 // The runs of a value found so far, and the place after the last of them: what is open begins there, and a stretch of zeros costs nothing.
-#[derive(Drop)]
+#[derive(Clone, Copy, Drop)]
 struct Track {
     count: usize,
     start: usize,
@@ -102,7 +101,7 @@ pub fn runs_in(row: &[u64; 8], k: usize, runs: &mut [u16; 321]) -> usize
 }
 
 // Three values to be found, and the common one, whose places are passed over.
-#[derive(Drop)]
+#[derive(Clone, Copy, Drop)]
 pub struct Sought {
     pub plus: u8,
     pub first: u8,
@@ -111,7 +110,7 @@ pub struct Sought {
 }
 
 // The tracks of three values.
-#[derive(Drop)]
+#[derive(Clone, Copy, Drop)]
 struct Tracks {
     first: Track,
     second: Track,

@@ -1,7 +1,6 @@
 // A frame of the two zeros: what Rice would write of it.
 #![tactic(auto)]
 
-
 ghost use Rattle.std.specs.Prelude.{◌≡◌, cond, List, ℕ, ◌+◌, ◌^◌, ◌/◌, ◌≤◌, ◌<◌, length, get_or, take, ltb};
 ghost use Rattle.rules.specs.Tools as tools;
 ghost use Rattle.rules.specs.Bits.{low_bits};
