@@ -612,6 +612,9 @@ def convert(crate, fn_dir, rel, entry, notes):
     ans = [re.sub(r"not-(?:true|false) _ (c\.if-not-[\w.-]+\.(?:true|false))", r"\1", d) for d in ans]
     # port.py gave a lemma that is named as a function another name; a step keeps the function's
     ans = [re.sub(r"(?<=[\w)])\.(" + IDENT + r")_lem(?![\w'-])", r".\1", d) for d in ans]
+    # what a type says of a value needs no word, and a test of a `&&` is its fact
+    ans = [re.sub(r",\s*c\.good(?=\s*[,)])", "", d) for d in ans]
+    ans = [re.sub(r"\(?(?<![\w'-])(?:ltb|leb|eqb)-true _ _ (c\.if-[\w-]+\.true)(\))?", lambda m: m.group(1) if m.group(0).startswith("(") == bool(m.group(2)) else m.group(0), d) for d in ans]
     ans = [re.sub(r"\.type-inv(?![\w'-])", ".type_inv", d) for d in ans]
     ans = [d.replace("\x03", "") for d in ans]
     ans = [re.sub(r"not-(?:true|false) _ (c\.if-not-[\w-]+\.(?:true|false))", r"\1", d) for d in ans]

@@ -11,7 +11,7 @@ use Rattle.store_rows.specs.Limits.{size_of}
 use Rattle.store_moves.specs.declared.steps.Move.{Move}
 use Rattle.store_moves.specs.declared.steps.State.{State}
 use Rattle.store_moves.specs.declared.steps.State.TheVariants.{Moving, Lifted}
-use Rattle.store_moves.specs.Moves.{Lasts, lasts, distance, source, place, direct, hop, lift, stepped, finish, ahead, Torn, Cut}
+use Rattle.store_moves.specs.Moves.{Lasts, lasts, distance, source, place, direct, hop, lift, stepped, finish, ahead, Torn, Cut, sane-still}
 use Rattle.store_moves.specs.Moves.{cut-direct, cut-lift, cut-lay, Tells, Sane, sane-moving, sane-lifted, goal, Reached, here}
 use Rattle.store_moves.specs.Moves.{one-step, one-cut}
 use Rattle.store_moves.proofs.Torn.{direct-again, lift-again, lay-again}
@@ -22,6 +22,7 @@ pub again : {b s : List ℕ} {st : State} {b' s' : List ℕ} → Sane b s st →
 again {s = s} (sane-moving {m} t) (cut-direct h torn) = direct-again s m t.down h torn
 again {b = b} (sane-moving {m} t) (cut-lift h torn) = lift-again b m h torn
 again {s = s} (sane-lifted {m} t d) (cut-lay torn) = lay-again s m torn
+again {b = b} {s = s} sane-still x3 = elim x3 [ ]
 
 tells-torn : {b b' : List ℕ} {m : Move} → Tells b m → length b' ≡ length b → Tells b' m
 tells-torn t e = record { down = t.down; inside = omega (arith, t.inside); some = t.some }
@@ -30,6 +31,7 @@ pub sane-cut : {b s : List ℕ} {st : State} {b' s' : List ℕ} → Sane b s st 
 sane-cut (sane-moving t) (cut-direct h torn) = sane-moving (tells-torn t torn.size)
 sane-cut (sane-moving t) (cut-lift h torn) = sane-moving t
 sane-cut (sane-lifted t d) (cut-lay torn) = sane-lifted (tells-torn t torn.size) d
+sane-cut {b = b} {s = s} sane-still x3 = elim x3 [ ]
 
 pub goal-cut : {b s : List ℕ} {st : State} {b' s' : List ℕ} → Sane b s st → Cut b s st b' s' → goal b' s' st ≡ goal b s st
 goal-cut {b} {s} {st} {b'} {s'} h c =

@@ -109,7 +109,7 @@ cells-rows t (suc n) k h =
 -- rows laid are the rows read
 rows-from : (p : List ℕ) (rows : List Row) (rest : List ℕ) (k : ℕ) → length p ≡ k
     → rows_at (p ++ (cells_of rows ++ rest)) (length rows) k ≡ rows
-unfolding rows_at
+unfolding rows_at cells_of
 rows-from p [] rest k e = refl
 rows-from p (r ∷ rows) rest k e =
     let more = cells_of rows ++ rest in
