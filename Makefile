@@ -1,4 +1,4 @@
-# What there is to run. All that is made stands in target/.
+# What there is to run. All that is made stands in target/, and what rt keeps in crates/*/out/.
 
 # The programs and the archive are for x86-64. On another machine an emulator runs them.
 CARGO ?= tools/cross cargo
@@ -7,8 +7,7 @@ MACHINE := $(shell uname -m)
 RUN_WITH ?= $(if $(filter x86_64,$(MACHINE)),,tools/x86-64)
 BIN ?= target/bin
 export CARGO_TARGET_DIR := $(CURDIR)/target/cargo
-# Proofs that rt begins at once; .ci/run says why it is more than two processors.
-export RT_JOBS ?= 4
+export RT
 
 .PHONY: help run programs test whole faults archive vectors linked fuzz bench fmt clean
 
@@ -22,7 +21,7 @@ help:
 	@echo 'make vectors compares the published test signals in FOLDER= with both, file by file'
 	@echo 'make archive target/staticlib/libg7110.a, for C and Rust to link'
 	@echo 'make fmt     lays out every file of Rattle'
-	@echo 'make clean   removes target/'
+	@echo 'make clean   removes target/ and what rt keeps in the crates'
 
 # A recording packed, listed, unpacked and compared. Then M 41 00 56 0F 86, the example of document 01, is listed.
 run: programs
@@ -36,7 +35,7 @@ run: programs
 programs:
 	@mkdir -p target
 	@echo 'Proving and building pack, listing, unpack, mend and why; the first time takes some minutes.'
-	@$(RT) check listing mend pack unpack why >target/run-build.log 2>&1 || { tail -n 20 target/run-build.log; exit 1; }
+	@tools/build programs >target/run-build.log 2>&1 || { tail -n 20 target/run-build.log; exit 1; }
 
 test:
 	@bash .ci/run
@@ -49,9 +48,9 @@ whole: programs linked
 faults:
 	@RT='$(RT)' tools/faults $(CRATES)
 
-# rt builds nothing that is built already.
+# Nothing is built that is built already.
 archive:
-	@$(RT) staticlib g7110
+	@tools/build archive
 
 # Compiled for x86-64 on any machine, and so on the shipped archive.
 vectors: archive
@@ -74,7 +73,7 @@ bench: linked
 	@$(OWN) cargo run --profile bench --offline --locked --quiet --package bench -- $(PARTS)
 
 fmt:
-	$(RT) fmt
+	@for crate in crates/*/; do (cd $$crate && $(RT) fmt) || exit 1; done
 
 clean:
-	rm -rf target
+	rm -rf target crates/*/out

@@ -605,7 +605,7 @@ def convert(crate, fn_dir, rel, entry, notes):
             fh.write("\n".join(uses + [f"use {base}.Given as goal"]) + "\n" + decl_text + inv_text)
         if pub_names:
             uses = uses + [f"use {base}.Invariants.{{{', '.join(pub_names)}}}"]
-    ans = [re.sub(r"(?<![\w'-])not-(?:true|false) (?:_|[\w.-]+) (c\.if-not-[\w-]+\.(?:true|false))", r"\1", d) for d in ans]
+    ans = [re.sub(r"(?<![\w'-])not-(?:true|false) (?:_|[\w.-]+)\s+(c\.if-not-[\w-]+\.(?:true|false))", r"\1", d) for d in ans]
     ans = [re.sub(r"\.kept(?=\.[01])", ".auto", d) for d in ans]
     ans = [re.sub(r"\.inv(?![\w'-])", ".invariant", re.sub(r"\.taken(?![\w'-])", ".true", d)) for d in ans]
     # an `if !x` says `x ≡ false` itself now
@@ -615,6 +615,7 @@ def convert(crate, fn_dir, rel, entry, notes):
     # what a type says of a value needs no word, and a test of a `&&` is its fact
     ans = [re.sub(r",\s*c\.good(?=\s*[,)])", "", d) for d in ans]
     ans = [re.sub(r"\(?(?<![\w'-])(?:ltb|leb|eqb)-true _ _ (c\.if-[\w-]+\.true)(\))?", lambda m: m.group(1) if m.group(0).startswith("(") == bool(m.group(2)) else m.group(0), d) for d in ans]
+    ans = [re.sub(r"\.well-formed(?![\w'-])", ".well_formed", d) for d in ans]
     ans = [re.sub(r"\.type-inv(?![\w'-])", ".type_inv", d) for d in ans]
     ans = [d.replace("\x03", "") for d in ans]
     ans = [re.sub(r"not-(?:true|false) _ (c\.if-not-[\w-]+\.(?:true|false))", r"\1", d) for d in ans]

@@ -9,7 +9,7 @@ fn main() {
     println!("cargo:rerun-if-changed={}", archive.display());
     if !archive.is_file() {
         eprintln!(
-            "{} is missing. 'rt staticlib g7110' makes it; G7110_ARCHIVE may name it elsewhere.",
+            "{} is missing. 'make archive' makes it; G7110_ARCHIVE may name it elsewhere.",
             archive.display()
         );
         std::process::exit(1);

@@ -30,13 +30,17 @@ use std::path::Path;
 pub struct Files(BTreeMap<String, String>);
 
 impl Files {
-    /// The repository's, and the logs that `rt must-fail` has left.
+    /// The repository's, and what rt has said of the edits.
     pub fn read(root: &Path) -> Files {
         let mut files = Files(BTreeMap::new());
-        files.add(root, root, &|path| !path.starts_with("target") && !path.starts_with(".git"));
-        for tried in LOGS {
-            let label = Path::new(tried).components().count() + 2;
-            files.add(root, &root.join(tried), &|path| path.components().count() <= label || path.ends_with(".log"));
+        files.add(root, root, &|path| {
+            let kept = path.starts_with("crates") && path.iter().nth(2).is_some_and(|part| part == "out");
+            !path.starts_with("target") && !path.starts_with(".git") && !kept
+        });
+        for said in LOGS {
+            if let Ok(text) = fs::read_to_string(root.join(said)) {
+                files.put(said, text);
+            }
         }
         files
     }
@@ -82,7 +86,10 @@ impl Files {
     /// The crates of crates.txt, each with those that it stands on.
     fn crates(&self) -> BTreeMap<&str, Vec<&str>> {
         let lines = self.text("crates.txt").lines().filter_map(|line| line.split_once(':'));
-        lines.map(|(name, below)| (name, below.split_whitespace().collect())).collect()
+        // A static library has that word after its name.
+        lines
+            .filter_map(|(name, below)| Some((name.split_whitespace().next()?, below.split_whitespace().collect())))
+            .collect()
     }
 }
 
@@ -146,5 +153,5 @@ fn cells(line: &str) -> Vec<&str> {
 
 /// Whether it is a name: of a crate, a function, a definition.
 fn is_name(text: &str) -> bool {
-    text.starts_with(char::is_alphabetic) && text.chars().all(|c| c.is_alphanumeric() || "_-′".contains(c))
+    text.starts_with(char::is_alphabetic) && text.chars().all(|c| c.is_alphanumeric() || "_-'".contains(c))
 }

@@ -11,7 +11,7 @@ pub fn repository() -> PathBuf {
     Path::new(env!("CARGO_MANIFEST_DIR")).join("..").canonicalize().expect("the repository is there")
 }
 
-/// A program that rt built, in target/bin or the folder that BIN names.
+/// A program that rt built, copied to target/bin or the folder that BIN names.
 pub fn built(name: &str) -> PathBuf {
     let folder = std::env::var_os("BIN").unwrap_or("target/bin".into());
     repository().join(folder).join(name)
@@ -48,7 +48,7 @@ pub fn run(mut command: Command, input: &[u8]) -> Output {
         .stdout(Stdio::piped())
         .stderr(Stdio::piped())
         .spawn()
-        .unwrap_or_else(|fault| panic!("{:?}: {fault}; 'rt check' makes the programs", command.get_program()));
+        .unwrap_or_else(|fault| panic!("{:?}: {fault}; 'make programs' makes the programs", command.get_program()));
     let mut stdin = child.stdin.take().expect("it was asked for");
     let given = input.to_vec();
     let feeder = std::thread::spawn(move || drop(stdin.write_all(&given)));

@@ -6,7 +6,7 @@ use tests::docs::{all, shapes_listed, Files, Held, LOGS, MOST};
 use tests::program::repository;
 use tests::say;
 
-/// The gate sets this: it has tried every edit of must-fail, so the log of each must be there.
+/// The gate sets this: it has tried every edit of must-fail, so what rt says of each must be there.
 const TRIED: &str = "EDITS_TRIED";
 
 #[test]
@@ -17,7 +17,7 @@ fn the_docs_are_true() {
         say(&format!("compared: docs, {what}: {count} held\n"));
         for (missing, by) in [(left_out, "rt must-fail"), (not_tried, "make faults")] {
             if *missing > 0 {
-                say(&format!("compared: docs, {what}: {missing} left out: {by} has left no log of them\n"));
+                say(&format!("compared: docs, {what}: {missing} left out: {by} has said nothing of them\n"));
             }
         }
     }
@@ -29,7 +29,7 @@ fn the_docs_are_true() {
         // The landings come with the first request.
         let none_yet = what == "landings" && !files.has("docs/LANDINGS.md");
         assert!(count + left_out + not_tried > 0 || none_yet, "{what}: nothing was held");
-        assert!(left_out == 0 || std::env::var_os(TRIED).is_none(), "{what}: {left_out} logs are missing");
+        assert!(left_out == 0 || std::env::var_os(TRIED).is_none(), "{what}: {left_out} were not tried");
     }
 }
 
@@ -79,16 +79,21 @@ const PLANTED: [(&str, &str, &str, &str); 86] = [
     ("heads", "crates/g7110/must-fail/too_short.edit", "`g7110_read`, ", ""),
     ("heads", "crates/g7110/must-fail/too_short.edit", "`returns-2`", "`returns-2`: 0 against 1"),
     ("heads", "crates/rules/edits/too_wide.edit", "", "One column more.\nfails: Back, `back`\n"),
-    // The facts: of another law, another file, another need, another function, of the spec, of a note; for the shape
-    // alone; by the other log.
+    // The facts: of another law, another file, another goal, another function, of its invariants, of a note; for the shape
+    // alone; by what the other of the two files says.
     ("facts", "crates/rules/must-fail/too_long.edit", "Back, `back`", "Back, `other`"),
     ("facts", "crates/rules/must-fail/too_long.edit", "Back, `back`", "Other, `back`"),
     ("facts", "crates/g7110/must-fail/too_short.edit", "`returns-2`", "`returns`"),
     ("facts", "crates/g7110/must-fail/too_short.edit", "`g7110_read`", "`g7110_walk`"),
-    ("facts", "crates/g7110/faults/too_narrow.edit", "`g7110_read-spec`", "`returns`"),
+    ("facts", "crates/g7110/faults/too_narrow.edit", "`invariant-loop`", "`returns`"),
     ("facts", "crates/g7110/faults/too_flat.edit", "`returns-3`", "`returns-4`"),
-    ("facts", "target/must-fail/rules/too_long/.log", "the two types differ", "tie has no `Need-returns`"),
-    ("facts", "target/faults/target/must-fail/g7110/too_short/.log", "g7110_read", "g7110_walk"),
+    (
+        "facts",
+        "target/must-fail.txt",
+        "must be: ./proofs/Back",
+        "must be (only because a proof file names what the edit took away): ./proofs/Back",
+    ),
+    ("facts", "target/faults.txt", "g7110_read", "g7110_walk"),
     // Rooms: a crate that is not listed, one that is not there, one above what it stands on, another room.
     ("rooms", "README.md", "crates/rules, crates/promises", "crates/rules"),
     ("rooms", "README.md", "crates/g7110", "crates/g7110, crates/read_bits"),
@@ -128,19 +133,19 @@ const PLANTED: [(&str, &str, &str, &str); 86] = [
     // Proofs: an alias, a name and an operator that nothing reads, a let, a position, a long way without a name.
     (
         "proofs",
-        "crates/promises/proofs/read/Proof.antt",
+        "crates/promises/proofs/read/Answers.antt",
         "Tie as tie",
-        "Tie as tie\nuse Rattle·rules.proofs.read.Reads as reads",
+        "Tie as tie\nuse Rattle.rules.proofs.Reads as reads",
     ),
-    ("proofs", "crates/promises/proofs/read/Proof.antt", "{ℕ, ", "{ℕ, suc, "),
-    ("proofs", "crates/promises/proofs/read/Proof.antt", "1 + 1", "1"),
-    ("proofs", "crates/promises/proofs/read/Proof.antt", "s .known n", "s .known 2"),
-    ("proofs", "crates/promises/proofs/read/Proof.antt", "returns : ", "-- src/lib.rt:47:5\nreturns : "),
+    ("proofs", "crates/promises/proofs/read/Answers.antt", "{ℕ, ", "{ℕ, suc, "),
+    ("proofs", "crates/promises/proofs/read/Answers.antt", "1 + 1", "1"),
+    ("proofs", "crates/promises/proofs/read/Answers.antt", "s.known n", "s.known 2"),
+    ("proofs", "crates/promises/proofs/read/Answers.antt", "returns : ", "-- src/lib.rt:47:5\nreturns : "),
     (
         "proofs",
-        "crates/promises/proofs/read/Proof.antt",
+        "crates/promises/proofs/read/Answers.antt",
         "start c in",
-        "c .before .before .before .before .before .before in",
+        "c.before.before.before.before.before.before in",
     ),
     // Shapes: a crate of no family; a line, parameters, a clause and a body that are too large, a body without its end; one
     // that is listed and has grown, is smaller now, or is gone, is listed with another size or twice; a line of the list
@@ -148,7 +153,7 @@ const PLANTED: [(&str, &str, &str, &str); 86] = [
     ("shapes", "crates.txt", "promises: rules", "promises: rules\nframe_rules: rules"),
     ("shapes", "crates/rules/src/lib.rt", "pub fn read", LONG_LINE),
     ("shapes", "crates/rules/src/lib.rt", "read()", "read(a: u8, b: u8, c: u8, d: u8, e: u8, f: u8, g: u8, h: u8)"),
-    ("shapes", "crates/rules/src/frames.rt", "r ≡ a", LONG_CLAUSE),
+    ("shapes", "crates/rules/src/frames.rt", "result ≡ a", LONG_CLAUSE),
     ("shapes", "crates/rules/src/frames.rt", "    a\n", LONG_BODY),
     ("shapes", "crates/rules/src/frames.rt", "    a\n}", "    a }"),
     ("shapes", "crates/rules/src/frames.rt", "h: u8)", "h: u8, i: u8)"),
@@ -165,9 +170,9 @@ const LONG_LINE: &str = concat!(
     "of the code ever may be\npub fn read",
 );
 const LONG_CLAUSE: &str = concat!(
-    "r ≡ a\n        × a + 0 ≡ a × b + 0 ≡ b × f + 0 ≡ f × g + 0 ≡ g × h + 0 ≡ h × 0 + a ≡ a × 0 + b ≡ b × 0 + f ≡ f",
+    "result ≡ a\n        × a + 0 ≡ a × b + 0 ≡ b × f + 0 ≡ f × g + 0 ≡ g × h + 0 ≡ h × 0 + a ≡ a × 0 + b ≡ b × 0 + f ≡ f",
     "\n        × a + 0 ≡ a × b + 0 ≡ b × f + 0 ≡ f × g + 0 ≡ g × h + 0 ≡ h × 0 + a ≡ a × 0 + b ≡ b × 0 + f ≡ f",
-    "\n        × 1000 + 20 ≡ 1020 + 0",
+    "\n        × 1000 + 20 ≡ 1020 + 0 + 0",
 );
 const LONG_BODY: &str = "    a\n\n\n\n\n\n\n\n\n\n\n\n\n\n\n\n\n\n\n\n\n\n\n\n\n\n\n\n\n\n\n\n\n\n\n\n\n\n\n\n\n";
 
@@ -190,10 +195,14 @@ fn each_difference_is_found() {
 
 /// The gate's are left out; those that it does not try were not tried.
 #[test]
-fn a_log_that_is_missing_is_told() {
+fn an_edit_of_which_nothing_is_said_is_told() {
     for (path, wanted) in [("rules/too_long", (1, 0)), ("g7110/too_narrow", (0, 1))] {
         let mut files = small();
-        LOGS.iter().for_each(|place| files.put(&format!("{place}/{path}/.log"), String::new()));
+        for place in LOGS {
+            let others = files.text(place).lines().filter(|line| !line.contains(path));
+            let others = others.map(|line| format!("{line}\n")).collect();
+            files.put(place, others);
+        }
         let held = all(&files);
         assert!(faults(&held).is_empty());
         let missing: (usize, usize) = held.iter().fold((0, 0), |(l, n), held| (l + held.left_out, n + held.not_tried));

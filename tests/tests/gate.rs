@@ -1,7 +1,9 @@
 //! The gate itself: small copies of the repository, each with one thing wrong, are put through the same `.ci/run`.
-//! A copy has one tiny crate of Rattle and one or two tiny packages of Rust, and so no test of this file.
+//! A copy has one tiny crate of Rattle and one or two tiny packages of Rust, and so no test of this file. It stands outside
+//! the repository, where rt ci refuses a file of Rattle that no crate of crates.txt has.
 
 use std::fs;
+use std::os::unix::fs::PermissionsExt;
 use std::path::{Path, PathBuf};
 use std::process::{Command, Stdio};
 use std::sync::{Mutex, MutexGuard};
@@ -11,8 +13,8 @@ static ONE: Mutex<()> = Mutex::new(());
 
 /// The files of a copy with an archive. Its packages have the names, and the second one the tests, that the gate knows.
 const ARCHIVE: [(&str, &str); 10] = [
-    ("crates.txt", "g7110:\n"),
-    ("crates/g7110/src/lib.rt", "#[no_mangle]\npub extern \"C\" fn g7110_same(x: u32) -> u32 {\n    x\n}\n"),
+    ("crates.txt", "g7110 staticlib:\n"),
+    ("crates/g7110/src/lib.rt", "#[unsafe(no_mangle)]\npub extern \"C\" fn g7110_same(x: u32) -> u32 {\n    x\n}\n"),
     ("Cargo.toml", "[workspace]\nresolver = \"2\"\nmembers = [\"wrapper\", \"tests\"]\n"),
     (
         "Cargo.lock",
@@ -80,6 +82,12 @@ struct Copy {
     _alone: MutexGuard<'static, ()>,
 }
 
+impl Drop for Copy {
+    fn drop(&mut self) {
+        let _ = fs::remove_dir_all(&self.root);
+    }
+}
+
 struct Ended {
     well: bool,
     said: String,
@@ -96,13 +104,14 @@ impl Copy {
     /// A copy with nothing wrong.
     fn new(name: &str) -> Copy {
         let alone = ONE.lock().unwrap_or_else(|fault| fault.into_inner());
-        let root = Path::new(env!("CARGO_TARGET_TMPDIR")).join("gate").join(name);
+        let root = std::env::temp_dir().join(format!("g7110-gate-{}-{name}", std::process::id()));
         let _ = fs::remove_dir_all(&root);
         let copy = Copy { root, _alone: alone };
         let here = Path::new(env!("CARGO_MANIFEST_DIR")).join("..");
-        for file in [".ci/run", "tools/cross", "tools/native", "KIT"] {
+        for file in [".ci/run", "tools/build", "tools/cross", "tools/native", "KIT"] {
             copy.put(file, &fs::read_to_string(here.join(file)).unwrap());
         }
+        fs::set_permissions(copy.root.join("tools/build"), fs::Permissions::from_mode(0o755)).unwrap();
         copy.put("crates.txt", "listed:\n");
         copy.put("crates/listed/src/lib.rt", "pub fn same(x: u8) -> u8 {\n    x\n}\n");
         let named = "name = \"tests\"\nversion = \"0.1.0\"\n";
@@ -167,10 +176,22 @@ fn a_crate_that_is_not_listed() {
     copy.put("crates/planted/src/lib.rt", "pub fn other(x: u8) -> u8 {\n    x\n}\n");
     let ended = copy.gate();
     assert!(!ended.well, "{}", ended.said);
+    // rt ci stops there, and so proves nothing.
+    assert_eq!(ended.last(), "2 passed, 1 failed", "{}", ended.said);
+    let told = |line: &str| line.starts_with("gate: FAILED: rt ci: ") && line.contains("crates/planted/src/lib.rt");
+    assert!(ended.said.lines().any(told), "{}", ended.said);
+    assert!(ended.report.ends_with("last line: 2 passed, 1 failed\n"), "{}", ended.report);
+}
+
+/// rt ci passes such an edit by.
+#[test]
+fn an_edit_that_cannot_be_applied() {
+    let copy = Copy::new("bad-edit");
+    copy.put("crates/listed/must-fail/gone.edit", "Gone.\nfile: src/lib.rt\nold: gone\nnew: here\n");
+    let ended = copy.gate();
+    assert!(!ended.well, "{}", ended.said);
     assert_eq!(ended.last(), "3 passed, 1 failed", "{}", ended.said);
-    assert!(ended.said.contains("crates/planted/src/lib.rt"), "{}", ended.said);
-    assert!(ended.said.contains("gate: FAILED: rt ci: lost-files\n"), "{}", ended.said);
-    assert!(ended.report.ends_with("last line: 3 passed, 1 failed\n"), "{}", ended.report);
+    assert!(ended.said.contains("gate: FAILED: rt ci: 1 bad must-fail edits\n"), "{}", ended.said);
 }
 
 #[test]

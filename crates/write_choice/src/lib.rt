@@ -4,7 +4,6 @@
 // the last two of the tie order are left (`last`).
 #![tactic(auto)]
 
-
 pub mod last;
 pub mod near;
 pub mod plans;

@@ -13,7 +13,7 @@ pub struct Plain {
 
 // What is written of a frame of the two zeros: whole octets; or binary, which has its bits and needs the row of flags; or Rice, which
 // needs the runs.
-#[derive(Clone, Copy, Drop)]
+#[derive(Drop)]
 pub enum ZerosPlan {
     Whole(Choice),
     Binary(usize),

@@ -8,7 +8,7 @@ ghost use Rattle.rules.specs.Samples.{signed, on_line};
 ghost use Rattle.write_scan.specs.Looks.{marks_of, SpreadIs, ExtentIs, count_is};
 
 // What the samples of a frame have in common, each with the law's mask taken off: the bits that any sets, and those that all set.
-#[derive(Drop)]
+#[derive(Clone, Copy, Drop)]
 pub struct Spread {
     pub any: u8,
     pub all: u8,

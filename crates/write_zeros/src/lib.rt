@@ -40,7 +40,7 @@ fn start_bits(n: usize) -> usize
 }
 
 // What Rice writes of a frame of the two zeros: its bits, the mark, S and how many runs.
-#[derive(Drop)]
+#[derive(Clone, Copy, Drop)]
 pub struct Zeros {
     pub bits: usize,
     pub mark: usize,

@@ -1,7 +1,6 @@
 // Writing one frame: plan, room, put. The chosen form alone is put out.
 #![tactic(auto)]
 
-
 ghost use Rattle.std.specs.Prelude.{◌≡◌, true, ◌*◌, ◌≤◌, length, take};
 ghost use Rattle.rules.specs.declared.Ending.TheVariants.{Done};
 ghost use Rattle.rules.specs.Bits.{bits_of};

@@ -1,5 +1,5 @@
 //! The wrong programs: docs/CONTRACTS.md names each edit that is kept, in must-fail/ or in faults/ of its crate, and no
-//! other. An edit says itself what is wrong and which fact fails, and its log has that error.
+//! other. An edit says itself what is wrong and which fact fails, and that is the error that rt tells of it.
 
 use super::{folded, is_name, quoted, Files, Held};
 use std::collections::BTreeMap;
@@ -8,8 +8,11 @@ use std::collections::BTreeMap;
 const FOLDERS: [&str; 2] = ["must-fail", "faults"];
 /// Edits that the gate tries, at most.
 pub const MOST: usize = 80;
-/// Where logs are: those of the gate, and those of `make faults`.
-pub const LOGS: [&str; 2] = ["target/must-fail", "target/faults/target/must-fail"];
+/// What rt has said of the edits, a line of each: of the gate's, and of those of `make faults`.
+pub const LOGS: [&str; 2] = ["target/must-fail.txt", "target/faults.txt"];
+/// How rt begins what it says of a refused edit, and what it puts there where it was not the meaning that was refused.
+const REFUSED: &str = "refused, as it must be";
+const SHAPE: &str = " (only because a proof file names what the edit took away";
 /// How a line begins that rt reads.
 const READ: [&str; 3] = ["file: ", "old: ", "new:"];
 /// How the line begins that tells the fact.
@@ -124,64 +127,114 @@ pub fn edit_heads(files: &Files) -> Held {
     held
 }
 
-/// The fact that an edit tells is that of an error of each log that it has. Any error will do: in which order the kit
-/// takes up files is not promised. The first of all must not be one of shape. An edit that was not tried has no log.
+/// The fact that an edit tells is that of the error that rt tells of it, its first one. It must not be one of shape. Of an edit
+/// that was not tried nothing is said.
 pub fn facts(files: &Files) -> Held {
-    let mut held = Held::new("facts that fail, by the logs of the edits");
+    let mut held = Held::new("facts that fail, by what rt says of the edits");
     for edit in Edit::all(files) {
-        let logs = LOGS.map(|place| files.text(&format!("{place}/{}/{}/.log", edit.of, edit.label)));
-        let logs: Vec<&str> = logs.into_iter().filter(|log| !log.is_empty()).collect();
+        let logs: Vec<&str> = LOGS.iter().filter_map(|place| said_of(&edit, files.text(place))).collect();
         match (logs.is_empty(), edit.folder == FOLDERS[0]) {
             (false, _) => held.count += 1,
             (true, true) => held.left_out += 1,
             (true, false) => held.not_tried += 1,
         }
         for log in logs {
-            held.also(!first_line(log).contains("has no `Need-"), || format!("{edit}: refused for its shape"));
-            let (told, found) = (edit.fails(), found(log));
-            let fails = |(place, name): &(String, String)| {
-                found.iter().any(|(at, of)| of == name && (at == place || at.is_empty()))
+            let Some(error) = log.strip_prefix(REFUSED) else {
+                held.also(false, || format!("{edit}: {log}"));
+                continue;
             };
-            let there = told.as_ref().is_some_and(fails);
-            held.also(there, || format!("{edit}: told {told:?}, and the log has {found:?}"));
+            held.also(!error.starts_with(SHAPE), || format!("{edit}: refused for its shape"));
+            let (told, found) = (edit.fails(), found(error));
+            let there = told.as_ref().zip(found.as_ref()).is_some_and(|(told, found)| found.is(told));
+            held.also(there, || format!("{edit}: told {told:?}, and rt says {found:?}"));
         }
     }
     held
 }
 
-/// A fact: "`function`, `need`", or "File, `law`". The need may have the name of the function's spec, whose proof it is a
-/// part of.
+/// What rt says of an edit, if it was tried.
+fn said_of<'a>(edit: &Edit, log: &'a str) -> Option<&'a str> {
+    let start = format!("rt: must-fail {}/{}.edit: ", edit.of, edit.label);
+    log.lines().find_map(|line| line.strip_prefix(&start)).filter(|said| !said.starts_with("NOT TRIED"))
+}
+
+/// A fact: "`function`, `goal`", or "File, `law`".
 fn fact(told: &str) -> Option<(String, String)> {
     match quoted(told)[..] {
         [(file, law)] if file.strip_suffix(", ").is_some_and(is_name) => Some((file.trim_end_matches(", "), law)),
-        [("", function), (", ", need)] => Some((function, need)),
+        [("", function), (", ", goal)] => Some((function, goal)),
         _ => None,
     }
     .filter(|_| told.ends_with('`'))
     .map(|(place, name)| (place.to_string(), name.to_string()))
 }
 
-fn first_line(log: &str) -> &str {
-    log.lines().find(|line| line.contains(": error: ")).unwrap_or("")
+/// What an error names: where it is, or nothing where it does not tell that, and the goal or law, or as much of it as rt tells.
+#[derive(Debug)]
+struct Found {
+    place: String,
+    name: String,
+    cut: bool,
 }
 
-/// What the errors of a log name. Where rattle's own proof is refused, there is no file of ours: then what it could not
-/// prove stands in a note, which does not name the function.
-fn found(log: &str) -> Vec<(String, String)> {
-    log.lines().filter_map(|line| failing(line).or_else(|| not_proved(line))).collect()
+impl Found {
+    fn is(&self, (place, name): &(String, String)) -> bool {
+        let here = self.place.is_empty() || self.place == *place;
+        here && if self.cut { name.starts_with(&self.name) } else { *name == self.name }
+    }
 }
 
-/// A function's proof is proofs/FUNCTION/Proof.antt, a law stands in proofs/FILE.antt.
-fn failing(line: &str) -> Option<(String, String)> {
-    let (path, said) = line.split_once(": error: `")?;
-    let mut parts = path.split(".antt:").next()?.rsplit('/');
+/// What the error that rt tells names. Where no answer of ours is refused, what Rattle could not prove stands in a note, which
+/// does not name the function.
+fn found(error: &str) -> Option<Found> {
+    failing(error).or_else(|| not_proved(error))
+}
+
+/// A function's proof is proofs/FUNCTION/Answers.antt, Invariants.antt or Proof.antt; a law stands in proofs/FILE.antt.
+fn failing(error: &str) -> Option<Found> {
+    let (path, said) = error.split_once(": error: `")?;
+    let mut parts = path.rsplit_once(".antt:")?.0.rsplit('/');
     let (file, folder) = (parts.next()?, parts.next()?);
-    let place = if file == "Proof" { folder } else { file };
-    Some((place.to_string(), said.split('`').next()?.to_string()))
+    let place = if ["Answers", "Invariants", "Proof"].contains(&file) { folder } else { file };
+    Some(Found { place: place.to_string(), ..name(said, "`") })
 }
 
-/// "it is not proved that .. (`need`)", at a line of the code.
-fn not_proved(line: &str) -> Option<(String, String)> {
-    let (_, need) = line.split_once(": it is not proved that ")?.1.rsplit_once("(`")?;
-    Some((String::new(), need.strip_suffix("`)")?.to_string()))
+/// "it is not proved that .. (`goal`); ..", at a line of the code.
+fn not_proved(error: &str) -> Option<Found> {
+    let (_, said) = error.split_once(": it is not proved that ")?.1.rsplit_once("(`")?;
+    Some(name(said, "`)"))
+}
+
+/// A name up to its end, or up to where rt has cut it.
+fn name(said: &str, end: &str) -> Found {
+    let whole = said.split_once(end);
+    let name = whole.map_or(said, |(name, _)| name);
+    Found { place: String::new(), name: name.to_string(), cut: whole.is_none() }
+}
+
+#[cfg(test)]
+mod tests {
+    use super::*;
+
+    /// rt cuts the error that it tells to so many characters.
+    const CUT: usize = 160;
+
+    /// As rt writes them, the second one cut within the goal's name.
+    #[test]
+    fn errors() {
+        let holds = |error: &str, place: &str, name: &str| {
+            found(error).is_some_and(|found| found.is(&(place.to_string(), name.to_string())))
+        };
+        let note = ": note: src/lib.rt:4:5: it is not proved that the sum fits its type (at a range `..=n`, `n + 1`) (`overflow_add-result`); the facts";
+        assert!(holds(note, "more", "overflow_add-result") && !holds(note, "more", "returns"));
+        let cut = &note[..note.find("-result").unwrap()];
+        assert!(
+            cut.chars().count() < CUT && holds(cut, "more", "overflow_add-result") && !holds(cut, "more", "overflow")
+        );
+        let error =
+            " (only by a limit): ./proofs/placing/lay_row/Invariants.antt:8:13: error: `returns`: expected type `a";
+        assert!(holds(error, "lay_row", "returns") && !holds(error, "placing", "returns"));
+        assert!(!holds(": ./proofs/Back.antt:8:13: error: `back`: no", "Answers", "back"));
+        assert!(!holds("", "Back", "back"));
+    }
 }

@@ -44,11 +44,11 @@ fn numbered(line: &str) -> Option<(String, u64)> {
     let (left, right) = line.split_once(" = ")?;
     let number = right.parse().ok().filter(|number| *number > 0)?;
     let Some((definition, name)) = left.split_once(' ') else {
-        let (first, rest) = left.strip_suffix("Number").filter(|name| *name != "most")?.split_at_checked(1)?;
+        let (first, rest) = left.strip_suffix("_number").filter(|name| *name != "most")?.split_at_checked(1)?;
         return Some((first.to_uppercase() + rest, number));
     };
     let name = name.trim_start_matches('(').split(' ').next()?;
-    (definition.ends_with("Number") && name.starts_with(char::is_uppercase)).then(|| (name.to_string(), number))
+    (definition.ends_with("_number") && name.starts_with(char::is_uppercase)).then(|| (name.to_string(), number))
 }
 
 /// Each number that the header defines is a constant of the wrapper; the limits are those of definitions and proofs.
@@ -98,10 +98,10 @@ const LIMITS: [(&str, &str, &str, &str); 7] = [
     ("MAX_SAMPLES", "crates/rules/src/lib.rt", "samples: [u8; ", "]"),
     ("MAX_FRAME", "crates/promises/proofs/Bounded.antt", "octets_used f ≤ ", ")"),
     ("MAX_STREAM", "crates/rules/specs/Walk.antt", "\nlongest = ", "\n"),
-    ("MAX_BLOCK", "crates/store_rows/specs/Limits.antt", "\nlargestBlock = ", "\n"),
-    ("ALL_TOOLS", "crates/rules/specs/Tools.antt", "\nallTools = ", "\n"),
-    ("HEADING", "crates/recording/specs/Remembered.antt", "\nheadingLength = ", "\n"),
-    ("LOSS", "crates/recording/specs/Items.antt", "\nlossFrom = ", "\n"),
+    ("MAX_BLOCK", "crates/store_rows/specs/Limits.antt", "\nlargest_block = ", "\n"),
+    ("ALL_TOOLS", "crates/rules/specs/Tools.antt", "\nall_tools = ", "\n"),
+    ("HEADING", "crates/recording/specs/Remembered.antt", "\nheading_length = ", "\n"),
+    ("LOSS", "crates/recording/specs/Items.antt", "\nloss_from = ", "\n"),
 ];
 
 /// The calls of the header are those of crate g7110 and of the wrapper, with as many entries in their reports.

@@ -8,7 +8,7 @@ use std::collections::BTreeSet;
 const LONG_WAY: usize = 6;
 
 /// Tactics that read every variable in scope, and so a `let` that nobody names.
-const READ_THE_SCOPE: [&str; 5] = ["omega", "cc", "search", "rw", "simp"];
+const READ_THE_SCOPE: [&str; 6] = ["omega", "cc", "search", "rw", "simp", "grind"];
 
 pub fn proofs(files: &Files) -> Held {
     let mut held = Held::new("proofs that show only what is read");
@@ -76,9 +76,9 @@ fn imports(text: &str) -> Vec<String> {
 
 /// An operator is read where each of its parts is, and the one of `do` where there is a `do`.
 fn is_read(name: &str, read: &BTreeSet<&str>) -> bool {
-    let mut parts = name.split('_').filter(|part| !part.is_empty()).peekable();
-    let operator = name.contains('_') && parts.peek().is_some();
-    read.contains(name) || operator && parts.all(|part| read.contains(part)) || name == "_>>=_" && read.contains("do")
+    let mut parts = name.split('◌').filter(|part| !part.is_empty()).peekable();
+    let operator = name.contains('◌') && parts.peek().is_some();
+    read.contains(name) || operator && parts.all(|part| read.contains(part)) || name == "◌>>=◌" && read.contains("do")
 }
 
 /// `-- src/lib.rt:477:5`
@@ -107,10 +107,7 @@ fn long_ways(text: &str) -> Vec<String> {
     for declaration in declarations(text) {
         let first = declaration.lines().next().unwrap_or("");
         typed = is_typed(first) || typed && !first.contains(" : ") && !first.starts_with("module");
-        let apart = declaration.replace('(', " ( ").replace(')', " ) ");
-        let words: Vec<&str> = apart.split_whitespace().collect();
-        let long = words.split(|word| *word != ".before").any(|way| way.len() >= LONG_WAY);
-        if long && !typed {
+        if declaration.contains(&".before".repeat(LONG_WAY)) && !typed {
             found.push(format!("a way of {LONG_WAY} places or more without a name: {first}"));
         }
     }

@@ -1,0 +1,17 @@
+use native.Mathlib.Omega.{arith}
+use borrow.Author.Rules.{rules}
+use Rattle.reasons.proofs.put_by.Goals as goal
+
+pub returns-then-tie : goal.returns-then-tie
+returns-then-tie c = record {
+  puts = rw c.if-tie.true c.put_word.ensures;
+  most = omega
+      (arith, c.put_word.ensures.place);
+}
+
+pub returns : goal.returns
+returns c = record {
+  puts = rw c.if-tie.false c.put_word-2.ensures;
+  most = omega
+      (arith, c.put_word-2.ensures.place);
+}

@@ -1,0 +1,9 @@
+use borrow.Author.Rules.{rules}
+use borrow.Author.Tests.{le-leb, lt-leb}
+use Rattle.recording_next.proofs.samples_of.Goals as goal
+
+pub returns-then-cell-ge-LOSS_FROM : goal.returns-then-cell-ge-LOSS_FROM
+returns-then-cell-ge-LOSS_FROM c = rw (le-leb _ _ c.if-cell-ge-LOSS_FROM.true)
+
+pub returns : goal.returns
+returns c = rw (lt-leb _ _ c.if-cell-ge-LOSS_FROM.false)

@@ -1,0 +1,19 @@
+use borrow.Author.Rules.{rules}
+use Prim.Native.Nat.{◌+◌, ◌-◌, ◌≤◌, ◌<◌}
+use mathlib.Core.Path.{◌≡◌, refl, sym}
+use mathlib.Core.Logic.{⊎_elim}
+use native.Mathlib.Omega.{arith}
+use borrow.Author.Tests.{ltb-true, ltb-false}
+use lib.ListN.{length}
+use Rattle.rules.specs.declared.Ending.TheVariants.{Done}
+use Rattle.rules.proofs.Lent.{lent_length}
+use Rattle.recording_read.proofs.Playing.{Playing, play-start, play-last, play-ended, play-full, play-refused, play-fits, play-turn}
+use Rattle.recording_read.proofs.play_on.Given as goal
+
+-- Each turn takes one item (Playing); the measure is how many items more are allowed.
+abbrev pub invariant-loop-count : goal.invariant-loop-count
+invariant-loop-count l =
+    Playing l.octets l.law l.set l.items l.at l.initial.out l.initial.cells l.out l.cells l.samples l.place l.to l.count
+
+abbrev pub decreases-loop-count : goal.decreases-loop-count
+decreases-loop-count l = l.items - l.count

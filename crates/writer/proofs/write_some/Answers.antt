@@ -1,0 +1,18 @@
+use borrow.Author.Rules.{rules}
+use mathlib.Core.Path.{sym, ◌∙◌}
+use lib.ListN.{length}
+use Rattle.rules.proofs.Guards.{write-refused}
+use Rattle.writer.proofs.Writing.{refused-writes, writes_as}
+use Rattle.writer.proofs.write_some.Goals as goal
+
+pub write_lawful-requires : goal.write_lawful-requires
+write_lawful-requires c = (
+  sym c.guard_writer.ensures ∙ c.in-Done.is,
+  c.requires,
+)
+
+pub returns-in-Refused : goal.returns-in-Refused
+returns-in-Refused c =
+    let e = sym c.guard_writer.ensures ∙ c.in-Refused.is in
+    writes_as (refused-writes c.refused.ensures)
+    (sym (write-refused c.args.n c.args.samples.now c.args.law c.args.set (length c.args.out.now) e))
