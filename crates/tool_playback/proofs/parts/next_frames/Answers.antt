@@ -1,0 +1,6 @@
+use borrow.Author.Rules.{rules}
+use Rattle.tool_playback.proofs.Heard.{frames-heard}
+use Rattle.tool_playback.proofs.parts.next_frames.Goals as goal
+
+pub returns : goal.returns
+returns c = frames-heard c.keep_on-w.ensures c.end_of-end.ensures

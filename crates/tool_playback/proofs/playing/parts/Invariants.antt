@@ -1,0 +1,19 @@
+use borrow.Author.Rules.{rules}
+use borrow.Author.Tests.{not-true, not-false}
+use native.Mathlib.Omega.{arith}
+use Prim.Native.Nat.{◌+◌, ◌-◌, ◌*◌, ◌≤◌}
+use mathlib.Core.Path.{◌≡◌, refl, sym, ◌∙◌}
+use mathlib.Core.Bool.{true, false≢true}
+use lib.ListN.{length}
+use Rattle.tool_playback.proofs.Running.{Going, going-first, going_on, goes-whole, next-sound}
+use Rattle.tool_playback.proofs.Running.{number-most, heard-most, at_most, lost-most}
+use Rattle.tool_playback.proofs.playing.parts.Given as goal
+
+-- Each turn uses one part more (Running); the measure is how far it is to the end.
+abbrev pub invariant-loop-rt : goal.invariant-loop-rt
+invariant-loop-rt l =
+    Going l.body l.how (length l.initial.page) 192 l.page l.cells (record { at = l.at; items = l.items; samples = l.samples }) l.lost
+    × (length l.master ≡ length l.initial.master)
+
+abbrev pub decreases-loop-rt : goal.decreases-loop-rt
+decreases-loop-rt l = length l.body - l.at
