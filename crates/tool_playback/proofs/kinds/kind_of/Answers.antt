@@ -1,4 +1,3 @@
-use borrow.Author.Rules.{rules}
 use mathlib.Core.Path.{◌≡◌, sym, ap, ◌∙◌}
 use Rattle.recording.specs.Remembered.{headed}
 use Rattle.recording_read.specs.declared.Heading.{Heading}

@@ -1,4 +1,3 @@
-use borrow.Author.Rules.{rules}
 use mathlib.Core.Path.{sym, ap}
 use Rattle.tool_playback.specs.Heard.{end_of}
 use Rattle.tool_playback.proofs.parts.end_of.Goals as goal

@@ -1,4 +1,3 @@
-use borrow.Author.Rules.{rules}
 use mathlib.Core.Path.{sym, ap}
 use Rattle.recording.specs.declared.Ending.{Ending}
 use Rattle.tool_playback.specs.Parts.{goes_on}

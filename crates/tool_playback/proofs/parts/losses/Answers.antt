@@ -1,11 +1,8 @@
-use borrow.Author.Rules.{rules}
-use Prim.Native.Nat.{◌-◌, ◌≤◌}
 use mathlib.Core.Path.{◌≡◌, refl}
 use native.Mathlib.Omega.{arith}
-use lib.ListN.{take}
 use Rattle.rules.specs.Chooses.{count_of}
 use Rattle.write_scan.proofs.Looking.{count-more}
-use Rattle.tool_playback.specs.Parts.{is_loss, loss_cells}
+use Rattle.tool_playback.specs.Parts.{is_loss}
 use Rattle.tool_playback.proofs.parts.losses.Goals as goal
 
 pub loop-i-init : goal.loop-i-init

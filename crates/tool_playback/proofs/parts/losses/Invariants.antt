@@ -1,11 +1,7 @@
-use borrow.Author.Rules.{rules}
 use Prim.Native.Nat.{◌-◌, ◌≤◌}
-use mathlib.Core.Path.{◌≡◌, refl}
-use native.Mathlib.Omega.{arith}
+use mathlib.Core.Path.{◌≡◌}
 use lib.ListN.{take}
-use Rattle.rules.specs.Chooses.{count_of}
-use Rattle.write_scan.proofs.Looking.{count-more}
-use Rattle.tool_playback.specs.Parts.{is_loss, loss_cells}
+use Rattle.tool_playback.specs.Parts.{loss_cells}
 use Rattle.tool_playback.proofs.parts.losses.Given as goal
 
 abbrev pub invariant-loop-i : goal.invariant-loop-i

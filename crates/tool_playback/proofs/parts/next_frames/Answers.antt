@@ -1,4 +1,3 @@
-use borrow.Author.Rules.{rules}
 use Rattle.tool_playback.proofs.Heard.{frames-heard}
 use Rattle.tool_playback.proofs.parts.next_frames.Goals as goal
 

@@ -1,5 +1,4 @@
 -- As many items as are sure to fit, as a part (Parted): of a recording, and of a stream.
-use borrow.Author.Rules.{rules}
 use native.Mathlib.Omega.{arith}
 use mathlib.Core.Path.{◌≡◌}
 use mathlib.Core.Bool.{true}

@@ -1,12 +1,11 @@
 -- Each turn uses one part more (Running); the measure is how far it is to the end.
-use borrow.Author.Rules.{rules}
 use borrow.Author.Tests.{not-true, not-false}
 use native.Mathlib.Omega.{arith}
-use Prim.Native.Nat.{◌+◌, ◌-◌, ◌*◌, ◌≤◌}
+use Prim.Native.Nat.{◌+◌, ◌*◌, ◌≤◌}
 use mathlib.Core.Path.{◌≡◌, refl, sym, ◌∙◌}
 use mathlib.Core.Bool.{true, false≢true}
 use lib.ListN.{length}
-use Rattle.tool_playback.proofs.Running.{Going, going-first, going_on, goes-whole, next-sound}
+use Rattle.tool_playback.proofs.Running.{going-first, going_on, goes-whole, next-sound}
 use Rattle.tool_playback.proofs.Running.{number-most, heard-most, at_most, lost-most}
 use Rattle.tool_playback.proofs.playing.parts.Goals.{After-next_part-p, After-use_part-u}
 use Rattle.tool_playback.proofs.playing.parts.Goals as goal
@@ -100,21 +99,24 @@ shape_of-master-then-not-p c = master-kept (goal.at.shape_of-master-then-not-p c
 
 pub returns-then-not-p : goal.returns-then-not-p
 returns-then-not-p c =
-    let f = further (goal.at.returns-then-not-p c).After-next_part-p in let w = c.loop-rt.invariant.0 in record { tells_file = (λ e. goes-whole _ _ w.follows c.next_part-p.ensures.next_part (c.if-not-p.true) w.losses
-          (c.use_part-u.ensures.all e)); within = record { some = f.0; ends = f.1; few = f.2; held = heard (goal.at.returns-then-not-p c).After-use_part-u } }
+    let f = further (goal.at.returns-then-not-p c).After-next_part-p in let w = c.loop-rt.invariant.0 in record {
+      tells_file = (λ e. goes-whole _ _ w.follows c.next_part-p.ensures.next_part (not-true _ c.if-not-p.true) w.losses
+          (c.use_part-u.ensures.all e));
+      within = record { some = f.0; ends = f.1; few = f.2; held = heard (goal.at.returns-then-not-p c).After-use_part-u };
+    }
 
 pub loop-rt-smaller : goal.loop-rt-smaller
 loop-rt-smaller c =
     let w = c.loop-rt.invariant.0 in
     let g = c.next_part-p.ensures.goes in
-    let more : c.next_part-p.result.more ≡ true = c.if-not-p.false in
+    let more : c.next_part-p.result.more ≡ true = not-false _ c.if-not-p.false in
     omega (arith, g.nearer (omega (arith, w.page-size, c.requires.1)) (omega (arith, w.cells-size)) more, g.inside more)
 
 pub loop-rt-preserved : goal.loop-rt-preserved
 loop-rt-preserved c =
     let n = c.next_part-p in
     let well = sym c.is_well.ensures ∙ c.if-not-is_well.false in (
-      going_on _ _ c.loop-rt.invariant.0 n.ensures.0 n.auto.out n.auto.cells
-          (c.use_part-u.ensures.all well) (c.if-not-p.false),
+      going_on _ _ c.loop-rt.invariant.0 n.ensures.next_part n.auto.out n.auto.cells
+          (c.use_part-u.ensures.all well) (not-false _ c.if-not-p.false),
       master-kept (goal.at.loop-rt-preserved c).After-use_part-u,
     )

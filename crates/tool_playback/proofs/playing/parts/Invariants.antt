@@ -1,12 +1,7 @@
-use borrow.Author.Rules.{rules}
-use borrow.Author.Tests.{not-true, not-false}
-use native.Mathlib.Omega.{arith}
-use Prim.Native.Nat.{◌+◌, ◌-◌, ◌*◌, ◌≤◌}
-use mathlib.Core.Path.{◌≡◌, refl, sym, ◌∙◌}
-use mathlib.Core.Bool.{true, false≢true}
+use Prim.Native.Nat.{◌-◌}
+use mathlib.Core.Path.{◌≡◌}
 use lib.ListN.{length}
-use Rattle.tool_playback.proofs.Running.{Going, going-first, going_on, goes-whole, next-sound}
-use Rattle.tool_playback.proofs.Running.{number-most, heard-most, at_most, lost-most}
+use Rattle.tool_playback.proofs.Running.{Going}
 use Rattle.tool_playback.proofs.playing.parts.Given as goal
 
 -- Each turn uses one part more (Running); the measure is how far it is to the end.

@@ -1,6 +1,5 @@
 -- The pages are large enough; what stands before is the caller's.
 use native.Mathlib.Omega.{arith}
-use borrow.Author.Rules.{rules}
 use Rattle.tool_playback.proofs.playing.play.Goals as goal
 
 pub parts-requires : goal.parts-requires

@@ -3,7 +3,6 @@ use mathlib.Core.Path.{sym}
 use native.Mathlib.Omega.{arith}
 use lib.ListN.{drop, length-append}
 use lib.Seq.{length-take-le}
-use borrow.Author.Rules.{rules}
 use Rattle.tool_playback.proofs.playing.window_at.Goals as goal
 
 pub slice_bounds-read_at-end-then-left-window : goal.slice_bounds-read_at-end-then-left-window

@@ -1,15 +1,13 @@
 -- Window after window (Onward); the measure is how far it is to the end.
-use Prim.Native.Nat.{◌+◌, ◌-◌, ◌≤◌}
+use Prim.Native.Nat.{◌+◌, ◌≤◌}
 use mathlib.Core.Path.{◌≡◌, refl, sym, ap, ◌∙◌}
 use mathlib.Core.Bool.{false≢true}
 use native.Mathlib.Omega.{arith}
 use lib.ListN.{length, take}
 use lib.Seq.{length-take-le}
-use borrow.Author.Rules.{rules}
-use borrow.Author.Tests.{not-true, not-false}
 use Rattle.tool_playback.specs.declared.playing.Total.{Total}
 use Rattle.tool_playback.specs.Runs.{Within, behind_of}
-use Rattle.tool_playback.proofs.Onward.{Along, along-first, along-behind, along-within, along-fit, along-unread, along-turn, along-whole}
+use Rattle.tool_playback.proofs.Onward.{along-first, along-behind, along-within, along-fit, along-unread, along-turn, along-whole}
 use Rattle.tool_playback.proofs.playing.windows.Goals.{After-window_at-got, After-play-t}
 use Rattle.tool_playback.proofs.playing.windows.Goals as goal
 
@@ -21,21 +19,21 @@ window_at-got-requires c = (c.loop-why.invariant.1, c.requires.0)
 
 -- a window was read
 module _ (c : After-window_at-got) where
-  sized : length (take c.window_at-got.result.count c.window_at-got.new.at) ≡ c.window_at-got.result.count
+  sized : length (take c.window_at-got.result.count c.window_at-got.new.window) ≡ c.window_at-got.result.count
   sized = length-take-le _ _ c.window_at-got.ensures.0
 
-  inside : c.loop-why.done.at + length (take c.window_at-got.result.count c.window_at-got.new.at) ≤ c.args.b.size
+  inside : c.loop-why.done.at + length (take c.window_at-got.result.count c.window_at-got.new.window) ≤ c.args.b.size
   inside = omega (arith, sized, c.window_at-got.ensures.1)
 
-  kept : length c.window_at-got.new.at ≡ length c.args.window.now
-  kept = c.window_at-got.auto.at ∙ c.loop-why.invariant.2
+  kept : length c.window_at-got.new.window ≡ length c.args.window.now
+  kept = c.window_at-got.auto.window ∙ c.loop-why.invariant.2
 
 -- and played
 module _ (c : After-play-t) where
-  sized' : length (take c.window_at-got.result.count c.window_at-got.new.at) ≡ c.window_at-got.result.count
+  sized' : length (take c.window_at-got.result.count c.window_at-got.new.window) ≡ c.window_at-got.result.count
   sized' = length-take-le _ _ c.window_at-got.ensures.0
 
-  inside' : c.loop-why.done.at + length (take c.window_at-got.result.count c.window_at-got.new.at) ≤ c.args.b.size
+  inside' : c.loop-why.done.at + length (take c.window_at-got.result.count c.window_at-got.new.window) ≤ c.args.b.size
   inside' = omega (arith, sized', c.window_at-got.ensures.1)
 
   within : Within c.args.b.size (behind_of c.loop-why.done c.play-t.result)
@@ -66,16 +64,22 @@ shape_of-window-then-not-is_well c = kept (goal.at.shape_of-window-then-not-is_w
 
 pub returns-then-not-is_well : goal.returns-then-not-is_well
 returns-then-not-is_well c =
-    let r = rw c.behind-total.ensures
-    ((λ z. absurd (false≢true (sym (not-true _ c.if2.true) ∙ c.is_well.ensures ∙ z))), within (goal.at.returns-then-not-is_well c).After-play-t) in record { tells_one = r.0; within = r.1 }
+    record {
+      tells_one = rw c.behind-total.ensures (λ z. absurd (false≢true (sym c.if-not-is_well.true ∙ c.is_well.ensures ∙ z)));
+      within = rw c.behind-total.ensures (within (goal.at.returns-then-not-is_well c).After-play-t);
+    }
 
 pub shape_of-window-then-not-goes_further : goal.shape_of-window-then-not-goes_further
 shape_of-window-then-not-goes_further c = kept (goal.at.shape_of-window-then-not-goes_further c).After-window_at-got
 
 pub returns-then-not-goes_further : goal.returns-then-not-goes_further
 returns-then-not-goes_further c =
-    let p = c.requires in let r = rw c.behind-total.ensures
-    ((λ z. along-whole _ p.1 c.loop-why.invariant.0 _ (omega (arith, inside (goal.at.returns-then-not-goes_further c).After-window_at-got, p.0.0)) (c.play-t.ensures.tells_file z)), within (goal.at.returns-then-not-goes_further c).After-play-t) in record { tells_one = r.0; within = r.1 }
+    let p = c.requires in
+    record {
+      tells_one = rw c.behind-total.ensures (λ z. along-whole _ p.1 c.loop-why.invariant.0 _
+          (omega (arith, inside (goal.at.returns-then-not-goes_further c).After-window_at-got, p.0.0)) (c.play-t.ensures.tells_file z));
+      within = rw c.behind-total.ensures (within (goal.at.returns-then-not-goes_further c).After-play-t);
+    }
 
 pub shape_of-window-then-t-eq0 : goal.shape_of-window-then-t-eq0
 shape_of-window-then-t-eq0 c = kept (goal.at.shape_of-window-then-t-eq0 c).After-window_at-got
@@ -92,7 +96,7 @@ loop-why-smaller c =
 pub loop-why-preserved : goal.loop-why-preserved
 loop-why-preserved c =
     let p = c.requires in
-    let well = sym c.is_well.ensures ∙ c.if-not-goes_further.false in
+    let well = sym c.is_well.ensures ∙ c.if-not-is_well.false in
     rw c.behind-total.ensures (
       along-turn _ p.1 c.loop-why.invariant.0 _ (omega (arith, inside (goal.at.loop-why-preserved c).After-window_at-got, p.0.0)) (c.play-t.ensures.tells_file well),
       (within (goal.at.loop-why-preserved c).After-play-t).ends,

@@ -1,14 +1,7 @@
-use Prim.Native.Nat.{◌+◌, ◌-◌, ◌≤◌}
-use mathlib.Core.Path.{◌≡◌, refl, sym, ap, ◌∙◌}
-use mathlib.Core.Bool.{false≢true}
-use native.Mathlib.Omega.{arith}
-use lib.ListN.{length, take}
-use lib.Seq.{length-take-le}
-use borrow.Author.Rules.{rules}
-use borrow.Author.Tests.{not-true, not-false}
-use Rattle.tool_playback.specs.declared.playing.Total.{Total}
-use Rattle.tool_playback.specs.Runs.{Within, behind_of}
-use Rattle.tool_playback.proofs.Onward.{Along, along-first, along-behind, along-within, along-fit, along-unread, along-turn, along-whole}
+use Prim.Native.Nat.{◌-◌, ◌≤◌}
+use mathlib.Core.Path.{◌≡◌}
+use lib.ListN.{length}
+use Rattle.tool_playback.proofs.Onward.{Along}
 use Rattle.tool_playback.proofs.playing.windows.Given as goal
 
 -- Window after window (Onward); the measure is how far it is to the end.

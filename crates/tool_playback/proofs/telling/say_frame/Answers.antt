@@ -1,7 +1,6 @@
 use native.Mathlib.Omega.{arith}
 use mathlib.Core.Path.{sym}
 use lib.Seq.{length-take-le}
-use borrow.Author.Rules.{rules}
 use Rattle.tool_playback.proofs.telling.say_frame.Goals as goal
 
 pub slice_bounds-say-end : goal.slice_bounds-say-end

@@ -1,4 +1,3 @@
-use borrow.Author.Rules.{rules}
 use Rattle.tool_playback.proofs.Running.{item-lost}
 use Rattle.tool_playback.proofs.telling.say_item.Goals as goal
 

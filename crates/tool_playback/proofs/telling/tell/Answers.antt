@@ -1,10 +1,7 @@
 -- Item after item, each alone in its part (Running); the measure is how many are left.
-use borrow.Author.Rules.{rules}
 use native.Mathlib.Omega.{arith}
-use mathlib.Core.Path.{◌≡◌, refl, ◌∙◌}
+use mathlib.Core.Path.{refl, ◌∙◌}
 use borrow.Author.Tests.{not-false}
-use lib.ListN.{length}
-use Rattle.tool_playback.specs.Lines.{Follows}
 use Rattle.tool_playback.proofs.Running.{number-most, heard-most, at_most, follows_on, sums}
 use Rattle.tool_playback.proofs.telling.tell.Goals as goal
 
@@ -49,7 +46,7 @@ overflow_add-here-in-loop-left c =
 pub loop-left-preserved : goal.loop-left-preserved
 loop-left-preserved c =
     let w = c.loop-left.invariant in (
-      follows_on _ _ w.0 c.next_part-p.ensures.next_part (c.if-not-p.false),
+      follows_on _ _ w.0 c.next_part-p.ensures.next_part (not-false _ c.if-not-p.false),
       c.next_part-p.auto.out ∙ w.1,
       c.next_part-p.auto.cells ∙ w.2,
     )

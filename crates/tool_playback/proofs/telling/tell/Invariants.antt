@@ -1,10 +1,6 @@
-use borrow.Author.Rules.{rules}
-use native.Mathlib.Omega.{arith}
-use mathlib.Core.Path.{◌≡◌, refl, ◌∙◌}
-use borrow.Author.Tests.{not-false}
+use mathlib.Core.Path.{◌≡◌}
 use lib.ListN.{length}
 use Rattle.tool_playback.specs.Lines.{Follows}
-use Rattle.tool_playback.proofs.Running.{number-most, heard-most, at_most, follows_on, sums}
 use Rattle.tool_playback.proofs.telling.tell.Given as goal
 
 -- Item after item, each alone in its part (Running); the measure is how many are left.
