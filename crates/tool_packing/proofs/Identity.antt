@@ -1,5 +1,5 @@
 -- Packed and then walked, a sound is the same sound: by the same law, with any set that holds the writer's, given room.
-use Prim.Native.Nat.{ℕ, zero, suc, ◌≤◌}
+use Prim.Native.Nat.{ℕ, zero, suc, ◌+◌, ◌≤◌}
 use native.Mathlib.Omega.{arith}
 use mathlib.Core.Path.{◌≡◌, refl, sym, ap, ◌∙◌}
 use mathlib.Core.List.{List, [], ◌∷◌, ◌++◌}
@@ -17,7 +17,7 @@ use Rattle.rules.specs.Calls.{at_start, Walks, Walk}
 use Rattle.rules.proofs.Octets.{Below, below-take, below-drop}
 use Rattle.promises.proofs.Written.{full}
 use Rattle.promises.proofs.Lists.{Part, frame_of, frames, All, last, then}
-use Rattle.promises.proofs.Lists.{stream, samples_all, deliveries, lists-walked, deliveries-samples, deliveries-octets}
+use Rattle.promises.proofs.Lists.{octets_of, stream, samples_all, deliveries, lists-walked, deliveries-samples, deliveries-octets}
 use Rattle.tool_packing.specs.declared.packing.PackAnswer.{PackAnswer}
 use Rattle.tool_packing.specs.Cuts.{next_length, cuts_from, cuts, sound_in}
 use Rattle.tool_packing.specs.Packing.{form_octets, stream_of, pack_all, Pack}
@@ -42,7 +42,7 @@ parts-sound set (s ∷ fs) = ap (λ (x : List ℕ). s ++ x) (parts-sound set fs)
 delivered : (mask at set : ℕ) (fs : List (List ℕ)) → length (deliveries mask at (parts_of set fs)) ≡ length fs
 unfolding parts_of deliveries
 delivered mask at set [] = refl
-delivered mask at set (s ∷ fs) = ap suc (delivered mask _ set fs)
+delivered mask at set (s ∷ fs) = ap suc (delivered mask (at + length (octets_of mask (frame_of set s))) set fs)
 
 -- every cut is a frame that a writer takes
 cuts-may : (a n set reader : ℕ) {s : List ℕ} → is_writer_set set ≡ true → Within set reader → Below 256 s
