@@ -1,13 +1,7 @@
 -- After i parts there are at most i times a part's samples, and no more frames; where more may come, they are whole parts, cut as `pack`
 -- cuts them.
-use borrow.Author.Rules.{rules}
-use Prim.Native.Nat.{◌*◌, ◌-◌, ◌≤◌}
-use mathlib.Core.Bool.{true}
-use mathlib.Core.Path.{◌≡◌, ◌∙◌}
+use mathlib.Core.Path.{◌∙◌}
 use native.Mathlib.Omega.{arith}
-use lib.ListN.{length}
-use Rattle.tool_packing.specs.SoundParts.{part_size}
-use Rattle.why.specs.Cut.{PartsIn}
 use Rattle.why.proofs.Cutting.{begun}
 use Rattle.why.proofs.all_parts.Goals as goal
 
@@ -22,4 +16,4 @@ pub loop-i-preserved : goal.loop-i-preserved
 loop-i-preserved c =
     let e = c.next_part-next.ensures in
     let i = c.loop-i.invariant in
-    (c.next_part-next.auto.job ∙ i.0, omega (arith, e.frames, i.1), omega (arith, e.samples, i.2), e.whole)
+    (c.next_part-next.auto.part ∙ i.0, omega (arith, e.frames, i.1), omega (arith, e.samples, i.2), e.whole)

@@ -1,5 +1,4 @@
 -- What is read is the part's beginning, so a part adds at most its own size.
-use borrow.Author.Rules.{rules}
 use native.Mathlib.Omega.{arith}
 use mathlib.Core.Path.{◌≡◌, sym, ◌∙◌}
 use lib.ListN.{length, take}

@@ -2,10 +2,8 @@
 use Prim.Native.Nat.{◌+◌, ◌-◌, ◌≤◌}
 use mathlib.Core.Path.{refl, sym, ◌∙◌}
 use lib.ListN.{length}
-use borrow.Author.Rules.{rules}
 use native.Mathlib.Omega.{arith}
 use Rattle.tool_packing.proofs.Lengths.{Fits, next_fits}
-use Rattle.why.specs.Cut.{CutTo}
 use Rattle.why.proofs.Cutting.{cut-first, frame-in, cut_on, parts-on, none_more}
 use Rattle.why.proofs.part_frames.Goals.{Else-len-eq0}
 use Rattle.why.proofs.part_frames.Goals as goal
@@ -30,6 +28,16 @@ returns-then-len-eq0 c =
     let i = c.loop-rt.invariant in let whole = parts-on c.args.job.length c.args.run.frames c.args.run.samples c.args.part.now
     c.loop-rt.from c.loop-rt.k c.requires.parts_in i.2 i.3 c.next_length-len.result c.next_length-len.ensures
     (omega arith) c.last_end-end.result in record { frames = omega (arith, i.0, i.1); samples = omega (arith, i.0); whole = λ g. whole (sym c.may_go_on.ensures ∙ g) }
+
+pub overflow_add-to : goal.overflow_add-to
+overflow_add-to c =
+    let f = fits (goal.at.overflow_add-to c).Else-len-eq0 in
+    omega (arith, f.within, c.loop-rt.invariant.0, c.requires.part_len_bound.0)
+
+pub slice_bounds-show_wanted-end : goal.slice_bounds-show_wanted-end
+slice_bounds-show_wanted-end c =
+    let f = fits (goal.at.slice_bounds-show_wanted-end c).Else-len-eq0 in
+    omega (arith, f.within, c.loop-rt.invariant.0)
 
 pub show_wanted-requires : goal.show_wanted-requires
 show_wanted-requires c =
