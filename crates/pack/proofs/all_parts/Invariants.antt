@@ -1,5 +1,4 @@
-use borrow.Author.Rules.{rules}
-use mathlib.Core.Path.{◌≡◌, ◌∙◌}
+use mathlib.Core.Path.{◌≡◌}
 use lib.ListN.{length}
 use Rattle.tool_packing.specs.SoundParts.{part_size}
 use Rattle.pack.specs.Runs.{page_size, Stands, steps_left}

@@ -1,12 +1,10 @@
-use borrow.Author.Rules.{rules}
 use Prim.Native.Nat.{◌-◌, ◌≤◌}
-use mathlib.Core.Path.{◌≡◌, sym}
+use mathlib.Core.Path.{◌≡◌}
 use lib.ListN.{length}
-use lib.Seq.{length-take-le}
 use Rattle.pack.proofs.copied.Given as goal
 
 abbrev pub invariant-loop-at : goal.invariant-loop-at
-invariant-loop-at l = (l.page ≤ l.keep.size) × (length l.initial.at ≡ length l.fd)
+invariant-loop-at l = (l.at ≤ l.b.size) × (length l.page ≡ length l.initial.page)
 
 abbrev pub decreases-loop-at : goal.decreases-loop-at
-decreases-loop-at l = l.keep.size - l.page
+decreases-loop-at l = l.b.size - l.at

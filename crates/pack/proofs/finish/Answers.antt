@@ -1,4 +1,3 @@
-use borrow.Author.Rules.{rules}
 use mathlib.Core.Path.{◌≡◌, refl, sym, ◌∙◌}
 use native.Mathlib.Omega.{arith}
 use Rattle.tool_packing.proofs.Numbers.{for-done}
@@ -12,16 +11,15 @@ module _ (c : After-write_stream-arg-1) where
   well = for-done c.args.run.packed.end (sym c.number_for-number.ensures ∙ omega arith)
 
 pub write_stream-wrong-requires : goal.write_stream-wrong-requires
-write_stream-wrong-requires c =
-    (
-      record {
-        kept = c.requires.kept;
-        one = c.requires.one;
-        well = well c;
-      },
-      refl,
-      (kept-most c.requires.one, omega arith),
-    )
+write_stream-wrong-requires c = (
+  record {
+    kept = c.requires.kept;
+    one = c.requires.one;
+    well = well c;
+  },
+  refl,
+  (kept-most c.requires.one, omega arith),
+)
 
 pub say_done-requires : goal.say_done-requires
 say_done-requires c =

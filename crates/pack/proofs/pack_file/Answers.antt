@@ -1,5 +1,4 @@
 -- The settings are not refused: no sound was packed well.
-use borrow.Author.Rules.{rules}
 use mathlib.Core.Path.{sym, ◌∙◌}
 use Rattle.tool_packing.proofs.Numbers.{number-done}
 use Rattle.pack.proofs.pack_file.Goals as goal
@@ -16,7 +15,3 @@ pack_sound-requires c =
       c.requires.0,
       p.auto.out ∙ c.requires.1,
     )
-
-pub shape_of-part-in-Ok-2 : goal.shape_of-part-in-Ok-2
-shape_of-part-in-Ok-2 c =
-    c.pack_sound.auto.part ∙ c.pack-packed.auto.out

@@ -1,5 +1,4 @@
 -- The parts begin with no sound, packed well, and are those of one sound (Running).
-use borrow.Author.Rules.{rules}
 use mathlib.Core.Path.{◌∙◌}
 use mathlib.Core.Bool.{true}
 use Rattle.pack.specs.declared.Amiss.TheVariants.{Nothing}
@@ -11,4 +10,4 @@ pub all_parts-run-requires : goal.all_parts-run-requires
 all_parts-run-requires c =
     let o = c.open_sound-o in
     let first : Run = record { packed = c.args.packed; filled = 0; more = true; wrong = Nothing; left = o.result.left } in
-    (stands-first c.args.job first c.requires.0, o.auto.form ∙ c.requires.1, c.requires.2)
+    (stands-first c.args.job first c.requires.0, o.auto.space ∙ c.requires.1, c.requires.2)
