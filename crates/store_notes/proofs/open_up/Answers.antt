@@ -1,0 +1,9 @@
+use native.Mathlib.Omega.{arith}
+use Rattle.store_notes.proofs.Opening.{opened-is}
+use borrow.Author.Rules.{rules}
+use Rattle.store_notes.proofs.open_up.Goals as goal
+
+pub returns : goal.returns
+returns c =
+    let s = c.args in
+    opened-is s.cells.now s.at s.used s.new.now (omega arith) (omega arith) c.raise.ensures c.lay.ensures

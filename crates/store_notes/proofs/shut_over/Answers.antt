@@ -1,0 +1,9 @@
+use native.Mathlib.Omega.{arith}
+use Rattle.store_notes.proofs.Opening.{shut-is}
+use borrow.Author.Rules.{rules}
+use Rattle.store_notes.proofs.shut_over.Goals as goal
+
+pub returns : goal.returns
+returns c =
+    let s = c.args in
+    shut-is s.cells.now s.at s.used s.by (omega arith) c.lower.ensures

@@ -1,0 +1,20 @@
+use Prim.Native.Nat.{suc, ◌+◌, ◌-◌, ◌≤◌}
+use mathlib.Core.Path.{◌≡◌}
+use native.Mathlib.Omega.{arith}
+use lib.ListN.{take, drop}
+use Rattle.store_text.specs.Noted.{listed_at}
+use Rattle.store_rows.specs.Rows.{row_of, greeting}
+use Rattle.store_save.specs.Saved.{all_true}
+use Rattle.store_save.specs.Steps.{greetings_of}
+use Rattle.store_save.proofs.Compared.{Comparing, HeadTurn, comparing-first, comparing-end, comparing-missing}
+use Rattle.store_save.proofs.Compared.{comparing-turn, turn-lent, turn-part, turn-astray, turn_on}
+use borrow.Author.Rules.{rules}
+use Rattle.store_save.proofs.all_true.Given as goal
+
+-- Greeting by greeting (Compared, Comparing).
+abbrev pub invariant-loop-i : goal.invariant-loop-i
+invariant-loop-i l = (l.i ≤ l.n)
+    × Comparing l.form.most l.text l.block l.size (l.n - l.i) l.at (all_true l.block (greetings_of (listed_at l.form.most l.form.from l.text)))
+
+abbrev pub decreases-loop-i : goal.decreases-loop-i
+decreases-loop-i l = l.n - l.i

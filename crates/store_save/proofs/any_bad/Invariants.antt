@@ -1,0 +1,19 @@
+use Prim.Native.Nat.{◌-◌, ◌≤◌}
+use mathlib.Core.Path.{◌≡◌, sym, ap, ◌∙◌}
+use mathlib.Core.List.{List}
+use lib.ListN.{drop}
+use native.Mathlib.Omega.{arith}
+use Rattle.store_rows.specs.declared.rows.Row.{Row}
+use Rattle.store_rows.specs.Cells.{rows_at}
+use Rattle.store_rows.proofs.Left.{left, left-all}
+use Rattle.store_save.specs.Steps.{bad_by}
+use Rattle.store_save.proofs.Bad.{row_inside, bad-none, bad-here, bad-on}
+use borrow.Author.Rules.{rules}
+use Rattle.store_save.proofs.any_bad.Given as goal
+
+-- Greeting by greeting (Bad).
+abbrev pub invariant-loop-i : goal.invariant-loop-i
+invariant-loop-i l = (l.i ≤ l.n) × (bad_by l.block (left l.cells l.n l.i) (drop l.i l.laws) ≡ bad_by l.block (rows_at l.cells l.n 1) l.laws)
+
+abbrev pub decreases-loop-i : goal.decreases-loop-i
+decreases-loop-i l = l.n - l.i

@@ -1,0 +1,12 @@
+use Prim.Native.Nat.{◌-◌}
+use native.Mathlib.Omega.{arith}
+use Rattle.store_save.proofs.Holding.{Placed, rows_none, rows-turn, rows-put}
+use borrow.Author.Rules.{rules}
+use Rattle.store_save.proofs.put_rows.Given as goal
+
+-- Cell by cell (Holding).
+abbrev pub invariant-loop-i : goal.invariant-loop-i
+invariant-loop-i l = Placed l.cells l.n l.initial.table l.i l.table
+
+abbrev pub decreases-loop-i : goal.decreases-loop-i
+decreases-loop-i l = l.i-end - l.i

@@ -1,0 +1,11 @@
+-- With the line, and without it.
+use mathlib.Core.Path.{sym, ◌∙◌}
+use Rattle.store_text.proofs.Formed.{form-taken, form-left}
+use borrow.Author.Rules.{rules}
+use Rattle.store_text.proofs.form_of.Goals as goal
+
+pub returns-then-has_word : goal.returns-then-has_word
+returns-then-has_word c = form-taken _ (sym c.has_word.ensures ∙ c.if-has_word.true)
+
+pub returns : goal.returns
+returns c = form-left _ (sym c.has_word.ensures ∙ c.if-has_word.false)

@@ -1,0 +1,16 @@
+use Prim.Native.Nat.{◌*◌, ◌-◌, ◌≤◌}
+use native.Mathlib.Omega.{arith}
+use Rattle.store_text.specs.Noted.{listed_text}
+use Rattle.store_text.specs.Held.{held_in}
+use Rattle.store_text.proofs.Writing.{Counting, Within, within_first, within-here, within-turn, within-part}
+use Rattle.store_text.proofs.Writing.{text_left, text-start, text-over, octets-turn, counting-first, counting-end}
+use borrow.Author.Rules.{rules}
+use Rattle.store_text.proofs.octets_of.Given as goal
+
+-- Counted greeting by greeting (Writing, Counting).
+abbrev pub invariant-loop-i : goal.invariant-loop-i
+invariant-loop-i l = (l.i ≤ l.n) × Within l.heads l.marks l.n l.from l.i
+    × Counting (listed_text (held_in l.table l.heads l.marks l.n)) (text_left l.table l.heads l.marks l.n l.from l.i) l.sum (115964117079 * l.i)
+
+abbrev pub decreases-loop-i : goal.decreases-loop-i
+decreases-loop-i l = l.n - l.i

@@ -1,0 +1,32 @@
+-- Mark by mark, each behind those before it (Writing, Putting).
+use Prim.Native.Nat.{◌-◌, ◌≤◌}
+use native.Mathlib.Omega.{arith}
+use Rattle.store_notes.specs.Cells.{marks_in}
+use Rattle.store_text.specs.Noted.{marks_text}
+use Rattle.store_text.proofs.Writing.{Putting, putting-first, putting-fits, putting-turn, putting-end}
+use Rattle.store_text.proofs.Writing.{marks_left, mark_laid, marks-start, marks-left, marks-over}
+use borrow.Author.Rules.{rules}
+use Rattle.store_text.proofs.put_marks.Goals as goal
+
+pub loop-j-init : goal.loop-j-init
+loop-j-init c = (omega arith, putting-first _ _ (marks-start _ _))
+
+pub put_mark-end-requires : goal.put_mark-end-requires
+put_mark-end-requires c =
+    let a = c.args in
+    let j = c.loop-j.j in
+    let m = marks-left a.cells.now a.m j (omega arith) in
+    (omega arith, putting-fits c.loop-j.invariant.1 (mark_laid a.cells.now j) _ m (omega arith))
+
+pub loop-j-preserved : goal.loop-j-preserved
+loop-j-preserved c =
+    let a = c.args in
+    (omega arith, putting-turn c.loop-j.invariant.1 (marks-left a.cells.now a.m c.loop-j.j (omega arith)) c.put_mark-end.ensures)
+
+pub shape_of-out : goal.shape_of-out
+shape_of-out c = c.loop-j.invariant.1.puts.size
+
+pub returns : goal.returns
+returns c =
+    let a = c.args in
+    putting-end c.loop-j.invariant.1 (marks-over a.cells.now a.m c.loop-j.j (omega arith))
