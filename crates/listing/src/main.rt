@@ -2,49 +2,74 @@
 // hold stands in crate `listing_pages`.
 #![tactic(auto)]
 
-ghost use Rattle.std.specs.Prelude.{◌≤◌, length};
+ghost use Rattle.std.specs.Prelude.{◌≤◌, IfOk, length};
 ghost use Rattle.listing_pages.specs.Pages.{Stands};
 
 use listing_pages::Stand;
+use std::io;
+use std::io::{Print, Read};
 
 // The stream's lines, page by page.
-fn list_stream(stream: &[u8], law: u32, start: Stand, text: &mut [u8])
+fn list_stream(
+    rt: HostRuntime,
+    stream: &[u8],
+    law: u32,
+    start: Stand,
+    text: &mut [u8],
+) -> io::Result<()>
     requires { (Stands stream.now start) × (320 ≤ length text.old) }
 {
     let mut s = start;
     while !s.ended {
         let p = listing_pages::next_page(stream, law, s, text);
         let to = p.to;
-        io::write_all(1, &text[..to]);
+        Print::write_all(&rt.stdout(), &text[..to])?;
         let next = p.stand;
         s = next;
     }
+    Ok(())
 }
 
 // All that the listing of an input is.
-fn list(input: &[u8], text: &mut [u8])
+fn list(rt: HostRuntime, input: &[u8], text: &mut [u8]) -> io::Result<()>
     requires { 320 ≤ length text.old }
 {
     let p = listing_pages::open_listing(input, text);
     let to = p.to;
-    io::write_all(1, &text[..to]);
+    Print::write_all(&rt.stdout(), &text[..to])?;
     let s = p.stand;
     if s.ended {
-        return;
+        return Ok(());
     }
-    list_stream(&input[1..], p.law, s, text);
+    list_stream(rt, &input[1..], p.law, s, text)
+}
+
+// Reads standard input until the octets lent are full or it ends.
+fn read_full(rt: HostRuntime, input: &mut [u8]) -> io::Result<usize>
+    ensures { IfOk result (λ n. n ≤ length input.new) }
+{
+    let mut from = rt.stdin();
+    let mut done = 0;
+    while done < input.len() {
+        let n = from.read(&mut input[done..])?;
+        if n == 0 {
+            return Ok(done);
+        }
+        done += n;
+    }
+    Ok(done)
 }
 
 // Reads standard input and lists it.
-fn run(input: &mut [u8], text: &mut [u8])
+fn run(rt: HostRuntime, input: &mut [u8], text: &mut [u8]) -> io::Result<()>
     requires { 320 ≤ length text.old }
 {
-    let n = io::read_full(0, input);
-    list(&input[..n], text);
+    let n = read_full(rt, input)?;
+    list(rt, &input[..n], text)
 }
 
-fn main() {
+fn main(rt: HostRuntime) -> io::Result<()> {
     let mut space = [0u8; 65538];
     let mut page = [0u8; 8192];
-    run(&mut space, &mut page);
+    run(rt, &mut space, &mut page)
 }

@@ -9,7 +9,7 @@ use crate::cutting::{last_end, next_length};
 use rules::{Ending, LONGEST, Refusal, WriteAnswer};
 
 // How packing ended, and what was packed: the frames, the sound in them and their octets.
-#[derive(Drop)]
+#[derive(Clone, Copy)]
 pub struct PackAnswer {
     pub end: Ending,
     pub frames: usize,

@@ -5,7 +5,7 @@ ghost use Rattle.tool_playback.specs.Kinds.{kind_of};
 use recording_read::Heading;
 
 // A stream, a recording of a law, or what begins as a recording and has no heading.
-#[derive(Drop)]
+#[derive(Clone, Copy)]
 pub enum Kind {
     Stream,
     Recording(u32),

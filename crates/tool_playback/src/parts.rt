@@ -9,7 +9,7 @@ use recording::{Ending, Refusal};
 use recording_read::Played;
 
 // How octets are read: by a law and a tool set; as a recording, or as a stream, in which nothing is a loss.
-#[derive(Drop)]
+#[derive(Clone, Copy)]
 pub struct Reading {
     pub law: u32,
     pub set: u32,
@@ -17,7 +17,7 @@ pub struct Reading {
 }
 
 // How far: so many octets, and the items in them, whose frames have so many samples.
-#[derive(Drop)]
+#[derive(Clone, Copy)]
 pub struct Point {
     pub at: usize,
     pub items: usize,
@@ -26,7 +26,7 @@ pub struct Point {
 
 // A part: how it ended, the place where it ended, the refusal's bit, its items, how many of them are losses, the samples of its frames, and
 // whether there is more.
-#[derive(Drop)]
+#[derive(Clone, Copy)]
 pub struct Part {
     pub end: Ending,
     pub at: usize,

@@ -10,12 +10,14 @@ ghost use Rattle.tool_playback.specs.Lines.{Behind};
 use crate::parts::{Part, Point, Reading, next_part};
 use crate::telling::{Tells, tell_part};
 use recording::Ending;
+use std::fs::File;
+use std::io;
 use tool_console::Got;
 use tool_sound::sounds::{Trouble, Used, Way, is_well};
 
 // What came of octets: how they ended and where, the refusal's bit, the items, the losses among them, the samples that are well, and what
 // is wrong.
-#[derive(Drop)]
+#[derive(Clone, Copy)]
 pub struct Total {
     pub end: Ending,
     pub at: usize,
@@ -32,7 +34,7 @@ fn use_part(
     how: Reading,
     at: usize,
     p: Part,
-    way: Way,
+    way: Way<'_>,
     page: &[u8],
     master: &mut [u8],
 ) -> Used
@@ -45,9 +47,10 @@ fn use_part(
 
 // Part after part, page by page.
 fn parts(
+    rt: HostRuntime,
     body: &[u8],
     how: Reading,
-    way: Way,
+    way: Way<'_>,
     tells: Tells,
     base: Point,
     page: &mut [u8],
@@ -65,7 +68,7 @@ fn parts(
     loop {
         let p = next_part(body, how, at, page, &mut cells);
         let u = use_part(body, how, at, p, way, page, master);
-        tell_part(body, how, Point { at, items, samples }, p, tells, base);
+        tell_part(rt, body, how, Point { at, items, samples }, p, tells, base);
         let end = p.end;
         let wrong = u.wrong;
         items += p.items;
@@ -92,20 +95,26 @@ fn parts(
 
 // Octets behind what stands before them: their sound is used, and their losses, or all their items, are told. The second page is for a
 // master.
-fn play(body: &[u8], how: Reading, way: Way, tells: Tells, base: Point) -> Total
+fn play(
+    rt: HostRuntime,
+    body: &[u8],
+    how: Reading,
+    way: Way<'_>,
+    tells: Tells,
+    base: Point,
+) -> Total
     requires { (length body.now ≤ longest) × Behind how base }
     ensures tells_file { is_well result.wrong ≡ true → TellsFile body.now how result }
     ensures within { Within (length body.now) result }
 {
     let mut page = [0u8; 61440];
     let mut master = [0u8; 61440];
-    parts(body, how, way, tells, base, &mut page, &mut master)
+    parts(rt, body, how, way, tells, base, &mut page, &mut master)
 }
 
-// The octets of a file's frames or items: the file, where they begin in it, and how many they are.
-#[derive(Drop)]
+// The octets of a file's frames or items: where they begin in it, and how many they are. The file itself stands beside.
+#[derive(Clone, Copy)]
 pub struct Body {
-    pub fd: i32,
     pub skip: usize,
     pub size: usize,
 }
@@ -114,15 +123,15 @@ pub struct Body {
 const WINDOW: usize = 131072;
 
 // The octets of a window: those from a place on, as many as there are and as it holds.
-pub fn window_at(b: Body, at: usize, window: &mut [u8]) -> Got
+pub fn window_at(fd: &File, b: Body, at: usize, window: &mut [u8]) -> Got
     requires { (at ≤ b.size) × Reachable b }
     ensures { (result.count ≤ length window.new) × (at + result.count ≤ b.size) }
 {
     let left = b.size - at;
     if left < window.len() {
-        return tool_console::read_at(b.fd, b.skip + at, &mut window[..left]);
+        return tool_console::read_at(fd, b.skip + at, &mut window[..left]);
     }
-    tool_console::read_at(b.fd, b.skip + at, window)
+    tool_console::read_at(fd, b.skip + at, window)
 }
 
 // Whether another window follows: there are octets behind this one, which is full, and it ended clean or inside a frame (SHORT).
@@ -169,8 +178,8 @@ fn behind(done: Total, t: Total) -> Total
     }
 }
 
-// A file that can't be read further.
-fn unread(done: Total) -> Total
+// A file that can't be read further, and why.
+fn unread(done: Total, why: io::Error) -> Total
     ensures { UnreadAfter done result }
 {
     Total {
@@ -180,21 +189,32 @@ fn unread(done: Total) -> Total
         items: done.items,
         lost: done.lost,
         samples: done.samples,
-        wrong: Trouble::Unread,
+        wrong: Trouble::Unread(why),
     }
 }
 
+// The system's number where no call failed.
+const NO_ERROR: i32 = 0;
+
 // A file, window by window: each begins where an item does.
-fn windows(b: Body, how: Reading, way: Way, tells: Tells, window: &mut [u8]) -> Total
+fn windows(
+    rt: HostRuntime,
+    fd: &File,
+    b: Body,
+    how: Reading,
+    way: Way<'_>,
+    tells: Tells,
+    window: &mut [u8],
+) -> Total
     requires { Reachable b × Lawful how }
     ensures tells_one { is_well result.wrong ≡ true → TellsOne how result }
     ensures within { Within b.size result }
 {
     let mut done = nothing();
     loop {
-        let got = window_at(b, done.at, window);
-        if got.failed {
-            return unread(done);
+        let got = window_at(fd, b, done.at, window);
+        if let Some(why) = got.failed {
+            return unread(done, why);
         }
         let n = got.count;
         let base = Point {
@@ -202,7 +222,7 @@ fn windows(b: Body, how: Reading, way: Way, tells: Tells, window: &mut [u8]) -> 
             items: done.items,
             samples: done.samples,
         };
-        let t = play(&window[..n], how, way, tells, base);
+        let t = play(rt, &window[..n], how, way, tells, base);
         let total = behind(done, t);
         let wrong = t.wrong;
         if !is_well(wrong) {
@@ -213,18 +233,25 @@ fn windows(b: Body, how: Reading, way: Way, tells: Tells, window: &mut [u8]) -> 
             return total;
         }
         if t.at == 0 {
-            return unread(done);
+            return unread(done, io::Error::from_raw_os_error(NO_ERROR));
         }
         done = total;
     }
 }
 
 // A whole file: its sound is used, and its losses, or all its items, are told.
-pub fn play_file(b: Body, how: Reading, way: Way, tells: Tells) -> Total
+pub fn play_file(
+    rt: HostRuntime,
+    fd: &File,
+    b: Body,
+    how: Reading,
+    way: Way<'_>,
+    tells: Tells,
+) -> Total
     requires { Reachable b × Lawful how }
     ensures tells_one { is_well result.wrong ≡ true → TellsOne how result }
     ensures within { Within b.size result }
 {
     let mut window = [0u8; WINDOW];
-    windows(b, how, way, tells, &mut window)
+    windows(rt, fd, b, how, way, tells, &mut window)
 }

@@ -8,7 +8,7 @@ use crate::parts::{Part, Point, Reading, next_part};
 use recording::marking::LOSS_FROM;
 
 // What is told of the items.
-#[derive(Drop)]
+#[derive(Clone, Copy)]
 pub enum Tells {
     Nothing,
     Losses,
@@ -30,7 +30,7 @@ fn put_loss(number: usize, place: usize, samples: usize, heard: usize, out: &mut
 
 // Says a loss of `n` samples, where it stands behind what is before the octets. These, and how they are read, stand here for the contract
 // alone.
-fn say_loss(body: &[u8], how: Reading, here: Point, n: usize, base: Point)
+fn say_loss(rt: HostRuntime, body: &[u8], how: Reading, here: Point, n: usize, base: Point)
     requires { (LossAt body.now how here n) × Sums base here × Behind how base }
 {
     let mut text = [0u8; 160];
@@ -41,11 +41,11 @@ fn say_loss(body: &[u8], how: Reading, here: Point, n: usize, base: Point)
         base.samples + here.samples,
         &mut text,
     );
-    tool_console::say(&text[..to]);
+    tool_console::say(rt, &text[..to]);
 }
 
 // Says a frame, as the listing does.
-fn say_frame(body: &[u8], how: Reading, here: Point, base: Point)
+fn say_frame(rt: HostRuntime, body: &[u8], how: Reading, here: Point, base: Point)
     requires { (here.at ≤ length body.now) × Sums base here }
 {
     let mut samples = [0u8; 320];
@@ -61,11 +61,20 @@ fn say_frame(body: &[u8], how: Reading, here: Point, base: Point)
         &mut text,
         0,
     );
-    tool_console::say(&text[..to]);
+    tool_console::say(rt, &text[..to]);
 }
 
 // Says an item, alone in its part: a loss always, a frame where all are told.
-fn say_item(body: &[u8], how: Reading, here: Point, p: Part, cell: u16, tells: Tells, base: Point)
+fn say_item(
+    rt: HostRuntime,
+    body: &[u8],
+    how: Reading,
+    here: Point,
+    p: Part,
+    cell: u16,
+    tells: Tells,
+    base: Point,
+)
     requires { (here.at ≤ length body.now) × (NextItem body.now how here cell p) × Sums base here × Behind how base }
 {
     if p.items == 0 {
@@ -73,18 +82,26 @@ fn say_item(body: &[u8], how: Reading, here: Point, p: Part, cell: u16, tells: T
     }
     if p.lost != 0 {
         let n = (cell - LOSS_FROM) as usize;
-        say_loss(body, how, here, n, base);
+        say_loss(rt, body, how, here, n, base);
         return;
     }
     match tells {
-        Tells::All => say_frame(body, how, here, base),
+        Tells::All => say_frame(rt, body, how, here, base),
         Tells::Losses => {}
         Tells::Nothing => {}
     }
 }
 
 // What is told of so many items from a place on. They are played one by one, so that the place of each is known.
-fn tell(body: &[u8], how: Reading, from: Point, items: usize, tells: Tells, base: Point)
+fn tell(
+    rt: HostRuntime,
+    body: &[u8],
+    how: Reading,
+    from: Point,
+    items: usize,
+    tells: Tells,
+    base: Point,
+)
     requires { (length body.now ≤ longest) × Follows body.now how from × Behind how base }
 {
     let mut page = [0u8; 320];
@@ -93,7 +110,7 @@ fn tell(body: &[u8], how: Reading, from: Point, items: usize, tells: Tells, base
     let mut left = items;
     while 0 < left {
         let p = next_part(body, how, here.at, &mut page, &mut one);
-        say_item(body, how, here, p, one[0], tells, base);
+        say_item(rt, body, how, here, p, one[0], tells, base);
         if !p.more {
             return;
         }
@@ -107,16 +124,24 @@ fn tell(body: &[u8], how: Reading, from: Point, items: usize, tells: Tells, base
 }
 
 // What is told of a part: nothing where nothing is asked, or where it has no loss and only these are.
-pub fn tell_part(body: &[u8], how: Reading, here: Point, p: Part, tells: Tells, base: Point)
+pub fn tell_part(
+    rt: HostRuntime,
+    body: &[u8],
+    how: Reading,
+    here: Point,
+    p: Part,
+    tells: Tells,
+    base: Point,
+)
     requires { (length body.now ≤ longest) × Follows body.now how here × Behind how base }
 {
     match tells {
         Tells::Nothing => {}
         Tells::Losses => {
             if p.lost != 0 {
-                tell(body, how, here, p.items, tells, base);
+                tell(rt, body, how, here, p.items, tells, base);
             }
         }
-        Tells::All => tell(body, how, here, p.items, tells, base),
+        Tells::All => tell(rt, body, how, here, p.items, tells, base),
     }
 }

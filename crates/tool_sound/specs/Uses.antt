@@ -6,9 +6,9 @@ use Rattle.tool_sound.specs.declared.sounds.Used.{Used}
 
 abbrev pub is_well : Trouble → Bool
 is_well Nothing = true
-is_well Failed = false
+is_well (Failed why) = false
 is_well (Master how) = false
-is_well Unread = false
+is_well (Unread why) = false
 
 -- of a sound of so many octets: all of it is well where nothing is wrong
 pub record UsesUpTo (size : ℕ) (r : Used) : Type 0 where

@@ -4,7 +4,7 @@ ghost use Rattle.std.specs.Int.Signed.{shr_z};
 ghost use Rattle.tool_sound.specs.Masters.{unit_of, value_of, sample_for, value_for, Splits, Sounds, Masters};
 
 // A value's two octets.
-#[derive(Drop)]
+#[derive(Clone, Copy)]
 pub struct Pair {
     pub low: u8,
     pub high: u8,

@@ -5,25 +5,28 @@ ghost use Rattle.std.specs.Prelude.{◌≤◌, ◌<◌, ◌≡◌, length};
 ghost use Rattle.tool_sound.specs.Uses.{is_well, UsesUpTo};
 
 use crate::wave::{Heading, Wrong};
+use std::io;
+use std::io::ErrorKind;
+use tool_console::{InFile, OutFile};
 use tool_words::options::{Form, Tool};
 
-// A part that was read: its samples, whether a read failed, and how many octets the file should still have.
-#[derive(Drop)]
+// A part that was read: its samples, why a read failed, if one did, and how many octets the file should still have.
+#[derive(Clone, Copy)]
 pub struct Heard {
     pub count: usize,
-    pub failed: bool,
+    pub failed: Option<io::Error>,
     pub left: usize,
 }
 
 // A sound that was opened: how many octets it should have, 0 where nothing tells it; and whether it was refused.
-#[derive(Drop)]
+#[derive(Clone, Copy)]
 pub struct Opened {
     pub refused: bool,
     pub left: usize,
 }
 
 // At most so many octets, read as linear values; `left` is how many octets came.
-fn read_values(fd: i32, law: u32, most: usize, octets: &mut [u8], part: &mut [u8]) -> Heard
+fn read_values(fd: &InFile, law: u32, most: usize, octets: &mut [u8], part: &mut [u8]) -> Heard
     requires { most ≤ length octets.old }
     ensures { result.count ≤ length part.new }
 {
@@ -38,7 +41,7 @@ fn read_values(fd: i32, law: u32, most: usize, octets: &mut [u8], part: &mut [u8
 }
 
 // The same with octets of its own, which are two for each sample of a part.
-fn read_linear(fd: i32, law: u32, most: usize, part: &mut [u8]) -> Heard
+fn read_linear(fd: &InFile, law: u32, most: usize, part: &mut [u8]) -> Heard
     requires { most ≤ 122880 }
     ensures { result.count ≤ length part.new }
 {
@@ -65,7 +68,7 @@ fn left_after(left: usize, came: usize) -> usize {
 }
 
 // The next samples of a sound, as many as the part holds: 61,440. Linear values without a heading have the other half of a value left.
-pub fn read_part(fd: i32, form: Form, law: u32, left: usize, part: &mut [u8]) -> Heard
+pub fn read_part(fd: &InFile, form: Form, law: u32, left: usize, part: &mut [u8]) -> Heard
     ensures { result.count ≤ length part.new }
 {
     match form {
@@ -97,25 +100,27 @@ pub fn read_part(fd: i32, form: Form, law: u32, left: usize, part: &mut [u8]) ->
 }
 
 // What is wrong with a WAV file, and what it has there.
-fn say_what(before: &[u8], what: u32, after: &[u8]) {
-    tool_console::say_number(before, what as usize);
-    tool_console::say(after);
+fn say_what(rt: HostRuntime, before: &[u8], what: u32, after: &[u8]) {
+    tool_console::say_number(rt, before, what as usize);
+    tool_console::say(rt, after);
 }
 
-fn say_format(what: u32) {
-    say_what(b"the WAV file has format ", what, b", and PCM is 1\n");
+fn say_format(rt: HostRuntime, what: u32) {
+    say_what(rt, b"the WAV file has format ", what, b", and PCM is 1\n");
 }
 
-fn say_short_format(what: u32) {
+fn say_short_format(rt: HostRuntime, what: u32) {
     say_what(
+        rt,
         b"the WAV file tells its format in ",
         what,
         b" octets, and 16 are needed\n",
     );
 }
 
-fn say_odd_sound(what: u32) {
+fn say_odd_sound(rt: HostRuntime, what: u32) {
     say_what(
+        rt,
         b"the WAV file has a sound of ",
         what,
         b" octets, half a sample too many\n",
@@ -123,30 +128,34 @@ fn say_odd_sound(what: u32) {
 }
 
 // What it has of something else, and what a master has of it.
-fn say_has(what: u32, after: &[u8]) {
-    say_what(b"the WAV file has ", what, after);
+fn say_has(rt: HostRuntime, what: u32, after: &[u8]) {
+    say_what(rt, b"the WAV file has ", what, after);
 }
 
 // Why a WAV file is refused.
-fn say_wrong(why: Wrong) {
-    tool_console::say_tool(Tool::Pack);
+fn say_wrong(rt: HostRuntime, why: Wrong) {
+    tool_console::say_tool(rt, Tool::Pack);
     match why {
-        Wrong::NotWave => tool_console::say(b"this is no WAV file\n"),
-        Wrong::Format(what) => say_format(what),
-        Wrong::Channels(what) => say_has(what, b" channels, and a master has 1\n"),
-        Wrong::Rate(what) => say_has(what, b" samples a second, and a master has 8000\n"),
-        Wrong::Bits(what) => say_has(what, b" bits a sample, and a master has 16\n"),
-        Wrong::ShortFormat(what) => say_short_format(what),
-        Wrong::NoFormat => tool_console::say(b"the WAV file tells no format before its sound\n"),
-        Wrong::OddSound(what) => say_odd_sound(what),
+        Wrong::NotWave => tool_console::say(rt, b"this is no WAV file\n"),
+        Wrong::Format(what) => say_format(rt, what),
+        Wrong::Channels(what) => say_has(rt, what, b" channels, and a master has 1\n"),
+        Wrong::Rate(what) => say_has(rt, what, b" samples a second, and a master has 8000\n"),
+        Wrong::Bits(what) => say_has(rt, what, b" bits a sample, and a master has 16\n"),
+        Wrong::ShortFormat(what) => say_short_format(rt, what),
+        Wrong::NoFormat => tool_console::say(
+            rt,
+            b"the WAV file tells no format before its sound\n",
+        ),
+        Wrong::OddSound(what) => say_odd_sound(rt, what),
         Wrong::ManyChunks => tool_console::say(
+            rt,
             b"the WAV file has more than 32 chunks before its sound\n",
         ),
     }
 }
 
 // So many octets more of a heading. The answer is where they end; 0 says that they don't come.
-fn more_octets(fd: i32, n: usize, k: usize, space: &mut [u8]) -> usize
+fn more_octets(fd: &InFile, n: usize, k: usize, space: &mut [u8]) -> usize
     requires { n ≤ length space.old }
     ensures { ((result ≡ 0 → ⊥) → n < result) × (result ≤ length space.new) }
 {
@@ -164,13 +173,16 @@ fn more_octets(fd: i32, n: usize, k: usize, space: &mut [u8]) -> usize
     end
 }
 
-fn say_no_heading() {
-    tool_console::say_tool(Tool::Pack);
-    tool_console::say(b"the WAV file ends inside its heading, or the heading is too long\n");
+fn say_no_heading(rt: HostRuntime) {
+    tool_console::say_tool(rt, Tool::Pack);
+    tool_console::say(
+        rt,
+        b"the WAV file ends inside its heading, or the heading is too long\n",
+    );
 }
 
 // The heading of a WAV file, octets after octets as it asks for them.
-fn read_heading(fd: i32, space: &mut [u8]) -> Opened {
+fn read_heading(rt: HostRuntime, fd: &InFile, space: &mut [u8]) -> Opened {
     let mut n = 0;
     loop {
         let heading = crate::wave::heading_in(&space[..n]);
@@ -180,7 +192,7 @@ fn read_heading(fd: i32, space: &mut [u8]) -> Opened {
                 left: size,
             },
             Heading::Refused(why) => {
-                say_wrong(why);
+                say_wrong(rt, why);
                 return Opened {
                     refused: true,
                     left: 0,
@@ -189,7 +201,7 @@ fn read_heading(fd: i32, space: &mut [u8]) -> Opened {
             Heading::More(k) => {
                 let end = more_octets(fd, n, k, space);
                 if end == 0 {
-                    say_no_heading();
+                    say_no_heading(rt);
                     return Opened {
                         refused: true,
                         left: 0,
@@ -202,7 +214,7 @@ fn read_heading(fd: i32, space: &mut [u8]) -> Opened {
 }
 
 // What comes before the sound: a heading in a WAV file, else nothing.
-pub fn open_sound(fd: i32, form: Form, space: &mut [u8]) -> Opened {
+pub fn open_sound(rt: HostRuntime, fd: &InFile, form: Form, space: &mut [u8]) -> Opened {
     let none = Opened {
         refused: false,
         left: 0,
@@ -210,54 +222,54 @@ pub fn open_sound(fd: i32, form: Form, space: &mut [u8]) -> Opened {
     match form {
         Form::Raw => none,
         Form::Linear => none,
-        Form::Wave => read_heading(fd, space),
+        Form::Wave => read_heading(rt, fd, space),
     }
 }
 
 // A part of a sound, written as linear values. A part has at most 61,440 samples.
-fn write_linear(fd: i32, law: u32, sound: &[u8]) -> bool {
+fn write_linear(fd: &OutFile, law: u32, sound: &[u8]) -> io::Result<()> {
     if 61440 < sound.len() {
-        return false;
+        return Err(io::Error::from(ErrorKind::InvalidInput));
     }
     let mut octets = [0u8; 122880];
     let n = crate::masters::master_of(sound, law, &mut octets);
-    io::write_all(fd, &octets[..n])
+    tool_console::write_out(fd, &octets[..n])
 }
 
-// A part of a sound, written in its form.
-fn write_part(fd: i32, form: Form, law: u32, sound: &[u8]) -> bool {
+// A part of a sound, written in its form; after an error some of it may be written.
+fn write_part(fd: &OutFile, form: Form, law: u32, sound: &[u8]) -> io::Result<()> {
     match form {
-        Form::Raw => io::write_all(fd, sound),
+        Form::Raw => tool_console::write_out(fd, sound),
         Form::Linear => write_linear(fd, law, sound),
         Form::Wave => write_linear(fd, law, sound),
     }
 }
 
-// The heading of a WAV file of so many samples, where its length can tell them.
-pub fn write_heading(fd: i32, samples: usize) -> bool {
+// The heading of a WAV file of so many samples, where its length can tell them; after an error some of it may be written.
+pub fn write_heading(fd: &OutFile, samples: usize) -> io::Result<()> {
     if 0x7FFFFFFF < samples {
-        return false;
+        return Err(io::Error::from(ErrorKind::InvalidInput));
     }
     let heading = crate::wave::heading_for((2 * samples) as u32);
-    io::write_all(fd, &heading)
+    tool_console::write_out(fd, &heading)
 }
 
 // How a master is unlike the sound: it differs, is shorter or is longer.
-#[derive(Drop)]
+#[derive(Clone, Copy)]
 pub enum Unlike {
     Differs,
     Shorter,
     Longer,
 }
 
-// What is wrong with the files of a sound: nothing; the file that is written or compared fails; the master is unlike the sound; the file
-// that is played can't be read.
-#[derive(Drop)]
+// What is wrong with the files of a sound: nothing; the file that is written or compared fails, and why; the master is unlike the sound;
+// the file that is played can't be read, and why.
+#[derive(Clone, Copy)]
 pub enum Trouble {
     Nothing,
-    Failed,
+    Failed(io::Error),
     Master(Unlike),
-    Unread,
+    Unread(io::Error),
 }
 
 pub fn is_well(wrong: Trouble) -> bool
@@ -265,24 +277,24 @@ pub fn is_well(wrong: Trouble) -> bool
 {
     match wrong {
         Trouble::Nothing => true,
-        Trouble::Failed => false,
+        Trouble::Failed(_) => false,
         Trouble::Master(_) => false,
-        Trouble::Unread => false,
+        Trouble::Unread(_) => false,
     }
 }
 
 // What came of a part's sound: what is wrong, and how many octets are well.
-#[derive(Drop)]
+#[derive(Clone, Copy)]
 pub struct Used {
     pub wrong: Trouble,
     pub good: usize,
 }
 
 // What is done with a sound: it is compared with a master, written to a file in a form, or only counted.
-#[derive(Drop)]
-pub enum Way {
-    Compared(i32),
-    Written(i32, Form),
+#[derive(Clone, Copy)]
+pub enum Way<'a> {
+    Compared(&'a InFile),
+    Written(&'a OutFile, Form),
     Counted,
 }
 
@@ -297,28 +309,28 @@ fn all_well(good: usize) -> Used
 }
 
 // A part of a sound, written in its form, and what came of it.
-fn written(fd: i32, form: Form, law: u32, sound: &[u8]) -> Used
+fn written(fd: &OutFile, form: Form, law: u32, sound: &[u8]) -> Used
     ensures { UsesUpTo (length sound.now) result }
 {
-    if write_part(fd, form, law, sound) {
-        return all_well(sound.len());
-    }
-    Used {
-        wrong: Trouble::Failed,
-        good: 0,
+    match write_part(fd, form, law, sound) {
+        Ok(()) => all_well(sound.len()),
+        Err(why) => Used {
+            wrong: Trouble::Failed(why),
+            good: 0,
+        },
     }
 }
 
 // A part of a sound, compared with as much of the master.
-fn compared(fd: i32, sound: &[u8], master: &mut [u8]) -> Used
+fn compared(fd: &InFile, sound: &[u8], master: &mut [u8]) -> Used
     requires { length sound.now ≤ length master.old }
     ensures { UsesUpTo (length sound.now) result }
 {
     let n = sound.len();
     let got = tool_console::read_part(fd, &mut master[..n]);
-    if got.failed {
+    if let Some(why) = got.failed {
         return Used {
-            wrong: Trouble::Failed,
+            wrong: Trouble::Failed(why),
             good: 0,
         };
     }
@@ -343,7 +355,7 @@ fn compared(fd: i32, sound: &[u8], master: &mut [u8]) -> Used
 }
 
 // A part of a sound, written, compared or counted.
-pub fn use_sound(way: Way, law: u32, sound: &[u8], master: &mut [u8]) -> Used
+pub fn use_sound(way: Way<'_>, law: u32, sound: &[u8], master: &mut [u8]) -> Used
     requires { length sound.now ≤ length master.old }
     ensures { UsesUpTo (length sound.now) result }
 {
@@ -355,11 +367,11 @@ pub fn use_sound(way: Way, law: u32, sound: &[u8], master: &mut [u8]) -> Used
 }
 
 // What is wrong with a master after its octets for all the sound: nothing, or it is longer.
-pub fn left_over(fd: i32) -> Trouble {
+pub fn left_over(fd: &InFile) -> Trouble {
     let mut one = [0u8; 1];
     let got = tool_console::read_part(fd, &mut one);
-    if got.failed {
-        return Trouble::Failed;
+    if let Some(why) = got.failed {
+        return Trouble::Failed(why);
     }
     if got.count == 0 {
         return Trouble::Nothing;
@@ -368,17 +380,20 @@ pub fn left_over(fd: i32) -> Trouble {
 }
 
 // How a master is unlike the sound, and where.
-fn say_unlike(how: Unlike, place: usize) {
+fn say_unlike(rt: HostRuntime, how: Unlike, place: usize) {
     match how {
         Unlike::Shorter => tool_console::say_number(
+            rt,
             b"the master is shorter: it ends at octet ",
             place,
         ),
         Unlike::Longer => tool_console::say_number(
+            rt,
             b"the master is longer: the sound ends at octet ",
             place,
         ),
         Unlike::Differs => tool_console::say_number(
+            rt,
             b"the sound differs from the master at octet ",
             place,
         ),
@@ -386,9 +401,9 @@ fn say_unlike(how: Unlike, place: usize) {
 }
 
 // The same, and the last line.
-pub fn differs(how: Unlike, place: usize) {
-    tool_console::say_tool(Tool::Unpack);
-    say_unlike(how, place);
-    tool_console::say(b"\n");
-    tool_console::stop(Tool::Unpack, 65, place, 0, 0);
+pub fn differs(rt: HostRuntime, how: Unlike, place: usize) {
+    tool_console::say_tool(rt, Tool::Unpack);
+    say_unlike(rt, how, place);
+    tool_console::say(rt, b"\n");
+    tool_console::stop(rt, Tool::Unpack, 65, place, 0, 0);
 }

@@ -4,7 +4,7 @@ ghost use Rattle.tool_sound.specs.Headings.{half_at, word_at, format_at, sound_o
 
 // Why a heading is refused: no WAV file; another format than PCM, other channels, rate or bits; a format of so few octets;
 // no format before the sound; a sound of an odd number of octets; more than 32 chunks before the sound.
-#[derive(Drop)]
+#[derive(Clone, Copy)]
 pub enum Wrong {
     NotWave,
     Format(u32),
@@ -19,7 +19,7 @@ pub enum Wrong {
 
 // What octets from a file's start tell: so many octets more are needed, or the heading is whole and a sound of so many octets
 // follows, or it is refused.
-#[derive(Drop)]
+#[derive(Clone, Copy)]
 pub enum Heading {
     More(usize),
     Sound(usize),
@@ -27,7 +27,7 @@ pub enum Heading {
 }
 
 // After a chunk: its size, and whether a format was met; or the heading is told.
-#[derive(Drop)]
+#[derive(Clone, Copy)]
 pub enum Step {
     On(u32, bool),
     Ends(Heading),

@@ -36,7 +36,7 @@ pub fn ending_at(name: &[u8]) -> usize
 }
 
 // What a name or an option tells of the law.
-#[derive(Drop)]
+#[derive(Clone, Copy)]
 pub enum Law {
     Known(u32),
     Unknown,

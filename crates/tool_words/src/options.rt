@@ -8,7 +8,7 @@ use crate::filenames::{Law, law_told};
 use crate::texts::{Number, number_in};
 
 // The tools: `unpack`, `pack`, `why`, which says why `pack` takes its tools, and `mend`.
-#[derive(Drop)]
+#[derive(Clone, Copy)]
 pub enum Tool {
     Unpack,
     Pack,
@@ -17,7 +17,7 @@ pub enum Tool {
 }
 
 // The form of the sound: raw G.711, linear values, or a WAV file.
-#[derive(Drop)]
+#[derive(Clone, Copy)]
 pub enum Form {
     Raw,
     Linear,
@@ -26,7 +26,7 @@ pub enum Form {
 
 // What is said by an option alone: of `pack` that the sound is filled up, and that a recording is written; of `unpack` that a recording's
 // items are listed, and that it goes on over losses.
-#[derive(Drop)]
+#[derive(Clone, Copy)]
 pub enum Flag {
     Fill,
     Records,
@@ -34,7 +34,7 @@ pub enum Flag {
     On,
 }
 
-#[derive(Drop)]
+#[derive(Clone, Copy)]
 pub struct Flags {
     pub fill: bool,
     pub records: bool,
@@ -43,7 +43,7 @@ pub struct Flags {
 }
 
 // The number that follows an option: the frame length, the tool set, a frame, or the total of samples.
-#[derive(Drop)]
+#[derive(Clone, Copy)]
 pub enum Count {
     Length,
     Set,
@@ -53,7 +53,7 @@ pub enum Count {
 
 // What an argument is: a file; an option that says something; one whose word, a number or MASTER's name, is the next argument; one with its
 // number; or nothing that is known.
-#[derive(Drop)]
+#[derive(Clone, Copy)]
 pub enum Argument {
     File,
     Law(u32),
@@ -66,7 +66,7 @@ pub enum Argument {
 }
 
 // What is wrong with an argument: an option that is not known, no number, a file too many, a word that is missing, or it is too long.
-#[derive(Drop)]
+#[derive(Clone, Copy)]
 pub enum Wrong {
     Unknown,
     NoNumber,
@@ -76,7 +76,7 @@ pub enum Wrong {
 }
 
 // What the next argument is to be: any; the word of an option; or none counts, since this one was wrong.
-#[derive(Drop)]
+#[derive(Clone, Copy)]
 pub enum State {
     Ready,
     Counts(Count),
@@ -86,7 +86,7 @@ pub enum State {
 
 // The settings that the arguments make. Files are given by their arguments' numbers, 0 is none. `only` says that a frame is told, `known`
 // that a total is.
-#[derive(Drop)]
+#[derive(Clone, Copy)]
 pub struct Settings {
     pub tool: Tool,
     pub law: Law,
@@ -104,7 +104,7 @@ pub struct Settings {
 }
 
 // The settings so far, and what comes next.
-#[derive(Drop)]
+#[derive(Clone, Copy)]
 pub struct Words {
     pub said: Settings,
     pub state: State,

@@ -21,7 +21,7 @@ pub fn is_same(a: &[u8], b: &[u8]) -> bool
 }
 
 // A decimal number of 1 to 9 digits, or none.
-#[derive(Drop)]
+#[derive(Clone, Copy)]
 pub enum Number {
     Is(u32),
     Not,
@@ -64,7 +64,8 @@ pub fn lay(first: &[u8], second: &[u8], out: &mut [u8]) -> usize
     if room - from < second.len() {
         return 0;
     }
-    bytes::copy(first, out);
-    bytes::copy(second, &mut out[from..]);
-    from + second.len()
+    let end = from + second.len();
+    out[..from].copy_from_slice(first);
+    out[from..end].copy_from_slice(second);
+    end
 }

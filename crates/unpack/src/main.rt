@@ -10,7 +10,9 @@ ghost use Rattle.tool_playback.specs.Runs.{Reachable, Lawful, Within};
 
 use recording::marking::HEADING;
 use rules::Ending;
-use tool_console::Source;
+use std::fs::File;
+use std::io;
+use tool_console::{InFile, OutFile, Source};
 use tool_playback::kinds::Kind;
 use tool_playback::parts::Reading;
 use tool_playback::playing::{Body, Total, play_file};
@@ -20,82 +22,98 @@ use tool_words::filenames::Law;
 use tool_words::options::{Flags, Form, Settings, Tool};
 
 // Losses end a run with a status of their own, unless it is to go on.
-fn stop_well(t: Total, on: bool) {
+fn stop_well(rt: HostRuntime, t: Total, on: bool) {
     if t.lost == 0 || on {
-        tool_console::stop(Tool::Unpack, 0, t.at, 0, 0);
+        tool_console::stop(rt, Tool::Unpack, 0, t.at, 0, 0);
         return;
     }
     tool_console::say(
+        rt,
         b"unpack: the recording has losses, so this is not all of its sound; -g goes on all the same\n",
     );
-    tool_console::stop(Tool::Unpack, 66, t.at, 0, 0);
+    tool_console::stop(rt, Tool::Unpack, 66, t.at, 0, 0);
 }
 
 // What was done: the frames are the items that are no losses, and a recording's octets count the heading.
-fn say_done(t: Total, records: bool)
+fn say_done(rt: HostRuntime, t: Total, records: bool)
     requires { Within longest t }
 {
     if records {
-        tool_console::summary_of_recording(t.items - t.lost, t.samples, t.at + HEADING, t.lost);
+        tool_console::summary_of_recording(rt, t.items - t.lost, t.samples, t.at + HEADING, t.lost);
     } else {
-        tool_console::summary(t.items - t.lost, t.samples, t.at);
+        tool_console::summary(rt, t.items - t.lost, t.samples, t.at);
     }
 }
 
 // The last lines of a run in which nothing is wrong with the files: what was done, and the refusal if there is one.
-fn finish(t: Total, records: bool, on: bool)
+fn finish(rt: HostRuntime, t: Total, records: bool, on: bool)
     requires { Within longest t }
 {
-    say_done(t, records);
+    say_done(rt, t, records);
     let end = t.end;
     let number = recording::number_of(end);
     if number != 0 {
-        tool_console::refused(Tool::Unpack, number, t.at, recording::tool_of(end), t.bit);
+        tool_console::refused(
+            rt,
+            Tool::Unpack,
+            number,
+            t.at,
+            recording::tool_of(end),
+            t.bit,
+        );
         return;
     }
-    stop_well(t, on);
+    stop_well(rt, t, on);
 }
 
-// Opens the file, and finds out how many octets it has; says what failed.
-fn open_file(name: &[u8], part: &mut [u8]) -> Source
+// Opens the file, and finds out how many octets it has.
+fn source_in(rt: HostRuntime, name: &[u8], part: &mut [u8]) -> io::Result<Source>
     requires { (1 ≤ length part.old) × (length part.old < 2 ^ 32) }
 {
-    let fd = tool_console::open_in(name);
-    if fd < 0 {
-        tool_console::failed(Tool::Unpack, name, b"standard input");
-        return Source {
-            fd,
-            size: 0,
-            failed: true,
-        };
+    let fd = tool_console::open_in(rt, name)?;
+    tool_console::source_of(rt, &fd, rules::LONGEST + HEADING, part)
+}
+
+// The same; says what failed.
+fn open_file(rt: HostRuntime, name: &[u8], part: &mut [u8]) -> Option<Source>
+    requires { (1 ≤ length part.old) × (length part.old < 2 ^ 32) }
+{
+    match source_in(rt, name, part) {
+        Ok(source) => Some(source),
+        Err(why) => {
+            tool_console::failed(rt, Tool::Unpack, name, b"standard input", why);
+            None
+        }
     }
-    let source = tool_console::source_of(fd, rules::LONGEST + HEADING, part);
-    if source.failed {
-        tool_console::failed(Tool::Unpack, name, b"standard input");
-    }
-    source
 }
 
 // A WAV file tells before its sound how long it is: the frames are read once for that.
-fn wave_heading(b: Body, how: Reading, fd: i32) -> bool
+fn wave_heading(rt: HostRuntime, file: &File, b: Body, how: Reading, fd: &OutFile) -> io::Result<()>
     requires { Reachable b × Lawful how }
 {
-    let t = play_file(b, how, Way::Counted, Tells::Nothing);
+    let t = play_file(rt, file, b, how, Way::Counted, Tells::Nothing);
     let wrong = t.wrong;
     if !tool_sound::sounds::is_well(wrong) {
-        return true;
+        return Ok(());
     }
     tool_sound::sounds::write_heading(fd, t.samples)
 }
 
 // What stands before the sound in its form.
-fn heading_written(b: Body, how: Reading, form: Form, fd: i32) -> bool
+fn heading_written(
+    rt: HostRuntime,
+    file: &File,
+    b: Body,
+    how: Reading,
+    form: Form,
+    fd: &OutFile,
+) -> io::Result<()>
     requires { Reachable b × Lawful how }
 {
     match form {
-        Form::Raw => true,
-        Form::Linear => true,
-        Form::Wave => wave_heading(b, how, fd),
+        Form::Raw => Ok(()),
+        Form::Linear => Ok(()),
+        Form::Wave => wave_heading(rt, file, b, how, fd),
     }
 }
 
@@ -108,99 +126,192 @@ fn tells_of(f: Flags) -> Tells {
 }
 
 // What came of writing the sound, and the last lines.
-fn written(t: Total, how: Reading, on: bool, from: &[u8], name: &[u8], fd: i32)
+fn written(rt: HostRuntime, t: Total, how: Reading, on: bool, from: &[u8], name: &[u8], fd: OutFile)
     requires { Within longest t }
 {
     let wrong = t.wrong;
     match wrong {
-        Trouble::Unread => tool_console::failed(Tool::Unpack, from, b"standard input"),
-        Trouble::Nothing => {
-            if tool_console::close(fd) {
-                finish(t, how.records, on);
-                return;
-            }
-            tool_console::failed(Tool::Unpack, name, b"standard output");
-        }
-        Trouble::Failed => tool_console::failed(Tool::Unpack, name, b"standard output"),
-        Trouble::Master(_) => tool_console::failed(Tool::Unpack, name, b"standard output"),
+        Trouble::Unread(why) => tool_console::failed(
+            rt,
+            Tool::Unpack,
+            from,
+            b"standard input",
+            why,
+        ),
+        Trouble::Nothing => match tool_console::close(fd) {
+            Ok(()) => finish(rt, t, how.records, on),
+            Err(why) => tool_console::failed(rt, Tool::Unpack, name, b"standard output", why),
+        },
+        Trouble::Failed(why) => tool_console::failed(
+            rt,
+            Tool::Unpack,
+            name,
+            b"standard output",
+            why,
+        ),
+        Trouble::Master(_) => tool_console::failed(
+            rt,
+            Tool::Unpack,
+            name,
+            b"standard output",
+            io::Error::from_raw_os_error(NO_ERROR),
+        ),
     }
 }
 
-// Writes the sound of a file, whose name is `from`, to another.
-fn write_to(b: Body, how: Reading, s: Settings, from: &[u8], name: &[u8])
+// The sound of a file, whose name is `from`, to another that was opened.
+fn write_in(
+    rt: HostRuntime,
+    file: &File,
+    b: Body,
+    how: Reading,
+    s: Settings,
+    from: &[u8],
+    name: &[u8],
+    fd: OutFile,
+)
     requires { Reachable b × Lawful how }
 {
     let f = s.flags;
-    let fd = tool_console::open_out(name);
-    if fd < 0 {
-        tool_console::failed(Tool::Unpack, name, b"standard output");
-        return;
-    }
     let form = s.form;
-    if !heading_written(b, how, form, fd) {
-        tool_console::failed(Tool::Unpack, name, b"standard output");
+    if let Err(why) = heading_written(rt, file, b, how, form, &fd) {
+        tool_console::failed(rt, Tool::Unpack, name, b"standard output", why);
         return;
     }
     let tells = tells_of(f);
-    let t = play_file(b, how, Way::Written(fd, form), tells);
-    written(t, how, f.on, from, name, fd);
+    let t = play_file(rt, file, b, how, Way::Written(&fd, form), tells);
+    written(rt, t, how, f.on, from, name, fd);
+}
+
+// Writes the sound of a file, whose name is `from`, to another.
+fn write_to(
+    rt: HostRuntime,
+    file: &File,
+    b: Body,
+    how: Reading,
+    s: Settings,
+    from: &[u8],
+    name: &[u8],
+)
+    requires { Reachable b × Lawful how }
+{
+    match tool_console::open_out(rt, name) {
+        Ok(fd) => write_in(rt, file, b, how, s, from, name, fd),
+        Err(why) => tool_console::failed(rt, Tool::Unpack, name, b"standard output", why),
+    }
 }
 
 // What a master has left over once all of the sound agrees.
-fn conclude(t: Total, records: bool, on: bool, fd: i32, name: &[u8])
+fn conclude(rt: HostRuntime, t: Total, records: bool, on: bool, fd: &InFile, name: &[u8])
     requires { Within longest t }
 {
     let wrong = tool_sound::sounds::left_over(fd);
     match wrong {
-        Trouble::Nothing => finish(t, records, on),
-        Trouble::Master(how) => tool_sound::sounds::differs(how, t.samples),
-        Trouble::Failed => tool_console::failed(Tool::Unpack, name, b"standard input"),
-        Trouble::Unread => tool_console::failed(Tool::Unpack, name, b"standard input"),
+        Trouble::Nothing => finish(rt, t, records, on),
+        Trouble::Master(how) => tool_sound::sounds::differs(rt, how, t.samples),
+        Trouble::Failed(why) => tool_console::failed(
+            rt,
+            Tool::Unpack,
+            name,
+            b"standard input",
+            why,
+        ),
+        Trouble::Unread(why) => tool_console::failed(
+            rt,
+            Tool::Unpack,
+            name,
+            b"standard input",
+            why,
+        ),
     }
 }
 
 // What a comparison came to. A frame that is refused comes before what a master has left over.
-fn compared(t: Total, how: Reading, on: bool, from: &[u8], name: &[u8], fd: i32)
+fn compared(
+    rt: HostRuntime,
+    t: Total,
+    how: Reading,
+    on: bool,
+    from: &[u8],
+    name: &[u8],
+    fd: &InFile,
+)
     requires { Within longest t }
 {
     let wrong = t.wrong;
     match wrong {
-        Trouble::Unread => tool_console::failed(Tool::Unpack, from, b"standard input"),
-        Trouble::Failed => tool_console::failed(Tool::Unpack, name, b"standard input"),
-        Trouble::Master(how) => tool_sound::sounds::differs(how, t.samples),
+        Trouble::Unread(why) => tool_console::failed(
+            rt,
+            Tool::Unpack,
+            from,
+            b"standard input",
+            why,
+        ),
+        Trouble::Failed(why) => tool_console::failed(
+            rt,
+            Tool::Unpack,
+            name,
+            b"standard input",
+            why,
+        ),
+        Trouble::Master(how) => tool_sound::sounds::differs(rt, how, t.samples),
         Trouble::Nothing => {
             let end = t.end;
             if recording::number_of(end) != 0 {
-                finish(t, how.records, on);
+                finish(rt, t, how.records, on);
                 return;
             }
-            conclude(t, how.records, on, fd, name);
+            conclude(rt, t, how.records, on, fd, name);
         }
     }
 }
 
-// Compares the sound of a file, whose name is `from`, with a master.
-fn compare_with(b: Body, how: Reading, s: Settings, from: &[u8], name: &[u8])
+// The sound of a file, whose name is `from`, compared with a master that was opened.
+fn compare_in(
+    rt: HostRuntime,
+    file: &File,
+    b: Body,
+    how: Reading,
+    f: Flags,
+    from: &[u8],
+    name: &[u8],
+    fd: &InFile,
+)
     requires { Reachable b × Lawful how }
 {
-    let f = s.flags;
-    let fd = tool_console::open_in(name);
-    if fd < 0 {
-        tool_console::failed(Tool::Unpack, name, b"standard input");
-        return;
-    }
     let tells = tells_of(f);
-    let t = play_file(b, how, Way::Compared(fd), tells);
-    compared(t, how, f.on, from, name, fd);
+    let t = play_file(rt, file, b, how, Way::Compared(fd), tells);
+    compared(rt, t, how, f.on, from, name, fd);
 }
 
+// Compares the sound of a file, whose name is `from`, with a master.
+fn compare_with(
+    rt: HostRuntime,
+    file: &File,
+    b: Body,
+    how: Reading,
+    s: Settings,
+    from: &[u8],
+    name: &[u8],
+)
+    requires { Reachable b × Lawful how }
+{
+    match tool_console::open_in(rt, name) {
+        Ok(fd) => compare_in(rt, file, b, how, s.flags, from, name, &fd),
+        Err(why) => tool_console::failed(rt, Tool::Unpack, name, b"standard input", why),
+    }
+}
+
+// The system's number where no call failed.
+const NO_ERROR: i32 = 0;
+
 // LAW, SET and LONG are told before any frame is read.
-fn refuses(end: Ending) -> bool
+fn refuses(rt: HostRuntime, end: Ending) -> bool
     ensures { result ≡ false → end ≡ Done }
 {
     match end {
         Ending::Refused(why) => {
-            tool_console::refused(Tool::Unpack, rules::refusal_number(why), 0, 0, 0);
+            tool_console::refused(rt, Tool::Unpack, rules::refusal_number(why), 0, 0, 0);
             true
         }
         Ending::Done => false,
@@ -208,54 +319,59 @@ fn refuses(end: Ending) -> bool
 }
 
 // The octets of a file's frames to the other file: OUTFILE or the master. `name` is INFILE.
-fn to_other(b: Body, how: Reading, s: Settings, name: &[u8])
+fn to_other(rt: HostRuntime, file: &File, b: Body, how: Reading, s: Settings, name: &[u8])
     requires { Reachable b × Lawful how }
 {
     let mut space = [0u8; 4095];
     if s.master != 0 {
-        let n = tool_console::file_name(s.master, &mut space);
-        compare_with(b, how, s, name, &space[..n]);
+        let n = tool_console::file_name(rt, s.master, &mut space);
+        compare_with(rt, file, b, how, s, name, &space[..n]);
         return;
     }
-    let target = tool_console::target_name(s, how.law, name, &mut space);
+    let target = tool_console::target_name(rt, s, how.law, name, &mut space);
     let n = target.len;
     if !target.fits {
-        tool_console::usage(Tool::Unpack, b"OUTFILE's name would be too long");
+        tool_console::usage(rt, Tool::Unpack, b"OUTFILE's name would be too long");
         return;
     }
-    write_to(b, how, s, name, &space[..n]);
+    write_to(rt, file, b, how, s, name, &space[..n]);
 }
 
 // The octets of a file's frames are judged before any of them is read.
-fn with_frames(b: Body, how: Reading, s: Settings, name: &[u8])
+fn with_frames(rt: HostRuntime, file: &File, b: Body, how: Reading, s: Settings, name: &[u8])
     requires { b.skip ≤ heading_length }
 {
     let e = rules::guard_stream(how.law, how.set, b.size);
-    if refuses(e) {
+    if refuses(rt, e) {
         return;
     }
-    to_other(b, how, s, name);
+    to_other(rt, file, b, how, s, name);
 }
 
 // A stream: an option or INFILE's ending tells its law.
-fn with_stream(s: Settings, name: &[u8], fd: i32, size: usize) {
+fn with_stream(rt: HostRuntime, s: Settings, name: &[u8], fd: &File, size: usize) {
     let f = s.flags;
     if f.lists {
         tool_console::usage(
+            rt,
             Tool::Unpack,
             b"-v lists a recording's items, and this is a stream: listing lists its frames",
         );
         return;
     }
     match tool_words::options::law_of(s, name) {
-        Law::Unknown => tool_console::usage(Tool::Unpack, b"the law is not known: say -u or -a"),
+        Law::Unknown => tool_console::usage(
+            rt,
+            Tool::Unpack,
+            b"the law is not known: say -u or -a",
+        ),
         Law::Known(law) => {
             let how = Reading {
                 law,
                 set: s.set,
                 records: false,
             };
-            with_frames(Body { fd, skip: 0, size }, how, s, name);
+            with_frames(rt, fd, Body { skip: 0, size }, how, s, name);
         }
     }
 }
@@ -269,16 +385,19 @@ fn says_other(said: Law, law: u32) -> bool {
 }
 
 // A recording: its heading tells the law, and an option may not say another. LONG counts from the heading's end.
-fn with_recording(s: Settings, law: u32, name: &[u8], fd: i32, size: usize)
+fn with_recording(rt: HostRuntime, s: Settings, law: u32, name: &[u8], fd: &File, size: usize)
     requires { heading_length ≤ size }
 {
     let said = s.law;
     if says_other(said, law) {
-        tool_console::usage(Tool::Unpack, b"the recording's heading says the other law");
+        tool_console::usage(
+            rt,
+            Tool::Unpack,
+            b"the recording's heading says the other law",
+        );
         return;
     }
     let body = Body {
-        fd,
         skip: HEADING,
         size: size - HEADING,
     };
@@ -287,54 +406,55 @@ fn with_recording(s: Settings, law: u32, name: &[u8], fd: i32, size: usize)
         set: s.set,
         records: true,
     };
-    with_frames(body, how, s, name);
+    with_frames(rt, fd, body, how, s, name);
 }
 
 // What begins as a recording and has no heading.
-fn headless() {
-    tool_console::say(b"unpack: a recording's heading is cut, or of another law or version\n");
-    tool_console::refused(Tool::Unpack, 14, 0, 0, 0);
+fn headless(rt: HostRuntime) {
+    tool_console::say(
+        rt,
+        b"unpack: a recording's heading is cut, or of another law or version\n",
+    );
+    tool_console::refused(rt, Tool::Unpack, 14, 0, 0, 0);
 }
 
 // What the file is says what is done with it; its first octets tell.
-fn with_file(s: Settings, name: &[u8], fd: i32, size: usize, first: &[u8]) {
+fn with_file(rt: HostRuntime, s: Settings, name: &[u8], fd: &File, size: usize, first: &[u8]) {
     match tool_playback::kinds::kind_of(first) {
-        Kind::Stream => with_stream(s, name, fd, size),
+        Kind::Stream => with_stream(rt, s, name, fd, size),
         Kind::Recording(law) => {
             if size < HEADING {
-                headless();
+                headless(rt);
                 return;
             }
-            with_recording(s, law, name, fd, size);
+            with_recording(rt, s, law, name, fd, size);
         }
-        Kind::Headless => headless(),
+        Kind::Headless => headless(rt),
     }
 }
 
 // The file's first octets.
-fn begin(s: Settings, name: &[u8], fd: i32, size: usize) {
+fn begin(rt: HostRuntime, s: Settings, name: &[u8], fd: &File, size: usize) {
     let mut first = [0u8; 64];
     let got = tool_console::read_at(fd, 0, &mut first);
-    if got.failed {
-        tool_console::failed(Tool::Unpack, name, b"standard input");
+    if let Some(why) = got.failed {
+        tool_console::failed(rt, Tool::Unpack, name, b"standard input", why);
         return;
     }
     let n = got.count;
-    with_file(s, name, fd, size, &first[..n]);
+    with_file(rt, s, name, fd, size, &first[..n]);
 }
 
 // SET comes before the file.
-fn run(s: Settings, name: &[u8]) {
+fn run(rt: HostRuntime, s: Settings, name: &[u8]) {
     let e = rules::guard(0, s.set);
-    if refuses(e) {
+    if refuses(rt, e) {
         return;
     }
     let mut part = [0u8; 61440];
-    let source = open_file(name, &mut part);
-    if source.failed {
-        return;
+    if let Some(source) = open_file(rt, name, &mut part) {
+        begin(rt, s, name, &source.fd, source.size);
     }
-    begin(s, name, source.fd, source.size);
 }
 
 fn is_raw(form: Form) -> bool {
@@ -346,37 +466,39 @@ fn is_raw(form: Form) -> bool {
 }
 
 // Whether -l or -w can't be met: a master that is compared is raw G.711, and no ending is known for another form.
-fn wrong_form(s: Settings, name: &[u8]) -> bool {
+fn wrong_form(rt: HostRuntime, s: Settings, name: &[u8]) -> bool {
     let form = s.form;
     if is_raw(form) {
         return false;
     }
     if s.master != 0 {
         tool_console::usage(
+            rt,
             Tool::Unpack,
             b"-c compares raw G.711, so -l and -w don't go with it",
         );
         return true;
     }
     if s.outfile == 0 && name.len() != 0 {
-        tool_console::usage(Tool::Unpack, b"with -l or -w OUTFILE must be said");
+        tool_console::usage(rt, Tool::Unpack, b"with -l or -w OUTFILE must be said");
         return true;
     }
     false
 }
 
 // Whether a master can't be met.
-fn wrong_master(s: Settings, name: &[u8]) -> bool {
+fn wrong_master(rt: HostRuntime, s: Settings, name: &[u8]) -> bool {
     if s.master == 0 {
         return false;
     }
     if s.outfile != 0 {
-        tool_console::say(b"unpack: with -c nothing is written to OUTFILE\n");
+        tool_console::say(rt, b"unpack: with -c nothing is written to OUTFILE\n");
     }
     let mut space = [0u8; 4095];
-    let n = tool_console::file_name(s.master, &mut space);
+    let n = tool_console::file_name(rt, s.master, &mut space);
     if name.len() == 0 && n == 0 {
         tool_console::usage(
+            rt,
             Tool::Unpack,
             b"INFILE and MASTER can't both be standard input",
         );
@@ -386,23 +508,23 @@ fn wrong_master(s: Settings, name: &[u8]) -> bool {
 }
 
 // "usage, then SET, .., then files, then the file's own"
-fn unpack_as(s: Settings) {
+fn unpack_as(rt: HostRuntime, s: Settings) {
     let mut space = [0u8; 4095];
-    let n = tool_console::file_name(s.infile, &mut space);
-    if wrong_form(s, &space[..n]) {
+    let n = tool_console::file_name(rt, s.infile, &mut space);
+    if wrong_form(rt, s, &space[..n]) {
         return;
     }
-    if wrong_master(s, &space[..n]) {
+    if wrong_master(rt, s, &space[..n]) {
         return;
     }
-    run(s, &space[..n]);
+    run(rt, s, &space[..n]);
 }
 
-fn main() {
-    let w = tool_console::words(Tool::Unpack);
-    if tool_console::wrongly_said(w) {
+fn main(rt: HostRuntime) {
+    let w = tool_console::words(rt, Tool::Unpack);
+    if tool_console::wrongly_said(rt, w) {
         return;
     }
     let s = w.said;
-    unpack_as(s);
+    unpack_as(rt, s);
 }

@@ -8,22 +8,24 @@ ghost use Rattle.tool_packing.specs.SoundParts.{part_size};
 ghost use Rattle.why.specs.Cut.{FrameIn, ShowsFrame, PartsIn};
 ghost use Rattle.why.specs.Shows.{head_line, frame_text, most_sound};
 
-use libc::STDOUT_FILENO;
 use reasons::{Reasons, Why};
 use rules::Ending;
+use std::io;
+use std::io::Print;
+use tool_console::InFile;
 use tool_words::filenames::Law;
 use tool_words::options::{Settings, Tool};
 
-// What can fail on the way: the sound can't be read, or the lines can't be written.
-#[derive(Drop)]
+// What can fail on the way: the sound can't be read, or the lines can't be written; and why.
+#[derive(Clone, Copy)]
 enum Amiss {
     Nothing,
-    Unread,
-    Unwritten,
+    Unread(io::Error),
+    Unwritten(io::Error),
 }
 
 // What is told, and how: by which law, tools and frame length; and of one frame only, or of all.
-#[derive(Drop)]
+#[derive(Clone, Copy)]
 struct Job {
     law: u32,
     set: u32,
@@ -33,7 +35,7 @@ struct Job {
 }
 
 // How the sound ended so far, its frames and the samples in them, whether more sound may come, and what failed.
-#[derive(Drop)]
+#[derive(Clone, Copy)]
 struct Run {
     end: Ending,
     frames: usize,
@@ -64,41 +66,51 @@ fn put_frame(k: usize, place: usize, r: Reasons, out: &mut [u8]) -> usize
 }
 
 // Only the heading of a frame that `pack` cuts, and the lines of its reasons, are written.
-fn write_frame(frame: &[u8], k: usize, place: usize, job: Job, text: &[u8]) -> bool
+fn write_frame(
+    rt: HostRuntime,
+    frame: &[u8],
+    k: usize,
+    place: usize,
+    job: Job,
+    text: &[u8],
+) -> io::Result<()>
     requires { ShowsFrame job.length frame.now k place job.law job.set text.now }
 {
-    io::write_all(STDOUT_FILENO, text)
+    Print::write_all(&rt.stdout(), text)
 }
 
+// The system's number where no call failed.
+const NO_ERROR: i32 = 0;
+
 // The reasons of frame k, which stands at `place` of the sound.
-fn show_frame(frame: &[u8], k: usize, place: usize, job: Job) -> bool
+fn show_frame(rt: HostRuntime, frame: &[u8], k: usize, place: usize, job: Job) -> io::Result<()>
     requires { FrameIn job.length k place frame.now }
 {
     match reasoning::why_samples(frame, job.law, job.set) {
-        Why::Refused(_) => false,
+        Why::Refused(_) => Err(io::Error::from_raw_os_error(NO_ERROR)),
         Why::Told(r) => {
             let mut text = [0u8; 640];
             let n = put_frame(k, place, r, &mut text);
-            write_frame(frame, k, place, job, &text[..n])
+            write_frame(rt, frame, k, place, job, &text[..n])
         }
     }
 }
 
 // "`-k#` for one frame only": another one is passed over.
-fn show_wanted(frame: &[u8], k: usize, place: usize, job: Job) -> bool
+fn show_wanted(rt: HostRuntime, frame: &[u8], k: usize, place: usize, job: Job) -> io::Result<()>
     requires { FrameIn job.length k place frame.now }
 {
     if job.only {
         if k != job.frame as usize {
-            return true;
+            return Ok(());
         }
-        return show_frame(frame, k, place, job);
+        return show_frame(rt, frame, k, place, job);
     }
-    show_frame(frame, k, place, job)
+    show_frame(rt, frame, k, place, job)
 }
 
 // Frame after frame of a part, until no length fits or a write fails.
-fn part_frames(part: &[u8], run: Run, job: Job) -> Run
+fn part_frames(rt: HostRuntime, part: &[u8], run: Run, job: Job) -> Run
     requires part_len_bound { (length part.now ≤ part_size) × (run.frames ≤ most_sound) × (run.samples ≤ most_sound) }
     requires parts_in { PartsIn job.length run.frames run.samples }
     ensures frames { result.frames ≤ run.frames + length part.now }
@@ -122,13 +134,13 @@ fn part_frames(part: &[u8], run: Run, job: Job) -> Run
             };
         }
         let to = from + len;
-        if !show_wanted(&part[from..to], k, place, job) {
+        if let Err(why) = show_wanted(rt, &part[from..to], k, place, job) {
             return Run {
                 end: Ending::Done,
                 frames: k,
                 samples: place,
                 more: false,
-                wrong: Amiss::Unwritten,
+                wrong: Amiss::Unwritten(why),
             };
         }
         from = to;
@@ -137,7 +149,7 @@ fn part_frames(part: &[u8], run: Run, job: Job) -> Run
 }
 
 // One part read and shown.
-fn next_part(fd: i32, run: Run, job: Job, part: &mut [u8]) -> Run
+fn next_part(rt: HostRuntime, fd: &InFile, run: Run, job: Job, part: &mut [u8]) -> Run
     requires part_len { (length part.old ≡ part_size) × (run.frames ≤ most_sound) × (run.samples ≤ most_sound) }
     requires parts_in { PartsIn job.length run.frames run.samples }
     ensures frames { result.frames ≤ run.frames + part_size }
@@ -145,21 +157,21 @@ fn next_part(fd: i32, run: Run, job: Job, part: &mut [u8]) -> Run
     ensures whole { result.more ≡ true → PartsIn job.length result.frames result.samples }
 {
     let got = tool_console::read_part(fd, part);
-    if got.failed {
+    if let Some(why) = got.failed {
         return Run {
             end: Ending::Done,
             frames: run.frames,
             samples: run.samples,
             more: false,
-            wrong: Amiss::Unread,
+            wrong: Amiss::Unread(why),
         };
     }
     let count = got.count;
-    part_frames(&part[..count], run, job)
+    part_frames(rt, &part[..count], run, job)
 }
 
 // Part after part, until the sound ends, is refused, or can't be read or shown. No file has as many parts as are counted here.
-fn all_parts(fd: i32, job: Job, part: &mut [u8]) -> Run
+fn all_parts(rt: HostRuntime, fd: &InFile, job: Job, part: &mut [u8]) -> Run
     requires { length part.old ≡ part_size }
 {
     let mut run = Run {
@@ -171,7 +183,7 @@ fn all_parts(fd: i32, job: Job, part: &mut [u8]) -> Run
     };
     let mut i = 0usize;
     while i < 160000000000000 && run.more {
-        let next = next_part(fd, run, job, part);
+        let next = next_part(rt, fd, run, job, part);
         run = next;
         i += 1;
     }
@@ -192,16 +204,17 @@ fn settings_number(job: Job) -> u32 {
 }
 
 // Why the settings are refused.
-fn explain_settings(number: u32) {
+fn explain_settings(rt: HostRuntime, number: u32) {
     if number == 11 {
         tool_console::say_number(
+            rt,
             b"why: the tool set is an odd number of at most ",
             rules::ALL_TOOLS as usize,
         );
-        tool_console::say(b"\n");
+        tool_console::say(rt, b"\n");
     }
     if number == 10 {
-        tool_console::say(b"why: the frame length is 40, 80, 160, 240 or 320\n");
+        tool_console::say(rt, b"why: the frame length is 40, 80, 160, 240 or 320\n");
     }
 }
 
@@ -214,59 +227,60 @@ fn is_missing(job: Job, frames: usize) -> bool {
 }
 
 // What was done, or why it was not, of a sound that was read and shown.
-fn finish_well(run: Run, job: Job) {
+fn finish_well(rt: HostRuntime, run: Run, job: Job) {
     let end = run.end;
     let number = rules::number_of(end);
     if number != 0 {
-        tool_console::say(b"why: no length fits the octets at the end\n");
-        tool_console::refused(Tool::Why, number, run.samples, 0, 0);
+        tool_console::say(rt, b"why: no length fits the octets at the end\n");
+        tool_console::refused(rt, Tool::Why, number, run.samples, 0, 0);
         return;
     }
     if is_missing(job, run.frames) {
         tool_console::say_number(
+            rt,
             b"why: the sound has no such frame; its frames are ",
             run.frames,
         );
-        tool_console::say(b"\n");
-        tool_console::stop(Tool::Why, 64, run.samples, 0, 0);
+        tool_console::say(rt, b"\n");
+        tool_console::stop(rt, Tool::Why, 64, run.samples, 0, 0);
         return;
     }
-    tool_console::stop(Tool::Why, 0, run.samples, 0, 0);
+    tool_console::stop(rt, Tool::Why, 0, run.samples, 0, 0);
 }
 
-fn finish(run: Run, job: Job, in_name: &[u8]) {
+fn finish(rt: HostRuntime, run: Run, job: Job, in_name: &[u8]) {
     let wrong = run.wrong;
     match wrong {
-        Amiss::Nothing => finish_well(run, job),
-        Amiss::Unread => tool_console::failed(Tool::Why, in_name, b"standard input"),
-        Amiss::Unwritten => tool_console::failed(Tool::Why, b"", b"standard output"),
+        Amiss::Nothing => finish_well(rt, run, job),
+        Amiss::Unread(why) => tool_console::failed(rt, Tool::Why, in_name, b"standard input", why),
+        Amiss::Unwritten(why) => tool_console::failed(rt, Tool::Why, b"", b"standard output", why),
     }
 }
 
 // The settings are judged before any file is opened.
-fn why_file(job: Job, in_name: &[u8]) {
+fn why_file(rt: HostRuntime, job: Job, in_name: &[u8]) {
     let number = settings_number(job);
     if number != 0 {
-        explain_settings(number);
-        tool_console::refused(Tool::Why, number, 0, 0, 0);
+        explain_settings(rt, number);
+        tool_console::refused(rt, Tool::Why, number, 0, 0, 0);
         return;
     }
-    let fd = tool_console::open_in(in_name);
-    if fd < 0 {
-        tool_console::failed(Tool::Why, in_name, b"standard input");
-        return;
+    match tool_console::open_in(rt, in_name) {
+        Ok(fd) => {
+            let mut part = [0u8; 61440];
+            let run = all_parts(rt, &fd, job, &mut part);
+            finish(rt, run, job, in_name);
+        }
+        Err(why) => tool_console::failed(rt, Tool::Why, in_name, b"standard input", why),
     }
-    let mut part = [0u8; 61440];
-    let run = all_parts(fd, job, &mut part);
-    finish(run, job, in_name);
 }
 
 // A law that no option tells is told by the ending of what is read.
-fn why_with(s: Settings, space: &mut [u8]) {
-    let n = tool_console::file_name(s.infile, space);
+fn why_with(rt: HostRuntime, s: Settings, space: &mut [u8]) {
+    let n = tool_console::file_name(rt, s.infile, space);
     let in_name: &[u8] = &space[..n];
     match tool_words::options::law_of(s, in_name) {
-        Law::Unknown => tool_console::usage(Tool::Why, b"the law is not known: say -u or -a"),
+        Law::Unknown => tool_console::usage(rt, Tool::Why, b"the law is not known: say -u or -a"),
         Law::Known(law) => {
             let job = Job {
                 law,
@@ -275,17 +289,17 @@ fn why_with(s: Settings, space: &mut [u8]) {
                 only: s.only,
                 frame: s.frame,
             };
-            why_file(job, in_name);
+            why_file(rt, job, in_name);
         }
     }
 }
 
-fn main() {
-    let w = tool_console::words(Tool::Why);
-    if tool_console::wrongly_said(w) {
+fn main(rt: HostRuntime) {
+    let w = tool_console::words(rt, Tool::Why);
+    if tool_console::wrongly_said(rt, w) {
         return;
     }
     let s = w.said;
     let mut in_name = [0u8; 4095];
-    why_with(s, &mut in_name);
+    why_with(rt, s, &mut in_name);
 }

@@ -1,0 +1,13 @@
+use Prim.Native.Nat.{◌-◌, ◌≤◌}
+use mathlib.Core.Path.{◌≡◌}
+use lib.ListN.{length}
+use Rattle.tool_playback.proofs.Onward.{Along}
+use Rattle.tool_playback.proofs.playing.windows.Given as goal
+
+-- Window after window (Onward); the measure is how far it is to the end.
+abbrev pub invariant-loop-why : goal.invariant-loop-why
+invariant-loop-why l =
+    Along l.how l.done × (l.done.at ≤ l.b.size) × (length l.window ≡ length l.initial.window)
+
+abbrev pub decreases-loop-why : goal.decreases-loop-why
+decreases-loop-why l = l.b.size - l.done.at

@@ -1,0 +1,44 @@
+use Rattle.tool_words.specs.Names.{law_of_sound}
+use Rattle.tool_words.proofs.filenames.law_of_sound.Goals as goal
+
+pub returns-then-is_same : goal.returns-then-is_same
+unfolding law_of_sound
+returns-then-is_same c = rw (← c.is_same.ensures, c.if-is_same.true)
+
+pub returns-then-is_same-2 : goal.returns-then-is_same-2
+unfolding law_of_sound
+returns-then-is_same-2 c =
+    rw (← c.is_same.ensures, c.if-is_same.false, ← c.is_same-2.ensures, c.if-is_same-2.true)
+
+pub returns-then-is_same-3 : goal.returns-then-is_same-3
+unfolding law_of_sound
+returns-then-is_same-3 c =
+    rw (
+      ← c.is_same.ensures,
+      c.if-is_same.false,
+      ← c.is_same-2.ensures,
+      c.if-is_same-2.false,
+      ←
+          c.is_same-3.ensures,
+      c.if-is_same-3.true,
+    )
+
+pub returns-then-is_same-4 : goal.returns-then-is_same-4
+unfolding law_of_sound
+returns-then-is_same-4 c =
+    rw (← c.is_same.ensures, c.if-is_same.false, ← c.is_same-2.ensures, c.if-is_same-2.false)
+    (rw (← c.is_same-3.ensures, c.if-is_same-3.false, ← c.is_same-4.ensures, c.if-is_same-4.true))
+
+pub returns-then-is_same-5 : goal.returns-then-is_same-5
+unfolding law_of_sound
+returns-then-is_same-5 c =
+    rw (← c.is_same.ensures, c.if-is_same.false, ← c.is_same-2.ensures, c.if-is_same-2.false)
+    (rw (← c.is_same-3.ensures, c.if-is_same-3.false, ← c.is_same-4.ensures, c.if-is_same-4.false)
+    (rw (← c.is_same-5.ensures, c.if-is_same-5.true)))
+
+pub returns : goal.returns
+unfolding law_of_sound
+returns c =
+    rw (← c.is_same.ensures, c.if-is_same.false, ← c.is_same-2.ensures, c.if-is_same-2.false)
+    (rw (← c.is_same-3.ensures, c.if-is_same-3.false, ← c.is_same-4.ensures, c.if-is_same-4.false)
+    (rw (← c.is_same-5.ensures, c.if-is_same-5.false)))
