@@ -1,10 +1,12 @@
 // The body of tool 7, value-location. The cells of a frame are its samples: a cell that is plus zero is empty.
 #![tactic(auto)]
 
-ghost use Rattle.std.specs.Prelude.{◌≡◌, [], ◌∷◌, ◌++◌, map, false, cond, ◌&&◌, ◌+◌, ◌-◌, ◌^◌, ◌%◌, ◌≤◌, ◌<◌, length, take, drop, replicate, eqb, leb, ltb};
+ghost use Rattle.std.specs.Prelude.{◌≡◌, [], ◌∷◌, ◌++◌, map, false, cond, ◌&&◌, ◌+◌, ◌-◌};
+ghost use Rattle.std.specs.Prelude.{◌^◌, ◌%◌, ◌≤◌, ◌<◌, length, take, drop, replicate, eqb, leb, ltb};
 ghost use Rattle.rules.specs.Bits.{bits_of};
 ghost use Rattle.rules.specs.Samples.{sample_of};
-ghost use Rattle.rules.specs.Located.{width_of, listed_from, listed as listing, by_method, empty_in, values_of, values_into, located as locates};
+ghost use Rattle.rules.specs.Located.{width_of, listed_from, listed as listing, by_method};
+ghost use Rattle.rules.specs.Located.{empty_in, values_of, values_into, located as locates};
 ghost use Rattle.read_runs.specs.Flagged.{MarksCells};
 ghost use Rattle.read_bodies.specs.Bodied.{FillsBody};
 ghost use Rattle.read_located.specs.Valued.{flags_of, fill_in, LaysCells, Apart, RowOf};

@@ -1,7 +1,6 @@
 // Writing a recording file (document 02, R-1): its heading, then frames and losses. What is refused is found before an octet is written.
 #![tactic(auto)]
 
-
 ghost use Rattle.std.specs.Prelude.{◌≡◌, true};
 ghost use Rattle.rules.specs.Tools.{is_law, is_writer_set};
 ghost use Rattle.recording.specs.Files.{given_by};

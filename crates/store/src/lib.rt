@@ -228,7 +228,8 @@ fn put_sound(
 // more marks than stand here is walked once more where it is put.
 fn put_among(block: &mut [u8], table: &mut [u32], sought: Sought, law: u32, octets: &[u8]) -> Answer
     requires looked { Looked sought.size table.old sought.number sought.n sought.i }
-    requires size_in_bounds { (sought.size ≤ length block.old) × (sought.size ≤ largest_block) × (law ≤ most_law) × (sought.number ≤ most_number) }
+    requires size_in_bounds { (sought.size ≤ length block.old) × (sought.size ≤ largest_block) × (law ≤ most_law)
+        × (sought.number ≤ most_number) }
     ensures { PutsIn sought.size law sought.number octets.now block.old table.old
         block.new table.new result }
 {

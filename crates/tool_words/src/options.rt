@@ -1,7 +1,8 @@
 // The words of a command line: what an argument is, and the settings that the arguments make.
 ghost use Rattle.std.specs.Prelude.{◌≡◌};
 ghost use Rattle.tool_words.specs.Arguments.{reads_sound, has_outfile, set_at_first, unpack_letter, pack_letter, why_letter, mend_letter};
-ghost use Rattle.tool_words.specs.Arguments.{letter_of, numbered_by, argument_of, at_first, onward, wrongly, with_file, with_law, with_form};
+ghost use Rattle.tool_words.specs.Arguments.{letter_of, numbered_by, argument_of, at_first};
+ghost use Rattle.tool_words.specs.Arguments.{onward, wrongly, with_file, with_law, with_form};
 ghost use Rattle.tool_words.specs.Arguments.{raised, with_flag, counted, with_number, with_master, with_argument, step_of, end_of, law_of};
 
 use crate::filenames::{Law, law_told};

@@ -1,5 +1,4 @@
 use native.Mathlib.Omega.{arith}
-use borrow.Author.Rules.{rules}
 use Rattle.reasons.proofs.put_by.Goals as goal
 
 pub returns-then-tie : goal.returns-then-tie

@@ -1,5 +1,4 @@
 use Rattle.reasons.proofs.Lines.{fields-put}
-use borrow.Author.Rules.{rules}
 use Rattle.reasons.proofs.put_fields.Goals as goal
 
 pub returns : goal.returns

@@ -1,6 +1,5 @@
 use Rattle.text_lines.proofs.Putting.{puts_then}
 use native.Mathlib.Omega.{arith}
-use borrow.Author.Rules.{rules}
 use Rattle.reasons.proofs.put_later.Goals as goal
 
 pub returns : goal.returns

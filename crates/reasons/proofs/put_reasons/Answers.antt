@@ -1,6 +1,5 @@
 use Rattle.reasons.proofs.Lines.{lines-put}
 use native.Mathlib.Omega.{arith}
-use borrow.Author.Rules.{rules}
 use Rattle.reasons.proofs.put_reasons.Goals as goal
 
 pub returns : goal.returns

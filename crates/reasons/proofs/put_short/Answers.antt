@@ -1,7 +1,6 @@
 use lib.ListN.{length-append}
 use Rattle.text_keyvalue.proofs.Decimals.{decimal-few}
 use native.Mathlib.Omega.{arith}
-use borrow.Author.Rules.{rules}
 use Rattle.reasons.proofs.put_short.Goals as goal
 
 pub returns : goal.returns

@@ -1,5 +1,4 @@
 use native.Mathlib.Omega.{arith}
-use borrow.Author.Rules.{rules}
 use Rattle.reasons.proofs.put_tool.Goals as goal
 
 pub returns-in-Out : goal.returns-in-Out

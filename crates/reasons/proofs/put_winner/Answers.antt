@@ -1,6 +1,5 @@
 use Rattle.reasons.proofs.Lines.{winner-put}
 use native.Mathlib.Omega.{arith}
-use borrow.Author.Rules.{rules}
 use Rattle.reasons.proofs.put_winner.Goals as goal
 
 pub returns : goal.returns

@@ -1,5 +1,4 @@
 use Rattle.reasons.proofs.Lines.{at_first}
-use borrow.Author.Rules.{rules}
 use Rattle.reasons.proofs.text_of.Goals as goal
 
 pub returns : goal.returns

@@ -1,5 +1,4 @@
 -- What the heading says.
-use borrow.Author.Rules.{rules}
 use mathlib.Core.Path.{◌≡◌, refl, sym, ap, ◌∙◌}
 use Rattle.recording.specs.Remembered.{headed}
 use Rattle.recording_read.specs.declared.Heading.{Heading}

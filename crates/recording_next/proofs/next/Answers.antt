@@ -1,5 +1,4 @@
 -- LAW, SET, LONG, SHORT, and then what stands at the place (Pieces).
-use borrow.Author.Rules.{rules}
 use mathlib.Core.Path.{◌≡◌, sym, ◌∙◌}
 use native.Mathlib.Omega.{arith}
 use lib.ListN.{length}

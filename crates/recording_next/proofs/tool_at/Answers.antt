@@ -1,5 +1,4 @@
 -- The octets from the place on are handed over whole.
-use borrow.Author.Rules.{rules}
 use Rattle.rules.proofs.Lent.{from_on}
 use Rattle.recording_next.proofs.tool_at.Goals as goal
 

@@ -1,5 +1,4 @@
 -- No more are x than there are, so none is another where as many are (Erasing).
-use borrow.Author.Rules.{rules}
 use native.Mathlib.Omega.{arith}
 use Rattle.recording_read.proofs.Erasing.{others-none}
 use Rattle.recording_read.proofs.all_are.Goals as goal

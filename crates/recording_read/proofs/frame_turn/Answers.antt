@@ -1,5 +1,4 @@
 -- A frame as it was passed, judged a loss or sound (Turning).
-use borrow.Author.Rules.{rules}
 use Prim.Native.Nat.{◌≤◌}
 use mathlib.Core.Path.{sym, ◌∙◌}
 use native.Mathlib.Omega.{arith}

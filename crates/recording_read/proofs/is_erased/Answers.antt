@@ -1,5 +1,4 @@
 -- The first sample tells which of the two marks it may be, or that it is none (Erasing).
-use borrow.Author.Rules.{rules}
 use Prim.Native.Nat.{ℕ}
 use mathlib.Core.Path.{sym, ap, ◌∙◌}
 use native.Mathlib.Omega.{arith}

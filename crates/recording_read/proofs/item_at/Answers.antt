@@ -1,5 +1,4 @@
 -- The mark that stands alone, or a frame.
-use borrow.Author.Rules.{rules}
 use mathlib.Core.Path.{refl, sym, ◌∙◌}
 use native.Mathlib.Omega.{arith}
 use Rattle.recording_read.proofs.item_at.Goals as goal

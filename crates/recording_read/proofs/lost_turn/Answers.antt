@@ -1,5 +1,4 @@
 -- A loss has no sound.
-use borrow.Author.Rules.{rules}
 use mathlib.Core.Path.{refl}
 use Rattle.recording_read.proofs.lost_turn.Goals as goal
 

@@ -1,14 +1,11 @@
 -- Each turn takes one item (Playing); the measure is how many items more are allowed.
-use borrow.Author.Rules.{rules}
-use Prim.Native.Nat.{◌+◌, ◌-◌, ◌≤◌, ◌<◌}
+use Prim.Native.Nat.{◌+◌, ◌≤◌, ◌<◌}
 use mathlib.Core.Path.{◌≡◌, refl, sym}
-use mathlib.Core.Logic.{⊎_elim}
 use native.Mathlib.Omega.{arith}
-use borrow.Author.Tests.{ltb-true, ltb-false}
 use lib.ListN.{length}
 use Rattle.rules.specs.declared.Ending.TheVariants.{Done}
 use Rattle.rules.proofs.Lent.{lent_length}
-use Rattle.recording_read.proofs.Playing.{Playing, play-start, play-last, play-ended, play-full, play-refused, play-fits, play-turn}
+use Rattle.recording_read.proofs.Playing.{play-start, play-last, play-ended, play-full, play-refused, play-fits, play-turn}
 use Rattle.recording_read.proofs.play_on.Goals.{then-loop-count-test+else-place-octets, else-loop-count-test, Then-place-octets, After-item_at-r, After-struct_known-1}
 use Rattle.recording_read.proofs.play_on.Goals as goal
 
@@ -100,6 +97,6 @@ pub returns : goal.returns
 returns c =
     let w = c.loop-count.invariant in
     elim c.loop-count-test.branch [
-        then-loop-count-test+else-place-octets t ↦ rw c.so_far-2.ensures (play-ended _ _ _ _ _ _ _ w (omega arith))
+      | then-loop-count-test+else-place-octets t ↦ rw c.so_far-2.ensures (play-ended _ _ _ _ _ _ _ w (omega arith))
       | else-loop-count-test t ↦ rw c.so_far-2.ensures (play-last _ _ _ _ _ _ _ w (omega arith))
     ]

@@ -1,13 +1,5 @@
-use borrow.Author.Rules.{rules}
-use Prim.Native.Nat.{◌+◌, ◌-◌, ◌≤◌, ◌<◌}
-use mathlib.Core.Path.{◌≡◌, refl, sym}
-use mathlib.Core.Logic.{⊎_elim}
-use native.Mathlib.Omega.{arith}
-use borrow.Author.Tests.{ltb-true, ltb-false}
-use lib.ListN.{length}
-use Rattle.rules.specs.declared.Ending.TheVariants.{Done}
-use Rattle.rules.proofs.Lent.{lent_length}
-use Rattle.recording_read.proofs.Playing.{Playing, play-start, play-last, play-ended, play-full, play-refused, play-fits, play-turn}
+use Prim.Native.Nat.{◌-◌}
+use Rattle.recording_read.proofs.Playing.{Playing}
 use Rattle.recording_read.proofs.play_on.Given as goal
 
 -- Each turn takes one item (Playing); the measure is how many items more are allowed.

@@ -1,5 +1,4 @@
 -- The output from `to` on is handed over whole (Turning).
-use borrow.Author.Rules.{rules}
 use Rattle.recording_read.proofs.Turning.{sound-put}
 use Rattle.recording_read.proofs.put_sound.Goals as goal
 

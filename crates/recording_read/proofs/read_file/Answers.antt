@@ -1,5 +1,4 @@
 -- SET, HEAD, LONG, and then the items (Whole).
-use borrow.Author.Rules.{rules}
 use mathlib.Core.Path.{◌≡◌, sym, ap, ◌∙◌}
 use Rattle.recording.specs.Remembered.{headed}
 use Rattle.recording_read.specs.declared.Heading.{Heading}

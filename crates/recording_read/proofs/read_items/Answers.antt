@@ -1,5 +1,4 @@
 -- The octets after the heading are handed over whole (Whole).
-use borrow.Author.Rules.{rules}
 use Rattle.recording_read.proofs.Whole.{items-read}
 use Rattle.recording_read.proofs.read_items.Goals as goal
 

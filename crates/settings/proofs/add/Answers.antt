@@ -1,7 +1,6 @@
 use mathlib.Core.Path.{sym, ◌∙◌}
 use native.Mathlib.Omega.{arith}
 use Rattle.settings.proofs.Revisions.{is-spent, is-added}
-use borrow.Author.Rules.{rules}
 use Rattle.settings.proofs.add.Goals as goal
 
 pub returns-then-last : goal.returns-then-last

@@ -1,6 +1,5 @@
 use mathlib.Core.Path.{sym, ◌∙◌}
 use Rattle.settings.proofs.Calls.{back-gone, back-adds}
-use borrow.Author.Rules.{rules}
 use Rattle.settings.proofs.back.Goals as goal
 
 pub returns-in-Nowhere : goal.returns-in-Nowhere

@@ -1,9 +1,7 @@
-use Prim.Native.Nat.{◌-◌}
 use mathlib.Core.Path.{sym, ap, ◌∙◌}
 use lib.ListN.{length}
 use native.Mathlib.Omega.{arith}
-use Rattle.settings.proofs.State.{Gathering, gathering-size, gathering-start, gathering-turn, gathering-end}
-use borrow.Author.Rules.{rules}
+use Rattle.settings.proofs.State.{gathering-size, gathering-start, gathering-turn, gathering-end}
 use Rattle.settings.proofs.gather.Goals as goal
 
 pub loop-i-init : goal.loop-i-init

@@ -1,5 +1,4 @@
 use Rattle.settings.proofs.State.{not-kept, is-kept}
-use borrow.Author.Rules.{rules}
 use Rattle.settings.proofs.keep_row.Goals as goal
 
 pub returns-then-r-eq0 : goal.returns-then-r-eq0

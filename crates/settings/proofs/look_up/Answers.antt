@@ -1,12 +1,9 @@
-use mathlib.Core.Path.{◌≡◌, refl, sym, ap, ◌∙◌}
+use mathlib.Core.Path.{refl, sym, ap, ◌∙◌}
 use native.Mathlib.Omega.{arith}
-use Prim.Native.Nat.{ℕ, ◌-◌, ◌≤◌}
+use Prim.Native.Nat.{ℕ}
 use Rattle.settings.specs.declared.Revision.{Revision}
 use Rattle.settings.specs.declared.Kept.TheVariants.{Under}
-use Rattle.settings.specs.Revisions.{look_up}
-use Rattle.settings.specs.State.{rows_at}
 use Rattle.settings.proofs.Revisions.{zero-gone, kept-looked, looked-here, looked-on, looked-through}
-use borrow.Author.Rules.{rules}
 use Rattle.settings.proofs.look_up.Goals as goal
 
 abbrev number : Revision → ℕ

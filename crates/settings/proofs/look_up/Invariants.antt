@@ -1,12 +1,7 @@
-use mathlib.Core.Path.{◌≡◌, refl, sym, ap, ◌∙◌}
-use native.Mathlib.Omega.{arith}
-use Prim.Native.Nat.{ℕ, ◌-◌, ◌≤◌}
-use Rattle.settings.specs.declared.Revision.{Revision}
-use Rattle.settings.specs.declared.Kept.TheVariants.{Under}
+use mathlib.Core.Path.{◌≡◌}
+use Prim.Native.Nat.{◌-◌, ◌≤◌}
 use Rattle.settings.specs.Revisions.{look_up}
 use Rattle.settings.specs.State.{rows_at}
-use Rattle.settings.proofs.Revisions.{zero-gone, kept-looked, looked-here, looked-on, looked-through}
-use borrow.Author.Rules.{rules}
 use Rattle.settings.proofs.look_up.Given as goal
 
 abbrev pub invariant-loop-k : goal.invariant-loop-k

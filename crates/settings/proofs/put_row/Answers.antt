@@ -1,7 +1,6 @@
 use native.Mathlib.Omega.{arith}
 use lib.ListN.{length-set}
 use Rattle.settings.proofs.State.{five-put}
-use borrow.Author.Rules.{rules}
 use Rattle.settings.proofs.put_row.Goals as goal
 
 pub bounds-rows-at-2 : goal.bounds-rows-at-2

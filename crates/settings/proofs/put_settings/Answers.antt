@@ -1,12 +1,8 @@
-use Prim.Native.Nat.{◌≤◌}
-use lib.ListN.{length}
 use native.Mathlib.Omega.{arith}
 use Rattle.rules.specs.Listing.{law_word}
-use Rattle.text_keyvalue.specs.Lines.{line_of}
 use Rattle.text_keyvalue.proofs.Lines.{line-few}
 use Rattle.settings.specs.Lines.{set_word, block_word, greeting_word}
 use Rattle.settings.proofs.Calls.{four-puts}
-use borrow.Author.Rules.{rules}
 use Rattle.settings.proofs.put_settings.Goals as goal
 
 pub put_line-a-requires : goal.put_line-a-requires

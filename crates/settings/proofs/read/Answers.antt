@@ -1,6 +1,5 @@
 use mathlib.Core.Path.{sym, ◌∙◌}
 use Rattle.settings.proofs.Calls.{read-gone, read-text}
-use borrow.Author.Rules.{rules}
 use Rattle.settings.proofs.read.Goals as goal
 
 pub returns-in-Nowhere : goal.returns-in-Nowhere

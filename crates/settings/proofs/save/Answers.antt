@@ -1,6 +1,5 @@
 use mathlib.Core.Path.{sym, ◌∙◌}
 use Rattle.settings.proofs.Calls.{save-line, save-adds}
-use borrow.Author.Rules.{rules}
 use Rattle.settings.proofs.save.Goals as goal
 
 pub returns-in-Bad : goal.returns-in-Bad

@@ -1,7 +1,6 @@
 -- Line after line; what a call told is taken apart in Lines.
 use native.Mathlib.Omega.{arith}
 use Rattle.settings.proofs.Lines.{no-law, no-set, no_block, no-greeting, more-after, all_read}
-use borrow.Author.Rules.{rules}
 use Rattle.settings.proofs.settings_in.Goals as goal
 
 pub returns-then-d-text : goal.returns-then-d-text

@@ -1,6 +1,5 @@
 use mathlib.Core.Path.{refl}
 use Rattle.settings.specs.State.{cells_of}
-use borrow.Author.Rules.{rules}
 use Rattle.settings.proofs.wipe.Goals as goal
 
 pub returns : goal.returns

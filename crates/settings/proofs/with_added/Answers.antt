@@ -1,8 +1,6 @@
-use Prim.Native.Nat.{◌-◌}
 use mathlib.Core.Path.{refl}
 use native.Mathlib.Omega.{arith}
-use Rattle.settings.proofs.State.{Copying, rows-size, copying-start, copying-turn, laid-added}
-use borrow.Author.Rules.{rules}
+use Rattle.settings.proofs.State.{rows-size, copying-start, copying-turn, laid-added}
 use Rattle.settings.proofs.with_added.Goals as goal
 
 pub loop-i-init : goal.loop-i-init

@@ -1,8 +1,5 @@
 use Prim.Native.Nat.{◌-◌}
-use mathlib.Core.Path.{refl}
-use native.Mathlib.Omega.{arith}
-use Rattle.settings.proofs.State.{Copying, rows-size, copying-start, copying-turn, laid-added}
-use borrow.Author.Rules.{rules}
+use Rattle.settings.proofs.State.{Copying}
 use Rattle.settings.proofs.with_added.Given as goal
 
 abbrev pub invariant-loop-i : goal.invariant-loop-i

@@ -1,4 +1,3 @@
-use borrow.Author.Rules.{rules}
 use Rattle.recording_write.proofs.Put.{form-put}
 use Rattle.recording_write.proofs.items.put_form.Goals as goal
 

@@ -1,9 +1,6 @@
-use borrow.Author.Rules.{rules}
-use Prim.Native.Nat.{◌-◌}
 use native.Mathlib.Omega.{arith}
-use lib.ListN.{length}
 use Rattle.rules.specs.Samples.{mask_of}
-use Rattle.recording_write.proofs.Way.{going-item, going_on, Writing, write-start, write-room, write-turn, write_done}
+use Rattle.recording_write.proofs.Way.{going-item, going_on, write-start, write-room, write-turn, write_done}
 use Rattle.recording_write.proofs.items.put_items.Goals as goal
 
 pub loop-i-init : goal.loop-i-init
@@ -13,8 +10,12 @@ loop-i-init c =
 
 pub put_item-to-requires : goal.put_item-to-requires
 put_item-to-requires c =
-    let w = c.loop-i.invariant in let g = w.going in record { item_in = (going-item c.args.cells.now c.args.samples.now g (omega arith), g.inside); lawful = c.requires.lawful; samples_in_bounds = write-room c.args.cells.now c.args.samples.now (mask_of c.args.by.law) c.args.by.set
-            c.args.out.now c.args.at w c.requires.samples_in_bounds (omega arith) }
+    let w = c.loop-i.invariant in let g = w.going in record {
+      item_in = (going-item c.args.cells.now c.args.samples.now g (omega arith), g.inside);
+      lawful = c.requires.lawful;
+      samples_in_bounds = write-room c.args.cells.now c.args.samples.now (mask_of c.args.by.law) c.args.by.set
+          c.args.out.now c.args.at w c.requires.samples_in_bounds (omega arith);
+    }
 
 pub overflow_add-from : goal.overflow_add-from
 overflow_add-from c =

@@ -1,9 +1,7 @@
-use borrow.Author.Rules.{rules}
 use Prim.Native.Nat.{◌-◌}
-use native.Mathlib.Omega.{arith}
 use lib.ListN.{length}
 use Rattle.rules.specs.Samples.{mask_of}
-use Rattle.recording_write.proofs.Way.{going-item, going_on, Writing, write-start, write-room, write-turn, write_done}
+use Rattle.recording_write.proofs.Way.{Writing}
 use Rattle.recording_write.proofs.items.put_items.Given as goal
 
 abbrev pub invariant-loop-i : goal.invariant-loop-i

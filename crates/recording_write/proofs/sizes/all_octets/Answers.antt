@@ -1,9 +1,6 @@
-use borrow.Author.Rules.{rules}
-use Prim.Native.Nat.{◌-◌}
 use native.Mathlib.Omega.{arith}
-use lib.ListN.{length}
 use Rattle.rules.specs.Samples.{mask_of}
-use Rattle.recording_write.proofs.Way.{going-item, going_on, Measuring, measure-start, measure-turn, measure-done, measure-long}
+use Rattle.recording_write.proofs.Way.{going-item, going_on, measure-start, measure-turn, measure-done, measure-long}
 use Rattle.recording_write.proofs.sizes.all_octets.Goals as goal
 
 pub loop-i-init : goal.loop-i-init

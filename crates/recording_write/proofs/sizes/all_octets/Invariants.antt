@@ -1,9 +1,7 @@
-use borrow.Author.Rules.{rules}
 use Prim.Native.Nat.{◌-◌}
-use native.Mathlib.Omega.{arith}
 use lib.ListN.{length}
 use Rattle.rules.specs.Samples.{mask_of}
-use Rattle.recording_write.proofs.Way.{going-item, going_on, Measuring, measure-start, measure-turn, measure-done, measure-long}
+use Rattle.recording_write.proofs.Way.{Measuring}
 use Rattle.recording_write.proofs.sizes.all_octets.Given as goal
 
 abbrev pub invariant-loop-i : goal.invariant-loop-i

@@ -1,5 +1,4 @@
 -- Every form has room in 321 octets (Forms, Put).
-use borrow.Author.Rules.{rules}
 use native.Mathlib.Omega.{arith}
 use lib.ListN.{replicate}
 use Rattle.rules.proofs.Octets.{below_all}

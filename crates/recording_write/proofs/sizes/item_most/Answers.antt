@@ -1,4 +1,3 @@
-use borrow.Author.Rules.{rules}
 use native.Mathlib.Omega.{arith}
 use Rattle.recording_write.proofs.Cells.{length-le}
 use Rattle.recording_write.proofs.sizes.item_most.Goals as goal

@@ -1,8 +1,5 @@
-use borrow.Author.Rules.{rules}
-use Prim.Native.Nat.{◌-◌}
 use native.Mathlib.Omega.{arith}
-use lib.ListN.{length}
-use Rattle.recording_write.proofs.Way.{Counting, count-start, count_turn, count-done, count_long}
+use Rattle.recording_write.proofs.Way.{count-start, count_turn, count-done, count_long}
 use Rattle.recording_write.proofs.sizes.most_octets.Goals as goal
 
 pub loop-i-init : goal.loop-i-init

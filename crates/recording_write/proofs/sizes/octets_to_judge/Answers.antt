@@ -1,4 +1,3 @@
-use borrow.Author.Rules.{rules}
 use native.Mathlib.Omega.{arith}
 use Rattle.rules.proofs.Octets.{below_all}
 use Rattle.recording_write.proofs.Way.{measured-settles, most-settles}

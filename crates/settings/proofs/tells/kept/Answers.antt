@@ -1,5 +1,4 @@
 use Rattle.settings.proofs.Telling.{eight-told}
-use borrow.Author.Rules.{rules}
 use Rattle.settings.proofs.tells.kept.Goals as goal
 
 pub returns : goal.returns

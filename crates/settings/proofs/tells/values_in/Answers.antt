@@ -1,6 +1,5 @@
 use mathlib.Core.Path.{sym, ap}
 use Rattle.settings.specs.Tells.{values_in}
-use borrow.Author.Rules.{rules}
 use Rattle.settings.proofs.tells.values_in.Goals as goal
 
 pub returns-in-Nowhere : goal.returns-in-Nowhere
