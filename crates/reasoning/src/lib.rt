@@ -3,7 +3,6 @@
 // Each tool is measured once, whatever the set holds of it and whoever wins.
 #![tactic(auto)]
 
-
 ghost use Rattle.std.specs.Prelude.{◌≡◌, true, ◌||◌, ◌≤◌, length, take};
 ghost use Rattle.rules.specs.Tools.{is_tool};
 ghost use Rattle.write_scan.specs.Looks.{is_mask, FrameIn};

@@ -1,5 +1,4 @@
 -- The stop line, then the line of samples.
-use borrow.Author.Rules.{rules}
 use native.Mathlib.Omega.{arith}
 use mathlib.Core.Path.{refl}
 use Rattle.text_lines.proofs.Putting.{puts_then}

@@ -1,5 +1,4 @@
 -- A frame's line, and the stand after it.
-use borrow.Author.Rules.{rules}
 use native.Mathlib.Omega.{arith}
 use mathlib.Core.Path.{refl}
 use Rattle.listing_pages.proofs.list_frame.Goals as goal

@@ -1,11 +1,8 @@
 -- Each turn lists one step more (Turns); the measure is how far it is to the end.
-use borrow.Author.Rules.{rules}
 use native.Mathlib.Omega.{arith}
 use native.Mathlib.Nat.{le_refl, le_of_lt}
-use mathlib.Core.Path.{◌≡◌, refl}
-use lib.ListN.{length}
-use Rattle.listing_pages.specs.Pages.{steps_left}
-use Rattle.listing_pages.proofs.Turns.{lists-none, Turn, turn-then}
+use mathlib.Core.Path.{refl}
+use Rattle.listing_pages.proofs.Turns.{lists-none, turn-then}
 use Rattle.listing_pages.proofs.next_page.Goals as goal
 
 pub loop-room-init : goal.loop-room-init

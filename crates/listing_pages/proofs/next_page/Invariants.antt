@@ -1,10 +1,7 @@
-use borrow.Author.Rules.{rules}
-use native.Mathlib.Omega.{arith}
-use native.Mathlib.Nat.{le_refl, le_of_lt}
-use mathlib.Core.Path.{◌≡◌, refl}
+use mathlib.Core.Path.{◌≡◌}
 use lib.ListN.{length}
 use Rattle.listing_pages.specs.Pages.{steps_left}
-use Rattle.listing_pages.proofs.Turns.{lists-none, Turn, turn-then}
+use Rattle.listing_pages.proofs.Turns.{Turn}
 use Rattle.listing_pages.proofs.next_page.Given as goal
 
 -- Each turn lists one step more (Turns); the measure is how far it is to the end.

@@ -1,5 +1,4 @@
 -- The first octet decides (Openings).
-use borrow.Author.Rules.{rules}
 use native.Mathlib.Omega.{arith}
 use Prim.Native.Nat.{◌-◌}
 use lib.ListN.{length}

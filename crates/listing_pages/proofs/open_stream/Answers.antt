@@ -1,5 +1,4 @@
 -- Too long a stream is refused; else the law's line (Openings).
-use borrow.Author.Rules.{rules}
 use native.Mathlib.Omega.{arith}
 use mathlib.Core.Path.{refl}
 use Rattle.listing_pages.proofs.Openings.{opens_stopped, too_long, opens-stream}

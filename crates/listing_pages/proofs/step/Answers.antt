@@ -1,5 +1,4 @@
 -- The stream's end, a refused frame, or a frame's line (Steps).
-use borrow.Author.Rules.{rules}
 use native.Mathlib.Omega.{arith}
 use lib.ListN.{length-drop}
 use Rattle.walk.proofs.Told.{read-bounds}

@@ -1,4 +1,3 @@
-use borrow.Author.Rules.{rules}
 use mathlib.Core.Path.{sym}
 use Rattle.mending.proofs.Filling.{filling-length}
 use Rattle.mending.proofs.fill_octets.Goals as goal

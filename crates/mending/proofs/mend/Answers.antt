@@ -8,7 +8,6 @@ use Rattle.mending.specs.Mend.{mended, mends}
 use Rattle.mending.specs.Why.{why_asks, why_of, Answers}
 use Rattle.mending.proofs.Ordered.{ends-done, why-mends, why-is, mend-declined, no_room, mends-it}
 use Rattle.mending.proofs.Answers.{declined-as, refused_as, told-inside, told-length, mended-as}
-use borrow.Author.Rules.{rules}
 use Rattle.mending.proofs.mend.Goals.{In-Done}
 use Rattle.mending.proofs.mend.Goals as goal
 

@@ -3,12 +3,10 @@ use mathlib.Core.Path.{◌≡◌, sym, ◌∙◌}
 use mathlib.Core.Bool.{true}
 use native.Mathlib.Omega.{arith}
 use lib.ListN.{length}
-use borrow.Author.Tests.{not-true, not-false}
 use Rattle.mending.specs.Mend.{is_total, mended}
 use Rattle.mending.proofs.Filling.{filling-few}
 use Rattle.mending.proofs.Ordered.{no-law, too_long, no-total, result-long, told-it}
 use Rattle.mending.proofs.Answers.{declined-told, kept-inside, kept-samples, result-length, answers-as}
-use borrow.Author.Rules.{rules}
 use Rattle.mending.proofs.mend_why.Goals.{After-walk_on-w, After-fill_octets}
 use Rattle.mending.proofs.mend_why.Goals as goal
 

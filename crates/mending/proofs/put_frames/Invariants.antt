@@ -1,8 +1,5 @@
-use borrow.Author.Rules.{rules}
 use Prim.Native.Nat.{◌-◌}
-use native.Mathlib.Omega.{arith}
-use Rattle.rules.proofs.Lent.{Filling, fill_start, fill-length, fill-turn}
-use Rattle.mending.proofs.Filling.{put-done}
+use Rattle.rules.proofs.Lent.{Filling}
 use Rattle.mending.proofs.put_frames.Given as goal
 
 abbrev pub invariant-loop-i : goal.invariant-loop-i

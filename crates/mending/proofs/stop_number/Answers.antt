@@ -1,6 +1,5 @@
 use native.Mathlib.Omega.{arith}
 use Rattle.mending.proofs.Answers.{stop-room, stop-other}
-use borrow.Author.Rules.{rules}
 use Rattle.mending.proofs.stop_number.Goals as goal
 
 pub returns-then-number-eq-ROOM : goal.returns-then-number-eq-ROOM

@@ -1,5 +1,4 @@
 use Rattle.reasoning.proofs.Winning.{also-same, also-other}
-use borrow.Author.Rules.{rules}
 use Rattle.reasoning.proofs.also_needs.Goals as goal
 
 pub returns-then-tool-best : goal.returns-then-tool-best

@@ -1,5 +1,4 @@
 use Rattle.reasoning.proofs.Winning.{best-out, best-no, best-more, best-not-more}
-use borrow.Author.Rules.{rules}
 use Rattle.reasoning.proofs.better_of.Goals as goal
 
 pub returns-then-best-octets : goal.returns-then-best-octets

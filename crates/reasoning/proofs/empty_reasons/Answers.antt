@@ -1,4 +1,3 @@
-use borrow.Author.Rules.{rules}
 use Rattle.reasoning.proofs.empty_reasons.Goals as goal
 
 pub returns : goal.returns

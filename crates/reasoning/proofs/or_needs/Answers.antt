@@ -1,5 +1,4 @@
 use mathlib.Core.Path.{sym, ◌∙◌}
-use borrow.Author.Rules.{rules}
 use Rattle.reasoning.proofs.or_needs.Goals as goal
 
 pub returns-then-also_needs : goal.returns-then-also_needs

@@ -1,7 +1,6 @@
 use lib.ListN.{take}
 use Rattle.reasoning.proofs.Winning.{reasons-are}
 use lib.Seq.{length-take-le}
-use borrow.Author.Rules.{rules}
 use Rattle.reasoning.proofs.reasons_of.Goals as goal
 
 pub returns : goal.returns

@@ -2,9 +2,7 @@ use Prim.Native.Nat.{◌≤◌}
 use lib.ListN.{length, take}
 use Rattle.reasoning.proofs.Telling.{state-out, state-no, state-fits}
 use lib.Seq.{length-take-le}
-use borrow.Author.Tests.{not-true, not-false}
 use mathlib.Core.Path.{sym, ◌∙◌}
-use borrow.Author.Rules.{rules}
 use Rattle.reasoning.proofs.state_of.Goals.{Start}
 use Rattle.reasoning.proofs.state_of.Goals as goal
 

@@ -1,5 +1,4 @@
 use Rattle.reasons.specs.Why.{states_of}
-use borrow.Author.Rules.{rules}
 use Rattle.reasoning.proofs.states_of.Goals as goal
 
 pub returns : goal.returns

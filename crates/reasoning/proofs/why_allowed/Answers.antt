@@ -1,7 +1,5 @@
 use Rattle.reasoning.proofs.Refusing.{allowed-none, allowed-not, allowed-told, frame-in}
-use borrow.Author.Tests.{not-true, not-false}
 use mathlib.Core.Path.{sym, ◌∙◌}
-use borrow.Author.Rules.{rules}
 use Rattle.reasoning.proofs.why_allowed.Goals as goal
 
 pub returns-then-n-eq0 : goal.returns-then-n-eq0

@@ -1,7 +1,6 @@
 use Rattle.reasoning.proofs.Refusing.{why-refused, why-told}
 use Rattle.write_scan.proofs.Tests.{is-mask}
 use mathlib.Core.Path.{sym, ◌∙◌}
-use borrow.Author.Rules.{rules}
 use Rattle.reasoning.proofs.why_some.Goals as goal
 
 pub why_allowed-requires : goal.why_allowed-requires

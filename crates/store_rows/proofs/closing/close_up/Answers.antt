@@ -1,4 +1,4 @@
-use Prim.Native.Nat.{◌+◌, ◌*◌, ◌-◌, ◌<◌}
+use Prim.Native.Nat.{◌+◌, ◌*◌, ◌<◌}
 use mathlib.Core.Path.{◌≡◌, ◌∙◌}
 use native.Mathlib.Omega.{arith}
 use lib.ListN.{get_or, set}
@@ -6,7 +6,6 @@ use Rattle.store_rows.specs.declared.rows.Row.{Row}
 use Rattle.store_rows.specs.Cells.{row_at}
 use Rattle.store_rows.proofs.Rising.{Next}
 use Rattle.store_rows.proofs.Closed.{Closing, close-none, close-all, close-next, row_here, close-turn}
-use borrow.Author.Rules.{rules}
 use Rattle.store_rows.proofs.closing.close_up.Goals.{In-loop-i, After-slice_known-in-loop-i-1}
 use Rattle.store_rows.proofs.closing.close_up.Goals as goal
 

@@ -3,7 +3,6 @@ use mathlib.Core.Path.{◌≡◌, ap, refl}
 use native.Mathlib.Omega.{arith}
 use lib.ListN.{take, drop, replicate}
 use Rattle.store_rows.proofs.Hopping.{hop-all}
-use borrow.Author.Rules.{rules}
 use Rattle.store_rows.proofs.closing.hop.Goals as goal
 
 pub returns : goal.returns

@@ -1,8 +1,6 @@
-use Prim.Native.Nat.{◌-◌}
 use native.Mathlib.Omega.{arith}
-use Rattle.store_rows.proofs.Shifting.{Shifting, shift_none}
+use Rattle.store_rows.proofs.Shifting.{shift_none}
 use Rattle.store_rows.proofs.Hopping.{shift-on}
-use borrow.Author.Rules.{rules}
 use Rattle.store_rows.proofs.closing.hops.Goals as goal
 
 pub loop-i-init : goal.loop-i-init

@@ -1,8 +1,5 @@
 use Prim.Native.Nat.{◌-◌}
-use native.Mathlib.Omega.{arith}
-use Rattle.store_rows.proofs.Shifting.{Shifting, shift_none}
-use Rattle.store_rows.proofs.Hopping.{shift-on}
-use borrow.Author.Rules.{rules}
+use Rattle.store_rows.proofs.Shifting.{Shifting}
 use Rattle.store_rows.proofs.closing.hops.Given as goal
 
 abbrev pub invariant-loop-i : goal.invariant-loop-i

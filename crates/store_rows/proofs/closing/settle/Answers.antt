@@ -2,7 +2,6 @@ use mathlib.Core.Path.{◌≡◌}
 use native.Mathlib.Omega.{arith}
 use borrow.Author.Tests.{eq-eqb, ne_eqb}
 use Rattle.store_rows.proofs.Shifting.{shift_same}
-use borrow.Author.Rules.{rules}
 use Rattle.store_rows.proofs.closing.settle.Goals as goal
 
 pub returns-then-from-to : goal.returns-then-from-to

@@ -1,6 +1,5 @@
 use native.Mathlib.Omega.{arith}
 use Rattle.store_rows.proofs.Hopping.{shift_rest}
-use borrow.Author.Rules.{rules}
 use Rattle.store_rows.proofs.closing.shift.Goals as goal
 
 pub returns : goal.returns

@@ -2,7 +2,6 @@ use native.Mathlib.Omega.{arith}
 use mathlib.Core.Path.{◌∙◌}
 use lib.ListN.{length-set}
 use Rattle.store_rows.proofs.Changing.{inserted}
-use borrow.Author.Rules.{rules}
 use Rattle.store_rows.proofs.placing.insert.Goals as goal
 
 pub shape_of-table : goal.shape_of-table

@@ -1,7 +1,6 @@
 use native.Mathlib.Omega.{arith}
 use lib.ListN.{length-set}
 use Rattle.store_rows.proofs.Laying.{row_laid_lem}
-use borrow.Author.Rules.{rules}
 use Rattle.store_rows.proofs.placing.lay_row.Goals as goal
 
 pub bounds-table-k-2 : goal.bounds-table-k-2

@@ -1,6 +1,5 @@
 use native.Mathlib.Omega.{arith}
-use Rattle.store_rows.proofs.Laying.{Raising, raise-none, raise-turn, raise-all}
-use borrow.Author.Rules.{rules}
+use Rattle.store_rows.proofs.Laying.{raise-none, raise-turn, raise-all}
 use Rattle.store_rows.proofs.placing.raise.Goals as goal
 
 pub loop-j-init : goal.loop-j-init

@@ -1,6 +1,4 @@
-use native.Mathlib.Omega.{arith}
-use Rattle.store_rows.proofs.Laying.{Raising, raise-none, raise-turn, raise-all}
-use borrow.Author.Rules.{rules}
+use Rattle.store_rows.proofs.Laying.{Raising}
 use Rattle.store_rows.proofs.placing.raise.Given as goal
 
 abbrev pub invariant-loop-j : goal.invariant-loop-j

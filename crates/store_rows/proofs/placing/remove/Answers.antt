@@ -1,6 +1,5 @@
 use native.Mathlib.Omega.{arith}
 use Rattle.store_rows.proofs.Changing.{removed}
-use borrow.Author.Rules.{rules}
 use Rattle.store_rows.proofs.placing.remove.Goals as goal
 
 pub returns : goal.returns

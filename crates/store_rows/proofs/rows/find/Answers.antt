@@ -1,10 +1,6 @@
-use Prim.Native.Nat.{◌-◌, ◌≤◌}
-use mathlib.Core.Path.{◌≡◌, sym, ◌∙◌}
+use mathlib.Core.Path.{sym, ◌∙◌}
 use native.Mathlib.Omega.{arith}
-use Rattle.store_rows.specs.Finding.{find_from}
-use Rattle.store_rows.proofs.Left.{left}
 use Rattle.store_rows.proofs.Finding.{find-end, find-hit, find-miss}
-use borrow.Author.Rules.{rules}
 use Rattle.store_rows.proofs.rows.find.Goals as goal
 
 pub returns-then-r-number : goal.returns-then-r-number

@@ -1,11 +1,10 @@
-use Prim.Native.Nat.{ℕ, ◌-◌, ◌≤◌}
-use mathlib.Core.Path.{◌≡◌, refl, ap, ◌∙◌}
+use Prim.Native.Nat.{ℕ}
+use mathlib.Core.Path.{refl, ap, ◌∙◌}
 use native.Mathlib.Omega.{arith}
 use Rattle.store_rows.specs.Rows.{held}
 use Rattle.store_rows.specs.Cells.{rows_at}
 use Rattle.store_rows.proofs.Finding.{held-turn}
 use Rattle.store_rows.proofs.Judged.{row_next}
-use borrow.Author.Rules.{rules}
 use Rattle.store_rows.proofs.rows.held.Goals as goal
 
 pub loop-i-init : goal.loop-i-init

@@ -1,11 +1,7 @@
-use Prim.Native.Nat.{ℕ, ◌-◌, ◌≤◌}
-use mathlib.Core.Path.{◌≡◌, refl, ap, ◌∙◌}
-use native.Mathlib.Omega.{arith}
+use Prim.Native.Nat.{◌-◌, ◌≤◌}
+use mathlib.Core.Path.{◌≡◌}
 use Rattle.store_rows.specs.Rows.{held}
 use Rattle.store_rows.specs.Cells.{rows_at}
-use Rattle.store_rows.proofs.Finding.{held-turn}
-use Rattle.store_rows.proofs.Judged.{row_next}
-use borrow.Author.Rules.{rules}
 use Rattle.store_rows.proofs.rows.held.Given as goal
 
 abbrev pub invariant-loop-i : goal.invariant-loop-i

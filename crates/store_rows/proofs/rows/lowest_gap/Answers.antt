@@ -1,14 +1,13 @@
-use Prim.Native.Nat.{ℕ, ◌-◌, ◌≤◌}
-use mathlib.Core.Path.{◌≡◌, sym, ap, ◌∙◌}
+use Prim.Native.Nat.{ℕ}
+use mathlib.Core.Path.{sym, ap, ◌∙◌}
 use mathlib.Core.List.{List}
 use native.Mathlib.Omega.{arith}
 use Rattle.store_rows.specs.declared.rows.Row.{Row}
-use Rattle.store_rows.specs.Cells.{rows_at, rows_of}
-use Rattle.store_rows.specs.Finding.{gap_from, lowest_gap}
-use Rattle.store_rows.proofs.Left.{left, left-all}
+use Rattle.store_rows.specs.Cells.{rows_at}
+use Rattle.store_rows.specs.Finding.{lowest_gap}
+use Rattle.store_rows.proofs.Left.{left-all}
 use Rattle.store_rows.proofs.Finding.{gap-end, gap-none, gap_here, gap-turn}
 use Rattle.store_rows.proofs.Judged.{row_next}
-use borrow.Author.Rules.{rules}
 use Rattle.store_rows.proofs.rows.lowest_gap.Goals as goal
 
 pub loop-i-init : goal.loop-i-init

@@ -1,14 +1,8 @@
-use Prim.Native.Nat.{ℕ, ◌-◌, ◌≤◌}
-use mathlib.Core.Path.{◌≡◌, sym, ap, ◌∙◌}
-use mathlib.Core.List.{List}
-use native.Mathlib.Omega.{arith}
-use Rattle.store_rows.specs.declared.rows.Row.{Row}
-use Rattle.store_rows.specs.Cells.{rows_at, rows_of}
+use Prim.Native.Nat.{◌-◌, ◌≤◌}
+use mathlib.Core.Path.{◌≡◌}
+use Rattle.store_rows.specs.Cells.{rows_of}
 use Rattle.store_rows.specs.Finding.{gap_from, lowest_gap}
-use Rattle.store_rows.proofs.Left.{left, left-all}
-use Rattle.store_rows.proofs.Finding.{gap-end, gap-none, gap_here, gap-turn}
-use Rattle.store_rows.proofs.Judged.{row_next}
-use borrow.Author.Rules.{rules}
+use Rattle.store_rows.proofs.Left.{left}
 use Rattle.store_rows.proofs.rows.lowest_gap.Given as goal
 
 abbrev pub invariant-loop-i : goal.invariant-loop-i

@@ -1,13 +1,10 @@
-use Prim.Native.Nat.{◌-◌, ◌≤◌}
-use mathlib.Core.Path.{◌≡◌, sym, ap, ◌∙◌}
+use mathlib.Core.Path.{sym, ap, ◌∙◌}
 use mathlib.Core.List.{List}
 use native.Mathlib.Omega.{arith}
 use Rattle.store_rows.specs.declared.rows.Row.{Row}
-use Rattle.store_rows.specs.Cells.{rows_at}
 use Rattle.store_rows.specs.Sane.{rising}
-use Rattle.store_rows.proofs.Left.{left, left-all}
+use Rattle.store_rows.proofs.Left.{left-all}
 use Rattle.store_rows.proofs.Rising.{rising-end, rising-low, rising-few, rising-out, rising-turn}
-use borrow.Author.Rules.{rules}
 use Rattle.store_rows.proofs.rows.rises.Goals as goal
 
 pub loop-i-init : goal.loop-i-init

@@ -1,7 +1,6 @@
 use Prim.Native.Nat.{◌+◌}
 use native.Mathlib.Omega.{arith}
 use Rattle.store_rows.proofs.Cells.{row_is}
-use borrow.Author.Rules.{rules}
 use Rattle.store_rows.proofs.rows.row_at.Goals as goal
 
 pub returns : goal.returns

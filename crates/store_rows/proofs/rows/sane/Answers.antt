@@ -1,6 +1,5 @@
 use native.Mathlib.Omega.{arith}
 use Rattle.store_rows.proofs.Judged.{sane-short, sane-many, sane-rest}
-use borrow.Author.Rules.{rules}
 use Rattle.store_rows.proofs.rows.sane.Goals as goal
 
 pub returns-then-table-lt-LIST_CELLS : goal.returns-then-table-lt-LIST_CELLS
