@@ -1,4 +1,3 @@
-use borrow.Author.Rules.{rules}
 use lib.ListN.{length}
 use Rattle.recording_next.specs.Next.{next_of}
 use Rattle.g7110.proofs.Report.{piece-reported}

@@ -1,5 +1,4 @@
 -- The definition's number, its six numbers, its samples and its items.
-use borrow.Author.Rules.{rules}
 use mathlib.Core.Path.{refl, ap, ◌∙◌}
 use Rattle.recording.specs.Calls.{number_of, tool_named}
 use Rattle.g7110.proofs.Report.{then}

@@ -1,4 +1,3 @@
-use borrow.Author.Rules.{rules}
 use lib.ListN.{length}
 use Rattle.recording.specs.Files.{write_file}
 use Rattle.g7110.proofs.Report.{file-write-reported}

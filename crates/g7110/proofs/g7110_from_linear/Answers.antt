@@ -1,4 +1,3 @@
-use borrow.Author.Rules.{rules}
 use mathlib.Core.Path.{ap, ◌∙◌}
 use Rattle.rules.specs.Refusals.{number_of}
 use Rattle.g7110.proofs.g7110_from_linear.Goals as goal

@@ -3,7 +3,6 @@ use Rattle.rules.specs.Refusals.{tool_named}
 use Rattle.mending.specs.Calls.{mend_number_of}
 use Rattle.mending.specs.Why.{stop_number}
 use Rattle.g7110.proofs.Report.{then}
-use borrow.Author.Rules.{rules}
 use Rattle.g7110.proofs.g7110_mend_why.Goals as goal
 
 pub returns : goal.returns

@@ -1,4 +1,3 @@
-use borrow.Author.Rules.{rules}
 use mathlib.Core.Path.{refl, ap, ◌∙◌}
 use Rattle.rules.specs.Refusals.{number_of}
 use Rattle.g7110.proofs.Report.{then}

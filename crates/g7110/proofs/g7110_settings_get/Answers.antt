@@ -1,7 +1,6 @@
 use mathlib.Core.Path.{ap, ◌∙◌}
 use Rattle.settings.specs.Tells.{get_number_of, values_in}
 use Rattle.g7110.specs.Tells.{values_of}
-use borrow.Author.Rules.{rules}
 use Rattle.g7110.proofs.g7110_settings_get.Goals as goal
 
 pub returns : goal.returns

@@ -2,7 +2,6 @@ use Prim.Native.Nat.{ℕ}
 use mathlib.Core.Path.{ap, ◌∙◌}
 use mathlib.Core.List.{[], ◌∷◌}
 use Rattle.settings.specs.Calls.{number_of, told_of}
-use borrow.Author.Rules.{rules}
 use Rattle.g7110.proofs.g7110_settings_read.Goals as goal
 
 pub returns : goal.returns

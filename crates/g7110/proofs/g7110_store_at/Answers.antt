@@ -3,7 +3,6 @@ use mathlib.Core.List.{◌∷◌}
 use Rattle.store_tell.specs.declared.Entry.{Entry}
 use Rattle.store_tell.specs.Calls.{told_number_of, entry_in}
 use Rattle.g7110.specs.Tells.{five_of}
-use borrow.Author.Rules.{rules}
 use Rattle.g7110.proofs.g7110_store_at.Goals as goal
 
 pub returns : goal.returns

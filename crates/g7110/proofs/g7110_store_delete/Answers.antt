@@ -1,6 +1,5 @@
 use mathlib.Core.Path.{ap, ◌∙◌}
 use Rattle.store.specs.Calls.{number_of}
-use borrow.Author.Rules.{rules}
 use Rattle.g7110.proofs.g7110_store_delete.Goals as goal
 
 pub returns : goal.returns

@@ -1,7 +1,6 @@
 use mathlib.Core.Path.{refl, ap, ◌∙◌}
 use Rattle.store.specs.Calls.{number_of, first_of, second_of}
 use Rattle.g7110.proofs.Report.{then}
-use borrow.Author.Rules.{rules}
 use Rattle.g7110.proofs.g7110_store_get.Goals as goal
 
 pub returns : goal.returns

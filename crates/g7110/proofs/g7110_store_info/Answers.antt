@@ -1,7 +1,6 @@
 use mathlib.Core.Path.{ap, ◌∙◌}
 use Rattle.store_tell.specs.Calls.{told_number_of, entry_in}
 use Rattle.g7110.specs.Tells.{five_of}
-use borrow.Author.Rules.{rules}
 use Rattle.g7110.proofs.g7110_store_info.Goals as goal
 
 pub returns : goal.returns

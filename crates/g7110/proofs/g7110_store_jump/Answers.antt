@@ -1,7 +1,6 @@
 use mathlib.Core.Path.{ap, ◌∙◌}
 use Rattle.store_jump.specs.Calls.{number_of, told_of}
 use Rattle.g7110.specs.Store.{four_of}
-use borrow.Author.Rules.{rules}
 use Rattle.g7110.proofs.g7110_store_jump.Goals as goal
 
 pub returns : goal.returns

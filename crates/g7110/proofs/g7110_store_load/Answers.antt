@@ -1,7 +1,6 @@
 -- The definition's number, and its table.
 use mathlib.Core.Path.{ap, ◌∙◌}
 use Rattle.store.specs.Calls.{number_of}
-use borrow.Author.Rules.{rules}
 use Rattle.g7110.proofs.g7110_store_load.Goals as goal
 
 pub returns : goal.returns

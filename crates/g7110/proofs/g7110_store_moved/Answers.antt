@@ -1,6 +1,5 @@
 use mathlib.Core.Path.{ap, ◌∙◌}
 use Rattle.store_moves.specs.Calls.{change_number}
-use borrow.Author.Rules.{rules}
 use Rattle.g7110.proofs.g7110_store_moved.Goals as goal
 
 pub returns : goal.returns

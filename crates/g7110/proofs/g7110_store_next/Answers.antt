@@ -1,7 +1,6 @@
 use mathlib.Core.Path.{ap, ◌∙◌}
 use Rattle.store_moves.specs.Calls.{told_number, told_hop}
 use Rattle.g7110.specs.Moves.{hop_of}
-use borrow.Author.Rules.{rules}
 use Rattle.g7110.proofs.g7110_store_next.Goals as goal
 
 pub returns : goal.returns

@@ -1,6 +1,5 @@
 use Rattle.store.specs.Calls.{put_of}
 use Rattle.g7110.proofs.Report.{put-reported}
-use borrow.Author.Rules.{rules}
 use Rattle.g7110.proofs.g7110_store_put.Goals as goal
 
 pub returns : goal.returns

@@ -3,7 +3,6 @@ use Prim.Native.Nat.{ℕ}
 use mathlib.Core.Path.{ap, ◌∙◌}
 use mathlib.Core.List.{[], ◌∷◌}
 use Rattle.store.specs.Calls.{number_of, first_of}
-use borrow.Author.Rules.{rules}
 use Rattle.g7110.proofs.g7110_store_save.Goals as goal
 
 pub returns : goal.returns

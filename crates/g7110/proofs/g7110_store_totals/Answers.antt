@@ -1,7 +1,6 @@
 use mathlib.Core.Path.{ap, ◌∙◌}
 use Rattle.store_tell.specs.Calls.{summed_number_of, sums_in}
 use Rattle.g7110.specs.Tells.{sums_of}
-use borrow.Author.Rules.{rules}
 use Rattle.g7110.proofs.g7110_store_totals.Goals as goal
 
 pub returns : goal.returns

@@ -6,7 +6,6 @@ use Rattle.store.specs.Calls.{number_of, first_of, second_of}
 use Rattle.store_moves.specs.Calls.{Try}
 use Rattle.g7110.specs.Moves.{TryReported}
 use Rattle.g7110.proofs.Report.{then}
-use borrow.Author.Rules.{rules}
 use Rattle.g7110.proofs.g7110_store_try.Goals as goal
 
 try-reported : (law number : ℕ) (xs b t : List ℕ) {a : Answer} {first second r : ℕ} → Try law number xs b t a → first ≡ first_of a

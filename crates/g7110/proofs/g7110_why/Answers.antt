@@ -1,6 +1,5 @@
 use Rattle.g7110.proofs.Report.{why-refused, why-told}
 use mathlib.Core.Path.{sym, ◌∙◌}
-use borrow.Author.Rules.{rules}
 use Rattle.g7110.proofs.g7110_why.Goals as goal
 
 pub returns-in-Refused : goal.returns-in-Refused

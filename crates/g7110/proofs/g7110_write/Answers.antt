@@ -1,4 +1,3 @@
-use borrow.Author.Rules.{rules}
 use lib.ListN.{length}
 use Rattle.rules.specs.Chooses.{write_one}
 use Rattle.g7110.proofs.Report.{write-reported}

@@ -4,8 +4,6 @@ use mathlib.Core.Path.{◌≡◌, sym, ◌∙◌}
 use mathlib.Core.Bool.{true}
 use native.Mathlib.Omega.{arith}
 use Rattle.store_rows.specs.Limits.{largest_block}
-use borrow.Author.Rules.{rules}
-use borrow.Author.Tests.{not-true, not-false}
 use Rattle.store_notes.proofs.Matched.{sane-noted, room_for}
 use Rattle.store_notes.proofs.Stored.{heads-kept, count_kept}
 use Rattle.store.specs.Looking.{Looked}

@@ -8,7 +8,6 @@ use Rattle.store_rows.specs.Finding.{lowest_gap}
 use Rattle.store_rows.specs.Cells.{rows_of}
 use Rattle.store_notes.proofs.Taken.{heard-few}
 use Rattle.store.proofs.Fitted.{closed-count, gap-told, gap-asks, behind-asks, fit-gap, fit-behind}
-use borrow.Author.Rules.{rules}
 use Rattle.store.proofs.fit.Goals.{In-At}
 use Rattle.store.proofs.fit.Goals as goal
 

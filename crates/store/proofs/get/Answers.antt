@@ -2,8 +2,6 @@
 use mathlib.Core.Path.{◌≡◌, sym, ◌∙◌}
 use mathlib.Core.Bool.{true}
 use native.Mathlib.Omega.{arith}
-use borrow.Author.Rules.{rules}
-use borrow.Author.Tests.{not-true, not-false}
 use Rattle.store_notes.proofs.Matched.{sane-noted}
 use Rattle.store.specs.Looking.{Looked}
 use Rattle.store.proofs.Looks.{look-told}

@@ -1,6 +1,5 @@
 use native.Mathlib.Omega.{arith}
 use Rattle.store.proofs.Looks.{look-low, look-high, look-found}
-use borrow.Author.Rules.{rules}
 use Rattle.store.proofs.judge.Goals as goal
 
 pub returns-then-number-lt1 : goal.returns-then-number-lt1

@@ -1,7 +1,6 @@
 use mathlib.Core.Path.{sym, ◌∙◌}
 use native.Mathlib.Omega.{arith}
 use Rattle.store.proofs.Called.{long-bad, long-full, long-room}
-use borrow.Author.Rules.{rules}
 use Rattle.store.proofs.over_long.Goals as goal
 
 pub returns-then-is_bad : goal.returns-then-is_bad

@@ -3,7 +3,6 @@ use native.Mathlib.Omega.{arith}
 use Rattle.store_greeting.proofs.Taking.{taken-bad}
 use Rattle.store_notes.proofs.Taken.{taken}
 use Rattle.store.proofs.Called.{put-taken, put-long, put-bad}
-use borrow.Author.Rules.{rules}
 use Rattle.store.proofs.put_among.Goals as goal
 
 pub returns-then-sought : goal.returns-then-sought

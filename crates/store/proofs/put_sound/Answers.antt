@@ -1,7 +1,6 @@
 -- FULL, NOROOM; then it fits (Called).
 use native.Mathlib.Omega.{arith}
 use Rattle.store.proofs.Called.{put_full, put-no-room, put-fits}
-use borrow.Author.Rules.{rules}
 use Rattle.store.proofs.put_sound.Goals as goal
 
 pub returns-then-sought-ge-MOST_GREETINGS : goal.returns-then-sought-ge-MOST_GREETINGS

@@ -11,7 +11,6 @@ use Rattle.rules.proofs.Lent.{from_on}
 use Rattle.store_notes.specs.Cells.{heads_of}
 use Rattle.store_notes.specs.Changed.{shut}
 use Rattle.store_notes.proofs.Stored.{part-made, part_length, heads-less, held_all, marks-next, note-out}
-use borrow.Author.Rules.{rules}
 use Rattle.store_notes.proofs.drop_note.Goals as goal
 
 pub remove-requires : goal.remove-requires

@@ -1,15 +1,13 @@
 -- Row by row, beside the notes' heads (Matched).
-use Prim.Native.Nat.{ℕ, ◌-◌, ◌≤◌}
-use mathlib.Core.Path.{◌≡◌, sym, ap, ap₂, ◌∙◌}
+use Prim.Native.Nat.{ℕ}
+use mathlib.Core.Path.{sym, ap, ap₂, ◌∙◌}
 use mathlib.Core.List.{List}
 use native.Mathlib.Omega.{arith}
 use lib.ListN.{drop}
-use Rattle.store_rows.specs.Cells.{rows_at}
-use Rattle.store_rows.proofs.Left.{left, left-all}
+use Rattle.store_rows.proofs.Left.{left-all}
 use Rattle.store_notes.specs.Cells.{in_row}
 use Rattle.store_notes.specs.Sane.{matched}
 use Rattle.store_notes.proofs.Matched.{matched-end, matched-law, matched-many, matched-turn}
-use borrow.Author.Rules.{rules}
 use Rattle.store_notes.proofs.fits.Goals.{After-head_at-h}
 use Rattle.store_notes.proofs.fits.Goals as goal
 

@@ -1,14 +1,9 @@
-use Prim.Native.Nat.{ℕ, ◌-◌, ◌≤◌}
-use mathlib.Core.Path.{◌≡◌, sym, ap, ap₂, ◌∙◌}
-use mathlib.Core.List.{List}
-use native.Mathlib.Omega.{arith}
+use Prim.Native.Nat.{◌-◌, ◌≤◌}
+use mathlib.Core.Path.{◌≡◌}
 use lib.ListN.{drop}
 use Rattle.store_rows.specs.Cells.{rows_at}
-use Rattle.store_rows.proofs.Left.{left, left-all}
-use Rattle.store_notes.specs.Cells.{in_row}
+use Rattle.store_rows.proofs.Left.{left}
 use Rattle.store_notes.specs.Sane.{matched}
-use Rattle.store_notes.proofs.Matched.{matched-end, matched-law, matched-many, matched-turn}
-use borrow.Author.Rules.{rules}
 use Rattle.store_notes.proofs.fits.Given as goal
 
 -- Row by row, beside the notes' heads (Matched).

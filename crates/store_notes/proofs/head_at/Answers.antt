@@ -5,7 +5,6 @@ use Rattle.store_rows.specs.declared.rows.Row.{Row}
 use Rattle.store_notes.specs.declared.Head.{Head}
 use Rattle.store_notes.specs.Cells.{head_in}
 use Rattle.store_notes.proofs.Matched.{head-is}
-use borrow.Author.Rules.{rules}
 use Rattle.store_notes.proofs.head_at.Goals as goal
 
 pub returns : goal.returns

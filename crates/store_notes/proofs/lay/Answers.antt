@@ -1,7 +1,5 @@
-use Prim.Native.Nat.{◌-◌}
 use native.Mathlib.Omega.{arith}
-use Rattle.store_rows.proofs.Laying.{Copying, copy-none, copy-turn, copy-all}
-use borrow.Author.Rules.{rules}
+use Rattle.store_rows.proofs.Laying.{copy-none, copy-turn, copy-all}
 use Rattle.store_notes.proofs.lay.Goals as goal
 
 pub loop-i-init : goal.loop-i-init

@@ -1,7 +1,5 @@
 use Prim.Native.Nat.{◌-◌}
-use native.Mathlib.Omega.{arith}
-use Rattle.store_rows.proofs.Laying.{Copying, copy-none, copy-turn, copy-all}
-use borrow.Author.Rules.{rules}
+use Rattle.store_rows.proofs.Laying.{Copying}
 use Rattle.store_notes.proofs.lay.Given as goal
 
 abbrev pub invariant-loop-i : goal.invariant-loop-i

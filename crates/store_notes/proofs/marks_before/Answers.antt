@@ -1,4 +1,4 @@
-use Prim.Native.Nat.{ℕ, ◌*◌, ◌-◌, ◌^◌, ◌≤◌}
+use Prim.Native.Nat.{ℕ}
 use mathlib.Core.Path.{◌≡◌, refl, ap, ◌∙◌}
 use native.Mathlib.Omega.{arith}
 use lib.ListN.{drop}
@@ -6,7 +6,6 @@ use Rattle.store_rows.specs.Rows.{held}
 use Rattle.store_rows.specs.Cells.{rows_at}
 use Rattle.store_rows.proofs.Finding.{held-turn}
 use Rattle.store_notes.specs.Cells.{in_row}
-use borrow.Author.Rules.{rules}
 use Rattle.store_notes.proofs.marks_before.Goals as goal
 
 pub loop-j-init : goal.loop-j-init

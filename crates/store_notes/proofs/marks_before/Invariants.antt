@@ -1,12 +1,8 @@
-use Prim.Native.Nat.{ℕ, ◌*◌, ◌-◌, ◌^◌, ◌≤◌}
-use mathlib.Core.Path.{◌≡◌, refl, ap, ◌∙◌}
-use native.Mathlib.Omega.{arith}
+use Prim.Native.Nat.{◌*◌, ◌-◌, ◌^◌, ◌≤◌}
+use mathlib.Core.Path.{◌≡◌}
 use lib.ListN.{drop}
 use Rattle.store_rows.specs.Rows.{held}
 use Rattle.store_rows.specs.Cells.{rows_at}
-use Rattle.store_rows.proofs.Finding.{held-turn}
-use Rattle.store_notes.specs.Cells.{in_row}
-use borrow.Author.Rules.{rules}
 use Rattle.store_notes.proofs.marks_before.Given as goal
 
 abbrev pub invariant-loop-j : goal.invariant-loop-j

@@ -4,7 +4,6 @@ use mathlib.Core.Path.{sym}
 use native.Mathlib.Omega.{arith}
 use lib.Seq.{length-take-le}
 use Rattle.store_notes.proofs.Taken.{taken-cells}
-use borrow.Author.Rules.{rules}
 use Rattle.store_notes.proofs.open_taken.Goals as goal
 
 pub slice_bounds-open_up-end : goal.slice_bounds-open_up-end

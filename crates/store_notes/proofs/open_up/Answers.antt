@@ -1,6 +1,5 @@
 use native.Mathlib.Omega.{arith}
 use Rattle.store_notes.proofs.Opening.{opened-is}
-use borrow.Author.Rules.{rules}
 use Rattle.store_notes.proofs.open_up.Goals as goal
 
 pub returns : goal.returns

@@ -2,7 +2,6 @@ use Prim.Native.Nat.{◌*◌}
 use mathlib.Core.Path.{refl}
 use native.Mathlib.Omega.{arith}
 use Rattle.store_notes.proofs.Taken.{walked-is}
-use borrow.Author.Rules.{rules}
 use Rattle.store_notes.proofs.open_walked.Goals as goal
 
 pub returns : goal.returns

@@ -13,7 +13,6 @@ use Rattle.store_notes.specs.Cells.{heads_of}
 use Rattle.store_notes.specs.Changed.{opened}
 use Rattle.store_notes.proofs.Stored.{part-made, part_length, heads-more, held_all, marks-order, note-put}
 use Rattle.store_notes.proofs.Taken.{heard-small, heard-few, heard-row}
-use borrow.Author.Rules.{rules}
 use Rattle.store_notes.proofs.put_taken.Goals as goal
 
 pub insert-requires : goal.insert-requires

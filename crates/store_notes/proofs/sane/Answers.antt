@@ -2,10 +2,8 @@
 use mathlib.Core.Path.{◌≡◌, sym, ◌∙◌}
 use mathlib.Core.Bool.{true}
 use native.Mathlib.Omega.{arith}
-use borrow.Author.Tests.{not-true, not-false}
 use Rattle.store_rows.proofs.Judged.{sane-ordered}
 use Rattle.store_notes.proofs.Matched.{sane-short, sane-not, sane-other, sane-rest}
-use borrow.Author.Rules.{rules}
 use Rattle.store_notes.proofs.sane.Goals.{Else-not-sane}
 use Rattle.store_notes.proofs.sane.Goals as goal
 

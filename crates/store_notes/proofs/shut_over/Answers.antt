@@ -1,6 +1,5 @@
 use native.Mathlib.Omega.{arith}
 use Rattle.store_notes.proofs.Opening.{shut-is}
-use borrow.Author.Rules.{rules}
 use Rattle.store_notes.proofs.shut_over.Goals as goal
 
 pub returns : goal.returns

@@ -1,14 +1,8 @@
-use Prim.Native.Nat.{suc, ◌+◌, ◌-◌, ◌≤◌}
-use mathlib.Core.Path.{◌≡◌}
-use native.Mathlib.Omega.{arith}
-use lib.ListN.{take, drop}
+use Prim.Native.Nat.{◌-◌, ◌≤◌}
 use Rattle.store_text.specs.Noted.{listed_at}
-use Rattle.store_rows.specs.Rows.{row_of, greeting}
 use Rattle.store_save.specs.Saved.{all_true}
 use Rattle.store_save.specs.Steps.{greetings_of}
-use Rattle.store_save.proofs.Compared.{Comparing, HeadTurn, comparing-first, comparing-end, comparing-missing}
-use Rattle.store_save.proofs.Compared.{comparing-turn, turn-lent, turn-part, turn-astray, turn_on}
-use borrow.Author.Rules.{rules}
+use Rattle.store_save.proofs.Compared.{Comparing}
 use Rattle.store_save.proofs.all_true.Given as goal
 
 -- Greeting by greeting (Compared, Comparing).

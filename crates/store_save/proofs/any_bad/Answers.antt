@@ -1,15 +1,11 @@
 -- Greeting by greeting (Bad).
-use Prim.Native.Nat.{◌-◌, ◌≤◌}
-use mathlib.Core.Path.{◌≡◌, sym, ap, ◌∙◌}
+use mathlib.Core.Path.{sym, ap, ◌∙◌}
 use mathlib.Core.List.{List}
-use lib.ListN.{drop}
 use native.Mathlib.Omega.{arith}
 use Rattle.store_rows.specs.declared.rows.Row.{Row}
-use Rattle.store_rows.specs.Cells.{rows_at}
-use Rattle.store_rows.proofs.Left.{left, left-all}
+use Rattle.store_rows.proofs.Left.{left-all}
 use Rattle.store_save.specs.Steps.{bad_by}
 use Rattle.store_save.proofs.Bad.{row_inside, bad-none, bad-here, bad-on}
-use borrow.Author.Rules.{rules}
 use Rattle.store_save.proofs.any_bad.Goals as goal
 
 pub loop-i-init : goal.loop-i-init

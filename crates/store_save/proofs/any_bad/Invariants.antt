@@ -1,14 +1,9 @@
 use Prim.Native.Nat.{◌-◌, ◌≤◌}
-use mathlib.Core.Path.{◌≡◌, sym, ap, ◌∙◌}
-use mathlib.Core.List.{List}
+use mathlib.Core.Path.{◌≡◌}
 use lib.ListN.{drop}
-use native.Mathlib.Omega.{arith}
-use Rattle.store_rows.specs.declared.rows.Row.{Row}
 use Rattle.store_rows.specs.Cells.{rows_at}
-use Rattle.store_rows.proofs.Left.{left, left-all}
+use Rattle.store_rows.proofs.Left.{left}
 use Rattle.store_save.specs.Steps.{bad_by}
-use Rattle.store_save.proofs.Bad.{row_inside, bad-none, bad-here, bad-on}
-use borrow.Author.Rules.{rules}
 use Rattle.store_save.proofs.any_bad.Given as goal
 
 -- Greeting by greeting (Bad).

@@ -2,7 +2,6 @@
 use native.Mathlib.Omega.{arith}
 use Rattle.store_save.specs.Steps.{AllNotes}
 use Rattle.store_save.proofs.Holding.{held-stop, held-fine, notes-kept}
-use borrow.Author.Rules.{rules}
 use Rattle.store_save.proofs.hold.Goals.{In-Fine}
 use Rattle.store_save.proofs.hold.Goals as goal
 

@@ -5,7 +5,6 @@ use Rattle.store_text.specs.Noted.{listed_at}
 use Rattle.store_save.specs.Steps.{greetings_of}
 use Rattle.store_save.specs.Calls.{verdict_of}
 use Rattle.store_save.proofs.Judging.{Passes, celled-stop, celled-fine, celled-count, passes-true, passes-false, sound}
-use borrow.Author.Rules.{rules}
 use Rattle.store_save.proofs.judge_noted.Goals.{In-Fine}
 use Rattle.store_save.proofs.judge_noted.Goals as goal
 

@@ -1,11 +1,9 @@
 -- TABLE for the whole, then BAD (Judging).
 use mathlib.Core.Path.{sym, ◌∙◌}
 use native.Mathlib.Omega.{arith}
-use borrow.Author.Tests.{not-true, not-false}
 use Rattle.store_rows.specs.Cells.{rows_at}
 use Rattle.store_rows.specs.Sane.{rising}
 use Rattle.store_save.proofs.Judging.{not-apart, not-once, is-bad, is-fine}
-use borrow.Author.Rules.{rules}
 use Rattle.store_save.proofs.judge_rows.Goals as goal
 
 pub returns-then-not-rises : goal.returns-then-not-rises

@@ -3,7 +3,6 @@ use native.Mathlib.Omega.{arith}
 use Rattle.store_text.specs.Table.{table_in}
 use Rattle.store_text.proofs.Formed.{form-most}
 use Rattle.store_save.proofs.Loading.{Early, rows_as, celled-early, early-ready, load-short, load-later, load-early}
-use borrow.Author.Rules.{rules}
 use Rattle.store_save.proofs.load.Goals.{In-Greetings}
 use Rattle.store_save.proofs.load.Goals as goal
 

@@ -8,7 +8,6 @@ use Rattle.text_keyvalue.specs.Reading.{Read}
 use mathlib.Core.List.{List}
 use Rattle.store_save.specs.Steps.{greetings_of, is_whole, Celled}
 use Rattle.store_save.proofs.Loading.{fills-as, celled-noted, noted-wrong, noted-ready, noted-held}
-use borrow.Author.Rules.{rules}
 use Rattle.store_save.proofs.load_noted.Goals.{Start, In-Greetings}
 use Rattle.store_save.proofs.load_noted.Goals as goal
 

@@ -1,8 +1,6 @@
 -- Cell by cell (Holding).
-use Prim.Native.Nat.{◌-◌}
 use native.Mathlib.Omega.{arith}
-use Rattle.store_save.proofs.Holding.{Placed, rows_none, rows-turn, rows-put}
-use borrow.Author.Rules.{rules}
+use Rattle.store_save.proofs.Holding.{rows_none, rows-turn, rows-put}
 use Rattle.store_save.proofs.put_rows.Goals as goal
 
 pub loop-i-init : goal.loop-i-init

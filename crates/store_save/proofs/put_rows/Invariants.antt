@@ -1,7 +1,5 @@
 use Prim.Native.Nat.{◌-◌}
-use native.Mathlib.Omega.{arith}
-use Rattle.store_save.proofs.Holding.{Placed, rows_none, rows-turn, rows-put}
-use borrow.Author.Rules.{rules}
+use Rattle.store_save.proofs.Holding.{Placed}
 use Rattle.store_save.proofs.put_rows.Given as goal
 
 -- Cell by cell (Holding).

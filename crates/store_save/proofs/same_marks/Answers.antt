@@ -2,7 +2,6 @@
 use native.Mathlib.Omega.{arith}
 use Rattle.store_notes.proofs.Taken.{heard-few}
 use Rattle.store_save.proofs.Small.{taken-small}
-use borrow.Author.Rules.{rules}
 use Rattle.store_save.proofs.same_marks.Goals as goal
 
 pub overflow_mul-head : goal.overflow_mul-head

@@ -8,7 +8,6 @@ use Rattle.store_text.specs.Passing.{next_of, samples_is}
 use Rattle.store_text.proofs.Marks.{note-astray}
 use Rattle.store_save.proofs.Compared.{note-told}
 use Rattle.store_save.proofs.Small.{fine-law, tally-wrong}
-use borrow.Author.Rules.{rules}
 use Rattle.store_save.proofs.same_note.Goals as goal
 
 pub take-requires : goal.take-requires

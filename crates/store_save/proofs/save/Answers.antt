@@ -1,8 +1,6 @@
 -- What is judged, measured, and then written (Saving).
 use native.Mathlib.Omega.{arith}
-use borrow.Author.Tests.{not-true, not-false}
 use Rattle.store_save.proofs.Saving.{save-table, save-first, save-fits, save-room, save-text}
-use borrow.Author.Rules.{rules}
 use Rattle.store_save.proofs.save.Goals as goal
 
 pub returns-then-not-sane : goal.returns-then-not-sane

@@ -2,7 +2,6 @@
 use native.Mathlib.Omega.{arith}
 use Rattle.store_notes.proofs.Taken.{taken, heard-few}
 use Rattle.store_save.proofs.Small.{fine-law, tally-wrong}
-use borrow.Author.Rules.{rules}
 use Rattle.store_save.proofs.store_note.Goals as goal
 
 pub take-requires : goal.take-requires

@@ -1,11 +1,9 @@
 -- Note by note (Storing).
-use Prim.Native.Nat.{◌-◌}
-use mathlib.Core.Path.{◌≡◌, refl, ◌∙◌}
-use lib.ListN.{length, length-set}
+use mathlib.Core.Path.{refl, ◌∙◌}
+use lib.ListN.{length-set}
 use native.Mathlib.Omega.{arith}
 use Rattle.store_save.proofs.Bad.{row_inside, part_same}
-use Rattle.store_save.proofs.Storing.{Storing, all_set, storing-first, storing-one, storing-turn, storing-end}
-use borrow.Author.Rules.{rules}
+use Rattle.store_save.proofs.Storing.{all_set, storing-first, storing-one, storing-turn, storing-end}
 use Rattle.store_save.proofs.store_notes.Goals as goal
 
 pub bounds-table-97 : goal.bounds-table-97

@@ -1,10 +1,7 @@
 use Prim.Native.Nat.{◌-◌}
-use mathlib.Core.Path.{◌≡◌, refl, ◌∙◌}
-use lib.ListN.{length, length-set}
-use native.Mathlib.Omega.{arith}
-use Rattle.store_save.proofs.Bad.{row_inside, part_same}
-use Rattle.store_save.proofs.Storing.{Storing, all_set, storing-first, storing-one, storing-turn, storing-end}
-use borrow.Author.Rules.{rules}
+use mathlib.Core.Path.{◌≡◌}
+use lib.ListN.{length}
+use Rattle.store_save.proofs.Storing.{Storing}
 use Rattle.store_save.proofs.store_notes.Given as goal
 
 -- Note by note (Storing).

@@ -1,11 +1,9 @@
 use mathlib.Core.Path.{◌≡◌, sym, ◌∙◌}
 use mathlib.Core.Bool.{true}
 use native.Mathlib.Omega.{arith}
-use borrow.Author.Tests.{not-true, not-false}
 use Rattle.store_notes.specs.Sane.{Noted}
 use Rattle.store_notes.proofs.Matched.{sane-noted}
 use Rattle.store_tell.proofs.Telling.{at_table, at-absent, at-found}
-use borrow.Author.Rules.{rules}
 use Rattle.store_tell.proofs.at.Goals.{Else-not-sane}
 use Rattle.store_tell.proofs.at.Goals as goal
 

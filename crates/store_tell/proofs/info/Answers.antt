@@ -7,7 +7,6 @@ use Rattle.store_rows.specs.Limits.{size_of}
 use Rattle.store_notes.specs.Sane.{Noted}
 use Rattle.store_notes.proofs.Matched.{sane-noted}
 use Rattle.store_tell.proofs.Telling.{info-refused, info-met, info-place, info-within, info-found}
-use borrow.Author.Rules.{rules}
 use Rattle.store_tell.proofs.info.Goals.{In-Done}
 use Rattle.store_tell.proofs.info.Goals as goal
 

@@ -1,7 +1,5 @@
-use Prim.Native.Nat.{◌-◌}
 use native.Mathlib.Omega.{arith}
-use Rattle.store_tell.proofs.Telling.{Seeing, largest-start, largest-next, largest-turn, largest-end}
-use borrow.Author.Rules.{rules}
+use Rattle.store_tell.proofs.Telling.{largest-start, largest-next, largest-turn, largest-end}
 use Rattle.store_tell.proofs.largest_gap.Goals as goal
 
 pub loop-i-init : goal.loop-i-init

@@ -1,5 +1,4 @@
 use Rattle.store_tell.proofs.Telling.{sums-are}
-use borrow.Author.Rules.{rules}
 use Rattle.store_tell.proofs.sum_up.Goals as goal
 
 pub returns : goal.returns

@@ -1,6 +1,5 @@
 use mathlib.Core.Path.{sym, ap}
 use Rattle.store_tell.specs.Calls.{sums_in}
-use borrow.Author.Rules.{rules}
 use Rattle.store_tell.proofs.sums_in.Goals as goal
 
 pub returns-in-Refused : goal.returns-in-Refused

@@ -1,5 +1,4 @@
 use Rattle.store_tell.proofs.Telling.{tell-is}
-use borrow.Author.Rules.{rules}
 use Rattle.store_tell.proofs.tell.Goals as goal
 
 pub returns : goal.returns

@@ -3,7 +3,6 @@ use mathlib.Core.Path.{ap}
 use native.Mathlib.Omega.{arith}
 use lib.ListN.{length}
 use Rattle.store_text.proofs.Formed.{form-here, form-none}
-use borrow.Author.Rules.{rules}
 use Rattle.store_text.proofs.form_octets.Goals as goal
 
 pub returns-then-wide-size : goal.returns-then-wide-size

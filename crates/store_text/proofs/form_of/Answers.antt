@@ -1,7 +1,6 @@
 -- With the line, and without it.
 use mathlib.Core.Path.{sym, ◌∙◌}
 use Rattle.store_text.proofs.Formed.{form-taken, form-left}
-use borrow.Author.Rules.{rules}
 use Rattle.store_text.proofs.form_of.Goals as goal
 
 pub returns-then-has_word : goal.returns-then-has_word

@@ -1,6 +1,5 @@
 -- Three lines, then the law.
 use Rattle.store_text.proofs.Lines.{head-no-row, head-no-law, head-whole}
-use borrow.Author.Rules.{rules}
 use Rattle.store_text.proofs.head_at.Goals as goal
 
 pub returns-in-Nothing : goal.returns-in-Nothing

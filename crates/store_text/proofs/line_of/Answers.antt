@@ -1,6 +1,5 @@
 -- Three lines, one after another.
 use Rattle.store_text.proofs.Lines.{no-prompt, no_start, no-octets, row-whole}
-use borrow.Author.Rules.{rules}
 use Rattle.store_text.proofs.line_of.Goals as goal
 
 pub returns-in-Not : goal.returns-in-Not

@@ -2,7 +2,6 @@
 use mathlib.Core.Path.{sym, ap, ◌∙◌}
 use Rattle.store_text.specs.Passing.{as_head}
 use Rattle.store_text.proofs.Lines.{listed-no-head, listed-astray, listed-whole}
-use borrow.Author.Rules.{rules}
 use Rattle.store_text.proofs.listed_at.Goals as goal
 
 pub returns-in-Missing : goal.returns-in-Missing

@@ -1,12 +1,10 @@
 -- A word, and two numbers with a word after each.
 use mathlib.Core.Path.{sym, ◌∙◌}
 use native.Mathlib.Omega.{arith}
-use borrow.Author.Tests.{not-true, not-false}
 use Rattle.text_keyvalue.proofs.Numbers.{told}
 use Rattle.text_keyvalue.proofs.Lines.{word_fits}
 use Rattle.store_text.specs.Noted.{mark_word}
 use Rattle.store_text.proofs.Marks.{no-mark, mark-no-octets, mark-no-samples, mark-whole}
-use borrow.Author.Rules.{rules}
 use Rattle.store_text.proofs.mark_at.Goals as goal
 
 pub returns-then-not-has_word : goal.returns-then-not-has_word

@@ -2,7 +2,6 @@
 use mathlib.Core.Path.{sym, ap, ◌∙◌}
 use Rattle.store_text.specs.Passing.{as_mark}
 use Rattle.store_text.proofs.Marks.{is-unmarked, is-octets, is-samples, is-mark}
-use borrow.Author.Rules.{rules}
 use Rattle.store_text.proofs.mark_is.Goals as goal
 
 pub returns-then-wide-octets : goal.returns-then-wide-octets

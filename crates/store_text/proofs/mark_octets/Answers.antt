@@ -7,7 +7,6 @@ use Rattle.rules.specs.Listing.{decimal}
 use Rattle.text_keyvalue.proofs.Decimals.{decimal-few}
 use Rattle.store_text.specs.Held.{mark_at}
 use Rattle.store_text.proofs.Writing.{mark-length}
-use borrow.Author.Rules.{rules}
 use Rattle.store_text.proofs.mark_octets.Goals as goal
 
 pub overflow_add-result : goal.overflow_add-result

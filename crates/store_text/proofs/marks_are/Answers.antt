@@ -1,9 +1,8 @@
 -- Mark by mark (Marks, Compares).
-use Prim.Native.Nat.{◌+◌, ◌*◌, ◌-◌, ◌≤◌}
+use Prim.Native.Nat.{◌+◌, ◌*◌}
 use mathlib.Core.Path.{sym, ◌∙◌}
 use native.Mathlib.Omega.{arith}
-use Rattle.store_text.proofs.Marks.{Compares, compares-first, are-end, are-astray, are-turn}
-use borrow.Author.Rules.{rules}
+use Rattle.store_text.proofs.Marks.{compares-first, are-end, are-astray, are-turn}
 use Rattle.store_text.proofs.marks_are.Goals as goal
 
 pub loop-j-init : goal.loop-j-init

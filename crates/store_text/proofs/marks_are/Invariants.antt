@@ -1,8 +1,5 @@
-use Prim.Native.Nat.{◌+◌, ◌*◌, ◌-◌, ◌≤◌}
-use mathlib.Core.Path.{sym, ◌∙◌}
-use native.Mathlib.Omega.{arith}
-use Rattle.store_text.proofs.Marks.{Compares, compares-first, are-end, are-astray, are-turn}
-use borrow.Author.Rules.{rules}
+use Prim.Native.Nat.{◌-◌, ◌≤◌}
+use Rattle.store_text.proofs.Marks.{Compares}
 use Rattle.store_text.proofs.marks_are.Given as goal
 
 -- Mark by mark (Marks, Compares).

@@ -1,11 +1,7 @@
 -- Counted mark by mark (Writing, Counting).
-use Prim.Native.Nat.{◌*◌, ◌-◌, ◌≤◌}
 use native.Mathlib.Omega.{arith}
-use Rattle.store_notes.specs.Cells.{marks_in}
-use Rattle.store_text.specs.Noted.{marks_text}
-use Rattle.store_text.proofs.Writing.{Counting, counting-first, counting-turn, counting-end}
-use Rattle.store_text.proofs.Writing.{marks_left, mark_laid, marks-start, marks-left, marks-over}
-use borrow.Author.Rules.{rules}
+use Rattle.store_text.proofs.Writing.{counting-first, counting-turn, counting-end}
+use Rattle.store_text.proofs.Writing.{mark_laid, marks-start, marks-left, marks-over}
 use Rattle.store_text.proofs.marks_octets.Goals as goal
 
 pub loop-j-init : goal.loop-j-init

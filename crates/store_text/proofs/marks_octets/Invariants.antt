@@ -1,10 +1,8 @@
 use Prim.Native.Nat.{◌*◌, ◌-◌, ◌≤◌}
-use native.Mathlib.Omega.{arith}
 use Rattle.store_notes.specs.Cells.{marks_in}
 use Rattle.store_text.specs.Noted.{marks_text}
-use Rattle.store_text.proofs.Writing.{Counting, counting-first, counting-turn, counting-end}
-use Rattle.store_text.proofs.Writing.{marks_left, mark_laid, marks-start, marks-left, marks-over}
-use borrow.Author.Rules.{rules}
+use Rattle.store_text.proofs.Writing.{Counting}
+use Rattle.store_text.proofs.Writing.{marks_left}
 use Rattle.store_text.proofs.marks_octets.Given as goal
 
 -- Counted mark by mark (Writing, Counting).

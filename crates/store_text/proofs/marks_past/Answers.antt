@@ -1,13 +1,10 @@
 -- Mark by mark (Marks, Marking).
-use Prim.Native.Nat.{◌-◌}
 use mathlib.Core.Path.{sym, ap, ◌∙◌}
 use native.Mathlib.Omega.{arith}
-use lib.ListN.{length}
 use Rattle.text_keyvalue.proofs.Lines.{word_fits}
 use Rattle.store_text.specs.Noted.{mark_word}
 use Rattle.store_text.specs.Passing.{as_mark}
-use Rattle.store_text.proofs.Marks.{Marking, marking-first, marking-end, marking-stuck, marking-turn, marking-less}
-use borrow.Author.Rules.{rules}
+use Rattle.store_text.proofs.Marks.{marking-first, marking-end, marking-stuck, marking-turn, marking-less}
 use Rattle.store_text.proofs.marks_past.Goals as goal
 
 pub loop-at-init : goal.loop-at-init

@@ -1,7 +1,6 @@
 -- A mark more, or none.
 use mathlib.Core.Path.{sym, ◌∙◌}
 use Rattle.store_text.proofs.Marks.{is-more, is-end}
-use borrow.Author.Rules.{rules}
 use Rattle.store_text.proofs.no_mark.Goals as goal
 
 pub returns-then-has_word : goal.returns-then-has_word

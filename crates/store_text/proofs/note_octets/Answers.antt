@@ -7,7 +7,6 @@ use Rattle.store_notes.specs.Cells.{marks_in}
 use Rattle.store_text.specs.Noted.{marks_text}
 use Rattle.store_text.specs.Held.{note_at}
 use Rattle.store_text.proofs.Writing.{note-length}
-use borrow.Author.Rules.{rules}
 use Rattle.store_text.proofs.note_octets.Goals as goal
 
 pub marks_octets-c-requires : goal.marks_octets-c-requires

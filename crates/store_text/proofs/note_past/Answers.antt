@@ -1,7 +1,6 @@
 -- Samples, then marks.
 use Rattle.text_keyvalue.proofs.Numbers.{told}
 use Rattle.store_text.proofs.Marks.{note-no-samples, note-marks}
-use borrow.Author.Rules.{rules}
 use Rattle.store_text.proofs.note_past.Goals as goal
 
 pub returns-in-Not : goal.returns-in-Not

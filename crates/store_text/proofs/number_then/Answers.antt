@@ -1,11 +1,9 @@
 -- A number, and a word after it.
 use mathlib.Core.Path.{sym, ◌∙◌}
 use native.Mathlib.Omega.{arith}
-use borrow.Author.Tests.{not-true, not-false}
 use Rattle.text_keyvalue.proofs.Numbers.{told}
 use Rattle.text_keyvalue.proofs.Lines.{word_fits}
 use Rattle.store_text.proofs.Marks.{then-no-number, then-no-word, then-whole}
-use borrow.Author.Rules.{rules}
 use Rattle.store_text.proofs.number_then.Goals as goal
 
 pub returns-then-not-has_word : goal.returns-then-not-has_word

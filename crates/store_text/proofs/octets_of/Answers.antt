@@ -1,11 +1,7 @@
 -- Counted greeting by greeting (Writing, Counting).
-use Prim.Native.Nat.{◌*◌, ◌-◌, ◌≤◌}
 use native.Mathlib.Omega.{arith}
-use Rattle.store_text.specs.Noted.{listed_text}
-use Rattle.store_text.specs.Held.{held_in}
-use Rattle.store_text.proofs.Writing.{Counting, Within, within_first, within-here, within-turn, within-part}
-use Rattle.store_text.proofs.Writing.{text_left, text-start, text-over, octets-turn, counting-first, counting-end}
-use borrow.Author.Rules.{rules}
+use Rattle.store_text.proofs.Writing.{within_first, within-here, within-turn, within-part}
+use Rattle.store_text.proofs.Writing.{text-start, text-over, octets-turn, counting-first, counting-end}
 use Rattle.store_text.proofs.octets_of.Goals as goal
 
 pub loop-i-init : goal.loop-i-init

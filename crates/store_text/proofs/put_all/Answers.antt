@@ -1,11 +1,7 @@
 -- Greeting by greeting, each behind those before it (Writing, Putting).
-use Prim.Native.Nat.{◌-◌, ◌≤◌}
 use native.Mathlib.Omega.{arith}
-use Rattle.store_text.specs.Noted.{listed_text}
-use Rattle.store_text.specs.Held.{held_in}
-use Rattle.store_text.proofs.Writing.{Putting, Within, within_first, within-here, within-turn, within-part, text_left}
+use Rattle.store_text.proofs.Writing.{within_first, within-here, within-turn, within-part}
 use Rattle.store_text.proofs.Writing.{text-start, text-over, row_fits, note-fits, note-put, putting-first, putting-end}
-use borrow.Author.Rules.{rules}
 use Rattle.store_text.proofs.put_all.Goals as goal
 
 pub loop-i-init : goal.loop-i-init

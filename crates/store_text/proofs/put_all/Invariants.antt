@@ -1,10 +1,7 @@
 use Prim.Native.Nat.{◌-◌, ◌≤◌}
-use native.Mathlib.Omega.{arith}
 use Rattle.store_text.specs.Noted.{listed_text}
 use Rattle.store_text.specs.Held.{held_in}
-use Rattle.store_text.proofs.Writing.{Putting, Within, within_first, within-here, within-turn, within-part, text_left}
-use Rattle.store_text.proofs.Writing.{text-start, text-over, row_fits, note-fits, note-put, putting-first, putting-end}
-use borrow.Author.Rules.{rules}
+use Rattle.store_text.proofs.Writing.{Putting, Within, text_left}
 use Rattle.store_text.proofs.put_all.Given as goal
 
 -- Greeting by greeting, each behind those before it (Writing, Putting).

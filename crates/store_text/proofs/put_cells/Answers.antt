@@ -2,7 +2,6 @@
 use native.Mathlib.Omega.{arith}
 use lib.ListN.{length-set}
 use Rattle.store_text.proofs.Reading.{three-cells, three-rest}
-use borrow.Author.Rules.{rules}
 use Rattle.store_text.proofs.put_cells.Goals as goal
 
 pub bounds-cells-k-2 : goal.bounds-cells-k-2

@@ -5,7 +5,6 @@ use lib.ListN.{length}
 use Rattle.text_lines.proofs.Putting.{puts-as}
 use Rattle.store_text.proofs.Formed.{form-here, form-none}
 use Rattle.store_text.proofs.Writing.{puts_none}
-use borrow.Author.Rules.{rules}
 use Rattle.store_text.proofs.put_form.Goals as goal
 
 pub put_word-requires : goal.put_word-requires

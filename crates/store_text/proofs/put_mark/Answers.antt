@@ -9,7 +9,6 @@ use Rattle.text_lines.proofs.Putting.{puts_then, puts-as}
 use Rattle.store_text.specs.Noted.{mark_text}
 use Rattle.store_text.specs.Held.{mark_at}
 use Rattle.store_text.proofs.Writing.{mark-length}
-use borrow.Author.Rules.{rules}
 use Rattle.store_text.proofs.put_mark.Goals as goal
 
 pub put_word-a-requires : goal.put_word-a-requires

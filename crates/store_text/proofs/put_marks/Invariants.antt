@@ -1,10 +1,8 @@
 use Prim.Native.Nat.{◌-◌, ◌≤◌}
-use native.Mathlib.Omega.{arith}
 use Rattle.store_notes.specs.Cells.{marks_in}
 use Rattle.store_text.specs.Noted.{marks_text}
-use Rattle.store_text.proofs.Writing.{Putting, putting-first, putting-fits, putting-turn, putting-end}
-use Rattle.store_text.proofs.Writing.{marks_left, mark_laid, marks-start, marks-left, marks-over}
-use borrow.Author.Rules.{rules}
+use Rattle.store_text.proofs.Writing.{Putting}
+use Rattle.store_text.proofs.Writing.{marks_left}
 use Rattle.store_text.proofs.put_marks.Given as goal
 
 -- Mark by mark, each behind those before it (Writing, Putting).

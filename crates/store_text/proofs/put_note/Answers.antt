@@ -8,7 +8,6 @@ use Rattle.text_lines.proofs.Putting.{puts_then, puts-as}
 use Rattle.store_text.specs.Noted.{marks_text, note_text}
 use Rattle.store_text.specs.Held.{note_at}
 use Rattle.store_text.proofs.Writing.{note-length}
-use borrow.Author.Rules.{rules}
 use Rattle.store_text.proofs.put_note.Goals as goal
 
 pub put_line-a-requires : goal.put_line-a-requires

@@ -4,7 +4,6 @@ use Rattle.store_rows.specs.Cells.{row_at}
 use Rattle.text_lines.proofs.Putting.{puts_then}
 use Rattle.store_text.specs.Table.{row_text}
 use Rattle.store_text.proofs.Writing.{row-length}
-use borrow.Author.Rules.{rules}
 use Rattle.store_text.proofs.put_row.Goals as goal
 
 pub put_line-a-requires : goal.put_line-a-requires

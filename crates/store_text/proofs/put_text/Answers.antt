@@ -6,7 +6,6 @@ use Rattle.text_lines.proofs.Putting.{puts-as, puts_then}
 use Rattle.store_text.specs.Noted.{listed_text}
 use Rattle.store_text.specs.Held.{held_of}
 use Rattle.store_text.specs.Form.{form_by}
-use borrow.Author.Rules.{rules}
 use Rattle.store_text.proofs.put_text.Goals as goal
 
 pub put_form-at-requires : goal.put_form-at-requires

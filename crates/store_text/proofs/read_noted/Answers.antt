@@ -1,11 +1,9 @@
 -- Greeting by greeting (Noting).
-use Prim.Native.Nat.{◌-◌}
-use mathlib.Core.Path.{◌≡◌, refl, sym, ap, ◌∙◌}
-use lib.ListN.{length, length-set}
+use mathlib.Core.Path.{refl, sym, ap, ◌∙◌}
+use lib.ListN.{length-set}
 use native.Mathlib.Omega.{arith}
 use Rattle.store_text.specs.Passing.{as_head}
-use Rattle.store_text.proofs.Noting.{Noting, noting-first, noting-end, noting-full, noting-none, noting-turn}
-use borrow.Author.Rules.{rules}
+use Rattle.store_text.proofs.Noting.{noting-first, noting-end, noting-full, noting-none, noting-turn}
 use Rattle.store_text.proofs.read_noted.Goals as goal
 
 pub loop-at-init : goal.loop-at-init

@@ -1,10 +1,7 @@
 use Prim.Native.Nat.{◌-◌}
-use mathlib.Core.Path.{◌≡◌, refl, sym, ap, ◌∙◌}
-use lib.ListN.{length, length-set}
-use native.Mathlib.Omega.{arith}
-use Rattle.store_text.specs.Passing.{as_head}
-use Rattle.store_text.proofs.Noting.{Noting, noting-first, noting-end, noting-full, noting-none, noting-turn}
-use borrow.Author.Rules.{rules}
+use mathlib.Core.Path.{◌≡◌}
+use lib.ListN.{length}
+use Rattle.store_text.proofs.Noting.{Noting}
 use Rattle.store_text.proofs.read_noted.Given as goal
 
 -- Greeting by greeting (Noting).

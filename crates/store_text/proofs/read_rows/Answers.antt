@@ -1,11 +1,8 @@
 -- Greeting by greeting (Reading, Stand).
-use Prim.Native.Nat.{◌-◌}
-use mathlib.Core.Path.{◌≡◌, refl, sym, ap, ◌∙◌}
-use lib.ListN.{length}
+use mathlib.Core.Path.{refl, sym, ap, ◌∙◌}
 use native.Mathlib.Omega.{arith}
 use Rattle.store_text.specs.Fills.{as_row}
-use Rattle.store_text.proofs.Reading.{Stand, stand-first, stand-end, stand-full, stand-none, stand-turn}
-use borrow.Author.Rules.{rules}
+use Rattle.store_text.proofs.Reading.{stand-first, stand-end, stand-full, stand-none, stand-turn}
 use Rattle.store_text.proofs.read_rows.Goals as goal
 
 pub loop-at-init : goal.loop-at-init

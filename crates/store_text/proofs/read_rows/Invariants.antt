@@ -1,10 +1,7 @@
 use Prim.Native.Nat.{◌-◌}
-use mathlib.Core.Path.{◌≡◌, refl, sym, ap, ◌∙◌}
+use mathlib.Core.Path.{◌≡◌}
 use lib.ListN.{length}
-use native.Mathlib.Omega.{arith}
-use Rattle.store_text.specs.Fills.{as_row}
-use Rattle.store_text.proofs.Reading.{Stand, stand-first, stand-end, stand-full, stand-none, stand-turn}
-use borrow.Author.Rules.{rules}
+use Rattle.store_text.proofs.Reading.{Stand}
 use Rattle.store_text.proofs.read_rows.Given as goal
 
 -- Greeting by greeting (Reading, Stand).

@@ -2,7 +2,6 @@
 use native.Mathlib.Omega.{arith}
 use Rattle.store_rows.specs.Cells.{row_at}
 use Rattle.store_text.proofs.Writing.{row-length}
-use borrow.Author.Rules.{rules}
 use Rattle.store_text.proofs.row_octets.Goals as goal
 
 pub returns : goal.returns

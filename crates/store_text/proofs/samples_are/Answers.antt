@@ -2,7 +2,6 @@
 use mathlib.Core.Path.{sym, ◌∙◌}
 use Rattle.text_keyvalue.proofs.Numbers.{told}
 use Rattle.store_text.proofs.Marks.{is_none, is-other, is_same}
-use borrow.Author.Rules.{rules}
 use Rattle.store_text.proofs.samples_are.Goals as goal
 
 pub returns-then-wide-samples : goal.returns-then-wide-samples

@@ -7,7 +7,6 @@ use Rattle.store_text.specs.Held.{held_of}
 use Rattle.store_text.specs.Form.{form_by}
 use Rattle.store_text.proofs.Formed.{form-few}
 use Rattle.store_text.proofs.Writing.{parts-fit, parts-text}
-use borrow.Author.Rules.{rules}
 use Rattle.store_text.proofs.text_octets.Goals as goal
 
 pub octets_of-rest-requires : goal.octets_of-rest-requires

@@ -1,6 +1,5 @@
 use native.Mathlib.Omega.{arith}
 use Rattle.store_greeting.proofs.Bad.{bad-empty, bad-law, bad-long, bad-walked}
-use borrow.Author.Rules.{rules}
 use Rattle.store_greeting.proofs.greetings.is_bad.Goals as goal
 
 pub returns-then-len-lt1 : goal.returns-then-len-lt1

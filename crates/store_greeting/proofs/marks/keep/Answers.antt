@@ -2,7 +2,6 @@ use Prim.Native.Nat.{◌*◌}
 use mathlib.Core.Path.{refl}
 use lib.ListN.{length-set}
 use native.Mathlib.Omega.{arith}
-use borrow.Author.Rules.{rules}
 use Rattle.store_greeting.proofs.marks.keep.Goals as goal
 
 pub returns-then-marks-m : goal.returns-then-marks-m

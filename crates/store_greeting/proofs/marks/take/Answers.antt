@@ -1,11 +1,8 @@
-use Prim.Native.Nat.{◌-◌}
 use native.Mathlib.Omega.{arith}
 use mathlib.Core.Path.{sym}
-use lib.ListN.{length}
-use Rattle.store_greeting.proofs.Taking.{Taking, takes-wrong, taking-start, taking-few, taking-heard, taking-more, taking-on}
+use Rattle.store_greeting.proofs.Taking.{takes-wrong, taking-start, taking-few, taking-heard, taking-more, taking-on}
 use Rattle.store_greeting.proofs.Taking.{taking-turn, taken-wrong, taken-all}
 use Rattle.store_greeting.proofs.Bad.{bad-empty}
-use borrow.Author.Rules.{rules}
 use Rattle.store_greeting.proofs.marks.take.Goals as goal
 
 pub returns-then-octets-lt1 : goal.returns-then-octets-lt1

@@ -1,6 +1,5 @@
 use native.Mathlib.Omega.{arith}
 use Rattle.store_jump.proofs.Steps.{among-low, among-high, among-absent, among-found}
-use borrow.Author.Rules.{rules}
 use Rattle.store_jump.proofs.jumping.among.Goals as goal
 
 pub returns-then-number-lt1 : goal.returns-then-number-lt1

@@ -6,7 +6,6 @@ use lib.ListN.{length, length-drop}
 use Rattle.rules.proofs.Lent.{from_on}
 use Rattle.store_notes.specs.declared.Head.{Head}
 use Rattle.store_jump.proofs.Steps.{row_inside, marks-inside, row-at}
-use borrow.Author.Rules.{rules}
 use Rattle.store_jump.proofs.jumping.at_row.Goals.{After-marks_before}
 use Rattle.store_jump.proofs.jumping.at_row.Goals as goal
 

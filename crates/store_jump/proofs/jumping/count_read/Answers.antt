@@ -1,6 +1,5 @@
 use mathlib.Core.Path.{sym, ap}
 use Rattle.store_jump.specs.Jump.{counted}
-use borrow.Author.Rules.{rules}
 use Rattle.store_jump.proofs.jumping.count_read.Goals as goal
 
 pub returns-in-At : goal.returns-in-At

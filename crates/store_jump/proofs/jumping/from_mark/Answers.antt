@@ -1,6 +1,5 @@
 use native.Mathlib.Omega.{arith}
 use Rattle.store_jump.proofs.Steps.{from-behind, from_on}
-use borrow.Author.Rules.{rules}
 use Rattle.store_jump.proofs.jumping.from_mark.Goals as goal
 
 pub returns-then-sample-before : goal.returns-then-sample-before

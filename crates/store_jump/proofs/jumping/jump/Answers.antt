@@ -1,9 +1,7 @@
 use mathlib.Core.Path.{sym, ◌∙◌}
 use native.Mathlib.Omega.{arith}
-use borrow.Author.Tests.{not-true, not-false}
 use Rattle.store_notes.proofs.Matched.{sane-noted}
 use Rattle.store_jump.proofs.Steps.{jump-table, jump-on}
-use borrow.Author.Rules.{rules}
 use Rattle.store_jump.proofs.jumping.jump.Goals as goal
 
 pub returns-then-not-sane : goal.returns-then-not-sane

@@ -1,6 +1,5 @@
 use mathlib.Core.Path.{sym, ap}
 use Rattle.store_jump.specs.Calls.{told_of}
-use borrow.Author.Rules.{rules}
 use Rattle.store_jump.proofs.jumping.told_of.Goals as goal
 
 pub returns-in-Done : goal.returns-in-Done

@@ -1,7 +1,6 @@
 use Prim.Native.Nat.{◌+◌, ◌*◌}
 use native.Mathlib.Omega.{arith}
 use Rattle.store_jump.proofs.Steps.{in-beyond, in-none, in-from}
-use borrow.Author.Rules.{rules}
 use Rattle.store_jump.proofs.jumping.within.Goals as goal
 
 pub returns-then-head-sample : goal.returns-then-head-sample

@@ -1,6 +1,5 @@
 use native.Mathlib.Omega.{arith}
 use Rattle.store_jump.proofs.Halving.{half_up, half_down}
-use borrow.Author.Rules.{rules}
 use Rattle.store_jump.proofs.seeking.half.Goals as goal
 
 pub returns-then-before-sample : goal.returns-then-before-sample

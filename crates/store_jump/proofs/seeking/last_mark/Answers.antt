@@ -1,6 +1,5 @@
-use Prim.Native.Nat.{◌-◌}
 use native.Mathlib.Omega.{arith}
-use Rattle.store_jump.proofs.Halving.{Found, found-start, found-half, found_turn, found-last}
+use Rattle.store_jump.proofs.Halving.{found-start, found-half, found_turn, found-last}
 use Rattle.store_jump.proofs.seeking.last_mark.Goals as goal
 
 pub loop-low-init : goal.loop-low-init

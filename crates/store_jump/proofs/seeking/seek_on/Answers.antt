@@ -1,13 +1,11 @@
-use borrow.Author.Rules.{rules}
-use Prim.Native.Nat.{◌+◌, ◌-◌, ◌≤◌, ◌<◌}
+use Prim.Native.Nat.{◌+◌, ◌≤◌, ◌<◌}
 use mathlib.Core.Path.{◌≡◌, refl}
 use native.Mathlib.Omega.{arith}
 use native.Mathlib.Nat.{le_of_lt}
-use borrow.Author.Tests.{ltb-true, ltb-false}
 use lib.ListN.{length, drop, length-drop}
 use Rattle.rules.specs.declared.Ending.TheVariants.{Done}
 use Rattle.walk.proofs.Told.{Bounds}
-use Rattle.store_jump.proofs.Along.{Along, seek-start, seek-ended, seek-last, seek-refused, seek-bounds, seek_found, seek-turn}
+use Rattle.store_jump.proofs.Along.{seek-start, seek-ended, seek-last, seek-refused, seek-bounds, seek_found, seek-turn}
 use Rattle.store_jump.proofs.seeking.seek_on.Goals.{Then-place-octets, After-pass-r}
 use Rattle.store_jump.proofs.seeking.seek_on.Goals as goal
 

@@ -1,13 +1,5 @@
-use borrow.Author.Rules.{rules}
-use Prim.Native.Nat.{◌+◌, ◌-◌, ◌≤◌, ◌<◌}
-use mathlib.Core.Path.{◌≡◌, refl}
-use native.Mathlib.Omega.{arith}
-use native.Mathlib.Nat.{le_of_lt}
-use borrow.Author.Tests.{ltb-true, ltb-false}
-use lib.ListN.{length, drop, length-drop}
-use Rattle.rules.specs.declared.Ending.TheVariants.{Done}
-use Rattle.walk.proofs.Told.{Bounds}
-use Rattle.store_jump.proofs.Along.{Along, seek-start, seek-ended, seek-last, seek-refused, seek-bounds, seek_found, seek-turn}
+use Prim.Native.Nat.{◌-◌}
+use Rattle.store_jump.proofs.Along.{Along}
 use Rattle.store_jump.proofs.seeking.seek_on.Given as goal
 
 abbrev pub invariant-loop-n : goal.invariant-loop-n

@@ -2,7 +2,6 @@ use Prim.Native.Nat.{◌<◌}
 use mathlib.Core.Path.{◌∙◌}
 use native.Mathlib.Omega.{arith}
 use Rattle.store_moves.proofs.Calling.{within-goes, hop-none, hop-next}
-use borrow.Author.Rules.{rules}
 use Rattle.store_moves.proofs.calls.hop_in.Goals.{In-Goes}
 use Rattle.store_moves.proofs.calls.hop_in.Goals as goal
 

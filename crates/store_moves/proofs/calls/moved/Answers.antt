@@ -1,11 +1,9 @@
 use mathlib.Core.Path.{sym, ◌∙◌}
 use native.Mathlib.Omega.{arith}
-use borrow.Author.Tests.{not-true, not-false}
 use Rattle.store_rows.specs.Cells.{rows_of}
 use Rattle.store_notes.proofs.Matched.{sane-noted}
 use Rattle.store_moves.specs.Next.{moved_in}
 use Rattle.store_moves.proofs.Calling.{table-off, table_on, denied, same-changes}
-use borrow.Author.Rules.{rules}
 use Rattle.store_moves.proofs.calls.moved.Goals as goal
 
 pub returns-then-not-sane : goal.returns-then-not-sane

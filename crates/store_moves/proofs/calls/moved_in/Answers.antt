@@ -4,7 +4,6 @@ use mathlib.Core.Bool.{true, false}
 use mathlib.Core.List.{List}
 use native.Mathlib.Omega.{arith}
 use lib.ListN.{length}
-use borrow.Author.Tests.{not-true, not-false}
 use Rattle.store_rows.specs.declared.rows.Row.{Row}
 use Rattle.store_rows.specs.Limits.{is_number}
 use Rattle.store_rows.specs.Rows.{held}
@@ -16,7 +15,6 @@ use Rattle.store_moves.specs.Next.{next_of}
 use Rattle.store_rows.proofs.Judged.{row_next}
 use Rattle.store_moves.proofs.Calling.{find-held, find_none, next-is, within-goes, nth-row, start-told, denied, is-not-next, made}
 use Rattle.store_moves.proofs.Calling.{moved-number, moved-absent, moved-closed, moved_other, moved-elsewhere, moved-there}
-use borrow.Author.Rules.{rules}
 use Rattle.store_moves.proofs.calls.moved_in.Goals.{Else-not-is_number, After-next_move, In-Goes, After-row_at-r}
 use Rattle.store_moves.proofs.calls.moved_in.Goals as goal
 

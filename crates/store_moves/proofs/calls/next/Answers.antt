@@ -1,8 +1,6 @@
 use mathlib.Core.Path.{sym, ◌∙◌}
-use borrow.Author.Tests.{not-true, not-false}
 use Rattle.store_notes.proofs.Matched.{sane-noted}
 use Rattle.store_moves.proofs.Calling.{next-off, next-on}
-use borrow.Author.Rules.{rules}
 use Rattle.store_moves.proofs.calls.next.Goals as goal
 
 pub returns-then-not-sane : goal.returns-then-not-sane

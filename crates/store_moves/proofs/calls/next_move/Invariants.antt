@@ -1,16 +1,9 @@
 use Prim.Native.Nat.{◌-◌, ◌≤◌}
-use mathlib.Core.Path.{◌≡◌, refl, sym, ap, ◌∙◌}
-use mathlib.Core.List.{List}
-use native.Mathlib.Omega.{arith}
-use Rattle.store_rows.specs.declared.rows.Row.{Row}
+use mathlib.Core.Path.{◌≡◌}
 use Rattle.store_rows.specs.Rows.{held}
 use Rattle.store_rows.specs.Cells.{rows_at}
-use Rattle.store_rows.proofs.Left.{left, left-all}
-use Rattle.store_rows.proofs.Finding.{held-turn}
+use Rattle.store_rows.proofs.Left.{left}
 use Rattle.store_moves.specs.Next.{next_from}
-use Rattle.store_moves.specs.Steps.{Within}
-use Rattle.store_moves.proofs.Calling.{next-end, next_here, next-turn}
-use borrow.Author.Rules.{rules}
 use Rattle.store_moves.proofs.calls.next_move.Given as goal
 
 abbrev pub invariant-loop-i : goal.invariant-loop-i

@@ -1,5 +1,5 @@
-use Prim.Native.Nat.{ℕ, ◌-◌, ◌≤◌, ◌<◌}
-use mathlib.Core.Path.{◌≡◌, refl, ap, ◌∙◌}
+use Prim.Native.Nat.{ℕ, ◌≤◌, ◌<◌}
+use mathlib.Core.Path.{refl, ap, ◌∙◌}
 use native.Mathlib.Omega.{arith}
 use Rattle.store_rows.specs.declared.rows.Row.{Row}
 use Rattle.store_rows.specs.Rows.{held}
@@ -10,7 +10,6 @@ use Rattle.store_rows.proofs.Rising.{Next}
 use Rattle.store_rows.proofs.Judged.{row_next}
 use Rattle.store_rows.proofs.Closed.{moved-few}
 use Rattle.store_moves.proofs.Calling.{moved-turn}
-use borrow.Author.Rules.{rules}
 use Rattle.store_moves.proofs.calls.octets_moved.Goals.{After-moved_one-m}
 use Rattle.store_moves.proofs.calls.octets_moved.Goals as goal
 

@@ -1,16 +1,8 @@
-use Prim.Native.Nat.{ℕ, ◌-◌, ◌≤◌, ◌<◌}
-use mathlib.Core.Path.{◌≡◌, refl, ap, ◌∙◌}
-use native.Mathlib.Omega.{arith}
-use Rattle.store_rows.specs.declared.rows.Row.{Row}
+use Prim.Native.Nat.{◌-◌, ◌≤◌}
+use mathlib.Core.Path.{◌≡◌}
 use Rattle.store_rows.specs.Rows.{held}
 use Rattle.store_rows.specs.Cells.{rows_at}
 use Rattle.store_rows.specs.Closing.{moved_from}
-use Rattle.store_rows.proofs.Finding.{held-turn}
-use Rattle.store_rows.proofs.Rising.{Next}
-use Rattle.store_rows.proofs.Judged.{row_next}
-use Rattle.store_rows.proofs.Closed.{moved-few}
-use Rattle.store_moves.proofs.Calling.{moved-turn}
-use borrow.Author.Rules.{rules}
 use Rattle.store_moves.proofs.calls.octets_moved.Given as goal
 
 abbrev pub invariant-loop-i : goal.invariant-loop-i

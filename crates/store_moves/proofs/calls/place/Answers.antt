@@ -2,7 +2,6 @@ use mathlib.Core.Path.{sym, ◌∙◌}
 use native.Mathlib.Omega.{arith}
 use Rattle.store_rows.specs.Cells.{rows_of}
 use Rattle.store_moves.proofs.Calling.{tells-gap, tells-behind}
-use borrow.Author.Rules.{rules}
 use Rattle.store_moves.proofs.calls.place.Goals as goal
 
 pub lowest_gap-requires : goal.lowest_gap-requires

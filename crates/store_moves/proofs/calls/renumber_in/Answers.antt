@@ -2,7 +2,6 @@ use Prim.Native.Nat.{ℕ}
 use mathlib.Core.Path.{◌≡◌, sym, ap, ◌∙◌}
 use mathlib.Core.Bool.{true, false}
 use native.Mathlib.Omega.{arith}
-use borrow.Author.Tests.{not-true, not-false}
 use Rattle.store_rows.specs.Limits.{is_number}
 use Rattle.store_rows.specs.Finding.{absent, find_from}
 use Rattle.store_rows.specs.Cells.{rows_of, laid}
@@ -10,7 +9,6 @@ use Rattle.store_rows.proofs.Left.{left}
 use Rattle.store_moves.specs.Next.{renumbered_at}
 use Rattle.store_moves.proofs.Calling.{find-place, find-held, find_none, number-told, denied, made}
 use Rattle.store_moves.proofs.Calling.{renumber-first, renumber-second, renumber-absent, renumber-taken, renumber-made}
-use borrow.Author.Rules.{rules}
 use Rattle.store_moves.proofs.calls.renumber_in.Goals.{Else-not-is_number-2, After-find}
 use Rattle.store_moves.proofs.calls.renumber_in.Goals as goal
 

@@ -1,14 +1,12 @@
 use mathlib.Core.Path.{◌≡◌, sym, ◌∙◌}
 use mathlib.Core.Bool.{true}
 use native.Mathlib.Omega.{arith}
-use borrow.Author.Tests.{not-true, not-false}
 use lib.ListN.{get_or}
 use Rattle.store_rows.proofs.Cells.{length-rows}
 use Rattle.store_rows.specs.Limits.{is_number}
 use Rattle.store_rows.specs.Cells.{rows_of}
 use Rattle.store_moves.proofs.Calling.{tried-law, tried-number, tried-taken, tried-bad, tried-full, tried-no-room, tried-fits}
 use Rattle.store_moves.proofs.Calling.{find-held, find_none}
-use borrow.Author.Rules.{rules}
 use Rattle.store_moves.proofs.calls.tried_in.Goals.{Else-not-is_number}
 use Rattle.store_moves.proofs.calls.tried_in.Goals as goal
 

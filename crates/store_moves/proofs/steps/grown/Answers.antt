@@ -1,6 +1,5 @@
 use native.Mathlib.Omega.{arith}
 use Rattle.store_moves.proofs.Stepping.{onward-end, onward-more}
-use borrow.Author.Rules.{rules}
 use Rattle.store_moves.proofs.steps.grown.Goals as goal
 
 pub returns-then-m-done : goal.returns-then-m-done

@@ -1,7 +1,6 @@
 use mathlib.Core.Path.{refl}
 use native.Mathlib.Omega.{arith}
 use Rattle.store_moves.proofs.Stepping.{step-direct, step-lift}
-use borrow.Author.Rules.{rules}
 use Rattle.store_moves.proofs.steps.hop_or_lift.Goals as goal
 
 pub returns-then-size-d : goal.returns-then-size-d

@@ -3,7 +3,6 @@ use native.Mathlib.Omega.{arith}
 use lib.ListN.{length, take}
 use lib.Seq.{length-take-le}
 use Rattle.store_moves.proofs.Stepping.{step-lay}
-use borrow.Author.Rules.{rules}
 use Rattle.store_moves.proofs.steps.lay.Goals.{After-least-k}
 use Rattle.store_moves.proofs.steps.lay.Goals as goal
 

@@ -1,5 +1,4 @@
 use Rattle.store_moves.proofs.Worded.{move-is}
-use borrow.Author.Rules.{rules}
 use Rattle.store_moves.proofs.steps.move_of.Goals as goal
 
 pub returns : goal.returns

@@ -6,7 +6,6 @@ use lib.ListN.{length}
 use Rattle.store_moves.specs.Record.{told_by, told}
 use Rattle.store_moves.proofs.Stepping.{moving-tells, lifted-tells}
 use Rattle.store_moves.proofs.Worded.{words-none, words-moved, words-laid, page-of, page-of-lifted, sane-of, step_fits}
-use borrow.Author.Rules.{rules}
 use Rattle.store_moves.proofs.steps.move_step.Goals.{After-told-state}
 use Rattle.store_moves.proofs.steps.move_step.Goals as goal
 

@@ -1,7 +1,5 @@
-use Prim.Native.Nat.{◌-◌}
 use native.Mathlib.Omega.{arith}
-use Rattle.store_rows.proofs.Shifting.{Shifting, shift_none, shift-turn, shift-all}
-use borrow.Author.Rules.{rules}
+use Rattle.store_rows.proofs.Shifting.{shift_none, shift-turn, shift-all}
 use Rattle.store_moves.proofs.steps.shift.Goals as goal
 
 pub loop-i-init : goal.loop-i-init

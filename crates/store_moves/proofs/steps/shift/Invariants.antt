@@ -1,7 +1,5 @@
 use Prim.Native.Nat.{◌-◌}
-use native.Mathlib.Omega.{arith}
-use Rattle.store_rows.proofs.Shifting.{Shifting, shift_none, shift-turn, shift-all}
-use borrow.Author.Rules.{rules}
+use Rattle.store_rows.proofs.Shifting.{Shifting}
 use Rattle.store_moves.proofs.steps.shift.Given as goal
 
 abbrev pub invariant-loop-i : goal.invariant-loop-i

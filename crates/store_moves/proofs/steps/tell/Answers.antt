@@ -1,6 +1,5 @@
 use mathlib.Core.Path.{◌∙◌}
 use Rattle.store_moves.proofs.Worded.{moving-short, lifted-short, words-still, words-moving, words-lifted}
-use borrow.Author.Rules.{rules}
 use Rattle.store_moves.proofs.steps.tell.Goals as goal
 
 pub tell_move-requires-in-Moving : goal.tell_move-requires-in-Moving

@@ -1,8 +1,6 @@
-use borrow.Author.Tests.{not-true, not-false}
 use native.Mathlib.Omega.{arith}
 use Rattle.store_moves.proofs.Worded.{bad-page, bad-six, bad-seven, no-sense, told-moving, bad-state, bad-spare, told-lifted}
 use Rattle.store_moves.proofs.Worded.{sensible-down}
-use borrow.Author.Rules.{rules}
 use Rattle.store_moves.proofs.steps.told.Goals as goal
 
 pub returns-then-words-gt1 : goal.returns-then-words-gt1
