@@ -70,7 +70,7 @@ fn functions(code: &str) -> BTreeMap<String, Vec<Line>> {
         };
         let (target, added) = value_of(value);
         // PLT32 is a call or a jump. Anything else may name data alone, or the address of a function would be taken.
-        let data = target.starts_with(".LCPI") || target.starts_with(".rodata");
+        let data = [".LCPI", ".rodata", ".Lswitch.table.", ".Lstatic."].iter().any(|start| target.starts_with(start));
         assert!(if kind == "PLT32" { !data } else { kind == "PC32" && data }, "{name}: {words}");
         lines.last_mut().expect("it belongs to an instruction").named = Some((target, added));
     }
