@@ -275,7 +275,13 @@ struct Names<'a> {
 // What failed, and the last line.
 fn failed(rt: HostRuntime, wrong: Amiss, names: Names<'_>) {
     match wrong {
-        Amiss::Unread(why) => tool_console::failed(rt, Tool::Pack, names.from, b"standard input", why),
+        Amiss::Unread(why) => tool_console::failed(
+            rt,
+            Tool::Pack,
+            names.from,
+            b"standard input",
+            why,
+        ),
         Amiss::Unkept(why) => tool_console::failed(rt, Tool::Pack, b"/tmp", b"/tmp", why),
         Amiss::Unwritten(why) => tool_console::failed(
             rt,
@@ -332,14 +338,7 @@ fn is_cut(left: usize, number: u32) -> bool {
 }
 
 // Nothing is written, and no file made, unless all of the sound was read and packed.
-fn finish(
-    rt: HostRuntime,
-    run: Run,
-    job: Job,
-    names: Names<'_>,
-    keep: &File,
-    page: &mut [u8],
-)
+fn finish(rt: HostRuntime, run: Run, job: Job, names: Names<'_>, keep: &File, page: &mut [u8])
     requires { Stands job run }
 {
     let amiss = run.wrong;
@@ -407,13 +406,7 @@ fn pack_sound(
 }
 
 // The settings are judged by packing no sound, before any file is opened.
-fn pack_file(
-    rt: HostRuntime,
-    job: Job,
-    names: Names<'_>,
-    part: &mut [u8],
-    page: &mut [u8],
-)
+fn pack_file(rt: HostRuntime, job: Job, names: Names<'_>, part: &mut [u8], page: &mut [u8])
     requires { (length part.old ≡ part_size) × (length page.old ≡ page_size) }
 {
     let packed = tool_packing::packing::pack(b"", job.law, job.set, job.length as usize, page);

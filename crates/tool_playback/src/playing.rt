@@ -67,7 +67,15 @@ fn parts(
     loop {
         let p = next_part(body, how, at, page, &mut cells);
         let u = use_part(body, how, at, p, way, page, master);
-        tell_part(to.rt, body, how, Point { at, items, samples }, p, to.tells, base);
+        tell_part(
+            to.rt,
+            body,
+            how,
+            Point { at, items, samples },
+            p,
+            to.tells,
+            base,
+        );
         let end = p.end;
         let wrong = u.wrong;
         items += p.items;
@@ -108,7 +116,15 @@ fn play(
 {
     let mut page = [0u8; 61440];
     let mut master = [0u8; 61440];
-    parts(Teller { rt, tells }, body, how, way, base, &mut page, &mut master)
+    parts(
+        Teller { rt, tells },
+        body,
+        how,
+        way,
+        base,
+        &mut page,
+        &mut master,
+    )
 }
 
 // The octets of a file's frames or items: where they begin in it, and how many they are. The file itself stands beside.

@@ -72,15 +72,7 @@ fn say_frame(rt: HostRuntime, body: &[u8], how: Reading, here: Point, base: Poin
 }
 
 // Says an item, alone in its part: a loss always, a frame where all are told.
-fn say_item(
-    to: Teller,
-    body: &[u8],
-    how: Reading,
-    here: Point,
-    p: Part,
-    cell: u16,
-    base: Point,
-)
+fn say_item(to: Teller, body: &[u8], how: Reading, here: Point, p: Part, cell: u16, base: Point)
     requires { (here.at ≤ length body.now) × (NextItem body.now how here cell p) × Sums base here × Behind how base }
 {
     if p.items == 0 {

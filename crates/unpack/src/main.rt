@@ -190,14 +190,7 @@ fn write_in(
 }
 
 // Writes the sound of a file to another.
-fn write_to(
-    rt: HostRuntime,
-    file: &File,
-    b: Body,
-    how: Reading,
-    s: Settings,
-    names: Names<'_>,
-)
+fn write_to(rt: HostRuntime, file: &File, b: Body, how: Reading, s: Settings, names: Names<'_>)
     requires { Reachable b × Lawful how }
 {
     match tool_console::open_out(rt, names.to) {
@@ -232,14 +225,7 @@ fn conclude(rt: HostRuntime, t: Total, records: bool, on: bool, fd: &InFile, nam
 }
 
 // What a comparison came to. A frame that is refused comes before what a master has left over.
-fn compared(
-    rt: HostRuntime,
-    t: Total,
-    how: Reading,
-    on: bool,
-    names: Names<'_>,
-    fd: &InFile,
-)
+fn compared(rt: HostRuntime, t: Total, how: Reading, on: bool, names: Names<'_>, fd: &InFile)
     requires { Within longest t }
 {
     let wrong = t.wrong;
@@ -288,14 +274,7 @@ fn compare_in(
 }
 
 // Compares the sound of a file with a master.
-fn compare_with(
-    rt: HostRuntime,
-    file: &File,
-    b: Body,
-    how: Reading,
-    s: Settings,
-    names: Names<'_>,
-)
+fn compare_with(rt: HostRuntime, file: &File, b: Body, how: Reading, s: Settings, names: Names<'_>)
     requires { Reachable b × Lawful how }
 {
     match tool_console::open_in(rt, names.to) {
