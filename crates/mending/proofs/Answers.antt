@@ -72,16 +72,12 @@ refused_as {o} {m} {why} {r} a e f out =
     })
 
 module _ (octets : List ℕ) (law total : ℕ) where
-  -- what is kept is within the greeting
-  inside : octets_kept (walk_up_to octets law total).frames ≤ length octets
-  inside = omega (arith, (walk-within (suc (length octets)) octets law all_tools 0 total (omega arith)).octets)
-
   module _ {r : WalkAnswer} (counted : Counts (walk_from (length octets + 1) octets law all_tools 0 total) r) where
     c : Counts (walk_up_to octets law total) r
     c = let e : length octets + 1 ≡ suc (length octets) = omega arith in rw e at counted
 
     pub kept-inside : r.octets ≤ length octets
-    kept-inside = omega (arith, c.octets, inside)
+    kept-inside = omega (arith, c.octets, (walk-within (suc (length octets)) octets law all_tools 0 total (omega arith)).octets)
 
     pub kept-samples : r.samples ≤ total
     kept-samples = omega (arith, c.samples, (walk-within (suc (length octets)) octets law all_tools 0 total (omega arith)).samples)
@@ -127,6 +123,10 @@ module _ (octets : List ℕ) (law total : ℕ) where
           stop = c.end;
           bit = c.bit;
         })
+
+  -- what is kept is within the greeting
+  inside : octets_kept (walk_up_to octets law total).frames ≤ length octets
+  inside = omega (arith, (walk-within (suc (length octets)) octets law all_tools 0 total (omega arith)).octets)
 
   -- a greeting that can be mended, written
   module _ {r : MendAnswer} (a : Answers (mends (mended octets law total)) r) where

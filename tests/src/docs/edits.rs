@@ -195,7 +195,8 @@ fn failing(error: &str) -> Option<Found> {
     let (path, said) = error.split_once(": error: `")?;
     let mut parts = path.rsplit_once(".antt:")?.0.rsplit('/');
     let (file, folder) = (parts.next()?, parts.next()?);
-    let place = if ["Answers", "Invariants", "Proof"].contains(&file) { folder } else { file };
+    let of_function = folder != "proofs" && ["Answers", "Invariants", "Proof"].contains(&file);
+    let place = if of_function { folder } else { file };
     Some(Found { place: place.to_string(), ..name(said, "`") })
 }
 
@@ -235,6 +236,8 @@ mod tests {
             " (only by a limit): ./proofs/placing/lay_row/Invariants.antt:8:13: error: `returns`: expected type `a";
         assert!(holds(error, "lay_row", "returns") && !holds(error, "placing", "returns"));
         assert!(!holds(": ./proofs/Back.antt:8:13: error: `back`: no", "Answers", "back"));
+        // A file of lemmas may have the name of a function's.
+        assert!(holds(": ./proofs/Answers.antt:77:12: error: `inside`: no", "Answers", "inside"));
         assert!(!holds("", "Back", "back"));
     }
 }
